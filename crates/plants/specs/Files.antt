@@ -1,0 +1,118 @@
+-- Plant files: reading, with refusals 3 to 12, and writing; the round trip.
+use mathlib.Core.Path.{_≡_}
+use mathlib.Core.Bool.{true, not}
+use mathlib.Core.List.{List, [], _∷_, _++_}
+use Prim.Native.Nat.{ℕ, zero, suc, _+_}
+use lib.Dec.{eqb, ltb, leb}
+use lib.ListN.{length, getD, drop}
+use Rattle.numbers.specs.Choice.{pick, refuseIf, firstOf}
+use Rattle.numbers.specs.Bytes.{be, putBe, signed, raw, allBytes}
+use Rattle.plants.specs.declared.Stream.{Stream}
+use Rattle.plants.specs.declared.Site.{Site}
+use Rattle.plants.specs.declared.Site.the-variants.{Units, Missing}
+use Rattle.plants.specs.declared.Record.{Record}
+use Rattle.plants.specs.declared.Record.the-variants.{Listed, End, Refused}
+use Rattle.plants.specs.Limits.{maxStreams, siteKind, meteredKind, unmeteredKind, endKind, siteBody, meteredBody, unmeteredBody, endBody}
+use Rattle.plants.specs.Plants.{Plant, unmetered, unitsFault, streamFault, plantFault, plain}
+
+-- A reading of a file: a refusal number, or a plant.
+pub data Got : Type 0 where
+  bad : ℕ → Got
+  got : Plant → Got
+
+-- Site record. The kind byte is missing: 3; it is another kind: 4; the body is cut: 3; n: 6.
+abbrev pub siteFault : List ℕ → ℕ
+siteFault [] = 3
+siteFault (k ∷ b) =
+    firstOf (refuseIf (not (eqb k siteKind)) 4)
+    (firstOf (refuseIf (ltb (length b) siteBody) 3) (unitsFault (getD b 0 0)))
+
+-- What stands where the site record is due.
+abbrev pub siteAt : List ℕ → Site
+siteAt s = pick (eqb (siteFault s) 0) (Units (getD s 1 0)) (Missing (siteFault s))
+
+-- What each case of Site means: the units, or the refusal number.
+abbrev pub onSite : {A : Type 0} → Site → (ℕ → A) → (ℕ → A) → A
+onSite (Units n) placed refused = placed n
+onSite (Missing f) placed refused = refused f
+
+-- Metered stream: from, to, weight (2), reading (4, two's complement).
+abbrev pub meteredIn : List ℕ → Stream
+meteredIn b = record { from = getD b 0 0; to = getD b 1 0; metered = true; weight = be 2 2 b; reading = signed 4 (be 4 4 b) }
+
+-- Unmetered stream: from, to.
+abbrev pub unmeteredIn : List ℕ → Stream
+unmeteredIn b = unmetered (getD b 0 0) (getD b 1 0)
+
+-- A stream record after c streams, its body `size` bytes long: a 97th stream 5, a cut body 3.
+abbrev pub bodyFault : ℕ → ℕ → List ℕ → ℕ
+bodyFault size c b = firstOf (refuseIf (leb maxStreams c) 5) (refuseIf (ltb (length b) size) 3)
+
+-- A stream record: those refusals, then the stream's own, else the stream and how many bytes the record takes.
+abbrev pub streamRecord : ℕ → Stream → ℕ → ℕ → List ℕ → Record
+streamRecord size s n c b =
+    let f = firstOf (bodyFault size c b) (streamFault n s) in
+    pick (eqb f 0) (Listed s (suc size)) (Refused f)
+
+-- End record after c streams: a cut body 3, another count 11, bytes after it 12.
+abbrev pub endFault : ℕ → List ℕ → ℕ
+endFault c b =
+    firstOf (refuseIf (ltb (length b) endBody) 3)
+    (firstOf (refuseIf (not (eqb (getD b 0 0) c)) 11) (refuseIf (not (eqb (length b) endBody)) 12))
+
+abbrev pub endRecord : ℕ → List ℕ → Record
+endRecord c b = pick (eqb (endFault c b) 0) End (Refused (endFault c b))
+
+-- The record of kind k with body b, after c streams of a plant with n units: a kind not allowed here 4.
+abbrev pub kindRecord : ℕ → ℕ → ℕ → List ℕ → Record
+kindRecord n c k b =
+    pick (eqb k meteredKind) (streamRecord meteredBody (meteredIn b) n c b)
+    (pick (eqb k unmeteredKind) (streamRecord unmeteredBody (unmeteredIn b) n c b)
+    (pick (eqb k endKind) (endRecord c b) (Refused 4)))
+
+-- What stands where a record is due: a missing kind byte is 3.
+abbrev pub recordAt : ℕ → ℕ → List ℕ → Record
+recordAt n c [] = Refused 3
+recordAt n c (k ∷ b) = kindRecord n c k b
+
+-- What each case of Record means: the stream and the record's size, the end, or the refusal number.
+abbrev pub onRecord : {A : Type 0} → Record → (Stream → ℕ → A) → A → (ℕ → A) → A
+onRecord (Listed s m) listed ended refused = listed s m
+onRecord End listed ended refused = ended
+onRecord (Refused f) listed ended refused = refused f
+
+abbrev pub withStream : Plant → Stream → Plant
+withStream p s = record { units = p .units; streams = p .streams ++ (s ∷ []) }
+
+-- At most `fuel` records, read one after the other.
+abbrev pub recordsFrom : ℕ → Plant → List ℕ → Got
+recordsFrom zero p s = bad 3
+recordsFrom (suc fuel) p s =
+    onRecord (recordAt (p .units) (length (p .streams)) s) (λ x m. recordsFrom fuel (withStream p x) (drop m s)) (got p) bad
+
+-- Enough for every stream there may be, and the record that ends the reading.
+abbrev pub mostRecords : ℕ
+mostRecords = suc maxStreams
+
+-- A plant file: one site record first, then the stream records, then the end record and nothing more.
+abbrev pub readPlant : List ℕ → Got
+readPlant s = onSite (siteAt s) (λ n. recordsFrom mostRecords (record { units = n; streams = [] }) (drop (suc siteBody) s)) bad
+
+-- Writing.
+abbrev pub streamBytes : Stream → List ℕ
+streamBytes s =
+    pick (s .metered)
+    (meteredKind ∷ s .from ∷ s .to ∷ putBe 2 (s .weight) ++ putBe 4 (raw 4 (s .reading)))
+    (unmeteredKind ∷ s .from ∷ s .to ∷ [])
+
+abbrev pub streamsBytes : List Stream → List ℕ
+streamsBytes [] = []
+streamsBytes (s ∷ ss) = streamBytes s ++ streamsBytes ss
+
+abbrev pub plantBytes : Plant → List ℕ
+plantBytes p = siteKind ∷ p .units ∷ streamsBytes (p .streams) ++ (endKind ∷ length (p .streams) ∷ [])
+
+-- A plant file written from its parts and read again comes back the same, both ways.
+pub record Round-trip : Type 0 where
+  pub there : (p : Plant) → plantFault p ≡ 0 → plain (p .streams) ≡ true → readPlant (plantBytes p) ≡ got p
+  pub back : (s : List ℕ) (p : Plant) → allBytes s ≡ true → readPlant s ≡ got p → plantBytes p ≡ s
