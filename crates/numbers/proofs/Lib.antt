@@ -1,0 +1,4 @@
+-- Laws of numbers in bytes, and of slices lent in parts.
+pub mod Parts
+pub mod Digits
+pub mod Complement
