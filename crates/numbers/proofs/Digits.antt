@@ -1,16 +1,17 @@
 -- Numbers high byte first, at any width: what is written is read, and what is read is written.
-use mathlib.Core.Path.{_≡_, refl, sym, ap, _∙_, subst}
+use mathlib.Core.Path.{_≡_, refl, sym, ap, _∙_}
 use mathlib.Core.List.{List, [], _∷_, _++_, append-nil, append-assoc}
-use mathlib.Core.Bool.{Bool, true, false, _&&_, false≢true}
+use mathlib.Core.Bool.{true}
 use Prim.Native.Nat.{ℕ, zero, suc, _+_, _-_, _*_, _/_, _%_, _^_, _<_, _≤_}
 use native.Mathlib.Omega.{arith}
-use native.Mathlib.Nat.{div-lt-iff-lt-mul, pow-succ', mul-comm, mul-assoc, add-zero, add-suc, div-div-eq-div-mul}
+use native.Mathlib.Nat.{div-lt-iff-lt-mul, pow-succ', mul-comm, add-zero, add-suc, div-div-eq-div-mul, mul-le-mul-right}
 use lib.Arith.{mod-mul, digits-div, digits-mod}
 use lib.ListN.{length, getD, take, drop, length-append, length-drop}
-use lib.Seq.{take-at, take-add, take-suc, length-take-le, getD-drop}
+use lib.Seq.{take-at, take-add, length-take-le}
 use lib.Dec.{ltb, lit<}
-use borrow.Author.Tests.{ltb-true, lt-ltb}
+use borrow.Author.Tests.{ltb-true}
 use Rattle.numbers.specs.Bytes.{be, beFrom, putBe, allBytes}
+use Rattle.numbers.proofs.Tests.{and-left, and-right, and-both}
 
 -- A power of 256, one byte more.
 power-suc : (n : ℕ) → 256 ^ suc n ≡ 256 ^ n * 256
@@ -36,10 +37,14 @@ beFrom-high v (b ∷ bs) =
     let m = 256 ^ length bs in
     beFrom-high (256 * v + b) bs ∙ rw p (omega (arith, beFrom-high (256 * 0 + b) bs))
 
+-- A field that is there whole.
+length-field : (i n : ℕ) (s : List ℕ) → i + n ≤ length s → length (take n (drop i s)) ≡ n
+length-field i n s h = length-take-le n (drop i s) (simp length-drop (omega arith))
+
 -- A field of m and n bytes is its high part and its low part.
 pub be-split : (m n : ℕ) (s : List ℕ) → m + n ≤ length s → be 0 (m + n) s ≡ be 0 m s * 256 ^ n + be m n s
 be-split m n s h =
-    let l : length (take n (drop m s)) ≡ n = length-take-le n (drop m s) (simp length-drop (omega arith)) in
+    let l = length-field m n s h in
     ap (beFrom 0) (take-add m n s)
     ∙ beFrom-append 0 (take m s) (take n (drop m s))
     ∙ beFrom-high (be 0 m s) (take n (drop m s))
@@ -63,11 +68,7 @@ be-put n v r h = ap (beFrom 0) (take-at (putBe n v) r n (length-put n v)) ∙ be
 
 -- Read, then written: the bytes again.
 pub byte-first : (b : ℕ) (bs : List ℕ) → allBytes (b ∷ bs) ≡ true → (b < 256) × (allBytes bs ≡ true)
-byte-first b bs e = go (ltb b 256) refl e
-  where
-    go : (t : Bool) → ltb b 256 ≡ t → t && allBytes bs ≡ true → (b < 256) × (allBytes bs ≡ true)
-    go true q e = (ltb-true b 256 q, e)
-    go false q e = absurd (false≢true e)
+byte-first b bs e = (ltb-true b 256 (and-left (ltb b 256) (allBytes bs) e), and-right (ltb b 256) (allBytes bs) e)
 
 put-from : (k v : ℕ) (bs : List ℕ) → allBytes bs ≡ true → putBe (k + length bs) (beFrom v bs) ≡ putBe k v ++ bs
 put-from k v [] e = rw (add-zero, append-nil)
@@ -88,14 +89,29 @@ bytes-take : (n : ℕ) (s : List ℕ) → allBytes s ≡ true → allBytes (take
 bytes-take zero s e = refl
 bytes-take (suc n) [] e = e
 bytes-take (suc n) (b ∷ s) e =
-    let f = byte-first b s e in
-    simp (lt-ltb b 256 (f .0)) (bytes-take n s (f .1))
+    and-both (ltb b 256) (allBytes (take n s)) (and-left (ltb b 256) (allBytes s) e) (bytes-take n s (and-right (ltb b 256) (allBytes s) e))
+
+bytes-field : (i n : ℕ) (s : List ℕ) → allBytes s ≡ true → allBytes (take n (drop i s)) ≡ true
+bytes-field i n s e = bytes-take n (drop i s) (bytes-drop i s e)
 
 pub put-be : (i n : ℕ) (s : List ℕ) → allBytes s ≡ true → i + n ≤ length s → putBe n (be i n s) ≡ take n (drop i s)
 put-be i n s e h =
-    let l : length (take n (drop i s)) ≡ n = length-take-le n (drop i s) (simp length-drop (omega arith)) in
+    let l = length-field i n s h in
     let z : n ≡ 0 + length (take n (drop i s)) = omega arith in
-    ap (λ (k : ℕ). putBe k (be i n s)) z ∙ put-from 0 0 (take n (drop i s)) (bytes-take n (drop i s) (bytes-drop i s e))
+    ap (λ (k : ℕ). putBe k (be i n s)) z ∙ put-from 0 0 (take n (drop i s)) (bytes-field i n s e)
+
+-- What bytes hold is below the power of their number.
+pub beFrom-fits : (bs : List ℕ) → allBytes bs ≡ true → beFrom 0 bs < 256 ^ length bs
+beFrom-fits [] e = omega arith
+beFrom-fits (b ∷ bs) e =
+    let f = byte-first b bs e in
+    let m = 256 ^ length bs in
+    let g : suc b * m ≤ 256 * m = mul-le-mul-right m (f .0) in
+    rw (power-suc (length bs)) (omega (arith, beFrom-high (256 * 0 + b) bs, beFrom-fits bs (f .1)))
+
+pub be-fits : (i n : ℕ) (s : List ℕ) → allBytes s ≡ true → i + n ≤ length s → be i n s < 256 ^ n
+be-fits i n s e h =
+    rw (length-field i n s h) at (beFrom-fits (take n (drop i s)) (bytes-field i n s e))
 
 -- A number's bytes are those of its high part and those of its low part.
 pub put-split : (m n v : ℕ) → putBe (m + n) v ≡ putBe m (v / 256 ^ n) ++ putBe n (v % 256 ^ n)

@@ -22,16 +22,20 @@ pub data Got : Type 0 where
 
 -- Site record. The kind byte is missing: 3; it is another kind: 4; the body is cut: 3; n: 6.
 abbrev pub siteFault : List ℕ → ℕ
-siteFault [] = 3
-siteFault (k ∷ b) =
-    firstOf (refuseIf (not (eqb k siteKind)) 4)
-    (firstOf (refuseIf (ltb (length b) siteBody) 3) (unitsFault (getD b 0 0)))
+siteFault s =
+    firstOf (refuseIf (eqb (length s) 0) 3)
+    (firstOf (refuseIf (not (eqb (getD s 0 0) siteKind)) 4)
+    (firstOf (refuseIf (ltb (length s) (suc siteBody)) 3) (unitsFault (getD s 1 0))))
 
 -- What stands where the site record is due.
 abbrev pub siteAt : List ℕ → Site
 siteAt s = pick (eqb (siteFault s) 0) (Units (getD s 1 0)) (Missing (siteFault s))
 
--- What each case of Site means: the units, or the refusal number.
+-- What each case of Site means: its number, 0 where it is no refusal, and its value.
+abbrev pub siteNumber : Site → ℕ
+siteNumber (Units n) = 0
+siteNumber (Missing f) = f
+
 abbrev pub onSite : {A : Type 0} → Site → (ℕ → A) → (ℕ → A) → A
 onSite (Units n) placed refused = placed n
 onSite (Missing f) placed refused = refused f
@@ -48,11 +52,12 @@ unmeteredIn b = unmetered (getD b 0 0) (getD b 1 0)
 abbrev pub bodyFault : ℕ → ℕ → List ℕ → ℕ
 bodyFault size c b = firstOf (refuseIf (leb maxStreams c) 5) (refuseIf (ltb (length b) size) 3)
 
--- A stream record: those refusals, then the stream's own, else the stream and how many bytes the record takes.
+-- A stream whose record takes m bytes: its own faults, else the stream.
+abbrev pub checked : ℕ → Stream → ℕ → Record
+checked n s m = pick (eqb (streamFault n s) 0) (Listed s m) (Refused (streamFault n s))
+
 abbrev pub streamRecord : ℕ → Stream → ℕ → ℕ → List ℕ → Record
-streamRecord size s n c b =
-    let f = firstOf (bodyFault size c b) (streamFault n s) in
-    pick (eqb f 0) (Listed s (suc size)) (Refused f)
+streamRecord size s n c b = pick (eqb (bodyFault size c b) 0) (checked n s (suc size)) (Refused (bodyFault size c b))
 
 -- End record after c streams: a cut body 3, another count 11, bytes after it 12.
 abbrev pub endFault : ℕ → List ℕ → ℕ
@@ -72,8 +77,7 @@ kindRecord n c k b =
 
 -- What stands where a record is due: a missing kind byte is 3.
 abbrev pub recordAt : ℕ → ℕ → List ℕ → Record
-recordAt n c [] = Refused 3
-recordAt n c (k ∷ b) = kindRecord n c k b
+recordAt n c s = pick (eqb (length s) 0) (Refused 3) (kindRecord n c (getD s 0 0) (drop 1 s))
 
 -- What each case of Record means: the stream and the record's size, the end, or the refusal number.
 abbrev pub onRecord : {A : Type 0} → Record → (Stream → ℕ → A) → A → (ℕ → A) → A

@@ -1,0 +1,86 @@
+-- A plant that is read has no fault.
+use mathlib.Core.Path.{_≡_, refl, subst}
+use mathlib.Core.Bool.{Bool, true, _||_, _&&_}
+use mathlib.Core.List.{List, [], _∷_, _++_}
+use lib.IntN.{natAbs}
+use Prim.Native.Nat.{ℕ, zero, suc, _≤_}
+use native.Mathlib.Omega.{arith}
+use borrow.Author.Tests.{le-ltb}
+use lib.Dec.{eqb}
+use lib.ListN.{length, drop, length-append}
+use Rattle.numbers.proofs.Tests.{and-left, and-right, and-both, first-none-left, first-none-right}
+use Rattle.plants.specs.declared.Stream.{Stream}
+use Rattle.plants.specs.declared.Site.{Site}
+use Rattle.plants.specs.declared.Site.the-variants.{Units, Missing}
+use Rattle.plants.specs.declared.Record.{Record}
+use Rattle.plants.specs.declared.Record.the-variants.{Listed, End, Refused}
+use Rattle.plants.specs.Limits.{maxStreams, siteBody}
+use Rattle.plants.specs.Plants.{Plant, unitsFault, streamFault, firstFault, plantFault, plain}
+use Rattle.plants.specs.Files.{Got, bad, got, siteAt, onSite, recordAt, onRecord, withStream, recordsFrom, mostRecords, readPlant}
+use Rattle.plants.proofs.Records.{ListedAs, Meaning, record-means, units-there, site-units}
+
+-- What is known of the plant while a file is read.
+record Sound (p : Plant) : Type 0 where
+  units-fit : unitsFault (p .units) ≡ 0
+  few : length (p .streams) ≤ maxStreams
+  no-fault : firstFault (p .units) (p .streams) ≡ 0
+  all-plain : plain (p .streams) ≡ true
+
+-- One stream without fault more.
+fault-more : (n : ℕ) (ss : List Stream) (s : Stream) → firstFault n ss ≡ 0 → streamFault n s ≡ 0 → firstFault n (ss ++ (s ∷ [])) ≡ 0
+fault-more n [] s e f = rw f
+fault-more n (t ∷ ss) s e f =
+    rw (first-none-left (streamFault n t) (firstFault n ss) e) (fault-more n ss s (first-none-right (streamFault n t) (firstFault n ss) e) f)
+
+-- A stream that is metered or has neither weight nor reading.
+abbrev pub plainOne : Stream → Bool
+plainOne s = s .metered || (eqb (s .weight) 0 && eqb (natAbs (s .reading)) 0)
+
+plain-more : (ss : List Stream) (s : Stream) → plain ss ≡ true → plain (s ∷ []) ≡ true → plain (ss ++ (s ∷ [])) ≡ true
+plain-more [] s e f = f
+plain-more (t ∷ ss) s e f =
+    and-both (plainOne t) (plain (ss ++ (s ∷ []))) (and-left (plainOne t) (plain ss) e) (plain-more ss s (and-right (plainOne t) (plain ss) e) f)
+
+sound-more : (p : Plant) (s : Stream) {b : List ℕ} {m : ℕ} → Sound p → ListedAs (p .units) (length (p .streams)) b s m → Sound (withStream p s)
+sound-more p s h f =
+    let l = length-append (p .streams) (s ∷ []) in
+    let r = f .room in
+    record {
+      units-fit = h .units-fit;
+      few = omega arith;
+      no-fault = fault-more (p .units) (p .streams) s (h .no-fault) (f .good);
+      all-plain = plain-more (p .streams) s (h .all-plain) (f .bare);
+    }
+
+abbrev Good : Got → Type 0
+Good (bad f) = Unit {0}
+Good (got p) = Sound p
+
+-- Whatever is read from here on is sound.
+good-records : (l : ℕ) (p : Plant) (s : List ℕ) → Sound p → Good (recordsFrom l p s)
+good-records zero p s h = tt
+good-records (suc l) p s h = go (recordAt (p .units) (length (p .streams)) s) (record-means (p .units) (length (p .streams)) s) (good-records l)
+  where
+    go : (r : Record) → Meaning (p .units) (length (p .streams)) s r → ((q : Plant) (t : List ℕ) → Sound q → Good (recordsFrom l q t))
+        → Good (onRecord r (λ x m. recordsFrom l (withStream p x) (drop m s)) (got p) bad)
+    go (Listed x m) f rest = rest (withStream p x) (drop m s) (sound-more p x h f)
+    go End f rest = h
+    go (Refused f) _ rest = tt
+
+-- (At any fuel: a numeral here would be unfolded.)
+good-plant : (l : ℕ) (s : List ℕ) → Good (onSite (siteAt s) (λ n. recordsFrom l (record { units = n; streams = [] }) (drop (suc siteBody) s)) bad)
+good-plant l s = go (siteAt s) refl
+  where
+    go : (r : Site) → r ≡ siteAt s → Good (onSite r (λ n. recordsFrom l (record { units = n; streams = [] }) (drop (suc siteBody) s)) bad)
+    go (Units n) e =
+        let u = units-there s n e in
+        good-records l (record { units = n; streams = [] }) (drop (suc siteBody) s)
+        (record { units-fit = rw (u .1) (site-units s (u .0)); few = omega arith; no-fault = refl; all-plain = refl })
+    go (Missing f) e = tt
+
+-- A plant that is read has no fault, and its unmetered streams have neither weight nor reading.
+pub accepted : (s : List ℕ) (p : Plant) → readPlant s ≡ got p → (plantFault p ≡ 0) × (plain (p .streams) ≡ true)
+accepted s p e = faultless (subst Good e (good-plant mostRecords s))
+  where
+    faultless : Sound p → (plantFault p ≡ 0) × (plain (p .streams) ≡ true)
+    faultless h = (rw (h .units-fit, le-ltb maxStreams (length (p .streams)) (h .few)) (h .no-fault), h .all-plain)

@@ -1,0 +1,2 @@
+-- Laws of the plant reader.
+pub mod Loop
