@@ -75,6 +75,14 @@ pub fn put_u32(v: u32, s: &mut [u8])
     put_u16((v % 65536) as u16, &mut s[2..]);
 }
 
+pub fn put_u64(v: u64, s: &mut [u8])
+    requires { ⌜ 8 ≤ length (now s) ⌝ }
+    ensures { λ _. ⌜ now (s .exit) ≡ over (putBe 8 v) (now (s .entry)) ⌝ }
+{
+    put_u32((v / 4294967296) as u32, s);
+    put_u32((v % 4294967296) as u32, &mut s[4..]);
+}
+
 pub fn put_i32(z: i32, s: &mut [u8])
     requires { ⌜ 4 ≤ length (now s) ⌝ }
     ensures { λ _. ⌜ now (s .exit) ≡ over (putBe 4 (raw 4 z)) (now (s .entry)) ⌝ }
