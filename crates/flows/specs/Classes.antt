@@ -4,13 +4,12 @@ use mathlib.Core.List.{List, [], _∷_}
 use lib.IntN.{ℤ, pos, negℤ, _+ℤ_}
 use Prim.Native.Nat.{ℕ, zero, suc, _+_, _-_}
 use lib.Dec.{eqb, leb}
-use lib.ListN.{length}
 use Rattle.numbers.specs.Choice.{pick}
 use Rattle.plants.specs.declared.Stream.{Stream}
 use Rattle.plants.specs.Plants.{Plant}
 use Rattle.flows.specs.declared.Class.{Class}
 use Rattle.flows.specs.declared.Class.the-variants.{Adjusted, AsRead, Given, Withheld}
-use Rattle.flows.specs.Flows.{streamAt}
+use Rattle.flows.specs.Flows.{streamAt, amountAt}
 
 -- Sets of places as lists.
 abbrev pub has : ℕ → List ℕ → Bool
@@ -83,6 +82,10 @@ sideOut side (s ∷ ss) (x ∷ xs) =
 -- The number of a given stream: what the places beyond it, joined without it, pass on by the metered streams.
 abbrev pub givenOf : Plant → ℕ → List ℤ → ℤ
 givenOf p i xs = sideOut (joinedTo (unmeteredBut i) p (streamAt (p .streams) i .to)) (p .streams) xs
+
+-- A stream's number: its amount where it is metered, the given one where it is not.
+abbrev pub numberOf : Plant → List ℤ → ℕ → ℤ
+numberOf p xs i = pick (streamAt (p .streams) i .metered) (amountAt xs i) (givenOf p i xs)
 
 -- The sets of joined places, counted by their lowest members, places 0 to n.
 abbrev pub lowest : ℕ → List ℕ → Bool

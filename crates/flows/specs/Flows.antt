@@ -18,6 +18,11 @@ streamAt ss k = getD ss k noStream
 abbrev pub amountAt : List ℤ → ℕ → ℤ
 amountAt xs k = getD xs k (pos 0)
 
+-- The values of a function at 0 to n - 1.
+abbrev pub values : {A : Type 0} → ℕ → (ℕ → A) → List A
+values zero f = []
+values (suc n) f = f 0 ∷ values n (λ k. f (suc k))
+
 -- A flow gives each stream a signed amount. The net of a place (a row of the incidence matrix times the flow): what comes in
 -- less what goes out.
 abbrev pub netAt : ℕ → List Stream → List ℤ → ℤ

@@ -1,5 +1,8 @@
--- Flows, the cheapest of them, groups and classes, the test, and what a sheet shows.
+-- Flows, the cheapest of them, groups and classes, the test, what a sheet shows, certificates of a flow, and what calls need.
 pub mod Flows
 pub mod Classes
+pub mod Labels
 pub mod Test
 pub mod Shown
+pub mod Certificate
+pub mod Calls

@@ -9,7 +9,11 @@ use Rattle.flows.specs.Classes.{degrees}
 
 -- Critical values in thousandths, degrees 1 to 32.
 abbrev pub critical : List ℕ
-critical = 3841 ∷ 5991 ∷ 7815 ∷ 9488 ∷ 11070 ∷ 12592 ∷ 14067 ∷ 15507 ∷ 16919 ∷ 18307 ∷ 19675 ∷ 21026 ∷ 22362 ∷ 23685 ∷ 24996 ∷ 26296 ∷ 27587 ∷ 28869 ∷ 30144 ∷ 31410 ∷ 32671 ∷ 33924 ∷ 35172 ∷ 36415 ∷ 37652 ∷ 38885 ∷ 40113 ∷ 41337 ∷ 42557 ∷ 43773 ∷ 44985 ∷ 46194 ∷ []
+critical =
+    3841 ∷ 5991 ∷ 7815 ∷ 9488 ∷ 11070 ∷ 12592 ∷ 14067 ∷ 15507
+    ∷ 16919 ∷ 18307 ∷ 19675 ∷ 21026 ∷ 22362 ∷ 23685 ∷ 24996 ∷ 26296
+    ∷ 27587 ∷ 28869 ∷ 30144 ∷ 31410 ∷ 32671 ∷ 33924 ∷ 35172 ∷ 36415
+    ∷ 37652 ∷ 38885 ∷ 40113 ∷ 41337 ∷ 42557 ∷ 43773 ∷ 44985 ∷ 46194 ∷ []
 
 -- Verdict by degrees d and cost c: 0 (pass) at most the value, 1 (fail) above it, 2 (none) at no degrees.
 abbrev pub verdictAt : ℕ → ℕ → ℕ

@@ -1,0 +1,233 @@
+-- After k steps two places have one label exactly when a chain of the first k streams that count joins them.
+use mathlib.Core.Path.{_≡_, refl, sym, _∙_, ap, subst}
+use mathlib.Core.Bool.{Bool, true, false}
+use mathlib.Core.List.{List, [], _∷_, map}
+use Prim.Native.Nat.{ℕ, zero, suc, _+_, _≤_, _<_, min, max}
+use native.Mathlib.Nat.{min-eq-left, min-eq-right, max-eq-left, max-eq-right}
+use native.Mathlib.Omega.{arith}
+use native.Mathlib.Decide.{decLe}
+use native.Mathlib.Numerals.{add-one}
+use borrow.Author.Tests.{eqb-true, eq-eqb, ne-eqb, ltb-true, ltb-false, lt-ltb}
+use lib.Dec.{eqb, ltb}
+use lib.ListN.{length, getD, length-map}
+use Rattle.numbers.specs.Choice.{pick}
+use Rattle.numbers.proofs.Tests.{by-cases, clash, and-left, and-right, and-both, same-test}
+use Rattle.plants.specs.declared.Stream.{Stream}
+use Rattle.plants.specs.Limits.{maxUnits, places}
+use Rattle.plants.specs.Plants.{Plant}
+use Rattle.flows.specs.Flows.{streamAt}
+use Rattle.flows.specs.Classes.{has, Counting, joinedTo}
+use Rattle.flows.specs.Labels.{ownNumbers, renamed, relabelled, united, stepped, labelsAfter, labelsOf, oneLabel, firstOnly, One-pass}
+use Rattle.flows.proofs.Lists.{map-at, values-long, values-at, Written, written-all}
+use Rattle.flows.proofs.Reach.{Inside, Chain, chain-trans, chain-sym, chain-map, joined→chain, chain→joined}
+
+-- A choice of one value.
+same-either : (b : Bool) (x : ℕ) → pick b x x ≡ x
+same-either true x = refl
+same-either false x = refl
+
+-- What holds of two numbers in either order holds of the lower and the higher.
+min-max : (P : ℕ → ℕ → Type 0) (a b : ℕ) → P a b → P b a → P (min a b) (max a b)
+min-max P a b f g = elim (decLe a b) [
+  | yes h ↦ rw (min-eq-left h, max-eq-right h) f
+  | no h ↦ let l : b ≤ a = omega arith in rw (min-eq-right l, max-eq-left l) g
+]
+
+-- Two labels become one, the lower.
+renamed-both : (a b : ℕ) → renamed (min a b) (max a b) a ≡ renamed (min a b) (max a b) b
+renamed-both a b = min-max (λ lo hi. renamed lo hi a ≡ renamed lo hi b) a b (meet a b) (sym (meet b a))
+  where
+    meet : (lo hi : ℕ) → renamed lo hi lo ≡ renamed lo hi hi
+    meet lo hi = same-either (eqb lo hi) lo ∙ rw (eq-eqb hi hi refl)
+
+renamed-low : (lo hi x : ℕ) → lo ≤ hi → renamed lo hi x ≤ x
+renamed-low lo hi x h = by-cases (eqb x hi) (λ t. rw t (omega (arith, eqb-true x hi t))) (λ t. rw t (omega arith))
+
+-- A label that is renamed, one that is not, and all of them.
+pub renamed-hit : (lo hi x : ℕ) → x ≡ hi → lo ≡ renamed lo hi x
+renamed-hit lo hi x e = rw (eq-eqb x hi e)
+
+pub renamed-miss : (lo hi x : ℕ) → (x ≡ hi → ⊥) → renamed lo hi x ≡ x
+renamed-miss lo hi x e = rw (ne-eqb x hi e)
+
+pub renamed-all : (lo hi : ℕ) (before now : List ℕ) → length before ≡ places → Written 0 places (λ k x. renamed lo hi x) before now places
+    → now ≡ relabelled lo hi before
+renamed-all lo hi before now h w =
+    written-all w (relabelled lo hi before) (length-map before (renamed lo hi) ∙ h) (λ k l. map-at (renamed lo hi) before k 0 0 (rw h l))
+
+-- Two labels that are one already.
+renamed-self : (x y : ℕ) → renamed x x y ≡ y
+renamed-self x y = by-cases (eqb y x) (λ t. rw t (sym (eqb-true y x t))) (λ t. rw t)
+
+relabelled-self : (x : ℕ) (ls : List ℕ) → relabelled x x ls ≡ ls
+relabelled-self x [] = refl
+relabelled-self x (y ∷ ls) = rw (renamed-self x y, relabelled-self x ls)
+
+united-one : (a b : ℕ) (ls : List ℕ) → a ≡ b → united a b ls ≡ ls
+united-one a b ls e = min-max (λ lo hi. relabelled lo hi ls ≡ ls) a b (rw e (relabelled-self b ls)) (rw e (relabelled-self b ls))
+
+pub stepped-one : (s : Stream) (ls : List ℕ) → getD ls (s .from) 0 ≡ getD ls (s .to) 0 → stepped true s ls ≡ ls
+stepped-one s ls e = united-one (getD ls (s .from) 0) (getD ls (s .to) 0) ls e
+
+-- One step more.
+pub step-more : (counts : Counting) (ss : List Stream) (i : ℕ) (s : Stream) (ls next : List ℕ) (c : Bool)
+    → ls ≡ labelsAfter counts ss i → streamAt ss i ≡ s → c ≡ counts i s → next ≡ stepped c s ls → next ≡ labelsAfter counts ss (i + 1)
+unfolding labelsAfter
+step-more counts ss i s ls next c e at q n = rw (add-one i, at, ← q, ← e) n
+
+pub step-none : (counts : Counting) (ss : List Stream) (ls : List ℕ) → ls ≡ ownNumbers → ls ≡ labelsAfter counts ss 0
+unfolding labelsAfter
+step-none counts ss ls e = e
+
+-- What holds of the labels after k steps.
+record Labelling (counts : Counting) (ss : List Stream) (k : ℕ) (ls : List ℕ) : Type 0 where
+  long : length ls ≡ places
+  level : (j : ℕ) → j < length ss → firstOnly k counts j (streamAt ss j) ≡ true → getD ls (streamAt ss j .from) 0 ≡ getD ls (streamAt ss j .to) 0
+  chain : (u : ℕ) → u < places → Chain (firstOnly k counts) ss u (getD ls u 0)
+  low : (u : ℕ) → u < places → getD ls u 0 ≤ u
+
+module _ (counts : Counting) (ss : List Stream) where
+  grown : (k : ℕ) {u v : ℕ} → Chain (firstOnly k counts) ss u v → Chain (firstOnly (suc k) counts) ss u v
+  grown k = chain-map (λ j l e. and-both (ltb j (suc k)) _ (lt-ltb j (suc k) (omega (arith, ltb-true j k (and-left (ltb j k) _ e)))) (and-right (ltb j k) _ e))
+
+  -- A stream that counts among the first k + 1 is among the first k, or is number k.
+  first-or : {A : Type 0} (k j : ℕ) (s : Stream) → firstOnly (suc k) counts j s ≡ true
+      → (firstOnly k counts j s ≡ true → A) → (j ≡ k → counts j s ≡ true → A) → A
+  first-or k j s e f g =
+      by-cases (ltb j k) (λ t. f (and-both (ltb j k) (counts j s) t (and-right (ltb j (suc k)) (counts j s) e)))
+      (λ t. g (omega (arith, ltb-false j k t, ltb-true j (suc k) (and-left (ltb j (suc k)) (counts j s) e))) (and-right (ltb j (suc k)) (counts j s) e))
+
+  start : Labelling counts ss 0 ownNumbers
+  start = record {
+    long = values-long (λ u. u) places;
+    level = λ j l e. absurd (omega (arith, ltb-true j 0 (and-left (ltb j 0) _ e)));
+    chain = λ u h. subst (Chain (firstOnly 0 counts) ss u) (sym (own u h)) Chain.stop;
+    low = λ u h. omega (arith, own u h);
+  }
+    where
+      own : (u : ℕ) → u < places → getD ownNumbers u 0 ≡ u
+      own u h = values-at (λ u. u) 0 places u h
+
+  -- A stream that does not count.
+  passed : (k : ℕ) (ls : List ℕ) → Labelling counts ss k ls → counts k (streamAt ss k) ≡ false → Labelling counts ss (suc k) ls
+  passed k ls g t = record {
+    long = g .long;
+    level = λ j l e. first-or k j (streamAt ss j) e (g .level j l) (λ q c. clash (counts k (streamAt ss k)) (rw q at c) t);
+    chain = λ u h. grown k (g .chain u h);
+    low = g .low;
+  }
+
+  module _ (n : ℕ) (small : n ≤ maxUnits) (w : Inside n ss) where
+    -- A stream that counts.
+    joined : (k : ℕ) (ls : List ℕ) → k < length ss → Labelling counts ss k ls → counts k (streamAt ss k) ≡ true
+        → Labelling counts ss (suc k) (united (getD ls (streamAt ss k .from) 0) (getD ls (streamAt ss k .to) 0) ls)
+    joined k ls l g t = record {
+      long = length-map ls (renamed lo hi) ∙ g .long;
+      level = λ j m e. at (streamAt ss j .from) (omega (arith, w j m)) ∙ both j m e ∙ sym (at (streamAt ss j .to) (omega (arith, w j m)));
+      chain = λ u h. subst (Chain more ss u) (sym (at u h)) (reach u h);
+      low = λ u h. omega (arith, at u h, renamed-low lo hi (getD ls u 0) (omega arith), g .low u h);
+    }
+      where
+        s : Stream
+        s = streamAt ss k
+
+        a : ℕ
+        a = getD ls (streamAt ss k .from) 0
+
+        b : ℕ
+        b = getD ls (streamAt ss k .to) 0
+
+        lo : ℕ
+        lo = min a b
+
+        hi : ℕ
+        hi = max a b
+
+        more : Counting
+        more = firstOnly (suc k) counts
+
+        at : (u : ℕ) → u < places → getD (map (renamed lo hi) ls) u 0 ≡ renamed lo hi (getD ls u 0)
+        at u h = map-at (renamed lo hi) ls u 0 0 (rw (g .long) h)
+
+        both : (j : ℕ) → j < length ss → firstOnly (suc k) counts j (streamAt ss j) ≡ true
+            → renamed lo hi (getD ls (streamAt ss j .from) 0) ≡ renamed lo hi (getD ls (streamAt ss j .to) 0)
+        both j m e =
+            first-or k j (streamAt ss j) e (λ o. ap (renamed lo hi) (g .level j m o))
+            (λ q c. rw q (renamed-both a b))
+
+        link : Chain more ss a b
+        link =
+            let here : Chain more ss (s .from) (s .to) = Chain.along k l (and-both (ltb k (suc k)) _ (lt-ltb k (suc k) (omega arith)) t) Chain.stop in
+            let start = grown k (g .chain (s .from) (omega (arith, w k l))) in
+            let end = grown k (g .chain (s .to) (omega (arith, w k l))) in
+            chain-trans (chain-sym start) (chain-trans here end)
+
+        down : Chain more ss hi lo
+        down = min-max (λ lo hi. Chain more ss hi lo) a b (chain-sym link) link
+
+        reach : (u : ℕ) → u < places → Chain more ss u (renamed lo hi (getD ls u 0))
+        reach u h =
+            by-cases (eqb (getD ls u 0) hi)
+            (λ e. rw e (chain-trans (subst (Chain more ss u) (eqb-true (getD ls u 0) hi e) (grown k (g .chain u h))) down))
+            (λ e. rw e (grown k (g .chain u h)))
+
+    after : (k : ℕ) → k ≤ length ss → Labelling counts ss k (labelsAfter counts ss k)
+    unfolding labelsAfter
+    after zero h = start
+    after (suc k) h =
+        by-cases (counts k (streamAt ss k)) (λ t. rw t (joined k _ (omega arith) (after k (omega arith)) t))
+        (λ t. rw t (passed k _ (after k (omega arith)) t))
+
+module _ (counts : Counting) (p : Plant) (small : p .units ≤ maxUnits) (w : Inside (p .units) (p .streams)) where
+  abbrev labelAfter : ℕ → ℕ → ℕ
+  labelAfter k u = getD (labelsAfter counts (p .streams) k) u 0
+
+  labelling : (k : ℕ) → k ≤ length (p .streams) → Labelling counts (p .streams) k (labelsAfter counts (p .streams) k)
+  labelling = after counts (p .streams) (p .units) small w
+
+  chain→label : (k : ℕ) → k ≤ length (p .streams) → {u v : ℕ} → Chain (firstOnly k counts) (p .streams) u v → labelAfter k u ≡ labelAfter k v
+  chain→label k h Chain.stop = refl
+  chain→label k h (Chain.along j l e c) = chain→label k h c ∙ labelling k h .level j l e
+  chain→label k h (Chain.back j l e c) = chain→label k h c ∙ sym (labelling k h .level j l e)
+
+  pub label→chain : (k u v : ℕ) → k ≤ length (p .streams) → u < places → v < places → labelAfter k u ≡ labelAfter k v
+      → Chain (firstOnly k counts) (p .streams) u v
+  label→chain k u v h hu hv e =
+      chain-trans (subst (Chain (firstOnly k counts) (p .streams) u) e (labelling k h .chain u hu)) (chain-sym (labelling k h .chain v hv))
+
+  joined→label : (k u v : ℕ) → k ≤ length (p .streams) → has v (joinedTo (firstOnly k counts) p u) ≡ true → labelAfter k u ≡ labelAfter k v
+  joined→label k u v h e = chain→label k h (joined→chain (firstOnly k counts) p u v e)
+
+  -- Groups are formed in one pass.
+  pub one-pass : One-pass counts p
+  one-pass = record {
+    groups = λ k u v h hu hv. same-test (oneLabel (labelsAfter counts (p .streams) k) u v) (has v (joinedTo (firstOnly k counts) p u))
+        (λ e. chain→joined (firstOnly k counts) p w (label→chain k u v h hu hv (eqb-true (labelAfter k u) (labelAfter k v) e)))
+        (λ e. eq-eqb (labelAfter k u) (labelAfter k v) (joined→label k u v h e));
+    member = λ k u h hu. chain→joined (firstOnly k counts) p w (labelling k h .chain u hu);
+    lowest = λ k u v h hu hv e. omega (arith, joined→label k u v h e, labelling k h .low v hv);
+  }
+
+  -- All streams are the first of them.
+  all-first : (u v : ℕ) → has v (joinedTo (firstOnly (length (p .streams)) counts) p u) ≡ has v (joinedTo counts p u)
+  all-first u v =
+      let n = length (p .streams) in
+      same-test (has v (joinedTo (firstOnly n counts) p u)) (has v (joinedTo counts p u))
+      (λ e. chain→joined counts p w (chain-map (λ j l c. and-right (ltb j n) _ c) (joined→chain (firstOnly n counts) p u v e)))
+      (λ e. chain→joined (firstOnly n counts) p w (chain-map (λ j l c. and-both (ltb j n) _ (lt-ltb j n l) c) (joined→chain counts p u v e)))
+
+  -- The labels of all streams that count: one label is being joined, and a label is the lowest place of its group.
+  pub label-joined : (u v : ℕ) → u < places → v < places → has v (joinedTo counts p u) ≡ oneLabel (labelsOf counts p) u v
+  label-joined u v hu hv = sym (one-pass .groups (length (p .streams)) u v (omega arith) hu hv ∙ all-first u v)
+
+  pub label-member : (u : ℕ) → u < places → has (getD (labelsOf counts p) u 0) (joinedTo counts p u) ≡ true
+  label-member u h = sym (all-first u (getD (labelsOf counts p) u 0)) ∙ one-pass .member (length (p .streams)) u (omega arith) h
+
+  pub label-low : (u : ℕ) → u < places → getD (labelsOf counts p) u 0 ≤ u
+  label-low = labelling (length (p .streams)) (omega arith) .low
+
+  pub label-lowest : (u v : ℕ) → u < places → has v (joinedTo counts p u) ≡ true → getD (labelsOf counts p) u 0 ≤ v
+  label-lowest u v h e =
+      by-cases (ltb v places)
+      (λ t. one-pass .lowest (length (p .streams)) u v (omega arith) h (ltb-true v places t) (all-first u v ∙ e))
+      (λ t. omega (arith, label-low u h, ltb-false v places t))

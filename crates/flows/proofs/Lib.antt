@@ -1,0 +1,25 @@
+-- Laws of flows.
+pub mod Integers
+pub mod Sums
+pub mod Reach
+pub mod Nets
+pub mod Routes
+pub mod Given
+pub mod Withheld
+pub mod Steps
+pub mod Prices
+pub mod Nearness
+pub mod Order
+pub mod Ties
+pub mod Moves
+pub mod Search
+pub mod Improve
+pub mod Exists
+pub mod Certified
+pub mod Demand
+pub mod Lists
+pub mod Labels
+pub mod Fits
+pub mod Degrees
+pub mod ByLabels
+pub mod Critical

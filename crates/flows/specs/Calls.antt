@@ -1,0 +1,50 @@
+-- Plants as the code holds them: what the calls over groups and classes need, and what each case of an answer means.
+use mathlib.Core.Path.{_≡_}
+use mathlib.Core.List.{List}
+use Prim.Native.Nat.{ℕ, _≤_, _<_}
+use lib.ListN.{length, getD}
+use Rattle.plants.specs.declared.Stream.{Stream}
+use Rattle.plants.specs.declared.Plant as Arrays
+use Rattle.plants.specs.Limits.{maxUnits, places, maxStreams}
+use Rattle.plants.specs.Plants.{Plant, noStream}
+use Rattle.plants.specs.Says.{plantOf}
+use Rattle.flows.specs.declared.Class.{Class}
+use Rattle.flows.specs.declared.Which.{Which}
+use Rattle.flows.specs.declared.Which.the-variants.{Every, Unmetered, UnmeteredBut}
+use Rattle.flows.specs.Flows.{values}
+use Rattle.flows.specs.Classes.{Counting, everyStream, unmeteredOnly, unmeteredBut, classOf}
+use Rattle.flows.specs.Labels.{labelsAfter, labelsOf}
+
+-- A plant within the limits that groups need.
+pub record Fit (p : Arrays.Plant) : Type 0 where
+  pub long : length (p .streams) ≡ maxStreams
+  pub few-streams : p .count ≤ maxStreams
+  pub few-units : p .units ≤ maxUnits
+  pub from-in : (i : ℕ) → i < p .count → getD (p .streams) i noStream .from ≤ p .units
+  pub to-in : (i : ℕ) → i < p .count → getD (p .streams) i noStream .to ≤ p .units
+
+-- A stream whose ends have labels.
+pub record Ends (s : Stream) : Type 0 where
+  pub from-in : s .from < places
+  pub to-in : s .to < places
+
+-- Which streams count, by the cases of Which.
+abbrev pub counting : Which → Counting
+counting Every = everyStream
+counting Unmetered = unmeteredOnly
+counting (UnmeteredBut e) = unmeteredBut e
+
+-- The classes of all streams. (A record past the last stream is empty, from the outside to itself: its class is Withheld.)
+abbrev pub classesOf : Plant → List Class
+classesOf p = values maxStreams (classOf p)
+
+-- A plant and its labels by the unmetered streams.
+pub record Grouped (p : Arrays.Plant) (labels : List ℕ) : Type 0 where
+  pub fit : Fit p
+  pub labelled : labels ≡ labelsOf unmeteredOnly (plantOf p)
+
+-- Also the labels by the unmetered streams before stream i.
+pub record Classing (p : Arrays.Plant) (labels earlier : List ℕ) (i : ℕ) : Type 0 where
+  pub grouped : Grouped p labels
+  pub listed : i < p .count
+  pub met : earlier ≡ labelsAfter unmeteredOnly (plantOf p .streams) i

@@ -1,0 +1,121 @@
+// Groups of places, formed in one pass over the streams: each place has a label, the lowest place of its group.
+use crate::Which;
+use plants::Plant;
+use plants::Stream;
+use plants::limits::PLACES;
+ghost use mathlib.Core.Path.{_≡_};
+ghost use Prim.Native.Nat.{_<_, _≤_};
+ghost use Rattle.plants.specs.Limits.{maxUnits};
+ghost use Rattle.plants.specs.Says.{plantOf};
+ghost use Rattle.flows.specs.Labels.{ownNumbers, relabelled, stepped, labelsOf, oneLabel, ownLabels};
+ghost use Rattle.flows.specs.Calls.{Fit, Ends, counting};
+
+// Whether stream i counts.
+pub fn counts(which: Which, i: usize, s: Stream) -> bool
+    ensures { λ r. ⌜ r ≡ counting which i s ⌝ }
+{
+    match which {
+        Which::Every => true,
+        Which::Unmetered => !s.metered,
+        Which::UnmeteredBut(e) => {
+            if s.metered {
+                return false;
+            }
+            i != e
+        }
+    }
+}
+
+// Before the first step each place has its own number.
+pub fn own_numbers() -> [u8; PLACES]
+    ensures { λ r. ⌜ r ≡ ownNumbers ⌝ }
+{
+    let mut labels = [0u8; PLACES];
+    let mut own: usize = 0;
+    while own < PLACES {
+        labels[own] = own as u8;
+        own += 1;
+    }
+    labels
+}
+
+// The label `hi` becomes `lo` everywhere.
+pub fn rename(labels: [u8; PLACES], lo: u8, hi: u8) -> [u8; PLACES]
+    ensures { λ r. ⌜ r ≡ relabelled lo hi labels ⌝ }
+{
+    let mut r = labels;
+    let mut u: usize = 0;
+    while u < PLACES {
+        if r[u] == hi {
+            r[u] = lo;
+        }
+        u += 1;
+    }
+    r
+}
+
+// A step: the labels and the next stream, which counts or not.
+pub fn step(labels: [u8; PLACES], s: Stream, counts: bool) -> [u8; PLACES]
+    requires { ⌜ Ends s ⌝ }
+    ensures { λ r. ⌜ r ≡ stepped counts s labels ⌝ }
+{
+    if !counts {
+        return labels;
+    }
+    let u = s.from as usize;
+    let v = s.to as usize;
+    let a = labels[u];
+    let b = labels[v];
+    if a == b {
+        return labels;
+    }
+    if a <= b {
+        return rename(labels, a, b);
+    }
+    rename(labels, b, a)
+}
+
+// The labels after all streams.
+pub fn group(p: Plant, which: Which) -> [u8; PLACES]
+    requires { ⌜ Fit p ⌝ }
+    ensures { λ r. ⌜ r ≡ labelsOf (counting which) (plantOf p) ⌝ }
+{
+    let n = p.count as usize;
+    let mut labels = own_numbers();
+    let mut i: usize = 0;
+    while i < n {
+        let s = p.streams[i];
+        let c = counts(which, i, s);
+        let next = step(labels, s, c);
+        labels = next;
+        i += 1;
+    }
+    labels
+}
+
+// Whether a stream's ends have one label.
+pub fn one_label(labels: [u8; PLACES], s: Stream) -> bool
+    requires { ⌜ Ends s ⌝ }
+    ensures { λ r. ⌜ r ≡ oneLabel labels (s .from) (s .to) ⌝ }
+{
+    let u = s.from as usize;
+    let v = s.to as usize;
+    labels[u] == labels[v]
+}
+
+// How many of the places 0 to n bear their own number.
+pub fn own_labels(labels: [u8; PLACES], n: u8) -> u8
+    requires { ⌜ n ≤ maxUnits ⌝ }
+    ensures { λ r. ⌜ r ≡ ownLabels labels n ⌝ }
+{
+    let mut c: u8 = 1;
+    let mut u: u8 = 0;
+    while u < n {
+        u += 1;
+        let at = u as usize;
+        if labels[at] == u {
+            c += 1;
+        }
+    }
+    c
+}
