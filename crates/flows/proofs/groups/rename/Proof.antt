@@ -1,0 +1,63 @@
+-- `flows::groups::rename` meets its contract: the labels passed are renamed, the others are as they were.
+use mathlib.Core.Path.{_≡_, sym, _∙_}
+use mathlib.Core.Logic.{⊎-elim}
+use Prim.Native.Nat.{_≤_, _-_}
+use native.Mathlib.Omega.{arith}
+use Rattle.plants.specs.Limits.{places}
+use Rattle.flows.specs.Labels.{renamed}
+use Rattle.flows.proofs.Lists.{Written, written-none, written-put, written-keep}
+use Rattle.flows.proofs.Labels.{renamed-hit, renamed-miss, renamed-all}
+use borrow.Author.Needs.{needs}
+use Rattle.flows.proofs.groups.rename.Statement.{statement}
+use Rattle.flows.proofs.groups.rename.Tie as tie
+
+abbrev Inv-loop : tie.InvT-loop
+Inv-loop lo hi r₀ u₀ r u = (u ≤ places) × Written 0 places (λ k x. renamed lo hi x) r₀ r u
+
+abbrev μ-loop : tie.MeasureT-loop
+μ-loop lo hi r₀ u₀ r u = places - u
+
+loop-holds : tie.Need-loop-holds Inv-loop μ-loop
+loop-holds c = (omega arith, written-none (omega arith))
+
+array-read-if1 : tie.Need-array-read-if1 Inv-loop μ-loop
+array-read-if1 c = search needs
+
+array-write-r : tie.Need-array-write-r Inv-loop μ-loop
+array-write-r c = search needs
+
+add-u : tie.Need-add-u Inv-loop μ-loop
+add-u c = search needs
+
+loop-less : tie.Need-loop-less Inv-loop μ-loop
+loop-less c = search needs
+
+loop-again : tie.Need-loop-again Inv-loop μ-loop
+loop-again c =
+    let w = c .before .before .loop .inv .1 in
+    let u = c .before .before .loop .u in (
+      omega arith,
+      ⊎-elim
+          (λ z. rw (z .1) (written-put w (omega arith) _ (renamed-hit _ _ _ (sym (w .rest u (omega arith)) ∙ z .0 .taken))))
+          (λ z. rw (z .1) (written-keep w (renamed-miss _ _ _ (λ e. z .0 .left (w .rest u (omega arith) ∙ e)))))
+          (c .if1 .came),
+    )
+
+returns : tie.Need-returns Inv-loop μ-loop
+returns c =
+    let e : c .before .loop .u ≡ places = omega arith in
+    renamed-all _ _ _ _ (omega arith) (rw e at (c .before .loop .inv .1))
+
+pub rename-spec : {M : Type 1} → statement M
+rename-spec =
+    tie.close
+    (tie.spec
+    Inv-loop
+    μ-loop
+    loop-holds
+    array-read-if1
+    array-write-r
+    add-u
+    loop-less
+    loop-again
+    returns)
