@@ -1,0 +1,2 @@
+-- Arrays of streams within a plant's places.
+pub mod Placing

@@ -1,0 +1,2 @@
+-- What the texts of plants hold.
+pub mod Texts
