@@ -1,0 +1,359 @@
+-- The search: what holds of its tree and prices, and that it finds a place with a negative net.
+use mathlib.Core.Path.{_≡_, refl, sym, _∙_, ap}
+use mathlib.Core.Bool.{Bool, true, false, _&&_, _||_, not, true≢false, false≢true}
+use mathlib.Core.List.{List}
+use mathlib.Core.Logic.{⊎-elim}
+use Prim.Native.Nat.{ℕ, zero, suc, _+_, _-_, _*_, _≤_, _<_}
+use native.Mathlib.Nat.{mul-le-mul-right}
+use native.Mathlib.Omega.{arith}
+use native.Mathlib.Decide.{ℕ-discrete}
+use borrow.Author.Tests.{ltb-true, ltb-false, le-ltb, eqb-true, eqb-false, eq-eqb, ne-eqb, not-true, not-false}
+use lib.Dec.{eqb, ltb}
+use lib.ListN.{length, getD, set, replicate, length-set, length-replicate}
+use lib.Seq.{getD-set-same, getD-set-other}
+use Rattle.numbers.specs.Choice.{pick}
+use Rattle.numbers.proofs.Tests.{by-cases, clash}
+use Rattle.plants.specs.declared.Stream.{Stream}
+use Rattle.plants.specs.Limits.{places, maxUnits, maxStreams, maxWeight}
+use Rattle.flows.specs.Flows.{streamAt}
+use Rattle.flows.proofs.Integers.{up, dn, parts}
+use Rattle.flows.proofs.Reach.{Inside}
+use Rattle.paths.specs.declared.Crossing.{Crossing}
+use Rattle.paths.specs.declared.Crossing.the-variants.{At, Nothing}
+use Rattle.paths.specs.declared.Tree.{Tree}
+use Rattle.paths.specs.Sizes.{netShift, rounds}
+use Rattle.flows.specs.Certificate.{weightOf}
+use Rattle.paths.specs.Held.{readingOf, unshifted, Held, AllHeld}
+use Rattle.paths.specs.Slack.{slackBy, leastTo}
+use Rattle.paths.specs.Search.{fallen, loweredBy, farEnd, onCrossing, rootAt, addedTo, target, Grown, grownBy, grow}
+use Rattle.paths.specs.Push.{otherEnd}
+use Rattle.paths.proofs.Amounts.{get-set, net}
+use Rattle.paths.proofs.Elements.{lowered-at, lowered-long, fallen-least}
+use Rattle.paths.proofs.Least.{Usable, slackAt, startIn, endIn, Answers, least-good}
+use Rattle.paths.proofs.Counting.{countTo, count-most, count-none, count-more, count-full}
+use Rattle.paths.proofs.Closed.{closed-level}
+use Rattle.paths.proofs.Pushing.{reached, reached-more, reached-new, Link, both-reached}
+
+-- Streams among places 0 to n, as far as the search needs them.
+pub record Plain (n : ℕ) (ss : List Stream) : Type 0 where
+  pub inside : Inside n ss
+  pub small : n ≤ maxUnits
+  pub few : length ss ≤ maxStreams
+  pub light : (k : ℕ) → k < length ss → weightOf (streamAt ss k) ≤ maxWeight
+
+-- one stream, prices lowered by no more than it lacks
+held-kept : (a b : Bool) (s : Stream) (x pu pv d g : ℕ) → Held d (weightOf s) x (readingOf s) pu pv → g ≤ pu → g ≤ pv → (a ≡ not b → g ≤ slackBy s a x pu pv d) → Held d (weightOf s) x (readingOf s) (fallen a g pu) (fallen b g pv)
+held-kept true true s x pu pv d g h hu hv c = record { low = omega (arith, h .low, h .high); high = omega (arith, h .low, h .high) }
+held-kept true false s x pu pv d g h hu hv c = let k = c refl in record { low = omega (arith, h .low, h .high); high = omega (arith, h .low, h .high) }
+held-kept false true s x pu pv d g h hu hv c = let k = c refl in record { low = omega (arith, h .low, h .high); high = omega (arith, h .low, h .high) }
+held-kept false false s x pu pv d g h hu hv c = h
+
+-- slack after both prices fell alike, and after the labelled end's fell by the slack
+slack-both : (b : Bool) (s : Stream) (x pu pv d g : ℕ) → g ≤ pu → g ≤ pv → slackBy s b x pu pv d ≡ 0 → slackBy s b x (pu - g) (pv - g) d ≡ 0
+slack-both true s x pu pv d g hu hv e = omega arith
+slack-both false s x pu pv d g hu hv e = omega arith
+
+slack-gone : (a b : Bool) (s : Stream) (x pu pv d g : ℕ) → a ≡ not b → g ≤ pu → g ≤ pv → g ≡ slackBy s a x pu pv d → slackBy s a x (fallen a g pu) (fallen b g pv) d ≡ 0
+slack-gone true true s x pu pv d g c hu hv e = absurd (true≢false c)
+slack-gone true false s x pu pv d g c hu hv e = omega arith
+slack-gone false true s x pu pv d g c hu hv e = omega arith
+slack-gone false false s x pu pv d g c hu hv e = absurd (false≢true c)
+
+slack-most : (b : Bool) (s : Stream) (x pu pv d : ℕ) → Held d (weightOf s) x (readingOf s) pu pv → weightOf s ≤ maxWeight → slackBy s b x pu pv d ≤ 2 * maxWeight * d
+slack-most true s x pu pv d h l = let k : weightOf s * d ≤ maxWeight * d = mul-le-mul-right d l in omega (arith, h .low, h .high)
+slack-most false s x pu pv d h l = let k : weightOf s * d ≤ maxWeight * d = mul-le-mul-right d l in omega (arith, h .low, h .high)
+
+-- stores past what is read
+reached-set : (root : ℕ) (ends : List ℕ) (m e j v : ℕ) → j ≤ m → reached root (set ends m e) j v ≡ reached root ends j v
+reached-set root ends m e zero v l = refl
+reached-set root ends m e (suc j) v l = rw (getD-set-other ends m j e 0 (λ q. omega arith), reached-set root ends m e j v (omega arith))
+
+-- what holds of a tree and prices during a search
+pub record Growing (n : ℕ) (ss : List Stream) (xs : List ℕ) (d root : ℕ) (ps : List ℕ) (t : Tree) : Type 0 where
+  pub held : AllHeld ss xs ps d
+  pub labels : length (t .labelled) ≡ places
+  pub vias : length (t .via) ≡ places
+  pub endings : length (t .ends) ≡ places
+  pub marks : (v : ℕ) → v < places → getD (t .labelled) v false ≡ reached root (t .ends) (t .len) v
+  pub links : (k : ℕ) → k < t .len → Link ss xs ps d root (t .via) (t .ends) k
+  pub counted : countTo n (λ v. getD (t .labelled) v false) ≡ suc (t .len)
+
+-- the start
+pub root-growing : (n : ℕ) (ss : List Stream) (xs ps : List ℕ) (d root : ℕ) → n ≤ maxUnits → root ≤ n → AllHeld ss xs ps d → Growing n ss xs d root ps (rootAt root)
+root-growing n ss xs ps d root small l h = record {
+  held = h;
+  labels = length-set (replicate places false) root true;
+  vias = refl;
+  endings = refl;
+  marks = λ v m. get-set (replicate places false) root v true false (omega arith) ∙ go v m (eqb root v);
+  links = λ k m. absurd (omega arith);
+  counted = count-more n root (λ v. false) (λ v. getD (set (replicate places false) root true) v false) l refl (getD-set-same (replicate places false) root true false (omega arith)) (λ v q. getD-set-other (replicate places false) root v true false q ∙ none v) ∙ ap suc (count-none n (λ v. false) (λ v m. refl));
+}
+  where
+    none-at : (k v : ℕ) → getD (replicate k false) v false ≡ false
+    none-at zero v = refl
+    none-at (suc k) zero = refl
+    none-at (suc k) (suc v) = none-at k v
+
+    none : (v : ℕ) → getD (replicate places false) v false ≡ false
+    none v = none-at 33 v
+
+    go : (v : ℕ) → v < places → (b : Bool) → pick b true (getD (replicate places false) v false) ≡ b
+    go v m true = refl
+    go v m false = none v
+
+module _ (n : ℕ) (ss : List Stream) (plain : Plain n ss) (xs : List ℕ) (d root : ℕ) where
+  from-small : (k : ℕ) → k < length ss → streamAt ss k .from < places
+  from-small k l = omega (arith, plain .inside k l .0, plain .small)
+
+  to-small : (k : ℕ) → k < length ss → streamAt ss k .to < places
+  to-small k l = omega (arith, plain .inside k l .1, plain .small)
+
+  -- prices lowered
+  pub lower-growing : (ps : List ℕ) (t : Tree) (g : ℕ) → Growing n ss xs d root ps t → ((u : ℕ) → u < places → g ≤ getD ps u 0)
+      → ((k : ℕ) → k < length ss → startIn ss (t .labelled) k ≡ not (endIn ss (t .labelled) k) → g ≤ slackAt ss xs ps d k (startIn ss (t .labelled) k))
+      → Growing n ss xs d root (loweredBy (t .labelled) g ps) t
+  lower-growing ps t g h room lack = record { held = held; labels = h .labels; vias = h .vias; endings = h .endings; marks = h .marks; links = links; counted = h .counted }
+    where
+      held : AllHeld ss xs (loweredBy (t .labelled) g ps) d
+      held k l = rw (lowered-at (t .labelled) g ps (streamAt ss k .from), lowered-at (t .labelled) g ps (streamAt ss k .to))
+          (held-kept (startIn ss (t .labelled) k) (endIn ss (t .labelled) k) (streamAt ss k) (getD xs k 0) (getD ps (streamAt ss k .from) 0) (getD ps (streamAt ss k .to) 0) d g (h .held k l) (room (streamAt ss k .from) (from-small k l)) (room (streamAt ss k .to) (to-small k l)) (lack k l))
+
+      links : (k : ℕ) → k < t .len → Link ss xs (loweredBy (t .labelled) g ps) d root (t .via) (t .ends) k
+      links k l =
+          let m = h .links k l in
+          let i : ℕ = getD (t .via) k 0 in
+          let b = both-reached ss ps d root (t .via) (t .ends) xs k (t .len) l m in
+          let bf : getD (t .labelled) (streamAt ss i .from) false ≡ true = h .marks (streamAt ss i .from) (from-small i (m .inside)) ∙ b .0 in
+          let bt : getD (t .labelled) (streamAt ss i .to) false ≡ true = h .marks (streamAt ss i .to) (to-small i (m .inside)) ∙ b .1 in
+          record {
+            inside = m .inside;
+            fresh = m .fresh;
+            joins = m .joins;
+            touch = m .touch;
+            tight = rw (lowered-at (t .labelled) g ps (streamAt ss i .from), lowered-at (t .labelled) g ps (streamAt ss i .to), bf, bt)
+                (slack-both (eqb (streamAt ss i .to) (getD (t .ends) k 0)) (streamAt ss i) (getD xs i 0) (getD ps (streamAt ss i .from) 0) (getD ps (streamAt ss i .to) 0) d g (room (streamAt ss i .from) (from-small i (m .inside))) (room (streamAt ss i .to) (to-small i (m .inside))) (m .tight));
+            room = m .room;
+          }
+
+  -- facts of a stream that leaves
+  far-facts : (ls : List Bool) (s : Stream) → getD ls (s .from) false ≡ not (getD ls (s .to) false)
+      → (getD ls (farEnd ls s) false ≡ false) × (eqb (s .to) (farEnd ls s) ≡ getD ls (s .from) false) × (getD ls (otherEnd s (farEnd ls s)) false ≡ true) × (getD ls (s .from) false ≡ false → s .from ≡ farEnd ls s)
+  far-facts ls s c = by-cases (getD ls (s .from) false)
+      (λ t. let q : farEnd ls s ≡ s .to = ap (λ (b : Bool). pick b (s .to) (s .from)) t in
+      let o : eqb (s .to) (s .to) ≡ true = eq-eqb (s .to) (s .to) refl in
+      rw q (not-true (getD ls (s .to) false) (sym c ∙ t), o ∙ sym t, rw o t, λ z. absurd (true≢false (sym t ∙ z))))
+      (λ t. let q : farEnd ls s ≡ s .from = ap (λ (b : Bool). pick b (s .to) (s .from)) t in
+      let u : getD ls (s .to) false ≡ true = not-false (getD ls (s .to) false) (sym c ∙ t) in
+      let o : eqb (s .to) (s .from) ≡ false = ne-eqb (s .to) (s .from) (λ z. true≢false (sym u ∙ ap (λ (v : ℕ). getD ls v false) z ∙ t)) in
+      rw q (t, o ∙ sym t, rw o u, λ z. refl))
+
+  pub far-near : (ls : List Bool) (k : ℕ) → k < length ss → farEnd ls (streamAt ss k) ≤ n
+  far-near ls k l = by-cases (getD ls (streamAt ss k .from) false) (λ t. rw t (plain .inside k l .1)) (λ t. rw t (plain .inside k l .0))
+
+  -- one place more
+  pub add-growing : (ps : List ℕ) (t : Tree) (i : ℕ) → Growing n ss xs d root ps t → i < length ss → startIn ss (t .labelled) i ≡ not (endIn ss (t .labelled) i) → slackAt ss xs ps d i (startIn ss (t .labelled) i) ≡ 0 → d ≤ getD xs i 0
+      → Growing n ss xs d root ps (addedTo t i (farEnd (t .labelled) (streamAt ss i)))
+  add-growing ps t i h li c z room = record {
+    held = h .held;
+    labels = length-set (t .labelled) e true ∙ h .labels;
+    vias = length-set (t .via) (t .len) i ∙ h .vias;
+    endings = length-set (t .ends) (t .len) e ∙ h .endings;
+    marks = marks;
+    links = links;
+    counted = count-more n e (λ v. getD (t .labelled) v false) (λ v. getD (set (t .labelled) e true) v false) le (f .0) (getD-set-same (t .labelled) e true false small-e) (λ v q. getD-set-other (t .labelled) e v true false q) ∙ ap suc (h .counted) ∙ omega arith;
+  }
+    where
+      s : Stream
+      s = streamAt ss i
+
+      e : ℕ
+      e = farEnd (t .labelled) s
+
+      f : (getD (t .labelled) e false ≡ false) × (eqb (s .to) e ≡ getD (t .labelled) (s .from) false) × (getD (t .labelled) (otherEnd s e) false ≡ true) × (getD (t .labelled) (s .from) false ≡ false → s .from ≡ e)
+      f = far-facts (t .labelled) s c
+
+      le : e ≤ n
+      le = far-near (t .labelled) i li
+
+      small-e : e < length (t .labelled)
+      small-e = rw (h .labels) (omega (arith, le, plain .small))
+
+      few : t .len < places
+      few = omega (arith, h .counted, count-more n e (λ v. getD (t .labelled) v false) (λ v. getD (set (t .labelled) e true) v false) le (f .0) (getD-set-same (t .labelled) e true false small-e) (λ v q. getD-set-other (t .labelled) e v true false q), count-most n (λ v. getD (set (t .labelled) e true) v false), plain .small)
+
+      -- the new place and stream as stored
+      end-new : getD (set (t .ends) (t .len) e) (t .len) 0 ≡ e
+      end-new = getD-set-same (t .ends) (t .len) e 0 (rw (h .endings) few)
+
+      via-new : getD (set (t .via) (t .len) i) (t .len) 0 ≡ i
+      via-new = getD-set-same (t .via) (t .len) i 0 (rw (h .vias) few)
+
+      end-old : (k : ℕ) → k < t .len → getD (set (t .ends) (t .len) e) k 0 ≡ getD (t .ends) k 0
+      end-old k l = getD-set-other (t .ends) (t .len) k e 0 (λ q. omega arith)
+
+      via-old : (k : ℕ) → k < t .len → getD (set (t .via) (t .len) i) k 0 ≡ getD (t .via) k 0
+      via-old k l = getD-set-other (t .via) (t .len) k i 0 (λ q. omega arith)
+
+      suc-len : t .len + 1 ≡ suc (t .len)
+      suc-len = omega arith
+
+      marks : (v : ℕ) → v < places → getD (set (t .labelled) e true) v false ≡ reached root (set (t .ends) (t .len) e) (t .len + 1) v
+      marks v l = get-set (t .labelled) e v true false small-e ∙ rw (suc-len, end-new, reached-set root (t .ends) (t .len) e (t .len) v (omega arith), ← h .marks v l) (or-pick (eqb e v) (getD (t .labelled) v false))
+        where
+          or-pick : (a b : Bool) → pick a true b ≡ a || b
+          or-pick true b = refl
+          or-pick false b = refl
+
+      marked : (v : ℕ) → v < places → reached root (set (t .ends) (t .len) e) (t .len) v ≡ getD (t .labelled) v false
+      marked v l = reached-set root (t .ends) (t .len) e (t .len) v (omega arith) ∙ sym (h .marks v l)
+
+      other-small : otherEnd s e < places
+      other-small = by-cases (eqb (s .to) e) (λ q. rw q (from-small i li)) (λ q. rw q (to-small i li))
+
+      links : (k : ℕ) → k < t .len + 1 → Link ss xs ps d root (set (t .via) (t .len) i) (set (t .ends) (t .len) e) k
+      links k l = elim (ℕ-discrete k (t .len)) [
+        | yes q ↦ rw q (record {
+          inside = rw via-new li;
+          fresh = rw end-new (marked e (omega (arith, le, plain .small)) ∙ f .0);
+          joins = rw (end-new, via-new) (marked (otherEnd s e) other-small ∙ f .2);
+          touch = rw (end-new, via-new) (λ o. f .3 (sym (f .1) ∙ o));
+          tight = rw (end-new, via-new, f .1) z;
+          room = rw via-new room;
+        })
+        | no q ↦ let m = h .links k (omega arith) in
+            let a = end-old k (omega arith) in let b = via-old k (omega arith) in
+            let r : (v : ℕ) → reached root (set (t .ends) (t .len) e) k v ≡ reached root (t .ends) k v = λ v. reached-set root (t .ends) (t .len) e k v (omega arith) in
+            record {
+              inside = rw b (m .inside);
+              fresh = r _ ∙ rw a (m .fresh);
+              joins = r _ ∙ rw (a, b) (m .joins);
+              touch = rw (a, b) (m .touch);
+              tight = rw (a, b) (m .tight);
+              room = rw b (m .room);
+            }
+      ]
+
+-- what a search leaves
+pub record Hunt (n : ℕ) (ss : List Stream) (xs es : List ℕ) (d root : ℕ) (ps : List ℕ) (l : ℕ) (g : Grown) : Type 0 where
+  pub found : g .found ≡ true
+  pub grown : Growing n ss xs d root (g .prices) (g .tree)
+  pub some : 1 ≤ g .tree .len
+  pub near : target (g .tree) ≤ n
+  pub negative : getD es (target (g .tree)) 0 < netShift
+  pub fall : (u : ℕ) → getD ps u 0 ≤ getD (g .prices) u 0 + 2 * maxWeight * d * l
+  pub rise : (u : ℕ) → getD (g .prices) u 0 ≤ getD ps u 0
+  pub long : length (g .prices) ≡ length ps
+
+all-usable : (ss : List Stream) (k : ℕ) → Usable ss 0 k
+all-usable ss k = go (streamAt ss k .metered)
+  where
+    go : (b : Bool) → b && ltb k 0 ≡ false
+    go true = le-ltb k 0 (omega arith)
+    go false = refl
+
+pub new-target : (t : Tree) (i e : ℕ) → t .len < length (t .ends) → target (addedTo t i e) ≡ e
+new-target t i e l = let q : t .len + 1 - 1 ≡ t .len = omega arith in rw q (getD-set-same (t .ends) (t .len) e 0 l)
+
+module _ (n : ℕ) (ss : List Stream) (plain : Plain n ss) (xs es : List ℕ) (d root : ℕ) (near : root ≤ n) (excess : 1 ≤ up (net ss xs root)) (room : (k : ℕ) → k < length ss → d ≤ getD xs k 0)
+    (nets : (u : ℕ) → u ≤ n → up (net ss xs u) + netShift ≡ getD es u 0 + dn (net ss xs u)) where
+  abbrev NoneLess : Tree → Type 0
+  NoneLess t = (v : ℕ) → v ≤ n → getD (t .labelled) v false ≡ true → netShift ≤ getD es v 0
+
+  root-marked : (ps : List ℕ) (t : Tree) → Growing n ss xs d root ps t → getD (t .labelled) root false ≡ true
+  root-marked ps t h = h .marks root (omega (arith, plain .small)) ∙ reached-more root (t .ends) 0 (t .len) root (omega arith) (eq-eqb root root refl)
+
+  not-closed : (ps : List ℕ) (t : Tree) → Growing n ss xs d root ps t → NoneLess t → ((k : ℕ) → k < length ss → startIn ss (t .labelled) k ≡ endIn ss (t .labelled) k) → ⊥
+  not-closed ps t h none closed =
+      let e = closed-level n ss (λ k. unshifted (getD xs k 0)) (λ v. getD (t .labelled) v false) (plain .inside) closed
+      (λ v l c. ⊎-elim (λ o. omega (arith, none v l c, nets v l)) (λ o. o) (parts (net ss xs v))) root near (root-marked ps t h) in
+      omega (arith, excess, ap up e)
+
+  grow-good : (l : ℕ) (ps : List ℕ) (t : Tree) → Growing n ss xs d root ps t → n ≤ l + t .len → ((u : ℕ) → u < places → 2 * maxWeight * d * l ≤ getD ps u 0) → NoneLess t → Hunt n ss xs es d root ps l (grow ss (length ss) xs es d l ps t)
+  unfolding grow
+  grow-good zero ps t h fuel rich none = absurd (not-closed ps t h none (λ k l. all (streamAt ss k .from) (plain .inside k l .0) ∙ sym (all (streamAt ss k .to) (plain .inside k l .1))))
+    where
+      all : (v : ℕ) → v ≤ n → getD (t .labelled) v false ≡ true
+      all = count-full n (λ v. getD (t .labelled) v false) (omega (arith, h .counted))
+  grow-good (suc l) ps t h fuel rich none = go (leastTo ss xs ps (t .labelled) d 0 (length ss)) (least-good ss xs ps (t .labelled) d 0 (length ss)) (grow-good l)
+    where
+      e : ℕ → ℕ
+      e i = farEnd (t .labelled) (streamAt ss i)
+
+      go : (f : Crossing) → Answers ss xs ps (t .labelled) d 0 (length ss) f
+          → ((qs : List ℕ) (r : Tree) → Growing n ss xs d root qs r → n ≤ l + r .len → ((u : ℕ) → u < places → 2 * maxWeight * d * l ≤ getD qs u 0) → NoneLess r → Hunt n ss xs es d root qs l (grow ss (length ss) xs es d l qs r))
+          → Hunt n ss xs es d root ps (suc l) (onCrossing f (grownBy false t ps) (λ i g. pick (ltb (getD es (farEnd (t .labelled) (streamAt ss i)) 0) netShift)
+          (grownBy true (addedTo t i (farEnd (t .labelled) (streamAt ss i))) (loweredBy (t .labelled) g ps))
+          (grow ss (length ss) xs es d l (loweredBy (t .labelled) g ps) (addedTo t i (farEnd (t .labelled) (streamAt ss i))))))
+      go Nothing m rec = absurd (not-closed ps t h none (λ k l. m k l (all-usable ss k)))
+      go (At i g) m rec = by-cases (ltb (getD es (farEnd (t .labelled) (streamAt ss i)) 0) netShift) (λ q. rw q (hit q)) (λ q. rw q (on q))
+        where
+          qs : List ℕ
+          qs = loweredBy (t .labelled) g ps
+
+          r : Tree
+          r = addedTo t i (farEnd (t .labelled) (streamAt ss i))
+
+          g-most : g ≤ 2 * maxWeight * d
+          g-most = rw (m .is) (slack-most (startIn ss (t .labelled) i) (streamAt ss i) (getD xs i 0) (getD ps (streamAt ss i .from) 0) (getD ps (streamAt ss i .to) 0) d (h .held i (m .below)) (plain .light i (m .below)))
+
+          enough : (u : ℕ) → u < places → g ≤ getD ps u 0
+          enough u k = omega (arith, rich u k, g-most)
+
+          low : Growing n ss xs d root qs t
+          low = lower-growing n ss plain xs d root ps t g h enough (λ k o c. m .least k o (all-usable ss k) c)
+
+          gone : slackAt ss xs qs d i (startIn ss (t .labelled) i) ≡ 0
+          gone = rw (lowered-at (t .labelled) g ps (streamAt ss i .from), lowered-at (t .labelled) g ps (streamAt ss i .to))
+              (slack-gone (startIn ss (t .labelled) i) (endIn ss (t .labelled) i) (streamAt ss i) (getD xs i 0) (getD ps (streamAt ss i .from) 0) (getD ps (streamAt ss i .to) 0) d g (m .leaves) (enough (streamAt ss i .from) (from-small n ss plain xs d root i (m .below))) (enough (streamAt ss i .to) (to-small n ss plain xs d root i (m .below))) (m .is))
+
+          more : Growing n ss xs d root qs r
+          more = add-growing n ss plain xs d root qs t i low (m .below) (m .leaves) gone (room i (m .below))
+
+          few : t .len < length (t .ends)
+          few = rw (h .endings) (omega (arith, more .counted, count-most n (λ v. getD (r .labelled) v false), plain .small))
+
+          fell : (u : ℕ) → (getD qs u 0 ≤ getD ps u 0) × (getD ps u 0 ≤ getD qs u 0 + g)
+          fell u = rw (lowered-at (t .labelled) g ps u) (fallen-least (getD (t .labelled) u false) g (getD ps u 0))
+
+          hit : ltb (getD es (farEnd (t .labelled) (streamAt ss i)) 0) netShift ≡ true → Hunt n ss xs es d root ps (suc l) (grownBy true r qs)
+          hit q = record {
+            found = refl;
+            grown = more;
+            some = omega arith;
+            near = rw (new-target t i (farEnd (t .labelled) (streamAt ss i)) few) (far-near n ss plain xs d root (t .labelled) i (m .below));
+            negative = rw (new-target t i (farEnd (t .labelled) (streamAt ss i)) few) (ltb-true _ _ q);
+            fall = λ u. omega (arith, fell u .1, g-most);
+            rise = λ u. fell u .0;
+            long = lowered-long (t .labelled) g ps;
+          }
+
+          on : ltb (getD es (farEnd (t .labelled) (streamAt ss i)) 0) netShift ≡ false → Hunt n ss xs es d root ps (suc l) (grow ss (length ss) xs es d l qs r)
+          on q =
+              let a = rec qs r more (omega arith) (λ u k. omega (arith, rich u k, fell u .1, g-most)) still in
+              record {
+                found = a .found;
+                grown = a .grown;
+                some = a .some;
+                near = a .near;
+                negative = a .negative;
+                fall = λ u. omega (arith, a .fall u, fell u .1, g-most);
+                rise = λ u. omega (arith, a .rise u, fell u .0);
+                long = a .long ∙ lowered-long (t .labelled) g ps;
+              }
+            where
+              still : NoneLess r
+              still v k c = by-cases (eqb (farEnd (t .labelled) (streamAt ss i)) v)
+                  (λ z. let o : farEnd (t .labelled) (streamAt ss i) ≡ v = eqb-true (farEnd (t .labelled) (streamAt ss i)) v z in rw (← o) (ltb-false (getD es (farEnd (t .labelled) (streamAt ss i)) 0) netShift q))
+                  (λ z. none v k (sym (getD-set-other (t .labelled) (farEnd (t .labelled) (streamAt ss i)) v true false (λ o. eqb-false _ _ z (sym o))) ∙ c))
+
+  -- From the first place, in as many rounds as there are other places.
+  pub hunt : (ps : List ℕ) → AllHeld ss xs ps d → netShift ≤ getD es root 0 → ((u : ℕ) → u < places → 2 * maxWeight * d * rounds ≤ getD ps u 0)
+      → Hunt n ss xs es d root ps rounds (grow ss (length ss) xs es d rounds ps (rootAt root))
+  hunt ps h e rich = grow-good rounds ps (rootAt root) start (omega (arith, plain .small)) rich none
+    where
+      start : Growing n ss xs d root ps (rootAt root)
+      start = root-growing n ss xs ps d root (plain .small) near h
+
+      none : NoneLess (rootAt root)
+      none v k c = let q : root ≡ v = eqb-true root v (sym (start .marks v (omega (arith, plain .small))) ∙ c) in rw (← q) e

@@ -1,0 +1,115 @@
+-- The stream of least slack: of the usable streams that leave the labelled places, none has less.
+use mathlib.Core.Path.{_≡_, refl, sym, _∙_, ap, subst}
+use mathlib.Core.Bool.{Bool, true, false, _&&_, not, true≢false, false≢true}
+use mathlib.Core.List.{List}
+use Prim.Native.Nat.{ℕ, zero, suc, _≤_, _<_}
+use native.Mathlib.Omega.{arith}
+use native.Mathlib.Decide.{ℕ-discrete}
+use borrow.Author.Tests.{ltb-true, ltb-false}
+use lib.Dec.{ltb}
+use lib.ListN.{getD}
+use Rattle.numbers.specs.Choice.{pick}
+use Rattle.numbers.proofs.Tests.{by-cases, clash}
+use Rattle.plants.specs.declared.Stream.{Stream}
+use Rattle.flows.specs.Flows.{streamAt}
+use Rattle.paths.specs.declared.Crossing.{Crossing}
+use Rattle.paths.specs.declared.Crossing.the-variants.{At, Nothing}
+use Rattle.paths.specs.Slack.{slackBy, lesser, byEnds, considered, leastTo}
+
+-- A test is not both the same as another and its opposite.
+pub opposed : {A : Type 0} (a b : Bool) → a ≡ b → a ≡ not b → A
+opposed a true e g = clash a e g
+opposed a false e g = clash a g e
+
+-- Stream k is not left alone; its slack, forwards or backwards; whether its start and its end are labelled.
+abbrev pub Usable : List Stream → ℕ → ℕ → Type 0
+Usable ss skip k = streamAt ss k .metered && ltb k skip ≡ false
+
+abbrev pub slackAt : List Stream → List ℕ → List ℕ → ℕ → ℕ → Bool → ℕ
+slackAt ss xs ps d k b = slackBy (streamAt ss k) b (getD xs k 0) (getD ps (streamAt ss k .from) 0) (getD ps (streamAt ss k .to) 0) d
+
+abbrev pub startIn : List Stream → List Bool → ℕ → Bool
+startIn ss ls k = getD ls (streamAt ss k .from) false
+
+abbrev pub endIn : List Stream → List Bool → ℕ → Bool
+endIn ss ls k = getD ls (streamAt ss k .to) false
+
+-- Stream i leaves the labelled places with slack g, and no usable one among the first n does with less.
+pub record Least (ss : List Stream) (xs ps : List ℕ) (ls : List Bool) (d skip n i g : ℕ) : Type 0 where
+  pub below : i < n
+  pub usable : Usable ss skip i
+  pub leaves : startIn ss ls i ≡ not (endIn ss ls i)
+  pub is : g ≡ slackAt ss xs ps d i (startIn ss ls i)
+  pub least : (k : ℕ) → k < n → Usable ss skip k → startIn ss ls k ≡ not (endIn ss ls k) → g ≤ slackAt ss xs ps d k (startIn ss ls k)
+
+-- What an answer means.
+abbrev pub Answers : List Stream → List ℕ → List ℕ → List Bool → ℕ → ℕ → ℕ → Crossing → Type 0
+Answers ss xs ps ls d skip n Nothing = (k : ℕ) → k < n → Usable ss skip k → startIn ss ls k ≡ endIn ss ls k
+Answers ss xs ps ls d skip n (At i g) = Least ss xs ps ls d skip n i g
+
+module _ (ss : List Stream) (xs ps : List ℕ) (ls : List Bool) (d skip : ℕ) where
+  upto : (P : ℕ → Type 0) (n : ℕ) → ((k : ℕ) → k < n → P k) → P n → (k : ℕ) → k < suc n → P k
+  upto P n h p k l = elim (ℕ-discrete k n) [ yes e ↦ rw e p | no e ↦ h k (omega arith) ]
+
+  abbrev NoLess : ℕ → ℕ → Type 0
+  NoLess g k = Usable ss skip k → startIn ss ls k ≡ not (endIn ss ls k) → g ≤ slackAt ss xs ps d k (startIn ss ls k)
+
+  -- Stream n is left alone, or does not leave the labelled places.
+  more : (n : ℕ) (f : Crossing) → Answers ss xs ps ls d skip n f → (Usable ss skip n → startIn ss ls n ≡ endIn ss ls n) → Answers ss xs ps ls d skip (suc n) f
+  more n Nothing h e = upto (λ k. Usable ss skip k → startIn ss ls k ≡ endIn ss ls k) n h e
+  more n (At i g) h e = record {
+    below = omega (arith, h .below);
+    usable = h .usable;
+    leaves = h .leaves;
+    is = h .is;
+    least = upto (NoLess g) n (h .least) (λ u c. opposed (startIn ss ls n) (endIn ss ls n) (e u) c);
+  }
+
+  -- Stream n leaves them with slack g.
+  new : (n : ℕ) (f : Crossing) (g : ℕ) → Answers ss xs ps ls d skip n f → Usable ss skip n → startIn ss ls n ≡ not (endIn ss ls n)
+      → g ≡ slackAt ss xs ps d n (startIn ss ls n) → Answers ss xs ps ls d skip (suc n) (lesser f n g)
+  new n Nothing g h u c e = record {
+    below = omega arith;
+    usable = u;
+    leaves = c;
+    is = e;
+    least = upto (NoLess g) n (λ k l v q. opposed (startIn ss ls k) (endIn ss ls k) (h k l v) q) (λ v q. omega arith);
+  }
+  new n (At j m) g h u c e = by-cases (ltb g m)
+      (λ t. rw t (record {
+        below = omega arith;
+        usable = u;
+        leaves = c;
+        is = e;
+        least = upto (NoLess g) n (λ k l v q. omega (arith, h .least k l v q, ltb-true g m t)) (λ v q. omega arith);
+      }))
+      (λ t. rw t (record {
+        below = omega (arith, h .below);
+        usable = h .usable;
+        leaves = h .leaves;
+        is = h .is;
+        least = upto (NoLess m) n (h .least) (λ v q. omega (arith, ltb-false g m t));
+      }))
+
+  crossed : (n : ℕ) (f : Crossing) (a b : Bool) → startIn ss ls n ≡ a → endIn ss ls n ≡ b → Answers ss xs ps ls d skip n f → Usable ss skip n
+      → Answers ss xs ps ls d skip (suc n) (byEnds a b f (lesser f n (slackAt ss xs ps d n true)) (lesser f n (slackAt ss xs ps d n false)))
+  crossed n f true true p q h u = more n f h (λ v. p ∙ sym q)
+  crossed n f false false p q h u = more n f h (λ v. p ∙ sym q)
+  crossed n f true false p q h u = new n f (slackAt ss xs ps d n true) h u (p ∙ ap not (sym q)) (ap (slackAt ss xs ps d n) (sym p))
+  crossed n f false true p q h u = new n f (slackAt ss xs ps d n false) h u (p ∙ ap not (sym q)) (ap (slackAt ss xs ps d n) (sym p))
+
+  -- What is found is the least.
+  pub least-good : (n : ℕ) → Answers ss xs ps ls d skip n (leastTo ss xs ps ls d skip n)
+  unfolding leastTo considered
+  least-good zero = λ k l. absurd (omega arith)
+  least-good (suc n) = go (streamAt ss n .metered && ltb n skip) refl (leastTo ss xs ps ls d skip n) (least-good n)
+    where
+      go : (b : Bool) → streamAt ss n .metered && ltb n skip ≡ b → (f : Crossing) → Answers ss xs ps ls d skip n f
+          → Answers ss xs ps ls d skip (suc n)
+          (pick b f (byEnds (startIn ss ls n) (endIn ss ls n) f (lesser f n (slackAt ss xs ps d n true)) (lesser f n (slackAt ss xs ps d n false))))
+      go true e f h = more n f h (λ u. clash _ e u)
+      go false e f h = crossed n f (startIn ss ls n) (endIn ss ls n) refl refl h e
+
+-- What is found is one of the first n.
+pub found-below : (ss : List Stream) (xs ps : List ℕ) (ls : List Bool) (d skip n i g : ℕ) → leastTo ss xs ps ls d skip n ≡ At i g → i < n
+found-below ss xs ps ls d skip n i g e = subst (Answers ss xs ps ls d skip n) e (least-good ss xs ps ls d skip n) .below

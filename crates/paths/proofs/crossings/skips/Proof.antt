@@ -1,0 +1,14 @@
+use mathlib.Core.Path.{_≡_, refl, sym, _∙_}
+use borrow.Author.Needs.{needs}
+use borrow.Author.Tests.{lt-ltb, le-ltb}
+use Rattle.paths.proofs.crossings.skips.Statement.{statement}
+use Rattle.paths.proofs.crossings.skips.Tie as tie
+
+returns : tie.Need-returns
+returns c = simp (c .if1 .taken)
+
+returns-2 : tie.Need-returns-2
+returns-2 c = simp (c .if1 .left)
+
+pub skips-spec : {M : Type 1} → statement M
+skips-spec = tie.close (tie.spec returns returns-2)

@@ -1,0 +1,51 @@
+-- What the parts of the search and of the push require: ranges only.
+use mathlib.Core.Path.{_≡_}
+use mathlib.Core.List.{List}
+use Prim.Native.Nat.{ℕ, zero, suc, _+_, _*_, _≤_, _<_}
+use lib.ListN.{length, getD, take}
+use Rattle.plants.specs.declared.Stream.{Stream}
+use Rattle.plants.specs.Limits.{places, maxUnits, maxStreams, maxWeight}
+use Rattle.plants.specs.Plants.{noStream}
+use Rattle.flows.specs.Flows.{streamAt}
+use Rattle.paths.specs.Sizes.{mostFlow, priceShift, mostStep}
+use Rattle.flows.specs.Certificate.{weightOf}
+
+-- A stream between places, of a weight in range.
+pub record Placed (s : Stream) : Type 0 where
+  pub from-in : s .from ≤ maxUnits
+  pub to-in : s .to ≤ maxUnits
+  pub light : weightOf s ≤ maxWeight
+
+-- An array of streams of which the first n are in use.
+pub record Network (streams : List Stream) (n : ℕ) : Type 0 where
+  pub long : length streams ≡ maxStreams
+  pub few : n ≤ maxStreams
+  pub placed : (k : ℕ) → k < n → Placed (getD streams k noStream)
+
+-- An amount, the prices at the two ends of its stream, and a step.
+pub record Sized (x pu pv d : ℕ) : Type 0 where
+  pub amount : x ≤ mostFlow
+  pub step : d ≤ mostStep
+  pub price-u : pu ≤ priceShift
+  pub price-v : pv ≤ priceShift
+
+abbrev pub Prices : List ℕ → Type 0
+Prices ps = (u : ℕ) → u < places → getD ps u 0 ≤ priceShift
+
+-- What a search works on.
+pub record Searchable (streams : List Stream) (n : ℕ) (xs ps : List ℕ) (d : ℕ) : Type 0 where
+  pub network : Network streams n
+  pub step : d ≤ mostStep
+  pub amounts : (k : ℕ) → k < n → getD xs k 0 ≤ mostFlow
+  pub prices : Prices ps
+
+-- Remembered streams: len of them, among the first n.
+pub record Trail (via : List ℕ) (n len : ℕ) : Type 0 where
+  pub short : len ≤ places
+  pub within : (k : ℕ) → k < len → getD via k 0 < n
+
+-- Amounts that can rise and fall by j steps.
+pub record Roomy (xs : List ℕ) (j : ℕ) : Type 0 where
+  pub long : length xs ≡ maxStreams
+  pub low : (k : ℕ) → k < maxStreams → mostStep * j ≤ getD xs k 0
+  pub high : (k : ℕ) → k < maxStreams → getD xs k 0 + mostStep * j ≤ mostFlow

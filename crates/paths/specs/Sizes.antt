@@ -1,0 +1,36 @@
+-- Shifts and limits of the numbers that the search and the push work with, with the inequality that each must meet.
+-- Each is stated here and nowhere else in specs/.
+use Prim.Native.Nat.{ℕ, _*_}
+use Rattle.plants.specs.Limits.{maxUnits, places, maxWeight}
+
+-- An amount x is held as x + flowShift, 2^46: every amount that arises is above −flowShift and below flowShift.
+abbrev pub flowShift : ℕ
+flowShift = 70368744177664
+
+-- So a held amount is at most mostFlow.
+abbrev pub mostFlow : ℕ
+mostFlow = 2 * flowShift
+
+-- Weight times a held amount. In 64 bits: 2 * mostPull + maxWeight * mostStep + priceShift < 2^64.
+abbrev pub mostPull : ℕ
+mostPull = maxWeight * mostFlow
+
+-- A price p is held as p + priceShift, 2^50: prices begin at 0 and only fall, so a held price is at most priceShift.
+abbrev pub priceShift : ℕ
+priceShift = 1125899906842624
+
+-- A net z is held as z + netShift, 2^56: 2 * maxStreams * mostFlow ≤ netShift, what all streams together may bring or take.
+abbrev pub netShift : ℕ
+netShift = 72057594037927936
+
+-- The greatest step, 2^20: what is moved along a way at once.
+abbrev pub mostStep : ℕ
+mostStep = 1048576
+
+-- The places that a search may label after the first.
+abbrev pub rounds : ℕ
+rounds = maxUnits
+
+-- What one push may take from an amount or add to it, were every stream of its way the same one: places * mostStep.
+abbrev pub pushRoom : ℕ
+pushRoom = places * mostStep

@@ -1,0 +1,64 @@
+// Weights and readings as the search holds them, and the slack of a stream.
+use crate::sizes::FLOW_SHIFT;
+use plants::Stream;
+ghost use mathlib.Core.Path.{_≡_};
+ghost use Prim.Native.Nat.{ℕ, _+_, _-_, _*_, _≤_};
+ghost use Rattle.paths.specs.Sizes.{mostFlow, mostPull};
+ghost use Rattle.flows.specs.Certificate.{weightOf};
+ghost use Rattle.paths.specs.Held.{readingOf};
+ghost use Rattle.paths.specs.Slack.{slackBy};
+ghost use Rattle.paths.specs.Premises.{Placed, Sized};
+
+// A stream's weight; an unmetered stream counts as one of weight 0.
+pub fn weight_of(s: Stream) -> u64
+    ensures { λ r. ⌜ r ≡ weightOf s ⌝ }
+{
+    if s.metered { s.weight as u64 } else { 0 }
+}
+
+// The reading, shifted.
+pub fn reading_of(s: Stream) -> u64
+    ensures { λ r. ⌜ (r ≡ readingOf s) × (r ≤ mostFlow) ⌝ }
+{
+    let r = s.reading as i64;
+    (r + FLOW_SHIFT as i64) as u64
+}
+
+// Weight times an amount.
+pub fn pull(s: Stream, x: u64) -> u64
+    requires { ⌜ Placed s × (x ≤ mostFlow) ⌝ }
+    ensures { λ r. ⌜ (r ≡ weightOf s * x) × (r ≤ mostPull) ⌝ }
+{
+    weight_of(s) * x
+}
+
+// Weight times the reading.
+fn pull_of_reading(s: Stream) -> u64
+    requires { ⌜ Placed s ⌝ }
+    ensures { λ r. ⌜ (r ≡ weightOf s * readingOf s) × (r ≤ mostPull) ⌝ }
+{
+    let r = reading_of(s);
+    pull(s, r)
+}
+
+// a − b, 0 where b is more.
+pub fn minus(a: u64, b: u64) -> u64
+    ensures { λ r. ⌜ r ≡ a - b ⌝ }
+{
+    if a < b { 0 } else { a - b }
+}
+
+// What is missing before delta can be moved along a stream, forwards or backwards, at the prices pu of its start and pv of its end.
+pub fn slack(s: Stream, forwards: bool, x: u64, pu: u64, pv: u64, delta: u64) -> u64
+    requires { ⌜ Placed s × Sized x pu pv delta ⌝ }
+    ensures { λ r. ⌜ r ≡ slackBy s forwards x pu pv delta ⌝ }
+{
+    let at = 2 * pull(s, x);
+    let read = 2 * pull_of_reading(s);
+    let step = pull(s, delta);
+    if forwards {
+        minus(at + step + pu, pv + read)
+    } else {
+        minus(pv + read + step, at + pu)
+    }
+}
