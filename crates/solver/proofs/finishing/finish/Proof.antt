@@ -1,0 +1,29 @@
+use mathlib.Core.Path.{_≡_, ap, _∙_}
+use native.Mathlib.Omega.{arith}
+use borrow.Author.Needs.{needs}
+use lib.ListN.{take}
+use Rattle.solver.specs.Sizes.{fuel}
+use Rattle.solver.specs.Model.{improvements}
+use Rattle.solver.proofs.Layouts.{solvable-of}
+use Rattle.solver.proofs.Ending.{begun-allows}
+use Rattle.solver.proofs.finishing.finish.Statement.{statement}
+use Rattle.solver.proofs.finishing.finish.Tie as tie
+
+begin-requires : tie.Need-begin-requires
+begin-requires c κs = search needs
+
+improve-all-requires : tie.Need-improve-all-requires
+improve-all-requires c κs =
+    let st = c .before in (
+      st .pre .0 .network,
+      (omega arith, omega arith),
+      rw (c .begin .ensures) (begun-allows (take (st .args .count) (st .args .streams)) (solvable-of (st .args .streams) (st .args .count) (st .pre .0)) (st .args .h) (st .pre .1)),
+    )
+
+returns : tie.Need-returns
+returns c =
+    let st = c .before .before in
+    c .improve-all .ensures ∙ ap (improvements fuel (take (st .args .count) (st .args .streams)) 1) (c .before .begin .ensures)
+
+pub finish-spec : {M : Type 1} → statement M
+finish-spec = tie.close (tie.spec begin-requires improve-all-requires returns)

@@ -1,0 +1,72 @@
+use mathlib.Core.Path.{_≡_, refl, sym, _∙_, ap}
+use mathlib.Core.Bool.{true, false, not, true≢false}
+use Prim.Native.Nat.{ℕ, _≤_, _<_, _-_, _+_}
+use native.Mathlib.Omega.{arith}
+use lib.ListN.{length, getD}
+use lib.ListN.{take}
+use Rattle.solver.proofs.Turns.{Moving, moving, improved-none, improved-done, in-use, over-small}
+use borrow.Author.Needs.{needs}
+use Rattle.solver.proofs.improving.improve.Statement.{statement}
+use Rattle.solver.proofs.improving.improve.Tie as tie
+
+-- what is known once the search is done
+key : (c : tie.After-search) → Moving (c .before .before .before .before .before .before .before .before .before .before .before .args .count) (c .before .before .before .before .before .before .before .before .before .before .before .args .st) (c .before .before .before .before .before .before .before .before .first-over .result) (c .before .before .before .before .before .before .before .before .before .before .before .args .delta) (c .search .result .found) (c .search .result .tree)
+key c = moving (c .before .before .before .before .before .before .before .before .before .before .before .args .streams) (c .before .before .before .before .before .before .before .before .before .before .before .args .count) _ _ _ _ _ _ (c .before .before .before .before .before .before .before .before .before .before .before .pre .0) (c .before .before .before .before .before .before .before .before .before .before .before .pre .1 .0) (c .before .before .before .before .before .before .before .before .before .before .before .pre .1 .1) (c .before .before .before .before .before .before .before .before .before .before .before .pre .2) (c .before .before .before .before .before .before .before .before .first-over .ensures) (c .before .before .before .before .before .before .before .if1 .left) (rw (c .before .root .ensures) at (c .search .ensures))
+
+first-over-requires : tie.Need-first-over-requires
+first-over-requires c κs = search needs
+
+returns : tie.Need-returns
+returns c = sym (improved-none _ _ _ (c .before .first-over .result) (c .before .first-over .ensures) (c .if1 .taken))
+
+root-requires : tie.Need-root-requires
+root-requires c κs = over-small _ _ _ (c .before .before .before .before .before .before .first-over .ensures) (c .before .before .before .before .before .before .before .before .before .pre .2 .sound .netted) (c .before .before .before .before .before .if1 .left)
+
+search-requires : tie.Need-search-requires
+search-requires c κs =
+    let st = c .before .before .before .before .before .before .before .before .before .before in
+    (record { network = st .pre .0; step = st .pre .1 .1; amounts = λ k l. omega (arith, st .pre .2 .sound .close k (omega (arith, st .pre .0 .few)) .0, st .pre .2 .fits); prices = st .pre .2 .sound .poor }, st .pre .2 .sound .priced, ap (λ t. t .len) (c .root .ensures))
+
+returns-2 : tie.Need-returns-2
+returns-2 c = absurd (true≢false (sym (c .if2 .taken) ∙ ap not (key (c .before .before) .found-it)))
+
+sub-target : tie.Need-sub-target
+sub-target c = key (c .before .before .before .before .before) .some
+
+array-read-target : tie.Need-array-read-target
+array-read-target c = omega (arith, key (c .before .before .before .before .before) .short)
+
+push-back-requires : tie.Need-push-back-requires
+push-back-requires c κs =
+    let k = key (c .before .before .before .before .before .before .before .before .before) in
+    let st = c .before .before .before .before .before .before .before .before .before .before .before .before .before .before .before .before .before .before .before .before in
+    (st .pre .0, st .pre .1 .1, k .trail, k .roomy)
+
+cast-shift-nets : tie.Need-cast-shift-nets
+cast-shift-nets c = omega (arith, key (c .before .before .before .before .before .before .before .before .before .before .before .before) .shiftable .end)
+
+shift-nets-requires : tie.Need-shift-nets-requires
+shift-nets-requires c κs = key (c .before .before .before .before .before .before .before .before .before .before .before .before) .shiftable
+
+returns-3 : tie.Need-returns-3
+returns-3 c =
+    let k = key (c .before .before .before .before .before .before .before .before .before .before .before .before .before) in
+    let st = c .before .before .before .before .before .before .before .before .before .before .before .before .before .before .before .before .before .before .before .before .before .before .before .before in
+    rw (c .before .before .before .push-back .ensures, c .shift-nets .ensures)
+    (sym (improved-done (take (st .args .count) (st .args .streams)) (st .args .count) _ _ _ _ (in-use (st .args .streams) (st .args .count) (st .pre .0)) (c .before .before .before .before .before .before .before .before .before .before .before .before .before .before .before .before .before .before .before .before .before .first-over .ensures) (c .before .before .before .before .before .before .before .before .before .before .before .before .before .before .before .before .before .before .before .before .if1 .left) (rw (c .before .before .before .before .before .before .before .before .before .before .before .before .before .before .root .ensures) at (c .before .before .before .before .before .before .before .before .before .before .before .before .before .search .ensures)) (k .found-it)))
+
+pub improve-spec : {M : Type 1} → statement M
+improve-spec =
+    tie.close
+    (tie.spec
+    first-over-requires
+    returns
+    root-requires
+    search-requires
+    returns-2
+    sub-target
+    array-read-target
+    push-back-requires
+    cast-shift-nets
+    shift-nets-requires
+    returns-3)

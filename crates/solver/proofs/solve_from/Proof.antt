@@ -1,0 +1,50 @@
+use mathlib.Core.Path.{_≡_, sym, ap, _∙_, subst}
+use mathlib.Core.List.{List}
+use Prim.Native.Nat.{ℕ}
+use borrow.Author.Needs.{needs}
+use lib.ListN.{take}
+use Rattle.plants.specs.Says.{plantOf}
+use Rattle.paths.specs.Premises.{Prices}
+use Rattle.solver.specs.declared.State.{State}
+use Rattle.solver.specs.Model.{tiesTo}
+use Rattle.solver.specs.Premises.{Even}
+use Rattle.solver.specs.Promise.{Right}
+use Rattle.solver.proofs.Layouts.{solvable-of}
+use Rattle.solver.proofs.Ending.{finished-even, finished-prices}
+use Rattle.solver.proofs.Theorem.{layout-of, solved-right, solved-is}
+use Rattle.solver.proofs.solve_from.Statement.{statement}
+use Rattle.solver.proofs.solve_from.Tie as tie
+
+cast-count : tie.Need-cast-count
+cast-count c = search needs
+
+finish-requires : tie.Need-finish-requires
+finish-requires c κs =
+    let st = c .before .before in
+    (layout-of (st .args .p) (st .pre .0), st .pre .1)
+
+tie-all-requires : tie.Need-tie-all-requires
+tie-all-requires c κs =
+    let st = c .before .before .before .before .before .before .before in
+    let p = st .args .p in
+    let w = layout-of p (st .pre .0) in
+    let v = solvable-of (p .streams) (p .count) w in
+    let e = c .before .before .before .before .finish .ensures in (
+      w,
+      rw e (finished-prices (plantOf p .streams) v (st .args .h) (st .pre .1)),
+      rw e (finished-even (plantOf p .streams) v (st .args .h) (st .pre .1)),
+    )
+
+returns : tie.Need-returns
+returns c =
+    let st = c .before .before .before .before .before .before .before .before in
+    let p = st .args .p in
+    let f = c .before .before .before .before .before .finish in
+    subst (Right p)
+    (sym
+    (solved-is p (st .pre .0) (st .args .h) (st .pre .1) _ (f .result .prices) (ap (λ (s : State). s .prices) (f .ensures))
+    (c .tie-all .ensures ∙ ap (λ (s : State). tiesTo (plantOf p .streams) (f .result .prices) (p .count) (s .flows)) (f .ensures))))
+    (solved-right p (st .pre .0) (st .args .h) (st .pre .1))
+
+pub solve-from-spec : {M : Type 1} → statement M
+solve-from-spec = tie.close (tie.spec cast-count finish-requires tie-all-requires returns)

@@ -1,0 +1,120 @@
+-- What the solver's parts require of streams, amounts, prices and nets.
+use mathlib.Core.Path.{_≡_}
+use mathlib.Core.Bool.{true, false}
+use mathlib.Core.List.{List}
+use lib.IntN.{ℤ, pos, natAbs, _-ℤ_}
+use Prim.Native.Nat.{ℕ, zero, suc, _+_, _-_, _*_, _≤_, _<_}
+use lib.ListN.{length, getD}
+use Rattle.plants.specs.declared.Stream.{Stream}
+use Rattle.plants.specs.Limits.{places, maxStreams}
+use Rattle.plants.specs.Plants.{noStream}
+use Rattle.flows.specs.Flows.{streamAt}
+use Rattle.flows.proofs.Nets.{netOf}
+use Rattle.paths.specs.Sizes.{flowShift, mostFlow, priceShift, netShift, mostStep, pushRoom}
+use Rattle.flows.specs.Certificate.{weightOf}
+use Rattle.paths.specs.Held.{unshifted, AllHeld}
+use Rattle.paths.specs.Premises.{Placed, Network, Prices}
+use Rattle.solver.specs.declared.Hint.{Hint}
+use Rattle.solver.specs.declared.State.{State}
+use Rattle.solver.specs.Sizes.{mostReading, spread, stepFall, hintFloor, hintRoom, settledRoom}
+
+-- An array of streams of which the first n are in use: metered ones have a weight and a reading in range, and no stream leads
+-- from a place to itself.
+pub record Layout (streams : List Stream) (n : ℕ) : Type 0 where
+  pub network : Network streams n
+  pub weighed : (k : ℕ) → k < n → getD streams k noStream .metered ≡ true → 1 ≤ getD streams k noStream .weight
+  pub in-range : (k : ℕ) → k < n → getD streams k noStream .metered ≡ true → natAbs (getD streams k noStream .reading) ≤ mostReading
+  pub apart : (k : ℕ) → k < n → getD streams k noStream .from ≡ getD streams k noStream .to → ⊥
+
+-- A step: at least 1.
+abbrev pub Step : ℕ → Type 0
+Step d = (1 ≤ d) × (d ≤ mostStep)
+
+-- A held amount of size b at most.
+abbrev pub Close : ℕ → ℕ → Type 0
+Close b x = (x ≤ flowShift + b) × (flowShift ≤ x + b)
+
+-- A metered stream, and the prices of its start and its end, at which its amount can be settled.
+pub record Level (s : Stream) (pu pv : ℕ) : Type 0 where
+  pub placed : Placed s
+  pub weighed : 1 ≤ weightOf s
+  pub in-range : natAbs (s .reading) ≤ mostReading
+  pub price-u : pu ≤ priceShift
+  pub price-v : pv ≤ priceShift
+  pub near : pu ≤ pv + 2 * spread
+
+-- An array of streams, and prices at which their amounts can be settled.
+pub record Settles (streams : List Stream) (n : ℕ) (ps : List ℕ) : Type 0 where
+  pub layout : Layout streams n
+  pub prices : Prices ps
+  pub near : (u v : ℕ) → u < places → v < places → getD ps u 0 ≤ getD ps v 0 + 2 * spread
+
+-- Held amounts, each at most mostFlow.
+abbrev pub Amounts : List ℕ → Type 0
+Amounts xs = (k : ℕ) → k < maxStreams → getD xs k 0 ≤ mostFlow
+
+-- Held nets of size b at most.
+pub record Around (es : List ℕ) (b : ℕ) : Type 0 where
+  pub long : length es ≡ places
+  pub low : (u : ℕ) → u < places → netShift ≤ getD es u 0 + b
+  pub high : (u : ℕ) → u < places → getD es u 0 ≤ netShift + b
+
+-- Nets of which d can move from place s to place v.
+pub record Shiftable (es : List ℕ) (s v d : ℕ) : Type 0 where
+  pub long : length es ≡ places
+  pub start : s < places
+  pub end : v < places
+  pub step : d ≤ mostStep
+  pub enough : d ≤ getD es s 0
+  pub most-start : getD es s 0 ≤ 2 * netShift
+  pub most-end : getD es v 0 ≤ 2 * netShift
+
+-- Prices that agree across unmetered streams.
+abbrev pub Agreed : List Stream → List ℕ → Type 0
+Agreed ss ps = (k : ℕ) → k < length ss → streamAt ss k .metered ≡ false → getD ps (streamAt ss k .from) 0 ≡ getD ps (streamAt ss k .to) 0
+
+-- Prices to settle at, from low up, that agree across unmetered streams; and amounts for these, of size b at most.
+pub record Start (ss : List Stream) (low b : ℕ) (h : Hint) : Type 0 where
+  pub agree : Agreed ss (h .prices)
+  pub rich : (u : ℕ) → u < places → low ≤ getD (h .prices) u 0
+  pub poor : Prices (h .prices)
+  pub near : priceShift ≤ low + spread
+  pub priced : length (h .prices) ≡ places
+  pub long : length (h .flows) ≡ maxStreams
+  pub loose : (k : ℕ) → k < maxStreams → streamAt ss k .metered ≡ false → Close b (getD (h .flows) k 0)
+  pub fits : mostReading + priceShift ≤ b + low
+  pub within : b ≤ flowShift
+
+-- Some prices and amounts to settle at.
+pub record Ready (ss : List Stream) (h : Hint) : Type 0 where
+  pub low : ℕ
+  pub size : ℕ
+  pub start : Start ss low size h
+
+-- All that is asked of a hint.
+abbrev pub Hinted : List Stream → Hint → Type 0
+Hinted ss h = Start ss hintFloor hintRoom h
+
+-- A state: the step condition at d, nets that are the amounts', prices from low up, amounts of size b at most.
+pub record Sound (ss : List Stream) (d low b : ℕ) (st : State) : Type 0 where
+  pub held : AllHeld ss (st .flows) (st .prices) d
+  pub long : length (st .flows) ≡ maxStreams
+  pub priced : length (st .prices) ≡ places
+  pub netted : length (st .nets) ≡ places
+  pub nets : (u : ℕ) → u < places → netOf ss (λ k. unshifted (getD (st .flows) k 0)) u ≡ pos (getD (st .nets) u 0) -ℤ pos netShift
+  pub rich : (u : ℕ) → u < places → low ≤ getD (st .prices) u 0
+  pub poor : Prices (st .prices)
+  pub close : (k : ℕ) → k < maxStreams → Close b (getD (st .flows) k 0)
+
+-- From this state k more improvements at step d stay in range.
+pub record Allows (ss : List Stream) (d k : ℕ) (st : State) : Type 0 where
+  pub size : ℕ
+  pub sound : Sound ss d (stepFall * d * k) size st
+  pub fits : size + d * k + pushRoom ≤ flowShift
+
+-- A balanced flow that meets the step condition at 1, before the tie pass comes to stream i.
+pub record Even (ss : List Stream) (ps : List ℕ) (i : ℕ) (xs : List ℕ) : Type 0 where
+  pub long : length xs ≡ maxStreams
+  pub held : AllHeld ss xs ps 1
+  pub level : (u : ℕ) → u < places → netOf ss (λ k. unshifted (getD xs k 0)) u ≡ pos 0
+  pub close : (k : ℕ) → k < maxStreams → Close (settledRoom + i) (getD xs k 0)

@@ -1,0 +1,69 @@
+// The cheapest balanced flow of a plant, with prices that certify it.
+use finishing::finish;
+use hints::hint;
+use plants::Plant;
+use plants::limits::MAX_STREAMS;
+use plants::limits::PLACES;
+use ties::tie_all;
+ghost use Rattle.plants.specs.Says.{plantOf};
+ghost use Rattle.solver.specs.Premises.{Hinted};
+ghost use Rattle.solver.specs.Promise.{Accepted, Right};
+
+pub mod finishing;
+pub mod hints;
+pub mod improving;
+pub mod settling;
+pub mod sizes;
+pub mod ties;
+
+// Prices to begin with, and amounts for the unmetered streams; held shifted, as below.
+pub struct Hint {
+    pub flows: [u64; MAX_STREAMS],
+    pub prices: [u64; PLACES],
+}
+
+// The amount of each stream, and the price and the net of each place.
+pub struct State {
+    pub flows: [u64; MAX_STREAMS],
+    pub prices: [u64; PLACES],
+    pub nets: [u64; PLACES],
+}
+
+// A state after an improvement; done is false where there was none to make.
+pub struct Improved {
+    pub done: bool,
+    pub state: State,
+}
+
+// The flow and the prices that certify it.
+pub struct Solved {
+    pub flows: [u64; MAX_STREAMS],
+    pub prices: [u64; PLACES],
+}
+
+// The cheapest balanced flow of a plant, from any hint.
+pub fn solve_from(p: Plant, h: Hint) -> Solved
+    requires { ⌜ Accepted p × Hinted (plantOf p .streams) h ⌝ }
+    ensures { λ r. ⌜ Right p r ⌝ }
+{
+    let streams = p.streams;
+    let count = p.count as usize;
+    let st = finish(streams, count, h);
+    let prices = st.prices;
+    let mut flows = st.flows;
+    tie_all(streams, count, &mut flows, &prices);
+    Solved {
+        flows: flows,
+        prices: prices,
+    }
+}
+
+// The cheapest balanced flow of a plant.
+pub fn solve(p: Plant) -> Solved
+    requires { ⌜ Accepted p ⌝ }
+    ensures { λ r. ⌜ Right p r ⌝ }
+{
+    let streams = p.streams;
+    let h = hint(streams, p.count as usize);
+    solve_from(p, h)
+}

@@ -1,0 +1,98 @@
+// Amounts settled at prices, and the nets that they leave.
+use crate::Hint;
+use crate::State;
+use crate::sizes::SPREAD;
+use paths::sizes::FLOW_SHIFT;
+use paths::sizes::NET_SHIFT;
+use paths::slacks::reading_of;
+use paths::slacks::weight_of;
+use plants::Stream;
+use plants::limits::MAX_STREAMS;
+use plants::limits::PLACES;
+ghost use mathlib.Core.Path.{_≡_};
+ghost use mathlib.Core.Bool.{true};
+ghost use lib.ListN.{length, take};
+ghost use Prim.Native.Nat.{ℕ, _+_, _≤_};
+ghost use Rattle.plants.specs.Limits.{maxStreams};
+ghost use Rattle.paths.specs.Sizes.{mostFlow, priceShift};
+ghost use Rattle.flows.specs.Certificate.{weightOf};
+ghost use Rattle.paths.specs.Held.{readingOf};
+ghost use Rattle.paths.specs.Premises.{Placed, Network, Prices};
+ghost use Rattle.solver.specs.Sizes.{netRoom};
+ghost use Rattle.solver.specs.Model.{settledOf, settledTo, booked, netsTo, settled};
+ghost use Rattle.solver.specs.Premises.{Layout, Amounts, Around, Level, Settles, Ready};
+
+// A metered stream's amount at the prices of its start and its end.
+fn amount_at(s: Stream, pu: u64, pv: u64) -> u64
+    requires { ⌜ Level s pu pv ⌝ }
+    ensures { λ r. ⌜ r ≡ settledOf s pu pv ⌝ }
+{
+    let w = weight_of(s);
+    let r = reading_of(s);
+    (r - SPREAD) + (pv + w + 2 * (w * SPREAD) - pu) / (2 * w)
+}
+
+// Each metered stream's amount is settled; the others stay as they are.
+fn settle_flows(
+    streams: [Stream; MAX_STREAMS],
+    count: usize,
+    prices: &[u64; PLACES],
+    flows: &mut [u64; MAX_STREAMS],
+)
+    requires { ⌜ Settles streams count (now prices) × (length (now flows) ≡ maxStreams) ⌝ }
+    ensures { λ _. ⌜ now (flows .exit) ≡ settledTo (take count streams) (now (prices .entry)) (now (flows .entry)) count ⌝ }
+{
+    let mut i: usize = 0;
+    while i < count {
+        let s = streams[i];
+        if s.metered {
+            let u = s.from as usize;
+            let v = s.to as usize;
+            flows[i] = amount_at(s, prices[u], prices[v]);
+        }
+        i += 1;
+    }
+}
+
+// The nets after a stream's amount leaves its start and comes to its end.
+fn book(nets: [u64; PLACES], s: Stream, x: u64) -> [u64; PLACES]
+    requires { ⌜ Placed s × (x ≤ mostFlow) × Around nets netRoom ⌝ }
+    ensures { λ r. ⌜ r ≡ booked nets s x ⌝ }
+{
+    let u = s.from as usize;
+    let v = s.to as usize;
+    let mut r = nets;
+    r[u] = r[u] + FLOW_SHIFT - x;
+    r[v] = r[v] + x - FLOW_SHIFT;
+    r
+}
+
+fn nets_of(streams: [Stream; MAX_STREAMS], count: usize, flows: [u64; MAX_STREAMS]) -> [u64; PLACES]
+    requires { ⌜ Network streams count × Amounts flows ⌝ }
+    ensures { λ r. ⌜ r ≡ netsTo (take count streams) flows count ⌝ }
+{
+    let mut nets = [NET_SHIFT; PLACES];
+    let mut i: usize = 0;
+    while i < count {
+        let next = book(nets, streams[i], flows[i]);
+        nets = next;
+        i += 1;
+    }
+    nets
+}
+
+// Amounts and nets at the prices of a hint.
+pub fn settle(streams: [Stream; MAX_STREAMS], count: usize, h: Hint) -> State
+    requires { ⌜ Layout streams count × Ready (take count streams) h ⌝ }
+    ensures { λ r. ⌜ r ≡ settled (take count streams) h ⌝ }
+{
+    let prices = h.prices;
+    let mut flows = h.flows;
+    settle_flows(streams, count, &prices, &mut flows);
+    let nets = nets_of(streams, count, flows);
+    State {
+        flows: flows,
+        prices: prices,
+        nets: nets,
+    }
+}

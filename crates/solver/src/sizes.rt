@@ -1,0 +1,24 @@
+// Sizes that the solver is held to. Each is stated here and nowhere else in code; specs/Sizes.antt has the inequality that each
+// must meet.
+use plants::limits::MAX_STREAMS;
+use plants::limits::PLACES;
+
+// A price p is held as p + PRICE_SHIFT.
+pub const PRICE_SHIFT: u64 = 1_125_899_906_842_624;
+
+// The greatest reading provided for.
+pub const MOST_READING: u64 = 4_000_000;
+
+// Prices at which amounts are settled differ by at most this.
+pub const SPREAD: u64 = 35_184_372_088_832;
+
+// The hint's first step, and how many improvements it makes at each step.
+pub const FIRST_STEP: u64 = 1_048_576;
+
+pub const HINT_BUDGET: u64 = 256;
+
+// The summed positive net up to which a hint is of use.
+pub const LEFTOVER_LIMIT: u64 = 16_777_216;
+
+// The most improvements at step 1.
+pub const FUEL: u64 = PLACES as u64 * MAX_STREAMS as u64 * MOST_READING;
