@@ -9,7 +9,8 @@ use lib.Seq.{take-suc, drop-cons, length-take-le}
 use Rattle.numbers.specs.Choice.{firstOf}
 use Rattle.numbers.specs.Bytes.{over, putBe, raw, Put}
 use Rattle.numbers.proofs.Tests.{picked}
-use Rattle.numbers.proofs.Parts.{Laid, laid, lay, room, may-lend, same-length, partFrom, returned}
+use Rattle.numbers.proofs.Parts.{Laid, laid, lay, room, may-lend, partFrom, returned}
+use Rattle.numbers.proofs.Rows.{Rows, no-rows, one-row}
 use Rattle.plants.specs.declared.Stream.{Stream}
 use Rattle.plants.specs.Limits.{maxStreams, siteKind, meteredKind, unmeteredKind, endKind, meteredBody, longestFile}
 use Rattle.plants.specs.Plants.{noStream, streamFault, firstFault}
@@ -77,60 +78,17 @@ bytes-more i ss h =
     ∙ sym (bytes-append (take i ss) (x ∷ []))
     ∙ ap streamsBytes (sym (take-suc ss i noStream h) ∙ ap (λ (j : ℕ). take j ss) (sym (add-one i)))
 
--- i streams written at the front of o, which is o₁ now; the next free byte is `at`.
-pub record Written (k : ℕ) (ss : List Stream) (o o₁ : List ℕ) (at i : ℕ) : Type 0 where
-  pub within : i ≤ k
-  pub few : k ≤ maxStreams
-  pub held : length ss ≡ maxStreams
-  pub wide : maxStreams * suc meteredBody ≤ length o
-  pub so-far : Laid (streamsBytes (take i ss)) o o₁ at
+-- The stream records, one after the other.
+abbrev pub Streams : List Stream → ℕ → List ℕ → List ℕ → ℕ → ℕ → Type 0
+Streams ss k o o₁ at i = Rows (λ (j : ℕ). streamsBytes (take j ss)) (suc meteredBody) k o o₁ at i
 
-module _ {k : ℕ} {ss : List Stream} {o o₁ : List ℕ} {at i : ℕ} (w : Written k ss o o₁ at i) where
-  bound : at ≤ suc meteredBody * i
-  bound =
-      let h = w .held in
-      let a = w .within in
-      let b = w .few in
-      let l : length (take i ss) ≡ i = length-take-le i ss (omega arith) in
-      omega (arith, all-most (take i ss), w .so-far .size, ap (λ (j : ℕ). suc meteredBody * j) l)
+pub no-streams : (ss : List Stream) (k : ℕ) (o : List ℕ) → suc meteredBody * k ≤ length o → Streams ss k o o 0 0
+no-streams ss k o h = no-rows (λ (j : ℕ). streamsBytes (take j ss)) (suc meteredBody) k o refl h
 
-  pub still-long : length o₁ ≡ length o
-  still-long = same-length (w .so-far)
-
-  pub lend : at ≤ length o₁
-  lend = may-lend (w .so-far)
-
-  pub room-for : i < k → suc meteredBody ≤ length (partFrom at o₁)
-  room-for h = let b = bound in let f = w .few in let q = w .wide in room (w .so-far) (suc meteredBody) (omega arith)
-
-  pub write-on : (last : List ℕ) (m : ℕ) → i < k → Put (streamBytes (getD ss i noStream)) (partFrom at o₁) last m → Written k ss o (returned at o₁ last) (at + m) (i + 1)
-  write-on last m h p =
-      let b = streamBytes (getD ss i noStream) in
-      let a = bound in
-      let f = w .few in
-      let r = w .held in
-      let q = w .wide in
-      let e : streamsBytes (take i ss) ++ b ≡ streamsBytes (take (i + 1) ss) = bytes-more i ss (omega arith) in
-      let l : Laid (streamsBytes (take i ss) ++ b) o (returned at o₁ last) (at + length b) = lay (w .so-far) b (omega (arith, bytes-most (getD ss i noStream))) (p .bytes) in
-      record {
-        within = omega arith;
-        few = f;
-        held = r;
-        wide = q;
-        so-far = record { bytes = l .bytes ∙ ap (λ (x : List ℕ). over x o) e; size = ap length (sym e) ∙ l .size ∙ ap (λ (j : ℕ). at + j) (sym (p .size)); fits = rw (p .size) (l .fits) };
-      }
-
-  pub all-written : k ≤ i → Put (streamsBytes (take k ss)) o o₁ at
-  all-written h =
-      let a = w .within in
-      let e : i ≡ k = omega arith in
-      record {
-        bytes = w .so-far .bytes ∙ ap (λ (j : ℕ). over (streamsBytes (take j ss)) o) e;
-        size = sym (w .so-far .size) ∙ ap (λ (j : ℕ). length (streamsBytes (take j ss))) e;
-      }
-
-pub write-none : (k : ℕ) (ss : List Stream) (o : List ℕ) → k ≤ maxStreams → length ss ≡ maxStreams → maxStreams * suc meteredBody ≤ length o → Written k ss o o 0 0
-write-none k ss o h r w = record { within = omega arith; few = h; held = r; wide = w; so-far = laid [] o (omega arith) refl }
+pub one-stream : {ss : List Stream} {k : ℕ} {o o₁ : List ℕ} {at i : ℕ} → Streams ss k o o₁ at i → {last : List ℕ} {m : ℕ} → i < k → k ≤ length ss
+    → Put (streamBytes (getD ss i noStream)) (partFrom at o₁) last m → Streams ss k o (returned at o₁ last) (at + m) (i + 1)
+one-stream {ss} {k} {o} {o₁} {at} {i} w h long p =
+    one-row w (streamBytes (getD ss i noStream)) h (sym (bytes-more i ss (omega arith))) (bytes-most (getD ss i noStream)) p
 
 -- A plant's site record and stream records written at the front of o, which is o₁ now; the streams take m bytes.
 pub record Streamed (n k : ℕ) (ss : List Stream) (o o₁ : List ℕ) (m : ℕ) : Type 0 where
