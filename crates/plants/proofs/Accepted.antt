@@ -17,7 +17,7 @@ use Rattle.plants.specs.declared.Record.the-variants.{Listed, End, Refus
 use Rattle.plants.specs.Limits.{maxStreams, siteBody}
 use Rattle.plants.specs.Plants.{Plant, unitsFault, streamFault, firstFault, plantFault, plain}
 use Rattle.plants.specs.Files.{Got, bad, got, siteAt, onSite, recordAt, onRecord, withStream, recordsFrom, mostRecords, readPlant}
-use Rattle.plants.proofs.Records.{ListedAs, Meaning, record-means, units-there, site-units}
+use Rattle.plants.proofs.Records.{ListedAs, Meaning, record-means, units-there, missing-there, site-units}
 
 -- What is known of the plant while a file is read.
 record Sound (p : Plant) : Type 0 where
@@ -53,19 +53,19 @@ sound-more p s h f =
     }
 
 abbrev Good : Got → Type 0
-Good (bad f) = Unit {0}
+Good (bad f) = f ≡ 0 → ⊥
 Good (got p) = Sound p
 
--- Whatever is read from here on is sound.
+-- Whatever is read from here on is sound, and a refusal has a number.
 good-records : (l : ℕ) (p : Plant) (s : List ℕ) → Sound p → Good (recordsFrom l p s)
-good-records zero p s h = tt
+good-records zero p s h = λ e. omega arith
 good-records (suc l) p s h = go (recordAt (p .units) (length (p .streams)) s) (record-means (p .units) (length (p .streams)) s) (good-records l)
   where
     go : (r : Record) → Meaning (p .units) (length (p .streams)) s r → ((q : Plant) (t : List ℕ) → Sound q → Good (recordsFrom l q t))
         → Good (onRecord r (λ x m. recordsFrom l (withStream p x) (drop m s)) (got p) bad)
     go (Listed x m) f rest = rest (withStream p x) (drop m s) (sound-more p x h f)
     go End f rest = h
-    go (Refused f) _ rest = tt
+    go (Refused f) h rest = h
 
 -- (At any fuel: a numeral here would be unfolded.)
 good-plant : (l : ℕ) (s : List ℕ) → Good (onSite (siteAt s) (λ n. recordsFrom l (record { units = n; streams = [] }) (drop (suc siteBody) s)) bad)
@@ -76,7 +76,7 @@ good-plant l s = go (siteAt s) refl
         let u = units-there s n e in
         good-records l (record { units = n; streams = [] }) (drop (suc siteBody) s)
         (record { units-fit = rw (u .1) (site-units s (u .0)); few = omega arith; no-fault = refl; all-plain = refl })
-    go (Missing f) e = tt
+    go (Missing f) e = missing-there s f e
 
 -- A plant that is read has no fault, and its unmetered streams have neither weight nor reading.
 pub accepted : (s : List ℕ) (p : Plant) → readPlant s ≡ got p → (plantFault p ≡ 0) × (plain (p .streams) ≡ true)
@@ -84,3 +84,7 @@ accepted s p e = faultless (subst Good e (good-plant mostRecords s))
   where
     faultless : Sound p → (plantFault p ≡ 0) × (plain (p .streams) ≡ true)
     faultless h = (rw (h .units-fit, le-ltb maxStreams (length (p .streams)) (h .few)) (h .no-fault), h .all-plain)
+
+-- A file that is refused has a number.
+pub refused : (s : List ℕ) (f : ℕ) → readPlant s ≡ bad f → f ≡ 0 → ⊥
+refused s f e = subst Good e (good-plant mostRecords s)
