@@ -1,0 +1,5 @@
+-- Laws of sheets.
+pub mod Amounts
+pub mod Shown
+pub mod Promise
+pub mod Unique

@@ -1,0 +1,88 @@
+-- The sheet call's promise, by what was found.
+use mathlib.Core.Path.{_≡_, refl, sym, ap, _∙_, subst}
+use mathlib.Core.List.{List}
+use Prim.Native.Nat.{ℕ, suc, _+_, _≤_}
+use native.Mathlib.Omega.{arith}
+use native.Mathlib.Numerals.{add-one}
+use lib.ListN.{length}
+use lib.Dec.{ltb}
+use borrow.Author.Tests.{eq-eqb, ne-eqb, ltb-false, eqb-false}
+use Rattle.numbers.specs.Choice.{refuseIf}
+use Rattle.numbers.proofs.Tests.{refuse-none, first-none-left, first-none-right}
+use Rattle.numbers.specs.Bytes.{over, Put}
+use Rattle.plants.specs.declared.Read.{Read}
+use Rattle.plants.specs.Plants.{Plant}
+use Rattle.plants.specs.Files.{Got, bad, got, readPlant}
+use Rattle.plants.specs.Says.{arrayed, plantOf, readOf}
+use Rattle.plants.proofs.Accepted.{refused}
+use Rattle.flows.specs.Flows.{Cheapest}
+use Rattle.flows.proofs.Fits.{read-fits}
+use Rattle.paths.specs.Held.{opened}
+use Rattle.solver.specs.declared.Solved.{Solved}
+use Rattle.solver.specs.Promise.{Accepted, Right}
+use Rattle.solver.proofs.Theorem.{read-accepted}
+use Rattle.sheets.specs.declared.Sheet.{Sheet}
+use Rattle.sheets.specs.Sheets.{leastSlice, sheetOf}
+use Rattle.sheets.specs.Says.{topSheet, callFault, SheetWith, SheetSays}
+use Rattle.sheets.specs.Calls.{Drawable}
+
+-- What the reader handed over, by its number.
+read-bad : (g : Got) (y : Read) → y ≡ readOf g → (y .number ≡ 0 → ⊥) → g ≡ bad (y .number)
+read-bad (bad f) y e n = ap (λ (r : Read). bad (r .number)) (sym e)
+read-bad (got p) y e n = absurd (n (ap (λ (r : Read). r .number) e))
+
+read-got : (g : Got) (y : Read) → y ≡ readOf g → y .number ≡ 0 → ((f : ℕ) → g ≡ bad f → f ≡ 0 → ⊥) → (q : Plant) × (g ≡ got q) × (y .plant ≡ arrayed q)
+read-got (bad f) y e n h = absurd (h f refl (sym (ap (λ (r : Read). r .number) e) ∙ n))
+read-got (got p) y e n h = (p, refl, ap (λ (r : Read). r .plant) e)
+
+module _ (file : List ℕ) (y : Read) (e : y ≡ readOf (readPlant file)) (n : y .number ≡ 0) where
+  found : (q : Plant) × (readPlant file ≡ got q) × (y .plant ≡ arrayed q)
+  found = read-got (readPlant file) y e n (refused file)
+
+  pub plant-accepted : Accepted (y .plant)
+  plant-accepted = rw (found .2) (read-accepted file (found .0) (found .1))
+
+  pub plant-drawable : (s : Solved) → Right (y .plant) s → Drawable (y .plant) (s .flows)
+  plant-drawable s r =
+      record {
+        accepted = plant-accepted;
+        long = r .long;
+        amounts = λ k h. omega (arith, r .close k h .0);
+        cheapest = r .cheapest;
+      }
+
+-- A call without fault: the slice is long enough, and a sheet number is left.
+module _ (last : ℕ) (o : List ℕ) (e : callFault last o ≡ 0) where
+  pub long-enough : leastSlice ≤ length o
+  long-enough = ltb-false (length o) leastSlice (refuse-none _ 0 (first-none-left (refuseIf (ltb (length o) leastSlice) 1) _ e))
+
+  pub one-left : last ≡ topSheet → ⊥
+  one-left = eqb-false last topSheet (refuse-none _ 1 (first-none-right (refuseIf (ltb (length o) leastSlice) 1) _ e))
+
+module _ (file : List ℕ) (last : ℕ) (o : List ℕ) where
+  pub call-refused : (f : ℕ) (r : Sheet) → f ≡ callFault last o → (f ≡ 0 → ⊥) → r ≡ record { number = f; written = 0; last = last } → SheetSays file last o o r
+  call-refused f r e n q = rw (ne-eqb (callFault last o) 0 (λ d. n (e ∙ d))) (q ∙ (λ i. record { number = e i; written = 0; last = last }), refl)
+
+  module _ (f : ℕ) (e : f ≡ callFault last o) (z : f ≡ 0) where
+    by-file : (o′ : List ℕ) (r : Sheet) → SheetWith (readPlant file) last o o′ r → SheetSays file last o o′ r
+    by-file o′ r w = rw (eq-eqb (callFault last o) 0 (sym e ∙ z)) w
+
+    pub file-refused : (y : Read) (r : Sheet) → y ≡ readOf (readPlant file) → (y .number ≡ 0 → ⊥)
+        → r ≡ record { number = y .number; written = 0; last = last } → SheetSays file last o o r
+    file-refused y r q n w = by-file o r (rw (read-bad (readPlant file) y q n) (w, refl))
+
+    pub sheet-drawn : (y : Read) (s : Solved) (o′ : List ℕ) (m : ℕ) → y ≡ readOf (readPlant file) → y .number ≡ 0 → Right (y .plant) s
+        → Put (sheetOf (plantOf (y .plant)) (opened (y .plant .count) (s .flows)) (last + 1)) o o′ m
+        → SheetSays file last o o′ (record { number = 0; written = m; last = last + 1 })
+    sheet-drawn y s o′ m q n t p =
+        let a = found file y q n in
+        let xs = opened (y .plant .count) (s .flows) in
+        let same : plantOf (y .plant) ≡ a .0 = ap plantOf (a .2) ∙ read-fits file (a .0) (a .1) .1 in
+        let sheet : sheetOf (plantOf (y .plant)) xs (last + 1) ≡ sheetOf (a .0) xs (suc last) = λ i. sheetOf (same i) xs (add-one last i) in
+        by-file o′ (record { number = 0; written = m; last = last + 1 })
+        (rw (a .1) (
+          xs,
+          subst (λ (x : Plant). Cheapest x xs) same (t .cheapest),
+          (λ i. record { number = 0; written = (p .size ∙ ap length sheet) i; last = add-one last i }),
+          p .bytes ∙ ap (λ (l : List ℕ). over l o) sheet,
+        ))

@@ -1,0 +1,97 @@
+-- No choice is left: two cheapest flows of one plant give one and the same sheet.
+use mathlib.Core.Path.{_≡_, refl, sym, ap, _∙_}
+use mathlib.Core.Bool.{Bool, true, false}
+use mathlib.Core.List.{List, [], _∷_, _++_}
+use lib.IntN.{ℤ}
+use Prim.Native.Nat.{ℕ, zero, suc, _≤_, _<_}
+use native.Mathlib.Omega.{arith}
+use lib.Dec.{eqb}
+use lib.ListN.{length}
+use Rattle.numbers.specs.Choice.{pick}
+use Rattle.numbers.specs.Bytes.{over}
+use Rattle.numbers.proofs.Tests.{by-cases}
+use Rattle.plants.specs.declared.Stream.{Stream}
+use Rattle.plants.specs.Plants.{Plant}
+use Rattle.plants.specs.Files.{Got, bad, got, readPlant}
+use Rattle.plants.proofs.Limited.{Within, within}
+use Rattle.plants.proofs.Accepted.{accepted}
+use Rattle.plants.proofs.Back.{round-trip}
+use Rattle.flows.specs.declared.Class.{Class}
+use Rattle.flows.specs.declared.Class.the-variants.{Adjusted, AsRead, Given, Withheld}
+use Rattle.flows.specs.Flows.{streamAt, amountAt, cost, meteredOf, Cheapest}
+use Rattle.flows.specs.Classes.{classOf, numberOf, degrees}
+use Rattle.flows.specs.Test.{verdictOf}
+use Rattle.flows.proofs.Nets.{balanced-size}
+use Rattle.flows.proofs.Order.{one}
+use Rattle.flows.proofs.Given.{class-means, number-is, given-agree}
+use Rattle.flows.proofs.Demand.{demand-3}
+use Rattle.sheets.specs.declared.Sheet.{Sheet}
+use Rattle.sheets.specs.Sheets.{recordOf, recordsTo, totalOf, sheetOf}
+use Rattle.sheets.specs.Says.{callFault, Refused, Drawn, SheetWith, No-choice, Demands}
+use Rattle.sheets.proofs.Shown.{record-same}
+
+-- Flows with the same metered amounts have the same amount on each metered stream.
+metered-at : (ss : List Stream) (xs ys : List ℤ) → length xs ≡ length ss → length ys ≡ length ss → meteredOf ss xs ≡ meteredOf ss ys
+    → (k : ℕ) → k < length ss → streamAt ss k .metered ≡ true → amountAt xs k ≡ amountAt ys k
+metered-at [] xs ys m n e k h t = absurd (omega arith)
+metered-at (s ∷ ss) [] ys m n e k h t = absurd (omega arith)
+metered-at (s ∷ ss) (x ∷ xs) [] m n e k h t = absurd (omega arith)
+metered-at (s ∷ ss) (x ∷ xs) (y ∷ ys) m n e zero h t = let q : x ∷ meteredOf ss xs ≡ y ∷ meteredOf ss ys = rw t at e in cc
+metered-at (s ∷ ss) (x ∷ xs) (y ∷ ys) m n e (suc k) h t = metered-at ss xs ys (omega arith) (omega arith) (rest (s .metered) e) k (omega arith) t
+  where
+    rest : (b : Bool) → pick b (x ∷ []) [] ++ meteredOf ss xs ≡ pick b (y ∷ []) [] ++ meteredOf ss ys → meteredOf ss xs ≡ meteredOf ss ys
+    rest true q = cc
+    rest false q = q
+
+module _ (p : Plant) (w : Within p) (xs ys : List ℤ) (c : Cheapest p xs) (d : Cheapest p ys) where
+  -- An amount that is shown is the same in both.
+  amount-same : (k : ℕ) → k < length (p .streams) → (classOf p k ≡ Withheld → ⊥) → amountAt xs k ≡ amountAt ys k
+  amount-same k h n = go (classOf p k) refl
+    where
+      metered : streamAt (p .streams) k .metered ≡ true → amountAt xs k ≡ amountAt ys k
+      metered t = metered-at (p .streams) xs ys (balanced-size p xs (c .balance)) (balanced-size p ys (d .balance)) (one p xs ys c d) k h t
+
+      go : (a : Class) → classOf p k ≡ a → amountAt xs k ≡ amountAt ys k
+      go Adjusted e = metered (class-means p k Adjusted e .0)
+      go AsRead e = metered (class-means p k AsRead e .0)
+      go Given e = given-agree p w k h e xs ys (record { first = c .balance; second = d .balance; metered = one p xs ys c d })
+      go Withheld e = absurd (n e)
+
+  records-same : (k : ℕ) → k ≤ length (p .streams) → recordsTo p xs k ≡ recordsTo p ys k
+  records-same zero h = refl
+  records-same (suc k) h = λ i. records-same k (omega arith) i ++ here i
+    where
+      here : recordOf (classOf p k) (numberOf p xs k) ≡ recordOf (classOf p k) (numberOf p ys k)
+      here =
+          record-same (classOf p k) (numberOf p xs k) (numberOf p ys k)
+          (λ e. number-is p w xs (c .balance) k (omega arith) e ∙ amount-same k (omega arith) e ∙ sym (number-is p w ys (d .balance) k (omega arith) e))
+
+  cost-same : cost (p .streams) xs ≡ cost (p .streams) ys
+  cost-same = let a = c .least ys (d .balance) in let b = d .least xs (c .balance) in omega arith
+
+  pub one-sheet : (n : ℕ) → sheetOf p xs n ≡ sheetOf p ys n
+  one-sheet n = λ i. records-same (length (p .streams)) (omega arith) i ++ totalOf n (cost-same i) (degrees p) (verdictOf p (cost-same i))
+
+-- What a call returns and leaves behind follows from what it was handed.
+module _ (last : ℕ) (o o₁ o₂ : List ℕ) (r₁ r₂ : Sheet) where
+  refused-same : (f : ℕ) → Refused f last o o₁ r₁ → Refused f last o o₂ r₂ → (r₁ ≡ r₂) × (o₁ ≡ o₂)
+  refused-same f a b = (a .0 ∙ sym (b .0), a .1 ∙ sym (b .1))
+
+  drawn-same : (p : Plant) → Within p → Drawn p last o o₁ r₁ → Drawn p last o o₂ r₂ → (r₁ ≡ r₂) × (o₁ ≡ o₂)
+  drawn-same p w a b =
+      let e = one-sheet p w (a .0) (b .0) (a .1) (b .1) (suc last) in
+      (a .2 ∙ (λ i. record { number = 0; written = length (e i); last = suc last }) ∙ sym (b .2), a .3 ∙ ap (λ (l : List ℕ). over l o) e ∙ sym (b .3))
+
+  read-same : (g : Got) → ((p : Plant) → g ≡ got p → Within p) → SheetWith g last o o₁ r₁ → SheetWith g last o o₂ r₂ → (r₁ ≡ r₂) × (o₁ ≡ o₂)
+  read-same (bad f) h a b = refused-same f a b
+  read-same (got p) h a b = drawn-same p (h p refl) a b
+
+pub no-choice : No-choice
+no-choice file last o o₁ o₂ r₁ r₂ a b =
+    by-cases (eqb (callFault last o) 0)
+    (λ t. read-same last o o₁ o₂ r₁ r₂ (readPlant file) (λ p e. within p (accepted file p e .0)) (rw t at a) (rw t at b))
+    (λ t. refused-same last o o₁ o₂ r₁ r₂ (callFault last o) (rw t at a) (rw t at b))
+
+-- The demands, all of them.
+pub demands : Demands
+demands = record { round = round-trip; third = demand-3; no-choice = no-choice }

@@ -1,0 +1,23 @@
+// The kinds of record on a sheet and their sizes, and the limits of a call. Each is stated here and nowhere else in code.
+use plants::limits::MAX_STREAMS;
+
+pub const ADJUSTED: u8 = 0x11;
+
+pub const AS_READ: u8 = 0x12;
+
+pub const GIVEN: u8 = 0x13;
+
+pub const WITHHELD: u8 = 0x14;
+
+pub const TOTAL: u8 = 0x1F;
+
+// The longest stream record, and the total.
+pub const STREAM_SIZE: usize = 9;
+
+pub const TOTAL_SIZE: usize = 15;
+
+// The least slice that is taken.
+pub const LEAST_SLICE: usize = MAX_STREAMS * STREAM_SIZE + TOTAL_SIZE;
+
+// The last sheet number that there is.
+pub const TOP_SHEET: u32 = 4_294_967_295;
