@@ -3,3 +3,4 @@ pub mod Amounts
 pub mod Shown
 pub mod Promise
 pub mod Unique
+pub mod Table

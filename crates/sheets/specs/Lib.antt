@@ -2,3 +2,4 @@
 pub mod Sheets
 pub mod Says
 pub mod Calls
+pub mod Table

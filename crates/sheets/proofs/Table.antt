@@ -1,0 +1,75 @@
+-- The table of plants, proved by one computed test: prices certify each flow.
+use mathlib.Core.Path.{_≡_, refl}
+use mathlib.Core.Bool.{Bool, true, false, _&&_, false≢true}
+use mathlib.Core.List.{List, [], _∷_}
+use lib.IntN.{ℤ, pos, negsuc}
+use Prim.Native.Nat.{ℕ}
+use lib.Dec.{eqb}
+use borrow.Author.Tests.{eqb-true}
+use Rattle.numbers.proofs.Tests.{and-left, and-right}
+use Rattle.plants.specs.Plants.{Plant}
+use Rattle.plants.specs.Files.{Got, bad, got, readPlant}
+use Rattle.flows.specs.Certificate.{certified}
+use Rattle.flows.proofs.Certified.{certified-cheapest}
+use Rattle.sheets.specs.Sheets.{sheetOf}
+use Rattle.sheets.specs.Table.{Example, Shows, AllShow, examples}
+
+-- Two lists of bytes are one.
+abbrev sameBytes : List ℕ → List ℕ → Bool
+sameBytes [] [] = true
+sameBytes [] (y ∷ ys) = false
+sameBytes (x ∷ xs) [] = false
+sameBytes (x ∷ xs) (y ∷ ys) = eqb x y && sameBytes xs ys
+
+same-bytes : (xs ys : List ℕ) → sameBytes xs ys ≡ true → xs ≡ ys
+same-bytes [] [] e = refl
+same-bytes [] (y ∷ ys) e = absurd (false≢true e)
+same-bytes (x ∷ xs) [] e = absurd (false≢true e)
+same-bytes (x ∷ xs) (y ∷ ys) e =
+    let h = eqb-true x y (and-left (eqb x y) (sameBytes xs ys) e) in
+    let t = same-bytes xs ys (and-right (eqb x y) (sameBytes xs ys) e) in
+    λ i. h i ∷ t i
+
+-- The test of one example, with prices for the places. (No amount here could fall at no cost, so that no cut is asked for.)
+abbrev shows : Example → List ℤ → Got → Bool
+shows e prices (bad f) = false
+shows e prices (got p) = certified p (e .flow) prices [] && sameBytes (sheetOf p (e .flow) 1) (e .sheet)
+
+shows-right : (e : Example) (prices : List ℤ) (g : Got) → readPlant (e .file) ≡ g → shows e prices g ≡ true → Shows e
+shows-right e prices (bad f) r t = absurd (false≢true t)
+shows-right e prices (got p) r t =
+    let c = certified p (e .flow) prices [] in
+    let s = sameBytes (sheetOf p (e .flow) 1) (e .sheet) in
+    (p, r, certified-cheapest p (e .flow) prices [] (and-left c s t), same-bytes (sheetOf p (e .flow) 1) (e .sheet) (and-right c s t))
+
+-- The test of the whole table.
+abbrev allShow : List Example → List (List ℤ) → Bool
+allShow [] ps = true
+allShow (e ∷ es) [] = false
+allShow (e ∷ es) (p ∷ ps) = shows e p (readPlant (e .file)) && allShow es ps
+
+all-right : (es : List Example) (ps : List (List ℤ)) → allShow es ps ≡ true → AllShow es
+all-right [] ps t = tt
+all-right (e ∷ es) [] t = absurd (false≢true t)
+all-right (e ∷ es) (p ∷ ps) t =
+    let a = shows e p (readPlant (e .file)) in
+    (shows-right e p (readPlant (e .file)) refl (and-left a (allShow es ps) t), all-right es ps (and-right a (allShow es ps) t))
+
+-- The prices of the places 0, 1 and so on, for each plant of the table.
+prices : List (List ℤ)
+prices =
+    (pos 0 ∷ negsuc 19 ∷ [])
+    ∷ (pos 0 ∷ negsuc 9 ∷ [])
+    ∷ (pos 0 ∷ pos 30 ∷ [])
+    ∷ (pos 0 ∷ pos 60 ∷ [])
+    ∷ (pos 0 ∷ pos 0 ∷ [])
+    ∷ (pos 0 ∷ negsuc 139 ∷ [])
+    ∷ (pos 0 ∷ negsuc 121 ∷ [])
+    ∷ (pos 0 ∷ negsuc 123 ∷ [])
+    ∷ (pos 0 ∷ negsuc 19 ∷ negsuc 19 ∷ [])
+    ∷ []
+    ∷ []
+
+pub table : AllShow examples
+unfolding prices
+table = all-right examples prices refl

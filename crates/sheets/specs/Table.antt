@@ -1,0 +1,64 @@
+-- The proved table of plants: files, their cheapest flows and their sheets, byte for byte.
+use mathlib.Core.Path.{_≡_}
+use mathlib.Core.List.{List, [], _∷_, _++_}
+use lib.IntN.{ℤ, pos}
+use Prim.Native.Nat.{ℕ}
+use Rattle.plants.specs.Plants.{Plant}
+use Rattle.plants.specs.Files.{got, readPlant}
+use Rattle.flows.specs.Flows.{Cheapest}
+use Rattle.sheets.specs.Sheets.{sheetOf}
+
+pub record Example : Type 0 where
+  pub file : List ℕ
+  pub flow : List ℤ
+  pub sheet : List ℕ
+
+-- The file reads to a plant, the flow is its cheapest, and sheet 1 has these bytes.
+abbrev pub Shows : Example → Type 0
+Shows e = (p : Plant) × (readPlant (e .file) ≡ got p) × Cheapest p (e .flow) × (sheetOf p (e .flow) 1 ≡ e .sheet)
+
+abbrev pub AllShow : List Example → Type 0
+AllShow [] = Unit {0}
+AllShow (e ∷ es) = Shows e × AllShow es
+
+-- Records of a file, with a weight and a reading below 256; of a sheet, with an amount below 256 and a cost of two bytes.
+abbrev pub site : ℕ → List ℕ
+site n = 1 ∷ n ∷ []
+
+abbrev pub meter : ℕ → ℕ → ℕ → ℕ → List ℕ
+meter u v w r = 2 ∷ u ∷ v ∷ 0 ∷ w ∷ 0 ∷ 0 ∷ 0 ∷ r ∷ []
+
+abbrev pub pipe : ℕ → ℕ → List ℕ
+pipe u v = 3 ∷ u ∷ v ∷ []
+
+abbrev pub end : ℕ → List ℕ
+end c = 4 ∷ c ∷ []
+
+abbrev pub shown : ℕ → ℕ → List ℕ
+shown kind x = kind ∷ 0 ∷ 0 ∷ 0 ∷ 0 ∷ 0 ∷ 0 ∷ 0 ∷ x ∷ []
+
+abbrev pub total : ℕ → ℕ → ℕ → ℕ → List ℕ
+total high low degrees verdict = 31 ∷ 0 ∷ 0 ∷ 0 ∷ 1 ∷ 0 ∷ 0 ∷ 0 ∷ 0 ∷ 0 ∷ 0 ∷ high ∷ low ∷ degrees ∷ verdict ∷ []
+
+-- In 103, out 60 and 40: 102, 61, 41, cost 30.
+-- In 101, out 60 and 40: 100, 60, 40, cost 10.
+-- In 100, out 103: 101, 101, cost 50.
+-- Weights 30 and 10, in 100, out 104: 101, 101, cost 120.
+-- In 100 metered, out unmetered: R 100, G 100, degrees 0, none.
+-- A dead end, one metered stream in, 7: A 0, cost 490, degrees 1, pass.
+-- The same with weight 1: 61 costs 3,721 and passes, 62 costs 3,844 and fails.
+-- The listing's plant: 99, two blanks, 99, cost 20.
+-- No streams.
+abbrev pub examples : List Example
+examples =
+    record { file = site 1 ++ meter 0 1 10 103 ++ meter 1 0 10 60 ++ meter 1 0 10 40 ++ end 3; flow = pos 102 ∷ pos 61 ∷ pos 41 ∷ []; sheet = shown 17 102 ++ shown 17 61 ++ shown 17 41 ++ total 0 30 1 0 }
+    ∷ record { file = site 1 ++ meter 0 1 10 101 ++ meter 1 0 10 60 ++ meter 1 0 10 40 ++ end 3; flow = pos 100 ∷ pos 60 ∷ pos 40 ∷ []; sheet = shown 17 100 ++ shown 17 60 ++ shown 17 40 ++ total 0 10 1 0 }
+    ∷ record { file = site 1 ++ meter 0 1 10 100 ++ meter 1 0 10 103 ++ end 2; flow = pos 101 ∷ pos 101 ∷ []; sheet = shown 17 101 ++ shown 17 101 ++ total 0 50 1 0 }
+    ∷ record { file = site 1 ++ meter 0 1 30 100 ++ meter 1 0 10 104 ++ end 2; flow = pos 101 ∷ pos 101 ∷ []; sheet = shown 17 101 ++ shown 17 101 ++ total 0 120 1 0 }
+    ∷ record { file = site 1 ++ meter 0 1 10 100 ++ pipe 1 0 ++ end 2; flow = pos 100 ∷ pos 100 ∷ []; sheet = shown 18 100 ++ shown 19 100 ++ total 0 0 0 2 }
+    ∷ record { file = site 1 ++ meter 0 1 10 7 ++ end 1; flow = pos 0 ∷ []; sheet = shown 17 0 ++ total 1 234 1 0 }
+    ∷ record { file = site 1 ++ meter 0 1 1 61 ++ end 1; flow = pos 0 ∷ []; sheet = shown 17 0 ++ total 14 137 1 0 }
+    ∷ record { file = site 1 ++ meter 0 1 1 62 ++ end 1; flow = pos 0 ∷ []; sheet = shown 17 0 ++ total 15 4 1 1 }
+    ∷ record { file = site 2 ++ meter 0 1 10 100 ++ pipe 1 2 ++ pipe 1 2 ++ meter 2 0 10 98 ++ end 4; flow = pos 99 ∷ pos 99 ∷ pos 0 ∷ pos 99 ∷ []; sheet = shown 17 99 ++ (20 ∷ 20 ∷ []) ++ shown 17 99 ++ total 0 20 1 0 }
+    ∷ record { file = site 1 ++ end 0; flow = []; sheet = total 0 0 0 2 }
+    ∷ []
