@@ -1,10 +1,9 @@
 -- Held amounts as integers, and the nets of places: what a store does to them, and how large they get.
-use mathlib.Core.Path.{_≡_, refl, sym, _∙_, ap, subst}
+use mathlib.Core.Path.{_≡_, sym, _∙_, ap}
 use mathlib.Core.Bool.{Bool, true, false}
-use mathlib.Core.List.{List, map}
-use mathlib.Core.Logic.{⊎-elim}
-use lib.IntN.{ℤ, pos, negℤ, _+ℤ_, _-ℤ_}
-use Prim.Native.Nat.{ℕ, zero, suc, _+_, _*_, _≤_, _<_}
+use mathlib.Core.List.{List}
+use lib.IntN.{ℤ, pos, negℤ, _+ℤ_}
+use Prim.Native.Nat.{ℕ, zero, suc, _+_, _≤_, _<_}
 use native.Mathlib.Omega.{arith}
 use native.Mathlib.Decide.{ℕ-discrete}
 use borrow.Author.Tests.{eqb-true, eqb-false}
@@ -14,10 +13,10 @@ use lib.Seq.{getD-set-same, getD-set-other, getD-take, length-take-le}
 use Rattle.numbers.specs.Choice.{pick}
 use Rattle.numbers.proofs.Tests.{by-cases}
 use Rattle.plants.specs.declared.Stream.{Stream}
-use Rattle.flows.specs.Flows.{streamAt, amountAt, netAt}
-use Rattle.flows.proofs.Integers.{up, dn, parts, same, diff, diff-val, plus-val, minus-val, up-neg, dn-neg}
+use Rattle.flows.specs.Flows.{streamAt, amountAt}
+use Rattle.flows.proofs.Integers.{up, dn, same, diff, diff-val, plus-val, minus-val, up-neg, dn-neg}
 use Rattle.flows.proofs.Sums.{sum, sum-same}
-use Rattle.flows.proofs.Nets.{brought, netOf, net-is}
+use Rattle.flows.proofs.Nets.{brought, netOf}
 use Rattle.flows.proofs.Lists.{map-at}
 use Rattle.paths.specs.Sizes.{flowShift}
 use Rattle.paths.specs.Held.{unshifted, opened}
@@ -79,7 +78,8 @@ net-set u ss xs i y l m =
       sum-change (length ss) i (λ k. brought u (streamAt ss k) (unshifted (getD xs k 0))) (λ k. brought u (streamAt ss k) (unshifted (getD (set xs i y) k 0))) l
           (λ k h q. ap (λ (x : ℕ). brought u (streamAt ss k) (unshifted x)) (getD-set-other xs i k y 0 q)),
       brought-val flowShift (eqb (streamAt ss i .to) u) (eqb (streamAt ss i .from) u) (getD xs i 0) (unshifted (getD xs i 0)) (unshifted-val (getD xs i 0)),
-      brought-val flowShift (eqb (streamAt ss i .to) u) (eqb (streamAt ss i .from) u) (getD (set xs i y) i 0) (unshifted (getD (set xs i y) i 0)) (unshifted-val (getD (set xs i y) i 0)),
+      brought-val flowShift (eqb (streamAt ss i .to) u) (eqb (streamAt ss i .from) u) (getD (set xs i y) i 0) (unshifted (getD (set xs i y) i 0))
+          (unshifted-val (getD (set xs i y) i 0)),
       here (eqb (streamAt ss i .to) u),
       here (eqb (streamAt ss i .from) u),
     )

@@ -12,7 +12,7 @@ use Rattle.flows.specs.Flows.{streamAt}
 use Rattle.flows.proofs.Integers.{up, dn, Le}
 use Rattle.flows.proofs.Sums.{sum, sum-none, sum-tight}
 use Rattle.flows.proofs.Reach.{Inside}
-use Rattle.flows.proofs.Nets.{netOf, crossing, crossing-level, cut}
+use Rattle.flows.proofs.Nets.{netOf, crossing-level, cut}
 
 pub closed-level : (n : ℕ) (ss : List Stream) (x : ℕ → ℤ) (c : ℕ → Bool) → Inside n ss
     → ((k : ℕ) → k < length ss → c (streamAt ss k .from) ≡ c (streamAt ss k .to))

@@ -36,7 +36,8 @@ lowered-long [] g ps = refl
 lowered-long (l ∷ ls) g [] = refl
 lowered-long (l ∷ ls) g (p ∷ ps) = ap suc (lowered-long ls g ps)
 
-pub lowered-is : (ls : List Bool) (g : ℕ) (p₀ p : List ℕ) → length p₀ ≡ places → Written 0 places (λ k x. fallen (getD ls k false) g x) p₀ p places → p ≡ loweredBy ls g p₀
+pub lowered-is : (ls : List Bool) (g : ℕ) (p₀ p : List ℕ) → length p₀ ≡ places → Written 0 places (λ k x. fallen (getD ls k false) g x) p₀ p places
+    → p ≡ loweredBy ls g p₀
 lowered-is ls g p₀ p h m =
     ext-getD 0 p (loweredBy ls g p₀) (m .long ∙ sym h ∙ sym (lowered-long ls g p₀))
     (λ i l. m .done i (rw (m .long) at l) ∙ sym (lowered-at ls g p₀ i))
@@ -72,7 +73,8 @@ moved-near s x c d j p hd lo hi = by-end (eqb (s .to) c)
     by-end true = (omega arith, omega arith)
     by-end false = (omega arith, omega arith)
 
-pub roomy-set : {xs : List ℕ} {j : ℕ} → Roomy xs j → (i v : ℕ) → i < maxStreams → (mostStep * (j - 1) ≤ v) × (v + mostStep * (j - 1) ≤ mostFlow) → Roomy (set xs i v) (j - 1)
+pub roomy-set : {xs : List ℕ} {j : ℕ} → Roomy xs j → (i v : ℕ) → i < maxStreams → (mostStep * (j - 1) ≤ v) × (v + mostStep * (j - 1) ≤ mostFlow)
+    → Roomy (set xs i v) (j - 1)
 roomy-set {xs} {j} r i v l h =
     record {
       long = length-set xs i v ∙ r .long;

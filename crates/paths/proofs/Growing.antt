@@ -9,10 +9,10 @@ use native.Mathlib.Omega.{arith}
 use native.Mathlib.Decide.{ℕ-discrete}
 use borrow.Author.Tests.{ltb-true, ltb-false, le-ltb, eqb-true, eqb-false, eq-eqb, ne-eqb, not-true, not-false}
 use lib.Dec.{eqb, ltb}
-use lib.ListN.{length, getD, set, replicate, length-set, length-replicate}
+use lib.ListN.{length, getD, set, replicate, length-set}
 use lib.Seq.{getD-set-same, getD-set-other}
 use Rattle.numbers.specs.Choice.{pick}
-use Rattle.numbers.proofs.Tests.{by-cases, clash}
+use Rattle.numbers.proofs.Tests.{by-cases}
 use Rattle.plants.specs.declared.Stream.{Stream}
 use Rattle.plants.specs.Limits.{places, maxUnits, maxStreams, maxWeight}
 use Rattle.flows.specs.Flows.{streamAt}
@@ -32,7 +32,7 @@ use Rattle.paths.proofs.Elements.{lowered-at, lowered-long, fallen-leas
 use Rattle.paths.proofs.Least.{Usable, slackAt, startIn, endIn, Answers, least-good}
 use Rattle.paths.proofs.Counting.{countTo, count-most, count-none, count-more, count-full}
 use Rattle.paths.proofs.Closed.{closed-level}
-use Rattle.paths.proofs.Pushing.{reached, reached-more, reached-new, Link, both-reached}
+use Rattle.paths.proofs.Pushing.{reached, reached-more, Link, both-reached}
 
 -- Streams among places 0 to n, as far as the search needs them.
 pub record Plain (n : ℕ) (ss : List Stream) : Type 0 where
@@ -41,14 +41,15 @@ pub record Plain (n : ℕ) (ss : List Stream) : Type 0 where
   pub few : length ss ≤ maxStreams
   pub light : (k : ℕ) → k < length ss → weightOf (streamAt ss k) ≤ maxWeight
 
--- one stream, prices lowered by no more than it lacks
-held-kept : (a b : Bool) (s : Stream) (x pu pv d g : ℕ) → Held d (weightOf s) x (readingOf s) pu pv → g ≤ pu → g ≤ pv → (a ≡ not b → g ≤ slackBy s a x pu pv d) → Held d (weightOf s) x (readingOf s) (fallen a g pu) (fallen b g pv)
+-- One stream keeps the step condition while prices fall by no more than its slack.
+held-kept : (a b : Bool) (s : Stream) (x pu pv d g : ℕ) → Held d (weightOf s) x (readingOf s) pu pv → g ≤ pu → g ≤ pv → (a ≡ not b → g ≤ slackBy s a x pu pv d)
+    → Held d (weightOf s) x (readingOf s) (fallen a g pu) (fallen b g pv)
 held-kept true true s x pu pv d g h hu hv c = record { low = omega (arith, h .low, h .high); high = omega (arith, h .low, h .high) }
 held-kept true false s x pu pv d g h hu hv c = let k = c refl in record { low = omega (arith, h .low, h .high); high = omega (arith, h .low, h .high) }
 held-kept false true s x pu pv d g h hu hv c = let k = c refl in record { low = omega (arith, h .low, h .high); high = omega (arith, h .low, h .high) }
 held-kept false false s x pu pv d g h hu hv c = h
 
--- slack after both prices fell alike, and after the labelled end's fell by the slack
+-- The slack after both prices fell alike, and after the labelled end's fell by it; how large it is.
 slack-both : (b : Bool) (s : Stream) (x pu pv d g : ℕ) → g ≤ pu → g ≤ pv → slackBy s b x pu pv d ≡ 0 → slackBy s b x (pu - g) (pv - g) d ≡ 0
 slack-both true s x pu pv d g hu hv e = omega arith
 slack-both false s x pu pv d g hu hv e = omega arith
@@ -63,12 +64,12 @@ slack-most : (b : Bool) (s : Stream) (x pu pv d : ℕ) → Held d (weightOf s) x
 slack-most true s x pu pv d h l = let k : weightOf s * d ≤ maxWeight * d = mul-le-mul-right d l in omega (arith, h .low, h .high)
 slack-most false s x pu pv d h l = let k : weightOf s * d ≤ maxWeight * d = mul-le-mul-right d l in omega (arith, h .low, h .high)
 
--- stores past what is read
+-- A store past the places that are looked at.
 reached-set : (root : ℕ) (ends : List ℕ) (m e j v : ℕ) → j ≤ m → reached root (set ends m e) j v ≡ reached root ends j v
 reached-set root ends m e zero v l = refl
 reached-set root ends m e (suc j) v l = rw (getD-set-other ends m j e 0 (λ q. omega arith), reached-set root ends m e j v (omega arith))
 
--- what holds of a tree and prices during a search
+-- What holds of a tree and prices during a search.
 pub record Growing (n : ℕ) (ss : List Stream) (xs : List ℕ) (d root : ℕ) (ps : List ℕ) (t : Tree) : Type 0 where
   pub held : AllHeld ss xs ps d
   pub labels : length (t .labelled) ≡ places
@@ -78,7 +79,7 @@ pub record Growing (n : ℕ) (ss : List Stream) (xs : List ℕ) (d root : ℕ) (
   pub links : (k : ℕ) → k < t .len → Link ss xs ps d root (t .via) (t .ends) k
   pub counted : countTo n (λ v. getD (t .labelled) v false) ≡ suc (t .len)
 
--- the start
+-- The tree of one place.
 pub root-growing : (n : ℕ) (ss : List Stream) (xs ps : List ℕ) (d root : ℕ) → n ≤ maxUnits → root ≤ n → AllHeld ss xs ps d → Growing n ss xs d root ps (rootAt root)
 root-growing n ss xs ps d root small l h = record {
   held = h;
@@ -87,7 +88,10 @@ root-growing n ss xs ps d root small l h = record {
   endings = refl;
   marks = λ v m. get-set (replicate places false) root v true false (omega arith) ∙ go v m (eqb root v);
   links = λ k m. absurd (omega arith);
-  counted = count-more n root (λ v. false) (λ v. getD (set (replicate places false) root true) v false) l refl (getD-set-same (replicate places false) root true false (omega arith)) (λ v q. getD-set-other (replicate places false) root v true false q ∙ none v) ∙ ap suc (count-none n (λ v. false) (λ v m. refl));
+  counted =
+      count-more n root (λ v. false) (λ v. getD (set (replicate places false) root true) v false) l refl
+      (getD-set-same (replicate places false) root true false (omega arith)) (λ v q. getD-set-other (replicate places false) root v true false q ∙ none v)
+      ∙ ap suc (count-none n (λ v. false) (λ v m. refl));
 }
   where
     none-at : (k v : ℕ) → getD (replicate k false) v false ≡ false
@@ -109,15 +113,17 @@ module _ (n : ℕ) (ss : List Stream) (plain : Plain n ss) (xs : List ℕ) (d ro
   to-small : (k : ℕ) → k < length ss → streamAt ss k .to < places
   to-small k l = omega (arith, plain .inside k l .1, plain .small)
 
-  -- prices lowered
+  -- The prices are lowered.
   pub lower-growing : (ps : List ℕ) (t : Tree) (g : ℕ) → Growing n ss xs d root ps t → ((u : ℕ) → u < places → g ≤ getD ps u 0)
       → ((k : ℕ) → k < length ss → startIn ss (t .labelled) k ≡ not (endIn ss (t .labelled) k) → g ≤ slackAt ss xs ps d k (startIn ss (t .labelled) k))
       → Growing n ss xs d root (loweredBy (t .labelled) g ps) t
-  lower-growing ps t g h room lack = record { held = held; labels = h .labels; vias = h .vias; endings = h .endings; marks = h .marks; links = links; counted = h .counted }
+  lower-growing ps t g h room lack =
+      record { held = held; labels = h .labels; vias = h .vias; endings = h .endings; marks = h .marks; links = links; counted = h .counted }
     where
       held : AllHeld ss xs (loweredBy (t .labelled) g ps) d
       held k l = rw (lowered-at (t .labelled) g ps (streamAt ss k .from), lowered-at (t .labelled) g ps (streamAt ss k .to))
-          (held-kept (startIn ss (t .labelled) k) (endIn ss (t .labelled) k) (streamAt ss k) (getD xs k 0) (getD ps (streamAt ss k .from) 0) (getD ps (streamAt ss k .to) 0) d g (h .held k l) (room (streamAt ss k .from) (from-small k l)) (room (streamAt ss k .to) (to-small k l)) (lack k l))
+          (held-kept (startIn ss (t .labelled) k) (endIn ss (t .labelled) k) (streamAt ss k) (getD xs k 0) (getD ps (streamAt ss k .from) 0)
+          (getD ps (streamAt ss k .to) 0) d g (h .held k l) (room (streamAt ss k .from) (from-small k l)) (room (streamAt ss k .to) (to-small k l)) (lack k l))
 
       links : (k : ℕ) → k < t .len → Link ss xs (loweredBy (t .labelled) g ps) d root (t .via) (t .ends) k
       links k l =
@@ -132,11 +138,13 @@ module _ (n : ℕ) (ss : List Stream) (plain : Plain n ss) (xs : List ℕ) (d ro
             joins = m .joins;
             touch = m .touch;
             tight = rw (lowered-at (t .labelled) g ps (streamAt ss i .from), lowered-at (t .labelled) g ps (streamAt ss i .to), bf, bt)
-                (slack-both (eqb (streamAt ss i .to) (getD (t .ends) k 0)) (streamAt ss i) (getD xs i 0) (getD ps (streamAt ss i .from) 0) (getD ps (streamAt ss i .to) 0) d g (room (streamAt ss i .from) (from-small i (m .inside))) (room (streamAt ss i .to) (to-small i (m .inside))) (m .tight));
+                (slack-both (eqb (streamAt ss i .to) (getD (t .ends) k 0)) (streamAt ss i) (getD xs i 0) (getD ps (streamAt ss i .from) 0)
+                (getD ps (streamAt ss i .to) 0) d g (room (streamAt ss i .from) (from-small i (m .inside))) (room (streamAt ss i .to) (to-small i (m .inside)))
+                (m .tight));
             room = m .room;
           }
 
-  -- facts of a stream that leaves
+  -- The ends of a stream that leaves the labelled places.
   far-facts : (ls : List Bool) (s : Stream) → getD ls (s .from) false ≡ not (getD ls (s .to) false)
       → (getD ls (farEnd ls s) false ≡ false) × (eqb (s .to) (farEnd ls s) ≡ getD ls (s .from) false) × (getD ls (otherEnd s (farEnd ls s)) false ≡ true) × (getD ls (s .from) false ≡ false → s .from ≡ farEnd ls s)
   far-facts ls s c = by-cases (getD ls (s .from) false)
@@ -151,8 +159,9 @@ module _ (n : ℕ) (ss : List Stream) (plain : Plain n ss) (xs : List ℕ) (d ro
   pub far-near : (ls : List Bool) (k : ℕ) → k < length ss → farEnd ls (streamAt ss k) ≤ n
   far-near ls k l = by-cases (getD ls (streamAt ss k .from) false) (λ t. rw t (plain .inside k l .1)) (λ t. rw t (plain .inside k l .0))
 
-  -- one place more
-  pub add-growing : (ps : List ℕ) (t : Tree) (i : ℕ) → Growing n ss xs d root ps t → i < length ss → startIn ss (t .labelled) i ≡ not (endIn ss (t .labelled) i) → slackAt ss xs ps d i (startIn ss (t .labelled) i) ≡ 0 → d ≤ getD xs i 0
+  -- One place more is labelled.
+  pub add-growing : (ps : List ℕ) (t : Tree) (i : ℕ) → Growing n ss xs d root ps t → i < length ss → startIn ss (t .labelled) i ≡ not (endIn ss (t .labelled) i)
+      → slackAt ss xs ps d i (startIn ss (t .labelled) i) ≡ 0 → d ≤ getD xs i 0
       → Growing n ss xs d root ps (addedTo t i (farEnd (t .labelled) (streamAt ss i)))
   add-growing ps t i h li c z room = record {
     held = h .held;
@@ -161,7 +170,10 @@ module _ (n : ℕ) (ss : List Stream) (plain : Plain n ss) (xs : List ℕ) (d ro
     endings = length-set (t .ends) (t .len) e ∙ h .endings;
     marks = marks;
     links = links;
-    counted = count-more n e (λ v. getD (t .labelled) v false) (λ v. getD (set (t .labelled) e true) v false) le (f .0) (getD-set-same (t .labelled) e true false small-e) (λ v q. getD-set-other (t .labelled) e v true false q) ∙ ap suc (h .counted) ∙ omega arith;
+    counted =
+        count-more n e (λ v. getD (t .labelled) v false) (λ v. getD (set (t .labelled) e true) v false) le (f .0) (getD-set-same (t .labelled) e true false small-e)
+        (λ v q. getD-set-other (t .labelled) e v true false q)
+        ∙ ap suc (h .counted) ∙ omega arith;
   }
     where
       s : Stream
@@ -180,9 +192,11 @@ module _ (n : ℕ) (ss : List Stream) (plain : Plain n ss) (xs : List ℕ) (d ro
       small-e = rw (h .labels) (omega (arith, le, plain .small))
 
       few : t .len < places
-      few = omega (arith, h .counted, count-more n e (λ v. getD (t .labelled) v false) (λ v. getD (set (t .labelled) e true) v false) le (f .0) (getD-set-same (t .labelled) e true false small-e) (λ v q. getD-set-other (t .labelled) e v true false q), count-most n (λ v. getD (set (t .labelled) e true) v false), plain .small)
+      few =
+          omega
+          (arith, h .counted, count-more n e (λ v. getD (t .labelled) v false) (λ v. getD (set (t .labelled) e true) v false) le (f .0) (getD-set-same (t .labelled) e true false small-e) (λ v q. getD-set-other (t .labelled) e v true false q), count-most n (λ v. getD (set (t .labelled) e true) v false), plain .small)
 
-      -- the new place and stream as stored
+      -- The new place and its stream, as they are stored.
       end-new : getD (set (t .ends) (t .len) e) (t .len) 0 ≡ e
       end-new = getD-set-same (t .ends) (t .len) e 0 (rw (h .endings) few)
 
@@ -199,7 +213,9 @@ module _ (n : ℕ) (ss : List Stream) (plain : Plain n ss) (xs : List ℕ) (d ro
       suc-len = omega arith
 
       marks : (v : ℕ) → v < places → getD (set (t .labelled) e true) v false ≡ reached root (set (t .ends) (t .len) e) (t .len + 1) v
-      marks v l = get-set (t .labelled) e v true false small-e ∙ rw (suc-len, end-new, reached-set root (t .ends) (t .len) e (t .len) v (omega arith), ← h .marks v l) (or-pick (eqb e v) (getD (t .labelled) v false))
+      marks v l =
+          get-set (t .labelled) e v true false small-e
+          ∙ rw (suc-len, end-new, reached-set root (t .ends) (t .len) e (t .len) v (omega arith), ← h .marks v l) (or-pick (eqb e v) (getD (t .labelled) v false))
         where
           or-pick : (a b : Bool) → pick a true b ≡ a || b
           or-pick true b = refl
@@ -234,7 +250,7 @@ module _ (n : ℕ) (ss : List Stream) (plain : Plain n ss) (xs : List ℕ) (d ro
             }
       ]
 
--- what a search leaves
+-- What a search comes to: its last place has a negative net, and no price fell by more than 2 * maxWeight * d in each round.
 pub record Hunt (n : ℕ) (ss : List Stream) (xs es : List ℕ) (d root : ℕ) (ps : List ℕ) (l : ℕ) (g : Grown) : Type 0 where
   pub found : g .found ≡ true
   pub grown : Growing n ss xs d root (g .prices) (g .tree)
@@ -269,9 +285,11 @@ module _ (n : ℕ) (ss : List Stream) (plain : Plain n ss) (xs es : List ℕ) (d
       (λ v l c. ⊎-elim (λ o. omega (arith, none v l c, nets v l)) (λ o. o) (parts (net ss xs v))) root near (root-marked ps t h) in
       omega (arith, excess, ap up e)
 
-  grow-good : (l : ℕ) (ps : List ℕ) (t : Tree) → Growing n ss xs d root ps t → n ≤ l + t .len → ((u : ℕ) → u < places → 2 * maxWeight * d * l ≤ getD ps u 0) → NoneLess t → Hunt n ss xs es d root ps l (grow ss (length ss) xs es d l ps t)
+  grow-good : (l : ℕ) (ps : List ℕ) (t : Tree) → Growing n ss xs d root ps t → n ≤ l + t .len → ((u : ℕ) → u < places → 2 * maxWeight * d * l ≤ getD ps u 0) → NoneLess t
+      → Hunt n ss xs es d root ps l (grow ss (length ss) xs es d l ps t)
   unfolding grow
-  grow-good zero ps t h fuel rich none = absurd (not-closed ps t h none (λ k l. all (streamAt ss k .from) (plain .inside k l .0) ∙ sym (all (streamAt ss k .to) (plain .inside k l .1))))
+  grow-good zero ps t h fuel rich none =
+      absurd (not-closed ps t h none (λ k l. all (streamAt ss k .from) (plain .inside k l .0) ∙ sym (all (streamAt ss k .to) (plain .inside k l .1))))
     where
       all : (v : ℕ) → v ≤ n → getD (t .labelled) v false ≡ true
       all = count-full n (λ v. getD (t .labelled) v false) (omega (arith, h .counted))
@@ -295,7 +313,9 @@ module _ (n : ℕ) (ss : List Stream) (plain : Plain n ss) (xs es : List ℕ) (d
           r = addedTo t i (farEnd (t .labelled) (streamAt ss i))
 
           g-most : g ≤ 2 * maxWeight * d
-          g-most = rw (m .is) (slack-most (startIn ss (t .labelled) i) (streamAt ss i) (getD xs i 0) (getD ps (streamAt ss i .from) 0) (getD ps (streamAt ss i .to) 0) d (h .held i (m .below)) (plain .light i (m .below)))
+          g-most =
+              rw (m .is)
+              (slack-most (startIn ss (t .labelled) i) (streamAt ss i) (getD xs i 0) (getD ps (streamAt ss i .from) 0) (getD ps (streamAt ss i .to) 0) d (h .held i (m .below)) (plain .light i (m .below)))
 
           enough : (u : ℕ) → u < places → g ≤ getD ps u 0
           enough u k = omega (arith, rich u k, g-most)
@@ -305,7 +325,9 @@ module _ (n : ℕ) (ss : List Stream) (plain : Plain n ss) (xs es : List ℕ) (d
 
           gone : slackAt ss xs qs d i (startIn ss (t .labelled) i) ≡ 0
           gone = rw (lowered-at (t .labelled) g ps (streamAt ss i .from), lowered-at (t .labelled) g ps (streamAt ss i .to))
-              (slack-gone (startIn ss (t .labelled) i) (endIn ss (t .labelled) i) (streamAt ss i) (getD xs i 0) (getD ps (streamAt ss i .from) 0) (getD ps (streamAt ss i .to) 0) d g (m .leaves) (enough (streamAt ss i .from) (from-small n ss plain xs d root i (m .below))) (enough (streamAt ss i .to) (to-small n ss plain xs d root i (m .below))) (m .is))
+              (slack-gone (startIn ss (t .labelled) i) (endIn ss (t .labelled) i) (streamAt ss i) (getD xs i 0) (getD ps (streamAt ss i .from) 0)
+              (getD ps (streamAt ss i .to) 0) d g (m .leaves) (enough (streamAt ss i .from) (from-small n ss plain xs d root i (m .below)))
+              (enough (streamAt ss i .to) (to-small n ss plain xs d root i (m .below))) (m .is))
 
           more : Growing n ss xs d root qs r
           more = add-growing n ss plain xs d root qs t i low (m .below) (m .leaves) gone (room i (m .below))

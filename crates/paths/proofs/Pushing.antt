@@ -19,27 +19,30 @@ use Rattle.paths.specs.Slack.{slackBy}
 use Rattle.paths.specs.Push.{movedOf, otherEnd, pushed}
 use Rattle.paths.proofs.Amounts.{net, net-set, get-set}
 
--- the root and the first j new places
+-- The first place and the next j that were labelled.
 abbrev pub reached : ℕ → List ℕ → ℕ → ℕ → Bool
 reached root ends zero v = eqb root v
 reached root ends (suc j) v = eqb (getD ends j 0) v || reached root ends j v
 
 pub reached-more : (root : ℕ) (ends : List ℕ) (j k v : ℕ) → j ≤ k → reached root ends j v ≡ true → reached root ends k v ≡ true
 reached-more root ends j zero v l h = let e : j ≡ 0 = omega arith in rw e at h
-reached-more root ends j (suc k) v l h = elim (ℕ-discrete j (suc k)) [ yes e ↦ rw e at h | no e ↦ or-right (eqb (getD ends k 0) v) (reached root ends k v) (reached-more root ends j k v (omega arith) h) ]
+reached-more root ends j (suc k) v l h =
+    elim (ℕ-discrete j (suc k)) [ yes e ↦ rw e at h | no e ↦ or-right (eqb (getD ends k 0) v) (reached root ends k v) (reached-more root ends j k v (omega arith) h) ]
 
 pub reached-new : (root : ℕ) (ends : List ℕ) (j : ℕ) → reached root ends (suc j) (getD ends j 0) ≡ true
 reached-new root ends j = rw (eq-eqb (getD ends j 0) (getD ends j 0) refl)
 
--- the k-th remembered stream leads from the places before it to a new one, and d more towards it keeps the condition
+-- Remembered stream k leads from the places labelled before it to a new one, has no slack and room for d less.
 pub record Link (ss : List Stream) (xs ps : List ℕ) (d root : ℕ) (via ends : List ℕ) (k : ℕ) : Type 0 where
   pub inside : getD via k 0 < length ss
   pub fresh : reached root ends k (getD ends k 0) ≡ false
   pub joins : reached root ends k (otherEnd (streamAt ss (getD via k 0)) (getD ends k 0)) ≡ true
   pub touch : eqb (streamAt ss (getD via k 0) .to) (getD ends k 0) ≡ false → streamAt ss (getD via k 0) .from ≡ getD ends k 0
-  pub tight : slackBy (streamAt ss (getD via k 0)) (eqb (streamAt ss (getD via k 0) .to) (getD ends k 0)) (getD xs (getD via k 0) 0) (getD ps (streamAt ss (getD via k 0) .from) 0) (getD ps (streamAt ss (getD via k 0) .to) 0) d ≡ 0
+  pub tight : slackBy (streamAt ss (getD via k 0)) (eqb (streamAt ss (getD via k 0) .to) (getD ends k 0)) (getD xs (getD via k 0) 0) (getD ps (streamAt ss (getD via k 0) .from) 0) (getD ps (streamAt ss (getD via k 0) .to) 0) d
+      ≡ 0
   pub room : d ≤ getD xs (getD via k 0) 0
 
+-- What the push of d from c back to the root leaves.
 pub record Pushed (ss : List Stream) (xs ys ps : List ℕ) (d c root : ℕ) (via : List ℕ) (j : ℕ) : Type 0 where
   pub long : length ys ≡ length xs
   pub held : AllHeld ss ys ps d
@@ -48,8 +51,9 @@ pub record Pushed (ss : List Stream) (xs ys ps : List ℕ) (d c root : ℕ) (via
   pub least : (k : ℕ) → getD xs k 0 ≤ getD ys k 0 + d
   pub off : (k : ℕ) → ((i : ℕ) → i < j → getD via i 0 ≡ k → ⊥) → getD ys k 0 ≡ getD xs k 0
 
--- one stream moved
-moved-held : (s : Stream) (x pu pv d c : ℕ) → Held d (weightOf s) x (readingOf s) pu pv → slackBy s (eqb (s .to) c) x pu pv d ≡ 0 → d ≤ x → Held d (weightOf s) (movedOf s x c d) (readingOf s) pu pv
+-- One stream after d is moved along it: the step condition, how far it moves, and the nets.
+moved-held : (s : Stream) (x pu pv d c : ℕ) → Held d (weightOf s) x (readingOf s) pu pv → slackBy s (eqb (s .to) c) x pu pv d ≡ 0 → d ≤ x
+    → Held d (weightOf s) (movedOf s x c d) (readingOf s) pu pv
 moved-held s x pu pv d c h t r = go (eqb (s .to) c) t
   where
     go : (b : Bool) → slackBy s b x pu pv d ≡ 0 → Held d (weightOf s) (pick b (x + d) (x - d)) (readingOf s) pu pv
@@ -79,7 +83,8 @@ back-net true false x d P Q l h = omega arith
 back-net false true x d P Q l h = omega arith
 back-net false false x d P Q l h = omega arith
 
-step-net : (b A F E O : Bool) (x d P Q : ℕ) → d ≤ x → (b ≡ true → E ≡ A) → (b ≡ false → E ≡ F) → O ≡ pick b F A → P + (pick A x 0 + pick F (pick b (x + d) (x - d)) 0) ≡ Q + (pick A (pick b (x + d) (x - d)) 0 + pick F x 0) → P + pick O d 0 ≡ Q + pick E d 0
+step-net : (b A F E O : Bool) (x d P Q : ℕ) → d ≤ x → (b ≡ true → E ≡ A) → (b ≡ false → E ≡ F) → O ≡ pick b F A
+    → P + (pick A x 0 + pick F (pick b (x + d) (x - d)) 0) ≡ Q + (pick A (pick b (x + d) (x - d)) 0 + pick F x 0) → P + pick O d 0 ≡ Q + pick E d 0
 step-net true A F E O x d P Q l p q o h = rw (o, p refl) (forth-net A F x d P Q h)
 step-net false A F E O x d P Q l p q o h = rw (o, q refl) (back-net A F x d P Q l h)
 
@@ -88,14 +93,15 @@ eqb-pick true f t u = refl
 eqb-pick false f t u = refl
 
 module _ (ss : List Stream) (ps : List ℕ) (d root : ℕ) (via ends : List ℕ) where
-  -- both ends of a remembered stream are reached after it
-  pub both-reached : (xs : List ℕ) (k j : ℕ) → k < j → Link ss xs ps d root via ends k → (reached root ends j (streamAt ss (getD via k 0) .from) ≡ true) × (reached root ends j (streamAt ss (getD via k 0) .to) ≡ true)
+  -- Both ends of a remembered stream are labelled after it,
+  pub both-reached : (xs : List ℕ) (k j : ℕ) → k < j → Link ss xs ps d root via ends k
+      → (reached root ends j (streamAt ss (getD via k 0) .from) ≡ true) × (reached root ends j (streamAt ss (getD via k 0) .to) ≡ true)
   both-reached xs k j l h = by-cases (eqb (streamAt ss (getD via k 0) .to) (getD ends k 0))
       (λ t. let q : streamAt ss (getD via k 0) .to ≡ getD ends k 0 = eqb-true (streamAt ss (getD via k 0) .to) (getD ends k 0) t in
       (reached-more root ends k j _ (omega arith) (rw t at (h .joins)), rw q (reached-more root ends (suc k) j (getD ends k 0) l (reached-new root ends k))))
       (λ t. (rw (h .touch t) (reached-more root ends (suc k) j (getD ends k 0) l (reached-new root ends k)), reached-more root ends k j _ (omega arith) (rw t at (h .joins))))
 
-  -- so that it is another one than a later one
+  -- so that it is not one of the later ones.
   pub apart : (xs : List ℕ) (k j : ℕ) → k < j → Link ss xs ps d root via ends k → Link ss xs ps d root via ends j → getD via k 0 ≡ getD via j 0 → ⊥
   apart xs k j l h g e = by-cases (eqb (streamAt ss (getD via j 0) .to) (getD ends j 0))
       (λ t. let q : streamAt ss (getD via j 0) .to ≡ getD ends j 0 = eqb-true (streamAt ss (getD via j 0) .to) (getD ends j 0) t in
@@ -105,9 +111,12 @@ module _ (ss : List Stream) (ps : List ℕ) (d root : ℕ) (via ends : List ℕ)
   link-kept : (xs ys : List ℕ) (k : ℕ) → getD ys (getD via k 0) 0 ≡ getD xs (getD via k 0) 0 → Link ss xs ps d root via ends k → Link ss ys ps d root via ends k
   link-kept xs ys k e h = record { inside = h .inside; fresh = h .fresh; joins = h .joins; touch = h .touch; tight = rw e (h .tight); room = rw e (h .room) }
 
+  -- The law for the first j remembered streams.
   Rec : ℕ → Type 0
-  Rec j = (c : ℕ) (xs : List ℕ) → length ss ≤ length xs → AllHeld ss xs ps d → ((k : ℕ) → k < j → Link ss xs ps d root via ends k) → reached root ends j c ≡ true → Pushed ss xs (pushed ss via ends d j c xs) ps d c root via j
+  Rec j = (c : ℕ) (xs : List ℕ) → length ss ≤ length xs → AllHeld ss xs ps d → ((k : ℕ) → k < j → Link ss xs ps d root via ends k)
+      → reached root ends j c ≡ true → Pushed ss xs (pushed ss via ends d j c xs) ps d c root via j
 
+  -- The last of them leads to the place, or it does not.
   hit : (j : ℕ) → Rec j → (xs : List ℕ) → length ss ≤ length xs → AllHeld ss xs ps d → ((k : ℕ) → k < suc j → Link ss xs ps d root via ends k)
       → Pushed ss xs (pushed ss via ends d j (otherEnd (streamAt ss (getD via j 0)) (getD ends j 0)) (set xs (getD via j 0) (movedOf (streamAt ss (getD via j 0)) (getD xs (getD via j 0) 0) (getD ends j 0) d))) ps d (getD ends j 0) root via (suc j)
   unfolding Rec
@@ -180,14 +189,17 @@ module _ (ss : List Stream) (ps : List ℕ) (d root : ℕ) (via ends : List ℕ)
       nets : (u : ℕ) → up (net ss ys u) + dn (net ss xs u) + pick (eqb root u) d 0 ≡ up (net ss xs u) + dn (net ss ys u) + pick (eqb e u) d 0
       nets u = omega (arith, r .nets u, step u)
 
-  miss : (j : ℕ) → Rec j → (c : ℕ) (xs : List ℕ) → length ss ≤ length xs → AllHeld ss xs ps d → ((k : ℕ) → k < suc j → Link ss xs ps d root via ends k) → reached root ends j c ≡ true → Pushed ss xs (pushed ss via ends d j c xs) ps d c root via (suc j)
+  miss : (j : ℕ) → Rec j → (c : ℕ) (xs : List ℕ) → length ss ≤ length xs → AllHeld ss xs ps d → ((k : ℕ) → k < suc j → Link ss xs ps d root via ends k)
+      → reached root ends j c ≡ true → Pushed ss xs (pushed ss via ends d j c xs) ps d c root via (suc j)
   unfolding Rec
   miss j rec c xs long held links h = let r = rec c xs long held (λ k l. links k (omega arith)) h in
       record { long = r .long; held = r .held; nets = r .nets; most = r .most; least = r .least; off = λ k n. r .off k (λ m l. n m (omega arith)) }
 
-  pub push-good : (j c : ℕ) (xs : List ℕ) → length ss ≤ length xs → AllHeld ss xs ps d → ((k : ℕ) → k < j → Link ss xs ps d root via ends k) → reached root ends j c ≡ true → Pushed ss xs (pushed ss via ends d j c xs) ps d c root via j
+  pub push-good : (j c : ℕ) (xs : List ℕ) → length ss ≤ length xs → AllHeld ss xs ps d → ((k : ℕ) → k < j → Link ss xs ps d root via ends k)
+      → reached root ends j c ≡ true → Pushed ss xs (pushed ss via ends d j c xs) ps d c root via j
   unfolding pushed Rec
-  push-good zero c xs long held links h = record { long = refl; held = held; nets = λ u. let q : root ≡ c = eqb-true root c h in rw q; most = λ k. omega arith; least = λ k. omega arith; off = λ k n. refl }
+  push-good zero c xs long held links h =
+      record { long = refl; held = held; nets = λ u. let q : root ≡ c = eqb-true root c h in rw q; most = λ k. omega arith; least = λ k. omega arith; off = λ k n. refl }
   push-good (suc j) c xs long held links h = go (eqb (getD ends j 0) c) refl (push-good j) h
     where
       go : (b : Bool) → eqb (getD ends j 0) c ≡ b → Rec j → b || reached root ends j c ≡ true

@@ -10,7 +10,6 @@ use lib.ListN.{getD, set, take}
 use lib.Seq.{getD-take}
 use Rattle.plants.specs.declared.Stream.{Stream}
 use Rattle.plants.specs.Plants.{noStream}
-use Rattle.paths.specs.declared.Crossing.{Crossing}
 use Rattle.paths.specs.declared.Crossing.the-variants.{At, Nothing}
 use Rattle.paths.specs.declared.Tree.{Tree}
 use Rattle.paths.specs.Sizes.{netShift}
@@ -103,7 +102,3 @@ module _ (streams : List Stream) (n : ℕ) (via ends : List ℕ) (d : ℕ) where
   unfolding pushed
   push-miss zero c xs p h = absurd (omega arith)
   push-miss (suc j) c xs p h = let e : suc j - 1 ≡ j = omega arith in rw e (simp (ne-eqb (getD ends j 0) c (rw e at h)))
-
-  pub push-end : (c : ℕ) (xs : List ℕ) → pushed (take n streams) via ends d 0 c xs ≡ xs
-  unfolding pushed
-  push-end c xs = refl

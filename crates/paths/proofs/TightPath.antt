@@ -1,6 +1,6 @@
 -- The search over streams without slack: it finds a way to the place, or a set of places that no usable stream leaves without slack.
 use mathlib.Core.Path.{_≡_, refl, sym, _∙_, ap, subst}
-use mathlib.Core.Bool.{Bool, true, false, _&&_, not}
+use mathlib.Core.Bool.{Bool, true, false, not}
 use mathlib.Core.List.{List}
 use Prim.Native.Nat.{ℕ, zero, suc, _+_, _-_, _≤_, _<_}
 use native.Mathlib.Omega.{arith}
@@ -32,12 +32,14 @@ abbrev pub Used : List Stream → ℕ → Tree → Type 0
 Used ss skip t = (k : ℕ) → k < t .len → Usable ss skip (getD (t .via) k 0)
 
 pub data Path (n : ℕ) (ss : List Stream) (xs ps : List ℕ) (root v skip : ℕ) (g : Grown) : Type 0 where
-  way : g .found ≡ true → Growing n ss xs 1 root ps (g .tree) → reached root (g .tree .ends) (g .tree .len) v ≡ true → Used ss skip (g .tree) → Path n ss xs ps root v skip g
+  way : g .found ≡ true → Growing n ss xs 1 root ps (g .tree) → reached root (g .tree .ends) (g .tree .len) v ≡ true → Used ss skip (g .tree)
+      → Path n ss xs ps root v skip g
   shut : g .found ≡ false → (ls : List Bool) → getD ls root false ≡ true → getD ls v false ≡ false
       → ((k : ℕ) → k < length ss → Usable ss skip k → startIn ss ls k ≡ not (endIn ss ls k) → 0 < slackAt ss xs ps 1 k (startIn ss ls k)) → Path n ss xs ps root v skip g
 
 module _ (n : ℕ) (ss : List Stream) (plain : Plain n ss) (xs ps : List ℕ) (root v skip : ℕ) (near : root ≤ n) (vnear : v ≤ n) (room : (k : ℕ) → k < length ss → 1 ≤ getD xs k 0) where
-  pub path-good : (l : ℕ) (t : Tree) → Growing n ss xs 1 root ps t → n ≤ l + t .len → getD (t .labelled) v false ≡ false → Used ss skip t → Path n ss xs ps root v skip (tightPath ss (length ss) xs ps v skip l t)
+  pub path-good : (l : ℕ) (t : Tree) → Growing n ss xs 1 root ps t → n ≤ l + t .len → getD (t .labelled) v false ≡ false → Used ss skip t
+      → Path n ss xs ps root v skip (tightPath ss (length ss) xs ps v skip l t)
   unfolding tightPath
   path-good zero t h fuel off used = clash _ (count-full n (λ u. getD (t .labelled) u false) (omega (arith, h .counted)) v vnear) off
   path-good (suc l) t h fuel off used = go (leastTo ss xs ps (t .labelled) 1 skip (length ss)) (least-good ss xs ps (t .labelled) 1 skip (length ss)) (path-good l)
@@ -48,7 +50,8 @@ module _ (n : ℕ) (ss : List Stream) (plain : Plain n ss) (xs ps : List ℕ) (r
       go : (f : Crossing) → Answers ss xs ps (t .labelled) 1 skip (length ss) f
           → ((r : Tree) → Growing n ss xs 1 root ps r → n ≤ l + r .len → getD (r .labelled) v false ≡ false → Used ss skip r → Path n ss xs ps root v skip (tightPath ss (length ss) xs ps v skip l r))
           → Path n ss xs ps root v skip (onCrossing f (grownBy false t ps) (λ i g. pick (ltb 0 g) (grownBy false t ps)
-          (pick (eqb (farEnd (t .labelled) (streamAt ss i)) v) (grownBy true (addedTo t i (farEnd (t .labelled) (streamAt ss i))) ps) (tightPath ss (length ss) xs ps v skip l (addedTo t i (farEnd (t .labelled) (streamAt ss i)))))))
+          (pick (eqb (farEnd (t .labelled) (streamAt ss i)) v) (grownBy true (addedTo t i (farEnd (t .labelled) (streamAt ss i))) ps)
+          (tightPath ss (length ss) xs ps v skip l (addedTo t i (farEnd (t .labelled) (streamAt ss i)))))))
       go Nothing m rec = shut refl (t .labelled) start off (λ k o u c. opposed (startIn ss (t .labelled) k) (endIn ss (t .labelled) k) (m k o u) c)
       go (At i g) m rec = by-cases (ltb 0 g)
           (λ q. rw q (shut refl (t .labelled) start off (λ k o u c. omega (arith, m .least k o u c, ltb-true 0 g q))))
@@ -72,10 +75,13 @@ module _ (n : ℕ) (ss : List Stream) (plain : Plain n ss) (xs ps : List ℕ) (r
               few = rw (h .endings) (omega (arith, more .counted, count-most n (λ u. getD (r .labelled) u false), plain .small))
 
               top : reached root (r .ends) (r .len) (target r) ≡ true
-              top = let o : r .len ≡ suc (r .len - 1) = omega arith in subst (λ (j : ℕ). reached root (r .ends) j (target r) ≡ true) (sym o) (reached-new root (r .ends) (r .len - 1))
+              top =
+                  let o : r .len ≡ suc (r .len - 1) = omega arith in subst (λ (j : ℕ). reached root (r .ends) j (target r) ≡ true) (sym o) (reached-new root (r .ends) (r .len - 1))
 
               used′ : Used ss skip r
               used′ k o = elim (ℕ-discrete k (t .len)) [
-                | yes z ↦ subst (λ (j : ℕ). Usable ss skip j) (sym (ap (λ (j : ℕ). getD (set (t .via) (t .len) i) j 0) z ∙ getD-set-same (t .via) (t .len) i 0 (rw (h .vias) (omega (arith, few, h .endings))))) (m .usable)
+                | yes z ↦ subst (λ (j : ℕ). Usable ss skip j)
+                    (sym (ap (λ (j : ℕ). getD (set (t .via) (t .len) i) j 0) z ∙ getD-set-same (t .via) (t .len) i 0 (rw (h .vias) (omega (arith, few, h .endings)))))
+                    (m .usable)
                 | no z ↦ subst (λ (j : ℕ). Usable ss skip j) (sym (getD-set-other (t .via) (t .len) k i 0 z)) (used k (omega arith))
               ]

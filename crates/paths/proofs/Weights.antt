@@ -1,16 +1,13 @@
 -- Readings and weights as they are held: what the code's conversions and products come to.
-use mathlib.Core.Path.{_≡_, refl, ap}
-use mathlib.Core.Bool.{Bool, true, false}
+use mathlib.Core.Path.{_≡_, ap}
 use lib.IntN.{ℤ, pos, negsuc, _+ℤ_}
-use lib.Signed.{mag}
-use Prim.Native.Nat.{ℕ, suc, _+_, _*_, _≤_, _<_}
+use Prim.Native.Nat.{ℕ, suc, _+_, _*_, _≤_}
 use native.Mathlib.Nat.{mul-le-mul}
 use native.Mathlib.Omega.{arith}
 use mir.Val.{SFits}
 use mir.Syntax.{w32, w64}
 use borrow.Author.Needs.{sfits-of}
 use borrow.Author.Tests.{le-ltb}
-use Rattle.plants.specs.declared.Stream.{Stream}
 use Rattle.plants.specs.Limits.{maxWeight}
 use Rattle.paths.specs.Sizes.{flowShift, mostFlow, mostPull}
 use Rattle.paths.specs.Held.{shifted}

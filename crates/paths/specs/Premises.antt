@@ -1,12 +1,11 @@
 -- What the parts of the search and of the push require: ranges only.
 use mathlib.Core.Path.{_≡_}
 use mathlib.Core.List.{List}
-use Prim.Native.Nat.{ℕ, zero, suc, _+_, _*_, _≤_, _<_}
-use lib.ListN.{length, getD, take}
+use Prim.Native.Nat.{ℕ, _+_, _*_, _≤_, _<_}
+use lib.ListN.{length, getD}
 use Rattle.plants.specs.declared.Stream.{Stream}
 use Rattle.plants.specs.Limits.{places, maxUnits, maxStreams, maxWeight}
 use Rattle.plants.specs.Plants.{noStream}
-use Rattle.flows.specs.Flows.{streamAt}
 use Rattle.paths.specs.Sizes.{mostFlow, priceShift, mostStep}
 use Rattle.flows.specs.Certificate.{weightOf}
 

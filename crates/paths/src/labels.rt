@@ -9,7 +9,7 @@ use plants::Stream;
 use plants::limits::MAX_STREAMS;
 use plants::limits::PLACES;
 ghost use mathlib.Core.Path.{_≡_};
-ghost use Prim.Native.Nat.{ℕ, _<_};
+ghost use Prim.Native.Nat.{_<_};
 ghost use lib.ListN.{length, take};
 ghost use Rattle.plants.specs.Limits.{places};
 ghost use Rattle.paths.specs.Sizes.{rounds};

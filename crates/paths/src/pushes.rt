@@ -3,18 +3,18 @@ use plants::Stream;
 use plants::limits::MAX_STREAMS;
 use plants::limits::PLACES;
 ghost use mathlib.Core.Path.{_≡_};
-ghost use Prim.Native.Nat.{ℕ, _+_, _≤_};
+ghost use Prim.Native.Nat.{_+_, _≤_};
 ghost use lib.ListN.{take};
 ghost use Rattle.paths.specs.Sizes.{mostFlow, mostStep};
 ghost use Rattle.paths.specs.Push.{movedOf, otherEnd, pushed};
 ghost use Rattle.paths.specs.Premises.{Network, Trail, Roomy};
 
-// The amount of a stream after delta moves along it to the place at.
-fn moved(s: Stream, x: u64, at: u8, delta: u64) -> u64
+// The amount of a stream after delta moves along it to a place.
+fn moved(s: Stream, x: u64, place: u8, delta: u64) -> u64
     requires { ⌜ (delta ≤ x) × (x + delta ≤ mostFlow) ⌝ }
-    ensures { λ r. ⌜ r ≡ movedOf s x at delta ⌝ }
+    ensures { λ r. ⌜ r ≡ movedOf s x place delta ⌝ }
 {
-    if s.to == at { x + delta } else { x - delta }
+    if s.to == place { x + delta } else { x - delta }
 }
 
 fn other_end(s: Stream, at: u8) -> u8

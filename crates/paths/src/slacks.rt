@@ -2,7 +2,7 @@
 use crate::sizes::FLOW_SHIFT;
 use plants::Stream;
 ghost use mathlib.Core.Path.{_≡_};
-ghost use Prim.Native.Nat.{ℕ, _+_, _-_, _*_, _≤_};
+ghost use Prim.Native.Nat.{_+_, _-_, _*_, _≤_};
 ghost use Rattle.paths.specs.Sizes.{mostFlow, mostPull};
 ghost use Rattle.flows.specs.Certificate.{weightOf};
 ghost use Rattle.paths.specs.Held.{readingOf};

@@ -55,12 +55,14 @@ booked-around a hb s hs x hx =
 
 module _ (ss : List Stream) (xs : List ℕ) where
   -- After n streams.
-  pub nets-around : (n : ℕ) → n ≤ maxStreams → ((k : ℕ) → k < n → Placed (streamAt ss k)) → ((k : ℕ) → k < n → getD xs k 0 ≤ mostFlow) → Around (netsTo ss xs n) (2 * mostFlow * n)
+  pub nets-around : (n : ℕ) → n ≤ maxStreams → ((k : ℕ) → k < n → Placed (streamAt ss k)) → ((k : ℕ) → k < n → getD xs k 0 ≤ mostFlow)
+      → Around (netsTo ss xs n) (2 * mostFlow * n)
   unfolding netsTo
   nets-around zero h hs hx = around-start
   nets-around (suc n) h hs hx =
       around-more
-      (booked-around (nets-around n (omega arith) (λ k l. hs k (omega arith)) (λ k l. hx k (omega arith))) (omega arith) (streamAt ss n) (hs n (omega arith)) (getD xs n 0) (hx n (omega arith)))
+      (booked-around (nets-around n (omega arith) (λ k l. hs k (omega arith)) (λ k l. hx k (omega arith))) (omega arith) (streamAt ss n) (hs n (omega arith))
+      (getD xs n 0) (hx n (omega arith)))
       _
       (omega arith)
 

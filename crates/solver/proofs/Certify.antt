@@ -1,6 +1,6 @@
 -- From held numbers to integers: a level flow that meets the step condition is certified by its prices.
-use mathlib.Core.Path.{_≡_, refl, sym, _∙_, ap, ap₂, subst}
-use mathlib.Core.Bool.{Bool, true, false}
+use mathlib.Core.Path.{_≡_, sym, _∙_, ap, ap₂, subst}
+use mathlib.Core.Bool.{true, false}
 use mathlib.Core.List.{List}
 use lib.IntN.{ℤ, pos, negsuc, natAbs, _+ℤ_, _-ℤ_, _*ℤ_, zero-*ℤ}
 use Prim.Native.Nat.{ℕ, suc, _+_, _-_, _*_, _≤_, _<_}
@@ -8,20 +8,18 @@ use native.Mathlib.Omega.{arith}
 use lib.ListN.{length, getD}
 use Rattle.numbers.proofs.Tests.{by-cases}
 use Rattle.plants.specs.declared.Stream.{Stream}
-use Rattle.plants.specs.Limits.{maxUnits, places, maxStreams}
+use Rattle.plants.specs.Limits.{maxUnits, places}
 use Rattle.plants.specs.Plants.{Plant}
-use Rattle.plants.proofs.Limited.{Within}
 use Rattle.flows.specs.Flows.{streamAt, amountAt}
-use Rattle.flows.proofs.Integers.{up, dn, diff, Le, Lt, Z·diff, diff-val, Le-iff, minus-val, same, none-minus}
+use Rattle.flows.proofs.Integers.{diff, Le, Lt, Z·diff, diff-val, Le-iff, minus-val, same, none-minus}
 use Rattle.flows.specs.Certificate.{climb}
 use Rattle.flows.proofs.Nets.{level-balanced}
 use Rattle.flows.specs.Certificate.{lower, upper}
-use Rattle.flows.proofs.Steps.{Step}
 use Rattle.flows.specs.Certificate.{weightOf}
 use Rattle.flows.proofs.Prices.{StepAt, Certificate}
 use Rattle.flows.proofs.Ties.{NoLess, NoMore}
 use Rattle.paths.specs.Sizes.{flowShift, priceShift}
-use Rattle.paths.specs.Held.{shifted, unshifted, opened, readingOf, Held, HeldAt, AllHeld}
+use Rattle.paths.specs.Held.{shifted, unshifted, opened, readingOf, HeldAt, AllHeld}
 use Rattle.paths.proofs.Amounts.{net, unshifted-val, unshifted-is, opened-size, opened-at, net-opened}
 use Rattle.solver.specs.Sizes.{mostReading}
 use Rattle.solver.specs.Promise.{price, priceAt}
@@ -86,15 +84,23 @@ module _ (ss : List Stream) (v : Solvable ss) (ps xs : List ℕ) (long : length 
 
     -- The amount cannot be less, or more, at no cost.
     pub no-less : 2 * (w * X) + pu < pv + 2 * (w * R) + w → NoLess (priceAt ps) s x
-    no-less h = subst (λ (a : ℤ). Lt a (climb (priceAt ps) s)) (sym lower-is) (subst (λ (b : ℤ). Lt (diff (2 * (w * X)) (2 * (w * R) + w)) b) (sym climb-is) (lt-diff _ _ pv pu (omega arith)))
+    no-less h =
+        subst (λ (a : ℤ). Lt a (climb (priceAt ps) s)) (sym lower-is)
+        (subst (λ (b : ℤ). Lt (diff (2 * (w * X)) (2 * (w * R) + w)) b) (sym climb-is) (lt-diff _ _ pv pu (omega arith)))
 
     pub no-more : pv + 2 * (w * R) < 2 * (w * X) + w + pu → NoMore (priceAt ps) s x
-    no-more h = subst (λ (a : ℤ). Lt (climb (priceAt ps) s) a) (sym upper-is) (subst (λ (b : ℤ). Lt b (diff (2 * (w * X) + w) (2 * (w * R)))) (sym climb-is) (lt-diff pv pu _ _ (omega arith)))
+    no-more h =
+        subst (λ (a : ℤ). Lt (climb (priceAt ps) s) a) (sym upper-is)
+        (subst (λ (b : ℤ). Lt b (diff (2 * (w * X) + w) (2 * (w * R)))) (sym climb-is) (lt-diff pv pu _ _ (omega arith)))
 
     step-metered : HeldAt ss xs ps 1 k → StepAt 1 (priceAt ps) s x
     step-metered h = record {
-      low = subst (λ (a : ℤ). Le a (climb (priceAt ps) s)) (sym lower-is) (subst (λ (b : ℤ). Le (diff (2 * (w * X)) (2 * (w * R) + w)) b) (sym climb-is) (Le-iff _ _ pv pu .1 (omega (arith, h .low))));
-      high = subst (λ (a : ℤ). Le (climb (priceAt ps) s) a) (sym upper-is) (subst (λ (b : ℤ). Le b (diff (2 * (w * X) + w) (2 * (w * R)))) (sym climb-is) (Le-iff pv pu _ _ .1 (omega (arith, h .high))));
+      low =
+          subst (λ (a : ℤ). Le a (climb (priceAt ps) s)) (sym lower-is)
+          (subst (λ (b : ℤ). Le (diff (2 * (w * X)) (2 * (w * R) + w)) b) (sym climb-is) (Le-iff _ _ pv pu .1 (omega (arith, h .low))));
+      high =
+          subst (λ (a : ℤ). Le (climb (priceAt ps) s) a) (sym upper-is)
+          (subst (λ (b : ℤ). Le b (diff (2 * (w * X) + w) (2 * (w * R)))) (sym climb-is) (Le-iff pv pu _ _ .1 (omega (arith, h .high))));
     }
 
   step-free : s .metered ≡ false → HeldAt ss xs ps 1 k → StepAt 1 (priceAt ps) s x

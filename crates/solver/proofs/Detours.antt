@@ -1,8 +1,8 @@
 -- One stream of the tie pass: it is left as it is, for a reason, or it has 1 less, which a way of no slack makes up for.
-use mathlib.Core.Path.{_≡_, refl, sym, _∙_, ap, subst}
+use mathlib.Core.Path.{_≡_, _∙_, ap, subst}
 use mathlib.Core.Bool.{Bool, true, false, not}
 use mathlib.Core.List.{List}
-use lib.IntN.{ℤ, pos}
+use lib.IntN.{pos}
 use Prim.Native.Nat.{ℕ, zero, suc, _+_, _-_, _*_, _≤_, _<_}
 use native.Mathlib.Omega.{arith}
 use native.Mathlib.Decide.{ℕ-discrete}
@@ -18,7 +18,7 @@ use Rattle.flows.specs.Flows.{streamAt}
 use Rattle.flows.proofs.Integers.{up, dn, same}
 use Rattle.flows.specs.Certificate.{weightOf}
 use Rattle.paths.specs.declared.Tree.{Tree}
-use Rattle.paths.specs.Sizes.{flowShift, rounds}
+use Rattle.paths.specs.Sizes.{rounds}
 use Rattle.paths.specs.Held.{readingOf, Held, AllHeld}
 use Rattle.paths.specs.Search.{rootAt, Grown, tightPath}
 use Rattle.paths.specs.Push.{pushed}
@@ -27,7 +27,6 @@ use Rattle.paths.proofs.Least.{Usable, slackAt, startIn, endIn}
 use Rattle.paths.proofs.Pushing.{reached, Pushed, push-good}
 use Rattle.paths.proofs.Growing.{Growing, root-growing}
 use Rattle.paths.proofs.TightPath.{Used, Path, way, shut, path-good, not-usable}
-use Rattle.solver.specs.Sizes.{settledRoom}
 use Rattle.solver.specs.Model.{tiedBy, tiedAt, tiesTo}
 use Rattle.solver.specs.Premises.{Even}
 use Rattle.solver.proofs.Nearest.{Solvable}
@@ -163,7 +162,8 @@ module _ (ss : List Stream) (v : Solvable ss) (ps : List ℕ) (i : ℕ) (li : i 
     unfolding ys
     left-some = rw here (some i li)
 
-  by-path : s .metered ≡ true → slackAt ss xs ps 1 i false ≡ 0 → (g : Grown) → Path maxUnits ss xs ps (s .from) (s .to) (suc i) g → Turn ss ps i xs (tiedBy ss xs (s .to) i g)
+  by-path : s .metered ≡ true → slackAt ss xs ps 1 i false ≡ 0 → (g : Grown) → Path maxUnits ss xs ps (s .from) (s .to) (suc i) g
+      → Turn ss ps i xs (tiedBy ss xs (s .to) i g)
   unfolding ys ws
   by-path m none g (way e a r u) = rw e (round m _ (detour m none (g .tree) a r u))
   by-path m none g (shut e ls a b c) = rw e (cut m ls a b c)

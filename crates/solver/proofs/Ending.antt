@@ -1,15 +1,14 @@
 -- From no hint to a hint, and from a hint to the end: everything stays in range, and the improvements at step 1 do not run out.
 use mathlib.Core.Path.{_≡_, refl, sym, _∙_, ap}
-use mathlib.Core.Bool.{Bool, true, false}
 use mathlib.Core.List.{List}
 use mathlib.Core.Logic.{⊎-elim}
 use lib.IntN.{ℤ, pos}
-use Prim.Native.Nat.{ℕ, suc, _+_, _-_, _*_, _/_, _≤_, _<_}
-use native.Mathlib.Nat.{div-add-mod, mul-le-mul-left, mul-le-mul-right}
+use Prim.Native.Nat.{ℕ, _+_, _-_, _*_, _/_, _≤_, _<_}
+use native.Mathlib.Nat.{div-add-mod, mul-le-mul-left}
 use native.Mathlib.Omega.{arith}
 use borrow.Author.Tests.{ltb-false, lt-ltb, le-ltb}
 use lib.Dec.{ltb}
-use lib.ListN.{length, getD, replicate, length-replicate, getD-replicate}
+use lib.ListN.{length, getD, length-replicate, getD-replicate}
 use Rattle.numbers.proofs.Tests.{picked}
 use Rattle.plants.specs.declared.Stream.{Stream}
 use Rattle.plants.specs.Limits.{maxUnits, places, maxStreams}
@@ -18,21 +17,22 @@ use Rattle.flows.proofs.Integers.{up, dn, Le, parts}
 use Rattle.flows.proofs.Reach.{Inside}
 use Rattle.flows.proofs.Sums.{sum, sum-none, sum-tight}
 use Rattle.flows.proofs.Nets.{netOf, nets-sum}
-use Rattle.paths.specs.Sizes.{flowShift, priceShift, netShift, mostStep, pushRoom}
+use Rattle.paths.specs.Sizes.{flowShift, priceShift, netShift, mostStep}
 use Rattle.paths.specs.Held.{unshifted}
 use Rattle.paths.specs.Premises.{Prices}
 use Rattle.paths.proofs.Amounts.{net}
 use Rattle.solver.specs.declared.Hint.{Hint}
 use Rattle.solver.specs.declared.State.{State}
-use Rattle.solver.specs.Sizes.{mostReading, spread, stepFall, hintBudget, hintFloor, hintRoom, leftoverLimit, fuel, settledRoom}
+use Rattle.solver.specs.Sizes.{mostReading, spread, stepFall, hintBudget, hintFloor, hintRoom, leftoverLimit, fuel}
 use Rattle.solver.specs.Model.{settled, improvements, overSum, noHint, asHint, begun, finished}
-use Rattle.solver.specs.Premises.{Close, Start, Hinted, Ready, Sound, Allows, Even}
+use Rattle.solver.specs.Premises.{Start, Hinted, Ready, Sound, Allows, Even}
 use Rattle.solver.proofs.Booking.{net-most}
 use Rattle.solver.proofs.Steady.{over-most, nets-val, sound-more, After, improvements-good}
 use Rattle.solver.proofs.Nearest.{Solvable, held-more, held-agreed, settled-sound}
 
 -- A wider range.
-pub start-more : (ss : List Stream) (low b low′ b′ : ℕ) (h : Hint) → Start ss low b h → low′ ≤ low → priceShift ≤ low′ + spread → mostReading + priceShift ≤ b′ + low′ → b ≤ b′ → b′ ≤ flowShift → Start ss low′ b′ h
+pub start-more : (ss : List Stream) (low b low′ b′ : ℕ) (h : Hint) → Start ss low b h → low′ ≤ low → priceShift ≤ low′ + spread → mostReading + priceShift ≤ b′ + low′
+    → b ≤ b′ → b′ ≤ flowShift → Start ss low′ b′ h
 start-more ss low b low′ b′ h s p q r t u = record {
   agree = s .agree;
   rich = λ v l. omega (arith, s .rich v l);
@@ -72,7 +72,8 @@ module _ (ss : List Stream) (v : Solvable ss) where
   -- Amounts as read leave at most fuel over.
   none-over : overSum (settled ss noHint .nets) ≤ fuel
   none-over =
-      omega (arith, over-most (settled ss noHint .nets) (mostReading * maxStreams) (λ u l. most u (rw (s .netted) at l)), ap (λ (j : ℕ). j * (mostReading * maxStreams)) (s .netted))
+      omega
+      (arith, over-most (settled ss noHint .nets) (mostReading * maxStreams) (λ u l. most u (rw (s .netted) at l)), ap (λ (j : ℕ). j * (mostReading * maxStreams)) (s .netted))
     where
       s : Sound ss 1 priceShift mostReading (settled ss noHint)
       s = settled-sound ss v noHint priceShift mostReading none-start
@@ -139,7 +140,9 @@ module _ (ss : List Stream) (v : Solvable ss) where
         r = improvements hintBudget ss d (settled ss h)
 
         a : After ss d (hintFloor + stepFall * (hintBudget * d)) (hintRoom - hintBudget * (2 * d)) hintBudget (settled ss h) (improvements hintBudget ss d (settled ss h))
-        a = improvements-good ss (v .plain) d l1 (hintFloor + stepFall * (hintBudget * d)) hintBudget (hintRoom - hintBudget * (2 * d)) (settled ss h) (omega arith) stage-sound
+        a =
+            improvements-good ss (v .plain) d l1 (hintFloor + stepFall * (hintBudget * d)) hintBudget (hintRoom - hintBudget * (2 * d)) (settled ss h)
+            (omega arith) stage-sound
 
         half : 2 * (d / 2) ≤ d
         half = omega (arith, div-add-mod d 2)
@@ -190,7 +193,8 @@ module _ (ss : List Stream) (v : Solvable ss) (h : Hint) (s : Hinted ss h) where
       none u l =
           let a = nets-val ss 1 0 (hintRoom + 1 * fuel) (finished ss h) (after .sound) u (omega arith) in
           let b = after .level (begun-good .enough) u (omega arith) in
-          ⊎-elim (λ (o : up (net ss (finished ss h .flows) u) ≡ 0). o) (λ (o : dn (net ss (finished ss h .flows) u) ≡ 0). omega (arith, a, b)) (parts (net ss (finished ss h .flows) u))
+          ⊎-elim (λ (o : up (net ss (finished ss h .flows) u) ≡ 0). o) (λ (o : dn (net ss (finished ss h .flows) u) ≡ 0). omega (arith, a, b))
+          (parts (net ss (finished ss h .flows) u))
 
   pub finished-prices : Prices (finished ss h .prices)
   finished-prices = after .sound .poor

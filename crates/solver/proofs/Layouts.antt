@@ -1,19 +1,16 @@
 -- The array of streams as a list of streams in use, and what settling it needs.
-use mathlib.Core.Path.{_≡_, refl, sym, _∙_, ap, subst}
+use mathlib.Core.Path.{_≡_, sym, subst}
 use mathlib.Core.Bool.{true}
 use mathlib.Core.List.{List}
-use Prim.Native.Nat.{ℕ, _+_, _*_, _≤_, _<_}
+use Prim.Native.Nat.{ℕ, _≤_, _<_}
 use native.Mathlib.Omega.{arith}
 use lib.IntN.{natAbs}
 use lib.ListN.{length, getD, take}
 use Rattle.plants.specs.declared.Stream.{Stream}
-use Rattle.plants.specs.Limits.{places}
 use Rattle.plants.specs.Plants.{noStream}
-use Rattle.flows.specs.Certificate.{weightOf}
 use Rattle.paths.specs.Sizes.{mostFlow}
 use Rattle.solver.specs.declared.Hint.{Hint}
-use Rattle.solver.specs.declared.State.{State}
-use Rattle.solver.specs.Sizes.{mostReading, spread, netRoom}
+use Rattle.solver.specs.Sizes.{mostReading, netRoom}
 use Rattle.solver.specs.Model.{settledTo, netsTo, settled}
 use Rattle.solver.specs.Premises.{Layout, Level, Settles, Amounts, Around, Ready}
 use Rattle.solver.proofs.Nearest.{Solvable, placed-of, weight-some, prices-near, settled-sound}

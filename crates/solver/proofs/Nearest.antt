@@ -1,7 +1,7 @@
 -- Settled amounts: the step condition holds at 1, whatever the prices, and amounts and nets are in range.
 use mathlib.Core.Path.{_≡_, refl, sym, _∙_, ap, subst}
 use mathlib.Core.Bool.{Bool, true, false}
-use mathlib.Core.List.{List, [], _∷_}
+use mathlib.Core.List.{List}
 use lib.IntN.{ℤ, pos, negsuc, natAbs}
 use Prim.Native.Nat.{ℕ, zero, suc, _+_, _-_, _*_, _/_, _%_, _≤_, _<_}
 use native.Mathlib.Nat.{mul-le-mul-left, mul-le-mul-right, div-add-mod, mod-lt}
@@ -15,7 +15,7 @@ use Rattle.plants.specs.Limits.{maxUnits, places, maxStreams}
 use Rattle.plants.specs.Plants.{noStream}
 use Rattle.flows.specs.Flows.{streamAt}
 use Rattle.flows.specs.Certificate.{weightOf}
-use Rattle.paths.specs.Sizes.{flowShift, mostFlow, priceShift, netShift}
+use Rattle.paths.specs.Sizes.{mostFlow, priceShift}
 use Rattle.paths.specs.Held.{shifted, readingOf, Held, HeldAt, AllHeld}
 use Rattle.paths.specs.Premises.{Placed}
 use Rattle.paths.proofs.Amounts.{net}
@@ -176,8 +176,10 @@ module _ (ss : List Stream) (v : Solvable ss) (h : Hint) (low b : ℕ) (s : Star
       go true e =
           let r = reading-close (streamAt ss k .reading) (v .in-range k l e) in
           let hw : 1 ≤ weightOf (streamAt ss k) = rw (weight-some (streamAt ss k) e) (v .weighed k l e) in
-          let a = settled-held (streamAt ss k) pu pv hw (omega (arith, prices-near _ _ lu lv, s .near)) (omega (arith, r .1)) in
-          (a, (omega (arith, near-up w X R pu pv (priceShift - low) hw (prices-near _ _ lv lu) a, r .0, s .fits, s .rich _ lu, s .poor _ lu), omega (arith, near-down w X R pu pv (priceShift - low) hw (prices-near _ _ lu lv) a, r .1, s .fits, s .rich _ lu, s .poor _ lu)))
+          let a = settled-held (streamAt ss k) pu pv hw (omega (arith, prices-near _ _ lu lv, s .near)) (omega (arith, r .1)) in (
+            a,
+            (omega (arith, near-up w X R pu pv (priceShift - low) hw (prices-near _ _ lv lu) a, r .0, s .fits, s .rich _ lu, s .poor _ lu), omega (arith, near-down w X R pu pv (priceShift - low) hw (prices-near _ _ lu lv) a, r .1, s .fits, s .rich _ lu, s .poor _ lu)),
+          )
       go false e =
           (agree-held 1 w (getD (h .flows) k 0) R pu pv (weight-none (streamAt ss k) e) (s .agree k l e), s .loose k (omega (arith, v .plain .few)) e)
 

@@ -14,9 +14,8 @@ use lib.Seq.{getD-set-other}
 use Rattle.numbers.specs.Choice.{pick}
 use Rattle.numbers.proofs.Tests.{by-cases}
 use Rattle.plants.specs.declared.Stream.{Stream}
-use Rattle.plants.specs.Limits.{maxUnits, places, maxStreams}
+use Rattle.plants.specs.Limits.{maxUnits, places}
 use Rattle.flows.proofs.Integers.{up, dn, parts, same, minus-val}
-use Rattle.paths.specs.declared.Tree.{Tree}
 use Rattle.paths.specs.Sizes.{flowShift, netShift, rounds}
 use Rattle.paths.specs.Search.{rootAt, target, Grown, grow}
 use Rattle.paths.specs.Push.{pushed}
@@ -29,7 +28,7 @@ use Rattle.solver.specs.Sizes.{stepFall}
 use Rattle.solver.specs.Model.{firstOver, shiftedNets, pushedOn, improvedAt, improved, improvements, overSum}
 use Rattle.solver.specs.Premises.{Sound}
 
--- the first place over
+-- The first place with a net of d or more.
 pub record First (es : List ℕ) (d s : ℕ) : Type 0 where
   pub upto : s ≤ length es
   pub over : s < length es → netShift + d ≤ getD es s 0
@@ -48,7 +47,7 @@ first-over (e ∷ es) d = go (leb (netShift + d) e) refl (first-over es d)
         before zero l = leb-false (netShift + d) e q
         before (suc u) l = r .before u (omega arith)
 
--- the summed positive net
+-- The summed positive net: after a store, above each net, and at most so much a place.
 pub over-set : (es : List ℕ) (i y : ℕ) → i < length es → overSum (set es i y) + (getD es i 0 - netShift) ≡ overSum es + (y - netShift)
 unfolding overSum
 over-set [] i y l = absurd (omega arith)
@@ -66,7 +65,7 @@ unfolding overSum
 over-most [] b h = omega arith
 over-most (e ∷ es) b h = omega (arith, h 0 (omega arith), over-most es b (λ u l. h (suc u) (omega arith)))
 
--- the nets after d moves from s to v
+-- The nets after d moves from s to v.
 module _ (es : List ℕ) (s v d : ℕ) (ls : s < length es) (lv : v < length es) (ne : s ≡ v → ⊥) (rich : netShift + d ≤ getD es s 0) (poor : getD es v 0 < netShift) where
   fs : List ℕ
   fs = set es s (getD es s 0 - d)
@@ -128,7 +127,8 @@ module _ (ss : List Stream) (plain : Plain maxUnits ss) (d : ℕ) (l1 : 1 ≤ d)
       → Hunt maxUnits ss (st .flows) (st .nets) d s (st .prices) rounds (grow ss (length ss) (st .flows) (st .nets) d rounds (st .prices) (rootAt s))
   finds s ls over =
       hunt maxUnits ss plain (st .flows) (st .nets) d s (omega arith)
-      (⊎-elim (λ (o : up (net ss (st .flows) s) ≡ 0). omega (arith, values s ls)) (λ (o : dn (net ss (st .flows) s) ≡ 0). omega (arith, values s ls)) (parts (net ss (st .flows) s)))
+      (⊎-elim (λ (o : up (net ss (st .flows) s) ≡ 0). omega (arith, values s ls)) (λ (o : dn (net ss (st .flows) s) ≡ 0). omega (arith, values s ls))
+      (parts (net ss (st .flows) s)))
       (λ k l. omega (arith, h .close k (omega (arith, plain .few)) .1))
       (λ u l. values u (omega arith))
       (st .prices)
@@ -176,7 +176,9 @@ module _ (ss : List Stream) (plain : Plain maxUnits ss) (d : ℕ) (l1 : 1 ≤ d)
           subst (λ (j : ℕ). reached s (g .tree .ends) j v ≡ true) (sym q) (reached-new s (g .tree .ends) (g .tree .len - 1))
 
       p : Pushed ss (st .flows) (pushed ss (g .tree .via) (g .tree .ends) d (g .tree .len) v (st .flows)) (g .prices) d v s (g .tree .via) (g .tree .len)
-      p = push-good ss (g .prices) d s (g .tree .via) (g .tree .ends) (g .tree .len) v (st .flows) (omega (arith, h .long, plain .few)) (r .grown .held) (r .grown .links) reach
+      p =
+          push-good ss (g .prices) d s (g .tree .via) (g .tree .ends) (g .tree .len) v (st .flows) (omega (arith, h .long, plain .few)) (r .grown .held)
+          (r .grown .links) reach
 
   at-good : (s : ℕ) → s < places → netShift + d ≤ getD (st .nets) s 0 → Outcome ss d low b st (improvedAt ss st d s)
   at-good s ls over =

@@ -1,15 +1,14 @@
 -- The solver is right: of every plant that is read, from any hint, the flow is the cheapest and its prices certify it.
 use mathlib.Core.Path.{_≡_, refl, sym, _∙_, ap, ap₂, subst}
 use mathlib.Core.Bool.{Bool, true, false}
-use mathlib.Core.List.{List, [], _∷_}
-use lib.IntN.{ℤ}
-use Prim.Native.Nat.{ℕ, zero, suc, _+_, _≤_, _<_}
+use mathlib.Core.List.{List}
+use Prim.Native.Nat.{ℕ, _≤_, _<_}
 use native.Mathlib.Omega.{arith}
-use lib.ListN.{length, getD, take}
+use lib.ListN.{length, getD}
 use Rattle.numbers.specs.Choice.{pick}
 use Rattle.plants.specs.declared.Stream.{Stream}
 use Rattle.plants.specs.declared.Plant as Arrays
-use Rattle.plants.specs.Limits.{maxUnits, maxStreams, maxWeight}
+use Rattle.plants.specs.Limits.{maxWeight}
 use Rattle.plants.specs.Plants.{Plant, noStream}
 use Rattle.plants.specs.Files.{got, readPlant}
 use Rattle.plants.specs.Says.{arrayed, plantOf}
@@ -17,15 +16,14 @@ use Rattle.plants.proofs.Limited.{WithinStream, Within, within}
 use Rattle.plants.proofs.Accepted.{accepted}
 use Rattle.flows.specs.Flows.{streamAt, amountAt, Cheapest}
 use Rattle.flows.proofs.Fits.{fit-length, fit-at, read-fits}
-use Rattle.flows.proofs.Prices.{Steps}
+use Rattle.flows.proofs.Prices.{Steps, Certificate}
 use Rattle.paths.specs.Held.{opened}
 use Rattle.solver.specs.declared.Hint.{Hint}
 use Rattle.solver.specs.declared.Solved.{Solved}
-use Rattle.solver.specs.Model.{tiesTo, finished, solvedFrom}
+use Rattle.solver.specs.Model.{noHint, tiesTo, finished, solvedFrom}
 use Rattle.solver.specs.Premises.{Layout, Hinted, Even}
 use Rattle.solver.specs.Promise.{Accepted, price, priceAt, Right}
 use Rattle.solver.proofs.Nearest.{Solvable, held-agreed}
-use Rattle.solver.proofs.Layouts.{used, solvable-of}
 use Rattle.solver.proofs.Ending.{none-hinted, finished-even, finished-prices, finished-priced}
 use Rattle.solver.proofs.Tying.{ended, tied-sure, tied-cheapest}
 
@@ -43,7 +41,8 @@ layout-of p a = record {
   network = record {
     long = a .fit .long;
     few = a .fit .few-streams;
-    placed = λ k l. let e = each k l in record { from-in = omega (arith, e .from-in, a .within .few-units); to-in = omega (arith, e .to-in, a .within .few-units); light = light (p .units) (getD (p .streams) k noStream) e };
+    placed =
+        λ k l. let e = each k l in record { from-in = omega (arith, e .from-in, a .within .few-units); to-in = omega (arith, e .to-in, a .within .few-units); light = light (p .units) (getD (p .streams) k noStream) e };
   };
   weighed = λ k l. each k l .weighed;
   in-range = λ k l m. omega (arith, each k l .in-range m);
@@ -55,45 +54,76 @@ layout-of p a = record {
         subst (WithinStream (p .units)) (fit-at p (a .fit) k l)
         (a .within .each k (rw (fit-length p (a .fit)) l))
 
-module _ (p : Arrays.Plant) (a : Accepted p) (h : Hint) (s : Hinted (plantOf p .streams) h) where
+-- So has the list of a plant within its limits.
+pub solvable-in : (q : Plant) → Within q → Solvable (q .streams)
+solvable-in q w = record {
+  plain = record {
+    inside = λ k l. (omega (arith, w .each k l .from-in, w .few-units), omega (arith, w .each k l .to-in, w .few-units));
+    small = omega arith;
+    few = w .few-streams;
+    light = λ k l. light (q .units) (streamAt (q .streams) k) (w .each k l);
+  };
+  weighed = λ k l. w .each k l .weighed;
+  in-range = λ k l m. omega (arith, w .each k l .in-range m);
+  apart = λ k l. w .each k l .apart;
+}
+
+-- No hint is a hint for every plant.
+pub unhinted : (q : Plant) → Within q → Hinted (q .streams) noHint
+unhinted q w = none-hinted (q .streams) (solvable-in q w)
+
+-- The definitions give the cheapest flow, from any hint.
+module _ (q : Plant) (w : Within q) (h : Hint) (s : Hinted (q .streams) h) where
   abbrev ss : List Stream
-  ss = plantOf p .streams
+  ss = q .streams
 
-  count-is : length (plantOf p .streams) ≡ p .count
-  count-is = used (p .streams) (p .count) (layout-of p a)
-
-  v : Solvable (plantOf p .streams)
-  v = solvable-of (p .streams) (p .count) (layout-of p a)
-
-  even : Even ss (finished ss h .prices) 0 (finished ss h .flows)
-  even = finished-even ss v h s
+  abbrev ps : List ℕ
+  ps = finished ss h .prices
 
   abbrev ys : List ℕ
-  ys = tiesTo ss (finished ss h .prices) (length ss) (finished ss h .flows)
+  ys = tiesTo ss ps (length ss) (finished ss h .flows)
 
-  -- From any hint.
+  even : Even ss ps 0 (finished ss h .flows)
+  even = finished-even ss (solvable-in q w) h s
+
+  pub solved-cheapest : Cheapest q (opened (length (q .streams)) (solvedFrom (q .streams) h .flows))
+  unfolding solvedFrom
+  solved-cheapest = tied-cheapest q w (solvable-in q w) ps (finished ss h .flows) even
+
+  solved-sure : Certificate q (opened (length ss) ys) (priceAt ps)
+  solved-sure = tied-sure q w (solvable-in q w) ps (finished ss h .flows) even
+
+  last : Even ss ps (length ss) ys
+  last = ended q w (solvable-in q w) ps (finished ss h .flows) even
+
+-- Of a plant in an array.
+module _ (p : Arrays.Plant) (a : Accepted p) (h : Hint) (s : Hinted (plantOf p .streams) h) where
+  abbrev q : Plant
+  q = plantOf p
+
   pub solved-right : Right p (solvedFrom (plantOf p .streams) h)
   unfolding solvedFrom
   solved-right = record {
-    cheapest = subst (λ (n : ℕ). Cheapest (plantOf p) (opened n ys)) count-is (tied-cheapest (plantOf p) (a .within) v (finished ss h .prices) (finished ss h .flows) even);
-    steps = subst (λ (n : ℕ). Steps 1 (priceAt (finished ss h .prices)) ss (amountAt (opened n ys))) count-is (tied-sure (plantOf p) (a .within) v (finished ss h .prices) (finished ss h .flows) even .steps);
-    agree = λ k l m. ap price (held-agreed ss ys (finished ss h .prices) 1 (last .held) k l m);
-    bound = finished-prices ss v h s;
-    close = λ k l. (omega (arith, last .close k l .0, v .plain .few), omega (arith, last .close k l .1, v .plain .few));
-    long = last .long;
-    priced = finished-priced ss v h s;
+    cheapest = subst (λ (n : ℕ). Cheapest q (opened n (ys q w h s))) (fit-length p (a .fit)) (solved-cheapest q w h s);
+    steps = subst (λ (n : ℕ). Steps 1 (priceAt (ps q w h s)) (q .streams) (amountAt (opened n (ys q w h s)))) (fit-length p (a .fit)) (solved-sure q w h s .steps);
+    agree = λ k l m. ap price (held-agreed (q .streams) (ys q w h s) (ps q w h s) 1 (last q w h s .held) k l m);
+    bound = finished-prices (q .streams) (solvable-in q w) h s;
+    close = λ k l. (omega (arith, last q w h s .close k l .0, w .few-streams), omega (arith, last q w h s .close k l .1, w .few-streams));
+    long = last q w h s .long;
+    priced = finished-priced (q .streams) (solvable-in q w) h s;
   }
     where
-      last : Even ss (finished ss h .prices) (length ss) ys
-      last = ended (plantOf p) (a .within) v (finished ss h .prices) (finished ss h .flows) even
+      w : Within (plantOf p)
+      w = a .within
 
-  pub solved-is : (flows prices : List ℕ) → prices ≡ finished ss h .prices → flows ≡ tiesTo ss prices (p .count) (finished ss h .flows)
+  pub solved-is : (flows prices : List ℕ) → prices ≡ finished (q .streams) h .prices → flows ≡ tiesTo (q .streams) prices (p .count) (finished (q .streams) h .flows)
       → record { flows = flows; prices = prices } ≡ solvedFrom (plantOf p .streams) h
   unfolding solvedFrom
-  solved-is flows prices q e = ap₂ made (e ∙ ap₂ (λ (ps : List ℕ) (n : ℕ). tiesTo ss ps n (finished ss h .flows)) q (sym count-is)) q
+  solved-is flows prices o e =
+      ap₂ made (e ∙ ap₂ (λ (rs : List ℕ) (n : ℕ). tiesTo (q .streams) rs n (finished (q .streams) h .flows)) o (sym (fit-length p (a .fit)))) o
     where
       made : List ℕ → List ℕ → Solved
-      made fs ps = record { flows = fs; prices = ps }
+      made fs rs = record { flows = fs; prices = rs }
 
 -- A plant that is read is accepted, as the reader hands it over.
 pub read-accepted : (file : List ℕ) (q : Plant) → readPlant file ≡ got q → Accepted (arrayed q)

@@ -2,7 +2,7 @@
 use mathlib.Core.Path.{_≡_, refl, sym, _∙_, ap, subst}
 use mathlib.Core.Bool.{Bool, true, false}
 use mathlib.Core.List.{List}
-use Prim.Native.Nat.{ℕ, suc, _+_, _-_, _*_, _≤_, _<_}
+use Prim.Native.Nat.{ℕ, suc, _+_, _-_, _≤_, _<_}
 use native.Mathlib.Numerals.{add-one}
 use native.Mathlib.Omega.{arith}
 use borrow.Author.Tests.{lt-ltb, le-ltb}
@@ -11,18 +11,17 @@ use lib.ListN.{length, getD, set, take}
 use Rattle.numbers.specs.Choice.{pick}
 use Rattle.numbers.proofs.Tests.{clash}
 use Rattle.plants.specs.declared.Stream.{Stream}
-use Rattle.plants.specs.Limits.{maxUnits, places, maxStreams}
+use Rattle.plants.specs.Limits.{maxUnits}
 use Rattle.plants.specs.Plants.{noStream}
 use Rattle.flows.specs.Flows.{streamAt}
 use Rattle.paths.specs.declared.Tree.{Tree}
-use Rattle.paths.specs.Sizes.{flowShift, mostFlow, mostStep, rounds}
+use Rattle.paths.specs.Sizes.{rounds}
 use Rattle.paths.specs.Slack.{slackBy}
 use Rattle.paths.specs.Search.{rootAt, Grown, tightPath}
 use Rattle.paths.specs.Push.{pushed}
 use Rattle.paths.specs.Premises.{Trail, Roomy}
 use Rattle.paths.proofs.Counting.{count-most}
 use Rattle.paths.proofs.TightPath.{Path, way, shut}
-use Rattle.solver.specs.Sizes.{settledRoom}
 use Rattle.solver.specs.Model.{tiedBy, tiedAt, tiesTo}
 use Rattle.solver.specs.Premises.{Layout, Even}
 use Rattle.solver.proofs.Turns.{stream-is}
@@ -100,7 +99,8 @@ module _ (streams : List Stream) (n : ℕ) (w : Layout streams n) (ps : List ℕ
           }
 
 -- The pass.
-pub tying-even : (streams : List Stream) (n : ℕ) (w : Layout streams n) (ps xs : List ℕ) → Even (take n streams) ps 0 xs → (i : ℕ) → i ≤ n → Even (take n streams) ps i (tiesTo (take n streams) ps i xs)
+pub tying-even : (streams : List Stream) (n : ℕ) (w : Layout streams n) (ps xs : List ℕ) → Even (take n streams) ps 0 xs → (i : ℕ) → i ≤ n
+    → Even (take n streams) ps i (tiesTo (take n streams) ps i xs)
 tying-even streams n w ps xs h i l = ties-even (take n streams) (solvable-of streams n w) ps xs h i (rw (used streams n w) l)
 
 pub ties-next : (ss : List Stream) (ps xs : List ℕ) (i : ℕ) → tiesTo ss ps (i + 1) xs ≡ tiedAt ss ps i (tiesTo ss ps i xs)

@@ -8,19 +8,17 @@ use native.Mathlib.Numerals.{add-one}
 use native.Mathlib.Omega.{arith}
 use native.Mathlib.Decide.{decLe, ℕ-discrete}
 use borrow.Author.Tests.{eq-eqb, ne-eqb}
-use lib.Dec.{eqb}
 use lib.ListN.{length, getD, set, take, replicate}
 use lib.Seq.{getD-set-same, getD-set-other, getD-take, length-take-le}
 use Rattle.numbers.specs.Choice.{pick}
 use Rattle.numbers.proofs.Tests.{clash}
 use Rattle.plants.specs.declared.Stream.{Stream}
-use Rattle.plants.specs.Limits.{maxUnits, places, maxStreams, maxWeight}
+use Rattle.plants.specs.Limits.{maxUnits, places}
 use Rattle.plants.specs.Plants.{noStream}
 use Rattle.flows.specs.Flows.{streamAt}
 use Rattle.flows.proofs.Integers.{up, dn}
 use Rattle.paths.specs.declared.Tree.{Tree}
-use Rattle.paths.specs.Sizes.{flowShift, mostFlow, netShift, mostStep, rounds, pushRoom}
-use Rattle.flows.specs.Certificate.{weightOf}
+use Rattle.paths.specs.Sizes.{netShift, mostStep, rounds}
 use Rattle.paths.specs.Search.{rootAt, target, Grown, grownBy, grow}
 use Rattle.paths.specs.Premises.{Placed, Network, Trail, Roomy}
 use Rattle.paths.proofs.Amounts.{net}
@@ -28,9 +26,9 @@ use Rattle.paths.proofs.Counting.{count-most}
 use Rattle.paths.proofs.Growing.{Plain, Hunt}
 use Rattle.solver.specs.declared.State.{State}
 use Rattle.solver.specs.declared.Improved.{Improved}
-use Rattle.solver.specs.Sizes.{netRoom, stepFall}
+use Rattle.solver.specs.Sizes.{stepFall}
 use Rattle.solver.specs.Model.{settledOf, settledTo, booked, netsTo, firstOver, pushedOn, improved, improvements, overSum}
-use Rattle.solver.specs.Premises.{Sound, Allows, Shiftable}
+use Rattle.solver.specs.Premises.{Allows, Shiftable}
 use Rattle.solver.proofs.Booking.{net-most}
 use Rattle.solver.proofs.Steady.{First, first-over, nets-val, sound-more, Outcome, none-over, better, finds, improved-good}
 
@@ -141,12 +139,14 @@ moving streams n st s d found t ps w l1 l2 h e z q = record {
 
     m : Hunt maxUnits (take n streams) (st .flows) (st .nets) d s (st .prices) rounds (grownBy found t ps)
     m = rw q (rw c at (finds (take n streams) (plain-of streams n w) d l1 0 (h .size) st
-        (sound-more (take n streams) d (stepFall * d * 1) (h .size) st (h .sound) (0 + stepFall * d) (h .size) (omega arith) (omega arith)) (omega (arith, h .fits)) s small over))
+        (sound-more (take n streams) d (stepFall * d * 1) (h .size) st (h .sound) (0 + stepFall * d) (h .size) (omega arith) (omega arith)) (omega
+        (arith, h .fits)) s small over))
 
     short : t .len < places
     short = omega (arith, m .grown .counted, count-most maxUnits (λ v. getD (t .labelled) v false))
 
-    most : (u : ℕ) → (up (net (take n streams) (st .flows) u) ≤ h .size * length (take n streams)) × (dn (net (take n streams) (st .flows) u) ≤ h .size * length (take n streams))
+    most : (u : ℕ)
+        → (up (net (take n streams) (st .flows) u) ≤ h .size * length (take n streams)) × (dn (net (take n streams) (st .flows) u) ≤ h .size * length (take n streams))
     most = net-most (take n streams) (st .flows) (h .size) (λ k l. h .sound .close k (omega (arith, c, w .few)))
 
     few : h .size * length (take n streams) ≤ netShift
@@ -158,7 +158,8 @@ allows-less ss d k j st l h =
     let m = mul-le-mul-left d l in
     record { size = h .size; sound = sound-more ss d (stepFall * d * k) (h .size) st (h .sound) (stepFall * d * j) (h .size) (omega (arith, m)) (omega arith); fits = omega (arith, h .fits, m) }
 
-allows-step : (ss : List Stream) → Plain maxUnits ss → (d k : ℕ) → 1 ≤ d → (st : State) → Allows ss d (suc k) st → improved ss st d .done ≡ true → Allows ss d k (improved ss st d .state)
+allows-step : (ss : List Stream) → Plain maxUnits ss → (d k : ℕ) → 1 ≤ d → (st : State) → Allows ss d (suc k) st → improved ss st d .done ≡ true
+    → Allows ss d k (improved ss st d .state)
 allows-step ss plain d k l1 st h e =
     go (improved-good ss plain d l1 (stepFall * d * k) (h .size) st
     (sound-more ss d (stepFall * d * suc k) (h .size) st (h .sound) (stepFall * d * k + stepFall * d) (h .size) (omega arith) (omega arith)) (omega (arith, h .fits)))
@@ -173,7 +174,8 @@ allows-next streams n d left st r w l1 l h e q =
     let z : suc (left - 1) ≡ left = omega arith in
     rw e (allows-step (take n streams) (plain-of streams n w) d (left - 1) l1 st (rw z h) (rw e at q))
 
-steps-more : (k : ℕ) (ss : List Stream) (d : ℕ) (st : State) → 0 < k → improved ss st d .done ≡ true → improvements k ss d st ≡ improvements (k - 1) ss d (improved ss st d .state)
+steps-more : (k : ℕ) (ss : List Stream) (d : ℕ) (st : State) → 0 < k → improved ss st d .done ≡ true
+    → improvements k ss d st ≡ improvements (k - 1) ss d (improved ss st d .state)
 unfolding improvements
 steps-more zero ss d st l e = absurd (omega arith)
 steps-more (suc k) ss d st l e = let z : suc k - 1 ≡ k = omega arith in rw z (simp e)
@@ -183,7 +185,8 @@ unfolding improvements
 steps-stop zero ss d st e = refl
 steps-stop (suc k) ss d st e = simp e
 
-pub steps-next : (ss : List Stream) (d left : ℕ) (st : State) (r : Improved) → 0 < left → r ≡ improved ss st d → r .done ≡ true → improvements (left - 1) ss d (r .state) ≡ improvements left ss d st
+pub steps-next : (ss : List Stream) (d left : ℕ) (st : State) (r : Improved) → 0 < left → r ≡ improved ss st d → r .done ≡ true
+    → improvements (left - 1) ss d (r .state) ≡ improvements left ss d st
 steps-next ss d left st r l e q = rw e (sym (steps-more left ss d st l (rw e at q)))
 
 pub steps-end : (ss : List Stream) (d left : ℕ) (st : State) (r : Improved) → r ≡ improved ss st d → r .done ≡ false → st ≡ improvements left ss d st

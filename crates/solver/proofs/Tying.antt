@@ -2,7 +2,7 @@
 use mathlib.Core.Path.{_≡_, refl, sym, _∙_, ap, subst}
 use mathlib.Core.Bool.{Bool, true, false, _&&_, not}
 use mathlib.Core.List.{List}
-use lib.IntN.{ℤ, pos}
+use lib.IntN.{ℤ}
 use Prim.Native.Nat.{ℕ, zero, suc, _+_, _-_, _*_, _≤_, _<_}
 use native.Mathlib.Nat.{le-antisymm}
 use native.Mathlib.Omega.{arith}
@@ -13,7 +13,6 @@ use lib.ListN.{length, getD}
 use Rattle.numbers.specs.Choice.{pick}
 use Rattle.numbers.proofs.Tests.{by-cases, clash}
 use Rattle.plants.specs.declared.Stream.{Stream}
-use Rattle.plants.specs.Limits.{maxStreams}
 use Rattle.plants.specs.Plants.{Plant}
 use Rattle.plants.proofs.Limited.{Within}
 use Rattle.flows.specs.Flows.{streamAt, amountAt, allowed, cost, Cheapest}
@@ -23,7 +22,7 @@ use Rattle.flows.proofs.Prices.{Certificate, least}
 use Rattle.flows.proofs.Order.{AgreeTo}
 use Rattle.flows.specs.Certificate.{settled}
 use Rattle.flows.proofs.Ties as Ties
-use Rattle.flows.proofs.Ties.{NoLess, NoMore, Shut, Stays, stays-least, first-cheapest}
+use Rattle.flows.proofs.Ties.{Stays, stays-least, first-cheapest}
 use Rattle.paths.specs.Held.{unshifted, opened, readingOf, Held}
 use Rattle.paths.specs.Slack.{slackBy}
 use Rattle.paths.proofs.Amounts.{opened-at}
@@ -80,7 +79,8 @@ module _ (p : Plant) (w : Within p) (v : Solvable (p .streams)) (ps : List ℕ) 
 
     -- No way leads round: the labelled places are a cut.
     blocked : (ls : List Bool) → getD ls (s .from) false ≡ true → getD ls (s .to) false ≡ false
-        → ((k : ℕ) → k < length ss → Usable ss (suc i) k → startIn ss ls k ≡ not (endIn ss ls k) → 0 < slackAt ss xs ps 1 k (startIn ss ls k)) → Tied p (opened (length ss) xs) i
+        → ((k : ℕ) → k < length ss → Usable ss (suc i) k → startIn ss ls k ≡ not (endIn ss ls k) → 0 < slackAt ss xs ps 1 k (startIn ss ls k))
+        → Tied p (opened (length ss) xs) i
     blocked ls start end closed =
         stays-tied (Ties.cut (λ u. getD ls u false) start end
         (λ k l u. record {
@@ -92,10 +92,12 @@ module _ (p : Plant) (w : Within p) (v : Solvable (p .streams)) (ps : List ℕ) 
               (λ e. absurd (none k l e (closed k l (settled-usable ss i k u) (a ∙ ap not (sym b)))));
         }))
       where
-        leaves : (k : ℕ) → k < length ss → settled i k (streamAt ss k) ≡ false → startIn ss ls k ≡ true → startIn ss ls k ≡ not (endIn ss ls k) → 0 < slackAt ss xs ps 1 k true
+        leaves : (k : ℕ) → k < length ss → settled i k (streamAt ss k) ≡ false → startIn ss ls k ≡ true → startIn ss ls k ≡ not (endIn ss ls k)
+            → 0 < slackAt ss xs ps 1 k true
         leaves k l u a c = subst (λ (b : Bool). 0 < slackAt ss xs ps 1 k b) a (closed k l (settled-usable ss i k u) c)
 
-        enters : (k : ℕ) → k < length ss → settled i k (streamAt ss k) ≡ false → startIn ss ls k ≡ false → startIn ss ls k ≡ not (endIn ss ls k) → 0 < slackAt ss xs ps 1 k false
+        enters : (k : ℕ) → k < length ss → settled i k (streamAt ss k) ≡ false → startIn ss ls k ≡ false → startIn ss ls k ≡ not (endIn ss ls k)
+            → 0 < slackAt ss xs ps 1 k false
         enters k l u a c = subst (λ (b : Bool). 0 < slackAt ss xs ps 1 k b) a (closed k l (settled-usable ss i k u) c)
 
         none : (k : ℕ) → k < length ss → streamAt ss k .metered ≡ false → 0 < slackAt ss xs ps 1 k (startIn ss ls k) → ⊥

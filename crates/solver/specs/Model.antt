@@ -1,5 +1,5 @@
 -- The solver as definitions, over held amounts, prices and nets (paths/specs/Sizes): settle, improve, finish, ties.
-use mathlib.Core.Bool.{Bool, true, false}
+use mathlib.Core.Bool.{true, false}
 use mathlib.Core.List.{List, [], _∷_}
 use Prim.Native.Nat.{ℕ, zero, suc, _+_, _-_, _*_, _/_}
 use lib.Dec.{eqb, ltb, leb}
@@ -8,7 +8,6 @@ use Rattle.numbers.specs.Choice.{pick}
 use Rattle.plants.specs.declared.Stream.{Stream}
 use Rattle.plants.specs.Limits.{places, maxStreams}
 use Rattle.flows.specs.Flows.{streamAt}
-use Rattle.paths.specs.declared.Tree.{Tree}
 use Rattle.paths.specs.Sizes.{flowShift, priceShift, netShift, rounds}
 use Rattle.flows.specs.Certificate.{weightOf}
 use Rattle.paths.specs.Held.{readingOf}
@@ -22,7 +21,7 @@ use Rattle.solver.specs.declared.Solved.{Solved}
 use Rattle.solver.specs.Sizes.{spread, leftoverLimit, fuel}
 
 -- Settle. A metered stream's amount at the prices pu and pv of its start and its end: the reading plus (pv − pu) / 2w, rounded to
--- the nearest, a half up. (With spread / 1 taken from the one and added to the other, nothing is below 0.)
+-- the nearest, a half up. (spread is taken from the reading and added again inside the quotient, so that nothing is below 0.)
 abbrev pub settledOf : Stream → ℕ → ℕ → ℕ
 settledOf s pu pv =
     let w = weightOf s in

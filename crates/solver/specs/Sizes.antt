@@ -1,6 +1,6 @@
 -- The sizes that the solver is held to, with the inequality that each must meet. Each is stated here and nowhere else in specs/.
 use Prim.Native.Nat.{ℕ, _+_, _-_, _*_}
-use Rattle.plants.specs.Limits.{maxUnits, places, maxStreams, maxWeight}
+use Rattle.plants.specs.Limits.{places, maxStreams, maxWeight}
 use Rattle.paths.specs.Sizes.{mostFlow, priceShift, mostStep, rounds}
 
 -- The greatest reading provided for: maxReading ≤ mostReading.

@@ -1,3 +1,4 @@
+-- `solver::solve` meets its contract: from the hint.
 use borrow.Author.Needs.{needs}
 use Rattle.solver.proofs.Theorem.{layout-of}
 use Rattle.solver.proofs.solve.Statement.{statement}

@@ -1,17 +1,12 @@
-use mathlib.Core.Path.{_≡_, sym, ap, _∙_, subst}
-use mathlib.Core.List.{List}
-use Prim.Native.Nat.{ℕ}
+-- `solver::solve_from` meets its contract: what the code computes is what the definitions give, and that is right.
+use mathlib.Core.Path.{sym, ap, _∙_, subst}
 use borrow.Author.Needs.{needs}
-use lib.ListN.{take}
 use Rattle.plants.specs.Says.{plantOf}
-use Rattle.paths.specs.Premises.{Prices}
 use Rattle.solver.specs.declared.State.{State}
 use Rattle.solver.specs.Model.{tiesTo}
-use Rattle.solver.specs.Premises.{Even}
 use Rattle.solver.specs.Promise.{Right}
-use Rattle.solver.proofs.Layouts.{solvable-of}
 use Rattle.solver.proofs.Ending.{finished-even, finished-prices}
-use Rattle.solver.proofs.Theorem.{layout-of, solved-right, solved-is}
+use Rattle.solver.proofs.Theorem.{layout-of, solvable-in, solved-right, solved-is}
 use Rattle.solver.proofs.solve_from.Statement.{statement}
 use Rattle.solver.proofs.solve_from.Tie as tie
 
@@ -28,7 +23,7 @@ tie-all-requires c κs =
     let st = c .before .before .before .before .before .before .before in
     let p = st .args .p in
     let w = layout-of p (st .pre .0) in
-    let v = solvable-of (p .streams) (p .count) w in
+    let v = solvable-in (plantOf p) (st .pre .0 .within) in
     let e = c .before .before .before .before .finish .ensures in (
       w,
       rw e (finished-prices (plantOf p .streams) v (st .args .h) (st .pre .1)),

@@ -1,5 +1,5 @@
-use mathlib.Core.Path.{_≡_, refl, sym, _∙_}
-use native.Mathlib.Omega.{arith}
+-- `paths::crossings::consider` meets its contract: by the test of skips.
+use mathlib.Core.Path.{sym, _∙_}
 use borrow.Author.Needs.{needs}
 use Rattle.paths.specs.Slack.{considered}
 use Rattle.paths.proofs.crossings.consider.Statement.{statement}

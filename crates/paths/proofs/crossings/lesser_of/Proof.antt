@@ -1,3 +1,4 @@
+-- `paths::crossings::lesser_of` meets its contract: case by case.
 use borrow.Author.Tests.{lt-ltb, le-ltb}
 use borrow.Author.Needs.{needs}
 use Rattle.paths.proofs.crossings.lesser_of.Statement.{statement}

@@ -1,6 +1,4 @@
-use mathlib.Core.Path.{_≡_, refl, sym, _∙_}
-use borrow.Author.Needs.{needs}
-use borrow.Author.Tests.{lt-ltb, le-ltb}
+-- `paths::crossings::skips` meets its contract: case by case.
 use Rattle.paths.proofs.crossings.skips.Statement.{statement}
 use Rattle.paths.proofs.crossings.skips.Tie as tie
 

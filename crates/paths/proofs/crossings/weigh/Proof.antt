@@ -1,3 +1,4 @@
+-- `paths::crossings::weigh` meets its contract: by the labels of the two ends.
 use native.Mathlib.Omega.{arith}
 use borrow.Author.Needs.{needs}
 use Rattle.paths.proofs.crossings.weigh.Statement.{statement}
@@ -46,7 +47,8 @@ lesser-of-requires : tie.Need-lesser-of-requires
 lesser-of-requires c κs = search needs
 
 returns-2 : tie.Need-returns-2
-returns-2 c = simp (c .before .before .before .before .before .before .if1 .taken, c .before .before .before .before .if2 .left, c .lesser-of .ensures, c .before .slack .ensures)
+returns-2 c =
+    simp (c .before .before .before .before .before .before .if1 .taken, c .before .before .before .before .if2 .left, c .lesser-of .ensures, c .before .slack .ensures)
 
 element-copy-out-if3 : tie.Need-element-copy-out-if3
 element-copy-out-if3 c = search needs
@@ -79,7 +81,8 @@ lesser-of-requires-2 : tie.Need-lesser-of-requires-2
 lesser-of-requires-2 c κs = search needs
 
 returns-3 : tie.Need-returns-3
-returns-3 c = simp (c .before .before .before .before .before .before .if1 .left, c .before .before .before .before .if3 .taken, c .lesser-of2 .ensures, c .before .slack2 .ensures)
+returns-3 c =
+    simp (c .before .before .before .before .before .before .if1 .left, c .before .before .before .before .if3 .taken, c .lesser-of2 .ensures, c .before .slack2 .ensures)
 
 returns-4 : tie.Need-returns-4
 returns-4 c = simp (c .before .before .if1 .left, c .if3 .left)

@@ -1,3 +1,4 @@
+-- `paths::labels::far_end` meets its contract: by the label of the start.
 use borrow.Author.Needs.{needs}
 use Rattle.paths.proofs.labels.far_end.Statement.{statement}
 use Rattle.paths.proofs.labels.far_end.Tie as tie

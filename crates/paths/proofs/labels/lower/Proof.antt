@@ -1,10 +1,11 @@
-use mathlib.Core.Path.{_≡_, refl, sym, _∙_}
-use mathlib.Core.Bool.{true, false}
+-- `paths::labels::lower` meets its contract: the prices of the first u places are lowered.
+use mathlib.Core.Path.{_≡_}
+use mathlib.Core.Bool.{false}
 use mathlib.Core.Logic.{⊎-elim}
-use Prim.Native.Nat.{ℕ, _≤_, _<_, _-_}
+use Prim.Native.Nat.{_≤_, _-_}
 use native.Mathlib.Omega.{arith}
 use borrow.Author.Needs.{needs}
-use lib.ListN.{length, getD}
+use lib.ListN.{getD}
 use Rattle.plants.specs.Limits.{places}
 use Rattle.paths.specs.Search.{fallen}
 use Rattle.flows.proofs.Lists.{Written, written-none, written-put, written-keep}

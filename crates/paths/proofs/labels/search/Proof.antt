@@ -1,6 +1,6 @@
-use mathlib.Core.Path.{_≡_, refl, sym, _∙_, ap}
-use mathlib.Core.Bool.{true, false}
-use Prim.Native.Nat.{ℕ, _≤_, _<_, _-_, _+_}
+-- `paths::labels::search` meets its contract: with `left` rounds to go the search comes to what it comes to from the start.
+use mathlib.Core.Path.{_≡_, refl, sym, _∙_}
+use Prim.Native.Nat.{_<_, _-_, _+_}
 use native.Mathlib.Omega.{arith}
 use borrow.Author.Needs.{needs}
 use lib.ListN.{length, getD, take}
@@ -27,19 +27,30 @@ Inv-loop count flows prices₀ nets delta streams t₀ left₀ prices t left =
 abbrev μ-loop : tie.MeasureT-loop
 μ-loop count flows prices₀ nets delta streams t₀ left₀ prices t left = left
 
--- what the call of least-crossing found
-found : (c : tie.After-f Inv-loop μ-loop) → leastTo (take (c .before .before .before .before .before .before .before .before .args .count) (c .before .before .before .before .before .before .before .before .args .t1)) (c .before .before .before .before .before .before .before .before .args .flows .now) (c .before .before .before .before .before .before .before .loop .prices) (c .before .before .before .before .before .before .before .loop .t .labelled) (c .before .before .before .before .before .before .before .before .args .delta) 0 (c .before .before .before .before .before .before .before .before .args .count) ≡ At (c .f .given .0 .0) (c .f .given .0 .1 .0)
+-- The turn of the loop in which a stream was found, and its test.
+abbrev turn : tie.After-f Inv-loop μ-loop → tie.At-loop Inv-loop μ-loop
+turn c = c .before .before .before .before .before .before .before
+
+abbrev tested : tie.After-f Inv-loop μ-loop → tie.In-loop Inv-loop μ-loop
+tested c = c .before .before .before .before .before .before
+
+-- What the call of least-crossing found.
+found : (c : tie.After-f Inv-loop μ-loop)
+    → leastTo (take (turn c .before .args .count) (turn c .before .args .t1)) (turn c .before .args .flows .now) (turn c .loop .prices) (turn c .loop .t .labelled) (turn c .before .args .delta) 0 (turn c .before .args .count)
+    ≡ At (c .f .given .0 .0) (c .f .given .0 .1 .0)
 found c = sym (c .before .before .least-crossing .ensures) ∙ c .f .given .1
 
-index : (c : tie.After-f Inv-loop μ-loop) → c .f .given .0 .0 < c .before .before .before .before .before .before .before .before .args .count
-index c = found-below (take (c .before .before .before .before .before .before .before .before .args .count) (c .before .before .before .before .before .before .before .before .args .t1)) _ _ _ _ _ _ _ _ (found c)
+index : (c : tie.After-f Inv-loop μ-loop) → c .f .given .0 .0 < turn c .before .args .count
+index c = found-below (take (turn c .before .args .count) (turn c .before .args .t1)) _ _ _ _ _ _ _ _ (found c)
 
--- the stream found is sound, and its new place is one of the places
-sound : (c : tie.After-f Inv-loop μ-loop) → Placed (getD (c .before .before .before .before .before .before .before .before .args .t1) (c .f .given .0 .0) noStream)
-sound c = c .before .before .before .before .before .before .before .before .pre .0 .network .placed _ (index c)
+-- The stream found is between places, so that its far end is one.
+sound : (c : tie.After-f Inv-loop μ-loop) → Placed (getD (turn c .before .args .t1) (c .f .given .0 .0) noStream)
+sound c = turn c .before .pre .0 .network .placed _ (index c)
 
 place : (c : tie.After-far-end Inv-loop μ-loop) → c .far-end .result < places
-place c = rw (c .far-end .ensures) (far-small (c .before .before .before .before .before .before .before .before .before .before .before .before .before .before .loop .t .labelled) _ (sound (c .before .before .before .before .before .before .before)))
+place c =
+    let f = c .before .before .before .before .before .before .before in
+    rw (c .far-end .ensures) (far-small (turn f .loop .t .labelled) _ (sound f))
 
 loop-holds : tie.Need-loop-holds Inv-loop μ-loop
 loop-holds c = (omega arith, c .pre .0 .prices, c .pre .1, refl)
@@ -63,25 +74,39 @@ enum-told c = search needs
 returns : tie.Need-returns Inv-loop μ-loop
 returns c =
     let at = c .before .before .before .before .before .before .before in
-    sym (grow-none (at .before .args .t1) (at .before .args .count) _ _ _ _ _ (at .loop .left) (c .before .before .before .before .before .before .loop-test .taken) (sym (c .before .before .least-crossing .ensures) ∙ c .enum-told .given .1)) ∙ at .loop .inv .3
+    sym
+    (grow-none (at .before .args .t1) (at .before .args .count) _ _ _ _ _ (at .loop .left) (c .before .before .before .before .before .before .loop-test .taken) (sym (c .before .before .least-crossing .ensures) ∙ c .enum-told .given .1))
+    ∙ at .loop .inv .3
 
 lower-requires : tie.Need-lower-requires Inv-loop μ-loop
-lower-requires c κs = c .before .before .before .before .before .before .before .before .before .before .loop .inv .2
+lower-requires c κs =
+    let f = c .before .before .before in
+    turn f .loop .inv .2
 
 mul-far-end : tie.Need-mul-far-end Inv-loop μ-loop
-mul-far-end c = omega (arith, index (c .before .before .before .before), c .before .before .before .before .before .before .before .before .before .before .before .before .pre .0 .network .few)
+mul-far-end c =
+    let f = c .before .before .before .before in
+    omega (arith, index f, turn f .before .pre .0 .network .few)
 
 array-copy-out-far-end : tie.Need-array-copy-out-far-end Inv-loop μ-loop
-array-copy-out-far-end c = omega (arith, index (c .before .before .before .before), c .before .before .before .before .before .before .before .before .before .before .before .before .pre .0 .network .few)
+array-copy-out-far-end c =
+    let f = c .before .before .before .before in
+    omega (arith, index f, turn f .before .pre .0 .network .few)
 
 far-end-requires : tie.Need-far-end-requires Inv-loop μ-loop
-far-end-requires c κs = sound (c .before .before .before .before .before .before)
+far-end-requires c κs =
+    let f = c .before .before .before .before .before .before in
+    sound f
 
 cast-add : tie.Need-cast-add Inv-loop μ-loop
-cast-add c = omega (arith, index (c .before .before .before .before .before .before .before), c .before .before .before .before .before .before .before .before .before .before .before .before .before .before .before .pre .0 .network .few)
+cast-add c =
+    let f = c .before .before .before .before .before .before .before in
+    omega (arith, index f, turn f .before .pre .0 .network .few)
 
 add-requires : tie.Need-add-requires Inv-loop μ-loop
-add-requires c κs = (omega (arith, c .before .before .before .before .before .before .before .before .before .before .before .before .before .before .loop .inv .0, c .before .before .before .before .before .before .before .before .before .before .before .before .before .loop-test .taken), place c)
+add-requires c κs =
+    let f = c .before .before .before .before .before .before .before in
+    (omega (arith, turn f .loop .inv .0, tested f .loop-test .taken), place c)
 
 cast-if1 : tie.Need-cast-if1 Inv-loop μ-loop
 cast-if1 c = search needs
@@ -94,13 +119,14 @@ element-copy-out-if1 c = place (c .before)
 
 returns-2 : tie.Need-returns-2 Inv-loop μ-loop
 returns-2 c =
-    let at = c .before .before .before .before .before .before .before .before .before .before .before .before .before .before .before .before .before in
     let f = c .before .before .before .before .before .before .before .before .before .before in
+    let at = turn f in
     let low = c .before .before .before .before .before .before .lower .ensures in
     let far = c .before .before .before .far-end .ensures in
     let added = c .before .before .add .ensures in
     rw (added, far, low)
-    (sym (grow-hit (at .before .args .t1) (at .before .args .count) _ _ _ _ _ (at .loop .left) _ _ (c .before .before .before .before .before .before .before .before .before .before .before .before .before .before .before .before .loop-test .taken) (index f) (found f) (rw far at (c .if1 .taken))) ∙ at .loop .inv .3)
+    (sym
+    (grow-hit (at .before .args .t1) (at .before .args .count) _ _ _ _ _ (at .loop .left) _ _ (tested f .loop-test .taken) (index f) (found f) (rw far at (c .if1 .taken))) ∙ at .loop .inv .3)
 
 sub-left : tie.Need-sub-left Inv-loop μ-loop
 sub-left c = search needs
@@ -110,16 +136,17 @@ loop-less c = search needs
 
 loop-again : tie.Need-loop-again Inv-loop μ-loop
 loop-again c =
-    let at = c .before .before .before .before .before .before .before .before .before .before .before .before .before .before .before .before .before in
     let f = c .before .before .before .before .before .before .before .before .before .before in
+    let at = turn f in
     let low = c .before .before .before .before .before .before .lower .ensures in
     let far = c .before .before .before .far-end .ensures in
     let added = c .before .before .add .ensures in (
-      rw added (omega (arith, at .loop .inv .0, c .before .before .before .before .before .before .before .before .before .before .before .before .before .before .before .before .loop-test .taken)),
+      rw added (omega (arith, at .loop .inv .0, tested f .loop-test .taken)),
       rw low (lowered-prices _ _ _ (at .loop .inv .1)),
       rw low (lowered-long _ _ _ ∙ at .loop .inv .2),
       rw (added, far, low)
-          (sym (grow-more (at .before .args .t1) (at .before .args .count) _ _ _ _ _ (at .loop .left) _ _ (c .before .before .before .before .before .before .before .before .before .before .before .before .before .before .before .before .loop-test .taken) (index f) (found f) (rw far at (c .if1 .left))) ∙ at .loop .inv .3),
+          (sym
+          (grow-more (at .before .args .t1) (at .before .args .count) _ _ _ _ _ (at .loop .left) _ _ (tested f .loop-test .taken) (index f) (found f) (rw far at (c .if1 .left))) ∙ at .loop .inv .3),
     )
 
 returns-3 : tie.Need-returns-3 Inv-loop μ-loop

@@ -1,6 +1,6 @@
-use mathlib.Core.Path.{_≡_, refl, sym, _∙_, ap}
-use mathlib.Core.Bool.{true, false}
-use Prim.Native.Nat.{ℕ, _≤_, _<_, _-_, _+_}
+-- `paths::labels::tight_path` meets its contract: with `left` rounds to go the search comes to what it comes to from the start.
+use mathlib.Core.Path.{_≡_, refl, sym, _∙_}
+use Prim.Native.Nat.{_<_, _-_, _+_}
 use native.Mathlib.Omega.{arith}
 use borrow.Author.Needs.{needs}
 use lib.ListN.{getD, take}
@@ -18,23 +18,33 @@ use Rattle.paths.proofs.labels.tight_path.Statement.{statement}
 use Rattle.paths.proofs.labels.tight_path.Tie as tie
 
 abbrev Inv-loop : tie.InvT-loop
-Inv-loop count flows prices v skip streams t₀ left₀ t left = (left + t .len ≡ rounds) × (tightPath (take count streams) count flows prices v skip left t ≡ tightPath (take count streams) count flows prices v skip rounds t₀)
+Inv-loop count flows prices v skip streams t₀ left₀ t left =
+    (left + t .len ≡ rounds) × (tightPath (take count streams) count flows prices v skip left t ≡ tightPath (take count streams) count flows prices v skip rounds t₀)
 
 abbrev μ-loop : tie.MeasureT-loop
 μ-loop count flows prices v skip streams t₀ left₀ t left = left
 
--- what the call of least-crossing found
-found : (c : tie.After-f Inv-loop μ-loop) → leastTo (take (c .before .before .before .before .before .before .before .args .count) (c .before .before .before .before .before .before .before .args .t1)) (c .before .before .before .before .before .before .before .args .flows .now) (c .before .before .before .before .before .before .before .args .prices .now) (c .before .before .before .before .before .before .loop .t .labelled) 1 (c .before .before .before .before .before .before .before .args .skip) (c .before .before .before .before .before .before .before .args .count) ≡ At (c .f .given .0 .0) (c .f .given .0 .1 .0)
+-- The turn of the loop in which a stream was found, and its test.
+abbrev turn : tie.After-f Inv-loop μ-loop → tie.At-loop Inv-loop μ-loop
+turn c = c .before .before .before .before .before .before
+
+abbrev tested : tie.After-f Inv-loop μ-loop → tie.In-loop Inv-loop μ-loop
+tested c = c .before .before .before .before .before
+
+-- What the call of least-crossing found.
+found : (c : tie.After-f Inv-loop μ-loop)
+    → leastTo (take (turn c .before .args .count) (turn c .before .args .t1)) (turn c .before .args .flows .now) (turn c .before .args .prices .now) (turn c .loop .t .labelled) 1 (turn c .before .args .skip) (turn c .before .args .count)
+    ≡ At (c .f .given .0 .0) (c .f .given .0 .1 .0)
 found c = sym (c .before .before .least-crossing .ensures) ∙ c .f .given .1
 
-index : (c : tie.After-f Inv-loop μ-loop) → c .f .given .0 .0 < c .before .before .before .before .before .before .before .args .count
-index c = found-below (take (c .before .before .before .before .before .before .before .args .count) (c .before .before .before .before .before .before .before .args .t1)) _ _ _ _ _ _ _ _ (found c)
+index : (c : tie.After-f Inv-loop μ-loop) → c .f .given .0 .0 < turn c .before .args .count
+index c = found-below (take (turn c .before .args .count) (turn c .before .args .t1)) _ _ _ _ _ _ _ _ (found c)
 
-sound : (c : tie.After-f Inv-loop μ-loop) → Placed (getD (c .before .before .before .before .before .before .before .args .t1) (c .f .given .0 .0) noStream)
-sound c = c .before .before .before .before .before .before .before .pre .0 .network .placed _ (index c)
+sound : (c : tie.After-f Inv-loop μ-loop) → Placed (getD (turn c .before .args .t1) (c .f .given .0 .0) noStream)
+sound c = turn c .before .pre .0 .network .placed _ (index c)
 
 few : (c : tie.After-f Inv-loop μ-loop) → c .f .given .0 .0 < maxStreams
-few c = omega (arith, index c, c .before .before .before .before .before .before .before .pre .0 .network .few)
+few c = omega (arith, index c, turn c .before .pre .0 .network .few)
 
 loop-holds : tie.Need-loop-holds Inv-loop μ-loop
 loop-holds c = (omega arith, refl)
@@ -51,33 +61,49 @@ enum-told c = search needs
 returns : tie.Need-returns Inv-loop μ-loop
 returns c =
     let at = c .before .before .before .before .before .before in
-    sym (path-none (at .before .args .t1) (at .before .args .count) _ _ _ _ _ (at .loop .left) (c .before .before .before .before .before .loop-test .taken) (sym (c .before .before .least-crossing .ensures) ∙ c .enum-told .given .1)) ∙ at .loop .inv .1
+    sym
+    (path-none (at .before .args .t1) (at .before .args .count) _ _ _ _ _ (at .loop .left) (c .before .before .before .before .before .loop-test .taken) (sym (c .before .before .least-crossing .ensures) ∙ c .enum-told .given .1))
+    ∙ at .loop .inv .1
 
 returns-2 : tie.Need-returns-2 Inv-loop μ-loop
 returns-2 c =
-    let at = c .before .before .before .before .before .before .before .before in
-    sym (path-stop (at .before .args .t1) (at .before .args .count) _ _ _ _ _ (at .loop .left) _ _ (c .before .before .before .before .before .before .before .loop-test .taken) (found (c .before .before)) (c .if1 .taken)) ∙ at .loop .inv .1
+    let f = c .before .before in
+    let at = turn f in
+    sym (path-stop (at .before .args .t1) (at .before .args .count) _ _ _ _ _ (at .loop .left) _ _ (tested f .loop-test .taken) (found f) (c .if1 .taken))
+    ∙ at .loop .inv .1
 
 mul-far-end : tie.Need-mul-far-end Inv-loop μ-loop
-mul-far-end c = omega (arith, few (c .before .before))
+mul-far-end c =
+    let f = c .before .before in
+    omega (arith, few f)
 
 array-copy-out-far-end : tie.Need-array-copy-out-far-end Inv-loop μ-loop
-array-copy-out-far-end c = few (c .before .before)
+array-copy-out-far-end c =
+    let f = c .before .before in
+    few f
 
 far-end-requires : tie.Need-far-end-requires Inv-loop μ-loop
-far-end-requires c κs = sound (c .before .before .before .before)
+far-end-requires c κs =
+    let f = c .before .before .before .before in
+    sound f
 
 cast-add : tie.Need-cast-add Inv-loop μ-loop
-cast-add c = omega (arith, few (c .before .before .before .before .before))
+cast-add c =
+    let f = c .before .before .before .before .before in
+    omega (arith, few f)
 
 add-requires : tie.Need-add-requires Inv-loop μ-loop
-add-requires c κs = (omega (arith, c .before .before .before .before .before .before .before .before .before .before .before .loop .inv .0, c .before .before .before .before .before .before .before .before .before .before .loop-test .taken), rw (c .far-end .ensures) (far-small (c .before .before .before .before .before .before .before .before .before .before .before .loop .t .labelled) _ (sound (c .before .before .before .before .before))))
+add-requires c κs =
+    let f = c .before .before .before .before .before in
+    (omega (arith, turn f .loop .inv .0, tested f .loop-test .taken), rw (c .far-end .ensures) (far-small (turn f .loop .t .labelled) _ (sound f)))
 
 returns-3 : tie.Need-returns-3 Inv-loop μ-loop
 returns-3 c =
-    let at = c .before .before .before .before .before .before .before .before .before .before .before .before .before in
+    let f = c .before .before .before .before .before .before .before in
+    let at = turn f in
     rw (c .before .add .ensures, c .before .before .far-end .ensures)
-    (sym (path-hit (at .before .args .t1) (at .before .args .count) _ _ _ _ _ (at .loop .left) _ _ (c .before .before .before .before .before .before .before .before .before .before .before .before .loop-test .taken) (index (c .before .before .before .before .before .before .before)) (found (c .before .before .before .before .before .before .before)) (c .before .before .before .before .before .if1 .left) (sym (c .before .before .far-end .ensures) ∙ c .if2 .taken)) ∙ at .loop .inv .1)
+    (sym
+    (path-hit (at .before .args .t1) (at .before .args .count) _ _ _ _ _ (at .loop .left) _ _ (tested f .loop-test .taken) (index f) (found f) (c .before .before .before .before .before .if1 .left) (sym (c .before .before .far-end .ensures) ∙ c .if2 .taken)) ∙ at .loop .inv .1)
 
 sub-left : tie.Need-sub-left Inv-loop μ-loop
 sub-left c = search needs
@@ -87,15 +113,19 @@ loop-less c = search needs
 
 loop-again : tie.Need-loop-again Inv-loop μ-loop
 loop-again c =
-    let at = c .before .before .before .before .before .before .before .before .before .before .before .before .before in
+    let f = c .before .before .before .before .before .before .before in
+    let at = turn f in
     let g = c .before .before .far-end .ensures in (
-      rw (c .before .add .ensures) (omega (arith, at .loop .inv .0, c .before .before .before .before .before .before .before .before .before .before .before .before .loop-test .taken)),
+      rw (c .before .add .ensures) (omega (arith, at .loop .inv .0, tested f .loop-test .taken)),
       rw (c .before .add .ensures, g)
-          (sym (path-more (at .before .args .t1) (at .before .args .count) _ _ _ _ _ (at .loop .left) _ _ (c .before .before .before .before .before .before .before .before .before .before .before .before .loop-test .taken) (index (c .before .before .before .before .before .before .before)) (found (c .before .before .before .before .before .before .before)) (c .before .before .before .before .before .if1 .left) (λ q. c .if2 .left (g ∙ q))) ∙ at .loop .inv .1),
+          (sym
+          (path-more (at .before .args .t1) (at .before .args .count) _ _ _ _ _ (at .loop .left) _ _ (tested f .loop-test .taken) (index f) (found f) (c .before .before .before .before .before .if1 .left) (λ q. c .if2 .left (g ∙ q))) ∙ at .loop .inv .1),
     )
 
 returns-4 : tie.Need-returns-4 Inv-loop μ-loop
-returns-4 c = let z : c .before .loop .left ≡ 0 = omega arith in sym (path-end (c .before .before .args .t1) (c .before .before .args .count) _ _ _ _ _) ∙ (rw z at (c .before .loop .inv .1))
+returns-4 c =
+    let z : c .before .loop .left ≡ 0 = omega arith in sym (path-end (c .before .before .args .t1) (c .before .before .args .count) _ _ _ _ _)
+    ∙ (rw z at (c .before .loop .inv .1))
 
 pub tight-path-spec : {M : Type 1} → statement M
 tight-path-spec =

@@ -1,3 +1,4 @@
+-- `paths::pushes::moved` meets its contract: by the end that the place is.
 use borrow.Author.Tests.{eq-eqb, ne-eqb}
 use borrow.Author.Needs.{needs}
 use Rattle.paths.proofs.pushes.moved.Statement.{statement}

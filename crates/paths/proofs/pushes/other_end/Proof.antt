@@ -1,3 +1,4 @@
+-- `paths::pushes::other_end` meets its contract: by the end that the place is.
 use borrow.Author.Tests.{eq-eqb, ne-eqb}
 use Rattle.paths.proofs.pushes.other_end.Statement.{statement}
 use Rattle.paths.proofs.pushes.other_end.Tie as tie

@@ -1,5 +1,6 @@
+-- `paths::pushes::push_back` meets its contract: with j streams to go the push comes to what it comes to from the start.
 use mathlib.Core.Path.{_≡_, refl, sym, _∙_}
-use Prim.Native.Nat.{ℕ, _≤_, _<_, _-_}
+use Prim.Native.Nat.{_≤_, _<_, _-_}
 use native.Mathlib.Omega.{arith}
 use borrow.Author.Needs.{needs}
 use lib.ListN.{getD, take}
@@ -7,18 +8,19 @@ use Rattle.plants.specs.Limits.{maxStreams}
 use Rattle.plants.specs.Plants.{noStream}
 use Rattle.paths.specs.Push.{pushed}
 use Rattle.paths.specs.Premises.{Roomy}
-use Rattle.paths.proofs.Rounds.{push-hit, push-miss, push-end}
+use Rattle.paths.proofs.Rounds.{push-hit, push-miss}
 use Rattle.paths.proofs.Elements.{roomy-less, roomy-set, moved-near}
 use Rattle.paths.proofs.pushes.push_back.Statement.{statement}
 use Rattle.paths.proofs.pushes.push_back.Tie as tie
 
 abbrev Inv-loop : tie.InvT-loop
-Inv-loop count flows₀ via ends len target delta streams at₀ j₀ flows at j = (j ≤ len) × Roomy flows j × (pushed (take count streams) via ends delta j at flows ≡ pushed (take count streams) via ends delta len target flows₀)
+Inv-loop count flows₀ via ends len target delta streams at₀ j₀ flows at j =
+    (j ≤ len) × Roomy flows j × (pushed (take count streams) via ends delta j at flows ≡ pushed (take count streams) via ends delta len target flows₀)
 
 abbrev μ-loop : tie.MeasureT-loop
 μ-loop count flows₀ via ends len target delta streams at₀ j₀ flows at j = j
 
--- the remembered stream is one of the maxStreams
+-- The remembered stream is in use, and so within the array.
 index0 : (c : tie.In-loop Inv-loop μ-loop) → getD (c .before .before .args .via .now) (c .before .loop .j - 1) 0 < c .before .before .args .count
 index0 c = c .before .before .pre .2 .within (c .before .loop .j - 1) (omega arith)
 
@@ -79,7 +81,8 @@ loop-again c =
       omega arith,
       rw (c .before .moved .ensures) (roomy-set r _ _ i near),
       rw (c .other-end .ensures, c .before .moved .ensures)
-          (sym (push-hit (at .before .args .t1) (at .before .args .count) _ _ _ (at .loop .j) (at .loop .at) (at .loop .flows) (c .before .before .before .before .before .before .before .loop-test .taken) (index0 (c .before .before .before .before .before .before .before)) (c .before .before .before .before .before .if1 .taken)) ∙ at .loop .inv .2),
+          (sym
+          (push-hit (at .before .args .t1) (at .before .args .count) _ _ _ (at .loop .j) (at .loop .at) (at .loop .flows) (c .before .before .before .before .before .before .before .loop-test .taken) (index0 (c .before .before .before .before .before .before .before)) (c .before .before .before .before .before .if1 .taken)) ∙ at .loop .inv .2),
     )
 
 loop-less-2 : tie.Need-loop-less-2 Inv-loop μ-loop
@@ -90,7 +93,9 @@ loop-again-2 c =
     let at = c .before .before .before in (
       omega arith,
       roomy-less (at .loop .inv .1),
-      sym (push-miss (at .before .args .t1) (at .before .args .count) (at .before .args .via .now) (at .before .args .ends .now) (at .before .args .delta) (at .loop .j) (at .loop .at) (at .loop .flows) (c .before .before .loop-test .taken) (c .if1 .left)) ∙ at .loop .inv .2,
+      sym
+          (push-miss (at .before .args .t1) (at .before .args .count) (at .before .args .via .now) (at .before .args .ends .now) (at .before .args .delta) (at .loop .j) (at .loop .at) (at .loop .flows) (c .before .before .loop-test .taken) (c .if1 .left))
+          ∙ at .loop .inv .2,
     )
 
 returns : tie.Need-returns Inv-loop μ-loop

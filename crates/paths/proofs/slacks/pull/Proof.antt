@@ -1,4 +1,5 @@
-use mathlib.Core.Path.{_≡_, ap}
+-- `paths::slacks::pull` meets its contract: the product fits, by the bounds of weight and amount.
+use mathlib.Core.Path.{ap}
 use Prim.Native.Nat.{ℕ, _*_, _≤_}
 use native.Mathlib.Omega.{arith}
 use borrow.Author.Needs.{needs}

@@ -1,4 +1,5 @@
-use mathlib.Core.Path.{_≡_, refl}
+-- `paths::slacks::reading_of` meets its contract: the sum does not wrap, since a reading fits 32 bits.
+use mathlib.Core.Path.{refl}
 use native.Mathlib.Omega.{arith}
 use mir.Val.{SFits}
 use mir.Syntax.{w32, w64}

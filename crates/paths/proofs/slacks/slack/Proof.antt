@@ -1,3 +1,4 @@
+-- `paths::slacks::slack` meets its contract: each sum fits, and each branch is one of the definition's.
 use native.Mathlib.Omega.{arith}
 use borrow.Author.Needs.{needs}
 use Rattle.paths.proofs.slacks.slack.Statement.{statement}

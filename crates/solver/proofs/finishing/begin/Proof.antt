@@ -1,5 +1,5 @@
+-- `solver::finishing::begin` meets its contract: by how much is left over at the hint.
 use mathlib.Core.Path.{_≡_, ap, _∙_}
-use Prim.Native.Nat.{ℕ}
 use borrow.Author.Needs.{needs}
 use lib.ListN.{take}
 use Rattle.solver.specs.declared.State.{State}
@@ -11,7 +11,9 @@ use Rattle.solver.proofs.finishing.begin.Statement.{statement}
 use Rattle.solver.proofs.finishing.begin.Tie as tie
 
 -- How much is left over at the hint.
-left-over : (c : tie.After-over-sum) → c .over-sum .result ≡ overSum (settled (take (c .before .before .before .before .args .count) (c .before .before .before .before .args .streams)) (c .before .before .before .before .args .h) .nets)
+left-over : (c : tie.After-over-sum)
+    → c .over-sum .result
+    ≡ overSum (settled (take (c .before .before .before .before .args .count) (c .before .before .before .before .args .streams)) (c .before .before .before .before .args .h) .nets)
 left-over c = c .over-sum .ensures ∙ ap (λ (st : State). overSum (st .nets)) (c .before .before .before .settle .ensures)
 
 settle-requires : tie.Need-settle-requires

@@ -1,4 +1,5 @@
-use mathlib.Core.Path.{_≡_, ap, _∙_}
+-- `solver::finishing::finish` meets its contract: as many improvements fit as there can be.
+use mathlib.Core.Path.{ap, _∙_}
 use native.Mathlib.Omega.{arith}
 use borrow.Author.Needs.{needs}
 use lib.ListN.{take}
@@ -17,7 +18,8 @@ improve-all-requires c κs =
     let st = c .before in (
       st .pre .0 .network,
       (omega arith, omega arith),
-      rw (c .begin .ensures) (begun-allows (take (st .args .count) (st .args .streams)) (solvable-of (st .args .streams) (st .args .count) (st .pre .0)) (st .args .h) (st .pre .1)),
+      rw (c .begin .ensures)
+          (begun-allows (take (st .args .count) (st .args .streams)) (solvable-of (st .args .streams) (st .args .count) (st .pre .0)) (st .args .h) (st .pre .1)),
     )
 
 returns : tie.Need-returns

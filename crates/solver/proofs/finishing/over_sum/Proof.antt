@@ -1,8 +1,8 @@
-use mathlib.Core.Path.{_≡_, refl, sym, _∙_, ap}
-use Prim.Native.Nat.{ℕ, _≤_, _<_, _-_, _+_, _*_}
+-- `solver::finishing::over_sum` meets its contract: the sum of the first u places.
+use mathlib.Core.Path.{_≡_, sym, _∙_}
+use Prim.Native.Nat.{_≤_, _-_}
 use native.Mathlib.Omega.{arith}
 use borrow.Author.Needs.{needs}
-use lib.ListN.{getD}
 use Rattle.plants.specs.Limits.{places}
 use Rattle.solver.specs.Sizes.{netRoom}
 use Rattle.solver.proofs.Turns.{overTo, over-next, over-none, over-all, over-to-most}

@@ -1,5 +1,5 @@
-use mathlib.Core.Path.{_≡_, refl}
-use Prim.Native.Nat.{ℕ, _≤_, _<_}
+-- `solver::hints::hint` meets its contract: before each step the prices and amounts leave room for the steps to come.
+use Prim.Native.Nat.{_≤_}
 use native.Mathlib.Nat.{div-add-mod}
 use native.Mathlib.Omega.{arith}
 use borrow.Author.Needs.{needs}
@@ -26,8 +26,11 @@ loop-holds c =
 
 settle-requires : tie.Need-settle-requires Inv-loop μ-loop
 settle-requires c κs =
-    let st = c .before .before .before in
-    (st .pre, stage-ready (take (st .args .count) (st .args .streams)) (solvable-of (st .args .streams) (st .args .count) (st .pre)) (c .before .loop .delta) _ (c .before .loop .inv .1))
+    let st = c .before .before .before in (
+      st .pre,
+      stage-ready (take (st .args .count) (st .args .streams)) (solvable-of (st .args .streams) (st .args .count) (st .pre)) (c .before .loop .delta) _
+          (c .before .loop .inv .1),
+    )
 
 improve-all-requires : tie.Need-improve-all-requires Inv-loop μ-loop
 improve-all-requires c κs =
@@ -36,7 +39,8 @@ improve-all-requires c κs =
       st .pre .network,
       (omega arith, at .loop .inv .0),
       rw (c .settle .ensures)
-          (stage-allows (take (st .args .count) (st .args .streams)) (solvable-of (st .args .streams) (st .args .count) (st .pre)) (at .loop .delta) (omega arith) (at .loop .inv .0) _ (at .loop .inv .1)),
+          (stage-allows (take (st .args .count) (st .args .streams)) (solvable-of (st .args .streams) (st .args .count) (st .pre)) (at .loop .delta) (omega arith)
+          (at .loop .inv .0) _ (at .loop .inv .1)),
     )
 
 hint-of-requires : tie.Need-hint-of-requires Inv-loop μ-loop
@@ -51,13 +55,15 @@ loop-again c =
     let st = at .before .before in (
       omega (arith, div-add-mod (at .loop .delta) 2),
       rw (c .hint-of .ensures, c .before .improve-all .ensures, c .before .before .settle .ensures)
-          (stage-next (take (st .args .count) (st .args .streams)) (solvable-of (st .args .streams) (st .args .count) (st .pre)) (at .loop .delta) (omega arith) (at .loop .inv .0) _ (at .loop .inv .1)),
+          (stage-next (take (st .args .count) (st .args .streams)) (solvable-of (st .args .streams) (st .args .count) (st .pre)) (at .loop .delta) (omega arith)
+          (at .loop .inv .0) _ (at .loop .inv .1)),
     )
 
 returns : tie.Need-returns Inv-loop μ-loop
 returns c =
     let st = c .before .before .before in
-    stage-end (take (st .args .count) (st .args .streams)) (solvable-of (st .args .streams) (st .args .count) (st .pre)) (c .before .loop .delta) _ (c .before .loop .inv .1)
+    stage-end (take (st .args .count) (st .args .streams)) (solvable-of (st .args .streams) (st .args .count) (st .pre)) (c .before .loop .delta) _
+    (c .before .loop .inv .1)
 
 pub hint-spec : {M : Type 1} → statement M
 hint-spec =

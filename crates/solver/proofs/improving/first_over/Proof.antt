@@ -1,12 +1,13 @@
-use mathlib.Core.Path.{_≡_, refl, sym, _∙_}
+-- `solver::improving::first_over` meets its contract: none of the first u places is over.
+use mathlib.Core.Path.{_≡_}
 use Prim.Native.Nat.{ℕ, _≤_, _<_, _-_, _+_}
 use native.Mathlib.Omega.{arith}
 use borrow.Author.Needs.{needs}
-use lib.ListN.{length, getD}
+use lib.ListN.{getD}
 use Rattle.plants.specs.Limits.{places}
 use Rattle.paths.specs.Sizes.{netShift}
 use Rattle.solver.proofs.Turns.{first-unique}
-use borrow.Author.Count.{below-none, below-more}
+use borrow.Author.Count.{below-more}
 use Rattle.solver.proofs.improving.first_over.Statement.{statement}
 use Rattle.solver.proofs.improving.first_over.Tie as tie
 
@@ -45,7 +46,8 @@ loop-again c = (omega arith, below-more _ (c .before .before .before .loop .u) (
 returns-2 : tie.Need-returns-2 Inv-loop μ-loop
 returns-2 c =
     let e : c .before .loop .u ≡ places = omega arith in
-    first-unique _ _ _ (record { upto = omega (arith, c .before .before .pre .1); over = λ l. absurd (omega (arith, c .before .before .pre .1)); before = rw e at (c .before .loop .inv .1) })
+    first-unique _ _ _
+    (record { upto = omega (arith, c .before .before .pre .1); over = λ l. absurd (omega (arith, c .before .before .pre .1)); before = rw e at (c .before .loop .inv .1) })
 
 pub first-over-spec : {M : Type 1} → statement M
 first-over-spec =

@@ -1,17 +1,30 @@
-use mathlib.Core.Path.{_≡_, refl, sym, _∙_, ap}
+-- `solver::improving::improve` meets its contract: the search finds a place, and the push and the nets have room.
+use mathlib.Core.Path.{sym, _∙_, ap}
 use mathlib.Core.Bool.{true, false, not, true≢false}
-use Prim.Native.Nat.{ℕ, _≤_, _<_, _-_, _+_}
+use Prim.Native.Nat.{_-_}
 use native.Mathlib.Omega.{arith}
-use lib.ListN.{length, getD}
 use lib.ListN.{take}
 use Rattle.solver.proofs.Turns.{Moving, moving, improved-none, improved-done, in-use, over-small}
 use borrow.Author.Needs.{needs}
 use Rattle.solver.proofs.improving.improve.Statement.{statement}
 use Rattle.solver.proofs.improving.improve.Tie as tie
 
--- what is known once the search is done
-key : (c : tie.After-search) → Moving (c .before .before .before .before .before .before .before .before .before .before .before .args .count) (c .before .before .before .before .before .before .before .before .before .before .before .args .st) (c .before .before .before .before .before .before .before .before .first-over .result) (c .before .before .before .before .before .before .before .before .before .before .before .args .delta) (c .search .result .found) (c .search .result .tree)
-key c = moving (c .before .before .before .before .before .before .before .before .before .before .before .args .streams) (c .before .before .before .before .before .before .before .before .before .before .before .args .count) _ _ _ _ _ _ (c .before .before .before .before .before .before .before .before .before .before .before .pre .0) (c .before .before .before .before .before .before .before .before .before .before .before .pre .1 .0) (c .before .before .before .before .before .before .before .before .before .before .before .pre .1 .1) (c .before .before .before .before .before .before .before .before .before .before .before .pre .2) (c .before .before .before .before .before .before .before .before .first-over .ensures) (c .before .before .before .before .before .before .before .if1 .left) (rw (c .before .root .ensures) at (c .search .ensures))
+-- The start, the first place over and the test of it, from where the search is done.
+abbrev start : tie.After-search → tie.Start
+start c = c .before .before .before .before .before .before .before .before .before .before .before
+
+abbrev over : tie.After-search → tie.After-first-over
+over c = c .before .before .before .before .before .before .before .before
+
+abbrev passed : tie.After-search → tie.Else1
+passed c = c .before .before .before .before .before .before .before
+
+-- What is known once the search is done.
+key : (c : tie.After-search)
+    → Moving (start c .args .count) (start c .args .st) (over c .first-over .result) (start c .args .delta) (c .search .result .found) (c .search .result .tree)
+key c =
+    moving (start c .args .streams) (start c .args .count) _ _ _ _ _ _ (start c .pre .0) (start c .pre .1 .0) (start c .pre .1 .1) (start c .pre .2)
+    (over c .first-over .ensures) (passed c .if1 .left) (rw (c .before .root .ensures) at (c .search .ensures))
 
 first-over-requires : tie.Need-first-over-requires
 first-over-requires c κs = search needs
@@ -20,40 +33,59 @@ returns : tie.Need-returns
 returns c = sym (improved-none _ _ _ (c .before .first-over .result) (c .before .first-over .ensures) (c .if1 .taken))
 
 root-requires : tie.Need-root-requires
-root-requires c κs = over-small _ _ _ (c .before .before .before .before .before .before .first-over .ensures) (c .before .before .before .before .before .before .before .before .before .pre .2 .sound .netted) (c .before .before .before .before .before .if1 .left)
+root-requires c κs =
+    over-small _ _ _ (c .before .before .before .before .before .before .first-over .ensures)
+    (c .before .before .before .before .before .before .before .before .before .pre .2 .sound .netted) (c .before .before .before .before .before .if1 .left)
 
 search-requires : tie.Need-search-requires
 search-requires c κs =
-    let st = c .before .before .before .before .before .before .before .before .before .before in
-    (record { network = st .pre .0; step = st .pre .1 .1; amounts = λ k l. omega (arith, st .pre .2 .sound .close k (omega (arith, st .pre .0 .few)) .0, st .pre .2 .fits); prices = st .pre .2 .sound .poor }, st .pre .2 .sound .priced, ap (λ t. t .len) (c .root .ensures))
+    let st = c .before .before .before .before .before .before .before .before .before .before in (
+      record { network = st .pre .0; step = st .pre .1 .1; amounts = λ k l. omega (arith, st .pre .2 .sound .close k (omega (arith, st .pre .0 .few)) .0, st .pre .2 .fits); prices = st .pre .2 .sound .poor },
+      st .pre .2 .sound .priced,
+      ap
+          (λ t. t .len) (c .root .ensures),
+    )
 
 returns-2 : tie.Need-returns-2
-returns-2 c = absurd (true≢false (sym (c .if2 .taken) ∙ ap not (key (c .before .before) .found-it)))
+returns-2 c =
+    let f = c .before .before in
+    absurd (true≢false (sym (c .if2 .taken) ∙ ap not (key f .found-it)))
 
 sub-target : tie.Need-sub-target
-sub-target c = key (c .before .before .before .before .before) .some
+sub-target c =
+    let f = c .before .before .before .before .before in
+    key f .some
 
 array-read-target : tie.Need-array-read-target
-array-read-target c = omega (arith, key (c .before .before .before .before .before) .short)
+array-read-target c =
+    let f = c .before .before .before .before .before in
+    omega (arith, key f .short)
 
 push-back-requires : tie.Need-push-back-requires
 push-back-requires c κs =
-    let k = key (c .before .before .before .before .before .before .before .before .before) in
-    let st = c .before .before .before .before .before .before .before .before .before .before .before .before .before .before .before .before .before .before .before .before in
+    let f = c .before .before .before .before .before .before .before .before .before in
+    let k = key f in
+    let st = start f in
     (st .pre .0, st .pre .1 .1, k .trail, k .roomy)
 
 cast-shift-nets : tie.Need-cast-shift-nets
-cast-shift-nets c = omega (arith, key (c .before .before .before .before .before .before .before .before .before .before .before .before) .shiftable .end)
+cast-shift-nets c =
+    let f = c .before .before .before .before .before .before .before .before .before .before .before .before in
+    omega (arith, key f .shiftable .end)
 
 shift-nets-requires : tie.Need-shift-nets-requires
-shift-nets-requires c κs = key (c .before .before .before .before .before .before .before .before .before .before .before .before) .shiftable
+shift-nets-requires c κs =
+    let f = c .before .before .before .before .before .before .before .before .before .before .before .before in
+    key f .shiftable
 
 returns-3 : tie.Need-returns-3
 returns-3 c =
-    let k = key (c .before .before .before .before .before .before .before .before .before .before .before .before .before) in
-    let st = c .before .before .before .before .before .before .before .before .before .before .before .before .before .before .before .before .before .before .before .before .before .before .before .before in
+    let f = c .before .before .before .before .before .before .before .before .before .before .before .before .before in
+    let k = key f in
+    let st = start f in
     rw (c .before .before .before .push-back .ensures, c .shift-nets .ensures)
-    (sym (improved-done (take (st .args .count) (st .args .streams)) (st .args .count) _ _ _ _ (in-use (st .args .streams) (st .args .count) (st .pre .0)) (c .before .before .before .before .before .before .before .before .before .before .before .before .before .before .before .before .before .before .before .before .before .first-over .ensures) (c .before .before .before .before .before .before .before .before .before .before .before .before .before .before .before .before .before .before .before .before .if1 .left) (rw (c .before .before .before .before .before .before .before .before .before .before .before .before .before .before .root .ensures) at (c .before .before .before .before .before .before .before .before .before .before .before .before .before .search .ensures)) (k .found-it)))
+    (sym
+    (improved-done (take (st .args .count) (st .args .streams)) (st .args .count) _ _ _ _ (in-use (st .args .streams) (st .args .count) (st .pre .0)) (over f .first-over .ensures) (passed f .if1 .left) (rw (f .before .root .ensures) at (f .search .ensures)) (k .found-it)))
 
 pub improve-spec : {M : Type 1} → statement M
 improve-spec =

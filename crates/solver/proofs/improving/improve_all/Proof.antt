@@ -1,6 +1,7 @@
-use mathlib.Core.Path.{_≡_, refl, sym, _∙_, ap}
-use mathlib.Core.Bool.{Bool, true, false, not}
-use Prim.Native.Nat.{ℕ, suc, _≤_, _<_, _-_, _+_}
+-- `solver::improving::improve_all` meets its contract: with `left` improvements to go it comes to what it comes to from the start.
+use mathlib.Core.Path.{_≡_, refl, sym, _∙_}
+use mathlib.Core.Bool.{true}
+use Prim.Native.Nat.{_≤_, _-_}
 use native.Mathlib.Omega.{arith}
 use borrow.Author.Needs.{needs}
 use borrow.Author.Tests.{not-true, not-false}
@@ -12,7 +13,8 @@ use Rattle.solver.proofs.improving.improve_all.Statement.{statement}
 use Rattle.solver.proofs.improving.improve_all.Tie as tie
 
 abbrev Inv-loop : tie.InvT-loop
-Inv-loop streams count delta budget st₀ left₀ st left = (left ≤ budget) × Allows (take count streams) delta left st × (improvements left (take count streams) delta st ≡ improvements budget (take count streams) delta st₀)
+Inv-loop streams count delta budget st₀ left₀ st left =
+    (left ≤ budget) × Allows (take count streams) delta left st × (improvements left (take count streams) delta st ≡ improvements budget (take count streams) delta st₀)
 
 abbrev μ-loop : tie.MeasureT-loop
 μ-loop streams count delta budget st₀ left₀ st left = left
@@ -42,7 +44,8 @@ loop-again c =
     let r = c .before .before .before .improve in
     let d : r .result .done ≡ true = not-false _ (c .before .if1 .left) in (
       omega arith,
-      allows-next (at .before .args .streams) (at .before .args .count) _ (at .loop .left) _ (r .result) (at .before .pre .0) (at .before .pre .1 .0) (omega arith) (at .loop .inv .1) (r .ensures) d,
+      allows-next (at .before .args .streams) (at .before .args .count) _ (at .loop .left) _ (r .result) (at .before .pre .0) (at .before .pre .1 .0) (omega arith)
+          (at .loop .inv .1) (r .ensures) d,
       steps-next _ _ (at .loop .left) _ (r .result) (omega arith) (r .ensures) d ∙ at .loop .inv .2,
     )
 

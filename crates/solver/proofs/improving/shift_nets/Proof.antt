@@ -1,3 +1,4 @@
+-- `solver::improving::shift_nets` meets its contract: both stores stay in range.
 use Prim.Native.Nat.{_-_, _*_}
 use lib.ListN.{getD}
 use native.Mathlib.Omega.{arith}
@@ -32,7 +33,8 @@ add-nets : tie.Need-add-nets
 add-nets c =
     let st = c .before .before in
     let es = st .args .nets .now in
-    omega (arith, set-le es (st .args .s) (getD es (st .args .s) 0 - st .args .delta) (st .args .v) (2 * netShift) (omega (arith, st .pre .start, st .pre .long)) (omega (arith, st .pre .most-start)) (st .pre .most-end), st .pre .step)
+    omega
+    (arith, set-le es (st .args .s) (getD es (st .args .s) 0 - st .args .delta) (st .args .v) (2 * netShift) (omega (arith, st .pre .start, st .pre .long)) (omega (arith, st .pre .most-start)) (st .pre .most-end), st .pre .step)
 
 mul-nets-4 : tie.Need-mul-nets-4
 mul-nets-4 c = search needs

@@ -1,10 +1,6 @@
-use mathlib.Core.Path.{_≡_, refl, sym, _∙_, ap}
-use mathlib.Core.Bool.{Bool, true, false, not}
-use mathlib.Core.Logic.{⊎-elim}
-use Prim.Native.Nat.{ℕ, suc, _≤_, _<_, _-_, _+_, _*_, _/_}
+-- `solver::settling::amount_at` meets its contract: every part fits, by the bounds of weight, reading and prices.
+use Prim.Native.Nat.{_≤_, _-_, _+_, _*_}
 use native.Mathlib.Omega.{arith}
-use native.Mathlib.Numerals.{add-one}
-use lib.ListN.{length, getD, set}
 use native.Mathlib.Nat.{div-le-self}
 use Rattle.plants.specs.Limits.{maxWeight}
 use Rattle.paths.specs.Sizes.{mostFlow}
@@ -14,7 +10,8 @@ use borrow.Author.Needs.{needs}
 use Rattle.solver.proofs.settling.amount_at.Statement.{statement}
 use Rattle.solver.proofs.settling.amount_at.Tie as tie
 
-bounds : (c : tie.After-reading-of) → (1 ≤ c .before .weight-of .result) × (c .before .weight-of .result ≤ maxWeight) × (spread ≤ c .reading-of .result) × (c .reading-of .result ≤ mostFlow)
+bounds : (c : tie.After-reading-of)
+    → (1 ≤ c .before .weight-of .result) × (c .before .weight-of .result ≤ maxWeight) × (spread ≤ c .reading-of .result) × (c .reading-of .result ≤ mostFlow)
 bounds c =
     let st = c .before .before in (
       rw (c .before .weight-of .ensures) (st .pre .weighed),

@@ -1,3 +1,4 @@
+-- `solver::settling::book` meets its contract: both stores stay in range.
 use mathlib.Core.Path.{refl}
 use native.Mathlib.Omega.{arith}
 use Rattle.solver.proofs.Booking.{left-around}

@@ -1,9 +1,10 @@
-use mathlib.Core.Path.{_≡_, refl, sym, _∙_, ap}
-use Prim.Native.Nat.{ℕ, _≤_, _<_, _-_, _*_}
+-- `solver::settling::nets_of` meets its contract: the first i streams are booked.
+use mathlib.Core.Path.{_≡_, sym, _∙_}
+use Prim.Native.Nat.{_≤_, _-_}
 use native.Mathlib.Omega.{arith}
 use borrow.Author.Needs.{needs}
 use mathlib.Core.List.{[]}
-use lib.ListN.{getD, take}
+use lib.ListN.{take}
 use Rattle.solver.specs.Sizes.{netRoom}
 use Rattle.solver.specs.Model.{netsTo}
 use Rattle.solver.proofs.Booking.{nets-around, around-more}

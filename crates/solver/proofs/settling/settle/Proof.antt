@@ -1,4 +1,5 @@
-use mathlib.Core.Path.{_≡_, sym}
+-- `solver::settling::settle` meets its contract: from what a hint in range gives.
+use mathlib.Core.Path.{sym}
 use Rattle.solver.proofs.Layouts.{ready-settles, ready-amounts, settled-is}
 use Rattle.solver.proofs.settling.settle.Statement.{statement}
 use Rattle.solver.proofs.settling.settle.Tie as tie

@@ -1,7 +1,7 @@
-use mathlib.Core.Path.{_≡_, refl, sym, _∙_, ap}
-use mathlib.Core.Bool.{Bool, true, false, not}
+-- `solver::settling::settle_flows` meets its contract: the first i streams are settled.
+use mathlib.Core.Path.{_≡_, sym, _∙_}
 use mathlib.Core.Logic.{⊎-elim}
-use Prim.Native.Nat.{ℕ, suc, _≤_, _<_, _-_, _+_, _*_, _/_}
+use Prim.Native.Nat.{_≤_, _-_}
 use native.Mathlib.Omega.{arith}
 use lib.ListN.{take}
 use borrow.Author.Needs.{needs}
@@ -36,13 +36,17 @@ mul-amount-at : tie.Need-mul-amount-at Inv-loop μ-loop
 mul-amount-at c = search needs
 
 element-copy-out-amount-at : tie.Need-element-copy-out-amount-at Inv-loop μ-loop
-element-copy-out-amount-at c = omega (arith, c .before .before .before .before .before .before .pre .0 .layout .network .placed (c .before .before .before .before .before .loop .i) (omega arith) .from-in)
+element-copy-out-amount-at c =
+    omega
+    (arith, c .before .before .before .before .before .before .pre .0 .layout .network .placed (c .before .before .before .before .before .loop .i) (omega arith) .from-in)
 
 mul-amount-at-2 : tie.Need-mul-amount-at-2 Inv-loop μ-loop
 mul-amount-at-2 c = search needs
 
 element-copy-out-amount-at-2 : tie.Need-element-copy-out-amount-at-2 Inv-loop μ-loop
-element-copy-out-amount-at-2 c = omega (arith, c .before .before .before .before .before .before .before .pre .0 .layout .network .placed (c .before .before .before .before .before .before .loop .i) (omega arith) .to-in)
+element-copy-out-amount-at-2 c =
+    omega
+    (arith, c .before .before .before .before .before .before .before .pre .0 .layout .network .placed (c .before .before .before .before .before .before .loop .i) (omega arith) .to-in)
 
 amount-at-requires : tie.Need-amount-at-requires Inv-loop μ-loop
 amount-at-requires c κs =

@@ -1,5 +1,6 @@
-use mathlib.Core.Path.{_≡_, refl, sym, _∙_, ap}
-use Prim.Native.Nat.{ℕ, suc, _≤_, _<_, _-_, _+_}
+-- `solver::ties::tie_all` meets its contract: the first i streams are passed.
+use mathlib.Core.Path.{_≡_, sym, _∙_}
+use Prim.Native.Nat.{_≤_, _-_}
 use native.Mathlib.Omega.{arith}
 use borrow.Author.Needs.{needs}
 use lib.ListN.{take}
@@ -18,7 +19,8 @@ loop-holds : tie.Need-loop-holds Inv-loop μ-loop
 loop-holds c = (omega arith, sym (ties-none _ _ _))
 
 tie-at-requires : tie.Need-tie-at-requires Inv-loop μ-loop
-tie-at-requires c κs = let st = c .before .before .before in (st .pre .0, omega arith, st .pre .1, rw (c .before .before .loop .inv .1) (tying-even (st .args .streams) (st .args .count) (st .pre .0) _ _ (st .pre .2) (c .before .before .loop .i) (omega arith)))
+tie-at-requires c κs =
+    let st = c .before .before .before in (st .pre .0, omega arith, st .pre .1, rw (c .before .before .loop .inv .1) (tying-even (st .args .streams) (st .args .count) (st .pre .0) _ _ (st .pre .2) (c .before .before .loop .i) (omega arith)))
 
 add-i : tie.Need-add-i Inv-loop μ-loop
 add-i c = search needs

@@ -1,6 +1,6 @@
-use mathlib.Core.Path.{_≡_, refl, sym, _∙_, ap}
-use mathlib.Core.Bool.{true, false, not}
-use Prim.Native.Nat.{ℕ, suc, _≤_, _<_, _-_, _+_, _*_}
+-- `solver::ties::tie_at` meets its contract: by the parts of the definition; a way round leaves room for the push.
+use mathlib.Core.Path.{_≡_, sym, ap}
+use Prim.Native.Nat.{suc, _-_}
 use native.Mathlib.Omega.{arith}
 use native.Mathlib.Numerals.{add-one}
 use borrow.Author.Tests.{not-true, not-false}
@@ -13,18 +13,35 @@ use borrow.Author.Needs.{needs}
 use Rattle.solver.proofs.ties.tie_at.Statement.{statement}
 use Rattle.solver.proofs.ties.tie_at.Tie as tie
 
--- what the call of tight_path says
-told : (c : tie.After-tight-path) → grownBy (c .tight-path .result .found) (c .tight-path .result .tree) (c .before .before .before .before .before .before .before .before .before .before .before .before .before .args .prices .now) ≡ tightPath (take (c .before .before .before .before .before .before .before .before .before .before .before .before .before .args .count) (c .before .before .before .before .before .before .before .before .before .before .before .before .before .args .t1)) (c .before .before .before .before .before .before .before .before .before .before .before .before .before .args .count) (c .before .before .before .before .before .before .before .before .before .before .before .before .before .args .flows .now) (c .before .before .before .before .before .before .before .before .before .before .before .before .before .args .prices .now) (getD (c .before .before .before .before .before .before .before .before .before .before .before .before .before .args .t1) (c .before .before .before .before .before .before .before .before .before .before .before .before .before .args .i) noStream .to) (suc (c .before .before .before .before .before .before .before .before .before .before .before .before .before .args .i)) rounds (rootAt (getD (c .before .before .before .before .before .before .before .before .before .before .before .before .before .args .t1) (c .before .before .before .before .before .before .before .before .before .before .before .before .before .args .i) noStream .from))
+-- The start, and the tests passed, from where the search is done.
+abbrev start : tie.After-tight-path → tie.Start
+start c = c .before .before .before .before .before .before .before .before .before .before .before .before .before
+
+abbrev metered : tie.After-tight-path → tie.Else1
+metered c = c .before .before .before .before .before .before .before .before .before .before
+
+abbrev slacked : tie.After-tight-path → tie.After-slack
+slacked c = c .before .before .before .before
+
+abbrev tight : tie.After-tight-path → tie.Else2
+tight c = c .before .before .before
+
+-- What the call of tight_path says.
+told : (c : tie.After-tight-path)
+    → grownBy (c .tight-path .result .found) (c .tight-path .result .tree) (start c .args .prices .now)
+    ≡ tightPath (take (start c .args .count) (start c .args .t1)) (start c .args .count) (start c .args .flows .now) (start c .args .prices .now) (getD (start c .args .t1) (start c .args .i) noStream .to) (suc (start c .args .i)) rounds (rootAt (getD (start c .args .t1) (start c .args .i) noStream .from))
 told c = rw (c .before .root .ensures, add-one) at (c .tight-path .ensures)
 
 -- A way round was found: what the push needs.
-ready : (c : tie.Else3) → Pushable (c .before .before .before .before .before .before .before .before .before .before .before .before .before .before .before .args .t1) (c .before .before .before .before .before .before .before .before .before .before .before .before .before .before .before .args .count) (c .before .before .before .before .before .before .before .before .before .before .before .before .before .before .before .pre .0) (c .before .before .before .before .before .before .before .before .before .before .before .before .before .before .before .args .prices .now) (c .before .before .before .before .before .before .before .before .before .before .before .before .before .before .before .args .i) (c .before .before .before .before .before .before .before .before .before .before .before .before .before .before .before .pre .1) (c .before .before .before .before .before .before .before .before .before .before .before .before .before .before .before .args .flows .now) (c .before .before .tight-path .result .tree)
+ready : (c : tie.Else3)
+    → Pushable (start (c .before .before) .args .t1) (start (c .before .before) .args .count) (start (c .before .before) .pre .0) (start (c .before .before) .args .prices .now) (start (c .before .before) .args .i) (start (c .before .before) .pre .1) (start (c .before .before) .args .flows .now) (c .before .before .tight-path .result .tree)
 ready c =
-    let st = c .before .before .before .before .before .before .before .before .before .before .before .before .before .before .before in
+    let f = c .before .before in
+    let st = start f in
     pushable (st .args .t1) (st .args .count) (st .pre .0) _ _ (st .pre .1) _ (st .pre .3) _
-    (not-false _ (c .before .before .before .before .before .before .before .before .before .before .before .before .if1 .left))
-    (rw (c .before .before .before .before .before .before .slack .ensures) at (c .before .before .before .before .before .if2 .left))
-    (told (c .before .before))
+    (not-false _ (metered f .if1 .left))
+    (rw (slacked f .slack .ensures) at (tight f .if2 .left))
+    (told f)
     (not-false _ (c .if3 .left))
 
 mul-s : tie.Need-mul-s
@@ -52,13 +69,16 @@ mul-slack-2 : tie.Need-mul-slack-2
 mul-slack-2 c = search needs
 
 element-copy-out-slack-2 : tie.Need-element-copy-out-slack-2
-element-copy-out-slack-2 c = omega (arith, c .before .before .before .before .before .before .pre .0 .network .placed _ (c .before .before .before .before .before .before .pre .1) .from-in)
+element-copy-out-slack-2 c =
+    omega (arith, c .before .before .before .before .before .before .pre .0 .network .placed _ (c .before .before .before .before .before .before .pre .1) .from-in)
 
 mul-slack-3 : tie.Need-mul-slack-3
 mul-slack-3 c = search needs
 
 element-copy-out-slack-3 : tie.Need-element-copy-out-slack-3
-element-copy-out-slack-3 c = omega (arith, c .before .before .before .before .before .before .before .pre .0 .network .placed _ (c .before .before .before .before .before .before .before .pre .1) .to-in)
+element-copy-out-slack-3 c =
+    omega
+    (arith, c .before .before .before .before .before .before .before .pre .0 .network .placed _ (c .before .before .before .before .before .before .before .pre .1) .to-in)
 
 slack-requires : tie.Need-slack-requires
 slack-requires c κs =
@@ -67,51 +87,71 @@ slack-requires c κs =
     (r, record { amount = omega (arith, st .pre .3 .close (st .args .i) (omega (arith, st .pre .0 .network .few, st .pre .1)) .0, st .pre .0 .network .few, st .pre .1); step = omega arith; price-u = st .pre .2 _ (omega (arith, r .from-in)); price-v = st .pre .2 _ (omega (arith, r .to-in)) })
 
 returns-2 : tie.Need-returns-2
-returns-2 c = let st = c .before .before .before .before .before .before .before .before .before .before in sym (tied-slack (st .args .t1) (st .args .count) (st .pre .0) _ _ (st .pre .1) _ (not-false _ (c .before .before .before .before .before .before .before .if1 .left)) (rw (c .before .slack .ensures) at (c .if2 .taken)))
+returns-2 c =
+    let st = c .before .before .before .before .before .before .before .before .before .before in sym (tied-slack (st .args .t1) (st .args .count) (st .pre .0) _ _ (st .pre .1) _ (not-false _ (c .before .before .before .before .before .before .before .if1 .left)) (rw (c .before .slack .ensures) at (c .if2 .taken)))
 
 root-requires : tie.Need-root-requires
-root-requires c κs = omega (arith, c .before .before .before .before .before .before .before .before .before .before .before .pre .0 .network .placed _ (c .before .before .before .before .before .before .before .before .before .before .before .pre .1) .from-in)
+root-requires c κs =
+    omega
+    (arith, c .before .before .before .before .before .before .before .before .before .before .before .pre .0 .network .placed _ (c .before .before .before .before .before .before .before .before .before .before .before .pre .1) .from-in)
 
 add-tight-path : tie.Need-add-tight-path
 add-tight-path c = search needs
 
 tight-path-requires : tie.Need-tight-path-requires
 tight-path-requires c κs =
-    let st = c .before .before .before .before .before .before .before .before .before .before .before .before in
-    (record { network = st .pre .0 .network; step = omega arith; amounts = λ k l. omega (arith, st .pre .3 .close k (omega (arith, st .pre .0 .network .few)) .0, st .pre .0 .network .few, st .pre .1); prices = st .pre .2 }, ap (λ t. t .len) (c .root .ensures))
+    let st = c .before .before .before .before .before .before .before .before .before .before .before .before in (
+      record { network = st .pre .0 .network; step = omega arith; amounts = λ k l. omega (arith, st .pre .3 .close k (omega (arith, st .pre .0 .network .few)) .0, st .pre .0 .network .few, st .pre .1); prices = st .pre .2 },
+      ap
+          (λ t. t .len) (c .root .ensures),
+    )
 
 returns-3 : tie.Need-returns-3
-returns-3 c = let st = c .before .before .before .before .before .before .before .before .before .before .before .before .before .before .before in sym (tied-cut (st .args .t1) (st .args .count) (st .pre .0) _ _ (st .pre .1) _ _ (not-false _ (c .before .before .before .before .before .before .before .before .before .before .before .before .if1 .left)) (rw (c .before .before .before .before .before .before .slack .ensures) at (c .before .before .before .before .before .if2 .left)) (told (c .before .before)) (not-true _ (c .if3 .taken)))
+returns-3 c =
+    let f = c .before .before in
+    let st = start f in sym (tied-cut (st .args .t1) (st .args .count) (st .pre .0) _ _ (st .pre .1) _ _ (not-false _ (metered f .if1 .left)) (rw (slacked f .slack .ensures) at (tight f .if2 .left)) (told f) (not-true _ (c .if3 .taken)))
 
 push-back-requires : tie.Need-push-back-requires
 push-back-requires c κs =
-    let st = c .before .before .before .before .before .before .before .before .before .before .before .before .before .before .before .before .before .before .before .before .before in
+    let f = c .before .before .before .before .before .before .before .before in
+    let st = start f in
     let r = ready (c .before .before .before .before .before .before) in
     (st .pre .0 .network, omega arith, r .trail, r .roomy)
 
 mul-flows : tie.Need-mul-flows
-mul-flows c = let st = c .before .before .before .before .before .before .before .before .before .before .before .before .before .before .before .before .before .before .before .before .before .before in omega (arith, st .pre .0 .network .few, st .pre .1)
+mul-flows c =
+    let f = c .before .before .before .before .before .before .before .before .before in
+    let st = start f in omega (arith, st .pre .0 .network .few, st .pre .1)
 
 element-copy-out-flows : tie.Need-element-copy-out-flows
-element-copy-out-flows c = let st = c .before .before .before .before .before .before .before .before .before .before .before .before .before .before .before .before .before .before .before .before .before .before in omega (arith, st .pre .0 .network .few, st .pre .1)
+element-copy-out-flows c =
+    let f = c .before .before .before .before .before .before .before .before .before in
+    let st = start f in omega (arith, st .pre .0 .network .few, st .pre .1)
 
 sub-flows : tie.Need-sub-flows
 sub-flows c =
-    let st = c .before .before .before .before .before .before .before .before .before .before .before .before .before .before .before .before .before .before .before .before .before .before .before in
+    let f = c .before .before .before .before .before .before .before .before .before .before in
+    let st = start f in
     let r = ready (c .before .before .before .before .before .before .before .before) in
     rw (c .before .push-back .ensures) (r .some)
 
 mul-flows-2 : tie.Need-mul-flows-2
-mul-flows-2 c = let st = c .before .before .before .before .before .before .before .before .before .before .before .before .before .before .before .before .before .before .before .before .before .before .before in omega (arith, st .pre .0 .network .few, st .pre .1)
+mul-flows-2 c =
+    let f = c .before .before .before .before .before .before .before .before .before .before in
+    let st = start f in omega (arith, st .pre .0 .network .few, st .pre .1)
 
 element-write-flows : tie.Need-element-write-flows
-element-write-flows c = let st = c .before .before .before .before .before .before .before .before .before .before .before .before .before .before .before .before .before .before .before .before .before .before .before in omega (arith, st .pre .0 .network .few, st .pre .1)
+element-write-flows c =
+    let f = c .before .before .before .before .before .before .before .before .before .before in
+    let st = start f in omega (arith, st .pre .0 .network .few, st .pre .1)
 
 returns-4 : tie.Need-returns-4
 returns-4 c =
-    let st = c .before .before .before .before .before .before .before .before .before .before .before .before .before .before .before .before .before .before .before .before .before .before .before in
+    let f = c .before .before .before .before .before .before .before .before .before .before in
+    let st = start f in
     rw (c .before .push-back .ensures)
-    (sym (tied-round (st .args .t1) (st .args .count) (st .pre .0) _ _ (st .pre .1) _ _ (not-false _ (c .before .before .before .before .before .before .before .before .before .before .before .before .before .before .before .before .before .before .before .before .if1 .left)) (rw (c .before .before .before .before .before .before .before .before .before .before .before .before .before .before .slack .ensures) at (c .before .before .before .before .before .before .before .before .before .before .before .before .before .if2 .left)) (told (c .before .before .before .before .before .before .before .before .before .before)) (not-false _ (c .before .before .before .before .before .before .before .before .if3 .left))))
+    (sym
+    (tied-round (st .args .t1) (st .args .count) (st .pre .0) _ _ (st .pre .1) _ _ (not-false _ (metered f .if1 .left)) (rw (slacked f .slack .ensures) at (tight f .if2 .left)) (told f) (not-false _ (c .before .before .before .before .before .before .before .before .if3 .left))))
 
 pub tie-at-spec : {M : Type 1} → statement M
 tie-at-spec =

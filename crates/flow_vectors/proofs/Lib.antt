@@ -1,0 +1,3 @@
+-- Laws of texts and of limits.
+pub mod Signs
+pub mod Keeping

@@ -1,0 +1,2 @@
+-- Texts of plants with known flows.
+pub mod Texts
