@@ -1,0 +1,365 @@
+"""Self-check of the reference solver, mostly against brute force on small plants.
+
+    python3 reference/brute.py
+
+The brute force follows the definitions word for word: it lists the balanced
+flows that could be the cheapest and takes the least by cost and tie rule.
+"""
+
+import math
+import random
+import struct
+import sys
+import time
+from fractions import Fraction
+from itertools import product
+
+import solver
+from solver import Plant, Stream
+
+# Brute force
+
+
+def net_inflow(plant, flow):
+    """For each place, the outside included, the flows in minus the flows out."""
+    net = [0] * (plant.units + 1)
+    for s, x in zip(plant.streams, flow):
+        net[s.source] -= x
+        net[s.target] += x
+    return net
+
+
+def balanced_flows(plant, budget):
+    """Balanced flows of cost up to the budget, enough of them to tell the cheapest and the classes.
+
+    Metered amounts: the cost of one stream alone keeps within the budget. Also
+    none exceeds the sum of all readings' sizes: take a flow apart into cycles of
+    ones that run as it runs; if it is cheapest, taking away one cycle gains
+    nothing, so some metered stream of the cycle carries no more than its reading;
+    hence there are at most that many cycles with metered streams.
+
+    Unmetered amounts: if some balance the metered ones, so do some over a forest,
+    each at most half of what the metered ones leave over at all places; and if two
+    differ on a stream, adding a cycle of ones gives a second. So the bound, one
+    more than half, hides no answer.
+    """
+    streams = plant.streams
+    order = sorted(range(len(streams)), key=lambda i: not streams[i].metered)
+    closes = {i: [] for i in order}
+    for place in range(plant.units + 1):
+        ends = [i for i in order if place in streams[i][:2]]
+        if ends:
+            closes[ends[-1]].append(place)
+    most = sum(abs(s.reading) for s in streams)
+    flow = [0] * len(streams)
+    left = [0] * (plant.units + 1)
+
+    def choose(k, spare, bound):
+        if k == len(order):
+            yield tuple(flow)
+            return
+        i = order[k]
+        source, target, weight, reading = streams[i]
+        if weight:
+            reach = math.isqrt(spare // weight)
+            low, high = max(-most, reading - reach), min(most, reading + reach)
+        else:
+            if bound is None:
+                bound = sum(map(abs, left)) // 2 + 1
+            low, high = -bound, bound
+        for x in range(low, high + 1):
+            flow[i] = x
+            left[source] -= x
+            left[target] += x
+            if not any(left[place] for place in closes[i]):
+                yield from choose(k + 1, spare - weight * (x - reading) ** 2, bound)
+            left[source] += x
+            left[target] -= x
+
+    return choose(0, budget, None)
+
+
+def brute_flows(plant):
+    """The least cost, how many choices of metered amounts have it, and flows with the one to take."""
+
+    def key(flow):
+        amounts = tuple(x for s, x in zip(plant.streams, flow) if s.metered)
+        return sum(s.weight * (x - s.reading) ** 2 for s, x in zip(plant.streams, flow)), amounts
+
+    budget = 1
+    while not (flows := list(balanced_flows(plant, budget))):
+        budget *= 2
+    keys = set(map(key, flows))
+    best = min(keys)
+    equal = sum(cost == best[0] for cost, _ in keys)
+    return best[0], equal, [flow for flow in flows if key(flow) == best]
+
+
+def joined(plant, chosen):
+    """Whether a chain of chosen streams joins two places, by Warshall's closure."""
+    places = range(plant.units + 1)
+    join = [[a == b for b in places] for a in places]
+    for s in plant.streams:
+        if chosen(s):
+            join[s.source][s.target] = join[s.target][s.source] = True
+    for via, a, b in product(places, repeat=3):
+        join[a][b] = join[a][b] or join[a][via] and join[via][b]
+    return join
+
+
+def brute_balance(plant):
+    """The balance of a plant, and whether the tie rule chose it."""
+    cost, equal, flows = brute_flows(plant)
+    group = joined(plant, lambda s: not s.metered)
+    piece = joined(plant, lambda s: True)
+    classes, numbers = "", []
+    for i, s in enumerate(plant.streams):
+        seen = {flow[i] for flow in flows}
+        if s.metered:
+            classes += "R" if group[s.source][s.target] else "A"
+        else:
+            classes += "G" if len(seen) == 1 else "W"
+        numbers.append(seen.pop() if len(seen) == 1 else None)
+    degrees = len({tuple(row) for row in group}) - len({tuple(row) for row in piece})
+    if degrees == 0:
+        verdict = 2
+    else:
+        verdict = int(cost > solver.CRITICAL[degrees - 1])
+    return solver.Balance(classes, tuple(numbers), cost, degrees, verdict), equal > 1
+
+
+# Tries
+
+
+def small_plant(rng):
+    units = rng.randint(1, 4)
+    metered_share = rng.choice((0.3, 0.6, 0.8, 1.0))
+    weights = rng.choice(((1,), (10,), (1, 2), (1, 2, 3), (1, 1000)))
+    span = rng.randint(1, 4)
+    streams = []
+    for _ in range(rng.randint(0, 5)):
+        source, target = rng.sample(range(units + 1), 2)
+        if rng.random() < metered_share:
+            streams.append(Stream(source, target, rng.choice(weights), rng.randint(-span, span)))
+        else:
+            streams.append(Stream(source, target))
+    return Plant(units, tuple(streams))
+
+
+def large_plant(rng, units, count, metered_share):
+    streams = []
+    for _ in range(count):
+        source, target = rng.sample(range(units + 1), 2)
+        if rng.random() < metered_share:
+            streams.append(Stream(source, target, rng.choice((1, 1000, rng.randint(1, 1000))), rng.randint(-10**6, 10**6)))
+        else:
+            streams.append(Stream(source, target))
+    return Plant(units, tuple(streams))
+
+
+def rank(rows):
+    """Rank of a matrix of fractions, by elimination."""
+    rows = [[Fraction(x) for x in row] for row in rows]
+    found = 0
+    for column in range(len(rows[0]) if rows else 0):
+        pivot = next((r for r in range(found, len(rows)) if rows[r][column]), None)
+        if pivot is None:
+            continue
+        rows[found], rows[pivot] = rows[pivot], rows[found]
+        for r in range(found + 1, len(rows)):
+            factor = rows[r][column] / rows[found][column]
+            if factor:
+                rows[r] = [x - factor * y for x, y in zip(rows[r], rows[found])]
+        found += 1
+    return found
+
+
+def incidence(plant, chosen):
+    return [
+        [(s.target == place) - (s.source == place) for place in range(plant.units + 1)]
+        for s in plant.streams
+        if chosen(s)
+    ]
+
+
+def real_cost(plant):
+    """Least cost over all balanced flows in fractions, an exact fraction.
+
+    With unmetered streams merged away, flow = reading - (what one end asks minus
+    what the other asks) / weight, and the balances give one equation per group.
+    """
+    links = solver.links_of(plant, lambda s: not s.metered)
+    groups = sorted(solver.parts_of(links), key=min)
+    number = {place: k for k, group in enumerate(groups) for place in group}
+    size = len(groups)
+    rows = [[Fraction(0)] * (size + 1) for _ in range(size)]
+    for s in plant.streams:
+        if s.metered and number[s.source] != number[s.target]:
+            for end, sign in ((number[s.source], -1), (number[s.target], 1)):
+                rows[end][number[s.target]] += Fraction(sign, s.weight)
+                rows[end][number[s.source]] -= Fraction(sign, s.weight)
+                rows[end][size] += sign * s.reading
+    pivots = []
+    for column in range(size):
+        pivot = next((r for r in range(len(pivots), size) if rows[r][column]), None)
+        if pivot is None:
+            continue
+        at = len(pivots)
+        rows[at], rows[pivot] = rows[pivot], rows[at]
+        rows[at] = [x / rows[at][column] for x in rows[at]]
+        for r in range(size):
+            if r != at and rows[r][column]:
+                factor = rows[r][column]
+                rows[r] = [x - factor * y for x, y in zip(rows[r], rows[at])]
+        pivots.append(column)
+    asked = [Fraction(0)] * size
+    for at, column in enumerate(pivots):
+        asked[column] = rows[at][size]
+    return sum(
+        (asked[number[s.target]] - asked[number[s.source]]) ** 2 / s.weight
+        for s in plant.streams
+        if s.metered
+    )
+
+
+def chi_square_below(degrees, value):
+    """Probability that chi-square of these degrees is below the value."""
+    half, a = value / 2, degrees / 2
+    term = total = 1 / a
+    k = 0
+    while term > total * 1e-17:
+        k += 1
+        term *= half / (a + k)
+        total += term
+    return total * math.exp(a * math.log(half) - half - math.lgamma(a))
+
+
+def metered(source, target, reading, weight=10):
+    return Stream(source, target, weight, reading)
+
+
+# The plants to try whose answers the definition states.
+STATED = (
+    ((metered(0, 1, 103), metered(1, 0, 60), metered(1, 0, 40)), 1, "AAA", (102, 61, 41), 30, 1, 0),
+    ((metered(0, 1, 101), metered(1, 0, 60), metered(1, 0, 40)), 1, "AAA", (100, 60, 40), 10, 1, 0),
+    ((metered(0, 1, 100), metered(1, 0, 103)), 1, "AA", (101, 101), 50, 1, 0),
+    ((metered(0, 1, 100, 30), metered(1, 0, 104)), 1, "AA", (101, 101), 120, 1, 0),
+    ((metered(0, 1, 100), Stream(1, 0)), 1, "RG", (100, 100), 0, 0, 2),
+    ((metered(0, 1, 7),), 1, "A", (0,), 490, 1, 0),
+    ((metered(0, 1, 61, 1),), 1, "A", (0,), 3721, 1, 0),
+    ((metered(0, 1, 62, 1),), 1, "A", (0,), 3844, 1, 1),
+    ((), 1, "", (), 0, 0, 2),
+    ((metered(0, 1, 100), Stream(1, 2), Stream(1, 2), metered(2, 0, 98)), 2, "AWWA", (99, None, None, 99), 20, 1, 0),
+)
+
+LISTING_PLANT = "01 02  02 00 01 00 0A 00 00 00 64  03 01 02  03 01 02  02 02 00 00 0A 00 00 00 62  04 04"
+LISTING = "1 A 99\n2 W -\n3 W -\n4 A 99\ntotal 1 20 1 pass\n"
+
+# Files for each refusal of a file.
+REFUSED = (
+    ("", 3), ("01", 3), ("01 01", 3), ("01 01 04", 3), ("01 01 02 00 01 00 0A 00 00 00", 3),
+    ("00", 4), ("02", 4), ("01 01 01", 4), ("01 01 05", 4), ("01 01 11", 4),
+    ("01 01" + 97 * " 03 00 01", 5), ("01 01" + 96 * " 03 00 01" + " 02", 5),
+    ("01 00", 6), ("01 21", 6),
+    ("01 01 03 02 00", 7), ("01 01 03 00 02", 7), ("01 01 03 02 02", 7),
+    ("01 01 03 00 00", 8), ("01 01 03 01 01", 8),
+    ("01 01 02 00 01 00 00 00 00 00 00", 9), ("01 01 02 00 01 03 E9 00 00 00 00", 9),
+    ("01 01 02 00 01 00 01 00 0F 42 41", 10), ("01 01 02 00 01 00 01 FF F0 BD BF", 10),
+    ("01 01 04 01", 11), ("01 01 03 00 01 04 00", 11), ("01 01 04 01 00", 11),
+    ("01 01 04 00 00", 12),
+)
+
+
+def expect(what, got, wanted):
+    if got != wanted:
+        sys.exit(f"self-check: {what}\n  got    {got}\n  wanted {wanted}")
+
+
+def check_stated():
+    for streams, units, *wanted in STATED:
+        expect(streams, solver.balance(Plant(units, streams)), solver.Balance(*wanted))
+    expect("listing", solver.listing(bytes.fromhex(LISTING_PLANT)), LISTING)
+    sheet = b"".join((
+        struct.pack(">Bq", 0x11, 99), b"\x14\x14", struct.pack(">Bq", 0x11, 99),
+        struct.pack(">BIQBB", 0x1F, 8, 20, 1, 0),
+    ))
+    expect("sheet", solver.sheet_call(bytes.fromhex(LISTING_PLANT), 7, 879), (0, 35, 8, sheet))
+    return len(STATED)
+
+
+def check_refused():
+    for text, number in REFUSED:
+        data = bytes.fromhex(text)
+        for last in (0, 7, 2**32 - 2):
+            expect(text, solver.sheet_call(data, last, 879), (number, 0, last, b""))
+        expect(text, solver.sheet_call(data, 2**32 - 1, 879), (2, 0, 2**32 - 1, b""))
+        expect(text, solver.sheet_call(data, 2**32 - 1, 878), (1, 0, 2**32 - 1, b""))
+        expect(text, solver.listing(data), f"refused {number}\n")
+    return len(REFUSED)
+
+
+def check_critical():
+    for degrees, value in enumerate(solver.CRITICAL, 1):
+        below = chi_square_below(degrees, (value - 0.5) / 1000)
+        above = chi_square_below(degrees, (value + 0.5) / 1000)
+        expect(f"critical value, degrees {degrees}", below < 0.95 < above, True)
+    return len(solver.CRITICAL)
+
+
+def check_small(count):
+    rng = random.Random(1)
+    ties = 0
+    letters = ""
+    for _ in range(count):
+        plant = small_plant(rng)
+        result = solver.balance(plant)
+        wanted, tied = brute_balance(plant)
+        expect(plant, result, wanted)
+        ties += tied
+        letters += result.classes
+        for letter, amount, s in zip(result.classes, result.numbers, plant.streams):
+            if letter == "R":
+                expect(plant, amount, s.reading)
+        ranks = rank(incidence(plant, lambda s: True)) - rank(incidence(plant, lambda s: not s.metered))
+        expect(plant, result.degrees, ranks)
+    print(f"  with ties {ties};", *(f"{letter} {letters.count(letter)}" for letter in "ARGW"))
+    return count
+
+
+def check_large(count):
+    """On large plants: balance, the bound from the optimum in fractions, and renumbered places."""
+    rng = random.Random(2)
+    for k in range(count):
+        units, streams = ((32, 96), (32, 40), (12, 96), (5, 60))[k % 4]
+        plant = large_plant(rng, units, streams, rng.choice((0.3, 0.7, 1.0)))
+        result = solver.balance(plant)
+        flow = solver.cheapest_flow(plant)
+        expect(plant, set(net_inflow(plant, flow)), {0})
+        for letter, amount, x in zip(result.classes, result.numbers, flow):
+            if letter != "W":
+                expect(plant, amount, x)
+        least = real_cost(plant)
+        slack = Fraction(sum(s.weight for s, letter in zip(plant.streams, result.classes) if letter == "A"), 4)
+        expect(plant, least <= result.cost <= least + slack, True)
+        names = list(range(units + 1))
+        rng.shuffle(names)
+        moved = [s._replace(source=names[s.source], target=names[s.target]) for s in plant.streams]
+        expect(plant, solver.balance(Plant(units, tuple(moved))), result)
+    return count
+
+
+def main():
+    for what, check in (
+        ("stated plants", check_stated),
+        ("refused files", check_refused),
+        ("critical values", check_critical),
+        ("small plants against brute force", lambda: check_small(30_000)),
+        ("large plants", lambda: check_large(80)),
+    ):
+        start = time.monotonic()
+        count = check()
+        print(f"{what}: {count} right, {time.monotonic() - start:.1f} s")
+
+
+if __name__ == "__main__":
+    main()

@@ -1,0 +1,120 @@
+"""What the cases are made of: repeatable draws, plant files from their parts, cases."""
+
+import math
+from typing import NamedTuple
+
+from solver import READING, SHEET_LENGTH, Stream
+
+
+class Draws:
+    """Repeatable draws (splitmix64), the same in every version of Python."""
+
+    def __init__(self, seed):
+        self.state = seed
+
+    def bits(self):
+        self.state = (self.state + 0x9E3779B97F4A7C15) % 2**64
+        z = self.state
+        z = (z ^ (z >> 30)) * 0xBF58476D1CE4E5B9 % 2**64
+        z = (z ^ (z >> 27)) * 0x94D049BB133111EB % 2**64
+        return z ^ (z >> 31)
+
+    def between(self, low, high):
+        """A whole number from low to high, both included."""
+        return low + (self.bits() * (high - low + 1) >> 64)
+
+    def chance(self, per_cent):
+        return self.between(1, 100) <= per_cent
+
+    def pick(self, choices):
+        return choices[self.between(0, len(choices) - 1)]
+
+    def two_places(self, units):
+        """Two different places out of 0 to units."""
+        source = self.between(0, units)
+        target = self.between(0, units - 1)
+        return source, target + (target >= source)
+
+    def shuffled(self, items):
+        items = list(items)
+        for k in range(len(items) - 1, 0, -1):
+            other = self.between(0, k)
+            items[k], items[other] = items[other], items[k]
+        return items
+
+    def noise(self, weight):
+        """An error of a meter: about normal, variance 1,000 / weight, made whole."""
+        half = math.isqrt(10**9 // weight) // 2
+        return (sum(self.between(-half, half) for _ in range(12)) + 500) // 1_000
+
+
+class Case(NamedTuple):
+    """A call: plant file, last sheet number, slice length; the number meant to be returned, if said."""
+
+    file: bytes
+    last: int = 0
+    slice_length: int = SHEET_LENGTH
+    expected: int | None = None
+
+
+def unmetered(source, target):
+    return Stream(source, target)
+
+
+def metered(source, target, reading, weight=10):
+    return Stream(source, target, weight, reading)
+
+
+def site_record(units):
+    return bytes((0x01, units))
+
+
+def stream_record(stream):
+    """A record of a stream; weights and readings out of their ranges are written as they are."""
+    if stream.weight == 0:
+        return bytes((0x03, stream.source, stream.target))
+    return metered_record(*stream)
+
+
+def metered_record(source, target, weight, reading):
+    return bytes((0x02, source, target)) + weight.to_bytes(2, "big") + reading.to_bytes(4, "big", signed=True)
+
+
+def end_record(count):
+    return bytes((0x04, count))
+
+
+def plant_file(units, streams):
+    return site_record(units) + b"".join(map(stream_record, streams)) + end_record(len(streams))
+
+
+def taken(units, streams, last=0, slice_length=SHEET_LENGTH):
+    """A case whose plant is accepted."""
+    return Case(plant_file(units, streams), last, slice_length, 0)
+
+
+def balanced_amounts(draws, units, streams, rounds, most):
+    """A balanced flow: amounts sent round cycles found by walking along the streams at random."""
+    leaving = [[] for _ in range(units + 1)]
+    for i, s in enumerate(streams):
+        leaving[s.source].append(i)
+    amounts = [0] * len(streams)
+    for _ in range(rounds):
+        place, walk, since = draws.between(0, units), [], {}
+        while leaving[place] and place not in since:
+            since[place] = len(walk)
+            walk.append(draws.pick(leaving[place]))
+            place = streams[walk[-1]].target
+        if place in since:
+            amount = draws.between(1, most)
+            for i in walk[since[place] :]:
+                amounts[i] += amount
+    return amounts
+
+
+def read_with_noise(draws, streams, amounts):
+    """The streams with readings near these amounts, the error by the weight; a reading keeps in its range."""
+    return [
+        s._replace(reading=max(-READING, min(READING, x + draws.noise(s.weight)))) if s.weight else s
+        for s, x in zip(streams, amounts)
+    ]

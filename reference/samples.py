@@ -1,0 +1,101 @@
+"""The two sample plants: units, streams, plant files, and what samples/README.md must show of them."""
+
+from typing import NamedTuple
+
+import solver
+from parts import metered, plant_file, unmetered
+
+
+class Sample(NamedTuple):
+    name: str
+    units: tuple  # names of units 1, 2, ...
+    stream_names: tuple
+    streams: tuple
+
+    @property
+    def file(self):
+        return plant_file(len(self.units), self.streams)
+
+    def place(self, number):
+        return f"{number} {self.units[number - 1]}" if number else "0 outside"
+
+    def table(self):
+        """The streams as a table in text."""
+        lines = ["| stream | what | from | to | weight | reading |", "|---|---|---|---|---|---|"]
+        for k, (name, s) in enumerate(zip(self.stream_names, self.streams), 1):
+            meter = f"{s.weight} | {s.reading}" if s.weight else "not metered |"
+            lines.append(f"| {k} | {name} | {self.place(s.source)} | {self.place(s.target)} | {meter} |")
+        return "\n".join(lines) + "\n"
+
+
+LISTING = Sample(
+    "listing",
+    ("boiler", "header"),
+    ("feedwater", "steam, first line", "steam, second line", "steam to the works"),
+    (metered(0, 1, 100), unmetered(1, 2), unmetered(1, 2), metered(2, 0, 98)),
+)
+
+_STEAM_SITE = (
+    ("make-up water", metered(0, 1, 3_254, 40)),
+    ("condensate returned", metered(13, 1, 15_224, 2)),
+    ("steam to the deaerator", unmetered(7, 1)),
+    ("vent of the deaerator", unmetered(1, 0)),
+    ("feedwater", metered(1, 2, 20_397, 2)),
+    ("feedwater to boiler 1", metered(2, 3, 12_261, 4)),
+    ("feedwater to boiler 2", metered(2, 4, 8_151, 4)),
+    ("steam from boiler 1", metered(3, 5, 12_013, 1)),
+    ("steam from boiler 2", metered(4, 5, 7_979, 1)),
+    ("blowdown of boiler 1", unmetered(3, 0)),
+    ("blowdown of boiler 2", metered(4, 0, 158, 40)),
+    ("steam to the turbine", metered(5, 6, 14_026, 1)),
+    ("exhaust of the turbine", metered(6, 7, 13_981, 1)),
+    ("reducing station", unmetered(5, 7)),
+    ("steam to the dryers", metered(7, 8, 9_018, 2)),
+    ("steam to the dye house", metered(7, 9, 5_493, 2)),
+    ("steam to the heating station", metered(7, 10, 3_712, 4)),
+    ("condensate of the dryers, east line", unmetered(8, 11)),
+    ("condensate of the dryers, west line", unmetered(8, 11)),
+    ("steam used up in the dryers", metered(8, 0, 1_085, 1)),
+    ("steam used up in the dye house", unmetered(9, 0)),
+    ("condensate of the dye house", metered(9, 11, 3_795, 4)),
+    ("condensate of the heating station", unmetered(10, 12)),
+    ("condensate from the flash vessel", metered(12, 11, 3_490, 4)),
+    ("flash steam", metered(12, 7, 203, 40)),
+    ("condensate to the polisher", unmetered(11, 13)),
+)
+
+STEAM_SITE = Sample(
+    "steam_site",
+    (
+        "deaerator", "feed pumps", "boiler 1", "boiler 2", "high-pressure header", "turbine", "low-pressure header",
+        "dryers", "dye house", "heating station", "condensate tank", "flash vessel", "polisher",
+    ),
+    tuple(name for name, _ in _STEAM_SITE),
+    tuple(stream for _, stream in _STEAM_SITE),
+)
+
+SAMPLES = (LISTING, STEAM_SITE)
+
+
+def files():
+    """The files under samples/ that follow from the plants, as (path, bytes)."""
+    for sample in SAMPLES:
+        yield f"samples/{sample.name}.bin", sample.file
+        yield f"samples/{sample.name}.expected", solver.listing(sample.file).encode()
+
+
+def missing_text(root):
+    """What samples/README.md should show and does not, as (path, problem)."""
+    path = "samples/README.md"
+    text = (root / path).read_text(encoding="utf-8") if (root / path).exists() else ""
+    for sample in SAMPLES:
+        bytes_shown = sample.file.hex(" ").upper()
+        for what, wanted in (
+            ("table", sample.table()),
+            ("listing", "```\n" + solver.listing(sample.file) + "```\n"),
+            ("units", ", ".join(f"{k} {name}" for k, name in enumerate(sample.units, 1))),
+        ):
+            if " ".join(wanted.split()) not in " ".join(text.split()):
+                yield path, f"{what} of {sample.name}; wanted:\n{wanted}"
+        if sample is LISTING and bytes_shown not in text:
+            yield path, f"bytes of {sample.name}; wanted: {bytes_shown}"

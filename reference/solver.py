@@ -1,0 +1,364 @@
+"""Reference solver for steam and condensate balance sheets, in exact integers.
+
+A balanced flow is improved along cycles of streams until no cycle improves it;
+the classes come from a depth-first search over the unmetered streams.
+README.md beside this file says why that is right.
+
+    python3 reference/solver.py < samples/listing.bin
+"""
+
+import sys
+from typing import NamedTuple
+
+UNITS = 32
+STREAMS = 96
+WEIGHT = 1_000
+READING = 1_000_000
+FILE_LENGTH = 868
+SHEET_LENGTH = 879
+LAST_SHEET = 4_294_967_295
+
+SITE, METERED, UNMETERED, END = 0x01, 0x02, 0x03, 0x04
+BODY = {SITE: 1, METERED: 8, UNMETERED: 2, END: 1}
+
+KIND = {"A": 0x11, "R": 0x12, "G": 0x13, "W": 0x14}
+TOTAL = 0x1F
+PASS, FAIL, NONE = 0, 1, 2
+
+# Chi-square, 95 per cent, in thousandths, degrees 1 to 32.
+CRITICAL = (
+    3841, 5991, 7815, 9488, 11070, 12592, 14067, 15507,
+    16919, 18307, 19675, 21026, 22362, 23685, 24996, 26296,
+    27587, 28869, 30144, 31410, 32671, 33924, 35172, 36415,
+    37652, 38885, 40113, 41337, 42557, 43773, 44985, 46194,
+)
+
+
+class Stream(NamedTuple):
+    """A stream; an unmetered one has weight 0 and reading 0."""
+
+    source: int
+    target: int
+    weight: int = 0
+    reading: int = 0
+
+    @property
+    def metered(self):
+        return self.weight > 0
+
+
+class Plant(NamedTuple):
+    units: int
+    streams: tuple
+
+
+class Balance(NamedTuple):
+    """What a sheet shows: a class and a number (None for W) per stream, and the total."""
+
+    classes: str
+    numbers: tuple
+    cost: int
+    degrees: int
+    verdict: int
+
+
+class Refused(Exception):
+    """A call refused, with its number in the refusal table."""
+
+    def __init__(self, number):
+        super().__init__(number)
+        self.number = number
+
+
+# Plant file
+
+
+def read_plant(data):
+    """The plant of a plant file, or Refused with 3 to 12."""
+    place = 0
+
+    def record(allowed, listed):
+        nonlocal place
+        if place >= len(data):
+            raise Refused(3)
+        kind = data[place]
+        if kind not in allowed:
+            raise Refused(4)
+        if kind in (METERED, UNMETERED) and listed == STREAMS:
+            raise Refused(5)
+        body = data[place + 1 : place + 1 + BODY[kind]]
+        if len(body) < BODY[kind]:
+            raise Refused(3)
+        place += 1 + BODY[kind]
+        return kind, body
+
+    _, body = record((SITE,), 0)
+    units = body[0]
+    if not 1 <= units <= UNITS:
+        raise Refused(6)
+    streams = []
+    while True:
+        kind, body = record((METERED, UNMETERED, END), len(streams))
+        if kind == END:
+            break
+        source, target = body[0], body[1]
+        if source > units or target > units:
+            raise Refused(7)
+        if source == target:
+            raise Refused(8)
+        if kind == UNMETERED:
+            streams.append(Stream(source, target))
+            continue
+        weight = int.from_bytes(body[2:4], "big")
+        reading = int.from_bytes(body[4:8], "big", signed=True)
+        if not 1 <= weight <= WEIGHT:
+            raise Refused(9)
+        if not -READING <= reading <= READING:
+            raise Refused(10)
+        streams.append(Stream(source, target, weight, reading))
+    if body[0] != len(streams):
+        raise Refused(11)
+    if place < len(data):
+        raise Refused(12)
+    return Plant(units, tuple(streams))
+
+
+# The cheapest balanced flow
+
+
+def cost_of(streams, flow):
+    return sum(s.weight * (x - s.reading) ** 2 for s, x in zip(streams, flow))
+
+
+def cheapest_flow(plant):
+    """A balanced flow, least by cost, then by the first metered stream, the second, and so on.
+
+    One objective says both: with m metered streams, 2^m times the cost plus
+    2^(m-k) times the flow of the k-th metered stream. Only the metered amounts
+    of the answer are unique.
+    """
+    streams = plant.streams
+    metered = [i for i, s in enumerate(streams) if s.metered]
+    square = [0] * len(streams)
+    slope = [0] * len(streams)
+    for k, i in enumerate(metered, 1):
+        square[i] = streams[i].weight << len(metered)
+        slope[i] = 1 << (len(metered) - k)
+
+    flow = [0] * len(streams)
+    step = 1 << max((abs(s.reading) for s in streams), default=0).bit_length()
+    while step:
+        while cycles := improving_cycles(plant, flow, square, slope, step):
+            for cycle in cycles:
+                improve(streams, flow, square, slope, step, cycle)
+        step //= 2
+    return flow
+
+
+def improving_cycles(plant, flow, square, slope, step):
+    """Cycles, no two with a place in common, along which a step lowers the objective.
+
+    Empty only if there is no such cycle. A cycle is a list of (stream, sign).
+    Least lengths of walks, by passes over all hops; a pass that would have to
+    go on for ever closes a cycle among the last hops of the walks.
+    """
+    # The cheapest hop from place to place, along a stream or against it.
+    hops = {}
+    for i, s in enumerate(plant.streams):
+        ahead = 2 * square[i] * (flow[i] - s.reading) + slope[i]
+        bend = square[i] * step
+        for ends, sign, change in (
+            ((s.source, s.target), 1, bend + ahead),
+            ((s.target, s.source), -1, bend - ahead),
+        ):
+            if ends not in hops or change < hops[ends][0]:
+                hops[ends] = (change, i, sign)
+    table = [(a, b, change, i, sign) for (a, b), (change, i, sign) in hops.items()]
+
+    length = [0] * (plant.units + 1)
+    came = [None] * (plant.units + 1)
+    changed = True
+    while changed:
+        changed = False
+        for a, b, change, i, sign in table:
+            if length[a] + change < length[b]:
+                length[b] = length[a] + change
+                came[b] = (a, i, sign)
+                changed = True
+        if changed and (cycles := closed_hops(came)):
+            return cycles
+    return []
+
+
+def closed_hops(came):
+    """The cycles among the last hops, came[b] = (a, stream, sign) being the hop from a to b."""
+    cycles = []
+    seen = [None] * len(came)
+    for first in range(len(came)):
+        place = first
+        while seen[place] is None and came[place] is not None:
+            seen[place] = first
+            place = came[place][0]
+        if seen[place] != first or came[place] is None:
+            continue
+        cycle, at = [], place
+        while True:
+            at, i, sign = came[at]
+            cycle.append((i, sign))
+            if at == place:
+                break
+        cycles.append(cycle)
+    return cycles
+
+
+def improve(streams, flow, square, slope, step, cycle):
+    """Go along the cycle by the multiple of the step that lowers the objective most."""
+    bend = step * sum(square[i] for i, _ in cycle)
+    ahead = sum(sign * (2 * square[i] * (flow[i] - streams[i].reading) + slope[i]) for i, sign in cycle)
+    amount = step * ((bend - ahead) // (2 * bend))
+    for i, sign in cycle:
+        flow[i] += sign * amount
+
+
+# Classes and degrees
+
+
+def links_of(plant, chosen):
+    """For each place the (neighbour, stream) pairs over the chosen streams, in either direction."""
+    links = [[] for _ in range(plant.units + 1)]
+    for i, s in enumerate(plant.streams):
+        if chosen(s):
+            links[s.source].append((s.target, i))
+            links[s.target].append((s.source, i))
+    return links
+
+
+def reached(links, place, without=None):
+    """The places that a chain of links joins to the place, the stream `without` left out."""
+    found, todo = {place}, [place]
+    while todo:
+        for other, i in links[todo.pop()]:
+            if i != without and other not in found:
+                found.add(other)
+                todo.append(other)
+    return found
+
+
+def parts_of(links):
+    """The sets of places joined by links, each as a frozen set."""
+    return {frozenset(reached(links, place)) for place in range(len(links))}
+
+
+def bridges_of(links):
+    """The streams on no cycle of links: Tarjan's bridges, by one depth-first search."""
+    order = [None] * len(links)
+    low = [None] * len(links)
+    bridges = set()
+    count = 0
+
+    def visit(place, arrived_by):
+        nonlocal count
+        order[place] = low[place] = count
+        count += 1
+        for other, i in links[place]:
+            if i == arrived_by:
+                continue
+            if order[other] is None:
+                visit(other, i)
+                low[place] = min(low[place], low[other])
+                if low[other] > order[place]:
+                    bridges.add(i)
+            else:
+                low[place] = min(low[place], order[other])
+
+    for place in range(len(links)):
+        if order[place] is None:
+            visit(place, None)
+    return bridges
+
+
+def given_number(plant, flow, links, i):
+    """The flow that the metered streams force on the bridge i: what leaves the places beyond it."""
+    beyond = reached(links, plant.streams[i].target, without=i)
+    return sum(
+        x * ((s.source in beyond) - (s.target in beyond))
+        for s, x in zip(plant.streams, flow)
+        if s.metered
+    )
+
+
+def balance(plant):
+    """The balance of a plant."""
+    flow = cheapest_flow(plant)
+    unmetered = links_of(plant, lambda s: not s.metered)
+    groups = parts_of(unmetered)
+    pieces = parts_of(links_of(plant, lambda s: True))
+    bridges = bridges_of(unmetered)
+    group_of = {place: group for group in groups for place in group}
+
+    classes, numbers = "", []
+    for i, s in enumerate(plant.streams):
+        if s.metered:
+            classes += "R" if group_of[s.source] == group_of[s.target] else "A"
+            numbers.append(flow[i])
+        elif i in bridges:
+            classes += "G"
+            numbers.append(given_number(plant, flow, unmetered, i))
+        else:
+            classes += "W"
+            numbers.append(None)
+
+    cost = cost_of(plant.streams, flow)
+    degrees = len(groups) - len(pieces)
+    if degrees == 0:
+        verdict = NONE
+    else:
+        verdict = PASS if cost <= CRITICAL[degrees - 1] else FAIL
+    return Balance(classes, tuple(numbers), cost, degrees, verdict)
+
+
+# Sheet
+
+
+def sheet_bytes(result, number):
+    sheet = b""
+    for letter, amount in zip(result.classes, result.numbers):
+        sheet += bytes([KIND[letter]])
+        if letter != "W":
+            sheet += amount.to_bytes(8, "big", signed=True)
+    sheet += bytes([TOTAL]) + number.to_bytes(4, "big") + result.cost.to_bytes(8, "big")
+    return sheet + bytes([result.degrees, result.verdict])
+
+
+def sheet_call(data, last, slice_length):
+    """(returned number, written, last sheet number after, sheet bytes) of one call."""
+    try:
+        if slice_length < SHEET_LENGTH:
+            raise Refused(1)
+        if last == LAST_SHEET:
+            raise Refused(2)
+        plant = read_plant(data)
+    except Refused as refusal:
+        return refusal.number, 0, last, b""
+    sheet = sheet_bytes(balance(plant), last + 1)
+    return 0, len(sheet), last + 1, sheet
+
+
+def listing(data):
+    """What the program `balance` prints for this input."""
+    try:
+        plant = read_plant(data[: FILE_LENGTH + 1])
+    except Refused as refusal:
+        return f"refused {refusal.number}\n"
+    result = balance(plant)
+    lines = [
+        f"{i} {letter} {'-' if amount is None else amount}"
+        for i, (letter, amount) in enumerate(zip(result.classes, result.numbers), 1)
+    ]
+    word = ("pass", "fail", "none")[result.verdict]
+    lines.append(f"total 1 {result.cost} {result.degrees} {word}")
+    return "\n".join(lines) + "\n"
+
+
+if __name__ == "__main__":
+    sys.stdout.write(listing(sys.stdin.buffer.read(FILE_LENGTH + 1)))
