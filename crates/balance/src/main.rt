@@ -21,6 +21,7 @@ fn put_answer(number: u8, sheet: &[u8], text: &mut [u8]) -> usize
     put_refusal(number, text)
 }
 
+// Prints what the sheet call gives for a plant file, the last sheet number being 0.
 fn print_answer(file: &[u8], sheet: &mut [u8], text: &mut [u8]) {
     let done = sheets::balance_plant(file, 0, sheet);
     let size = put_answer(done.number, sheet, text);
@@ -31,6 +32,7 @@ fn main() {
     let mut file = [0u8; MOST_READ];
     let size = io::read_full(libc::STDIN_FILENO, &mut file);
     let mut sheet = [0u8; LEAST_SLICE];
+    // 4,096 bytes: the listing has at most 96 lines of 26 bytes and one of 47.
     let mut text = io::buffer();
     print_answer(&file[..size], &mut sheet, &mut text);
 }
