@@ -8,4 +8,5 @@ pub mod Pushing
 pub mod Counting
 pub mod Closed
 pub mod Growing
+pub mod Hunting
 pub mod TightPath

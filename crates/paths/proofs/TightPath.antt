@@ -21,7 +21,8 @@ use Rattle.paths.specs.Search.{farEnd, onCrossing, addedTo, target, Grow
 use Rattle.paths.proofs.Least.{opposed, Usable, slackAt, startIn, endIn, Answers, least-good}
 use Rattle.paths.proofs.Counting.{count-most, count-full}
 use Rattle.paths.proofs.Pushing.{reached, reached-more, reached-new}
-use Rattle.paths.proofs.Growing.{Plain, Growing, add-growing, new-target}
+use Rattle.paths.proofs.Growing.{Plain, Growing, add-growing}
+use Rattle.paths.proofs.Hunting.{new-target}
 
 -- A metered stream before number skip is left alone.
 pub not-usable : (ss : List Stream) (skip k : ℕ) → streamAt ss k .metered ≡ true → k < skip → Usable ss skip k → ⊥

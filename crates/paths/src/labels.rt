@@ -9,6 +9,7 @@ use plants::Stream;
 use plants::limits::MAX_STREAMS;
 use plants::limits::PLACES;
 ghost use mathlib.Core.Path.{_≡_};
+ghost use mathlib.Core.Bool.{true, false};
 ghost use Prim.Native.Nat.{_<_};
 ghost use lib.ListN.{length, take};
 ghost use Rattle.plants.specs.Limits.{places};
@@ -72,6 +73,26 @@ fn add(t: Tree, i: u8, e: u8) -> Tree
     r
 }
 
+// The search labelled a place that it looks for.
+fn found(t: Tree) -> Searched
+    ensures { λ r. ⌜ (r .found ≡ true) × (r .tree ≡ t) ⌝ }
+{
+    Searched {
+        found: true,
+        tree: t,
+    }
+}
+
+// It did not, and labels no further place.
+fn stuck(t: Tree) -> Searched
+    ensures { λ r. ⌜ (r .found ≡ false) × (r .tree ≡ t) ⌝ }
+{
+    Searched {
+        found: false,
+        tree: t,
+    }
+}
+
 // Places are labelled, each over the stream of least slack and with the prices lowered by it, until one with a negative net is.
 pub fn search(
     streams: [Stream; MAX_STREAMS],
@@ -91,26 +112,17 @@ pub fn search(
         let labelled = t.labelled;
         let f = least_crossing(streams, count, flows, prices, &labelled, delta, 0);
         let Crossing::At(i, by) = f else {
-            return Searched {
-                found: false,
-                tree: t,
-            };
+            return stuck(t);
         };
         lower(prices, &labelled, by);
         let e = far_end(streams[i], &labelled);
         t = add(t, i as u8, e);
         if nets[e as usize] < NET_SHIFT {
-            return Searched {
-                found: true,
-                tree: t,
-            };
+            return found(t);
         }
         left -= 1;
     }
-    Searched {
-        found: false,
-        tree: t,
-    }
+    stuck(t)
 }
 
 // Places are labelled over streams without slack until v is, metered streams before number skip left alone.
@@ -132,29 +144,17 @@ pub fn tight_path(
         let labelled = t.labelled;
         let f = least_crossing(streams, count, flows, prices, &labelled, 1, skip);
         let Crossing::At(i, by) = f else {
-            return Searched {
-                found: false,
-                tree: t,
-            };
+            return stuck(t);
         };
         if 0 < by {
-            return Searched {
-                found: false,
-                tree: t,
-            };
+            return stuck(t);
         }
         let e = far_end(streams[i], &labelled);
         t = add(t, i as u8, e);
         if e == v {
-            return Searched {
-                found: true,
-                tree: t,
-            };
+            return found(t);
         }
         left -= 1;
     }
-    Searched {
-        found: false,
-        tree: t,
-    }
+    stuck(t)
 }

@@ -2,7 +2,7 @@
 // along that way. Amounts, prices and nets are held shifted, as unsigned numbers (sizes.rt).
 use plants::limits::PLACES;
 
-pub mod crossings;
+mod crossings;
 pub mod labels;
 pub mod pushes;
 pub mod sizes;

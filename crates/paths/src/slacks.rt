@@ -25,7 +25,7 @@ pub fn reading_of(s: Stream) -> u64
 }
 
 // Weight times an amount.
-pub fn pull(s: Stream, x: u64) -> u64
+fn pull(s: Stream, x: u64) -> u64
     requires { ⌜ Placed s × (x ≤ mostFlow) ⌝ }
     ensures { λ r. ⌜ (r ≡ weightOf s * x) × (r ≤ mostPull) ⌝ }
 {

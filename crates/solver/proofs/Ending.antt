@@ -181,6 +181,10 @@ module _ (ss : List Stream) (v : Solvable ss) (h : Hint) (s : Hinted ss h) where
       improvements-good ss (v .plain) 1 (omega arith) 0 fuel hintRoom (begun ss h) (omega arith)
       (sound-more ss 1 _ hintRoom (begun ss h) (begun-good .sound) (0 + stepFall * 1 * fuel) hintRoom (omega arith) (omega arith))
 
+  -- The improvements at step 1 do not run out.
+  pub none-left : (u : ℕ) → u < places → getD (finished ss h .nets) u 0 ≤ netShift
+  none-left u l = omega (arith, after .level (begun-good .enough) u l)
+
   pub finished-even : Even ss (finished ss h .prices) 0 (finished ss h .flows)
   finished-even = record {
     long = after .sound .long;
@@ -192,7 +196,7 @@ module _ (ss : List Stream) (v : Solvable ss) (h : Hint) (s : Hinted ss h) where
       none : (u : ℕ) → u ≤ maxUnits → up (net ss (finished ss h .flows) u) ≡ 0
       none u l =
           let a = nets-val ss 1 0 (hintRoom + 1 * fuel) (finished ss h) (after .sound) u (omega arith) in
-          let b = after .level (begun-good .enough) u (omega arith) in
+          let b = none-left u (omega arith) in
           ⊎-elim (λ (o : up (net ss (finished ss h .flows) u) ≡ 0). o) (λ (o : dn (net ss (finished ss h .flows) u) ≡ 0). omega (arith, a, b))
           (parts (net ss (finished ss h .flows) u))
 

@@ -21,7 +21,8 @@ use Rattle.paths.specs.Search.{rootAt, target, Grown, grow}
 use Rattle.paths.specs.Push.{pushed}
 use Rattle.paths.proofs.Amounts.{get-set, net}
 use Rattle.paths.proofs.Pushing.{reached, reached-new, Pushed, push-good}
-use Rattle.paths.proofs.Growing.{Plain, Hunt, hunt}
+use Rattle.paths.proofs.Growing.{Plain}
+use Rattle.paths.proofs.Hunting.{Hunt, hunt}
 use Rattle.solver.specs.declared.State.{State}
 use Rattle.solver.specs.declared.Improved.{Improved}
 use Rattle.solver.specs.Sizes.{stepFall}

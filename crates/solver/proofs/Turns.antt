@@ -23,7 +23,8 @@ use Rattle.paths.specs.Search.{rootAt, target, Grown, grownBy, grow}
 use Rattle.paths.specs.Premises.{Placed, Network, Trail, Roomy}
 use Rattle.paths.proofs.Amounts.{net}
 use Rattle.paths.proofs.Counting.{count-most}
-use Rattle.paths.proofs.Growing.{Plain, Hunt}
+use Rattle.paths.proofs.Growing.{Plain}
+use Rattle.paths.proofs.Hunting.{Hunt}
 use Rattle.solver.specs.declared.State.{State}
 use Rattle.solver.specs.declared.Improved.{Improved}
 use Rattle.solver.specs.Sizes.{stepFall}

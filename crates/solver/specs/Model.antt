@@ -1,4 +1,5 @@
--- The solver as definitions, over held amounts, prices and nets (paths/specs/Sizes): settle, improve, finish, ties.
+-- The solver as definitions, over held amounts, prices and nets: settle, improve, finish, ties. (Slack, search and push are those of
+-- crate paths. Of a hint only ranges are asked, in Premises.)
 use mathlib.Core.Bool.{true, false}
 use mathlib.Core.List.{List, [], _∷_}
 use Prim.Native.Nat.{ℕ, zero, suc, _+_, _-_, _*_, _/_}
@@ -65,6 +66,10 @@ firstOver (e ∷ es) d = pick (leb (netShift + d) e) 0 (suc (firstOver es d))
 abbrev pub shiftedNets : List ℕ → ℕ → ℕ → ℕ → List ℕ
 shiftedNets es s v d = let fs = set es s (getD es s 0 - d) in set fs v (getD fs v 0 + d)
 
+-- No improvement.
+abbrev pub asIs : State → Improved
+asIs st = record { done = false; state = st }
+
 -- From place s: a search to a place with a negative net, and d pushed along the way to it.
 abbrev pub pushedOn : List Stream → State → ℕ → ℕ → Grown → State
 pushedOn ss st d s g =
@@ -77,13 +82,13 @@ pushedOn ss st d s g =
 abbrev pub improvedAt : List Stream → State → ℕ → ℕ → Improved
 improvedAt ss st d s =
     let g = grow ss (length ss) (st .flows) (st .nets) d rounds (st .prices) (rootAt s) in
-    pick (g .found) (record { done = true; state = pushedOn ss st d s g }) (record { done = false; state = st })
+    pick (g .found) (record { done = true; state = pushedOn ss st d s g }) (asIs st)
 
 -- At step d, from the first place with a net of d or more.
 unfoldable pub improved : List Stream → State → ℕ → Improved
 improved ss st d =
     let s = firstOver (st .nets) d in
-    pick (eqb s places) (record { done = false; state = st }) (improvedAt ss st d s)
+    pick (eqb s places) (asIs st) (improvedAt ss st d s)
 
 -- Again and again, k times at most.
 unfoldable pub improvements : ℕ → List Stream → ℕ → State → State

@@ -14,7 +14,7 @@ ghost use lib.ListN.{length, take};
 ghost use Rattle.plants.specs.Limits.{places};
 ghost use Rattle.paths.specs.Sizes.{mostStep};
 ghost use Rattle.paths.specs.Premises.{Network};
-ghost use Rattle.solver.specs.Model.{firstOver, shiftedNets, improved, improvements};
+ghost use Rattle.solver.specs.Model.{firstOver, shiftedNets, asIs, improved, improvements};
 ghost use Rattle.solver.specs.Premises.{Step, Shiftable, Allows};
 
 // The first place with a net of delta or more, PLACES where there is none.
@@ -41,6 +41,16 @@ fn shift_nets(nets: &mut [u64; PLACES], s: usize, v: usize, delta: u64)
     nets[v] = nets[v] + delta;
 }
 
+// No improvement.
+fn as_is(st: State) -> Improved
+    ensures { λ r. ⌜ r ≡ asIs st ⌝ }
+{
+    Improved {
+        done: false,
+        state: st,
+    }
+}
+
 // One improvement at step delta, from the first place with so much net.
 fn improve(streams: [Stream; MAX_STREAMS], count: usize, st: State, delta: u64) -> Improved
     requires { ⌜ Network streams count × Step delta × Allows (take count streams) delta 1 st ⌝ }
@@ -49,19 +59,13 @@ fn improve(streams: [Stream; MAX_STREAMS], count: usize, st: State, delta: u64) 
     let nets = st.nets;
     let s = first_over(&nets, delta);
     if s == PLACES {
-        return Improved {
-            done: false,
-            state: st,
-        };
+        return as_is(st);
     }
     let old = st.flows;
     let mut prices = st.prices;
     let h = search(streams, count, &old, &mut prices, &nets, root(s), delta);
     if !h.found {
-        return Improved {
-            done: false,
-            state: st,
-        };
+        return as_is(st);
     }
     let t = h.tree;
     let via = t.via;

@@ -9,12 +9,12 @@ ghost use Rattle.plants.specs.Says.{plantOf};
 ghost use Rattle.solver.specs.Premises.{Hinted};
 ghost use Rattle.solver.specs.Promise.{Accepted, Right};
 
-pub mod finishing;
+mod finishing;
 pub mod hints;
-pub mod improving;
-pub mod settling;
+mod improving;
+mod settling;
 pub mod sizes;
-pub mod ties;
+mod ties;
 
 // Prices to begin with, and amounts for the unmetered streams; held shifted, as below.
 pub struct Hint {

@@ -71,12 +71,15 @@ enum-known-f c = search needs
 enum-told : tie.Need-enum-told Inv-loop μ-loop
 enum-told c = search needs
 
+stuck-requires : tie.Need-stuck-requires Inv-loop μ-loop
+stuck-requires c κs = search needs
+
 returns : tie.Need-returns Inv-loop μ-loop
 returns c =
-    let at = c .before .before .before .before .before .before .before in
-    sym
-    (grow-none (at .before .args .t1) (at .before .args .count) _ _ _ _ _ (at .loop .left) (c .before .before .before .before .before .before .loop-test .taken) (sym (c .before .before .least-crossing .ensures) ∙ c .enum-told .given .1))
-    ∙ at .loop .inv .3
+    let at = c .before .before .before .before .before .before .before .before in
+    rw (c .stuck .ensures .0, c .stuck .ensures .1) (sym
+    (grow-none (at .before .args .t1) (at .before .args .count) _ _ _ _ _ (at .loop .left) (c .before .before .before .before .before .before .before .loop-test .taken) (sym (c .before .before .before .least-crossing .ensures) ∙ c .before .enum-told .given .1))
+    ∙ at .loop .inv .3)
 
 lower-requires : tie.Need-lower-requires Inv-loop μ-loop
 lower-requires c κs =
@@ -117,16 +120,19 @@ mul-if1 c = omega (arith, place (c .before))
 element-copy-out-if1 : tie.Need-element-copy-out-if1 Inv-loop μ-loop
 element-copy-out-if1 c = place (c .before)
 
+found-requires : tie.Need-found-requires Inv-loop μ-loop
+found-requires c κs = search needs
+
 returns-2 : tie.Need-returns-2 Inv-loop μ-loop
 returns-2 c =
-    let f = c .before .before .before .before .before .before .before .before .before .before in
+    let f = c .before .before .before .before .before .before .before .before .before .before .before in
     let at = turn f in
-    let low = c .before .before .before .before .before .before .lower .ensures in
-    let far = c .before .before .before .far-end .ensures in
-    let added = c .before .before .add .ensures in
-    rw (added, far, low)
+    let low = c .before .before .before .before .before .before .before .lower .ensures in
+    let far = c .before .before .before .before .far-end .ensures in
+    let added = c .before .before .before .add .ensures in
+    rw (c .found .ensures .0, c .found .ensures .1) (rw (added, far, low)
     (sym
-    (grow-hit (at .before .args .t1) (at .before .args .count) _ _ _ _ _ (at .loop .left) _ _ (tested f .loop-test .taken) (index f) (found f) (rw far at (c .if1 .taken))) ∙ at .loop .inv .3)
+    (grow-hit (at .before .args .t1) (at .before .args .count) _ _ _ _ _ (at .loop .left) _ _ (tested f .loop-test .taken) (index f) (found f) (rw far at (c .before .if1 .taken))) ∙ at .loop .inv .3))
 
 sub-left : tie.Need-sub-left Inv-loop μ-loop
 sub-left c = search needs
@@ -149,10 +155,13 @@ loop-again c =
           (grow-more (at .before .args .t1) (at .before .args .count) _ _ _ _ _ (at .loop .left) _ _ (tested f .loop-test .taken) (index f) (found f) (rw far at (c .if1 .left))) ∙ at .loop .inv .3),
     )
 
+stuck-requires-2 : tie.Need-stuck-requires-2 Inv-loop μ-loop
+stuck-requires-2 c κs = search needs
+
 returns-3 : tie.Need-returns-3 Inv-loop μ-loop
 returns-3 c =
-    let z : c .before .loop .left ≡ 0 = omega arith in
-    sym (grow-end (c .before .before .args .t1) (c .before .before .args .count) _ _ _ _ _) ∙ (rw z at (c .before .loop .inv .3))
+    let z : c .before .before .loop .left ≡ 0 = omega arith in
+    rw (c .stuck2 .ensures .0, c .stuck2 .ensures .1) (sym (grow-end (c .before .before .before .args .t1) (c .before .before .before .args .count) _ _ _ _ _) ∙ (rw z at (c .before .before .loop .inv .3)))
 
 pub search-spec : {M : Type 1} → statement M
 search-spec =
@@ -164,6 +173,7 @@ search-spec =
     least-crossing-requires
     enum-known-f
     enum-told
+    stuck-requires
     returns
     lower-requires
     mul-far-end
@@ -174,8 +184,10 @@ search-spec =
     cast-if1
     mul-if1
     element-copy-out-if1
+    found-requires
     returns-2
     sub-left
     loop-less
     loop-again
+    stuck-requires-2
     returns-3)

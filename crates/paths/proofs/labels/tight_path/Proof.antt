@@ -58,19 +58,25 @@ enum-known-f c = search needs
 enum-told : tie.Need-enum-told Inv-loop μ-loop
 enum-told c = search needs
 
+stuck-requires : tie.Need-stuck-requires Inv-loop μ-loop
+stuck-requires c κs = search needs
+
 returns : tie.Need-returns Inv-loop μ-loop
 returns c =
-    let at = c .before .before .before .before .before .before in
-    sym
-    (path-none (at .before .args .t1) (at .before .args .count) _ _ _ _ _ (at .loop .left) (c .before .before .before .before .before .loop-test .taken) (sym (c .before .before .least-crossing .ensures) ∙ c .enum-told .given .1))
-    ∙ at .loop .inv .1
+    let at = c .before .before .before .before .before .before .before in
+    rw (c .stuck .ensures .0, c .stuck .ensures .1) (sym
+    (path-none (at .before .args .t1) (at .before .args .count) _ _ _ _ _ (at .loop .left) (c .before .before .before .before .before .before .loop-test .taken) (sym (c .before .before .before .least-crossing .ensures) ∙ c .before .enum-told .given .1))
+    ∙ at .loop .inv .1)
+
+stuck-requires-2 : tie.Need-stuck-requires-2 Inv-loop μ-loop
+stuck-requires-2 c κs = search needs
 
 returns-2 : tie.Need-returns-2 Inv-loop μ-loop
 returns-2 c =
-    let f = c .before .before in
+    let f = c .before .before .before in
     let at = turn f in
-    sym (path-stop (at .before .args .t1) (at .before .args .count) _ _ _ _ _ (at .loop .left) _ _ (tested f .loop-test .taken) (found f) (c .if1 .taken))
-    ∙ at .loop .inv .1
+    rw (c .stuck2 .ensures .0, c .stuck2 .ensures .1) (sym (path-stop (at .before .args .t1) (at .before .args .count) _ _ _ _ _ (at .loop .left) _ _ (tested f .loop-test .taken) (found f) (c .before .if1 .taken))
+    ∙ at .loop .inv .1)
 
 mul-far-end : tie.Need-mul-far-end Inv-loop μ-loop
 mul-far-end c =
@@ -97,13 +103,16 @@ add-requires c κs =
     let f = c .before .before .before .before .before in
     (omega (arith, turn f .loop .inv .0, tested f .loop-test .taken), rw (c .far-end .ensures) (far-small (turn f .loop .t .labelled) _ (sound f)))
 
+found-requires : tie.Need-found-requires Inv-loop μ-loop
+found-requires c κs = search needs
+
 returns-3 : tie.Need-returns-3 Inv-loop μ-loop
 returns-3 c =
-    let f = c .before .before .before .before .before .before .before in
+    let f = c .before .before .before .before .before .before .before .before in
     let at = turn f in
-    rw (c .before .add .ensures, c .before .before .far-end .ensures)
+    rw (c .found .ensures .0, c .found .ensures .1) (rw (c .before .before .add .ensures, c .before .before .before .far-end .ensures)
     (sym
-    (path-hit (at .before .args .t1) (at .before .args .count) _ _ _ _ _ (at .loop .left) _ _ (tested f .loop-test .taken) (index f) (found f) (c .before .before .before .before .before .if1 .left) (sym (c .before .before .far-end .ensures) ∙ c .if2 .taken)) ∙ at .loop .inv .1)
+    (path-hit (at .before .args .t1) (at .before .args .count) _ _ _ _ _ (at .loop .left) _ _ (tested f .loop-test .taken) (index f) (found f) (c .before .before .before .before .before .before .if1 .left) (sym (c .before .before .before .far-end .ensures) ∙ c .before .if2 .taken)) ∙ at .loop .inv .1))
 
 sub-left : tie.Need-sub-left Inv-loop μ-loop
 sub-left c = search needs
@@ -122,10 +131,15 @@ loop-again c =
           (path-more (at .before .args .t1) (at .before .args .count) _ _ _ _ _ (at .loop .left) _ _ (tested f .loop-test .taken) (index f) (found f) (c .before .before .before .before .before .if1 .left) (λ q. c .if2 .left (g ∙ q))) ∙ at .loop .inv .1),
     )
 
+stuck-requires-3 : tie.Need-stuck-requires-3 Inv-loop μ-loop
+stuck-requires-3 c κs = search needs
+
 returns-4 : tie.Need-returns-4 Inv-loop μ-loop
 returns-4 c =
-    let z : c .before .loop .left ≡ 0 = omega arith in sym (path-end (c .before .before .args .t1) (c .before .before .args .count) _ _ _ _ _)
-    ∙ (rw z at (c .before .loop .inv .1))
+    let st = c .before .before .before in
+    let z : c .before .before .loop .left ≡ 0 = omega arith in
+    rw (c .stuck3 .ensures .0, c .stuck3 .ensures .1)
+    (sym (path-end (st .args .t1) (st .args .count) _ _ _ _ _) ∙ (rw z at (c .before .before .loop .inv .1)))
 
 pub tight-path-spec : {M : Type 1} → statement M
 tight-path-spec =
@@ -137,15 +151,19 @@ tight-path-spec =
     least-crossing-requires
     enum-known-f
     enum-told
+    stuck-requires
     returns
+    stuck-requires-2
     returns-2
     mul-far-end
     array-copy-out-far-end
     far-end-requires
     cast-add
     add-requires
+    found-requires
     returns-3
     sub-left
     loop-less
     loop-again
+    stuck-requires-3
     returns-4)

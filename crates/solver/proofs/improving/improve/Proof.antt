@@ -29,8 +29,13 @@ key c =
 first-over-requires : tie.Need-first-over-requires
 first-over-requires c κs = search needs
 
+as-is-requires : tie.Need-as-is-requires
+as-is-requires c κs = search needs
+
 returns : tie.Need-returns
-returns c = sym (improved-none _ _ _ (c .before .first-over .result) (c .before .first-over .ensures) (c .if1 .taken))
+returns c =
+    let f = c .before .before .first-over in
+    c .as-is .ensures ∙ sym (improved-none _ _ _ (f .result) (f .ensures) (c .before .if1 .taken))
 
 root-requires : tie.Need-root-requires
 root-requires c κs =
@@ -46,10 +51,13 @@ search-requires c κs =
           (λ t. t .len) (c .root .ensures),
     )
 
+as-is-requires-2 : tie.Need-as-is-requires-2
+as-is-requires-2 c κs = search needs
+
 returns-2 : tie.Need-returns-2
 returns-2 c =
-    let f = c .before .before in
-    absurd (true≢false (sym (c .if2 .taken) ∙ ap not (key f .found-it)))
+    let f = c .before .before .before in
+    absurd (true≢false (sym (c .before .if2 .taken) ∙ ap not (key f .found-it)))
 
 sub-target : tie.Need-sub-target
 sub-target c =
@@ -92,9 +100,11 @@ improve-spec =
     tie.close
     (tie.spec
     first-over-requires
+    as-is-requires
     returns
     root-requires
     search-requires
+    as-is-requires-2
     returns-2
     sub-target
     array-read-target
