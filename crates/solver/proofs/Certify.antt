@@ -11,11 +11,9 @@ use Rattle.plants.specs.declared.Stream.{Stream}
 use Rattle.plants.specs.Limits.{maxUnits, places}
 use Rattle.plants.specs.Plants.{Plant}
 use Rattle.flows.specs.Flows.{streamAt, amountAt}
+use Rattle.flows.specs.Certificate.{weightOf, climb, lower, upper}
 use Rattle.flows.proofs.Integers.{diff, Le, Lt, Z·diff, diff-val, Le-iff, minus-val, same, none-minus}
-use Rattle.flows.specs.Certificate.{climb}
 use Rattle.flows.proofs.Nets.{level-balanced}
-use Rattle.flows.specs.Certificate.{lower, upper}
-use Rattle.flows.specs.Certificate.{weightOf}
 use Rattle.flows.proofs.Prices.{StepAt, Certificate}
 use Rattle.flows.proofs.Ties.{NoLess, NoMore}
 use Rattle.paths.specs.Sizes.{flowShift, priceShift}

@@ -2,6 +2,7 @@
 use mathlib.Core.Path.{_≡_, refl, sym, _∙_, ap, ap₂, subst}
 use mathlib.Core.Bool.{Bool, true, false}
 use mathlib.Core.List.{List}
+use lib.IntN.{ℤ}
 use Prim.Native.Nat.{ℕ, _≤_, _<_}
 use native.Mathlib.Omega.{arith}
 use lib.ListN.{length, getD}
@@ -15,14 +16,16 @@ use Rattle.plants.specs.Says.{arrayed, plantOf}
 use Rattle.plants.proofs.Limited.{WithinStream, Within, within}
 use Rattle.plants.proofs.Accepted.{accepted}
 use Rattle.flows.specs.Flows.{streamAt, amountAt, Cheapest}
+use Rattle.flows.specs.Certificate.{climb, lowest, highest}
+use Rattle.flows.proofs.Integers.{le-leZ}
 use Rattle.flows.proofs.Fits.{fit-length, fit-at, read-fits}
-use Rattle.flows.proofs.Prices.{Steps, Certificate}
+use Rattle.flows.proofs.Prices.{StepAt, Steps, Certificate}
 use Rattle.paths.specs.Held.{opened}
 use Rattle.solver.specs.declared.Hint.{Hint}
 use Rattle.solver.specs.declared.Solved.{Solved}
 use Rattle.solver.specs.Model.{noHint, tiesTo, finished, solvedFrom}
 use Rattle.solver.specs.Premises.{Layout, Hinted, Even}
-use Rattle.solver.specs.Promise.{Accepted, price, priceAt, Right}
+use Rattle.solver.specs.Promise.{Accepted, price, priceAt, Bounded, Right}
 use Rattle.solver.proofs.Nearest.{Solvable, held-agreed}
 use Rattle.solver.proofs.Ending.{none-hinted, finished-even, finished-prices, finished-priced}
 use Rattle.solver.proofs.Tying.{ended, tied-sure, tied-cheapest}
@@ -96,6 +99,10 @@ module _ (q : Plant) (w : Within q) (h : Hint) (s : Hinted (q .streams) h) where
   last : Even ss ps (length ss) ys
   last = ended q w (solvable-in q w) ps (finished ss h .flows) even
 
+-- The step condition by its tests.
+bounded : (π : ℕ → ℤ) (s : Stream) (x : ℤ) → StepAt 1 π s x → Bounded π s x
+bounded π s x o = record { low = le-leZ (lowest s x) (climb π s) (o .low); high = le-leZ (climb π s) (highest s x) (o .high) }
+
 -- Of a plant in an array.
 module _ (p : Arrays.Plant) (a : Accepted p) (h : Hint) (s : Hinted (plantOf p .streams) h) where
   abbrev q : Plant
@@ -105,7 +112,7 @@ module _ (p : Arrays.Plant) (a : Accepted p) (h : Hint) (s : Hinted (plantOf p .
   unfolding solvedFrom
   solved-right = record {
     cheapest = subst (λ (n : ℕ). Cheapest q (opened n (ys q w h s))) (fit-length p (a .fit)) (solved-cheapest q w h s);
-    steps = subst (λ (n : ℕ). Steps 1 (priceAt (ps q w h s)) (q .streams) (amountAt (opened n (ys q w h s)))) (fit-length p (a .fit)) (solved-sure q w h s .steps);
+    steps = λ k l. bounded (priceAt (ps q w h s)) (streamAt (q .streams) k) _ (subst (λ (n : ℕ). Steps 1 (priceAt (ps q w h s)) (q .streams) (amountAt (opened n (ys q w h s)))) (fit-length p (a .fit)) (solved-sure q w h s .steps) k l);
     agree = λ k l m. ap price (held-agreed (q .streams) (ys q w h s) (ps q w h s) 1 (last q w h s .held) k l m);
     bound = finished-prices (q .streams) (solvable-in q w) h s;
     close = λ k l. (omega (arith, last q w h s .close k l .0, w .few-streams), omega (arith, last q w h s .close k l .1, w .few-streams));

@@ -1,17 +1,19 @@
 -- What the solver promises of a plant as the code holds it, and what it requires: what the plant reader ensures.
 use mathlib.Core.Path.{_≡_}
-use mathlib.Core.Bool.{false}
+use mathlib.Core.Bool.{true, false}
 use mathlib.Core.List.{List}
 use lib.IntN.{ℤ, pos, _-ℤ_}
+use lib.Signed.{leZ}
 use Prim.Native.Nat.{ℕ, _+_, _≤_, _<_}
 use lib.ListN.{length, getD}
+use Rattle.plants.specs.declared.Stream.{Stream}
 use Rattle.plants.specs.declared.Plant as Arrays
 use Rattle.plants.specs.Limits.{places, maxStreams}
 use Rattle.plants.specs.Says.{plantOf}
 use Rattle.plants.proofs.Limited.{Within}
 use Rattle.flows.specs.Calls.{Fit}
 use Rattle.flows.specs.Flows.{streamAt, amountAt, Cheapest}
-use Rattle.flows.proofs.Prices.{Steps}
+use Rattle.flows.specs.Certificate.{climb, lowest, highest}
 use Rattle.paths.specs.Sizes.{priceShift}
 use Rattle.paths.specs.Held.{opened}
 use Rattle.solver.specs.declared.Solved.{Solved}
@@ -34,11 +36,16 @@ priceAt ps u = price (getD ps u 0)
 abbrev pub flowOf : Arrays.Plant → Solved → List ℤ
 flowOf p r = opened (p .count) (r .flows)
 
+-- The step condition at 1 of a stream that carries x, under the prices π.
+pub record Bounded (π : ℕ → ℤ) (s : Stream) (x : ℤ) : Type 0 where
+  pub low : leZ (lowest s x) (climb π s) ≡ true
+  pub high : leZ (climb π s) (highest s x) ≡ true
+
 pub record Right (p : Arrays.Plant) (r : Solved) : Type 0 where
   -- The flow is the cheapest, the amounts of unmetered streams being such that all balances.
   pub cheapest : Cheapest (plantOf p) (flowOf p r)
   -- The prices certify it: they meet the step condition at 1 with every stream, and agree across unmetered streams.
-  pub steps : Steps 1 (priceAt (r .prices)) (plantOf p .streams) (amountAt (flowOf p r))
+  pub steps : (k : ℕ) → k < length (plantOf p .streams) → Bounded (priceAt (r .prices)) (streamAt (plantOf p .streams) k) (amountAt (flowOf p r) k)
   pub agree : (k : ℕ) → k < length (plantOf p .streams) → streamAt (plantOf p .streams) k .metered ≡ false
       → priceAt (r .prices) (streamAt (plantOf p .streams) k .from) ≡ priceAt (r .prices) (streamAt (plantOf p .streams) k .to)
   -- A price is from −priceShift to 0, and an amount is of size settledRoom + maxStreams at most.
