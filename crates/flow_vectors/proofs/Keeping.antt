@@ -6,7 +6,7 @@ use lib.ListN.{length, getD}
 use Rattle.plants.specs.declared.Plant as Arrays
 use Rattle.plants.specs.Limits.{maxUnits, maxStreams}
 use Rattle.plants.specs.Plants.{noStream}
-use Rattle.plants.proofs.Limited.{WithinStream}
+use Rattle.plants.specs.Within.{WithinStream}
 use Rattle.flows.specs.Calls.{Fit}
 use Rattle.flows.proofs.Fits.{fit-length, fit-at}
 use Rattle.solver.specs.Promise.{Accepted}

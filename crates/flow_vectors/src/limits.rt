@@ -7,7 +7,7 @@ use plants::limits::MAX_UNITS;
 use plants::limits::MAX_WEIGHT;
 ghost use mathlib.Core.Path.{_≡_};
 ghost use mathlib.Core.Bool.{true};
-ghost use Rattle.plants.proofs.Limited.{WithinStream};
+ghost use Rattle.plants.specs.Within.{WithinStream};
 ghost use Rattle.solver.specs.Promise.{Accepted};
 ghost use Rattle.flow_vectors.specs.Texts.{Metered};
 

@@ -1,6 +1,7 @@
 -- Demand 3: of every accepted plant, the sheet's numbers, its blanks and its cost are what the definitions force.
 use Rattle.plants.specs.Plants.{Plant}
-use Rattle.plants.proofs.Limited.{Within, within}
+use Rattle.plants.specs.Within.{Within}
+use Rattle.plants.proofs.Limited.{within}
 use Rattle.plants.proofs.Accepted.{accepted}
 use Rattle.flows.specs.Shown.{Shown, Demand-3}
 use Rattle.flows.proofs.Given.{its-number-of}

@@ -14,7 +14,7 @@ use Rattle.numbers.specs.Choice.{pick}
 use Rattle.numbers.proofs.Tests.{by-cases, clash, and-left, and-right, and-both, or-none-left, or-none-right}
 use Rattle.plants.specs.declared.Stream.{Stream}
 use Rattle.plants.specs.Plants.{Plant}
-use Rattle.plants.proofs.Limited.{Within}
+use Rattle.plants.specs.Within.{Within}
 use Rattle.flows.specs.Flows.{amountAt, allowed, cost, Cheapest}
 use Rattle.flows.specs.Classes.{has}
 use Rattle.flows.specs.Certificate.{weightOf, climb, lower, lowest, highest, settled, shut}

@@ -11,7 +11,8 @@ use Rattle.plants.specs.Plants.{Plant, noStream}
 use Rattle.plants.specs.Files.{got, readPlant}
 use Rattle.plants.specs.Says.{arrayed, plantOf}
 use Rattle.plants.proofs.Held.{length-padded, plant-held}
-use Rattle.plants.proofs.Limited.{Within, within}
+use Rattle.plants.specs.Within.{Within}
+use Rattle.plants.proofs.Limited.{within}
 use Rattle.plants.proofs.Accepted.{accepted}
 use Rattle.flows.specs.Flows.{streamAt}
 use Rattle.flows.specs.Calls.{Fit, Ends}

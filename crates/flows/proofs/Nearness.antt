@@ -10,7 +10,7 @@ use borrow.Author.Tests.{not-true}
 use Rattle.numbers.specs.Choice.{pick}
 use Rattle.plants.specs.declared.Stream.{Stream}
 use Rattle.plants.specs.Plants.{Plant}
-use Rattle.plants.proofs.Limited.{Within}
+use Rattle.plants.specs.Within.{Within}
 use Rattle.flows.specs.declared.Class.the-variants.{Adjusted, AsRead, Given, Withheld}
 use Rattle.flows.specs.Flows.{streamAt, amountAt, allowed, square, cost, costOver, Cheapest}
 use Rattle.flows.specs.Classes.{unmeteredOnly, oneGroup, onLoop, classOf}

@@ -13,7 +13,7 @@ use Rattle.numbers.specs.Choice.{pick}
 use Rattle.numbers.proofs.Tests.{and-left, and-right, and-both}
 use Rattle.plants.specs.declared.Stream.{Stream}
 use Rattle.plants.specs.Plants.{Plant}
-use Rattle.plants.proofs.Limited.{Within}
+use Rattle.plants.specs.Within.{Within}
 use Rattle.flows.specs.Flows.{streamAt, amountAt, values, netAt, balancedTo, balanced}
 use Rattle.flows.specs.Classes.{has, sideOut}
 use Rattle.flows.specs.Certificate.{climb}

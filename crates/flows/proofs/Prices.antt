@@ -10,7 +10,7 @@ use lib.ListN.{length}
 use Rattle.numbers.specs.Choice.{pick}
 use Rattle.plants.specs.declared.Stream.{Stream}
 use Rattle.plants.specs.Plants.{Plant}
-use Rattle.plants.proofs.Limited.{Within}
+use Rattle.plants.specs.Within.{Within}
 use Rattle.flows.specs.Flows.{streamAt, amountAt, allowed, square, cost, costOver}
 use Rattle.flows.specs.Certificate.{weightOf, climb}
 use Rattle.flows.proofs.Integers.{Le, canon, Z·diff, plus-val, one-times}

@@ -12,7 +12,7 @@ use Rattle.numbers.specs.Choice.{pick}
 use Rattle.numbers.proofs.Tests.{by-cases, clash}
 use Rattle.plants.specs.declared.Stream.{Stream}
 use Rattle.plants.specs.Plants.{Plant}
-use Rattle.plants.proofs.Limited.{Within}
+use Rattle.plants.specs.Within.{Within}
 use Rattle.flows.specs.declared.Class.the-variants.{Given, Withheld}
 use Rattle.flows.specs.Flows.{streamAt, amountAt, meteredOf}
 use Rattle.flows.specs.Classes.{unmeteredBut, onLoop, classOf}

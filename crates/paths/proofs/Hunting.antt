@@ -68,12 +68,12 @@ module _ (n : ℕ) (ss : List Stream) (plain : Plain n ss) (xs es : List ℕ) (d
   grow-good : (l : ℕ) (ps : List ℕ) (t : Tree) → Growing n ss xs d root ps t → n ≤ l + t .len → ((u : ℕ) → u < places → 2 * maxWeight * d * l ≤ getD ps u 0) → NoneLess t
       → Hunt n ss xs es d root ps l (grow ss (length ss) xs es d l ps t)
   unfolding grow
-  grow-good zero ps t h fuel rich none =
+  grow-good zero ps t h fuel floor none =
       absurd (not-closed ps t h none (λ k l. all (streamAt ss k .from) (plain .inside k l .0) ∙ sym (all (streamAt ss k .to) (plain .inside k l .1))))
     where
       all : (v : ℕ) → v ≤ n → getD (t .labelled) v false ≡ true
       all = count-full n (λ v. getD (t .labelled) v false) (omega (arith, h .counted))
-  grow-good (suc l) ps t h fuel rich none = go (leastTo ss xs ps (t .labelled) d 0 (length ss)) (least-good ss xs ps (t .labelled) d 0 (length ss)) (grow-good l)
+  grow-good (suc l) ps t h fuel floor none = go (leastTo ss xs ps (t .labelled) d 0 (length ss)) (least-good ss xs ps (t .labelled) d 0 (length ss)) (grow-good l)
     where
       e : ℕ → ℕ
       e i = farEnd (t .labelled) (streamAt ss i)
@@ -98,7 +98,7 @@ module _ (n : ℕ) (ss : List Stream) (plain : Plain n ss) (xs es : List ℕ) (d
               (slack-most (startIn ss (t .labelled) i) (streamAt ss i) (getD xs i 0) (getD ps (streamAt ss i .from) 0) (getD ps (streamAt ss i .to) 0) d (h .held i (m .below)) (plain .light i (m .below)))
 
           enough : (u : ℕ) → u < places → g ≤ getD ps u 0
-          enough u k = omega (arith, rich u k, g-most)
+          enough u k = omega (arith, floor u k, g-most)
 
           low : Growing n ss xs d root qs t
           low = lower-growing n ss plain xs d root ps t g h enough (λ k o c. m .least k o (all-usable ss k) c)
@@ -132,7 +132,7 @@ module _ (n : ℕ) (ss : List Stream) (plain : Plain n ss) (xs es : List ℕ) (d
 
           on : ltb (getD es (farEnd (t .labelled) (streamAt ss i)) 0) netShift ≡ false → Hunt n ss xs es d root ps (suc l) (grow ss (length ss) xs es d l qs r)
           on q =
-              let a = rec qs r more (omega arith) (λ u k. omega (arith, rich u k, fell u .1, g-most)) still in
+              let a = rec qs r more (omega arith) (λ u k. omega (arith, floor u k, fell u .1, g-most)) still in
               record {
                 found = a .found;
                 grown = a .grown;
@@ -152,7 +152,7 @@ module _ (n : ℕ) (ss : List Stream) (plain : Plain n ss) (xs es : List ℕ) (d
   -- From the first place, in as many rounds as there are other places.
   pub hunt : (ps : List ℕ) → AllHeld ss xs ps d → netShift ≤ getD es root 0 → ((u : ℕ) → u < places → 2 * maxWeight * d * rounds ≤ getD ps u 0)
       → Hunt n ss xs es d root ps rounds (grow ss (length ss) xs es d rounds ps (rootAt root))
-  hunt ps h e rich = grow-good rounds ps (rootAt root) start (omega (arith, plain .small)) rich none
+  hunt ps h e floor = grow-good rounds ps (rootAt root) start (omega (arith, plain .small)) floor none
     where
       start : Growing n ss xs d root ps (rootAt root)
       start = root-growing n ss xs ps d root (plain .small) near h

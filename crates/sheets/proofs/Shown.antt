@@ -18,7 +18,7 @@ use Rattle.plants.specs.declared.Plant as Arrays
 use Rattle.plants.specs.Limits.{maxStreams, maxWeight, maxReading}
 use Rattle.plants.specs.Plants.{Plant, noStream}
 use Rattle.plants.specs.Says.{plantOf}
-use Rattle.plants.proofs.Limited.{Within, WithinStream}
+use Rattle.plants.specs.Within.{Within, WithinStream}
 use Rattle.flows.specs.declared.Class.{Class}
 use Rattle.flows.specs.declared.Class.the-variants.{Adjusted, AsRead, Given, Withheld}
 use Rattle.flows.specs.Flows.{streamAt, values, square, balanced, cost, Cheapest}

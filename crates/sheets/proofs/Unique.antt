@@ -13,7 +13,8 @@ use Rattle.numbers.proofs.Tests.{by-cases}
 use Rattle.plants.specs.declared.Stream.{Stream}
 use Rattle.plants.specs.Plants.{Plant}
 use Rattle.plants.specs.Files.{Got, bad, got, readPlant}
-use Rattle.plants.proofs.Limited.{Within, within}
+use Rattle.plants.specs.Within.{Within}
+use Rattle.plants.proofs.Limited.{within}
 use Rattle.plants.proofs.Accepted.{accepted}
 use Rattle.plants.proofs.Back.{round-trip}
 use Rattle.flows.specs.declared.Class.{Class}

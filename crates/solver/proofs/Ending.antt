@@ -35,12 +35,12 @@ pub start-more : (ss : List Stream) (low b low′ b′ : ℕ) (h : Hint) → Sta
     → b ≤ b′ → b′ ≤ flowShift → Start ss low′ b′ h
 start-more ss low b low′ b′ h s p q r t u = record {
   agree = s .agree;
-  rich = λ v l. omega (arith, s .rich v l);
-  poor = s .poor;
+  floor = λ v l. omega (arith, s .floor v l);
+  capped = s .capped;
   near = q;
   priced = s .priced;
   long = s .long;
-  loose = λ k l m. (omega (arith, s .loose k l m .0), omega (arith, s .loose k l m .1));
+  unmetered = λ k l m. (omega (arith, s .unmetered k l m .0), omega (arith, s .unmetered k l m .1));
   fits = r;
   within = u;
 }
@@ -50,12 +50,12 @@ module _ (ss : List Stream) (v : Solvable ss) where
   pub none-start : Start ss priceShift mostReading noHint
   none-start = record {
     agree = λ k l e. price (streamAt ss k .from) (omega (arith, v .plain .inside k l .0)) ∙ sym (price (streamAt ss k .to) (omega (arith, v .plain .inside k l .1)));
-    rich = λ u l. omega (arith, price u l);
-    poor = λ u l. omega (arith, price u l);
+    floor = λ u l. omega (arith, price u l);
+    capped = λ u l. omega (arith, price u l);
     near = omega arith;
     priced = length-replicate places priceShift;
     long = length-replicate maxStreams flowShift;
-    loose = λ k l e. (omega (arith, amount k l), omega (arith, amount k l));
+    unmetered = λ k l e. (omega (arith, amount k l), omega (arith, amount k l));
     fits = omega arith;
     within = omega arith;
   }
@@ -111,8 +111,8 @@ module _ (ss : List Stream) (v : Solvable ss) where
           priced = g .priced;
           netted = g .netted;
           nets = g .nets;
-          rich = λ u l. omega (arith, g .rich u l);
-          poor = g .poor;
+          floor = λ u l. omega (arith, g .floor u l);
+          capped = g .capped;
           close = g .close;
         }
 
@@ -126,12 +126,12 @@ module _ (ss : List Stream) (v : Solvable ss) where
     pub stage-next : Stage ss (d / 2) (asHint (improvements hintBudget ss d (settled ss h)))
     stage-next = record {
       agree = held-agreed ss (r .flows) (r .prices) d (a .sound .held);
-      rich = λ u l. omega (arith, a .sound .rich u l, half);
-      poor = a .sound .poor;
+      floor = λ u l. omega (arith, a .sound .floor u l, half);
+      capped = a .sound .capped;
       near = omega arith;
       priced = a .sound .priced;
       long = a .sound .long;
-      loose = λ k l e. (omega (arith, a .sound .close k l .0, half), omega (arith, a .sound .close k l .1, half));
+      unmetered = λ k l e. (omega (arith, a .sound .close k l .0, half), omega (arith, a .sound .close k l .1, half));
       fits = omega (arith, half);
       within = omega arith;
     }
@@ -201,7 +201,7 @@ module _ (ss : List Stream) (v : Solvable ss) (h : Hint) (s : Hinted ss h) where
           (parts (net ss (finished ss h .flows) u))
 
   pub finished-prices : Prices (finished ss h .prices)
-  finished-prices = after .sound .poor
+  finished-prices = after .sound .capped
 
   pub finished-priced : length (finished ss h .prices) ≡ places
   finished-priced = after .sound .priced

@@ -12,7 +12,7 @@ use Rattle.paths.specs.Sizes.{mostFlow}
 use Rattle.solver.specs.declared.Hint.{Hint}
 use Rattle.solver.specs.Sizes.{mostReading, netRoom}
 use Rattle.solver.specs.Model.{settledTo, netsTo, settled}
-use Rattle.solver.specs.Premises.{Layout, Level, Settles, Amounts, Around, Ready}
+use Rattle.solver.specs.Premises.{Layout, Settleable, Settles, Amounts, Around, Ready}
 use Rattle.solver.proofs.Nearest.{Solvable, placed-of, weight-some, prices-near, settled-sound}
 use Rattle.solver.proofs.Booking.{around-more, nets-around}
 use Rattle.solver.proofs.Turns.{stream-is, in-use, plain-of}
@@ -39,7 +39,7 @@ module _ (streams : List Stream) (n : ℕ) (w : Layout streams n) where
     pub ready-settles : Settles streams n (h .prices)
     ready-settles = record {
       layout = w;
-      prices = r .start .poor;
+      prices = r .start .capped;
       near = λ u v lu lv. omega (arith, prices-near ss solvable-of h (r .low) (r .size) (r .start) u v lu lv, r .start .near);
     }
 
@@ -63,7 +63,7 @@ module _ (streams : List Stream) (n : ℕ) (w : Layout streams n) where
 
   -- A metered stream of the array can be settled.
   pub level-at : (ps : List ℕ) → Settles streams n ps → (i : ℕ) → i < n → getD streams i noStream .metered ≡ true
-      → Level (getD streams i noStream) (getD ps (getD streams i noStream .from) 0) (getD ps (getD streams i noStream .to) 0)
+      → Settleable (getD streams i noStream) (getD ps (getD streams i noStream .from) 0) (getD ps (getD streams i noStream .to) 0)
   level-at ps h i l e = record {
     placed = p;
     weighed = rw (weight-some (getD streams i noStream) e) (w .weighed i l e);

@@ -146,7 +146,7 @@ module _ (ss : List Stream) (v : Solvable ss) (h : Hint) (low b : ℕ) (s : Star
 
   -- A price is above another by no more than the least price is below priceShift.
   pub prices-near : (u w : ℕ) → u < places → w < places → getD (h .prices) u 0 ≤ getD (h .prices) w 0 + (priceShift - low)
-  prices-near u w lu lw = omega (arith, s .rich w lw, s .poor u lu)
+  prices-near u w lu lw = omega (arith, s .floor w lw, s .capped u lu)
 
   one-settled : (k : ℕ) → k < length ss → HeldAt ss ys ps 1 k × Close b (getD ys k 0)
   one-settled k l = rw (settled-at ss ps (h .flows) (length ss) k (omega (arith, s .long, v .plain .few)) l) (go (streamAt ss k .metered) refl)
@@ -178,15 +178,15 @@ module _ (ss : List Stream) (v : Solvable ss) (h : Hint) (low b : ℕ) (s : Star
           let hw : 1 ≤ weightOf (streamAt ss k) = rw (weight-some (streamAt ss k) e) (v .weighed k l e) in
           let a = settled-held (streamAt ss k) pu pv hw (omega (arith, prices-near _ _ lu lv, s .near)) (omega (arith, r .1)) in (
             a,
-            (omega (arith, near-up w X R pu pv (priceShift - low) hw (prices-near _ _ lv lu) a, r .0, s .fits, s .rich _ lu, s .poor _ lu), omega (arith, near-down w X R pu pv (priceShift - low) hw (prices-near _ _ lu lv) a, r .1, s .fits, s .rich _ lu, s .poor _ lu)),
+            (omega (arith, near-up w X R pu pv (priceShift - low) hw (prices-near _ _ lv lu) a, r .0, s .fits, s .floor _ lu, s .capped _ lu), omega (arith, near-down w X R pu pv (priceShift - low) hw (prices-near _ _ lu lv) a, r .1, s .fits, s .floor _ lu, s .capped _ lu)),
           )
       go false e =
-          (agree-held 1 w (getD (h .flows) k 0) R pu pv (weight-none (streamAt ss k) e) (s .agree k l e), s .loose k (omega (arith, v .plain .few)) e)
+          (agree-held 1 w (getD (h .flows) k 0) R pu pv (weight-none (streamAt ss k) e) (s .agree k l e), s .unmetered k (omega (arith, v .plain .few)) e)
 
   -- Past the streams in use amounts are as they were.
   all-close : (k : ℕ) → k < maxStreams → Close b (getD ys k 0)
   all-close k l = elim (decLe (length ss) k) [
-    | yes q ↦ rw (settled-past ss ps (h .flows) (length ss) k q) (s .loose k l (ap (λ (r : Stream). r .metered) (List·getD-eq-default ss noStream q)))
+    | yes q ↦ rw (settled-past ss ps (h .flows) (length ss) k q) (s .unmetered k l (ap (λ (r : Stream). r .metered) (List·getD-eq-default ss noStream q)))
     | no q ↦ one-settled k (omega arith) .1
   ]
 
@@ -197,8 +197,8 @@ module _ (ss : List Stream) (v : Solvable ss) (h : Hint) (low b : ℕ) (s : Star
     priced = s .priced;
     netted = nets-around ss ys (length ss) (v .plain .few) (placed-of ss (v .plain)) most .long;
     nets = λ u l. net-value (net ss ys u) (getD (netsTo ss ys (length ss)) u 0) (nets-right ss ys (length ss) (v .plain .few) (placed-of ss (v .plain)) most u l);
-    rich = s .rich;
-    poor = s .poor;
+    floor = s .floor;
+    capped = s .capped;
     close = all-close;
   }
     where

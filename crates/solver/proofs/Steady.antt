@@ -67,7 +67,7 @@ over-most [] b h = omega arith
 over-most (e ∷ es) b h = omega (arith, h 0 (omega arith), over-most es b (λ u l. h (suc u) (omega arith)))
 
 -- The nets after d moves from s to v.
-module _ (es : List ℕ) (s v d : ℕ) (ls : s < length es) (lv : v < length es) (ne : s ≡ v → ⊥) (rich : netShift + d ≤ getD es s 0) (poor : getD es v 0 < netShift) where
+module _ (es : List ℕ) (s v d : ℕ) (ls : s < length es) (lv : v < length es) (ne : s ≡ v → ⊥) (floor : netShift + d ≤ getD es s 0) (capped : getD es v 0 < netShift) where
   fs : List ℕ
   fs = set es s (getD es s 0 - d)
 
@@ -109,8 +109,8 @@ module _ (ss : List Stream) (d low b : ℕ) (st : State) (h : Sound ss d low b s
     priced = h .priced;
     netted = h .netted;
     nets = h .nets;
-    rich = λ u l. omega (arith, h .rich u l);
-    poor = h .poor;
+    floor = λ u l. omega (arith, h .floor u l);
+    capped = h .capped;
     close = λ k l. (omega (arith, h .close k l .0), omega (arith, h .close k l .1));
   }
 
@@ -135,7 +135,7 @@ module _ (ss : List Stream) (plain : Plain maxUnits ss) (d : ℕ) (l1 : 1 ≤ d)
       (st .prices)
       (h .held)
       (omega arith)
-      (λ u l. omega (arith, h .rich u l))
+      (λ u l. omega (arith, h .floor u l))
 
   pushed-sound : (s : ℕ) → s < places → netShift + d ≤ getD (st .nets) s 0 → (g : Grown) → Hunt maxUnits ss (st .flows) (st .nets) d s (st .prices) rounds g
       → Sound ss d low (b + d) (pushedOn ss st d s g) × (overSum (shiftedNets (st .nets) s (target (g .tree)) d) < overSum (st .nets))
@@ -146,8 +146,8 @@ module _ (ss : List Stream) (plain : Plain maxUnits ss) (d : ℕ) (l1 : 1 ≤ d)
       priced = r .long ∙ h .priced;
       netted = shifted-long es s v d lls llv ne over (r .negative) ∙ h .netted;
       nets = λ u l. net-value (net ss ys u) (getD (shiftedNets es s v d) u 0) (omega (arith, values u l, p .nets u, shifted-at es s v d lls llv ne over (r .negative) u));
-      rich = λ u l. omega (arith, h .rich u l, r .fall u);
-      poor = λ u l. omega (arith, h .poor u l, r .rise u);
+      floor = λ u l. omega (arith, h .floor u l, r .fall u);
+      capped = λ u l. omega (arith, h .capped u l, r .rise u);
       close = λ k l. (omega (arith, h .close k l .0, p .most k), omega (arith, h .close k l .1, p .least k));
     },
     shifted-less es s v d lls llv ne over (r .negative) l1,

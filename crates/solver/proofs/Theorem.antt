@@ -13,7 +13,8 @@ use Rattle.plants.specs.Limits.{maxWeight}
 use Rattle.plants.specs.Plants.{Plant, noStream}
 use Rattle.plants.specs.Files.{got, readPlant}
 use Rattle.plants.specs.Says.{arrayed, plantOf}
-use Rattle.plants.proofs.Limited.{WithinStream, Within, within}
+use Rattle.plants.specs.Within.{WithinStream, Within}
+use Rattle.plants.proofs.Limited.{within}
 use Rattle.plants.proofs.Accepted.{accepted}
 use Rattle.flows.specs.Flows.{streamAt, amountAt, Cheapest}
 use Rattle.flows.specs.Certificate.{climb, lowest, highest}

@@ -14,7 +14,7 @@ use Rattle.numbers.specs.Choice.{pick}
 use Rattle.numbers.proofs.Tests.{by-cases, clash}
 use Rattle.plants.specs.declared.Stream.{Stream}
 use Rattle.plants.specs.Plants.{Plant}
-use Rattle.plants.proofs.Limited.{Within}
+use Rattle.plants.specs.Within.{Within}
 use Rattle.flows.specs.Flows.{streamAt, amountAt, allowed, cost, Cheapest}
 use Rattle.flows.specs.Certificate.{weightOf}
 use Rattle.flows.proofs.Integers.{Le}

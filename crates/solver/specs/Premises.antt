@@ -9,9 +9,9 @@ use Rattle.plants.specs.declared.Stream.{Stream}
 use Rattle.plants.specs.Limits.{places, maxStreams}
 use Rattle.plants.specs.Plants.{noStream}
 use Rattle.flows.specs.Flows.{streamAt}
+use Rattle.flows.specs.Certificate.{weightOf}
 use Rattle.flows.proofs.Nets.{netOf}
 use Rattle.paths.specs.Sizes.{flowShift, mostFlow, priceShift, netShift, mostStep, pushRoom}
-use Rattle.flows.specs.Certificate.{weightOf}
 use Rattle.paths.specs.Held.{unshifted, AllHeld}
 use Rattle.paths.specs.Premises.{Placed, Network, Prices}
 use Rattle.solver.specs.declared.Hint.{Hint}
@@ -35,7 +35,7 @@ abbrev pub Close : ℕ → ℕ → Type 0
 Close b x = (x ≤ flowShift + b) × (flowShift ≤ x + b)
 
 -- A metered stream, and the prices of its start and its end, at which its amount can be settled.
-pub record Level (s : Stream) (pu pv : ℕ) : Type 0 where
+pub record Settleable (s : Stream) (pu pv : ℕ) : Type 0 where
   pub placed : Placed s
   pub weighed : 1 ≤ weightOf s
   pub in-range : natAbs (s .reading) ≤ mostReading
@@ -73,15 +73,16 @@ pub record Shiftable (es : List ℕ) (s v d : ℕ) : Type 0 where
 abbrev pub Agreed : List Stream → List ℕ → Type 0
 Agreed ss ps = (k : ℕ) → k < length ss → streamAt ss k .metered ≡ false → getD ps (streamAt ss k .from) 0 ≡ getD ps (streamAt ss k .to) 0
 
--- Prices to settle at, from low up, that agree across unmetered streams; and amounts for these, of size b at most.
+-- Prices to settle at, from low up, that agree across unmetered streams; and amounts for these, of size b at most. Prices within
+-- `spread` of each other move no amount by more than the least of them is below priceShift.
 pub record Start (ss : List Stream) (low b : ℕ) (h : Hint) : Type 0 where
   pub agree : Agreed ss (h .prices)
-  pub rich : (u : ℕ) → u < places → low ≤ getD (h .prices) u 0
-  pub poor : Prices (h .prices)
+  pub floor : (u : ℕ) → u < places → low ≤ getD (h .prices) u 0
+  pub capped : Prices (h .prices)
   pub near : priceShift ≤ low + spread
   pub priced : length (h .prices) ≡ places
   pub long : length (h .flows) ≡ maxStreams
-  pub loose : (k : ℕ) → k < maxStreams → streamAt ss k .metered ≡ false → Close b (getD (h .flows) k 0)
+  pub unmetered : (k : ℕ) → k < maxStreams → streamAt ss k .metered ≡ false → Close b (getD (h .flows) k 0)
   pub fits : mostReading + priceShift ≤ b + low
   pub within : b ≤ flowShift
 
@@ -102,8 +103,8 @@ pub record Sound (ss : List Stream) (d low b : ℕ) (st : State) : Type 0 where
   pub priced : length (st .prices) ≡ places
   pub netted : length (st .nets) ≡ places
   pub nets : (u : ℕ) → u < places → netOf ss (λ k. unshifted (getD (st .flows) k 0)) u ≡ pos (getD (st .nets) u 0) -ℤ pos netShift
-  pub rich : (u : ℕ) → u < places → low ≤ getD (st .prices) u 0
-  pub poor : Prices (st .prices)
+  pub floor : (u : ℕ) → u < places → low ≤ getD (st .prices) u 0
+  pub capped : Prices (st .prices)
   pub close : (k : ℕ) → k < maxStreams → Close b (getD (st .flows) k 0)
 
 -- From this state k more improvements at step d stay in range.

@@ -10,7 +10,7 @@ use Rattle.plants.specs.declared.Stream.{Stream}
 use Rattle.plants.specs.declared.Plant as Arrays
 use Rattle.plants.specs.Limits.{places, maxStreams}
 use Rattle.plants.specs.Says.{plantOf}
-use Rattle.plants.proofs.Limited.{Within}
+use Rattle.plants.specs.Within.{Within}
 use Rattle.flows.specs.Calls.{Fit}
 use Rattle.flows.specs.Flows.{streamAt, amountAt, Cheapest}
 use Rattle.flows.specs.Certificate.{climb, lowest, highest}

@@ -17,11 +17,11 @@ ghost use Rattle.paths.specs.Sizes.{mostFlow};
 ghost use Rattle.paths.specs.Premises.{Placed, Network};
 ghost use Rattle.solver.specs.Sizes.{netRoom};
 ghost use Rattle.solver.specs.Model.{settledOf, settledTo, booked, netsTo, settled};
-ghost use Rattle.solver.specs.Premises.{Layout, Amounts, Around, Level, Settles, Ready};
+ghost use Rattle.solver.specs.Premises.{Layout, Amounts, Around, Settleable, Settles, Ready};
 
 // A metered stream's amount at the prices of its start and its end.
 fn amount_at(s: Stream, pu: u64, pv: u64) -> u64
-    requires { ⌜ Level s pu pv ⌝ }
+    requires { ⌜ Settleable s pu pv ⌝ }
     ensures { λ r. ⌜ r ≡ settledOf s pu pv ⌝ }
 {
     let w = weight_of(s);

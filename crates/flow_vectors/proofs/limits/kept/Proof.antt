@@ -9,7 +9,7 @@ use borrow.Author.Tests.{not-false}
 use lib.ListN.{length, getD, length-map}
 use Rattle.plants.specs.Limits.{maxStreams}
 use Rattle.plants.specs.Plants.{noStream}
-use Rattle.plants.proofs.Limited.{WithinStream}
+use Rattle.plants.specs.Within.{WithinStream}
 use Rattle.flow_vectors.proofs.Keeping.{accepted-by}
 use Rattle.flow_vectors.proofs.limits.kept.Statement.{statement}
 use Rattle.flow_vectors.proofs.limits.kept.Tie as tie

@@ -45,7 +45,7 @@ root-requires c κs =
 search-requires : tie.Need-search-requires
 search-requires c κs =
     let st = c .before .before .before .before .before .before .before .before .before .before in (
-      record { network = st .pre .0; step = st .pre .1 .1; amounts = λ k l. omega (arith, st .pre .2 .sound .close k (omega (arith, st .pre .0 .few)) .0, st .pre .2 .fits); prices = st .pre .2 .sound .poor },
+      record { network = st .pre .0; step = st .pre .1 .1; amounts = λ k l. omega (arith, st .pre .2 .sound .close k (omega (arith, st .pre .0 .few)) .0, st .pre .2 .fits); prices = st .pre .2 .sound .capped },
       st .pre .2 .sound .priced,
       ap
           (λ t. t .len) (c .root .ensures),
