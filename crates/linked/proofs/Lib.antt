@@ -1,0 +1,3 @@
+-- Laws of the parts of a plant in slices.
+pub mod Gather
+pub mod Counts

@@ -1,0 +1,16 @@
+#!/usr/bin/env bash
+# Builds target/host/balance_file with the system's C compiler (CC, else cc).
+set -eu
+cd "$(dirname "$0")/../.."
+archive=target/staticlib/liblinked.a
+if ! command -v "${CC:-cc}" >/dev/null; then
+    echo "no C compiler: install one (Debian: apt-get install gcc libc6-dev) or name it in CC" >&2
+    exit 2
+fi
+if [ ! -e "$archive" ]; then
+    echo "no $archive: build it with 'rt staticlib linked' (Rattle kit rattle-kit-5 or later)" >&2
+    exit 2
+fi
+mkdir -p target/host
+"${CC:-cc}" -std=c11 -O2 -Wall -Wextra -Werror -I host/include host/c/balance_file.c "$archive" -o target/host/balance_file
+echo "built target/host/balance_file"

@@ -1,0 +1,8 @@
+#!/usr/bin/env bash
+# Runs the fuzz target for so many seconds (default 60) over a copy of the corpus. Findings are left in target/host/fuzz/.
+set -eu
+cd "$(dirname "$0")/../.."
+out=target/host/fuzz
+[ -x "$out/target" ] || { echo "no $out/target: build it with 'bash host/fuzz/build.sh'" >&2; exit 2; }
+mkdir -p "$out/corpus"
+"$out/target" -max_total_time="${1:-60}" -max_len=900 -timeout=10 -print_final_stats=1 -artifact_prefix="$out/" "$out/corpus" host/fuzz/corpus

@@ -1,0 +1,355 @@
+/* A fuzz target over the two calls, for libFuzzer.
+ *
+ * Coverage is of the archive as it is delivered, which carries no instrumentation: a breakpoint stands at each basic
+ * block of its functions (blocks.txt beside the program, made by build.sh). The first time a block runs, the breakpoint
+ * is taken away and the block's counter set, so that the input counts as new.
+ *
+ * Each combination of degrees and verdict, and each class beside each number of streams, counts as new as well. Three of
+ * four changed inputs are repaired to a plant within its limits, so that the search gets past the reader.
+ *
+ * An input: 1 byte that chooses the slice's length, 1 byte that chooses the last sheet number, then a plant file; or, the
+ * second byte being 249, parts for the writer: units, count (2), which slice is cut (1) and where (1), then 9 bytes for each
+ * stream.
+ * Each slice ends at a page that may not be touched, and bytes stand before it that may not change.
+ */
+#define _GNU_SOURCE
+#include <signal.h>
+#include <stdio.h>
+#include <stdlib.h>
+#include <string.h>
+#include <sys/mman.h>
+#include <ucontext.h>
+#include <unistd.h>
+
+#include "wengeludo_balance.h"
+
+#define MOST_BLOCKS 4096
+#define OF_SHEETS 3072 /* counters from here on are of sheets: blocks come before them */
+#define AREA 8192
+#define PAGE 4096
+#define GUARD 64
+
+__attribute__((section("__libfuzzer_extra_counters"))) static uint8_t counters[MOST_BLOCKS];
+static struct { uint8_t *at; uint8_t code; } blocks[MOST_BLOCKS];
+static int block_count;
+
+static void on_breakpoint(int signal, siginfo_t *info, void *context)
+{
+    (void)signal;
+    (void)info;
+    greg_t *rip = &((ucontext_t *)context)->uc_mcontext.gregs[REG_RIP];
+    uint8_t *at = (uint8_t *)*rip - 1;
+    int low = 0, high = block_count - 1;
+    while (low <= high) {
+        int middle = (low + high) / 2;
+        if (blocks[middle].at == at) {
+            *at = blocks[middle].code;
+            counters[middle] = 1;
+            *rip -= 1;
+            return;
+        }
+        if (blocks[middle].at < at)
+            low = middle + 1;
+        else
+            high = middle - 1;
+    }
+    abort();
+}
+
+static void fail(const char *what)
+{
+    fprintf(stderr, "fuzz target: %s\n", what);
+    abort();
+}
+
+/* An area whose last byte stands before a page that may not be touched. */
+static uint8_t *area(void)
+{
+    uint8_t *memory = mmap(NULL, AREA + PAGE, PROT_READ | PROT_WRITE, MAP_PRIVATE | MAP_ANONYMOUS, -1, 0);
+    if (memory == MAP_FAILED || mprotect(memory + AREA, PAGE, PROT_NONE) != 0)
+        fail("no memory");
+    return memory + AREA;
+}
+
+static uint8_t *file_end, *out_end, *again_end;
+
+/* How much of the archive ran; the blocks that did not, by address. */
+static void summary(void)
+{
+    int ran = 0;
+    for (int i = 0; i < block_count; i++)
+        ran += *blocks[i].at == blocks[i].code;
+    fprintf(stderr, "fuzz target: %d of %d basic blocks ran\n", ran, block_count);
+    for (int i = 0; i < block_count; i++)
+        if (*blocks[i].at != blocks[i].code)
+            fprintf(stderr, "not run: %p\n", (void *)blocks[i].at);
+}
+
+int LLVMFuzzerInitialize(int *count, char ***words)
+{
+    (void)count;
+    (void)words;
+    file_end = area();
+    out_end = area();
+    again_end = area();
+    FILE *list = fopen(BLOCKS, "r");
+    if (list == NULL)
+        fail("no " BLOCKS ": build with host/fuzz/build.sh");
+    unsigned long at;
+    while (block_count < OF_SHEETS && fscanf(list, "%lx", &at) == 1)
+        blocks[block_count++].at = (uint8_t *)at;
+    fclose(list);
+    struct sigaction action = {.sa_sigaction = on_breakpoint, .sa_flags = SA_SIGINFO};
+    sigaction(SIGTRAP, &action, NULL);
+    for (int i = 0; i < block_count; i++) {
+        uintptr_t page = (uintptr_t)blocks[i].at & ~(uintptr_t)(PAGE - 1);
+        if (mprotect((void *)page, 2 * PAGE, PROT_READ | PROT_WRITE | PROT_EXEC) != 0)
+            fail("the code's pages cannot be written");
+        blocks[i].code = *blocks[i].at;
+        *blocks[i].at = 0xCC;
+    }
+    fprintf(stderr, "fuzz target: %d basic blocks watched\n", block_count);
+    atexit(summary);
+    return 0;
+}
+
+static uint64_t field(const uint8_t *at, int bytes)
+{
+    uint64_t value = 0;
+    for (int i = 0; i < bytes; i++)
+        value = value << 8 | at[i];
+    return value;
+}
+
+static uint8_t fill(size_t i, int round) { return (uint8_t)(i * 31 + (round ? 7 : 200)); }
+
+struct outcome { uint8_t returned; uint32_t last; size_t written; };
+
+/* A sheet call on a slice between a guard and a page; checks what must stay as it was. */
+static struct outcome sheet_call(const uint8_t *file, size_t size, uint32_t last, size_t length, uint8_t *end, int round)
+{
+    uint8_t *slice = end - length;
+    for (size_t i = 0; i < length + GUARD; i++)
+        slice[-GUARD + (ptrdiff_t)i] = fill(i, round);
+    struct outcome o = {.last = last, .written = round ? 12345 : SIZE_MAX};
+    o.returned = wengeludo_balance_plant(file, size, &o.last, slice, length, &o.written);
+    if (o.returned > 12)
+        fail("a number that is no refusal");
+    if (o.returned != 0 && (o.written != 0 || o.last != last))
+        fail("a refusal counts, or changes the counter");
+    if (o.returned == 0 && (o.last != last + 1 || o.written < 15 || o.written > WENGELUDO_SHEET_SIZE))
+        fail("a sheet with a wrong count or counter");
+    for (size_t i = 0; i < GUARD; i++)
+        if (slice[-GUARD + (ptrdiff_t)i] != fill(i, round))
+            fail("a byte before the slice changed");
+    for (size_t i = o.written; i < length; i++)
+        if (slice[i] != fill(i + GUARD, round))
+            fail("a byte past the sheet changed");
+    return o;
+}
+
+/* An accepted file: its parts written again give it back, and its sheet fits its streams. */
+static void accepted(const uint8_t *file, size_t size, const uint8_t *sheet, size_t written)
+{
+    uint8_t from[96], to[96], metered[96];
+    uint16_t weight[96];
+    int32_t reading[96];
+    size_t count = 0;
+    for (size_t at = 2; file[at] != 4; count++) {
+        metered[count] = file[at] == 2;
+        from[count] = file[at + 1];
+        to[count] = file[at + 2];
+        weight[count] = metered[count] ? (uint16_t)field(file + at + 3, 2) : 0;
+        reading[count] = metered[count] ? (int32_t)field(file + at + 5, 4) : 0;
+        at += metered[count] ? 9 : 3;
+    }
+    uint8_t *out = again_end - WENGELUDO_FILE_SIZE;
+    memset(out, 0x55, WENGELUDO_FILE_SIZE);
+    size_t length = 0;
+    if (wengeludo_write_plant(file[1], count, from, count, to, count, metered, count, weight, count, reading, count, out,
+                              WENGELUDO_FILE_SIZE, &length) != 0)
+        fail("the writer refuses an accepted plant");
+    if (length != size || memcmp(out, file, size) != 0)
+        fail("the file written again differs");
+    for (size_t i = length; i < WENGELUDO_FILE_SIZE; i++)
+        if (out[i] != 0x55)
+            fail("a byte past the file changed");
+    /* Slices too short by one: refused, nothing written. */
+    if (count > 0) {
+        memset(out, 0x66, WENGELUDO_FILE_SIZE);
+        if (wengeludo_write_plant(file[1], count, from, count, to, count, metered, count - 1, weight, count, reading, count,
+                                  out, WENGELUDO_FILE_SIZE, &length) != WENGELUDO_SAME_PLACE || length != 0)
+            fail("a stream that is not there is taken");
+        for (size_t i = 0; i < WENGELUDO_FILE_SIZE; i++)
+            if (out[i] != 0x66)
+                fail("a refused writer writes");
+    }
+    /* The sheet: classes by metered or not, the flows' balance where no flow is withheld, the cost. */
+    size_t at = 0;
+    uint64_t cost = 0;
+    int64_t net[33] = {0};
+    int blank[33] = {0};
+    for (size_t k = 0; k < count; k++) {
+        uint8_t kind = sheet[at++];
+        counters[OF_SHEETS + 128 + (kind & 3) * 97 + count] = 1;
+        if (kind != 0x11 && kind != 0x12 && kind != 0x13 && kind != 0x14)
+            fail("no stream record where one is due");
+        if ((kind <= 0x12) != metered[k])
+            fail("a class of the other kind");
+        if (kind == 0x14) {
+            blank[from[k]] = blank[to[k]] = 1;
+            continue;
+        }
+        int64_t flow = (int64_t)field(sheet + at, 8);
+        at += 8;
+        net[from[k]] -= flow;
+        net[to[k]] += flow;
+        if (kind == 0x12 && flow != reading[k])
+            fail("a stream as read with another flow");
+        if (metered[k])
+            cost += (uint64_t)weight[k] * (uint64_t)((flow - reading[k]) * (flow - reading[k]));
+    }
+    for (int place = 0; place <= file[1]; place++)
+        if (!blank[place] && net[place] != 0)
+            fail("a place does not balance");
+    if (at + 15 != written || sheet[at] != 0x1F || field(sheet + at + 5, 8) != cost)
+        fail("a wrong total");
+    counters[OF_SHEETS + sheet[at + 13] * 3 + sheet[at + 14]] = 1;
+}
+
+/* The refusals of the writer, in their order, as the header states them. */
+static uint8_t write_fault(uint8_t units, size_t count, size_t there, const uint8_t *from, const uint8_t *to,
+                           const uint8_t *metered, const uint16_t *weight, const int32_t *reading, size_t length)
+{
+    if (length < WENGELUDO_FILE_SIZE)
+        return 1;
+    if (units < 1 || units > 32)
+        return 6;
+    if (count > 96)
+        return 5;
+    for (size_t k = 0; k < count; k++) {
+        if (k >= there)
+            return 8;
+        if (from[k] > units || to[k] > units)
+            return 7;
+        if (from[k] == to[k])
+            return 8;
+        if (metered[k] && (weight[k] < 1 || weight[k] > 1000))
+            return 9;
+        if (metered[k] && (reading[k] < -1000000 || reading[k] > 1000000))
+            return 10;
+    }
+    return 0;
+}
+
+/* The writer on any parts: the number returned, what stays as it was, and that the sheet call takes the file. */
+static void write_parts(const uint8_t *data, size_t size, size_t length)
+{
+    if (size < 5)
+        return;
+    uint8_t units = data[0];
+    size_t count = field(data + 1, 2), n = (size - 5) / 9, ends[5], there = n;
+    uint8_t from[112], to[112], metered[112];
+    uint16_t weight[112];
+    int32_t reading[112];
+    if (n > 112)
+        n = there = 112;
+    for (size_t k = 0; k < n; k++) {
+        const uint8_t *at = data + 5 + 9 * k;
+        from[k] = at[0];
+        to[k] = at[1];
+        metered[k] = at[2];
+        weight[k] = (uint16_t)field(at + 3, 2);
+        reading[k] = (int32_t)field(at + 5, 4);
+    }
+    for (int i = 0; i < 5; i++)
+        ends[i] = n;
+    if (data[3] < 5 && data[4] < n)
+        there = ends[data[3]] = data[4];
+    uint8_t *out = out_end - length;
+    for (size_t i = 0; i < length + GUARD; i++)
+        out[-GUARD + (ptrdiff_t)i] = fill(i, 0);
+    size_t written = SIZE_MAX;
+    uint8_t returned = wengeludo_write_plant(units, count, from, ends[0], to, ends[1], metered, ends[2], weight, ends[3], reading,
+                                             ends[4], out, length, &written);
+    if (returned != write_fault(units, count, there, from, to, metered, weight, reading, length))
+        fail("the writer returns another number");
+    if (returned != 0 ? written != 0 : written < 4 || written > WENGELUDO_FILE_SIZE)
+        fail("the writer counts wrong");
+    for (size_t i = 0; i < length + GUARD; i++)
+        if ((i < GUARD || i >= GUARD + written) && out[-GUARD + (ptrdiff_t)i] != fill(i, 0))
+            fail("the writer changes a byte that is not its own");
+    if (returned == 0) {
+        struct outcome o = sheet_call(out, written, 0, WENGELUDO_SHEET_SIZE, again_end, 0);
+        if (o.returned != 0)
+            fail("the sheet call refuses a file of the writer");
+    }
+}
+
+size_t LLVMFuzzerMutate(uint8_t *data, size_t size, size_t most);
+
+/* Repairs a file to a plant within its limits: the bytes that are there, taken modulo what is allowed. */
+static size_t repaired(uint8_t *file, size_t size, size_t most)
+{
+    uint8_t plant[WENGELUDO_FILE_SIZE];
+    uint8_t units = size > 1 ? (uint8_t)(1 + (file[1] + 31) % 32) : 1;
+    size_t length = 0, count = 0;
+    plant[length++] = 1;
+    plant[length++] = units;
+    for (size_t at = 2; at + 3 <= size && count < 96 && !(file[at] == 4 && at + 2 >= size); count++) {
+        int metered = file[at] != 3 && at + 9 <= size;
+        uint8_t from = file[at + 1] % (units + 1), to = file[at + 2] % (units + 1);
+        plant[length++] = metered ? 2 : 3;
+        plant[length++] = from;
+        plant[length++] = to != from ? to : (uint8_t)((from + 1) % (units + 1));
+        if (metered) {
+            uint16_t weight = (uint16_t)(1 + (field(file + at + 3, 2) + 999) % 1000);
+            int32_t reading = (int32_t)field(file + at + 5, 4) % 1000001;
+            plant[length++] = (uint8_t)(weight >> 8);
+            plant[length++] = (uint8_t)weight;
+            for (int shift = 24; shift >= 0; shift -= 8)
+                plant[length++] = (uint8_t)((uint32_t)reading >> shift);
+        }
+        at += metered ? 9 : 3;
+    }
+    plant[length++] = 4;
+    plant[length++] = (uint8_t)count;
+    if (length > most)
+        return size;
+    memcpy(file, plant, length);
+    return length;
+}
+
+size_t LLVMFuzzerCustomMutator(uint8_t *data, size_t size, size_t most, unsigned seed)
+{
+    size = LLVMFuzzerMutate(data, size, most);
+    if (seed % 4 != 0 && size > 2 && most > 2 && data[1] != 249)
+        size = 2 + repaired(data + 2, size - 2, most - 2);
+    return size;
+}
+
+int LLVMFuzzerTestOneInput(const uint8_t *data, size_t size)
+{
+    if (size < 2 || size > 2 + 1000)
+        return 0;
+    size_t length = data[0] < 128 ? WENGELUDO_SHEET_SIZE : data[0] < 192 ? WENGELUDO_SHEET_SIZE + data[0] - 128 : (size_t)(255 - data[0]) * 14;
+    if (data[1] == 249) {
+        write_parts(data + 2, size - 2, length);
+        return 0;
+    }
+    uint32_t last = data[1] < 250 ? data[1] : UINT32_MAX - (255 - data[1]);
+    size -= 2;
+    uint8_t *file = file_end - size;
+    memcpy(file, data + 2, size);
+    struct outcome a = sheet_call(file, size, last, length, out_end, 0);
+    struct outcome b = sheet_call(file, size, last, length, again_end, 1);
+    if (a.returned != b.returned || a.written != b.written || a.last != b.last)
+        fail("two calls differ");
+    if (memcmp(out_end - length, again_end - length, a.written) != 0)
+        fail("two sheets differ");
+    if (memcmp(file, data + 2, size) != 0)
+        fail("the file changed");
+    if (a.returned == 0)
+        accepted(file, size, out_end - length, a.written);
+    return 0;
+}

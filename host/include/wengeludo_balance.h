@@ -1,0 +1,109 @@
+/* Steam and condensate balance sheets: the two calls of liblinked.a.
+ *
+ * Build the archive with `rt staticlib linked` (target/staticlib/liblinked.a, x86-64 Linux) and link it;
+ * it needs nothing but the C library (memcpy). The calls keep no state, allocate nothing, take less than
+ * 40 KB of stack, and may run in several threads at once on memory of their own.
+ *
+ * What holds of every pointer here, and what no call can check:
+ *   - it points to as many elements as the length beside it says (a pointer without a length: to one);
+ *   - it is not NULL, also where the length is 0;
+ *   - what a call writes overlaps nothing else that the same call is handed.
+ * Lengths count elements. A slice may be longer than is needed.
+ *
+ * What each call does is proved against the definitions in crates/sheets/specs and crates/plants/specs:
+ * result, counts and every byte of a slice follow from what is handed in.
+ */
+#ifndef WENGELUDO_BALANCE_H
+#define WENGELUDO_BALANCE_H
+
+#include <stddef.h>
+#include <stdint.h>
+
+#ifdef __cplusplus
+extern "C" {
+#endif
+
+/* The least sheet slice and the least slice for a plant file; the longest plant file. */
+#define WENGELUDO_SHEET_SIZE 879
+#define WENGELUDO_FILE_SIZE 868
+
+/* The most units and the most streams of a plant; the greatest weight and the greatest reading. */
+#define WENGELUDO_MAX_UNITS 32
+#define WENGELUDO_MAX_STREAMS 96
+#define WENGELUDO_MAX_WEIGHT 1000
+#define WENGELUDO_MAX_READING 1000000
+
+/* What the calls return: 0, or the number of a refusal. */
+enum {
+    WENGELUDO_DONE = 0,
+    WENGELUDO_SLICE_TOO_SHORT = 1,    /* sheet slice under 879 bytes; file slice of the writer under 868 */
+    WENGELUDO_NO_SHEET_NUMBER = 2,    /* last sheet number is 4,294,967,295 */
+    WENGELUDO_FILE_ENDS = 3,          /* bytes end where a record is due or inside a body */
+    WENGELUDO_KIND = 4,               /* kind not allowed at this place */
+    WENGELUDO_TOO_MANY_STREAMS = 5,   /* a 97th stream; for the writer, a stream count over 96 */
+    WENGELUDO_UNITS = 6,              /* n is 0 or over 32 */
+    WENGELUDO_PLACE = 7,              /* from or to above n */
+    WENGELUDO_SAME_PLACE = 8,         /* from equals to */
+    WENGELUDO_WEIGHT = 9,             /* weight 0 or over 1,000 */
+    WENGELUDO_READING = 10,           /* reading outside -1,000,000 to 1,000,000 */
+    WENGELUDO_END_COUNT = 11,         /* end count differs from the streams read */
+    WENGELUDO_AFTER_END = 12          /* bytes after the end record */
+};
+
+/* The kinds of record on a sheet. */
+enum {
+    WENGELUDO_ADJUSTED = 0x11, /* then the flow: 8 bytes, two's complement, high byte first */
+    WENGELUDO_AS_READ = 0x12,  /* the same */
+    WENGELUDO_GIVEN = 0x13,    /* the same */
+    WENGELUDO_WITHHELD = 0x14, /* no body */
+    WENGELUDO_TOTAL = 0x1F     /* sheet number (4), cost (8), degrees (1), verdict (1: 0 pass, 1 fail, 2 none) */
+};
+
+/* The sheet call: balances a plant file and writes its sheet.
+ *
+ * Reads   the file's file_length bytes, and *last, the last sheet number used (0 before the first sheet).
+ * Returns 0, or one of 1 to 12. The order: 1, 2, then the file's records one after the other.
+ * Writes, where it returns 0:
+ *         the sheet at the front of `sheet` (at most 879 bytes: a record for each stream in file order, then
+ *         the total); the bytes of the slice past the total keep their values;
+ *         *written: how many bytes the sheet has; *last: one higher, the number on this sheet.
+ * Writes, where it returns another number:
+ *         *written: 0, and nothing else. All bytes of `sheet` and *last are as they were.
+ * What *written was before the call makes no difference.
+ */
+uint8_t wengeludo_balance_plant(const uint8_t *file, size_t file_length,
+                                uint32_t *last,
+                                uint8_t *sheet, size_t sheet_length,
+                                size_t *written);
+
+/* The plant writer: writes a plant file from a plant's parts.
+ *
+ * Reads   units (n), count (how many streams), and of each of the five slices at most its first 96 elements.
+ *         Stream k, counted from 1, stands at index k - 1 of each slice: from and to (0 is the outside),
+ *         metered (0: unmetered, any other number: metered), weight, reading. Elements past the count make no
+ *         difference, nor do the weight and the reading of an unmetered stream.
+ *         A stream among the first `count` that one of the five slices is too short to hold is taken as empty:
+ *         from 0 to 0. So the call returns 8 when that stream's turn comes, or earlier the number of an earlier
+ *         fault. No file is ever written from slices that are too short.
+ * Returns 0, or 1, 5, 6, 7, 8, 9 or 10. The order: 1, 6, 5, then stream after stream, in each 7 to 10.
+ * Writes, where it returns 0:
+ *         the file at the front of `file` (at most 868 bytes); the bytes past it keep their values;
+ *         *written: how many bytes the file has.
+ * Writes, where it returns another number:
+ *         *written: 0, and nothing else. All bytes of `file` are as they were.
+ * What *written was before the call makes no difference.
+ */
+uint8_t wengeludo_write_plant(uint8_t units, size_t count,
+                              const uint8_t *from, size_t from_length,
+                              const uint8_t *to, size_t to_length,
+                              const uint8_t *metered, size_t metered_length,
+                              const uint16_t *weight, size_t weight_length,
+                              const int32_t *reading, size_t reading_length,
+                              uint8_t *file, size_t file_length,
+                              size_t *written);
+
+#ifdef __cplusplus
+}
+#endif
+
+#endif

@@ -1,0 +1,40 @@
+//! Steam and condensate balance sheets.
+//!
+//! A [`Plant`] lists the streams between its units; [`balance`] takes a plant file and returns its [`Sheet`], or a
+//! [`Refusal`] that leaves the sheet counter as it was.
+//!
+//! ```
+//! use wengeludo_balance::{balance, Plant, Record, Verdict};
+//!
+//! let file = Plant::new(2)
+//!     .metered(0, 1, 10, 100)
+//!     .unmetered(1, 2)
+//!     .unmetered(1, 2)
+//!     .metered(2, 0, 10, 98)
+//!     .file()?;
+//! let mut last = 0;
+//! let sheet = balance(&file, &mut last)?;
+//! assert_eq!(sheet.records, [Record::Adjusted(99), Record::Withheld, Record::Withheld, Record::Adjusted(99)]);
+//! assert_eq!((sheet.number, sheet.cost, sheet.degrees, sheet.verdict), (1, 20, 1, Verdict::Pass));
+//! assert_eq!(last, 1);
+//! # Ok::<(), wengeludo_balance::Refusal>(())
+//! ```
+//!
+//! A caller who has memory of its own uses [`balance_into`] and [`Plant::write_into`], which allocate nothing.
+#![deny(missing_docs)]
+#![deny(unsafe_op_in_unsafe_fn)]
+
+mod plant;
+pub mod raw;
+mod refusal;
+mod sheet;
+
+pub use plant::Plant;
+pub use refusal::Refusal;
+pub use sheet::{balance, balance_into, Record, Sheet, Verdict};
+
+/// The least sheet slice that is taken.
+pub const SHEET_SIZE: usize = 879;
+
+/// The least slice that the plant writer takes; the longest plant file.
+pub const FILE_SIZE: usize = 868;

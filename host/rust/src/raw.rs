@@ -1,0 +1,87 @@
+//! The two calls as the archive has them, on slices and numbers; the result is 0 or a refusal's number.
+//!
+//! The rest of this crate is easier to use. These are for a caller who keeps numbers, and for tests.
+
+extern "C" {
+    fn wengeludo_balance_plant(
+        file: *const u8,
+        file_length: usize,
+        last: *mut u32,
+        sheet: *mut u8,
+        sheet_length: usize,
+        written: *mut usize,
+    ) -> u8;
+    fn wengeludo_write_plant(
+        units: u8,
+        count: usize,
+        from: *const u8,
+        from_length: usize,
+        to: *const u8,
+        to_length: usize,
+        metered: *const u8,
+        metered_length: usize,
+        weight: *const u16,
+        weight_length: usize,
+        reading: *const i32,
+        reading_length: usize,
+        file: *mut u8,
+        file_length: usize,
+        written: *mut usize,
+    ) -> u8;
+}
+
+// A length is 64 bits wide in the archive.
+const _: () = assert!(usize::BITS == 64);
+
+/// The sheet call. 0: the sheet is at the front of `sheet`, `written` its length, `last` one higher. Another number: a
+/// refusal; `written` is 0, `sheet` and `last` are as they were.
+pub fn balance_plant(file: &[u8], last: &mut u32, sheet: &mut [u8], written: &mut usize) -> u8 {
+    // SAFETY: each pointer comes from a reference or a slice with its length, the borrows keep what is written apart
+    // from all else, and the call asks nothing more of its arguments.
+    unsafe { wengeludo_balance_plant(file.as_ptr(), file.len(), last, sheet.as_mut_ptr(), sheet.len(), written) }
+}
+
+/// The parts of a plant, one slice for each; stream k, counted from 1, stands at index k - 1 of each.
+#[derive(Clone, Copy, Debug)]
+pub struct Parts<'a> {
+    /// How many units.
+    pub units: u8,
+    /// How many streams.
+    pub count: usize,
+    /// Where each stream comes from; 0 is the outside.
+    pub from: &'a [u8],
+    /// Where each stream goes.
+    pub to: &'a [u8],
+    /// 0 for an unmetered stream, any other number for a metered one.
+    pub metered: &'a [u8],
+    /// The meter's weight.
+    pub weight: &'a [u16],
+    /// The meter's reading.
+    pub reading: &'a [i32],
+}
+
+/// The plant writer. 0: the file is at the front of `file`, `written` its length. Another number: a refusal; `written`
+/// is 0, `file` is as it was. A stream that one of the slices is too short to hold is taken as empty, from 0 to 0, and
+/// refused as 8 when its turn comes.
+pub fn write_plant(parts: Parts, file: &mut [u8], written: &mut usize) -> u8 {
+    // SAFETY: as above.
+    unsafe {
+        wengeludo_write_plant(
+            parts.units,
+            parts.count,
+            parts.from.as_ptr(),
+            parts.from.len(),
+            parts.to.as_ptr(),
+            parts.to.len(),
+            parts.metered.as_ptr(),
+            parts.metered.len(),
+            parts.weight.as_ptr(),
+            parts.weight.len(),
+            parts.reading.as_ptr(),
+            parts.reading.len(),
+            file.as_mut_ptr(),
+            file.len(),
+            written,
+        )
+    }
+}

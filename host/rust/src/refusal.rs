@@ -1,0 +1,96 @@
+//! Refusals.
+
+use std::error::Error;
+use std::fmt;
+
+/// Why a call was refused. A refused call leaves every slice and the counter as they were.
+#[derive(Clone, Copy, Debug, PartialEq, Eq, Hash)]
+#[repr(u8)]
+pub enum Refusal {
+    /// Sheet slice under 879 bytes; for the plant writer, slice under 868.
+    SliceTooShort = 1,
+    /// Last sheet number is 4,294,967,295.
+    NoSheetNumber = 2,
+    /// Bytes end where a record is due or inside a body.
+    FileEnds = 3,
+    /// Kind not allowed at this place.
+    Kind = 4,
+    /// A 97th stream; for the writer, a stream count over 96.
+    TooManyStreams = 5,
+    /// The number of units is 0 or over 32.
+    Units = 6,
+    /// From or to above the number of units.
+    Place = 7,
+    /// From equals to.
+    SamePlace = 8,
+    /// Weight 0 or over 1,000.
+    Weight = 9,
+    /// Reading outside -1,000,000 to 1,000,000.
+    Reading = 10,
+    /// End count differs from the streams read.
+    EndCount = 11,
+    /// Bytes after the end record.
+    AfterEnd = 12,
+}
+
+const ALL: [(Refusal, &str); 12] = [
+    (Refusal::SliceTooShort, "sheet slice under 879 bytes; for the plant writer, slice under 868"),
+    (Refusal::NoSheetNumber, "last sheet number is 4,294,967,295"),
+    (Refusal::FileEnds, "bytes end where a record is due or inside a body"),
+    (Refusal::Kind, "kind not allowed at this place"),
+    (Refusal::TooManyStreams, "a 97th stream; for the writer, a stream count over 96"),
+    (Refusal::Units, "n is 0 or over 32"),
+    (Refusal::Place, "from or to above n"),
+    (Refusal::SamePlace, "from equals to"),
+    (Refusal::Weight, "weight 0 or over 1,000"),
+    (Refusal::Reading, "reading outside its range"),
+    (Refusal::EndCount, "end count differs from the streams read"),
+    (Refusal::AfterEnd, "bytes after the end record"),
+];
+
+impl Refusal {
+    /// The refusal's number, 1 to 12.
+    pub fn number(self) -> u8 {
+        self as u8
+    }
+
+    /// The refusal of a number; none for 0, which is no refusal, and above 12.
+    pub fn from_number(number: u8) -> Option<Refusal> {
+        ALL.get(usize::from(number).checked_sub(1)?).map(|entry| entry.0)
+    }
+
+    /// What a call returned: 0, or a refusal.
+    pub(crate) fn check(number: u8) -> Result<(), Refusal> {
+        match Refusal::from_number(number) {
+            None => Ok(()),
+            Some(refusal) => Err(refusal),
+        }
+    }
+}
+
+impl fmt::Display for Refusal {
+    fn fmt(&self, f: &mut fmt::Formatter<'_>) -> fmt::Result {
+        write!(f, "refused {}: {}", self.number(), ALL[usize::from(self.number()) - 1].1)
+    }
+}
+
+impl Error for Refusal {}
+
+#[cfg(test)]
+mod tests {
+    use super::*;
+
+    #[test]
+    fn numbers_there_and_back() {
+        for number in 1..=12 {
+            assert_eq!(Refusal::from_number(number).unwrap().number(), number);
+        }
+        assert_eq!(Refusal::from_number(0), None);
+        assert_eq!(Refusal::from_number(13), None);
+    }
+
+    #[test]
+    fn message() {
+        assert_eq!(Refusal::SamePlace.to_string(), "refused 8: from equals to");
+    }
+}

@@ -1,0 +1,157 @@
+//! Sheets.
+
+use crate::refusal::Refusal;
+use crate::{raw, SHEET_SIZE};
+use std::fmt;
+
+/// A stream's record on a sheet: its class, and its flow in kg per hour where there is one.
+#[derive(Clone, Copy, Debug, PartialEq, Eq, Hash)]
+pub enum Record {
+    /// A: metered and corrected.
+    Adjusted(i64),
+    /// R: metered, and its flow is its reading.
+    AsRead(i64),
+    /// G: unmetered, and the metered flows force its flow.
+    Given(i64),
+    /// W: unmetered, and nothing forces its flow.
+    Withheld,
+}
+
+impl Record {
+    /// The class letter: A, R, G or W.
+    pub fn letter(self) -> char {
+        match self {
+            Record::Adjusted(_) => 'A',
+            Record::AsRead(_) => 'R',
+            Record::Given(_) => 'G',
+            Record::Withheld => 'W',
+        }
+    }
+
+    /// The flow; none where it is withheld.
+    pub fn flow(self) -> Option<i64> {
+        match self {
+            Record::Adjusted(flow) | Record::AsRead(flow) | Record::Given(flow) => Some(flow),
+            Record::Withheld => None,
+        }
+    }
+}
+
+/// The verdict of the test.
+#[derive(Clone, Copy, Debug, PartialEq, Eq, Hash)]
+pub enum Verdict {
+    /// The cost is at most the critical value.
+    Pass,
+    /// The cost is above it.
+    Fail,
+    /// There are no degrees to test.
+    None,
+}
+
+/// A balance sheet.
+#[derive(Clone, Debug, PartialEq, Eq, Hash)]
+pub struct Sheet {
+    /// A record for each stream, in the order of the file.
+    pub records: Vec<Record>,
+    /// The sheet's number.
+    pub number: u32,
+    /// The cost, in thousandths.
+    pub cost: u64,
+    /// The degrees.
+    pub degrees: u8,
+    /// The verdict.
+    pub verdict: Verdict,
+}
+
+fn field<const N: usize>(bytes: &[u8]) -> Option<([u8; N], &[u8])> {
+    let (head, tail) = (bytes.get(..N)?, bytes.get(N..)?);
+    Some((head.try_into().ok()?, tail))
+}
+
+impl Sheet {
+    /// Reads a sheet from its bytes, as [`balance_into`] writes them; none where they are not a whole sheet.
+    pub fn from_bytes(mut bytes: &[u8]) -> Option<Sheet> {
+        let mut records = Vec::new();
+        loop {
+            let (kind, body) = bytes.split_first()?;
+            let make = match kind {
+                0x11 => Record::Adjusted,
+                0x12 => Record::AsRead,
+                0x13 => Record::Given,
+                0x14 => {
+                    records.push(Record::Withheld);
+                    bytes = body;
+                    continue;
+                }
+                0x1F => {
+                    let (number, rest) = field(body)?;
+                    let (cost, rest) = field(rest)?;
+                    let (degrees, verdict) = match *rest {
+                        [degrees, verdict] => (degrees, verdict),
+                        _ => return None,
+                    };
+                    return Some(Sheet {
+                        records,
+                        number: u32::from_be_bytes(number),
+                        cost: u64::from_be_bytes(cost),
+                        degrees,
+                        verdict: match verdict {
+                            0 => Verdict::Pass,
+                            1 => Verdict::Fail,
+                            2 => Verdict::None,
+                            _ => return None,
+                        },
+                    });
+                }
+                _ => return None,
+            };
+            let (flow, rest) = field(body)?;
+            records.push(make(i64::from_be_bytes(flow)));
+            bytes = rest;
+        }
+    }
+}
+
+/// The listing: per stream its number, class letter, flow or `-`; then the total.
+impl fmt::Display for Sheet {
+    fn fmt(&self, f: &mut fmt::Formatter<'_>) -> fmt::Result {
+        for (i, record) in self.records.iter().enumerate() {
+            write!(f, "{} {} ", i + 1, record.letter())?;
+            match record.flow() {
+                Some(flow) => writeln!(f, "{flow}")?,
+                None => writeln!(f, "-")?,
+            }
+        }
+        let verdict = match self.verdict {
+            Verdict::Pass => "pass",
+            Verdict::Fail => "fail",
+            Verdict::None => "none",
+        };
+        writeln!(f, "total {} {} {} {}", self.number, self.cost, self.degrees, verdict)
+    }
+}
+
+/// Balances a plant file. `last` is the last sheet number used, 0 before the first sheet; it is one higher afterwards,
+/// and as it was where the call is refused.
+///
+/// ```
+/// use wengeludo_balance::{balance, Refusal};
+/// let mut last = 7;
+/// assert_eq!(balance(&[1, 1, 4, 1], &mut last), Err(Refusal::EndCount));
+/// assert_eq!(last, 7);
+/// assert_eq!(balance(&[1, 1, 4, 0], &mut last)?.to_string(), "total 8 0 0 none\n");
+/// # Ok::<(), Refusal>(())
+/// ```
+pub fn balance(file: &[u8], last: &mut u32) -> Result<Sheet, Refusal> {
+    let mut bytes = [0; SHEET_SIZE];
+    let written = balance_into(file, last, &mut bytes)?;
+    Ok(Sheet::from_bytes(&bytes[..written]).expect("the engine writes whole sheets"))
+}
+
+/// Balances a plant file into a slice of at least [`SHEET_SIZE`] bytes, and says how many the sheet takes. The bytes past
+/// it keep their values; where the call is refused, all do. Nothing is allocated.
+pub fn balance_into(file: &[u8], last: &mut u32, sheet: &mut [u8]) -> Result<usize, Refusal> {
+    let mut written = 0;
+    Refusal::check(raw::balance_plant(file, last, sheet, &mut written))?;
+    Ok(written)
+}

@@ -1,0 +1,202 @@
+//! The engine against the reference: drawn plants, damaged files, edges of the call, and parts for the writer.
+//!
+//! On each input: the returned number, every byte of the slice with guard bytes round it, the counter, `written`.
+//! A difference is shrunk, and the smallest input found is printed.
+//!
+//! WENGELUDO_INPUTS   how many inputs (default 100,000)
+//! WENGELUDO_SEED     the first seed (default 1); input k has the seed WENGELUDO_SEED + k
+//! WENGELUDO_THREADS  how many threads (default: the machine's processors)
+
+mod draw;
+mod reference;
+mod shrink;
+
+use draw::{Call, Draw, Write};
+use reference::{Outcome, Stream};
+use std::sync::atomic::{AtomicU64, Ordering};
+use wengeludo_balance::raw::{self, Parts};
+
+const GUARD: usize = 64;
+
+/// Runs a call on a slice with guard bytes round it; the outcome has the slice's bytes, and the guards are compared here.
+fn guarded(slice: &[u8], call: impl FnOnce(&mut [u8], &mut usize) -> (u8, u32)) -> Result<Outcome, String> {
+    let guard = |i: usize| (i as u8).wrapping_mul(37) ^ 0xA5;
+    let mut memory: Vec<u8> = (0..GUARD).map(guard).collect();
+    memory.extend(slice);
+    memory.extend((0..GUARD).map(guard));
+    let end = GUARD + slice.len();
+    let mut written = 0xDEAD_BEEF;
+    let (returned, last) = call(&mut memory[GUARD..end], &mut written);
+    for i in 0..GUARD {
+        if memory[i] != guard(i) || memory[end + i] != guard(i) {
+            return Err(format!("guard byte {i} changed"));
+        }
+    }
+    Ok(Outcome { returned, written, last, slice: memory[GUARD..end].to_vec() })
+}
+
+/// The engine's sheet call.
+fn engine(call: &Call) -> Result<Outcome, String> {
+    let file = call.file.clone();
+    let outcome = guarded(&call.slice, |sheet, written| {
+        let mut last = call.last;
+        (raw::balance_plant(&file, &mut last, sheet, written), last)
+    })?;
+    if file != call.file {
+        return Err("the file changed".into());
+    }
+    Ok(outcome)
+}
+
+fn compare(found: Result<Outcome, String>, expected: &Outcome) -> Result<(), String> {
+    let found = found?;
+    if found.returned != expected.returned {
+        return Err(format!("returned {}, expected {}", found.returned, expected.returned));
+    }
+    if found.written != expected.written {
+        return Err(format!("written {}, expected {}", found.written, expected.written));
+    }
+    if found.last != expected.last {
+        return Err(format!("counter {}, expected {}", found.last, expected.last));
+    }
+    match (0..expected.slice.len()).find(|&i| found.slice[i] != expected.slice[i]) {
+        Some(i) => Err(format!("byte {i} of the slice is {}, expected {}", found.slice[i], expected.slice[i])),
+        None => Ok(()),
+    }
+}
+
+fn sheet_difference(run: &dyn Fn(&Call) -> Result<Outcome, String>, call: &Call) -> Result<(), String> {
+    compare(run(call), &reference::sheet_call(&call.file, call.last, &call.slice))
+}
+
+fn write_difference(w: &Write) -> Result<(), String> {
+    let reach = [w.from.len(), w.to.len(), w.metered.len(), w.weight.len(), w.reading.len()].into_iter().min().unwrap();
+    let streams: Vec<Option<Stream>> = (0..w.count.min(96))
+        .map(|k| {
+            (k < reach).then(|| Stream {
+                from: w.from[k].into(),
+                to: w.to[k].into(),
+                meter: (w.metered[k] != 0).then(|| (w.weight[k], w.reading[k])),
+            })
+        })
+        .collect();
+    let mut expected = Outcome { returned: 0, written: 0, last: 0, slice: w.slice.clone() };
+    match reference::write(w.units, w.count, &streams, &w.slice) {
+        Err(number) => expected.returned = number,
+        Ok(file) => {
+            expected.written = file.len();
+            expected.slice[..file.len()].copy_from_slice(&file);
+        }
+    }
+    let parts = Parts {
+        units: w.units,
+        count: w.count,
+        from: &w.from,
+        to: &w.to,
+        metered: &w.metered,
+        weight: &w.weight,
+        reading: &w.reading,
+    };
+    compare(guarded(&w.slice, |file, written| (raw::write_plant(parts, file, written), 0)), &expected)
+}
+
+fn number(name: &str, other: u64) -> u64 {
+    match std::env::var(name) {
+        Ok(text) => text.replace('_', "").parse().unwrap_or_else(|_| panic!("{name} is no number: {text}")),
+        Err(_) => other,
+    }
+}
+
+#[test]
+fn engine_and_reference_agree() {
+    let inputs = number("WENGELUDO_INPUTS", 100_000);
+    let seed = number("WENGELUDO_SEED", 1);
+    let threads = number("WENGELUDO_THREADS", std::thread::available_parallelism().map_or(1, |n| n.get() as u64)).max(1);
+    let next = AtomicU64::new(0);
+    let counts: Vec<AtomicU64> = (0..14).map(|_| AtomicU64::new(0)).collect();
+    std::thread::scope(|scope| {
+        for _ in 0..threads {
+            scope.spawn(|| loop {
+                let k = next.fetch_add(1, Ordering::Relaxed);
+                if k >= inputs {
+                    return;
+                }
+                match k % 1_000_000 {
+                    0 if k > 0 => println!("{k} inputs, no difference so far"),
+                    _ => {}
+                }
+                let mut draw = Draw::new(seed + k);
+                if draw.below(10) == 0 {
+                    let w = draw.write();
+                    if let Err(difference) = write_difference(&w) {
+                        let small = shrink::smallest(w, &shrink::simpler_writes, &|w| write_difference(w).is_err());
+                        let again = write_difference(&small).unwrap_err();
+                        panic!("seed {}: the writer: {difference}\nsmallest input found: {again}\n{small:?}", seed + k);
+                    }
+                    counts[13].fetch_add(1, Ordering::Relaxed);
+                } else {
+                    let call = draw.call();
+                    let expected = reference::sheet_call(&call.file, call.last, &call.slice);
+                    if let Err(difference) = compare(engine(&call), &expected) {
+                        let small = shrink::smallest(call, &shrink::simpler_calls, &|c| sheet_difference(&engine, c).is_err());
+                        let again = sheet_difference(&engine, &small).unwrap_err();
+                        panic!("seed {}: {difference}\nsmallest input found: {again}\n{small}", seed + k);
+                    }
+                    counts[usize::from(expected.returned)].fetch_add(1, Ordering::Relaxed);
+                }
+            });
+        }
+    });
+    let count = |i: usize| counts[i].load(Ordering::Relaxed);
+    let refusals: Vec<String> = (1..=12).map(|i| format!("{i}: {}", count(i))).collect();
+    println!("{inputs} inputs from seed {seed}, no difference");
+    println!("sheets: {}; refusals {}; calls of the writer: {}", count(0), refusals.join(", "), count(13));
+    if inputs >= 100_000 {
+        assert!((0..=13).all(|i| count(i) > 0), "some outcome never came up");
+    }
+}
+
+#[test]
+fn plants_to_try() {
+    let m = |from, to, weight, reading| Stream { from, to, meter: Some((weight, reading)) };
+    let u = |from, to| Stream { from, to, meter: None };
+    let cases: Vec<(u8, Vec<Stream>, &str)> = vec![
+        (1, vec![m(0, 1, 10, 103), m(1, 0, 10, 60), m(1, 0, 10, 40)], "1 A 102\n2 A 61\n3 A 41\ntotal 1 30 1 pass\n"),
+        (1, vec![m(0, 1, 10, 101), m(1, 0, 10, 60), m(1, 0, 10, 40)], "1 A 100\n2 A 60\n3 A 40\ntotal 1 10 1 pass\n"),
+        (1, vec![m(0, 1, 10, 100), m(1, 0, 10, 103)], "1 A 101\n2 A 101\ntotal 1 50 1 pass\n"),
+        (1, vec![m(0, 1, 30, 100), m(1, 0, 10, 104)], "1 A 101\n2 A 101\ntotal 1 120 1 pass\n"),
+        (1, vec![m(0, 1, 10, 100), u(1, 0)], "1 R 100\n2 G 100\ntotal 1 0 0 none\n"),
+        (1, vec![m(0, 1, 10, 7)], "1 A 0\ntotal 1 490 1 pass\n"),
+        (1, vec![m(0, 1, 1, 61)], "1 A 0\ntotal 1 3721 1 pass\n"),
+        (1, vec![m(0, 1, 1, 62)], "1 A 0\ntotal 1 3844 1 fail\n"),
+        (1, vec![], "total 1 0 0 none\n"),
+    ];
+    for (units, streams, listing) in cases {
+        let plant = reference::Listed { units, streams };
+        let sheet = wengeludo_balance::balance(&reference::file_of(&plant), &mut 0).unwrap();
+        assert_eq!(sheet.to_string(), listing);
+        let bytes = reference::sheet_of(&plant, 1);
+        assert_eq!(wengeludo_balance::Sheet::from_bytes(&bytes), Some(sheet));
+    }
+}
+
+/// The shrinker at work on an engine with a fault: a cost one too high wherever three or more streams are adjusted.
+#[test]
+fn a_difference_is_shrunk() {
+    let faulty = |call: &Call| {
+        let mut outcome = reference::sheet_call(&call.file, call.last, &call.slice);
+        if outcome.returned == 0 {
+            let sheet = wengeludo_balance::Sheet::from_bytes(&outcome.slice[..outcome.written]).unwrap();
+            if sheet.records.iter().filter(|r| r.letter() == 'A').count() >= 3 {
+                outcome.slice[outcome.written - 3] ^= 1;
+            }
+        }
+        Ok(outcome)
+    };
+    let differs = |c: &Call| sheet_difference(&faulty, c).is_err();
+    let found = (1..10_000).map(|k| Draw::new(k).call()).find(|c| differs(c)).expect("no plant shows the fault");
+    let small = shrink::smallest(found, &shrink::simpler_calls, &differs);
+    let plant = reference::read(&small.file).unwrap();
+    assert_eq!((plant.streams.len(), plant.units), (3, 1), "not shrunk:\n{small}");
+    assert!(plant.streams.iter().all(|s| s.meter == Some((1, 0))), "not shrunk:\n{small}");
+}

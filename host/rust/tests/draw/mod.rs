@@ -1,0 +1,262 @@
+//! Inputs, drawn from a seed.
+
+use crate::reference::{file_of, read, Listed, Stream};
+use std::fmt;
+
+/// A sheet call.
+#[derive(Clone, Debug, PartialEq, Eq)]
+pub struct Call {
+    pub file: Vec<u8>,
+    pub last: u32,
+    pub slice: Vec<u8>,
+}
+
+impl fmt::Display for Call {
+    fn fmt(&self, f: &mut fmt::Formatter<'_>) -> fmt::Result {
+        let hex: Vec<String> = self.file.iter().map(|b| format!("{b:02X}")).collect();
+        writeln!(f, "last sheet number {}, slice of {} bytes, file of {} bytes:", self.last, self.slice.len(), self.file.len())?;
+        writeln!(f, "{}", hex.join(" "))?;
+        if let Ok(plant) = read(&self.file) {
+            writeln!(f, "{} units", plant.units)?;
+            for (k, s) in plant.streams.iter().enumerate() {
+                match s.meter {
+                    Some((w, r)) => writeln!(f, "stream {}: {} to {}, weight {w}, reading {r}", k + 1, s.from, s.to)?,
+                    None => writeln!(f, "stream {}: {} to {}, unmetered", k + 1, s.from, s.to)?,
+                }
+            }
+        }
+        Ok(())
+    }
+}
+
+/// A call of the plant writer.
+#[derive(Clone, Debug, PartialEq, Eq)]
+pub struct Write {
+    pub units: u8,
+    pub count: usize,
+    pub from: Vec<u8>,
+    pub to: Vec<u8>,
+    pub metered: Vec<u8>,
+    pub weight: Vec<u16>,
+    pub reading: Vec<i32>,
+    pub slice: Vec<u8>,
+}
+
+/// A source of drawn numbers (splitmix64).
+pub struct Draw(u64);
+
+impl Draw {
+    pub fn new(seed: u64) -> Draw {
+        Draw(seed.wrapping_mul(0x9E37_79B9_7F4A_7C15) ^ 0x5DEE_CE66)
+    }
+
+    fn bits(&mut self) -> u64 {
+        self.0 = self.0.wrapping_add(0x9E37_79B9_7F4A_7C15);
+        let mut z = self.0;
+        z = (z ^ (z >> 30)).wrapping_mul(0xBF58_476D_1CE4_E5B9);
+        z = (z ^ (z >> 27)).wrapping_mul(0x94D0_49BB_1331_11EB);
+        z ^ (z >> 31)
+    }
+
+    pub fn below(&mut self, n: usize) -> usize {
+        (self.bits() % n as u64) as usize
+    }
+
+    /// One of the numbers from a to b.
+    fn among(&mut self, a: i64, b: i64) -> i64 {
+        a + (self.bits() % (b - a + 1) as u64) as i64
+    }
+
+    fn bytes(&mut self, n: usize) -> Vec<u8> {
+        (0..n).map(|_| self.bits() as u8).collect()
+    }
+
+    /// A plant within its limits: small ones mostly, some of the greatest size.
+    fn plant(&mut self) -> Listed {
+        let (units, most) = match self.below(100) {
+            0 => (32, 96),
+            1..=4 => (self.among(8, 32), 96),
+            5..=24 => (self.among(3, 16), 40),
+            25..=59 => (self.among(2, 8), 16),
+            _ => (self.among(1, 4), 7),
+        };
+        let count = if self.below(20) == 0 { most } else { self.among(0, most) };
+        let unmetered = [0, 10, 30, 50, 80][self.below(5)];
+        let spread = [1, 3, 20, 1000, 1_000_000][self.below(5)];
+        let middle = if spread == 1_000_000 { 0 } else { [0, 100, -50, 900_000][self.below(4)] };
+        let weights = [(10, 10), (1, 1), (1, 3), (1, 1000), (1000, 1000), (9, 11)][self.below(6)];
+        // Readings that lie near a balanced flow, or anywhere in the spread.
+        let level: Option<Vec<i64>> = (self.below(3) == 0).then(|| (0..=units).map(|_| self.among(-200, 200)).collect());
+        let edge = self.below(12) == 0;
+        let near = self.below(4) == 0;
+        let streams = (0..count)
+            .map(|k| {
+                let from = self.among(0, units);
+                let mut to = if near { (from + self.among(1, 2)) % (units + 1) } else { self.among(0, units) };
+                if to == from {
+                    to = (from + 1) % (units + 1);
+                }
+                let meter = (self.below(100) >= unmetered).then(|| {
+                    let reading = match &level {
+                        Some(level) => level[from as usize] - level[to as usize] + self.among(-2, 2) + k % 2,
+                        None => middle + self.among(-spread, spread),
+                    };
+                    let reading =
+                        if edge { [-1_000_000, 1_000_000, 0][self.below(3)] } else { reading.clamp(-1_000_000, 1_000_000) };
+                    (self.among(weights.0, weights.1) as u16, reading as i32)
+                });
+                Stream { from: from as usize, to: to as usize, meter }
+            })
+            .collect();
+        Listed { units: units as u8, streams }
+    }
+
+    /// A file with something wrong in it, mostly.
+    fn damaged(&mut self) -> Vec<u8> {
+        let mut plant = self.plant();
+        match self.below(6) {
+            0 => {
+                // One value out of its range, or at its edge.
+                if plant.streams.is_empty() {
+                    plant.units = [0, 33, 255][self.below(3)];
+                } else {
+                    let k = self.below(plant.streams.len());
+                    let (units, s) = (usize::from(plant.units), &mut plant.streams[k]);
+                    match self.below(6) {
+                        0 => s.from = units + self.below(2),
+                        1 => s.to = units + self.below(2),
+                        2 => s.to = s.from,
+                        3 => s.meter = Some(([0, 1, 1000, 1001, 65535][self.below(5)], 5)),
+                        4 => {
+                            s.meter = Some((5, [-1_000_001, -1_000_000, 1_000_000, 1_000_001, i32::MIN, i32::MAX][self.below(6)]))
+                        }
+                        _ => plant.units = [0, 1, 32, 33][self.below(4)],
+                    }
+                }
+                file_of(&plant)
+            }
+            1 => {
+                // Too many streams, or as many as there may be.
+                plant.units = plant.units.max(2);
+                let count = 95 + self.below(4);
+                let metered = self.below(2) == 0;
+                plant.streams = (0..count).map(|_| Stream { from: 1, to: 2, meter: metered.then_some((1, 7)) }).collect();
+                let mut file = file_of(&plant);
+                if self.below(3) == 0 {
+                    let n = file.len() - self.below(12);
+                    file.truncate(n);
+                }
+                file
+            }
+            2 => {
+                let file = file_of(&plant);
+                let n = self.below(file.len());
+                file[..n].to_vec()
+            }
+            3 => {
+                let mut file = file_of(&plant);
+                let more = 1 + self.below(9);
+                file.extend(self.bytes(more));
+                file
+            }
+            4 => {
+                let mut file = file_of(&plant);
+                for _ in 0..=self.below(3) {
+                    let at = self.below(file.len());
+                    file[at] = if self.below(2) == 0 { self.below(6) as u8 } else { self.bits() as u8 };
+                }
+                file
+            }
+            _ => {
+                // The end's count; or bytes of any kind.
+                if self.below(2) == 0 {
+                    let mut file = file_of(&plant);
+                    let end = file.len() - 1;
+                    file[end] = file[end].wrapping_add(1 + self.below(3) as u8);
+                    file
+                } else {
+                    let n = self.below(40);
+                    (0..n).map(|_| if self.below(2) == 0 { self.below(5) as u8 } else { self.bits() as u8 }).collect()
+                }
+            }
+        }
+    }
+
+    pub fn call(&mut self) -> Call {
+        let file = if self.below(4) == 0 { self.damaged() } else { file_of(&self.plant()) };
+        let last = match self.below(20) {
+            0 => u32::MAX,
+            1 => u32::MAX - 1,
+            2..=9 => self.bits() as u32,
+            _ => 0,
+        };
+        let length = match self.below(20) {
+            0 => 878,
+            1 => self.below(879),
+            2..=9 => 879 + self.below(200),
+            _ => 879,
+        };
+        let slice = self.bytes(length);
+        Call { file, last, slice }
+    }
+
+    pub fn write(&mut self) -> Write {
+        let file = if self.below(2) == 0 { file_of(&self.plant()) } else { self.damaged() };
+        let plant = read(&file).unwrap_or_else(|_| self.plant());
+        let mut w = Write {
+            units: plant.units,
+            count: plant.streams.len(),
+            from: plant.streams.iter().map(|s| s.from as u8).collect(),
+            to: plant.streams.iter().map(|s| s.to as u8).collect(),
+            metered: plant.streams.iter().map(|s| u8::from(s.meter.is_some())).collect(),
+            weight: plant.streams.iter().map(|s| s.meter.map_or(0, |m| m.0)).collect(),
+            reading: plant.streams.iter().map(|s| s.meter.map_or(0, |m| m.1)).collect(),
+            slice: Vec::new(),
+        };
+        let length = match self.below(10) {
+            0 => 867,
+            1 => self.below(868),
+            2..=5 => 868 + self.below(100),
+            _ => 868,
+        };
+        w.slice = self.bytes(length);
+        // Elements past the count, a slice too short, another count, one value changed.
+        if self.below(3) == 0 {
+            let more = self.below(120);
+            w.from.extend(self.bytes(more));
+            w.to.extend(self.bytes(more));
+            w.metered.extend(self.bytes(more));
+            for _ in 0..more {
+                w.weight.push(self.bits() as u16);
+                w.reading.push(self.bits() as i32);
+            }
+        }
+        if self.below(4) == 0 {
+            let n = self.below(w.from.len() + 1);
+            match self.below(5) {
+                0 => w.from.truncate(n),
+                1 => w.to.truncate(n),
+                2 => w.metered.truncate(n),
+                3 => w.weight.truncate(n),
+                _ => w.reading.truncate(n),
+            }
+        }
+        if self.below(6) == 0 {
+            w.count = [0, 1, 95, 96, 97, 255, 256, 352, usize::MAX][self.below(9)];
+        }
+        if self.below(3) == 0 && !w.from.is_empty() {
+            let k = self.below(w.from.len());
+            match self.below(6) {
+                0 => w.from[k] = self.bits() as u8,
+                1 if k < w.to.len() => w.to[k] = self.below(34) as u8,
+                2 if k < w.metered.len() => w.metered[k] = self.bits() as u8,
+                3 if k < w.weight.len() => w.weight[k] = [0, 1, 1000, 1001, 65535][self.below(5)],
+                4 if k < w.reading.len() => {
+                    w.reading[k] = [-1_000_001, -1_000_000, 1_000_000, 1_000_001, i32::MIN][self.below(5)]
+                }
+                _ => w.units = [0, 1, 32, 33, 255][self.below(5)],
+            }
+        }
+        w
+    }
+}

@@ -1,0 +1,114 @@
+//! Plant files, read and written by the definition.
+
+/// A stream; weight and reading where it is metered.
+#[derive(Clone, Debug, PartialEq, Eq)]
+pub struct Stream {
+    pub from: usize,
+    pub to: usize,
+    pub meter: Option<(u16, i32)>,
+}
+
+/// A plant.
+#[derive(Clone, Debug, PartialEq, Eq)]
+pub struct Listed {
+    pub units: u8,
+    pub streams: Vec<Stream>,
+}
+
+/// The number of a refusal.
+pub type Fault = u8;
+
+fn fault(units: u8, s: &Stream) -> Result<(), Fault> {
+    if s.from > usize::from(units) || s.to > usize::from(units) {
+        return Err(7);
+    }
+    if s.from == s.to {
+        return Err(8);
+    }
+    if let Some((weight, reading)) = s.meter {
+        if !(1..=1000).contains(&weight) {
+            return Err(9);
+        }
+        if !(-1_000_000..=1_000_000).contains(&reading) {
+            return Err(10);
+        }
+    }
+    Ok(())
+}
+
+/// The plant that a file lists.
+pub fn read(file: &[u8]) -> Result<Listed, Fault> {
+    let mut rest = file.iter().copied();
+    let mut next = || rest.next().ok_or(3);
+    if next()? != 1 {
+        return Err(4);
+    }
+    let units = next()?;
+    if !(1..=32).contains(&units) {
+        return Err(6);
+    }
+    let mut streams = Vec::new();
+    loop {
+        let kind = next()?;
+        if kind == 4 {
+            let listed = next()?;
+            if usize::from(listed) != streams.len() {
+                return Err(11);
+            }
+            return if next().is_ok() { Err(12) } else { Ok(Listed { units, streams }) };
+        }
+        if kind != 2 && kind != 3 {
+            return Err(4);
+        }
+        if streams.len() == 96 {
+            return Err(5);
+        }
+        let (from, to) = (usize::from(next()?), usize::from(next()?));
+        let meter = if kind == 2 {
+            let weight = u16::from_be_bytes([next()?, next()?]);
+            Some((weight, i32::from_be_bytes([next()?, next()?, next()?, next()?])))
+        } else {
+            None
+        };
+        let s = Stream { from, to, meter };
+        fault(units, &s)?;
+        streams.push(s);
+    }
+}
+
+/// The bytes of a plant's file, whatever its values.
+pub fn file_of(plant: &Listed) -> Vec<u8> {
+    let mut file = vec![1, plant.units];
+    for s in &plant.streams {
+        file.push(if s.meter.is_some() { 2 } else { 3 });
+        file.push(s.from as u8);
+        file.push(s.to as u8);
+        if let Some((weight, reading)) = s.meter {
+            file.extend(weight.to_be_bytes());
+            file.extend(reading.to_be_bytes());
+        }
+    }
+    file.push(4);
+    file.push(plant.streams.len() as u8);
+    file
+}
+
+/// The plant writer: `None` stands for a stream that is not there whole.
+pub fn write(units: u8, count: usize, streams: &[Option<Stream>], slice: &[u8]) -> Result<Vec<u8>, Fault> {
+    if slice.len() < 868 {
+        return Err(1);
+    }
+    if !(1..=32).contains(&units) {
+        return Err(6);
+    }
+    if count > 96 {
+        return Err(5);
+    }
+    let mut plant = Listed { units, streams: Vec::new() };
+    for s in &streams[..count] {
+        let s = s.clone().ok_or(8)?;
+        fault(units, &s)?;
+        plant.streams.push(s);
+    }
+    Ok(file_of(&plant))
+}

@@ -1,0 +1,124 @@
+//! A second way to the same sheets, exact, by another method than the engine's.
+//!
+//! The places are contracted to the groups that unmetered streams join; what is left is a balanced flow over the streams
+//! that lie between groups. A first flow comes from the real-number optimum, worked out in floating point and rounded: it
+//! need not be good, only balanced, and nothing after it depends on it. Then cycles are cancelled: as long as going once
+//! round some cycle lowers (cost, flows weighed by 2 to the power of the streams after them), in this order, the flow goes
+//! round it as often as lowers it most. The search for such a cycle is by lengths of walks (Bellman and Ford), over whole
+//! numbers. That no cycle is left is what makes a flow the cheapest one:
+//!
+//! 1. The difference of two balanced flows falls apart into cycles of ones that never run against it on a stream. Each
+//!    stream's cost is convex, so the changes of the single cycles add up to at most the whole change. If no cycle lowers
+//!    the cost, no flow costs less.
+//! 2. Two flows of least cost differ by at most 1 on each such stream: else one cycle of their difference, moved from one
+//!    to the other, lowers the two costs together, the weights being positive. So at the first stream where they differ
+//!    its power of 2 outweighs all later ones, and the lesser flow there is found by the second part.
+
+mod cheapest;
+mod file;
+
+pub use file::{file_of, read, write, Listed, Stream};
+
+/// What a call returns and leaves behind.
+#[derive(Clone, Debug, PartialEq, Eq)]
+pub struct Outcome {
+    pub returned: u8,
+    pub written: usize,
+    pub last: u32,
+    pub slice: Vec<u8>,
+}
+
+const CRITICAL: [u64; 32] = [
+    3841, 5991, 7815, 9488, 11070, 12592, 14067, 15507, 16919, 18307, 19675, 21026, 22362, 23685, 24996, 26296, 27587, 28869,
+    30144, 31410, 32671, 33924, 35172, 36415, 37652, 38885, 40113, 41337, 42557, 43773, 44985, 46194,
+];
+
+/// The sheet call.
+pub fn sheet_call(file: &[u8], last: u32, slice: &[u8]) -> Outcome {
+    let refused = |returned| Outcome { returned, written: 0, last, slice: slice.to_vec() };
+    if slice.len() < 879 {
+        return refused(1);
+    }
+    if last == u32::MAX {
+        return refused(2);
+    }
+    match read(file) {
+        Err(number) => refused(number),
+        Ok(plant) => {
+            let sheet = sheet_of(&plant, last + 1);
+            let mut slice = slice.to_vec();
+            slice[..sheet.len()].copy_from_slice(&sheet);
+            Outcome { returned: 0, written: sheet.len(), last: last + 1, slice }
+        }
+    }
+}
+
+/// The label of each place: the least place that the chosen streams join it to.
+fn joined(plant: &Listed, use_it: impl Fn(usize, &Stream) -> bool) -> Vec<usize> {
+    let mut label: Vec<usize> = (0..=usize::from(plant.units)).collect();
+    loop {
+        let mut changed = false;
+        for (k, s) in plant.streams.iter().enumerate() {
+            if use_it(k, s) {
+                let least = label[s.from].min(label[s.to]);
+                changed |= label[s.from] != least || label[s.to] != least;
+                label[s.from] = least;
+                label[s.to] = least;
+            }
+        }
+        if !changed {
+            return label;
+        }
+    }
+}
+
+fn count(labels: &[usize]) -> usize {
+    labels.iter().enumerate().filter(|(i, l)| i == *l).count()
+}
+
+/// The bytes of the plant's sheet under a number.
+pub fn sheet_of(plant: &Listed, number: u32) -> Vec<u8> {
+    let group = joined(plant, |_, s| s.meter.is_none());
+    let piece = joined(plant, |_, _| true);
+    let flow = cheapest::metered_flows(plant, &group);
+    let mut sheet = Vec::new();
+    let mut cost: u64 = 0;
+    for (k, s) in plant.streams.iter().enumerate() {
+        let (kind, value) = match s.meter {
+            Some((weight, reading)) => {
+                let off = flow[k] - i64::from(reading);
+                cost += u64::from(weight) * (off * off) as u64;
+                (if group[s.from] != group[s.to] { 0x11 } else { 0x12 }, Some(flow[k]))
+            }
+            None => {
+                // Without this stream: is its end still joined to its start? If not, it carries what the places beyond need.
+                let side = joined(plant, |j, t| j != k && t.meter.is_none());
+                if side[s.from] == side[s.to] {
+                    (0x14, None)
+                } else {
+                    let near = side[s.from];
+                    let net: i64 = plant
+                        .streams
+                        .iter()
+                        .zip(&flow)
+                        .filter(|(t, _)| t.meter.is_some())
+                        .map(|(t, x)| if side[t.to] == near { *x } else { 0 } - if side[t.from] == near { *x } else { 0 })
+                        .sum();
+                    (0x13, Some(net))
+                }
+            }
+        };
+        sheet.push(kind);
+        if let Some(value) = value {
+            sheet.extend(value.to_be_bytes());
+        }
+    }
+    let degrees = count(&group) - count(&piece);
+    let verdict = if degrees == 0 { 2 } else { u8::from(cost > CRITICAL[degrees - 1]) };
+    sheet.push(0x1F);
+    sheet.extend(number.to_be_bytes());
+    sheet.extend(cost.to_be_bytes());
+    sheet.push(degrees as u8);
+    sheet.push(verdict);
+    sheet
+}

@@ -1,0 +1,49 @@
+#!/usr/bin/env bash
+# The gate, then the archive and all that is built over it: the C program, the Rust crate with its differential tests, the
+# fuzz target.
+#
+#     bash test_all.sh               everything
+#     bash test_all.sh --after-gate  what follows the gate
+#
+# WENGELUDO_INPUTS (default 100000)  inputs of the differential tests
+# FUZZ_SECONDS (default 60)          how long the fuzz target runs
+set -eu
+cd "$(dirname "$0")"
+
+missing=0
+need() { # command, what to install
+    command -v "$1" >/dev/null || { echo "test_all: no $1 on the PATH: $2" >&2; missing=1; }
+}
+need rt "install the Rattle kit (rattle-kit-5 or later)"
+need "${CC:-cc}" "install a C compiler (Debian: apt-get install gcc libc6-dev) or name one in CC"
+need cargo "install Rust 1.63 or later (https://rustup.rs, or Debian: apt-get install cargo)"
+need clang "install clang with its libFuzzer (Debian: apt-get install clang)"
+need objdump "install the binary utilities (Debian: apt-get install binutils)"
+[ "$missing" = 0 ] || exit 2
+if [ "$(uname -m)" != x86_64 ]; then
+    echo "test_all: the archive is for x86-64, and this machine is $(uname -m)" >&2
+    exit 2
+fi
+
+part() { echo "== $*"; }
+case "${1:-}" in
+"") part "the gate"; bash .ci/run ;;
+--after-gate) ;;
+*) echo "usage: bash test_all.sh [--after-gate]" >&2; exit 2 ;;
+esac
+part "the archive"
+rt staticlib linked
+part "the C program"
+bash host/c/build.sh
+bash host/c/test.sh
+part "the Rust crate and the differential tests"
+(cd host/rust && cargo test --offline --quiet -- --nocapture)
+part "the fuzz target, ${FUZZ_SECONDS:-60} seconds"
+bash host/fuzz/build.sh
+if ! bash host/fuzz/run.sh "${FUZZ_SECONDS:-60}" >target/host/fuzz/log 2>&1; then
+    echo "test_all: the fuzz target found something; the last lines of target/host/fuzz/log:" >&2
+    tail -20 target/host/fuzz/log >&2
+    exit 1
+fi
+grep -E '^(Done|fuzz target:)' target/host/fuzz/log
+echo "test_all: all passed"
