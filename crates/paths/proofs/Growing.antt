@@ -19,12 +19,12 @@ use Rattle.flows.proofs.Reach.{Inside}
 use Rattle.paths.specs.declared.Tree.{Tree}
 use Rattle.flows.specs.Certificate.{weightOf}
 use Rattle.paths.specs.Held.{readingOf, Held, AllHeld}
-use Rattle.paths.specs.Slack.{slackBy}
+use Rattle.paths.specs.Slack.{slackBy, slackAt}
 use Rattle.paths.specs.Search.{fallen, loweredBy, farEnd, rootAt, addedTo}
 use Rattle.paths.specs.Push.{otherEnd}
 use Rattle.paths.proofs.Amounts.{get-set}
 use Rattle.paths.proofs.Elements.{lowered-at}
-use Rattle.paths.proofs.Least.{slackAt, startIn, endIn}
+use Rattle.paths.proofs.Least.{startIn, endIn}
 use Rattle.paths.proofs.Counting.{countTo, count-most, count-none, count-more}
 use Rattle.paths.proofs.Pushing.{reached, Link, both-reached}
 

@@ -15,16 +15,14 @@ use Rattle.plants.specs.declared.Stream.{Stream}
 use Rattle.plants.specs.Limits.{places, maxWeight}
 use Rattle.flows.specs.Flows.{streamAt}
 use Rattle.flows.proofs.Integers.{up, dn, parts}
-use Rattle.paths.specs.declared.Crossing.{Crossing}
-use Rattle.paths.specs.declared.Crossing.the-variants.{At, Nothing}
 use Rattle.paths.specs.declared.Tree.{Tree}
 use Rattle.paths.specs.Sizes.{netShift, rounds}
 use Rattle.paths.specs.Held.{unshifted, AllHeld}
-use Rattle.paths.specs.Slack.{leastTo}
+use Rattle.paths.specs.Slack.{Crossing, At, Nothing, leastTo, slackAt}
 use Rattle.paths.specs.Search.{loweredBy, farEnd, onCrossing, rootAt, addedTo, target, Grown, grownBy, grow}
 use Rattle.paths.proofs.Amounts.{net}
 use Rattle.paths.proofs.Elements.{lowered-at, lowered-long, fallen-least}
-use Rattle.paths.proofs.Least.{Usable, slackAt, startIn, endIn, Answers, least-good}
+use Rattle.paths.proofs.Least.{all-usable, startIn, endIn, Answers, least-good}
 use Rattle.paths.proofs.Counting.{count-most, count-full}
 use Rattle.paths.proofs.Closed.{closed-level}
 use Rattle.paths.proofs.Pushing.{reached-more}
@@ -40,13 +38,6 @@ pub record Hunt (n : ℕ) (ss : List Stream) (xs es : List ℕ) (d root : ℕ) (
   pub fall : (u : ℕ) → getD ps u 0 ≤ getD (g .prices) u 0 + 2 * maxWeight * d * l
   pub rise : (u : ℕ) → getD (g .prices) u 0 ≤ getD ps u 0
   pub long : length (g .prices) ≡ length ps
-
-all-usable : (ss : List Stream) (k : ℕ) → Usable ss 0 k
-all-usable ss k = go (streamAt ss k .metered)
-  where
-    go : (b : Bool) → b && ltb k 0 ≡ false
-    go true = le-ltb k 0 (omega arith)
-    go false = refl
 
 pub new-target : (t : Tree) (i e : ℕ) → t .len < length (t .ends) → target (addedTo t i e) ≡ e
 new-target t i e l = let q : t .len + 1 - 1 ≡ t .len = omega arith in rw q (getD-set-same (t .ends) (t .len) e 0 l)

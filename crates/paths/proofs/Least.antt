@@ -5,42 +5,47 @@ use mathlib.Core.List.{List}
 use Prim.Native.Nat.{ℕ, zero, suc, _≤_, _<_}
 use native.Mathlib.Omega.{arith}
 use native.Mathlib.Decide.{ℕ-discrete}
-use borrow.Author.Tests.{ltb-true, ltb-false}
+use borrow.Author.Tests.{ltb-true, ltb-false, le-ltb}
 use lib.Dec.{ltb}
 use lib.ListN.{getD}
 use Rattle.numbers.specs.Choice.{pick}
 use Rattle.numbers.proofs.Tests.{by-cases, clash}
 use Rattle.plants.specs.declared.Stream.{Stream}
 use Rattle.flows.specs.Flows.{streamAt}
-use Rattle.paths.specs.declared.Crossing.{Crossing}
-use Rattle.paths.specs.declared.Crossing.the-variants.{At, Nothing}
-use Rattle.paths.specs.Slack.{slackBy, lesser, byEnds, considered, leastTo}
+use Rattle.paths.specs.Slack.{slackAt, Crossing, At, Nothing, lesser, byEnds, considered, leastTo}
 
 -- A test is not both the same as another and its opposite.
 pub opposed : {A : Type 0} (a b : Bool) → a ≡ b → a ≡ not b → A
 opposed a true e g = clash a e g
 opposed a false e g = clash a g e
 
--- Stream k is not left alone; its slack, forwards or backwards; whether its start and its end are labelled.
+-- Stream k is not left alone.
 abbrev pub Usable : List Stream → ℕ → ℕ → Type 0
 Usable ss skip k = streamAt ss k .metered && ltb k skip ≡ false
 
-abbrev pub slackAt : List Stream → List ℕ → List ℕ → ℕ → ℕ → Bool → ℕ
-slackAt ss xs ps d k b = slackBy (streamAt ss k) b (getD xs k 0) (getD ps (streamAt ss k .from) 0) (getD ps (streamAt ss k .to) 0) d
+-- None is before number 0.
+pub all-usable : (ss : List Stream) (k : ℕ) → Usable ss 0 k
+all-usable ss k = go (streamAt ss k .metered)
+  where
+    go : (b : Bool) → b && ltb k 0 ≡ false
+    go true = le-ltb k 0 (omega arith)
+    go false = refl
 
+-- Whether the start and the end of stream k are labelled.
 abbrev pub startIn : List Stream → List Bool → ℕ → Bool
 startIn ss ls k = getD ls (streamAt ss k .from) false
 
 abbrev pub endIn : List Stream → List Bool → ℕ → Bool
 endIn ss ls k = getD ls (streamAt ss k .to) false
 
--- Stream i leaves the labelled places with slack g, and no usable one among the first n does with less.
+-- Stream i leaves the labelled places with slack g, no usable one among the first n does with less, and none before it with as little.
 pub record Least (ss : List Stream) (xs ps : List ℕ) (ls : List Bool) (d skip n i g : ℕ) : Type 0 where
   pub below : i < n
   pub usable : Usable ss skip i
   pub leaves : startIn ss ls i ≡ not (endIn ss ls i)
   pub is : g ≡ slackAt ss xs ps d i (startIn ss ls i)
   pub least : (k : ℕ) → k < n → Usable ss skip k → startIn ss ls k ≡ not (endIn ss ls k) → g ≤ slackAt ss xs ps d k (startIn ss ls k)
+  pub first : (k : ℕ) → k < n → Usable ss skip k → startIn ss ls k ≡ not (endIn ss ls k) → slackAt ss xs ps d k (startIn ss ls k) ≤ g → i ≤ k
 
 -- What an answer means.
 abbrev pub Answers : List Stream → List ℕ → List ℕ → List Bool → ℕ → ℕ → ℕ → Crossing → Type 0
@@ -54,6 +59,9 @@ module _ (ss : List Stream) (xs ps : List ℕ) (ls : List Bool) (d skip : ℕ) w
   abbrev NoLess : ℕ → ℕ → Type 0
   NoLess g k = Usable ss skip k → startIn ss ls k ≡ not (endIn ss ls k) → g ≤ slackAt ss xs ps d k (startIn ss ls k)
 
+  abbrev NoEarlier : ℕ → ℕ → ℕ → Type 0
+  NoEarlier i g k = Usable ss skip k → startIn ss ls k ≡ not (endIn ss ls k) → slackAt ss xs ps d k (startIn ss ls k) ≤ g → i ≤ k
+
   -- Stream n is left alone, or does not leave the labelled places.
   more : (n : ℕ) (f : Crossing) → Answers ss xs ps ls d skip n f → (Usable ss skip n → startIn ss ls n ≡ endIn ss ls n) → Answers ss xs ps ls d skip (suc n) f
   more n Nothing h e = upto (λ k. Usable ss skip k → startIn ss ls k ≡ endIn ss ls k) n h e
@@ -63,6 +71,7 @@ module _ (ss : List Stream) (xs ps : List ℕ) (ls : List Bool) (d skip : ℕ) w
     leaves = h .leaves;
     is = h .is;
     least = upto (NoLess g) n (h .least) (λ u c. opposed (startIn ss ls n) (endIn ss ls n) (e u) c);
+    first = upto (NoEarlier i g) n (h .first) (λ u c m. opposed (startIn ss ls n) (endIn ss ls n) (e u) c);
   }
 
   -- Stream n leaves them with slack g.
@@ -74,6 +83,7 @@ module _ (ss : List Stream) (xs ps : List ℕ) (ls : List Bool) (d skip : ℕ) w
     leaves = c;
     is = e;
     least = upto (NoLess g) n (λ k l v q. opposed (startIn ss ls k) (endIn ss ls k) (h k l v) q) (λ v q. omega arith);
+    first = upto (NoEarlier n g) n (λ k l v q m. opposed (startIn ss ls k) (endIn ss ls k) (h k l v) q) (λ v q m. omega arith);
   }
   new n (At j m) g h u c e = by-cases (ltb g m)
       (λ t. rw t (record {
@@ -82,6 +92,7 @@ module _ (ss : List Stream) (xs ps : List ℕ) (ls : List Bool) (d skip : ℕ) w
         leaves = c;
         is = e;
         least = upto (NoLess g) n (λ k l v q. omega (arith, h .least k l v q, ltb-true g m t)) (λ v q. omega arith);
+        first = upto (NoEarlier n g) n (λ k l v q o. omega (arith, h .least k l v q, ltb-true g m t)) (λ v q o. omega arith);
       }))
       (λ t. rw t (record {
         below = omega (arith, h .below);
@@ -89,6 +100,7 @@ module _ (ss : List Stream) (xs ps : List ℕ) (ls : List Bool) (d skip : ℕ) w
         leaves = h .leaves;
         is = h .is;
         least = upto (NoLess m) n (h .least) (λ v q. omega (arith, ltb-false g m t));
+        first = upto (NoEarlier j m) n (h .first) (λ v q o. omega (arith, h .below));
       }))
 
   crossed : (n : ℕ) (f : Crossing) (a b : Bool) → startIn ss ls n ≡ a → endIn ss ls n ≡ b → Answers ss xs ps ls d skip n f → Usable ss skip n
@@ -109,6 +121,23 @@ module _ (ss : List Stream) (xs ps : List ℕ) (ls : List Bool) (d skip : ℕ) w
           (pick b f (byEnds (startIn ss ls n) (endIn ss ls n) f (lesser f n (slackAt ss xs ps d n true)) (lesser f n (slackAt ss xs ps d n false))))
       go true e f h = more n f h (λ u. clash _ e u)
       go false e f h = crossed n f (startIn ss ls n) (endIn ss ls n) refl refl h e
+
+  -- There is one answer.
+  answer-one : (n : ℕ) (f g : Crossing) → Answers ss xs ps ls d skip n f → Answers ss xs ps ls d skip n g → f ≡ g
+  answer-one n Nothing Nothing a b = refl
+  answer-one n Nothing (At j h) a b = opposed (startIn ss ls j) (endIn ss ls j) (a j (b .below) (b .usable)) (b .leaves)
+  answer-one n (At i g) Nothing a b = opposed (startIn ss ls i) (endIn ss ls i) (b i (a .below) (a .usable)) (a .leaves)
+  answer-one n (At i g) (At j h) a b =
+      let le = a .least j (b .below) (b .usable) (b .leaves) in
+      let ge = b .least i (a .below) (a .usable) (a .leaves) in
+      let same : g ≡ h = omega (arith, le, ge, a .is, b .is) in
+      let one : i ≡ j =
+          omega
+          (arith, le, ge, a .is, b .is, a .first j (b .below) (b .usable) (b .leaves) (omega (arith, le, ge, a .is, b .is)), b .first i (a .below) (a .usable) (a .leaves) (omega (arith, le, ge, a .is, b .is))) in
+      rw (same, one)
+
+  pub answers-same : (n : ℕ) (f : Crossing) → Answers ss xs ps ls d skip n f → leastTo ss xs ps ls d skip n ≡ f
+  answers-same n f a = answer-one n (leastTo ss xs ps ls d skip n) f (least-good n) a
 
 -- What is found is one of the first n.
 pub found-below : (ss : List Stream) (xs ps : List ℕ) (ls : List Bool) (d skip n i g : ℕ) → leastTo ss xs ps ls d skip n ≡ At i g → i < n

@@ -3,6 +3,12 @@ pub mod Weights
 pub mod Least
 pub mod Rounds
 pub mod Elements
+pub mod Filling
+pub mod Nearing
+pub mod Steps
+pub mod Walks
+pub mod Finds
+pub mod Rounding
 pub mod Amounts
 pub mod Pushing
 pub mod Counting

@@ -10,10 +10,9 @@ use lib.ListN.{getD, set, take}
 use lib.Seq.{getD-take}
 use Rattle.plants.specs.declared.Stream.{Stream}
 use Rattle.plants.specs.Plants.{noStream}
-use Rattle.paths.specs.declared.Crossing.the-variants.{At, Nothing}
 use Rattle.paths.specs.declared.Tree.{Tree}
 use Rattle.paths.specs.Sizes.{netShift}
-use Rattle.paths.specs.Slack.{considered, leastTo}
+use Rattle.paths.specs.Slack.{At, Nothing, considered, leastTo}
 use Rattle.paths.specs.Search.{loweredBy, farEnd, addedTo, grownBy, grow, tightPath}
 use Rattle.paths.specs.Push.{movedOf, otherEnd, pushed}
 

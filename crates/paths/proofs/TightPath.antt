@@ -13,12 +13,10 @@ use Rattle.numbers.specs.Choice.{pick}
 use Rattle.numbers.proofs.Tests.{by-cases, clash}
 use Rattle.plants.specs.declared.Stream.{Stream}
 use Rattle.flows.specs.Flows.{streamAt}
-use Rattle.paths.specs.declared.Crossing.{Crossing}
-use Rattle.paths.specs.declared.Crossing.the-variants.{At, Nothing}
 use Rattle.paths.specs.declared.Tree.{Tree}
-use Rattle.paths.specs.Slack.{leastTo}
+use Rattle.paths.specs.Slack.{Crossing, At, Nothing, leastTo, slackAt}
 use Rattle.paths.specs.Search.{farEnd, onCrossing, addedTo, target, Grown, grownBy, tightPath}
-use Rattle.paths.proofs.Least.{opposed, Usable, slackAt, startIn, endIn, Answers, least-good}
+use Rattle.paths.proofs.Least.{opposed, Usable, startIn, endIn, Answers, least-good}
 use Rattle.paths.proofs.Counting.{count-most, count-full}
 use Rattle.paths.proofs.Pushing.{reached, reached-more, reached-new}
 use Rattle.paths.proofs.Growing.{Plain, Growing, add-growing}

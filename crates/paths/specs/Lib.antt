@@ -3,5 +3,6 @@ pub mod Sizes
 pub mod Held
 pub mod Slack
 pub mod Search
+pub mod Near
 pub mod Push
 pub mod Premises

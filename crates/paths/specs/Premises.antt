@@ -2,12 +2,13 @@
 use mathlib.Core.Path.{_≡_}
 use mathlib.Core.List.{List}
 use Prim.Native.Nat.{ℕ, _+_, _*_, _≤_, _<_}
-use lib.ListN.{length, getD}
+use lib.ListN.{length, getD, take}
 use Rattle.plants.specs.declared.Stream.{Stream}
 use Rattle.plants.specs.Limits.{places, maxUnits, maxStreams, maxWeight}
 use Rattle.plants.specs.Plants.{noStream}
-use Rattle.paths.specs.Sizes.{mostFlow, priceShift, mostStep}
+use Rattle.paths.specs.Sizes.{mostFlow, priceShift, mostStep, mostFall}
 use Rattle.flows.specs.Certificate.{weightOf}
+use Rattle.paths.specs.Held.{readingOf, Held, AllHeld}
 
 -- A stream between places, of a weight in range.
 pub record Placed (s : Stream) : Type 0 where
@@ -37,6 +38,29 @@ pub record Searchable (streams : List Stream) (n : ℕ) (xs ps : List ℕ) (d : 
   pub step : d ≤ mostStep
   pub amounts : (k : ℕ) → k < n → getD xs k 0 ≤ mostFlow
   pub prices : Prices ps
+
+-- And where the step condition holds.
+pub record Walkable (streams : List Stream) (n : ℕ) (xs ps : List ℕ) (d : ℕ) : Type 0 where
+  pub searchable : Searchable streams n xs ps d
+  pub some : 1 ≤ d
+  pub held : AllHeld (take n streams) xs ps d
+
+-- Prices that leave room for a search to lower them.
+abbrev pub Falling : List ℕ → ℕ → Type 0
+Falling ps d = (length ps ≡ places) × ((u : ℕ) → u < places → mostFall d ≤ getD ps u 0)
+
+-- An array of which the first n elements are the values of f.
+pub record Lane (n : ℕ) (f : ℕ → ℕ) (xs : List ℕ) : Type 0 where
+  pub long : length xs ≡ maxStreams
+  pub each : (k : ℕ) → k < n → getD xs k 0 ≡ f k
+
+-- The starts, ends and slacks of n streams.
+pub record Lanes (n : ℕ) (fs ts gs bs : List ℕ) : Type 0 where
+  pub few : n ≤ maxStreams
+  pub from-in : (k : ℕ) → k < n → getD fs k 0 < places
+  pub to-in : (k : ℕ) → k < n → getD ts k 0 < places
+  pub ahead : (k : ℕ) → k < n → getD gs k 0 ≤ 2 * maxWeight * mostStep
+  pub back : (k : ℕ) → k < n → getD bs k 0 ≤ 2 * maxWeight * mostStep
 
 -- Remembered streams: len of them, among the first n.
 pub record Trail (via : List ℕ) (n len : ℕ) : Type 0 where

@@ -7,12 +7,10 @@ use lib.ListN.{getD, set, replicate}
 use Rattle.numbers.specs.Choice.{pick}
 use Rattle.plants.specs.declared.Stream.{Stream}
 use Rattle.flows.specs.Flows.{streamAt}
-use Rattle.paths.specs.declared.Crossing.{Crossing}
-use Rattle.paths.specs.declared.Crossing.the-variants.{At, Nothing}
 use Rattle.paths.specs.declared.Tree.{Tree}
 use Rattle.plants.specs.Limits.{places}
 use Rattle.paths.specs.Sizes.{netShift}
-use Rattle.paths.specs.Slack.{leastTo}
+use Rattle.paths.specs.Slack.{Crossing, At, Nothing, leastTo}
 
 -- The prices, those of labelled places lowered by g.
 abbrev pub fallen : Bool → ℕ → ℕ → ℕ

@@ -34,3 +34,19 @@ rounds = maxUnits
 -- What one push may take from an amount or add to it, were every stream of its way the same one: places * mostStep.
 abbrev pub pushRoom : ℕ
 pushRoom = places * mostStep
+
+-- How far a search goes at most at step d: a slack of at most 2 * maxWeight * d in each round.
+abbrev pub mostFall : ℕ → ℕ
+mostFall d = 2 * maxWeight * d * rounds
+
+-- A distance and a stream's number are held as one: maxStreams ≤ numbering.
+abbrev pub numbering : ℕ
+numbering = 128
+
+-- Every distance is below this, 2^55: mostFall mostStep < farthest, and in 64 bits 2 * farthest * numbering ≤ 2^64.
+abbrev pub farthest : ℕ
+farthest = 36028797018963968
+
+-- So no distance with a number is as much.
+abbrev pub far : ℕ
+far = farthest * numbering

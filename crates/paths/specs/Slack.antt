@@ -7,8 +7,6 @@ use lib.ListN.{getD}
 use Rattle.numbers.specs.Choice.{pick}
 use Rattle.plants.specs.declared.Stream.{Stream}
 use Rattle.flows.specs.Flows.{streamAt}
-use Rattle.paths.specs.declared.Crossing.{Crossing}
-use Rattle.paths.specs.declared.Crossing.the-variants.{At, Nothing}
 use Rattle.flows.specs.Certificate.{weightOf}
 use Rattle.paths.specs.Held.{readingOf}
 
@@ -20,6 +18,19 @@ slackBy s forwards x pu pv d =
     pick forwards
     ((2 * (w * x) + w * d + pu) - (pv + 2 * (w * readingOf s)))
     ((pv + 2 * (w * readingOf s) + w * d) - (2 * (w * x) + pu))
+
+-- The slack of stream k, with the amounts xs and the prices ps.
+abbrev pub slackAt : List Stream → List ℕ → List ℕ → ℕ → ℕ → Bool → ℕ
+slackAt ss xs ps d k b = slackBy (streamAt ss k) b (getD xs k 0) (getD ps (streamAt ss k .from) 0) (getD ps (streamAt ss k .to) 0) d
+
+-- A metered stream before number skip is left alone: it counts as one with slack.
+abbrev pub slackPast : List Stream → List ℕ → List ℕ → ℕ → ℕ → Bool → ℕ → ℕ
+slackPast ss xs ps d skip b k = pick (streamAt ss k .metered && ltb k skip) 1 (slackAt ss xs ps d k b)
+
+-- A stream that leaves the labelled places, by its number, with its slack; or no such stream.
+pub data Crossing : Type 0 where
+  Nothing : Crossing
+  At : ℕ → ℕ → Crossing
 
 -- Of what was found and stream i with slack g, the one of less slack; the earlier of two alike.
 abbrev pub lesser : Crossing → ℕ → ℕ → Crossing

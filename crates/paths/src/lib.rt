@@ -2,17 +2,13 @@
 // along that way. Amounts, prices and nets are held shifted, as unsigned numbers (sizes.rt).
 use plants::limits::PLACES;
 
-mod crossings;
 pub mod labels;
+mod lanes;
 pub mod pushes;
+mod relaxing;
 pub mod sizes;
 pub mod slacks;
-
-// A stream that leaves the labelled places, by its number, with its slack; or no such stream.
-pub enum Crossing {
-    At(usize, u64),
-    Nothing,
-}
+mod walking;
 
 // The labelled places; and for each place labelled after the first, in order, the stream that led to it and the place.
 pub struct Tree {
@@ -20,6 +16,15 @@ pub struct Tree {
     pub via: [u8; PLACES],
     pub ends: [u8; PLACES],
     pub len: usize,
+}
+
+// What a walk hands over: whether it labelled a place that it looks for, its tree, the distances of labelled places, and how far it
+// came.
+pub struct Walked {
+    pub found: bool,
+    pub tree: Tree,
+    pub dist: [u64; PLACES],
+    pub reach: u64,
 }
 
 // What a search hands over: whether it labelled a place that it looks for, and its tree.

@@ -6,3 +6,8 @@ pub const FLOW_SHIFT: u64 = 70_368_744_177_664;
 
 // A net z is held as z + NET_SHIFT.
 pub const NET_SHIFT: u64 = 72_057_594_037_927_936;
+
+// A distance k and a stream's number i are held as k * NUMBERING + i; FAR is more than each of these.
+pub const NUMBERING: u64 = 128;
+
+pub const FAR: u64 = 36_028_797_018_963_968 * NUMBERING;

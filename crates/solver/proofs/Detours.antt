@@ -23,7 +23,8 @@ use Rattle.paths.specs.Held.{readingOf, Held, AllHeld}
 use Rattle.paths.specs.Search.{rootAt, Grown, tightPath}
 use Rattle.paths.specs.Push.{pushed}
 use Rattle.paths.proofs.Amounts.{net, net-set}
-use Rattle.paths.proofs.Least.{Usable, slackAt, startIn, endIn}
+use Rattle.paths.specs.Slack.{slackAt}
+use Rattle.paths.proofs.Least.{Usable, startIn, endIn}
 use Rattle.paths.proofs.Pushing.{reached, Pushed, push-good}
 use Rattle.paths.proofs.Growing.{Growing, root-growing}
 use Rattle.paths.proofs.TightPath.{Used, Path, way, shut, path-good, not-usable}

@@ -24,9 +24,9 @@ use Rattle.flows.proofs.Order.{AgreeTo}
 use Rattle.flows.proofs.Ties as Ties
 use Rattle.flows.proofs.Ties.{Stays, stays-least, first-cheapest}
 use Rattle.paths.specs.Held.{unshifted, opened, readingOf, Held}
-use Rattle.paths.specs.Slack.{slackBy}
+use Rattle.paths.specs.Slack.{slackBy, slackAt}
 use Rattle.paths.proofs.Amounts.{opened-at}
-use Rattle.paths.proofs.Least.{Usable, slackAt, startIn, endIn}
+use Rattle.paths.proofs.Least.{Usable, startIn, endIn}
 use Rattle.solver.specs.Model.{tiedAt, tiesTo}
 use Rattle.solver.specs.Promise.{priceAt}
 use Rattle.solver.specs.Premises.{Even}

@@ -1,7 +1,6 @@
 // Improvements: net is moved from a place that has too much to one that has too little, at the least cost.
 use crate::Improved;
 use crate::State;
-use paths::labels::root;
 use paths::labels::search;
 use paths::pushes::push_back;
 use paths::sizes::NET_SHIFT;
@@ -63,7 +62,7 @@ fn improve(streams: [Stream; MAX_STREAMS], count: usize, st: State, delta: u64) 
     }
     let old = st.flows;
     let mut prices = st.prices;
-    let h = search(streams, count, &old, &mut prices, &nets, root(s), delta);
+    let h = search(streams, count, &old, &mut prices, &nets, s as u8, delta);
     if !h.found {
         return as_is(st);
     }

@@ -1,5 +1,4 @@
 // Ties: among equally cheap flows, the first metered stream least, then the second, and so on.
-use paths::labels::root;
 use paths::labels::tight_path;
 use paths::pushes::push_back;
 use paths::slacks::slack;
@@ -33,7 +32,7 @@ fn tie_at(
     if 0 < slack(s, false, flows[i], prices[u], prices[v], 1) {
         return;
     }
-    let h = tight_path(streams, count, flows, prices, root(u), s.to, i + 1);
+    let h = tight_path(streams, count, flows, prices, s.from, s.to, i + 1);
     if !h.found {
         return;
     }

@@ -1,5 +1,5 @@
 -- `solver::ties::tie_at` meets its contract: by the parts of the definition; a way round leaves room for the push.
-use mathlib.Core.Path.{_≡_, sym, ap}
+use mathlib.Core.Path.{_≡_, sym}
 use Prim.Native.Nat.{suc, _-_}
 use native.Mathlib.Omega.{arith}
 use native.Mathlib.Numerals.{add-one}
@@ -15,22 +15,22 @@ use Rattle.solver.proofs.ties.tie_at.Tie as tie
 
 -- The start, and the tests passed, from where the search is done.
 abbrev start : tie.After-tight-path → tie.Start
-start c = c .before .before .before .before .before .before .before .before .before .before .before .before .before
+start c = c .before .before .before .before .before .before .before .before .before .before .before .before
 
 abbrev metered : tie.After-tight-path → tie.Else1
-metered c = c .before .before .before .before .before .before .before .before .before .before
+metered c = c .before .before .before .before .before .before .before .before .before
 
 abbrev slacked : tie.After-tight-path → tie.After-slack
-slacked c = c .before .before .before .before
+slacked c = c .before .before .before
 
 abbrev tight : tie.After-tight-path → tie.Else2
-tight c = c .before .before .before
+tight c = c .before .before
 
 -- What the call of tight_path says.
 told : (c : tie.After-tight-path)
     → grownBy (c .tight-path .result .found) (c .tight-path .result .tree) (start c .args .prices .now)
     ≡ tightPath (take (start c .args .count) (start c .args .t1)) (start c .args .count) (start c .args .flows .now) (start c .args .prices .now) (getD (start c .args .t1) (start c .args .i) noStream .to) (suc (start c .args .i)) rounds (rootAt (getD (start c .args .t1) (start c .args .i) noStream .from))
-told c = rw (c .before .root .ensures, add-one) at (c .tight-path .ensures)
+told c = rw add-one at (c .tight-path .ensures)
 
 -- A way round was found: what the push needs.
 ready : (c : tie.Else3)
@@ -90,20 +90,26 @@ returns-2 : tie.Need-returns-2
 returns-2 c =
     let st = c .before .before .before .before .before .before .before .before .before .before in sym (tied-slack (st .args .t1) (st .args .count) (st .pre .0) _ _ (st .pre .1) _ (not-false _ (c .before .before .before .before .before .before .before .if1 .left)) (rw (c .before .slack .ensures) at (c .if2 .taken)))
 
-root-requires : tie.Need-root-requires
-root-requires c κs =
-    omega
-    (arith, c .before .before .before .before .before .before .before .before .before .before .before .pre .0 .network .placed _ (c .before .before .before .before .before .before .before .before .before .before .before .pre .1) .from-in)
-
 add-tight-path : tie.Need-add-tight-path
 add-tight-path c = search needs
 
 tight-path-requires : tie.Need-tight-path-requires
 tight-path-requires c κs =
-    let st = c .before .before .before .before .before .before .before .before .before .before .before .before in (
-      record { network = st .pre .0 .network; step = omega arith; amounts = λ k l. omega (arith, st .pre .3 .close k (omega (arith, st .pre .0 .network .few)) .0, st .pre .0 .network .few, st .pre .1); prices = st .pre .2 },
-      ap
-          (λ t. t .len) (c .root .ensures),
+    let st = c .before .before .before .before .before .before .before .before .before .before .before in
+    let r = st .pre .0 .network .placed _ (st .pre .1) in (
+      record {
+        searchable =
+            record {
+              network = st .pre .0 .network;
+              step = omega arith;
+              amounts = λ k l. omega (arith, st .pre .3 .close k (omega (arith, st .pre .0 .network .few)) .0, st .pre .0 .network .few, st .pre .1);
+              prices = st .pre .2;
+            };
+        some = omega arith;
+        held = st .pre .3 .held;
+      },
+      omega (arith, r .from-in),
+      omega (arith, r .to-in),
     )
 
 returns-3 : tie.Need-returns-3
@@ -170,7 +176,6 @@ tie-at-spec =
     element-copy-out-slack-3
     slack-requires
     returns-2
-    root-requires
     add-tight-path
     tight-path-requires
     returns-3

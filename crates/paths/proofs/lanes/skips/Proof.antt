@@ -1,6 +1,6 @@
--- `paths::crossings::skips` meets its contract: case by case.
-use Rattle.paths.proofs.crossings.skips.Statement.{statement}
-use Rattle.paths.proofs.crossings.skips.Tie as tie
+-- `paths::lanes::skips` meets its contract: case by case.
+use Rattle.paths.proofs.lanes.skips.Statement.{statement}
+use Rattle.paths.proofs.lanes.skips.Tie as tie
 
 returns : tie.Need-returns
 returns c = simp (c .if1 .taken)
