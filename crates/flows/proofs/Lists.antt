@@ -3,6 +3,7 @@ use mathlib.Core.Path.{_≡_, refl, ap, sym, _∙_}
 use mathlib.Core.List.{List, [], _∷_, map}
 use Prim.Native.Nat.{ℕ, zero, suc, _+_, _≤_, _<_}
 use native.Mathlib.Omega.{arith}
+use native.Mathlib.Decide.{ℕ-discrete}
 use borrow.Author.Count.{below-none, below-more}
 use lib.ListN.{length, getD, set, length-set}
 use lib.Seq.{ext-getD, getD-set-same, getD-set-other}
@@ -21,6 +22,14 @@ pub values-at : {A : Type 0} (f : ℕ → A) (d : A) (n k : ℕ) → k < n → g
 values-at f d zero k l = absurd (omega arith)
 values-at f d (suc n) zero l = refl
 values-at f d (suc n) (suc k) l = values-at (λ k. f (suc k)) d n k (omega arith)
+
+-- A property of each element survives a store. (d is read past the end.)
+pub set-each : {A : Type 0} (P : A → Type 0) (d : A) (xs : List A) (i : ℕ) (v : A) (n : ℕ) → i < length xs → P v
+    → ((k : ℕ) → k < n → P (getD xs k d)) → (k : ℕ) → k < n → P (getD (set xs i v) k d)
+set-each P d xs i v n l p all k m = elim (ℕ-discrete k i) [
+  | yes e ↦ rw (e, getD-set-same xs i v d l) p
+  | no e ↦ rw (getD-set-other xs i k v d e) (all k m)
+]
 
 -- The first u elements are f's values, the others are as they were. (d is read past the end.)
 pub record Written {A : Type 0} (d : A) (n : ℕ) (f : ℕ → A → A) (before now : List A) (u : ℕ) : Type 0 where

@@ -1,0 +1,2 @@
+-- Laws of potentials.
+pub mod Levels

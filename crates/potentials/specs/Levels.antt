@@ -1,0 +1,30 @@
+-- Prices of places, one for each label, within bounds.
+use mathlib.Core.Path.{_≡_}
+use mathlib.Core.List.{List, map}
+use Prim.Native.Nat.{ℕ, suc, _+_, _*_, _≤_, _<_}
+use lib.ListN.{length, getD}
+use Rattle.plants.specs.Limits.{places}
+
+-- The numbers that the equations take: for each place a right-hand side and a coefficient for each place.
+abbrev pub cells : ℕ
+cells = places * suc places
+
+-- Labels that are places.
+pub record Labels (ls : List ℕ) : Type 0 where
+  pub long : length ls ≡ places
+  pub within : (u : ℕ) → u < places → getD ls u 0 < places
+
+-- Prices from top − spread to top.
+pub record Bounded (top spread : ℕ) (ps : List ℕ) : Type 0 where
+  pub long : length ps ≡ places
+  pub low : (u : ℕ) → u < places → top ≤ getD ps u 0 + spread
+  pub high : (u : ℕ) → u < places → getD ps u 0 ≤ top
+
+-- The price of each place's label.
+abbrev pub atLabels : List ℕ → List ℕ → List ℕ
+atLabels ps ls = map (λ l. getD ps l 0) ls
+
+-- Such prices, and places of one label have one price.
+pub record Level (ls : List ℕ) (top spread : ℕ) (ps : List ℕ) : Type 0 where
+  pub bounded : Bounded top spread ps
+  pub level : (u v : ℕ) → u < places → v < places → getD ls u 0 ≡ getD ls v 0 → getD ps u 0 ≡ getD ps v 0

@@ -1,0 +1,32 @@
+// Prices of places (node potentials) at which the real-number optimum of a plant balances, made whole.
+use elimination::eliminate;
+use elimination::substitute;
+use laplacians::laplacian;
+use plants::Plant;
+use plants::limits::PLACES;
+use wholes::by_label;
+use wholes::lowered;
+ghost use Prim.Native.Nat.{_≤_};
+ghost use Rattle.flows.specs.Calls.{Fit};
+ghost use Rattle.potentials.specs.Levels.{Labels, Level};
+
+mod elimination;
+mod laplacians;
+mod wholes;
+
+// Each row of the equations: its right-hand side, then a coefficient for each place.
+const WIDTH: usize = PLACES + 1;
+
+const CELLS: usize = PLACES * WIDTH;
+
+// Prices from top − spread to top, one for each label.
+pub fn potentials_of(p: Plant, labels: [u8; PLACES], top: u64, spread: u64) -> [u64; PLACES]
+    requires { ⌜ Fit p × Labels labels × (spread ≤ top) ⌝ }
+    ensures { λ r. ⌜ Level labels top spread r ⌝ }
+{
+    let places = p.units as usize + 1;
+    let mut cells = laplacian(p, labels);
+    eliminate(&mut cells, places);
+    let real = substitute(&cells, places);
+    by_label(lowered(real, top, spread), labels)
+}
