@@ -29,7 +29,7 @@ mul-r : tie.Need-mul-r Inv-loop μ-loop
 mul-r c = let h = c .before .before .pre .within (c .before .loop .u) (omega arith) in search needs
 
 array-read-r : tie.Need-array-read-r Inv-loop μ-loop
-array-read-r c = c .before .before .pre .within (c .before .loop .u) (omega arith)
+array-read-r c = omega (arith, c .before .before .pre .within (c .before .loop .u) (omega arith))
 
 mul-r-2 : tie.Need-mul-r-2 Inv-loop μ-loop
 mul-r-2 c = search needs
