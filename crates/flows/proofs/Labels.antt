@@ -231,3 +231,11 @@ module _ (counts : Counting) (p : Plant) (small : p .units ≤ maxUnits) (w : In
       by-cases (ltb v places)
       (λ t. one-pass .lowest (length (p .streams)) u v (omega arith) h (ltb-true v places t) (all-first u v ∙ e))
       (λ t. omega (arith, label-low u h, ltb-false v places t))
+
+  pub label-long : length (labelsOf counts p) ≡ places
+  label-long = labelling (length (p .streams)) (omega arith) .long
+
+  -- The ends of a stream that counts have one label.
+  pub label-level : (k : ℕ) → k < length (p .streams) → counts k (streamAt (p .streams) k) ≡ true
+      → getD (labelsOf counts p) (streamAt (p .streams) k .from) 0 ≡ getD (labelsOf counts p) (streamAt (p .streams) k .to) 0
+  label-level k l e = labelling (length (p .streams)) (omega arith) .level k l (and-both (ltb k (length (p .streams))) _ (lt-ltb k (length (p .streams)) l) e)

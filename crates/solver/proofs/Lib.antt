@@ -10,3 +10,5 @@ pub mod Detours
 pub mod Tying
 pub mod TieTurns
 pub mod Theorem
+pub mod Spanning
+pub mod Factored

@@ -2,4 +2,5 @@
 pub mod Sizes
 pub mod Model
 pub mod Premises
+pub mod Forests
 pub mod Promise

@@ -9,7 +9,9 @@ ghost use Rattle.plants.specs.Says.{plantOf};
 ghost use Rattle.solver.specs.Premises.{Hinted};
 ghost use Rattle.solver.specs.Promise.{Accepted, Right};
 
+mod fast_hints;
 mod finishing;
+mod forests;
 pub mod hints;
 mod improving;
 mod settling;
@@ -20,6 +22,21 @@ mod ties;
 pub struct Hint {
     pub flows: [u64; MAX_STREAMS],
     pub prices: [u64; PLACES],
+}
+
+// A spanning forest of unmetered streams. Which places it reaches; and in the order in which they were reached, the stream that
+// leads to each, and whether it leads into it.
+pub struct Forest {
+    pub reached: [bool; PLACES],
+    pub via: [u8; PLACES],
+    pub into: [bool; PLACES],
+    pub len: usize,
+}
+
+// A hint, and the summed positive net that it leaves over, as far as it was counted.
+pub struct Routed {
+    pub hint: Hint,
+    pub leftover: u64,
 }
 
 // The amount of each stream, and the price and the net of each place.
@@ -63,7 +80,6 @@ pub fn solve(p: Plant) -> Solved
     requires { ⌜ Accepted p ⌝ }
     ensures { λ r. ⌜ Right p r ⌝ }
 {
-    let streams = p.streams;
-    let h = hint(streams, p.count as usize);
+    let h = hint(p);
     solve_from(p, h)
 }

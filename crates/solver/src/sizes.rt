@@ -17,6 +17,12 @@ pub const FIRST_STEP: u64 = 1_048_576;
 
 pub const HINT_BUDGET: u64 = 256;
 
+// The greatest size of a hint's amounts.
+pub const HINT_ROOM: u64 = MOST_READING + SPREAD + 2 * FIRST_STEP * HINT_BUDGET;
+
+// The summed positive net up to which the hint by factorisation is taken.
+pub const FAST_LEFTOVER: u64 = 4_096;
+
 // The summed positive net up to which a hint is of use.
 pub const LEFTOVER_LIMIT: u64 = 16_777_216;
 

@@ -1,0 +1,67 @@
+-- Laws of a spanning forest and of the amounts routed along it.
+use mathlib.Core.Path.{_≡_, _∙_}
+use mathlib.Core.Bool.{Bool, true, false}
+use mathlib.Core.List.{List}
+use Prim.Native.Nat.{ℕ, suc, _+_, _≤_, _<_}
+use native.Mathlib.Omega.{arith}
+use lib.ListN.{getD, set, length-set, replicate, length-replicate, getD-replicate}
+use lib.Seq.{getD-set-same, getD-set-other}
+use borrow.Author.Count.{below-more}
+use Rattle.plants.specs.declared.Stream.{Stream}
+use Rattle.plants.specs.Limits.{places, maxUnits, maxStreams}
+use Rattle.flows.specs.Calls.{Ends}
+use Rattle.paths.specs.Sizes.{flowShift}
+use Rattle.paths.specs.Premises.{Placed}
+use Rattle.solver.specs.declared.Forest.{Forest}
+use Rattle.solver.specs.Sizes.{hintRoom}
+use Rattle.solver.specs.Premises.{Close}
+use Rattle.solver.specs.Forests.{Spanning, Listed, Routes}
+use Rattle.flows.proofs.Lists.{set-each}
+use Rattle.paths.proofs.Counting.{countTo, count-most, count-more}
+
+pub ends-of : {s : Stream} → Placed s → Ends s
+ends-of p = record { from-in = omega (arith, p .from-in); to-in = omega (arith, p .to-in) }
+
+pub spanning-short : {f : Forest} → Spanning f → f .len ≤ places
+spanning-short {f} s = omega (arith, s .few, count-most maxUnits (λ u. getD (f .reached) u false))
+
+-- One place more, e over stream i.
+abbrev pub grownBy : Forest → ℕ → ℕ → Bool → Forest
+grownBy f i e b = record { reached = set (f .reached) e true; via = set (f .via) (f .len) i; into = set (f .into) (f .len) b; len = f .len + 1 }
+
+module _ {f : Forest} (s : Spanning f) (e : ℕ) (l : e < places) (free : getD (f .reached) e false ≡ false) where
+  more : countTo maxUnits (λ u. getD (set (f .reached) e true) u false) ≡ suc (countTo maxUnits (λ u. getD (f .reached) u false))
+  more =
+      count-more maxUnits e (λ u. getD (f .reached) u false) (λ u. getD (set (f .reached) e true) u false) (omega arith) free
+      (getD-set-same (f .reached) e true false (rw (s .reaches) l))
+      (λ u q. getD-set-other (f .reached) e u true false q)
+
+  pub spanning-room : f .len < places
+  spanning-room = omega (arith, s .few, more, count-most maxUnits (λ u. getD (set (f .reached) e true) u false))
+
+  pub spanning-grown : (i : ℕ) (b : Bool) → Spanning (grownBy f i e b)
+  spanning-grown i b = record {
+    reaches = length-set (f .reached) e true ∙ s .reaches;
+    vias = length-set (f .via) (f .len) i ∙ s .vias;
+    intos = length-set (f .into) (f .len) b ∙ s .intos;
+    few = omega (arith, s .few, more);
+  }
+
+  pub listed-grown : (i : ℕ) (b : Bool) (n : ℕ) → i < n → Listed n f → Listed n (grownBy f i e b)
+  listed-grown i b n m h =
+      below-more (λ k. getD (set (f .via) (f .len) i) k 0 < n) (f .len)
+      (λ k lt. rw (getD-set-other (f .via) (f .len) k i 0 (λ q. omega arith)) (h k lt))
+      (rw (getD-set-same (f .via) (f .len) i 0 (rw (s .vias) spanning-room)) m)
+
+-- Amounts 0, and one of them another.
+pub routes-none : Routes (replicate maxStreams flowShift)
+routes-none = record {
+  long = length-replicate maxStreams flowShift;
+  close = λ k l. let e = getD-replicate {A = ℕ} maxStreams k flowShift 0 l in (omega arith, omega arith);
+}
+
+pub routes-set : {xs : List ℕ} → Routes xs → (i x : ℕ) → i < maxStreams → Close hintRoom x → Routes (set xs i x)
+routes-set {xs} r i x l h = record {
+  long = length-set xs i x ∙ r .long;
+  close = set-each (λ (y : ℕ). Close hintRoom y) 0 xs i x maxStreams (rw (r .long) l) h (r .close);
+}

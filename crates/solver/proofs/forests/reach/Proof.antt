@@ -1,0 +1,42 @@
+-- `solver::forests::reach` meets its contract: one place more is reached, over one stream more.
+use borrow.Author.Needs.{needs}
+use Rattle.solver.proofs.Spanning.{spanning-room, spanning-grown, listed-grown}
+use Rattle.solver.proofs.forests.reach.Statement.{statement}
+use Rattle.solver.proofs.forests.reach.Tie as tie
+
+element-copy-out-if1 : tie.Need-element-copy-out-if1
+element-copy-out-if1 c = search needs
+
+returns : tie.Need-returns
+returns c = search needs
+
+element-write-r : tie.Need-element-write-r
+element-write-r c = search needs
+
+element-write-r-2 : tie.Need-element-write-r-2
+element-write-r-2 c = let h = spanning-room (c .before .before .pre .0) (c .before .before .args .e) (c .before .before .pre .1) (c .if1 .left) in search needs
+
+element-write-r-3 : tie.Need-element-write-r-3
+element-write-r-3 c = let h = spanning-room (c .before .before .pre .0) (c .before .before .args .e) (c .before .before .pre .1) (c .if1 .left) in search needs
+
+add-r : tie.Need-add-r
+add-r c = let h = spanning-room (c .before .before .pre .0) (c .before .before .args .e) (c .before .before .pre .1) (c .if1 .left) in search needs
+
+returns-2 : tie.Need-returns-2
+returns-2 c =
+    let st = c .before .before in (
+      spanning-grown (st .pre .0) (st .args .e) (st .pre .1) (c .if1 .left) (st .args .i) (st .args .into),
+      listed-grown (st .pre .0) (st .args .e) (st .pre .1) (c .if1 .left) (st .args .i) (st .args .into),
+    )
+
+pub reach-spec : {M : Type 1} → statement M
+reach-spec =
+    tie.close
+    (tie.spec
+    element-copy-out-if1
+    returns
+    element-write-r
+    element-write-r-2
+    element-write-r-3
+    add-r
+    returns-2)

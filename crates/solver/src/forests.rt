@@ -1,0 +1,165 @@
+// A spanning forest of the unmetered streams, from the places that are labels, and amounts routed along it.
+use crate::Forest;
+use crate::sizes::HINT_ROOM;
+use paths::sizes::FLOW_SHIFT;
+use paths::sizes::NET_SHIFT;
+use plants::Stream;
+use plants::limits::MAX_STREAMS;
+use plants::limits::PLACES;
+use std::num::wrapping_add_u64;
+use std::num::wrapping_sub_u64;
+ghost use mathlib.Core.Path.{_≡_};
+ghost use Prim.Native.Nat.{ℕ, _<_};
+ghost use lib.ListN.{length};
+ghost use Rattle.plants.specs.Limits.{places};
+ghost use Rattle.flows.specs.Calls.{Ends};
+ghost use Rattle.paths.specs.Premises.{Network, Trail};
+ghost use Rattle.solver.specs.Sizes.{hintRoom};
+ghost use Rattle.solver.specs.Premises.{Close};
+ghost use Rattle.solver.specs.Forests.{Spanning, Listed, Routes};
+
+// The labels, and no stream yet.
+fn roots(labels: [u8; PLACES]) -> Forest
+    ensures { λ r. ⌜ Spanning r × (r .len ≡ 0) ⌝ }
+{
+    let mut reached = [false; PLACES];
+    let mut u: usize = 0;
+    while u < PLACES {
+        reached[u] = labels[u] as usize == u;
+        u += 1;
+    }
+    Forest {
+        reached: reached,
+        via: [0u8; PLACES],
+        into: [false; PLACES],
+        len: 0,
+    }
+}
+
+// Place e over stream i, where it is not reached yet.
+fn reach(f: Forest, i: u8, e: usize, into: bool) -> Forest
+    requires { ⌜ Spanning f × (e < places) ⌝ }
+    ensures { λ r. ⌜ Spanning r × ((n : ℕ) → i < n → Listed n f → Listed n r) ⌝ }
+{
+    if f.reached[e] {
+        return f;
+    }
+    let at = f.len;
+    let mut r = f;
+    r.reached[e] = true;
+    r.via[at] = i;
+    r.into[at] = into;
+    r.len = at + 1;
+    r
+}
+
+// Unmetered stream i, where it leads from a place that is reached to one that is not.
+fn along(f: Forest, i: u8, s: Stream) -> Forest
+    requires { ⌜ Spanning f × Ends s ⌝ }
+    ensures { λ r. ⌜ Spanning r × ((n : ℕ) → i < n → Listed n f → Listed n r) ⌝ }
+{
+    if s.metered {
+        return f;
+    }
+    let u = s.from as usize;
+    let v = s.to as usize;
+    if f.reached[u] {
+        return reach(f, i, v, true);
+    }
+    if f.reached[v] {
+        return reach(f, i, u, false);
+    }
+    f
+}
+
+// One pass over the streams.
+fn pass(streams: [Stream; MAX_STREAMS], count: usize, start: Forest) -> Forest
+    requires { ⌜ Network streams count × Spanning start × Listed count start ⌝ }
+    ensures { λ r. ⌜ Spanning r × Listed count r ⌝ }
+{
+    let mut f = start;
+    let mut i: usize = 0;
+    while i < count {
+        f = along(f, i as u8, streams[i]);
+        i += 1;
+    }
+    f
+}
+
+// Passes, until one reaches no further place.
+pub fn forest(streams: [Stream; MAX_STREAMS], count: usize, labels: [u8; PLACES]) -> Forest
+    requires { ⌜ Network streams count ⌝ }
+    ensures { λ r. ⌜ Spanning r × Listed count r ⌝ }
+{
+    let mut f = roots(labels);
+    let mut left: usize = PLACES;
+    while 0 < left {
+        let before = f.len;
+        f = pass(streams, count, f);
+        if f.len == before {
+            return f;
+        }
+        left -= 1;
+    }
+    f
+}
+
+// The held amount nearest to x within the hint's room.
+fn close(x: u64) -> u64
+    ensures { λ r. ⌜ Close hintRoom r ⌝ }
+{
+    if x < FLOW_SHIFT - HINT_ROOM {
+        return FLOW_SHIFT - HINT_ROOM;
+    }
+    if FLOW_SHIFT + HINT_ROOM < x {
+        return FLOW_SHIFT + HINT_ROOM;
+    }
+    x
+}
+
+// Place v hands its net on to place u.
+fn hand_on(nets: &mut [u64; PLACES], u: usize, v: usize) -> u64
+    requires { ⌜ (length (now nets) ≡ places) × (u < places) × (v < places) ⌝ }
+    ensures { λ _. ⌜ length (now (nets .exit)) ≡ places ⌝ }
+{
+    let z = wrapping_sub_u64(nets[v], NET_SHIFT);
+    nets[u] = wrapping_add_u64(nets[u], z);
+    nets[v] = NET_SHIFT;
+    z
+}
+
+// The amount of a stream by which the place that it was to reach hands its net on.
+fn routed(nets: &mut [u64; PLACES], s: Stream, into: bool) -> u64
+    requires { ⌜ (length (now nets) ≡ places) × Ends s ⌝ }
+    ensures { λ r. ⌜ (length (now (nets .exit)) ≡ places) × Close hintRoom r ⌝ }
+{
+    let u = s.from as usize;
+    let v = s.to as usize;
+    if into {
+        let z = hand_on(nets, u, v);
+        close(wrapping_sub_u64(FLOW_SHIFT, z))
+    } else {
+        let z = hand_on(nets, v, u);
+        close(wrapping_add_u64(FLOW_SHIFT, z))
+    }
+}
+
+// The place reached last first, so that only labels keep a net.
+pub fn route(
+    streams: [Stream; MAX_STREAMS],
+    count: usize,
+    f: Forest,
+    nets: &mut [u64; PLACES],
+    flows: &mut [u64; MAX_STREAMS],
+)
+    requires { ⌜ Network streams count × Spanning f × Listed count f × (length (now nets) ≡ places) × Routes (now flows) ⌝ }
+    ensures { λ _. ⌜ (length (now (nets .exit)) ≡ places) × Routes (now (flows .exit)) ⌝ }
+{
+    let mut k = f.len;
+    while 0 < k {
+        k -= 1;
+        let i = f.via[k] as usize;
+        let into = f.into[k];
+        flows[i] = routed(nets, streams[i], into);
+    }
+}
