@@ -8,18 +8,19 @@ work=$(mktemp -d)
 trap 'rm -rf "$work"' EXIT
 cd "$work"
 mkdir -p crates/count_steps/src
-for c in numbers plants flows paths solver; do
+for c in numbers plants flows potentials paths solver; do
     cp -r "$root/crates/$c" crates/
 done
-sed -i 's/^mod hints;/pub mod hints;/; s/^mod improving;/pub mod improving;/; s/^mod settling;/pub mod settling;/; s/^mod sizes;/pub mod sizes;/' crates/solver/src/lib.rt
+sed -i 's/^mod fast_hints;/pub mod fast_hints;/; s/^mod improving;/pub mod improving;/; s/^mod settling;/pub mod settling;/' crates/solver/src/lib.rt
 cp "$root/host/steps/count_steps.txt" crates/count_steps/src/main.rt
 cp -r "$root/crates/vectors/data" crates/count_steps/
 cat > crates.txt <<'T'
 numbers:
 plants: numbers
 flows: plants numbers
+potentials: flows plants numbers
 paths: flows plants numbers
-solver: paths flows plants numbers
-count_steps: solver paths flows plants numbers io libc os
+solver: potentials paths flows plants numbers
+count_steps: solver potentials paths flows plants numbers io libc os
 T
 rt try count_steps 2>&1 | sed -n 's/.*found "\([^"]*\)".*/\1/p' | awk '{ if (length($0) > length(most)) most = $0 } END { print most }' | sed 's/\\n/\n/g'
