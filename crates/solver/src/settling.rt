@@ -51,17 +51,15 @@ fn settle_flows(
     }
 }
 
-// The nets after a stream's amount leaves its start and comes to its end.
-fn book(nets: [u64; PLACES], s: Stream, x: u64) -> [u64; PLACES]
-    requires { ⌜ Placed s × (x ≤ mostFlow) × Around nets netRoom ⌝ }
-    ensures { λ r. ⌜ r ≡ booked nets s x ⌝ }
+// A stream's amount leaves its start and comes to its end.
+fn book(nets: &mut [u64; PLACES], s: Stream, x: u64)
+    requires { ⌜ Placed s × (x ≤ mostFlow) × Around (now nets) netRoom ⌝ }
+    ensures { λ _. ⌜ now (nets .exit) ≡ booked (now (nets .entry)) s x ⌝ }
 {
     let u = s.from as usize;
     let v = s.to as usize;
-    let mut r = nets;
-    r[u] = r[u] + FLOW_SHIFT - x;
-    r[v] = r[v] + x - FLOW_SHIFT;
-    r
+    nets[u] = nets[u] + FLOW_SHIFT - x;
+    nets[v] = nets[v] + x - FLOW_SHIFT;
 }
 
 fn nets_of(streams: [Stream; MAX_STREAMS], count: usize, flows: [u64; MAX_STREAMS]) -> [u64; PLACES]
@@ -71,8 +69,7 @@ fn nets_of(streams: [Stream; MAX_STREAMS], count: usize, flows: [u64; MAX_STREAM
     let mut nets = [NET_SHIFT; PLACES];
     let mut i: usize = 0;
     while i < count {
-        let next = book(nets, streams[i], flows[i]);
-        nets = next;
+        book(&mut nets, streams[i], flows[i]);
         i += 1;
     }
     nets

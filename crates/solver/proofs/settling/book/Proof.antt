@@ -1,10 +1,18 @@
 -- `solver::settling::book` meets its contract: both stores stay in range.
-use mathlib.Core.Path.{refl}
+use Prim.Native.Nat.{_+_}
 use native.Mathlib.Omega.{arith}
-use Rattle.solver.proofs.Booking.{left-around}
 use borrow.Author.Needs.{needs}
+use Rattle.paths.specs.Sizes.{mostFlow}
+use Rattle.solver.specs.Sizes.{netRoom}
+use Rattle.solver.specs.Model.{left}
+use Rattle.solver.specs.Premises.{Around}
+use Rattle.solver.proofs.Booking.{left-around}
 use Rattle.solver.proofs.settling.book.Statement.{statement}
 use Rattle.solver.proofs.settling.book.Tie as tie
+
+-- After the first store.
+once : (st : tie.Start) → Around (left (st .args .nets .now) (st .args .s .from) (st .args .x)) (netRoom + mostFlow)
+once st = left-around (st .pre .2) (omega arith) (st .args .s .from) (st .args .x) (omega (arith, st .pre .0 .from-in)) (st .pre .1)
 
 cast-u : tie.Need-cast-u
 cast-u c = search needs
@@ -12,54 +20,52 @@ cast-u c = search needs
 cast-v : tie.Need-cast-v
 cast-v c = search needs
 
-mul-r : tie.Need-mul-r
-mul-r c = search needs
+mul-nets : tie.Need-mul-nets
+mul-nets c = search needs
 
-array-read-r : tie.Need-array-read-r
-array-read-r c = search needs
+element-copy-out-nets : tie.Need-element-copy-out-nets
+element-copy-out-nets c = search needs
 
-add-r : tie.Need-add-r
-add-r c =
-    let st = c .before .before in
-    omega (arith, st .pre .2 .high (st .args .s .from) (omega arith))
+add-nets : tie.Need-add-nets
+add-nets c =
+    let st = c .before .before .before in
+    omega (arith, st .pre .2 .high (st .args .s .from) (omega (arith, st .pre .0 .from-in)))
 
-sub-r : tie.Need-sub-r
-sub-r c =
-    let st = c .before .before in
-    omega (arith, st .pre .2 .low (st .args .s .from) (omega arith))
+sub-nets : tie.Need-sub-nets
+sub-nets c =
+    let st = c .before .before .before in
+    omega (arith, st .pre .2 .low (st .args .s .from) (omega (arith, st .pre .0 .from-in)))
 
-mul-r-2 : tie.Need-mul-r-2
-mul-r-2 c = search needs
+mul-nets-2 : tie.Need-mul-nets-2
+mul-nets-2 c = search needs
 
-array-write-r : tie.Need-array-write-r
-array-write-r c = search needs
+element-write-nets : tie.Need-element-write-nets
+element-write-nets c = search needs
 
-mul-r-3 : tie.Need-mul-r-3
-mul-r-3 c = search needs
+mul-nets-3 : tie.Need-mul-nets-3
+mul-nets-3 c = search needs
 
-array-read-r-2 : tie.Need-array-read-r-2
-array-read-r-2 c = search needs
+element-copy-out-nets-2 : tie.Need-element-copy-out-nets-2
+element-copy-out-nets-2 c = search needs
 
-add-r-2 : tie.Need-add-r-2
-add-r-2 c =
-    let st = c .before .before in
-    let l = left-around (st .pre .2) (omega arith) (st .args .s .from) (st .args .x) (omega arith) (st .pre .1) in
-    omega (arith, l .high (st .args .s .to) (omega arith))
+add-nets-2 : tie.Need-add-nets-2
+add-nets-2 c =
+    let st = c .before .before .before .before in
+    omega (arith, once st .high (st .args .s .to) (omega (arith, st .pre .0 .to-in)))
 
-sub-r-2 : tie.Need-sub-r-2
-sub-r-2 c =
-    let st = c .before .before in
-    let l = left-around (st .pre .2) (omega arith) (st .args .s .from) (st .args .x) (omega arith) (st .pre .1) in
-    omega (arith, l .low (st .args .s .to) (omega arith))
+sub-nets-2 : tie.Need-sub-nets-2
+sub-nets-2 c =
+    let st = c .before .before .before .before in
+    omega (arith, once st .low (st .args .s .to) (omega (arith, st .pre .0 .to-in)))
 
-mul-r-4 : tie.Need-mul-r-4
-mul-r-4 c = search needs
+mul-nets-4 : tie.Need-mul-nets-4
+mul-nets-4 c = search needs
 
-array-write-r-2 : tie.Need-array-write-r-2
-array-write-r-2 c = search needs
+element-write-nets-2 : tie.Need-element-write-nets-2
+element-write-nets-2 c = search needs
 
 returns : tie.Need-returns
-returns c = refl
+returns c = search needs
 
 pub book-spec : {M : Type 1} → statement M
 book-spec =
@@ -67,16 +73,16 @@ book-spec =
     (tie.spec
     cast-u
     cast-v
-    mul-r
-    array-read-r
-    add-r
-    sub-r
-    mul-r-2
-    array-write-r
-    mul-r-3
-    array-read-r-2
-    add-r-2
-    sub-r-2
-    mul-r-4
-    array-write-r-2
+    mul-nets
+    element-copy-out-nets
+    add-nets
+    sub-nets
+    mul-nets-2
+    element-write-nets
+    mul-nets-3
+    element-copy-out-nets-2
+    add-nets-2
+    sub-nets-2
+    mul-nets-4
+    element-write-nets-2
     returns)

@@ -35,7 +35,7 @@ array-read-book c = search needs
 
 book-requires : tie.Need-book-requires Inv-loop μ-loop
 book-requires c κs =
-    let at = c .before .before in
+    let at = c .before .before .before in
     let st = at .before in
     let w = st .pre .0 in (
       w .placed _ (omega arith),
@@ -55,7 +55,7 @@ loop-less c = search needs
 
 loop-again : tie.Need-loop-again Inv-loop μ-loop
 loop-again c =
-    let at = c .before .before .before in
+    let at = c .before .before .before .before in
     let st = at .before in
     (omega arith, c .book .ensures ∙ rw (at .loop .inv .1) (sym (nets-next (st .args .t1) (st .args .count) [] _ (at .loop .i) (omega arith))))
 
