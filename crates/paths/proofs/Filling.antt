@@ -1,21 +1,25 @@
 -- What the search's loops write, one stream or one place after the other.
 use mathlib.Core.Path.{_≡_, refl, sym, _∙_, ap}
-use mathlib.Core.Bool.{Bool, true, false}
+use mathlib.Core.Bool.{Bool, true, false, _&&_}
 use mathlib.Core.List.{List, [], _∷_}
 use Prim.Native.Nat.{ℕ, zero, suc, _+_, _-_, _<_}
 use native.Mathlib.Omega.{arith}
 use native.Mathlib.Numerals.{add-one}
 use lib.Dec.{eqb, ltb}
-use lib.ListN.{length, getD, set, length-set}
-use lib.Seq.{ext-getD}
+use lib.ListN.{length, getD, set, take, length-set}
+use lib.Seq.{ext-getD, getD-take}
 use Rattle.numbers.specs.Choice.{pick}
 use Rattle.numbers.proofs.Tests.{picked}
+use Rattle.plants.specs.declared.Stream.{Stream}
 use Rattle.plants.specs.Limits.{places, maxStreams}
-use Rattle.flows.proofs.Lists.{Written}
+use Rattle.plants.specs.Plants.{noStream}
+use Rattle.flows.specs.Flows.{streamAt}
+use Rattle.flows.proofs.Lists.{Written, values-at}
 use Rattle.paths.specs.Sizes.{far}
+use Rattle.paths.specs.Slack.{gapBy}
 use Rattle.paths.specs.Search.{fallen}
-use Rattle.paths.specs.Near.{codeOf, lessened, relaxedAlong, relaxedAt, relaxedTo, nearestTo, reducedBy}
-use Rattle.paths.specs.Premises.{Lane}
+use Rattle.paths.specs.Near.{gapsOf, codeOf, lessened, relaxedAlong, relaxedAt, relaxedTo, nearestTo, reducedBy}
+use Rattle.paths.specs.Premises.{Placed, Network, Lane}
 
 -- Elements that are written are the values.
 pub lane-of : {n : ℕ} {f : ℕ → ℕ} {before now : List ℕ} → Written 0 maxStreams (λ k x. f k) before now n → Lane n f now
@@ -97,3 +101,21 @@ pub getD-any : {A : Type 0} (xs : List A) (i : ℕ) (a b : A) → i < length xs 
 getD-any [] i a b l = absurd (omega arith)
 getD-any (x ∷ xs) zero a b l = refl
 getD-any (x ∷ xs) (suc i) a b l = getD-any xs i a b (omega arith)
+
+-- One of the slacks.
+pub gap-at : (fs ts ws qs xs ps : List ℕ) (d skip n : ℕ) (f : Bool) (k : ℕ) → k < n
+    → getD (gapsOf fs ts ws qs xs ps d skip n f) k 0
+    ≡ pick (ltb 0 (getD ws k 0) && ltb k skip) 1 (gapBy (getD ws k 0) (getD qs k 0) f (getD xs k 0) (getD ps (getD fs k 0) 0) (getD ps (getD ts k 0) 0) d)
+gap-at fs ts ws qs xs ps d skip n f k l = values-at _ 0 n k l
+
+-- The starts, or the ends, of the streams in use are places.
+pub place-in : {streams : List Stream} {n : ℕ} {fs : List ℕ} → Network streams n → (b : Bool)
+    → Lane n (λ k. pick b (streamAt (take n streams) k .from) (streamAt (take n streams) k .to)) fs → (k : ℕ) → k < n → getD fs k 0 < places
+place-in {streams} {n} {fs} w b lane k l = rw (lane .each k l) (go b)
+  where
+    placed : Placed (streamAt (take n streams) k)
+    placed = rw (getD-take n streams k noStream l) (w .placed k l)
+
+    go : (b : Bool) → pick b (streamAt (take n streams) k .from) (streamAt (take n streams) k .to) < places
+    go true = omega (arith, placed .from-in)
+    go false = omega (arith, placed .to-in)

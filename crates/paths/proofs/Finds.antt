@@ -6,7 +6,7 @@ use Prim.Native.Nat.{ℕ, zero, suc, _+_, _-_, _*_, _/_, _%_, _≤_, _<_}
 use native.Mathlib.Nat.{div-add-mod}
 use native.Mathlib.Omega.{arith}
 use native.Mathlib.Decide.{ℕ-discrete}
-use borrow.Author.Tests.{ltb-true, ltb-false}
+use borrow.Author.Tests.{ltb-true, ltb-false, lt-ltb, le-ltb}
 use lib.Dec.{ltb}
 use lib.ListN.{length, getD, set, take, replicate, length-set, getD-replicate}
 use lib.Seq.{getD-take, length-take-le, getD-set-same, getD-set-other}
@@ -23,27 +23,27 @@ use Rattle.paths.specs.Sizes.{netShift, numbering, farthest, far, mostFa
 use Rattle.paths.specs.Held.{AllHeld}
 use Rattle.paths.specs.Slack.{At, Nothing, leastTo, slackBy, slackAt, slackPast}
 use Rattle.paths.specs.Search.{fallen, loweredBy, farEnd, rootAt, addedTo, Grown, grownBy, grow}
-use Rattle.paths.specs.Near.{relaxedTo, nearestTo, reducedBy, walkedBy, walked}
-use Rattle.paths.specs.Premises.{Network, Placed, Lane, Lanes}
+use Rattle.paths.specs.Near.{gapsOf, relaxedTo, nearestTo, reducedBy, walkedBy, walked}
+use Rattle.paths.specs.Premises.{Network, Placed, Laid, Walkable, Lanes}
 use Rattle.paths.proofs.Growing.{slack-most}
-use Rattle.paths.proofs.Filling.{getD-any, reduced-at, reduced-none}
+use Rattle.paths.proofs.Filling.{getD-any, reduced-at, reduced-none, gap-at}
 use Rattle.paths.proofs.Least.{Usable, all-usable, startIn, endIn, Least, Answers, answers-same}
 use Rattle.paths.proofs.Rounds.{grow-none, grow-hit, grow-more, grow-end}
 use Rattle.paths.proofs.Steps.{walk-none, walk-hit, walk-more, walk-end}
 use Rattle.paths.proofs.Nearing.{nearest-least, tailOf, headOf, slackOf, overOf, Leads, Nears, relaxed-good, next-good}
 use Rattle.paths.proofs.Walks.{reduced-next, leaving, leads-on, Told, told, none-leads}
 
--- The lanes of an array of streams of which the first n are in use.
-pub record Laid (streams : List Stream) (n : ℕ) (xs ps : List ℕ) (d skip : ℕ) (fs ts gs bs : List ℕ) : Type 0 where
+-- Starts, ends and slacks of the streams in use.
+pub record Slacked (streams : List Stream) (n : ℕ) (xs ps : List ℕ) (d skip : ℕ) (fs ts gs bs : List ℕ) : Type 0 where
   pub network : Network streams n
   pub held : AllHeld (take n streams) xs ps d
   pub step : d ≤ mostStep
-  pub starts : Lane n (λ k. streamAt (take n streams) k .from) fs
-  pub ends : Lane n (λ k. streamAt (take n streams) k .to) ts
-  pub ahead : Lane n (slackPast (take n streams) xs ps d skip true) gs
-  pub back : Lane n (slackPast (take n streams) xs ps d skip false) bs
+  pub starts : (k : ℕ) → k < n → getD fs k 0 ≡ streamAt (take n streams) k .from
+  pub ends : (k : ℕ) → k < n → getD ts k 0 ≡ streamAt (take n streams) k .to
+  pub ahead : (k : ℕ) → k < n → getD gs k 0 ≡ slackPast (take n streams) xs ps d skip true k
+  pub back : (k : ℕ) → k < n → getD bs k 0 ≡ slackPast (take n streams) xs ps d skip false k
 
-module _ (streams : List Stream) (n : ℕ) (xs ps : List ℕ) (d skip : ℕ) (fs ts gs bs : List ℕ) (laid : Laid streams n xs ps d skip fs ts gs bs) where
+module _ (streams : List Stream) (n : ℕ) (xs ps : List ℕ) (d skip : ℕ) (fs ts gs bs : List ℕ) (laid : Slacked streams n xs ps d skip fs ts gs bs) where
   pub in-use : length (take n streams) ≡ n
   in-use = length-take-le n streams (omega (arith, laid .network .few, laid .network .long))
 
@@ -51,8 +51,8 @@ module _ (streams : List Stream) (n : ℕ) (xs ps : List ℕ) (d skip : ℕ) (fs
   placed k l = rw (getD-take n streams k noStream l) (laid .network .placed k l)
 
   pub heads : (k : ℕ) (f : Bool) → k < n → headOf n fs ts gs bs k f < places
-  heads k true l = rw (laid .ends .each k l) (omega (arith, placed k l .to-in))
-  heads k false l = rw (laid .starts .each k l) (omega (arith, placed k l .from-in))
+  heads k true l = rw (laid .ends k l) (omega (arith, placed k l .to-in))
+  heads k false l = rw (laid .starts k l) (omega (arith, placed k l .from-in))
 
   pub tails : (k : ℕ) (f : Bool) → k < n → tailOf n fs ts gs bs k f < places
   tails k true l = heads k false l
@@ -63,8 +63,8 @@ module _ (streams : List Stream) (n : ℕ) (xs ps : List ℕ) (d skip : ℕ) (fs
   most k f l = slack-most f (streamAt (take n streams) k) _ _ _ d (laid .held k (rw in-use l)) (placed k l .light)
 
   past : (k : ℕ) (f : Bool) → k < n → slackOf n fs ts gs bs k f ≡ slackPast (take n streams) xs ps d skip f k
-  past k true l = laid .ahead .each k l
-  past k false l = laid .back .each k l
+  past k true l = laid .ahead k l
+  past k false l = laid .back k l
 
   pub slack-small : 1 ≤ d → (k : ℕ) (f : Bool) → k < n → slackOf n fs ts gs bs k f ≤ 2 * maxWeight * d
   slack-small one k f l = rw (past k f l) (go (streamAt (take n streams) k .metered && ltb k skip))
@@ -72,15 +72,6 @@ module _ (streams : List Stream) (n : ℕ) (xs ps : List ℕ) (d skip : ℕ) (fs
       go : (b : Bool) → pick b 1 (slackAt (take n streams) xs ps d k f) ≤ 2 * maxWeight * d
       go true = omega arith
       go false = most k f l
-
-  pub lanes-of : 1 ≤ d → Lanes n fs ts gs bs
-  lanes-of one = record {
-    few = laid .network .few;
-    from-in = λ k l. heads k false l;
-    to-in = λ k l. heads k true l;
-    ahead = λ k l. omega (arith, slack-small one k true l, laid .step);
-    back = λ k l. omega (arith, slack-small one k false l, laid .step);
-  }
 
   -- A stream that is not left alone has its slack.
   pub usable-slack : (k : ℕ) (f : Bool) → k < n → Usable (take n streams) skip k → slackOf n fs ts gs bs k f ≡ slackAt (take n streams) xs ps d k f
@@ -93,6 +84,53 @@ module _ (streams : List Stream) (n : ℕ) (xs ps : List ℕ) (d skip : ℕ) (fs
       go : (b : Bool) → pick b 1 (slackAt (take n streams) xs ps d k f) ≡ 0 → b ≡ false
       go true h = absurd (omega arith)
       go false h = refl
+
+-- The slacks over the lanes of the streams.
+module _ (streams : List Stream) (n : ℕ) (xs ps : List ℕ) (d skip : ℕ) (fs ts ws qs next : List ℕ) (laid : Laid streams n fs ts ws qs next) (w : Walkable streams n xs ps d) where
+  -- A metered stream is one that weighs something.
+  metered-is : (k : ℕ) → k < n → ltb 0 (weightOf (streamAt (take n streams) k)) ≡ streamAt (take n streams) k .metered
+  metered-is k l = rw (getD-take n streams k noStream l) (go (getD streams k noStream .metered) (w .weighed k l))
+    where
+      go : (b : Bool) → (b ≡ true → 1 ≤ getD streams k noStream .weight) → ltb 0 (pick b (getD streams k noStream .weight) 0) ≡ b
+      go true h = lt-ltb 0 (getD streams k noStream .weight) (omega (arith, h refl))
+      go false h = le-ltb 0 0 (omega arith)
+
+  gap-is : (f : Bool) (k : ℕ) → k < n → getD (gapsOf fs ts ws qs xs ps d skip n f) k 0 ≡ slackPast (take n streams) xs ps d skip f k
+  gap-is f k l =
+      gap-at fs ts ws qs xs ps d skip n f k l
+      ∙ rw (laid .weights .each k l, laid .pulls .each k l, laid .starts .each k l, laid .ends .each k l, metered-is k l)
+
+  pub slacked : Slacked streams n xs ps d skip fs ts (gapsOf fs ts ws qs xs ps d skip n true) (gapsOf fs ts ws qs xs ps d skip n false)
+  slacked = record {
+    network = w .searchable .network;
+    held = w .held;
+    step = w .searchable .step;
+    starts = laid .starts .each;
+    ends = laid .ends .each;
+    ahead = gap-is true;
+    back = gap-is false;
+  }
+
+  pub lanes-of : Lanes n fs ts ws qs next xs ps d skip
+  lanes-of = record {
+    few = w .searchable .network .few;
+    from-in = λ k l. rw (laid .starts .each k l) (omega (arith, stream k l .from-in));
+    to-in = λ k l. rw (laid .ends .each k l) (omega (arith, stream k l .to-in));
+    light = λ k l. rw (laid .weights .each k l) (stream k l .light);
+    pulled = laid .pulled;
+    linked = laid .linked;
+    amounts = w .searchable .amounts;
+    prices = w .searchable .prices;
+    step = w .searchable .step;
+    small = λ k f l. omega (arith, small k f l, w .searchable .step);
+  }
+    where
+      stream : (k : ℕ) → k < n → Placed (streamAt (take n streams) k)
+      stream k l = rw (getD-take n streams k noStream l) (w .searchable .network .placed k l)
+
+      small : (k : ℕ) (f : Bool) → k < n → getD (gapsOf fs ts ws qs xs ps d skip n f) k 0 ≤ 2 * maxWeight * d
+      small k true l = slack-small streams n xs ps d skip fs ts _ _ slacked (w .some) k true l
+      small k false l = slack-small streams n xs ps d skip fs ts _ _ slacked (w .some) k false l
 
 pub zeros : (m u : ℕ) → _≡_ {A = ℕ} (getD (replicate m 0) u 0) 0
 zeros zero u = refl
@@ -113,15 +151,15 @@ root-nears n fs ts gs bs s l tails = record {
     only v b t = elim (ℕ-discrete v s) [ yes q ↦ q | no q ↦ clash _ t (getD-set-other (replicate places false) s v true false q ∙ getD-replicate places v false false b) ]
 
 -- The search, from a labelled place e at distance k.
-module _ (streams : List Stream) (n : ℕ) (xs ps : List ℕ) (d : ℕ) (one : 1 ≤ d) (fs ts gs bs : List ℕ) (laid : Laid streams n xs ps d 0 fs ts gs bs) (floor : (u : ℕ) → u < places → mostFall d ≤ getD ps u 0) (es : List ℕ) where
+module _ (streams : List Stream) (n : ℕ) (xs ps : List ℕ) (d : ℕ) (one : 1 ≤ d) (fs ts gs bs : List ℕ) (laid : Slacked streams n xs ps d 0 fs ts gs bs) (floor : (u : ℕ) → u < places → mostFall d ≤ getD ps u 0) (es : List ℕ) where
   abbrev ss : List Stream
   ss = take n streams
 
   abbrev starts : (k : ℕ) → k < n → getD fs k 0 ≡ streamAt ss k .from
-  starts = laid .starts .each
+  starts = laid .starts
 
   abbrev ends : (k : ℕ) → k < n → getD ts k 0 ≡ streamAt ss k .to
-  ends = laid .ends .each
+  ends = laid .ends
 
   pub record Going (l k e : ℕ) (ks near : List ℕ) (t : Tree) : Type 0 where
     pub nears : Nears n fs ts gs bs (t .labelled) ks (k * numbering) e n near

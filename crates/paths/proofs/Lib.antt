@@ -4,6 +4,7 @@ pub mod Least
 pub mod Rounds
 pub mod Elements
 pub mod Filling
+pub mod Listing
 pub mod Nearing
 pub mod Steps
 pub mod Walks

@@ -24,7 +24,7 @@ use Rattle.paths.proofs.Rounds.{path-none, path-stop, path-hit, path-mo
 use Rattle.paths.proofs.Steps.{walk-none, walk-far, walk-hit, walk-more, walk-end}
 use Rattle.paths.proofs.Nearing.{tailOf, headOf, slackOf, overOf, Leads, Nears, relaxed-good, next-good}
 use Rattle.paths.proofs.Walks.{leaving, leads-on, Told, told, none-leads}
-use Rattle.paths.proofs.Finds.{Laid, heads, tails, slack-small, usable-slack, left-alone, zeros, root-nears}
+use Rattle.paths.proofs.Finds.{Slacked, heads, tails, slack-small, usable-slack, left-alone, zeros, root-nears}
 
 -- Only place v has a negative net.
 goal-hit : (v : ℕ) → v < places → getD (goalAt v) v 0 < netShift
@@ -33,15 +33,15 @@ goal-hit v l = rw (getD-set-same (replicate places netShift) v 0 0 l) (omega ari
 goal-miss : (v u : ℕ) → u < places → (u ≡ v → ⊥) → netShift ≤ getD (goalAt v) u 0
 goal-miss v u l q = rw (getD-set-other (replicate places netShift) v u 0 0 q, getD-replicate places u netShift 0 l) (omega arith)
 
-module _ (streams : List Stream) (n : ℕ) (xs ps : List ℕ) (skip : ℕ) (fs ts gs bs : List ℕ) (laid : Laid streams n xs ps 1 skip fs ts gs bs) (v : ℕ) (vl : v < places) where
+module _ (streams : List Stream) (n : ℕ) (xs ps : List ℕ) (skip : ℕ) (fs ts gs bs : List ℕ) (laid : Slacked streams n xs ps 1 skip fs ts gs bs) (v : ℕ) (vl : v < places) where
   abbrev ss : List Stream
   ss = take n streams
 
   abbrev starts : (k : ℕ) → k < n → getD fs k 0 ≡ streamAt ss k .from
-  starts = laid .starts .each
+  starts = laid .starts
 
   abbrev ends : (k : ℕ) → k < n → getD ts k 0 ≡ streamAt ss k .to
-  ends = laid .ends .each
+  ends = laid .ends
 
   -- From place e, all distances 0.
   pub record Tight (e : ℕ) (ks near : List ℕ) (t : Tree) : Type 0 where

@@ -1,17 +1,29 @@
 -- The search by distances: for each place that is not labelled, the stream by which the labelled places come nearest to it. A stream
 -- has two directions, forwards from its start to its end and backwards from its end to its start. In what follows fs are the starts
--- of streams, ts their ends, gs their slacks forwards and bs backwards.
-use mathlib.Core.Bool.{Bool, true, false}
+-- of streams, ts their ends, ws their weights, qs twice the weights times the readings, gs the slacks forwards and bs backwards.
+use mathlib.Core.Bool.{Bool, true, false, _&&_, _||_}
 use mathlib.Core.List.{List, [], _∷_}
 use Prim.Native.Nat.{ℕ, zero, suc, _+_, _-_, _*_, _/_, _%_}
 use lib.Dec.{eqb, ltb}
 use lib.ListN.{getD, set, replicate}
 use Rattle.numbers.specs.Choice.{pick}
-use Rattle.plants.specs.Limits.{places}
+use Rattle.plants.specs.Limits.{places, maxStreams}
+use Rattle.flows.specs.Flows.{values}
 use Rattle.paths.specs.declared.Tree.{Tree}
 use Rattle.paths.specs.declared.Walked.{Walked}
 use Rattle.paths.specs.Sizes.{netShift, far, numbering}
+use Rattle.paths.specs.Slack.{gapBy}
 use Rattle.paths.specs.Search.{fallen, addedTo}
+
+-- The slacks of the first n streams in one direction; a metered one, whose weight is not 0, before number skip counts as one with slack.
+abbrev pub gapsOf : List ℕ → List ℕ → List ℕ → List ℕ → List ℕ → List ℕ → ℕ → ℕ → ℕ → Bool → List ℕ
+gapsOf fs ts ws qs xs ps d skip n f =
+    values n (λ k. pick (ltb 0 (getD ws k 0) && ltb k skip) 1 (gapBy (getD ws k 0) (getD qs k 0) f (getD xs k 0) (getD ps (getD fs k 0) 0) (getD ps (getD ts k 0) 0) d))
+
+-- The last of the first n streams that starts or ends at place u; maxStreams where there is none.
+unfoldable pub lastAt : List ℕ → List ℕ → ℕ → ℕ → ℕ
+lastAt fs ts u zero = maxStreams
+lastAt fs ts u (suc n) = pick (eqb (getD fs n 0) u || eqb (getD ts n 0) u) n (lastAt fs ts u n)
 
 -- A distance k and the number i of the stream that leads there, as one number.
 abbrev pub codeOf : ℕ → ℕ → ℕ

@@ -11,13 +11,12 @@ use Rattle.flows.specs.Certificate.{weightOf}
 use Rattle.paths.specs.Held.{readingOf}
 
 -- The slack of a stream: what the price of its labelled end has to fall before d moved along it, forwards or backwards, keeps the
--- step condition.
+-- step condition. In numbers: w is its weight, and q twice the weight times its reading.
+abbrev pub gapBy : ℕ → ℕ → Bool → ℕ → ℕ → ℕ → ℕ → ℕ
+gapBy w q forwards x pu pv d = pick forwards ((2 * (w * x) + w * d + pu) - (pv + q)) ((pv + q + w * d) - (2 * (w * x) + pu))
+
 abbrev pub slackBy : Stream → Bool → ℕ → ℕ → ℕ → ℕ → ℕ
-slackBy s forwards x pu pv d =
-    let w = weightOf s in
-    pick forwards
-    ((2 * (w * x) + w * d + pu) - (pv + 2 * (w * readingOf s)))
-    ((pv + 2 * (w * readingOf s) + w * d) - (2 * (w * x) + pu))
+slackBy s forwards x pu pv d = gapBy (weightOf s) (2 * (weightOf s * readingOf s)) forwards x pu pv d
 
 -- The slack of stream k, with the amounts xs and the prices ps.
 abbrev pub slackAt : List Stream → List ℕ → List ℕ → ℕ → ℕ → Bool → ℕ

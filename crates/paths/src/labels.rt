@@ -1,7 +1,6 @@
 // The search over labelled places.
 use crate::Searched;
-use crate::lanes::places_of;
-use crate::lanes::slacks_of;
+use crate::lanes::CELLS;
 use crate::sizes::FAR;
 use crate::sizes::NET_SHIFT;
 use crate::slacks::minus;
@@ -16,7 +15,7 @@ ghost use Rattle.plants.specs.Limits.{places};
 ghost use Rattle.paths.specs.Sizes.{rounds};
 ghost use Rattle.paths.specs.Search.{rootAt, grownBy, grow, tightPath};
 ghost use Rattle.paths.specs.Near.{goalAt, reducedBy};
-ghost use Rattle.paths.specs.Premises.{Walkable, Falling};
+ghost use Rattle.paths.specs.Premises.{Laid, Walkable, Falling};
 
 // The prices of labelled places fall by what the search's distance exceeds theirs.
 fn reduce(prices: &mut [u64; PLACES], labelled: &[bool; PLACES], dist: &[u64; PLACES], reach: u64)
@@ -33,24 +32,25 @@ fn reduce(prices: &mut [u64; PLACES], labelled: &[bool; PLACES], dist: &[u64; PL
 }
 
 // Places are labelled, each over the stream of least slack and with the prices lowered by it, until one with a negative net is.
-// (The walk goes by distances, and the prices fall once, at its end.)
+// (The walk goes over the lanes of the streams by distances, and the prices fall once, at its end.)
 pub fn search(
     streams: [Stream; MAX_STREAMS],
     count: usize,
+    from: &[u8; MAX_STREAMS],
+    to: &[u8; MAX_STREAMS],
+    weight: &[u64; MAX_STREAMS],
+    pull: &[u64; MAX_STREAMS],
+    next: &[u8; CELLS],
     flows: &[u64; MAX_STREAMS],
     prices: &mut [u64; PLACES],
     nets: &[u64; PLACES],
     s: u8,
     delta: u64,
 ) -> Searched
-    requires { ⌜ Walkable streams count (now flows) (now prices) delta × (s < places) × Falling (now prices) delta ⌝ }
+    requires { ⌜ Laid streams count (now from) (now to) (now weight) (now pull) (now next) × Walkable streams count (now flows) (now prices) delta × (s < places) × Falling (now prices) delta ⌝ }
     ensures { λ r. ⌜ grownBy (r .found) (r .tree) (now (prices .exit)) ≡ grow (take count streams) count (now (flows .entry)) (now (nets .entry)) delta rounds (now (prices .entry)) (rootAt s) ⌝ }
 {
-    let from = places_of(streams, count, true);
-    let to = places_of(streams, count, false);
-    let ahead = slacks_of(streams, count, flows, prices, delta, 0, true);
-    let back = slacks_of(streams, count, flows, prices, delta, 0, false);
-    let w = walk(&from, &to, &ahead, &back, count, nets, s, FAR);
+    let w = walk(from, to, weight, pull, next, count, flows, prices, delta, 0, nets, s, FAR);
     let t = w.tree;
     let labelled = t.labelled;
     let dist = w.dist;
@@ -75,21 +75,22 @@ fn goal(v: u8) -> [u64; PLACES]
 pub fn tight_path(
     streams: [Stream; MAX_STREAMS],
     count: usize,
+    from: &[u8; MAX_STREAMS],
+    to: &[u8; MAX_STREAMS],
+    weight: &[u64; MAX_STREAMS],
+    pull: &[u64; MAX_STREAMS],
+    next: &[u8; CELLS],
     flows: &[u64; MAX_STREAMS],
     prices: &[u64; PLACES],
     s: u8,
     v: u8,
     skip: usize,
 ) -> Searched
-    requires { ⌜ Walkable streams count (now flows) (now prices) 1 × (s < places) × (v < places) ⌝ }
+    requires { ⌜ Laid streams count (now from) (now to) (now weight) (now pull) (now next) × Walkable streams count (now flows) (now prices) 1 × (s < places) × (v < places) ⌝ }
     ensures { λ r. ⌜ grownBy (r .found) (r .tree) (now (prices .entry)) ≡ tightPath (take count streams) count (now (flows .entry)) (now (prices .entry)) v skip rounds (rootAt s) ⌝ }
 {
-    let from = places_of(streams, count, true);
-    let to = places_of(streams, count, false);
-    let ahead = slacks_of(streams, count, flows, prices, 1, skip, true);
-    let back = slacks_of(streams, count, flows, prices, 1, skip, false);
     let nets = goal(v);
-    let w = walk(&from, &to, &ahead, &back, count, &nets, s, 0);
+    let w = walk(from, to, weight, pull, next, count, flows, prices, 1, skip, &nets, s, 0);
     let t = w.tree;
     Searched {
         found: w.found,

@@ -1,18 +1,23 @@
-// The starts, the ends and the slacks of the streams, each as an array of numbers.
-use crate::slacks::slack;
+// The streams as arrays of numbers, and for each place the streams that start or end there.
+use crate::Arrays;
+use crate::slacks::pull_of_reading;
+use crate::slacks::weight_of;
 use plants::Stream;
 use plants::limits::MAX_STREAMS;
 use plants::limits::PLACES;
-ghost use mathlib.Core.Bool.{_&&_};
 ghost use mathlib.Core.Path.{_≡_};
-ghost use Prim.Native.Nat.{_≤_};
-ghost use lib.Dec.{ltb};
-ghost use lib.ListN.{take};
+ghost use Prim.Native.Nat.{ℕ, _*_, _≤_, _<_};
+ghost use lib.ListN.{getD, take};
 ghost use Rattle.numbers.specs.Choice.{pick};
+ghost use Rattle.plants.specs.Limits.{places, maxStreams};
 ghost use Rattle.flows.specs.Flows.{streamAt};
-ghost use Rattle.paths.specs.Sizes.{mostFlow, mostStep};
-ghost use Rattle.paths.specs.Slack.{slackBy, slackPast};
-ghost use Rattle.paths.specs.Premises.{Placed, Sized, Network, Searchable, Lane};
+ghost use Rattle.flows.specs.Certificate.{weightOf};
+ghost use Rattle.paths.specs.Sizes.{mostPull};
+ghost use Rattle.paths.specs.Held.{readingOf};
+ghost use Rattle.paths.specs.Premises.{Network, Lane, Linked, Laid};
+
+// The cells of the lists of streams: one for each place, and two for each stream.
+pub const CELLS: usize = PLACES + 2 * MAX_STREAMS;
 
 // The place where a stream starts, or where it ends.
 fn place_of(s: Stream, start: bool) -> u8
@@ -22,7 +27,7 @@ fn place_of(s: Stream, start: bool) -> u8
 }
 
 // Of each stream.
-pub fn places_of(streams: [Stream; MAX_STREAMS], count: usize, start: bool) -> [u8; MAX_STREAMS]
+fn places_of(streams: [Stream; MAX_STREAMS], count: usize, start: bool) -> [u8; MAX_STREAMS]
     requires { ⌜ Network streams count ⌝ }
     ensures { λ r. ⌜ Lane count (λ k. pick start (streamAt (take count streams) k .from) (streamAt (take count streams) k .to)) r ⌝ }
 {
@@ -35,54 +40,68 @@ pub fn places_of(streams: [Stream; MAX_STREAMS], count: usize, start: bool) -> [
     r
 }
 
-// Metered streams before number skip are left alone.
-fn skips(s: Stream, i: usize, skip: usize) -> bool
-    ensures { λ r. ⌜ r ≡ (s .metered && ltb i skip) ⌝ }
-{
-    if s.metered { i < skip } else { false }
-}
-
-// The slack of stream i in one direction; 1 where it is left alone.
-fn slack_past(
-    s: Stream,
-    i: usize,
-    forwards: bool,
-    x: u64,
-    pu: u64,
-    pv: u64,
-    delta: u64,
-    skip: usize,
-) -> u64
-    requires { ⌜ Placed s × Sized x pu pv delta ⌝ }
-    ensures { λ r. ⌜ r ≡ pick (s .metered && ltb i skip) 1 (slackBy s forwards x pu pv delta) ⌝ }
-{
-    if skips(s, i, skip) {
-        return 1;
-    }
-    slack(s, forwards, x, pu, pv, delta)
-}
-
-// The slacks of all streams in one direction.
-pub fn slacks_of(
-    streams: [Stream; MAX_STREAMS],
-    count: usize,
-    flows: &[u64; MAX_STREAMS],
-    prices: &[u64; PLACES],
-    delta: u64,
-    skip: usize,
-    forwards: bool,
-) -> [u64; MAX_STREAMS]
-    requires { ⌜ Searchable streams count (now flows) (now prices) delta ⌝ }
-    ensures { λ r. ⌜ Lane count (slackPast (take count streams) (now (flows .entry)) (now (prices .entry)) delta skip forwards) r ⌝ }
+// The weight of each stream.
+fn weights_of(streams: [Stream; MAX_STREAMS], count: usize) -> [u64; MAX_STREAMS]
+    requires { ⌜ Network streams count ⌝ }
+    ensures { λ r. ⌜ Lane count (λ k. weightOf (streamAt (take count streams) k)) r ⌝ }
 {
     let mut r = [0u64; MAX_STREAMS];
     let mut i: usize = 0;
     while i < count {
-        let s = streams[i];
-        let u = s.from as usize;
-        let v = s.to as usize;
-        r[i] = slack_past(s, i, forwards, flows[i], prices[u], prices[v], delta, skip);
+        r[i] = weight_of(streams[i]);
         i += 1;
     }
     r
+}
+
+// Twice the weight times the reading of each stream.
+fn pulls_of(streams: [Stream; MAX_STREAMS], count: usize) -> [u64; MAX_STREAMS]
+    requires { ⌜ Network streams count ⌝ }
+    ensures { λ r. ⌜ Lane count (λ k. 2 * (weightOf (streamAt (take count streams) k) * readingOf (streamAt (take count streams) k))) r × ((k : ℕ) → k < count → getD r k 0 ≤ 2 * mostPull) ⌝ }
+{
+    let mut r = [0u64; MAX_STREAMS];
+    let mut i: usize = 0;
+    while i < count {
+        r[i] = 2 * pull_of_reading(streams[i]);
+        i += 1;
+    }
+    r
+}
+
+// The lists of streams: for each place the last stream there, for each stream the one before it at its start and at its end.
+fn links_of(from: &[u8; MAX_STREAMS], to: &[u8; MAX_STREAMS], count: usize) -> [u8; CELLS]
+    requires { ⌜ (count ≤ maxStreams) × ((k : ℕ) → k < count → getD (now from) k 0 < places) × ((k : ℕ) → k < count → getD (now to) k 0 < places) ⌝ }
+    ensures { λ r. ⌜ Linked count (now (from .entry)) (now (to .entry)) r ⌝ }
+{
+    let mut next = [MAX_STREAMS as u8; CELLS];
+    let mut i: usize = 0;
+    while i < count {
+        let u = from[i] as usize;
+        let v = to[i] as usize;
+        next[PLACES + i] = next[u];
+        next[PLACES + MAX_STREAMS + i] = next[v];
+        next[u] = i as u8;
+        next[v] = i as u8;
+        i += 1;
+    }
+    next
+}
+
+// The streams as arrays.
+pub fn lay(streams: [Stream; MAX_STREAMS], count: usize) -> Arrays
+    requires { ⌜ Network streams count ⌝ }
+    ensures { λ r. ⌜ Laid streams count (r .from) (r .to) (r .weight) (r .pull) (r .next) ⌝ }
+{
+    let from = places_of(streams, count, true);
+    let to = places_of(streams, count, false);
+    let weight = weights_of(streams, count);
+    let pull = pulls_of(streams, count);
+    let next = links_of(&from, &to, count);
+    Arrays {
+        from: from,
+        to: to,
+        weight: weight,
+        pull: pull,
+        next: next,
+    }
 }

@@ -3,10 +3,11 @@ use crate::sizes::FLOW_SHIFT;
 use plants::Stream;
 ghost use mathlib.Core.Path.{_≡_};
 ghost use Prim.Native.Nat.{_+_, _-_, _*_, _≤_};
+ghost use Rattle.plants.specs.Limits.{maxWeight};
 ghost use Rattle.paths.specs.Sizes.{mostFlow, mostPull};
 ghost use Rattle.flows.specs.Certificate.{weightOf};
 ghost use Rattle.paths.specs.Held.{readingOf};
-ghost use Rattle.paths.specs.Slack.{slackBy};
+ghost use Rattle.paths.specs.Slack.{gapBy, slackBy};
 ghost use Rattle.paths.specs.Premises.{Placed, Sized};
 
 // A stream's weight; an unmetered stream counts as one of weight 0.
@@ -24,21 +25,12 @@ pub fn reading_of(s: Stream) -> u64
     (r + FLOW_SHIFT as i64) as u64
 }
 
-// Weight times an amount.
-fn pull(s: Stream, x: u64) -> u64
-    requires { ⌜ Placed s × (x ≤ mostFlow) ⌝ }
-    ensures { λ r. ⌜ (r ≡ weightOf s * x) × (r ≤ mostPull) ⌝ }
-{
-    weight_of(s) * x
-}
-
 // Weight times the reading.
-fn pull_of_reading(s: Stream) -> u64
+pub fn pull_of_reading(s: Stream) -> u64
     requires { ⌜ Placed s ⌝ }
     ensures { λ r. ⌜ (r ≡ weightOf s * readingOf s) × (r ≤ mostPull) ⌝ }
 {
-    let r = reading_of(s);
-    pull(s, r)
+    weight_of(s) * reading_of(s)
 }
 
 // a − b, 0 where b is more.
@@ -48,17 +40,25 @@ pub fn minus(a: u64, b: u64) -> u64
     if a < b { 0 } else { a - b }
 }
 
-// What is missing before delta can be moved along a stream, forwards or backwards, at the prices pu of its start and pv of its end.
-pub fn slack(s: Stream, forwards: bool, x: u64, pu: u64, pv: u64, delta: u64) -> u64
-    requires { ⌜ Placed s × Sized x pu pv delta ⌝ }
-    ensures { λ r. ⌜ r ≡ slackBy s forwards x pu pv delta ⌝ }
+// What is missing before delta can be moved along a stream, forwards or backwards, at the prices pu of its start and pv of its end;
+// by its weight and twice its weight times its reading.
+pub fn gap(w: u64, read: u64, forwards: bool, x: u64, pu: u64, pv: u64, delta: u64) -> u64
+    requires { ⌜ (w ≤ maxWeight) × (read ≤ 2 * mostPull) × Sized x pu pv delta ⌝ }
+    ensures { λ r. ⌜ r ≡ gapBy w read forwards x pu pv delta ⌝ }
 {
-    let at = 2 * pull(s, x);
-    let read = 2 * pull_of_reading(s);
-    let step = pull(s, delta);
+    let at = 2 * (w * x);
+    let step = w * delta;
     if forwards {
         minus(at + step + pu, pv + read)
     } else {
         minus(pv + read + step, at + pu)
     }
+}
+
+// By the stream.
+pub fn slack(s: Stream, forwards: bool, x: u64, pu: u64, pv: u64, delta: u64) -> u64
+    requires { ⌜ Placed s × Sized x pu pv delta ⌝ }
+    ensures { λ r. ⌜ r ≡ slackBy s forwards x pu pv delta ⌝ }
+{
+    gap(weight_of(s), 2 * pull_of_reading(s), forwards, x, pu, pv, delta)
 }

@@ -24,9 +24,8 @@ use Rattle.paths.proofs.Pushing.{reached, reached-new, Pushed, push-good}
 use Rattle.paths.proofs.Growing.{Plain}
 use Rattle.paths.proofs.Hunting.{Hunt, hunt}
 use Rattle.solver.specs.declared.State.{State}
-use Rattle.solver.specs.declared.Improved.{Improved}
 use Rattle.solver.specs.Sizes.{stepFall}
-use Rattle.solver.specs.Model.{firstOver, shiftedNets, pushedOn, improvedAt, improved, improvements, overSum}
+use Rattle.solver.specs.Model.{Improved, firstOver, shiftedNets, pushedOn, improvedAt, improved, improvements, overSum}
 use Rattle.solver.specs.Premises.{Sound}
 
 -- The first place with a net of d or more.

@@ -1,12 +1,12 @@
 -- The tie pass over the array: one stream by its parts, and what the push round it needs.
 use mathlib.Core.Path.{_≡_, refl, sym, _∙_, ap, subst}
-use mathlib.Core.Bool.{Bool, true, false}
+use mathlib.Core.Bool.{Bool, true, false, _&&_}
 use mathlib.Core.List.{List}
-use Prim.Native.Nat.{ℕ, suc, _+_, _-_, _≤_, _<_}
+use Prim.Native.Nat.{ℕ, zero, suc, _+_, _-_, _≤_, _<_}
 use native.Mathlib.Numerals.{add-one}
 use native.Mathlib.Omega.{arith}
-use borrow.Author.Tests.{lt-ltb, le-ltb}
-use lib.Dec.{ltb}
+use borrow.Author.Tests.{lt-ltb, le-ltb, eqb-true, eqb-false}
+use lib.Dec.{eqb, ltb}
 use lib.ListN.{length, getD, set, take}
 use Rattle.numbers.specs.Choice.{pick}
 use Rattle.numbers.proofs.Tests.{clash}
@@ -16,14 +16,14 @@ use Rattle.plants.specs.Plants.{noStream}
 use Rattle.flows.specs.Flows.{streamAt}
 use Rattle.paths.specs.declared.Tree.{Tree}
 use Rattle.paths.specs.Sizes.{rounds}
-use Rattle.paths.specs.Slack.{slackBy}
+use Rattle.paths.specs.Slack.{gapBy, slackBy}
 use Rattle.paths.specs.Search.{rootAt, Grown, tightPath}
 use Rattle.paths.specs.Push.{pushed}
-use Rattle.paths.specs.Premises.{Trail, Roomy}
+use Rattle.paths.specs.Premises.{Trail, Roomy, Laid}
 use Rattle.paths.proofs.Counting.{count-most}
 use Rattle.paths.proofs.TightPath.{Path, way, shut}
 use Rattle.solver.specs.Model.{tiedBy, tiedAt, tiesTo}
-use Rattle.solver.specs.Premises.{Layout, Even}
+use Rattle.solver.specs.Premises.{Layout, Even, Falls}
 use Rattle.solver.proofs.Turns.{stream-is}
 use Rattle.solver.proofs.Layouts.{used, solvable-of}
 use Rattle.solver.proofs.Detours.{round-path, left-some, ties-even}
@@ -97,6 +97,43 @@ module _ (streams : List Stream) (n : ℕ) (w : Layout streams n) (ps : List ℕ
             };
             some = rw at at (left-some ss (solvable-of streams n w) ps i li xs h (rw at e) (rw at (omega arith)) (g .tree) (rw at a) (rw at r) u);
           }
+
+-- The test by the arrays of the streams.
+module _ (streams : List Stream) (n : ℕ) (w : Layout streams n) (ps : List ℕ) (i : ℕ) (l : i < n) (xs fs ts ws qs next : List ℕ) (laid : Laid streams n fs ts ws qs next) where
+  pub starts-at : getD fs i 0 ≡ getD streams i noStream .from
+  starts-at = laid .starts .each i l ∙ ap (λ (s : Stream). s .from) (stream-is streams n i l)
+
+  pub ends-at : getD ts i 0 ≡ getD streams i noStream .to
+  ends-at = laid .ends .each i l ∙ ap (λ (s : Stream). s .to) (stream-is streams n i l)
+
+  abbrev test : Bool
+  test = ltb 0 (getD ws i 0) && eqb (gapBy (getD ws i 0) (getD qs i 0) false (getD xs i 0) (getD ps (getD fs i 0) 0) (getD ps (getD ts i 0) 0) 1) 0
+
+  test-is : test ≡ (getD streams i noStream .metered && eqb (lack streams n w ps i l xs) 0)
+  test-is = rw (laid .weights .each i l, laid .pulls .each i l, starts-at, ends-at, stream-is streams n i l) (go (getD streams i noStream .metered) (w .weighed i l))
+    where
+      go : (b : Bool) → (b ≡ true → 1 ≤ getD streams i noStream .weight)
+          → (ltb 0 (pick b (getD streams i noStream .weight) 0) && eqb (lack streams n w ps i l xs) 0) ≡ (b && eqb (lack streams n w ps i l xs) 0)
+      go true h = rw (lt-ltb 0 (getD streams i noStream .weight) (omega (arith, h refl)))
+      go false h = rw (le-ltb 0 0 (omega arith))
+
+  pub falls : test ≡ true → Falls streams ps i xs
+  falls e = go (getD streams i noStream .metered) refl (sym test-is ∙ e)
+    where
+      go : (b : Bool) → getD streams i noStream .metered ≡ b → (b && eqb (lack streams n w ps i l xs) 0) ≡ true → Falls streams ps i xs
+      go true m h = record { metered = m; tight = omega (arith, eqb-true (lack streams n w ps i l xs) 0 h) }
+      go false m h = clash false h refl
+
+  pub stays : test ≡ false → tiedAt (take n streams) ps i xs ≡ xs
+  stays e = go (getD streams i noStream .metered) refl (sym test-is ∙ e)
+    where
+      go : (b : Bool) → getD streams i noStream .metered ≡ b → (b && eqb (lack streams n w ps i l xs) 0) ≡ false → tiedAt (take n streams) ps i xs ≡ xs
+      go true m h = tied-slack streams n w ps i l xs m (go-lack (lack streams n w ps i l xs) (eqb-false (lack streams n w ps i l xs) 0 h))
+        where
+          go-lack : (a : ℕ) → (a ≡ 0 → ⊥) → 0 < a
+          go-lack zero q = absurd (q refl)
+          go-lack (suc a) q = omega arith
+      go false m h = tied-free streams n w ps i l xs m
 
 -- The pass.
 pub tying-even : (streams : List Stream) (n : ℕ) (w : Layout streams n) (ps xs : List ℕ) → Even (take n streams) ps 0 xs → (i : ℕ) → i ≤ n

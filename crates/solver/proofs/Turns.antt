@@ -8,6 +8,7 @@ use native.Mathlib.Numerals.{add-one}
 use native.Mathlib.Omega.{arith}
 use native.Mathlib.Decide.{decLe, ℕ-discrete}
 use borrow.Author.Tests.{eq-eqb, ne-eqb}
+use lib.Dec.{eqb}
 use lib.ListN.{length, getD, set, take, replicate}
 use lib.Seq.{getD-set-same, getD-set-other, getD-take, length-take-le}
 use Rattle.numbers.specs.Choice.{pick}
@@ -26,9 +27,8 @@ use Rattle.paths.proofs.Counting.{count-most}
 use Rattle.paths.proofs.Growing.{Plain}
 use Rattle.paths.proofs.Hunting.{Hunt}
 use Rattle.solver.specs.declared.State.{State}
-use Rattle.solver.specs.declared.Improved.{Improved}
 use Rattle.solver.specs.Sizes.{stepFall}
-use Rattle.solver.specs.Model.{settledOf, settledTo, booked, netsTo, firstOver, pushedOn, improved, improvements, overSum}
+use Rattle.solver.specs.Model.{Improved, improvedBy, asIs, settledOf, settledTo, booked, netsTo, firstOver, pushedOn, improved, improvements, overSum}
 use Rattle.solver.specs.Premises.{Allows, Shiftable}
 use Rattle.solver.proofs.Booking.{net-most}
 use Rattle.solver.proofs.Steady.{First, first-over, nets-val, sound-more, Outcome, none-over, better, finds, improved-good}
@@ -89,6 +89,24 @@ pub improved-done : (ss : List Stream) (n : ℕ) (st : State) (d s : ℕ) (g : G
     → g ≡ grow ss n (st .flows) (st .nets) d rounds (st .prices) (rootAt s) → g .found ≡ true → improved ss st d ≡ record { done = true; state = pushedOn ss st d s g }
 unfolding improved
 improved-done ss n st d s g c e z q f = rw (← e, ne-eqb s places z, c, ← q, f)
+
+-- Where none is made, the state is as it was.
+pub improved-same : (ss : List Stream) (st : State) (d : ℕ) (r : Improved) → r ≡ improved ss st d → r .done ≡ false → r .state ≡ st
+unfolding improved
+improved-same ss st d r e f =
+    ap (λ (i : Improved). i .state) e
+    ∙ go (eqb (firstOver (st .nets) d) places)
+    (grow ss (length ss) (st .flows) (st .nets) d rounds (st .prices) (rootAt (firstOver (st .nets) d))) (ap (λ (i : Improved). i .done) (sym e) ∙ f)
+  where
+    on : (b : Bool) (s : State) → pick b (improvedBy true s) (asIs st) .done ≡ false → pick b (improvedBy true s) (asIs st) .state ≡ st
+    on true s h = clash true refl h
+    on false s h = refl
+
+    go : (b : Bool) (g : Grown)
+        → pick b (asIs st) (pick (g .found) (improvedBy true (pushedOn ss st d (firstOver (st .nets) d) g)) (asIs st)) .done ≡ false
+        → pick b (asIs st) (pick (g .found) (improvedBy true (pushedOn ss st d (firstOver (st .nets) d) g)) (asIs st)) .state ≡ st
+    go true g h = refl
+    go false g h = on (g .found) (pushedOn ss st d (firstOver (st .nets) d) g) h
 
 -- What is known once the search is done.
 pub record Moving (n : ℕ) (st : State) (s d : ℕ) (found : Bool) (t : Tree) : Type 0 where

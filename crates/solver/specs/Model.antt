@@ -1,6 +1,6 @@
 -- The solver as definitions, over held amounts, prices and nets: settle, improve, finish, ties. (Slack, search and push are those of
 -- crate paths. Of a hint only ranges are asked, in Premises.)
-use mathlib.Core.Bool.{true, false}
+use mathlib.Core.Bool.{Bool, true, false}
 use mathlib.Core.List.{List, [], _∷_}
 use Prim.Native.Nat.{ℕ, zero, suc, _+_, _-_, _*_, _/_}
 use lib.Dec.{eqb, ltb, leb}
@@ -17,7 +17,6 @@ use Rattle.paths.specs.Search.{rootAt, target, Grown, grow, tightPath}
 use Rattle.paths.specs.Push.{pushed}
 use Rattle.solver.specs.declared.Hint.{Hint}
 use Rattle.solver.specs.declared.State.{State}
-use Rattle.solver.specs.declared.Improved.{Improved}
 use Rattle.solver.specs.declared.Solved.{Solved}
 use Rattle.solver.specs.Sizes.{spread, leftoverLimit, fuel}
 
@@ -66,9 +65,21 @@ firstOver (e ∷ es) d = pick (leb (netShift + d) e) 0 (suc (firstOver es d))
 abbrev pub shiftedNets : List ℕ → ℕ → ℕ → ℕ → List ℕ
 shiftedNets es s v d = let fs = set es s (getD es s 0 - d) in set fs v (getD fs v 0 + d)
 
+-- A state by its parts.
+abbrev pub stateOf : List ℕ → List ℕ → List ℕ → State
+stateOf xs ps es = record { flows = xs; prices = ps; nets = es }
+
+-- A state after an improvement; done is false where there was none to make.
+pub record Improved : Type 0 where
+  pub done : Bool
+  pub state : State
+
+abbrev pub improvedBy : Bool → State → Improved
+improvedBy b st = record { done = b; state = st }
+
 -- No improvement.
 abbrev pub asIs : State → Improved
-asIs st = record { done = false; state = st }
+asIs st = improvedBy false st
 
 -- From place s: a search to a place with a negative net, and d pushed along the way to it.
 abbrev pub pushedOn : List Stream → State → ℕ → ℕ → Grown → State

@@ -13,6 +13,7 @@ use Rattle.flows.specs.Certificate.{weightOf}
 use Rattle.flows.proofs.Nets.{netOf}
 use Rattle.paths.specs.Sizes.{flowShift, mostFlow, priceShift, netShift, mostStep, pushRoom}
 use Rattle.paths.specs.Held.{unshifted, AllHeld}
+use Rattle.paths.specs.Slack.{slackBy}
 use Rattle.paths.specs.Premises.{Placed, Network, Prices}
 use Rattle.solver.specs.declared.Hint.{Hint}
 use Rattle.solver.specs.declared.State.{State}
@@ -119,3 +120,9 @@ pub record Even (ss : List Stream) (ps : List ℕ) (i : ℕ) (xs : List ℕ) : T
   pub held : AllHeld ss xs ps 1
   pub level : (u : ℕ) → u < places → netOf ss (λ k. unshifted (getD xs k 0)) u ≡ pos 0
   pub close : (k : ℕ) → k < maxStreams → Close (settledRoom + i) (getD xs k 0)
+
+-- Stream i is metered, and its amount can fall at no cost.
+pub record Falls (streams : List Stream) (ps : List ℕ) (i : ℕ) (xs : List ℕ) : Type 0 where
+  pub metered : getD streams i noStream .metered ≡ true
+  pub tight :
+      slackBy (getD streams i noStream) false (getD xs i 0) (getD ps (getD streams i noStream .from) 0) (getD ps (getD streams i noStream .to) 0) 1 ≤ 0

@@ -1,7 +1,8 @@
 // Improvements: net is moved from a place that has too much to one that has too little, at the least cost.
-use crate::Improved;
 use crate::State;
 use paths::labels::search;
+use paths::lanes::CELLS;
+use paths::lanes::lay;
 use paths::pushes::push_back;
 use paths::sizes::NET_SHIFT;
 use plants::Stream;
@@ -12,9 +13,9 @@ ghost use Prim.Native.Nat.{_≤_, _<_};
 ghost use lib.ListN.{length, take};
 ghost use Rattle.plants.specs.Limits.{places};
 ghost use Rattle.paths.specs.Sizes.{mostStep};
-ghost use Rattle.paths.specs.Premises.{Network};
-ghost use Rattle.solver.specs.Model.{firstOver, shiftedNets, asIs, improved, improvements};
-ghost use Rattle.solver.specs.Premises.{Step, Shiftable, Allows};
+ghost use Rattle.paths.specs.Premises.{Laid};
+ghost use Rattle.solver.specs.Model.{firstOver, shiftedNets, stateOf, improvedBy, improved, improvements};
+ghost use Rattle.solver.specs.Premises.{Layout, Step, Shiftable, Allows};
 
 // The first place with a net of delta or more, PLACES where there is none.
 fn first_over(nets: &[u64; PLACES], delta: u64) -> usize
@@ -40,50 +41,39 @@ fn shift_nets(nets: &mut [u64; PLACES], s: usize, v: usize, delta: u64)
     nets[v] = nets[v] + delta;
 }
 
-// No improvement.
-fn as_is(st: State) -> Improved
-    ensures { λ r. ⌜ r ≡ asIs st ⌝ }
+// One improvement at step delta, from the first place with so much net; false where there is none to make.
+fn improve(
+    streams: [Stream; MAX_STREAMS],
+    count: usize,
+    from: &[u8; MAX_STREAMS],
+    to: &[u8; MAX_STREAMS],
+    weight: &[u64; MAX_STREAMS],
+    pull: &[u64; MAX_STREAMS],
+    next: &[u8; CELLS],
+    flows: &mut [u64; MAX_STREAMS],
+    prices: &mut [u64; PLACES],
+    nets: &mut [u64; PLACES],
+    delta: u64,
+) -> bool
+    requires { ⌜ Layout streams count × Laid streams count (now from) (now to) (now weight) (now pull) (now next) × Step delta × Allows (take count streams) delta 1 (stateOf (now flows) (now prices) (now nets)) ⌝ }
+    ensures { λ r. ⌜ improvedBy r (stateOf (now (flows .exit)) (now (prices .exit)) (now (nets .exit))) ≡ improved (take count streams) (stateOf (now (flows .entry)) (now (prices .entry)) (now (nets .entry))) delta ⌝ }
 {
-    Improved {
-        done: false,
-        state: st,
-    }
-}
-
-// One improvement at step delta, from the first place with so much net.
-fn improve(streams: [Stream; MAX_STREAMS], count: usize, st: State, delta: u64) -> Improved
-    requires { ⌜ Network streams count × Step delta × Allows (take count streams) delta 1 st ⌝ }
-    ensures { λ r. ⌜ r ≡ improved (take count streams) st delta ⌝ }
-{
-    let nets = st.nets;
-    let s = first_over(&nets, delta);
+    let s = first_over(nets, delta);
     if s == PLACES {
-        return as_is(st);
+        return false;
     }
-    let old = st.flows;
-    let mut prices = st.prices;
-    let h = search(streams, count, &old, &mut prices, &nets, s as u8, delta);
+    let h = search(streams, count, from, to, weight, pull, next, flows, prices, nets, s as u8, delta);
     if !h.found {
-        return as_is(st);
+        return false;
     }
     let t = h.tree;
     let via = t.via;
     let ends = t.ends;
     let len = t.len;
     let target = ends[len - 1];
-    let mut flows = st.flows;
-    push_back(streams, count, &mut flows, &via, &ends, len, target, delta);
-    let mut moved = st.nets;
-    shift_nets(&mut moved, s, target as usize, delta);
-    let next = State {
-        flows: flows,
-        prices: prices,
-        nets: moved,
-    };
-    Improved {
-        done: true,
-        state: next,
-    }
+    push_back(streams, count, flows, &via, &ends, len, target, delta);
+    shift_nets(nets, s, target as usize, delta);
+    true
 }
 
 // As many improvements at step delta as there are to make, at most budget.
@@ -94,18 +84,32 @@ pub fn improve_all(
     delta: u64,
     budget: u64,
 ) -> State
-    requires { ⌜ Network streams count × Step delta × Allows (take count streams) delta budget start ⌝ }
+    requires { ⌜ Layout streams count × Step delta × Allows (take count streams) delta budget start ⌝ }
     ensures { λ r. ⌜ r ≡ improvements budget (take count streams) delta start ⌝ }
 {
-    let mut st = start;
+    let l = lay(streams, count);
+    let from = l.from;
+    let to = l.to;
+    let weight = l.weight;
+    let pull = l.pull;
+    let next = l.next;
+    let mut flows = start.flows;
+    let mut prices = start.prices;
+    let mut nets = start.nets;
     let mut left = budget;
     while 0 < left {
-        let r = improve(streams, count, st, delta);
-        if !r.done {
-            return st;
+        if !improve(streams, count, &from, &to, &weight, &pull, &next, &mut flows, &mut prices, &mut nets, delta) {
+            return State {
+                flows: flows,
+                prices: prices,
+                nets: nets,
+            };
         }
-        st = r.state;
         left -= 1;
     }
-    st
+    State {
+        flows: flows,
+        prices: prices,
+        nets: nets,
+    }
 }

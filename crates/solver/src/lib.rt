@@ -46,12 +46,6 @@ pub struct State {
     pub nets: [u64; PLACES],
 }
 
-// A state after an improvement; done is false where there was none to make.
-pub struct Improved {
-    pub done: bool,
-    pub state: State,
-}
-
 // The flow and the prices that certify it.
 pub struct Solved {
     pub flows: [u64; MAX_STREAMS],

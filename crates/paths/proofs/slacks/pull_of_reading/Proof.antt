@@ -1,20 +1,28 @@
--- `paths::slacks::pull_of_reading` meets its contract: the product of weight and reading.
-use mathlib.Core.Path.{ap, _∙_}
-use Prim.Native.Nat.{ℕ, _*_}
+-- `paths::slacks::pull_of_reading` meets its contract: the product fits, by the bounds of weight and reading.
+use mathlib.Core.Path.{_≡_}
+use Prim.Native.Nat.{_*_, _≤_}
+use native.Mathlib.Omega.{arith}
+use Rattle.paths.specs.Sizes.{mostPull}
+use Rattle.paths.proofs.Weights.{pull-most}
 use borrow.Author.Needs.{needs}
-use Rattle.flows.specs.Certificate.{weightOf}
 use Rattle.paths.proofs.slacks.pull_of_reading.Statement.{statement}
 use Rattle.paths.proofs.slacks.pull_of_reading.Tie as tie
+
+bound : (c : tie.After-reading-of) → c .before .weight-of .result * c .reading-of .result ≤ mostPull
+bound c = pull-most _ _ (rw (c .before .weight-of .ensures) (c .before .before .pre .light)) (c .reading-of .ensures .1)
+
+weight-of-requires : tie.Need-weight-of-requires
+weight-of-requires c κs = search needs
 
 reading-of-requires : tie.Need-reading-of-requires
 reading-of-requires c κs = search needs
 
-pull-requires : tie.Need-pull-requires
-pull-requires c κs = search needs
+mul-result : tie.Need-mul-result
+mul-result c = omega (arith, bound c)
 
 returns : tie.Need-returns
-returns c =
-    (c .pull .ensures .0 ∙ ap (λ (n : ℕ). weightOf (c .before .before .args .s) * n) (c .before .reading-of .ensures .0), c .pull .ensures .1)
+returns c = (rw (c .before .weight-of .ensures, c .reading-of .ensures .0), bound c)
 
 pub pull-of-reading-spec : {M : Type 1} → statement M
-pull-of-reading-spec = tie.close (tie.spec reading-of-requires pull-requires returns)
+pull-of-reading-spec =
+    tie.close (tie.spec weight-of-requires reading-of-requires mul-result returns)

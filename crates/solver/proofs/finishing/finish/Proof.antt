@@ -16,7 +16,7 @@ begin-requires c κs = search needs
 improve-all-requires : tie.Need-improve-all-requires
 improve-all-requires c κs =
     let st = c .before in (
-      st .pre .0 .network,
+      st .pre .0,
       (omega arith, omega arith),
       rw (c .begin .ensures)
           (begun-allows (take (st .args .count) (st .args .streams)) (solvable-of (st .args .streams) (st .args .count) (st .pre .0)) (st .args .h) (st .pre .1)),

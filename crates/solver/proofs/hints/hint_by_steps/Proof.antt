@@ -36,7 +36,7 @@ improve-all-requires : tie.Need-improve-all-requires Inv-loop μ-loop
 improve-all-requires c κs =
     let at = c .before .before in
     let st = at .before .before in (
-      st .pre .network,
+      st .pre,
       (omega arith, at .loop .inv .0),
       rw (c .settle .ensures)
           (stage-allows (take (st .args .count) (st .args .streams)) (solvable-of (st .args .streams) (st .args .count) (st .pre)) (at .loop .delta) (omega arith)

@@ -1,188 +1,123 @@
--- `solver::ties::tie_at` meets its contract: by the parts of the definition; a way round leaves room for the push.
-use mathlib.Core.Path.{_≡_, sym}
-use Prim.Native.Nat.{suc, _-_}
-use native.Mathlib.Omega.{arith}
-use native.Mathlib.Numerals.{add-one}
-use borrow.Author.Tests.{not-true, not-false}
-use lib.ListN.{getD, take}
-use Rattle.plants.specs.Plants.{noStream}
-use Rattle.paths.specs.Sizes.{rounds}
+-- `solver::ties::tie_at` meets its contract: by whether a way leads round; it leaves room for the push.
+use Rattle.solver.proofs.TieTurns.{starts-at, ends-at, tied-cut, tied-round, Pushable, pushable}
+use Rattle.paths.proofs.Filling.{place-in}
 use Rattle.paths.specs.Search.{rootAt, grownBy, tightPath}
-use Rattle.solver.proofs.TieTurns.{tied-free, tied-slack, tied-cut, tied-round, Pushable, pushable}
+use Rattle.paths.specs.Sizes.{rounds}
+use Rattle.plants.specs.Plants.{noStream}
+use lib.ListN.{getD, take}
+use borrow.Author.Tests.{not-true, not-false}
+use native.Mathlib.Numerals.{add-one}
+use native.Mathlib.Omega.{arith}
+use Prim.Native.Nat.{suc, _-_}
+use mathlib.Core.Bool.{true, false}
+use mathlib.Core.Path.{_≡_, sym}
 use borrow.Author.Needs.{needs}
 use Rattle.solver.proofs.ties.tie_at.Statement.{statement}
 use Rattle.solver.proofs.ties.tie_at.Tie as tie
+use Rattle.paths.proofs.labels.tight_path.Reads as tight-path-reads
+use Rattle.paths.proofs.pushes.push_back.Reads as push-back-reads
 
--- The start, and the tests passed, from where the search is done.
+-- The start, from where the search is done.
 abbrev start : tie.After-tight-path → tie.Start
-start c = c .before .before .before .before .before .before .before .before .before .before .before .before
+start c = c .before .before .before .before
 
-abbrev metered : tie.After-tight-path → tie.Else1
-metered c = c .before .before .before .before .before .before .before .before .before
+to-is : (c : tie.Start) → getD (c .args .to .now) (c .args .i) 0 ≡ getD (c .args .streams) (c .args .i) noStream .to
+to-is c = ends-at (c .args .streams) (c .args .count) (c .pre .0) (c .args .prices .now) _ (c .pre .2) (c .args .flows .now) _ _ _ _ _ (c .pre .1)
 
-abbrev slacked : tie.After-tight-path → tie.After-slack
-slacked c = c .before .before .before
-
-abbrev tight : tie.After-tight-path → tie.Else2
-tight c = c .before .before
+from-is : (c : tie.Start) → getD (c .args .from .now) (c .args .i) 0 ≡ getD (c .args .streams) (c .args .i) noStream .from
+from-is c = starts-at (c .args .streams) (c .args .count) (c .pre .0) (c .args .prices .now) _ (c .pre .2) (c .args .flows .now) _ _ _ _ _ (c .pre .1)
 
 -- What the call of tight_path says.
 told : (c : tie.After-tight-path)
     → grownBy (c .tight-path .result .found) (c .tight-path .result .tree) (start c .args .prices .now)
-    ≡ tightPath (take (start c .args .count) (start c .args .t1)) (start c .args .count) (start c .args .flows .now) (start c .args .prices .now) (getD (start c .args .t1) (start c .args .i) noStream .to) (suc (start c .args .i)) rounds (rootAt (getD (start c .args .t1) (start c .args .i) noStream .from))
-told c = rw add-one at (c .tight-path .ensures)
+    ≡ tightPath (take (start c .args .count) (start c .args .streams)) (start c .args .count) (start c .args .flows .now) (start c .args .prices .now) (getD (start c .args .streams) (start c .args .i) noStream .to) (suc (start c .args .i)) rounds (rootAt (getD (start c .args .streams) (start c .args .i) noStream .from))
+told c = rw (to-is (start c), from-is (start c), add-one) at (c .tight-path .ensures)
 
 -- A way round was found: what the push needs.
-ready : (c : tie.Else3)
-    → Pushable (start (c .before .before) .args .t1) (start (c .before .before) .args .count) (start (c .before .before) .pre .0) (start (c .before .before) .args .prices .now) (start (c .before .before) .args .i) (start (c .before .before) .pre .1) (start (c .before .before) .args .flows .now) (c .before .before .tight-path .result .tree)
+ready : (c : tie.Else1)
+    → Pushable (start (c .before .before) .args .streams) (start (c .before .before) .args .count) (start (c .before .before) .pre .0) (start (c .before .before) .args .prices .now) (start (c .before .before) .args .i) (start (c .before .before) .pre .2) (start (c .before .before) .args .flows .now) (c .before .before .tight-path .result .tree)
 ready c =
     let f = c .before .before in
     let st = start f in
-    pushable (st .args .t1) (st .args .count) (st .pre .0) _ _ (st .pre .1) _ (st .pre .3) _
-    (not-false _ (metered f .if1 .left))
-    (rw (slacked f .slack .ensures) at (tight f .if2 .left))
-    (told f)
-    (not-false _ (c .if3 .left))
+    pushable (st .args .streams) (st .args .count) (st .pre .0) _ _ (st .pre .2) _ (st .pre .4) _ (st .pre .5 .metered) (st .pre .5 .tight) (told f) (not-false _ (c .if1 .left))
 
-mul-s : tie.Need-mul-s
-mul-s c = search needs
+element-copy-out-v : tie.Need-element-copy-out-v
+element-copy-out-v c = search needs
 
-array-copy-out-s : tie.Need-array-copy-out-s
-array-copy-out-s c = search needs
-
-returns : tie.Need-returns
-returns c = let st = c .before .before .before in sym (tied-free (st .args .t1) (st .args .count) (st .pre .0) _ _ (st .pre .1) _ (not-true _ (c .if1 .taken)))
-
-cast-u : tie.Need-cast-u
-cast-u c = search needs
-
-cast-v : tie.Need-cast-v
-cast-v c = search needs
-
-mul-slack : tie.Need-mul-slack
-mul-slack c = search needs
-
-element-copy-out-slack : tie.Need-element-copy-out-slack
-element-copy-out-slack c = search needs
-
-mul-slack-2 : tie.Need-mul-slack-2
-mul-slack-2 c = search needs
-
-element-copy-out-slack-2 : tie.Need-element-copy-out-slack-2
-element-copy-out-slack-2 c =
-    omega (arith, c .before .before .before .before .before .before .pre .0 .network .placed _ (c .before .before .before .before .before .before .pre .1) .from-in)
-
-mul-slack-3 : tie.Need-mul-slack-3
-mul-slack-3 c = search needs
-
-element-copy-out-slack-3 : tie.Need-element-copy-out-slack-3
-element-copy-out-slack-3 c =
-    omega
-    (arith, c .before .before .before .before .before .before .before .pre .0 .network .placed _ (c .before .before .before .before .before .before .before .pre .1) .to-in)
-
-slack-requires : tie.Need-slack-requires
-slack-requires c κs =
-    let st = c .before .before .before .before .before .before .before .before in
-    let r = c .before .before .before .before .before .before .before .before .pre .0 .network .placed _ (c .before .before .before .before .before .before .before .before .pre .1) in
-    (r, record { amount = omega (arith, st .pre .3 .close (st .args .i) (omega (arith, st .pre .0 .network .few, st .pre .1)) .0, st .pre .0 .network .few, st .pre .1); step = omega arith; price-u = st .pre .2 _ (omega (arith, r .from-in)); price-v = st .pre .2 _ (omega (arith, r .to-in)) })
-
-returns-2 : tie.Need-returns-2
-returns-2 c =
-    let st = c .before .before .before .before .before .before .before .before .before .before in sym (tied-slack (st .args .t1) (st .args .count) (st .pre .0) _ _ (st .pre .1) _ (not-false _ (c .before .before .before .before .before .before .before .if1 .left)) (rw (c .before .slack .ensures) at (c .if2 .taken)))
+element-copy-out-tight-path : tie.Need-element-copy-out-tight-path
+element-copy-out-tight-path c = search needs
 
 add-tight-path : tie.Need-add-tight-path
 add-tight-path c = search needs
 
 tight-path-requires : tie.Need-tight-path-requires
-tight-path-requires c κs =
-    let st = c .before .before .before .before .before .before .before .before .before .before .before in
-    let r = st .pre .0 .network .placed _ (st .pre .1) in (
+tight-path-requires c κs = 
+    let st = c .before .before .before in
+    let even = st .pre .4 in (
+      st .pre .1,
       record {
         searchable =
             record {
               network = st .pre .0 .network;
               step = omega arith;
-              amounts = λ k l. omega (arith, st .pre .3 .close k (omega (arith, st .pre .0 .network .few)) .0, st .pre .0 .network .few, st .pre .1);
-              prices = st .pre .2;
+              amounts = λ k l. omega (arith, even .close k (omega (arith, st .pre .0 .network .few)) .0, st .pre .0 .network .few, st .pre .2);
+              prices = st .pre .3;
             };
         some = omega arith;
-        held = st .pre .3 .held;
+        weighed = st .pre .0 .weighed;
+        held = even .held;
       },
-      omega (arith, r .from-in),
-      omega (arith, r .to-in),
+      place-in (st .pre .0 .network) true (st .pre .1 .starts) _ (st .pre .2),
+      place-in (st .pre .0 .network) false (st .pre .1 .ends) _ (st .pre .2),
     )
 
-returns-3 : tie.Need-returns-3
-returns-3 c =
+returns : tie.Need-returns
+returns c = 
     let f = c .before .before in
-    let st = start f in sym (tied-cut (st .args .t1) (st .args .count) (st .pre .0) _ _ (st .pre .1) _ _ (not-false _ (metered f .if1 .left)) (rw (slacked f .slack .ensures) at (tight f .if2 .left)) (told f) (not-true _ (c .if3 .taken)))
+    let st = start f in
+    sym (tied-cut (st .args .streams) (st .args .count) (st .pre .0) _ _ (st .pre .2) _ _ (st .pre .5 .metered) (st .pre .5 .tight) (told f) (not-true _ (c .if1 .taken)))
 
 push-back-requires : tie.Need-push-back-requires
-push-back-requires c κs =
-    let f = c .before .before .before .before .before .before .before .before in
-    let st = start f in
+push-back-requires c κs = 
+    let st = start (c .before .before .before .before .before .before .before .before) in
     let r = ready (c .before .before .before .before .before .before) in
     (st .pre .0 .network, omega arith, r .trail, r .roomy)
 
 mul-flows : tie.Need-mul-flows
-mul-flows c =
-    let f = c .before .before .before .before .before .before .before .before .before in
-    let st = start f in omega (arith, st .pre .0 .network .few, st .pre .1)
+mul-flows c = search needs
 
 element-copy-out-flows : tie.Need-element-copy-out-flows
-element-copy-out-flows c =
-    let f = c .before .before .before .before .before .before .before .before .before in
-    let st = start f in omega (arith, st .pre .0 .network .few, st .pre .1)
+element-copy-out-flows c = search needs
 
 sub-flows : tie.Need-sub-flows
-sub-flows c =
-    let f = c .before .before .before .before .before .before .before .before .before .before in
-    let st = start f in
-    let r = ready (c .before .before .before .before .before .before .before .before) in
-    rw (c .before .push-back .ensures) (r .some)
+sub-flows c = rw (c .before .push-back .ensures, to-is (start (c .before .before .before .before .before .before .before .before .before .before))) (ready (c .before .before .before .before .before .before .before .before) .some)
 
 mul-flows-2 : tie.Need-mul-flows-2
-mul-flows-2 c =
-    let f = c .before .before .before .before .before .before .before .before .before .before in
-    let st = start f in omega (arith, st .pre .0 .network .few, st .pre .1)
+mul-flows-2 c = search needs
 
 element-write-flows : tie.Need-element-write-flows
-element-write-flows c =
-    let f = c .before .before .before .before .before .before .before .before .before .before in
-    let st = start f in omega (arith, st .pre .0 .network .few, st .pre .1)
+element-write-flows c = search needs
 
-returns-4 : tie.Need-returns-4
-returns-4 c =
+returns-2 : tie.Need-returns-2
+returns-2 c = 
     let f = c .before .before .before .before .before .before .before .before .before .before in
     let st = start f in
-    rw (c .before .push-back .ensures)
-    (sym
-    (tied-round (st .args .t1) (st .args .count) (st .pre .0) _ _ (st .pre .1) _ _ (not-false _ (metered f .if1 .left)) (rw (slacked f .slack .ensures) at (tight f .if2 .left)) (told f) (not-false _ (c .before .before .before .before .before .before .before .before .if3 .left))))
+    rw (c .before .push-back .ensures, to-is st)
+    (sym (tied-round (st .args .streams) (st .args .count) (st .pre .0) _ _ (st .pre .2) _ _ (st .pre .5 .metered) (st .pre .5 .tight) (told f) (not-false _ (c .before .before .before .before .before .before .before .before .if1 .left))))
 
 pub tie-at-spec : {M : Type 1} → statement M
 tie-at-spec =
     tie.close
     (tie.spec
-    mul-s
-    array-copy-out-s
-    returns
-    cast-u
-    cast-v
-    mul-slack
-    element-copy-out-slack
-    mul-slack-2
-    element-copy-out-slack-2
-    mul-slack-3
-    element-copy-out-slack-3
-    slack-requires
-    returns-2
+    element-copy-out-v
+    element-copy-out-tight-path
     add-tight-path
     tight-path-requires
-    returns-3
+    returns
     push-back-requires
     mul-flows
     element-copy-out-flows
     sub-flows
     mul-flows-2
     element-write-flows
-    returns-4)
+    returns-2)
