@@ -1,0 +1,36 @@
+#!/usr/bin/env bash
+# Measures the sheet call of the archive, the same in plain Rust, and a real-number solve, on the same plants.
+#
+#     bash host/bench/run.sh [PLANTS [SECONDS]]  prints the tables; 1000 plants of each kind and size, 60 seconds of the
+#                                                search for bad plants; plot and worst plant go to target/host/bench
+#     bash host/bench/run.sh --record [...]      the same, and puts the tables into docs/SPEED.md, the plot beside it, and the
+#                                                worst plant into host/bench/worst.bin
+set -eu
+cd "$(dirname "$0")/../.."
+record=0
+if [ "${1:-}" = --record ]; then
+    record=1
+    shift
+fi
+plants=${1:-1000}
+seconds=${2:-60}
+out=target/host/bench
+command -v cargo >/dev/null || { echo "no cargo: install Rust (https://rustup.rs, or Debian: apt-get install cargo)" >&2; exit 2; }
+if [ ! -e target/staticlib/liblinked.a ]; then
+    command -v rt >/dev/null || { echo "no target/staticlib/liblinked.a, and no rt to build it: install the Rattle kit (rattle-kit-5 or later)" >&2; exit 2; }
+    rt staticlib linked >&2
+fi
+mkdir -p "$out"
+(cd host/bench && cargo build --release --offline --quiet)
+{
+    printf 'Measured with `bash host/bench/run.sh --record %s %s`.\n\n' "$plants" "$seconds"
+    host/bench/target/release/wengeludo_bench "$plants" "$seconds" "$out"
+} | tee "$out/tables.md"
+[ "$record" = 1 ] || exit 0
+awk -v tables="$out/tables.md" '
+    /<!-- end of the tables -->/ {inside = 0}
+    !inside {print}
+    /<!-- the tables -->/ {inside = 1; while ((getline line < tables) > 0) print line}' docs/SPEED.md >"$out/SPEED.md"
+cp "$out/SPEED.md" docs/SPEED.md
+cp "$out/speed.svg" docs/speed.svg
+cp "$out/worst.bin" host/bench/worst.bin

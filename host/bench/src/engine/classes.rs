@@ -1,0 +1,138 @@
+//! The four classes of stream, the degrees of freedom and the verdict.
+
+use super::groups::{self, Labels};
+use super::Classes;
+use crate::plants::{Stream, MAX_STREAMS, MAX_UNITS, PLACES};
+
+#[derive(Clone, Copy, PartialEq, Eq)]
+pub enum Class {
+    Adjusted,
+    AsRead,
+    Given,
+    Withheld,
+}
+
+/// The class of a metered stream.
+fn of_metered(labels: &Labels, s: &Stream) -> Class {
+    if groups::one_label(labels, s) {
+        Class::AsRead
+    } else {
+        Class::Adjusted
+    }
+}
+
+/// Groups are formed without each unmetered stream whose ends the earlier ones do not join.
+fn by_passes(streams: &[Stream], labels: &Labels) -> [Class; MAX_STREAMS] {
+    let mut classes = [Class::Withheld; MAX_STREAMS];
+    let mut earlier = groups::own_numbers();
+    for (i, s) in streams.iter().enumerate() {
+        if s.metered {
+            classes[i] = of_metered(labels, s);
+        } else if groups::join(&mut earlier, s) {
+            let others = groups::group(streams, |j, t| !t.metered && j != i);
+            if !groups::one_label(&others, s) {
+                classes[i] = Class::Given;
+            }
+        }
+    }
+    classes
+}
+
+/// A forest of the unmetered streams, rooted: for each place the stream towards its root, and how far the root is.
+struct Rooted {
+    parent: [u8; PLACES],
+    depth: [u8; PLACES],
+    via: [u8; PLACES],
+}
+
+const NONE: u8 = u8::MAX;
+
+/// The places of a tree turned so that `place` is its root, then hung below `above` by stream i.
+fn hang(forest: &mut Rooted, place: u8, above: u8, i: u8) {
+    let (mut at, mut above, mut via) = (place, above, i);
+    while at != NONE {
+        let u = usize::from(at);
+        let next = (forest.parent[u], forest.via[u]);
+        (forest.parent[u], forest.via[u]) = (above, via);
+        (above, via) = (at, next.1);
+        at = next.0;
+    }
+}
+
+/// Given is what no other unmetered stream closes a loop over.
+fn by_forest(streams: &[Stream], labels: &Labels) -> [Class; MAX_STREAMS] {
+    let mut classes = [Class::Withheld; MAX_STREAMS];
+    let mut forest = Rooted { parent: [NONE; PLACES], depth: [0; PLACES], via: [NONE; PLACES] };
+    let mut joined = groups::own_numbers();
+    let mut loops = [0u8; MAX_STREAMS];
+    let mut count = 0;
+    for (i, s) in streams.iter().enumerate() {
+        if s.metered {
+            classes[i] = of_metered(labels, s);
+        } else if groups::join(&mut joined, s) {
+            hang(&mut forest, s.from, s.to, i as u8);
+            classes[i] = Class::Given;
+        } else {
+            loops[count] = i as u8;
+            count += 1;
+        }
+    }
+    if count > 0 {
+        depths(&mut forest);
+    }
+    for &i in &loops[..count] {
+        close(&forest, &streams[usize::from(i)], &mut classes);
+    }
+    classes
+}
+
+/// How far each place is from its root.
+fn depths(forest: &mut Rooted) {
+    for u in 0..PLACES {
+        let (mut at, mut depth) = (forest.parent[u], 0);
+        while at != NONE {
+            at = forest.parent[usize::from(at)];
+            depth += 1;
+        }
+        forest.depth[u] = depth;
+    }
+}
+
+/// The forest's streams between the ends of a stream lie on a loop with it.
+fn close(forest: &Rooted, s: &Stream, classes: &mut [Class; MAX_STREAMS]) {
+    let (mut a, mut b) = (usize::from(s.from), usize::from(s.to));
+    while a != b {
+        if forest.depth[a] < forest.depth[b] {
+            std::mem::swap(&mut a, &mut b);
+        }
+        classes[usize::from(forest.via[a])] = Class::Withheld;
+        a = forest.parent[a].into();
+    }
+}
+
+pub fn classes(streams: &[Stream], labels: &Labels, way: Classes) -> [Class; MAX_STREAMS] {
+    match way {
+        Classes::Passes => by_passes(streams, labels),
+        Classes::Forest => by_forest(streams, labels),
+    }
+}
+
+/// The number of groups less the number of connected pieces.
+pub fn degrees(streams: &[Stream], units: usize, labels: &Labels) -> usize {
+    let pieces = groups::group(streams, |_, _| true);
+    groups::own_labels(labels, units) - groups::own_labels(&pieces, units)
+}
+
+/// Critical values of chi-square at 95 per cent, in thousandths, by degrees minus one.
+const CRITICAL: [u64; MAX_UNITS] = [
+    3841, 5991, 7815, 9488, 11070, 12592, 14067, 15507, 16919, 18307, 19675, 21026, 22362, 23685, 24996, 26296, 27587, 28869,
+    30144, 31410, 32671, 33924, 35172, 36415, 37652, 38885, 40113, 41337, 42557, 43773, 44985, 46194,
+];
+
+/// 0 (pass), 1 (fail), 2 (none).
+pub fn verdict(degrees: usize, cost: u64) -> u8 {
+    match degrees.checked_sub(1) {
+        None => 2,
+        Some(at) => u8::from(cost > CRITICAL[at]),
+    }
+}

@@ -1,0 +1,100 @@
+//! The search by distances: a distance per place, each labelled place looks at its own streams alone, prices fall once.
+
+use super::incidence::Incidence;
+use super::state::State;
+use super::watch::Watch;
+use crate::plants::{Stream, PLACES};
+
+const FAR: i64 = i64::MAX;
+
+struct Reach {
+    /// The places labelled, a bit for each, and those with a distance that are not.
+    labelled: u64,
+    open: u64,
+    distance: [i64; PLACES],
+    via: [u8; PLACES],
+}
+
+/// The bits of a mask, lowest first.
+fn bits(mut mask: u64) -> impl Iterator<Item = usize> {
+    std::iter::from_fn(move || {
+        if mask == 0 {
+            return None;
+        }
+        let u = mask.trailing_zeros() as usize;
+        mask &= mask - 1;
+        Some(u)
+    })
+}
+
+impl Reach {
+    fn from(start: usize) -> Reach {
+        let mut distance = [FAR; PLACES];
+        distance[start] = 0;
+        Reach { labelled: 0, open: 1 << start, distance, via: [0; PLACES] }
+    }
+
+    /// The open place of least distance.
+    fn nearest(&self) -> Option<usize> {
+        bits(self.open).min_by_key(|&u| self.distance[u])
+    }
+
+    /// The streams of a newly labelled place.
+    fn relax<W: Watch>(&mut self, streams: &[Stream], incidence: &Incidence, state: &State, u: usize, watch: &mut W) {
+        for step in incidence.of(u) {
+            watch.visits(1);
+            let v = usize::from(step.to);
+            if self.labelled >> v & 1 == 1 {
+                continue;
+            }
+            let i = usize::from(step.stream);
+            let distance = self.distance[u] + state.slack(&streams[i], state.flows[i], step.forwards, 1);
+            if distance < self.distance[v] {
+                self.distance[v] = distance;
+                self.via[v] = step.stream;
+                self.open |= 1 << v;
+            }
+        }
+    }
+
+    /// Places are labelled by distance until one with a negative net is.
+    fn search<W: Watch>(&mut self, streams: &[Stream], incidence: &Incidence, state: &State, watch: &mut W) -> Option<usize> {
+        loop {
+            let u = self.nearest()?;
+            watch.round();
+            self.open &= !(1 << u);
+            self.labelled |= 1 << u;
+            if state.nets[u] < 0 {
+                return Some(u);
+            }
+            self.relax(streams, incidence, state, u, watch);
+        }
+    }
+}
+
+/// One improvement at step 1, from the first place with a positive net.
+pub fn improve<W: Watch>(streams: &[Stream], incidence: &Incidence, state: &mut State, watch: &mut W) -> bool {
+    let Some(start) = state.first_over(1) else {
+        return false;
+    };
+    let mut reach = Reach::from(start);
+    let Some(target) = reach.search(streams, incidence, state, watch) else {
+        return false;
+    };
+    for u in bits(reach.labelled) {
+        state.prices[u] -= reach.distance[target] - reach.distance[u];
+    }
+    let mut at = target;
+    while at != start {
+        let i = usize::from(reach.via[at]);
+        let s = &streams[i];
+        let forwards = usize::from(s.to) == at;
+        state.flows[i] += if forwards { 1 } else { -1 };
+        at = if forwards { s.from } else { s.to }.into();
+        watch.push();
+    }
+    state.nets[start] -= 1;
+    state.nets[target] += 1;
+    watch.improvement();
+    true
+}

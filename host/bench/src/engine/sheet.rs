@@ -1,0 +1,49 @@
+//! The sheet, written.
+
+use super::classes::{self, Class};
+use super::groups;
+use super::watch::{Phase, Watch};
+use super::{Classes, Site};
+use crate::plants::MAX_STREAMS;
+
+/// The least slice that is taken.
+pub const LEAST_SLICE: usize = 9 * MAX_STREAMS + 15;
+
+/// The sheet at the front of the slice, and how many bytes it takes.
+pub fn put<W: Watch>(site: &Site, way: Classes, flows: &[i64; MAX_STREAMS], number: u32, out: &mut [u8], watch: &mut W) -> usize {
+    let streams = site.streams();
+    let labels = groups::group(streams, |_, s| !s.metered);
+    let classes = classes::classes(streams, &labels, way);
+    let degrees = classes::degrees(streams, site.units, &labels);
+    watch.phase(Phase::Classes);
+    let mut at = 0;
+    for (&class, &flow) in classes[..site.count].iter().zip(flows) {
+        at += put_record(class, flow, &mut out[at..]);
+    }
+    let cost = streams.iter().zip(flows).map(|(s, x)| (s.weight * (x - s.reading) * (x - s.reading)) as u64).sum();
+    put_total(number, cost, degrees, &mut out[at..]);
+    watch.phase(Phase::Write);
+    at + 15
+}
+
+fn put_record(class: Class, flow: i64, out: &mut [u8]) -> usize {
+    out[0] = match class {
+        Class::Adjusted => 0x11,
+        Class::AsRead => 0x12,
+        Class::Given => 0x13,
+        Class::Withheld => 0x14,
+    };
+    if class == Class::Withheld {
+        return 1;
+    }
+    out[1..9].copy_from_slice(&flow.to_be_bytes());
+    9
+}
+
+fn put_total(number: u32, cost: u64, degrees: usize, out: &mut [u8]) {
+    out[0] = 0x1F;
+    out[1..5].copy_from_slice(&number.to_be_bytes());
+    out[5..13].copy_from_slice(&cost.to_be_bytes());
+    out[13] = degrees as u8;
+    out[14] = classes::verdict(degrees, cost);
+}

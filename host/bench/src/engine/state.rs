@@ -1,0 +1,47 @@
+//! Amounts, prices and nets; amounts settled at prices; the slack of a stream.
+
+use crate::plants::{Stream, MAX_STREAMS, PLACES};
+
+/// The amount of each stream, and the price and the net of each place.
+pub struct State {
+    pub flows: [i64; MAX_STREAMS],
+    pub prices: [i64; PLACES],
+    pub nets: [i64; PLACES],
+}
+
+impl State {
+    /// Amounts and prices 0, nets not yet booked.
+    pub fn zero() -> State {
+        State { flows: [0; MAX_STREAMS], prices: [0; PLACES], nets: [0; PLACES] }
+    }
+
+    /// Each metered stream's amount at the prices of its ends, the others as they are; and the nets.
+    pub fn settle(&mut self, streams: &[Stream]) {
+        self.nets = [0; PLACES];
+        for (s, x) in streams.iter().zip(&mut self.flows) {
+            let (u, v) = (usize::from(s.from), usize::from(s.to));
+            if s.metered {
+                *x = s.reading + (self.prices[v] - self.prices[u] + s.weight).div_euclid(2 * s.weight);
+            }
+            self.nets[u] -= *x;
+            self.nets[v] += *x;
+        }
+    }
+
+    /// The summed positive net.
+    pub fn over(&self) -> i64 {
+        self.nets.iter().map(|&z| z.max(0)).sum()
+    }
+
+    /// The first place with a net of delta or more.
+    pub fn first_over(&self, delta: i64) -> Option<usize> {
+        self.nets.iter().position(|&z| z >= delta)
+    }
+
+    /// What is missing before delta can be moved along a stream with amount x.
+    pub fn slack(&self, s: &Stream, x: i64, forwards: bool, delta: i64) -> i64 {
+        let marginal = 2 * s.weight * (x - s.reading) + self.prices[usize::from(s.from)] - self.prices[usize::from(s.to)];
+        let signed = if forwards { marginal } else { -marginal };
+        (signed + s.weight * delta).max(0)
+    }
+}

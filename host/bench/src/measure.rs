@@ -1,0 +1,93 @@
+//! Times of one plant, and what a list of times comes to.
+
+use crate::engine::{self, Unwatched, Variant};
+use crate::floor;
+use crate::plants::{Plant, MAX_STREAMS};
+use std::hint::black_box;
+use std::time::Instant;
+use wengeludo_balance::{raw, SHEET_SIZE};
+
+/// Each call is made so many times at least and at most, the more while they take less than this together, in microseconds.
+const LEAST_RUNS: usize = 5;
+const MOST_RUNS: usize = 25;
+const ENOUGH: f64 = 200.0;
+
+/// The least time of several runs, in microseconds.
+fn least(mut run: impl FnMut()) -> f64 {
+    let (mut least, mut sum) = (f64::MAX, 0.0);
+    for k in 0..MOST_RUNS {
+        if k >= LEAST_RUNS && sum > ENOUGH {
+            break;
+        }
+        let start = Instant::now();
+        run();
+        let took = start.elapsed().as_secs_f64() * 1e6;
+        least = least.min(took);
+        sum += took;
+    }
+    least
+}
+
+/// The library's sheet call.
+pub fn library(file: &[u8]) -> f64 {
+    let mut sheet = [0; SHEET_SIZE];
+    least(|| {
+        let (mut last, mut written) = (0, 0);
+        black_box(raw::balance_plant(black_box(file), &mut last, &mut sheet, &mut written));
+    })
+}
+
+/// The sheet call in plain Rust.
+pub fn plain(variant: Variant, file: &[u8]) -> f64 {
+    let mut sheet = [0; SHEET_SIZE];
+    least(|| {
+        let (mut last, mut written) = (0, 0);
+        black_box(engine::balance_plant(variant, black_box(file), &mut last, &mut sheet, &mut written, &mut Unwatched));
+    })
+}
+
+/// The floor, from the listed streams to the flows.
+pub fn floor(plant: &Plant) -> f64 {
+    let mut flows = [0.0; MAX_STREAMS];
+    least(|| floor::solve(black_box(&plant.streams), plant.units, black_box(&mut flows)))
+}
+
+/// Stops where a variant's sheet is not the library's, byte for byte.
+pub fn compare(variant: Variant, file: &[u8]) {
+    let (mut ours, mut theirs) = ([0xA5; SHEET_SIZE], [0xA5; SHEET_SIZE]);
+    let (mut our_last, mut their_last, mut our_count, mut their_count) = (6, 6, 1, 2);
+    let number = raw::balance_plant(file, &mut our_last, &mut ours, &mut our_count);
+    let other = engine::balance_plant(variant, file, &mut their_last, &mut theirs, &mut their_count, &mut Unwatched);
+    let same = (number, our_last, our_count) == (other, their_last, their_count) && ours == theirs;
+    assert!(same, "{}: a sheet that is not the library's, of {file:02X?}", variant.name);
+}
+
+/// The times of one plant.
+#[derive(Clone, Copy, Debug)]
+pub struct Times {
+    pub library: f64,
+    pub plain: f64,
+    pub floor: f64,
+}
+
+/// A plant timed; first the sheets are compared.
+pub fn times(plant: &Plant, variant: Variant) -> Times {
+    let file = plant.file();
+    compare(variant, &file);
+    Times { library: library(&file), plain: plain(variant, &file), floor: floor(plant) }
+}
+
+/// The median, the 99th percentile and the worst of a list.
+#[derive(Clone, Copy, Debug)]
+pub struct Summary {
+    pub median: f64,
+    pub high: f64,
+    pub worst: f64,
+}
+
+pub fn summary(list: impl Iterator<Item = f64>) -> Summary {
+    let mut sorted: Vec<f64> = list.collect();
+    sorted.sort_by(f64::total_cmp);
+    let n = sorted.len();
+    Summary { median: sorted[n / 2], high: sorted[n * 99 / 100], worst: sorted[n - 1] }
+}

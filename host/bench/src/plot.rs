@@ -1,0 +1,92 @@
+//! The plot of how cost grows: streams to the right, microseconds upwards by powers of ten.
+
+use crate::measure::Summary;
+use crate::report::Growth;
+use std::fmt::Write;
+
+const WIDTH: f64 = 720.0;
+const HEIGHT: f64 = 440.0;
+const LEFT: f64 = 70.0;
+const RIGHT: f64 = 110.0;
+const TOP: f64 = 24.0;
+const BOTTOM: f64 = 50.0;
+const MOST_STREAMS: f64 = 96.0;
+
+/// The powers of ten that hold all times.
+struct Scale {
+    low: i32,
+    high: i32,
+}
+
+impl Scale {
+    fn of(growth: &[Growth]) -> Scale {
+        let all = || growth.iter().flat_map(|g| [g.library, g.plain, g.floor]);
+        let low = all().map(|s| s.median).fold(f64::MAX, f64::min).log10().floor() as i32;
+        let high = all().map(|s| s.worst).fold(f64::MIN, f64::max).log10().ceil() as i32;
+        Scale { low, high }
+    }
+
+    fn y(&self, time: f64) -> f64 {
+        let share = (time.log10() - f64::from(self.low)) / f64::from(self.high - self.low);
+        HEIGHT - BOTTOM - share * (HEIGHT - TOP - BOTTOM)
+    }
+}
+
+fn x(streams: usize) -> f64 {
+    LEFT + streams as f64 / MOST_STREAMS * (WIDTH - LEFT - RIGHT)
+}
+
+/// The axes with their lines and words.
+fn axes(svg: &mut String, scale: &Scale) {
+    let (right, bottom) = (WIDTH - RIGHT, HEIGHT - BOTTOM);
+    for power in scale.low..=scale.high {
+        let y = scale.y(10f64.powi(power));
+        let name = if power < 0 { format!("{:.1}", 10f64.powi(power)) } else { format!("{}", 10i64.pow(power as u32)) };
+        let _ = writeln!(svg, r##"<line x1="{LEFT}" y1="{y:.1}" x2="{right}" y2="{y:.1}" stroke="#ddd"/>"##);
+        let _ = writeln!(svg, r#"<text x="{}" y="{:.1}" text-anchor="end">{name}</text>"#, LEFT - 8.0, y + 4.0);
+    }
+    for streams in (0..=96).step_by(12) {
+        let x = x(streams);
+        let _ = writeln!(svg, r##"<line x1="{x:.1}" y1="{TOP}" x2="{x:.1}" y2="{bottom}" stroke="#eee"/>"##);
+        let _ = writeln!(svg, r#"<text x="{x:.1}" y="{}" text-anchor="middle">{streams}</text>"#, bottom + 18.0);
+    }
+    let _ = writeln!(svg, r#"<text x="{}" y="{}" text-anchor="middle">streams</text>"#, (LEFT + right) / 2.0, HEIGHT - 12.0);
+    let middle = (TOP + bottom) / 2.0;
+    let _ = writeln!(
+        svg,
+        r#"<text x="18" y="{middle}" text-anchor="middle" transform="rotate(-90 18 {middle})">microseconds</text>"#
+    );
+}
+
+/// The medians as a line, the worst as a dashed one, the name at the right.
+fn series(svg: &mut String, scale: &Scale, growth: &[Growth], name: &str, colour: &str, of: fn(&Growth) -> Summary) {
+    let points = |time: fn(Summary) -> f64| {
+        let pairs: Vec<String> = growth.iter().map(|g| format!("{:.1},{:.1}", x(g.streams), scale.y(time(of(g))))).collect();
+        pairs.join(" ")
+    };
+    let (median, worst) = (points(|s| s.median), points(|s| s.worst));
+    let _ = writeln!(svg, r#"<polyline points="{median}" fill="none" stroke="{colour}" stroke-width="2"/>"#);
+    let _ = writeln!(svg, r#"<polyline points="{worst}" fill="none" stroke="{colour}" stroke-dasharray="4 4"/>"#);
+    if let Some(last) = growth.last() {
+        let y = scale.y(of(last).median) + 4.0;
+        let _ = writeln!(svg, r#"<text x="{:.1}" y="{y:.1}" fill="{colour}">{name}</text>"#, x(last.streams) + 8.0);
+    }
+}
+
+/// The plot as SVG.
+pub fn svg(growth: &[Growth]) -> String {
+    let scale = Scale::of(growth);
+    let mut svg = String::new();
+    let _ = writeln!(
+        svg,
+        r#"<svg xmlns="http://www.w3.org/2000/svg" viewBox="0 0 {WIDTH} {HEIGHT}" font-family="sans-serif" font-size="12">"#
+    );
+    let _ = writeln!(svg, r##"<rect width="{WIDTH}" height="{HEIGHT}" fill="#fff"/>"##);
+    let _ = writeln!(svg, "<title>Time by the number of streams: median, and dashed the worst</title>");
+    axes(&mut svg, &scale);
+    series(&mut svg, &scale, growth, "library", "#b03030", |g| g.library);
+    series(&mut svg, &scale, growth, "plain Rust", "#3050b0", |g| g.plain);
+    series(&mut svg, &scale, growth, "floor", "#308050", |g| g.floor);
+    svg.push_str("</svg>\n");
+    svg
+}

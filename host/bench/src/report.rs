@@ -1,0 +1,133 @@
+//! The tables, in Markdown.
+
+use crate::engine::{self, Phase, Variant, Work, AS_LIBRARY, VARIANTS};
+use crate::measure::{self, summary, Summary, Times};
+use crate::plants::{draw, Kind, Plant};
+use wengeludo_balance::SHEET_SIZE;
+
+/// Units and streams of the plants measured.
+pub const SIZES: [(usize, usize); 3] = [(5, 15), (12, 36), (32, 96)];
+
+/// The plants of a kind and a size.
+pub fn plants(kind: Kind, units: usize, streams: usize, count: usize) -> impl Iterator<Item = Plant> {
+    (0..count as u64).map(move |seed| draw(kind, units, streams, seed))
+}
+
+/// A number with as many digits as it is good for.
+fn short(x: f64) -> String {
+    match x {
+        x if x < 10.0 => format!("{x:.2}"),
+        x if x < 100.0 => format!("{x:.1}"),
+        x => format!("{x:.0}"),
+    }
+}
+
+fn cells(s: Summary) -> String {
+    format!("{} | {} | {}", short(s.median), short(s.high), short(s.worst))
+}
+
+/// The median and the worst of a ratio, plant by plant.
+fn ratio(times: &[Times], of: impl Fn(&Times) -> f64) -> String {
+    let s = summary(times.iter().map(of));
+    format!("{} | {}", short(s.median), short(s.worst))
+}
+
+/// Times and ratios of all kinds and sizes.
+pub fn sizes(count: usize) {
+    let mut ratios = Vec::new();
+    println!("Microseconds of {count} plants of each kind and size: median, 99th percentile, worst.\n");
+    println!("| plants | units | streams | library | 99th | worst | plain | 99th | worst | floor | 99th | worst |");
+    println!("|---|---|---|---|---|---|---|---|---|---|---|---|");
+    for kind in Kind::ALL {
+        for (units, streams) in SIZES {
+            let times: Vec<Times> = plants(kind, units, streams, count).map(|p| measure::times(&p, AS_LIBRARY)).collect();
+            let column = |of: fn(&Times) -> f64| cells(summary(times.iter().map(of)));
+            let (library, plain, floor) = (column(|t| t.library), column(|t| t.plain), column(|t| t.floor));
+            println!("| {} | {units} | {streams} | {library} | {plain} | {floor} |", kind.name());
+            ratios.push(ratio_row(kind, units, streams, &times));
+        }
+    }
+    println!("\nRatios, plant by plant: median and worst.\n");
+    println!("| plants | units | streams | library / floor | worst | plain / floor | worst | library / plain | worst |");
+    println!("|---|---|---|---|---|---|---|---|---|");
+    ratios.iter().for_each(|row| println!("{row}"));
+}
+
+fn ratio_row(kind: Kind, units: usize, streams: usize, times: &[Times]) -> String {
+    let by_floor = ratio(times, |t| t.library / t.floor);
+    let plain_by_floor = ratio(times, |t| t.plain / t.floor);
+    let by_plain = ratio(times, |t| t.library / t.plain);
+    format!("| {} | {units} | {streams} | {by_floor} | {plain_by_floor} | {by_plain} |", kind.name())
+}
+
+/// The work of a plant by a variant, with the phases' least times of several runs.
+pub fn work(variant: Variant, plant: &Plant) -> Work {
+    let file = plant.file();
+    let mut sheet = [0; SHEET_SIZE];
+    let mut run = || {
+        let mut work = Work::new();
+        engine::balance_plant(variant, &file, &mut 0, &mut sheet, &mut 0, &mut work);
+        work
+    };
+    let mut best = run();
+    for _ in 1..5 {
+        let next = run();
+        best.phases.iter_mut().zip(next.phases).for_each(|(least, took)| *least = least.min(took));
+    }
+    best
+}
+
+/// What each variant costs at the greatest size: times, work and phases.
+pub fn variants(count: usize) {
+    let (units, streams) = SIZES[2];
+    println!("\nThe variants of the plain engine, {count} plants of each kind with {units} units and {streams} streams: microseconds (median, worst), improvements left after the hint (mean, most), places labelled per improvement, streams looked at; and the mean microseconds of each phase (reading, hint, improvements, ties, classes, writing).\n");
+    println!("| plants | variant | median | worst | left | most | labelled | looked at | reading | hint | improvements | ties | classes | writing |");
+    println!("|---|---|---|---|---|---|---|---|---|---|---|---|---|---|");
+    for kind in Kind::ALL {
+        for variant in VARIANTS {
+            let drawn: Vec<Plant> = plants(kind, units, streams, count).collect();
+            println!("| {} | {} | {} |", kind.name(), variant.name, variant_cells(variant, &drawn));
+        }
+    }
+}
+
+fn variant_cells(variant: Variant, plants: &[Plant]) -> String {
+    plants.iter().for_each(|p| measure::compare(variant, &p.file()));
+    let times = summary(plants.iter().map(|p| measure::plain(variant, &p.file())));
+    let works: Vec<Work> = plants.iter().map(|p| work(variant, p)).collect();
+    let mean = |of: &dyn Fn(&Work) -> f64| works.iter().map(of).sum::<f64>() / works.len() as f64;
+    let left = mean(&|w| w.left as f64);
+    let most = works.iter().map(|w| w.left).max().unwrap_or(0);
+    let labelled = mean(&|w| w.left_rounds as f64) / left;
+    let visits = mean(&|w| w.visits as f64);
+    let phases = [Phase::Read, Phase::Hint, Phase::Improvements, Phase::Ties, Phase::Classes, Phase::Write];
+    let phases: Vec<String> = phases.iter().map(|&p| format!("{:.1}", mean(&|w| w.phases[p as usize]))).collect();
+    let (median, worst) = (short(times.median), short(times.worst));
+    format!("{median} | {worst} | {left:.1} | {most} | {labelled:.1} | {visits:.0} | {}", phases.join(" | "))
+}
+
+/// Medians by the number of streams.
+#[derive(Clone, Copy, Debug)]
+pub struct Growth {
+    pub streams: usize,
+    pub library: Summary,
+    pub plain: Summary,
+    pub floor: Summary,
+}
+
+/// How cost grows with the streams: random extremes with a unit for every three streams.
+pub fn growth(count: usize) -> Vec<Growth> {
+    println!("\nHow cost grows, random extremes with a unit for every three streams, {count} plants of each size: microseconds (median, worst).\n");
+    println!("| streams | units | library | worst | plain | worst | floor | worst |");
+    println!("|---|---|---|---|---|---|---|---|");
+    let at = |streams: usize| {
+        let times: Vec<Times> =
+            plants(Kind::Extremes, streams / 3, streams, count).map(|p| measure::times(&p, AS_LIBRARY)).collect();
+        let column = |of: fn(&Times) -> f64| summary(times.iter().map(of));
+        let g = Growth { streams, library: column(|t| t.library), plain: column(|t| t.plain), floor: column(|t| t.floor) };
+        let cells = [g.library, g.plain, g.floor].map(|s| format!("{} | {}", short(s.median), short(s.worst)));
+        println!("| {streams} | {} | {} |", streams / 3, cells.join(" | "));
+        g
+    };
+    (1..=16).map(|k| at(6 * k)).collect()
+}

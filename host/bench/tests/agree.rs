@@ -1,0 +1,114 @@
+//! The plain engine against the library, every variant, byte for byte, on every plant that the benchmark times and on
+//! damaged files; and the floor against the sheet's cost.
+
+use wengeludo_balance::{raw, SHEET_SIZE};
+use wengeludo_bench::draws::Draws;
+use wengeludo_bench::engine::{self, Unwatched, VARIANTS};
+use wengeludo_bench::floor;
+use wengeludo_bench::plants::{draw, Kind, Plant, MAX_STREAMS};
+use wengeludo_bench::report::{plants, SIZES};
+
+/// What a sheet call leaves: its number, the counter, the bytes counted, the slice.
+type Outcome = (u8, u32, usize, Vec<u8>);
+
+fn outcome(slice: usize, last: u32, call: impl FnOnce(&mut u32, &mut [u8], &mut usize) -> u8) -> Outcome {
+    let (mut last, mut written, mut sheet) = (last, 77, vec![0xA5; slice]);
+    let number = call(&mut last, &mut sheet, &mut written);
+    (number, last, written, sheet)
+}
+
+/// Every variant leaves what the library leaves.
+fn compare(file: &[u8], slice: usize, last: u32) -> u8 {
+    let library = outcome(slice, last, |last, sheet, written| raw::balance_plant(file, last, sheet, written));
+    for variant in VARIANTS {
+        let plain = outcome(slice, last, |last, sheet, written| {
+            engine::balance_plant(variant, file, last, sheet, written, &mut Unwatched)
+        });
+        assert_eq!(plain, library, "{} on {file:02X?}", variant.name);
+    }
+    library.0
+}
+
+/// The thousand plants of each size that the benchmark draws.
+fn agree_on(kind: Kind) {
+    for (units, streams) in SIZES {
+        for plant in plants(kind, units, streams, 1_000) {
+            assert_eq!(compare(&plant.file(), SHEET_SIZE, 0), 0);
+        }
+    }
+}
+
+#[test]
+fn random_extremes() {
+    agree_on(Kind::Extremes);
+}
+
+#[test]
+fn as_a_site_has_them() {
+    agree_on(Kind::Site);
+}
+
+#[test]
+fn tie_rich() {
+    agree_on(Kind::Ties);
+}
+
+#[test]
+fn plants_of_every_number_of_streams() {
+    for streams in (6..=96).step_by(6) {
+        for plant in plants(Kind::Extremes, streams / 3, streams, 200) {
+            assert_eq!(compare(&plant.file(), SHEET_SIZE, 0), 0);
+        }
+    }
+}
+
+/// Files cut, lengthened or with a byte changed; slices and counters at their edges.
+#[test]
+fn refusals() {
+    let mut draws = Draws::new(3);
+    let mut seen = [false; 13];
+    for seed in 0..20_000 {
+        let mut file = draw(Kind::ALL[draws.below(3)], 5 + draws.below(3), 1 + draws.below(8), seed).file();
+        match draws.below(4) {
+            0 => file.truncate(draws.below(file.len())),
+            1 => file.push(draws.below(256) as u8),
+            _ => {
+                let at = draws.below(file.len());
+                file[at] = draws.pick(&[0, 1, 2, 3, 4, 5, 40, 255]);
+            }
+        }
+        let slice = draws.pick(&[SHEET_SIZE, SHEET_SIZE, SHEET_SIZE + 9, SHEET_SIZE - 1]);
+        let last = draws.pick(&[0, 0, 41, u32::MAX - 1, u32::MAX]);
+        seen[usize::from(compare(&file, slice, last))] = true;
+    }
+    let mut file = vec![1, 1];
+    (0..96).for_each(|_| file.extend([3, 0, 1]));
+    file.push(2);
+    seen[usize::from(compare(&file, SHEET_SIZE, 0))] = true;
+    assert_eq!(seen, [true; 13], "some number never came up");
+}
+
+/// The sheet's cost as its total has it.
+fn cost_on_sheet(plant: &Plant) -> f64 {
+    let (_, _, written, sheet) =
+        outcome(SHEET_SIZE, 0, |last, sheet, written| raw::balance_plant(&plant.file(), last, sheet, written));
+    let cost: [u8; 8] = sheet[written - 10..written - 2].try_into().unwrap();
+    u64::from_be_bytes(cost) as f64
+}
+
+/// The floor's flows cost no more than the sheet's, and the sheet's at most a quarter of the summed weights more.
+#[test]
+fn the_floor_solves_the_same_plant() {
+    for kind in Kind::ALL {
+        for plant in plants(kind, 32, 96, 100) {
+            let mut flows = [0.0; MAX_STREAMS];
+            floor::solve(&plant.streams, plant.units, &mut flows);
+            let metered = || plant.streams.iter().zip(&flows).filter(|(s, _)| s.metered);
+            let floor: f64 = metered().map(|(s, x)| s.weight as f64 * (x - s.reading as f64).powi(2)).sum();
+            let quarter: f64 = metered().map(|(s, _)| s.weight as f64 / 4.0).sum();
+            let sheet = cost_on_sheet(&plant);
+            let rounding = 1e-9 * sheet + 1e-3;
+            assert!(floor <= sheet + rounding && sheet <= floor + quarter + rounding, "{floor} beside {sheet}");
+        }
+    }
+}
