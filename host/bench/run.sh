@@ -5,16 +5,17 @@
 #                                                search for bad plants; plot and worst plant go to target/host/bench
 #     bash host/bench/run.sh --record [...]      the same, and puts the tables into docs/SPEED.md, the plot beside it, and the
 #                                                worst plant into host/bench/worst.bin
-set -eu
+set -euo pipefail
 cd "$(dirname "$0")/../.."
-record=0
+record=
 if [ "${1:-}" = --record ]; then
-    record=1
+    record=' --record'
     shift
 fi
 plants=${1:-1000}
 seconds=${2:-60}
 out=target/host/bench
+processor=$(sed -n 's/^model name[^:]*: *//p' /proc/cpuinfo | head -1)
 command -v cargo >/dev/null || { echo "no cargo: install Rust (https://rustup.rs, or Debian: apt-get install cargo)" >&2; exit 2; }
 if [ ! -e target/staticlib/liblinked.a ]; then
     command -v rt >/dev/null || { echo "no target/staticlib/liblinked.a, and no rt to build it: install the Rattle kit (rattle-kit-5 or later)" >&2; exit 2; }
@@ -23,10 +24,10 @@ fi
 mkdir -p "$out"
 (cd host/bench && cargo build --release --offline --quiet)
 {
-    printf 'Measured with `bash host/bench/run.sh --record %s %s`.\n\n' "$plants" "$seconds"
+    printf 'Measured with `bash host/bench/run.sh%s %s %s`, processor: %s.\n\n' "$record" "$plants" "$seconds" "$processor"
     host/bench/target/release/wengeludo_bench "$plants" "$seconds" "$out"
 } | tee "$out/tables.md"
-[ "$record" = 1 ] || exit 0
+[ -n "$record" ] || exit 0
 awk -v tables="$out/tables.md" '
     /<!-- end of the tables -->/ {inside = 0}
     !inside {print}

@@ -5,9 +5,7 @@
 //! FOLDER   where the plot of how cost grows (speed.svg) and the worst plant found (worst.bin) are written
 
 use std::process::exit;
-use wengeludo_bench::climb::{self, Worst};
-use wengeludo_bench::engine::AS_LIBRARY;
-use wengeludo_bench::{measure, plot, report};
+use wengeludo_bench::{plot, report};
 
 fn main() {
     let words: Vec<String> = std::env::args().skip(1).collect();
@@ -21,11 +19,10 @@ fn main() {
     report::sizes(count);
     let growth = report::growth(count.div_ceil(5));
     report::variants(count.div_ceil(5));
-    let found = climb::climb(AS_LIBRARY, seconds);
-    worst(&found, seconds);
+    let found = report::worst(seconds);
     if let Some(folder) = words.get(2) {
         save(folder, "speed.svg", plot::svg(&growth).as_bytes());
-        save(folder, "worst.bin", &found.plant.file());
+        save(folder, "worst.bin", &found.file());
     }
 }
 
@@ -35,29 +32,4 @@ fn save(folder: &str, name: &str, bytes: &[u8]) {
         eprintln!("{}: {error}", path.display());
         exit(1);
     }
-}
-
-/// The worst plant that the climb found.
-fn worst(found: &Worst, seconds: f64) {
-    let Worst { plant, work, tried } = found;
-    let times = measure::times(plant, AS_LIBRARY);
-    println!(
-        "\nThe search for bad plants ran {seconds} s and tried {tried} plants of {} units and {} streams; the worst:\n",
-        plant.units,
-        plant.streams.len()
-    );
-    println!("| streams looked at | amounts moved | improvements | left after the hint | library | plain | floor | library / floor | library / plain |");
-    println!("|---|---|---|---|---|---|---|---|---|");
-    println!(
-        "| {} | {} | {} | {} | {:.1} | {:.1} | {:.2} | {:.1} | {:.2} |",
-        work.visits,
-        work.pushes,
-        work.improvements,
-        work.left,
-        times.library,
-        times.plain,
-        times.floor,
-        times.library / times.floor,
-        times.library / times.plain
-    );
 }

@@ -1,5 +1,6 @@
 //! The tables, in Markdown.
 
+use crate::climb::{climb, Worst};
 use crate::engine::{self, Phase, Variant, Work, AS_LIBRARY, VARIANTS};
 use crate::measure::{self, summary, Summary, Times};
 use crate::plants::{draw, Kind, Plant};
@@ -130,4 +131,26 @@ pub fn growth(count: usize) -> Vec<Growth> {
         g
     };
     (1..=16).map(|k| at(6 * k)).collect()
+}
+
+/// The worst plants that climbing found, by the library's way and by the last variant; the former is handed over.
+pub fn worst(seconds: f64) -> Plant {
+    let (units, streams) = SIZES[2];
+    println!("\nThe search for bad plants of {units} units and {streams} streams, {seconds} s for each variant named; the worst plant by streams looked at and amounts moved, and its microseconds.\n");
+    println!("| variant | plants tried | looked at | moved | improvements | left | library | this variant | floor | library / floor | variant / floor |");
+    println!("|---|---|---|---|---|---|---|---|---|---|---|");
+    let found = worst_by(AS_LIBRARY, seconds);
+    if let Some(&last) = VARIANTS.last().filter(|&&last| last != AS_LIBRARY) {
+        worst_by(last, seconds);
+    }
+    found
+}
+
+fn worst_by(variant: Variant, seconds: f64) -> Plant {
+    let Worst { plant, work, tried } = climb(variant, seconds);
+    let t = measure::times(&plant, variant);
+    let work = format!("{} | {} | {} | {}", work.visits, work.pushes, work.improvements, work.left);
+    let times = [t.library, t.plain, t.floor, t.library / t.floor, t.plain / t.floor].map(short);
+    println!("| {} | {tried} | {work} | {} |", variant.name, times.join(" | "));
+    plant
 }

@@ -3,7 +3,6 @@
 use super::forest::Forest;
 use super::state::State;
 use super::steps::LEFTOVER_LIMIT;
-use super::watch::Watch;
 use crate::plants::{Stream, MAX_UNITS, PLACES};
 
 /// A pivot below this belongs to a piece without the outside, and its price is 0.
@@ -108,7 +107,7 @@ fn prices(streams: &[Stream], forest: &Forest, units: usize) -> Option<[i64; PLA
 }
 
 /// A state settled at the rounded prices; none where they are of no use.
-pub fn begin<W: Watch>(streams: &[Stream], units: usize, _watch: &mut W) -> Option<State> {
+pub fn begin(streams: &[Stream], units: usize) -> Option<State> {
     let forest = Forest::new(streams);
     let mut state = State::zero();
     state.prices = prices(streams, &forest, units)?;

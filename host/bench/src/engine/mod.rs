@@ -36,10 +36,10 @@ pub enum Search {
     Scan,
     /// The same, as far as the first stream without slack.
     ScanToZero,
-    /// A distance per place; only the streams of a newly labelled place are looked at.
-    Distances,
     /// Sweeps over all streams; one without slack labels its far end at once.
     Sweeps,
+    /// A distance per place; only the streams of a newly labelled place are looked at.
+    Distances,
 }
 
 /// How the given streams are told from the withheld ones.
@@ -64,7 +64,7 @@ const FACTOR: Variant = Variant { name: "factorisation, scan", hint: Hint::Facto
 const TO_ZERO: Variant = Variant { name: "factorisation, scan to zero", search: Search::ScanToZero, ..FACTOR };
 const SWEEPS: Variant = Variant { name: "factorisation, sweeps", search: Search::Sweeps, ..FACTOR };
 const DISTANCES: Variant = Variant { name: "factorisation, distances", search: Search::Distances, ..FACTOR };
-const FOREST: Variant = Variant { name: "factorisation, distances, classes by forest", classes: Classes::Forest, ..DISTANCES };
+const FOREST: Variant = Variant { name: "factorisation, distances, forest", classes: Classes::Forest, ..DISTANCES };
 
 /// All variants, each with one change more or in another's place.
 pub const VARIANTS: [Variant; 6] = [STEPS, FACTOR, TO_ZERO, SWEEPS, DISTANCES, FOREST];
@@ -90,7 +90,7 @@ fn solve<W: Watch>(site: &Site, variant: Variant, watch: &mut W) -> [i64; MAX_ST
     let streams = site.streams();
     let mut state = match variant.hint {
         Hint::Steps => steps::begin(streams, watch),
-        Hint::Factor => factor::begin(streams, site.units, watch).unwrap_or_else(|| steps::begin(streams, watch)),
+        Hint::Factor => factor::begin(streams, site.units).unwrap_or_else(|| steps::begin(streams, watch)),
     };
     watch.phase(Phase::Hint);
     match variant.search {

@@ -76,23 +76,27 @@ fn way_round<W: Watch>(
     None
 }
 
+/// One is moved along the way round stream i, and along i backwards.
+fn move_round<W: Watch>(streams: &[Stream], state: &mut State, i: usize, via: &[u8; PLACES], watch: &mut W) {
+    let (start, mut at) = (streams[i].from, streams[i].to);
+    while at != start {
+        let j = usize::from(via[usize::from(at)]);
+        let forwards = streams[j].to == at;
+        state.flows[j] += if forwards { 1 } else { -1 };
+        at = if forwards { streams[j].from } else { streams[j].to };
+        watch.push();
+    }
+    state.flows[i] -= 1;
+}
+
 /// The same, by the streams of newly labelled places.
 pub fn tie_all_by_incidence<W: Watch>(streams: &[Stream], incidence: &Incidence, state: &mut State, watch: &mut W) {
     for (i, s) in streams.iter().enumerate() {
         if !can_fall(state, s, i) {
             continue;
         }
-        let Some(via) = way_round(streams, incidence, state, i, watch) else {
-            continue;
-        };
-        let (start, mut at) = (s.from, s.to);
-        while at != start {
-            let j = usize::from(via[usize::from(at)]);
-            let forwards = streams[j].to == at;
-            state.flows[j] += if forwards { 1 } else { -1 };
-            at = if forwards { streams[j].from } else { streams[j].to };
-            watch.push();
+        if let Some(via) = way_round(streams, incidence, state, i, watch) {
+            move_round(streams, state, i, &via, watch);
         }
-        state.flows[i] -= 1;
     }
 }
