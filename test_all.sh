@@ -1,6 +1,6 @@
 #!/usr/bin/env bash
-# The gate, then the archive and all that is built over it: the C program, the Rust crate with its differential tests, the
-# fuzz target.
+# The gate, then the archive and all that is built over it: the C program, the Rust crate with its differential tests, a short
+# run of the benchmark, the fuzz target.
 #
 #     bash test_all.sh               everything
 #     bash test_all.sh --after-gate  what follows the gate
@@ -38,6 +38,9 @@ bash host/c/build.sh
 bash host/c/test.sh
 part "the Rust crate and the differential tests"
 (cd host/rust && cargo test --offline --quiet -- --nocapture)
+part "the benchmark, a short run"
+bash host/bench/run.sh 5 1 >target/host/bench.log || { tail -20 target/host/bench.log >&2; exit 1; }
+grep -E '^\| (plants|random extremes|as a site has them|tie-rich) \| (units|32) ' target/host/bench.log | head -4
 part "the fuzz target, ${FUZZ_SECONDS:-60} seconds"
 bash host/fuzz/build.sh
 if ! bash host/fuzz/run.sh "${FUZZ_SECONDS:-60}" >target/host/fuzz/log 2>&1; then
