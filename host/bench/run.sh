@@ -15,16 +15,19 @@ fi
 plants=${1:-1000}
 seconds=${2:-60}
 out=target/host/bench
-processor=$(sed -n 's/^model name[^:]*: *//p' /proc/cpuinfo | head -1)
-command -v cargo >/dev/null || { echo "no cargo: install Rust (https://rustup.rs, or Debian: apt-get install cargo)" >&2; exit 2; }
+processor=$(awk -F ': *' '/^model name/ {print $2; exit}' /proc/cpuinfo)
+need() { command -v "$1" >/dev/null || { echo "no $1: install $2" >&2; exit 2; }; }
+need cargo "Rust 1.66 or later (https://rustup.rs, or Debian: apt-get install cargo)"
 if [ ! -e target/staticlib/liblinked.a ]; then
-    command -v rt >/dev/null || { echo "no target/staticlib/liblinked.a, and no rt to build it: install the Rattle kit (rattle-kit-5 or later)" >&2; exit 2; }
+    echo "no target/staticlib/liblinked.a: building it with 'rt staticlib linked'" >&2
+    need rt "the Rattle kit (rattle-kit-5 or later)"
     rt staticlib linked >&2
 fi
 mkdir -p "$out"
 (cd host/bench && cargo build --release --offline --quiet)
 {
-    printf 'Measured with `bash host/bench/run.sh%s %s %s`, processor: %s.\n\n' "$record" "$plants" "$seconds" "$processor"
+    printf 'Measured with `bash host/bench/run.sh%s %s %s`; processor: %s, %s of them; load average before the run: %s.\n\n' \
+        "$record" "$plants" "$seconds" "$processor" "$(nproc)" "$(cut -d ' ' -f 1 /proc/loadavg)"
     host/bench/target/release/wengeludo_bench "$plants" "$seconds" "$out"
 } | tee "$out/tables.md"
 [ -n "$record" ] || exit 0

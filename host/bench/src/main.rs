@@ -17,8 +17,9 @@ fn main() {
         }
     };
     report::sizes(count);
-    let growth = report::growth(count.div_ceil(5));
-    report::variants(count.div_ceil(5));
+    let fewer = (count + 4) / 5;
+    let growth = report::growth(fewer);
+    report::variants(fewer);
     let found = report::worst(seconds);
     if let Some(folder) = words.get(2) {
         save(folder, "speed.svg", plot::svg(&growth).as_bytes());

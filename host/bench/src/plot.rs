@@ -58,8 +58,8 @@ fn axes(svg: &mut String, scale: &Scale) {
     );
 }
 
-/// The medians as a line, the worst as a dashed one, the name at the right.
-fn series(svg: &mut String, scale: &Scale, growth: &[Growth], name: &str, colour: &str, of: fn(&Growth) -> Summary) {
+/// The medians as a line, the worst as a dashed one, the name in the given row of the list at the right.
+fn series(svg: &mut String, scale: &Scale, growth: &[Growth], row: u8, name: &str, colour: &str, of: fn(&Growth) -> Summary) {
     let points = |time: fn(Summary) -> f64| {
         let pairs: Vec<String> = growth.iter().map(|g| format!("{:.1},{:.1}", x(g.streams), scale.y(time(of(g))))).collect();
         pairs.join(" ")
@@ -67,10 +67,8 @@ fn series(svg: &mut String, scale: &Scale, growth: &[Growth], name: &str, colour
     let (median, worst) = (points(|s| s.median), points(|s| s.worst));
     let _ = writeln!(svg, r#"<polyline points="{median}" fill="none" stroke="{colour}" stroke-width="2"/>"#);
     let _ = writeln!(svg, r#"<polyline points="{worst}" fill="none" stroke="{colour}" stroke-dasharray="4 4"/>"#);
-    if let Some(last) = growth.last() {
-        let y = scale.y(of(last).median) + 4.0;
-        let _ = writeln!(svg, r#"<text x="{:.1}" y="{y:.1}" fill="{colour}">{name}</text>"#, x(last.streams) + 8.0);
-    }
+    let (left, y) = (WIDTH - RIGHT + 12.0, TOP + 16.0 * f64::from(row) + 10.0);
+    let _ = writeln!(svg, r#"<text x="{left}" y="{y}" fill="{colour}">{name}</text>"#);
 }
 
 /// The plot as SVG.
@@ -84,9 +82,9 @@ pub fn svg(growth: &[Growth]) -> String {
     let _ = writeln!(svg, r##"<rect width="{WIDTH}" height="{HEIGHT}" fill="#fff"/>"##);
     let _ = writeln!(svg, "<title>Time by the number of streams: median, and dashed the worst</title>");
     axes(&mut svg, &scale);
-    series(&mut svg, &scale, growth, "library", "#b03030", |g| g.library);
-    series(&mut svg, &scale, growth, "plain Rust", "#3050b0", |g| g.plain);
-    series(&mut svg, &scale, growth, "floor", "#308050", |g| g.floor);
+    series(&mut svg, &scale, growth, 0, "library", "#b03030", |g| g.library);
+    series(&mut svg, &scale, growth, 1, "plain Rust", "#3050b0", |g| g.plain);
+    series(&mut svg, &scale, growth, 2, "floor", "#308050", |g| g.floor);
     svg.push_str("</svg>\n");
     svg
 }

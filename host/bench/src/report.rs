@@ -81,8 +81,15 @@ pub fn work(variant: Variant, plant: &Plant) -> Work {
 /// What each variant costs at the greatest size: times, work and phases.
 pub fn variants(count: usize) {
     let (units, streams) = SIZES[2];
-    println!("\nThe variants of the plain engine, {count} plants of each kind with {units} units and {streams} streams: microseconds (median, worst), improvements left after the hint (mean, most), places labelled per improvement, streams looked at; and the mean microseconds of each phase (reading, hint, improvements, ties, classes, writing).\n");
-    println!("| plants | variant | median | worst | left | most | labelled | looked at | reading | hint | improvements | ties | classes | writing |");
+    println!(
+        "\nThe variants of the plain engine, {count} plants of each kind with {units} units and {streams} streams: microseconds \
+         (median, worst), improvements left after the hint (mean, most), places labelled per improvement, streams looked at; \
+         and the mean microseconds of each phase (reading, hint, improvements, ties, classes, writing).\n"
+    );
+    println!(
+        "| plants | variant | median | worst | left | most | labelled | looked at \
+         | reading | hint | improvements | ties | classes | writing |"
+    );
     println!("|---|---|---|---|---|---|---|---|---|---|---|---|---|---|");
     for kind in Kind::ALL {
         for variant in VARIANTS {
@@ -118,7 +125,10 @@ pub struct Growth {
 
 /// How cost grows with the streams: random extremes with a unit for every three streams.
 pub fn growth(count: usize) -> Vec<Growth> {
-    println!("\nHow cost grows, random extremes with a unit for every three streams, {count} plants of each size: microseconds (median, worst).\n");
+    println!(
+        "\nHow cost grows, random extremes with a unit for every three streams, {count} plants of each size: microseconds \
+         (median, worst).\n"
+    );
     println!("| streams | units | library | worst | plain | worst | floor | worst |");
     println!("|---|---|---|---|---|---|---|---|");
     let at = |streams: usize| {
@@ -136,8 +146,14 @@ pub fn growth(count: usize) -> Vec<Growth> {
 /// The worst plants that climbing found, by the library's way and by the last variant; the former is handed over.
 pub fn worst(seconds: f64) -> Plant {
     let (units, streams) = SIZES[2];
-    println!("\nThe search for bad plants of {units} units and {streams} streams, {seconds} s for each variant named; the worst plant by streams looked at and amounts moved, and its microseconds.\n");
-    println!("| variant | plants tried | looked at | moved | improvements | left | library | this variant | floor | library / floor | variant / floor |");
+    println!(
+        "\nThe search for bad plants of {units} units and {streams} streams, {seconds} s for each variant named; the worst plant \
+         by streams looked at and amounts moved, and its microseconds.\n"
+    );
+    println!(
+        "| variant | plants tried | looked at | moved | improvements | left \
+         | library | this variant | floor | library / floor | variant / floor |"
+    );
     println!("|---|---|---|---|---|---|---|---|---|---|---|");
     let found = worst_by(AS_LIBRARY, seconds);
     if let Some(&last) = VARIANTS.last().filter(|&&last| last != AS_LIBRARY) {

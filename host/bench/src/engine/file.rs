@@ -41,7 +41,7 @@ fn bytes_of<const SIZE: usize>(count: usize, body: &[u8]) -> Result<&[u8; SIZE],
     if count >= MAX_STREAMS {
         return Err(5);
     }
-    body.first_chunk().ok_or(3)
+    body.get(..SIZE).and_then(|b| b.try_into().ok()).ok_or(3)
 }
 
 fn metered(&[from, to, w1, w0, r3, r2, r1, r0]: &[u8; 8]) -> Stream {
