@@ -16,7 +16,7 @@ need() { # command, what to install
 }
 need rt "install the Rattle kit (rattle-kit-5 or later)"
 need "${CC:-cc}" "install a C compiler (Debian: apt-get install gcc libc6-dev) or name one in CC"
-need cargo "install Rust 1.63 or later (https://rustup.rs, or Debian: apt-get install cargo)"
+need cargo "install Rust 1.66 or later (https://rustup.rs, or Debian: apt-get install cargo)"
 need clang "install clang with its libFuzzer (Debian: apt-get install clang)"
 need objdump "install the binary utilities (Debian: apt-get install binutils)"
 [ "$missing" = 0 ] || exit 2
