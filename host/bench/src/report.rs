@@ -27,10 +27,11 @@ fn cells(s: Summary) -> String {
     format!("{} | {} | {}", short(s.median), short(s.high), short(s.worst))
 }
 
-/// The median and the worst of a ratio, plant by plant.
-fn ratio(times: &[Times], of: impl Fn(&Times) -> f64) -> String {
-    let s = summary(times.iter().map(of));
-    format!("{} | {}", short(s.median), short(s.worst))
+/// A ratio: that of the medians; plant by plant, its median and its worst.
+fn ratio(times: &[Times], over: fn(&Times) -> f64, under: fn(&Times) -> f64) -> String {
+    let of_medians = summary(times.iter().map(over)).median / summary(times.iter().map(under)).median;
+    let by_plant = summary(times.iter().map(|t| over(t) / under(t)));
+    [of_medians, by_plant.median, by_plant.worst].map(short).join(" | ")
 }
 
 /// Times and ratios of all kinds and sizes.
@@ -48,16 +49,19 @@ pub fn sizes(count: usize) {
             ratios.push(ratio_row(kind, units, streams, &times));
         }
     }
-    println!("\nRatios, plant by plant: median and worst.\n");
-    println!("| plants | units | streams | library / floor | worst | plain / floor | worst | library / plain | worst |");
-    println!("|---|---|---|---|---|---|---|---|---|");
+    println!("\nRatios: of the medians above; then plant by plant, the median and the worst.\n");
+    println!(
+        "| plants | units | streams | library / floor | by plant | worst \
+         | plain / floor | by plant | worst | library / plain | by plant | worst |"
+    );
+    println!("|---|---|---|---|---|---|---|---|---|---|---|---|");
     ratios.iter().for_each(|row| println!("{row}"));
 }
 
 fn ratio_row(kind: Kind, units: usize, streams: usize, times: &[Times]) -> String {
-    let by_floor = ratio(times, |t| t.library / t.floor);
-    let plain_by_floor = ratio(times, |t| t.plain / t.floor);
-    let by_plain = ratio(times, |t| t.library / t.plain);
+    let by_floor = ratio(times, |t| t.library, |t| t.floor);
+    let plain_by_floor = ratio(times, |t| t.plain, |t| t.floor);
+    let by_plain = ratio(times, |t| t.library, |t| t.plain);
     format!("| {} | {units} | {streams} | {by_floor} | {plain_by_floor} | {by_plain} |", kind.name())
 }
 
