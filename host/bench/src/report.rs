@@ -65,13 +65,12 @@ fn ratio_row(kind: Kind, units: usize, streams: usize, times: &[Times]) -> Strin
     format!("| {} | {units} | {streams} | {by_floor} | {plain_by_floor} | {by_plain} |", kind.name())
 }
 
-/// The work of a plant by a variant, with the phases' least times of several runs.
-pub fn work(variant: Variant, plant: &Plant) -> Work {
-    let file = plant.file();
+/// The work of a variant on a file, with the phases' least times of several runs.
+fn work(variant: Variant, file: &[u8]) -> Work {
     let mut sheet = [0; SHEET_SIZE];
     let mut run = || {
         let mut work = Work::new();
-        engine::balance_plant(variant, &file, &mut 0, &mut sheet, &mut 0, &mut work);
+        engine::balance_plant(variant, file, &mut 0, &mut sheet, &mut 0, &mut work);
         work
     };
     let mut best = run();
@@ -96,20 +95,27 @@ pub fn variants(count: usize) {
     );
     println!("|---|---|---|---|---|---|---|---|---|---|---|---|---|---|");
     for kind in Kind::ALL {
-        for variant in VARIANTS {
-            let drawn: Vec<Plant> = plants(kind, units, streams, count).collect();
-            println!("| {} | {} | {} |", kind.name(), variant.name, variant_cells(variant, &drawn));
+        // Plant after plant, so that a change of the machine's load meets all variants alike.
+        let rows: Vec<_> = plants(kind, units, streams, count).map(|p| VARIANTS.map(|variant| tried(variant, &p))).collect();
+        for (k, variant) in VARIANTS.iter().enumerate() {
+            let of_variant: Vec<&(f64, Work)> = rows.iter().map(|row| &row[k]).collect();
+            println!("| {} | {} | {} |", kind.name(), variant.name, variant_cells(&of_variant));
         }
     }
 }
 
-fn variant_cells(variant: Variant, plants: &[Plant]) -> String {
-    plants.iter().for_each(|p| measure::compare(variant, &p.file()));
-    let times = summary(plants.iter().map(|p| measure::plain(variant, &p.file())));
-    let works: Vec<Work> = plants.iter().map(|p| work(variant, p)).collect();
-    let mean = |of: &dyn Fn(&Work) -> f64| works.iter().map(of).sum::<f64>() / works.len() as f64;
+/// A variant's time and work on a plant; first the sheets are compared.
+fn tried(variant: Variant, plant: &Plant) -> (f64, Work) {
+    let file = plant.file();
+    measure::compare(variant, &file);
+    (measure::plain(variant, &file), work(variant, &file))
+}
+
+fn variant_cells(tried: &[&(f64, Work)]) -> String {
+    let times = summary(tried.iter().map(|t| t.0));
+    let mean = |of: &dyn Fn(&Work) -> f64| tried.iter().map(|t| of(&t.1)).sum::<f64>() / tried.len() as f64;
     let left = mean(&|w| w.left as f64);
-    let most = works.iter().map(|w| w.left).max().unwrap_or(0);
+    let most = tried.iter().map(|t| t.1.left).max().unwrap_or(0);
     let labelled = mean(&|w| w.left_rounds as f64) / left;
     let visits = mean(&|w| w.visits as f64);
     let phases = [Phase::Read, Phase::Hint, Phase::Improvements, Phase::Ties, Phase::Classes, Phase::Write];
