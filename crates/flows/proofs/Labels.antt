@@ -66,8 +66,37 @@ relabelled-self x (y ∷ ls) = rw (renamed-self x y, relabelled-self x ls)
 united-one : (a b : ℕ) (ls : List ℕ) → a ≡ b → united a b ls ≡ ls
 united-one a b ls e = min-max (λ lo hi. relabelled lo hi ls ≡ ls) a b (rw e (relabelled-self b ls)) (rw e (relabelled-self b ls))
 
-pub stepped-one : (s : Stream) (ls : List ℕ) → getD ls (s .from) 0 ≡ getD ls (s .to) 0 → stepped true s ls ≡ ls
-stepped-one s ls e = united-one (getD ls (s .from) 0) (getD ls (s .to) 0) ls e
+pub stepped-one : (c : Bool) (s : Stream) (ls : List ℕ) → c ≡ true → getD ls (s .from) 0 ≡ getD ls (s .to) 0 → ls ≡ stepped c s ls
+stepped-one c s ls t e = rw t (sym (united-one (getD ls (s .from) 0) (getD ls (s .to) 0) ls e))
+
+pub stepped-none : (c : Bool) (s : Stream) (ls : List ℕ) → c ≡ false → ls ≡ stepped c s ls
+stepped-none c s ls t = rw t
+
+-- A stream that counts, by the order of its ends' labels.
+pub stepped-up : (c : Bool) (s : Stream) (ls : List ℕ) → c ≡ true → getD ls (s .from) 0 ≤ getD ls (s .to) 0
+    → relabelled (getD ls (s .from) 0) (getD ls (s .to) 0) ls ≡ stepped c s ls
+stepped-up c s ls t le = rw (t, min-eq-left le, max-eq-right le)
+
+pub stepped-down : (c : Bool) (s : Stream) (ls : List ℕ) → c ≡ true → getD ls (s .to) 0 ≤ getD ls (s .from) 0
+    → relabelled (getD ls (s .to) 0) (getD ls (s .from) 0) ls ≡ stepped c s ls
+stepped-down c s ls t le = rw (t, min-eq-right le, max-eq-left le)
+
+-- A step keeps the number of labels.
+pub stepped-long : (c : Bool) (s : Stream) (ls : List ℕ) → length (stepped c s ls) ≡ length ls
+stepped-long true s ls = length-map ls _
+stepped-long false s ls = refl
+
+pub labels-long : (counts : Counting) (ss : List Stream) (k : ℕ) → length (labelsAfter counts ss k) ≡ places
+unfolding labelsAfter
+labels-long counts ss zero = values-long (λ u. u) places
+labels-long counts ss (suc k) = stepped-long (counts k (streamAt ss k)) (streamAt ss k) (labelsAfter counts ss k) ∙ labels-long counts ss k
+
+-- Where the same streams count, so far, the labels are the same.
+pub labels-same : (f g : Counting) (ss : List Stream) (k : ℕ) → ((j : ℕ) → j < k → f j (streamAt ss j) ≡ g j (streamAt ss j))
+    → labelsAfter f ss k ≡ labelsAfter g ss k
+unfolding labelsAfter
+labels-same f g ss zero e = refl
+labels-same f g ss (suc k) e = rw (e k (omega arith), labels-same f g ss k (λ j l. e j (omega arith)))
 
 -- One step more.
 pub step-more : (counts : Counting) (ss : List Stream) (i : ℕ) (s : Stream) (ls next : List ℕ) (c : Bool)

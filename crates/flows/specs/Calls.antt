@@ -1,19 +1,22 @@
 -- Plants as the code holds them: what the calls over groups and classes need, and what each case of an answer means.
 use mathlib.Core.Path.{_≡_}
+use mathlib.Core.Bool.{Bool, true, false, not}
 use mathlib.Core.List.{List}
 use Prim.Native.Nat.{ℕ, _≤_, _<_}
 use lib.ListN.{length, getD}
+use Rattle.numbers.specs.Choice.{pick}
 use Rattle.plants.specs.declared.Stream.{Stream}
 use Rattle.plants.specs.declared.Plant as Arrays
 use Rattle.plants.specs.Limits.{maxUnits, places, maxStreams}
 use Rattle.plants.specs.Plants.{Plant, noStream}
 use Rattle.plants.specs.Says.{plantOf}
 use Rattle.flows.specs.declared.Class.{Class}
+use Rattle.flows.specs.declared.Class.the-variants.{AsRead, Adjusted, Withheld}
 use Rattle.flows.specs.declared.Which.{Which}
 use Rattle.flows.specs.declared.Which.the-variants.{Every, Unmetered, UnmeteredBut}
 use Rattle.flows.specs.Flows.{values}
 use Rattle.flows.specs.Classes.{Counting, everyStream, unmeteredOnly, unmeteredBut, classOf}
-use Rattle.flows.specs.Labels.{labelsAfter, labelsOf}
+use Rattle.flows.specs.Labels.{labelsAfter, labelsOf, oneLabel}
 
 -- A plant within the limits that groups need.
 pub record Fit (p : Arrays.Plant) : Type 0 where
@@ -43,8 +46,17 @@ pub record Grouped (p : Arrays.Plant) (labels : List ℕ) : Type 0 where
   pub fit : Fit p
   pub labelled : labels ≡ labelsOf unmeteredOnly (plantOf p)
 
--- Also the labels by the unmetered streams before stream i.
-pub record Classing (p : Arrays.Plant) (labels earlier : List ℕ) (i : ℕ) : Type 0 where
-  pub grouped : Grouped p labels
+-- A stream that is unmetered and joins two groups of the streams before it; the class of every other stream, by the labels by
+-- all unmetered streams.
+abbrev pub joining : List ℕ → Stream → Bool
+joining earlier s = pick (s .metered) false (not (oneLabel earlier (s .from) (s .to)))
+
+abbrev pub settledBy : List ℕ → Stream → Class
+settledBy labels s = pick (s .metered) (pick (oneLabel labels (s .from) (s .to)) AsRead Adjusted) Withheld
+
+-- A plant, one of its streams, and the labels by the unmetered streams before it, two of which the stream joins.
+pub record Joining (p : Arrays.Plant) (earlier : List ℕ) (i : ℕ) : Type 0 where
+  pub fit : Fit p
   pub listed : i < p .count
   pub met : earlier ≡ labelsAfter unmeteredOnly (plantOf p .streams) i
+  pub joins : joining earlier (getD (p .streams) i noStream) ≡ true

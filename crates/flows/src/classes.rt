@@ -3,34 +3,59 @@ use crate::Class;
 use crate::Which;
 use crate::groups;
 use plants::Plant;
+use plants::Stream;
 use plants::limits::MAX_STREAMS;
 use plants::limits::PLACES;
 ghost use mathlib.Core.Path.{_≡_};
 ghost use Prim.Native.Nat.{_≤_};
-ghost use Rattle.plants.specs.Limits.{maxUnits};
+ghost use lib.ListN.{length};
+ghost use Rattle.plants.specs.Limits.{maxUnits, places};
 ghost use Rattle.plants.specs.Says.{plantOf};
 ghost use Rattle.flows.specs.Classes.{classOf, degrees};
-ghost use Rattle.flows.specs.Calls.{Grouped, Classing, classesOf};
+ghost use Rattle.flows.specs.Calls.{Ends, Grouped, Joining, joining, settledBy, classesOf};
 
-// The class of stream i, from the labels by the unmetered streams and the labels by those before stream i. An unmetered
-// stream whose ends earlier ones join lies on a loop; only for the others, 32 at most, are groups formed without it.
-pub fn class_of(p: Plant, labels: [u8; PLACES], earlier: [u8; PLACES], i: usize) -> Class
-    requires { ⌜ Classing p labels earlier i ⌝ }
+// Whether a stream is unmetered and joins two groups of the streams before it.
+fn joins(earlier: &[u8; PLACES], s: Stream) -> bool
+    requires { ⌜ Ends s × (length (now earlier) ≡ places) ⌝ }
+    ensures { λ r. ⌜ r ≡ joining (now (earlier .entry)) s ⌝ }
+{
+    if s.metered {
+        return false;
+    }
+    !groups::one_label(earlier, s)
+}
+
+// The class of every other stream. An unmetered one, whose ends earlier ones join, lies on a loop.
+fn settled_class(labels: &[u8; PLACES], s: Stream) -> Class
+    requires { ⌜ Ends s × (length (now labels) ≡ places) ⌝ }
+    ensures { λ r. ⌜ r ≡ settledBy (now (labels .entry)) s ⌝ }
+{
+    if !s.metered {
+        return Class::Withheld;
+    }
+    if groups::one_label(labels, s) {
+        return Class::AsRead;
+    }
+    Class::Adjusted
+}
+
+// The class of stream i, which joins two groups of the streams before it: the groups are formed on without it, by the
+// streams after it, until its ends are in one.
+fn joining_class(p: Plant, earlier: [u8; PLACES], i: usize) -> Class
+    requires { ⌜ Joining p earlier i ⌝ }
     ensures { λ r. ⌜ r ≡ classOf (plantOf p) i ⌝ }
 {
+    let n = p.count as usize;
     let s = p.streams[i];
-    if s.metered {
-        if groups::one_label(labels, s) {
-            return Class::AsRead;
+    let mut others = earlier;
+    let mut j = i + 1;
+    while j < n {
+        let next = p.streams[j];
+        groups::step(&mut others, next, !next.metered);
+        if groups::one_label(&others, s) {
+            return Class::Withheld;
         }
-        return Class::Adjusted;
-    }
-    if groups::one_label(earlier, s) {
-        return Class::Withheld;
-    }
-    let others = groups::group(p, Which::UnmeteredBut(i));
-    if groups::one_label(others, s) {
-        return Class::Withheld;
+        j += 1;
     }
     Class::Given
 }
@@ -46,10 +71,13 @@ pub fn classes_of(p: Plant, labels: [u8; PLACES]) -> [Class; MAX_STREAMS]
     let mut i: usize = 0;
     while i < n {
         let s = p.streams[i];
-        let c = class_of(p, labels, earlier, i);
+        let c = if joins(&earlier, s) {
+            joining_class(p, earlier, i)
+        } else {
+            settled_class(&labels, s)
+        };
         r[i] = c;
-        let next = groups::step(earlier, s, !s.metered);
-        earlier = next;
+        groups::step(&mut earlier, s, !s.metered);
         i += 1;
     }
     r

@@ -5,7 +5,8 @@ use plants::Stream;
 use plants::limits::PLACES;
 ghost use mathlib.Core.Path.{_≡_};
 ghost use Prim.Native.Nat.{_<_, _≤_};
-ghost use Rattle.plants.specs.Limits.{maxUnits};
+ghost use lib.ListN.{length};
+ghost use Rattle.plants.specs.Limits.{maxUnits, places};
 ghost use Rattle.plants.specs.Says.{plantOf};
 ghost use Rattle.flows.specs.Labels.{ownNumbers, relabelled, stepped, labelsOf, oneLabel, ownLabels};
 ghost use Rattle.flows.specs.Calls.{Fit, Ends, counting};
@@ -40,39 +41,39 @@ pub fn own_numbers() -> [u8; PLACES]
 }
 
 // The label `hi` becomes `lo` everywhere.
-pub fn rename(labels: [u8; PLACES], lo: u8, hi: u8) -> [u8; PLACES]
-    ensures { λ r. ⌜ r ≡ relabelled lo hi labels ⌝ }
+pub fn rename(labels: &mut [u8; PLACES], lo: u8, hi: u8)
+    requires { ⌜ length (now labels) ≡ places ⌝ }
+    ensures { λ _. ⌜ now (labels .exit) ≡ relabelled lo hi (now (labels .entry)) ⌝ }
 {
-    let mut r = labels;
     let mut u: usize = 0;
     while u < PLACES {
-        if r[u] == hi {
-            r[u] = lo;
+        if labels[u] == hi {
+            labels[u] = lo;
         }
         u += 1;
     }
-    r
 }
 
 // A step: the labels and the next stream, which counts or not.
-pub fn step(labels: [u8; PLACES], s: Stream, counts: bool) -> [u8; PLACES]
-    requires { ⌜ Ends s ⌝ }
-    ensures { λ r. ⌜ r ≡ stepped counts s labels ⌝ }
+pub fn step(labels: &mut [u8; PLACES], s: Stream, counts: bool)
+    requires { ⌜ Ends s × (length (now labels) ≡ places) ⌝ }
+    ensures { λ _. ⌜ now (labels .exit) ≡ stepped counts s (now (labels .entry)) ⌝ }
 {
     if !counts {
-        return labels;
+        return;
     }
     let u = s.from as usize;
     let v = s.to as usize;
     let a = labels[u];
     let b = labels[v];
     if a == b {
-        return labels;
+        return;
     }
     if a <= b {
-        return rename(labels, a, b);
+        rename(labels, a, b);
+        return;
     }
-    rename(labels, b, a)
+    rename(labels, b, a);
 }
 
 // The labels after all streams.
@@ -86,17 +87,16 @@ pub fn group(p: Plant, which: Which) -> [u8; PLACES]
     while i < n {
         let s = p.streams[i];
         let c = counts(which, i, s);
-        let next = step(labels, s, c);
-        labels = next;
+        step(&mut labels, s, c);
         i += 1;
     }
     labels
 }
 
 // Whether a stream's ends have one label.
-pub fn one_label(labels: [u8; PLACES], s: Stream) -> bool
-    requires { ⌜ Ends s ⌝ }
-    ensures { λ r. ⌜ r ≡ oneLabel labels (s .from) (s .to) ⌝ }
+pub fn one_label(labels: &[u8; PLACES], s: Stream) -> bool
+    requires { ⌜ Ends s × (length (now labels) ≡ places) ⌝ }
+    ensures { λ r. ⌜ r ≡ oneLabel (now (labels .entry)) (s .from) (s .to) ⌝ }
 {
     let u = s.from as usize;
     let v = s.to as usize;

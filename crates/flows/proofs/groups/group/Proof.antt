@@ -2,10 +2,11 @@
 use mathlib.Core.Path.{_≡_, sym, _∙_, ap}
 use Prim.Native.Nat.{_≤_, _-_}
 use native.Mathlib.Omega.{arith}
+use lib.ListN.{length}
 use Rattle.plants.specs.Says.{plantOf}
 use Rattle.flows.specs.Labels.{labelsAfter}
 use Rattle.flows.specs.Calls.{counting}
-use Rattle.flows.proofs.Labels.{step-none, step-more}
+use Rattle.flows.proofs.Labels.{step-none, step-more, labels-long}
 use Rattle.flows.proofs.Fits.{fit-length, fit-at, fit-ends}
 use borrow.Author.Needs.{needs}
 use Rattle.flows.proofs.groups.group.Statement.{statement}
@@ -36,7 +37,9 @@ counts-requires : tie.Need-counts-requires Inv-loop μ-loop
 counts-requires c κs = search needs
 
 step-requires : tie.Need-step-requires Inv-loop μ-loop
-step-requires c κs = let st = c .before .before .before .before .before in fit-ends (st .args .t1) (st .pre) _ (c .before .before .loop-test .taken)
+step-requires c κs =
+    let st = c .before .before .before .before .before .before in
+    (fit-ends (st .args .t1) (st .pre) _ (c .before .before .before .loop-test .taken), ap length (c .before .before .before .before .loop .inv .1) ∙ labels-long _ _ _)
 
 add-i : tie.Need-add-i Inv-loop μ-loop
 add-i c = search needs
@@ -46,10 +49,10 @@ loop-less c = search needs
 
 loop-again : tie.Need-loop-again Inv-loop μ-loop
 loop-again c =
-    let st = c .before .before .before .before .before .before in
-    let at = c .before .before .before .before .loop in
-    let here = fit-at (st .args .t1) (st .pre) (at .i) (c .before .before .before .loop-test .taken) in
-    (omega arith, step-more _ _ (at .i) _ _ _ _ (at .inv .1) here (c .before .counts .ensures) (c .step .ensures))
+    let st = c .before .before .before .before .before .before .before in
+    let at = c .before .before .before .before .before .loop in
+    let here = fit-at (st .args .t1) (st .pre) (at .i) (c .before .before .before .before .loop-test .taken) in
+    (omega arith, step-more _ _ (at .i) _ _ _ _ (at .inv .1) here (c .before .before .counts .ensures) (c .step .ensures))
 
 returns : tie.Need-returns Inv-loop μ-loop
 returns c =

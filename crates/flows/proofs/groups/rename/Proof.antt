@@ -12,19 +12,19 @@ use Rattle.flows.proofs.groups.rename.Statement.{statement}
 use Rattle.flows.proofs.groups.rename.Tie as tie
 
 abbrev Inv-loop : tie.InvT-loop
-Inv-loop lo hi r₀ u₀ r u = (u ≤ places) × Written 0 places (λ k x. renamed lo hi x) r₀ r u
+Inv-loop labels₀ lo hi u₀ labels u = (u ≤ places) × Written 0 places (λ k x. renamed lo hi x) labels₀ labels u
 
 abbrev μ-loop : tie.MeasureT-loop
-μ-loop lo hi r₀ u₀ r u = places - u
+μ-loop labels₀ lo hi u₀ labels u = places - u
 
 loop-holds : tie.Need-loop-holds Inv-loop μ-loop
-loop-holds c = (omega arith, written-none (omega arith))
+loop-holds c = (omega arith, written-none (c .pre))
 
-array-read-if1 : tie.Need-array-read-if1 Inv-loop μ-loop
-array-read-if1 c = search needs
+element-copy-out-if1 : tie.Need-element-copy-out-if1 Inv-loop μ-loop
+element-copy-out-if1 c = search needs
 
-array-write-r : tie.Need-array-write-r Inv-loop μ-loop
-array-write-r c = search needs
+element-write-labels : tie.Need-element-write-labels Inv-loop μ-loop
+element-write-labels c = search needs
 
 add-u : tie.Need-add-u Inv-loop μ-loop
 add-u c = search needs
@@ -34,8 +34,8 @@ loop-less c = search needs
 
 loop-again : tie.Need-loop-again Inv-loop μ-loop
 loop-again c =
-    let w = c .before .before .loop .inv .1 in
-    let u = c .before .before .loop .u in (
+    let w = c .before .before .before .loop .inv .1 in
+    let u = c .before .before .before .loop .u in (
       omega arith,
       ⊎-elim
           (λ z. rw (z .1) (written-put w (omega arith) _ (renamed-hit _ _ _ (sym (w .rest u (omega arith)) ∙ z .0 .taken))))
@@ -46,7 +46,7 @@ loop-again c =
 returns : tie.Need-returns Inv-loop μ-loop
 returns c =
     let e : c .before .loop .u ≡ places = omega arith in
-    renamed-all _ _ _ _ (omega arith) (rw e at (c .before .loop .inv .1))
+    renamed-all _ _ _ _ (c .before .before .pre) (rw e at (c .before .loop .inv .1))
 
 pub rename-spec : {M : Type 1} → statement M
 rename-spec =
@@ -55,8 +55,8 @@ rename-spec =
     Inv-loop
     μ-loop
     loop-holds
-    array-read-if1
-    array-write-r
+    element-copy-out-if1
+    element-write-labels
     add-u
     loop-less
     loop-again
