@@ -4,7 +4,7 @@ use mathlib.Core.Bool.{Bool, true, false}
 use mathlib.Core.List.{List}
 use lib.IntN.{ℤ, pos, negsuc, natAbs}
 use Prim.Native.Nat.{ℕ, zero, suc, _+_, _-_, _*_, _/_, _%_, _≤_, _<_}
-use native.Mathlib.Nat.{mul-le-mul-left, mul-le-mul-right, div-add-mod, mod-lt}
+use native.Mathlib.Nat.{mul-le-mul-left, mul-le-mul-right, div-add-mod, mod-lt, add-mul-div-left, div-eq-of-lt-le}
 use native.Mathlib.Omega.{arith}
 use native.Mathlib.Decide.{decLe, ℕ-discrete}
 use lib.ListN.{length, getD, set, length-set, List·getD-eq-default}
@@ -66,6 +66,35 @@ weight-some s e = rw e
 
 pub held-agreed : (ss : List Stream) (xs ps : List ℕ) (m : ℕ) → AllHeld ss xs ps m → Agreed ss ps
 held-agreed ss xs ps m h k l e = held-agree m (weightOf (streamAt ss k)) (getD xs k 0) (readingOf (streamAt ss k)) _ _ (weight-none (streamAt ss k) e) (h k l)
+
+-- The nearest amount by a quotient of small numbers: above the reading, and below it.
+pub settled-up : (w R pu pv : ℕ) → 1 ≤ w → spread ≤ R → pu ≤ pv + w → (R - spread) + (pv + w + 2 * (w * spread) - pu) / (2 * w) ≡ R + (pv + w - pu) / (2 * w)
+settled-up w R pu pv l r h =
+    let e : pv + w + 2 * (w * spread) - pu ≡ (pv + w - pu) + 2 * w * spread = omega arith in
+    let q : ((pv + w - pu) + 2 * w * spread) / (2 * w) ≡ (pv + w - pu) / (2 * w) + spread = add-mul-div-left (pv + w - pu) spread (omega arith) in
+    rw (e, q) (omega arith)
+
+pub down-most : (w pu pv : ℕ) → 1 ≤ w → pv + w < pu → pu ≤ pv + 2 * spread → (pu - pv + w - 1) / (2 * w) ≤ spread
+down-most w pu pv l h m = elim (decLe ((pu - pv + w - 1) / (2 * w)) spread) [
+  | yes z ↦ z
+  | no z ↦ let e = div-add-mod (pu - pv + w - 1) (2 * w) in
+      let k : 2 * w * (spread + 1) ≤ 2 * w * ((pu - pv + w - 1) / (2 * w)) = mul-le-mul-left (2 * w) (omega arith) in
+      absurd (omega (arith, e, k))
+]
+
+pub settled-down : (w R pu pv : ℕ) → 1 ≤ w → spread ≤ R → pv + w < pu → pu ≤ pv + 2 * spread
+    → (R - spread) + (pv + w + 2 * (w * spread) - pu) / (2 * w) ≡ R - (pu - pv + w - 1) / (2 * w)
+settled-down w R pu pv l r h m =
+    let t : ℕ = (pu - pv + w - 1) / (2 * w) in
+    let most : t ≤ spread = down-most w pu pv l h m in
+    let k : ℕ = spread - t in
+    let N : ℕ = pv + w + 2 * (w * spread) - pu in
+    let e : 2 * w * t + (pu - pv + w - 1) % (2 * w) ≡ pu - pv + w - 1 = div-add-mod (pu - pv + w - 1) (2 * w) in
+    let b : (pu - pv + w - 1) % (2 * w) < 2 * w = mod-lt (pu - pv + w - 1) (omega arith) in
+    let s : k + t ≡ spread = omega arith in
+    let f : w * (k + t) ≡ w * spread = ap (λ n. w * n) s in
+    let q : N / (2 * w) ≡ k = div-eq-of-lt-le (2 * w) (omega (arith, e, b, f)) (omega (arith, e, b, f)) in
+    rw q (omega (arith, most))
 
 -- The nearest amount meets the step condition.
 pub settled-held : (s : Stream) (pu pv : ℕ) → 1 ≤ weightOf s → pu ≤ pv + 2 * spread → spread ≤ readingOf s → Held 1 (weightOf s) (settledOf s pu pv) (readingOf s) pu pv

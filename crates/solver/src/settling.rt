@@ -1,7 +1,6 @@
 // Amounts settled at prices, and the nets that they leave.
 use crate::Hint;
 use crate::State;
-use crate::sizes::SPREAD;
 use paths::sizes::FLOW_SHIFT;
 use paths::sizes::NET_SHIFT;
 use paths::slacks::reading_of;
@@ -19,14 +18,18 @@ ghost use Rattle.solver.specs.Sizes.{netRoom};
 ghost use Rattle.solver.specs.Model.{settledOf, settledTo, booked, netsTo, settled};
 ghost use Rattle.solver.specs.Premises.{Layout, Amounts, Around, Settleable, Settles, Ready};
 
-// A metered stream's amount at the prices of its start and its end.
+// A metered stream's amount at the prices of its start and its end. (The numbers divided are kept small: a division of small numbers
+// is quicker.)
 fn amount_at(s: Stream, pu: u64, pv: u64) -> u64
     requires { ⌜ Settleable s pu pv ⌝ }
     ensures { λ r. ⌜ r ≡ settledOf s pu pv ⌝ }
 {
     let w = weight_of(s);
     let r = reading_of(s);
-    (r - SPREAD) + (pv + w + 2 * (w * SPREAD) - pu) / (2 * w)
+    if pu <= pv + w {
+        return r + (pv + w - pu) / (2 * w);
+    }
+    r - (pu - pv + w - 1) / (2 * w)
 }
 
 // Each metered stream's amount is settled; the others stay as they are.

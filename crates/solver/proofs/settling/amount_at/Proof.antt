@@ -1,14 +1,19 @@
 -- `solver::settling::amount_at` meets its contract: every part fits, by the bounds of weight, reading and prices.
-use Prim.Native.Nat.{_≤_, _-_, _+_, _*_}
-use native.Mathlib.Omega.{arith}
-use native.Mathlib.Nat.{div-le-self}
-use Rattle.plants.specs.Limits.{maxWeight}
-use Rattle.paths.specs.Sizes.{mostFlow}
+use Rattle.solver.proofs.Nearest.{reading-close, settled-up, settled-down, down-most}
 use Rattle.solver.specs.Sizes.{spread}
-use Rattle.solver.proofs.Nearest.{reading-close}
+use Rattle.paths.specs.Held.{readingOf}
+use Rattle.paths.specs.Sizes.{mostFlow}
+use Rattle.flows.specs.Certificate.{weightOf}
+use Rattle.plants.specs.Limits.{maxWeight}
+use native.Mathlib.Nat.{div-le-self}
+use native.Mathlib.Omega.{arith}
+use Prim.Native.Nat.{_≤_, _-_, _+_, _*_}
+use mathlib.Core.Path.{sym}
 use borrow.Author.Needs.{needs}
 use Rattle.solver.proofs.settling.amount_at.Statement.{statement}
 use Rattle.solver.proofs.settling.amount_at.Tie as tie
+use Rattle.paths.proofs.slacks.reading_of.Reads as reading-of-reads
+use Rattle.paths.proofs.slacks.weight_of.Reads as weight-of-reads
 
 bounds : (c : tie.After-reading-of)
     → (1 ≤ c .before .weight-of .result) × (c .before .weight-of .result ≤ maxWeight) × (spread ≤ c .reading-of .result) × (c .reading-of .result ≤ mostFlow)
@@ -26,38 +31,63 @@ weight-of-requires c κs = search needs
 reading-of-requires : tie.Need-reading-of-requires
 reading-of-requires c κs = search needs
 
-sub-result : tie.Need-sub-result
-sub-result c = omega (arith, bounds c)
+add-if1 : tie.Need-add-if1
+add-if1 c = search needs
 
 add-result : tie.Need-add-result
-add-result c = omega (arith, bounds c)
+add-result c = search needs
+
+sub-result : tie.Need-sub-result
+sub-result c = search needs
 
 mul-result : tie.Need-mul-result
-mul-result c = omega (arith, bounds c)
-
-mul-result-2 : tie.Need-mul-result-2
-mul-result-2 c = omega (arith, bounds c)
-
-add-result-2 : tie.Need-add-result-2
-add-result-2 c = omega (arith, bounds c)
-
-sub-result-2 : tie.Need-sub-result-2
-sub-result-2 c = search needs
-
-mul-result-3 : tie.Need-mul-result-3
-mul-result-3 c = omega (arith, bounds c)
+mul-result c = search needs
 
 div-result : tie.Need-div-result
 div-result c = search needs
 
-add-result-3 : tie.Need-add-result-3
-add-result-3 c =
-    let w = c .before .weight-of .result in
-    let st = c .before .before in
-    omega (arith, bounds c, div-le-self (st .args .pv + w + 2 * (w * spread) - st .args .pu) (2 * w))
+add-result-2 : tie.Need-add-result-2
+add-result-2 c = 
+    let f = c .before in
+    let w = f .before .weight-of .result in
+    let st = f .before .before in
+    omega (arith, bounds f, st .pre .price-v, div-le-self (st .args .pv + w - st .args .pu) (2 * w))
 
 returns : tie.Need-returns
-returns c = rw (c .before .weight-of .ensures, c .reading-of .ensures .0)
+returns c = 
+    let f = c .before in
+    let st = f .before .before in
+    rw (f .before .weight-of .ensures, f .reading-of .ensures .0)
+    (sym (settled-up (weightOf (st .args .s)) (readingOf (st .args .s)) (st .args .pu) (st .args .pv) (st .pre .weighed) (rw (f .reading-of .ensures .0) at (bounds f .2)) (rw (f .before .weight-of .ensures) at (c .if1 .taken))))
+
+sub-result-2 : tie.Need-sub-result-2
+sub-result-2 c = search needs
+
+add-result-3 : tie.Need-add-result-3
+add-result-3 c = search needs
+
+sub-result-3 : tie.Need-sub-result-3
+sub-result-3 c = search needs
+
+mul-result-2 : tie.Need-mul-result-2
+mul-result-2 c = search needs
+
+div-result-2 : tie.Need-div-result-2
+div-result-2 c = search needs
+
+sub-result-4 : tie.Need-sub-result-4
+sub-result-4 c = 
+    let f = c .before in
+    let w = f .before .weight-of .result in
+    let st = f .before .before in
+    omega (arith, bounds f, down-most w (st .args .pu) (st .args .pv) (bounds f .0) (omega (arith, c .if1 .left)) (st .pre .near))
+
+returns-2 : tie.Need-returns-2
+returns-2 c = 
+    let f = c .before in
+    let st = f .before .before in
+    rw (f .before .weight-of .ensures, f .reading-of .ensures .0)
+    (sym (settled-down (weightOf (st .args .s)) (readingOf (st .args .s)) (st .args .pu) (st .args .pv) (st .pre .weighed) (rw (f .reading-of .ensures .0) at (bounds f .2)) (omega (arith, rw (f .before .weight-of .ensures) at (c .if1 .left))) (st .pre .near)))
 
 pub amount-at-spec : {M : Type 1} → statement M
 amount-at-spec =
@@ -65,13 +95,17 @@ amount-at-spec =
     (tie.spec
     weight-of-requires
     reading-of-requires
-    sub-result
+    add-if1
     add-result
+    sub-result
     mul-result
-    mul-result-2
-    add-result-2
-    sub-result-2
-    mul-result-3
     div-result
+    add-result-2
+    returns
+    sub-result-2
     add-result-3
-    returns)
+    sub-result-3
+    mul-result-2
+    div-result-2
+    sub-result-4
+    returns-2)
