@@ -27,7 +27,7 @@ same-either true x = refl
 same-either false x = refl
 
 -- What holds of two numbers in either order holds of the lower and the higher.
-min-max : (P : ℕ → ℕ → Type 0) (a b : ℕ) → P a b → P b a → P (min a b) (max a b)
+pub min-max : (P : ℕ → ℕ → Type 0) (a b : ℕ) → P a b → P b a → P (min a b) (max a b)
 min-max P a b f g = elim (decLe a b) [
   | yes h ↦ rw (min-eq-left h, max-eq-right h) f
   | no h ↦ let l : b ≤ a = omega arith in rw (min-eq-right l, max-eq-left l) g
@@ -109,11 +109,11 @@ unfolding labelsAfter
 step-none counts ss ls e = e
 
 -- What holds of the labels after k steps.
-record Labelling (counts : Counting) (ss : List Stream) (k : ℕ) (ls : List ℕ) : Type 0 where
-  long : length ls ≡ places
-  level : (j : ℕ) → j < length ss → firstOnly k counts j (streamAt ss j) ≡ true → getD ls (streamAt ss j .from) 0 ≡ getD ls (streamAt ss j .to) 0
-  chain : (u : ℕ) → u < places → Chain (firstOnly k counts) ss u (getD ls u 0)
-  low : (u : ℕ) → u < places → getD ls u 0 ≤ u
+pub record Labelling (counts : Counting) (ss : List Stream) (k : ℕ) (ls : List ℕ) : Type 0 where
+  pub long : length ls ≡ places
+  pub level : (j : ℕ) → j < length ss → firstOnly k counts j (streamAt ss j) ≡ true → getD ls (streamAt ss j .from) 0 ≡ getD ls (streamAt ss j .to) 0
+  pub chain : (u : ℕ) → u < places → Chain (firstOnly k counts) ss u (getD ls u 0)
+  pub low : (u : ℕ) → u < places → getD ls u 0 ≤ u
 
 module _ (counts : Counting) (ss : List Stream) where
   grown : (k : ℕ) {u v : ℕ} → Chain (firstOnly k counts) ss u v → Chain (firstOnly (suc k) counts) ss u v
@@ -211,7 +211,7 @@ module _ (counts : Counting) (p : Plant) (small : p .units ≤ maxUnits) (w : In
   abbrev labelAfter : ℕ → ℕ → ℕ
   labelAfter k u = getD (labelsAfter counts (p .streams) k) u 0
 
-  labelling : (k : ℕ) → k ≤ length (p .streams) → Labelling counts (p .streams) k (labelsAfter counts (p .streams) k)
+  pub labelling : (k : ℕ) → k ≤ length (p .streams) → Labelling counts (p .streams) k (labelsAfter counts (p .streams) k)
   labelling = after counts (p .streams) (p .units) small w
 
   chain→label : (k : ℕ) → k ≤ length (p .streams) → {u v : ℕ} → Chain (firstOnly k counts) (p .streams) u v → labelAfter k u ≡ labelAfter k v

@@ -22,4 +22,9 @@ pub mod Labels
 pub mod Fits
 pub mod Degrees
 pub mod ByLabels
+pub mod Binary
+pub mod Parted
+pub mod Parting
+pub mod BySides
+pub mod Passed
 pub mod Critical

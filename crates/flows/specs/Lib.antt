@@ -2,6 +2,7 @@
 pub mod Flows
 pub mod Classes
 pub mod Labels
+pub mod Sides
 pub mod Test
 pub mod Shown
 pub mod Certificate

@@ -2,60 +2,33 @@
 use crate::Class;
 use crate::Which;
 use crate::groups;
+use crate::sides::cuts_of;
 use plants::Plant;
 use plants::Stream;
 use plants::limits::MAX_STREAMS;
 use plants::limits::PLACES;
 ghost use mathlib.Core.Path.{_≡_};
-ghost use Prim.Native.Nat.{_≤_};
+ghost use Prim.Native.Nat.{_≤_, _<_};
 ghost use lib.ListN.{length};
 ghost use Rattle.plants.specs.Limits.{maxUnits, places};
 ghost use Rattle.plants.specs.Says.{plantOf};
 ghost use Rattle.flows.specs.Classes.{classOf, degrees};
-ghost use Rattle.flows.specs.Calls.{Ends, Grouped, Joining, joining, settledBy, classesOf};
+ghost use Rattle.flows.specs.Calls.{Ends, Grouped, classIn, classesOf};
 
-// Whether a stream is unmetered and joins two groups of the streams before it.
-fn joins(earlier: &[u8; PLACES], s: Stream) -> bool
-    requires { ⌜ Ends s × (length (now earlier) ≡ places) ⌝ }
-    ensures { λ r. ⌜ r ≡ joining (now (earlier .entry)) s ⌝ }
+// The class of a stream by the labels by the unmetered streams, the label that it took away and the bits of the streams that
+// lie on a loop.
+fn class_of(labels: &[u8; PLACES], s: Stream, h: u8, looped: u64) -> Class
+    requires { ⌜ Ends s × (length (now labels) ≡ places) × (h < places) ⌝ }
+    ensures { λ r. ⌜ r ≡ classIn (now (labels .entry)) s h looped ⌝ }
 {
     if s.metered {
-        return false;
-    }
-    !groups::one_label(earlier, s)
-}
-
-// The class of every other stream. An unmetered one, whose ends earlier ones join, lies on a loop.
-fn settled_class(labels: &[u8; PLACES], s: Stream) -> Class
-    requires { ⌜ Ends s × (length (now labels) ≡ places) ⌝ }
-    ensures { λ r. ⌜ r ≡ settledBy (now (labels .entry)) s ⌝ }
-{
-    if !s.metered {
-        return Class::Withheld;
-    }
-    if groups::one_label(labels, s) {
-        return Class::AsRead;
-    }
-    Class::Adjusted
-}
-
-// The class of stream i, which joins two groups of the streams before it: the groups are formed on without it, by the
-// streams after it, until its ends are in one.
-fn joining_class(p: Plant, earlier: [u8; PLACES], i: usize) -> Class
-    requires { ⌜ Joining p earlier i ⌝ }
-    ensures { λ r. ⌜ r ≡ classOf (plantOf p) i ⌝ }
-{
-    let n = p.count as usize;
-    let s = p.streams[i];
-    let mut others = earlier;
-    let mut j = i + 1;
-    while j < n {
-        let next = p.streams[j];
-        groups::step(&mut others, next, !next.metered);
-        if groups::one_label(&others, s) {
-            return Class::Withheld;
+        if groups::one_label(labels, s) {
+            return Class::AsRead;
         }
-        j += 1;
+        return Class::Adjusted;
+    }
+    if (looped >> h) % 2 == 1 {
+        return Class::Withheld;
     }
     Class::Given
 }
@@ -66,18 +39,14 @@ pub fn classes_of(p: Plant, labels: [u8; PLACES]) -> [Class; MAX_STREAMS]
     ensures { λ r. ⌜ r ≡ classesOf (plantOf p) ⌝ }
 {
     let n = p.count as usize;
+    let cuts = cuts_of(p);
+    let taken = cuts.taken;
     let mut r = [Class::Withheld; MAX_STREAMS];
-    let mut earlier = groups::own_numbers();
     let mut i: usize = 0;
     while i < n {
         let s = p.streams[i];
-        let c = if joins(&earlier, s) {
-            joining_class(p, earlier, i)
-        } else {
-            settled_class(&labels, s)
-        };
+        let c = class_of(&labels, s, taken[i], cuts.looped);
         r[i] = c;
-        groups::step(&mut earlier, s, !s.metered);
         i += 1;
     }
     r

@@ -1,6 +1,7 @@
 // Groups, classes, degrees and the test of a plant.
 mod classes;
 mod groups;
+mod sides;
 mod verdicts;
 
 pub use classes::classes_of;
