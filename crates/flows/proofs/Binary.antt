@@ -2,7 +2,7 @@
 use mathlib.Core.Path.{_≡_, refl, sym, _∙_, ap}
 use mathlib.Core.Bool.{Bool, true, false, not, _||_}
 use Prim.Native.Nat.{ℕ, zero, suc, _+_, _-_, _*_, _/_, _%_, _^_, _≤_, _<_, max}
-use native.Mathlib.Nat.{mod-lt, mul-add-mod-self-right, mul-mod-left, zero-lt-suc, div-eq-of-lt, pow-suc, mod-eq-of-lt}
+use native.Mathlib.Nat.{mod-lt, mul-add-mod-self-right, mul-mod-left, zero-lt-suc, div-eq-of-lt, pow-suc}
 use native.Mathlib.Omega.{arith}
 use native.Mathlib.Decide.{decLe}
 use lib.Dec.{eqb}

@@ -3,26 +3,24 @@ use mathlib.Core.Path.{_≡_, refl, sym, _∙_, ap, subst}
 use mathlib.Core.Bool.{Bool, true, false, not, true≢false, false≢true}
 use mathlib.Core.List.{List}
 use mathlib.Core.Logic.{inl, inr}
-use Prim.Native.Nat.{ℕ, zero, suc, _+_, _≤_, _<_, _^_, min, max}
+use Prim.Native.Nat.{ℕ, zero, suc, _≤_, _<_, _^_, min, max}
 use native.Mathlib.Nat.{le-trans, min-le-left, le-max-left, le-max-right}
 use native.Mathlib.Omega.{arith}
-use native.Mathlib.Numerals.{add-one}
 use borrow.Author.Tests.{eqb-true, eqb-false, ne-eqb, lt-ltb, not-true}
 use lib.Bits.{bitOr, bitXor, or-zero-r}
 use lib.Dec.{eqb, ltb}
 use lib.ListN.{length, getD, replicate, getD-replicate, length-replicate}
 use Rattle.numbers.specs.Choice.{pick}
-use Rattle.numbers.proofs.Tests.{by-cases, clash, and-left, and-right, and-both, or-left}
+use Rattle.numbers.proofs.Tests.{by-cases, and-left, and-right, and-both, or-left}
 use Rattle.plants.specs.declared.Stream.{Stream}
 use Rattle.plants.specs.Limits.{maxUnits, places}
 use Rattle.plants.specs.declared.Plant as Arrays
 use Rattle.plants.specs.Plants.{Plant, noStream}
 use Rattle.plants.specs.Says.{plantOf}
-use Rattle.flows.specs.declared.Class.{Class}
 use Rattle.flows.specs.declared.Class.the-variants.{Adjusted, AsRead, Given, Withheld}
 use Rattle.flows.specs.Flows.{streamAt}
 use Rattle.flows.specs.Classes.{has, joinedTo, unmeteredOnly, unmeteredBut, classOf}
-use Rattle.flows.specs.Labels.{relabelled, stepped, labelsAfter, oneLabel, firstOnly}
+use Rattle.flows.specs.Labels.{relabelled, stepped, labelsAfter, oneLabel}
 use Rattle.flows.specs.Sides.{bit, apart, takenBy, loopedBy, turned, parted, takenAt, sidesAfter, loopedAfter}
 use Rattle.flows.specs.Calls.{Grouped, Cutting, classIn}
 use Rattle.flows.proofs.Reach.{Inside, Chain, joined→chain, chain→joined}

@@ -1,27 +1,24 @@
 -- The streams that join two groups, by sides: such a stream lies on a loop exactly when its bit is among those of the loops met.
-use mathlib.Core.Path.{_≡_, refl, sym, _∙_, ap, subst}
+use mathlib.Core.Path.{_≡_, refl, sym, _∙_, ap}
 use mathlib.Core.Bool.{Bool, true, false, not, _&&_, _||_}
 use mathlib.Core.List.{List}
-use mathlib.Core.Logic.{_⊎_, inl, inr, ⊎-elim}
-use Prim.Native.Nat.{ℕ, zero, suc, _+_, _≤_, _<_, _^_, min, max}
-use native.Mathlib.Nat.{min-eq-left, min-eq-right, max-eq-left, max-eq-right}
+use mathlib.Core.Logic.{_⊎_, inl, inr}
+use Prim.Native.Nat.{ℕ, suc, _+_, _≤_, _<_}
 use native.Mathlib.Omega.{arith}
-use native.Mathlib.Decide.{ℕ-discrete, decLe}
-use borrow.Author.Tests.{eqb-true, eqb-false, eq-eqb, ne-eqb, ltb-true, lt-ltb, not-true}
+use native.Mathlib.Decide.{ℕ-discrete}
+use borrow.Author.Tests.{eqb-false, ne-eqb, ltb-true, not-true}
 use lib.Dec.{eqb, ltb}
 use lib.ListN.{length, getD}
-use lib.Bits.{bitOr, bitXor}
-use Rattle.numbers.specs.Choice.{pick}
-use Rattle.numbers.proofs.Tests.{by-cases, clash, and-left, and-right, and-both, or-cases, or-left, or-none-left, or-none-right}
+use lib.Bits.{bitOr}
+use Rattle.numbers.proofs.Tests.{by-cases, clash, and-left, and-right, and-both, or-none-left, or-none-right}
 use Rattle.plants.specs.declared.Stream.{Stream}
-use Rattle.plants.specs.Limits.{maxUnits, places}
+use Rattle.plants.specs.Limits.{places}
 use Rattle.flows.specs.Flows.{streamAt}
 use Rattle.flows.specs.Classes.{Counting, unmeteredOnly, unmeteredBut}
-use Rattle.flows.specs.Labels.{renamed, relabelled, firstOnly}
-use Rattle.flows.proofs.Lists.{map-at, values-at}
-use Rattle.flows.proofs.Reach.{Inside, Chain, chain-trans, chain-sym, chain-map}
-use Rattle.flows.specs.Sides.{bit, apart, turned, takenAt}
-use Rattle.flows.proofs.Binary.{unlike, alike, unalike, bit-xor, bit-or, bit-same, bit-other}
+use Rattle.flows.specs.Labels.{firstOnly}
+use Rattle.flows.proofs.Reach.{Chain, chain-trans, chain-sym, chain-map}
+use Rattle.flows.specs.Sides.{bit, apart, takenAt}
+use Rattle.flows.proofs.Binary.{unlike, alike, unalike, bit-xor, bit-or}
 
 -- What the ends of each stream that counts have in common, the ends of a chain have.
 pub chain-level : {counts : Counting} {ss : List Stream} {u v : ℕ} (f : ℕ → Bool)
@@ -130,7 +127,7 @@ module _ (ss : List Stream) (k : ℕ) (ls sides : List ℕ) (met : ℕ) (a : Par
 
   -- Its ends are joined by earlier ones: whatever lies between them lies on a loop.
   module _ (loose : Loose ss k) (listed : k < length ss) (f-in : streamAt ss k .from < places) (t-in : streamAt ss k .to < places)
-    (way : Chain (firstOnly k unmeteredOnly) ss (streamAt ss k .from) (streamAt ss k .to)) where
+      (way : Chain (firstOnly k unmeteredOnly) ss (streamAt ss k .from) (streamAt ss k .to)) where
     abbrev f : ℕ
     f = streamAt ss k .from
 

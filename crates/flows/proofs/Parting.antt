@@ -56,10 +56,10 @@ flipped-second false false = refl
 
 -- A stream that takes the label hi away, lo being the other one of its ends.
 module _ (ss : List Stream) (k : ℕ) (ls sides : List ℕ) (met lo hi : ℕ) (a : Parted ss k ls sides met) (taken : takenAt ss k ≡ hi) (lower-lo : lo < hi)
-  (long : length ls ≡ places) (f-in : streamAt ss k .from < places) (t-in : streamAt ss k .to < places)
-  (ends : ((label ls (streamAt ss k .from) ≡ lo) × (label ls (streamAt ss k .to) ≡ hi)) ⊎ ((label ls (streamAt ss k .from) ≡ hi) × (label ls (streamAt ss k .to) ≡ lo)))
-  (one : (j : ℕ) → j < k → Loose ss j
-      → (streamAt ss j .from < places) × (streamAt ss j .to < places) × (label ls (streamAt ss j .from) ≡ label ls (streamAt ss j .to))) where
+    (long : length ls ≡ places) (f-in : streamAt ss k .from < places) (t-in : streamAt ss k .to < places)
+    (ends : ((label ls (streamAt ss k .from) ≡ lo) × (label ls (streamAt ss k .to) ≡ hi)) ⊎ ((label ls (streamAt ss k .from) ≡ hi) × (label ls (streamAt ss k .to) ≡ lo)))
+    (one : (j : ℕ) → j < k → Loose ss j
+    → (streamAt ss j .from < places) × (streamAt ss j .to < places) × (label ls (streamAt ss j .from) ≡ label ls (streamAt ss j .to))) where
   abbrev f : ℕ
   f = streamAt ss k .from
 

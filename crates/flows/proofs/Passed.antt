@@ -1,8 +1,8 @@
 -- The pass over the streams that finds the labels they take away and the loops.
-use mathlib.Core.Path.{_≡_, refl, sym, _∙_, ap}
+use mathlib.Core.Path.{_≡_, refl, _∙_, ap}
 use mathlib.Core.Bool.{not}
 use mathlib.Core.List.{List}
-use Prim.Native.Nat.{ℕ, zero, _+_, _*_, _%_, _≤_, _<_, _^_}
+use Prim.Native.Nat.{ℕ, _+_, _*_, _%_, _≤_, _<_, _^_}
 use native.Mathlib.Omega.{arith}
 use native.Mathlib.Numerals.{add-one}
 use lib.Bits.{bitOr, bitXor}
@@ -17,10 +17,10 @@ use Rattle.flows.specs.Flows.{streamAt}
 use Rattle.flows.specs.Classes.{unmeteredOnly}
 use Rattle.flows.specs.Labels.{ownNumbers, stepped, labelsAfter}
 use Rattle.flows.specs.Sides.{apart, takenBy, loopedBy, turned, parted, takenAt, sidesAfter, loopedAfter}
-use Rattle.flows.specs.Calls.{Fit, Ends, Cutting}
+use Rattle.flows.specs.Calls.{Fit, Cutting}
 use Rattle.flows.proofs.Lists.{Written, written-none, written-put}
 use Rattle.flows.proofs.Labels.{step-none, step-more, labels-long}
-use Rattle.flows.proofs.Fits.{fit-length, fit-at, fit-inside, fit-ends}
+use Rattle.flows.proofs.Fits.{fit-length, fit-at, fit-inside}
 use Rattle.flows.proofs.BySides.{parted-some, taken-low, sides-long}
 
 -- A bit by a shift.

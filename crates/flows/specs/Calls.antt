@@ -12,9 +12,9 @@ use Rattle.plants.specs.Says.{plantOf}
 use Rattle.flows.specs.declared.Class.{Class}
 use Rattle.flows.specs.declared.Class.the-variants.{AsRead, Adjusted, Given, Withheld}
 use Rattle.flows.specs.declared.Which.{Which}
-use Rattle.flows.specs.declared.Which.the-variants.{Every, Unmetered, UnmeteredBut}
+use Rattle.flows.specs.declared.Which.the-variants.{Every, Unmetered}
 use Rattle.flows.specs.Flows.{values}
-use Rattle.flows.specs.Classes.{Counting, everyStream, unmeteredOnly, unmeteredBut, classOf}
+use Rattle.flows.specs.Classes.{Counting, everyStream, unmeteredOnly, classOf}
 use Rattle.flows.specs.Labels.{labelsOf, oneLabel}
 use Rattle.flows.specs.Sides.{bit, takenAt, loopedAfter}
 
@@ -35,7 +35,6 @@ pub record Ends (s : Stream) : Type 0 where
 abbrev pub counting : Which → Counting
 counting Every = everyStream
 counting Unmetered = unmeteredOnly
-counting (UnmeteredBut e) = unmeteredBut e
 
 -- The classes of all streams. (A record past the last stream is empty, from the outside to itself: its class is Withheld.)
 abbrev pub classesOf : Plant → List Class

@@ -12,7 +12,7 @@ ghost use Prim.Native.Nat.{_≤_, _<_};
 ghost use lib.ListN.{length};
 ghost use Rattle.plants.specs.Limits.{maxUnits, places};
 ghost use Rattle.plants.specs.Says.{plantOf};
-ghost use Rattle.flows.specs.Classes.{classOf, degrees};
+ghost use Rattle.flows.specs.Classes.{degrees};
 ghost use Rattle.flows.specs.Calls.{Ends, Grouped, classIn, classesOf};
 
 // The class of a stream by the labels by the unmetered streams, the label that it took away and the bits of the streams that

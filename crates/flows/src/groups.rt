@@ -4,26 +4,20 @@ use plants::Plant;
 use plants::Stream;
 use plants::limits::PLACES;
 ghost use mathlib.Core.Path.{_≡_};
-ghost use Prim.Native.Nat.{_<_, _≤_};
+ghost use Prim.Native.Nat.{ℕ, _≤_};
 ghost use lib.ListN.{length};
 ghost use Rattle.plants.specs.Limits.{maxUnits, places};
 ghost use Rattle.plants.specs.Says.{plantOf};
-ghost use Rattle.flows.specs.Labels.{ownNumbers, relabelled, stepped, labelsOf, oneLabel, ownLabels};
+ghost use Rattle.flows.specs.Labels.{ownNumbers, renamed, relabelled, stepped, labelsOf, oneLabel, ownLabels};
 ghost use Rattle.flows.specs.Calls.{Fit, Ends, counting};
 
-// Whether stream i counts.
-pub fn counts(which: Which, i: usize, s: Stream) -> bool
-    ensures { λ r. ⌜ r ≡ counting which i s ⌝ }
+// Whether a stream counts, whatever its number.
+pub fn counts(which: Which, s: Stream) -> bool
+    ensures { λ r. ⌜ ((i : ℕ) → r ≡ counting which i s) ⌝ }
 {
     match which {
         Which::Every => true,
         Which::Unmetered => !s.metered,
-        Which::UnmeteredBut(e) => {
-            if s.metered {
-                return false;
-            }
-            i != e
-        }
     }
 }
 
@@ -40,6 +34,16 @@ pub fn own_numbers() -> [u8; PLACES]
     labels
 }
 
+// A label, `lo` where it was `hi`.
+fn renamed_label(x: u8, lo: u8, hi: u8) -> u8
+    ensures { λ r. ⌜ r ≡ renamed lo hi x ⌝ }
+{
+    if x == hi {
+        return lo;
+    }
+    x
+}
+
 // The label `hi` becomes `lo` everywhere.
 pub fn rename(labels: &mut [u8; PLACES], lo: u8, hi: u8)
     requires { ⌜ length (now labels) ≡ places ⌝ }
@@ -47,9 +51,8 @@ pub fn rename(labels: &mut [u8; PLACES], lo: u8, hi: u8)
 {
     let mut u: usize = 0;
     while u < PLACES {
-        if labels[u] == hi {
-            labels[u] = lo;
-        }
+        let x = renamed_label(labels[u], lo, hi);
+        labels[u] = x;
         u += 1;
     }
 }
@@ -86,7 +89,7 @@ pub fn group(p: Plant, which: Which) -> [u8; PLACES]
     let mut i: usize = 0;
     while i < n {
         let s = p.streams[i];
-        let c = counts(which, i, s);
+        let c = counts(which, s);
         step(&mut labels, s, c);
         i += 1;
     }

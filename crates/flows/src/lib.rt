@@ -21,5 +21,4 @@ pub enum Class {
 pub enum Which {
     Every,
     Unmetered,
-    UnmeteredBut(usize),
 }

@@ -52,7 +52,7 @@ loop-again c =
     let st = c .before .before .before .before .before .before .before in
     let at = c .before .before .before .before .before .loop in
     let here = fit-at (st .args .t1) (st .pre) (at .i) (c .before .before .before .before .loop-test .taken) in
-    (omega arith, step-more _ _ (at .i) _ _ _ _ (at .inv .1) here (c .before .before .counts .ensures) (c .step .ensures))
+    (omega arith, step-more _ _ (at .i) _ _ _ _ (at .inv .1) here (c .before .before .counts .ensures (at .i)) (c .step .ensures))
 
 returns : tie.Need-returns Inv-loop μ-loop
 returns c =

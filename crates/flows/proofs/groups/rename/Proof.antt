@@ -1,12 +1,11 @@
 -- `flows::groups::rename` meets its contract: the labels passed are renamed, the others are as they were.
-use mathlib.Core.Path.{_≡_, sym, _∙_}
-use mathlib.Core.Logic.{⊎-elim}
+use mathlib.Core.Path.{_≡_, ap, _∙_}
 use Prim.Native.Nat.{_≤_, _-_}
 use native.Mathlib.Omega.{arith}
 use Rattle.plants.specs.Limits.{places}
 use Rattle.flows.specs.Labels.{renamed}
-use Rattle.flows.proofs.Lists.{Written, written-none, written-put, written-keep}
-use Rattle.flows.proofs.Labels.{renamed-hit, renamed-miss, renamed-all}
+use Rattle.flows.proofs.Lists.{Written, written-none, written-put}
+use Rattle.flows.proofs.Labels.{renamed-all}
 use borrow.Author.Needs.{needs}
 use Rattle.flows.proofs.groups.rename.Statement.{statement}
 use Rattle.flows.proofs.groups.rename.Tie as tie
@@ -20,8 +19,11 @@ abbrev μ-loop : tie.MeasureT-loop
 loop-holds : tie.Need-loop-holds Inv-loop μ-loop
 loop-holds c = (omega arith, written-none (c .pre))
 
-element-copy-out-if1 : tie.Need-element-copy-out-if1 Inv-loop μ-loop
-element-copy-out-if1 c = search needs
+element-copy-out-renamed-label : tie.Need-element-copy-out-renamed-label Inv-loop μ-loop
+element-copy-out-renamed-label c = search needs
+
+renamed-label-requires : tie.Need-renamed-label-requires Inv-loop μ-loop
+renamed-label-requires c κs = search needs
 
 element-write-labels : tie.Need-element-write-labels Inv-loop μ-loop
 element-write-labels c = search needs
@@ -34,14 +36,10 @@ loop-less c = search needs
 
 loop-again : tie.Need-loop-again Inv-loop μ-loop
 loop-again c =
-    let w = c .before .before .before .loop .inv .1 in
-    let u = c .before .before .before .loop .u in (
-      omega arith,
-      ⊎-elim
-          (λ z. rw (z .1) (written-put w (omega arith) _ (renamed-hit _ _ _ (sym (w .rest u (omega arith)) ∙ z .0 .taken))))
-          (λ z. rw (z .1) (written-keep w (renamed-miss _ _ _ (λ e. z .0 .left (w .rest u (omega arith) ∙ e)))))
-          (c .if1 .came),
-    )
+    let a = c .before .before .before .before .args in
+    let at = c .before .before .before .loop in
+    let kept = ap (renamed (a .lo) (a .hi)) (at .inv .1 .rest (at .u) (omega arith)) in
+    (omega arith, written-put (at .inv .1) (omega arith) _ (c .renamed-label .ensures ∙ kept))
 
 returns : tie.Need-returns Inv-loop μ-loop
 returns c =
@@ -55,7 +53,8 @@ rename-spec =
     Inv-loop
     μ-loop
     loop-holds
-    element-copy-out-if1
+    element-copy-out-renamed-label
+    renamed-label-requires
     element-write-labels
     add-u
     loop-less

@@ -1,7 +1,6 @@
 -- `flows::sides::turned_sides` meets its contract.
 use mathlib.Core.Path.{refl}
 use borrow.Author.Tests.{eq-eqb, ne-eqb}
-use borrow.Author.Needs.{needs}
 use Rattle.flows.proofs.sides.turned_sides.Statement.{statement}
 use Rattle.flows.proofs.sides.turned_sides.Tie as tie
 
