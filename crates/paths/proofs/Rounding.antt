@@ -194,7 +194,7 @@ module _ (streams : List Stream) (n : ℕ) (xs ps : List ℕ) (skip : ℕ) (fs t
       more q z nil y rest =
           let o : suc l - 1 ≡ l = omega arith in
           let m : walked fs ts gs bs n (goalAt v) 0 (suc l) 0 e ks near t ≡ walked fs ts gs bs n (goalAt v) 0 l 0 place (set ks place gap) (set (codes l e ks near t g) place far) after =
-              walk-more fs ts gs bs n (goalAt v) 0 0 e ks near t _ refl _ refl (suc l) (omega arith) q z (goal-miss v place (tells l e ks near t g q .within) y) ∙ rw (o, nil) in
+          walk-more fs ts gs bs n (goalAt v) 0 0 e ks near t _ refl _ refl (suc l) (omega arith) q z (goal-miss v place (tells l e ks near t g q .within) y) ∙ rw (o, nil) in
           path-more streams n xs ps v skip t (suc l) _ 0 (omega arith) (tells l e ks near t g q .lead .below) (some l e ks near t g q z) (omega arith)
           (λ w. y (sym (far-end l e ks near t g q z) ∙ w))
           ∙ rw (o, far-end l e ks near t g q z, numbered q z) (rest ∙ ap grownOf (sym m))

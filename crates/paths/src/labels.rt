@@ -50,7 +50,21 @@ pub fn search(
     requires { ⌜ Laid streams count (now from) (now to) (now weight) (now pull) (now next) × Walkable streams count (now flows) (now prices) delta × (s < places) × Falling (now prices) delta ⌝ }
     ensures { λ r. ⌜ grownBy (r .found) (r .tree) (now (prices .exit)) ≡ grow (take count streams) count (now (flows .entry)) (now (nets .entry)) delta rounds (now (prices .entry)) (rootAt s) ⌝ }
 {
-    let w = walk(from, to, weight, pull, next, count, flows, prices, delta, 0, nets, s, FAR);
+    let w = walk(
+        from,
+        to,
+        weight,
+        pull,
+        next,
+        count,
+        flows,
+        prices,
+        delta,
+        0,
+        nets,
+        s,
+        FAR,
+    );
     let t = w.tree;
     let labelled = t.labelled;
     let dist = w.dist;
@@ -90,7 +104,21 @@ pub fn tight_path(
     ensures { λ r. ⌜ grownBy (r .found) (r .tree) (now (prices .entry)) ≡ tightPath (take count streams) count (now (flows .entry)) (now (prices .entry)) v skip rounds (rootAt s) ⌝ }
 {
     let nets = goal(v);
-    let w = walk(from, to, weight, pull, next, count, flows, prices, 1, skip, &nets, s, 0);
+    let w = walk(
+        from,
+        to,
+        weight,
+        pull,
+        next,
+        count,
+        flows,
+        prices,
+        1,
+        skip,
+        &nets,
+        s,
+        0,
+    );
     let t = w.tree;
     Searched {
         found: w.found,

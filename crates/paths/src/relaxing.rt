@@ -92,7 +92,14 @@ fn relax_at(
 }
 
 // The stream before stream i at place e, one of its ends.
-fn before(from: &[u8; MAX_STREAMS], to: &[u8; MAX_STREAMS], next: &[u8; CELLS], count: usize, e: u8, i: usize) -> usize
+fn before(
+    from: &[u8; MAX_STREAMS],
+    to: &[u8; MAX_STREAMS],
+    next: &[u8; CELLS],
+    count: usize,
+    e: u8,
+    i: usize,
+) -> usize
     requires { ⌜ Linked count (now from) (now to) (now next) × (count ≤ maxStreams) × (i < count) × ((eqb (getD (now from) i 0) e || eqb (getD (now to) i 0) e) ≡ true) ⌝ }
     ensures { λ r. ⌜ r ≡ lastAt (now (from .entry)) (now (to .entry)) e i ⌝ }
 {
@@ -124,7 +131,23 @@ pub fn relax(
 {
     let mut i = next[e as usize] as usize;
     while i < count {
-        relax_at(from, to, weight, pull, next, count, flows, prices, delta, skip, labelled, k, e, i, near);
+        relax_at(
+            from,
+            to,
+            weight,
+            pull,
+            next,
+            count,
+            flows,
+            prices,
+            delta,
+            skip,
+            labelled,
+            k,
+            e,
+            i,
+            near,
+        );
         i = before(from, to, next, count, e, i);
     }
 }

@@ -60,5 +60,13 @@ pub fn slack(s: Stream, forwards: bool, x: u64, pu: u64, pv: u64, delta: u64) ->
     requires { ⌜ Placed s × Sized x pu pv delta ⌝ }
     ensures { λ r. ⌜ r ≡ slackBy s forwards x pu pv delta ⌝ }
 {
-    gap(weight_of(s), 2 * pull_of_reading(s), forwards, x, pu, pv, delta)
+    gap(
+        weight_of(s),
+        2 * pull_of_reading(s),
+        forwards,
+        x,
+        pu,
+        pv,
+        delta,
+    )
 }

@@ -91,7 +91,22 @@ pub fn walk(
     let mut left: usize = ROUNDS;
     while 0 < left {
         let labelled = t.labelled;
-        relax(from, to, weight, pull, next, count, flows, prices, delta, skip, &labelled, reach, e, &mut near);
+        relax(
+            from,
+            to,
+            weight,
+            pull,
+            next,
+            count,
+            flows,
+            prices,
+            delta,
+            skip,
+            &labelled,
+            reach,
+            e,
+            &mut near,
+        );
         let r = nearest(&near);
         if r == PLACES {
             return walked_by(false, t, dist, reach);

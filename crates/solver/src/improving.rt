@@ -62,7 +62,20 @@ fn improve(
     if s == PLACES {
         return false;
     }
-    let h = search(streams, count, from, to, weight, pull, next, flows, prices, nets, s as u8, delta);
+    let h = search(
+        streams,
+        count,
+        from,
+        to,
+        weight,
+        pull,
+        next,
+        flows,
+        prices,
+        nets,
+        s as u8,
+        delta,
+    );
     if !h.found {
         return false;
     }
@@ -98,7 +111,19 @@ pub fn improve_all(
     let mut nets = start.nets;
     let mut left = budget;
     while 0 < left {
-        if !improve(streams, count, &from, &to, &weight, &pull, &next, &mut flows, &mut prices, &mut nets, delta) {
+        if !improve(
+            streams,
+            count,
+            &from,
+            &to,
+            &weight,
+            &pull,
+            &next,
+            &mut flows,
+            &mut prices,
+            &mut nets,
+            delta,
+        ) {
             return State {
                 flows: flows,
                 prices: prices,

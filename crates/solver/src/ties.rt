@@ -24,7 +24,11 @@ fn can_fall(w: u64, read: u64, x: u64, pu: u64, pv: u64) -> bool
     requires { ⌜ (w ≤ maxWeight) × (read ≤ 2 * mostPull) × Sized x pu pv 1 ⌝ }
     ensures { λ r. ⌜ r ≡ (ltb 0 w && eqb (gapBy w read false x pu pv 1) 0) ⌝ }
 {
-    if 0 < w { gap(w, read, false, x, pu, pv, 1) == 0 } else { false }
+    if 0 < w {
+        gap(w, read, false, x, pu, pv, 1) == 0
+    } else {
+        false
+    }
 }
 
 // Stream i, which can fall at no cost, less by one where a way of no slack leads round it.
@@ -44,7 +48,20 @@ fn tie_at(
     ensures { λ _. ⌜ now (flows .exit) ≡ tiedAt (take count streams) (now (prices .entry)) i (now (flows .entry)) ⌝ }
 {
     let v = to[i];
-    let h = tight_path(streams, count, from, to, weight, pull, next, flows, prices, from[i], v, i + 1);
+    let h = tight_path(
+        streams,
+        count,
+        from,
+        to,
+        weight,
+        pull,
+        next,
+        flows,
+        prices,
+        from[i],
+        v,
+        i + 1,
+    );
     if !h.found {
         return;
     }
@@ -77,7 +94,18 @@ pub fn tie_all(
         let pu = prices[from[i] as usize];
         let pv = prices[to[i] as usize];
         if can_fall(weight[i], pull[i], flows[i], pu, pv) {
-            tie_at(streams, count, &from, &to, &weight, &pull, &next, flows, prices, i);
+            tie_at(
+                streams,
+                count,
+                &from,
+                &to,
+                &weight,
+                &pull,
+                &next,
+                flows,
+                prices,
+                i,
+            );
         }
         i += 1;
     }

@@ -56,7 +56,7 @@ loop-less : tie.Need-loop-less Inv-loop μ-loop
 loop-less c = search needs
 
 loop-again : tie.Need-loop-again Inv-loop μ-loop
-loop-again c = 
+loop-again c =
     let m = c .before .before .before .loop .inv .1 in
     let u = c .before .before .before .loop .u in (
       omega arith,
@@ -67,7 +67,7 @@ loop-again c =
     )
 
 returns : tie.Need-returns Inv-loop μ-loop
-returns c = 
+returns c =
     let e : c .before .loop .u ≡ places = omega arith in
     reduced-is _ _ _ _ _ (c .before .before .pre) (rw e at (c .before .loop .inv .1))
 

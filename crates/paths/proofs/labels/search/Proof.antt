@@ -12,7 +12,7 @@ reduce-requires : tie.Need-reduce-requires
 reduce-requires c κs = c .before .before .before .before .before .before .before .before .pre .3 .0
 
 returns : tie.Need-returns
-returns c = 
+returns c =
     let f = c .before .before .before .before .before .before .before in
     let st = f .before .before in
     rw (c .reduce .ensures)

@@ -13,7 +13,7 @@ walk-requires : tie.Need-walk-requires
 walk-requires c κs = let st = c .before .before in (lanes-of _ _ _ _ _ _ _ _ _ _ _ (st .pre .0) (st .pre .1), st .pre .2)
 
 returns : tie.Need-returns
-returns c = 
+returns c =
     let st = c .before .before .before .before in
     sym
     (rw (← c .before .before .before .goal .ensures, ← c .before .walk .ensures) at (path-walk _ _ _ _ _ _ _ _ _ (slacked _ _ _ _ _ (st .args .skip) _ _ _ _ _ (st .pre .0) (st .pre .1)) _ (st .pre .3) _ (st .pre .2)))

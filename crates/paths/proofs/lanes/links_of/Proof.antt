@@ -72,7 +72,7 @@ loop-less : tie.Need-loop-less Inv-loop μ-loop
 loop-less c = search needs
 
 loop-again : tie.Need-loop-again Inv-loop μ-loop
-loop-again c = 
+loop-again c =
     let at = c .before .before .before in
     let l = c .before .before .loop-test .taken in
     (omega arith, link-step _ _ (at .loop .i) _ (omega (arith, at .before .pre .0)) (at .before .pre .1 _ l) (at .before .pre .2 _ l) (at .loop .inv .1))

@@ -18,7 +18,7 @@ use Rattle.paths.proofs.lanes.pulls_of.Statement.{statement}
 use Rattle.paths.proofs.lanes.pulls_of.Tie as tie
 
 abbrev Inv-loop : tie.InvT-loop
-Inv-loop count streams r₀ i₀ r i = 
+Inv-loop count streams r₀ i₀ r i =
     (i ≤ count)
     × Written 0 maxStreams (λ k x. 2 * (weightOf (streamAt (take count streams) k) * readingOf (streamAt (take count streams) k))) r₀ r i
     × ((k : ℕ) → k < i → getD r k 0 ≤ 2 * mostPull)
@@ -54,7 +54,7 @@ loop-less : tie.Need-loop-less Inv-loop μ-loop
 loop-less c = search needs
 
 loop-again : tie.Need-loop-again Inv-loop μ-loop
-loop-again c = 
+loop-again c =
     let at = c .before .before .before in
     let l = c .before .before .loop-test .taken in
     let w = at .loop .inv .1 in (

@@ -38,7 +38,7 @@ cast-result-2 : tie.Need-cast-result-2
 cast-result-2 c = let st = c .before .before .before in omega (arith, st .pre .0 .into _ (st .pre .2), last-most (st .args .from .now) (st .args .to .now) (getD (st .args .to .now) (st .args .i) 0) (st .args .i) (omega (arith, st .pre .1, st .pre .2)))
 
 returns-2 : tie.Need-returns-2
-returns-2 c = 
+returns-2 c =
     let st = c .before .before .before in
     st .pre .0 .into _ (st .pre .2)
     ∙ ap (λ (u : ℕ). lastAt (st .args .from .now) (st .args .to .now) u (st .args .i)) (eqb-true _ _ (rw (ne-eqb _ _ (c .before .if1 .left)) at (st .pre .3)))

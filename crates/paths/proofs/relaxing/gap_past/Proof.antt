@@ -13,7 +13,7 @@ gap-requires : tie.Need-gap-requires
 gap-requires c κs = search needs
 
 returns-2 : tie.Need-returns-2
-returns-2 c = 
+returns-2 c =
     let st = c .before .before in
     c .gap .ensures
     ∙ sym (⊎-elim (λ w. rw (lt-ltb 0 (st .args .w) (w .0 .taken), le-ltb (st .args .i) (st .args .skip) (w .1 .left))) (λ w. rw (le-ltb 0 (st .args .w) (w .left))) (c .before .if1 .came))

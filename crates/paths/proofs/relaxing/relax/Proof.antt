@@ -16,7 +16,7 @@ use Rattle.paths.proofs.relaxing.relax.Statement.{statement}
 use Rattle.paths.proofs.relaxing.relax.Tie as tie
 
 abbrev Inv-loop : tie.InvT-loop
-Inv-loop from to weight pull next count flows prices delta skip labelled k e near₀ i₀ near i = 
+Inv-loop from to weight pull next count flows prices delta skip labelled k e near₀ i₀ near i =
     (length near ≡ places)
     × ((m : ℕ)
     × (m ≤ count)
@@ -54,18 +54,22 @@ loop-less : tie.Need-loop-less Inv-loop μ-loop
 loop-less c = let st = c .before .before .before .before .before .before in rw (c .before2 .ensures) (last-less (st .args .from .now) (st .args .to .now) (st .args .e) (c .before .before .before .before .loop .i) (st .args .count) (c .before .before .before .loop-test .taken) (st .pre .0 .few))
 
 loop-again : tie.Need-loop-again Inv-loop μ-loop
-loop-again c = 
+loop-again c =
     let at = c .before .before .before .before in
     let v = at .loop .inv .1 in
     let l = c .before .before .before .loop-test .taken in
     let e = c .before .relax-at .ensures in (
       rw e (relaxed-long _ _ _ _ _ _ _ _ _ ∙ at .loop .inv .0),
-      (at .loop .i, omega arith, c .before2 .ensures,
-      rw e (sym (relaxed-last _ _ _ _ _ _ _ (v .0) (at .loop .i) _ (omega (arith, v .1, at .before .before .pre .0 .few)) (v .2) (at-place (c .before .before .before) .0)) ∙ v .3)),
+      (
+        at .loop .i,
+        omega arith,
+        c .before2 .ensures,
+        rw e (sym (relaxed-last _ _ _ _ _ _ _ (v .0) (at .loop .i) _ (omega (arith, v .1, at .before .before .pre .0 .few)) (v .2) (at-place (c .before .before .before) .0)) ∙ v .3),
+      ),
     )
 
 returns : tie.Need-returns Inv-loop μ-loop
-returns c = 
+returns c =
     let v = c .before .loop .inv .1 in
     sym (relaxed-none _ _ _ _ _ _ _ (v .0) _ (omega (arith, v .1, v .2, c .loop-test .left))) ∙ v .3
 

@@ -55,14 +55,14 @@ element-copy-out-gap-past-3 : tie.Need-element-copy-out-gap-past-3
 element-copy-out-gap-past-3 c = search needs
 
 gap-past-requires : tie.Need-gap-past-requires
-gap-past-requires c κs = 
+gap-past-requires c κs =
     let st = c .before .before .before .before .before .before .before .before in
     let m = st .pre .0 in
     let l = st .pre .1 in
     (m .light _ l, m .pulled _ l, record { amount = m .amounts _ l; step = m .step; price-u = m .prices _ (m .from-in _ l); price-v = m .prices _ (m .to-in _ l) })
 
 relax-along-requires : tie.Need-relax-along-requires
-relax-along-requires c κs = 
+relax-along-requires c κs =
     let st = c .before .before .before .before .before .before .before .before .before .before in
     let m = st .pre .0 in
     let l = st .pre .1 in
@@ -91,14 +91,14 @@ element-copy-out-gap-past-6 : tie.Need-element-copy-out-gap-past-6
 element-copy-out-gap-past-6 c = search needs
 
 gap-past-requires-2 : tie.Need-gap-past-requires-2
-gap-past-requires-2 c κs = 
+gap-past-requires-2 c κs =
     let st = c .before .before .before .before .before .before .before .before .before in
     let m = st .pre .0 in
     let l = st .pre .1 in
     (m .light _ l, m .pulled _ l, record { amount = m .amounts _ l; step = m .step; price-u = m .prices _ (m .from-in _ l); price-v = m .prices _ (m .to-in _ l) })
 
 relax-along-requires-2 : tie.Need-relax-along-requires-2
-relax-along-requires-2 c κs = 
+relax-along-requires-2 c κs =
     let st = c .before .before .before .before .before .before .before .before .before .before .before in
     let m = st .pre .0 in
     let l = st .pre .1 in

@@ -65,7 +65,7 @@ walked-by-requires : tie.Need-walked-by-requires Inv-loop μ-loop
 walked-by-requires c κs = search needs
 
 returns : tie.Need-returns Inv-loop μ-loop
-returns c = 
+returns c =
     let f = c .before .before in
     c .walked-by .ensures ∙ sym (walk-none _ _ _ _ _ _ _ _ _ _ _ _ (codes (f .before .before)) (f .before .before .relax .ensures) _ (f .nearest .ensures) (turn f .loop .left) (tested f .loop-test .taken) (c .before .if1 .taken)) ∙ turn f .loop .inv .4
 
@@ -79,7 +79,7 @@ walked-by-requires-2 : tie.Need-walked-by-requires-2 Inv-loop μ-loop
 walked-by-requires-2 c κs = search needs
 
 returns-2 : tie.Need-returns-2 Inv-loop μ-loop
-returns-2 c = 
+returns-2 c =
     let f = c .before .before .before in
     c .walked-by2 .ensures ∙ sym (walk-far _ _ _ _ _ _ _ _ _ _ _ _ (codes (f .before .before)) (f .before .before .relax .ensures) _ (f .nearest .ensures) (turn f .loop .left) (tested f .loop-test .taken) (c .before .before .if1 .left) (c .before .if2 .taken)) ∙ turn f .loop .inv .4
 
@@ -102,7 +102,7 @@ cast-add : tie.Need-cast-add Inv-loop μ-loop
 cast-add c = search needs
 
 add-requires : tie.Need-add-requires Inv-loop μ-loop
-add-requires c κs = 
+add-requires c κs =
     let f = c .before .before in
     (omega (arith, turn f .loop .inv .0, tested f .loop-test .taken), one (c .before) .0)
 
@@ -116,7 +116,7 @@ walked-by-requires-3 : tie.Need-walked-by-requires-3 Inv-loop μ-loop
 walked-by-requires-3 c κs = search needs
 
 returns-3 : tie.Need-returns-3 Inv-loop μ-loop
-returns-3 c = 
+returns-3 c =
     let f = c .before .before .before .before .before .before in
     c .walked-by3 .ensures ∙ rw (c .before .before .before .add .ensures) (sym (walk-hit _ _ _ _ _ _ _ _ _ _ _ _ (codes (f .before .before)) (f .before .before .relax .ensures) _ (f .nearest .ensures) (turn f .loop .left) (tested f .loop-test .taken) (c .before .before .before .before .before .if1 .left) (c .before .before .before .before .if2 .left) (c .before .if3 .taken)) ∙ turn f .loop .inv .4)
 
@@ -127,7 +127,7 @@ loop-less : tie.Need-loop-less Inv-loop μ-loop
 loop-less c = search needs
 
 loop-again : tie.Need-loop-again Inv-loop μ-loop
-loop-again c = 
+loop-again c =
     let f = c .before .before .before .before .before in
     let added = c .before .before .add .ensures in (
       rw added (omega (arith, turn f .loop .inv .0, tested f .loop-test .taken)),
@@ -141,7 +141,7 @@ walked-by-requires-4 : tie.Need-walked-by-requires-4 Inv-loop μ-loop
 walked-by-requires-4 c κs = search needs
 
 returns-4 : tie.Need-returns-4 Inv-loop μ-loop
-returns-4 c = 
+returns-4 c =
     let z : c .before .before .loop .left ≡ 0 = omega arith in
     c .walked-by4 .ensures ∙ sym (walk-end _ _ _ _ _ _ _ _ _ _ _ _) ∙ (rw z at (c .before .before .loop .inv .4))
 

@@ -44,7 +44,7 @@ cast-search : tie.Need-cast-search
 cast-search c = omega (arith, first (c .before .before .before))
 
 search-requires : tie.Need-search-requires
-search-requires c κs = 
+search-requires c κs =
     let st = c .before .before .before .before .before .before in
     let a = st .pre .3 in (
       st .pre .1,
@@ -74,7 +74,7 @@ array-read-target : tie.Need-array-read-target
 array-read-target c = omega (arith, key (c .before .before .before .before .before) .short)
 
 push-back-requires : tie.Need-push-back-requires
-push-back-requires c κs = 
+push-back-requires c κs =
     let f = c .before .before .before .before .before .before .before .before in
     let st = start f in
     (st .pre .0 .network, st .pre .2 .1, key f .trail, key f .roomy)
@@ -86,7 +86,7 @@ shift-nets-requires : tie.Need-shift-nets-requires
 shift-nets-requires c κs = key (c .before .before .before .before .before .before .before .before .before .before) .shiftable
 
 returns-3 : tie.Need-returns-3
-returns-3 c = 
+returns-3 c =
     let f = c .before .before .before .before .before .before .before .before .before .before .before in
     let st = start f in
     rw (c .before .before .push-back .ensures, c .shift-nets .ensures)

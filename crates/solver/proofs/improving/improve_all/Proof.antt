@@ -14,7 +14,7 @@ use Rattle.solver.proofs.improving.improve_all.Tie as tie
 use Rattle.paths.proofs.lanes.lay.Reads as lay-reads
 
 abbrev Inv-loop : tie.InvT-loop
-Inv-loop streams count delta budget from to weight pull next flows₀ prices₀ nets₀ left₀ flows prices nets left = 
+Inv-loop streams count delta budget from to weight pull next flows₀ prices₀ nets₀ left₀ flows prices nets left =
     (left ≤ budget)
     × Allows (take count streams) delta left (stateOf flows prices nets)
     × (improvements left (take count streams) delta (stateOf flows prices nets) ≡ improvements budget (take count streams) delta (stateOf flows₀ prices₀ nets₀))
@@ -39,13 +39,13 @@ loop-holds : tie.Need-loop-holds Inv-loop μ-loop
 loop-holds c = let st = c .before .before .before .before .before .before .before .before .before in (omega arith, st .pre .2, refl)
 
 improve-requires : tie.Need-improve-requires Inv-loop μ-loop
-improve-requires c κs = 
+improve-requires c κs =
     let at = c .before .before .before .before .before .before .before .before .before in
     let st = begin at in
     (st .pre .0, laid at, st .pre .1, allows-less _ _ (at .loop .left) 1 _ (omega arith) (at .loop .inv .1))
 
 returns : tie.Need-returns Inv-loop μ-loop
-returns c = 
+returns c =
     let at = c .before .before .before .before .before .before .before .before .before .before .before in
     improved-same _ _ _ _ (c .before .improve .ensures) (not-true _ (c .if1 .taken))
     ∙ steps-end _ _ (at .loop .left) _ _ (c .before .improve .ensures) (not-true _ (c .if1 .taken)) ∙ at .loop .inv .2
@@ -57,7 +57,7 @@ loop-less : tie.Need-loop-less Inv-loop μ-loop
 loop-less c = search needs
 
 loop-again : tie.Need-loop-again Inv-loop μ-loop
-loop-again c = 
+loop-again c =
     let at = c .before .before .before .before .before .before .before .before .before .before .before in
     let st = begin at in
     let d = not-false _ (c .if1 .left) in (
@@ -67,7 +67,7 @@ loop-again c =
     )
 
 returns-2 : tie.Need-returns-2 Inv-loop μ-loop
-returns-2 c = 
+returns-2 c =
     let z : c .before .loop .left ≡ 0 = omega arith in
     sym (steps-none _ _ _) ∙ (rw z at (c .before .loop .inv .2))
 

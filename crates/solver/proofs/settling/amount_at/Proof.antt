@@ -47,14 +47,14 @@ div-result : tie.Need-div-result
 div-result c = search needs
 
 add-result-2 : tie.Need-add-result-2
-add-result-2 c = 
+add-result-2 c =
     let f = c .before in
     let w = f .before .weight-of .result in
     let st = f .before .before in
     omega (arith, bounds f, st .pre .price-v, div-le-self (st .args .pv + w - st .args .pu) (2 * w))
 
 returns : tie.Need-returns
-returns c = 
+returns c =
     let f = c .before in
     let st = f .before .before in
     rw (f .before .weight-of .ensures, f .reading-of .ensures .0)
@@ -76,14 +76,14 @@ div-result-2 : tie.Need-div-result-2
 div-result-2 c = search needs
 
 sub-result-4 : tie.Need-sub-result-4
-sub-result-4 c = 
+sub-result-4 c =
     let f = c .before in
     let w = f .before .weight-of .result in
     let st = f .before .before in
     omega (arith, bounds f, down-most w (st .args .pu) (st .args .pv) (bounds f .0) (omega (arith, c .if1 .left)) (st .pre .near))
 
 returns-2 : tie.Need-returns-2
-returns-2 c = 
+returns-2 c =
     let f = c .before in
     let st = f .before .before in
     rw (f .before .weight-of .ensures, f .reading-of .ensures .0)

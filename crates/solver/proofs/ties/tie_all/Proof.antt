@@ -94,7 +94,7 @@ element-copy-out-can-fall : tie.Need-element-copy-out-can-fall Inv-loop μ-loop
 element-copy-out-can-fall c = omega (arith, begin (c .before .before .before) .pre .0 .network .few, c .before .before .loop-test .taken)
 
 can-fall-requires : tie.Need-can-fall-requires Inv-loop μ-loop
-can-fall-requires c κs = 
+can-fall-requires c κs =
     let on = c .before .before .before in
     let at = on .before in
     let st = begin at in
@@ -112,7 +112,7 @@ can-fall-requires c κs =
     )
 
 tie-at-requires : tie.Need-tie-at-requires Inv-loop μ-loop
-tie-at-requires c κs = 
+tie-at-requires c κs =
     let on = c .before .before .before .before .before .before .before .before .before .before .before in
     let at = on .before in
     let st = begin at in
@@ -126,13 +126,13 @@ loop-less : tie.Need-loop-less Inv-loop μ-loop
 loop-less c = search needs
 
 loop-again : tie.Need-loop-again Inv-loop μ-loop
-loop-again c = 
+loop-again c =
     let on = c .before .before .before .before .before in
     let at = on .before in
     let st = begin at in
     let l = on .loop-test .taken in
     let after = ap (λ (xs : List ℕ). tiedAt (take (st .args .count) (st .args .streams)) (st .args .prices .now) (at .loop .i) xs) (at .loop .inv .1)
-        ∙ sym (ties-next (take (st .args .count) (st .args .streams)) (st .args .prices .now) (st .args .flows .now) (at .loop .i)) in (
+    ∙ sym (ties-next (take (st .args .count) (st .args .streams)) (st .args .prices .now) (st .args .flows .now) (at .loop .i)) in (
       omega arith,
       ⊎-elim (λ w. w .8 ∙ w .7 .ensures ∙ after)
           (λ w. w .1

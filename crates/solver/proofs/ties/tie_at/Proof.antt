@@ -51,7 +51,7 @@ add-tight-path : tie.Need-add-tight-path
 add-tight-path c = search needs
 
 tight-path-requires : tie.Need-tight-path-requires
-tight-path-requires c κs = 
+tight-path-requires c κs =
     let st = c .before .before .before in
     let even = st .pre .4 in (
       st .pre .1,
@@ -72,13 +72,13 @@ tight-path-requires c κs =
     )
 
 returns : tie.Need-returns
-returns c = 
+returns c =
     let f = c .before .before in
     let st = start f in
     sym (tied-cut (st .args .streams) (st .args .count) (st .pre .0) _ _ (st .pre .2) _ _ (st .pre .5 .metered) (st .pre .5 .tight) (told f) (not-true _ (c .if1 .taken)))
 
 push-back-requires : tie.Need-push-back-requires
-push-back-requires c κs = 
+push-back-requires c κs =
     let st = start (c .before .before .before .before .before .before .before .before) in
     let r = ready (c .before .before .before .before .before .before) in
     (st .pre .0 .network, omega arith, r .trail, r .roomy)
@@ -99,7 +99,7 @@ element-write-flows : tie.Need-element-write-flows
 element-write-flows c = search needs
 
 returns-2 : tie.Need-returns-2
-returns-2 c = 
+returns-2 c =
     let f = c .before .before .before .before .before .before .before .before .before .before in
     let st = start f in
     rw (c .before .push-back .ensures, to-is st)
