@@ -80,6 +80,7 @@ fn price_at(a: &[f64; CELLS], x: &[f64; PLACES], k: usize) -> f64
 // The price of each of n places.
 pub fn substitute(a: &[f64; CELLS], n: usize) -> [f64; PLACES]
     requires { ⌜ (length (now a) ≡ cells) × (n ≤ places) ⌝ }
+    ensures { λ r. ⌜ length r ≡ places ⌝ }
 {
     let mut x = [0.0f64; PLACES];
     let mut k: usize = 0;
