@@ -70,7 +70,7 @@ const FOREST: Variant = Variant { name: "factorisation, distances, forest", clas
 pub const VARIANTS: [Variant; 6] = [STEPS, FACTOR, TO_ZERO, SWEEPS, DISTANCES, FOREST];
 
 /// The variant that goes the way of the library of this version.
-pub const AS_LIBRARY: Variant = DISTANCES;
+pub const AS_LIBRARY: Variant = FOREST;
 
 /// A plant as read: its streams are the first `count`.
 pub struct Site {
