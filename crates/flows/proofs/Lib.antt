@@ -11,12 +11,7 @@ pub mod Prices
 pub mod Nearness
 pub mod Order
 pub mod Ties
-pub mod Moves
-pub mod Search
-pub mod Improve
-pub mod Exists
 pub mod Certified
-pub mod Demand
 pub mod Lists
 pub mod Labels
 pub mod Fits

@@ -2,7 +2,7 @@
 use mathlib.Core.Path.{_≡_, refl, sym, _∙_, ap, subst}
 use mathlib.Core.Bool.{Bool, true, false, _&&_, _||_, false≢true}
 use mathlib.Core.List.{List, [], _∷_}
-use mathlib.Core.Logic.{_↔_, _⊎_, inl, inr, ⊎-elim}
+use mathlib.Core.Logic.{_⊎_, inl, inr, ⊎-elim}
 use Prim.Native.Nat.{ℕ, zero, suc, _+_, _≤_, _<_}
 use native.Mathlib.Omega.{arith}
 use borrow.Author.Tests.{eqb-true, eqb-false, eq-eqb}
@@ -228,12 +228,6 @@ module _ (counts : Counting) (p : Plant) (w : Inside (p .units) (p .streams)) wh
   chain→joined {u} (along k l h c) = sym (joined-closed counts p w u k l h) ∙ chain→joined c
   chain→joined {u} (back k l h c) = joined-closed counts p w u k l h ∙ chain→joined c
 
-  pub joined-iff : (u v : ℕ) → (has v (joinedTo counts p u) ≡ true) ↔ Chain counts (p .streams) u v
-  joined-iff u v = (joined→chain counts p u v, chain→joined)
-
-  -- Being joined is symmetric and transitive.
+  -- Being joined is symmetric.
   pub joined-sym : (u v : ℕ) → has v (joinedTo counts p u) ≡ true → has u (joinedTo counts p v) ≡ true
   joined-sym u v e = chain→joined (chain-sym (joined→chain counts p u v e))
-
-  pub joined-trans : (u v x : ℕ) → has v (joinedTo counts p u) ≡ true → has x (joinedTo counts p v) ≡ true → has x (joinedTo counts p u) ≡ true
-  joined-trans u v x e f = chain→joined (chain-trans (joined→chain counts p u v e) (joined→chain counts p v x f))

@@ -86,11 +86,6 @@ pub record Route (counts : Counting) (ss : List Stream) (a b : ℕ) (t : ℤ) (x
   pub net : (u : ℕ) → netOf ss x u ≡ only b t u -ℤ only a t u
   pub off : (k : ℕ) → counts k (streamAt ss k) ≡ false → x k ≡ pos 0
 
--- Where more streams count it does so too.
-pub route-map : {f g : Counting} {ss : List Stream} {a b : ℕ} {t : ℤ} {x : ℕ → ℤ}
-    → ((k : ℕ) → g k (streamAt ss k) ≡ false → f k (streamAt ss k) ≡ false) → Route f ss a b t x → Route g ss a b t x
-route-map h r = record { net = r .net; off = λ k e. r .off k (h k e) }
-
 hop : (f g a : ℤ) → f -ℤ a +ℤ (g -ℤ f) ≡ g -ℤ a
 hop f g a = rw (← canon f, ← canon g, ← canon a) (simp Z·diff (omega arith))
 

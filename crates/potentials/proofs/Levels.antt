@@ -3,7 +3,7 @@ use mathlib.Core.Path.{_≡_, sym, _∙_, ap}
 use mathlib.Core.List.{List}
 use Prim.Native.Nat.{ℕ, _+_, _≤_, _<_}
 use native.Mathlib.Omega.{arith}
-use lib.ListN.{length, getD, set, length-set, length-map, replicate, length-replicate, getD-replicate}
+use lib.ListN.{getD, set, length-set, length-map, replicate, length-replicate, getD-replicate}
 use Rattle.plants.specs.Limits.{places}
 use Rattle.flows.proofs.Lists.{map-at, set-each, Written, written-all}
 use Rattle.potentials.specs.Levels.{Labels, Bounded, atLabels, Level}

@@ -7,7 +7,6 @@ use Prim.Native.Nat.{ℕ}
 use lib.Dec.{eqb}
 use borrow.Author.Tests.{eqb-true}
 use Rattle.numbers.proofs.Tests.{and-left, and-right}
-use Rattle.plants.specs.Plants.{Plant}
 use Rattle.plants.specs.Files.{Got, bad, got, readPlant}
 use Rattle.flows.specs.Certificate.{certified}
 use Rattle.flows.proofs.Certified.{certified-cheapest}
@@ -30,17 +29,17 @@ same-bytes (x ∷ xs) (y ∷ ys) e =
     let t = same-bytes xs ys (and-right (eqb x y) (sameBytes xs ys) e) in
     λ i. h i ∷ t i
 
--- The test of one example, with prices for the places. (No amount here could fall at no cost, so that no cut is asked for.)
+-- The test of one example, with prices for the places.
 abbrev shows : Example → List ℤ → Got → Bool
 shows e prices (bad f) = false
-shows e prices (got p) = certified p (e .flow) prices [] && sameBytes (sheetOf p (e .flow) 1) (e .sheet)
+shows e prices (got p) = certified p (e .flow) prices && sameBytes (sheetOf p (e .flow) 1) (e .sheet)
 
 shows-right : (e : Example) (prices : List ℤ) (g : Got) → readPlant (e .file) ≡ g → shows e prices g ≡ true → Shows e
 shows-right e prices (bad f) r t = absurd (false≢true t)
 shows-right e prices (got p) r t =
-    let c = certified p (e .flow) prices [] in
+    let c = certified p (e .flow) prices in
     let s = sameBytes (sheetOf p (e .flow) 1) (e .sheet) in
-    (p, r, certified-cheapest p (e .flow) prices [] (and-left c s t), same-bytes (sheetOf p (e .flow) 1) (e .sheet) (and-right c s t))
+    (p, r, certified-cheapest p (e .flow) prices (and-left c s t), same-bytes (sheetOf p (e .flow) 1) (e .sheet) (and-right c s t))
 
 -- The test of the whole table.
 abbrev allShow : List Example → List (List ℤ) → Bool

@@ -25,7 +25,7 @@ use Rattle.flows.specs.Test.{verdictOf}
 use Rattle.flows.proofs.Nets.{balanced-size}
 use Rattle.flows.proofs.Order.{one}
 use Rattle.flows.proofs.Given.{class-means, number-is, given-agree}
-use Rattle.flows.proofs.Demand.{demand-3}
+use Rattle.solver.proofs.Demand.{demand-3}
 use Rattle.sheets.specs.declared.Sheet.{Sheet}
 use Rattle.sheets.specs.Sheets.{recordOf, recordsTo, totalOf, sheetOf}
 use Rattle.sheets.specs.Says.{callFault, Refused, Drawn, SheetWith, No-choice, Demands}

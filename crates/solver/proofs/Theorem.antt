@@ -94,7 +94,7 @@ module _ (q : Plant) (w : Within q) (h : Hint) (s : Hinted (q .streams) h) where
   unfolding solvedFrom
   solved-cheapest = tied-cheapest q w (solvable-in q w) ps (finished ss h .flows) even
 
-  solved-sure : Certificate q (opened (length ss) ys) (priceAt ps)
+  pub solved-sure : Certificate q (opened (length ss) ys) (priceAt ps)
   solved-sure = tied-sure q w (solvable-in q w) ps (finished ss h .flows) even
 
   last : Even ss ps (length ss) ys
