@@ -59,5 +59,5 @@ pub record One-pass (counts : Counting) (p : Plant) : Type 0 where
       → oneLabel (labelsAfter counts (p .streams) k) u v ≡ has v (joinedTo (firstOnly k counts) p u)
   pub member : (k u : ℕ) → k ≤ length (p .streams) → u < places
       → has (getD (labelsAfter counts (p .streams) k) u 0) (joinedTo (firstOnly k counts) p u) ≡ true
-  pub lowest : (k u v : ℕ) → k ≤ length (p .streams) → u < places → v < places
+  pub least-place : (k u v : ℕ) → k ≤ length (p .streams) → u < places → v < places
       → has v (joinedTo (firstOnly k counts) p u) ≡ true → getD (labelsAfter counts (p .streams) k) u 0 ≤ v

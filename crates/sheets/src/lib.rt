@@ -5,8 +5,6 @@ pub mod kinds;
 mod records;
 
 pub use calls::balance_plant;
-pub use plants::read_plant;
-pub use plants::write_plant;
 
 // What the sheet call hands over: 0, the bytes written and the sheet's number; or a refusal number, 0 and the last sheet
 // number as it was.
