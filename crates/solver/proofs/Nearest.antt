@@ -74,19 +74,18 @@ settled-up w R pu pv l r h =
     let q : ((pv + w - pu) + 2 * w * spread) / (2 * w) ≡ (pv + w - pu) / (2 * w) + spread = add-mul-div-left (pv + w - pu) spread (omega arith) in
     rw (e, q) (omega arith)
 
-pub down-most : (w pu pv : ℕ) → 1 ≤ w → pv + w < pu → pu ≤ pv + 2 * spread → (pu - pv + w - 1) / (2 * w) ≤ spread
-down-most w pu pv l h m = elim (decLe ((pu - pv + w - 1) / (2 * w)) spread) [
+pub down-most : (w n : ℕ) → 1 ≤ w → n ≤ 2 * spread + w → n / (2 * w) ≤ spread
+down-most w n l h = elim (decLe (n / (2 * w)) spread) [
   | yes z ↦ z
-  | no z ↦ let e = div-add-mod (pu - pv + w - 1) (2 * w) in
-      let k : 2 * w * (spread + 1) ≤ 2 * w * ((pu - pv + w - 1) / (2 * w)) = mul-le-mul-left (2 * w) (omega arith) in
-      absurd (omega (arith, e, k))
+  | no z ↦ let k : 2 * w * (spread + 1) ≤ 2 * w * (n / (2 * w)) = mul-le-mul-left (2 * w) (omega arith) in
+      absurd (omega (arith, div-add-mod n (2 * w), k))
 ]
 
 pub settled-down : (w R pu pv : ℕ) → 1 ≤ w → spread ≤ R → pv + w < pu → pu ≤ pv + 2 * spread
     → (R - spread) + (pv + w + 2 * (w * spread) - pu) / (2 * w) ≡ R - (pu - pv + w - 1) / (2 * w)
 settled-down w R pu pv l r h m =
     let t : ℕ = (pu - pv + w - 1) / (2 * w) in
-    let most : t ≤ spread = down-most w pu pv l h m in
+    let most : t ≤ spread = down-most w (pu - pv + w - 1) l (omega arith) in
     let k : ℕ = spread - t in
     let N : ℕ = pv + w + 2 * (w * spread) - pu in
     let e : 2 * w * t + (pu - pv + w - 1) % (2 * w) ≡ pu - pv + w - 1 = div-add-mod (pu - pv + w - 1) (2 * w) in
