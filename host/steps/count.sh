@@ -11,7 +11,7 @@ mkdir -p crates/count_steps/src
 for c in numbers plants flows potentials paths solver; do
     cp -r "$root/crates/$c" crates/
 done
-sed -i 's/^mod fast_hints;/pub mod fast_hints;/; s/^mod improving;/pub mod improving;/; s/^mod settling;/pub mod settling;/' crates/solver/src/lib.rt
+sed -i 's/^mod improving;/pub mod improving;/; s/^mod settling;/pub mod settling;/; s/^mod starts;/pub mod starts;/' crates/solver/src/lib.rt
 cp "$root/host/steps/count_steps.txt" crates/count_steps/src/main.rt
 cp -r "$root/crates/vectors/data" crates/count_steps/
 cat > crates.txt <<'T'

@@ -3,6 +3,7 @@ use crate::limits::kept;
 use crate::texts::Vector;
 use crate::texts::start_of;
 use crate::texts::vector_at;
+use flows::Which;
 use plants::limits::MAX_STREAMS;
 use solver::Solved;
 use solver::hints::no_hint;
@@ -49,7 +50,8 @@ fn solved(v: Vector) -> Outcome {
         return Outcome::Refused;
     }
     if v.hinted {
-        return compare(solver::solve(p), v);
+        let labels = flows::group(p, Which::Unmetered);
+        return compare(solver::solve(p, labels), v);
     }
     compare(solver::solve_from(p, no_hint()), v)
 }

@@ -16,6 +16,7 @@ use Rattle.plants.specs.Plants.{Plant}
 use Rattle.plants.specs.Within.{Within}
 use Rattle.flows.specs.Flows.{streamAt, amountAt, values, netAt, balancedTo, balanced}
 use Rattle.flows.specs.Classes.{has, sideOut}
+pub use Rattle.flows.specs.Nets.{brought, netOf}
 use Rattle.flows.specs.Certificate.{climb}
 use Rattle.flows.proofs.Lists.{values-long, values-at}
 use Rattle.flows.proofs.Integers.{canon, Z·diff, times-plus, one-times, neg-times, size-none}
@@ -28,14 +29,6 @@ countOf p = length (p .streams)
 
 abbrev pub streamOf : Plant → ℕ → Stream
 streamOf p k = streamAt (p .streams) k
-
--- What stream s, carrying x, brings to place u less what it takes from it: its entry in the incidence matrix times x.
-abbrev pub brought : ℕ → Stream → ℤ → ℤ
-brought u s x = pick (eqb (s .to) u) x (pos 0) +ℤ pick (eqb (s .from) u) (negℤ x) (pos 0)
-
--- The net of a place, the flow given as a function of the stream's number.
-abbrev pub netOf : List Stream → (ℕ → ℤ) → ℕ → ℤ
-netOf ss x u = sum (length ss) (λ k. brought u (streamAt ss k) (x k))
 
 -- A sum by recursion over streams and amounts is a sum over the streams' numbers.
 pub sum-listed : (f : Stream → ℤ → ℤ) (F : List Stream → List ℤ → ℤ) → ((xs : List ℤ) → F [] xs ≡ pos 0)

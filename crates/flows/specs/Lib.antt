@@ -6,4 +6,5 @@ pub mod Sides
 pub mod Test
 pub mod Shown
 pub mod Certificate
+pub mod Nets
 pub mod Calls

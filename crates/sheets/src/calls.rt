@@ -73,7 +73,8 @@ pub fn balance_plant(file: &[u8], last: u32, sheet: &mut [u8]) -> Sheet
         return refused(number, last);
     }
     let plant = read.plant;
-    let solved = solver::solve(plant);
+    let labels = flows::group(plant, Which::Unmetered);
+    let solved = solver::solve(plant, labels);
     let corrected = solved.flows;
     let next = last + 1;
     let written = put_sheet(plant, corrected, next, sheet);

@@ -66,6 +66,14 @@ module _ (ss : List Stream) (xs : List ℕ) where
       _
       (omega arith)
 
+  pub nets-long : (n : ℕ) → length (netsTo ss xs n) ≡ places
+  unfolding netsTo
+  nets-long zero = refl
+  nets-long (suc n) =
+      length-set (left (netsTo ss xs n) (streamAt ss n .from) (getD xs n 0)) (streamAt ss n .to) _
+      ∙ length-set (netsTo ss xs n) (streamAt ss n .from) _
+      ∙ nets-long n
+
 -- A store in the nets, by value.
 come-val : (e : List ℕ) (v x u : ℕ) → v < length e → flowShift ≤ getD e v 0 + x → getD (come e v x) u 0 + pick (eqb v u) flowShift 0 ≡ getD e u 0 + pick (eqb v u) x 0
 come-val e v x u l h =

@@ -10,9 +10,10 @@ use Rattle.plants.specs.declared.Stream.{Stream}
 use Rattle.plants.specs.Plants.{noStream}
 use Rattle.paths.specs.Sizes.{mostFlow}
 use Rattle.solver.specs.declared.Hint.{Hint}
-use Rattle.solver.specs.Sizes.{mostReading, netRoom}
+use Rattle.solver.specs.declared.State.{State}
+use Rattle.solver.specs.Sizes.{mostReading, netRoom, hintFloor, hintRoom}
 use Rattle.solver.specs.Model.{settledTo, netsTo, settled}
-use Rattle.solver.specs.Premises.{Layout, Settleable, Settles, Amounts, Around, Ready}
+use Rattle.solver.specs.Premises.{Layout, Settleable, Settles, Amounts, Around, Ready, Hinted, AtHint}
 use Rattle.solver.proofs.Nearest.{Solvable, placed-of, weight-some, prices-near, settled-sound}
 use Rattle.solver.proofs.Booking.{around-more, nets-around}
 use Rattle.solver.proofs.Turns.{stream-is, in-use, plain-of}
@@ -60,6 +61,13 @@ module _ (streams : List Stream) (n : ℕ) (w : Layout streams n) where
   pub settled-is : (h : Hint) → settled ss h
       ≡ record { flows = settledTo ss (h .prices) (h .flows) n; prices = h .prices; nets = netsTo ss (settledTo ss (h .prices) (h .flows) n) n }
   settled-is h = rw used
+
+  -- Nets of a state that is settled at a hint are in range.
+  pub hinted-ready : (h : Hint) → Hinted ss h → Ready ss h
+  hinted-ready h s = record { low = hintFloor; size = hintRoom; start = s }
+
+  pub at-hint-around : (st : State) → AtHint ss st → Around (st .nets) netRoom
+  at-hint-around st a = rw (a .is) (ready-around (a .hint) (hinted-ready (a .hint) (a .hinted)))
 
   -- A metered stream of the array can be settled.
   pub level-at : (ps : List ℕ) → Settles streams n ps → (i : ℕ) → i < n → getD streams i noStream .metered ≡ true

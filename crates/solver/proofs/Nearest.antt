@@ -8,7 +8,7 @@ use native.Mathlib.Nat.{mul-le-mul-left, mul-le-mul-right, div-add-mod, mod-lt, 
 use native.Mathlib.Omega.{arith}
 use native.Mathlib.Decide.{decLe, ℕ-discrete}
 use lib.ListN.{length, getD, set, length-set, List·getD-eq-default}
-use lib.Seq.{getD-set-same, getD-set-other}
+use lib.Seq.{set-getD, getD-set-same, getD-set-other}
 use Rattle.numbers.specs.Choice.{pick}
 use Rattle.plants.specs.declared.Stream.{Stream}
 use Rattle.plants.specs.Limits.{maxUnits, places, maxStreams}
@@ -74,19 +74,18 @@ settled-up w R pu pv l r h =
     let q : ((pv + w - pu) + 2 * w * spread) / (2 * w) ≡ (pv + w - pu) / (2 * w) + spread = add-mul-div-left (pv + w - pu) spread (omega arith) in
     rw (e, q) (omega arith)
 
-pub down-most : (w pu pv : ℕ) → 1 ≤ w → pv + w < pu → pu ≤ pv + 2 * spread → (pu - pv + w - 1) / (2 * w) ≤ spread
-down-most w pu pv l h m = elim (decLe ((pu - pv + w - 1) / (2 * w)) spread) [
+pub down-most : (w n : ℕ) → 1 ≤ w → n ≤ 2 * spread + w → n / (2 * w) ≤ spread
+down-most w n l h = elim (decLe (n / (2 * w)) spread) [
   | yes z ↦ z
-  | no z ↦ let e = div-add-mod (pu - pv + w - 1) (2 * w) in
-      let k : 2 * w * (spread + 1) ≤ 2 * w * ((pu - pv + w - 1) / (2 * w)) = mul-le-mul-left (2 * w) (omega arith) in
-      absurd (omega (arith, e, k))
+  | no z ↦ let k : 2 * w * (spread + 1) ≤ 2 * w * (n / (2 * w)) = mul-le-mul-left (2 * w) (omega arith) in
+      absurd (omega (arith, div-add-mod n (2 * w), k))
 ]
 
 pub settled-down : (w R pu pv : ℕ) → 1 ≤ w → spread ≤ R → pv + w < pu → pu ≤ pv + 2 * spread
     → (R - spread) + (pv + w + 2 * (w * spread) - pu) / (2 * w) ≡ R - (pu - pv + w - 1) / (2 * w)
 settled-down w R pu pv l r h m =
     let t : ℕ = (pu - pv + w - 1) / (2 * w) in
-    let most : t ≤ spread = down-most w pu pv l h m in
+    let most : t ≤ spread = down-most w (pu - pv + w - 1) l (omega arith) in
     let k : ℕ = spread - t in
     let N : ℕ = pv + w + 2 * (w * spread) - pu in
     let e : 2 * w * t + (pu - pv + w - 1) % (2 * w) ≡ pu - pv + w - 1 = div-add-mod (pu - pv + w - 1) (2 * w) in
@@ -148,7 +147,7 @@ module _ (ss : List Stream) (ps xs : List ℕ) where
       go true r = getD-set-other (settledTo ss ps xs n) n k _ 0 (λ q. omega arith) ∙ r
       go false r = r
 
-  settled-at : (n k : ℕ) → n ≤ length xs → k < n → getD (settledTo ss ps xs n) k 0 ≡ pick (streamAt ss k .metered) (amount k) (getD xs k 0)
+  pub settled-at : (n k : ℕ) → n ≤ length xs → k < n → getD (settledTo ss ps xs n) k 0 ≡ pick (streamAt ss k .metered) (amount k) (getD xs k 0)
   unfolding settledTo
   settled-at zero k m l = absurd (omega arith)
   settled-at (suc n) k m l = elim (ℕ-discrete k n) [
@@ -164,6 +163,16 @@ module _ (ss : List Stream) (ps xs : List ℕ) where
           → getD (pick b (set (settledTo ss ps xs n) n (amount n)) (settledTo ss ps xs n)) k 0 ≡ pick (streamAt ss k .metered) (amount k) (getD xs k 0)
       there true q r = getD-set-other (settledTo ss ps xs n) n k _ 0 q ∙ r
       there false q r = r
+
+  -- Amounts that are settled already stay as they are.
+  pub settled-again : (n : ℕ) → ((k : ℕ) → k < n → streamAt ss k .metered ≡ true → getD xs k 0 ≡ amount k) → settledTo ss ps xs n ≡ xs
+  unfolding settledTo
+  settled-again zero h = refl
+  settled-again (suc n) h = go (streamAt ss n .metered) (h n (omega arith)) (settled-again n (λ k l. h k (omega arith)))
+    where
+      go : (b : Bool) → (b ≡ true → getD xs n 0 ≡ amount n) → settledTo ss ps xs n ≡ xs → pick b (set (settledTo ss ps xs n) n (amount n)) (settledTo ss ps xs n) ≡ xs
+      go true e r = ap (λ (ys : List ℕ). set ys n (amount n)) r ∙ ap (set xs n) (sym (e refl)) ∙ set-getD xs n 0
+      go false e r = r
 
 -- The settled state.
 module _ (ss : List Stream) (v : Solvable ss) (h : Hint) (low b : ℕ) (s : Start ss low b h) where

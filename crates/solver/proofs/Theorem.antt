@@ -22,10 +22,10 @@ use Rattle.flows.proofs.Integers.{le-leZ}
 use Rattle.flows.proofs.Fits.{fit-length, fit-at, read-fits}
 use Rattle.flows.proofs.Prices.{StepAt, Steps, Certificate}
 use Rattle.paths.specs.Held.{opened}
-use Rattle.solver.specs.declared.Hint.{Hint}
+use Rattle.solver.specs.declared.State.{State}
 use Rattle.solver.specs.declared.Solved.{Solved}
 use Rattle.solver.specs.Model.{noHint, tiesTo, finished, solvedFrom}
-use Rattle.solver.specs.Premises.{Layout, Hinted, Even}
+use Rattle.solver.specs.Premises.{Layout, Hinted, AtHint, Even}
 use Rattle.solver.specs.Promise.{Accepted, price, priceAt, Bounded, Right}
 use Rattle.solver.proofs.Nearest.{Solvable, held-agreed}
 use Rattle.solver.proofs.Ending.{none-hinted, finished-even, finished-prices, finished-priced}
@@ -76,59 +76,59 @@ solvable-in q w = record {
 pub unhinted : (q : Plant) → Within q → Hinted (q .streams) noHint
 unhinted q w = none-hinted (q .streams) (solvable-in q w)
 
--- The definitions give the cheapest flow, from any hint.
-module _ (q : Plant) (w : Within q) (h : Hint) (s : Hinted (q .streams) h) where
+-- The definitions give the cheapest flow, from amounts settled at any hint.
+module _ (q : Plant) (w : Within q) (st : State) (s : AtHint (q .streams) st) where
   abbrev ss : List Stream
   ss = q .streams
 
   abbrev ps : List ℕ
-  ps = finished ss h .prices
+  ps = finished ss st .prices
 
   abbrev ys : List ℕ
-  ys = tiesTo ss ps (length ss) (finished ss h .flows)
+  ys = tiesTo ss ps (length ss) (finished ss st .flows)
 
-  even : Even ss ps 0 (finished ss h .flows)
-  even = finished-even ss (solvable-in q w) h s
+  even : Even ss ps 0 (finished ss st .flows)
+  even = finished-even ss (solvable-in q w) st s
 
-  pub solved-cheapest : Cheapest q (opened (length (q .streams)) (solvedFrom (q .streams) h .flows))
+  pub solved-cheapest : Cheapest q (opened (length (q .streams)) (solvedFrom (q .streams) st .flows))
   unfolding solvedFrom
-  solved-cheapest = tied-cheapest q w (solvable-in q w) ps (finished ss h .flows) even
+  solved-cheapest = tied-cheapest q w (solvable-in q w) ps (finished ss st .flows) even
 
   pub solved-sure : Certificate q (opened (length ss) ys) (priceAt ps)
-  solved-sure = tied-sure q w (solvable-in q w) ps (finished ss h .flows) even
+  solved-sure = tied-sure q w (solvable-in q w) ps (finished ss st .flows) even
 
   last : Even ss ps (length ss) ys
-  last = ended q w (solvable-in q w) ps (finished ss h .flows) even
+  last = ended q w (solvable-in q w) ps (finished ss st .flows) even
 
 -- The step condition by its tests.
 bounded : (π : ℕ → ℤ) (s : Stream) (x : ℤ) → StepAt 1 π s x → Bounded π s x
 bounded π s x o = record { low = le-leZ (lowest s x) (climb π s) (o .low); high = le-leZ (climb π s) (highest s x) (o .high) }
 
 -- Of a plant in an array.
-module _ (p : Arrays.Plant) (a : Accepted p) (h : Hint) (s : Hinted (plantOf p .streams) h) where
+module _ (p : Arrays.Plant) (a : Accepted p) (st : State) (s : AtHint (plantOf p .streams) st) where
   abbrev q : Plant
   q = plantOf p
 
-  pub solved-right : Right p (solvedFrom (plantOf p .streams) h)
+  pub solved-right : Right p (solvedFrom (plantOf p .streams) st)
   unfolding solvedFrom
   solved-right = record {
-    cheapest = subst (λ (n : ℕ). Cheapest q (opened n (ys q w h s))) (fit-length p (a .fit)) (solved-cheapest q w h s);
-    steps = λ k l. bounded (priceAt (ps q w h s)) (streamAt (q .streams) k) _ (subst (λ (n : ℕ). Steps 1 (priceAt (ps q w h s)) (q .streams) (amountAt (opened n (ys q w h s)))) (fit-length p (a .fit)) (solved-sure q w h s .steps) k l);
-    agree = λ k l m. ap price (held-agreed (q .streams) (ys q w h s) (ps q w h s) 1 (last q w h s .held) k l m);
-    bound = finished-prices (q .streams) (solvable-in q w) h s;
-    close = λ k l. (omega (arith, last q w h s .close k l .0, w .few-streams), omega (arith, last q w h s .close k l .1, w .few-streams));
-    long = last q w h s .long;
-    priced = finished-priced (q .streams) (solvable-in q w) h s;
+    cheapest = subst (λ (n : ℕ). Cheapest q (opened n (ys q w st s))) (fit-length p (a .fit)) (solved-cheapest q w st s);
+    steps = λ k l. bounded (priceAt (ps q w st s)) (streamAt (q .streams) k) _ (subst (λ (n : ℕ). Steps 1 (priceAt (ps q w st s)) (q .streams) (amountAt (opened n (ys q w st s)))) (fit-length p (a .fit)) (solved-sure q w st s .steps) k l);
+    agree = λ k l m. ap price (held-agreed (q .streams) (ys q w st s) (ps q w st s) 1 (last q w st s .held) k l m);
+    bound = finished-prices (q .streams) (solvable-in q w) st s;
+    close = λ k l. (omega (arith, last q w st s .close k l .0, w .few-streams), omega (arith, last q w st s .close k l .1, w .few-streams));
+    long = last q w st s .long;
+    priced = finished-priced (q .streams) (solvable-in q w) st s;
   }
     where
       w : Within (plantOf p)
       w = a .within
 
-  pub solved-is : (flows prices : List ℕ) → prices ≡ finished (q .streams) h .prices → flows ≡ tiesTo (q .streams) prices (p .count) (finished (q .streams) h .flows)
-      → record { flows = flows; prices = prices } ≡ solvedFrom (plantOf p .streams) h
+  pub solved-is : (flows prices : List ℕ) → prices ≡ finished (q .streams) st .prices → flows ≡ tiesTo (q .streams) prices (p .count) (finished (q .streams) st .flows)
+      → record { flows = flows; prices = prices } ≡ solvedFrom (plantOf p .streams) st
   unfolding solvedFrom
   solved-is flows prices o e =
-      ap₂ made (e ∙ ap₂ (λ (rs : List ℕ) (n : ℕ). tiesTo (q .streams) rs n (finished (q .streams) h .flows)) o (sym (fit-length p (a .fit)))) o
+      ap₂ made (e ∙ ap₂ (λ (rs : List ℕ) (n : ℕ). tiesTo (q .streams) rs n (finished (q .streams) st .flows)) o (sym (fit-length p (a .fit)))) o
     where
       made : List ℕ → List ℕ → Solved
       made fs rs = record { flows = fs; prices = rs }

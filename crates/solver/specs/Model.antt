@@ -119,13 +119,13 @@ noHint = record { flows = replicate maxStreams flowShift; prices = replicate pla
 abbrev pub asHint : State → Hint
 asHint st = record { flows = st .flows; prices = st .prices }
 
--- Settled at the hint; where too much is left over, at none.
-abbrev pub begun : List Stream → Hint → State
-begun ss h = let st = settled ss h in pick (ltb leftoverLimit (overSum (st .nets))) (settled ss noHint) st
+-- Amounts settled at a hint; where too much is left over, those settled at none.
+abbrev pub begun : List Stream → State → State
+begun ss st = pick (ltb leftoverLimit (overSum (st .nets))) (settled ss noHint) st
 
 -- Improved at step 1 until no net is positive.
-abbrev pub finished : List Stream → Hint → State
-finished ss h = improvements fuel ss 1 (begun ss h)
+abbrev pub finished : List Stream → State → State
+finished ss st = improvements fuel ss 1 (begun ss st)
 
 -- Ties. Stream i less by 1 where its amount can fall at no cost and a way of no slack leads round it, which leaves the metered
 -- streams up to it alone.
@@ -147,8 +147,8 @@ unfoldable pub tiesTo : List Stream → List ℕ → ℕ → List ℕ → List �
 tiesTo ss ps zero xs = xs
 tiesTo ss ps (suc i) xs = tiedAt ss ps i (tiesTo ss ps i xs)
 
--- The whole, from any hint.
-unfoldable pub solvedFrom : List Stream → Hint → Solved
-solvedFrom ss h =
-    let st = finished ss h in
+-- The whole, from amounts settled at a hint.
+unfoldable pub solvedFrom : List Stream → State → Solved
+solvedFrom ss start =
+    let st = finished ss start in
     record { flows = tiesTo ss (st .prices) (length ss) (st .flows); prices = st .prices }

@@ -10,13 +10,14 @@ use Rattle.plants.specs.Limits.{places, maxStreams}
 use Rattle.plants.specs.Plants.{noStream}
 use Rattle.flows.specs.Flows.{streamAt}
 use Rattle.flows.specs.Certificate.{weightOf}
-use Rattle.flows.proofs.Nets.{netOf}
+use Rattle.flows.specs.Nets.{netOf}
 use Rattle.paths.specs.Sizes.{flowShift, mostFlow, priceShift, netShift, mostStep, pushRoom}
 use Rattle.paths.specs.Held.{unshifted, AllHeld}
 use Rattle.paths.specs.Slack.{slackBy}
 use Rattle.paths.specs.Premises.{Placed, Network, Prices}
 use Rattle.solver.specs.declared.Hint.{Hint}
 use Rattle.solver.specs.declared.State.{State}
+use Rattle.solver.specs.Model.{settled}
 use Rattle.solver.specs.Sizes.{mostReading, spread, stepFall, hintFloor, hintRoom, settledRoom}
 
 -- An array of streams of which the first n are in use: metered ones have a weight and a reading in range, and no stream leads
@@ -96,6 +97,12 @@ pub record Ready (ss : List Stream) (h : Hint) : Type 0 where
 -- All that is asked of a hint.
 abbrev pub Hinted : List Stream → Hint → Type 0
 Hinted ss h = Start ss hintFloor hintRoom h
+
+-- A state that is settled at a hint.
+pub record AtHint (ss : List Stream) (st : State) : Type 0 where
+  pub hint : Hint
+  pub hinted : Hinted ss hint
+  pub is : st ≡ settled ss hint
 
 -- A state: the step condition at d, nets that are the amounts', prices from low up, amounts of size b at most.
 pub record Sound (ss : List Stream) (d low b : ℕ) (st : State) : Type 0 where

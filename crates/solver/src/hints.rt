@@ -1,24 +1,19 @@
 // Hints: prices to begin with, and amounts for the unmetered streams.
 use crate::Hint;
 use crate::State;
-use crate::fast_hints::fast_hint;
 use crate::improving::improve_all;
 use crate::settling::settle;
-use crate::sizes::FAST_LEFTOVER;
 use crate::sizes::FIRST_STEP;
 use crate::sizes::HINT_BUDGET;
 use crate::sizes::PRICE_SHIFT;
 use paths::sizes::FLOW_SHIFT;
-use plants::Plant;
 use plants::Stream;
 use plants::limits::MAX_STREAMS;
 use plants::limits::PLACES;
 ghost use mathlib.Core.Path.{_≡_};
 ghost use lib.ListN.{take};
-ghost use Rattle.plants.specs.Says.{plantOf};
 ghost use Rattle.solver.specs.Model.{noHint, asHint};
 ghost use Rattle.solver.specs.Premises.{Layout, Hinted};
-ghost use Rattle.solver.specs.Promise.{Accepted};
 
 // No hint: amounts and prices 0.
 pub fn no_hint() -> Hint
@@ -43,7 +38,7 @@ fn hint_of(st: State) -> Hint
 }
 
 // At each step from FIRST_STEP down to 2: amounts settled, then some improvements.
-fn hint_by_steps(streams: [Stream; MAX_STREAMS], count: usize) -> Hint
+pub fn hint_by_steps(streams: [Stream; MAX_STREAMS], count: usize) -> Hint
     requires { ⌜ Layout streams count ⌝ }
     ensures { λ r. ⌜ Hinted (take count streams) r ⌝ }
 {
@@ -56,18 +51,4 @@ fn hint_by_steps(streams: [Stream; MAX_STREAMS], count: usize) -> Hint
         delta = delta / 2;
     }
     h
-}
-
-// The hint by factorisation; where it leaves too much over, the hint by steps.
-pub fn hint(p: Plant) -> Hint
-    requires { ⌜ Accepted p ⌝ }
-    ensures { λ r. ⌜ Hinted (plantOf p .streams) r ⌝ }
-{
-    let r = fast_hint(p);
-    if r.leftover <= FAST_LEFTOVER {
-        let h = r.hint;
-        return h;
-    }
-    let streams = p.streams;
-    hint_by_steps(streams, p.count as usize)
 }

@@ -3,6 +3,7 @@ use crate::Hint;
 use crate::State;
 use paths::sizes::FLOW_SHIFT;
 use paths::sizes::NET_SHIFT;
+use paths::slacks::minus;
 use paths::slacks::reading_of;
 use paths::slacks::weight_of;
 use plants::Stream;
@@ -15,7 +16,7 @@ ghost use Rattle.plants.specs.Limits.{maxStreams};
 ghost use Rattle.paths.specs.Sizes.{mostFlow};
 ghost use Rattle.paths.specs.Premises.{Placed, Network};
 ghost use Rattle.solver.specs.Sizes.{netRoom};
-ghost use Rattle.solver.specs.Model.{settledOf, settledTo, booked, netsTo, settled};
+ghost use Rattle.solver.specs.Model.{settledOf, settledTo, booked, netsTo, settled, overSum};
 ghost use Rattle.solver.specs.Premises.{Layout, Amounts, Around, Settleable, Settles, Ready};
 
 // A metered stream's amount at the prices of its start and its end. (The numbers divided are kept small: a division of small numbers
@@ -33,7 +34,7 @@ fn amount_at(s: Stream, pu: u64, pv: u64) -> u64
 }
 
 // Each metered stream's amount is settled; the others stay as they are.
-fn settle_flows(
+pub fn settle_flows(
     streams: [Stream; MAX_STREAMS],
     count: usize,
     prices: &[u64; PLACES],
@@ -65,7 +66,11 @@ fn book(nets: &mut [u64; PLACES], s: Stream, x: u64)
     nets[v] = nets[v] + x - FLOW_SHIFT;
 }
 
-fn nets_of(streams: [Stream; MAX_STREAMS], count: usize, flows: [u64; MAX_STREAMS]) -> [u64; PLACES]
+pub fn nets_of(
+    streams: [Stream; MAX_STREAMS],
+    count: usize,
+    flows: [u64; MAX_STREAMS],
+) -> [u64; PLACES]
     requires { ⌜ Network streams count × Amounts flows ⌝ }
     ensures { λ r. ⌜ r ≡ netsTo (take count streams) flows count ⌝ }
 {
@@ -92,4 +97,18 @@ pub fn settle(streams: [Stream; MAX_STREAMS], count: usize, h: Hint) -> State
         prices: prices,
         nets: nets,
     }
+}
+
+// The summed positive net.
+pub fn over_sum(nets: &[u64; PLACES]) -> u64
+    requires { ⌜ Around (now nets) netRoom ⌝ }
+    ensures { λ r. ⌜ r ≡ overSum (now (nets .entry)) ⌝ }
+{
+    let mut u: usize = 0;
+    let mut sum: u64 = 0;
+    while u < PLACES {
+        sum += minus(nets[u], NET_SHIFT);
+        u += 1;
+    }
+    sum
 }

@@ -11,8 +11,13 @@ kept-requires c κs = search needs
 returns : tie.Need-returns
 returns c = search needs
 
+group-requires : tie.Need-group-requires
+group-requires c κs = c .before .before .kept .ensures (not-false _ (c .before .if1 .left)) .fit
+
 solve-requires : tie.Need-solve-requires
-solve-requires c κs = c .before .before .kept .ensures (not-false _ (c .before .if1 .left))
+solve-requires c κs =
+    let a = c .before .before .before .kept .ensures (not-false _ (c .before .before .if1 .left)) in
+    (a, record { fit = a .fit; labelled = c .group .ensures })
 
 compare-requires : tie.Need-compare-requires
 compare-requires c κs = search needs
@@ -40,6 +45,7 @@ solved-spec =
     (tie.spec
     kept-requires
     returns
+    group-requires
     solve-requires
     compare-requires
     returns-2

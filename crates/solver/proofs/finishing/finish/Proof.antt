@@ -19,7 +19,7 @@ improve-all-requires c κs =
       st .pre .0,
       (omega arith, omega arith),
       rw (c .begin .ensures)
-          (begun-allows (take (st .args .count) (st .args .streams)) (solvable-of (st .args .streams) (st .args .count) (st .pre .0)) (st .args .h) (st .pre .1)),
+          (begun-allows (take (st .args .count) (st .args .streams)) (solvable-of (st .args .streams) (st .args .count) (st .pre .0)) (st .args .st) (st .pre .1)),
     )
 
 returns : tie.Need-returns

@@ -1,4 +1,5 @@
 -- `solver::forests::pass` meets its contract: each stream keeps what is asked of a forest.
+use mathlib.Core.Path.{refl}
 use Prim.Native.Nat.{_≤_, _-_}
 use native.Mathlib.Omega.{arith}
 use borrow.Author.Needs.{needs}
@@ -8,7 +9,7 @@ use Rattle.solver.proofs.forests.pass.Statement.{statement}
 use Rattle.solver.proofs.forests.pass.Tie as tie
 
 abbrev Inv-loop : tie.InvT-loop
-Inv-loop count streams f₀ i₀ f i = (i ≤ count) × Spanning f × Listed count f
+Inv-loop count streams f₀ i₀ f i = (i ≤ count) × Spanning f × Listed streams count f
 
 abbrev μ-loop : tie.MeasureT-loop
 μ-loop count streams f₀ i₀ f i = count - i
@@ -35,7 +36,7 @@ loop-less : tie.Need-loop-less Inv-loop μ-loop
 loop-less c = search needs
 
 loop-again : tie.Need-loop-again Inv-loop μ-loop
-loop-again c = (omega arith, c .along .ensures .0, c .along .ensures .1 _ (omega arith) (c .before .before .before .loop .inv .2))
+loop-again c = (omega arith, c .along .ensures .0, c .along .ensures .1 (c .before .before .before .before .args .t1) _ (omega arith) refl (c .before .before .before .loop .inv .2))
 
 returns : tie.Need-returns Inv-loop μ-loop
 returns c = search needs

@@ -5,9 +5,9 @@ use Rattle.paths.specs.Held.{readingOf}
 use Rattle.paths.specs.Sizes.{mostFlow}
 use Rattle.flows.specs.Certificate.{weightOf}
 use Rattle.plants.specs.Limits.{maxWeight}
-use native.Mathlib.Nat.{div-le-self}
+use native.Mathlib.Nat.{le-trans, div-le-self}
 use native.Mathlib.Omega.{arith}
-use Prim.Native.Nat.{_≤_, _-_, _+_, _*_}
+use Prim.Native.Nat.{ℕ, _≤_, _<_, _-_, _+_, _*_, _/_}
 use mathlib.Core.Path.{sym}
 use borrow.Author.Needs.{needs}
 use Rattle.solver.proofs.settling.amount_at.Statement.{statement}
@@ -46,12 +46,14 @@ mul-result c = search needs
 div-result : tie.Need-div-result
 div-result c = search needs
 
+-- A quotient is no greater than what is divided.
+quotient-fits : (r n d m : ℕ) → r + n < m → r + n / d < m
+quotient-fits r n d m h = omega (arith, h, div-le-self n d)
+
 add-result-2 : tie.Need-add-result-2
 add-result-2 c =
     let f = c .before in
-    let w = f .before .weight-of .result in
-    let st = f .before .before in
-    omega (arith, bounds f, st .pre .price-v, div-le-self (st .args .pv + w - st .args .pu) (2 * w))
+    record { fits = quotient-fits _ _ _ _ (omega (arith, bounds f, f .before .before .pre .price-v)) }
 
 returns : tie.Need-returns
 returns c =
@@ -78,9 +80,7 @@ div-result-2 c = search needs
 sub-result-4 : tie.Need-sub-result-4
 sub-result-4 c =
     let f = c .before in
-    let w = f .before .weight-of .result in
-    let st = f .before .before in
-    omega (arith, bounds f, down-most w (st .args .pu) (st .args .pv) (bounds f .0) (omega (arith, c .if1 .left)) (st .pre .near))
+    le-trans (down-most _ _ (bounds f .0) (omega (arith, c .if1 .left, f .before .before .pre .near))) (bounds f .2)
 
 returns-2 : tie.Need-returns-2
 returns-2 c =

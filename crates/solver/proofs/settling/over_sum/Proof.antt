@@ -1,4 +1,4 @@
--- `solver::finishing::over_sum` meets its contract: the sum of the first u places.
+-- `solver::settling::over_sum` meets its contract: the sum of the first u places.
 use mathlib.Core.Path.{_≡_, sym, _∙_}
 use Prim.Native.Nat.{_≤_, _-_}
 use native.Mathlib.Omega.{arith}
@@ -6,8 +6,8 @@ use borrow.Author.Needs.{needs}
 use Rattle.plants.specs.Limits.{places}
 use Rattle.solver.specs.Sizes.{netRoom}
 use Rattle.solver.proofs.Turns.{overTo, over-next, over-none, over-all, over-to-most}
-use Rattle.solver.proofs.finishing.over_sum.Statement.{statement}
-use Rattle.solver.proofs.finishing.over_sum.Tie as tie
+use Rattle.solver.proofs.settling.over_sum.Statement.{statement}
+use Rattle.solver.proofs.settling.over_sum.Tie as tie
 
 abbrev Inv-loop : tie.InvT-loop
 Inv-loop nets u₀ sum₀ u sum = (u ≤ places) × (sum ≡ overTo nets u)

@@ -1,0 +1,45 @@
+-- `solver::solve_at` meets its contract: what the code computes is what the definitions give, and that is right.
+use mathlib.Core.Path.{sym, ap, _∙_, subst}
+use borrow.Author.Needs.{needs}
+use Rattle.plants.specs.Says.{plantOf}
+use Rattle.solver.specs.declared.State.{State}
+use Rattle.solver.specs.Model.{tiesTo}
+use Rattle.solver.specs.Promise.{Right}
+use Rattle.solver.proofs.Ending.{finished-even, finished-prices}
+use Rattle.solver.proofs.Theorem.{layout-of, solvable-in, solved-right, solved-is}
+use Rattle.solver.proofs.solve_at.Statement.{statement}
+use Rattle.solver.proofs.solve_at.Tie as tie
+
+cast-count : tie.Need-cast-count
+cast-count c = search needs
+
+finish-requires : tie.Need-finish-requires
+finish-requires c κs =
+    let st = c .before .before in
+    (layout-of (st .args .p) (st .pre .0), st .pre .1)
+
+tie-all-requires : tie.Need-tie-all-requires
+tie-all-requires c κs =
+    let st = c .before .before .before .before .before .before .before in
+    let p = st .args .p in
+    let w = layout-of p (st .pre .0) in
+    let v = solvable-in (plantOf p) (st .pre .0 .within) in
+    let e = c .before .before .before .before .finish .ensures in (
+      w,
+      rw e (finished-prices (plantOf p .streams) v (st .args .start) (st .pre .1)),
+      rw e (finished-even (plantOf p .streams) v (st .args .start) (st .pre .1)),
+    )
+
+returns : tie.Need-returns
+returns c =
+    let st = c .before .before .before .before .before .before .before .before in
+    let p = st .args .p in
+    let f = c .before .before .before .before .before .finish in
+    subst (Right p)
+    (sym
+    (solved-is p (st .pre .0) (st .args .start) (st .pre .1) _ (f .result .prices) (ap (λ (s : State). s .prices) (f .ensures))
+    (c .tie-all .ensures ∙ ap (λ (s : State). tiesTo (plantOf p .streams) (f .result .prices) (p .count) (s .flows)) (f .ensures))))
+    (solved-right p (st .pre .0) (st .args .start) (st .pre .1))
+
+pub solve-at-spec : {M : Type 1} → statement M
+solve-at-spec = tie.close (tie.spec cast-count finish-requires tie-all-requires returns)
