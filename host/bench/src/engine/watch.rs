@@ -23,6 +23,8 @@ pub trait Watch {
     fn push(&mut self) {}
     /// An improvement was made.
     fn improvement(&mut self) {}
+    /// The hint by steps was taken.
+    fn fell_back(&mut self) {}
     /// A phase ended.
     fn phase(&mut self, _phase: Phase) {}
 }
@@ -38,9 +40,10 @@ pub struct Work {
     pub rounds: u64,
     pub pushes: u64,
     pub improvements: u64,
-    /// Improvements and rounds at step 1 after the hint.
+    /// Improvements and rounds that the hint leaves.
     pub left: u64,
     pub left_rounds: u64,
+    pub fell_back: bool,
     finishing: bool,
     then: Instant,
     /// Microseconds by phase.
@@ -56,6 +59,7 @@ impl Work {
             improvements: 0,
             left: 0,
             left_rounds: 0,
+            fell_back: false,
             finishing: false,
             then: Instant::now(),
             phases: [0.0; 7],
@@ -91,6 +95,10 @@ impl Watch for Work {
     fn improvement(&mut self) {
         self.improvements += 1;
         self.left += u64::from(self.finishing);
+    }
+
+    fn fell_back(&mut self) {
+        self.fell_back = true;
     }
 
     fn phase(&mut self, phase: Phase) {
