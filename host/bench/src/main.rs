@@ -1,20 +1,24 @@
 //! The benchmark's program:
 //!
 //!     wengeludo_bench PLANTS SECONDS [FOLDER]  measures everything in one run and prints the tables
+//!     wengeludo_bench --times PLANTS           prints the times of each plant
+//!     wengeludo_bench --table BEFORE AFTER     the table of two files of such times, each of one run or several
 //!
 //! PLANTS   how many plants of each kind and size
 //! SECONDS  how long the search for bad plants runs
 //! FOLDER   where the plot of how cost grows (speed.svg) and the worst plant found (worst.bin) are written
 
 use std::process::exit;
-use wengeludo_bench::{plot, report};
+use wengeludo_bench::{compare, plot, report};
 
-const USAGE: &str = "usage: wengeludo_bench PLANTS SECONDS [FOLDER]";
+const USAGE: &str = "usage: wengeludo_bench PLANTS SECONDS [FOLDER] | --times PLANTS | --table BEFORE AFTER";
 
 fn main() {
     let words: Vec<String> = std::env::args().skip(1).collect();
     let words: Vec<&str> = words.iter().map(String::as_str).collect();
     let done = match words[..] {
+        ["--times", plants] => count(plants).map(compare::print_times),
+        ["--table", before, after] => table(before, after),
         [plants, seconds] => tables(plants, seconds, None),
         [plants, seconds, folder] => tables(plants, seconds, Some(folder)),
         _ => Err(USAGE.to_string()),
@@ -40,6 +44,12 @@ fn tables(plants: &str, seconds: &str, folder: Option<&str>) -> Result<(), Strin
         save(folder, "speed.svg", plot::svg(&growth).as_bytes())?;
         save(folder, "worst.bin", &found.file())?;
     }
+    Ok(())
+}
+
+fn table(before: &str, after: &str) -> Result<(), String> {
+    let read = |path: &str| std::fs::read_to_string(path).map_err(|error| format!("{path}: {error}"));
+    println!("{}", compare::table(&read(before)?, &read(after)?)?);
     Ok(())
 }
 
