@@ -37,7 +37,6 @@ impl Watch for Unwatched {}
 #[derive(Clone, Debug)]
 pub struct Work {
     pub visits: u64,
-    pub rounds: u64,
     pub pushes: u64,
     pub improvements: u64,
     /// Improvements and rounds that the hint leaves.
@@ -54,7 +53,6 @@ impl Work {
     pub fn new() -> Work {
         Work {
             visits: 0,
-            rounds: 0,
             pushes: 0,
             improvements: 0,
             left: 0,
@@ -84,7 +82,6 @@ impl Watch for Work {
     }
 
     fn round(&mut self) {
-        self.rounds += 1;
         self.left_rounds += u64::from(self.finishing);
     }
 
