@@ -1,4 +1,4 @@
--- What is asked of a spanning forest and of the amounts routed along it: ranges only.
+-- What is asked of a spanning forest and of the amounts routed along it: ranges, and that metered amounts stay as they are.
 use mathlib.Core.Path.{_≡_}
 use mathlib.Core.Bool.{true, false}
 use mathlib.Core.List.{List}
