@@ -1,6 +1,7 @@
--- Laws of sheets.
-pub mod Amounts
-pub mod Shown
+-- Laws of balances and sheets.
+pub mod Costing
+pub mod Entries
+pub mod Laying
 pub mod Promise
 pub mod Unique
 pub mod Table
