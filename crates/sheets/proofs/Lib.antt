@@ -1,4 +1,5 @@
 -- Laws of balances and sheets.
+pub mod Opening
 pub mod Costing
 pub mod Entries
 pub mod Laying

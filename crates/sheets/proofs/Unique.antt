@@ -25,6 +25,7 @@ use Rattle.flows.specs.Flows.{streamAt, amountAt, cost, meteredOf, Cheapest}
 use Rattle.flows.specs.Classes.{classOf, numberOf, degrees}
 use Rattle.flows.specs.Test.{verdictOf}
 use Rattle.flows.proofs.Nets.{balanced-size}
+use Rattle.flows.proofs.Lists.{values-same}
 use Rattle.flows.proofs.Order.{one}
 use Rattle.flows.proofs.ByLabels.{class-past}
 use Rattle.flows.proofs.Given.{class-means, number-is, given-agree}
@@ -33,7 +34,7 @@ use Rattle.sheets.specs.declared.Sheet.{Sheet}
 use Rattle.sheets.specs.Balances.{entryOf, balanceOf}
 use Rattle.sheets.specs.Sheets.{sheetBytes, sheetOf}
 use Rattle.sheets.specs.Says.{callFault, Refused, Drawn, SheetWith, No-choice, Demands}
-use Rattle.sheets.proofs.Entries.{entry-same, values-same}
+use Rattle.sheets.proofs.Entries.{entry-same}
 
 -- Flows with the same metered amounts have the same amount on each metered stream.
 metered-at : (ss : List Stream) (xs ys : List ℤ) → length xs ≡ length ss → length ys ≡ length ss → meteredOf ss xs ≡ meteredOf ss ys

@@ -1,6 +1,7 @@
 -- The parts make up the balance of the cheapest flow.
 use borrow.Author.Needs.{needs}
-use Rattle.sheets.proofs.Entries.{right-amounts, costs-fit, balanced-so}
+use Rattle.sheets.proofs.Opening.{right-amounts}
+use Rattle.sheets.proofs.Entries.{costs-fit, balanced-so}
 use Rattle.sheets.proofs.balances.balance_of.Statement.{statement}
 use Rattle.sheets.proofs.balances.balance_of.Tie as tie
 

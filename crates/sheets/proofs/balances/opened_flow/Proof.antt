@@ -2,7 +2,7 @@
 use borrow.Author.Needs.{needs}
 use mathlib.Core.Path.{_∙_}
 use mir.Facts.{toZ-ofZ}
-use Rattle.sheets.proofs.Costing.{opened-here, opened-fits}
+use Rattle.sheets.proofs.Opening.{opened-here, opened-fits}
 use Rattle.sheets.proofs.balances.opened_flow.Statement.{statement}
 use Rattle.sheets.proofs.balances.opened_flow.Tie as tie
 

@@ -12,8 +12,7 @@ use Rattle.plants.specs.Limits.{maxStreams}
 use Rattle.flows.proofs.Lists.{Written, written-none, written-put}
 use Rattle.paths.specs.Held.{unshifted}
 use Rattle.solver.specs.Premises.{Amounts}
-use Rattle.sheets.proofs.Costing.{opened-fits}
-use Rattle.sheets.proofs.Entries.{opened-all}
+use Rattle.sheets.proofs.Opening.{opened-fits, opened-all}
 use Rattle.sheets.proofs.balances.opened_flows.Statement.{statement}
 use Rattle.sheets.proofs.balances.opened_flows.Tie as tie
 
