@@ -1,7 +1,6 @@
 // A plant's classes and degrees compared with those of its text, and how many were right.
 use crate::texts;
 use flows::Class;
-use flows::Which;
 use plants::limits::MAX_STREAMS;
 ghost use Prim.Native.Nat.{_≤_};
 ghost use Rattle.plants.specs.Limits.{maxUnits};
@@ -49,8 +48,9 @@ pub fn tried(t: Tally, units: u8, degrees: u8, text: &[u8]) -> Tally
     requires { ⌜ units ≤ maxUnits ⌝ }
 {
     let p = texts::plant(units, text);
-    let labels = flows::group(p, Which::Unmetered);
-    let classes = flows::classes_of(p, labels);
+    let cuts = flows::cuts_of(p);
+    let classes = flows::classes_of(p, cuts);
+    let labels = cuts.labels;
     let d = flows::degrees_of(p, labels);
     let number = one_more(t.tried);
     if same_classes(classes, text) && d == degrees {

@@ -1,5 +1,5 @@
 -- The pass over the streams that finds the labels they take away and the loops.
-use mathlib.Core.Path.{_≡_, refl, _∙_, ap}
+use mathlib.Core.Path.{_≡_, refl, sym, _∙_, ap}
 use mathlib.Core.Bool.{not}
 use mathlib.Core.List.{List}
 use Prim.Native.Nat.{ℕ, _+_, _*_, _%_, _≤_, _<_, _^_}
@@ -102,8 +102,9 @@ module _ {p : Arrays.Plant} (fit : Fit p) {i : ℕ} {none labels sides taken : L
       written = written-put (a .written) (omega (arith, fit .few-streams)) h (is-taken h q);
     }
 
-  pub passed-all : i ≡ p .count → Cutting p taken looped
+  pub passed-all : i ≡ p .count → Cutting p (record { labels = labels; taken = taken; looped = looped })
   passed-all e = record {
+    grouped = record { fit = fit; labelled = a .labelled ∙ ap (labelsAfter unmeteredOnly (plantOf p .streams)) (e ∙ sym (fit-length p fit)) };
     long = a .written .long;
     each = each;
     low = λ k l. rw (each k l) (taken-low (plantOf p) (fit .few-units) (fit-inside p fit) k (omega (arith, fit-length p fit)));

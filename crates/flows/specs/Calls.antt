@@ -11,6 +11,7 @@ use Rattle.plants.specs.Plants.{Plant, noStream}
 use Rattle.plants.specs.Says.{plantOf}
 use Rattle.flows.specs.declared.Class.{Class}
 use Rattle.flows.specs.declared.Class.the-variants.{AsRead, Adjusted, Given, Withheld}
+use Rattle.flows.specs.declared.Cuts.{Cuts}
 use Rattle.flows.specs.declared.Which.{Which}
 use Rattle.flows.specs.declared.Which.the-variants.{Every, Unmetered}
 use Rattle.flows.specs.Flows.{values}
@@ -45,12 +46,13 @@ pub record Grouped (p : Arrays.Plant) (labels : List ℕ) : Type 0 where
   pub fit : Fit p
   pub labelled : labels ≡ labelsOf unmeteredOnly (plantOf p)
 
--- The labels that a plant's streams take away, and the bits of those that lie on a loop.
-pub record Cutting (p : Arrays.Plant) (taken : List ℕ) (looped : ℕ) : Type 0 where
-  pub long : length taken ≡ maxStreams
-  pub each : (i : ℕ) → i < p .count → getD taken i 0 ≡ takenAt (plantOf p .streams) i
-  pub low : (i : ℕ) → i < p .count → getD taken i 0 < places
-  pub met : looped ≡ loopedAfter (plantOf p .streams) (p .count)
+-- A plant's labels by the unmetered streams, the labels that its streams take away, and the bits of those that lie on a loop.
+pub record Cutting (p : Arrays.Plant) (c : Cuts) : Type 0 where
+  pub grouped : Grouped p (c .labels)
+  pub long : length (c .taken) ≡ maxStreams
+  pub each : (i : ℕ) → i < p .count → getD (c .taken) i 0 ≡ takenAt (plantOf p .streams) i
+  pub low : (i : ℕ) → i < p .count → getD (c .taken) i 0 < places
+  pub met : c .looped ≡ loopedAfter (plantOf p .streams) (p .count)
 
 -- A stream's class by the labels by the unmetered streams, the label that it took away and the bits of those that lie on a loop.
 abbrev pub classIn : List ℕ → Stream → ℕ → ℕ → Class

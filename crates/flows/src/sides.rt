@@ -1,5 +1,6 @@
 // The streams that join two groups, in one pass over the streams. Each takes a label away, the higher one of its ends. Bit h of
 // a place's sides tells on which side of the stream that took label h away the place lies.
+use crate::Cuts;
 use crate::groups;
 use plants::Plant;
 use plants::Stream;
@@ -14,12 +15,6 @@ ghost use lib.Dec.{eqb};
 ghost use Rattle.plants.specs.Limits.{places};
 ghost use Rattle.flows.specs.Sides.{takenBy, apart, loopedBy, turned, parted};
 ghost use Rattle.flows.specs.Calls.{Fit, Ends, Cutting};
-
-// The label that each stream takes away, 0 where it takes none, and the bits of those that lie on a loop; bit 0 is set.
-pub struct Cuts {
-    pub taken: [u8; MAX_STREAMS],
-    pub looped: u64,
-}
 
 // The label that a stream takes away.
 fn taken_by(labels: &[u8; PLACES], s: Stream) -> u8
@@ -101,10 +96,10 @@ fn part(sides: &mut [u64; PLACES], labels: &[u8; PLACES], s: Stream, h: u8)
     turn(sides, labels, h, way ^ (1u64 << h));
 }
 
-// The labels that the streams take away, and the loops.
+// The labels by the unmetered streams, those that the streams take away, and the loops.
 pub fn cuts_of(p: Plant) -> Cuts
     requires { ⌜ Fit p ⌝ }
-    ensures { λ r. ⌜ Cutting p (r .taken) (r .looped) ⌝ }
+    ensures { λ r. ⌜ Cutting p r ⌝ }
 {
     let n = p.count as usize;
     let mut labels = groups::own_numbers();
@@ -122,6 +117,7 @@ pub fn cuts_of(p: Plant) -> Cuts
         i += 1;
     }
     Cuts {
+        labels: labels,
         taken: taken,
         looped: looped,
     }

@@ -1,6 +1,8 @@
--- Laws of sheets.
-pub mod Amounts
-pub mod Shown
+-- Laws of balances and sheets.
+pub mod Opening
+pub mod Costing
+pub mod Entries
+pub mod Laying
 pub mod Promise
 pub mod Unique
 pub mod Table

@@ -16,15 +16,14 @@ use Rattle.plants.specs.Files.{Got, bad, got, readPlant}
 use Rattle.plants.specs.Says.{arrayed, plantOf, readOf}
 use Rattle.plants.proofs.Accepted.{refused}
 use Rattle.flows.specs.Flows.{Cheapest}
-use Rattle.flows.proofs.Fits.{read-fits}
-use Rattle.paths.specs.Held.{opened}
-use Rattle.solver.specs.declared.Solved.{Solved}
-use Rattle.solver.specs.Promise.{Accepted, Right}
+use Rattle.flows.proofs.Fits.{fit-length, read-fits}
+use Rattle.solver.specs.Promise.{Accepted}
 use Rattle.solver.proofs.Theorem.{read-accepted}
 use Rattle.sheets.specs.declared.Sheet.{Sheet}
-use Rattle.sheets.specs.Sheets.{leastSlice, sheetOf}
+use Rattle.sheets.specs.declared.Balance.{Balance}
+use Rattle.sheets.specs.Balances.{BalanceSays}
+use Rattle.sheets.specs.Sheets.{leastSlice, sheetBytes, sheetOf}
 use Rattle.sheets.specs.Says.{topSheet, callFault, SheetWith, SheetSays}
-use Rattle.sheets.specs.Calls.{Drawable}
 
 -- What the reader handed over, by its number.
 read-bad : (g : Got) (y : Read) → y ≡ readOf g → (y .number ≡ 0 → ⊥) → g ≡ bad (y .number)
@@ -41,15 +40,6 @@ module _ (file : List ℕ) (y : Read) (e : y ≡ readOf (readPlant file)) (n : y
 
   pub plant-accepted : Accepted (y .plant)
   plant-accepted = rw (found .2) (read-accepted file (found .0) (found .1))
-
-  pub plant-drawable : (s : Solved) → Right (y .plant) s → Drawable (y .plant) (s .flows)
-  plant-drawable s r =
-      record {
-        accepted = plant-accepted;
-        long = r .long;
-        amounts = λ k h. omega (arith, r .close k h .0);
-        cheapest = r .cheapest;
-      }
 
 -- A call without fault: the slice is long enough, and a sheet number is left.
 module _ (last : ℕ) (o : List ℕ) (e : callFault last o ≡ 0) where
@@ -71,18 +61,19 @@ module _ (file : List ℕ) (last : ℕ) (o : List ℕ) where
         → r ≡ record { number = y .number; written = 0; last = last } → SheetSays file last o o r
     file-refused y r q n w = by-file o r (rw (read-bad (readPlant file) y q n) (w, refl))
 
-    pub sheet-drawn : (y : Read) (s : Solved) (o′ : List ℕ) (m : ℕ) → y ≡ readOf (readPlant file) → y .number ≡ 0 → Right (y .plant) s
-        → Put (sheetOf (plantOf (y .plant)) (opened (y .plant .count) (s .flows)) (last + 1)) o o′ m
-        → SheetSays file last o o′ (record { number = 0; written = m; last = last + 1 })
-    sheet-drawn y s o′ m q n t p =
+    pub sheet-drawn : (y : Read) (b : Balance) (o′ : List ℕ) (m : ℕ) → y ≡ readOf (readPlant file) → y .number ≡ 0 → BalanceSays (plantOf (y .plant)) b
+        → Put (sheetBytes (y .plant .count) (last + 1) b) o o′ m → SheetSays file last o o′ (record { number = 0; written = m; last = last + 1 })
+    sheet-drawn y b o′ m q n t p =
         let a = found file y q n in
-        let xs = opened (y .plant .count) (s .flows) in
+        let xs = t .0 in
+        let count : y .plant .count ≡ length (plantOf (y .plant) .streams) = sym (fit-length (y .plant) (plant-accepted file y q n .fit)) in
         let same : plantOf (y .plant) ≡ a .0 = ap plantOf (a .2) ∙ read-fits file (a .0) (a .1) .1 in
-        let sheet : sheetOf (plantOf (y .plant)) xs (last + 1) ≡ sheetOf (a .0) xs (suc last) = λ i. sheetOf (same i) xs (add-one last i) in
+        let sheet : sheetBytes (y .plant .count) (last + 1) b ≡ sheetOf (a .0) xs (suc last) =
+        (λ i. sheetBytes (count i) (add-one last i) (t .2 i)) ∙ (λ i. sheetOf (same i) xs (suc last)) in
         by-file o′ (record { number = 0; written = m; last = last + 1 })
         (rw (a .1) (
           xs,
-          subst (λ (x : Plant). Cheapest x xs) same (t .cheapest),
+          subst (λ (x : Plant). Cheapest x xs) same (t .1),
           (λ i. record { number = 0; written = (p .size ∙ ap length sheet) i; last = add-one last i }),
           p .bytes ∙ ap (λ (l : List ℕ). over l o) sheet,
         ))

@@ -10,6 +10,7 @@ use Rattle.numbers.proofs.Tests.{and-left, and-right}
 use Rattle.plants.specs.Files.{Got, bad, got, readPlant}
 use Rattle.flows.specs.Certificate.{certified}
 use Rattle.flows.proofs.Certified.{certified-cheapest}
+use Rattle.sheets.specs.Balances.{balanceOf}
 use Rattle.sheets.specs.Sheets.{sheetOf}
 use Rattle.sheets.specs.Table.{Example, Shows, AllShow, examples}
 
@@ -70,5 +71,5 @@ prices =
     ∷ []
 
 pub table : AllShow examples
-unfolding prices
+unfolding prices balanceOf
 table = all-right examples prices refl
