@@ -3,7 +3,9 @@
 import math
 from typing import NamedTuple
 
-from solver import READING, SHEET_LENGTH, Stream
+import cases
+import solver
+from solver import FILE_LENGTH, READING, SHEET_LENGTH, Stream
 
 
 class Draws:
@@ -49,12 +51,81 @@ class Draws:
 
 
 class Case(NamedTuple):
-    """A call: plant file, last sheet number, slice length; the number meant to be returned, if said."""
+    """A sheet call: plant file, last sheet number, slice length; the number meant to be returned, if said; the slice's bytes."""
 
     file: bytes
     last: int = 0
     slice_length: int = SHEET_LENGTH
     expected: int | None = None
+    filling: int = 0xA5
+
+    def record(self):
+        number, written, after, sheet = solver.sheet_call(self.file, self.last, self.slice_length)
+        given = cases.number(self.last, 4) + cases.number(self.slice_length, 2) + self.file
+        answer = bytes((number,)) + cases.number(written, 8) + cases.number(after, 4) + sheet
+        return meant(self, number, cases.Record(cases.SHEET, self.filling, given, answer))
+
+
+class Reading(NamedTuple):
+    """A call of the plant reader."""
+
+    file: bytes
+    expected: int | None = None
+
+    def record(self):
+        number, units, streams = solver.read_call(self.file)
+        answer = bytes((number, units, len(streams))) + parts_of(streams)
+        return meant(self, number, cases.Record(cases.READER, 0, self.file, answer))
+
+
+class Writing(NamedTuple):
+    """A call of the plant writer: units, how many streams, the streams (96 records are handed in, the rest empty)."""
+
+    units: int
+    count: int
+    streams: tuple
+    slice_length: int = FILE_LENGTH
+    expected: int | None = None
+    filling: int = 0xA5
+
+    def record(self):
+        number, written, file = solver.write_call(self.units, self.count, self.streams, self.slice_length)
+        given = cases.number(self.slice_length, 2) + bytes((self.units, self.count)) + parts_of(self.streams)
+        unused = bytes((self.filling,)) * (cases.SLICE - 9)
+        answer = bytes((number,)) + cases.number(written, 8) + unused + file
+        return meant(self, number, cases.Record(cases.WRITER, self.filling, given, answer))
+
+
+class Unhinted(NamedTuple):
+    """The solver without a hint, on an accepted file; compared are all flows that are not withheld."""
+
+    file: bytes
+    expected: int | None = 0
+
+    def record(self):
+        number, _, _ = solver.read_call(self.file)
+        result = solver.balance(solver.read_plant(self.file))
+        asked = bytes(amount is not None for amount in result.numbers)
+        flows = b"".join(cases.number(amount or 0, 8) for amount in result.numbers)
+        answer = bytes((number,)) + 7 * b"\xa5" + flows.ljust(8 * cases.STREAMS, b"\0")
+        given = asked.ljust(cases.STREAMS, b"\0") + self.file
+        return meant(self, number, cases.Record(cases.UNHINTED, 0xA5, given, answer))
+
+
+def meant(case, number, record):
+    """The record, if it has the number that the case was built for."""
+    if case.expected is not None and number != case.expected:
+        raise ValueError(f"{case}: {number} returned, {case.expected} meant")
+    if getattr(case, "slice_length", 0) > cases.MOST_SLICE:
+        raise ValueError("a slice is too long")
+    return record
+
+
+def parts_of(streams):
+    """The 96 records of streams, empty ones past the last."""
+    empty = (0, 0, False, 0, 0)
+    whole = [(s.source, s.target, s.metered, s.weight, s.reading) for s in streams]
+    return b"".join(cases.stream(*s) for s in whole + [empty] * (cases.STREAMS - len(whole)))
 
 
 def unmetered(source, target):

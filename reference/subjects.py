@@ -2,6 +2,8 @@
 
 import math
 
+import files_to_try
+import plants_to_try
 import refusals
 import samples
 import shapes
@@ -335,6 +337,7 @@ def limits():
             yield taken(32, streams, last=LAST_SHEET - 1, slice_length=draws.pick((SHEET_LENGTH, 1_000)))
 
 
+# The program `vectors` names the same files in the same order.
 SUBJECTS = (
     ("plants", plants),
     ("ties", ties),
@@ -346,4 +349,9 @@ SUBJECTS = (
     ("limits", limits),
     ("damaged", refusals.damaged),
     ("calls", refusals.calls),
+    ("classes", plants_to_try.classes),
+    ("flows", plants_to_try.flows),
+    ("reader", files_to_try.reader),
+    ("writer", files_to_try.writer),
+    ("unhinted", plants_to_try.unhinted),
 )
