@@ -17,7 +17,8 @@ use Rattle.solver.specs.Sizes.{hintRoom}
 use Rattle.solver.specs.Premises.{Close}
 use Rattle.solver.specs.Forests.{Spanning, Listed, Routes}
 use Rattle.flows.proofs.Lists.{set-each}
-use Rattle.paths.proofs.Counting.{countTo, count-most, count-more}
+use Rattle.paths.specs.Counts.{countTo}
+use Rattle.paths.proofs.Counting.{count-most, count-more}
 
 pub ends-of : {s : Stream} → Placed s → Ends s
 ends-of p = record { from-in = omega (arith, p .from-in); to-in = omega (arith, p .to-in) }

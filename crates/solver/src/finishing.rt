@@ -6,6 +6,7 @@ use crate::improving::improve_all;
 use crate::settling::settle;
 use crate::sizes::FUEL;
 use crate::sizes::LEFTOVER_LIMIT;
+use paths::lanes::LANES;
 use paths::sizes::NET_SHIFT;
 use paths::slacks::minus;
 use plants::Stream;
@@ -13,6 +14,7 @@ use plants::limits::MAX_STREAMS;
 use plants::limits::PLACES;
 ghost use mathlib.Core.Path.{_≡_};
 ghost use lib.ListN.{take};
+ghost use Rattle.paths.specs.Premises.{Laid};
 ghost use Rattle.solver.specs.Sizes.{netRoom};
 ghost use Rattle.solver.specs.Model.{overSum, begun, finished};
 ghost use Rattle.solver.specs.Premises.{Layout, Around, Hinted};
@@ -45,9 +47,9 @@ fn begin(streams: [Stream; MAX_STREAMS], count: usize, h: Hint) -> State
 }
 
 // Improved at step 1 until no net is positive.
-pub fn finish(streams: [Stream; MAX_STREAMS], count: usize, h: Hint) -> State
-    requires { ⌜ Layout streams count × Hinted (take count streams) h ⌝ }
+pub fn finish(streams: [Stream; MAX_STREAMS], count: usize, lanes: &[u64; LANES], h: Hint) -> State
+    requires { ⌜ Layout streams count × Hinted (take count streams) h × Laid streams count (now lanes) ⌝ }
     ensures { λ r. ⌜ r ≡ finished (take count streams) h ⌝ }
 {
-    improve_all(streams, count, begin(streams, count, h), 1, FUEL)
+    improve_all(lanes, begin(streams, count, h), 1, FUEL)
 }

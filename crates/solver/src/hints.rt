@@ -8,6 +8,7 @@ use crate::sizes::FAST_LEFTOVER;
 use crate::sizes::FIRST_STEP;
 use crate::sizes::HINT_BUDGET;
 use crate::sizes::PRICE_SHIFT;
+use paths::lanes::lay;
 use paths::sizes::FLOW_SHIFT;
 use plants::Plant;
 use plants::Stream;
@@ -47,11 +48,12 @@ fn hint_by_steps(streams: [Stream; MAX_STREAMS], count: usize) -> Hint
     requires { ⌜ Layout streams count ⌝ }
     ensures { λ r. ⌜ Hinted (take count streams) r ⌝ }
 {
+    let lanes = lay(streams, count);
     let mut h = no_hint();
     let mut delta = FIRST_STEP;
     while 1 < delta {
         let st = settle(streams, count, h);
-        let next = improve_all(streams, count, st, delta, HINT_BUDGET);
+        let next = improve_all(&lanes, st, delta, HINT_BUDGET);
         h = hint_of(next);
         delta = delta / 2;
     }

@@ -1,6 +1,7 @@
 // The cheapest balanced flow of a plant, with prices that certify it.
 use finishing::finish;
 use hints::hint;
+use paths::lanes::lay;
 use plants::Plant;
 use plants::limits::MAX_STREAMS;
 use plants::limits::PLACES;
@@ -59,10 +60,11 @@ pub fn solve_from(p: Plant, h: Hint) -> Solved
 {
     let streams = p.streams;
     let count = p.count as usize;
-    let st = finish(streams, count, h);
+    let lanes = lay(streams, count);
+    let st = finish(streams, count, &lanes, h);
     let prices = st.prices;
     let mut flows = st.flows;
-    tie_all(streams, count, &mut flows, &prices);
+    tie_all(&lanes, &mut flows, &prices);
     Solved {
         flows: flows,
         prices: prices,
