@@ -19,7 +19,8 @@ use Rattle.solver.specs.Sizes.{hintRoom}
 use Rattle.solver.specs.Premises.{Close, Amounts}
 use Rattle.solver.specs.Forests.{Spanning, Unmetered, Listed, Routes, Kept}
 use Rattle.flows.proofs.Lists.{set-each}
-use Rattle.paths.proofs.Counting.{countTo, count-most, count-more}
+use Rattle.paths.specs.Counts.{countTo}
+use Rattle.paths.proofs.Counting.{count-most, count-more}
 
 pub ends-of : {s : Stream} → Placed s → Ends s
 ends-of p = record { from-in = omega (arith, p .from-in); to-in = omega (arith, p .to-in) }
