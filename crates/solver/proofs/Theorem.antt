@@ -17,7 +17,7 @@ use Rattle.plants.specs.Within.{WithinStream, Within}
 use Rattle.plants.proofs.Limited.{within}
 use Rattle.plants.proofs.Accepted.{accepted}
 use Rattle.flows.specs.Flows.{streamAt, amountAt, Cheapest}
-use Rattle.flows.specs.Certificate.{climb, lowest, highest}
+use Rattle.flows.specs.Certificate.{climb, leastClimb, mostClimb}
 use Rattle.flows.proofs.Integers.{le-leZ}
 use Rattle.flows.proofs.Fits.{fit-length, fit-at, read-fits}
 use Rattle.flows.proofs.Prices.{StepAt, Steps, Certificate}
@@ -102,7 +102,7 @@ module _ (q : Plant) (w : Within q) (st : State) (s : AtHint (q .streams) st) wh
 
 -- The step condition by its tests.
 bounded : (π : ℕ → ℤ) (s : Stream) (x : ℤ) → StepAt 1 π s x → Bounded π s x
-bounded π s x o = record { low = le-leZ (lowest s x) (climb π s) (o .low); high = le-leZ (climb π s) (highest s x) (o .high) }
+bounded π s x o = record { low = le-leZ (leastClimb s x) (climb π s) (o .low); high = le-leZ (climb π s) (mostClimb s x) (o .high) }
 
 -- Of a plant in an array.
 module _ (p : Arrays.Plant) (a : Accepted p) (st : State) (s : AtHint (plantOf p .streams) st) where
