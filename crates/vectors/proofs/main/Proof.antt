@@ -1,10 +1,11 @@
+-- The measure is how many arguments are left.
 use borrow.Author.Needs.{needs}
 use Prim.Native.Nat.{_≤_, _-_}
 use Rattle.vectors.proofs.main.Statement.{statement}
 use Rattle.vectors.proofs.main.Tie as tie
 
 abbrev Inv-loop : tie.InvT-loop
-Inv-loop count i₀ i = i ≤ i
+Inv-loop count i₀ i = 1 ≤ i
 
 abbrev μ-loop : tie.MeasureT-loop
 μ-loop count i₀ i = count - i

@@ -1,3 +1,4 @@
+-- The measure is how many cases there may still be.
 use borrow.Author.Needs.{needs}
 use Prim.Native.Nat.{_≤_, _-_}
 use Rattle.vectors.proofs.try_file.Statement.{statement}

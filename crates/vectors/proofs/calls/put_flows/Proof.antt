@@ -1,3 +1,4 @@
+-- Each turn lends the rest from its flow on.
 use borrow.Author.Needs.{needs}
 use mathlib.Core.Path.{_≡_}
 use Prim.Native.Nat.{_≤_, _-_}

@@ -1,3 +1,4 @@
+-- Each turn lends the rest from its record on.
 use borrow.Author.Needs.{needs}
 use Prim.Native.Nat.{_≤_, _-_}
 use mathlib.Core.Path.{_≡_}

@@ -1,3 +1,4 @@
+-- The solver is called on a plant that the reader accepted.
 use borrow.Author.Needs.{needs}
 use denote.Ref.{now}
 use Prim.Native.Nat.{_-_}
