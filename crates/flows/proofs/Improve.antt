@@ -10,7 +10,8 @@ use native.Mathlib.Omega.{arith}
 use borrow.Author.Tests.{eqb-true, eq-eqb, ltb-true, ltb-false}
 use lib.Dec.{eqb, ltb}
 use lib.ListN.{length}
-use Rattle.numbers.specs.Choice.{pick, pickT}
+use Rattle.numbers.specs.Choice.{pick}
+use Rattle.numbers.specs.Inner.{pickT}
 use Rattle.numbers.proofs.Tests.{by-cases, and-left, and-right}
 use Rattle.plants.specs.declared.Stream.{Stream}
 use Rattle.flows.specs.Flows.{streamAt}

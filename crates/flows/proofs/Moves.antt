@@ -12,7 +12,8 @@ use lib.ListN.{length}
 use Rattle.numbers.proofs.Tests.{by-cases, clash, and-left, and-right, and-both, or-right, or-cases}
 use Rattle.plants.specs.declared.Stream.{Stream}
 use Rattle.flows.specs.Flows.{streamAt}
-use Rattle.flows.specs.Classes.{has, Counting}
+use Rattle.flows.specs.Classes.{has}
+use Rattle.flows.specs.Chains.{Counting}
 use Rattle.flows.specs.Certificate.{weightOf, climb, lowest, highest}
 use Rattle.flows.proofs.Integers.{Le, canon, Z·diff}
 use Rattle.flows.proofs.Reach.{has-first}

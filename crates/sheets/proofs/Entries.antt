@@ -21,7 +21,8 @@ use Rattle.plants.specs.Says.{plantOf}
 use Rattle.plants.specs.Within.{Within, WithinStream}
 use Rattle.flows.specs.declared.Class.{Class}
 use Rattle.flows.specs.declared.Class.the-variants.{Adjusted, AsRead, Given, Withheld}
-use Rattle.flows.specs.Flows.{streamAt, amountAt, values, square, balanced, cost, Cheapest}
+use Rattle.flows.specs.Flows.{streamAt, amountAt, square, balanced, cost, Cheapest}
+use Rattle.numbers.specs.Inner.{values}
 use Rattle.flows.specs.Classes.{classOf, numberOf, degrees}
 use Rattle.flows.specs.Test.{verdictAt}
 use Rattle.flows.specs.Calls.{classesOf}

@@ -2,6 +2,9 @@
 pub mod Costing
 pub mod Entries
 pub mod Laying
+pub mod Apart
 pub mod Promise
 pub mod Unique
+pub mod Telling
+pub mod Answering
 pub mod Table
