@@ -14,7 +14,8 @@ use Rattle.numbers.proofs.Tests.{and-left, and-right, and-both}
 use Rattle.plants.specs.declared.Stream.{Stream}
 use Rattle.plants.specs.Plants.{Plant}
 use Rattle.plants.specs.Within.{Within}
-use Rattle.flows.specs.Flows.{streamAt, amountAt, values, netAt, balancedTo, balanced}
+use Rattle.flows.specs.Flows.{streamAt, amountAt, netAt, balancedTo, balanced}
+use Rattle.numbers.specs.Inner.{values}
 use Rattle.flows.specs.Classes.{has, sideOut}
 pub use Rattle.flows.specs.Nets.{brought, netOf}
 use Rattle.flows.specs.Certificate.{climb}

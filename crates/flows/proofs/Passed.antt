@@ -14,7 +14,7 @@ use Rattle.plants.specs.Limits.{places, maxStreams}
 use Rattle.plants.specs.Plants.{noStream}
 use Rattle.plants.specs.Says.{plantOf}
 use Rattle.flows.specs.Flows.{streamAt}
-use Rattle.flows.specs.Classes.{unmeteredOnly}
+use Rattle.flows.specs.Chains.{unmeteredOnly}
 use Rattle.flows.specs.Labels.{ownNumbers, stepped, labelsAfter}
 use Rattle.flows.specs.Sides.{apart, takenBy, loopedBy, turned, parted, takenAt, sidesAfter, loopedAfter}
 use Rattle.flows.specs.Calls.{Fit, Cutting}

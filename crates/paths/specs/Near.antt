@@ -8,7 +8,7 @@ use lib.Dec.{eqb, ltb}
 use lib.ListN.{getD, set, replicate}
 use Rattle.numbers.specs.Choice.{pick}
 use Rattle.plants.specs.Limits.{places, maxStreams}
-use Rattle.flows.specs.Flows.{values}
+use Rattle.numbers.specs.Inner.{values}
 use Rattle.paths.specs.declared.Tree.{Tree}
 use Rattle.paths.specs.declared.Walked.{Walked}
 use Rattle.paths.specs.Sizes.{netShift, far, numbering}

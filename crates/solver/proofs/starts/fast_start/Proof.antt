@@ -5,7 +5,7 @@ use Prim.Native.Nat.{ℕ}
 use native.Mathlib.Omega.{arith}
 use borrow.Author.Needs.{needs}
 use Rattle.plants.specs.Says.{plantOf}
-use Rattle.flows.specs.Classes.{unmeteredOnly}
+use Rattle.flows.specs.Chains.{unmeteredOnly}
 use Rattle.flows.specs.Labels.{labelsOf}
 use Rattle.potentials.specs.Levels.{Level}
 use Rattle.paths.specs.Sizes.{priceShift}
