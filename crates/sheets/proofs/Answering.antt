@@ -28,10 +28,10 @@ use Rattle.paths.specs.Held.{unshifted}
 use Rattle.paths.proofs.Amounts.{unshifted-val, opened-at}
 use Rattle.solver.specs.declared.Solved.{Solved}
 use Rattle.solver.specs.Sizes.{settledRoom}
-use Rattle.solver.specs.Model.{noHint, solvedFrom}
+use Rattle.solver.specs.Model.{noHint, settled, solvedFrom}
 use Rattle.solver.specs.Premises.{Close}
 use Rattle.solver.specs.Promise.{Accepted, flowOf, Right}
-use Rattle.solver.proofs.Theorem.{read-accepted, unhinted, solved-right}
+use Rattle.solver.proofs.Theorem.{read-accepted, from-none, solved-right}
 use Rattle.sheets.specs.declared.Sheet.{Sheet}
 use Rattle.sheets.specs.Apart.{leastSlice, sheetLength}
 use Rattle.sheets.specs.Sentences.{topSheet, callFault, Refused, Full, Answers}
@@ -60,11 +60,11 @@ module _ (file : List ℕ) (p : Plant) (e : readPlant file ≡ got p) where
   here = read-accepted file p e
 
   solution : Solved
-  solution = solvedFrom (plantOf (arrayed p) .streams) noHint
+  solution = solvedFrom (plantOf (arrayed p) .streams) (settled (plantOf (arrayed p) .streams) noHint)
 
   right : Right (arrayed p) solution
   unfolding solution
-  right = solved-right (arrayed p) here noHint (unhinted (plantOf (arrayed p)) (here .within))
+  right = solved-right (arrayed p) here _ (from-none (plantOf (arrayed p)) (here .within))
 
   solved-flow : Cheapest p (flowOf (arrayed p) solution)
   solved-flow = subst (λ (q : Plant). Cheapest q (flowOf (arrayed p) solution)) (read-fits file p e .1) (right .cheapest)

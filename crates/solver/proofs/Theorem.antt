@@ -24,7 +24,7 @@ use Rattle.flows.proofs.Prices.{StepAt, Steps, Certificate}
 use Rattle.paths.specs.Held.{opened}
 use Rattle.solver.specs.declared.State.{State}
 use Rattle.solver.specs.declared.Solved.{Solved}
-use Rattle.solver.specs.Model.{noHint, tiesTo, finished, solvedFrom}
+use Rattle.solver.specs.Model.{noHint, tiesTo, finished, solvedFrom, settled}
 use Rattle.solver.specs.Premises.{Layout, Hinted, AtHint, Even}
 use Rattle.solver.specs.Promise.{Accepted, price, priceAt, Bounded, Right}
 use Rattle.solver.proofs.Nearest.{Solvable, held-agreed}
@@ -75,6 +75,9 @@ solvable-in q w = record {
 -- No hint is a hint for every plant.
 pub unhinted : (q : Plant) → Within q → Hinted (q .streams) noHint
 unhinted q w = none-hinted (q .streams) (solvable-in q w)
+
+pub from-none : (q : Plant) → Within q → AtHint (q .streams) (settled (q .streams) noHint)
+from-none q w = record { hint = noHint; hinted = unhinted q w; is = refl }
 
 -- The definitions give the cheapest flow, from amounts settled at any hint.
 module _ (q : Plant) (w : Within q) (st : State) (s : AtHint (q .streams) st) where
