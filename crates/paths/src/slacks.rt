@@ -3,6 +3,7 @@ use crate::sizes::FLOW_SHIFT;
 use plants::Stream;
 ghost use mathlib.Core.Path.{_≡_};
 ghost use Prim.Native.Nat.{_+_, _-_, _*_, _≤_};
+ghost use Rattle.numbers.specs.Choice.{pick};
 ghost use Rattle.plants.specs.Limits.{maxWeight};
 ghost use Rattle.paths.specs.Sizes.{mostFlow, mostPull};
 ghost use Rattle.flows.specs.Certificate.{weightOf};
@@ -40,17 +41,21 @@ pub fn minus(a: u64, b: u64) -> u64
     if a < b { 0 } else { a - b }
 }
 
+fn chosen(b: bool, x: u64, y: u64) -> u64
+    ensures { λ r. ⌜ r ≡ pick b x y ⌝ }
+{
+    if b { x } else { y }
+}
+
 // What is missing before delta can be moved along a stream, forwards or backwards, at the prices pu of its start and pv of its end;
-// by its weight and twice its weight times its reading.
+// by its weight and twice its weight times its reading. (Both directions in one sum: which it is cannot be foreseen.)
 pub fn gap(w: u64, read: u64, forwards: bool, x: u64, pu: u64, pv: u64, delta: u64) -> u64
     requires { ⌜ (w ≤ maxWeight) × (read ≤ 2 * mostPull) × Sized x pu pv delta ⌝ }
     ensures { λ r. ⌜ r ≡ gapBy w read forwards x pu pv delta ⌝ }
 {
-    let at = 2 * (w * x);
-    let step = w * delta;
-    if forwards {
-        minus(at + step + pu, pv + read)
-    } else {
-        minus(pv + read + step, at + pu)
-    }
+    let here = 2 * (w * x) + pu;
+    let there = pv + read;
+    let more = chosen(forwards, here, there);
+    let less = chosen(forwards, there, here);
+    minus(more + w * delta, less)
 }
