@@ -1,5 +1,5 @@
 -- The classes of metered streams by chains; and a given stream's amount in a flow in fractions.
-use mathlib.Core.Path.{_≡_, refl, sym, _∙_, ap}
+use mathlib.Core.Path.{_≡_, sym, _∙_, ap}
 use mathlib.Core.Logic.{_↔_}
 use mathlib.Core.Bool.{Bool, true, false}
 use mathlib.Core.List.{List}
@@ -20,7 +20,7 @@ use Rattle.flows.specs.Classes.{oneGroup, classOf}
 use Rattle.flows.proofs.Integers.{canon, Z·diff}
 use Rattle.flows.proofs.Sums.{sum-same, sum-times}
 use Rattle.flows.proofs.Reach.{joined→chain, chain→joined}
-use Rattle.flows.proofs.Nets.{brought, netOf, inside, balanced-size, balanced-nets, listed, listed-size, listed-at, listed-balanced}
+use Rattle.flows.proofs.Nets.{brought, inside, balanced-size, balanced-nets, listed, listed-size, listed-at, listed-balanced}
 use Rattle.flows.proofs.Given.{class-means, given-agree}
 use Rattle.flows.proofs.Withheld.{metered-same}
 

@@ -1,19 +1,17 @@
 -- Of every call: the refusal, or a sheet that tells what it has to. The demands.
-use mathlib.Core.Path.{_≡_, refl, sym, ap, _∙_, subst}
+use mathlib.Core.Path.{_≡_, sym, ap, _∙_, subst}
 use mathlib.Core.Logic.{⊎-elim}
-use mathlib.Core.List.{List, _++_}
+use mathlib.Core.List.{List}
 use lib.IntN.{ℤ, natAbs}
-use Prim.Native.Nat.{ℕ, suc, _+_, _*_, _^_, _≤_, _<_}
+use Prim.Native.Nat.{ℕ, suc, _+_, _^_, _≤_, _<_}
 use native.Mathlib.Omega.{arith}
-use borrow.Author.Tests.{eq-eqb, ne-eqb}
-use lib.Dec.{eqb}
-use lib.ListN.{length, getD, drop, length-append}
+use borrow.Author.Tests.{ne-eqb}
+use lib.ListN.{length, getD, drop}
 use lib.Seq.{drop-append-seam}
-use Rattle.numbers.specs.Bytes.{over}
 use Rattle.numbers.proofs.Parts.{laid, same-length}
 use Rattle.plants.specs.Limits.{maxStreams}
 use Rattle.plants.specs.Plants.{Plant}
-use Rattle.plants.specs.Files.{bad, got, readPlant}
+use Rattle.plants.specs.Files.{got, readPlant}
 use Rattle.plants.specs.Says.{arrayed, plantOf}
 use Rattle.plants.specs.Within.{Within}
 use Rattle.plants.proofs.Limited.{within}
@@ -23,7 +21,6 @@ use Rattle.flows.specs.Flows.{amountAt, Cheapest}
 use Rattle.flows.proofs.Integers.{size-val, parts}
 use Rattle.flows.proofs.Fits.{read-fits}
 use Rattle.solver.proofs.Demand.{demand-3}
-use Rattle.paths.specs.Sizes.{flowShift}
 use Rattle.paths.specs.Held.{unshifted}
 use Rattle.paths.proofs.Amounts.{unshifted-val, opened-at}
 use Rattle.solver.specs.declared.Solved.{Solved}
@@ -33,13 +30,12 @@ use Rattle.solver.specs.Premises.{Close}
 use Rattle.solver.specs.Promise.{Accepted, flowOf, Right}
 use Rattle.solver.proofs.Theorem.{read-accepted, from-none, solved-right}
 use Rattle.sheets.specs.declared.Sheet.{Sheet}
-use Rattle.sheets.specs.Apart.{leastSlice, sheetLength}
-use Rattle.sheets.specs.Sentences.{topSheet, callFault, Refused, Full, Answers}
+use Rattle.sheets.specs.Sentences.{topSheet, callFault, Full, Answers}
 use Rattle.sheets.specs.Sheets.{sheetOf}
-use Rattle.sheets.specs.Says.{Drawn, SheetWith, SheetSays}
+use Rattle.sheets.specs.Says.{Drawn, SheetSays}
 use Rattle.sheets.specs.Demands.{Demands}
 use Rattle.sheets.proofs.Laying.{sheet-most}
-use Rattle.sheets.proofs.Promise.{long-enough, one-left}
+use Rattle.sheets.proofs.Promise.{long-enough, one-left, call-taken}
 use Rattle.sheets.proofs.Unique.{amount-same, no-choice}
 use Rattle.sheets.proofs.Telling.{Sized, Told, told, tells}
 
@@ -101,12 +97,9 @@ module _ (file : List ℕ) (p : Plant) (e : readPlant file ≡ got p) (last : �
 answers : (file : List ℕ) (last : ℕ) (o o′ : List ℕ) (r : Sheet) → last ≤ topSheet → SheetSays file last o o′ r → Answers file last o o′ r
 answers file last o o′ r top s = record {
   unfit = λ n. rw (ne-eqb (callFault last o) 0 n) at s;
-  unread = λ f z e. (refused file f e, rw e at (taken z));
-  full = λ p z e. full file p e last o o′ r top z (rw e at (taken z));
+  unread = λ f z e. (refused file f e, rw e at (call-taken file last o o′ r s z));
+  full = λ p z e. full file p e last o o′ r top z (rw e at (call-taken file last o o′ r s z));
 }
-  where
-    taken : callFault last o ≡ 0 → SheetWith (readPlant file) last o o′ r
-    taken z = rw (eq-eqb (callFault last o) 0 z) at s
 
 -- The demands, all of them.
 pub demands : Demands

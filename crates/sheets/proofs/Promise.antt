@@ -52,6 +52,11 @@ module _ (last : ℕ) (o : List ℕ) (e : callFault last o ≡ 0) where
   pub one-left : last ≡ topSheet → ⊥
   one-left = eqb-false last topSheet (refuse-none _ 1 (first-none-right (refuseIf (ltb (length o) leastSlice) 1) _ e))
 
+-- What a call without fault ensures, by the file.
+pub call-taken : (file : List ℕ) (last : ℕ) (o o′ : List ℕ) (r : Sheet) → SheetSays file last o o′ r → callFault last o ≡ 0
+    → SheetWith (readPlant file) last o o′ r
+call-taken file last o o′ r s z = rw (eq-eqb (callFault last o) 0 z) at s
+
 module _ (file : List ℕ) (last : ℕ) (o : List ℕ) where
   pub call-refused : (f : ℕ) (r : Sheet) → f ≡ callFault last o → (f ≡ 0 → ⊥) → r ≡ record { number = f; written = 0; last = last } → SheetSays file last o o r
   call-refused f r e n q = rw (ne-eqb (callFault last o) 0 (λ d. n (e ∙ d))) (q ∙ (λ i. record { number = e i; written = 0; last = last }), refl)

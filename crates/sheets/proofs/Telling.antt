@@ -1,6 +1,6 @@
 -- What the bytes of a cheapest flow's sheet tell: each sentence, from the classes and the flow that they were made of.
 use mathlib.Core.Path.{_≡_, refl, sym, ap, ap₂, _∙_, subst}
-use mathlib.Core.Bool.{true, false}
+use mathlib.Core.Bool.{true}
 use mathlib.Core.Logic.{_↔_}
 use mathlib.Core.List.{List, _++_, append-assoc}
 use lib.IntN.{ℤ, pos, natAbs, _*ℤ_}
@@ -33,7 +33,6 @@ use Rattle.sheets.specs.Apart.{adjustedKind, totalKind, kindAt, numberAt
 use Rattle.sheets.specs.Sentences.{MeteredAt, UnmeteredAt, MetersAs, adjustedWeights, Tells}
 use Rattle.sheets.specs.Balances.{entryOf, balanceOf}
 use Rattle.sheets.specs.Sheets.{kindOf, recordsOf, totalOf, sheetOf}
-use Rattle.sheets.specs.Calls.{mostCost}
 use Rattle.sheets.proofs.Costing.{cheapest-cost}
 use Rattle.sheets.proofs.Entries.{noEntry, balance-long}
 use Rattle.sheets.proofs.Apart.{kind-at, number-at, total-begins, total-kind, total-number, total-cost, total-degrees, total-verdict}
