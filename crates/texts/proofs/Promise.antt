@@ -6,6 +6,7 @@ use native.Mathlib.Omega.{arith}
 use borrow.Author.Tests.{lt-ltb, le-ltb}
 use lib.Dec.{ltb}
 use lib.ListN.{length, drop, length-append}
+use lib.Seq.{length-take-le}
 use Rattle.numbers.specs.Bytes.{over, Put}
 use Rattle.numbers.proofs.Tests.{by-cases}
 use Rattle.plants.specs.declared.Read.{Read}
@@ -20,11 +21,14 @@ use Rattle.sheets.specs.Balances.{balanceOf, BalanceSays}
 use Rattle.sheets.proofs.Promise.{read-bad, found, plant-count, plant-balance}
 use Rattle.sheets.proofs.Unique.{one-balance}
 use Rattle.texts.specs.Listing.{listingOf, refusalText}
-use Rattle.texts.specs.Says.{leastText, ListWith, ListSays, One-text}
+use Rattle.texts.specs.Says.{leastText, ListWith, ListSays, Counts, One-text}
 
 -- A text lies within its slice.
-pub put-within : {x o o′ : List ℕ} {r : ℕ} → Put x o o′ r → r ≤ length o′
-put-within {x} {o} {o′} {r} p = let s = p .size in omega (arith, ap length (p .bytes), length-append x (drop (length x) o))
+pub put-counts : {x o o′ : List ℕ} {r : ℕ} → Put x o o′ r → Counts r o′
+put-counts {x} {o} {o′} {r} p =
+    let s = p .size in
+    let h : r ≤ length o′ = omega (arith, ap length (p .bytes), length-append x (drop (length x) o)) in
+    (h, sym (length-take-le r o′ h))
 
 module _ (file o : List ℕ) where
   pub too-short : length o < leastText → ListSays file o o 0

@@ -2,9 +2,9 @@
 use mathlib.Core.Path.{_≡_}
 use mathlib.Core.List.{List}
 use lib.IntN.{ℤ}
-use Prim.Native.Nat.{ℕ, _+_, _*_}
+use Prim.Native.Nat.{ℕ, _+_, _*_, _≤_}
 use lib.Dec.{ltb}
-use lib.ListN.{length}
+use lib.ListN.{length, take}
 use Rattle.numbers.specs.Choice.{pickT}
 use Rattle.numbers.specs.Bytes.{Put}
 use Rattle.plants.specs.Limits.{maxStreams}
@@ -33,6 +33,10 @@ ListWith (got p) o o′ r = (xs : List ℤ) × Cheapest p xs × Put (listingOf (
 -- A slice that is too short: nothing, and the slice as it was.
 abbrev pub ListSays : List ℕ → List ℕ → List ℕ → ℕ → Type 0
 ListSays file o o′ r = pickT (ltb (length o) leastText) ((r ≡ 0) × (o′ ≡ o)) (ListWith (readPlant file) o o′ r)
+
+-- The slice has so many characters at its front, for a caller to take.
+abbrev pub Counts : ℕ → List ℕ → Type 0
+Counts r o = (r ≤ length o) × (r ≡ length (take r o))
 
 -- No choice is left: text and length follow from the file and the slice.
 abbrev pub One-text : Type 0

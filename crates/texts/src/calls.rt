@@ -3,9 +3,7 @@ use crate::lines::put_listing;
 use crate::lines::put_refusal;
 use plants::limits::MAX_STREAMS;
 use sheets::balances::balance_of;
-ghost use Prim.Native.Nat.{_≤_};
-ghost use lib.ListN.{length};
-ghost use Rattle.texts.specs.Says.{ListSays};
+ghost use Rattle.texts.specs.Says.{ListSays, Counts};
 
 // The longest line of a stream, and that of the total.
 const LINE_SIZE: usize = 26;
@@ -18,7 +16,7 @@ pub const LEAST_TEXT: usize = MAX_STREAMS * LINE_SIZE + TOTAL_SIZE;
 // The listing of a plant file's sheet 1, or the text of its refusal, and how long it is. Nothing where the slice is too short.
 pub fn list_plant(file: &[u8], text: &mut [u8]) -> usize
     ensures { λ r. ⌜ ListSays (now (file .entry)) (now (text .entry)) (now (text .exit)) r ⌝ }
-    ensures { λ r. ⌜ r ≤ length (now (text .exit)) ⌝ }
+    ensures { λ r. ⌜ Counts r (now (text .exit)) ⌝ }
 {
     if text.len() < LEAST_TEXT {
         return 0;
