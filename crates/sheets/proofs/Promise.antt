@@ -15,7 +15,6 @@ use Rattle.plants.specs.Plants.{Plant}
 use Rattle.plants.specs.Files.{Got, bad, got, readPlant}
 use Rattle.plants.specs.Says.{arrayed, plantOf, readOf}
 use Rattle.plants.proofs.Accepted.{refused}
-use Rattle.flows.specs.Flows.{Cheapest}
 use Rattle.flows.proofs.Fits.{fit-length, read-fits}
 use Rattle.solver.specs.Promise.{Accepted}
 use Rattle.solver.proofs.Theorem.{read-accepted}
@@ -26,7 +25,7 @@ use Rattle.sheets.specs.Sheets.{leastSlice, sheetBytes, sheetOf}
 use Rattle.sheets.specs.Says.{topSheet, callFault, SheetWith, SheetSays}
 
 -- What the reader handed over, by its number.
-read-bad : (g : Got) (y : Read) → y ≡ readOf g → (y .number ≡ 0 → ⊥) → g ≡ bad (y .number)
+pub read-bad : (g : Got) (y : Read) → y ≡ readOf g → (y .number ≡ 0 → ⊥) → g ≡ bad (y .number)
 read-bad (bad f) y e n = ap (λ (r : Read). bad (r .number)) (sym e)
 read-bad (got p) y e n = absurd (n (ap (λ (r : Read). r .number) e))
 
@@ -35,11 +34,21 @@ read-got (bad f) y e n h = absurd (h f refl (sym (ap (λ (r : Read). r .number) 
 read-got (got p) y e n h = (p, refl, ap (λ (r : Read). r .plant) e)
 
 module _ (file : List ℕ) (y : Read) (e : y ≡ readOf (readPlant file)) (n : y .number ≡ 0) where
-  found : (q : Plant) × (readPlant file ≡ got q) × (y .plant ≡ arrayed q)
+  pub found : (q : Plant) × (readPlant file ≡ got q) × (y .plant ≡ arrayed q)
   found = read-got (readPlant file) y e n (refused file)
 
   pub plant-accepted : Accepted (y .plant)
   plant-accepted = rw (found .2) (read-accepted file (found .0) (found .1))
+
+  -- The plant as the file has it: its streams and its balance.
+  plant-same : plantOf (y .plant) ≡ found .0
+  plant-same = ap plantOf (found .2) ∙ read-fits file (found .0) (found .1) .1
+
+  pub plant-count : y .plant .count ≡ length (found .0 .streams)
+  plant-count = sym (fit-length (y .plant) (plant-accepted .fit)) ∙ ap (λ (x : Plant). length (x .streams)) plant-same
+
+  pub plant-balance : (b : Balance) → BalanceSays (plantOf (y .plant)) b → BalanceSays (found .0) b
+  plant-balance b t = subst (λ (x : Plant). BalanceSays x b) plant-same t
 
 -- A call without fault: the slice is long enough, and a sheet number is left.
 module _ (last : ℕ) (o : List ℕ) (e : callFault last o ≡ 0) where
@@ -64,16 +73,13 @@ module _ (file : List ℕ) (last : ℕ) (o : List ℕ) where
     pub sheet-drawn : (y : Read) (b : Balance) (o′ : List ℕ) (m : ℕ) → y ≡ readOf (readPlant file) → y .number ≡ 0 → BalanceSays (plantOf (y .plant)) b
         → Put (sheetBytes (y .plant .count) (last + 1) b) o o′ m → SheetSays file last o o′ (record { number = 0; written = m; last = last + 1 })
     sheet-drawn y b o′ m q n t p =
-        let a = found file y q n in
-        let xs = t .0 in
-        let count : y .plant .count ≡ length (plantOf (y .plant) .streams) = sym (fit-length (y .plant) (plant-accepted file y q n .fit)) in
-        let same : plantOf (y .plant) ≡ a .0 = ap plantOf (a .2) ∙ read-fits file (a .0) (a .1) .1 in
-        let sheet : sheetBytes (y .plant .count) (last + 1) b ≡ sheetOf (a .0) xs (suc last) =
-        (λ i. sheetBytes (count i) (add-one last i) (t .2 i)) ∙ (λ i. sheetOf (same i) xs (suc last)) in
+        let s = plant-balance file y q n b t in
+        let sheet : sheetBytes (y .plant .count) (last + 1) b ≡ sheetOf (found file y q n .0) (s .0) (suc last) =
+        λ i. sheetBytes (plant-count file y q n i) (add-one last i) (s .2 i) in
         by-file o′ (record { number = 0; written = m; last = last + 1 })
-        (rw (a .1) (
-          xs,
-          subst (λ (x : Plant). Cheapest x xs) same (t .1),
+        (rw (found file y q n .1) (
+          s .0,
+          s .1,
           (λ i. record { number = 0; written = (p .size ∙ ap length sheet) i; last = add-one last i }),
           p .bytes ∙ ap (λ (l : List ℕ). over l o) sheet,
         ))

@@ -87,7 +87,7 @@ fn entries_of(classes: [Class; MAX_STREAMS], flows: [i64; MAX_STREAMS]) -> [Entr
 }
 
 // The size of a signed number.
-fn size_of(z: i64) -> u64
+pub fn size_of(z: i64) -> u64
     ensures { λ r. ⌜ r ≡ natAbs z ⌝ }
 {
     if 0 <= z {

@@ -1,5 +1,5 @@
 // The sheet call: from a plant file to its balance sheet.
-mod balances;
+pub mod balances;
 mod calls;
 pub mod kinds;
 mod records;

@@ -1,0 +1,7 @@
+-- Laws of texts: put one behind the other, decimals, the sizes of lines, lines in their order, the call's promise.
+pub mod Behind
+pub mod Decimals
+pub mod Signs
+pub mod Sizes
+pub mod Lined
+pub mod Promise
