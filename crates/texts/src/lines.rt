@@ -9,18 +9,18 @@ use plants::limits::MAX_STREAMS;
 use sheets::Balance;
 use sheets::Entry;
 ghost use Prim.Native.Nat.{_+_, _*_, _≤_};
-ghost use mathlib.Core.List.{[], _∷_, _++_};
+ghost use mathlib.Core.List.{_∷_, _++_};
 ghost use lib.ListN.{length, take};
-ghost use Rattle.numbers.specs.Inner.{Put};
+ghost use Rattle.numbers.specs.Bytes.{Put};
 ghost use Rattle.plants.specs.Limits.{maxStreams};
-ghost use Rattle.texts.specs.Listing.{blank, newline, signedDecimal, field, entryText, linesFrom, wordOf, totalLine, listingOf, refusalText};
+ghost use Rattle.texts.specs.Listing.{text, signedDecimal, field, entryText, linesFrom, wordOf, totalLine, listingOf, refusalText};
 ghost use Rattle.texts.specs.Adding.{Added};
 ghost use Rattle.texts.specs.Says.{lineSize, leastText};
 
 // A class letter and a flow.
 fn put_flow(letter: u8, flow: i64, at: usize, out: &mut [u8]) -> usize
-    requires { ⌜ at + length (letter ∷ blank ∷ signedDecimal flow) ≤ length (now out) ⌝ }
-    ensures { λ r. ⌜ Added (letter ∷ blank ∷ signedDecimal flow) at (now (out .entry)) (now (out .exit)) r ⌝ }
+    requires { ⌜ at + length (letter ∷ text " " ++ signedDecimal flow) ≤ length (now out) ⌝ }
+    ensures { λ r. ⌜ Added (letter ∷ text " " ++ signedDecimal flow) at (now (out .entry)) (now (out .exit)) r ⌝ }
 {
     let a = put_byte(letter, at, out);
     let b = put_byte(b' ', a, out);
@@ -42,8 +42,8 @@ fn put_entry(class: Class, flow: i64, at: usize, out: &mut [u8]) -> usize
 
 // The line of a stream: number, class letter, flow.
 fn put_line(number: usize, class: Class, flow: i64, at: usize, out: &mut [u8]) -> usize
-    requires { ⌜ at + length (field number ++ entryText class flow ++ (newline ∷ [])) ≤ length (now out) ⌝ }
-    ensures { λ r. ⌜ Added (field number ++ entryText class flow ++ (newline ∷ [])) at (now (out .entry)) (now (out .exit)) r ⌝ }
+    requires { ⌜ at + length (field number ++ entryText class flow ++ text "\n") ≤ length (now out) ⌝ }
+    ensures { λ r. ⌜ Added (field number ++ entryText class flow ++ text "\n") at (now (out .entry)) (now (out .exit)) r ⌝ }
 {
     let a = put_field(number as u64, at, out);
     let b = put_entry(class, flow, a, out);

@@ -2,10 +2,10 @@
 use borrow.Author.Needs.{needs}
 use native.Mathlib.Omega.{arith}
 use mathlib.Core.Path.{_≡_, ap}
-use mathlib.Core.List.{_∷_}
+use mathlib.Core.List.{_++_}
 use Prim.Native.Nat.{ℕ}
 use lib.ListN.{length}
-use Rattle.texts.specs.Listing.{dash, decimal, signedDecimal}
+use Rattle.texts.specs.Listing.{text, decimal, signedDecimal}
 use Rattle.texts.proofs.Behind.{behind}
 use Rattle.texts.proofs.Signs.{signed-at, signed-under}
 use Rattle.texts.proofs.numerals.put_signed.Statement.{statement}
@@ -22,7 +22,7 @@ at : (c : tie.Then1) → signedDecimal (c .before .before .before .args .z) ≡ 
 at c = signed-at (c .before .before .before .args .z) (c .before .size-of .result) (c .before .before .before .fits .z) (c .before .size-of .ensures) (c .if1 .taken)
 
 -- Below it.
-under : (c : tie.Else1) → signedDecimal (c .before .before .before .args .z) ≡ dash ∷ decimal (c .before .size-of .result)
+under : (c : tie.Else1) → signedDecimal (c .before .before .before .args .z) ≡ text "-" ++ decimal (c .before .size-of .result)
 under c = signed-under (c .before .before .before .args .z) (c .before .size-of .result) (c .before .before .before .fits .z) (c .before .size-of .ensures) (c .if1 .left)
 
 size-of-requires : tie.Need-size-of-requires
