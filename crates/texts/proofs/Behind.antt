@@ -6,7 +6,8 @@ use native.Mathlib.Omega.{arith}
 use native.Mathlib.Numerals.{add-one}
 use lib.ListN.{length, getD, take, drop, set, length-append, length-drop, take-append-drop}
 use lib.Seq.{take-all, take-suc, take-at, drop-at, drop-drop, set-split, length-take-le}
-use Rattle.numbers.specs.Bytes.{over, Put}
+use Rattle.numbers.specs.Bytes.{over}
+use Rattle.numbers.specs.Inner.{Put}
 use Rattle.texts.specs.Adding.{Added}
 
 -- Nothing was put.

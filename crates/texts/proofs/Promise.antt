@@ -7,7 +7,8 @@ use borrow.Author.Tests.{lt-ltb, le-ltb}
 use lib.Dec.{ltb}
 use lib.ListN.{length, drop, length-append}
 use lib.Seq.{length-take-le}
-use Rattle.numbers.specs.Bytes.{over, Put}
+use Rattle.numbers.specs.Bytes.{over}
+use Rattle.numbers.specs.Inner.{Put}
 use Rattle.numbers.proofs.Tests.{by-cases}
 use Rattle.plants.specs.declared.Read.{Read}
 use Rattle.plants.specs.Plants.{Plant}

@@ -5,8 +5,7 @@ use lib.IntN.{ℤ}
 use Prim.Native.Nat.{ℕ, _+_, _*_, _≤_}
 use lib.Dec.{ltb}
 use lib.ListN.{length, take}
-use Rattle.numbers.specs.Choice.{pickT}
-use Rattle.numbers.specs.Bytes.{Put}
+use Rattle.numbers.specs.Inner.{Put, pickT}
 use Rattle.plants.specs.Limits.{maxStreams}
 use Rattle.plants.specs.Plants.{Plant}
 use Rattle.plants.specs.Files.{Got, bad, got, readPlant}

@@ -11,7 +11,7 @@ use sheets::Entry;
 ghost use Prim.Native.Nat.{_+_, _*_, _≤_};
 ghost use mathlib.Core.List.{_∷_, _++_};
 ghost use lib.ListN.{length, take};
-ghost use Rattle.numbers.specs.Bytes.{Put};
+ghost use Rattle.numbers.specs.Inner.{Put};
 ghost use Rattle.plants.specs.Limits.{maxStreams};
 ghost use Rattle.texts.specs.Listing.{text, signedDecimal, field, entryText, linesFrom, wordOf, totalLine, listingOf, refusalText};
 ghost use Rattle.texts.specs.Adding.{Added};
