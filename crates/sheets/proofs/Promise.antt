@@ -2,7 +2,6 @@
 use mathlib.Core.Path.{_≡_, refl, sym, ap, _∙_, subst}
 use mathlib.Core.List.{List}
 use Prim.Native.Nat.{ℕ, suc, _+_, _≤_}
-use native.Mathlib.Omega.{arith}
 use native.Mathlib.Numerals.{add-one}
 use lib.ListN.{length}
 use lib.Dec.{ltb}
@@ -13,12 +12,11 @@ use Rattle.numbers.specs.Bytes.{over, Put}
 use Rattle.plants.specs.declared.Read.{Read}
 use Rattle.plants.specs.Plants.{Plant}
 use Rattle.plants.specs.Files.{Got, bad, got, readPlant}
+use Rattle.plants.specs.Within.{Accepted}
 use Rattle.plants.specs.Says.{arrayed, plantOf, readOf}
 use Rattle.plants.proofs.Accepted.{refused}
+use Rattle.plants.proofs.Arrayed.{all-listed, read-accepted, read-held}
 use Rattle.flows.specs.Flows.{Cheapest}
-use Rattle.flows.proofs.Fits.{fit-length, read-fits}
-use Rattle.solver.specs.Promise.{Accepted}
-use Rattle.solver.proofs.Theorem.{read-accepted}
 use Rattle.sheets.specs.declared.Sheet.{Sheet}
 use Rattle.sheets.specs.declared.Balance.{Balance}
 use Rattle.sheets.specs.Balances.{BalanceSays}
@@ -66,8 +64,8 @@ module _ (file : List ℕ) (last : ℕ) (o : List ℕ) where
     sheet-drawn y b o′ m q n t p =
         let a = found file y q n in
         let xs = t .0 in
-        let count : y .plant .count ≡ length (plantOf (y .plant) .streams) = sym (fit-length (y .plant) (plant-accepted file y q n .fit)) in
-        let same : plantOf (y .plant) ≡ a .0 = ap plantOf (a .2) ∙ read-fits file (a .0) (a .1) .1 in
+        let count : y .plant .count ≡ length (plantOf (y .plant) .streams) = sym (all-listed (y .plant) (plant-accepted file y q n)) in
+        let same : plantOf (y .plant) ≡ a .0 = ap plantOf (a .2) ∙ read-held file (a .0) (a .1) in
         let sheet : sheetBytes (y .plant .count) (last + 1) b ≡ sheetOf (a .0) xs (suc last) =
         (λ i. sheetBytes (count i) (add-one last i) (t .2 i)) ∙ (λ i. sheetOf (same i) xs (suc last)) in
         by-file o′ (record { number = 0; written = m; last = last + 1 })

@@ -2,6 +2,7 @@
 use mathlib.Core.Path.{sym, ap, _∙_, subst}
 use borrow.Author.Needs.{needs}
 use Rattle.plants.specs.Says.{plantOf}
+use Rattle.plants.proofs.Arrayed.{within-of}
 use Rattle.solver.specs.declared.State.{State}
 use Rattle.solver.specs.Model.{tiesTo}
 use Rattle.solver.specs.Promise.{Right}
@@ -23,7 +24,7 @@ tie-all-requires c κs =
     let st = c .before .before .before .before .before .before .before in
     let p = st .args .p in
     let w = layout-of p (st .pre .0) in
-    let v = solvable-in (plantOf p) (st .pre .0 .within) in
+    let v = solvable-in (plantOf p) (within-of p (st .pre .0)) in
     let e = c .before .before .before .before .finish .ensures in (
       w,
       rw e (finished-prices (plantOf p .streams) v (st .args .start) (st .pre .1)),

@@ -19,10 +19,10 @@ use Rattle.solver.proofs.starts.fast_start.Statement.{statement}
 use Rattle.solver.proofs.starts.fast_start.Tie as tie
 
 levels : (c : tie.After-potentials-of) → Level (labelsOf unmeteredOnly (plantOf (c .before .args .p))) priceShift spread (c .potentials-of .result)
-levels c = subst (λ (ls : List ℕ). Level ls priceShift spread (c .potentials-of .result)) (c .before .pre .1 .labelled) (c .potentials-of .ensures)
+levels c = subst (λ (ls : List ℕ). Level ls priceShift spread (c .potentials-of .result)) (c .before .pre .1) (c .potentials-of .ensures)
 
 potentials-of-requires : tie.Need-potentials-of-requires
-potentials-of-requires c κs = (c .pre .0 .fit, rw (c .pre .1 .labelled) (labels-of (c .args .p) (c .pre .0)), omega arith)
+potentials-of-requires c κs = (c .pre .0, rw (c .pre .1) (labels-of (c .args .p) (c .pre .0)), omega arith)
 
 cast-count : tie.Need-cast-count
 cast-count c = search needs
