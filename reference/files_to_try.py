@@ -1,9 +1,10 @@
 """Plant files and parts to try with the reader and the writer alone: each refusal, their order, the edges, there and back."""
 
+from typing import NamedTuple
+
 import samples
 from parts import Draws, Reading, Writing, metered, plant_file, unmetered
 from solver import FILE_LENGTH, READING as MOST, STREAMS, read_plant
-from typing import NamedTuple
 
 # Files, and the number that the reader gives for them.
 FILES = (

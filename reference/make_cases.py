@@ -15,8 +15,8 @@ import samples
 import subjects
 
 ROOT = Path(__file__).resolve().parent.parent
-DATA = ROOT / "crates" / "vectors" / "data"
-STDOUT = ROOT / "crates" / "vectors" / "stdout"
+VECTORS = ROOT / "crates" / "vectors"
+DATA = VECTORS / "data"
 CASES_AT_LEAST = 1_700
 
 
@@ -57,14 +57,15 @@ def main(arguments):
         records = []
         for case in cases_of():
             record = case.record()
-            if record[:3] not in seen:
-                seen.add(record[:3])
+            if record[:6] not in seen:
+                seen.add(record[:6])
                 records.append(record)
-        refused = sum(record.answer[0] != 0 for record in records)
+        refused = sum(record.returned != 0 for record in records)
         told = f"{len(records)} cases, {refused} refused, {time.monotonic() - begun:.1f} s"
         settle(DATA / f"{name}.bin", b"".join(map(cases.encoded, records)), told)
         printed += f"{name}.bin {len(records)} of {len(records)}\n"
-    settle(STDOUT, printed.encode(), "what the program prints")
+    settle(VECTORS / "args", "".join(f"{name}.bin\n" for name, _ in subjects.SUBJECTS).encode(), "the program's arguments")
+    settle(VECTORS / "stdout", printed.encode(), "what the program prints")
     for path, made in samples.files():
         settle(ROOT / path, made, "sample")
     for path, problem in samples.missing_text(ROOT):

@@ -337,7 +337,6 @@ def limits():
             yield taken(32, streams, last=LAST_SHEET - 1, slice_length=draws.pick((SHEET_LENGTH, 1_000)))
 
 
-# The program `vectors` names the same files in the same order.
 SUBJECTS = (
     ("plants", plants),
     ("ties", ties),

@@ -9,7 +9,7 @@
 
 #include "wengeludo_balance.h"
 
-enum { HEAD = 6, ROOM = 2048, SHEET_CALL = 1, MOST = 4096, TIMES = 5 };
+enum { HEAD = 20, ROOM = 2048, SHEET_CALL = 1, MOST = 4096, TIMES = 5 };
 
 static double now_us(void) {
     struct timespec t;
@@ -47,7 +47,7 @@ static int time_file(const char *name) {
     static const int high[3] = {8, 40, 96};
     static double times[3][MOST];
     int n[3] = {0, 0, 0};
-    uint8_t head[HEAD], given[ROOM], answer[ROOM];
+    uint8_t head[HEAD], given[ROOM], sheet[ROOM];
     FILE *f = fopen(name, "rb");
     if (!f) {
         fprintf(stderr, "%s: can't be opened\n", name);
@@ -55,16 +55,15 @@ static int time_file(const char *name) {
     }
     while (fread(head, 1, HEAD, f) == HEAD) {
         size_t size = (size_t)head[2] * 256 + head[3], known = (size_t)head[4] * 256 + head[5];
-        if (size > ROOM || known > ROOM || fread(given, 1, size, f) != size || fread(answer, 1, known, f) != known) {
+        if (size > ROOM || known > ROOM || fread(given, 1, size, f) != size || fread(sheet, 1, known, f) != known) {
             fprintf(stderr, "%s: not a file of cases\n", name);
             fclose(f);
             return 1;
         }
-        /* Handed in: the last sheet number, the slice's length, the plant file. The answer begins with the number returned. */
-        if (head[0] != SHEET_CALL || size < 6 || known == 0 || answer[0] != 0) continue;
+        if (head[0] != SHEET_CALL || head[12] != 0) continue;
         int streams = given[size - 1];
         int g = streams <= high[0] ? 0 : streams <= high[1] ? 1 : 2;
-        if (n[g] < MOST) times[g][n[g]++] = time_call(given + 6, size - 6);
+        if (n[g] < MOST) times[g][n[g]++] = time_call(given, size);
     }
     fclose(f);
     for (int g = 0; g < 3; g++) print_group(name, g == 0 ? 0 : high[g - 1] + 1, high[g], times[g], n[g]);

@@ -1,5 +1,5 @@
 -- The search by a walk: it comes to what the search comes to.
-use mathlib.Core.Path.{_≡_, refl, sym, _∙_, ap}
+use mathlib.Core.Path.{_≡_, refl, sym, _∙_, ap, subst}
 use mathlib.Core.Bool.{Bool, true, false, not, _&&_}
 use mathlib.Core.List.{List}
 use Prim.Native.Nat.{ℕ, zero, suc, _+_, _-_, _*_, _/_, _%_, _≤_, _<_}
@@ -23,10 +23,11 @@ use Rattle.paths.specs.Sizes.{netShift, numbering, farthest, far, mostFa
 use Rattle.paths.specs.Held.{AllHeld}
 use Rattle.paths.specs.Slack.{At, Nothing, leastTo, slackBy, slackAt, slackPast}
 use Rattle.paths.specs.Search.{fallen, loweredBy, farEnd, rootAt, addedTo, Grown, grownBy, grow}
+use Rattle.paths.specs.Rows.{countOf, startsOf, endsOf}
 use Rattle.paths.specs.Near.{gapsOf, relaxedTo, nearestTo, reducedBy, walkedBy, walked}
-use Rattle.paths.specs.Premises.{Network, Placed, Laid, Walkable, Lanes}
+use Rattle.paths.specs.Premises.{Network, Placed, Linked, Laid, Walkable, Lanes, Searching, Falling}
 use Rattle.paths.proofs.Growing.{slack-most}
-use Rattle.paths.proofs.Filling.{getD-any, reduced-at, reduced-none, gap-at}
+use Rattle.paths.proofs.Filling.{getD-any, reduced-at, reduced-none, gap-at, starts-in, ends-in}
 use Rattle.paths.proofs.Least.{Usable, all-usable, startIn, endIn, Least, Answers, answers-same}
 use Rattle.paths.proofs.Rounds.{grow-none, grow-hit, grow-more, grow-end}
 use Rattle.paths.proofs.Steps.{walk-none, walk-hit, walk-more, walk-end}
@@ -86,51 +87,51 @@ module _ (streams : List Stream) (n : ℕ) (xs ps : List ℕ) (d skip : ℕ) (fs
       go false h = refl
 
 -- The slacks over the lanes of the streams.
-module _ (streams : List Stream) (n : ℕ) (xs ps : List ℕ) (d skip : ℕ) (fs ts ws qs next : List ℕ) (laid : Laid streams n fs ts ws qs next) (w : Walkable streams n xs ps d) where
+module _ (streams : List Stream) (n : ℕ) (xs ps : List ℕ) (d skip : ℕ) (ls : List ℕ) (laid : Laid streams n ls) (w : Walkable streams n xs ps d) where
   -- A metered stream is one that weighs something.
-  metered-is : (k : ℕ) → k < n → ltb 0 (weightOf (streamAt (take n streams) k)) ≡ streamAt (take n streams) k .metered
-  metered-is k l = rw (getD-take n streams k noStream l) (go (getD streams k noStream .metered) (w .weighed k l))
+  metered-is : (k : ℕ) → k < n → ltb 0 (weightOf (getD streams k noStream)) ≡ getD streams k noStream .metered
+  metered-is k l = go (getD streams k noStream .metered) (w .weighed k l)
     where
       go : (b : Bool) → (b ≡ true → 1 ≤ getD streams k noStream .weight) → ltb 0 (pick b (getD streams k noStream .weight) 0) ≡ b
       go true h = lt-ltb 0 (getD streams k noStream .weight) (omega (arith, h refl))
       go false h = le-ltb 0 0 (omega arith)
 
-  gap-is : (f : Bool) (k : ℕ) → k < n → getD (gapsOf fs ts ws qs xs ps d skip n f) k 0 ≡ slackPast (take n streams) xs ps d skip f k
+  gap-is : (f : Bool) (k : ℕ) → k < n → getD (gapsOf ls xs ps d skip f) k 0 ≡ slackPast (take n streams) xs ps d skip f k
   gap-is f k l =
-      gap-at fs ts ws qs xs ps d skip n f k l
-      ∙ rw (laid .weights .each k l, laid .pulls .each k l, laid .starts .each k l, laid .ends .each k l, metered-is k l)
+      gap-at ls xs ps d skip f k (rw (laid .counted) l)
+      ∙ rw (laid .rowed .weights k l, laid .rowed .pulls k l, laid .rowed .starts k l, laid .rowed .ends k l, metered-is k l, getD-take n streams k noStream l)
 
-  pub slacked : Slacked streams n xs ps d skip fs ts (gapsOf fs ts ws qs xs ps d skip n true) (gapsOf fs ts ws qs xs ps d skip n false)
+  pub slacked : Slacked streams n xs ps d skip (startsOf ls) (endsOf ls) (gapsOf ls xs ps d skip true) (gapsOf ls xs ps d skip false)
   slacked = record {
     network = w .searchable .network;
     held = w .held;
     step = w .searchable .step;
-    starts = laid .starts .each;
-    ends = laid .ends .each;
+    starts = λ k l. laid .rowed .starts k l ∙ sym (rw (getD-take n streams k noStream l));
+    ends = λ k l. laid .rowed .ends k l ∙ sym (rw (getD-take n streams k noStream l));
     ahead = gap-is true;
     back = gap-is false;
   }
 
-  pub lanes-of : Lanes n fs ts ws qs next xs ps d skip
+  pub lanes-of : Lanes ls xs ps d skip
   lanes-of = record {
-    few = w .searchable .network .few;
-    from-in = λ k l. rw (laid .starts .each k l) (omega (arith, stream k l .from-in));
-    to-in = λ k l. rw (laid .ends .each k l) (omega (arith, stream k l .to-in));
-    light = λ k l. rw (laid .weights .each k l) (stream k l .light);
-    pulled = laid .pulled;
-    linked = laid .linked;
-    amounts = w .searchable .amounts;
+    few = rw (laid .counted) (w .searchable .network .few);
+    from-in = λ k l. starts-in (w .searchable .network) (laid .rowed) k (at l);
+    to-in = λ k l. ends-in (w .searchable .network) (laid .rowed) k (at l);
+    light = λ k l. rw (laid .rowed .weights k (at l)) (w .searchable .network .placed k (at l) .light);
+    pulled = λ k l. laid .rowed .pulled k (at l);
+    linked = subst (λ (m : ℕ). Linked m (startsOf ls) (endsOf ls) ls) (sym (laid .counted)) (laid .linked);
+    amounts = λ k l. w .searchable .amounts k (at l);
     prices = w .searchable .prices;
     step = w .searchable .step;
-    small = λ k f l. omega (arith, small k f l, w .searchable .step);
+    small = λ k f l. omega (arith, small k f (at l), w .searchable .step);
   }
     where
-      stream : (k : ℕ) → k < n → Placed (streamAt (take n streams) k)
-      stream k l = rw (getD-take n streams k noStream l) (w .searchable .network .placed k l)
+      at : {k : ℕ} → k < countOf ls → k < n
+      at l = rw (laid .counted) at l
 
-      small : (k : ℕ) (f : Bool) → k < n → getD (gapsOf fs ts ws qs xs ps d skip n f) k 0 ≤ 2 * maxWeight * d
-      small k true l = slack-small streams n xs ps d skip fs ts _ _ slacked (w .some) k true l
-      small k false l = slack-small streams n xs ps d skip fs ts _ _ slacked (w .some) k false l
+      small : (k : ℕ) (f : Bool) → k < n → getD (gapsOf ls xs ps d skip f) k 0 ≤ 2 * maxWeight * d
+      small k true l = slack-small streams n xs ps d skip (startsOf ls) (endsOf ls) _ _ slacked (w .some) k true l
+      small k false l = slack-small streams n xs ps d skip (startsOf ls) (endsOf ls) _ _ slacked (w .some) k false l
 
 pub zeros : (m u : ℕ) → _≡_ {A = ℕ} (getD (replicate m 0) u 0) 0
 zeros zero u = refl
@@ -365,3 +366,13 @@ module _ (streams : List Stream) (n : ℕ) (xs ps : List ℕ) (d : ℕ) (one : 1
         close = λ u. omega (arith, zeros places u);
         room = omega arith;
       })
+
+-- Over the lanes.
+pub search-laid : (ls xs ps es : List ℕ) (d s : ℕ) → Falling ps d → s < places → (w : Searching ls xs ps d) → (r : Walked)
+    → r ≡ walked (startsOf ls) (endsOf ls) (gapsOf ls xs ps d 0 true) (gapsOf ls xs ps d 0 false) (countOf ls) es far rounds 0 s (replicate places 0) (replicate places far) (rootAt s)
+    → grownBy (r .found) (r .tree) (reducedBy (r .tree .labelled) (r .dist) (r .reach) ps) ≡ grow (take (w .n) (w .streams)) (w .n) xs es d rounds ps (rootAt s)
+search-laid ls xs ps es d s floor l w r e =
+    ap (λ (v : Walked). grownBy (v .found) (v .tree) (reducedBy (v .tree .labelled) (v .dist) (v .reach) ps))
+    (e ∙ ap (λ (m : ℕ). walked (startsOf ls) (endsOf ls) (gapsOf ls xs ps d 0 true) (gapsOf ls xs ps d 0 false) m es far rounds 0 s (replicate places 0) (replicate places far) (rootAt s)) (w .laid .counted))
+    ∙ sym
+    (search-walk (w .streams) (w .n) xs ps d (w .walkable .some) (startsOf ls) (endsOf ls) _ _ (slacked (w .streams) (w .n) xs ps d 0 ls (w .laid) (w .walkable)) (floor .1) es s l)

@@ -25,7 +25,8 @@ use Rattle.paths.specs.Push.{otherEnd}
 use Rattle.paths.proofs.Amounts.{get-set}
 use Rattle.paths.proofs.Elements.{lowered-at}
 use Rattle.paths.proofs.Least.{startIn, endIn}
-use Rattle.paths.proofs.Counting.{countTo, count-most, count-none, count-more}
+use Rattle.paths.specs.Counts.{countTo}
+use Rattle.paths.proofs.Counting.{count-most, count-none, count-more}
 use Rattle.paths.proofs.Pushing.{reached, Link, both-reached}
 
 -- Streams among places 0 to n, as far as the search needs them.

@@ -138,7 +138,3 @@ module _ (ss : List Stream) (xs ps : List ℕ) (ls : List Bool) (d skip : ℕ) w
 
   pub answers-same : (n : ℕ) (f : Crossing) → Answers ss xs ps ls d skip n f → leastTo ss xs ps ls d skip n ≡ f
   answers-same n f a = answer-one n (leastTo ss xs ps ls d skip n) f (least-good n) a
-
--- What is found is one of the first n.
-pub found-below : (ss : List Stream) (xs ps : List ℕ) (ls : List Bool) (d skip n i g : ℕ) → leastTo ss xs ps ls d skip n ≡ At i g → i < n
-found-below ss xs ps ls d skip n i g e = subst (Answers ss xs ps ls d skip n) e (least-good ss xs ps ls d skip n) .below

@@ -18,13 +18,15 @@ use Rattle.paths.specs.declared.Walked.{Walked}
 use Rattle.paths.specs.Sizes.{netShift, rounds, numbering, far}
 use Rattle.paths.specs.Slack.{Crossing, At, Nothing, leastTo, slackAt}
 use Rattle.paths.specs.Search.{farEnd, rootAt, addedTo, Grown, grownBy, tightPath}
-use Rattle.paths.specs.Near.{relaxedTo, nearestTo, goalAt, walkedBy, walked}
+use Rattle.paths.specs.Rows.{countOf, startsOf, endsOf}
+use Rattle.paths.specs.Premises.{Searching}
+use Rattle.paths.specs.Near.{gapsOf, relaxedTo, nearestTo, goalAt, walkedBy, walked}
 use Rattle.paths.proofs.Least.{Usable, startIn, endIn, Answers, least-good, answers-same}
 use Rattle.paths.proofs.Rounds.{path-none, path-stop, path-hit, path-more, path-end}
 use Rattle.paths.proofs.Steps.{walk-none, walk-far, walk-hit, walk-more, walk-end}
 use Rattle.paths.proofs.Nearing.{tailOf, headOf, slackOf, overOf, Leads, Nears, relaxed-good, next-good}
 use Rattle.paths.proofs.Walks.{leaving, leads-on, Told, told, none-leads}
-use Rattle.paths.proofs.Finds.{Slacked, heads, tails, slack-small, usable-slack, left-alone, zeros, root-nears}
+use Rattle.paths.proofs.Finds.{Slacked, slacked, heads, tails, slack-small, usable-slack, left-alone, zeros, root-nears}
 
 -- Only place v has a negative net.
 goal-hit : (v : ℕ) → v < places → getD (goalAt v) v 0 < netShift
@@ -209,3 +211,12 @@ module _ (streams : List Stream) (n : ℕ) (xs ps : List ℕ) (skip : ℕ) (fs t
     dists = refl;
     none = zeros places;
   })
+
+-- Over the lanes.
+pub path-laid : (ls xs ps : List ℕ) (v skip s : ℕ) → v < places → s < places → (w : Searching ls xs ps 1) → (r : Walked)
+    → r ≡ walked (startsOf ls) (endsOf ls) (gapsOf ls xs ps 1 skip true) (gapsOf ls xs ps 1 skip false) (countOf ls) (goalAt v) 0 rounds 0 s (replicate places 0) (replicate places far) (rootAt s)
+    → grownBy (r .found) (r .tree) ps ≡ tightPath (take (w .n) (w .streams)) (w .n) xs ps v skip rounds (rootAt s)
+path-laid ls xs ps v skip s lv l w r e =
+    ap (λ (q : Walked). grownBy (q .found) (q .tree) ps)
+    (e ∙ ap (λ (m : ℕ). walked (startsOf ls) (endsOf ls) (gapsOf ls xs ps 1 skip true) (gapsOf ls xs ps 1 skip false) m (goalAt v) 0 rounds 0 s (replicate places 0) (replicate places far) (rootAt s)) (w .laid .counted))
+    ∙ sym (path-walk (w .streams) (w .n) xs ps skip (startsOf ls) (endsOf ls) _ _ (slacked (w .streams) (w .n) xs ps 1 skip ls (w .laid) (w .walkable)) v lv s l)

@@ -16,13 +16,6 @@ use Rattle.paths.specs.Slack.{At, Nothing, considered, leastTo}
 use Rattle.paths.specs.Search.{loweredBy, farEnd, addedTo, grownBy, grow, tightPath}
 use Rattle.paths.specs.Push.{movedOf, otherEnd, pushed}
 
--- One stream more is considered.
-pub least-next : (streams : List Stream) (n : ℕ) (xs ps : List ℕ) (ls : List Bool) (d skip i : ℕ) → i < n
-    → leastTo (take n streams) xs ps ls d skip (i + 1)
-    ≡ considered ps ls d skip (leastTo (take n streams) xs ps ls d skip i) i (getD streams i noStream) (getD xs i 0)
-unfolding leastTo
-least-next streams n xs ps ls d skip i l = rw (add-one, getD-take n streams i noStream l)
-
 module _ (streams : List Stream) (n : ℕ) (xs es : List ℕ) (d : ℕ) (ps : List ℕ) (t : Tree) where
   -- The search: no stream leaves the labelled places; the new place has a negative net; or it has not.
   pub grow-none : (l : ℕ) → 0 < l → leastTo (take n streams) xs ps (t .labelled) d 0 n ≡ Nothing → grow (take n streams) n xs es d l ps t ≡ grownBy false t ps

@@ -1,6 +1,6 @@
 -- The search by distances: for each place that is not labelled, the stream by which the labelled places come nearest to it. A stream
 -- has two directions, forwards from its start to its end and backwards from its end to its start. In what follows fs are the starts
--- of streams, ts their ends, ws their weights, qs twice the weights times the readings, gs the slacks forwards and bs backwards.
+-- of streams, ts their ends, gs the slacks forwards and bs backwards.
 use mathlib.Core.Bool.{Bool, true, false, _&&_, _||_}
 use mathlib.Core.List.{List, [], _∷_}
 use Prim.Native.Nat.{ℕ, zero, suc, _+_, _-_, _*_, _/_, _%_}
@@ -12,13 +12,16 @@ use Rattle.flows.specs.Flows.{values}
 use Rattle.paths.specs.declared.Tree.{Tree}
 use Rattle.paths.specs.declared.Walked.{Walked}
 use Rattle.paths.specs.Sizes.{netShift, far, numbering}
+use Rattle.paths.specs.Rows.{countOf, startsOf, endsOf, weightsOf, pullsOf}
 use Rattle.paths.specs.Slack.{gapBy}
 use Rattle.paths.specs.Search.{fallen, addedTo}
 
--- The slacks of the first n streams in one direction; a metered one, whose weight is not 0, before number skip counts as one with slack.
-abbrev pub gapsOf : List ℕ → List ℕ → List ℕ → List ℕ → List ℕ → List ℕ → ℕ → ℕ → ℕ → Bool → List ℕ
-gapsOf fs ts ws qs xs ps d skip n f =
-    values n (λ k. pick (ltb 0 (getD ws k 0) && ltb k skip) 1 (gapBy (getD ws k 0) (getD qs k 0) f (getD xs k 0) (getD ps (getD fs k 0) 0) (getD ps (getD ts k 0) 0) d))
+-- The slacks of the streams in use in one direction, by their lanes, the amounts xs and the prices ps; a metered stream, whose weight
+-- is not 0, before number skip counts as one with slack.
+abbrev pub gapsOf : List ℕ → List ℕ → List ℕ → ℕ → ℕ → Bool → List ℕ
+gapsOf ls xs ps d skip f =
+    values (countOf ls)
+    (λ k. pick (ltb 0 (getD (weightsOf ls) k 0) && ltb k skip) 1 (gapBy (getD (weightsOf ls) k 0) (getD (pullsOf ls) k 0) f (getD xs k 0) (getD ps (getD (startsOf ls) k 0) 0) (getD ps (getD (endsOf ls) k 0) 0) d))
 
 -- The last of the first n streams that starts or ends at place u; maxStreams where there is none.
 unfoldable pub lastAt : List ℕ → List ℕ → ℕ → ℕ → ℕ
@@ -52,6 +55,10 @@ relaxedTo fs ts gs bs ls k e (suc n) near = relaxedTo fs ts gs bs ls k e n (rela
 unfoldable pub nearestTo : List ℕ → ℕ → ℕ
 nearestTo near zero = places
 nearestTo near (suc n) = let r = nearestTo near n in pick (ltb (getD near n far) (getD near r far)) n r
+
+-- The same of all places, `places` also where its distance is above `limit`.
+abbrev pub nearestWithin : List ℕ → ℕ → ℕ
+nearestWithin near limit = pick (ltb limit (getD near (nearestTo near places) far / numbering)) places (nearestTo near places)
 
 -- The prices when the search is at the distance k: a labelled place's has fallen by what k exceeds its own distance.
 unfoldable pub reducedBy : List Bool → List ℕ → ℕ → List ℕ → List ℕ

@@ -1,11 +1,11 @@
 // The search over labelled places.
+use crate::Quest;
 use crate::Searched;
-use crate::lanes::CELLS;
+use crate::lanes::LANES;
 use crate::sizes::FAR;
 use crate::sizes::NET_SHIFT;
 use crate::slacks::minus;
 use crate::walking::walk;
-use plants::Stream;
 use plants::limits::MAX_STREAMS;
 use plants::limits::PLACES;
 ghost use mathlib.Core.Path.{_≡_};
@@ -15,7 +15,7 @@ ghost use Rattle.plants.specs.Limits.{places};
 ghost use Rattle.paths.specs.Sizes.{rounds};
 ghost use Rattle.paths.specs.Search.{rootAt, grownBy, grow, tightPath};
 ghost use Rattle.paths.specs.Near.{goalAt, reducedBy};
-ghost use Rattle.paths.specs.Premises.{Laid, Walkable, Falling};
+ghost use Rattle.paths.specs.Premises.{Searching, Falling};
 
 // The prices of labelled places fall by what the search's distance exceeds theirs.
 fn reduce(prices: &mut [u64; PLACES], labelled: &[bool; PLACES], dist: &[u64; PLACES], reach: u64)
@@ -34,36 +34,27 @@ fn reduce(prices: &mut [u64; PLACES], labelled: &[bool; PLACES], dist: &[u64; PL
 // Places are labelled, each over the stream of least slack and with the prices lowered by it, until one with a negative net is.
 // (The walk goes over the lanes of the streams by distances, and the prices fall once, at its end.)
 pub fn search(
-    streams: [Stream; MAX_STREAMS],
-    count: usize,
-    from: &[u8; MAX_STREAMS],
-    to: &[u8; MAX_STREAMS],
-    weight: &[u64; MAX_STREAMS],
-    pull: &[u64; MAX_STREAMS],
-    next: &[u8; CELLS],
+    lanes: &[u64; LANES],
     flows: &[u64; MAX_STREAMS],
     prices: &mut [u64; PLACES],
     nets: &[u64; PLACES],
-    s: u8,
+    s: usize,
     delta: u64,
 ) -> Searched
-    requires { ⌜ Laid streams count (now from) (now to) (now weight) (now pull) (now next) × Walkable streams count (now flows) (now prices) delta × (s < places) × Falling (now prices) delta ⌝ }
-    ensures { λ r. ⌜ grownBy (r .found) (r .tree) (now (prices .exit)) ≡ grow (take count streams) count (now (flows .entry)) (now (nets .entry)) delta rounds (now (prices .entry)) (rootAt s) ⌝ }
+    requires { ⌜ Searching (now lanes) (now flows) (now prices) delta × (s < places) × Falling (now prices) delta ⌝ }
+    ensures { λ r. ⌜ ((w : Searching (now (lanes .entry)) (now (flows .entry)) (now (prices .entry)) delta) → grownBy (r .found) (r .tree) (now (prices .exit)) ≡ grow (take (w .n) (w .streams)) (w .n) (now (flows .entry)) (now (nets .entry)) delta rounds (now (prices .entry)) (rootAt s)) ⌝ }
 {
     let w = walk(
-        from,
-        to,
-        weight,
-        pull,
-        next,
-        count,
+        lanes,
         flows,
         prices,
-        delta,
-        0,
         nets,
-        s,
-        FAR,
+        Quest {
+            start: s,
+            delta: delta,
+            skip: 0,
+            limit: FAR,
+        },
     );
     let t = w.tree;
     let labelled = t.labelled;
@@ -76,48 +67,39 @@ pub fn search(
 }
 
 // Nets that make place v the one that is looked for.
-fn goal(v: u8) -> [u64; PLACES]
+fn goal(v: usize) -> [u64; PLACES]
     requires { ⌜ v < places ⌝ }
     ensures { λ r. ⌜ r ≡ goalAt v ⌝ }
 {
     let mut nets = [NET_SHIFT; PLACES];
-    nets[v as usize] = 0;
+    nets[v] = 0;
     nets
 }
 
 // Places are labelled over streams without slack until v is, metered streams before number skip left alone.
 pub fn tight_path(
-    streams: [Stream; MAX_STREAMS],
-    count: usize,
-    from: &[u8; MAX_STREAMS],
-    to: &[u8; MAX_STREAMS],
-    weight: &[u64; MAX_STREAMS],
-    pull: &[u64; MAX_STREAMS],
-    next: &[u8; CELLS],
+    lanes: &[u64; LANES],
     flows: &[u64; MAX_STREAMS],
     prices: &[u64; PLACES],
-    s: u8,
-    v: u8,
+    s: usize,
+    v: usize,
     skip: usize,
 ) -> Searched
-    requires { ⌜ Laid streams count (now from) (now to) (now weight) (now pull) (now next) × Walkable streams count (now flows) (now prices) 1 × (s < places) × (v < places) ⌝ }
-    ensures { λ r. ⌜ grownBy (r .found) (r .tree) (now (prices .entry)) ≡ tightPath (take count streams) count (now (flows .entry)) (now (prices .entry)) v skip rounds (rootAt s) ⌝ }
+    requires { ⌜ Searching (now lanes) (now flows) (now prices) 1 × (s < places) × (v < places) ⌝ }
+    ensures { λ r. ⌜ ((w : Searching (now (lanes .entry)) (now (flows .entry)) (now (prices .entry)) 1) → grownBy (r .found) (r .tree) (now (prices .entry)) ≡ tightPath (take (w .n) (w .streams)) (w .n) (now (flows .entry)) (now (prices .entry)) v skip rounds (rootAt s)) ⌝ }
 {
     let nets = goal(v);
     let w = walk(
-        from,
-        to,
-        weight,
-        pull,
-        next,
-        count,
+        lanes,
         flows,
         prices,
-        1,
-        skip,
         &nets,
-        s,
-        0,
+        Quest {
+            start: s,
+            delta: 1,
+            skip: skip,
+            limit: 0,
+        },
     );
     let t = w.tree;
     Searched {

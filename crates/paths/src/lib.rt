@@ -1,24 +1,27 @@
 // Moving flow through a plant: the slack of a stream, the search over labelled places for a way of no slack, and the push
 // along that way. Amounts, prices and nets are held shifted, as unsigned numbers (sizes.rt).
-use lanes::CELLS;
-use plants::limits::MAX_STREAMS;
 use plants::limits::PLACES;
 
 pub mod labels;
 pub mod lanes;
 pub mod pushes;
-mod relaxing;
+pub mod relaxing;
 pub mod sizes;
 pub mod slacks;
 mod walking;
 
-// The streams as arrays: starts, ends, weights, twice the weights times the readings, and the lists of the streams of each place.
-pub struct Arrays {
-    pub from: [u8; MAX_STREAMS],
-    pub to: [u8; MAX_STREAMS],
-    pub weight: [u64; MAX_STREAMS],
-    pub pull: [u64; MAX_STREAMS],
-    pub next: [u8; CELLS],
+// What a walk is to do: where it starts, the step, the number before which metered streams are left alone, and how far it may go.
+pub struct Quest {
+    pub start: usize,
+    pub delta: u64,
+    pub skip: usize,
+    pub limit: u64,
+}
+
+// A labelled place and its distance.
+pub struct Spot {
+    pub place: usize,
+    pub distance: u64,
 }
 
 // The labelled places; and for each place labelled after the first, in order, the stream that led to it and the place.

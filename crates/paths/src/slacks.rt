@@ -7,7 +7,7 @@ ghost use Rattle.plants.specs.Limits.{maxWeight};
 ghost use Rattle.paths.specs.Sizes.{mostFlow, mostPull};
 ghost use Rattle.flows.specs.Certificate.{weightOf};
 ghost use Rattle.paths.specs.Held.{readingOf};
-ghost use Rattle.paths.specs.Slack.{gapBy, slackBy};
+ghost use Rattle.paths.specs.Slack.{gapBy};
 ghost use Rattle.paths.specs.Premises.{Placed, Sized};
 
 // A stream's weight; an unmetered stream counts as one of weight 0.
@@ -53,20 +53,4 @@ pub fn gap(w: u64, read: u64, forwards: bool, x: u64, pu: u64, pv: u64, delta: u
     } else {
         minus(pv + read + step, at + pu)
     }
-}
-
-// By the stream.
-pub fn slack(s: Stream, forwards: bool, x: u64, pu: u64, pv: u64, delta: u64) -> u64
-    requires { ⌜ Placed s × Sized x pu pv delta ⌝ }
-    ensures { λ r. ⌜ r ≡ slackBy s forwards x pu pv delta ⌝ }
-{
-    gap(
-        weight_of(s),
-        2 * pull_of_reading(s),
-        forwards,
-        x,
-        pu,
-        pv,
-        delta,
-    )
 }

@@ -17,7 +17,8 @@ use Rattle.solver.specs.Sizes.{hintRoom}
 use Rattle.solver.specs.Premises.{Close, Amounts}
 use Rattle.solver.specs.Forests.{Spanning, Unmetered, Listed, Routes, Kept}
 use Rattle.flows.proofs.Lists.{set-each}
-use Rattle.paths.proofs.Counting.{countTo, count-most, count-more}
+use Rattle.paths.specs.Counts.{countTo}
+use Rattle.paths.proofs.Counting.{count-most, count-more}
 
 pub spanning-short : {f : Forest} → Spanning f → f .len ≤ places
 spanning-short {f} s = omega (arith, s .few, count-most maxUnits (λ u. getD (f .reached) u false))

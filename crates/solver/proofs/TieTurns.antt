@@ -14,16 +14,20 @@ use Rattle.plants.specs.declared.Stream.{Stream}
 use Rattle.plants.specs.Limits.{maxUnits}
 use Rattle.plants.specs.Plants.{noStream}
 use Rattle.flows.specs.Flows.{streamAt}
+use Rattle.flows.specs.Certificate.{weightOf}
 use Rattle.paths.specs.declared.Tree.{Tree}
 use Rattle.paths.specs.Sizes.{rounds}
-use Rattle.paths.specs.Slack.{gapBy, slackBy}
+use Rattle.paths.specs.Slack.{slackBy}
+use Rattle.paths.specs.Rows.{countOf, weightsOf}
+use Rattle.paths.specs.Near.{gapsOf}
 use Rattle.paths.specs.Search.{rootAt, Grown, tightPath}
 use Rattle.paths.specs.Push.{pushed}
-use Rattle.paths.specs.Premises.{Trail, Roomy, Laid}
+use Rattle.paths.specs.Premises.{Trail, Roomy, Laid, Searching, Laying}
+use Rattle.paths.proofs.Filling.{gap-at}
 use Rattle.paths.proofs.Counting.{count-most}
 use Rattle.paths.proofs.TightPath.{Path, way, shut}
 use Rattle.solver.specs.Model.{tiedBy, tiedAt, tiesTo}
-use Rattle.solver.specs.Premises.{Layout, Even, Falls}
+use Rattle.solver.specs.Premises.{Layout, Even, Falls, Tieable}
 use Rattle.solver.proofs.Turns.{stream-is}
 use Rattle.solver.proofs.Layouts.{used, solvable-of}
 use Rattle.solver.proofs.Detours.{round-path, left-some, ties-even}
@@ -98,19 +102,47 @@ module _ (streams : List Stream) (n : ℕ) (w : Layout streams n) (ps : List ℕ
             some = rw at at (left-some ss (solvable-of streams n w) ps i li xs h (rw at e) (rw at (omega arith)) (g .tree) (rw at a) (rw at r) u);
           }
 
--- The test by the arrays of the streams.
-module _ (streams : List Stream) (n : ℕ) (w : Layout streams n) (ps : List ℕ) (i : ℕ) (l : i < n) (xs fs ts ws qs next : List ℕ) (laid : Laid streams n fs ts ws qs next) where
-  pub starts-at : getD fs i 0 ≡ getD streams i noStream .from
-  starts-at = laid .starts .each i l ∙ ap (λ (s : Stream). s .from) (stream-is streams n i l)
+-- A search can go over the lanes; and the test by them.
+abbrev pub tie-searching : (ls ps : List ℕ) (i : ℕ) (xs : List ℕ) (w : Tieable ls ps i xs) → i ≤ w .n → Searching ls xs ps 1
+tie-searching ls ps i xs w l = record {
+  streams = w .streams;
+  n = w .n;
+  walkable = record {
+    searchable = record {
+      network = w .layout .network;
+      step = omega arith;
+      amounts = λ k m. omega (arith, w .even .close k (omega (arith, w .layout .network .few)) .0, w .layout .network .few, l);
+      prices = w .prices;
+    };
+    some = omega arith;
+    weighed = w .layout .weighed;
+    held = w .even .held;
+  };
+  laid = w .laid;
+}
 
-  pub ends-at : getD ts i 0 ≡ getD streams i noStream .to
-  ends-at = laid .ends .each i l ∙ ap (λ (s : Stream). s .to) (stream-is streams n i l)
+abbrev pub tie-laying : (ls ps : List ℕ) (i : ℕ) (xs : List ℕ) → Tieable ls ps i xs → Laying ls
+tie-laying ls ps i xs w = record { streams = w .streams; n = w .n; network = w .layout .network; laid = w .laid }
 
+pub tie-trail : (ls ps : List ℕ) (i : ℕ) (xs : List ℕ) (w : Tieable ls ps i xs) (via : List ℕ) (len : ℕ) → Trail via (w .n) len → Trail via (countOf ls) len
+tie-trail ls ps i xs w via len t = subst (λ (m : ℕ). Trail via m len) (sym (w .laid .counted)) t
+
+module _ (streams : List Stream) (n : ℕ) (w : Layout streams n) (ps : List ℕ) (i : ℕ) (l : i < n) (xs ls : List ℕ) (laid : Laid streams n ls) where
   abbrev test : Bool
-  test = ltb 0 (getD ws i 0) && eqb (gapBy (getD ws i 0) (getD qs i 0) false (getD xs i 0) (getD ps (getD fs i 0) 0) (getD ps (getD ts i 0) 0) 1) 0
+  test = ltb 0 (getD (weightsOf ls) i 0) && eqb (getD (gapsOf ls xs ps 1 0 false) i 0) 0
+
+  gap-is : getD (gapsOf ls xs ps 1 0 false) i 0 ≡ lack streams n w ps i l xs
+  gap-is =
+      gap-at ls xs ps 1 0 false i (rw (laid .counted) l)
+      ∙ rw (laid .rowed .weights i l, laid .rowed .pulls i l, laid .rowed .starts i l, laid .rowed .ends i l, le-ltb i 0 (omega arith))
+      (go (ltb 0 (weightOf (getD streams i noStream))))
+    where
+      go : (b : Bool) → pick (b && false) 1 (lack streams n w ps i l xs) ≡ lack streams n w ps i l xs
+      go true = refl
+      go false = refl
 
   test-is : test ≡ (getD streams i noStream .metered && eqb (lack streams n w ps i l xs) 0)
-  test-is = rw (laid .weights .each i l, laid .pulls .each i l, starts-at, ends-at, stream-is streams n i l) (go (getD streams i noStream .metered) (w .weighed i l))
+  test-is = rw (gap-is, laid .rowed .weights i l) (go (getD streams i noStream .metered) (w .weighed i l))
     where
       go : (b : Bool) → (b ≡ true → 1 ≤ getD streams i noStream .weight)
           → (ltb 0 (pick b (getD streams i noStream .weight) 0) && eqb (lack streams n w ps i l xs) 0) ≡ (b && eqb (lack streams n w ps i l xs) 0)

@@ -1,5 +1,5 @@
 -- One turn of each of the solver's loops, and what the calls of an improvement need.
-use mathlib.Core.Path.{_≡_, refl, sym, _∙_, ap}
+use mathlib.Core.Path.{_≡_, refl, sym, _∙_, ap, subst}
 use mathlib.Core.Bool.{Bool, true, false}
 use mathlib.Core.List.{List, [], _∷_}
 use Prim.Native.Nat.{ℕ, zero, suc, _+_, _-_, _*_, _≤_, _<_}
@@ -21,7 +21,8 @@ use Rattle.flows.proofs.Integers.{up, dn}
 use Rattle.paths.specs.declared.Tree.{Tree}
 use Rattle.paths.specs.Sizes.{netShift, mostStep, rounds}
 use Rattle.paths.specs.Search.{rootAt, target, Grown, grownBy, grow}
-use Rattle.paths.specs.Premises.{Placed, Network, Trail, Roomy}
+use Rattle.paths.specs.Premises.{Placed, Network, Trail, Roomy, Searching, Laying}
+use Rattle.paths.specs.Rows.{countOf}
 use Rattle.paths.proofs.Amounts.{net}
 use Rattle.paths.proofs.Counting.{count-most}
 use Rattle.paths.proofs.Growing.{Plain}
@@ -29,7 +30,7 @@ use Rattle.paths.proofs.Hunting.{Hunt}
 use Rattle.solver.specs.declared.State.{State}
 use Rattle.solver.specs.Sizes.{stepFall}
 use Rattle.solver.specs.Model.{Improved, improvedBy, asIs, settledOf, settledTo, booked, netsTo, firstOver, pushedOn, improved, improvements, overSum}
-use Rattle.solver.specs.Premises.{Allows, Shiftable}
+use Rattle.solver.specs.Premises.{Allows, Shiftable, Improvable}
 use Rattle.solver.proofs.Booking.{net-most}
 use Rattle.solver.proofs.Steady.{First, first-over, nets-val, sound-more, Outcome, none-over, better, finds, improved-good}
 
@@ -273,3 +274,28 @@ pub over-to-most : (es : List ℕ) (b n : ℕ) → ((u : ℕ) → u < n → getD
 unfolding overTo
 over-to-most es b zero h = omega arith
 over-to-most es b (suc n) h = omega (arith, h n (omega arith), over-to-most es b n (λ u l. h u (omega arith)))
+
+-- A search can go over the lanes.
+abbrev pub improve-searching : (ls : List ℕ) (d : ℕ) (st : State) → Improvable ls d 1 st → Searching ls (st .flows) (st .prices) d
+improve-searching ls d st w = record {
+  streams = w .streams;
+  n = w .n;
+  walkable = record {
+    searchable = record {
+      network = w .layout .network;
+      step = w .step .1;
+      amounts = λ k l. omega (arith, w .allows .sound .close k (omega (arith, w .layout .network .few)) .0, w .allows .fits);
+      prices = w .allows .sound .capped;
+    };
+    some = w .step .0;
+    weighed = w .layout .weighed;
+    held = w .allows .sound .held;
+  };
+  laid = w .laid;
+}
+
+abbrev pub improve-laying : (ls : List ℕ) (d k : ℕ) (st : State) → Improvable ls d k st → Laying ls
+improve-laying ls d k st w = record { streams = w .streams; n = w .n; network = w .layout .network; laid = w .laid }
+
+pub improve-trail : (ls : List ℕ) (d k : ℕ) (st : State) (w : Improvable ls d k st) (via : List ℕ) (len : ℕ) → Trail via (w .n) len → Trail via (countOf ls) len
+improve-trail ls d k st w via len t = subst (λ (m : ℕ). Trail via m len) (sym (w .laid .counted)) t

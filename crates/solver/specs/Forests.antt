@@ -10,7 +10,7 @@ use Rattle.plants.specs.Plants.{noStream}
 use Rattle.solver.specs.declared.Forest.{Forest}
 use Rattle.solver.specs.Sizes.{hintRoom}
 use Rattle.solver.specs.Premises.{Close}
-use Rattle.paths.proofs.Counting.{countTo}
+use Rattle.paths.specs.Counts.{countTo}
 
 -- A forest with as many places reached, at least, as it has streams.
 pub record Spanning (f : Forest) : Type 0 where

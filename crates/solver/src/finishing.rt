@@ -6,10 +6,12 @@ use crate::settling::over_sum;
 use crate::settling::settle;
 use crate::sizes::FUEL;
 use crate::sizes::LEFTOVER_LIMIT;
+use paths::lanes::LANES;
 use plants::Stream;
 use plants::limits::MAX_STREAMS;
 ghost use mathlib.Core.Path.{_≡_};
 ghost use lib.ListN.{take};
+ghost use Rattle.paths.specs.Premises.{Laid};
 ghost use Rattle.solver.specs.Model.{begun, finished};
 ghost use Rattle.solver.specs.Premises.{Layout, AtHint};
 
@@ -26,9 +28,9 @@ fn begin(streams: [Stream; MAX_STREAMS], count: usize, st: State) -> State
 }
 
 // Improved at step 1 until no net is positive.
-pub fn finish(streams: [Stream; MAX_STREAMS], count: usize, st: State) -> State
-    requires { ⌜ Layout streams count × AtHint (take count streams) st ⌝ }
+pub fn finish(streams: [Stream; MAX_STREAMS], count: usize, lanes: &[u64; LANES], st: State) -> State
+    requires { ⌜ Layout streams count × AtHint (take count streams) st × Laid streams count (now lanes) ⌝ }
     ensures { λ r. ⌜ r ≡ finished (take count streams) st ⌝ }
 {
-    improve_all(streams, count, begin(streams, count, st), 1, FUEL)
+    improve_all(lanes, begin(streams, count, st), 1, FUEL)
 }

@@ -6,6 +6,7 @@ use crate::settling::settle;
 use crate::sizes::FIRST_STEP;
 use crate::sizes::HINT_BUDGET;
 use crate::sizes::PRICE_SHIFT;
+use paths::lanes::lay;
 use paths::sizes::FLOW_SHIFT;
 use plants::Stream;
 use plants::limits::MAX_STREAMS;
@@ -42,11 +43,12 @@ pub fn hint_by_steps(streams: [Stream; MAX_STREAMS], count: usize) -> Hint
     requires { ⌜ Layout streams count ⌝ }
     ensures { λ r. ⌜ Hinted (take count streams) r ⌝ }
 {
+    let lanes = lay(streams, count);
     let mut h = no_hint();
     let mut delta = FIRST_STEP;
     while 1 < delta {
         let st = settle(streams, count, h);
-        let next = improve_all(streams, count, st, delta, HINT_BUDGET);
+        let next = improve_all(&lanes, st, delta, HINT_BUDGET);
         h = hint_of(next);
         delta = delta / 2;
     }

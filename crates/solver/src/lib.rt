@@ -1,5 +1,6 @@
 // The cheapest balanced flow of a plant, with prices that certify it.
 use finishing::finish;
+use paths::lanes::lay;
 use plants::Plant;
 use plants::limits::MAX_STREAMS;
 use plants::limits::PLACES;
@@ -56,10 +57,11 @@ fn solve_at(p: Plant, start: State) -> Solved
 {
     let streams = p.streams;
     let count = p.count as usize;
-    let st = finish(streams, count, start);
+    let lanes = lay(streams, count);
+    let st = finish(streams, count, &lanes, start);
     let prices = st.prices;
     let mut flows = st.flows;
-    tie_all(streams, count, &mut flows, &prices);
+    tie_all(&lanes, &mut flows, &prices);
     Solved {
         flows: flows,
         prices: prices,

@@ -1,47 +1,32 @@
-// The calls that cases try. For each, the bytes handed in and those of its answer, numbers with the high byte first; the rest of
-// the answer is left as it was. Bytes that no case may hand in get no answer.
+// The calls that cases try, each with its results as those of the sheet call: a number returned, a count and a number handed
+// back, and the bytes of the slice.
 //
-// 1, the sheet call:
-//     in   0-3 the last sheet number; 4-5 how long the sheet slice is, at most 1,800; from 6 on the plant file
-//     out  0 the number returned; 1-8 how many bytes are written; 9-12 the last sheet number; from 13 on the slice
-// 2, the plant reader:
-//     in   the plant file
-//     out  0 the number returned; 1 the units; 2 how many streams; from 3 on the 96 streams
-// 3, the plant writer:
-//     in   0-1 how long the slice is, at most 1,800; 2 the units; 3 how many streams; from 4 on 96 streams
-//     out  0 the number returned; 1-8 how many bytes are written; from 13 on the slice
-// 4, the solver without a hint:
-//     in   0-95 a byte for each stream, 0 where its flow is not compared; from 96 on the plant file
-//     out  0 the number that the reader returned; from 8 on, 8 bytes for each stream, its flow in two's complement
+// 1, the sheet call: handed in the last sheet number and the plant file.
+// 2, the plant reader: handed in the plant file; the count is the units, the number how many streams, and the slice, of 864
+//    bytes, gets the 96 streams.
+// 3, the plant writer: handed in the units, how many streams, and 96 streams; no number.
+// 4, the solver without a hint: handed in a byte for each of 96 streams, 0 where its flow is not compared, then the plant file; the
+//    slice, of 768 bytes, gets the flows in two's complement, 8 bytes each, 0 where not compared; no count, no number.
 //
 // A stream is 9 bytes: from, to, metered (0 or 1), weight (2), reading (4, two's complement).
 use paths::sizes::FLOW_SHIFT;
 use plants::Plant;
 use plants::Stream;
 use plants::limits::MAX_STREAMS;
+use sheets::Sheet;
 ghost use mathlib.Core.Path.{_≡_};
 ghost use Prim.Native.Nat.{_≤_};
 ghost use lib.ListN.{length};
 
-const MOST_SLICE: usize = 1800;
+// The results but for the slice. NO_CASE is returned for bytes that no case may hand in.
+const NO_CASE: u8 = 255;
 
-const SLICE: usize = 13;
-
-fn sheet(given: &[u8], answer: &mut [u8])
-    requires { ⌜ length (now answer) ≡ 2048 ⌝ }
-{
-    if given.len() < 6 {
-        return;
+fn done(number: u8, count: usize, back: u32) -> Sheet {
+    Sheet {
+        number: number,
+        written: count,
+        last: back,
     }
-    let last = numbers::get_u32(given);
-    let room = numbers::get_u16(&given[4..]) as usize;
-    if MOST_SLICE < room {
-        return;
-    }
-    let done = sheets::balance_plant(&given[6..], last, &mut answer[SLICE..SLICE + room]);
-    numbers::put_u8(done.number, answer);
-    numbers::put_u64(done.written as u64, &mut answer[1..]);
-    numbers::put_u32(done.last, &mut answer[9..]);
 }
 
 fn put_stream(s: Stream, out: &mut [u8])
@@ -54,27 +39,26 @@ fn put_stream(s: Stream, out: &mut [u8])
     numbers::put_i32(s.reading, &mut out[5..]);
 }
 
-fn put_streams(streams: [Stream; MAX_STREAMS], answer: &mut [u8])
-    requires { ⌜ length (now answer) ≡ 2048 ⌝ }
+fn put_streams(streams: [Stream; MAX_STREAMS], out: &mut [u8])
+    requires { ⌜ length (now out) ≡ 864 ⌝ }
 {
     let mut i: usize = 0;
     while i < MAX_STREAMS {
         let s = streams[i];
-        put_stream(s, &mut answer[3 + 9 * i..]);
+        put_stream(s, &mut out[9 * i..]);
         i += 1;
     }
 }
 
-fn reader(given: &[u8], answer: &mut [u8])
-    requires { ⌜ length (now answer) ≡ 2048 ⌝ }
-{
+fn reader(given: &[u8], out: &mut [u8]) -> Sheet {
+    if out.len() != 864 {
+        return done(NO_CASE, 0, 0);
+    }
     let read = plants::read_plant(given);
     let p = read.plant;
     let streams = p.streams;
-    numbers::put_u8(read.number, answer);
-    numbers::put_u8(p.units, &mut answer[1..]);
-    numbers::put_u8(p.count, &mut answer[2..]);
-    put_streams(streams, answer);
+    put_streams(streams, out);
+    done(read.number, p.units as usize, p.count as u32)
 }
 
 fn stream_of(part: &[u8]) -> Stream
@@ -92,77 +76,69 @@ fn stream_of(part: &[u8]) -> Stream
 }
 
 fn plant_of(given: &[u8]) -> Plant
-    requires { ⌜ length (now given) ≡ 868 ⌝ }
+    requires { ⌜ length (now given) ≡ 866 ⌝ }
 {
-    let first = stream_of(&given[4..]);
+    let first = stream_of(&given[2..]);
     let mut streams = [first; MAX_STREAMS];
     let mut i: usize = 0;
     while i < MAX_STREAMS {
-        let s = stream_of(&given[4 + 9 * i..]);
+        let s = stream_of(&given[2 + 9 * i..]);
         streams[i] = s;
         i += 1;
     }
     Plant {
-        units: given[2],
-        count: given[3],
+        units: given[0],
+        count: given[1],
         streams: streams,
     }
 }
 
-fn writer(given: &[u8], answer: &mut [u8])
-    requires { ⌜ length (now answer) ≡ 2048 ⌝ }
-{
-    if given.len() != 868 {
-        return;
+fn writer(given: &[u8], out: &mut [u8]) -> Sheet {
+    if given.len() != 866 {
+        return done(NO_CASE, 0, 0);
     }
-    let room = numbers::get_u16(given) as usize;
-    if MOST_SLICE < room {
-        return;
-    }
-    let done = plants::write_plant(plant_of(given), &mut answer[SLICE..SLICE + room]);
-    numbers::put_u8(done.number, answer);
-    numbers::put_u64(done.written as u64, &mut answer[1..]);
+    let d = plants::write_plant(plant_of(given), out);
+    done(d.number, d.written, 0)
 }
 
-fn put_flows(flows: [u64; MAX_STREAMS], asked: &[u8], answer: &mut [u8])
-    requires { ⌜ (96 ≤ length (now asked)) × (length (now answer) ≡ 2048) ⌝ }
+fn put_flows(flows: [u64; MAX_STREAMS], asked: &[u8], out: &mut [u8])
+    requires { ⌜ (96 ≤ length (now asked)) × (length (now out) ≡ 768) ⌝ }
 {
     let mut i: usize = 0;
     while i < MAX_STREAMS {
         let held = if asked[i] == 0 { FLOW_SHIFT } else { flows[i] };
         let flow = std::num::wrapping_sub_u64(held, FLOW_SHIFT);
-        numbers::put_u64(flow, &mut answer[8 + 8 * i..]);
+        numbers::put_u64(flow, &mut out[8 * i..]);
         i += 1;
     }
 }
 
-fn unhinted(given: &[u8], answer: &mut [u8])
-    requires { ⌜ length (now answer) ≡ 2048 ⌝ }
-{
+fn unhinted(given: &[u8], out: &mut [u8]) -> Sheet {
     if given.len() < MAX_STREAMS {
-        return;
+        return done(NO_CASE, 0, 0);
+    }
+    if out.len() != 768 {
+        return done(NO_CASE, 0, 0);
     }
     let read = plants::read_plant(&given[MAX_STREAMS..]);
     let number = read.number;
-    numbers::put_u8(number, answer);
     if number != 0 {
-        return;
+        return done(number, 0, 0);
     }
     let p = read.plant;
     let solved = solver::solve_from(p, solver::hints::no_hint());
     let flows = solved.flows;
-    put_flows(flows, given, answer);
+    put_flows(flows, given, out);
+    done(0, 0, 0)
 }
 
-// The answer to the call of this number.
-pub fn call(which: u8, given: &[u8], answer: &mut [u8])
-    requires { ⌜ length (now answer) ≡ 2048 ⌝ }
-{
-    match which {
-        1 => sheet(given, answer),
-        2 => reader(given, answer),
-        3 => writer(given, answer),
-        4 => unhinted(given, answer),
-        _ => {}
+// The call of this kind.
+pub fn call(kind: u8, number: u32, given: &[u8], out: &mut [u8]) -> Sheet {
+    match kind {
+        1 => sheets::balance_plant(given, number, out),
+        2 => reader(given, out),
+        3 => writer(given, out),
+        4 => unhinted(given, out),
+        _ => done(NO_CASE, 0, 0),
     }
 }

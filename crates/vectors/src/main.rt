@@ -1,4 +1,4 @@
-// Calls on the cases of data files, each answer compared with what a separate reference solver gave.
+// Calls on the cases of files, each answer compared with what a separate reference solver gave.
 mod calls;
 mod cases;
 
@@ -15,10 +15,12 @@ fn print_count(text: &[u8], count: u64) {
     io::print_decimal(STDOUT_FILENO, count);
 }
 
-// Tries the cases of a file, names those that differ, and counts. A file that cannot be opened has none.
-fn try_file(name: &[u8]) {
-    io::write_all(STDOUT_FILENO, name);
-    let file = os::open_read(name);
+// Tries the cases of the file that argument i names, says which differ, and counts. A file that cannot be opened has none.
+fn try_file(i: usize) {
+    let mut name = [0u8; 64];
+    let size = os::arg(i, &mut name);
+    io::write_all(STDOUT_FILENO, &name[0..size]);
+    let file = os::open_read(&name[0..size]);
     let mut cases: u64 = 0;
     let mut right: u64 = 0;
     while cases < MOST_CASES {
@@ -39,20 +41,12 @@ fn try_file(name: &[u8]) {
     io::write_all(STDOUT_FILENO, b"\n");
 }
 
+// The files of cases are the arguments.
 fn main() {
-    try_file(b"plants.bin");
-    try_file(b"ties.bin");
-    try_file(b"sites.bin");
-    try_file(b"sizes.bin");
-    try_file(b"shapes.bin");
-    try_file(b"loops.bin");
-    try_file(b"verdicts.bin");
-    try_file(b"limits.bin");
-    try_file(b"damaged.bin");
-    try_file(b"calls.bin");
-    try_file(b"classes.bin");
-    try_file(b"flows.bin");
-    try_file(b"reader.bin");
-    try_file(b"writer.bin");
-    try_file(b"unhinted.bin");
+    let count = os::arg_count();
+    let mut i: usize = 1;
+    while i < count {
+        try_file(i);
+        i += 1;
+    }
 }

@@ -1,16 +1,41 @@
+-- The measure is how many cases there may still be.
 use borrow.Author.Needs.{needs}
 use Prim.Native.Nat.{_≤_, _-_}
 use Rattle.vectors.proofs.try_file.Statement.{statement}
 use Rattle.vectors.proofs.try_file.Tie as tie
 
 abbrev Inv-loop : tie.InvT-loop
-Inv-loop name file cases₀ right₀ t6 t7 t8 t9 cases right = (right ≤ cases) × (cases ≤ 10000)
+Inv-loop i size file cases₀ right₀ t8 t9 t10 t11 cases right = (right ≤ cases) × (cases ≤ 10000)
 
 abbrev μ-loop : tie.MeasureT-loop
-μ-loop name file cases₀ right₀ t6 t7 t8 t9 cases right = 10000 - cases
+μ-loop i size file cases₀ right₀ t8 t9 t10 t11 cases right = 10000 - cases
+
+slice-aggregate-arg : tie.Need-slice-aggregate-arg Inv-loop μ-loop
+slice-aggregate-arg c = search needs
+
+arg-requires : tie.Need-arg-requires Inv-loop μ-loop
+arg-requires c κs = search needs
+
+sub-write-all : tie.Need-sub-write-all Inv-loop μ-loop
+sub-write-all c = search needs
+
+part-write-all-start : tie.Need-part-write-all-start Inv-loop μ-loop
+part-write-all-start c = search needs
+
+part-write-all-end : tie.Need-part-write-all-end Inv-loop μ-loop
+part-write-all-end c = search needs
 
 write-all-requires : tie.Need-write-all-requires Inv-loop μ-loop
 write-all-requires c κs = search needs
+
+sub-open-read : tie.Need-sub-open-read Inv-loop μ-loop
+sub-open-read c = search needs
+
+part-open-read-start : tie.Need-part-open-read-start Inv-loop μ-loop
+part-open-read-start c = search needs
+
+part-open-read-end : tie.Need-part-open-read-end Inv-loop μ-loop
+part-open-read-end c = search needs
 
 open-read-requires : tie.Need-open-read-requires Inv-loop μ-loop
 open-read-requires c κs = search needs
@@ -75,7 +100,15 @@ try-file-spec =
     (tie.spec
     Inv-loop
     μ-loop
+    slice-aggregate-arg
+    arg-requires
+    sub-write-all
+    part-write-all-start
+    part-write-all-end
     write-all-requires
+    sub-open-read
+    part-open-read-start
+    part-open-read-end
     open-read-requires
     loop-holds
     try-next-requires

@@ -1,3 +1,4 @@
+-- The index stays within the array and the bytes handed in.
 use borrow.Author.Needs.{needs}
 use Prim.Native.Nat.{_≤_, _-_}
 use mathlib.Core.Path.{_≡_}

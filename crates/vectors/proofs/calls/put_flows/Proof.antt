@@ -1,3 +1,4 @@
+-- Each turn lends the rest from its flow on.
 use borrow.Author.Needs.{needs}
 use mathlib.Core.Path.{_≡_}
 use Prim.Native.Nat.{_≤_, _-_}
@@ -6,10 +7,10 @@ use Rattle.vectors.proofs.calls.put_flows.Statement.{statement}
 use Rattle.vectors.proofs.calls.put_flows.Tie as tie
 
 abbrev Inv-loop : tie.InvT-loop
-Inv-loop asked answer₀ flows i₀ answer i = (i ≤ 96) × (length answer ≡ 2048)
+Inv-loop asked out₀ flows i₀ out i = (i ≤ 96) × (length out ≡ 768)
 
 abbrev μ-loop : tie.MeasureT-loop
-μ-loop asked answer₀ flows i₀ answer i = 96 - i
+μ-loop asked out₀ flows i₀ out i = 96 - i
 
 loop-holds : tie.Need-loop-holds Inv-loop μ-loop
 loop-holds c = search needs
@@ -28,9 +29,6 @@ wrapping-sub-u64-requires c κs = search needs
 
 mul-put-u64 : tie.Need-mul-put-u64 Inv-loop μ-loop
 mul-put-u64 c = search needs
-
-add-put-u64 : tie.Need-add-put-u64 Inv-loop μ-loop
-add-put-u64 c = search needs
 
 sub-put-u64 : tie.Need-sub-put-u64 Inv-loop μ-loop
 sub-put-u64 c = search needs
@@ -71,7 +69,6 @@ put-flows-spec =
     array-read-held
     wrapping-sub-u64-requires
     mul-put-u64
-    add-put-u64
     sub-put-u64
     part-put-u64-start
     part-put-u64-end

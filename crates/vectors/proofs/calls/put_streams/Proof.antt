@@ -1,3 +1,4 @@
+-- Each turn lends the rest from its record on.
 use borrow.Author.Needs.{needs}
 use Prim.Native.Nat.{_≤_, _-_}
 use mathlib.Core.Path.{_≡_}
@@ -6,10 +7,10 @@ use Rattle.vectors.proofs.calls.put_streams.Statement.{statement}
 use Rattle.vectors.proofs.calls.put_streams.Tie as tie
 
 abbrev Inv-loop : tie.InvT-loop
-Inv-loop answer₀ streams i₀ answer i = (i ≤ 96) × (length answer ≡ 2048)
+Inv-loop out₀ streams i₀ out i = (i ≤ 96) × (length out ≡ 864)
 
 abbrev μ-loop : tie.MeasureT-loop
-μ-loop answer₀ streams i₀ answer i = 96 - i
+μ-loop out₀ streams i₀ out i = 96 - i
 
 loop-holds : tie.Need-loop-holds Inv-loop μ-loop
 loop-holds c = search needs
@@ -22,9 +23,6 @@ array-copy-out-s c = search needs
 
 mul-put-stream : tie.Need-mul-put-stream Inv-loop μ-loop
 mul-put-stream c = search needs
-
-add-put-stream : tie.Need-add-put-stream Inv-loop μ-loop
-add-put-stream c = search needs
 
 sub-put-stream : tie.Need-sub-put-stream Inv-loop μ-loop
 sub-put-stream c = search needs
@@ -63,7 +61,6 @@ put-streams-spec =
     mul-s
     array-copy-out-s
     mul-put-stream
-    add-put-stream
     sub-put-stream
     part-put-stream-start
     part-put-stream-end
