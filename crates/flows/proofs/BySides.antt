@@ -21,12 +21,13 @@ use Rattle.plants.specs.Says.{plantOf}
 use Rattle.plants.proofs.Arrayed.{all-listed, listed-at}
 use Rattle.flows.specs.declared.Class.the-variants.{Adjusted, AsRead, Given, Withheld}
 use Rattle.flows.specs.Flows.{streamAt}
-use Rattle.flows.specs.Classes.{has, joinedTo, unmeteredOnly, unmeteredBut, classOf}
+use Rattle.flows.specs.Classes.{has, joinedTo, unmeteredBut, classOf}
+use Rattle.flows.specs.Chains.{unmeteredOnly, Chain}
 use Rattle.flows.specs.Labels.{relabelled, stepped, labelsAfter, oneLabel}
 use Rattle.flows.specs.Sides.{bit, apart, takenBy, loopedBy, turned, parted, takenAt, sidesAfter, loopedAfter}
 use Rattle.flows.specs.declared.Cuts.{Cuts}
 use Rattle.flows.specs.Calls.{Cutting, classIn}
-use Rattle.flows.proofs.Reach.{Inside, Chain, joined→chain, chain→joined}
+use Rattle.flows.proofs.Reach.{Inside, joined→chain, chain→joined}
 use Rattle.flows.proofs.Labels.{min-max, stepped-none, stepped-one, labelling, label→chain}
 use Rattle.flows.proofs.Lists.{values-long, values-at, Written, written-all}
 use Rattle.flows.proofs.Nets.{inside-of}

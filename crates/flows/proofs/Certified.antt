@@ -14,7 +14,7 @@ use Rattle.plants.specs.declared.Stream.{Stream}
 use Rattle.plants.specs.Plants.{Plant, plantFault}
 use Rattle.plants.proofs.Limited.{within}
 use Rattle.flows.specs.Flows.{amountAt, allowed, Cheapest}
-use Rattle.flows.specs.Certificate.{climb, lowest, highest, priced, every, listedPrice, certified}
+use Rattle.flows.specs.Certificate.{climb, leastClimb, mostClimb, priced, every, listedPrice, certified}
 use Rattle.flows.proofs.Integers.{leZ-le, ltZ-lt}
 use Rattle.flows.proofs.Prices.{StepAt}
 use Rattle.flows.proofs.Ties.{slack, stays-cheapest}
@@ -30,8 +30,8 @@ every-at (suc n) test e k l = elim (ℕ-discrete k n) [
 -- What the test of prices says.
 priced-says : (π : ℕ → ℤ) (s : Stream) (x : ℤ) → priced π s x ≡ true → StepAt 1 π s x
 priced-says π s x e = record {
-  low = leZ-le (lowest s x) (climb π s) (and-left (leZ (lowest s x) (climb π s)) _ e);
-  high = leZ-le (climb π s) (highest s x) (and-right (leZ (lowest s x) (climb π s)) _ e);
+  low = leZ-le (leastClimb s x) (climb π s) (and-left (leZ (leastClimb s x) (climb π s)) _ e);
+  high = leZ-le (climb π s) (mostClimb s x) (and-right (leZ (leastClimb s x) (climb π s)) _ e);
 }
 
 -- A flow that passes the test is the cheapest.
@@ -43,7 +43,7 @@ certified-cheapest p xs prices e =
       steps = λ k l. priced-says π (s k) (amountAt xs k) (every-at n bounded (and-left (every n bounded) _ tests) k l);
     })
     (λ i l m. or-cases (not (s i .metered)) _ (every-at n kept (and-right (every n bounded) _ tests) i l) (λ z. clash (s i .metered) m (not-true _ z))
-    (λ t. slack (ltZ-lt (lowest (s i) (amountAt xs i)) (climb π (s i)) t)))
+    (λ t. slack (ltZ-lt (leastClimb (s i) (amountAt xs i)) (climb π (s i)) t)))
   where
     n : ℕ
     n = countOf p
@@ -58,7 +58,7 @@ certified-cheapest p xs prices e =
     bounded k = priced π (s k) (amountAt xs k)
 
     kept : ℕ → Bool
-    kept i = not (s i .metered) || ltZ (lowest (s i) (amountAt xs i)) (climb π (s i))
+    kept i = not (s i .metered) || ltZ (leastClimb (s i) (amountAt xs i)) (climb π (s i))
 
     rest : allowed p xs && (every n bounded && every n kept) ≡ true
     rest = and-right (eqb (plantFault p) 0) _ e

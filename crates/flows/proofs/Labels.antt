@@ -16,10 +16,11 @@ use Rattle.plants.specs.declared.Stream.{Stream}
 use Rattle.plants.specs.Limits.{maxUnits, places}
 use Rattle.plants.specs.Plants.{Plant}
 use Rattle.flows.specs.Flows.{streamAt}
-use Rattle.flows.specs.Classes.{has, Counting, joinedTo}
+use Rattle.flows.specs.Classes.{has, joinedTo}
+use Rattle.flows.specs.Chains.{Counting, Chain}
 use Rattle.flows.specs.Labels.{ownNumbers, renamed, relabelled, united, stepped, labelsAfter, labelsOf, oneLabel, firstOnly, One-pass}
 use Rattle.flows.proofs.Lists.{map-at, values-long, values-at, Written, written-all}
-use Rattle.flows.proofs.Reach.{Inside, Chain, chain-trans, chain-sym, chain-map, joined→chain, chain→joined}
+use Rattle.flows.proofs.Reach.{Inside, chain-trans, chain-sym, chain-map, joined→chain, chain→joined}
 
 -- A choice of one value.
 same-either : (b : Bool) (x : ℕ) → pick b x x ≡ x

@@ -6,6 +6,7 @@ pub mod Nets
 pub mod Routes
 pub mod Given
 pub mod Withheld
+pub mod Chained
 pub mod Steps
 pub mod Prices
 pub mod Nearness
@@ -15,6 +16,7 @@ pub mod Certified
 pub mod Lists
 pub mod Labels
 pub mod Degrees
+pub mod Counted
 pub mod ByLabels
 pub mod Binary
 pub mod Parted

@@ -17,7 +17,8 @@ use Rattle.plants.specs.declared.Plant as Arrays
 use Rattle.plants.specs.Within.{Within, Accepted}
 use Rattle.plants.specs.Says.{plantOf}
 use Rattle.plants.proofs.Arrayed.{within-of}
-use Rattle.flows.specs.Flows.{streamAt, amountAt, values, netAt, balancedTo, balanced}
+use Rattle.flows.specs.Flows.{streamAt, amountAt, netAt, balancedTo, balanced}
+use Rattle.numbers.specs.Inner.{values}
 use Rattle.flows.specs.Classes.{has, sideOut}
 pub use Rattle.flows.specs.Nets.{brought, netOf}
 use Rattle.flows.specs.Certificate.{climb}

@@ -13,7 +13,8 @@ use Rattle.numbers.proofs.Tests.{by-cases, clash, and-left, and-right, or-left,
 use Rattle.plants.specs.declared.Stream.{Stream}
 use Rattle.plants.specs.Plants.{Plant}
 use Rattle.flows.specs.Flows.{streamAt}
-use Rattle.flows.specs.Classes.{has, including, Counting, spread, rounds, joinedTo}
+use Rattle.flows.specs.Classes.{has, including, spread, rounds, joinedTo}
+use Rattle.flows.specs.Chains.{Counting, Chain, stop, along, back}
 
 -- Every stream's ends are among the places 0 to n.
 abbrev pub Inside : ℕ → List Stream → Type 0
@@ -157,12 +158,7 @@ module _ (counts : Counting) where
   pub joined-self : (p : Plant) (u : ℕ) → has u (joinedTo counts p u) ≡ true
   joined-self p u = rounds-keep (suc (p .units)) (p .streams) (u ∷ []) u (has-first u [])
 
--- A chain of streams that count from u to a place, each followed in either direction.
-pub data Chain (counts : Counting) (ss : List Stream) (u : ℕ) : ℕ → Type 0 where
-  stop : Chain counts ss u u
-  along : (k : ℕ) → k < length ss → counts k (streamAt ss k) ≡ true → Chain counts ss u (streamAt ss k .from) → Chain counts ss u (streamAt ss k .to)
-  back : (k : ℕ) → k < length ss → counts k (streamAt ss k) ≡ true → Chain counts ss u (streamAt ss k .to) → Chain counts ss u (streamAt ss k .from)
-
+-- Chains one after the other, and followed back.
 pub chain-trans : {counts : Counting} {ss : List Stream} {u v w : ℕ} → Chain counts ss u v → Chain counts ss v w → Chain counts ss u w
 chain-trans c stop = c
 chain-trans c (along k l h d) = along k l h (chain-trans c d)

@@ -12,11 +12,10 @@ use Rattle.numbers.specs.Choice.{pick}
 use Rattle.numbers.proofs.Tests.{clash}
 use Rattle.plants.specs.declared.Stream.{Stream}
 use Rattle.flows.specs.Flows.{streamAt}
-use Rattle.flows.specs.Classes.{Counting}
+use Rattle.flows.specs.Chains.{Counting, Chain}
 use Rattle.flows.proofs.Integers.{canon, Z·diff, plus-four}
 use Rattle.flows.proofs.Sums.{sum-same, sum-none, sum-plus, sum-only}
 use Rattle.flows.proofs.Nets.{brought, netOf}
-use Rattle.flows.proofs.Reach.{Chain}
 
 -- The amount t at one number, of a place or a stream, and nothing at any other.
 abbrev pub only : ℕ → ℤ → ℕ → ℤ

@@ -15,7 +15,7 @@ use Rattle.plants.specs.declared.Stream.{Stream}
 use Rattle.plants.specs.Plants.{Plant}
 use Rattle.plants.specs.Within.{Within}
 use Rattle.flows.specs.Flows.{streamAt, amountAt, allowed, cost, Cheapest}
-use Rattle.flows.specs.Certificate.{weightOf, climb, lower, upper, lowest, highest}
+use Rattle.flows.specs.Certificate.{weightOf, climb, lower, upper, leastClimb, mostClimb}
 use Rattle.flows.proofs.Integers.{Le, Lt, Le-unless, val, plus-val, minus-val, up-neg, dn-neg}
 use Rattle.flows.proofs.Sums.{sum-tight}
 use Rattle.flows.proofs.Nets.{countOf, streamOf, crossing, no-crossing, balanced-size}
@@ -25,10 +25,10 @@ use Rattle.flows.proofs.Order.{AgreeTo, LeadsTo, in-order}
 
 -- A stream that cannot carry less, or more, at no cost.
 abbrev pub NoLess : (ℕ → ℤ) → Stream → ℤ → Type 0
-NoLess π s x = Lt (lowest s x) (climb π s)
+NoLess π s x = Lt (leastClimb s x) (climb π s)
 
 abbrev pub NoMore : (ℕ → ℤ) → Stream → ℤ → Type 0
-NoMore π s x = Lt (climb π s) (highest s x)
+NoMore π s x = Lt (climb π s) (mostClimb s x)
 
 -- Stream k brings nothing more out of a set of places at no cost.
 pub record Shut (c : ℕ → Bool) (π : ℕ → ℤ) (s : Stream) (x : ℤ) : Type 0 where
@@ -91,7 +91,7 @@ module _ (p : Plant) (w : Within p) (π : ℕ → ℤ) (xs : List ℤ) (c : Cert
   tied-at : (k : ℕ) → k < countOf p → s k .metered ≡ true → Tied (weightOf (s k)) (x k -ℤ s k .reading) (y k -ℤ s k .reading) (climb π (s k))
   tied-at k l m = ties p w π xs c ys b h k l (rw m (w .each k l .weighed m))
 
-  free-at : (k : ℕ) → k < countOf p → s k .metered ≡ false → (lowest (s k) (x k) ≡ climb π (s k)) × (highest (s k) (x k) ≡ climb π (s k))
+  free-at : (k : ℕ) → k < countOf p → s k .metered ≡ false → (leastClimb (s k) (x k) ≡ climb π (s k)) × (mostClimb (s k) (x k) ≡ climb π (s k))
   free-at k l m = free-bounds (weightOf (s k)) (x k -ℤ s k .reading) (climb π (s k)) (rw m) (c .steps k l)
 
   no-less-at : (k : ℕ) → k < countOf p → NoLess π (s k) (x k) → Le (x k) (y k)

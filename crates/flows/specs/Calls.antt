@@ -14,8 +14,9 @@ use Rattle.flows.specs.declared.Class.the-variants.{AsRead, Adjusted, Gi
 use Rattle.flows.specs.declared.Cuts.{Cuts}
 use Rattle.flows.specs.declared.Which.{Which}
 use Rattle.flows.specs.declared.Which.the-variants.{Every, Unmetered}
-use Rattle.flows.specs.Flows.{values}
-use Rattle.flows.specs.Classes.{Counting, everyStream, unmeteredOnly, classOf}
+use Rattle.numbers.specs.Inner.{values}
+use Rattle.flows.specs.Classes.{classOf}
+use Rattle.flows.specs.Chains.{Counting, everyStream, unmeteredOnly}
 use Rattle.flows.specs.Labels.{labelsOf, oneLabel}
 use Rattle.flows.specs.Sides.{bit, takenAt, loopedAfter}
 

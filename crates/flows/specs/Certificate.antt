@@ -27,15 +27,15 @@ abbrev pub upper : ℕ → ℕ → ℤ → ℤ
 upper Δ w d = pos w *ℤ (pos 2 *ℤ d +ℤ pos Δ)
 
 -- The same of a stream that carries x, at step 1.
-abbrev pub lowest : Stream → ℤ → ℤ
-lowest s x = lower 1 (weightOf s) (x -ℤ s .reading)
+abbrev pub leastClimb : Stream → ℤ → ℤ
+leastClimb s x = lower 1 (weightOf s) (x -ℤ s .reading)
 
-abbrev pub highest : Stream → ℤ → ℤ
-highest s x = upper 1 (weightOf s) (x -ℤ s .reading)
+abbrev pub mostClimb : Stream → ℤ → ℤ
+mostClimb s x = upper 1 (weightOf s) (x -ℤ s .reading)
 
 -- The prices at a stream's ends are within its bounds: neither less nor more on it would lower the cost.
 abbrev pub priced : (ℕ → ℤ) → Stream → ℤ → Bool
-priced π s x = leZ (lowest s x) (climb π s) && leZ (climb π s) (highest s x)
+priced π s x = leZ (leastClimb s x) (climb π s) && leZ (climb π s) (mostClimb s x)
 
 -- A test of each number below n.
 abbrev pub every : ℕ → (ℕ → Bool) → Bool
@@ -54,4 +54,4 @@ certified p xs prices =
     eqb (plantFault p) 0
     && (allowed p xs
     && (every m (λ k. priced π (streamAt (p .streams) k) (amountAt xs k))
-    && every m (λ k. let s = streamAt (p .streams) k in not (s .metered) || ltZ (lowest s (amountAt xs k)) (climb π s))))
+    && every m (λ k. let s = streamAt (p .streams) k in not (s .metered) || ltZ (leastClimb s (amountAt xs k)) (climb π s))))

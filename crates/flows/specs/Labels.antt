@@ -10,8 +10,10 @@ use Rattle.numbers.specs.Choice.{pick}
 use Rattle.plants.specs.declared.Stream.{Stream}
 use Rattle.plants.specs.Limits.{places}
 use Rattle.plants.specs.Plants.{Plant}
-use Rattle.flows.specs.Flows.{streamAt, values}
-use Rattle.flows.specs.Classes.{has, Counting, joinedTo}
+use Rattle.flows.specs.Flows.{streamAt}
+use Rattle.numbers.specs.Inner.{values}
+use Rattle.flows.specs.Classes.{has, joinedTo}
+use Rattle.flows.specs.Chains.{Counting}
 
 -- Each place's own number.
 abbrev pub ownNumbers : List ℕ

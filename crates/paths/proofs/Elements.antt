@@ -18,7 +18,7 @@ use Rattle.paths.specs.Push.{movedOf}
 use Rattle.paths.specs.Premises.{Placed, Prices, Roomy}
 use Rattle.flows.proofs.Lists.{Written}
 
--- The prices of labelled places lowered.
+-- The prices of visited places lowered.
 pub lowered-at : (ls : List Bool) (g : ℕ) (ps : List ℕ) (k : ℕ) → getD (loweredBy ls g ps) k 0 ≡ fallen (getD ls k false) g (getD ps k 0)
 unfolding loweredBy
 lowered-at [] g ps k = refl

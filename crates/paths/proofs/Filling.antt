@@ -20,7 +20,7 @@ use Rattle.paths.specs.Near.{gapsOf, codeOf, lessened, relaxedAlong, rel
 use Rattle.paths.specs.Rows.{countOf, startsOf, endsOf, weightsOf, pullsOf}
 use Rattle.paths.specs.Premises.{Network, Rowed}
 
--- The prices of labelled places reduced.
+-- The prices of visited places reduced.
 pub reduced-at : (ls : List Bool) (ks : List ℕ) (k : ℕ) (ps : List ℕ) (u : ℕ)
     → getD (reducedBy ls ks k ps) u 0 ≡ fallen (getD ls u false) (k - getD ks u 0) (getD ps u 0)
 unfolding reducedBy

@@ -19,7 +19,7 @@ use Rattle.flows.specs.Flows.{streamAt}
 use Rattle.flows.specs.Certificate.{weightOf}
 use Rattle.paths.specs.declared.Tree.{Tree}
 use Rattle.paths.specs.declared.Walked.{Walked}
-use Rattle.paths.specs.Sizes.{netShift, numbering, farthest, far, mostFall, mostStep, rounds}
+use Rattle.paths.specs.Sizes.{netShift, numbering, farthest, far, mostFall, mostStep, searchRounds}
 use Rattle.paths.specs.Held.{AllHeld}
 use Rattle.paths.specs.Slack.{At, Nothing, leastTo, slackBy, slackAt, slackPast}
 use Rattle.paths.specs.Search.{fallen, loweredBy, farEnd, rootAt, addedTo, Grown, grownBy, grow}
@@ -140,7 +140,7 @@ zeros (suc m) (suc u) = zeros m u
 
 -- The first place: nothing was looked at yet.
 pub root-nears : (n : ℕ) (fs ts gs bs : List ℕ) (s : ℕ) → s < places → ((k : ℕ) (f : Bool) → k < n → tailOf n fs ts gs bs k f < places)
-    → Nears n fs ts gs bs (rootAt s .labelled) (replicate places 0) 0 s n (replicate places far)
+    → Nears n fs ts gs bs (rootAt s .visited) (replicate places 0) 0 s n (replicate places far)
 root-nears n fs ts gs bs s l tails = record {
   long = refl;
   least = λ k f b t o q. absurd (omega (arith, o (only (tailOf n fs ts gs bs k f) (tails k f b) t)));
@@ -151,7 +151,7 @@ root-nears n fs ts gs bs s l tails = record {
     only : (v : ℕ) → v < places → getD (set (replicate places false) s true) v false ≡ true → v ≡ s
     only v b t = elim (ℕ-discrete v s) [ yes q ↦ q | no q ↦ clash _ t (getD-set-other (replicate places false) s v true false q ∙ getD-replicate places v false false b) ]
 
--- The search, from a labelled place e at distance k.
+-- The search, from a visited place e at distance k.
 module _ (streams : List Stream) (n : ℕ) (xs ps : List ℕ) (d : ℕ) (one : 1 ≤ d) (fs ts gs bs : List ℕ) (laid : Slacked streams n xs ps d 0 fs ts gs bs) (floor : (u : ℕ) → u < places → mostFall d ≤ getD ps u 0) (es : List ℕ) where
   abbrev ss : List Stream
   ss = take n streams
@@ -163,10 +163,10 @@ module _ (streams : List Stream) (n : ℕ) (xs ps : List ℕ) (d : ℕ) (one : 1
   ends = laid .ends
 
   pub record Going (l k e : ℕ) (ks near : List ℕ) (t : Tree) : Type 0 where
-    pub nears : Nears n fs ts gs bs (t .labelled) ks (k * numbering) e n near
-    pub marked : getD (t .labelled) e false ≡ true
+    pub nears : Nears n fs ts gs bs (t .visited) ks (k * numbering) e n near
+    pub marked : getD (t .visited) e false ≡ true
     pub at : getD ks e 0 ≡ k
-    pub labels : length (t .labelled) ≡ places
+    pub visits : length (t .visited) ≡ places
     pub dists : length ks ≡ places
     pub close : (u : ℕ) → getD ks u 0 ≤ k
     pub room : k + 2 * maxWeight * d * l ≤ mostFall d
@@ -201,45 +201,45 @@ module _ (streams : List Stream) (n : ℕ) (xs ps : List ℕ) (d : ℕ) (one : 1
   -- One round.
   module _ (l k e : ℕ) (ks near : List ℕ) (t : Tree) (g : Going (suc l) k e ks near t) where
     abbrev codes : List ℕ
-    codes = relaxedTo fs ts gs bs (t .labelled) k e n near
+    codes = relaxedTo fs ts gs bs (t .visited) k e n near
 
     abbrev r : ℕ
     r = nearestTo codes places
 
     abbrev qs : List ℕ
-    qs = reducedBy (t .labelled) ks k ps
+    qs = reducedBy (t .visited) ks k ps
 
     abbrev j : ℕ
     j = getD codes r 0 / numbering
 
-    full : Nears n fs ts gs bs (t .labelled) ks (k * numbering) e 0 codes
+    full : Nears n fs ts gs bs (t .visited) ks (k * numbering) e 0 codes
     full =
-        relaxed-good n fs ts gs bs (t .labelled) ks (k * numbering) e (heads streams n xs ps d 0 fs ts gs bs laid) (g .marked) k (g .at) (omega arith) n near
+        relaxed-good n fs ts gs bs (t .visited) ks (k * numbering) e (heads streams n xs ps d 0 fs ts gs bs laid) (g .marked) k (g .at) (omega arith) n near
         (omega arith) (g .nears)
 
     over-small : (i : ℕ) (f : Bool) → i < n → overOf n fs ts gs bs ks i f ≤ k + 2 * maxWeight * d
     over-small i f l = omega (arith, g .close (tailOf n fs ts gs bs i f), slack-small streams n xs ps d 0 fs ts gs bs laid one i f l)
 
-    over-least : (i : ℕ) (f : Bool) → i < n → getD (t .labelled) (tailOf n fs ts gs bs i f) false ≡ true
-        → getD (t .labelled) (headOf n fs ts gs bs i f) false ≡ false → k ≤ overOf n fs ts gs bs ks i f
+    over-least : (i : ℕ) (f : Bool) → i < n → getD (t .visited) (tailOf n fs ts gs bs i f) false ≡ true
+        → getD (t .visited) (headOf n fs ts gs bs i f) false ≡ false → k ≤ overOf n fs ts gs bs ks i f
     over-least i f b y z =
         omega (arith, full .least i f b y (λ o. omega arith) z, full .above (headOf n fs ts gs bs i f) (heads streams n xs ps d 0 fs ts gs bs laid i f b), laid .network .few)
 
-    slack-is : (i : ℕ) (f : Bool) → i < n → getD (t .labelled) (tailOf n fs ts gs bs i f) false ≡ true
-        → getD (t .labelled) (headOf n fs ts gs bs i f) false ≡ false → slackAt ss xs qs d i f + k ≡ overOf n fs ts gs bs ks i f
-    slack-is i f b y z = now-slack (t .labelled) ks k i f b (omega (arith, g .room)) (g .close) y z (over-least i f b y z)
+    slack-is : (i : ℕ) (f : Bool) → i < n → getD (t .visited) (tailOf n fs ts gs bs i f) false ≡ true
+        → getD (t .visited) (headOf n fs ts gs bs i f) false ≡ false → slackAt ss xs qs d i f + k ≡ overOf n fs ts gs bs ks i f
+    slack-is i f b y z = now-slack (t .visited) ks k i f b (omega (arith, g .room)) (g .close) y z (over-least i f b y z)
 
-    none : r ≡ places → leastTo ss xs qs (t .labelled) d 0 n ≡ Nothing
-    none q = answers-same ss xs qs (t .labelled) d 0 n Nothing (λ i b u. agree i b (startIn ss (t .labelled) i) (endIn ss (t .labelled) i) refl refl)
+    none : r ≡ places → leastTo ss xs qs (t .visited) d 0 n ≡ Nothing
+    none q = answers-same ss xs qs (t .visited) d 0 n Nothing (λ i b u. agree i b (startIn ss (t .visited) i) (endIn ss (t .visited) i) refl refl)
       where
-        shut : (i : ℕ) → i < n → startIn ss (t .labelled) i ≡ not (endIn ss (t .labelled) i) → ⊥
+        shut : (i : ℕ) → i < n → startIn ss (t .visited) i ≡ not (endIn ss (t .visited) i) → ⊥
         shut i b c =
-            let o = leaving ss n fs ts gs bs starts ends (laid .network .few) (t .labelled) i b c in
-            none-leads ss n fs ts gs bs starts ends (laid .network .few) (heads streams n xs ps d 0 fs ts gs bs laid) (t .labelled) ks codes (k * numbering) e r full refl q i
-            (startIn ss (t .labelled) i) b (o .0) (o .1)
-            (omega (arith, over-small i (startIn ss (t .labelled) i) b, g .room, laid .step))
+            let o = leaving ss n fs ts gs bs starts ends (laid .network .few) (t .visited) i b c in
+            none-leads ss n fs ts gs bs starts ends (laid .network .few) (heads streams n xs ps d 0 fs ts gs bs laid) (t .visited) ks codes (k * numbering) e r full refl q i
+            (startIn ss (t .visited) i) b (o .0) (o .1)
+            (omega (arith, over-small i (startIn ss (t .visited) i) b, g .room, laid .step))
 
-        agree : (i : ℕ) → i < n → (a b : Bool) → startIn ss (t .labelled) i ≡ a → endIn ss (t .labelled) i ≡ b → a ≡ b
+        agree : (i : ℕ) → i < n → (a b : Bool) → startIn ss (t .visited) i ≡ a → endIn ss (t .visited) i ≡ b → a ≡ b
         agree i h true true p o = refl
         agree i h true false p o = absurd (shut i h (rw (p, o)))
         agree i h false true p o = absurd (shut i h (rw (p, o)))
@@ -247,8 +247,8 @@ module _ (streams : List Stream) (n : ℕ) (xs ps : List ℕ) (d : ℕ) (one : 1
 
     -- The nearest place is at the end of the stream of least slack.
     module _ (q : r ≡ places → ⊥) where
-      tells : Told ss n fs ts gs bs starts ends (laid .network .few) (t .labelled) ks codes r
-      tells = told ss n fs ts gs bs starts ends (laid .network .few) (heads streams n xs ps d 0 fs ts gs bs laid) (t .labelled) ks codes (k * numbering) e r full refl q
+      tells : Told ss n fs ts gs bs starts ends (laid .network .few) (t .visited) ks codes r
+      tells = told ss n fs ts gs bs starts ends (laid .network .few) (heads streams n xs ps d 0 fs ts gs bs laid) (t .visited) ks codes (k * numbering) e r full refl q
 
       abbrev i : ℕ
       i = tells .lead .stream
@@ -256,46 +256,46 @@ module _ (streams : List Stream) (n : ℕ) (xs ps : List ℕ) (d : ℕ) (one : 1
       abbrev f : Bool
       f = tells .lead .forwards
 
-      off : getD (t .labelled) (headOf n fs ts gs bs i f) false ≡ false
+      off : getD (t .visited) (headOf n fs ts gs bs i f) false ≡ false
       off = rw (tells .lead .head) (tells .lead .off)
 
-      on : (startIn ss (t .labelled) i ≡ not (endIn ss (t .labelled) i)) × (startIn ss (t .labelled) i ≡ f) × (farEnd (t .labelled) (streamAt ss i) ≡ headOf n fs ts gs bs i f)
-      on = leads-on ss n fs ts gs bs starts ends (laid .network .few) (t .labelled) i f (tells .lead .below) (tells .lead .tail) off
+      on : (startIn ss (t .visited) i ≡ not (endIn ss (t .visited) i)) × (startIn ss (t .visited) i ≡ f) × (farEnd (t .visited) (streamAt ss i) ≡ headOf n fs ts gs bs i f)
+      on = leads-on ss n fs ts gs bs starts ends (laid .network .few) (t .visited) i f (tells .lead .below) (tells .lead .tail) off
 
       further : k ≤ j
       further = omega (arith, over-least i f (tells .lead .below) (tells .lead .tail) off, tells .distance)
 
-      some : leastTo ss xs qs (t .labelled) d 0 n ≡ At i (j - k)
-      some = answers-same ss xs qs (t .labelled) d 0 n (At i (j - k)) (record {
+      some : leastTo ss xs qs (t .visited) d 0 n ≡ At i (j - k)
+      some = answers-same ss xs qs (t .visited) d 0 n (At i (j - k)) (record {
         below = tells .lead .below;
         usable = all-usable ss i;
         leaves = on .0;
         is = rw (on .1) (omega (arith, slack-is i f (tells .lead .below) (tells .lead .tail) off, tells .distance));
         least = λ m b u c.
-            let o = leaving ss n fs ts gs bs starts ends (laid .network .few) (t .labelled) m b c in
-            omega (arith, slack-is m (startIn ss (t .labelled) m) b (o .0) (o .1), tells .nearer m (startIn ss (t .labelled) m) b (o .0) (o .1) .0);
+            let o = leaving ss n fs ts gs bs starts ends (laid .network .few) (t .visited) m b c in
+            omega (arith, slack-is m (startIn ss (t .visited) m) b (o .0) (o .1), tells .nearer m (startIn ss (t .visited) m) b (o .0) (o .1) .0);
         first = λ m b u c h.
-            let o = leaving ss n fs ts gs bs starts ends (laid .network .few) (t .labelled) m b c in
-            tells .nearer m (startIn ss (t .labelled) m) b (o .0) (o .1) .1
-            (omega (arith, slack-is m (startIn ss (t .labelled) m) b (o .0) (o .1), h, further));
+            let o = leaving ss n fs ts gs bs starts ends (laid .network .few) (t .visited) m b c in
+            tells .nearer m (startIn ss (t .visited) m) b (o .0) (o .1) .1
+            (omega (arith, slack-is m (startIn ss (t .visited) m) b (o .0) (o .1), h, further));
       })
 
-      far-end : farEnd (t .labelled) (getD streams i noStream) ≡ r
-      far-end = ap (farEnd (t .labelled)) (sym (getD-take n streams i noStream (tells .lead .below))) ∙ on .2 ∙ tells .lead .head
+      far-end : farEnd (t .visited) (getD streams i noStream) ≡ r
+      far-end = ap (farEnd (t .visited)) (sym (getD-take n streams i noStream (tells .lead .below))) ∙ on .2 ∙ tells .lead .head
 
-      lowered : loweredBy (t .labelled) (j - k) qs ≡ reducedBy (set (t .labelled) r true) (set ks r j) j ps
-      lowered = reduced-next (t .labelled) ks ps k j r further (g .close) (rw (g .labels) (tells .within)) (rw (g .dists) (tells .within)) (tells .lead .off)
+      lowered : loweredBy (t .visited) (j - k) qs ≡ reducedBy (set (t .visited) r true) (set ks r j) j ps
+      lowered = reduced-next (t .visited) ks ps k j r further (g .close) (rw (g .visits) (tells .within)) (rw (g .dists) (tells .within)) (tells .lead .off)
 
       abbrev next : Tree
       next = addedTo t (getD codes r 0 % numbering) r
 
       going : Going l j r (set ks r j) (set codes r far) next
       going = record {
-        nears = next-good n fs ts gs bs (t .labelled) ks (set ks r j) (k * numbering) e codes r (j * numbering) full (tells .within) (g .labels) (tells .lead .off)
+        nears = next-good n fs ts gs bs (t .visited) ks (set ks r j) (k * numbering) e codes r (j * numbering) full (tells .within) (g .visits) (tells .lead .off)
             (λ u o. getD-set-other ks r u j 0 o) (omega (arith, small, laid .step)) (λ v b. omega (arith, least v b, div-add-mod (getD codes r 0) 128));
-        marked = getD-set-same (t .labelled) r true false (rw (g .labels) (tells .within));
+        marked = getD-set-same (t .visited) r true false (rw (g .visits) (tells .within));
         at = getD-set-same ks r j 0 (rw (g .dists) (tells .within));
-        labels = length-set (t .labelled) r true ∙ g .labels;
+        visits = length-set (t .visited) r true ∙ g .visits;
         dists = length-set ks r j ∙ g .dists;
         close = λ u. elim (ℕ-discrete u r) [
           | yes o ↦ rw (o, getD-set-same ks r j 0 (rw (g .dists) (tells .within))) (omega arith)
@@ -312,10 +312,10 @@ module _ (streams : List Stream) (n : ℕ) (xs ps : List ℕ) (d : ℕ) (one : 1
 
   -- What a walk comes to, as a search.
   abbrev grownOf : Walked → Grown
-  grownOf w = grownBy (w .found) (w .tree) (reducedBy (w .tree .labelled) (w .dist) (w .reach) ps)
+  grownOf w = grownBy (w .found) (w .tree) (reducedBy (w .tree .visited) (w .dist) (w .reach) ps)
 
   pub walk-grow : (l k e : ℕ) (ks near : List ℕ) (t : Tree) → Going l k e ks near t
-      → grow ss n xs es d l (reducedBy (t .labelled) ks k ps) t ≡ grownOf (walked fs ts gs bs n es far l k e ks near t)
+      → grow ss n xs es d l (reducedBy (t .visited) ks k ps) t ≡ grownOf (walked fs ts gs bs n es far l k e ks near t)
   walk-grow zero k e ks near t g = grow-end streams n xs es d _ t ∙ ap grownOf (sym (walk-end fs ts gs bs n es far k e ks near t))
   walk-grow (suc l) k e ks near t g = elim (ℕ-discrete (r l k e ks near t g) places) [
     | yes q ↦ grow-none streams n xs es d _ t (suc l) (omega arith) (none l k e ks near t g q)
@@ -335,16 +335,16 @@ module _ (streams : List Stream) (n : ℕ) (xs ps : List ℕ) (d : ℕ) (one : 1
       numbered q = sym (tells l k e ks near t g q .number)
 
       hit : (q : place ≡ places → ⊥) → getD es place 0 < netShift
-          → grow ss n xs es d (suc l) (reducedBy (t .labelled) ks k ps) t ≡ grownOf (walked fs ts gs bs n es far (suc l) k e ks near t)
+          → grow ss n xs es d (suc l) (reducedBy (t .visited) ks k ps) t ≡ grownOf (walked fs ts gs bs n es far (suc l) k e ks near t)
       hit q h =
           grow-hit streams n xs es d _ t (suc l) _ _ (omega arith) (tells l k e ks near t g q .lead .below) (some l k e ks near t g q) (rw (far-end l k e ks near t g q) h)
           ∙ rw (far-end l k e ks near t g q, lowered l k e ks near t g q, numbered q)
           (ap grownOf (sym (walk-hit fs ts gs bs n es far k e ks near t _ refl _ refl (suc l) (omega arith) q (limited q) h)))
 
       more : (q : place ≡ places → ⊥) → netShift ≤ getD es place 0
-          → (grow ss n xs es d l (reducedBy (next l k e ks near t g q .labelled) (set ks place (j l k e ks near t g)) (j l k e ks near t g) ps) (next l k e ks near t g q)
+          → (grow ss n xs es d l (reducedBy (next l k e ks near t g q .visited) (set ks place (j l k e ks near t g)) (j l k e ks near t g) ps) (next l k e ks near t g q)
           ≡ grownOf (walked fs ts gs bs n es far l (j l k e ks near t g) place (set ks place (j l k e ks near t g)) (set (codes l k e ks near t g) place far) (next l k e ks near t g q)))
-          → grow ss n xs es d (suc l) (reducedBy (t .labelled) ks k ps) t ≡ grownOf (walked fs ts gs bs n es far (suc l) k e ks near t)
+          → grow ss n xs es d (suc l) (reducedBy (t .visited) ks k ps) t ≡ grownOf (walked fs ts gs bs n es far (suc l) k e ks near t)
       more q h rest =
           let z : suc l - 1 ≡ l = omega arith in
           grow-more streams n xs es d _ t (suc l) _ _ (omega arith) (tells l k e ks near t g q .lead .below) (some l k e ks near t g q) (rw (far-end l k e ks near t g q) h)
@@ -354,14 +354,14 @@ module _ (streams : List Stream) (n : ℕ) (xs ps : List ℕ) (d : ℕ) (one : 1
 
   -- From the first place.
   pub search-walk : (s : ℕ) → s < places
-      → grow ss n xs es d rounds ps (rootAt s) ≡ grownOf (walked fs ts gs bs n es far rounds 0 s (replicate places 0) (replicate places far) (rootAt s))
+      → grow ss n xs es d searchRounds ps (rootAt s) ≡ grownOf (walked fs ts gs bs n es far searchRounds 0 s (replicate places 0) (replicate places far) (rootAt s))
   search-walk s l =
-      ap (λ (qs : List ℕ). grow ss n xs es d rounds qs (rootAt s)) (sym (reduced-none (rootAt s .labelled) (replicate places 0) ps))
-      ∙ walk-grow rounds 0 s (replicate places 0) (replicate places far) (rootAt s) (record {
+      ap (λ (qs : List ℕ). grow ss n xs es d searchRounds qs (rootAt s)) (sym (reduced-none (rootAt s .visited) (replicate places 0) ps))
+      ∙ walk-grow searchRounds 0 s (replicate places 0) (replicate places far) (rootAt s) (record {
         nears = root-nears n fs ts gs bs s l (tails streams n xs ps d 0 fs ts gs bs laid);
         marked = getD-set-same (replicate places false) s true false l;
         at = zeros places s;
-        labels = length-set (replicate places false) s true;
+        visits = length-set (replicate places false) s true;
         dists = refl;
         close = λ u. omega (arith, zeros places u);
         room = omega arith;
@@ -369,10 +369,10 @@ module _ (streams : List Stream) (n : ℕ) (xs ps : List ℕ) (d : ℕ) (one : 1
 
 -- Over the lanes.
 pub search-laid : (ls xs ps es : List ℕ) (d s : ℕ) → Falling ps d → s < places → (w : Searching ls xs ps d) → (r : Walked)
-    → r ≡ walked (startsOf ls) (endsOf ls) (gapsOf ls xs ps d 0 true) (gapsOf ls xs ps d 0 false) (countOf ls) es far rounds 0 s (replicate places 0) (replicate places far) (rootAt s)
-    → grownBy (r .found) (r .tree) (reducedBy (r .tree .labelled) (r .dist) (r .reach) ps) ≡ grow (take (w .n) (w .streams)) (w .n) xs es d rounds ps (rootAt s)
+    → r ≡ walked (startsOf ls) (endsOf ls) (gapsOf ls xs ps d 0 true) (gapsOf ls xs ps d 0 false) (countOf ls) es far searchRounds 0 s (replicate places 0) (replicate places far) (rootAt s)
+    → grownBy (r .found) (r .tree) (reducedBy (r .tree .visited) (r .dist) (r .reach) ps) ≡ grow (take (w .n) (w .streams)) (w .n) xs es d searchRounds ps (rootAt s)
 search-laid ls xs ps es d s floor l w r e =
-    ap (λ (v : Walked). grownBy (v .found) (v .tree) (reducedBy (v .tree .labelled) (v .dist) (v .reach) ps))
-    (e ∙ ap (λ (m : ℕ). walked (startsOf ls) (endsOf ls) (gapsOf ls xs ps d 0 true) (gapsOf ls xs ps d 0 false) m es far rounds 0 s (replicate places 0) (replicate places far) (rootAt s)) (w .laid .counted))
+    ap (λ (v : Walked). grownBy (v .found) (v .tree) (reducedBy (v .tree .visited) (v .dist) (v .reach) ps))
+    (e ∙ ap (λ (m : ℕ). walked (startsOf ls) (endsOf ls) (gapsOf ls xs ps d 0 true) (gapsOf ls xs ps d 0 false) m es far searchRounds 0 s (replicate places 0) (replicate places far) (rootAt s)) (w .laid .counted))
     ∙ sym
     (search-walk (w .streams) (w .n) xs ps d (w .walkable .some) (startsOf ls) (endsOf ls) _ _ (slacked (w .streams) (w .n) xs ps d 0 ls (w .laid) (w .walkable)) (floor .1) es s l)

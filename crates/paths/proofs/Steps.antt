@@ -17,7 +17,7 @@ use Rattle.paths.specs.Near.{relaxedTo, nearestTo, nearestWithin, walked
 use Rattle.paths.proofs.Filling.{getD-any}
 use Rattle.paths.proofs.Nearing.{nearest-is}
 
-module _ (fs ts gs bs : List ℕ) (n : ℕ) (es : List ℕ) (limit k e : ℕ) (ks near : List ℕ) (t : Tree) (codes : List ℕ) (is : codes ≡ relaxedTo fs ts gs bs (t .labelled) k e n near) (r : ℕ) (nearest : r ≡ nearestTo codes places) where
+module _ (fs ts gs bs : List ℕ) (n : ℕ) (es : List ℕ) (limit k e : ℕ) (ks near : List ℕ) (t : Tree) (codes : List ℕ) (is : codes ≡ relaxedTo fs ts gs bs (t .visited) k e n near) (r : ℕ) (nearest : r ≡ nearestTo codes places) where
   -- No stream leads on; the nearest place is too far; it has a negative net; or it has not.
   pub walk-none : (l : ℕ) → 0 < l → r ≡ places → walked fs ts gs bs n es limit l k e ks near t ≡ walkedBy false t ks k
   unfolding walked
@@ -55,7 +55,7 @@ within-is codes limit r long e q = by-cases (ltb limit (getD codes (nearestTo co
     (is, rw (getD-any codes r 0 far (rw long (nearest-is codes r long is q .0)), is) (ltb-false _ _ t)))
 
 pub walk-stop : (fs ts gs bs : List ℕ) (n : ℕ) (es : List ℕ) (limit k e : ℕ) (ks near : List ℕ) (t : Tree) (codes : List ℕ)
-    → codes ≡ relaxedTo fs ts gs bs (t .labelled) k e n near → length codes ≡ places → (r : ℕ) → r ≡ nearestWithin codes limit
+    → codes ≡ relaxedTo fs ts gs bs (t .visited) k e n near → length codes ≡ places → (r : ℕ) → r ≡ nearestWithin codes limit
     → (l : ℕ) → 0 < l → r ≡ places → walked fs ts gs bs n es limit l k e ks near t ≡ walkedBy false t ks k
 walk-stop fs ts gs bs n es limit k e ks near t codes is long r w l p q = elim (ℕ-discrete (nearestTo codes places) places) [
   | yes o ↦ walk-none fs ts gs bs n es limit k e ks near t codes is (nearestTo codes places) refl l p o

@@ -1,4 +1,4 @@
--- The search by distances: for each place that is not labelled, the stream by which the labelled places come nearest to it. A stream
+-- The search by distances: for each place that is not visited, the stream by which the visited places come nearest to it. A stream
 -- has two directions, forwards from its start to its end and backwards from its end to its start. In what follows fs are the starts
 -- of streams, ts their ends, gs the slacks forwards and bs backwards.
 use mathlib.Core.Bool.{Bool, true, false, _&&_, _||_}
@@ -8,7 +8,7 @@ use lib.Dec.{eqb, ltb}
 use lib.ListN.{getD, set, replicate}
 use Rattle.numbers.specs.Choice.{pick}
 use Rattle.plants.specs.Limits.{places, maxStreams}
-use Rattle.flows.specs.Flows.{values}
+use Rattle.numbers.specs.Inner.{values}
 use Rattle.paths.specs.declared.Tree.{Tree}
 use Rattle.paths.specs.declared.Walked.{Walked}
 use Rattle.paths.specs.Sizes.{netShift, far, numbering}
@@ -36,7 +36,7 @@ codeOf k i = k * numbering + i
 abbrev pub lessened : List ℕ → ℕ → ℕ → List ℕ
 lessened near v c = pick (ltb c (getD near v 0)) (set near v c) near
 
--- After stream i, of slack g, was looked at in the direction of place v, from a place at distance k; ls are the labels.
+-- After stream i, of slack g, was looked at in the direction of place v, from a place at distance k; ls tells which places are visited.
 unfoldable pub relaxedAlong : List Bool → ℕ → ℕ → ℕ → ℕ → List ℕ → List ℕ
 relaxedAlong ls k v g i near = pick (getD ls v false) near (lessened near v (codeOf (k + g) i))
 
@@ -60,7 +60,7 @@ nearestTo near (suc n) = let r = nearestTo near n in pick (ltb (getD near n far)
 abbrev pub nearestWithin : List ℕ → ℕ → ℕ
 nearestWithin near limit = pick (ltb limit (getD near (nearestTo near places) far / numbering)) places (nearestTo near places)
 
--- The prices when the search is at the distance k: a labelled place's has fallen by what k exceeds its own distance.
+-- The prices when the search is at the distance k: a visited place's has fallen by what k exceeds its own distance.
 unfoldable pub reducedBy : List Bool → List ℕ → ℕ → List ℕ → List ℕ
 reducedBy [] ks k ps = ps
 reducedBy (l ∷ ls) ks k [] = []
@@ -71,16 +71,16 @@ reducedBy (l ∷ ls) (j ∷ ks) k (p ∷ ps) = fallen l (k - j) p ∷ reducedBy 
 abbrev pub goalAt : ℕ → List ℕ
 goalAt v = set (replicate places netShift) v 0
 
--- What a walk comes to: whether it labelled a place that is looked for, its tree, the distances, and how far it came.
+-- What a walk comes to: whether it visited a place that is looked for, its tree, the distances, and how far it came.
 abbrev pub walkedBy : Bool → Tree → List ℕ → ℕ → Walked
 walkedBy b t ks k = record { found = b; tree = t; dist = ks; reach = k }
 
--- From place e, labelled last, at distance k: the nearest place is labelled, again and again, at most `fuel` times, until a place with a
+-- From place e, visited last, at distance k: the nearest place is visited, again and again, at most `fuel` times, until a place with a
 -- negative net is; es are the nets, and places at a distance above `limit` are left out.
 unfoldable pub walked : List ℕ → List ℕ → List ℕ → List ℕ → ℕ → List ℕ → ℕ → ℕ → ℕ → ℕ → List ℕ → List ℕ → Tree → Walked
 walked fs ts gs bs n es limit zero k e ks near t = walkedBy false t ks k
 walked fs ts gs bs n es limit (suc fuel) k e ks near t =
-    let codes = relaxedTo fs ts gs bs (t .labelled) k e n near in
+    let codes = relaxedTo fs ts gs bs (t .visited) k e n near in
     let r = nearestTo codes places in
     let j = getD codes r 0 / numbering in
     let next = addedTo t (getD codes r 0 % numbering) r in

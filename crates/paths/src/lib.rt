@@ -1,11 +1,11 @@
-// Moving flow through a plant: the slack of a stream, the search over labelled places for a way of no slack, and the push
+// Moving flow through a plant: the slack of a stream, the search over visited places for a way of no slack, and the push
 // along that way. Amounts, prices and nets are held shifted, as unsigned numbers (sizes.rt).
 use plants::limits::PLACES;
 
-pub mod labels;
 pub mod lanes;
 pub mod pushes;
 pub mod relaxing;
+pub mod searches;
 pub mod sizes;
 pub mod slacks;
 mod walking;
@@ -18,21 +18,21 @@ pub struct Quest {
     pub limit: u64,
 }
 
-// A labelled place and its distance.
+// A visited place and its distance.
 pub struct Spot {
     pub place: usize,
     pub distance: u64,
 }
 
-// The labelled places; and for each place labelled after the first, in order, the stream that led to it and the place.
+// The visited places; and for each place visited after the first, in order, the stream that led to it and the place.
 pub struct Tree {
-    pub labelled: [bool; PLACES],
+    pub visited: [bool; PLACES],
     pub via: [u8; PLACES],
     pub ends: [u8; PLACES],
     pub len: usize,
 }
 
-// What a walk hands over: whether it labelled a place that it looks for, its tree, the distances of labelled places, and how far it
+// What a walk hands over: whether it visited a place that it looks for, its tree, the distances of visited places, and how far it
 // came.
 pub struct Walked {
     pub found: bool,
@@ -41,7 +41,7 @@ pub struct Walked {
     pub reach: u64,
 }
 
-// What a search hands over: whether it labelled a place that it looks for, and its tree.
+// What a search hands over: whether it visited a place that it looks for, and its tree.
 pub struct Searched {
     pub found: bool,
     pub tree: Tree,

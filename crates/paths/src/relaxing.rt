@@ -1,4 +1,4 @@
-// The places that are not labelled, and how near the labelled places come to each.
+// The places that are not visited, and how near the visited places come to each.
 use crate::Quest;
 use crate::Spot;
 use crate::lanes::LANES;
@@ -58,7 +58,7 @@ pub fn gap_past(
 
 // Stream i, of slack g, is looked at in the direction of place v from a place at distance k.
 fn relax_along(
-    labelled: &[bool; PLACES],
+    visited: &[bool; PLACES],
     k: u64,
     v: usize,
     g: u64,
@@ -66,9 +66,9 @@ fn relax_along(
     near: &mut [u64; PLACES],
 )
     requires { ⌜ (k < farthest) × (v < places) × (g ≤ 2 * maxWeight * mostStep) × (i < maxStreams) × (length (now near) ≡ places) ⌝ }
-    ensures { λ _. ⌜ now (near .exit) ≡ relaxedAlong (now (labelled .entry)) k v g i (now (near .entry)) ⌝ }
+    ensures { λ _. ⌜ now (near .exit) ≡ relaxedAlong (now (visited .entry)) k v g i (now (near .entry)) ⌝ }
 {
-    if labelled[v] {
+    if visited[v] {
         return;
     }
     let code = (k + g) * NUMBERING + i as u64;
@@ -83,12 +83,12 @@ pub fn relax(
     flows: &[u64; MAX_STREAMS],
     prices: &[u64; PLACES],
     q: Quest,
-    labelled: &[bool; PLACES],
+    visited: &[bool; PLACES],
     at: Spot,
     near: &mut [u64; PLACES],
 )
     requires { ⌜ Lanes (now lanes) (now flows) (now prices) (q .delta) (q .skip) × (at .place < places) × (at .distance < farthest) × (length (now near) ≡ places) ⌝ }
-    ensures { λ _. ⌜ now (near .exit) ≡ relaxedTo (startsOf (now (lanes .entry))) (endsOf (now (lanes .entry))) (gapsOf (now (lanes .entry)) (now (flows .entry)) (now (prices .entry)) (q .delta) (q .skip) true) (gapsOf (now (lanes .entry)) (now (flows .entry)) (now (prices .entry)) (q .delta) (q .skip) false) (now (labelled .entry)) (at .distance) (at .place) (countOf (now (lanes .entry))) (now (near .entry)) ⌝ }
+    ensures { λ _. ⌜ now (near .exit) ≡ relaxedTo (startsOf (now (lanes .entry))) (endsOf (now (lanes .entry))) (gapsOf (now (lanes .entry)) (now (flows .entry)) (now (prices .entry)) (q .delta) (q .skip) true) (gapsOf (now (lanes .entry)) (now (flows .entry)) (now (prices .entry)) (q .delta) (q .skip) false) (now (visited .entry)) (at .distance) (at .place) (countOf (now (lanes .entry))) (now (near .entry)) ⌝ }
 {
     let n = count_of(lanes);
     let e = at.place;
@@ -97,7 +97,7 @@ pub fn relax(
         let forwards = start_at(lanes, i) == e;
         let g = gap_past(lanes, flows, prices, q, forwards, i);
         let v = place_at(lanes, !forwards, i);
-        relax_along(labelled, at.distance, v, g, i, near);
+        relax_along(visited, at.distance, v, g, i, near);
         i = before_at(lanes, forwards, i);
     }
 }

@@ -1,4 +1,4 @@
-// The walk from a place: the nearest place is labelled, again and again.
+// The walk from a place: the nearest place is visited, again and again.
 use crate::Quest;
 use crate::Spot;
 use crate::Tree;
@@ -16,13 +16,13 @@ ghost use mathlib.Core.Path.{_≡_};
 ghost use Prim.Native.Nat.{_<_};
 ghost use lib.ListN.{replicate};
 ghost use Rattle.plants.specs.Limits.{places};
-ghost use Rattle.paths.specs.Sizes.{rounds, far};
+ghost use Rattle.paths.specs.Sizes.{searchRounds, far};
 ghost use Rattle.paths.specs.Rows.{countOf, startsOf, endsOf};
 ghost use Rattle.paths.specs.Search.{rootAt};
 ghost use Rattle.paths.specs.Near.{gapsOf, walkedBy, walked};
 ghost use Rattle.paths.specs.Premises.{Lanes};
 
-// The most places that a walk labels after the first.
+// The most places that a walk visits after the first.
 const ROUNDS: usize = PLACES - 1;
 
 // The tree of one place.
@@ -31,16 +31,16 @@ fn root(s: usize) -> Tree
     ensures { λ r. ⌜ r ≡ rootAt s ⌝ }
 {
     let mut t = Tree {
-        labelled: [false; PLACES],
+        visited: [false; PLACES],
         via: [0u8; PLACES],
         ends: [0u8; PLACES],
         len: 0,
     };
-    t.labelled[s] = true;
+    t.visited[s] = true;
     t
 }
 
-// A labelled place and its distance.
+// A visited place and its distance.
 fn spot(place: usize, distance: u64) -> Spot
     ensures { λ r. ⌜ (r .place ≡ place) × (r .distance ≡ distance) ⌝ }
 {
@@ -62,7 +62,7 @@ fn walked_by(found: bool, t: Tree, dist: [u64; PLACES], reach: u64) -> Walked
     }
 }
 
-// From a place until one with a negative net is labelled; places at a distance above the limit are left out.
+// From a place until one with a negative net is visited; places at a distance above the limit are left out.
 pub fn walk(
     lanes: &[u64; LANES],
     flows: &[u64; MAX_STREAMS],
@@ -71,7 +71,7 @@ pub fn walk(
     q: Quest,
 ) -> Walked
     requires { ⌜ Lanes (now lanes) (now flows) (now prices) (q .delta) (q .skip) × (q .start < places) ⌝ }
-    ensures { λ r. ⌜ r ≡ walked (startsOf (now (lanes .entry))) (endsOf (now (lanes .entry))) (gapsOf (now (lanes .entry)) (now (flows .entry)) (now (prices .entry)) (q .delta) (q .skip) true) (gapsOf (now (lanes .entry)) (now (flows .entry)) (now (prices .entry)) (q .delta) (q .skip) false) (countOf (now (lanes .entry))) (now (nets .entry)) (q .limit) rounds 0 (q .start) (replicate places 0) (replicate places far) (rootAt (q .start)) ⌝ }
+    ensures { λ r. ⌜ r ≡ walked (startsOf (now (lanes .entry))) (endsOf (now (lanes .entry))) (gapsOf (now (lanes .entry)) (now (flows .entry)) (now (prices .entry)) (q .delta) (q .skip) true) (gapsOf (now (lanes .entry)) (now (flows .entry)) (now (prices .entry)) (q .delta) (q .skip) false) (countOf (now (lanes .entry))) (now (nets .entry)) (q .limit) searchRounds 0 (q .start) (replicate places 0) (replicate places far) (rootAt (q .start)) ⌝ }
 {
     let mut e = q.start;
     let mut t = root(e);
@@ -81,7 +81,7 @@ pub fn walk(
     let mut left: usize = ROUNDS;
     while 0 < left {
         let at = spot(e, reach);
-        relax(lanes, flows, prices, q, &t.labelled, at, &mut near);
+        relax(lanes, flows, prices, q, &t.visited, at, &mut near);
         e = nearest(&near, q.limit);
         if e == PLACES {
             return walked_by(false, t, dist, reach);
@@ -91,7 +91,7 @@ pub fn walk(
         reach = c / NUMBERING;
         dist[e] = reach;
         near[e] = FAR;
-        t.labelled[e] = true;
+        t.visited[e] = true;
         t.via[len] = (c % NUMBERING) as u8;
         t.ends[len] = e as u8;
         t.len = len + 1;

@@ -25,7 +25,8 @@ use Rattle.plants.specs.Says.{plantOf}
 use Rattle.plants.specs.Limits.{maxUnits, maxStreams, maxWeight, maxReading}
 use Rattle.plants.specs.Within.{Within, WithinStream, Accepted}
 use Rattle.plants.proofs.Arrayed.{all-listed, listed-at, stream-within}
-use Rattle.flows.specs.Flows.{streamAt, amountAt, cost, values, square, balanced, Cheapest}
+use Rattle.flows.specs.Flows.{streamAt, amountAt, cost, square, balanced, Cheapest}
+use Rattle.numbers.specs.Inner.{values}
 use Rattle.flows.proofs.Integers.{same, up-times, dn-times, size-val, minus-val, parts}
 use Rattle.flows.proofs.Sums.{sum-none}
 use Rattle.flows.proofs.Nets.{brought, listed, listed-balanced}

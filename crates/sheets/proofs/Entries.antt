@@ -18,7 +18,8 @@ use Rattle.plants.specs.Says.{plantOf}
 use Rattle.plants.proofs.Arrayed.{all-listed, within-of}
 use Rattle.flows.specs.declared.Class.{Class}
 use Rattle.flows.specs.declared.Class.the-variants.{Adjusted, AsRead, Given, Withheld}
-use Rattle.flows.specs.Flows.{amountAt, values, balanced, cost, Cheapest}
+use Rattle.flows.specs.Flows.{amountAt, balanced, cost, Cheapest}
+use Rattle.numbers.specs.Inner.{values}
 use Rattle.flows.specs.Classes.{classOf, numberOf, degrees}
 use Rattle.flows.specs.Test.{verdictAt}
 use Rattle.flows.specs.Calls.{classesOf}
@@ -54,6 +55,10 @@ pub balance-is : (p : Plant) (xs : List ℤ) (es : List Entry) (c d v : ℕ) →
     → c ≡ cost (p .streams) xs → d ≡ degrees p → v ≡ verdictAt d c → record { streams = es; cost = c; degrees = d; verdict = v } ≡ balanceOf p xs
 unfolding balanceOf
 balance-is p xs es c d v e ec ed ev = λ i. record { streams = e i; cost = ec i; degrees = ed i; verdict = (ev ∙ (λ j. verdictAt (ed j) (ec j))) i }
+
+pub balance-long : (p : Plant) (xs : List ℤ) → length (balanceOf p xs .streams) ≡ maxStreams
+unfolding balanceOf
+balance-long p xs = values-long (λ k. entryOf (classOf p k) (numberOf p xs k)) maxStreams
 
 -- All entries are written.
 pub entries-all : (cs : List Class) (xs : List ℤ) (d : Entry) (before now : List Entry)

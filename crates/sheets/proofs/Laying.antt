@@ -6,14 +6,18 @@ use Prim.Native.Nat.{ℕ, zero, suc, _+_, _*_, _≤_, _<_}
 use native.Mathlib.Omega.{arith}
 use native.Mathlib.Numerals.{add-one}
 use lib.ListN.{length, getD, take, length-append}
-use Rattle.numbers.specs.Bytes.{over, Put}
+use Rattle.numbers.specs.Bytes.{over}
+use Rattle.numbers.specs.Inner.{Put}
 use Rattle.numbers.proofs.Parts.{Laid, lay, room, may-lend, partFrom, returned}
 use Rattle.plants.specs.Limits.{maxStreams}
+use Rattle.plants.specs.Plants.{Plant}
 use Rattle.flows.specs.declared.Class.{Class}
 use Rattle.flows.specs.declared.Class.the-variants.{Adjusted, AsRead, Given, Withheld}
 use Rattle.sheets.specs.declared.Entry.{Entry}
 use Rattle.sheets.specs.declared.Balance.{Balance}
-use Rattle.sheets.specs.Sheets.{recordOf, recordsOf, totalOf, sheetBytes, streamSize, totalSize, leastSlice}
+use Rattle.sheets.specs.Balances.{balanceOf}
+use Rattle.sheets.specs.Sheets.{recordOf, recordsOf, totalOf, sheetBytes, sheetOf}
+use Rattle.sheets.specs.Apart.{streamSize, totalSize, leastSlice}
 
 -- No stream record is longer than a number's.
 pub record-most : (c : Class) (x : ℤ) → length (recordOf c x) ≤ streamSize
@@ -44,6 +48,13 @@ records-most (suc k) [] = omega arith
 records-most (suc k) (e ∷ es) =
     let b = recordOf (e .class) (e .flow) in
     omega (arith, length-append b (recordsOf (take k es)), record-most (e .class) (e .flow), records-most k es)
+
+-- A sheet is no longer than the least slice.
+pub sheet-most : (p : Plant) (xs : List ℤ) (n : ℕ) → length (p .streams) ≤ maxStreams → length (sheetOf p xs n) ≤ leastSlice
+sheet-most p xs n h =
+    let rs = recordsOf (take (length (p .streams)) (balanceOf p xs .streams)) in
+    let t = totalOf n (balanceOf p xs .cost) (balanceOf p xs .degrees) (balanceOf p xs .verdict) in
+    omega (arith, length-append rs t, records-most (length (p .streams)) (balanceOf p xs .streams))
 
 -- The records laid down: the total has room behind them.
 pub record Recorded (k : ℕ) (es : List Entry) (o o₁ : List ℕ) (m : ℕ) : Type 0 where

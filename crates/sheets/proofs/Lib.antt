@@ -3,6 +3,9 @@ pub mod Opening
 pub mod Costing
 pub mod Entries
 pub mod Laying
+pub mod Apart
 pub mod Promise
 pub mod Unique
+pub mod Telling
+pub mod Answering
 pub mod Table

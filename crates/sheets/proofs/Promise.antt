@@ -8,7 +8,8 @@ use lib.Dec.{ltb}
 use borrow.Author.Tests.{eq-eqb, ne-eqb, ltb-false, eqb-false}
 use Rattle.numbers.specs.Choice.{refuseIf}
 use Rattle.numbers.proofs.Tests.{refuse-none, first-none-left, first-none-right}
-use Rattle.numbers.specs.Bytes.{over, Put}
+use Rattle.numbers.specs.Bytes.{over}
+use Rattle.numbers.specs.Inner.{Put}
 use Rattle.plants.specs.declared.Read.{Read}
 use Rattle.plants.specs.Plants.{Plant}
 use Rattle.plants.specs.Files.{Got, bad, got, readPlant}
@@ -20,8 +21,10 @@ use Rattle.flows.specs.Flows.{Cheapest}
 use Rattle.sheets.specs.declared.Sheet.{Sheet}
 use Rattle.sheets.specs.declared.Balance.{Balance}
 use Rattle.sheets.specs.Balances.{BalanceSays}
-use Rattle.sheets.specs.Sheets.{leastSlice, sheetBytes, sheetOf}
-use Rattle.sheets.specs.Says.{topSheet, callFault, SheetWith, SheetSays}
+use Rattle.sheets.specs.Sheets.{sheetBytes, sheetOf}
+use Rattle.sheets.specs.Apart.{leastSlice}
+use Rattle.sheets.specs.Says.{SheetWith, SheetSays}
+use Rattle.sheets.specs.Sentences.{topSheet, callFault}
 
 -- What the reader handed over, by its number.
 read-bad : (g : Got) (y : Read) → y ≡ readOf g → (y .number ≡ 0 → ⊥) → g ≡ bad (y .number)

@@ -18,22 +18,21 @@ use Rattle.plants.specs.Files.{Got, bad, got, readPlant}
 use Rattle.plants.specs.Within.{Within}
 use Rattle.plants.proofs.Limited.{within}
 use Rattle.plants.proofs.Accepted.{accepted}
-use Rattle.plants.proofs.Back.{round-trip}
 use Rattle.flows.specs.declared.Class.{Class}
 use Rattle.flows.specs.declared.Class.the-variants.{Adjusted, AsRead, Given, Withheld}
 use Rattle.flows.specs.Flows.{streamAt, amountAt, cost, meteredOf, Cheapest}
 use Rattle.flows.specs.Classes.{classOf, numberOf, degrees}
-use Rattle.flows.specs.Test.{verdictOf}
+use Rattle.flows.specs.Test.{verdictAt}
 use Rattle.flows.proofs.Nets.{balanced-size}
 use Rattle.flows.proofs.Lists.{values-same}
 use Rattle.flows.proofs.Order.{one}
 use Rattle.flows.proofs.ByLabels.{class-past}
 use Rattle.flows.proofs.Given.{class-means, number-is, given-agree}
-use Rattle.solver.proofs.Demand.{demand-3}
 use Rattle.sheets.specs.declared.Sheet.{Sheet}
 use Rattle.sheets.specs.Balances.{entryOf, balanceOf}
 use Rattle.sheets.specs.Sheets.{sheetBytes, sheetOf}
-use Rattle.sheets.specs.Says.{callFault, Refused, Drawn, SheetWith, No-choice, Demands}
+use Rattle.sheets.specs.Says.{Drawn, SheetWith, No-choice}
+use Rattle.sheets.specs.Sentences.{callFault, Refused}
 use Rattle.sheets.proofs.Entries.{entry-same}
 
 -- Flows with the same metered amounts have the same amount on each metered stream.
@@ -51,7 +50,7 @@ metered-at (s ∷ ss) (x ∷ xs) (y ∷ ys) m n e (suc k) h t = metered-at ss xs
 
 module _ (p : Plant) (w : Within p) (xs ys : List ℤ) (c : Cheapest p xs) (d : Cheapest p ys) where
   -- An amount that is shown is the same in both.
-  amount-same : (k : ℕ) → k < length (p .streams) → (classOf p k ≡ Withheld → ⊥) → amountAt xs k ≡ amountAt ys k
+  pub amount-same : (k : ℕ) → k < length (p .streams) → (classOf p k ≡ Withheld → ⊥) → amountAt xs k ≡ amountAt ys k
   amount-same k h n = go (classOf p k) refl
     where
       metered : streamAt (p .streams) k .metered ≡ true → amountAt xs k ≡ amountAt ys k
@@ -75,14 +74,14 @@ module _ (p : Plant) (w : Within p) (xs ys : List ℤ) (c : Cheapest p xs) (d : 
       past : (classOf p k ≡ Withheld → ⊥) → ltb k (length (p .streams)) ≡ false → numberOf p xs k ≡ numberOf p ys k
       past n t = absurd (n (class-past p k (ltb-false k (length (p .streams)) t)))
 
-  cost-same : cost (p .streams) xs ≡ cost (p .streams) ys
+  pub cost-same : cost (p .streams) xs ≡ cost (p .streams) ys
   cost-same = let a = c .least ys (d .balance) in let b = d .least xs (c .balance) in omega arith
 
   pub one-balance : balanceOf p xs ≡ balanceOf p ys
   unfolding balanceOf
   one-balance =
       let e = values-same maxStreams (λ k. entryOf (classOf p k) (numberOf p xs k)) (λ k. entryOf (classOf p k) (numberOf p ys k)) (λ k l. entries-same k) in
-      λ i. record { streams = e i; cost = cost-same i; degrees = degrees p; verdict = verdictOf p (cost-same i) }
+      λ i. record { streams = e i; cost = cost-same i; degrees = degrees p; verdict = verdictAt (degrees p) (cost-same i) }
 
   pub one-sheet : (n : ℕ) → sheetOf p xs n ≡ sheetOf p ys n
   one-sheet n = ap (sheetBytes (length (p .streams)) n) one-balance
@@ -106,7 +105,3 @@ no-choice file last o o₁ o₂ r₁ r₂ a b =
     by-cases (eqb (callFault last o) 0)
     (λ t. read-same last o o₁ o₂ r₁ r₂ (readPlant file) (λ p e. within p (accepted file p e .0)) (rw t at a) (rw t at b))
     (λ t. refused-same last o o₁ o₂ r₁ r₂ (callFault last o) (rw t at a) (rw t at b))
-
--- The demands, all of them.
-pub demands : Demands
-demands = record { round = round-trip; third = demand-3; no-choice = no-choice }

@@ -7,9 +7,10 @@ use Rattle.plants.specs.Limits.{maxStreams}
 use Rattle.plants.specs.Plants.{Plant}
 use Rattle.flows.specs.declared.Class.{Class}
 use Rattle.flows.specs.declared.Class.the-variants.{Adjusted, AsRead, Given, Withheld}
-use Rattle.flows.specs.Flows.{values, cost, Cheapest}
+use Rattle.flows.specs.Flows.{cost, Cheapest}
+use Rattle.numbers.specs.Inner.{values}
 use Rattle.flows.specs.Classes.{classOf, numberOf, degrees}
-use Rattle.flows.specs.Test.{verdictOf}
+use Rattle.flows.specs.Test.{verdictAt}
 use Rattle.sheets.specs.declared.Entry.{Entry}
 use Rattle.sheets.specs.declared.Balance.{Balance}
 
@@ -28,7 +29,7 @@ balanceOf p xs =
       streams = values maxStreams (λ k. entryOf (classOf p k) (numberOf p xs k));
       cost = c;
       degrees = degrees p;
-      verdict = verdictOf p c;
+      verdict = verdictAt (degrees p) c;
     }
 
 -- What the balance of a plant is: that of its cheapest flow.

@@ -10,7 +10,8 @@ use Rattle.plants.specs.Limits.{maxStreams, maxWeight, maxReading}
 use Rattle.plants.specs.Says.{plantOf}
 use Rattle.flows.specs.declared.Class.{Class}
 use Rattle.flows.specs.declared.Class.the-variants.{Adjusted}
-use Rattle.flows.specs.Flows.{values, amountAt, square, cost}
+use Rattle.flows.specs.Flows.{amountAt, square, cost}
+use Rattle.numbers.specs.Inner.{values}
 use Rattle.sheets.specs.declared.Entry.{Entry}
 use Rattle.sheets.specs.Balances.{entryOf}
 

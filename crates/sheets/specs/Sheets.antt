@@ -1,35 +1,21 @@
 -- A sheet: one record per stream in stream order, then the total, with no gap.
 use mathlib.Core.List.{List, [], _∷_, _++_}
 use lib.IntN.{ℤ}
-use Prim.Native.Nat.{ℕ, _+_, _*_}
+use Prim.Native.Nat.{ℕ, _+_}
 use lib.ListN.{length, take}
 use Rattle.numbers.specs.Bytes.{putBe, raw}
-use Rattle.plants.specs.Limits.{maxStreams}
 use Rattle.plants.specs.Plants.{Plant}
 use Rattle.flows.specs.declared.Class.{Class}
 use Rattle.flows.specs.declared.Class.the-variants.{Adjusted, AsRead, Given, Withheld}
 use Rattle.flows.specs.Classes.{classNumber}
 use Rattle.sheets.specs.declared.Entry.{Entry}
 use Rattle.sheets.specs.declared.Balance.{Balance}
+use Rattle.sheets.specs.Apart.{totalKind}
 use Rattle.sheets.specs.Balances.{balanceOf}
 
--- The kinds of record: 0x11 A, 0x12 R, 0x13 G, 0x14 W; 0x1F the total.
+-- The kinds of a stream's record: 0x11 A, 0x12 R, 0x13 G, 0x14 W.
 abbrev pub kindOf : Class → ℕ
 kindOf c = 17 + classNumber c
-
-abbrev pub totalKind : ℕ
-totalKind = 31
-
--- The lengths of the longest stream record and of the total.
-abbrev pub streamSize : ℕ
-streamSize = 9
-
-abbrev pub totalSize : ℕ
-totalSize = 15
-
--- The least slice that is taken: as many numbers as there may be, and the total. 879 bytes.
-abbrev pub leastSlice : ℕ
-leastSlice = maxStreams * streamSize + totalSize
 
 -- A stream's record: the flow in 8 bytes, two's complement; the blank has no body.
 abbrev pub recordOf : Class → ℤ → List ℕ

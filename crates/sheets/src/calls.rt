@@ -5,7 +5,8 @@ use crate::kinds::LEAST_SLICE;
 use crate::kinds::TOP_SHEET;
 use crate::records::put_sheet;
 ghost use mathlib.Core.Path.{_≡_};
-ghost use Rattle.sheets.specs.Says.{callFault, SheetSays};
+ghost use Rattle.sheets.specs.Says.{SheetSays};
+ghost use Rattle.sheets.specs.Sentences.{callFault};
 
 // A refusal counts nothing and hands the last sheet number back.
 fn refused(number: u8, last: u32) -> Sheet

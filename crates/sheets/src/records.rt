@@ -14,9 +14,11 @@ ghost use mathlib.Core.Path.{_≡_};
 ghost use mathlib.Core.List.{_∷_};
 ghost use Prim.Native.Nat.{_≤_, _*_};
 ghost use lib.ListN.{length, take};
-ghost use Rattle.numbers.specs.Bytes.{putBe, raw, over, Put};
+ghost use Rattle.numbers.specs.Bytes.{putBe, raw, over};
+ghost use Rattle.numbers.specs.Inner.{Put};
 ghost use Rattle.plants.specs.Limits.{maxStreams};
-ghost use Rattle.sheets.specs.Sheets.{streamSize, totalSize, leastSlice, recordOf, recordsOf, totalOf, sheetBytes};
+ghost use Rattle.sheets.specs.Sheets.{recordOf, recordsOf, totalOf, sheetBytes};
+ghost use Rattle.sheets.specs.Apart.{streamSize, totalSize, leastSlice};
 
 // A kind and a flow.
 fn put_flow(kind: u8, flow: i64, out: &mut [u8])

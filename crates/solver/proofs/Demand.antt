@@ -1,5 +1,4 @@
 -- Demand 3: of every accepted plant, the sheet's numbers, its blanks and its cost are what the definitions force.
-use mathlib.Core.Path.{refl}
 use Rattle.plants.specs.Plants.{Plant}
 use Rattle.plants.specs.Within.{Within}
 use Rattle.plants.proofs.Limited.{within}
@@ -9,15 +8,13 @@ use Rattle.flows.proofs.Given.{its-number-of}
 use Rattle.flows.proofs.Withheld.{number-of, blank-of}
 use Rattle.flows.proofs.Nearness.{as-read, near}
 use Rattle.flows.proofs.Order.{one}
-use Rattle.solver.specs.Model.{noHint, settled}
-use Rattle.solver.specs.Premises.{AtHint}
-use Rattle.solver.proofs.Theorem.{unhinted, solved-cheapest, solved-sure}
+use Rattle.solver.proofs.Theorem.{from-none, solved-cheapest, solved-sure}
 
 -- What is shown of a plant within its limits. The definitions of the solver, which need no hint, give a cheapest flow; the prices
 -- that certify it speak for every cheapest flow.
 pub shown : (p : Plant) → Within p → Shown p
 shown p w =
-    let h : AtHint (p .streams) (settled (p .streams) noHint) = record { hint = noHint; hinted = unhinted p w; is = refl } in
+    let h = from-none p w in
     let c = solved-sure p w _ h in
     record {
       some = (_, solved-cheapest p w _ h);

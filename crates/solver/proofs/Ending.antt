@@ -23,7 +23,7 @@ use Rattle.paths.specs.Premises.{Prices}
 use Rattle.paths.proofs.Amounts.{net}
 use Rattle.solver.specs.declared.Hint.{Hint}
 use Rattle.solver.specs.declared.State.{State}
-use Rattle.solver.specs.Sizes.{mostReading, spread, stepFall, hintBudget, hintFloor, hintRoom, leftoverLimit, fuel}
+use Rattle.solver.specs.Sizes.{mostReading, priceBand, stepFall, hintBudget, hintFloor, hintRoom, leftoverLimit, fuel}
 use Rattle.solver.specs.Model.{settled, improvements, overSum, noHint, asHint, begun, finished}
 use Rattle.solver.specs.Premises.{Start, Hinted, Ready, AtHint, Sound, Allows, Even}
 use Rattle.solver.proofs.Booking.{net-most}
@@ -31,7 +31,7 @@ use Rattle.solver.proofs.Steady.{over-most, nets-val, sound-more, After
 use Rattle.solver.proofs.Nearest.{Solvable, held-more, held-agreed, settled-sound}
 
 -- A wider range.
-pub start-more : (ss : List Stream) (low b low′ b′ : ℕ) (h : Hint) → Start ss low b h → low′ ≤ low → priceShift ≤ low′ + spread → mostReading + priceShift ≤ b′ + low′
+pub start-more : (ss : List Stream) (low b low′ b′ : ℕ) (h : Hint) → Start ss low b h → low′ ≤ low → priceShift ≤ low′ + priceBand → mostReading + priceShift ≤ b′ + low′
     → b ≤ b′ → b′ ≤ flowShift → Start ss low′ b′ h
 start-more ss low b low′ b′ h s p q r t u = record {
   agree = s .agree;

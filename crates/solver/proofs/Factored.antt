@@ -11,12 +11,12 @@ use Rattle.plants.specs.Limits.{maxStreams}
 use Rattle.plants.specs.Within.{Accepted}
 use Rattle.plants.specs.Says.{plantOf}
 use Rattle.plants.proofs.Arrayed.{all-listed, listed-at, within-of}
-use Rattle.flows.specs.Classes.{unmeteredOnly}
+use Rattle.flows.specs.Chains.{unmeteredOnly}
 use Rattle.flows.specs.Labels.{labelsOf}
 use Rattle.potentials.specs.Levels.{Labels, Level}
 use Rattle.paths.specs.Sizes.{flowShift, priceShift}
 use Rattle.solver.specs.declared.Hint.{Hint}
-use Rattle.solver.specs.Sizes.{spread, hintFloor, hintRoom}
+use Rattle.solver.specs.Sizes.{priceBand, hintFloor, hintRoom}
 use Rattle.solver.specs.Model.{settledTo, netsTo, stateOf}
 use Rattle.solver.specs.Premises.{Close, Hinted, Ready, AtHint}
 use Rattle.solver.specs.Forests.{Routes, Kept}
@@ -34,7 +34,7 @@ module _ (p : Arrays.Plant) (a : Accepted p) where
     within = λ u l. omega (arith, label-low unmeteredOnly (plantOf p) (a .within .few-units) (inside-of p a) u l);
   }
 
-  module _ {ps xs : List ℕ} (v : Level (labelsOf unmeteredOnly (plantOf p)) priceShift spread ps) (r : Routes xs) where
+  module _ {ps xs : List ℕ} (v : Level (labelsOf unmeteredOnly (plantOf p)) priceShift priceBand ps) (r : Routes xs) where
     pub level-hinted : Hinted (plantOf p .streams) (record { flows = xs; prices = ps })
     level-hinted = record {
       agree = λ k l e. v .level _ _ (omega (arith, within-of p a .each k l .from-in, a .within .few-units)) (omega (arith, within-of p a .each k l .to-in, a .within .few-units))
@@ -49,7 +49,7 @@ module _ (p : Arrays.Plant) (a : Accepted p) where
       within = omega arith;
     }
 
-  module _ {ps : List ℕ} (v : Level (labelsOf unmeteredOnly (plantOf p)) priceShift spread ps) where
+  module _ {ps : List ℕ} (v : Level (labelsOf unmeteredOnly (plantOf p)) priceShift priceBand ps) where
     abbrev none : Hint
     none = record { flows = replicate maxStreams flowShift; prices = ps }
 

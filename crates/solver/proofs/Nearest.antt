@@ -21,7 +21,7 @@ use Rattle.paths.specs.Premises.{Placed}
 use Rattle.paths.proofs.Amounts.{net}
 use Rattle.paths.proofs.Growing.{Plain}
 use Rattle.solver.specs.declared.Hint.{Hint}
-use Rattle.solver.specs.Sizes.{mostReading, spread}
+use Rattle.solver.specs.Sizes.{mostReading, priceBand}
 use Rattle.solver.specs.Model.{settledOf, settledTo, netsTo, settled}
 use Rattle.solver.specs.Premises.{Close, Agreed, Start, Sound}
 use Rattle.solver.proofs.Booking.{nets-around, nets-right}
@@ -68,47 +68,47 @@ pub held-agreed : (ss : List Stream) (xs ps : List ℕ) (m : ℕ) → AllHeld ss
 held-agreed ss xs ps m h k l e = held-agree m (weightOf (streamAt ss k)) (getD xs k 0) (readingOf (streamAt ss k)) _ _ (weight-none (streamAt ss k) e) (h k l)
 
 -- The nearest amount by a quotient of small numbers: above the reading, and below it.
-pub settled-up : (w R pu pv : ℕ) → 1 ≤ w → spread ≤ R → pu ≤ pv + w → (R - spread) + (pv + w + 2 * (w * spread) - pu) / (2 * w) ≡ R + (pv + w - pu) / (2 * w)
+pub settled-up : (w R pu pv : ℕ) → 1 ≤ w → priceBand ≤ R → pu ≤ pv + w → (R - priceBand) + (pv + w + 2 * (w * priceBand) - pu) / (2 * w) ≡ R + (pv + w - pu) / (2 * w)
 settled-up w R pu pv l r h =
-    let e : pv + w + 2 * (w * spread) - pu ≡ (pv + w - pu) + 2 * w * spread = omega arith in
-    let q : ((pv + w - pu) + 2 * w * spread) / (2 * w) ≡ (pv + w - pu) / (2 * w) + spread = add-mul-div-left (pv + w - pu) spread (omega arith) in
+    let e : pv + w + 2 * (w * priceBand) - pu ≡ (pv + w - pu) + 2 * w * priceBand = omega arith in
+    let q : ((pv + w - pu) + 2 * w * priceBand) / (2 * w) ≡ (pv + w - pu) / (2 * w) + priceBand = add-mul-div-left (pv + w - pu) priceBand (omega arith) in
     rw (e, q) (omega arith)
 
-pub down-most : (w n : ℕ) → 1 ≤ w → n ≤ 2 * spread + w → n / (2 * w) ≤ spread
-down-most w n l h = elim (decLe (n / (2 * w)) spread) [
+pub down-most : (w n : ℕ) → 1 ≤ w → n ≤ 2 * priceBand + w → n / (2 * w) ≤ priceBand
+down-most w n l h = elim (decLe (n / (2 * w)) priceBand) [
   | yes z ↦ z
-  | no z ↦ let k : 2 * w * (spread + 1) ≤ 2 * w * (n / (2 * w)) = mul-le-mul-left (2 * w) (omega arith) in
+  | no z ↦ let k : 2 * w * (priceBand + 1) ≤ 2 * w * (n / (2 * w)) = mul-le-mul-left (2 * w) (omega arith) in
       absurd (omega (arith, div-add-mod n (2 * w), k))
 ]
 
-pub settled-down : (w R pu pv : ℕ) → 1 ≤ w → spread ≤ R → pv + w < pu → pu ≤ pv + 2 * spread
-    → (R - spread) + (pv + w + 2 * (w * spread) - pu) / (2 * w) ≡ R - (pu - pv + w - 1) / (2 * w)
+pub settled-down : (w R pu pv : ℕ) → 1 ≤ w → priceBand ≤ R → pv + w < pu → pu ≤ pv + 2 * priceBand
+    → (R - priceBand) + (pv + w + 2 * (w * priceBand) - pu) / (2 * w) ≡ R - (pu - pv + w - 1) / (2 * w)
 settled-down w R pu pv l r h m =
     let t : ℕ = (pu - pv + w - 1) / (2 * w) in
-    let most : t ≤ spread = down-most w (pu - pv + w - 1) l (omega arith) in
-    let k : ℕ = spread - t in
-    let N : ℕ = pv + w + 2 * (w * spread) - pu in
+    let most : t ≤ priceBand = down-most w (pu - pv + w - 1) l (omega arith) in
+    let k : ℕ = priceBand - t in
+    let N : ℕ = pv + w + 2 * (w * priceBand) - pu in
     let e : 2 * w * t + (pu - pv + w - 1) % (2 * w) ≡ pu - pv + w - 1 = div-add-mod (pu - pv + w - 1) (2 * w) in
     let b : (pu - pv + w - 1) % (2 * w) < 2 * w = mod-lt (pu - pv + w - 1) (omega arith) in
-    let s : k + t ≡ spread = omega arith in
-    let f : w * (k + t) ≡ w * spread = ap (λ n. w * n) s in
+    let s : k + t ≡ priceBand = omega arith in
+    let f : w * (k + t) ≡ w * priceBand = ap (λ n. w * n) s in
     let q : N / (2 * w) ≡ k = div-eq-of-lt-le (2 * w) (omega (arith, e, b, f)) (omega (arith, e, b, f)) in
     rw q (omega (arith, most))
 
 -- The nearest amount meets the step condition.
-pub settled-held : (s : Stream) (pu pv : ℕ) → 1 ≤ weightOf s → pu ≤ pv + 2 * spread → spread ≤ readingOf s → Held 1 (weightOf s) (settledOf s pu pv) (readingOf s) pu pv
+pub settled-held : (s : Stream) (pu pv : ℕ) → 1 ≤ weightOf s → pu ≤ pv + 2 * priceBand → priceBand ≤ readingOf s → Held 1 (weightOf s) (settledOf s pu pv) (readingOf s) pu pv
 settled-held s pu pv l h r = go (weightOf s) (readingOf s) l r
   where
-    go : (w R : ℕ) → 1 ≤ w → spread ≤ R → Held 1 w ((R - spread) + (pv + w + 2 * (w * spread) - pu) / (2 * w)) R pu pv
+    go : (w R : ℕ) → 1 ≤ w → priceBand ≤ R → Held 1 w ((R - priceBand) + (pv + w + 2 * (w * priceBand) - pu) / (2 * w)) R pu pv
     go w R l r =
-        let N : ℕ = pv + w + 2 * (w * spread) - pu in
+        let N : ℕ = pv + w + 2 * (w * priceBand) - pu in
         let q : ℕ = N / (2 * w) in
-        let X : ℕ = (R - spread) + q in
+        let X : ℕ = (R - priceBand) + q in
         let e : 2 * w * q + N % (2 * w) ≡ N = div-add-mod N (2 * w) in
         let b : N % (2 * w) < 2 * w = mod-lt N (omega arith) in
-        let c : X + spread ≡ R + q = omega arith in
-        let f : w * (X + spread) ≡ w * (R + q) = ap (λ k. w * k) c in
-        let z : N + pu ≡ pv + w + 2 * (w * spread) = omega arith in
+        let c : X + priceBand ≡ R + q = omega arith in
+        let f : w * (X + priceBand) ≡ w * (R + q) = ap (λ k. w * k) c in
+        let z : N + pu ≡ pv + w + 2 * (w * priceBand) = omega arith in
         record { low = omega (arith, e, b, f, z); high = omega (arith, e, b, f, z) }
 
 -- It differs from the reading by no more than the prices differ.

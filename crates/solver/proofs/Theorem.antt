@@ -15,13 +15,13 @@ use Rattle.plants.specs.Says.{plantOf}
 use Rattle.plants.specs.Within.{WithinStream, Within, Accepted}
 use Rattle.plants.proofs.Arrayed.{all-listed, within-of, stream-within}
 use Rattle.flows.specs.Flows.{streamAt, amountAt, Cheapest}
-use Rattle.flows.specs.Certificate.{climb, lowest, highest}
+use Rattle.flows.specs.Certificate.{climb, leastClimb, mostClimb}
 use Rattle.flows.proofs.Integers.{le-leZ}
 use Rattle.flows.proofs.Prices.{StepAt, Steps, Certificate}
 use Rattle.paths.specs.Held.{opened}
 use Rattle.solver.specs.declared.State.{State}
 use Rattle.solver.specs.declared.Solved.{Solved}
-use Rattle.solver.specs.Model.{noHint, tiesTo, finished, solvedFrom}
+use Rattle.solver.specs.Model.{noHint, tiesTo, finished, solvedFrom, settled}
 use Rattle.solver.specs.Premises.{Layout, Hinted, AtHint, Even}
 use Rattle.solver.specs.Promise.{price, priceAt, Bounded, Right}
 use Rattle.solver.proofs.Nearest.{Solvable, held-agreed}
@@ -67,6 +67,9 @@ solvable-in q w = record {
 pub unhinted : (q : Plant) → Within q → Hinted (q .streams) noHint
 unhinted q w = none-hinted (q .streams) (solvable-in q w)
 
+pub from-none : (q : Plant) → Within q → AtHint (q .streams) (settled (q .streams) noHint)
+from-none q w = record { hint = noHint; hinted = unhinted q w; is = refl }
+
 -- The definitions give the cheapest flow, from amounts settled at any hint.
 module _ (q : Plant) (w : Within q) (st : State) (s : AtHint (q .streams) st) where
   abbrev ss : List Stream
@@ -93,7 +96,7 @@ module _ (q : Plant) (w : Within q) (st : State) (s : AtHint (q .streams) st) wh
 
 -- The step condition by its tests.
 bounded : (π : ℕ → ℤ) (s : Stream) (x : ℤ) → StepAt 1 π s x → Bounded π s x
-bounded π s x o = record { low = le-leZ (lowest s x) (climb π s) (o .low); high = le-leZ (climb π s) (highest s x) (o .high) }
+bounded π s x o = record { low = le-leZ (leastClimb s x) (climb π s) (o .low); high = le-leZ (climb π s) (mostClimb s x) (o .high) }
 
 -- Of a plant in an array.
 module _ (p : Arrays.Plant) (a : Accepted p) (st : State) (s : AtHint (plantOf p .streams) st) where

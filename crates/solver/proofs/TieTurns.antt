@@ -16,7 +16,7 @@ use Rattle.plants.specs.Plants.{noStream}
 use Rattle.flows.specs.Flows.{streamAt}
 use Rattle.flows.specs.Certificate.{weightOf}
 use Rattle.paths.specs.declared.Tree.{Tree}
-use Rattle.paths.specs.Sizes.{rounds}
+use Rattle.paths.specs.Sizes.{searchRounds}
 use Rattle.paths.specs.Slack.{slackBy}
 use Rattle.paths.specs.Rows.{countOf, weightsOf}
 use Rattle.paths.specs.Near.{gapsOf}
@@ -44,7 +44,7 @@ module _ (streams : List Stream) (n : ℕ) (w : Layout streams n) (ps : List ℕ
   lack = slackBy (getD streams i noStream) false (getD xs i 0) (getD ps (getD streams i noStream .from) 0) (getD ps (getD streams i noStream .to) 0) 1
 
   abbrev searched : Grown
-  searched = tightPath (take n streams) n xs ps (getD streams i noStream .to) (suc i) rounds (rootAt (getD streams i noStream .from))
+  searched = tightPath (take n streams) n xs ps (getD streams i noStream .to) (suc i) searchRounds (rootAt (getD streams i noStream .from))
 
   parts : tiedAt ss ps i xs ≡ pick (s .metered) (pick (ltb 0 lack) xs (tiedBy ss xs (s .to) i searched)) xs
   unfolding tiedAt
@@ -91,7 +91,7 @@ module _ (streams : List Stream) (n : ℕ) (w : Layout streams n) (ps : List ℕ
       go : Path maxUnits ss xs ps (s .from) (s .to) (suc i) g → Pushable (g .tree)
       go (shut o ls a b d) = clash _ f o
       go (way o a r u) =
-          let m = count-most maxUnits (λ v. getD (g .tree .labelled) v false) in
+          let m = count-most maxUnits (λ v. getD (g .tree .visited) v false) in
           record {
             trail = record { short = omega (arith, a .counted, m); within = λ k j. rw (used streams n w) at (a .links k j .inside) };
             roomy = record {

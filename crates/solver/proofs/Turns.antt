@@ -19,7 +19,7 @@ use Rattle.plants.specs.Plants.{noStream}
 use Rattle.flows.specs.Flows.{streamAt}
 use Rattle.flows.proofs.Integers.{up, dn}
 use Rattle.paths.specs.declared.Tree.{Tree}
-use Rattle.paths.specs.Sizes.{netShift, mostStep, rounds}
+use Rattle.paths.specs.Sizes.{netShift, mostStep, searchRounds}
 use Rattle.paths.specs.Search.{rootAt, target, Grown, grownBy, grow}
 use Rattle.paths.specs.Premises.{Placed, Network, Trail, Roomy, Searching, Laying}
 use Rattle.paths.specs.Rows.{countOf}
@@ -87,7 +87,7 @@ unfolding improved
 improved-none ss st d s e z = rw (← e, eq-eqb s places z)
 
 pub improved-done : (ss : List Stream) (n : ℕ) (st : State) (d s : ℕ) (g : Grown) → length ss ≡ n → s ≡ firstOver (st .nets) d → (s ≡ places → ⊥)
-    → g ≡ grow ss n (st .flows) (st .nets) d rounds (st .prices) (rootAt s) → g .found ≡ true → improved ss st d ≡ record { done = true; state = pushedOn ss st d s g }
+    → g ≡ grow ss n (st .flows) (st .nets) d searchRounds (st .prices) (rootAt s) → g .found ≡ true → improved ss st d ≡ record { done = true; state = pushedOn ss st d s g }
 unfolding improved
 improved-done ss n st d s g c e z q f = rw (← e, ne-eqb s places z, c, ← q, f)
 
@@ -97,7 +97,7 @@ unfolding improved
 improved-same ss st d r e f =
     ap (λ (i : Improved). i .state) e
     ∙ go (eqb (firstOver (st .nets) d) places)
-    (grow ss (length ss) (st .flows) (st .nets) d rounds (st .prices) (rootAt (firstOver (st .nets) d))) (ap (λ (i : Improved). i .done) (sym e) ∙ f)
+    (grow ss (length ss) (st .flows) (st .nets) d searchRounds (st .prices) (rootAt (firstOver (st .nets) d))) (ap (λ (i : Improved). i .done) (sym e) ∙ f)
   where
     on : (b : Bool) (s : State) → pick b (improvedBy true s) (asIs st) .done ≡ false → pick b (improvedBy true s) (asIs st) .state ≡ st
     on true s h = clash true refl h
@@ -120,7 +120,7 @@ pub record Moving (n : ℕ) (st : State) (s d : ℕ) (found : Bool) (t : Tree) :
 
 pub moving : (streams : List Stream) (n : ℕ) (st : State) (s d : ℕ) (found : Bool) (t : Tree) (ps : List ℕ) → Network streams n → 1 ≤ d → d ≤ mostStep
     → Allows (take n streams) d 1 st → s ≡ firstOver (st .nets) d → (s ≡ places → ⊥)
-    → grownBy found t ps ≡ grow (take n streams) n (st .flows) (st .nets) d rounds (st .prices) (rootAt s) → Moving n st s d found t
+    → grownBy found t ps ≡ grow (take n streams) n (st .flows) (st .nets) d searchRounds (st .prices) (rootAt s) → Moving n st s d found t
 moving streams n st s d found t ps w l1 l2 h e z q = record {
   found-it = m .found;
   some = m .some;
@@ -157,13 +157,13 @@ moving streams n st s d found t ps w l1 l2 h e z q = record {
         first-at : (s : ℕ) → s ≡ firstOver (st .nets) d → s < places → netShift + d ≤ getD (st .nets) s 0
         first-at s e l = rw e (first-over (st .nets) d .over (rw (h .sound .netted, ← e) l))
 
-    m : Hunt maxUnits (take n streams) (st .flows) (st .nets) d s (st .prices) rounds (grownBy found t ps)
+    m : Hunt maxUnits (take n streams) (st .flows) (st .nets) d s (st .prices) searchRounds (grownBy found t ps)
     m = rw q (rw c at (finds (take n streams) (plain-of streams n w) d l1 0 (h .size) st
         (sound-more (take n streams) d (stepFall * d * 1) (h .size) st (h .sound) (0 + stepFall * d) (h .size) (omega arith) (omega arith)) (omega
         (arith, h .fits)) s small over))
 
     short : t .len < places
-    short = omega (arith, m .grown .counted, count-most maxUnits (λ v. getD (t .labelled) v false))
+    short = omega (arith, m .grown .counted, count-most maxUnits (λ v. getD (t .visited) v false))
 
     most : (u : ℕ)
         → (up (net (take n streams) (st .flows) u) ≤ h .size * length (take n streams)) × (dn (net (take n streams) (st .flows) u) ≤ h .size * length (take n streams))

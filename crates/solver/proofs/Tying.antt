@@ -76,7 +76,7 @@ module _ (p : Plant) (w : Within p) (v : Solvable (p .streams)) (ps : List ℕ) 
     stays-tied : Stays ss (priceAt ps) (amountAt (opened (length ss) xs)) i → Tied p (opened (length ss) xs) i
     stays-tied t e ys b c a = stays-least p w (priceAt ps) (opened (length ss) xs) sure ys b (omega arith) i li a t
 
-    -- No way leads round: the labelled places are a cut.
+    -- No way leads round: the visited places are a cut.
     blocked : (ls : List Bool) → getD ls (s .from) false ≡ true → getD ls (s .to) false ≡ false
         → ((k : ℕ) → k < length ss → Usable ss (suc i) k → startIn ss ls k ≡ not (endIn ss ls k) → 0 < slackAt ss xs ps 1 k (startIn ss ls k))
         → Tied p (opened (length ss) xs) i

@@ -9,7 +9,7 @@ use Rattle.numbers.specs.Choice.{pick}
 use Rattle.plants.specs.declared.Stream.{Stream}
 use Rattle.plants.specs.Limits.{places, maxStreams}
 use Rattle.flows.specs.Flows.{streamAt}
-use Rattle.paths.specs.Sizes.{flowShift, priceShift, netShift, rounds}
+use Rattle.paths.specs.Sizes.{flowShift, priceShift, netShift, searchRounds}
 use Rattle.flows.specs.Certificate.{weightOf}
 use Rattle.paths.specs.Held.{readingOf}
 use Rattle.paths.specs.Slack.{slackBy}
@@ -18,14 +18,14 @@ use Rattle.paths.specs.Push.{pushed}
 use Rattle.solver.specs.declared.Hint.{Hint}
 use Rattle.solver.specs.declared.State.{State}
 use Rattle.solver.specs.declared.Solved.{Solved}
-use Rattle.solver.specs.Sizes.{spread, leftoverLimit, fuel}
+use Rattle.solver.specs.Sizes.{priceBand, leftoverLimit, fuel}
 
 -- Settle. A metered stream's amount at the prices pu and pv of its start and its end: the reading plus (pv − pu) / 2w, rounded to
--- the nearest, a half up. (spread is taken from the reading and added again inside the quotient, so that nothing is below 0.)
+-- the nearest, a half up. (priceBand is taken from the reading and added again inside the quotient, so that nothing is below 0.)
 abbrev pub settledOf : Stream → ℕ → ℕ → ℕ
 settledOf s pu pv =
     let w = weightOf s in
-    (readingOf s - spread) + (pv + w + 2 * (w * spread) - pu) / (2 * w)
+    (readingOf s - priceBand) + (pv + w + 2 * (w * priceBand) - pu) / (2 * w)
 
 -- The amounts xs with those of the metered streams among the first n settled at the prices ps.
 unfoldable pub settledTo : List Stream → List ℕ → List ℕ → ℕ → List ℕ
@@ -92,7 +92,7 @@ pushedOn ss st d s g =
 
 abbrev pub improvedAt : List Stream → State → ℕ → ℕ → Improved
 improvedAt ss st d s =
-    let g = grow ss (length ss) (st .flows) (st .nets) d rounds (st .prices) (rootAt s) in
+    let g = grow ss (length ss) (st .flows) (st .nets) d searchRounds (st .prices) (rootAt s) in
     pick (g .found) (record { done = true; state = pushedOn ss st d s g }) (asIs st)
 
 -- At step d, from the first place with a net of d or more.
@@ -139,7 +139,7 @@ tiedAt ss ps i xs =
     let s = streamAt ss i in
     pick (s .metered)
     (pick (ltb 0 (slackBy s false (getD xs i 0) (getD ps (s .from) 0) (getD ps (s .to) 0) 1)) xs
-    (tiedBy ss xs (s .to) i (tightPath ss (length ss) xs ps (s .to) (suc i) rounds (rootAt (s .from)))))
+    (tiedBy ss xs (s .to) i (tightPath ss (length ss) xs ps (s .to) (suc i) searchRounds (rootAt (s .from)))))
     xs
 
 -- The first n streams, one after the other.

@@ -18,7 +18,7 @@ use Rattle.paths.specs.Premises.{Placed, Network, Prices, Laid}
 use Rattle.solver.specs.declared.Hint.{Hint}
 use Rattle.solver.specs.declared.State.{State}
 use Rattle.solver.specs.Model.{settled}
-use Rattle.solver.specs.Sizes.{mostReading, spread, stepFall, hintFloor, hintRoom, settledRoom}
+use Rattle.solver.specs.Sizes.{mostReading, priceBand, stepFall, hintFloor, hintRoom, settledRoom}
 
 -- An array of streams of which the first n are in use: metered ones have a weight and a reading in range, and no stream leads
 -- from a place to itself.
@@ -43,13 +43,13 @@ pub record Settleable (s : Stream) (pu pv : ℕ) : Type 0 where
   pub in-range : natAbs (s .reading) ≤ mostReading
   pub price-u : pu ≤ priceShift
   pub price-v : pv ≤ priceShift
-  pub near : pu ≤ pv + 2 * spread
+  pub near : pu ≤ pv + 2 * priceBand
 
 -- An array of streams, and prices at which their amounts can be settled.
 pub record Settles (streams : List Stream) (n : ℕ) (ps : List ℕ) : Type 0 where
   pub layout : Layout streams n
   pub prices : Prices ps
-  pub near : (u v : ℕ) → u < places → v < places → getD ps u 0 ≤ getD ps v 0 + 2 * spread
+  pub near : (u v : ℕ) → u < places → v < places → getD ps u 0 ≤ getD ps v 0 + 2 * priceBand
 
 -- Held amounts, each at most mostFlow.
 abbrev pub Amounts : List ℕ → Type 0
@@ -76,12 +76,12 @@ abbrev pub Agreed : List Stream → List ℕ → Type 0
 Agreed ss ps = (k : ℕ) → k < length ss → streamAt ss k .metered ≡ false → getD ps (streamAt ss k .from) 0 ≡ getD ps (streamAt ss k .to) 0
 
 -- Prices to settle at, from low up, that agree across unmetered streams; and amounts for these, of size b at most. Prices within
--- `spread` of each other move no amount by more than the least of them is below priceShift.
+-- `priceBand` of each other move no amount by more than the least of them is below priceShift.
 pub record Start (ss : List Stream) (low b : ℕ) (h : Hint) : Type 0 where
   pub agree : Agreed ss (h .prices)
   pub floor : (u : ℕ) → u < places → low ≤ getD (h .prices) u 0
   pub capped : Prices (h .prices)
-  pub near : priceShift ≤ low + spread
+  pub near : priceShift ≤ low + priceBand
   pub priced : length (h .prices) ≡ places
   pub long : length (h .flows) ≡ maxStreams
   pub unmetered : (k : ℕ) → k < maxStreams → streamAt ss k .metered ≡ false → Close b (getD (h .flows) k 0)

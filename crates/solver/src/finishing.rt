@@ -28,7 +28,12 @@ fn begin(streams: [Stream; MAX_STREAMS], count: usize, st: State) -> State
 }
 
 // Improved at step 1 until no net is positive.
-pub fn finish(streams: [Stream; MAX_STREAMS], count: usize, lanes: &[u64; LANES], st: State) -> State
+pub fn finish(
+    streams: [Stream; MAX_STREAMS],
+    count: usize,
+    lanes: &[u64; LANES],
+    st: State,
+) -> State
     requires { ⌜ Layout streams count × AtHint (take count streams) st × Laid streams count (now lanes) ⌝ }
     ensures { λ r. ⌜ r ≡ finished (take count streams) st ⌝ }
 {

@@ -1,8 +1,8 @@
 // Improvements: net is moved from a place that has too much to one that has too little, at the least cost.
 use crate::State;
-use paths::labels::search;
 use paths::lanes::LANES;
 use paths::pushes::push_back;
+use paths::searches::search;
 use paths::sizes::NET_SHIFT;
 use plants::limits::MAX_STREAMS;
 use plants::limits::PLACES;

@@ -9,8 +9,8 @@ use crate::settling::over_sum;
 use crate::settling::settle;
 use crate::settling::settle_flows;
 use crate::sizes::FAST_LEFTOVER;
+use crate::sizes::PRICE_BAND;
 use crate::sizes::PRICE_SHIFT;
-use crate::sizes::SPREAD;
 use paths::sizes::FLOW_SHIFT;
 use plants::Plant;
 use plants::limits::MAX_STREAMS;
@@ -26,7 +26,7 @@ pub fn fast_start(p: Plant, labels: [u8; PLACES]) -> State
     requires { ⌜ Accepted p × Grouped p labels ⌝ }
     ensures { λ r. ⌜ AtHint (plantOf p .streams) r ⌝ }
 {
-    let prices = potentials_of(p, labels, PRICE_SHIFT, SPREAD);
+    let prices = potentials_of(p, labels, PRICE_SHIFT, PRICE_BAND);
     let streams = p.streams;
     let count = p.count as usize;
     let mut flows = [FLOW_SHIFT; MAX_STREAMS];

@@ -1,6 +1,5 @@
 // Ties: among equally cheap flows, the first metered stream least, then the second, and so on.
 use paths::Quest;
-use paths::labels::tight_path;
 use paths::lanes::LANES;
 use paths::lanes::count_of;
 use paths::lanes::end_at;
@@ -8,6 +7,7 @@ use paths::lanes::start_at;
 use paths::lanes::weight_at;
 use paths::pushes::push_back;
 use paths::relaxing::gap_past;
+use paths::searches::tight_path;
 use plants::limits::MAX_STREAMS;
 use plants::limits::PLACES;
 ghost use mathlib.Core.Bool.{false, _&&_};

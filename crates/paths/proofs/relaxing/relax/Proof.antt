@@ -18,16 +18,16 @@ use Rattle.paths.proofs.relaxing.relax.Statement.{statement}
 use Rattle.paths.proofs.relaxing.relax.Tie as tie
 
 abbrev Inv-loop : tie.InvT-loop
-Inv-loop lanes flows prices q labelled at near₀ n e i₀ near i =
+Inv-loop lanes flows prices q visited at near₀ n e i₀ near i =
     (length near ≡ places)
     × ((m : ℕ)
     × (m ≤ countOf lanes)
     × (i ≡ lastAt (startsOf lanes) (endsOf lanes) (at .place) m)
-    × (relaxedTo (startsOf lanes) (endsOf lanes) (gapsOf lanes flows prices (q .delta) (q .skip) true) (gapsOf lanes flows prices (q .delta) (q .skip) false) labelled (at .distance) (at .place) m near
-    ≡ relaxedTo (startsOf lanes) (endsOf lanes) (gapsOf lanes flows prices (q .delta) (q .skip) true) (gapsOf lanes flows prices (q .delta) (q .skip) false) labelled (at .distance) (at .place) (countOf lanes) near₀))
+    × (relaxedTo (startsOf lanes) (endsOf lanes) (gapsOf lanes flows prices (q .delta) (q .skip) true) (gapsOf lanes flows prices (q .delta) (q .skip) false) visited (at .distance) (at .place) m near
+    ≡ relaxedTo (startsOf lanes) (endsOf lanes) (gapsOf lanes flows prices (q .delta) (q .skip) true) (gapsOf lanes flows prices (q .delta) (q .skip) false) visited (at .distance) (at .place) (countOf lanes) near₀))
 
 abbrev μ-loop : tie.MeasureT-loop
-μ-loop lanes flows prices q labelled at near₀ n e i₀ near i = pick (ltb i n) (suc i) 0
+μ-loop lanes flows prices q visited at near₀ n e i₀ near i = pick (ltb i n) (suc i) 0
 
 -- The start, from the turn of the loop.
 abbrev start : tie.In-loop Inv-loop μ-loop → tie.Start Inv-loop μ-loop
@@ -100,13 +100,13 @@ next-is c =
 
 -- The codes after the stream was looked at.
 looked : (c : tie.After-relax-along Inv-loop μ-loop)
-    → c .relax-along .last .1 .1 .1 .1 .1 .0 ≡ relaxedAt (startsOf (start (c .before .before .before .before .before) .args .lanes .now)) (endsOf (start (c .before .before .before .before .before) .args .lanes .now)) (gapsOf (start (c .before .before .before .before .before) .args .lanes .now) (start (c .before .before .before .before .before) .args .flows .now) (start (c .before .before .before .before .before) .args .prices .now) (start (c .before .before .before .before .before) .args .q .delta) (start (c .before .before .before .before .before) .args .q .skip) true) (gapsOf (start (c .before .before .before .before .before) .args .lanes .now) (start (c .before .before .before .before .before) .args .flows .now) (start (c .before .before .before .before .before) .args .prices .now) (start (c .before .before .before .before .before) .args .q .delta) (start (c .before .before .before .before .before) .args .q .skip) false) (start (c .before .before .before .before .before) .args .labelled .now) (start (c .before .before .before .before .before) .args .at .distance) (start (c .before .before .before .before .before) .args .at .place) (c .before .before .before .before .before .before .loop .i) (c .before .before .before .before .before .before .loop .near)
+    → c .relax-along .last .1 .1 .1 .1 .1 .0 ≡ relaxedAt (startsOf (start (c .before .before .before .before .before) .args .lanes .now)) (endsOf (start (c .before .before .before .before .before) .args .lanes .now)) (gapsOf (start (c .before .before .before .before .before) .args .lanes .now) (start (c .before .before .before .before .before) .args .flows .now) (start (c .before .before .before .before .before) .args .prices .now) (start (c .before .before .before .before .before) .args .q .delta) (start (c .before .before .before .before .before) .args .q .skip) true) (gapsOf (start (c .before .before .before .before .before) .args .lanes .now) (start (c .before .before .before .before .before) .args .flows .now) (start (c .before .before .before .before .before) .args .prices .now) (start (c .before .before .before .before .before) .args .q .delta) (start (c .before .before .before .before .before) .args .q .skip) false) (start (c .before .before .before .before .before) .args .visited .now) (start (c .before .before .before .before .before) .args .at .distance) (start (c .before .before .before .before .before) .args .at .place) (c .before .before .before .before .before .before .loop .i) (c .before .before .before .before .before .before .loop .near)
 looked c =
     let on = c .before .before .before .before .before in
     let st = start on in
     c .relax-along .ensures
     ∙ rw (c .before .before .place-at .ensures, c .before .before .before .gap-past .ensures)
-    (relaxed-touching (startsOf (st .args .lanes .now)) (endsOf (st .args .lanes .now)) (st .args .at .place) (on .before .loop .i) (at-place on .1) (λ f. gapsOf (st .args .lanes .now) (st .args .flows .now) (st .args .prices .now) (st .args .q .delta) (st .args .q .skip) f) (st .args .labelled .now) (st .args .at .distance) (on .before .loop .near) (ahead (c .before .before .before .before)) (forwards (c .before .before .before .before)))
+    (relaxed-touching (startsOf (st .args .lanes .now)) (endsOf (st .args .lanes .now)) (st .args .at .place) (on .before .loop .i) (at-place on .1) (λ f. gapsOf (st .args .lanes .now) (st .args .flows .now) (st .args .prices .now) (st .args .q .delta) (st .args .q .skip) f) (st .args .visited .now) (st .args .at .distance) (on .before .loop .near) (ahead (c .before .before .before .before)) (forwards (c .before .before .before .before)))
 
 loop-less : tie.Need-loop-less Inv-loop μ-loop
 loop-less c =

@@ -8,7 +8,7 @@ use native.Mathlib.Omega.{arith}
 use borrow.Author.Needs.{needs}
 use lib.ListN.{length, getD, replicate, length-set}
 use Rattle.plants.specs.Limits.{places}
-use Rattle.paths.specs.Sizes.{rounds, farthest, far, numbering}
+use Rattle.paths.specs.Sizes.{searchRounds, farthest, far, numbering}
 use Rattle.paths.specs.Rows.{countOf, startsOf, endsOf}
 use Rattle.paths.specs.Search.{rootAt}
 use Rattle.paths.specs.Near.{gapsOf, relaxedTo, nearestTo, walked}
@@ -20,12 +20,12 @@ use Rattle.paths.proofs.walking.walk.Tie as tie
 
 abbrev Inv-loop : tie.InvT-loop
 Inv-loop lanes flows prices nets q e₀ t₀ dist₀ near₀ reach₀ left₀ e t dist near reach left =
-    (left + t .len ≡ rounds)
+    (left + t .len ≡ searchRounds)
     × (length near ≡ places)
     × (reach < farthest)
     × (e < places)
     × (walked (startsOf lanes) (endsOf lanes) (gapsOf lanes flows prices (q .delta) (q .skip) true) (gapsOf lanes flows prices (q .delta) (q .skip) false) (countOf lanes) nets (q .limit) left reach e dist near t
-    ≡ walked (startsOf lanes) (endsOf lanes) (gapsOf lanes flows prices (q .delta) (q .skip) true) (gapsOf lanes flows prices (q .delta) (q .skip) false) (countOf lanes) nets (q .limit) rounds 0 (q .start) (replicate places 0) (replicate places far) (rootAt (q .start)))
+    ≡ walked (startsOf lanes) (endsOf lanes) (gapsOf lanes flows prices (q .delta) (q .skip) true) (gapsOf lanes flows prices (q .delta) (q .skip) false) (countOf lanes) nets (q .limit) searchRounds 0 (q .start) (replicate places 0) (replicate places far) (rootAt (q .start)))
 
 abbrev μ-loop : tie.MeasureT-loop
 μ-loop lanes flows prices nets q e₀ t₀ dist₀ near₀ reach₀ left₀ e t dist near reach left = left
@@ -48,14 +48,14 @@ abbrev codes : tie.After-relax Inv-loop μ-loop → List ℕ
 codes c = c .relax .last .1 .1 .1 .1 .1 .1 .0
 
 codes-are : (c : tie.After-relax Inv-loop μ-loop)
-    → codes c ≡ relaxedTo (startsOf (start c .args .lanes .now)) (endsOf (start c .args .lanes .now)) (gaps (start c) true) (gaps (start c) false) (turn c .loop .t .labelled) (turn c .loop .reach) (turn c .loop .e) (countOf (start c .args .lanes .now)) (turn c .loop .near)
+    → codes c ≡ relaxedTo (startsOf (start c .args .lanes .now)) (endsOf (start c .args .lanes .now)) (gaps (start c) true) (gaps (start c) false) (turn c .loop .t .visited) (turn c .loop .reach) (turn c .loop .e) (countOf (start c .args .lanes .now)) (turn c .loop .near)
 codes-are c =
     let at = c .before .before .before .before .spot in
     let st = start c in
     let t = turn c .loop in
     c .relax .ensures
-    ∙ ap (λ (k : ℕ). relaxedTo (startsOf (st .args .lanes .now)) (endsOf (st .args .lanes .now)) (gaps st true) (gaps st false) (t .t .labelled) k (at .result .place) (countOf (st .args .lanes .now)) (t .near)) (at .ensures .1)
-    ∙ ap (λ (e : ℕ). relaxedTo (startsOf (st .args .lanes .now)) (endsOf (st .args .lanes .now)) (gaps st true) (gaps st false) (t .t .labelled) (t .reach) e (countOf (st .args .lanes .now)) (t .near)) (at .ensures .0)
+    ∙ ap (λ (k : ℕ). relaxedTo (startsOf (st .args .lanes .now)) (endsOf (st .args .lanes .now)) (gaps st true) (gaps st false) (t .t .visited) k (at .result .place) (countOf (st .args .lanes .now)) (t .near)) (at .ensures .1)
+    ∙ ap (λ (e : ℕ). relaxedTo (startsOf (st .args .lanes .now)) (endsOf (st .args .lanes .now)) (gaps st true) (gaps st false) (t .t .visited) (t .reach) e (countOf (st .args .lanes .now)) (t .near)) (at .ensures .0)
 
 long : (c : tie.After-relax Inv-loop μ-loop) → length (codes c) ≡ places
 long c = rw (codes-are c) (relaxed-all-long _ _ _ _ _ _ _ _ _ ∙ turn c .loop .inv .1)

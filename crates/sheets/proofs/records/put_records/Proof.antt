@@ -10,11 +10,12 @@ use lib.ListN.{length, getD, take}
 use mir.Syntax.{w64}
 use mir.Val.{SFits}
 use mir.Facts.{toZ-ofZ}
-use Rattle.numbers.specs.Bytes.{Put}
+use Rattle.numbers.specs.Inner.{Put}
 use Rattle.numbers.proofs.Parts.{returned, partFrom}
 use Rattle.numbers.proofs.Rows.{Rows, no-rows, one-row, rows-long, rows-lend, rows-room, all-rows}
 use Rattle.plants.specs.Limits.{maxStreams}
-use Rattle.sheets.specs.Sheets.{streamSize, recordOf, recordsOf}
+use Rattle.sheets.specs.Sheets.{recordOf, recordsOf}
+use Rattle.sheets.specs.Apart.{streamSize}
 use Rattle.sheets.proofs.Entries.{noEntry}
 use Rattle.sheets.proofs.Laying.{record-most, records-more}
 use Rattle.sheets.proofs.records.put_records.Statement.{statement}

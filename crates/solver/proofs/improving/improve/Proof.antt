@@ -11,7 +11,7 @@ use mathlib.Core.Path.{sym, _∙_, ap}
 use borrow.Author.Needs.{needs}
 use Rattle.solver.proofs.improving.improve.Statement.{statement}
 use Rattle.solver.proofs.improving.improve.Tie as tie
-use Rattle.paths.proofs.labels.search.Reads as search-reads
+use Rattle.paths.proofs.searches.search.Reads as search-reads
 use Rattle.paths.proofs.pushes.push_back.Reads as push-back-reads
 
 -- The start, the first place over and the test of it, from where the search is done.

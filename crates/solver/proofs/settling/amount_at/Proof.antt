@@ -1,6 +1,6 @@
 -- `solver::settling::amount_at` meets its contract: every part fits, by the bounds of weight, reading and prices.
 use Rattle.solver.proofs.Nearest.{reading-close, settled-up, settled-down, down-most}
-use Rattle.solver.specs.Sizes.{spread}
+use Rattle.solver.specs.Sizes.{priceBand}
 use Rattle.paths.specs.Held.{readingOf}
 use Rattle.paths.specs.Sizes.{mostFlow}
 use Rattle.flows.specs.Certificate.{weightOf}
@@ -16,7 +16,7 @@ use Rattle.paths.proofs.slacks.reading_of.Reads as reading-of-reads
 use Rattle.paths.proofs.slacks.weight_of.Reads as weight-of-reads
 
 bounds : (c : tie.After-reading-of)
-    → (1 ≤ c .before .weight-of .result) × (c .before .weight-of .result ≤ maxWeight) × (spread ≤ c .reading-of .result) × (c .reading-of .result ≤ mostFlow)
+    → (1 ≤ c .before .weight-of .result) × (c .before .weight-of .result ≤ maxWeight) × (priceBand ≤ c .reading-of .result) × (c .reading-of .result ≤ mostFlow)
 bounds c =
     let st = c .before .before in (
       rw (c .before .weight-of .ensures) (st .pre .weighed),

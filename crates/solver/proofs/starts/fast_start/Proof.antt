@@ -5,11 +5,11 @@ use Prim.Native.Nat.{ℕ}
 use native.Mathlib.Omega.{arith}
 use borrow.Author.Needs.{needs}
 use Rattle.plants.specs.Says.{plantOf}
-use Rattle.flows.specs.Classes.{unmeteredOnly}
+use Rattle.flows.specs.Chains.{unmeteredOnly}
 use Rattle.flows.specs.Labels.{labelsOf}
 use Rattle.potentials.specs.Levels.{Level}
 use Rattle.paths.specs.Sizes.{priceShift}
-use Rattle.solver.specs.Sizes.{spread}
+use Rattle.solver.specs.Sizes.{priceBand}
 use Rattle.solver.proofs.Booking.{nets-long}
 use Rattle.solver.proofs.Layouts.{ready-settles}
 use Rattle.solver.proofs.Theorem.{layout-of}
@@ -18,8 +18,8 @@ use Rattle.solver.proofs.Factored.{labels-of, level-ready, level-routes
 use Rattle.solver.proofs.starts.fast_start.Statement.{statement}
 use Rattle.solver.proofs.starts.fast_start.Tie as tie
 
-levels : (c : tie.After-potentials-of) → Level (labelsOf unmeteredOnly (plantOf (c .before .args .p))) priceShift spread (c .potentials-of .result)
-levels c = subst (λ (ls : List ℕ). Level ls priceShift spread (c .potentials-of .result)) (c .before .pre .1) (c .potentials-of .ensures)
+levels : (c : tie.After-potentials-of) → Level (labelsOf unmeteredOnly (plantOf (c .before .args .p))) priceShift priceBand (c .potentials-of .result)
+levels c = subst (λ (ls : List ℕ). Level ls priceShift priceBand (c .potentials-of .result)) (c .before .pre .1) (c .potentials-of .ensures)
 
 potentials-of-requires : tie.Need-potentials-of-requires
 potentials-of-requires c κs = (c .pre .0, rw (c .pre .1) (labels-of (c .args .p) (c .pre .0)), omega arith)

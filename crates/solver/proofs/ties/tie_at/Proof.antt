@@ -4,7 +4,7 @@ use Rattle.solver.specs.Premises.{Tying}
 use Rattle.paths.proofs.Filling.{starts-in, ends-in}
 use Rattle.paths.specs.Search.{rootAt, grownBy, tightPath}
 use Rattle.paths.specs.Push.{pushed}
-use Rattle.paths.specs.Sizes.{rounds}
+use Rattle.paths.specs.Sizes.{searchRounds}
 use Rattle.plants.specs.Limits.{places}
 use Rattle.plants.specs.Plants.{noStream}
 use lib.ListN.{getD, take}
@@ -17,7 +17,7 @@ use mathlib.Core.Path.{_≡_, sym, _∙_, ap}
 use borrow.Author.Needs.{needs}
 use Rattle.solver.proofs.ties.tie_at.Statement.{statement}
 use Rattle.solver.proofs.ties.tie_at.Tie as tie
-use Rattle.paths.proofs.labels.tight_path.Reads as tight-path-reads
+use Rattle.paths.proofs.searches.tight_path.Reads as tight-path-reads
 use Rattle.paths.proofs.pushes.push_back.Reads as push-back-reads
 
 -- The start, from where the search is done; streams that the lanes are of.
@@ -39,14 +39,14 @@ end-in c = let w = c .before .before .pre in rw (c .end-at .ensures) (ends-in (w
 -- What the call of tight_path says.
 told : (c : tie.After-tight-path) (w : Of (start c))
     → grownBy (c .tight-path .result .found) (c .tight-path .result .tree) (start c .args .prices .now)
-    ≡ tightPath (take (w .tieable .n) (w .tieable .streams)) (w .tieable .n) (start c .args .flows .now) (start c .args .prices .now) (getD (w .tieable .streams) (start c .args .i) noStream .to) (suc (start c .args .i)) rounds (rootAt (getD (w .tieable .streams) (start c .args .i) noStream .from))
+    ≡ tightPath (take (w .tieable .n) (w .tieable .streams)) (w .tieable .n) (start c .args .flows .now) (start c .args .prices .now) (getD (w .tieable .streams) (start c .args .i) noStream .to) (suc (start c .args .i)) searchRounds (rootAt (getD (w .tieable .streams) (start c .args .i) noStream .from))
 told c w =
     let st = start c in
     let t = w .tieable in
     c .tight-path .ensures (tie-searching _ _ _ _ t (omega (arith, w .below)))
-    ∙ ap (λ (v : ℕ). tightPath (take (t .n) (t .streams)) (t .n) (st .args .flows .now) (st .args .prices .now) v (st .args .i + 1) rounds (rootAt (c .before .before .before .start-at .result))) (to-is (c .before .before) w)
-    ∙ ap (λ (u : ℕ). tightPath (take (t .n) (t .streams)) (t .n) (st .args .flows .now) (st .args .prices .now) (getD (t .streams) (st .args .i) noStream .to) (st .args .i + 1) rounds (rootAt u)) (from-is (c .before .before .before) w)
-    ∙ ap (λ (k : ℕ). tightPath (take (t .n) (t .streams)) (t .n) (st .args .flows .now) (st .args .prices .now) (getD (t .streams) (st .args .i) noStream .to) k rounds (rootAt (getD (t .streams) (st .args .i) noStream .from))) (add-one (st .args .i))
+    ∙ ap (λ (v : ℕ). tightPath (take (t .n) (t .streams)) (t .n) (st .args .flows .now) (st .args .prices .now) v (st .args .i + 1) searchRounds (rootAt (c .before .before .before .start-at .result))) (to-is (c .before .before) w)
+    ∙ ap (λ (u : ℕ). tightPath (take (t .n) (t .streams)) (t .n) (st .args .flows .now) (st .args .prices .now) (getD (t .streams) (st .args .i) noStream .to) (st .args .i + 1) searchRounds (rootAt u)) (from-is (c .before .before .before) w)
+    ∙ ap (λ (k : ℕ). tightPath (take (t .n) (t .streams)) (t .n) (st .args .flows .now) (st .args .prices .now) (getD (t .streams) (st .args .i) noStream .to) k searchRounds (rootAt (getD (t .streams) (st .args .i) noStream .from))) (add-one (st .args .i))
 
 -- A way round was found: what the push needs.
 ready : (c : tie.Else1) (w : Of (start (c .before .before)))

@@ -1,9 +1,9 @@
--- `paths::labels::tight_path` meets its contract: the walk comes to what the search comes to.
+-- `paths::searches::tight_path` meets its contract: the walk comes to what the search comes to.
 use Rattle.paths.proofs.Finds.{lanes-of}
 use Rattle.paths.proofs.Rounding.{path-laid}
 use borrow.Author.Needs.{needs}
-use Rattle.paths.proofs.labels.tight_path.Statement.{statement}
-use Rattle.paths.proofs.labels.tight_path.Tie as tie
+use Rattle.paths.proofs.searches.tight_path.Statement.{statement}
+use Rattle.paths.proofs.searches.tight_path.Tie as tie
 
 goal-requires : tie.Need-goal-requires
 goal-requires c κs = search needs

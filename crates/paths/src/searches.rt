@@ -1,4 +1,4 @@
-// The search over labelled places.
+// The search over visited places.
 use crate::Quest;
 use crate::Searched;
 use crate::lanes::LANES;
@@ -12,26 +12,26 @@ ghost use mathlib.Core.Path.{_≡_};
 ghost use Prim.Native.Nat.{_<_};
 ghost use lib.ListN.{length, take};
 ghost use Rattle.plants.specs.Limits.{places};
-ghost use Rattle.paths.specs.Sizes.{rounds};
+ghost use Rattle.paths.specs.Sizes.{searchRounds};
 ghost use Rattle.paths.specs.Search.{rootAt, grownBy, grow, tightPath};
 ghost use Rattle.paths.specs.Near.{goalAt, reducedBy};
 ghost use Rattle.paths.specs.Premises.{Searching, Falling};
 
-// The prices of labelled places fall by what the search's distance exceeds theirs.
-fn reduce(prices: &mut [u64; PLACES], labelled: &[bool; PLACES], dist: &[u64; PLACES], reach: u64)
+// The prices of visited places fall by what the search's distance exceeds theirs.
+fn reduce(prices: &mut [u64; PLACES], visited: &[bool; PLACES], dist: &[u64; PLACES], reach: u64)
     requires { ⌜ length (now prices) ≡ places ⌝ }
-    ensures { λ _. ⌜ now (prices .exit) ≡ reducedBy (now (labelled .entry)) (now (dist .entry)) reach (now (prices .entry)) ⌝ }
+    ensures { λ _. ⌜ now (prices .exit) ≡ reducedBy (now (visited .entry)) (now (dist .entry)) reach (now (prices .entry)) ⌝ }
 {
     let mut u: usize = 0;
     while u < PLACES {
-        if labelled[u] {
+        if visited[u] {
             prices[u] = minus(prices[u], minus(reach, dist[u]));
         }
         u += 1;
     }
 }
 
-// Places are labelled, each over the stream of least slack and with the prices lowered by it, until one with a negative net is.
+// Places are visited, each over the stream of least slack and with the prices lowered by it, until one with a negative net is.
 // (The walk goes over the lanes of the streams by distances, and the prices fall once, at its end.)
 pub fn search(
     lanes: &[u64; LANES],
@@ -42,7 +42,7 @@ pub fn search(
     delta: u64,
 ) -> Searched
     requires { ⌜ Searching (now lanes) (now flows) (now prices) delta × (s < places) × Falling (now prices) delta ⌝ }
-    ensures { λ r. ⌜ ((w : Searching (now (lanes .entry)) (now (flows .entry)) (now (prices .entry)) delta) → grownBy (r .found) (r .tree) (now (prices .exit)) ≡ grow (take (w .n) (w .streams)) (w .n) (now (flows .entry)) (now (nets .entry)) delta rounds (now (prices .entry)) (rootAt s)) ⌝ }
+    ensures { λ r. ⌜ ((w : Searching (now (lanes .entry)) (now (flows .entry)) (now (prices .entry)) delta) → grownBy (r .found) (r .tree) (now (prices .exit)) ≡ grow (take (w .n) (w .streams)) (w .n) (now (flows .entry)) (now (nets .entry)) delta searchRounds (now (prices .entry)) (rootAt s)) ⌝ }
 {
     let w = walk(
         lanes,
@@ -57,9 +57,9 @@ pub fn search(
         },
     );
     let t = w.tree;
-    let labelled = t.labelled;
+    let visited = t.visited;
     let dist = w.dist;
-    reduce(prices, &labelled, &dist, w.reach);
+    reduce(prices, &visited, &dist, w.reach);
     Searched {
         found: w.found,
         tree: t,
@@ -76,7 +76,7 @@ fn goal(v: usize) -> [u64; PLACES]
     nets
 }
 
-// Places are labelled over streams without slack until v is, metered streams before number skip left alone.
+// Places are visited over streams without slack until v is, metered streams before number skip left alone.
 pub fn tight_path(
     lanes: &[u64; LANES],
     flows: &[u64; MAX_STREAMS],
@@ -86,7 +86,7 @@ pub fn tight_path(
     skip: usize,
 ) -> Searched
     requires { ⌜ Searching (now lanes) (now flows) (now prices) 1 × (s < places) × (v < places) ⌝ }
-    ensures { λ r. ⌜ ((w : Searching (now (lanes .entry)) (now (flows .entry)) (now (prices .entry)) 1) → grownBy (r .found) (r .tree) (now (prices .entry)) ≡ tightPath (take (w .n) (w .streams)) (w .n) (now (flows .entry)) (now (prices .entry)) v skip rounds (rootAt s)) ⌝ }
+    ensures { λ r. ⌜ ((w : Searching (now (lanes .entry)) (now (flows .entry)) (now (prices .entry)) 1) → grownBy (r .found) (r .tree) (now (prices .entry)) ≡ tightPath (take (w .n) (w .streams)) (w .n) (now (flows .entry)) (now (prices .entry)) v skip searchRounds (rootAt s)) ⌝ }
 {
     let nets = goal(v);
     let w = walk(

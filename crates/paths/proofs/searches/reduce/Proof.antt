@@ -1,4 +1,4 @@
--- `paths::labels::reduce` meets its contract: the prices of the first u places are reduced.
+-- `paths::searches::reduce` meets its contract: the prices of the first u places are reduced.
 use mathlib.Core.Path.{_≡_}
 use mathlib.Core.Bool.{false}
 use mathlib.Core.Logic.{⊎-elim}
@@ -10,14 +10,14 @@ use Rattle.paths.specs.Search.{fallen}
 use Rattle.flows.proofs.Lists.{Written, written-none, written-put, written-keep}
 use Rattle.paths.proofs.Filling.{reduced-is}
 use borrow.Author.Needs.{needs}
-use Rattle.paths.proofs.labels.reduce.Statement.{statement}
-use Rattle.paths.proofs.labels.reduce.Tie as tie
+use Rattle.paths.proofs.searches.reduce.Statement.{statement}
+use Rattle.paths.proofs.searches.reduce.Tie as tie
 
 abbrev Inv-loop : tie.InvT-loop
-Inv-loop prices₀ labelled dist reach u₀ prices u = (u ≤ places) × Written 0 places (λ k x. fallen (getD labelled k false) (reach - getD dist k 0) x) prices₀ prices u
+Inv-loop prices₀ visited dist reach u₀ prices u = (u ≤ places) × Written 0 places (λ k x. fallen (getD visited k false) (reach - getD dist k 0) x) prices₀ prices u
 
 abbrev μ-loop : tie.MeasureT-loop
-μ-loop prices₀ labelled dist reach u₀ prices u = places - u
+μ-loop prices₀ visited dist reach u₀ prices u = places - u
 
 loop-holds : tie.Need-loop-holds Inv-loop μ-loop
 loop-holds c = (omega arith, written-none (c .pre))

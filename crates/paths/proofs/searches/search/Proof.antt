@@ -1,8 +1,8 @@
--- `paths::labels::search` meets its contract: the walk comes to what the search comes to.
+-- `paths::searches::search` meets its contract: the walk comes to what the search comes to.
 use Rattle.paths.proofs.Finds.{lanes-of, search-laid}
 use borrow.Author.Needs.{needs}
-use Rattle.paths.proofs.labels.search.Statement.{statement}
-use Rattle.paths.proofs.labels.search.Tie as tie
+use Rattle.paths.proofs.searches.search.Statement.{statement}
+use Rattle.paths.proofs.searches.search.Tie as tie
 
 walk-requires : tie.Need-walk-requires
 walk-requires c κs =
