@@ -24,7 +24,7 @@ use Rattle.flows.proofs.Nets.{inside-of}
 use Rattle.flows.proofs.Labels.{label-long, label-low, label-level}
 use Rattle.solver.proofs.Nearest.{settled-long, settled-at, settled-again, settled-sound}
 use Rattle.solver.proofs.Layouts.{hinted-ready, settled-is}
-use Rattle.solver.proofs.Theorem.{layout-of, solvable-in}
+use Rattle.solver.proofs.Theorem.{network-of, solvable-in}
 use Rattle.solver.proofs.Spanning.{routes-none}
 
 module _ (p : Arrays.Plant) (a : Accepted p) where
@@ -54,7 +54,7 @@ module _ (p : Arrays.Plant) (a : Accepted p) where
     none = record { flows = replicate maxStreams flowShift; prices = ps }
 
     pub level-ready : Ready (plantOf p .streams) none
-    level-ready = hinted-ready (p .streams) (p .count) (layout-of p a) none (level-hinted v routes-none)
+    level-ready = hinted-ready (p .streams) (p .count) (network-of p a) none (level-hinted v routes-none)
 
     -- Metered amounts settled, the others 0.
     abbrev xs : List ℕ
@@ -81,5 +81,5 @@ module _ (p : Arrays.Plant) (a : Accepted p) where
         hint = record { flows = ys; prices = ps };
         hinted = level-hinted v r;
         is = ap (λ (zs : List ℕ). stateOf zs ps (netsTo (plantOf p .streams) zs (p .count))) (sym routed-again)
-            ∙ sym (settled-is (p .streams) (p .count) (layout-of p a) (record { flows = ys; prices = ps }));
+            ∙ sym (settled-is (p .streams) (p .count) (network-of p a) (record { flows = ys; prices = ps }));
       }

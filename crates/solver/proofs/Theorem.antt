@@ -1,52 +1,37 @@
 -- The solver is right: of every plant that is read, from any hint, the flow is the cheapest and its prices certify it.
 use mathlib.Core.Path.{_≡_, refl, sym, _∙_, ap, ap₂, subst}
-use mathlib.Core.Bool.{Bool, true, false}
 use mathlib.Core.List.{List}
 use lib.IntN.{ℤ}
-use Prim.Native.Nat.{ℕ, _≤_}
+use Prim.Native.Nat.{ℕ}
 use native.Mathlib.Omega.{arith}
-use lib.ListN.{length, getD}
-use Rattle.numbers.specs.Choice.{pick}
+use lib.ListN.{length}
 use Rattle.plants.specs.declared.Stream.{Stream}
 use Rattle.plants.specs.declared.Plant as Arrays
-use Rattle.plants.specs.Limits.{maxUnits, maxWeight}
-use Rattle.plants.specs.Plants.{Plant, noStream}
+use Rattle.plants.specs.Plants.{Plant}
 use Rattle.plants.specs.Says.{plantOf}
-use Rattle.plants.specs.Within.{WithinStream, Within, Accepted}
+use Rattle.plants.specs.Within.{Within, Accepted}
 use Rattle.plants.proofs.Arrayed.{all-listed, within-of, stream-within}
 use Rattle.flows.specs.Flows.{streamAt, amountAt, Cheapest}
 use Rattle.flows.specs.Certificate.{climb, leastClimb, mostClimb}
 use Rattle.flows.proofs.Integers.{le-leZ}
 use Rattle.flows.proofs.Prices.{StepAt, Steps, Certificate}
 use Rattle.paths.specs.Held.{opened}
+use Rattle.paths.specs.Premises.{Network}
+use Rattle.paths.proofs.Weights.{weight-most}
 use Rattle.solver.specs.declared.State.{State}
 use Rattle.solver.specs.declared.Solved.{Solved}
 use Rattle.solver.specs.Model.{noHint, tiesTo, finished, solvedFrom, settled}
-use Rattle.solver.specs.Premises.{Layout, Hinted, AtHint, Even}
+use Rattle.solver.specs.Premises.{Hinted, AtHint, Even}
 use Rattle.solver.specs.Promise.{price, priceAt, Bounded, Right}
 use Rattle.solver.proofs.Nearest.{Solvable, held-agreed}
 use Rattle.solver.proofs.Ending.{none-hinted, finished-even, finished-prices, finished-priced}
 use Rattle.solver.proofs.Tying.{ended, tied-sure, tied-cheapest}
 
--- A stream's weight is in range, metered or not.
-light : (n : ℕ) (s : Stream) → WithinStream n s → pick (s .metered) (s .weight) 0 ≤ maxWeight
-light n s h = go (s .metered) (h .light)
-  where
-    go : (b : Bool) → (b ≡ true → s .weight ≤ maxWeight) → pick b (s .weight) 0 ≤ maxWeight
-    go true f = f refl
-    go false f = omega arith
-
 -- A plant that is accepted has streams as the solver needs them.
-pub layout-of : (p : Arrays.Plant) → Accepted p → Layout (p .streams) (p .count)
-layout-of p a = record {
-  network = record {
-    long = a .long;
-    few = a .within .few-streams;
-    placed = λ k l. let w = stream-within p a k l in record { from-in = w .from-in; to-in = w .to-in; light = light maxUnits (getD (p .streams) k noStream) w };
-  };
-  weighed = λ k l. a .within .each k l .weighed;
-  in-range = λ k l m. omega (arith, a .within .each k l .in-range m);
-  apart = λ k l. a .within .each k l .apart;
+pub network-of : (p : Arrays.Plant) → Accepted p → Network (p .streams) (p .count)
+network-of p a = record {
+  long = a .long;
+  within = record { some-units = omega arith; few-units = omega arith; few-streams = a .within .few-streams; each = stream-within p a };
 }
 
 -- So has the list of a plant within its limits.
@@ -56,7 +41,7 @@ solvable-in q w = record {
     inside = λ k l. (omega (arith, w .each k l .from-in, w .few-units), omega (arith, w .each k l .to-in, w .few-units));
     small = omega arith;
     few = w .few-streams;
-    light = λ k l. light (q .units) (streamAt (q .streams) k) (w .each k l);
+    light = λ k l. weight-most (streamAt (q .streams) k) (w .each k l);
   };
   weighed = λ k l. w .each k l .weighed;
   in-range = λ k l m. omega (arith, w .each k l .in-range m);
