@@ -15,7 +15,6 @@ pub mod Ties
 pub mod Certified
 pub mod Lists
 pub mod Labels
-pub mod Fits
 pub mod Degrees
 pub mod Counted
 pub mod ByLabels

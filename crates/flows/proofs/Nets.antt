@@ -13,7 +13,10 @@ use Rattle.numbers.specs.Choice.{pick}
 use Rattle.numbers.proofs.Tests.{and-left, and-right, and-both}
 use Rattle.plants.specs.declared.Stream.{Stream}
 use Rattle.plants.specs.Plants.{Plant}
-use Rattle.plants.specs.Within.{Within}
+use Rattle.plants.specs.declared.Plant as Arrays
+use Rattle.plants.specs.Within.{Within, Accepted}
+use Rattle.plants.specs.Says.{plantOf}
+use Rattle.plants.proofs.Arrayed.{within-of}
 use Rattle.flows.specs.Flows.{streamAt, amountAt, netAt, balancedTo, balanced}
 use Rattle.numbers.specs.Inner.{values}
 use Rattle.flows.specs.Classes.{has, sideOut}
@@ -48,6 +51,10 @@ net-is u = sum-listed (brought u) (netAt u) (λ xs. refl)
 
 pub inside : (p : Plant) → Within p → Inside (p .units) (p .streams)
 inside p w k l = (w .each k l .from-in, w .each k l .to-in)
+
+-- The same of a plant in an array.
+pub inside-of : (p : Arrays.Plant) → Accepted p → Inside (p .units) (plantOf p .streams)
+inside-of p a = inside (plantOf p) (within-of p a)
 
 two-ends : (a b x : ℤ) → a *ℤ x +ℤ b *ℤ negℤ x ≡ (a -ℤ b) *ℤ x
 two-ends a b x = rw (← canon a, ← canon b, ← canon x) (simp Z·diff (omega arith))

@@ -12,13 +12,14 @@ ghost use lib.ListN.{length};
 ghost use lib.Bits.{bitXor};
 ghost use Rattle.numbers.specs.Choice.{pick};
 ghost use lib.Dec.{eqb};
-ghost use Rattle.plants.specs.Limits.{places};
+ghost use Rattle.plants.specs.Limits.{maxUnits, places};
+ghost use Rattle.plants.specs.Within.{WithinStream, Accepted};
 ghost use Rattle.flows.specs.Sides.{takenBy, apart, loopedBy, turned, parted};
-ghost use Rattle.flows.specs.Calls.{Fit, Ends, Cutting};
+ghost use Rattle.flows.specs.Calls.{Cutting};
 
 // The label that a stream takes away.
 fn taken_by(labels: &[u8; PLACES], s: Stream) -> u8
-    requires { ⌜ Ends s × (length (now labels) ≡ places) ⌝ }
+    requires { ⌜ WithinStream maxUnits s × (length (now labels) ≡ places) ⌝ }
     ensures { λ r. ⌜ r ≡ takenBy (now (labels .entry)) s ⌝ }
 {
     if s.metered {
@@ -39,7 +40,7 @@ fn taken_by(labels: &[u8; PLACES], s: Stream) -> u8
 
 // The streams on the way between a stream's ends, by their bits.
 fn way_between(sides: &[u64; PLACES], s: Stream) -> u64
-    requires { ⌜ Ends s × (length (now sides) ≡ places) ⌝ }
+    requires { ⌜ WithinStream maxUnits s × (length (now sides) ≡ places) ⌝ }
     ensures { λ r. ⌜ r ≡ apart (now (sides .entry)) s ⌝ }
 {
     let u = s.from as usize;
@@ -49,7 +50,7 @@ fn way_between(sides: &[u64; PLACES], s: Stream) -> u64
 
 // The streams that lie on a loop with a stream, where it is unmetered and earlier ones join its ends.
 fn looped_by(labels: &[u8; PLACES], sides: &[u64; PLACES], s: Stream) -> u64
-    requires { ⌜ Ends s × (length (now labels) ≡ places) × (length (now sides) ≡ places) ⌝ }
+    requires { ⌜ WithinStream maxUnits s × (length (now labels) ≡ places) × (length (now sides) ≡ places) ⌝ }
     ensures { λ r. ⌜ r ≡ loopedBy (now (labels .entry)) (now (sides .entry)) s ⌝ }
 {
     if s.metered {
@@ -86,7 +87,7 @@ fn turn(sides: &mut [u64; PLACES], labels: &[u8; PLACES], h: u8, by: u64)
 
 // A stream takes label h away.
 fn part(sides: &mut [u64; PLACES], labels: &[u8; PLACES], s: Stream, h: u8)
-    requires { ⌜ Ends s × (length (now sides) ≡ places) × (length (now labels) ≡ places) × (h < places) ⌝ }
+    requires { ⌜ WithinStream maxUnits s × (length (now sides) ≡ places) × (length (now labels) ≡ places) × (h < places) ⌝ }
     ensures { λ _. ⌜ now (sides .exit) ≡ parted h (now (labels .entry)) s (now (sides .entry)) ⌝ }
 {
     if h == 0 {
@@ -98,7 +99,7 @@ fn part(sides: &mut [u64; PLACES], labels: &[u8; PLACES], s: Stream, h: u8)
 
 // The labels by the unmetered streams, those that the streams take away, and the loops.
 pub fn cuts_of(p: Plant) -> Cuts
-    requires { ⌜ Fit p ⌝ }
+    requires { ⌜ Accepted p ⌝ }
     ensures { λ r. ⌜ Cutting p r ⌝ }
 {
     let n = p.count as usize;

@@ -15,7 +15,7 @@ use Rattle.plants.specs.Limits.{places, maxStreams}
 use Rattle.paths.specs.Sizes.{mostFlow, mostStep}
 use Rattle.paths.specs.Search.{fallen, loweredBy, farEnd}
 use Rattle.paths.specs.Push.{movedOf}
-use Rattle.paths.specs.Premises.{Placed, Prices, Roomy}
+use Rattle.paths.specs.Premises.{Prices, Roomy}
 use Rattle.flows.proofs.Lists.{Written}
 
 -- The prices of visited places lowered.

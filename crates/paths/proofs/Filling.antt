@@ -100,7 +100,7 @@ gap-at ls xs ps d skip f k l = values-at _ 0 (countOf ls) k l
 
 -- The starts and the ends of the streams in use are places.
 pub starts-in : {streams : List Stream} {n : ℕ} {ls : List ℕ} → Network streams n → Rowed streams n ls → (k : ℕ) → k < n → getD (startsOf ls) k 0 < places
-starts-in w r k l = rw (r .starts k l) (omega (arith, w .placed k l .from-in))
+starts-in w r k l = rw (r .starts k l) (omega (arith, w .within .each k l .from-in))
 
 pub ends-in : {streams : List Stream} {n : ℕ} {ls : List ℕ} → Network streams n → Rowed streams n ls → (k : ℕ) → k < n → getD (endsOf ls) k 0 < places
-ends-in w r k l = rw (r .ends k l) (omega (arith, w .placed k l .to-in))
+ends-in w r k l = rw (r .ends k l) (omega (arith, w .within .each k l .to-in))

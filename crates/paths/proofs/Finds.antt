@@ -13,7 +13,8 @@ use lib.Seq.{getD-take, length-take-le, getD-set-same, getD-set-other}
 use Rattle.numbers.specs.Choice.{pick}
 use Rattle.numbers.proofs.Tests.{by-cases, clash}
 use Rattle.plants.specs.declared.Stream.{Stream}
-use Rattle.plants.specs.Limits.{places, maxStreams, maxWeight}
+use Rattle.plants.specs.Limits.{maxUnits, places, maxStreams, maxWeight}
+use Rattle.plants.specs.Within.{WithinStream}
 use Rattle.plants.specs.Plants.{noStream}
 use Rattle.flows.specs.Flows.{streamAt}
 use Rattle.flows.specs.Certificate.{weightOf}
@@ -25,8 +26,9 @@ use Rattle.paths.specs.Slack.{At, Nothing, leastTo, slackBy, slackAt, sl
 use Rattle.paths.specs.Search.{fallen, loweredBy, farEnd, rootAt, addedTo, Grown, grownBy, grow}
 use Rattle.paths.specs.Rows.{countOf, startsOf, endsOf}
 use Rattle.paths.specs.Near.{gapsOf, relaxedTo, nearestTo, reducedBy, walkedBy, walked}
-use Rattle.paths.specs.Premises.{Network, Placed, Linked, Laid, Walkable, Lanes, Searching, Falling}
+use Rattle.paths.specs.Premises.{Network, Linked, Laid, Walkable, Lanes, Searching, Falling}
 use Rattle.paths.proofs.Growing.{slack-most}
+use Rattle.paths.proofs.Weights.{weight-most}
 use Rattle.paths.proofs.Filling.{getD-any, reduced-at, reduced-none, gap-at, starts-in, ends-in}
 use Rattle.paths.proofs.Least.{Usable, all-usable, startIn, endIn, Least, Answers, answers-same}
 use Rattle.paths.proofs.Rounds.{grow-none, grow-hit, grow-more, grow-end}
@@ -46,10 +48,10 @@ pub record Slacked (streams : List Stream) (n : ℕ) (xs ps : List ℕ) (d skip 
 
 module _ (streams : List Stream) (n : ℕ) (xs ps : List ℕ) (d skip : ℕ) (fs ts gs bs : List ℕ) (laid : Slacked streams n xs ps d skip fs ts gs bs) where
   pub in-use : length (take n streams) ≡ n
-  in-use = length-take-le n streams (omega (arith, laid .network .few, laid .network .long))
+  in-use = length-take-le n streams (omega (arith, laid .network .within .few-streams, laid .network .long))
 
-  placed : (k : ℕ) → k < n → Placed (streamAt (take n streams) k)
-  placed k l = rw (getD-take n streams k noStream l) (laid .network .placed k l)
+  placed : (k : ℕ) → k < n → WithinStream maxUnits (streamAt (take n streams) k)
+  placed k l = rw (getD-take n streams k noStream l) (laid .network .within .each k l)
 
   pub heads : (k : ℕ) (f : Bool) → k < n → headOf n fs ts gs bs k f < places
   heads k true l = rw (laid .ends k l) (omega (arith, placed k l .to-in))
@@ -61,7 +63,7 @@ module _ (streams : List Stream) (n : ℕ) (xs ps : List ℕ) (d skip : ℕ) (fs
 
   -- A slack is 1 where the stream is left alone, and at most 2 * maxWeight * d elsewhere.
   most : (k : ℕ) (f : Bool) → k < n → slackAt (take n streams) xs ps d k f ≤ 2 * maxWeight * d
-  most k f l = slack-most f (streamAt (take n streams) k) _ _ _ d (laid .held k (rw in-use l)) (placed k l .light)
+  most k f l = slack-most f (streamAt (take n streams) k) _ _ _ d (laid .held k (rw in-use l)) (weight-most (streamAt (take n streams) k) (placed k l))
 
   past : (k : ℕ) (f : Bool) → k < n → slackOf n fs ts gs bs k f ≡ slackPast (take n streams) xs ps d skip f k
   past k true l = laid .ahead k l
@@ -90,7 +92,7 @@ module _ (streams : List Stream) (n : ℕ) (xs ps : List ℕ) (d skip : ℕ) (fs
 module _ (streams : List Stream) (n : ℕ) (xs ps : List ℕ) (d skip : ℕ) (ls : List ℕ) (laid : Laid streams n ls) (w : Walkable streams n xs ps d) where
   -- A metered stream is one that weighs something.
   metered-is : (k : ℕ) → k < n → ltb 0 (weightOf (getD streams k noStream)) ≡ getD streams k noStream .metered
-  metered-is k l = go (getD streams k noStream .metered) (w .weighed k l)
+  metered-is k l = go (getD streams k noStream .metered) (w .searchable .network .within .each k l .weighed)
     where
       go : (b : Bool) → (b ≡ true → 1 ≤ getD streams k noStream .weight) → ltb 0 (pick b (getD streams k noStream .weight) 0) ≡ b
       go true h = lt-ltb 0 (getD streams k noStream .weight) (omega (arith, h refl))
@@ -114,10 +116,10 @@ module _ (streams : List Stream) (n : ℕ) (xs ps : List ℕ) (d skip : ℕ) (ls
 
   pub lanes-of : Lanes ls xs ps d skip
   lanes-of = record {
-    few = rw (laid .counted) (w .searchable .network .few);
+    few = rw (laid .counted) (w .searchable .network .within .few-streams);
     from-in = λ k l. starts-in (w .searchable .network) (laid .rowed) k (at l);
     to-in = λ k l. ends-in (w .searchable .network) (laid .rowed) k (at l);
-    light = λ k l. rw (laid .rowed .weights k (at l)) (w .searchable .network .placed k (at l) .light);
+    light = λ k l. rw (laid .rowed .weights k (at l)) (weight-most (getD streams k noStream) (w .searchable .network .within .each k (at l)));
     pulled = λ k l. laid .rowed .pulled k (at l);
     linked = subst (λ (m : ℕ). Linked m (startsOf ls) (endsOf ls) ls) (sym (laid .counted)) (laid .linked);
     amounts = λ k l. w .searchable .amounts k (at l);
@@ -223,7 +225,7 @@ module _ (streams : List Stream) (n : ℕ) (xs ps : List ℕ) (d : ℕ) (one : 1
     over-least : (i : ℕ) (f : Bool) → i < n → getD (t .visited) (tailOf n fs ts gs bs i f) false ≡ true
         → getD (t .visited) (headOf n fs ts gs bs i f) false ≡ false → k ≤ overOf n fs ts gs bs ks i f
     over-least i f b y z =
-        omega (arith, full .least i f b y (λ o. omega arith) z, full .above (headOf n fs ts gs bs i f) (heads streams n xs ps d 0 fs ts gs bs laid i f b), laid .network .few)
+        omega (arith, full .least i f b y (λ o. omega arith) z, full .above (headOf n fs ts gs bs i f) (heads streams n xs ps d 0 fs ts gs bs laid i f b), laid .network .within .few-streams)
 
     slack-is : (i : ℕ) (f : Bool) → i < n → getD (t .visited) (tailOf n fs ts gs bs i f) false ≡ true
         → getD (t .visited) (headOf n fs ts gs bs i f) false ≡ false → slackAt ss xs qs d i f + k ≡ overOf n fs ts gs bs ks i f
@@ -234,8 +236,8 @@ module _ (streams : List Stream) (n : ℕ) (xs ps : List ℕ) (d : ℕ) (one : 1
       where
         shut : (i : ℕ) → i < n → startIn ss (t .visited) i ≡ not (endIn ss (t .visited) i) → ⊥
         shut i b c =
-            let o = leaving ss n fs ts gs bs starts ends (laid .network .few) (t .visited) i b c in
-            none-leads ss n fs ts gs bs starts ends (laid .network .few) (heads streams n xs ps d 0 fs ts gs bs laid) (t .visited) ks codes (k * numbering) e r full refl q i
+            let o = leaving ss n fs ts gs bs starts ends (laid .network .within .few-streams) (t .visited) i b c in
+            none-leads ss n fs ts gs bs starts ends (laid .network .within .few-streams) (heads streams n xs ps d 0 fs ts gs bs laid) (t .visited) ks codes (k * numbering) e r full refl q i
             (startIn ss (t .visited) i) b (o .0) (o .1)
             (omega (arith, over-small i (startIn ss (t .visited) i) b, g .room, laid .step))
 
@@ -247,8 +249,8 @@ module _ (streams : List Stream) (n : ℕ) (xs ps : List ℕ) (d : ℕ) (one : 1
 
     -- The nearest place is at the end of the stream of least slack.
     module _ (q : r ≡ places → ⊥) where
-      tells : Told ss n fs ts gs bs starts ends (laid .network .few) (t .visited) ks codes r
-      tells = told ss n fs ts gs bs starts ends (laid .network .few) (heads streams n xs ps d 0 fs ts gs bs laid) (t .visited) ks codes (k * numbering) e r full refl q
+      tells : Told ss n fs ts gs bs starts ends (laid .network .within .few-streams) (t .visited) ks codes r
+      tells = told ss n fs ts gs bs starts ends (laid .network .within .few-streams) (heads streams n xs ps d 0 fs ts gs bs laid) (t .visited) ks codes (k * numbering) e r full refl q
 
       abbrev i : ℕ
       i = tells .lead .stream
@@ -260,7 +262,7 @@ module _ (streams : List Stream) (n : ℕ) (xs ps : List ℕ) (d : ℕ) (one : 1
       off = rw (tells .lead .head) (tells .lead .off)
 
       on : (startIn ss (t .visited) i ≡ not (endIn ss (t .visited) i)) × (startIn ss (t .visited) i ≡ f) × (farEnd (t .visited) (streamAt ss i) ≡ headOf n fs ts gs bs i f)
-      on = leads-on ss n fs ts gs bs starts ends (laid .network .few) (t .visited) i f (tells .lead .below) (tells .lead .tail) off
+      on = leads-on ss n fs ts gs bs starts ends (laid .network .within .few-streams) (t .visited) i f (tells .lead .below) (tells .lead .tail) off
 
       further : k ≤ j
       further = omega (arith, over-least i f (tells .lead .below) (tells .lead .tail) off, tells .distance)
@@ -272,10 +274,10 @@ module _ (streams : List Stream) (n : ℕ) (xs ps : List ℕ) (d : ℕ) (one : 1
         leaves = on .0;
         is = rw (on .1) (omega (arith, slack-is i f (tells .lead .below) (tells .lead .tail) off, tells .distance));
         least = λ m b u c.
-            let o = leaving ss n fs ts gs bs starts ends (laid .network .few) (t .visited) m b c in
+            let o = leaving ss n fs ts gs bs starts ends (laid .network .within .few-streams) (t .visited) m b c in
             omega (arith, slack-is m (startIn ss (t .visited) m) b (o .0) (o .1), tells .nearer m (startIn ss (t .visited) m) b (o .0) (o .1) .0);
         first = λ m b u c h.
-            let o = leaving ss n fs ts gs bs starts ends (laid .network .few) (t .visited) m b c in
+            let o = leaving ss n fs ts gs bs starts ends (laid .network .within .few-streams) (t .visited) m b c in
             tells .nearer m (startIn ss (t .visited) m) b (o .0) (o .1) .1
             (omega (arith, slack-is m (startIn ss (t .visited) m) b (o .0) (o .1), h, further));
       })

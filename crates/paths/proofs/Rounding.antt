@@ -83,20 +83,20 @@ module _ (streams : List Stream) (n : ℕ) (xs ps : List ℕ) (skip : ℕ) (fs t
 
     none : r ≡ places → tightPath ss n xs ps v skip (suc l) t ≡ grownBy false t ps
     none q = shut (λ i b u c.
-        let o = leaving ss n fs ts gs bs starts ends (laid .network .few) (t .visited) i b c in
+        let o = leaving ss n fs ts gs bs starts ends (laid .network .within .few-streams) (t .visited) i b c in
         absurd
-        (none-leads ss n fs ts gs bs starts ends (laid .network .few) (heads streams n xs ps 1 skip fs ts gs bs laid) (t .visited) ks codes 0 e r full refl q i
+        (none-leads ss n fs ts gs bs starts ends (laid .network .within .few-streams) (heads streams n xs ps 1 skip fs ts gs bs laid) (t .visited) ks codes 0 e r full refl q i
         (startIn ss (t .visited) i) b (o .0) (o .1)
         (rw (over i (startIn ss (t .visited) i)) (omega (arith, slack-small streams n xs ps 1 skip fs ts gs bs laid (omega arith) i (startIn ss (t .visited) i) b)))))
 
     module _ (q : r ≡ places → ⊥) where
-      tells : Told ss n fs ts gs bs starts ends (laid .network .few) (t .visited) ks codes r
-      tells = told ss n fs ts gs bs starts ends (laid .network .few) (heads streams n xs ps 1 skip fs ts gs bs laid) (t .visited) ks codes 0 e r full refl q
+      tells : Told ss n fs ts gs bs starts ends (laid .network .within .few-streams) (t .visited) ks codes r
+      tells = told ss n fs ts gs bs starts ends (laid .network .within .few-streams) (heads streams n xs ps 1 skip fs ts gs bs laid) (t .visited) ks codes 0 e r full refl q
 
       least : (i : ℕ) → i < n → Usable ss skip i → startIn ss (t .visited) i ≡ not (endIn ss (t .visited) i)
           → (j ≤ slackAt ss xs ps 1 i (startIn ss (t .visited) i)) × (slackAt ss xs ps 1 i (startIn ss (t .visited) i) ≤ j → tells .lead .stream ≤ i)
       least i b u c =
-          let o = leaving ss n fs ts gs bs starts ends (laid .network .few) (t .visited) i b c in
+          let o = leaving ss n fs ts gs bs starts ends (laid .network .within .few-streams) (t .visited) i b c in
           rw (sym (usable-slack streams n xs ps 1 skip fs ts gs bs laid i (startIn ss (t .visited) i) b u), sym (over i (startIn ss (t .visited) i)))
           (tells .nearer i (startIn ss (t .visited) i) b (o .0) (o .1))
 
@@ -115,7 +115,7 @@ module _ (streams : List Stream) (n : ℕ) (xs ps : List ℕ) (skip : ℕ) (fs t
         off = rw (tells .lead .head) (tells .lead .off)
 
         on : (startIn ss (t .visited) i ≡ not (endIn ss (t .visited) i)) × (startIn ss (t .visited) i ≡ f) × (farEnd (t .visited) (streamAt ss i) ≡ headOf n fs ts gs bs i f)
-        on = leads-on ss n fs ts gs bs starts ends (laid .network .few) (t .visited) i f (tells .lead .below) (tells .lead .tail) off
+        on = leads-on ss n fs ts gs bs starts ends (laid .network .within .few-streams) (t .visited) i f (tells .lead .below) (tells .lead .tail) off
 
         tight : slackOf n fs ts gs bs i f ≡ 0
         tight = omega (arith, over i f, tells .distance)

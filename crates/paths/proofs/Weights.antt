@@ -10,10 +10,21 @@ use mir.Syntax.{w32, w64}
 use borrow.Author.Needs.{sfits-of}
 use borrow.Author.Tests.{le-ltb}
 use Rattle.numbers.specs.Choice.{pick}
+use Rattle.numbers.proofs.Tests.{picked}
+use Rattle.plants.specs.declared.Stream.{Stream}
 use Rattle.plants.specs.Limits.{maxWeight}
+use Rattle.plants.specs.Within.{WithinStream}
+use Rattle.flows.specs.Certificate.{weightOf}
 use Rattle.paths.specs.Sizes.{flowShift, mostFlow, mostPull}
 use Rattle.paths.specs.Held.{shifted}
 use Rattle.paths.specs.Slack.{gapBy}
+
+-- A stream's weight is in range, and not 0 where it is metered.
+pub weight-most : {n : ℕ} (s : Stream) → WithinStream n s → weightOf s ≤ maxWeight
+weight-most s w = picked (λ (x : ℕ). x ≤ maxWeight) (s .metered) (s .weight) 0 (w .light) (λ m. omega arith)
+
+pub weight-least : {n : ℕ} (s : Stream) → WithinStream n s → s .metered ≡ true → 1 ≤ weightOf s
+weight-least s w m = rw m (w .weighed m)
 
 -- A 32-bit reading in 64 bits, and shifted.
 pub wide : (z : ℤ) → SFits w32 z → SFits w64 z

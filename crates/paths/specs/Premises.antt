@@ -1,29 +1,22 @@
 -- What the parts of the search and of the push require: ranges only.
 use mathlib.Core.Path.{_≡_}
-use mathlib.Core.Bool.{Bool, true}
+use mathlib.Core.Bool.{Bool}
 use mathlib.Core.List.{List}
 use Prim.Native.Nat.{ℕ, _+_, _*_, _≤_, _<_}
 use lib.ListN.{length, getD, take}
 use Rattle.plants.specs.declared.Stream.{Stream}
 use Rattle.plants.specs.Limits.{places, maxUnits, maxStreams, maxWeight}
 use Rattle.plants.specs.Plants.{noStream}
+use Rattle.plants.specs.Within.{Accepted}
 use Rattle.paths.specs.Sizes.{mostFlow, mostPull, priceShift, mostStep, mostFall}
 use Rattle.paths.specs.Rows.{rowAt, laneCells, countOf, startsOf, endsOf, weightsOf, pullsOf}
 use Rattle.paths.specs.Near.{gapsOf, lastAt}
 use Rattle.flows.specs.Certificate.{weightOf}
 use Rattle.paths.specs.Held.{readingOf, AllHeld}
 
--- A stream between places, of a weight in range.
-pub record Placed (s : Stream) : Type 0 where
-  pub from-in : s .from ≤ maxUnits
-  pub to-in : s .to ≤ maxUnits
-  pub light : weightOf s ≤ maxWeight
-
--- An array of streams of which the first n are in use.
-pub record Network (streams : List Stream) (n : ℕ) : Type 0 where
-  pub long : length streams ≡ maxStreams
-  pub few : n ≤ maxStreams
-  pub placed : (k : ℕ) → k < n → Placed (getD streams k noStream)
+-- An array of streams of which the first n are in use, within the limits of a plant, whatever its number of units.
+abbrev pub Network : List Stream → ℕ → Type 0
+Network streams n = Accepted (record { units = maxUnits; count = n; streams = streams })
 
 -- An amount, the prices at the two ends of its stream, and a step.
 pub record Sized (x pu pv d : ℕ) : Type 0 where
@@ -42,11 +35,10 @@ pub record Searchable (streams : List Stream) (n : ℕ) (xs ps : List ℕ) (d : 
   pub amounts : (k : ℕ) → k < n → getD xs k 0 ≤ mostFlow
   pub prices : Prices ps
 
--- And where the step condition holds, and metered streams weigh something.
+-- And where the step condition holds.
 pub record Walkable (streams : List Stream) (n : ℕ) (xs ps : List ℕ) (d : ℕ) : Type 0 where
   pub searchable : Searchable streams n xs ps d
   pub some : 1 ≤ d
-  pub weighed : (k : ℕ) → k < n → getD streams k noStream .metered ≡ true → 1 ≤ getD streams k noStream .weight
   pub held : AllHeld (take n streams) xs ps d
 
 -- Prices that leave room for a search to lower them.

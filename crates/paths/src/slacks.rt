@@ -4,12 +4,13 @@ use plants::Stream;
 ghost use mathlib.Core.Path.{_≡_};
 ghost use Prim.Native.Nat.{_+_, _-_, _*_, _≤_};
 ghost use Rattle.numbers.specs.Choice.{pick};
-ghost use Rattle.plants.specs.Limits.{maxWeight};
+ghost use Rattle.plants.specs.Limits.{maxUnits, maxWeight};
+ghost use Rattle.plants.specs.Within.{WithinStream};
 ghost use Rattle.paths.specs.Sizes.{mostFlow, mostPull};
 ghost use Rattle.flows.specs.Certificate.{weightOf};
 ghost use Rattle.paths.specs.Held.{readingOf};
 ghost use Rattle.paths.specs.Slack.{gapBy};
-ghost use Rattle.paths.specs.Premises.{Placed, Sized};
+ghost use Rattle.paths.specs.Premises.{Sized};
 
 // A stream's weight; an unmetered stream counts as one of weight 0.
 pub fn weight_of(s: Stream) -> u64
@@ -28,7 +29,7 @@ pub fn reading_of(s: Stream) -> u64
 
 // Weight times the reading.
 pub fn pull_of_reading(s: Stream) -> u64
-    requires { ⌜ Placed s ⌝ }
+    requires { ⌜ WithinStream maxUnits s ⌝ }
     ensures { λ r. ⌜ (r ≡ weightOf s * readingOf s) × (r ≤ mostPull) ⌝ }
 {
     weight_of(s) * reading_of(s)

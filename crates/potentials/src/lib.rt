@@ -7,7 +7,7 @@ use plants::limits::PLACES;
 use wholes::by_label;
 use wholes::lowered;
 ghost use Prim.Native.Nat.{_≤_};
-ghost use Rattle.flows.specs.Calls.{Fit};
+ghost use Rattle.plants.specs.Within.{Accepted};
 ghost use Rattle.potentials.specs.Levels.{Labels, Level};
 
 mod elimination;
@@ -21,7 +21,7 @@ const CELLS: usize = PLACES * WIDTH;
 
 // Prices from top − band to top, one for each label.
 pub fn potentials_of(p: Plant, labels: [u8; PLACES], top: u64, band: u64) -> [u64; PLACES]
-    requires { ⌜ Fit p × Labels labels × (band ≤ top) ⌝ }
+    requires { ⌜ Accepted p × Labels labels × (band ≤ top) ⌝ }
     ensures { λ r. ⌜ Level labels top band r ⌝ }
 {
     let places = p.units as usize + 1;

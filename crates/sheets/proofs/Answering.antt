@@ -13,13 +13,13 @@ use Rattle.plants.specs.Limits.{maxStreams}
 use Rattle.plants.specs.Plants.{Plant}
 use Rattle.plants.specs.Files.{got, readPlant}
 use Rattle.plants.specs.Says.{arrayed, plantOf}
-use Rattle.plants.specs.Within.{Within}
+use Rattle.plants.specs.Within.{Within, Accepted}
 use Rattle.plants.proofs.Limited.{within}
 use Rattle.plants.proofs.Accepted.{accepted, refused}
+use Rattle.plants.proofs.Arrayed.{within-of, read-accepted, read-held}
 use Rattle.plants.proofs.Back.{round-trip}
 use Rattle.flows.specs.Flows.{amountAt, Cheapest}
 use Rattle.flows.proofs.Integers.{size-val, parts}
-use Rattle.flows.proofs.Fits.{read-fits}
 use Rattle.solver.proofs.Demand.{demand-3}
 use Rattle.paths.specs.Held.{unshifted}
 use Rattle.paths.proofs.Amounts.{unshifted-val, opened-at}
@@ -27,8 +27,8 @@ use Rattle.solver.specs.declared.Solved.{Solved}
 use Rattle.solver.specs.Sizes.{settledRoom}
 use Rattle.solver.specs.Model.{noHint, settled, solvedFrom}
 use Rattle.solver.specs.Premises.{Close}
-use Rattle.solver.specs.Promise.{Accepted, flowOf, Right}
-use Rattle.solver.proofs.Theorem.{read-accepted, from-none, solved-right}
+use Rattle.solver.specs.Promise.{flowOf, Right}
+use Rattle.solver.proofs.Theorem.{from-none, solved-right}
 use Rattle.sheets.specs.declared.Sheet.{Sheet}
 use Rattle.sheets.specs.Sentences.{topSheet, callFault, Full, Answers}
 use Rattle.sheets.specs.Sheets.{sheetOf}
@@ -60,10 +60,10 @@ module _ (file : List ℕ) (p : Plant) (e : readPlant file ≡ got p) where
 
   right : Right (arrayed p) solution
   unfolding solution
-  right = solved-right (arrayed p) here _ (from-none (plantOf (arrayed p)) (here .within))
+  right = solved-right (arrayed p) here _ (from-none (plantOf (arrayed p)) (within-of (arrayed p) here))
 
   solved-flow : Cheapest p (flowOf (arrayed p) solution)
-  solved-flow = subst (λ (q : Plant). Cheapest q (flowOf (arrayed p) solution)) (read-fits file p e .1) (right .cheapest)
+  solved-flow = subst (λ (q : Plant). Cheapest q (flowOf (arrayed p) solution)) (read-held file p e) (right .cheapest)
 
   amount-small : (k : ℕ) → k < length (p .streams) → natAbs (amountAt (flowOf (arrayed p) solution) k) ≤ settledRoom + maxStreams
   amount-small k h =

@@ -22,8 +22,9 @@ use Rattle.plants.specs.declared.Stream.{Stream}
 use Rattle.plants.specs.declared.Plant as Arrays
 use Rattle.plants.specs.Plants.{noStream, Plant}
 use Rattle.plants.specs.Says.{plantOf}
-use Rattle.plants.specs.Limits.{maxWeight, maxReading}
-use Rattle.plants.specs.Within.{Within, WithinStream}
+use Rattle.plants.specs.Limits.{maxUnits, maxStreams, maxWeight, maxReading}
+use Rattle.plants.specs.Within.{Within, WithinStream, Accepted}
+use Rattle.plants.proofs.Arrayed.{all-listed, listed-at, stream-within}
 use Rattle.flows.specs.Flows.{streamAt, amountAt, cost, square, balanced, Cheapest}
 use Rattle.numbers.specs.Inner.{values}
 use Rattle.flows.proofs.Integers.{same, up-times, dn-times, size-val, minus-val, parts}
@@ -59,12 +60,12 @@ module _ (s : Stream) (x : ℤ) where
     pub metered-cost : (d : ℕ) → d ≡ natAbs (x -ℤ s .reading) → s .weight * (d * d) ≡ streamCost s x
     metered-cost d e = let q : d ≡ natAbs (x -ℤ pos 1 *ℤ s .reading) = e ∙ ap (λ (y : ℤ). natAbs (x -ℤ y)) (sym (once (s .reading))) in rw (m, q)
 
-    module _ (f : CostFits s x) where
+    module _ (f : WithinStream maxUnits s × CostFits s x) where
       pub cost-small : (d : ℕ) → d ≡ natAbs (x -ℤ s .reading) → s .weight * (d * d) ≤ mostCost
-      cost-small d e = let q = metered-cost d e in let g = f .fits in omega arith
+      cost-small d e = let q = metered-cost d e in let g = f .1 in omega arith
 
       pub square-small : (d : ℕ) → d ≡ natAbs (x -ℤ s .reading) → d * d ≤ mostCost
-      square-small d e = let q = cost-small d e in omega (arith, mul-le-mul-right (d * d) (f .weighed m))
+      square-small d e = let q = cost-small d e in omega (arith, mul-le-mul-right (d * d) (f .0 .weighed m))
 
       -- The correction fits.
       pub correction-fits : SFits w64 (x -ℤ s .reading)
@@ -75,6 +76,12 @@ cost-at : (ss : List Stream) (xs : List ℤ) (i : ℕ) → i < length ss → i <
     → cost (drop i ss) (drop i xs) ≡ cost (streamAt ss i ∷ []) (amountAt xs i ∷ []) + cost (drop (suc i) ss) (drop (suc i) xs)
 cost-at ss xs i h l = rw (drop-cons ss i noStream h, drop-cons xs i (pos 0) l) (omega arith)
 
+-- A plant and all its amounts, whose cost fits.
+pub record Costed (p : Arrays.Plant) (xs : List ℤ) : Type 0 where
+  pub accepted : Accepted p
+  pub amounts : length xs ≡ maxStreams
+  pub fits : CostsFit p xs
+
 -- i streams summed up: the rest makes up the whole.
 pub record Summed (p : Arrays.Plant) (xs : List ℤ) (sum i : ℕ) : Type 0 where
   pub within : i ≤ p .count
@@ -83,28 +90,25 @@ pub record Summed (p : Arrays.Plant) (xs : List ℤ) (sum i : ℕ) : Type 0 wher
 pub summed-none : (p : Arrays.Plant) (xs : List ℤ) → Summed p xs 0 0
 summed-none p xs = record { within = omega arith; rest = omega arith }
 
-module _ {p : Arrays.Plant} {xs : List ℤ} {sum i : ℕ} (c : CostsFit p xs) (r : Summed p xs sum i) where
-  counted : length (plantOf p .streams) ≡ p .count
-  counted = let a = c .long in let b = c .few in length-take-le (p .count) (p .streams) (omega arith)
-
+module _ {p : Arrays.Plant} {xs : List ℤ} {sum i : ℕ} (c : Costed p xs) (r : Summed p xs sum i) where
   sized : length (take (p .count) xs) ≡ p .count
-  sized = let a = c .amounts in let b = c .few in length-take-le (p .count) xs (omega arith)
+  sized = let a = c .amounts in let b = c .accepted .within .few-streams in length-take-le (p .count) xs (omega arith)
 
   module _ (more : i < p .count) where
     next : cost (plantOf p .streams) (take (p .count) xs)
         ≡ sum + (streamCost (getD (p .streams) i noStream) (amountAt xs i) + cost (drop (suc i) (plantOf p .streams)) (drop (suc i) (take (p .count) xs)))
     next =
-        let l = counted in
+        let l = all-listed p (c .accepted) in
         let z = sized in
         r .rest
         ∙ ap (λ (k : ℕ). sum + k) (cost-at (plantOf p .streams) (take (p .count) xs) i (omega arith) (omega arith))
         ∙ ap (λ (k : ℕ). sum + (k + cost (drop (suc i) (plantOf p .streams)) (drop (suc i) (take (p .count) xs)))) one
       where
         one : cost (streamAt (plantOf p .streams) i ∷ []) (amountAt (take (p .count) xs) i ∷ []) ≡ streamCost (getD (p .streams) i noStream) (amountAt xs i)
-        one = rw (getD-take (p .count) (p .streams) i noStream more, getD-take (p .count) xs i (pos 0) more) (omega arith)
+        one = rw (listed-at p (c .accepted) i more, getD-take (p .count) xs i (pos 0) more) (omega arith)
 
-    pub next-fits : CostFits (getD (p .streams) i noStream) (amountAt xs i)
-    next-fits = let n = next in let f = c .fits in record { weighed = c .weighed i more; fits = omega arith }
+    pub next-fits : WithinStream maxUnits (getD (p .streams) i noStream) × CostFits (getD (p .streams) i noStream) (amountAt xs i)
+    next-fits = let n = next in let f = c .fits in (stream-within p (c .accepted) i more, omega arith)
 
     pub sum-fits : sum + streamCost (getD (p .streams) i noStream) (amountAt xs i) ≤ mostCost
     sum-fits = let n = next in let f = c .fits in omega arith
@@ -114,7 +118,7 @@ module _ {p : Arrays.Plant} {xs : List ℤ} {sum i : ℕ} (c : CostsFit p xs) (r
 
   pub summed-all : p .count ≤ i → sum ≡ cost (plantOf p .streams) (take (p .count) xs)
   summed-all h =
-      let l = counted in
+      let l = all-listed p (c .accepted) in
       let none : drop i (plantOf p .streams) ≡ [] = drop-of-length-le (plantOf p .streams) {i = i} (omega arith) in
       sym (r .rest ∙ rw none (omega arith))
 

@@ -7,13 +7,15 @@ use Prim.Native.Nat.{ℕ}
 use native.Mathlib.Omega.{arith}
 use borrow.Author.Tests.{ltb-true, ltb-false}
 use lib.Dec.{ltb}
-use lib.ListN.{length, getD, take, length-map}
+use lib.ListN.{length, getD, take}
 use lib.Seq.{getD-take}
 use Rattle.numbers.proofs.Tests.{by-cases}
 use Rattle.plants.specs.declared.Plant as Arrays
 use Rattle.plants.specs.Limits.{maxStreams}
 use Rattle.plants.specs.Plants.{Plant}
+use Rattle.plants.specs.Within.{Accepted}
 use Rattle.plants.specs.Says.{plantOf}
+use Rattle.plants.proofs.Arrayed.{all-listed, within-of}
 use Rattle.flows.specs.declared.Class.{Class}
 use Rattle.flows.specs.declared.Class.the-variants.{Adjusted, AsRead, Given, Withheld}
 use Rattle.flows.specs.Flows.{amountAt, balanced, cost, Cheapest}
@@ -23,11 +25,10 @@ use Rattle.flows.specs.Test.{verdictAt}
 use Rattle.flows.specs.Calls.{classesOf}
 use Rattle.flows.proofs.Lists.{values-same, values-long, values-at, Written, written-all}
 use Rattle.flows.proofs.Given.{number-is}
-use Rattle.flows.proofs.Fits.{fit-length, fit-at}
 use Rattle.flows.proofs.ByLabels.{class-past}
 use Rattle.paths.specs.Held.{unshifted, opened}
 use Rattle.solver.specs.declared.Solved.{Solved}
-use Rattle.solver.specs.Promise.{Accepted, Right}
+use Rattle.solver.specs.Promise.{Right}
 use Rattle.sheets.specs.declared.Entry.{Entry}
 use Rattle.sheets.specs.Balances.{entryOf, balanceOf, BalanceSays}
 use Rattle.sheets.specs.Calls.{entriesOf, CostsFit}
@@ -71,10 +72,10 @@ entries-all cs xs d before now w =
 module _ (p : Arrays.Plant) (xs : List ℤ) (a : Accepted p) (b : balanced (plantOf p) (take (p .count) xs) ≡ true) where
   number-at : (k : ℕ) → (classOf (plantOf p) k ≡ Withheld → ⊥) → amountAt xs k ≡ numberOf (plantOf p) (take (p .count) xs) k
   number-at k n =
-      let z = fit-length p (a .fit) in
+      let z = all-listed p a in
       by-cases (ltb k (p .count))
       (λ t. let l = ltb-true k (p .count) t in
-      sym (getD-take (p .count) xs k (pos 0) l) ∙ sym (number-is (plantOf p) (a .within) (take (p .count) xs) b k (omega arith) n))
+      sym (getD-take (p .count) xs k (pos 0) l) ∙ sym (number-is (plantOf p) (within-of p a) (take (p .count) xs) b k (omega arith) n))
       (λ t. let l = ltb-false k (p .count) t in absurd (n (class-past (plantOf p) k (omega arith))))
 
   pub entries-shown : (cs : List Class) → cs ≡ classesOf (plantOf p)
@@ -95,16 +96,7 @@ module _ (p : Arrays.Plant) (a : Accepted p) (s : Solved) (r : Right p s) (xs : 
 
   -- The cost of the cheapest flow fits.
   pub costs-fit : CostsFit p xs
-  costs-fit =
-      let f = a .fit in
-      let n = fit-length p f in
-      record {
-        long = f .long;
-        few = f .few-streams;
-        amounts = ap length e ∙ length-map (s .flows) unshifted ∙ r .long;
-        weighed = λ k h m. rw (fit-at p f k h) at (a .within .each k (omega arith)) .weighed m;
-        fits = cheapest-cost (plantOf p) (a .within) (take (p .count) xs) flow-cheapest;
-      }
+  costs-fit = cheapest-cost (plantOf p) (within-of p a) (take (p .count) xs) flow-cheapest
 
   pub balanced-so : (cs : List Class) (es : List Entry) (c d v : ℕ) → cs ≡ classesOf (plantOf p) → es ≡ entriesOf cs xs
       → c ≡ cost (plantOf p .streams) (take (p .count) xs) → d ≡ degrees (plantOf p) → v ≡ verdictAt d c

@@ -2,7 +2,6 @@
 use mathlib.Core.Path.{_≡_, refl, sym, ap, _∙_, subst}
 use mathlib.Core.List.{List}
 use Prim.Native.Nat.{ℕ, suc, _+_, _≤_}
-use native.Mathlib.Omega.{arith}
 use native.Mathlib.Numerals.{add-one}
 use lib.ListN.{length}
 use lib.Dec.{ltb}
@@ -14,11 +13,10 @@ use Rattle.numbers.specs.Inner.{Put}
 use Rattle.plants.specs.declared.Read.{Read}
 use Rattle.plants.specs.Plants.{Plant}
 use Rattle.plants.specs.Files.{Got, bad, got, readPlant}
+use Rattle.plants.specs.Within.{Accepted}
 use Rattle.plants.specs.Says.{arrayed, plantOf, readOf}
 use Rattle.plants.proofs.Accepted.{refused}
-use Rattle.flows.proofs.Fits.{fit-length, read-fits}
-use Rattle.solver.specs.Promise.{Accepted}
-use Rattle.solver.proofs.Theorem.{read-accepted}
+use Rattle.plants.proofs.Arrayed.{all-listed, read-accepted, read-held}
 use Rattle.sheets.specs.declared.Sheet.{Sheet}
 use Rattle.sheets.specs.declared.Balance.{Balance}
 use Rattle.sheets.specs.Balances.{BalanceSays}
@@ -45,10 +43,10 @@ module _ (file : List ℕ) (y : Read) (e : y ≡ readOf (readPlant file)) (n : y
 
   -- The plant as the file has it: its streams and its balance.
   plant-same : plantOf (y .plant) ≡ found .0
-  plant-same = ap plantOf (found .2) ∙ read-fits file (found .0) (found .1) .1
+  plant-same = ap plantOf (found .2) ∙ read-held file (found .0) (found .1)
 
   pub plant-count : y .plant .count ≡ length (found .0 .streams)
-  plant-count = sym (fit-length (y .plant) (plant-accepted .fit)) ∙ ap (λ (x : Plant). length (x .streams)) plant-same
+  plant-count = sym (all-listed (y .plant) plant-accepted) ∙ ap (λ (x : Plant). length (x .streams)) plant-same
 
   pub plant-balance : (b : Balance) → BalanceSays (plantOf (y .plant)) b → BalanceSays (found .0) b
   plant-balance b t = subst (λ (x : Plant). BalanceSays x b) plant-same t

@@ -1,15 +1,12 @@
 -- What the parts of a balance require, and what they sum and list.
-use mathlib.Core.Path.{_≡_}
-use mathlib.Core.Bool.{true}
 use mathlib.Core.List.{List}
 use lib.IntN.{ℤ, pos, _-ℤ_, _*ℤ_}
-use Prim.Native.Nat.{ℕ, _*_, _≤_, _<_}
-use lib.ListN.{length, getD, take}
+use Prim.Native.Nat.{ℕ, _*_, _≤_}
+use lib.ListN.{getD, take}
 use Rattle.numbers.specs.Choice.{pick}
 use Rattle.plants.specs.declared.Stream.{Stream}
 use Rattle.plants.specs.declared.Plant as Arrays
 use Rattle.plants.specs.Limits.{maxStreams, maxWeight, maxReading}
-use Rattle.plants.specs.Plants.{noStream}
 use Rattle.plants.specs.Says.{plantOf}
 use Rattle.flows.specs.declared.Class.{Class}
 use Rattle.flows.specs.declared.Class.the-variants.{Adjusted}
@@ -30,15 +27,9 @@ streamCost s x = pick (s .metered) (s .weight * square (x -ℤ pos 1 *ℤ s .rea
 abbrev pub mostCost : ℕ
 mostCost = maxStreams * (maxWeight * (maxReading * maxReading))
 
--- A stream whose cost fits.
-pub record CostFits (s : Stream) (x : ℤ) : Type 0 where
-  pub weighed : s .metered ≡ true → 1 ≤ s .weight
-  pub fits : streamCost s x ≤ mostCost
+-- A stream and a plant, with a flow whose cost fits.
+abbrev pub CostFits : Stream → ℤ → Type 0
+CostFits s x = streamCost s x ≤ mostCost
 
--- A plant and a flow whose cost fits.
-pub record CostsFit (p : Arrays.Plant) (xs : List ℤ) : Type 0 where
-  pub long : length (p .streams) ≡ maxStreams
-  pub few : p .count ≤ maxStreams
-  pub amounts : length xs ≡ maxStreams
-  pub weighed : (k : ℕ) → k < p .count → getD (p .streams) k noStream .metered ≡ true → 1 ≤ getD (p .streams) k noStream .weight
-  pub fits : cost (plantOf p .streams) (take (p .count) xs) ≤ mostCost
+abbrev pub CostsFit : Arrays.Plant → List ℤ → Type 0
+CostsFit p xs = cost (plantOf p .streams) (take (p .count) xs) ≤ mostCost

@@ -11,12 +11,13 @@ ghost use mathlib.Core.List.{map};
 ghost use lib.IntN.{natAbs};
 ghost use Prim.Native.Nat.{_≤_};
 ghost use lib.ListN.{take};
+ghost use Rattle.plants.specs.Limits.{maxUnits};
+ghost use Rattle.plants.specs.Within.{WithinStream, Accepted};
 ghost use Rattle.plants.specs.Says.{plantOf};
 ghost use Rattle.flows.specs.Flows.{cost};
 ghost use Rattle.paths.specs.Sizes.{mostFlow};
 ghost use Rattle.paths.specs.Held.{unshifted};
 ghost use Rattle.solver.specs.Premises.{Amounts};
-ghost use Rattle.solver.specs.Promise.{Accepted};
 ghost use Rattle.sheets.specs.Balances.{entryOf, BalanceSays};
 ghost use Rattle.sheets.specs.Calls.{streamCost, CostFits, CostsFit, entriesOf};
 
@@ -99,7 +100,7 @@ pub fn size_of(z: i64) -> u64
 
 // What a stream costs: weight times correction squared where it is metered.
 fn stream_cost(s: Stream, flow: i64) -> u64
-    requires { ⌜ CostFits s flow ⌝ }
+    requires { ⌜ WithinStream maxUnits s × CostFits s flow ⌝ }
     ensures { λ r. ⌜ r ≡ streamCost s flow ⌝ }
 {
     if !s.metered {
@@ -111,7 +112,7 @@ fn stream_cost(s: Stream, flow: i64) -> u64
 
 // The cost of a flow: the sum over the streams.
 fn cost_of(p: Plant, flows: [i64; MAX_STREAMS]) -> u64
-    requires { ⌜ CostsFit p flows ⌝ }
+    requires { ⌜ Accepted p × CostsFit p flows ⌝ }
     ensures { λ r. ⌜ r ≡ cost (plantOf p .streams) (take (p .count) flows) ⌝ }
 {
     let n = p.count as usize;

@@ -17,7 +17,6 @@ use Rattle.flows.specs.Flows.{streamAt}
 use Rattle.flows.specs.Certificate.{weightOf}
 use Rattle.paths.specs.Sizes.{mostFlow, priceShift}
 use Rattle.paths.specs.Held.{shifted, readingOf, Held, HeldAt, AllHeld}
-use Rattle.paths.specs.Premises.{Placed}
 use Rattle.paths.proofs.Amounts.{net}
 use Rattle.paths.proofs.Growing.{Plain}
 use Rattle.solver.specs.declared.Hint.{Hint}
@@ -33,9 +32,6 @@ pub record Solvable (ss : List Stream) : Type 0 where
   pub weighed : (k : ℕ) → k < length ss → streamAt ss k .metered ≡ true → 1 ≤ streamAt ss k .weight
   pub in-range : (k : ℕ) → k < length ss → streamAt ss k .metered ≡ true → natAbs (streamAt ss k .reading) ≤ mostReading
   pub apart : (k : ℕ) → k < length ss → streamAt ss k .from ≡ streamAt ss k .to → ⊥
-
-pub placed-of : (ss : List Stream) → Plain maxUnits ss → (k : ℕ) → k < length ss → Placed (streamAt ss k)
-placed-of ss p k l = record { from-in = p .inside k l .0; to-in = p .inside k l .1; light = p .light k l }
 
 -- A reading as it is held.
 pub reading-close : (z : ℤ) → natAbs z ≤ mostReading → Close mostReading (shifted z)
@@ -233,8 +229,8 @@ module _ (ss : List Stream) (v : Solvable ss) (h : Hint) (low b : ℕ) (s : Star
     held = λ k l. one-settled k l .0;
     long = settled-long ss ps (h .flows) (length ss) ∙ s .long;
     priced = s .priced;
-    netted = nets-around ss ys (length ss) (v .plain .few) (placed-of ss (v .plain)) most .long;
-    nets = λ u l. net-value (net ss ys u) (getD (netsTo ss ys (length ss)) u 0) (nets-right ss ys (length ss) (v .plain .few) (placed-of ss (v .plain)) most u l);
+    netted = nets-around ss ys (length ss) (v .plain .few) (v .plain .inside) most .long;
+    nets = λ u l. net-value (net ss ys u) (getD (netsTo ss ys (length ss)) u 0) (nets-right ss ys (length ss) (v .plain .few) (v .plain .inside) most u l);
     floor = s .floor;
     capped = s .capped;
     close = all-close;

@@ -11,9 +11,7 @@ use Rattle.plants.specs.declared.Stream.{Stream}
 use Rattle.numbers.proofs.Tests.{clash}
 use Rattle.plants.specs.Limits.{places, maxUnits, maxStreams}
 use Rattle.plants.specs.Plants.{noStream}
-use Rattle.flows.specs.Calls.{Ends}
 use Rattle.paths.specs.Sizes.{flowShift}
-use Rattle.paths.specs.Premises.{Placed}
 use Rattle.solver.specs.declared.Forest.{Forest}
 use Rattle.solver.specs.Sizes.{hintRoom}
 use Rattle.solver.specs.Premises.{Close, Amounts}
@@ -21,9 +19,6 @@ use Rattle.solver.specs.Forests.{Spanning, Unmetered, Listed, Routes, Ke
 use Rattle.flows.proofs.Lists.{set-each}
 use Rattle.paths.specs.Counts.{countTo}
 use Rattle.paths.proofs.Counting.{count-most, count-more}
-
-pub ends-of : {s : Stream} → Placed s → Ends s
-ends-of p = record { from-in = omega (arith, p .from-in); to-in = omega (arith, p .to-in) }
 
 pub spanning-short : {f : Forest} → Spanning f → f .len ≤ places
 spanning-short {f} s = omega (arith, s .few, count-most maxUnits (λ u. getD (f .reached) u false))

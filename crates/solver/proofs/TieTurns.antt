@@ -22,17 +22,17 @@ use Rattle.paths.specs.Rows.{countOf, weightsOf}
 use Rattle.paths.specs.Near.{gapsOf}
 use Rattle.paths.specs.Search.{rootAt, Grown, tightPath}
 use Rattle.paths.specs.Push.{pushed}
-use Rattle.paths.specs.Premises.{Trail, Roomy, Laid, Searching, Laying}
+use Rattle.paths.specs.Premises.{Network, Trail, Roomy, Laid, Searching, Laying}
 use Rattle.paths.proofs.Filling.{gap-at}
 use Rattle.paths.proofs.Counting.{count-most}
 use Rattle.paths.proofs.TightPath.{Path, way, shut}
 use Rattle.solver.specs.Model.{tiedBy, tiedAt, tiesTo}
-use Rattle.solver.specs.Premises.{Layout, Even, Falls, Tieable}
+use Rattle.solver.specs.Premises.{Even, Falls, Tieable}
 use Rattle.solver.proofs.Turns.{stream-is}
 use Rattle.solver.proofs.Layouts.{used, solvable-of}
 use Rattle.solver.proofs.Detours.{round-path, left-some, ties-even}
 
-module _ (streams : List Stream) (n : ℕ) (w : Layout streams n) (ps : List ℕ) (i : ℕ) (l : i < n) (xs : List ℕ) where
+module _ (streams : List Stream) (n : ℕ) (w : Network streams n) (ps : List ℕ) (i : ℕ) (l : i < n) (xs : List ℕ) where
   abbrev ss : List Stream
   ss = take n streams
 
@@ -96,8 +96,8 @@ module _ (streams : List Stream) (n : ℕ) (w : Layout streams n) (ps : List ℕ
             trail = record { short = omega (arith, a .counted, m); within = λ k j. rw (used streams n w) at (a .links k j .inside) };
             roomy = record {
               long = h .long;
-              low = λ k j. omega (arith, h .close k j .1, a .counted, m, l, w .network .few);
-              high = λ k j. omega (arith, h .close k j .0, a .counted, m, l, w .network .few);
+              low = λ k j. omega (arith, h .close k j .1, a .counted, m, l, w .within .few-streams);
+              high = λ k j. omega (arith, h .close k j .0, a .counted, m, l, w .within .few-streams);
             };
             some = rw at at (left-some ss (solvable-of streams n w) ps i li xs h (rw at e) (rw at (omega arith)) (g .tree) (rw at a) (rw at r) u);
           }
@@ -109,25 +109,24 @@ tie-searching ls ps i xs w l = record {
   n = w .n;
   walkable = record {
     searchable = record {
-      network = w .layout .network;
+      network = w .network;
       step = omega arith;
-      amounts = λ k m. omega (arith, w .even .close k (omega (arith, w .layout .network .few)) .0, w .layout .network .few, l);
+      amounts = λ k m. omega (arith, w .even .close k (omega (arith, w .network .within .few-streams)) .0, w .network .within .few-streams, l);
       prices = w .prices;
     };
     some = omega arith;
-    weighed = w .layout .weighed;
     held = w .even .held;
   };
   laid = w .laid;
 }
 
 abbrev pub tie-laying : (ls ps : List ℕ) (i : ℕ) (xs : List ℕ) → Tieable ls ps i xs → Laying ls
-tie-laying ls ps i xs w = record { streams = w .streams; n = w .n; network = w .layout .network; laid = w .laid }
+tie-laying ls ps i xs w = record { streams = w .streams; n = w .n; network = w .network; laid = w .laid }
 
 pub tie-trail : (ls ps : List ℕ) (i : ℕ) (xs : List ℕ) (w : Tieable ls ps i xs) (via : List ℕ) (len : ℕ) → Trail via (w .n) len → Trail via (countOf ls) len
 tie-trail ls ps i xs w via len t = subst (λ (m : ℕ). Trail via m len) (sym (w .laid .counted)) t
 
-module _ (streams : List Stream) (n : ℕ) (w : Layout streams n) (ps : List ℕ) (i : ℕ) (l : i < n) (xs ls : List ℕ) (laid : Laid streams n ls) where
+module _ (streams : List Stream) (n : ℕ) (w : Network streams n) (ps : List ℕ) (i : ℕ) (l : i < n) (xs ls : List ℕ) (laid : Laid streams n ls) where
   abbrev test : Bool
   test = ltb 0 (getD (weightsOf ls) i 0) && eqb (getD (gapsOf ls xs ps 1 0 false) i 0) 0
 
@@ -142,7 +141,7 @@ module _ (streams : List Stream) (n : ℕ) (w : Layout streams n) (ps : List ℕ
       go false = refl
 
   test-is : test ≡ (getD streams i noStream .metered && eqb (lack streams n w ps i l xs) 0)
-  test-is = rw (gap-is, laid .rowed .weights i l) (go (getD streams i noStream .metered) (w .weighed i l))
+  test-is = rw (gap-is, laid .rowed .weights i l) (go (getD streams i noStream .metered) (w .within .each i l .weighed))
     where
       go : (b : Bool) → (b ≡ true → 1 ≤ getD streams i noStream .weight)
           → (ltb 0 (pick b (getD streams i noStream .weight) 0) && eqb (lack streams n w ps i l xs) 0) ≡ (b && eqb (lack streams n w ps i l xs) 0)
@@ -168,7 +167,7 @@ module _ (streams : List Stream) (n : ℕ) (w : Layout streams n) (ps : List ℕ
       go false m h = tied-free streams n w ps i l xs m
 
 -- The pass.
-pub tying-even : (streams : List Stream) (n : ℕ) (w : Layout streams n) (ps xs : List ℕ) → Even (take n streams) ps 0 xs → (i : ℕ) → i ≤ n
+pub tying-even : (streams : List Stream) (n : ℕ) (w : Network streams n) (ps xs : List ℕ) → Even (take n streams) ps 0 xs → (i : ℕ) → i ≤ n
     → Even (take n streams) ps i (tiesTo (take n streams) ps i xs)
 tying-even streams n w ps xs h i l = ties-even (take n streams) (solvable-of streams n w) ps xs h i (rw (used streams n w) l)
 

@@ -15,14 +15,16 @@ use Rattle.numbers.specs.Choice.{pick}
 use Rattle.numbers.proofs.Tests.{clash}
 use Rattle.plants.specs.declared.Stream.{Stream}
 use Rattle.plants.specs.Limits.{maxUnits, places}
+use Rattle.plants.specs.Within.{WithinStream}
 use Rattle.plants.specs.Plants.{noStream}
 use Rattle.flows.specs.Flows.{streamAt}
 use Rattle.flows.proofs.Integers.{up, dn}
 use Rattle.paths.specs.declared.Tree.{Tree}
 use Rattle.paths.specs.Sizes.{netShift, mostStep, searchRounds}
 use Rattle.paths.specs.Search.{rootAt, target, Grown, grownBy, grow}
-use Rattle.paths.specs.Premises.{Placed, Network, Trail, Roomy, Searching, Laying}
+use Rattle.paths.specs.Premises.{Network, Trail, Roomy, Searching, Laying}
 use Rattle.paths.specs.Rows.{countOf}
+use Rattle.paths.proofs.Weights.{weight-most}
 use Rattle.paths.proofs.Amounts.{net}
 use Rattle.paths.proofs.Counting.{count-most}
 use Rattle.paths.proofs.Growing.{Plain}
@@ -39,21 +41,21 @@ pub stream-is : (streams : List Stream) (n k : ℕ) → k < n → streamAt (take
 stream-is streams n k l = getD-take n streams k noStream l
 
 pub in-use : (streams : List Stream) (n : ℕ) → Network streams n → length (take n streams) ≡ n
-in-use streams n w = length-take-le n streams (omega (arith, w .long, w .few))
+in-use streams n w = length-take-le n streams (omega (arith, w .long, w .within .few-streams))
 
 pub plain-of : (streams : List Stream) (n : ℕ) → Network streams n → Plain maxUnits (take n streams)
 plain-of streams n w = record {
   inside = λ k l. (rw (stream-is streams n k (at l)) (placed k l .from-in), rw (stream-is streams n k (at l)) (placed k l .to-in));
   small = omega arith;
-  few = omega (arith, in-use streams n w, w .few);
-  light = λ k l. rw (stream-is streams n k (at l)) (placed k l .light);
+  few = omega (arith, in-use streams n w, w .within .few-streams);
+  light = λ k l. rw (stream-is streams n k (at l)) (weight-most (getD streams k noStream) (placed k l));
 }
   where
     at : {k : ℕ} → k < length (take n streams) → k < n
     at l = rw (in-use streams n w) at l
 
-    placed : (k : ℕ) → k < length (take n streams) → Placed (getD streams k noStream)
-    placed k l = w .placed k (at l)
+    placed : (k : ℕ) → k < length (take n streams) → WithinStream maxUnits (getD streams k noStream)
+    placed k l = w .within .each k (at l)
 
 -- The first place over is the only one of its kind.
 pub first-unique : (es : List ℕ) (d s : ℕ) → First es d s → s ≡ firstOver es d
@@ -167,7 +169,7 @@ moving streams n st s d found t ps w l1 l2 h e z q = record {
 
     most : (u : ℕ)
         → (up (net (take n streams) (st .flows) u) ≤ h .size * length (take n streams)) × (dn (net (take n streams) (st .flows) u) ≤ h .size * length (take n streams))
-    most = net-most (take n streams) (st .flows) (h .size) (λ k l. h .sound .close k (omega (arith, c, w .few)))
+    most = net-most (take n streams) (st .flows) (h .size) (λ k l. h .sound .close k (omega (arith, c, w .within .few-streams)))
 
     few : h .size * length (take n streams) ≤ netShift
     few = omega (arith, mul-le-mul-left (h .size) (plain-of streams n w .few), h .fits)
@@ -282,20 +284,19 @@ improve-searching ls d st w = record {
   n = w .n;
   walkable = record {
     searchable = record {
-      network = w .layout .network;
+      network = w .network;
       step = w .step .1;
-      amounts = λ k l. omega (arith, w .allows .sound .close k (omega (arith, w .layout .network .few)) .0, w .allows .fits);
+      amounts = λ k l. omega (arith, w .allows .sound .close k (omega (arith, w .network .within .few-streams)) .0, w .allows .fits);
       prices = w .allows .sound .capped;
     };
     some = w .step .0;
-    weighed = w .layout .weighed;
     held = w .allows .sound .held;
   };
   laid = w .laid;
 }
 
 abbrev pub improve-laying : (ls : List ℕ) (d k : ℕ) (st : State) → Improvable ls d k st → Laying ls
-improve-laying ls d k st w = record { streams = w .streams; n = w .n; network = w .layout .network; laid = w .laid }
+improve-laying ls d k st w = record { streams = w .streams; n = w .n; network = w .network; laid = w .laid }
 
 pub improve-trail : (ls : List ℕ) (d k : ℕ) (st : State) (w : Improvable ls d k st) (via : List ℕ) (len : ℕ) → Trail via (w .n) len → Trail via (countOf ls) len
 improve-trail ls d k st w via len t = subst (λ (m : ℕ). Trail via m len) (sym (w .laid .counted)) t

@@ -2,31 +2,23 @@
 use mathlib.Core.Path.{_≡_}
 use mathlib.Core.Bool.{true, false}
 use mathlib.Core.List.{List}
-use lib.IntN.{pos, natAbs, _-ℤ_}
-use Prim.Native.Nat.{ℕ, _+_, _-_, _*_, _≤_, _<_}
+use lib.IntN.{pos, _-ℤ_}
+use Prim.Native.Nat.{ℕ, _+_, _*_, _≤_, _<_}
 use lib.ListN.{length, getD, take}
 use Rattle.plants.specs.declared.Stream.{Stream}
-use Rattle.plants.specs.Limits.{places, maxStreams}
+use Rattle.plants.specs.Limits.{places, maxUnits, maxStreams}
 use Rattle.plants.specs.Plants.{noStream}
+use Rattle.plants.specs.Within.{WithinStream}
 use Rattle.flows.specs.Flows.{streamAt}
-use Rattle.flows.specs.Certificate.{weightOf}
 use Rattle.flows.specs.Nets.{netOf}
 use Rattle.paths.specs.Sizes.{flowShift, mostFlow, priceShift, netShift, mostStep, pushRoom}
 use Rattle.paths.specs.Held.{unshifted, AllHeld}
 use Rattle.paths.specs.Slack.{slackBy}
-use Rattle.paths.specs.Premises.{Placed, Network, Prices, Laid}
+use Rattle.paths.specs.Premises.{Network, Prices, Laid}
 use Rattle.solver.specs.declared.Hint.{Hint}
 use Rattle.solver.specs.declared.State.{State}
 use Rattle.solver.specs.Model.{settled}
 use Rattle.solver.specs.Sizes.{mostReading, priceBand, stepFall, hintFloor, hintRoom, settledRoom}
-
--- An array of streams of which the first n are in use: metered ones have a weight and a reading in range, and no stream leads
--- from a place to itself.
-pub record Layout (streams : List Stream) (n : ℕ) : Type 0 where
-  pub network : Network streams n
-  pub weighed : (k : ℕ) → k < n → getD streams k noStream .metered ≡ true → 1 ≤ getD streams k noStream .weight
-  pub in-range : (k : ℕ) → k < n → getD streams k noStream .metered ≡ true → natAbs (getD streams k noStream .reading) ≤ mostReading
-  pub apart : (k : ℕ) → k < n → getD streams k noStream .from ≡ getD streams k noStream .to → ⊥
 
 -- A step: at least 1.
 abbrev pub Step : ℕ → Type 0
@@ -38,16 +30,15 @@ Close b x = (x ≤ flowShift + b) × (flowShift ≤ x + b)
 
 -- A metered stream, and the prices of its start and its end, at which its amount can be settled.
 pub record Settleable (s : Stream) (pu pv : ℕ) : Type 0 where
-  pub placed : Placed s
-  pub weighed : 1 ≤ weightOf s
-  pub in-range : natAbs (s .reading) ≤ mostReading
+  pub within : WithinStream maxUnits s
+  pub metered : s .metered ≡ true
   pub price-u : pu ≤ priceShift
   pub price-v : pv ≤ priceShift
   pub near : pu ≤ pv + 2 * priceBand
 
 -- An array of streams, and prices at which their amounts can be settled.
 pub record Settles (streams : List Stream) (n : ℕ) (ps : List ℕ) : Type 0 where
-  pub layout : Layout streams n
+  pub network : Network streams n
   pub prices : Prices ps
   pub near : (u v : ℕ) → u < places → v < places → getD ps u 0 ≤ getD ps v 0 + 2 * priceBand
 
@@ -138,7 +129,7 @@ pub record Falls (streams : List Stream) (ps : List ℕ) (i : ℕ) (xs : List �
 pub record Improvable (ls : List ℕ) (d k : ℕ) (st : State) : Type 0 where
   pub streams : List Stream
   pub n : ℕ
-  pub layout : Layout streams n
+  pub network : Network streams n
   pub laid : Laid streams n ls
   pub step : Step d
   pub allows : Allows (take n streams) d k st
@@ -147,7 +138,7 @@ pub record Improvable (ls : List ℕ) (d k : ℕ) (st : State) : Type 0 where
 pub record Tieable (ls ps : List ℕ) (i : ℕ) (xs : List ℕ) : Type 0 where
   pub streams : List Stream
   pub n : ℕ
-  pub layout : Layout streams n
+  pub network : Network streams n
   pub laid : Laid streams n ls
   pub prices : Prices ps
   pub even : Even (take n streams) ps i xs

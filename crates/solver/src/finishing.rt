@@ -11,13 +11,13 @@ use plants::Stream;
 use plants::limits::MAX_STREAMS;
 ghost use mathlib.Core.Path.{_≡_};
 ghost use lib.ListN.{take};
-ghost use Rattle.paths.specs.Premises.{Laid};
+ghost use Rattle.paths.specs.Premises.{Network, Laid};
 ghost use Rattle.solver.specs.Model.{begun, finished};
-ghost use Rattle.solver.specs.Premises.{Layout, AtHint};
+ghost use Rattle.solver.specs.Premises.{AtHint};
 
 // The amounts as they are; where too much is left over, those settled at no hint.
 fn begin(streams: [Stream; MAX_STREAMS], count: usize, st: State) -> State
-    requires { ⌜ Layout streams count × AtHint (take count streams) st ⌝ }
+    requires { ⌜ Network streams count × AtHint (take count streams) st ⌝ }
     ensures { λ r. ⌜ r ≡ begun (take count streams) st ⌝ }
 {
     let nets = st.nets;
@@ -34,7 +34,7 @@ pub fn finish(
     lanes: &[u64; LANES],
     st: State,
 ) -> State
-    requires { ⌜ Layout streams count × AtHint (take count streams) st × Laid streams count (now lanes) ⌝ }
+    requires { ⌜ Network streams count × AtHint (take count streams) st × Laid streams count (now lanes) ⌝ }
     ensures { λ r. ⌜ r ≡ finished (take count streams) st ⌝ }
 {
     improve_all(lanes, begin(streams, count, st), 1, FUEL)

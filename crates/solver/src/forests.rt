@@ -13,10 +13,10 @@ ghost use mathlib.Core.List.{List};
 ghost use Prim.Native.Nat.{ℕ, _<_};
 ghost use lib.ListN.{length, getD};
 ghost use Rattle.plants.specs.declared.Stream.{Stream};
-ghost use Rattle.plants.specs.Limits.{places};
+ghost use Rattle.plants.specs.Limits.{maxUnits, places};
+ghost use Rattle.plants.specs.Within.{WithinStream};
 ghost use Rattle.plants.specs.Plants.{noStream};
-ghost use Rattle.flows.specs.Calls.{Ends};
-ghost use Rattle.paths.specs.Premises.{Network, Trail};
+ghost use Rattle.paths.specs.Premises.{Network};
 ghost use Rattle.solver.specs.Sizes.{hintRoom};
 ghost use Rattle.solver.specs.Premises.{Close};
 ghost use Rattle.solver.specs.Forests.{Spanning, Unmetered, Listed, Routes, Kept};
@@ -58,7 +58,7 @@ fn reach(f: Forest, i: u8, e: usize, into: bool) -> Forest
 
 // Unmetered stream i, where it leads from a place that is reached to one that is not.
 fn along(f: Forest, i: u8, s: Stream) -> Forest
-    requires { ⌜ Spanning f × Ends s ⌝ }
+    requires { ⌜ Spanning f × WithinStream maxUnits s ⌝ }
     ensures { λ r. ⌜ Spanning r × ((ss : List Stream) (n : ℕ) → i < n → getD ss i noStream ≡ s → Listed ss n f → Listed ss n r) ⌝ }
 {
     if s.metered {
@@ -133,7 +133,7 @@ fn hand_on(nets: &mut [u64; PLACES], u: usize, v: usize) -> u64
 
 // The amount of a stream by which the place that it was to reach hands its net on.
 fn routed(nets: &mut [u64; PLACES], s: Stream, into: bool) -> u64
-    requires { ⌜ (length (now nets) ≡ places) × Ends s ⌝ }
+    requires { ⌜ (length (now nets) ≡ places) × WithinStream maxUnits s ⌝ }
     ensures { λ r. ⌜ (length (now (nets .exit)) ≡ places) × Close hintRoom r ⌝ }
 {
     let u = s.from as usize;

@@ -14,7 +14,8 @@ use plants::limits::PLACES;
 ghost use mathlib.Core.Path.{_≡_};
 ghost use lib.ListN.{take};
 ghost use Rattle.solver.specs.Model.{noHint, asHint};
-ghost use Rattle.solver.specs.Premises.{Layout, Hinted};
+ghost use Rattle.paths.specs.Premises.{Network};
+ghost use Rattle.solver.specs.Premises.{Hinted};
 
 // No hint: amounts and prices 0.
 pub fn no_hint() -> Hint
@@ -40,7 +41,7 @@ fn hint_of(st: State) -> Hint
 
 // At each step from FIRST_STEP down to 2: amounts settled, then some improvements.
 pub fn hint_by_steps(streams: [Stream; MAX_STREAMS], count: usize) -> Hint
-    requires { ⌜ Layout streams count ⌝ }
+    requires { ⌜ Network streams count ⌝ }
     ensures { λ r. ⌜ Hinted (take count streams) r ⌝ }
 {
     let lanes = lay(streams, count);

@@ -7,10 +7,11 @@ use plants::limits::PLACES;
 use settling::settle;
 use starts::start;
 use ties::tie_all;
+ghost use Rattle.plants.specs.Within.{Accepted};
 ghost use Rattle.plants.specs.Says.{plantOf};
 ghost use Rattle.flows.specs.Calls.{Grouped};
 ghost use Rattle.solver.specs.Premises.{Hinted, AtHint};
-ghost use Rattle.solver.specs.Promise.{Accepted, Right};
+ghost use Rattle.solver.specs.Promise.{Right};
 
 mod finishing;
 mod forests;

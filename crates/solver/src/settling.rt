@@ -12,12 +12,13 @@ use plants::limits::PLACES;
 ghost use mathlib.Core.Path.{_≡_};
 ghost use lib.ListN.{length, take};
 ghost use Prim.Native.Nat.{_+_, _≤_};
-ghost use Rattle.plants.specs.Limits.{maxStreams};
+ghost use Rattle.plants.specs.Limits.{maxUnits, maxStreams};
+ghost use Rattle.plants.specs.Within.{WithinStream};
 ghost use Rattle.paths.specs.Sizes.{mostFlow};
-ghost use Rattle.paths.specs.Premises.{Placed, Network};
+ghost use Rattle.paths.specs.Premises.{Network};
 ghost use Rattle.solver.specs.Sizes.{netRoom};
 ghost use Rattle.solver.specs.Model.{settledOf, settledTo, booked, netsTo, settled, overSum};
-ghost use Rattle.solver.specs.Premises.{Layout, Amounts, Around, Settleable, Settles, Ready};
+ghost use Rattle.solver.specs.Premises.{Amounts, Around, Settleable, Settles, Ready};
 
 // A metered stream's amount at the prices of its start and its end. (The numbers divided are kept small: a division of small numbers
 // is quicker.)
@@ -57,7 +58,7 @@ pub fn settle_flows(
 
 // A stream's amount leaves its start and comes to its end.
 fn book(nets: &mut [u64; PLACES], s: Stream, x: u64)
-    requires { ⌜ Placed s × (x ≤ mostFlow) × Around (now nets) netRoom ⌝ }
+    requires { ⌜ WithinStream maxUnits s × (x ≤ mostFlow) × Around (now nets) netRoom ⌝ }
     ensures { λ _. ⌜ now (nets .exit) ≡ booked (now (nets .entry)) s x ⌝ }
 {
     let u = s.from as usize;
@@ -85,7 +86,7 @@ pub fn nets_of(
 
 // Amounts and nets at the prices of a hint.
 pub fn settle(streams: [Stream; MAX_STREAMS], count: usize, h: Hint) -> State
-    requires { ⌜ Layout streams count × Ready (take count streams) h ⌝ }
+    requires { ⌜ Network streams count × Ready (take count streams) h ⌝ }
     ensures { λ r. ⌜ r ≡ settled (take count streams) h ⌝ }
 {
     let prices = h.prices;

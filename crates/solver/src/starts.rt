@@ -16,10 +16,10 @@ use plants::Plant;
 use plants::limits::MAX_STREAMS;
 use plants::limits::PLACES;
 use potentials::potentials_of;
+ghost use Rattle.plants.specs.Within.{Accepted};
 ghost use Rattle.plants.specs.Says.{plantOf};
 ghost use Rattle.flows.specs.Calls.{Grouped};
 ghost use Rattle.solver.specs.Premises.{AtHint};
-ghost use Rattle.solver.specs.Promise.{Accepted};
 
 // Prices from the labels by the unmetered streams, and amounts at these. Routing leaves metered amounts as they are.
 pub fn fast_start(p: Plant, labels: [u8; PLACES]) -> State

@@ -2,12 +2,13 @@
 use mathlib.Core.Path.{sym, ap, _∙_, subst}
 use borrow.Author.Needs.{needs}
 use Rattle.plants.specs.Says.{plantOf}
+use Rattle.plants.proofs.Arrayed.{within-of}
 use Rattle.solver.specs.declared.State.{State}
 use Rattle.solver.specs.Model.{tiesTo}
 use Rattle.solver.specs.Premises.{Tieable}
 use Rattle.solver.specs.Promise.{Right}
 use Rattle.solver.proofs.Ending.{finished-even, finished-prices}
-use Rattle.solver.proofs.Theorem.{layout-of, solvable-in, solved-right, solved-is}
+use Rattle.solver.proofs.Theorem.{network-of, solvable-in, solved-right, solved-is}
 use Rattle.solver.proofs.solve_at.Statement.{statement}
 use Rattle.solver.proofs.solve_at.Tie as tie
 
@@ -15,23 +16,23 @@ cast-count : tie.Need-cast-count
 cast-count c = search needs
 
 lay-requires : tie.Need-lay-requires
-lay-requires c κs = let st = c .before .before in layout-of (st .args .p) (st .pre .0) .network
+lay-requires c κs = let st = c .before .before in network-of (st .args .p) (st .pre .0)
 
 finish-requires : tie.Need-finish-requires
 finish-requires c κs =
     let st = c .before .before .before .before in
-    (layout-of (st .args .p) (st .pre .0), st .pre .1, c .before .lay .ensures)
+    (network-of (st .args .p) (st .pre .0), st .pre .1, c .before .lay .ensures)
 
 -- What the tie pass begins from.
 abbrev able : (c : tie.After-finish) → Tieable (c .before .before .lay .result) (c .finish .result .prices) 0 (c .finish .result .flows)
 able c =
     let st = c .before .before .before .before .before in
     let p = st .args .p in
-    let v = solvable-in (plantOf p) (st .pre .0 .within) in
+    let v = solvable-in (plantOf p) (within-of p (st .pre .0)) in
     record {
       streams = p .streams;
       n = p .count;
-      layout = layout-of p (st .pre .0);
+      network = network-of p (st .pre .0);
       laid = c .before .before .lay .ensures;
       prices = rw (c .finish .ensures) (finished-prices (plantOf p .streams) v (st .args .start) (st .pre .1));
       even = rw (c .finish .ensures) (finished-even (plantOf p .streams) v (st .args .start) (st .pre .1));

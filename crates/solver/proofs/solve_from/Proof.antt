@@ -1,7 +1,7 @@
 -- `solver::solve_from` meets its contract: amounts are settled at the hint.
 use borrow.Author.Needs.{needs}
 use Rattle.solver.proofs.Layouts.{hinted-ready}
-use Rattle.solver.proofs.Theorem.{layout-of}
+use Rattle.solver.proofs.Theorem.{network-of}
 use Rattle.solver.proofs.solve_from.Statement.{statement}
 use Rattle.solver.proofs.solve_from.Tie as tie
 
@@ -11,7 +11,7 @@ cast-settle c = search needs
 settle-requires : tie.Need-settle-requires
 settle-requires c κs =
     let st = c .before .before in
-    let w = layout-of (st .args .p) (st .pre .0) in
+    let w = network-of (st .args .p) (st .pre .0) in
     (w, hinted-ready (st .args .p .streams) (st .args .p .count) w (st .args .h) (st .pre .1))
 
 solve-at-requires : tie.Need-solve-at-requires

@@ -9,7 +9,7 @@ use Rattle.flows.specs.declared.Class.the-variants.{Withheld}
 use Rattle.flows.specs.Classes.{classOf}
 use Rattle.flows.proofs.Lists.{Written, written-none, written-put}
 use Rattle.flows.proofs.Labels.{labels-long}
-use Rattle.flows.proofs.Fits.{fit-length, fit-ends}
+use Rattle.plants.proofs.Arrayed.{all-listed, stream-within}
 use Rattle.flows.proofs.ByLabels.{classes-all}
 use Rattle.flows.proofs.BySides.{class-in}
 use borrow.Author.Needs.{needs}
@@ -41,8 +41,7 @@ class-of-requires : tie.Need-class-of-requires Inv-loop μ-loop
 class-of-requires c κs =
     let st = c .before .before .before .before .before .before in
     let lt = c .before .before .loop-test .taken in
-    let g = st .pre .grouped in
-    (fit-ends (st .args .t1) (g .fit) _ lt, ap length (g .labelled) ∙ labels-long _ _ _, st .pre .low _ lt)
+    (stream-within (st .args .t1) (st .pre .0) _ lt, ap length (st .pre .1 .grouped) ∙ labels-long _ _ _, st .pre .1 .low _ lt)
 
 array-set-from-r : tie.Need-array-set-from-r Inv-loop μ-loop
 array-set-from-r c = search needs
@@ -57,15 +56,15 @@ loop-again : tie.Need-loop-again Inv-loop μ-loop
 loop-again c =
     let st = c .before .before .before .before .before .before .before in
     let at = c .before .before .before .before .loop in
-    let class = class-in (st .pre) (at .i) (c .before .before .before .loop-test .taken) in
-    (omega arith, written-put (at .inv .1) (omega (arith, st .pre .grouped .fit .few-streams)) _ (c .class-of .ensures ∙ class))
+    let class = class-in (st .pre .0) (st .pre .1) (at .i) (c .before .before .before .loop-test .taken) in
+    (omega arith, written-put (at .inv .1) (omega (arith, st .pre .0 .within .few-streams)) _ (c .class-of .ensures ∙ class))
 
 returns : tie.Need-returns Inv-loop μ-loop
 returns c =
     let st = c .before .before .before .before in
     let at = c .before .loop in
     let e : at .i ≡ st .args .t1 .count = omega arith in
-    classes-all (plantOf (st .args .t1)) (at .i) maxStreams _ (fit-length (st .args .t1) (st .pre .grouped .fit) ∙ sym e) (at .inv .1)
+    classes-all (plantOf (st .args .t1)) (at .i) maxStreams _ (all-listed (st .args .t1) (st .pre .0) ∙ sym e) (at .inv .1)
 
 pub classes-of-spec : {M : Type 1} → statement M
 classes-of-spec =

@@ -14,7 +14,7 @@ use Rattle.paths.proofs.lanes.lay.Tie as tie
 
 -- The rows with the count.
 rowed : (c : tie.After-put-rows) → Rowed (c .before .before .args .streams) (c .before .before .args .count) (set (c .put-rows .last .1 .1 .0) countCell (c .before .before .args .count))
-rowed c = counted-put _ _ _ (c .before .before .pre .few) (c .put-rows .ensures .0)
+rowed c = counted-put _ _ _ (c .before .before .pre .within .few-streams) (c .put-rows .ensures .0)
 
 put-rows-requires : tie.Need-put-rows-requires
 put-rows-requires c κs = search needs
@@ -27,7 +27,7 @@ link-requires c κs =
     let p = c .before in
     let w = p .before .before .pre in
     record {
-      few = w .few;
+      few = w .within .few-streams;
       long = rowed p .long;
       none = λ u l. getD-set-other (p .put-rows .last .1 .1 .0) countCell u (p .before .before .args .count) 0 (λ o. omega arith) ∙ p .put-rows .ensures .1 u l
           ∙ getD-replicate laneCells u maxStreams 0 (omega arith);

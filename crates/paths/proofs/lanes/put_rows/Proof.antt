@@ -63,7 +63,7 @@ element-write-lanes-3 : tie.Need-element-write-lanes-3 Inv-loop μ-loop
 element-write-lanes-3 c = search needs
 
 pull-of-reading-requires : tie.Need-pull-of-reading-requires Inv-loop μ-loop
-pull-of-reading-requires c κs = c .before .before .before .before .before .before .pre .0 .placed _ (c .before .before .before .before .loop-test .taken)
+pull-of-reading-requires c κs = c .before .before .before .before .before .before .pre .0 .within .each _ (c .before .before .before .before .loop-test .taken)
 
 mul-lanes-4 : tie.Need-mul-lanes-4 Inv-loop μ-loop
 mul-lanes-4 c = search needs
@@ -87,7 +87,7 @@ loop-again : tie.Need-loop-again Inv-loop μ-loop
 loop-again c =
     let at = c .before .before .before .before .before .before in
     let pull = c .pull-of-reading .ensures in
-    let few : at .loop .i < maxStreams = omega (arith, at .before .pre .0 .few, c .before .before .before .before .before .loop-test .taken) in (
+    let few : at .loop .i < maxStreams = omega (arith, at .before .pre .0 .within .few-streams, c .before .before .before .before .before .loop-test .taken) in (
       omega arith,
       rowed-put (at .before .args .t1) (at .loop .i) _ _ _ _ _ few (at .loop .inv .1) refl refl (c .before .weight-of .ensures) (ap (λ (x : ℕ). 2 * x) (pull .0)) (omega (arith, pull .1)),
       λ u l. filled-other (at .before .args .t1) (at .loop .i) (getD (at .before .args .t1) (at .loop .i) noStream .from) (getD (at .before .args .t1) (at .loop .i) noStream .to) (c .before .weight-of .result) (2 * c .pull-of-reading .result) (at .loop .lanes) few u (λ o. omega arith) (λ o. omega arith) (λ o. omega arith) (λ o. omega arith) ∙ at .loop .inv .2 u l,

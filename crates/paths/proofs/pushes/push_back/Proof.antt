@@ -33,7 +33,7 @@ index : (c : tie.In-loop Inv-loop μ-loop) (w : Laying (c .before .before .args 
 index c w = rw (← w .laid .counted) (c .before .before .pre .2 .within (c .before .loop .j - 1) (omega arith))
 
 low : (c : tie.In-loop Inv-loop μ-loop) → getD (c .before .before .args .via .now) (c .before .loop .j - 1) 0 < maxStreams
-low c = let w = c .before .before .pre .0 in omega (arith, index c w, w .network .few)
+low c = let w = c .before .before .pre .0 in omega (arith, index c w, w .network .within .few-streams)
 
 loop-holds : tie.Need-loop-holds Inv-loop μ-loop
 loop-holds c = (omega arith, omega arith, c .pre .3, λ w. refl)

@@ -20,7 +20,8 @@ opened-flows-requires c κs = right-amounts (c .before .before .before .before .
 cost-of-requires : tie.Need-cost-of-requires
 cost-of-requires c κs =
     let solved = c .before .before .solve in
-    costs-fit (c .before .before .before .before .before .before .args .p) (c .before .before .before .before .before .before .pre) (solved .result) (solved .ensures) (c .opened-flows .result) (c .opened-flows .ensures)
+    let a = c .before .before .before .before .before .before .pre in
+    (a, costs-fit (c .before .before .before .before .before .before .args .p) a (solved .result) (solved .ensures) (c .opened-flows .result) (c .opened-flows .ensures))
 
 degrees-of-requires : tie.Need-degrees-of-requires
 degrees-of-requires c κs = search needs

@@ -10,13 +10,13 @@ use mir.Val.{SFits, toZ, ofZ}
 use mir.Facts.{toZ-ofZ}
 use Rattle.plants.specs.Plants.{noStream}
 use Rattle.flows.specs.Flows.{amountAt}
-use Rattle.sheets.specs.Calls.{streamCost, CostsFit}
-use Rattle.sheets.proofs.Costing.{Summed, summed-none, next-fits, sum-fits, summed-more, summed-all}
+use Rattle.sheets.specs.Calls.{streamCost}
+use Rattle.sheets.proofs.Costing.{Costed, Summed, summed-none, next-fits, sum-fits, summed-more, summed-all}
 use Rattle.sheets.proofs.balances.cost_of.Statement.{statement}
 use Rattle.sheets.proofs.balances.cost_of.Tie as tie
 
 abbrev Inv-loop : tie.InvT-loop
-Inv-loop p flows n sum₀ i₀ sum i = CostsFit p flows × (n ≡ p .count) × Summed p flows sum i
+Inv-loop p flows n sum₀ i₀ sum i = Costed p flows × (n ≡ p .count) × Summed p flows sum i
 
 abbrev μ-loop : tie.MeasureT-loop
 μ-loop p flows n sum₀ i₀ sum i = n - i
@@ -25,7 +25,7 @@ cast-n : tie.Need-cast-n Inv-loop μ-loop
 cast-n c = search needs
 
 loop-holds : tie.Need-loop-holds Inv-loop μ-loop
-loop-holds c = (c .pre, refl, summed-none (c .args .t1) (c .args .t2))
+loop-holds c = (record { accepted = c .pre .0; amounts = search needs; fits = c .pre .1 }, refl, summed-none (c .args .t1) (c .args .t2))
 
 mul-s : tie.Need-mul-s Inv-loop μ-loop
 mul-s c = search needs

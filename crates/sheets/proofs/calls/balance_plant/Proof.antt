@@ -48,7 +48,7 @@ put-sheet-requires : tie.Need-put-sheet-requires
 put-sheet-requires c κs =
     let a = c .before .before .before .before .before .before .before .before .before .before .before .args in
     let read = c .before .before .before .before .before .read-plant in
-    let few = plant-accepted (now (a .file)) (read .result) (read .ensures) (c .before .before .before .before .if2 .left) .fit .few-streams in
+    let few = plant-accepted (now (a .file)) (read .result) (read .ensures) (c .before .before .before .before .if2 .left) .within .few-streams in
     (omega (arith, few), long-enough (a .last) (now (a .sheet)) (sym (c .before .before .before .before .before .before .before .call-fault .ensures) ∙ c .before .before .before .before .before .before .if1 .left))
 
 same-length-3 : tie.Need-same-length-3

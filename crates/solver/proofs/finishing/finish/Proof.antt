@@ -18,7 +18,7 @@ able c =
     record {
       streams = st .args .streams;
       n = st .args .count;
-      layout = st .pre .0;
+      network = st .pre .0;
       laid = st .pre .2;
       step = (omega arith, omega arith);
       allows =

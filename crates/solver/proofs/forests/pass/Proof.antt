@@ -4,7 +4,6 @@ use Prim.Native.Nat.{_≤_, _-_}
 use native.Mathlib.Omega.{arith}
 use borrow.Author.Needs.{needs}
 use Rattle.solver.specs.Forests.{Spanning, Listed}
-use Rattle.solver.proofs.Spanning.{ends-of}
 use Rattle.solver.proofs.forests.pass.Statement.{statement}
 use Rattle.solver.proofs.forests.pass.Tie as tie
 
@@ -27,7 +26,7 @@ array-copy-out-along : tie.Need-array-copy-out-along Inv-loop μ-loop
 array-copy-out-along c = search needs
 
 along-requires : tie.Need-along-requires Inv-loop μ-loop
-along-requires c κs = (c .before .before .loop .inv .1, ends-of (c .before .before .before .pre .0 .placed (c .before .before .loop .i) (omega arith)))
+along-requires c κs = (c .before .before .loop .inv .1, c .before .before .before .pre .0 .within .each (c .before .before .loop .i) (omega arith))
 
 add-i : tie.Need-add-i Inv-loop μ-loop
 add-i c = search needs

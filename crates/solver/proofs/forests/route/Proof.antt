@@ -6,7 +6,7 @@ use lib.ListN.{length, getD}
 use borrow.Author.Needs.{needs}
 use Rattle.plants.specs.Limits.{places, maxStreams}
 use Rattle.solver.specs.Forests.{Unmetered, Routes, Kept}
-use Rattle.solver.proofs.Spanning.{ends-of, spanning-short, routes-set, kept-set}
+use Rattle.solver.proofs.Spanning.{spanning-short, routes-set, kept-set}
 use Rattle.solver.proofs.forests.route.Statement.{statement}
 use Rattle.solver.proofs.forests.route.Tie as tie
 
@@ -26,7 +26,7 @@ listed : (c : tie.In-loop Inv-loop μ-loop) → Unmetered (c .before .before .ar
 listed c = c .before .before .pre .2 _ (omega arith)
 
 index : (c : tie.In-loop Inv-loop μ-loop) → getD (c .before .before .args .t3 .via) (c .before .loop .k - 1) 0 < maxStreams
-index c = omega (arith, listed c .0, c .before .before .pre .0 .few)
+index c = omega (arith, listed c .0, c .before .before .pre .0 .within .few-streams)
 
 sub-k : tie.Need-sub-k Inv-loop μ-loop
 sub-k c = search needs
@@ -49,7 +49,7 @@ array-copy-out-routed c = let h = index (c .before .before .before) in search ne
 routed-requires : tie.Need-routed-requires Inv-loop μ-loop
 routed-requires c κs =
     let at = c .before .before .before .before in
-    (at .before .loop .inv .1, ends-of (at .before .before .pre .0 .placed _ (listed at .0)))
+    (at .before .loop .inv .1, at .before .before .pre .0 .within .each _ (listed at .0))
 
 mul-flows : tie.Need-mul-flows Inv-loop μ-loop
 mul-flows c = let h = index (c .before .before .before .before .before) in search needs

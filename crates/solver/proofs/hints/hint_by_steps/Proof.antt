@@ -21,7 +21,7 @@ abbrev μ-loop : tie.MeasureT-loop
 μ-loop streams count lanes h₀ delta₀ h delta = delta
 
 lay-requires : tie.Need-lay-requires Inv-loop μ-loop
-lay-requires c κs = c .pre .network
+lay-requires c κs = c .pre
 
 no-hint-requires : tie.Need-no-hint-requires Inv-loop μ-loop
 no-hint-requires c κs = search needs
@@ -47,7 +47,7 @@ able c =
     record {
       streams = st .args .streams;
       n = st .args .count;
-      layout = st .pre;
+      network = st .pre;
       laid = at .before .before .lay .ensures;
       step = (omega (arith, c .before .loop-test .taken), at .loop .inv .0);
       allows =

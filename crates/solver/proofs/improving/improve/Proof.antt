@@ -32,7 +32,7 @@ Of st = Improvable (st .args .lanes .now) (st .args .delta) 1 (stateOf (st .args
 key : (c : tie.After-search) (w : Of (start c))
     → Moving (w .n) (stateOf (start c .args .flows .now) (start c .args .prices .now) (start c .args .nets .now)) (over c .first-over .result) (start c .args .delta) (c .search .result .found) (c .search .result .tree)
 key c w =
-    moving (w .streams) (w .n) _ _ _ _ _ _ (w .layout .network) (w .step .0) (w .step .1) (w .allows)
+    moving (w .streams) (w .n) _ _ _ _ _ _ (w .network) (w .step .0) (w .step .1) (w .allows)
     (over c .first-over .ensures) (passed c .if1 .left) (c .search .ensures (improve-searching _ _ _ w))
 
 -- The place from which the search is done.
@@ -83,7 +83,7 @@ returns-3 c = λ w.
     let f = c .before .before .before .before .before .before .before .before .before .before .before in
     rw (c .before .before .push-back .ensures (improve-laying _ _ _ _ w), c .shift-nets .ensures)
     (sym
-    (improved-done (take (w .n) (w .streams)) (w .n) _ _ _ _ (in-use (w .streams) (w .n) (w .layout .network)) (over f .first-over .ensures) (passed f .if1 .left) (f .search .ensures (improve-searching _ _ _ w)) (key f w .found-it)))
+    (improved-done (take (w .n) (w .streams)) (w .n) _ _ _ _ (in-use (w .streams) (w .n) (w .network)) (over f .first-over .ensures) (passed f .if1 .left) (f .search .ensures (improve-searching _ _ _ w)) (key f w .found-it)))
 
 pub improve-spec : {M : Type 1} → statement M
 improve-spec =

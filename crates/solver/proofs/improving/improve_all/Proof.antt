@@ -34,7 +34,7 @@ abbrev able : (c : tie.In-loop Inv-loop μ-loop) → Of (begin c)
 able c w = record {
   streams = w .streams;
   n = w .n;
-  layout = w .layout;
+  network = w .network;
   laid = w .laid;
   step = w .step;
   allows = allows-less _ _ (c .before .loop .left) 1 _ (omega (arith, c .loop-test .taken)) (c .before .loop .inv .1 w .0);
@@ -67,7 +67,7 @@ loop-again c =
     let d = not-false _ (c .if1 .left) in (
       omega arith,
       λ w. (
-        allows-next (w .streams) (w .n) _ (at .loop .left) _ _ (w .layout .network) (w .step .0) (omega (arith, on .loop-test .taken)) (at .loop .inv .1 w .0) (c .before .improve .ensures (able on w)) d,
+        allows-next (w .streams) (w .n) _ (at .loop .left) _ _ (w .network) (w .step .0) (omega (arith, on .loop-test .taken)) (at .loop .inv .1 w .0) (c .before .improve .ensures (able on w)) d,
         steps-next _ _ (at .loop .left) _ _ (omega (arith, on .loop-test .taken)) (c .before .improve .ensures (able on w)) d ∙ at .loop .inv .1 w .1,
       ),
     )

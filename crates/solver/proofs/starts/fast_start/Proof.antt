@@ -12,17 +12,17 @@ use Rattle.paths.specs.Sizes.{priceShift}
 use Rattle.solver.specs.Sizes.{priceBand}
 use Rattle.solver.proofs.Booking.{nets-long}
 use Rattle.solver.proofs.Layouts.{ready-settles}
-use Rattle.solver.proofs.Theorem.{layout-of}
+use Rattle.solver.proofs.Theorem.{network-of}
 use Rattle.solver.proofs.Spanning.{routes-none, routes-amounts}
 use Rattle.solver.proofs.Factored.{labels-of, level-ready, level-routes, routed-start}
 use Rattle.solver.proofs.starts.fast_start.Statement.{statement}
 use Rattle.solver.proofs.starts.fast_start.Tie as tie
 
 levels : (c : tie.After-potentials-of) → Level (labelsOf unmeteredOnly (plantOf (c .before .args .p))) priceShift priceBand (c .potentials-of .result)
-levels c = subst (λ (ls : List ℕ). Level ls priceShift priceBand (c .potentials-of .result)) (c .before .pre .1 .labelled) (c .potentials-of .ensures)
+levels c = subst (λ (ls : List ℕ). Level ls priceShift priceBand (c .potentials-of .result)) (c .before .pre .1) (c .potentials-of .ensures)
 
 potentials-of-requires : tie.Need-potentials-of-requires
-potentials-of-requires c κs = (c .pre .0 .fit, rw (c .pre .1 .labelled) (labels-of (c .args .p) (c .pre .0)), omega arith)
+potentials-of-requires c κs = (c .pre .0, rw (c .pre .1) (labels-of (c .args .p) (c .pre .0)), omega arith)
 
 cast-count : tie.Need-cast-count
 cast-count c = search needs
@@ -32,19 +32,19 @@ settle-flows-requires c κs =
     let at = c .before .before .before .before in
     let st = at .before in
     let p = st .args .p in
-    (ready-settles (p .streams) (p .count) (layout-of p (st .pre .0)) _ (level-ready p (st .pre .0) (levels at)), routes-none .long)
+    (ready-settles (p .streams) (p .count) (network-of p (st .pre .0)) _ (level-ready p (st .pre .0) (levels at)), routes-none .long)
 
 nets-of-requires : tie.Need-nets-of-requires
 nets-of-requires c κs =
     let at = c .before .before .before .before .before in
     let st = at .before in
     let p = st .args .p in
-    (layout-of p (st .pre .0) .network, rw (c .settle-flows .ensures) (routes-amounts (level-routes p (st .pre .0) (levels at))))
+    (network-of p (st .pre .0), rw (c .settle-flows .ensures) (routes-amounts (level-routes p (st .pre .0) (levels at))))
 
 forest-requires : tie.Need-forest-requires
 forest-requires c κs =
     let st = c .before .before .before .before .before .before .before in
-    layout-of (st .args .p) (st .pre .0) .network
+    network-of (st .args .p) (st .pre .0)
 
 route-requires : tie.Need-route-requires
 route-requires c κs =
@@ -52,7 +52,7 @@ route-requires c κs =
     let at = c .before .before .before .before .before .before .before .before .before in
     let st = at .before in
     let p = st .args .p in (
-      layout-of p (st .pre .0) .network,
+      network-of p (st .pre .0),
       f .forest .ensures .0,
       f .forest .ensures .1,
       rw (f .before .nets-of .ensures) (nets-long _ _ (p .count)),
@@ -62,7 +62,7 @@ route-requires c κs =
 nets-of-requires-2 : tie.Need-nets-of-requires-2
 nets-of-requires-2 c κs =
     let st = c .before .before .before .before .before .before .before .before .before .before .before in
-    (layout-of (st .args .p) (st .pre .0) .network, routes-amounts (c .route .ensures .0))
+    (network-of (st .args .p) (st .pre .0), routes-amounts (c .route .ensures .0))
 
 returns : tie.Need-returns
 returns c =

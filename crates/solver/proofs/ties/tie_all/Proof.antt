@@ -40,12 +40,12 @@ abbrev able : (c : tie.In-loop Inv-loop μ-loop) → Of (begin c) → Tieable (b
 able c w = record {
   streams = w .streams;
   n = w .n;
-  layout = w .layout;
+  network = w .network;
   laid = w .laid;
   prices = w .prices;
   even =
       subst (λ (xs : List ℕ). Even (take (w .n) (w .streams)) (begin c .args .prices .now) (c .before .loop .i) xs) (sym (c .before .loop .inv .1 w))
-      (tying-even (w .streams) (w .n) (w .layout) _ _ (w .even) (c .before .loop .i) (omega (arith, below c w)));
+      (tying-even (w .streams) (w .n) (w .network) _ _ (w .even) (c .before .loop .i) (omega (arith, below c w)));
 }
 
 count-of-requires : tie.Need-count-of-requires Inv-loop μ-loop
@@ -69,7 +69,7 @@ tying c e w =
     record {
       tieable = able on w;
       below = below on w;
-      falls = falls (w .streams) (w .n) (w .layout) _ _ (below on w) _ _ (w .laid) (sym (c .can-fall .ensures) ∙ e);
+      falls = falls (w .streams) (w .n) (w .network) _ _ (below on w) _ _ (w .laid) (sym (c .can-fall .ensures) ∙ e);
     }
 
 tie-at-requires : tie.Need-tie-at-requires Inv-loop μ-loop
@@ -96,7 +96,7 @@ loop-again c =
     let on = f .before .before in (
       omega arith,
       λ w. ⊎-elim (λ o. o .3 ∙ o .2 .ensures (tying f (o .0 .taken) w) ∙ after on w)
-          (λ o. o .1 ∙ sym (stays (w .streams) (w .n) (w .layout) _ _ (below on w) _ _ (w .laid) (sym (f .can-fall .ensures) ∙ o .0 .left)) ∙ after on w)
+          (λ o. o .1 ∙ sym (stays (w .streams) (w .n) (w .network) _ _ (below on w) _ _ (w .laid) (sym (f .can-fall .ensures) ∙ o .0 .left)) ∙ after on w)
           (c .if1 .came),
     )
 

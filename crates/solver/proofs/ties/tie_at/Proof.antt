@@ -34,7 +34,7 @@ to-is : (c : tie.After-end-at) (w : Of (c .before .before)) → c .end-at .resul
 to-is c w = c .end-at .ensures ∙ w .tieable .laid .rowed .ends _ (w .below)
 
 end-in : (c : tie.After-end-at) → c .end-at .result < places
-end-in c = let w = c .before .before .pre in rw (c .end-at .ensures) (ends-in (w .tieable .layout .network) (w .tieable .laid .rowed) _ (w .below))
+end-in c = let w = c .before .before .pre in rw (c .end-at .ensures) (ends-in (w .tieable .network) (w .tieable .laid .rowed) _ (w .below))
 
 -- What the call of tight_path says.
 told : (c : tie.After-tight-path) (w : Of (start c))
@@ -50,10 +50,10 @@ told c w =
 
 -- A way round was found: what the push needs.
 ready : (c : tie.Else1) (w : Of (start (c .before .before)))
-    → Pushable (w .tieable .streams) (w .tieable .n) (w .tieable .layout) (start (c .before .before) .args .prices .now) (start (c .before .before) .args .i) (w .below) (start (c .before .before) .args .flows .now) (c .before .before .tight-path .result .tree)
+    → Pushable (w .tieable .streams) (w .tieable .n) (w .tieable .network) (start (c .before .before) .args .prices .now) (start (c .before .before) .args .i) (w .below) (start (c .before .before) .args .flows .now) (c .before .before .tight-path .result .tree)
 ready c w =
     let f = c .before .before in
-    pushable (w .tieable .streams) (w .tieable .n) (w .tieable .layout) _ _ (w .below) _ (w .tieable .even) _ (w .falls .metered) (w .falls .tight) (told f w) (not-false _ (c .if1 .left))
+    pushable (w .tieable .streams) (w .tieable .n) (w .tieable .network) _ _ (w .below) _ (w .tieable .even) _ (w .falls .metered) (w .falls .tight) (told f w) (not-false _ (c .if1 .left))
 
 -- The amounts after the push.
 moved-are : (c : tie.After-push-back) (w : Of (start (c .before .before .before .before .before .before .before .before .before)))
@@ -77,14 +77,14 @@ tight-path-requires : tie.Need-tight-path-requires
 tight-path-requires c κs =
     let w = c .before .before .before .pre in (
       tie-searching _ _ _ _ (w .tieable) (omega (arith, w .below)),
-      rw (c .before .before .start-at .ensures) (starts-in (w .tieable .layout .network) (w .tieable .laid .rowed) _ (w .below)),
+      rw (c .before .before .start-at .ensures) (starts-in (w .tieable .network) (w .tieable .laid .rowed) _ (w .below)),
       end-in (c .before),
     )
 
 returns : tie.Need-returns
 returns c = λ w.
     let f = c .before .before in
-    sym (tied-cut (w .tieable .streams) (w .tieable .n) (w .tieable .layout) _ _ (w .below) _ _ (w .falls .metered) (w .falls .tight) (told f w) (not-true _ (c .if1 .taken)))
+    sym (tied-cut (w .tieable .streams) (w .tieable .n) (w .tieable .network) _ _ (w .below) _ _ (w .falls .metered) (w .falls .tight) (told f w) (not-true _ (c .if1 .taken)))
 
 cast-push-back : tie.Need-cast-push-back
 cast-push-back c = omega (arith, end-in (c .before .before .before .before .before .before .before .before .before .before))
@@ -116,7 +116,7 @@ returns-2 : tie.Need-returns-2
 returns-2 c = λ w.
     let f = c .before .before .before .before .before .before .before .before .before .before in
     rw (moved-are (c .before) w)
-    (sym (tied-round (w .tieable .streams) (w .tieable .n) (w .tieable .layout) _ _ (w .below) _ _ (w .falls .metered) (w .falls .tight) (told f w) (not-false _ (c .before .before .before .before .before .before .before .before .if1 .left))))
+    (sym (tied-round (w .tieable .streams) (w .tieable .n) (w .tieable .network) _ _ (w .below) _ _ (w .falls .metered) (w .falls .tight) (told f w) (not-false _ (c .before .before .before .before .before .before .before .before .if1 .left))))
 
 pub tie-at-spec : {M : Type 1} → statement M
 tie-at-spec =

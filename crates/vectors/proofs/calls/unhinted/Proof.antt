@@ -3,6 +3,7 @@ use borrow.Author.Needs.{needs}
 use denote.Ref.{now}
 use Prim.Native.Nat.{_-_}
 use lib.ListN.{length, take, drop}
+use Rattle.plants.proofs.Arrayed.{within-of}
 use Rattle.sheets.proofs.Promise.{plant-accepted}
 use Rattle.solver.proofs.Theorem as Theorem
 use Rattle.vectors.proofs.calls.unhinted.Statement.{statement}
@@ -46,7 +47,7 @@ solve-from-requires c κs =
     let given = now (c .before .before .before .before .before .before .before .before .before .args .given) in
     let read = c .before .before .before .read-plant in
     let a = plant-accepted (take (length given - 96) (drop 96 given)) (read .result) (read .ensures) (c .before .before .if3 .left) in
-    (a, rw (c .no-hint .ensures) (Theorem.unhinted _ (a .within)))
+    (a, rw (c .no-hint .ensures) (Theorem.unhinted _ (within-of _ a)))
 
 put-flows-requires : tie.Need-put-flows-requires
 put-flows-requires c κs = search needs
