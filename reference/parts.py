@@ -3,7 +3,9 @@
 import math
 from typing import NamedTuple
 
-from solver import READING, SHEET_LENGTH, Stream
+import cases
+import solver
+from solver import FILE_LENGTH, READING, SHEET_LENGTH, Stream
 
 
 class Draws:
@@ -49,12 +51,78 @@ class Draws:
 
 
 class Case(NamedTuple):
-    """A call: plant file, last sheet number, slice length; the number meant to be returned, if said."""
+    """A sheet call: plant file, last sheet number, slice length; the number meant to be returned, if said; the slice's bytes."""
 
     file: bytes
     last: int = 0
     slice_length: int = SHEET_LENGTH
     expected: int | None = None
+    filling: int = 0xA5
+
+    def record(self):
+        number, written, after, sheet = solver.sheet_call(self.file, self.last, self.slice_length)
+        return meant(self, cases.Record(
+            cases.SHEET, self.file, self.slice_length, sheet, self.filling, self.last, number, written, after,
+        ))
+
+
+class Reading(NamedTuple):
+    """A call of the plant reader."""
+
+    file: bytes
+    expected: int | None = None
+
+    def record(self):
+        number, units, streams = solver.read_call(self.file)
+        answer = parts_of(streams)
+        return meant(self, cases.Record(
+            cases.READER, self.file, len(answer), answer, returned=number, count=units, number_back=len(streams),
+        ))
+
+
+class Writing(NamedTuple):
+    """A call of the plant writer: units, how many streams, the streams (96 records are handed in, the rest empty)."""
+
+    units: int
+    count: int
+    streams: tuple
+    slice_length: int = FILE_LENGTH
+    expected: int | None = None
+    filling: int = 0xA5
+
+    def record(self):
+        number, written, file = solver.write_call(self.units, self.count, self.streams, self.slice_length)
+        given = bytes((self.units, self.count)) + parts_of(self.streams)
+        return meant(self, cases.Record(
+            cases.WRITER, given, self.slice_length, file, self.filling, returned=number, count=written,
+        ))
+
+
+class Unhinted(NamedTuple):
+    """The solver without a hint, on an accepted file; compared are all flows that are not withheld."""
+
+    file: bytes
+    expected: int | None = 0
+
+    def record(self):
+        result = solver.balance(solver.read_plant(self.file))
+        asked = bytes(amount is not None for amount in result.numbers).ljust(cases.STREAMS, b"\0")
+        flows = b"".join(cases.number(amount or 0, 8) for amount in result.numbers).ljust(8 * cases.STREAMS, b"\0")
+        return meant(self, cases.Record(cases.UNHINTED, asked + self.file, len(flows), flows))
+
+
+def meant(case, record):
+    """The record, if it has the number that the case was built for."""
+    if case.expected is not None and record.returned != case.expected:
+        raise ValueError(f"{case}: {record.returned} returned, {case.expected} meant")
+    return record
+
+
+def parts_of(streams):
+    """The 96 records of streams, empty ones past the last."""
+    empty = (0, 0, False, 0, 0)
+    whole = [(s.source, s.target, s.metered, s.weight, s.reading) for s in streams]
+    return b"".join(cases.stream(*s) for s in whole + [empty] * (cases.STREAMS - len(whole)))
 
 
 def unmetered(source, target):

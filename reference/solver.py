@@ -123,6 +123,42 @@ def read_plant(data):
     return Plant(units, tuple(streams))
 
 
+def read_call(data):
+    """(returned number, units, streams) of the plant reader."""
+    try:
+        return 0, *read_plant(data)
+    except Refused as refusal:
+        return refusal.number, 0, ()
+
+
+def write_call(units, count, streams, slice_length):
+    """(returned number, written, file) of the plant writer, for the first `count` of the streams."""
+    try:
+        if slice_length < FILE_LENGTH:
+            raise Refused(1)
+        if not 1 <= units <= UNITS:
+            raise Refused(6)
+        if count > STREAMS:
+            raise Refused(5)
+        file = bytes((SITE, units))
+        for s in streams[:count]:
+            if max(s.source, s.target) > units:
+                raise Refused(7)
+            if s.source == s.target:
+                raise Refused(8)
+            if s.metered and not 1 <= s.weight <= WEIGHT:
+                raise Refused(9)
+            if s.metered and abs(s.reading) > READING:
+                raise Refused(10)
+            file += bytes((METERED if s.metered else UNMETERED, s.source, s.target))
+            if s.metered:
+                file += s.weight.to_bytes(2, "big") + s.reading.to_bytes(4, "big", signed=True)
+    except Refused as refusal:
+        return refusal.number, 0, b""
+    file += bytes((END, count))
+    return 0, len(file), file
+
+
 # The cheapest balanced flow
 
 

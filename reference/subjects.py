@@ -2,6 +2,8 @@
 
 import math
 
+import files_to_try
+import plants_to_try
 import refusals
 import samples
 import shapes
@@ -346,4 +348,9 @@ SUBJECTS = (
     ("limits", limits),
     ("damaged", refusals.damaged),
     ("calls", refusals.calls),
+    ("classes", plants_to_try.classes),
+    ("flows", plants_to_try.flows),
+    ("reader", files_to_try.reader),
+    ("writer", files_to_try.writer),
+    ("unhinted", plants_to_try.unhinted),
 )

@@ -3,7 +3,7 @@
  *
  *     balance_file FILE [LAST]
  *
- * Exit status: 0 a sheet, 1 a refusal, 2 the file cannot be read or the command line is wrong.
+ * Exit status: 0 a sheet, 1 a refusal, 2 the command line is wrong, the file cannot be read or the text not be written.
  */
 #include <inttypes.h>
 #include <stdio.h>
@@ -36,6 +36,15 @@ static void print_sheet(const uint8_t *sheet, size_t written)
     }
     printf("total %" PRIu64 " %" PRIu64 " %d %s\n", field(sheet + at + 1, 4), field(sheet + at + 5, 8),
            sheet[at + 13], verdicts[sheet[at + 14]]);
+}
+
+/* What was printed reached its end. */
+static int done(const char *program, int status)
+{
+    if (fflush(stdout) == 0 && !ferror(stdout))
+        return status;
+    fprintf(stderr, "%s: standard output cannot be written\n", program);
+    return 2;
 }
 
 int main(int count, char **words)
@@ -73,8 +82,8 @@ int main(int count, char **words)
     uint8_t refusal = wengeludo_balance_plant(file, length, &last, sheet, sizeof sheet, &written);
     if (refusal != WENGELUDO_DONE) {
         printf("refused %d\n", refusal);
-        return 1;
+        return done(words[0], 1);
     }
     print_sheet(sheet, written);
-    return 0;
+    return done(words[0], 0);
 }

@@ -1,5 +1,5 @@
 #!/usr/bin/env bash
-# Runs target/host/balance_file on the listing's plant, a cut one, a missing file and the last sheet number.
+# Runs target/host/balance_file: the samples, a cut plant, the last sheet number, and what cannot be read, written or understood.
 set -eu
 cd "$(dirname "$0")/../.."
 program=target/host/balance_file
@@ -15,13 +15,23 @@ expect() { # status, output, words
         failed=1
     fi
 }
-printf '\x01\x02\x02\x00\x01\x00\x0a\x00\x00\x00\x64\x03\x01\x02\x03\x01\x02\x02\x02\x00\x00\x0a\x00\x00\x00\x62\x04\x04' >"$work/listing"
-head -c 20 "$work/listing" >"$work/cut"
-expect 0 $'1 A 99\n2 W -\n3 W -\n4 A 99\ntotal 1 20 1 pass' "$work/listing"
-expect 0 $'1 A 99\n2 W -\n3 W -\n4 A 99\ntotal 4294967295 20 1 pass' "$work/listing" 4294967294
-expect 1 'refused 2' "$work/listing" 4294967295
+listing=samples/listing.bin
+head -c 20 "$listing" >"$work/cut"
+expect 0 "$(cat samples/listing.expected)" "$listing"
+expect 0 "$(cat samples/steam_site.expected)" samples/steam_site.bin
+expect 0 $'1 A 99\n2 W -\n3 W -\n4 A 99\ntotal 4294967295 20 1 pass' "$listing" 4294967294
+expect 1 'refused 2' "$listing" 4294967295
 expect 1 'refused 3' "$work/cut"
+expect 2 ''
+expect 2 '' "$listing" 0 0
+expect 2 '' "$listing" 4294967296
 expect 2 '' "$work/missing"
-expect 2 '' "$work/listing" 4294967296
+expect 2 '' "$work"
+# A text that cannot be written, of a sheet and of a refusal.
+for file in "$listing" "$work/cut"; do
+    status=0
+    "$program" "$file" >/dev/full 2>/dev/null || status=$?
+    [ "$status" = 2 ] || { echo "balance_file $file to a full device: status $status, expected 2" >&2; failed=1; }
+done
 [ "$failed" = 0 ] || exit 1
-echo "balance_file: 6 runs as expected"
+echo "balance_file: 12 runs as expected"

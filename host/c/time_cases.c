@@ -1,6 +1,6 @@
-/* Times the sheet call on the cases of data files (crates/vectors/data, records of 2,048 bytes): per file and number of
- * streams, how many plants, and the median, the 99th percentile and the worst time of a call in microseconds. Each plant is
- * balanced five times, and its least time counts. */
+/* Times the sheet call on the cases of data files (crates/vectors/data; reference/cases.py says what a case looks like): per
+ * file and number of streams, how many plants, and the median, the 99th percentile and the worst time of a call in
+ * microseconds. Each plant is balanced five times, and its least time counts. Cases of other calls are passed over. */
 #include <stdint.h>
 #include <stdio.h>
 #include <stdlib.h>
@@ -9,7 +9,7 @@
 
 #include "wengeludo_balance.h"
 
-enum { CASE = 2048, MOST = 4096, TIMES = 5 };
+enum { HEAD = 20, ROOM = 2048, SHEET_CALL = 1, MOST = 4096, TIMES = 5 };
 
 static double now_us(void) {
     struct timespec t;
@@ -47,18 +47,23 @@ static int time_file(const char *name) {
     static const int high[3] = {8, 40, 96};
     static double times[3][MOST];
     int n[3] = {0, 0, 0};
-    uint8_t bytes[CASE];
+    uint8_t head[HEAD], given[ROOM], sheet[ROOM];
     FILE *f = fopen(name, "rb");
     if (!f) {
         fprintf(stderr, "%s: can't be opened\n", name);
         return 1;
     }
-    while (fread(bytes, 1, CASE, f) == CASE) {
-        size_t length = (size_t)bytes[2] * 256 + bytes[3];
-        if (bytes[0] != 0 || length > 1000) continue;
-        int streams = bytes[16 + length - 1];
+    while (fread(head, 1, HEAD, f) == HEAD) {
+        size_t size = (size_t)head[2] * 256 + head[3], known = (size_t)head[4] * 256 + head[5];
+        if (size > ROOM || known > ROOM || fread(given, 1, size, f) != size || fread(sheet, 1, known, f) != known) {
+            fprintf(stderr, "%s: not a file of cases\n", name);
+            fclose(f);
+            return 1;
+        }
+        if (head[0] != SHEET_CALL || head[12] != 0) continue;
+        int streams = given[size - 1];
         int g = streams <= high[0] ? 0 : streams <= high[1] ? 1 : 2;
-        if (n[g] < MOST) times[g][n[g]++] = time_call(bytes + 16, length);
+        if (n[g] < MOST) times[g][n[g]++] = time_call(given, size);
     }
     fclose(f);
     for (int g = 0; g < 3; g++) print_group(name, g == 0 ? 0 : high[g - 1] + 1, high[g], times[g], n[g]);

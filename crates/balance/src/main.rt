@@ -1,38 +1,63 @@
-// The listing of a plant: the plant file from standard input, its sheet as text to standard output.
-mod lines;
-mod texts;
-
-use lines::put_listing;
-use lines::put_refusal;
-use sheets::kinds::LEAST_SLICE;
-ghost use Prim.Native.Nat.{_≤_};
-ghost use lib.ListN.{length};
+// The listing of a plant: the plant file from standard input, its listing to standard output. What goes wrong in reading or
+// writing is said on standard error, in one line.
+use texts::LEAST_TEXT;
+ghost use Rattle.io.specs.Counts.{Counts};
 
 // One byte more than the longest plant file.
 const MOST_READ: usize = 869;
 
-// What a call that returned this number gives as text, and how long it is: the listing of the sheet, or the refusal.
-fn put_answer(number: u8, sheet: &[u8], text: &mut [u8]) -> usize
-    ensures { λ r. ⌜ r ≤ length (now (text .exit)) ⌝ }
-{
-    if number == 0 {
-        return put_listing(sheet, text);
-    }
-    put_refusal(number, text)
+// How many bytes were read, and whether a read failed.
+struct Input {
+    size: usize,
+    failed: bool,
 }
 
-// Prints what the sheet call gives for a plant file, the last sheet number being 0.
-fn print_answer(file: &[u8], sheet: &mut [u8], text: &mut [u8]) {
-    let done = sheets::balance_plant(file, 0, sheet);
-    let size = put_answer(done.number, sheet, text);
-    io::write_all(libc::STDOUT_FILENO, &text[0..size]);
+// Standard input to its end, or as much of it as the slice holds.
+fn read_input(file: &mut [u8]) -> Input
+    ensures { λ r. ⌜ Counts (r .size) (now (file .exit)) ⌝ }
+{
+    let mut size: usize = 0;
+    while size < file.len() {
+        let got = libc::read(libc::STDIN_FILENO, &mut file[size..]);
+        let more = io::count(got, &file[size..]);
+        if more == 0 {
+            return Input {
+                size: size,
+                failed: got < 0,
+            };
+        }
+        size += more;
+    }
+    Input {
+        size: size,
+        failed: false,
+    }
 }
 
 fn main() {
+    if 1 < os::arg_count() {
+        io::write_all(
+            libc::STDERR_FILENO,
+            b"balance: a plant file is read from standard input, and no argument is taken\n",
+        );
+        return;
+    }
     let mut file = [0u8; MOST_READ];
-    let size = io::read_full(libc::STDIN_FILENO, &mut file);
-    let mut sheet = [0u8; LEAST_SLICE];
-    // 4,096 bytes: the listing has at most 96 lines of 26 bytes and one of 47.
-    let mut text = io::buffer();
-    print_answer(&file[..size], &mut sheet, &mut text);
+    let input = read_input(&mut file);
+    if input.failed {
+        io::write_all(
+            libc::STDERR_FILENO,
+            b"balance: standard input cannot be read\n",
+        );
+        return;
+    }
+    let size = input.size;
+    let mut text = [0u8; LEAST_TEXT];
+    let end = texts::list_plant(&file[..size], &mut text);
+    if !io::write_all(libc::STDOUT_FILENO, &text[..end]) {
+        io::write_all(
+            libc::STDERR_FILENO,
+            b"balance: standard output cannot be written\n",
+        );
+    }
 }

@@ -18,35 +18,31 @@ unlike false b = b
 two : (x : ℕ) → x % 2 < 2
 two x = mod-lt x (zero-lt-suc 1)
 
-digits-xor : (x y : ℕ) → x < 2 → y < 2 → eqb (differ x y % 2) 1 ≡ unlike (eqb x 1) (eqb y 1)
-digits-xor zero zero h k = refl
-digits-xor zero (suc zero) h k = refl
-digits-xor zero (suc (suc y)) h k = absurd (omega arith)
-digits-xor (suc zero) zero h k = refl
-digits-xor (suc zero) (suc zero) h k = refl
-digits-xor (suc zero) (suc (suc y)) h k = absurd (omega arith)
-digits-xor (suc (suc x)) y h k = absurd (omega arith)
+-- What holds of the four pairs of digits holds of all.
+digits : (P : ℕ → ℕ → Type 0) → P 0 0 → P 0 1 → P 1 0 → P 1 1 → (x y : ℕ) → x < 2 → y < 2 → P x y
+digits P a b c d zero zero h k = a
+digits P a b c d zero (suc zero) h k = b
+digits P a b c d zero (suc (suc y)) h k = absurd (omega arith)
+digits P a b c d (suc zero) zero h k = c
+digits P a b c d (suc zero) (suc zero) h k = d
+digits P a b c d (suc zero) (suc (suc y)) h k = absurd (omega arith)
+digits P a b c d (suc (suc x)) y h k = absurd (omega arith)
 
-digits-or : (x y : ℕ) → x < 2 → y < 2 → eqb (max x y % 2) 1 ≡ eqb x 1 || eqb y 1
-digits-or zero zero h k = refl
-digits-or zero (suc zero) h k = refl
-digits-or zero (suc (suc y)) h k = absurd (omega arith)
-digits-or (suc zero) zero h k = refl
-digits-or (suc zero) (suc zero) h k = refl
-digits-or (suc zero) (suc (suc y)) h k = absurd (omega arith)
-digits-or (suc (suc x)) y h k = absurd (omega arith)
+-- An operation that goes digit by digit goes bit by bit.
+bit-by : (op digit : ℕ → ℕ → ℕ) (on : Bool → Bool → Bool) → ((a b h : ℕ) → op a b / 2 ^ h ≡ op (a / 2 ^ h) (b / 2 ^ h))
+    → ((a b : ℕ) → op a b ≡ op (a / 2) (b / 2) * 2 + digit (a % 2) (b % 2))
+    → ((x y : ℕ) → x < 2 → y < 2 → eqb (digit x y % 2) 1 ≡ on (eqb x 1) (eqb y 1))
+    → (h a b : ℕ) → bit h (op a b) ≡ on (bit h a) (bit h b)
+bit-by op digit on halved stepped right h a b =
+    ap (λ (x : ℕ). eqb (x % 2) 1) (halved a b h ∙ stepped (a / 2 ^ h) (b / 2 ^ h))
+    ∙ ap (λ (x : ℕ). eqb x 1) (mul-add-mod-self-right (op (a / 2 ^ h / 2) (b / 2 ^ h / 2)) 2 (digit (a / 2 ^ h % 2) (b / 2 ^ h % 2)))
+    ∙ right (a / 2 ^ h % 2) (b / 2 ^ h % 2) (two (a / 2 ^ h)) (two (b / 2 ^ h))
 
 pub bit-xor : (h a b : ℕ) → bit h (bitXor a b) ≡ unlike (bit h a) (bit h b)
-bit-xor h a b =
-    ap (λ (x : ℕ). eqb (x % 2) 1) (xor-shr a b h ∙ xor-step (a / 2 ^ h) (b / 2 ^ h))
-    ∙ ap (λ (x : ℕ). eqb x 1) (mul-add-mod-self-right (bitXor (a / 2 ^ h / 2) (b / 2 ^ h / 2)) 2 (differ (a / 2 ^ h % 2) (b / 2 ^ h % 2)))
-    ∙ digits-xor (a / 2 ^ h % 2) (b / 2 ^ h % 2) (two (a / 2 ^ h)) (two (b / 2 ^ h))
+bit-xor = bit-by bitXor differ unlike xor-shr xor-step (digits (λ x y. eqb (differ x y % 2) 1 ≡ unlike (eqb x 1) (eqb y 1)) refl refl refl refl)
 
 pub bit-or : (h a b : ℕ) → bit h (bitOr a b) ≡ bit h a || bit h b
-bit-or h a b =
-    ap (λ (x : ℕ). eqb (x % 2) 1) (or-shr a b h ∙ or-step (a / 2 ^ h) (b / 2 ^ h))
-    ∙ ap (λ (x : ℕ). eqb x 1) (mul-add-mod-self-right (bitOr (a / 2 ^ h / 2) (b / 2 ^ h / 2)) 2 (max (a / 2 ^ h % 2) (b / 2 ^ h % 2)))
-    ∙ digits-or (a / 2 ^ h % 2) (b / 2 ^ h % 2) (two (a / 2 ^ h)) (two (b / 2 ^ h))
+bit-or = bit-by bitOr max _||_ or-shr or-step (digits (λ x y. eqb (max x y % 2) 1 ≡ eqb x 1 || eqb y 1) refl refl refl refl)
 
 low-none : (h x : ℕ) → x < 2 ^ h → bit h x ≡ false
 low-none h x l = ap (λ (q : ℕ). eqb (q % 2) 1) (div-eq-of-lt l)

@@ -15,8 +15,10 @@ use Rattle.plants.specs.Limits.{maxUnits}
 use Rattle.plants.specs.Plants.{Plant, noStream}
 use Rattle.flows.specs.declared.Class.{Class}
 use Rattle.flows.specs.declared.Class.the-variants.{Adjusted, AsRead, Withheld}
-use Rattle.flows.specs.Flows.{streamAt, values}
-use Rattle.flows.specs.Classes.{unmeteredOnly, unmeteredBut, classOf}
+use Rattle.flows.specs.Flows.{streamAt}
+use Rattle.numbers.specs.Inner.{values}
+use Rattle.flows.specs.Classes.{unmeteredBut, classOf}
+use Rattle.flows.specs.Chains.{unmeteredOnly}
 use Rattle.flows.specs.Labels.{labelsAfter, labelsOf, oneLabel}
 use Rattle.flows.proofs.Reach.{Inside, chain-map, chain→joined, joined-self}
 use Rattle.flows.proofs.Labels.{label→chain, label-joined, labels-same}

@@ -16,17 +16,21 @@ use Rattle.plants.specs.declared.Stream.{Stream}
 use Rattle.plants.specs.Limits.{maxUnits, places}
 use Rattle.plants.specs.declared.Plant as Arrays
 use Rattle.plants.specs.Plants.{Plant, noStream}
+use Rattle.plants.specs.Within.{Accepted}
 use Rattle.plants.specs.Says.{plantOf}
+use Rattle.plants.proofs.Arrayed.{all-listed, listed-at}
 use Rattle.flows.specs.declared.Class.the-variants.{Adjusted, AsRead, Given, Withheld}
 use Rattle.flows.specs.Flows.{streamAt}
-use Rattle.flows.specs.Classes.{has, joinedTo, unmeteredOnly, unmeteredBut, classOf}
+use Rattle.flows.specs.Classes.{has, joinedTo, unmeteredBut, classOf}
+use Rattle.flows.specs.Chains.{unmeteredOnly, Chain}
 use Rattle.flows.specs.Labels.{relabelled, stepped, labelsAfter, oneLabel}
 use Rattle.flows.specs.Sides.{bit, apart, takenBy, loopedBy, turned, parted, takenAt, sidesAfter, loopedAfter}
-use Rattle.flows.specs.Calls.{Grouped, Cutting, classIn}
-use Rattle.flows.proofs.Reach.{Inside, Chain, joined→chain, chain→joined}
+use Rattle.flows.specs.declared.Cuts.{Cuts}
+use Rattle.flows.specs.Calls.{Cutting, classIn}
+use Rattle.flows.proofs.Reach.{Inside, joined→chain, chain→joined}
 use Rattle.flows.proofs.Labels.{min-max, stepped-none, stepped-one, labelling, label→chain}
 use Rattle.flows.proofs.Lists.{values-long, values-at, Written, written-all}
-use Rattle.flows.proofs.Fits.{fit-length, fit-at, fit-inside}
+use Rattle.flows.proofs.Nets.{inside-of}
 use Rattle.flows.proofs.ByLabels.{class-metered, class-joined, same-before}
 use Rattle.flows.proofs.Binary.{bit-zero, bit-one, bit-or}
 use Rattle.flows.proofs.Parted.{chain-level, Loose, label, side, Cut, Parted, part-metered, part-joined}
@@ -229,23 +233,24 @@ sides-long ss zero = length-replicate {A = ℕ} places 0
 sides-long ss (suc k) = parted-long (takenAt ss k) (labelsAfter unmeteredOnly ss k) (streamAt ss k) (sidesAfter ss k) (sides-long ss k)
 
 -- The same of the streams of an array.
-module _ {p : Arrays.Plant} {labels taken : List ℕ} {looped : ℕ} (g : Grouped p labels) (c : Cutting p taken looped) where
-  pub class-in : (i : ℕ) → i < p .count → classIn labels (getD (p .streams) i noStream) (getD taken i 0) looped ≡ classOf (plantOf p) i
+module _ {p : Arrays.Plant} {cuts : Cuts} (a : Accepted p) (c : Cutting p cuts) where
+  pub class-in : (i : ℕ) → i < p .count
+      → classIn (cuts .labels) (getD (p .streams) i noStream) (getD (cuts .taken) i 0) (cuts .looped) ≡ classOf (plantOf p) i
   class-in i l =
       by-cases (getD (p .streams) i noStream .metered)
-      (λ t. sym (in-metered labels (getD (p .streams) i noStream) (getD taken i 0) looped t _ refl)
-      ∙ rw (← at, g .labelled) (class-metered (plantOf p) (g .fit .few-units) (fit-inside p (g .fit)) i listed (rw at t)))
-      (λ t. sym (in-unmetered labels (getD (p .streams) i noStream) (getD taken i 0) looped t _ refl)
-      ∙ rw (c .each i l, all) (class-sides (plantOf p) (g .fit .few-units) (fit-inside p (g .fit)) i listed (rw at t)))
+      (λ t. sym (in-metered (cuts .labels) (getD (p .streams) i noStream) (getD (cuts .taken) i 0) (cuts .looped) t _ refl)
+      ∙ rw (← at, c .grouped) (class-metered (plantOf p) (a .within .few-units) (inside-of p a) i listed (rw at t)))
+      (λ t. sym (in-unmetered (cuts .labels) (getD (p .streams) i noStream) (getD (cuts .taken) i 0) (cuts .looped) t _ refl)
+      ∙ rw (c .each i l, all) (class-sides (plantOf p) (a .within .few-units) (inside-of p a) i listed (rw at t)))
     where
       at : streamAt (plantOf p .streams) i ≡ getD (p .streams) i noStream
-      at = fit-at p (g .fit) i l
+      at = listed-at p a i l
 
       listed : i < length (plantOf p .streams)
-      listed = omega (arith, fit-length p (g .fit))
+      listed = omega (arith, all-listed p a)
 
-      all : looped ≡ loopedAfter (plantOf p .streams) (length (plantOf p .streams))
-      all = c .met ∙ ap (loopedAfter (plantOf p .streams)) (sym (fit-length p (g .fit)))
+      all : cuts .looped ≡ loopedAfter (plantOf p .streams) (length (plantOf p .streams))
+      all = c .met ∙ ap (loopedAfter (plantOf p .streams)) (sym (all-listed p a))
 
 -- All places are turned.
 pub turned-all : (h by : ℕ) (ls before now : List ℕ) → Written 0 places (λ k x. pick (eqb (getD ls k 0) h) (bitXor x by) x) before now places

@@ -11,7 +11,8 @@ use lib.ListN.{getD}
 use Rattle.numbers.proofs.Tests.{and-left, and-right, and-both, or-right, or-cases, same-test}
 use Rattle.plants.specs.Limits.{maxUnits, places}
 use Rattle.plants.specs.Plants.{Plant}
-use Rattle.flows.specs.Classes.{has, Counting, joinedTo, everyStream, unmeteredOnly, lowest, leadersTo, degrees}
+use Rattle.flows.specs.Classes.{has, joinedTo, lowest, leadersTo, degrees}
+use Rattle.flows.specs.Chains.{Counting, everyStream, unmeteredOnly}
 use Rattle.flows.specs.Labels.{labelsOf, ownLabels}
 use Rattle.flows.proofs.Reach.{Inside, bit-most, bit-mono, has-first, chain-map, joined→chain, chain→joined}
 use Rattle.flows.proofs.Labels.{label-member, label-low, label-lowest}

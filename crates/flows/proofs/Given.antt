@@ -15,9 +15,8 @@ use Rattle.plants.specs.Plants.{Plant}
 use Rattle.plants.specs.Within.{Within}
 use Rattle.flows.specs.declared.Class.{Class}
 use Rattle.flows.specs.declared.Class.the-variants.{Adjusted, AsRead, Given, Withheld}
-use Rattle.flows.specs.Flows.{streamAt, amountAt, balanced, meteredOf}
+use Rattle.flows.specs.Flows.{streamAt, amountAt, balanced, meteredOf, Agree}
 use Rattle.flows.specs.Classes.{has, joinedTo, unmeteredBut, oneGroup, onLoop, classOf, sideOut, givenOf, numberOf}
-use Rattle.flows.specs.Shown.{Agree}
 use Rattle.flows.proofs.Reach.{joined-self, joined-closed, joined-sym}
 use Rattle.flows.proofs.Nets.{inside, balanced-size, side-number}
 

@@ -1,6 +1,6 @@
 -- Integers as differences of naturals: one rewriting takes every expression of sums, products and orders to naturals.
 use mathlib.Core.Path.{_≡_, refl, sym, _∙_, ap}
-use mathlib.Core.Bool.{true, false, false≢true, true≢false}
+use mathlib.Core.Bool.{true, false≢true}
 use mathlib.Core.Logic.{_↔_, _⊎_, inl, inr, ⊎-elim}
 use lib.IntN.{ℤ, pos, negsuc, negℤ, subℕ, natAbs, _+ℤ_, _-ℤ_, _*ℤ_}
 use lib.Signed.{leZ, ltZ}
@@ -195,12 +195,6 @@ Le-total x y = elim (decLe (up x + dn y) (up y + dn x)) [ yes h ↦ inl h | no h
 
 pub Le-unless : (x y : ℤ) → (Lt y x → ⊥) → Le x y
 Le-unless x y f = elim (decLe (up x + dn y) (up y + dn x)) [ yes h ↦ h | no h ↦ absurd (f (omega arith)) ]
-
-pub Lt-unless : (x y : ℤ) → (Le y x → ⊥) → Lt x y
-Lt-unless x y f = elim (decLe (suc (up x + dn y)) (up y + dn x)) [ yes h ↦ h | no h ↦ absurd (f (omega arith)) ]
-
-pub ltZ-not : (x y : ℤ) → ltZ x y ≡ false → Le y x
-ltZ-not x y e = Le-unless y x (λ h. absurd (true≢false (sym (lt-ltZ x y h) ∙ e)))
 
 pub Le-antisym : (x y : ℤ) → Le x y → Le y x → x ≡ y
 Le-antisym x y h k = same x y (omega arith)

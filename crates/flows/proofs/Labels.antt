@@ -16,10 +16,11 @@ use Rattle.plants.specs.declared.Stream.{Stream}
 use Rattle.plants.specs.Limits.{maxUnits, places}
 use Rattle.plants.specs.Plants.{Plant}
 use Rattle.flows.specs.Flows.{streamAt}
-use Rattle.flows.specs.Classes.{has, Counting, joinedTo}
+use Rattle.flows.specs.Classes.{has, joinedTo}
+use Rattle.flows.specs.Chains.{Counting, Chain}
 use Rattle.flows.specs.Labels.{ownNumbers, renamed, relabelled, united, stepped, labelsAfter, labelsOf, oneLabel, firstOnly, One-pass}
 use Rattle.flows.proofs.Lists.{map-at, values-long, values-at, Written, written-all}
-use Rattle.flows.proofs.Reach.{Inside, Chain, chain-trans, chain-sym, chain-map, joined→chain, chain→joined}
+use Rattle.flows.proofs.Reach.{Inside, chain-trans, chain-sym, chain-map, joined→chain, chain→joined}
 
 -- A choice of one value.
 same-either : (b : Bool) (x : ℕ) → pick b x x ≡ x
@@ -234,7 +235,7 @@ module _ (counts : Counting) (p : Plant) (small : p .units ≤ maxUnits) (w : In
         (λ e. chain→joined (firstOnly k counts) p w (label→chain k u v h hu hv (eqb-true (labelAfter k u) (labelAfter k v) e)))
         (λ e. eq-eqb (labelAfter k u) (labelAfter k v) (joined→label k u v h e));
     member = λ k u h hu. chain→joined (firstOnly k counts) p w (labelling k h .chain u hu);
-    lowest = λ k u v h hu hv e. omega (arith, joined→label k u v h e, labelling k h .low v hv);
+    least-place = λ k u v h hu hv e. omega (arith, joined→label k u v h e, labelling k h .low v hv);
   }
 
   -- All streams are the first of them.
@@ -258,7 +259,7 @@ module _ (counts : Counting) (p : Plant) (small : p .units ≤ maxUnits) (w : In
   pub label-lowest : (u v : ℕ) → u < places → has v (joinedTo counts p u) ≡ true → getD (labelsOf counts p) u 0 ≤ v
   label-lowest u v h e =
       by-cases (ltb v places)
-      (λ t. one-pass .lowest (length (p .streams)) u v (omega arith) h (ltb-true v places t) (all-first u v ∙ e))
+      (λ t. one-pass .least-place (length (p .streams)) u v (omega arith) h (ltb-true v places t) (all-first u v ∙ e))
       (λ t. omega (arith, label-low u h, ltb-false v places t))
 
   pub label-long : length (labelsOf counts p) ≡ places

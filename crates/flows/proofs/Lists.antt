@@ -7,7 +7,7 @@ use native.Mathlib.Decide.{ℕ-discrete}
 use borrow.Author.Count.{below-none, below-more}
 use lib.ListN.{length, getD, set, length-set}
 use lib.Seq.{ext-getD, getD-set-same, getD-set-other}
-use Rattle.flows.specs.Flows.{values}
+use Rattle.numbers.specs.Inner.{values}
 
 pub map-at : {A B : Type 0} (f : A → B) (xs : List A) (i : ℕ) (d : B) (e : A) → i < length xs → getD (map f xs) i d ≡ f (getD xs i e)
 map-at f [] i d e h = absurd (omega arith)
@@ -22,6 +22,13 @@ pub values-at : {A : Type 0} (f : ℕ → A) (d : A) (n k : ℕ) → k < n → g
 values-at f d zero k l = absurd (omega arith)
 values-at f d (suc n) zero l = refl
 values-at f d (suc n) (suc k) l = values-at (λ k. f (suc k)) d n k (omega arith)
+
+pub values-same : {A : Type 0} (n : ℕ) (f g : ℕ → A) → ((k : ℕ) → k < n → f k ≡ g k) → values n f ≡ values n g
+values-same zero f g h = refl
+values-same (suc n) f g h =
+    let e = h 0 (omega arith) in
+    let t = values-same n (λ k. f (suc k)) (λ k. g (suc k)) (λ k l. h (suc k) (omega arith)) in
+    λ i. e i ∷ t i
 
 -- A property of each element survives a store. (d is read past the end.)
 pub set-each : {A : Type 0} (P : A → Type 0) (d : A) (xs : List A) (i : ℕ) (v : A) (n : ℕ) → i < length xs → P v

@@ -12,13 +12,14 @@ use Rattle.plants.specs.declared.Stream.{Stream}
 use Rattle.plants.specs.Plants.{Plant}
 use Rattle.plants.specs.Within.{Within}
 use Rattle.flows.specs.declared.Class.the-variants.{Adjusted, AsRead, Given, Withheld}
-use Rattle.flows.specs.Flows.{streamAt, amountAt, allowed, square, cost, costOver, Cheapest}
-use Rattle.flows.specs.Classes.{unmeteredOnly, oneGroup, onLoop, classOf}
-use Rattle.flows.specs.Shown.{nearest, adjustedWeight, adjustedTo, adjusted}
+use Rattle.flows.specs.Flows.{streamAt, amountAt, allowed, square, cost, costOver, Cheapest, nearest}
+use Rattle.flows.specs.Classes.{oneGroup, onLoop, classOf}
+use Rattle.flows.specs.Chains.{unmeteredOnly, Chain, stop, along, back}
+use Rattle.flows.specs.Shown.{adjustedWeight, adjustedTo, adjusted}
 use Rattle.flows.specs.Certificate.{weightOf, climb}
 use Rattle.flows.proofs.Integers.{Le, val, canon, Z·diff, plus-val, minus-none, none-minus}
 use Rattle.flows.proofs.Sums.{sum, sum-plus, sum-times, sum-le}
-use Rattle.flows.proofs.Reach.{Chain, stop, along, back, joined→chain}
+use Rattle.flows.proofs.Reach.{joined→chain}
 use Rattle.flows.proofs.Nets.{countOf, streamOf, balanced-size}
 use Rattle.flows.proofs.Given.{class-means}
 use Rattle.flows.proofs.Steps.{Step, Tied, level, above, below, fraction, flat, free}

@@ -13,9 +13,14 @@ use Rattle.numbers.specs.Choice.{pick}
 use Rattle.numbers.proofs.Tests.{and-left, and-right, and-both}
 use Rattle.plants.specs.declared.Stream.{Stream}
 use Rattle.plants.specs.Plants.{Plant}
-use Rattle.plants.specs.Within.{Within}
-use Rattle.flows.specs.Flows.{streamAt, amountAt, values, netAt, balancedTo, balanced}
+use Rattle.plants.specs.declared.Plant as Arrays
+use Rattle.plants.specs.Within.{Within, Accepted}
+use Rattle.plants.specs.Says.{plantOf}
+use Rattle.plants.proofs.Arrayed.{within-of}
+use Rattle.flows.specs.Flows.{streamAt, amountAt, netAt, balancedTo, balanced}
+use Rattle.numbers.specs.Inner.{values}
 use Rattle.flows.specs.Classes.{has, sideOut}
+pub use Rattle.flows.specs.Nets.{brought, netOf}
 use Rattle.flows.specs.Certificate.{climb}
 use Rattle.flows.proofs.Lists.{values-long, values-at}
 use Rattle.flows.proofs.Integers.{canon, Z·diff, times-plus, one-times, neg-times, size-none}
@@ -28,14 +33,6 @@ countOf p = length (p .streams)
 
 abbrev pub streamOf : Plant → ℕ → Stream
 streamOf p k = streamAt (p .streams) k
-
--- What stream s, carrying x, brings to place u less what it takes from it: its entry in the incidence matrix times x.
-abbrev pub brought : ℕ → Stream → ℤ → ℤ
-brought u s x = pick (eqb (s .to) u) x (pos 0) +ℤ pick (eqb (s .from) u) (negℤ x) (pos 0)
-
--- The net of a place, the flow given as a function of the stream's number.
-abbrev pub netOf : List Stream → (ℕ → ℤ) → ℕ → ℤ
-netOf ss x u = sum (length ss) (λ k. brought u (streamAt ss k) (x k))
 
 -- A sum by recursion over streams and amounts is a sum over the streams' numbers.
 pub sum-listed : (f : Stream → ℤ → ℤ) (F : List Stream → List ℤ → ℤ) → ((xs : List ℤ) → F [] xs ≡ pos 0)
@@ -54,6 +51,10 @@ net-is u = sum-listed (brought u) (netAt u) (λ xs. refl)
 
 pub inside : (p : Plant) → Within p → Inside (p .units) (p .streams)
 inside p w k l = (w .each k l .from-in, w .each k l .to-in)
+
+-- The same of a plant in an array.
+pub inside-of : (p : Arrays.Plant) → Accepted p → Inside (p .units) (plantOf p .streams)
+inside-of p a = inside (plantOf p) (within-of p a)
 
 two-ends : (a b x : ℤ) → a *ℤ x +ℤ b *ℤ negℤ x ≡ (a -ℤ b) *ℤ x
 two-ends a b x = rw (← canon a, ← canon b, ← canon x) (simp Z·diff (omega arith))

@@ -3,7 +3,7 @@ use mathlib.Core.Path.{_≡_, refl, sym, _∙_, ap}
 use mathlib.Core.Bool.{Bool, true, false, not, _&&_, _||_}
 use mathlib.Core.List.{List}
 use mathlib.Core.Logic.{_⊎_, inl, inr}
-use Prim.Native.Nat.{ℕ, suc, _+_, _≤_, _<_}
+use Prim.Native.Nat.{ℕ, suc, _≤_, _<_}
 use native.Mathlib.Omega.{arith}
 use native.Mathlib.Decide.{ℕ-discrete}
 use borrow.Author.Tests.{eqb-false, ne-eqb, ltb-true, not-true}
@@ -14,9 +14,10 @@ use Rattle.numbers.proofs.Tests.{by-cases, clash, and-left, and-right, and-both
 use Rattle.plants.specs.declared.Stream.{Stream}
 use Rattle.plants.specs.Limits.{places}
 use Rattle.flows.specs.Flows.{streamAt}
-use Rattle.flows.specs.Classes.{Counting, unmeteredOnly, unmeteredBut}
+use Rattle.flows.specs.Classes.{unmeteredBut}
+use Rattle.flows.specs.Chains.{Counting, unmeteredOnly, Chain}
 use Rattle.flows.specs.Labels.{firstOnly}
-use Rattle.flows.proofs.Reach.{Chain, chain-trans, chain-sym, chain-map}
+use Rattle.flows.proofs.Reach.{chain-trans, chain-sym, chain-map}
 use Rattle.flows.specs.Sides.{bit, apart, takenAt}
 use Rattle.flows.proofs.Binary.{unlike, alike, unalike, bit-xor, bit-or}
 

@@ -1,5 +1,5 @@
 -- The pass over the streams that finds the labels they take away and the loops.
-use mathlib.Core.Path.{_≡_, refl, _∙_, ap}
+use mathlib.Core.Path.{_≡_, refl, sym, _∙_, ap}
 use mathlib.Core.Bool.{not}
 use mathlib.Core.List.{List}
 use Prim.Native.Nat.{ℕ, _+_, _*_, _%_, _≤_, _<_, _^_}
@@ -12,15 +12,17 @@ use Rattle.plants.specs.declared.Stream.{Stream}
 use Rattle.plants.specs.declared.Plant as Arrays
 use Rattle.plants.specs.Limits.{places, maxStreams}
 use Rattle.plants.specs.Plants.{noStream}
+use Rattle.plants.specs.Within.{Accepted}
 use Rattle.plants.specs.Says.{plantOf}
+use Rattle.plants.proofs.Arrayed.{all-listed, listed-at}
 use Rattle.flows.specs.Flows.{streamAt}
-use Rattle.flows.specs.Classes.{unmeteredOnly}
+use Rattle.flows.specs.Chains.{unmeteredOnly}
 use Rattle.flows.specs.Labels.{ownNumbers, stepped, labelsAfter}
 use Rattle.flows.specs.Sides.{apart, takenBy, loopedBy, turned, parted, takenAt, sidesAfter, loopedAfter}
-use Rattle.flows.specs.Calls.{Fit, Cutting}
+use Rattle.flows.specs.Calls.{Cutting}
 use Rattle.flows.proofs.Lists.{Written, written-none, written-put}
 use Rattle.flows.proofs.Labels.{step-none, step-more, labels-long}
-use Rattle.flows.proofs.Fits.{fit-length, fit-at, fit-inside}
+use Rattle.flows.proofs.Nets.{inside-of}
 use Rattle.flows.proofs.BySides.{parted-some, taken-low, sides-long}
 
 -- A bit by a shift.
@@ -72,7 +74,7 @@ passed-none p labels e = record {
   written = written-none (length-replicate {A = ℕ} maxStreams 0);
 }
 
-module _ {p : Arrays.Plant} (fit : Fit p) {i : ℕ} {none labels sides taken : List ℕ} {looped : ℕ} (a : Passed p i none labels sides taken looped) where
+module _ {p : Arrays.Plant} (w : Accepted p) {i : ℕ} {none labels sides taken : List ℕ} {looped : ℕ} (a : Passed p i none labels sides taken looped) where
   pub labels-all : length labels ≡ places
   labels-all = ap length (a .labelled) ∙ labels-long _ _ _
 
@@ -81,14 +83,14 @@ module _ {p : Arrays.Plant} (fit : Fit p) {i : ℕ} {none labels sides taken : L
 
   module _ (l : i < p .count) where
     at : streamAt (plantOf p .streams) i ≡ getD (p .streams) i noStream
-    at = fit-at p fit i l
+    at = listed-at p w i l
 
     is-taken : (h : ℕ) → h ≡ takenBy labels (getD (p .streams) i noStream) → h ≡ takenAt (plantOf p .streams) i
     is-taken h q = rw (at, ← a .labelled) q
 
     pub taken-in : (h : ℕ) → h ≡ takenBy labels (getD (p .streams) i noStream) → h < places
     taken-in h q =
-        rw (is-taken h q) (taken-low (plantOf p) (fit .few-units) (fit-inside p fit) i (omega (arith, fit-length p fit)))
+        rw (is-taken h q) (taken-low (plantOf p) (w .within .few-units) (inside-of p w) i (omega (arith, all-listed p w)))
 
     pub passed-more : (h add : ℕ) (sides-next labels-next : List ℕ) → h ≡ takenBy labels (getD (p .streams) i noStream)
         → add ≡ loopedBy labels sides (getD (p .streams) i noStream) → sides-next ≡ parted h labels (getD (p .streams) i noStream) sides
@@ -99,14 +101,15 @@ module _ {p : Arrays.Plant} (fit : Fit p) {i : ℕ} {none labels sides taken : L
       labelled = step-more unmeteredOnly _ i _ labels labels-next _ (a .labelled) at refl n;
       sided = sides-more _ i _ labels sides sides-next h (a .labelled) (a .sided) at q s;
       met = looped-more _ i _ labels sides looped add (a .labelled) (a .sided) (a .met) at m;
-      written = written-put (a .written) (omega (arith, fit .few-streams)) h (is-taken h q);
+      written = written-put (a .written) (omega (arith, w .within .few-streams)) h (is-taken h q);
     }
 
-  pub passed-all : i ≡ p .count → Cutting p taken looped
+  pub passed-all : i ≡ p .count → Cutting p (record { labels = labels; taken = taken; looped = looped })
   passed-all e = record {
+    grouped = a .labelled ∙ ap (labelsAfter unmeteredOnly (plantOf p .streams)) (e ∙ sym (all-listed p w));
     long = a .written .long;
     each = each;
-    low = λ k l. rw (each k l) (taken-low (plantOf p) (fit .few-units) (fit-inside p fit) k (omega (arith, fit-length p fit)));
+    low = λ k l. rw (each k l) (taken-low (plantOf p) (w .within .few-units) (inside-of p w) k (omega (arith, all-listed p w)));
     met = a .met ∙ ap (loopedAfter (plantOf p .streams)) e;
   }
     where

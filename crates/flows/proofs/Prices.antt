@@ -4,7 +4,6 @@ use mathlib.Core.Bool.{Bool, true, false}
 use mathlib.Core.List.{List}
 use lib.IntN.{ℤ, pos, negℤ, _+ℤ_, _-ℤ_, _*ℤ_, +ℤ-idl}
 use Prim.Native.Nat.{ℕ, _+_, _*_, _≤_, _<_}
-use native.Mathlib.Nat.{le-antisymm}
 use native.Mathlib.Omega.{arith}
 use lib.ListN.{length}
 use Rattle.numbers.specs.Choice.{pick}
@@ -119,8 +118,3 @@ module _ (p : Plant) (w : Within p) (π : ℕ → ℤ) where
         at-k = sum-tight (countOf p) (mixed xs ys) (mixed ys xs) each-le
             (rw (mixed-sum xs ys (c .balance) b, mixed-sum ys xs b (c .balance))
             (omega (arith, plus-val (pos (cost (p .streams) xs)) kept, plus-val (pos (cost (p .streams) ys)) kept))) k l
-
--- Certified flows have one cost.
-pub equal-cost : (p : Plant) → Within p → (π ρ : ℕ → ℤ) (xs ys : List ℤ) → Certificate p xs π → Certificate p ys ρ
-    → cost (p .streams) xs ≡ cost (p .streams) ys
-equal-cost p w π ρ xs ys c d = le-antisymm (least p w π xs c ys (d .balance)) (least p w ρ ys d xs (c .balance))

@@ -2,7 +2,7 @@
 use mathlib.Core.Path.{_≡_, refl, sym, _∙_, ap, subst}
 use mathlib.Core.Bool.{Bool, true, false, _&&_, _||_, false≢true}
 use mathlib.Core.List.{List, [], _∷_}
-use mathlib.Core.Logic.{_↔_, _⊎_, inl, inr, ⊎-elim}
+use mathlib.Core.Logic.{_⊎_, inl, inr, ⊎-elim}
 use Prim.Native.Nat.{ℕ, zero, suc, _+_, _≤_, _<_}
 use native.Mathlib.Omega.{arith}
 use borrow.Author.Tests.{eqb-true, eqb-false, eq-eqb}
@@ -13,7 +13,8 @@ use Rattle.numbers.proofs.Tests.{by-cases, clash, and-left, and-right, or-left,
 use Rattle.plants.specs.declared.Stream.{Stream}
 use Rattle.plants.specs.Plants.{Plant}
 use Rattle.flows.specs.Flows.{streamAt}
-use Rattle.flows.specs.Classes.{has, including, Counting, spread, rounds, joinedTo}
+use Rattle.flows.specs.Classes.{has, including, spread, rounds, joinedTo}
+use Rattle.flows.specs.Chains.{Counting, Chain, stop, along, back}
 
 -- Every stream's ends are among the places 0 to n.
 abbrev pub Inside : ℕ → List Stream → Type 0
@@ -157,12 +158,7 @@ module _ (counts : Counting) where
   pub joined-self : (p : Plant) (u : ℕ) → has u (joinedTo counts p u) ≡ true
   joined-self p u = rounds-keep (suc (p .units)) (p .streams) (u ∷ []) u (has-first u [])
 
--- A chain of streams that count from u to a place, each followed in either direction.
-pub data Chain (counts : Counting) (ss : List Stream) (u : ℕ) : ℕ → Type 0 where
-  stop : Chain counts ss u u
-  along : (k : ℕ) → k < length ss → counts k (streamAt ss k) ≡ true → Chain counts ss u (streamAt ss k .from) → Chain counts ss u (streamAt ss k .to)
-  back : (k : ℕ) → k < length ss → counts k (streamAt ss k) ≡ true → Chain counts ss u (streamAt ss k .to) → Chain counts ss u (streamAt ss k .from)
-
+-- Chains one after the other, and followed back.
 pub chain-trans : {counts : Counting} {ss : List Stream} {u v w : ℕ} → Chain counts ss u v → Chain counts ss v w → Chain counts ss u w
 chain-trans c stop = c
 chain-trans c (along k l h d) = along k l h (chain-trans c d)
@@ -228,12 +224,6 @@ module _ (counts : Counting) (p : Plant) (w : Inside (p .units) (p .streams)) wh
   chain→joined {u} (along k l h c) = sym (joined-closed counts p w u k l h) ∙ chain→joined c
   chain→joined {u} (back k l h c) = joined-closed counts p w u k l h ∙ chain→joined c
 
-  pub joined-iff : (u v : ℕ) → (has v (joinedTo counts p u) ≡ true) ↔ Chain counts (p .streams) u v
-  joined-iff u v = (joined→chain counts p u v, chain→joined)
-
-  -- Being joined is symmetric and transitive.
+  -- Being joined is symmetric.
   pub joined-sym : (u v : ℕ) → has v (joinedTo counts p u) ≡ true → has u (joinedTo counts p v) ≡ true
   joined-sym u v e = chain→joined (chain-sym (joined→chain counts p u v e))
-
-  pub joined-trans : (u v x : ℕ) → has v (joinedTo counts p u) ≡ true → has x (joinedTo counts p v) ≡ true → has x (joinedTo counts p u) ≡ true
-  joined-trans u v x e f = chain→joined (chain-trans (joined→chain counts p u v e) (joined→chain counts p v x f))

@@ -12,11 +12,10 @@ use Rattle.numbers.specs.Choice.{pick}
 use Rattle.numbers.proofs.Tests.{clash}
 use Rattle.plants.specs.declared.Stream.{Stream}
 use Rattle.flows.specs.Flows.{streamAt}
-use Rattle.flows.specs.Classes.{Counting}
+use Rattle.flows.specs.Chains.{Counting, Chain}
 use Rattle.flows.proofs.Integers.{canon, Z·diff, plus-four}
 use Rattle.flows.proofs.Sums.{sum-same, sum-none, sum-plus, sum-only}
 use Rattle.flows.proofs.Nets.{brought, netOf}
-use Rattle.flows.proofs.Reach.{Chain}
 
 -- The amount t at one number, of a place or a stream, and nothing at any other.
 abbrev pub only : ℕ → ℤ → ℕ → ℤ
@@ -85,11 +84,6 @@ net-only ss j t u l =
 pub record Route (counts : Counting) (ss : List Stream) (a b : ℕ) (t : ℤ) (x : ℕ → ℤ) : Type 0 where
   pub net : (u : ℕ) → netOf ss x u ≡ only b t u -ℤ only a t u
   pub off : (k : ℕ) → counts k (streamAt ss k) ≡ false → x k ≡ pos 0
-
--- Where more streams count it does so too.
-pub route-map : {f g : Counting} {ss : List Stream} {a b : ℕ} {t : ℤ} {x : ℕ → ℤ}
-    → ((k : ℕ) → g k (streamAt ss k) ≡ false → f k (streamAt ss k) ≡ false) → Route f ss a b t x → Route g ss a b t x
-route-map h r = record { net = r .net; off = λ k e. r .off k (h k e) }
 
 hop : (f g a : ℤ) → f -ℤ a +ℤ (g -ℤ f) ≡ g -ℤ a
 hop f g a = rw (← canon f, ← canon g, ← canon a) (simp Z·diff (omega arith))

@@ -154,16 +154,3 @@ tied w d e c l s k = ⊎-elim
     down-case : (t : ℕ) → e ≡ d +ℤ diff 0 t → (t ≡ 0) ⊎ ((t ≡ 1) × (w * (2 * dn d + 1) + up c ≤ dn c + w * (2 * up d))) → Tied w d e c
     down-case t q (inl z) = level (q ∙ rw (← canon d) (simp Z·diff (omega arith)))
     down-case t q (inr z) = below (q ∙ rw (← canon d) (simp Z·diff (omega arith))) (rw (← canon d, ← canon c) (simp Z·diff (omega arith)))
-
--- Moving Δ more along a stream whose upper bound is tight keeps the condition; so does Δ less where the lower bound is.
-pub step-more : (Δ w : ℕ) (d c : ℤ) → Le (upper Δ w d) c → Step Δ w d c → Step Δ w (d +ℤ pos Δ) c
-step-more Δ w d c h s = record {
-  low = rw (← canon d, ← canon c) (simp Z·diff (omega (arith, simp Z·diff at (rw (← canon d, ← canon c) at h))));
-  high = rw (← canon d, ← canon c) (simp Z·diff (omega (arith, high-parts Δ w d c (s .high))));
-}
-
-pub step-less : (Δ w : ℕ) (d c : ℤ) → Le c (lower Δ w d) → Step Δ w d c → Step Δ w (d -ℤ pos Δ) c
-step-less Δ w d c h s = record {
-  low = rw (← canon d, ← canon c) (simp Z·diff (omega (arith, low-parts Δ w d c (s .low))));
-  high = rw (← canon d, ← canon c) (simp Z·diff (omega (arith, simp Z·diff at (rw (← canon d, ← canon c) at h))));
-}

@@ -4,12 +4,8 @@ use lib.IntN.{ℤ, pos, _+ℤ_, _*ℤ_, +ℤ-idl, +ℤ-idr, *ℤ-zero}
 use Prim.Native.Nat.{ℕ, zero, suc, _<_}
 use native.Mathlib.Omega.{arith}
 use native.Mathlib.Decide.{ℕ-discrete}
+pub use Rattle.flows.specs.Nets.{sum}
 use Rattle.flows.proofs.Integers.{Le, same, plus-val, plus-left-comm, plus-four, times-plus}
-
--- f 0 + .. + f (n - 1)
-abbrev pub sum : ℕ → (ℕ → ℤ) → ℤ
-sum zero f = pos 0
-sum (suc n) f = f n +ℤ sum n f
 
 pub sum-same : (n : ℕ) (f g : ℕ → ℤ) → ((k : ℕ) → k < n → f k ≡ g k) → sum n f ≡ sum n g
 sum-same zero f g h = refl

@@ -1,6 +1,6 @@
 -- Ties: a certified flow whose metered amounts cannot fall at no cost, each while the earlier ones stay, is the cheapest flow.
 use mathlib.Core.Path.{_≡_, refl, sym, subst}
-use mathlib.Core.Bool.{Bool, true, false}
+use mathlib.Core.Bool.{Bool, true, false, _&&_}
 use mathlib.Core.List.{List}
 use lib.IntN.{ℤ, pos, negℤ, _+ℤ_, _-ℤ_, _*ℤ_, zero-*ℤ}
 use Prim.Native.Nat.{ℕ, _≤_, _<_}
@@ -15,9 +15,8 @@ use Rattle.plants.specs.declared.Stream.{Stream}
 use Rattle.plants.specs.Plants.{Plant}
 use Rattle.plants.specs.Within.{Within}
 use Rattle.flows.specs.Flows.{streamAt, amountAt, allowed, cost, Cheapest}
-use Rattle.flows.specs.Classes.{has}
-use Rattle.flows.specs.Certificate.{weightOf, climb, lower, upper, lowest, highest, settled, shut}
-use Rattle.flows.proofs.Integers.{Le, Lt, Le-unless, ltZ-lt, val, plus-val, minus-val, up-neg, dn-neg}
+use Rattle.flows.specs.Certificate.{weightOf, climb, lower, upper, leastClimb, mostClimb}
+use Rattle.flows.proofs.Integers.{Le, Lt, Le-unless, val, plus-val, minus-val, up-neg, dn-neg}
 use Rattle.flows.proofs.Sums.{sum-tight}
 use Rattle.flows.proofs.Nets.{countOf, streamOf, crossing, no-crossing, balanced-size}
 use Rattle.flows.proofs.Steps.{Step, Tied, level, above, below, free}
@@ -26,28 +25,26 @@ use Rattle.flows.proofs.Order.{AgreeTo, LeadsTo, in-order}
 
 -- A stream that cannot carry less, or more, at no cost.
 abbrev pub NoLess : (ℕ → ℤ) → Stream → ℤ → Type 0
-NoLess π s x = Lt (lowest s x) (climb π s)
+NoLess π s x = Lt (leastClimb s x) (climb π s)
 
 abbrev pub NoMore : (ℕ → ℤ) → Stream → ℤ → Type 0
-NoMore π s x = Lt (climb π s) (highest s x)
+NoMore π s x = Lt (climb π s) (mostClimb s x)
 
 -- Stream k brings nothing more out of a set of places at no cost.
 pub record Shut (c : ℕ → Bool) (π : ℕ → ℤ) (s : Stream) (x : ℤ) : Type 0 where
   pub out : c (s .from) ≡ true → c (s .to) ≡ false → NoMore π s x
   pub back : c (s .from) ≡ false → c (s .to) ≡ true → NoLess π s x
 
-pub shut-says : (side : List ℕ) (π : ℕ → ℤ) (s : Stream) (x : ℤ) → shut side π s x ≡ true → Shut (λ u. has u side) π s x
-shut-says side π s x e = record {
-  out = λ f t. ltZ-lt (climb π s) (highest s x) (rw (f, t) at e);
-  back = λ f t. ltZ-lt (lowest s x) (climb π s) (rw (f, t) at e);
-}
+-- A metered stream whose number is i or less.
+abbrev pub meteredTo : ℕ → ℕ → Stream → Bool
+meteredTo i k s = s .metered && leb k i
 
 -- Why the amount of metered stream i cannot fall at no cost while the earlier ones stay: its lower bound is not tight, or there
 -- is a cut, a set of places with its first end and without its second, that nothing leaves at no cost by the other streams.
 pub data Stays (ss : List Stream) (π x : ℕ → ℤ) (i : ℕ) : Type 0 where
   slack : NoLess π (streamAt ss i) (x i) → Stays ss π x i
   cut : (c : ℕ → Bool) → c (streamAt ss i .from) ≡ true → c (streamAt ss i .to) ≡ false
-      → ((k : ℕ) → k < length ss → settled i k (streamAt ss k) ≡ false → Shut c π (streamAt ss k) (x k)) → Stays ss π x i
+      → ((k : ℕ) → k < length ss → meteredTo i k (streamAt ss k) ≡ false → Shut c π (streamAt ss k) (x k)) → Stays ss π x i
 
 -- A tied deviation is no less where the stream cannot carry less, and no more where it cannot carry more.
 no-less : (w : ℕ) (d e c : ℤ) → Tied w d e c → Lt (lower 1 w d) c → Le d e
@@ -94,7 +91,7 @@ module _ (p : Plant) (w : Within p) (π : ℕ → ℤ) (xs : List ℤ) (c : Cert
   tied-at : (k : ℕ) → k < countOf p → s k .metered ≡ true → Tied (weightOf (s k)) (x k -ℤ s k .reading) (y k -ℤ s k .reading) (climb π (s k))
   tied-at k l m = ties p w π xs c ys b h k l (rw m (w .each k l .weighed m))
 
-  free-at : (k : ℕ) → k < countOf p → s k .metered ≡ false → (lowest (s k) (x k) ≡ climb π (s k)) × (highest (s k) (x k) ≡ climb π (s k))
+  free-at : (k : ℕ) → k < countOf p → s k .metered ≡ false → (leastClimb (s k) (x k) ≡ climb π (s k)) × (mostClimb (s k) (x k) ≡ climb π (s k))
   free-at k l m = free-bounds (weightOf (s k)) (x k -ℤ s k .reading) (climb π (s k)) (rw m) (c .steps k l)
 
   no-less-at : (k : ℕ) → k < countOf p → NoLess π (s k) (x k) → Le (x k) (y k)
@@ -106,23 +103,23 @@ module _ (p : Plant) (w : Within p) (π : ℕ → ℤ) (xs : List ℤ) (c : Cert
       (λ m. absurd (omega (arith, val _ _ (free-at k l m .1))))
 
   module _ (i : ℕ) (l : i < countOf p) (a : AgreeTo i (p .streams) (amountAt xs) (amountAt ys)) where
-    early : (k : ℕ) → (k ≡ i → ⊥) → settled i k (s k) ≡ true → x k ≡ y k
+    early : (k : ℕ) → (k ≡ i → ⊥) → meteredTo i k (s k) ≡ true → x k ≡ y k
     early k d e =
         let before : k ≤ i = leb-true k i (and-right (s k .metered) (leb k i) e) in
         a k (omega arith) (and-left (s k .metered) (leb k i) e)
 
     -- Were there less on stream i, more would come into the set of a cut, less what goes out: both flows bring nothing in.
     cut-keeps : (side : ℕ → Bool) → side (s i .from) ≡ true → side (s i .to) ≡ false
-        → ((k : ℕ) → k < countOf p → settled i k (s k) ≡ false → Shut side π (s k) (x k)) → Lt (y i) (x i) → ⊥
+        → ((k : ℕ) → k < countOf p → meteredTo i k (s k) ≡ false → Shut side π (s k) (x k)) → Lt (y i) (x i) → ⊥
     cut-keeps side f t shut less = differ (rw (f, t) at at-i)
       where
         enters : (k : ℕ) → k < countOf p → side (s k .from) ≡ false → side (s k .to) ≡ true → Le (x k) (y k)
-        enters k m u v = by-cases (settled i k (s k))
+        enters k m u v = by-cases (meteredTo i k (s k))
             (λ e. omega (arith, val _ _ (early k (λ z. clash (side (s i .from)) f (subst (λ (j : ℕ). side (s j .from) ≡ false) z u)) e)))
             (λ e. no-less-at k m (shut k m e .back u v))
 
         leaves : (k : ℕ) → k < countOf p → side (s k .from) ≡ true → side (s k .to) ≡ false → Le (y k) (x k)
-        leaves k m u v = by-cases (settled i k (s k))
+        leaves k m u v = by-cases (meteredTo i k (s k))
             (λ e. elim (ℕ-discrete k i) [ yes z ↦ rw z (omega arith) | no z ↦ omega (arith, val _ _ (early k z e)) ])
             (λ e. no-more-at k m (shut k m e .out u v))
 

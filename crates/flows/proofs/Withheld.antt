@@ -14,9 +14,9 @@ use Rattle.plants.specs.declared.Stream.{Stream}
 use Rattle.plants.specs.Plants.{Plant}
 use Rattle.plants.specs.Within.{Within}
 use Rattle.flows.specs.declared.Class.the-variants.{Given, Withheld}
-use Rattle.flows.specs.Flows.{streamAt, amountAt, meteredOf}
+use Rattle.flows.specs.Flows.{streamAt, amountAt, meteredOf, Agree}
 use Rattle.flows.specs.Classes.{unmeteredBut, onLoop, classOf}
-use Rattle.flows.specs.Shown.{Agree, Unmetered}
+use Rattle.flows.specs.Shown.{Unmetered}
 use Rattle.flows.proofs.Integers.{canon, Z·diff}
 use Rattle.flows.proofs.Nets.{netOf, listed, listed-size, listed-at, listed-balanced}
 use Rattle.flows.proofs.Reach.{chain-sym, joined→chain}

@@ -1,35 +1,24 @@
--- Plants as the code holds them: what the calls over groups and classes need, and what each case of an answer means.
+-- What the calls over groups and classes take and hand over, and what each case of an answer means.
 use mathlib.Core.Path.{_≡_}
 use mathlib.Core.List.{List}
-use Prim.Native.Nat.{ℕ, _≤_, _<_}
+use Prim.Native.Nat.{ℕ, _<_}
 use lib.ListN.{length, getD}
 use Rattle.numbers.specs.Choice.{pick}
 use Rattle.plants.specs.declared.Stream.{Stream}
 use Rattle.plants.specs.declared.Plant as Arrays
-use Rattle.plants.specs.Limits.{maxUnits, places, maxStreams}
-use Rattle.plants.specs.Plants.{Plant, noStream}
+use Rattle.plants.specs.Limits.{places, maxStreams}
+use Rattle.plants.specs.Plants.{Plant}
 use Rattle.plants.specs.Says.{plantOf}
 use Rattle.flows.specs.declared.Class.{Class}
 use Rattle.flows.specs.declared.Class.the-variants.{AsRead, Adjusted, Given, Withheld}
+use Rattle.flows.specs.declared.Cuts.{Cuts}
 use Rattle.flows.specs.declared.Which.{Which}
 use Rattle.flows.specs.declared.Which.the-variants.{Every, Unmetered}
-use Rattle.flows.specs.Flows.{values}
-use Rattle.flows.specs.Classes.{Counting, everyStream, unmeteredOnly, classOf}
+use Rattle.numbers.specs.Inner.{values}
+use Rattle.flows.specs.Classes.{classOf}
+use Rattle.flows.specs.Chains.{Counting, everyStream, unmeteredOnly}
 use Rattle.flows.specs.Labels.{labelsOf, oneLabel}
 use Rattle.flows.specs.Sides.{bit, takenAt, loopedAfter}
-
--- A plant within the limits that groups need.
-pub record Fit (p : Arrays.Plant) : Type 0 where
-  pub long : length (p .streams) ≡ maxStreams
-  pub few-streams : p .count ≤ maxStreams
-  pub few-units : p .units ≤ maxUnits
-  pub from-in : (i : ℕ) → i < p .count → getD (p .streams) i noStream .from ≤ p .units
-  pub to-in : (i : ℕ) → i < p .count → getD (p .streams) i noStream .to ≤ p .units
-
--- A stream whose ends have labels.
-pub record Ends (s : Stream) : Type 0 where
-  pub from-in : s .from < places
-  pub to-in : s .to < places
 
 -- Which streams count, by the cases of Which.
 abbrev pub counting : Which → Counting
@@ -40,17 +29,17 @@ counting Unmetered = unmeteredOnly
 abbrev pub classesOf : Plant → List Class
 classesOf p = values maxStreams (classOf p)
 
--- A plant and its labels by the unmetered streams.
-pub record Grouped (p : Arrays.Plant) (labels : List ℕ) : Type 0 where
-  pub fit : Fit p
-  pub labelled : labels ≡ labelsOf unmeteredOnly (plantOf p)
+-- A plant's labels by the unmetered streams.
+abbrev pub Grouped : Arrays.Plant → List ℕ → Type 0
+Grouped p labels = labels ≡ labelsOf unmeteredOnly (plantOf p)
 
--- The labels that a plant's streams take away, and the bits of those that lie on a loop.
-pub record Cutting (p : Arrays.Plant) (taken : List ℕ) (looped : ℕ) : Type 0 where
-  pub long : length taken ≡ maxStreams
-  pub each : (i : ℕ) → i < p .count → getD taken i 0 ≡ takenAt (plantOf p .streams) i
-  pub low : (i : ℕ) → i < p .count → getD taken i 0 < places
-  pub met : looped ≡ loopedAfter (plantOf p .streams) (p .count)
+-- A plant's labels by the unmetered streams, the labels that its streams take away, and the bits of those that lie on a loop.
+pub record Cutting (p : Arrays.Plant) (c : Cuts) : Type 0 where
+  pub grouped : Grouped p (c .labels)
+  pub long : length (c .taken) ≡ maxStreams
+  pub each : (i : ℕ) → i < p .count → getD (c .taken) i 0 ≡ takenAt (plantOf p .streams) i
+  pub low : (i : ℕ) → i < p .count → getD (c .taken) i 0 < places
+  pub met : c .looped ≡ loopedAfter (plantOf p .streams) (p .count)
 
 -- A stream's class by the labels by the unmetered streams, the label that it took away and the bits of those that lie on a loop.
 abbrev pub classIn : List ℕ → Stream → ℕ → ℕ → Class

@@ -10,6 +10,7 @@ use Rattle.plants.specs.Plants.{Plant}
 use Rattle.flows.specs.declared.Class.{Class}
 use Rattle.flows.specs.declared.Class.the-variants.{Adjusted, AsRead, Given, Withheld}
 use Rattle.flows.specs.Flows.{streamAt, amountAt}
+use Rattle.flows.specs.Chains.{Counting, everyStream, unmeteredOnly}
 
 -- Sets of places as lists.
 abbrev pub has : ℕ → List ℕ → Bool
@@ -18,10 +19,6 @@ has u (v ∷ vs) = eqb u v || has u vs
 
 abbrev pub including : ℕ → List ℕ → List ℕ
 including u vs = pick (has u vs) vs (u ∷ vs)
-
--- Which streams count: a test of the stream's number, from 0, and its record.
-abbrev pub Counting : Type 0
-Counting = ℕ → Stream → Bool
 
 -- One round over the streams that count: a stream with an end in the set brings in its other end. i is the first one's number.
 abbrev pub spread : Counting → ℕ → List Stream → List ℕ → List ℕ
@@ -38,12 +35,7 @@ rounds (suc l) counts ss seen = rounds l counts ss (spread counts 0 ss seen)
 abbrev pub joinedTo : Counting → Plant → ℕ → List ℕ
 joinedTo counts p u = rounds (suc (p .units)) counts (p .streams) (u ∷ [])
 
-abbrev pub everyStream : Counting
-everyStream i s = true
-
-abbrev pub unmeteredOnly : Counting
-unmeteredOnly i s = not (s .metered)
-
+-- All unmetered streams but one count.
 abbrev pub unmeteredBut : ℕ → Counting
 unmeteredBut e i s = not (s .metered) && not (eqb i e)
 

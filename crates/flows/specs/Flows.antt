@@ -18,11 +18,6 @@ streamAt ss k = getD ss k noStream
 abbrev pub amountAt : List ℤ → ℕ → ℤ
 amountAt xs k = getD xs k (pos 0)
 
--- The values of a function at 0 to n - 1.
-abbrev pub values : {A : Type 0} → ℕ → (ℕ → A) → List A
-values zero f = []
-values (suc n) f = f 0 ∷ values n (λ k. f (suc k))
-
 -- A flow gives each stream a signed amount. The net of a place (a row of the incidence matrix times the flow): what comes in
 -- less what goes out.
 abbrev pub netAt : ℕ → List Stream → List ℤ → ℤ
@@ -64,6 +59,12 @@ meteredOf [] xs = []
 meteredOf (s ∷ ss) [] = []
 meteredOf (s ∷ ss) (x ∷ xs) = pick (s .metered) (x ∷ []) [] ++ meteredOf ss xs
 
+-- Two balanced flows, whole or over one denominator, that agree on all metered streams.
+pub record Agree (p : Plant) (ys zs : List ℤ) : Type 0 where
+  pub first : balanced p ys ≡ true
+  pub second : balanced p zs ≡ true
+  pub metered : meteredOf (p .streams) ys ≡ meteredOf (p .streams) zs
+
 -- The lexicographic order: the first list is not after the second.
 abbrev pub notAfter : List ℤ → List ℤ → Bool
 notAfter [] ys = true
@@ -77,3 +78,7 @@ pub record Cheapest (p : Plant) (xs : List ℤ) : Type 0 where
   pub least : (ys : List ℤ) → allowed p ys ≡ true → cost (p .streams) xs ≤ cost (p .streams) ys
   pub tie : (ys : List ℤ) → allowed p ys ≡ true → cost (p .streams) ys ≡ cost (p .streams) xs
       → notAfter (meteredOf (p .streams) xs) (meteredOf (p .streams) ys) ≡ true
+
+-- What a meter shows that no balance corrects: its reading.
+abbrev pub nearest : Stream → ℤ
+nearest s = s .reading

@@ -10,8 +10,10 @@ use Rattle.numbers.specs.Choice.{pick}
 use Rattle.plants.specs.declared.Stream.{Stream}
 use Rattle.plants.specs.Limits.{places}
 use Rattle.plants.specs.Plants.{Plant}
-use Rattle.flows.specs.Flows.{streamAt, values}
-use Rattle.flows.specs.Classes.{has, Counting, joinedTo}
+use Rattle.flows.specs.Flows.{streamAt}
+use Rattle.numbers.specs.Inner.{values}
+use Rattle.flows.specs.Classes.{has, joinedTo}
+use Rattle.flows.specs.Chains.{Counting}
 
 -- Each place's own number.
 abbrev pub ownNumbers : List ℕ
@@ -59,5 +61,5 @@ pub record One-pass (counts : Counting) (p : Plant) : Type 0 where
       → oneLabel (labelsAfter counts (p .streams) k) u v ≡ has v (joinedTo (firstOnly k counts) p u)
   pub member : (k u : ℕ) → k ≤ length (p .streams) → u < places
       → has (getD (labelsAfter counts (p .streams) k) u 0) (joinedTo (firstOnly k counts) p u) ≡ true
-  pub lowest : (k u v : ℕ) → k ≤ length (p .streams) → u < places → v < places
+  pub least-place : (k u v : ℕ) → k ≤ length (p .streams) → u < places → v < places
       → has v (joinedTo (firstOnly k counts) p u) ≡ true → getD (labelsAfter counts (p .streams) k) u 0 ≤ v

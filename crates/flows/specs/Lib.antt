@@ -1,9 +1,11 @@
 -- Flows, the cheapest of them, groups and classes, the test, what a sheet shows, certificates of a flow, and what calls need.
 pub mod Flows
+pub mod Chains
 pub mod Classes
 pub mod Labels
 pub mod Sides
 pub mod Test
 pub mod Shown
 pub mod Certificate
+pub mod Nets
 pub mod Calls

@@ -11,12 +11,8 @@ use Rattle.plants.specs.Plants.{Plant}
 use Rattle.plants.specs.Files.{got, readPlant}
 use Rattle.flows.specs.declared.Class.{Class}
 use Rattle.flows.specs.declared.Class.the-variants.{Adjusted, AsRead, Given, Withheld}
-use Rattle.flows.specs.Flows.{streamAt, amountAt, allowed, balanced, cost, costOver, meteredOf, Cheapest}
+use Rattle.flows.specs.Flows.{streamAt, amountAt, allowed, balanced, cost, costOver, meteredOf, Agree, Cheapest, nearest}
 use Rattle.flows.specs.Classes.{classOf, givenOf}
-
--- What a meter shows that no balance corrects: its reading.
-abbrev pub nearest : Stream → ℤ
-nearest s = s .reading
 
 -- A stream's weight where it is adjusted.
 abbrev pub adjustedWeight : Class → Stream → ℕ
@@ -32,12 +28,6 @@ adjustedTo p (suc k) = adjustedWeight (classOf p k) (streamAt (p .streams) k) + 
 
 abbrev pub adjusted : Plant → ℕ
 adjusted p = adjustedTo p (length (p .streams))
-
--- Two balanced flows, whole or over one denominator, that agree on all metered streams.
-pub record Agree (p : Plant) (ys zs : List ℤ) : Type 0 where
-  pub first : balanced p ys ≡ true
-  pub second : balanced p zs ≡ true
-  pub metered : meteredOf (p .streams) ys ≡ meteredOf (p .streams) zs
 
 -- Stream i is listed, and unmetered.
 pub record Unmetered (p : Plant) (i : ℕ) : Type 0 where

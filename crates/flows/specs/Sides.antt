@@ -9,8 +9,9 @@ use lib.Bits.{bitOr, bitXor}
 use Rattle.numbers.specs.Choice.{pick}
 use Rattle.plants.specs.declared.Stream.{Stream}
 use Rattle.plants.specs.Limits.{places}
-use Rattle.flows.specs.Flows.{streamAt, values}
-use Rattle.flows.specs.Classes.{unmeteredOnly}
+use Rattle.flows.specs.Flows.{streamAt}
+use Rattle.numbers.specs.Inner.{values}
+use Rattle.flows.specs.Chains.{unmeteredOnly}
 use Rattle.flows.specs.Labels.{labelsAfter, oneLabel}
 
 -- Bit h of a number.

@@ -4,8 +4,6 @@ use Prim.Native.Nat.{ℕ, _-_}
 use lib.Dec.{eqb, leb}
 use lib.ListN.{getD}
 use Rattle.numbers.specs.Choice.{pick}
-use Rattle.plants.specs.Plants.{Plant}
-use Rattle.flows.specs.Classes.{degrees}
 
 -- Critical values in thousandths, degrees 1 to 32.
 abbrev pub critical : List ℕ
@@ -18,6 +16,3 @@ critical =
 -- Verdict by degrees d and cost c: 0 (pass) at most the value, 1 (fail) above it, 2 (none) at no degrees.
 abbrev pub verdictAt : ℕ → ℕ → ℕ
 verdictAt d c = pick (eqb d 0) 2 (pick (leb c (getD critical (d - 1) 0)) 0 1)
-
-abbrev pub verdictOf : Plant → ℕ → ℕ
-verdictOf p c = verdictAt (degrees p) c

@@ -1,8 +1,8 @@
 // The four classes of stream, and the degrees of freedom.
 use crate::Class;
+use crate::Cuts;
 use crate::Which;
 use crate::groups;
-use crate::sides::cuts_of;
 use plants::Plant;
 use plants::Stream;
 use plants::limits::MAX_STREAMS;
@@ -11,14 +11,15 @@ ghost use mathlib.Core.Path.{_≡_};
 ghost use Prim.Native.Nat.{_≤_, _<_};
 ghost use lib.ListN.{length};
 ghost use Rattle.plants.specs.Limits.{maxUnits, places};
+ghost use Rattle.plants.specs.Within.{WithinStream, Accepted};
 ghost use Rattle.plants.specs.Says.{plantOf};
 ghost use Rattle.flows.specs.Classes.{degrees};
-ghost use Rattle.flows.specs.Calls.{Ends, Grouped, classIn, classesOf};
+ghost use Rattle.flows.specs.Calls.{Grouped, Cutting, classIn, classesOf};
 
 // The class of a stream by the labels by the unmetered streams, the label that it took away and the bits of the streams that
 // lie on a loop.
 fn class_of(labels: &[u8; PLACES], s: Stream, h: u8, looped: u64) -> Class
-    requires { ⌜ Ends s × (length (now labels) ≡ places) × (h < places) ⌝ }
+    requires { ⌜ WithinStream maxUnits s × (length (now labels) ≡ places) × (h < places) ⌝ }
     ensures { λ r. ⌜ r ≡ classIn (now (labels .entry)) s h looped ⌝ }
 {
     if s.metered {
@@ -34,12 +35,12 @@ fn class_of(labels: &[u8; PLACES], s: Stream, h: u8, looped: u64) -> Class
 }
 
 // The classes of all streams; past the last one, Withheld.
-pub fn classes_of(p: Plant, labels: [u8; PLACES]) -> [Class; MAX_STREAMS]
-    requires { ⌜ Grouped p labels ⌝ }
+pub fn classes_of(p: Plant, cuts: Cuts) -> [Class; MAX_STREAMS]
+    requires { ⌜ Accepted p × Cutting p cuts ⌝ }
     ensures { λ r. ⌜ r ≡ classesOf (plantOf p) ⌝ }
 {
     let n = p.count as usize;
-    let cuts = cuts_of(p);
+    let labels = cuts.labels;
     let taken = cuts.taken;
     let mut r = [Class::Withheld; MAX_STREAMS];
     let mut i: usize = 0;
@@ -54,7 +55,7 @@ pub fn classes_of(p: Plant, labels: [u8; PLACES]) -> [Class; MAX_STREAMS]
 
 // The number of groups less the number of connected pieces.
 pub fn degrees_of(p: Plant, labels: [u8; PLACES]) -> u8
-    requires { ⌜ Grouped p labels ⌝ }
+    requires { ⌜ Accepted p × Grouped p labels ⌝ }
     ensures { λ r. ⌜ (r ≡ degrees (plantOf p)) × (r ≤ maxUnits) ⌝ }
 {
     let n = p.units;

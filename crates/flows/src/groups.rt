@@ -7,9 +7,10 @@ ghost use mathlib.Core.Path.{_≡_};
 ghost use Prim.Native.Nat.{ℕ, _≤_};
 ghost use lib.ListN.{length};
 ghost use Rattle.plants.specs.Limits.{maxUnits, places};
+ghost use Rattle.plants.specs.Within.{WithinStream, Accepted};
 ghost use Rattle.plants.specs.Says.{plantOf};
 ghost use Rattle.flows.specs.Labels.{ownNumbers, renamed, relabelled, stepped, labelsOf, oneLabel, ownLabels};
-ghost use Rattle.flows.specs.Calls.{Fit, Ends, counting};
+ghost use Rattle.flows.specs.Calls.{counting};
 
 // Whether a stream counts, whatever its number.
 pub fn counts(which: Which, s: Stream) -> bool
@@ -59,7 +60,7 @@ pub fn rename(labels: &mut [u8; PLACES], lo: u8, hi: u8)
 
 // A step: the labels and the next stream, which counts or not.
 pub fn step(labels: &mut [u8; PLACES], s: Stream, counts: bool)
-    requires { ⌜ Ends s × (length (now labels) ≡ places) ⌝ }
+    requires { ⌜ WithinStream maxUnits s × (length (now labels) ≡ places) ⌝ }
     ensures { λ _. ⌜ now (labels .exit) ≡ stepped counts s (now (labels .entry)) ⌝ }
 {
     if !counts {
@@ -81,7 +82,7 @@ pub fn step(labels: &mut [u8; PLACES], s: Stream, counts: bool)
 
 // The labels after all streams.
 pub fn group(p: Plant, which: Which) -> [u8; PLACES]
-    requires { ⌜ Fit p ⌝ }
+    requires { ⌜ Accepted p ⌝ }
     ensures { λ r. ⌜ r ≡ labelsOf (counting which) (plantOf p) ⌝ }
 {
     let n = p.count as usize;
@@ -98,7 +99,7 @@ pub fn group(p: Plant, which: Which) -> [u8; PLACES]
 
 // Whether a stream's ends have one label.
 pub fn one_label(labels: &[u8; PLACES], s: Stream) -> bool
-    requires { ⌜ Ends s × (length (now labels) ≡ places) ⌝ }
+    requires { ⌜ WithinStream maxUnits s × (length (now labels) ≡ places) ⌝ }
     ensures { λ r. ⌜ r ≡ oneLabel (now (labels .entry)) (s .from) (s .to) ⌝ }
 {
     let u = s.from as usize;

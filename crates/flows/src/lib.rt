@@ -1,4 +1,7 @@
 // Groups, classes, degrees and the test of a plant.
+use plants::limits::MAX_STREAMS;
+use plants::limits::PLACES;
+
 mod classes;
 mod groups;
 mod sides;
@@ -7,6 +10,7 @@ mod verdicts;
 pub use classes::classes_of;
 pub use classes::degrees_of;
 pub use groups::group;
+pub use sides::cuts_of;
 pub use verdicts::verdict;
 
 // The class of a stream. A (a redundant meter), R (a non-redundant meter), G (observable), W (unobservable).
@@ -21,4 +25,12 @@ pub enum Class {
 pub enum Which {
     Every,
     Unmetered,
+}
+
+// The labels by the unmetered streams; the label that each stream takes away, 0 where it takes none; and the bits of those
+// that lie on a loop, bit 0 being set.
+pub struct Cuts {
+    pub labels: [u8; PLACES],
+    pub taken: [u8; MAX_STREAMS],
+    pub looped: u64,
 }

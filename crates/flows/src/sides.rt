@@ -1,5 +1,6 @@
 // The streams that join two groups, in one pass over the streams. Each takes a label away, the higher one of its ends. Bit h of
 // a place's sides tells on which side of the stream that took label h away the place lies.
+use crate::Cuts;
 use crate::groups;
 use plants::Plant;
 use plants::Stream;
@@ -11,19 +12,14 @@ ghost use lib.ListN.{length};
 ghost use lib.Bits.{bitXor};
 ghost use Rattle.numbers.specs.Choice.{pick};
 ghost use lib.Dec.{eqb};
-ghost use Rattle.plants.specs.Limits.{places};
+ghost use Rattle.plants.specs.Limits.{maxUnits, places};
+ghost use Rattle.plants.specs.Within.{WithinStream, Accepted};
 ghost use Rattle.flows.specs.Sides.{takenBy, apart, loopedBy, turned, parted};
-ghost use Rattle.flows.specs.Calls.{Fit, Ends, Cutting};
-
-// The label that each stream takes away, 0 where it takes none, and the bits of those that lie on a loop; bit 0 is set.
-pub struct Cuts {
-    pub taken: [u8; MAX_STREAMS],
-    pub looped: u64,
-}
+ghost use Rattle.flows.specs.Calls.{Cutting};
 
 // The label that a stream takes away.
 fn taken_by(labels: &[u8; PLACES], s: Stream) -> u8
-    requires { ⌜ Ends s × (length (now labels) ≡ places) ⌝ }
+    requires { ⌜ WithinStream maxUnits s × (length (now labels) ≡ places) ⌝ }
     ensures { λ r. ⌜ r ≡ takenBy (now (labels .entry)) s ⌝ }
 {
     if s.metered {
@@ -44,7 +40,7 @@ fn taken_by(labels: &[u8; PLACES], s: Stream) -> u8
 
 // The streams on the way between a stream's ends, by their bits.
 fn way_between(sides: &[u64; PLACES], s: Stream) -> u64
-    requires { ⌜ Ends s × (length (now sides) ≡ places) ⌝ }
+    requires { ⌜ WithinStream maxUnits s × (length (now sides) ≡ places) ⌝ }
     ensures { λ r. ⌜ r ≡ apart (now (sides .entry)) s ⌝ }
 {
     let u = s.from as usize;
@@ -54,7 +50,7 @@ fn way_between(sides: &[u64; PLACES], s: Stream) -> u64
 
 // The streams that lie on a loop with a stream, where it is unmetered and earlier ones join its ends.
 fn looped_by(labels: &[u8; PLACES], sides: &[u64; PLACES], s: Stream) -> u64
-    requires { ⌜ Ends s × (length (now labels) ≡ places) × (length (now sides) ≡ places) ⌝ }
+    requires { ⌜ WithinStream maxUnits s × (length (now labels) ≡ places) × (length (now sides) ≡ places) ⌝ }
     ensures { λ r. ⌜ r ≡ loopedBy (now (labels .entry)) (now (sides .entry)) s ⌝ }
 {
     if s.metered {
@@ -91,7 +87,7 @@ fn turn(sides: &mut [u64; PLACES], labels: &[u8; PLACES], h: u8, by: u64)
 
 // A stream takes label h away.
 fn part(sides: &mut [u64; PLACES], labels: &[u8; PLACES], s: Stream, h: u8)
-    requires { ⌜ Ends s × (length (now sides) ≡ places) × (length (now labels) ≡ places) × (h < places) ⌝ }
+    requires { ⌜ WithinStream maxUnits s × (length (now sides) ≡ places) × (length (now labels) ≡ places) × (h < places) ⌝ }
     ensures { λ _. ⌜ now (sides .exit) ≡ parted h (now (labels .entry)) s (now (sides .entry)) ⌝ }
 {
     if h == 0 {
@@ -101,10 +97,10 @@ fn part(sides: &mut [u64; PLACES], labels: &[u8; PLACES], s: Stream, h: u8)
     turn(sides, labels, h, way ^ (1u64 << h));
 }
 
-// The labels that the streams take away, and the loops.
+// The labels by the unmetered streams, those that the streams take away, and the loops.
 pub fn cuts_of(p: Plant) -> Cuts
-    requires { ⌜ Fit p ⌝ }
-    ensures { λ r. ⌜ Cutting p (r .taken) (r .looped) ⌝ }
+    requires { ⌜ Accepted p ⌝ }
+    ensures { λ r. ⌜ Cutting p r ⌝ }
 {
     let n = p.count as usize;
     let mut labels = groups::own_numbers();
@@ -122,6 +118,7 @@ pub fn cuts_of(p: Plant) -> Cuts
         i += 1;
     }
     Cuts {
+        labels: labels,
         taken: taken,
         looped: looped,
     }

@@ -83,10 +83,29 @@ pub fn put_u64(v: u64, s: &mut [u8])
     put_u32((v % 4294967296) as u32, &mut s[4..]);
 }
 
+// What eight bytes hold for a signed number, two's complement.
+fn bits_of_i64(z: i64) -> u64
+    ensures { λ r. ⌜ r ≡ raw 8 z ⌝ }
+{
+    if 0 <= z {
+        return z as u64;
+    }
+    let below = (-1 - z) as u64;
+    18446744073709551615 - below
+}
+
 pub fn put_i32(z: i32, s: &mut [u8])
     requires { ⌜ 4 ≤ length (now s) ⌝ }
     ensures { λ _. ⌜ now (s .exit) ≡ over (putBe 4 (raw 4 z)) (now (s .entry)) ⌝ }
 {
     let v = bits_of(z);
     put_u32(v, s);
+}
+
+pub fn put_i64(z: i64, s: &mut [u8])
+    requires { ⌜ 8 ≤ length (now s) ⌝ }
+    ensures { λ _. ⌜ now (s .exit) ≡ over (putBe 8 (raw 8 z)) (now (s .entry)) ⌝ }
+{
+    let v = bits_of_i64(z);
+    put_u64(v, s);
 }

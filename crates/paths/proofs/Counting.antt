@@ -5,10 +5,7 @@ use Prim.Native.Nat.{ℕ, zero, suc, _+_, _≤_}
 use native.Mathlib.Omega.{arith}
 use native.Mathlib.Decide.{ℕ-discrete}
 use Rattle.numbers.specs.Choice.{pick}
-
-unfoldable pub countTo : ℕ → (ℕ → Bool) → ℕ
-countTo zero f = pick (f 0) 1 0
-countTo (suc n) f = pick (f (suc n)) 1 0 + countTo n f
+use Rattle.paths.specs.Counts.{countTo}
 
 bit : (a : Bool) → pick {A = ℕ} a 1 0 ≤ 1
 bit true = omega arith

@@ -15,10 +15,10 @@ use Rattle.plants.specs.Limits.{places, maxStreams}
 use Rattle.paths.specs.Sizes.{mostFlow, mostStep}
 use Rattle.paths.specs.Search.{fallen, loweredBy, farEnd}
 use Rattle.paths.specs.Push.{movedOf}
-use Rattle.paths.specs.Premises.{Placed, Prices, Roomy}
+use Rattle.paths.specs.Premises.{Prices, Roomy}
 use Rattle.flows.proofs.Lists.{Written}
 
--- The prices of labelled places lowered.
+-- The prices of visited places lowered.
 pub lowered-at : (ls : List Bool) (g : ℕ) (ps : List ℕ) (k : ℕ) → getD (loweredBy ls g ps) k 0 ≡ fallen (getD ls k false) g (getD ps k 0)
 unfolding loweredBy
 lowered-at [] g ps k = refl
@@ -36,23 +36,10 @@ lowered-long [] g ps = refl
 lowered-long (l ∷ ls) g [] = refl
 lowered-long (l ∷ ls) g (p ∷ ps) = ap suc (lowered-long ls g ps)
 
-pub lowered-is : (ls : List Bool) (g : ℕ) (p₀ p : List ℕ) → length p₀ ≡ places → Written 0 places (λ k x. fallen (getD ls k false) g x) p₀ p places
-    → p ≡ loweredBy ls g p₀
-lowered-is ls g p₀ p h m =
-    ext-getD 0 p (loweredBy ls g p₀) (m .long ∙ sym h ∙ sym (lowered-long ls g p₀))
-    (λ i l. m .done i (rw (m .long) at l) ∙ sym (lowered-at ls g p₀ i))
-
 -- A price falls by g at most.
 pub fallen-least : (b : Bool) (g p : ℕ) → (fallen b g p ≤ p) × (p ≤ fallen b g p + g)
 fallen-least true g p = (omega arith, omega arith)
 fallen-least false g p = (omega arith, omega arith)
-
-pub lowered-prices : (ls : List Bool) (g : ℕ) (ps : List ℕ) → Prices ps → Prices (loweredBy ls g ps)
-lowered-prices ls g ps h k l = rw (lowered-at ls g ps k) (omega (arith, fallen-least (getD ls k false) g (getD ps k 0) .0, h k l))
-
-pub far-small : (ls : List Bool) (s : Stream) → Placed s → farEnd ls s < places
-far-small ls s h =
-    picked (λ (v : ℕ). v < places) (getD ls (s .from) false) (s .to) (s .from) (λ e. omega (arith, h .to-in)) (λ e. omega (arith, h .from-in))
 
 -- A property of each element survives a store.
 pub set-each : (P : ℕ → Type 0) (xs : List ℕ) (i v n : ℕ) → i < length xs → P v → ((k : ℕ) → k < n → P (getD xs k 0)) → (k : ℕ) → k < n → P (getD (set xs i v) k 0)

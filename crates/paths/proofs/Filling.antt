@@ -6,26 +6,21 @@ use Prim.Native.Nat.{ℕ, zero, suc, _+_, _-_, _<_}
 use native.Mathlib.Omega.{arith}
 use native.Mathlib.Numerals.{add-one}
 use lib.Dec.{eqb, ltb}
-use lib.ListN.{length, getD, set, take, length-set}
-use lib.Seq.{ext-getD, getD-take}
+use lib.ListN.{length, getD, set, length-set}
+use lib.Seq.{ext-getD}
 use Rattle.numbers.specs.Choice.{pick}
 use Rattle.numbers.proofs.Tests.{picked}
 use Rattle.plants.specs.declared.Stream.{Stream}
-use Rattle.plants.specs.Limits.{places, maxStreams}
-use Rattle.plants.specs.Plants.{noStream}
-use Rattle.flows.specs.Flows.{streamAt}
+use Rattle.plants.specs.Limits.{places}
 use Rattle.flows.proofs.Lists.{Written, values-at}
 use Rattle.paths.specs.Sizes.{far}
 use Rattle.paths.specs.Slack.{gapBy}
 use Rattle.paths.specs.Search.{fallen}
 use Rattle.paths.specs.Near.{gapsOf, codeOf, lessened, relaxedAlong, relaxedAt, relaxedTo, nearestTo, reducedBy}
-use Rattle.paths.specs.Premises.{Placed, Network, Lane}
+use Rattle.paths.specs.Rows.{countOf, startsOf, endsOf, weightsOf, pullsOf}
+use Rattle.paths.specs.Premises.{Network, Rowed}
 
--- Elements that are written are the values.
-pub lane-of : {n : ℕ} {f : ℕ → ℕ} {before now : List ℕ} → Written 0 maxStreams (λ k x. f k) before now n → Lane n f now
-lane-of w = record { long = w .long; each = w .done }
-
--- The prices of labelled places reduced.
+-- The prices of visited places reduced.
 pub reduced-at : (ls : List Bool) (ks : List ℕ) (k : ℕ) (ps : List ℕ) (u : ℕ)
     → getD (reducedBy ls ks k ps) u 0 ≡ fallen (getD ls u false) (k - getD ks u 0) (getD ps u 0)
 unfolding reducedBy
@@ -60,13 +55,7 @@ reduced-is ls ks k ps now h w =
     ext-getD 0 now (reducedBy ls ks k ps) (w .long ∙ sym h ∙ sym (reduced-long ls ks k ps))
     (λ u l. w .done u (rw (w .long) at l) ∙ sym (reduced-at ls ks k ps u))
 
--- One stream more is looked at, and one place more.
-pub relaxed-next : (fs ts gs bs : List ℕ) (ls : List Bool) (k e i : ℕ) (near : List ℕ) → 0 < i
-    → relaxedTo fs ts gs bs ls k e i near ≡ relaxedTo fs ts gs bs ls k e (i - 1) (relaxedAt fs ts gs bs ls k e (i - 1) near)
-unfolding relaxedTo
-relaxed-next fs ts gs bs ls k e zero near l = absurd (omega arith)
-relaxed-next fs ts gs bs ls k e (suc i) near l = let z : suc i - 1 ≡ i = omega arith in rw z
-
+-- Lengths stay.
 pub along-long : (ls : List Bool) (k v g i : ℕ) (near : List ℕ) → length (relaxedAlong ls k v g i near) ≡ length near
 unfolding relaxedAlong
 along-long ls k v g i near =
@@ -87,6 +76,7 @@ unfolding relaxedTo
 relaxed-all-long fs ts gs bs ls k e zero near = refl
 relaxed-all-long fs ts gs bs ls k e (suc i) near = relaxed-all-long fs ts gs bs ls k e i _ ∙ relaxed-long fs ts gs bs ls k e i near
 
+-- One place more.
 pub nearest-none : (near : List ℕ) → nearestTo near 0 ≡ places
 unfolding nearestTo
 nearest-none near = refl
@@ -103,19 +93,14 @@ getD-any (x ∷ xs) zero a b l = refl
 getD-any (x ∷ xs) (suc i) a b l = getD-any xs i a b (omega arith)
 
 -- One of the slacks.
-pub gap-at : (fs ts ws qs xs ps : List ℕ) (d skip n : ℕ) (f : Bool) (k : ℕ) → k < n
-    → getD (gapsOf fs ts ws qs xs ps d skip n f) k 0
-    ≡ pick (ltb 0 (getD ws k 0) && ltb k skip) 1 (gapBy (getD ws k 0) (getD qs k 0) f (getD xs k 0) (getD ps (getD fs k 0) 0) (getD ps (getD ts k 0) 0) d)
-gap-at fs ts ws qs xs ps d skip n f k l = values-at _ 0 n k l
+pub gap-at : (ls xs ps : List ℕ) (d skip : ℕ) (f : Bool) (k : ℕ) → k < countOf ls
+    → getD (gapsOf ls xs ps d skip f) k 0
+    ≡ pick (ltb 0 (getD (weightsOf ls) k 0) && ltb k skip) 1 (gapBy (getD (weightsOf ls) k 0) (getD (pullsOf ls) k 0) f (getD xs k 0) (getD ps (getD (startsOf ls) k 0) 0) (getD ps (getD (endsOf ls) k 0) 0) d)
+gap-at ls xs ps d skip f k l = values-at _ 0 (countOf ls) k l
 
--- The starts, or the ends, of the streams in use are places.
-pub place-in : {streams : List Stream} {n : ℕ} {fs : List ℕ} → Network streams n → (b : Bool)
-    → Lane n (λ k. pick b (streamAt (take n streams) k .from) (streamAt (take n streams) k .to)) fs → (k : ℕ) → k < n → getD fs k 0 < places
-place-in {streams} {n} {fs} w b lane k l = rw (lane .each k l) (go b)
-  where
-    placed : Placed (streamAt (take n streams) k)
-    placed = rw (getD-take n streams k noStream l) (w .placed k l)
+-- The starts and the ends of the streams in use are places.
+pub starts-in : {streams : List Stream} {n : ℕ} {ls : List ℕ} → Network streams n → Rowed streams n ls → (k : ℕ) → k < n → getD (startsOf ls) k 0 < places
+starts-in w r k l = rw (r .starts k l) (omega (arith, w .within .each k l .from-in))
 
-    go : (b : Bool) → pick b (streamAt (take n streams) k .from) (streamAt (take n streams) k .to) < places
-    go true = omega (arith, placed .from-in)
-    go false = omega (arith, placed .to-in)
+pub ends-in : {streams : List Stream} {n : ℕ} {ls : List ℕ} → Network streams n → Rowed streams n ls → (k : ℕ) → k < n → getD (endsOf ls) k 0 < places
+ends-in w r k l = rw (r .ends k l) (omega (arith, w .within .each k l .to-in))

@@ -25,7 +25,8 @@ use Rattle.paths.specs.Push.{otherEnd}
 use Rattle.paths.proofs.Amounts.{get-set}
 use Rattle.paths.proofs.Elements.{lowered-at}
 use Rattle.paths.proofs.Least.{startIn, endIn}
-use Rattle.paths.proofs.Counting.{countTo, count-most, count-none, count-more}
+use Rattle.paths.specs.Counts.{countTo}
+use Rattle.paths.proofs.Counting.{count-most, count-none, count-more}
 use Rattle.paths.proofs.Pushing.{reached, Link, both-reached}
 
 -- Streams among places 0 to n, as far as the search needs them.
@@ -43,7 +44,7 @@ held-kept true false s x pu pv d g h hu hv c = let k = c refl in record { low = 
 held-kept false true s x pu pv d g h hu hv c = let k = c refl in record { low = omega (arith, h .low, h .high); high = omega (arith, h .low, h .high) }
 held-kept false false s x pu pv d g h hu hv c = h
 
--- The slack after both prices fell alike, and after the labelled end's fell by it; how large it is.
+-- The slack after both prices fell alike, and after the visited end's fell by it; how large it is.
 slack-both : (b : Bool) (s : Stream) (x pu pv d g : ℕ) → g ≤ pu → g ≤ pv → slackBy s b x pu pv d ≡ 0 → slackBy s b x (pu - g) (pv - g) d ≡ 0
 slack-both true s x pu pv d g hu hv e = omega arith
 slack-both false s x pu pv d g hu hv e = omega arith
@@ -66,18 +67,18 @@ reached-set root ends m e (suc j) v l = rw (getD-set-other ends m j e 0 (λ q. o
 -- What holds of a tree and prices during a search.
 pub record Growing (n : ℕ) (ss : List Stream) (xs : List ℕ) (d root : ℕ) (ps : List ℕ) (t : Tree) : Type 0 where
   pub held : AllHeld ss xs ps d
-  pub labels : length (t .labelled) ≡ places
+  pub visits : length (t .visited) ≡ places
   pub vias : length (t .via) ≡ places
   pub endings : length (t .ends) ≡ places
-  pub marks : (v : ℕ) → v < places → getD (t .labelled) v false ≡ reached root (t .ends) (t .len) v
+  pub marks : (v : ℕ) → v < places → getD (t .visited) v false ≡ reached root (t .ends) (t .len) v
   pub links : (k : ℕ) → k < t .len → Link ss xs ps d root (t .via) (t .ends) k
-  pub counted : countTo n (λ v. getD (t .labelled) v false) ≡ suc (t .len)
+  pub counted : countTo n (λ v. getD (t .visited) v false) ≡ suc (t .len)
 
 -- The tree of one place.
 pub root-growing : (n : ℕ) (ss : List Stream) (xs ps : List ℕ) (d root : ℕ) → n ≤ maxUnits → root ≤ n → AllHeld ss xs ps d → Growing n ss xs d root ps (rootAt root)
 root-growing n ss xs ps d root small l h = record {
   held = h;
-  labels = length-set (replicate places false) root true;
+  visits = length-set (replicate places false) root true;
   vias = refl;
   endings = refl;
   marks = λ v m. get-set (replicate places false) root v true false (omega arith) ∙ go v m (eqb root v);
@@ -109,36 +110,36 @@ module _ (n : ℕ) (ss : List Stream) (plain : Plain n ss) (xs : List ℕ) (d ro
 
   -- The prices are lowered.
   pub lower-growing : (ps : List ℕ) (t : Tree) (g : ℕ) → Growing n ss xs d root ps t → ((u : ℕ) → u < places → g ≤ getD ps u 0)
-      → ((k : ℕ) → k < length ss → startIn ss (t .labelled) k ≡ not (endIn ss (t .labelled) k) → g ≤ slackAt ss xs ps d k (startIn ss (t .labelled) k))
-      → Growing n ss xs d root (loweredBy (t .labelled) g ps) t
+      → ((k : ℕ) → k < length ss → startIn ss (t .visited) k ≡ not (endIn ss (t .visited) k) → g ≤ slackAt ss xs ps d k (startIn ss (t .visited) k))
+      → Growing n ss xs d root (loweredBy (t .visited) g ps) t
   lower-growing ps t g h room lack =
-      record { held = held; labels = h .labels; vias = h .vias; endings = h .endings; marks = h .marks; links = links; counted = h .counted }
+      record { held = held; visits = h .visits; vias = h .vias; endings = h .endings; marks = h .marks; links = links; counted = h .counted }
     where
-      held : AllHeld ss xs (loweredBy (t .labelled) g ps) d
-      held k l = rw (lowered-at (t .labelled) g ps (streamAt ss k .from), lowered-at (t .labelled) g ps (streamAt ss k .to))
-          (held-kept (startIn ss (t .labelled) k) (endIn ss (t .labelled) k) (streamAt ss k) (getD xs k 0) (getD ps (streamAt ss k .from) 0)
+      held : AllHeld ss xs (loweredBy (t .visited) g ps) d
+      held k l = rw (lowered-at (t .visited) g ps (streamAt ss k .from), lowered-at (t .visited) g ps (streamAt ss k .to))
+          (held-kept (startIn ss (t .visited) k) (endIn ss (t .visited) k) (streamAt ss k) (getD xs k 0) (getD ps (streamAt ss k .from) 0)
           (getD ps (streamAt ss k .to) 0) d g (h .held k l) (room (streamAt ss k .from) (from-small k l)) (room (streamAt ss k .to) (to-small k l)) (lack k l))
 
-      links : (k : ℕ) → k < t .len → Link ss xs (loweredBy (t .labelled) g ps) d root (t .via) (t .ends) k
+      links : (k : ℕ) → k < t .len → Link ss xs (loweredBy (t .visited) g ps) d root (t .via) (t .ends) k
       links k l =
           let m = h .links k l in
           let i : ℕ = getD (t .via) k 0 in
           let b = both-reached ss ps d root (t .via) (t .ends) xs k (t .len) l m in
-          let bf : getD (t .labelled) (streamAt ss i .from) false ≡ true = h .marks (streamAt ss i .from) (from-small i (m .inside)) ∙ b .0 in
-          let bt : getD (t .labelled) (streamAt ss i .to) false ≡ true = h .marks (streamAt ss i .to) (to-small i (m .inside)) ∙ b .1 in
+          let bf : getD (t .visited) (streamAt ss i .from) false ≡ true = h .marks (streamAt ss i .from) (from-small i (m .inside)) ∙ b .0 in
+          let bt : getD (t .visited) (streamAt ss i .to) false ≡ true = h .marks (streamAt ss i .to) (to-small i (m .inside)) ∙ b .1 in
           record {
             inside = m .inside;
             fresh = m .fresh;
             joins = m .joins;
             touch = m .touch;
-            tight = rw (lowered-at (t .labelled) g ps (streamAt ss i .from), lowered-at (t .labelled) g ps (streamAt ss i .to), bf, bt)
+            tight = rw (lowered-at (t .visited) g ps (streamAt ss i .from), lowered-at (t .visited) g ps (streamAt ss i .to), bf, bt)
                 (slack-both (eqb (streamAt ss i .to) (getD (t .ends) k 0)) (streamAt ss i) (getD xs i 0) (getD ps (streamAt ss i .from) 0)
                 (getD ps (streamAt ss i .to) 0) d g (room (streamAt ss i .from) (from-small i (m .inside))) (room (streamAt ss i .to) (to-small i (m .inside)))
                 (m .tight));
             room = m .room;
           }
 
-  -- The ends of a stream that leaves the labelled places.
+  -- The ends of a stream that leaves the visited places.
   far-facts : (ls : List Bool) (s : Stream) → getD ls (s .from) false ≡ not (getD ls (s .to) false)
       → (getD ls (farEnd ls s) false ≡ false) × (eqb (s .to) (farEnd ls s) ≡ getD ls (s .from) false) × (getD ls (otherEnd s (farEnd ls s)) false ≡ true) × (getD ls (s .from) false ≡ false → s .from ≡ farEnd ls s)
   far-facts ls s c = by-cases (getD ls (s .from) false)
@@ -153,20 +154,20 @@ module _ (n : ℕ) (ss : List Stream) (plain : Plain n ss) (xs : List ℕ) (d ro
   pub far-near : (ls : List Bool) (k : ℕ) → k < length ss → farEnd ls (streamAt ss k) ≤ n
   far-near ls k l = by-cases (getD ls (streamAt ss k .from) false) (λ t. rw t (plain .inside k l .1)) (λ t. rw t (plain .inside k l .0))
 
-  -- One place more is labelled.
-  pub add-growing : (ps : List ℕ) (t : Tree) (i : ℕ) → Growing n ss xs d root ps t → i < length ss → startIn ss (t .labelled) i ≡ not (endIn ss (t .labelled) i)
-      → slackAt ss xs ps d i (startIn ss (t .labelled) i) ≡ 0 → d ≤ getD xs i 0
-      → Growing n ss xs d root ps (addedTo t i (farEnd (t .labelled) (streamAt ss i)))
+  -- One place more is visited.
+  pub add-growing : (ps : List ℕ) (t : Tree) (i : ℕ) → Growing n ss xs d root ps t → i < length ss → startIn ss (t .visited) i ≡ not (endIn ss (t .visited) i)
+      → slackAt ss xs ps d i (startIn ss (t .visited) i) ≡ 0 → d ≤ getD xs i 0
+      → Growing n ss xs d root ps (addedTo t i (farEnd (t .visited) (streamAt ss i)))
   add-growing ps t i h li c z room = record {
     held = h .held;
-    labels = length-set (t .labelled) e true ∙ h .labels;
+    visits = length-set (t .visited) e true ∙ h .visits;
     vias = length-set (t .via) (t .len) i ∙ h .vias;
     endings = length-set (t .ends) (t .len) e ∙ h .endings;
     marks = marks;
     links = links;
     counted =
-        count-more n e (λ v. getD (t .labelled) v false) (λ v. getD (set (t .labelled) e true) v false) le (f .0) (getD-set-same (t .labelled) e true false small-e)
-        (λ v q. getD-set-other (t .labelled) e v true false q)
+        count-more n e (λ v. getD (t .visited) v false) (λ v. getD (set (t .visited) e true) v false) le (f .0) (getD-set-same (t .visited) e true false small-e)
+        (λ v q. getD-set-other (t .visited) e v true false q)
         ∙ ap suc (h .counted) ∙ omega arith;
   }
     where
@@ -174,21 +175,21 @@ module _ (n : ℕ) (ss : List Stream) (plain : Plain n ss) (xs : List ℕ) (d ro
       s = streamAt ss i
 
       e : ℕ
-      e = farEnd (t .labelled) s
+      e = farEnd (t .visited) s
 
-      f : (getD (t .labelled) e false ≡ false) × (eqb (s .to) e ≡ getD (t .labelled) (s .from) false) × (getD (t .labelled) (otherEnd s e) false ≡ true) × (getD (t .labelled) (s .from) false ≡ false → s .from ≡ e)
-      f = far-facts (t .labelled) s c
+      f : (getD (t .visited) e false ≡ false) × (eqb (s .to) e ≡ getD (t .visited) (s .from) false) × (getD (t .visited) (otherEnd s e) false ≡ true) × (getD (t .visited) (s .from) false ≡ false → s .from ≡ e)
+      f = far-facts (t .visited) s c
 
       le : e ≤ n
-      le = far-near (t .labelled) i li
+      le = far-near (t .visited) i li
 
-      small-e : e < length (t .labelled)
-      small-e = rw (h .labels) (omega (arith, le, plain .small))
+      small-e : e < length (t .visited)
+      small-e = rw (h .visits) (omega (arith, le, plain .small))
 
       few : t .len < places
       few =
           omega
-          (arith, h .counted, count-more n e (λ v. getD (t .labelled) v false) (λ v. getD (set (t .labelled) e true) v false) le (f .0) (getD-set-same (t .labelled) e true false small-e) (λ v q. getD-set-other (t .labelled) e v true false q), count-most n (λ v. getD (set (t .labelled) e true) v false), plain .small)
+          (arith, h .counted, count-more n e (λ v. getD (t .visited) v false) (λ v. getD (set (t .visited) e true) v false) le (f .0) (getD-set-same (t .visited) e true false small-e) (λ v q. getD-set-other (t .visited) e v true false q), count-most n (λ v. getD (set (t .visited) e true) v false), plain .small)
 
       -- The new place and its stream, as they are stored.
       end-new : getD (set (t .ends) (t .len) e) (t .len) 0 ≡ e
@@ -206,16 +207,16 @@ module _ (n : ℕ) (ss : List Stream) (plain : Plain n ss) (xs : List ℕ) (d ro
       suc-len : t .len + 1 ≡ suc (t .len)
       suc-len = omega arith
 
-      marks : (v : ℕ) → v < places → getD (set (t .labelled) e true) v false ≡ reached root (set (t .ends) (t .len) e) (t .len + 1) v
+      marks : (v : ℕ) → v < places → getD (set (t .visited) e true) v false ≡ reached root (set (t .ends) (t .len) e) (t .len + 1) v
       marks v l =
-          get-set (t .labelled) e v true false small-e
-          ∙ rw (suc-len, end-new, reached-set root (t .ends) (t .len) e (t .len) v (omega arith), ← h .marks v l) (or-pick (eqb e v) (getD (t .labelled) v false))
+          get-set (t .visited) e v true false small-e
+          ∙ rw (suc-len, end-new, reached-set root (t .ends) (t .len) e (t .len) v (omega arith), ← h .marks v l) (or-pick (eqb e v) (getD (t .visited) v false))
         where
           or-pick : (a b : Bool) → pick a true b ≡ a || b
           or-pick true b = refl
           or-pick false b = refl
 
-      marked : (v : ℕ) → v < places → reached root (set (t .ends) (t .len) e) (t .len) v ≡ getD (t .labelled) v false
+      marked : (v : ℕ) → v < places → reached root (set (t .ends) (t .len) e) (t .len) v ≡ getD (t .visited) v false
       marked v l = reached-set root (t .ends) (t .len) e (t .len) v (omega arith) ∙ sym (h .marks v l)
 
       other-small : otherEnd s e < places

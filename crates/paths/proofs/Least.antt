@@ -1,4 +1,4 @@
--- The stream of least slack: of the usable streams that leave the labelled places, none has less.
+-- The stream of least slack: of the usable streams that leave the visited places, none has less.
 use mathlib.Core.Path.{_≡_, refl, sym, _∙_, ap, subst}
 use mathlib.Core.Bool.{Bool, true, false, _&&_, not}
 use mathlib.Core.List.{List}
@@ -31,14 +31,14 @@ all-usable ss k = go (streamAt ss k .metered)
     go true = le-ltb k 0 (omega arith)
     go false = refl
 
--- Whether the start and the end of stream k are labelled.
+-- Whether the start and the end of stream k are visited.
 abbrev pub startIn : List Stream → List Bool → ℕ → Bool
 startIn ss ls k = getD ls (streamAt ss k .from) false
 
 abbrev pub endIn : List Stream → List Bool → ℕ → Bool
 endIn ss ls k = getD ls (streamAt ss k .to) false
 
--- Stream i leaves the labelled places with slack g, no usable one among the first n does with less, and none before it with as little.
+-- Stream i leaves the visited places with slack g, no usable one among the first n does with less, and none before it with as little.
 pub record Least (ss : List Stream) (xs ps : List ℕ) (ls : List Bool) (d skip n i g : ℕ) : Type 0 where
   pub below : i < n
   pub usable : Usable ss skip i
@@ -62,7 +62,7 @@ module _ (ss : List Stream) (xs ps : List ℕ) (ls : List Bool) (d skip : ℕ) w
   abbrev NoEarlier : ℕ → ℕ → ℕ → Type 0
   NoEarlier i g k = Usable ss skip k → startIn ss ls k ≡ not (endIn ss ls k) → slackAt ss xs ps d k (startIn ss ls k) ≤ g → i ≤ k
 
-  -- Stream n is left alone, or does not leave the labelled places.
+  -- Stream n is left alone, or does not leave the visited places.
   more : (n : ℕ) (f : Crossing) → Answers ss xs ps ls d skip n f → (Usable ss skip n → startIn ss ls n ≡ endIn ss ls n) → Answers ss xs ps ls d skip (suc n) f
   more n Nothing h e = upto (λ k. Usable ss skip k → startIn ss ls k ≡ endIn ss ls k) n h e
   more n (At i g) h e = record {
@@ -138,7 +138,3 @@ module _ (ss : List Stream) (xs ps : List ℕ) (ls : List Bool) (d skip : ℕ) w
 
   pub answers-same : (n : ℕ) (f : Crossing) → Answers ss xs ps ls d skip n f → leastTo ss xs ps ls d skip n ≡ f
   answers-same n f a = answer-one n (leastTo ss xs ps ls d skip n) f (least-good n) a
-
--- What is found is one of the first n.
-pub found-below : (ss : List Stream) (xs ps : List ℕ) (ls : List Bool) (d skip n i g : ℕ) → leastTo ss xs ps ls d skip n ≡ At i g → i < n
-found-below ss xs ps ls d skip n i g e = subst (Answers ss xs ps ls d skip n) e (least-good ss xs ps ls d skip n) .below

@@ -12,6 +12,7 @@ pub mod Finds
 pub mod Rounding
 pub mod Amounts
 pub mod Pushing
+pub mod Rows
 pub mod Counting
 pub mod Closed
 pub mod Growing

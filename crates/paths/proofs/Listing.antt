@@ -1,6 +1,6 @@
 -- The lists of streams: how they are made, and that a place's list has all its streams.
 use mathlib.Core.Path.{_≡_, refl, sym, _∙_, ap}
-use mathlib.Core.Bool.{Bool, true, false, _||_}
+use mathlib.Core.Bool.{Bool, true, false, not, _||_}
 use mathlib.Core.List.{List}
 use mathlib.Core.Logic.{_⊎_, inl, inr, ⊎-elim}
 use Prim.Native.Nat.{ℕ, zero, suc, _+_, _*_, _≤_, _<_}
@@ -9,13 +9,14 @@ use native.Mathlib.Decide.{ℕ-discrete}
 use native.Mathlib.Numerals.{add-one}
 use borrow.Author.Tests.{ltb-true, lt-ltb, le-ltb, eq-eqb, ne-eqb, eqb-true}
 use lib.Dec.{eqb, ltb}
-use lib.ListN.{length, getD, set, replicate, length-set, getD-replicate}
+use lib.ListN.{length, getD, set, length-set}
 use lib.Seq.{getD-set-same, getD-set-other}
 use Rattle.numbers.specs.Choice.{pick}
 use Rattle.numbers.proofs.Tests.{by-cases, clash}
 use Rattle.plants.specs.Limits.{places, maxStreams}
-use Rattle.paths.specs.Near.{lastAt, relaxedAt, relaxedTo}
-use Rattle.paths.specs.Premises.{Linked}
+use Rattle.paths.specs.Rows.{rowAt, laneCells}
+use Rattle.paths.specs.Near.{lastAt, relaxedAlong, relaxedAt, relaxedTo}
+use Rattle.paths.specs.Premises.{Linkable, Linked}
 use Rattle.paths.proofs.Amounts.{get-set}
 
 module _ (fs ts : List ℕ) where
@@ -71,34 +72,43 @@ module _ (fs ts : List ℕ) where
         (λ t. absurd (omega (arith, rw t at l)))
         (λ t. rw (untouched n near t) (relaxed-none n near (omega (arith, rw t at l))))
 
-  -- One stream more in the lists.
-  pub link-step : (i : ℕ) (next : List ℕ) → i < maxStreams → getD fs i 0 < places → getD ts i 0 < places → Linked i fs ts next
+  -- A stream that touches place e, by whether it starts there.
+  module _ (e i : ℕ) (t : touches e i ≡ true) where
+    other : eqb (getD fs i 0) e ≡ false → eqb (getD ts i 0) e ≡ true
+    other h = rw h at t
+
+    pub tail-touching : (f : Bool) → f ≡ eqb (getD fs i 0) e → pick f (getD fs i 0) (getD ts i 0) ≡ e
+    tail-touching true h = eqb-true (getD fs i 0) e (sym h)
+    tail-touching false h = eqb-true (getD ts i 0) e (other (sym h))
+
+    pub relaxed-touching : (G : Bool → List ℕ) (ls : List Bool) (k : ℕ) (near : List ℕ) (f : Bool) → f ≡ eqb (getD fs i 0) e
+        → relaxedAlong ls k (pick (not f) (getD fs i 0) (getD ts i 0)) (getD (G f) i 0) i near ≡ relaxedAt fs ts (G true) (G false) ls k e i near
+    unfolding relaxedAt
+    relaxed-touching G ls k near true h = rw (← h)
+    relaxed-touching G ls k near false h = rw (← h, other (sym h))
+
+  -- One stream more in the lists, from place u to place v.
+  pub link-step : (i u v : ℕ) (next : List ℕ) → i < maxStreams → u ≡ getD fs i 0 → v ≡ getD ts i 0 → u < places → v < places → Linked i fs ts next
       → Linked (i + 1) fs ts
-      (set (set (set (set next (places + i) (getD next (getD fs i 0) 0)) (places + maxStreams + i) (getD (set next (places + i) (getD next (getD fs i 0) 0)) (getD ts i 0) 0)) (getD fs i 0) i) (getD ts i 0) i)
+      (set (set (set (set next (rowAt 0 + i) (getD next u 0)) (rowAt 1 + i) (getD (set next (rowAt 0 + i) (getD next u 0)) v 0)) u i) v i)
   unfolding lastAt
-  link-step i next l fu tv h = record {
+  link-step i u v next l iu iv fu tv h = record {
     long = length-set n3 v i ∙ length-set n2 u i ∙ length-set n1 (places + maxStreams + i) (getD n1 v 0) ∙ long1;
     last = λ w b. rw add-one (top w b);
     out = λ k b. elim (ℕ-discrete k i) [
       | yes q ↦ rw q (low (places + i) (omega arith) ∙ getD-set-other n1 (places + maxStreams + i) (places + i) (getD n1 v 0) 0 (λ o. omega arith)
-          ∙ getD-set-same next (places + i) (getD next u 0) 0 (omega (arith, h .long)) ∙ h .last u fu)
+          ∙ getD-set-same next (places + i) (getD next u 0) 0 (omega (arith, h .long)) ∙ h .last u fu ∙ ap (λ (w : ℕ). lastAt fs ts w i) iu)
       | no q ↦ low (places + k) (omega arith) ∙ getD-set-other n1 (places + maxStreams + i) (places + k) (getD n1 v 0) 0 (λ o. omega arith)
           ∙ getD-set-other next (places + i) (places + k) (getD next u 0) 0 (λ o. q (omega arith)) ∙ h .out k (omega arith)
     ];
     into = λ k b. elim (ℕ-discrete k i) [
       | yes q ↦ rw q (low (places + maxStreams + i) (omega arith) ∙ getD-set-same n1 (places + maxStreams + i) (getD n1 v 0) 0 (omega (arith, long1))
-          ∙ getD-set-other next (places + i) v (getD next u 0) 0 (λ o. omega arith) ∙ h .last v tv)
+          ∙ getD-set-other next (places + i) v (getD next u 0) 0 (λ o. omega arith) ∙ h .last v tv ∙ ap (λ (w : ℕ). lastAt fs ts w i) iv)
       | no q ↦ low (places + maxStreams + k) (omega arith) ∙ getD-set-other n1 (places + maxStreams + i) (places + maxStreams + k) (getD n1 v 0) 0 (λ o. q (omega arith))
           ∙ getD-set-other next (places + i) (places + maxStreams + k) (getD next u 0) 0 (λ o. omega arith) ∙ h .into k (omega arith)
     ];
   }
     where
-      u : ℕ
-      u = getD fs i 0
-
-      v : ℕ
-      v = getD ts i 0
-
       n1 : List ℕ
       n1 = set next (places + i) (getD next u 0)
 
@@ -108,13 +118,13 @@ module _ (fs ts : List ℕ) where
       n3 : List ℕ
       n3 = set n2 u i
 
-      long1 : length n1 ≡ places + 2 * maxStreams
+      long1 : length n1 ≡ laneCells
       long1 = length-set next (places + i) (getD next u 0) ∙ h .long
 
-      long2 : length n2 ≡ places + 2 * maxStreams
+      long2 : length n2 ≡ laneCells
       long2 = length-set n1 (places + maxStreams + i) (getD n1 v 0) ∙ long1
 
-      long3 : length n3 ≡ places + 2 * maxStreams
+      long3 : length n3 ≡ laneCells
       long3 = length-set n2 u i ∙ long2
 
       low : (c : ℕ) → places ≤ c → getD (set n3 v i) c 0 ≡ getD n2 c 0
@@ -126,7 +136,7 @@ module _ (fs ts : List ℕ) where
       top : (w : ℕ) → w < places → getD (set n3 v i) w 0 ≡ pick (touches w i) i (lastAt fs ts w i)
       top w b =
           get-set n3 v w i 0 (omega (arith, long3))
-          ∙ rw (get-set n2 u w i 0 (omega (arith, long2)), old w b, h .last w b) (both (eqb u w) (eqb v w) i (lastAt fs ts w i))
+          ∙ rw (get-set n2 u w i 0 (omega (arith, long2)), old w b, h .last w b, ← iu, ← iv) (both (eqb u w) (eqb v w) i (lastAt fs ts w i))
         where
           both : (a c : Bool) (x y : ℕ) → pick c x (pick a x y) ≡ pick (a || c) x y
           both true true x y = refl
@@ -134,12 +144,7 @@ module _ (fs ts : List ℕ) where
           both false true x y = refl
           both false false x y = refl
 
--- Empty lists.
-pub link-none : (fs ts : List ℕ) → Linked 0 fs ts (replicate (places + 2 * maxStreams) maxStreams)
-unfolding lastAt
-link-none fs ts = record {
-  long = refl;
-  last = λ u b. getD-replicate (places + 2 * maxStreams) u maxStreams 0 (omega arith);
-  out = λ k b. absurd (omega arith);
-  into = λ k b. absurd (omega arith);
-}
+  -- Empty lists.
+  pub link-none : {n : ℕ} {ls : List ℕ} → Linkable n ls → Linked 0 fs ts ls
+  unfolding lastAt
+  link-none h = record { long = h .long; last = h .none; out = λ k b. absurd (omega arith); into = λ k b. absurd (omega arith) }

@@ -63,11 +63,11 @@ module _ (n : ℕ) (fs ts gs bs : List ℕ) where
   abbrev pub slackOf : ℕ → Bool → ℕ
   slackOf k f = pick f (getD gs k 0) (getD bs k 0)
 
-  -- The distance over stream k; ks are the distances of labelled places.
+  -- The distance over stream k; ks are the distances of visited places.
   abbrev pub overOf : List ℕ → ℕ → Bool → ℕ
   overOf ks k f = getD ks (tailOf k f) 0 + slackOf k f
 
-  -- A stream that leads from a labelled place to place v, with code c.
+  -- A stream that leads from a visited place to place v, with code c.
   pub record Leads (ls : List Bool) (ks : List ℕ) (v c : ℕ) : Type 0 where
     pub stream : ℕ
     pub forwards : Bool
@@ -171,7 +171,7 @@ module _ (n : ℕ) (fs ts gs bs : List ℕ) where
       relaxed-good zero near l h = h
       relaxed-good (suc i) near l h = relaxed-good i (relaxedAt fs ts gs bs ls j e i near) (omega arith) (looked i near (omega arith) h)
 
-  -- The nearest place r is labelled, at a distance from which no code is below `more`.
+  -- The nearest place r is visited, at a distance from which no code is below `more`.
   pub next-good : (ls : List Bool) (ks js : List ℕ) (low e : ℕ) (near : List ℕ) (r more : ℕ) → Nears ls ks low e 0 near → r < places → length ls ≡ places
       → getD ls r false ≡ false → ((u : ℕ) → (u ≡ r → ⊥) → getD js u 0 ≡ getD ks u 0) → more ≤ far → ((v : ℕ) → v < places → more ≤ getD near v 0)
       → Nears (set ls r true) js more r n (set near r far)

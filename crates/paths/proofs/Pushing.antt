@@ -19,7 +19,7 @@ use Rattle.paths.specs.Slack.{slackBy}
 use Rattle.paths.specs.Push.{movedOf, otherEnd, pushed}
 use Rattle.paths.proofs.Amounts.{net, net-set, get-set}
 
--- The first place and the next j that were labelled.
+-- The first place and the next j that were visited.
 abbrev pub reached : ℕ → List ℕ → ℕ → ℕ → Bool
 reached root ends zero v = eqb root v
 reached root ends (suc j) v = eqb (getD ends j 0) v || reached root ends j v
@@ -32,7 +32,7 @@ reached-more root ends j (suc k) v l h =
 pub reached-new : (root : ℕ) (ends : List ℕ) (j : ℕ) → reached root ends (suc j) (getD ends j 0) ≡ true
 reached-new root ends j = rw (eq-eqb (getD ends j 0) (getD ends j 0) refl)
 
--- Remembered stream k leads from the places labelled before it to a new one, has no slack and room for d less.
+-- Remembered stream k leads from the places visited before it to a new one, has no slack and room for d less.
 pub record Link (ss : List Stream) (xs ps : List ℕ) (d root : ℕ) (via ends : List ℕ) (k : ℕ) : Type 0 where
   pub inside : getD via k 0 < length ss
   pub fresh : reached root ends k (getD ends k 0) ≡ false
@@ -93,7 +93,7 @@ eqb-pick true f t u = refl
 eqb-pick false f t u = refl
 
 module _ (ss : List Stream) (ps : List ℕ) (d root : ℕ) (via ends : List ℕ) where
-  -- Both ends of a remembered stream are labelled after it,
+  -- Both ends of a remembered stream are visited after it,
   pub both-reached : (xs : List ℕ) (k j : ℕ) → k < j → Link ss xs ps d root via ends k
       → (reached root ends j (streamAt ss (getD via k 0) .from) ≡ true) × (reached root ends j (streamAt ss (getD via k 0) .to) ≡ true)
   both-reached xs k j l h = by-cases (eqb (streamAt ss (getD via k 0) .to) (getD ends k 0))

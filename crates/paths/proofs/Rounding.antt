@@ -15,16 +15,18 @@ use Rattle.plants.specs.Plants.{noStream}
 use Rattle.flows.specs.Flows.{streamAt}
 use Rattle.paths.specs.declared.Tree.{Tree}
 use Rattle.paths.specs.declared.Walked.{Walked}
-use Rattle.paths.specs.Sizes.{netShift, rounds, numbering, far}
+use Rattle.paths.specs.Sizes.{netShift, searchRounds, numbering, far}
 use Rattle.paths.specs.Slack.{Crossing, At, Nothing, leastTo, slackAt}
 use Rattle.paths.specs.Search.{farEnd, rootAt, addedTo, Grown, grownBy, tightPath}
-use Rattle.paths.specs.Near.{relaxedTo, nearestTo, goalAt, walkedBy, walked}
+use Rattle.paths.specs.Rows.{countOf, startsOf, endsOf}
+use Rattle.paths.specs.Premises.{Searching}
+use Rattle.paths.specs.Near.{gapsOf, relaxedTo, nearestTo, goalAt, walkedBy, walked}
 use Rattle.paths.proofs.Least.{Usable, startIn, endIn, Answers, least-good, answers-same}
 use Rattle.paths.proofs.Rounds.{path-none, path-stop, path-hit, path-more, path-end}
 use Rattle.paths.proofs.Steps.{walk-none, walk-far, walk-hit, walk-more, walk-end}
 use Rattle.paths.proofs.Nearing.{tailOf, headOf, slackOf, overOf, Leads, Nears, relaxed-good, next-good}
 use Rattle.paths.proofs.Walks.{leaving, leads-on, Told, told, none-leads}
-use Rattle.paths.proofs.Finds.{Slacked, heads, tails, slack-small, usable-slack, left-alone, zeros, root-nears}
+use Rattle.paths.proofs.Finds.{Slacked, slacked, heads, tails, slack-small, usable-slack, left-alone, zeros, root-nears}
 
 -- Only place v has a negative net.
 goal-hit : (v : ℕ) → v < places → getD (goalAt v) v 0 < netShift
@@ -45,16 +47,16 @@ module _ (streams : List Stream) (n : ℕ) (xs ps : List ℕ) (skip : ℕ) (fs t
 
   -- From place e, all distances 0.
   pub record Tight (e : ℕ) (ks near : List ℕ) (t : Tree) : Type 0 where
-    pub nears : Nears n fs ts gs bs (t .labelled) ks 0 e n near
-    pub marked : getD (t .labelled) e false ≡ true
-    pub labels : length (t .labelled) ≡ places
+    pub nears : Nears n fs ts gs bs (t .visited) ks 0 e n near
+    pub marked : getD (t .visited) e false ≡ true
+    pub visits : length (t .visited) ≡ places
     pub dists : length ks ≡ places
     pub none : (u : ℕ) → getD ks u 0 ≡ 0
 
   -- One round.
   module _ (l e : ℕ) (ks near : List ℕ) (t : Tree) (g : Tight e ks near t) where
     abbrev codes : List ℕ
-    codes = relaxedTo fs ts gs bs (t .labelled) 0 e n near
+    codes = relaxedTo fs ts gs bs (t .visited) 0 e n near
 
     abbrev r : ℕ
     r = nearestTo codes places
@@ -62,41 +64,41 @@ module _ (streams : List Stream) (n : ℕ) (xs ps : List ℕ) (skip : ℕ) (fs t
     abbrev j : ℕ
     j = getD codes r 0 / numbering
 
-    full : Nears n fs ts gs bs (t .labelled) ks 0 e 0 codes
+    full : Nears n fs ts gs bs (t .visited) ks 0 e 0 codes
     full =
-        relaxed-good n fs ts gs bs (t .labelled) ks 0 e (heads streams n xs ps 1 skip fs ts gs bs laid) (g .marked) 0 (g .none e) (omega arith) n near (omega arith)
+        relaxed-good n fs ts gs bs (t .visited) ks 0 e (heads streams n xs ps 1 skip fs ts gs bs laid) (g .marked) 0 (g .none e) (omega arith) n near (omega arith)
         (g .nears)
 
     over : (i : ℕ) (f : Bool) → overOf n fs ts gs bs ks i f ≡ slackOf n fs ts gs bs i f
     over i f = rw (g .none (tailOf n fs ts gs bs i f)) (omega arith)
 
-    -- No usable stream without slack leaves the labelled places.
-    shut : ((i : ℕ) → i < n → Usable ss skip i → startIn ss (t .labelled) i ≡ not (endIn ss (t .labelled) i) → 0 < slackAt ss xs ps 1 i (startIn ss (t .labelled) i))
+    -- No usable stream without slack leaves the visited places.
+    shut : ((i : ℕ) → i < n → Usable ss skip i → startIn ss (t .visited) i ≡ not (endIn ss (t .visited) i) → 0 < slackAt ss xs ps 1 i (startIn ss (t .visited) i))
         → tightPath ss n xs ps v skip (suc l) t ≡ grownBy false t ps
-    shut lack = go _ refl (least-good ss xs ps (t .labelled) 1 skip n)
+    shut lack = go _ refl (least-good ss xs ps (t .visited) 1 skip n)
       where
-        go : (f : Crossing) → leastTo ss xs ps (t .labelled) 1 skip n ≡ f → Answers ss xs ps (t .labelled) 1 skip n f → tightPath ss n xs ps v skip (suc l) t ≡ grownBy false t ps
+        go : (f : Crossing) → leastTo ss xs ps (t .visited) 1 skip n ≡ f → Answers ss xs ps (t .visited) 1 skip n f → tightPath ss n xs ps v skip (suc l) t ≡ grownBy false t ps
         go Nothing e m = path-none streams n xs ps v skip t (suc l) (omega arith) e
         go (At i g) e m = path-stop streams n xs ps v skip t (suc l) i g (omega arith) e (omega (arith, m .is, lack i (m .below) (m .usable) (m .leaves)))
 
     none : r ≡ places → tightPath ss n xs ps v skip (suc l) t ≡ grownBy false t ps
     none q = shut (λ i b u c.
-        let o = leaving ss n fs ts gs bs starts ends (laid .network .few) (t .labelled) i b c in
+        let o = leaving ss n fs ts gs bs starts ends (laid .network .within .few-streams) (t .visited) i b c in
         absurd
-        (none-leads ss n fs ts gs bs starts ends (laid .network .few) (heads streams n xs ps 1 skip fs ts gs bs laid) (t .labelled) ks codes 0 e r full refl q i
-        (startIn ss (t .labelled) i) b (o .0) (o .1)
-        (rw (over i (startIn ss (t .labelled) i)) (omega (arith, slack-small streams n xs ps 1 skip fs ts gs bs laid (omega arith) i (startIn ss (t .labelled) i) b)))))
+        (none-leads ss n fs ts gs bs starts ends (laid .network .within .few-streams) (heads streams n xs ps 1 skip fs ts gs bs laid) (t .visited) ks codes 0 e r full refl q i
+        (startIn ss (t .visited) i) b (o .0) (o .1)
+        (rw (over i (startIn ss (t .visited) i)) (omega (arith, slack-small streams n xs ps 1 skip fs ts gs bs laid (omega arith) i (startIn ss (t .visited) i) b)))))
 
     module _ (q : r ≡ places → ⊥) where
-      tells : Told ss n fs ts gs bs starts ends (laid .network .few) (t .labelled) ks codes r
-      tells = told ss n fs ts gs bs starts ends (laid .network .few) (heads streams n xs ps 1 skip fs ts gs bs laid) (t .labelled) ks codes 0 e r full refl q
+      tells : Told ss n fs ts gs bs starts ends (laid .network .within .few-streams) (t .visited) ks codes r
+      tells = told ss n fs ts gs bs starts ends (laid .network .within .few-streams) (heads streams n xs ps 1 skip fs ts gs bs laid) (t .visited) ks codes 0 e r full refl q
 
-      least : (i : ℕ) → i < n → Usable ss skip i → startIn ss (t .labelled) i ≡ not (endIn ss (t .labelled) i)
-          → (j ≤ slackAt ss xs ps 1 i (startIn ss (t .labelled) i)) × (slackAt ss xs ps 1 i (startIn ss (t .labelled) i) ≤ j → tells .lead .stream ≤ i)
+      least : (i : ℕ) → i < n → Usable ss skip i → startIn ss (t .visited) i ≡ not (endIn ss (t .visited) i)
+          → (j ≤ slackAt ss xs ps 1 i (startIn ss (t .visited) i)) × (slackAt ss xs ps 1 i (startIn ss (t .visited) i) ≤ j → tells .lead .stream ≤ i)
       least i b u c =
-          let o = leaving ss n fs ts gs bs starts ends (laid .network .few) (t .labelled) i b c in
-          rw (sym (usable-slack streams n xs ps 1 skip fs ts gs bs laid i (startIn ss (t .labelled) i) b u), sym (over i (startIn ss (t .labelled) i)))
-          (tells .nearer i (startIn ss (t .labelled) i) b (o .0) (o .1))
+          let o = leaving ss n fs ts gs bs starts ends (laid .network .within .few-streams) (t .visited) i b c in
+          rw (sym (usable-slack streams n xs ps 1 skip fs ts gs bs laid i (startIn ss (t .visited) i) b u), sym (over i (startIn ss (t .visited) i)))
+          (tells .nearer i (startIn ss (t .visited) i) b (o .0) (o .1))
 
       above : 0 < j → tightPath ss n xs ps v skip (suc l) t ≡ grownBy false t ps
       above h = shut (λ i b u c. omega (arith, least i b u c .0))
@@ -109,11 +111,11 @@ module _ (streams : List Stream) (n : ℕ) (xs ps : List ℕ) (skip : ℕ) (fs t
         abbrev f : Bool
         f = tells .lead .forwards
 
-        off : getD (t .labelled) (headOf n fs ts gs bs i f) false ≡ false
+        off : getD (t .visited) (headOf n fs ts gs bs i f) false ≡ false
         off = rw (tells .lead .head) (tells .lead .off)
 
-        on : (startIn ss (t .labelled) i ≡ not (endIn ss (t .labelled) i)) × (startIn ss (t .labelled) i ≡ f) × (farEnd (t .labelled) (streamAt ss i) ≡ headOf n fs ts gs bs i f)
-        on = leads-on ss n fs ts gs bs starts ends (laid .network .few) (t .labelled) i f (tells .lead .below) (tells .lead .tail) off
+        on : (startIn ss (t .visited) i ≡ not (endIn ss (t .visited) i)) × (startIn ss (t .visited) i ≡ f) × (farEnd (t .visited) (streamAt ss i) ≡ headOf n fs ts gs bs i f)
+        on = leads-on ss n fs ts gs bs starts ends (laid .network .within .few-streams) (t .visited) i f (tells .lead .below) (tells .lead .tail) off
 
         tight : slackOf n fs ts gs bs i f ≡ 0
         tight = omega (arith, over i f, tells .distance)
@@ -121,8 +123,8 @@ module _ (streams : List Stream) (n : ℕ) (xs ps : List ℕ) (skip : ℕ) (fs t
         usable : Usable ss skip i
         usable = left-alone streams n xs ps 1 skip fs ts gs bs laid i f (tells .lead .below) tight
 
-        some : leastTo ss xs ps (t .labelled) 1 skip n ≡ At i 0
-        some = answers-same ss xs ps (t .labelled) 1 skip n (At i 0) (record {
+        some : leastTo ss xs ps (t .visited) 1 skip n ≡ At i 0
+        some = answers-same ss xs ps (t .visited) 1 skip n (At i 0) (record {
           below = tells .lead .below;
           usable = usable;
           leaves = on .0;
@@ -131,18 +133,18 @@ module _ (streams : List Stream) (n : ℕ) (xs ps : List ℕ) (skip : ℕ) (fs t
           first = λ m b u c h. least m b u c .1 (omega arith);
         })
 
-        far-end : farEnd (t .labelled) (getD streams i noStream) ≡ r
-        far-end = ap (farEnd (t .labelled)) (sym (getD-take n streams i noStream (tells .lead .below))) ∙ on .2 ∙ tells .lead .head
+        far-end : farEnd (t .visited) (getD streams i noStream) ≡ r
+        far-end = ap (farEnd (t .visited)) (sym (getD-take n streams i noStream (tells .lead .below))) ∙ on .2 ∙ tells .lead .head
 
         abbrev next : Tree
         next = addedTo t (getD codes r 0 % numbering) r
 
         going : Tight r (set ks r j) (set codes r far) next
         going = record {
-          nears = next-good n fs ts gs bs (t .labelled) ks (set ks r j) 0 e codes r 0 full (tells .within) (g .labels) (tells .lead .off)
+          nears = next-good n fs ts gs bs (t .visited) ks (set ks r j) 0 e codes r 0 full (tells .within) (g .visits) (tells .lead .off)
               (λ u o. getD-set-other ks r u j 0 o) (omega arith) (λ u b. omega arith);
-          marked = getD-set-same (t .labelled) r true false (rw (g .labels) (tells .within));
-          labels = length-set (t .labelled) r true ∙ g .labels;
+          marked = getD-set-same (t .visited) r true false (rw (g .visits) (tells .within));
+          visits = length-set (t .visited) r true ∙ g .visits;
           dists = length-set ks r j ∙ g .dists;
           none = λ u. elim (ℕ-discrete u r) [
             | yes o ↦ rw (o, getD-set-same ks r j 0 (rw (g .dists) (tells .within))) (omega arith)
@@ -201,11 +203,20 @@ module _ (streams : List Stream) (n : ℕ) (xs ps : List ℕ) (skip : ℕ) (fs t
 
   -- From the first place.
   pub path-walk : (s : ℕ) → s < places
-      → tightPath ss n xs ps v skip rounds (rootAt s) ≡ grownOf (walked fs ts gs bs n (goalAt v) 0 rounds 0 s (replicate places 0) (replicate places far) (rootAt s))
-  path-walk s l = walk-tight rounds s (replicate places 0) (replicate places far) (rootAt s) (record {
+      → tightPath ss n xs ps v skip searchRounds (rootAt s) ≡ grownOf (walked fs ts gs bs n (goalAt v) 0 searchRounds 0 s (replicate places 0) (replicate places far) (rootAt s))
+  path-walk s l = walk-tight searchRounds s (replicate places 0) (replicate places far) (rootAt s) (record {
     nears = root-nears n fs ts gs bs s l (tails streams n xs ps 1 skip fs ts gs bs laid);
     marked = getD-set-same (replicate places false) s true false l;
-    labels = length-set (replicate places false) s true;
+    visits = length-set (replicate places false) s true;
     dists = refl;
     none = zeros places;
   })
+
+-- Over the lanes.
+pub path-laid : (ls xs ps : List ℕ) (v skip s : ℕ) → v < places → s < places → (w : Searching ls xs ps 1) → (r : Walked)
+    → r ≡ walked (startsOf ls) (endsOf ls) (gapsOf ls xs ps 1 skip true) (gapsOf ls xs ps 1 skip false) (countOf ls) (goalAt v) 0 searchRounds 0 s (replicate places 0) (replicate places far) (rootAt s)
+    → grownBy (r .found) (r .tree) ps ≡ tightPath (take (w .n) (w .streams)) (w .n) xs ps v skip searchRounds (rootAt s)
+path-laid ls xs ps v skip s lv l w r e =
+    ap (λ (q : Walked). grownBy (q .found) (q .tree) ps)
+    (e ∙ ap (λ (m : ℕ). walked (startsOf ls) (endsOf ls) (gapsOf ls xs ps 1 skip true) (gapsOf ls xs ps 1 skip false) m (goalAt v) 0 searchRounds 0 s (replicate places 0) (replicate places far) (rootAt s)) (w .laid .counted))
+    ∙ sym (path-walk (w .streams) (w .n) xs ps skip (startsOf ls) (endsOf ls) _ _ (slacked (w .streams) (w .n) xs ps 1 skip ls (w .laid) (w .walkable)) v lv s l)

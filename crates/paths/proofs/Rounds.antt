@@ -16,31 +16,24 @@ use Rattle.paths.specs.Slack.{At, Nothing, considered, leastTo}
 use Rattle.paths.specs.Search.{loweredBy, farEnd, addedTo, grownBy, grow, tightPath}
 use Rattle.paths.specs.Push.{movedOf, otherEnd, pushed}
 
--- One stream more is considered.
-pub least-next : (streams : List Stream) (n : ℕ) (xs ps : List ℕ) (ls : List Bool) (d skip i : ℕ) → i < n
-    → leastTo (take n streams) xs ps ls d skip (i + 1)
-    ≡ considered ps ls d skip (leastTo (take n streams) xs ps ls d skip i) i (getD streams i noStream) (getD xs i 0)
-unfolding leastTo
-least-next streams n xs ps ls d skip i l = rw (add-one, getD-take n streams i noStream l)
-
 module _ (streams : List Stream) (n : ℕ) (xs es : List ℕ) (d : ℕ) (ps : List ℕ) (t : Tree) where
-  -- The search: no stream leaves the labelled places; the new place has a negative net; or it has not.
-  pub grow-none : (l : ℕ) → 0 < l → leastTo (take n streams) xs ps (t .labelled) d 0 n ≡ Nothing → grow (take n streams) n xs es d l ps t ≡ grownBy false t ps
+  -- The search: no stream leaves the visited places; the new place has a negative net; or it has not.
+  pub grow-none : (l : ℕ) → 0 < l → leastTo (take n streams) xs ps (t .visited) d 0 n ≡ Nothing → grow (take n streams) n xs es d l ps t ≡ grownBy false t ps
   unfolding grow
   grow-none zero p e = absurd (omega arith)
   grow-none (suc l) p e = simp e
 
-  pub grow-hit : (l i g : ℕ) → 0 < l → i < n → leastTo (take n streams) xs ps (t .labelled) d 0 n ≡ At i g
-      → getD es (farEnd (t .labelled) (getD streams i noStream)) 0 < netShift
-      → grow (take n streams) n xs es d l ps t ≡ grownBy true (addedTo t i (farEnd (t .labelled) (getD streams i noStream))) (loweredBy (t .labelled) g ps)
+  pub grow-hit : (l i g : ℕ) → 0 < l → i < n → leastTo (take n streams) xs ps (t .visited) d 0 n ≡ At i g
+      → getD es (farEnd (t .visited) (getD streams i noStream)) 0 < netShift
+      → grow (take n streams) n xs es d l ps t ≡ grownBy true (addedTo t i (farEnd (t .visited) (getD streams i noStream))) (loweredBy (t .visited) g ps)
   unfolding grow
   grow-hit zero i g p k e h = absurd (omega arith)
   grow-hit (suc l) i g p k e h = simp (e, getD-take n streams i noStream k, lt-ltb _ _ h)
 
-  pub grow-more : (l i g : ℕ) → 0 < l → i < n → leastTo (take n streams) xs ps (t .labelled) d 0 n ≡ At i g
-      → netShift ≤ getD es (farEnd (t .labelled) (getD streams i noStream)) 0
+  pub grow-more : (l i g : ℕ) → 0 < l → i < n → leastTo (take n streams) xs ps (t .visited) d 0 n ≡ At i g
+      → netShift ≤ getD es (farEnd (t .visited) (getD streams i noStream)) 0
       → grow (take n streams) n xs es d l ps t
-      ≡ grow (take n streams) n xs es d (l - 1) (loweredBy (t .labelled) g ps) (addedTo t i (farEnd (t .labelled) (getD streams i noStream)))
+      ≡ grow (take n streams) n xs es d (l - 1) (loweredBy (t .visited) g ps) (addedTo t i (farEnd (t .visited) (getD streams i noStream)))
   unfolding grow
   grow-more zero i g p k e h = absurd (omega arith)
   grow-more (suc l) i g p k e h = let z : suc l - 1 ≡ l = omega arith in rw z (simp (e, getD-take n streams i noStream k, le-ltb _ _ h))
@@ -51,34 +44,34 @@ module _ (streams : List Stream) (n : ℕ) (xs es : List ℕ) (d : ℕ) (ps : Li
 
 -- The search over streams without slack: none leaves; the least has slack; the new place is v; or it is not.
 module _ (streams : List Stream) (n : ℕ) (xs ps : List ℕ) (v skip : ℕ) (t : Tree) where
-  pub path-none : (l : ℕ) → 0 < l → leastTo (take n streams) xs ps (t .labelled) 1 skip n ≡ Nothing → tightPath (take n streams) n xs ps v skip l t ≡ grownBy false t ps
+  pub path-none : (l : ℕ) → 0 < l → leastTo (take n streams) xs ps (t .visited) 1 skip n ≡ Nothing → tightPath (take n streams) n xs ps v skip l t ≡ grownBy false t ps
   unfolding tightPath
   path-none zero p e = absurd (omega arith)
   path-none (suc l) p e = simp e
 
-  pub path-stop : (l i g : ℕ) → 0 < l → leastTo (take n streams) xs ps (t .labelled) 1 skip n ≡ At i g → 0 < g
+  pub path-stop : (l i g : ℕ) → 0 < l → leastTo (take n streams) xs ps (t .visited) 1 skip n ≡ At i g → 0 < g
       → tightPath (take n streams) n xs ps v skip l t ≡ grownBy false t ps
   unfolding tightPath
   path-stop zero i g p e h = absurd (omega arith)
   path-stop (suc l) i g p e h = simp (e, lt-ltb 0 g h)
 
-  pub path-hit : (l i g : ℕ) → 0 < l → i < n → leastTo (take n streams) xs ps (t .labelled) 1 skip n ≡ At i g → g ≤ 0
-      → farEnd (t .labelled) (getD streams i noStream) ≡ v
-      → tightPath (take n streams) n xs ps v skip l t ≡ grownBy true (addedTo t i (farEnd (t .labelled) (getD streams i noStream))) ps
+  pub path-hit : (l i g : ℕ) → 0 < l → i < n → leastTo (take n streams) xs ps (t .visited) 1 skip n ≡ At i g → g ≤ 0
+      → farEnd (t .visited) (getD streams i noStream) ≡ v
+      → tightPath (take n streams) n xs ps v skip l t ≡ grownBy true (addedTo t i (farEnd (t .visited) (getD streams i noStream))) ps
   unfolding tightPath
   path-hit zero i g p k e h q = absurd (omega arith)
   path-hit (suc l) i g p k e h q =
-      simp (e, le-ltb 0 g h, getD-take n streams i noStream k, eq-eqb (farEnd (t .labelled) (getD streams i noStream)) v q)
+      simp (e, le-ltb 0 g h, getD-take n streams i noStream k, eq-eqb (farEnd (t .visited) (getD streams i noStream)) v q)
 
-  pub path-more : (l i g : ℕ) → 0 < l → i < n → leastTo (take n streams) xs ps (t .labelled) 1 skip n ≡ At i g → g ≤ 0
-      → (farEnd (t .labelled) (getD streams i noStream) ≡ v → ⊥)
+  pub path-more : (l i g : ℕ) → 0 < l → i < n → leastTo (take n streams) xs ps (t .visited) 1 skip n ≡ At i g → g ≤ 0
+      → (farEnd (t .visited) (getD streams i noStream) ≡ v → ⊥)
       → tightPath (take n streams) n xs ps v skip l t
-      ≡ tightPath (take n streams) n xs ps v skip (l - 1) (addedTo t i (farEnd (t .labelled) (getD streams i noStream)))
+      ≡ tightPath (take n streams) n xs ps v skip (l - 1) (addedTo t i (farEnd (t .visited) (getD streams i noStream)))
   unfolding tightPath
   path-more zero i g p k e h q = absurd (omega arith)
   path-more (suc l) i g p k e h q =
       let z : suc l - 1 ≡ l = omega arith in
-      rw z (simp (e, le-ltb 0 g h, getD-take n streams i noStream k, ne-eqb (farEnd (t .labelled) (getD streams i noStream)) v q))
+      rw z (simp (e, le-ltb 0 g h, getD-take n streams i noStream k, ne-eqb (farEnd (t .visited) (getD streams i noStream)) v q))
 
   pub path-end : tightPath (take n streams) n xs ps v skip 0 t ≡ grownBy false t ps
   unfolding tightPath

@@ -37,27 +37,27 @@ pub data Path (n : ℕ) (ss : List Stream) (xs ps : List ℕ) (root v skip : ℕ
       → ((k : ℕ) → k < length ss → Usable ss skip k → startIn ss ls k ≡ not (endIn ss ls k) → 0 < slackAt ss xs ps 1 k (startIn ss ls k)) → Path n ss xs ps root v skip g
 
 module _ (n : ℕ) (ss : List Stream) (plain : Plain n ss) (xs ps : List ℕ) (root v skip : ℕ) (near : root ≤ n) (vnear : v ≤ n) (room : (k : ℕ) → k < length ss → 1 ≤ getD xs k 0) where
-  pub path-good : (l : ℕ) (t : Tree) → Growing n ss xs 1 root ps t → n ≤ l + t .len → getD (t .labelled) v false ≡ false → Used ss skip t
+  pub path-good : (l : ℕ) (t : Tree) → Growing n ss xs 1 root ps t → n ≤ l + t .len → getD (t .visited) v false ≡ false → Used ss skip t
       → Path n ss xs ps root v skip (tightPath ss (length ss) xs ps v skip l t)
   unfolding tightPath
-  path-good zero t h fuel off used = clash _ (count-full n (λ u. getD (t .labelled) u false) (omega (arith, h .counted)) v vnear) off
-  path-good (suc l) t h fuel off used = go (leastTo ss xs ps (t .labelled) 1 skip (length ss)) (least-good ss xs ps (t .labelled) 1 skip (length ss)) (path-good l)
+  path-good zero t h fuel off used = clash _ (count-full n (λ u. getD (t .visited) u false) (omega (arith, h .counted)) v vnear) off
+  path-good (suc l) t h fuel off used = go (leastTo ss xs ps (t .visited) 1 skip (length ss)) (least-good ss xs ps (t .visited) 1 skip (length ss)) (path-good l)
     where
-      start : getD (t .labelled) root false ≡ true
+      start : getD (t .visited) root false ≡ true
       start = h .marks root (omega (arith, plain .small)) ∙ reached-more root (t .ends) 0 (t .len) root (omega arith) (eq-eqb root root refl)
 
-      go : (f : Crossing) → Answers ss xs ps (t .labelled) 1 skip (length ss) f
-          → ((r : Tree) → Growing n ss xs 1 root ps r → n ≤ l + r .len → getD (r .labelled) v false ≡ false → Used ss skip r → Path n ss xs ps root v skip (tightPath ss (length ss) xs ps v skip l r))
+      go : (f : Crossing) → Answers ss xs ps (t .visited) 1 skip (length ss) f
+          → ((r : Tree) → Growing n ss xs 1 root ps r → n ≤ l + r .len → getD (r .visited) v false ≡ false → Used ss skip r → Path n ss xs ps root v skip (tightPath ss (length ss) xs ps v skip l r))
           → Path n ss xs ps root v skip (onCrossing f (grownBy false t ps) (λ i g. pick (ltb 0 g) (grownBy false t ps)
-          (pick (eqb (farEnd (t .labelled) (streamAt ss i)) v) (grownBy true (addedTo t i (farEnd (t .labelled) (streamAt ss i))) ps)
-          (tightPath ss (length ss) xs ps v skip l (addedTo t i (farEnd (t .labelled) (streamAt ss i)))))))
-      go Nothing m rec = shut refl (t .labelled) start off (λ k o u c. opposed (startIn ss (t .labelled) k) (endIn ss (t .labelled) k) (m k o u) c)
+          (pick (eqb (farEnd (t .visited) (streamAt ss i)) v) (grownBy true (addedTo t i (farEnd (t .visited) (streamAt ss i))) ps)
+          (tightPath ss (length ss) xs ps v skip l (addedTo t i (farEnd (t .visited) (streamAt ss i)))))))
+      go Nothing m rec = shut refl (t .visited) start off (λ k o u c. opposed (startIn ss (t .visited) k) (endIn ss (t .visited) k) (m k o u) c)
       go (At i g) m rec = by-cases (ltb 0 g)
-          (λ q. rw q (shut refl (t .labelled) start off (λ k o u c. omega (arith, m .least k o u c, ltb-true 0 g q))))
+          (λ q. rw q (shut refl (t .visited) start off (λ k o u c. omega (arith, m .least k o u c, ltb-true 0 g q))))
           (λ q. rw q (on q))
         where
           e : ℕ
-          e = farEnd (t .labelled) (streamAt ss i)
+          e = farEnd (t .visited) (streamAt ss i)
 
           r : Tree
           r = addedTo t i e
@@ -65,13 +65,13 @@ module _ (n : ℕ) (ss : List Stream) (plain : Plain n ss) (xs ps : List ℕ) (r
           on : ltb 0 g ≡ false → Path n ss xs ps root v skip (pick (eqb e v) (grownBy true r ps) (tightPath ss (length ss) xs ps v skip l r))
           on q = by-cases (eqb e v)
               (λ z. rw z (way refl more (subst (λ (u : ℕ). reached root (r .ends) (r .len) u ≡ true) (new-target t i e few ∙ eqb-true e v z) top) used′))
-              (λ z. rw z (rec r more (omega arith) (getD-set-other (t .labelled) e v true false (λ o. eqb-false e v z (sym o)) ∙ off) used′))
+              (λ z. rw z (rec r more (omega arith) (getD-set-other (t .visited) e v true false (λ o. eqb-false e v z (sym o)) ∙ off) used′))
             where
               more : Growing n ss xs 1 root ps r
               more = add-growing n ss plain xs 1 root ps t i h (m .below) (m .leaves) (omega (arith, m .is, ltb-false 0 g q)) (room i (m .below))
 
               few : t .len < length (t .ends)
-              few = rw (h .endings) (omega (arith, more .counted, count-most n (λ u. getD (r .labelled) u false), plain .small))
+              few = rw (h .endings) (omega (arith, more .counted, count-most n (λ u. getD (r .visited) u false), plain .small))
 
               top : reached root (r .ends) (r .len) (target r) ≡ true
               top =

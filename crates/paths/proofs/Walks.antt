@@ -1,4 +1,4 @@
--- A walk by distances labels the places that the search labels, over the same streams, and leaves the same prices.
+-- A walk by distances visits the places that the search visits, over the same streams, and leaves the same prices.
 use mathlib.Core.Path.{_≡_, refl, sym, _∙_, ap}
 use mathlib.Core.Bool.{Bool, true, false, not, true≢false, false≢true}
 use mathlib.Core.List.{List}
@@ -29,7 +29,7 @@ code-parts k i l =
     let m : (k * 128 + i) % 128 < 128 = mod-lt (k * 128 + i) (omega arith) in
     (omega (arith, q, m), omega (arith, q, m))
 
--- Prices after the distance grew to j and place r was labelled at it.
+-- Prices after the distance grew to j and place r was visited at it.
 pub reduced-next : (ls : List Bool) (ks ps : List ℕ) (k j r : ℕ) → k ≤ j → ((u : ℕ) → getD ks u 0 ≤ k) → r < length ls → r < length ks → getD ls r false ≡ false
     → loweredBy ls (j - k) (reducedBy ls ks k ps) ≡ reducedBy (set ls r true) (set ks r j) j ps
 reduced-next ls ks ps k j r l close small short off =
@@ -50,7 +50,7 @@ reduced-next ls ks ps k j r l close small short off =
     ]
 
 module _ (ss : List Stream) (n : ℕ) (fs ts gs bs : List ℕ) (starts : (k : ℕ) → k < n → getD fs k 0 ≡ streamAt ss k .from) (ends : (k : ℕ) → k < n → getD ts k 0 ≡ streamAt ss k .to) (few : n ≤ maxStreams) where
-  -- The direction in which a stream leaves the labelled places.
+  -- The direction in which a stream leaves the visited places.
   pub leaving : (ls : List Bool) (k : ℕ) → k < n → startIn ss ls k ≡ not (endIn ss ls k)
       → (getD ls (tailOf n fs ts gs bs k (startIn ss ls k)) false ≡ true) × (getD ls (headOf n fs ts gs bs k (startIn ss ls k)) false ≡ false)
   leaving ls k l e = go (startIn ss ls k) (endIn ss ls k) refl refl e
@@ -74,7 +74,7 @@ module _ (ss : List Stream) (n : ℕ) (fs ts gs bs : List ℕ) (starts : (k : �
       let q : endIn ss ls k ≡ true = rw (ends k l) at t in
       (rw (p, q), p, rw (p, starts k l))
 
-  -- What the nearest place tells, once all streams of labelled places were looked at.
+  -- What the nearest place tells, once all streams of visited places were looked at.
   pub record Told (ls : List Bool) (ks codes : List ℕ) (r : ℕ) : Type 0 where
     pub within : r < places
     pub lead : Leads n fs ts gs bs ls ks r (getD codes r 0)

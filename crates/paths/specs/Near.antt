@@ -1,6 +1,6 @@
--- The search by distances: for each place that is not labelled, the stream by which the labelled places come nearest to it. A stream
+-- The search by distances: for each place that is not visited, the stream by which the visited places come nearest to it. A stream
 -- has two directions, forwards from its start to its end and backwards from its end to its start. In what follows fs are the starts
--- of streams, ts their ends, ws their weights, qs twice the weights times the readings, gs the slacks forwards and bs backwards.
+-- of streams, ts their ends, gs the slacks forwards and bs backwards.
 use mathlib.Core.Bool.{Bool, true, false, _&&_, _||_}
 use mathlib.Core.List.{List, [], _∷_}
 use Prim.Native.Nat.{ℕ, zero, suc, _+_, _-_, _*_, _/_, _%_}
@@ -8,17 +8,20 @@ use lib.Dec.{eqb, ltb}
 use lib.ListN.{getD, set, replicate}
 use Rattle.numbers.specs.Choice.{pick}
 use Rattle.plants.specs.Limits.{places, maxStreams}
-use Rattle.flows.specs.Flows.{values}
+use Rattle.numbers.specs.Inner.{values}
 use Rattle.paths.specs.declared.Tree.{Tree}
 use Rattle.paths.specs.declared.Walked.{Walked}
 use Rattle.paths.specs.Sizes.{netShift, far, numbering}
+use Rattle.paths.specs.Rows.{countOf, startsOf, endsOf, weightsOf, pullsOf}
 use Rattle.paths.specs.Slack.{gapBy}
 use Rattle.paths.specs.Search.{fallen, addedTo}
 
--- The slacks of the first n streams in one direction; a metered one, whose weight is not 0, before number skip counts as one with slack.
-abbrev pub gapsOf : List ℕ → List ℕ → List ℕ → List ℕ → List ℕ → List ℕ → ℕ → ℕ → ℕ → Bool → List ℕ
-gapsOf fs ts ws qs xs ps d skip n f =
-    values n (λ k. pick (ltb 0 (getD ws k 0) && ltb k skip) 1 (gapBy (getD ws k 0) (getD qs k 0) f (getD xs k 0) (getD ps (getD fs k 0) 0) (getD ps (getD ts k 0) 0) d))
+-- The slacks of the streams in use in one direction, by their lanes, the amounts xs and the prices ps; a metered stream, whose weight
+-- is not 0, before number skip counts as one with slack.
+abbrev pub gapsOf : List ℕ → List ℕ → List ℕ → ℕ → ℕ → Bool → List ℕ
+gapsOf ls xs ps d skip f =
+    values (countOf ls)
+    (λ k. pick (ltb 0 (getD (weightsOf ls) k 0) && ltb k skip) 1 (gapBy (getD (weightsOf ls) k 0) (getD (pullsOf ls) k 0) f (getD xs k 0) (getD ps (getD (startsOf ls) k 0) 0) (getD ps (getD (endsOf ls) k 0) 0) d))
 
 -- The last of the first n streams that starts or ends at place u; maxStreams where there is none.
 unfoldable pub lastAt : List ℕ → List ℕ → ℕ → ℕ → ℕ
@@ -33,7 +36,7 @@ codeOf k i = k * numbering + i
 abbrev pub lessened : List ℕ → ℕ → ℕ → List ℕ
 lessened near v c = pick (ltb c (getD near v 0)) (set near v c) near
 
--- After stream i, of slack g, was looked at in the direction of place v, from a place at distance k; ls are the labels.
+-- After stream i, of slack g, was looked at in the direction of place v, from a place at distance k; ls tells which places are visited.
 unfoldable pub relaxedAlong : List Bool → ℕ → ℕ → ℕ → ℕ → List ℕ → List ℕ
 relaxedAlong ls k v g i near = pick (getD ls v false) near (lessened near v (codeOf (k + g) i))
 
@@ -53,7 +56,11 @@ unfoldable pub nearestTo : List ℕ → ℕ → ℕ
 nearestTo near zero = places
 nearestTo near (suc n) = let r = nearestTo near n in pick (ltb (getD near n far) (getD near r far)) n r
 
--- The prices when the search is at the distance k: a labelled place's has fallen by what k exceeds its own distance.
+-- The same of all places, `places` also where its distance is above `limit`.
+abbrev pub nearestWithin : List ℕ → ℕ → ℕ
+nearestWithin near limit = pick (ltb limit (getD near (nearestTo near places) far / numbering)) places (nearestTo near places)
+
+-- The prices when the search is at the distance k: a visited place's has fallen by what k exceeds its own distance.
 unfoldable pub reducedBy : List Bool → List ℕ → ℕ → List ℕ → List ℕ
 reducedBy [] ks k ps = ps
 reducedBy (l ∷ ls) ks k [] = []
@@ -64,16 +71,16 @@ reducedBy (l ∷ ls) (j ∷ ks) k (p ∷ ps) = fallen l (k - j) p ∷ reducedBy 
 abbrev pub goalAt : ℕ → List ℕ
 goalAt v = set (replicate places netShift) v 0
 
--- What a walk comes to: whether it labelled a place that is looked for, its tree, the distances, and how far it came.
+-- What a walk comes to: whether it visited a place that is looked for, its tree, the distances, and how far it came.
 abbrev pub walkedBy : Bool → Tree → List ℕ → ℕ → Walked
 walkedBy b t ks k = record { found = b; tree = t; dist = ks; reach = k }
 
--- From place e, labelled last, at distance k: the nearest place is labelled, again and again, at most `fuel` times, until a place with a
+-- From place e, visited last, at distance k: the nearest place is visited, again and again, at most `fuel` times, until a place with a
 -- negative net is; es are the nets, and places at a distance above `limit` are left out.
 unfoldable pub walked : List ℕ → List ℕ → List ℕ → List ℕ → ℕ → List ℕ → ℕ → ℕ → ℕ → ℕ → List ℕ → List ℕ → Tree → Walked
 walked fs ts gs bs n es limit zero k e ks near t = walkedBy false t ks k
 walked fs ts gs bs n es limit (suc fuel) k e ks near t =
-    let codes = relaxedTo fs ts gs bs (t .labelled) k e n near in
+    let codes = relaxedTo fs ts gs bs (t .visited) k e n near in
     let r = nearestTo codes places in
     let j = getD codes r 0 / numbering in
     let next = addedTo t (getD codes r 0 % numbering) r in

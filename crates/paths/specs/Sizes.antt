@@ -27,9 +27,9 @@ netShift = 72057594037927936
 abbrev pub mostStep : ℕ
 mostStep = 1048576
 
--- The places that a search may label after the first.
-abbrev pub rounds : ℕ
-rounds = maxUnits
+-- The places that a search may visit after the first.
+abbrev pub searchRounds : ℕ
+searchRounds = maxUnits
 
 -- What one push may take from an amount or add to it, were every stream of its way the same one: places * mostStep.
 abbrev pub pushRoom : ℕ
@@ -37,7 +37,7 @@ pushRoom = places * mostStep
 
 -- How far a search goes at most at step d: a slack of at most 2 * maxWeight * d in each round.
 abbrev pub mostFall : ℕ → ℕ
-mostFall d = 2 * maxWeight * d * rounds
+mostFall d = 2 * maxWeight * d * searchRounds
 
 -- A distance and a stream's number are held as one: maxStreams ≤ numbering.
 abbrev pub numbering : ℕ

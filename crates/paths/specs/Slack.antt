@@ -1,4 +1,4 @@
--- Slacks, and the stream of least slack that leaves the labelled places.
+-- Slacks, and the stream of least slack that leaves the visited places.
 use mathlib.Core.Bool.{Bool, true, false, _&&_}
 use mathlib.Core.List.{List}
 use Prim.Native.Nat.{ℕ, zero, suc, _+_, _-_, _*_}
@@ -10,7 +10,7 @@ use Rattle.flows.specs.Flows.{streamAt}
 use Rattle.flows.specs.Certificate.{weightOf}
 use Rattle.paths.specs.Held.{readingOf}
 
--- The slack of a stream: what the price of its labelled end has to fall before d moved along it, forwards or backwards, keeps the
+-- The slack of a stream: what the price of its visited end has to fall before d moved along it, forwards or backwards, keeps the
 -- step condition. In numbers: w is its weight, and q twice the weight times its reading.
 abbrev pub gapBy : ℕ → ℕ → Bool → ℕ → ℕ → ℕ → ℕ → ℕ
 gapBy w q forwards x pu pv d = pick forwards ((2 * (w * x) + w * d + pu) - (pv + q)) ((pv + q + w * d) - (2 * (w * x) + pu))
@@ -26,7 +26,7 @@ slackAt ss xs ps d k b = slackBy (streamAt ss k) b (getD xs k 0) (getD ps (strea
 abbrev pub slackPast : List Stream → List ℕ → List ℕ → ℕ → ℕ → Bool → ℕ → ℕ
 slackPast ss xs ps d skip b k = pick (streamAt ss k .metered && ltb k skip) 1 (slackAt ss xs ps d k b)
 
--- A stream that leaves the labelled places, by its number, with its slack; or no such stream.
+-- A stream that leaves the visited places, by its number, with its slack; or no such stream.
 pub data Crossing : Type 0 where
   Nothing : Crossing
   At : ℕ → ℕ → Crossing
@@ -36,14 +36,14 @@ abbrev pub lesser : Crossing → ℕ → ℕ → Crossing
 lesser Nothing i g = At i g
 lesser (At j h) i g = pick (ltb g h) (At i g) (At j h)
 
--- By whether the start and the end of a stream are labelled: only its end is not, or only its start, or both or neither.
+-- By whether the start and the end of a stream are visited: only its end is not, or only its start, or both or neither.
 abbrev pub byEnds : {A : Type 0} → Bool → Bool → A → A → A → A
 byEnds true true within forwards backwards = within
 byEnds true false within forwards backwards = forwards
 byEnds false true within forwards backwards = backwards
 byEnds false false within forwards backwards = within
 
--- Stream i, with the amount x, weighed against what was found; ls are the labels and ps the prices.
+-- Stream i, with the amount x, weighed against what was found; ls tells which places are visited and ps the prices.
 abbrev pub weighed : List ℕ → List Bool → ℕ → Crossing → ℕ → Stream → ℕ → Crossing
 weighed ps ls d f i s x =
     byEnds (getD ls (s .from) false) (getD ls (s .to) false) f
@@ -54,7 +54,7 @@ weighed ps ls d f i s x =
 unfoldable pub considered : List ℕ → List Bool → ℕ → ℕ → Crossing → ℕ → Stream → ℕ → Crossing
 considered ps ls d skip f i s x = pick (s .metered && ltb i skip) f (weighed ps ls d f i s x)
 
--- The stream of least slack among the first n that leave the labelled places.
+-- The stream of least slack among the first n that leave the visited places.
 unfoldable pub leastTo : List Stream → List ℕ → List ℕ → List Bool → ℕ → ℕ → ℕ → Crossing
 leastTo ss xs ps ls d skip zero = Nothing
 leastTo ss xs ps ls d skip (suc n) =

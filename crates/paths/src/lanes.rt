@@ -1,107 +1,151 @@
-// The streams as arrays of numbers, and for each place the streams that start or end there.
-use crate::Arrays;
+// The lanes: the streams in use as one array of numbers. First, for each place, the last stream that starts or ends there; then rows
+// of MAX_STREAMS numbers, one number for each stream; last, how many streams are in use. What is where is known here and nowhere else
+// in code, and in specs/Rows.antt.
 use crate::slacks::pull_of_reading;
 use crate::slacks::weight_of;
 use plants::Stream;
 use plants::limits::MAX_STREAMS;
 use plants::limits::PLACES;
 ghost use mathlib.Core.Path.{_≡_};
-ghost use Prim.Native.Nat.{ℕ, _*_, _≤_, _<_};
-ghost use lib.ListN.{getD, take};
+ghost use Prim.Native.Nat.{ℕ, _≤_, _<_};
+ghost use lib.ListN.{getD, length};
 ghost use Rattle.numbers.specs.Choice.{pick};
 ghost use Rattle.plants.specs.Limits.{places, maxStreams};
-ghost use Rattle.flows.specs.Flows.{streamAt};
-ghost use Rattle.flows.specs.Certificate.{weightOf};
-ghost use Rattle.paths.specs.Sizes.{mostPull};
-ghost use Rattle.paths.specs.Held.{readingOf};
-ghost use Rattle.paths.specs.Premises.{Network, Lane, Linked, Laid};
+ghost use Rattle.paths.specs.Rows.{rowAt, laneCells, countOf, startsOf, endsOf, weightsOf, pullsOf};
+ghost use Rattle.paths.specs.Near.{lastAt};
+ghost use Rattle.paths.specs.Premises.{Network, Rowed, Linkable, Linked, Laid};
 
-// The cells of the lists of streams: one for each place, and two for each stream.
-pub const CELLS: usize = PLACES + 2 * MAX_STREAMS;
+// How many rows there are. The first two are the lists of each place's streams.
+const ROWS: usize = 6;
 
-// The place where a stream starts, or where it ends.
-fn place_of(s: Stream, start: bool) -> u8
-    ensures { λ r. ⌜ r ≡ pick start (s .from) (s .to) ⌝ }
+// The stream before a stream at its start, and at its end.
+const OUT: usize = PLACES;
+
+const INTO: usize = OUT + MAX_STREAMS;
+
+const STARTS: usize = INTO + MAX_STREAMS;
+
+const ENDS: usize = STARTS + MAX_STREAMS;
+
+const WEIGHTS: usize = ENDS + MAX_STREAMS;
+
+const PULLS: usize = WEIGHTS + MAX_STREAMS;
+
+const COUNT: usize = PLACES + ROWS * MAX_STREAMS;
+
+pub const LANES: usize = COUNT + 1;
+
+// How many streams there are.
+pub fn count_of(lanes: &[u64; LANES]) -> usize
+    ensures { λ r. ⌜ r ≡ countOf (now (lanes .entry)) ⌝ }
 {
-    if start { s.from } else { s.to }
+    lanes[COUNT] as usize
 }
 
-// Of each stream.
-fn places_of(streams: [Stream; MAX_STREAMS], count: usize, start: bool) -> [u8; MAX_STREAMS]
-    requires { ⌜ Network streams count ⌝ }
-    ensures { λ r. ⌜ Lane count (λ k. pick start (streamAt (take count streams) k .from) (streamAt (take count streams) k .to)) r ⌝ }
+// The last stream that starts or ends at place u, MAX_STREAMS where there is none.
+pub fn last_at(lanes: &[u64; LANES], u: usize) -> usize
+    requires { ⌜ u < places ⌝ }
+    ensures { λ r. ⌜ r ≡ getD (now (lanes .entry)) u 0 ⌝ }
 {
-    let mut r = [0u8; MAX_STREAMS];
+    lanes[u] as usize
+}
+
+// Where stream i starts.
+pub fn start_at(lanes: &[u64; LANES], i: usize) -> usize
+    requires { ⌜ i < maxStreams ⌝ }
+    ensures { λ r. ⌜ r ≡ getD (startsOf (now (lanes .entry))) i 0 ⌝ }
+{
+    lanes[STARTS + i] as usize
+}
+
+// Where it ends.
+pub fn end_at(lanes: &[u64; LANES], i: usize) -> usize
+    requires { ⌜ i < maxStreams ⌝ }
+    ensures { λ r. ⌜ r ≡ getD (endsOf (now (lanes .entry))) i 0 ⌝ }
+{
+    lanes[ENDS + i] as usize
+}
+
+// Its weight.
+pub fn weight_at(lanes: &[u64; LANES], i: usize) -> u64
+    requires { ⌜ i < maxStreams ⌝ }
+    ensures { λ r. ⌜ r ≡ getD (weightsOf (now (lanes .entry))) i 0 ⌝ }
+{
+    lanes[WEIGHTS + i]
+}
+
+// Twice its weight times its reading.
+pub fn pull_at(lanes: &[u64; LANES], i: usize) -> u64
+    requires { ⌜ i < maxStreams ⌝ }
+    ensures { λ r. ⌜ r ≡ getD (pullsOf (now (lanes .entry))) i 0 ⌝ }
+{
+    lanes[PULLS + i]
+}
+
+// Its start, or its end.
+pub fn place_at(lanes: &[u64; LANES], start: bool, i: usize) -> usize
+    requires { ⌜ i < maxStreams ⌝ }
+    ensures { λ r. ⌜ r ≡ pick start (getD (startsOf (now (lanes .entry))) i 0) (getD (endsOf (now (lanes .entry))) i 0) ⌝ }
+{
+    if start {
+        start_at(lanes, i)
+    } else {
+        end_at(lanes, i)
+    }
+}
+
+// The stream before it at its start, or at its end.
+pub fn before_at(lanes: &[u64; LANES], start: bool, i: usize) -> usize
+    requires { ⌜ Linked (countOf (now lanes)) (startsOf (now lanes)) (endsOf (now lanes)) (now lanes) × (countOf (now lanes) ≤ maxStreams) × (i < countOf (now lanes)) ⌝ }
+    ensures { λ r. ⌜ r ≡ lastAt (startsOf (now (lanes .entry))) (endsOf (now (lanes .entry))) (pick start (getD (startsOf (now (lanes .entry))) i 0) (getD (endsOf (now (lanes .entry))) i 0)) i ⌝ }
+{
+    if start {
+        return lanes[OUT + i] as usize;
+    }
+    lanes[INTO + i] as usize
+}
+
+// The rows of the streams' own numbers.
+fn put_rows(streams: [Stream; MAX_STREAMS], count: usize, lanes: &mut [u64; LANES])
+    requires { ⌜ Network streams count × (length (now lanes) ≡ laneCells) ⌝ }
+    ensures { λ _. ⌜ Rowed streams count (now (lanes .exit)) × ((u : ℕ) → u < places → getD (now (lanes .exit)) u 0 ≡ getD (now (lanes .entry)) u 0) ⌝ }
+{
     let mut i: usize = 0;
     while i < count {
-        r[i] = place_of(streams[i], start);
+        let s = streams[i];
+        lanes[STARTS + i] = s.from as u64;
+        lanes[ENDS + i] = s.to as u64;
+        lanes[WEIGHTS + i] = weight_of(s);
+        lanes[PULLS + i] = 2 * pull_of_reading(s);
         i += 1;
     }
-    r
 }
 
-// The weight of each stream.
-fn weights_of(streams: [Stream; MAX_STREAMS], count: usize) -> [u64; MAX_STREAMS]
-    requires { ⌜ Network streams count ⌝ }
-    ensures { λ r. ⌜ Lane count (λ k. weightOf (streamAt (take count streams) k)) r ⌝ }
+// The lists of each place's streams, none there yet.
+fn link(count: usize, lanes: &mut [u64; LANES])
+    requires { ⌜ Linkable count (now lanes) ⌝ }
+    ensures { λ _. ⌜ Linked count (startsOf (now (lanes .entry))) (endsOf (now (lanes .entry))) (now (lanes .exit)) × ((k : ℕ) → rowAt 2 ≤ k → getD (now (lanes .exit)) k 0 ≡ getD (now (lanes .entry)) k 0) ⌝ }
 {
-    let mut r = [0u64; MAX_STREAMS];
     let mut i: usize = 0;
     while i < count {
-        r[i] = weight_of(streams[i]);
+        let u = start_at(lanes, i);
+        let v = end_at(lanes, i);
+        lanes[OUT + i] = lanes[u];
+        lanes[INTO + i] = lanes[v];
+        lanes[u] = i as u64;
+        lanes[v] = i as u64;
         i += 1;
     }
-    r
 }
 
-// Twice the weight times the reading of each stream.
-fn pulls_of(streams: [Stream; MAX_STREAMS], count: usize) -> [u64; MAX_STREAMS]
+// The lanes of the streams.
+pub fn lay(streams: [Stream; MAX_STREAMS], count: usize) -> [u64; LANES]
     requires { ⌜ Network streams count ⌝ }
-    ensures { λ r. ⌜ Lane count (λ k. 2 * (weightOf (streamAt (take count streams) k) * readingOf (streamAt (take count streams) k))) r × ((k : ℕ) → k < count → getD r k 0 ≤ 2 * mostPull) ⌝ }
+    ensures { λ r. ⌜ Laid streams count r ⌝ }
 {
-    let mut r = [0u64; MAX_STREAMS];
-    let mut i: usize = 0;
-    while i < count {
-        r[i] = 2 * pull_of_reading(streams[i]);
-        i += 1;
-    }
-    r
-}
-
-// The lists of streams: for each place the last stream there, for each stream the one before it at its start and at its end.
-fn links_of(from: &[u8; MAX_STREAMS], to: &[u8; MAX_STREAMS], count: usize) -> [u8; CELLS]
-    requires { ⌜ (count ≤ maxStreams) × ((k : ℕ) → k < count → getD (now from) k 0 < places) × ((k : ℕ) → k < count → getD (now to) k 0 < places) ⌝ }
-    ensures { λ r. ⌜ Linked count (now (from .entry)) (now (to .entry)) r ⌝ }
-{
-    let mut next = [MAX_STREAMS as u8; CELLS];
-    let mut i: usize = 0;
-    while i < count {
-        let u = from[i] as usize;
-        let v = to[i] as usize;
-        next[PLACES + i] = next[u];
-        next[PLACES + MAX_STREAMS + i] = next[v];
-        next[u] = i as u8;
-        next[v] = i as u8;
-        i += 1;
-    }
-    next
-}
-
-// The streams as arrays.
-pub fn lay(streams: [Stream; MAX_STREAMS], count: usize) -> Arrays
-    requires { ⌜ Network streams count ⌝ }
-    ensures { λ r. ⌜ Laid streams count (r .from) (r .to) (r .weight) (r .pull) (r .next) ⌝ }
-{
-    let from = places_of(streams, count, true);
-    let to = places_of(streams, count, false);
-    let weight = weights_of(streams, count);
-    let pull = pulls_of(streams, count);
-    let next = links_of(&from, &to, count);
-    Arrays {
-        from: from,
-        to: to,
-        weight: weight,
-        pull: pull,
-        next: next,
-    }
+    let mut lanes = [MAX_STREAMS as u64; LANES];
+    put_rows(streams, count, &mut lanes);
+    lanes[COUNT] = count as u64;
+    link(count, &mut lanes);
+    lanes
 }

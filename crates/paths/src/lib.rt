@@ -1,35 +1,38 @@
-// Moving flow through a plant: the slack of a stream, the search over labelled places for a way of no slack, and the push
+// Moving flow through a plant: the slack of a stream, the search over visited places for a way of no slack, and the push
 // along that way. Amounts, prices and nets are held shifted, as unsigned numbers (sizes.rt).
-use lanes::CELLS;
-use plants::limits::MAX_STREAMS;
 use plants::limits::PLACES;
 
-pub mod labels;
 pub mod lanes;
 pub mod pushes;
-mod relaxing;
+pub mod relaxing;
+pub mod searches;
 pub mod sizes;
 pub mod slacks;
 mod walking;
 
-// The streams as arrays: starts, ends, weights, twice the weights times the readings, and the lists of the streams of each place.
-pub struct Arrays {
-    pub from: [u8; MAX_STREAMS],
-    pub to: [u8; MAX_STREAMS],
-    pub weight: [u64; MAX_STREAMS],
-    pub pull: [u64; MAX_STREAMS],
-    pub next: [u8; CELLS],
+// What a walk is to do: where it starts, the step, the number before which metered streams are left alone, and how far it may go.
+pub struct Quest {
+    pub start: usize,
+    pub delta: u64,
+    pub skip: usize,
+    pub limit: u64,
 }
 
-// The labelled places; and for each place labelled after the first, in order, the stream that led to it and the place.
+// A visited place and its distance.
+pub struct Spot {
+    pub place: usize,
+    pub distance: u64,
+}
+
+// The visited places; and for each place visited after the first, in order, the stream that led to it and the place.
 pub struct Tree {
-    pub labelled: [bool; PLACES],
+    pub visited: [bool; PLACES],
     pub via: [u8; PLACES],
     pub ends: [u8; PLACES],
     pub len: usize,
 }
 
-// What a walk hands over: whether it labelled a place that it looks for, its tree, the distances of labelled places, and how far it
+// What a walk hands over: whether it visited a place that it looks for, its tree, the distances of visited places, and how far it
 // came.
 pub struct Walked {
     pub found: bool,
@@ -38,7 +41,7 @@ pub struct Walked {
     pub reach: u64,
 }
 
-// What a search hands over: whether it labelled a place that it looks for, and its tree.
+// What a search hands over: whether it visited a place that it looks for, and its tree.
 pub struct Searched {
     pub found: bool,
     pub tree: Tree,

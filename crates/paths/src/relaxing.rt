@@ -1,161 +1,111 @@
-// The places that are not labelled, and how near the labelled places come to each.
-use crate::lanes::CELLS;
+// The places that are not visited, and how near the visited places come to each.
+use crate::Quest;
+use crate::Spot;
+use crate::lanes::LANES;
+use crate::lanes::before_at;
+use crate::lanes::count_of;
+use crate::lanes::end_at;
+use crate::lanes::last_at;
+use crate::lanes::place_at;
+use crate::lanes::pull_at;
+use crate::lanes::start_at;
+use crate::lanes::weight_at;
 use crate::sizes::FAR;
 use crate::sizes::NUMBERING;
 use crate::slacks::gap;
 use plants::limits::MAX_STREAMS;
 use plants::limits::PLACES;
-ghost use mathlib.Core.Bool.{Bool, true, false, _&&_, _||_};
+ghost use mathlib.Core.Bool.{true, false};
 ghost use mathlib.Core.Path.{_≡_};
 ghost use Prim.Native.Nat.{_*_, _≤_, _<_};
-ghost use lib.Dec.{eqb, ltb};
 ghost use lib.ListN.{getD, length};
-ghost use Rattle.numbers.specs.Choice.{pick};
 ghost use Rattle.plants.specs.Limits.{places, maxStreams, maxWeight};
-ghost use Rattle.paths.specs.Sizes.{mostPull, mostStep, farthest};
-ghost use Rattle.paths.specs.Slack.{gapBy};
-ghost use Rattle.paths.specs.Near.{gapsOf, lastAt, relaxedAlong, relaxedAt, relaxedTo, nearestTo};
-ghost use Rattle.paths.specs.Premises.{Sized, Linked, Lanes};
+ghost use Rattle.paths.specs.Sizes.{mostStep, farthest};
+ghost use Rattle.paths.specs.Rows.{countOf, startsOf, endsOf};
+ghost use Rattle.paths.specs.Near.{gapsOf, relaxedAlong, relaxedTo, nearestWithin};
+ghost use Rattle.paths.specs.Premises.{Lanes};
 
 // The slack of stream i; 1 where it is metered and its number below skip.
-fn gap_past(
-    i: usize,
-    skip: usize,
-    w: u64,
-    read: u64,
+pub fn gap_past(
+    lanes: &[u64; LANES],
+    flows: &[u64; MAX_STREAMS],
+    prices: &[u64; PLACES],
+    q: Quest,
     forwards: bool,
-    x: u64,
-    pu: u64,
-    pv: u64,
-    delta: u64,
+    i: usize,
 ) -> u64
-    requires { ⌜ (w ≤ maxWeight) × (read ≤ 2 * mostPull) × Sized x pu pv delta ⌝ }
-    ensures { λ r. ⌜ r ≡ pick (ltb 0 w && ltb i skip) 1 (gapBy w read forwards x pu pv delta) ⌝ }
+    requires { ⌜ Lanes (now lanes) (now flows) (now prices) (q .delta) (q .skip) × (i < countOf (now lanes)) ⌝ }
+    ensures { λ r. ⌜ r ≡ getD (gapsOf (now (lanes .entry)) (now (flows .entry)) (now (prices .entry)) (q .delta) (q .skip) forwards) i 0 ⌝ }
 {
+    let w = weight_at(lanes, i);
     if 0 < w {
-        if i < skip {
+        if i < q.skip {
             return 1;
         }
     }
-    gap(w, read, forwards, x, pu, pv, delta)
+    let u = start_at(lanes, i);
+    let v = end_at(lanes, i);
+    gap(
+        w,
+        pull_at(lanes, i),
+        forwards,
+        flows[i],
+        prices[u],
+        prices[v],
+        q.delta,
+    )
 }
 
 // Stream i, of slack g, is looked at in the direction of place v from a place at distance k.
-fn relax_along(labelled: &[bool; PLACES], k: u64, v: u8, g: u64, i: usize, near: &mut [u64; PLACES])
+fn relax_along(
+    visited: &[bool; PLACES],
+    k: u64,
+    v: usize,
+    g: u64,
+    i: usize,
+    near: &mut [u64; PLACES],
+)
     requires { ⌜ (k < farthest) × (v < places) × (g ≤ 2 * maxWeight * mostStep) × (i < maxStreams) × (length (now near) ≡ places) ⌝ }
-    ensures { λ _. ⌜ now (near .exit) ≡ relaxedAlong (now (labelled .entry)) k v g i (now (near .entry)) ⌝ }
+    ensures { λ _. ⌜ now (near .exit) ≡ relaxedAlong (now (visited .entry)) k v g i (now (near .entry)) ⌝ }
 {
-    let at = v as usize;
-    if labelled[at] {
+    if visited[v] {
         return;
     }
     let code = (k + g) * NUMBERING + i as u64;
-    if code < near[at] {
-        near[at] = code;
+    if code < near[v] {
+        near[v] = code;
     }
 }
 
-// Stream i is looked at from place e.
-fn relax_at(
-    from: &[u8; MAX_STREAMS],
-    to: &[u8; MAX_STREAMS],
-    weight: &[u64; MAX_STREAMS],
-    pull: &[u64; MAX_STREAMS],
-    next: &[u8; CELLS],
-    count: usize,
-    flows: &[u64; MAX_STREAMS],
-    prices: &[u64; PLACES],
-    delta: u64,
-    skip: usize,
-    labelled: &[bool; PLACES],
-    k: u64,
-    e: u8,
-    i: usize,
-    near: &mut [u64; PLACES],
-)
-    requires { ⌜ Lanes count (now from) (now to) (now weight) (now pull) (now next) (now flows) (now prices) delta skip × (i < count) × (k < farthest) × (length (now near) ≡ places) ⌝ }
-    ensures { λ _. ⌜ now (near .exit) ≡ relaxedAt (now (from .entry)) (now (to .entry)) (gapsOf (now (from .entry)) (now (to .entry)) (now (weight .entry)) (now (pull .entry)) (now (flows .entry)) (now (prices .entry)) delta skip count true) (gapsOf (now (from .entry)) (now (to .entry)) (now (weight .entry)) (now (pull .entry)) (now (flows .entry)) (now (prices .entry)) delta skip count false) (now (labelled .entry)) k e i (now (near .entry)) ⌝ }
-{
-    let u = from[i];
-    let v = to[i];
-    let pu = prices[u as usize];
-    let pv = prices[v as usize];
-    if u == e {
-        let g = gap_past(i, skip, weight[i], pull[i], true, flows[i], pu, pv, delta);
-        relax_along(labelled, k, v, g, i, near);
-        return;
-    }
-    if v == e {
-        let g = gap_past(i, skip, weight[i], pull[i], false, flows[i], pu, pv, delta);
-        relax_along(labelled, k, u, g, i, near);
-    }
-}
-
-// The stream before stream i at place e, one of its ends.
-fn before(
-    from: &[u8; MAX_STREAMS],
-    to: &[u8; MAX_STREAMS],
-    next: &[u8; CELLS],
-    count: usize,
-    e: u8,
-    i: usize,
-) -> usize
-    requires { ⌜ Linked count (now from) (now to) (now next) × (count ≤ maxStreams) × (i < count) × ((eqb (getD (now from) i 0) e || eqb (getD (now to) i 0) e) ≡ true) ⌝ }
-    ensures { λ r. ⌜ r ≡ lastAt (now (from .entry)) (now (to .entry)) e i ⌝ }
-{
-    if from[i] == e {
-        return next[PLACES + i] as usize;
-    }
-    next[PLACES + MAX_STREAMS + i] as usize
-}
-
-// The streams at place e are looked at, the last first.
+// The streams at a place are looked at, the last first.
 pub fn relax(
-    from: &[u8; MAX_STREAMS],
-    to: &[u8; MAX_STREAMS],
-    weight: &[u64; MAX_STREAMS],
-    pull: &[u64; MAX_STREAMS],
-    next: &[u8; CELLS],
-    count: usize,
+    lanes: &[u64; LANES],
     flows: &[u64; MAX_STREAMS],
     prices: &[u64; PLACES],
-    delta: u64,
-    skip: usize,
-    labelled: &[bool; PLACES],
-    k: u64,
-    e: u8,
+    q: Quest,
+    visited: &[bool; PLACES],
+    at: Spot,
     near: &mut [u64; PLACES],
 )
-    requires { ⌜ Lanes count (now from) (now to) (now weight) (now pull) (now next) (now flows) (now prices) delta skip × (e < places) × (k < farthest) × (length (now near) ≡ places) ⌝ }
-    ensures { λ _. ⌜ now (near .exit) ≡ relaxedTo (now (from .entry)) (now (to .entry)) (gapsOf (now (from .entry)) (now (to .entry)) (now (weight .entry)) (now (pull .entry)) (now (flows .entry)) (now (prices .entry)) delta skip count true) (gapsOf (now (from .entry)) (now (to .entry)) (now (weight .entry)) (now (pull .entry)) (now (flows .entry)) (now (prices .entry)) delta skip count false) (now (labelled .entry)) k e count (now (near .entry)) ⌝ }
+    requires { ⌜ Lanes (now lanes) (now flows) (now prices) (q .delta) (q .skip) × (at .place < places) × (at .distance < farthest) × (length (now near) ≡ places) ⌝ }
+    ensures { λ _. ⌜ now (near .exit) ≡ relaxedTo (startsOf (now (lanes .entry))) (endsOf (now (lanes .entry))) (gapsOf (now (lanes .entry)) (now (flows .entry)) (now (prices .entry)) (q .delta) (q .skip) true) (gapsOf (now (lanes .entry)) (now (flows .entry)) (now (prices .entry)) (q .delta) (q .skip) false) (now (visited .entry)) (at .distance) (at .place) (countOf (now (lanes .entry))) (now (near .entry)) ⌝ }
 {
-    let mut i = next[e as usize] as usize;
-    while i < count {
-        relax_at(
-            from,
-            to,
-            weight,
-            pull,
-            next,
-            count,
-            flows,
-            prices,
-            delta,
-            skip,
-            labelled,
-            k,
-            e,
-            i,
-            near,
-        );
-        i = before(from, to, next, count, e, i);
+    let n = count_of(lanes);
+    let e = at.place;
+    let mut i = last_at(lanes, e);
+    while i < n {
+        let forwards = start_at(lanes, i) == e;
+        let g = gap_past(lanes, flows, prices, q, forwards, i);
+        let v = place_at(lanes, !forwards, i);
+        relax_along(visited, at.distance, v, g, i, near);
+        i = before_at(lanes, forwards, i);
     }
 }
 
-// The first place with the least code, PLACES where no stream leads on.
-pub fn nearest(near: &[u64; PLACES]) -> usize
+// The first place with the least code; PLACES where there is none, or its distance is above the limit.
+pub fn nearest(near: &[u64; PLACES], limit: u64) -> usize
     requires { ⌜ length (now near) ≡ places ⌝ }
-    ensures { λ r. ⌜ r ≡ nearestTo (now (near .entry)) places ⌝ }
+    ensures { λ r. ⌜ r ≡ nearestWithin (now (near .entry)) limit ⌝ }
 {
     let mut best = FAR;
     let mut at: usize = PLACES;
@@ -167,5 +117,5 @@ pub fn nearest(near: &[u64; PLACES]) -> usize
         }
         u += 1;
     }
-    at
+    if limit < best / NUMBERING { PLACES } else { at }
 }

@@ -3,12 +3,14 @@ use crate::sizes::FLOW_SHIFT;
 use plants::Stream;
 ghost use mathlib.Core.Path.{_≡_};
 ghost use Prim.Native.Nat.{_+_, _-_, _*_, _≤_};
-ghost use Rattle.plants.specs.Limits.{maxWeight};
+ghost use Rattle.numbers.specs.Choice.{pick};
+ghost use Rattle.plants.specs.Limits.{maxUnits, maxWeight};
+ghost use Rattle.plants.specs.Within.{WithinStream};
 ghost use Rattle.paths.specs.Sizes.{mostFlow, mostPull};
 ghost use Rattle.flows.specs.Certificate.{weightOf};
 ghost use Rattle.paths.specs.Held.{readingOf};
-ghost use Rattle.paths.specs.Slack.{gapBy, slackBy};
-ghost use Rattle.paths.specs.Premises.{Placed, Sized};
+ghost use Rattle.paths.specs.Slack.{gapBy};
+ghost use Rattle.paths.specs.Premises.{Sized};
 
 // A stream's weight; an unmetered stream counts as one of weight 0.
 pub fn weight_of(s: Stream) -> u64
@@ -27,7 +29,7 @@ pub fn reading_of(s: Stream) -> u64
 
 // Weight times the reading.
 pub fn pull_of_reading(s: Stream) -> u64
-    requires { ⌜ Placed s ⌝ }
+    requires { ⌜ WithinStream maxUnits s ⌝ }
     ensures { λ r. ⌜ (r ≡ weightOf s * readingOf s) × (r ≤ mostPull) ⌝ }
 {
     weight_of(s) * reading_of(s)
@@ -40,33 +42,21 @@ pub fn minus(a: u64, b: u64) -> u64
     if a < b { 0 } else { a - b }
 }
 
+fn chosen(b: bool, x: u64, y: u64) -> u64
+    ensures { λ r. ⌜ r ≡ pick b x y ⌝ }
+{
+    if b { x } else { y }
+}
+
 // What is missing before delta can be moved along a stream, forwards or backwards, at the prices pu of its start and pv of its end;
-// by its weight and twice its weight times its reading.
+// by its weight and twice its weight times its reading. (Both directions in one sum: which it is cannot be foreseen.)
 pub fn gap(w: u64, read: u64, forwards: bool, x: u64, pu: u64, pv: u64, delta: u64) -> u64
     requires { ⌜ (w ≤ maxWeight) × (read ≤ 2 * mostPull) × Sized x pu pv delta ⌝ }
     ensures { λ r. ⌜ r ≡ gapBy w read forwards x pu pv delta ⌝ }
 {
-    let at = 2 * (w * x);
-    let step = w * delta;
-    if forwards {
-        minus(at + step + pu, pv + read)
-    } else {
-        minus(pv + read + step, at + pu)
-    }
-}
-
-// By the stream.
-pub fn slack(s: Stream, forwards: bool, x: u64, pu: u64, pv: u64, delta: u64) -> u64
-    requires { ⌜ Placed s × Sized x pu pv delta ⌝ }
-    ensures { λ r. ⌜ r ≡ slackBy s forwards x pu pv delta ⌝ }
-{
-    gap(
-        weight_of(s),
-        2 * pull_of_reading(s),
-        forwards,
-        x,
-        pu,
-        pv,
-        delta,
-    )
+    let here = 2 * (w * x) + pu;
+    let there = pv + read;
+    let more = chosen(forwards, here, there);
+    let less = chosen(forwards, there, here);
+    minus(more + w * delta, less)
 }

@@ -1,7 +1,9 @@
-// The walk from a place: the nearest place is labelled, again and again.
+// The walk from a place: the nearest place is visited, again and again.
+use crate::Quest;
+use crate::Spot;
 use crate::Tree;
 use crate::Walked;
-use crate::lanes::CELLS;
+use crate::lanes::LANES;
 use crate::relaxing::nearest;
 use crate::relaxing::relax;
 use crate::sizes::FAR;
@@ -14,12 +16,13 @@ ghost use mathlib.Core.Path.{_≡_};
 ghost use Prim.Native.Nat.{_<_};
 ghost use lib.ListN.{replicate};
 ghost use Rattle.plants.specs.Limits.{places};
-ghost use Rattle.paths.specs.Sizes.{rounds, far};
-ghost use Rattle.paths.specs.Search.{rootAt, addedTo};
+ghost use Rattle.paths.specs.Sizes.{searchRounds, far};
+ghost use Rattle.paths.specs.Rows.{countOf, startsOf, endsOf};
+ghost use Rattle.paths.specs.Search.{rootAt};
 ghost use Rattle.paths.specs.Near.{gapsOf, walkedBy, walked};
 ghost use Rattle.paths.specs.Premises.{Lanes};
 
-// The most places that a walk labels after the first.
+// The most places that a walk visits after the first.
 const ROUNDS: usize = PLACES - 1;
 
 // The tree of one place.
@@ -28,28 +31,23 @@ fn root(s: usize) -> Tree
     ensures { λ r. ⌜ r ≡ rootAt s ⌝ }
 {
     let mut t = Tree {
-        labelled: [false; PLACES],
+        visited: [false; PLACES],
         via: [0u8; PLACES],
         ends: [0u8; PLACES],
         len: 0,
     };
-    t.labelled[s] = true;
+    t.visited[s] = true;
     t
 }
 
-// One place more, e over stream i.
-fn add(t: Tree, i: u8, e: u8) -> Tree
-    requires { ⌜ (t .len < places) × (e < places) ⌝ }
-    ensures { λ r. ⌜ r ≡ addedTo t i e ⌝ }
+// A visited place and its distance.
+fn spot(place: usize, distance: u64) -> Spot
+    ensures { λ r. ⌜ (r .place ≡ place) × (r .distance ≡ distance) ⌝ }
 {
-    let at = t.len;
-    let p = e as usize;
-    let mut r = t;
-    r.labelled[p] = true;
-    r.via[at] = i;
-    r.ends[at] = e;
-    r.len = at + 1;
-    r
+    Spot {
+        place: place,
+        distance: distance,
+    }
 }
 
 // What a walk hands over.
@@ -64,63 +62,40 @@ fn walked_by(found: bool, t: Tree, dist: [u64; PLACES], reach: u64) -> Walked
     }
 }
 
-// From place s until a place with a negative net is labelled; places at a distance above the limit are left out.
+// From a place until one with a negative net is visited; places at a distance above the limit are left out.
 pub fn walk(
-    from: &[u8; MAX_STREAMS],
-    to: &[u8; MAX_STREAMS],
-    weight: &[u64; MAX_STREAMS],
-    pull: &[u64; MAX_STREAMS],
-    next: &[u8; CELLS],
-    count: usize,
+    lanes: &[u64; LANES],
     flows: &[u64; MAX_STREAMS],
     prices: &[u64; PLACES],
-    delta: u64,
-    skip: usize,
     nets: &[u64; PLACES],
-    s: u8,
-    limit: u64,
+    q: Quest,
 ) -> Walked
-    requires { ⌜ Lanes count (now from) (now to) (now weight) (now pull) (now next) (now flows) (now prices) delta skip × (s < places) ⌝ }
-    ensures { λ r. ⌜ r ≡ walked (now (from .entry)) (now (to .entry)) (gapsOf (now (from .entry)) (now (to .entry)) (now (weight .entry)) (now (pull .entry)) (now (flows .entry)) (now (prices .entry)) delta skip count true) (gapsOf (now (from .entry)) (now (to .entry)) (now (weight .entry)) (now (pull .entry)) (now (flows .entry)) (now (prices .entry)) delta skip count false) count (now (nets .entry)) limit rounds 0 s (replicate places 0) (replicate places far) (rootAt s) ⌝ }
+    requires { ⌜ Lanes (now lanes) (now flows) (now prices) (q .delta) (q .skip) × (q .start < places) ⌝ }
+    ensures { λ r. ⌜ r ≡ walked (startsOf (now (lanes .entry))) (endsOf (now (lanes .entry))) (gapsOf (now (lanes .entry)) (now (flows .entry)) (now (prices .entry)) (q .delta) (q .skip) true) (gapsOf (now (lanes .entry)) (now (flows .entry)) (now (prices .entry)) (q .delta) (q .skip) false) (countOf (now (lanes .entry))) (now (nets .entry)) (q .limit) searchRounds 0 (q .start) (replicate places 0) (replicate places far) (rootAt (q .start)) ⌝ }
 {
-    let mut t = root(s as usize);
+    let mut e = q.start;
+    let mut t = root(e);
     let mut dist = [0u64; PLACES];
     let mut near = [FAR; PLACES];
     let mut reach: u64 = 0;
-    let mut e = s;
     let mut left: usize = ROUNDS;
     while 0 < left {
-        let labelled = t.labelled;
-        relax(
-            from,
-            to,
-            weight,
-            pull,
-            next,
-            count,
-            flows,
-            prices,
-            delta,
-            skip,
-            &labelled,
-            reach,
-            e,
-            &mut near,
-        );
-        let r = nearest(&near);
-        if r == PLACES {
+        let at = spot(e, reach);
+        relax(lanes, flows, prices, q, &t.visited, at, &mut near);
+        e = nearest(&near, q.limit);
+        if e == PLACES {
             return walked_by(false, t, dist, reach);
         }
-        let c = near[r];
-        if limit < c / NUMBERING {
-            return walked_by(false, t, dist, reach);
-        }
+        let c = near[e];
+        let len = t.len;
         reach = c / NUMBERING;
-        dist[r] = reach;
-        near[r] = FAR;
-        e = r as u8;
-        t = add(t, (c % NUMBERING) as u8, e);
-        if nets[r] < NET_SHIFT {
+        dist[e] = reach;
+        near[e] = FAR;
+        t.visited[e] = true;
+        t.via[len] = (c % NUMBERING) as u8;
+        t.ends[len] = e as u8;
+        t.len = len + 1;
+        if nets[e] < NET_SHIFT {
             return walked_by(true, t, dist, reach);
         }
         left -= 1;

@@ -3,5 +3,6 @@ pub mod Records
 pub mod Limited
 pub mod Accepted
 pub mod Held
+pub mod Arrayed
 pub mod There
 pub mod Back

@@ -3,14 +3,14 @@ use mathlib.Core.Path.{_≡_, sym, _∙_, ap}
 use mathlib.Core.List.{List}
 use Prim.Native.Nat.{ℕ, _+_, _≤_, _<_}
 use native.Mathlib.Omega.{arith}
-use lib.ListN.{length, getD, set, length-set, length-map, replicate, length-replicate, getD-replicate}
+use lib.ListN.{getD, set, length-set, length-map, replicate, length-replicate, getD-replicate}
 use Rattle.plants.specs.Limits.{places}
 use Rattle.flows.proofs.Lists.{map-at, set-each, Written, written-all}
-use Rattle.potentials.specs.Levels.{Labels, Bounded, atLabels, Level}
+use Rattle.potentials.specs.Levels.{Labels, Banded, atLabels, Level}
 
-module _ {top spread : ℕ} where
+module _ {top band : ℕ} where
   -- All prices top.
-  pub bounded-all : Bounded top spread (replicate places top)
+  pub bounded-all : Banded top band (replicate places top)
   bounded-all = record {
     long = length-replicate places top;
     low = λ u l. omega (arith, getD-replicate {A = ℕ} places u top 0 l);
@@ -18,15 +18,15 @@ module _ {top spread : ℕ} where
   }
 
   -- One of them is another.
-  pub bounded-set : {ps : List ℕ} → Bounded top spread ps → (u x : ℕ) → u < places → (x ≤ top) × (top ≤ x + spread) → Bounded top spread (set ps u x)
+  pub bounded-set : {ps : List ℕ} → Banded top band ps → (u x : ℕ) → u < places → (x ≤ top) × (top ≤ x + band) → Banded top band (set ps u x)
   bounded-set {ps} b u x l h = record {
     long = length-set ps u x ∙ b .long;
-    low = set-each (λ (y : ℕ). top ≤ y + spread) 0 ps u x places (rw (b .long) l) (h .1) (b .low);
+    low = set-each (λ (y : ℕ). top ≤ y + band) 0 ps u x places (rw (b .long) l) (h .1) (b .low);
     high = set-each (λ (y : ℕ). y ≤ top) 0 ps u x places (rw (b .long) l) (h .0) (b .high);
   }
 
   -- The prices of labels: within the same bounds, and one for each label.
-  pub level-labels : {ps ls : List ℕ} → Bounded top spread ps → Labels ls → Level ls top spread (atLabels ps ls)
+  pub level-labels : {ps ls : List ℕ} → Banded top band ps → Labels ls → Level ls top band (atLabels ps ls)
   level-labels {ps} {ls} b w = record {
     bounded = record {
       long = length-map ls _ ∙ w .long;

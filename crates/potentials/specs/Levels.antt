@@ -14,10 +14,10 @@ pub record Labels (ls : List ℕ) : Type 0 where
   pub long : length ls ≡ places
   pub within : (u : ℕ) → u < places → getD ls u 0 < places
 
--- Prices from top − spread to top.
-pub record Bounded (top spread : ℕ) (ps : List ℕ) : Type 0 where
+-- Prices in a band, from top − band to top.
+pub record Banded (top band : ℕ) (ps : List ℕ) : Type 0 where
   pub long : length ps ≡ places
-  pub low : (u : ℕ) → u < places → top ≤ getD ps u 0 + spread
+  pub low : (u : ℕ) → u < places → top ≤ getD ps u 0 + band
   pub high : (u : ℕ) → u < places → getD ps u 0 ≤ top
 
 -- The price of each place's label.
@@ -25,6 +25,6 @@ abbrev pub atLabels : List ℕ → List ℕ → List ℕ
 atLabels ps ls = map (λ l. getD ps l 0) ls
 
 -- Such prices, and places of one label have one price.
-pub record Level (ls : List ℕ) (top spread : ℕ) (ps : List ℕ) : Type 0 where
-  pub bounded : Bounded top spread ps
+pub record Level (ls : List ℕ) (top band : ℕ) (ps : List ℕ) : Type 0 where
+  pub bounded : Banded top band ps
   pub level : (u v : ℕ) → u < places → v < places → getD ls u 0 ≡ getD ls v 0 → getD ps u 0 ≡ getD ps v 0

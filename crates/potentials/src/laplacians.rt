@@ -8,8 +8,8 @@ use plants::limits::PLACES;
 ghost use mathlib.Core.Path.{_≡_};
 ghost use Prim.Native.Nat.{_<_, _≤_};
 ghost use lib.ListN.{length};
-ghost use Rattle.plants.specs.Limits.{places};
-ghost use Rattle.flows.specs.Calls.{Fit, Ends};
+ghost use Rattle.plants.specs.Limits.{maxUnits, places};
+ghost use Rattle.plants.specs.Within.{WithinStream, Accepted};
 ghost use Rattle.potentials.specs.Levels.{Labels, cells};
 
 // One coefficient, or right-hand side, is x more.
@@ -41,7 +41,7 @@ fn between(a: &mut [f64; CELLS], s: Stream, g: usize, h: usize)
 
 // A stream, where it is metered and leads from one group to another.
 fn join(a: &mut [f64; CELLS], s: Stream, labels: &[u8; PLACES])
-    requires { ⌜ (length (now a) ≡ cells) × Ends s × Labels (now labels) ⌝ }
+    requires { ⌜ (length (now a) ≡ cells) × WithinStream maxUnits s × Labels (now labels) ⌝ }
     ensures { λ _. ⌜ length (now (a .exit)) ≡ cells ⌝ }
 {
     let g = labels[s.from as usize] as usize;
@@ -54,7 +54,7 @@ fn join(a: &mut [f64; CELLS], s: Stream, labels: &[u8; PLACES])
 
 // All streams.
 pub fn laplacian(p: Plant, labels: [u8; PLACES]) -> [f64; CELLS]
-    requires { ⌜ Fit p × Labels labels ⌝ }
+    requires { ⌜ Accepted p × Labels labels ⌝ }
     ensures { λ r. ⌜ length r ≡ cells ⌝ }
 {
     let n = p.count as usize;

@@ -7,7 +7,7 @@ use plants::limits::PLACES;
 use wholes::by_label;
 use wholes::lowered;
 ghost use Prim.Native.Nat.{_≤_};
-ghost use Rattle.flows.specs.Calls.{Fit};
+ghost use Rattle.plants.specs.Within.{Accepted};
 ghost use Rattle.potentials.specs.Levels.{Labels, Level};
 
 mod elimination;
@@ -19,14 +19,14 @@ const WIDTH: usize = PLACES + 1;
 
 const CELLS: usize = PLACES * WIDTH;
 
-// Prices from top − spread to top, one for each label.
-pub fn potentials_of(p: Plant, labels: [u8; PLACES], top: u64, spread: u64) -> [u64; PLACES]
-    requires { ⌜ Fit p × Labels labels × (spread ≤ top) ⌝ }
-    ensures { λ r. ⌜ Level labels top spread r ⌝ }
+// Prices from top − band to top, one for each label.
+pub fn potentials_of(p: Plant, labels: [u8; PLACES], top: u64, band: u64) -> [u64; PLACES]
+    requires { ⌜ Accepted p × Labels labels × (band ≤ top) ⌝ }
+    ensures { λ r. ⌜ Level labels top band r ⌝ }
 {
     let places = p.units as usize + 1;
     let mut cells = laplacian(p, labels);
     eliminate(&mut cells, places);
     let real = substitute(&cells, places);
-    by_label(lowered(real, top, spread), labels)
+    by_label(lowered(real, top, band), labels)
 }

@@ -3,7 +3,7 @@ use plants::limits::PLACES;
 use std::num::truncating_f64_to_u64;
 ghost use mathlib.Core.Path.{_≡_};
 ghost use Prim.Native.Nat.{_+_, _≤_};
-ghost use Rattle.potentials.specs.Levels.{Labels, Bounded, atLabels};
+ghost use Rattle.potentials.specs.Levels.{Labels, Banded, atLabels};
 
 // The greatest price, 0 at least.
 fn greatest(x: [f64; PLACES]) -> f64 {
@@ -30,28 +30,24 @@ fn whole(x: f64) -> u64 {
     0
 }
 
-// By so much below top, but by spread at most.
-fn below(top: u64, spread: u64, fall: u64) -> u64
-    requires { ⌜ spread ≤ top ⌝ }
-    ensures { λ r. ⌜ (r ≤ top) × (top ≤ r + spread) ⌝ }
+// By so much below top, but by band at most.
+fn below(top: u64, band: u64, fall: u64) -> u64
+    requires { ⌜ band ≤ top ⌝ }
+    ensures { λ r. ⌜ (r ≤ top) × (top ≤ r + band) ⌝ }
 {
-    if spread < fall {
-        top - spread
-    } else {
-        top - fall
-    }
+    if band < fall { top - band } else { top - fall }
 }
 
-// The greatest price becomes top, the others as much lower as they are, by spread at most.
-pub fn lowered(x: [f64; PLACES], top: u64, spread: u64) -> [u64; PLACES]
-    requires { ⌜ spread ≤ top ⌝ }
-    ensures { λ r. ⌜ Bounded top spread r ⌝ }
+// The greatest price becomes top, the others as much lower as they are, by band at most.
+pub fn lowered(x: [f64; PLACES], top: u64, band: u64) -> [u64; PLACES]
+    requires { ⌜ band ≤ top ⌝ }
+    ensures { λ r. ⌜ Banded top band r ⌝ }
 {
     let most = greatest(x);
     let mut r = [top; PLACES];
     let mut u: usize = 0;
     while u < PLACES {
-        r[u] = below(top, spread, whole(most - x[u]));
+        r[u] = below(top, band, whole(most - x[u]));
         u += 1;
     }
     r

@@ -1,6 +1,11 @@
--- Laws of sheets.
-pub mod Amounts
-pub mod Shown
+-- Laws of balances and sheets.
+pub mod Opening
+pub mod Costing
+pub mod Entries
+pub mod Laying
+pub mod Apart
 pub mod Promise
 pub mod Unique
+pub mod Telling
+pub mod Answering
 pub mod Table

@@ -2,32 +2,31 @@
 use mathlib.Core.Path.{_≡_, refl, sym, ap, _∙_, subst}
 use mathlib.Core.List.{List}
 use Prim.Native.Nat.{ℕ, suc, _+_, _≤_}
-use native.Mathlib.Omega.{arith}
 use native.Mathlib.Numerals.{add-one}
 use lib.ListN.{length}
 use lib.Dec.{ltb}
 use borrow.Author.Tests.{eq-eqb, ne-eqb, ltb-false, eqb-false}
 use Rattle.numbers.specs.Choice.{refuseIf}
 use Rattle.numbers.proofs.Tests.{refuse-none, first-none-left, first-none-right}
-use Rattle.numbers.specs.Bytes.{over, Put}
+use Rattle.numbers.specs.Bytes.{over}
+use Rattle.numbers.specs.Inner.{Put}
 use Rattle.plants.specs.declared.Read.{Read}
 use Rattle.plants.specs.Plants.{Plant}
 use Rattle.plants.specs.Files.{Got, bad, got, readPlant}
+use Rattle.plants.specs.Within.{Accepted}
 use Rattle.plants.specs.Says.{arrayed, plantOf, readOf}
 use Rattle.plants.proofs.Accepted.{refused}
-use Rattle.flows.specs.Flows.{Cheapest}
-use Rattle.flows.proofs.Fits.{read-fits}
-use Rattle.paths.specs.Held.{opened}
-use Rattle.solver.specs.declared.Solved.{Solved}
-use Rattle.solver.specs.Promise.{Accepted, Right}
-use Rattle.solver.proofs.Theorem.{read-accepted}
+use Rattle.plants.proofs.Arrayed.{all-listed, read-accepted, read-held}
 use Rattle.sheets.specs.declared.Sheet.{Sheet}
-use Rattle.sheets.specs.Sheets.{leastSlice, sheetOf}
-use Rattle.sheets.specs.Says.{topSheet, callFault, SheetWith, SheetSays}
-use Rattle.sheets.specs.Calls.{Drawable}
+use Rattle.sheets.specs.declared.Balance.{Balance}
+use Rattle.sheets.specs.Balances.{BalanceSays}
+use Rattle.sheets.specs.Sheets.{sheetBytes, sheetOf}
+use Rattle.sheets.specs.Apart.{leastSlice}
+use Rattle.sheets.specs.Says.{SheetWith, SheetSays}
+use Rattle.sheets.specs.Sentences.{topSheet, callFault}
 
 -- What the reader handed over, by its number.
-read-bad : (g : Got) (y : Read) → y ≡ readOf g → (y .number ≡ 0 → ⊥) → g ≡ bad (y .number)
+pub read-bad : (g : Got) (y : Read) → y ≡ readOf g → (y .number ≡ 0 → ⊥) → g ≡ bad (y .number)
 read-bad (bad f) y e n = ap (λ (r : Read). bad (r .number)) (sym e)
 read-bad (got p) y e n = absurd (n (ap (λ (r : Read). r .number) e))
 
@@ -36,20 +35,21 @@ read-got (bad f) y e n h = absurd (h f refl (sym (ap (λ (r : Read). r .number) 
 read-got (got p) y e n h = (p, refl, ap (λ (r : Read). r .plant) e)
 
 module _ (file : List ℕ) (y : Read) (e : y ≡ readOf (readPlant file)) (n : y .number ≡ 0) where
-  found : (q : Plant) × (readPlant file ≡ got q) × (y .plant ≡ arrayed q)
+  pub found : (q : Plant) × (readPlant file ≡ got q) × (y .plant ≡ arrayed q)
   found = read-got (readPlant file) y e n (refused file)
 
   pub plant-accepted : Accepted (y .plant)
   plant-accepted = rw (found .2) (read-accepted file (found .0) (found .1))
 
-  pub plant-drawable : (s : Solved) → Right (y .plant) s → Drawable (y .plant) (s .flows)
-  plant-drawable s r =
-      record {
-        accepted = plant-accepted;
-        long = r .long;
-        amounts = λ k h. omega (arith, r .close k h .0);
-        cheapest = r .cheapest;
-      }
+  -- The plant as the file has it: its streams and its balance.
+  plant-same : plantOf (y .plant) ≡ found .0
+  plant-same = ap plantOf (found .2) ∙ read-held file (found .0) (found .1)
+
+  pub plant-count : y .plant .count ≡ length (found .0 .streams)
+  plant-count = sym (all-listed (y .plant) plant-accepted) ∙ ap (λ (x : Plant). length (x .streams)) plant-same
+
+  pub plant-balance : (b : Balance) → BalanceSays (plantOf (y .plant)) b → BalanceSays (found .0) b
+  plant-balance b t = subst (λ (x : Plant). BalanceSays x b) plant-same t
 
 -- A call without fault: the slice is long enough, and a sheet number is left.
 module _ (last : ℕ) (o : List ℕ) (e : callFault last o ≡ 0) where
@@ -58,6 +58,11 @@ module _ (last : ℕ) (o : List ℕ) (e : callFault last o ≡ 0) where
 
   pub one-left : last ≡ topSheet → ⊥
   one-left = eqb-false last topSheet (refuse-none _ 1 (first-none-right (refuseIf (ltb (length o) leastSlice) 1) _ e))
+
+-- What a call without fault ensures, by the file.
+pub call-taken : (file : List ℕ) (last : ℕ) (o o′ : List ℕ) (r : Sheet) → SheetSays file last o o′ r → callFault last o ≡ 0
+    → SheetWith (readPlant file) last o o′ r
+call-taken file last o o′ r s z = rw (eq-eqb (callFault last o) 0 z) at s
 
 module _ (file : List ℕ) (last : ℕ) (o : List ℕ) where
   pub call-refused : (f : ℕ) (r : Sheet) → f ≡ callFault last o → (f ≡ 0 → ⊥) → r ≡ record { number = f; written = 0; last = last } → SheetSays file last o o r
@@ -71,18 +76,16 @@ module _ (file : List ℕ) (last : ℕ) (o : List ℕ) where
         → r ≡ record { number = y .number; written = 0; last = last } → SheetSays file last o o r
     file-refused y r q n w = by-file o r (rw (read-bad (readPlant file) y q n) (w, refl))
 
-    pub sheet-drawn : (y : Read) (s : Solved) (o′ : List ℕ) (m : ℕ) → y ≡ readOf (readPlant file) → y .number ≡ 0 → Right (y .plant) s
-        → Put (sheetOf (plantOf (y .plant)) (opened (y .plant .count) (s .flows)) (last + 1)) o o′ m
-        → SheetSays file last o o′ (record { number = 0; written = m; last = last + 1 })
-    sheet-drawn y s o′ m q n t p =
-        let a = found file y q n in
-        let xs = opened (y .plant .count) (s .flows) in
-        let same : plantOf (y .plant) ≡ a .0 = ap plantOf (a .2) ∙ read-fits file (a .0) (a .1) .1 in
-        let sheet : sheetOf (plantOf (y .plant)) xs (last + 1) ≡ sheetOf (a .0) xs (suc last) = λ i. sheetOf (same i) xs (add-one last i) in
+    pub sheet-drawn : (y : Read) (b : Balance) (o′ : List ℕ) (m : ℕ) → y ≡ readOf (readPlant file) → y .number ≡ 0 → BalanceSays (plantOf (y .plant)) b
+        → Put (sheetBytes (y .plant .count) (last + 1) b) o o′ m → SheetSays file last o o′ (record { number = 0; written = m; last = last + 1 })
+    sheet-drawn y b o′ m q n t p =
+        let s = plant-balance file y q n b t in
+        let sheet : sheetBytes (y .plant .count) (last + 1) b ≡ sheetOf (found file y q n .0) (s .0) (suc last) =
+        λ i. sheetBytes (plant-count file y q n i) (add-one last i) (s .2 i) in
         by-file o′ (record { number = 0; written = m; last = last + 1 })
-        (rw (a .1) (
-          xs,
-          subst (λ (x : Plant). Cheapest x xs) same (t .cheapest),
+        (rw (found file y q n .1) (
+          s .0,
+          s .1,
           (λ i. record { number = 0; written = (p .size ∙ ap length sheet) i; last = add-one last i }),
           p .bytes ∙ ap (λ (l : List ℕ). over l o) sheet,
         ))

@@ -1,5 +1,5 @@
 -- The table of plants, proved by one computed test: prices certify each flow.
-use mathlib.Core.Path.{_≡_, refl}
+use mathlib.Core.Path.{_≡_, refl, ap, _∙_}
 use mathlib.Core.Bool.{Bool, true, false, _&&_, false≢true}
 use mathlib.Core.List.{List, [], _∷_}
 use lib.IntN.{ℤ, pos, negsuc}
@@ -7,12 +7,22 @@ use Prim.Native.Nat.{ℕ}
 use lib.Dec.{eqb}
 use borrow.Author.Tests.{eqb-true}
 use Rattle.numbers.proofs.Tests.{and-left, and-right}
+use Rattle.numbers.specs.Bytes.{over}
 use Rattle.plants.specs.Plants.{Plant}
 use Rattle.plants.specs.Files.{Got, bad, got, readPlant}
+use Rattle.plants.proofs.Limited.{within}
+use Rattle.plants.proofs.Accepted.{accepted}
+use Rattle.flows.specs.Flows.{Cheapest}
 use Rattle.flows.specs.Certificate.{certified}
 use Rattle.flows.proofs.Certified.{certified-cheapest}
+use Rattle.sheets.specs.declared.Sheet.{Sheet}
+use Rattle.sheets.specs.Sentences.{callFault}
+use Rattle.sheets.specs.Balances.{balanceOf}
 use Rattle.sheets.specs.Sheets.{sheetOf}
+use Rattle.sheets.specs.Says.{Drawn, SheetSays}
 use Rattle.sheets.specs.Table.{Example, Shows, AllShow, examples}
+use Rattle.sheets.proofs.Promise.{call-taken}
+use Rattle.sheets.proofs.Unique.{one-sheet}
 
 -- Two lists of bytes are one.
 abbrev sameBytes : List ℕ → List ℕ → Bool
@@ -30,17 +40,26 @@ same-bytes (x ∷ xs) (y ∷ ys) e =
     let t = same-bytes xs ys (and-right (eqb x y) (sameBytes xs ys) e) in
     λ i. h i ∷ t i
 
--- The test of one example, with prices for the places. (No amount here could fall at no cost, so that no cut is asked for.)
+-- A call draws the sheet of some cheapest flow, and any two have one sheet.
+calls-leave : (e : Example) (p : Plant) → readPlant (e .file) ≡ got p → Cheapest p (e .flow) → sheetOf p (e .flow) 1 ≡ e .sheet
+    → (o o′ : List ℕ) (r : Sheet) → callFault 0 o ≡ 0 → SheetSays (e .file) 0 o o′ r → o′ ≡ over (e .sheet) o
+calls-leave e p q c b o o′ r z s =
+    let d : Drawn p 0 o o′ r = rw q at (call-taken (e .file) 0 o o′ r s z) in
+    let w = within p (accepted (e .file) p q .0) in
+    d .3 ∙ ap (λ (l : List ℕ). over l o) (one-sheet p w (d .0) (e .flow) (d .1) c 1 ∙ b)
+
+-- The test of one example, with prices for the places.
 abbrev shows : Example → List ℤ → Got → Bool
 shows e prices (bad f) = false
-shows e prices (got p) = certified p (e .flow) prices [] && sameBytes (sheetOf p (e .flow) 1) (e .sheet)
+shows e prices (got p) = certified p (e .flow) prices && sameBytes (sheetOf p (e .flow) 1) (e .sheet)
 
 shows-right : (e : Example) (prices : List ℤ) (g : Got) → readPlant (e .file) ≡ g → shows e prices g ≡ true → Shows e
 shows-right e prices (bad f) r t = absurd (false≢true t)
 shows-right e prices (got p) r t =
-    let c = certified p (e .flow) prices [] in
+    let c = certified p (e .flow) prices in
     let s = sameBytes (sheetOf p (e .flow) 1) (e .sheet) in
-    (p, r, certified-cheapest p (e .flow) prices [] (and-left c s t), same-bytes (sheetOf p (e .flow) 1) (e .sheet) (and-right c s t))
+    let cheapest = certified-cheapest p (e .flow) prices (and-left c s t) in
+    (p, r, cheapest, calls-leave e p r cheapest (same-bytes (sheetOf p (e .flow) 1) (e .sheet) (and-right c s t)))
 
 -- The test of the whole table.
 abbrev allShow : List Example → List (List ℤ) → Bool
@@ -71,5 +90,5 @@ prices =
     ∷ []
 
 pub table : AllShow examples
-unfolding prices
+unfolding prices balanceOf
 table = all-right examples prices refl

@@ -1,35 +1,39 @@
--- No choice is left: two cheapest flows of one plant give one and the same sheet.
+-- No choice is left: two cheapest flows of one plant give one and the same balance, and so one sheet.
 use mathlib.Core.Path.{_≡_, refl, sym, ap, _∙_}
 use mathlib.Core.Bool.{Bool, true, false}
 use mathlib.Core.List.{List, [], _∷_, _++_}
 use lib.IntN.{ℤ}
 use Prim.Native.Nat.{ℕ, zero, suc, _≤_, _<_}
 use native.Mathlib.Omega.{arith}
-use lib.Dec.{eqb}
+use borrow.Author.Tests.{ltb-true, ltb-false}
+use lib.Dec.{eqb, ltb}
 use lib.ListN.{length}
 use Rattle.numbers.specs.Choice.{pick}
 use Rattle.numbers.specs.Bytes.{over}
 use Rattle.numbers.proofs.Tests.{by-cases}
 use Rattle.plants.specs.declared.Stream.{Stream}
+use Rattle.plants.specs.Limits.{maxStreams}
 use Rattle.plants.specs.Plants.{Plant}
 use Rattle.plants.specs.Files.{Got, bad, got, readPlant}
 use Rattle.plants.specs.Within.{Within}
 use Rattle.plants.proofs.Limited.{within}
 use Rattle.plants.proofs.Accepted.{accepted}
-use Rattle.plants.proofs.Back.{round-trip}
 use Rattle.flows.specs.declared.Class.{Class}
 use Rattle.flows.specs.declared.Class.the-variants.{Adjusted, AsRead, Given, Withheld}
 use Rattle.flows.specs.Flows.{streamAt, amountAt, cost, meteredOf, Cheapest}
 use Rattle.flows.specs.Classes.{classOf, numberOf, degrees}
-use Rattle.flows.specs.Test.{verdictOf}
+use Rattle.flows.specs.Test.{verdictAt}
 use Rattle.flows.proofs.Nets.{balanced-size}
+use Rattle.flows.proofs.Lists.{values-same}
 use Rattle.flows.proofs.Order.{one}
+use Rattle.flows.proofs.ByLabels.{class-past}
 use Rattle.flows.proofs.Given.{class-means, number-is, given-agree}
-use Rattle.flows.proofs.Demand.{demand-3}
 use Rattle.sheets.specs.declared.Sheet.{Sheet}
-use Rattle.sheets.specs.Sheets.{recordOf, recordsTo, totalOf, sheetOf}
-use Rattle.sheets.specs.Says.{callFault, Refused, Drawn, SheetWith, No-choice, Demands}
-use Rattle.sheets.proofs.Shown.{record-same}
+use Rattle.sheets.specs.Balances.{entryOf, balanceOf}
+use Rattle.sheets.specs.Sheets.{sheetBytes, sheetOf}
+use Rattle.sheets.specs.Says.{Drawn, SheetWith, No-choice}
+use Rattle.sheets.specs.Sentences.{callFault, Refused}
+use Rattle.sheets.proofs.Entries.{entry-same}
 
 -- Flows with the same metered amounts have the same amount on each metered stream.
 metered-at : (ss : List Stream) (xs ys : List ℤ) → length xs ≡ length ss → length ys ≡ length ss → meteredOf ss xs ≡ meteredOf ss ys
@@ -46,7 +50,7 @@ metered-at (s ∷ ss) (x ∷ xs) (y ∷ ys) m n e (suc k) h t = metered-at ss xs
 
 module _ (p : Plant) (w : Within p) (xs ys : List ℤ) (c : Cheapest p xs) (d : Cheapest p ys) where
   -- An amount that is shown is the same in both.
-  amount-same : (k : ℕ) → k < length (p .streams) → (classOf p k ≡ Withheld → ⊥) → amountAt xs k ≡ amountAt ys k
+  pub amount-same : (k : ℕ) → k < length (p .streams) → (classOf p k ≡ Withheld → ⊥) → amountAt xs k ≡ amountAt ys k
   amount-same k h n = go (classOf p k) refl
     where
       metered : streamAt (p .streams) k .metered ≡ true → amountAt xs k ≡ amountAt ys k
@@ -58,20 +62,29 @@ module _ (p : Plant) (w : Within p) (xs ys : List ℤ) (c : Cheapest p xs) (d : 
       go Given e = given-agree p w k h e xs ys (record { first = c .balance; second = d .balance; metered = one p xs ys c d })
       go Withheld e = absurd (n e)
 
-  records-same : (k : ℕ) → k ≤ length (p .streams) → recordsTo p xs k ≡ recordsTo p ys k
-  records-same zero h = refl
-  records-same (suc k) h = λ i. records-same k (omega arith) i ++ here i
+  -- An entry is the same in both.
+  entries-same : (k : ℕ) → entryOf (classOf p k) (numberOf p xs k) ≡ entryOf (classOf p k) (numberOf p ys k)
+  entries-same k = entry-same (classOf p k) (numberOf p xs k) (numberOf p ys k) (λ n. by-cases (ltb k (length (p .streams))) (listed n) (past n))
     where
-      here : recordOf (classOf p k) (numberOf p xs k) ≡ recordOf (classOf p k) (numberOf p ys k)
-      here =
-          record-same (classOf p k) (numberOf p xs k) (numberOf p ys k)
-          (λ e. number-is p w xs (c .balance) k (omega arith) e ∙ amount-same k (omega arith) e ∙ sym (number-is p w ys (d .balance) k (omega arith) e))
+      listed : (classOf p k ≡ Withheld → ⊥) → ltb k (length (p .streams)) ≡ true → numberOf p xs k ≡ numberOf p ys k
+      listed n t =
+          let h = ltb-true k (length (p .streams)) t in
+          number-is p w xs (c .balance) k h n ∙ amount-same k h n ∙ sym (number-is p w ys (d .balance) k h n)
 
-  cost-same : cost (p .streams) xs ≡ cost (p .streams) ys
+      past : (classOf p k ≡ Withheld → ⊥) → ltb k (length (p .streams)) ≡ false → numberOf p xs k ≡ numberOf p ys k
+      past n t = absurd (n (class-past p k (ltb-false k (length (p .streams)) t)))
+
+  pub cost-same : cost (p .streams) xs ≡ cost (p .streams) ys
   cost-same = let a = c .least ys (d .balance) in let b = d .least xs (c .balance) in omega arith
 
+  pub one-balance : balanceOf p xs ≡ balanceOf p ys
+  unfolding balanceOf
+  one-balance =
+      let e = values-same maxStreams (λ k. entryOf (classOf p k) (numberOf p xs k)) (λ k. entryOf (classOf p k) (numberOf p ys k)) (λ k l. entries-same k) in
+      λ i. record { streams = e i; cost = cost-same i; degrees = degrees p; verdict = verdictAt (degrees p) (cost-same i) }
+
   pub one-sheet : (n : ℕ) → sheetOf p xs n ≡ sheetOf p ys n
-  one-sheet n = λ i. records-same (length (p .streams)) (omega arith) i ++ totalOf n (cost-same i) (degrees p) (verdictOf p (cost-same i))
+  one-sheet n = ap (sheetBytes (length (p .streams)) n) one-balance
 
 -- What a call returns and leaves behind follows from what it was handed.
 module _ (last : ℕ) (o o₁ o₂ : List ℕ) (r₁ r₂ : Sheet) where
@@ -92,7 +105,3 @@ no-choice file last o o₁ o₂ r₁ r₂ a b =
     by-cases (eqb (callFault last o) 0)
     (λ t. read-same last o o₁ o₂ r₁ r₂ (readPlant file) (λ p e. within p (accepted file p e .0)) (rw t at a) (rw t at b))
     (λ t. refused-same last o o₁ o₂ r₁ r₂ (callFault last o) (rw t at a) (rw t at b))
-
--- The demands, all of them.
-pub demands : Demands
-demands = record { round = round-trip; third = demand-3; no-choice = no-choice }

@@ -1,5 +1,10 @@
--- Sheets: their bytes, what the sheet call promises, the demands in one record, and what the call's parts require.
+-- Balances and sheets: a sheet taken apart, the sentences about its bytes and the demands; the bytes of a sheet, what the sheet
+-- call ensures, and what a balance's parts require.
+pub mod Apart
+pub mod Sentences
+pub mod Balances
 pub mod Sheets
 pub mod Says
+pub mod Demands
 pub mod Calls
 pub mod Table

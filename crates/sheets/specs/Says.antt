@@ -1,30 +1,18 @@
--- What the sheet call promises, and the demands.
+-- What the sheet call ensures, byte by byte.
 use mathlib.Core.Path.{_≡_}
 use mathlib.Core.List.{List}
 use lib.IntN.{ℤ}
 use Prim.Native.Nat.{ℕ, suc}
-use lib.Dec.{eqb, ltb}
+use lib.Dec.{eqb}
 use lib.ListN.{length}
-use Rattle.numbers.specs.Choice.{pickT, refuseIf, firstOf}
+use Rattle.numbers.specs.Inner.{pickT}
 use Rattle.numbers.specs.Bytes.{over}
 use Rattle.plants.specs.Plants.{Plant}
-use Rattle.plants.specs.Files.{Got, bad, got, readPlant, Round-trip}
+use Rattle.plants.specs.Files.{Got, bad, got, readPlant}
 use Rattle.flows.specs.Flows.{Cheapest}
-use Rattle.flows.specs.Shown.{Demand-3}
 use Rattle.sheets.specs.declared.Sheet.{Sheet}
-use Rattle.sheets.specs.Sheets.{leastSlice, sheetOf}
-
--- The last sheet number that there is.
-abbrev pub topSheet : ℕ
-topSheet = 4294967295
-
--- The refusals of the call itself: a slice under 879 bytes 1, no sheet number left 2.
-abbrev pub callFault : ℕ → List ℕ → ℕ
-callFault last o = firstOf (refuseIf (ltb (length o) leastSlice) 1) (refuseIf (eqb last topSheet) 2)
-
--- A refusal: its number, nothing written, counter and slice as they were.
-abbrev pub Refused : ℕ → ℕ → List ℕ → List ℕ → Sheet → Type 0
-Refused f last o o′ r = (r ≡ record { number = f; written = 0; last = last }) × (o′ ≡ o)
+use Rattle.sheets.specs.Sheets.{sheetOf}
+use Rattle.sheets.specs.Sentences.{callFault, Refused}
 
 -- A sheet drawn: that of the cheapest flow, under the next number; the slice past it as it was.
 abbrev pub Drawn : Plant → ℕ → List ℕ → List ℕ → Sheet → Type 0
@@ -48,8 +36,3 @@ abbrev pub No-choice : Type 0
 No-choice =
     (file : List ℕ) (last : ℕ) (o o₁ o₂ : List ℕ) (r₁ r₂ : Sheet)
     → SheetSays file last o o₁ r₁ → SheetSays file last o o₂ r₂ → (r₁ ≡ r₂) × (o₁ ≡ o₂)
-
-pub record Demands : Type 0 where
-  pub round : Round-trip
-  pub third : Demand-3
-  pub no-choice : No-choice

@@ -1,21 +1,28 @@
--- The proved table of plants: files, their cheapest flows and their sheets, byte for byte.
+-- The proved table of plants: files, their cheapest flows, and the sheets that calls leave in the slice, byte for byte.
 use mathlib.Core.Path.{_≡_}
 use mathlib.Core.List.{List, [], _∷_, _++_}
 use lib.IntN.{ℤ, pos}
 use Prim.Native.Nat.{ℕ}
+use Rattle.numbers.specs.Bytes.{over}
 use Rattle.plants.specs.Plants.{Plant}
 use Rattle.plants.specs.Files.{got, readPlant}
 use Rattle.flows.specs.Flows.{Cheapest}
-use Rattle.sheets.specs.Sheets.{sheetOf}
+use Rattle.sheets.specs.declared.Sheet.{Sheet}
+use Rattle.sheets.specs.Sentences.{callFault}
+use Rattle.sheets.specs.Says.{SheetSays}
 
 pub record Example : Type 0 where
   pub file : List ℕ
   pub flow : List ℤ
   pub sheet : List ℕ
 
--- The file reads to a plant, the flow is its cheapest, and sheet 1 has these bytes.
+-- The file reads to a plant, the flow is its cheapest, and every first call with a slice that is taken leaves this sheet there.
 abbrev pub Shows : Example → Type 0
-Shows e = (p : Plant) × (readPlant (e .file) ≡ got p) × Cheapest p (e .flow) × (sheetOf p (e .flow) 1 ≡ e .sheet)
+Shows e =
+    (p : Plant)
+    × (readPlant (e .file) ≡ got p)
+    × Cheapest p (e .flow)
+    × ((o o′ : List ℕ) (r : Sheet) → callFault 0 o ≡ 0 → SheetSays (e .file) 0 o o′ r → o′ ≡ over (e .sheet) o)
 
 abbrev pub AllShow : List Example → Type 0
 AllShow [] = Unit {0}

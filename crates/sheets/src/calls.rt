@@ -1,23 +1,12 @@
 // The sheet call.
 use crate::Sheet;
-use crate::costs::cost_of;
+use crate::balances::balance_of;
 use crate::kinds::LEAST_SLICE;
 use crate::kinds::TOP_SHEET;
-use crate::kinds::TOTAL_SIZE;
-use crate::records::put_records;
-use crate::records::put_total;
-use flows::Which;
-use plants::Plant;
-use plants::limits::MAX_STREAMS;
+use crate::records::put_sheet;
 ghost use mathlib.Core.Path.{_≡_};
-ghost use Prim.Native.Nat.{_≤_};
-ghost use lib.ListN.{length};
-ghost use Rattle.numbers.specs.Bytes.{Put};
-ghost use Rattle.plants.specs.Says.{plantOf};
-ghost use Rattle.paths.specs.Held.{opened};
-ghost use Rattle.sheets.specs.Sheets.{leastSlice, sheetOf};
-ghost use Rattle.sheets.specs.Says.{callFault, SheetSays};
-ghost use Rattle.sheets.specs.Calls.{Drawable};
+ghost use Rattle.sheets.specs.Says.{SheetSays};
+ghost use Rattle.sheets.specs.Sentences.{callFault};
 
 // A refusal counts nothing and hands the last sheet number back.
 fn refused(number: u8, last: u32) -> Sheet
@@ -43,23 +32,7 @@ fn call_fault(last: u32, sheet: &[u8]) -> u8
     0
 }
 
-// The sheet of a plant and its corrected flows, under a number, and how many bytes it takes.
-fn put_sheet(p: Plant, flows: [u64; MAX_STREAMS], number: u32, out: &mut [u8]) -> usize
-    requires { ⌜ Drawable p flows × (leastSlice ≤ length (now out)) ⌝ }
-    ensures { λ r. ⌜ Put (sheetOf (plantOf p) (opened (p .count) flows) number) (now (out .entry)) (now (out .exit)) r ⌝ }
-{
-    let labels = flows::group(p, Which::Unmetered);
-    let classes = flows::classes_of(p, labels);
-    let at = put_records(p.count as usize, classes, flows, out);
-    let cost = cost_of(p, flows);
-    let degrees = flows::degrees_of(p, labels);
-    let verdict = flows::verdict(degrees, cost);
-    put_total(number, cost, degrees, verdict, &mut out[at..]);
-    at + TOTAL_SIZE
-}
-
-// The balance sheet of a plant file, or a refusal that leaves slice and counter as they were. The plant as read is handed on
-// unchanged, beside the corrected flows.
+// The balance sheet of a plant file, or a refusal that leaves slice and counter as they were.
 pub fn balance_plant(file: &[u8], last: u32, sheet: &mut [u8]) -> Sheet
     ensures { λ r. ⌜ SheetSays (now (file .entry)) last (now (sheet .entry)) (now (sheet .exit)) r ⌝ }
 {
@@ -73,10 +46,10 @@ pub fn balance_plant(file: &[u8], last: u32, sheet: &mut [u8]) -> Sheet
         return refused(number, last);
     }
     let plant = read.plant;
-    let solved = solver::solve(plant);
-    let corrected = solved.flows;
+    let balance = balance_of(plant);
+    let count = plant.count as usize;
     let next = last + 1;
-    let written = put_sheet(plant, corrected, next, sheet);
+    let written = put_sheet(count, next, balance, sheet);
     Sheet {
         number: 0,
         written: written,

@@ -1,12 +1,26 @@
 // The sheet call: from a plant file to its balance sheet.
+pub mod balances;
 mod calls;
-mod costs;
 pub mod kinds;
 mod records;
 
 pub use calls::balance_plant;
-pub use plants::read_plant;
-pub use plants::write_plant;
+use flows::Class;
+use plants::limits::MAX_STREAMS;
+
+// A stream on a balance: its class and its flow, 0 where it is withheld.
+pub struct Entry {
+    pub class: Class,
+    pub flow: i64,
+}
+
+// The balance of a plant: an entry for each stream, empty past the last one, and cost, degrees and verdict.
+pub struct Balance {
+    pub streams: [Entry; MAX_STREAMS],
+    pub cost: u64,
+    pub degrees: u8,
+    pub verdict: u8,
+}
 
 // What the sheet call hands over: 0, the bytes written and the sheet's number; or a refusal number, 0 and the last sheet
 // number as it was.

@@ -12,19 +12,22 @@ use lib.ListN.{length, getD, set, replicate, length-set, getD-replicate}
 use Rattle.numbers.specs.Choice.{pick}
 use Rattle.numbers.proofs.Tests.{by-cases}
 use Rattle.plants.specs.declared.Stream.{Stream}
-use Rattle.plants.specs.Limits.{places, maxStreams}
+use Rattle.plants.specs.Limits.{maxUnits, places, maxStreams}
 use Rattle.flows.specs.Flows.{streamAt}
 use Rattle.flows.proofs.Integers.{up, dn, parts, plus-val, up-neg, dn-neg}
 use Rattle.flows.proofs.Sums.{sum}
 use Rattle.flows.proofs.Nets.{brought}
 use Rattle.paths.specs.Sizes.{flowShift, mostFlow, netShift}
 use Rattle.paths.specs.Held.{unshifted}
-use Rattle.paths.specs.Premises.{Placed}
 use Rattle.paths.proofs.Amounts.{unshifted-val, brought-val, get-set, net}
 use Rattle.paths.proofs.Elements.{set-each}
 use Rattle.solver.specs.Sizes.{netRoom}
 use Rattle.solver.specs.Model.{left, come, booked, netsTo}
 use Rattle.solver.specs.Premises.{Close, Around}
+
+-- A stream between places.
+abbrev pub Between : Stream → Type 0
+Between s = (s .from ≤ maxUnits) × (s .to ≤ maxUnits)
 
 -- At first, after a store near the old value, and with a wider bound.
 pub around-start : Around (replicate places netShift) 0
@@ -48,14 +51,14 @@ around-more a c h = record { long = a .long; low = λ k l. omega (arith, a .low 
 pub left-around : {e : List ℕ} {b : ℕ} → Around e b → b ≤ netRoom → (u x : ℕ) → u < places → x ≤ mostFlow → Around (left e u x) (b + mostFlow)
 left-around a hb u x hu hx = around-set a u _ hu (omega (arith, a .low u hu)) (omega (arith, a .low u hu))
 
-booked-around : {e : List ℕ} {b : ℕ} → Around e b → b ≤ netRoom → (s : Stream) → Placed s → (x : ℕ) → x ≤ mostFlow → Around (booked e s x) (b + 2 * mostFlow)
+booked-around : {e : List ℕ} {b : ℕ} → Around e b → b ≤ netRoom → (s : Stream) → Between s → (x : ℕ) → x ≤ mostFlow → Around (booked e s x) (b + 2 * mostFlow)
 booked-around a hb s hs x hx =
     let l = left-around a hb (s .from) x (omega arith) hx in
     around-more (around-set l (s .to) _ (omega arith) (omega (arith, l .low (s .to) (omega arith))) (omega (arith, l .low (s .to) (omega arith)))) _ (omega arith)
 
 module _ (ss : List Stream) (xs : List ℕ) where
   -- After n streams.
-  pub nets-around : (n : ℕ) → n ≤ maxStreams → ((k : ℕ) → k < n → Placed (streamAt ss k)) → ((k : ℕ) → k < n → getD xs k 0 ≤ mostFlow)
+  pub nets-around : (n : ℕ) → n ≤ maxStreams → ((k : ℕ) → k < n → Between (streamAt ss k)) → ((k : ℕ) → k < n → getD xs k 0 ≤ mostFlow)
       → Around (netsTo ss xs n) (2 * mostFlow * n)
   unfolding netsTo
   nets-around zero h hs hx = around-start
@@ -65,6 +68,14 @@ module _ (ss : List Stream) (xs : List ℕ) where
       (getD xs n 0) (hx n (omega arith)))
       _
       (omega arith)
+
+  pub nets-long : (n : ℕ) → length (netsTo ss xs n) ≡ places
+  unfolding netsTo
+  nets-long zero = refl
+  nets-long (suc n) =
+      length-set (left (netsTo ss xs n) (streamAt ss n .from) (getD xs n 0)) (streamAt ss n .to) _
+      ∙ length-set (netsTo ss xs n) (streamAt ss n .from) _
+      ∙ nets-long n
 
 -- A store in the nets, by value.
 come-val : (e : List ℕ) (v x u : ℕ) → v < length e → flowShift ≤ getD e v 0 + x → getD (come e v x) u 0 + pick (eqb v u) flowShift 0 ≡ getD e u 0 + pick (eqb v u) x 0
@@ -79,7 +90,7 @@ left-val e v x u l h =
 
 -- The nets as booked are those of the flow.
 module _ (ss : List Stream) (xs : List ℕ) where
-  pub nets-right : (n : ℕ) → n ≤ maxStreams → ((k : ℕ) → k < n → Placed (streamAt ss k)) → ((k : ℕ) → k < n → getD xs k 0 ≤ mostFlow) → (u : ℕ) → u < places
+  pub nets-right : (n : ℕ) → n ≤ maxStreams → ((k : ℕ) → k < n → Between (streamAt ss k)) → ((k : ℕ) → k < n → getD xs k 0 ≤ mostFlow) → (u : ℕ) → u < places
       → up (sum n (λ k. brought u (streamAt ss k) (unshifted (getD xs k 0)))) + netShift
       ≡ getD (netsTo ss xs n) u 0 + dn (sum n (λ k. brought u (streamAt ss k) (unshifted (getD xs k 0))))
   unfolding netsTo
@@ -90,12 +101,12 @@ module _ (ss : List Stream) (xs : List ℕ) where
       let es = netsTo ss xs n in
       let a = nets-around ss xs n (omega arith) (λ k m. hs k (omega arith)) (λ k m. hx k (omega arith)) in
       let p = hs n (omega arith) in
-      let b = left-around a (omega arith) (s .from) x (omega (arith, p .from-in)) (hx n (omega arith)) in
+      let b = left-around a (omega arith) (s .from) x (omega (arith, p .0)) (hx n (omega arith)) in
       omega (
         arith,
         nets-right n (omega arith) (λ k m. hs k (omega arith)) (λ k m. hx k (omega arith)) u l,
-        left-val es (s .from) x u (rw (a .long) (omega (arith, p .from-in))) (omega (arith, a .low (s .from) (omega (arith, p .from-in)), hx n (omega arith))),
-        come-val (left es (s .from) x) (s .to) x u (rw (b .long) (omega (arith, p .to-in))) (omega (arith, b .low (s .to) (omega (arith, p .to-in)))),
+        left-val es (s .from) x u (rw (a .long) (omega (arith, p .0))) (omega (arith, a .low (s .from) (omega (arith, p .0)), hx n (omega arith))),
+        come-val (left es (s .from) x) (s .to) x u (rw (b .long) (omega (arith, p .1))) (omega (arith, b .low (s .to) (omega (arith, p .1)))),
         brought-val flowShift (eqb (s .to) u) (eqb (s .from) u) x (unshifted x) (unshifted-val x),
         plus-val (brought u s (unshifted x)) (sum n (λ k. brought u (streamAt ss k) (unshifted (getD xs k 0)))),
       )

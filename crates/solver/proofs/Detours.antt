@@ -18,7 +18,7 @@ use Rattle.flows.specs.Flows.{streamAt}
 use Rattle.flows.proofs.Integers.{up, dn, same}
 use Rattle.flows.specs.Certificate.{weightOf}
 use Rattle.paths.specs.declared.Tree.{Tree}
-use Rattle.paths.specs.Sizes.{rounds}
+use Rattle.paths.specs.Sizes.{searchRounds}
 use Rattle.paths.specs.Held.{readingOf, Held, AllHeld}
 use Rattle.paths.specs.Search.{rootAt, Grown, tightPath}
 use Rattle.paths.specs.Push.{pushed}
@@ -71,11 +71,11 @@ module _ (ss : List Stream) (v : Solvable ss) (ps : List ℕ) (i : ℕ) (li : i 
   some k l = omega (arith, h .close k (omega (arith, v .plain .few)) .1, v .plain .few)
 
   -- The search for a way round stream i.
-  pub round-path : Path maxUnits ss xs ps (s .from) (s .to) (suc i) (tightPath ss (length ss) xs ps (s .to) (suc i) rounds (rootAt (s .from)))
+  pub round-path : Path maxUnits ss xs ps (s .from) (s .to) (suc i) (tightPath ss (length ss) xs ps (s .to) (suc i) searchRounds (rootAt (s .from)))
   round-path =
       path-good maxUnits ss (v .plain) xs ps (s .from) (s .to) (suc i) nf nt
       some
-      rounds (rootAt (s .from)) start (omega arith) (start .marks (s .to) (omega (arith, nt)) ∙ ne-eqb (s .from) (s .to) (v .apart i li)) (λ k l. absurd (omega arith))
+      searchRounds (rootAt (s .from)) start (omega arith) (start .marks (s .to) (omega (arith, nt)) ∙ ne-eqb (s .from) (s .to) (v .apart i li)) (λ k l. absurd (omega arith))
     where
       nf : s .from ≤ maxUnits
       nf = v .plain .inside i li .0

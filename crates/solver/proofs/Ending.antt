@@ -23,15 +23,15 @@ use Rattle.paths.specs.Premises.{Prices}
 use Rattle.paths.proofs.Amounts.{net}
 use Rattle.solver.specs.declared.Hint.{Hint}
 use Rattle.solver.specs.declared.State.{State}
-use Rattle.solver.specs.Sizes.{mostReading, spread, stepFall, hintBudget, hintFloor, hintRoom, leftoverLimit, fuel}
+use Rattle.solver.specs.Sizes.{mostReading, priceBand, stepFall, hintBudget, hintFloor, hintRoom, leftoverLimit, fuel}
 use Rattle.solver.specs.Model.{settled, improvements, overSum, noHint, asHint, begun, finished}
-use Rattle.solver.specs.Premises.{Start, Hinted, Ready, Sound, Allows, Even}
+use Rattle.solver.specs.Premises.{Start, Hinted, Ready, AtHint, Sound, Allows, Even}
 use Rattle.solver.proofs.Booking.{net-most}
 use Rattle.solver.proofs.Steady.{over-most, nets-val, sound-more, After, improvements-good}
 use Rattle.solver.proofs.Nearest.{Solvable, held-more, held-agreed, settled-sound}
 
 -- A wider range.
-pub start-more : (ss : List Stream) (low b low′ b′ : ℕ) (h : Hint) → Start ss low b h → low′ ≤ low → priceShift ≤ low′ + spread → mostReading + priceShift ≤ b′ + low′
+pub start-more : (ss : List Stream) (low b low′ b′ : ℕ) (h : Hint) → Start ss low b h → low′ ≤ low → priceShift ≤ low′ + priceBand → mostReading + priceShift ≤ b′ + low′
     → b ≤ b′ → b′ ≤ flowShift → Start ss low′ b′ h
 start-more ss low b low′ b′ h s p q r t u = record {
   agree = s .agree;
@@ -159,56 +159,56 @@ pub record Begun (ss : List Stream) (st : State) : Type 0 where
   pub sound : Sound ss 1 (stepFall * fuel) hintRoom st
   pub enough : overSum (st .nets) ≤ fuel
 
-module _ (ss : List Stream) (v : Solvable ss) (h : Hint) (s : Hinted ss h) where
-  pub begun-good : Begun ss (begun ss h)
-  begun-good = picked (Begun ss) (ltb leftoverLimit (overSum (settled ss h .nets))) (settled ss noHint) (settled ss h)
+module _ (ss : List Stream) (v : Solvable ss) (st : State) (s : AtHint ss st) where
+  pub begun-good : Begun ss (begun ss st)
+  begun-good = picked (Begun ss) (ltb leftoverLimit (overSum (st .nets))) (settled ss noHint) st
       (λ e. record { sound = from noHint (none-hinted ss v); enough = none-over ss v })
-      (λ e. record { sound = from h s; enough = omega (arith, ltb-false leftoverLimit (overSum (settled ss h .nets)) e) })
+      (λ e. record { sound = rw (s .is) (from (s .hint) (s .hinted)); enough = omega (arith, ltb-false leftoverLimit (overSum (st .nets)) e) })
     where
       from : (g : Hint) → Hinted ss g → Sound ss 1 (stepFall * fuel) hintRoom (settled ss g)
       from g t = sound-more ss 1 hintFloor hintRoom (settled ss g) (settled-sound ss v g hintFloor hintRoom t) (stepFall * fuel) hintRoom (omega arith) (omega arith)
 
-  pub begun-allows : Allows ss 1 fuel (begun ss h)
+  pub begun-allows : Allows ss 1 fuel (begun ss st)
   begun-allows = record {
     size = hintRoom;
-    sound = sound-more ss 1 _ hintRoom (begun ss h) (begun-good .sound) (stepFall * 1 * fuel) hintRoom (omega arith) (omega arith);
+    sound = sound-more ss 1 _ hintRoom (begun ss st) (begun-good .sound) (stepFall * 1 * fuel) hintRoom (omega arith) (omega arith);
     fits = omega arith;
   }
 
   -- They lead to the end: no net is positive, so that none is negative.
-  after : After ss 1 0 hintRoom fuel (begun ss h) (finished ss h)
+  after : After ss 1 0 hintRoom fuel (begun ss st) (finished ss st)
   after =
-      improvements-good ss (v .plain) 1 (omega arith) 0 fuel hintRoom (begun ss h) (omega arith)
-      (sound-more ss 1 _ hintRoom (begun ss h) (begun-good .sound) (0 + stepFall * 1 * fuel) hintRoom (omega arith) (omega arith))
+      improvements-good ss (v .plain) 1 (omega arith) 0 fuel hintRoom (begun ss st) (omega arith)
+      (sound-more ss 1 _ hintRoom (begun ss st) (begun-good .sound) (0 + stepFall * 1 * fuel) hintRoom (omega arith) (omega arith))
 
   -- The improvements at step 1 do not run out.
-  pub none-left : (u : ℕ) → u < places → getD (finished ss h .nets) u 0 ≤ netShift
+  pub none-left : (u : ℕ) → u < places → getD (finished ss st .nets) u 0 ≤ netShift
   none-left u l = omega (arith, after .level (begun-good .enough) u l)
 
-  pub finished-even : Even ss (finished ss h .prices) 0 (finished ss h .flows)
+  pub finished-even : Even ss (finished ss st .prices) 0 (finished ss st .flows)
   finished-even = record {
     long = after .sound .long;
     held = after .sound .held;
-    level = λ u l. level-nets ss (v .plain .inside) (λ k. unshifted (getD (finished ss h .flows) k 0)) none u (omega arith);
+    level = λ u l. level-nets ss (v .plain .inside) (λ k. unshifted (getD (finished ss st .flows) k 0)) none u (omega arith);
     close = λ k l. (omega (arith, after .sound .close k l .0), omega (arith, after .sound .close k l .1));
   }
     where
-      none : (u : ℕ) → u ≤ maxUnits → up (net ss (finished ss h .flows) u) ≡ 0
+      none : (u : ℕ) → u ≤ maxUnits → up (net ss (finished ss st .flows) u) ≡ 0
       none u l =
-          let a = nets-val ss 1 0 (hintRoom + 1 * fuel) (finished ss h) (after .sound) u (omega arith) in
+          let a = nets-val ss 1 0 (hintRoom + 1 * fuel) (finished ss st) (after .sound) u (omega arith) in
           let b = none-left u (omega arith) in
-          ⊎-elim (λ (o : up (net ss (finished ss h .flows) u) ≡ 0). o) (λ (o : dn (net ss (finished ss h .flows) u) ≡ 0). omega (arith, a, b))
-          (parts (net ss (finished ss h .flows) u))
+          ⊎-elim (λ (o : up (net ss (finished ss st .flows) u) ≡ 0). o) (λ (o : dn (net ss (finished ss st .flows) u) ≡ 0). omega (arith, a, b))
+          (parts (net ss (finished ss st .flows) u))
 
-  pub finished-prices : Prices (finished ss h .prices)
+  pub finished-prices : Prices (finished ss st .prices)
   finished-prices = after .sound .capped
 
-  pub finished-priced : length (finished ss h .prices) ≡ places
+  pub finished-priced : length (finished ss st .prices) ≡ places
   finished-priced = after .sound .priced
 
 -- Which of the two it is, by how much is left over.
-pub begun-hint : (ss : List Stream) (h : Hint) (over : ℕ) → over ≡ overSum (settled ss h .nets) → over ≤ leftoverLimit → settled ss h ≡ begun ss h
-begun-hint ss h over e l = sym (rw (← e, le-ltb leftoverLimit over l))
+pub begun-hint : (ss : List Stream) (st : State) (over : ℕ) → over ≡ overSum (st .nets) → over ≤ leftoverLimit → st ≡ begun ss st
+begun-hint ss st over e l = sym (rw (← e, le-ltb leftoverLimit over l))
 
-pub begun-none : (ss : List Stream) (h : Hint) (over : ℕ) → over ≡ overSum (settled ss h .nets) → leftoverLimit < over → settled ss noHint ≡ begun ss h
-begun-none ss h over e l = sym (rw (← e, lt-ltb leftoverLimit over l))
+pub begun-none : (ss : List Stream) (st : State) (over : ℕ) → over ≡ overSum (st .nets) → leftoverLimit < over → settled ss noHint ≡ begun ss st
+begun-none ss st over e l = sym (rw (← e, lt-ltb leftoverLimit over l))

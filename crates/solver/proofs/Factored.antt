@@ -1,32 +1,44 @@
--- Prices by label and routed amounts are a hint.
+-- Prices by label and routed amounts are a hint, and the state that they give is settled at it.
+use mathlib.Core.Path.{_≡_, sym, _∙_, ap, subst}
+use mathlib.Core.Bool.{true}
 use mathlib.Core.List.{List}
 use Prim.Native.Nat.{ℕ}
 use native.Mathlib.Omega.{arith}
+use lib.ListN.{getD, replicate}
+use Rattle.plants.specs.declared.Stream.{Stream}
 use Rattle.plants.specs.declared.Plant as Arrays
+use Rattle.plants.specs.Limits.{maxStreams}
+use Rattle.plants.specs.Within.{Accepted}
 use Rattle.plants.specs.Says.{plantOf}
-use Rattle.flows.specs.Classes.{unmeteredOnly}
+use Rattle.plants.proofs.Arrayed.{all-listed, listed-at, within-of}
+use Rattle.flows.specs.Chains.{unmeteredOnly}
 use Rattle.flows.specs.Labels.{labelsOf}
 use Rattle.potentials.specs.Levels.{Labels, Level}
-use Rattle.paths.specs.Sizes.{priceShift}
-use Rattle.solver.specs.Sizes.{spread, hintFloor, hintRoom}
-use Rattle.solver.specs.Premises.{Hinted, Ready}
-use Rattle.solver.specs.Promise.{Accepted}
-use Rattle.solver.specs.Forests.{Routes}
-use Rattle.flows.proofs.Fits.{fit-inside}
+use Rattle.paths.specs.Sizes.{flowShift, priceShift}
+use Rattle.solver.specs.declared.Hint.{Hint}
+use Rattle.solver.specs.Sizes.{priceBand, hintFloor, hintRoom}
+use Rattle.solver.specs.Model.{settledTo, netsTo, stateOf}
+use Rattle.solver.specs.Premises.{Close, Hinted, Ready, AtHint}
+use Rattle.solver.specs.Forests.{Routes, Kept}
+use Rattle.flows.proofs.Nets.{inside-of}
 use Rattle.flows.proofs.Labels.{label-long, label-low, label-level}
+use Rattle.solver.proofs.Nearest.{settled-long, settled-at, settled-again, settled-sound}
+use Rattle.solver.proofs.Layouts.{hinted-ready, settled-is}
+use Rattle.solver.proofs.Theorem.{network-of, solvable-in}
+use Rattle.solver.proofs.Spanning.{routes-none}
 
 module _ (p : Arrays.Plant) (a : Accepted p) where
   pub labels-of : Labels (labelsOf unmeteredOnly (plantOf p))
   labels-of = record {
-    long = label-long unmeteredOnly (plantOf p) (a .fit .few-units) (fit-inside p (a .fit));
-    within = λ u l. omega (arith, label-low unmeteredOnly (plantOf p) (a .fit .few-units) (fit-inside p (a .fit)) u l);
+    long = label-long unmeteredOnly (plantOf p) (a .within .few-units) (inside-of p a);
+    within = λ u l. omega (arith, label-low unmeteredOnly (plantOf p) (a .within .few-units) (inside-of p a) u l);
   }
 
-  module _ {ps xs : List ℕ} (v : Level (labelsOf unmeteredOnly (plantOf p)) priceShift spread ps) (r : Routes xs) where
+  module _ {ps xs : List ℕ} (v : Level (labelsOf unmeteredOnly (plantOf p)) priceShift priceBand ps) (r : Routes xs) where
     pub level-hinted : Hinted (plantOf p .streams) (record { flows = xs; prices = ps })
     level-hinted = record {
-      agree = λ k l e. v .level _ _ (omega (arith, a .within .each k l .from-in, a .within .few-units)) (omega (arith, a .within .each k l .to-in, a .within .few-units))
-          (label-level unmeteredOnly (plantOf p) (a .fit .few-units) (fit-inside p (a .fit)) k l (rw e));
+      agree = λ k l e. v .level _ _ (omega (arith, within-of p a .each k l .from-in, a .within .few-units)) (omega (arith, within-of p a .each k l .to-in, a .within .few-units))
+          (label-level unmeteredOnly (plantOf p) (a .within .few-units) (inside-of p a) k l (rw e));
       floor = λ u l. omega (arith, v .bounded .low u l);
       capped = v .bounded .high;
       near = omega arith;
@@ -37,5 +49,37 @@ module _ (p : Arrays.Plant) (a : Accepted p) where
       within = omega arith;
     }
 
-    pub level-ready : Ready (plantOf p .streams) (record { flows = xs; prices = ps })
-    level-ready = record { low = hintFloor; size = hintRoom; start = level-hinted }
+  module _ {ps : List ℕ} (v : Level (labelsOf unmeteredOnly (plantOf p)) priceShift priceBand ps) where
+    abbrev none : Hint
+    none = record { flows = replicate maxStreams flowShift; prices = ps }
+
+    pub level-ready : Ready (plantOf p .streams) none
+    level-ready = hinted-ready (p .streams) (p .count) (network-of p a) none (level-hinted v routes-none)
+
+    -- Metered amounts settled, the others 0.
+    abbrev xs : List ℕ
+    xs = settledTo (plantOf p .streams) ps (replicate maxStreams flowShift) (p .count)
+
+    pub level-routes : Routes xs
+    level-routes = record {
+      long = settled-long (plantOf p .streams) ps (replicate maxStreams flowShift) (p .count) ∙ routes-none .long;
+      close = λ k l. subst (λ (n : ℕ). Close hintRoom (getD (settledTo (plantOf p .streams) ps (replicate maxStreams flowShift) n) k 0)) (all-listed p a)
+          (settled-sound (plantOf p .streams) (solvable-in (plantOf p) (within-of p a)) none hintFloor hintRoom (level-hinted v routes-none) .close k l);
+    }
+
+    -- What is routed leaves the metered amounts settled.
+    module _ {zs ys : List ℕ} (e : zs ≡ xs) (r : Routes ys) (kept : Kept (p .streams) (p .count) zs ys) where
+      pub routed-again : settledTo (plantOf p .streams) ps ys (p .count) ≡ ys
+      routed-again = settled-again (plantOf p .streams) ps ys (p .count) (λ k l m.
+          kept .each k l (subst (λ (s : Stream). s .metered ≡ true) (listed-at p a k l) m)
+          ∙ ap (λ (x : List ℕ). getD x k 0) e
+          ∙ settled-at (plantOf p .streams) ps (replicate maxStreams flowShift) (p .count) k (omega (arith, routes-none .long, a .within .few-streams)) l
+          ∙ rw m)
+
+      pub routed-start : AtHint (plantOf p .streams) (record { flows = ys; prices = ps; nets = netsTo (plantOf p .streams) ys (p .count) })
+      routed-start = record {
+        hint = record { flows = ys; prices = ps };
+        hinted = level-hinted v r;
+        is = ap (λ (zs : List ℕ). stateOf zs ps (netsTo (plantOf p .streams) zs (p .count))) (sym routed-again)
+            ∙ sym (settled-is (p .streams) (p .count) (network-of p a) (record { flows = ys; prices = ps }));
+      }

@@ -7,29 +7,33 @@ use native.Mathlib.Omega.{arith}
 use lib.IntN.{natAbs}
 use lib.ListN.{length, getD, take}
 use Rattle.plants.specs.declared.Stream.{Stream}
+use Rattle.plants.specs.Limits.{maxUnits}
 use Rattle.plants.specs.Plants.{noStream}
+use Rattle.plants.specs.Within.{WithinStream}
 use Rattle.paths.specs.Sizes.{mostFlow}
+use Rattle.paths.specs.Premises.{Network}
 use Rattle.solver.specs.declared.Hint.{Hint}
-use Rattle.solver.specs.Sizes.{mostReading, netRoom}
+use Rattle.solver.specs.declared.State.{State}
+use Rattle.solver.specs.Sizes.{mostReading, netRoom, hintFloor, hintRoom}
 use Rattle.solver.specs.Model.{settledTo, netsTo, settled}
-use Rattle.solver.specs.Premises.{Layout, Settleable, Settles, Amounts, Around, Ready}
-use Rattle.solver.proofs.Nearest.{Solvable, placed-of, weight-some, prices-near, settled-sound}
+use Rattle.solver.specs.Premises.{Settleable, Settles, Amounts, Around, Ready, Hinted, AtHint}
+use Rattle.solver.proofs.Nearest.{Solvable, prices-near, settled-sound}
 use Rattle.solver.proofs.Booking.{around-more, nets-around}
 use Rattle.solver.proofs.Turns.{stream-is, in-use, plain-of}
 
-module _ (streams : List Stream) (n : ℕ) (w : Layout streams n) where
+module _ (streams : List Stream) (n : ℕ) (w : Network streams n) where
   abbrev ss : List Stream
   ss = take n streams
 
   pub used : length ss ≡ n
-  used = in-use streams n (w .network)
+  used = in-use streams n w
 
   pub solvable-of : Solvable ss
   solvable-of = record {
-    plain = plain-of streams n (w .network);
-    weighed = λ k l. subst (λ (s : Stream). s .metered ≡ true → 1 ≤ s .weight) (sym (stream-is streams n k (at l))) (w .weighed k (at l));
-    in-range = λ k l. subst (λ (s : Stream). s .metered ≡ true → natAbs (s .reading) ≤ mostReading) (sym (stream-is streams n k (at l))) (w .in-range k (at l));
-    apart = λ k l. subst (λ (s : Stream). s .from ≡ s .to → ⊥) (sym (stream-is streams n k (at l))) (w .apart k (at l));
+    plain = plain-of streams n w;
+    weighed = λ k l. subst (λ (s : Stream). s .metered ≡ true → 1 ≤ s .weight) (sym (stream-is streams n k (at l))) (w .within .each k (at l) .weighed);
+    in-range = λ k l. subst (λ (s : Stream). s .metered ≡ true → natAbs (s .reading) ≤ mostReading) (sym (stream-is streams n k (at l))) (λ m. omega (arith, w .within .each k (at l) .in-range m));
+    apart = λ k l. subst (λ (s : Stream). s .from ≡ s .to → ⊥) (sym (stream-is streams n k (at l))) (w .within .each k (at l) .apart);
   }
     where
       at : {k : ℕ} → k < length (take n streams) → k < n
@@ -38,7 +42,7 @@ module _ (streams : List Stream) (n : ℕ) (w : Layout streams n) where
   module _ (h : Hint) (r : Ready ss h) where
     pub ready-settles : Settles streams n (h .prices)
     ready-settles = record {
-      layout = w;
+      network = w;
       prices = r .start .capped;
       near = λ u v lu lv. omega (arith, prices-near ss solvable-of h (r .low) (r .size) (r .start) u v lu lv, r .start .near);
     }
@@ -53,7 +57,7 @@ module _ (streams : List Stream) (n : ℕ) (w : Layout streams n) where
     pub ready-around : Around (settled ss h .nets) netRoom
     ready-around =
         around-more
-        (nets-around ss (settledTo ss (h .prices) (h .flows) (length ss)) (length ss) (solvable-of .plain .few) (placed-of ss (solvable-of .plain))
+        (nets-around ss (settledTo ss (h .prices) (h .flows) (length ss)) (length ss) (solvable-of .plain .few) (solvable-of .plain .inside)
         (λ k l. subst (λ (m : ℕ). getD (settledTo ss (h .prices) (h .flows) m) k 0 ≤ mostFlow) (sym used) (ready-amounts k (omega (arith, solvable-of .plain .few)))))
         netRoom (omega (arith, solvable-of .plain .few))
 
@@ -61,17 +65,23 @@ module _ (streams : List Stream) (n : ℕ) (w : Layout streams n) where
       ≡ record { flows = settledTo ss (h .prices) (h .flows) n; prices = h .prices; nets = netsTo ss (settledTo ss (h .prices) (h .flows) n) n }
   settled-is h = rw used
 
+  -- Nets of a state that is settled at a hint are in range.
+  pub hinted-ready : (h : Hint) → Hinted ss h → Ready ss h
+  hinted-ready h s = record { low = hintFloor; size = hintRoom; start = s }
+
+  pub at-hint-around : (st : State) → AtHint ss st → Around (st .nets) netRoom
+  at-hint-around st a = rw (a .is) (ready-around (a .hint) (hinted-ready (a .hint) (a .hinted)))
+
   -- A metered stream of the array can be settled.
   pub level-at : (ps : List ℕ) → Settles streams n ps → (i : ℕ) → i < n → getD streams i noStream .metered ≡ true
       → Settleable (getD streams i noStream) (getD ps (getD streams i noStream .from) 0) (getD ps (getD streams i noStream .to) 0)
   level-at ps h i l e = record {
-    placed = p;
-    weighed = rw (weight-some (getD streams i noStream) e) (w .weighed i l e);
-    in-range = w .in-range i l e;
+    within = p;
+    metered = e;
     price-u = h .prices _ (omega (arith, p .from-in));
     price-v = h .prices _ (omega (arith, p .to-in));
     near = h .near _ _ (omega (arith, p .from-in)) (omega (arith, p .to-in));
   }
     where
-      p : Rattle.paths.specs.Premises.Placed (getD streams i noStream)
-      p = w .network .placed i l
+      p : WithinStream maxUnits (getD streams i noStream)
+      p = w .within .each i l

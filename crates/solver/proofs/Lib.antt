@@ -10,5 +10,6 @@ pub mod Detours
 pub mod Tying
 pub mod TieTurns
 pub mod Theorem
+pub mod Demand
 pub mod Spanning
 pub mod Factored

@@ -8,7 +8,7 @@ use native.Mathlib.Nat.{mul-le-mul-left, mul-le-mul-right, div-add-mod, mod-lt, 
 use native.Mathlib.Omega.{arith}
 use native.Mathlib.Decide.{decLe, ℕ-discrete}
 use lib.ListN.{length, getD, set, length-set, List·getD-eq-default}
-use lib.Seq.{getD-set-same, getD-set-other}
+use lib.Seq.{set-getD, getD-set-same, getD-set-other}
 use Rattle.numbers.specs.Choice.{pick}
 use Rattle.plants.specs.declared.Stream.{Stream}
 use Rattle.plants.specs.Limits.{maxUnits, places, maxStreams}
@@ -17,11 +17,10 @@ use Rattle.flows.specs.Flows.{streamAt}
 use Rattle.flows.specs.Certificate.{weightOf}
 use Rattle.paths.specs.Sizes.{mostFlow, priceShift}
 use Rattle.paths.specs.Held.{shifted, readingOf, Held, HeldAt, AllHeld}
-use Rattle.paths.specs.Premises.{Placed}
 use Rattle.paths.proofs.Amounts.{net}
 use Rattle.paths.proofs.Growing.{Plain}
 use Rattle.solver.specs.declared.Hint.{Hint}
-use Rattle.solver.specs.Sizes.{mostReading, spread}
+use Rattle.solver.specs.Sizes.{mostReading, priceBand}
 use Rattle.solver.specs.Model.{settledOf, settledTo, netsTo, settled}
 use Rattle.solver.specs.Premises.{Close, Agreed, Start, Sound}
 use Rattle.solver.proofs.Booking.{nets-around, nets-right}
@@ -33,9 +32,6 @@ pub record Solvable (ss : List Stream) : Type 0 where
   pub weighed : (k : ℕ) → k < length ss → streamAt ss k .metered ≡ true → 1 ≤ streamAt ss k .weight
   pub in-range : (k : ℕ) → k < length ss → streamAt ss k .metered ≡ true → natAbs (streamAt ss k .reading) ≤ mostReading
   pub apart : (k : ℕ) → k < length ss → streamAt ss k .from ≡ streamAt ss k .to → ⊥
-
-pub placed-of : (ss : List Stream) → Plain maxUnits ss → (k : ℕ) → k < length ss → Placed (streamAt ss k)
-placed-of ss p k l = record { from-in = p .inside k l .0; to-in = p .inside k l .1; light = p .light k l }
 
 -- A reading as it is held.
 pub reading-close : (z : ℤ) → natAbs z ≤ mostReading → Close mostReading (shifted z)
@@ -68,48 +64,47 @@ pub held-agreed : (ss : List Stream) (xs ps : List ℕ) (m : ℕ) → AllHeld ss
 held-agreed ss xs ps m h k l e = held-agree m (weightOf (streamAt ss k)) (getD xs k 0) (readingOf (streamAt ss k)) _ _ (weight-none (streamAt ss k) e) (h k l)
 
 -- The nearest amount by a quotient of small numbers: above the reading, and below it.
-pub settled-up : (w R pu pv : ℕ) → 1 ≤ w → spread ≤ R → pu ≤ pv + w → (R - spread) + (pv + w + 2 * (w * spread) - pu) / (2 * w) ≡ R + (pv + w - pu) / (2 * w)
+pub settled-up : (w R pu pv : ℕ) → 1 ≤ w → priceBand ≤ R → pu ≤ pv + w → (R - priceBand) + (pv + w + 2 * (w * priceBand) - pu) / (2 * w) ≡ R + (pv + w - pu) / (2 * w)
 settled-up w R pu pv l r h =
-    let e : pv + w + 2 * (w * spread) - pu ≡ (pv + w - pu) + 2 * w * spread = omega arith in
-    let q : ((pv + w - pu) + 2 * w * spread) / (2 * w) ≡ (pv + w - pu) / (2 * w) + spread = add-mul-div-left (pv + w - pu) spread (omega arith) in
+    let e : pv + w + 2 * (w * priceBand) - pu ≡ (pv + w - pu) + 2 * w * priceBand = omega arith in
+    let q : ((pv + w - pu) + 2 * w * priceBand) / (2 * w) ≡ (pv + w - pu) / (2 * w) + priceBand = add-mul-div-left (pv + w - pu) priceBand (omega arith) in
     rw (e, q) (omega arith)
 
-pub down-most : (w pu pv : ℕ) → 1 ≤ w → pv + w < pu → pu ≤ pv + 2 * spread → (pu - pv + w - 1) / (2 * w) ≤ spread
-down-most w pu pv l h m = elim (decLe ((pu - pv + w - 1) / (2 * w)) spread) [
+pub down-most : (w n : ℕ) → 1 ≤ w → n ≤ 2 * priceBand + w → n / (2 * w) ≤ priceBand
+down-most w n l h = elim (decLe (n / (2 * w)) priceBand) [
   | yes z ↦ z
-  | no z ↦ let e = div-add-mod (pu - pv + w - 1) (2 * w) in
-      let k : 2 * w * (spread + 1) ≤ 2 * w * ((pu - pv + w - 1) / (2 * w)) = mul-le-mul-left (2 * w) (omega arith) in
-      absurd (omega (arith, e, k))
+  | no z ↦ let k : 2 * w * (priceBand + 1) ≤ 2 * w * (n / (2 * w)) = mul-le-mul-left (2 * w) (omega arith) in
+      absurd (omega (arith, div-add-mod n (2 * w), k))
 ]
 
-pub settled-down : (w R pu pv : ℕ) → 1 ≤ w → spread ≤ R → pv + w < pu → pu ≤ pv + 2 * spread
-    → (R - spread) + (pv + w + 2 * (w * spread) - pu) / (2 * w) ≡ R - (pu - pv + w - 1) / (2 * w)
+pub settled-down : (w R pu pv : ℕ) → 1 ≤ w → priceBand ≤ R → pv + w < pu → pu ≤ pv + 2 * priceBand
+    → (R - priceBand) + (pv + w + 2 * (w * priceBand) - pu) / (2 * w) ≡ R - (pu - pv + w - 1) / (2 * w)
 settled-down w R pu pv l r h m =
     let t : ℕ = (pu - pv + w - 1) / (2 * w) in
-    let most : t ≤ spread = down-most w pu pv l h m in
-    let k : ℕ = spread - t in
-    let N : ℕ = pv + w + 2 * (w * spread) - pu in
+    let most : t ≤ priceBand = down-most w (pu - pv + w - 1) l (omega arith) in
+    let k : ℕ = priceBand - t in
+    let N : ℕ = pv + w + 2 * (w * priceBand) - pu in
     let e : 2 * w * t + (pu - pv + w - 1) % (2 * w) ≡ pu - pv + w - 1 = div-add-mod (pu - pv + w - 1) (2 * w) in
     let b : (pu - pv + w - 1) % (2 * w) < 2 * w = mod-lt (pu - pv + w - 1) (omega arith) in
-    let s : k + t ≡ spread = omega arith in
-    let f : w * (k + t) ≡ w * spread = ap (λ n. w * n) s in
+    let s : k + t ≡ priceBand = omega arith in
+    let f : w * (k + t) ≡ w * priceBand = ap (λ n. w * n) s in
     let q : N / (2 * w) ≡ k = div-eq-of-lt-le (2 * w) (omega (arith, e, b, f)) (omega (arith, e, b, f)) in
     rw q (omega (arith, most))
 
 -- The nearest amount meets the step condition.
-pub settled-held : (s : Stream) (pu pv : ℕ) → 1 ≤ weightOf s → pu ≤ pv + 2 * spread → spread ≤ readingOf s → Held 1 (weightOf s) (settledOf s pu pv) (readingOf s) pu pv
+pub settled-held : (s : Stream) (pu pv : ℕ) → 1 ≤ weightOf s → pu ≤ pv + 2 * priceBand → priceBand ≤ readingOf s → Held 1 (weightOf s) (settledOf s pu pv) (readingOf s) pu pv
 settled-held s pu pv l h r = go (weightOf s) (readingOf s) l r
   where
-    go : (w R : ℕ) → 1 ≤ w → spread ≤ R → Held 1 w ((R - spread) + (pv + w + 2 * (w * spread) - pu) / (2 * w)) R pu pv
+    go : (w R : ℕ) → 1 ≤ w → priceBand ≤ R → Held 1 w ((R - priceBand) + (pv + w + 2 * (w * priceBand) - pu) / (2 * w)) R pu pv
     go w R l r =
-        let N : ℕ = pv + w + 2 * (w * spread) - pu in
+        let N : ℕ = pv + w + 2 * (w * priceBand) - pu in
         let q : ℕ = N / (2 * w) in
-        let X : ℕ = (R - spread) + q in
+        let X : ℕ = (R - priceBand) + q in
         let e : 2 * w * q + N % (2 * w) ≡ N = div-add-mod N (2 * w) in
         let b : N % (2 * w) < 2 * w = mod-lt N (omega arith) in
-        let c : X + spread ≡ R + q = omega arith in
-        let f : w * (X + spread) ≡ w * (R + q) = ap (λ k. w * k) c in
-        let z : N + pu ≡ pv + w + 2 * (w * spread) = omega arith in
+        let c : X + priceBand ≡ R + q = omega arith in
+        let f : w * (X + priceBand) ≡ w * (R + q) = ap (λ k. w * k) c in
+        let z : N + pu ≡ pv + w + 2 * (w * priceBand) = omega arith in
         record { low = omega (arith, e, b, f, z); high = omega (arith, e, b, f, z) }
 
 -- It differs from the reading by no more than the prices differ.
@@ -148,7 +143,7 @@ module _ (ss : List Stream) (ps xs : List ℕ) where
       go true r = getD-set-other (settledTo ss ps xs n) n k _ 0 (λ q. omega arith) ∙ r
       go false r = r
 
-  settled-at : (n k : ℕ) → n ≤ length xs → k < n → getD (settledTo ss ps xs n) k 0 ≡ pick (streamAt ss k .metered) (amount k) (getD xs k 0)
+  pub settled-at : (n k : ℕ) → n ≤ length xs → k < n → getD (settledTo ss ps xs n) k 0 ≡ pick (streamAt ss k .metered) (amount k) (getD xs k 0)
   unfolding settledTo
   settled-at zero k m l = absurd (omega arith)
   settled-at (suc n) k m l = elim (ℕ-discrete k n) [
@@ -164,6 +159,16 @@ module _ (ss : List Stream) (ps xs : List ℕ) where
           → getD (pick b (set (settledTo ss ps xs n) n (amount n)) (settledTo ss ps xs n)) k 0 ≡ pick (streamAt ss k .metered) (amount k) (getD xs k 0)
       there true q r = getD-set-other (settledTo ss ps xs n) n k _ 0 q ∙ r
       there false q r = r
+
+  -- Amounts that are settled already stay as they are.
+  pub settled-again : (n : ℕ) → ((k : ℕ) → k < n → streamAt ss k .metered ≡ true → getD xs k 0 ≡ amount k) → settledTo ss ps xs n ≡ xs
+  unfolding settledTo
+  settled-again zero h = refl
+  settled-again (suc n) h = go (streamAt ss n .metered) (h n (omega arith)) (settled-again n (λ k l. h k (omega arith)))
+    where
+      go : (b : Bool) → (b ≡ true → getD xs n 0 ≡ amount n) → settledTo ss ps xs n ≡ xs → pick b (set (settledTo ss ps xs n) n (amount n)) (settledTo ss ps xs n) ≡ xs
+      go true e r = ap (λ (ys : List ℕ). set ys n (amount n)) r ∙ ap (set xs n) (sym (e refl)) ∙ set-getD xs n 0
+      go false e r = r
 
 -- The settled state.
 module _ (ss : List Stream) (v : Solvable ss) (h : Hint) (low b : ℕ) (s : Start ss low b h) where
@@ -224,8 +229,8 @@ module _ (ss : List Stream) (v : Solvable ss) (h : Hint) (low b : ℕ) (s : Star
     held = λ k l. one-settled k l .0;
     long = settled-long ss ps (h .flows) (length ss) ∙ s .long;
     priced = s .priced;
-    netted = nets-around ss ys (length ss) (v .plain .few) (placed-of ss (v .plain)) most .long;
-    nets = λ u l. net-value (net ss ys u) (getD (netsTo ss ys (length ss)) u 0) (nets-right ss ys (length ss) (v .plain .few) (placed-of ss (v .plain)) most u l);
+    netted = nets-around ss ys (length ss) (v .plain .few) (v .plain .inside) most .long;
+    nets = λ u l. net-value (net ss ys u) (getD (netsTo ss ys (length ss)) u 0) (nets-right ss ys (length ss) (v .plain .few) (v .plain .inside) most u l);
     floor = s .floor;
     capped = s .capped;
     close = all-close;

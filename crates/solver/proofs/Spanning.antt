@@ -1,5 +1,5 @@
 -- Laws of a spanning forest and of the amounts routed along it.
-use mathlib.Core.Path.{_≡_, _∙_}
+use mathlib.Core.Path.{_≡_, _∙_, ap}
 use mathlib.Core.Bool.{Bool, true, false}
 use mathlib.Core.List.{List}
 use Prim.Native.Nat.{ℕ, suc, _+_, _≤_, _<_}
@@ -8,19 +8,17 @@ use lib.ListN.{getD, set, length-set, replicate, length-replicate, getD-replicat
 use lib.Seq.{getD-set-same, getD-set-other}
 use borrow.Author.Count.{below-more}
 use Rattle.plants.specs.declared.Stream.{Stream}
+use Rattle.numbers.proofs.Tests.{clash}
 use Rattle.plants.specs.Limits.{places, maxUnits, maxStreams}
-use Rattle.flows.specs.Calls.{Ends}
+use Rattle.plants.specs.Plants.{noStream}
 use Rattle.paths.specs.Sizes.{flowShift}
-use Rattle.paths.specs.Premises.{Placed}
 use Rattle.solver.specs.declared.Forest.{Forest}
 use Rattle.solver.specs.Sizes.{hintRoom}
-use Rattle.solver.specs.Premises.{Close}
-use Rattle.solver.specs.Forests.{Spanning, Listed, Routes}
+use Rattle.solver.specs.Premises.{Close, Amounts}
+use Rattle.solver.specs.Forests.{Spanning, Unmetered, Listed, Routes, Kept}
 use Rattle.flows.proofs.Lists.{set-each}
-use Rattle.paths.proofs.Counting.{countTo, count-most, count-more}
-
-pub ends-of : {s : Stream} → Placed s → Ends s
-ends-of p = record { from-in = omega (arith, p .from-in); to-in = omega (arith, p .to-in) }
+use Rattle.paths.specs.Counts.{countTo}
+use Rattle.paths.proofs.Counting.{count-most, count-more}
 
 pub spanning-short : {f : Forest} → Spanning f → f .len ≤ places
 spanning-short {f} s = omega (arith, s .few, count-most maxUnits (λ u. getD (f .reached) u false))
@@ -47,9 +45,9 @@ module _ {f : Forest} (s : Spanning f) (e : ℕ) (l : e < places) (free : getD (
     few = omega (arith, s .few, more);
   }
 
-  pub listed-grown : (i : ℕ) (b : Bool) (n : ℕ) → i < n → Listed n f → Listed n (grownBy f i e b)
-  listed-grown i b n m h =
-      below-more (λ k. getD (set (f .via) (f .len) i) k 0 < n) (f .len)
+  pub listed-grown : (i : ℕ) (b : Bool) (ss : List Stream) (n : ℕ) → Unmetered ss n i → Listed ss n f → Listed ss n (grownBy f i e b)
+  listed-grown i b ss n m h =
+      below-more (λ k. Unmetered ss n (getD (set (f .via) (f .len) i) k 0)) (f .len)
       (λ k lt. rw (getD-set-other (f .via) (f .len) k i 0 (λ q. omega arith)) (h k lt))
       (rw (getD-set-same (f .via) (f .len) i 0 (rw (s .vias) spanning-room)) m)
 
@@ -65,3 +63,12 @@ routes-set {xs} r i x l h = record {
   long = length-set xs i x ∙ r .long;
   close = set-each (λ (y : ℕ). Close hintRoom y) 0 xs i x maxStreams (rw (r .long) l) h (r .close);
 }
+
+-- A store to an unmetered stream leaves the metered ones as they are.
+pub kept-set : {streams : List Stream} {n : ℕ} {xs ys : List ℕ} → Kept streams n xs ys → (i x : ℕ) → Unmetered streams n i → Kept streams n xs (set ys i x)
+kept-set {streams} {n} {xs} {ys} h i x u = record {
+  each = λ k l m. getD-set-other ys i k x 0 (λ q. clash _ m (ap (λ (j : ℕ). getD streams j noStream .metered) q ∙ u .1)) ∙ h .each k l m;
+}
+
+pub routes-amounts : {xs : List ℕ} → Routes xs → Amounts xs
+routes-amounts r k l = omega (arith, r .close k l .0)

@@ -16,7 +16,7 @@ use Rattle.numbers.proofs.Tests.{by-cases}
 use Rattle.plants.specs.declared.Stream.{Stream}
 use Rattle.plants.specs.Limits.{maxUnits, places}
 use Rattle.flows.proofs.Integers.{up, dn, parts, same, minus-val}
-use Rattle.paths.specs.Sizes.{flowShift, netShift, rounds}
+use Rattle.paths.specs.Sizes.{flowShift, netShift, searchRounds}
 use Rattle.paths.specs.Search.{rootAt, target, Grown, grow}
 use Rattle.paths.specs.Push.{pushed}
 use Rattle.paths.proofs.Amounts.{get-set, net}
@@ -124,7 +124,7 @@ module _ (ss : List Stream) (plain : Plain maxUnits ss) (d : ℕ) (l1 : 1 ≤ d)
 
   -- The search from a place with a net of d or more finds one with a negative net.
   pub finds : (s : ℕ) → s < places → netShift + d ≤ getD (st .nets) s 0
-      → Hunt maxUnits ss (st .flows) (st .nets) d s (st .prices) rounds (grow ss (length ss) (st .flows) (st .nets) d rounds (st .prices) (rootAt s))
+      → Hunt maxUnits ss (st .flows) (st .nets) d s (st .prices) searchRounds (grow ss (length ss) (st .flows) (st .nets) d searchRounds (st .prices) (rootAt s))
   finds s ls over =
       hunt maxUnits ss plain (st .flows) (st .nets) d s (omega arith)
       (⊎-elim (λ (o : up (net ss (st .flows) s) ≡ 0). omega (arith, values s ls)) (λ (o : dn (net ss (st .flows) s) ≡ 0). omega (arith, values s ls))
@@ -136,7 +136,7 @@ module _ (ss : List Stream) (plain : Plain maxUnits ss) (d : ℕ) (l1 : 1 ≤ d)
       (omega arith)
       (λ u l. omega (arith, h .floor u l))
 
-  pushed-sound : (s : ℕ) → s < places → netShift + d ≤ getD (st .nets) s 0 → (g : Grown) → Hunt maxUnits ss (st .flows) (st .nets) d s (st .prices) rounds g
+  pushed-sound : (s : ℕ) → s < places → netShift + d ≤ getD (st .nets) s 0 → (g : Grown) → Hunt maxUnits ss (st .flows) (st .nets) d s (st .prices) searchRounds g
       → Sound ss d low (b + d) (pushedOn ss st d s g) × (overSum (shiftedNets (st .nets) s (target (g .tree)) d) < overSum (st .nets))
   pushed-sound s ls over g r = (
     record {
@@ -183,7 +183,7 @@ module _ (ss : List Stream) (plain : Plain maxUnits ss) (d : ℕ) (l1 : 1 ≤ d)
   at-good : (s : ℕ) → s < places → netShift + d ≤ getD (st .nets) s 0 → Outcome ss d low b st (improvedAt ss st d s)
   at-good s ls over =
       let r = finds s ls over in
-      let q = pushed-sound s ls over (grow ss (length ss) (st .flows) (st .nets) d rounds (st .prices) (rootAt s)) r in
+      let q = pushed-sound s ls over (grow ss (length ss) (st .flows) (st .nets) d searchRounds (st .prices) (rootAt s)) r in
       rw (r .found) (better refl (q .0) (q .1))
 
   pub improved-good : Outcome ss d low b st (improved ss st d)

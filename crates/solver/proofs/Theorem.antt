@@ -1,62 +1,38 @@
 -- The solver is right: of every plant that is read, from any hint, the flow is the cheapest and its prices certify it.
 use mathlib.Core.Path.{_≡_, refl, sym, _∙_, ap, ap₂, subst}
-use mathlib.Core.Bool.{Bool, true, false}
 use mathlib.Core.List.{List}
 use lib.IntN.{ℤ}
-use Prim.Native.Nat.{ℕ, _≤_, _<_}
+use Prim.Native.Nat.{ℕ}
 use native.Mathlib.Omega.{arith}
-use lib.ListN.{length, getD}
-use Rattle.numbers.specs.Choice.{pick}
+use lib.ListN.{length}
 use Rattle.plants.specs.declared.Stream.{Stream}
 use Rattle.plants.specs.declared.Plant as Arrays
-use Rattle.plants.specs.Limits.{maxWeight}
-use Rattle.plants.specs.Plants.{Plant, noStream}
-use Rattle.plants.specs.Files.{got, readPlant}
-use Rattle.plants.specs.Says.{arrayed, plantOf}
-use Rattle.plants.specs.Within.{WithinStream, Within}
-use Rattle.plants.proofs.Limited.{within}
-use Rattle.plants.proofs.Accepted.{accepted}
+use Rattle.plants.specs.Plants.{Plant}
+use Rattle.plants.specs.Says.{plantOf}
+use Rattle.plants.specs.Within.{Within, Accepted}
+use Rattle.plants.proofs.Arrayed.{all-listed, within-of, stream-within}
 use Rattle.flows.specs.Flows.{streamAt, amountAt, Cheapest}
-use Rattle.flows.specs.Certificate.{climb, lowest, highest}
+use Rattle.flows.specs.Certificate.{climb, leastClimb, mostClimb}
 use Rattle.flows.proofs.Integers.{le-leZ}
-use Rattle.flows.proofs.Fits.{fit-length, fit-at, read-fits}
 use Rattle.flows.proofs.Prices.{StepAt, Steps, Certificate}
 use Rattle.paths.specs.Held.{opened}
-use Rattle.solver.specs.declared.Hint.{Hint}
+use Rattle.paths.specs.Premises.{Network}
+use Rattle.paths.proofs.Weights.{weight-most}
+use Rattle.solver.specs.declared.State.{State}
 use Rattle.solver.specs.declared.Solved.{Solved}
-use Rattle.solver.specs.Model.{noHint, tiesTo, finished, solvedFrom}
-use Rattle.solver.specs.Premises.{Layout, Hinted, Even}
-use Rattle.solver.specs.Promise.{Accepted, price, priceAt, Bounded, Right}
+use Rattle.solver.specs.Model.{noHint, tiesTo, finished, solvedFrom, settled}
+use Rattle.solver.specs.Premises.{Hinted, AtHint, Even}
+use Rattle.solver.specs.Promise.{price, priceAt, Bounded, Right}
 use Rattle.solver.proofs.Nearest.{Solvable, held-agreed}
 use Rattle.solver.proofs.Ending.{none-hinted, finished-even, finished-prices, finished-priced}
 use Rattle.solver.proofs.Tying.{ended, tied-sure, tied-cheapest}
 
--- A stream's weight is in range, metered or not.
-light : (n : ℕ) (s : Stream) → WithinStream n s → pick (s .metered) (s .weight) 0 ≤ maxWeight
-light n s h = go (s .metered) (h .light)
-  where
-    go : (b : Bool) → (b ≡ true → s .weight ≤ maxWeight) → pick b (s .weight) 0 ≤ maxWeight
-    go true f = f refl
-    go false f = omega arith
-
 -- A plant that is accepted has streams as the solver needs them.
-pub layout-of : (p : Arrays.Plant) → Accepted p → Layout (p .streams) (p .count)
-layout-of p a = record {
-  network = record {
-    long = a .fit .long;
-    few = a .fit .few-streams;
-    placed =
-        λ k l. let e = each k l in record { from-in = omega (arith, e .from-in, a .within .few-units); to-in = omega (arith, e .to-in, a .within .few-units); light = light (p .units) (getD (p .streams) k noStream) e };
-  };
-  weighed = λ k l. each k l .weighed;
-  in-range = λ k l m. omega (arith, each k l .in-range m);
-  apart = λ k l. each k l .apart;
+pub network-of : (p : Arrays.Plant) → Accepted p → Network (p .streams) (p .count)
+network-of p a = record {
+  long = a .long;
+  within = record { some-units = omega arith; few-units = omega arith; few-streams = a .within .few-streams; each = stream-within p a };
 }
-  where
-    each : (k : ℕ) → k < p .count → WithinStream (p .units) (getD (p .streams) k noStream)
-    each k l =
-        subst (WithinStream (p .units)) (fit-at p (a .fit) k l)
-        (a .within .each k (rw (fit-length p (a .fit)) l))
 
 -- So has the list of a plant within its limits.
 pub solvable-in : (q : Plant) → Within q → Solvable (q .streams)
@@ -65,7 +41,7 @@ solvable-in q w = record {
     inside = λ k l. (omega (arith, w .each k l .from-in, w .few-units), omega (arith, w .each k l .to-in, w .few-units));
     small = omega arith;
     few = w .few-streams;
-    light = λ k l. light (q .units) (streamAt (q .streams) k) (w .each k l);
+    light = λ k l. weight-most (streamAt (q .streams) k) (w .each k l);
   };
   weighed = λ k l. w .each k l .weighed;
   in-range = λ k l m. omega (arith, w .each k l .in-range m);
@@ -76,65 +52,62 @@ solvable-in q w = record {
 pub unhinted : (q : Plant) → Within q → Hinted (q .streams) noHint
 unhinted q w = none-hinted (q .streams) (solvable-in q w)
 
--- The definitions give the cheapest flow, from any hint.
-module _ (q : Plant) (w : Within q) (h : Hint) (s : Hinted (q .streams) h) where
+pub from-none : (q : Plant) → Within q → AtHint (q .streams) (settled (q .streams) noHint)
+from-none q w = record { hint = noHint; hinted = unhinted q w; is = refl }
+
+-- The definitions give the cheapest flow, from amounts settled at any hint.
+module _ (q : Plant) (w : Within q) (st : State) (s : AtHint (q .streams) st) where
   abbrev ss : List Stream
   ss = q .streams
 
   abbrev ps : List ℕ
-  ps = finished ss h .prices
+  ps = finished ss st .prices
 
   abbrev ys : List ℕ
-  ys = tiesTo ss ps (length ss) (finished ss h .flows)
+  ys = tiesTo ss ps (length ss) (finished ss st .flows)
 
-  even : Even ss ps 0 (finished ss h .flows)
-  even = finished-even ss (solvable-in q w) h s
+  even : Even ss ps 0 (finished ss st .flows)
+  even = finished-even ss (solvable-in q w) st s
 
-  pub solved-cheapest : Cheapest q (opened (length (q .streams)) (solvedFrom (q .streams) h .flows))
+  pub solved-cheapest : Cheapest q (opened (length (q .streams)) (solvedFrom (q .streams) st .flows))
   unfolding solvedFrom
-  solved-cheapest = tied-cheapest q w (solvable-in q w) ps (finished ss h .flows) even
+  solved-cheapest = tied-cheapest q w (solvable-in q w) ps (finished ss st .flows) even
 
-  solved-sure : Certificate q (opened (length ss) ys) (priceAt ps)
-  solved-sure = tied-sure q w (solvable-in q w) ps (finished ss h .flows) even
+  pub solved-sure : Certificate q (opened (length ss) ys) (priceAt ps)
+  solved-sure = tied-sure q w (solvable-in q w) ps (finished ss st .flows) even
 
   last : Even ss ps (length ss) ys
-  last = ended q w (solvable-in q w) ps (finished ss h .flows) even
+  last = ended q w (solvable-in q w) ps (finished ss st .flows) even
 
 -- The step condition by its tests.
 bounded : (π : ℕ → ℤ) (s : Stream) (x : ℤ) → StepAt 1 π s x → Bounded π s x
-bounded π s x o = record { low = le-leZ (lowest s x) (climb π s) (o .low); high = le-leZ (climb π s) (highest s x) (o .high) }
+bounded π s x o = record { low = le-leZ (leastClimb s x) (climb π s) (o .low); high = le-leZ (climb π s) (mostClimb s x) (o .high) }
 
 -- Of a plant in an array.
-module _ (p : Arrays.Plant) (a : Accepted p) (h : Hint) (s : Hinted (plantOf p .streams) h) where
+module _ (p : Arrays.Plant) (a : Accepted p) (st : State) (s : AtHint (plantOf p .streams) st) where
   abbrev q : Plant
   q = plantOf p
 
-  pub solved-right : Right p (solvedFrom (plantOf p .streams) h)
+  pub solved-right : Right p (solvedFrom (plantOf p .streams) st)
   unfolding solvedFrom
   solved-right = record {
-    cheapest = subst (λ (n : ℕ). Cheapest q (opened n (ys q w h s))) (fit-length p (a .fit)) (solved-cheapest q w h s);
-    steps = λ k l. bounded (priceAt (ps q w h s)) (streamAt (q .streams) k) _ (subst (λ (n : ℕ). Steps 1 (priceAt (ps q w h s)) (q .streams) (amountAt (opened n (ys q w h s)))) (fit-length p (a .fit)) (solved-sure q w h s .steps) k l);
-    agree = λ k l m. ap price (held-agreed (q .streams) (ys q w h s) (ps q w h s) 1 (last q w h s .held) k l m);
-    bound = finished-prices (q .streams) (solvable-in q w) h s;
-    close = λ k l. (omega (arith, last q w h s .close k l .0, w .few-streams), omega (arith, last q w h s .close k l .1, w .few-streams));
-    long = last q w h s .long;
-    priced = finished-priced (q .streams) (solvable-in q w) h s;
+    cheapest = subst (λ (n : ℕ). Cheapest q (opened n (ys q w st s))) (all-listed p a) (solved-cheapest q w st s);
+    steps = λ k l. bounded (priceAt (ps q w st s)) (streamAt (q .streams) k) _ (subst (λ (n : ℕ). Steps 1 (priceAt (ps q w st s)) (q .streams) (amountAt (opened n (ys q w st s)))) (all-listed p a) (solved-sure q w st s .steps) k l);
+    agree = λ k l m. ap price (held-agreed (q .streams) (ys q w st s) (ps q w st s) 1 (last q w st s .held) k l m);
+    bound = finished-prices (q .streams) (solvable-in q w) st s;
+    close = λ k l. (omega (arith, last q w st s .close k l .0, w .few-streams), omega (arith, last q w st s .close k l .1, w .few-streams));
+    long = last q w st s .long;
+    priced = finished-priced (q .streams) (solvable-in q w) st s;
   }
     where
       w : Within (plantOf p)
-      w = a .within
+      w = within-of p a
 
-  pub solved-is : (flows prices : List ℕ) → prices ≡ finished (q .streams) h .prices → flows ≡ tiesTo (q .streams) prices (p .count) (finished (q .streams) h .flows)
-      → record { flows = flows; prices = prices } ≡ solvedFrom (plantOf p .streams) h
+  pub solved-is : (flows prices : List ℕ) → prices ≡ finished (q .streams) st .prices → flows ≡ tiesTo (q .streams) prices (p .count) (finished (q .streams) st .flows)
+      → record { flows = flows; prices = prices } ≡ solvedFrom (plantOf p .streams) st
   unfolding solvedFrom
   solved-is flows prices o e =
-      ap₂ made (e ∙ ap₂ (λ (rs : List ℕ) (n : ℕ). tiesTo (q .streams) rs n (finished (q .streams) h .flows)) o (sym (fit-length p (a .fit)))) o
+      ap₂ made (e ∙ ap₂ (λ (rs : List ℕ) (n : ℕ). tiesTo (q .streams) rs n (finished (q .streams) st .flows)) o (sym (all-listed p a))) o
     where
       made : List ℕ → List ℕ → Solved
       made fs rs = record { flows = fs; prices = rs }
-
--- A plant that is read is accepted, as the reader hands it over.
-pub read-accepted : (file : List ℕ) (q : Plant) → readPlant file ≡ got q → Accepted (arrayed q)
-read-accepted file q e =
-    let f = read-fits file q e in
-    record { fit = f .0; within = subst Within (sym (f .1)) (within q (accepted file q e .0)) }

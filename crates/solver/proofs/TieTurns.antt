@@ -14,21 +14,25 @@ use Rattle.plants.specs.declared.Stream.{Stream}
 use Rattle.plants.specs.Limits.{maxUnits}
 use Rattle.plants.specs.Plants.{noStream}
 use Rattle.flows.specs.Flows.{streamAt}
+use Rattle.flows.specs.Certificate.{weightOf}
 use Rattle.paths.specs.declared.Tree.{Tree}
-use Rattle.paths.specs.Sizes.{rounds}
-use Rattle.paths.specs.Slack.{gapBy, slackBy}
+use Rattle.paths.specs.Sizes.{searchRounds}
+use Rattle.paths.specs.Slack.{slackBy}
+use Rattle.paths.specs.Rows.{countOf, weightsOf}
+use Rattle.paths.specs.Near.{gapsOf}
 use Rattle.paths.specs.Search.{rootAt, Grown, tightPath}
 use Rattle.paths.specs.Push.{pushed}
-use Rattle.paths.specs.Premises.{Trail, Roomy, Laid}
+use Rattle.paths.specs.Premises.{Network, Trail, Roomy, Laid, Searching, Laying}
+use Rattle.paths.proofs.Filling.{gap-at}
 use Rattle.paths.proofs.Counting.{count-most}
 use Rattle.paths.proofs.TightPath.{Path, way, shut}
 use Rattle.solver.specs.Model.{tiedBy, tiedAt, tiesTo}
-use Rattle.solver.specs.Premises.{Layout, Even, Falls}
+use Rattle.solver.specs.Premises.{Even, Falls, Tieable}
 use Rattle.solver.proofs.Turns.{stream-is}
 use Rattle.solver.proofs.Layouts.{used, solvable-of}
 use Rattle.solver.proofs.Detours.{round-path, left-some, ties-even}
 
-module _ (streams : List Stream) (n : ℕ) (w : Layout streams n) (ps : List ℕ) (i : ℕ) (l : i < n) (xs : List ℕ) where
+module _ (streams : List Stream) (n : ℕ) (w : Network streams n) (ps : List ℕ) (i : ℕ) (l : i < n) (xs : List ℕ) where
   abbrev ss : List Stream
   ss = take n streams
 
@@ -40,7 +44,7 @@ module _ (streams : List Stream) (n : ℕ) (w : Layout streams n) (ps : List ℕ
   lack = slackBy (getD streams i noStream) false (getD xs i 0) (getD ps (getD streams i noStream .from) 0) (getD ps (getD streams i noStream .to) 0) 1
 
   abbrev searched : Grown
-  searched = tightPath (take n streams) n xs ps (getD streams i noStream .to) (suc i) rounds (rootAt (getD streams i noStream .from))
+  searched = tightPath (take n streams) n xs ps (getD streams i noStream .to) (suc i) searchRounds (rootAt (getD streams i noStream .from))
 
   parts : tiedAt ss ps i xs ≡ pick (s .metered) (pick (ltb 0 lack) xs (tiedBy ss xs (s .to) i searched)) xs
   unfolding tiedAt
@@ -87,30 +91,57 @@ module _ (streams : List Stream) (n : ℕ) (w : Layout streams n) (ps : List ℕ
       go : Path maxUnits ss xs ps (s .from) (s .to) (suc i) g → Pushable (g .tree)
       go (shut o ls a b d) = clash _ f o
       go (way o a r u) =
-          let m = count-most maxUnits (λ v. getD (g .tree .labelled) v false) in
+          let m = count-most maxUnits (λ v. getD (g .tree .visited) v false) in
           record {
             trail = record { short = omega (arith, a .counted, m); within = λ k j. rw (used streams n w) at (a .links k j .inside) };
             roomy = record {
               long = h .long;
-              low = λ k j. omega (arith, h .close k j .1, a .counted, m, l, w .network .few);
-              high = λ k j. omega (arith, h .close k j .0, a .counted, m, l, w .network .few);
+              low = λ k j. omega (arith, h .close k j .1, a .counted, m, l, w .within .few-streams);
+              high = λ k j. omega (arith, h .close k j .0, a .counted, m, l, w .within .few-streams);
             };
             some = rw at at (left-some ss (solvable-of streams n w) ps i li xs h (rw at e) (rw at (omega arith)) (g .tree) (rw at a) (rw at r) u);
           }
 
--- The test by the arrays of the streams.
-module _ (streams : List Stream) (n : ℕ) (w : Layout streams n) (ps : List ℕ) (i : ℕ) (l : i < n) (xs fs ts ws qs next : List ℕ) (laid : Laid streams n fs ts ws qs next) where
-  pub starts-at : getD fs i 0 ≡ getD streams i noStream .from
-  starts-at = laid .starts .each i l ∙ ap (λ (s : Stream). s .from) (stream-is streams n i l)
+-- A search can go over the lanes; and the test by them.
+abbrev pub tie-searching : (ls ps : List ℕ) (i : ℕ) (xs : List ℕ) (w : Tieable ls ps i xs) → i ≤ w .n → Searching ls xs ps 1
+tie-searching ls ps i xs w l = record {
+  streams = w .streams;
+  n = w .n;
+  walkable = record {
+    searchable = record {
+      network = w .network;
+      step = omega arith;
+      amounts = λ k m. omega (arith, w .even .close k (omega (arith, w .network .within .few-streams)) .0, w .network .within .few-streams, l);
+      prices = w .prices;
+    };
+    some = omega arith;
+    held = w .even .held;
+  };
+  laid = w .laid;
+}
 
-  pub ends-at : getD ts i 0 ≡ getD streams i noStream .to
-  ends-at = laid .ends .each i l ∙ ap (λ (s : Stream). s .to) (stream-is streams n i l)
+abbrev pub tie-laying : (ls ps : List ℕ) (i : ℕ) (xs : List ℕ) → Tieable ls ps i xs → Laying ls
+tie-laying ls ps i xs w = record { streams = w .streams; n = w .n; network = w .network; laid = w .laid }
 
+pub tie-trail : (ls ps : List ℕ) (i : ℕ) (xs : List ℕ) (w : Tieable ls ps i xs) (via : List ℕ) (len : ℕ) → Trail via (w .n) len → Trail via (countOf ls) len
+tie-trail ls ps i xs w via len t = subst (λ (m : ℕ). Trail via m len) (sym (w .laid .counted)) t
+
+module _ (streams : List Stream) (n : ℕ) (w : Network streams n) (ps : List ℕ) (i : ℕ) (l : i < n) (xs ls : List ℕ) (laid : Laid streams n ls) where
   abbrev test : Bool
-  test = ltb 0 (getD ws i 0) && eqb (gapBy (getD ws i 0) (getD qs i 0) false (getD xs i 0) (getD ps (getD fs i 0) 0) (getD ps (getD ts i 0) 0) 1) 0
+  test = ltb 0 (getD (weightsOf ls) i 0) && eqb (getD (gapsOf ls xs ps 1 0 false) i 0) 0
+
+  gap-is : getD (gapsOf ls xs ps 1 0 false) i 0 ≡ lack streams n w ps i l xs
+  gap-is =
+      gap-at ls xs ps 1 0 false i (rw (laid .counted) l)
+      ∙ rw (laid .rowed .weights i l, laid .rowed .pulls i l, laid .rowed .starts i l, laid .rowed .ends i l, le-ltb i 0 (omega arith))
+      (go (ltb 0 (weightOf (getD streams i noStream))))
+    where
+      go : (b : Bool) → pick (b && false) 1 (lack streams n w ps i l xs) ≡ lack streams n w ps i l xs
+      go true = refl
+      go false = refl
 
   test-is : test ≡ (getD streams i noStream .metered && eqb (lack streams n w ps i l xs) 0)
-  test-is = rw (laid .weights .each i l, laid .pulls .each i l, starts-at, ends-at, stream-is streams n i l) (go (getD streams i noStream .metered) (w .weighed i l))
+  test-is = rw (gap-is, laid .rowed .weights i l) (go (getD streams i noStream .metered) (w .within .each i l .weighed))
     where
       go : (b : Bool) → (b ≡ true → 1 ≤ getD streams i noStream .weight)
           → (ltb 0 (pick b (getD streams i noStream .weight) 0) && eqb (lack streams n w ps i l xs) 0) ≡ (b && eqb (lack streams n w ps i l xs) 0)
@@ -136,7 +167,7 @@ module _ (streams : List Stream) (n : ℕ) (w : Layout streams n) (ps : List ℕ
       go false m h = tied-free streams n w ps i l xs m
 
 -- The pass.
-pub tying-even : (streams : List Stream) (n : ℕ) (w : Layout streams n) (ps xs : List ℕ) → Even (take n streams) ps 0 xs → (i : ℕ) → i ≤ n
+pub tying-even : (streams : List Stream) (n : ℕ) (w : Network streams n) (ps xs : List ℕ) → Even (take n streams) ps 0 xs → (i : ℕ) → i ≤ n
     → Even (take n streams) ps i (tiesTo (take n streams) ps i xs)
 tying-even streams n w ps xs h i l = ties-even (take n streams) (solvable-of streams n w) ps xs h i (rw (used streams n w) l)
 

@@ -1,5 +1,5 @@
 -- One turn of each of the solver's loops, and what the calls of an improvement need.
-use mathlib.Core.Path.{_≡_, refl, sym, _∙_, ap}
+use mathlib.Core.Path.{_≡_, refl, sym, _∙_, ap, subst}
 use mathlib.Core.Bool.{Bool, true, false}
 use mathlib.Core.List.{List, [], _∷_}
 use Prim.Native.Nat.{ℕ, zero, suc, _+_, _-_, _*_, _≤_, _<_}
@@ -15,13 +15,16 @@ use Rattle.numbers.specs.Choice.{pick}
 use Rattle.numbers.proofs.Tests.{clash}
 use Rattle.plants.specs.declared.Stream.{Stream}
 use Rattle.plants.specs.Limits.{maxUnits, places}
+use Rattle.plants.specs.Within.{WithinStream}
 use Rattle.plants.specs.Plants.{noStream}
 use Rattle.flows.specs.Flows.{streamAt}
 use Rattle.flows.proofs.Integers.{up, dn}
 use Rattle.paths.specs.declared.Tree.{Tree}
-use Rattle.paths.specs.Sizes.{netShift, mostStep, rounds}
+use Rattle.paths.specs.Sizes.{netShift, mostStep, searchRounds}
 use Rattle.paths.specs.Search.{rootAt, target, Grown, grownBy, grow}
-use Rattle.paths.specs.Premises.{Placed, Network, Trail, Roomy}
+use Rattle.paths.specs.Premises.{Network, Trail, Roomy, Searching, Laying}
+use Rattle.paths.specs.Rows.{countOf}
+use Rattle.paths.proofs.Weights.{weight-most}
 use Rattle.paths.proofs.Amounts.{net}
 use Rattle.paths.proofs.Counting.{count-most}
 use Rattle.paths.proofs.Growing.{Plain}
@@ -29,7 +32,7 @@ use Rattle.paths.proofs.Hunting.{Hunt}
 use Rattle.solver.specs.declared.State.{State}
 use Rattle.solver.specs.Sizes.{stepFall}
 use Rattle.solver.specs.Model.{Improved, improvedBy, asIs, settledOf, settledTo, booked, netsTo, firstOver, pushedOn, improved, improvements, overSum}
-use Rattle.solver.specs.Premises.{Allows, Shiftable}
+use Rattle.solver.specs.Premises.{Allows, Shiftable, Improvable}
 use Rattle.solver.proofs.Booking.{net-most}
 use Rattle.solver.proofs.Steady.{First, first-over, nets-val, sound-more, Outcome, none-over, better, finds, improved-good}
 
@@ -38,21 +41,21 @@ pub stream-is : (streams : List Stream) (n k : ℕ) → k < n → streamAt (take
 stream-is streams n k l = getD-take n streams k noStream l
 
 pub in-use : (streams : List Stream) (n : ℕ) → Network streams n → length (take n streams) ≡ n
-in-use streams n w = length-take-le n streams (omega (arith, w .long, w .few))
+in-use streams n w = length-take-le n streams (omega (arith, w .long, w .within .few-streams))
 
 pub plain-of : (streams : List Stream) (n : ℕ) → Network streams n → Plain maxUnits (take n streams)
 plain-of streams n w = record {
   inside = λ k l. (rw (stream-is streams n k (at l)) (placed k l .from-in), rw (stream-is streams n k (at l)) (placed k l .to-in));
   small = omega arith;
-  few = omega (arith, in-use streams n w, w .few);
-  light = λ k l. rw (stream-is streams n k (at l)) (placed k l .light);
+  few = omega (arith, in-use streams n w, w .within .few-streams);
+  light = λ k l. rw (stream-is streams n k (at l)) (weight-most (getD streams k noStream) (placed k l));
 }
   where
     at : {k : ℕ} → k < length (take n streams) → k < n
     at l = rw (in-use streams n w) at l
 
-    placed : (k : ℕ) → k < length (take n streams) → Placed (getD streams k noStream)
-    placed k l = w .placed k (at l)
+    placed : (k : ℕ) → k < length (take n streams) → WithinStream maxUnits (getD streams k noStream)
+    placed k l = w .within .each k (at l)
 
 -- The first place over is the only one of its kind.
 pub first-unique : (es : List ℕ) (d s : ℕ) → First es d s → s ≡ firstOver es d
@@ -86,7 +89,7 @@ unfolding improved
 improved-none ss st d s e z = rw (← e, eq-eqb s places z)
 
 pub improved-done : (ss : List Stream) (n : ℕ) (st : State) (d s : ℕ) (g : Grown) → length ss ≡ n → s ≡ firstOver (st .nets) d → (s ≡ places → ⊥)
-    → g ≡ grow ss n (st .flows) (st .nets) d rounds (st .prices) (rootAt s) → g .found ≡ true → improved ss st d ≡ record { done = true; state = pushedOn ss st d s g }
+    → g ≡ grow ss n (st .flows) (st .nets) d searchRounds (st .prices) (rootAt s) → g .found ≡ true → improved ss st d ≡ record { done = true; state = pushedOn ss st d s g }
 unfolding improved
 improved-done ss n st d s g c e z q f = rw (← e, ne-eqb s places z, c, ← q, f)
 
@@ -96,7 +99,7 @@ unfolding improved
 improved-same ss st d r e f =
     ap (λ (i : Improved). i .state) e
     ∙ go (eqb (firstOver (st .nets) d) places)
-    (grow ss (length ss) (st .flows) (st .nets) d rounds (st .prices) (rootAt (firstOver (st .nets) d))) (ap (λ (i : Improved). i .done) (sym e) ∙ f)
+    (grow ss (length ss) (st .flows) (st .nets) d searchRounds (st .prices) (rootAt (firstOver (st .nets) d))) (ap (λ (i : Improved). i .done) (sym e) ∙ f)
   where
     on : (b : Bool) (s : State) → pick b (improvedBy true s) (asIs st) .done ≡ false → pick b (improvedBy true s) (asIs st) .state ≡ st
     on true s h = clash true refl h
@@ -119,7 +122,7 @@ pub record Moving (n : ℕ) (st : State) (s d : ℕ) (found : Bool) (t : Tree) :
 
 pub moving : (streams : List Stream) (n : ℕ) (st : State) (s d : ℕ) (found : Bool) (t : Tree) (ps : List ℕ) → Network streams n → 1 ≤ d → d ≤ mostStep
     → Allows (take n streams) d 1 st → s ≡ firstOver (st .nets) d → (s ≡ places → ⊥)
-    → grownBy found t ps ≡ grow (take n streams) n (st .flows) (st .nets) d rounds (st .prices) (rootAt s) → Moving n st s d found t
+    → grownBy found t ps ≡ grow (take n streams) n (st .flows) (st .nets) d searchRounds (st .prices) (rootAt s) → Moving n st s d found t
 moving streams n st s d found t ps w l1 l2 h e z q = record {
   found-it = m .found;
   some = m .some;
@@ -156,17 +159,17 @@ moving streams n st s d found t ps w l1 l2 h e z q = record {
         first-at : (s : ℕ) → s ≡ firstOver (st .nets) d → s < places → netShift + d ≤ getD (st .nets) s 0
         first-at s e l = rw e (first-over (st .nets) d .over (rw (h .sound .netted, ← e) l))
 
-    m : Hunt maxUnits (take n streams) (st .flows) (st .nets) d s (st .prices) rounds (grownBy found t ps)
+    m : Hunt maxUnits (take n streams) (st .flows) (st .nets) d s (st .prices) searchRounds (grownBy found t ps)
     m = rw q (rw c at (finds (take n streams) (plain-of streams n w) d l1 0 (h .size) st
         (sound-more (take n streams) d (stepFall * d * 1) (h .size) st (h .sound) (0 + stepFall * d) (h .size) (omega arith) (omega arith)) (omega
         (arith, h .fits)) s small over))
 
     short : t .len < places
-    short = omega (arith, m .grown .counted, count-most maxUnits (λ v. getD (t .labelled) v false))
+    short = omega (arith, m .grown .counted, count-most maxUnits (λ v. getD (t .visited) v false))
 
     most : (u : ℕ)
         → (up (net (take n streams) (st .flows) u) ≤ h .size * length (take n streams)) × (dn (net (take n streams) (st .flows) u) ≤ h .size * length (take n streams))
-    most = net-most (take n streams) (st .flows) (h .size) (λ k l. h .sound .close k (omega (arith, c, w .few)))
+    most = net-most (take n streams) (st .flows) (h .size) (λ k l. h .sound .close k (omega (arith, c, w .within .few-streams)))
 
     few : h .size * length (take n streams) ≤ netShift
     few = omega (arith, mul-le-mul-left (h .size) (plain-of streams n w .few), h .fits)
@@ -273,3 +276,27 @@ pub over-to-most : (es : List ℕ) (b n : ℕ) → ((u : ℕ) → u < n → getD
 unfolding overTo
 over-to-most es b zero h = omega arith
 over-to-most es b (suc n) h = omega (arith, h n (omega arith), over-to-most es b n (λ u l. h u (omega arith)))
+
+-- A search can go over the lanes.
+abbrev pub improve-searching : (ls : List ℕ) (d : ℕ) (st : State) → Improvable ls d 1 st → Searching ls (st .flows) (st .prices) d
+improve-searching ls d st w = record {
+  streams = w .streams;
+  n = w .n;
+  walkable = record {
+    searchable = record {
+      network = w .network;
+      step = w .step .1;
+      amounts = λ k l. omega (arith, w .allows .sound .close k (omega (arith, w .network .within .few-streams)) .0, w .allows .fits);
+      prices = w .allows .sound .capped;
+    };
+    some = w .step .0;
+    held = w .allows .sound .held;
+  };
+  laid = w .laid;
+}
+
+abbrev pub improve-laying : (ls : List ℕ) (d k : ℕ) (st : State) → Improvable ls d k st → Laying ls
+improve-laying ls d k st w = record { streams = w .streams; n = w .n; network = w .network; laid = w .laid }
+
+pub improve-trail : (ls : List ℕ) (d k : ℕ) (st : State) (w : Improvable ls d k st) (via : List ℕ) (len : ℕ) → Trail via (w .n) len → Trail via (countOf ls) len
+improve-trail ls d k st w via len t = subst (λ (m : ℕ). Trail via m len) (sym (w .laid .counted)) t

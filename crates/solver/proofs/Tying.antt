@@ -18,7 +18,6 @@ use Rattle.plants.specs.Within.{Within}
 use Rattle.flows.specs.Flows.{streamAt, amountAt, allowed, cost, Cheapest}
 use Rattle.flows.specs.Certificate.{weightOf}
 use Rattle.flows.proofs.Integers.{Le}
-use Rattle.flows.specs.Certificate as Cert
 use Rattle.flows.proofs.Prices.{Certificate, least}
 use Rattle.flows.proofs.Order.{AgreeTo}
 use Rattle.flows.proofs.Ties as Ties
@@ -52,7 +51,7 @@ free-slack b s x pu pv e h = go b (weightOf s) (rw e) h
     go false w z h = omega (arith, h .low, h .high, ap (λ k. k * x) z, ap (λ k. k * readingOf s) z)
 
 -- A stream that is not one of the metered ones up to i is usable after them.
-settled-usable : (ss : List Stream) (i k : ℕ) → Cert.settled i k (streamAt ss k) ≡ false → Usable ss (suc i) k
+settled-usable : (ss : List Stream) (i k : ℕ) → Ties.meteredTo i k (streamAt ss k) ≡ false → Usable ss (suc i) k
 settled-usable ss i k e = go (streamAt ss k .metered) e
   where
     go : (b : Bool) → b && leb k i ≡ false → b && ltb k (suc i) ≡ false
@@ -77,7 +76,7 @@ module _ (p : Plant) (w : Within p) (v : Solvable (p .streams)) (ps : List ℕ) 
     stays-tied : Stays ss (priceAt ps) (amountAt (opened (length ss) xs)) i → Tied p (opened (length ss) xs) i
     stays-tied t e ys b c a = stays-least p w (priceAt ps) (opened (length ss) xs) sure ys b (omega arith) i li a t
 
-    -- No way leads round: the labelled places are a cut.
+    -- No way leads round: the visited places are a cut.
     blocked : (ls : List Bool) → getD ls (s .from) false ≡ true → getD ls (s .to) false ≡ false
         → ((k : ℕ) → k < length ss → Usable ss (suc i) k → startIn ss ls k ≡ not (endIn ss ls k) → 0 < slackAt ss xs ps 1 k (startIn ss ls k))
         → Tied p (opened (length ss) xs) i
@@ -92,11 +91,11 @@ module _ (p : Plant) (w : Within p) (v : Solvable (p .streams)) (ps : List ℕ) 
               (λ e. absurd (none k l e (closed k l (settled-usable ss i k u) (a ∙ ap not (sym b)))));
         }))
       where
-        leaves : (k : ℕ) → k < length ss → Cert.settled i k (streamAt ss k) ≡ false → startIn ss ls k ≡ true → startIn ss ls k ≡ not (endIn ss ls k)
+        leaves : (k : ℕ) → k < length ss → Ties.meteredTo i k (streamAt ss k) ≡ false → startIn ss ls k ≡ true → startIn ss ls k ≡ not (endIn ss ls k)
             → 0 < slackAt ss xs ps 1 k true
         leaves k l u a c = subst (λ (b : Bool). 0 < slackAt ss xs ps 1 k b) a (closed k l (settled-usable ss i k u) c)
 
-        enters : (k : ℕ) → k < length ss → Cert.settled i k (streamAt ss k) ≡ false → startIn ss ls k ≡ false → startIn ss ls k ≡ not (endIn ss ls k)
+        enters : (k : ℕ) → k < length ss → Ties.meteredTo i k (streamAt ss k) ≡ false → startIn ss ls k ≡ false → startIn ss ls k ≡ not (endIn ss ls k)
             → 0 < slackAt ss xs ps 1 k false
         enters k l u a c = subst (λ (b : Bool). 0 < slackAt ss xs ps 1 k b) a (closed k l (settled-usable ss i k u) c)
 

@@ -1,14 +1,16 @@
--- What is asked of a spanning forest and of the amounts routed along it: ranges only.
+-- What is asked of a spanning forest and of the amounts routed along it: ranges, and that metered amounts stay as they are.
 use mathlib.Core.Path.{_≡_}
-use mathlib.Core.Bool.{false}
+use mathlib.Core.Bool.{true, false}
 use mathlib.Core.List.{List}
 use Prim.Native.Nat.{ℕ, _≤_, _<_}
 use lib.ListN.{length, getD}
+use Rattle.plants.specs.declared.Stream.{Stream}
 use Rattle.plants.specs.Limits.{places, maxUnits, maxStreams}
+use Rattle.plants.specs.Plants.{noStream}
 use Rattle.solver.specs.declared.Forest.{Forest}
 use Rattle.solver.specs.Sizes.{hintRoom}
 use Rattle.solver.specs.Premises.{Close}
-use Rattle.paths.proofs.Counting.{countTo}
+use Rattle.paths.specs.Counts.{countTo}
 
 -- A forest with as many places reached, at least, as it has streams.
 pub record Spanning (f : Forest) : Type 0 where
@@ -17,11 +19,19 @@ pub record Spanning (f : Forest) : Type 0 where
   pub intos : length (f .into) ≡ places
   pub few : f .len ≤ countTo maxUnits (λ u. getD (f .reached) u false)
 
--- Its streams are among the first n.
-abbrev pub Listed : ℕ → Forest → Type 0
-Listed n f = (k : ℕ) → k < f .len → getD (f .via) k 0 < n
+-- Stream i is among the first n, and unmetered.
+abbrev pub Unmetered : List Stream → ℕ → ℕ → Type 0
+Unmetered streams n i = (i < n) × (getD streams i noStream .metered ≡ false)
+
+-- Its streams are such.
+abbrev pub Listed : List Stream → ℕ → Forest → Type 0
+Listed streams n f = (k : ℕ) → k < f .len → Unmetered streams n (getD (f .via) k 0)
 
 -- Held amounts within the hint's room.
 pub record Routes (xs : List ℕ) : Type 0 where
   pub long : length xs ≡ maxStreams
   pub close : (k : ℕ) → k < maxStreams → Close hintRoom (getD xs k 0)
+
+-- The metered ones of the first n streams carry in ys what they carry in xs.
+pub record Kept (streams : List Stream) (n : ℕ) (xs ys : List ℕ) : Type 0 where
+  pub each : (k : ℕ) → k < n → getD streams k noStream .metered ≡ true → getD ys k 0 ≡ getD xs k 0

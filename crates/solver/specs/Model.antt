@@ -9,7 +9,7 @@ use Rattle.numbers.specs.Choice.{pick}
 use Rattle.plants.specs.declared.Stream.{Stream}
 use Rattle.plants.specs.Limits.{places, maxStreams}
 use Rattle.flows.specs.Flows.{streamAt}
-use Rattle.paths.specs.Sizes.{flowShift, priceShift, netShift, rounds}
+use Rattle.paths.specs.Sizes.{flowShift, priceShift, netShift, searchRounds}
 use Rattle.flows.specs.Certificate.{weightOf}
 use Rattle.paths.specs.Held.{readingOf}
 use Rattle.paths.specs.Slack.{slackBy}
@@ -18,14 +18,14 @@ use Rattle.paths.specs.Push.{pushed}
 use Rattle.solver.specs.declared.Hint.{Hint}
 use Rattle.solver.specs.declared.State.{State}
 use Rattle.solver.specs.declared.Solved.{Solved}
-use Rattle.solver.specs.Sizes.{spread, leftoverLimit, fuel}
+use Rattle.solver.specs.Sizes.{priceBand, leftoverLimit, fuel}
 
 -- Settle. A metered stream's amount at the prices pu and pv of its start and its end: the reading plus (pv − pu) / 2w, rounded to
--- the nearest, a half up. (spread is taken from the reading and added again inside the quotient, so that nothing is below 0.)
+-- the nearest, a half up. (priceBand is taken from the reading and added again inside the quotient, so that nothing is below 0.)
 abbrev pub settledOf : Stream → ℕ → ℕ → ℕ
 settledOf s pu pv =
     let w = weightOf s in
-    (readingOf s - spread) + (pv + w + 2 * (w * spread) - pu) / (2 * w)
+    (readingOf s - priceBand) + (pv + w + 2 * (w * priceBand) - pu) / (2 * w)
 
 -- The amounts xs with those of the metered streams among the first n settled at the prices ps.
 unfoldable pub settledTo : List Stream → List ℕ → List ℕ → ℕ → List ℕ
@@ -92,7 +92,7 @@ pushedOn ss st d s g =
 
 abbrev pub improvedAt : List Stream → State → ℕ → ℕ → Improved
 improvedAt ss st d s =
-    let g = grow ss (length ss) (st .flows) (st .nets) d rounds (st .prices) (rootAt s) in
+    let g = grow ss (length ss) (st .flows) (st .nets) d searchRounds (st .prices) (rootAt s) in
     pick (g .found) (record { done = true; state = pushedOn ss st d s g }) (asIs st)
 
 -- At step d, from the first place with a net of d or more.
@@ -119,13 +119,13 @@ noHint = record { flows = replicate maxStreams flowShift; prices = replicate pla
 abbrev pub asHint : State → Hint
 asHint st = record { flows = st .flows; prices = st .prices }
 
--- Settled at the hint; where too much is left over, at none.
-abbrev pub begun : List Stream → Hint → State
-begun ss h = let st = settled ss h in pick (ltb leftoverLimit (overSum (st .nets))) (settled ss noHint) st
+-- Amounts settled at a hint; where too much is left over, those settled at none.
+abbrev pub begun : List Stream → State → State
+begun ss st = pick (ltb leftoverLimit (overSum (st .nets))) (settled ss noHint) st
 
 -- Improved at step 1 until no net is positive.
-abbrev pub finished : List Stream → Hint → State
-finished ss h = improvements fuel ss 1 (begun ss h)
+abbrev pub finished : List Stream → State → State
+finished ss st = improvements fuel ss 1 (begun ss st)
 
 -- Ties. Stream i less by 1 where its amount can fall at no cost and a way of no slack leads round it, which leaves the metered
 -- streams up to it alone.
@@ -139,7 +139,7 @@ tiedAt ss ps i xs =
     let s = streamAt ss i in
     pick (s .metered)
     (pick (ltb 0 (slackBy s false (getD xs i 0) (getD ps (s .from) 0) (getD ps (s .to) 0) 1)) xs
-    (tiedBy ss xs (s .to) i (tightPath ss (length ss) xs ps (s .to) (suc i) rounds (rootAt (s .from)))))
+    (tiedBy ss xs (s .to) i (tightPath ss (length ss) xs ps (s .to) (suc i) searchRounds (rootAt (s .from)))))
     xs
 
 -- The first n streams, one after the other.
@@ -147,8 +147,8 @@ unfoldable pub tiesTo : List Stream → List ℕ → ℕ → List ℕ → List �
 tiesTo ss ps zero xs = xs
 tiesTo ss ps (suc i) xs = tiedAt ss ps i (tiesTo ss ps i xs)
 
--- The whole, from any hint.
-unfoldable pub solvedFrom : List Stream → Hint → Solved
-solvedFrom ss h =
-    let st = finished ss h in
+-- The whole, from amounts settled at a hint.
+unfoldable pub solvedFrom : List Stream → State → Solved
+solvedFrom ss start =
+    let st = finished ss start in
     record { flows = tiesTo ss (st .prices) (length ss) (st .flows); prices = st .prices }

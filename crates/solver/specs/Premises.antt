@@ -2,30 +2,23 @@
 use mathlib.Core.Path.{_≡_}
 use mathlib.Core.Bool.{true, false}
 use mathlib.Core.List.{List}
-use lib.IntN.{pos, natAbs, _-ℤ_}
-use Prim.Native.Nat.{ℕ, _+_, _-_, _*_, _≤_, _<_}
-use lib.ListN.{length, getD}
+use lib.IntN.{pos, _-ℤ_}
+use Prim.Native.Nat.{ℕ, _+_, _*_, _≤_, _<_}
+use lib.ListN.{length, getD, take}
 use Rattle.plants.specs.declared.Stream.{Stream}
-use Rattle.plants.specs.Limits.{places, maxStreams}
+use Rattle.plants.specs.Limits.{places, maxUnits, maxStreams}
 use Rattle.plants.specs.Plants.{noStream}
+use Rattle.plants.specs.Within.{WithinStream}
 use Rattle.flows.specs.Flows.{streamAt}
-use Rattle.flows.specs.Certificate.{weightOf}
-use Rattle.flows.proofs.Nets.{netOf}
+use Rattle.flows.specs.Nets.{netOf}
 use Rattle.paths.specs.Sizes.{flowShift, mostFlow, priceShift, netShift, mostStep, pushRoom}
 use Rattle.paths.specs.Held.{unshifted, AllHeld}
 use Rattle.paths.specs.Slack.{slackBy}
-use Rattle.paths.specs.Premises.{Placed, Network, Prices}
+use Rattle.paths.specs.Premises.{Network, Prices, Laid}
 use Rattle.solver.specs.declared.Hint.{Hint}
 use Rattle.solver.specs.declared.State.{State}
-use Rattle.solver.specs.Sizes.{mostReading, spread, stepFall, hintFloor, hintRoom, settledRoom}
-
--- An array of streams of which the first n are in use: metered ones have a weight and a reading in range, and no stream leads
--- from a place to itself.
-pub record Layout (streams : List Stream) (n : ℕ) : Type 0 where
-  pub network : Network streams n
-  pub weighed : (k : ℕ) → k < n → getD streams k noStream .metered ≡ true → 1 ≤ getD streams k noStream .weight
-  pub in-range : (k : ℕ) → k < n → getD streams k noStream .metered ≡ true → natAbs (getD streams k noStream .reading) ≤ mostReading
-  pub apart : (k : ℕ) → k < n → getD streams k noStream .from ≡ getD streams k noStream .to → ⊥
+use Rattle.solver.specs.Model.{settled}
+use Rattle.solver.specs.Sizes.{mostReading, priceBand, stepFall, hintFloor, hintRoom, settledRoom}
 
 -- A step: at least 1.
 abbrev pub Step : ℕ → Type 0
@@ -37,18 +30,17 @@ Close b x = (x ≤ flowShift + b) × (flowShift ≤ x + b)
 
 -- A metered stream, and the prices of its start and its end, at which its amount can be settled.
 pub record Settleable (s : Stream) (pu pv : ℕ) : Type 0 where
-  pub placed : Placed s
-  pub weighed : 1 ≤ weightOf s
-  pub in-range : natAbs (s .reading) ≤ mostReading
+  pub within : WithinStream maxUnits s
+  pub metered : s .metered ≡ true
   pub price-u : pu ≤ priceShift
   pub price-v : pv ≤ priceShift
-  pub near : pu ≤ pv + 2 * spread
+  pub near : pu ≤ pv + 2 * priceBand
 
 -- An array of streams, and prices at which their amounts can be settled.
 pub record Settles (streams : List Stream) (n : ℕ) (ps : List ℕ) : Type 0 where
-  pub layout : Layout streams n
+  pub network : Network streams n
   pub prices : Prices ps
-  pub near : (u v : ℕ) → u < places → v < places → getD ps u 0 ≤ getD ps v 0 + 2 * spread
+  pub near : (u v : ℕ) → u < places → v < places → getD ps u 0 ≤ getD ps v 0 + 2 * priceBand
 
 -- Held amounts, each at most mostFlow.
 abbrev pub Amounts : List ℕ → Type 0
@@ -75,12 +67,12 @@ abbrev pub Agreed : List Stream → List ℕ → Type 0
 Agreed ss ps = (k : ℕ) → k < length ss → streamAt ss k .metered ≡ false → getD ps (streamAt ss k .from) 0 ≡ getD ps (streamAt ss k .to) 0
 
 -- Prices to settle at, from low up, that agree across unmetered streams; and amounts for these, of size b at most. Prices within
--- `spread` of each other move no amount by more than the least of them is below priceShift.
+-- `priceBand` of each other move no amount by more than the least of them is below priceShift.
 pub record Start (ss : List Stream) (low b : ℕ) (h : Hint) : Type 0 where
   pub agree : Agreed ss (h .prices)
   pub floor : (u : ℕ) → u < places → low ≤ getD (h .prices) u 0
   pub capped : Prices (h .prices)
-  pub near : priceShift ≤ low + spread
+  pub near : priceShift ≤ low + priceBand
   pub priced : length (h .prices) ≡ places
   pub long : length (h .flows) ≡ maxStreams
   pub unmetered : (k : ℕ) → k < maxStreams → streamAt ss k .metered ≡ false → Close b (getD (h .flows) k 0)
@@ -96,6 +88,12 @@ pub record Ready (ss : List Stream) (h : Hint) : Type 0 where
 -- All that is asked of a hint.
 abbrev pub Hinted : List Stream → Hint → Type 0
 Hinted ss h = Start ss hintFloor hintRoom h
+
+-- A state that is settled at a hint.
+pub record AtHint (ss : List Stream) (st : State) : Type 0 where
+  pub hint : Hint
+  pub hinted : Hinted ss hint
+  pub is : st ≡ settled ss hint
 
 -- A state: the step condition at d, nets that are the amounts', prices from low up, amounts of size b at most.
 pub record Sound (ss : List Stream) (d low b : ℕ) (st : State) : Type 0 where
@@ -126,3 +124,27 @@ pub record Falls (streams : List Stream) (ps : List ℕ) (i : ℕ) (xs : List �
   pub metered : getD streams i noStream .metered ≡ true
   pub tight :
       slackBy (getD streams i noStream) false (getD xs i 0) (getD ps (getD streams i noStream .from) 0) (getD ps (getD streams i noStream .to) 0) 1 ≤ 0
+
+-- Streams that lanes are of, and a state from which k more improvements at step d stay in range.
+pub record Improvable (ls : List ℕ) (d k : ℕ) (st : State) : Type 0 where
+  pub streams : List Stream
+  pub n : ℕ
+  pub network : Network streams n
+  pub laid : Laid streams n ls
+  pub step : Step d
+  pub allows : Allows (take n streams) d k st
+
+-- And prices and a flow before the tie pass comes to stream i.
+pub record Tieable (ls ps : List ℕ) (i : ℕ) (xs : List ℕ) : Type 0 where
+  pub streams : List Stream
+  pub n : ℕ
+  pub network : Network streams n
+  pub laid : Laid streams n ls
+  pub prices : Prices ps
+  pub even : Even (take n streams) ps i xs
+
+-- Where it can fall at no cost.
+pub record Tying (ls ps : List ℕ) (i : ℕ) (xs : List ℕ) : Type 0 where
+  pub tieable : Tieable ls ps i xs
+  pub below : i < tieable .n
+  pub falls : Falls (tieable .streams) ps i xs

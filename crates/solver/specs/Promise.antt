@@ -1,4 +1,4 @@
--- What the solver promises of a plant as the code holds it, and what it requires: what the plant reader ensures.
+-- What the solver promises of a plant as the code holds it.
 use mathlib.Core.Path.{_≡_}
 use mathlib.Core.Bool.{true, false}
 use mathlib.Core.List.{List}
@@ -10,20 +10,13 @@ use Rattle.plants.specs.declared.Stream.{Stream}
 use Rattle.plants.specs.declared.Plant as Arrays
 use Rattle.plants.specs.Limits.{places, maxStreams}
 use Rattle.plants.specs.Says.{plantOf}
-use Rattle.plants.specs.Within.{Within}
-use Rattle.flows.specs.Calls.{Fit}
 use Rattle.flows.specs.Flows.{streamAt, amountAt, Cheapest}
-use Rattle.flows.specs.Certificate.{climb, lowest, highest}
+use Rattle.flows.specs.Certificate.{climb, leastClimb, mostClimb}
 use Rattle.paths.specs.Sizes.{priceShift}
 use Rattle.paths.specs.Held.{opened}
 use Rattle.solver.specs.declared.Solved.{Solved}
 use Rattle.solver.specs.Sizes.{settledRoom}
 use Rattle.solver.specs.Premises.{Close}
-
--- A plant within its limits, its streams in an array.
-pub record Accepted (p : Arrays.Plant) : Type 0 where
-  pub fit : Fit p
-  pub within : Within (plantOf p)
 
 -- The price that is held as x; the price of each place.
 unfoldable pub price : ℕ → ℤ
@@ -38,8 +31,8 @@ flowOf p r = opened (p .count) (r .flows)
 
 -- The step condition at 1 of a stream that carries x, under the prices π.
 pub record Bounded (π : ℕ → ℤ) (s : Stream) (x : ℤ) : Type 0 where
-  pub low : leZ (lowest s x) (climb π s) ≡ true
-  pub high : leZ (climb π s) (highest s x) ≡ true
+  pub low : leZ (leastClimb s x) (climb π s) ≡ true
+  pub high : leZ (climb π s) (mostClimb s x) ≡ true
 
 pub record Right (p : Arrays.Plant) (r : Solved) : Type 0 where
   -- The flow is the cheapest, the amounts of unmetered streams being such that all balances.

@@ -1,42 +1,25 @@
-// From a hint to a balanced flow that meets the step condition at 1.
-use crate::Hint;
+// From amounts settled at a hint to a balanced flow that meets the step condition at 1.
 use crate::State;
 use crate::hints::no_hint;
 use crate::improving::improve_all;
+use crate::settling::over_sum;
 use crate::settling::settle;
 use crate::sizes::FUEL;
 use crate::sizes::LEFTOVER_LIMIT;
-use paths::sizes::NET_SHIFT;
-use paths::slacks::minus;
+use paths::lanes::LANES;
 use plants::Stream;
 use plants::limits::MAX_STREAMS;
-use plants::limits::PLACES;
 ghost use mathlib.Core.Path.{_≡_};
 ghost use lib.ListN.{take};
-ghost use Rattle.solver.specs.Sizes.{netRoom};
-ghost use Rattle.solver.specs.Model.{overSum, begun, finished};
-ghost use Rattle.solver.specs.Premises.{Layout, Around, Hinted};
+ghost use Rattle.paths.specs.Premises.{Network, Laid};
+ghost use Rattle.solver.specs.Model.{begun, finished};
+ghost use Rattle.solver.specs.Premises.{AtHint};
 
-// The summed positive net.
-fn over_sum(nets: &[u64; PLACES]) -> u64
-    requires { ⌜ Around (now nets) netRoom ⌝ }
-    ensures { λ r. ⌜ r ≡ overSum (now (nets .entry)) ⌝ }
+// The amounts as they are; where too much is left over, those settled at no hint.
+fn begin(streams: [Stream; MAX_STREAMS], count: usize, st: State) -> State
+    requires { ⌜ Network streams count × AtHint (take count streams) st ⌝ }
+    ensures { λ r. ⌜ r ≡ begun (take count streams) st ⌝ }
 {
-    let mut u: usize = 0;
-    let mut sum: u64 = 0;
-    while u < PLACES {
-        sum += minus(nets[u], NET_SHIFT);
-        u += 1;
-    }
-    sum
-}
-
-// Settled at the hint; where too much is left over, at none.
-fn begin(streams: [Stream; MAX_STREAMS], count: usize, h: Hint) -> State
-    requires { ⌜ Layout streams count × Hinted (take count streams) h ⌝ }
-    ensures { λ r. ⌜ r ≡ begun (take count streams) h ⌝ }
-{
-    let st = settle(streams, count, h);
     let nets = st.nets;
     if over_sum(&nets) <= LEFTOVER_LIMIT {
         return st;
@@ -45,9 +28,14 @@ fn begin(streams: [Stream; MAX_STREAMS], count: usize, h: Hint) -> State
 }
 
 // Improved at step 1 until no net is positive.
-pub fn finish(streams: [Stream; MAX_STREAMS], count: usize, h: Hint) -> State
-    requires { ⌜ Layout streams count × Hinted (take count streams) h ⌝ }
-    ensures { λ r. ⌜ r ≡ finished (take count streams) h ⌝ }
+pub fn finish(
+    streams: [Stream; MAX_STREAMS],
+    count: usize,
+    lanes: &[u64; LANES],
+    st: State,
+) -> State
+    requires { ⌜ Network streams count × AtHint (take count streams) st × Laid streams count (now lanes) ⌝ }
+    ensures { λ r. ⌜ r ≡ finished (take count streams) st ⌝ }
 {
-    improve_all(streams, count, begin(streams, count, h), 1, FUEL)
+    improve_all(lanes, begin(streams, count, st), 1, FUEL)
 }

@@ -9,14 +9,17 @@ use plants::limits::PLACES;
 use std::num::wrapping_add_u64;
 use std::num::wrapping_sub_u64;
 ghost use mathlib.Core.Path.{_≡_};
+ghost use mathlib.Core.List.{List};
 ghost use Prim.Native.Nat.{ℕ, _<_};
-ghost use lib.ListN.{length};
-ghost use Rattle.plants.specs.Limits.{places};
-ghost use Rattle.flows.specs.Calls.{Ends};
-ghost use Rattle.paths.specs.Premises.{Network, Trail};
+ghost use lib.ListN.{length, getD};
+ghost use Rattle.plants.specs.declared.Stream.{Stream};
+ghost use Rattle.plants.specs.Limits.{maxUnits, places};
+ghost use Rattle.plants.specs.Within.{WithinStream};
+ghost use Rattle.plants.specs.Plants.{noStream};
+ghost use Rattle.paths.specs.Premises.{Network};
 ghost use Rattle.solver.specs.Sizes.{hintRoom};
 ghost use Rattle.solver.specs.Premises.{Close};
-ghost use Rattle.solver.specs.Forests.{Spanning, Listed, Routes};
+ghost use Rattle.solver.specs.Forests.{Spanning, Unmetered, Listed, Routes, Kept};
 
 // The labels, and no stream yet.
 fn roots(labels: [u8; PLACES]) -> Forest
@@ -39,7 +42,7 @@ fn roots(labels: [u8; PLACES]) -> Forest
 // Place e over stream i, where it is not reached yet.
 fn reach(f: Forest, i: u8, e: usize, into: bool) -> Forest
     requires { ⌜ Spanning f × (e < places) ⌝ }
-    ensures { λ r. ⌜ Spanning r × ((n : ℕ) → i < n → Listed n f → Listed n r) ⌝ }
+    ensures { λ r. ⌜ Spanning r × ((ss : List Stream) (n : ℕ) → Unmetered ss n i → Listed ss n f → Listed ss n r) ⌝ }
 {
     if f.reached[e] {
         return f;
@@ -55,8 +58,8 @@ fn reach(f: Forest, i: u8, e: usize, into: bool) -> Forest
 
 // Unmetered stream i, where it leads from a place that is reached to one that is not.
 fn along(f: Forest, i: u8, s: Stream) -> Forest
-    requires { ⌜ Spanning f × Ends s ⌝ }
-    ensures { λ r. ⌜ Spanning r × ((n : ℕ) → i < n → Listed n f → Listed n r) ⌝ }
+    requires { ⌜ Spanning f × WithinStream maxUnits s ⌝ }
+    ensures { λ r. ⌜ Spanning r × ((ss : List Stream) (n : ℕ) → i < n → getD ss i noStream ≡ s → Listed ss n f → Listed ss n r) ⌝ }
 {
     if s.metered {
         return f;
@@ -74,8 +77,8 @@ fn along(f: Forest, i: u8, s: Stream) -> Forest
 
 // One pass over the streams.
 fn pass(streams: [Stream; MAX_STREAMS], count: usize, start: Forest) -> Forest
-    requires { ⌜ Network streams count × Spanning start × Listed count start ⌝ }
-    ensures { λ r. ⌜ Spanning r × Listed count r ⌝ }
+    requires { ⌜ Network streams count × Spanning start × Listed streams count start ⌝ }
+    ensures { λ r. ⌜ Spanning r × Listed streams count r ⌝ }
 {
     let mut f = start;
     let mut i: usize = 0;
@@ -89,7 +92,7 @@ fn pass(streams: [Stream; MAX_STREAMS], count: usize, start: Forest) -> Forest
 // Passes, until one reaches no further place.
 pub fn forest(streams: [Stream; MAX_STREAMS], count: usize, labels: [u8; PLACES]) -> Forest
     requires { ⌜ Network streams count ⌝ }
-    ensures { λ r. ⌜ Spanning r × Listed count r ⌝ }
+    ensures { λ r. ⌜ Spanning r × Listed streams count r ⌝ }
 {
     let mut f = roots(labels);
     let mut left: usize = PLACES;
@@ -130,7 +133,7 @@ fn hand_on(nets: &mut [u64; PLACES], u: usize, v: usize) -> u64
 
 // The amount of a stream by which the place that it was to reach hands its net on.
 fn routed(nets: &mut [u64; PLACES], s: Stream, into: bool) -> u64
-    requires { ⌜ (length (now nets) ≡ places) × Ends s ⌝ }
+    requires { ⌜ (length (now nets) ≡ places) × WithinStream maxUnits s ⌝ }
     ensures { λ r. ⌜ (length (now (nets .exit)) ≡ places) × Close hintRoom r ⌝ }
 {
     let u = s.from as usize;
@@ -152,8 +155,8 @@ pub fn route(
     nets: &mut [u64; PLACES],
     flows: &mut [u64; MAX_STREAMS],
 )
-    requires { ⌜ Network streams count × Spanning f × Listed count f × (length (now nets) ≡ places) × Routes (now flows) ⌝ }
-    ensures { λ _. ⌜ (length (now (nets .exit)) ≡ places) × Routes (now (flows .exit)) ⌝ }
+    requires { ⌜ Network streams count × Spanning f × Listed streams count f × (length (now nets) ≡ places) × Routes (now flows) ⌝ }
+    ensures { λ _. ⌜ Routes (now (flows .exit)) × Kept streams count (now (flows .entry)) (now (flows .exit)) ⌝ }
 {
     let mut k = f.len;
     while 0 < k {

@@ -1,11 +1,9 @@
 // Improvements: net is moved from a place that has too much to one that has too little, at the least cost.
 use crate::State;
-use paths::labels::search;
-use paths::lanes::CELLS;
-use paths::lanes::lay;
+use paths::lanes::LANES;
 use paths::pushes::push_back;
+use paths::searches::search;
 use paths::sizes::NET_SHIFT;
-use plants::Stream;
 use plants::limits::MAX_STREAMS;
 use plants::limits::PLACES;
 ghost use mathlib.Core.Path.{_≡_};
@@ -13,9 +11,8 @@ ghost use Prim.Native.Nat.{_≤_, _<_};
 ghost use lib.ListN.{length, take};
 ghost use Rattle.plants.specs.Limits.{places};
 ghost use Rattle.paths.specs.Sizes.{mostStep};
-ghost use Rattle.paths.specs.Premises.{Laid};
 ghost use Rattle.solver.specs.Model.{firstOver, shiftedNets, stateOf, improvedBy, improved, improvements};
-ghost use Rattle.solver.specs.Premises.{Layout, Step, Shiftable, Allows};
+ghost use Rattle.solver.specs.Premises.{Shiftable, Improvable};
 
 // The first place with a net of delta or more, PLACES where there is none.
 fn first_over(nets: &[u64; PLACES], delta: u64) -> usize
@@ -43,39 +40,20 @@ fn shift_nets(nets: &mut [u64; PLACES], s: usize, v: usize, delta: u64)
 
 // One improvement at step delta, from the first place with so much net; false where there is none to make.
 fn improve(
-    streams: [Stream; MAX_STREAMS],
-    count: usize,
-    from: &[u8; MAX_STREAMS],
-    to: &[u8; MAX_STREAMS],
-    weight: &[u64; MAX_STREAMS],
-    pull: &[u64; MAX_STREAMS],
-    next: &[u8; CELLS],
+    lanes: &[u64; LANES],
     flows: &mut [u64; MAX_STREAMS],
     prices: &mut [u64; PLACES],
     nets: &mut [u64; PLACES],
     delta: u64,
 ) -> bool
-    requires { ⌜ Layout streams count × Laid streams count (now from) (now to) (now weight) (now pull) (now next) × Step delta × Allows (take count streams) delta 1 (stateOf (now flows) (now prices) (now nets)) ⌝ }
-    ensures { λ r. ⌜ improvedBy r (stateOf (now (flows .exit)) (now (prices .exit)) (now (nets .exit))) ≡ improved (take count streams) (stateOf (now (flows .entry)) (now (prices .entry)) (now (nets .entry))) delta ⌝ }
+    requires { ⌜ Improvable (now lanes) delta 1 (stateOf (now flows) (now prices) (now nets)) ⌝ }
+    ensures { λ r. ⌜ ((w : Improvable (now (lanes .entry)) delta 1 (stateOf (now (flows .entry)) (now (prices .entry)) (now (nets .entry)))) → improvedBy r (stateOf (now (flows .exit)) (now (prices .exit)) (now (nets .exit))) ≡ improved (take (w .n) (w .streams)) (stateOf (now (flows .entry)) (now (prices .entry)) (now (nets .entry))) delta) ⌝ }
 {
     let s = first_over(nets, delta);
     if s == PLACES {
         return false;
     }
-    let h = search(
-        streams,
-        count,
-        from,
-        to,
-        weight,
-        pull,
-        next,
-        flows,
-        prices,
-        nets,
-        s as u8,
-        delta,
-    );
+    let h = search(lanes, flows, prices, nets, s, delta);
     if !h.found {
         return false;
     }
@@ -84,46 +62,22 @@ fn improve(
     let ends = t.ends;
     let len = t.len;
     let target = ends[len - 1];
-    push_back(streams, count, flows, &via, &ends, len, target, delta);
+    push_back(lanes, flows, &via, &ends, len, target, delta);
     shift_nets(nets, s, target as usize, delta);
     true
 }
 
 // As many improvements at step delta as there are to make, at most budget.
-pub fn improve_all(
-    streams: [Stream; MAX_STREAMS],
-    count: usize,
-    start: State,
-    delta: u64,
-    budget: u64,
-) -> State
-    requires { ⌜ Layout streams count × Step delta × Allows (take count streams) delta budget start ⌝ }
-    ensures { λ r. ⌜ r ≡ improvements budget (take count streams) delta start ⌝ }
+pub fn improve_all(lanes: &[u64; LANES], start: State, delta: u64, budget: u64) -> State
+    requires { ⌜ Improvable (now lanes) delta budget start ⌝ }
+    ensures { λ r. ⌜ ((w : Improvable (now (lanes .entry)) delta budget start) → r ≡ improvements budget (take (w .n) (w .streams)) delta start) ⌝ }
 {
-    let l = lay(streams, count);
-    let from = l.from;
-    let to = l.to;
-    let weight = l.weight;
-    let pull = l.pull;
-    let next = l.next;
     let mut flows = start.flows;
     let mut prices = start.prices;
     let mut nets = start.nets;
     let mut left = budget;
     while 0 < left {
-        if !improve(
-            streams,
-            count,
-            &from,
-            &to,
-            &weight,
-            &pull,
-            &next,
-            &mut flows,
-            &mut prices,
-            &mut nets,
-            delta,
-        ) {
+        if !improve(lanes, &mut flows, &mut prices, &mut nets, delta) {
             return State {
                 flows: flows,
                 prices: prices,

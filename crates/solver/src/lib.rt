@@ -1,21 +1,25 @@
 // The cheapest balanced flow of a plant, with prices that certify it.
 use finishing::finish;
-use hints::hint;
+use paths::lanes::lay;
 use plants::Plant;
 use plants::limits::MAX_STREAMS;
 use plants::limits::PLACES;
+use settling::settle;
+use starts::start;
 use ties::tie_all;
+ghost use Rattle.plants.specs.Within.{Accepted};
 ghost use Rattle.plants.specs.Says.{plantOf};
-ghost use Rattle.solver.specs.Premises.{Hinted};
-ghost use Rattle.solver.specs.Promise.{Accepted, Right};
+ghost use Rattle.flows.specs.Calls.{Grouped};
+ghost use Rattle.solver.specs.Premises.{Hinted, AtHint};
+ghost use Rattle.solver.specs.Promise.{Right};
 
-mod fast_hints;
 mod finishing;
 mod forests;
 pub mod hints;
 mod improving;
 mod settling;
 pub mod sizes;
+mod starts;
 mod ties;
 
 // Prices to begin with, and amounts for the unmetered streams; held shifted, as below.
@@ -33,12 +37,6 @@ pub struct Forest {
     pub len: usize,
 }
 
-// A hint, and the summed positive net that it leaves over, as far as it was counted.
-pub struct Routed {
-    pub hint: Hint,
-    pub leftover: u64,
-}
-
 // The amount of each stream, and the price and the net of each place.
 pub struct State {
     pub flows: [u64; MAX_STREAMS],
@@ -52,28 +50,37 @@ pub struct Solved {
     pub prices: [u64; PLACES],
 }
 
-// The cheapest balanced flow of a plant, from any hint.
-pub fn solve_from(p: Plant, h: Hint) -> Solved
-    requires { ⌜ Accepted p × Hinted (plantOf p .streams) h ⌝ }
+// The cheapest balanced flow of a plant, from amounts settled at a hint.
+fn solve_at(p: Plant, start: State) -> Solved
+    requires { ⌜ Accepted p × AtHint (plantOf p .streams) start ⌝ }
     ensures { λ r. ⌜ Right p r ⌝ }
 {
     let streams = p.streams;
     let count = p.count as usize;
-    let st = finish(streams, count, h);
+    let lanes = lay(streams, count);
+    let st = finish(streams, count, &lanes, start);
     let prices = st.prices;
     let mut flows = st.flows;
-    tie_all(streams, count, &mut flows, &prices);
+    tie_all(&lanes, &mut flows, &prices);
     Solved {
         flows: flows,
         prices: prices,
     }
 }
 
-// The cheapest balanced flow of a plant.
-pub fn solve(p: Plant) -> Solved
-    requires { ⌜ Accepted p ⌝ }
+// From any hint.
+pub fn solve_from(p: Plant, h: Hint) -> Solved
+    requires { ⌜ Accepted p × Hinted (plantOf p .streams) h ⌝ }
     ensures { λ r. ⌜ Right p r ⌝ }
 {
-    let h = hint(p);
-    solve_from(p, h)
+    let streams = p.streams;
+    solve_at(p, settle(streams, p.count as usize, h))
+}
+
+// The cheapest balanced flow of a plant, whose labels by the unmetered streams are handed in.
+pub fn solve(p: Plant, labels: [u8; PLACES]) -> Solved
+    requires { ⌜ Accepted p × Grouped p labels ⌝ }
+    ensures { λ r. ⌜ Right p r ⌝ }
+{
+    solve_at(p, start(p, labels))
 }

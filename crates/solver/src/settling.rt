@@ -3,6 +3,7 @@ use crate::Hint;
 use crate::State;
 use paths::sizes::FLOW_SHIFT;
 use paths::sizes::NET_SHIFT;
+use paths::slacks::minus;
 use paths::slacks::reading_of;
 use paths::slacks::weight_of;
 use plants::Stream;
@@ -11,12 +12,13 @@ use plants::limits::PLACES;
 ghost use mathlib.Core.Path.{_≡_};
 ghost use lib.ListN.{length, take};
 ghost use Prim.Native.Nat.{_+_, _≤_};
-ghost use Rattle.plants.specs.Limits.{maxStreams};
+ghost use Rattle.plants.specs.Limits.{maxUnits, maxStreams};
+ghost use Rattle.plants.specs.Within.{WithinStream};
 ghost use Rattle.paths.specs.Sizes.{mostFlow};
-ghost use Rattle.paths.specs.Premises.{Placed, Network};
+ghost use Rattle.paths.specs.Premises.{Network};
 ghost use Rattle.solver.specs.Sizes.{netRoom};
-ghost use Rattle.solver.specs.Model.{settledOf, settledTo, booked, netsTo, settled};
-ghost use Rattle.solver.specs.Premises.{Layout, Amounts, Around, Settleable, Settles, Ready};
+ghost use Rattle.solver.specs.Model.{settledOf, settledTo, booked, netsTo, settled, overSum};
+ghost use Rattle.solver.specs.Premises.{Amounts, Around, Settleable, Settles, Ready};
 
 // A metered stream's amount at the prices of its start and its end. (The numbers divided are kept small: a division of small numbers
 // is quicker.)
@@ -33,7 +35,7 @@ fn amount_at(s: Stream, pu: u64, pv: u64) -> u64
 }
 
 // Each metered stream's amount is settled; the others stay as they are.
-fn settle_flows(
+pub fn settle_flows(
     streams: [Stream; MAX_STREAMS],
     count: usize,
     prices: &[u64; PLACES],
@@ -56,7 +58,7 @@ fn settle_flows(
 
 // A stream's amount leaves its start and comes to its end.
 fn book(nets: &mut [u64; PLACES], s: Stream, x: u64)
-    requires { ⌜ Placed s × (x ≤ mostFlow) × Around (now nets) netRoom ⌝ }
+    requires { ⌜ WithinStream maxUnits s × (x ≤ mostFlow) × Around (now nets) netRoom ⌝ }
     ensures { λ _. ⌜ now (nets .exit) ≡ booked (now (nets .entry)) s x ⌝ }
 {
     let u = s.from as usize;
@@ -65,7 +67,11 @@ fn book(nets: &mut [u64; PLACES], s: Stream, x: u64)
     nets[v] = nets[v] + x - FLOW_SHIFT;
 }
 
-fn nets_of(streams: [Stream; MAX_STREAMS], count: usize, flows: [u64; MAX_STREAMS]) -> [u64; PLACES]
+pub fn nets_of(
+    streams: [Stream; MAX_STREAMS],
+    count: usize,
+    flows: [u64; MAX_STREAMS],
+) -> [u64; PLACES]
     requires { ⌜ Network streams count × Amounts flows ⌝ }
     ensures { λ r. ⌜ r ≡ netsTo (take count streams) flows count ⌝ }
 {
@@ -80,7 +86,7 @@ fn nets_of(streams: [Stream; MAX_STREAMS], count: usize, flows: [u64; MAX_STREAM
 
 // Amounts and nets at the prices of a hint.
 pub fn settle(streams: [Stream; MAX_STREAMS], count: usize, h: Hint) -> State
-    requires { ⌜ Layout streams count × Ready (take count streams) h ⌝ }
+    requires { ⌜ Network streams count × Ready (take count streams) h ⌝ }
     ensures { λ r. ⌜ r ≡ settled (take count streams) h ⌝ }
 {
     let prices = h.prices;
@@ -92,4 +98,18 @@ pub fn settle(streams: [Stream; MAX_STREAMS], count: usize, h: Hint) -> State
         prices: prices,
         nets: nets,
     }
+}
+
+// The summed positive net.
+pub fn over_sum(nets: &[u64; PLACES]) -> u64
+    requires { ⌜ Around (now nets) netRoom ⌝ }
+    ensures { λ r. ⌜ r ≡ overSum (now (nets .entry)) ⌝ }
+{
+    let mut u: usize = 0;
+    let mut sum: u64 = 0;
+    while u < PLACES {
+        sum += minus(nets[u], NET_SHIFT);
+        u += 1;
+    }
+    sum
 }

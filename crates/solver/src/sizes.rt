@@ -10,7 +10,7 @@ pub const PRICE_SHIFT: u64 = 1_125_899_906_842_624;
 pub const MOST_READING: u64 = 4_000_000;
 
 // Prices at which amounts are settled differ by at most this.
-pub const SPREAD: u64 = 35_184_372_088_832;
+pub const PRICE_BAND: u64 = 35_184_372_088_832;
 
 // The hint's first step, and how many improvements it makes at each step.
 pub const FIRST_STEP: u64 = 1_048_576;
@@ -18,7 +18,7 @@ pub const FIRST_STEP: u64 = 1_048_576;
 pub const HINT_BUDGET: u64 = 256;
 
 // The greatest size of a hint's amounts.
-pub const HINT_ROOM: u64 = MOST_READING + SPREAD + 2 * FIRST_STEP * HINT_BUDGET;
+pub const HINT_ROOM: u64 = MOST_READING + PRICE_BAND + 2 * FIRST_STEP * HINT_BUDGET;
 
 // The summed positive net up to which the hint by factorisation is taken.
 pub const FAST_LEFTOVER: u64 = 4_096;

@@ -1,99 +1,85 @@
-// One case: a sheet call, and what it must give. Its numbers have the high byte first.
+// A file of cases has one after the other, with no gap. A case, its numbers with the high byte first:
 //
-//     byte 0           the number returned
-//     bytes 2-3        how long the plant file is
-//     bytes 4-5        how long the sheet slice is
-//     bytes 6-7        how many bytes are written
-//     bytes 8-11       the last sheet number handed in
-//     bytes 12-15      the last sheet number handed back
-//     bytes 16-1015    the plant file
-//     bytes 1016-2015  the sheet
-use sheets::Sheet;
-ghost use mathlib.Core.Path.{_≡_};
-ghost use Prim.Native.Nat.{_≤_, _+_};
+//     byte 0       what is called: 1 the sheet call, 2 the plant reader, 3 the plant writer, 4 the solver without a hint
+//     byte 1       what the slice holds before the call
+//     bytes 2-3    how many bytes are handed in, at most ROOM
+//     bytes 4-5    how many bytes of the slice follow, at most ROOM; those past them are as before the call
+//     bytes 6-7    how long the slice is, at most ROOM
+//     bytes 8-11   the number handed in
+//     byte 12      the number returned
+//     bytes 14-15  the count handed back
+//     bytes 16-19  the number handed back
+//
+// then the bytes handed in, then those of the slice. What they are for each call stands in calls.rt.
+use crate::calls::call;
+ghost use Prim.Native.Nat.{_≤_};
 ghost use lib.ListN.{length};
 
-pub const CASE_SIZE: usize = 2048;
+const ROOM: usize = 2048;
 
-// The most bytes of a plant file, of a slice and of a sheet.
-const ROOM: usize = 1000;
+const HEAD: usize = 20;
 
-const FILE: usize = 16;
+// What came of a case.
+pub const END: u8 = 0;
 
-const SHEET: usize = 1016;
+pub const RIGHT: u8 = 1;
 
-// What the slice holds before the call.
-const FILLED: [u8; ROOM] = [0xA5; ROOM];
+pub const WRONG: u8 = 2;
 
-// What a case was found to be: right, or the first thing that differs.
-pub enum Found {
-    Right,
-    Lengths,
-    Number,
-    Written,
-    Last,
-    Sheet,
-    Rest,
-    Missing,
-    TooMany,
+// Reads so many bytes to the front of a slice, and answers whether they were there.
+fn read_front(file: i32, size: usize, out: &mut [u8]) -> bool {
+    if out.len() < size {
+        return false;
+    }
+    io::read_full(file, &mut out[0..size]) == size
 }
 
-fn length_at(case: &[u8], at: usize) -> usize
-    requires { ⌜ at + 2 ≤ length (now case) ⌝ }
+// Makes the call, lent the first so many bytes, and compares the numbers.
+fn same_numbers(head: [u8; HEAD], given: &[u8], room: usize, out: &mut [u8]) -> bool
+    requires { ⌜ room ≤ length (now out) ⌝ }
 {
-    numbers::get_u16(&case[at..]) as usize
+    let number = numbers::get_u32(&head[8..]);
+    let done = call(head[0], number, given, &mut out[0..room]);
+    if done.number != head[12] {
+        return false;
+    }
+    if done.written != numbers::get_u16(&head[14..]) as usize {
+        return false;
+    }
+    done.last == numbers::get_u32(&head[16..])
 }
 
-// The sheet call, lent the first so many bytes.
-fn call(file: &[u8], last: u32, size: usize, out: &mut [u8]) -> Sheet
-    requires { ⌜ size ≤ length (now out) ⌝ }
-{
-    sheets::balance_plant(file, last, &mut out[0..size])
-}
-
-// The bytes of the slice up to the sheet's end, and those past it.
-fn compare_bytes<'a>(sheet: &'a [u8], out: &'a [u8], filled: &'a [u8]) -> Found
-    requires { ⌜ (length (now sheet) ≤ length (now out)) × (length (now filled) ≡ length (now out)) ⌝ }
-{
-    let end = sheet.len();
-    if !check::same(&out[0..end], sheet) {
-        return Found::Sheet;
+// Tries the next case of an open file; END where the file ends.
+pub fn try_next(file: i32) -> u8 {
+    let mut head = [0u8; HEAD];
+    let got = io::read_full(file, &mut head);
+    if got == 0 {
+        return END;
     }
-    if !check::same(&out[end..], &filled[end..]) {
-        return Found::Rest;
-    }
-    Found::Right
-}
-
-// What a call gave, beside what the case says.
-fn compare(case: [u8; CASE_SIZE], done: Sheet, out: [u8; ROOM]) -> Found {
-    let written = length_at(&case, 6);
-    if done.number != case[0] {
-        return Found::Number;
-    }
-    if done.written != written {
-        return Found::Written;
-    }
-    if done.last != numbers::get_u32(&case[12..]) {
-        return Found::Last;
-    }
-    if ROOM < written {
-        return Found::Lengths;
-    }
-    compare_bytes(&case[SHEET..SHEET + written], &out, &FILLED)
-}
-
-pub fn try_case(case: [u8; CASE_SIZE]) -> Found {
-    let size = length_at(&case, 2);
-    let room = length_at(&case, 4);
-    if ROOM < size {
-        return Found::Lengths;
+    let given_size = numbers::get_u16(&head[2..]) as usize;
+    let known_size = numbers::get_u16(&head[4..]) as usize;
+    let room = numbers::get_u16(&head[6..]) as usize;
+    if ROOM < given_size {
+        return WRONG;
     }
     if ROOM < room {
-        return Found::Lengths;
+        return WRONG;
     }
-    let mut out = FILLED;
-    let last = numbers::get_u32(&case[8..]);
-    let done = call(&case[FILE..FILE + size], last, room, &mut out);
-    compare(case, done, out)
+    let mut given = [0u8; ROOM];
+    let mut known = [head[1]; ROOM];
+    let mut slice = known;
+    if !read_front(file, given_size, &mut given) {
+        return WRONG;
+    }
+    if !read_front(file, known_size, &mut known) {
+        return WRONG;
+    }
+    if !same_numbers(head, &given[0..given_size], room, &mut slice) {
+        return WRONG;
+    }
+    if check::same(&slice, &known) {
+        RIGHT
+    } else {
+        WRONG
+    }
 }

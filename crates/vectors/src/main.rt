@@ -1,74 +1,52 @@
-// Sheet calls on the cases of data files, compared with what a separate reference solver gave for them.
+// Calls on the cases of files, each answer compared with what a separate reference solver gave.
+mod calls;
 mod cases;
-mod tallies;
 
-use cases::CASE_SIZE;
-use cases::Found;
-use cases::try_case;
-use tallies::Tally;
-use tallies::print_count;
+use cases::END;
+use cases::RIGHT;
+use cases::try_next;
+use libc::STDOUT_FILENO;
 
-// How many cases were right, of how many, over all files.
-struct Total {
-    right: u64,
-    cases: u64,
+// A file has no more cases than this.
+const MOST_CASES: u64 = 10_000;
+
+fn print_count(text: &[u8], count: u64) {
+    io::write_all(STDOUT_FILENO, text);
+    io::print_decimal(STDOUT_FILENO, count);
 }
 
-// The next case of an open file.
-fn next_case(file: i32) -> Found {
-    let mut case = [0u8; CASE_SIZE];
-    let got = io::read_full(file, &mut case);
-    if got < CASE_SIZE {
-        return Found::Missing;
+// Tries the cases of the file that argument i names, says which differ, and counts. A file that cannot be opened has none.
+fn try_file(i: usize) {
+    let mut name = [0u8; 64];
+    let size = os::arg(i, &mut name);
+    io::write_all(STDOUT_FILENO, &name[0..size]);
+    let file = os::open_read(&name[0..size]);
+    let mut cases: u64 = 0;
+    let mut right: u64 = 0;
+    while cases < MOST_CASES {
+        let found = try_next(file);
+        if found == END {
+            break;
+        }
+        cases += 1;
+        if found == RIGHT {
+            right += 1;
+        } else {
+            print_count(b", differs: case ", cases);
+        }
     }
-    try_case(case)
-}
-
-// After the last case the file must end.
-fn with_end(t: Tally, file: i32, cases: u64) -> Tally {
-    let mut byte = [0u8; 1];
-    if io::read_full(file, &mut byte) == 0 {
-        return t;
-    }
-    t.with(std::num::wrapping_add_u64(cases, 1), Found::TooMany)
-}
-
-// So many cases of an open file.
-fn all_cases(file: i32, cases: u64) -> Tally {
-    let mut t = Tally::new();
-    let mut number: u64 = 0;
-    while number < cases {
-        number += 1;
-        let found = next_case(file);
-        t = t.with(number, found);
-    }
-    t
-}
-
-// A file that must have so many cases. One that cannot be opened has none.
-fn with_file(total: Total, name: &[u8], cases: u64) -> Total {
-    let file = os::open_read(name);
-    let t = with_end(all_cases(file, cases), file, cases);
     libc::close(file);
-    t.print(name, cases);
-    Total {
-        right: std::num::wrapping_add_u64(total.right, t.right),
-        cases: std::num::wrapping_add_u64(total.cases, cases),
-    }
+    print_count(b" ", right);
+    print_count(b" of ", cases);
+    io::write_all(STDOUT_FILENO, b"\n");
 }
 
+// The files of cases are the arguments.
 fn main() {
-    let t = Total { right: 0, cases: 0 };
-    let t = with_file(t, b"plants.bin", 114);
-    let t = with_file(t, b"ties.bin", 165);
-    let t = with_file(t, b"sites.bin", 131);
-    let t = with_file(t, b"sizes.bin", 170);
-    let t = with_file(t, b"shapes.bin", 121);
-    let t = with_file(t, b"loops.bin", 120);
-    let t = with_file(t, b"verdicts.bin", 96);
-    let t = with_file(t, b"limits.bin", 54);
-    let t = with_file(t, b"damaged.bin", 240);
-    let t = with_file(t, b"calls.bin", 174);
-    io::write_all(libc::STDOUT_FILENO, b"total");
-    print_count(t.right, t.cases);
+    let count = os::arg_count();
+    let mut i: usize = 1;
+    while i < count {
+        try_file(i);
+        i += 1;
+    }
 }

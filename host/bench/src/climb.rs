@@ -1,10 +1,10 @@
 //! A search for bad plants: changes are kept where the work of the plain engine does not fall.
 
 use crate::draws::Draws;
-use crate::engine::{self, Variant, Work};
+use crate::engine::Work;
+use crate::measure;
 use crate::plants::{draw, two_places, Kind, Plant, Stream, MAX_READING, MAX_STREAMS, MAX_UNITS, MAX_WEIGHT};
 use std::time::{Duration, Instant};
-use wengeludo_balance::SHEET_SIZE;
 
 /// How many plants are climbed from, one after the other.
 const STARTS: u32 = 6;
@@ -17,13 +17,6 @@ pub struct Worst {
     pub plant: Plant,
     pub work: Work,
     pub tried: u64,
-}
-
-fn work_of(variant: Variant, plant: &Plant) -> Work {
-    let mut work = Work::new();
-    let mut sheet = [0; SHEET_SIZE];
-    engine::balance_plant(variant, &plant.file(), &mut 0, &mut sheet, &mut 0, &mut work);
-    work
 }
 
 /// A stream anew, within the limits.
@@ -62,23 +55,23 @@ fn change(draws: &mut Draws, plant: &mut Plant) {
 }
 
 /// The worst of some drawn plants of the greatest size.
-fn start(variant: Variant, kind: Kind, first_seed: u64) -> (Plant, Work) {
+fn start(kind: Kind, first_seed: u64) -> (Plant, Work) {
     (first_seed..first_seed + DRAWN)
         .map(|seed| draw(kind, MAX_UNITS, MAX_STREAMS, seed))
-        .map(|plant| (work_of(variant, &plant), plant))
+        .map(|plant| (measure::work(&plant.file()), plant))
         .max_by_key(|(work, _)| work.total())
         .map(|(work, plant)| (plant, work))
         .expect("some plant is drawn")
 }
 
 /// Climbs for so many seconds in all.
-pub fn climb(variant: Variant, seconds: f64) -> Worst {
+pub fn climb(seconds: f64) -> Worst {
     let mut worst: Option<(Plant, Work)> = None;
     let mut tried = 0;
     for k in 0..STARTS {
         let kind = Kind::ALL[k as usize % Kind::ALL.len()];
         let seed = 1_000_000 + u64::from(k) * DRAWN;
-        let (plant, work) = climb_from(start(variant, kind, seed), variant, seed, seconds / f64::from(STARTS), &mut tried);
+        let (plant, work) = climb_from(start(kind, seed), seed, seconds / f64::from(STARTS), &mut tried);
         if worst.as_ref().map_or(true, |(_, most)| work.total() > most.total()) {
             worst = Some((plant, work));
         }
@@ -87,7 +80,7 @@ pub fn climb(variant: Variant, seconds: f64) -> Worst {
     Worst { plant, work, tried }
 }
 
-fn climb_from(from: (Plant, Work), variant: Variant, seed: u64, seconds: f64, tried: &mut u64) -> (Plant, Work) {
+fn climb_from(from: (Plant, Work), seed: u64, seconds: f64, tried: &mut u64) -> (Plant, Work) {
     let (mut plant, mut work) = from;
     let mut draws = Draws::new(seed);
     let end = Instant::now() + Duration::from_secs_f64(seconds);
@@ -96,7 +89,7 @@ fn climb_from(from: (Plant, Work), variant: Variant, seed: u64, seconds: f64, tr
         for _ in 0..=draws.below(3) {
             change(&mut draws, &mut next);
         }
-        let found = work_of(variant, &next);
+        let found = measure::work(&next.file());
         *tried += 1;
         if found.total() >= work.total() {
             (plant, work) = (next, found);

@@ -3,6 +3,7 @@
 //! Its flows are fractions, so they do not balance in whole numbers; unmetered streams get none. Places that unmetered
 //! streams join are one row; the outside's row is left out, its price is 0.
 
+use crate::engine::groups::group;
 use crate::plants::{Stream, MAX_STREAMS, MAX_UNITS, PLACES};
 
 /// A pivot below this belongs to a piece without the outside, and its price is 0.
@@ -17,13 +18,7 @@ struct System {
 
 /// The row of each place, counted from 1; 0 for the outside's group. And how many rows there are.
 fn rows_of(streams: &[Stream], units: usize) -> ([usize; PLACES], usize) {
-    let mut labels: [u8; PLACES] = std::array::from_fn(|u| u as u8);
-    for s in streams.iter().filter(|s| !s.metered) {
-        let (a, b) = (labels[usize::from(s.from)], labels[usize::from(s.to)]);
-        if a != b {
-            labels.iter_mut().for_each(|l| *l = if *l == a.max(b) { a.min(b) } else { *l });
-        }
-    }
+    let labels = group(streams, |s| !s.metered);
     let mut row = [0; PLACES];
     let mut size = 0;
     for u in 1..=units {

@@ -1,6 +1,6 @@
 //! Times of one plant, and what a list of times comes to.
 
-use crate::engine::{self, Unwatched, Variant};
+use crate::engine::{self, Unwatched, Work};
 use crate::floor;
 use crate::plants::{Plant, MAX_STREAMS};
 use std::hint::black_box;
@@ -38,11 +38,11 @@ pub fn library(file: &[u8]) -> f64 {
 }
 
 /// The sheet call in plain Rust.
-pub fn plain(variant: Variant, file: &[u8]) -> f64 {
+pub fn plain(file: &[u8]) -> f64 {
     let mut sheet = [0; SHEET_SIZE];
     least(|| {
         let (mut last, mut written) = (0, 0);
-        black_box(engine::balance_plant(variant, black_box(file), &mut last, &mut sheet, &mut written, &mut Unwatched));
+        black_box(engine::balance_plant(black_box(file), &mut last, &mut sheet, &mut written, &mut Unwatched));
     })
 }
 
@@ -52,14 +52,30 @@ pub fn floor(plant: &Plant) -> f64 {
     least(|| floor::solve(black_box(&plant.streams), plant.units, black_box(&mut flows)))
 }
 
-/// Stops where a variant's sheet is not the library's, byte for byte.
-pub fn compare(variant: Variant, file: &[u8]) {
+/// Stops where the plain engine's sheet is not the library's, byte for byte.
+pub fn compare(file: &[u8]) {
     let (mut ours, mut theirs) = ([0xA5; SHEET_SIZE], [0xA5; SHEET_SIZE]);
     let (mut our_last, mut their_last, mut our_count, mut their_count) = (6, 6, 1, 2);
     let number = raw::balance_plant(file, &mut our_last, &mut ours, &mut our_count);
-    let other = engine::balance_plant(variant, file, &mut their_last, &mut theirs, &mut their_count, &mut Unwatched);
+    let other = engine::balance_plant(file, &mut their_last, &mut theirs, &mut their_count, &mut Unwatched);
     let same = (number, our_last, our_count) == (other, their_last, their_count) && ours == theirs;
-    assert!(same, "{}: a sheet that is not the library's, of {file:02X?}", variant.name);
+    assert!(same, "a sheet that is not the library's, of {file:02X?}");
+}
+
+/// The plain engine's work on a file.
+pub fn work(file: &[u8]) -> Work {
+    let mut work = Work::new();
+    engine::balance_plant(file, &mut 0, &mut [0; SHEET_SIZE], &mut 0, &mut work);
+    work
+}
+
+/// The same, with each phase's least time of several runs.
+pub fn work_with_phases(file: &[u8]) -> Work {
+    let mut best = work(file);
+    for _ in 1..LEAST_RUNS {
+        best.phases.iter_mut().zip(work(file).phases).for_each(|(least, took)| *least = least.min(took));
+    }
+    best
 }
 
 /// The times of one plant.
@@ -71,10 +87,10 @@ pub struct Times {
 }
 
 /// A plant timed; first the sheets are compared.
-pub fn times(plant: &Plant, variant: Variant) -> Times {
+pub fn times(plant: &Plant) -> Times {
     let file = plant.file();
-    compare(variant, &file);
-    Times { library: library(&file), plain: plain(variant, &file), floor: floor(plant) }
+    compare(&file);
+    Times { library: library(&file), plain: plain(&file), floor: floor(plant) }
 }
 
 /// The median, the 99th percentile and the worst of a list.

@@ -1,10 +1,9 @@
 //! The tables, in Markdown.
 
 use crate::climb::{climb, Worst};
-use crate::engine::{self, Phase, Variant, Work, AS_LIBRARY, VARIANTS};
+use crate::engine::{Phase, Work};
 use crate::measure::{self, summary, Summary, Times};
 use crate::plants::{draw, Kind, Plant};
-use wengeludo_balance::SHEET_SIZE;
 
 /// Units and streams of the plants measured.
 pub const SIZES: [(usize, usize); 3] = [(5, 15), (12, 36), (32, 96)];
@@ -15,7 +14,7 @@ pub fn plants(kind: Kind, units: usize, streams: usize, count: usize) -> impl It
 }
 
 /// A number with as many digits as it is good for.
-fn short(x: f64) -> String {
+pub fn short(x: f64) -> String {
     match x {
         x if x < 10.0 => format!("{x:.2}"),
         x if x < 100.0 => format!("{x:.1}"),
@@ -42,7 +41,7 @@ pub fn sizes(count: usize) {
     println!("|---|---|---|---|---|---|---|---|---|---|---|---|");
     for kind in Kind::ALL {
         for (units, streams) in SIZES {
-            let times: Vec<Times> = plants(kind, units, streams, count).map(|p| measure::times(&p, AS_LIBRARY)).collect();
+            let times: Vec<Times> = plants(kind, units, streams, count).map(|p| measure::times(&p)).collect();
             let column = |of: fn(&Times) -> f64| cells(summary(times.iter().map(of)));
             let (library, plain, floor) = (column(|t| t.library), column(|t| t.plain), column(|t| t.floor));
             println!("| {} | {units} | {streams} | {library} | {plain} | {floor} |", kind.name());
@@ -65,63 +64,36 @@ fn ratio_row(kind: Kind, units: usize, streams: usize, times: &[Times]) -> Strin
     format!("| {} | {units} | {streams} | {by_floor} | {plain_by_floor} | {by_plain} |", kind.name())
 }
 
-/// The work of a variant on a file, with the phases' least times of several runs.
-fn work(variant: Variant, file: &[u8]) -> Work {
-    let mut sheet = [0; SHEET_SIZE];
-    let mut run = || {
-        let mut work = Work::new();
-        engine::balance_plant(variant, file, &mut 0, &mut sheet, &mut 0, &mut work);
-        work
-    };
-    let mut best = run();
-    for _ in 1..5 {
-        let next = run();
-        best.phases.iter_mut().zip(next.phases).for_each(|(least, took)| *least = least.min(took));
-    }
-    best
-}
-
-/// What each variant costs at the greatest size: times, work and phases.
-pub fn variants(count: usize) {
-    let (units, streams) = SIZES[2];
+/// What the plain engine does on the plants of all kinds and sizes, and how long each phase takes.
+pub fn work(count: usize) {
     println!(
-        "\nThe variants of the plain engine, {count} plants of each kind with {units} units and {streams} streams: microseconds \
-         (median, worst), improvements left after the hint (mean, most), places labelled per improvement, streams looked at; \
-         and the mean microseconds of each phase (reading, hint, improvements, ties, classes, writing).\n"
+        "\nThe plain engine's work, {count} plants of each kind and size: improvements left after the hint (mean, most of one \
+         plant), places labelled per improvement, streams looked at, how many plants fell back to the hint by steps; and the \
+         mean microseconds of each phase.\n"
     );
     println!(
-        "| plants | variant | median | worst | left | most | labelled | looked at \
+        "| plants | units | streams | left | most | labelled | looked at | fell back \
          | reading | hint | improvements | ties | classes | writing |"
     );
     println!("|---|---|---|---|---|---|---|---|---|---|---|---|---|---|");
     for kind in Kind::ALL {
-        // Plant after plant, so that a change of the machine's load meets all variants alike.
-        let rows: Vec<_> = plants(kind, units, streams, count).map(|p| VARIANTS.map(|variant| tried(variant, &p))).collect();
-        for (k, variant) in VARIANTS.iter().enumerate() {
-            let of_variant: Vec<&(f64, Work)> = rows.iter().map(|row| &row[k]).collect();
-            println!("| {} | {} | {} |", kind.name(), variant.name, variant_cells(&of_variant));
+        for (units, streams) in SIZES {
+            let all: Vec<Work> = plants(kind, units, streams, count).map(|p| measure::work_with_phases(&p.file())).collect();
+            println!("| {} | {units} | {streams} | {} |", kind.name(), work_cells(&all));
         }
     }
 }
 
-/// A variant's time and work on a plant; first the sheets are compared.
-fn tried(variant: Variant, plant: &Plant) -> (f64, Work) {
-    let file = plant.file();
-    measure::compare(variant, &file);
-    (measure::plain(variant, &file), work(variant, &file))
-}
-
-fn variant_cells(tried: &[&(f64, Work)]) -> String {
-    let times = summary(tried.iter().map(|t| t.0));
-    let mean = |of: &dyn Fn(&Work) -> f64| tried.iter().map(|t| of(&t.1)).sum::<f64>() / tried.len() as f64;
+fn work_cells(all: &[Work]) -> String {
+    let mean = |of: &dyn Fn(&Work) -> f64| all.iter().map(of).sum::<f64>() / all.len() as f64;
     let left = mean(&|w| w.left as f64);
-    let most = tried.iter().map(|t| t.1.left).max().unwrap_or(0);
-    let labelled = mean(&|w| w.left_rounds as f64) / left;
+    let most = all.iter().map(|w| w.left).max().unwrap_or(0);
+    let labelled = if left > 0.0 { mean(&|w| w.left_rounds as f64) / left } else { 0.0 };
     let visits = mean(&|w| w.visits as f64);
+    let fell_back = all.iter().filter(|w| w.fell_back).count();
     let phases = [Phase::Read, Phase::Hint, Phase::Improvements, Phase::Ties, Phase::Classes, Phase::Write];
-    let phases: Vec<String> = phases.iter().map(|&p| format!("{:.1}", mean(&|w| w.phases[p as usize]))).collect();
-    let (median, worst) = (short(times.median), short(times.worst));
-    format!("{median} | {worst} | {left:.1} | {most} | {labelled:.1} | {visits:.0} | {}", phases.join(" | "))
+    let phases = phases.map(|p| short(mean(&|w| w.phases[p as usize]))).join(" | ");
+    format!("{left:.1} | {most} | {labelled:.1} | {visits:.0} | {fell_back} | {phases}")
 }
 
 /// Medians by the number of streams.
@@ -142,8 +114,7 @@ pub fn growth(count: usize) -> Vec<Growth> {
     println!("| streams | units | library | worst | plain | worst | floor | worst |");
     println!("|---|---|---|---|---|---|---|---|");
     let at = |streams: usize| {
-        let times: Vec<Times> =
-            plants(Kind::Extremes, streams / 3, streams, count).map(|p| measure::times(&p, AS_LIBRARY)).collect();
+        let times: Vec<Times> = plants(Kind::Extremes, streams / 3, streams, count).map(|p| measure::times(&p)).collect();
         let column = |of: fn(&Times) -> f64| summary(times.iter().map(of));
         let g = Growth { streams, library: column(|t| t.library), plain: column(|t| t.plain), floor: column(|t| t.floor) };
         let cells = [g.library, g.plain, g.floor].map(|s| format!("{} | {}", short(s.median), short(s.worst)));
@@ -153,30 +124,21 @@ pub fn growth(count: usize) -> Vec<Growth> {
     (1..=16).map(|k| at(6 * k)).collect()
 }
 
-/// The worst plants that climbing found, by the library's way and by the last variant; the former is handed over.
+/// The worst plant that climbing found, handed over.
 pub fn worst(seconds: f64) -> Plant {
     let (units, streams) = SIZES[2];
     println!(
-        "\nThe search for bad plants of {units} units and {streams} streams, {seconds} s for each variant named; the worst plant \
-         by streams looked at and amounts moved, and its microseconds.\n"
+        "\nThe search for bad plants of {units} units and {streams} streams, {seconds} s; the worst plant by streams looked at \
+         and amounts moved, and its microseconds.\n"
     );
     println!(
-        "| variant | plants tried | looked at | moved | improvements | left \
-         | library | this variant | floor | library / floor | variant / floor |"
+        "| plants tried | looked at | moved | improvements | left | library | plain | floor | library / floor | plain / floor |"
     );
-    println!("|---|---|---|---|---|---|---|---|---|---|---|");
-    let found = worst_by(AS_LIBRARY, seconds);
-    if let Some(&last) = VARIANTS.last().filter(|&&last| last != AS_LIBRARY) {
-        worst_by(last, seconds);
-    }
-    found
-}
-
-fn worst_by(variant: Variant, seconds: f64) -> Plant {
-    let Worst { plant, work, tried } = climb(variant, seconds);
-    let t = measure::times(&plant, variant);
+    println!("|---|---|---|---|---|---|---|---|---|---|");
+    let Worst { plant, work, tried } = climb(seconds);
+    let t = measure::times(&plant);
     let work = format!("{} | {} | {} | {}", work.visits, work.pushes, work.improvements, work.left);
     let times = [t.library, t.plain, t.floor, t.library / t.floor, t.plain / t.floor].map(short);
-    println!("| {} | {tried} | {work} | {} |", variant.name, times.join(" | "));
+    println!("| {tried} | {work} | {} |", times.join(" | "));
     plant
 }

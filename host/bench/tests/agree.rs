@@ -1,9 +1,9 @@
-//! The plain engine against the library, every variant, byte for byte, on every plant that the benchmark times and on
-//! damaged files; and the floor against the sheet's cost.
+//! The plain engine against the library, byte for byte, on every plant that the benchmark times and on damaged files; and
+//! the floor against the sheet's cost.
 
 use wengeludo_balance::{raw, SHEET_SIZE};
 use wengeludo_bench::draws::Draws;
-use wengeludo_bench::engine::{self, Unwatched, VARIANTS};
+use wengeludo_bench::engine::{self, Unwatched};
 use wengeludo_bench::floor;
 use wengeludo_bench::plants::{draw, Kind, Plant, MAX_STREAMS};
 use wengeludo_bench::report::{plants, SIZES};
@@ -17,15 +17,11 @@ fn outcome(slice: usize, last: u32, call: impl FnOnce(&mut u32, &mut [u8], &mut 
     (number, last, written, sheet)
 }
 
-/// Every variant leaves what the library leaves.
+/// The plain engine leaves what the library leaves.
 fn compare(file: &[u8], slice: usize, last: u32) -> u8 {
     let library = outcome(slice, last, |last, sheet, written| raw::balance_plant(file, last, sheet, written));
-    for variant in VARIANTS {
-        let plain = outcome(slice, last, |last, sheet, written| {
-            engine::balance_plant(variant, file, last, sheet, written, &mut Unwatched)
-        });
-        assert_eq!(plain, library, "{} on {file:02X?}", variant.name);
-    }
+    let plain = outcome(slice, last, |last, sheet, written| engine::balance_plant(file, last, sheet, written, &mut Unwatched));
+    assert_eq!(plain, library, "{file:02X?}");
     library.0
 }
 

@@ -1,45 +1,24 @@
--- `solver::solve_from` meets its contract: what the code computes is what the definitions give, and that is right.
-use mathlib.Core.Path.{sym, ap, _∙_, subst}
+-- `solver::solve_from` meets its contract: amounts are settled at the hint.
 use borrow.Author.Needs.{needs}
-use Rattle.plants.specs.Says.{plantOf}
-use Rattle.solver.specs.declared.State.{State}
-use Rattle.solver.specs.Model.{tiesTo}
-use Rattle.solver.specs.Promise.{Right}
-use Rattle.solver.proofs.Ending.{finished-even, finished-prices}
-use Rattle.solver.proofs.Theorem.{layout-of, solvable-in, solved-right, solved-is}
+use Rattle.solver.proofs.Layouts.{hinted-ready}
+use Rattle.solver.proofs.Theorem.{network-of}
 use Rattle.solver.proofs.solve_from.Statement.{statement}
 use Rattle.solver.proofs.solve_from.Tie as tie
 
-cast-count : tie.Need-cast-count
-cast-count c = search needs
+cast-settle : tie.Need-cast-settle
+cast-settle c = search needs
 
-finish-requires : tie.Need-finish-requires
-finish-requires c κs =
+settle-requires : tie.Need-settle-requires
+settle-requires c κs =
     let st = c .before .before in
-    (layout-of (st .args .p) (st .pre .0), st .pre .1)
+    let w = network-of (st .args .p) (st .pre .0) in
+    (w, hinted-ready (st .args .p .streams) (st .args .p .count) w (st .args .h) (st .pre .1))
 
-tie-all-requires : tie.Need-tie-all-requires
-tie-all-requires c κs =
-    let st = c .before .before .before .before .before .before .before in
-    let p = st .args .p in
-    let w = layout-of p (st .pre .0) in
-    let v = solvable-in (plantOf p) (st .pre .0 .within) in
-    let e = c .before .before .before .before .finish .ensures in (
-      w,
-      rw e (finished-prices (plantOf p .streams) v (st .args .h) (st .pre .1)),
-      rw e (finished-even (plantOf p .streams) v (st .args .h) (st .pre .1)),
-    )
+solve-at-requires : tie.Need-solve-at-requires
+solve-at-requires c κs = search needs
 
 returns : tie.Need-returns
-returns c =
-    let st = c .before .before .before .before .before .before .before .before in
-    let p = st .args .p in
-    let f = c .before .before .before .before .before .finish in
-    subst (Right p)
-    (sym
-    (solved-is p (st .pre .0) (st .args .h) (st .pre .1) _ (f .result .prices) (ap (λ (s : State). s .prices) (f .ensures))
-    (c .tie-all .ensures ∙ ap (λ (s : State). tiesTo (plantOf p .streams) (f .result .prices) (p .count) (s .flows)) (f .ensures))))
-    (solved-right p (st .pre .0) (st .args .h) (st .pre .1))
+returns c = search needs
 
 pub solve-from-spec : {M : Type 1} → statement M
-solve-from-spec = tie.close (tie.spec cast-count finish-requires tie-all-requires returns)
+solve-from-spec = tie.close (tie.spec cast-settle settle-requires solve-at-requires returns)

@@ -1,7 +1,6 @@
 //! The four classes of stream, the degrees of freedom and the verdict.
 
 use super::groups::{self, Labels};
-use super::Classes;
 use crate::plants::{Stream, MAX_STREAMS, MAX_UNITS, PLACES};
 
 #[derive(Clone, Copy, PartialEq, Eq)]
@@ -19,23 +18,6 @@ fn of_metered(labels: &Labels, s: &Stream) -> Class {
     } else {
         Class::Adjusted
     }
-}
-
-/// Groups are formed without each unmetered stream whose ends the earlier ones do not join.
-fn by_passes(streams: &[Stream], labels: &Labels) -> [Class; MAX_STREAMS] {
-    let mut classes = [Class::Withheld; MAX_STREAMS];
-    let mut earlier = groups::own_numbers();
-    for (i, s) in streams.iter().enumerate() {
-        if s.metered {
-            classes[i] = of_metered(labels, s);
-        } else if groups::join(&mut earlier, s) {
-            let others = groups::group(streams, |j, t| !t.metered && j != i);
-            if !groups::one_label(&others, s) {
-                classes[i] = Class::Given;
-            }
-        }
-    }
-    classes
 }
 
 /// A forest of the unmetered streams, rooted: for each place the stream towards its root, and how far the root is.
@@ -59,8 +41,8 @@ fn hang(forest: &mut Rooted, place: u8, above: u8, i: u8) {
     }
 }
 
-/// Given is what no other unmetered stream closes a loop over.
-fn by_forest(streams: &[Stream], labels: &Labels) -> [Class; MAX_STREAMS] {
+/// The class of each stream, in one pass: given is what no other unmetered stream closes a loop over.
+pub fn classes(streams: &[Stream], labels: &Labels) -> [Class; MAX_STREAMS] {
     let mut classes = [Class::Withheld; MAX_STREAMS];
     let mut forest = Rooted { parent: [NONE; PLACES], depth: [0; PLACES], via: [NONE; PLACES] };
     let mut joined = groups::own_numbers();
@@ -110,16 +92,9 @@ fn close(forest: &Rooted, s: &Stream, classes: &mut [Class; MAX_STREAMS]) {
     }
 }
 
-pub fn classes(streams: &[Stream], labels: &Labels, way: Classes) -> [Class; MAX_STREAMS] {
-    match way {
-        Classes::Passes => by_passes(streams, labels),
-        Classes::Forest => by_forest(streams, labels),
-    }
-}
-
 /// The number of groups less the number of connected pieces.
 pub fn degrees(streams: &[Stream], units: usize, labels: &Labels) -> usize {
-    let pieces = groups::group(streams, |_, _| true);
+    let pieces = groups::group(streams, |_| true);
     groups::own_labels(labels, units) - groups::own_labels(&pieces, units)
 }
 

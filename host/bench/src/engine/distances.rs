@@ -13,6 +13,8 @@ struct Reach {
     open: u64,
     distance: [i64; PLACES],
     via: [u8; PLACES],
+    /// The step of the improvement that is sought.
+    delta: i64,
 }
 
 /// The bits of a mask, lowest first.
@@ -28,10 +30,10 @@ fn bits(mut mask: u64) -> impl Iterator<Item = usize> {
 }
 
 impl Reach {
-    fn from(start: usize) -> Reach {
+    fn from(start: usize, delta: i64) -> Reach {
         let mut distance = [FAR; PLACES];
         distance[start] = 0;
-        Reach { labelled: 0, open: 1 << start, distance, via: [0; PLACES] }
+        Reach { labelled: 0, open: 1 << start, distance, via: [0; PLACES], delta }
     }
 
     /// The open place of least distance.
@@ -48,7 +50,7 @@ impl Reach {
                 continue;
             }
             let i = usize::from(step.stream);
-            let distance = self.distance[u] + state.slack(&streams[i], state.flows[i], step.forwards, 1);
+            let distance = self.distance[u] + state.slack(&streams[i], state.flows[i], step.forwards, self.delta);
             if distance < self.distance[v] {
                 self.distance[v] = distance;
                 self.via[v] = step.stream;
@@ -72,29 +74,21 @@ impl Reach {
     }
 }
 
-/// One improvement at step 1, from the first place with a positive net.
-pub fn improve<W: Watch>(streams: &[Stream], incidence: &Incidence, state: &mut State, watch: &mut W) -> bool {
-    let Some(start) = state.first_over(1) else {
+/// One improvement at step delta, from the first place with so much net; false where there is none to make.
+pub fn improve<W: Watch>(streams: &[Stream], incidence: &Incidence, state: &mut State, delta: i64, watch: &mut W) -> bool {
+    let Some(start) = state.first_over(delta) else {
         return false;
     };
-    let mut reach = Reach::from(start);
+    let mut reach = Reach::from(start, delta);
     let Some(target) = reach.search(streams, incidence, state, watch) else {
         return false;
     };
     for u in bits(reach.labelled) {
         state.prices[u] -= reach.distance[target] - reach.distance[u];
     }
-    let mut at = target;
-    while at != start {
-        let i = usize::from(reach.via[at]);
-        let s = &streams[i];
-        let forwards = usize::from(s.to) == at;
-        state.flows[i] += if forwards { 1 } else { -1 };
-        at = if forwards { s.from } else { s.to }.into();
-        watch.push();
-    }
-    state.nets[start] -= 1;
-    state.nets[target] += 1;
+    state.push_back(streams, &reach.via, start, target, delta, watch);
+    state.nets[start] -= delta;
+    state.nets[target] += delta;
     watch.improvement();
     true
 }

@@ -2,7 +2,6 @@
 
 use super::forest::Forest;
 use super::state::State;
-use super::steps::LEFTOVER_LIMIT;
 use crate::plants::{Stream, MAX_UNITS, PLACES};
 
 /// A pivot below this belongs to a piece without the outside, and its price is 0.
@@ -10,6 +9,9 @@ const LEAST_PIVOT: f64 = 1e-7;
 
 /// Prices beyond this are no hint.
 const MOST_PRICE: f64 = 17_592_186_044_416.0;
+
+/// The summed positive net up to which the hint is taken.
+const FAST_LEFTOVER: i64 = 4_096;
 
 /// The groups' Laplacian with 1 / 2w per metered stream, its upper triangle; and the right side. The group of place 0 is
 /// left out: its price is 0.
@@ -113,5 +115,5 @@ pub fn begin(streams: &[Stream], units: usize) -> Option<State> {
     state.prices = prices(streams, &forest, units)?;
     state.settle(streams);
     forest.hand_on(streams, &mut state);
-    (state.over() <= LEFTOVER_LIMIT).then_some(state)
+    (state.over() <= FAST_LEFTOVER).then_some(state)
 }

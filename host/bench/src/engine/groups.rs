@@ -20,12 +20,10 @@ pub fn join(labels: &mut Labels, s: &Stream) -> bool {
 }
 
 /// The labels after the streams that count.
-pub fn group(streams: &[Stream], counts: impl Fn(usize, &Stream) -> bool) -> Labels {
+pub fn group(streams: &[Stream], counts: impl Fn(&Stream) -> bool) -> Labels {
     let mut labels = own_numbers();
-    for (i, s) in streams.iter().enumerate() {
-        if counts(i, s) {
-            join(&mut labels, s);
-        }
+    for s in streams.iter().filter(|s| counts(s)) {
+        join(&mut labels, s);
     }
     labels
 }

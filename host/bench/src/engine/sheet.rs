@@ -3,17 +3,17 @@
 use super::classes::{self, Class};
 use super::groups;
 use super::watch::{Phase, Watch};
-use super::{Classes, Site};
+use super::Site;
 use crate::plants::MAX_STREAMS;
 
 /// The least slice that is taken.
 pub const LEAST_SLICE: usize = 9 * MAX_STREAMS + 15;
 
 /// The sheet at the front of the slice, and how many bytes it takes.
-pub fn put<W: Watch>(site: &Site, way: Classes, flows: &[i64; MAX_STREAMS], number: u32, out: &mut [u8], watch: &mut W) -> usize {
+pub fn put<W: Watch>(site: &Site, flows: &[i64; MAX_STREAMS], number: u32, out: &mut [u8], watch: &mut W) -> usize {
     let streams = site.streams();
-    let labels = groups::group(streams, |_, s| !s.metered);
-    let classes = classes::classes(streams, &labels, way);
+    let labels = groups::group(streams, |s| !s.metered);
+    let classes = classes::classes(streams, &labels);
     let degrees = classes::degrees(streams, site.units, &labels);
     watch.phase(Phase::Classes);
     let mut at = 0;

@@ -1,5 +1,6 @@
-//! Amounts, prices and nets; amounts settled at prices; the slack of a stream.
+//! Amounts, prices and nets; amounts settled at prices and moved along a way; the slack of a stream.
 
+use super::watch::Watch;
 use crate::plants::{Stream, MAX_STREAMS, PLACES};
 
 /// The amount of each stream, and the price and the net of each place.
@@ -36,6 +37,27 @@ impl State {
     /// The first place with a net of delta or more.
     pub fn first_over(&self, delta: i64) -> Option<usize> {
         self.nets.iter().position(|&z| z >= delta)
+    }
+
+    /// Delta is moved from one place to another, back along the streams by which each place was labelled.
+    pub fn push_back<W: Watch>(
+        &mut self,
+        streams: &[Stream],
+        via: &[u8; PLACES],
+        from: usize,
+        to: usize,
+        delta: i64,
+        watch: &mut W,
+    ) {
+        let mut at = to;
+        while at != from {
+            let i = usize::from(via[at]);
+            let s = &streams[i];
+            let forwards = usize::from(s.to) == at;
+            self.flows[i] += if forwards { delta } else { -delta };
+            at = if forwards { s.from } else { s.to }.into();
+            watch.push();
+        }
     }
 
     /// What is missing before delta can be moved along a stream with amount x.

@@ -1,43 +1,13 @@
 //! Ties: among equally cheap flows, the first metered stream least, then the second, and so on.
 
 use super::incidence::Incidence;
-use super::scan::{push_back, tight_path, Tree};
 use super::state::State;
-use super::sweeps;
 use super::watch::Watch;
 use crate::plants::{Stream, PLACES};
 
 /// Whether a stream's amount can fall by one at no cost.
 fn can_fall(state: &State, s: &Stream, i: usize) -> bool {
     s.metered && state.slack(s, state.flows[i], false, 1) == 0
-}
-
-/// The streams one after the other: less by one where a way of no slack leads round it; by scans.
-pub fn tie_all<const TO_ZERO: bool, W: Watch>(streams: &[Stream], state: &mut State, watch: &mut W) {
-    for (i, s) in streams.iter().enumerate() {
-        if !can_fall(state, s, i) {
-            continue;
-        }
-        let mut tree = Tree::root(s.from.into());
-        if tight_path::<TO_ZERO, W>(streams, state, &mut tree, s.to.into(), i + 1, watch) {
-            push_back(streams, state, &tree, s.to.into(), 1, watch);
-            state.flows[i] -= 1;
-        }
-    }
-}
-
-/// The same, by sweeps.
-pub fn tie_all_by_sweeps<W: Watch>(streams: &[Stream], state: &mut State, watch: &mut W) {
-    for (i, s) in streams.iter().enumerate() {
-        if !can_fall(state, s, i) {
-            continue;
-        }
-        let mut tree = Tree::root(s.from.into());
-        if sweeps::tight_path(streams, state, &mut tree, s.to.into(), i + 1, watch) {
-            push_back(streams, state, &tree, s.to.into(), 1, watch);
-            state.flows[i] -= 1;
-        }
-    }
 }
 
 /// The stream by which each place was labelled, if the target was; each labelled place looks at its own streams alone.
@@ -76,27 +46,15 @@ fn way_round<W: Watch>(
     None
 }
 
-/// One is moved along the way round stream i, and along i backwards.
-fn move_round<W: Watch>(streams: &[Stream], state: &mut State, i: usize, via: &[u8; PLACES], watch: &mut W) {
-    let (start, mut at) = (streams[i].from, streams[i].to);
-    while at != start {
-        let j = usize::from(via[usize::from(at)]);
-        let forwards = streams[j].to == at;
-        state.flows[j] += if forwards { 1 } else { -1 };
-        at = if forwards { streams[j].from } else { streams[j].to };
-        watch.push();
-    }
-    state.flows[i] -= 1;
-}
-
-/// The same, by the streams of newly labelled places.
-pub fn tie_all_by_incidence<W: Watch>(streams: &[Stream], incidence: &Incidence, state: &mut State, watch: &mut W) {
+/// The streams one after the other: less by one where a way of no slack leads round it.
+pub fn tie_all<W: Watch>(streams: &[Stream], incidence: &Incidence, state: &mut State, watch: &mut W) {
     for (i, s) in streams.iter().enumerate() {
         if !can_fall(state, s, i) {
             continue;
         }
         if let Some(via) = way_round(streams, incidence, state, i, watch) {
-            move_round(streams, state, i, &via, watch);
+            state.push_back(streams, &via, s.from.into(), s.to.into(), 1, watch);
+            state.flows[i] -= 1;
         }
     }
 }

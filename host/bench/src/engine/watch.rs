@@ -23,6 +23,8 @@ pub trait Watch {
     fn push(&mut self) {}
     /// An improvement was made.
     fn improvement(&mut self) {}
+    /// The hint by steps was taken.
+    fn fell_back(&mut self) {}
     /// A phase ended.
     fn phase(&mut self, _phase: Phase) {}
 }
@@ -35,12 +37,12 @@ impl Watch for Unwatched {}
 #[derive(Clone, Debug)]
 pub struct Work {
     pub visits: u64,
-    pub rounds: u64,
     pub pushes: u64,
     pub improvements: u64,
-    /// Improvements and rounds at step 1 after the hint.
+    /// Improvements and rounds that the hint leaves.
     pub left: u64,
     pub left_rounds: u64,
+    pub fell_back: bool,
     finishing: bool,
     then: Instant,
     /// Microseconds by phase.
@@ -51,11 +53,11 @@ impl Work {
     pub fn new() -> Work {
         Work {
             visits: 0,
-            rounds: 0,
             pushes: 0,
             improvements: 0,
             left: 0,
             left_rounds: 0,
+            fell_back: false,
             finishing: false,
             then: Instant::now(),
             phases: [0.0; 7],
@@ -80,7 +82,6 @@ impl Watch for Work {
     }
 
     fn round(&mut self) {
-        self.rounds += 1;
         self.left_rounds += u64::from(self.finishing);
     }
 
@@ -91,6 +92,10 @@ impl Watch for Work {
     fn improvement(&mut self) {
         self.improvements += 1;
         self.left += u64::from(self.finishing);
+    }
+
+    fn fell_back(&mut self) {
+        self.fell_back = true;
     }
 
     fn phase(&mut self, phase: Phase) {

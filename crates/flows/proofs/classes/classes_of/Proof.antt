@@ -9,7 +9,7 @@ use Rattle.flows.specs.declared.Class.the-variants.{Withheld}
 use Rattle.flows.specs.Classes.{classOf}
 use Rattle.flows.proofs.Lists.{Written, written-none, written-put}
 use Rattle.flows.proofs.Labels.{labels-long}
-use Rattle.flows.proofs.Fits.{fit-length, fit-ends}
+use Rattle.plants.proofs.Arrayed.{all-listed, stream-within}
 use Rattle.flows.proofs.ByLabels.{classes-all}
 use Rattle.flows.proofs.BySides.{class-in}
 use borrow.Author.Needs.{needs}
@@ -17,16 +17,13 @@ use Rattle.flows.proofs.classes.classes_of.Statement.{statement}
 use Rattle.flows.proofs.classes.classes_of.Tie as tie
 
 abbrev Inv-loop : tie.InvT-loop
-Inv-loop p labels n cuts taken r₀ i₀ r i = (i ≤ p .count) × Written Withheld maxStreams (λ k x. classOf (plantOf p) k) r₀ r i
+Inv-loop cuts p n labels taken r₀ i₀ r i = (i ≤ p .count) × Written Withheld maxStreams (λ k x. classOf (plantOf p) k) r₀ r i
 
 abbrev μ-loop : tie.MeasureT-loop
-μ-loop p labels n cuts taken r₀ i₀ r i = n - i
+μ-loop cuts p n labels taken r₀ i₀ r i = n - i
 
 cast-n : tie.Need-cast-n Inv-loop μ-loop
 cast-n c = search needs
-
-cuts-of-requires : tie.Need-cuts-of-requires Inv-loop μ-loop
-cuts-of-requires c κs = search needs
 
 loop-holds : tie.Need-loop-holds Inv-loop μ-loop
 loop-holds c = (omega arith, written-none (length-replicate maxStreams Withheld))
@@ -44,7 +41,7 @@ class-of-requires : tie.Need-class-of-requires Inv-loop μ-loop
 class-of-requires c κs =
     let st = c .before .before .before .before .before .before in
     let lt = c .before .before .loop-test .taken in
-    (fit-ends (st .args .t1) (st .pre .fit) _ lt, ap length (st .pre .labelled) ∙ labels-long _ _ _, c .before .before .before .before .before .cuts-of .ensures .low _ lt)
+    (stream-within (st .args .t1) (st .pre .0) _ lt, ap length (st .pre .1 .grouped) ∙ labels-long _ _ _, st .pre .1 .low _ lt)
 
 array-set-from-r : tie.Need-array-set-from-r Inv-loop μ-loop
 array-set-from-r c = search needs
@@ -59,15 +56,15 @@ loop-again : tie.Need-loop-again Inv-loop μ-loop
 loop-again c =
     let st = c .before .before .before .before .before .before .before in
     let at = c .before .before .before .before .loop in
-    let class = class-in (st .pre) (c .before .before .before .before .before .before .cuts-of .ensures) (at .i) (c .before .before .before .loop-test .taken) in
-    (omega arith, written-put (at .inv .1) (omega (arith, st .pre .fit .few-streams)) _ (c .class-of .ensures ∙ class))
+    let class = class-in (st .pre .0) (st .pre .1) (at .i) (c .before .before .before .loop-test .taken) in
+    (omega arith, written-put (at .inv .1) (omega (arith, st .pre .0 .within .few-streams)) _ (c .class-of .ensures ∙ class))
 
 returns : tie.Need-returns Inv-loop μ-loop
 returns c =
     let st = c .before .before .before .before in
     let at = c .before .loop in
     let e : at .i ≡ st .args .t1 .count = omega arith in
-    classes-all (plantOf (st .args .t1)) (at .i) maxStreams _ (fit-length (st .args .t1) (st .pre .fit) ∙ sym e) (at .inv .1)
+    classes-all (plantOf (st .args .t1)) (at .i) maxStreams _ (all-listed (st .args .t1) (st .pre .0) ∙ sym e) (at .inv .1)
 
 pub classes-of-spec : {M : Type 1} → statement M
 classes-of-spec =
@@ -76,7 +73,6 @@ classes-of-spec =
     Inv-loop
     μ-loop
     cast-n
-    cuts-of-requires
     loop-holds
     mul-s
     element-copy-out-s

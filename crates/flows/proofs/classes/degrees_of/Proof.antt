@@ -3,7 +3,7 @@ use mathlib.Core.Path.{_≡_, sym}
 use Prim.Native.Nat.{_-_}
 use Rattle.plants.specs.Says.{plantOf}
 use Rattle.flows.specs.Classes.{degrees}
-use Rattle.flows.proofs.Fits.{fit-inside}
+use Rattle.flows.proofs.Nets.{inside-of}
 use Rattle.flows.proofs.Degrees.{pieces-le, degrees-own, degrees-most}
 use borrow.Author.Needs.{needs}
 use Rattle.flows.proofs.classes.degrees_of.Statement.{statement}
@@ -22,16 +22,16 @@ sub-result : tie.Need-sub-result
 sub-result c =
     let st = c .before .before .before in
     rw (c .own-labels2 .ensures, c .before .before .own-labels .ensures)
-    (rw (st .pre .labelled, c .before .group .ensures) (pieces-le (plantOf (st .args .p)) (st .pre .fit .few-units) (fit-inside (st .args .p) (st .pre .fit))))
+    (rw (st .pre .1, c .before .group .ensures) (pieces-le (plantOf (st .args .p)) (st .pre .0 .within .few-units) (inside-of (st .args .p) (st .pre .0))))
 
 returns : tie.Need-returns
 returns c =
     let st = c .before .before .before in
-    let w = fit-inside (st .args .p) (st .pre .fit) in
+    let w = inside-of (st .args .p) (st .pre .0) in
     let e : c .before .before .own-labels .result - c .own-labels2 .result ≡ degrees (plantOf (st .args .p)) =
     rw (c .own-labels2 .ensures, c .before .before .own-labels .ensures)
-    (rw (st .pre .labelled, c .before .group .ensures) (sym (degrees-own (plantOf (st .args .p)) (st .pre .fit .few-units) w))) in
-    (e, rw e (degrees-most (plantOf (st .args .p)) (st .pre .fit .few-units) w))
+    (rw (st .pre .1, c .before .group .ensures) (sym (degrees-own (plantOf (st .args .p)) (st .pre .0 .within .few-units) w))) in
+    (e, rw e (degrees-most (plantOf (st .args .p)) (st .pre .0 .within .few-units) w))
 
 pub degrees-of-spec : {M : Type 1} → statement M
 degrees-of-spec =

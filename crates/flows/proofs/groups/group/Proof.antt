@@ -7,7 +7,7 @@ use Rattle.plants.specs.Says.{plantOf}
 use Rattle.flows.specs.Labels.{labelsAfter}
 use Rattle.flows.specs.Calls.{counting}
 use Rattle.flows.proofs.Labels.{step-none, step-more, labels-long}
-use Rattle.flows.proofs.Fits.{fit-length, fit-at, fit-ends}
+use Rattle.plants.proofs.Arrayed.{all-listed, listed-at, stream-within}
 use borrow.Author.Needs.{needs}
 use Rattle.flows.proofs.groups.group.Statement.{statement}
 use Rattle.flows.proofs.groups.group.Tie as tie
@@ -39,7 +39,7 @@ counts-requires c κs = search needs
 step-requires : tie.Need-step-requires Inv-loop μ-loop
 step-requires c κs =
     let st = c .before .before .before .before .before .before in
-    (fit-ends (st .args .t1) (st .pre) _ (c .before .before .before .loop-test .taken), ap length (c .before .before .before .before .loop .inv .1) ∙ labels-long _ _ _)
+    (stream-within (st .args .t1) (st .pre) _ (c .before .before .before .loop-test .taken), ap length (c .before .before .before .before .loop .inv .1) ∙ labels-long _ _ _)
 
 add-i : tie.Need-add-i Inv-loop μ-loop
 add-i c = search needs
@@ -51,7 +51,7 @@ loop-again : tie.Need-loop-again Inv-loop μ-loop
 loop-again c =
     let st = c .before .before .before .before .before .before .before in
     let at = c .before .before .before .before .before .loop in
-    let here = fit-at (st .args .t1) (st .pre) (at .i) (c .before .before .before .before .loop-test .taken) in
+    let here = listed-at (st .args .t1) (st .pre) (at .i) (c .before .before .before .before .loop-test .taken) in
     (omega arith, step-more _ _ (at .i) _ _ _ _ (at .inv .1) here (c .before .before .counts .ensures (at .i)) (c .step .ensures))
 
 returns : tie.Need-returns Inv-loop μ-loop
@@ -59,7 +59,7 @@ returns c =
     let st = c .before .before .before in
     let at = c .before .loop in
     let e : at .i ≡ st .args .t1 .count = omega arith in
-    at .inv .1 ∙ ap (labelsAfter _ _) (e ∙ sym (fit-length (st .args .t1) (st .pre)))
+    at .inv .1 ∙ ap (labelsAfter _ _) (e ∙ sym (all-listed (st .args .t1) (st .pre)))
 
 pub group-spec : {M : Type 1} → statement M
 group-spec =

@@ -2,7 +2,7 @@
 use mathlib.Core.Path.{_≡_}
 use Prim.Native.Nat.{_-_}
 use native.Mathlib.Omega.{arith}
-use Rattle.flows.proofs.Fits.{fit-ends}
+use Rattle.plants.proofs.Arrayed.{stream-within}
 use Rattle.flows.proofs.Passed.{Passed, passed-none, labels-all, sides-all, taken-in, passed-more, passed-all}
 use borrow.Author.Needs.{needs}
 use Rattle.flows.proofs.sides.cuts_of.Statement.{statement}
@@ -32,7 +32,7 @@ element-copy-out-s c = search needs
 taken-by-requires : tie.Need-taken-by-requires Inv-loop μ-loop
 taken-by-requires c κs =
     let st = c .before .before .before .before .before in
-    (fit-ends (st .args .t1) (st .pre) _ (c .before .before .loop-test .taken), labels-all (st .pre) (c .before .before .before .loop .inv))
+    (stream-within (st .args .t1) (st .pre) _ (c .before .before .loop-test .taken), labels-all (st .pre) (c .before .before .before .loop .inv))
 
 array-write-taken : tie.Need-array-write-taken Inv-loop μ-loop
 array-write-taken c = search needs
@@ -41,19 +41,19 @@ looped-by-requires : tie.Need-looped-by-requires Inv-loop μ-loop
 looped-by-requires c κs =
     let st = c .before .before .before .before .before .before .before .before in
     let inv = c .before .before .before .before .before .before .loop .inv in
-    (fit-ends (st .args .t1) (st .pre) _ (c .before .before .before .before .before .loop-test .taken), labels-all (st .pre) inv, sides-all (st .pre) inv)
+    (stream-within (st .args .t1) (st .pre) _ (c .before .before .before .before .before .loop-test .taken), labels-all (st .pre) inv, sides-all (st .pre) inv)
 
 part-requires : tie.Need-part-requires Inv-loop μ-loop
 part-requires c κs =
     let st = c .before .before .before .before .before .before .before .before .before .before .before in
     let inv = c .before .before .before .before .before .before .before .before .before .loop .inv in
     let lt = c .before .before .before .before .before .before .before .before .loop-test .taken in
-    (fit-ends (st .args .t1) (st .pre) _ lt, sides-all (st .pre) inv, labels-all (st .pre) inv, taken-in (st .pre) inv lt _ (c .before .before .before .before .before .taken-by .ensures))
+    (stream-within (st .args .t1) (st .pre) _ lt, sides-all (st .pre) inv, labels-all (st .pre) inv, taken-in (st .pre) inv lt _ (c .before .before .before .before .before .taken-by .ensures))
 
 step-requires : tie.Need-step-requires Inv-loop μ-loop
 step-requires c κs =
     let st = c .before .before .before .before .before .before .before .before .before .before .before .before .before .before in
-    (fit-ends (st .args .t1) (st .pre) _ (c .before .before .before .before .before .before .before .before .before .before .before .loop-test .taken), labels-all (st .pre) (c .before .before .before .before .before .before .before .before .before .before .before .before .loop .inv))
+    (stream-within (st .args .t1) (st .pre) _ (c .before .before .before .before .before .before .before .before .before .before .before .loop-test .taken), labels-all (st .pre) (c .before .before .before .before .before .before .before .before .before .before .before .before .loop .inv))
 
 add-i : tie.Need-add-i Inv-loop μ-loop
 add-i c = search needs

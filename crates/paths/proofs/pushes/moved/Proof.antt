@@ -1,5 +1,4 @@
--- `paths::pushes::moved` meets its contract: by the end that the place is.
-use borrow.Author.Tests.{eq-eqb, ne-eqb}
+-- `paths::pushes::moved` meets its contract: by the direction.
 use borrow.Author.Needs.{needs}
 use Rattle.paths.proofs.pushes.moved.Statement.{statement}
 use Rattle.paths.proofs.pushes.moved.Tie as tie
@@ -11,10 +10,10 @@ sub-result : tie.Need-sub-result
 sub-result c = search needs
 
 returns : tie.Need-returns
-returns c = simp (eq-eqb _ _ (c .if1 .taken))
+returns c = rw (c .if1 .taken)
 
 returns-2 : tie.Need-returns-2
-returns-2 c = simp (ne-eqb _ _ (c .if1 .left))
+returns-2 c = rw (c .if1 .left)
 
 pub moved-spec : {M : Type 1} → statement M
 moved-spec = tie.close (tie.spec add-result sub-result returns returns-2)

@@ -1,23 +1,23 @@
 -- `paths::relaxing::nearest` meets its contract: the nearest of the first u places is known, and its code.
 use Rattle.paths.proofs.Filling.{nearest-none, nearest-next, getD-any}
-use mathlib.Core.Path.{_≡_, sym, _∙_}
+use mathlib.Core.Path.{_≡_, sym, _∙_, ap}
 use mathlib.Core.Logic.{⊎-elim}
 use borrow.Author.Tests.{lt-ltb, le-ltb}
-use Prim.Native.Nat.{_≤_, _-_}
+use Prim.Native.Nat.{ℕ, _≤_, _-_, _/_}
 use native.Mathlib.Omega.{arith}
 use lib.ListN.{getD, List·getD-eq-default}
 use Rattle.plants.specs.Limits.{places}
-use Rattle.paths.specs.Sizes.{far}
+use Rattle.paths.specs.Sizes.{far, numbering}
 use Rattle.paths.specs.Near.{nearestTo}
 use borrow.Author.Needs.{needs}
 use Rattle.paths.proofs.relaxing.nearest.Statement.{statement}
 use Rattle.paths.proofs.relaxing.nearest.Tie as tie
 
 abbrev Inv-loop : tie.InvT-loop
-Inv-loop near best₀ at₀ u₀ best at u = (u ≤ places) × (at ≡ nearestTo near u) × (best ≡ getD near at far)
+Inv-loop near limit best₀ at₀ u₀ best at u = (u ≤ places) × (at ≡ nearestTo near u) × (best ≡ getD near at far)
 
 abbrev μ-loop : tie.MeasureT-loop
-μ-loop near best₀ at₀ u₀ best at u = places - u
+μ-loop near limit best₀ at₀ u₀ best at u = places - u
 
 loop-holds : tie.Need-loop-holds Inv-loop μ-loop
 loop-holds c = (omega arith, sym (nearest-none _), sym (List·getD-eq-default (c .args .near .now) far {n = places} (omega (arith, c .pre))))
@@ -52,10 +52,20 @@ loop-again c =
       ⊎-elim (λ w. w .2 ∙ rw (w .3) (sym same)) (λ w. rw (w .1, w .2) (at .loop .inv .2)) (c .if1 .came),
     )
 
-returns : tie.Need-returns Inv-loop μ-loop
-returns c =
+-- All places are looked at.
+is : (c : tie.After-loop Inv-loop μ-loop) → c .before .loop .at ≡ nearestTo (c .before .before .args .near .now) places
+is c =
     let e : c .before .loop .u ≡ places = omega arith in
     rw e at (c .before .loop .inv .1)
+
+code : (c : tie.After-loop Inv-loop μ-loop) → c .before .loop .best / numbering ≡ getD (c .before .before .args .near .now) (nearestTo (c .before .before .args .near .now) places) far / numbering
+code c = ap (λ (x : ℕ). x / numbering) (c .before .loop .inv .2 ∙ ap (λ (k : ℕ). getD (c .before .before .args .near .now) k far) (is c))
+
+returns : tie.Need-returns Inv-loop μ-loop
+returns c = sym (rw (← code (c .before), lt-ltb _ _ (c .if2 .taken)))
+
+returns-2 : tie.Need-returns-2 Inv-loop μ-loop
+returns-2 c = is (c .before) ∙ sym (rw (← code (c .before), le-ltb _ _ (c .if2 .left)))
 
 pub nearest-spec : {M : Type 1} → statement M
 nearest-spec =
@@ -71,4 +81,5 @@ nearest-spec =
     add-u
     loop-less
     loop-again
-    returns)
+    returns
+    returns-2)

@@ -1,4 +1,4 @@
--- `paths::relaxing::relax_along` meets its contract: by whether the place is labelled and the code less.
+-- `paths::relaxing::relax_along` meets its contract: by whether the place is visited and the code less.
 use Rattle.paths.specs.Near.{relaxedAlong}
 use borrow.Author.Tests.{lt-ltb, le-ltb}
 use borrow.Author.Needs.{needs}

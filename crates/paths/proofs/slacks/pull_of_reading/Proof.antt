@@ -3,13 +3,13 @@ use mathlib.Core.Path.{_≡_}
 use Prim.Native.Nat.{_*_, _≤_}
 use native.Mathlib.Omega.{arith}
 use Rattle.paths.specs.Sizes.{mostPull}
-use Rattle.paths.proofs.Weights.{pull-most}
+use Rattle.paths.proofs.Weights.{weight-most, pull-most}
 use borrow.Author.Needs.{needs}
 use Rattle.paths.proofs.slacks.pull_of_reading.Statement.{statement}
 use Rattle.paths.proofs.slacks.pull_of_reading.Tie as tie
 
 bound : (c : tie.After-reading-of) → c .before .weight-of .result * c .reading-of .result ≤ mostPull
-bound c = pull-most _ _ (rw (c .before .weight-of .ensures) (c .before .before .pre .light)) (c .reading-of .ensures .1)
+bound c = pull-most _ _ (rw (c .before .weight-of .ensures) (weight-most (c .before .before .args .s) (c .before .before .pre))) (c .reading-of .ensures .1)
 
 weight-of-requires : tie.Need-weight-of-requires
 weight-of-requires c κs = search needs

@@ -1,4 +1,5 @@
 -- `potentials::laplacians::join` meets its contract: the labels of its ends are places.
+use native.Mathlib.Omega.{arith}
 use borrow.Author.Needs.{needs}
 use Rattle.potentials.proofs.laplacians.join.Statement.{statement}
 use Rattle.potentials.proofs.laplacians.join.Tie as tie
@@ -12,7 +13,7 @@ element-copy-out-g c = search needs
 cast-g-2 : tie.Need-cast-g-2
 cast-g-2 c =
     let st = c .before .before in
-    let h = st .pre .2 .within (st .args .s .from) (st .pre .1 .from-in) in
+    let h = st .pre .2 .within (st .args .s .from) (omega (arith, st .pre .1 .from-in)) in
     search needs
 
 cast-h : tie.Need-cast-h
@@ -24,7 +25,7 @@ element-copy-out-h c = search needs
 cast-h-2 : tie.Need-cast-h-2
 cast-h-2 c =
     let st = c .before .before .before .before in
-    let h = st .pre .2 .within (st .args .s .to) (st .pre .1 .to-in) in
+    let h = st .pre .2 .within (st .args .s .to) (omega (arith, st .pre .1 .to-in)) in
     search needs
 
 returns : tie.Need-returns
@@ -34,8 +35,8 @@ between-requires : tie.Need-between-requires
 between-requires c κs =
     let st = c .before .before .before .before .before .before .before .before in (
       st .pre .0,
-      st .pre .2 .within (st .args .s .from) (st .pre .1 .from-in),
-      st .pre .2 .within (st .args .s .to) (st .pre .1 .to-in),
+      st .pre .2 .within (st .args .s .from) (omega (arith, st .pre .1 .from-in)),
+      st .pre .2 .within (st .args .s .to) (omega (arith, st .pre .1 .to-in)),
     )
 
 returns-2 : tie.Need-returns-2

@@ -5,7 +5,7 @@ use native.Mathlib.Omega.{arith}
 use lib.ListN.{length}
 use borrow.Author.Needs.{needs}
 use Rattle.potentials.specs.Levels.{cells}
-use Rattle.flows.proofs.Fits.{fit-ends}
+use Rattle.plants.proofs.Arrayed.{stream-within}
 use Rattle.potentials.proofs.laplacians.laplacian.Statement.{statement}
 use Rattle.potentials.proofs.laplacians.laplacian.Tie as tie
 
@@ -31,7 +31,7 @@ join-requires : tie.Need-join-requires Inv-loop μ-loop
 join-requires c κs =
     let at = c .before .before .before .before in
     let st = at .before in
-    (at .loop .inv .1, fit-ends (st .args .t1) (st .pre .0) _ (omega arith), st .pre .1)
+    (at .loop .inv .1, stream-within (st .args .t1) (st .pre .0) _ (omega arith), st .pre .1)
 
 add-i : tie.Need-add-i Inv-loop μ-loop
 add-i c = search needs

@@ -3,16 +3,16 @@ use Prim.Native.Nat.{_≤_, _-_}
 use native.Mathlib.Omega.{arith}
 use borrow.Author.Needs.{needs}
 use Rattle.plants.specs.Limits.{places}
-use Rattle.potentials.specs.Levels.{Bounded}
+use Rattle.potentials.specs.Levels.{Banded}
 use Rattle.potentials.proofs.Levels.{bounded-all, bounded-set}
 use Rattle.potentials.proofs.wholes.lowered.Statement.{statement}
 use Rattle.potentials.proofs.wholes.lowered.Tie as tie
 
 abbrev Inv-loop : tie.InvT-loop
-Inv-loop top spread x most r₀ u₀ r u = (u ≤ places) × Bounded top spread r
+Inv-loop top band x most r₀ u₀ r u = (u ≤ places) × Banded top band r
 
 abbrev μ-loop : tie.MeasureT-loop
-μ-loop top spread x most r₀ u₀ r u = places - u
+μ-loop top band x most r₀ u₀ r u = places - u
 
 greatest-requires : tie.Need-greatest-requires Inv-loop μ-loop
 greatest-requires c κs = search needs

@@ -3,8 +3,7 @@ use borrow.Author.Needs.{needs}
 use native.Mathlib.Omega.{arith}
 use denote.Ref.{now}
 use mathlib.Core.Path.{sym, _∙_}
-use Rattle.sheets.proofs.Promise.{call-refused, file-refused, plant-accepted, plant-drawable, sheet-drawn}
-use Rattle.sheets.proofs.Promise.{call-refused, long-enough, one-left, file-refused, plant-accepted, plant-drawable, sheet-drawn}
+use Rattle.sheets.proofs.Promise.{call-refused, long-enough, one-left, file-refused, plant-accepted, sheet-drawn}
 use Rattle.sheets.proofs.calls.balance_plant.Statement.{statement}
 use Rattle.sheets.proofs.calls.balance_plant.Tie as tie
 
@@ -35,18 +34,22 @@ returns-2 c = let a = c .before .before .before .before .before .before .before 
     file-refused (now (a .file)) (a .last) (now (a .sheet)) (c .before .before .before .before .call-fault .result) (c .before .before .before .before .call-fault .ensures) (c .before .before .before .if1 .left)
     (c .before .before .read-plant .result) (c .refused2 .result) (c .before .before .read-plant .ensures) (c .before .if2 .taken) (c .refused2 .ensures)
 
-solve-requires : tie.Need-solve-requires
-solve-requires c κs = plant-accepted (now (c .before .before .before .before .before .before .before .before .args .file)) (c .before .before .read-plant .result) (c .before .before .read-plant .ensures) (c .before .if2 .left)
+balance-of-requires : tie.Need-balance-of-requires
+balance-of-requires c κs = plant-accepted (now (c .before .before .before .before .before .before .before .before .args .file)) (c .before .before .read-plant .result) (c .before .before .read-plant .ensures) (c .before .if2 .left)
+
+cast-count : tie.Need-cast-count
+cast-count c = search needs
 
 add-next : tie.Need-add-next
 add-next c = let a = c .before .before .before .before .before .before .before .before .before .before .args in
     record { fits = omega (arith, one-left (a .last) (now (a .sheet)) (sym (c .before .before .before .before .before .before .call-fault .ensures) ∙ c .before .before .before .before .before .if1 .left), c .before .before .before .before .before .before .before .before .before .before .fits .last .fits) }
 
 put-sheet-requires : tie.Need-put-sheet-requires
-put-sheet-requires c κs = let a = c .before .before .before .before .before .before .before .before .before .before .before .args in (
-  plant-drawable (now (a .file)) (c .before .before .before .before .before .read-plant .result) (c .before .before .before .before .before .read-plant .ensures) (c .before .before .before .before .if2 .left) (c .before .before .solve .result) (c .before .before .solve .ensures),
-  long-enough (a .last) (now (a .sheet)) (sym (c .before .before .before .before .before .before .before .call-fault .ensures) ∙ c .before .before .before .before .before .before .if1 .left),
-)
+put-sheet-requires c κs =
+    let a = c .before .before .before .before .before .before .before .before .before .before .before .args in
+    let read = c .before .before .before .before .before .read-plant in
+    let few = plant-accepted (now (a .file)) (read .result) (read .ensures) (c .before .before .before .before .if2 .left) .within .few-streams in
+    (omega (arith, few), long-enough (a .last) (now (a .sheet)) (sym (c .before .before .before .before .before .before .before .call-fault .ensures) ∙ c .before .before .before .before .before .before .if1 .left))
 
 same-length-3 : tie.Need-same-length-3
 same-length-3 c = search needs
@@ -54,8 +57,8 @@ same-length-3 c = search needs
 returns-3 : tie.Need-returns-3
 returns-3 c = let a = c .before .before .before .before .before .before .before .before .before .before .before .before .before .before .args in
     sheet-drawn (now (a .file)) (a .last) (now (a .sheet)) (c .before .before .before .before .before .before .before .before .before .before .call-fault .result) (c .before .before .before .before .before .before .before .before .before .before .call-fault .ensures) (c .before .before .before .before .before .before .before .before .before .if1 .left)
-    (c .before .before .before .before .before .before .before .before .read-plant .result) (c .before .before .before .before .before .solve .result) (c .before .before .put-sheet .last .1 .1 .1 .0) (c .before .before .put-sheet .result)
-    (c .before .before .before .before .before .before .before .before .read-plant .ensures) (c .before .before .before .before .before .before .before .if2 .left) (c .before .before .before .before .before .solve .ensures) (c .before .before .put-sheet .ensures)
+    (c .before .before .before .before .before .before .before .before .read-plant .result) (c .before .before .before .before .before .balance-of .result) (c .before .before .put-sheet .last .1 .1 .1 .0) (c .before .before .put-sheet .result)
+    (c .before .before .before .before .before .before .before .before .read-plant .ensures) (c .before .before .before .before .before .before .before .if2 .left) (c .before .before .before .before .before .balance-of .ensures) (c .before .before .put-sheet .ensures)
 
 pub balance-plant-spec : {M : Type 1} → statement M
 balance-plant-spec =
@@ -69,7 +72,8 @@ balance-plant-spec =
     refused-requires-2
     same-length-2
     returns-2
-    solve-requires
+    balance-of-requires
+    cast-count
     add-next
     put-sheet-requires
     same-length-3

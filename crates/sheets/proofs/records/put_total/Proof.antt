@@ -5,7 +5,7 @@ use denote.Ref.{now}
 use mathlib.Core.List.{[], _∷_}
 use Rattle.numbers.specs.Bytes.{putBe}
 use Rattle.numbers.proofs.Parts.{laid, lay}
-use Rattle.sheets.specs.Sheets.{totalKind}
+use Rattle.sheets.specs.Apart.{totalKind}
 use Rattle.sheets.proofs.records.put_total.Statement.{statement}
 use Rattle.sheets.proofs.records.put_total.Tie as tie
 

@@ -6,7 +6,7 @@ use Rattle.solver.proofs.forests.forest.Statement.{statement}
 use Rattle.solver.proofs.forests.forest.Tie as tie
 
 abbrev Inv-loop : tie.InvT-loop
-Inv-loop streams count f₀ left₀ f left = Spanning f × Listed count f
+Inv-loop streams count f₀ left₀ f left = Spanning f × Listed streams count f
 
 abbrev μ-loop : tie.MeasureT-loop
 μ-loop streams count f₀ left₀ f left = left

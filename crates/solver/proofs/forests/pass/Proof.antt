@@ -1,14 +1,14 @@
 -- `solver::forests::pass` meets its contract: each stream keeps what is asked of a forest.
+use mathlib.Core.Path.{refl}
 use Prim.Native.Nat.{_≤_, _-_}
 use native.Mathlib.Omega.{arith}
 use borrow.Author.Needs.{needs}
 use Rattle.solver.specs.Forests.{Spanning, Listed}
-use Rattle.solver.proofs.Spanning.{ends-of}
 use Rattle.solver.proofs.forests.pass.Statement.{statement}
 use Rattle.solver.proofs.forests.pass.Tie as tie
 
 abbrev Inv-loop : tie.InvT-loop
-Inv-loop count streams f₀ i₀ f i = (i ≤ count) × Spanning f × Listed count f
+Inv-loop count streams f₀ i₀ f i = (i ≤ count) × Spanning f × Listed streams count f
 
 abbrev μ-loop : tie.MeasureT-loop
 μ-loop count streams f₀ i₀ f i = count - i
@@ -26,7 +26,7 @@ array-copy-out-along : tie.Need-array-copy-out-along Inv-loop μ-loop
 array-copy-out-along c = search needs
 
 along-requires : tie.Need-along-requires Inv-loop μ-loop
-along-requires c κs = (c .before .before .loop .inv .1, ends-of (c .before .before .before .pre .0 .placed (c .before .before .loop .i) (omega arith)))
+along-requires c κs = (c .before .before .loop .inv .1, c .before .before .before .pre .0 .within .each (c .before .before .loop .i) (omega arith))
 
 add-i : tie.Need-add-i Inv-loop μ-loop
 add-i c = search needs
@@ -35,7 +35,7 @@ loop-less : tie.Need-loop-less Inv-loop μ-loop
 loop-less c = search needs
 
 loop-again : tie.Need-loop-again Inv-loop μ-loop
-loop-again c = (omega arith, c .along .ensures .0, c .along .ensures .1 _ (omega arith) (c .before .before .before .loop .inv .2))
+loop-again c = (omega arith, c .along .ensures .0, c .along .ensures .1 (c .before .before .before .before .args .t1) _ (omega arith) refl (c .before .before .before .loop .inv .2))
 
 returns : tie.Need-returns Inv-loop μ-loop
 returns c = search needs

@@ -1,32 +1,32 @@
--- `solver::forests::route` meets its contract: each stream routed keeps the lengths and the room.
-use mathlib.Core.Path.{_≡_}
+-- `solver::forests::route` meets its contract: each stream routed keeps the lengths and the room, and the metered amounts.
+use mathlib.Core.Path.{_≡_, refl}
 use Prim.Native.Nat.{_≤_, _<_, _-_}
 use native.Mathlib.Omega.{arith}
 use lib.ListN.{length, getD}
 use borrow.Author.Needs.{needs}
 use Rattle.plants.specs.Limits.{places, maxStreams}
-use Rattle.solver.specs.Forests.{Routes}
-use Rattle.solver.proofs.Spanning.{ends-of, spanning-short, routes-set}
+use Rattle.solver.specs.Forests.{Unmetered, Routes, Kept}
+use Rattle.solver.proofs.Spanning.{spanning-short, routes-set, kept-set}
 use Rattle.solver.proofs.forests.route.Statement.{statement}
 use Rattle.solver.proofs.forests.route.Tie as tie
 
 abbrev Inv-loop : tie.InvT-loop
-Inv-loop count nets₀ flows₀ streams f k₀ nets flows k = (k ≤ f .len) × (length nets ≡ places) × Routes flows
+Inv-loop count nets₀ flows₀ streams f k₀ nets flows k = (k ≤ f .len) × (length nets ≡ places) × Routes flows × Kept streams count flows₀ flows
 
 abbrev μ-loop : tie.MeasureT-loop
 μ-loop count nets₀ flows₀ streams f k₀ nets flows k = k
 
 loop-holds : tie.Need-loop-holds Inv-loop μ-loop
-loop-holds c = search needs
+loop-holds c = (omega arith, c .pre .3, c .pre .4, record { each = λ k l m. refl })
 
 short : (c : tie.In-loop Inv-loop μ-loop) → c .before .loop .k - 1 < places
 short c = omega (arith, spanning-short (c .before .before .pre .1))
 
-listed : (c : tie.In-loop Inv-loop μ-loop) → getD (c .before .before .args .t3 .via) (c .before .loop .k - 1) 0 < c .before .before .args .count
+listed : (c : tie.In-loop Inv-loop μ-loop) → Unmetered (c .before .before .args .t1) (c .before .before .args .count) (getD (c .before .before .args .t3 .via) (c .before .loop .k - 1) 0)
 listed c = c .before .before .pre .2 _ (omega arith)
 
 index : (c : tie.In-loop Inv-loop μ-loop) → getD (c .before .before .args .t3 .via) (c .before .loop .k - 1) 0 < maxStreams
-index c = omega (arith, listed c, c .before .before .pre .0 .few)
+index c = omega (arith, listed c .0, c .before .before .pre .0 .within .few-streams)
 
 sub-k : tie.Need-sub-k Inv-loop μ-loop
 sub-k c = search needs
@@ -49,7 +49,7 @@ array-copy-out-routed c = let h = index (c .before .before .before) in search ne
 routed-requires : tie.Need-routed-requires Inv-loop μ-loop
 routed-requires c κs =
     let at = c .before .before .before .before in
-    (at .before .loop .inv .1, ends-of (at .before .before .pre .0 .placed _ (listed at)))
+    (at .before .loop .inv .1, at .before .before .pre .0 .within .each _ (listed at .0))
 
 mul-flows : tie.Need-mul-flows Inv-loop μ-loop
 mul-flows c = let h = index (c .before .before .before .before .before) in search needs
@@ -63,7 +63,7 @@ loop-less c = search needs
 loop-again : tie.Need-loop-again Inv-loop μ-loop
 loop-again c =
     let at = c .before .before .before .before .before in
-    (omega arith, c .routed .ensures .0, routes-set (at .before .loop .inv .2) _ _ (index at) (c .routed .ensures .1))
+    (omega arith, c .routed .ensures .0, routes-set (at .before .loop .inv .2) _ _ (index at) (c .routed .ensures .1), kept-set (at .before .loop .inv .3) _ _ (listed at))
 
 returns : tie.Need-returns Inv-loop μ-loop
 returns c = search needs

@@ -1,8 +1,7 @@
 -- `solver::improving::improve_all` meets its contract: with `left` improvements to go it comes to what it comes to from the start.
 use Rattle.solver.proofs.Turns.{allows-less, allows-next, improved-same, steps-next, steps-end, steps-none}
-use Rattle.solver.specs.Premises.{Allows}
+use Rattle.solver.specs.Premises.{Allows, Improvable}
 use Rattle.solver.specs.Model.{stateOf, improvements}
-use Rattle.paths.specs.Premises.{Laid}
 use lib.ListN.{take}
 use borrow.Author.Tests.{not-true, not-false}
 use borrow.Author.Needs.{needs}
@@ -11,44 +10,49 @@ use Prim.Native.Nat.{_≤_, _-_}
 use mathlib.Core.Path.{_≡_, refl, sym, _∙_}
 use Rattle.solver.proofs.improving.improve_all.Statement.{statement}
 use Rattle.solver.proofs.improving.improve_all.Tie as tie
-use Rattle.paths.proofs.lanes.lay.Reads as lay-reads
 
 abbrev Inv-loop : tie.InvT-loop
-Inv-loop streams count delta budget from to weight pull next flows₀ prices₀ nets₀ left₀ flows prices nets left =
+Inv-loop lanes delta budget flows₀ prices₀ nets₀ left₀ flows prices nets left =
     (left ≤ budget)
-    × Allows (take count streams) delta left (stateOf flows prices nets)
-    × (improvements left (take count streams) delta (stateOf flows prices nets) ≡ improvements budget (take count streams) delta (stateOf flows₀ prices₀ nets₀))
+    × ((w : Improvable lanes delta budget (stateOf flows₀ prices₀ nets₀))
+    → Allows (take (w .n) (w .streams)) delta left (stateOf flows prices nets)
+    × (improvements left (take (w .n) (w .streams)) delta (stateOf flows prices nets) ≡ improvements budget (take (w .n) (w .streams)) delta (stateOf flows₀ prices₀ nets₀)))
 
 abbrev μ-loop : tie.MeasureT-loop
-μ-loop streams count delta budget from to weight pull next flows₀ prices₀ nets₀ left₀ flows prices nets left = left
+μ-loop lanes delta budget flows₀ prices₀ nets₀ left₀ flows prices nets left = left
 
--- The start, and the arrays of the streams.
-abbrev begin : tie.At-loop Inv-loop μ-loop → tie.Start Inv-loop μ-loop
-begin c = c .before .before .before .before .before .before .before .before .before .before
+-- The start; streams that the lanes are of.
+abbrev begin : tie.In-loop Inv-loop μ-loop → tie.Start Inv-loop μ-loop
+begin c = c .before .before .before .before .before
 
-abbrev lain : tie.At-loop Inv-loop μ-loop → tie.After-lay Inv-loop μ-loop
-lain c = c .before .before .before .before .before .before .before .before .before
+abbrev Of : tie.Start Inv-loop μ-loop → Type 0
+Of st = Improvable (st .args .lanes .now) (st .args .delta) (st .args .budget) (st .args .start)
 
-laid : (c : tie.At-loop Inv-loop μ-loop) → Laid (begin c .args .streams) (begin c .args .count) (lain c .lay .result .from) (lain c .lay .result .to) (lain c .lay .result .weight) (lain c .lay .result .pull) (lain c .lay .result .next)
-laid c = lain c .lay .ensures
-
-lay-requires : tie.Need-lay-requires Inv-loop μ-loop
-lay-requires c κs = c .pre .0 .network
+-- One improvement more can be made.
+abbrev able : (c : tie.In-loop Inv-loop μ-loop) → Of (begin c)
+    → Improvable (begin c .args .lanes .now) (begin c .args .delta) 1 (stateOf (c .before .loop .flows) (c .before .loop .prices) (c .before .loop .nets))
+able c w = record {
+  streams = w .streams;
+  n = w .n;
+  network = w .network;
+  laid = w .laid;
+  step = w .step;
+  allows = allows-less _ _ (c .before .loop .left) 1 _ (omega (arith, c .loop-test .taken)) (c .before .loop .inv .1 w .0);
+}
 
 loop-holds : tie.Need-loop-holds Inv-loop μ-loop
-loop-holds c = let st = c .before .before .before .before .before .before .before .before .before in (omega arith, st .pre .2, refl)
+loop-holds c = (omega arith, λ w. (w .allows, refl))
 
 improve-requires : tie.Need-improve-requires Inv-loop μ-loop
 improve-requires c κs =
-    let at = c .before .before .before .before .before .before .before .before .before in
-    let st = begin at in
-    (st .pre .0, laid at, st .pre .1, allows-less _ _ (at .loop .left) 1 _ (omega arith) (at .loop .inv .1))
+    let on = c .before .before .before in
+    able on (begin on .pre)
 
 returns : tie.Need-returns Inv-loop μ-loop
-returns c =
-    let at = c .before .before .before .before .before .before .before .before .before .before .before in
-    improved-same _ _ _ _ (c .before .improve .ensures) (not-true _ (c .if1 .taken))
-    ∙ steps-end _ _ (at .loop .left) _ _ (c .before .improve .ensures) (not-true _ (c .if1 .taken)) ∙ at .loop .inv .2
+returns c = λ w.
+    let on = c .before .before .before .before .before in
+    let made = c .before .improve .ensures (able on w) in
+    improved-same _ _ _ _ made (not-true _ (c .if1 .taken)) ∙ steps-end _ _ (on .before .loop .left) _ _ made (not-true _ (c .if1 .taken)) ∙ on .before .loop .inv .1 w .1
 
 sub-left : tie.Need-sub-left Inv-loop μ-loop
 sub-left c = search needs
@@ -58,18 +62,20 @@ loop-less c = search needs
 
 loop-again : tie.Need-loop-again Inv-loop μ-loop
 loop-again c =
-    let at = c .before .before .before .before .before .before .before .before .before .before .before in
-    let st = begin at in
+    let on = c .before .before .before .before .before in
+    let at = on .before in
     let d = not-false _ (c .if1 .left) in (
       omega arith,
-      allows-next (st .args .streams) (st .args .count) _ (at .loop .left) _ _ (st .pre .0 .network) (st .pre .1 .0) (omega arith) (at .loop .inv .1) (c .before .improve .ensures) d,
-      steps-next _ _ (at .loop .left) _ _ (omega arith) (c .before .improve .ensures) d ∙ at .loop .inv .2,
+      λ w. (
+        allows-next (w .streams) (w .n) _ (at .loop .left) _ _ (w .network) (w .step .0) (omega (arith, on .loop-test .taken)) (at .loop .inv .1 w .0) (c .before .improve .ensures (able on w)) d,
+        steps-next _ _ (at .loop .left) _ _ (omega (arith, on .loop-test .taken)) (c .before .improve .ensures (able on w)) d ∙ at .loop .inv .1 w .1,
+      ),
     )
 
 returns-2 : tie.Need-returns-2 Inv-loop μ-loop
-returns-2 c =
-    let z : c .before .loop .left ≡ 0 = omega arith in
-    sym (steps-none _ _ _) ∙ (rw z at (c .before .loop .inv .2))
+returns-2 c = λ w.
+    let z : c .before .loop .left ≡ 0 = omega (arith, c .loop-test .left) in
+    sym (steps-none _ _ _) ∙ (rw z at (c .before .loop .inv .1 w .1))
 
 pub improve-all-spec : {M : Type 1} → statement M
 improve-all-spec =
@@ -77,7 +83,6 @@ improve-all-spec =
     (tie.spec
     Inv-loop
     μ-loop
-    lay-requires
     loop-holds
     improve-requires
     returns

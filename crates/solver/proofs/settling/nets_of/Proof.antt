@@ -38,13 +38,13 @@ book-requires c κs =
     let at = c .before .before .before in
     let st = at .before in
     let w = st .pre .0 in (
-      w .placed _ (omega arith),
-      st .pre .1 _ (omega (arith, w .few)),
+      w .within .each _ (omega arith),
+      st .pre .1 _ (omega (arith, w .within .few-streams)),
       rw (at .loop .inv .1)
           (around-more
-          (nets-around (take (st .args .count) (st .args .t1)) (st .args .t3) (at .loop .i) (omega (arith, w .few))
-          (λ k h. rw (stream-is (st .args .t1) (st .args .count) k (omega arith)) (w .placed k (omega arith)))
-          (λ k h. st .pre .1 k (omega (arith, w .few)))) netRoom (omega (arith, w .few))),
+          (nets-around (take (st .args .count) (st .args .t1)) (st .args .t3) (at .loop .i) (omega (arith, w .within .few-streams))
+          (λ k h. rw (stream-is (st .args .t1) (st .args .count) k (omega arith)) (w .within .each k (omega arith) .from-in, w .within .each k (omega arith) .to-in))
+          (λ k h. st .pre .1 k (omega (arith, w .within .few-streams)))) netRoom (omega (arith, w .within .few-streams))),
     )
 
 add-i : tie.Need-add-i Inv-loop μ-loop

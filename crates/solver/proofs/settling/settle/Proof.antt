@@ -12,7 +12,7 @@ settle-flows-requires c κs =
 nets-of-requires : tie.Need-nets-of-requires
 nets-of-requires c κs =
     let st = c .before .before .before .before .before in
-    (st .pre .0 .network, rw (c .settle-flows .ensures) (ready-amounts (st .args .streams) (st .args .count) (st .pre .0) _ (st .pre .1)))
+    (st .pre .0, rw (c .settle-flows .ensures) (ready-amounts (st .args .streams) (st .args .count) (st .pre .0) _ (st .pre .1)))
 
 returns : tie.Need-returns
 returns c =

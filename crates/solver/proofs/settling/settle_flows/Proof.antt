@@ -38,7 +38,7 @@ mul-amount-at c = search needs
 element-copy-out-amount-at : tie.Need-element-copy-out-amount-at Inv-loop μ-loop
 element-copy-out-amount-at c =
     omega
-    (arith, c .before .before .before .before .before .before .pre .0 .layout .network .placed (c .before .before .before .before .before .loop .i) (omega arith) .from-in)
+    (arith, c .before .before .before .before .before .before .pre .0 .network .within .each (c .before .before .before .before .before .loop .i) (omega arith) .from-in)
 
 mul-amount-at-2 : tie.Need-mul-amount-at-2 Inv-loop μ-loop
 mul-amount-at-2 c = search needs
@@ -46,13 +46,13 @@ mul-amount-at-2 c = search needs
 element-copy-out-amount-at-2 : tie.Need-element-copy-out-amount-at-2 Inv-loop μ-loop
 element-copy-out-amount-at-2 c =
     omega
-    (arith, c .before .before .before .before .before .before .before .pre .0 .layout .network .placed (c .before .before .before .before .before .before .loop .i) (omega arith) .to-in)
+    (arith, c .before .before .before .before .before .before .before .pre .0 .network .within .each (c .before .before .before .before .before .before .loop .i) (omega arith) .to-in)
 
 amount-at-requires : tie.Need-amount-at-requires Inv-loop μ-loop
 amount-at-requires c κs =
     let at = c .before .before .before .before .before .before .before in
     let st = at .before in
-    level-at (st .args .t1) (st .args .count) (st .pre .0 .layout) _ (st .pre .0) (at .loop .i) (omega arith) (c .before .before .before .before .if1 .taken)
+    level-at (st .args .t1) (st .args .count) (st .pre .0 .network) _ (st .pre .0) (at .loop .i) (omega arith) (c .before .before .before .before .if1 .taken)
 
 mul-flows : tie.Need-mul-flows Inv-loop μ-loop
 mul-flows c = search needs

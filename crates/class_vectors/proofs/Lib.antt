@@ -1,2 +1,0 @@
--- Arrays of streams within a plant's places.
-pub mod Placing

@@ -1,2 +1,0 @@
--- What the texts of plants hold.
-pub mod Texts

@@ -1,3 +1,0 @@
--- Laws of texts and of limits.
-pub mod Signs
-pub mod Keeping

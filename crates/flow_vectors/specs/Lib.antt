@@ -1,2 +1,0 @@
--- Texts of plants with known flows.
-pub mod Texts

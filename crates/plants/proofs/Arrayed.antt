@@ -1,0 +1,73 @@
+-- Plants in arrays, within their limits: what their lists have, and that a plant that is read is accepted.
+use mathlib.Core.Path.{_≡_, sym, ap, _∙_, subst}
+use mathlib.Core.List.{List}
+use Prim.Native.Nat.{ℕ, _≤_, _<_}
+use native.Mathlib.Omega.{arith}
+use lib.ListN.{length, getD}
+use lib.Seq.{length-take-le, getD-take}
+use Rattle.plants.specs.declared.Stream.{Stream}
+use Rattle.plants.specs.declared.Plant as Arrays
+use Rattle.plants.specs.Limits.{maxUnits, maxStreams}
+use Rattle.plants.specs.Plants.{Plant, noStream}
+use Rattle.plants.specs.Within.{WithinStream, Within, Accepted}
+use Rattle.plants.specs.Files.{got, readPlant}
+use Rattle.plants.specs.Says.{padded, arrayed, plantOf}
+use Rattle.plants.proofs.Limited.{within}
+use Rattle.plants.proofs.Accepted.{accepted}
+use Rattle.plants.proofs.Held.{length-padded, plant-held}
+
+-- A stream of a plant is a stream of a larger one.
+pub within-more : {m n : ℕ} {s : Stream} → m ≤ n → WithinStream m s → WithinStream n s
+within-more l w = record {
+  from-in = omega (arith, w .from-in);
+  to-in = omega (arith, w .to-in);
+  apart = w .apart;
+  weighed = w .weighed;
+  light = w .light;
+  in-range = w .in-range;
+}
+
+module _ (p : Arrays.Plant) (a : Accepted p) where
+  -- The list has as many streams as are counted, each that of the array.
+  pub all-listed : length (plantOf p .streams) ≡ p .count
+  all-listed = length-take-le (p .count) (p .streams) (omega (arith, a .long, a .within .few-streams))
+
+  pub listed-at : (k : ℕ) → k < p .count → getD (plantOf p .streams) k noStream ≡ getD (p .streams) k noStream
+  listed-at k l = getD-take (p .count) (p .streams) k noStream l
+
+  pub within-of : Within (plantOf p)
+  within-of = record {
+    some-units = a .within .some-units;
+    few-units = a .within .few-units;
+    few-streams = omega (arith, all-listed, a .within .few-streams);
+    each = λ k l. let h : k < p .count = omega (arith, all-listed) in rw (listed-at k h) (a .within .each k h);
+  }
+
+  -- Whatever the number of units.
+  pub stream-within : (k : ℕ) → k < p .count → WithinStream maxUnits (getD (p .streams) k noStream)
+  stream-within k l = within-more (a .within .few-units) (a .within .each k l)
+
+-- The array of a plant within its limits.
+pub array-accepted : (q : Plant) → Within q → Accepted (arrayed q)
+array-accepted q w = record {
+  long = length-padded maxStreams (q .streams);
+  within = record {
+    some-units = w .some-units;
+    few-units = w .few-units;
+    few-streams = w .few-streams;
+    each = λ k l. subst (WithinStream (q .units)) (at k l) (w .each k l);
+  };
+}
+  where
+    at : (k : ℕ) → k < length (q .streams) → getD (q .streams) k noStream ≡ getD (padded maxStreams (q .streams)) k noStream
+    at k l =
+        sym (ap (λ (x : Plant). getD (x .streams) k noStream) (plant-held q (w .few-streams)))
+        ∙ getD-take (length (q .streams)) (padded maxStreams (q .streams)) k noStream l
+
+-- A plant that is read is accepted, as the reader hands it over, and stands for the plant of the file.
+module _ (file : List ℕ) (q : Plant) (e : readPlant file ≡ got q) where
+  pub read-accepted : Accepted (arrayed q)
+  read-accepted = array-accepted q (within q (accepted file q e .0))
+
+  pub read-held : plantOf (arrayed q) ≡ q
+  read-held = plant-held q (within q (accepted file q e .0) .few-streams)

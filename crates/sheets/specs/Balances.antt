@@ -1,0 +1,37 @@
+-- The balance of a plant: the class and the number of each stream, cost, degrees and verdict.
+use mathlib.Core.Path.{_≡_}
+use mathlib.Core.List.{List}
+use lib.IntN.{ℤ, pos}
+use Prim.Native.Nat.{ℕ}
+use Rattle.plants.specs.Limits.{maxStreams}
+use Rattle.plants.specs.Plants.{Plant}
+use Rattle.flows.specs.declared.Class.{Class}
+use Rattle.flows.specs.declared.Class.the-variants.{Adjusted, AsRead, Given, Withheld}
+use Rattle.flows.specs.Flows.{cost, Cheapest}
+use Rattle.numbers.specs.Inner.{values}
+use Rattle.flows.specs.Classes.{classOf, numberOf, degrees}
+use Rattle.flows.specs.Test.{verdictAt}
+use Rattle.sheets.specs.declared.Entry.{Entry}
+use Rattle.sheets.specs.declared.Balance.{Balance}
+
+-- A stream's entry: its class and its number; a withheld stream has none, and 0 stands there.
+abbrev pub entryOf : Class → ℤ → Entry
+entryOf Adjusted x = record { class = Adjusted; flow = x }
+entryOf AsRead x = record { class = AsRead; flow = x }
+entryOf Given x = record { class = Given; flow = x }
+entryOf Withheld x = record { class = Withheld; flow = pos 0 }
+
+-- The balance of a plant with a flow. (A record past the last stream is empty, from the outside to itself: it is withheld.)
+unfoldable pub balanceOf : Plant → List ℤ → Balance
+balanceOf p xs =
+    let c = cost (p .streams) xs in
+    record {
+      streams = values maxStreams (λ k. entryOf (classOf p k) (numberOf p xs k));
+      cost = c;
+      degrees = degrees p;
+      verdict = verdictAt (degrees p) c;
+    }
+
+-- What the balance of a plant is: that of its cheapest flow.
+abbrev pub BalanceSays : Plant → Balance → Type 0
+BalanceSays p b = (xs : List ℤ) × Cheapest p xs × (b ≡ balanceOf p xs)

@@ -1,0 +1,102 @@
+-- What a customer reads in the slice that a call leaves behind: sentences about its bytes, over the flows of the plant.
+use mathlib.Core.Path.{_≡_}
+use mathlib.Core.Logic.{_↔_}
+use mathlib.Core.Bool.{true, false}
+use mathlib.Core.List.{List}
+use lib.IntN.{ℤ, pos, _*ℤ_}
+use Prim.Native.Nat.{ℕ, zero, suc, _+_, _*_, _≤_, _<_}
+use lib.Dec.{eqb, ltb}
+use lib.ListN.{length, drop}
+use Rattle.numbers.specs.Choice.{pick, refuseIf, firstOf}
+use Rattle.plants.specs.Limits.{maxUnits}
+use Rattle.plants.specs.Plants.{Plant}
+use Rattle.plants.specs.Files.{bad, got, readPlant}
+use Rattle.flows.specs.Flows.{streamAt, amountAt, balanced, allowed, cost, costOver, Agree, Cheapest, nearest}
+use Rattle.flows.specs.Chains.{everyStream, unmeteredOnly, Chain, OneEach}
+use Rattle.flows.specs.Test.{verdictAt}
+use Rattle.sheets.specs.declared.Sheet.{Sheet}
+use Rattle.sheets.specs.Apart.{adjustedKind, asReadKind, givenKind, withheldKind, totalKind, leastSlice, kindAt, numberAt, sheetNumberIn, costIn, degreesIn, verdictIn, sheetLength}
+
+-- Stream i, from 0, is listed, and metered or not.
+abbrev pub MeteredAt : Plant → ℕ → Type 0
+MeteredAt p i = (i < length (p .streams)) × (streamAt (p .streams) i .metered ≡ true)
+
+abbrev pub UnmeteredAt : Plant → ℕ → Type 0
+UnmeteredAt p i = (i < length (p .streams)) × (streamAt (p .streams) i .metered ≡ false)
+
+-- A chain of unmetered streams joins the ends of stream i.
+abbrev pub EndsJoined : Plant → ℕ → Type 0
+EndsJoined p i = Chain unmeteredOnly (p .streams) (streamAt (p .streams) i .from) (streamAt (p .streams) i .to)
+
+-- Every two balanced flows that agree on all metered streams agree on stream i; some two differ on it.
+abbrev pub Forced : Plant → ℕ → Type 0
+Forced p i = (ys zs : List ℤ) → Agree p ys zs → amountAt ys i ≡ amountAt zs i
+
+abbrev pub Free : Plant → ℕ → Type 0
+Free p i = (ys : List ℤ) × (zs : List ℤ) × Agree p ys zs × (amountAt ys i ≡ amountAt zs i → ⊥)
+
+-- The metered amounts of a flow, its amounts over d, are those on the sheet.
+abbrev pub MetersAs : Plant → List ℕ → ℕ → List ℤ → Type 0
+MetersAs p b d ys = (k : ℕ) → MeteredAt p k → amountAt ys k ≡ pos d *ℤ numberAt b k
+
+-- The summed weights of the A streams among the first k.
+abbrev pub adjustedWeights : Plant → List ℕ → ℕ → ℕ
+adjustedWeights p b zero = 0
+adjustedWeights p b (suc k) = pick (eqb (kindAt b k) adjustedKind) (streamAt (p .streams) k .weight) 0 + adjustedWeights p b k
+
+-- The bytes b, as sheet n of plant p, whose m streams they list.
+pub record Tells (p : Plant) (m n : ℕ) (b : List ℕ) : Type 0 where
+  -- A metered stream is A exactly when no chain of unmetered streams joins its ends, R exactly when one does; R is its reading.
+  pub adjusted : (i : ℕ) → MeteredAt p i → (kindAt b i ≡ adjustedKind) ↔ (EndsJoined p i → ⊥)
+  pub as-read : (i : ℕ) → MeteredAt p i → (kindAt b i ≡ asReadKind) ↔ EndsJoined p i
+  pub reading : (i : ℕ) → MeteredAt p i → kindAt b i ≡ asReadKind → numberAt b i ≡ nearest (streamAt (p .streams) i)
+  -- An unmetered stream has a number, G, exactly when every two flows that agree on the meters agree on it, a blank, W, exactly
+  -- when some two differ.
+  pub given : (i : ℕ) → UnmeteredAt p i → (kindAt b i ≡ givenKind) ↔ Forced p i
+  pub withheld : (i : ℕ) → UnmeteredAt p i → (kindAt b i ≡ withheldKind) ↔ Free p i
+  -- The number of a G stream is its amount in every balanced flow, in fractions too, with the sheet's metered amounts.
+  pub number : (i d : ℕ) (ys : List ℤ) → UnmeteredAt p i → kindAt b i ≡ givenKind → balanced p ys ≡ true → MetersAs p b d ys
+      → amountAt ys i ≡ pos d *ℤ numberAt b i
+  -- There is a cheapest flow; of every one, the metered numbers are its amounts, and the cost is its cost.
+  pub some : (xs : List ℤ) × Cheapest p xs
+  pub metered : (xs : List ℤ) → Cheapest p xs → (i : ℕ) → MeteredAt p i → numberAt b i ≡ amountAt xs i
+  pub costs : (xs : List ℤ) → Cheapest p xs → costIn b m ≡ cost (p .streams) xs
+  -- No flow in fractions undercuts the sheet's cost by more than a quarter of the summed weights of the A streams.
+  pub near : (d : ℕ) (ys : List ℤ) → 1 ≤ d → allowed p ys ≡ true
+      → 4 * (d * d) * costIn b m ≤ 4 * costOver d (p .streams) ys + d * d * adjustedWeights p b m
+  -- Degrees: the number of groups, by chains of unmetered streams, less that of pieces, by chains of any streams.
+  pub groups : (gs : List ℕ) × OneEach unmeteredOnly p gs
+  pub pieces : (cs : List ℕ) × OneEach everyStream p cs
+  pub degrees : (gs cs : List ℕ) → OneEach unmeteredOnly p gs → OneEach everyStream p cs → degreesIn b m + length cs ≡ length gs
+  pub few : degreesIn b m ≤ maxUnits
+  -- The verdict by these degrees and this cost.
+  pub verdict : verdictIn b m ≡ verdictAt (degreesIn b m) (costIn b m)
+  -- The total stands behind the records, with the sheet's number.
+  pub total : kindAt b m ≡ totalKind
+  pub numbered : sheetNumberIn b m ≡ n
+
+-- The last sheet number that there is.
+abbrev pub topSheet : ℕ
+topSheet = 4294967295
+
+-- The refusals of the call itself: a slice under 879 bytes 1, no sheet number left 2.
+abbrev pub callFault : ℕ → List ℕ → ℕ
+callFault last o = firstOf (refuseIf (ltb (length o) leastSlice) 1) (refuseIf (eqb last topSheet) 2)
+
+-- A refusal: its number, nothing written, counter and slice as they were.
+abbrev pub Refused : ℕ → ℕ → List ℕ → List ℕ → Sheet → Type 0
+Refused f last o o′ r = (r ≡ record { number = f; written = 0; last = last }) × (o′ ≡ o)
+
+-- A full sheet of m streams: 0, its length, the counter one higher, which is its number; the slice past it as it was.
+pub record Full (p : Plant) (m last : ℕ) (o o′ : List ℕ) (r : Sheet) : Type 0 where
+  pub result : r ≡ record { number = 0; written = sheetLength o′ m; last = suc last }
+  pub tells : Tells p m (suc last) o′
+  pub past : drop (sheetLength o′ m) o′ ≡ drop (sheetLength o′ m) o
+  pub fits : sheetLength o′ m ≤ length o
+  pub long : length o′ ≡ length o
+
+-- What a call answers: the slice o before it and o′ after it, the counter handed in, and what it hands over.
+pub record Answers (file : List ℕ) (last : ℕ) (o o′ : List ℕ) (r : Sheet) : Type 0 where
+  pub unfit : (callFault last o ≡ 0 → ⊥) → Refused (callFault last o) last o o′ r
+  pub unread : (f : ℕ) → callFault last o ≡ 0 → readPlant file ≡ bad f → (f ≡ 0 → ⊥) × Refused f last o o′ r
+  pub full : (p : Plant) → callFault last o ≡ 0 → readPlant file ≡ got p → Full p (length (p .streams)) last o o′ r

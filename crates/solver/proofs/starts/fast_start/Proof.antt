@@ -1,0 +1,86 @@
+-- `solver::starts::fast_start` meets its contract: the prices are by label, and what is routed leaves the metered amounts settled.
+use mathlib.Core.Path.{subst}
+use mathlib.Core.List.{List}
+use Prim.Native.Nat.{ℕ}
+use native.Mathlib.Omega.{arith}
+use borrow.Author.Needs.{needs}
+use Rattle.plants.specs.Says.{plantOf}
+use Rattle.flows.specs.Chains.{unmeteredOnly}
+use Rattle.flows.specs.Labels.{labelsOf}
+use Rattle.potentials.specs.Levels.{Level}
+use Rattle.paths.specs.Sizes.{priceShift}
+use Rattle.solver.specs.Sizes.{priceBand}
+use Rattle.solver.proofs.Booking.{nets-long}
+use Rattle.solver.proofs.Layouts.{ready-settles}
+use Rattle.solver.proofs.Theorem.{network-of}
+use Rattle.solver.proofs.Spanning.{routes-none, routes-amounts}
+use Rattle.solver.proofs.Factored.{labels-of, level-ready, level-routes, routed-start}
+use Rattle.solver.proofs.starts.fast_start.Statement.{statement}
+use Rattle.solver.proofs.starts.fast_start.Tie as tie
+
+levels : (c : tie.After-potentials-of) → Level (labelsOf unmeteredOnly (plantOf (c .before .args .p))) priceShift priceBand (c .potentials-of .result)
+levels c = subst (λ (ls : List ℕ). Level ls priceShift priceBand (c .potentials-of .result)) (c .before .pre .1) (c .potentials-of .ensures)
+
+potentials-of-requires : tie.Need-potentials-of-requires
+potentials-of-requires c κs = (c .pre .0, rw (c .pre .1) (labels-of (c .args .p) (c .pre .0)), omega arith)
+
+cast-count : tie.Need-cast-count
+cast-count c = search needs
+
+settle-flows-requires : tie.Need-settle-flows-requires
+settle-flows-requires c κs =
+    let at = c .before .before .before .before in
+    let st = at .before in
+    let p = st .args .p in
+    (ready-settles (p .streams) (p .count) (network-of p (st .pre .0)) _ (level-ready p (st .pre .0) (levels at)), routes-none .long)
+
+nets-of-requires : tie.Need-nets-of-requires
+nets-of-requires c κs =
+    let at = c .before .before .before .before .before in
+    let st = at .before in
+    let p = st .args .p in
+    (network-of p (st .pre .0), rw (c .settle-flows .ensures) (routes-amounts (level-routes p (st .pre .0) (levels at))))
+
+forest-requires : tie.Need-forest-requires
+forest-requires c κs =
+    let st = c .before .before .before .before .before .before .before in
+    network-of (st .args .p) (st .pre .0)
+
+route-requires : tie.Need-route-requires
+route-requires c κs =
+    let f = c .before .before in
+    let at = c .before .before .before .before .before .before .before .before .before in
+    let st = at .before in
+    let p = st .args .p in (
+      network-of p (st .pre .0),
+      f .forest .ensures .0,
+      f .forest .ensures .1,
+      rw (f .before .nets-of .ensures) (nets-long _ _ (p .count)),
+      rw (f .before .before .settle-flows .ensures) (level-routes p (st .pre .0) (levels at)),
+    )
+
+nets-of-requires-2 : tie.Need-nets-of-requires-2
+nets-of-requires-2 c κs =
+    let st = c .before .before .before .before .before .before .before .before .before .before .before in
+    (network-of (st .args .p) (st .pre .0), routes-amounts (c .route .ensures .0))
+
+returns : tie.Need-returns
+returns c =
+    let at = c .before .before .before .before .before .before .before .before .before .before .before in
+    let st = at .before in
+    let p = st .args .p in
+    let r = c .before .route in
+    rw (c .nets-of2 .ensures) (routed-start p (st .pre .0) (levels at) (c .before .before .before .before .before .before .settle-flows .ensures) (r .ensures .0) (r .ensures .1))
+
+pub fast-start-spec : {M : Type 1} → statement M
+fast-start-spec =
+    tie.close
+    (tie.spec
+    potentials-of-requires
+    cast-count
+    settle-flows-requires
+    nets-of-requires
+    forest-requires
+    route-requires
+    nets-of-requires-2
+    returns)

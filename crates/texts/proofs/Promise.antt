@@ -1,0 +1,67 @@
+-- The promise of the call that lists a plant, by what was found; and that it leaves no choice.
+use mathlib.Core.Path.{_≡_, refl, sym, ap, _∙_, subst}
+use mathlib.Core.List.{List, _++_}
+use Prim.Native.Nat.{ℕ, _≤_, _<_}
+use native.Mathlib.Omega.{arith}
+use borrow.Author.Tests.{lt-ltb, le-ltb}
+use lib.Dec.{ltb}
+use lib.ListN.{length, drop, length-append}
+use lib.Seq.{length-take-le}
+use Rattle.numbers.specs.Bytes.{over}
+use Rattle.numbers.specs.Inner.{Put}
+use Rattle.numbers.proofs.Tests.{by-cases}
+use Rattle.plants.specs.declared.Read.{Read}
+use Rattle.plants.specs.Plants.{Plant}
+use Rattle.plants.specs.Files.{Got, bad, got, readPlant}
+use Rattle.plants.specs.Says.{plantOf, readOf}
+use Rattle.plants.specs.Within.{Within}
+use Rattle.plants.proofs.Limited.{within}
+use Rattle.plants.proofs.Accepted.{accepted}
+use Rattle.sheets.specs.declared.Balance.{Balance}
+use Rattle.sheets.specs.Balances.{balanceOf, BalanceSays}
+use Rattle.sheets.proofs.Promise.{read-bad, found, plant-count, plant-balance}
+use Rattle.sheets.proofs.Unique.{one-balance}
+use Rattle.texts.specs.Listing.{listingOf, refusalText}
+use Rattle.texts.specs.Says.{leastText, ListWith, ListSays, Counts, One-text}
+
+-- A text lies within its slice.
+pub put-counts : {x o o′ : List ℕ} {r : ℕ} → Put x o o′ r → Counts r o′
+put-counts {x} {o} {o′} {r} p =
+    let s = p .size in
+    let h : r ≤ length o′ = omega (arith, ap length (p .bytes), length-append x (drop (length x) o)) in
+    (h, sym (length-take-le r o′ h))
+
+module _ (file o : List ℕ) where
+  pub too-short : length o < leastText → ListSays file o o 0
+  too-short h = rw (lt-ltb (length o) leastText h) (refl, refl)
+
+  module _ (h : leastText ≤ length o) (o′ : List ℕ) (r : ℕ) where
+    by-file : ListWith (readPlant file) o o′ r → ListSays file o o′ r
+    by-file w = rw (le-ltb (length o) leastText h) w
+
+    pub file-refused : (y : Read) → y ≡ readOf (readPlant file) → (y .number ≡ 0 → ⊥) → Put (refusalText (y .number)) o o′ r → ListSays file o o′ r
+    file-refused y e n p = by-file (rw (read-bad (readPlant file) y e n) p)
+
+    pub plant-listed : (y : Read) (b : Balance) → y ≡ readOf (readPlant file) → y .number ≡ 0 → BalanceSays (plantOf (y .plant)) b
+        → Put (listingOf (y .plant .count) 1 b) o o′ r → ListSays file o o′ r
+    plant-listed y b e n t p =
+        let s = plant-balance file y e n b t in
+        by-file (rw (found file y e n .1) (s .0, s .1, subst (λ (l : List ℕ). Put l o o′ r) (λ i. listingOf (plant-count file y e n i) 1 (s .2 i)) p))
+
+-- Text and length follow from the file and the slice.
+module _ (o o₁ o₂ : List ℕ) (r₁ r₂ : ℕ) where
+  put-one : {x y : List ℕ} → x ≡ y → Put x o o₁ r₁ → Put y o o₂ r₂ → (r₁ ≡ r₂) × (o₁ ≡ o₂)
+  put-one e p q = (p .size ∙ ap length e ∙ sym (q .size), p .bytes ∙ ap (λ (l : List ℕ). over l o) e ∙ sym (q .bytes))
+
+  with-one : (g : Got) → ((p : Plant) → g ≡ got p → Within p) → ListWith g o o₁ r₁ → ListWith g o o₂ r₂ → (r₁ ≡ r₂) × (o₁ ≡ o₂)
+  with-one (bad f) w a b = put-one refl a b
+  with-one (got p) w a b = put-one (ap (listingOf (length (p .streams)) 1) (one-balance p (w p refl) (a .0) (b .0) (a .1) (b .1))) (a .2) (b .2)
+
+pub one-text : One-text
+one-text file o o₁ o₂ r₁ r₂ a b =
+    by-cases (ltb (length o) leastText)
+    (λ t. short (rw t at a) (rw t at b))
+    (λ t. with-one o o₁ o₂ r₁ r₂ (readPlant file) (λ p e. within p (accepted file p e .0)) (rw t at a) (rw t at b))
+  where
+    short : (r₁ ≡ 0) × (o₁ ≡ o) → (r₂ ≡ 0) × (o₂ ≡ o) → (r₁ ≡ r₂) × (o₁ ≡ o₂)
+    short a b = (a .0 ∙ sym (b .0), a .1 ∙ sym (b .1))

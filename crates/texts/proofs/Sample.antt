@@ -1,0 +1,29 @@
+-- The listing of document 01, proved by computing: prices certify the flow.
+use mathlib.Core.Path.{refl}
+use mathlib.Core.List.{List, [], _∷_}
+use mathlib.Core.Bool.{true}
+use lib.IntN.{ℤ, pos, negsuc}
+use Rattle.plants.specs.Plants.{Plant, unmetered}
+use Rattle.flows.proofs.Certified.{certified-cheapest}
+use Rattle.sheets.specs.Balances.{balanceOf}
+use Rattle.texts.specs.Listing.{decimal}
+use Rattle.texts.specs.Sample.{Sample}
+
+plant : Plant
+plant =
+    record {
+      units = 2;
+      streams =
+          record { from = 0; to = 1; metered = true; weight = 10; reading = pos 100 }
+          ∷ unmetered 1 2
+          ∷ unmetered 1 2
+          ∷ record { from = 2; to = 0; metered = true; weight = 10; reading = pos 98 }
+          ∷ [];
+    }
+
+flow : List ℤ
+flow = pos 99 ∷ pos 99 ∷ pos 0 ∷ pos 99 ∷ []
+
+pub sample : Sample
+unfolding plant flow balanceOf decimal
+sample = (plant, flow, refl, certified-cheapest plant flow (pos 0 ∷ negsuc 19 ∷ negsuc 19 ∷ []) [] refl, refl)

@@ -1,0 +1,72 @@
+-- The listing of a balance. Characters stand as their numbers.
+use mathlib.Core.List.{List, [], _∷_, _++_}
+use lib.IntN.{ℤ, pos, negsuc}
+use Prim.Native.Char.{code}
+use Prim.Native.String as String
+use Prim.Native.Nat.{ℕ, zero, suc, _+_, _/_, _%_}
+use lib.Dec.{eqb, ltb}
+use lib.ListN.{take}
+use Rattle.numbers.specs.Choice.{pick}
+use Rattle.flows.specs.declared.Class.{Class}
+use Rattle.flows.specs.declared.Class.the-variants.{Adjusted, AsRead, Given, Withheld}
+use Rattle.sheets.specs.declared.Entry.{Entry}
+use Rattle.sheets.specs.declared.Balance.{Balance}
+
+-- The characters of a text.
+abbrev pub text : String.String → List ℕ
+text String.[] = []
+text (String._∷_ c cs) = code c ∷ text cs
+
+-- The character of a digit.
+abbrev pub digit : ℕ → ℕ
+digit d = code "0" + d
+
+-- A number in decimal, with at most so many digits before its last one: no zero in front, and 0 for nothing.
+abbrev pub digitsOf : ℕ → ℕ → List ℕ
+digitsOf zero n = digit n ∷ []
+digitsOf (suc more) n = pick (ltb n 10) (digit n ∷ []) (digitsOf more (n / 10) ++ (digit (n % 10) ∷ []))
+
+-- A number n in decimal. It has no more than n digits before its last one.
+unfoldable pub decimal : ℕ → List ℕ
+decimal n = digitsOf n n
+
+abbrev pub signedDecimal : ℤ → List ℕ
+signedDecimal (pos n) = decimal n
+signedDecimal (negsuc n) = text "-" ++ decimal (suc n)
+
+-- A number and the blank behind it.
+abbrev pub field : ℕ → List ℕ
+field n = decimal n ++ text " "
+
+-- A stream's class letter and its flow; a dash where it is withheld.
+abbrev pub entryText : Class → ℤ → List ℕ
+entryText Adjusted x = text "A " ++ signedDecimal x
+entryText AsRead x = text "R " ++ signedDecimal x
+entryText Given x = text "G " ++ signedDecimal x
+entryText Withheld x = text "W -"
+
+-- The line of a stream: number, class letter, flow.
+abbrev pub lineOf : ℕ → Entry → List ℕ
+lineOf number e = field number ++ entryText (e .class) (e .flow) ++ text "\n"
+
+-- The lines of streams, the first of which has this number.
+abbrev pub linesFrom : ℕ → List Entry → List ℕ
+linesFrom number [] = []
+linesFrom number (e ∷ es) = lineOf number e ++ linesFrom (suc number) es
+
+-- The word for a verdict: 0, 1, 2.
+abbrev pub wordOf : ℕ → List ℕ
+wordOf v = pick (eqb v 0) (text "pass") (pick (eqb v 1) (text "fail") (text "none"))
+
+-- The line of the total: sheet number, cost, degrees, verdict.
+abbrev pub totalLine : ℕ → ℕ → ℕ → ℕ → List ℕ
+totalLine number cost degrees verdict =
+    text "total " ++ field number ++ field cost ++ field degrees ++ wordOf verdict ++ text "\n"
+
+-- The listing of sheet n of a balance with so many streams: their lines in stream order, then the total's.
+abbrev pub listingOf : ℕ → ℕ → Balance → List ℕ
+listingOf count n b = linesFrom 1 (take count (b .streams)) ++ totalLine n (b .cost) (b .degrees) (b .verdict)
+
+-- A refusal: its number, alone.
+abbrev pub refusalText : ℕ → List ℕ
+refusalText f = text "refused " ++ decimal f ++ text "\n"

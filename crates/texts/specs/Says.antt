@@ -1,0 +1,43 @@
+-- What the call that lists a plant promises.
+use mathlib.Core.Path.{_≡_}
+use mathlib.Core.List.{List}
+use lib.IntN.{ℤ}
+use Prim.Native.Nat.{ℕ, _+_, _*_, _≤_}
+use lib.Dec.{ltb}
+use lib.ListN.{length, take}
+use Rattle.numbers.specs.Inner.{Put, pickT}
+use Rattle.plants.specs.Limits.{maxStreams}
+use Rattle.plants.specs.Plants.{Plant}
+use Rattle.plants.specs.Files.{Got, bad, got, readPlant}
+use Rattle.flows.specs.Flows.{Cheapest}
+use Rattle.sheets.specs.Balances.{balanceOf}
+use Rattle.texts.specs.Listing.{listingOf, refusalText}
+
+-- The longest line of a stream (a number of 2 digits, a flow of 20 characters), and that of the total (10, 20 and 3 digits).
+abbrev pub lineSize : ℕ
+lineSize = 26
+
+abbrev pub totalSize : ℕ
+totalSize = 47
+
+-- The least slice that is taken: as many lines as there may be, and the total's. 2,543 characters.
+abbrev pub leastText : ℕ
+leastText = maxStreams * lineSize + totalSize
+
+-- The text of a refusal, or the listing of sheet 1 of the balance by a cheapest flow; the slice past it as it was.
+abbrev pub ListWith : Got → List ℕ → List ℕ → ℕ → Type 0
+ListWith (bad f) o o′ r = Put (refusalText f) o o′ r
+ListWith (got p) o o′ r = (xs : List ℤ) × Cheapest p xs × Put (listingOf (length (p .streams)) 1 (balanceOf p xs)) o o′ r
+
+-- A slice that is too short: nothing, and the slice as it was.
+abbrev pub ListSays : List ℕ → List ℕ → List ℕ → ℕ → Type 0
+ListSays file o o′ r = pickT (ltb (length o) leastText) ((r ≡ 0) × (o′ ≡ o)) (ListWith (readPlant file) o o′ r)
+
+-- The slice has so many characters at its front, for a caller to take.
+abbrev pub Counts : ℕ → List ℕ → Type 0
+Counts r o = (r ≤ length o) × (r ≡ length (take r o))
+
+-- No choice is left: text and length follow from the file and the slice.
+abbrev pub One-text : Type 0
+One-text =
+    (file o o₁ o₂ : List ℕ) (r₁ r₂ : ℕ) → ListSays file o o₁ r₁ → ListSays file o o₂ r₂ → (r₁ ≡ r₂) × (o₁ ≡ o₂)

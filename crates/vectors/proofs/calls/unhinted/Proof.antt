@@ -1,0 +1,83 @@
+-- The solver is called on a plant that the reader accepted.
+use borrow.Author.Needs.{needs}
+use denote.Ref.{now}
+use Prim.Native.Nat.{_-_}
+use lib.ListN.{length, take, drop}
+use Rattle.plants.proofs.Arrayed.{within-of}
+use Rattle.sheets.proofs.Promise.{plant-accepted}
+use Rattle.solver.proofs.Theorem as Theorem
+use Rattle.vectors.proofs.calls.unhinted.Statement.{statement}
+use Rattle.vectors.proofs.calls.unhinted.Tie as tie
+
+done-requires : tie.Need-done-requires
+done-requires c κs = search needs
+
+returns : tie.Need-returns
+returns c = search needs
+
+done-requires-2 : tie.Need-done-requires-2
+done-requires-2 c κs = search needs
+
+returns-2 : tie.Need-returns-2
+returns-2 c = search needs
+
+sub-read-plant : tie.Need-sub-read-plant
+sub-read-plant c = search needs
+
+part-read-plant-start : tie.Need-part-read-plant-start
+part-read-plant-start c = search needs
+
+part-read-plant-end : tie.Need-part-read-plant-end
+part-read-plant-end c = search needs
+
+read-plant-requires : tie.Need-read-plant-requires
+read-plant-requires c κs = search needs
+
+done-requires-3 : tie.Need-done-requires-3
+done-requires-3 c κs = search needs
+
+returns-3 : tie.Need-returns-3
+returns-3 c = search needs
+
+no-hint-requires : tie.Need-no-hint-requires
+no-hint-requires c κs = search needs
+
+solve-from-requires : tie.Need-solve-from-requires
+solve-from-requires c κs =
+    let given = now (c .before .before .before .before .before .before .before .before .before .args .given) in
+    let read = c .before .before .before .read-plant in
+    let a = plant-accepted (take (length given - 96) (drop 96 given)) (read .result) (read .ensures) (c .before .before .if3 .left) in
+    (a, rw (c .no-hint .ensures) (Theorem.unhinted _ (within-of _ a)))
+
+put-flows-requires : tie.Need-put-flows-requires
+put-flows-requires c κs = search needs
+
+done-requires-4 : tie.Need-done-requires-4
+done-requires-4 c κs = search needs
+
+same-length : tie.Need-same-length
+same-length c = search needs
+
+returns-4 : tie.Need-returns-4
+returns-4 c = search needs
+
+pub unhinted-spec : {M : Type 1} → statement M
+unhinted-spec =
+    tie.close
+    (tie.spec
+    done-requires
+    returns
+    done-requires-2
+    returns-2
+    sub-read-plant
+    part-read-plant-start
+    part-read-plant-end
+    read-plant-requires
+    done-requires-3
+    returns-3
+    no-hint-requires
+    solve-from-requires
+    put-flows-requires
+    done-requires-4
+    same-length
+    returns-4)

@@ -1,0 +1,130 @@
+-- The measure is how many cases there may still be.
+use borrow.Author.Needs.{needs}
+use Prim.Native.Nat.{_≤_, _-_}
+use Rattle.vectors.proofs.try_file.Statement.{statement}
+use Rattle.vectors.proofs.try_file.Tie as tie
+
+abbrev Inv-loop : tie.InvT-loop
+Inv-loop i size file cases₀ right₀ t8 t9 t10 t11 cases right = (right ≤ cases) × (cases ≤ 10000)
+
+abbrev μ-loop : tie.MeasureT-loop
+μ-loop i size file cases₀ right₀ t8 t9 t10 t11 cases right = 10000 - cases
+
+slice-aggregate-arg : tie.Need-slice-aggregate-arg Inv-loop μ-loop
+slice-aggregate-arg c = search needs
+
+arg-requires : tie.Need-arg-requires Inv-loop μ-loop
+arg-requires c κs = search needs
+
+sub-write-all : tie.Need-sub-write-all Inv-loop μ-loop
+sub-write-all c = search needs
+
+part-write-all-start : tie.Need-part-write-all-start Inv-loop μ-loop
+part-write-all-start c = search needs
+
+part-write-all-end : tie.Need-part-write-all-end Inv-loop μ-loop
+part-write-all-end c = search needs
+
+write-all-requires : tie.Need-write-all-requires Inv-loop μ-loop
+write-all-requires c κs = search needs
+
+sub-open-read : tie.Need-sub-open-read Inv-loop μ-loop
+sub-open-read c = search needs
+
+part-open-read-start : tie.Need-part-open-read-start Inv-loop μ-loop
+part-open-read-start c = search needs
+
+part-open-read-end : tie.Need-part-open-read-end Inv-loop μ-loop
+part-open-read-end c = search needs
+
+open-read-requires : tie.Need-open-read-requires Inv-loop μ-loop
+open-read-requires c κs = search needs
+
+loop-holds : tie.Need-loop-holds Inv-loop μ-loop
+loop-holds c = search needs
+
+try-next-requires : tie.Need-try-next-requires Inv-loop μ-loop
+try-next-requires c κs = search needs
+
+add-cases : tie.Need-add-cases Inv-loop μ-loop
+add-cases c = search needs
+
+add-right : tie.Need-add-right Inv-loop μ-loop
+add-right c = search needs
+
+loop-less : tie.Need-loop-less Inv-loop μ-loop
+loop-less c = search needs
+
+loop-again : tie.Need-loop-again Inv-loop μ-loop
+loop-again c = search needs
+
+slice-aggregate-print-count : tie.Need-slice-aggregate-print-count Inv-loop μ-loop
+slice-aggregate-print-count c = search needs
+
+print-count-requires : tie.Need-print-count-requires Inv-loop μ-loop
+print-count-requires c κs = search needs
+
+loop-less-2 : tie.Need-loop-less-2 Inv-loop μ-loop
+loop-less-2 c = search needs
+
+loop-again-2 : tie.Need-loop-again-2 Inv-loop μ-loop
+loop-again-2 c = search needs
+
+close-requires : tie.Need-close-requires Inv-loop μ-loop
+close-requires c κs = search needs
+
+slice-aggregate-print-count-2 : tie.Need-slice-aggregate-print-count-2 Inv-loop μ-loop
+slice-aggregate-print-count-2 c = search needs
+
+print-count-requires-2 : tie.Need-print-count-requires-2 Inv-loop μ-loop
+print-count-requires-2 c κs = search needs
+
+slice-aggregate-print-count-3 : tie.Need-slice-aggregate-print-count-3 Inv-loop μ-loop
+slice-aggregate-print-count-3 c = search needs
+
+print-count-requires-3 : tie.Need-print-count-requires-3 Inv-loop μ-loop
+print-count-requires-3 c κs = search needs
+
+slice-aggregate-write-all : tie.Need-slice-aggregate-write-all Inv-loop μ-loop
+slice-aggregate-write-all c = search needs
+
+write-all-requires-2 : tie.Need-write-all-requires-2 Inv-loop μ-loop
+write-all-requires-2 c κs = search needs
+
+returns : tie.Need-returns Inv-loop μ-loop
+returns c = search needs
+
+pub try-file-spec : {M : Type 1} → statement M
+try-file-spec =
+    tie.close
+    (tie.spec
+    Inv-loop
+    μ-loop
+    slice-aggregate-arg
+    arg-requires
+    sub-write-all
+    part-write-all-start
+    part-write-all-end
+    write-all-requires
+    sub-open-read
+    part-open-read-start
+    part-open-read-end
+    open-read-requires
+    loop-holds
+    try-next-requires
+    add-cases
+    add-right
+    loop-less
+    loop-again
+    slice-aggregate-print-count
+    print-count-requires
+    loop-less-2
+    loop-again-2
+    close-requires
+    slice-aggregate-print-count-2
+    print-count-requires-2
+    slice-aggregate-print-count-3
+    print-count-requires-3
+    slice-aggregate-write-all
+    write-all-requires-2
+    returns)

@@ -1,0 +1,144 @@
+// The calls that cases try, each with its results as those of the sheet call: a number returned, a count and a number handed
+// back, and the bytes of the slice.
+//
+// 1, the sheet call: handed in the last sheet number and the plant file.
+// 2, the plant reader: handed in the plant file; the count is the units, the number how many streams, and the slice, of 864
+//    bytes, gets the 96 streams.
+// 3, the plant writer: handed in the units, how many streams, and 96 streams; no number.
+// 4, the solver without a hint: handed in a byte for each of 96 streams, 0 where its flow is not compared, then the plant file; the
+//    slice, of 768 bytes, gets the flows in two's complement, 8 bytes each, 0 where not compared; no count, no number.
+//
+// A stream is 9 bytes: from, to, metered (0 or 1), weight (2), reading (4, two's complement).
+use paths::sizes::FLOW_SHIFT;
+use plants::Plant;
+use plants::Stream;
+use plants::limits::MAX_STREAMS;
+use sheets::Sheet;
+ghost use mathlib.Core.Path.{_≡_};
+ghost use Prim.Native.Nat.{_≤_};
+ghost use lib.ListN.{length};
+
+// The results but for the slice. NO_CASE is returned for bytes that no case may hand in.
+const NO_CASE: u8 = 255;
+
+fn done(number: u8, count: usize, back: u32) -> Sheet {
+    Sheet {
+        number: number,
+        written: count,
+        last: back,
+    }
+}
+
+fn put_stream(s: Stream, out: &mut [u8])
+    requires { ⌜ 9 ≤ length (now out) ⌝ }
+{
+    numbers::put_u8(s.from, out);
+    numbers::put_u8(s.to, &mut out[1..]);
+    numbers::put_u8(s.metered as u8, &mut out[2..]);
+    numbers::put_u16(s.weight, &mut out[3..]);
+    numbers::put_i32(s.reading, &mut out[5..]);
+}
+
+fn put_streams(streams: [Stream; MAX_STREAMS], out: &mut [u8])
+    requires { ⌜ length (now out) ≡ 864 ⌝ }
+{
+    let mut i: usize = 0;
+    while i < MAX_STREAMS {
+        let s = streams[i];
+        put_stream(s, &mut out[9 * i..]);
+        i += 1;
+    }
+}
+
+fn reader(given: &[u8], out: &mut [u8]) -> Sheet {
+    if out.len() != 864 {
+        return done(NO_CASE, 0, 0);
+    }
+    let read = plants::read_plant(given);
+    let p = read.plant;
+    let streams = p.streams;
+    put_streams(streams, out);
+    done(read.number, p.units as usize, p.count as u32)
+}
+
+fn stream_of(part: &[u8]) -> Stream
+    requires { ⌜ 9 ≤ length (now part) ⌝ }
+{
+    let weight = numbers::get_u16(&part[3..]);
+    let reading = numbers::get_i32(&part[5..]);
+    Stream {
+        from: part[0],
+        to: part[1],
+        metered: part[2] != 0,
+        weight: weight,
+        reading: reading,
+    }
+}
+
+fn plant_of(given: &[u8]) -> Plant
+    requires { ⌜ length (now given) ≡ 866 ⌝ }
+{
+    let first = stream_of(&given[2..]);
+    let mut streams = [first; MAX_STREAMS];
+    let mut i: usize = 0;
+    while i < MAX_STREAMS {
+        let s = stream_of(&given[2 + 9 * i..]);
+        streams[i] = s;
+        i += 1;
+    }
+    Plant {
+        units: given[0],
+        count: given[1],
+        streams: streams,
+    }
+}
+
+fn writer(given: &[u8], out: &mut [u8]) -> Sheet {
+    if given.len() != 866 {
+        return done(NO_CASE, 0, 0);
+    }
+    let d = plants::write_plant(plant_of(given), out);
+    done(d.number, d.written, 0)
+}
+
+fn put_flows(flows: [u64; MAX_STREAMS], asked: &[u8], out: &mut [u8])
+    requires { ⌜ (96 ≤ length (now asked)) × (length (now out) ≡ 768) ⌝ }
+{
+    let mut i: usize = 0;
+    while i < MAX_STREAMS {
+        let held = if asked[i] == 0 { FLOW_SHIFT } else { flows[i] };
+        let flow = std::num::wrapping_sub_u64(held, FLOW_SHIFT);
+        numbers::put_u64(flow, &mut out[8 * i..]);
+        i += 1;
+    }
+}
+
+fn unhinted(given: &[u8], out: &mut [u8]) -> Sheet {
+    if given.len() < MAX_STREAMS {
+        return done(NO_CASE, 0, 0);
+    }
+    if out.len() != 768 {
+        return done(NO_CASE, 0, 0);
+    }
+    let read = plants::read_plant(&given[MAX_STREAMS..]);
+    let number = read.number;
+    if number != 0 {
+        return done(number, 0, 0);
+    }
+    let p = read.plant;
+    let solved = solver::solve_from(p, solver::hints::no_hint());
+    let flows = solved.flows;
+    put_flows(flows, given, out);
+    done(0, 0, 0)
+}
+
+// The call of this kind.
+pub fn call(kind: u8, number: u32, given: &[u8], out: &mut [u8]) -> Sheet {
+    match kind {
+        1 => sheets::balance_plant(given, number, out),
+        2 => reader(given, out),
+        3 => writer(given, out),
+        4 => unhinted(given, out),
+        _ => done(NO_CASE, 0, 0),
+    }
+}

@@ -1,0 +1,85 @@
+"""The form of a case, stated here and in crates/vectors/src/{cases,calls}.rt.
+
+A file has its cases one after the other, with no gap. A case, numbers high byte first:
+
+    0      what is called, one of the four below
+    1      the filling: what each byte of the slice is before the call
+    2-3    how many bytes are handed in
+    4-5    how many bytes of the slice follow; those past them are the filling
+    6-7    length of the slice
+    8-11   the number handed in
+    12     the number returned
+    13     zero
+    14-15  the count handed back
+    16-19  the number handed back
+
+then the bytes handed in, then those of the slice as they must be after the call. For each call:
+
+    1 SHEET     handed in: last sheet number, plant file; back: `written`, last sheet number, the sheet in the slice
+    2 READER    handed in: plant file; back: units, how many streams, the 96 streams in a slice of 864 bytes
+    3 WRITER    handed in: units (1), how many streams (1), 96 streams; back: `written`, the file in the slice
+    4 UNHINTED  handed in: for each of 96 streams 1 where its flow is compared, else 0, then the plant file; back: the 96
+                flows in a slice of 768 bytes, 8 bytes each, two's complement, 0 where not compared
+
+Where a call has no number or count, 0 stands. A stream is 9 bytes: from, to, metered (0 or 1), weight (2), reading (4, two's
+complement).
+"""
+
+from typing import NamedTuple
+
+SHEET, READER, WRITER, UNHINTED = 1, 2, 3, 4
+STREAMS = 96
+HEAD = 20
+ROOM = 2_048  # most bytes handed in, and of a slice
+
+
+class Record(NamedTuple):
+    call: int
+    given: bytes
+    slice_length: int
+    answer: bytes  # the bytes of the slice, as far as they are told
+    filling: int = 0xA5
+    number_in: int = 0
+    returned: int = 0
+    count: int = 0
+    number_back: int = 0
+
+
+def number(value, size):
+    return value.to_bytes(size, "big", signed=value < 0)
+
+
+def stream(source, target, metered, weight, reading):
+    return bytes((source, target, metered)) + number(weight, 2) + number(reading, 4)
+
+
+def encoded(case):
+    """The bytes of a case; the slice's end is left off as far as it is the filling."""
+    if max(len(case.given), case.slice_length) > ROOM or len(case.answer) > case.slice_length:
+        raise ValueError("a case is too long")
+    answer = case.answer.rstrip(bytes((case.filling,)))
+    return b"".join((
+        bytes((case.call, case.filling)),
+        *(number(value, 2) for value in (len(case.given), len(answer), case.slice_length)),
+        number(case.number_in, 4),
+        bytes((case.returned, 0)),
+        number(case.count, 2),
+        number(case.number_back, 4),
+        case.given,
+        answer,
+    ))
+
+
+def decoded(data):
+    """The cases of a file, each with all bytes of its slice that are told."""
+    at = 0
+    while at < len(data):
+        head = data[at : at + HEAD]
+        call, filling, returned, zero = head[0], head[1], head[12], head[13]
+        given, told, room, count = (int.from_bytes(head[k : k + 2], "big") for k in (2, 4, 6, 14))
+        number_in, number_back = (int.from_bytes(head[k : k + 4], "big") for k in (8, 16))
+        middle, end = at + HEAD + given, at + HEAD + given + told
+        if zero or end > len(data) or told > room:
+            raise ValueError("not the form of a case")
+        yield Record(call, data[at + HEAD : middle], room, data[middle:end], filling, number_in, returned, count, number_back)
+        at = end
