@@ -1,17 +1,6 @@
-// Groups, classes, degrees and the test of a plant.
+// Flows of a plant: balance, cost, groups, classes and the test, as definitions with their laws. No function stands here.
 use plants::limits::MAX_STREAMS;
 use plants::limits::PLACES;
-
-mod classes;
-mod groups;
-mod sides;
-mod verdicts;
-
-pub use classes::classes_of;
-pub use classes::degrees_of;
-pub use groups::group;
-pub use sides::cuts_of;
-pub use verdicts::verdict;
 
 // The class of a stream. A (a redundant meter), R (a non-redundant meter), G (observable), W (unobservable).
 pub enum Class {

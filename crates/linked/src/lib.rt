@@ -17,7 +17,7 @@ pub extern "C" fn wengeludo_balance_plant(
 ) -> u8
     ensures { λ r. ⌜ SheetSays (now (file .entry)) (now (last .entry)) (now (sheet .entry)) (now (sheet .exit)) (record { number = r; written = now (written .exit); last = now (last .exit) }) ⌝ }
 {
-    let drawn = sheets::balance_plant(file, *last, sheet);
+    let drawn = sheet_calls::balance_plant(file, *last, sheet);
     *last = drawn.last;
     *written = drawn.written;
     drawn.number
@@ -46,7 +46,7 @@ pub extern "C" fn wengeludo_write_plant(
         count: parts::count_byte(count),
         streams: streams,
     };
-    let done = plants::write_plant(plant, file);
+    let done = plant_writer::write_plant(plant, file);
     *written = done.written;
     done.number
 }

@@ -1,11 +1,7 @@
 // Plant files: a plant's units and streams, read from bytes and written to them.
-pub mod limits;
-mod reading;
-mod streams;
-mod writing;
 
-pub use reading::read_plant;
-pub use writing::write_plant;
+pub mod limits;
+pub mod streams;
 
 // A stream from one place to another: metered, with its weight and its reading, or unmetered, with both 0.
 pub struct Stream {

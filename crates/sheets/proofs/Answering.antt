@@ -20,15 +20,15 @@ use Rattle.plants.proofs.Arrayed.{within-of, read-accepted, read-held}
 use Rattle.plants.proofs.Back.{round-trip}
 use Rattle.flows.specs.Flows.{amountAt, Cheapest}
 use Rattle.flows.proofs.Integers.{size-val, parts}
-use Rattle.solver.proofs.Demand.{demand-3}
-use Rattle.paths.specs.Held.{unshifted}
-use Rattle.paths.proofs.Amounts.{unshifted-val, opened-at}
-use Rattle.solver.specs.declared.Solved.{Solved}
-use Rattle.solver.specs.Sizes.{settledRoom}
-use Rattle.solver.specs.Model.{noHint, settled, solvedFrom}
-use Rattle.solver.specs.Premises.{Close}
-use Rattle.solver.specs.Promise.{flowOf, Right}
-use Rattle.solver.proofs.Theorem.{from-none, solved-right}
+use Rattle.model.proofs.Demand.{demand-3}
+use Rattle.model.specs.Held.{unshifted}
+use Rattle.model.proofs.Amounts.{unshifted-val, opened-at}
+use Rattle.model.specs.declared.Solved.{Solved}
+use Rattle.model.specs.Sizes.{settledRoom}
+use Rattle.model.specs.Model.{noHint, settled, solvedFrom}
+use Rattle.model.specs.SolverNeeds.{Close}
+use Rattle.model.specs.Promise.{flowOf, Right}
+use Rattle.model.proofs.Theorem.{from-none, solved-right}
 use Rattle.sheets.specs.declared.Sheet.{Sheet}
 use Rattle.sheets.specs.Sentences.{topSheet, callFault, Full, Answers}
 use Rattle.sheets.specs.Sheets.{sheetOf}

@@ -30,7 +30,7 @@ use Rattle.numbers.specs.Inner.{values}
 use Rattle.flows.proofs.Integers.{same, up-times, dn-times, size-val, minus-val, parts}
 use Rattle.flows.proofs.Sums.{sum-none}
 use Rattle.flows.proofs.Nets.{brought, listed, listed-balanced}
-use Rattle.paths.proofs.Weights.{wide}
+use Rattle.model.proofs.Weights.{wide}
 use Rattle.sheets.specs.Calls.{streamCost, mostCost, CostFits, CostsFit}
 
 -- A number of a size far below 2^63 fits.

@@ -26,9 +26,9 @@ use Rattle.flows.specs.Calls.{classesOf}
 use Rattle.flows.proofs.Lists.{values-same, values-long, values-at, Written, written-all}
 use Rattle.flows.proofs.Given.{number-is}
 use Rattle.flows.proofs.ByLabels.{class-past}
-use Rattle.paths.specs.Held.{unshifted, opened}
-use Rattle.solver.specs.declared.Solved.{Solved}
-use Rattle.solver.specs.Promise.{Right}
+use Rattle.model.specs.Held.{unshifted, opened}
+use Rattle.model.specs.declared.Solved.{Solved}
+use Rattle.model.specs.Promise.{Right}
 use Rattle.sheets.specs.declared.Entry.{Entry}
 use Rattle.sheets.specs.Balances.{entryOf, balanceOf, BalanceSays}
 use Rattle.sheets.specs.Calls.{entriesOf, CostsFit}

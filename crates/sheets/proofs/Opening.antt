@@ -13,12 +13,12 @@ use Rattle.plants.specs.declared.Plant as Arrays
 use Rattle.plants.specs.Limits.{maxStreams}
 use Rattle.flows.proofs.Integers.{up, dn}
 use Rattle.flows.proofs.Lists.{map-at, Written, written-all}
-use Rattle.paths.specs.Sizes.{flowShift, mostFlow}
-use Rattle.paths.specs.Held.{unshifted, opened}
-use Rattle.paths.proofs.Amounts.{unshifted-val}
-use Rattle.solver.specs.declared.Solved.{Solved}
-use Rattle.solver.specs.Premises.{Amounts}
-use Rattle.solver.specs.Promise.{Right}
+use Rattle.model.specs.Sizes.{flowShift, mostFlow}
+use Rattle.model.specs.Held.{unshifted, opened}
+use Rattle.model.proofs.Amounts.{unshifted-val}
+use Rattle.model.specs.declared.Solved.{Solved}
+use Rattle.model.specs.SolverNeeds.{Amounts}
+use Rattle.model.specs.Promise.{Right}
 
 -- A held amount, the shift taken away, fits.
 pub opened-here : (x : ℕ) → x ≤ mostFlow → toZ w64 x -ℤ toZ w64 flowShift ≡ unshifted x

@@ -1,5 +1,4 @@
 -- Balances and sheets: a sheet taken apart, the sentences about its bytes and the demands; the bytes of a sheet, what the sheet
--- call ensures, and what a balance's parts require.
 pub mod Apart
 pub mod Sentences
 pub mod Balances

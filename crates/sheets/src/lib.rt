@@ -1,12 +1,8 @@
-// The sheet call: from a plant file to its balance sheet.
-pub mod balances;
-mod calls;
-pub mod kinds;
-mod records;
-
-pub use calls::balance_plant;
+// Sheets: the balance of a plant, its bytes and what the sheet call promises, as definitions with their laws. No function stands here.
 use flows::Class;
 use plants::limits::MAX_STREAMS;
+
+pub mod kinds;
 
 // A stream on a balance: its class and its flow, 0 where it is withheld.
 pub struct Entry {

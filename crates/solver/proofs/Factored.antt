@@ -14,17 +14,17 @@ use Rattle.plants.proofs.Arrayed.{all-listed, listed-at, within-of}
 use Rattle.flows.specs.Chains.{unmeteredOnly}
 use Rattle.flows.specs.Labels.{labelsOf}
 use Rattle.potentials.specs.Levels.{Labels, Level}
-use Rattle.paths.specs.Sizes.{flowShift, priceShift}
-use Rattle.solver.specs.declared.Hint.{Hint}
-use Rattle.solver.specs.Sizes.{priceBand, hintFloor, hintRoom}
-use Rattle.solver.specs.Model.{settledTo, netsTo, stateOf}
-use Rattle.solver.specs.Premises.{Close, Hinted, Ready, AtHint}
+use Rattle.model.specs.Sizes.{flowShift, priceShift}
+use Rattle.model.specs.declared.Hint.{Hint}
+use Rattle.model.specs.Sizes.{priceBand, hintFloor, hintRoom}
+use Rattle.model.specs.Model.{settledTo, netsTo, stateOf}
+use Rattle.model.specs.SolverNeeds.{Close, Hinted, Ready, AtHint}
 use Rattle.solver.specs.Forests.{Routes, Kept}
 use Rattle.flows.proofs.Nets.{inside-of}
 use Rattle.flows.proofs.Labels.{label-long, label-low, label-level}
-use Rattle.solver.proofs.Nearest.{settled-long, settled-at, settled-again, settled-sound}
-use Rattle.solver.proofs.Layouts.{hinted-ready, settled-is}
-use Rattle.solver.proofs.Theorem.{network-of, solvable-in}
+use Rattle.model.proofs.Nearest.{settled-long, settled-at, settled-again, settled-sound}
+use Rattle.model.proofs.Layouts.{hinted-ready, settled-is}
+use Rattle.model.proofs.Theorem.{network-of, solvable-in}
 use Rattle.solver.proofs.Spanning.{routes-none}
 
 module _ (p : Arrays.Plant) (a : Accepted p) where

@@ -11,14 +11,14 @@ use Rattle.plants.specs.declared.Stream.{Stream}
 use Rattle.numbers.proofs.Tests.{clash}
 use Rattle.plants.specs.Limits.{places, maxUnits, maxStreams}
 use Rattle.plants.specs.Plants.{noStream}
-use Rattle.paths.specs.Sizes.{flowShift}
+use Rattle.model.specs.Sizes.{flowShift}
 use Rattle.solver.specs.declared.Forest.{Forest}
-use Rattle.solver.specs.Sizes.{hintRoom}
-use Rattle.solver.specs.Premises.{Close, Amounts}
+use Rattle.model.specs.Sizes.{hintRoom}
+use Rattle.model.specs.SolverNeeds.{Close, Amounts}
 use Rattle.solver.specs.Forests.{Spanning, Unmetered, Listed, Routes, Kept}
 use Rattle.flows.proofs.Lists.{set-each}
-use Rattle.paths.specs.Counts.{countTo}
-use Rattle.paths.proofs.Counting.{count-most, count-more}
+use Rattle.model.specs.Counts.{countTo}
+use Rattle.model.proofs.Counting.{count-most, count-more}
 
 pub spanning-short : {f : Forest} → Spanning f → f .len ≤ places
 spanning-short {f} s = omega (arith, s .few, count-most maxUnits (λ u. getD (f .reached) u false))

@@ -8,9 +8,9 @@ use Rattle.plants.specs.declared.Stream.{Stream}
 use Rattle.plants.specs.Limits.{places, maxUnits, maxStreams}
 use Rattle.plants.specs.Plants.{noStream}
 use Rattle.solver.specs.declared.Forest.{Forest}
-use Rattle.solver.specs.Sizes.{hintRoom}
-use Rattle.solver.specs.Premises.{Close}
-use Rattle.paths.specs.Counts.{countTo}
+use Rattle.model.specs.Sizes.{hintRoom}
+use Rattle.model.specs.SolverNeeds.{Close}
+use Rattle.model.specs.Counts.{countTo}
 
 -- A forest with as many places reached, at least, as it has streams.
 pub record Spanning (f : Forest) : Type 0 where

@@ -1,8 +1,8 @@
 // A spanning forest of the unmetered streams, from the places that are labels, and amounts routed along it.
 use crate::Forest;
-use crate::sizes::HINT_ROOM;
-use paths::sizes::FLOW_SHIFT;
-use paths::sizes::NET_SHIFT;
+use model::sizes::FLOW_SHIFT;
+use model::sizes::HINT_ROOM;
+use model::sizes::NET_SHIFT;
 use plants::Stream;
 use plants::limits::MAX_STREAMS;
 use plants::limits::PLACES;
@@ -16,9 +16,9 @@ ghost use Rattle.plants.specs.declared.Stream.{Stream};
 ghost use Rattle.plants.specs.Limits.{maxUnits, places};
 ghost use Rattle.plants.specs.Within.{WithinStream};
 ghost use Rattle.plants.specs.Plants.{noStream};
-ghost use Rattle.paths.specs.Premises.{Network};
-ghost use Rattle.solver.specs.Sizes.{hintRoom};
-ghost use Rattle.solver.specs.Premises.{Close};
+ghost use Rattle.model.specs.SearchNeeds.{Network};
+ghost use Rattle.model.specs.Sizes.{hintRoom};
+ghost use Rattle.model.specs.SolverNeeds.{Close};
 ghost use Rattle.solver.specs.Forests.{Spanning, Unmetered, Listed, Routes, Kept};
 
 // The labels, and no stream yet.

@@ -1,54 +1,23 @@
 // The cheapest balanced flow of a plant, with prices that certify it.
-use finishing::finish;
-use paths::lanes::lay;
+use improving::finishing::finish;
+use improving::settling::settle;
+use improving::ties::tie_all;
+use lanes::lay;
+use model::Hint;
+use model::Solved;
+use model::State;
 use plants::Plant;
 use plants::limits::MAX_STREAMS;
 use plants::limits::PLACES;
-use settling::settle;
 use starts::start;
-use ties::tie_all;
 ghost use Rattle.plants.specs.Within.{Accepted};
 ghost use Rattle.plants.specs.Says.{plantOf};
 ghost use Rattle.flows.specs.Calls.{Grouped};
-ghost use Rattle.solver.specs.Premises.{Hinted, AtHint};
-ghost use Rattle.solver.specs.Promise.{Right};
+ghost use Rattle.model.specs.SolverNeeds.{Hinted, AtHint};
+ghost use Rattle.model.specs.Promise.{Right};
 
-mod finishing;
-mod forests;
-pub mod hints;
-mod improving;
-mod settling;
-pub mod sizes;
-mod starts;
-mod ties;
-
-// Prices to begin with, and amounts for the unmetered streams; held shifted, as below.
-pub struct Hint {
-    pub flows: [u64; MAX_STREAMS],
-    pub prices: [u64; PLACES],
-}
-
-// A spanning forest of unmetered streams. Which places it reaches; and in the order in which they were reached, the stream that
-// leads to each, and whether it leads into it.
-pub struct Forest {
-    pub reached: [bool; PLACES],
-    pub via: [u8; PLACES],
-    pub into: [bool; PLACES],
-    pub len: usize,
-}
-
-// The amount of each stream, and the price and the net of each place.
-pub struct State {
-    pub flows: [u64; MAX_STREAMS],
-    pub prices: [u64; PLACES],
-    pub nets: [u64; PLACES],
-}
-
-// The flow and the prices that certify it.
-pub struct Solved {
-    pub flows: [u64; MAX_STREAMS],
-    pub prices: [u64; PLACES],
-}
+pub mod forests;
+pub mod starts;
 
 // The cheapest balanced flow of a plant, from amounts settled at a hint.
 fn solve_at(p: Plant, start: State) -> Solved
@@ -83,4 +52,13 @@ pub fn solve(p: Plant, labels: [u8; PLACES]) -> Solved
     ensures { λ r. ⌜ Right p r ⌝ }
 {
     solve_at(p, start(p, labels))
+}
+
+// A spanning forest of unmetered streams. Which places it reaches; and in the order in which they were reached, the stream that
+// leads to each, and whether it leads into it.
+pub struct Forest {
+    pub reached: [bool; PLACES],
+    pub via: [u8; PLACES],
+    pub into: [bool; PLACES],
+    pub len: usize,
 }

@@ -1,17 +1,17 @@
 // The start by factorisation: metered amounts settled at prices at which the real-number optimum balances, and unmetered amounts
 // routed along a spanning forest.
-use crate::State;
 use crate::forests::forest;
 use crate::forests::route;
-use crate::hints::hint_by_steps;
-use crate::settling::nets_of;
-use crate::settling::over_sum;
-use crate::settling::settle;
-use crate::settling::settle_flows;
-use crate::sizes::FAST_LEFTOVER;
-use crate::sizes::PRICE_BAND;
-use crate::sizes::PRICE_SHIFT;
-use paths::sizes::FLOW_SHIFT;
+use improving::hints::hint_by_steps;
+use improving::settling::nets_of;
+use improving::settling::over_sum;
+use improving::settling::settle;
+use improving::settling::settle_flows;
+use model::State;
+use model::sizes::FAST_LEFTOVER;
+use model::sizes::FLOW_SHIFT;
+use model::sizes::PRICE_BAND;
+use model::sizes::PRICE_SHIFT;
 use plants::Plant;
 use plants::limits::MAX_STREAMS;
 use plants::limits::PLACES;
@@ -19,7 +19,7 @@ use potentials::potentials_of;
 ghost use Rattle.plants.specs.Within.{Accepted};
 ghost use Rattle.plants.specs.Says.{plantOf};
 ghost use Rattle.flows.specs.Calls.{Grouped};
-ghost use Rattle.solver.specs.Premises.{AtHint};
+ghost use Rattle.model.specs.SolverNeeds.{AtHint};
 
 // Prices from the labels by the unmetered streams, and amounts at these. Routing leaves metered amounts as they are.
 pub fn fast_start(p: Plant, labels: [u8; PLACES]) -> State

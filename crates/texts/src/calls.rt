@@ -1,8 +1,8 @@
 // The listing of a plant file.
 use crate::lines::put_listing;
 use crate::lines::put_refusal;
+use balances::balance_of;
 use plants::limits::MAX_STREAMS;
-use sheets::balances::balance_of;
 ghost use Rattle.texts.specs.Says.{ListSays, Counts};
 
 // The longest line of a stream, and that of the total.
@@ -21,7 +21,7 @@ pub fn list_plant(file: &[u8], text: &mut [u8]) -> usize
     if text.len() < LEAST_TEXT {
         return 0;
     }
-    let read = plants::read_plant(file);
+    let read = plant_reader::read_plant(file);
     let number = read.number;
     if number != 0 {
         return put_refusal(number, text);

@@ -1,5 +1,5 @@
 // Text put into a slice at a place. Each function answers the place behind its text.
-use sheets::balances::size_of;
+use balances::size_of;
 ghost use Prim.Native.Nat.{_+_, _≤_};
 ghost use mathlib.Core.List.{[], _∷_};
 ghost use lib.ListN.{length};

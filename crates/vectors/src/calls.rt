@@ -9,7 +9,7 @@
 //    slice, of 768 bytes, gets the flows in two's complement, 8 bytes each, 0 where not compared; no count, no number.
 //
 // A stream is 9 bytes: from, to, metered (0 or 1), weight (2), reading (4, two's complement).
-use paths::sizes::FLOW_SHIFT;
+use model::sizes::FLOW_SHIFT;
 use plants::Plant;
 use plants::Stream;
 use plants::limits::MAX_STREAMS;
@@ -54,7 +54,7 @@ fn reader(given: &[u8], out: &mut [u8]) -> Sheet {
     if out.len() != 864 {
         return done(NO_CASE, 0, 0);
     }
-    let read = plants::read_plant(given);
+    let read = plant_reader::read_plant(given);
     let p = read.plant;
     let streams = p.streams;
     put_streams(streams, out);
@@ -97,7 +97,7 @@ fn writer(given: &[u8], out: &mut [u8]) -> Sheet {
     if given.len() != 866 {
         return done(NO_CASE, 0, 0);
     }
-    let d = plants::write_plant(plant_of(given), out);
+    let d = plant_writer::write_plant(plant_of(given), out);
     done(d.number, d.written, 0)
 }
 
@@ -120,13 +120,13 @@ fn unhinted(given: &[u8], out: &mut [u8]) -> Sheet {
     if out.len() != 768 {
         return done(NO_CASE, 0, 0);
     }
-    let read = plants::read_plant(&given[MAX_STREAMS..]);
+    let read = plant_reader::read_plant(&given[MAX_STREAMS..]);
     let number = read.number;
     if number != 0 {
         return done(number, 0, 0);
     }
     let p = read.plant;
-    let solved = solver::solve_from(p, solver::hints::no_hint());
+    let solved = solver::solve_from(p, improving::hints::no_hint());
     let flows = solved.flows;
     put_flows(flows, given, out);
     done(0, 0, 0)
@@ -135,7 +135,7 @@ fn unhinted(given: &[u8], out: &mut [u8]) -> Sheet {
 // The call of this kind.
 pub fn call(kind: u8, number: u32, given: &[u8], out: &mut [u8]) -> Sheet {
     match kind {
-        1 => sheets::balance_plant(given, number, out),
+        1 => sheet_calls::balance_plant(given, number, out),
         2 => reader(given, out),
         3 => writer(given, out),
         4 => unhinted(given, out),

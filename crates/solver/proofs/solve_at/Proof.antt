@@ -3,12 +3,12 @@ use mathlib.Core.Path.{sym, ap, _∙_, subst}
 use borrow.Author.Needs.{needs}
 use Rattle.plants.specs.Says.{plantOf}
 use Rattle.plants.proofs.Arrayed.{within-of}
-use Rattle.solver.specs.declared.State.{State}
-use Rattle.solver.specs.Model.{tiesTo}
-use Rattle.solver.specs.Premises.{Tieable}
-use Rattle.solver.specs.Promise.{Right}
-use Rattle.solver.proofs.Ending.{finished-even, finished-prices}
-use Rattle.solver.proofs.Theorem.{network-of, solvable-in, solved-right, solved-is}
+use Rattle.model.specs.declared.State.{State}
+use Rattle.model.specs.Model.{tiesTo}
+use Rattle.model.specs.SolverNeeds.{Tieable}
+use Rattle.model.specs.Promise.{Right}
+use Rattle.model.proofs.Ending.{finished-even, finished-prices}
+use Rattle.model.proofs.Theorem.{network-of, solvable-in, solved-right, solved-is}
 use Rattle.solver.proofs.solve_at.Statement.{statement}
 use Rattle.solver.proofs.solve_at.Tie as tie
 

@@ -1,7 +1,7 @@
 -- `solver::solve_from` meets its contract: amounts are settled at the hint.
 use borrow.Author.Needs.{needs}
-use Rattle.solver.proofs.Layouts.{hinted-ready}
-use Rattle.solver.proofs.Theorem.{network-of}
+use Rattle.model.proofs.Layouts.{hinted-ready}
+use Rattle.model.proofs.Theorem.{network-of}
 use Rattle.solver.proofs.solve_from.Statement.{statement}
 use Rattle.solver.proofs.solve_from.Tie as tie
 

@@ -8,11 +8,11 @@ use Rattle.plants.specs.Says.{plantOf}
 use Rattle.flows.specs.Chains.{unmeteredOnly}
 use Rattle.flows.specs.Labels.{labelsOf}
 use Rattle.potentials.specs.Levels.{Level}
-use Rattle.paths.specs.Sizes.{priceShift}
-use Rattle.solver.specs.Sizes.{priceBand}
-use Rattle.solver.proofs.Booking.{nets-long}
-use Rattle.solver.proofs.Layouts.{ready-settles}
-use Rattle.solver.proofs.Theorem.{network-of}
+use Rattle.model.specs.Sizes.{priceShift}
+use Rattle.model.specs.Sizes.{priceBand}
+use Rattle.model.proofs.Booking.{nets-long}
+use Rattle.model.proofs.Layouts.{ready-settles}
+use Rattle.model.proofs.Theorem.{network-of}
 use Rattle.solver.proofs.Spanning.{routes-none, routes-amounts}
 use Rattle.solver.proofs.Factored.{labels-of, level-ready, level-routes, routed-start}
 use Rattle.solver.proofs.starts.fast_start.Statement.{statement}

@@ -1,7 +1,7 @@
 -- `solver::starts::start` meets its contract: both states are settled at a hint.
 use borrow.Author.Needs.{needs}
-use Rattle.solver.proofs.Layouts.{hinted-ready, at-hint-around}
-use Rattle.solver.proofs.Theorem.{network-of}
+use Rattle.model.proofs.Layouts.{hinted-ready, at-hint-around}
+use Rattle.model.proofs.Theorem.{network-of}
 use Rattle.solver.proofs.starts.start.Statement.{statement}
 use Rattle.solver.proofs.starts.start.Tie as tie
 

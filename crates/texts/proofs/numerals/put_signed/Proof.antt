@@ -12,7 +12,7 @@ use Rattle.texts.proofs.numerals.put_signed.Statement.{statement}
 use Rattle.texts.proofs.numerals.put_signed.Tie as tie
 use Rattle.texts.proofs.numerals.put_signed.Reads as reads
 use Rattle.texts.proofs.numerals.put_signed.Lts as lts
-use Rattle.sheets.proofs.balances.size_of.Reads as size-of-reads
+use Rattle.balances.proofs.size_of.Reads as size-of-reads
 use Rattle.texts.proofs.numerals.put_byte.Reads as put-byte-reads
 use Rattle.texts.proofs.numerals.put_decimal.Reads as put-decimal-reads
 

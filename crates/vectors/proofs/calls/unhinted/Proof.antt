@@ -5,7 +5,7 @@ use Prim.Native.Nat.{_-_}
 use lib.ListN.{length, take, drop}
 use Rattle.plants.proofs.Arrayed.{within-of}
 use Rattle.sheets.proofs.Promise.{plant-accepted}
-use Rattle.solver.proofs.Theorem as Theorem
+use Rattle.model.proofs.Theorem as Theorem
 use Rattle.vectors.proofs.calls.unhinted.Statement.{statement}
 use Rattle.vectors.proofs.calls.unhinted.Tie as tie
 

@@ -1,0 +1,150 @@
+// The balance of a plant: the class and the flow of each stream, the cost, degrees and verdict. Nothing is written.
+use flows::Class;
+use model::sizes::FLOW_SHIFT;
+use plants::Plant;
+use plants::Stream;
+use plants::limits::MAX_STREAMS;
+use sheets::Balance;
+use sheets::Entry;
+ghost use mathlib.Core.Path.{_≡_};
+ghost use mathlib.Core.List.{map};
+ghost use lib.IntN.{natAbs};
+ghost use Prim.Native.Nat.{_≤_};
+ghost use lib.ListN.{take};
+ghost use Rattle.plants.specs.Limits.{maxUnits};
+ghost use Rattle.plants.specs.Within.{WithinStream, Accepted};
+ghost use Rattle.plants.specs.Says.{plantOf};
+ghost use Rattle.flows.specs.Flows.{cost};
+ghost use Rattle.model.specs.Sizes.{mostFlow};
+ghost use Rattle.model.specs.Held.{unshifted};
+ghost use Rattle.model.specs.SolverNeeds.{Amounts};
+ghost use Rattle.sheets.specs.Balances.{entryOf, BalanceSays};
+ghost use Rattle.sheets.specs.Calls.{streamCost, CostFits, CostsFit, entriesOf};
+
+// The flow that the solver holds as x.
+fn opened_flow(x: u64) -> i64
+    requires { ⌜ x ≤ mostFlow ⌝ }
+    ensures { λ r. ⌜ r ≡ unshifted x ⌝ }
+{
+    x as i64 - FLOW_SHIFT as i64
+}
+
+// All flows that the solver holds.
+fn opened_flows(held: [u64; MAX_STREAMS]) -> [i64; MAX_STREAMS]
+    requires { ⌜ Amounts held ⌝ }
+    ensures { λ r. ⌜ r ≡ map unshifted held ⌝ }
+{
+    let mut flows = [0i64; MAX_STREAMS];
+    let mut i: usize = 0;
+    while i < MAX_STREAMS {
+        let x = opened_flow(held[i]);
+        flows[i] = x;
+        i += 1;
+    }
+    flows
+}
+
+// A stream's entry: a withheld one has no flow.
+fn entry_of(class: Class, flow: i64) -> Entry
+    ensures { λ r. ⌜ r ≡ entryOf class flow ⌝ }
+{
+    match class {
+        Class::Adjusted => Entry {
+            class: Class::Adjusted,
+            flow: flow,
+        },
+        Class::AsRead => Entry {
+            class: Class::AsRead,
+            flow: flow,
+        },
+        Class::Given => Entry {
+            class: Class::Given,
+            flow: flow,
+        },
+        Class::Withheld => Entry {
+            class: Class::Withheld,
+            flow: 0,
+        },
+    }
+}
+
+// The entries of all streams; past the last one, where the class is Withheld, empty ones.
+fn entries_of(classes: [Class; MAX_STREAMS], flows: [i64; MAX_STREAMS]) -> [Entry; MAX_STREAMS]
+    ensures { λ r. ⌜ r ≡ entriesOf classes flows ⌝ }
+{
+    let none = Entry {
+        class: Class::Withheld,
+        flow: 0,
+    };
+    let mut streams = [none; MAX_STREAMS];
+    let mut i: usize = 0;
+    while i < MAX_STREAMS {
+        let c = classes[i];
+        let e = entry_of(c, flows[i]);
+        streams[i] = e;
+        i += 1;
+    }
+    streams
+}
+
+// The size of a signed number.
+pub fn size_of(z: i64) -> u64
+    ensures { λ r. ⌜ r ≡ natAbs z ⌝ }
+{
+    if 0 <= z {
+        return z as u64;
+    }
+    let below = (-1 - z) as u64;
+    below + 1
+}
+
+// What a stream costs: weight times correction squared where it is metered.
+fn stream_cost(s: Stream, flow: i64) -> u64
+    requires { ⌜ WithinStream maxUnits s × CostFits s flow ⌝ }
+    ensures { λ r. ⌜ r ≡ streamCost s flow ⌝ }
+{
+    if !s.metered {
+        return 0;
+    }
+    let d = size_of(flow - s.reading as i64);
+    s.weight as u64 * (d * d)
+}
+
+// The cost of a flow: the sum over the streams.
+fn cost_of(p: Plant, flows: [i64; MAX_STREAMS]) -> u64
+    requires { ⌜ Accepted p × CostsFit p flows ⌝ }
+    ensures { λ r. ⌜ r ≡ cost (plantOf p .streams) (take (p .count) flows) ⌝ }
+{
+    let n = p.count as usize;
+    let mut sum: u64 = 0;
+    let mut i: usize = 0;
+    while i < n {
+        let s = p.streams[i];
+        sum += stream_cost(s, flows[i]);
+        i += 1;
+    }
+    sum
+}
+
+// The balance of a plant, by its cheapest flow. The plant as read stands unchanged beside the corrected flows.
+pub fn balance_of(p: Plant) -> Balance
+    requires { ⌜ Accepted p ⌝ }
+    ensures { λ r. ⌜ BalanceSays (plantOf p) r ⌝ }
+{
+    let cuts = classes::sides::cuts_of(p);
+    let classes = classes::classes_of(p, cuts);
+    let labels = cuts.labels;
+    let solved = solver::solve(p, labels);
+    let held = solved.flows;
+    let corrected = opened_flows(held);
+    let cost = cost_of(p, corrected);
+    let degrees = classes::degrees_of(p, labels);
+    let verdict = classes::verdicts::verdict(degrees, cost);
+    let streams = entries_of(classes, corrected);
+    Balance {
+        streams: streams,
+        cost: cost,
+        degrees: degrees,
+        verdict: verdict,
+    }
+}

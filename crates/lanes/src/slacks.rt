@@ -1,0 +1,62 @@
+// Weights and readings as the search holds them, and the slack of a stream.
+use model::sizes::FLOW_SHIFT;
+use plants::Stream;
+ghost use mathlib.Core.Path.{_≡_};
+ghost use Prim.Native.Nat.{_+_, _-_, _*_, _≤_};
+ghost use Rattle.numbers.specs.Choice.{pick};
+ghost use Rattle.plants.specs.Limits.{maxUnits, maxWeight};
+ghost use Rattle.plants.specs.Within.{WithinStream};
+ghost use Rattle.model.specs.Sizes.{mostFlow, mostPull};
+ghost use Rattle.flows.specs.Certificate.{weightOf};
+ghost use Rattle.model.specs.Held.{readingOf};
+ghost use Rattle.model.specs.Slack.{gapBy};
+ghost use Rattle.model.specs.SearchNeeds.{Sized};
+
+// A stream's weight; an unmetered stream counts as one of weight 0.
+pub fn weight_of(s: Stream) -> u64
+    ensures { λ r. ⌜ r ≡ weightOf s ⌝ }
+{
+    if s.metered { s.weight as u64 } else { 0 }
+}
+
+// The reading, shifted.
+pub fn reading_of(s: Stream) -> u64
+    ensures { λ r. ⌜ (r ≡ readingOf s) × (r ≤ mostFlow) ⌝ }
+{
+    let r = s.reading as i64;
+    (r + FLOW_SHIFT as i64) as u64
+}
+
+// Weight times the reading.
+pub fn pull_of_reading(s: Stream) -> u64
+    requires { ⌜ WithinStream maxUnits s ⌝ }
+    ensures { λ r. ⌜ (r ≡ weightOf s * readingOf s) × (r ≤ mostPull) ⌝ }
+{
+    weight_of(s) * reading_of(s)
+}
+
+// a − b, 0 where b is more.
+pub fn minus(a: u64, b: u64) -> u64
+    ensures { λ r. ⌜ r ≡ a - b ⌝ }
+{
+    if a < b { 0 } else { a - b }
+}
+
+fn chosen(b: bool, x: u64, y: u64) -> u64
+    ensures { λ r. ⌜ r ≡ pick b x y ⌝ }
+{
+    if b { x } else { y }
+}
+
+// What is missing before delta can be moved along a stream, forwards or backwards, at the prices pu of its start and pv of its end;
+// by its weight and twice its weight times its reading. (Both directions in one sum: which it is cannot be foreseen.)
+pub fn gap(w: u64, read: u64, forwards: bool, x: u64, pu: u64, pv: u64, delta: u64) -> u64
+    requires { ⌜ (w ≤ maxWeight) × (read ≤ 2 * mostPull) × Sized x pu pv delta ⌝ }
+    ensures { λ r. ⌜ r ≡ gapBy w read forwards x pu pv delta ⌝ }
+{
+    let here = 2 * (w * x) + pu;
+    let there = pv + read;
+    let more = chosen(forwards, here, there);
+    let less = chosen(forwards, there, here);
+    minus(more + w * delta, less)
+}

@@ -1,0 +1,151 @@
+-- Nets as they are booked: in range, and the nets of the flow.
+use mathlib.Core.Path.{_≡_, refl, _∙_}
+use mathlib.Core.Bool.{Bool, true, false}
+use mathlib.Core.List.{List}
+use mathlib.Core.Logic.{⊎-elim}
+use lib.IntN.{ℤ, pos, negℤ, _+ℤ_}
+use Prim.Native.Nat.{ℕ, zero, suc, _+_, _-_, _*_, _≤_, _<_}
+use native.Mathlib.Omega.{arith}
+use borrow.Author.Tests.{eqb-true}
+use lib.Dec.{eqb}
+use lib.ListN.{length, getD, set, replicate, length-set, getD-replicate}
+use Rattle.numbers.specs.Choice.{pick}
+use Rattle.numbers.proofs.Tests.{by-cases}
+use Rattle.plants.specs.declared.Stream.{Stream}
+use Rattle.plants.specs.Limits.{maxUnits, places, maxStreams}
+use Rattle.flows.specs.Flows.{streamAt}
+use Rattle.flows.proofs.Integers.{up, dn, parts, plus-val, up-neg, dn-neg}
+use Rattle.flows.proofs.Sums.{sum}
+use Rattle.flows.proofs.Nets.{brought}
+use Rattle.model.specs.Sizes.{flowShift, mostFlow, netShift}
+use Rattle.model.specs.Held.{unshifted}
+use Rattle.model.proofs.Amounts.{unshifted-val, brought-val, get-set, net}
+use Rattle.model.proofs.Elements.{set-each}
+use Rattle.model.specs.Sizes.{netRoom}
+use Rattle.model.specs.Model.{left, come, booked, netsTo}
+use Rattle.model.specs.SolverNeeds.{Close, Around}
+
+-- A stream between places.
+abbrev pub Between : Stream → Type 0
+Between s = (s .from ≤ maxUnits) × (s .to ≤ maxUnits)
+
+-- At first, after a store near the old value, and with a wider bound.
+pub around-start : Around (replicate places netShift) 0
+around-start = record {
+  long = refl;
+  low = λ k h. omega (arith, getD-replicate {A = ℕ} places k netShift 0 h);
+  high = λ k h. omega (arith, getD-replicate {A = ℕ} places k netShift 0 h);
+}
+
+around-set : {e : List ℕ} {b : ℕ} → Around e b → (u v : ℕ) → u < places → getD e u 0 ≤ v + mostFlow → v ≤ getD e u 0 + mostFlow → Around (set e u v) (b + mostFlow)
+around-set {e} {b} a u v hu near far = record {
+  long = length-set e u v ∙ a .long;
+  low = set-each (λ n. netShift ≤ n + (b + mostFlow)) e u v places (rw (a .long) hu) (omega (arith, a .low u hu)) (λ k h. omega (arith, a .low k h));
+  high = set-each (λ n. n ≤ netShift + (b + mostFlow)) e u v places (rw (a .long) hu) (omega (arith, a .high u hu)) (λ k h. omega (arith, a .high k h));
+}
+
+pub around-more : {e : List ℕ} {b : ℕ} → Around e b → (c : ℕ) → b ≤ c → Around e c
+around-more a c h = record { long = a .long; low = λ k l. omega (arith, a .low k l); high = λ k l. omega (arith, a .high k l) }
+
+-- After an amount leaves a place, and comes to another.
+pub left-around : {e : List ℕ} {b : ℕ} → Around e b → b ≤ netRoom → (u x : ℕ) → u < places → x ≤ mostFlow → Around (left e u x) (b + mostFlow)
+left-around a hb u x hu hx = around-set a u _ hu (omega (arith, a .low u hu)) (omega (arith, a .low u hu))
+
+booked-around : {e : List ℕ} {b : ℕ} → Around e b → b ≤ netRoom → (s : Stream) → Between s → (x : ℕ) → x ≤ mostFlow → Around (booked e s x) (b + 2 * mostFlow)
+booked-around a hb s hs x hx =
+    let l = left-around a hb (s .from) x (omega arith) hx in
+    around-more (around-set l (s .to) _ (omega arith) (omega (arith, l .low (s .to) (omega arith))) (omega (arith, l .low (s .to) (omega arith)))) _ (omega arith)
+
+module _ (ss : List Stream) (xs : List ℕ) where
+  -- After n streams.
+  pub nets-around : (n : ℕ) → n ≤ maxStreams → ((k : ℕ) → k < n → Between (streamAt ss k)) → ((k : ℕ) → k < n → getD xs k 0 ≤ mostFlow)
+      → Around (netsTo ss xs n) (2 * mostFlow * n)
+  unfolding netsTo
+  nets-around zero h hs hx = around-start
+  nets-around (suc n) h hs hx =
+      around-more
+      (booked-around (nets-around n (omega arith) (λ k l. hs k (omega arith)) (λ k l. hx k (omega arith))) (omega arith) (streamAt ss n) (hs n (omega arith))
+      (getD xs n 0) (hx n (omega arith)))
+      _
+      (omega arith)
+
+  pub nets-long : (n : ℕ) → length (netsTo ss xs n) ≡ places
+  unfolding netsTo
+  nets-long zero = refl
+  nets-long (suc n) =
+      length-set (left (netsTo ss xs n) (streamAt ss n .from) (getD xs n 0)) (streamAt ss n .to) _
+      ∙ length-set (netsTo ss xs n) (streamAt ss n .from) _
+      ∙ nets-long n
+
+-- A store in the nets, by value.
+come-val : (e : List ℕ) (v x u : ℕ) → v < length e → flowShift ≤ getD e v 0 + x → getD (come e v x) u 0 + pick (eqb v u) flowShift 0 ≡ getD e u 0 + pick (eqb v u) x 0
+come-val e v x u l h =
+    rw (get-set e v u (getD e v 0 + x - flowShift) 0 l)
+    (by-cases (eqb v u) (λ t. let q : v ≡ u = eqb-true v u t in rw (t, ← q) (omega arith)) (λ t. rw t))
+
+left-val : (e : List ℕ) (v x u : ℕ) → v < length e → x ≤ getD e v 0 + flowShift → getD (left e v x) u 0 + pick (eqb v u) x 0 ≡ getD e u 0 + pick (eqb v u) flowShift 0
+left-val e v x u l h =
+    rw (get-set e v u (getD e v 0 + flowShift - x) 0 l)
+    (by-cases (eqb v u) (λ t. let q : v ≡ u = eqb-true v u t in rw (t, ← q) (omega arith)) (λ t. rw t))
+
+-- The nets as booked are those of the flow.
+module _ (ss : List Stream) (xs : List ℕ) where
+  pub nets-right : (n : ℕ) → n ≤ maxStreams → ((k : ℕ) → k < n → Between (streamAt ss k)) → ((k : ℕ) → k < n → getD xs k 0 ≤ mostFlow) → (u : ℕ) → u < places
+      → up (sum n (λ k. brought u (streamAt ss k) (unshifted (getD xs k 0)))) + netShift
+      ≡ getD (netsTo ss xs n) u 0 + dn (sum n (λ k. brought u (streamAt ss k) (unshifted (getD xs k 0))))
+  unfolding netsTo
+  nets-right zero h hs hx u l = omega (arith, getD-replicate {A = ℕ} places u netShift 0 l)
+  nets-right (suc n) h hs hx u l =
+      let s = streamAt ss n in
+      let x = getD xs n 0 in
+      let es = netsTo ss xs n in
+      let a = nets-around ss xs n (omega arith) (λ k m. hs k (omega arith)) (λ k m. hx k (omega arith)) in
+      let p = hs n (omega arith) in
+      let b = left-around a (omega arith) (s .from) x (omega (arith, p .0)) (hx n (omega arith)) in
+      omega (
+        arith,
+        nets-right n (omega arith) (λ k m. hs k (omega arith)) (λ k m. hx k (omega arith)) u l,
+        left-val es (s .from) x u (rw (a .long) (omega (arith, p .0))) (omega (arith, a .low (s .from) (omega (arith, p .0)), hx n (omega arith))),
+        come-val (left es (s .from) x) (s .to) x u (rw (b .long) (omega (arith, p .1))) (omega (arith, b .low (s .to) (omega (arith, p .1)))),
+        brought-val flowShift (eqb (s .to) u) (eqb (s .from) u) x (unshifted x) (unshifted-val x),
+        plus-val (brought u s (unshifted x)) (sum n (λ k. brought u (streamAt ss k) (unshifted (getD xs k 0)))),
+      )
+
+-- How large a net gets: no part of a sum is more than the parts of its summands less what they cancel.
+small : (x y : ℤ) (m : ℕ) → up x + up y ≤ m + (dn x + dn y) → dn x + dn y ≤ m + (up x + up y) → (up (x +ℤ y) ≤ m) × (dn (x +ℤ y) ≤ m)
+small x y m h k =
+    ⊎-elim
+    (λ (o : up (x +ℤ y) ≡ 0). (omega arith, omega (arith, plus-val x y)))
+    (λ (o : dn (x +ℤ y) ≡ 0). (omega (arith, plus-val x y), omega arith))
+    (parts (x +ℤ y))
+
+-- What a stream brings or takes is at most its amount.
+brought-most : (u : ℕ) (s : Stream) (z : ℤ) (m : ℕ) → up z + dn z ≤ m → (up (brought u s z) ≤ m) × (dn (brought u s z) ≤ m)
+brought-most u s z m h = go (eqb (s .to) u) (eqb (s .from) u)
+  where
+    go : (a b : Bool) → (up (pick a z (pos 0) +ℤ pick b (negℤ z) (pos 0)) ≤ m) × (dn (pick a z (pos 0) +ℤ pick b (negℤ z) (pos 0)) ≤ m)
+    go true true = small z (negℤ z) m (omega (arith, up-neg z, dn-neg z)) (omega (arith, up-neg z, dn-neg z))
+    go true false = small z (pos 0) m (omega arith) (omega arith)
+    go false true = small (pos 0) (negℤ z) m (omega (arith, up-neg z, dn-neg z)) (omega (arith, up-neg z, dn-neg z))
+    go false false = (omega arith, omega arith)
+
+sum-most : (n c : ℕ) (f : ℕ → ℤ) → ((k : ℕ) → k < n → (up (f k) ≤ c) × (dn (f k) ≤ c)) → (up (sum n f) ≤ c * n) × (dn (sum n f) ≤ c * n)
+sum-most zero c f h = (omega arith, omega arith)
+sum-most (suc n) c f h =
+    let r = sum-most n c f (λ k l. h k (omega arith)) in
+    let q = h n (omega arith) in
+    small (f n) (sum n f) (c * suc n) (omega (arith, r .0, q .0)) (omega (arith, r .1, q .1))
+
+close-size : (b x : ℕ) → Close b x → up (unshifted x) + dn (unshifted x) ≤ b
+close-size b x h =
+    ⊎-elim
+    (λ (o : up (unshifted x) ≡ 0). omega (arith, unshifted-val x, h .1))
+    (λ (o : dn (unshifted x) ≡ 0). omega (arith, unshifted-val x, h .0))
+    (parts (unshifted x))
+
+-- Amounts of size b at most make nets of at most b for each stream.
+pub net-most : (ss : List Stream) (xs : List ℕ) (b : ℕ) → ((k : ℕ) → k < length ss → Close b (getD xs k 0)) → (u : ℕ)
+    → (up (net ss xs u) ≤ b * length ss) × (dn (net ss xs u) ≤ b * length ss)
+net-most ss xs b h u =
+    sum-most (length ss) b (λ k. brought u (streamAt ss k) (unshifted (getD xs k 0)))
+    (λ k l. brought-most u (streamAt ss k) (unshifted (getD xs k 0)) b (close-size b (getD xs k 0) (h k l)))

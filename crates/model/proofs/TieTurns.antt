@@ -1,0 +1,180 @@
+-- The tie pass over the array: one stream by its parts, and what the push round it needs.
+use mathlib.Core.Path.{_≡_, refl, sym, _∙_, ap, subst}
+use mathlib.Core.Bool.{Bool, true, false, _&&_}
+use mathlib.Core.List.{List}
+use Prim.Native.Nat.{ℕ, zero, suc, _+_, _-_, _≤_, _<_}
+use native.Mathlib.Numerals.{add-one}
+use native.Mathlib.Omega.{arith}
+use borrow.Author.Tests.{lt-ltb, le-ltb, eqb-true, eqb-false}
+use lib.Dec.{eqb, ltb}
+use lib.ListN.{length, getD, set, take}
+use Rattle.numbers.specs.Choice.{pick}
+use Rattle.numbers.proofs.Tests.{clash}
+use Rattle.plants.specs.declared.Stream.{Stream}
+use Rattle.plants.specs.Limits.{maxUnits}
+use Rattle.plants.specs.Plants.{noStream}
+use Rattle.flows.specs.Flows.{streamAt}
+use Rattle.flows.specs.Certificate.{weightOf}
+use Rattle.model.specs.declared.Tree.{Tree}
+use Rattle.model.specs.Sizes.{searchRounds}
+use Rattle.model.specs.Slack.{slackBy}
+use Rattle.model.specs.Rows.{countOf, weightsOf}
+use Rattle.model.specs.Near.{gapsOf}
+use Rattle.model.specs.Search.{rootAt, Grown, tightPath}
+use Rattle.model.specs.Push.{pushed}
+use Rattle.model.specs.SearchNeeds.{Network, Trail, Roomy, Laid, Searching, Laying}
+use Rattle.model.proofs.Filling.{gap-at}
+use Rattle.model.proofs.Counting.{count-most}
+use Rattle.model.proofs.TightPath.{Path, way, shut}
+use Rattle.model.specs.Model.{tiedBy, tiedAt, tiesTo}
+use Rattle.model.specs.SolverNeeds.{Even, Falls, Tieable}
+use Rattle.model.proofs.Turns.{stream-is}
+use Rattle.model.proofs.Layouts.{used, solvable-of}
+use Rattle.model.proofs.Detours.{round-path, left-some, ties-even}
+
+module _ (streams : List Stream) (n : ℕ) (w : Network streams n) (ps : List ℕ) (i : ℕ) (l : i < n) (xs : List ℕ) where
+  abbrev ss : List Stream
+  ss = take n streams
+
+  abbrev s : Stream
+  s = getD streams i noStream
+
+  -- The slack against less, and the search for a way round.
+  abbrev lack : ℕ
+  lack = slackBy (getD streams i noStream) false (getD xs i 0) (getD ps (getD streams i noStream .from) 0) (getD ps (getD streams i noStream .to) 0) 1
+
+  abbrev searched : Grown
+  searched = tightPath (take n streams) n xs ps (getD streams i noStream .to) (suc i) searchRounds (rootAt (getD streams i noStream .from))
+
+  parts : tiedAt ss ps i xs ≡ pick (s .metered) (pick (ltb 0 lack) xs (tiedBy ss xs (s .to) i searched)) xs
+  unfolding tiedAt
+  parts = rw (stream-is streams n i l, used streams n w)
+
+  pub tied-free : s .metered ≡ false → tiedAt ss ps i xs ≡ xs
+  tied-free e = parts ∙ ap (λ (b : Bool). pick b (pick (ltb 0 lack) xs (tiedBy ss xs (s .to) i searched)) xs) e
+
+  metered-parts : s .metered ≡ true → tiedAt ss ps i xs ≡ pick (ltb 0 lack) xs (tiedBy ss xs (s .to) i searched)
+  metered-parts e = parts ∙ ap (λ (b : Bool). pick b (pick (ltb 0 lack) xs (tiedBy ss xs (s .to) i searched)) xs) e
+
+  pub tied-slack : s .metered ≡ true → 0 < lack → tiedAt ss ps i xs ≡ xs
+  tied-slack e h = metered-parts e ∙ ap (λ (b : Bool). pick b xs (tiedBy ss xs (s .to) i searched)) (lt-ltb 0 lack h)
+
+  tied-search : s .metered ≡ true → lack ≤ 0 → tiedAt ss ps i xs ≡ tiedBy ss xs (s .to) i searched
+  tied-search e h = metered-parts e ∙ ap (λ (b : Bool). pick b xs (tiedBy ss xs (s .to) i searched)) (le-ltb 0 lack h)
+
+  pub tied-cut : (g : Grown) → s .metered ≡ true → lack ≤ 0 → g ≡ searched → g .found ≡ false → tiedAt ss ps i xs ≡ xs
+  tied-cut g e h q f = tied-search e h ∙ rw (← q, f)
+
+  pub tied-round : (g : Grown) → s .metered ≡ true → lack ≤ 0 → g ≡ searched → g .found ≡ true
+      → tiedAt ss ps i xs
+      ≡ set (pushed ss (g .tree .via) (g .tree .ends) 1 (g .tree .len) (s .to) xs) i (getD (pushed ss (g .tree .via) (g .tree .ends) 1 (g .tree .len) (s .to) xs) i 0 - 1)
+  tied-round g e h q f = tied-search e h ∙ rw (← q, f)
+
+  -- What the push needs, and what it leaves of stream i.
+  pub record Pushable (t : Tree) : Type 0 where
+    pub trail : Trail (t .via) n (t .len)
+    pub roomy : Roomy xs (t .len)
+    pub some : 1 ≤ getD (pushed ss (t .via) (t .ends) 1 (t .len) (s .to) xs) i 0
+
+  pub pushable : Even ss ps i xs → (g : Grown) → s .metered ≡ true → lack ≤ 0 → g ≡ searched → g .found ≡ true → Pushable (g .tree)
+  pushable h g e z q f = go (subst (λ (o : Grown). Path maxUnits ss xs ps (s .from) (s .to) (suc i) o) (sym q) path)
+    where
+      li : i < length (take n streams)
+      li = rw (used streams n w) l
+
+      at : streamAt (take n streams) i ≡ getD streams i noStream
+      at = stream-is streams n i l
+
+      path : Path maxUnits ss xs ps (s .from) (s .to) (suc i) searched
+      path = rw (at, used streams n w) at (round-path ss (solvable-of streams n w) ps i li xs h)
+
+      go : Path maxUnits ss xs ps (s .from) (s .to) (suc i) g → Pushable (g .tree)
+      go (shut o ls a b d) = clash _ f o
+      go (way o a r u) =
+          let m = count-most maxUnits (λ v. getD (g .tree .visited) v false) in
+          record {
+            trail = record { short = omega (arith, a .counted, m); within = λ k j. rw (used streams n w) at (a .links k j .inside) };
+            roomy = record {
+              long = h .long;
+              low = λ k j. omega (arith, h .close k j .1, a .counted, m, l, w .within .few-streams);
+              high = λ k j. omega (arith, h .close k j .0, a .counted, m, l, w .within .few-streams);
+            };
+            some = rw at at (left-some ss (solvable-of streams n w) ps i li xs h (rw at e) (rw at (omega arith)) (g .tree) (rw at a) (rw at r) u);
+          }
+
+-- A search can go over the lanes; and the test by them.
+abbrev pub tie-searching : (ls ps : List ℕ) (i : ℕ) (xs : List ℕ) (w : Tieable ls ps i xs) → i ≤ w .n → Searching ls xs ps 1
+tie-searching ls ps i xs w l = record {
+  streams = w .streams;
+  n = w .n;
+  walkable = record {
+    searchable = record {
+      network = w .network;
+      step = omega arith;
+      amounts = λ k m. omega (arith, w .even .close k (omega (arith, w .network .within .few-streams)) .0, w .network .within .few-streams, l);
+      prices = w .prices;
+    };
+    some = omega arith;
+    held = w .even .held;
+  };
+  laid = w .laid;
+}
+
+abbrev pub tie-laying : (ls ps : List ℕ) (i : ℕ) (xs : List ℕ) → Tieable ls ps i xs → Laying ls
+tie-laying ls ps i xs w = record { streams = w .streams; n = w .n; network = w .network; laid = w .laid }
+
+pub tie-trail : (ls ps : List ℕ) (i : ℕ) (xs : List ℕ) (w : Tieable ls ps i xs) (via : List ℕ) (len : ℕ) → Trail via (w .n) len → Trail via (countOf ls) len
+tie-trail ls ps i xs w via len t = subst (λ (m : ℕ). Trail via m len) (sym (w .laid .counted)) t
+
+module _ (streams : List Stream) (n : ℕ) (w : Network streams n) (ps : List ℕ) (i : ℕ) (l : i < n) (xs ls : List ℕ) (laid : Laid streams n ls) where
+  abbrev test : Bool
+  test = ltb 0 (getD (weightsOf ls) i 0) && eqb (getD (gapsOf ls xs ps 1 0 false) i 0) 0
+
+  gap-is : getD (gapsOf ls xs ps 1 0 false) i 0 ≡ lack streams n w ps i l xs
+  gap-is =
+      gap-at ls xs ps 1 0 false i (rw (laid .counted) l)
+      ∙ rw (laid .rowed .weights i l, laid .rowed .pulls i l, laid .rowed .starts i l, laid .rowed .ends i l, le-ltb i 0 (omega arith))
+      (go (ltb 0 (weightOf (getD streams i noStream))))
+    where
+      go : (b : Bool) → pick (b && false) 1 (lack streams n w ps i l xs) ≡ lack streams n w ps i l xs
+      go true = refl
+      go false = refl
+
+  test-is : test ≡ (getD streams i noStream .metered && eqb (lack streams n w ps i l xs) 0)
+  test-is = rw (gap-is, laid .rowed .weights i l) (go (getD streams i noStream .metered) (w .within .each i l .weighed))
+    where
+      go : (b : Bool) → (b ≡ true → 1 ≤ getD streams i noStream .weight)
+          → (ltb 0 (pick b (getD streams i noStream .weight) 0) && eqb (lack streams n w ps i l xs) 0) ≡ (b && eqb (lack streams n w ps i l xs) 0)
+      go true h = rw (lt-ltb 0 (getD streams i noStream .weight) (omega (arith, h refl)))
+      go false h = rw (le-ltb 0 0 (omega arith))
+
+  pub falls : test ≡ true → Falls streams ps i xs
+  falls e = go (getD streams i noStream .metered) refl (sym test-is ∙ e)
+    where
+      go : (b : Bool) → getD streams i noStream .metered ≡ b → (b && eqb (lack streams n w ps i l xs) 0) ≡ true → Falls streams ps i xs
+      go true m h = record { metered = m; tight = omega (arith, eqb-true (lack streams n w ps i l xs) 0 h) }
+      go false m h = clash false h refl
+
+  pub stays : test ≡ false → tiedAt (take n streams) ps i xs ≡ xs
+  stays e = go (getD streams i noStream .metered) refl (sym test-is ∙ e)
+    where
+      go : (b : Bool) → getD streams i noStream .metered ≡ b → (b && eqb (lack streams n w ps i l xs) 0) ≡ false → tiedAt (take n streams) ps i xs ≡ xs
+      go true m h = tied-slack streams n w ps i l xs m (go-lack (lack streams n w ps i l xs) (eqb-false (lack streams n w ps i l xs) 0 h))
+        where
+          go-lack : (a : ℕ) → (a ≡ 0 → ⊥) → 0 < a
+          go-lack zero q = absurd (q refl)
+          go-lack (suc a) q = omega arith
+      go false m h = tied-free streams n w ps i l xs m
+
+-- The pass.
+pub tying-even : (streams : List Stream) (n : ℕ) (w : Network streams n) (ps xs : List ℕ) → Even (take n streams) ps 0 xs → (i : ℕ) → i ≤ n
+    → Even (take n streams) ps i (tiesTo (take n streams) ps i xs)
+tying-even streams n w ps xs h i l = ties-even (take n streams) (solvable-of streams n w) ps xs h i (rw (used streams n w) l)
+
+pub ties-next : (ss : List Stream) (ps xs : List ℕ) (i : ℕ) → tiesTo ss ps (i + 1) xs ≡ tiedAt ss ps i (tiesTo ss ps i xs)
+unfolding tiesTo
+ties-next ss ps xs i = rw add-one
+
+pub ties-none : (ss : List Stream) (ps xs : List ℕ) → tiesTo ss ps 0 xs ≡ xs
+unfolding tiesTo
+ties-none ss ps xs = refl

@@ -1,0 +1,14 @@
+-- The search for a way of no slack, the push along it and the solver over them, as definitions; what their parts require, and what
+-- the solver promises.
+pub mod Sizes
+pub mod Counts
+pub mod Rows
+pub mod Held
+pub mod Slack
+pub mod Search
+pub mod Near
+pub mod Push
+pub mod SearchNeeds
+pub mod Model
+pub mod SolverNeeds
+pub mod Promise

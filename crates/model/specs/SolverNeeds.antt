@@ -1,0 +1,150 @@
+-- What the solver's parts require of streams, amounts, prices and nets.
+use mathlib.Core.Path.{_≡_}
+use mathlib.Core.Bool.{true, false}
+use mathlib.Core.List.{List}
+use lib.IntN.{pos, _-ℤ_}
+use Prim.Native.Nat.{ℕ, _+_, _*_, _≤_, _<_}
+use lib.ListN.{length, getD, take}
+use Rattle.plants.specs.declared.Stream.{Stream}
+use Rattle.plants.specs.Limits.{places, maxUnits, maxStreams}
+use Rattle.plants.specs.Plants.{noStream}
+use Rattle.plants.specs.Within.{WithinStream}
+use Rattle.flows.specs.Flows.{streamAt}
+use Rattle.flows.specs.Nets.{netOf}
+use Rattle.model.specs.Sizes.{flowShift, mostFlow, priceShift, netShift, mostStep, pushRoom}
+use Rattle.model.specs.Held.{unshifted, AllHeld}
+use Rattle.model.specs.Slack.{slackBy}
+use Rattle.model.specs.SearchNeeds.{Network, Prices, Laid}
+use Rattle.model.specs.declared.Hint.{Hint}
+use Rattle.model.specs.declared.State.{State}
+use Rattle.model.specs.Model.{settled}
+use Rattle.model.specs.Sizes.{mostReading, priceBand, stepFall, hintFloor, hintRoom, settledRoom}
+
+-- A step: at least 1.
+abbrev pub Step : ℕ → Type 0
+Step d = (1 ≤ d) × (d ≤ mostStep)
+
+-- A held amount of size b at most.
+abbrev pub Close : ℕ → ℕ → Type 0
+Close b x = (x ≤ flowShift + b) × (flowShift ≤ x + b)
+
+-- A metered stream, and the prices of its start and its end, at which its amount can be settled.
+pub record Settleable (s : Stream) (pu pv : ℕ) : Type 0 where
+  pub within : WithinStream maxUnits s
+  pub metered : s .metered ≡ true
+  pub price-u : pu ≤ priceShift
+  pub price-v : pv ≤ priceShift
+  pub near : pu ≤ pv + 2 * priceBand
+
+-- An array of streams, and prices at which their amounts can be settled.
+pub record Settles (streams : List Stream) (n : ℕ) (ps : List ℕ) : Type 0 where
+  pub network : Network streams n
+  pub prices : Prices ps
+  pub near : (u v : ℕ) → u < places → v < places → getD ps u 0 ≤ getD ps v 0 + 2 * priceBand
+
+-- Held amounts, each at most mostFlow.
+abbrev pub Amounts : List ℕ → Type 0
+Amounts xs = (k : ℕ) → k < maxStreams → getD xs k 0 ≤ mostFlow
+
+-- Held nets of size b at most.
+pub record Around (es : List ℕ) (b : ℕ) : Type 0 where
+  pub long : length es ≡ places
+  pub low : (u : ℕ) → u < places → netShift ≤ getD es u 0 + b
+  pub high : (u : ℕ) → u < places → getD es u 0 ≤ netShift + b
+
+-- Nets of which d can move from place s to place v.
+pub record Shiftable (es : List ℕ) (s v d : ℕ) : Type 0 where
+  pub long : length es ≡ places
+  pub start : s < places
+  pub end : v < places
+  pub step : d ≤ mostStep
+  pub enough : d ≤ getD es s 0
+  pub most-start : getD es s 0 ≤ 2 * netShift
+  pub most-end : getD es v 0 ≤ 2 * netShift
+
+-- Prices that agree across unmetered streams.
+abbrev pub Agreed : List Stream → List ℕ → Type 0
+Agreed ss ps = (k : ℕ) → k < length ss → streamAt ss k .metered ≡ false → getD ps (streamAt ss k .from) 0 ≡ getD ps (streamAt ss k .to) 0
+
+-- Prices to settle at, from low up, that agree across unmetered streams; and amounts for these, of size b at most. Prices within
+-- `priceBand` of each other move no amount by more than the least of them is below priceShift.
+pub record Start (ss : List Stream) (low b : ℕ) (h : Hint) : Type 0 where
+  pub agree : Agreed ss (h .prices)
+  pub floor : (u : ℕ) → u < places → low ≤ getD (h .prices) u 0
+  pub capped : Prices (h .prices)
+  pub near : priceShift ≤ low + priceBand
+  pub priced : length (h .prices) ≡ places
+  pub long : length (h .flows) ≡ maxStreams
+  pub unmetered : (k : ℕ) → k < maxStreams → streamAt ss k .metered ≡ false → Close b (getD (h .flows) k 0)
+  pub fits : mostReading + priceShift ≤ b + low
+  pub within : b ≤ flowShift
+
+-- Some prices and amounts to settle at.
+pub record Ready (ss : List Stream) (h : Hint) : Type 0 where
+  pub low : ℕ
+  pub size : ℕ
+  pub start : Start ss low size h
+
+-- All that is asked of a hint.
+abbrev pub Hinted : List Stream → Hint → Type 0
+Hinted ss h = Start ss hintFloor hintRoom h
+
+-- A state that is settled at a hint.
+pub record AtHint (ss : List Stream) (st : State) : Type 0 where
+  pub hint : Hint
+  pub hinted : Hinted ss hint
+  pub is : st ≡ settled ss hint
+
+-- A state: the step condition at d, nets that are the amounts', prices from low up, amounts of size b at most.
+pub record Sound (ss : List Stream) (d low b : ℕ) (st : State) : Type 0 where
+  pub held : AllHeld ss (st .flows) (st .prices) d
+  pub long : length (st .flows) ≡ maxStreams
+  pub priced : length (st .prices) ≡ places
+  pub netted : length (st .nets) ≡ places
+  pub nets : (u : ℕ) → u < places → netOf ss (λ k. unshifted (getD (st .flows) k 0)) u ≡ pos (getD (st .nets) u 0) -ℤ pos netShift
+  pub floor : (u : ℕ) → u < places → low ≤ getD (st .prices) u 0
+  pub capped : Prices (st .prices)
+  pub close : (k : ℕ) → k < maxStreams → Close b (getD (st .flows) k 0)
+
+-- From this state k more improvements at step d stay in range.
+pub record Allows (ss : List Stream) (d k : ℕ) (st : State) : Type 0 where
+  pub size : ℕ
+  pub sound : Sound ss d (stepFall * d * k) size st
+  pub fits : size + d * k + pushRoom ≤ flowShift
+
+-- A balanced flow that meets the step condition at 1, before the tie pass comes to stream i.
+pub record Even (ss : List Stream) (ps : List ℕ) (i : ℕ) (xs : List ℕ) : Type 0 where
+  pub long : length xs ≡ maxStreams
+  pub held : AllHeld ss xs ps 1
+  pub level : (u : ℕ) → u < places → netOf ss (λ k. unshifted (getD xs k 0)) u ≡ pos 0
+  pub close : (k : ℕ) → k < maxStreams → Close (settledRoom + i) (getD xs k 0)
+
+-- Stream i is metered, and its amount can fall at no cost.
+pub record Falls (streams : List Stream) (ps : List ℕ) (i : ℕ) (xs : List ℕ) : Type 0 where
+  pub metered : getD streams i noStream .metered ≡ true
+  pub tight :
+      slackBy (getD streams i noStream) false (getD xs i 0) (getD ps (getD streams i noStream .from) 0) (getD ps (getD streams i noStream .to) 0) 1 ≤ 0
+
+-- Streams that lanes are of, and a state from which k more improvements at step d stay in range.
+pub record Improvable (ls : List ℕ) (d k : ℕ) (st : State) : Type 0 where
+  pub streams : List Stream
+  pub n : ℕ
+  pub network : Network streams n
+  pub laid : Laid streams n ls
+  pub step : Step d
+  pub allows : Allows (take n streams) d k st
+
+-- And prices and a flow before the tie pass comes to stream i.
+pub record Tieable (ls ps : List ℕ) (i : ℕ) (xs : List ℕ) : Type 0 where
+  pub streams : List Stream
+  pub n : ℕ
+  pub network : Network streams n
+  pub laid : Laid streams n ls
+  pub prices : Prices ps
+  pub even : Even (take n streams) ps i xs
+
+-- Where it can fall at no cost.
+pub record Tying (ls ps : List ℕ) (i : ℕ) (xs : List ℕ) : Type 0 where
+  pub tieable : Tieable ls ps i xs
+  pub below : i < tieable .n
+  pub falls : Falls (tieable .streams) ps i xs

@@ -1,0 +1,62 @@
+// The cheapest balanced flow, computed: search, push and solver as definitions with their laws. No function stands here. Amounts,
+// prices and nets are held shifted, as unsigned numbers (sizes.rt).
+use plants::limits::MAX_STREAMS;
+use plants::limits::PLACES;
+
+pub mod sizes;
+
+// What a walk is to do: where it starts, the step, the number before which metered streams are left alone, and how far it may go.
+pub struct Quest {
+    pub start: usize,
+    pub delta: u64,
+    pub skip: usize,
+    pub limit: u64,
+}
+
+// A visited place and its distance.
+pub struct Spot {
+    pub place: usize,
+    pub distance: u64,
+}
+
+// The visited places; and for each place visited after the first, in order, the stream that led to it and the place.
+pub struct Tree {
+    pub visited: [bool; PLACES],
+    pub via: [u8; PLACES],
+    pub ends: [u8; PLACES],
+    pub len: usize,
+}
+
+// What a walk hands over: whether it visited a place that it looks for, its tree, the distances of visited places, and how far it
+// came.
+pub struct Walked {
+    pub found: bool,
+    pub tree: Tree,
+    pub dist: [u64; PLACES],
+    pub reach: u64,
+}
+
+// What a search hands over: whether it visited a place that it looks for, and its tree.
+pub struct Searched {
+    pub found: bool,
+    pub tree: Tree,
+}
+
+// Prices to begin with, and amounts for the unmetered streams; held shifted, as below.
+pub struct Hint {
+    pub flows: [u64; MAX_STREAMS],
+    pub prices: [u64; PLACES],
+}
+
+// The amount of each stream, and the price and the net of each place.
+pub struct State {
+    pub flows: [u64; MAX_STREAMS],
+    pub prices: [u64; PLACES],
+    pub nets: [u64; PLACES],
+}
+
+// The flow and the prices that certify it.
+pub struct Solved {
+    pub flows: [u64; MAX_STREAMS],
+    pub prices: [u64; PLACES],
+}

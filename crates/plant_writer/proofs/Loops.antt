@@ -1,0 +1,125 @@
+-- Writing a plant: streams looked at one after the other for a fault, and written one after the other.
+use mathlib.Core.Path.{_≡_, refl, sym, ap, _∙_}
+use mathlib.Core.List.{List, [], _∷_, _++_, append-assoc, append-nil}
+use Prim.Native.Nat.{ℕ, zero, suc, _+_, _-_, _*_, _<_, _≤_}
+use native.Mathlib.Omega.{arith}
+use native.Mathlib.Numerals.{add-one}
+use lib.ListN.{length, getD, take, drop, length-append}
+use lib.Seq.{take-suc, drop-cons, length-take-le}
+use Rattle.numbers.specs.Choice.{firstOf}
+use Rattle.numbers.specs.Bytes.{over, putBe, raw}
+use Rattle.numbers.specs.Inner.{Put}
+use Rattle.numbers.proofs.Tests.{picked}
+use Rattle.numbers.proofs.Parts.{Laid, laid, lay, room, may-lend, partFrom, returned}
+use Rattle.numbers.proofs.Rows.{Rows, no-rows, one-row}
+use Rattle.plants.specs.declared.Stream.{Stream}
+use Rattle.plants.specs.Limits.{maxStreams, siteKind, meteredKind, unmeteredKind, endKind, meteredBody, longestFile}
+use Rattle.plants.specs.Plants.{noStream, streamFault, firstFault}
+use Rattle.plants.specs.Files.{streamBytes, streamsBytes, plantBytes}
+use Rattle.plants.specs.Says.{listing}
+
+-- i streams looked at, none at fault: the rest decides.
+pub record Looked (n k : ℕ) (ss : List Stream) (i : ℕ) : Type 0 where
+  pub within : i ≤ k
+  pub held : length ss ≡ maxStreams
+  pub rest : firstFault n (take k ss) ≡ firstFault n (take (k - i) (drop i ss))
+
+pub look : (n k : ℕ) (ss : List Stream) → length ss ≡ maxStreams → Looked n k ss 0
+look n k ss h = let e : k ≡ k - 0 = omega arith in record { within = omega arith; held = h; rest = ap (λ (j : ℕ). firstFault n (take j ss)) e }
+
+-- A fault that is found comes first.
+pub first-some : (f g h : ℕ) → f ≡ g → (f ≡ 0 → ⊥) → f ≡ firstOf g h
+first-some f zero h e z = absurd (z e)
+first-some f (suc g) h e z = e
+
+module _ {n k : ℕ} {ss : List Stream} {i : ℕ} (l : Looked n k ss i) (f : ℕ) (few : k ≤ maxStreams) (more : i < k) (e : f ≡ streamFault n (getD ss i noStream)) where
+  after : ℕ
+  after = firstFault n (take (k - (i + 1)) (drop (i + 1) ss))
+
+  whole : firstFault n (take k ss) ≡ firstOf f after
+  unfolding after
+  whole =
+      let h = l .held in
+      let z : k - i ≡ suc (k - (i + 1)) = omega arith in
+      l .rest
+      ∙ ap (λ (t : List Stream). firstFault n (take (k - i) t)) (drop-cons ss i noStream (omega arith))
+      ∙ ap (λ (j : ℕ). firstFault n (take j (getD ss i noStream ∷ drop (suc i) ss))) z
+      ∙ (λ j. firstOf (sym e j) (firstFault n (take (k - (i + 1)) (drop (sym (add-one i) j) ss))))
+
+  pub at-fault : (f ≡ 0 → ⊥) → f ≡ firstFault n (take k ss)
+  at-fault z = first-some f f after refl z ∙ sym whole
+
+  pub look-on : f ≡ 0 → Looked n k ss (i + 1)
+  unfolding after
+  look-on z = record { within = omega arith; held = l .held; rest = whole ∙ ap (λ (g : ℕ). firstOf g after) z }
+
+pub no-fault : {n k : ℕ} {ss : List Stream} {i : ℕ} → Looked n k ss i → k ≤ i → 0 ≡ firstFault n (take k ss)
+no-fault {n} {k} {ss} {i} l h =
+    let z : k - i ≡ 0 = omega arith in
+    sym (l .rest ∙ ap (λ (j : ℕ). firstFault n (take j (drop i ss))) z)
+
+-- The bytes of streams.
+bytes-append : (xs ys : List Stream) → streamsBytes (xs ++ ys) ≡ streamsBytes xs ++ streamsBytes ys
+bytes-append [] ys = refl
+bytes-append (x ∷ xs) ys = ap (λ (l : List ℕ). streamBytes x ++ l) (bytes-append xs ys) ∙ sym (append-assoc (streamBytes x) (streamsBytes xs) (streamsBytes ys))
+
+bytes-most : (s : Stream) → length (streamBytes s) ≤ suc meteredBody
+bytes-most s =
+    picked (λ (l : List ℕ). length l ≤ suc meteredBody) (s .metered)
+    (meteredKind ∷ s .from ∷ s .to ∷ putBe 2 (s .weight) ++ putBe 4 (raw 4 (s .reading))) (unmeteredKind ∷ s .from ∷ s .to ∷ []) (λ t. omega arith) (λ t. omega arith)
+
+all-most : (ss : List Stream) → length (streamsBytes ss) ≤ suc meteredBody * length ss
+all-most [] = omega arith
+all-most (s ∷ ss) = omega (arith, length-append (streamBytes s) (streamsBytes ss), bytes-most s, all-most ss)
+
+bytes-more : (i : ℕ) (ss : List Stream) → i < length ss → streamsBytes (take i ss) ++ streamBytes (getD ss i noStream) ≡ streamsBytes (take (i + 1) ss)
+bytes-more i ss h =
+    let x = getD ss i noStream in
+    ap (λ (l : List ℕ). streamsBytes (take i ss) ++ l) (sym (append-nil (streamBytes x)))
+    ∙ sym (bytes-append (take i ss) (x ∷ []))
+    ∙ ap streamsBytes (sym (take-suc ss i noStream h) ∙ ap (λ (j : ℕ). take j ss) (sym (add-one i)))
+
+-- The stream records, one after the other.
+abbrev pub Streams : List Stream → ℕ → List ℕ → List ℕ → ℕ → ℕ → Type 0
+Streams ss k o o₁ at i = Rows (λ (j : ℕ). streamsBytes (take j ss)) (suc meteredBody) k o o₁ at i
+
+pub no-streams : (ss : List Stream) (k : ℕ) (o : List ℕ) → suc meteredBody * k ≤ length o → Streams ss k o o 0 0
+no-streams ss k o h = no-rows (λ (j : ℕ). streamsBytes (take j ss)) (suc meteredBody) k o refl h
+
+pub one-stream : {ss : List Stream} {k : ℕ} {o o₁ : List ℕ} {at i : ℕ} → Streams ss k o o₁ at i → {last : List ℕ} {m : ℕ} → i < k → k ≤ length ss
+    → Put (streamBytes (getD ss i noStream)) (partFrom at o₁) last m → Streams ss k o (returned at o₁ last) (at + m) (i + 1)
+one-stream {ss} {k} {o} {o₁} {at} {i} w h long p =
+    one-row w (streamBytes (getD ss i noStream)) h (sym (bytes-more i ss (omega arith))) (bytes-most (getD ss i noStream)) p
+
+-- A plant's site record and stream records written at the front of o, which is o₁ now; the streams take m bytes.
+pub record Streamed (n k : ℕ) (ss : List Stream) (o o₁ : List ℕ) (m : ℕ) : Type 0 where
+  pub listed : length (take k ss) ≡ k
+  pub wide : longestFile ≤ length o
+  pub most : m ≤ maxStreams * suc meteredBody
+  pub so-far : Laid (siteKind ∷ n ∷ streamsBytes (take k ss)) o o₁ (2 + m)
+
+-- The streams in the part behind the site record.
+pub streamed : (n k : ℕ) (ss : List Stream) (o : List ℕ) {o₁ last : List ℕ} {m : ℕ} → k ≤ maxStreams → length ss ≡ maxStreams → longestFile ≤ length o
+    → o₁ ≡ over (siteKind ∷ n ∷ []) o → Put (streamsBytes (take k ss)) (partFrom 2 o₁) last m → Streamed n k ss o (returned 2 o₁ last) m
+streamed n k ss o {m = m} few held wide site p =
+    let l : length (take k ss) ≡ k = length-take-le k ss (omega arith) in
+    let b : m ≤ maxStreams * suc meteredBody = omega (arith, all-most (take k ss), p .size, ap (λ (j : ℕ). suc meteredBody * j) l) in
+    let q = lay (laid (siteKind ∷ n ∷ []) o (omega arith) site) (streamsBytes (take k ss)) (omega (arith, p .size)) (p .bytes) in
+    record { listed = l; wide = wide; most = b; so-far = record { bytes = q .bytes; size = q .size ∙ ap (λ (j : ℕ). 2 + j) (sym (p .size)); fits = omega arith } }
+
+module _ {n k : ℕ} {ss : List Stream} {o o₁ : List ℕ} {m : ℕ} (w : Streamed n k ss o o₁ m) where
+  pub end-lend : 2 + m ≤ length o₁
+  end-lend = may-lend (w .so-far)
+
+  pub end-room : 2 ≤ length (partFrom (2 + m) o₁)
+  end-room = let b = w .most in let l = w .wide in room (w .so-far) 2 (omega arith)
+
+  -- The end record in the part behind them.
+  pub plant-put : (end : List ℕ) → end ≡ over (endKind ∷ k ∷ []) (partFrom (2 + m) o₁) → Put (plantBytes (listing n k ss)) o (returned (2 + m) o₁ end) (2 + m + 2)
+  plant-put end q =
+      let b = w .most in
+      let l = w .wide in
+      let r = lay (w .so-far) (endKind ∷ k ∷ []) (omega arith) q in
+      let c : siteKind ∷ n ∷ streamsBytes (take k ss) ++ (endKind ∷ k ∷ []) ≡ plantBytes (listing n k ss) =
+      ap (λ (j : ℕ). siteKind ∷ n ∷ streamsBytes (take k ss) ++ (endKind ∷ j ∷ [])) (sym (w .listed)) in
+      record { bytes = r .bytes ∙ ap (λ (x : List ℕ). over x o) c; size = sym (r .size) ∙ ap length c }

@@ -1,0 +1,153 @@
+// The plant writer. Each record writer is lent the part of the slice that starts at the next free byte.
+ghost use mathlib.Core.Path.{_≡_};
+ghost use Prim.Native.Nat.{suc, _*_, _≤_};
+ghost use lib.ListN.{length, take};
+ghost use mathlib.Core.List.{[], _∷_, _++_};
+ghost use Rattle.numbers.specs.Bytes.{putBe, raw, over};
+ghost use Rattle.numbers.specs.Inner.{Put};
+ghost use Rattle.plants.specs.Limits.{maxStreams, meteredKind, unmeteredKind, meteredBody, longestFile};
+ghost use Rattle.plants.specs.Plants.{firstFault, partsFault};
+ghost use Rattle.plants.specs.Files.{streamBytes, streamsBytes, plantBytes};
+ghost use Rattle.plants.specs.Says.{listing, WriteSays};
+use plants::Done;
+use plants::Plant;
+use plants::Stream;
+use plants::limits::END;
+use plants::limits::LONGEST_FILE;
+use plants::limits::MAX_STREAMS;
+use plants::limits::METERED;
+use plants::limits::METERED_BODY;
+use plants::limits::SITE;
+use plants::limits::UNMETERED;
+use plants::limits::UNMETERED_BODY;
+use plants::streams::stream_fault;
+use plants::streams::units_fault;
+
+// A kind and one number: the site record and the end record.
+fn put_pair(kind: u8, value: u8, out: &mut [u8])
+    requires { ⌜ 2 ≤ length (now out) ⌝ }
+    ensures { λ _. ⌜ now (out .exit) ≡ over (kind ∷ value ∷ []) (now (out .entry)) ⌝ }
+{
+    out[0] = kind;
+    out[1] = value;
+}
+
+// A kind and two places: the start of a stream record.
+fn put_ends(kind: u8, from: u8, to: u8, out: &mut [u8])
+    requires { ⌜ 3 ≤ length (now out) ⌝ }
+    ensures { λ _. ⌜ now (out .exit) ≡ over (kind ∷ from ∷ to ∷ []) (now (out .entry)) ⌝ }
+{
+    out[0] = kind;
+    out[1] = from;
+    out[2] = to;
+}
+
+fn put_metered(from: u8, to: u8, weight: u16, reading: i32, out: &mut [u8])
+    requires { ⌜ suc meteredBody ≤ length (now out) ⌝ }
+    ensures { λ _. ⌜ now (out .exit) ≡ over (meteredKind ∷ from ∷ to ∷ putBe 2 weight ++ putBe 4 (raw 4 reading)) (now (out .entry)) ⌝ }
+{
+    put_ends(METERED, from, to, out);
+    numbers::put_u16(weight, &mut out[3..]);
+    numbers::put_i32(reading, &mut out[5..]);
+}
+
+// A stream record, and how many bytes it takes.
+fn put_stream(s: Stream, out: &mut [u8]) -> usize
+    requires { ⌜ suc meteredBody ≤ length (now out) ⌝ }
+    ensures { λ r. ⌜ Put (streamBytes s) (now (out .entry)) (now (out .exit)) r ⌝ }
+{
+    let metered = s.metered;
+    if metered {
+        put_metered(s.from, s.to, s.weight, s.reading, out);
+        return 1 + METERED_BODY;
+    }
+    put_ends(UNMETERED, s.from, s.to, out);
+    1 + UNMETERED_BODY
+}
+
+// The stream records, one after the other, and how many bytes they take.
+fn put_streams(count: usize, streams: [Stream; MAX_STREAMS], out: &mut [u8]) -> usize
+    requires { ⌜ (count ≤ maxStreams) × (maxStreams * suc meteredBody ≤ length (now out)) ⌝ }
+    ensures { λ r. ⌜ Put (streamsBytes (take count streams)) (now (out .entry)) (now (out .exit)) r ⌝ }
+{
+    let mut at: usize = 0;
+    let mut i: usize = 0;
+    while i < count {
+        let s = streams[i];
+        let size = put_stream(s, &mut out[at..]);
+        at += size;
+        i += 1;
+    }
+    at
+}
+
+// The whole file, and how many bytes it takes.
+fn put_plant(units: u8, count: u8, streams: [Stream; MAX_STREAMS], out: &mut [u8]) -> usize
+    requires { ⌜ (count ≤ maxStreams) × (longestFile ≤ length (now out)) ⌝ }
+    ensures { λ r. ⌜ Put (plantBytes (listing units count streams)) (now (out .entry)) (now (out .exit)) r ⌝ }
+{
+    put_pair(SITE, units, out);
+    let size = put_streams(count as usize, streams, &mut out[2..]);
+    let at = 2 + size;
+    put_pair(END, count, &mut out[at..]);
+    at + 2
+}
+
+// The first fault of the first so many streams.
+fn streams_fault(units: u8, count: usize, streams: [Stream; MAX_STREAMS]) -> u8
+    requires { ⌜ count ≤ maxStreams ⌝ }
+    ensures { λ r. ⌜ r ≡ firstFault units (take count streams) ⌝ }
+{
+    let mut i = 0;
+    while i < count {
+        let s = streams[i];
+        let fault = stream_fault(units, s);
+        if fault != 0 {
+            return fault;
+        }
+        i += 1;
+    }
+    0
+}
+
+// The first fault of a plant's parts.
+fn parts_fault(units: u8, count: u8, streams: [Stream; MAX_STREAMS]) -> u8
+    ensures { λ r. ⌜ r ≡ partsFault units count (take count streams) ⌝ }
+{
+    let fault = units_fault(units);
+    if fault != 0 {
+        return fault;
+    }
+    let listed = count as usize;
+    if MAX_STREAMS < listed {
+        return 5;
+    }
+    streams_fault(units, listed, streams)
+}
+
+// The plant's file at the front of the slice, or a refusal that leaves the slice as it was.
+pub fn write_plant(p: Plant, file: &mut [u8]) -> Done
+    ensures { λ r. ⌜ WriteSays p (now (file .entry)) (now (file .exit)) r ⌝ }
+{
+    if file.len() < LONGEST_FILE {
+        return Done {
+            number: 1,
+            written: 0,
+        };
+    }
+    let units = p.units;
+    let count = p.count;
+    let streams = p.streams;
+    let refused = parts_fault(units, count, streams);
+    if refused != 0 {
+        return Done {
+            number: refused,
+            written: 0,
+        };
+    }
+    let written = put_plant(units, count, streams, file);
+    Done {
+        number: 0,
+        written: written,
+    }
+}

@@ -1,0 +1,58 @@
+// The sheet call.
+use balances::balance_of;
+use sheet_writer::put_sheet;
+use sheets::Sheet;
+use sheets::kinds::LEAST_SLICE;
+use sheets::kinds::TOP_SHEET;
+ghost use mathlib.Core.Path.{_≡_};
+ghost use Rattle.sheets.specs.Says.{SheetSays};
+ghost use Rattle.sheets.specs.Sentences.{callFault};
+
+// A refusal counts nothing and hands the last sheet number back.
+fn refused(number: u8, last: u32) -> Sheet
+    ensures { λ r. ⌜ r ≡ record { number = number; written = 0; last = last } ⌝ }
+{
+    Sheet {
+        number: number,
+        written: 0,
+        last: last,
+    }
+}
+
+// The refusals of the call itself.
+fn call_fault(last: u32, sheet: &[u8]) -> u8
+    ensures { λ r. ⌜ r ≡ callFault last (now (sheet .entry)) ⌝ }
+{
+    if sheet.len() < LEAST_SLICE {
+        return 1;
+    }
+    if last == TOP_SHEET {
+        return 2;
+    }
+    0
+}
+
+// The balance sheet of a plant file, or a refusal that leaves slice and counter as they were.
+pub fn balance_plant(file: &[u8], last: u32, sheet: &mut [u8]) -> Sheet
+    ensures { λ r. ⌜ SheetSays (now (file .entry)) last (now (sheet .entry)) (now (sheet .exit)) r ⌝ }
+{
+    let fault = call_fault(last, sheet);
+    if fault != 0 {
+        return refused(fault, last);
+    }
+    let read = plant_reader::read_plant(file);
+    let number = read.number;
+    if number != 0 {
+        return refused(number, last);
+    }
+    let plant = read.plant;
+    let balance = balance_of(plant);
+    let count = plant.count as usize;
+    let next = last + 1;
+    let written = put_sheet(count, next, balance, sheet);
+    Sheet {
+        number: 0,
+        written: written,
+        last: next,
+    }
+}

@@ -1,0 +1,112 @@
+// The search over visited places.
+use lanes::LANES;
+use lanes::slacks::minus;
+use model::Quest;
+use model::Searched;
+use model::sizes::FAR;
+use model::sizes::NET_SHIFT;
+use plants::limits::MAX_STREAMS;
+use plants::limits::PLACES;
+use walking::walk;
+ghost use mathlib.Core.Path.{_≡_};
+ghost use Prim.Native.Nat.{_<_};
+ghost use lib.ListN.{length, take};
+ghost use Rattle.plants.specs.Limits.{places};
+ghost use Rattle.model.specs.Sizes.{searchRounds};
+ghost use Rattle.model.specs.Search.{rootAt, grownBy, grow, tightPath};
+ghost use Rattle.model.specs.Near.{goalAt, reducedBy};
+ghost use Rattle.model.specs.SearchNeeds.{Searching, Falling};
+
+pub mod relaxing;
+pub mod walking;
+
+// The prices of visited places fall by what the search's distance exceeds theirs.
+fn reduce(prices: &mut [u64; PLACES], visited: &[bool; PLACES], dist: &[u64; PLACES], reach: u64)
+    requires { ⌜ length (now prices) ≡ places ⌝ }
+    ensures { λ _. ⌜ now (prices .exit) ≡ reducedBy (now (visited .entry)) (now (dist .entry)) reach (now (prices .entry)) ⌝ }
+{
+    let mut u: usize = 0;
+    while u < PLACES {
+        if visited[u] {
+            prices[u] = minus(prices[u], minus(reach, dist[u]));
+        }
+        u += 1;
+    }
+}
+
+// Places are visited, each over the stream of least slack and with the prices lowered by it, until one with a negative net is.
+// (The walk goes over the lanes of the streams by distances, and the prices fall once, at its end.)
+pub fn search(
+    lanes: &[u64; LANES],
+    flows: &[u64; MAX_STREAMS],
+    prices: &mut [u64; PLACES],
+    nets: &[u64; PLACES],
+    s: usize,
+    delta: u64,
+) -> Searched
+    requires { ⌜ Searching (now lanes) (now flows) (now prices) delta × (s < places) × Falling (now prices) delta ⌝ }
+    ensures { λ r. ⌜ ((w : Searching (now (lanes .entry)) (now (flows .entry)) (now (prices .entry)) delta) → grownBy (r .found) (r .tree) (now (prices .exit)) ≡ grow (take (w .n) (w .streams)) (w .n) (now (flows .entry)) (now (nets .entry)) delta searchRounds (now (prices .entry)) (rootAt s)) ⌝ }
+{
+    let w = walk(
+        lanes,
+        flows,
+        prices,
+        nets,
+        Quest {
+            start: s,
+            delta: delta,
+            skip: 0,
+            limit: FAR,
+        },
+    );
+    let t = w.tree;
+    let visited = t.visited;
+    let dist = w.dist;
+    reduce(prices, &visited, &dist, w.reach);
+    Searched {
+        found: w.found,
+        tree: t,
+    }
+}
+
+// Nets that make place v the one that is looked for.
+fn goal(v: usize) -> [u64; PLACES]
+    requires { ⌜ v < places ⌝ }
+    ensures { λ r. ⌜ r ≡ goalAt v ⌝ }
+{
+    let mut nets = [NET_SHIFT; PLACES];
+    nets[v] = 0;
+    nets
+}
+
+// Places are visited over streams without slack until v is, metered streams before number skip left alone.
+pub fn tight_path(
+    lanes: &[u64; LANES],
+    flows: &[u64; MAX_STREAMS],
+    prices: &[u64; PLACES],
+    s: usize,
+    v: usize,
+    skip: usize,
+) -> Searched
+    requires { ⌜ Searching (now lanes) (now flows) (now prices) 1 × (s < places) × (v < places) ⌝ }
+    ensures { λ r. ⌜ ((w : Searching (now (lanes .entry)) (now (flows .entry)) (now (prices .entry)) 1) → grownBy (r .found) (r .tree) (now (prices .entry)) ≡ tightPath (take (w .n) (w .streams)) (w .n) (now (flows .entry)) (now (prices .entry)) v skip searchRounds (rootAt s)) ⌝ }
+{
+    let nets = goal(v);
+    let w = walk(
+        lanes,
+        flows,
+        prices,
+        &nets,
+        Quest {
+            start: s,
+            delta: 1,
+            skip: skip,
+            limit: 0,
+        },
+    );
+    let t = w.tree;
+    Searched {
+        found: w.found,
+        tree: t,
+    }
+}

@@ -1,0 +1,121 @@
+// The places that are not visited, and how near the visited places come to each.
+use lanes::LANES;
+use lanes::before_at;
+use lanes::count_of;
+use lanes::end_at;
+use lanes::last_at;
+use lanes::place_at;
+use lanes::pull_at;
+use lanes::slacks::gap;
+use lanes::start_at;
+use lanes::weight_at;
+use model::Quest;
+use model::Spot;
+use model::sizes::FAR;
+use model::sizes::NUMBERING;
+use plants::limits::MAX_STREAMS;
+use plants::limits::PLACES;
+ghost use mathlib.Core.Bool.{true, false};
+ghost use mathlib.Core.Path.{_≡_};
+ghost use Prim.Native.Nat.{_*_, _≤_, _<_};
+ghost use lib.ListN.{getD, length};
+ghost use Rattle.plants.specs.Limits.{places, maxStreams, maxWeight};
+ghost use Rattle.model.specs.Sizes.{mostStep, farthest};
+ghost use Rattle.model.specs.Rows.{countOf, startsOf, endsOf};
+ghost use Rattle.model.specs.Near.{gapsOf, relaxedAlong, relaxedTo, nearestWithin};
+ghost use Rattle.model.specs.SearchNeeds.{Lanes};
+
+// The slack of stream i; 1 where it is metered and its number below skip.
+pub fn gap_past(
+    lanes: &[u64; LANES],
+    flows: &[u64; MAX_STREAMS],
+    prices: &[u64; PLACES],
+    q: Quest,
+    forwards: bool,
+    i: usize,
+) -> u64
+    requires { ⌜ Lanes (now lanes) (now flows) (now prices) (q .delta) (q .skip) × (i < countOf (now lanes)) ⌝ }
+    ensures { λ r. ⌜ r ≡ getD (gapsOf (now (lanes .entry)) (now (flows .entry)) (now (prices .entry)) (q .delta) (q .skip) forwards) i 0 ⌝ }
+{
+    let w = weight_at(lanes, i);
+    if 0 < w {
+        if i < q.skip {
+            return 1;
+        }
+    }
+    let u = start_at(lanes, i);
+    let v = end_at(lanes, i);
+    gap(
+        w,
+        pull_at(lanes, i),
+        forwards,
+        flows[i],
+        prices[u],
+        prices[v],
+        q.delta,
+    )
+}
+
+// Stream i, of slack g, is looked at in the direction of place v from a place at distance k.
+fn relax_along(
+    visited: &[bool; PLACES],
+    k: u64,
+    v: usize,
+    g: u64,
+    i: usize,
+    near: &mut [u64; PLACES],
+)
+    requires { ⌜ (k < farthest) × (v < places) × (g ≤ 2 * maxWeight * mostStep) × (i < maxStreams) × (length (now near) ≡ places) ⌝ }
+    ensures { λ _. ⌜ now (near .exit) ≡ relaxedAlong (now (visited .entry)) k v g i (now (near .entry)) ⌝ }
+{
+    if visited[v] {
+        return;
+    }
+    let code = (k + g) * NUMBERING + i as u64;
+    if code < near[v] {
+        near[v] = code;
+    }
+}
+
+// The streams at a place are looked at, the last first.
+pub fn relax(
+    lanes: &[u64; LANES],
+    flows: &[u64; MAX_STREAMS],
+    prices: &[u64; PLACES],
+    q: Quest,
+    visited: &[bool; PLACES],
+    at: Spot,
+    near: &mut [u64; PLACES],
+)
+    requires { ⌜ Lanes (now lanes) (now flows) (now prices) (q .delta) (q .skip) × (at .place < places) × (at .distance < farthest) × (length (now near) ≡ places) ⌝ }
+    ensures { λ _. ⌜ now (near .exit) ≡ relaxedTo (startsOf (now (lanes .entry))) (endsOf (now (lanes .entry))) (gapsOf (now (lanes .entry)) (now (flows .entry)) (now (prices .entry)) (q .delta) (q .skip) true) (gapsOf (now (lanes .entry)) (now (flows .entry)) (now (prices .entry)) (q .delta) (q .skip) false) (now (visited .entry)) (at .distance) (at .place) (countOf (now (lanes .entry))) (now (near .entry)) ⌝ }
+{
+    let n = count_of(lanes);
+    let e = at.place;
+    let mut i = last_at(lanes, e);
+    while i < n {
+        let forwards = start_at(lanes, i) == e;
+        let g = gap_past(lanes, flows, prices, q, forwards, i);
+        let v = place_at(lanes, !forwards, i);
+        relax_along(visited, at.distance, v, g, i, near);
+        i = before_at(lanes, forwards, i);
+    }
+}
+
+// The first place with the least code; PLACES where there is none, or its distance is above the limit.
+pub fn nearest(near: &[u64; PLACES], limit: u64) -> usize
+    requires { ⌜ length (now near) ≡ places ⌝ }
+    ensures { λ r. ⌜ r ≡ nearestWithin (now (near .entry)) limit ⌝ }
+{
+    let mut best = FAR;
+    let mut at: usize = PLACES;
+    let mut u: usize = 0;
+    while u < PLACES {
+        if near[u] < best {
+            best = near[u];
+            at = u;
+        }
+        u += 1;
+    }
+    if limit < best / NUMBERING { PLACES } else { at }
+}
