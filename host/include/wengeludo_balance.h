@@ -1,7 +1,7 @@
 /* Steam and condensate balance sheets: the two calls of liblinked.a.
  *
  * Build the archive with `rt staticlib linked` (target/staticlib/liblinked.a, x86-64 Linux) and link it;
- * it needs nothing but the C library (memcpy). The calls keep no state, allocate nothing, take less than
+ * it needs nothing but the C library (memcpy, memset). The calls keep no state, allocate nothing, take less than
  * 40 KB of stack, and may run in several threads at once on memory of their own.
  *
  * What holds of every pointer here, and what no call can check:

@@ -1,10 +1,11 @@
 // The listing of a plant: the plant file from standard input, its listing to standard output. What goes wrong in reading or
 // writing is said on standard error, in one line.
+use plants::limits::LONGEST_FILE;
 use texts::LEAST_TEXT;
 ghost use Rattle.io.specs.Counts.{Counts};
 
 // One byte more than the longest plant file.
-const MOST_READ: usize = 869;
+const MOST_READ: usize = LONGEST_FILE + 1;
 
 // How many bytes were read, and whether a read failed.
 struct Input {

@@ -1,8 +1,9 @@
 // The listings of plant files, each under its file's name.
+use plants::limits::LONGEST_FILE;
 use texts::LEAST_TEXT;
 
 // One byte more than the longest plant file.
-const MOST_READ: usize = 869;
+const MOST_READ: usize = LONGEST_FILE + 1;
 
 fn print_listing(name: &[u8]) {
     let mut file = [0u8; MOST_READ];

@@ -1,4 +1,4 @@
--- Laws of texts: put one behind the other, decimals, the sizes of lines, lines in their order, the call's promise, document 01's listing.
+-- Laws of texts: put one behind the other, decimals, the sizes of lines, lines in their order, the call's promise, the sample's listing.
 pub mod Behind
 pub mod Decimals
 pub mod Signs

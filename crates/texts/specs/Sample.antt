@@ -1,4 +1,4 @@
--- The plant of the listing in document 01, and its listing, character for character.
+-- The plant of the definition's listing, and its listing, character for character.
 use mathlib.Core.Path.{_≡_}
 use mathlib.Core.List.{List, _++_}
 use lib.IntN.{ℤ}
