@@ -26,4 +26,4 @@ flow = pos 99 ∷ pos 99 ∷ pos 0 ∷ pos 99 ∷ []
 
 pub sample : Sample
 unfolding plant flow balanceOf decimal
-sample = (plant, flow, refl, certified-cheapest plant flow (pos 0 ∷ negsuc 19 ∷ negsuc 19 ∷ []) [] refl, refl)
+sample = (plant, flow, refl, certified-cheapest plant flow (pos 0 ∷ negsuc 19 ∷ negsuc 19 ∷ []) refl, refl)

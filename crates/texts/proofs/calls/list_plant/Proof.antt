@@ -36,7 +36,7 @@ cast-put-listing c = search needs
 put-listing-requires : tie.Need-put-listing-requires
 put-listing-requires c κs =
     let y = c .before .before .before .before .before .read-plant in
-    (plant-accepted (now (c .before .before .before .before .before .before .before .before .before .args .file)) (y .result) (y .ensures) (c .before .before .before .before .if2 .left) .fit .few-streams, c .before .before .before .before .before .before .if1 .left)
+    (plant-accepted (now (c .before .before .before .before .before .before .before .before .before .args .file)) (y .result) (y .ensures) (c .before .before .before .before .if2 .left) .within .few-streams, c .before .before .before .before .before .before .if1 .left)
 
 same-length-2 : tie.Need-same-length-2
 same-length-2 c = search needs
