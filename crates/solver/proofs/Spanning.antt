@@ -12,7 +12,6 @@ use Rattle.numbers.proofs.Tests.{clash}
 use Rattle.plants.specs.Limits.{places, maxUnits, maxStreams}
 use Rattle.plants.specs.Plants.{noStream}
 use Rattle.model.specs.Sizes.{flowShift}
-use Rattle.solver.specs.declared.Forest.{Forest}
 use Rattle.model.specs.Sizes.{hintRoom}
 use Rattle.model.specs.SolverNeeds.{Close, Amounts}
 use Rattle.solver.specs.Forests.{Spanning, Unmetered, Listed, Routes, Kept}
@@ -20,36 +19,33 @@ use Rattle.flows.proofs.Lists.{set-each}
 use Rattle.model.specs.Counts.{countTo}
 use Rattle.model.proofs.Counting.{count-most, count-more}
 
-pub spanning-short : {f : Forest} → Spanning f → f .len ≤ places
-spanning-short {f} s = omega (arith, s .few, count-most maxUnits (λ u. getD (f .reached) u false))
+pub spanning-short : {reached : List Bool} {via : List ℕ} {into : List Bool} {len : ℕ} → Spanning reached via into len → len ≤ places
+spanning-short {reached} s = omega (arith, s .few, count-most maxUnits (λ u. getD reached u false))
 
 -- One place more, e over stream i.
-abbrev pub grownBy : Forest → ℕ → ℕ → Bool → Forest
-grownBy f i e b = record { reached = set (f .reached) e true; via = set (f .via) (f .len) i; into = set (f .into) (f .len) b; len = f .len + 1 }
-
-module _ {f : Forest} (s : Spanning f) (e : ℕ) (l : e < places) (free : getD (f .reached) e false ≡ false) where
-  more : countTo maxUnits (λ u. getD (set (f .reached) e true) u false) ≡ suc (countTo maxUnits (λ u. getD (f .reached) u false))
+module _ {reached : List Bool} {via : List ℕ} {into : List Bool} {len : ℕ} (s : Spanning reached via into len) (e : ℕ) (l : e < places) (free : getD reached e false ≡ false) where
+  more : countTo maxUnits (λ u. getD (set reached e true) u false) ≡ suc (countTo maxUnits (λ u. getD reached u false))
   more =
-      count-more maxUnits e (λ u. getD (f .reached) u false) (λ u. getD (set (f .reached) e true) u false) (omega arith) free
-      (getD-set-same (f .reached) e true false (rw (s .reaches) l))
-      (λ u q. getD-set-other (f .reached) e u true false q)
+      count-more maxUnits e (λ u. getD reached u false) (λ u. getD (set reached e true) u false) (omega arith) free
+      (getD-set-same reached e true false (rw (s .reaches) l))
+      (λ u q. getD-set-other reached e u true false q)
 
-  pub spanning-room : f .len < places
-  spanning-room = omega (arith, s .few, more, count-most maxUnits (λ u. getD (set (f .reached) e true) u false))
+  pub spanning-room : len < places
+  spanning-room = omega (arith, s .few, more, count-most maxUnits (λ u. getD (set reached e true) u false))
 
-  pub spanning-grown : (i : ℕ) (b : Bool) → Spanning (grownBy f i e b)
+  pub spanning-grown : (i : ℕ) (b : Bool) → Spanning (set reached e true) (set via len i) (set into len b) (len + 1)
   spanning-grown i b = record {
-    reaches = length-set (f .reached) e true ∙ s .reaches;
-    vias = length-set (f .via) (f .len) i ∙ s .vias;
-    intos = length-set (f .into) (f .len) b ∙ s .intos;
+    reaches = length-set reached e true ∙ s .reaches;
+    vias = length-set via len i ∙ s .vias;
+    intos = length-set into len b ∙ s .intos;
     few = omega (arith, s .few, more);
   }
 
-  pub listed-grown : (i : ℕ) (b : Bool) (ss : List Stream) (n : ℕ) → Unmetered ss n i → Listed ss n f → Listed ss n (grownBy f i e b)
-  listed-grown i b ss n m h =
-      below-more (λ k. Unmetered ss n (getD (set (f .via) (f .len) i) k 0)) (f .len)
-      (λ k lt. rw (getD-set-other (f .via) (f .len) k i 0 (λ q. omega arith)) (h k lt))
-      (rw (getD-set-same (f .via) (f .len) i 0 (rw (s .vias) spanning-room)) m)
+  pub listed-grown : (i : ℕ) (ss : List Stream) (n : ℕ) → Unmetered ss n i → Listed ss n via len → Listed ss n (set via len i) (len + 1)
+  listed-grown i ss n m h =
+      below-more (λ k. Unmetered ss n (getD (set via len i) k 0)) len
+      (λ k lt. rw (getD-set-other via len k i 0 (λ q. omega arith)) (h k lt))
+      (rw (getD-set-same via len i 0 (rw (s .vias) spanning-room)) m)
 
 -- Amounts 0, and one of them another.
 pub routes-none : Routes (replicate maxStreams flowShift)

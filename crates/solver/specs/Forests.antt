@@ -1,6 +1,6 @@
 -- What is asked of a spanning forest and of the amounts routed along it: ranges, and that metered amounts stay as they are.
 use mathlib.Core.Path.{_≡_}
-use mathlib.Core.Bool.{true, false}
+use mathlib.Core.Bool.{Bool, true, false}
 use mathlib.Core.List.{List}
 use Prim.Native.Nat.{ℕ, _≤_, _<_}
 use lib.ListN.{length, getD}
@@ -12,20 +12,27 @@ use Rattle.model.specs.Sizes.{hintRoom}
 use Rattle.model.specs.SolverNeeds.{Close}
 use Rattle.model.specs.Counts.{countTo}
 
--- A forest with as many places reached, at least, as it has streams.
-pub record Spanning (f : Forest) : Type 0 where
-  pub reaches : length (f .reached) ≡ places
-  pub vias : length (f .via) ≡ places
-  pub intos : length (f .into) ≡ places
-  pub few : f .len ≤ countTo maxUnits (λ u. getD (f .reached) u false)
+-- A forest of len streams, with as many places reached, at least.
+pub record Spanning (reached : List Bool) (via : List ℕ) (into : List Bool) (len : ℕ) : Type 0 where
+  pub reaches : length reached ≡ places
+  pub vias : length via ≡ places
+  pub intos : length into ≡ places
+  pub few : len ≤ countTo maxUnits (λ u. getD reached u false)
 
 -- Stream i is among the first n, and unmetered.
 abbrev pub Unmetered : List Stream → ℕ → ℕ → Type 0
 Unmetered streams n i = (i < n) × (getD streams i noStream .metered ≡ false)
 
--- Its streams are such.
-abbrev pub Listed : List Stream → ℕ → Forest → Type 0
-Listed streams n f = (k : ℕ) → k < f .len → Unmetered streams n (getD (f .via) k 0)
+-- A forest's streams are such.
+abbrev pub Listed : List Stream → ℕ → List ℕ → ℕ → Type 0
+Listed streams n via len = (k : ℕ) → k < len → Unmetered streams n (getD via k 0)
+
+-- A forest along which amounts can be routed.
+pub record Routable (streams : List Stream) (n : ℕ) (f : Forest) : Type 0 where
+  pub vias : length (f .via) ≡ places
+  pub intos : length (f .into) ≡ places
+  pub short : f .len ≤ places
+  pub listed : Listed streams n (f .via) (f .len)
 
 -- Held amounts within the hint's room.
 pub record Routes (xs : List ℕ) : Type 0 where

@@ -19,11 +19,11 @@ ghost use Rattle.plants.specs.Plants.{noStream};
 ghost use Rattle.model.specs.SearchNeeds.{Network};
 ghost use Rattle.model.specs.Sizes.{hintRoom};
 ghost use Rattle.model.specs.SolverNeeds.{Close};
-ghost use Rattle.solver.specs.Forests.{Spanning, Unmetered, Listed, Routes, Kept};
+ghost use Rattle.solver.specs.Forests.{Spanning, Unmetered, Listed, Routable, Routes, Kept};
 
-// The labels, and no stream yet.
-fn roots(labels: [u8; PLACES]) -> Forest
-    ensures { λ r. ⌜ Spanning r × (r .len ≡ 0) ⌝ }
+// The places that are labels.
+fn roots(labels: [u8; PLACES]) -> [bool; PLACES]
+    ensures { λ r. ⌜ length r ≡ places ⌝ }
 {
     let mut reached = [false; PLACES];
     let mut u: usize = 0;
@@ -31,80 +31,116 @@ fn roots(labels: [u8; PLACES]) -> Forest
         reached[u] = labels[u] as usize == u;
         u += 1;
     }
-    Forest {
-        reached: reached,
-        via: [0u8; PLACES],
-        into: [false; PLACES],
-        len: 0,
-    }
+    reached
 }
 
-// Place e over stream i, where it is not reached yet.
-fn reach(f: Forest, i: u8, e: usize, into: bool) -> Forest
-    requires { ⌜ Spanning f × (e < places) ⌝ }
-    ensures { λ r. ⌜ Spanning r × ((ss : List Stream) (n : ℕ) → Unmetered ss n i → Listed ss n f → Listed ss n r) ⌝ }
+// Place e over stream i, where it is not reached yet. How many streams there are now.
+fn reach(
+    reached: &mut [bool; PLACES],
+    via: &mut [u8; PLACES],
+    into: &mut [bool; PLACES],
+    len: usize,
+    i: u8,
+    e: usize,
+    inwards: bool,
+) -> usize
+    requires { ⌜ Spanning (now reached) (now via) (now into) len × (e < places) ⌝ }
+    ensures { λ r. ⌜ Spanning (now (reached .exit)) (now (via .exit)) (now (into .exit)) r × ((ss : List Stream) (n : ℕ) → Unmetered ss n i → Listed ss n (now (via .entry)) len → Listed ss n (now (via .exit)) r) ⌝ }
 {
-    if f.reached[e] {
-        return f;
+    if reached[e] {
+        return len;
     }
-    let at = f.len;
-    let mut r = f;
-    r.reached[e] = true;
-    r.via[at] = i;
-    r.into[at] = into;
-    r.len = at + 1;
-    r
+    reached[e] = true;
+    via[len] = i;
+    into[len] = inwards;
+    len + 1
 }
 
 // Unmetered stream i, where it leads from a place that is reached to one that is not.
-fn along(f: Forest, i: u8, s: Stream) -> Forest
-    requires { ⌜ Spanning f × WithinStream maxUnits s ⌝ }
-    ensures { λ r. ⌜ Spanning r × ((ss : List Stream) (n : ℕ) → i < n → getD ss i noStream ≡ s → Listed ss n f → Listed ss n r) ⌝ }
+fn along(
+    reached: &mut [bool; PLACES],
+    via: &mut [u8; PLACES],
+    into: &mut [bool; PLACES],
+    len: usize,
+    i: u8,
+    s: Stream,
+) -> usize
+    requires { ⌜ Spanning (now reached) (now via) (now into) len × WithinStream maxUnits s ⌝ }
+    ensures { λ r. ⌜ Spanning (now (reached .exit)) (now (via .exit)) (now (into .exit)) r × ((ss : List Stream) (n : ℕ) → i < n → getD ss i noStream ≡ s → Listed ss n (now (via .entry)) len → Listed ss n (now (via .exit)) r) ⌝ }
 {
     if s.metered {
-        return f;
+        return len;
     }
     let u = s.from as usize;
     let v = s.to as usize;
-    if f.reached[u] {
-        return reach(f, i, v, true);
+    if reached[u] {
+        return reach(reached, via, into, len, i, v, true);
     }
-    if f.reached[v] {
-        return reach(f, i, u, false);
+    if reached[v] {
+        return reach(reached, via, into, len, i, u, false);
     }
-    f
+    len
 }
 
 // One pass over the streams.
-fn pass(streams: [Stream; MAX_STREAMS], count: usize, start: Forest) -> Forest
-    requires { ⌜ Network streams count × Spanning start × Listed streams count start ⌝ }
-    ensures { λ r. ⌜ Spanning r × Listed streams count r ⌝ }
+fn pass(
+    streams: [Stream; MAX_STREAMS],
+    count: usize,
+    reached: &mut [bool; PLACES],
+    via: &mut [u8; PLACES],
+    into: &mut [bool; PLACES],
+    start: usize,
+) -> usize
+    requires { ⌜ Network streams count × Spanning (now reached) (now via) (now into) start × Listed streams count (now via) start ⌝ }
+    ensures { λ r. ⌜ Spanning (now (reached .exit)) (now (via .exit)) (now (into .exit)) r × Listed streams count (now (via .exit)) r ⌝ }
 {
-    let mut f = start;
+    let mut len = start;
     let mut i: usize = 0;
     while i < count {
-        f = along(f, i as u8, streams[i]);
+        len = along(reached, via, into, len, i as u8, streams[i]);
         i += 1;
     }
-    f
+    len
 }
 
 // Passes, until one reaches no further place.
-pub fn forest(streams: [Stream; MAX_STREAMS], count: usize, labels: [u8; PLACES]) -> Forest
-    requires { ⌜ Network streams count ⌝ }
-    ensures { λ r. ⌜ Spanning r × Listed streams count r ⌝ }
+fn grow(
+    streams: [Stream; MAX_STREAMS],
+    count: usize,
+    reached: &mut [bool; PLACES],
+    via: &mut [u8; PLACES],
+    into: &mut [bool; PLACES],
+) -> usize
+    requires { ⌜ Network streams count × Spanning (now reached) (now via) (now into) 0 ⌝ }
+    ensures { λ r. ⌜ Spanning (now (reached .exit)) (now (via .exit)) (now (into .exit)) r × Listed streams count (now (via .exit)) r ⌝ }
 {
-    let mut f = roots(labels);
+    let mut len: usize = 0;
     let mut left: usize = PLACES;
     while 0 < left {
-        let before = f.len;
-        f = pass(streams, count, f);
-        if f.len == before {
-            return f;
+        let before = len;
+        len = pass(streams, count, reached, via, into, before);
+        if len == before {
+            return len;
         }
         left -= 1;
     }
-    f
+    len
+}
+
+// A spanning forest from the labels.
+pub fn forest(streams: [Stream; MAX_STREAMS], count: usize, labels: [u8; PLACES]) -> Forest
+    requires { ⌜ Network streams count ⌝ }
+    ensures { λ r. ⌜ Routable streams count r ⌝ }
+{
+    let mut reached = roots(labels);
+    let mut via = [0u8; PLACES];
+    let mut into = [false; PLACES];
+    let len = grow(streams, count, &mut reached, &mut via, &mut into);
+    Forest {
+        via: via,
+        into: into,
+        len: len,
+    }
 }
 
 // The held amount nearest to x within the hint's room.
@@ -155,7 +191,7 @@ pub fn route(
     nets: &mut [u64; PLACES],
     flows: &mut [u64; MAX_STREAMS],
 )
-    requires { ⌜ Network streams count × Spanning f × Listed streams count f × (length (now nets) ≡ places) × Routes (now flows) ⌝ }
+    requires { ⌜ Network streams count × Routable streams count f × (length (now nets) ≡ places) × Routes (now flows) ⌝ }
     ensures { λ _. ⌜ Routes (now (flows .exit)) × Kept streams count (now (flows .entry)) (now (flows .exit)) ⌝ }
 {
     let mut k = f.len;

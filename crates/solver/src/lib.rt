@@ -54,10 +54,9 @@ pub fn solve(p: Plant, labels: [u8; PLACES]) -> Solved
     solve_at(p, start(p, labels))
 }
 
-// A spanning forest of unmetered streams. Which places it reaches; and in the order in which they were reached, the stream that
-// leads to each, and whether it leads into it.
+// A spanning forest of unmetered streams: in the order in which places were reached, the stream that leads to each, and whether
+// it leads into it.
 pub struct Forest {
-    pub reached: [bool; PLACES],
     pub via: [u8; PLACES],
     pub into: [bool; PLACES],
     pub len: usize,

@@ -21,7 +21,7 @@ reach-requires : tie.Need-reach-requires
 reach-requires c κs = search needs
 
 returns-2 : tie.Need-returns-2
-returns-2 c = (c .reach .ensures .0, λ ss n l e h. c .reach .ensures .1 ss n (l, ap (λ (s : Stream). s .metered) e ∙ c .before .before .before .before .before .if1 .left) h)
+returns-2 c = (c .reach .ensures .0, λ ss n l e h. c .reach .ensures .1 ss n (l, ap (λ (s : Stream). s .metered) e ∙ c .before .before .before .before .before .before .before .before .if1 .left) h)
 
 element-copy-out-if3 : tie.Need-element-copy-out-if3
 element-copy-out-if3 c = search needs
@@ -30,7 +30,7 @@ reach-requires-2 : tie.Need-reach-requires-2
 reach-requires-2 c κs = search needs
 
 returns-3 : tie.Need-returns-3
-returns-3 c = (c .reach2 .ensures .0, λ ss n l e h. c .reach2 .ensures .1 ss n (l, ap (λ (s : Stream). s .metered) e ∙ c .before .before .before .before .before .before .before .if1 .left) h)
+returns-3 c = (c .reach2 .ensures .0, λ ss n l e h. c .reach2 .ensures .1 ss n (l, ap (λ (s : Stream). s .metered) e ∙ c .before .before .before .before .before .before .before .before .before .before .if1 .left) h)
 
 returns-4 : tie.Need-returns-4
 returns-4 c = search needs

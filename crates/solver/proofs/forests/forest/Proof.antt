@@ -1,51 +1,19 @@
--- `solver::forests::forest` meets its contract: each pass keeps what is asked of a forest.
-use native.Mathlib.Omega.{arith}
+-- `solver::forests::forest` meets its contract: what is grown from the labels can be routed along.
 use borrow.Author.Needs.{needs}
-use Rattle.solver.specs.Forests.{Spanning, Listed}
+use Rattle.solver.proofs.Spanning.{spanning-short}
 use Rattle.solver.proofs.forests.forest.Statement.{statement}
 use Rattle.solver.proofs.forests.forest.Tie as tie
 
-abbrev Inv-loop : tie.InvT-loop
-Inv-loop streams count f₀ left₀ f left = Spanning f × Listed streams count f
-
-abbrev μ-loop : tie.MeasureT-loop
-μ-loop streams count f₀ left₀ f left = left
-
-roots-requires : tie.Need-roots-requires Inv-loop μ-loop
+roots-requires : tie.Need-roots-requires
 roots-requires c κs = search needs
 
-loop-holds : tie.Need-loop-holds Inv-loop μ-loop
-loop-holds c = (c .roots .ensures .0, λ k l. absurd (omega (arith, c .roots .ensures .1)))
+grow-requires : tie.Need-grow-requires
+grow-requires c κs = search needs
 
-pass-requires : tie.Need-pass-requires Inv-loop μ-loop
-pass-requires c κs = search needs
-
-returns : tie.Need-returns Inv-loop μ-loop
-returns c = search needs
-
-sub-left : tie.Need-sub-left Inv-loop μ-loop
-sub-left c = search needs
-
-loop-less : tie.Need-loop-less Inv-loop μ-loop
-loop-less c = search needs
-
-loop-again : tie.Need-loop-again Inv-loop μ-loop
-loop-again c = search needs
-
-returns-2 : tie.Need-returns-2 Inv-loop μ-loop
-returns-2 c = search needs
+returns : tie.Need-returns
+returns c =
+    let s = c .grow .ensures .0 in
+    record { vias = s .vias; intos = s .intos; short = spanning-short s; listed = c .grow .ensures .1 }
 
 pub forest-spec : {M : Type 1} → statement M
-forest-spec =
-    tie.close
-    (tie.spec
-    Inv-loop
-    μ-loop
-    roots-requires
-    loop-holds
-    pass-requires
-    returns
-    sub-left
-    loop-less
-    loop-again
-    returns-2)
+forest-spec = tie.close (tie.spec roots-requires grow-requires returns)

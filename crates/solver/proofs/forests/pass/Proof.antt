@@ -8,10 +8,10 @@ use Rattle.solver.proofs.forests.pass.Statement.{statement}
 use Rattle.solver.proofs.forests.pass.Tie as tie
 
 abbrev Inv-loop : tie.InvT-loop
-Inv-loop count streams f₀ i₀ f i = (i ≤ count) × Spanning f × Listed streams count f
+Inv-loop count reached₀ via₀ into₀ start streams len₀ i₀ reached via into len i = (i ≤ count) × Spanning reached via into len × Listed streams count via len
 
 abbrev μ-loop : tie.MeasureT-loop
-μ-loop count streams f₀ i₀ f i = count - i
+μ-loop count reached₀ via₀ into₀ start streams len₀ i₀ reached via into len i = count - i
 
 loop-holds : tie.Need-loop-holds Inv-loop μ-loop
 loop-holds c = search needs
@@ -26,7 +26,7 @@ array-copy-out-along : tie.Need-array-copy-out-along Inv-loop μ-loop
 array-copy-out-along c = search needs
 
 along-requires : tie.Need-along-requires Inv-loop μ-loop
-along-requires c κs = (c .before .before .loop .inv .1, c .before .before .before .pre .0 .within .each (c .before .before .loop .i) (omega arith))
+along-requires c κs = let at = c .before .before .before .before .before in (at .loop .inv .1, at .before .pre .0 .within .each (at .loop .i) (omega arith))
 
 add-i : tie.Need-add-i Inv-loop μ-loop
 add-i c = search needs
@@ -35,7 +35,7 @@ loop-less : tie.Need-loop-less Inv-loop μ-loop
 loop-less c = search needs
 
 loop-again : tie.Need-loop-again Inv-loop μ-loop
-loop-again c = (omega arith, c .along .ensures .0, c .along .ensures .1 (c .before .before .before .before .args .t1) _ (omega arith) refl (c .before .before .before .loop .inv .2))
+loop-again c = let at = c .before .before .before .before .before .before in (omega arith, c .along .ensures .0, c .along .ensures .1 (at .before .args .t1) _ (omega arith) refl (at .loop .inv .2))
 
 returns : tie.Need-returns Inv-loop μ-loop
 returns c = search needs

@@ -1,9 +1,8 @@
 -- `solver::forests::roots` meets its contract: each store keeps the length.
-use mathlib.Core.Path.{_≡_, refl}
-use mathlib.Core.Bool.{false}
-use Prim.Native.Nat.{ℕ, _≤_, _-_}
+use mathlib.Core.Path.{_≡_}
+use Prim.Native.Nat.{_≤_, _-_}
 use native.Mathlib.Omega.{arith}
-use lib.ListN.{length, length-replicate}
+use lib.ListN.{length}
 use borrow.Author.Needs.{needs}
 use Rattle.plants.specs.Limits.{places}
 use Rattle.solver.proofs.forests.roots.Statement.{statement}
@@ -37,7 +36,7 @@ loop-again : tie.Need-loop-again Inv-loop μ-loop
 loop-again c = search needs
 
 returns : tie.Need-returns Inv-loop μ-loop
-returns c = (record { reaches = c .before .loop .inv .1; vias = length-replicate {A = ℕ} places 0; intos = length-replicate places false; few = omega arith }, refl)
+returns c = c .before .loop .inv .1
 
 pub roots-spec : {M : Type 1} → statement M
 roots-spec =

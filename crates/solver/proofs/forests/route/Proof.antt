@@ -6,7 +6,7 @@ use lib.ListN.{length, getD}
 use borrow.Author.Needs.{needs}
 use Rattle.plants.specs.Limits.{places, maxStreams}
 use Rattle.solver.specs.Forests.{Unmetered, Routes, Kept}
-use Rattle.solver.proofs.Spanning.{spanning-short, routes-set, kept-set}
+use Rattle.solver.proofs.Spanning.{routes-set, kept-set}
 use Rattle.solver.proofs.forests.route.Statement.{statement}
 use Rattle.solver.proofs.forests.route.Tie as tie
 
@@ -17,13 +17,13 @@ abbrev μ-loop : tie.MeasureT-loop
 μ-loop count nets₀ flows₀ streams f k₀ nets flows k = k
 
 loop-holds : tie.Need-loop-holds Inv-loop μ-loop
-loop-holds c = (omega arith, c .pre .3, c .pre .4, record { each = λ k l m. refl })
+loop-holds c = (omega arith, c .pre .2, c .pre .3, record { each = λ k l m. refl })
 
 short : (c : tie.In-loop Inv-loop μ-loop) → c .before .loop .k - 1 < places
-short c = omega (arith, spanning-short (c .before .before .pre .1))
+short c = omega (arith, c .before .before .pre .1 .short)
 
 listed : (c : tie.In-loop Inv-loop μ-loop) → Unmetered (c .before .before .args .t1) (c .before .before .args .count) (getD (c .before .before .args .t3 .via) (c .before .loop .k - 1) 0)
-listed c = c .before .before .pre .2 _ (omega arith)
+listed c = c .before .before .pre .1 .listed _ (omega arith)
 
 index : (c : tie.In-loop Inv-loop μ-loop) → getD (c .before .before .args .t3 .via) (c .before .loop .k - 1) 0 < maxStreams
 index c = omega (arith, listed c .0, c .before .before .pre .0 .within .few-streams)

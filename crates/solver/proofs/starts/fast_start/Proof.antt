@@ -53,8 +53,7 @@ route-requires c κs =
     let st = at .before in
     let p = st .args .p in (
       network-of p (st .pre .0),
-      f .forest .ensures .0,
-      f .forest .ensures .1,
+      f .forest .ensures,
       rw (f .before .nets-of .ensures) (nets-long _ _ (p .count)),
       rw (f .before .before .settle-flows .ensures) (level-routes p (st .pre .0) (levels at)),
     )
