@@ -1,44 +1,14 @@
 -- The measure is how many cases there may still be.
 use borrow.Author.Needs.{needs}
 use Prim.Native.Nat.{_≤_, _-_}
-use Rattle.vectors.proofs.try_file.Statement.{statement}
-use Rattle.vectors.proofs.try_file.Tie as tie
+use Rattle.vectors.proofs.try_cases.Statement.{statement}
+use Rattle.vectors.proofs.try_cases.Tie as tie
 
 abbrev Inv-loop : tie.InvT-loop
-Inv-loop i size file cases₀ right₀ t8 t9 t10 t11 cases right = (right ≤ cases) × (cases ≤ 10000)
+Inv-loop file cases₀ right₀ t5 t6 t7 t8 cases right = (right ≤ cases) × (cases ≤ 10000)
 
 abbrev μ-loop : tie.MeasureT-loop
-μ-loop i size file cases₀ right₀ t8 t9 t10 t11 cases right = 10000 - cases
-
-slice-aggregate-arg : tie.Need-slice-aggregate-arg Inv-loop μ-loop
-slice-aggregate-arg c = search needs
-
-arg-requires : tie.Need-arg-requires Inv-loop μ-loop
-arg-requires c κs = search needs
-
-sub-write-all : tie.Need-sub-write-all Inv-loop μ-loop
-sub-write-all c = search needs
-
-part-write-all-start : tie.Need-part-write-all-start Inv-loop μ-loop
-part-write-all-start c = search needs
-
-part-write-all-end : tie.Need-part-write-all-end Inv-loop μ-loop
-part-write-all-end c = search needs
-
-write-all-requires : tie.Need-write-all-requires Inv-loop μ-loop
-write-all-requires c κs = search needs
-
-sub-open-read : tie.Need-sub-open-read Inv-loop μ-loop
-sub-open-read c = search needs
-
-part-open-read-start : tie.Need-part-open-read-start Inv-loop μ-loop
-part-open-read-start c = search needs
-
-part-open-read-end : tie.Need-part-open-read-end Inv-loop μ-loop
-part-open-read-end c = search needs
-
-open-read-requires : tie.Need-open-read-requires Inv-loop μ-loop
-open-read-requires c κs = search needs
+μ-loop file cases₀ right₀ t5 t6 t7 t8 cases right = 10000 - cases
 
 loop-holds : tie.Need-loop-holds Inv-loop μ-loop
 loop-holds c = search needs
@@ -70,9 +40,6 @@ loop-less-2 c = search needs
 loop-again-2 : tie.Need-loop-again-2 Inv-loop μ-loop
 loop-again-2 c = search needs
 
-close-requires : tie.Need-close-requires Inv-loop μ-loop
-close-requires c κs = search needs
-
 slice-aggregate-print-count-2 : tie.Need-slice-aggregate-print-count-2 Inv-loop μ-loop
 slice-aggregate-print-count-2 c = search needs
 
@@ -88,28 +55,18 @@ print-count-requires-3 c κs = search needs
 slice-aggregate-write-all : tie.Need-slice-aggregate-write-all Inv-loop μ-loop
 slice-aggregate-write-all c = search needs
 
-write-all-requires-2 : tie.Need-write-all-requires-2 Inv-loop μ-loop
-write-all-requires-2 c κs = search needs
+write-all-requires : tie.Need-write-all-requires Inv-loop μ-loop
+write-all-requires c κs = search needs
 
 returns : tie.Need-returns Inv-loop μ-loop
 returns c = search needs
 
-pub try-file-spec : {M : Type 1} → statement M
-try-file-spec =
+pub try-cases-spec : {M : Type 1} → statement M
+try-cases-spec =
     tie.close
     (tie.spec
     Inv-loop
     μ-loop
-    slice-aggregate-arg
-    arg-requires
-    sub-write-all
-    part-write-all-start
-    part-write-all-end
-    write-all-requires
-    sub-open-read
-    part-open-read-start
-    part-open-read-end
-    open-read-requires
     loop-holds
     try-next-requires
     add-cases
@@ -120,11 +77,10 @@ try-file-spec =
     print-count-requires
     loop-less-2
     loop-again-2
-    close-requires
     slice-aggregate-print-count-2
     print-count-requires-2
     slice-aggregate-print-count-3
     print-count-requires-3
     slice-aggregate-write-all
-    write-all-requires-2
+    write-all-requires
     returns)

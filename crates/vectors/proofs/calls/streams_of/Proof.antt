@@ -1,16 +1,23 @@
 -- The index stays within the array and the bytes handed in.
 use borrow.Author.Needs.{needs}
 use Prim.Native.Nat.{_≤_, _-_}
-use mathlib.Core.Path.{_≡_}
-use lib.ListN.{length}
-use Rattle.vectors.proofs.calls.plant_of.Statement.{statement}
-use Rattle.vectors.proofs.calls.plant_of.Tie as tie
+use Rattle.vectors.proofs.calls.streams_of.Statement.{statement}
+use Rattle.vectors.proofs.calls.streams_of.Tie as tie
 
 abbrev Inv-loop : tie.InvT-loop
 Inv-loop given streams₀ i₀ streams i = i ≤ 96
 
 abbrev μ-loop : tie.MeasureT-loop
 μ-loop given streams₀ i₀ streams i = 96 - i
+
+unmetered-stream-requires : tie.Need-unmetered-stream-requires Inv-loop μ-loop
+unmetered-stream-requires c κs = search needs
+
+loop-holds : tie.Need-loop-holds Inv-loop μ-loop
+loop-holds c = search needs
+
+mul-stream-of : tie.Need-mul-stream-of Inv-loop μ-loop
+mul-stream-of c = search needs
 
 sub-stream-of : tie.Need-sub-stream-of Inv-loop μ-loop
 sub-stream-of c = search needs
@@ -23,27 +30,6 @@ part-stream-of-end c = search needs
 
 stream-of-requires : tie.Need-stream-of-requires Inv-loop μ-loop
 stream-of-requires c κs = search needs
-
-loop-holds : tie.Need-loop-holds Inv-loop μ-loop
-loop-holds c = search needs
-
-mul-stream-of : tie.Need-mul-stream-of Inv-loop μ-loop
-mul-stream-of c = search needs
-
-add-stream-of : tie.Need-add-stream-of Inv-loop μ-loop
-add-stream-of c = search needs
-
-sub-stream-of-2 : tie.Need-sub-stream-of-2 Inv-loop μ-loop
-sub-stream-of-2 c = search needs
-
-part-stream-of-start-2 : tie.Need-part-stream-of-start-2 Inv-loop μ-loop
-part-stream-of-start-2 c = search needs
-
-part-stream-of-end-2 : tie.Need-part-stream-of-end-2 Inv-loop μ-loop
-part-stream-of-end-2 c = search needs
-
-stream-of-requires-2 : tie.Need-stream-of-requires-2 Inv-loop μ-loop
-stream-of-requires-2 c κs = search needs
 
 mul-streams : tie.Need-mul-streams Inv-loop μ-loop
 mul-streams c = search needs
@@ -60,37 +46,25 @@ loop-less c = search needs
 loop-again : tie.Need-loop-again Inv-loop μ-loop
 loop-again c = search needs
 
-shared-slice-read-t20 : tie.Need-shared-slice-read-t20 Inv-loop μ-loop
-shared-slice-read-t20 c = search needs
-
-shared-slice-read-t22 : tie.Need-shared-slice-read-t22 Inv-loop μ-loop
-shared-slice-read-t22 c = search needs
-
 returns : tie.Need-returns Inv-loop μ-loop
 returns c = search needs
 
-pub plant-of-spec : {M : Type 1} → statement M
-plant-of-spec =
+pub streams-of-spec : {M : Type 1} → statement M
+streams-of-spec =
     tie.close
     (tie.spec
     Inv-loop
     μ-loop
+    unmetered-stream-requires
+    loop-holds
+    mul-stream-of
     sub-stream-of
     part-stream-of-start
     part-stream-of-end
     stream-of-requires
-    loop-holds
-    mul-stream-of
-    add-stream-of
-    sub-stream-of-2
-    part-stream-of-start-2
-    part-stream-of-end-2
-    stream-of-requires-2
     mul-streams
     array-set-from-streams
     add-i
     loop-less
     loop-again
-    shared-slice-read-t20
-    shared-slice-read-t22
     returns)
