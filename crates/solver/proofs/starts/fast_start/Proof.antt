@@ -13,7 +13,7 @@ use Rattle.model.specs.Sizes.{priceBand}
 use Rattle.model.proofs.Booking.{nets-long}
 use Rattle.model.proofs.Layouts.{ready-settles}
 use Rattle.model.proofs.Theorem.{network-of}
-use Rattle.solver.proofs.Spanning.{routes-none, routes-amounts}
+use Rattle.routing.proofs.Spanning.{routes-none, routes-amounts}
 use Rattle.solver.proofs.Factored.{labels-of, level-ready, level-routes, routed-start}
 use Rattle.solver.proofs.starts.fast_start.Statement.{statement}
 use Rattle.solver.proofs.starts.fast_start.Tie as tie
