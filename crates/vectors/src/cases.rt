@@ -66,17 +66,22 @@ fn call_right(head: &[u8], given: &[u8], slice: &mut [u8]) -> bool
     same_numbers(done, &head[12..])
 }
 
+// Reads the bytes handed in, and makes the call.
+fn given_right(file: i32, head: &[u8], slice: &mut [u8]) -> bool
+    requires { ⌜ 20 ≤ length (now head) ⌝ }
+{
+    let mut given = [0u8; ROOM];
+    let size = read_part(file, &head[2..], &mut given);
+    call_right(head, &given[0..size], slice)
+}
+
 // Tries the case that starts so.
 fn case_right(file: i32, head: [u8; HEAD]) -> bool {
-    let mut given = [0u8; ROOM];
+    let mut slice = [head[1]; ROOM];
+    let right = given_right(file, &head, &mut slice);
     let mut known = [head[1]; ROOM];
-    let mut slice = known;
-    let size = read_part(file, &head[2..], &mut given);
     read_part(file, &head[4..], &mut known);
-    if call_right(&head, &given[0..size], &mut slice) {
-        return check::same(&slice, &known);
-    }
-    false
+    right && check::same(&slice, &known)
 }
 
 // Tries the next case of an open file; END where the file ends.

@@ -3,7 +3,7 @@ mod calls;
 mod cases;
 
 use cases::END;
-use cases::RIGHT;
+use cases::WRONG;
 use cases::try_next;
 use libc::STDOUT_FILENO;
 
@@ -18,21 +18,17 @@ fn print_count(text: &[u8], count: u64) {
 // Tries the cases of an open file, says which differ, and counts.
 fn try_cases(file: i32) {
     let mut cases: u64 = 0;
-    let mut right: u64 = 0;
     while cases < MOST_CASES {
         let found = try_next(file);
         if found == END {
             break;
         }
         cases += 1;
-        if found == RIGHT {
-            right += 1;
-        } else {
+        if found == WRONG {
             print_count(b", differs: case ", cases);
         }
     }
-    print_count(b" ", right);
-    print_count(b" of ", cases);
+    print_count(b", cases: ", cases);
     io::write_all(STDOUT_FILENO, b"\n");
 }
 

@@ -5,10 +5,10 @@ use Rattle.vectors.proofs.try_cases.Statement.{statement}
 use Rattle.vectors.proofs.try_cases.Tie as tie
 
 abbrev Inv-loop : tie.InvT-loop
-Inv-loop file cases₀ right₀ t5 t6 t7 t8 cases right = (right ≤ cases) × (cases ≤ 10000)
+Inv-loop file cases₀ t4 t5 t6 cases = cases ≤ 10000
 
 abbrev μ-loop : tie.MeasureT-loop
-μ-loop file cases₀ right₀ t5 t6 t7 t8 cases right = 10000 - cases
+μ-loop file cases₀ t4 t5 t6 cases = 10000 - cases
 
 loop-holds : tie.Need-loop-holds Inv-loop μ-loop
 loop-holds c = search needs
@@ -19,20 +19,17 @@ try-next-requires c κs = search needs
 add-cases : tie.Need-add-cases Inv-loop μ-loop
 add-cases c = search needs
 
-add-right : tie.Need-add-right Inv-loop μ-loop
-add-right c = search needs
+slice-aggregate-print-count : tie.Need-slice-aggregate-print-count Inv-loop μ-loop
+slice-aggregate-print-count c = search needs
+
+print-count-requires : tie.Need-print-count-requires Inv-loop μ-loop
+print-count-requires c κs = search needs
 
 loop-less : tie.Need-loop-less Inv-loop μ-loop
 loop-less c = search needs
 
 loop-again : tie.Need-loop-again Inv-loop μ-loop
 loop-again c = search needs
-
-slice-aggregate-print-count : tie.Need-slice-aggregate-print-count Inv-loop μ-loop
-slice-aggregate-print-count c = search needs
-
-print-count-requires : tie.Need-print-count-requires Inv-loop μ-loop
-print-count-requires c κs = search needs
 
 loop-less-2 : tie.Need-loop-less-2 Inv-loop μ-loop
 loop-less-2 c = search needs
@@ -45,12 +42,6 @@ slice-aggregate-print-count-2 c = search needs
 
 print-count-requires-2 : tie.Need-print-count-requires-2 Inv-loop μ-loop
 print-count-requires-2 c κs = search needs
-
-slice-aggregate-print-count-3 : tie.Need-slice-aggregate-print-count-3 Inv-loop μ-loop
-slice-aggregate-print-count-3 c = search needs
-
-print-count-requires-3 : tie.Need-print-count-requires-3 Inv-loop μ-loop
-print-count-requires-3 c κs = search needs
 
 slice-aggregate-write-all : tie.Need-slice-aggregate-write-all Inv-loop μ-loop
 slice-aggregate-write-all c = search needs
@@ -70,17 +61,14 @@ try-cases-spec =
     loop-holds
     try-next-requires
     add-cases
-    add-right
-    loop-less
-    loop-again
     slice-aggregate-print-count
     print-count-requires
+    loop-less
+    loop-again
     loop-less-2
     loop-again-2
     slice-aggregate-print-count-2
     print-count-requires-2
-    slice-aggregate-print-count-3
-    print-count-requires-3
     slice-aggregate-write-all
     write-all-requires
     returns)
