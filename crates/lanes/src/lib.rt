@@ -1,6 +1,6 @@
-// The lanes: the streams in use as one array of numbers. First, for each place, the last stream that starts or ends there; then rows
-// of MAX_STREAMS numbers, one number for each stream; last, how many streams are in use. What is where is known here and nowhere else
-// in code, and in specs/Rows.antt.
+// The lanes: the streams in use as one array of numbers. First, for each place, a link to the last stream that starts or ends there:
+// twice its number, and one more where it starts there. Then rows of MAX_STREAMS numbers, one number for each stream; last, how many
+// streams are in use. What is where is known here and nowhere else in code, and in specs/Rows.antt.
 use plants::Stream;
 use plants::limits::MAX_STREAMS;
 use plants::limits::PLACES;
@@ -12,7 +12,7 @@ ghost use lib.ListN.{getD, length};
 ghost use Rattle.numbers.specs.Choice.{pick};
 ghost use Rattle.plants.specs.Limits.{places, maxStreams};
 ghost use Rattle.model.specs.Rows.{rowAt, laneCells, countOf, startsOf, endsOf, weightsOf, pullsOf};
-ghost use Rattle.model.specs.Near.{lastAt};
+ghost use Rattle.model.specs.Near.{linkAt};
 ghost use Rattle.model.specs.SearchNeeds.{Network, Rowed, Linkable, Linked, Laid};
 
 pub mod pushes;
@@ -21,7 +21,7 @@ pub mod slacks;
 // How many rows there are. The first two are the lists of each place's streams.
 const ROWS: usize = 6;
 
-// The stream before a stream at its start, and at its end.
+// The link to the stream before a stream at its start, and at its end.
 const OUT: usize = PLACES;
 
 const INTO: usize = OUT + MAX_STREAMS;
@@ -38,6 +38,9 @@ const COUNT: usize = PLACES + ROWS * MAX_STREAMS;
 
 pub const LANES: usize = COUNT + 1;
 
+// No stream, as a link.
+const NONE: usize = 2 * MAX_STREAMS;
+
 // How many streams there are.
 pub fn count_of(lanes: &[u64; LANES]) -> usize
     ensures { λ r. ⌜ r ≡ countOf (now (lanes .entry)) ⌝ }
@@ -45,7 +48,7 @@ pub fn count_of(lanes: &[u64; LANES]) -> usize
     lanes[COUNT] as usize
 }
 
-// The last stream that starts or ends at place u, MAX_STREAMS where there is none.
+// The link to the last stream that starts or ends at place u, NONE where there is none.
 pub fn last_at(lanes: &[u64; LANES], u: usize) -> usize
     requires { ⌜ u < places ⌝ }
     ensures { λ r. ⌜ r ≡ getD (now (lanes .entry)) u 0 ⌝ }
@@ -97,10 +100,10 @@ pub fn place_at(lanes: &[u64; LANES], start: bool, i: usize) -> usize
     }
 }
 
-// The stream before it at its start, or at its end.
+// The link to the stream before it at its start, or at its end.
 pub fn before_at(lanes: &[u64; LANES], start: bool, i: usize) -> usize
     requires { ⌜ Linked (countOf (now lanes)) (startsOf (now lanes)) (endsOf (now lanes)) (now lanes) × (countOf (now lanes) ≤ maxStreams) × (i < countOf (now lanes)) ⌝ }
-    ensures { λ r. ⌜ r ≡ lastAt (startsOf (now (lanes .entry))) (endsOf (now (lanes .entry))) (pick start (getD (startsOf (now (lanes .entry))) i 0) (getD (endsOf (now (lanes .entry))) i 0)) i ⌝ }
+    ensures { λ r. ⌜ r ≡ linkAt (startsOf (now (lanes .entry))) (endsOf (now (lanes .entry))) (pick start (getD (startsOf (now (lanes .entry))) i 0) (getD (endsOf (now (lanes .entry))) i 0)) i ⌝ }
 {
     if start {
         return lanes[OUT + i] as usize;
@@ -135,8 +138,8 @@ fn link(count: usize, lanes: &mut [u64; LANES])
         let v = end_at(lanes, i);
         lanes[OUT + i] = lanes[u];
         lanes[INTO + i] = lanes[v];
-        lanes[u] = i as u64;
-        lanes[v] = i as u64;
+        lanes[v] = 2 * i as u64;
+        lanes[u] = 2 * i as u64 + 1;
         i += 1;
     }
 }
@@ -146,7 +149,7 @@ pub fn lay(streams: [Stream; MAX_STREAMS], count: usize) -> [u64; LANES]
     requires { ⌜ Network streams count ⌝ }
     ensures { λ r. ⌜ Laid streams count r ⌝ }
 {
-    let mut lanes = [MAX_STREAMS as u64; LANES];
+    let mut lanes = [NONE as u64; LANES];
     put_rows(streams, count, &mut lanes);
     lanes[COUNT] = count as u64;
     link(count, &mut lanes);

@@ -6,7 +6,6 @@ use mathlib.Core.Logic.{_⊎_, inl, inr, ⊎-elim}
 use Prim.Native.Nat.{ℕ, zero, suc, _+_, _*_, _≤_, _<_}
 use native.Mathlib.Omega.{arith}
 use native.Mathlib.Decide.{ℕ-discrete}
-use native.Mathlib.Numerals.{add-one}
 use borrow.Author.Tests.{ltb-true, lt-ltb, le-ltb, eq-eqb, ne-eqb, eqb-true}
 use lib.Dec.{eqb, ltb}
 use lib.ListN.{length, getD, set, length-set}
@@ -15,7 +14,7 @@ use Rattle.numbers.specs.Choice.{pick}
 use Rattle.numbers.proofs.Tests.{by-cases, clash}
 use Rattle.plants.specs.Limits.{places, maxStreams}
 use Rattle.model.specs.Rows.{rowAt, laneCells}
-use Rattle.model.specs.Near.{lastAt, relaxedAlong, relaxedAt, relaxedTo}
+use Rattle.model.specs.Near.{lastAt, linkAt, relaxedAlong, relaxedAt, relaxedTo}
 use Rattle.model.specs.SearchNeeds.{Linkable, Linked}
 use Rattle.model.proofs.Amounts.{get-set}
 
@@ -31,16 +30,23 @@ module _ (fs ts : List ℕ) where
       (λ t. rw t (inl (omega arith, t)))
       (λ t. rw t (⊎-elim (λ o. inl (omega (arith, o .0), o .1)) (λ o. inr o) (last-good u n)))
 
-  pub last-most : (u n : ℕ) → n ≤ maxStreams → lastAt fs ts u n ≤ maxStreams
-  last-most u n l = ⊎-elim (λ o. omega (arith, o .0)) (λ o. omega arith) (last-good u n)
+  -- What a link tells: the stream, and whether it starts at the place.
+  pub link-is : (u n : ℕ) → (d : ℕ) × (linkAt fs ts u n ≡ 2 * lastAt fs ts u n + d) × (d ≤ 1) × (lastAt fs ts u n < maxStreams → eqb d 1 ≡ eqb (getD fs (lastAt fs ts u n) 0) u)
+  unfolding linkAt lastAt
+  link-is u zero = (0, refl, omega arith, λ l. absurd (omega arith))
+  link-is u (suc n) = by-cases (eqb (getD fs n 0) u)
+      (λ t. rw t (1, refl, omega arith, λ l. sym t))
+      (λ t. by-cases (eqb (getD ts n 0) u)
+      (λ r. rw (t, r) (0, omega arith, omega arith, λ l. sym t))
+      (λ r. rw (t, r) (link-is u n)))
 
   -- So a walk along a list comes to an end.
-  pub last-less : (u i n : ℕ) → i < n → n ≤ maxStreams → pick {A = ℕ} (ltb (lastAt fs ts u i) n) (suc (lastAt fs ts u i)) 0 < pick {A = ℕ} (ltb i n) (suc i) 0
-  last-less u i n l m =
-      rw (lt-ltb i n l)
-      (⊎-elim (λ o. go (ltb (lastAt fs ts u i) n) (o .0)) (λ o. rw (le-ltb (lastAt fs ts u i) n (omega arith)) (omega arith)) (last-good u i))
+  pub link-less : (u i c n : ℕ) → c < n → 2 * i ≤ c → n ≤ 2 * maxStreams → pick {A = ℕ} (ltb (linkAt fs ts u i) n) (suc (linkAt fs ts u i)) 0 < pick {A = ℕ} (ltb c n) (suc c) 0
+  link-less u i c n l h m =
+      rw (lt-ltb c n l)
+      (⊎-elim (λ o. go (ltb (linkAt fs ts u i) n) (omega (arith, o .0, link-is u i .1, link-is u i .2))) (λ o. rw (le-ltb (linkAt fs ts u i) n (omega (arith, o, link-is u i .1))) (omega arith)) (last-good u i))
     where
-      go : (b : Bool) → lastAt fs ts u i < i → pick {A = ℕ} b (suc (lastAt fs ts u i)) 0 < suc i
+      go : (b : Bool) → linkAt fs ts u i < c → pick {A = ℕ} b (suc (linkAt fs ts u i)) 0 < suc c
       go true h = omega arith
       go false h = omega arith
 
@@ -90,20 +96,20 @@ module _ (fs ts : List ℕ) where
   -- One stream more in the lists, from place u to place v.
   pub link-step : (i u v : ℕ) (next : List ℕ) → i < maxStreams → u ≡ getD fs i 0 → v ≡ getD ts i 0 → u < places → v < places → Linked i fs ts next
       → Linked (i + 1) fs ts
-      (set (set (set (set next (rowAt 0 + i) (getD next u 0)) (rowAt 1 + i) (getD (set next (rowAt 0 + i) (getD next u 0)) v 0)) u i) v i)
-  unfolding lastAt
+      (set (set (set (set next (rowAt 0 + i) (getD next u 0)) (rowAt 1 + i) (getD (set next (rowAt 0 + i) (getD next u 0)) v 0)) v (2 * i)) u (2 * i + 1))
+  unfolding linkAt
   link-step i u v next l iu iv fu tv h = record {
-    long = length-set n3 v i ∙ length-set n2 u i ∙ length-set n1 (places + maxStreams + i) (getD n1 v 0) ∙ long1;
-    last = λ w b. rw add-one (top w b);
+    long = length-set n3 u (2 * i + 1) ∙ length-set n2 v (2 * i) ∙ length-set n1 (places + maxStreams + i) (getD n1 v 0) ∙ long1;
+    last = λ w b. let e : suc i ≡ i + 1 = omega arith in top w b ∙ ap (λ (m : ℕ). linkAt fs ts w m) e;
     out = λ k b. elim (ℕ-discrete k i) [
       | yes q ↦ rw q (low (places + i) (omega arith) ∙ getD-set-other n1 (places + maxStreams + i) (places + i) (getD n1 v 0) 0 (λ o. omega arith)
-          ∙ getD-set-same next (places + i) (getD next u 0) 0 (omega (arith, h .long)) ∙ h .last u fu ∙ ap (λ (w : ℕ). lastAt fs ts w i) iu)
+          ∙ getD-set-same next (places + i) (getD next u 0) 0 (omega (arith, h .long)) ∙ h .last u fu ∙ ap (λ (w : ℕ). linkAt fs ts w i) iu)
       | no q ↦ low (places + k) (omega arith) ∙ getD-set-other n1 (places + maxStreams + i) (places + k) (getD n1 v 0) 0 (λ o. omega arith)
           ∙ getD-set-other next (places + i) (places + k) (getD next u 0) 0 (λ o. q (omega arith)) ∙ h .out k (omega arith)
     ];
     into = λ k b. elim (ℕ-discrete k i) [
       | yes q ↦ rw q (low (places + maxStreams + i) (omega arith) ∙ getD-set-same n1 (places + maxStreams + i) (getD n1 v 0) 0 (omega (arith, long1))
-          ∙ getD-set-other next (places + i) v (getD next u 0) 0 (λ o. omega arith) ∙ h .last v tv ∙ ap (λ (w : ℕ). lastAt fs ts w i) iv)
+          ∙ getD-set-other next (places + i) v (getD next u 0) 0 (λ o. omega arith) ∙ h .last v tv ∙ ap (λ (w : ℕ). linkAt fs ts w i) iv)
       | no q ↦ low (places + maxStreams + k) (omega arith) ∙ getD-set-other n1 (places + maxStreams + i) (places + maxStreams + k) (getD n1 v 0) 0 (λ o. q (omega arith))
           ∙ getD-set-other next (places + i) (places + maxStreams + k) (getD next u 0) 0 (λ o. omega arith) ∙ h .into k (omega arith)
     ];
@@ -116,7 +122,7 @@ module _ (fs ts : List ℕ) where
       n2 = set n1 (places + maxStreams + i) (getD n1 v 0)
 
       n3 : List ℕ
-      n3 = set n2 u i
+      n3 = set n2 v (2 * i)
 
       long1 : length n1 ≡ laneCells
       long1 = length-set next (places + i) (getD next u 0) ∙ h .long
@@ -125,26 +131,20 @@ module _ (fs ts : List ℕ) where
       long2 = length-set n1 (places + maxStreams + i) (getD n1 v 0) ∙ long1
 
       long3 : length n3 ≡ laneCells
-      long3 = length-set n2 u i ∙ long2
+      long3 = length-set n2 v (2 * i) ∙ long2
 
-      low : (c : ℕ) → places ≤ c → getD (set n3 v i) c 0 ≡ getD n2 c 0
-      low c b = getD-set-other n3 v c i 0 (λ o. omega arith) ∙ getD-set-other n2 u c i 0 (λ o. omega arith)
+      low : (c : ℕ) → places ≤ c → getD (set n3 u (2 * i + 1)) c 0 ≡ getD n2 c 0
+      low c b = getD-set-other n3 u c (2 * i + 1) 0 (λ o. omega arith) ∙ getD-set-other n2 v c (2 * i) 0 (λ o. omega arith)
 
       old : (w : ℕ) → w < places → getD n2 w 0 ≡ getD next w 0
       old w b = getD-set-other n1 (places + maxStreams + i) w (getD n1 v 0) 0 (λ o. omega arith) ∙ getD-set-other next (places + i) w (getD next u 0) 0 (λ o. omega arith)
 
-      top : (w : ℕ) → w < places → getD (set n3 v i) w 0 ≡ pick (touches w i) i (lastAt fs ts w i)
+      top : (w : ℕ) → w < places → getD (set n3 u (2 * i + 1)) w 0 ≡ pick (eqb (getD fs i 0) w) (2 * i + 1) (pick (eqb (getD ts i 0) w) (2 * i) (linkAt fs ts w i))
       top w b =
-          get-set n3 v w i 0 (omega (arith, long3))
-          ∙ rw (get-set n2 u w i 0 (omega (arith, long2)), old w b, h .last w b, ← iu, ← iv) (both (eqb u w) (eqb v w) i (lastAt fs ts w i))
-        where
-          both : (a c : Bool) (x y : ℕ) → pick c x (pick a x y) ≡ pick (a || c) x y
-          both true true x y = refl
-          both true false x y = refl
-          both false true x y = refl
-          both false false x y = refl
+          get-set n3 u w (2 * i + 1) 0 (omega (arith, long3))
+          ∙ rw (get-set n2 v w (2 * i) 0 (omega (arith, long2)), old w b, h .last w b, ← iu, ← iv) refl
 
   -- Empty lists.
   pub link-none : {n : ℕ} {ls : List ℕ} → Linkable n ls → Linked 0 fs ts ls
-  unfolding lastAt
+  unfolding linkAt
   link-none h = record { long = h .long; last = h .none; out = λ k b. absurd (omega arith); into = λ k b. absurd (omega arith) }

@@ -39,11 +39,11 @@ module _ (xs ys : List ℕ) (e : (k : ℕ) → rowAt 2 ≤ k → getD xs k 0 ≡
       (λ k m. getD-drop (rowAt r) xs k 0 ∙ e (rowAt r + k) (omega arith) ∙ sym (getD-drop (rowAt r) ys k 0))
 
 -- The lists' stores leave the rows after them alone.
-pub linked-other : (i u v x y : ℕ) (ls : List ℕ) (k : ℕ) → i < maxStreams → u < places → v < places → rowAt 2 ≤ k
-    → getD (set (set (set (set ls (rowAt 0 + i) x) (rowAt 1 + i) y) u i) v i) k 0 ≡ getD ls k 0
-linked-other i u v x y ls k l lu lv m =
-    getD-set-other (set (set (set ls (rowAt 0 + i) x) (rowAt 1 + i) y) u i) v k i 0 (λ o. omega arith)
-    ∙ getD-set-other (set (set ls (rowAt 0 + i) x) (rowAt 1 + i) y) u k i 0 (λ o. omega arith)
+pub linked-other : (i u v x y a b : ℕ) (ls : List ℕ) (k : ℕ) → i < maxStreams → u < places → v < places → rowAt 2 ≤ k
+    → getD (set (set (set (set ls (rowAt 0 + i) x) (rowAt 1 + i) y) v a) u b) k 0 ≡ getD ls k 0
+linked-other i u v x y a b ls k l lu lv m =
+    getD-set-other (set (set (set ls (rowAt 0 + i) x) (rowAt 1 + i) y) v a) u k b 0 (λ o. omega arith)
+    ∙ getD-set-other (set (set ls (rowAt 0 + i) x) (rowAt 1 + i) y) v k a 0 (λ o. omega arith)
     ∙ getD-set-other (set ls (rowAt 0 + i) x) (rowAt 1 + i) k y 0 (λ o. omega arith) ∙ getD-set-other ls (rowAt 0 + i) k x 0 (λ o. omega arith)
 
 -- No stream yet.

@@ -1,5 +1,5 @@
--- The lanes: the streams in use as one list of numbers. First, for each place, the last stream that starts or ends there; then rows
--- of maxStreams numbers, one number for each stream; last, how many streams are in use.
+-- The lanes: the streams in use as one list of numbers. First, for each place, a link to the last stream that starts or ends there
+-- (linkAt in Near); then rows of maxStreams numbers, one number for each stream; last, how many streams are in use.
 use mathlib.Core.List.{List}
 use Prim.Native.Nat.{ℕ, _+_, _*_}
 use lib.ListN.{getD, drop}
@@ -26,7 +26,7 @@ countOf ls = getD ls countCell 0
 unfoldable pub laneOf : ℕ → List ℕ → List ℕ
 laneOf r ls = drop (rowAt r) ls
 
--- Rows 0 and 1 are the lists of each place's streams (Linked in Premises). Row 2 has the starts of the streams, row 3 the ends.
+-- Rows 0 and 1 are the lists of each place's streams (Linked in SearchNeeds). Row 2 has the starts of the streams, row 3 the ends.
 abbrev pub startsOf : List ℕ → List ℕ
 startsOf ls = laneOf 2 ls
 

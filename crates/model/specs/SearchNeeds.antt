@@ -10,7 +10,7 @@ use Rattle.plants.specs.Plants.{noStream}
 use Rattle.plants.specs.Within.{Accepted}
 use Rattle.model.specs.Sizes.{mostFlow, mostPull, priceShift, mostStep, mostFall}
 use Rattle.model.specs.Rows.{rowAt, laneCells, countOf, startsOf, endsOf, weightsOf, pullsOf}
-use Rattle.model.specs.Near.{gapsOf, lastAt}
+use Rattle.model.specs.Near.{gapsOf, linkAt}
 use Rattle.flows.specs.Certificate.{weightOf}
 use Rattle.model.specs.Held.{readingOf, AllHeld}
 
@@ -45,18 +45,19 @@ pub record Walkable (streams : List Stream) (n : ℕ) (xs ps : List ℕ) (d : �
 abbrev pub Falling : List ℕ → ℕ → Type 0
 Falling ps d = (length ps ≡ places) × ((u : ℕ) → u < places → mostFall d ≤ getD ps u 0)
 
--- For each place the last stream that starts or ends there; then for each stream the one before it at its start, and at its end.
+-- For each place the last stream that starts or ends there, by linkAt; then for each stream the one before it at its start, and at
+-- its end.
 pub record Linked (n : ℕ) (fs ts ls : List ℕ) : Type 0 where
   pub long : length ls ≡ laneCells
-  pub last : (u : ℕ) → u < places → getD ls u 0 ≡ lastAt fs ts u n
-  pub out : (k : ℕ) → k < n → getD ls (rowAt 0 + k) 0 ≡ lastAt fs ts (getD fs k 0) k
-  pub into : (k : ℕ) → k < n → getD ls (rowAt 1 + k) 0 ≡ lastAt fs ts (getD ts k 0) k
+  pub last : (u : ℕ) → u < places → getD ls u 0 ≡ linkAt fs ts u n
+  pub out : (k : ℕ) → k < n → getD ls (rowAt 0 + k) 0 ≡ linkAt fs ts (getD fs k 0) k
+  pub into : (k : ℕ) → k < n → getD ls (rowAt 1 + k) 0 ≡ linkAt fs ts (getD ts k 0) k
 
 -- Lanes without lists, of n streams between places.
 pub record Linkable (n : ℕ) (ls : List ℕ) : Type 0 where
   pub few : n ≤ maxStreams
   pub long : length ls ≡ laneCells
-  pub none : (u : ℕ) → u < places → getD ls u 0 ≡ maxStreams
+  pub none : (u : ℕ) → u < places → getD ls u 0 ≡ 2 * maxStreams
   pub from-in : (k : ℕ) → k < n → getD (startsOf ls) k 0 < places
   pub to-in : (k : ℕ) → k < n → getD (endsOf ls) k 0 < places
 

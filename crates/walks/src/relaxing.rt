@@ -80,17 +80,18 @@ pub fn relax(
     requires { ⌜ Lanes (now lanes) (now flows) (now prices) (q .delta) (q .skip) × (at .place < places) × (at .distance < farthest) × (length (now near) ≡ places) ⌝ }
     ensures { λ _. ⌜ now (near .exit) ≡ relaxedTo (startsOf (now (lanes .entry))) (endsOf (now (lanes .entry))) (gapsOf (now (lanes .entry)) (now (flows .entry)) (now (prices .entry)) (q .delta) (q .skip) true) (gapsOf (now (lanes .entry)) (now (flows .entry)) (now (prices .entry)) (q .delta) (q .skip) false) (now (visited .entry)) (at .distance) (at .place) (countOf (now (lanes .entry))) (now (near .entry)) ⌝ }
 {
-    let n = count_of(lanes);
+    let end = 2 * count_of(lanes);
     let e = at.place;
-    let mut i = last_at(lanes, e);
-    while i < n {
-        let forwards = start_at(lanes, i) == e;
+    let mut link = last_at(lanes, e);
+    while link < end {
+        let i = link / 2;
+        let forwards = link % 2 == 1;
         let v = place_at(lanes, !forwards, i);
         if !visited[v] {
             let g = gap_past(lanes, flows, prices, q, forwards, i);
             offer(near, v, at.distance + g, i);
         }
-        i = before_at(lanes, forwards, i);
+        link = before_at(lanes, forwards, i);
     }
 }
 

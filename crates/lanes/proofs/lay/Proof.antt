@@ -1,5 +1,6 @@
 -- `lanes::lay` meets its contract: the rows, the count, then the lists.
 use mathlib.Core.Path.{_∙_}
+use Prim.Native.Nat.{_*_}
 use native.Mathlib.Omega.{arith}
 use lib.ListN.{getD-replicate, set}
 use lib.Seq.{getD-set-same, getD-set-other}
@@ -30,7 +31,7 @@ link-requires c κs =
       few = w .within .few-streams;
       long = rowed p .long;
       none = λ u l. getD-set-other (p .put-rows .last .1 .1 .0) countCell u (p .before .before .args .count) 0 (λ o. omega arith) ∙ p .put-rows .ensures .1 u l
-          ∙ getD-replicate laneCells u maxStreams 0 (omega arith);
+          ∙ getD-replicate laneCells u (2 * maxStreams) 0 (omega arith);
       from-in = starts-in w (rowed p);
       to-in = ends-in w (rowed p);
     }

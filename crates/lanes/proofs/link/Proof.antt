@@ -1,6 +1,6 @@
 -- `lanes::link` meets its contract: the first i streams are in the lists, and the other rows are as they were.
 use mathlib.Core.Path.{_≡_, refl, _∙_}
-use Prim.Native.Nat.{ℕ, _+_, _≤_, _<_, _-_}
+use Prim.Native.Nat.{ℕ, _+_, _*_, _≤_, _<_, _-_}
 use native.Mathlib.Omega.{arith}
 use lib.ListN.{getD, set}
 use Rattle.plants.specs.Limits.{places, maxStreams}
@@ -80,16 +80,25 @@ element-write-lanes-2 : tie.Need-element-write-lanes-2 Inv-loop μ-loop
 element-write-lanes-2 c = omega (arith, low (c .before .before .before .before))
 
 mul-lanes-5 : tie.Need-mul-lanes-5 Inv-loop μ-loop
-mul-lanes-5 c = omega (arith, from-in (c .before .before .before .before))
-
-element-write-lanes-3 : tie.Need-element-write-lanes-3 Inv-loop μ-loop
-element-write-lanes-3 c = omega (arith, from-in (c .before .before .before .before))
+mul-lanes-5 c = omega (arith, low (c .before .before .before .before))
 
 mul-lanes-6 : tie.Need-mul-lanes-6 Inv-loop μ-loop
 mul-lanes-6 c = omega (arith, to-in (c .before .before))
 
+element-write-lanes-3 : tie.Need-element-write-lanes-3 Inv-loop μ-loop
+element-write-lanes-3 c = omega (arith, to-in (c .before .before))
+
+mul-lanes-7 : tie.Need-mul-lanes-7 Inv-loop μ-loop
+mul-lanes-7 c = omega (arith, low (c .before .before .before .before))
+
+add-lanes-3 : tie.Need-add-lanes-3 Inv-loop μ-loop
+add-lanes-3 c = omega (arith, low (c .before .before .before .before))
+
+mul-lanes-8 : tie.Need-mul-lanes-8 Inv-loop μ-loop
+mul-lanes-8 c = omega (arith, from-in (c .before .before .before .before))
+
 element-write-lanes-4 : tie.Need-element-write-lanes-4 Inv-loop μ-loop
-element-write-lanes-4 c = omega (arith, to-in (c .before .before))
+element-write-lanes-4 c = omega (arith, from-in (c .before .before .before .before))
 
 add-i : tie.Need-add-i Inv-loop μ-loop
 add-i c = search needs
@@ -104,7 +113,7 @@ loop-again c =
     let at = turn u in (
       omega arith,
       link-step _ _ (at .loop .i) _ _ _ (low u) (from-is u) (to-is v) (from-in u) (to-in v) (at .loop .inv .1),
-      λ k l. linked-other (at .loop .i) (u .start-at .result) (v .end-at .result) (getD (at .loop .lanes) (u .start-at .result) 0) (getD (set (at .loop .lanes) (rowAt 0 + at .loop .i) (getD (at .loop .lanes) (u .start-at .result) 0)) (v .end-at .result) 0) (at .loop .lanes) k (low u) (from-in u) (to-in v) l ∙ at .loop .inv .2 k l,
+      λ k l. linked-other (at .loop .i) (u .start-at .result) (v .end-at .result) (getD (at .loop .lanes) (u .start-at .result) 0) (getD (set (at .loop .lanes) (rowAt 0 + at .loop .i) (getD (at .loop .lanes) (u .start-at .result) 0)) (v .end-at .result) 0) (2 * at .loop .i) (2 * at .loop .i + 1) (at .loop .lanes) k (low u) (from-in u) (to-in v) l ∙ at .loop .inv .2 k l,
     )
 
 returns : tie.Need-returns Inv-loop μ-loop
@@ -132,8 +141,11 @@ link-spec =
     mul-lanes-4
     element-write-lanes-2
     mul-lanes-5
-    element-write-lanes-3
     mul-lanes-6
+    element-write-lanes-3
+    mul-lanes-7
+    add-lanes-3
+    mul-lanes-8
     element-write-lanes-4
     add-i
     loop-less
