@@ -2,7 +2,7 @@
 
 A file has its cases one after the other, with no gap. A case, numbers high byte first:
 
-    0      what is called, one of the four below
+    0      what is called, one of the five below
     1      the filling: what each byte of the slice is before the call
     2-3    how many bytes are handed in
     4-5    how many bytes of the slice follow; those past them are the filling
@@ -20,6 +20,7 @@ then the bytes handed in, then those of the slice as they must be after the call
     3 WRITER    handed in: units (1), how many streams (1), 96 streams; back: `written`, the file in the slice
     4 UNHINTED  handed in: for each of 96 streams 1 where its flow is compared, else 0, then the plant file; back: the 96
                 flows in a slice of 768 bytes, 8 bytes each, two's complement, 0 where not compared
+    5 LISTING   handed in: plant file; back: the text's length, the text in the slice
 
 Where a call has no number or count, 0 stands. A stream is 9 bytes: from, to, metered (0 or 1), weight (2), reading (4, two's
 complement).
@@ -27,10 +28,10 @@ complement).
 
 from typing import NamedTuple
 
-SHEET, READER, WRITER, UNHINTED = 1, 2, 3, 4
+SHEET, READER, WRITER, UNHINTED, LISTING = 1, 2, 3, 4, 5
 STREAMS = 96
 HEAD = 20
-ROOM = 2_048  # most bytes handed in, and of a slice
+ROOM = 2_560  # most bytes handed in, and of a slice
 
 
 class Record(NamedTuple):

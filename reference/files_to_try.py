@@ -3,7 +3,7 @@
 from typing import NamedTuple
 
 import samples
-from parts import Draws, Reading, Writing, metered, plant_file, unmetered
+from parts import TEXT_LENGTH, Draws, Listing, Reading, Writing, metered, plant_file, unmetered
 from solver import FILE_LENGTH, READING as MOST, STREAMS, read_plant
 
 # Files, and the number that the reader gives for them.
@@ -190,3 +190,25 @@ def writer():
         yield alone(part, 0)
     for units, streams in drawn_plants():
         yield Writing(units, len(streams), streams, 900, 0)
+
+
+def listings():
+    for sample in samples.SAMPLES:
+        yield Listing(sample.file)
+    sample = samples.LISTING.file
+    # A plant that fails the test, one without degrees (R and G), one whose flows run backwards, one without streams.
+    yield Listing(plant_file(1, [metered(0, 1, 62, 1)]))
+    yield Listing(plant_file(1, [metered(0, 1, 100), unmetered(1, 0)]))
+    yield Listing(plant_file(1, [metered(0, 1, -103), metered(1, 0, -60), metered(1, 0, -40)]))
+    yield Listing(plant_file(1, []))
+    # A file that is cut, and one that goes on after its end record.
+    yield Listing(sample[:20])
+    yield Listing(plant_file(1, []) + b"\0")
+    # Streams by the most, of each class and sign, and the longest numbers.
+    yield Listing(plant_file(1, [metered(0, 1, -MOST, 1_000)] * STREAMS))
+    yield Listing(plant_file(1, [metered(0, 1, -MOST, 1)] * (STREAMS - 1) + [unmetered(0, 1)]))
+    yield Listing(plant_file(1, [unmetered(0, 1)] * STREAMS))
+    # A slice that is longer than it must be, and slices that are too short.
+    yield Listing(sample, TEXT_LENGTH + 1)
+    yield Listing(sample, TEXT_LENGTH - 1)
+    yield Listing(sample, 0)

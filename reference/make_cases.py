@@ -63,7 +63,7 @@ def main(arguments):
         refused = sum(record.returned != 0 for record in records)
         told = f"{len(records)} cases, {refused} refused, {time.monotonic() - begun:.1f} s"
         settle(DATA / f"{name}.bin", b"".join(map(cases.encoded, records)), told)
-        printed += f"{name}.bin {len(records)} of {len(records)}\n"
+        printed += f"{name}.bin, cases: {len(records)}\n"
     settle(VECTORS / "args", "".join(f"{name}.bin\n" for name, _ in subjects.SUBJECTS).encode(), "the program's arguments")
     settle(VECTORS / "stdout", printed.encode(), "what the program prints")
     for path, made in samples.files():

@@ -7,6 +7,8 @@ import cases
 import solver
 from solver import FILE_LENGTH, READING, SHEET_LENGTH, Stream
 
+TEXT_LENGTH = 2_543  # a slice of so many bytes holds every listing
+
 
 class Draws:
     """Repeatable draws (splitmix64), the same in every version of Python."""
@@ -109,6 +111,18 @@ class Unhinted(NamedTuple):
         asked = bytes(amount is not None for amount in result.numbers).ljust(cases.STREAMS, b"\0")
         flows = b"".join(cases.number(amount or 0, 8) for amount in result.numbers).ljust(8 * cases.STREAMS, b"\0")
         return meant(self, cases.Record(cases.UNHINTED, asked + self.file, len(flows), flows))
+
+
+class Listing(NamedTuple):
+    """The listing of a plant file; a slice that is too short gets no text."""
+
+    file: bytes
+    slice_length: int = TEXT_LENGTH
+    expected: int | None = None
+
+    def record(self):
+        text = solver.listing(self.file).encode() if self.slice_length >= TEXT_LENGTH else b""
+        return meant(self, cases.Record(cases.LISTING, self.file, self.slice_length, text, count=len(text)))
 
 
 def meant(case, record):

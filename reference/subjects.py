@@ -353,4 +353,5 @@ SUBJECTS = (
     ("reader", files_to_try.reader),
     ("writer", files_to_try.writer),
     ("unhinted", plants_to_try.unhinted),
+    ("listings", files_to_try.listings),
 )

@@ -9,7 +9,7 @@
 
 #include "wengeludo_balance.h"
 
-enum { HEAD = 20, ROOM = 2048, SHEET_CALL = 1, MOST = 4096, TIMES = 5 };
+enum { HEAD = 20, ROOM = 2560, SHEET_CALL = 1, MOST = 4096, TIMES = 5 };
 
 static double now_us(void) {
     struct timespec t;

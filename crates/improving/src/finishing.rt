@@ -1,14 +1,14 @@
 // From amounts settled at a hint to a balanced flow that meets the step condition at 1.
 use crate::hints::no_hint;
 use crate::improve_all;
-use crate::settling::over_sum;
-use crate::settling::settle;
 use lanes::LANES;
 use model::State;
 use model::sizes::FUEL;
 use model::sizes::LEFTOVER_LIMIT;
 use plants::Stream;
 use plants::limits::MAX_STREAMS;
+use settling::over_sum;
+use settling::settle;
 ghost use mathlib.Core.Path.{_≡_};
 ghost use lib.ListN.{take};
 ghost use Rattle.model.specs.SearchNeeds.{Network, Laid};

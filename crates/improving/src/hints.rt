@@ -1,6 +1,5 @@
 // Hints: prices to begin with, and amounts for the unmetered streams.
 use crate::improve_all;
-use crate::settling::settle;
 use lanes::lay;
 use model::Hint;
 use model::State;
@@ -11,6 +10,7 @@ use model::sizes::PRICE_SHIFT;
 use plants::Stream;
 use plants::limits::MAX_STREAMS;
 use plants::limits::PLACES;
+use settling::settle;
 ghost use mathlib.Core.Path.{_≡_};
 ghost use lib.ListN.{take};
 ghost use Rattle.model.specs.Model.{noHint, asHint};

@@ -16,7 +16,6 @@ ghost use Rattle.model.specs.SolverNeeds.{Shiftable, Improvable};
 
 pub mod finishing;
 pub mod hints;
-pub mod settling;
 pub mod ties;
 
 // The first place with a net of delta or more, PLACES where there is none.

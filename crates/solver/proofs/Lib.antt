@@ -1,3 +1,2 @@
--- Laws of the start: the forest, and what the factorisation leaves.
+-- Laws of the start: what the factorisation leaves.
 pub mod Factored
-pub mod Spanning

@@ -1,6 +1,5 @@
 // The cheapest balanced flow of a plant, with prices that certify it.
 use improving::finishing::finish;
-use improving::settling::settle;
 use improving::ties::tie_all;
 use lanes::lay;
 use model::Hint;
@@ -9,6 +8,7 @@ use model::State;
 use plants::Plant;
 use plants::limits::MAX_STREAMS;
 use plants::limits::PLACES;
+use settling::settle;
 use starts::start;
 ghost use Rattle.plants.specs.Within.{Accepted};
 ghost use Rattle.plants.specs.Says.{plantOf};
@@ -16,7 +16,6 @@ ghost use Rattle.flows.specs.Calls.{Grouped};
 ghost use Rattle.model.specs.SolverNeeds.{Hinted, AtHint};
 ghost use Rattle.model.specs.Promise.{Right};
 
-pub mod forests;
 pub mod starts;
 
 // The cheapest balanced flow of a plant, from amounts settled at a hint.
@@ -52,13 +51,4 @@ pub fn solve(p: Plant, labels: [u8; PLACES]) -> Solved
     ensures { λ r. ⌜ Right p r ⌝ }
 {
     solve_at(p, start(p, labels))
-}
-
-// A spanning forest of unmetered streams. Which places it reaches; and in the order in which they were reached, the stream that
-// leads to each, and whether it leads into it.
-pub struct Forest {
-    pub reached: [bool; PLACES],
-    pub via: [u8; PLACES],
-    pub into: [bool; PLACES],
-    pub len: usize,
 }

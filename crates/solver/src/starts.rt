@@ -1,12 +1,6 @@
 // The start by factorisation: metered amounts settled at prices at which the real-number optimum balances, and unmetered amounts
 // routed along a spanning forest.
-use crate::forests::forest;
-use crate::forests::route;
 use improving::hints::hint_by_steps;
-use improving::settling::nets_of;
-use improving::settling::over_sum;
-use improving::settling::settle;
-use improving::settling::settle_flows;
 use model::State;
 use model::sizes::FAST_LEFTOVER;
 use model::sizes::FLOW_SHIFT;
@@ -16,6 +10,12 @@ use plants::Plant;
 use plants::limits::MAX_STREAMS;
 use plants::limits::PLACES;
 use potentials::potentials_of;
+use routing::forests::forest;
+use routing::forests::route;
+use settling::nets_of;
+use settling::over_sum;
+use settling::settle;
+use settling::settle_flows;
 ghost use Rattle.plants.specs.Within.{Accepted};
 ghost use Rattle.plants.specs.Says.{plantOf};
 ghost use Rattle.flows.specs.Calls.{Grouped};

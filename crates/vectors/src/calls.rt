@@ -7,12 +7,14 @@
 // 3, the plant writer: handed in the units, how many streams, and 96 streams; no number.
 // 4, the solver without a hint: handed in a byte for each of 96 streams, 0 where its flow is not compared, then the plant file; the
 //    slice, of 768 bytes, gets the flows in two's complement, 8 bytes each, 0 where not compared; no count, no number.
+// 5, the listing: handed in the plant file; the count is the text's length; no number.
 //
 // A stream is 9 bytes: from, to, metered (0 or 1), weight (2), reading (4, two's complement).
 use model::sizes::FLOW_SHIFT;
 use plants::Plant;
 use plants::Stream;
 use plants::limits::MAX_STREAMS;
+use plants::streams::unmetered_stream;
 use sheets::Sheet;
 ghost use mathlib.Core.Path.{_≡_};
 ghost use Prim.Native.Nat.{_≤_};
@@ -29,12 +31,18 @@ fn done(number: u8, count: usize, back: u32) -> Sheet {
     }
 }
 
+fn put_three(a: u8, b: u8, c: u8, out: &mut [u8])
+    requires { ⌜ 3 ≤ length (now out) ⌝ }
+{
+    out[0] = a;
+    out[1] = b;
+    out[2] = c;
+}
+
 fn put_stream(s: Stream, out: &mut [u8])
     requires { ⌜ 9 ≤ length (now out) ⌝ }
 {
-    numbers::put_u8(s.from, out);
-    numbers::put_u8(s.to, &mut out[1..]);
-    numbers::put_u8(s.metered as u8, &mut out[2..]);
+    put_three(s.from, s.to, s.metered as u8, out);
     numbers::put_u16(s.weight, &mut out[3..]);
     numbers::put_i32(s.reading, &mut out[5..]);
 }
@@ -75,30 +83,40 @@ fn stream_of(part: &[u8]) -> Stream
     }
 }
 
-fn plant_of(given: &[u8]) -> Plant
-    requires { ⌜ length (now given) ≡ 866 ⌝ }
+fn streams_of(given: &[u8]) -> [Stream; MAX_STREAMS]
+    requires { ⌜ length (now given) ≡ 864 ⌝ }
 {
-    let first = stream_of(&given[2..]);
-    let mut streams = [first; MAX_STREAMS];
+    let none = unmetered_stream(0, 0);
+    let mut streams = [none; MAX_STREAMS];
     let mut i: usize = 0;
     while i < MAX_STREAMS {
-        let s = stream_of(&given[2 + 9 * i..]);
+        let s = stream_of(&given[9 * i..]);
         streams[i] = s;
         i += 1;
     }
-    Plant {
-        units: given[0],
-        count: given[1],
-        streams: streams,
-    }
+    streams
 }
 
 fn writer(given: &[u8], out: &mut [u8]) -> Sheet {
     if given.len() != 866 {
         return done(NO_CASE, 0, 0);
     }
-    let d = plant_writer::write_plant(plant_of(given), out);
+    let streams = streams_of(&given[2..]);
+    let p = Plant {
+        units: given[0],
+        count: given[1],
+        streams: streams,
+    };
+    let d = plant_writer::write_plant(p, out);
     done(d.number, d.written, 0)
+}
+
+// The flow that an amount stands for, in two's complement, where it is asked for.
+fn flow_asked(asked: u8, amount: u64) -> u64 {
+    if asked == 0 {
+        return 0;
+    }
+    std::num::wrapping_sub_u64(amount, FLOW_SHIFT)
 }
 
 fn put_flows(flows: [u64; MAX_STREAMS], asked: &[u8], out: &mut [u8])
@@ -106,8 +124,7 @@ fn put_flows(flows: [u64; MAX_STREAMS], asked: &[u8], out: &mut [u8])
 {
     let mut i: usize = 0;
     while i < MAX_STREAMS {
-        let held = if asked[i] == 0 { FLOW_SHIFT } else { flows[i] };
-        let flow = std::num::wrapping_sub_u64(held, FLOW_SHIFT);
+        let flow = flow_asked(asked[i], flows[i]);
         numbers::put_u64(flow, &mut out[8 * i..]);
         i += 1;
     }
@@ -139,6 +156,7 @@ pub fn call(kind: u8, number: u32, given: &[u8], out: &mut [u8]) -> Sheet {
         2 => reader(given, out),
         3 => writer(given, out),
         4 => unhinted(given, out),
+        5 => done(0, texts::list_plant(given, out), 0),
         _ => done(NO_CASE, 0, 0),
     }
 }

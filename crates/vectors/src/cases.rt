@@ -1,6 +1,7 @@
 // A file of cases has one after the other, with no gap. A case, its numbers with the high byte first:
 //
-//     byte 0       what is called: 1 the sheet call, 2 the plant reader, 3 the plant writer, 4 the solver without a hint
+//     byte 0       what is called: 1 the sheet call, 2 the plant reader, 3 the plant writer, 4 the solver without a hint,
+//                  5 the listing
 //     byte 1       what the slice holds before the call
 //     bytes 2-3    how many bytes are handed in, at most ROOM
 //     bytes 4-5    how many bytes of the slice follow, at most ROOM; those past them are as before the call
@@ -12,10 +13,11 @@
 //
 // then the bytes handed in, then those of the slice. What they are for each call stands in calls.rt.
 use crate::calls::call;
+use sheets::Sheet;
 ghost use Prim.Native.Nat.{_≤_};
 ghost use lib.ListN.{length};
 
-const ROOM: usize = 2048;
+const ROOM: usize = 2560;
 
 const HEAD: usize = 20;
 
@@ -26,27 +28,60 @@ pub const RIGHT: u8 = 1;
 
 pub const WRONG: u8 = 2;
 
-// Reads so many bytes to the front of a slice, and answers whether they were there.
-fn read_front(file: i32, size: usize, out: &mut [u8]) -> bool {
+// Reads the part of a case whose size stands in two bytes, and answers how many bytes it has: none where it is too long.
+fn read_part(file: i32, size: &[u8], out: &mut [u8]) -> usize
+    requires { ⌜ 2 ≤ length (now size) ⌝ }
+    ensures { λ r. ⌜ r ≤ length (now (out .exit)) ⌝ }
+{
+    let size = numbers::get_u16(size) as usize;
     if out.len() < size {
-        return false;
+        return 0;
     }
-    io::read_full(file, &mut out[0..size]) == size
+    io::read_full(file, &mut out[0..size])
 }
 
-// Makes the call, lent the first so many bytes, and compares the numbers.
-fn same_numbers(head: [u8; HEAD], given: &[u8], room: usize, out: &mut [u8]) -> bool
-    requires { ⌜ room ≤ length (now out) ⌝ }
+// Whether the numbers are those told.
+fn same_numbers(done: Sheet, told: &[u8]) -> bool
+    requires { ⌜ 8 ≤ length (now told) ⌝ }
 {
+    if done.number != told[0] {
+        return false;
+    }
+    if done.written != numbers::get_u16(&told[2..]) as usize {
+        return false;
+    }
+    done.last == numbers::get_u32(&told[4..])
+}
+
+// Makes the call, lent as much of the slice as the case says, and compares the numbers.
+fn call_right(head: &[u8], given: &[u8], slice: &mut [u8]) -> bool
+    requires { ⌜ 20 ≤ length (now head) ⌝ }
+{
+    let room = numbers::get_u16(&head[6..]) as usize;
+    if slice.len() < room {
+        return false;
+    }
     let number = numbers::get_u32(&head[8..]);
-    let done = call(head[0], number, given, &mut out[0..room]);
-    if done.number != head[12] {
-        return false;
-    }
-    if done.written != numbers::get_u16(&head[14..]) as usize {
-        return false;
-    }
-    done.last == numbers::get_u32(&head[16..])
+    let done = call(head[0], number, given, &mut slice[0..room]);
+    same_numbers(done, &head[12..])
+}
+
+// Reads the bytes handed in, and makes the call.
+fn given_right(file: i32, head: &[u8], slice: &mut [u8]) -> bool
+    requires { ⌜ 20 ≤ length (now head) ⌝ }
+{
+    let mut given = [0u8; ROOM];
+    let size = read_part(file, &head[2..], &mut given);
+    call_right(head, &given[0..size], slice)
+}
+
+// Tries the case that starts so.
+fn case_right(file: i32, head: [u8; HEAD]) -> bool {
+    let mut slice = [head[1]; ROOM];
+    let right = given_right(file, &head, &mut slice);
+    let mut known = [head[1]; ROOM];
+    read_part(file, &head[4..], &mut known);
+    right && check::same(&slice, &known)
 }
 
 // Tries the next case of an open file; END where the file ends.
@@ -56,30 +91,5 @@ pub fn try_next(file: i32) -> u8 {
     if got == 0 {
         return END;
     }
-    let given_size = numbers::get_u16(&head[2..]) as usize;
-    let known_size = numbers::get_u16(&head[4..]) as usize;
-    let room = numbers::get_u16(&head[6..]) as usize;
-    if ROOM < given_size {
-        return WRONG;
-    }
-    if ROOM < room {
-        return WRONG;
-    }
-    let mut given = [0u8; ROOM];
-    let mut known = [head[1]; ROOM];
-    let mut slice = known;
-    if !read_front(file, given_size, &mut given) {
-        return WRONG;
-    }
-    if !read_front(file, known_size, &mut known) {
-        return WRONG;
-    }
-    if !same_numbers(head, &given[0..given_size], room, &mut slice) {
-        return WRONG;
-    }
-    if check::same(&slice, &known) {
-        RIGHT
-    } else {
-        WRONG
-    }
+    if case_right(file, head) { RIGHT } else { WRONG }
 }

@@ -17,12 +17,12 @@ use plants::limits::MAX_STREAMS;
 use plants::limits::PLACES;
 ghost use mathlib.Core.Bool.{true, false};
 ghost use mathlib.Core.Path.{_≡_};
-ghost use Prim.Native.Nat.{_*_, _≤_, _<_};
+ghost use Prim.Native.Nat.{_+_, _*_, _<_};
 ghost use lib.ListN.{getD, length};
 ghost use Rattle.plants.specs.Limits.{places, maxStreams, maxWeight};
 ghost use Rattle.model.specs.Sizes.{mostStep, farthest};
 ghost use Rattle.model.specs.Rows.{countOf, startsOf, endsOf};
-ghost use Rattle.model.specs.Near.{gapsOf, relaxedAlong, relaxedTo, nearestWithin};
+ghost use Rattle.model.specs.Near.{gapsOf, codeOf, lessened, relaxedTo, nearestWithin};
 ghost use Rattle.model.specs.SearchNeeds.{Lanes};
 
 // The slack of stream i; 1 where it is metered and its number below skip.
@@ -56,28 +56,18 @@ pub fn gap_past(
     )
 }
 
-// Stream i, of slack g, is looked at in the direction of place v from a place at distance k.
-fn relax_along(
-    visited: &[bool; PLACES],
-    k: u64,
-    v: usize,
-    g: u64,
-    i: usize,
-    near: &mut [u64; PLACES],
-)
-    requires { ⌜ (k < farthest) × (v < places) × (g ≤ 2 * maxWeight * mostStep) × (i < maxStreams) × (length (now near) ≡ places) ⌝ }
-    ensures { λ _. ⌜ now (near .exit) ≡ relaxedAlong (now (visited .entry)) k v g i (now (near .entry)) ⌝ }
+// Place v is offered distance d over stream i.
+fn offer(near: &mut [u64; PLACES], v: usize, d: u64, i: usize)
+    requires { ⌜ (d < farthest + 2 * maxWeight * mostStep) × (v < places) × (i < maxStreams) × (length (now near) ≡ places) ⌝ }
+    ensures { λ _. ⌜ now (near .exit) ≡ lessened (now (near .entry)) v (codeOf d i) ⌝ }
 {
-    if visited[v] {
-        return;
-    }
-    let code = (k + g) * NUMBERING + i as u64;
+    let code = d * NUMBERING + i as u64;
     if code < near[v] {
         near[v] = code;
     }
 }
 
-// The streams at a place are looked at, the last first.
+// The streams at a place are looked at, the last first. (Where the other end is visited, the slack is not asked for.)
 pub fn relax(
     lanes: &[u64; LANES],
     flows: &[u64; MAX_STREAMS],
@@ -95,9 +85,11 @@ pub fn relax(
     let mut i = last_at(lanes, e);
     while i < n {
         let forwards = start_at(lanes, i) == e;
-        let g = gap_past(lanes, flows, prices, q, forwards, i);
         let v = place_at(lanes, !forwards, i);
-        relax_along(visited, at.distance, v, g, i, near);
+        if !visited[v] {
+            let g = gap_past(lanes, flows, prices, q, forwards, i);
+            offer(near, v, at.distance + g, i);
+        }
         i = before_at(lanes, forwards, i);
     }
 }

@@ -16,8 +16,8 @@ arg-count-requires c κs = search needs
 loop-holds : tie.Need-loop-holds Inv-loop μ-loop
 loop-holds c = search needs
 
-try-file-requires : tie.Need-try-file-requires Inv-loop μ-loop
-try-file-requires c κs = search needs
+try-argument-requires : tie.Need-try-argument-requires Inv-loop μ-loop
+try-argument-requires c κs = search needs
 
 add-i : tie.Need-add-i Inv-loop μ-loop
 add-i c = search needs
@@ -39,7 +39,7 @@ main-spec =
     μ-loop
     arg-count-requires
     loop-holds
-    try-file-requires
+    try-argument-requires
     add-i
     loop-less
     loop-again

@@ -13,7 +13,7 @@ use Rattle.model.specs.Sizes.{priceBand}
 use Rattle.model.proofs.Booking.{nets-long}
 use Rattle.model.proofs.Layouts.{ready-settles}
 use Rattle.model.proofs.Theorem.{network-of}
-use Rattle.solver.proofs.Spanning.{routes-none, routes-amounts}
+use Rattle.routing.proofs.Spanning.{routes-none, routes-amounts}
 use Rattle.solver.proofs.Factored.{labels-of, level-ready, level-routes, routed-start}
 use Rattle.solver.proofs.starts.fast_start.Statement.{statement}
 use Rattle.solver.proofs.starts.fast_start.Tie as tie
@@ -53,8 +53,7 @@ route-requires c κs =
     let st = at .before in
     let p = st .args .p in (
       network-of p (st .pre .0),
-      f .forest .ensures .0,
-      f .forest .ensures .1,
+      f .forest .ensures,
       rw (f .before .nets-of .ensures) (nets-long _ _ (p .count)),
       rw (f .before .before .settle-flows .ensures) (level-routes p (st .pre .0) (levels at)),
     )

@@ -15,17 +15,17 @@ abbrev μ-loop : tie.MeasureT-loop
 loop-holds : tie.Need-loop-holds Inv-loop μ-loop
 loop-holds c = search needs
 
-shared-slice-read-if1 : tie.Need-shared-slice-read-if1 Inv-loop μ-loop
-shared-slice-read-if1 c = search needs
+shared-slice-read-flow-asked : tie.Need-shared-slice-read-flow-asked Inv-loop μ-loop
+shared-slice-read-flow-asked c = search needs
 
-mul-held : tie.Need-mul-held Inv-loop μ-loop
-mul-held c = search needs
+mul-flow-asked : tie.Need-mul-flow-asked Inv-loop μ-loop
+mul-flow-asked c = search needs
 
-array-read-held : tie.Need-array-read-held Inv-loop μ-loop
-array-read-held c = search needs
+array-read-flow-asked : tie.Need-array-read-flow-asked Inv-loop μ-loop
+array-read-flow-asked c = search needs
 
-wrapping-sub-u64-requires : tie.Need-wrapping-sub-u64-requires Inv-loop μ-loop
-wrapping-sub-u64-requires c κs = search needs
+flow-asked-requires : tie.Need-flow-asked-requires Inv-loop μ-loop
+flow-asked-requires c κs = search needs
 
 mul-put-u64 : tie.Need-mul-put-u64 Inv-loop μ-loop
 mul-put-u64 c = search needs
@@ -64,10 +64,10 @@ put-flows-spec =
     Inv-loop
     μ-loop
     loop-holds
-    shared-slice-read-if1
-    mul-held
-    array-read-held
-    wrapping-sub-u64-requires
+    shared-slice-read-flow-asked
+    mul-flow-asked
+    array-read-flow-asked
+    flow-asked-requires
     mul-put-u64
     sub-put-u64
     part-put-u64-start

@@ -1,0 +1,2 @@
+-- What is asked of a spanning forest and of the amounts routed along it.
+pub mod Forests

@@ -1,0 +1,204 @@
+// A spanning forest of the unmetered streams, from the places that are labels, and amounts routed along it.
+use crate::Forest;
+use model::sizes::FLOW_SHIFT;
+use model::sizes::HINT_ROOM;
+use model::sizes::NET_SHIFT;
+use plants::Stream;
+use plants::limits::MAX_STREAMS;
+use plants::limits::PLACES;
+use std::num::wrapping_add_u64;
+use std::num::wrapping_sub_u64;
+ghost use mathlib.Core.Path.{_≡_};
+ghost use mathlib.Core.List.{List};
+ghost use Prim.Native.Nat.{ℕ, _<_};
+ghost use lib.ListN.{length, getD};
+ghost use Rattle.plants.specs.declared.Stream.{Stream};
+ghost use Rattle.plants.specs.Limits.{maxUnits, places};
+ghost use Rattle.plants.specs.Within.{WithinStream};
+ghost use Rattle.plants.specs.Plants.{noStream};
+ghost use Rattle.model.specs.SearchNeeds.{Network};
+ghost use Rattle.model.specs.Sizes.{hintRoom};
+ghost use Rattle.model.specs.SolverNeeds.{Close};
+ghost use Rattle.routing.specs.Forests.{Spanning, Unmetered, Listed, Routable, Routes, Kept};
+
+// The places that are labels.
+fn roots(labels: [u8; PLACES]) -> [bool; PLACES]
+    ensures { λ r. ⌜ length r ≡ places ⌝ }
+{
+    let mut reached = [false; PLACES];
+    let mut u: usize = 0;
+    while u < PLACES {
+        reached[u] = labels[u] as usize == u;
+        u += 1;
+    }
+    reached
+}
+
+// Place e over stream i, where it is not reached yet. How many streams there are now.
+fn reach(
+    reached: &mut [bool; PLACES],
+    via: &mut [u8; PLACES],
+    into: &mut [bool; PLACES],
+    len: usize,
+    i: u8,
+    e: usize,
+    inwards: bool,
+) -> usize
+    requires { ⌜ Spanning (now reached) (now via) (now into) len × (e < places) ⌝ }
+    ensures { λ r. ⌜ Spanning (now (reached .exit)) (now (via .exit)) (now (into .exit)) r × ((ss : List Stream) (n : ℕ) → Unmetered ss n i → Listed ss n (now (via .entry)) len → Listed ss n (now (via .exit)) r) ⌝ }
+{
+    if reached[e] {
+        return len;
+    }
+    reached[e] = true;
+    via[len] = i;
+    into[len] = inwards;
+    len + 1
+}
+
+// Unmetered stream i, where it leads from a place that is reached to one that is not.
+fn along(
+    reached: &mut [bool; PLACES],
+    via: &mut [u8; PLACES],
+    into: &mut [bool; PLACES],
+    len: usize,
+    i: u8,
+    s: Stream,
+) -> usize
+    requires { ⌜ Spanning (now reached) (now via) (now into) len × WithinStream maxUnits s ⌝ }
+    ensures { λ r. ⌜ Spanning (now (reached .exit)) (now (via .exit)) (now (into .exit)) r × ((ss : List Stream) (n : ℕ) → i < n → getD ss i noStream ≡ s → Listed ss n (now (via .entry)) len → Listed ss n (now (via .exit)) r) ⌝ }
+{
+    if s.metered {
+        return len;
+    }
+    let u = s.from as usize;
+    let v = s.to as usize;
+    if reached[u] {
+        return reach(reached, via, into, len, i, v, true);
+    }
+    if reached[v] {
+        return reach(reached, via, into, len, i, u, false);
+    }
+    len
+}
+
+// One pass over the streams.
+fn pass(
+    streams: [Stream; MAX_STREAMS],
+    count: usize,
+    reached: &mut [bool; PLACES],
+    via: &mut [u8; PLACES],
+    into: &mut [bool; PLACES],
+    start: usize,
+) -> usize
+    requires { ⌜ Network streams count × Spanning (now reached) (now via) (now into) start × Listed streams count (now via) start ⌝ }
+    ensures { λ r. ⌜ Spanning (now (reached .exit)) (now (via .exit)) (now (into .exit)) r × Listed streams count (now (via .exit)) r ⌝ }
+{
+    let mut len = start;
+    let mut i: usize = 0;
+    while i < count {
+        len = along(reached, via, into, len, i as u8, streams[i]);
+        i += 1;
+    }
+    len
+}
+
+// Passes, until one reaches no further place.
+fn grow(
+    streams: [Stream; MAX_STREAMS],
+    count: usize,
+    reached: &mut [bool; PLACES],
+    via: &mut [u8; PLACES],
+    into: &mut [bool; PLACES],
+) -> usize
+    requires { ⌜ Network streams count × Spanning (now reached) (now via) (now into) 0 ⌝ }
+    ensures { λ r. ⌜ Spanning (now (reached .exit)) (now (via .exit)) (now (into .exit)) r × Listed streams count (now (via .exit)) r ⌝ }
+{
+    let mut len: usize = 0;
+    let mut left: usize = PLACES;
+    while 0 < left {
+        let before = len;
+        len = pass(streams, count, reached, via, into, before);
+        if len == before {
+            return len;
+        }
+        left -= 1;
+    }
+    len
+}
+
+// A spanning forest from the labels.
+pub fn forest(streams: [Stream; MAX_STREAMS], count: usize, labels: [u8; PLACES]) -> Forest
+    requires { ⌜ Network streams count ⌝ }
+    ensures { λ r. ⌜ Routable streams count r ⌝ }
+{
+    let mut reached = roots(labels);
+    let mut via = [0u8; PLACES];
+    let mut into = [false; PLACES];
+    let len = grow(streams, count, &mut reached, &mut via, &mut into);
+    Forest {
+        via: via,
+        into: into,
+        len: len,
+    }
+}
+
+// The held amount nearest to x within the hint's room.
+fn close(x: u64) -> u64
+    ensures { λ r. ⌜ Close hintRoom r ⌝ }
+{
+    if x < FLOW_SHIFT - HINT_ROOM {
+        return FLOW_SHIFT - HINT_ROOM;
+    }
+    if FLOW_SHIFT + HINT_ROOM < x {
+        return FLOW_SHIFT + HINT_ROOM;
+    }
+    x
+}
+
+// Place v hands its net on to place u.
+fn hand_on(nets: &mut [u64; PLACES], u: usize, v: usize) -> u64
+    requires { ⌜ (length (now nets) ≡ places) × (u < places) × (v < places) ⌝ }
+    ensures { λ _. ⌜ length (now (nets .exit)) ≡ places ⌝ }
+{
+    let z = wrapping_sub_u64(nets[v], NET_SHIFT);
+    nets[u] = wrapping_add_u64(nets[u], z);
+    nets[v] = NET_SHIFT;
+    z
+}
+
+// The amount of a stream by which the place that it was to reach hands its net on.
+fn routed(nets: &mut [u64; PLACES], s: Stream, into: bool) -> u64
+    requires { ⌜ (length (now nets) ≡ places) × WithinStream maxUnits s ⌝ }
+    ensures { λ r. ⌜ (length (now (nets .exit)) ≡ places) × Close hintRoom r ⌝ }
+{
+    let u = s.from as usize;
+    let v = s.to as usize;
+    if into {
+        let z = hand_on(nets, u, v);
+        close(wrapping_sub_u64(FLOW_SHIFT, z))
+    } else {
+        let z = hand_on(nets, v, u);
+        close(wrapping_add_u64(FLOW_SHIFT, z))
+    }
+}
+
+// The place reached last first, so that only labels keep a net.
+pub fn route(
+    streams: [Stream; MAX_STREAMS],
+    count: usize,
+    f: Forest,
+    nets: &mut [u64; PLACES],
+    flows: &mut [u64; MAX_STREAMS],
+)
+    requires { ⌜ Network streams count × Routable streams count f × (length (now nets) ≡ places) × Routes (now flows) ⌝ }
+    ensures { λ _. ⌜ Routes (now (flows .exit)) × Kept streams count (now (flows .entry)) (now (flows .exit)) ⌝ }
+{
+    let mut k = f.len;
+    while 0 < k {
+        k -= 1;
+        let i = f.via[k] as usize;
+        let into = f.into[k];
+        flows[i] = routed(nets, streams[i], into);
+    }
+}

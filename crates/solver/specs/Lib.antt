@@ -1,2 +1,0 @@
--- What the parts of the start require.
-pub mod Forests
