@@ -22,7 +22,7 @@ then the bytes handed in, then those of the slice as they must be after the call
                 flows in a slice of 768 bytes, 8 bytes each, two's complement, 0 where not compared
     5 LISTING   handed in: plant file; back: the text's length, the text in the slice
 
-Where a call has no number or count, 0 stands. A stream is 9 bytes: from, to, metered (0 or 1), weight (2), reading (4, two's
+Where a call has no number or count, 0 stands. A stream is 9 bytes: metered (0 or 1), from, to, weight (2), reading (4, two's
 complement).
 """
 
@@ -51,7 +51,7 @@ def number(value, size):
 
 
 def stream(source, target, metered, weight, reading):
-    return bytes((source, target, metered)) + number(weight, 2) + number(reading, 4)
+    return bytes((metered, source, target)) + number(weight, 2) + number(reading, 4)
 
 
 def encoded(case):

@@ -42,7 +42,8 @@ fn put_ends(kind: u8, from: u8, to: u8, out: &mut [u8])
     out[2] = to;
 }
 
-fn put_metered(from: u8, to: u8, weight: u16, reading: i32, out: &mut [u8])
+// A metered stream's record.
+pub fn put_metered(from: u8, to: u8, weight: u16, reading: i32, out: &mut [u8])
     requires { ⌜ suc meteredBody ≤ length (now out) ⌝ }
     ensures { λ _. ⌜ now (out .exit) ≡ over (meteredKind ∷ from ∷ to ∷ putBe 2 weight ++ putBe 4 (raw 4 reading)) (now (out .entry)) ⌝ }
 {

@@ -9,7 +9,7 @@
 //    slice, of 768 bytes, gets the flows in two's complement, 8 bytes each, 0 where not compared; no count, no number.
 // 5, the listing: handed in the plant file; the count is the text's length; no number.
 //
-// A stream is 9 bytes: from, to, metered (0 or 1), weight (2), reading (4, two's complement).
+// A stream is 9 bytes: metered (0 or 1), from, to, weight (2), reading (4, two's complement).
 use model::sizes::FLOW_SHIFT;
 use plants::Plant;
 use plants::Stream;
@@ -31,20 +31,12 @@ fn done(number: u8, count: usize, back: u32) -> Sheet {
     }
 }
 
-fn put_three(a: u8, b: u8, c: u8, out: &mut [u8])
-    requires { ⌜ 3 ≤ length (now out) ⌝ }
-{
-    out[0] = a;
-    out[1] = b;
-    out[2] = c;
-}
-
+// A stream's bytes are those of a metered stream's record, but for the first.
 fn put_stream(s: Stream, out: &mut [u8])
     requires { ⌜ 9 ≤ length (now out) ⌝ }
 {
-    put_three(s.from, s.to, s.metered as u8, out);
-    numbers::put_u16(s.weight, &mut out[3..]);
-    numbers::put_i32(s.reading, &mut out[5..]);
+    plant_writer::put_metered(s.from, s.to, s.weight, s.reading, out);
+    out[0] = s.metered as u8;
 }
 
 fn put_streams(streams: [Stream; MAX_STREAMS], out: &mut [u8])
@@ -75,9 +67,9 @@ fn stream_of(part: &[u8]) -> Stream
     let weight = numbers::get_u16(&part[3..]);
     let reading = numbers::get_i32(&part[5..]);
     Stream {
-        from: part[0],
-        to: part[1],
-        metered: part[2] != 0,
+        from: part[1],
+        to: part[2],
+        metered: part[0] != 0,
         weight: weight,
         reading: reading,
     }
