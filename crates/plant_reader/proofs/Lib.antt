@@ -1,2 +1,3 @@
 -- Laws of the plant reader.
+pub mod ByKind
 pub mod Loop
