@@ -36,7 +36,7 @@ def plants():
             yield Case(weighed(weight, place), expected=0)
         for weight in (0, 1_001, 1_024, 0x8000, 0xFFFF):
             yield Case(weighed(weight, place), expected=9)
-        for reading in (-MOST, 1 - MOST, -1, 0, 1, MOST - 1, MOST):
+        for reading in (-MOST, 1 - MOST, -1_000_001, -1, 0, 1, 1_000_001, MOST - 1, MOST):
             yield Case(read(reading, place), expected=0)
         for reading in (-MOST - 1, MOST + 1, -(2**31), 2**31 - 1):
             yield Case(read(reading, place), expected=10)

@@ -236,7 +236,7 @@ static uint8_t write_fault(uint8_t units, size_t count, size_t there, const uint
             return 8;
         if (metered[k] && (weight[k] < 1 || weight[k] > 1000))
             return 9;
-        if (metered[k] && (reading[k] < -1000000 || reading[k] > 1000000))
+        if (metered[k] && (reading[k] < -4000000 || reading[k] > 4000000))
             return 10;
     }
     return 0;
@@ -304,7 +304,7 @@ static size_t repaired(uint8_t *file, size_t size, size_t most)
         plant[length++] = to != from ? to : (uint8_t)((from + 1) % (units + 1));
         if (metered) {
             uint16_t weight = (uint16_t)(1 + (field(file + at + 3, 2) + 999) % 1000);
-            int32_t reading = (int32_t)field(file + at + 5, 4) % 1000001;
+            int32_t reading = (int32_t)field(file + at + 5, 4) % 4000001;
             plant[length++] = (uint8_t)(weight >> 8);
             plant[length++] = (uint8_t)weight;
             for (int shift = 24; shift >= 0; shift -= 8)

@@ -31,7 +31,7 @@ extern "C" {
 #define WENGELUDO_MAX_UNITS 32
 #define WENGELUDO_MAX_STREAMS 96
 #define WENGELUDO_MAX_WEIGHT 1000
-#define WENGELUDO_MAX_READING 1000000
+#define WENGELUDO_MAX_READING 4000000
 
 /* What the calls return: 0, or the number of a refusal. */
 enum {
@@ -45,7 +45,7 @@ enum {
     WENGELUDO_PLACE = 7,              /* from or to above n */
     WENGELUDO_SAME_PLACE = 8,         /* from equals to */
     WENGELUDO_WEIGHT = 9,             /* weight 0 or over 1,000 */
-    WENGELUDO_READING = 10,           /* reading outside -1,000,000 to 1,000,000 */
+    WENGELUDO_READING = 10,           /* reading outside -4,000,000 to 4,000,000 */
     WENGELUDO_END_COUNT = 11,         /* end count differs from the streams read */
     WENGELUDO_AFTER_END = 12          /* bytes after the end record */
 };

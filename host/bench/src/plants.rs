@@ -6,7 +6,7 @@ pub const MAX_UNITS: usize = 32;
 pub const PLACES: usize = MAX_UNITS + 1;
 pub const MAX_STREAMS: usize = 96;
 pub const MAX_WEIGHT: i64 = 1_000;
-pub const MAX_READING: i64 = 1_000_000;
+pub const MAX_READING: i64 = 4_000_000;
 
 /// A stream; an unmetered one has weight and reading 0.
 #[derive(Clone, Copy, Debug, Default, PartialEq, Eq)]

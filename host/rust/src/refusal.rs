@@ -25,7 +25,7 @@ pub enum Refusal {
     SamePlace = 8,
     /// Weight 0 or over 1,000.
     Weight = 9,
-    /// Reading outside -1,000,000 to 1,000,000.
+    /// Reading outside -4,000,000 to 4,000,000.
     Reading = 10,
     /// End count differs from the streams read.
     EndCount = 11,

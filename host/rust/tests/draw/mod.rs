@@ -82,8 +82,8 @@ impl Draw {
         };
         let count = if self.below(20) == 0 { most } else { self.among(0, most) };
         let unmetered = [0, 10, 30, 50, 80][self.below(5)];
-        let spread = [1, 3, 20, 1000, 1_000_000][self.below(5)];
-        let middle = if spread == 1_000_000 { 0 } else { [0, 100, -50, 900_000][self.below(4)] };
+        let spread = [1, 3, 20, 1000, 4_000_000][self.below(5)];
+        let middle = if spread == 4_000_000 { 0 } else { [0, 100, -50, 900_000][self.below(4)] };
         let weights = [(10, 10), (1, 1), (1, 3), (1, 1000), (1000, 1000), (9, 11)][self.below(6)];
         // Readings that lie near a balanced flow, or anywhere in the spread.
         let level: Option<Vec<i64>> = (self.below(3) == 0).then(|| (0..=units).map(|_| self.among(-200, 200)).collect());
@@ -102,7 +102,7 @@ impl Draw {
                         None => middle + self.among(-spread, spread),
                     };
                     let reading =
-                        if edge { [-1_000_000, 1_000_000, 0][self.below(3)] } else { reading.clamp(-1_000_000, 1_000_000) };
+                        if edge { [-4_000_000, 4_000_000, 0][self.below(3)] } else { reading.clamp(-4_000_000, 4_000_000) };
                     (self.among(weights.0, weights.1) as u16, reading as i32)
                 });
                 Stream { from: from as usize, to: to as usize, meter }
@@ -128,7 +128,7 @@ impl Draw {
                         2 => s.to = s.from,
                         3 => s.meter = Some(([0, 1, 1000, 1001, 65535][self.below(5)], 5)),
                         4 => {
-                            s.meter = Some((5, [-1_000_001, -1_000_000, 1_000_000, 1_000_001, i32::MIN, i32::MAX][self.below(6)]))
+                            s.meter = Some((5, [-4_000_001, -4_000_000, 4_000_000, 4_000_001, i32::MIN, i32::MAX][self.below(6)]))
                         }
                         _ => plant.units = [0, 1, 32, 33][self.below(4)],
                     }
@@ -252,7 +252,7 @@ impl Draw {
                 2 if k < w.metered.len() => w.metered[k] = self.bits() as u8,
                 3 if k < w.weight.len() => w.weight[k] = [0, 1, 1000, 1001, 65535][self.below(5)],
                 4 if k < w.reading.len() => {
-                    w.reading[k] = [-1_000_001, -1_000_000, 1_000_000, 1_000_001, i32::MIN][self.below(5)]
+                    w.reading[k] = [-4_000_001, -4_000_000, 4_000_000, 4_000_001, i32::MIN][self.below(5)]
                 }
                 _ => w.units = [0, 1, 32, 33, 255][self.below(5)],
             }

@@ -29,7 +29,7 @@ fn fault(units: u8, s: &Stream) -> Result<(), Fault> {
         if !(1..=1000).contains(&weight) {
             return Err(9);
         }
-        if !(-1_000_000..=1_000_000).contains(&reading) {
+        if !(-4_000_000..=4_000_000).contains(&reading) {
             return Err(10);
         }
     }
