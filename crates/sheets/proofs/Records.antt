@@ -8,7 +8,7 @@ use native.Mathlib.Omega.{arith}
 use lib.Dec.{eqb, ltb, leb}
 use lib.ListN.{length, getD, take, drop, take-append-drop, length-drop}
 use lib.Seq.{drop-drop, getD-drop}
-use borrow.Author.Tests.{ltb-false, leb-false, eqb-true, eqb-false, not-false}
+use borrow.Author.Tests.{le-ltb, ltb-false, leb-false, eqb-true, eqb-false, not-false}
 use Rattle.numbers.specs.Choice.{pick, refuseIf, firstOf}
 use Rattle.numbers.specs.Bytes.{be, putBe, signed, raw, holds, allBytes}
 use Rattle.numbers.proofs.Tests.{picked, or-none-left, or-none-right, refuse-none, first-none-left, first-none-right}
@@ -61,6 +61,24 @@ stream-means c size s e h =
       held = λ a. h l a .0;
       bytes = λ a. h l a .1;
     })
+
+-- A stream record read: refused for its place or its size, else its entry.
+module _ (size : ℕ) (e : Entry) (c : ℕ) (s : List ℕ) (b : Bool) (q : b ≡ (leb maxStreams c || ltb (length s) size)) where
+  pub unfit-refused : b ≡ true → Refused 13 ≡ streamRecord size e c s
+  unfit-refused t = let u : (leb maxStreams c || ltb (length s) size) ≡ true = sym q ∙ t in rw u
+
+  pub fit-listed : b ≡ false → Listed e size ≡ streamRecord size e c s
+  fit-listed t = let u : (leb maxStreams c || ltb (length s) size) ≡ false = sym q ∙ t in rw u
+
+pub fit-whole : (size c : ℕ) (s : List ℕ) (b : Bool) → b ≡ (leb maxStreams c || ltb (length s) size) → b ≡ false → size ≤ length s
+fit-whole size c s b q t = ltb-false (length s) size (or-none-right (leb maxStreams c) (ltb (length s) size) (sym q ∙ t))
+
+-- The total at the end, whole: the refusal of its fields or of what follows it.
+pub end-is : (s : List ℕ) {t : Total} {f a g : ℕ} → totalSize ≤ length s → t ≡ totalIn s → f ≡ totalFault t → a ≡ afterFault s → g ≡ firstOf f a → g ≡ endFault s
+end-is s {g = g} l et ef ea eg = eg ∙ (λ i. firstOf ((ef ∙ ap totalFault et) i) (ea i)) ∙ whole
+  where
+    whole : firstOf (totalFault (totalIn s)) (afterFault s) ≡ endFault s
+    whole = simp (le-ltb (length s) totalSize l)
 
 -- A number behind the kind, written again.
 number-again : (b : List ℕ) → allBytes b ≡ true → 8 ≤ length b → b ≡ putBe 8 (raw 8 (signed 8 (be 0 8 b))) ++ drop 8 b

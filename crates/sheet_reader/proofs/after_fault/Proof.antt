@@ -1,15 +1,13 @@
+-- By the test.
+use borrow.Author.Tests.{eq-eqb, ne-eqb}
 use Rattle.sheet_reader.proofs.after_fault.Statement.{statement}
 use Rattle.sheet_reader.proofs.after_fault.Tie as tie
-use Rattle.sheet_reader.proofs.after_fault.Reads as reads
-use Rattle.sheet_reader.proofs.after_fault.Lts as lts
 
--- src/lib.rt:120:9
 returns : tie.Need-returns
-returns c = ?
+returns c = simp (eq-eqb _ _ (c .if1 .taken))
 
--- src/lib.rt:116:1
 returns-2 : tie.Need-returns-2
-returns-2 c = ?
+returns-2 c = simp (ne-eqb _ _ (c .if1 .left))
 
 pub after-fault-spec : {M : Type 1} → statement M
 after-fault-spec = tie.close (tie.spec returns returns-2)

@@ -1,93 +1,85 @@
+-- Each record read makes one turn of the loop, and the record that is no stream ends it.
+use borrow.Author.Needs.{needs}
+use denote.Ref.{now}
+use native.Mathlib.Omega.{arith}
+use mathlib.Core.Path.{_≡_, ap, sym, _∙_}
+use Prim.Native.Nat.{ℕ, _-_}
+use Rattle.numbers.proofs.Parts.{partFrom}
+use Rattle.sheets.specs.declared.SheetRecord.the-variants.{Listed}
+use Rattle.sheets.specs.Kept.{noSheet, recordAt, mostRecords, readOf}
+use Rattle.sheet_reader.proofs.Loop.{Reading, begin, turn, room-left, ended-here, refused-here}
 use Rattle.sheet_reader.proofs.read_sheet.Statement.{statement}
 use Rattle.sheet_reader.proofs.read_sheet.Tie as tie
-use Rattle.sheet_reader.proofs.read_sheet.Reads as reads
-use Rattle.sheet_reader.proofs.read_sheet.Lts as lts
-use Rattle.sheet_reader.proofs.blank_entry.Reads as blank-entry-reads
-use Rattle.sheet_reader.proofs.read_record.Reads as read-record-reads
-use Rattle.sheet_reader.proofs.record_number.Reads as record-number-reads
-use Rattle.sheet_reader.proofs.refusal.Reads as refusal-reads
 
 abbrev Inv-loop : tie.InvT-loop
-Inv-loop bytes streams₀ count₀ at₀ streams count at = ?
+Inv-loop bytes streams₀ count₀ at₀ streams count at = Reading bytes streams count at
 
 abbrev μ-loop : tie.MeasureT-loop
-μ-loop bytes streams₀ count₀ at₀ streams count at = ?
+μ-loop bytes streams₀ count₀ at₀ streams count at = mostRecords - count
 
--- src/lib.rt:207:9
+-- A stream was found.
+listed-here : (c : tie.After-known-told Inv-loop μ-loop)
+    → Listed (c .before .found .given .0 .0) (c .before .found .given .0 .1 .0)
+    ≡ recordAt (c .before .before .before .before .before .loop .count) (partFrom (c .before .before .before .before .before .loop .at) (now (c .before .before .before .before .before .before .before .before .args .bytes)))
+listed-here c = sym (c .before .found .given .1) ∙ c .before .before .before .read-record .ensures
+
 blank-entry-requires : tie.Need-blank-entry-requires Inv-loop μ-loop
-blank-entry-requires c κs = ?
+blank-entry-requires c κs = search needs
 
--- src/lib.rt:211:5
 loop-holds : tie.Need-loop-holds Inv-loop μ-loop
-loop-holds c = ?
+loop-holds c = begin (now (c .before .before .args .bytes)) (c .blank-entry .result) (c .blank-entry .ensures)
 
--- src/lib.rt:212:40
 sub-read-record : tie.Need-sub-read-record Inv-loop μ-loop
-sub-read-record c = ?
+sub-read-record c = search needs
 
--- src/lib.rt:212:40
 part-read-record-start : tie.Need-part-read-record-start Inv-loop μ-loop
-part-read-record-start c = ?
+part-read-record-start c = search needs
 
--- src/lib.rt:212:40
 part-read-record-end : tie.Need-part-read-record-end Inv-loop μ-loop
-part-read-record-end c = ?
+part-read-record-end c = search needs
 
--- src/lib.rt:212:13
 read-record-requires : tie.Need-read-record-requires Inv-loop μ-loop
-read-record-requires c κs = ?
+read-record-requires c κs = search needs
 
--- src/lib.rt:213:35
 enum-known-found : tie.Need-enum-known-found Inv-loop μ-loop
-enum-known-found c = ?
+enum-known-found c = search needs
 
--- src/lib.rt:214:36
 enum-known-found-2 : tie.Need-enum-known-found-2 Inv-loop μ-loop
-enum-known-found-2 c = ?
+enum-known-found-2 c = search needs
 
--- src/lib.rt:215:32
 record-number-requires : tie.Need-record-number-requires Inv-loop μ-loop
-record-number-requires c κs = ?
+record-number-requires c κs = search needs
 
--- src/lib.rt:215:17
 refusal-requires : tie.Need-refusal-requires Inv-loop μ-loop
-refusal-requires c κs = ?
+refusal-requires c κs = search needs
 
--- src/lib.rt:215:17
 returns : tie.Need-returns Inv-loop μ-loop
-returns c = ?
+returns c = refused-here (c .before .before .before .before .before .before .loop .inv) _ (c .before .before .before .before .read-record .ensures) (c .before .before .before .match .keys2) (c .before .before .match2 .keys2) (c .refusal .result)
+    (c .refusal .ensures ∙ ap (λ (f : ℕ). readOf (noSheet f)) (c .before .record-number .ensures))
 
--- src/lib.rt:217:13
 returns-2 : tie.Need-returns-2 Inv-loop μ-loop
-returns-2 c = ?
+returns-2 c = ended-here (c .before .before .before .before .before .before .loop .inv) (sym (c .before .found2 .given .1) ∙ c .before .before .before .before .read-record .ensures)
 
--- src/lib.rt:224:20
 cast-next : tie.Need-cast-next Inv-loop μ-loop
-cast-next c = ?
+cast-next c = search needs
 
--- src/lib.rt:225:9
 mul-streams : tie.Need-mul-streams Inv-loop μ-loop
-mul-streams c = ?
+mul-streams c = search needs
 
--- src/lib.rt:225:9
 array-set-from-streams : tie.Need-array-set-from-streams Inv-loop μ-loop
-array-set-from-streams c = ?
+array-set-from-streams c = room-left (c .before .before .before .before .before .loop .inv) (listed-here c)
 
--- src/lib.rt:226:9
 add-count : tie.Need-add-count Inv-loop μ-loop
-add-count c = ?
+add-count c = search needs
 
--- src/lib.rt:227:9
 add-at : tie.Need-add-at Inv-loop μ-loop
-add-at c = ?
+add-at c = let n = turn (c .before .before .before .before .before .loop .inv) (listed-here c) in omega (arith, n .within, c .before .before .before .before .before .before .before .before .good)
 
--- src/lib.rt:211:5
 loop-less : tie.Need-loop-less Inv-loop μ-loop
-loop-less c = ?
+loop-less c = search needs
 
--- src/lib.rt:211:5
 loop-again : tie.Need-loop-again Inv-loop μ-loop
-loop-again c = ?
+loop-again c = turn (c .before .before .before .before .before .loop .inv) (listed-here c)
 
 pub read-sheet-spec : {M : Type 1} → statement M
 read-sheet-spec =

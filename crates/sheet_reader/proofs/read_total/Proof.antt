@@ -1,40 +1,42 @@
+-- Cut, or refused for its fields or for what follows it, or the total.
 use borrow.Author.Needs.{needs}
+use denote.Ref.{now}
+use borrow.Author.Tests.{lt-ltb}
+use mathlib.Core.Path.{_≡_, ap, _∙_}
+use Prim.Native.Nat.{ℕ}
+use Rattle.numbers.proofs.Tests.{refused-by, accepted-by}
+use Rattle.sheets.specs.declared.SheetRecord.the-variants.{Ended, Refused}
+use Rattle.sheets.specs.Kept.{totalIn, endFault}
+use Rattle.sheets.proofs.Records.{end-is}
 use Rattle.sheet_reader.proofs.read_total.Statement.{statement}
 use Rattle.sheet_reader.proofs.read_total.Tie as tie
-use Rattle.sheet_reader.proofs.read_total.Reads as reads
-use Rattle.sheet_reader.proofs.read_total.Lts as lts
-use Rattle.sheet_reader.proofs.after_fault.Reads as after-fault-reads
-use Rattle.sheet_reader.proofs.first_of.Reads as first-of-reads
-use Rattle.sheet_reader.proofs.total_fault.Reads as total-fault-reads
-use Rattle.sheet_reader.proofs.total_in.Reads as total-in-reads
 
--- src/lib.rt:139:9
 returns : tie.Need-returns
-returns c = ?
+returns c = simp (lt-ltb _ _ (c .if1 .taken))
 
--- src/lib.rt:141:9
+-- The fault is that of the end.
+fault : (c : tie.After-first-of) → c .first-of .result ≡ endFault (now (c .before .before .before .before .before .before .args .s))
+fault c = end-is (now (c .before .before .before .before .before .before .args .s)) (c .before .before .before .before .if1 .left) (c .before .before .before .total-in .ensures)
+    (c .before .before .total-fault .ensures) (c .before .after-fault .ensures) (c .first-of .ensures)
+
 total-in-requires : tie.Need-total-in-requires
 total-in-requires c κs = search needs
 
--- src/lib.rt:142:26
 total-fault-requires : tie.Need-total-fault-requires
 total-fault-requires c κs = search needs
 
--- src/lib.rt:142:46
 after-fault-requires : tie.Need-after-fault-requires
 after-fault-requires c κs = search needs
 
--- src/lib.rt:142:9
 first-of-requires : tie.Need-first-of-requires
 first-of-requires c κs = search needs
 
--- src/lib.rt:144:9
 returns-2 : tie.Need-returns-2
-returns-2 c = ?
+returns-2 c = let s = now (c .before .before .before .before .before .before .before .args .s) in refused-by _ (endFault s) (Ended (totalIn s)) Refused (fault (c .before)) (c .if2 .taken)
 
--- src/lib.rt:135:1
 returns-3 : tie.Need-returns-3
-returns-3 c = ?
+returns-3 c = let s = now (c .before .before .before .before .before .before .before .args .s) in
+    ap Ended (c .before .before .before .before .total-in .ensures) ∙ accepted-by _ (endFault s) (Ended (totalIn s)) Refused (fault (c .before)) (c .if2 .left)
 
 pub read-total-spec : {M : Type 1} → statement M
 read-total-spec =

@@ -1,29 +1,19 @@
+-- By the test.
 use borrow.Author.Needs.{needs}
+use mathlib.Core.Path.{_≡_, sym, _∙_}
+use mathlib.Core.Bool.{true, false}
+use Rattle.sheets.specs.Kept.{fieldsFit}
 use Rattle.sheet_reader.proofs.total_fault.Statement.{statement}
 use Rattle.sheet_reader.proofs.total_fault.Tie as tie
-use Rattle.sheet_reader.proofs.total_fault.Reads as reads
-use Rattle.sheet_reader.proofs.total_fault.Lts as lts
-use Rattle.sheet_reader.proofs.verdict_fits.Reads as verdict-fits-reads
 
--- src/lib.rt:104:9
+fields-fit-requires : tie.Need-fields-fit-requires
+fields-fit-requires c κs = search needs
+
 returns : tie.Need-returns
-returns c = ?
+returns c = let e : fieldsFit (c .before .before .args .t) ≡ true = sym (c .before .fields-fit .ensures) ∙ c .if1 .taken in rw e
 
--- src/lib.rt:107:9
 returns-2 : tie.Need-returns-2
-returns-2 c = ?
-
--- src/lib.rt:109:8
-verdict-fits-requires : tie.Need-verdict-fits-requires
-verdict-fits-requires c κs = search needs
-
--- src/lib.rt:110:9
-returns-3 : tie.Need-returns-3
-returns-3 c = ?
-
--- src/lib.rt:100:1
-returns-4 : tie.Need-returns-4
-returns-4 c = ?
+returns-2 c = let e : fieldsFit (c .before .before .args .t) ≡ false = sym (c .before .fields-fit .ensures) ∙ c .if1 .left in rw e
 
 pub total-fault-spec : {M : Type 1} → statement M
-total-fault-spec = tie.close (tie.spec returns returns-2 verdict-fits-requires returns-3 returns-4)
+total-fault-spec = tie.close (tie.spec fields-fit-requires returns returns-2)
