@@ -10,5 +10,6 @@ pub mod Apart
 pub mod Promise
 pub mod Unique
 pub mod Telling
+pub mod ReadAgain
 pub mod Answering
 pub mod Table
