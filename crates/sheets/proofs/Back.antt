@@ -27,7 +27,6 @@ record Lists (done : List Entry) (s : List ℕ) (p : SheetParts) : Type 0 where
   streams : p .streams ≡ done ++ more
   bytes : s ≡ recordsOf more ++ totalBytes (p .total)
   flows : allFit more ≡ true
-  few : length done ≤ maxStreams → length (done ++ more) ≤ maxStreams
   number : p .total .sheet < 256 ^ 4
   cost : p .total .cost < 256 ^ 8
   allowed : fieldsFit (p .total) ≡ true
@@ -50,7 +49,6 @@ rest-back (suc l) done s p a e =
           streams = sym (d ∙ ap (λ (q : SheetParts). q .streams) g);
           bytes = k .bytes a;
           flows = refl;
-          few = λ f. rw d f;
           number = k .number a;
           cost = k .cost a;
           allowed = k .allowed;
@@ -60,17 +58,33 @@ rest-back (suc l) done s p a e =
         let es = r .more in
         let b = recordOf (x .class) (x .flow) in
         let d : (done ++ (x ∷ [])) ++ es ≡ done ++ x ∷ es = append-assoc done (x ∷ []) es in
-        let room = h .room in
         record {
           more = x ∷ es;
           streams = r .streams ∙ d;
           bytes = h .bytes a ∙ ap (λ (t : List ℕ). b ++ t) (r .bytes) ∙ sym (append-assoc b (recordsOf es) (totalBytes (p .total)));
           flows = and-both (fits (x .class) (x .flow)) (allFit es) (h .held a) (r .flows);
-          few = λ f. rw d at (r .few (omega (arith, length-append done (x ∷ []))));
           number = r .number;
           cost = r .cost;
           allowed = r .allowed;
         }
+
+-- No more streams are listed than there may be.
+rest-few : (l : ℕ) (done : List Entry) (s : List ℕ) (p : SheetParts) → length done ≤ maxStreams → recordsFrom l done s ≡ someSheet p → length (p .streams) ≤ maxStreams
+rest-few zero done s p f e = absurd (not-both 13 p e)
+rest-few (suc l) done s p f e =
+    go (recordAt (length done) s) (record-means (length done) s) e (λ x m g. rest-few l (done ++ (x ∷ [])) (drop m s) p g)
+  where
+    go : (h : SheetRecord) → Meaning (length done) s h → onRecord h (λ x m. recordsFrom l (done ++ (x ∷ [])) (drop m s)) (sheetWith done) noSheet ≡ someSheet p
+        → ((x : Entry) (m : ℕ) → length (done ++ (x ∷ [])) ≤ maxStreams → recordsFrom l (done ++ (x ∷ [])) (drop m s) ≡ someSheet p → length (p .streams) ≤ maxStreams)
+        → length (p .streams) ≤ maxStreams
+    go (Refused g) h e ih = absurd (not-both g p e)
+    go (Ended t) h e ih =
+        let g : record { streams = done; total = t } ≡ p = cc in
+        subst (λ (q : SheetParts). length (q .streams) ≤ maxStreams) g f
+    go (Listed x m) h e ih = let room = h .room in ih x m (omega (arith, length-append done (x ∷ []))) e
+
+pub few-read : (b : List ℕ) (s : SheetParts) → readSheet b ≡ someSheet s → length (s .streams) ≤ maxStreams
+few-read b s e = rest-few mostRecords [] b s (omega arith) e
 
 -- (At any fuel: a numeral here would be unfolded.)
 all-back : (l : ℕ) (b : List ℕ) (s : SheetParts) → allBytes b ≡ true → recordsFrom l [] b ≡ someSheet s → (partsBytes s ≡ b) × WithinSheet s
@@ -78,7 +92,7 @@ all-back l b s a e =
     let r = rest-back l [] b s a e in
     let same = r .streams in
     (ap (λ (es : List Entry). recordsOf es ++ totalBytes (s .total)) same ∙ sym (r .bytes), record {
-      few = rw same (r .few (omega arith));
+      few = rest-few l [] b s (omega arith) e;
       flows = rw same (r .flows);
       number = r .number;
       cost = r .cost;
