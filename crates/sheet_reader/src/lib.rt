@@ -4,9 +4,10 @@ ghost use mathlib.Core.Bool.{_||_};
 ghost use Prim.Native.Nat.{_≤_};
 ghost use lib.Dec.{leb, ltb};
 ghost use lib.ListN.{length};
-ghost use Rattle.numbers.specs.Choice.{firstOf};
+ghost use Rattle.numbers.specs.Choice.{refuseIf, firstOf};
 ghost use Rattle.plants.specs.Limits.{maxStreams};
 ghost use Rattle.sheets.specs.Apart.{streamSize, totalSize};
+ghost use Rattle.sheets.specs.Sheets.{kindOf};
 ghost use Rattle.sheets.specs.Kept.{shownIn, blank, streamRecord, totalIn, verdictFits, fieldsFit, totalFault, afterFault, totalRecord, recordAt, recordNumber, noSheet, readOf, ReadSays};
 use flows::Class;
 use plants::limits::MAX_STREAMS;
@@ -22,6 +23,18 @@ use sheets::kinds::STREAM_SIZE;
 use sheets::kinds::TOTAL;
 use sheets::kinds::TOTAL_SIZE;
 use sheets::kinds::WITHHELD;
+
+// The kind of record that a class has.
+pub fn kind_of(class: Class) -> u8
+    ensures { λ r. ⌜ r ≡ kindOf class ⌝ }
+{
+    match class {
+        Class::Adjusted => ADJUSTED,
+        Class::AsRead => AS_READ,
+        Class::Given => GIVEN,
+        Class::Withheld => WITHHELD,
+    }
+}
 
 // A stream record of so many bytes, after so many streams: there is no room for it, or it is cut.
 fn unfit(size: usize, count: u8, s: &[u8]) -> bool
@@ -119,6 +132,16 @@ fn total_fault(t: Total) -> u8
     14
 }
 
+// A total that is cut.
+fn cut_fault(s: &[u8]) -> u8
+    ensures { λ r. ⌜ r ≡ refuseIf (ltb (length (now (s .entry))) totalSize) 13 ⌝ }
+{
+    if s.len() < TOTAL_SIZE {
+        return 13;
+    }
+    0
+}
+
 // Bytes after the total.
 fn after_fault(s: &[u8]) -> u8
     ensures { λ r. ⌜ r ≡ afterFault (now (s .entry)) ⌝ }
@@ -142,11 +165,14 @@ fn first_of(first: u8, second: u8) -> u8
 fn read_total(s: &[u8]) -> SheetRecord
     ensures { λ r. ⌜ r ≡ totalRecord (now (s .entry)) ⌝ }
 {
-    if s.len() < TOTAL_SIZE {
-        return SheetRecord::Refused(13);
+    let cut = cut_fault(s);
+    if cut != 0 {
+        return SheetRecord::Refused(cut);
     }
     let total = total_in(s);
-    let fault = first_of(total_fault(total), after_fault(s));
+    let fields = total_fault(total);
+    let after = after_fault(s);
+    let fault = first_of(fields, after);
     if fault != 0 {
         return SheetRecord::Refused(fault);
     }
@@ -190,7 +216,7 @@ fn record_number(found: SheetRecord) -> u8
 }
 
 // A refusal hands over no streams and zeros.
-fn refusal(number: u8) -> SheetRead
+pub fn refusal(number: u8) -> SheetRead
     ensures { λ r. ⌜ r ≡ readOf (noSheet number) ⌝ }
 {
     let none = blank_entry();

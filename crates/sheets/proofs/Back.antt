@@ -90,14 +90,16 @@ few-read b s e = rest-few mostRecords [] b s (omega arith) e
 all-back : (l : ℕ) (b : List ℕ) (s : SheetParts) → allBytes b ≡ true → recordsFrom l [] b ≡ someSheet s → (partsBytes s ≡ b) × WithinSheet s
 all-back l b s a e =
     let r = rest-back l [] b s a e in
-    let same = r .streams in
-    (ap (λ (es : List Entry). recordsOf es ++ totalBytes (s .total)) same ∙ sym (r .bytes), record {
-      few = rest-few l [] b s (omega arith) e;
-      flows = rw same (r .flows);
-      number = r .number;
-      cost = r .cost;
-      allowed = r .allowed;
-    })
+    let same = r .streams in (
+      ap (λ (es : List Entry). recordsOf es ++ totalBytes (s .total)) same ∙ sym (r .bytes),
+      record {
+        few = rest-few l [] b s (omega arith) e;
+        flows = rw same (r .flows);
+        number = r .number;
+        cost = r .cost;
+        allowed = r .allowed;
+      },
+    )
 
 rest-refused : (l : ℕ) (done : List Entry) (s : List ℕ) (f : ℕ) → recordsFrom l done s ≡ noSheet f → (13 ≤ f) × (f ≤ 15)
 rest-refused zero done s f e = let g : 13 ≡ f = cc in (omega arith, omega arith)
