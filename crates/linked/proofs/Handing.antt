@@ -1,6 +1,6 @@
 -- Handing a kept sheet over: there is room in the slices, and the elements are laid down one after the other.
-use mathlib.Core.Path.{_≡_, refl, sym, ap, _∙_}
-use mathlib.Core.Bool.{Bool, true, false, _||_}
+use mathlib.Core.Path.{_≡_, refl, ap, _∙_}
+use mathlib.Core.Bool.{_||_}
 use mathlib.Core.List.{List, [], _∷_, map}
 use lib.IntN.{ℤ}
 use Prim.Native.Nat.{ℕ, zero, suc, _+_, _≤_, _<_}

@@ -10,11 +10,10 @@ use Rattle.numbers.proofs.Digits.{bytes-drop}
 use Rattle.numbers.proofs.Tests.{and-both}
 use Rattle.plants.specs.Limits.{maxStreams}
 use Rattle.sheets.specs.declared.Entry.{Entry}
-use Rattle.sheets.specs.declared.Total.{Total}
 use Rattle.sheets.specs.declared.SheetRecord.{SheetRecord}
 use Rattle.sheets.specs.declared.SheetRecord.the-variants.{Listed, Ended, Refused}
 use Rattle.sheets.specs.Sheets.{recordOf, recordsOf, SheetParts, partsBytes}
-use Rattle.sheets.specs.Kept.{Reopened, noSheet, someSheet, fieldsFit, recordAt, onRecord, sheetWith, recordsFrom, mostRecords, readSheet, fits, allFit, WithinSheet, Reopening}
+use Rattle.sheets.specs.Kept.{noSheet, someSheet, fieldsFit, recordAt, onRecord, sheetWith, recordsFrom, mostRecords, readSheet, fits, allFit, WithinSheet, Reopening}
 use Rattle.sheets.proofs.Records.{totalBytes, EndedAs, Meaning, record-means}
 use Rattle.sheets.proofs.There.{there}
 

@@ -1,5 +1,5 @@
 -- The sheet of a plant's cheapest flow is within its limits, and so it reads back as its parts.
-use mathlib.Core.Path.{_≡_, refl, sym, ap, ap₂, _∙_, subst}
+use mathlib.Core.Path.{_≡_, refl, sym, subst}
 use mathlib.Core.Bool.{Bool, true, false}
 use mathlib.Core.List.{List, [], _∷_}
 use lib.IntN.{ℤ, natAbs}
@@ -16,15 +16,14 @@ use Rattle.plants.specs.Within.{Within}
 use Rattle.plants.specs.Limits.{maxUnits}
 use Rattle.flows.specs.declared.Class.{Class}
 use Rattle.flows.specs.declared.Class.the-variants.{Adjusted, AsRead, Given, Withheld}
-use Rattle.flows.specs.Flows.{amountAt, cost, Cheapest}
+use Rattle.flows.specs.Flows.{cost, Cheapest}
 use Rattle.flows.specs.Classes.{classOf, numberOf, degrees}
 use Rattle.flows.specs.Test.{critical, verdictAt}
 use Rattle.flows.proofs.Nets.{inside}
 use Rattle.flows.proofs.Given.{number-is}
 use Rattle.flows.proofs.Degrees.{degrees-most}
 use Rattle.sheets.specs.declared.Entry.{Entry}
-use Rattle.sheets.specs.declared.Total.{Total}
-use Rattle.sheets.specs.Balances.{entryOf, balanceOf}
+use Rattle.sheets.specs.Balances.{entryOf}
 use Rattle.sheets.specs.Sheets.{plantParts, sheetOf}
 use Rattle.sheets.specs.Kept.{someSheet, readSheet, verdictFits, fieldsFit, fits, allFit, WithinSheet}
 use Rattle.sheets.proofs.Costing.{cheapest-cost}

@@ -1,22 +1,21 @@
 -- The records of a kept sheet: what is known of the bytes where one is read.
 use mathlib.Core.Path.{_≡_, refl, sym, ap, _∙_}
 use mathlib.Core.Bool.{Bool, true, false, not, _||_}
-use mathlib.Core.List.{List, [], _∷_, _++_, append-assoc}
-use lib.IntN.{ℤ}
+use mathlib.Core.List.{List, [], _∷_, _++_}
 use Prim.Native.Nat.{ℕ, suc, _<_, _≤_, _^_}
 use native.Mathlib.Omega.{arith}
 use lib.Dec.{eqb, ltb, leb}
 use lib.ListN.{length, getD, take, drop, take-append-drop, length-drop}
 use lib.Seq.{drop-drop, getD-drop}
 use borrow.Author.Tests.{le-ltb, ltb-false, leb-false, eqb-true, eqb-false, not-false}
-use Rattle.numbers.specs.Choice.{pick, refuseIf, firstOf}
+use Rattle.numbers.specs.Choice.{refuseIf, firstOf}
 use Rattle.numbers.specs.Bytes.{be, putBe, signed, raw, holds, allBytes}
 use Rattle.numbers.proofs.Tests.{picked, or-none-left, or-none-right, refuse-none, first-none-left, first-none-right}
 use Rattle.numbers.proofs.Digits.{byte-first, put-be, be-fits}
 use Rattle.numbers.proofs.Complement.{raw-signed, signed-held}
 use Rattle.plants.specs.Limits.{maxStreams}
 use Rattle.flows.specs.declared.Class.{Class}
-use Rattle.flows.specs.declared.Class.the-variants.{Adjusted, AsRead, Given, Withheld}
+use Rattle.flows.specs.declared.Class.the-variants.{Adjusted, AsRead, Given}
 use Rattle.sheets.specs.declared.Entry.{Entry}
 use Rattle.sheets.specs.declared.Total.{Total}
 use Rattle.sheets.specs.declared.SheetRecord.{SheetRecord}
