@@ -150,7 +150,7 @@ fn put_entry(e: Entry, out: &mut [u8])
     requires { ⌜ 9 ≤ length (now out) ⌝ }
 {
     let class = e.class;
-    out[0] = sheet_reader::kind_of(class);
+    numbers::put_u8(sheet_reader::kind_of(class), out);
     numbers::put_i64(e.flow, &mut out[1..]);
 }
 

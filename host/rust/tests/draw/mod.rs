@@ -290,7 +290,8 @@ impl Draw {
                 }
             })
             .collect();
-        let degrees = [0, 1, 2, 31, 32, 33, 255][self.below(if self.below(4) == 0 { 7 } else { 5 })];
+        let most = if self.below(4) == 0 { 7 } else { 5 };
+        let degrees = [0, 1, 2, 31, 32, 33, 255][self.below(most)];
         let verdict = match self.below(6) {
             0 => self.below(4) as u8,
             1 => self.bits() as u8,
