@@ -2,7 +2,7 @@
 
 A file has its cases one after the other, with no gap. A case, numbers high byte first:
 
-    0      what is called, one of the five below
+    0      what is called, one of the six below
     1      the filling: what each byte of the slice is before the call
     2-3    how many bytes are handed in
     4-5    how many bytes of the slice follow; those past them are the filling
@@ -21,14 +21,16 @@ then the bytes handed in, then those of the slice as they must be after the call
     4 UNHINTED  handed in: for each of 96 streams 1 where its flow is compared, else 0, then the plant file; back: the 96
                 flows in a slice of 768 bytes, 8 bytes each, two's complement, 0 where not compared
     5 LISTING   handed in: plant file; back: the text's length, the text in the slice
+    6 KEPT      handed in: sheet; back: how many streams, the sheet's number, and at the front of a slice of 874 bytes the cost
+                (8), degrees, verdict and an entry for each stream
 
 Where a call has no number or count, 0 stands. A stream is 9 bytes: metered (0 or 1), from, to, weight (2), reading (4, two's
-complement).
+complement). An entry is 9 bytes: the kind of the stream's record, its flow (8, two's complement; 0 for W).
 """
 
 from typing import NamedTuple
 
-SHEET, READER, WRITER, UNHINTED, LISTING = 1, 2, 3, 4, 5
+SHEET, READER, WRITER, UNHINTED, LISTING, KEPT = 1, 2, 3, 4, 5, 6
 STREAMS = 96
 HEAD = 20
 ROOM = 2_560  # most bytes handed in, and of a slice

@@ -125,6 +125,21 @@ class Listing(NamedTuple):
         return meant(self, cases.Record(cases.LISTING, self.file, self.slice_length, text, count=len(text)))
 
 
+class Keeping(NamedTuple):
+    """A call of the sheet reader."""
+
+    sheet: bytes
+    expected: int | None = None
+
+    def record(self):
+        number, kept = solver.reopen_call(self.sheet)
+        answer = cases.number(kept.cost, 8) + bytes((kept.degrees, kept.verdict))
+        answer += b"".join(bytes((solver.KIND[letter],)) + cases.number(flow, 8) for letter, flow in zip(kept.classes, kept.flows))
+        return meant(self, cases.Record(
+            cases.KEPT, self.sheet, 874, answer, returned=number, count=len(kept.flows), number_back=kept.number,
+        ))
+
+
 def meant(case, record):
     """The record, if it has the number that the case was built for."""
     if case.expected is not None and record.returned != case.expected:

@@ -380,6 +380,52 @@ def sheet_call(data, last, slice_length):
     return 0, len(sheet), last + 1, sheet
 
 
+# Kept sheets
+
+
+class Kept(NamedTuple):
+    """A kept sheet: a class and a flow (0 for W) per stream, and the total."""
+
+    classes: str = ""
+    flows: tuple = ()
+    number: int = 0
+    cost: int = 0
+    degrees: int = 0
+    verdict: int = 0
+
+
+def read_sheet(data):
+    """What a kept sheet shows, or Refused with 13 to 15."""
+    letters = {kind: letter for letter, kind in KIND.items()}
+    classes, flows, place = "", [], 0
+    while data[place : place + 1] != bytes((TOTAL,)):
+        letter = letters.get(data[place]) if place < len(data) else None
+        end = place + (1 if letter == "W" else 9)
+        if letter is None or len(flows) == STREAMS or end > len(data):
+            raise Refused(13)
+        classes += letter
+        flows.append(int.from_bytes(data[place + 1 : end], "big", signed=True))
+        place = end
+    total = data[place + 1 :]
+    if len(total) < 14:
+        raise Refused(13)
+    number, cost = int.from_bytes(total[:4], "big"), int.from_bytes(total[4:12], "big")
+    degrees, verdict = total[12:14]
+    if number == 0 or degrees > UNITS or verdict not in ((NONE,) if degrees == 0 else (PASS, FAIL)):
+        raise Refused(14)
+    if len(total) > 14:
+        raise Refused(15)
+    return Kept(classes, tuple(flows), number, cost, degrees, verdict)
+
+
+def reopen_call(data):
+    """(returned number, what is handed over) of the sheet reader."""
+    try:
+        return 0, read_sheet(data)
+    except Refused as refusal:
+        return refusal.number, Kept()
+
+
 def listing(data):
     """What the program `balance` prints for this input."""
     try:

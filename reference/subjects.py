@@ -7,6 +7,7 @@ import plants_to_try
 import refusals
 import samples
 import shapes
+import sheets_to_try
 import solver
 from parts import (
     Case, Draws, balanced_amounts, end_record, metered, metered_record, plant_file, read_with_noise,
@@ -354,4 +355,5 @@ SUBJECTS = (
     ("writer", files_to_try.writer),
     ("unhinted", plants_to_try.unhinted),
     ("listings", files_to_try.listings),
+    ("kept", sheets_to_try.kept),
 )

@@ -11,31 +11,29 @@
 
 #include "wengeludo_balance.h"
 
-static uint64_t field(const uint8_t *at, int bytes)
-{
-    uint64_t value = 0;
-    for (int i = 0; i < bytes; i++)
-        value = value << 8 | at[i];
-    return value;
-}
-
-static void print_sheet(const uint8_t *sheet, size_t written)
+/* Reads the sheet back in and prints it; the number of a refusal, or 0. */
+static uint8_t print_sheet(const uint8_t *sheet, size_t written)
 {
     static const char classes[] = "ARGW";
     static const char *const verdicts[] = {"pass", "fail", "none"};
-    size_t at = 0;
-    for (int stream = 1; at < written && sheet[at] != WENGELUDO_TOTAL; stream++) {
-        char class = classes[sheet[at] - WENGELUDO_ADJUSTED];
-        if (sheet[at] == WENGELUDO_WITHHELD) {
-            printf("%d %c -\n", stream, class);
-            at += 1;
-        } else {
-            printf("%d %c %" PRId64 "\n", stream, class, (int64_t)field(sheet + at + 1, 8));
-            at += 9;
-        }
+    uint8_t kinds[WENGELUDO_MAX_STREAMS], degrees, verdict;
+    int64_t flows[WENGELUDO_MAX_STREAMS];
+    size_t count;
+    uint32_t number;
+    uint64_t cost;
+    uint8_t refusal = wengeludo_read_sheet(sheet, written, kinds, WENGELUDO_MAX_STREAMS, flows, WENGELUDO_MAX_STREAMS,
+                                           &count, &number, &cost, &degrees, &verdict);
+    if (refusal != WENGELUDO_DONE)
+        return refusal;
+    for (size_t k = 0; k < count; k++) {
+        char class = classes[kinds[k] - WENGELUDO_ADJUSTED];
+        if (kinds[k] == WENGELUDO_WITHHELD)
+            printf("%zu %c -\n", k + 1, class);
+        else
+            printf("%zu %c %" PRId64 "\n", k + 1, class, flows[k]);
     }
-    printf("total %" PRIu64 " %" PRIu64 " %d %s\n", field(sheet + at + 1, 4), field(sheet + at + 5, 8),
-           sheet[at + 13], verdicts[sheet[at + 14]]);
+    printf("total %" PRIu32 " %" PRIu64 " %d %s\n", number, cost, degrees, verdicts[verdict]);
+    return 0;
 }
 
 /* What was printed reached its end. */
@@ -80,10 +78,9 @@ int main(int count, char **words)
     uint8_t sheet[WENGELUDO_SHEET_SIZE];
     size_t written;
     uint8_t refusal = wengeludo_balance_plant(file, length, &last, sheet, sizeof sheet, &written);
-    if (refusal != WENGELUDO_DONE) {
+    if (refusal == WENGELUDO_DONE)
+        refusal = print_sheet(sheet, written);
+    if (refusal != WENGELUDO_DONE)
         printf("refused %d\n", refusal);
-        return done(words[0], 1);
-    }
-    print_sheet(sheet, written);
-    return done(words[0], 0);
+    return done(words[0], refusal != WENGELUDO_DONE);
 }

@@ -1,4 +1,4 @@
-/* A fuzz target over the two calls, for libFuzzer.
+/* A fuzz target over the three calls, for libFuzzer.
  *
  * Coverage is of the archive as it is delivered, which carries no instrumentation: a breakpoint stands at each basic
  * block of its functions (blocks.txt beside the program, made by build.sh). The first time a block runs, the breakpoint
@@ -9,7 +9,7 @@
  *
  * An input: 1 byte that chooses the slice's length, 1 byte that chooses the last sheet number, then a plant file; or, the
  * second byte being 249, parts for the writer: units, count (2), which slice is cut (1) and where (1), then 9 bytes for each
- * stream.
+ * stream; or, the second byte being 248, a kept sheet. Each sheet that is drawn is read back in as well.
  * Each slice ends at a page that may not be touched, and bytes stand before it that may not change.
  */
 #define _GNU_SOURCE
@@ -71,7 +71,7 @@ static uint8_t *area(void)
     return memory + AREA;
 }
 
-static uint8_t *file_end, *out_end, *again_end;
+static uint8_t *file_end, *out_end, *again_end, *kinds_end, *flows_end;
 
 /* How much of the archive ran; the blocks that did not, by address. */
 static void summary(void)
@@ -92,6 +92,8 @@ int LLVMFuzzerInitialize(int *count, char ***words)
     file_end = area();
     out_end = area();
     again_end = area();
+    kinds_end = area();
+    flows_end = area();
     FILE *list = fopen(BLOCKS, "r");
     if (list == NULL)
         fail("no " BLOCKS ": build with host/fuzz/build.sh");
@@ -146,6 +148,76 @@ static struct outcome sheet_call(const uint8_t *file, size_t size, uint32_t last
         if (slice[i] != fill(i + GUARD, round))
             fail("a byte past the sheet changed");
     return o;
+}
+
+/* The refusals of the sheet reader, in their order, as the header states them. */
+static uint8_t sheet_fault(const uint8_t *sheet, size_t size, size_t room)
+{
+    size_t at = 0, streams = 0;
+    if (room < WENGELUDO_MAX_STREAMS)
+        return 1;
+    while (at < size && sheet[at] != WENGELUDO_TOTAL) {
+        if (sheet[at] < WENGELUDO_ADJUSTED || sheet[at] > WENGELUDO_WITHHELD || streams++ == WENGELUDO_MAX_STREAMS)
+            return 13;
+        at += sheet[at] == WENGELUDO_WITHHELD ? 1 : 9;
+    }
+    if (at + 15 > size)
+        return 13;
+    uint8_t degrees = sheet[at + 13], verdict = sheet[at + 14];
+    if (field(sheet + at + 1, 4) == 0 || degrees > 32 || (degrees == 0 ? verdict != 2 : verdict > 1))
+        return 14;
+    return at + 15 == size ? 0 : 15;
+}
+
+/* A sheet read back in, `room` elements being lent: the number returned, what stays as it was, and that the parts, written
+ * again, are the sheet. */
+static void read_back(const uint8_t *sheet, size_t size, size_t room)
+{
+    uint8_t *kinds = kinds_end - room;
+    int64_t *flows = (int64_t *)(void *)flows_end - room;
+    for (size_t i = 0; i < room; i++) {
+        kinds[i] = fill(i, 0);
+        flows[i] = -(int64_t)i;
+    }
+    memset(kinds - GUARD, 0x3C, GUARD);
+    memset(flows - GUARD, 0x3C, GUARD * sizeof *flows);
+    size_t count = SIZE_MAX;
+    uint32_t number = 1;
+    uint64_t cost = 1;
+    uint8_t degrees = 1, verdict = 1;
+    uint8_t returned = wengeludo_read_sheet(sheet, size, kinds, room, flows, room, &count, &number, &cost, &degrees, &verdict);
+    if (returned != sheet_fault(sheet, size, room))
+        fail("the sheet reader returns another number");
+    if (returned != 0 && (count != 0 || number != 0 || cost != 0 || degrees != 0 || verdict != 0))
+        fail("a refused sheet hands something over");
+    if (count > WENGELUDO_MAX_STREAMS)
+        fail("more streams than there may be");
+    for (size_t i = count; i < room; i++)
+        if (kinds[i] != fill(i, 0) || flows[i] != -(int64_t)i)
+            fail("an element past the streams changed");
+    for (size_t i = 1; i <= GUARD; i++)
+        if (kinds[-(ptrdiff_t)i] != 0x3C || flows[-(ptrdiff_t)i] != 0x3C3C3C3C3C3C3C3C)
+            fail("an element before the slices changed");
+    if (returned != 0)
+        return;
+    uint8_t again[WENGELUDO_SHEET_SIZE];
+    size_t length = 0;
+    for (size_t k = 0; k < count; k++) {
+        again[length++] = kinds[k];
+        for (int shift = 56; kinds[k] != WENGELUDO_WITHHELD && shift >= 0; shift -= 8)
+            again[length++] = (uint8_t)((uint64_t)flows[k] >> shift);
+        if (kinds[k] == WENGELUDO_WITHHELD && flows[k] != 0)
+            fail("a blank with a flow");
+    }
+    again[length++] = WENGELUDO_TOTAL;
+    for (int shift = 24; shift >= 0; shift -= 8)
+        again[length++] = (uint8_t)(number >> shift);
+    for (int shift = 56; shift >= 0; shift -= 8)
+        again[length++] = (uint8_t)(cost >> shift);
+    again[length++] = degrees;
+    again[length++] = verdict;
+    if (length != size || memcmp(again, sheet, size) != 0)
+        fail("the sheet written again differs");
 }
 
 /* An accepted file: its parts written again give it back, and its sheet fits its streams. */
@@ -323,7 +395,7 @@ static size_t repaired(uint8_t *file, size_t size, size_t most)
 size_t LLVMFuzzerCustomMutator(uint8_t *data, size_t size, size_t most, unsigned seed)
 {
     size = LLVMFuzzerMutate(data, size, most);
-    if (seed % 4 != 0 && size > 2 && most > 2 && data[1] != 249)
+    if (seed % 4 != 0 && size > 2 && most > 2 && data[1] != 249 && data[1] != 248)
         size = 2 + repaired(data + 2, size - 2, most - 2);
     return size;
 }
@@ -335,6 +407,14 @@ int LLVMFuzzerTestOneInput(const uint8_t *data, size_t size)
     size_t length = data[0] < 128 ? WENGELUDO_SHEET_SIZE : data[0] < 192 ? WENGELUDO_SHEET_SIZE + data[0] - 128 : (size_t)(255 - data[0]) * 14;
     if (data[1] == 249) {
         write_parts(data + 2, size - 2, length);
+        return 0;
+    }
+    if (data[1] == 248) {
+        uint8_t *sheet = file_end - (size - 2);
+        memcpy(sheet, data + 2, size - 2);
+        read_back(sheet, size - 2, data[0] < 128 ? WENGELUDO_MAX_STREAMS : data[0] - 128u);
+        if (memcmp(sheet, data + 2, size - 2) != 0)
+            fail("the sheet changed");
         return 0;
     }
     uint32_t last = data[1] < 250 ? data[1] : UINT32_MAX - (255 - data[1]);
@@ -349,7 +429,9 @@ int LLVMFuzzerTestOneInput(const uint8_t *data, size_t size)
         fail("two sheets differ");
     if (memcmp(file, data + 2, size) != 0)
         fail("the file changed");
-    if (a.returned == 0)
+    if (a.returned == 0) {
         accepted(file, size, out_end - length, a.written);
+        read_back(out_end - length, a.written, WENGELUDO_MAX_STREAMS);
+    }
     return 0;
 }

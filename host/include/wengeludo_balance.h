@@ -1,4 +1,4 @@
-/* Steam and condensate balance sheets: the two calls of liblinked.a.
+/* Steam and condensate balance sheets: the three calls of liblinked.a.
  *
  * Build the archive with `rt staticlib linked` (target/staticlib/liblinked.a, x86-64 Linux) and link it;
  * it needs nothing but the C library (memcpy, memset). The calls keep no state, allocate nothing, take less than
@@ -36,7 +36,8 @@ extern "C" {
 /* What the calls return: 0, or the number of a refusal. */
 enum {
     WENGELUDO_DONE = 0,
-    WENGELUDO_SLICE_TOO_SHORT = 1,    /* sheet slice under 879 bytes; file slice of the writer under 868 */
+    WENGELUDO_SLICE_TOO_SHORT = 1,    /* sheet slice under 879 bytes; file slice of the writer under 868; a slice of
+                                         the sheet reader under 96 elements */
     WENGELUDO_NO_SHEET_NUMBER = 2,    /* last sheet number is 4,294,967,295 */
     WENGELUDO_FILE_ENDS = 3,          /* bytes end where a record is due or inside a body */
     WENGELUDO_KIND = 4,               /* kind not allowed at this place */
@@ -47,7 +48,10 @@ enum {
     WENGELUDO_WEIGHT = 9,             /* weight 0 or over 1,000 */
     WENGELUDO_READING = 10,           /* reading outside -4,000,000 to 4,000,000 */
     WENGELUDO_END_COUNT = 11,         /* end count differs from the streams read */
-    WENGELUDO_AFTER_END = 12          /* bytes after the end record */
+    WENGELUDO_AFTER_END = 12,         /* bytes after the end record */
+    WENGELUDO_SHEET_RECORD = 13,      /* in a sheet, a record is missing, cut short, a 97th or of a wrong kind */
+    WENGELUDO_SHEET_TOTAL = 14,       /* in a sheet, sheet number 0, degrees over 32, or a verdict that does not fit */
+    WENGELUDO_AFTER_TOTAL = 15        /* in a sheet, bytes after the total */
 };
 
 /* The kinds of record on a sheet. */
@@ -101,6 +105,32 @@ uint8_t wengeludo_write_plant(uint8_t units, size_t count,
                               const int32_t *reading, size_t reading_length,
                               uint8_t *file, size_t file_length,
                               size_t *written);
+
+/* The sheet reader: reads a kept sheet back in.
+ *
+ * Reads   the sheet's bytes_length bytes.
+ * Returns 0, or 1, 13, 14 or 15. The order: 1, then 13 for each record in turn, then of the total 13, 14, 15.
+ *         1:  `kinds` or `flows` has fewer than 96 elements, however many streams the sheet lists.
+ *         13: a record is missing, cut short, a 97th stream or of a wrong kind. A total that is cut is 13, whatever the
+ *             fields hold that are there.
+ *         14: the sheet number is 0, the degrees are above 32, or the verdict is not 2 at degrees 0, or not 0 or 1 at
+ *             more degrees. The cost is free, and nothing is compared with the streams.
+ *         15: bytes follow the total.
+ * Writes, where it returns 0:
+ *         at index k - 1 of `kinds` the kind of stream k's record (0x11 A, 0x12 R, 0x13 G, 0x14 W), at the same index of
+ *         `flows` its flow, 0 for W; the elements past the last stream keep their values;
+ *         *count: how many streams there are; *sheet, *cost, *degrees, *verdict: the total.
+ * Writes, where it returns another number:
+ *         0 to *count, *sheet, *cost, *degrees and *verdict, and nothing else. All elements of `kinds` and `flows` are
+ *         as they were.
+ * What the five numbers were before the call makes no difference. A sheet of the sheet call is always read, and gives
+ * what was written.
+ */
+uint8_t wengeludo_read_sheet(const uint8_t *bytes, size_t bytes_length,
+                             uint8_t *kinds, size_t kinds_length,
+                             int64_t *flows, size_t flows_length,
+                             size_t *count, uint32_t *sheet, uint64_t *cost,
+                             uint8_t *degrees, uint8_t *verdict);
 
 #ifdef __cplusplus
 }

@@ -1,3 +1,4 @@
--- Laws of the parts of a plant in slices.
+-- Laws of the parts of a plant and of a sheet in slices.
 pub mod Gather
 pub mod Counts
+pub mod Handing

@@ -1,10 +1,12 @@
-// The sheet call and the plant writer for programs in C and Rust: functions on numbers and slices of numbers.
+// The sheet call, the plant writer and the sheet reader for programs in C and Rust: functions on numbers and slices of numbers.
+mod kept;
 mod parts;
 
 use plants::Plant;
 ghost use Rattle.sheets.specs.Says.{SheetSays};
 ghost use Rattle.plants.specs.Says.{WriteSays};
 ghost use Rattle.linked.specs.Parts.{handed};
+ghost use Rattle.linked.specs.Kept.{HandsOver};
 
 // The sheet call: the file's sheet in the slice, its bytes counted and the counter one higher; or a refusal number, none
 // counted, slice and counter as they were.
@@ -49,4 +51,34 @@ pub extern "C" fn wengeludo_write_plant(
     let done = plant_writer::write_plant(plant, file);
     *written = done.written;
     done.number
+}
+
+// The sheet reader: the kinds of a sheet's stream records, which tell the classes, and the flows at the front of two slices, how
+// many they are, and the total; or a refusal number, zeros, and the slices as they were. A slice that does not hold as many as
+// there may be is refused as 1, before the sheet is read.
+#[no_mangle]
+pub extern "C" fn wengeludo_read_sheet(
+    bytes: &[u8],
+    kinds: &mut [u8],
+    flows: &mut [i64],
+    count: &mut usize,
+    sheet: &mut u32,
+    cost: &mut u64,
+    degrees: &mut u8,
+    verdict: &mut u8,
+) -> u8
+    ensures { λ r. ⌜ HandsOver (now (bytes .entry)) (now (kinds .entry)) (now (kinds .exit)) (now (flows .entry)) (now (flows .exit)) r (now (count .exit)) (now (sheet .exit)) (now (cost .exit)) (now (degrees .exit)) (now (verdict .exit)) ⌝ }
+{
+    let read = kept::read_lent(bytes, kinds.len(), flows.len());
+    let listed = read.count as usize;
+    let streams = read.streams;
+    kept::put_kinds(listed, streams, kinds);
+    kept::put_flows(listed, streams, flows);
+    let total = read.total;
+    *count = listed;
+    *sheet = total.sheet;
+    *cost = total.cost;
+    *degrees = total.degrees;
+    *verdict = total.verdict;
+    read.number
 }

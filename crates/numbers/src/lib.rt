@@ -28,6 +28,15 @@ pub fn get_u32(s: &[u8]) -> u32
     high * 65536 + low
 }
 
+pub fn get_u64(s: &[u8]) -> u64
+    requires { ⌜ 8 ≤ length (now s) ⌝ }
+    ensures { λ r. ⌜ r ≡ be 0 8 (now (s .entry)) ⌝ }
+{
+    let high = get_u32(s) as u64;
+    let low = get_u32(&s[4..]) as u64;
+    high * 4294967296 + low
+}
+
 // Two's complement.
 pub fn get_i32(s: &[u8]) -> i32
     requires { ⌜ 4 ≤ length (now s) ⌝ }
@@ -38,6 +47,18 @@ pub fn get_i32(s: &[u8]) -> i32
         return v as i32;
     }
     let below = (4294967295 - v) as i32;
+    -1 - below
+}
+
+pub fn get_i64(s: &[u8]) -> i64
+    requires { ⌜ 8 ≤ length (now s) ⌝ }
+    ensures { λ r. ⌜ r ≡ signed 8 (be 0 8 (now (s .entry))) ⌝ }
+{
+    let v = get_u64(s);
+    if v < 9223372036854775808 {
+        return v as i64;
+    }
+    let below = (18446744073709551615 - v) as i64;
     -1 - below
 }
 

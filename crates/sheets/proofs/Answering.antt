@@ -1,17 +1,19 @@
 -- Of every call: the refusal, or a sheet that tells what it has to. The demands.
-use mathlib.Core.Path.{_≡_, sym, ap, _∙_, subst}
+use mathlib.Core.Path.{_≡_, refl, sym, ap, _∙_, subst}
 use mathlib.Core.Logic.{⊎-elim}
 use mathlib.Core.List.{List}
 use lib.IntN.{ℤ, natAbs}
 use Prim.Native.Nat.{ℕ, suc, _+_, _^_, _≤_, _<_}
 use native.Mathlib.Omega.{arith}
-use borrow.Author.Tests.{ne-eqb}
-use lib.ListN.{length, getD, drop}
-use lib.Seq.{drop-append-seam}
+use lib.Dec.{eqb}
+use borrow.Author.Tests.{ne-eqb, eqb-true, eqb-false}
+use lib.ListN.{length, getD, take, drop}
+use lib.Seq.{drop-append-seam, take-at}
 use Rattle.numbers.proofs.Parts.{laid, same-length}
+use Rattle.numbers.proofs.Tests.{by-cases}
 use Rattle.plants.specs.Limits.{maxStreams}
 use Rattle.plants.specs.Plants.{Plant}
-use Rattle.plants.specs.Files.{got, readPlant}
+use Rattle.plants.specs.Files.{Got, bad, got, readPlant}
 use Rattle.plants.specs.Says.{arrayed, plantOf}
 use Rattle.plants.specs.Within.{Within, Accepted}
 use Rattle.plants.proofs.Limited.{within}
@@ -30,14 +32,17 @@ use Rattle.model.specs.SolverNeeds.{Close}
 use Rattle.model.specs.Promise.{flowOf, Right}
 use Rattle.model.proofs.Theorem.{from-none, solved-right}
 use Rattle.sheets.specs.declared.Sheet.{Sheet}
-use Rattle.sheets.specs.Sentences.{topSheet, callFault, Full, Answers}
-use Rattle.sheets.specs.Sheets.{sheetOf}
-use Rattle.sheets.specs.Says.{Drawn, SheetSays}
-use Rattle.sheets.specs.Demands.{Demands}
+use Rattle.sheets.specs.Sentences.{topSheet, callFault, Refused, Full, Answers}
+use Rattle.sheets.specs.Sheets.{plantParts, sheetOf}
+use Rattle.sheets.specs.Says.{Drawn, SheetWith, SheetSays}
+use Rattle.sheets.specs.Kept.{someSheet, readSheet}
+use Rattle.sheets.specs.Demands.{ReadsBack, Demands}
 use Rattle.sheets.proofs.Laying.{sheet-most}
 use Rattle.sheets.proofs.Promise.{long-enough, one-left, call-taken}
 use Rattle.sheets.proofs.Unique.{amount-same, no-choice}
 use Rattle.sheets.proofs.Telling.{Sized, Told, told, tells}
+use Rattle.sheets.proofs.Back.{reopening}
+use Rattle.sheets.proofs.ReadAgain.{read-back}
 
 -- An amount that is held close to the shift is small.
 held-small : (x b : ℕ) → Close b x → natAbs (unshifted x) ≤ b
@@ -101,6 +106,41 @@ answers file last o o′ r top s = record {
   full = λ p z e. full file p e last o o′ r top z (rw e at (call-taken file last o o′ r s z));
 }
 
+-- A sheet that a call drew, read back in.
+module _ (file : List ℕ) (last : ℕ) (o o′ : List ℕ) (r : Sheet) (top : last ≤ topSheet) where
+  drawn-back : (p : Plant) → readPlant file ≡ got p → callFault last o ≡ 0 → Drawn p last o o′ r → ReadsBack file o′ r
+  drawn-back p e f d =
+      let xs = d .0 in
+      let sheet = sheetOf p xs (suc last) in
+      let small : suc last < 256 ^ 4 = let q = one-left last o f in omega (arith, q) in
+      let bytes : take (r .written) o′ ≡ sheet =
+      ap (λ (y : Sheet). take (y .written) o′) (d .2) ∙ ap (take (length sheet)) (d .3) ∙ take-at sheet (drop (length sheet) o) (length sheet) refl in
+      record {
+        plant = p;
+        listed = e;
+        flow = xs;
+        cheapest = d .1;
+        read = ap readSheet bytes ∙ read-back p (within-limits file p e) xs (d .1) last (sized file p e xs (d .1)) small
+            ∙ ap (λ (y : Sheet). someSheet (plantParts p xs (y .last))) (sym (d .2));
+      }
+
+  kept : SheetSays file last o o′ r → r .number ≡ 0 → ReadsBack file o′ r
+  kept s n = by-cases (eqb (callFault last o) 0)
+      (λ t. let f = eqb-true (callFault last o) 0 t in go (readPlant file) refl f (call-taken file last o o′ r s f))
+      (λ t. let f = eqb-false (callFault last o) 0 t in
+      let u : Refused (callFault last o) last o o′ r = rw t at s in absurd (f (sym (ap (λ (y : Sheet). y .number) (u .0)) ∙ n)))
+    where
+      go : (g : Got) → readPlant file ≡ g → callFault last o ≡ 0 → SheetWith g last o o′ r → ReadsBack file o′ r
+      go (bad f) e z u = absurd (refused file f e (sym (ap (λ (y : Sheet). y .number) (u .0)) ∙ n))
+      go (got p) e z u = drawn-back p e z u
+
 -- The demands, all of them.
 pub demands : Demands
-demands = record { sentences = answers; no-choice = no-choice; round = round-trip; third = demand-3 }
+demands = record {
+  sentences = answers;
+  no-choice = no-choice;
+  round = round-trip;
+  third = demand-3;
+  reopening = reopening;
+  kept = kept;
+}

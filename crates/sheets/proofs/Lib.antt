@@ -3,9 +3,13 @@ pub mod Opening
 pub mod Costing
 pub mod Entries
 pub mod Laying
+pub mod Records
+pub mod There
+pub mod Back
 pub mod Apart
 pub mod Promise
 pub mod Unique
 pub mod Telling
+pub mod ReadAgain
 pub mod Answering
 pub mod Table

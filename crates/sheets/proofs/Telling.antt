@@ -73,10 +73,10 @@ module _ (p : Plant) (w : Within p) (xs : List ℤ) (c : Cheapest p xs) (n : ℕ
   abbrev es : List Entry
   es = take (length (p .streams)) (balanceOf p xs .streams)
 
-  es-long : length es ≡ count
+  pub es-long : length es ≡ count
   es-long = let l = balance-long p xs in let f = w .few-streams in length-take-le count (balanceOf p xs .streams) (omega arith)
 
-  entry-at : (k : ℕ) → k < count → getD es k noEntry ≡ entryOf (classOf p k) (numberOf p xs k)
+  pub entry-at : (k : ℕ) → k < count → getD es k noEntry ≡ entryOf (classOf p k) (numberOf p xs k)
   unfolding balanceOf
   entry-at k h =
       let f = w .few-streams in
@@ -85,18 +85,18 @@ module _ (p : Plant) (w : Within p) (xs : List ℤ) (c : Cheapest p xs) (n : ℕ
   class-at : (k : ℕ) → k < count → getD es k noEntry .class ≡ classOf p k
   class-at k h = ap (λ (e : Entry). e .class) (entry-at k h) ∙ entry-class (classOf p k) (numberOf p xs k)
 
-  flow-at : (k : ℕ) → k < count → (classOf p k ≡ Withheld → ⊥) → getD es k noEntry .flow ≡ amountAt xs k
+  pub flow-at : (k : ℕ) → k < count → (classOf p k ≡ Withheld → ⊥) → getD es k noEntry .flow ≡ amountAt xs k
   flow-at k h o = ap (λ (e : Entry). e .flow) (entry-at k h) ∙ entry-flow (classOf p k) (numberOf p xs k) o ∙ number-is p w xs (c .balance) k h o
 
-  cost-is : balanceOf p xs .cost ≡ cost (p .streams) xs
+  pub cost-is : balanceOf p xs .cost ≡ cost (p .streams) xs
   unfolding balanceOf
   cost-is = refl
 
-  degrees-is : balanceOf p xs .degrees ≡ degrees p
+  pub degrees-is : balanceOf p xs .degrees ≡ degrees p
   unfolding balanceOf
   degrees-is = refl
 
-  verdict-is : balanceOf p xs .verdict ≡ verdictAt (degrees p) (cost (p .streams) xs)
+  pub verdict-is : balanceOf p xs .verdict ≡ verdictAt (degrees p) (cost (p .streams) xs)
   unfolding balanceOf
   verdict-is = refl
 

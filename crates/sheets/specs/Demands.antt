@@ -1,11 +1,27 @@
 -- The demands, all in one record. `SheetSays file last o o′ r` is what the sheet call ensures.
+use mathlib.Core.Path.{_≡_}
 use mathlib.Core.List.{List}
+use lib.IntN.{ℤ}
 use Prim.Native.Nat.{ℕ, _≤_}
-use Rattle.plants.specs.Files.{Round-trip}
+use lib.ListN.{take}
+use Rattle.plants.specs.Plants.{Plant}
+use Rattle.plants.specs.Files.{got, readPlant, Round-trip}
+use Rattle.flows.specs.Flows.{Cheapest}
 use Rattle.flows.specs.Shown.{Demand-3}
 use Rattle.sheets.specs.declared.Sheet.{Sheet}
 use Rattle.sheets.specs.Sentences.{topSheet, Answers}
 use Rattle.sheets.specs.Says.{SheetSays, No-choice}
+use Rattle.sheets.specs.Sheets.{plantParts}
+use Rattle.sheets.specs.Kept.{someSheet, readSheet, Reopening}
+
+-- A call that drew a sheet: the bytes written, read back in, are the classes and the numbers of the plant's streams with a
+-- cheapest flow, and the total under the number drawn.
+pub record ReadsBack (file o′ : List ℕ) (r : Sheet) : Type 0 where
+  pub plant : Plant
+  pub listed : readPlant file ≡ got plant
+  pub flow : List ℤ
+  pub cheapest : Cheapest plant flow
+  pub read : readSheet (take (r .written) o′) ≡ someSheet (plantParts plant flow (r .last))
 
 pub record Demands : Type 0 where
   -- Of every call, its counter being of 32 bits: the refusal, or a sheet that tells what it has to.
@@ -16,3 +32,6 @@ pub record Demands : Type 0 where
   pub round : Round-trip
   -- Demand 3 by classes; the sentences say it of the bytes.
   pub third : Demand-3
+  -- Sheets read back in: writing and reading undo each other, and a sheet that a call drew reads back as the plant has it.
+  pub reopening : Reopening
+  pub kept : (file : List ℕ) (last : ℕ) (o o′ : List ℕ) (r : Sheet) → last ≤ topSheet → SheetSays file last o o′ r → r .number ≡ 0 → ReadsBack file o′ r

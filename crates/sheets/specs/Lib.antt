@@ -3,6 +3,7 @@ pub mod Apart
 pub mod Sentences
 pub mod Balances
 pub mod Sheets
+pub mod Kept
 pub mod Says
 pub mod Demands
 pub mod Calls

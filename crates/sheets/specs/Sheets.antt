@@ -10,6 +10,7 @@ use Rattle.flows.specs.declared.Class.the-variants.{Adjusted, AsRead, Given, Wi
 use Rattle.flows.specs.Classes.{classNumber}
 use Rattle.sheets.specs.declared.Entry.{Entry}
 use Rattle.sheets.specs.declared.Balance.{Balance}
+use Rattle.sheets.specs.declared.Total.{Total}
 use Rattle.sheets.specs.Apart.{totalKind}
 use Rattle.sheets.specs.Balances.{balanceOf}
 
@@ -33,10 +34,26 @@ recordsOf (e ∷ es) = recordOf (e .class) (e .flow) ++ recordsOf es
 abbrev pub totalOf : ℕ → ℕ → ℕ → ℕ → List ℕ
 totalOf n c d v = totalKind ∷ putBe 4 n ++ putBe 8 c ++ (d ∷ v ∷ [])
 
--- Sheet n of a balance: the records of its first so many streams, then the total.
-abbrev pub sheetBytes : ℕ → ℕ → Balance → List ℕ
-sheetBytes count n b = recordsOf (take count (b .streams)) ++ totalOf n (b .cost) (b .degrees) (b .verdict)
+-- A sheet by its parts: an entry for each stream, in stream order, and the total.
+pub record SheetParts : Type 0 where
+  pub streams : List Entry
+  pub total : Total
 
--- Sheet n of a plant with a flow.
+-- The bytes of a sheet: the records of its streams, then the total.
+abbrev pub partsBytes : SheetParts → List ℕ
+partsBytes s = recordsOf (s .streams) ++ totalOf (s .total .sheet) (s .total .cost) (s .total .degrees) (s .total .verdict)
+
+-- Sheet n of a balance, of its first so many streams: its parts, and its bytes.
+abbrev pub partsOf : ℕ → ℕ → Balance → SheetParts
+partsOf count n b =
+    record { streams = take count (b .streams); total = record { sheet = n; cost = b .cost; degrees = b .degrees; verdict = b .verdict } }
+
+abbrev pub sheetBytes : ℕ → ℕ → Balance → List ℕ
+sheetBytes count n b = partsBytes (partsOf count n b)
+
+-- Sheet n of a plant with a flow: its parts, and its bytes.
+abbrev pub plantParts : Plant → List ℤ → ℕ → SheetParts
+plantParts p xs n = partsOf (length (p .streams)) n (balanceOf p xs)
+
 abbrev pub sheetOf : Plant → List ℤ → ℕ → List ℕ
-sheetOf p xs n = sheetBytes (length (p .streams)) n (balanceOf p xs)
+sheetOf p xs n = partsBytes (plantParts p xs n)

@@ -25,3 +25,27 @@ pub struct Sheet {
     pub written: usize,
     pub last: u32,
 }
+
+// The total of a sheet: its number, the cost, the degrees and the verdict.
+pub struct Total {
+    pub sheet: u32,
+    pub cost: u64,
+    pub degrees: u8,
+    pub verdict: u8,
+}
+
+// What the sheet reader hands over: 0, how many streams the sheet lists, an entry for each, the blank past the last one, and
+// the total; or a refusal number, no streams and zeros.
+pub struct SheetRead {
+    pub number: u8,
+    pub count: u8,
+    pub streams: [Entry; MAX_STREAMS],
+    pub total: Total,
+}
+
+// What stands where a record of a sheet is due: a stream's entry with the record's size, the total, or a refusal.
+pub enum SheetRecord {
+    Listed { entry: Entry, size: usize },
+    Ended(Total),
+    Refused(u8),
+}

@@ -8,14 +8,19 @@
 // 4, the solver without a hint: handed in a byte for each of 96 streams, 0 where its flow is not compared, then the plant file; the
 //    slice, of 768 bytes, gets the flows in two's complement, 8 bytes each, 0 where not compared; no count, no number.
 // 5, the listing: handed in the plant file; the count is the text's length; no number.
+// 6, the sheet reader: handed in the sheet; the count is how many streams, the number the sheet's, and the slice, of 874 bytes,
+//    gets cost (8), degrees, verdict and an entry for each stream.
 //
-// A stream is 9 bytes: metered (0 or 1), from, to, weight (2), reading (4, two's complement).
+// A stream is 9 bytes: metered (0 or 1), from, to, weight (2), reading (4, two's complement). An entry is 9 bytes: the kind of
+// its record, its flow (8, two's complement).
 use model::sizes::FLOW_SHIFT;
 use plants::Plant;
 use plants::Stream;
 use plants::limits::MAX_STREAMS;
 use plants::streams::unmetered_stream;
+use sheets::Entry;
 use sheets::Sheet;
+use sheets::Total;
 ghost use mathlib.Core.Path.{_≡_};
 ghost use Prim.Native.Nat.{_≤_};
 ghost use lib.ListN.{length};
@@ -141,6 +146,49 @@ fn unhinted(given: &[u8], out: &mut [u8]) -> Sheet {
     done(0, 0, 0)
 }
 
+fn put_entry(e: Entry, out: &mut [u8])
+    requires { ⌜ 9 ≤ length (now out) ⌝ }
+{
+    let class = e.class;
+    numbers::put_u8(sheet_reader::kind_of(class), out);
+    numbers::put_i64(e.flow, &mut out[1..]);
+}
+
+fn put_entries(count: usize, streams: [Entry; MAX_STREAMS], out: &mut [u8])
+    requires { ⌜ (count ≤ 96) × (length (now out) ≡ 864) ⌝ }
+{
+    let mut i: usize = 0;
+    while i < count {
+        let e = streams[i];
+        put_entry(e, &mut out[9 * i..]);
+        i += 1;
+    }
+}
+
+fn put_total(total: Total, out: &mut [u8])
+    requires { ⌜ 10 ≤ length (now out) ⌝ }
+{
+    numbers::put_u64(total.cost, out);
+    numbers::put_u8(total.degrees, &mut out[8..]);
+    numbers::put_u8(total.verdict, &mut out[9..]);
+}
+
+fn kept(given: &[u8], out: &mut [u8]) -> Sheet {
+    if out.len() != 874 {
+        return done(NO_CASE, 0, 0);
+    }
+    let read = sheet_reader::read_sheet(given);
+    let count = read.count as usize;
+    if MAX_STREAMS < count {
+        return done(NO_CASE, 0, 0);
+    }
+    let streams = read.streams;
+    put_entries(count, streams, &mut out[10..]);
+    let total = read.total;
+    put_total(total, out);
+    done(read.number, count, total.sheet)
+}
+
 // The call of this kind.
 pub fn call(kind: u8, number: u32, given: &[u8], out: &mut [u8]) -> Sheet {
     match kind {
@@ -149,6 +197,7 @@ pub fn call(kind: u8, number: u32, given: &[u8], out: &mut [u8]) -> Sheet {
         3 => writer(given, out),
         4 => unhinted(given, out),
         5 => done(0, texts::list_plant(given, out), 0),
+        6 => kept(given, out),
         _ => done(NO_CASE, 0, 0),
     }
 }

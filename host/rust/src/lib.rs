@@ -20,6 +20,8 @@
 //! # Ok::<(), wengeludo_balance::Refusal>(())
 //! ```
 //!
+//! A kept sheet is reopened by [`Sheet::from_bytes`].
+//!
 //! A caller who has memory of its own uses [`balance_into`] and [`Plant::write_into`], which allocate nothing.
 #![deny(missing_docs)]
 #![deny(unsafe_op_in_unsafe_fn)]
@@ -38,3 +40,6 @@ pub const SHEET_SIZE: usize = 879;
 
 /// The least slice that the plant writer takes; the longest plant file.
 pub const FILE_SIZE: usize = 868;
+
+/// The most streams of a plant; the sheet reader takes slices of at least so many elements.
+pub const MAX_STREAMS: usize = 96;

@@ -1,4 +1,4 @@
-//! The two calls as the archive has them, on slices and numbers; the result is 0 or a refusal's number.
+//! The three calls as the archive has them, on slices and numbers; the result is 0 or a refusal's number.
 //!
 //! The rest of this crate is easier to use. These are for a caller who keeps numbers, and for tests.
 
@@ -27,6 +27,19 @@ extern "C" {
         file: *mut u8,
         file_length: usize,
         written: *mut usize,
+    ) -> u8;
+    fn wengeludo_read_sheet(
+        bytes: *const u8,
+        bytes_length: usize,
+        kinds: *mut u8,
+        kinds_length: usize,
+        flows: *mut i64,
+        flows_length: usize,
+        count: *mut usize,
+        sheet: *mut u32,
+        cost: *mut u64,
+        degrees: *mut u8,
+        verdict: *mut u8,
     ) -> u8;
 }
 
@@ -82,6 +95,43 @@ pub fn write_plant(parts: Parts, file: &mut [u8], written: &mut usize) -> u8 {
             file.as_mut_ptr(),
             file.len(),
             written,
+        )
+    }
+}
+
+/// The numbers that the sheet reader hands over beside its two slices; all 0 where it refuses.
+#[derive(Clone, Copy, Debug, Default, PartialEq, Eq)]
+pub struct Total {
+    /// How many streams the sheet lists.
+    pub count: usize,
+    /// The sheet's number.
+    pub sheet: u32,
+    /// The cost.
+    pub cost: u64,
+    /// The degrees.
+    pub degrees: u8,
+    /// The verdict: 0 pass, 1 fail, 2 none.
+    pub verdict: u8,
+}
+
+/// The sheet reader. 0: the kind of each stream's record (0x11 A, 0x12 R, 0x13 G, 0x14 W) and its flow (0 for W) are at the
+/// front of `kinds` and `flows`, `total` says how many, and the sheet's total. Another number: a refusal; `total` is all 0,
+/// `kinds` and `flows` are as they were. Slices with room for fewer than 96 elements are refused as 1.
+pub fn read_sheet(bytes: &[u8], kinds: &mut [u8], flows: &mut [i64], total: &mut Total) -> u8 {
+    // SAFETY: as above.
+    unsafe {
+        wengeludo_read_sheet(
+            bytes.as_ptr(),
+            bytes.len(),
+            kinds.as_mut_ptr(),
+            kinds.len(),
+            flows.as_mut_ptr(),
+            flows.len(),
+            &mut total.count,
+            &mut total.sheet,
+            &mut total.cost,
+            &mut total.degrees,
+            &mut total.verdict,
         )
     }
 }

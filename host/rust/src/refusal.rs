@@ -7,7 +7,7 @@ use std::fmt;
 #[derive(Clone, Copy, Debug, PartialEq, Eq, Hash)]
 #[repr(u8)]
 pub enum Refusal {
-    /// Sheet slice under 879 bytes; for the plant writer, slice under 868.
+    /// Sheet slice under 879 bytes; for the plant writer, slice under 868; for the sheet reader, a slice under 96 elements.
     SliceTooShort = 1,
     /// Last sheet number is 4,294,967,295.
     NoSheetNumber = 2,
@@ -31,10 +31,19 @@ pub enum Refusal {
     EndCount = 11,
     /// Bytes after the end record.
     AfterEnd = 12,
+    /// In a sheet, a record is missing, cut short, a 97th or of a wrong kind.
+    SheetRecord = 13,
+    /// In a sheet, a field of the total is not allowed.
+    SheetTotal = 14,
+    /// In a sheet, bytes follow the total.
+    AfterTotal = 15,
 }
 
-const ALL: [(Refusal, &str); 12] = [
-    (Refusal::SliceTooShort, "sheet slice under 879 bytes; for the plant writer, slice under 868"),
+const ALL: [(Refusal, &str); 15] = [
+    (
+        Refusal::SliceTooShort,
+        "a slice is too short: 879 bytes for a sheet, 868 for a plant file, 96 elements for the sheet reader",
+    ),
     (Refusal::NoSheetNumber, "last sheet number is 4,294,967,295"),
     (Refusal::FileEnds, "bytes end where a record is due or inside a body"),
     (Refusal::Kind, "kind not allowed at this place"),
@@ -46,15 +55,18 @@ const ALL: [(Refusal, &str); 12] = [
     (Refusal::Reading, "reading outside its range"),
     (Refusal::EndCount, "end count differs from the streams read"),
     (Refusal::AfterEnd, "bytes after the end record"),
+    (Refusal::SheetRecord, "a sheet's record is missing, cut short, a 97th or of a wrong kind"),
+    (Refusal::SheetTotal, "a field of a sheet's total is not allowed"),
+    (Refusal::AfterTotal, "bytes after a sheet's total"),
 ];
 
 impl Refusal {
-    /// The refusal's number, 1 to 12.
+    /// The refusal's number, 1 to 15.
     pub fn number(self) -> u8 {
         self as u8
     }
 
-    /// The refusal of a number; none for 0, which is no refusal, and above 12.
+    /// The refusal of a number; none for 0, which is no refusal, and above 15.
     pub fn from_number(number: u8) -> Option<Refusal> {
         ALL.get(usize::from(number).checked_sub(1)?).map(|entry| entry.0)
     }
@@ -82,11 +94,11 @@ mod tests {
 
     #[test]
     fn numbers_there_and_back() {
-        for number in 1..=12 {
+        for number in 1..=15 {
             assert_eq!(Refusal::from_number(number).unwrap().number(), number);
         }
         assert_eq!(Refusal::from_number(0), None);
-        assert_eq!(Refusal::from_number(13), None);
+        assert_eq!(Refusal::from_number(16), None);
     }
 
     #[test]

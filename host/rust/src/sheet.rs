@@ -1,7 +1,8 @@
 //! Sheets.
 
+use crate::raw::{self, Total};
 use crate::refusal::Refusal;
-use crate::{raw, SHEET_SIZE};
+use crate::{MAX_STREAMS, SHEET_SIZE};
 use std::fmt;
 
 /// A stream's record on a sheet: its class, and its flow in kg per hour where there is one.
@@ -63,52 +64,37 @@ pub struct Sheet {
     pub verdict: Verdict,
 }
 
-fn field<const N: usize>(bytes: &[u8]) -> Option<([u8; N], &[u8])> {
-    let (head, tail) = (bytes.get(..N)?, bytes.get(N..)?);
-    Some((head.try_into().ok()?, tail))
-}
-
 impl Sheet {
-    /// Reads a sheet from its bytes, as [`balance_into`] writes them; none where they are not a whole sheet.
-    pub fn from_bytes(mut bytes: &[u8]) -> Option<Sheet> {
-        let mut records = Vec::new();
-        loop {
-            let (kind, body) = bytes.split_first()?;
-            let make = match kind {
-                0x11 => Record::Adjusted,
-                0x12 => Record::AsRead,
-                0x13 => Record::Given,
-                0x14 => {
-                    records.push(Record::Withheld);
-                    bytes = body;
-                    continue;
-                }
-                0x1F => {
-                    let (number, rest) = field(body)?;
-                    let (cost, rest) = field(rest)?;
-                    let (degrees, verdict) = match *rest {
-                        [degrees, verdict] => (degrees, verdict),
-                        _ => return None,
-                    };
-                    return Some(Sheet {
-                        records,
-                        number: u32::from_be_bytes(number),
-                        cost: u64::from_be_bytes(cost),
-                        degrees,
-                        verdict: match verdict {
-                            0 => Verdict::Pass,
-                            1 => Verdict::Fail,
-                            2 => Verdict::None,
-                            _ => return None,
-                        },
-                    });
-                }
-                _ => return None,
-            };
-            let (flow, rest) = field(body)?;
-            records.push(make(i64::from_be_bytes(flow)));
-            bytes = rest;
-        }
+    /// Reads a kept sheet from its bytes, as [`balance_into`] writes them, or says why they are not a whole sheet
+    /// ([`Refusal::SheetRecord`], [`Refusal::SheetTotal`], [`Refusal::AfterTotal`]).
+    ///
+    /// ```
+    /// use wengeludo_balance::{Refusal, Sheet};
+    /// let bytes = [0x14, 0x1F, 0, 0, 0, 7, 0, 0, 0, 0, 0, 0, 0, 0, 0, 2];
+    /// assert_eq!(Sheet::from_bytes(&bytes)?.to_string(), "1 W -\ntotal 7 0 0 none\n");
+    /// assert_eq!(Sheet::from_bytes(&bytes[..15]), Err(Refusal::SheetRecord));
+    /// # Ok::<(), Refusal>(())
+    /// ```
+    pub fn from_bytes(bytes: &[u8]) -> Result<Sheet, Refusal> {
+        let (mut kinds, mut flows, mut total) = ([0; MAX_STREAMS], [0; MAX_STREAMS], Total::default());
+        Refusal::check(raw::read_sheet(bytes, &mut kinds, &mut flows, &mut total))?;
+        let record = |(kind, flow): (&u8, &i64)| match kind {
+            0x11 => Record::Adjusted(*flow),
+            0x12 => Record::AsRead(*flow),
+            0x13 => Record::Given(*flow),
+            _ => Record::Withheld,
+        };
+        Ok(Sheet {
+            records: kinds.iter().zip(&flows).take(total.count).map(record).collect(),
+            number: total.sheet,
+            cost: total.cost,
+            degrees: total.degrees,
+            verdict: match total.verdict {
+                0 => Verdict::Pass,
+                1 => Verdict::Fail,
+                _ => Verdict::None,
+            },
+        })
     }
 }
 
@@ -145,7 +131,7 @@ impl fmt::Display for Sheet {
 pub fn balance(file: &[u8], last: &mut u32) -> Result<Sheet, Refusal> {
     let mut bytes = [0; SHEET_SIZE];
     let written = balance_into(file, last, &mut bytes)?;
-    Ok(Sheet::from_bytes(&bytes[..written]).expect("the engine writes whole sheets"))
+    Sheet::from_bytes(&bytes[..written])
 }
 
 /// Balances a plant file into a slice of at least [`SHEET_SIZE`] bytes, and says how many the sheet takes. The bytes past

@@ -1,4 +1,4 @@
-//! The engine against the reference: drawn plants, damaged files, edges of the call, and parts for the writer.
+//! The engine against the reference: drawn plants, damaged files, edges of the call, parts for the writer, kept and damaged sheets.
 //!
 //! On each input: the returned number, every byte of the slice with guard bytes round it, the counter, `written`.
 //! A difference is shrunk, and the smallest input found is printed.
@@ -11,12 +11,17 @@ mod draw;
 mod reference;
 mod shrink;
 
-use draw::{Call, Draw, Write};
+use draw::{Call, Draw, Reopen, Write};
 use reference::{Outcome, Stream};
 use std::sync::atomic::{AtomicU64, Ordering};
-use wengeludo_balance::raw::{self, Parts};
+use wengeludo_balance::raw::{self, Parts, Total};
 
 const GUARD: usize = 64;
+
+// Where outcomes are counted: those of the sheet call by their number, the writer's calls, those of the sheet reader by theirs.
+const WRITER: usize = 13;
+const READER: usize = 14;
+const OUTCOMES: usize = READER + 16;
 
 /// Runs a call on a slice with guard bytes round it; the outcome has the slice's bytes, and the guards are compared here.
 fn guarded(slice: &[u8], call: impl FnOnce(&mut [u8], &mut usize) -> (u8, u32)) -> Result<Outcome, String> {
@@ -100,6 +105,62 @@ fn write_difference(w: &Write) -> Result<(), String> {
     compare(guarded(&w.slice, |file, written| (raw::write_plant(parts, file, written), 0)), &expected)
 }
 
+/// What the sheet reader must hand over, the number first.
+fn reopened(r: &Reopen) -> (u8, Total, Vec<u8>, Vec<i64>) {
+    let short = r.kinds.len() < 96 || r.flows.len() < 96;
+    let (number, kept) = match if short { Err(1) } else { reference::reopen(&r.bytes) } {
+        Err(number) => (number, reference::Kept::default()),
+        Ok(kept) => (0, kept),
+    };
+    let total =
+        Total { count: kept.streams.len(), sheet: kept.number, cost: kept.cost, degrees: kept.degrees, verdict: kept.verdict };
+    let (mut kinds, mut flows) = (r.kinds.clone(), r.flows.clone());
+    for (k, (kind, flow)) in kept.streams.iter().enumerate() {
+        kinds[k] = *kind;
+        flows[k] = *flow;
+    }
+    (number, total, kinds, flows)
+}
+
+/// The sheet reader on slices with guard elements round them; and a sheet that is read, written again, is the same.
+fn reopen_difference(r: &Reopen) -> Result<u8, String> {
+    let (number, total, kinds, flows) = reopened(r);
+    let bytes = r.bytes.clone();
+    let (kind_guard, flow_guard) = ([0xC3; GUARD], [-0x1234_5678_9ABC; GUARD]);
+    let mut kind_memory = [&kind_guard[..], &r.kinds, &kind_guard].concat();
+    let mut flow_memory = [&flow_guard[..], &r.flows, &flow_guard].concat();
+    let mut found = Total { count: 77, sheet: 77, cost: 77, degrees: 77, verdict: 77 };
+    let returned = raw::read_sheet(
+        &bytes,
+        &mut kind_memory[GUARD..GUARD + r.kinds.len()],
+        &mut flow_memory[GUARD..GUARD + r.flows.len()],
+        &mut found,
+    );
+    if returned != number {
+        return Err(format!("returned {returned}, expected {number}"));
+    }
+    if found != total {
+        return Err(format!("{found:?}, expected {total:?}"));
+    }
+    if kind_memory != [&kind_guard[..], &kinds, &kind_guard].concat() {
+        return Err("other kinds".into());
+    }
+    if flow_memory != [&flow_guard[..], &flows, &flow_guard].concat() {
+        return Err("other flows".into());
+    }
+    if bytes != r.bytes {
+        return Err("the sheet changed".into());
+    }
+    if returned == 0 {
+        let streams = kinds.into_iter().zip(flows).take(found.count).collect();
+        let Total { sheet, cost, degrees, verdict, .. } = found;
+        if reference::sheet_bytes(&reference::Kept { streams, number: sheet, cost, degrees, verdict }) != bytes {
+            return Err("written again it differs".into());
+        }
+    }
+    Ok(returned)
+}
+
 fn number(name: &str, other: u64) -> u64 {
     match std::env::var(name) {
         Ok(text) => text.replace('_', "").parse().unwrap_or_else(|_| panic!("{name} is no number: {text}")),
@@ -113,7 +174,7 @@ fn engine_and_reference_agree() {
     let seed = number("WENGELUDO_SEED", 1);
     let threads = number("WENGELUDO_THREADS", std::thread::available_parallelism().map_or(1, |n| n.get() as u64)).max(1);
     let next = AtomicU64::new(0);
-    let counts: Vec<AtomicU64> = (0..14).map(|_| AtomicU64::new(0)).collect();
+    let counts: Vec<AtomicU64> = (0..OUTCOMES).map(|_| AtomicU64::new(0)).collect();
     std::thread::scope(|scope| {
         for _ in 0..threads {
             scope.spawn(|| loop {
@@ -126,14 +187,25 @@ fn engine_and_reference_agree() {
                     _ => {}
                 }
                 let mut draw = Draw::new(seed + k);
-                if draw.below(10) == 0 {
+                let which = draw.below(10);
+                if which == 1 {
+                    let r = draw.reopen();
+                    match reopen_difference(&r) {
+                        Ok(returned) => counts[READER + usize::from(returned)].fetch_add(1, Ordering::Relaxed),
+                        Err(difference) => {
+                            let small = shrink::smallest(r, &shrink::simpler_reopens, &|r| reopen_difference(r).is_err());
+                            let again = reopen_difference(&small).unwrap_err();
+                            panic!("seed {}: the sheet reader: {difference}\nsmallest input found: {again}\n{small:?}", seed + k);
+                        }
+                    };
+                } else if which == 0 {
                     let w = draw.write();
                     if let Err(difference) = write_difference(&w) {
                         let small = shrink::smallest(w, &shrink::simpler_writes, &|w| write_difference(w).is_err());
                         let again = write_difference(&small).unwrap_err();
                         panic!("seed {}: the writer: {difference}\nsmallest input found: {again}\n{small:?}", seed + k);
                     }
-                    counts[13].fetch_add(1, Ordering::Relaxed);
+                    counts[WRITER].fetch_add(1, Ordering::Relaxed);
                 } else {
                     let call = draw.call();
                     let expected = reference::sheet_call(&call.file, call.last, &call.slice);
@@ -150,9 +222,12 @@ fn engine_and_reference_agree() {
     let count = |i: usize| counts[i].load(Ordering::Relaxed);
     let refusals: Vec<String> = (1..=12).map(|i| format!("{i}: {}", count(i))).collect();
     println!("{inputs} inputs from seed {seed}, no difference");
-    println!("sheets: {}; refusals {}; calls of the writer: {}", count(0), refusals.join(", "), count(13));
+    println!("sheets: {}; refusals {}; calls of the writer: {}", count(0), refusals.join(", "), count(WRITER));
+    let reopened: Vec<String> = [1, 13, 14, 15].iter().map(|i| format!("{i}: {}", count(READER + i))).collect();
+    println!("sheets read back in: {}; refusals {}", count(READER), reopened.join(", "));
     if inputs >= 100_000 {
-        assert!((0..=13).all(|i| count(i) > 0), "some outcome never came up");
+        let all = (0..=WRITER).chain([0, 1, 13, 14, 15].map(|i| READER + i));
+        assert!(all.into_iter().all(|i| count(i) > 0), "some outcome never came up");
     }
 }
 
@@ -176,7 +251,7 @@ fn plants_to_try() {
         let sheet = wengeludo_balance::balance(&reference::file_of(&plant), &mut 0).unwrap();
         assert_eq!(sheet.to_string(), listing);
         let bytes = reference::sheet_of(&plant, 1);
-        assert_eq!(wengeludo_balance::Sheet::from_bytes(&bytes), Some(sheet));
+        assert_eq!(wengeludo_balance::Sheet::from_bytes(&bytes), Ok(sheet));
     }
 }
 

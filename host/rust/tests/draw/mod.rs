@@ -1,6 +1,6 @@
 //! Inputs, drawn from a seed.
 
-use crate::reference::{file_of, read, Listed, Stream};
+use crate::reference::{file_of, read, sheet_bytes, sheet_of, Kept, Listed, Stream};
 use std::fmt;
 
 /// A sheet call.
@@ -40,6 +40,14 @@ pub struct Write {
     pub weight: Vec<u16>,
     pub reading: Vec<i32>,
     pub slice: Vec<u8>,
+}
+
+/// A call of the sheet reader.
+#[derive(Clone, Debug, PartialEq, Eq)]
+pub struct Reopen {
+    pub bytes: Vec<u8>,
+    pub kinds: Vec<u8>,
+    pub flows: Vec<i64>,
 }
 
 /// A source of drawn numbers (splitmix64).
@@ -258,5 +266,78 @@ impl Draw {
             }
         }
         w
+    }
+
+    /// What a sheet shows, whether or not it is one of a plant: mostly within its limits.
+    fn shown(&mut self) -> Kept {
+        let count = match self.below(12) {
+            0 => 95 + self.below(4),
+            1 => self.below(97),
+            _ => self.below(8),
+        };
+        let blanks = [0, 30, 100][self.below(3)];
+        let streams = (0..count)
+            .map(|_| {
+                let flow = match self.below(4) {
+                    0 => [0, -1, i64::MIN, i64::MAX][self.below(4)],
+                    1 => self.bits() as i64,
+                    _ => self.among(-300, 300),
+                };
+                if self.below(100) < blanks {
+                    (0x14, 0)
+                } else {
+                    (0x11 + self.below(3) as u8, flow)
+                }
+            })
+            .collect();
+        let most = if self.below(4) == 0 { 7 } else { 5 };
+        let degrees = [0, 1, 2, 31, 32, 33, 255][self.below(most)];
+        let verdict = match self.below(6) {
+            0 => self.below(4) as u8,
+            1 => self.bits() as u8,
+            _ if degrees == 0 => 2,
+            _ => self.below(2) as u8,
+        };
+        let number = if self.below(12) == 0 { 0 } else { [1, u32::MAX, self.bits() as u32][self.below(3)] };
+        Kept { streams, number, cost: [0, u64::MAX, self.bits()][self.below(3)], degrees, verdict }
+    }
+
+    /// A kept sheet, of a plant or drawn; half of them damaged; and the slices.
+    pub fn reopen(&mut self) -> Reopen {
+        let mut bytes = if self.below(4) == 0 {
+            let plant = self.plant();
+            let plant = if plant.streams.len() > 12 { Listed { units: 1, streams: Vec::new() } } else { plant };
+            sheet_of(&plant, 1 + self.below(1000) as u32)
+        } else {
+            sheet_bytes(&self.shown())
+        };
+        match self.below(8) {
+            0 => bytes.truncate(self.below(bytes.len())),
+            1 => {
+                let more = 1 + self.below(20);
+                bytes.extend(self.bytes(more));
+            }
+            2 => {
+                for _ in 0..=self.below(3) {
+                    let at = self.below(bytes.len());
+                    bytes[at] = if self.below(2) == 0 { 0x10 + self.below(18) as u8 } else { self.bits() as u8 };
+                }
+            }
+            3 => {
+                let n = self.below(40);
+                bytes =
+                    (0..n).map(|_| if self.below(2) == 0 { 0x10 + self.below(17) as u8 } else { self.bits() as u8 }).collect();
+            }
+            _ => {}
+        }
+        let mut length = || match self.below(20) {
+            0 => 95,
+            1 => self.below(96),
+            2..=5 => 97 + self.below(30),
+            _ => 96,
+        };
+        let (kinds, flows) = (length(), length());
+        let kinds = self.bytes(kinds);
+        Reopen { bytes, kinds, flows: (0..flows).map(|_| self.bits() as i64).collect() }
     }
 }

@@ -16,8 +16,10 @@
 
 mod cheapest;
 mod file;
+mod kept;
 
 pub use file::{file_of, read, write, Listed, Stream};
+pub use kept::{reopen, sheet_bytes, Kept};
 
 /// What a call returns and leaves behind.
 #[derive(Clone, Debug, PartialEq, Eq)]

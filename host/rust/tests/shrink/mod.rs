@@ -1,6 +1,6 @@
 //! The smallest input that still shows a difference: each simpler one is tried until none shows it.
 
-use crate::draw::{Call, Write};
+use crate::draw::{Call, Reopen, Write};
 use crate::reference::{file_of, read, Listed};
 
 /// Goes to a simpler input as long as there is one that differs.
@@ -138,6 +138,16 @@ pub fn simpler_writes(w: &Write) -> Vec<Write> {
         if v != *w {
             all.push(v);
         }
+    }
+    all
+}
+
+/// Simpler calls of the sheet reader: fewer bytes, bytes made 0, plain slices of 96 elements.
+pub fn simpler_reopens(r: &Reopen) -> Vec<Reopen> {
+    let mut all: Vec<Reopen> = simpler_bytes(&r.bytes).into_iter().map(|bytes| Reopen { bytes, ..r.clone() }).collect();
+    let plain = Reopen { bytes: r.bytes.clone(), kinds: vec![0; 96], flows: vec![0; 96] };
+    if plain != *r {
+        all.push(plain);
     }
     all
 }

@@ -1,0 +1,3 @@
+-- Laws of the sheet reader.
+pub mod ByKind
+pub mod Loop

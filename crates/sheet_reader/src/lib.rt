@@ -1,0 +1,262 @@
+// The sheet reader: stream records, then the total.
+ghost use mathlib.Core.Path.{_≡_};
+ghost use mathlib.Core.Bool.{_||_};
+ghost use Prim.Native.Nat.{_≤_};
+ghost use lib.Dec.{leb, ltb};
+ghost use lib.ListN.{length};
+ghost use Rattle.numbers.specs.Choice.{refuseIf, firstOf};
+ghost use Rattle.plants.specs.Limits.{maxStreams};
+ghost use Rattle.sheets.specs.Apart.{streamSize, totalSize};
+ghost use Rattle.sheets.specs.Sheets.{kindOf};
+ghost use Rattle.sheets.specs.Kept.{shownIn, blank, streamRecord, totalIn, verdictFits, fieldsFit, totalFault, afterFault, totalRecord, recordAt, recordNumber, noSheet, readOf, ReadSays};
+use flows::Class;
+use plants::limits::MAX_STREAMS;
+use plants::limits::MAX_UNITS;
+use sheets::Entry;
+use sheets::SheetRead;
+use sheets::SheetRecord;
+use sheets::Total;
+use sheets::kinds::ADJUSTED;
+use sheets::kinds::AS_READ;
+use sheets::kinds::GIVEN;
+use sheets::kinds::STREAM_SIZE;
+use sheets::kinds::TOTAL;
+use sheets::kinds::TOTAL_SIZE;
+use sheets::kinds::WITHHELD;
+
+// The kind of record that a class has.
+pub fn kind_of(class: Class) -> u8
+    ensures { λ r. ⌜ r ≡ kindOf class ⌝ }
+{
+    match class {
+        Class::Adjusted => ADJUSTED,
+        Class::AsRead => AS_READ,
+        Class::Given => GIVEN,
+        Class::Withheld => WITHHELD,
+    }
+}
+
+// A stream record of so many bytes, after so many streams: there is no room for it, or it is cut.
+fn unfit(size: usize, count: u8, s: &[u8]) -> bool
+    ensures { λ r. ⌜ r ≡ (leb maxStreams count || ltb (length (now (s .entry))) size) ⌝ }
+{
+    if MAX_STREAMS <= count as usize {
+        return true;
+    }
+    s.len() < size
+}
+
+// A stream that shows a number.
+fn read_shown(class: Class, count: u8, s: &[u8]) -> SheetRecord
+    ensures { λ r. ⌜ r ≡ streamRecord streamSize (shownIn class (now (s .entry))) count (now (s .entry)) ⌝ }
+{
+    if unfit(STREAM_SIZE, count, s) {
+        return SheetRecord::Refused(13);
+    }
+    let flow = numbers::get_i64(&s[1..]);
+    SheetRecord::Listed {
+        entry: Entry {
+            class: class,
+            flow: flow,
+        },
+        size: STREAM_SIZE,
+    }
+}
+
+// A withheld stream shows none.
+fn blank_entry() -> Entry
+    ensures { λ r. ⌜ r ≡ blank ⌝ }
+{
+    Entry {
+        class: Class::Withheld,
+        flow: 0,
+    }
+}
+
+fn read_blank(count: u8, s: &[u8]) -> SheetRecord
+    ensures { λ r. ⌜ r ≡ streamRecord 1 blank count (now (s .entry)) ⌝ }
+{
+    if unfit(1, count, s) {
+        return SheetRecord::Refused(13);
+    }
+    SheetRecord::Listed {
+        entry: blank_entry(),
+        size: 1,
+    }
+}
+
+fn total_in(s: &[u8]) -> Total
+    requires { ⌜ totalSize ≤ length (now s) ⌝ }
+    ensures { λ r. ⌜ r ≡ totalIn (now (s .entry)) ⌝ }
+{
+    let sheet = numbers::get_u32(&s[1..]);
+    let cost = numbers::get_u64(&s[5..]);
+    Total {
+        sheet: sheet,
+        cost: cost,
+        degrees: s[13],
+        verdict: s[14],
+    }
+}
+
+// Verdict 2 exactly at degrees 0, else 0 or 1.
+fn verdict_fits(degrees: u8, verdict: u8) -> bool
+    ensures { λ r. ⌜ r ≡ verdictFits degrees verdict ⌝ }
+{
+    if degrees == 0 {
+        return verdict == 2;
+    }
+    verdict < 2
+}
+
+// The fields that are allowed.
+fn fields_fit(t: Total) -> bool
+    ensures { λ r. ⌜ r ≡ fieldsFit t ⌝ }
+{
+    if t.sheet == 0 {
+        return false;
+    }
+    if MAX_UNITS < t.degrees {
+        return false;
+    }
+    verdict_fits(t.degrees, t.verdict)
+}
+
+// A field that is not allowed.
+fn total_fault(t: Total) -> u8
+    ensures { λ r. ⌜ r ≡ totalFault t ⌝ }
+{
+    if fields_fit(t) {
+        return 0;
+    }
+    14
+}
+
+// A total that is cut.
+fn cut_fault(s: &[u8]) -> u8
+    ensures { λ r. ⌜ r ≡ refuseIf (ltb (length (now (s .entry))) totalSize) 13 ⌝ }
+{
+    if s.len() < TOTAL_SIZE {
+        return 13;
+    }
+    0
+}
+
+// Bytes after the total.
+fn after_fault(s: &[u8]) -> u8
+    ensures { λ r. ⌜ r ≡ afterFault (now (s .entry)) ⌝ }
+{
+    if s.len() == TOTAL_SIZE {
+        return 0;
+    }
+    15
+}
+
+// Of two refusal numbers the first that is a refusal.
+fn first_of(first: u8, second: u8) -> u8
+    ensures { λ r. ⌜ r ≡ firstOf first second ⌝ }
+{
+    if first == 0 {
+        return second;
+    }
+    first
+}
+
+fn read_total(s: &[u8]) -> SheetRecord
+    ensures { λ r. ⌜ r ≡ totalRecord (now (s .entry)) ⌝ }
+{
+    let cut = cut_fault(s);
+    if cut != 0 {
+        return SheetRecord::Refused(cut);
+    }
+    let total = total_in(s);
+    let fields = total_fault(total);
+    let after = after_fault(s);
+    let fault = first_of(fields, after);
+    if fault != 0 {
+        return SheetRecord::Refused(fault);
+    }
+    SheetRecord::Ended(total)
+}
+
+// What stands where a record is due, after so many streams.
+fn read_record(count: u8, s: &[u8]) -> SheetRecord
+    ensures { λ r. ⌜ r ≡ recordAt count (now (s .entry)) ⌝ }
+{
+    if s.len() == 0 {
+        return SheetRecord::Refused(13);
+    }
+    let kind = s[0];
+    if kind == ADJUSTED {
+        return read_shown(Class::Adjusted, count, s);
+    }
+    if kind == AS_READ {
+        return read_shown(Class::AsRead, count, s);
+    }
+    if kind == GIVEN {
+        return read_shown(Class::Given, count, s);
+    }
+    if kind == WITHHELD {
+        return read_blank(count, s);
+    }
+    if kind == TOTAL {
+        return read_total(s);
+    }
+    SheetRecord::Refused(13)
+}
+
+fn record_number(found: SheetRecord) -> u8
+    ensures { λ r. ⌜ r ≡ recordNumber found ⌝ }
+{
+    match found {
+        SheetRecord::Listed { entry: _, size: _ } => 0,
+        SheetRecord::Ended(_) => 0,
+        SheetRecord::Refused(number) => number,
+    }
+}
+
+// A refusal hands over no streams and zeros.
+pub fn refusal(number: u8) -> SheetRead
+    ensures { λ r. ⌜ r ≡ readOf (noSheet number) ⌝ }
+{
+    let none = blank_entry();
+    SheetRead {
+        number: number,
+        count: 0,
+        streams: [none; MAX_STREAMS],
+        total: Total {
+            sheet: 0,
+            cost: 0,
+            degrees: 0,
+            verdict: 0,
+        },
+    }
+}
+
+// The streams and the total that a sheet lists, all of it read before any is used; or a refusal.
+pub fn read_sheet(bytes: &[u8]) -> SheetRead
+    ensures { λ r. ⌜ ReadSays (now (bytes .entry)) r ⌝ }
+{
+    let none = blank_entry();
+    let mut streams = [none; MAX_STREAMS];
+    let mut count: u8 = 0;
+    let mut at: usize = 0;
+    loop {
+        let found = read_record(count, &bytes[at..]);
+        let SheetRecord::Listed { entry, size } = found else {
+            let SheetRecord::Ended(total) = found else {
+                return refusal(record_number(found));
+            };
+            return SheetRead {
+                number: 0,
+                count: count,
+                streams: streams,
+                total: total,
+            };
+        };
+        let next = count as usize;
+        streams[next] = entry;
+        count += 1;
+        at += size;
+    }
+}

@@ -1,0 +1,83 @@
+-- The sheet of a plant's cheapest flow is within its limits, and so it reads back as its parts.
+use mathlib.Core.Path.{_≡_, refl, sym, subst}
+use mathlib.Core.Bool.{Bool, true, false}
+use mathlib.Core.List.{List, [], _∷_}
+use lib.IntN.{ℤ, natAbs}
+use Prim.Native.Nat.{ℕ, suc, _-_, _*_, _^_, _<_, _≤_}
+use native.Mathlib.Omega.{arith}
+use lib.Dec.{eqb, leb, ltb}
+use lib.ListN.{length, getD}
+use borrow.Author.Tests.{ne-eqb, le-leb}
+use Rattle.numbers.specs.Choice.{pick}
+use Rattle.numbers.proofs.Tests.{and-both}
+use Rattle.numbers.proofs.Complement.{small-held}
+use Rattle.plants.specs.Plants.{Plant}
+use Rattle.plants.specs.Within.{Within}
+use Rattle.plants.specs.Limits.{maxUnits}
+use Rattle.flows.specs.declared.Class.{Class}
+use Rattle.flows.specs.declared.Class.the-variants.{Adjusted, AsRead, Given, Withheld}
+use Rattle.flows.specs.Flows.{cost, Cheapest}
+use Rattle.flows.specs.Classes.{classOf, numberOf, degrees}
+use Rattle.flows.specs.Test.{critical, verdictAt}
+use Rattle.flows.proofs.Nets.{inside}
+use Rattle.flows.proofs.Given.{number-is}
+use Rattle.flows.proofs.Degrees.{degrees-most}
+use Rattle.sheets.specs.declared.Entry.{Entry}
+use Rattle.sheets.specs.Balances.{entryOf}
+use Rattle.sheets.specs.Sheets.{plantParts, sheetOf}
+use Rattle.sheets.specs.Kept.{someSheet, readSheet, verdictFits, fieldsFit, fits, allFit, WithinSheet}
+use Rattle.sheets.proofs.Costing.{cheapest-cost}
+use Rattle.sheets.proofs.Entries.{noEntry}
+use Rattle.sheets.proofs.Telling.{Sized, es-long, entry-at, cost-is, degrees-is, verdict-is}
+use Rattle.sheets.proofs.There.{there}
+
+-- Entries fit where each does.
+all-fit : (es : List Entry) → ((k : ℕ) → k < length es → fits (getD es k noEntry .class) (getD es k noEntry .flow) ≡ true) → allFit es ≡ true
+all-fit [] h = refl
+all-fit (e ∷ es) h = and-both (fits (e .class) (e .flow)) (allFit es) (h 0 (omega arith)) (all-fit es (λ k l. h (suc k) (omega arith)))
+
+-- A number that is small where it is shown fits.
+entry-fits : (c : Class) (x : ℤ) → ((c ≡ Withheld → ⊥) → 2 * natAbs x < 256 ^ 8) → fits (entryOf c x .class) (entryOf c x .flow) ≡ true
+entry-fits Adjusted x h = small-held 8 x (h (λ e. let z : _≡_ {A = ℕ} 0 1 = cc in omega arith))
+entry-fits AsRead x h = small-held 8 x (h (λ e. let z : _≡_ {A = ℕ} 0 1 = cc in omega arith))
+entry-fits Given x h = small-held 8 x (h (λ e. let z : _≡_ {A = ℕ} 0 1 = cc in omega arith))
+entry-fits Withheld x h = refl
+
+-- A verdict fits the degrees that it was given at.
+verdict-fits : (d c : ℕ) → verdictFits d (verdictAt d c) ≡ true
+verdict-fits d c = go (eqb d 0) (leb c (getD critical (d - 1) 0))
+  where
+    go : (a b : Bool) → pick a (eqb (pick a 2 (pick b 0 1)) 2) (ltb (pick a 2 (pick b 0 1)) 2) ≡ true
+    go true b = refl
+    go false true = refl
+    go false false = refl
+
+module _ (p : Plant) (w : Within p) (xs : List ℤ) (c : Cheapest p xs) (last : ℕ) (sized : Sized p xs) (small : suc last < 256 ^ 4) where
+  abbrev parts : List Entry
+  parts = plantParts p xs (suc last) .streams
+
+  each : (k : ℕ) → k < length parts → fits (getD parts k noEntry .class) (getD parts k noEntry .flow) ≡ true
+  each k h =
+      let l : k < length (p .streams) = omega (arith, es-long p w xs c 0 []) in
+      subst (λ (e : Entry). fits (e .class) (e .flow) ≡ true) (sym (entry-at p w xs c 0 [] k l))
+      (entry-fits (classOf p k) (numberOf p xs k) (λ n. rw (number-is p w xs (c .balance) k l n) (sized k l n)))
+
+  total-fits : fieldsFit (plantParts p xs (suc last) .total) ≡ true
+  total-fits =
+      let few : degrees p ≤ maxUnits = degrees-most p (w .few-units) (inside p w) in
+      rw (degrees-is p w xs c 0 [], verdict-is p w xs c 0 [], ne-eqb (suc last) 0 (omega arith), le-leb (degrees p) maxUnits few)
+      (verdict-fits (degrees p) (cost (p .streams) xs))
+
+  pub within-sheet : WithinSheet (plantParts p xs (suc last))
+  within-sheet =
+      let f = w .few-streams in
+      record {
+        few = omega (arith, es-long p w xs c 0 []);
+        flows = all-fit parts each;
+        number = small;
+        cost = omega (arith, cost-is p w xs c 0 [], cheapest-cost p w xs c);
+        allowed = total-fits;
+      }
+
+  pub read-back : readSheet (sheetOf p xs (suc last)) ≡ someSheet (plantParts p xs (suc last))
+  read-back = there (plantParts p xs (suc last)) within-sheet

@@ -1,0 +1,159 @@
+-- The records of a kept sheet: what is known of the bytes where one is read.
+use mathlib.Core.Path.{_≡_, refl, sym, ap, _∙_}
+use mathlib.Core.Bool.{Bool, true, false, not, _||_}
+use mathlib.Core.List.{List, [], _∷_, _++_}
+use Prim.Native.Nat.{ℕ, suc, _<_, _≤_, _^_}
+use native.Mathlib.Omega.{arith}
+use lib.Dec.{eqb, ltb, leb}
+use lib.ListN.{length, getD, take, drop, take-append-drop, length-drop}
+use lib.Seq.{drop-drop, getD-drop}
+use borrow.Author.Tests.{le-ltb, ltb-false, leb-false, eqb-true, eqb-false, not-false}
+use Rattle.numbers.specs.Choice.{refuseIf, firstOf}
+use Rattle.numbers.specs.Bytes.{be, putBe, signed, raw, holds, allBytes}
+use Rattle.numbers.proofs.Tests.{picked, or-none-left, or-none-right, refuse-none, first-none-left, first-none-right}
+use Rattle.numbers.proofs.Digits.{byte-first, put-be, be-fits}
+use Rattle.numbers.proofs.Complement.{raw-signed, signed-held}
+use Rattle.plants.specs.Limits.{maxStreams}
+use Rattle.flows.specs.declared.Class.{Class}
+use Rattle.flows.specs.declared.Class.the-variants.{Adjusted, AsRead, Given}
+use Rattle.sheets.specs.declared.Entry.{Entry}
+use Rattle.sheets.specs.declared.Total.{Total}
+use Rattle.sheets.specs.declared.SheetRecord.{SheetRecord}
+use Rattle.sheets.specs.declared.SheetRecord.the-variants.{Listed, Ended, Refused}
+use Rattle.sheets.specs.Apart.{adjustedKind, asReadKind, givenKind, withheldKind, totalKind, streamSize, totalSize}
+use Rattle.sheets.specs.Sheets.{recordOf, totalOf}
+use Rattle.sheets.specs.Kept.{shownIn, blank, streamRecord, totalIn, fieldsFit, totalFault, afterFault, endFault, totalRecord, kindRecord, recordAt, fits}
+
+-- The bytes of a total.
+abbrev pub totalBytes : Total → List ℕ
+totalBytes t = totalOf (t .sheet) (t .cost) (t .degrees) (t .verdict)
+
+-- An entry listed by a record of m bytes at the front of s, after c streams.
+pub record ListedAs (c : ℕ) (s : List ℕ) (e : Entry) (m : ℕ) : Type 0 where
+  pub room : c < maxStreams
+  pub whole : m ≤ length s
+  pub held : allBytes s ≡ true → fits (e .class) (e .flow) ≡ true
+  pub bytes : allBytes s ≡ true → s ≡ recordOf (e .class) (e .flow) ++ drop m s
+
+-- A total that ends the sheet.
+pub record EndedAs (s : List ℕ) (t : Total) : Type 0 where
+  pub allowed : fieldsFit t ≡ true
+  pub bytes : allBytes s ≡ true → s ≡ totalBytes t
+  pub number : allBytes s ≡ true → t .sheet < 256 ^ 4
+  pub cost : allBytes s ≡ true → t .cost < 256 ^ 8
+
+abbrev pub Meaning : ℕ → List ℕ → SheetRecord → Type 0
+Meaning c s (Listed e m) = ListedAs c s e m
+Meaning c s (Ended t) = EndedAs s t
+Meaning c s (Refused f) = (13 ≤ f) × (f ≤ 15)
+
+-- A stream record.
+stream-means : (c size : ℕ) (s : List ℕ) (e : Entry)
+    → (size ≤ length s → allBytes s ≡ true → (fits (e .class) (e .flow) ≡ true) × (s ≡ recordOf (e .class) (e .flow) ++ drop size s))
+    → Meaning c s (streamRecord size e c s)
+stream-means c size s e h =
+    picked (Meaning c s) (leb maxStreams c || ltb (length s) size) (Refused 13) (Listed e size) (λ t. (omega arith, omega arith))
+    (λ t. let l = ltb-false (length s) size (or-none-right (leb maxStreams c) (ltb (length s) size) t) in
+    record {
+      room = leb-false maxStreams c (or-none-left (leb maxStreams c) (ltb (length s) size) t);
+      whole = l;
+      held = λ a. h l a .0;
+      bytes = λ a. h l a .1;
+    })
+
+-- A stream record read: refused for its place or its size, else its entry.
+module _ (size : ℕ) (e : Entry) (c : ℕ) (s : List ℕ) (b : Bool) (q : b ≡ (leb maxStreams c || ltb (length s) size)) where
+  pub unfit-refused : b ≡ true → Refused 13 ≡ streamRecord size e c s
+  unfit-refused t = let u : (leb maxStreams c || ltb (length s) size) ≡ true = sym q ∙ t in rw u
+
+  pub fit-listed : b ≡ false → Listed e size ≡ streamRecord size e c s
+  fit-listed t = let u : (leb maxStreams c || ltb (length s) size) ≡ false = sym q ∙ t in rw u
+
+pub fit-whole : (size c : ℕ) (s : List ℕ) (b : Bool) → b ≡ (leb maxStreams c || ltb (length s) size) → b ≡ false → size ≤ length s
+fit-whole size c s b q t = ltb-false (length s) size (or-none-right (leb maxStreams c) (ltb (length s) size) (sym q ∙ t))
+
+-- The total at the end, whole: the refusal of its fields or of what follows it.
+pub end-is : (s : List ℕ) {t : Total} {f a g : ℕ} → totalSize ≤ length s → t ≡ totalIn s → f ≡ totalFault t → a ≡ afterFault s → g ≡ firstOf f a → g ≡ endFault s
+end-is s {g = g} l et ef ea eg = eg ∙ (λ i. firstOf ((ef ∙ ap totalFault et) i) (ea i)) ∙ whole
+  where
+    whole : firstOf (totalFault (totalIn s)) (afterFault s) ≡ endFault s
+    whole = simp (le-ltb (length s) totalSize l)
+
+-- A number behind the kind, written again.
+number-again : (b : List ℕ) → allBytes b ≡ true → 8 ≤ length b → b ≡ putBe 8 (raw 8 (signed 8 (be 0 8 b))) ++ drop 8 b
+number-again b a h =
+    let z : putBe 8 (raw 8 (signed 8 (be 0 8 b))) ≡ take 8 b = ap (putBe 8) (raw-signed 8 (be 0 8 b) (be-fits 0 8 b a h)) ∙ put-be 0 8 b a h in
+    sym (ap (λ (l : List ℕ). l ++ drop 8 b) z ∙ take-append-drop 8 b)
+
+number-held : (b : List ℕ) → allBytes b ≡ true → 8 ≤ length b → holds 8 (signed 8 (be 0 8 b)) ≡ true
+number-held b a h = signed-held 8 (be 0 8 b) (be-fits 0 8 b a h)
+
+shown-again : (x : ℕ) (k : Class) (b : List ℕ) → recordOf k (signed 8 (be 0 8 b)) ≡ x ∷ putBe 8 (raw 8 (signed 8 (be 0 8 b)))
+    → fits k (signed 8 (be 0 8 b)) ≡ holds 8 (signed 8 (be 0 8 b)) → streamSize ≤ length (x ∷ b) → allBytes (x ∷ b) ≡ true
+    → (fits k (signed 8 (be 0 8 b)) ≡ true) × (x ∷ b ≡ recordOf k (signed 8 (be 0 8 b)) ++ drop streamSize (x ∷ b))
+shown-again x k b e f h a =
+    let bytes = byte-first x b a .1 in
+    (f ∙ number-held b bytes (omega arith), ap (λ (l : List ℕ). x ∷ l) (number-again b bytes (omega arith)) ∙ ap (λ (l : List ℕ). l ++ drop 8 b) (sym e))
+
+-- The total, written again.
+last-two : (r : List ℕ) → length r ≡ 2 → r ≡ getD r 0 0 ∷ getD r 1 0 ∷ []
+last-two [] h = absurd (omega arith)
+last-two (x ∷ []) h = absurd (omega arith)
+last-two (x ∷ y ∷ []) h = refl
+last-two (x ∷ y ∷ z ∷ r) h = absurd (omega arith)
+
+total-again : (b : List ℕ) → allBytes b ≡ true → length b ≡ 14 → b ≡ putBe 4 (be 0 4 b) ++ putBe 8 (be 4 8 b) ++ (getD b 12 0 ∷ getD b 13 0 ∷ [])
+total-again b a h =
+    let n : putBe 4 (be 0 4 b) ≡ take 4 b = put-be 0 4 b a (omega arith) in
+    let c : putBe 8 (be 4 8 b) ≡ take 8 (drop 4 b) = put-be 4 8 b a (omega arith) in
+    let size : length (drop 12 b) ≡ 2 = omega (arith, length-drop 12 b) in
+    let two : drop 12 b ≡ getD b 12 0 ∷ getD b 13 0 ∷ [] = last-two (drop 12 b) size ∙ (λ i. getD-drop 12 b 0 0 i ∷ getD-drop 12 b 1 0 i ∷ []) in
+    let joined : take 4 b ++ (take 8 (drop 4 b) ++ drop 12 b) ≡ b =
+    ap (λ (l : List ℕ). take 4 b ++ (take 8 (drop 4 b) ++ l)) (sym (drop-drop 8 4 b))
+    ∙ ap (λ (l : List ℕ). take 4 b ++ l) (take-append-drop 8 (drop 4 b))
+    ∙ take-append-drop 4 b in
+    sym ((λ i. n i ++ (c i ++ sym two i)) ∙ joined)
+
+-- Of three refusals, each with its test, the first that applies.
+three : (a b c : Bool) → (firstOf (refuseIf a 13) (firstOf (refuseIf b 14) (refuseIf c 15)) ≡ 0 → ⊥)
+    → (13 ≤ firstOf (refuseIf a 13) (firstOf (refuseIf b 14) (refuseIf c 15))) × (firstOf (refuseIf a 13) (firstOf (refuseIf b 14) (refuseIf c 15)) ≤ 15)
+three true b c h = (omega arith, omega arith)
+three false true c h = (omega arith, omega arith)
+three false false true h = (omega arith, omega arith)
+three false false false h = absurd (h refl)
+
+ended-means : (s : List ℕ) → endFault s ≡ 0 → (allBytes s ≡ true → length s ≡ totalSize → s ≡ totalBytes (totalIn s)) → EndedAs s (totalIn s)
+ended-means s e again =
+    let after = first-none-right (refuseIf (ltb (length s) totalSize) 13) _ e in
+    let u = eqb (length s) totalSize in
+    let l : length s ≡ totalSize = eqb-true (length s) totalSize (not-false u (refuse-none (not u) 14 (first-none-right (totalFault (totalIn s)) (afterFault s) after))) in
+    record {
+      allowed = not-false (fieldsFit (totalIn s)) (refuse-none _ 13 (first-none-left (totalFault (totalIn s)) (afterFault s) after));
+      bytes = λ a. again a l;
+      number = λ a. be-fits 1 4 s a (omega arith);
+      cost = λ a. be-fits 5 8 s a (omega arith);
+    }
+
+total-means : (c : ℕ) (b : List ℕ) → Meaning c (totalKind ∷ b) (totalRecord (totalKind ∷ b))
+total-means c b =
+    picked (Meaning c (totalKind ∷ b)) (eqb (endFault (totalKind ∷ b)) 0) (Ended (totalIn (totalKind ∷ b))) (Refused (endFault (totalKind ∷ b)))
+    (λ t. ended-means (totalKind ∷ b) (eqb-true (endFault (totalKind ∷ b)) 0 t)
+    (λ a l. ap (λ (r : List ℕ). totalKind ∷ r) (total-again b (byte-first totalKind b a .1) (omega arith))))
+    (λ t. three (ltb (suc (length b)) totalSize) (not (fieldsFit (totalIn (totalKind ∷ b)))) (not (eqb (suc (length b)) totalSize)) (eqb-false (endFault (totalKind ∷ b)) 0 t))
+
+-- What is known of the record that stands where one is due.
+pub record-means : (c : ℕ) (s : List ℕ) → Meaning c s (recordAt c s)
+record-means c [] = (omega arith, omega arith)
+record-means c (k ∷ b) =
+    picked M (eqb (suc (length b)) 0) (Refused 13) (kindRecord c k (k ∷ b)) (λ t. refused)
+    (λ t. picked M (eqb k adjustedKind) _ _ (λ u. rw (eqb-true k adjustedKind u) (stream-means c streamSize (adjustedKind ∷ b) (shownIn Adjusted (adjustedKind ∷ b)) (shown-again adjustedKind Adjusted b refl refl)))
+    (λ t. picked M (eqb k asReadKind) _ _ (λ u. rw (eqb-true k asReadKind u) (stream-means c streamSize (asReadKind ∷ b) (shownIn AsRead (asReadKind ∷ b)) (shown-again asReadKind AsRead b refl refl)))
+    (λ t. picked M (eqb k givenKind) _ _ (λ u. rw (eqb-true k givenKind u) (stream-means c streamSize (givenKind ∷ b) (shownIn Given (givenKind ∷ b)) (shown-again givenKind Given b refl refl)))
+    (λ t. picked M (eqb k withheldKind) _ _ (λ u. rw (eqb-true k withheldKind u) (stream-means c 1 (withheldKind ∷ b) blank (λ l a. (refl, refl))))
+    (λ t. picked M (eqb k totalKind) _ _ (λ u. rw (eqb-true k totalKind u) (total-means c b)) (λ t. refused))))))
+  where
+    M : SheetRecord → Type 0
+    M = Meaning c (k ∷ b)
+
+    refused : (13 ≤ 13) × (13 ≤ 15)
+    refused = (omega arith, omega arith)
