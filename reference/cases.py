@@ -2,7 +2,7 @@
 
 A file has its cases one after the other, with no gap. A case, numbers high byte first:
 
-    0      what is called, one of the six below
+    0      what is called, one of those below
     1      the filling: what each byte of the slice is before the call
     2-3    how many bytes are handed in
     4-5    how many bytes of the slice follow; those past them are the filling
@@ -23,6 +23,7 @@ then the bytes handed in, then those of the slice as they must be after the call
     5 LISTING   handed in: plant file; back: the text's length, the text in the slice
     6 KEPT      handed in: sheet; back: how many streams, the sheet's number, and at the front of a slice of 874 bytes the cost
                 (8), degrees, verdict and an entry for each stream
+    7 TRANSLATOR  handed in: transmitter file; back: `written`, the plant file in the slice
 
 Where a call has no number or count, 0 stands. A stream is 9 bytes: metered (0 or 1), from, to, weight (2), reading (4, two's
 complement). An entry is 9 bytes: the kind of the stream's record, its flow (8, two's complement; 0 for W).
@@ -30,7 +31,7 @@ complement). An entry is 9 bytes: the kind of the stream's record, its flow (8, 
 
 from typing import NamedTuple
 
-SHEET, READER, WRITER, UNHINTED, LISTING, KEPT = 1, 2, 3, 4, 5, 6
+SHEET, READER, WRITER, UNHINTED, LISTING, KEPT, TRANSLATOR = 1, 2, 3, 4, 5, 6, 7
 STREAMS = 96
 HEAD = 20
 ROOM = 2_560  # most bytes handed in, and of a slice

@@ -5,6 +5,7 @@ from typing import NamedTuple
 
 import cases
 import solver
+import transmitter
 from solver import FILE_LENGTH, READING, SHEET_LENGTH, Stream
 
 TEXT_LENGTH = 2_543  # a slice of so many bytes holds every listing
@@ -137,6 +138,21 @@ class Keeping(NamedTuple):
         answer += b"".join(bytes((solver.KIND[letter],)) + cases.number(flow, 8) for letter, flow in zip(kept.classes, kept.flows))
         return meant(self, cases.Record(
             cases.KEPT, self.sheet, 874, answer, returned=number, count=len(kept.flows), number_back=kept.number,
+        ))
+
+
+class Translation(NamedTuple):
+    """A call of the translator, on a transmitter file."""
+
+    file: bytes
+    slice_length: int = FILE_LENGTH
+    expected: int | None = None
+    filling: int = 0xA5
+
+    def record(self):
+        number, written, file = transmitter.translate_call(self.file, self.slice_length)
+        return meant(self, cases.Record(
+            cases.TRANSLATOR, self.file, self.slice_length, file, self.filling, returned=number, count=written,
         ))
 
 

@@ -1,8 +1,10 @@
-"""The two sample plants: units, streams, plant files, and what samples/README.md must show of them."""
+"""The two sample plants: units, streams, plant files, a transmitter file, and what samples/README.md must show of them."""
 
+import struct
 from typing import NamedTuple
 
 import solver
+import transmitter
 from parts import metered, plant_file, unmetered
 
 
@@ -34,6 +36,17 @@ LISTING = Sample(
     ("feedwater", "steam, first line", "steam, second line", "steam to the works"),
     (metered(0, 1, 100), unmetered(1, 2), unmetered(1, 2), metered(2, 0, 98)),
 )
+
+# The listing's plant as its transmitters send it: feedwater measured as 100.25 with deviation 10, no signal from the steam
+# lines, steam to the works held at 98.5 with deviation 5.
+TRANSMITTER = b"".join((
+    bytes((0x01, 2)),
+    struct.pack(">BBBfd", 0x21, 0, 1, 100.25, 10.0),
+    bytes((0x23, 1, 2)),
+    bytes((0x23, 1, 2)),
+    struct.pack(">BBBfd", 0x22, 2, 0, 98.5, 5.0),
+    bytes((0x04, 4)),
+))
 
 _STEAM_SITE = (
     ("make-up water", metered(0, 1, 3_254, 40)),
@@ -82,6 +95,9 @@ def files():
     for sample in SAMPLES:
         yield f"samples/{sample.name}.bin", sample.file
         yield f"samples/{sample.name}.expected", solver.listing(sample.file).encode()
+    if transmitter.translate_call(TRANSMITTER, solver.FILE_LENGTH)[2] != LISTING.file:
+        raise ValueError("the sample's signals are another plant's")
+    yield "samples/transmitter.bin", TRANSMITTER
 
 
 def missing_text(root):
@@ -99,3 +115,5 @@ def missing_text(root):
                 yield path, f"{what} of {sample.name}; wanted:\n{wanted}"
         if sample is LISTING and bytes_shown not in text:
             yield path, f"bytes of {sample.name}; wanted: {bytes_shown}"
+    if TRANSMITTER.hex(" ").upper() not in text:
+        yield path, f"bytes of the transmitter file; wanted: {TRANSMITTER.hex(' ').upper()}"

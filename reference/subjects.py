@@ -8,6 +8,7 @@ import refusals
 import samples
 import shapes
 import sheets_to_try
+import signals_to_try
 import solver
 from parts import (
     Case, Draws, balanced_amounts, end_record, metered, metered_record, plant_file, read_with_noise,
@@ -356,4 +357,5 @@ SUBJECTS = (
     ("unhinted", plants_to_try.unhinted),
     ("listings", files_to_try.listings),
     ("kept", sheets_to_try.kept),
+    ("signals", signals_to_try.translations),
 )

@@ -1,4 +1,4 @@
-/* A fuzz target over the three calls, for libFuzzer.
+/* A fuzz target over the calls, for libFuzzer.
  *
  * Coverage is of the archive as it is delivered, which carries no instrumentation: a breakpoint stands at each basic
  * block of its functions (blocks.txt beside the program, made by build.sh). The first time a block runs, the breakpoint
@@ -9,10 +9,12 @@
  *
  * An input: 1 byte that chooses the slice's length, 1 byte that chooses the last sheet number, then a plant file; or, the
  * second byte being 249, parts for the writer: units, count (2), which slice is cut (1) and where (1), then 9 bytes for each
- * stream; or, the second byte being 248, a kept sheet. Each sheet that is drawn is read back in as well.
+ * stream; or, the second byte being 248, a kept sheet; or, the second byte being 247, a transmitter file. Each sheet that is
+ * drawn is read back in as well.
  * Each slice ends at a page that may not be touched, and bytes stand before it that may not change.
  */
 #define _GNU_SOURCE
+#include <math.h>
 #include <signal.h>
 #include <stdio.h>
 #include <stdlib.h>
@@ -358,7 +360,149 @@ static void write_parts(const uint8_t *data, size_t size, size_t length)
     }
 }
 
+/* A value and its deviation by the machine's own floats: the weight and the reading as bytes of a plant file, or a refusal. */
+static uint8_t meter_of(const uint8_t *body, int held, uint8_t *out)
+{
+    uint32_t value_bits = (uint32_t)field(body, 4);
+    uint64_t deviation_bits = field(body + 4, 8);
+    float value;
+    double deviation;
+    memcpy(&value, &value_bits, 4);
+    memcpy(&deviation, &deviation_bits, 8);
+    if (!isfinite(value))
+        return 16;
+    if (!(isfinite(deviation) && deviation > 0))
+        return 17;
+    double weight = floor(1000.0 / (deviation * deviation)), reading = rint((double)value);
+    if (!(weight >= 1 && weight <= 1000))
+        return 9;
+    if (!(reading >= -4000000 && reading <= 4000000))
+        return 10;
+    uint16_t kept = held ? (uint16_t)fmax(floor(weight / 4), 1) : (uint16_t)weight;
+    uint32_t read = (uint32_t)(int32_t)reading;
+    out[0] = (uint8_t)(kept >> 8);
+    out[1] = (uint8_t)kept;
+    for (int i = 0; i < 4; i++)
+        out[2 + i] = (uint8_t)(read >> (24 - 8 * i));
+    return 0;
+}
+
+/* The plant file that a transmitter file becomes, as the header states it: its length, or a refusal. */
+static uint8_t plant_of(const uint8_t *file, size_t size, uint8_t *plant, size_t *length)
+{
+    if (size == 0)
+        return 3;
+    if (file[0] != 1)
+        return 4;
+    if (size < 2)
+        return 3;
+    uint8_t units = file[1], count = 0;
+    if (units < 1 || units > 32)
+        return 6;
+    size_t at = 2, made = 0;
+    plant[made++] = 1;
+    plant[made++] = units;
+    for (; at < size && file[at] != 4; count++) {
+        uint8_t kind = file[at++];
+        size_t body = kind == WENGELUDO_FAULT ? 2 : 14;
+        if (kind != WENGELUDO_MEASURED && kind != WENGELUDO_HELD && kind != WENGELUDO_FAULT)
+            return 4;
+        if (count == 96)
+            return 5;
+        if (size - at < body)
+            return 3;
+        uint8_t from = file[at], to = file[at + 1];
+        if (from > units || to > units)
+            return 7;
+        if (from == to)
+            return 8;
+        plant[made++] = kind == WENGELUDO_FAULT ? 3 : 2;
+        plant[made++] = from;
+        plant[made++] = to;
+        if (kind != WENGELUDO_FAULT) {
+            uint8_t fault = meter_of(file + at + 2, kind == WENGELUDO_HELD, plant + made);
+            if (fault != 0)
+                return fault;
+            made += 6;
+        }
+        at += body;
+    }
+    if (size - at < 2)
+        return 3;
+    if (file[at + 1] != count)
+        return 11;
+    if (size - at > 2)
+        return 12;
+    plant[made++] = 4;
+    plant[made++] = count;
+    *length = made;
+    return 0;
+}
+
+/* The translator on any file: the number returned, every byte of the slice, and that the sheet call takes what comes out. */
+static void translate(const uint8_t *data, size_t size, size_t length)
+{
+    uint8_t *file = file_end - size, *out = out_end - length, plant[WENGELUDO_FILE_SIZE + 16];
+    memcpy(file, data, size);
+    for (size_t i = 0; i < length + GUARD; i++)
+        out[-GUARD + (ptrdiff_t)i] = fill(i, 0);
+    size_t made = 0, written = SIZE_MAX;
+    uint8_t fault = length < WENGELUDO_FILE_SIZE ? 1 : plant_of(file, size, plant, &made);
+    uint8_t returned = wengeludo_plant_from_transmitter(file, size, out, length, &written);
+    if (returned != fault)
+        fail("the translator returns another number");
+    if (written != made || memcmp(out, plant, made) != 0)
+        fail("the translator writes another plant");
+    for (size_t i = 0; i < length + GUARD; i++)
+        if ((i < GUARD || i >= GUARD + written) && out[-GUARD + (ptrdiff_t)i] != fill(i, 0))
+            fail("the translator changes a byte that is not its own");
+    if (memcmp(file, data, size) != 0)
+        fail("the transmitter file changed");
+    counters[OF_SHEETS + 640 + returned] = 1;
+    if (returned == 0 && sheet_call(out, written, 0, WENGELUDO_SHEET_SIZE, again_end, 0).returned != 0)
+        fail("the sheet call refuses a file of the translator");
+}
+
 size_t LLVMFuzzerMutate(uint8_t *data, size_t size, size_t most);
+
+/* Repairs a transmitter file: sites, kinds, places and the end's count by the bytes that are there; values and deviations stay,
+ * or are taken into the range where one counts. */
+static size_t repaired_signals(uint8_t *file, size_t size, size_t most, int in_range)
+{
+    uint8_t sent[WENGELUDO_TRANSMITTER_SIZE];
+    uint8_t units = size > 1 ? (uint8_t)(1 + (file[1] + 31) % 32) : 1, count = 0;
+    size_t length = 0;
+    sent[length++] = 1;
+    sent[length++] = units;
+    for (size_t at = 2; at + 15 <= size && count < 96; at += 15, count++) {
+        uint8_t kind = (uint8_t)(0x21 + file[at] % 3), from = file[at + 1] % (units + 1), to = file[at + 2] % (units + 1);
+        sent[length++] = kind;
+        sent[length++] = from;
+        sent[length++] = to != from ? to : (uint8_t)((from + 1) % (units + 1));
+        if (kind == WENGELUDO_FAULT)
+            continue;
+        memcpy(sent + length, file + at + 3, 12);
+        if (in_range) {
+            float value = (float)((int32_t)field(file + at + 3, 4) % 16000003) / 4;
+            double deviation = sqrt(1000 / (1 + (double)(field(file + at + 7, 8) % 1001000) / 1000));
+            uint32_t value_bits;
+            uint64_t deviation_bits;
+            memcpy(&value_bits, &value, 4);
+            memcpy(&deviation_bits, &deviation, 8);
+            for (int i = 0; i < 4; i++)
+                sent[length + (size_t)i] = (uint8_t)(value_bits >> (24 - 8 * i));
+            for (int i = 0; i < 8; i++)
+                sent[length + 4 + (size_t)i] = (uint8_t)(deviation_bits >> (56 - 8 * i));
+        }
+        length += 12;
+    }
+    sent[length++] = 4;
+    sent[length++] = count;
+    if (length > most)
+        return size;
+    memcpy(file, sent, length);
+    return length;
+}
 
 /* Repairs a file to a plant within its limits: the bytes that are there, taken modulo what is allowed. */
 static size_t repaired(uint8_t *file, size_t size, size_t most)
@@ -395,16 +539,22 @@ static size_t repaired(uint8_t *file, size_t size, size_t most)
 size_t LLVMFuzzerCustomMutator(uint8_t *data, size_t size, size_t most, unsigned seed)
 {
     size = LLVMFuzzerMutate(data, size, most);
-    if (seed % 4 != 0 && size > 2 && most > 2 && data[1] != 249 && data[1] != 248)
+    if (seed % 4 != 0 && size > 2 && most > 2 && data[1] == 247)
+        size = 2 + repaired_signals(data + 2, size - 2, most - 2, seed % 4 == 1);
+    else if (seed % 4 != 0 && size > 2 && most > 2 && data[1] != 249 && data[1] != 248)
         size = 2 + repaired(data + 2, size - 2, most - 2);
     return size;
 }
 
 int LLVMFuzzerTestOneInput(const uint8_t *data, size_t size)
 {
-    if (size < 2 || size > 2 + 1000)
+    if (size < 2 || size > 2 + (data[1] == 247 ? 1500 : 1000))
         return 0;
     size_t length = data[0] < 128 ? WENGELUDO_SHEET_SIZE : data[0] < 192 ? WENGELUDO_SHEET_SIZE + data[0] - 128 : (size_t)(255 - data[0]) * 14;
+    if (data[1] == 247) {
+        translate(data + 2, size - 2, data[0] < 128 ? WENGELUDO_FILE_SIZE : length - (data[0] < 192 ? 11 : 0));
+        return 0;
+    }
     if (data[1] == 249) {
         write_parts(data + 2, size - 2, length);
         return 0;

@@ -1,4 +1,4 @@
-/* Steam and condensate balance sheets: the three calls of liblinked.a.
+/* Steam and condensate balance sheets: the calls of liblinked.a.
  *
  * Build the archive with `rt staticlib linked` (target/staticlib/liblinked.a, x86-64 Linux) and link it;
  * it needs nothing but the C library (memcpy, memset). The calls keep no state, allocate nothing, take less than
@@ -10,8 +10,8 @@
  *   - what a call writes overlaps nothing else that the same call is handed.
  * Lengths count elements. A slice may be longer than is needed.
  *
- * What each call does is proved against the definitions in crates/sheets/specs and crates/plants/specs:
- * result, counts and every byte of a slice follow from what is handed in.
+ * What each call does is proved against the definitions in crates/sheets/specs, crates/plants/specs
+ * and crates/transmitters/specs: result, counts and every byte of a slice follow from what is handed in.
  */
 #ifndef WENGELUDO_BALANCE_H
 #define WENGELUDO_BALANCE_H
@@ -27,6 +27,9 @@ extern "C" {
 #define WENGELUDO_SHEET_SIZE 879
 #define WENGELUDO_FILE_SIZE 868
 
+/* The longest transmitter file. */
+#define WENGELUDO_TRANSMITTER_SIZE 1444
+
 /* The most units and the most streams of a plant; the greatest weight and the greatest reading. */
 #define WENGELUDO_MAX_UNITS 32
 #define WENGELUDO_MAX_STREAMS 96
@@ -36,8 +39,8 @@ extern "C" {
 /* What the calls return: 0, or the number of a refusal. */
 enum {
     WENGELUDO_DONE = 0,
-    WENGELUDO_SLICE_TOO_SHORT = 1,    /* sheet slice under 879 bytes; file slice of the writer under 868; a slice of
-                                         the sheet reader under 96 elements */
+    WENGELUDO_SLICE_TOO_SHORT = 1,    /* sheet slice under 879 bytes; writer and translator: under 868; a slice of the sheet
+                                         reader under 96 elements */
     WENGELUDO_NO_SHEET_NUMBER = 2,    /* last sheet number is 4,294,967,295 */
     WENGELUDO_FILE_ENDS = 3,          /* bytes end where a record is due or inside a body */
     WENGELUDO_KIND = 4,               /* kind not allowed at this place */
@@ -51,7 +54,9 @@ enum {
     WENGELUDO_AFTER_END = 12,         /* bytes after the end record */
     WENGELUDO_SHEET_RECORD = 13,      /* in a sheet, a record is missing, cut short, a 97th or of a wrong kind */
     WENGELUDO_SHEET_TOTAL = 14,       /* in a sheet, sheet number 0, degrees over 32, or a verdict that does not fit */
-    WENGELUDO_AFTER_TOTAL = 15        /* in a sheet, bytes after the total */
+    WENGELUDO_AFTER_TOTAL = 15,       /* in a sheet, bytes after the total */
+    WENGELUDO_VALUE = 16,             /* a transmitter's value is not finite */
+    WENGELUDO_DEVIATION = 17          /* a transmitter's deviation is no finite number above 0 */
 };
 
 /* The kinds of record on a sheet. */
@@ -131,6 +136,32 @@ uint8_t wengeludo_read_sheet(const uint8_t *bytes, size_t bytes_length,
                              int64_t *flows, size_t flows_length,
                              size_t *count, uint32_t *sheet, uint64_t *cost,
                              uint8_t *degrees, uint8_t *verdict);
+
+/* The kinds of record of a transmitter file, beside the site (0x01) and the end (0x04) of a plant file. */
+enum {
+    WENGELUDO_MEASURED = 0x21, /* from, to, value (4, a 32-bit float), deviation (8, a 64-bit float), high byte first */
+    WENGELUDO_HELD = 0x22,     /* the same; a value held from before */
+    WENGELUDO_FAULT = 0x23     /* from, to; no signal, so that the stream is unmetered */
+};
+
+/* The translator: writes the plant file that a transmitter file becomes.
+ *
+ * Reads   the file's file_length bytes: a site record, a record for each stream, an end record.
+ *         The reading of a value is the nearest whole number, an exact half going to the even one. The weight of
+ *         a deviation is the whole part of 1,000 / (deviation * deviation) in 64-bit floats, each operation rounded
+ *         once; for a held value a quarter of that, rounded down, at least 1.
+ * Returns 0, or one of 1, 3 to 12, 16, 17. The order: 1, then the file's records one after the other; in a record of a
+ *         stream 3, 4, 5, 3, 7, 8, 16, 17, 9 (the weight, before its quarter is taken), 10 (the reading).
+ * Writes, where it returns 0:
+ *         the plant file at the front of `plant` (at most 868 bytes); the bytes past it keep their values;
+ *         *written: how many bytes the plant file has.
+ * Writes, where it returns another number:
+ *         *written: 0, and nothing else. All bytes of `plant` are as they were.
+ * What *written was before the call makes no difference.
+ */
+uint8_t wengeludo_plant_from_transmitter(const uint8_t *file, size_t file_length,
+                                         uint8_t *plant, size_t plant_length,
+                                         size_t *written);
 
 #ifdef __cplusplus
 }

@@ -1,10 +1,12 @@
-// The sheet call, the plant writer and the sheet reader for programs in C and Rust: functions on numbers and slices of numbers.
+// The sheet call, the plant writer, the sheet reader and the translator for programs in C and Rust: functions on numbers and
+// slices of numbers.
 mod kept;
 mod parts;
 
 use plants::Plant;
 ghost use Rattle.sheets.specs.Says.{SheetSays};
 ghost use Rattle.plants.specs.Says.{WriteSays};
+ghost use Rattle.transmitters.specs.Says.{TranslateSays};
 ghost use Rattle.linked.specs.Parts.{handed};
 ghost use Rattle.linked.specs.Kept.{HandsOver};
 
@@ -81,4 +83,19 @@ pub extern "C" fn wengeludo_read_sheet(
     *degrees = total.degrees;
     *verdict = total.verdict;
     read.number
+}
+
+// The translator: the plant file that a transmitter file becomes in the slice, its bytes counted; or a refusal number, none
+// counted, the slice as it was.
+#[no_mangle]
+pub extern "C" fn wengeludo_plant_from_transmitter(
+    file: &[u8],
+    plant: &mut [u8],
+    written: &mut usize,
+) -> u8
+    ensures { λ r. ⌜ TranslateSays (now (file .entry)) (now (plant .entry)) (now (plant .exit)) (record { number = r; written = now (written .exit) }) ⌝ }
+{
+    let made = translator::plant_from_transmitter(file, plant);
+    *written = made.written;
+    made.number
 }

@@ -1,3 +1,2 @@
 -- Laws of the plant reader.
 pub mod ByKind
-pub mod Loop

@@ -3,6 +3,7 @@ pub mod Records
 pub mod Limited
 pub mod Accepted
 pub mod Held
+pub mod Loop
 pub mod Arrayed
 pub mod There
 pub mod Back

@@ -88,19 +88,23 @@ onRecord (Refused f) listed ended refused = refused f
 abbrev pub withStream : Plant → Stream → Plant
 withStream p s = record { units = p .units; streams = p .streams ++ (s ∷ []) }
 
--- At most `fuel` records, read one after the other.
-abbrev pub recordsFrom : ℕ → Plant → List ℕ → Got
-recordsFrom zero p s = bad 3
-recordsFrom (suc fuel) p s =
-    onRecord (recordAt (p .units) (length (p .streams)) s) (λ x m. recordsFrom fuel (withStream p x) (drop m s)) (got p) bad
+-- At most `fuel` records, read one after the other; `at` says what stands where one is due.
+abbrev pub recordsBy : (ℕ → ℕ → List ℕ → Record) → ℕ → Plant → List ℕ → Got
+recordsBy at zero p s = bad 3
+recordsBy at (suc fuel) p s =
+    onRecord (at (p .units) (length (p .streams)) s) (λ x m. recordsBy at fuel (withStream p x) (drop m s)) (got p) bad
 
 -- Enough for every stream there may be, and the record that ends the reading.
 abbrev pub mostRecords : ℕ
 mostRecords = suc maxStreams
 
--- A plant file: one site record first, then the stream records, then the end record and nothing more.
+-- A file: one site record first, then the records of the streams, then the end record and nothing more.
+abbrev pub fileBy : (ℕ → ℕ → List ℕ → Record) → List ℕ → Got
+fileBy at s = onSite (siteAt s) (λ n. recordsBy at mostRecords (record { units = n; streams = [] }) (drop (suc siteBody) s)) bad
+
+-- A plant file.
 abbrev pub readPlant : List ℕ → Got
-readPlant s = onSite (siteAt s) (λ n. recordsFrom mostRecords (record { units = n; streams = [] }) (drop (suc siteBody) s)) bad
+readPlant = fileBy recordAt
 
 -- Writing.
 abbrev pub streamBytes : Stream → List ℕ

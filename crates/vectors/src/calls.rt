@@ -10,6 +10,7 @@
 // 5, the listing: handed in the plant file; the count is the text's length; no number.
 // 6, the sheet reader: handed in the sheet; the count is how many streams, the number the sheet's, and the slice, of 874 bytes,
 //    gets cost (8), degrees, verdict and an entry for each stream.
+// 7, the translator: handed in the transmitter file; no number.
 //
 // A stream is 9 bytes: metered (0 or 1), from, to, weight (2), reading (4, two's complement). An entry is 9 bytes: the kind of
 // its record, its flow (8, two's complement).
@@ -189,6 +190,11 @@ fn kept(given: &[u8], out: &mut [u8]) -> Sheet {
     done(read.number, count, total.sheet)
 }
 
+fn translate(given: &[u8], out: &mut [u8]) -> Sheet {
+    let d = translator::plant_from_transmitter(given, out);
+    done(d.number, d.written, 0)
+}
+
 // The call of this kind.
 pub fn call(kind: u8, number: u32, given: &[u8], out: &mut [u8]) -> Sheet {
     match kind {
@@ -198,6 +204,7 @@ pub fn call(kind: u8, number: u32, given: &[u8], out: &mut [u8]) -> Sheet {
         4 => unhinted(given, out),
         5 => done(0, texts::list_plant(given, out), 0),
         6 => kept(given, out),
+        7 => translate(given, out),
         _ => done(NO_CASE, 0, 0),
     }
 }

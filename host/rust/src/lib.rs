@@ -22,7 +22,11 @@
 //!
 //! A kept sheet is reopened by [`Sheet::from_bytes`].
 //!
-//! A caller who has memory of its own uses [`balance_into`] and [`Plant::write_into`], which allocate nothing.
+//! A [`Transmitter`] lists what meters send, values and standard deviations as floats; its plant file is what the sheet call
+//! takes.
+//!
+//! A caller who has memory of its own uses [`balance_into`], [`Plant::write_into`] and [`plant_from_transmitter_into`], which
+//! allocate nothing.
 #![deny(missing_docs)]
 #![deny(unsafe_op_in_unsafe_fn)]
 
@@ -30,15 +34,17 @@ mod plant;
 pub mod raw;
 mod refusal;
 mod sheet;
+mod transmitter;
 
 pub use plant::Plant;
 pub use refusal::Refusal;
 pub use sheet::{balance, balance_into, Record, Sheet, Verdict};
+pub use transmitter::{plant_from_transmitter, plant_from_transmitter_into, Transmitter};
 
 /// The least sheet slice that is taken.
 pub const SHEET_SIZE: usize = 879;
 
-/// The least slice that the plant writer takes; the longest plant file.
+/// The least slice that the plant writer and the translator take; the longest plant file.
 pub const FILE_SIZE: usize = 868;
 
 /// The most streams of a plant; the sheet reader takes slices of at least so many elements.

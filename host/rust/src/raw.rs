@@ -1,4 +1,4 @@
-//! The three calls as the archive has them, on slices and numbers; the result is 0 or a refusal's number.
+//! The calls as the archive has them, on slices and numbers; the result is 0 or a refusal's number.
 //!
 //! The rest of this crate is easier to use. These are for a caller who keeps numbers, and for tests.
 
@@ -40,6 +40,13 @@ extern "C" {
         cost: *mut u64,
         degrees: *mut u8,
         verdict: *mut u8,
+    ) -> u8;
+    fn wengeludo_plant_from_transmitter(
+        file: *const u8,
+        file_length: usize,
+        plant: *mut u8,
+        plant_length: usize,
+        written: *mut usize,
     ) -> u8;
 }
 
@@ -134,4 +141,11 @@ pub fn read_sheet(bytes: &[u8], kinds: &mut [u8], flows: &mut [i64], total: &mut
             &mut total.verdict,
         )
     }
+}
+
+/// The translator. 0: the plant file that the transmitter file becomes is at the front of `plant`, `written` its length.
+/// Another number: a refusal; `written` is 0, `plant` is as it was.
+pub fn plant_from_transmitter(file: &[u8], plant: &mut [u8], written: &mut usize) -> u8 {
+    // SAFETY: as above.
+    unsafe { wengeludo_plant_from_transmitter(file.as_ptr(), file.len(), plant.as_mut_ptr(), plant.len(), written) }
 }

@@ -7,7 +7,8 @@ use std::fmt;
 #[derive(Clone, Copy, Debug, PartialEq, Eq, Hash)]
 #[repr(u8)]
 pub enum Refusal {
-    /// Sheet slice under 879 bytes; for the plant writer, slice under 868; for the sheet reader, a slice under 96 elements.
+    /// Sheet slice under 879 bytes; for the plant writer and the translator, slice under 868; for the sheet reader, a slice under
+    /// 96 elements.
     SliceTooShort = 1,
     /// Last sheet number is 4,294,967,295.
     NoSheetNumber = 2,
@@ -37,9 +38,13 @@ pub enum Refusal {
     SheetTotal = 14,
     /// In a sheet, bytes follow the total.
     AfterTotal = 15,
+    /// A transmitter's value is not finite.
+    Value = 16,
+    /// A transmitter's deviation is no finite number above 0.
+    Deviation = 17,
 }
 
-const ALL: [(Refusal, &str); 15] = [
+const ALL: [(Refusal, &str); 17] = [
     (
         Refusal::SliceTooShort,
         "a slice is too short: 879 bytes for a sheet, 868 for a plant file, 96 elements for the sheet reader",
@@ -58,17 +63,23 @@ const ALL: [(Refusal, &str); 15] = [
     (Refusal::SheetRecord, "a sheet's record is missing, cut short, a 97th or of a wrong kind"),
     (Refusal::SheetTotal, "a field of a sheet's total is not allowed"),
     (Refusal::AfterTotal, "bytes after a sheet's total"),
+    (Refusal::Value, "a value is not finite"),
+    (Refusal::Deviation, "a deviation is no finite number above 0"),
 ];
 
 impl Refusal {
-    /// The refusal's number, 1 to 15.
+    /// The refusal's number.
     pub fn number(self) -> u8 {
         self as u8
     }
 
-    /// The refusal of a number; none for 0, which is no refusal, and above 15.
+    /// The refusal of a number; none for 0, which is no refusal, and for a number that no call returns.
     pub fn from_number(number: u8) -> Option<Refusal> {
-        ALL.get(usize::from(number).checked_sub(1)?).map(|entry| entry.0)
+        ALL.iter().map(|entry| entry.0).find(|refusal| refusal.number() == number)
+    }
+
+    fn text(self) -> &'static str {
+        ALL.iter().find(|entry| entry.0 == self).map_or("", |entry| entry.1)
     }
 
     /// What a call returned: 0, or a refusal.
@@ -82,7 +93,7 @@ impl Refusal {
 
 impl fmt::Display for Refusal {
     fn fmt(&self, f: &mut fmt::Formatter<'_>) -> fmt::Result {
-        write!(f, "refused {}: {}", self.number(), ALL[usize::from(self.number()) - 1].1)
+        write!(f, "refused {}: {}", self.number(), self.text())
     }
 }
 
@@ -94,15 +105,17 @@ mod tests {
 
     #[test]
     fn numbers_there_and_back() {
-        for number in 1..=15 {
+        for number in 1..=17 {
             assert_eq!(Refusal::from_number(number).unwrap().number(), number);
         }
-        assert_eq!(Refusal::from_number(0), None);
-        assert_eq!(Refusal::from_number(16), None);
+        for number in [0, 18, 255] {
+            assert_eq!(Refusal::from_number(number), None);
+        }
     }
 
     #[test]
     fn message() {
         assert_eq!(Refusal::SamePlace.to_string(), "refused 8: from equals to");
+        assert_eq!(Refusal::Value.to_string(), "refused 16: a value is not finite");
     }
 }

@@ -10,6 +10,7 @@
 mod draw;
 mod reference;
 mod shrink;
+mod transmitters;
 
 use draw::{Call, Draw, Reopen, Write};
 use reference::{Outcome, Stream};

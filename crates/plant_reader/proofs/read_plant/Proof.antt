@@ -8,13 +8,13 @@ use Rattle.numbers.proofs.Parts.{partFrom}
 use Rattle.plants.specs.declared.Record.the-variants.{Listed}
 use Rattle.plants.specs.Files.{bad, recordAt, mostRecords}
 use Rattle.plants.specs.Says.{readOf}
-use Rattle.plants.proofs.Records.{site-whole, units-there}
-use Rattle.plant_reader.proofs.Loop.{Reading, turn, room-left, ended-here, refused-here, missing-here, begin, is-end}
+use Rattle.plants.proofs.Records.{site-whole, units-there, record-taken}
+use Rattle.plants.proofs.Loop.{Reading, turn, room-left, ended-here, refused-here, missing-here, begin, is-end}
 use Rattle.plant_reader.proofs.read_plant.Statement.{statement}
 use Rattle.plant_reader.proofs.read_plant.Tie as tie
 
 abbrev Inv-loop : tie.InvT-loop
-Inv-loop file units streams₀ count₀ at₀ streams count at = Reading file units streams count at
+Inv-loop file units streams₀ count₀ at₀ streams count at = Reading recordAt file units streams count at
 
 abbrev μ-loop : tie.MeasureT-loop
 μ-loop file units streams₀ count₀ at₀ streams count at = mostRecords - count
@@ -42,7 +42,7 @@ refusal-requires c κs = search needs
 
 returns : tie.Need-returns Inv-loop μ-loop
 returns c = let file = now (c .before .before .before .before .before .before .args .file) in
-    missing-here file _ (c .before .before .before .before .read-site .ensures) (c .before .before .before .match .keys2) (c .refusal .result)
+    missing-here recordAt file _ (c .before .before .before .before .read-site .ensures) (c .before .before .before .match .keys2) (c .refusal .result)
     (c .refusal .ensures ∙ ap (λ (f : ℕ). readOf (bad f)) (c .before .site-number .ensures))
 
 unmetered-stream-requires : tie.Need-unmetered-stream-requires Inv-loop μ-loop
@@ -53,7 +53,7 @@ add-at c = search needs
 
 loop-holds : tie.Need-loop-holds Inv-loop μ-loop
 loop-holds c = let file = now (c .before .before .before .before .before .before .args .file) in
-    begin file (c .before .before .site .given .0 .0) (c .unmetered-stream .result) (sym (c .before .before .site .given .1) ∙ c .before .before .before .before .read-site .ensures)
+    begin recordAt file (c .before .before .site .given .0 .0) (c .unmetered-stream .result) (sym (c .before .before .site .given .1) ∙ c .before .before .before .before .read-site .ensures)
     (site-whole file (units-there file _ (sym (c .before .before .site .given .1) ∙ c .before .before .before .before .read-site .ensures) .0)) (c .unmetered-stream .ensures)
 
 sub-read-record : tie.Need-sub-read-record Inv-loop μ-loop
@@ -90,19 +90,19 @@ mul-streams : tie.Need-mul-streams Inv-loop μ-loop
 mul-streams c = search needs
 
 array-set-from-streams : tie.Need-array-set-from-streams Inv-loop μ-loop
-array-set-from-streams c = room-left (c .before .before .before .before .before .loop .inv) (listed-here c)
+array-set-from-streams c = room-left (c .before .before .before .before .before .loop .inv) record-taken (listed-here c)
 
 add-count : tie.Need-add-count Inv-loop μ-loop
 add-count c = search needs
 
 add-at-2 : tie.Need-add-at-2 Inv-loop μ-loop
-add-at-2 c = let n = turn (c .before .before .before .before .before .loop .inv) (listed-here c) in omega (arith, n .within, c .before .before .before .before .before .before .before .before .before .before .before .before .good)
+add-at-2 c = let n = turn (c .before .before .before .before .before .loop .inv) record-taken (listed-here c) in omega (arith, n .within, c .before .before .before .before .before .before .before .before .before .before .before .before .good)
 
 loop-less : tie.Need-loop-less Inv-loop μ-loop
 loop-less c = search needs
 
 loop-again : tie.Need-loop-again Inv-loop μ-loop
-loop-again c = turn (c .before .before .before .before .before .loop .inv) (listed-here c)
+loop-again c = turn (c .before .before .before .before .before .loop .inv) record-taken (listed-here c)
 
 pub read-plant-spec : {M : Type 1} → statement M
 read-plant-spec =

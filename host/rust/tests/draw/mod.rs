@@ -58,7 +58,7 @@ impl Draw {
         Draw(seed.wrapping_mul(0x9E37_79B9_7F4A_7C15) ^ 0x5DEE_CE66)
     }
 
-    fn bits(&mut self) -> u64 {
+    pub fn bits(&mut self) -> u64 {
         self.0 = self.0.wrapping_add(0x9E37_79B9_7F4A_7C15);
         let mut z = self.0;
         z = (z ^ (z >> 30)).wrapping_mul(0xBF58_476D_1CE4_E5B9);
@@ -71,11 +71,11 @@ impl Draw {
     }
 
     /// One of the numbers from a to b.
-    fn among(&mut self, a: i64, b: i64) -> i64 {
+    pub fn among(&mut self, a: i64, b: i64) -> i64 {
         a + (self.bits() % (b - a + 1) as u64) as i64
     }
 
-    fn bytes(&mut self, n: usize) -> Vec<u8> {
+    pub fn bytes(&mut self, n: usize) -> Vec<u8> {
         (0..n).map(|_| self.bits() as u8).collect()
     }
 
