@@ -29,6 +29,7 @@ use Rattle.flows.specs.declared.Cuts.{Cuts}
 use Rattle.flows.specs.Calls.{Cutting, classIn}
 use Rattle.flows.proofs.Reach.{Inside, joined→chain, chain→joined}
 use Rattle.flows.proofs.Labels.{min-max, stepped-none, stepped-one, labelling, label→chain}
+use Rattle.flows.proofs.Grouping.{labels-are}
 use Rattle.flows.proofs.Lists.{values-long, values-at, Written, written-all}
 use Rattle.flows.proofs.Nets.{inside-of}
 use Rattle.flows.proofs.ByLabels.{class-metered, class-joined, same-before}
@@ -239,7 +240,7 @@ module _ {p : Arrays.Plant} {cuts : Cuts} (a : Accepted p) (c : Cutting p cuts) 
   class-in i l =
       by-cases (getD (p .streams) i noStream .metered)
       (λ t. sym (in-metered (cuts .labels) (getD (p .streams) i noStream) (getD (cuts .taken) i 0) (cuts .looped) t _ refl)
-      ∙ rw (← at, c .grouped) (class-metered (plantOf p) (a .within .few-units) (inside-of p a) i listed (rw at t)))
+      ∙ rw (← at, labels-are p a unmeteredOnly _ (c .grouped)) (class-metered (plantOf p) (a .within .few-units) (inside-of p a) i listed (rw at t)))
       (λ t. sym (in-unmetered (cuts .labels) (getD (p .streams) i noStream) (getD (cuts .taken) i 0) (cuts .looped) t _ refl)
       ∙ rw (c .each i l, all) (class-sides (plantOf p) (a .within .few-units) (inside-of p a) i listed (rw at t)))
     where

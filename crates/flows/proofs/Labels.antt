@@ -6,7 +6,6 @@ use Prim.Native.Nat.{ℕ, zero, suc, _+_, _≤_, _<_, min, max}
 use native.Mathlib.Nat.{min-eq-left, min-eq-right, max-eq-left, max-eq-right}
 use native.Mathlib.Omega.{arith}
 use native.Mathlib.Decide.{decLe}
-use native.Mathlib.Numerals.{add-one}
 use borrow.Author.Tests.{eqb-true, eq-eqb, ne-eqb, ltb-true, ltb-false, lt-ltb}
 use lib.Dec.{eqb, ltb}
 use lib.ListN.{length, getD, length-map}
@@ -18,7 +17,8 @@ use Rattle.plants.specs.Plants.{Plant}
 use Rattle.flows.specs.Flows.{streamAt}
 use Rattle.flows.specs.Classes.{has, joinedTo}
 use Rattle.flows.specs.Chains.{Counting, Chain}
-use Rattle.flows.specs.Labels.{ownNumbers, renamed, relabelled, united, stepped, labelsAfter, labelsOf, oneLabel, firstOnly, One-pass}
+use Rattle.flows.specs.Labels.{ownNumbers, renamed, relabelled, united, stepped, labelsAfter, labelsOf, oneLabel}
+use Rattle.flows.specs.Groups.{firstOnly, AmongPlaces}
 use Rattle.flows.proofs.Lists.{map-at, values-long, values-at, Written, written-all}
 use Rattle.flows.proofs.Reach.{Inside, chain-trans, chain-sym, chain-map, joined→chain, chain→joined}
 
@@ -99,12 +99,7 @@ unfolding labelsAfter
 labels-same f g ss zero e = refl
 labels-same f g ss (suc k) e = rw (e k (omega arith), labels-same f g ss k (λ j l. e j (omega arith)))
 
--- One step more.
-pub step-more : (counts : Counting) (ss : List Stream) (i : ℕ) (s : Stream) (ls next : List ℕ) (c : Bool)
-    → ls ≡ labelsAfter counts ss i → streamAt ss i ≡ s → c ≡ counts i s → next ≡ stepped c s ls → next ≡ labelsAfter counts ss (i + 1)
-unfolding labelsAfter
-step-more counts ss i s ls next c e at q n = rw (add-one i, at, ← q, ← e) n
-
+-- Before the first step.
 pub step-none : (counts : Counting) (ss : List Stream) (ls : List ℕ) → ls ≡ ownNumbers → ls ≡ labelsAfter counts ss 0
 unfolding labelsAfter
 step-none counts ss ls e = e
@@ -127,7 +122,7 @@ module _ (counts : Counting) (ss : List Stream) where
       by-cases (ltb j k) (λ t. f (and-both (ltb j k) (counts j s) t (and-right (ltb j (suc k)) (counts j s) e)))
       (λ t. g (omega (arith, ltb-false j k t, ltb-true j (suc k) (and-left (ltb j (suc k)) (counts j s) e))) (and-right (ltb j (suc k)) (counts j s) e))
 
-  start : Labelling counts ss 0 ownNumbers
+  pub start : Labelling counts ss 0 ownNumbers
   start = record {
     long = values-long (λ u. u) places;
     level = λ j l e. absurd (omega (arith, ltb-true j 0 (and-left (ltb j 0) _ e)));
@@ -147,7 +142,7 @@ module _ (counts : Counting) (ss : List Stream) where
     low = g .low;
   }
 
-  module _ (n : ℕ) (small : n ≤ maxUnits) (w : Inside n ss) where
+  module _ (w : AmongPlaces ss) where
     -- A stream that counts.
     joined : (k : ℕ) (ls : List ℕ) → k < length ss → Labelling counts ss k ls → counts k (streamAt ss k) ≡ true
         → Labelling counts ss (suc k) (united (getD ls (streamAt ss k .from) 0) (getD ls (streamAt ss k .to) 0) ls)
@@ -201,57 +196,64 @@ module _ (counts : Counting) (ss : List Stream) where
             (λ e. rw e (chain-trans (subst (Chain more ss u) (eqb-true (getD ls u 0) hi e) (grown k (g .chain u h))) down))
             (λ e. rw e (grown k (g .chain u h)))
 
-    after : (k : ℕ) → k ≤ length ss → Labelling counts ss k (labelsAfter counts ss k)
+    -- A step, whether the stream counts or not.
+    pub step-on : (k : ℕ) (ls : List ℕ) → k < length ss → Labelling counts ss k ls
+        → Labelling counts ss (suc k) (stepped (counts k (streamAt ss k)) (streamAt ss k) ls)
+    step-on k ls l g =
+        by-cases (counts k (streamAt ss k)) (λ t. rw t (joined k ls l g t)) (λ t. rw t (passed k ls g t))
+
+    pub after : (k : ℕ) → k ≤ length ss → Labelling counts ss k (labelsAfter counts ss k)
     unfolding labelsAfter
     after zero h = start
-    after (suc k) h =
-        by-cases (counts k (streamAt ss k)) (λ t. rw t (joined k _ (omega arith) (after k (omega arith)) t))
-        (λ t. rw t (passed k _ (after k (omega arith)) t))
+    after (suc k) h = step-on k _ (omega arith) (after k (omega arith))
+
+-- Labelled so, two places have one label exactly when a chain joins them.
+module _ {counts : Counting} {ss : List Stream} {k : ℕ} {ls : List ℕ} (g : Labelling counts ss k ls) where
+  pub chain→one : {u v : ℕ} → Chain (firstOnly k counts) ss u v → getD ls u 0 ≡ getD ls v 0
+  chain→one Chain.stop = refl
+  chain→one (Chain.along j l e c) = chain→one c ∙ g .level j l e
+  chain→one (Chain.back j l e c) = chain→one c ∙ sym (g .level j l e)
+
+  pub one→chain : (u v : ℕ) → u < places → v < places → getD ls u 0 ≡ getD ls v 0 → Chain (firstOnly k counts) ss u v
+  one→chain u v hu hv e = chain-trans (subst (Chain (firstOnly k counts) ss u) e (g .chain u hu)) (chain-sym (g .chain v hv))
+
+-- All streams are the first of them.
+module _ {counts : Counting} {ss : List Stream} {u v : ℕ} where
+  pub first→all : Chain (firstOnly (length ss) counts) ss u v → Chain counts ss u v
+  first→all = chain-map (λ j l c. and-right (ltb j (length ss)) _ c)
+
+  pub all→first : Chain counts ss u v → Chain (firstOnly (length ss) counts) ss u v
+  all→first = chain-map (λ j l c. and-both (ltb j (length ss)) _ (lt-ltb j (length ss) l) c)
+
+pub among : (n : ℕ) (ss : List Stream) → n ≤ maxUnits → Inside n ss → AmongPlaces ss
+among n ss small w j l = (omega (arith, w j l), omega (arith, w j l))
 
 module _ (counts : Counting) (p : Plant) (small : p .units ≤ maxUnits) (w : Inside (p .units) (p .streams)) where
-  abbrev labelAfter : ℕ → ℕ → ℕ
-  labelAfter k u = getD (labelsAfter counts (p .streams) k) u 0
+  abbrev all : ℕ
+  all = length (p .streams)
+
+  abbrev label : ℕ → ℕ
+  label u = getD (labelsOf counts p) u 0
 
   pub labelling : (k : ℕ) → k ≤ length (p .streams) → Labelling counts (p .streams) k (labelsAfter counts (p .streams) k)
-  labelling = after counts (p .streams) (p .units) small w
+  labelling = after counts (p .streams) (among (p .units) (p .streams) small w)
 
-  chain→label : (k : ℕ) → k ≤ length (p .streams) → {u v : ℕ} → Chain (firstOnly k counts) (p .streams) u v → labelAfter k u ≡ labelAfter k v
-  chain→label k h Chain.stop = refl
-  chain→label k h (Chain.along j l e c) = chain→label k h c ∙ labelling k h .level j l e
-  chain→label k h (Chain.back j l e c) = chain→label k h c ∙ sym (labelling k h .level j l e)
+  pub label→chain : (k u v : ℕ) → k ≤ length (p .streams) → u < places → v < places
+      → getD (labelsAfter counts (p .streams) k) u 0 ≡ getD (labelsAfter counts (p .streams) k) v 0 → Chain (firstOnly k counts) (p .streams) u v
+  label→chain k u v h = one→chain (labelling k h) u v
 
-  pub label→chain : (k u v : ℕ) → k ≤ length (p .streams) → u < places → v < places → labelAfter k u ≡ labelAfter k v
-      → Chain (firstOnly k counts) (p .streams) u v
-  label→chain k u v h hu hv e =
-      chain-trans (subst (Chain (firstOnly k counts) (p .streams) u) e (labelling k h .chain u hu)) (chain-sym (labelling k h .chain v hv))
-
-  joined→label : (k u v : ℕ) → k ≤ length (p .streams) → has v (joinedTo (firstOnly k counts) p u) ≡ true → labelAfter k u ≡ labelAfter k v
-  joined→label k u v h e = chain→label k h (joined→chain (firstOnly k counts) p u v e)
-
-  -- Groups are formed in one pass.
-  pub one-pass : One-pass counts p
-  one-pass = record {
-    groups = λ k u v h hu hv. same-test (oneLabel (labelsAfter counts (p .streams) k) u v) (has v (joinedTo (firstOnly k counts) p u))
-        (λ e. chain→joined (firstOnly k counts) p w (label→chain k u v h hu hv (eqb-true (labelAfter k u) (labelAfter k v) e)))
-        (λ e. eq-eqb (labelAfter k u) (labelAfter k v) (joined→label k u v h e));
-    member = λ k u h hu. chain→joined (firstOnly k counts) p w (labelling k h .chain u hu);
-    least-place = λ k u v h hu hv e. omega (arith, joined→label k u v h e, labelling k h .low v hv);
-  }
-
-  -- All streams are the first of them.
-  all-first : (u v : ℕ) → has v (joinedTo (firstOnly (length (p .streams)) counts) p u) ≡ has v (joinedTo counts p u)
-  all-first u v =
-      let n = length (p .streams) in
-      same-test (has v (joinedTo (firstOnly n counts) p u)) (has v (joinedTo counts p u))
-      (λ e. chain→joined counts p w (chain-map (λ j l c. and-right (ltb j n) _ c) (joined→chain (firstOnly n counts) p u v e)))
-      (λ e. chain→joined (firstOnly n counts) p w (chain-map (λ j l c. and-both (ltb j n) _ (lt-ltb j n l) c) (joined→chain counts p u v e)))
+  joined→label : (u v : ℕ) → has v (joinedTo counts p u) ≡ true → label u ≡ label v
+  joined→label u v e = chain→one (labelling all (omega arith)) (all→first (joined→chain counts p u v e))
 
   -- The labels of all streams that count: one label is being joined, and a label is the lowest place of its group.
   pub label-joined : (u v : ℕ) → u < places → v < places → has v (joinedTo counts p u) ≡ oneLabel (labelsOf counts p) u v
-  label-joined u v hu hv = sym (one-pass .groups (length (p .streams)) u v (omega arith) hu hv ∙ all-first u v)
+  label-joined u v hu hv =
+      same-test (has v (joinedTo counts p u)) (oneLabel (labelsOf counts p) u v)
+      (λ e. eq-eqb (label u) (label v) (joined→label u v e))
+      (λ e. chain→joined counts p w (first→all (label→chain all u v (omega arith) hu hv (eqb-true (label u) (label v) e))))
 
   pub label-member : (u : ℕ) → u < places → has (getD (labelsOf counts p) u 0) (joinedTo counts p u) ≡ true
-  label-member u h = sym (all-first u (getD (labelsOf counts p) u 0)) ∙ one-pass .member (length (p .streams)) u (omega arith) h
+  label-member u h = chain→joined counts p w (first→all (labelling all (omega arith) .chain u h))
 
   pub label-low : (u : ℕ) → u < places → getD (labelsOf counts p) u 0 ≤ u
   label-low = labelling (length (p .streams)) (omega arith) .low
@@ -259,7 +261,7 @@ module _ (counts : Counting) (p : Plant) (small : p .units ≤ maxUnits) (w : In
   pub label-lowest : (u v : ℕ) → u < places → has v (joinedTo counts p u) ≡ true → getD (labelsOf counts p) u 0 ≤ v
   label-lowest u v h e =
       by-cases (ltb v places)
-      (λ t. one-pass .least-place (length (p .streams)) u v (omega arith) h (ltb-true v places t) (all-first u v ∙ e))
+      (λ t. omega (arith, joined→label u v e, label-low v (ltb-true v places t)))
       (λ t. omega (arith, label-low u h, ltb-false v places t))
 
   pub label-long : length (labelsOf counts p) ≡ places

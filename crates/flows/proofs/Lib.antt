@@ -15,6 +15,7 @@ pub mod Ties
 pub mod Certified
 pub mod Lists
 pub mod Labels
+pub mod Grouping
 pub mod Degrees
 pub mod Counted
 pub mod ByLabels

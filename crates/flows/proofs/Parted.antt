@@ -16,7 +16,7 @@ use Rattle.plants.specs.Limits.{places}
 use Rattle.flows.specs.Flows.{streamAt}
 use Rattle.flows.specs.Classes.{unmeteredBut}
 use Rattle.flows.specs.Chains.{Counting, unmeteredOnly, Chain}
-use Rattle.flows.specs.Labels.{firstOnly}
+use Rattle.flows.specs.Groups.{firstOnly}
 use Rattle.flows.proofs.Reach.{chain-trans, chain-sym, chain-map}
 use Rattle.flows.specs.Sides.{bit, apart, takenAt}
 use Rattle.flows.proofs.Binary.{unlike, alike, unalike, bit-xor, bit-or}

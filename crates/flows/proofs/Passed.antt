@@ -1,5 +1,5 @@
 -- The pass over the streams that finds the labels they take away and the loops.
-use mathlib.Core.Path.{_≡_, refl, sym, _∙_, ap}
+use mathlib.Core.Path.{_≡_, refl, _∙_, ap}
 use mathlib.Core.Bool.{not}
 use mathlib.Core.List.{List}
 use Prim.Native.Nat.{ℕ, _+_, _*_, _%_, _≤_, _<_, _^_}
@@ -17,11 +17,13 @@ use Rattle.plants.specs.Says.{plantOf}
 use Rattle.plants.proofs.Arrayed.{all-listed, listed-at}
 use Rattle.flows.specs.Flows.{streamAt}
 use Rattle.flows.specs.Chains.{unmeteredOnly}
-use Rattle.flows.specs.Labels.{ownNumbers, stepped, labelsAfter}
+use Rattle.flows.specs.Labels.{ownNumbers, labelsAfter}
+use Rattle.flows.specs.Groups.{StepSays}
 use Rattle.flows.specs.Sides.{apart, takenBy, loopedBy, turned, parted, takenAt, sidesAfter, loopedAfter}
 use Rattle.flows.specs.Calls.{Cutting}
 use Rattle.flows.proofs.Lists.{Written, written-none, written-put}
-use Rattle.flows.proofs.Labels.{step-none, step-more, labels-long}
+use Rattle.flows.proofs.Labels.{step-none, labels-long}
+use Rattle.flows.proofs.Grouping.{groups-after, step-said, ends-in}
 use Rattle.flows.proofs.Nets.{inside-of}
 use Rattle.flows.proofs.BySides.{parted-some, taken-low, sides-long}
 
@@ -94,11 +96,11 @@ module _ {p : Arrays.Plant} (w : Accepted p) {i : ℕ} {none labels sides taken 
 
     pub passed-more : (h add : ℕ) (sides-next labels-next : List ℕ) → h ≡ takenBy labels (getD (p .streams) i noStream)
         → add ≡ loopedBy labels sides (getD (p .streams) i noStream) → sides-next ≡ parted h labels (getD (p .streams) i noStream) sides
-        → labels-next ≡ stepped (not (getD (p .streams) i noStream .metered)) (getD (p .streams) i noStream) labels
+        → StepSays (not (getD (p .streams) i noStream .metered)) (getD (p .streams) i noStream) labels labels-next
         → Passed p (i + 1) none labels-next sides-next (set taken i h) (bitOr looped add)
     passed-more h add sides-next labels-next q m s n = record {
       few = omega arith;
-      labelled = step-more unmeteredOnly _ i _ labels labels-next _ (a .labelled) at refl n;
+      labelled = step-said unmeteredOnly _ (ends-in p w) i _ labels labels-next _ (omega (arith, all-listed p w)) (a .labelled) at refl n;
       sided = sides-more _ i _ labels sides sides-next h (a .labelled) (a .sided) at q s;
       met = looped-more _ i _ labels sides looped add (a .labelled) (a .sided) (a .met) at m;
       written = written-put (a .written) (omega (arith, w .within .few-streams)) h (is-taken h q);
@@ -106,7 +108,7 @@ module _ {p : Arrays.Plant} (w : Accepted p) {i : ℕ} {none labels sides taken 
 
   pub passed-all : i ≡ p .count → Cutting p (record { labels = labels; taken = taken; looped = looped })
   passed-all e = record {
-    grouped = a .labelled ∙ ap (labelsAfter unmeteredOnly (plantOf p .streams)) (e ∙ sym (all-listed p w));
+    grouped = rw (a .labelled, e) (groups-after unmeteredOnly (plantOf p .streams) (ends-in p w) (p .count) (omega (arith, all-listed p w)));
     long = a .written .long;
     each = each;
     low = λ k l. rw (each k l) (taken-low (plantOf p) (w .within .few-units) (inside-of p w) k (omega (arith, all-listed p w)));

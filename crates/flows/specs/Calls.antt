@@ -17,7 +17,8 @@ use Rattle.flows.specs.declared.Which.the-variants.{Every, Unmetered}
 use Rattle.numbers.specs.Inner.{values}
 use Rattle.flows.specs.Classes.{classOf}
 use Rattle.flows.specs.Chains.{Counting, everyStream, unmeteredOnly}
-use Rattle.flows.specs.Labels.{labelsOf, oneLabel}
+use Rattle.flows.specs.Groups.{Groups}
+use Rattle.flows.specs.Labels.{oneLabel}
 use Rattle.flows.specs.Sides.{bit, takenAt, loopedAfter}
 
 -- Which streams count, by the cases of Which.
@@ -29,9 +30,9 @@ counting Unmetered = unmeteredOnly
 abbrev pub classesOf : Plant → List Class
 classesOf p = values maxStreams (classOf p)
 
--- A plant's labels by the unmetered streams.
+-- The labels of a plant's groups: those by all its unmetered streams.
 abbrev pub Grouped : Arrays.Plant → List ℕ → Type 0
-Grouped p labels = labels ≡ labelsOf unmeteredOnly (plantOf p)
+Grouped p labels = Groups unmeteredOnly (plantOf p .streams) (p .count) labels
 
 -- A plant's labels by the unmetered streams, the labels that its streams take away, and the bits of those that lie on a loop.
 pub record Cutting (p : Arrays.Plant) (c : Cuts) : Type 0 where

@@ -1,10 +1,9 @@
 -- Groups in one pass over the streams. Each place has a label, at first its own number; a stream that counts gives the groups
 -- of both its ends the lower of their labels.
-use mathlib.Core.Path.{_≡_}
-use mathlib.Core.Bool.{Bool, true, _&&_}
+use mathlib.Core.Bool.{Bool}
 use mathlib.Core.List.{List, map}
-use Prim.Native.Nat.{ℕ, zero, suc, _+_, _≤_, _<_, min, max}
-use lib.Dec.{eqb, ltb}
+use Prim.Native.Nat.{ℕ, zero, suc, _+_, min, max}
+use lib.Dec.{eqb}
 use lib.ListN.{length, getD}
 use Rattle.numbers.specs.Choice.{pick}
 use Rattle.plants.specs.declared.Stream.{Stream}
@@ -12,7 +11,6 @@ use Rattle.plants.specs.Limits.{places}
 use Rattle.plants.specs.Plants.{Plant}
 use Rattle.flows.specs.Flows.{streamAt}
 use Rattle.numbers.specs.Inner.{values}
-use Rattle.flows.specs.Classes.{has, joinedTo}
 use Rattle.flows.specs.Chains.{Counting}
 
 -- Each place's own number.
@@ -49,17 +47,3 @@ oneLabel ls u v = eqb (getD ls u 0) (getD ls v 0)
 abbrev pub ownLabels : List ℕ → ℕ → ℕ
 ownLabels ls zero = 1
 ownLabels ls (suc u) = pick (eqb (getD ls (suc u) 0) (suc u)) 1 0 + ownLabels ls u
-
--- Only the first k streams count.
-abbrev pub firstOnly : ℕ → Counting → Counting
-firstOnly k counts j s = ltb j k && counts j s
-
--- After k steps two places have one label exactly when a chain of the first k streams that count joins them, and a label is
--- the lowest place of its group.
-pub record One-pass (counts : Counting) (p : Plant) : Type 0 where
-  pub groups : (k u v : ℕ) → k ≤ length (p .streams) → u < places → v < places
-      → oneLabel (labelsAfter counts (p .streams) k) u v ≡ has v (joinedTo (firstOnly k counts) p u)
-  pub member : (k u : ℕ) → k ≤ length (p .streams) → u < places
-      → has (getD (labelsAfter counts (p .streams) k) u 0) (joinedTo (firstOnly k counts) p u) ≡ true
-  pub least-place : (k u v : ℕ) → k ≤ length (p .streams) → u < places → v < places
-      → has v (joinedTo (firstOnly k counts) p u) ≡ true → getD (labelsAfter counts (p .streams) k) u 0 ≤ v

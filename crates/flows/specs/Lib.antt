@@ -1,6 +1,7 @@
 -- Flows, the cheapest of them, groups and classes, the test, what a sheet shows, certificates of a flow, and what calls need.
 pub mod Flows
 pub mod Chains
+pub mod Groups
 pub mod Classes
 pub mod Labels
 pub mod Sides

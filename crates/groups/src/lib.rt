@@ -9,7 +9,8 @@ ghost use lib.ListN.{length};
 ghost use Rattle.plants.specs.Limits.{maxUnits, places};
 ghost use Rattle.plants.specs.Within.{WithinStream, Accepted};
 ghost use Rattle.plants.specs.Says.{plantOf};
-ghost use Rattle.flows.specs.Labels.{ownNumbers, renamed, relabelled, stepped, labelsOf, oneLabel, ownLabels};
+ghost use Rattle.flows.specs.Groups.{Groups, StepSays};
+ghost use Rattle.flows.specs.Labels.{ownNumbers, renamed, relabelled, oneLabel, ownLabels};
 ghost use Rattle.flows.specs.Calls.{counting};
 
 // Whether a stream counts, whatever its number.
@@ -58,10 +59,10 @@ pub fn rename(labels: &mut [u8; PLACES], lo: u8, hi: u8)
     }
 }
 
-// A step: the labels and the next stream, which counts or not.
+// A step takes the labels of the groups and the next stream, which counts or not.
 pub fn step(labels: &mut [u8; PLACES], s: Stream, counts: bool)
     requires { ⌜ WithinStream maxUnits s × (length (now labels) ≡ places) ⌝ }
-    ensures { λ _. ⌜ now (labels .exit) ≡ stepped counts s (now (labels .entry)) ⌝ }
+    ensures { λ _. ⌜ StepSays counts s (now (labels .entry)) (now (labels .exit)) ⌝ }
 {
     if !counts {
         return;
@@ -80,10 +81,10 @@ pub fn step(labels: &mut [u8; PLACES], s: Stream, counts: bool)
     rename(labels, b, a);
 }
 
-// The labels after all streams.
+// The labels of the groups by all streams that count: a step for each stream, in one pass.
 pub fn group(p: Plant, which: Which) -> [u8; PLACES]
     requires { ⌜ Accepted p ⌝ }
-    ensures { λ r. ⌜ r ≡ labelsOf (counting which) (plantOf p) ⌝ }
+    ensures { λ r. ⌜ Groups (counting which) (plantOf p .streams) (p .count) r ⌝ }
 {
     let n = p.count as usize;
     let mut labels = own_numbers();

@@ -21,7 +21,9 @@ use Rattle.plants.proofs.Accepted.{accepted, refused}
 use Rattle.plants.proofs.Arrayed.{within-of, read-accepted, read-held}
 use Rattle.plants.proofs.Back.{round-trip}
 use Rattle.flows.specs.Flows.{amountAt, Cheapest}
+use Rattle.flows.specs.Chains.{everyStream, unmeteredOnly}
 use Rattle.flows.proofs.Integers.{size-val, parts}
+use Rattle.flows.proofs.Grouping.{one-pass}
 use Rattle.model.proofs.Demand.{demand-3}
 use Rattle.model.specs.Held.{unshifted}
 use Rattle.model.proofs.Amounts.{unshifted-val, opened-at}
@@ -140,6 +142,8 @@ demands = record {
   sentences = answers;
   no-choice = no-choice;
   round = round-trip;
+  groups = one-pass unmeteredOnly;
+  pieces = one-pass everyStream;
   third = demand-3;
   reopening = reopening;
   kept = kept;

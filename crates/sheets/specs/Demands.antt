@@ -7,6 +7,8 @@ use lib.ListN.{take}
 use Rattle.plants.specs.Plants.{Plant}
 use Rattle.plants.specs.Files.{got, readPlant, Round-trip}
 use Rattle.flows.specs.Flows.{Cheapest}
+use Rattle.flows.specs.Chains.{everyStream, unmeteredOnly}
+use Rattle.flows.specs.Groups.{One-pass}
 use Rattle.flows.specs.Shown.{Demand-3}
 use Rattle.sheets.specs.declared.Sheet.{Sheet}
 use Rattle.sheets.specs.Sentences.{topSheet, Answers}
@@ -30,6 +32,9 @@ pub record Demands : Type 0 where
   pub no-choice : No-choice
   -- A plant file written from its parts and read again comes back the same, both ways.
   pub round : Round-trip
+  -- Groups, by the unmetered streams, and connected pieces, by all, are formed in one pass over the streams.
+  pub groups : One-pass unmeteredOnly
+  pub pieces : One-pass everyStream
   -- Demand 3 by classes; the sentences say it of the bytes.
   pub third : Demand-3
   -- Sheets read back in: writing and reading undo each other, and a sheet that a call drew reads back as the plant has it.

@@ -1,14 +1,13 @@
 -- `classes::classes_of` meets its contract: after i turns the first i classes are written.
-use mathlib.Core.Path.{_≡_, sym, ap, _∙_}
+use mathlib.Core.Path.{_≡_, sym, _∙_}
 use Prim.Native.Nat.{_≤_, _-_}
 use native.Mathlib.Omega.{arith}
-use lib.ListN.{length, length-replicate}
+use lib.ListN.{length-replicate}
 use Rattle.plants.specs.Limits.{maxStreams}
 use Rattle.plants.specs.Says.{plantOf}
 use Rattle.flows.specs.declared.Class.the-variants.{Withheld}
 use Rattle.flows.specs.Classes.{classOf}
 use Rattle.flows.proofs.Lists.{Written, written-none, written-put}
-use Rattle.flows.proofs.Labels.{labels-long}
 use Rattle.plants.proofs.Arrayed.{all-listed, stream-within}
 use Rattle.flows.proofs.ByLabels.{classes-all}
 use Rattle.flows.proofs.BySides.{class-in}
@@ -41,7 +40,7 @@ class-of-requires : tie.Need-class-of-requires Inv-loop μ-loop
 class-of-requires c κs =
     let st = c .before .before .before .before .before .before in
     let lt = c .before .before .loop-test .taken in
-    (stream-within (st .args .t1) (st .pre .0) _ lt, ap length (st .pre .1 .grouped) ∙ labels-long _ _ _, st .pre .1 .low _ lt)
+    (stream-within (st .args .t1) (st .pre .0) _ lt, st .pre .1 .grouped .long, st .pre .1 .low _ lt)
 
 array-set-from-r : tie.Need-array-set-from-r Inv-loop μ-loop
 array-set-from-r c = search needs

@@ -1,19 +1,20 @@
--- `groups::group` meets its contract: after i turns the labels are those after i steps.
-use mathlib.Core.Path.{_≡_, sym, _∙_, ap}
-use Prim.Native.Nat.{_≤_, _-_}
-use native.Mathlib.Omega.{arith}
+-- `groups::group` meets its contract: after i turns the labels are those of the groups by the first i streams.
+use mathlib.Core.Path.{_≡_, sym}
+use Prim.Native.Nat.{_≤_, _<_, _-_}
 use lib.ListN.{length}
+use native.Mathlib.Omega.{arith}
 use Rattle.plants.specs.Says.{plantOf}
-use Rattle.flows.specs.Labels.{labelsAfter}
+use native.Mathlib.Numerals.{add-one}
+use Rattle.flows.specs.Groups.{Groups}
 use Rattle.flows.specs.Calls.{counting}
-use Rattle.flows.proofs.Labels.{step-none, step-more, labels-long}
+use Rattle.flows.proofs.Grouping.{groups-none, ends-in}
 use Rattle.plants.proofs.Arrayed.{all-listed, listed-at, stream-within}
 use borrow.Author.Needs.{needs}
 use Rattle.groups.proofs.group.Statement.{statement}
 use Rattle.groups.proofs.group.Tie as tie
 
 abbrev Inv-loop : tie.InvT-loop
-Inv-loop which p n labels₀ i₀ labels i = (i ≤ p .count) × (labels ≡ labelsAfter (counting which) (plantOf p .streams) i)
+Inv-loop which p n labels₀ i₀ labels i = (i ≤ p .count) × Groups (counting which) (plantOf p .streams) i labels
 
 abbrev μ-loop : tie.MeasureT-loop
 μ-loop which p n labels₀ i₀ labels i = n - i
@@ -25,7 +26,7 @@ own-numbers-requires : tie.Need-own-numbers-requires Inv-loop μ-loop
 own-numbers-requires c κs = search needs
 
 loop-holds : tie.Need-loop-holds Inv-loop μ-loop
-loop-holds c = (omega arith, step-none _ _ _ (c .own-numbers .ensures))
+loop-holds c = (omega arith, groups-none _ _ _ (c .own-numbers .ensures))
 
 mul-s : tie.Need-mul-s Inv-loop μ-loop
 mul-s c = search needs
@@ -39,7 +40,7 @@ counts-requires c κs = search needs
 step-requires : tie.Need-step-requires Inv-loop μ-loop
 step-requires c κs =
     let st = c .before .before .before .before .before .before in
-    (stream-within (st .args .t1) (st .pre) _ (c .before .before .before .loop-test .taken), ap length (c .before .before .before .before .loop .inv .1) ∙ labels-long _ _ _)
+    (stream-within (st .args .t1) (st .pre) _ (c .before .before .before .loop-test .taken), c .before .before .before .before .loop .inv .1 .long)
 
 add-i : tie.Need-add-i Inv-loop μ-loop
 add-i c = search needs
@@ -51,15 +52,17 @@ loop-again : tie.Need-loop-again Inv-loop μ-loop
 loop-again c =
     let st = c .before .before .before .before .before .before .before in
     let at = c .before .before .before .before .before .loop in
-    let here = listed-at (st .args .t1) (st .pre) (at .i) (c .before .before .before .before .loop-test .taken) in
-    (omega arith, step-more _ _ (at .i) _ _ _ _ (at .inv .1) here (c .before .before .counts .ensures (at .i)) (c .step .ensures))
+    let taken = c .before .before .before .before .loop-test .taken in
+    let p = st .args .t1 in
+    let counts = c .before .before .counts .ensures (at .i) in
+    let listed : at .i < length (plantOf p .streams) = rw (all-listed p (st .pre)) taken in
+    (omega arith, rw (add-one (at .i)) (c .step .ensures .next _ _ (at .i) (ends-in p (st .pre)) listed (listed-at p (st .pre) (at .i) taken) (sym counts) (at .inv .1)))
 
 returns : tie.Need-returns Inv-loop μ-loop
 returns c =
-    let st = c .before .before .before in
     let at = c .before .loop in
-    let e : at .i ≡ st .args .t1 .count = omega arith in
-    at .inv .1 ∙ ap (labelsAfter _ _) (e ∙ sym (all-listed (st .args .t1) (st .pre)))
+    let e : at .i ≡ c .before .before .before .args .t1 .count = omega arith in
+    rw e at (at .inv .1)
 
 pub group-spec : {M : Type 1} → statement M
 group-spec =

@@ -1,15 +1,18 @@
--- `groups::step` meets its contract.
+-- `groups::step` meets its contract: it leaves the labels as they are, or gives both ends' groups the lower label.
 use mathlib.Core.Path.{_∙_}
 use native.Mathlib.Nat.{le-of-lt}
 use denote.Ref.{now}
 use borrow.Author.Tests.{not-true, not-false}
 use Rattle.flows.proofs.Labels.{stepped-none, stepped-one, stepped-up, stepped-down}
+use Rattle.flows.proofs.Grouping.{step-says}
 use borrow.Author.Needs.{needs}
 use Rattle.groups.proofs.step.Statement.{statement}
 use Rattle.groups.proofs.step.Tie as tie
 
 returns : tie.Need-returns
-returns c = let a = c .before .args in stepped-none (a .counts) (a .s) (now (a .labels)) (not-true (a .counts) (c .if1 .taken))
+returns c =
+    let a = c .before .args in
+    step-says (a .counts) (a .s) (now (a .labels)) _ (stepped-none (a .counts) (a .s) (now (a .labels)) (not-true (a .counts) (c .if1 .taken)))
 
 cast-u : tie.Need-cast-u
 cast-u c = search needs
@@ -26,7 +29,8 @@ element-copy-out-b c = search needs
 returns-2 : tie.Need-returns-2
 returns-2 c =
     let a = c .before .before .before .before .before .before .args in
-    stepped-one (a .counts) (a .s) (now (a .labels)) (not-false (a .counts) (c .before .before .before .before .before .if1 .left)) (c .if2 .taken)
+    let counts = not-false (a .counts) (c .before .before .before .before .before .if1 .left) in
+    step-says (a .counts) (a .s) (now (a .labels)) _ (stepped-one (a .counts) (a .s) (now (a .labels)) counts (c .if2 .taken))
 
 rename-requires : tie.Need-rename-requires
 rename-requires c κs = search needs
@@ -35,7 +39,7 @@ returns-3 : tie.Need-returns-3
 returns-3 c =
     let a = c .before .before .before .before .before .before .before .before .before .args in
     let counts = not-false (a .counts) (c .before .before .before .before .before .before .before .before .if1 .left) in
-    c .rename .ensures ∙ stepped-up (a .counts) (a .s) (now (a .labels)) counts (c .before .before .if3 .taken)
+    step-says (a .counts) (a .s) (now (a .labels)) _ (c .rename .ensures ∙ stepped-up (a .counts) (a .s) (now (a .labels)) counts (c .before .before .if3 .taken))
 
 rename-requires-2 : tie.Need-rename-requires-2
 rename-requires-2 c κs = search needs
@@ -44,7 +48,7 @@ returns-4 : tie.Need-returns-4
 returns-4 c =
     let a = c .before .before .before .before .before .before .before .before .before .args in
     let counts = not-false (a .counts) (c .before .before .before .before .before .before .before .before .if1 .left) in
-    c .rename2 .ensures ∙ stepped-down (a .counts) (a .s) (now (a .labels)) counts (le-of-lt (c .before .before .if3 .left))
+    step-says (a .counts) (a .s) (now (a .labels)) _ (c .rename2 .ensures ∙ stepped-down (a .counts) (a .s) (now (a .labels)) counts (le-of-lt (c .before .before .if3 .left)))
 
 pub step-spec : {M : Type 1} → statement M
 step-spec =

@@ -7,6 +7,7 @@ use borrow.Author.Needs.{needs}
 use Rattle.plants.specs.Says.{plantOf}
 use Rattle.flows.specs.Chains.{unmeteredOnly}
 use Rattle.flows.specs.Labels.{labelsOf}
+use Rattle.flows.proofs.Grouping.{labels-are}
 use Rattle.potentials.specs.Levels.{Level}
 use Rattle.model.specs.Sizes.{priceShift}
 use Rattle.model.specs.Sizes.{priceBand}
@@ -19,10 +20,10 @@ use Rattle.solver.proofs.starts.fast_start.Statement.{statement}
 use Rattle.solver.proofs.starts.fast_start.Tie as tie
 
 levels : (c : tie.After-potentials-of) → Level (labelsOf unmeteredOnly (plantOf (c .before .args .p))) priceShift priceBand (c .potentials-of .result)
-levels c = subst (λ (ls : List ℕ). Level ls priceShift priceBand (c .potentials-of .result)) (c .before .pre .1) (c .potentials-of .ensures)
+levels c = subst (λ (ls : List ℕ). Level ls priceShift priceBand (c .potentials-of .result)) (labels-are (c .before .args .p) (c .before .pre .0) unmeteredOnly _ (c .before .pre .1)) (c .potentials-of .ensures)
 
 potentials-of-requires : tie.Need-potentials-of-requires
-potentials-of-requires c κs = (c .pre .0, rw (c .pre .1) (labels-of (c .args .p) (c .pre .0)), omega arith)
+potentials-of-requires c κs = (c .pre .0, rw (labels-are (c .args .p) (c .pre .0) unmeteredOnly _ (c .pre .1)) (labels-of (c .args .p) (c .pre .0)), omega arith)
 
 cast-count : tie.Need-cast-count
 cast-count c = search needs
