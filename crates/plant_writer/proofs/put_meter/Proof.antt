@@ -8,9 +8,11 @@ use mir.Val.{SFits}
 use mir.Facts.{toZ-ofZ}
 use Rattle.numbers.specs.Bytes.{putBe, raw}
 use Rattle.numbers.proofs.Parts.{laid, lay}
-use Rattle.plants.specs.Limits.{meteredKind}
-use Rattle.plant_writer.proofs.put_metered.Statement.{statement}
-use Rattle.plant_writer.proofs.put_metered.Tie as tie
+use Rattle.plant_writer.proofs.put_meter.Statement.{statement}
+use Rattle.plant_writer.proofs.put_meter.Tie as tie
+
+reading-fits : (c : tie.After-struct-told) → SFits w32 (c .before .before .before .before .before .before .before .before .before .before .before .args .s .reading)
+reading-fits c = search needs
 
 put-ends-requires : tie.Need-put-ends-requires
 put-ends-requires c κs = search needs
@@ -43,15 +45,15 @@ same-length : tie.Need-same-length
 same-length c = search needs
 
 returns : tie.Need-returns
-returns c = let a = c .before .before .before .before .before .before .before .before .before .before .before .before .before .args in
-    let f : SFits w32 (a .reading) = c .before .before .before .before .before .before .before .before .before .before .before .before .before .fits .reading in
-    let o = now (a .out) in
-    let ends = laid (meteredKind ∷ a .from ∷ a .to ∷ []) o (omega arith) (c .before .before .before .before .before .before .before .before .before .before .put-ends .ensures) in
-    let weight = lay ends (putBe 2 (a .weight)) (omega arith) (c .before .before .before .before .before .before .put-u16 .ensures) in
-    lay weight (putBe 4 (raw 4 (a .reading))) (omega arith) (rw (toZ-ofZ f) at (c .before .before .put-i32 .ensures)) .bytes
+returns c =
+    let a = c .before .before .before .before .before .before .before .before .before .before .before .before .before .before .args in
+    let s = a .s in
+    let ends = laid (a .kind ∷ s .from ∷ s .to ∷ []) (now (a .out)) (omega arith) (c .before .before .before .before .before .before .before .before .before .before .before .put-ends .ensures) in
+    let weight = lay ends (putBe 2 (s .weight)) (omega arith) (c .before .before .before .before .before .before .before .put-u16 .ensures) in
+    lay weight (putBe 4 (raw 4 (s .reading))) (omega arith) (rw (toZ-ofZ (reading-fits (c .before .before .before))) at (c .before .before .put-i32 .ensures)) .bytes
 
-pub put-metered-spec : {M : Type 1} → statement M
-put-metered-spec =
+pub put-meter-spec : {M : Type 1} → statement M
+put-meter-spec =
     tie.close
     (tie.spec
     put-ends-requires
