@@ -1,11 +1,11 @@
--- `potentials::elimination::take_row` meets its contract: each store keeps the length.
+-- `laplacians::elimination::take_row` meets its contract: each store keeps the length.
 use mathlib.Core.Path.{_≡_}
 use Prim.Native.Nat.{_≤_, _-_, _+_}
 use lib.ListN.{length}
 use borrow.Author.Needs.{needs}
-use Rattle.potentials.specs.Levels.{cells}
-use Rattle.potentials.proofs.elimination.take_row.Statement.{statement}
-use Rattle.potentials.proofs.elimination.take_row.Tie as tie
+use Rattle.laplacians.specs.Cells.{cells}
+use Rattle.laplacians.proofs.elimination.take_row.Statement.{statement}
+use Rattle.laplacians.proofs.elimination.take_row.Tie as tie
 
 abbrev Inv-loop : tie.InvT-loop
 Inv-loop a₀ k i f from to j₀ a j = (j ≤ i + 2) × (length a ≡ cells)

@@ -6,10 +6,10 @@ ghost use mathlib.Core.Path.{_≡_};
 ghost use Prim.Native.Nat.{_<_, _≤_};
 ghost use lib.ListN.{length};
 ghost use Rattle.plants.specs.Limits.{places};
-ghost use Rattle.potentials.specs.Levels.{cells};
+ghost use Rattle.laplacians.specs.Cells.{cells};
 
 // A pivot below this vanishes: one of each connected piece, and the places that are no label.
-const LEAST_PIVOT: f64 = 0.000000001;
+const LEAST_PIVOT: f64 = 0.0000000000001;
 
 // Row i, up to its diagonal, less f times row k.
 fn take_row(a: &mut [f64; CELLS], k: usize, i: usize, f: f64)
@@ -59,8 +59,8 @@ pub fn eliminate(a: &mut [f64; CELLS], n: usize)
     }
 }
 
-// The price of place k, from those before it; 0 where the pivot vanished.
-fn price_at(a: &[f64; CELLS], x: &[f64; PLACES], k: usize) -> f64
+// The change of place k, from those before it; 0 where the pivot vanished.
+fn change_at(a: &[f64; CELLS], x: &[f64; PLACES], k: usize) -> f64
     requires { ⌜ (length (now a) ≡ cells) × (length (now x) ≡ places) × (k < places) ⌝ }
 {
     let row = k * WIDTH;
@@ -77,7 +77,7 @@ fn price_at(a: &[f64; CELLS], x: &[f64; PLACES], k: usize) -> f64
     rest / pivot
 }
 
-// The price of each of n places.
+// The change of each of n places.
 pub fn substitute(a: &[f64; CELLS], n: usize) -> [f64; PLACES]
     requires { ⌜ (length (now a) ≡ cells) × (n ≤ places) ⌝ }
     ensures { λ r. ⌜ length r ≡ places ⌝ }
@@ -85,7 +85,7 @@ pub fn substitute(a: &[f64; CELLS], n: usize) -> [f64; PLACES]
     let mut x = [0.0f64; PLACES];
     let mut k: usize = 0;
     while k < n {
-        x[k] = price_at(a, &x, k);
+        x[k] = change_at(a, &x, k);
         k += 1;
     }
     x

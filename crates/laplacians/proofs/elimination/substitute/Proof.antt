@@ -1,11 +1,11 @@
--- `potentials::elimination::substitute` meets its contract: each store keeps the length.
+-- `laplacians::elimination::substitute` meets its contract: each store keeps the length.
 use mathlib.Core.Path.{_≡_}
 use Prim.Native.Nat.{_≤_, _-_}
 use lib.ListN.{length}
 use borrow.Author.Needs.{needs}
 use Rattle.plants.specs.Limits.{places}
-use Rattle.potentials.proofs.elimination.substitute.Statement.{statement}
-use Rattle.potentials.proofs.elimination.substitute.Tie as tie
+use Rattle.laplacians.proofs.elimination.substitute.Statement.{statement}
+use Rattle.laplacians.proofs.elimination.substitute.Tie as tie
 
 abbrev Inv-loop : tie.InvT-loop
 Inv-loop a n x₀ k₀ x k = (k ≤ n) × (length x ≡ places)
@@ -16,8 +16,8 @@ abbrev μ-loop : tie.MeasureT-loop
 loop-holds : tie.Need-loop-holds Inv-loop μ-loop
 loop-holds c = search needs
 
-price-at-requires : tie.Need-price-at-requires Inv-loop μ-loop
-price-at-requires c κs = search needs
+change-at-requires : tie.Need-change-at-requires Inv-loop μ-loop
+change-at-requires c κs = search needs
 
 mul-x : tie.Need-mul-x Inv-loop μ-loop
 mul-x c = search needs
@@ -44,7 +44,7 @@ substitute-spec =
     Inv-loop
     μ-loop
     loop-holds
-    price-at-requires
+    change-at-requires
     mul-x
     array-write-x
     add-k

@@ -1,19 +1,19 @@
--- `potentials::laplacians::laplacian` meets its contract: each stream added keeps the length.
+-- `laplacians::laplacian` meets its contract: each stream added keeps the length.
 use mathlib.Core.Path.{_≡_}
 use Prim.Native.Nat.{_≤_, _-_}
 use native.Mathlib.Omega.{arith}
 use lib.ListN.{length}
 use borrow.Author.Needs.{needs}
-use Rattle.potentials.specs.Levels.{cells}
+use Rattle.laplacians.specs.Cells.{cells}
 use Rattle.plants.proofs.Arrayed.{stream-within}
-use Rattle.potentials.proofs.laplacians.laplacian.Statement.{statement}
-use Rattle.potentials.proofs.laplacians.laplacian.Tie as tie
+use Rattle.laplacians.proofs.laplacian.Statement.{statement}
+use Rattle.laplacians.proofs.laplacian.Tie as tie
 
 abbrev Inv-loop : tie.InvT-loop
-Inv-loop p labels n a₀ i₀ a i = (i ≤ p .count) × (length a ≡ cells)
+Inv-loop prices first p labels n a₀ i₀ a i = (i ≤ p .count) × (length a ≡ cells)
 
 abbrev μ-loop : tie.MeasureT-loop
-μ-loop p labels n a₀ i₀ a i = n - i
+μ-loop prices first p labels n a₀ i₀ a i = n - i
 
 cast-n : tie.Need-cast-n Inv-loop μ-loop
 cast-n c = search needs
@@ -31,7 +31,7 @@ join-requires : tie.Need-join-requires Inv-loop μ-loop
 join-requires c κs =
     let at = c .before .before .before .before in
     let st = at .before in
-    (at .loop .inv .1, stream-within (st .args .t1) (st .pre .0) _ (omega arith), st .pre .1)
+    (at .loop .inv .1, stream-within (st .args .t1) (st .pre .0) _ (omega arith), st .pre .1, st .pre .2)
 
 add-i : tie.Need-add-i Inv-loop μ-loop
 add-i c = search needs

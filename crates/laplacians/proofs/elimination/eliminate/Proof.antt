@@ -1,11 +1,11 @@
--- `potentials::elimination::eliminate` meets its contract: each place eliminated keeps the length.
+-- `laplacians::elimination::eliminate` meets its contract: each place eliminated keeps the length.
 use mathlib.Core.Path.{_≡_}
 use Prim.Native.Nat.{_≤_}
 use lib.ListN.{length}
 use borrow.Author.Needs.{needs}
-use Rattle.potentials.specs.Levels.{cells}
-use Rattle.potentials.proofs.elimination.eliminate.Statement.{statement}
-use Rattle.potentials.proofs.elimination.eliminate.Tie as tie
+use Rattle.laplacians.specs.Cells.{cells}
+use Rattle.laplacians.proofs.elimination.eliminate.Statement.{statement}
+use Rattle.laplacians.proofs.elimination.eliminate.Tie as tie
 
 abbrev Inv-loop : tie.InvT-loop
 Inv-loop a₀ n k₀ a k = (k ≤ n) × (length a ≡ cells)

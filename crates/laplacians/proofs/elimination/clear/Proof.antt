@@ -1,11 +1,11 @@
--- `potentials::elimination::clear` meets its contract: each row before keeps the length.
+-- `laplacians::elimination::clear` meets its contract: each row before keeps the length.
 use mathlib.Core.Path.{_≡_}
 use Prim.Native.Nat.{_≤_, _-_}
 use lib.ListN.{length}
 use borrow.Author.Needs.{needs}
-use Rattle.potentials.specs.Levels.{cells}
-use Rattle.potentials.proofs.elimination.clear.Statement.{statement}
-use Rattle.potentials.proofs.elimination.clear.Tie as tie
+use Rattle.laplacians.specs.Cells.{cells}
+use Rattle.laplacians.proofs.elimination.clear.Statement.{statement}
+use Rattle.laplacians.proofs.elimination.clear.Tie as tie
 
 abbrev Inv-loop : tie.InvT-loop
 Inv-loop a₀ k row pivot inverse i₀ a i = (i ≤ k) × (length a ≡ cells)

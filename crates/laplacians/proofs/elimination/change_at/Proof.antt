@@ -1,8 +1,8 @@
--- `potentials::elimination::price_at` meets its contract: every cell read is one of the row.
+-- `laplacians::elimination::change_at` meets its contract: every cell read is one of the row.
 use Prim.Native.Nat.{_≤_, _-_}
 use borrow.Author.Needs.{needs}
-use Rattle.potentials.proofs.elimination.price_at.Statement.{statement}
-use Rattle.potentials.proofs.elimination.price_at.Tie as tie
+use Rattle.laplacians.proofs.elimination.change_at.Statement.{statement}
+use Rattle.laplacians.proofs.elimination.change_at.Tie as tie
 
 abbrev Inv-loop : tie.InvT-loop
 Inv-loop a x k row pivot rest₀ j₀ rest j = j ≤ k
@@ -67,8 +67,8 @@ loop-again c = search needs
 returns-2 : tie.Need-returns-2 Inv-loop μ-loop
 returns-2 c = search needs
 
-pub price-at-spec : {M : Type 1} → statement M
-price-at-spec =
+pub change-at-spec : {M : Type 1} → statement M
+change-at-spec =
     tie.close
     (tie.spec
     Inv-loop
