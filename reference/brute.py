@@ -3,7 +3,9 @@
     python3 reference/brute.py
 
 The brute force follows the definitions word for word: it lists the balanced
-flows that could be the cheapest and takes the least by cost and tie rule.
+flows in range that could be the cheapest and takes the least by cost and tie
+rule; where there are none, the set of places is tested, and where there are some,
+that no set of places must take in more than it can let out.
 """
 
 import math
@@ -12,7 +14,7 @@ import struct
 import sys
 import time
 from fractions import Fraction
-from itertools import product
+from itertools import combinations, product
 
 import solver
 from solver import Plant, Stream
@@ -30,13 +32,14 @@ def net_inflow(plant, flow):
 
 
 def balanced_flows(plant, budget):
-    """Balanced flows of cost up to the budget, enough of them to tell the cheapest and the classes.
+    """Balanced flows in range of cost up to the budget, enough of them to tell the cheapest and the classes.
 
     Metered amounts: the cost of one stream alone keeps within the budget. Also
-    none exceeds the sum of all readings' sizes: take a flow apart into cycles of
-    ones that run as it runs; if it is cheapest, taking away one cycle gains
-    nothing, so some metered stream of the cycle carries no more than its reading;
-    hence there are at most that many cycles with metered streams.
+    none exceeds the sum of all sizes of readings and ends of ranges, the greatest of
+    each stream: take a flow apart into cycles of ones that run as it runs; if it is
+    cheapest, taking away one cycle gains nothing or leaves a range, so some metered
+    stream of the cycle carries no more than its reading or its end; hence there are
+    at most that many cycles with metered streams.
 
     Unmetered amounts: if some balance the metered ones, so do some over a forest,
     each at most half of what the metered ones leave over at all places; and if two
@@ -50,7 +53,7 @@ def balanced_flows(plant, budget):
         ends = [i for i in order if place in streams[i][:2]]
         if ends:
             closes[ends[-1]].append(place)
-    most = sum(abs(s.reading) for s in streams)
+    most = farthest(plant)
     flow = [0] * len(streams)
     left = [0] * (plant.units + 1)
 
@@ -59,10 +62,12 @@ def balanced_flows(plant, budget):
             yield tuple(flow)
             return
         i = order[k]
-        source, target, weight, reading = streams[i]
+        source, target, weight, reading, least, greatest = streams[i]
         if weight:
             reach = math.isqrt(spare // weight)
             low, high = max(-most, reading - reach), min(most, reading + reach)
+            if least is not None:
+                low, high = max(low, least), min(high, greatest)
         else:
             if bound is None:
                 bound = sum(map(abs, left)) // 2 + 1
@@ -79,15 +84,37 @@ def balanced_flows(plant, budget):
     return choose(0, budget, None)
 
 
+def farthest(plant):
+    """What no metered amount of a cheapest flow exceeds."""
+    return sum(max(abs(s.reading), abs(s.low or 0), abs(s.high or 0)) for s in plant.streams)
+
+
+def must_take_more(plant, places):
+    """Whether the places must take in more than they can let out, from the definition."""
+    across = [s for s in plant.streams if (s.source in places) != (s.target in places)]
+    if not all(s.metered and s.ranged for s in across):
+        return False
+    return sum(s.low for s in across if s.target in places) > sum(s.high for s in across if s.source in places)
+
+
+def some_overfull(plant):
+    """Whether some set of places must take in more than it can let out: all are tried."""
+    places = range(plant.units + 1)
+    return any(must_take_more(plant, chosen) for k in places for chosen in combinations(places, k))
+
+
 def brute_flows(plant):
-    """The least cost, how many choices of metered amounts have it, and flows with the one to take."""
+    """The least cost, how many choices of metered amounts have it, and flows with the one to take; None where there are none."""
 
     def key(flow):
         amounts = tuple(x for s, x in zip(plant.streams, flow) if s.metered)
         return sum(s.weight * (x - s.reading) ** 2 for s, x in zip(plant.streams, flow)), amounts
 
     budget = 1
+    dearest = sum(s.weight * (farthest(plant) + abs(s.reading)) ** 2 for s in plant.streams)
     while not (flows := list(balanced_flows(plant, budget))):
+        if budget > dearest:
+            return None
         budget *= 2
     keys = set(map(key, flows))
     best = min(keys)
@@ -108,8 +135,10 @@ def joined(plant, chosen):
 
 
 def brute_balance(plant):
-    """The balance of a plant, and whether the tie rule chose it."""
-    cost, equal, flows = brute_flows(plant)
+    """The balance of a plant, and whether the tie rule chose it; None where no balanced flow is in range."""
+    if (found := brute_flows(plant)) is None:
+        return None
+    cost, equal, flows = found
     group = joined(plant, lambda s: not s.metered)
     piece = joined(plant, lambda s: True)
     classes, numbers = "", []
@@ -144,6 +173,23 @@ def small_plant(rng):
         else:
             streams.append(Stream(source, target))
     return Plant(units, tuple(streams))
+
+
+def ranged_plant(rng):
+    """A small plant, some of its meters with ranges."""
+    plant = small_plant(rng)
+    share = rng.choice((0.3, 0.7, 1.0))
+    span = rng.randint(0, 5)
+
+    def within(s):
+        if not s.metered or rng.random() > share:
+            return s
+        low, high = sorted((rng.randint(-span, span), rng.randint(-span, span)))
+        if rng.random() < 0.2:
+            low = high
+        return s._replace(low=low, high=high)
+
+    return plant._replace(streams=tuple(map(within, plant.streams)))
 
 
 def large_plant(rng, units, count, metered_share):
@@ -234,8 +280,8 @@ def chi_square_below(degrees, value):
     return total * math.exp(a * math.log(half) - half - math.lgamma(a))
 
 
-def metered(source, target, reading, weight=10):
-    return Stream(source, target, weight, reading)
+def metered(source, target, reading, weight=10, low=None, high=None):
+    return Stream(source, target, weight, reading, low, high)
 
 
 # The plants to try whose answers the definition states.
@@ -250,12 +296,16 @@ STATED = (
     ((metered(0, 1, 62, 1),), 1, "A", (0,), 3844, 1, 1),
     ((), 1, "", (), 0, 0, 2),
     ((metered(0, 1, 100), Stream(1, 2), Stream(1, 2), metered(2, 0, 98)), 2, "AWWA", (99, None, None, 99), 20, 1, 0),
+    # With ranges: an end blocks the tie, one gives way for another, the nearest value in range is shown and costs.
+    ((metered(0, 1, 100, low=102, high=105), metered(1, 0, 103)), 1, "AA", (102, 102), 50, 1, 0),
+    ((metered(0, 1, 101), metered(1, 0, 60, low=61, high=70), metered(1, 0, 40)), 1, "AAA", (101, 61, 40), 10, 1, 0),
+    ((metered(0, 1, 100, low=-5, high=7), Stream(1, 0)), 1, "RG", (7, 7), 86_490, 0, 2),
 )
 
 LISTING_PLANT = "01 02  02 00 01 00 0A 00 00 00 64  03 01 02  03 01 02  02 02 00 00 0A 00 00 00 62  04 04"
 LISTING = "1 A 99\n2 W -\n3 W -\n4 A 99\ntotal 1 20 1 pass\n"
 
-# Files for each refusal of a file.
+# Files for each refusal of a file, and for 19.
 REFUSED = (
     ("", 3), ("01", 3), ("01 01", 3), ("01 01 04", 3), ("01 01 02 00 01 00 0A 00 00 00", 3),
     ("00", 4), ("02", 4), ("01 01 01", 4), ("01 01 05", 4), ("01 01 11", 4),
@@ -265,6 +315,14 @@ REFUSED = (
     ("01 01 03 00 00", 8), ("01 01 03 01 01", 8),
     ("01 01 02 00 01 00 00 00 00 00 00", 9), ("01 01 02 00 01 03 E9 00 00 00 00", 9),
     ("01 01 02 00 01 00 01 00 3D 09 01", 10), ("01 01 02 00 01 00 01 FF C2 F6 FF", 10),
+    ("01 01 06 00 01 00 01 00 00 00 05 00 00 00 01 00 00 00 00", 18),
+    ("01 01 06 00 01 00 01 00 00 00 05 00 00 00 01 77 35 94 01", 18),
+    ("01 01 06 00 01 00 01 00 00 00 05 88 CA 6B FF 00 00 00 00", 18),
+    ("01 01 06 00 01 00 01 00 3D 09 01 00 00 00 01 00 00 00 00", 10),
+    ("01 01 06 00 01 00 00 00 00 00 05 00 00 00 01 00 00 00 00", 9),
+    ("01 01 06 00 01 00 01 00 00 00 05 00 00 00 01 00 00 00 09 04 01", 19),
+    ("01 01 06 00 01 00 01 00 00 00 05 00 00 00 01 00 00 00 09 04 00", 11),
+    ("01 01 06 00 01 00 01 00 00 00 05 00 00 00 01 00 00 00 09 04 01 00", 12),
     ("01 01 04 01", 11), ("01 01 03 00 01 04 00", 11), ("01 01 04 01 00", 11),
     ("01 01 04 00 00", 12),
 )
@@ -326,6 +384,31 @@ def check_small(count):
     return count
 
 
+def check_ranged(count):
+    """Small plants with ranges: the balance, or the set of places where there is none."""
+    rng = random.Random(3)
+    none = ties = 0
+    for _ in range(count):
+        plant = ranged_plant(rng)
+        try:
+            result = solver.balance(plant)
+        except solver.Overfull as overfull:
+            none += 1
+            expect((plant, overfull.places), must_take_more(plant, overfull.places), True)
+            expect(plant, brute_balance(plant), None)
+            continue
+        wanted = brute_balance(plant)
+        expect(plant, wanted is not None, True)
+        expect(plant, result, wanted[0])
+        expect(plant, some_overfull(plant), False)
+        ties += wanted[1]
+        for letter, amount, s in zip(result.classes, result.numbers, plant.streams):
+            if letter == "R" and s.ranged:
+                expect(plant, amount, sorted((s.low, s.reading, s.high))[1])
+    print(f"  with ties {ties}; with no flow in range {none}")
+    return count
+
+
 def check_large(count):
     """On large plants: balance, the bound from the optimum in fractions, and renumbered places."""
     rng = random.Random(2)
@@ -354,6 +437,7 @@ def main():
         ("refused files", check_refused),
         ("critical values", check_critical),
         ("small plants against brute force", lambda: check_small(30_000)),
+        ("small plants with ranges against brute force", lambda: check_ranged(30_000)),
         ("large plants", lambda: check_large(80)),
     ):
         start = time.monotonic()

@@ -17,7 +17,7 @@ import subjects
 ROOT = Path(__file__).resolve().parent.parent
 VECTORS = ROOT / "crates" / "vectors"
 DATA = VECTORS / "data"
-CASES_AT_LEAST = 1_700
+CASES_AT_LEAST = 3_700
 
 
 def difference(made, kept):

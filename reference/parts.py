@@ -108,7 +108,10 @@ class Unhinted(NamedTuple):
     expected: int | None = 0
 
     def record(self):
-        result = solver.balance(solver.read_plant(self.file))
+        try:
+            result = solver.balance(solver.read_plant(self.file))
+        except solver.Overfull:
+            return meant(self, cases.Record(cases.UNHINTED, bytes(cases.STREAMS) + self.file, 8 * cases.STREAMS, b"", returned=19))
         asked = bytes(amount is not None for amount in result.numbers).ljust(cases.STREAMS, b"\0")
         flows = b"".join(cases.number(amount or 0, 8) for amount in result.numbers).ljust(8 * cases.STREAMS, b"\0")
         return meant(self, cases.Record(cases.UNHINTED, asked + self.file, len(flows), flows))
@@ -156,6 +159,18 @@ class Translation(NamedTuple):
         ))
 
 
+class Closing(NamedTuple):
+    """The closing of prices: before, and after."""
+
+    before: tuple
+    after: tuple
+    expected: int | None = None
+
+    def record(self):
+        given, answer = (b"".join(cases.number(price, 8) for price in prices) for prices in (self.before, self.after))
+        return meant(self, cases.Record(cases.CLOSING, given, len(answer), answer))
+
+
 def meant(case, record):
     """The record, if it has the number that the case was built for."""
     if case.expected is not None and record.returned != case.expected:
@@ -165,8 +180,8 @@ def meant(case, record):
 
 def parts_of(streams):
     """The 96 records of streams, empty ones past the last."""
-    empty = (0, 0, False, 0, 0)
-    whole = [(s.source, s.target, s.metered, s.weight, s.reading) for s in streams]
+    empty = (0, 0, False, 0, 0, False, 0, 0)
+    whole = [(s.source, s.target, s.metered, s.weight, s.reading, s.ranged, s.low or 0, s.high or 0) for s in streams]
     return b"".join(cases.stream(*s) for s in whole + [empty] * (cases.STREAMS - len(whole)))
 
 
@@ -178,19 +193,33 @@ def metered(source, target, reading, weight=10):
     return Stream(source, target, weight, reading)
 
 
+def ranged(source, target, reading, low, high, weight=10):
+    return Stream(source, target, weight, reading, low, high)
+
+
+def within(stream, low, high):
+    """The stream with a range."""
+    return stream._replace(low=low, high=high)
+
+
 def site_record(units):
     return bytes((0x01, units))
 
 
 def stream_record(stream):
-    """A record of a stream; weights and readings out of their ranges are written as they are."""
+    """A record of a stream; weights, readings and ranges out of their limits are written as they are."""
     if stream.weight == 0:
         return bytes((0x03, stream.source, stream.target))
-    return metered_record(*stream)
+    return ranged_record(*stream) if stream.ranged else metered_record(*stream[:4])
 
 
 def metered_record(source, target, weight, reading):
     return bytes((0x02, source, target)) + weight.to_bytes(2, "big") + reading.to_bytes(4, "big", signed=True)
+
+
+def ranged_record(source, target, weight, reading, low, high):
+    ends = low.to_bytes(4, "big", signed=True) + high.to_bytes(4, "big", signed=True)
+    return b"\x06" + metered_record(source, target, weight, reading)[1:] + ends
 
 
 def end_record(count):

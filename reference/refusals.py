@@ -2,9 +2,9 @@
 
 import samples
 from parts import (
-    Case, Draws, end_record, metered, metered_record, plant_file, site_record, stream_record, unmetered,
+    Case, Draws, end_record, metered, metered_record, plant_file, ranged_record, site_record, stream_record, unmetered,
 )
-from solver import LAST_SHEET, READING as MOST, SHEET_LENGTH
+from solver import LAST_SHEET, RANGE, READING as MOST, SHEET_LENGTH
 
 LISTING = samples.LISTING.file
 LONGEST = plant_file(32, [metered(k % 32, k % 32 + 1, 1_000 + k, 10) for k in range(96)])
@@ -63,6 +63,10 @@ def damaged():
     for reading in (MOST + 1, -MOST - 1, 2**31 - 1, -(2**31), 2**24, -(2**24)):
         yield Case(file(metered_record(0, 1, 10, reading), count=1), expected=10)
         yield Case(file(free, back, metered_record(1, 0, 1_000, reading), count=3), expected=10)
+    # 18: the range.
+    for low, high in ((1, 0), (0, -1), (-RANGE - 1, 0), (0, RANGE + 1), (RANGE + 1, RANGE + 1), (2**31 - 1, -(2**31))):
+        yield Case(file(ranged_record(0, 1, 10, 5, low, high), count=1), expected=18)
+        yield Case(file(free, back, ranged_record(1, 0, 1_000, -5, low, high), count=3), expected=18)
     # 11: the count at the end.
     for count in (0, 1, 3, 4, 98, 255):
         yield Case(file(good, back, count=count), expected=11)

@@ -1,11 +1,11 @@
-"""The two sample plants: units, streams, plant files, a transmitter file, and what samples/README.md must show of them."""
+"""The sample plants: units, streams, plant files, a transmitter file, and what samples/README.md must show of them."""
 
 import struct
 from typing import NamedTuple
 
 import solver
 import transmitter
-from parts import metered, plant_file, unmetered
+from parts import metered, plant_file, unmetered, within
 
 
 class Sample(NamedTuple):
@@ -22,11 +22,13 @@ class Sample(NamedTuple):
         return f"{number} {self.units[number - 1]}" if number else "0 outside"
 
     def table(self):
-        """The streams as a table in text."""
-        lines = ["| stream | what | from | to | weight | reading |", "|---|---|---|---|---|---|"]
+        """The streams as a table in text; with a column of ranges where there are any."""
+        ranges = any(s.ranged for s in self.streams)
+        lines = ["| stream | what | from | to | weight | reading |" + " range |" * ranges, "|---" * (6 + ranges) + "|"]
         for k, (name, s) in enumerate(zip(self.stream_names, self.streams), 1):
             meter = f"{s.weight} | {s.reading}" if s.weight else "not metered |"
-            lines.append(f"| {k} | {name} | {self.place(s.source)} | {self.place(s.target)} | {meter} |")
+            limits = (f" {s.low} to {s.high} |" if s.ranged else " |") * ranges
+            lines.append(f"| {k} | {name} | {self.place(s.source)} | {self.place(s.target)} | {meter} |{limits}")
         return "\n".join(lines) + "\n"
 
 
@@ -87,7 +89,43 @@ STEAM_SITE = Sample(
     tuple(stream for _, stream in _STEAM_SITE),
 )
 
-SAMPLES = (LISTING, STEAM_SITE)
+_RATED_SITE = (
+    ("feedwater", within(metered(0, 1, 10_172, 4), 0, 12_000)),
+    ("blowdown", within(metered(1, 0, 161, 40), 100, 400)),
+    ("steam of the boiler", within(metered(1, 2, 10_041, 1), 0, 10_000)),
+    ("steam to the turbine", within(metered(2, 3, 6_008, 1), 2_000, 5_970)),
+    ("exhaust of the turbine", metered(3, 4, 5_984, 1)),
+    ("reducing station", within(metered(2, 4, 4_019, 1), 0, 8_000)),
+    ("steam to the works", unmetered(4, 0)),
+    ("vent of the header", within(metered(4, 0, -12, 10), 0, 500)),
+)
+
+RATED_SITE = Sample(
+    "rated_site",
+    ("boiler", "high-pressure header", "turbine", "low-pressure header"),
+    tuple(name for name, _ in _RATED_SITE),
+    tuple(stream for _, stream in _RATED_SITE),
+)
+
+_OVERFULL_SITE = (
+    ("feedwater", unmetered(0, 1)),
+    ("steam of the boiler", within(metered(1, 2, 8_140, 1), 8_000, 20_000)),
+    ("reducing station", unmetered(2, 3)),
+    ("steam to the dryers", within(metered(3, 4, 4_960, 2), 0, 5_000)),
+    ("steam to the dye house", within(metered(3, 5, 2_480, 2), 0, 2_500)),
+    ("flash steam of the dryers", within(metered(4, 3, 210, 10), 150, 400)),
+    ("condensate of the dryers", unmetered(4, 0)),
+    ("condensate of the dye house", unmetered(5, 0)),
+)
+
+OVERFULL_SITE = Sample(
+    "overfull_site",
+    ("boiler", "high-pressure header", "low-pressure header", "dryers", "dye house"),
+    tuple(name for name, _ in _OVERFULL_SITE),
+    tuple(stream for _, stream in _OVERFULL_SITE),
+)
+
+SAMPLES = (LISTING, STEAM_SITE, RATED_SITE, OVERFULL_SITE)
 
 
 def files():

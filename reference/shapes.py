@@ -1,4 +1,4 @@
-"""Plants of plain shapes: paths, stars, rings, ladders, trees, parallel streams, several pieces."""
+"""Plants of plain shapes: paths, stars, rings, ladders, trees, parallel streams, several pieces; and the shape of a site."""
 
 from parts import Draws, metered, taken, unmetered
 from solver import READING as MOST
@@ -57,6 +57,36 @@ SHAPES = (
     (path, 32), (open_path, 32), (star, 32), (wheel, 32), (ring, 32), (star_of_unit, 32), (ladder, 32), (tree, 32),
     (all_pairs, 13), (two_pieces, 32), (path, 7), (wheel, 5), (ring, 3), (tree, 6),
 )
+
+
+def site_streams(draws, boilers, turbines, buildings, per_cent):
+    """A steam and condensate network and its number of units.
+
+    Deaerator, feed pump, boilers, high and low header, turbines, buildings, condensate tank.
+    """
+    deaerator, pump, high, low, tank = 1, 2, 3, 4, 5
+    units = 5 + boilers + turbines + buildings
+    boiler = range(6, 6 + boilers)
+    turbine = range(6 + boilers, 6 + boilers + turbines)
+    building = range(6 + boilers + turbines, units + 1)
+    ends = [(0, deaerator), (deaerator, pump), (low, deaerator), (tank, deaerator), (deaerator, 0), (high, low)]
+    for b in boiler:
+        ends += [(pump, b), (b, high), (b, 0)]
+    for t in turbine:
+        ends += [(high, t), (t, low), (t, tank)]
+    for k, b in enumerate(building):
+        ends += [(low if k % 3 else high, b), (b, tank)]
+        if draws.chance(60):
+            ends.append((b, 0))
+        if k and draws.chance(25):
+            ends.append((b - 1, b))
+    ends = draws.shuffled(ends)[:96] if draws.chance(30) else ends[:96]
+    weights = draws.pick(((10,), (1, 4, 10, 40, 100), (1_000, 250, 1), (1, 1_000)))
+    streams = [
+        metered(a, b, 0, draws.pick(weights)) if draws.chance(per_cent) else unmetered(a, b)
+        for a, b in ends
+    ]
+    return units, streams
 
 
 def cases():

@@ -3,7 +3,7 @@
 import files_to_try
 import samples
 from parts import Draws, Keeping, plant_file
-from solver import KIND, LAST_SHEET, STREAMS, TOTAL, read_plant, balance, sheet_bytes
+from solver import KIND, LAST_SHEET, STREAMS, TOTAL, Overfull, balance, read_plant, sheet_bytes
 
 KINDS = tuple(KIND.values())
 
@@ -24,7 +24,10 @@ def sheet_of(units, streams, number=1):
 def whole():
     """Sheets that are read."""
     for k, (units, streams) in enumerate(files_to_try.drawn_plants(), 1):
-        yield sheet_of(units, streams, k)
+        try:
+            yield sheet_of(units, streams, k)
+        except Overfull:
+            continue  # such a plant has no sheet
     yield total()
     for number in (1, 2, 2**31, LAST_SHEET):
         yield total(number)

@@ -1,7 +1,8 @@
 """Reference solver for steam and condensate balance sheets, in exact integers.
 
-A balanced flow is improved along cycles of streams until no cycle improves it;
-the classes come from a depth-first search over the unmetered streams.
+A balanced flow in range is found along shortest ways, and improved along cycles
+of streams until no cycle improves it; the classes come from a depth-first search
+over the unmetered streams.
 README.md beside this file says why that is right.
 
     python3 reference/solver.py < samples/listing.bin
@@ -14,12 +15,14 @@ UNITS = 32
 STREAMS = 96
 WEIGHT = 1_000
 READING = 4_000_000
-FILE_LENGTH = 868
+RANGE = 2_000_000_000
+FILE_LENGTH = 1_636
 SHEET_LENGTH = 879
 LAST_SHEET = 4_294_967_295
+MOST_COST = 18_446_744_073_709_551_615
 
-SITE, METERED, UNMETERED, END = 0x01, 0x02, 0x03, 0x04
-BODY = {SITE: 1, METERED: 8, UNMETERED: 2, END: 1}
+SITE, METERED, UNMETERED, END, RANGED = 0x01, 0x02, 0x03, 0x04, 0x06
+BODY = {SITE: 1, METERED: 8, UNMETERED: 2, END: 1, RANGED: 16}
 
 KIND = {"A": 0x11, "R": 0x12, "G": 0x13, "W": 0x14}
 TOTAL = 0x1F
@@ -35,16 +38,22 @@ CRITICAL = (
 
 
 class Stream(NamedTuple):
-    """A stream; an unmetered one has weight 0 and reading 0."""
+    """A stream; an unmetered one has weight 0 and reading 0, one without a range neither low nor high."""
 
     source: int
     target: int
     weight: int = 0
     reading: int = 0
+    low: int | None = None
+    high: int | None = None
 
     @property
     def metered(self):
         return self.weight > 0
+
+    @property
+    def ranged(self):
+        return self.low is not None
 
 
 class Plant(NamedTuple):
@@ -70,11 +79,19 @@ class Refused(Exception):
         self.number = number
 
 
+class Overfull(Exception):
+    """No balanced flow lies within all ranges: a set of places that must take in more than it can let out."""
+
+    def __init__(self, places):
+        super().__init__(places)
+        self.places = places
+
+
 # Plant file
 
 
 def read_plant(data):
-    """The plant of a plant file, or Refused with 3 to 12."""
+    """The plant of a plant file, or Refused with 3 to 12 or 18."""
     place = 0
 
     def record(allowed, listed):
@@ -84,7 +101,7 @@ def read_plant(data):
         kind = data[place]
         if kind not in allowed:
             raise Refused(4)
-        if kind in (METERED, UNMETERED) and listed == STREAMS:
+        if kind in (METERED, RANGED, UNMETERED) and listed == STREAMS:
             raise Refused(5)
         body = data[place + 1 : place + 1 + BODY[kind]]
         if len(body) < BODY[kind]:
@@ -98,7 +115,7 @@ def read_plant(data):
         raise Refused(6)
     streams = []
     while True:
-        kind, body = record((METERED, UNMETERED, END), len(streams))
+        kind, body = record((METERED, RANGED, UNMETERED, END), len(streams))
         if kind == END:
             break
         source, target = body[0], body[1]
@@ -110,17 +127,23 @@ def read_plant(data):
             streams.append(Stream(source, target))
             continue
         weight = int.from_bytes(body[2:4], "big")
-        reading = int.from_bytes(body[4:8], "big", signed=True)
+        reading, *ends = (int.from_bytes(body[k : k + 4], "big", signed=True) for k in range(4, len(body), 4))
         if not 1 <= weight <= WEIGHT:
             raise Refused(9)
         if not -READING <= reading <= READING:
             raise Refused(10)
-        streams.append(Stream(source, target, weight, reading))
+        if kind == RANGED and not range_taken(*ends):
+            raise Refused(18)
+        streams.append(Stream(source, target, weight, reading, *ends))
     if body[0] != len(streams):
         raise Refused(11)
     if place < len(data):
         raise Refused(12)
     return Plant(units, tuple(streams))
+
+
+def range_taken(low, high):
+    return -RANGE <= low <= high <= RANGE
 
 
 def read_call(data):
@@ -150,16 +173,83 @@ def write_call(units, count, streams, slice_length):
                 raise Refused(9)
             if s.metered and abs(s.reading) > READING:
                 raise Refused(10)
-            file += bytes((METERED if s.metered else UNMETERED, s.source, s.target))
+            if s.metered and s.ranged and not range_taken(s.low, s.high):
+                raise Refused(18)
+            file += bytes(((RANGED if s.ranged else METERED) if s.metered else UNMETERED, s.source, s.target))
             if s.metered:
-                file += s.weight.to_bytes(2, "big") + s.reading.to_bytes(4, "big", signed=True)
+                signed = (s.reading, s.low, s.high) if s.ranged else (s.reading,)
+                file += s.weight.to_bytes(2, "big") + b"".join(x.to_bytes(4, "big", signed=True) for x in signed)
     except Refused as refusal:
         return refusal.number, 0, b""
     file += bytes((END, count))
     return 0, len(file), file
 
 
-# The cheapest balanced flow
+# A balanced flow in range
+
+
+def room(stream, amount, sign):
+    """How much an amount may move in a direction and keep in range; None where nothing stops it."""
+    if not stream.ranged:
+        return None
+    return stream.high - amount if sign > 0 else amount - stream.low
+
+
+def nearest(stream, amount):
+    """The nearest value in range."""
+    return max(stream.low, min(stream.high, amount)) if stream.ranged else amount
+
+
+def flow_in_range(plant):
+    """A balanced flow in range, or Overfull.
+
+    Amounts start as near to 0 as their ranges let them. What a place then has too
+    much goes along shortest ways that keep in range to places that have too little
+    (Edmonds and Karp). Where no way is left, no stream out of the places reached can
+    carry more, and none into them less: they must take in more than they can let out.
+    """
+    streams = plant.streams
+    flow = [nearest(s, 0) for s in streams]
+    over = [0] * (plant.units + 1)
+    for s, x in zip(streams, flow):
+        over[s.source] -= x
+        over[s.target] += x
+    links = links_of(plant, lambda s: True)
+    for start in range(plant.units + 1):
+        while over[start] > 0:
+            end, came = way_in_range(streams, flow, links, over, start)
+            if end is None:
+                raise Overfull(frozenset(came))
+            way = []
+            at = end
+            while at != start:
+                at, i, sign = came[at]
+                way.append((i, sign))
+            rooms = [room(streams[i], flow[i], sign) for i, sign in way]
+            amount = min(over[start], -over[end], *(r for r in rooms if r is not None))
+            for i, sign in way:
+                flow[i] += sign * amount
+            over[start] -= amount
+            over[end] += amount
+    return flow
+
+
+def way_in_range(streams, flow, links, over, start):
+    """The first place found that has too little, or None; and for each place reached the hop to it, (from, stream, sign)."""
+    came = {start: None}
+    todo = [start]
+    for at in todo:
+        if over[at] < 0:
+            return at, came
+        for other, i in links[at]:
+            sign = 1 if streams[i].source == at else -1
+            if other not in came and room(streams[i], flow[i], sign) != 0:
+                came[other] = (at, i, sign)
+                todo.append(other)
+    return None, came
+
+
+# The cheapest balanced flow in range
 
 
 def cost_of(streams, flow):
@@ -167,7 +257,7 @@ def cost_of(streams, flow):
 
 
 def cheapest_flow(plant):
-    """A balanced flow, least by cost, then by the first metered stream, the second, and so on.
+    """A balanced flow in range, least by cost, then by the first metered stream, the second, and so on; or Overfull.
 
     One objective says both: with m metered streams, 2^m times the cost plus
     2^(m-k) times the flow of the k-th metered stream. Only the metered amounts
@@ -181,8 +271,8 @@ def cheapest_flow(plant):
         square[i] = streams[i].weight << len(metered)
         slope[i] = 1 << (len(metered) - k)
 
-    flow = [0] * len(streams)
-    step = 1 << max((abs(s.reading) for s in streams), default=0).bit_length()
+    flow = flow_in_range(plant)
+    step = 1 << max((abs(x) for s in streams for x in (s.reading, s.low or 0, s.high or 0)), default=0).bit_length()
     while step:
         while cycles := improving_cycles(plant, flow, square, slope, step):
             for cycle in cycles:
@@ -192,7 +282,7 @@ def cheapest_flow(plant):
 
 
 def improving_cycles(plant, flow, square, slope, step):
-    """Cycles, no two with a place in common, along which a step lowers the objective.
+    """Cycles, no two with a place in common, along which a step keeps in range and lowers the objective.
 
     Empty only if there is no such cycle. A cycle is a list of (stream, sign).
     Least lengths of walks, by passes over all hops; a pass that would have to
@@ -207,6 +297,9 @@ def improving_cycles(plant, flow, square, slope, step):
             ((s.source, s.target), 1, bend + ahead),
             ((s.target, s.source), -1, bend - ahead),
         ):
+            free = room(s, flow[i], sign)
+            if free is not None and free < step:
+                continue
             if ends not in hops or change < hops[ends][0]:
                 hops[ends] = (change, i, sign)
     table = [(a, b, change, i, sign) for (a, b), (change, i, sign) in hops.items()]
@@ -248,10 +341,12 @@ def closed_hops(came):
 
 
 def improve(streams, flow, square, slope, step, cycle):
-    """Go along the cycle by the multiple of the step that lowers the objective most."""
+    """Go along the cycle by the multiple of the step, in range, that lowers the objective most."""
     bend = step * sum(square[i] for i, _ in cycle)
     ahead = sum(sign * (2 * square[i] * (flow[i] - streams[i].reading) + slope[i]) for i, sign in cycle)
-    amount = step * ((bend - ahead) // (2 * bend))
+    rooms = [room(streams[i], flow[i], sign) for i, sign in cycle]
+    times = [(bend - ahead) // (2 * bend)] + [free // step for free in rooms if free is not None]
+    amount = step * min(times)
     for i, sign in cycle:
         flow[i] += sign * amount
 
@@ -324,7 +419,7 @@ def given_number(plant, flow, links, i):
 
 
 def balance(plant):
-    """The balance of a plant."""
+    """The balance of a plant, or Overfull."""
     flow = cheapest_flow(plant)
     unmetered = links_of(plant, lambda s: not s.metered)
     groups = parts_of(unmetered)
@@ -362,7 +457,7 @@ def sheet_bytes(result, number):
         sheet += bytes([KIND[letter]])
         if letter != "W":
             sheet += amount.to_bytes(8, "big", signed=True)
-    sheet += bytes([TOTAL]) + number.to_bytes(4, "big") + result.cost.to_bytes(8, "big")
+    sheet += bytes([TOTAL]) + number.to_bytes(4, "big") + min(result.cost, MOST_COST).to_bytes(8, "big")
     return sheet + bytes([result.degrees, result.verdict])
 
 
@@ -373,10 +468,12 @@ def sheet_call(data, last, slice_length):
             raise Refused(1)
         if last == LAST_SHEET:
             raise Refused(2)
-        plant = read_plant(data)
+        result = balance(read_plant(data))
     except Refused as refusal:
         return refusal.number, 0, last, b""
-    sheet = sheet_bytes(balance(plant), last + 1)
+    except Overfull:
+        return 19, 0, last, b""
+    sheet = sheet_bytes(result, last + 1)
     return 0, len(sheet), last + 1, sheet
 
 
@@ -429,16 +526,17 @@ def reopen_call(data):
 def listing(data):
     """What the program `balance` prints for this input."""
     try:
-        plant = read_plant(data[: FILE_LENGTH + 1])
+        result = balance(read_plant(data[: FILE_LENGTH + 1]))
     except Refused as refusal:
         return f"refused {refusal.number}\n"
-    result = balance(plant)
+    except Overfull:
+        return "refused 19\n"
     lines = [
         f"{i} {letter} {'-' if amount is None else amount}"
         for i, (letter, amount) in enumerate(zip(result.classes, result.numbers), 1)
     ]
     word = ("pass", "fail", "none")[result.verdict]
-    lines.append(f"total 1 {result.cost} {result.degrees} {word}")
+    lines.append(f"total 1 {min(result.cost, MOST_COST)} {result.degrees} {word}")
     return "\n".join(lines) + "\n"
 
 

@@ -2,8 +2,10 @@
 
 import math
 
+import closings_to_try
 import files_to_try
 import plants_to_try
+import ranges_to_try
 import refusals
 import samples
 import shapes
@@ -128,36 +130,6 @@ def ties():
 # Plants as a site has them
 
 
-def site_streams(draws, boilers, turbines, buildings, per_cent):
-    """A steam and condensate network and its number of units.
-
-    Deaerator, feed pump, boilers, high and low header, turbines, buildings, condensate tank.
-    """
-    deaerator, pump, high, low, tank = 1, 2, 3, 4, 5
-    units = 5 + boilers + turbines + buildings
-    boiler = range(6, 6 + boilers)
-    turbine = range(6 + boilers, 6 + boilers + turbines)
-    building = range(6 + boilers + turbines, units + 1)
-    ends = [(0, deaerator), (deaerator, pump), (low, deaerator), (tank, deaerator), (deaerator, 0), (high, low)]
-    for b in boiler:
-        ends += [(pump, b), (b, high), (b, 0)]
-    for t in turbine:
-        ends += [(high, t), (t, low), (t, tank)]
-    for k, b in enumerate(building):
-        ends += [(low if k % 3 else high, b), (b, tank)]
-        if draws.chance(60):
-            ends.append((b, 0))
-        if k and draws.chance(25):
-            ends.append((b - 1, b))
-    ends = draws.shuffled(ends)[:96] if draws.chance(30) else ends[:96]
-    weights = draws.pick(((10,), (1, 4, 10, 40, 100), (1_000, 250, 1), (1, 1_000)))
-    streams = [
-        metered(a, b, 0, draws.pick(weights)) if draws.chance(per_cent) else unmetered(a, b)
-        for a, b in ends
-    ]
-    return units, streams
-
-
 def sites():
     draws = Draws(102)
     units, streams = samples.STEAM_SITE.units, samples.STEAM_SITE.streams
@@ -166,7 +138,7 @@ def sites():
         boilers = draws.between(1, 5)
         turbines = draws.between(0, 5)
         buildings = draws.between(1, 27 - boilers - turbines if k % 3 == 0 else 8)
-        units, streams = site_streams(draws, boilers, turbines, buildings, draws.pick((100, 85, 70, 50, 30)))
+        units, streams = shapes.site_streams(draws, boilers, turbines, buildings, draws.pick((100, 85, 70, 50, 30)))
         amounts = balanced_amounts(draws, units, streams, 40, draws.pick((40, 2_000, 20_000)))
         streams = read_with_noise(draws, streams, amounts)
         if k % 4 == 3:
@@ -358,4 +330,13 @@ SUBJECTS = (
     ("listings", files_to_try.listings),
     ("kept", sheets_to_try.kept),
     ("signals", signals_to_try.translations),
+    ("ranges", ranges_to_try.ranges),
+    ("range_ties", ranges_to_try.range_ties),
+    ("range_points", ranges_to_try.range_points),
+    ("range_sites", ranges_to_try.range_sites),
+    ("overfull", ranges_to_try.overfull),
+    ("range_limits", ranges_to_try.range_limits),
+    ("range_files", ranges_to_try.range_files),
+    ("range_phases", ranges_to_try.unhinted_ranges),
+    ("closings", closings_to_try.closings),
 )

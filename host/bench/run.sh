@@ -2,9 +2,10 @@
 # Measures the sheet call of the archive, the same in plain Rust, and a real-number solve, on the same plants.
 #
 #     bash host/bench/run.sh [PLANTS [SECONDS]]  prints the tables; 1000 plants of each kind and size, 60 seconds of the
-#                                                search for bad plants; plot and worst plant go to target/host/bench
+#                                                search for bad plants, for each of its three aims; plot and worst plants
+#                                                go to target/host/bench
 #     bash host/bench/run.sh --record [...]      the same, and puts the tables into docs/SPEED.md, the plot beside it, and the
-#                                                worst plant into host/bench/worst.bin
+#                                                worst plants into host/bench
 set -euo pipefail
 cd "$(dirname "$0")/../.."
 record=
@@ -37,4 +38,4 @@ awk -v tables="$out/tables.md" '
     /<!-- the tables -->/ {inside = 1; while ((getline line < tables) > 0) print line}' docs/SPEED.md >"$out/SPEED.md"
 cp "$out/SPEED.md" docs/SPEED.md
 cp "$out/speed.svg" docs/speed.svg
-cp "$out/worst.bin" host/bench/worst.bin
+cp "$out/worst.bin" "$out/worst_ranges.bin" "$out/most_improvements.bin" host/bench/

@@ -1,5 +1,6 @@
 /* Balances the plant file that is named on the command line, under the sheet number after the last one given,
- * and prints the sheet: per stream its number, class letter, flow or '-'; then the total.
+ * and prints the sheet: per stream its number, class letter, flow or '-'; then the total. A refusal prints its number;
+ * 19 also prints the marked places.
  *
  *     balance_file FILE [LAST]
  *
@@ -34,6 +35,16 @@ static uint8_t print_sheet(const uint8_t *sheet, size_t written)
     }
     printf("total %" PRIu32 " %" PRIu64 " %d %s\n", number, cost, degrees, verdicts[verdict]);
     return 0;
+}
+
+/* The places marked, in rising order: they must take in more than they can let out. */
+static void print_marked(uint64_t marked)
+{
+    printf("marked");
+    for (int place = 0; place <= WENGELUDO_MAX_UNITS; place++)
+        if (marked >> place & 1)
+            printf(" %d", place);
+    printf("\n");
 }
 
 /* What was printed reached its end. */
@@ -77,10 +88,13 @@ int main(int count, char **words)
     }
     uint8_t sheet[WENGELUDO_SHEET_SIZE];
     size_t written;
-    uint8_t refusal = wengeludo_balance_plant(file, length, &last, sheet, sizeof sheet, &written);
+    uint64_t marked;
+    uint8_t refusal = wengeludo_balance_plant(file, length, &last, sheet, sizeof sheet, &written, &marked);
     if (refusal == WENGELUDO_DONE)
         refusal = print_sheet(sheet, written);
     if (refusal != WENGELUDO_DONE)
         printf("refused %d\n", refusal);
+    if (refusal == WENGELUDO_NO_FLOW)
+        print_marked(marked);
     return done(words[0], refusal != WENGELUDO_DONE);
 }

@@ -28,8 +28,9 @@ static double time_call(const uint8_t *file, size_t length) {
     for (int i = 0; i < TIMES; i++) {
         uint32_t last = 0;
         size_t written = 0;
+        uint64_t marked = 0;
         double start = now_us();
-        wengeludo_balance_plant(file, length, &last, sheet, sizeof sheet, &written);
+        wengeludo_balance_plant(file, length, &last, sheet, sizeof sheet, &written, &marked);
         double took = now_us() - start;
         if (took < least) least = took;
     }

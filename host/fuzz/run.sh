@@ -5,4 +5,4 @@ cd "$(dirname "$0")/../.."
 out=target/host/fuzz
 [ -x "$out/target" ] || { echo "no $out/target: build it with 'bash host/fuzz/build.sh'" >&2; exit 2; }
 mkdir -p "$out/corpus"
-"$out/target" -max_total_time="${1:-60}" -max_len=1500 -timeout=10 -print_final_stats=1 -artifact_prefix="$out/" "$out/corpus" host/fuzz/corpus
+"$out/target" -max_total_time="${1:-60}" -max_len=2000 -timeout=10 -print_final_stats=1 -artifact_prefix="$out/" "$out/corpus" host/fuzz/corpus

@@ -8,9 +8,9 @@
  * four changed inputs are repaired to a plant within its limits, so that the search gets past the reader.
  *
  * An input: 1 byte that chooses the slice's length, 1 byte that chooses the last sheet number, then a plant file; or, the
- * second byte being 249, parts for the writer: units, count (2), which slice is cut (1) and where (1), then 9 bytes for each
- * stream; or, the second byte being 248, a kept sheet; or, the second byte being 247, a transmitter file. Each sheet that is
- * drawn is read back in as well.
+ * second byte being 249, parts for the writer: units, count (2), which slice is cut (1) and where (1), then 18 bytes for each
+ * stream: from, to, metered, weight (2), reading (4), ranged, low (4), high (4); or, the second byte being 248, a kept sheet;
+ * or, the second byte being 247, a transmitter file. Each sheet that is drawn is read back in as well.
  * Each slice ends at a page that may not be touched, and bytes stand before it that may not change.
  */
 #define _GNU_SOURCE
@@ -25,8 +25,8 @@
 
 #include "wengeludo_balance.h"
 
-#define MOST_BLOCKS 4096
-#define OF_SHEETS 3072 /* counters from here on are of sheets: blocks come before them */
+#define MOST_BLOCKS 8192
+#define OF_SHEETS 7168 /* counters from here on are of sheets: blocks come before them */
 #define AREA 8192
 #define PAGE 4096
 #define GUARD 64
@@ -100,8 +100,11 @@ int LLVMFuzzerInitialize(int *count, char ***words)
     if (list == NULL)
         fail("no " BLOCKS ": build with host/fuzz/build.sh");
     unsigned long at;
-    while (block_count < OF_SHEETS && fscanf(list, "%lx", &at) == 1)
+    while (fscanf(list, "%lx", &at) == 1) {
+        if (block_count == OF_SHEETS)
+            fail("more basic blocks than there are counters");
         blocks[block_count++].at = (uint8_t *)at;
+    }
     fclose(list);
     struct sigaction action = {.sa_sigaction = on_breakpoint, .sa_flags = SA_SIGINFO};
     sigaction(SIGTRAP, &action, NULL);
@@ -127,7 +130,7 @@ static uint64_t field(const uint8_t *at, int bytes)
 
 static uint8_t fill(size_t i, int round) { return (uint8_t)(i * 31 + (round ? 7 : 200)); }
 
-struct outcome { uint8_t returned; uint32_t last; size_t written; };
+struct outcome { uint8_t returned; uint32_t last; size_t written; uint64_t marked; };
 
 /* A sheet call on a slice between a guard and a page; checks what must stay as it was. */
 static struct outcome sheet_call(const uint8_t *file, size_t size, uint32_t last, size_t length, uint8_t *end, int round)
@@ -135,10 +138,12 @@ static struct outcome sheet_call(const uint8_t *file, size_t size, uint32_t last
     uint8_t *slice = end - length;
     for (size_t i = 0; i < length + GUARD; i++)
         slice[-GUARD + (ptrdiff_t)i] = fill(i, round);
-    struct outcome o = {.last = last, .written = round ? 12345 : SIZE_MAX};
-    o.returned = wengeludo_balance_plant(file, size, &o.last, slice, length, &o.written);
-    if (o.returned > 12)
+    struct outcome o = {.last = last, .written = round ? 12345 : SIZE_MAX, .marked = round ? 0 : UINT64_MAX};
+    o.returned = wengeludo_balance_plant(file, size, &o.last, slice, length, &o.written, &o.marked);
+    if (o.returned > 12 && o.returned != WENGELUDO_RANGE && o.returned != WENGELUDO_NO_FLOW)
         fail("a number that is no refusal");
+    if (o.returned != WENGELUDO_NO_FLOW && o.marked != 0)
+        fail("a call that marks places");
     if (o.returned != 0 && (o.written != 0 || o.last != last))
         fail("a refusal counts, or changes the counter");
     if (o.returned == 0 && (o.last != last + 1 || o.written < 15 || o.written > WENGELUDO_SHEET_SIZE))
@@ -222,45 +227,82 @@ static void read_back(const uint8_t *sheet, size_t size, size_t room)
         fail("the sheet written again differs");
 }
 
-/* An accepted file: its parts written again give it back, and its sheet fits its streams. */
-static void accepted(const uint8_t *file, size_t size, const uint8_t *sheet, size_t written)
+/* The parts of a plant, as the writer is handed them. */
+struct parts {
+    uint8_t from[112], to[112], metered[112], ranged[112];
+    uint16_t weight[112];
+    int32_t reading[112], low[112], high[112];
+};
+
+static size_t body(uint8_t kind) { return kind == 2 ? 9 : kind == 6 ? 17 : 3; }
+
+/* The parts of a file that the reader takes, and how many streams it has. */
+static size_t listed(const uint8_t *file, struct parts *p)
 {
-    uint8_t from[96], to[96], metered[96];
-    uint16_t weight[96];
-    int32_t reading[96];
-    size_t count = 0;
-    for (size_t at = 2; file[at] != 4; count++) {
-        metered[count] = file[at] == 2;
-        from[count] = file[at + 1];
-        to[count] = file[at + 2];
-        weight[count] = metered[count] ? (uint16_t)field(file + at + 3, 2) : 0;
-        reading[count] = metered[count] ? (int32_t)field(file + at + 5, 4) : 0;
-        at += metered[count] ? 9 : 3;
+    size_t k = 0;
+    for (size_t at = 2; file[at] != 4; k++) {
+        p->metered[k] = file[at] != 3;
+        p->ranged[k] = file[at] == 6;
+        p->from[k] = file[at + 1];
+        p->to[k] = file[at + 2];
+        p->weight[k] = p->metered[k] ? (uint16_t)field(file + at + 3, 2) : 0;
+        p->reading[k] = p->metered[k] ? (int32_t)field(file + at + 5, 4) : 0;
+        p->low[k] = p->ranged[k] ? (int32_t)field(file + at + 9, 4) : 0;
+        p->high[k] = p->ranged[k] ? (int32_t)field(file + at + 13, 4) : 0;
+        at += body(file[at]);
     }
+    return k;
+}
+
+/* The writer on parts whose slices have these lengths, in the order of the call. */
+static uint8_t write_call(uint8_t units, size_t count, const struct parts *p, const size_t lengths[8], uint8_t *out, size_t length,
+                          size_t *written)
+{
+    return wengeludo_write_plant(units, count, p->from, lengths[0], p->to, lengths[1], p->metered, lengths[2], p->weight,
+                                 lengths[3], p->reading, lengths[4], p->ranged, lengths[5], p->low, lengths[6], p->high,
+                                 lengths[7], out, length, written);
+}
+
+/* A file that the reader takes: its parts written again give it back. */
+static void written_again(const uint8_t *file, size_t size, const struct parts *p, size_t count)
+{
     uint8_t *out = again_end - WENGELUDO_FILE_SIZE;
+    size_t lengths[8], length = 0;
+    for (int i = 0; i < 8; i++)
+        lengths[i] = count;
     memset(out, 0x55, WENGELUDO_FILE_SIZE);
-    size_t length = 0;
-    if (wengeludo_write_plant(file[1], count, from, count, to, count, metered, count, weight, count, reading, count, out,
-                              WENGELUDO_FILE_SIZE, &length) != 0)
+    if (write_call(file[1], count, p, lengths, out, WENGELUDO_FILE_SIZE, &length) != 0)
         fail("the writer refuses an accepted plant");
     if (length != size || memcmp(out, file, size) != 0)
         fail("the file written again differs");
     for (size_t i = length; i < WENGELUDO_FILE_SIZE; i++)
         if (out[i] != 0x55)
             fail("a byte past the file changed");
-    /* Slices too short by one: refused, nothing written. */
-    if (count > 0) {
-        memset(out, 0x66, WENGELUDO_FILE_SIZE);
-        if (wengeludo_write_plant(file[1], count, from, count, to, count, metered, count - 1, weight, count, reading, count,
-                                  out, WENGELUDO_FILE_SIZE, &length) != WENGELUDO_SAME_PLACE || length != 0)
-            fail("a stream that is not there is taken");
-        for (size_t i = 0; i < WENGELUDO_FILE_SIZE; i++)
-            if (out[i] != 0x66)
-                fail("a refused writer writes");
-    }
-    /* The sheet: classes by metered or not, the flows' balance where no flow is withheld, the cost. */
+    if (count == 0)
+        return;
+    /* A slice too short by one: refused, nothing written. */
+    lengths[(size + file[1]) % 8]--;
+    memset(out, 0x66, WENGELUDO_FILE_SIZE);
+    if (write_call(file[1], count, p, lengths, out, WENGELUDO_FILE_SIZE, &length) != WENGELUDO_SAME_PLACE || length != 0)
+        fail("a stream that is not there is taken");
+    for (size_t i = 0; i < WENGELUDO_FILE_SIZE; i++)
+        if (out[i] != 0x66)
+            fail("a refused writer writes");
+}
+
+/* The value in range nearest to the reading. */
+static int64_t nearest(const struct parts *p, size_t k)
+{
+    if (p->ranged[k] && p->reading[k] < p->low[k])
+        return p->low[k];
+    return p->ranged[k] && p->reading[k] > p->high[k] ? p->high[k] : p->reading[k];
+}
+
+/* The sheet fits its streams: classes by metered or not, the flows' balance where no flow is withheld, ranges, the cost. */
+static void sheet_fits(uint8_t units, const struct parts *p, size_t count, const uint8_t *sheet, size_t written)
+{
     size_t at = 0;
-    uint64_t cost = 0;
+    unsigned __int128 cost = 0;
     int64_t net[33] = {0};
     int blank[33] = {0};
     for (size_t k = 0; k < count; k++) {
@@ -268,33 +310,61 @@ static void accepted(const uint8_t *file, size_t size, const uint8_t *sheet, siz
         counters[OF_SHEETS + 128 + (kind & 3) * 97 + count] = 1;
         if (kind != 0x11 && kind != 0x12 && kind != 0x13 && kind != 0x14)
             fail("no stream record where one is due");
-        if ((kind <= 0x12) != metered[k])
+        if ((kind <= 0x12) != p->metered[k])
             fail("a class of the other kind");
         if (kind == 0x14) {
-            blank[from[k]] = blank[to[k]] = 1;
+            blank[p->from[k]] = blank[p->to[k]] = 1;
             continue;
         }
         int64_t flow = (int64_t)field(sheet + at, 8);
         at += 8;
-        net[from[k]] -= flow;
-        net[to[k]] += flow;
-        if (kind == 0x12 && flow != reading[k])
+        net[p->from[k]] -= flow;
+        net[p->to[k]] += flow;
+        if (kind == 0x12 && flow != nearest(p, k))
             fail("a stream as read with another flow");
-        if (metered[k])
-            cost += (uint64_t)weight[k] * (uint64_t)((flow - reading[k]) * (flow - reading[k]));
+        if (p->ranged[k] && (flow < p->low[k] || flow > p->high[k]))
+            fail("a flow out of its range");
+        if (p->ranged[k])
+            counters[OF_SHEETS + 600 + (flow == p->low[k]) + 2 * (flow == p->high[k])] = 1;
+        __int128 off = (__int128)flow - p->reading[k];
+        if (p->metered[k])
+            cost += (unsigned __int128)p->weight[k] * (unsigned __int128)(off * off);
     }
-    for (int place = 0; place <= file[1]; place++)
+    for (int place = 0; place <= units; place++)
         if (!blank[place] && net[place] != 0)
             fail("a place does not balance");
-    if (at + 15 != written || sheet[at] != 0x1F || field(sheet + at + 5, 8) != cost)
+    uint64_t capped = cost > UINT64_MAX ? UINT64_MAX : (uint64_t)cost;
+    if (at + 15 != written || sheet[at] != 0x1F || field(sheet + at + 5, 8) != capped)
         fail("a wrong total");
     counters[OF_SHEETS + sheet[at + 13] * 3 + sheet[at + 14]] = 1;
+    if (cost > UINT64_MAX)
+        counters[OF_SHEETS + 604] = 1;
+}
+
+/* The marked places must take in more than they can let out, and every stream across their edge has a range. */
+static void marks_fit(uint8_t units, const struct parts *p, size_t count, uint64_t marked)
+{
+    int64_t more = 0;
+    if (marked >> units >> 1 != 0)
+        fail("a place above the units is marked");
+    for (size_t k = 0; k < count; k++) {
+        int from = marked >> p->from[k] & 1, to = marked >> p->to[k] & 1;
+        if (from == to)
+            continue;
+        if (!p->ranged[k])
+            fail("a stream without a range crosses the edge of the marked places");
+        more += to ? p->low[k] : -(int64_t)p->high[k];
+    }
+    if (more <= 0)
+        fail("the marked places can let out what they must take in");
+    counters[OF_SHEETS + 610 + (marked & 1)] = 1;
+    counters[OF_SHEETS + 620 + __builtin_popcountll(marked)] = 1;
 }
 
 /* The refusals of the writer, in their order, as the header states them. */
-static uint8_t write_fault(uint8_t units, size_t count, size_t there, const uint8_t *from, const uint8_t *to,
-                           const uint8_t *metered, const uint16_t *weight, const int32_t *reading, size_t length)
+static uint8_t write_fault(uint8_t units, size_t count, size_t there, const struct parts *p, size_t length)
 {
+    const int32_t most = WENGELUDO_MAX_RANGE;
     if (length < WENGELUDO_FILE_SIZE)
         return 1;
     if (units < 1 || units > 32)
@@ -304,14 +374,16 @@ static uint8_t write_fault(uint8_t units, size_t count, size_t there, const uint
     for (size_t k = 0; k < count; k++) {
         if (k >= there)
             return 8;
-        if (from[k] > units || to[k] > units)
+        if (p->from[k] > units || p->to[k] > units)
             return 7;
-        if (from[k] == to[k])
+        if (p->from[k] == p->to[k])
             return 8;
-        if (metered[k] && (weight[k] < 1 || weight[k] > 1000))
+        if (p->metered[k] && (p->weight[k] < 1 || p->weight[k] > 1000))
             return 9;
-        if (metered[k] && (reading[k] < -4000000 || reading[k] > 4000000))
+        if (p->metered[k] && (p->reading[k] < -4000000 || p->reading[k] > 4000000))
             return 10;
+        if (p->metered[k] && p->ranged[k] && (p->low[k] > p->high[k] || p->low[k] < -most || p->high[k] > most))
+            return 18;
     }
     return 0;
 }
@@ -322,31 +394,32 @@ static void write_parts(const uint8_t *data, size_t size, size_t length)
     if (size < 5)
         return;
     uint8_t units = data[0];
-    size_t count = field(data + 1, 2), n = (size - 5) / 9, ends[5], there = n;
-    uint8_t from[112], to[112], metered[112];
-    uint16_t weight[112];
-    int32_t reading[112];
+    size_t count = field(data + 1, 2), n = (size - 5) / 18, ends[8], there;
+    struct parts p;
     if (n > 112)
-        n = there = 112;
+        n = 112;
+    there = n;
     for (size_t k = 0; k < n; k++) {
-        const uint8_t *at = data + 5 + 9 * k;
-        from[k] = at[0];
-        to[k] = at[1];
-        metered[k] = at[2];
-        weight[k] = (uint16_t)field(at + 3, 2);
-        reading[k] = (int32_t)field(at + 5, 4);
+        const uint8_t *at = data + 5 + 18 * k;
+        p.from[k] = at[0];
+        p.to[k] = at[1];
+        p.metered[k] = at[2];
+        p.weight[k] = (uint16_t)field(at + 3, 2);
+        p.reading[k] = (int32_t)field(at + 5, 4);
+        p.ranged[k] = at[9];
+        p.low[k] = (int32_t)field(at + 10, 4);
+        p.high[k] = (int32_t)field(at + 14, 4);
     }
-    for (int i = 0; i < 5; i++)
+    for (int i = 0; i < 8; i++)
         ends[i] = n;
-    if (data[3] < 5 && data[4] < n)
+    if (data[3] < 8 && data[4] < n)
         there = ends[data[3]] = data[4];
     uint8_t *out = out_end - length;
     for (size_t i = 0; i < length + GUARD; i++)
         out[-GUARD + (ptrdiff_t)i] = fill(i, 0);
     size_t written = SIZE_MAX;
-    uint8_t returned = wengeludo_write_plant(units, count, from, ends[0], to, ends[1], metered, ends[2], weight, ends[3], reading,
-                                             ends[4], out, length, &written);
-    if (returned != write_fault(units, count, there, from, to, metered, weight, reading, length))
+    uint8_t returned = write_call(units, count, &p, ends, out, length, &written);
+    if (returned != write_fault(units, count, there, &p, length))
         fail("the writer returns another number");
     if (returned != 0 ? written != 0 : written < 4 || written > WENGELUDO_FILE_SIZE)
         fail("the writer counts wrong");
@@ -355,7 +428,7 @@ static void write_parts(const uint8_t *data, size_t size, size_t length)
             fail("the writer changes a byte that is not its own");
     if (returned == 0) {
         struct outcome o = sheet_call(out, written, 0, WENGELUDO_SHEET_SIZE, again_end, 0);
-        if (o.returned != 0)
+        if (o.returned != 0 && o.returned != WENGELUDO_NO_FLOW)
             fail("the sheet call refuses a file of the writer");
     }
 }
@@ -504,6 +577,16 @@ static size_t repaired_signals(uint8_t *file, size_t size, size_t most, int in_r
     return length;
 }
 
+static size_t put(uint8_t *plant, size_t length, int bytes, uint32_t value)
+{
+    for (int shift = 8 * (bytes - 1); shift >= 0; shift -= 8)
+        plant[length++] = (uint8_t)(value >> shift);
+    return length;
+}
+
+/* A number within a limit, either sign. */
+static int32_t limited(const uint8_t *at, int32_t most) { return (int32_t)field(at, 4) % (most + 1); }
+
 /* Repairs a file to a plant within its limits: the bytes that are there, taken modulo what is allowed. */
 static size_t repaired(uint8_t *file, size_t size, size_t most)
 {
@@ -513,20 +596,22 @@ static size_t repaired(uint8_t *file, size_t size, size_t most)
     plant[length++] = 1;
     plant[length++] = units;
     for (size_t at = 2; at + 3 <= size && count < 96 && !(file[at] == 4 && at + 2 >= size); count++) {
-        int metered = file[at] != 3 && at + 9 <= size;
+        int ranged = file[at] == 6 && at + 17 <= size, metered = ranged || (file[at] != 3 && at + 9 <= size);
+        uint8_t kind = ranged ? 6 : metered ? 2 : 3;
         uint8_t from = file[at + 1] % (units + 1), to = file[at + 2] % (units + 1);
-        plant[length++] = metered ? 2 : 3;
+        plant[length++] = kind;
         plant[length++] = from;
         plant[length++] = to != from ? to : (uint8_t)((from + 1) % (units + 1));
         if (metered) {
-            uint16_t weight = (uint16_t)(1 + (field(file + at + 3, 2) + 999) % 1000);
-            int32_t reading = (int32_t)field(file + at + 5, 4) % 4000001;
-            plant[length++] = (uint8_t)(weight >> 8);
-            plant[length++] = (uint8_t)weight;
-            for (int shift = 24; shift >= 0; shift -= 8)
-                plant[length++] = (uint8_t)((uint32_t)reading >> shift);
+            length = put(plant, length, 2, (uint32_t)(1 + (field(file + at + 3, 2) + 999) % 1000));
+            length = put(plant, length, 4, (uint32_t)limited(file + at + 5, WENGELUDO_MAX_READING));
         }
-        at += metered ? 9 : 3;
+        if (ranged) {
+            int32_t a = limited(file + at + 9, WENGELUDO_MAX_RANGE), b = limited(file + at + 13, WENGELUDO_MAX_RANGE);
+            length = put(plant, length, 4, (uint32_t)(a < b ? a : b));
+            length = put(plant, length, 4, (uint32_t)(a < b ? b : a));
+        }
+        at += body(kind);
     }
     plant[length++] = 4;
     plant[length++] = (uint8_t)count;
@@ -546,17 +631,22 @@ size_t LLVMFuzzerCustomMutator(uint8_t *data, size_t size, size_t most, unsigned
     return size;
 }
 
+/* A slice as long as it must be, somewhat longer, or shorter. */
+static size_t slice_length(uint8_t choice, size_t least)
+{
+    return choice < 128 ? least : choice < 192 ? least + choice - 128 : (size_t)(255 - choice) * least / 62;
+}
+
 int LLVMFuzzerTestOneInput(const uint8_t *data, size_t size)
 {
-    if (size < 2 || size > 2 + (data[1] == 247 ? 1500 : 1000))
+    if (size < 2 || size > 2 + 2100)
         return 0;
-    size_t length = data[0] < 128 ? WENGELUDO_SHEET_SIZE : data[0] < 192 ? WENGELUDO_SHEET_SIZE + data[0] - 128 : (size_t)(255 - data[0]) * 14;
     if (data[1] == 247) {
-        translate(data + 2, size - 2, data[0] < 128 ? WENGELUDO_FILE_SIZE : length - (data[0] < 192 ? 11 : 0));
+        translate(data + 2, size - 2, slice_length(data[0], WENGELUDO_FILE_SIZE));
         return 0;
     }
     if (data[1] == 249) {
-        write_parts(data + 2, size - 2, length);
+        write_parts(data + 2, size - 2, slice_length(data[0], WENGELUDO_FILE_SIZE));
         return 0;
     }
     if (data[1] == 248) {
@@ -567,21 +657,29 @@ int LLVMFuzzerTestOneInput(const uint8_t *data, size_t size)
             fail("the sheet changed");
         return 0;
     }
+    size_t length = slice_length(data[0], WENGELUDO_SHEET_SIZE);
     uint32_t last = data[1] < 250 ? data[1] : UINT32_MAX - (255 - data[1]);
     size -= 2;
     uint8_t *file = file_end - size;
     memcpy(file, data + 2, size);
     struct outcome a = sheet_call(file, size, last, length, out_end, 0);
     struct outcome b = sheet_call(file, size, last, length, again_end, 1);
-    if (a.returned != b.returned || a.written != b.written || a.last != b.last)
+    if (a.returned != b.returned || a.written != b.written || a.last != b.last || a.marked != b.marked)
         fail("two calls differ");
     if (memcmp(out_end - length, again_end - length, a.written) != 0)
         fail("two sheets differ");
     if (memcmp(file, data + 2, size) != 0)
         fail("the file changed");
+    if (a.returned != 0 && a.returned != WENGELUDO_NO_FLOW)
+        return 0;
+    struct parts p;
+    size_t count = listed(file, &p);
+    written_again(file, size, &p, count);
     if (a.returned == 0) {
-        accepted(file, size, out_end - length, a.written);
+        sheet_fits(file[1], &p, count, out_end - length, a.written);
         read_back(out_end - length, a.written, WENGELUDO_MAX_STREAMS);
+    } else {
+        marks_fit(file[1], &p, count, a.marked);
     }
     return 0;
 }

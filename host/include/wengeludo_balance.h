@@ -2,7 +2,7 @@
  *
  * Build the archive with `rt staticlib linked` (target/staticlib/liblinked.a, x86-64 Linux) and link it;
  * it needs nothing but the C library (memcpy, memset). The calls keep no state, allocate nothing, take less than
- * 40 KB of stack, and may run in several threads at once on memory of their own.
+ * 56 KB of stack, and may run in several threads at once on memory of their own.
  *
  * What holds of every pointer here, and what no call can check:
  *   - it points to as many elements as the length beside it says (a pointer without a length: to one);
@@ -25,21 +25,22 @@ extern "C" {
 
 /* The least sheet slice and the least slice for a plant file; the longest plant file. */
 #define WENGELUDO_SHEET_SIZE 879
-#define WENGELUDO_FILE_SIZE 868
+#define WENGELUDO_FILE_SIZE 1636
 
 /* The longest transmitter file. */
 #define WENGELUDO_TRANSMITTER_SIZE 1444
 
-/* The most units and the most streams of a plant; the greatest weight and the greatest reading. */
+/* The most units and the most streams of a plant; the greatest weight, reading and end of a range. */
 #define WENGELUDO_MAX_UNITS 32
 #define WENGELUDO_MAX_STREAMS 96
 #define WENGELUDO_MAX_WEIGHT 1000
 #define WENGELUDO_MAX_READING 4000000
+#define WENGELUDO_MAX_RANGE 2000000000
 
 /* What the calls return: 0, or the number of a refusal. */
 enum {
     WENGELUDO_DONE = 0,
-    WENGELUDO_SLICE_TOO_SHORT = 1,    /* sheet slice under 879 bytes; writer and translator: under 868; a slice of the sheet
+    WENGELUDO_SLICE_TOO_SHORT = 1,    /* sheet slice under 879 bytes; writer and translator: under 1,636; a slice of the sheet
                                          reader under 96 elements */
     WENGELUDO_NO_SHEET_NUMBER = 2,    /* last sheet number is 4,294,967,295 */
     WENGELUDO_FILE_ENDS = 3,          /* bytes end where a record is due or inside a body */
@@ -56,7 +57,9 @@ enum {
     WENGELUDO_SHEET_TOTAL = 14,       /* in a sheet, sheet number 0, degrees over 32, or a verdict that does not fit */
     WENGELUDO_AFTER_TOTAL = 15,       /* in a sheet, bytes after the total */
     WENGELUDO_VALUE = 16,             /* a transmitter's value is not finite */
-    WENGELUDO_DEVIATION = 17          /* a transmitter's deviation is no finite number above 0 */
+    WENGELUDO_DEVIATION = 17,         /* a transmitter's deviation is no finite number above 0 */
+    WENGELUDO_RANGE = 18,             /* low above high, or either outside -2,000,000,000 to 2,000,000,000 */
+    WENGELUDO_NO_FLOW = 19            /* no balanced flow lies within all ranges */
 };
 
 /* The kinds of record on a sheet. */
@@ -71,32 +74,39 @@ enum {
 /* The sheet call: balances a plant file and writes its sheet.
  *
  * Reads   the file's file_length bytes, and *last, the last sheet number used (0 before the first sheet).
- * Returns 0, or one of 1 to 12. The order: 1, 2, then the file's records one after the other.
+ * Returns 0, or one of 1 to 12, 18 or 19. The order: 1, 2, then the file's records one after the other (18 after 10),
+ *         then 19.
  * Writes, where it returns 0:
  *         the sheet at the front of `sheet` (at most 879 bytes: a record for each stream in file order, then
  *         the total); the bytes of the slice past the total keep their values;
- *         *written: how many bytes the sheet has; *last: one higher, the number on this sheet.
+ *         *written: how many bytes the sheet has; *last: one higher, the number on this sheet; *marked: 0.
  * Writes, where it returns another number:
- *         *written: 0, and nothing else. All bytes of `sheet` and *last are as they were.
- * What *written was before the call makes no difference.
+ *         *written: 0; *marked: 0, or where it returns 19 the marked places, bit u for place u. Nothing else: all bytes
+ *         of `sheet` and *last are as they were.
+ * What *written and *marked were before the call makes no difference.
+ *
+ * The marked places must take in more than they can let out: every stream across their edge has a range, and the lows
+ * of those in sum to more than the highs of those out. Any such places will do; the choice is the call's. Place 0, the
+ * outside, may be among them; no place above n is. A cost above 18,446,744,073,709,551,615 is written as that number.
  */
 uint8_t wengeludo_balance_plant(const uint8_t *file, size_t file_length,
                                 uint32_t *last,
                                 uint8_t *sheet, size_t sheet_length,
-                                size_t *written);
+                                size_t *written, uint64_t *marked);
 
 /* The plant writer: writes a plant file from a plant's parts.
  *
- * Reads   units (n), count (how many streams), and of each of the five slices at most its first 96 elements.
+ * Reads   units (n), count (how many streams), and of each of the eight slices at most its first 96 elements.
  *         Stream k, counted from 1, stands at index k - 1 of each slice: from and to (0 is the outside),
- *         metered (0: unmetered, any other number: metered), weight, reading. Elements past the count make no
- *         difference, nor do the weight and the reading of an unmetered stream.
- *         A stream among the first `count` that one of the five slices is too short to hold is taken as empty:
+ *         metered (0: unmetered, any other number: metered), weight, reading, ranged (0: no range, any other number:
+ *         a range), low, high. Elements past the count make no difference, nor do weight, reading and range of an
+ *         unmetered stream, nor low and high where there is no range.
+ *         A stream among the first `count` that one of the eight slices is too short to hold is taken as empty:
  *         from 0 to 0. So the call returns 8 when that stream's turn comes, or earlier the number of an earlier
  *         fault. No file is ever written from slices that are too short.
- * Returns 0, or 1, 5, 6, 7, 8, 9 or 10. The order: 1, 6, 5, then stream after stream, in each 7 to 10.
+ * Returns 0, or 1, 5, 6, 7, 8, 9, 10 or 18. The order: 1, 6, 5, then stream after stream, in each 7 to 10, then 18.
  * Writes, where it returns 0:
- *         the file at the front of `file` (at most 868 bytes); the bytes past it keep their values;
+ *         the file at the front of `file` (at most 1,636 bytes); the bytes past it keep their values;
  *         *written: how many bytes the file has.
  * Writes, where it returns another number:
  *         *written: 0, and nothing else. All bytes of `file` are as they were.
@@ -108,6 +118,9 @@ uint8_t wengeludo_write_plant(uint8_t units, size_t count,
                               const uint8_t *metered, size_t metered_length,
                               const uint16_t *weight, size_t weight_length,
                               const int32_t *reading, size_t reading_length,
+                              const uint8_t *ranged, size_t ranged_length,
+                              const int32_t *low, size_t low_length,
+                              const int32_t *high, size_t high_length,
                               uint8_t *file, size_t file_length,
                               size_t *written);
 

@@ -1,25 +1,36 @@
-// The balance of a plant: the class and the flow of each stream, the cost, degrees and verdict. Nothing is written.
+// The balance of a plant: the class and the flow of each stream, the cost, degrees and verdict; or an overfull set of its places.
+// Nothing is written.
 use flows::Class;
+use flows::Cuts;
+use model::Solved;
 use model::sizes::FLOW_SHIFT;
 use plants::Plant;
 use plants::Stream;
 use plants::limits::MAX_STREAMS;
+use plants::limits::PLACES;
 use sheets::Balance;
 use sheets::Entry;
+use sheets::Outcome;
+use sheets::kinds::TOP_COST;
+use sheets::kinds::TOP_ROOT;
 ghost use mathlib.Core.Path.{_≡_};
+ghost use mathlib.Core.Bool.{false};
 ghost use mathlib.Core.List.{map};
 ghost use lib.IntN.{natAbs};
-ghost use Prim.Native.Nat.{_≤_};
+ghost use Prim.Native.Nat.{_+_, _*_, _≤_};
 ghost use lib.ListN.{take};
 ghost use Rattle.plants.specs.Limits.{maxUnits};
 ghost use Rattle.plants.specs.Within.{WithinStream, Accepted};
 ghost use Rattle.plants.specs.Says.{plantOf};
 ghost use Rattle.flows.specs.Flows.{cost};
+ghost use Rattle.flows.specs.Calls.{Cutting};
 ghost use Rattle.model.specs.Sizes.{mostFlow};
 ghost use Rattle.model.specs.Held.{unshifted};
 ghost use Rattle.model.specs.SolverNeeds.{Amounts};
-ghost use Rattle.sheets.specs.Balances.{entryOf, BalanceSays};
-ghost use Rattle.sheets.specs.Calls.{streamCost, CostFits, CostsFit, entriesOf};
+ghost use Rattle.model.specs.Promise.{Solution};
+ghost use Rattle.sheets.specs.Apart.{capped};
+ghost use Rattle.sheets.specs.Balances.{entryOf, BalanceSays, OutcomeSays};
+ghost use Rattle.sheets.specs.Calls.{Small, AllSmall, streamCost, entriesOf};
 
 // The flow that the solver holds as x.
 fn opened_flow(x: u64) -> i64
@@ -98,43 +109,68 @@ pub fn size_of(z: i64) -> u64
     below + 1
 }
 
-// What a stream costs: weight times correction squared where it is metered.
+// Weight times a square, as it is written.
+fn weighed_square(weight: u64, d: u64) -> u64
+    requires { ⌜ 1 ≤ weight ⌝ }
+    ensures { λ r. ⌜ r ≡ capped (weight * (d * d)) ⌝ }
+{
+    if TOP_ROOT < d {
+        return TOP_COST;
+    }
+    let square = d * d;
+    if TOP_COST / weight < square {
+        return TOP_COST;
+    }
+    weight * square
+}
+
+// A sum, as it is written: no more is added than there is room for.
+fn capped_sum(a: u64, b: u64) -> u64
+    ensures { λ r. ⌜ r ≡ capped (a + b) ⌝ }
+{
+    let room = TOP_COST - a;
+    if room < b {
+        return a + room;
+    }
+    a + b
+}
+
+// What a stream costs, as it is written: weight times correction squared where it is metered.
 fn stream_cost(s: Stream, flow: i64) -> u64
-    requires { ⌜ WithinStream maxUnits s × CostFits s flow ⌝ }
-    ensures { λ r. ⌜ r ≡ streamCost s flow ⌝ }
+    requires { ⌜ WithinStream maxUnits s × Small flow ⌝ }
+    ensures { λ r. ⌜ r ≡ capped (streamCost s flow) ⌝ }
 {
     if !s.metered {
         return 0;
     }
     let d = size_of(flow - s.reading as i64);
-    s.weight as u64 * (d * d)
+    weighed_square(s.weight as u64, d)
 }
 
-// The cost of a flow: the sum over the streams.
+// The cost of a flow, as it is written: the sum over the streams.
 fn cost_of(p: Plant, flows: [i64; MAX_STREAMS]) -> u64
-    requires { ⌜ Accepted p × CostsFit p flows ⌝ }
-    ensures { λ r. ⌜ r ≡ cost (plantOf p .streams) (take (p .count) flows) ⌝ }
+    requires { ⌜ Accepted p × AllSmall flows ⌝ }
+    ensures { λ r. ⌜ r ≡ capped (cost (plantOf p .streams) (take (p .count) flows)) ⌝ }
 {
     let n = p.count as usize;
     let mut sum: u64 = 0;
     let mut i: usize = 0;
     while i < n {
         let s = p.streams[i];
-        sum += stream_cost(s, flows[i]);
+        let more = stream_cost(s, flows[i]);
+        sum = capped_sum(sum, more);
         i += 1;
     }
     sum
 }
 
-// The balance of a plant, by its cheapest flow. The plant as read stands unchanged beside the corrected flows.
-pub fn balance_of(p: Plant) -> Balance
-    requires { ⌜ Accepted p ⌝ }
+// The balance by the cheapest flow. The plant as read stands unchanged beside the corrected flows.
+fn balance_by(p: Plant, cuts: Cuts, solved: Solved) -> Balance
+    requires { ⌜ Accepted p × Cutting p cuts × Solution p solved ⌝ }
     ensures { λ r. ⌜ BalanceSays (plantOf p) r ⌝ }
 {
-    let cuts = classes::sides::cuts_of(p);
     let classes = classes::classes_of(p, cuts);
     let labels = cuts.labels;
-    let solved = solver::solve(p, labels);
     let held = solved.flows;
     let corrected = opened_flows(held);
     let cost = cost_of(p, corrected);
@@ -146,5 +182,45 @@ pub fn balance_of(p: Plant) -> Balance
         cost: cost,
         degrees: degrees,
         verdict: verdict,
+    }
+}
+
+// No balance, and the overfull set.
+fn overfilled(marked: [bool; PLACES]) -> Outcome
+    ensures { λ r. ⌜ (r .found ≡ false) × (r .marked ≡ marked) ⌝ }
+{
+    let none = Entry {
+        class: Class::Withheld,
+        flow: 0,
+    };
+    Outcome {
+        found: false,
+        balance: Balance {
+            streams: [none; MAX_STREAMS],
+            cost: 0,
+            degrees: 0,
+            verdict: 0,
+        },
+        marked: marked,
+    }
+}
+
+// The balance of a plant, or an overfull set of its places.
+pub fn balance_of(p: Plant) -> Outcome
+    requires { ⌜ Accepted p ⌝ }
+    ensures { λ r. ⌜ OutcomeSays (plantOf p) r ⌝ }
+{
+    let cuts = classes::sides::cuts_of(p);
+    let labels = cuts.labels;
+    let solved = solver::solve(p, labels);
+    let marked = solved.marked;
+    if !solved.found {
+        return overfilled(marked);
+    }
+    let balance = balance_by(p, cuts, solved);
+    Outcome {
+        found: true,
+        balance: balance,
+        marked: marked,
     }
 }

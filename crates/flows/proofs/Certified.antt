@@ -1,21 +1,22 @@
 -- A flow that passes the test of a certificate is the cheapest flow.
 use mathlib.Core.Path.{_≡_}
 use mathlib.Core.Bool.{Bool, true, not, _&&_, _||_}
-use mathlib.Core.List.{List, []}
+use mathlib.Core.List.{List}
 use lib.IntN.{ℤ}
-use lib.Signed.{ltZ, leZ}
+use lib.Signed.{leZ}
 use Prim.Native.Nat.{ℕ, zero, suc, _<_}
 use native.Mathlib.Omega.{arith}
 use native.Mathlib.Decide.{ℕ-discrete}
-use borrow.Author.Tests.{eqb-true, not-true}
+use borrow.Author.Tests.{eqb-true}
 use lib.Dec.{eqb}
-use Rattle.numbers.proofs.Tests.{clash, and-left, and-right, or-cases}
+use Rattle.numbers.proofs.Tests.{and-left, and-right}
 use Rattle.plants.specs.declared.Stream.{Stream}
 use Rattle.plants.specs.Plants.{Plant, plantFault}
 use Rattle.plants.proofs.Limited.{within}
 use Rattle.flows.specs.Flows.{amountAt, allowed, Cheapest}
-use Rattle.flows.specs.Certificate.{climb, leastClimb, mostClimb, priced, every, listedPrice, certified}
+use Rattle.flows.specs.Certificate.{climb, leastClimb, mostClimb, rises, falls, priced, stays, every, listedPrice, certified}
 use Rattle.flows.proofs.Integers.{leZ-le, ltZ-lt}
+use Rattle.flows.proofs.Ranges.{asked}
 use Rattle.flows.proofs.Prices.{StepAt}
 use Rattle.flows.proofs.Ties.{slack, stays-cheapest}
 use Rattle.flows.proofs.Nets.{countOf, streamOf}
@@ -30,8 +31,8 @@ every-at (suc n) test e k l = elim (ℕ-discrete k n) [
 -- What the test of prices says.
 priced-says : (π : ℕ → ℤ) (s : Stream) (x : ℤ) → priced π s x ≡ true → StepAt 1 π s x
 priced-says π s x e = record {
-  low = leZ-le (leastClimb s x) (climb π s) (and-left (leZ (leastClimb s x) (climb π s)) _ e);
-  high = leZ-le (climb π s) (mostClimb s x) (and-right (leZ (leastClimb s x) (climb π s)) _ e);
+  low = λ t. leZ-le (leastClimb s x) (climb π s) (asked (falls s x) _ (and-left (not (falls s x) || leZ (leastClimb s x) (climb π s)) _ e) t);
+  high = λ t. leZ-le (climb π s) (mostClimb s x) (asked (rises s x) _ (and-right (not (falls s x) || leZ (leastClimb s x) (climb π s)) _ e) t);
 }
 
 -- A flow that passes the test is the cheapest.
@@ -42,8 +43,9 @@ certified-cheapest p xs prices e =
       balance = and-left (allowed p xs) _ rest;
       steps = λ k l. priced-says π (s k) (amountAt xs k) (every-at n bounded (and-left (every n bounded) _ tests) k l);
     })
-    (λ i l m. or-cases (not (s i .metered)) _ (every-at n kept (and-right (every n bounded) _ tests) i l) (λ z. clash (s i .metered) m (not-true _ z))
-    (λ t. slack (ltZ-lt (leastClimb (s i) (amountAt xs i)) (climb π (s i)) t)))
+    (λ i l m.
+    let t = asked (s i .metered) _ (every-at n kept (and-right (every n bounded) _ tests) i l) m in
+    slack (λ f. ltZ-lt (leastClimb (s i) (amountAt xs i)) (climb π (s i)) (asked (falls (s i) (amountAt xs i)) _ t f)))
   where
     n : ℕ
     n = countOf p
@@ -58,7 +60,7 @@ certified-cheapest p xs prices e =
     bounded k = priced π (s k) (amountAt xs k)
 
     kept : ℕ → Bool
-    kept i = not (s i .metered) || ltZ (leastClimb (s i) (amountAt xs i)) (climb π (s i))
+    kept i = not (s i .metered) || stays π (s i) (amountAt xs i)
 
     rest : allowed p xs && (every n bounded && every n kept) ≡ true
     rest = and-right (eqb (plantFault p) 0) _ e

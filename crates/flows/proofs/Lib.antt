@@ -8,11 +8,14 @@ pub mod Given
 pub mod Withheld
 pub mod Chained
 pub mod Steps
+pub mod Ranges
 pub mod Prices
 pub mod Nearness
 pub mod Order
 pub mod Ties
 pub mod Certified
+pub mod Overfull
+pub mod Decided
 pub mod Lists
 pub mod Labels
 pub mod Grouping

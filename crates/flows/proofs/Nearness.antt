@@ -1,10 +1,11 @@
--- Groups have one price, meters in a group keep their readings, and no flow in fractions undercuts a certified flow by much.
+-- Groups have one price, meters in a group show the value in range nearest to their readings, and no flow in fractions undercuts a
+-- certified flow by much.
 use mathlib.Core.Path.{_≡_, refl, sym, _∙_, ap, ap₂}
 use mathlib.Core.Bool.{Bool, true, false}
 use mathlib.Core.List.{List}
 use lib.IntN.{ℤ, pos, negℤ, _+ℤ_, _-ℤ_, _*ℤ_, zero-*ℤ}
 use Prim.Native.Nat.{ℕ, zero, suc, _+_, _*_, _≤_, _<_}
-use native.Mathlib.Nat.{le-antisymm}
+use native.Mathlib.Nat.{le-antisymm, mul-le-mul-left}
 use native.Mathlib.Omega.{arith}
 use borrow.Author.Tests.{not-true}
 use Rattle.numbers.specs.Choice.{pick}
@@ -12,22 +13,25 @@ use Rattle.plants.specs.declared.Stream.{Stream}
 use Rattle.plants.specs.Plants.{Plant}
 use Rattle.plants.specs.Within.{Within}
 use Rattle.flows.specs.declared.Class.the-variants.{Adjusted, AsRead, Given, Withheld}
-use Rattle.flows.specs.Flows.{streamAt, amountAt, allowed, square, cost, costOver, Cheapest, nearest}
+use Rattle.flows.specs.Flows.{streamAt, amountAt, balanced, allowedOver, square, cost, costOver, Cheapest, nearest}
 use Rattle.flows.specs.Classes.{oneGroup, onLoop, classOf}
 use Rattle.flows.specs.Chains.{unmeteredOnly, Chain, stop, along, back}
 use Rattle.flows.specs.Shown.{adjustedWeight, adjustedTo, adjusted}
 use Rattle.flows.specs.Certificate.{weightOf, climb}
-use Rattle.flows.proofs.Integers.{Le, val, canon, Z·diff, plus-val, minus-none, none-minus}
+use Rattle.flows.proofs.Integers.{Le, val, same, canon, Z·diff, plus-val, minus-val, minus-none, none-minus}
 use Rattle.flows.proofs.Sums.{sum, sum-plus, sum-times, sum-le}
 use Rattle.flows.proofs.Reach.{joined→chain}
 use Rattle.flows.proofs.Nets.{countOf, streamOf, balanced-size}
 use Rattle.flows.proofs.Given.{class-means}
-use Rattle.flows.proofs.Steps.{Step, Tied, level, above, below, fraction, flat, free}
+use Rattle.flows.proofs.Steps.{Step, Free, Tied, level, above, below, fraction, flat-high, flat-low, flat, free}
+use Rattle.flows.proofs.Ranges.{balanced-of, range-of, unmetered-moves, free-over, nearest-is}
 use Rattle.flows.proofs.Prices.{StepAt, Steps, Certificate, share, shareOver, cost-is, cost-one, gain-is, gain-one, least, ties}
 
 -- An unmetered stream has one price at both ends; so has a group.
 one-price : (Δ : ℕ) (π : ℕ → ℤ) (s : Stream) (x : ℤ) → unmeteredOnly 0 s ≡ true → StepAt Δ π s x → π (s .to) ≡ π (s .from)
-one-price Δ π s x t h = minus-none (π (s .to)) (π (s .from)) (free Δ (weightOf s) (x -ℤ s .reading) (climb π s) (rw (not-true (s .metered) t)) h)
+one-price Δ π s x t h =
+    let m = not-true (s .metered) t in
+    minus-none (π (s .to)) (π (s .from)) (free Δ (weightOf s) (x -ℤ s .reading) (climb π s) _ _ (rw m) (unmetered-moves s x m) h)
 
 pub group-price : (Δ : ℕ) (π : ℕ → ℤ) (ss : List Stream) (x : ℕ → ℤ) {u v : ℕ} → Steps Δ π ss x → Chain unmeteredOnly ss u v → π v ≡ π u
 group-price Δ π ss x h stop = refl
@@ -35,26 +39,27 @@ group-price Δ π ss x h (along k l t c) = one-price Δ π (streamAt ss k) (x k)
 group-price Δ π ss x h (back k l t c) = sym (one-price Δ π (streamAt ss k) (x k) t (h k l)) ∙ group-price Δ π ss x h c
 
 -- One stream against a flow in fractions. m: it is metered, g: its ends are in one group, o: it lies on a loop.
-still : (a b m n : ℕ) (c d e : ℤ) → c ≡ pos 0 → a ≡ 0 → Le (pos a +ℤ pos m *ℤ (c *ℤ e)) (pos b +ℤ pos n *ℤ (c *ℤ d))
+still : (a b m n : ℕ) (c d e : ℤ) → c ≡ pos 0 → a ≤ b → Le (pos a +ℤ pos m *ℤ (c *ℤ e)) (pos b +ℤ pos n *ℤ (c *ℤ d))
 still a b m n c d e z h = rw (z, zero-*ℤ e, zero-*ℤ d) (omega arith)
 
-stream-fraction : (D : ℕ) (s : Stream) (m g o : Bool) (d e c : ℤ)
-    → (m ≡ true → 1 ≤ s .weight) → (g ≡ true → c ≡ pos 0) → Step 1 (pick m (s .weight) 0) d c
+stream-fraction : (D : ℕ) (s : Stream) (m g o : Bool) (d e c : ℤ) (a b : Bool)
+    → (m ≡ true → 1 ≤ s .weight) → (m ≡ false → (a ≡ true) × (b ≡ true)) → (g ≡ true → c ≡ pos 0)
+    → Step 1 (pick m (s .weight) 0) d c a b → Free a b (pos D *ℤ d) e
     → Le (pos (4 * (D * D) * (pick m (s .weight) 0 * square d)) +ℤ pos (4 * D) *ℤ (c *ℤ e))
     (pos (4 * (pick m (s .weight) 0 * square e) + D * D * adjustedWeight (pick m (pick g AsRead Adjusted) (pick o Withheld Given)) s)
     +ℤ pos (4 * (D * D)) *ℤ (c *ℤ d))
-stream-fraction D s true false o d e c v z h = fraction D (s .weight) d e c h
-stream-fraction D s true true o d e c v z h =
-    still _ _ (4 * D) (4 * (D * D)) c d e (z refl) (rw (flat (s .weight) d c (v refl) (z refl) h) (omega arith))
-stream-fraction D s false g o d e c v z h = still _ _ (4 * D) (4 * (D * D)) c d e (free 1 0 d c refl h) (omega arith)
+stream-fraction D s true false o d e c a b v u z h f = fraction D (s .weight) d e c a b h f
+stream-fraction D s true true o d e c a b v u z h f =
+    still _ _ (4 * D) (4 * (D * D)) c d e (z refl) (omega (arith, flat D (s .weight) d e c a b (v refl) (z refl) h f))
+stream-fraction D s false g o d e c a b v u z h f = still _ _ (4 * D) (4 * (D * D)) c d e (free 1 0 d c a b refl (u refl) h) (omega arith)
 
--- A metered stream with one price at both ends: no flow of equal cost leaves its reading.
-unmoved : (w : ℕ) (d e c : ℤ) → 1 ≤ w → c ≡ pos 0 → Step 1 w d c → Tied w d e c → e ≡ pos 0
-unmoved w d e c l z s (level q) = q ∙ flat w d c l z s
-unmoved w d e c l z s (above q h) =
-    absurd (omega (arith, val c (pos 0) z, ap (λ k. w * k) (val d (pos 0) (flat w d c l z s)), simp Z·diff at (rw (← canon d, ← canon c) at h)))
-unmoved w d e c l z s (below q h) =
-    absurd (omega (arith, val c (pos 0) z, ap (λ k. w * k) (val d (pos 0) (flat w d c l z s)), simp Z·diff at (rw (← canon d, ← canon c) at h)))
+-- A metered stream with one price at both ends: no flow of equal cost moves it.
+unmoved : (w : ℕ) (d e c : ℤ) (a b : Bool) → 1 ≤ w → c ≡ pos 0 → Step 1 w d c a b → Tied w d e c a b → e ≡ d
+unmoved w d e c a b l z s (level q) = q
+unmoved w d e c a b l z s (above q t h) =
+    absurd (omega (arith, val c (pos 0) z, mul-le-mul-left w (flat-high w d c a b l z s t), simp Z·diff at (rw (← canon d, ← canon c) at h)))
+unmoved w d e c a b l z s (below q t h) =
+    absurd (omega (arith, val c (pos 0) z, mul-le-mul-left w (flat-low w d c a b l z s t), simp Z·diff at (rw (← canon d, ← canon c) at h)))
 
 -- The adjusted weights as a sum, and what the prices bring in over D.
 adjusted-is : (p : Plant) (m : ℕ) → pos (adjustedTo p m) ≡ sum m (λ k. pos (adjustedWeight (classOf p k) (streamOf p k)))
@@ -68,8 +73,8 @@ module _ (p : Plant) (w : Within p) (π : ℕ → ℤ) (xs : List ℤ) (c : Cert
   level-price : (u v : ℕ) → oneGroup p u v ≡ true → π v -ℤ π u ≡ pos 0
   level-price u v e = none-minus (π v) (π u) (group-price 1 π (p .streams) (amountAt xs) (c .steps) (joined→chain unmeteredOnly p u v e))
 
-  -- No flow in fractions undercuts a certified flow by more than a quarter of the adjusted streams' weights.
-  pub near-certified : (ys : List ℤ) (D : ℕ) → allowed p ys ≡ true
+  -- No flow in fractions, within all ranges, undercuts a certified flow by more than a quarter of the adjusted streams' weights.
+  pub near-certified : (ys : List ℤ) (D : ℕ) → allowedOver D p ys ≡ true
       → 4 * (D * D) * cost (p .streams) xs ≤ 4 * costOver D (p .streams) ys + D * D * adjusted p
   near-certified ys D b =
       omega (
@@ -85,6 +90,12 @@ module _ (p : Plant) (w : Within p) (π : ℕ → ℤ) (xs : List ℤ) (c : Cert
       s : ℕ → Stream
       s = streamOf p
 
+      bx : balanced p xs ≡ true
+      bx = balanced-of 1 p xs (c .balance)
+
+      by : balanced p ys ≡ true
+      by = balanced-of D p ys b
+
       left : ℕ → ℤ
       left k =
           pos (4 * (D * D) * share (s k) (amountAt xs k))
@@ -97,8 +108,9 @@ module _ (p : Plant) (w : Within p) (π : ℕ → ℤ) (xs : List ℤ) (c : Cert
 
       each : (k : ℕ) → k < n → Le (left k) (right k)
       each k l =
-          stream-fraction D (s k) (s k .metered) (oneGroup p (s k .from) (s k .to)) (onLoop p k) _ _ (climb π (s k))
-          (w .each k l .weighed) (level-price (s k .from) (s k .to)) (c .steps k l)
+          stream-fraction D (s k) (s k .metered) (oneGroup p (s k .from) (s k .to)) (onLoop p k) _ _ (climb π (s k)) _ _
+          (w .each k l .weighed) (unmetered-moves (s k) (amountAt xs k)) (level-price (s k .from) (s k .to)) (c .steps k l)
+          (free-over D (s k) (amountAt xs k) (amountAt ys k) (range-of D p ys b k l))
 
       R : ℤ
       R = sum n (λ k. climb π (s k) *ℤ s k .reading)
@@ -112,34 +124,38 @@ module _ (p : Plant) (w : Within p) (π : ℕ → ℤ) (xs : List ℤ) (c : Cert
       left-sum : sum n left ≡ pos (4 * (D * D) * cost (p .streams) xs) +ℤ kept
       left-sum =
           sum-plus n (λ k. pos (4 * (D * D) * share (s k) (amountAt xs k))) _
-          ∙ ap₂ _+ℤ_ (scaled (4 * (D * D)) _ _ (cost-one (p .streams) xs (balanced-size p xs (c .balance))))
-          (sym (sum-times n (pos (4 * D)) _) ∙ ap (λ (z : ℤ). pos (4 * D) *ℤ z) (gain-is p w π ys b (pos D)))
+          ∙ ap₂ _+ℤ_ (scaled (4 * (D * D)) _ _ (cost-one (p .streams) xs (balanced-size p xs bx)))
+          (sym (sum-times n (pos (4 * D)) _) ∙ ap (λ (z : ℤ). pos (4 * D) *ℤ z) (gain-is p w π ys by (pos D)))
 
       right-sum : sum n right ≡ pos (4 * costOver D (p .streams) ys + D * D * adjusted p) +ℤ kept
       right-sum =
           sum-plus n (λ k. pos (4 * shareOver D (s k) (amountAt ys k) + D * D * adjustedWeight (classOf p k) (s k))) _
           ∙ ap₂ _+ℤ_
           (sum-plus n (λ k. pos (4 * shareOver D (s k) (amountAt ys k))) (λ k. pos (D * D * adjustedWeight (classOf p k) (s k)))
-          ∙ ap₂ _+ℤ_ (scaled 4 _ _ (cost-is D (p .streams) ys (balanced-size p ys b))) (scaled (D * D) _ _ (adjusted-is p n)))
-          (sym (sum-times n (pos (4 * (D * D))) _) ∙ ap (λ (z : ℤ). pos (4 * (D * D)) *ℤ z) (gain-one p w π xs (c .balance)) ∙ same-gain 1 D R refl)
+          ∙ ap₂ _+ℤ_ (scaled 4 _ _ (cost-is D (p .streams) ys (balanced-size p ys by))) (scaled (D * D) _ _ (adjusted-is p n)))
+          (sym (sum-times n (pos (4 * (D * D))) _) ∙ ap (λ (z : ℤ). pos (4 * (D * D)) *ℤ z) (gain-one p w π xs bx) ∙ same-gain 1 D R refl)
 
   -- Every cheapest flow costs what the certified one costs.
   pub same-cost : (zs : List ℤ) → Cheapest p zs → cost (p .streams) zs ≡ cost (p .streams) xs
   same-cost zs z = le-antisymm (z .least xs (c .balance)) (least p w π xs c zs (z .balance))
 
-  pub near : (zs ys : List ℤ) (D : ℕ) → Cheapest p zs → 1 ≤ D → allowed p ys ≡ true
+  pub near : (zs ys : List ℤ) (D : ℕ) → Cheapest p zs → 1 ≤ D → allowedOver D p ys ≡ true
       → 4 * (D * D) * cost (p .streams) zs ≤ 4 * costOver D (p .streams) ys + D * D * adjusted p
   near zs ys D z l b = rw (same-cost zs z) (near-certified ys D b)
 
-  -- A meter whose ends are in one group keeps its reading in every cheapest flow.
+  -- A meter whose ends are in one group shows the value in range nearest to its reading, in every cheapest flow.
   pub as-read : (zs : List ℤ) (i : ℕ) → Cheapest p zs → i < countOf p → classOf p i ≡ AsRead → amountAt zs i ≡ nearest (streamOf p i)
   as-read zs i z l e =
-      minus-none (amountAt zs i) (s .reading)
-      (unmoved (weightOf s) (amountAt xs i -ℤ s .reading) (amountAt zs i -ℤ s .reading) (climb π s) heavy flat-here (c .steps i l)
-      (ties p w π xs c zs (z .balance) (omega (arith, same-cost zs z)) i l heavy))
+      same (amountAt zs i) x (omega (arith, val _ _ still-here, minus-val (amountAt zs i) (s .reading), minus-val x (s .reading)))
+      ∙ nearest-is s x (range-of 1 p xs (c .balance) i l)
+      (λ t. omega (arith, minus-val x (s .reading), flat-high (weightOf s) (x -ℤ s .reading) (climb π s) _ _ heavy flat-here (c .steps i l) t))
+      (λ t. omega (arith, minus-val x (s .reading), flat-low (weightOf s) (x -ℤ s .reading) (climb π s) _ _ heavy flat-here (c .steps i l) t))
     where
       s : Stream
       s = streamOf p i
+
+      x : ℤ
+      x = amountAt xs i
 
       known : (s .metered ≡ true) × (oneGroup p (s .from) (s .to) ≡ true)
       known = class-means p i AsRead e
@@ -149,3 +165,8 @@ module _ (p : Plant) (w : Within p) (π : ℕ → ℤ) (xs : List ℤ) (c : Cert
 
       flat-here : climb π s ≡ pos 0
       flat-here = level-price (s .from) (s .to) (known .1)
+
+      still-here : amountAt zs i -ℤ s .reading ≡ x -ℤ s .reading
+      still-here =
+          unmoved (weightOf s) (x -ℤ s .reading) (amountAt zs i -ℤ s .reading) (climb π s) _ _ heavy flat-here (c .steps i l)
+          (ties p w π xs c zs (z .balance) (omega (arith, same-cost zs z)) i l heavy)

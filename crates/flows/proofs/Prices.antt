@@ -10,16 +10,17 @@ use Rattle.numbers.specs.Choice.{pick}
 use Rattle.plants.specs.declared.Stream.{Stream}
 use Rattle.plants.specs.Plants.{Plant}
 use Rattle.plants.specs.Within.{Within}
-use Rattle.flows.specs.Flows.{streamAt, amountAt, allowed, square, cost, costOver}
-use Rattle.flows.specs.Certificate.{weightOf, climb}
+use Rattle.flows.specs.Flows.{streamAt, amountAt, balanced, allowed, square, cost, costOver}
+use Rattle.flows.specs.Certificate.{weightOf, climb, rises, falls}
 use Rattle.flows.proofs.Integers.{Le, canon, Z·diff, plus-val, one-times}
 use Rattle.flows.proofs.Sums.{sum, sum-same, sum-plus, sum-times, sum-le, sum-tight}
 use Rattle.flows.proofs.Nets.{countOf, streamOf, sum-listed, balanced-size, no-gain}
 use Rattle.flows.proofs.Steps.{Step, Tied, whole, tied}
+use Rattle.flows.proofs.Ranges.{balanced-of, range-of, free-whole}
 
 -- The step condition of a stream with amount x, and of all streams of a flow.
 abbrev pub StepAt : ℕ → (ℕ → ℤ) → Stream → ℤ → Type 0
-StepAt Δ π s x = Step Δ (weightOf s) (x -ℤ s .reading) (climb π s)
+StepAt Δ π s x = Step Δ (weightOf s) (x -ℤ s .reading) (climb π s) (falls s x) (rises s x)
 
 abbrev pub Steps : ℕ → (ℕ → ℤ) → List Stream → (ℕ → ℤ) → Type 0
 Steps Δ π ss x = (k : ℕ) → k < length ss → StepAt Δ π (streamAt ss k) (x k)
@@ -56,7 +57,7 @@ cost-one ss xs e = cost-is 1 ss xs e ∙ sum-same (length ss) _ _ (λ k l. of (s
 term : (c y D r : ℤ) → c *ℤ (y -ℤ D *ℤ r) ≡ c *ℤ y +ℤ negℤ D *ℤ (c *ℤ r)
 term c y D r = rw (← canon c, ← canon y, ← canon D, ← canon r) (simp Z·diff (omega arith))
 
-module _ (p : Plant) (w : Within p) (π : ℕ → ℤ) (ys : List ℤ) (b : allowed p ys ≡ true) where
+module _ (p : Plant) (w : Within p) (π : ℕ → ℤ) (ys : List ℤ) (b : balanced p ys ≡ true) where
   pub gain-is : (D : ℤ) → sum (countOf p) (λ k. climb π (streamOf p k) *ℤ (amountAt ys k -ℤ D *ℤ streamOf p k .reading))
       ≡ negℤ D *ℤ sum (countOf p) (λ k. climb π (streamOf p k) *ℤ streamOf p k .reading)
   gain-is D =
@@ -90,21 +91,29 @@ module _ (p : Plant) (w : Within p) (π : ℕ → ℤ) where
   abbrev kept : ℤ
   kept = negℤ (pos 1) *ℤ sum (countOf p) (λ k. climb π (streamOf p k) *ℤ streamOf p k .reading)
 
-  mixed-sum : (xs ys : List ℤ) → allowed p xs ≡ true → allowed p ys ≡ true → sum (countOf p) (mixed xs ys) ≡ pos (cost (p .streams) xs) +ℤ kept
+  mixed-sum : (xs ys : List ℤ) → balanced p xs ≡ true → balanced p ys ≡ true → sum (countOf p) (mixed xs ys) ≡ pos (cost (p .streams) xs) +ℤ kept
   mixed-sum xs ys a b =
       sum-plus (countOf p) (λ k. pos (share (streamOf p k) (amountAt xs k))) _
       ∙ ap₂ _+ℤ_ (sym (cost-one (p .streams) xs (balanced-size p xs a))) (gain-one p w π ys b)
 
   module _ (xs : List ℤ) (c : Certificate p xs π) (ys : List ℤ) (b : allowed p ys ≡ true) where
-    each-le : (k : ℕ) → k < countOf p → Le (mixed xs ys k) (mixed ys xs k)
-    each-le k l = whole (weightOf (streamOf p k)) _ _ (climb π (streamOf p k)) (c .steps k l)
+    sums : (sum (countOf p) (mixed xs ys) ≡ pos (cost (p .streams) xs) +ℤ kept) × (sum (countOf p) (mixed ys xs) ≡ pos (cost (p .streams) ys) +ℤ kept)
+    sums =
+        let bx = balanced-of 1 p xs (c .balance) in
+        let by = balanced-of 1 p ys b in
+        (mixed-sum xs ys bx by, mixed-sum ys xs by bx)
 
-    -- A certified flow has least cost among whole flows.
+    each-le : (k : ℕ) → k < countOf p → Le (mixed xs ys k) (mixed ys xs k)
+    each-le k l =
+        whole (weightOf (streamOf p k)) _ _ (climb π (streamOf p k)) _ _ (c .steps k l)
+        (free-whole (streamOf p k) (amountAt xs k) (amountAt ys k) (range-of 1 p ys b k l))
+
+    -- A certified flow has least cost among whole flows in range.
     pub least : cost (p .streams) xs ≤ cost (p .streams) ys
     least =
         omega (
           arith,
-          rw (mixed-sum xs ys (c .balance) b, mixed-sum ys xs b (c .balance)) at (sum-le (countOf p) (mixed xs ys) (mixed ys xs) each-le),
+          rw (sums .0, sums .1) at (sum-le (countOf p) (mixed xs ys) (mixed ys xs) each-le),
           plus-val (pos (cost (p .streams) xs)) kept,
           plus-val (pos (cost (p .streams) ys)) kept,
         )
@@ -112,9 +121,12 @@ module _ (p : Plant) (w : Within p) (π : ℕ → ℤ) where
     -- A flow of equal cost differs by at most 1 on each metered stream, and only where a bound is tight.
     pub ties : cost (p .streams) ys ≤ cost (p .streams) xs → (k : ℕ) → k < countOf p → 1 ≤ weightOf (streamOf p k)
         → Tied (weightOf (streamOf p k)) (amountAt xs k -ℤ streamOf p k .reading) (amountAt ys k -ℤ streamOf p k .reading) (climb π (streamOf p k))
-    ties h k l v = tied (weightOf (streamOf p k)) _ _ (climb π (streamOf p k)) v (c .steps k l) (rw at-k (omega arith))
+        (falls (streamOf p k) (amountAt xs k)) (rises (streamOf p k) (amountAt xs k))
+    ties h k l v =
+        tied (weightOf (streamOf p k)) _ _ (climb π (streamOf p k)) _ _ v (c .steps k l)
+        (free-whole (streamOf p k) (amountAt xs k) (amountAt ys k) (range-of 1 p ys b k l)) (rw at-k (omega arith))
       where
         at-k : mixed xs ys k ≡ mixed ys xs k
         at-k = sum-tight (countOf p) (mixed xs ys) (mixed ys xs) each-le
-            (rw (mixed-sum xs ys (c .balance) b, mixed-sum ys xs b (c .balance))
+            (rw (sums .0, sums .1)
             (omega (arith, plus-val (pos (cost (p .streams) xs)) kept, plus-val (pos (cost (p .streams) ys)) kept))) k l

@@ -15,20 +15,21 @@ use Rattle.plants.specs.declared.Stream.{Stream}
 use Rattle.plants.specs.Plants.{Plant}
 use Rattle.plants.specs.Within.{Within}
 use Rattle.flows.specs.Flows.{streamAt, amountAt, allowed, cost, Cheapest}
-use Rattle.flows.specs.Certificate.{weightOf, climb, lower, upper, leastClimb, mostClimb}
+use Rattle.flows.specs.Certificate.{weightOf, climb, lower, upper, leastClimb, mostClimb, rises, falls}
 use Rattle.flows.proofs.Integers.{Le, Lt, Le-unless, val, plus-val, minus-val, up-neg, dn-neg}
 use Rattle.flows.proofs.Sums.{sum-tight}
 use Rattle.flows.proofs.Nets.{countOf, streamOf, crossing, no-crossing, balanced-size}
 use Rattle.flows.proofs.Steps.{Step, Tied, level, above, below, free}
+use Rattle.flows.proofs.Ranges.{balanced-of, unmetered-moves}
 use Rattle.flows.proofs.Prices.{Certificate, least, ties}
 use Rattle.flows.proofs.Order.{AgreeTo, LeadsTo, in-order}
 
--- A stream that cannot carry less, or more, at no cost.
+-- A stream that cannot carry less, or more, at no cost: that would cost, or leave its range.
 abbrev pub NoLess : (ℕ → ℤ) → Stream → ℤ → Type 0
-NoLess π s x = Lt (leastClimb s x) (climb π s)
+NoLess π s x = falls s x ≡ true → Lt (leastClimb s x) (climb π s)
 
 abbrev pub NoMore : (ℕ → ℤ) → Stream → ℤ → Type 0
-NoMore π s x = Lt (climb π s) (mostClimb s x)
+NoMore π s x = rises s x ≡ true → Lt (climb π s) (mostClimb s x)
 
 -- Stream k brings nothing more out of a set of places at no cost.
 pub record Shut (c : ℕ → Bool) (π : ℕ → ℤ) (s : Stream) (x : ℤ) : Type 0 where
@@ -47,19 +48,21 @@ pub data Stays (ss : List Stream) (π x : ℕ → ℤ) (i : ℕ) : Type 0 where
       → ((k : ℕ) → k < length ss → meteredTo i k (streamAt ss k) ≡ false → Shut c π (streamAt ss k) (x k)) → Stays ss π x i
 
 -- A tied deviation is no less where the stream cannot carry less, and no more where it cannot carry more.
-no-less : (w : ℕ) (d e c : ℤ) → Tied w d e c → Lt (lower 1 w d) c → Le d e
-no-less w d e c (level q) h = omega (arith, val e d q)
-no-less w d e c (above q t) h = omega (arith, val e (d +ℤ pos 1) q, plus-val d (pos 1))
-no-less w d e c (below q t) h = absurd (omega arith)
+no-less : (w : ℕ) (d e c : ℤ) (a b : Bool) → Tied w d e c a b → (a ≡ true → Lt (lower 1 w d) c) → Le d e
+no-less w d e c a b (level q) h = omega (arith, val e d q)
+no-less w d e c a b (above q m t) h = omega (arith, val e (d +ℤ pos 1) q, plus-val d (pos 1))
+no-less w d e c a b (below q m t) h = absurd (omega (arith, h m))
 
-no-more : (w : ℕ) (d e c : ℤ) → Tied w d e c → Lt c (upper 1 w d) → Le e d
-no-more w d e c (level q) h = omega (arith, val e d q)
-no-more w d e c (above q t) h = absurd (omega arith)
-no-more w d e c (below q t) h = omega (arith, val e (d -ℤ pos 1) q, minus-val d (pos 1))
+no-more : (w : ℕ) (d e c : ℤ) (a b : Bool) → Tied w d e c a b → (b ≡ true → Lt c (upper 1 w d)) → Le e d
+no-more w d e c a b (level q) h = omega (arith, val e d q)
+no-more w d e c a b (above q m t) h = absurd (omega (arith, h m))
+no-more w d e c a b (below q m t) h = omega (arith, val e (d -ℤ pos 1) q, minus-val d (pos 1))
 
 -- A stream of no weight carries more and less at no cost.
-free-bounds : (w : ℕ) (d c : ℤ) → w ≡ 0 → Step 1 w d c → (lower 1 w d ≡ c) × (upper 1 w d ≡ c)
-free-bounds w d c z s = (rw (z, zero-*ℤ (pos 2 *ℤ d -ℤ pos 1)) (sym (free 1 w d c z s)), rw (z, zero-*ℤ (pos 2 *ℤ d +ℤ pos 1)) (sym (free 1 w d c z s)))
+free-bounds : (w : ℕ) (d c : ℤ) (a b : Bool) → w ≡ 0 → (a ≡ true) × (b ≡ true) → Step 1 w d c a b → (lower 1 w d ≡ c) × (upper 1 w d ≡ c)
+free-bounds w d c a b z m s =
+    let none = sym (free 1 w d c a b z m s) in
+    (rw (z, zero-*ℤ (pos 2 *ℤ d -ℤ pos 1)) none, rw (z, zero-*ℤ (pos 2 *ℤ d +ℤ pos 1)) none)
 
 shift : (x y r : ℤ) → Le (x -ℤ r) (y -ℤ r) → Le x y
 shift x y r h = omega (arith, minus-val x r, minus-val y r)
@@ -88,19 +91,20 @@ module _ (p : Plant) (w : Within p) (π : ℕ → ℤ) (xs : List ℤ) (c : Cert
   s k = streamOf p k
 
   -- On any stream a flow of equal cost has no less, or no more, where that costs.
-  tied-at : (k : ℕ) → k < countOf p → s k .metered ≡ true → Tied (weightOf (s k)) (x k -ℤ s k .reading) (y k -ℤ s k .reading) (climb π (s k))
+  tied-at : (k : ℕ) → k < countOf p → s k .metered ≡ true
+      → Tied (weightOf (s k)) (x k -ℤ s k .reading) (y k -ℤ s k .reading) (climb π (s k)) (falls (s k) (x k)) (rises (s k) (x k))
   tied-at k l m = ties p w π xs c ys b h k l (rw m (w .each k l .weighed m))
 
   free-at : (k : ℕ) → k < countOf p → s k .metered ≡ false → (leastClimb (s k) (x k) ≡ climb π (s k)) × (mostClimb (s k) (x k) ≡ climb π (s k))
-  free-at k l m = free-bounds (weightOf (s k)) (x k -ℤ s k .reading) (climb π (s k)) (rw m) (c .steps k l)
+  free-at k l m = free-bounds (weightOf (s k)) (x k -ℤ s k .reading) (climb π (s k)) _ _ (rw m) (unmetered-moves (s k) (x k) m) (c .steps k l)
 
   no-less-at : (k : ℕ) → k < countOf p → NoLess π (s k) (x k) → Le (x k) (y k)
-  no-less-at k l e = by-cases (s k .metered) (λ m. shift (x k) (y k) (s k .reading) (no-less _ _ _ _ (tied-at k l m) e))
-      (λ m. absurd (omega (arith, val _ _ (free-at k l m .0))))
+  no-less-at k l e = by-cases (s k .metered) (λ m. shift (x k) (y k) (s k .reading) (no-less _ _ _ _ _ _ (tied-at k l m) e))
+      (λ m. absurd (omega (arith, val _ _ (free-at k l m .0), e (unmetered-moves (s k) (x k) m .0))))
 
   no-more-at : (k : ℕ) → k < countOf p → NoMore π (s k) (x k) → Le (y k) (x k)
-  no-more-at k l e = by-cases (s k .metered) (λ m. shift (y k) (x k) (s k .reading) (no-more _ _ _ _ (tied-at k l m) e))
-      (λ m. absurd (omega (arith, val _ _ (free-at k l m .1))))
+  no-more-at k l e = by-cases (s k .metered) (λ m. shift (y k) (x k) (s k .reading) (no-more _ _ _ _ _ _ (tied-at k l m) e))
+      (λ m. absurd (omega (arith, val _ _ (free-at k l m .1), e (unmetered-moves (s k) (x k) m .1))))
 
   module _ (i : ℕ) (l : i < countOf p) (a : AgreeTo i (p .streams) (amountAt xs) (amountAt ys)) where
     early : (k : ℕ) → (k ≡ i → ⊥) → meteredTo i k (s k) ≡ true → x k ≡ y k
@@ -127,7 +131,7 @@ module _ (p : Plant) (w : Within p) (π : ℕ → ℤ) (xs : List ℤ) (c : Cert
         at-i =
             sum-tight (countOf p) (λ k. crossing side (s k) (x k)) (λ k. crossing side (s k) (y k))
             (λ k m. crossing-le side (s k) (x k) (y k) (enters k m) (leaves k m))
-            (rw (no-crossing p w xs (c .balance) side, no-crossing p w ys b side) (omega arith)) i l
+            (rw (no-crossing p w xs (balanced-of 1 p xs (c .balance)) side, no-crossing p w ys (balanced-of 1 p ys b) side) (omega arith)) i l
 
         differ : negℤ (x i) ≡ negℤ (y i) → ⊥
         differ e = omega (arith, val _ _ e, up-neg (x i), dn-neg (x i), up-neg (y i), dn-neg (y i))
@@ -144,8 +148,11 @@ pub first-cheapest : (p : Plant) → Within p → (π : ℕ → ℤ) (xs : List 
 first-cheapest p w π xs c h = record {
   balance = c .balance;
   least = least p w π xs c;
-  tie = λ ys b e. in-order (p .streams) xs ys (balanced-size p xs (c .balance)) (balanced-size p ys b) (h ys b e);
+  tie = λ ys b e. in-order (p .streams) xs ys (size xs (c .balance)) (size ys b) (h ys b e);
 }
+  where
+    size : (zs : List ℤ) → allowed p zs ≡ true → length zs ≡ countOf p
+    size zs b = balanced-size p zs (balanced-of 1 p zs b)
 
 -- So is one whose metered amounts each stay.
 pub stays-cheapest : (p : Plant) → Within p → (π : ℕ → ℤ) (xs : List ℤ) → Certificate p xs π

@@ -1,6 +1,6 @@
--- Flows of a plant: balance, cost, and the cheapest balanced flow.
+-- Flows of a plant: balance, ranges, cost, and the cheapest balanced flow in range.
 use mathlib.Core.Path.{_≡_}
-use mathlib.Core.Bool.{Bool, true, false, _&&_, _||_}
+use mathlib.Core.Bool.{Bool, true, false, not, _&&_, _||_}
 use mathlib.Core.List.{List, [], _∷_, _++_}
 use lib.IntN.{ℤ, pos, negℤ, _+ℤ_, _-ℤ_, _*ℤ_, natAbs}
 use lib.Signed.{ltZ, leZ}
@@ -9,7 +9,7 @@ use lib.Dec.{eqb}
 use lib.ListN.{length, getD}
 use Rattle.numbers.specs.Choice.{pick}
 use Rattle.plants.specs.declared.Stream.{Stream}
-use Rattle.plants.specs.Plants.{Plant, noStream}
+use Rattle.plants.specs.Plants.{Plant, noStream, limited}
 
 -- Stream k of a list, and its amount in a flow, counted from 0.
 abbrev pub streamAt : List Stream → ℕ → Stream
@@ -35,9 +35,22 @@ balancedTo (suc u) ss xs = eqb (natAbs (netAt (suc u) ss xs)) 0 && balancedTo u 
 abbrev pub balanced : Plant → List ℤ → Bool
 balanced p xs = eqb (length xs) (length (p .streams)) && balancedTo (p .units) (p .streams) xs
 
--- The flows among which the cheapest is taken: all that balance.
+-- An amount over d is in the range of a stream from d × low to d × high; without a range, always.
+abbrev pub inRange : ℕ → Stream → ℤ → Bool
+inRange d s x = not (limited s) || (leZ (pos d *ℤ s .low) x && leZ x (pos d *ℤ s .high))
+
+abbrev pub inRanges : ℕ → List Stream → List ℤ → Bool
+inRanges d [] xs = true
+inRanges d (s ∷ ss) [] = true
+inRanges d (s ∷ ss) (x ∷ xs) = inRange d s x && inRanges d ss xs
+
+-- A flow over d that balances and lies within all ranges.
+abbrev pub allowedOver : ℕ → Plant → List ℤ → Bool
+allowedOver d p xs = balanced p xs && inRanges d (p .streams) xs
+
+-- The whole-number flows among which the cheapest is taken.
 abbrev pub allowed : Plant → List ℤ → Bool
-allowed p xs = balanced p xs
+allowed p xs = allowedOver 1 p xs
 
 abbrev pub square : ℤ → ℕ
 square z = natAbs z * natAbs z
@@ -71,14 +84,16 @@ notAfter [] ys = true
 notAfter (x ∷ xs) [] = false
 notAfter (x ∷ xs) (y ∷ ys) = ltZ x y || (leZ x y && notAfter xs ys)
 
--- The cheapest flow: of least cost among all balanced whole-number flows; among these, the one whose first metered stream is
--- least, then the second, and so on.
+-- The cheapest flow: of least cost among all balanced whole-number flows within all ranges; among these, the one whose first
+-- metered stream is least, then the second, and so on.
 pub record Cheapest (p : Plant) (xs : List ℤ) : Type 0 where
   pub balance : allowed p xs ≡ true
   pub least : (ys : List ℤ) → allowed p ys ≡ true → cost (p .streams) xs ≤ cost (p .streams) ys
   pub tie : (ys : List ℤ) → allowed p ys ≡ true → cost (p .streams) ys ≡ cost (p .streams) xs
       → notAfter (meteredOf (p .streams) xs) (meteredOf (p .streams) ys) ≡ true
 
--- What a meter shows that no balance corrects: its reading.
+-- What a meter shows that no balance corrects: the nearest value in range to its reading.
 abbrev pub nearest : Stream → ℤ
-nearest s = s .reading
+nearest s =
+    pick (limited s && ltZ (s .reading) (s .low)) (s .low)
+    (pick (limited s && ltZ (s .high) (s .reading)) (s .high) (s .reading))

@@ -1,4 +1,5 @@
--- Flows, the cheapest of them, groups and classes, the test, what a sheet shows, certificates of a flow, and what calls need.
+-- Flows, the cheapest of them, groups and classes, the test, what a sheet shows, refusal 19, certificates of a flow, and what
+-- calls need.
 pub mod Flows
 pub mod Chains
 pub mod Groups
@@ -7,6 +8,7 @@ pub mod Labels
 pub mod Sides
 pub mod Test
 pub mod Shown
+pub mod Overfull
 pub mod Certificate
 pub mod Nets
 pub mod Calls

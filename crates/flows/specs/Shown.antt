@@ -11,7 +11,7 @@ use Rattle.plants.specs.Plants.{Plant}
 use Rattle.plants.specs.Files.{got, readPlant}
 use Rattle.flows.specs.declared.Class.{Class}
 use Rattle.flows.specs.declared.Class.the-variants.{Adjusted, AsRead, Given, Withheld}
-use Rattle.flows.specs.Flows.{streamAt, amountAt, allowed, balanced, cost, costOver, meteredOf, Agree, Cheapest, nearest}
+use Rattle.flows.specs.Flows.{streamAt, amountAt, balanced, allowedOver, allowed, cost, costOver, meteredOf, Agree, Cheapest, nearest}
 use Rattle.flows.specs.Classes.{classOf, givenOf}
 
 -- A stream's weight where it is adjusted.
@@ -38,7 +38,7 @@ pub record Shown (p : Plant) : Type 0 where
   -- There is a cheapest flow, and on the metered streams only one.
   pub some : (xs : List ℤ) × Cheapest p xs
   pub one : (xs ys : List ℤ) → Cheapest p xs → Cheapest p ys → meteredOf (p .streams) xs ≡ meteredOf (p .streams) ys
-  -- R: its flow is its reading.
+  -- R: its flow is the nearest value in range to its reading.
   pub as-read : (xs : List ℤ) (i : ℕ) → Cheapest p xs → i < length (p .streams) → classOf p i ≡ AsRead
       → amountAt xs i ≡ nearest (streamAt (p .streams) i)
   -- Of an unmetered stream: a number (class G) exactly when every two flows that agree on all metered streams agree on it.
@@ -50,10 +50,10 @@ pub record Shown (p : Plant) : Type 0 where
   -- The number of a G stream is its flow in every balanced flow with the same metered flows.
   pub its-number : (xs : List ℤ) (i : ℕ) → balanced p xs ≡ true → i < length (p .streams) → classOf p i ≡ Given
       → givenOf p i xs ≡ amountAt xs i
-  -- No flow in fractions undercuts the cheapest by more than a quarter of the adjusted streams' weights.
-  pub near : (xs ys : List ℤ) (d : ℕ) → Cheapest p xs → 1 ≤ d → allowed p ys ≡ true
+  -- No flow in fractions, within all ranges, undercuts the cheapest by more than a quarter of the adjusted streams' weights.
+  pub near : (xs ys : List ℤ) (d : ℕ) → Cheapest p xs → 1 ≤ d → allowedOver d p ys ≡ true
       → 4 * (d * d) * cost (p .streams) xs ≤ 4 * costOver d (p .streams) ys + d * d * adjusted p
 
--- Demand 3: of every accepted plant.
+-- Demand 3: of every accepted plant. One that is read, but has no balanced flow within all ranges, is not accepted.
 abbrev pub Demand-3 : Type 0
-Demand-3 = (file : List ℕ) (p : Plant) → readPlant file ≡ got p → Shown p
+Demand-3 = (file : List ℕ) (p : Plant) (ys : List ℤ) → readPlant file ≡ got p → allowed p ys ≡ true → Shown p

@@ -1,41 +1,81 @@
-// From amounts settled at a hint to a balanced flow that meets the step condition at 1.
-use crate::hints::no_hint;
-use crate::improve_all;
+// From amounts settled at a hint to a balanced flow that meets the step condition at 1, or to a set that is overfull.
+use crate::phase;
 use lanes::LANES;
+use model::Ended;
+use model::Hint;
 use model::State;
-use model::sizes::FUEL;
-use model::sizes::LEFTOVER_LIMIT;
+use model::sizes::FLOW_SHIFT;
+use model::sizes::MOST_STEP;
+use model::sizes::MOST_TRIED;
+use model::sizes::PRICE_SHIFT;
 use plants::Stream;
 use plants::limits::MAX_STREAMS;
+use plants::limits::PLACES;
 use settling::over_sum;
 use settling::settle;
 ghost use mathlib.Core.Path.{_≡_};
 ghost use lib.ListN.{take};
+ghost use Rattle.model.specs.Sizes.{halvings};
 ghost use Rattle.model.specs.SearchNeeds.{Network, Laid};
-ghost use Rattle.model.specs.Model.{begun, finished};
+ghost use Rattle.model.specs.Model as M;
+ghost use Rattle.model.specs.Model.{noHint, asHint, finished};
 ghost use Rattle.model.specs.SolverNeeds.{AtHint};
 
-// The amounts as they are; where too much is left over, those settled at no hint.
-fn begin(streams: [Stream; MAX_STREAMS], count: usize, st: State) -> State
-    requires { ⌜ Network streams count × AtHint (take count streams) st ⌝ }
-    ensures { λ r. ⌜ r ≡ begun (take count streams) st ⌝ }
+// No hint: amounts and prices 0.
+fn no_hint() -> Hint
+    ensures { λ r. ⌜ r ≡ noHint ⌝ }
 {
-    let nets = st.nets;
-    if over_sum(&nets) <= LEFTOVER_LIMIT {
-        return st;
+    Hint {
+        flows: [FLOW_SHIFT; MAX_STREAMS],
+        prices: [PRICE_SHIFT; PLACES],
     }
-    settle(streams, count, no_hint())
 }
 
-// Improved at step 1 until no net is positive.
+// The amounts and the prices of a state.
+fn hint_of(st: State) -> Hint
+    ensures { λ r. ⌜ r ≡ asHint st ⌝ }
+{
+    let flows = st.flows;
+    let prices = st.prices;
+    Hint {
+        flows: flows,
+        prices: prices,
+    }
+}
+
+// From no hint: at each step from MOST_STEP down to 1 amounts are settled anew, and a phase is gone through.
+fn phases(streams: [Stream; MAX_STREAMS], count: usize, lanes: &[u64; LANES]) -> Ended
+    requires { ⌜ Network streams count × Laid streams count (now lanes) ⌝ }
+    ensures { λ r. ⌜ r ≡ M.phases halvings (take count streams) noHint ⌝ }
+{
+    let mut h = no_hint();
+    let mut step = MOST_STEP;
+    while 1 < step {
+        let st = settle(streams, count, h);
+        let e = phase(lanes, st, step);
+        if e.full {
+            return e;
+        }
+        h = hint_of(e.state);
+        step = step / 2;
+    }
+    let st = settle(streams, count, h);
+    phase(lanes, st, 1)
+}
+
+// One phase at step 1; where too much is over, all phases from no hint.
 pub fn finish(
     streams: [Stream; MAX_STREAMS],
     count: usize,
     lanes: &[u64; LANES],
     st: State,
-) -> State
+) -> Ended
     requires { ⌜ Network streams count × AtHint (take count streams) st × Laid streams count (now lanes) ⌝ }
     ensures { λ r. ⌜ r ≡ finished (take count streams) st ⌝ }
 {
-    improve_all(lanes, begin(streams, count, st), 1, FUEL)
+    let nets = st.nets;
+    if over_sum(&nets) <= MOST_TRIED {
+        return phase(lanes, st, 1);
+    }
+    phases(streams, count, lanes)
 }

@@ -1,37 +1,30 @@
-// Improvements: net is moved from a place that has too much to one that has too little, at the least cost.
+// Improvements: net is moved from a place that has too much to one that has too little, at the least cost; phase after phase, at
+// smaller and smaller steps.
+use closing::refloor;
+use full::tested;
 use lanes::LANES;
 use lanes::pushes::push_back;
+use lanes::slacks::minus;
+use model::Ended;
+use model::Halt;
+use model::Searched;
 use model::State;
 use model::sizes::NET_SHIFT;
 use plants::limits::MAX_STREAMS;
 use plants::limits::PLACES;
 use walks::search;
 ghost use mathlib.Core.Path.{_≡_};
-ghost use Prim.Native.Nat.{_≤_, _<_};
-ghost use lib.ListN.{length, take};
+ghost use Prim.Native.Nat.{_+_, _-_, _/_, _≤_, _<_};
+ghost use lib.ListN.{getD, take};
 ghost use Rattle.plants.specs.Limits.{places};
-ghost use Rattle.model.specs.Sizes.{mostStep};
-ghost use Rattle.model.specs.Model.{firstOver, shiftedNets, stateOf, improvedBy, improved, improvements};
+ghost use Rattle.model.specs.Sizes.{netShift};
+ghost use Rattle.model.specs.Model as M;
+ghost use Rattle.model.specs.Model.{shiftedNets, stateOf, improvedBy, improvedAt, endedBy, fromPlace};
 ghost use Rattle.model.specs.SolverNeeds.{Shiftable, Improvable};
 
 pub mod finishing;
-pub mod hints;
+pub mod full;
 pub mod ties;
-
-// The first place with a net of delta or more, PLACES where there is none.
-fn first_over(nets: &[u64; PLACES], delta: u64) -> usize
-    requires { ⌜ (delta ≤ mostStep) × (length (now nets) ≡ places) ⌝ }
-    ensures { λ r. ⌜ r ≡ firstOver (now (nets .entry)) delta ⌝ }
-{
-    let mut u: usize = 0;
-    while u < PLACES {
-        if NET_SHIFT + delta <= nets[u] {
-            return u;
-        }
-        u += 1;
-    }
-    PLACES
-}
 
 // Delta of net moves from place s to place v.
 fn shift_nets(nets: &mut [u64; PLACES], s: usize, v: usize, delta: u64)
@@ -42,57 +35,101 @@ fn shift_nets(nets: &mut [u64; PLACES], s: usize, v: usize, delta: u64)
     nets[v] = nets[v] + delta;
 }
 
-// One improvement at step delta, from the first place with so much net; false where there is none to make.
-fn improve(
+// One improvement at step delta from place s: a search to a place with a negative net, and delta pushed along the way to it. Where no
+// such place can be reached, nothing changes.
+fn improve_from(
     lanes: &[u64; LANES],
     flows: &mut [u64; MAX_STREAMS],
     prices: &mut [u64; PLACES],
     nets: &mut [u64; PLACES],
+    s: usize,
     delta: u64,
-) -> bool
-    requires { ⌜ Improvable (now lanes) delta 1 (stateOf (now flows) (now prices) (now nets)) ⌝ }
-    ensures { λ r. ⌜ ((w : Improvable (now (lanes .entry)) delta 1 (stateOf (now (flows .entry)) (now (prices .entry)) (now (nets .entry)))) → improvedBy r (stateOf (now (flows .exit)) (now (prices .exit)) (now (nets .exit))) ≡ improved (take (w .n) (w .streams)) (stateOf (now (flows .entry)) (now (prices .entry)) (now (nets .entry))) delta) ⌝ }
+) -> Searched
+    requires { ⌜ Improvable (now lanes) delta (stateOf (now flows) (now prices) (now nets)) × (s < places) × (netShift + delta ≤ getD (now nets) s 0) ⌝ }
+    ensures { λ r. ⌜ ((w : Improvable (now (lanes .entry)) delta (stateOf (now (flows .entry)) (now (prices .entry)) (now (nets .entry)))) → improvedBy (r .found) (stateOf (now (flows .exit)) (now (prices .exit)) (now (nets .exit))) (r .tree .visited) ≡ improvedAt (take (w .n) (w .streams)) (stateOf (now (flows .entry)) (now (prices .entry)) (now (nets .entry))) delta s) ⌝ }
 {
-    let s = first_over(nets, delta);
-    if s == PLACES {
-        return false;
-    }
     let h = search(lanes, flows, prices, nets, s, delta);
-    if !h.found {
-        return false;
-    }
     let t = h.tree;
+    if !h.found {
+        return Searched {
+            found: false,
+            tree: t,
+        };
+    }
     let via = t.via;
     let ends = t.ends;
     let len = t.len;
     let target = ends[len - 1];
     push_back(lanes, flows, &via, &ends, len, target, delta);
     shift_nets(nets, s, target as usize, delta);
-    true
+    refloor(prices);
+    Searched {
+        found: true,
+        tree: t,
+    }
 }
 
-// As many improvements at step delta as there are to make, at most budget.
-pub fn improve_all(lanes: &[u64; LANES], start: State, delta: u64, budget: u64) -> State
-    requires { ⌜ Improvable (now lanes) delta budget start ⌝ }
-    ensures { λ r. ⌜ ((w : Improvable (now (lanes .entry)) delta budget start) → r ≡ improvements budget (take (w .n) (w .streams)) delta start) ⌝ }
+// As many improvements at step delta from place s as its net has steps. Where none can be made, the visited places are tested at once,
+// and the place is left as it is.
+fn from_place(
+    lanes: &[u64; LANES],
+    flows: &mut [u64; MAX_STREAMS],
+    prices: &mut [u64; PLACES],
+    nets: &mut [u64; PLACES],
+    s: usize,
+    delta: u64,
+) -> Halt
+    requires { ⌜ Improvable (now lanes) delta (stateOf (now flows) (now prices) (now nets)) × (s < places) ⌝ }
+    ensures { λ r. ⌜ ((w : Improvable (now (lanes .entry)) delta (stateOf (now (flows .entry)) (now (prices .entry)) (now (nets .entry)))) → endedBy (r .full) (stateOf (now (flows .exit)) (now (prices .exit)) (now (nets .exit))) (r .marked) ≡ fromPlace ((getD (now (nets .entry)) s 0 - netShift) / delta) (take (w .n) (w .streams)) delta s (stateOf (now (flows .entry)) (now (prices .entry)) (now (nets .entry)))) ⌝ }
+{
+    let mut left = minus(nets[s], NET_SHIFT) / delta;
+    while 0 < left {
+        let h = improve_from(lanes, flows, prices, nets, s, delta);
+        if !h.found {
+            let t = h.tree;
+            let visited = t.visited;
+            return tested(lanes, visited);
+        }
+        left -= 1;
+    }
+    Halt {
+        full: false,
+        marked: [false; PLACES],
+    }
+}
+
+// A phase at step delta: from the places one after the other.
+pub fn phase(lanes: &[u64; LANES], start: State, delta: u64) -> Ended
+    requires { ⌜ Improvable (now lanes) delta start ⌝ }
+    ensures { λ r. ⌜ ((w : Improvable (now (lanes .entry)) delta start) → r ≡ M.phase (take (w .n) (w .streams)) delta start) ⌝ }
 {
     let mut flows = start.flows;
     let mut prices = start.prices;
     let mut nets = start.nets;
-    let mut left = budget;
-    while 0 < left {
-        if !improve(lanes, &mut flows, &mut prices, &mut nets, delta) {
-            return State {
-                flows: flows,
-                prices: prices,
-                nets: nets,
+    let mut s: usize = 0;
+    while s < PLACES {
+        let h = from_place(lanes, &mut flows, &mut prices, &mut nets, s, delta);
+        if h.full {
+            let marked = h.marked;
+            return Ended {
+                full: true,
+                state: State {
+                    flows: flows,
+                    prices: prices,
+                    nets: nets,
+                },
+                marked: marked,
             };
         }
-        left -= 1;
+        s += 1;
     }
-    State {
-        flows: flows,
-        prices: prices,
-        nets: nets,
+    Ended {
+        full: false,
+        state: State {
+            flows: flows,
+            prices: prices,
+            nets: nets,
+        },
+        marked: [false; PLACES],
     }
 }

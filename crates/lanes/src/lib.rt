@@ -4,6 +4,8 @@
 use plants::Stream;
 use plants::limits::MAX_STREAMS;
 use plants::limits::PLACES;
+use slacks::high_of;
+use slacks::low_of;
 use slacks::pull_of_reading;
 use slacks::weight_of;
 ghost use mathlib.Core.Path.{_≡_};
@@ -11,7 +13,9 @@ ghost use Prim.Native.Nat.{ℕ, _≤_, _<_};
 ghost use lib.ListN.{getD, length};
 ghost use Rattle.numbers.specs.Choice.{pick};
 ghost use Rattle.plants.specs.Limits.{places, maxStreams};
-ghost use Rattle.model.specs.Rows.{rowAt, laneCells, countOf, startsOf, endsOf, weightsOf, pullsOf};
+ghost use Rattle.model.specs.Sizes.{mostFlow, mostStep};
+ghost use Rattle.model.specs.Rows.{rowAt, laneCells, countOf, startsOf, endsOf, weightsOf, pullsOf, lowsOf, highsOf};
+ghost use Rattle.model.specs.Slack.{openBy};
 ghost use Rattle.model.specs.Near.{linkAt};
 ghost use Rattle.model.specs.SearchNeeds.{Network, Rowed, Linkable, Linked, Laid};
 
@@ -19,7 +23,7 @@ pub mod pushes;
 pub mod slacks;
 
 // How many rows there are. The first two are the lists of each place's streams.
-const ROWS: usize = 6;
+const ROWS: usize = 8;
 
 // The link to the stream before a stream at its start, and at its end.
 const OUT: usize = PLACES;
@@ -33,6 +37,10 @@ const ENDS: usize = STARTS + MAX_STREAMS;
 const WEIGHTS: usize = ENDS + MAX_STREAMS;
 
 const PULLS: usize = WEIGHTS + MAX_STREAMS;
+
+const LOWS: usize = PULLS + MAX_STREAMS;
+
+const HIGHS: usize = LOWS + MAX_STREAMS;
 
 const COUNT: usize = PLACES + ROWS * MAX_STREAMS;
 
@@ -88,6 +96,33 @@ pub fn pull_at(lanes: &[u64; LANES], i: usize) -> u64
     lanes[PULLS + i]
 }
 
+// The least amount of its range, and the greatest.
+pub fn low_at(lanes: &[u64; LANES], i: usize) -> u64
+    requires { ⌜ i < maxStreams ⌝ }
+    ensures { λ r. ⌜ r ≡ getD (lowsOf (now (lanes .entry))) i 0 ⌝ }
+{
+    lanes[LOWS + i]
+}
+
+pub fn high_at(lanes: &[u64; LANES], i: usize) -> u64
+    requires { ⌜ i < maxStreams ⌝ }
+    ensures { λ r. ⌜ r ≡ getD (highsOf (now (lanes .entry))) i 0 ⌝ }
+{
+    lanes[HIGHS + i]
+}
+
+// Whether its amount x can rise by delta, or fall by it.
+pub fn open_at(lanes: &[u64; LANES], rises: bool, i: usize, x: u64, delta: u64) -> bool
+    requires { ⌜ (i < maxStreams) × (x ≤ mostFlow) × (delta ≤ mostStep) × (getD (lowsOf (now lanes)) i 0 ≤ mostFlow) ⌝ }
+    ensures { λ r. ⌜ r ≡ openBy (getD (lowsOf (now (lanes .entry))) i 0) (getD (highsOf (now (lanes .entry))) i 0) rises x delta ⌝ }
+{
+    if rises {
+        x + delta <= high_at(lanes, i)
+    } else {
+        low_at(lanes, i) + delta <= x
+    }
+}
+
 // Its start, or its end.
 pub fn place_at(lanes: &[u64; LANES], start: bool, i: usize) -> usize
     requires { ⌜ i < maxStreams ⌝ }
@@ -123,6 +158,8 @@ fn put_rows(streams: [Stream; MAX_STREAMS], count: usize, lanes: &mut [u64; LANE
         lanes[ENDS + i] = s.to as u64;
         lanes[WEIGHTS + i] = weight_of(s);
         lanes[PULLS + i] = 2 * pull_of_reading(s);
+        lanes[LOWS + i] = low_of(s);
+        lanes[HIGHS + i] = high_of(s);
         i += 1;
     }
 }

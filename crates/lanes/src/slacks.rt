@@ -1,14 +1,16 @@
-// Weights and readings as the search holds them, and the slack of a stream.
+// Weights, readings and ranges as the search holds them, and the slack of a stream.
 use model::sizes::FLOW_SHIFT;
+use model::sizes::MOST_FLOW;
 use plants::Stream;
 ghost use mathlib.Core.Path.{_≡_};
 ghost use Prim.Native.Nat.{_+_, _-_, _*_, _≤_};
 ghost use Rattle.numbers.specs.Choice.{pick};
 ghost use Rattle.plants.specs.Limits.{maxUnits, maxWeight};
+ghost use Rattle.plants.specs.Plants.{limited};
 ghost use Rattle.plants.specs.Within.{WithinStream};
 ghost use Rattle.model.specs.Sizes.{mostFlow, mostPull};
 ghost use Rattle.flows.specs.Certificate.{weightOf};
-ghost use Rattle.model.specs.Held.{readingOf};
+ghost use Rattle.model.specs.Held.{shifted, readingOf, lowOf, highOf};
 ghost use Rattle.model.specs.Slack.{gapBy};
 ghost use Rattle.model.specs.SearchNeeds.{Sized};
 
@@ -19,12 +21,39 @@ pub fn weight_of(s: Stream) -> u64
     if s.metered { s.weight as u64 } else { 0 }
 }
 
+// Whether a stream has a range.
+fn limits(s: Stream) -> bool
+    ensures { λ r. ⌜ r ≡ limited s ⌝ }
+{
+    s.metered && s.ranged
+}
+
+// An amount, shifted.
+fn hold(z: i32) -> u64
+    ensures { λ r. ⌜ (r ≡ shifted z) × (r ≤ mostFlow) ⌝ }
+{
+    (z as i64 + FLOW_SHIFT as i64) as u64
+}
+
 // The reading, shifted.
 pub fn reading_of(s: Stream) -> u64
     ensures { λ r. ⌜ (r ≡ readingOf s) × (r ≤ mostFlow) ⌝ }
 {
-    let r = s.reading as i64;
-    (r + FLOW_SHIFT as i64) as u64
+    hold(s.reading)
+}
+
+// The least amount of a stream's range, shifted; 0 where it has none.
+pub fn low_of(s: Stream) -> u64
+    ensures { λ r. ⌜ (r ≡ lowOf s) × (r ≤ mostFlow) ⌝ }
+{
+    if limits(s) { hold(s.low) } else { 0 }
+}
+
+// The greatest; MOST_FLOW where it has none.
+pub fn high_of(s: Stream) -> u64
+    ensures { λ r. ⌜ (r ≡ highOf s) × (r ≤ mostFlow) ⌝ }
+{
+    if limits(s) { hold(s.high) } else { MOST_FLOW }
 }
 
 // Weight times the reading.

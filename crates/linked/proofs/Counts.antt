@@ -14,7 +14,7 @@ use Rattle.plants.specs.declared.Done.{Done}
 use Rattle.plants.specs.Limits.{maxStreams, longestFile}
 use Rattle.plants.specs.Plants.{unitsFault}
 use Rattle.plants.specs.Says.{writeFault, WriteSays}
-use Rattle.linked.specs.Parts.{heldCount}
+use Rattle.linked.specs.Inner.{heldCount}
 
 module _ (n : ℕ) (ss : List Stream) (o o′ : List ℕ) (r : Done) where
   abbrev counting : ℕ → Arrays.Plant

@@ -11,30 +11,46 @@ use Rattle.plants.specs.declared.Plant as Arrays
 use Rattle.plants.specs.Limits.{maxStreams}
 use Rattle.plants.specs.Says.{padded}
 
+-- The slices.
+pub record Slices : Type 0 where
+  pub from : List ℕ
+  pub to : List ℕ
+  pub metered : List ℕ
+  pub weight : List ℕ
+  pub reading : List ℤ
+  pub ranged : List ℕ
+  pub low : List ℤ
+  pub high : List ℤ
+
+-- The stream at place k: its two ends, metered unless 0 stands there, its weight, its reading, with a range unless 0 stands
+-- there, its low, its high.
+abbrev pub partsAt : Slices → ℕ → Stream
+partsAt p k = record {
+  from = getD (p .from) k 0;
+  to = getD (p .to) k 0;
+  metered = not (eqb (getD (p .metered) k 0) 0);
+  weight = getD (p .weight) k 0;
+  reading = getD (p .reading) k (pos 0);
+  ranged = not (eqb (getD (p .ranged) k 0) 0);
+  low = getD (p .low) k (pos 0);
+  high = getD (p .high) k (pos 0);
+}
+
 abbrev pub least : ℕ → ℕ → ℕ
 least a b = pick (ltb a b) a b
 
--- The stream at place k: its two ends, metered unless 0 stands there, its weight, its reading.
-abbrev pub partsAt : List ℕ → List ℕ → List ℕ → List ℕ → List ℤ → ℕ → Stream
-partsAt fs ts ms ws rs k =
-    record { from = getD fs k 0; to = getD ts k 0; metered = not (eqb (getD ms k 0) 0); weight = getD ws k 0; reading = getD rs k (pos 0) }
-
 -- How many streams every slice reaches, up to the limit.
-abbrev pub reach : List ℕ → List ℕ → List ℕ → List ℕ → List ℤ → ℕ
-reach fs ts ms ws rs = least maxStreams (least (least (length fs) (length ts)) (least (length ms) (least (length ws) (length rs))))
+abbrev pub reach : Slices → ℕ
+reach p =
+    least maxStreams
+    (least (least (least (length (p .from)) (length (p .to))) (least (length (p .metered)) (least (length (p .weight)) (length (p .reading)))))
+    (least (length (p .ranged)) (least (length (p .low)) (length (p .high)))))
 
--- The first n streams.
-abbrev pub listedTo : List ℕ → List ℕ → List ℕ → List ℕ → List ℤ → ℕ → List Stream
-listedTo fs ts ms ws rs zero = []
-listedTo fs ts ms ws rs (suc n) = listedTo fs ts ms ws rs n ++ (partsAt fs ts ms ws rs n ∷ [])
-
-abbrev pub listed : List ℕ → List ℕ → List ℕ → List ℕ → List ℤ → List Stream
-listed fs ts ms ws rs = listedTo fs ts ms ws rs (reach fs ts ms ws rs)
+-- The first n of the streams that f gives.
+abbrev pub listedTo : (ℕ → Stream) → ℕ → List Stream
+listedTo f zero = []
+listedTo f (suc n) = listedTo f n ++ (f n ∷ [])
 
 -- The plant of so many streams: those that every slice reaches, and empty records, from 0 to 0, after them.
-abbrev pub handed : ℕ → ℕ → List ℕ → List ℕ → List ℕ → List ℕ → List ℤ → Arrays.Plant
-handed n c fs ts ms ws rs = record { units = n; count = c; streams = padded maxStreams (listed fs ts ms ws rs) }
-
--- A count in a byte: one over the limit stays over it.
-abbrev pub heldCount : ℕ → ℕ
-heldCount c = least c (suc maxStreams)
+abbrev pub handed : ℕ → ℕ → Slices → Arrays.Plant
+handed n c p = record { units = n; count = c; streams = padded maxStreams (listedTo (partsAt p) (reach p)) }

@@ -1,34 +1,42 @@
 // The sheet call, the plant writer, the sheet reader and the translator for programs in C and Rust: functions on numbers and
 // slices of numbers.
 mod kept;
+mod marks;
 mod parts;
 
+use marks::balance_marked;
 use plants::Plant;
+ghost use Prim.Native.Nat.{_<_, _^_};
 ghost use Rattle.sheets.specs.Says.{SheetSays};
+ghost use Rattle.plants.specs.Limits.{places};
 ghost use Rattle.plants.specs.Says.{WriteSays};
 ghost use Rattle.transmitters.specs.Says.{TranslateSays};
 ghost use Rattle.linked.specs.Parts.{handed};
 ghost use Rattle.linked.specs.Kept.{HandsOver};
+ghost use Rattle.linked.specs.Marks.{marksIn};
 
 // The sheet call: the file's sheet in the slice, its bytes counted and the counter one higher; or a refusal number, none
-// counted, slice and counter as they were.
+// counted, slice and counter as they were. With refusal 19 bit u of the marks is set where place u is in an overfull set; else
+// no bit is.
 #[no_mangle]
 pub extern "C" fn wengeludo_balance_plant(
     file: &[u8],
     last: &mut u32,
     sheet: &mut [u8],
     written: &mut usize,
+    marked: &mut u64,
 ) -> u8
-    ensures { λ r. ⌜ SheetSays (now (file .entry)) (now (last .entry)) (now (sheet .entry)) (now (sheet .exit)) (record { number = r; written = now (written .exit); last = now (last .exit) }) ⌝ }
+    ensures { λ r. ⌜ SheetSays (now (file .entry)) (now (last .entry)) (now (sheet .entry)) (now (sheet .exit)) (record { number = r; written = now (written .exit); last = now (last .exit); marked = marksIn (now (marked .exit)) }) × (now (marked .exit) < 2 ^ places) ⌝ }
 {
-    let drawn = sheet_calls::balance_plant(file, *last, sheet);
+    let drawn = balance_marked(file, *last, sheet);
     *last = drawn.last;
     *written = drawn.written;
+    *marked = drawn.bits;
     drawn.number
 }
 
 // The plant writer: the plant's file in the slice, its bytes counted; or a refusal number, none counted, the slice as it was.
-// The streams' parts are handed over in five slices, stream k + 1 at place k of each. A stream that some slice does not
+// The streams' parts are handed over in eight slices, stream k + 1 at place k of each. A stream that some slice does not
 // reach is empty, from 0 to 0, and is refused when its turn comes.
 #[no_mangle]
 pub extern "C" fn wengeludo_write_plant(
@@ -39,12 +47,20 @@ pub extern "C" fn wengeludo_write_plant(
     metered: &[u8],
     weight: &[u16],
     reading: &[i32],
+    ranged: &[u8],
+    low: &[i32],
+    high: &[i32],
     file: &mut [u8],
     written: &mut usize,
 ) -> u8
-    ensures { λ r. ⌜ WriteSays (handed units count (now (from .entry)) (now (to .entry)) (now (metered .entry)) (now (weight .entry)) (now (reading .entry))) (now (file .entry)) (now (file .exit)) (record { number = r; written = now (written .exit) }) ⌝ }
+    ensures { λ r. ⌜ WriteSays (handed units count (record { from = now (from .entry); to = now (to .entry); metered = now (metered .entry); weight = now (weight .entry); reading = now (reading .entry); ranged = now (ranged .entry); low = now (low .entry); high = now (high .entry) })) (now (file .entry)) (now (file .exit)) (record { number = r; written = now (written .exit) }) ⌝ }
 {
-    let streams = parts::gathered(from, to, metered, weight, reading);
+    let n = parts::reached(
+        parts::meters_reach(from, to, metered, weight, reading),
+        parts::ranges_reach(ranged, low, high),
+    );
+    let meters = parts::meters_gathered(n, from, to, metered, weight, reading);
+    let streams = parts::ranges_gathered(n, meters, ranged, low, high);
     let plant = Plant {
         units: units,
         count: parts::count_byte(count),

@@ -1,9 +1,7 @@
 -- Nets as they are booked: in range, and the nets of the flow.
 use mathlib.Core.Path.{_≡_, refl, _∙_}
-use mathlib.Core.Bool.{Bool, true, false}
 use mathlib.Core.List.{List}
-use mathlib.Core.Logic.{⊎-elim}
-use lib.IntN.{ℤ, pos, negℤ, _+ℤ_}
+use lib.IntN.{ℤ, pos, _-ℤ_}
 use Prim.Native.Nat.{ℕ, zero, suc, _+_, _-_, _*_, _≤_, _<_}
 use native.Mathlib.Omega.{arith}
 use borrow.Author.Tests.{eqb-true}
@@ -14,7 +12,7 @@ use Rattle.numbers.proofs.Tests.{by-cases}
 use Rattle.plants.specs.declared.Stream.{Stream}
 use Rattle.plants.specs.Limits.{maxUnits, places, maxStreams}
 use Rattle.flows.specs.Flows.{streamAt}
-use Rattle.flows.proofs.Integers.{up, dn, parts, plus-val, up-neg, dn-neg}
+use Rattle.flows.proofs.Integers.{up, dn, same, plus-val, minus-val}
 use Rattle.flows.proofs.Sums.{sum}
 use Rattle.flows.proofs.Nets.{brought}
 use Rattle.model.specs.Sizes.{flowShift, mostFlow, netShift}
@@ -23,7 +21,7 @@ use Rattle.model.proofs.Amounts.{unshifted-val, brought-val, get-set, n
 use Rattle.model.proofs.Elements.{set-each}
 use Rattle.model.specs.Sizes.{netRoom}
 use Rattle.model.specs.Model.{left, come, booked, netsTo}
-use Rattle.model.specs.SolverNeeds.{Close, Around}
+use Rattle.model.specs.SolverNeeds.{Around}
 
 -- A stream between places.
 abbrev pub Between : Stream → Type 0
@@ -111,41 +109,6 @@ module _ (ss : List Stream) (xs : List ℕ) where
         plus-val (brought u s (unshifted x)) (sum n (λ k. brought u (streamAt ss k) (unshifted (getD xs k 0)))),
       )
 
--- How large a net gets: no part of a sum is more than the parts of its summands less what they cancel.
-small : (x y : ℤ) (m : ℕ) → up x + up y ≤ m + (dn x + dn y) → dn x + dn y ≤ m + (up x + up y) → (up (x +ℤ y) ≤ m) × (dn (x +ℤ y) ≤ m)
-small x y m h k =
-    ⊎-elim
-    (λ (o : up (x +ℤ y) ≡ 0). (omega arith, omega (arith, plus-val x y)))
-    (λ (o : dn (x +ℤ y) ≡ 0). (omega (arith, plus-val x y), omega arith))
-    (parts (x +ℤ y))
-
--- What a stream brings or takes is at most its amount.
-brought-most : (u : ℕ) (s : Stream) (z : ℤ) (m : ℕ) → up z + dn z ≤ m → (up (brought u s z) ≤ m) × (dn (brought u s z) ≤ m)
-brought-most u s z m h = go (eqb (s .to) u) (eqb (s .from) u)
-  where
-    go : (a b : Bool) → (up (pick a z (pos 0) +ℤ pick b (negℤ z) (pos 0)) ≤ m) × (dn (pick a z (pos 0) +ℤ pick b (negℤ z) (pos 0)) ≤ m)
-    go true true = small z (negℤ z) m (omega (arith, up-neg z, dn-neg z)) (omega (arith, up-neg z, dn-neg z))
-    go true false = small z (pos 0) m (omega arith) (omega arith)
-    go false true = small (pos 0) (negℤ z) m (omega (arith, up-neg z, dn-neg z)) (omega (arith, up-neg z, dn-neg z))
-    go false false = (omega arith, omega arith)
-
-sum-most : (n c : ℕ) (f : ℕ → ℤ) → ((k : ℕ) → k < n → (up (f k) ≤ c) × (dn (f k) ≤ c)) → (up (sum n f) ≤ c * n) × (dn (sum n f) ≤ c * n)
-sum-most zero c f h = (omega arith, omega arith)
-sum-most (suc n) c f h =
-    let r = sum-most n c f (λ k l. h k (omega arith)) in
-    let q = h n (omega arith) in
-    small (f n) (sum n f) (c * suc n) (omega (arith, r .0, q .0)) (omega (arith, r .1, q .1))
-
-close-size : (b x : ℕ) → Close b x → up (unshifted x) + dn (unshifted x) ≤ b
-close-size b x h =
-    ⊎-elim
-    (λ (o : up (unshifted x) ≡ 0). omega (arith, unshifted-val x, h .1))
-    (λ (o : dn (unshifted x) ≡ 0). omega (arith, unshifted-val x, h .0))
-    (parts (unshifted x))
-
--- Amounts of size b at most make nets of at most b for each stream.
-pub net-most : (ss : List Stream) (xs : List ℕ) (b : ℕ) → ((k : ℕ) → k < length ss → Close b (getD xs k 0)) → (u : ℕ)
-    → (up (net ss xs u) ≤ b * length ss) × (dn (net ss xs u) ≤ b * length ss)
-net-most ss xs b h u =
-    sum-most (length ss) b (λ k. brought u (streamAt ss k) (unshifted (getD xs k 0)))
-    (λ k l. brought-most u (streamAt ss k) (unshifted (getD xs k 0)) b (close-size b (getD xs k 0) (h k l)))
+-- A net by value.
+pub net-value : (z : ℤ) (e : ℕ) → up z + netShift ≡ e + dn z → z ≡ pos e -ℤ pos netShift
+net-value z e h = same z (pos e -ℤ pos netShift) (omega (arith, minus-val (pos e) (pos netShift)))

@@ -48,3 +48,8 @@ count-full (suc n) f h v l = elim (ℕ-discrete v (suc n)) [ yes z ↦ rw z (go 
     go : (b : Bool) → suc (suc n) ≤ pick {A = ℕ} b 1 0 + countTo n f → b ≡ true
     go true k = refl
     go false k = absurd (omega (arith, count-most n f))
+
+pub count-all : (n : ℕ) (f : ℕ → Bool) → ((v : ℕ) → v ≤ n → f v ≡ true) → countTo n f ≡ suc n
+unfolding countTo
+count-all zero f h = rw (h 0 (omega arith))
+count-all (suc n) f h = rw (h (suc n) (omega arith), count-all n f (λ v l. h v (omega arith))) (omega arith)

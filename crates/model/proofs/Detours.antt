@@ -19,18 +19,19 @@ use Rattle.flows.proofs.Integers.{up, dn, same}
 use Rattle.flows.specs.Certificate.{weightOf}
 use Rattle.model.specs.declared.Tree.{Tree}
 use Rattle.model.specs.Sizes.{searchRounds}
-use Rattle.model.specs.Held.{readingOf, Held, AllHeld}
+use Rattle.model.specs.Held.{readingOf, lowOf, highOf, Held, AllHeld}
 use Rattle.model.specs.Search.{rootAt, Grown, tightPath}
 use Rattle.model.specs.Push.{pushed}
 use Rattle.model.proofs.Amounts.{net, net-set}
 use Rattle.model.specs.Slack.{slackAt}
 use Rattle.model.proofs.Least.{Usable, startIn, endIn}
+use Rattle.model.proofs.Bounds.{Open, slack-open, open-of}
 use Rattle.model.proofs.Pushing.{reached, Pushed, push-good}
 use Rattle.model.proofs.Growing.{Growing, root-growing}
 use Rattle.model.proofs.TightPath.{Used, Path, way, shut, path-good, not-usable}
 use Rattle.model.specs.Model.{tiedBy, tiedAt, tiesTo}
 use Rattle.model.specs.SolverNeeds.{Even}
-use Rattle.model.proofs.Nearest.{Solvable}
+use Rattle.model.proofs.Streams.{Solvable}
 
 -- The amounts ws are xs with 1 less on stream i, at no cost, and the same on the metered streams before it.
 pub record Detour (ss : List Stream) (ps : List ℕ) (i : ℕ) (xs ws : List ℕ) : Type 0 where
@@ -50,11 +51,11 @@ pub data Turn (ss : List Stream) (ps : List ℕ) (i : ℕ) (xs : List ℕ) : Lis
   round : streamAt ss i .metered ≡ true → (ws : List ℕ) → Detour ss ps i xs ws → Turn ss ps i xs ws
 
 -- One less, where the bound is tight; and the nets then.
-less-held : (w X R u v : ℕ) → 1 ≤ X → 2 * (w * X) + u ≡ v + 2 * (w * R) + w → Held 1 w (X - 1) R u v
-less-held w X R u v l e =
+less-held : (w X R u v L H : ℕ) → 1 ≤ X → 2 * (w * X) + u ≡ v + 2 * (w * R) + w → Held 1 w (X - 1) R u v L H
+less-held w X R u v L H l e =
     let c : X - 1 + 1 ≡ X = omega arith in
     let f : w * (X - 1 + 1) ≡ w * X = ap (λ k. w * k) c in
-    record { low = omega (arith, e, f); high = omega (arith, e, f) }
+    record { low = λ o. omega (arith, e, f); high = λ o. omega (arith, e, f) }
 
 less-net : (a b : Bool) (x P Q : ℕ) → 1 ≤ x → P + (pick a x 0 + pick b (x - 1) 0) ≡ Q + (pick a (x - 1) 0 + pick b x 0) → P + pick a 1 0 ≡ Q + pick b 1 0
 less-net true true x P Q l h = omega arith
@@ -105,8 +106,12 @@ module _ (ss : List Stream) (v : Solvable ss) (ps : List ℕ) (i : ℕ) (li : i 
     here : getD ys i 0 ≡ getD xs i 0
     here = kept i (omega arith) m
 
+    -- The amount can fall.
+    falls : Open s false (getD xs i 0) 1
+    falls = open-of false s (getD xs i 0) (getD ps (s .from) 0) (getD ps (s .to) 0) 1 (omega arith)
+
     tight : 2 * (weightOf s * getD xs i 0) + getD ps (s .from) 0 ≡ getD ps (s .to) 0 + 2 * (weightOf s * readingOf s) + weightOf s
-    tight = omega (arith, none, h .held i li .low)
+    tight = omega (arith, none, slack-open false s (getD xs i 0) (getD ps (s .from) 0) (getD ps (s .to) 0) 1 falls, h .held i li .low falls)
 
     long-ys : i < length ys
     long-ys = rw (q .long) (omega (arith, h .long, v .plain .few))
@@ -125,7 +130,7 @@ module _ (ss : List Stream) (v : Solvable ss) (ps : List ℕ) (i : ℕ) (li : i 
 
     held : AllHeld ss ws ps 1
     held k l = elim (ℕ-discrete k i) [
-      | yes z ↦ rw (z, ws-here) (less-held (weightOf s) (getD xs i 0) (readingOf s) (getD ps (s .from) 0) (getD ps (s .to) 0) (some i li) tight)
+      | yes z ↦ rw (z, ws-here) (less-held (weightOf s) (getD xs i 0) (readingOf s) (getD ps (s .from) 0) (getD ps (s .to) 0) (lowOf s) (highOf s) (some i li) tight)
       | no z ↦ rw (ws-else k z) (q .held k l)
     ]
 
@@ -147,7 +152,17 @@ module _ (ss : List Stream) (v : Solvable ss) (ps : List ℕ) (i : ℕ) (li : i 
       even = record {
         long = long-ws;
         held = held;
+        inside = λ k l. elim (ℕ-discrete k i) [
+          | yes z ↦ rw (z, ws-here) (omega (arith, falls), omega (arith, h .inside i li .1))
+          | no z ↦ rw (ws-else k z) (q .inside (h .inside) k l)
+        ];
+        agreed = h .agreed;
         level = level;
+        moderate = λ k l e. elim (ℕ-discrete k i) [
+          | yes z ↦ let o = h .moderate i li m in rw (z, ws-here) (omega (arith, o .0), omega (arith, o .1, some i li))
+          | no z ↦ let o = h .moderate k l e in rw (ws-else k z) (omega (arith, o .0, q .most k), omega (arith, o .1, q .least k))
+        ];
+        floor = h .floor;
         close = λ k l. elim (ℕ-discrete k i) [
           | yes z ↦ rw (z, ws-here) (omega (arith, h .close i (omega (arith, v .plain .few)) .0), omega (arith, h .close i (omega (arith, v .plain .few)) .1, some i li))
           | no z ↦ rw (ws-else k z) (omega (arith, h .close k l .0, q .most k), omega (arith, h .close k l .1, q .least k))
@@ -184,7 +199,11 @@ pub even-more : (ss : List Stream) (ps : List ℕ) (i : ℕ) (xs : List ℕ) →
 even-more ss ps i xs h = record {
   long = h .long;
   held = h .held;
+  inside = h .inside;
+  agreed = h .agreed;
   level = h .level;
+  moderate = λ k l m. (omega (arith, h .moderate k l m .0), omega (arith, h .moderate k l m .1));
+  floor = h .floor;
   close = λ k l. (omega (arith, h .close k l .0), omega (arith, h .close k l .1));
 }
 

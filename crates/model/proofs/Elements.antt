@@ -7,16 +7,14 @@ use native.Mathlib.Omega.{arith}
 use native.Mathlib.Decide.{ℕ-discrete}
 use lib.Dec.{eqb}
 use lib.ListN.{length, getD, set, length-set}
-use lib.Seq.{ext-getD, getD-set-same, getD-set-other}
+use lib.Seq.{getD-set-same, getD-set-other}
 use Rattle.numbers.specs.Choice.{pick}
-use Rattle.numbers.proofs.Tests.{picked}
 use Rattle.plants.specs.declared.Stream.{Stream}
-use Rattle.plants.specs.Limits.{places, maxStreams}
+use Rattle.plants.specs.Limits.{maxStreams}
 use Rattle.model.specs.Sizes.{mostFlow, mostStep}
-use Rattle.model.specs.Search.{fallen, loweredBy, farEnd}
+use Rattle.model.specs.Search.{fallen, loweredBy}
 use Rattle.model.specs.Push.{movedOf}
-use Rattle.model.specs.SearchNeeds.{Prices, Roomy}
-use Rattle.flows.proofs.Lists.{Written}
+use Rattle.model.specs.SearchNeeds.{Roomy}
 
 -- The prices of visited places lowered.
 pub lowered-at : (ls : List Bool) (g : ℕ) (ps : List ℕ) (k : ℕ) → getD (loweredBy ls g ps) k 0 ≡ fallen (getD ls k false) g (getD ps k 0)

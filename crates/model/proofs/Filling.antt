@@ -14,10 +14,9 @@ use Rattle.plants.specs.declared.Stream.{Stream}
 use Rattle.plants.specs.Limits.{places}
 use Rattle.flows.proofs.Lists.{Written, values-at}
 use Rattle.model.specs.Sizes.{far}
-use Rattle.model.specs.Slack.{gapBy}
 use Rattle.model.specs.Search.{fallen}
-use Rattle.model.specs.Near.{gapsOf, codeOf, lessened, relaxedAlong, relaxedAt, relaxedTo, nearestTo, reducedBy}
-use Rattle.model.specs.Rows.{countOf, startsOf, endsOf, weightsOf, pullsOf}
+use Rattle.model.specs.Near.{gapAt, gapsOf, codeOf, lessened, relaxedAlong, relaxedAt, relaxedTo, nearestTo, reducedBy}
+use Rattle.model.specs.Rows.{countOf, startsOf, endsOf, weightsOf}
 use Rattle.model.specs.SearchNeeds.{Network, Rowed}
 
 -- The prices of visited places reduced.
@@ -95,7 +94,7 @@ getD-any (x ∷ xs) (suc i) a b l = getD-any xs i a b (omega arith)
 -- One of the slacks.
 pub gap-at : (ls xs ps : List ℕ) (d skip : ℕ) (f : Bool) (k : ℕ) → k < countOf ls
     → getD (gapsOf ls xs ps d skip f) k 0
-    ≡ pick (ltb 0 (getD (weightsOf ls) k 0) && ltb k skip) 1 (gapBy (getD (weightsOf ls) k 0) (getD (pullsOf ls) k 0) f (getD xs k 0) (getD ps (getD (startsOf ls) k 0) 0) (getD ps (getD (endsOf ls) k 0) 0) d)
+    ≡ pick (ltb 0 (getD (weightsOf ls) k 0) && ltb k skip) 1 (gapAt ls xs ps d f k)
 gap-at ls xs ps d skip f k l = values-at _ 0 (countOf ls) k l
 
 -- The starts and the ends of the streams in use are places.

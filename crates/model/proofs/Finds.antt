@@ -13,27 +13,28 @@ use lib.Seq.{getD-take, length-take-le, getD-set-same, getD-set-other}
 use Rattle.numbers.specs.Choice.{pick}
 use Rattle.numbers.proofs.Tests.{by-cases, clash}
 use Rattle.plants.specs.declared.Stream.{Stream}
-use Rattle.plants.specs.Limits.{maxUnits, places, maxStreams, maxWeight}
+use Rattle.plants.specs.Limits.{maxUnits, places}
 use Rattle.plants.specs.Within.{WithinStream}
 use Rattle.plants.specs.Plants.{noStream}
 use Rattle.flows.specs.Flows.{streamAt}
 use Rattle.flows.specs.Certificate.{weightOf}
 use Rattle.model.specs.declared.Tree.{Tree}
 use Rattle.model.specs.declared.Walked.{Walked}
-use Rattle.model.specs.Sizes.{netShift, numbering, farthest, far, mostFall, mostStep, searchRounds}
+use Rattle.model.specs.Sizes.{netShift, mostStep, searchRounds, mostMarginal, priceFloor, numbering, farthest, far}
 use Rattle.model.specs.Held.{AllHeld}
-use Rattle.model.specs.Slack.{At, Nothing, leastTo, slackBy, slackAt, slackPast}
-use Rattle.model.specs.Search.{fallen, loweredBy, farEnd, rootAt, addedTo, Grown, grownBy, grow}
+use Rattle.model.specs.Slack.{Crossing, At, Nothing, leastTo, slackBy, slackAt, slackPast}
+use Rattle.model.specs.Search.{fallen, loweredBy, farEnd, rootAt, addedTo, Grown, grownBy, grow, sought}
 use Rattle.model.specs.Rows.{countOf, startsOf, endsOf}
-use Rattle.model.specs.Near.{gapsOf, relaxedTo, nearestTo, reducedBy, walkedBy, walked}
-use Rattle.model.specs.SearchNeeds.{Network, Linked, Laid, Walkable, Lanes, Searching, Falling}
-use Rattle.model.proofs.Growing.{slack-most}
+use Rattle.model.specs.Near.{gapsOf, relaxedTo, nearestTo, reducedBy, walked}
+use Rattle.model.specs.SearchNeeds.{Network, Prices, Moderate, Floored, Linked, Laid, Walkable, Lanes, Searching}
+use Rattle.model.proofs.Bounds.{Open, slack-open, slack-shut, open-of, open-or, slack-most, low-high, high-most, reading-close}
+use Rattle.model.proofs.Growing.{slack-rise}
 use Rattle.model.proofs.Weights.{weight-most}
 use Rattle.model.proofs.Filling.{getD-any, reduced-at, reduced-none, gap-at, starts-in, ends-in}
-use Rattle.model.proofs.Least.{Usable, all-usable, startIn, endIn, Least, Answers, answers-same}
-use Rattle.model.proofs.Rounds.{grow-none, grow-hit, grow-more, grow-end}
+use Rattle.model.proofs.Least.{Usable, all-usable, startIn, endIn, Answers, least-good, answers-same}
+use Rattle.model.proofs.Rounds.{grow-none, grow-stop, grow-hit, grow-more, grow-end}
 use Rattle.model.proofs.Steps.{walk-none, walk-hit, walk-more, walk-end}
-use Rattle.model.proofs.Nearing.{nearest-least, tailOf, headOf, slackOf, overOf, Leads, Nears, relaxed-good, next-good}
+use Rattle.model.proofs.Nearing.{nearest-is, nearest-least, tailOf, headOf, slackOf, overOf, Nears, relaxed-good, next-good}
 use Rattle.model.proofs.Walks.{reduced-next, leaving, leads-on, Told, told, none-leads}
 
 -- Starts, ends and slacks of the streams in use.
@@ -41,6 +42,9 @@ pub record Slacked (streams : List Stream) (n : ℕ) (xs ps : List ℕ) (d skip 
   pub network : Network streams n
   pub held : AllHeld (take n streams) xs ps d
   pub step : d ≤ mostStep
+  pub prices : Prices ps
+  pub moderate : Moderate (take n streams) xs
+  pub floor : Floored ps
   pub starts : (k : ℕ) → k < n → getD fs k 0 ≡ streamAt (take n streams) k .from
   pub ends : (k : ℕ) → k < n → getD ts k 0 ≡ streamAt (take n streams) k .to
   pub ahead : (k : ℕ) → k < n → getD gs k 0 ≡ slackPast (take n streams) xs ps d skip true k
@@ -61,20 +65,36 @@ module _ (streams : List Stream) (n : ℕ) (xs ps : List ℕ) (d skip : ℕ) (fs
   tails k true l = heads k false l
   tails k false l = heads k true l
 
-  -- A slack is 1 where the stream is left alone, and at most 2 * maxWeight * d elsewhere.
-  most : (k : ℕ) (f : Bool) → k < n → slackAt (take n streams) xs ps d k f ≤ 2 * maxWeight * d
-  most k f l = slack-most f (streamAt (take n streams) k) _ _ _ d (laid .held k (rw in-use l)) (weight-most (streamAt (take n streams) k) (placed k l))
+  -- The slack of an open stream, by the prices of the ends.
+  pub rises : (k : ℕ) (f : Bool) → k < n → Open (streamAt (take n streams) k) f (getD xs k 0) d
+      → slackAt (take n streams) xs ps d k f + getD ps (headOf n fs ts gs bs k f) 0 ≤ getD ps (tailOf n fs ts gs bs k f) 0 + mostMarginal
+  rises k f l o = go f (slack-rise f s (getD xs k 0) _ _ d (laid .held k (rw in-use l)) (weight-most s (placed k l)) (laid .step)
+      (λ m. (laid .moderate k (rw in-use l) m, reading-close (s .reading) (omega (arith, placed k l .in-range m)))) o)
+    where
+      s : Stream
+      s = streamAt (take n streams) k
+
+      go : (f : Bool)
+          → slackAt (take n streams) xs ps d k f + pick f (getD ps (streamAt (take n streams) k .to) 0) (getD ps (streamAt (take n streams) k .from) 0) ≤ pick f (getD ps (streamAt (take n streams) k .from) 0) (getD ps (streamAt (take n streams) k .to) 0) + mostMarginal
+          → slackAt (take n streams) xs ps d k f + getD ps (headOf n fs ts gs bs k f) 0 ≤ getD ps (tailOf n fs ts gs bs k f) 0 + mostMarginal
+      go true h = rw (laid .starts k l, laid .ends k l) h
+      go false h = rw (laid .starts k l, laid .ends k l) h
 
   past : (k : ℕ) (f : Bool) → k < n → slackOf n fs ts gs bs k f ≡ slackPast (take n streams) xs ps d skip f k
   past k true l = laid .ahead k l
   past k false l = laid .back k l
 
-  pub slack-small : 1 ≤ d → (k : ℕ) (f : Bool) → k < n → slackOf n fs ts gs bs k f ≤ 2 * maxWeight * d
-  slack-small one k f l = rw (past k f l) (go (streamAt (take n streams) k .metered && ltb k skip))
+  -- An open stream's is below farthest.
+  pub open-small : (k : ℕ) (f : Bool) → k < n → Open (streamAt (take n streams) k) f (getD xs k 0) d → slackAt (take n streams) xs ps d k f < farthest
+  open-small k f l o = omega (arith, rises k f l o, laid .floor (headOf n fs ts gs bs k f) (heads k f l), laid .prices (tailOf n fs ts gs bs k f) (tails k f l))
+
+  -- It is 1 where the stream is left alone, and at most farthest in any case.
+  pub slack-small : (k : ℕ) (f : Bool) → k < n → slackOf n fs ts gs bs k f ≤ farthest
+  slack-small k f l = rw (past k f l) (go (streamAt (take n streams) k .metered && ltb k skip))
     where
-      go : (b : Bool) → pick b 1 (slackAt (take n streams) xs ps d k f) ≤ 2 * maxWeight * d
+      go : (b : Bool) → pick b 1 (slackAt (take n streams) xs ps d k f) ≤ farthest
       go true = omega arith
-      go false = most k f l
+      go false = slack-most f (streamAt (take n streams) k) (getD xs k 0) _ _ d (λ o. omega (arith, open-small k f l o))
 
   -- A stream that is not left alone has its slack.
   pub usable-slack : (k : ℕ) (f : Bool) → k < n → Usable (take n streams) skip k → slackOf n fs ts gs bs k f ≡ slackAt (take n streams) xs ps d k f
@@ -101,13 +121,17 @@ module _ (streams : List Stream) (n : ℕ) (xs ps : List ℕ) (d skip : ℕ) (ls
   gap-is : (f : Bool) (k : ℕ) → k < n → getD (gapsOf ls xs ps d skip f) k 0 ≡ slackPast (take n streams) xs ps d skip f k
   gap-is f k l =
       gap-at ls xs ps d skip f k (rw (laid .counted) l)
-      ∙ rw (laid .rowed .weights k l, laid .rowed .pulls k l, laid .rowed .starts k l, laid .rowed .ends k l, metered-is k l, getD-take n streams k noStream l)
+      ∙ rw
+      (laid .rowed .weights k l, laid .rowed .pulls k l, laid .rowed .starts k l, laid .rowed .ends k l, laid .rowed .lows k l, laid .rowed .highs k l, metered-is k l, getD-take n streams k noStream l)
 
   pub slacked : Slacked streams n xs ps d skip (startsOf ls) (endsOf ls) (gapsOf ls xs ps d skip true) (gapsOf ls xs ps d skip false)
   slacked = record {
     network = w .searchable .network;
     held = w .held;
     step = w .searchable .step;
+    prices = w .searchable .prices;
+    moderate = w .moderate;
+    floor = w .floored;
     starts = λ k l. laid .rowed .starts k l ∙ sym (rw (getD-take n streams k noStream l));
     ends = λ k l. laid .rowed .ends k l ∙ sym (rw (getD-take n streams k noStream l));
     ahead = gap-is true;
@@ -119,42 +143,48 @@ module _ (streams : List Stream) (n : ℕ) (xs ps : List ℕ) (d skip : ℕ) (ls
     few = rw (laid .counted) (w .searchable .network .within .few-streams);
     from-in = λ k l. starts-in (w .searchable .network) (laid .rowed) k (at l);
     to-in = λ k l. ends-in (w .searchable .network) (laid .rowed) k (at l);
-    light = λ k l. rw (laid .rowed .weights k (at l)) (weight-most (getD streams k noStream) (w .searchable .network .within .each k (at l)));
+    light = λ k l. rw (laid .rowed .weights k (at l)) (weight-most (getD streams k noStream) (each k l));
     pulled = λ k l. laid .rowed .pulled k (at l);
     linked = subst (λ (m : ℕ). Linked m (startsOf ls) (endsOf ls) ls) (sym (laid .counted)) (laid .linked);
     amounts = λ k l. w .searchable .amounts k (at l);
     prices = w .searchable .prices;
     step = w .searchable .step;
-    small = λ k f l. omega (arith, small k f (at l), w .searchable .step);
+    low-in = λ k l. rw (laid .rowed .lows k (at l)) (omega (arith, low-high (getD streams k noStream) (each k l), high-most (getD streams k noStream) (each k l)));
+    high-in = λ k l. rw (laid .rowed .highs k (at l)) (high-most (getD streams k noStream) (each k l));
+    small = λ k f l. small k f (at l);
   }
     where
       at : {k : ℕ} → k < countOf ls → k < n
       at l = rw (laid .counted) at l
 
-      small : (k : ℕ) (f : Bool) → k < n → getD (gapsOf ls xs ps d skip f) k 0 ≤ 2 * maxWeight * d
-      small k true l = slack-small streams n xs ps d skip (startsOf ls) (endsOf ls) _ _ slacked (w .some) k true l
-      small k false l = slack-small streams n xs ps d skip (startsOf ls) (endsOf ls) _ _ slacked (w .some) k false l
+      each : (k : ℕ) → k < countOf ls → WithinStream maxUnits (getD streams k noStream)
+      each k l = w .searchable .network .within .each k (at l)
+
+      small : (k : ℕ) (f : Bool) → k < n → getD (gapsOf ls xs ps d skip f) k 0 ≤ farthest
+      small k true l = slack-small streams n xs ps d skip (startsOf ls) (endsOf ls) _ _ slacked k true l
+      small k false l = slack-small streams n xs ps d skip (startsOf ls) (endsOf ls) _ _ slacked k false l
 
 pub zeros : (m u : ℕ) → _≡_ {A = ℕ} (getD (replicate m 0) u 0) 0
 zeros zero u = refl
 zeros (suc m) zero = refl
 zeros (suc m) (suc u) = zeros m u
 
--- The first place: nothing was looked at yet.
+-- The first place is the only one visited.
+only-root : (s v : ℕ) → s < places → v < places → getD (set (replicate places false) s true) v false ≡ true → v ≡ s
+only-root s v l b t = elim (ℕ-discrete v s) [ yes q ↦ q | no q ↦ clash _ t (getD-set-other (replicate places false) s v true false q ∙ getD-replicate places v false false b) ]
+
+-- Nothing was looked at yet.
 pub root-nears : (n : ℕ) (fs ts gs bs : List ℕ) (s : ℕ) → s < places → ((k : ℕ) (f : Bool) → k < n → tailOf n fs ts gs bs k f < places)
     → Nears n fs ts gs bs (rootAt s .visited) (replicate places 0) 0 s n (replicate places far)
 root-nears n fs ts gs bs s l tails = record {
   long = refl;
-  least = λ k f b t o q. absurd (omega (arith, o (only (tailOf n fs ts gs bs k f) (tails k f b) t)));
+  least = λ k f b t o q. absurd (omega (arith, o (only-root s (tailOf n fs ts gs bs k f) l (tails k f b) t)));
   real = λ v b o. absurd (omega (arith, o, getD-replicate places v far 0 b));
   above = λ v b. omega arith;
 }
-  where
-    only : (v : ℕ) → v < places → getD (set (replicate places false) s true) v false ≡ true → v ≡ s
-    only v b t = elim (ℕ-discrete v s) [ yes q ↦ q | no q ↦ clash _ t (getD-set-other (replicate places false) s v true false q ∙ getD-replicate places v false false b) ]
 
--- The search, from a visited place e at distance k.
-module _ (streams : List Stream) (n : ℕ) (xs ps : List ℕ) (d : ℕ) (one : 1 ≤ d) (fs ts gs bs : List ℕ) (laid : Slacked streams n xs ps d 0 fs ts gs bs) (floor : (u : ℕ) → u < places → mostFall d ≤ getD ps u 0) (es : List ℕ) where
+-- The search from the place root; now from a visited place e at distance k.
+module _ (streams : List Stream) (n : ℕ) (xs ps : List ℕ) (d : ℕ) (fs ts gs bs : List ℕ) (laid : Slacked streams n xs ps d 0 fs ts gs bs) (es : List ℕ) (root : ℕ) (within : root < places) where
   abbrev ss : List Stream
   ss = take n streams
 
@@ -171,15 +201,23 @@ module _ (streams : List Stream) (n : ℕ) (xs ps : List ℕ) (d : ℕ) (one : 1
     pub visits : length (t .visited) ≡ places
     pub dists : length ks ≡ places
     pub close : (u : ℕ) → getD ks u 0 ≤ k
-    pub room : k + 2 * maxWeight * d * l ≤ mostFall d
+    pub place : e < places
+    pub short : t .len + l ≤ searchRounds
+    -- A price and a distance together are above the root's price by at most a marginal for each place visited since.
+    pub tall : (u : ℕ) → u < places → getD (t .visited) u false ≡ true → getD ps u 0 + getD ks u 0 ≤ getD ps root 0 + mostMarginal * t .len
+
+  -- So no price falls below 0.
+  reach-small : (l k e : ℕ) (ks near : List ℕ) (t : Tree) → Going l k e ks near t → k ≤ priceFloor
+  reach-small l k e ks near t g =
+      omega (arith, g .tall e (g .place) (g .marked), g .at, g .short, laid .floor e (g .place), laid .prices root within)
 
   -- The slack at the present prices is what the distance over a stream exceeds the present one.
-  now-slack : (ls : List Bool) (ks : List ℕ) (k i : ℕ) (f : Bool) → i < n → k ≤ mostFall d → ((u : ℕ) → getD ks u 0 ≤ k)
+  now-slack : (ls : List Bool) (ks : List ℕ) (k i : ℕ) (f : Bool) → i < n → Open (streamAt ss i) f (getD xs i 0) d → k ≤ priceFloor → ((u : ℕ) → getD ks u 0 ≤ k)
       → getD ls (tailOf n fs ts gs bs i f) false ≡ true → getD ls (headOf n fs ts gs bs i f) false ≡ false → k ≤ overOf n fs ts gs bs ks i f
       → slackAt ss xs (reducedBy ls ks k ps) d i f + k ≡ overOf n fs ts gs bs ks i f
-  now-slack ls ks k i f l small close t h m =
+  now-slack ls ks k i f l o small close t h m =
       rw (reduced-at ls ks k ps (streamAt ss i .from), reduced-at ls ks k ps (streamAt ss i .to))
-      (go f (usable-slack streams n xs ps d 0 fs ts gs bs laid i f l (all-usable ss i)) t h m)
+      (go f o (usable-slack streams n xs ps d 0 fs ts gs bs laid i f l (all-usable ss i)) t h m)
     where
       fu : streamAt ss i .from < places
       fu = rw (sym (starts i l)) (heads streams n xs ps d 0 fs ts gs bs laid i false l)
@@ -187,18 +225,18 @@ module _ (streams : List Stream) (n : ℕ) (xs ps : List ℕ) (d : ℕ) (one : 1
       tu : streamAt ss i .to < places
       tu = rw (sym (ends i l)) (heads streams n xs ps d 0 fs ts gs bs laid i true l)
 
-      go : (f : Bool) → slackOf n fs ts gs bs i f ≡ slackAt ss xs ps d i f → getD ls (tailOf n fs ts gs bs i f) false ≡ true
+      go : (f : Bool) → Open (streamAt ss i) f (getD xs i 0) d → slackOf n fs ts gs bs i f ≡ slackAt ss xs ps d i f → getD ls (tailOf n fs ts gs bs i f) false ≡ true
           → getD ls (headOf n fs ts gs bs i f) false ≡ false → k ≤ overOf n fs ts gs bs ks i f
           → slackBy (streamAt ss i) f (getD xs i 0) (fallen (getD ls (streamAt ss i .from) false) (k - getD ks (streamAt ss i .from) 0) (getD ps (streamAt ss i .from) 0))
           (fallen (getD ls (streamAt ss i .to) false) (k - getD ks (streamAt ss i .to) 0) (getD ps (streamAt ss i .to) 0)) d + k ≡ overOf n fs ts gs bs ks i f
-      go true e t h m =
+      go true o e t h m =
           let a : getD ls (streamAt ss i .from) false ≡ true = rw (starts i l) at t in
           let b : getD ls (streamAt ss i .to) false ≡ false = rw (ends i l) at h in
-          rw (a, b, starts i l) (omega (arith, e, floor (streamAt ss i .from) fu, close (streamAt ss i .from), rw (starts i l) at m))
-      go false e t h m =
+          rw (a, b, starts i l) (omega (arith, e, slack-open true (streamAt ss i) (getD xs i 0) (getD ps (streamAt ss i .from) 0) (getD ps (streamAt ss i .to) 0) d o, slack-open true (streamAt ss i) (getD xs i 0) (getD ps (streamAt ss i .from) 0 - (k - getD ks (streamAt ss i .from) 0)) (getD ps (streamAt ss i .to) 0) d o, laid .floor (streamAt ss i .from) fu, close (streamAt ss i .from), rw (starts i l) at m))
+      go false o e t h m =
           let a : getD ls (streamAt ss i .to) false ≡ true = rw (ends i l) at t in
           let b : getD ls (streamAt ss i .from) false ≡ false = rw (starts i l) at h in
-          rw (a, b, ends i l) (omega (arith, e, floor (streamAt ss i .to) tu, close (streamAt ss i .to), rw (ends i l) at m))
+          rw (a, b, ends i l) (omega (arith, e, slack-open false (streamAt ss i) (getD xs i 0) (getD ps (streamAt ss i .from) 0) (getD ps (streamAt ss i .to) 0) d o, slack-open false (streamAt ss i) (getD xs i 0) (getD ps (streamAt ss i .from) 0) (getD ps (streamAt ss i .to) 0 - (k - getD ks (streamAt ss i .to) 0)) d o, laid .floor (streamAt ss i .to) tu, close (streamAt ss i .to), rw (ends i l) at m))
 
   -- One round.
   module _ (l k e : ℕ) (ks near : List ℕ) (t : Tree) (g : Going (suc l) k e ks near t) where
@@ -219,33 +257,43 @@ module _ (streams : List Stream) (n : ℕ) (xs ps : List ℕ) (d : ℕ) (one : 1
         relaxed-good n fs ts gs bs (t .visited) ks (k * numbering) e (heads streams n xs ps d 0 fs ts gs bs laid) (g .marked) k (g .at) (omega arith) n near
         (omega arith) (g .nears)
 
-    over-small : (i : ℕ) (f : Bool) → i < n → overOf n fs ts gs bs ks i f ≤ k + 2 * maxWeight * d
-    over-small i f l = omega (arith, g .close (tailOf n fs ts gs bs i f), slack-small streams n xs ps d 0 fs ts gs bs laid one i f l)
+    over-tall : (i : ℕ) (f : Bool) → i < n → Open (streamAt ss i) f (getD xs i 0) d → getD (t .visited) (tailOf n fs ts gs bs i f) false ≡ true
+        → getD ps (headOf n fs ts gs bs i f) 0 + overOf n fs ts gs bs ks i f ≤ getD ps root 0 + mostMarginal * (t .len + 1)
+    over-tall i f b o y = omega (
+      arith,
+      usable-slack streams n xs ps d 0 fs ts gs bs laid i f b (all-usable ss i),
+      rises streams n xs ps d 0 fs ts gs bs laid i f b o,
+      g .tall (tailOf n fs ts gs bs i f) (tails streams n xs ps d 0 fs ts gs bs laid i f b) y,
+    )
+
+    over-small : (i : ℕ) (f : Bool) → i < n → Open (streamAt ss i) f (getD xs i 0) d → getD (t .visited) (tailOf n fs ts gs bs i f) false ≡ true → overOf n fs ts gs bs ks i f < farthest
+    over-small i f b o y =
+        omega (arith, over-tall i f b o y, g .short, laid .floor (headOf n fs ts gs bs i f) (heads streams n xs ps d 0 fs ts gs bs laid i f b), laid .prices root within)
 
     over-least : (i : ℕ) (f : Bool) → i < n → getD (t .visited) (tailOf n fs ts gs bs i f) false ≡ true
         → getD (t .visited) (headOf n fs ts gs bs i f) false ≡ false → k ≤ overOf n fs ts gs bs ks i f
     over-least i f b y z =
         omega (arith, full .least i f b y (λ o. omega arith) z, full .above (headOf n fs ts gs bs i f) (heads streams n xs ps d 0 fs ts gs bs laid i f b), laid .network .within .few-streams)
 
-    slack-is : (i : ℕ) (f : Bool) → i < n → getD (t .visited) (tailOf n fs ts gs bs i f) false ≡ true
+    slack-is : (i : ℕ) (f : Bool) → i < n → Open (streamAt ss i) f (getD xs i 0) d → getD (t .visited) (tailOf n fs ts gs bs i f) false ≡ true
         → getD (t .visited) (headOf n fs ts gs bs i f) false ≡ false → slackAt ss xs qs d i f + k ≡ overOf n fs ts gs bs ks i f
-    slack-is i f b y z = now-slack (t .visited) ks k i f b (omega (arith, g .room)) (g .close) y z (over-least i f b y z)
+    slack-is i f b o y z = now-slack (t .visited) ks k i f b o (reach-small (suc l) k e ks near t g) (g .close) y z (over-least i f b y z)
 
-    none : r ≡ places → leastTo ss xs qs (t .visited) d 0 n ≡ Nothing
-    none q = answers-same ss xs qs (t .visited) d 0 n Nothing (λ i b u. agree i b (startIn ss (t .visited) i) (endIn ss (t .visited) i) refl refl)
+    -- No open stream leaves the visited places.
+    none : r ≡ places → grow ss n xs es d (suc l) qs t ≡ grownBy false t qs
+    none q = go _ refl (least-good ss xs qs (t .visited) d 0 n)
       where
-        shut : (i : ℕ) → i < n → startIn ss (t .visited) i ≡ not (endIn ss (t .visited) i) → ⊥
-        shut i b c =
+        shut : (i : ℕ) → i < n → startIn ss (t .visited) i ≡ not (endIn ss (t .visited) i) → Open (streamAt ss i) (startIn ss (t .visited) i) (getD xs i 0) d → ⊥
+        shut i b c free =
             let o = leaving ss n fs ts gs bs starts ends (laid .network .within .few-streams) (t .visited) i b c in
             none-leads ss n fs ts gs bs starts ends (laid .network .within .few-streams) (heads streams n xs ps d 0 fs ts gs bs laid) (t .visited) ks codes (k * numbering) e r full refl q i
             (startIn ss (t .visited) i) b (o .0) (o .1)
-            (omega (arith, over-small i (startIn ss (t .visited) i) b, g .room, laid .step))
+            (over-small i (startIn ss (t .visited) i) b free (o .0))
 
-        agree : (i : ℕ) → i < n → (a b : Bool) → startIn ss (t .visited) i ≡ a → endIn ss (t .visited) i ≡ b → a ≡ b
-        agree i h true true p o = refl
-        agree i h true false p o = absurd (shut i h (rw (p, o)))
-        agree i h false true p o = absurd (shut i h (rw (p, o)))
-        agree i h false false p o = refl
+        go : (f : Crossing) → leastTo ss xs qs (t .visited) d 0 n ≡ f → Answers ss xs qs (t .visited) d 0 n f → grow ss n xs es d (suc l) qs t ≡ grownBy false t qs
+        go Nothing e m = grow-none streams n xs es d qs t (suc l) (omega arith) e
+        go (At i g) e m = grow-stop streams n xs es d qs t (suc l) i g (omega arith) e
+            (omega (arith, m .is, slack-shut (startIn ss (t .visited) i) (streamAt ss i) (getD xs i 0) (getD qs (streamAt ss i .from) 0) (getD qs (streamAt ss i .to) 0) d (shut i (m .below) (m .leaves))))
 
     -- The nearest place is at the end of the stream of least slack.
     module _ (q : r ≡ places → ⊥) where
@@ -264,6 +312,13 @@ module _ (streams : List Stream) (n : ℕ) (xs ps : List ℕ) (d : ℕ) (one : 1
       on : (startIn ss (t .visited) i ≡ not (endIn ss (t .visited) i)) × (startIn ss (t .visited) i ≡ f) × (farEnd (t .visited) (streamAt ss i) ≡ headOf n fs ts gs bs i f)
       on = leads-on ss n fs ts gs bs starts ends (laid .network .within .few-streams) (t .visited) i f (tells .lead .below) (tells .lead .tail) off
 
+      small : j < farthest
+      small = omega (arith, nearest-is codes r (full .long) refl q .1, div-add-mod (getD codes r 0) 128)
+
+      -- It is open.
+      free : Open (streamAt ss i) f (getD xs i 0) d
+      free = open-of f (streamAt ss i) (getD xs i 0) (getD ps (streamAt ss i .from) 0) (getD ps (streamAt ss i .to) 0) d (omega (arith, usable-slack streams n xs ps d 0 fs ts gs bs laid i f (tells .lead .below) (all-usable ss i), tells .distance, small))
+
       further : k ≤ j
       further = omega (arith, over-least i f (tells .lead .below) (tells .lead .tail) off, tells .distance)
 
@@ -272,14 +327,17 @@ module _ (streams : List Stream) (n : ℕ) (xs ps : List ℕ) (d : ℕ) (one : 1
         below = tells .lead .below;
         usable = all-usable ss i;
         leaves = on .0;
-        is = rw (on .1) (omega (arith, slack-is i f (tells .lead .below) (tells .lead .tail) off, tells .distance));
+        is = rw (on .1) (omega (arith, slack-is i f (tells .lead .below) free (tells .lead .tail) off, tells .distance));
         least = λ m b u c.
             let o = leaving ss n fs ts gs bs starts ends (laid .network .within .few-streams) (t .visited) m b c in
-            omega (arith, slack-is m (startIn ss (t .visited) m) b (o .0) (o .1), tells .nearer m (startIn ss (t .visited) m) b (o .0) (o .1) .0);
+            open-or (startIn ss (t .visited) m) (streamAt ss m) (getD xs m 0) d
+            (λ y. omega (arith, slack-is m (startIn ss (t .visited) m) b y (o .0) (o .1), tells .nearer m (startIn ss (t .visited) m) b (o .0) (o .1) .0))
+            (λ y. omega (arith, small, slack-shut (startIn ss (t .visited) m) (streamAt ss m) (getD xs m 0) (getD qs (streamAt ss m .from) 0) (getD qs (streamAt ss m .to) 0) d y));
         first = λ m b u c h.
             let o = leaving ss n fs ts gs bs starts ends (laid .network .within .few-streams) (t .visited) m b c in
-            tells .nearer m (startIn ss (t .visited) m) b (o .0) (o .1) .1
-            (omega (arith, slack-is m (startIn ss (t .visited) m) b (o .0) (o .1), h, further));
+            open-or (startIn ss (t .visited) m) (streamAt ss m) (getD xs m 0) d
+            (λ y. tells .nearer m (startIn ss (t .visited) m) b (o .0) (o .1) .1 (omega (arith, slack-is m (startIn ss (t .visited) m) b y (o .0) (o .1), h, further)))
+            (λ y. absurd (omega (arith, small, h, slack-shut (startIn ss (t .visited) m) (streamAt ss m) (getD xs m 0) (getD qs (streamAt ss m .from) 0) (getD qs (streamAt ss m .to) 0) d y)));
       })
 
       far-end : farEnd (t .visited) (getD streams i noStream) ≡ r
@@ -294,7 +352,7 @@ module _ (streams : List Stream) (n : ℕ) (xs ps : List ℕ) (d : ℕ) (one : 1
       going : Going l j r (set ks r j) (set codes r far) next
       going = record {
         nears = next-good n fs ts gs bs (t .visited) ks (set ks r j) (k * numbering) e codes r (j * numbering) full (tells .within) (g .visits) (tells .lead .off)
-            (λ u o. getD-set-other ks r u j 0 o) (omega (arith, small, laid .step)) (λ v b. omega (arith, least v b, div-add-mod (getD codes r 0) 128));
+            (λ u o. getD-set-other ks r u j 0 o) (omega (arith, small)) (λ v b. omega (arith, least v b, div-add-mod (getD codes r 0) 128));
         marked = getD-set-same (t .visited) r true false (rw (g .visits) (tells .within));
         at = getD-set-same ks r j 0 (rw (g .dists) (tells .within));
         visits = length-set (t .visited) r true ∙ g .visits;
@@ -303,12 +361,15 @@ module _ (streams : List Stream) (n : ℕ) (xs ps : List ℕ) (d : ℕ) (one : 1
           | yes o ↦ rw (o, getD-set-same ks r j 0 (rw (g .dists) (tells .within))) (omega arith)
           | no o ↦ rw (getD-set-other ks r u j 0 o) (omega (arith, g .close u, further))
         ];
-        room = omega (arith, small, g .room);
+        place = tells .within;
+        short = omega (arith, g .short);
+        tall = λ u b y. elim (ℕ-discrete u r) [
+          | yes o ↦ rw (o, getD-set-same ks r j 0 (rw (g .dists) (tells .within)))
+              (omega (arith, tells .distance, ap (λ (v : ℕ). getD ps v 0) (tells .lead .head), over-tall i f (tells .lead .below) free (tells .lead .tail)))
+          | no o ↦ rw (getD-set-other ks r u j 0 o) (omega (arith, g .tall u b (sym (getD-set-other (t .visited) r u true false o) ∙ y)))
+        ];
       }
         where
-          small : j ≤ k + 2 * maxWeight * d
-          small = omega (arith, tells .distance, over-small i f (tells .lead .below))
-
           least : (v : ℕ) → v < places → getD codes r 0 ≤ getD codes v 0
           least v b = rw (getD-any codes r 0 far (rw (full .long) (tells .within))) (nearest-least codes r v (full .long) refl b)
 
@@ -320,7 +381,7 @@ module _ (streams : List Stream) (n : ℕ) (xs ps : List ℕ) (d : ℕ) (one : 1
       → grow ss n xs es d l (reducedBy (t .visited) ks k ps) t ≡ grownOf (walked fs ts gs bs n es far l k e ks near t)
   walk-grow zero k e ks near t g = grow-end streams n xs es d _ t ∙ ap grownOf (sym (walk-end fs ts gs bs n es far k e ks near t))
   walk-grow (suc l) k e ks near t g = elim (ℕ-discrete (r l k e ks near t g) places) [
-    | yes q ↦ grow-none streams n xs es d _ t (suc l) (omega arith) (none l k e ks near t g q)
+    | yes q ↦ none l k e ks near t g q
         ∙ ap grownOf (sym (walk-none fs ts gs bs n es far k e ks near t _ refl _ refl (suc l) (omega arith) q))
     | no q ↦ by-cases (ltb (getD es (r l k e ks near t g) 0) netShift)
         (λ h. hit q (ltb-true _ _ h))
@@ -331,7 +392,7 @@ module _ (streams : List Stream) (n : ℕ) (xs ps : List ℕ) (d : ℕ) (one : 1
       place = r l k e ks near t g
 
       limited : (q : place ≡ places → ⊥) → j l k e ks near t g ≤ far
-      limited q = omega (arith, going l k e ks near t g q .room, laid .step)
+      limited q = omega (arith, small l k e ks near t g q)
 
       numbered : (q : place ≡ places → ⊥) → i l k e ks near t g q ≡ getD (codes l k e ks near t g) place 0 % numbering
       numbered q = sym (tells l k e ks near t g q .number)
@@ -339,7 +400,7 @@ module _ (streams : List Stream) (n : ℕ) (xs ps : List ℕ) (d : ℕ) (one : 1
       hit : (q : place ≡ places → ⊥) → getD es place 0 < netShift
           → grow ss n xs es d (suc l) (reducedBy (t .visited) ks k ps) t ≡ grownOf (walked fs ts gs bs n es far (suc l) k e ks near t)
       hit q h =
-          grow-hit streams n xs es d _ t (suc l) _ _ (omega arith) (tells l k e ks near t g q .lead .below) (some l k e ks near t g q) (rw (far-end l k e ks near t g q) h)
+          grow-hit streams n xs es d _ t (suc l) _ _ (omega arith) (tells l k e ks near t g q .lead .below) (some l k e ks near t g q) (omega (arith, small l k e ks near t g q)) (rw (far-end l k e ks near t g q) h)
           ∙ rw (far-end l k e ks near t g q, lowered l k e ks near t g q, numbered q)
           (ap grownOf (sym (walk-hit fs ts gs bs n es far k e ks near t _ refl _ refl (suc l) (omega arith) q (limited q) h)))
 
@@ -349,32 +410,38 @@ module _ (streams : List Stream) (n : ℕ) (xs ps : List ℕ) (d : ℕ) (one : 1
           → grow ss n xs es d (suc l) (reducedBy (t .visited) ks k ps) t ≡ grownOf (walked fs ts gs bs n es far (suc l) k e ks near t)
       more q h rest =
           let z : suc l - 1 ≡ l = omega arith in
-          grow-more streams n xs es d _ t (suc l) _ _ (omega arith) (tells l k e ks near t g q .lead .below) (some l k e ks near t g q) (rw (far-end l k e ks near t g q) h)
+          grow-more streams n xs es d _ t (suc l) _ _ (omega arith) (tells l k e ks near t g q .lead .below) (some l k e ks near t g q) (omega (arith, small l k e ks near t g q)) (rw (far-end l k e ks near t g q) h)
           ∙ rw (z, far-end l k e ks near t g q, lowered l k e ks near t g q, numbered q)
           (rest
           ∙ ap grownOf (sym (walk-more fs ts gs bs n es far k e ks near t _ refl _ refl (suc l) (omega arith) q (limited q) h ∙ rw z)))
 
   -- From the first place.
-  pub search-walk : (s : ℕ) → s < places
-      → grow ss n xs es d searchRounds ps (rootAt s) ≡ grownOf (walked fs ts gs bs n es far searchRounds 0 s (replicate places 0) (replicate places far) (rootAt s))
-  search-walk s l =
-      ap (λ (qs : List ℕ). grow ss n xs es d searchRounds qs (rootAt s)) (sym (reduced-none (rootAt s .visited) (replicate places 0) ps))
-      ∙ walk-grow searchRounds 0 s (replicate places 0) (replicate places far) (rootAt s) (record {
-        nears = root-nears n fs ts gs bs s l (tails streams n xs ps d 0 fs ts gs bs laid);
-        marked = getD-set-same (replicate places false) s true false l;
-        at = zeros places s;
-        visits = length-set (replicate places false) s true;
+  pub search-walk : grow ss n xs es d searchRounds ps (rootAt root) ≡ grownOf (walked fs ts gs bs n es far searchRounds 0 root (replicate places 0) (replicate places far) (rootAt root))
+  search-walk =
+      ap (λ (qs : List ℕ). grow ss n xs es d searchRounds qs (rootAt root)) (sym (reduced-none (rootAt root .visited) (replicate places 0) ps))
+      ∙ walk-grow searchRounds 0 root (replicate places 0) (replicate places far) (rootAt root) (record {
+        nears = root-nears n fs ts gs bs root within (tails streams n xs ps d 0 fs ts gs bs laid);
+        marked = getD-set-same (replicate places false) root true false within;
+        at = zeros places root;
+        visits = length-set (replicate places false) root true;
         dists = refl;
         close = λ u. omega (arith, zeros places u);
-        room = omega arith;
+        place = within;
+        short = omega arith;
+        tall = λ u b y. omega (arith, zeros places u, ap (λ (v : ℕ). getD ps v 0) (only-root root u within b y));
       })
 
--- Over the lanes.
-pub search-laid : (ls xs ps es : List ℕ) (d s : ℕ) → Falling ps d → s < places → (w : Searching ls xs ps d) → (r : Walked)
+-- Over the lanes: the prices are reduced where a place was found.
+pub search-laid : (ls xs ps es : List ℕ) (d s : ℕ) → s < places → (w : Searching ls xs ps d) → (r : Walked)
     → r ≡ walked (startsOf ls) (endsOf ls) (gapsOf ls xs ps d 0 true) (gapsOf ls xs ps d 0 false) (countOf ls) es far searchRounds 0 s (replicate places 0) (replicate places far) (rootAt s)
-    → grownBy (r .found) (r .tree) (reducedBy (r .tree .visited) (r .dist) (r .reach) ps) ≡ grow (take (w .n) (w .streams)) (w .n) xs es d searchRounds ps (rootAt s)
-search-laid ls xs ps es d s floor l w r e =
-    ap (λ (v : Walked). grownBy (v .found) (v .tree) (reducedBy (v .tree .visited) (v .dist) (v .reach) ps))
+    → grownBy (r .found) (r .tree) (pick (r .found) (reducedBy (r .tree .visited) (r .dist) (r .reach) ps) ps) ≡ sought (take (w .n) (w .streams)) xs es ps d s
+unfolding sought
+search-laid ls xs ps es d s l w r e =
+    rw (in-use (w .streams) (w .n) xs ps d 0 (startsOf ls) (endsOf ls) _ _ all)
+    (ap (λ (g : Grown). grownBy (g .found) (g .tree) (pick (g .found) (g .prices) ps))
+    (ap (λ (v : Walked). grownBy (v .found) (v .tree) (reducedBy (v .tree .visited) (v .dist) (v .reach) ps))
     (e ∙ ap (λ (m : ℕ). walked (startsOf ls) (endsOf ls) (gapsOf ls xs ps d 0 true) (gapsOf ls xs ps d 0 false) m es far searchRounds 0 s (replicate places 0) (replicate places far) (rootAt s)) (w .laid .counted))
-    ∙ sym
-    (search-walk (w .streams) (w .n) xs ps d (w .walkable .some) (startsOf ls) (endsOf ls) _ _ (slacked (w .streams) (w .n) xs ps d 0 ls (w .laid) (w .walkable)) (floor .1) es s l)
+    ∙ sym (search-walk (w .streams) (w .n) xs ps d (startsOf ls) (endsOf ls) _ _ all es s l)))
+  where
+    all : Slacked (w .streams) (w .n) xs ps d 0 (startsOf ls) (endsOf ls) (gapsOf ls xs ps d 0 true) (gapsOf ls xs ps d 0 false)
+    all = slacked (w .streams) (w .n) xs ps d 0 ls (w .laid) (w .walkable)

@@ -1,124 +1,134 @@
--- Settled amounts: the step condition holds at 1, whatever the prices, and amounts and nets are in range.
+-- Settled amounts: the step condition holds at 1, whatever the prices, and amounts are in range; what is over rises little.
 use mathlib.Core.Path.{_≡_, refl, sym, _∙_, ap, subst}
 use mathlib.Core.Bool.{Bool, true, false}
 use mathlib.Core.List.{List}
-use lib.IntN.{ℤ, pos, negsuc, natAbs}
-use Prim.Native.Nat.{ℕ, zero, suc, _+_, _-_, _*_, _/_, _%_, _≤_, _<_}
-use native.Mathlib.Nat.{mul-le-mul-left, mul-le-mul-right, div-add-mod, mod-lt, add-mul-div-left, div-eq-of-lt-le}
+use lib.IntN.{ℤ, pos, _+ℤ_, _-ℤ_}
+use Prim.Native.Nat.{ℕ, zero, suc, _+_, _-_, _*_, _/_, _≤_, _<_}
+use native.Mathlib.Nat.{mul-le-mul-left, mul-le-mul-right, div-add-mod, mod-lt}
 use native.Mathlib.Omega.{arith}
 use native.Mathlib.Decide.{decLe, ℕ-discrete}
-use lib.ListN.{length, getD, set, length-set, List·getD-eq-default}
+use borrow.Author.Tests.{ltb-true, ltb-false, leb-true, leb-false}
+use lib.Dec.{ltb, leb}
+use lib.ListN.{length, getD, set, length-set}
 use lib.Seq.{set-getD, getD-set-same, getD-set-other}
 use Rattle.numbers.specs.Choice.{pick}
+use Rattle.numbers.proofs.Tests.{picked}
 use Rattle.plants.specs.declared.Stream.{Stream}
 use Rattle.plants.specs.Limits.{maxUnits, places, maxStreams}
-use Rattle.plants.specs.Plants.{noStream}
 use Rattle.flows.specs.Flows.{streamAt}
 use Rattle.flows.specs.Certificate.{weightOf}
-use Rattle.model.specs.Sizes.{mostFlow, priceShift}
-use Rattle.model.specs.Held.{shifted, readingOf, Held, HeldAt, AllHeld}
-use Rattle.model.proofs.Amounts.{net}
-use Rattle.model.proofs.Growing.{Plain}
+use Rattle.flows.proofs.Integers.{Le, plus-val}
+use Rattle.model.specs.Sizes.{flowShift, mostFlow, netShift, mostOver}
+use Rattle.model.specs.Held.{unshifted, readingOf, lowOf, highOf, Held, HeldAt}
 use Rattle.model.specs.declared.Hint.{Hint}
-use Rattle.model.specs.Sizes.{mostReading, priceBand}
-use Rattle.model.specs.Model.{settledOf, settledTo, netsTo, settled}
-use Rattle.model.specs.SolverNeeds.{Close, Agreed, Start, Sound}
-use Rattle.model.proofs.Booking.{nets-around, nets-right}
-use Rattle.model.proofs.Steady.{net-value}
+use Rattle.model.specs.declared.State.{State}
+use Rattle.model.specs.Model.{clamped, nearestAmount, settledOf, settledTo, netsTo, settled, asHint, overSum}
+use Rattle.model.specs.SolverNeeds.{Start, Sound}
+use Rattle.model.proofs.Amounts.{net, unshifted-val}
+use Rattle.model.proofs.Bounds.{weight-none, weight-some, held-more, agree-held}
+use Rattle.model.proofs.Streams.{Solvable}
+use Rattle.model.proofs.Overs.{overTo, over-held, over-moved}
+use Rattle.model.proofs.Booking.{nets-around, nets-long, nets-right, net-value}
 
--- Streams as the solver needs them.
-pub record Solvable (ss : List Stream) : Type 0 where
-  pub plain : Plain maxUnits ss
-  pub weighed : (k : ℕ) → k < length ss → streamAt ss k .metered ≡ true → 1 ≤ streamAt ss k .weight
-  pub in-range : (k : ℕ) → k < length ss → streamAt ss k .metered ≡ true → natAbs (streamAt ss k .reading) ≤ mostReading
-  pub apart : (k : ℕ) → k < length ss → streamAt ss k .from ≡ streamAt ss k .to → ⊥
+-- A number brought into a range: it is in it; above its low it was not raised, below its high not lowered.
+module _ (L H x : ℕ) where
+  pub clamped-in : L ≤ H → (L ≤ clamped L H x) × (clamped L H x ≤ H)
+  clamped-in o =
+      picked (λ (y : ℕ). (L ≤ y) × (y ≤ H)) (ltb x L) L (pick (ltb H x) H x)
+      (λ e. (omega arith, o))
+      (λ e. picked (λ (y : ℕ). (L ≤ y) × (y ≤ H)) (ltb H x) H x (λ f. (o, omega arith)) (λ f. (ltb-false x L e, ltb-false H x f)))
 
--- A reading as it is held.
-pub reading-close : (z : ℤ) → natAbs z ≤ mostReading → Close mostReading (shifted z)
-reading-close (pos a) h = (omega arith, omega arith)
-reading-close (negsuc a) h = (omega arith, omega arith)
+  clamped-down : L < clamped L H x → clamped L H x ≤ x
+  clamped-down =
+      picked (λ (y : ℕ). L < y → y ≤ x) (ltb x L) L (pick (ltb H x) H x)
+      (λ e l. absurd (omega arith))
+      (λ e. picked (λ (y : ℕ). L < y → y ≤ x) (ltb H x) H x (λ f l. omega (arith, ltb-true H x f)) (λ f l. omega arith))
 
--- The step condition at a greater step, and at weight 0: the prices agree.
-pub held-more : (m w X R u v : ℕ) → 1 ≤ m → Held 1 w X R u v → Held m w X R u v
-held-more m w X R u v l h =
-    let k : w * 1 ≤ w * m = mul-le-mul-left w l in
-    record { low = omega (arith, h .low); high = omega (arith, h .high) }
+  clamped-up : clamped L H x < H → x ≤ clamped L H x
+  clamped-up =
+      picked (λ (y : ℕ). y < H → x ≤ y) (ltb x L) L (pick (ltb H x) H x)
+      (λ e l. omega (arith, ltb-true x L e))
+      (λ e. picked (λ (y : ℕ). y < H → x ≤ y) (ltb H x) H x (λ f l. absurd (omega arith)) (λ f l. omega arith))
 
-module _ (m w X R u v : ℕ) (e : w ≡ 0) where
-  none : (x : ℕ) → w * x ≡ 0
-  none x = ap (λ k. k * x) e ∙ omega arith
+-- The nearest amount, before it is brought into range, meets both bounds; the lower where it is not cut off at 0.
+module _ (w R pu pv : ℕ) (l : 1 ≤ w) where
+  div-parts : (a : ℕ) → (2 * w * (a / (2 * w)) ≤ a) × (a < 2 * w * (a / (2 * w)) + 2 * w)
+  div-parts a = (omega (arith, div-add-mod a (2 * w)), omega (arith, div-add-mod a (2 * w), mod-lt a (wide l)))
+    where
+      wide : 1 ≤ w → 0 < 2 * w
+      wide l = omega arith
 
-  pub held-agree : Held m w X R u v → u ≡ v
-  held-agree h = omega (arith, none X, none R, none m, h .low, h .high)
+  nearest-low : 1 ≤ nearestAmount w R pu pv → 2 * w * nearestAmount w R pu pv + pu ≤ pv + 2 * w * R + w
+  nearest-low =
+      picked (λ (y : ℕ). 1 ≤ y → 2 * w * y + pu ≤ pv + 2 * w * R + w) (leb pu (pv + w)) (R + (pv + w - pu) / (2 * w)) (R - (pu - pv + w - 1) / (2 * w))
+      (λ e o. above ((pv + w - pu) / (2 * w)) (leb-true pu (pv + w) e) (div-parts (pv + w - pu)))
+      (λ e o. below ((pu - pv + w - 1) / (2 * w)) (leb-false pu (pv + w) e) (div-parts (pu - pv + w - 1)) o)
+    where
+      above : (q : ℕ) → pu ≤ pv + w → (2 * w * q ≤ pv + w - pu) × (pv + w - pu < 2 * w * q + 2 * w) → 2 * w * (R + q) + pu ≤ pv + 2 * w * R + w
+      above q h d = omega (arith, d .0)
 
-  pub agree-held : u ≡ v → Held m w X R u v
-  agree-held q = record { low = omega (arith, none X, none R, none m); high = omega (arith, none X, none R, none m) }
+      below : (q : ℕ) → pv + w < pu → (2 * w * q ≤ pu - pv + w - 1) × (pu - pv + w - 1 < 2 * w * q + 2 * w) → 1 ≤ R - q
+          → 2 * w * (R - q) + pu ≤ pv + 2 * w * R + w
+      below q h d o = omega (arith, d .1, whole (R - q) (omega arith))
+        where
+          whole : (y : ℕ) → y + q ≡ R → w * y + w * q ≡ w * R
+          whole y e = omega (arith, ap (λ k. w * k) e)
 
-weight-none : (s : Stream) → s .metered ≡ false → weightOf s ≡ 0
-weight-none s e = rw e
+  nearest-high : pv + 2 * w * R ≤ 2 * w * nearestAmount w R pu pv + w + pu
+  nearest-high =
+      picked (λ (y : ℕ). pv + 2 * w * R ≤ 2 * w * y + w + pu) (leb pu (pv + w)) (R + (pv + w - pu) / (2 * w)) (R - (pu - pv + w - 1) / (2 * w))
+      (λ e. above ((pv + w - pu) / (2 * w)) (leb-true pu (pv + w) e) (div-parts (pv + w - pu)))
+      (λ e. below ((pu - pv + w - 1) / (2 * w)) (leb-false pu (pv + w) e) (div-parts (pu - pv + w - 1)))
+    where
+      above : (q : ℕ) → pu ≤ pv + w → (2 * w * q ≤ pv + w - pu) × (pv + w - pu < 2 * w * q + 2 * w) → pv + 2 * w * R ≤ 2 * w * (R + q) + w + pu
+      above q h d = omega (arith, d .1)
 
-pub weight-some : (s : Stream) → s .metered ≡ true → weightOf s ≡ s .weight
-weight-some s e = rw e
+      below : (q : ℕ) → pv + w < pu → (2 * w * q ≤ pu - pv + w - 1) × (pu - pv + w - 1 < 2 * w * q + 2 * w) → pv + 2 * w * R ≤ 2 * w * (R - q) + w + pu
+      below q h d = omega (arith, d .0, more (R - q) (omega arith))
+        where
+          more : (y : ℕ) → R ≤ y + q → w * R ≤ w * y + w * q
+          more y e = omega (arith, mul-le-mul-left w e)
 
-pub held-agreed : (ss : List Stream) (xs ps : List ℕ) (m : ℕ) → AllHeld ss xs ps m → Agreed ss ps
-held-agreed ss xs ps m h k l e = held-agree m (weightOf (streamAt ss k)) (getD xs k 0) (readingOf (streamAt ss k)) _ _ (weight-none (streamAt ss k) e) (h k l)
+-- The settled amount is in range and meets the step condition.
+pub settled-in : (s : Stream) (pu pv : ℕ) → lowOf s ≤ highOf s → (lowOf s ≤ settledOf s pu pv) × (settledOf s pu pv ≤ highOf s)
+settled-in s pu pv o = clamped-in (lowOf s) (highOf s) (nearestAmount (weightOf s) (readingOf s) pu pv) o
 
--- The nearest amount by a quotient of small numbers: above the reading, and below it.
-pub settled-up : (w R pu pv : ℕ) → 1 ≤ w → priceBand ≤ R → pu ≤ pv + w → (R - priceBand) + (pv + w + 2 * (w * priceBand) - pu) / (2 * w) ≡ R + (pv + w - pu) / (2 * w)
-settled-up w R pu pv l r h =
-    let e : pv + w + 2 * (w * priceBand) - pu ≡ (pv + w - pu) + 2 * w * priceBand = omega arith in
-    let q : ((pv + w - pu) + 2 * w * priceBand) / (2 * w) ≡ (pv + w - pu) / (2 * w) + priceBand = add-mul-div-left (pv + w - pu) priceBand (omega arith) in
-    rw (e, q) (omega arith)
-
-pub down-most : (w n : ℕ) → 1 ≤ w → n ≤ 2 * priceBand + w → n / (2 * w) ≤ priceBand
-down-most w n l h = elim (decLe (n / (2 * w)) priceBand) [
-  | yes z ↦ z
-  | no z ↦ let k : 2 * w * (priceBand + 1) ≤ 2 * w * (n / (2 * w)) = mul-le-mul-left (2 * w) (omega arith) in
-      absurd (omega (arith, div-add-mod n (2 * w), k))
-]
-
-pub settled-down : (w R pu pv : ℕ) → 1 ≤ w → priceBand ≤ R → pv + w < pu → pu ≤ pv + 2 * priceBand
-    → (R - priceBand) + (pv + w + 2 * (w * priceBand) - pu) / (2 * w) ≡ R - (pu - pv + w - 1) / (2 * w)
-settled-down w R pu pv l r h m =
-    let t : ℕ = (pu - pv + w - 1) / (2 * w) in
-    let most : t ≤ priceBand = down-most w (pu - pv + w - 1) l (omega arith) in
-    let k : ℕ = priceBand - t in
-    let N : ℕ = pv + w + 2 * (w * priceBand) - pu in
-    let e : 2 * w * t + (pu - pv + w - 1) % (2 * w) ≡ pu - pv + w - 1 = div-add-mod (pu - pv + w - 1) (2 * w) in
-    let b : (pu - pv + w - 1) % (2 * w) < 2 * w = mod-lt (pu - pv + w - 1) (omega arith) in
-    let s : k + t ≡ priceBand = omega arith in
-    let f : w * (k + t) ≡ w * priceBand = ap (λ n. w * n) s in
-    let q : N / (2 * w) ≡ k = div-eq-of-lt-le (2 * w) (omega (arith, e, b, f)) (omega (arith, e, b, f)) in
-    rw q (omega (arith, most))
-
--- The nearest amount meets the step condition.
-pub settled-held : (s : Stream) (pu pv : ℕ) → 1 ≤ weightOf s → pu ≤ pv + 2 * priceBand → priceBand ≤ readingOf s → Held 1 (weightOf s) (settledOf s pu pv) (readingOf s) pu pv
-settled-held s pu pv l h r = go (weightOf s) (readingOf s) l r
+pub settled-held : (s : Stream) (pu pv : ℕ) → 1 ≤ weightOf s → Held 1 (weightOf s) (settledOf s pu pv) (readingOf s) pu pv (lowOf s) (highOf s)
+settled-held s pu pv l = record {
+  low = λ c. low (clamped-down (lowOf s) (highOf s) (nearestAmount (weightOf s) (readingOf s) pu pv) (omega arith)) c;
+  high = λ c. high (clamped-up (lowOf s) (highOf s) (nearestAmount (weightOf s) (readingOf s) pu pv) (omega arith));
+}
   where
-    go : (w R : ℕ) → 1 ≤ w → priceBand ≤ R → Held 1 w ((R - priceBand) + (pv + w + 2 * (w * priceBand) - pu) / (2 * w)) R pu pv
-    go w R l r =
-        let N : ℕ = pv + w + 2 * (w * priceBand) - pu in
-        let q : ℕ = N / (2 * w) in
-        let X : ℕ = (R - priceBand) + q in
-        let e : 2 * w * q + N % (2 * w) ≡ N = div-add-mod N (2 * w) in
-        let b : N % (2 * w) < 2 * w = mod-lt N (omega arith) in
-        let c : X + priceBand ≡ R + q = omega arith in
-        let f : w * (X + priceBand) ≡ w * (R + q) = ap (λ k. w * k) c in
-        let z : N + pu ≡ pv + w + 2 * (w * priceBand) = omega arith in
-        record { low = omega (arith, e, b, f, z); high = omega (arith, e, b, f, z) }
+    w : ℕ
+    w = weightOf s
 
--- It differs from the reading by no more than the prices differ.
-near-up : (w X R u v D : ℕ) → 1 ≤ w → v ≤ u + D → Held 1 w X R u v → X ≤ R + D
-near-up w X R u v D l k h = elim (decLe X (R + D)) [ yes z ↦ z | no z ↦ absurd (go (omega arith)) ]
-  where
-    go : R + D + 1 ≤ X → ⊥
-    go z = omega (arith, h .low, mul-le-mul-left w z, mul-le-mul-right D l)
+    R : ℕ
+    R = readingOf s
 
-near-down : (w X R u v D : ℕ) → 1 ≤ w → u ≤ v + D → Held 1 w X R u v → R ≤ X + D
-near-down w X R u v D l k h = elim (decLe R (X + D)) [ yes z ↦ z | no z ↦ absurd (go (omega arith)) ]
-  where
-    go : X + D + 1 ≤ R → ⊥
-    go z = omega (arith, h .high, mul-le-mul-left w z, mul-le-mul-right D l)
+    X : ℕ
+    X = settledOf s pu pv
+
+    low : settledOf s pu pv ≤ nearestAmount (weightOf s) (readingOf s) pu pv → lowOf s + 1 ≤ settledOf s pu pv
+        → 2 * weightOf s * settledOf s pu pv + pu ≤ pv + 2 * weightOf s * readingOf s + weightOf s * 1
+    low h c = omega (arith, nearest-low w R pu pv l (omega arith), mul-le-mul-left w h)
+
+    high : nearestAmount (weightOf s) (readingOf s) pu pv ≤ settledOf s pu pv
+        → pv + 2 * weightOf s * readingOf s ≤ 2 * weightOf s * settledOf s pu pv + weightOf s * 1 + pu
+    high h = omega (arith, nearest-high w R pu pv l, mul-le-mul-left w h)
+
+-- Two amounts in one range, held at d and at 1 by the same prices, differ by at most d.
+module _ (d w X Y R u v L H : ℕ) (l : 1 ≤ w) (a : Held d w X R u v L H) (b : Held 1 w Y R u v L H) (i : (L ≤ X) × (X ≤ H)) (j : (L ≤ Y) × (Y ≤ H)) where
+  pub near-above : Y ≤ X + d
+  near-above = elim (decLe Y (X + d)) [ yes k ↦ k | no k ↦ absurd (far (omega arith)) ]
+    where
+      far : X + d + 1 ≤ Y → ⊥
+      far h = omega (arith, mul-le-mul-left w h, a .high (omega (arith, j .1)), b .low (omega (arith, i .0)))
+
+  pub near-below : X ≤ Y + d
+  near-below = elim (decLe X (Y + d)) [ yes k ↦ k | no k ↦ absurd (far (omega arith)) ]
+    where
+      far : Y + d + 1 ≤ X → ⊥
+      far h = omega (arith, mul-le-mul-left w h, a .low (omega (arith, j .0)), b .high (omega (arith, i .1)))
 
 -- Element by element.
 module _ (ss : List Stream) (ps xs : List ℕ) where
@@ -134,7 +144,7 @@ module _ (ss : List Stream) (ps xs : List ℕ) where
       go true r = length-set (settledTo ss ps xs n) n _ ∙ r
       go false r = r
 
-  settled-past : (n k : ℕ) → n ≤ k → getD (settledTo ss ps xs n) k 0 ≡ getD xs k 0
+  pub settled-past : (n k : ℕ) → n ≤ k → getD (settledTo ss ps xs n) k 0 ≡ getD xs k 0
   unfolding settledTo
   settled-past zero k l = refl
   settled-past (suc n) k l = go (streamAt ss n .metered) (settled-past n k (omega arith))
@@ -170,26 +180,29 @@ module _ (ss : List Stream) (ps xs : List ℕ) where
       go true e r = ap (λ (ys : List ℕ). set ys n (amount n)) r ∙ ap (set xs n) (sym (e refl)) ∙ set-getD xs n 0
       go false e r = r
 
+-- What is over in a state, by its amounts.
+pub sound-over : (ss : List Stream) (d b : ℕ) (st : State) → Sound ss d b st → overTo places (net ss (st .flows)) ≡ overSum (st .nets)
+sound-over ss d b st h =
+    subst (λ (n : ℕ). overTo n (net ss (st .flows)) ≡ overSum (st .nets)) (h .netted)
+    (over-held (st .nets) (net ss (st .flows)) (λ u l. h .nets u (rw (h .netted) at l)))
+
 -- The settled state.
-module _ (ss : List Stream) (v : Solvable ss) (h : Hint) (low b : ℕ) (s : Start ss low b h) where
+module _ (ss : List Stream) (v : Solvable ss) (h : Hint) (b : ℕ) (s : Start ss b h) where
   abbrev ps : List ℕ
   ps = h .prices
 
-  abbrev ys : List ℕ
+  abbrev pub ys : List ℕ
   ys = settledTo ss (h .prices) (h .flows) (length ss)
 
-  -- A price is above another by no more than the least price is below priceShift.
-  pub prices-near : (u w : ℕ) → u < places → w < places → getD (h .prices) u 0 ≤ getD (h .prices) w 0 + (priceShift - low)
-  prices-near u w lu lw = omega (arith, s .floor w lw, s .capped u lu)
+  at : (k : ℕ) → k < length ss
+      → getD ys k 0 ≡ pick (streamAt ss k .metered) (settledOf (streamAt ss k) (getD ps (streamAt ss k .from) 0) (getD ps (streamAt ss k .to) 0)) (getD (h .flows) k 0)
+  at k l = settled-at ss ps (h .flows) (length ss) k (omega (arith, s .long, v .plain .few)) l
 
-  one-settled : (k : ℕ) → k < length ss → HeldAt ss ys ps 1 k × Close b (getD ys k 0)
-  one-settled k l = rw (settled-at ss ps (h .flows) (length ss) k (omega (arith, s .long, v .plain .few)) l) (go (streamAt ss k .metered) refl)
+  pub settled-one : (k : ℕ) → k < length ss → HeldAt ss ys ps 1 k × ((lowOf (streamAt ss k) ≤ getD ys k 0) × (getD ys k 0 ≤ highOf (streamAt ss k)))
+  settled-one k l = rw (at k l) (go (streamAt ss k .metered) refl)
     where
-      w : ℕ
-      w = weightOf (streamAt ss k)
-
-      R : ℕ
-      R = readingOf (streamAt ss k)
+      t : Stream
+      t = streamAt ss k
 
       pu : ℕ
       pu = getD (h .prices) (streamAt ss k .from) 0
@@ -200,41 +213,114 @@ module _ (ss : List Stream) (v : Solvable ss) (h : Hint) (low b : ℕ) (s : Star
       X : ℕ
       X = settledOf (streamAt ss k) pu pv
 
-      lu : streamAt ss k .from < places
-      lu = omega (arith, v .plain .inside k l .0)
-
-      lv : streamAt ss k .to < places
-      lv = omega (arith, v .plain .inside k l .1)
-
-      go : (m : Bool) → streamAt ss k .metered ≡ m → Held 1 w (pick m X (getD (h .flows) k 0)) R pu pv × Close b (pick m X (getD (h .flows) k 0))
-      go true e =
-          let r = reading-close (streamAt ss k .reading) (v .in-range k l e) in
-          let hw : 1 ≤ weightOf (streamAt ss k) = rw (weight-some (streamAt ss k) e) (v .weighed k l e) in
-          let a = settled-held (streamAt ss k) pu pv hw (omega (arith, prices-near _ _ lu lv, s .near)) (omega (arith, r .1)) in (
-            a,
-            (omega (arith, near-up w X R pu pv (priceShift - low) hw (prices-near _ _ lv lu) a, r .0, s .fits, s .floor _ lu, s .capped _ lu), omega (arith, near-down w X R pu pv (priceShift - low) hw (prices-near _ _ lu lv) a, r .1, s .fits, s .floor _ lu, s .capped _ lu)),
-          )
+      go : (m : Bool) → streamAt ss k .metered ≡ m
+          → Held 1 (weightOf t) (pick m X (getD (h .flows) k 0)) (readingOf t) pu pv (lowOf t) (highOf t)
+          × ((lowOf t ≤ pick m X (getD (h .flows) k 0)) × (pick m X (getD (h .flows) k 0) ≤ highOf t))
+      go true e = (settled-held t pu pv (rw (weight-some t e) (v .weighed k l e)), settled-in t pu pv (v .ranged k l .ordered))
       go false e =
-          (agree-held 1 w (getD (h .flows) k 0) R pu pv (weight-none (streamAt ss k) e) (s .agree k l e), s .unmetered k (omega (arith, v .plain .few)) e)
+          let r = s .unmetered k (omega (arith, v .plain .few)) e in (
+            agree-held 1 (weightOf t) (getD (h .flows) k 0) (readingOf t) pu pv (lowOf t) (highOf t) (weight-none t e) (s .agree k l e),
+            (omega (arith, v .ranged k l .free e), omega (arith, v .ranged k l .wide (v .ranged k l .free e), r .0, s .within)),
+          )
 
-  -- Past the streams in use amounts are as they were.
-  all-close : (k : ℕ) → k < maxStreams → Close b (getD ys k 0)
-  all-close k l = elim (decLe (length ss) k) [
-    | yes q ↦ rw (settled-past ss ps (h .flows) (length ss) k q) (s .unmetered k l (ap (λ (r : Stream). r .metered) (List·getD-eq-default ss noStream q)))
-    | no q ↦ one-settled k (omega arith) .1
+  pub settled-most : (k : ℕ) → k < length ss → getD ys k 0 ≤ mostFlow
+  settled-most k l = omega (arith, settled-one k l .1 .1, v .ranged k l .most)
+
+  -- Amounts of unmetered streams are as they were.
+  pub settled-free : (k : ℕ) → streamAt ss k .metered ≡ false → getD ys k 0 ≡ getD (h .flows) k 0
+  settled-free k e = elim (decLe (length ss) k) [
+    | yes q ↦ settled-past ss ps (h .flows) (length ss) k q
+    | no q ↦ at k (omega arith) ∙ ap (λ (m : Bool). pick m (settledOf (streamAt ss k) (getD ps (streamAt ss k .from) 0) (getD ps (streamAt ss k .to) 0)) (getD (h .flows) k 0)) e
   ]
 
-  pub settled-sound : Sound ss 1 low b (settled ss h)
-  settled-sound = record {
-    held = λ k l. one-settled k l .0;
+  settled-nets : (u : ℕ) → u < places → net ss ys u ≡ pos (getD (netsTo ss ys (length ss)) u 0) -ℤ pos netShift
+  settled-nets u l =
+      net-value (net ss ys u) (getD (netsTo ss ys (length ss)) u 0) (nets-right ss ys (length ss) (v .plain .few) (v .plain .inside) settled-most u l)
+
+  pub settled-sound : (d : ℕ) → 1 ≤ d → overSum (settled ss h .nets) + 2 * maxStreams * d ≤ mostOver → Sound ss d b (settled ss h)
+  settled-sound d l1 o = record {
+    held = λ k l. held-more d _ _ _ _ _ _ _ l1 (settled-one k l .0);
+    inside = λ k l. settled-one k l .1;
+    agreed = s .agree;
     long = settled-long ss ps (h .flows) (length ss) ∙ s .long;
     priced = s .priced;
-    netted = nets-around ss ys (length ss) (v .plain .few) (v .plain .inside) most .long;
-    nets = λ u l. net-value (net ss ys u) (getD (netsTo ss ys (length ss)) u 0) (nets-right ss ys (length ss) (v .plain .few) (v .plain .inside) most u l);
+    netted = nets-around ss ys (length ss) (v .plain .few) (v .plain .inside) settled-most .long;
+    nets = settled-nets;
     floor = s .floor;
     capped = s .capped;
-    close = all-close;
+    over = o;
+    close = λ k l e. rw (settled-free k e) (s .unmetered k l e);
   }
+
+  -- What is over, by the amounts.
+  pub settled-over : overTo places (net ss ys) ≡ overSum (settled ss h .nets)
+  settled-over =
+      subst (λ (n : ℕ). overTo n (net ss ys) ≡ overSum (netsTo ss ys (length ss))) (nets-long ss ys (length ss))
+      (over-held (netsTo ss ys (length ss)) (net ss ys) (λ u l. settled-nets u (rw (nets-long ss ys (length ss)) at l)))
+
+-- A wider range.
+pub start-more : (ss : List Stream) (b c : ℕ) (h : Hint) → Start ss b h → b ≤ c → c ≤ flowShift → Start ss c h
+start-more ss b c h s l m = record {
+  agree = s .agree;
+  floor = s .floor;
+  capped = s .capped;
+  priced = s .priced;
+  long = s .long;
+  unmetered = λ k o e. (omega (arith, s .unmetered k o e .0), omega (arith, s .unmetered k o e .1));
+  within = m;
+}
+
+-- Settled anew after a phase at step d: what is over rises by at most d for each stream.
+module _ (ss : List Stream) (v : Solvable ss) (d b : ℕ) (st : State) (h : Sound ss d b st) (within : b ≤ flowShift) where
+  pub again-start : Start ss b (asHint st)
+  again-start = record {
+    agree = h .agreed;
+    floor = h .floor;
+    capped = h .capped;
+    priced = h .priced;
+    long = h .long;
+    unmetered = h .close;
+    within = within;
+  }
+
+  near : (k : ℕ) → k < length ss → (getD (ys ss v (asHint st) b again-start) k 0 ≤ getD (st .flows) k 0 + d) × (getD (st .flows) k 0 ≤ getD (ys ss v (asHint st) b again-start) k 0 + d)
+  near k l = go (streamAt ss k .metered) refl
     where
-      most : (k : ℕ) → k < length ss → getD ys k 0 ≤ mostFlow
-      most k l = omega (arith, one-settled k l .1 .0, s .within)
+      t : Stream
+      t = streamAt ss k
+
+      Y : ℕ
+      Y = getD (ys ss v (asHint st) b again-start) k 0
+
+      go : (m : Bool) → streamAt ss k .metered ≡ m
+          → (getD (ys ss v (asHint st) b again-start) k 0 ≤ getD (st .flows) k 0 + d) × (getD (st .flows) k 0 ≤ getD (ys ss v (asHint st) b again-start) k 0 + d)
+      go true e =
+          let o = settled-one ss v (asHint st) b again-start k l in
+          let w : 1 ≤ weightOf t = rw (weight-some t e) (v .weighed k l e) in (
+            near-above d (weightOf t) (getD (st .flows) k 0) Y (readingOf t) _ _ (lowOf t) (highOf t) w (h .held k l) (o .0) (h .inside k l) (o .1),
+            near-below d (weightOf t) (getD (st .flows) k 0) Y (readingOf t) _ _ (lowOf t) (highOf t) w (h .held k l) (o .0) (h .inside k l) (o .1),
+          )
+      go false e = let q = settled-free ss v (asHint st) b again-start k e in (omega (arith, q), omega (arith, q))
+
+  pub again-over : overSum (settled ss (asHint st) .nets) ≤ overSum (st .nets) + maxStreams * d
+  again-over =
+      omega (
+        arith,
+        over-moved maxUnits ss (λ k. unshifted (getD zs k 0)) (v .plain .inside) d (λ k. unshifted (getD (st .flows) k 0)) moved,
+        settled-over ss v (asHint st) b again-start,
+        before,
+        mul-le-mul-right d (v .plain .few),
+      )
+    where
+      zs : List ℕ
+      zs = ys ss v (asHint st) b again-start
+
+      moved : (k : ℕ) → k < length ss → Le (unshifted (getD zs k 0)) (unshifted (getD (st .flows) k 0) +ℤ pos d)
+          × Le (unshifted (getD (st .flows) k 0)) (unshifted (getD zs k 0) +ℤ pos d)
+      moved k l = (
+        omega (arith, near k l .0, unshifted-val (getD zs k 0), unshifted-val (getD (st .flows) k 0), plus-val (unshifted (getD (st .flows) k 0)) (pos d)),
+        omega (arith, near k l .1, unshifted-val (getD zs k 0), unshifted-val (getD (st .flows) k 0), plus-val (unshifted (getD zs k 0)) (pos d)),
+      )
+
+      before : overTo places (net ss (st .flows)) ≡ overSum (st .nets)
+      before = sound-over ss d b st h

@@ -15,7 +15,7 @@ use Rattle.numbers.proofs.Tests.{by-cases, clash}
 use Rattle.plants.specs.Limits.{places}
 use Rattle.model.specs.Sizes.{far, numbering}
 use Rattle.model.specs.Near.{codeOf, lessened, relaxedAlong, relaxedAt, relaxedTo, nearestTo}
-use Rattle.model.proofs.Filling.{getD-any, relaxed-long}
+use Rattle.model.proofs.Filling.{getD-any}
 
 -- The first place with the least code, among the first n.
 pub record Nearest (near : List ℕ) (n r : ℕ) : Type 0 where

@@ -14,10 +14,11 @@ use Rattle.plants.specs.declared.Stream.{Stream}
 use Rattle.flows.specs.Flows.{streamAt}
 use Rattle.flows.proofs.Integers.{up, dn}
 use Rattle.flows.specs.Certificate.{weightOf}
-use Rattle.model.specs.Held.{readingOf, Held, HeldAt, AllHeld}
+use Rattle.model.specs.Held.{readingOf, lowOf, highOf, Held, HeldAt, AllHeld, AllInside}
 use Rattle.model.specs.Slack.{slackBy}
 use Rattle.model.specs.Push.{movedOf, otherEnd, pushed}
 use Rattle.model.proofs.Amounts.{net, net-set, get-set}
+use Rattle.model.proofs.Bounds.{Open, slack-open, open-of}
 
 -- The first place and the next j that were visited.
 abbrev pub reached : ℕ → List ℕ → ℕ → ℕ → Bool
@@ -50,19 +51,29 @@ pub record Pushed (ss : List Stream) (xs ys ps : List ℕ) (d c root : ℕ) (via
   pub most : (k : ℕ) → getD ys k 0 ≤ getD xs k 0 + d
   pub least : (k : ℕ) → getD xs k 0 ≤ getD ys k 0 + d
   pub off : (k : ℕ) → ((i : ℕ) → i < j → getD via i 0 ≡ k → ⊥) → getD ys k 0 ≡ getD xs k 0
+  pub inside : AllInside ss xs → AllInside ss ys
 
--- One stream after d is moved along it: the step condition, how far it moves, and the nets.
-moved-held : (s : Stream) (x pu pv d c : ℕ) → Held d (weightOf s) x (readingOf s) pu pv → slackBy s (eqb (s .to) c) x pu pv d ≡ 0 → d ≤ x
-    → Held d (weightOf s) (movedOf s x c d) (readingOf s) pu pv
-moved-held s x pu pv d c h t r = go (eqb (s .to) c) t
+-- One stream after d is moved along it: the step condition and the range, how far it moves, and the nets.
+moved-held : (s : Stream) (x pu pv d c : ℕ) → Held d (weightOf s) x (readingOf s) pu pv (lowOf s) (highOf s) → slackBy s (eqb (s .to) c) x pu pv d ≡ 0 → d ≤ x
+    → Held d (weightOf s) (movedOf s x c d) (readingOf s) pu pv (lowOf s) (highOf s)
+moved-held s x pu pv d c h t r = go (eqb (s .to) c) t (open-of (eqb (s .to) c) s x pu pv d (omega arith))
   where
-    go : (b : Bool) → slackBy s b x pu pv d ≡ 0 → Held d (weightOf s) (pick b (x + d) (x - d)) (readingOf s) pu pv
-    go true t = record { low = omega (arith, h .low, h .high); high = omega (arith, h .low, h .high) }
-    go false t =
+    go : (b : Bool) → slackBy s b x pu pv d ≡ 0 → Open s b x d → Held d (weightOf s) (pick b (x + d) (x - d)) (readingOf s) pu pv (lowOf s) (highOf s)
+    go true t o =
+        record { low = λ q. omega (arith, slack-open true s x pu pv d o, t, h .high o); high = λ q. omega (arith, slack-open true s x pu pv d o, t, h .high o) }
+    go false t o =
         let y : ℕ = x - d in
         let e : y + d ≡ x = omega arith in
         let f : weightOf s * (y + d) ≡ weightOf s * x = ap (λ k. weightOf s * k) e in
-        record { low = omega (arith, h .low, h .high, f); high = omega (arith, h .low, h .high, f) }
+        record { low = λ q. omega (arith, slack-open false s x pu pv d o, t, h .low o, f); high = λ q. omega (arith, slack-open false s x pu pv d o, t, h .low o, f) }
+
+pub moved-inside : (s : Stream) (x pu pv d c : ℕ) → slackBy s (eqb (s .to) c) x pu pv d ≡ 0 → (lowOf s ≤ x) × (x ≤ highOf s)
+    → (lowOf s ≤ movedOf s x c d) × (movedOf s x c d ≤ highOf s)
+moved-inside s x pu pv d c t r = go (eqb (s .to) c) (open-of (eqb (s .to) c) s x pu pv d (omega arith))
+  where
+    go : (b : Bool) → Open s b x d → (lowOf s ≤ pick b (x + d) (x - d)) × (pick b (x + d) (x - d) ≤ highOf s)
+    go true o = (omega (arith, r .0), o)
+    go false o = (omega arith, omega (arith, r .1))
 
 moved-most : (s : Stream) (x d c : ℕ) → (movedOf s x c d ≤ x + d) × (x ≤ movedOf s x c d + d)
 moved-most s x d c = go (eqb (s .to) c)
@@ -127,6 +138,9 @@ module _ (ss : List Stream) (ps : List ℕ) (d root : ℕ) (via ends : List ℕ)
     most = λ k. by-cases (eqb i k) (λ t. here-most k t) (λ t. rw (sym (else k t)) (r .most k));
     least = λ k. by-cases (eqb i k) (λ t. here-least k t) (λ t. rw (sym (else k t)) (r .least k));
     off = λ k n. r .off k (λ m l. n m (omega arith)) ∙ else k (ne-eqb i k (n j (omega arith)));
+    inside = λ h. r .inside (λ k l. by-cases (eqb i k)
+        (λ t. let q : i ≡ k = eqb-true i k t in rw (here k t, ← q) (moved-inside s x (getD ps (s .from) 0) (getD ps (s .to) 0) d e (g .tight) (h i (g .inside))))
+        (λ t. rw (else k t) (h k l)));
   }
     where
       i : ℕ
@@ -193,13 +207,13 @@ module _ (ss : List Stream) (ps : List ℕ) (d root : ℕ) (via ends : List ℕ)
       → reached root ends j c ≡ true → Pushed ss xs (pushed ss via ends d j c xs) ps d c root via (suc j)
   unfolding Rec
   miss j rec c xs long held links h = let r = rec c xs long held (λ k l. links k (omega arith)) h in
-      record { long = r .long; held = r .held; nets = r .nets; most = r .most; least = r .least; off = λ k n. r .off k (λ m l. n m (omega arith)) }
+      record { long = r .long; held = r .held; nets = r .nets; most = r .most; least = r .least; off = λ k n. r .off k (λ m l. n m (omega arith)); inside = r .inside }
 
   pub push-good : (j c : ℕ) (xs : List ℕ) → length ss ≤ length xs → AllHeld ss xs ps d → ((k : ℕ) → k < j → Link ss xs ps d root via ends k)
       → reached root ends j c ≡ true → Pushed ss xs (pushed ss via ends d j c xs) ps d c root via j
   unfolding pushed Rec
   push-good zero c xs long held links h =
-      record { long = refl; held = held; nets = λ u. let q : root ≡ c = eqb-true root c h in rw q; most = λ k. omega arith; least = λ k. omega arith; off = λ k n. refl }
+      record { long = refl; held = held; nets = λ u. let q : root ≡ c = eqb-true root c h in rw q; most = λ k. omega arith; least = λ k. omega arith; off = λ k n. refl; inside = λ r. r }
   push-good (suc j) c xs long held links h = go (eqb (getD ends j 0) c) refl (push-good j) h
     where
       go : (b : Bool) → eqb (getD ends j 0) c ≡ b → Rec j → b || reached root ends j c ≡ true

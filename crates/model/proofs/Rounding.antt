@@ -1,32 +1,30 @@
 -- The search over streams without slack by a walk of distance 0: it comes to what that search comes to.
 use mathlib.Core.Path.{_≡_, refl, sym, _∙_, ap}
-use mathlib.Core.Bool.{Bool, true, false, not, _&&_}
+use mathlib.Core.Bool.{Bool, true, false, not}
 use mathlib.Core.List.{List}
-use Prim.Native.Nat.{ℕ, zero, suc, _+_, _-_, _/_, _%_, _≤_, _<_}
+use Prim.Native.Nat.{ℕ, zero, suc, _-_, _/_, _%_, _≤_, _<_}
 use native.Mathlib.Omega.{arith}
-use native.Mathlib.Decide.{ℕ-discrete}
-use lib.Dec.{ltb}
+use native.Mathlib.Decide.{decLe, ℕ-discrete}
 use lib.ListN.{length, getD, set, take, replicate, length-set, getD-replicate}
 use lib.Seq.{getD-take, getD-set-same, getD-set-other}
-use Rattle.numbers.specs.Choice.{pick}
 use Rattle.plants.specs.declared.Stream.{Stream}
 use Rattle.plants.specs.Limits.{places}
 use Rattle.plants.specs.Plants.{noStream}
 use Rattle.flows.specs.Flows.{streamAt}
 use Rattle.model.specs.declared.Tree.{Tree}
 use Rattle.model.specs.declared.Walked.{Walked}
-use Rattle.model.specs.Sizes.{netShift, searchRounds, numbering, far}
+use Rattle.model.specs.Sizes.{netShift, searchRounds, numbering, farthest, far}
 use Rattle.model.specs.Slack.{Crossing, At, Nothing, leastTo, slackAt}
 use Rattle.model.specs.Search.{farEnd, rootAt, addedTo, Grown, grownBy, tightPath}
 use Rattle.model.specs.Rows.{countOf, startsOf, endsOf}
 use Rattle.model.specs.SearchNeeds.{Searching}
-use Rattle.model.specs.Near.{gapsOf, relaxedTo, nearestTo, goalAt, walkedBy, walked}
+use Rattle.model.specs.Near.{gapsOf, relaxedTo, nearestTo, goalAt, walked}
 use Rattle.model.proofs.Least.{Usable, startIn, endIn, Answers, least-good, answers-same}
 use Rattle.model.proofs.Rounds.{path-none, path-stop, path-hit, path-more, path-end}
 use Rattle.model.proofs.Steps.{walk-none, walk-far, walk-hit, walk-more, walk-end}
-use Rattle.model.proofs.Nearing.{tailOf, headOf, slackOf, overOf, Leads, Nears, relaxed-good, next-good}
+use Rattle.model.proofs.Nearing.{tailOf, headOf, slackOf, overOf, Nears, relaxed-good, next-good}
 use Rattle.model.proofs.Walks.{leaving, leads-on, Told, told, none-leads}
-use Rattle.model.proofs.Finds.{Slacked, slacked, heads, tails, slack-small, usable-slack, left-alone, zeros, root-nears}
+use Rattle.model.proofs.Finds.{Slacked, slacked, heads, tails, usable-slack, left-alone, zeros, root-nears}
 
 -- Only place v has a negative net.
 goal-hit : (v : ℕ) → v < places → getD (goalAt v) v 0 < netShift
@@ -84,10 +82,12 @@ module _ (streams : List Stream) (n : ℕ) (xs ps : List ℕ) (skip : ℕ) (fs t
     none : r ≡ places → tightPath ss n xs ps v skip (suc l) t ≡ grownBy false t ps
     none q = shut (λ i b u c.
         let o = leaving ss n fs ts gs bs starts ends (laid .network .within .few-streams) (t .visited) i b c in
-        absurd
-        (none-leads ss n fs ts gs bs starts ends (laid .network .within .few-streams) (heads streams n xs ps 1 skip fs ts gs bs laid) (t .visited) ks codes 0 e r full refl q i
-        (startIn ss (t .visited) i) b (o .0) (o .1)
-        (rw (over i (startIn ss (t .visited) i)) (omega (arith, slack-small streams n xs ps 1 skip fs ts gs bs laid (omega arith) i (startIn ss (t .visited) i) b)))))
+        elim (decLe farthest (slackOf n fs ts gs bs i (startIn ss (t .visited) i))) [
+          | yes z ↦ omega (arith, z, usable-slack streams n xs ps 1 skip fs ts gs bs laid i (startIn ss (t .visited) i) b u)
+          | no z ↦ absurd
+              (none-leads ss n fs ts gs bs starts ends (laid .network .within .few-streams) (heads streams n xs ps 1 skip fs ts gs bs laid) (t .visited) ks codes 0 e r full refl q i
+              (startIn ss (t .visited) i) b (o .0) (o .1) (rw (over i (startIn ss (t .visited) i)) (omega arith)))
+        ])
 
     module _ (q : r ≡ places → ⊥) where
       tells : Told ss n fs ts gs bs starts ends (laid .network .within .few-streams) (t .visited) ks codes r

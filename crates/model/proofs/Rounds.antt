@@ -1,42 +1,47 @@
 -- One round of each recursion, over the array of streams of which the first n are in use: for the code's loops.
 use mathlib.Core.Path.{_≡_, refl}
-use mathlib.Core.Bool.{Bool, true, false}
+use mathlib.Core.Bool.{true, false}
 use mathlib.Core.List.{List}
-use Prim.Native.Nat.{ℕ, zero, suc, _+_, _-_, _≤_, _<_}
+use Prim.Native.Nat.{ℕ, zero, suc, _-_, _≤_, _<_}
 use native.Mathlib.Omega.{arith}
-use native.Mathlib.Numerals.{add-one}
-use borrow.Author.Tests.{lt-ltb, le-ltb, eq-eqb, ne-eqb}
+use borrow.Author.Tests.{lt-ltb, le-ltb, le-leb, lt-leb, eq-eqb, ne-eqb}
 use lib.ListN.{getD, set, take}
 use lib.Seq.{getD-take}
 use Rattle.plants.specs.declared.Stream.{Stream}
 use Rattle.plants.specs.Plants.{noStream}
 use Rattle.model.specs.declared.Tree.{Tree}
-use Rattle.model.specs.Sizes.{netShift}
-use Rattle.model.specs.Slack.{At, Nothing, considered, leastTo}
+use Rattle.model.specs.Sizes.{netShift, farthest}
+use Rattle.model.specs.Slack.{At, Nothing, leastTo}
 use Rattle.model.specs.Search.{loweredBy, farEnd, addedTo, grownBy, grow, tightPath}
 use Rattle.model.specs.Push.{movedOf, otherEnd, pushed}
 
 module _ (streams : List Stream) (n : ℕ) (xs es : List ℕ) (d : ℕ) (ps : List ℕ) (t : Tree) where
-  -- The search: no stream leaves the visited places; the new place has a negative net; or it has not.
+  -- The search: no stream leaves the visited places; none that is open; the new place has a negative net; or it has not.
   pub grow-none : (l : ℕ) → 0 < l → leastTo (take n streams) xs ps (t .visited) d 0 n ≡ Nothing → grow (take n streams) n xs es d l ps t ≡ grownBy false t ps
   unfolding grow
   grow-none zero p e = absurd (omega arith)
   grow-none (suc l) p e = simp e
 
-  pub grow-hit : (l i g : ℕ) → 0 < l → i < n → leastTo (take n streams) xs ps (t .visited) d 0 n ≡ At i g
+  pub grow-stop : (l i g : ℕ) → 0 < l → leastTo (take n streams) xs ps (t .visited) d 0 n ≡ At i g → farthest ≤ g
+      → grow (take n streams) n xs es d l ps t ≡ grownBy false t ps
+  unfolding grow
+  grow-stop zero i g p e h = absurd (omega arith)
+  grow-stop (suc l) i g p e h = simp (e, le-leb farthest g h)
+
+  pub grow-hit : (l i g : ℕ) → 0 < l → i < n → leastTo (take n streams) xs ps (t .visited) d 0 n ≡ At i g → g < farthest
       → getD es (farEnd (t .visited) (getD streams i noStream)) 0 < netShift
       → grow (take n streams) n xs es d l ps t ≡ grownBy true (addedTo t i (farEnd (t .visited) (getD streams i noStream))) (loweredBy (t .visited) g ps)
   unfolding grow
-  grow-hit zero i g p k e h = absurd (omega arith)
-  grow-hit (suc l) i g p k e h = simp (e, getD-take n streams i noStream k, lt-ltb _ _ h)
+  grow-hit zero i g p k e m h = absurd (omega arith)
+  grow-hit (suc l) i g p k e m h = simp (e, lt-leb farthest g m, getD-take n streams i noStream k, lt-ltb _ _ h)
 
-  pub grow-more : (l i g : ℕ) → 0 < l → i < n → leastTo (take n streams) xs ps (t .visited) d 0 n ≡ At i g
+  pub grow-more : (l i g : ℕ) → 0 < l → i < n → leastTo (take n streams) xs ps (t .visited) d 0 n ≡ At i g → g < farthest
       → netShift ≤ getD es (farEnd (t .visited) (getD streams i noStream)) 0
       → grow (take n streams) n xs es d l ps t
       ≡ grow (take n streams) n xs es d (l - 1) (loweredBy (t .visited) g ps) (addedTo t i (farEnd (t .visited) (getD streams i noStream)))
   unfolding grow
-  grow-more zero i g p k e h = absurd (omega arith)
-  grow-more (suc l) i g p k e h = let z : suc l - 1 ≡ l = omega arith in rw z (simp (e, getD-take n streams i noStream k, le-ltb _ _ h))
+  grow-more zero i g p k e m h = absurd (omega arith)
+  grow-more (suc l) i g p k e m h = let z : suc l - 1 ≡ l = omega arith in rw z (simp (e, lt-leb farthest g m, getD-take n streams i noStream k, le-ltb _ _ h))
 
   pub grow-end : grow (take n streams) n xs es d 0 ps t ≡ grownBy false t ps
   unfolding grow

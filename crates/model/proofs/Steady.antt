@@ -1,53 +1,42 @@
--- Improvements keep the step condition, the nets and the ranges, and the summed positive net falls.
+-- One improvement: it keeps all that holds of a state, and what is over falls by one step; or the search is stuck.
 use mathlib.Core.Path.{_≡_, refl, sym, _∙_, ap, subst}
 use mathlib.Core.Bool.{Bool, true, false}
 use mathlib.Core.List.{List, [], _∷_}
-use mathlib.Core.Logic.{⊎-elim}
-use lib.IntN.{ℤ, pos, _-ℤ_}
-use Prim.Native.Nat.{ℕ, zero, suc, _+_, _-_, _*_, _≤_, _<_}
+use mathlib.Core.Logic.{_⊎_, inl, inr}
+use lib.IntN.{pos}
+use Prim.Native.Nat.{ℕ, zero, suc, _+_, _-_, _*_, _/_, _≤_, _<_}
+use native.Mathlib.Nat.{mul-le-mul-left, mul-div-le, div-eq-of-lt, div-eq-sub-div, le-div-iff-mul-le}
 use native.Mathlib.Omega.{arith}
-use native.Mathlib.Decide.{ℕ-discrete}
-use borrow.Author.Tests.{eqb-true, eqb-false, ne-eqb, leb-true, leb-false}
-use lib.Dec.{eqb, leb}
-use lib.ListN.{length, getD, set, length-set}
+use native.Mathlib.Decide.{decLe}
+use borrow.Author.Tests.{eqb-true, eq-eqb, ne-eqb}
+use lib.Dec.{eqb}
+use lib.ListN.{length, getD, set, length-set, List·getD-eq-default}
 use lib.Seq.{getD-set-other}
 use Rattle.numbers.specs.Choice.{pick}
 use Rattle.numbers.proofs.Tests.{by-cases}
 use Rattle.plants.specs.declared.Stream.{Stream}
-use Rattle.plants.specs.Limits.{maxUnits, places}
-use Rattle.flows.proofs.Integers.{up, dn, parts, same, minus-val}
-use Rattle.model.specs.Sizes.{flowShift, netShift, searchRounds}
-use Rattle.model.specs.Search.{rootAt, target, Grown, grow}
+use Rattle.plants.specs.Limits.{maxUnits, places, maxStreams}
+use Rattle.plants.specs.Plants.{noStream}
+use Rattle.flows.specs.Flows.{streamAt}
+use Rattle.flows.proofs.Integers.{up, dn, minus-val}
+use Rattle.model.specs.Sizes.{mostFlow, netShift, settledRoom}
+use Rattle.model.specs.Held.{lowOf, AllHeld}
+use Rattle.model.specs.Search.{target, Grown, sought}
+use Rattle.model.specs.SearchNeeds.{Close, Moderate}
 use Rattle.model.specs.Push.{pushed}
-use Rattle.model.proofs.Amounts.{get-set, net}
-use Rattle.model.proofs.Pushing.{reached, reached-new, Pushed, push-good}
-use Rattle.model.proofs.Growing.{Plain}
-use Rattle.model.proofs.Hunting.{Hunt, hunt}
 use Rattle.model.specs.declared.State.{State}
-use Rattle.model.specs.Sizes.{stepFall}
-use Rattle.model.specs.Model.{Improved, firstOver, shiftedNets, pushedOn, improvedAt, improved, improvements, overSum}
-use Rattle.model.specs.SolverNeeds.{Sound}
+use Rattle.model.specs.Model.{Improved, shiftedNets, pushedOn, improvedAt, improvedBy, overSum, stepsOver}
+use Rattle.model.specs.SolverNeeds.{Step, Agreed, Sound, Underway}
+use Rattle.model.proofs.Amounts.{get-set, net}
+use Rattle.model.proofs.Bounds.{weight-none, held-agree}
+use Rattle.model.proofs.Pushing.{reached, reached-new, Pushed, push-good}
+use Rattle.model.proofs.Hunting.{Hunt, hit, stuck, Found, Stuck, hunt}
+use Rattle.model.proofs.Streams.{Solvable}
+use Rattle.model.proofs.Booking.{net-value}
+use Rattle.model.proofs.Tall.{sound-tall, sound-moderate}
+use Rattle.model.proofs.Closings.{Floors, refloored-floors}
 
--- The first place with a net of d or more.
-pub record First (es : List ℕ) (d s : ℕ) : Type 0 where
-  pub upto : s ≤ length es
-  pub over : s < length es → netShift + d ≤ getD es s 0
-  pub before : (u : ℕ) → u < s → getD es u 0 < netShift + d
-
-pub first-over : (es : List ℕ) (d : ℕ) → First es d (firstOver es d)
-unfolding firstOver
-first-over [] d = record { upto = omega arith; over = λ l. absurd (omega arith); before = λ u l. absurd (omega arith) }
-first-over (e ∷ es) d = go (leb (netShift + d) e) refl (first-over es d)
-  where
-    go : (b : Bool) → leb (netShift + d) e ≡ b → First es d (firstOver es d) → First (e ∷ es) d (pick b 0 (suc (firstOver es d)))
-    go true q r = record { upto = omega arith; over = λ l. leb-true (netShift + d) e q; before = λ u l. absurd (omega arith) }
-    go false q r = record { upto = omega (arith, r .upto); over = λ l. r .over (omega arith); before = before }
-      where
-        before : (u : ℕ) → u < suc (firstOver es d) → getD (e ∷ es) u 0 < netShift + d
-        before zero l = leb-false (netShift + d) e q
-        before (suc u) l = r .before u (omega arith)
-
--- The summed positive net: after a store, above each net, and at most so much a place.
+-- What is over in sum, and in steps: after a store; and no more than the one is the other.
 pub over-set : (es : List ℕ) (i y : ℕ) → i < length es → overSum (set es i y) + (getD es i 0 - netShift) ≡ overSum es + (y - netShift)
 unfolding overSum
 over-set [] i y l = absurd (omega arith)
@@ -60,10 +49,34 @@ over-at [] u = omega arith
 over-at (e ∷ es) zero = omega arith
 over-at (e ∷ es) (suc u) = omega (arith, over-at es u)
 
-pub over-most : (es : List ℕ) (b : ℕ) → ((u : ℕ) → u < length es → getD es u 0 ≤ netShift + b) → overSum es ≤ length es * b
-unfolding overSum
-over-most [] b h = omega arith
-over-most (e ∷ es) b h = omega (arith, h 0 (omega arith), over-most es b (λ u l. h (suc u) (omega arith)))
+pub steps-set : (d : ℕ) (es : List ℕ) (i y : ℕ) → i < length es → stepsOver d (set es i y) + (getD es i 0 - netShift) / d ≡ stepsOver d es + (y - netShift) / d
+unfolding stepsOver
+steps-set d [] i y l = absurd (omega arith)
+steps-set d (e ∷ es) zero y l = omega arith
+steps-set d (e ∷ es) (suc i) y l = omega (arith, steps-set d es i y (omega arith))
+
+pub steps-over : (d : ℕ) (es : List ℕ) → d * stepsOver d es ≤ overSum es
+unfolding stepsOver overSum
+steps-over d [] = omega arith
+steps-over d (e ∷ es) = omega (arith, mul-div-le (e - netShift) d, steps-over d es)
+
+steps-at : (d : ℕ) (es : List ℕ) (u : ℕ) → u < length es → (getD es u 0 - netShift) / d ≤ stepsOver d es
+unfolding stepsOver
+steps-at d [] u l = absurd (omega arith)
+steps-at d (e ∷ es) zero l = omega arith
+steps-at d (e ∷ es) (suc u) l = omega (arith, steps-at d es u (omega arith))
+
+-- Where a net has a step, unmetered amounts may grow by it.
+pub underway-room : (ss : List Stream) (d t : ℕ) (st : State) → Step d → (h : Underway ss d t st) (s : ℕ) → s < places → netShift + d ≤ getD (st .nets) s 0 → h .size + d ≤ t
+underway-room ss d t st step h s l over = omega (arith, h .fits, mul-le-mul-left d one)
+  where
+    one : 1 ≤ stepsOver d (st .nets)
+    one =
+        omega (
+          arith,
+          steps-at d (st .nets) s (rw (h .sound .netted) l),
+          le-div-iff-mul-le {k = d} {x = 1} {y = getD (st .nets) s 0 - netShift} (step .0) .1 (omega (arith, over)),
+        )
 
 -- The nets after d moves from s to v.
 module _ (es : List ℕ) (s v d : ℕ) (ls : s < length es) (lv : v < length es) (ne : s ≡ v → ⊥) (floor : netShift + d ≤ getD es s 0) (capped : getD es v 0 < netShift) where
@@ -93,131 +106,170 @@ module _ (es : List ℕ) (s v d : ℕ) (ls : s < length es) (lv : v < length es)
   unfolding fs
   shifted-less l = omega (arith, over-set fs v (getD fs v 0 + d) (rw fs-long lv), over-set es s (getD es s 0 - d) ls, fs-v)
 
--- Nets by value, both ways.
-pub net-value : (z : ℤ) (e : ℕ) → up z + netShift ≡ e + dn z → z ≡ pos e -ℤ pos netShift
-net-value z e h = same z (pos e -ℤ pos netShift) (omega (arith, minus-val (pos e) (pos netShift)))
+  pub shifted-step : 1 ≤ d → stepsOver d (shiftedNets es s v d) + 1 ≡ stepsOver d es
+  unfolding fs
+  shifted-step l =
+      omega (
+        arith,
+        steps-set d fs v (getD fs v 0 + d) (rw fs-long lv),
+        steps-set d es s (getD es s 0 - d) ls,
+        none (getD fs v 0) (omega (arith, fs-v)),
+        small (getD fs v 0 + d) (omega (arith, fs-v)),
+        fewer (getD es s 0) floor,
+      )
+    where
+      none : (e : ℕ) → e < netShift → (e - netShift) / d ≡ 0
+      none e h = div-eq-of-lt (omega arith)
 
-module _ (ss : List Stream) (d low b : ℕ) (st : State) (h : Sound ss d low b st) where
+      small : (e : ℕ) → e < netShift + d → (e - netShift) / d ≡ 0
+      small e h = div-eq-of-lt (omega arith)
+
+      fewer : (e : ℕ) → netShift + d ≤ e → (e - netShift) / d ≡ (e - d - netShift) / d + 1
+      fewer e h =
+          let q : e - d - netShift ≡ e - netShift - d = omega arith in
+          rw q (div-eq-sub-div (omega arith) (omega arith))
+
+  -- No net rises to d or more.
+  pub shifted-most : (u : ℕ) → (getD (shiftedNets es s v d) u 0 ≤ getD es u 0) ⊎ (getD (shiftedNets es s v d) u 0 < netShift + d)
+  shifted-most u = by-cases (eqb v u)
+      (λ a. let q : v ≡ u = eqb-true v u a in inr (target-low q (rw a at (shifted-at u))))
+      (λ a. inl (kept (rw a at (shifted-at u))))
+    where
+      target-low : v ≡ u → getD (shiftedNets es s v d) u 0 + pick (eqb s u) d 0 ≡ getD es u 0 + d → getD (shiftedNets es s v d) u 0 < netShift + d
+      target-low q h = omega (arith, h, capped, ap (λ (k : ℕ). getD es k 0) q)
+
+      kept : getD (shiftedNets es s v d) u 0 + pick (eqb s u) d 0 ≡ getD es u 0 + 0 → getD (shiftedNets es s v d) u 0 ≤ getD es u 0
+      kept h = omega (arith, h)
+
+-- A state: its nets by value, prices that agree by the step condition, and amounts that have room.
+module _ (ss : List Stream) (v : Solvable ss) (d b : ℕ) (step : Step d) (st : State) (h : Sound ss d b st) (fits : b ≤ settledRoom) where
   pub nets-val : (u : ℕ) → u < places → up (net ss (st .flows) u) + netShift ≡ getD (st .nets) u 0 + dn (net ss (st .flows) u)
   nets-val u l = rw (h .nets u l) (omega (arith, minus-val (pos (getD (st .nets) u 0)) (pos netShift)))
 
-  pub sound-more : (low′ b′ : ℕ) → low′ ≤ low → b ≤ b′ → Sound ss d low′ b′ st
-  sound-more low′ b′ p q = record {
-    held = h .held;
-    long = h .long;
-    priced = h .priced;
-    netted = h .netted;
-    nets = h .nets;
-    floor = λ u l. omega (arith, h .floor u l);
-    capped = h .capped;
-    close = λ k l. (omega (arith, h .close k l .0), omega (arith, h .close k l .1));
-  }
+  pub sound-close : (k : ℕ) → k < maxStreams → Close settledRoom (getD (st .flows) k 0)
+  sound-close k l = go (streamAt ss k .metered) refl
+    where
+      free : streamAt ss k .metered ≡ false → Close settledRoom (getD (st .flows) k 0)
+      free e = let r = h .close k l e in (omega (arith, r .0, fits), omega (arith, r .1, fits))
 
--- What one improvement comes to: no net is over, or a better state.
-pub data Outcome (ss : List Stream) (d low b : ℕ) (st : State) (r : Improved) : Type 0 where
-  none-over : r .done ≡ false → ((u : ℕ) → u < places → getD (st .nets) u 0 < netShift + d) → Outcome ss d low b st r
-  better : r .done ≡ true → Sound ss d low (b + d) (r .state) → overSum (r .state .nets) < overSum (st .nets) → Outcome ss d low b st r
+      go : (m : Bool) → streamAt ss k .metered ≡ m → Close settledRoom (getD (st .flows) k 0)
+      go true e = elim (decLe (length ss) k) [
+        | yes q ↦ free (ap (λ (s : Stream). s .metered) (List·getD-eq-default ss noStream q))
+        | no q ↦ let r = sound-moderate ss v d b st (step .1) h k (omega arith) e in (omega (arith, r .0), omega (arith, r .1))
+      ]
+      go false e = free e
 
-module _ (ss : List Stream) (plain : Plain maxUnits ss) (d : ℕ) (l1 : 1 ≤ d) (low b : ℕ) (st : State) (h : Sound ss d (low + stepFall * d) b st) (room : b + d ≤ flowShift) where
+  pub sound-room : (k : ℕ) → k < length ss → (d ≤ getD (st .flows) k 0) × (getD (st .flows) k 0 + d ≤ mostFlow)
+  sound-room k l = let r = sound-close k (omega (arith, v .plain .few)) in (omega (arith, r .1, step .1), omega (arith, r .0, step .1))
+
+pub held-agreed : (ss : List Stream) → Solvable ss → (xs ps : List ℕ) (d : ℕ)
+    → ((k : ℕ) → k < length ss → streamAt ss k .metered ≡ false → (d ≤ getD xs k 0) × (getD xs k 0 + d ≤ mostFlow))
+    → AllHeld ss xs ps d → Agreed ss ps
+held-agreed ss v xs ps d room h k l e =
+    held-agree d _ (getD xs k 0) _ _ _ _ _ (weight-none (streamAt ss k) e) (omega (arith, free, room k l e .0))
+    (omega (arith, v .ranged k l .wide free, room k l e .1)) (h k l)
+  where
+    free : lowOf (streamAt ss k) ≡ 0
+    free = v .ranged k l .free e
+
+-- What an improvement from place s comes to: a better state, or a stuck set.
+pub record Better (ss : List Stream) (d b s : ℕ) (st r : State) : Type 0 where
+  pub sound : Sound ss d (b + d) r
+  pub fewer : stepsOver d (r .nets) + 1 ≡ stepsOver d (st .nets)
+  pub source : getD (r .nets) s 0 + d ≡ getD (st .nets) s 0
+  pub others : (u : ℕ) → (getD (r .nets) u 0 ≤ getD (st .nets) u 0) ⊎ (getD (r .nets) u 0 < netShift + d)
+
+pub data Outcome (ss : List Stream) (d b s : ℕ) (st : State) (r : Improved) : Type 0 where
+  better : r .done ≡ true → Better ss d b s st (r .state) → Outcome ss d b s st r
+  jammed : r .done ≡ false → r .state ≡ st → Stuck maxUnits ss (st .flows) (st .nets) d s (r .visited) → Outcome ss d b s st r
+
+module _ (ss : List Stream) (v : Solvable ss) (d b : ℕ) (step : Step d) (st : State) (h : Sound ss d b st) (fits : b + d ≤ settledRoom) (s : ℕ) (ls : s < places)
+    (over : netShift + d ≤ getD (st .nets) s 0) where
+  moderate : Moderate ss (st .flows)
+  moderate = sound-moderate ss v d b st (step .1) h
+
   values : (u : ℕ) → u < places → up (net ss (st .flows) u) + netShift ≡ getD (st .nets) u 0 + dn (net ss (st .flows) u)
-  values = nets-val ss d (low + stepFall * d) b st h
+  values = nets-val ss v d b step st h (omega arith)
 
-  -- The search from a place with a net of d or more finds one with a negative net.
-  pub finds : (s : ℕ) → s < places → netShift + d ≤ getD (st .nets) s 0
-      → Hunt maxUnits ss (st .flows) (st .nets) d s (st .prices) searchRounds (grow ss (length ss) (st .flows) (st .nets) d searchRounds (st .prices) (rootAt s))
-  finds s ls over =
-      hunt maxUnits ss plain (st .flows) (st .nets) d s (omega arith)
-      (⊎-elim (λ (o : up (net ss (st .flows) s) ≡ 0). omega (arith, values s ls)) (λ (o : dn (net ss (st .flows) s) ≡ 0). omega (arith, values s ls))
-      (parts (net ss (st .flows) s)))
-      (λ k l. omega (arith, h .close k (omega (arith, plain .few)) .1))
-      (λ u l. values u (omega arith))
-      (st .prices)
-      (h .held)
-      (omega arith)
-      (λ u l. omega (arith, h .floor u l))
+  -- The search finds a place with a negative net, or is stuck.
+  pub finds : Hunt maxUnits ss (st .flows) (st .nets) d s (st .prices) (sought ss (st .flows) (st .nets) (st .prices) d s)
+  finds =
+      hunt maxUnits ss (v .plain) (st .flows) (st .nets) d (step .1) s (omega arith) (λ k l. sound-room ss v d b step st h (omega arith) k l .0) moderate
+      (st .prices) (h .capped) (h .floor) (h .held) (omega arith)
 
-  pushed-sound : (s : ℕ) → s < places → netShift + d ≤ getD (st .nets) s 0 → (g : Grown) → Hunt maxUnits ss (st .flows) (st .nets) d s (st .prices) searchRounds g
-      → Sound ss d low (b + d) (pushedOn ss st d s g) × (overSum (shiftedNets (st .nets) s (target (g .tree)) d) < overSum (st .nets))
-  pushed-sound s ls over g r = (
-    record {
-      held = p .held;
+  pushed-better : (g : Grown) → Found maxUnits ss (st .flows) (st .nets) d s (st .prices) g → Better ss d b s st (pushedOn ss st d s g)
+  pushed-better g r = record {
+    sound = record {
+      held = floors .held;
+      inside = p .inside (h .inside);
+      agreed = floors .agreed;
       long = p .long ∙ h .long;
-      priced = r .long ∙ h .priced;
-      netted = shifted-long es s v d lls llv ne over (r .negative) ∙ h .netted;
-      nets = λ u l. net-value (net ss ys u) (getD (shiftedNets es s v d) u 0) (omega (arith, values u l, p .nets u, shifted-at es s v d lls llv ne over (r .negative) u));
-      floor = λ u l. omega (arith, h .floor u l, r .fall u);
-      capped = λ u l. omega (arith, h .capped u l, r .rise u);
-      close = λ k l. (omega (arith, h .close k l .0, p .most k), omega (arith, h .close k l .1, p .least k));
-    },
-    shifted-less es s v d lls llv ne over (r .negative) l1,
-  )
+      priced = floors .priced;
+      netted = shifted-long es s w d lls llw ne over (r .negative) ∙ h .netted;
+      nets = λ u l. net-value (net ss ys u) (getD (shiftedNets es s w d) u 0) (omega (arith, values u l, p .nets u, shifted-at es s w d lls llw ne over (r .negative) u));
+      floor = floors .floor;
+      capped = floors .capped;
+      over = omega (arith, h .over, shifted-less es s w d lls llw ne over (r .negative) (step .0));
+      close = λ k l e. (omega (arith, h .close k l e .0, p .most k), omega (arith, h .close k l e .1, p .least k));
+    };
+    fewer = shifted-step es s w d lls llw ne over (r .negative) (step .0);
+    source = source;
+    others = shifted-most es s w d lls llw ne over (r .negative);
+  }
     where
       es : List ℕ
       es = st .nets
 
-      v : ℕ
-      v = target (g .tree)
+      w : ℕ
+      w = target (g .tree)
 
       ys : List ℕ
       ys = pushed ss (g .tree .via) (g .tree .ends) d (g .tree .len) (target (g .tree)) (st .flows)
 
-      ne : s ≡ v → ⊥
+      ne : s ≡ w → ⊥
       ne q = omega (arith, r .negative, ap (λ (k : ℕ). getD (st .nets) k 0) q)
 
       lls : s < length es
       lls = rw (h .netted) ls
 
-      llv : v < length es
-      llv = rw (h .netted) (omega (arith, r .near))
+      llw : w < length es
+      llw = rw (h .netted) (omega (arith, r .near))
 
-      reach : reached s (g .tree .ends) (g .tree .len) v ≡ true
+      source : getD (shiftedNets es s w d) s 0 + d ≡ getD es s 0
+      source =
+          let a : eqb s s ≡ true = eq-eqb s s refl in
+          let c : eqb w s ≡ false = ne-eqb w s (λ q. ne (sym q)) in
+          omega (arith, rw (a, c) at (shifted-at es s w d lls llw ne over (r .negative) s))
+
+      reach : reached s (g .tree .ends) (g .tree .len) w ≡ true
       reach =
           let q : g .tree .len ≡ suc (g .tree .len - 1) = omega (arith, r .some) in
-          subst (λ (j : ℕ). reached s (g .tree .ends) j v ≡ true) (sym q) (reached-new s (g .tree .ends) (g .tree .len - 1))
+          subst (λ (j : ℕ). reached s (g .tree .ends) j w ≡ true) (sym q) (reached-new s (g .tree .ends) (g .tree .len - 1))
 
-      p : Pushed ss (st .flows) (pushed ss (g .tree .via) (g .tree .ends) d (g .tree .len) v (st .flows)) (g .prices) d v s (g .tree .via) (g .tree .len)
+      p : Pushed ss (st .flows) (pushed ss (g .tree .via) (g .tree .ends) d (g .tree .len) w (st .flows)) (g .prices) d w s (g .tree .via) (g .tree .len)
       p =
-          push-good ss (g .prices) d s (g .tree .via) (g .tree .ends) (g .tree .len) v (st .flows) (omega (arith, h .long, plain .few)) (r .grown .held)
+          push-good ss (g .prices) d s (g .tree .via) (g .tree .ends) (g .tree .len) w (st .flows) (omega (arith, h .long, v .plain .few)) (r .grown .held)
           (r .grown .links) reach
 
-  at-good : (s : ℕ) → s < places → netShift + d ≤ getD (st .nets) s 0 → Outcome ss d low b st (improvedAt ss st d s)
-  at-good s ls over =
-      let r = finds s ls over in
-      let q = pushed-sound s ls over (grow ss (length ss) (st .flows) (st .nets) d searchRounds (st .prices) (rootAt s)) r in
-      rw (r .found) (better refl (q .0) (q .1))
+      -- Amounts move by d at most: they are moderate still, and unmetered ones have room.
+      still : Moderate ss ys
+      still k l e =
+          let r = sound-tall ss v d b st (step .1) h k l e in (omega (arith, r .0, p .most k, step .1), omega (arith, r .1, p .least k, step .1))
 
-  pub improved-good : Outcome ss d low b st (improved ss st d)
-  unfolding improved
-  improved-good = go (firstOver (st .nets) d) (first-over (st .nets) d)
+      roomy : (k : ℕ) → k < length ss → streamAt ss k .metered ≡ false → (d ≤ getD ys k 0) × (getD ys k 0 + d ≤ mostFlow)
+      roomy k l e =
+          let r = h .close k (omega (arith, v .plain .few)) e in
+          (omega (arith, r .1, p .least k, step .1, fits), omega (arith, r .0, p .most k, step .1, fits))
+
+      floors : Floors ss ys d (pushedOn ss st d s g .prices)
+      floors =
+          refloored-floors ss v ys (g .prices) d (step .1) still (r .long ∙ h .priced) (λ u l. omega (arith, h .capped u l, r .rise u)) (p .held)
+          (held-agreed ss v ys (g .prices) d roomy (p .held))
+
+  pub improved-good : Outcome ss d b s st (improvedAt ss st d s)
+  improved-good = go (sought ss (st .flows) (st .nets) (st .prices) d s) finds
     where
-      go : (s : ℕ) → First (st .nets) d s → Outcome ss d low b st (pick (eqb s places) (record { done = false; state = st }) (improvedAt ss st d s))
-      go s f = by-cases (eqb s places)
-          (λ e. let q : s ≡ places = eqb-true s places e in rw e (none-over refl (λ u l. f .before u (omega arith))))
-          (λ e. rw e (inside (elim (ℕ-discrete s places) [ yes z ↦ absurd (eqb-false s places e z) | no z ↦ omega (arith, f .upto, h .netted) ])))
-        where
-          inside : s < places → Outcome ss d low b st (improvedAt ss st d s)
-          inside l = at-good s l (f .over (rw (h .netted) l))
-
--- Many improvements: in range; and where there were enough, no net is over.
-pub record After (ss : List Stream) (d low b k : ℕ) (st r : State) : Type 0 where
-  pub sound : Sound ss d low (b + d * k) r
-  pub level : overSum (st .nets) ≤ k → (u : ℕ) → u < places → getD (r .nets) u 0 < netShift + d
-
-pub improvements-good : (ss : List Stream) → Plain maxUnits ss → (d : ℕ) → 1 ≤ d → (low k b : ℕ) (st : State) → b + d * k ≤ flowShift
-    → Sound ss d (low + stepFall * d * k) b st → After ss d low b k st (improvements k ss d st)
-unfolding improvements
-improvements-good ss plain d l1 low zero b st fits h =
-    record { sound = sound-more ss d _ b st h low (b + d * 0) (omega arith) (omega arith); level = λ o u l. omega (arith, over-at (st .nets) u) }
-improvements-good ss plain d l1 low (suc k) b st fits h =
-    go (improved ss st d)
-    (improved-good ss plain d l1 (low + stepFall * d * k) b st (sound-more ss d _ b st h _ b (omega arith) (omega arith)) (omega arith))
-    (improvements-good ss plain d l1 low k)
-  where
-    go : (r : Improved) → Outcome ss d (low + stepFall * d * k) b st r
-        → ((b : ℕ) (st : State) → b + d * k ≤ flowShift → Sound ss d (low + stepFall * d * k) b st → After ss d low b k st (improvements k ss d st))
-        → After ss d low b (suc k) st (pick (r .done) (improvements k ss d (r .state)) st)
-    go r (none-over e o) rec = rw e (record { sound = sound-more ss d _ b st h low (b + d * suc k) (omega arith) (omega arith); level = λ z. o })
-    go r (better e s o) rec =
-        rw e
-        (let a = rec (b + d) (r .state) (omega arith) s in
-        record { sound = sound-more ss d _ (b + d + d * k) _ (a .sound) low (b + d * suc k) (omega arith) (omega arith); level = λ z. a .level (omega arith) })
+      go : (g : Grown) → Hunt maxUnits ss (st .flows) (st .nets) d s (st .prices) g
+          → Outcome ss d b s st (improvedBy (g .found) (pick (g .found) (pushedOn ss st d s g) st) (g .tree .visited))
+      go g (hit e f) = rw e (better refl (pushed-better g f))
+      go g (stuck e f) = rw e (jammed refl refl f)

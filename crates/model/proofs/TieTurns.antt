@@ -28,8 +28,7 @@ use Rattle.model.proofs.Counting.{count-most}
 use Rattle.model.proofs.TightPath.{Path, way, shut}
 use Rattle.model.specs.Model.{tiedBy, tiedAt, tiesTo}
 use Rattle.model.specs.SolverNeeds.{Even, Falls, Tieable}
-use Rattle.model.proofs.Turns.{stream-is}
-use Rattle.model.proofs.Layouts.{used, solvable-of}
+use Rattle.model.proofs.Streams.{stream-is, in-use, solvable-of}
 use Rattle.model.proofs.Detours.{round-path, left-some, ties-even}
 
 module _ (streams : List Stream) (n : ℕ) (w : Network streams n) (ps : List ℕ) (i : ℕ) (l : i < n) (xs : List ℕ) where
@@ -48,7 +47,7 @@ module _ (streams : List Stream) (n : ℕ) (w : Network streams n) (ps : List �
 
   parts : tiedAt ss ps i xs ≡ pick (s .metered) (pick (ltb 0 lack) xs (tiedBy ss xs (s .to) i searched)) xs
   unfolding tiedAt
-  parts = rw (stream-is streams n i l, used streams n w)
+  parts = rw (stream-is streams n i l, in-use streams n w)
 
   pub tied-free : s .metered ≡ false → tiedAt ss ps i xs ≡ xs
   tied-free e = parts ∙ ap (λ (b : Bool). pick b (pick (ltb 0 lack) xs (tiedBy ss xs (s .to) i searched)) xs) e
@@ -80,20 +79,20 @@ module _ (streams : List Stream) (n : ℕ) (w : Network streams n) (ps : List �
   pushable h g e z q f = go (subst (λ (o : Grown). Path maxUnits ss xs ps (s .from) (s .to) (suc i) o) (sym q) path)
     where
       li : i < length (take n streams)
-      li = rw (used streams n w) l
+      li = rw (in-use streams n w) l
 
       at : streamAt (take n streams) i ≡ getD streams i noStream
       at = stream-is streams n i l
 
       path : Path maxUnits ss xs ps (s .from) (s .to) (suc i) searched
-      path = rw (at, used streams n w) at (round-path ss (solvable-of streams n w) ps i li xs h)
+      path = rw (at, in-use streams n w) at (round-path ss (solvable-of streams n w) ps i li xs h)
 
       go : Path maxUnits ss xs ps (s .from) (s .to) (suc i) g → Pushable (g .tree)
       go (shut o ls a b d) = clash _ f o
       go (way o a r u) =
           let m = count-most maxUnits (λ v. getD (g .tree .visited) v false) in
           record {
-            trail = record { short = omega (arith, a .counted, m); within = λ k j. rw (used streams n w) at (a .links k j .inside) };
+            trail = record { short = omega (arith, a .counted, m); within = λ k j. rw (in-use streams n w) at (a .links k j .inside) };
             roomy = record {
               long = h .long;
               low = λ k j. omega (arith, h .close k j .1, a .counted, m, l, w .within .few-streams);
@@ -114,8 +113,9 @@ tie-searching ls ps i xs w l = record {
       amounts = λ k m. omega (arith, w .even .close k (omega (arith, w .network .within .few-streams)) .0, w .network .within .few-streams, l);
       prices = w .prices;
     };
-    some = omega arith;
     held = w .even .held;
+    moderate = λ k m e. let o = w .even .moderate k m e in (omega (arith, o .0, w .network .within .few-streams, l), omega (arith, o .1, w .network .within .few-streams, l));
+    floored = w .even .floor;
   };
   laid = w .laid;
 }
@@ -133,7 +133,7 @@ module _ (streams : List Stream) (n : ℕ) (w : Network streams n) (ps : List �
   gap-is : getD (gapsOf ls xs ps 1 0 false) i 0 ≡ lack streams n w ps i l xs
   gap-is =
       gap-at ls xs ps 1 0 false i (rw (laid .counted) l)
-      ∙ rw (laid .rowed .weights i l, laid .rowed .pulls i l, laid .rowed .starts i l, laid .rowed .ends i l, le-ltb i 0 (omega arith))
+      ∙ rw (laid .rowed .weights i l, laid .rowed .pulls i l, laid .rowed .starts i l, laid .rowed .ends i l, laid .rowed .lows i l, le-ltb i 0 (omega arith))
       (go (ltb 0 (weightOf (getD streams i noStream))))
     where
       go : (b : Bool) → pick (b && false) 1 (lack streams n w ps i l xs) ≡ lack streams n w ps i l xs
@@ -169,7 +169,7 @@ module _ (streams : List Stream) (n : ℕ) (w : Network streams n) (ps : List �
 -- The pass.
 pub tying-even : (streams : List Stream) (n : ℕ) (w : Network streams n) (ps xs : List ℕ) → Even (take n streams) ps 0 xs → (i : ℕ) → i ≤ n
     → Even (take n streams) ps i (tiesTo (take n streams) ps i xs)
-tying-even streams n w ps xs h i l = ties-even (take n streams) (solvable-of streams n w) ps xs h i (rw (used streams n w) l)
+tying-even streams n w ps xs h i l = ties-even (take n streams) (solvable-of streams n w) ps xs h i (rw (in-use streams n w) l)
 
 pub ties-next : (ss : List Stream) (ps xs : List ℕ) (i : ℕ) → tiesTo ss ps (i + 1) xs ≡ tiedAt ss ps i (tiesTo ss ps i xs)
 unfolding tiesTo

@@ -22,14 +22,16 @@ use Rattle.flows.proofs.Prices.{Certificate, least}
 use Rattle.flows.proofs.Order.{AgreeTo}
 use Rattle.flows.proofs.Ties as Ties
 use Rattle.flows.proofs.Ties.{Stays, stays-least, first-cheapest}
-use Rattle.model.specs.Held.{unshifted, opened, readingOf, Held}
+use Rattle.model.specs.Sizes.{settledRoom}
+use Rattle.model.specs.Held.{unshifted, opened, readingOf}
 use Rattle.model.specs.Slack.{slackBy, slackAt}
 use Rattle.model.proofs.Amounts.{opened-at}
 use Rattle.model.proofs.Least.{Usable, startIn, endIn}
 use Rattle.model.specs.Model.{tiedAt, tiesTo}
 use Rattle.model.specs.Promise.{priceAt}
 use Rattle.model.specs.SolverNeeds.{Even}
-use Rattle.model.proofs.Nearest.{Solvable, weight-some}
+use Rattle.model.proofs.Bounds.{Open, open-or, unlimited, open-free, slack-open, slack-shut, weight-some}
+use Rattle.model.proofs.Streams.{Solvable}
 use Rattle.model.proofs.Certify.{no-less, no-more, certify}
 use Rattle.model.proofs.Detours.{Detour, Turn, free, slack, cut, round, turn, ties-even}
 
@@ -42,13 +44,13 @@ abbrev AllTied : Plant → ℕ → List ℕ → Type 0
 AllTied p i xs = (k : ℕ) → k < i → Tied p (opened (length (p .streams)) xs) k
 
 -- An unmetered stream has no slack.
-free-slack : (b : Bool) (s : Stream) (x pu pv : ℕ) → s .metered ≡ false → Held 1 (weightOf s) x (readingOf s) pu pv → slackBy s b x pu pv 1 ≡ 0
-free-slack b s x pu pv e h = go b (weightOf s) (rw e) h
+free-slack : (b : Bool) (s : Stream) (x pu pv : ℕ) → s .metered ≡ false → Open s b x 1 → pu ≡ pv → slackBy s b x pu pv 1 ≡ 0
+free-slack b s x pu pv e o q = slack-open b s x pu pv 1 o ∙ go b (weightOf s) (rw e)
   where
-    go : (b : Bool) (w : ℕ) → w ≡ 0 → Held 1 w x (readingOf s) pu pv
+    go : (b : Bool) (w : ℕ) → w ≡ 0
         → pick b ((2 * (w * x) + w * 1 + pu) - (pv + 2 * (w * readingOf s))) ((pv + 2 * (w * readingOf s) + w * 1) - (2 * (w * x) + pu)) ≡ 0
-    go true w z h = omega (arith, h .low, h .high, ap (λ k. k * x) z, ap (λ k. k * readingOf s) z)
-    go false w z h = omega (arith, h .low, h .high, ap (λ k. k * x) z, ap (λ k. k * readingOf s) z)
+    go true w z = omega (arith, q, ap (λ k. k * x) z, ap (λ k. k * readingOf s) z)
+    go false w z = omega (arith, q, ap (λ k. k * x) z, ap (λ k. k * readingOf s) z)
 
 -- A stream that is not one of the metered ones up to i is usable after them.
 settled-usable : (ss : List Stream) (i k : ℕ) → Ties.meteredTo i k (streamAt ss k) ≡ false → Usable ss (suc i) k
@@ -71,7 +73,7 @@ module _ (p : Plant) (w : Within p) (v : Solvable (p .streams)) (ps : List ℕ) 
     long = omega (arith, h .long, v .plain .few)
 
     sure : Certificate p (opened (length ss) xs) (priceAt ps)
-    sure = certify p (w .few-units) v xs ps long (h .held) (h .level)
+    sure = certify p w ps i xs h (omega arith)
 
     stays-tied : Stays ss (priceAt ps) (amountAt (opened (length ss) xs)) i → Tied p (opened (length ss) xs) i
     stays-tied t e ys b c a = stays-least p w (priceAt ps) (opened (length ss) xs) sure ys b (omega arith) i li a t
@@ -84,10 +86,10 @@ module _ (p : Plant) (w : Within p) (v : Solvable (p .streams)) (ps : List ℕ) 
         stays-tied (Ties.cut (λ u. getD ls u false) start end
         (λ k l u. record {
           out = λ a b. by-cases (streamAt ss k .metered)
-              (λ e. no-more ss v ps xs long k l e (outward k (leaves k l u a (a ∙ ap not (sym b)))))
+              (λ e. no-more p w ps i xs h (omega arith) k l e (leaves k l u a (a ∙ ap not (sym b))))
               (λ e. absurd (none k l e (closed k l (settled-usable ss i k u) (a ∙ ap not (sym b)))));
           back = λ a b. by-cases (streamAt ss k .metered)
-              (λ e. no-less ss v ps xs long k l e (inward k (enters k l u a (a ∙ ap not (sym b)))))
+              (λ e. no-less p w ps i xs h (omega arith) k l e (enters k l u a (a ∙ ap not (sym b))))
               (λ e. absurd (none k l e (closed k l (settled-usable ss i k u) (a ∙ ap not (sym b)))));
         }))
       where
@@ -101,15 +103,13 @@ module _ (p : Plant) (w : Within p) (v : Solvable (p .streams)) (ps : List ℕ) 
 
         none : (k : ℕ) → k < length ss → streamAt ss k .metered ≡ false → 0 < slackAt ss xs ps 1 k (startIn ss ls k) → ⊥
         none k l e q =
-            omega (arith, free-slack (startIn ss ls k) (streamAt ss k) (getD xs k 0) (getD ps (streamAt ss k .from) 0) (getD ps (streamAt ss k .to) 0) e (h .held k l))
-
-        outward : (k : ℕ) → 0 < slackAt ss xs ps 1 k true
-            → getD ps (streamAt ss k .to) 0 + 2 * (weightOf (streamAt ss k) * readingOf (streamAt ss k)) < 2 * (weightOf (streamAt ss k) * getD xs k 0) + weightOf (streamAt ss k) + getD ps (streamAt ss k .from) 0
-        outward k a = omega arith
-
-        inward : (k : ℕ) → 0 < slackAt ss xs ps 1 k false
-            → 2 * (weightOf (streamAt ss k) * getD xs k 0) + getD ps (streamAt ss k .from) 0 < getD ps (streamAt ss k .to) 0 + 2 * (weightOf (streamAt ss k) * readingOf (streamAt ss k)) + weightOf (streamAt ss k)
-        inward k a = omega arith
+            omega (
+              arith,
+              free-slack (startIn ss ls k) (streamAt ss k) (getD xs k 0) (getD ps (streamAt ss k .from) 0) (getD ps (streamAt ss k .to) 0) e
+                  (open-free (startIn ss ls k) (streamAt ss k) (getD xs k 0) 1 (settledRoom + i) (unlimited (streamAt ss k) e)
+                  (h .close k (omega (arith, v .plain .few))) (omega (arith, v .plain .few)))
+                  (h .agreed k l e),
+            )
 
   all-tied : (xs : List ℕ) → AllTied p i xs → Tied p (opened (length ss) xs) i → AllTied p (suc i) xs
   all-tied xs t u k l = elim (ℕ-discrete k i) [ yes q ↦ rw q u | no q ↦ t k (omega arith) ]
@@ -120,7 +120,7 @@ module _ (p : Plant) (w : Within p) (v : Solvable (p .streams)) (ps : List ℕ) 
     long′ = omega (arith, d .even .long, v .plain .few)
 
     sure′ : Certificate p (opened (length ss) ws) (priceAt ps)
-    sure′ = certify p (w .few-units) v ws ps long′ (d .even .held) (d .even .level)
+    sure′ = certify p w ps (suc i) ws (d .even) (omega arith)
 
     cost-same : cost ss (opened (length ss) ws) ≡ cost ss (opened (length ss) xs)
     cost-same =
@@ -139,14 +139,20 @@ module _ (p : Plant) (w : Within p) (v : Solvable (p .streams)) (ps : List ℕ) 
     at-i : Tied p (opened (length ss) ws) i
     at-i e os b c a =
         stays-least p w (priceAt ps) (opened (length ss) ws) sure′ os b (omega arith) i li a
-        (Ties.slack (no-less ss v ps ws long′ i li m (omega (arith, ap (λ k. weightOf s * k) (d .less), d .tight, weighed))))
+        (Ties.slack (no-less p w ps (suc i) ws (d .even) (omega arith) i li m now))
       where
         weighed : 1 ≤ weightOf s
         weighed = rw (weight-some s m) (v .weighed i li m)
 
+        -- Where it could still fall, its gap is twice its weight.
+        now : 0 < slackBy s false (getD ws i 0) (getD ps (s .from) 0) (getD ps (s .to) 0) 1
+        now = open-or false s (getD ws i 0) 1
+            (λ o. omega (arith, slack-open false s (getD ws i 0) (getD ps (s .from) 0) (getD ps (s .to) 0) 1 o, ap (λ k. weightOf s * k) (d .less), d .tight, weighed))
+            (λ o. omega (arith, slack-shut false s (getD ws i 0) (getD ps (s .from) 0) (getD ps (s .to) 0) 1 o))
+
   tied-turn : (xs ws : List ℕ) → Even ss ps i xs → AllTied p i xs → Turn ss ps i xs ws → AllTied p (suc i) ws
   tied-turn xs _ h t (free m) = all-tied xs t (λ e. clash _ e m)
-  tied-turn xs _ h t (slack m q) = all-tied xs t (stays-tied xs h (Ties.slack (no-less ss v ps xs (long xs h) i li m (omega arith))))
+  tied-turn xs _ h t (slack m q) = all-tied xs t (stays-tied xs h (Ties.slack (no-less p w ps i xs h (omega arith) i li m q)))
   tied-turn xs _ h t (cut m ls a b c) = all-tied xs t (blocked xs h ls a b c)
   tied-turn xs _ h t (round m ws d) = all-tied ws (before xs ws h t m d) (at-i xs ws h t m d)
 
@@ -167,7 +173,7 @@ module _ (p : Plant) (w : Within p) (v : Solvable (p .streams)) (ps xs : List �
 
   -- After all streams the flow is certified, and the cheapest.
   pub tied-sure : Certificate p (opened (length (p .streams)) ys) (priceAt ps)
-  tied-sure = certify p (w .few-units) v ys ps (omega (arith, ended .long, v .plain .few)) (ended .held) (ended .level)
+  tied-sure = certify p w ps (length (p .streams)) ys ended (omega arith)
 
   pub tied-cheapest : Cheapest p (opened (length (p .streams)) ys)
   tied-cheapest =

@@ -1,26 +1,23 @@
 -- A walk by distances visits the places that the search visits, over the same streams, and leaves the same prices.
-use mathlib.Core.Path.{_≡_, refl, sym, _∙_, ap}
+use mathlib.Core.Path.{_≡_, refl, sym, _∙_}
 use mathlib.Core.Bool.{Bool, true, false, not, true≢false, false≢true}
 use mathlib.Core.List.{List}
-use Prim.Native.Nat.{ℕ, zero, suc, _+_, _-_, _*_, _/_, _%_, _≤_, _<_}
+use Prim.Native.Nat.{ℕ, _+_, _-_, _*_, _/_, _%_, _≤_, _<_}
 use native.Mathlib.Nat.{div-add-mod, mod-lt}
 use native.Mathlib.Omega.{arith}
 use native.Mathlib.Decide.{ℕ-discrete}
-use lib.ListN.{length, getD, set, length-set, List·getD-eq-default}
+use lib.ListN.{length, getD, set, List·getD-eq-default}
 use lib.Seq.{ext-getD, getD-set-same, getD-set-other}
-use Rattle.numbers.specs.Choice.{pick}
-use Rattle.numbers.proofs.Tests.{by-cases, clash}
 use Rattle.plants.specs.declared.Stream.{Stream}
-use Rattle.plants.specs.Limits.{places, maxStreams, maxWeight}
+use Rattle.plants.specs.Limits.{places, maxStreams}
 use Rattle.flows.specs.Flows.{streamAt}
-use Rattle.model.specs.Sizes.{numbering, farthest, far, mostFall, mostStep}
-use Rattle.model.specs.Slack.{slackBy, slackAt}
+use Rattle.model.specs.Sizes.{numbering, farthest, far}
 use Rattle.model.specs.Search.{fallen, loweredBy, farEnd}
 use Rattle.model.specs.Near.{codeOf, nearestTo, reducedBy}
 use Rattle.model.proofs.Elements.{lowered-at, lowered-long}
 use Rattle.model.proofs.Filling.{getD-any, reduced-at, reduced-long}
 use Rattle.model.proofs.Least.{startIn, endIn}
-use Rattle.model.proofs.Nearing.{nearest-is, nearest-least, tailOf, headOf, slackOf, overOf, Leads, Nears}
+use Rattle.model.proofs.Nearing.{nearest-is, nearest-least, tailOf, headOf, overOf, Leads, Nears}
 
 -- A code's two parts.
 pub code-parts : (k i : ℕ) → i < numbering → (codeOf k i / numbering ≡ k) × (codeOf k i % numbering ≡ i)

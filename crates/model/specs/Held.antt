@@ -3,10 +3,12 @@ use mathlib.Core.List.{List, map}
 use lib.IntN.{ℤ, pos, negsuc, _-ℤ_}
 use Prim.Native.Nat.{ℕ, suc, _+_, _-_, _*_, _≤_, _<_}
 use lib.ListN.{length, getD, take}
+use Rattle.numbers.specs.Choice.{pick}
 use Rattle.plants.specs.declared.Stream.{Stream}
+use Rattle.plants.specs.Plants.{limited}
 use Rattle.flows.specs.Flows.{streamAt}
 use Rattle.flows.specs.Certificate.{weightOf}
-use Rattle.model.specs.Sizes.{flowShift}
+use Rattle.model.specs.Sizes.{flowShift, mostFlow}
 
 -- An amount as it is held.
 abbrev pub shifted : ℤ → ℕ
@@ -23,17 +25,29 @@ opened n xs = map unshifted (take n xs)
 abbrev pub readingOf : Stream → ℕ
 readingOf s = shifted (s .reading)
 
--- The step condition at step m, of a stream of weight w with amount X and reading R, between the prices u and v of its start and
--- its end, all as held: w (2 (X − R) − m) ≤ v − u ≤ w (2 (X − R) + m).
-pub record Held (m w X R u v : ℕ) : Type 0 where
-  pub low : 2 * w * X + u ≤ v + 2 * w * R + w * m
-  pub high : v + 2 * w * R ≤ 2 * w * X + w * m + u
+-- The range of a stream as it is held: from 0 to mostFlow where it has none.
+unfoldable pub lowOf : Stream → ℕ
+lowOf s = pick (limited s) (shifted (s .low)) 0
+
+unfoldable pub highOf : Stream → ℕ
+highOf s = pick (limited s) (shifted (s .high)) mostFlow
+
+-- The step condition at step m, of a stream of weight w with amount X and reading R, from L to H in range, between the prices u and v
+-- of its start and its end, all as held: w (2 (X − R) − m) ≤ v − u where the amount can fall by m, and v − u ≤ w (2 (X − R) + m)
+-- where it can rise by m.
+pub record Held (m w X R u v L H : ℕ) : Type 0 where
+  pub low : L + m ≤ X → 2 * w * X + u ≤ v + 2 * w * R + w * m
+  pub high : X + m ≤ H → v + 2 * w * R ≤ 2 * w * X + w * m + u
 
 -- Of stream k, with the amounts xs and the prices ps; and of every stream.
 abbrev pub HeldAt : List Stream → List ℕ → List ℕ → ℕ → ℕ → Type 0
 HeldAt ss xs ps m k =
     let s = streamAt ss k in
-    Held m (weightOf s) (getD xs k 0) (readingOf s) (getD ps (s .from) 0) (getD ps (s .to) 0)
+    Held m (weightOf s) (getD xs k 0) (readingOf s) (getD ps (s .from) 0) (getD ps (s .to) 0) (lowOf s) (highOf s)
 
 abbrev pub AllHeld : List Stream → List ℕ → List ℕ → ℕ → Type 0
 AllHeld ss xs ps m = (k : ℕ) → k < length ss → HeldAt ss xs ps m k
+
+-- Every amount is in its stream's range.
+abbrev pub AllInside : List Stream → List ℕ → Type 0
+AllInside ss xs = (k : ℕ) → k < length ss → (lowOf (streamAt ss k) ≤ getD xs k 0) × (getD xs k 0 ≤ highOf (streamAt ss k))

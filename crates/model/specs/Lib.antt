@@ -9,6 +9,8 @@ pub mod Search
 pub mod Near
 pub mod Push
 pub mod SearchNeeds
+pub mod Closing
+pub mod Full
 pub mod Model
 pub mod SolverNeeds
 pub mod Promise

@@ -11,17 +11,22 @@ use Rattle.plants.specs.Limits.{places, maxStreams}
 use Rattle.numbers.specs.Inner.{values}
 use Rattle.model.specs.declared.Tree.{Tree}
 use Rattle.model.specs.declared.Walked.{Walked}
-use Rattle.model.specs.Sizes.{netShift, far, numbering}
-use Rattle.model.specs.Rows.{countOf, startsOf, endsOf, weightsOf, pullsOf}
-use Rattle.model.specs.Slack.{gapBy}
+use Rattle.model.specs.Sizes.{netShift, farthest, far, numbering}
+use Rattle.model.specs.Rows.{countOf, startsOf, endsOf, weightsOf, pullsOf, lowsOf, highsOf}
+use Rattle.model.specs.Slack.{gapBy, openBy}
 use Rattle.model.specs.Search.{fallen, addedTo}
 
--- The slacks of the streams in use in one direction, by their lanes, the amounts xs and the prices ps; a metered stream, whose weight
--- is not 0, before number skip counts as one with slack.
+-- The slack of stream k in one direction, by its lanes, the amounts xs and the prices ps; `farthest` where it cannot move by d.
+abbrev pub gapAt : List ℕ → List ℕ → List ℕ → ℕ → Bool → ℕ → ℕ
+gapAt ls xs ps d f k =
+    pick (openBy (getD (lowsOf ls) k 0) (getD (highsOf ls) k 0) f (getD xs k 0) d)
+    (gapBy (getD (weightsOf ls) k 0) (getD (pullsOf ls) k 0) f (getD xs k 0) (getD ps (getD (startsOf ls) k 0) 0) (getD ps (getD (endsOf ls) k 0) 0) d)
+    farthest
+
+-- Of the streams in use; a metered stream, whose weight is not 0, before number skip counts as one with slack.
 abbrev pub gapsOf : List ℕ → List ℕ → List ℕ → ℕ → ℕ → Bool → List ℕ
 gapsOf ls xs ps d skip f =
-    values (countOf ls)
-    (λ k. pick (ltb 0 (getD (weightsOf ls) k 0) && ltb k skip) 1 (gapBy (getD (weightsOf ls) k 0) (getD (pullsOf ls) k 0) f (getD xs k 0) (getD ps (getD (startsOf ls) k 0) 0) (getD ps (getD (endsOf ls) k 0) 0) d))
+    values (countOf ls) (λ k. pick (ltb 0 (getD (weightsOf ls) k 0) && ltb k skip) 1 (gapAt ls xs ps d f k))
 
 -- The last of the first n streams that starts or ends at place u; maxStreams where there is none.
 unfoldable pub lastAt : List ℕ → List ℕ → ℕ → ℕ → ℕ

@@ -7,7 +7,7 @@ use Rattle.plants.specs.Limits.{places, maxStreams}
 
 -- How many rows there are, and where row r begins.
 abbrev pub rows : ℕ
-rows = 6
+rows = 8
 
 abbrev pub rowAt : ℕ → ℕ
 rowAt r = places + r * maxStreams
@@ -39,3 +39,10 @@ weightsOf ls = laneOf 4 ls
 
 abbrev pub pullsOf : List ℕ → List ℕ
 pullsOf ls = laneOf 5 ls
+
+-- The ranges as held: the least and the greatest amount.
+abbrev pub lowsOf : List ℕ → List ℕ
+lowsOf ls = laneOf 6 ls
+
+abbrev pub highsOf : List ℕ → List ℕ
+highsOf ls = laneOf 7 ls

@@ -2,14 +2,14 @@
 use mathlib.Core.Bool.{Bool, true, false}
 use mathlib.Core.List.{List, [], _∷_}
 use Prim.Native.Nat.{ℕ, zero, suc, _+_, _-_}
-use lib.Dec.{eqb, ltb}
-use lib.ListN.{getD, set, replicate}
+use lib.Dec.{eqb, ltb, leb}
+use lib.ListN.{length, getD, set, replicate}
 use Rattle.numbers.specs.Choice.{pick}
 use Rattle.plants.specs.declared.Stream.{Stream}
 use Rattle.flows.specs.Flows.{streamAt}
 use Rattle.model.specs.declared.Tree.{Tree}
 use Rattle.plants.specs.Limits.{places}
-use Rattle.model.specs.Sizes.{netShift}
+use Rattle.model.specs.Sizes.{netShift, farthest, searchRounds}
 use Rattle.model.specs.Slack.{Crossing, At, Nothing, leastTo}
 
 -- The prices, those of visited places lowered by g.
@@ -53,15 +53,23 @@ abbrev pub grownBy : Bool → Tree → List ℕ → Grown
 grownBy b t ps = record { found = b; tree = t; prices = ps }
 
 -- At step d, over the first n streams: the visited places' prices fall by the least slack, and its stream's far end is visited,
--- at most `fuel` times, until a place with a negative net is. xs are the amounts and es the nets.
+-- at most `fuel` times, until a place with a negative net is, or no stream that can move leaves the visited places. xs are the
+-- amounts and es the nets.
 unfoldable pub grow : List Stream → ℕ → List ℕ → List ℕ → ℕ → ℕ → List ℕ → Tree → Grown
 grow ss n xs es d zero ps t = grownBy false t ps
 grow ss n xs es d (suc fuel) ps t =
     onCrossing (leastTo ss xs ps (t .visited) d 0 n) (grownBy false t ps)
     (λ i g.
-    pick (ltb (getD es (farEnd (t .visited) (streamAt ss i)) 0) netShift)
+    pick (leb farthest g) (grownBy false t ps)
+    (pick (ltb (getD es (farEnd (t .visited) (streamAt ss i)) 0) netShift)
     (grownBy true (addedTo t i (farEnd (t .visited) (streamAt ss i))) (loweredBy (t .visited) g ps))
-    (grow ss n xs es d fuel (loweredBy (t .visited) g ps) (addedTo t i (farEnd (t .visited) (streamAt ss i)))))
+    (grow ss n xs es d fuel (loweredBy (t .visited) g ps) (addedTo t i (farEnd (t .visited) (streamAt ss i))))))
+
+-- The same from place s, with the prices as they were where no such place was found.
+unfoldable pub sought : List Stream → List ℕ → List ℕ → List ℕ → ℕ → ℕ → Grown
+sought ss xs es ps d s =
+    let g = grow ss (length ss) xs es d searchRounds ps (rootAt s) in
+    grownBy (g .found) (g .tree) (pick (g .found) (g .prices) ps)
 
 -- At step 1, over streams without slack only, metered ones before number skip left alone, until the place v is visited.
 unfoldable pub tightPath : List Stream → ℕ → List ℕ → List ℕ → ℕ → ℕ → ℕ → Tree → Grown

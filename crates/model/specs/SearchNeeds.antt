@@ -1,6 +1,6 @@
 -- What the parts of the search and of the push require: ranges only.
 use mathlib.Core.Path.{_≡_}
-use mathlib.Core.Bool.{Bool}
+use mathlib.Core.Bool.{Bool, true}
 use mathlib.Core.List.{List}
 use Prim.Native.Nat.{ℕ, _+_, _*_, _≤_, _<_}
 use lib.ListN.{length, getD, take}
@@ -8,11 +8,12 @@ use Rattle.plants.specs.declared.Stream.{Stream}
 use Rattle.plants.specs.Limits.{places, maxUnits, maxStreams, maxWeight}
 use Rattle.plants.specs.Plants.{noStream}
 use Rattle.plants.specs.Within.{Accepted}
-use Rattle.model.specs.Sizes.{mostFlow, mostPull, priceShift, mostStep, mostFall}
-use Rattle.model.specs.Rows.{rowAt, laneCells, countOf, startsOf, endsOf, weightsOf, pullsOf}
+use Rattle.model.specs.Sizes.{flowShift, mostFlow, mostPull, priceShift, priceFloor, mostStep, mostAmount, farthest}
+use Rattle.model.specs.Rows.{rowAt, laneCells, countOf, startsOf, endsOf, weightsOf, pullsOf, lowsOf, highsOf}
 use Rattle.model.specs.Near.{gapsOf, linkAt}
+use Rattle.flows.specs.Flows.{streamAt}
 use Rattle.flows.specs.Certificate.{weightOf}
-use Rattle.model.specs.Held.{readingOf, AllHeld}
+use Rattle.model.specs.Held.{readingOf, lowOf, highOf, AllHeld}
 
 -- An array of streams of which the first n are in use, within the limits of a plant, whatever its number of units.
 abbrev pub Network : List Stream → ℕ → Type 0
@@ -28,6 +29,18 @@ pub record Sized (x pu pv d : ℕ) : Type 0 where
 abbrev pub Prices : List ℕ → Type 0
 Prices ps = (u : ℕ) → u < places → getD ps u 0 ≤ priceShift
 
+-- A held amount of size b at most.
+abbrev pub Close : ℕ → ℕ → Type 0
+Close b x = (x ≤ flowShift + b) × (flowShift ≤ x + b)
+
+-- Every metered amount is of size mostAmount at most.
+abbrev pub Moderate : List Stream → List ℕ → Type 0
+Moderate ss xs = (k : ℕ) → k < length ss → streamAt ss k .metered ≡ true → Close mostAmount (getD xs k 0)
+
+-- Prices from priceFloor up.
+abbrev pub Floored : List ℕ → Type 0
+Floored ps = (u : ℕ) → u < places → priceFloor ≤ getD ps u 0
+
 -- What a search works on.
 pub record Searchable (streams : List Stream) (n : ℕ) (xs ps : List ℕ) (d : ℕ) : Type 0 where
   pub network : Network streams n
@@ -35,15 +48,12 @@ pub record Searchable (streams : List Stream) (n : ℕ) (xs ps : List ℕ) (d : 
   pub amounts : (k : ℕ) → k < n → getD xs k 0 ≤ mostFlow
   pub prices : Prices ps
 
--- And where the step condition holds.
+-- And where the step condition holds, of amounts that are not too large and prices that are not too low.
 pub record Walkable (streams : List Stream) (n : ℕ) (xs ps : List ℕ) (d : ℕ) : Type 0 where
   pub searchable : Searchable streams n xs ps d
-  pub some : 1 ≤ d
   pub held : AllHeld (take n streams) xs ps d
-
--- Prices that leave room for a search to lower them.
-abbrev pub Falling : List ℕ → ℕ → Type 0
-Falling ps d = (length ps ≡ places) × ((u : ℕ) → u < places → mostFall d ≤ getD ps u 0)
+  pub moderate : Moderate (take n streams) xs
+  pub floored : Floored ps
 
 -- For each place the last stream that starts or ends there, by linkAt; then for each stream the one before it at its start, and at
 -- its end.
@@ -61,7 +71,7 @@ pub record Linkable (n : ℕ) (ls : List ℕ) : Type 0 where
   pub from-in : (k : ℕ) → k < n → getD (startsOf ls) k 0 < places
   pub to-in : (k : ℕ) → k < n → getD (endsOf ls) k 0 < places
 
--- The rows of the first n streams: starts, ends, weights, twice the weights times the readings.
+-- The rows of the first n streams: starts, ends, weights, twice the weights times the readings, lows and highs.
 pub record Rowed (streams : List Stream) (n : ℕ) (ls : List ℕ) : Type 0 where
   pub long : length ls ≡ laneCells
   pub starts : (k : ℕ) → k < n → getD (startsOf ls) k 0 ≡ getD streams k noStream .from
@@ -69,6 +79,8 @@ pub record Rowed (streams : List Stream) (n : ℕ) (ls : List ℕ) : Type 0 wher
   pub weights : (k : ℕ) → k < n → getD (weightsOf ls) k 0 ≡ weightOf (getD streams k noStream)
   pub pulls : (k : ℕ) → k < n → getD (pullsOf ls) k 0 ≡ 2 * (weightOf (getD streams k noStream) * readingOf (getD streams k noStream))
   pub pulled : (k : ℕ) → k < n → getD (pullsOf ls) k 0 ≤ 2 * mostPull
+  pub lows : (k : ℕ) → k < n → getD (lowsOf ls) k 0 ≡ lowOf (getD streams k noStream)
+  pub highs : (k : ℕ) → k < n → getD (highsOf ls) k 0 ≡ highOf (getD streams k noStream)
 
 -- The lanes of the first n streams.
 pub record Laid (streams : List Stream) (n : ℕ) (ls : List ℕ) : Type 0 where
@@ -84,10 +96,12 @@ pub record Lanes (ls xs ps : List ℕ) (d skip : ℕ) : Type 0 where
   pub light : (k : ℕ) → k < countOf ls → getD (weightsOf ls) k 0 ≤ maxWeight
   pub pulled : (k : ℕ) → k < countOf ls → getD (pullsOf ls) k 0 ≤ 2 * mostPull
   pub linked : Linked (countOf ls) (startsOf ls) (endsOf ls) ls
+  pub low-in : (k : ℕ) → k < countOf ls → getD (lowsOf ls) k 0 ≤ mostFlow
+  pub high-in : (k : ℕ) → k < countOf ls → getD (highsOf ls) k 0 ≤ mostFlow
   pub amounts : (k : ℕ) → k < countOf ls → getD xs k 0 ≤ mostFlow
   pub prices : Prices ps
   pub step : d ≤ mostStep
-  pub small : (k : ℕ) (f : Bool) → k < countOf ls → getD (gapsOf ls xs ps d skip f) k 0 ≤ 2 * maxWeight * mostStep
+  pub small : (k : ℕ) (f : Bool) → k < countOf ls → getD (gapsOf ls xs ps d skip f) k 0 ≤ farthest
 
 -- Streams that lanes are of; and such that a search can go over them.
 pub record Laying (ls : List ℕ) : Type 0 where

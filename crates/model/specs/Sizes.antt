@@ -3,6 +3,13 @@
 use Prim.Native.Nat.{ℕ, _*_, _+_, _-_}
 use Rattle.plants.specs.Limits.{maxUnits, places, maxWeight, maxStreams}
 
+-- The greatest reading, and the greatest size of a range's ends, provided for: maxReading ≤ mostReading, maxRange ≤ mostRange.
+abbrev pub mostReading : ℕ
+mostReading = 4000000
+
+abbrev pub mostRange : ℕ
+mostRange = 2000000000
+
 -- An amount x is held as x + flowShift, 2^46: every amount that arises is above −flowShift and below flowShift.
 abbrev pub flowShift : ℕ
 flowShift = 70368744177664
@@ -15,84 +22,79 @@ mostFlow = 2 * flowShift
 abbrev pub mostPull : ℕ
 mostPull = maxWeight * mostFlow
 
--- A price p is held as p + priceShift, 2^50: prices begin at 0 and only fall, so a held price is at most priceShift.
-abbrev pub priceShift : ℕ
-priceShift = 1125899906842624
-
--- A net z is held as z + netShift, 2^56: 2 * maxStreams * mostFlow ≤ netShift, what all streams together may bring or take.
-abbrev pub netShift : ℕ
-netShift = 72057594037927936
-
--- The greatest step, 2^20: what is moved along a way at once.
+-- The greatest step, 2^29: what is moved along a way at once. 2 * mostReading + mostStep ≤ 2 * mostRange.
 abbrev pub mostStep : ℕ
-mostStep = 1048576
+mostStep = 536870912
+
+-- How often it is halved, down to 1.
+abbrev pub halvings : ℕ
+halvings = 29
+
+-- The most that is ever over at the places together: what amounts in range bring, and what is moved when amounts are settled anew.
+abbrev pub mostOver : ℕ
+mostOver = maxStreams * (mostRange + 2 * mostStep)
+
+-- The greatest size of a metered amount that meets the step condition: what the other streams bring in range, and what is over.
+abbrev pub meteredRoom : ℕ
+meteredRoom = maxStreams * mostRange + mostOver
+
+-- The greatest size of a metered amount that a search allows for, 2^39: meteredRoom + maxStreams ≤ mostAmount, for the ties still take 1
+-- for each stream.
+abbrev pub mostAmount : ℕ
+mostAmount = 549755813888
+
+-- The greatest marginal cost of a step on a metered stream: the prices at the ends of a stream that can move differ by no more.
+abbrev pub mostMarginal : ℕ
+mostMarginal = maxWeight * (2 * (mostAmount + mostReading) + mostStep)
+
+-- A price p is held as p + priceShift, 2^57: prices are at most 0, so a held price is at most priceShift.
+-- (2 * places + searchRounds) * mostMarginal ≤ priceShift: a search lowers none below 0.
+abbrev pub priceShift : ℕ
+priceShift = 144115188075855872
+
+-- Prices below this are closed up again after an improvement.
+abbrev pub priceFloor : ℕ
+priceFloor = priceShift - places * mostMarginal
 
 -- The places that a search may visit after the first.
 abbrev pub searchRounds : ℕ
 searchRounds = maxUnits
 
--- What one push may take from an amount or add to it, were every stream of its way the same one: places * mostStep.
-abbrev pub pushRoom : ℕ
-pushRoom = places * mostStep
-
--- How far a search goes at most at step d: a slack of at most 2 * maxWeight * d in each round.
-abbrev pub mostFall : ℕ → ℕ
-mostFall d = 2 * maxWeight * d * searchRounds
-
--- A distance and a stream's number are held as one: maxStreams ≤ numbering.
-abbrev pub numbering : ℕ
-numbering = 128
-
--- Every distance is below this, 2^55: mostFall mostStep < farthest, and in 64 bits 2 * farthest * numbering ≤ 2^64.
-abbrev pub farthest : ℕ
-farthest = 36028797018963968
-
--- So no distance with a number is as much.
-abbrev pub far : ℕ
-far = farthest * numbering
-
--- The greatest reading provided for: maxReading ≤ mostReading.
-abbrev pub mostReading : ℕ
-mostReading = 4000000
+-- A net z is held as z + netShift, 2^56: 2 * maxStreams * mostFlow ≤ netShift, what all streams together may bring or take.
+abbrev pub netShift : ℕ
+netShift = 72057594037927936
 
 -- The greatest size of a net, where every stream brings or takes as much as it can twice over: netRoom + mostFlow ≤ netShift, and in
 -- 64 bits places * netRoom < 2^64.
 abbrev pub netRoom : ℕ
 netRoom = 2 * maxStreams * mostFlow
 
--- Prices at which amounts are settled differ by at most this, 2^45, so that a settled amount is within it of its reading:
--- mostReading + priceBand ≤ flowShift.
-abbrev pub priceBand : ℕ
-priceBand = 35184372088832
+-- A distance and a stream's number are held as one: maxStreams ≤ numbering.
+abbrev pub numbering : ℕ
+numbering = 128
 
--- What a price falls at most in one improvement at step 1: a slack of at most 2 * maxWeight in each round of a search.
-abbrev pub stepFall : ℕ
-stepFall = 2 * maxWeight * searchRounds
+-- Every distance of a place that can be reached is below this, 2^56, and a stream that cannot move has it as its slack:
+-- (2 * places - 1) * mostMarginal < farthest, and in 64 bits 2 * farthest * numbering ≤ 2^64.
+abbrev pub farthest : ℕ
+farthest = 72057594037927936
 
--- The hint: at each of the steps mostStep, half of it, and so on to 2, at most this many improvements.
-abbrev pub hintBudget : ℕ
-hintBudget = 256
+-- So no distance with a number is as much.
+abbrev pub far : ℕ
+far = farthest * numbering
 
--- What they may add to an amount or take from it, all steps together. stepFall * hintMoves ≤ priceBand.
-abbrev pub hintMoves : ℕ
-hintMoves = 2 * mostStep * hintBudget
+-- Prices of a hint are at most this, 2^54, below priceShift: priceSpread ≤ places * mostMarginal.
+abbrev pub priceSpread : ℕ
+priceSpread = 18014398509481984
 
--- The least price of a hint, and the greatest size of its amounts.
-abbrev pub hintFloor : ℕ
-hintFloor = priceShift - priceBand
-
+-- The greatest size of an unmetered amount of a hint, 2^45: (halvings + 1) * mostOver ≤ hintRoom.
 abbrev pub hintRoom : ℕ
-hintRoom = mostReading + priceBand + hintMoves
+hintRoom = 35184372088832
 
--- The summed positive net up to which a hint is of use, 2^24. leftoverLimit ≤ fuel.
-abbrev pub leftoverLimit : ℕ
-leftoverLimit = 16777216
+-- The summed positive net up to which a hint is of use.
+abbrev pub mostTried : ℕ
+mostTried = 512
 
--- The most improvements at step 1: each takes 1 from the summed positive net, which the readings alone make this at most.
--- stepFall * fuel ≤ hintFloor.
-abbrev pub fuel : ℕ
-fuel = places * maxStreams * mostReading
-
--- The greatest size of an amount after them: settledRoom + maxStreams + pushRoom ≤ flowShift, for the ties still take 1 for each stream.
+-- The greatest size of an amount at the end: settledRoom + maxStreams + places * mostStep ≤ flowShift, for a push may
+-- take a step from a stream at each place, and the ties still take 1 for each stream.
 abbrev pub settledRoom : ℕ
-settledRoom = hintRoom + fuel
+settledRoom = hintRoom + mostOver

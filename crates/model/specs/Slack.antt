@@ -2,21 +2,28 @@
 use mathlib.Core.Bool.{Bool, true, false, _&&_}
 use mathlib.Core.List.{List}
 use Prim.Native.Nat.{ℕ, zero, suc, _+_, _-_, _*_}
-use lib.Dec.{ltb}
+use lib.Dec.{ltb, leb}
 use lib.ListN.{getD}
 use Rattle.numbers.specs.Choice.{pick}
 use Rattle.plants.specs.declared.Stream.{Stream}
 use Rattle.flows.specs.Flows.{streamAt}
 use Rattle.flows.specs.Certificate.{weightOf}
-use Rattle.model.specs.Held.{readingOf}
+use Rattle.model.specs.Held.{readingOf, lowOf, highOf}
+use Rattle.model.specs.Sizes.{farthest}
 
 -- The slack of a stream: what the price of its visited end has to fall before d moved along it, forwards or backwards, keeps the
 -- step condition. In numbers: w is its weight, and q twice the weight times its reading.
 abbrev pub gapBy : ℕ → ℕ → Bool → ℕ → ℕ → ℕ → ℕ → ℕ
 gapBy w q forwards x pu pv d = pick forwards ((2 * (w * x) + w * d + pu) - (pv + q)) ((pv + q + w * d) - (2 * (w * x) + pu))
 
+-- An amount x, from low to high in range, can move by d: rise where the stream is met forwards, fall where it is met backwards.
+abbrev pub openBy : ℕ → ℕ → Bool → ℕ → ℕ → Bool
+openBy low high forwards x d = pick forwards (leb (x + d) high) (leb (low + d) x)
+
+-- A stream that cannot move by d has the slack `farthest`.
 abbrev pub slackBy : Stream → Bool → ℕ → ℕ → ℕ → ℕ → ℕ
-slackBy s forwards x pu pv d = gapBy (weightOf s) (2 * (weightOf s * readingOf s)) forwards x pu pv d
+slackBy s forwards x pu pv d =
+    pick (openBy (lowOf s) (highOf s) forwards x d) (gapBy (weightOf s) (2 * (weightOf s * readingOf s)) forwards x pu pv d) farthest
 
 -- The slack of stream k, with the amounts xs and the prices ps.
 abbrev pub slackAt : List Stream → List ℕ → List ℕ → ℕ → ℕ → Bool → ℕ

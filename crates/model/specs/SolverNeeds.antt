@@ -11,22 +11,18 @@ use Rattle.plants.specs.Plants.{noStream}
 use Rattle.plants.specs.Within.{WithinStream}
 use Rattle.flows.specs.Flows.{streamAt}
 use Rattle.flows.specs.Nets.{netOf}
-use Rattle.model.specs.Sizes.{flowShift, mostFlow, priceShift, netShift, mostStep, pushRoom}
-use Rattle.model.specs.Held.{unshifted, AllHeld}
+use Rattle.model.specs.Sizes.{flowShift, mostFlow, priceShift, netShift, mostStep}
+use Rattle.model.specs.Held.{unshifted, AllHeld, AllInside}
 use Rattle.model.specs.Slack.{slackBy}
-use Rattle.model.specs.SearchNeeds.{Network, Prices, Laid}
+use Rattle.model.specs.SearchNeeds.{Network, Prices, Floored, Close, Laid}
 use Rattle.model.specs.declared.Hint.{Hint}
 use Rattle.model.specs.declared.State.{State}
-use Rattle.model.specs.Model.{settled}
-use Rattle.model.specs.Sizes.{mostReading, priceBand, stepFall, hintFloor, hintRoom, settledRoom}
+use Rattle.model.specs.Model.{settled, overSum, stepsOver}
+use Rattle.model.specs.Sizes.{mostOver, meteredRoom, hintRoom, settledRoom}
 
 -- A step: at least 1.
 abbrev pub Step : ℕ → Type 0
 Step d = (1 ≤ d) × (d ≤ mostStep)
-
--- A held amount of size b at most.
-abbrev pub Close : ℕ → ℕ → Type 0
-Close b x = (x ≤ flowShift + b) × (flowShift ≤ x + b)
 
 -- A metered stream, and the prices of its start and its end, at which its amount can be settled.
 pub record Settleable (s : Stream) (pu pv : ℕ) : Type 0 where
@@ -34,13 +30,11 @@ pub record Settleable (s : Stream) (pu pv : ℕ) : Type 0 where
   pub metered : s .metered ≡ true
   pub price-u : pu ≤ priceShift
   pub price-v : pv ≤ priceShift
-  pub near : pu ≤ pv + 2 * priceBand
 
 -- An array of streams, and prices at which their amounts can be settled.
 pub record Settles (streams : List Stream) (n : ℕ) (ps : List ℕ) : Type 0 where
   pub network : Network streams n
   pub prices : Prices ps
-  pub near : (u v : ℕ) → u < places → v < places → getD ps u 0 ≤ getD ps v 0 + 2 * priceBand
 
 -- Held amounts, each at most mostFlow.
 abbrev pub Amounts : List ℕ → Type 0
@@ -66,28 +60,24 @@ pub record Shiftable (es : List ℕ) (s v d : ℕ) : Type 0 where
 abbrev pub Agreed : List Stream → List ℕ → Type 0
 Agreed ss ps = (k : ℕ) → k < length ss → streamAt ss k .metered ≡ false → getD ps (streamAt ss k .from) 0 ≡ getD ps (streamAt ss k .to) 0
 
--- Prices to settle at, from low up, that agree across unmetered streams; and amounts for these, of size b at most. Prices within
--- `priceBand` of each other move no amount by more than the least of them is below priceShift.
-pub record Start (ss : List Stream) (low b : ℕ) (h : Hint) : Type 0 where
+-- Prices to settle at, from priceFloor up, that agree across unmetered streams; and amounts for these, of size b at most.
+pub record Start (ss : List Stream) (b : ℕ) (h : Hint) : Type 0 where
   pub agree : Agreed ss (h .prices)
-  pub floor : (u : ℕ) → u < places → low ≤ getD (h .prices) u 0
+  pub floor : Floored (h .prices)
   pub capped : Prices (h .prices)
-  pub near : priceShift ≤ low + priceBand
   pub priced : length (h .prices) ≡ places
   pub long : length (h .flows) ≡ maxStreams
   pub unmetered : (k : ℕ) → k < maxStreams → streamAt ss k .metered ≡ false → Close b (getD (h .flows) k 0)
-  pub fits : mostReading + priceShift ≤ b + low
   pub within : b ≤ flowShift
 
 -- Some prices and amounts to settle at.
 pub record Ready (ss : List Stream) (h : Hint) : Type 0 where
-  pub low : ℕ
   pub size : ℕ
-  pub start : Start ss low size h
+  pub start : Start ss size h
 
 -- All that is asked of a hint.
 abbrev pub Hinted : List Stream → Hint → Type 0
-Hinted ss h = Start ss hintFloor hintRoom h
+Hinted ss h = Start ss hintRoom h
 
 -- A state that is settled at a hint.
 pub record AtHint (ss : List Stream) (st : State) : Type 0 where
@@ -95,28 +85,37 @@ pub record AtHint (ss : List Stream) (st : State) : Type 0 where
   pub hinted : Hinted ss hint
   pub is : st ≡ settled ss hint
 
--- A state: the step condition at d, nets that are the amounts', prices from low up, amounts of size b at most.
-pub record Sound (ss : List Stream) (d low b : ℕ) (st : State) : Type 0 where
+-- A state at step d: the step condition, amounts in range, prices that agree across unmetered streams, nets that are the amounts',
+-- prices from priceFloor up, no more over than there may be, and unmetered amounts of size b at most. (How large metered amounts
+-- are follows.)
+pub record Sound (ss : List Stream) (d b : ℕ) (st : State) : Type 0 where
   pub held : AllHeld ss (st .flows) (st .prices) d
+  pub inside : AllInside ss (st .flows)
+  pub agreed : Agreed ss (st .prices)
   pub long : length (st .flows) ≡ maxStreams
   pub priced : length (st .prices) ≡ places
   pub netted : length (st .nets) ≡ places
   pub nets : (u : ℕ) → u < places → netOf ss (λ k. unshifted (getD (st .flows) k 0)) u ≡ pos (getD (st .nets) u 0) -ℤ pos netShift
-  pub floor : (u : ℕ) → u < places → low ≤ getD (st .prices) u 0
+  pub floor : Floored (st .prices)
   pub capped : Prices (st .prices)
-  pub close : (k : ℕ) → k < maxStreams → Close b (getD (st .flows) k 0)
+  pub over : overSum (st .nets) + 2 * maxStreams * d ≤ mostOver
+  pub close : (k : ℕ) → k < maxStreams → streamAt ss k .metered ≡ false → Close b (getD (st .flows) k 0)
 
--- From this state k more improvements at step d stay in range.
-pub record Allows (ss : List Stream) (d k : ℕ) (st : State) : Type 0 where
+-- A state in a phase at step d, whose unmetered amounts stay within t: they may still grow by d for each step that is over.
+pub record Underway (ss : List Stream) (d t : ℕ) (st : State) : Type 0 where
   pub size : ℕ
-  pub sound : Sound ss d (stepFall * d * k) size st
-  pub fits : size + d * k + pushRoom ≤ flowShift
+  pub sound : Sound ss d size st
+  pub fits : size + d * stepsOver d (st .nets) ≤ t
 
--- A balanced flow that meets the step condition at 1, before the tie pass comes to stream i.
+-- A balanced flow in range that meets the step condition at 1, before the tie pass comes to stream i.
 pub record Even (ss : List Stream) (ps : List ℕ) (i : ℕ) (xs : List ℕ) : Type 0 where
   pub long : length xs ≡ maxStreams
   pub held : AllHeld ss xs ps 1
+  pub inside : AllInside ss xs
+  pub agreed : Agreed ss ps
   pub level : (u : ℕ) → u < places → netOf ss (λ k. unshifted (getD xs k 0)) u ≡ pos 0
+  pub moderate : (k : ℕ) → k < length ss → streamAt ss k .metered ≡ true → Close (meteredRoom + i) (getD xs k 0)
+  pub floor : Floored ps
   pub close : (k : ℕ) → k < maxStreams → Close (settledRoom + i) (getD xs k 0)
 
 -- Stream i is metered, and its amount can fall at no cost.
@@ -125,14 +124,14 @@ pub record Falls (streams : List Stream) (ps : List ℕ) (i : ℕ) (xs : List �
   pub tight :
       slackBy (getD streams i noStream) false (getD xs i 0) (getD ps (getD streams i noStream .from) 0) (getD ps (getD streams i noStream .to) 0) 1 ≤ 0
 
--- Streams that lanes are of, and a state from which k more improvements at step d stay in range.
-pub record Improvable (ls : List ℕ) (d k : ℕ) (st : State) : Type 0 where
+-- Streams that lanes are of, and a state in a phase at step d.
+pub record Improvable (ls : List ℕ) (d : ℕ) (st : State) : Type 0 where
   pub streams : List Stream
   pub n : ℕ
   pub network : Network streams n
   pub laid : Laid streams n ls
   pub step : Step d
-  pub allows : Allows (take n streams) d k st
+  pub underway : Underway (take n streams) d settledRoom st
 
 -- And prices and a flow before the tie pass comes to stream i.
 pub record Tieable (ls ps : List ℕ) (i : ℕ) (xs : List ℕ) : Type 0 where

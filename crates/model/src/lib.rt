@@ -55,8 +55,23 @@ pub struct State {
     pub nets: [u64; PLACES],
 }
 
-// The flow and the prices that certify it.
+// How improvements from a place end: whether a set of places was found that must take in more than it can let out, and that set.
+pub struct Halt {
+    pub full: bool,
+    pub marked: [bool; PLACES],
+}
+
+// How a phase ends: the same, with the state.
+pub struct Ended {
+    pub full: bool,
+    pub state: State,
+    pub marked: [bool; PLACES],
+}
+
+// The flow and the prices that certify it; or, where none is found, a set of places that must take in more than it can let out.
 pub struct Solved {
+    pub found: bool,
     pub flows: [u64; MAX_STREAMS],
     pub prices: [u64; PLACES],
+    pub marked: [bool; PLACES],
 }

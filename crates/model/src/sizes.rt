@@ -1,41 +1,44 @@
 // Shifts and limits of the numbers that the solver works with. Each is stated here and nowhere else in code; specs/Sizes.antt has
 // the inequality that each must meet.
-use plants::limits::MAX_STREAMS;
+use plants::limits::MAX_WEIGHT;
 use plants::limits::PLACES;
 
-// An amount x is held as x + FLOW_SHIFT.
+// An amount x is held as x + FLOW_SHIFT, and is at most MOST_FLOW.
 pub const FLOW_SHIFT: u64 = 70_368_744_177_664;
+
+pub const MOST_FLOW: u64 = 2 * FLOW_SHIFT;
 
 // A net z is held as z + NET_SHIFT.
 pub const NET_SHIFT: u64 = 72_057_594_037_927_936;
 
-// A distance k and a stream's number i are held as k * NUMBERING + i; FAR is more than each of these.
+// A distance k and a stream's number i are held as k * NUMBERING + i; FAR is more than each of these. A stream that cannot move has the
+// slack FARTHEST.
 pub const NUMBERING: u64 = 128;
 
-pub const FAR: u64 = 36_028_797_018_963_968 * NUMBERING;
+pub const FARTHEST: u64 = 72_057_594_037_927_936;
 
-// A price p is held as p + PRICE_SHIFT.
-pub const PRICE_SHIFT: u64 = 1_125_899_906_842_624;
+pub const FAR: u64 = FARTHEST * NUMBERING;
 
-// The greatest reading provided for.
+// The greatest step.
+pub const MOST_STEP: u64 = 536_870_912;
+
+// The greatest reading and the greatest metered amount, in size.
 pub const MOST_READING: u64 = 4_000_000;
 
-// Prices at which amounts are settled differ by at most this.
-pub const PRICE_BAND: u64 = 35_184_372_088_832;
+pub const MOST_AMOUNT: u64 = 549_755_813_888;
 
-// The hint's first step, and how many improvements it makes at each step.
-pub const FIRST_STEP: u64 = 1_048_576;
+// The greatest marginal cost of a step on a metered stream.
+pub const MOST_MARGINAL: u64 = MAX_WEIGHT as u64 * (2 * (MOST_AMOUNT + MOST_READING) + MOST_STEP);
 
-pub const HINT_BUDGET: u64 = 256;
+// A price p is held as p + PRICE_SHIFT; below PRICE_FLOOR prices are closed up.
+pub const PRICE_SHIFT: u64 = 144_115_188_075_855_872;
 
-// The greatest size of a hint's amounts.
-pub const HINT_ROOM: u64 = MOST_READING + PRICE_BAND + 2 * FIRST_STEP * HINT_BUDGET;
+pub const PRICE_FLOOR: u64 = PRICE_SHIFT - PLACES as u64 * MOST_MARGINAL;
 
-// The summed positive net up to which the hint by factorisation is taken.
-pub const FAST_LEFTOVER: u64 = 4_096;
+// Prices of a hint are at most this below PRICE_SHIFT, and its unmetered amounts at most HINT_ROOM in size.
+pub const PRICE_SPREAD: u64 = 18_014_398_509_481_984;
+
+pub const HINT_ROOM: u64 = 35_184_372_088_832;
 
 // The summed positive net up to which a hint is of use.
-pub const LEFTOVER_LIMIT: u64 = 16_777_216;
-
-// The most improvements at step 1.
-pub const FUEL: u64 = PLACES as u64 * MAX_STREAMS as u64 * MOST_READING;
+pub const MOST_TRIED: u64 = 512;

@@ -1,9 +1,20 @@
-// Numbers at the front of a slice, high byte first, read and written.
+// Numbers at the front of a slice, high byte first, read and written; refusals in their order.
 ghost use mathlib.Core.Path.{_≡_};
 ghost use Prim.Native.Nat.{_≤_, _<_};
 ghost use lib.ListN.{length};
 ghost use mathlib.Core.List.{[], _∷_};
+ghost use Rattle.numbers.specs.Choice.{firstOf};
 ghost use Rattle.numbers.specs.Bytes.{be, putBe, signed, raw, over};
+
+// Of two refusal numbers the first that is a refusal.
+pub fn first_of(first: u8, second: u8) -> u8
+    ensures { λ r. ⌜ r ≡ firstOf first second ⌝ }
+{
+    if first != 0 {
+        return first;
+    }
+    second
+}
 
 // A byte, wider.
 fn wide(b: u8) -> u16

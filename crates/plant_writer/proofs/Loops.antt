@@ -6,16 +6,16 @@ use native.Mathlib.Omega.{arith}
 use native.Mathlib.Numerals.{add-one}
 use lib.ListN.{length, getD, take, drop, length-append}
 use lib.Seq.{take-suc, drop-cons, length-take-le}
-use Rattle.numbers.specs.Choice.{firstOf}
-use Rattle.numbers.specs.Bytes.{over, putBe, raw}
+use Rattle.numbers.specs.Choice.{pick, firstOf}
+use Rattle.numbers.specs.Bytes.{over}
 use Rattle.numbers.specs.Inner.{Put}
-use Rattle.numbers.proofs.Tests.{picked}
+use Rattle.numbers.proofs.Tests.{picked, first-some}
 use Rattle.numbers.proofs.Parts.{Laid, laid, lay, room, may-lend, partFrom, returned}
 use Rattle.numbers.proofs.Rows.{Rows, no-rows, one-row}
 use Rattle.plants.specs.declared.Stream.{Stream}
-use Rattle.plants.specs.Limits.{maxStreams, siteKind, meteredKind, unmeteredKind, endKind, meteredBody, longestFile}
+use Rattle.plants.specs.Limits.{maxStreams, siteKind, meteredKind, unmeteredKind, endKind, rangedKind, rangedBody, longestFile}
 use Rattle.plants.specs.Plants.{noStream, streamFault, firstFault}
-use Rattle.plants.specs.Files.{streamBytes, streamsBytes, plantBytes}
+use Rattle.plants.specs.Files.{meterBytes, rangeBytes, streamBytes, streamsBytes, plantBytes}
 use Rattle.plants.specs.Says.{listing}
 
 -- i streams looked at, none at fault: the rest decides.
@@ -26,11 +26,6 @@ pub record Looked (n k : ℕ) (ss : List Stream) (i : ℕ) : Type 0 where
 
 pub look : (n k : ℕ) (ss : List Stream) → length ss ≡ maxStreams → Looked n k ss 0
 look n k ss h = let e : k ≡ k - 0 = omega arith in record { within = omega arith; held = h; rest = ap (λ (j : ℕ). firstFault n (take j ss)) e }
-
--- A fault that is found comes first.
-pub first-some : (f g h : ℕ) → f ≡ g → (f ≡ 0 → ⊥) → f ≡ firstOf g h
-first-some f zero h e z = absurd (z e)
-first-some f (suc g) h e z = e
 
 module _ {n k : ℕ} {ss : List Stream} {i : ℕ} (l : Looked n k ss i) (f : ℕ) (few : k ≤ maxStreams) (more : i < k) (e : f ≡ streamFault n (getD ss i noStream)) where
   after : ℕ
@@ -63,12 +58,16 @@ bytes-append : (xs ys : List Stream) → streamsBytes (xs ++ ys) ≡ streamsByte
 bytes-append [] ys = refl
 bytes-append (x ∷ xs) ys = ap (λ (l : List ℕ). streamBytes x ++ l) (bytes-append xs ys) ∙ sym (append-assoc (streamBytes x) (streamsBytes xs) (streamsBytes ys))
 
-bytes-most : (s : Stream) → length (streamBytes s) ≤ suc meteredBody
+bytes-most : (s : Stream) → length (streamBytes s) ≤ suc rangedBody
 bytes-most s =
-    picked (λ (l : List ℕ). length l ≤ suc meteredBody) (s .metered)
-    (meteredKind ∷ s .from ∷ s .to ∷ putBe 2 (s .weight) ++ putBe 4 (raw 4 (s .reading))) (unmeteredKind ∷ s .from ∷ s .to ∷ []) (λ t. omega arith) (λ t. omega arith)
+    picked short (s .metered) (pick (s .ranged) (rangedKind ∷ meterBytes s ++ rangeBytes s) (meteredKind ∷ meterBytes s)) (unmeteredKind ∷ s .from ∷ s .to ∷ [])
+    (λ t. picked short (s .ranged) (rangedKind ∷ meterBytes s ++ rangeBytes s) (meteredKind ∷ meterBytes s) (λ q. omega arith) (λ q. omega arith))
+    (λ t. omega arith)
+  where
+    short : List ℕ → Type 0
+    short l = length l ≤ suc rangedBody
 
-all-most : (ss : List Stream) → length (streamsBytes ss) ≤ suc meteredBody * length ss
+all-most : (ss : List Stream) → length (streamsBytes ss) ≤ suc rangedBody * length ss
 all-most [] = omega arith
 all-most (s ∷ ss) = omega (arith, length-append (streamBytes s) (streamsBytes ss), bytes-most s, all-most ss)
 
@@ -81,10 +80,10 @@ bytes-more i ss h =
 
 -- The stream records, one after the other.
 abbrev pub Streams : List Stream → ℕ → List ℕ → List ℕ → ℕ → ℕ → Type 0
-Streams ss k o o₁ at i = Rows (λ (j : ℕ). streamsBytes (take j ss)) (suc meteredBody) k o o₁ at i
+Streams ss k o o₁ at i = Rows (λ (j : ℕ). streamsBytes (take j ss)) (suc rangedBody) k o o₁ at i
 
-pub no-streams : (ss : List Stream) (k : ℕ) (o : List ℕ) → suc meteredBody * k ≤ length o → Streams ss k o o 0 0
-no-streams ss k o h = no-rows (λ (j : ℕ). streamsBytes (take j ss)) (suc meteredBody) k o refl h
+pub no-streams : (ss : List Stream) (k : ℕ) (o : List ℕ) → suc rangedBody * k ≤ length o → Streams ss k o o 0 0
+no-streams ss k o h = no-rows (λ (j : ℕ). streamsBytes (take j ss)) (suc rangedBody) k o refl h
 
 pub one-stream : {ss : List Stream} {k : ℕ} {o o₁ : List ℕ} {at i : ℕ} → Streams ss k o o₁ at i → {last : List ℕ} {m : ℕ} → i < k → k ≤ length ss
     → Put (streamBytes (getD ss i noStream)) (partFrom at o₁) last m → Streams ss k o (returned at o₁ last) (at + m) (i + 1)
@@ -95,7 +94,7 @@ one-stream {ss} {k} {o} {o₁} {at} {i} w h long p =
 pub record Streamed (n k : ℕ) (ss : List Stream) (o o₁ : List ℕ) (m : ℕ) : Type 0 where
   pub listed : length (take k ss) ≡ k
   pub wide : longestFile ≤ length o
-  pub most : m ≤ maxStreams * suc meteredBody
+  pub most : m ≤ maxStreams * suc rangedBody
   pub so-far : Laid (siteKind ∷ n ∷ streamsBytes (take k ss)) o o₁ (2 + m)
 
 -- The streams in the part behind the site record.
@@ -103,7 +102,7 @@ pub streamed : (n k : ℕ) (ss : List Stream) (o : List ℕ) {o₁ last : List �
     → o₁ ≡ over (siteKind ∷ n ∷ []) o → Put (streamsBytes (take k ss)) (partFrom 2 o₁) last m → Streamed n k ss o (returned 2 o₁ last) m
 streamed n k ss o {m = m} few held wide site p =
     let l : length (take k ss) ≡ k = length-take-le k ss (omega arith) in
-    let b : m ≤ maxStreams * suc meteredBody = omega (arith, all-most (take k ss), p .size, ap (λ (j : ℕ). suc meteredBody * j) l) in
+    let b : m ≤ maxStreams * suc rangedBody = omega (arith, all-most (take k ss), p .size, ap (λ (j : ℕ). suc rangedBody * j) l) in
     let q = lay (laid (siteKind ∷ n ∷ []) o (omega arith) site) (streamsBytes (take k ss)) (omega (arith, p .size)) (p .bytes) in
     record { listed = l; wide = wide; most = b; so-far = record { bytes = q .bytes; size = q .size ∙ ap (λ (j : ℕ). 2 + j) (sym (p .size)); fits = omega arith } }
 

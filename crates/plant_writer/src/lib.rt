@@ -3,11 +3,11 @@ ghost use mathlib.Core.Path.{_≡_};
 ghost use Prim.Native.Nat.{suc, _*_, _≤_};
 ghost use lib.ListN.{length, take};
 ghost use mathlib.Core.List.{[], _∷_, _++_};
-ghost use Rattle.numbers.specs.Bytes.{putBe, raw, over};
+ghost use Rattle.numbers.specs.Bytes.{over};
 ghost use Rattle.numbers.specs.Inner.{Put};
-ghost use Rattle.plants.specs.Limits.{maxStreams, meteredKind, unmeteredKind, meteredBody, longestFile};
+ghost use Rattle.plants.specs.Limits.{maxStreams, rangedKind, meteredBody, rangedBody, longestFile};
 ghost use Rattle.plants.specs.Plants.{firstFault, partsFault};
-ghost use Rattle.plants.specs.Files.{streamBytes, streamsBytes, plantBytes};
+ghost use Rattle.plants.specs.Files.{meterBytes, rangeBytes, streamBytes, streamsBytes, plantBytes};
 ghost use Rattle.plants.specs.Says.{listing, WriteSays};
 use plants::Done;
 use plants::Plant;
@@ -17,6 +17,8 @@ use plants::limits::LONGEST_FILE;
 use plants::limits::MAX_STREAMS;
 use plants::limits::METERED;
 use plants::limits::METERED_BODY;
+use plants::limits::RANGED;
+use plants::limits::RANGED_BODY;
 use plants::limits::SITE;
 use plants::limits::UNMETERED;
 use plants::limits::UNMETERED_BODY;
@@ -42,33 +44,48 @@ fn put_ends(kind: u8, from: u8, to: u8, out: &mut [u8])
     out[2] = to;
 }
 
-// A metered stream's record.
-pub fn put_metered(from: u8, to: u8, weight: u16, reading: i32, out: &mut [u8])
+// A kind, and what both kinds of metered stream have.
+fn put_meter(kind: u8, s: Stream, out: &mut [u8])
     requires { ⌜ suc meteredBody ≤ length (now out) ⌝ }
-    ensures { λ _. ⌜ now (out .exit) ≡ over (meteredKind ∷ from ∷ to ∷ putBe 2 weight ++ putBe 4 (raw 4 reading)) (now (out .entry)) ⌝ }
+    ensures { λ _. ⌜ now (out .exit) ≡ over (kind ∷ meterBytes s) (now (out .entry)) ⌝ }
 {
-    put_ends(METERED, from, to, out);
-    numbers::put_u16(weight, &mut out[3..]);
-    numbers::put_i32(reading, &mut out[5..]);
+    put_ends(kind, s.from, s.to, out);
+    numbers::put_u16(s.weight, &mut out[3..]);
+    numbers::put_i32(s.reading, &mut out[5..]);
+}
+
+// The record of a metered stream with a range.
+pub fn put_ranged(s: Stream, out: &mut [u8])
+    requires { ⌜ suc rangedBody ≤ length (now out) ⌝ }
+    ensures { λ _. ⌜ now (out .exit) ≡ over (rangedKind ∷ meterBytes s ++ rangeBytes s) (now (out .entry)) ⌝ }
+{
+    put_meter(RANGED, s, out);
+    numbers::put_i32(s.low, &mut out[9..]);
+    numbers::put_i32(s.high, &mut out[13..]);
 }
 
 // A stream record, and how many bytes it takes.
 fn put_stream(s: Stream, out: &mut [u8]) -> usize
-    requires { ⌜ suc meteredBody ≤ length (now out) ⌝ }
+    requires { ⌜ suc rangedBody ≤ length (now out) ⌝ }
     ensures { λ r. ⌜ Put (streamBytes s) (now (out .entry)) (now (out .exit)) r ⌝ }
 {
     let metered = s.metered;
-    if metered {
-        put_metered(s.from, s.to, s.weight, s.reading, out);
-        return 1 + METERED_BODY;
+    let ranged = s.ranged;
+    if !metered {
+        put_ends(UNMETERED, s.from, s.to, out);
+        return 1 + UNMETERED_BODY;
     }
-    put_ends(UNMETERED, s.from, s.to, out);
-    1 + UNMETERED_BODY
+    if ranged {
+        put_ranged(s, out);
+        return 1 + RANGED_BODY;
+    }
+    put_meter(METERED, s, out);
+    1 + METERED_BODY
 }
 
 // The stream records, one after the other, and how many bytes they take.
 fn put_streams(count: usize, streams: [Stream; MAX_STREAMS], out: &mut [u8]) -> usize
-    requires { ⌜ (count ≤ maxStreams) × (maxStreams * suc meteredBody ≤ length (now out)) ⌝ }
+    requires { ⌜ (count ≤ maxStreams) × (maxStreams * suc rangedBody ≤ length (now out)) ⌝ }
     ensures { λ r. ⌜ Put (streamsBytes (take count streams)) (now (out .entry)) (now (out .exit)) r ⌝ }
 {
     let mut at: usize = 0;

@@ -1,5 +1,5 @@
 -- Plants in arrays, within their limits: what their lists have, and that a plant that is read is accepted.
-use mathlib.Core.Path.{_≡_, sym, ap, _∙_, subst}
+use mathlib.Core.Path.{_≡_, sym, subst}
 use mathlib.Core.List.{List}
 use Prim.Native.Nat.{ℕ, _≤_, _<_}
 use native.Mathlib.Omega.{arith}
@@ -11,10 +11,10 @@ use Rattle.plants.specs.Limits.{maxUnits, maxStreams}
 use Rattle.plants.specs.Plants.{Plant, noStream}
 use Rattle.plants.specs.Within.{WithinStream, Within, Accepted}
 use Rattle.plants.specs.Files.{got, readPlant}
-use Rattle.plants.specs.Says.{padded, arrayed, plantOf}
+use Rattle.plants.specs.Says.{arrayed, plantOf}
 use Rattle.plants.proofs.Limited.{within}
 use Rattle.plants.proofs.Accepted.{accepted}
-use Rattle.plants.proofs.Held.{length-padded, plant-held}
+use Rattle.plants.proofs.Held.{length-padded, getD-padded, plant-held}
 
 -- A stream of a plant is a stream of a larger one.
 pub within-more : {m n : ℕ} {s : Stream} → m ≤ n → WithinStream m s → WithinStream n s
@@ -25,6 +25,9 @@ within-more l w = record {
   weighed = w .weighed;
   light = w .light;
   in-range = w .in-range;
+  ordered = w .ordered;
+  low-in = w .low-in;
+  high-in = w .high-in;
 }
 
 module _ (p : Arrays.Plant) (a : Accepted p) where
@@ -55,14 +58,9 @@ array-accepted q w = record {
     some-units = w .some-units;
     few-units = w .few-units;
     few-streams = w .few-streams;
-    each = λ k l. subst (WithinStream (q .units)) (at k l) (w .each k l);
+    each = λ k l. subst (WithinStream (q .units)) (sym (getD-padded maxStreams (q .streams) k (w .few-streams) l)) (w .each k l);
   };
 }
-  where
-    at : (k : ℕ) → k < length (q .streams) → getD (q .streams) k noStream ≡ getD (padded maxStreams (q .streams)) k noStream
-    at k l =
-        sym (ap (λ (x : Plant). getD (x .streams) k noStream) (plant-held q (w .few-streams)))
-        ∙ getD-take (length (q .streams)) (padded maxStreams (q .streams)) k noStream l
 
 -- A plant that is read is accepted, as the reader hands it over, and stands for the plant of the file.
 module _ (file : List ℕ) (q : Plant) (e : readPlant file ≡ got q) where

@@ -1,6 +1,7 @@
 -- Laws of plant files, in the order in which they build on one another.
 pub mod Records
 pub mod Limited
+pub mod Ranges
 pub mod Accepted
 pub mod Held
 pub mod Loop

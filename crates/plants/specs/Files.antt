@@ -1,7 +1,8 @@
--- Plant files: reading, with refusals 3 to 12, and writing; the round trip.
+-- Plant files: reading, with refusals 3 to 12 and 18, and writing; the round trip.
 use mathlib.Core.Path.{_≡_}
-use mathlib.Core.Bool.{true, not}
+use mathlib.Core.Bool.{Bool, true, false, not}
 use mathlib.Core.List.{List, [], _∷_, _++_}
+use lib.IntN.{ℤ, pos}
 use Prim.Native.Nat.{ℕ, zero, suc}
 use lib.Dec.{eqb, ltb, leb}
 use lib.ListN.{length, getD, drop}
@@ -12,7 +13,7 @@ use Rattle.plants.specs.declared.Site.{Site}
 use Rattle.plants.specs.declared.Site.the-variants.{Units, Missing}
 use Rattle.plants.specs.declared.Record.{Record}
 use Rattle.plants.specs.declared.Record.the-variants.{Listed, End, Refused}
-use Rattle.plants.specs.Limits.{maxStreams, siteKind, meteredKind, unmeteredKind, endKind, siteBody, meteredBody, unmeteredBody, endBody}
+use Rattle.plants.specs.Limits.{maxStreams, siteKind, meteredKind, unmeteredKind, endKind, rangedKind, siteBody, meteredBody, rangedBody, unmeteredBody, endBody}
 use Rattle.plants.specs.Plants.{Plant, unmetered, unitsFault, streamFault, plantFault, plain}
 
 -- A reading of a file: a refusal number, or a plant.
@@ -40,9 +41,18 @@ abbrev pub onSite : {A : Type 0} → Site → (ℕ → A) → (ℕ → A) → A
 onSite (Units n) placed refused = placed n
 onSite (Missing f) placed refused = refused f
 
--- Metered stream: from, to, weight (2), reading (4, two's complement).
+-- What both kinds of metered stream have: from, to, weight (2), reading (4, two's complement); and a range, if any.
+abbrev pub meterIn : List ℕ → Bool → ℤ → ℤ → Stream
+meterIn b r l h =
+    record { from = getD b 0 0; to = getD b 1 0; metered = true; weight = be 2 2 b; reading = signed 4 (be 4 4 b); ranged = r; low = l; high = h }
+
+-- Metered stream.
 abbrev pub meteredIn : List ℕ → Stream
-meteredIn b = record { from = getD b 0 0; to = getD b 1 0; metered = true; weight = be 2 2 b; reading = signed 4 (be 4 4 b) }
+meteredIn b = meterIn b false (pos 0) (pos 0)
+
+-- Metered stream with a range: then low and high (4 each, two's complement).
+abbrev pub rangedIn : List ℕ → Stream
+rangedIn b = meterIn b true (signed 4 (be 8 4 b)) (signed 4 (be 12 4 b))
 
 -- Unmetered stream: from, to.
 abbrev pub unmeteredIn : List ℕ → Stream
@@ -72,8 +82,9 @@ endRecord c b = pick (eqb (endFault c b) 0) End (Refused (endFault c b))
 abbrev pub kindRecord : ℕ → ℕ → ℕ → List ℕ → Record
 kindRecord n c k b =
     pick (eqb k meteredKind) (streamRecord meteredBody (meteredIn b) n c b)
+    (pick (eqb k rangedKind) (streamRecord rangedBody (rangedIn b) n c b)
     (pick (eqb k unmeteredKind) (streamRecord unmeteredBody (unmeteredIn b) n c b)
-    (pick (eqb k endKind) (endRecord c b) (Refused 4)))
+    (pick (eqb k endKind) (endRecord c b) (Refused 4))))
 
 -- What stands where a record is due: a missing kind byte is 3.
 abbrev pub recordAt : ℕ → ℕ → List ℕ → Record
@@ -106,11 +117,17 @@ fileBy at s = onSite (siteAt s) (λ n. recordsBy at mostRecords (record { units 
 abbrev pub readPlant : List ℕ → Got
 readPlant = fileBy recordAt
 
--- Writing.
+-- Writing. What both kinds of metered stream have; low and high.
+abbrev pub meterBytes : Stream → List ℕ
+meterBytes s = s .from ∷ s .to ∷ putBe 2 (s .weight) ++ putBe 4 (raw 4 (s .reading))
+
+abbrev pub rangeBytes : Stream → List ℕ
+rangeBytes s = putBe 4 (raw 4 (s .low)) ++ putBe 4 (raw 4 (s .high))
+
 abbrev pub streamBytes : Stream → List ℕ
 streamBytes s =
     pick (s .metered)
-    (meteredKind ∷ s .from ∷ s .to ∷ putBe 2 (s .weight) ++ putBe 4 (raw 4 (s .reading)))
+    (pick (s .ranged) (rangedKind ∷ meterBytes s ++ rangeBytes s) (meteredKind ∷ meterBytes s))
     (unmeteredKind ∷ s .from ∷ s .to ∷ [])
 
 abbrev pub streamsBytes : List Stream → List ℕ

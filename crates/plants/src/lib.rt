@@ -3,13 +3,17 @@
 pub mod limits;
 pub mod streams;
 
-// A stream from one place to another: metered, with its weight and its reading, or unmetered, with both 0.
+// A stream from one place to another: metered, with its weight and its reading, or unmetered, with both 0. A metered
+// stream may have a range, from low to high; where there is none, low and high are 0.
 pub struct Stream {
     pub from: u8,
     pub to: u8,
     pub metered: bool,
     pub weight: u16,
     pub reading: i32,
+    pub ranged: bool,
+    pub low: i32,
+    pub high: i32,
 }
 
 // A plant: its units, how many streams it lists, and their records as read; those past the count are empty.

@@ -6,7 +6,8 @@ use native.Mathlib.Omega.{arith}
 use lib.ListN.{getD, set, length-set, length-map, replicate, length-replicate, getD-replicate}
 use Rattle.plants.specs.Limits.{places}
 use Rattle.flows.proofs.Lists.{map-at, set-each, Written, written-all}
-use Rattle.potentials.specs.Levels.{Labels, Banded, atLabels, Level}
+use Rattle.laplacians.specs.Cells.{Labels}
+use Rattle.potentials.specs.Levels.{Banded, atLabels, Level}
 
 module _ {top band : ℕ} where
   -- All prices top.

@@ -3,7 +3,8 @@ use plants::limits::PLACES;
 use std::num::truncating_f64_to_u64;
 ghost use mathlib.Core.Path.{_≡_};
 ghost use Prim.Native.Nat.{_+_, _≤_};
-ghost use Rattle.potentials.specs.Levels.{Labels, Banded, atLabels};
+ghost use Rattle.laplacians.specs.Cells.{Labels};
+ghost use Rattle.potentials.specs.Levels.{Banded, atLabels};
 
 // The greatest price, 0 at least.
 fn greatest(x: [f64; PLACES]) -> f64 {

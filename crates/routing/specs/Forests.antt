@@ -8,8 +8,9 @@ use Rattle.plants.specs.declared.Stream.{Stream}
 use Rattle.plants.specs.Limits.{places, maxUnits, maxStreams}
 use Rattle.plants.specs.Plants.{noStream}
 use Rattle.routing.specs.declared.Forest.{Forest}
-use Rattle.model.specs.Sizes.{hintRoom}
-use Rattle.model.specs.SolverNeeds.{Close}
+use Rattle.flows.specs.Flows.{streamAt}
+use Rattle.model.specs.Sizes.{mostFlow, hintRoom}
+use Rattle.model.specs.SearchNeeds.{Close}
 use Rattle.model.specs.Counts.{countTo}
 
 -- A forest of len streams, with as many places reached, at least.
@@ -34,10 +35,11 @@ pub record Routable (streams : List Stream) (n : ℕ) (f : Forest) : Type 0 wher
   pub short : f .len ≤ places
   pub listed : Listed streams n (f .via) (f .len)
 
--- Held amounts within the hint's room.
-pub record Routes (xs : List ℕ) : Type 0 where
+-- Held amounts of the streams ss: those of unmetered streams are within the hint's room.
+pub record Routes (ss : List Stream) (xs : List ℕ) : Type 0 where
   pub long : length xs ≡ maxStreams
-  pub close : (k : ℕ) → k < maxStreams → Close hintRoom (getD xs k 0)
+  pub most : (k : ℕ) → k < maxStreams → getD xs k 0 ≤ mostFlow
+  pub close : (k : ℕ) → k < maxStreams → streamAt ss k .metered ≡ false → Close hintRoom (getD xs k 0)
 
 -- The metered ones of the first n streams carry in ys what they carry in xs.
 pub record Kept (streams : List Stream) (n : ℕ) (xs ys : List ℕ) : Type 0 where

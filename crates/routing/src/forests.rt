@@ -11,14 +11,13 @@ use std::num::wrapping_sub_u64;
 ghost use mathlib.Core.Path.{_≡_};
 ghost use mathlib.Core.List.{List};
 ghost use Prim.Native.Nat.{ℕ, _<_};
-ghost use lib.ListN.{length, getD};
+ghost use lib.ListN.{length, getD, take};
 ghost use Rattle.plants.specs.declared.Stream.{Stream};
 ghost use Rattle.plants.specs.Limits.{maxUnits, places};
 ghost use Rattle.plants.specs.Within.{WithinStream};
 ghost use Rattle.plants.specs.Plants.{noStream};
-ghost use Rattle.model.specs.SearchNeeds.{Network};
+ghost use Rattle.model.specs.SearchNeeds.{Network, Close};
 ghost use Rattle.model.specs.Sizes.{hintRoom};
-ghost use Rattle.model.specs.SolverNeeds.{Close};
 ghost use Rattle.routing.specs.Forests.{Spanning, Unmetered, Listed, Routable, Routes, Kept};
 
 // The places that are labels.
@@ -191,8 +190,8 @@ pub fn route(
     nets: &mut [u64; PLACES],
     flows: &mut [u64; MAX_STREAMS],
 )
-    requires { ⌜ Network streams count × Routable streams count f × (length (now nets) ≡ places) × Routes (now flows) ⌝ }
-    ensures { λ _. ⌜ Routes (now (flows .exit)) × Kept streams count (now (flows .entry)) (now (flows .exit)) ⌝ }
+    requires { ⌜ Network streams count × Routable streams count f × (length (now nets) ≡ places) × Routes (take count streams) (now flows) ⌝ }
+    ensures { λ _. ⌜ Routes (take count streams) (now (flows .exit)) × Kept streams count (now (flows .entry)) (now (flows .exit)) ⌝ }
 {
     let mut k = f.len;
     while 0 < k {

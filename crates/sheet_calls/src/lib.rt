@@ -1,21 +1,36 @@
 // The sheet call.
 use balances::balance_of;
+use plants::limits::PLACES;
 use sheet_writer::put_sheet;
 use sheets::Sheet;
 use sheets::kinds::LEAST_SLICE;
 use sheets::kinds::TOP_SHEET;
 ghost use mathlib.Core.Path.{_≡_};
+ghost use Rattle.flows.specs.Overfull.{unmarked};
 ghost use Rattle.sheets.specs.Says.{SheetSays};
 ghost use Rattle.sheets.specs.Sentences.{callFault};
 
-// A refusal counts nothing and hands the last sheet number back.
+// A refusal counts nothing, hands the last sheet number back and marks no place.
 fn refused(number: u8, last: u32) -> Sheet
-    ensures { λ r. ⌜ r ≡ record { number = number; written = 0; last = last } ⌝ }
+    ensures { λ r. ⌜ r ≡ record { number = number; written = 0; last = last; marked = unmarked } ⌝ }
 {
     Sheet {
         number: number,
         written: 0,
         last: last,
+        marked: [false; PLACES],
+    }
+}
+
+// Refusal 19 marks an overfull set.
+fn overfilled(last: u32, marked: [bool; PLACES]) -> Sheet
+    ensures { λ r. ⌜ r ≡ record { number = 19; written = 0; last = last; marked = marked } ⌝ }
+{
+    Sheet {
+        number: 19,
+        written: 0,
+        last: last,
+        marked: marked,
     }
 }
 
@@ -46,13 +61,20 @@ pub fn balance_plant(file: &[u8], last: u32, sheet: &mut [u8]) -> Sheet
         return refused(number, last);
     }
     let plant = read.plant;
-    let balance = balance_of(plant);
+    let outcome = balance_of(plant);
+    let marked = outcome.marked;
+    if !outcome.found {
+        return overfilled(last, marked);
+    }
+    let balance = outcome.balance;
     let count = plant.count as usize;
     let next = last + 1;
     let written = put_sheet(count, next, balance, sheet);
+    let none = [false; PLACES];
     Sheet {
         number: 0,
         written: written,
         last: next,
+        marked: none,
     }
 }

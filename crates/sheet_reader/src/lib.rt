@@ -10,6 +10,7 @@ ghost use Rattle.sheets.specs.Apart.{streamSize, totalSize};
 ghost use Rattle.sheets.specs.Sheets.{kindOf};
 ghost use Rattle.sheets.specs.Kept.{shownIn, blank, streamRecord, totalIn, verdictFits, fieldsFit, totalFault, afterFault, totalRecord, recordAt, recordNumber, noSheet, readOf, ReadSays};
 use flows::Class;
+use numbers::first_of;
 use plants::limits::MAX_STREAMS;
 use plants::limits::MAX_UNITS;
 use sheets::Entry;
@@ -150,16 +151,6 @@ fn after_fault(s: &[u8]) -> u8
         return 0;
     }
     15
-}
-
-// Of two refusal numbers the first that is a refusal.
-fn first_of(first: u8, second: u8) -> u8
-    ensures { λ r. ⌜ r ≡ firstOf first second ⌝ }
-{
-    if first == 0 {
-        return second;
-    }
-    first
 }
 
 fn read_total(s: &[u8]) -> SheetRecord

@@ -25,15 +25,17 @@ use Rattle.flows.specs.Test.{verdictAt}
 use Rattle.flows.specs.Calls.{classesOf}
 use Rattle.flows.proofs.Lists.{values-same, values-long, values-at, Written, written-all}
 use Rattle.flows.proofs.Given.{number-is}
+use Rattle.flows.proofs.Ranges.{balanced-of}
 use Rattle.flows.proofs.ByLabels.{class-past}
 use Rattle.model.specs.Held.{unshifted, opened}
 use Rattle.model.specs.declared.Solved.{Solved}
-use Rattle.model.specs.Promise.{Right}
+use Rattle.model.specs.Promise.{Solution}
 use Rattle.sheets.specs.declared.Entry.{Entry}
 use Rattle.sheets.specs.Balances.{entryOf, balanceOf, BalanceSays}
-use Rattle.sheets.specs.Calls.{entriesOf, CostsFit}
+use Rattle.sheets.specs.Apart.{capped}
+use Rattle.sheets.specs.Calls.{entriesOf}
 use Rattle.sheets.proofs.Opening.{take-opened}
-use Rattle.sheets.proofs.Costing.{cheapest-cost}
+use Rattle.sheets.proofs.Capped.{capped-verdict}
 
 -- What stands past an array of entries.
 abbrev pub noEntry : Entry
@@ -52,9 +54,11 @@ entry-as c {d} {x} {y} e f = ap (λ (k : Class). entryOf k x) (sym e) ∙ ap (en
 
 -- A balance by its parts.
 pub balance-is : (p : Plant) (xs : List ℤ) (es : List Entry) (c d v : ℕ) → es ≡ values maxStreams (λ k. entryOf (classOf p k) (numberOf p xs k))
-    → c ≡ cost (p .streams) xs → d ≡ degrees p → v ≡ verdictAt d c → record { streams = es; cost = c; degrees = d; verdict = v } ≡ balanceOf p xs
+    → c ≡ capped (cost (p .streams) xs) → d ≡ degrees p → v ≡ verdictAt d c → record { streams = es; cost = c; degrees = d; verdict = v } ≡ balanceOf p xs
 unfolding balanceOf
-balance-is p xs es c d v e ec ed ev = λ i. record { streams = e i; cost = ec i; degrees = ed i; verdict = (ev ∙ (λ j. verdictAt (ed j) (ec j))) i }
+balance-is p xs es c d v e ec ed ev =
+    let judged : v ≡ verdictAt (degrees p) (cost (p .streams) xs) = ev ∙ (λ j. verdictAt (ed j) (ec j)) ∙ capped-verdict (degrees p) (cost (p .streams) xs) in
+    λ i. record { streams = e i; cost = ec i; degrees = ed i; verdict = judged i }
 
 pub balance-long : (p : Plant) (xs : List ℤ) → length (balanceOf p xs .streams) ≡ maxStreams
 unfolding balanceOf
@@ -87,22 +91,18 @@ module _ (p : Arrays.Plant) (xs : List ℤ) (a : Accepted p) (b : balanced (plan
       ∙ entry-same (classOf (plantOf p) k) _ _ (number-at k))
 
 -- The flow of a solution, opened.
-module _ (p : Arrays.Plant) (a : Accepted p) (s : Solved) (r : Right p s) (xs : List ℤ) (e : xs ≡ map unshifted (s .flows)) where
+module _ (p : Arrays.Plant) (a : Accepted p) (s : Solved) (r : Solution p s) (xs : List ℤ) (e : xs ≡ map unshifted (s .flows)) where
   flow-is : take (p .count) xs ≡ opened (p .count) (s .flows)
   flow-is = ap (take (p .count)) e ∙ take-opened (p .count) (s .flows)
 
   pub flow-cheapest : Cheapest (plantOf p) (take (p .count) xs)
   flow-cheapest = rw flow-is (r .cheapest)
 
-  -- The cost of the cheapest flow fits.
-  pub costs-fit : CostsFit p xs
-  costs-fit = cheapest-cost (plantOf p) (within-of p a) (take (p .count) xs) flow-cheapest
-
   pub balanced-so : (cs : List Class) (es : List Entry) (c d v : ℕ) → cs ≡ classesOf (plantOf p) → es ≡ entriesOf cs xs
-      → c ≡ cost (plantOf p .streams) (take (p .count) xs) → d ≡ degrees (plantOf p) → v ≡ verdictAt d c
+      → c ≡ capped (cost (plantOf p .streams) (take (p .count) xs)) → d ≡ degrees (plantOf p) → v ≡ verdictAt d c
       → BalanceSays (plantOf p) (record { streams = es; cost = c; degrees = d; verdict = v })
   balanced-so cs es c d v ecs ees ec ed ev = (
     take (p .count) xs,
     flow-cheapest,
-    balance-is (plantOf p) (take (p .count) xs) es c d v (ees ∙ entries-shown p xs a (flow-cheapest .balance) cs ecs) ec ed ev,
+    balance-is (plantOf p) (take (p .count) xs) es c d v (ees ∙ entries-shown p xs a (balanced-of 1 (plantOf p) (take (p .count) xs) (flow-cheapest .balance)) cs ecs) ec ed ev,
   )

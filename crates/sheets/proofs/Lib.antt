@@ -1,5 +1,6 @@
 -- Laws of balances and sheets.
 pub mod Opening
+pub mod Capped
 pub mod Costing
 pub mod Entries
 pub mod Laying
@@ -12,4 +13,5 @@ pub mod Unique
 pub mod Telling
 pub mod ReadAgain
 pub mod Answering
+pub mod Demands
 pub mod Table

@@ -26,7 +26,8 @@ use Rattle.sheets.specs.declared.Entry.{Entry}
 use Rattle.sheets.specs.Balances.{entryOf}
 use Rattle.sheets.specs.Sheets.{plantParts, sheetOf}
 use Rattle.sheets.specs.Kept.{someSheet, readSheet, verdictFits, fieldsFit, fits, allFit, WithinSheet}
-use Rattle.sheets.proofs.Costing.{cheapest-cost}
+use Rattle.flows.proofs.Ranges.{balanced-of}
+use Rattle.sheets.proofs.Capped.{capped-most}
 use Rattle.sheets.proofs.Entries.{noEntry}
 use Rattle.sheets.proofs.Telling.{Sized, es-long, entry-at, cost-is, degrees-is, verdict-is}
 use Rattle.sheets.proofs.There.{there}
@@ -60,7 +61,7 @@ module _ (p : Plant) (w : Within p) (xs : List ℤ) (c : Cheapest p xs) (last : 
   each k h =
       let l : k < length (p .streams) = omega (arith, es-long p w xs c 0 []) in
       subst (λ (e : Entry). fits (e .class) (e .flow) ≡ true) (sym (entry-at p w xs c 0 [] k l))
-      (entry-fits (classOf p k) (numberOf p xs k) (λ n. rw (number-is p w xs (c .balance) k l n) (sized k l n)))
+      (entry-fits (classOf p k) (numberOf p xs k) (λ n. rw (number-is p w xs (balanced-of 1 p xs (c .balance)) k l n) (sized k l n)))
 
   total-fits : fieldsFit (plantParts p xs (suc last) .total) ≡ true
   total-fits =
@@ -75,7 +76,7 @@ module _ (p : Plant) (w : Within p) (xs : List ℤ) (c : Cheapest p xs) (last : 
         few = omega (arith, es-long p w xs c 0 []);
         flows = all-fit parts each;
         number = small;
-        cost = omega (arith, cost-is p w xs c 0 [], cheapest-cost p w xs c);
+        cost = omega (arith, cost-is p w xs c 0 [], capped-most (cost (p .streams) xs));
         allowed = total-fits;
       }
 

@@ -1,28 +1,33 @@
 -- The table of plants, proved by one computed test: prices certify each flow.
 use mathlib.Core.Path.{_≡_, refl, ap, _∙_}
-use mathlib.Core.Bool.{Bool, true, false, _&&_, false≢true}
+use mathlib.Core.Bool.{Bool, true, false, _&&_, _||_, false≢true}
+use mathlib.Core.Logic.{_⊎_, ⊎-elim}
 use mathlib.Core.List.{List, [], _∷_}
 use lib.IntN.{ℤ, pos, negsuc}
-use Prim.Native.Nat.{ℕ}
+use Prim.Native.Nat.{ℕ, zero, suc, _-_, _<_}
+use native.Mathlib.Omega.{arith}
 use lib.Dec.{eqb}
+use lib.ListN.{getD, replicate}
 use borrow.Author.Tests.{eqb-true}
 use Rattle.numbers.proofs.Tests.{and-left, and-right}
 use Rattle.numbers.specs.Bytes.{over}
-use Rattle.plants.specs.Plants.{Plant}
+use Rattle.plants.specs.Limits.{places}
+use Rattle.plants.specs.Plants.{Plant, limited}
 use Rattle.plants.specs.Files.{Got, bad, got, readPlant}
 use Rattle.plants.proofs.Limited.{within}
 use Rattle.plants.proofs.Accepted.{accepted}
-use Rattle.flows.specs.Flows.{Cheapest}
+use Rattle.flows.specs.Flows.{streamAt, Cheapest}
+use Rattle.flows.specs.Overfull.{marks, enters, leaves, Overfull}
 use Rattle.flows.specs.Certificate.{certified}
 use Rattle.flows.proofs.Certified.{certified-cheapest}
 use Rattle.sheets.specs.declared.Sheet.{Sheet}
-use Rattle.sheets.specs.Sentences.{callFault}
+use Rattle.sheets.specs.Sentences.{callFault, Overfilled}
 use Rattle.sheets.specs.Balances.{balanceOf}
 use Rattle.sheets.specs.Sheets.{sheetOf}
 use Rattle.sheets.specs.Says.{Drawn, SheetSays}
-use Rattle.sheets.specs.Table.{Example, Shows, AllShow, examples}
+use Rattle.sheets.specs.Table.{Example, Shows, AllShow, Refuses, examples, fullFile, fullUnit}
 use Rattle.sheets.proofs.Promise.{call-taken}
-use Rattle.sheets.proofs.Unique.{one-sheet}
+use Rattle.sheets.proofs.Unique.{never-both, one-sheet}
 
 -- Two lists of bytes are one.
 abbrev sameBytes : List ℕ → List ℕ → Bool
@@ -44,9 +49,10 @@ same-bytes (x ∷ xs) (y ∷ ys) e =
 calls-leave : (e : Example) (p : Plant) → readPlant (e .file) ≡ got p → Cheapest p (e .flow) → sheetOf p (e .flow) 1 ≡ e .sheet
     → (o o′ : List ℕ) (r : Sheet) → callFault 0 o ≡ 0 → SheetSays (e .file) 0 o o′ r → o′ ≡ over (e .sheet) o
 calls-leave e p q c b o o′ r z s =
-    let d : Drawn p 0 o o′ r = rw q at (call-taken (e .file) 0 o o′ r s z) in
     let w = within p (accepted (e .file) p q .0) in
-    d .3 ∙ ap (λ (l : List ℕ). over l o) (one-sheet p w (d .0) (e .flow) (d .1) c 1 ∙ b)
+    let given : Drawn p 0 o o′ r ⊎ Overfilled p 0 o o′ r = rw q at (call-taken (e .file) 0 o o′ r s z) in
+    ⊎-elim (λ d. d .3 ∙ ap (λ (l : List ℕ). over l o) (one-sheet p w (d .0) (e .flow) (d .1) c 1 ∙ b))
+    (λ m. never-both p w (e .flow) c (m .0) (m .1)) given
 
 -- The test of one example, with prices for the places.
 abbrev shows : Example → List ℤ → Got → Bool
@@ -87,8 +93,56 @@ prices =
     ∷ (pos 0 ∷ negsuc 123 ∷ [])
     ∷ (pos 0 ∷ negsuc 19 ∷ negsuc 19 ∷ [])
     ∷ []
+    ∷ (pos 0 ∷ pos 0 ∷ [])
+    ∷ (pos 0 ∷ pos 40 ∷ [])
+    ∷ (pos 0 ∷ pos 0 ∷ [])
     ∷ []
 
 pub table : AllShow examples
 unfolding prices balanceOf
 table = all-right examples prices refl
+
+-- The plant without a flow in range.
+fullPlant : Plant
+fullPlant =
+    record {
+      units = 1;
+      streams =
+          record { from = 0; to = 1; metered = true; weight = 10; reading = pos 15; ranged = true; low = pos 10; high = pos 20 }
+          ∷ record { from = 1; to = 0; metered = true; weight = 10; reading = pos 15; ranged = true; low = pos 0; high = pos 5 }
+          ∷ [];
+    }
+
+none-there : (n k : ℕ) → getD (replicate n false) k false ≡ false
+none-there zero k = refl
+none-there (suc n) zero = refl
+none-there (suc n) (suc k) = none-there n k
+
+full-unit : Overfull fullPlant fullUnit
+unfolding fullPlant
+full-unit = record { long = refl; placed = past; bounded = across; more = refl }
+  where
+    past : (u : ℕ) → 1 < u → marks fullUnit u ≡ false
+    past zero l = absurd (omega arith)
+    past (suc zero) l = absurd (omega arith)
+    past (suc (suc u)) l = none-there (places - 2) u
+
+    across : (k : ℕ) → k < 2 → enters (marks fullUnit) (streamAt (fullPlant .streams) k) || leaves (marks fullUnit) (streamAt (fullPlant .streams) k) ≡ true
+        → limited (streamAt (fullPlant .streams) k) ≡ true
+    across zero l e = refl
+    across (suc zero) l e = refl
+    across (suc (suc k)) l e = absurd (omega arith)
+
+-- A call that drew a sheet would have a flow in range.
+pub refuses : Refuses fullFile fullUnit
+unfolding fullPlant
+refuses = (fullPlant, refl, full-unit, calls)
+  where
+    read : readPlant fullFile ≡ got fullPlant
+    read = refl
+
+    calls : (o o′ : List ℕ) (r : Sheet) → callFault 0 o ≡ 0 → SheetSays fullFile 0 o o′ r → r .number ≡ 19
+    calls o o′ r z s =
+        let given : Drawn fullPlant 0 o o′ r ⊎ Overfilled fullPlant 0 o o′ r = call-taken fullFile 0 o o′ r s z in
+        ⊎-elim (λ d. never-both fullPlant (within fullPlant (accepted fullFile fullPlant read .0)) (d .0) (d .1) fullUnit full-unit)
+        (λ m. ap (λ (q : Sheet). q .number) (m .2 .0)) given

@@ -17,23 +17,24 @@ use Rattle.plants.specs.Plants.{Plant}
 use Rattle.plants.specs.Within.{Within}
 use Rattle.flows.specs.declared.Class.{Class}
 use Rattle.flows.specs.declared.Class.the-variants.{Adjusted, AsRead, Given, Withheld}
-use Rattle.flows.specs.Flows.{streamAt, amountAt, balanced, cost, Cheapest}
+use Rattle.flows.specs.Flows.{streamAt, amountAt, balanced, cost, Cheapest, nearest}
 use Rattle.flows.specs.Chains.{everyStream, unmeteredOnly}
 use Rattle.flows.specs.Classes.{classOf, numberOf, degrees}
 use Rattle.flows.specs.Test.{verdictAt}
 use Rattle.flows.specs.Shown.{adjustedWeight, adjustedTo, Shown}
 use Rattle.flows.proofs.Nets.{inside}
 use Rattle.flows.proofs.Lists.{values-at}
+use Rattle.flows.proofs.Ranges.{balanced-of}
 use Rattle.flows.proofs.Given.{class-means, number-is}
 use Rattle.flows.proofs.Degrees.{degrees-most}
 use Rattle.flows.proofs.Counted.{some-each, degrees-counted}
 use Rattle.flows.proofs.Chained.{as-read-of, adjusted-of, given-times}
 use Rattle.sheets.specs.declared.Entry.{Entry}
-use Rattle.sheets.specs.Apart.{adjustedKind, totalKind, kindAt, numberAt, sheetNumberIn, costIn, degreesIn, verdictIn, sheetLength}
+use Rattle.sheets.specs.Apart.{adjustedKind, totalKind, kindAt, numberAt, sheetNumberIn, costIn, degreesIn, verdictIn, capped, sheetLength}
 use Rattle.sheets.specs.Sentences.{MeteredAt, UnmeteredAt, MetersAs, adjustedWeights, Tells}
 use Rattle.sheets.specs.Balances.{entryOf, balanceOf}
 use Rattle.sheets.specs.Sheets.{kindOf, recordsOf, totalOf, sheetOf}
-use Rattle.sheets.proofs.Costing.{cheapest-cost}
+use Rattle.sheets.proofs.Capped.{capped-most}
 use Rattle.sheets.proofs.Entries.{noEntry, balance-long}
 use Rattle.sheets.proofs.Apart.{kind-at, number-at, total-begins, total-kind, total-number, total-cost, total-degrees, total-verdict}
 use Rattle.sheets.proofs.Unique.{amount-same, cost-same}
@@ -44,7 +45,7 @@ pub record Told (p : Plant) (xs : List ℤ) (n : ℕ) (b : List ℕ) : Type 0 wh
   pub numbers : (k : ℕ) → k < length (p .streams) → (classOf p k ≡ Withheld → ⊥) → numberAt b k ≡ amountAt xs k
   pub total : kindAt b (length (p .streams)) ≡ totalKind
   pub numbered : sheetNumberIn b (length (p .streams)) ≡ n
-  pub costs : costIn b (length (p .streams)) ≡ cost (p .streams) xs
+  pub costs : costIn b (length (p .streams)) ≡ capped (cost (p .streams) xs)
   pub freedom : degreesIn b (length (p .streams)) ≡ degrees p
   pub verdict : verdictIn b (length (p .streams)) ≡ verdictAt (degrees p) (cost (p .streams) xs)
   pub size : sheetLength b (length (p .streams)) ≡ length (sheetOf p xs n)
@@ -86,9 +87,9 @@ module _ (p : Plant) (w : Within p) (xs : List ℤ) (c : Cheapest p xs) (n : ℕ
   class-at k h = ap (λ (e : Entry). e .class) (entry-at k h) ∙ entry-class (classOf p k) (numberOf p xs k)
 
   pub flow-at : (k : ℕ) → k < count → (classOf p k ≡ Withheld → ⊥) → getD es k noEntry .flow ≡ amountAt xs k
-  flow-at k h o = ap (λ (e : Entry). e .flow) (entry-at k h) ∙ entry-flow (classOf p k) (numberOf p xs k) o ∙ number-is p w xs (c .balance) k h o
+  flow-at k h o = ap (λ (e : Entry). e .flow) (entry-at k h) ∙ entry-flow (classOf p k) (numberOf p xs k) o ∙ number-is p w xs (balanced-of 1 p xs (c .balance)) k h o
 
-  pub cost-is : balanceOf p xs .cost ≡ cost (p .streams) xs
+  pub cost-is : balanceOf p xs .cost ≡ capped (cost (p .streams) xs)
   unfolding balanceOf
   cost-is = refl
 
@@ -110,7 +111,7 @@ module _ (p : Plant) (w : Within p) (xs : List ℤ) (c : Cheapest p xs) (n : ℕ
         let cs = balanceOf p xs .cost in
         let ds = balanceOf p xs .degrees in
         let vs = balanceOf p xs .verdict in
-        let fits : cs < 256 ^ 8 = omega (arith, cost-is, cheapest-cost p w xs c) in
+        let fits : cs < 256 ^ 8 = omega (arith, cost-is, capped-most (cost (p .streams) xs)) in
         record {
           kinds = λ k h. kind-at es (end ++ rest) noEntry k (omega arith) ∙ ap kindOf (class-at k h);
           numbers = λ k h o. number-at es (end ++ rest) noEntry k (omega arith) (λ e. o (sym (class-at k h) ∙ e)) (rw (flow-at k h o) (sized k h o)) ∙ flow-at k h o;
@@ -168,14 +169,14 @@ module _ (p : Plant) (w : Within p) (shown : Shown p) (xs : List ℤ) (c : Cheap
   meter : (k : ℕ) → MeteredAt p k → numberAt b k ≡ amountAt xs k
   meter k q = t .numbers k (q .0) (metered-shown k (q .1))
 
-  reading : (i : ℕ) → MeteredAt p i → classOf p i ≡ AsRead → numberAt b i ≡ streamAt (p .streams) i .reading
+  reading : (i : ℕ) → MeteredAt p i → classOf p i ≡ AsRead → numberAt b i ≡ nearest (streamAt (p .streams) i)
   reading i q e = meter i q ∙ shown .as-read xs i c (q .0) e
 
   given-number : (i d : ℕ) (ys : List ℤ) → UnmeteredAt p i → classOf p i ≡ Given → balanced p ys ≡ true → MetersAs p b d ys
       → amountAt ys i ≡ pos d *ℤ numberAt b i
   given-number i d ys u e bal f =
       let shows : numberAt b i ≡ amountAt xs i = t .numbers i (u .0) (as-shown (differ (λ q. omega arith)) i e) in
-      given-times p w i (u .0) e (pos d) xs ys (c .balance) bal (λ k l q. f k (l, q) ∙ ap (λ (z : ℤ). pos d *ℤ z) (meter k (l, q)))
+      given-times p w i (u .0) e (pos d) xs ys (balanced-of 1 p xs (c .balance)) bal (λ k l q. f k (l, q) ∙ ap (λ (z : ℤ). pos d *ℤ z) (meter k (l, q)))
       ∙ ap (λ (z : ℤ). pos d *ℤ z) (sym shows)
 
   weights : (k : ℕ) → k ≤ length (p .streams) → adjustedTo p k ≡ adjustedWeights p b k
@@ -195,13 +196,13 @@ module _ (p : Plant) (w : Within p) (shown : Shown p) (xs : List ℤ) (c : Cheap
     number = λ i d ys q e. given-number i d ys q (kind-iff i (q .0) Given .0 e);
     some = (xs, c);
     metered = λ ys d i q. meter i q ∙ amount-same p w xs ys c d i (q .0) (metered-shown i (q .1));
-    costs = λ ys d. t .costs ∙ cost-same p w xs ys c d;
-    near = λ d ys l a. rw (t .costs, ← weights m (omega arith)) (shown .near xs ys d c l a);
+    costs = λ ys d. t .costs ∙ ap capped (cost-same p w xs ys c d);
+    near = λ zs z d ys l a. rw (← weights m (omega arith)) (shown .near zs ys d z l a);
     groups = some-each p w unmeteredOnly;
     pieces = some-each p w everyStream;
     degrees = λ gs cs g h. rw (t .freedom) (degrees-counted p w gs cs g h);
     few = rw (t .freedom) (degrees-most p (w .few-units) (inside p w));
-    verdict = t .verdict ∙ ap₂ verdictAt (sym (t .freedom)) (sym (t .costs));
+    verdict = λ zs z. t .verdict ∙ ap₂ verdictAt (sym (t .freedom)) (cost-same p w xs zs c z);
     total = t .total;
     numbered = t .numbered;
   }

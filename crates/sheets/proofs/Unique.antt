@@ -1,16 +1,18 @@
--- No choice is left: two cheapest flows of one plant give one and the same balance, and so one sheet.
+-- No choice is left: two cheapest flows of one plant give one and the same balance, and so one sheet; and a plant that has one has no
+-- overfull set.
 use mathlib.Core.Path.{_≡_, refl, sym, ap, _∙_}
 use mathlib.Core.Bool.{Bool, true, false}
+use mathlib.Core.Logic.{inl, inr}
 use mathlib.Core.List.{List, [], _∷_, _++_}
 use lib.IntN.{ℤ}
-use Prim.Native.Nat.{ℕ, zero, suc, _≤_, _<_}
+use Prim.Native.Nat.{ℕ, zero, suc, _<_}
 use native.Mathlib.Omega.{arith}
 use borrow.Author.Tests.{ltb-true, ltb-false}
 use lib.Dec.{eqb, ltb}
 use lib.ListN.{length}
 use Rattle.numbers.specs.Choice.{pick}
 use Rattle.numbers.specs.Bytes.{over}
-use Rattle.numbers.proofs.Tests.{by-cases}
+use Rattle.numbers.proofs.Tests.{by-cases, clash}
 use Rattle.plants.specs.declared.Stream.{Stream}
 use Rattle.plants.specs.Limits.{maxStreams}
 use Rattle.plants.specs.Plants.{Plant}
@@ -20,19 +22,23 @@ use Rattle.plants.proofs.Limited.{within}
 use Rattle.plants.proofs.Accepted.{accepted}
 use Rattle.flows.specs.declared.Class.{Class}
 use Rattle.flows.specs.declared.Class.the-variants.{Adjusted, AsRead, Given, Withheld}
-use Rattle.flows.specs.Flows.{streamAt, amountAt, cost, meteredOf, Cheapest}
+use Rattle.flows.specs.Flows.{streamAt, amountAt, balanced, allowed, cost, meteredOf, Cheapest}
 use Rattle.flows.specs.Classes.{classOf, numberOf, degrees}
 use Rattle.flows.specs.Test.{verdictAt}
+use Rattle.flows.specs.Overfull.{unmarked, Overfull}
 use Rattle.flows.proofs.Nets.{balanced-size}
+use Rattle.flows.proofs.Ranges.{balanced-of}
+use Rattle.flows.proofs.Overfull.{overfull-none}
 use Rattle.flows.proofs.Lists.{values-same}
 use Rattle.flows.proofs.Order.{one}
 use Rattle.flows.proofs.ByLabels.{class-past}
 use Rattle.flows.proofs.Given.{class-means, number-is, given-agree}
 use Rattle.sheets.specs.declared.Sheet.{Sheet}
+use Rattle.sheets.specs.Apart.{capped}
 use Rattle.sheets.specs.Balances.{entryOf, balanceOf}
 use Rattle.sheets.specs.Sheets.{sheetBytes, sheetOf}
-use Rattle.sheets.specs.Says.{Drawn, SheetWith, No-choice}
-use Rattle.sheets.specs.Sentences.{callFault, Refused}
+use Rattle.sheets.specs.Says.{Drawn, SheetWith, bare, Alike, No-choice}
+use Rattle.sheets.specs.Sentences.{callFault, Refused, Overfilled}
 use Rattle.sheets.proofs.Entries.{entry-same}
 
 -- Flows with the same metered amounts have the same amount on each metered stream.
@@ -49,17 +55,23 @@ metered-at (s ∷ ss) (x ∷ xs) (y ∷ ys) m n e (suc k) h t = metered-at ss xs
     rest false q = q
 
 module _ (p : Plant) (w : Within p) (xs ys : List ℤ) (c : Cheapest p xs) (d : Cheapest p ys) where
+  first : balanced p xs ≡ true
+  first = balanced-of 1 p xs (c .balance)
+
+  second : balanced p ys ≡ true
+  second = balanced-of 1 p ys (d .balance)
+
   -- An amount that is shown is the same in both.
   pub amount-same : (k : ℕ) → k < length (p .streams) → (classOf p k ≡ Withheld → ⊥) → amountAt xs k ≡ amountAt ys k
   amount-same k h n = go (classOf p k) refl
     where
       metered : streamAt (p .streams) k .metered ≡ true → amountAt xs k ≡ amountAt ys k
-      metered t = metered-at (p .streams) xs ys (balanced-size p xs (c .balance)) (balanced-size p ys (d .balance)) (one p xs ys c d) k h t
+      metered t = metered-at (p .streams) xs ys (balanced-size p xs first) (balanced-size p ys second) (one p xs ys c d) k h t
 
       go : (a : Class) → classOf p k ≡ a → amountAt xs k ≡ amountAt ys k
       go Adjusted e = metered (class-means p k Adjusted e .0)
       go AsRead e = metered (class-means p k AsRead e .0)
-      go Given e = given-agree p w k h e xs ys (record { first = c .balance; second = d .balance; metered = one p xs ys c d })
+      go Given e = given-agree p w k h e xs ys (record { first = first; second = second; metered = one p xs ys c d })
       go Withheld e = absurd (n e)
 
   -- An entry is the same in both.
@@ -69,7 +81,7 @@ module _ (p : Plant) (w : Within p) (xs ys : List ℤ) (c : Cheapest p xs) (d : 
       listed : (classOf p k ≡ Withheld → ⊥) → ltb k (length (p .streams)) ≡ true → numberOf p xs k ≡ numberOf p ys k
       listed n t =
           let h = ltb-true k (length (p .streams)) t in
-          number-is p w xs (c .balance) k h n ∙ amount-same k h n ∙ sym (number-is p w ys (d .balance) k h n)
+          number-is p w xs first k h n ∙ amount-same k h n ∙ sym (number-is p w ys second k h n)
 
       past : (classOf p k ≡ Withheld → ⊥) → ltb k (length (p .streams)) ≡ false → numberOf p xs k ≡ numberOf p ys k
       past n t = absurd (n (class-past p k (ltb-false k (length (p .streams)) t)))
@@ -81,24 +93,43 @@ module _ (p : Plant) (w : Within p) (xs ys : List ℤ) (c : Cheapest p xs) (d : 
   unfolding balanceOf
   one-balance =
       let e = values-same maxStreams (λ k. entryOf (classOf p k) (numberOf p xs k)) (λ k. entryOf (classOf p k) (numberOf p ys k)) (λ k l. entries-same k) in
-      λ i. record { streams = e i; cost = cost-same i; degrees = degrees p; verdict = verdictAt (degrees p) (cost-same i) }
+      λ i. record { streams = e i; cost = capped (cost-same i); degrees = degrees p; verdict = verdictAt (degrees p) (cost-same i) }
 
   pub one-sheet : (n : ℕ) → sheetOf p xs n ≡ sheetOf p ys n
   one-sheet n = ap (sheetBytes (length (p .streams)) n) one-balance
 
--- What a call returns and leaves behind follows from what it was handed.
+-- A plant with a flow in range has no overfull set.
+pub never-both : {A : Type 0} (p : Plant) → Within p → (xs : List ℤ) → Cheapest p xs → (ms : List Bool) → Overfull p ms → A
+never-both p w xs c ms m = clash (allowed p xs) (c .balance) (overfull-none p w ms m 1 xs (omega arith))
+
+-- What a call returns and leaves behind follows from what it was handed, but for the set that a 19 marks.
+pub alike-same : (r₁ r₂ : Sheet) → r₁ ≡ r₂ → Alike r₁ r₂
+alike-same r₁ r₂ e = (ap bare e, λ n. e)
+
 module _ (last : ℕ) (o o₁ o₂ : List ℕ) (r₁ r₂ : Sheet) where
-  refused-same : (f : ℕ) → Refused f last o o₁ r₁ → Refused f last o o₂ r₂ → (r₁ ≡ r₂) × (o₁ ≡ o₂)
-  refused-same f a b = (a .0 ∙ sym (b .0), a .1 ∙ sym (b .1))
+  refused-same : (f : ℕ) → Refused f last o o₁ r₁ → Refused f last o o₂ r₂ → Alike r₁ r₂ × (o₁ ≡ o₂)
+  refused-same f a b = (alike-same r₁ r₂ (a .0 ∙ sym (b .0)), a .1 ∙ sym (b .1))
 
-  drawn-same : (p : Plant) → Within p → Drawn p last o o₁ r₁ → Drawn p last o o₂ r₂ → (r₁ ≡ r₂) × (o₁ ≡ o₂)
+  drawn-same : (p : Plant) → Within p → Drawn p last o o₁ r₁ → Drawn p last o o₂ r₂ → Alike r₁ r₂ × (o₁ ≡ o₂)
   drawn-same p w a b =
-      let e = one-sheet p w (a .0) (b .0) (a .1) (b .1) (suc last) in
-      (a .2 ∙ (λ i. record { number = 0; written = length (e i); last = suc last }) ∙ sym (b .2), a .3 ∙ ap (λ (l : List ℕ). over l o) e ∙ sym (b .3))
+      let e = one-sheet p w (a .0) (b .0) (a .1) (b .1) (suc last) in (
+        alike-same r₁ r₂ (a .2 ∙ (λ i. record { number = 0; written = length (e i); last = suc last; marked = unmarked }) ∙ sym (b .2)),
+        a .3 ∙ ap (λ (l : List ℕ). over l o) e ∙ sym (b .3),
+      )
 
-  read-same : (g : Got) → ((p : Plant) → g ≡ got p → Within p) → SheetWith g last o o₁ r₁ → SheetWith g last o o₂ r₂ → (r₁ ≡ r₂) × (o₁ ≡ o₂)
+  -- Two sets may be marked, but all else is the same.
+  marked-same : (p : Plant) → Overfilled p last o o₁ r₁ → Overfilled p last o o₂ r₂ → Alike r₁ r₂ × (o₁ ≡ o₂)
+  marked-same p a b = (
+    (ap bare (a .2 .0) ∙ sym (ap bare (b .2 .0)), λ n. absurd (n (ap (λ (r : Sheet). r .number) (a .2 .0)))),
+    a .2 .1 ∙ sym (b .2 .1),
+  )
+
+  read-same : (g : Got) → ((p : Plant) → g ≡ got p → Within p) → SheetWith g last o o₁ r₁ → SheetWith g last o o₂ r₂ → Alike r₁ r₂ × (o₁ ≡ o₂)
   read-same (bad f) h a b = refused-same f a b
-  read-same (got p) h a b = drawn-same p (h p refl) a b
+  read-same (got p) h (inl a) (inl b) = drawn-same p (h p refl) a b
+  read-same (got p) h (inl a) (inr b) = never-both p (h p refl) (a .0) (a .1) (b .0) (b .1)
+  read-same (got p) h (inr a) (inl b) = never-both p (h p refl) (b .0) (b .1) (a .0) (a .1)
+  read-same (got p) h (inr a) (inr b) = marked-same p a b
 
 pub no-choice : No-choice
 no-choice file last o o₁ o₂ r₁ r₂ a b =

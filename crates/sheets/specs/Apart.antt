@@ -2,7 +2,7 @@
 use mathlib.Core.List.{List}
 use lib.IntN.{ℤ}
 use Prim.Native.Nat.{ℕ, zero, suc, _+_, _*_}
-use lib.Dec.{eqb}
+use lib.Dec.{eqb, leb}
 use lib.ListN.{getD}
 use Rattle.numbers.specs.Choice.{pick}
 use Rattle.numbers.specs.Bytes.{be, signed}
@@ -63,6 +63,13 @@ degreesIn b m = getD b (begins b m + 13) 0
 
 abbrev pub verdictIn : List ℕ → ℕ → ℕ
 verdictIn b m = getD b (begins b m + 14) 0
+
+-- A cost as it is written: one that 8 bytes do not hold as the greatest that they hold.
+abbrev pub topCost : ℕ
+topCost = 18446744073709551615
+
+abbrev pub capped : ℕ → ℕ
+capped c = pick (leb c topCost) c topCost
 
 -- The length of the sheet.
 abbrev pub sheetLength : List ℕ → ℕ → ℕ

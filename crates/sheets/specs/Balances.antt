@@ -2,17 +2,19 @@
 use mathlib.Core.Path.{_≡_}
 use mathlib.Core.List.{List}
 use lib.IntN.{ℤ, pos}
-use Prim.Native.Nat.{ℕ}
 use Rattle.plants.specs.Limits.{maxStreams}
 use Rattle.plants.specs.Plants.{Plant}
 use Rattle.flows.specs.declared.Class.{Class}
 use Rattle.flows.specs.declared.Class.the-variants.{Adjusted, AsRead, Given, Withheld}
 use Rattle.flows.specs.Flows.{cost, Cheapest}
-use Rattle.numbers.specs.Inner.{values}
+use Rattle.numbers.specs.Inner.{values, pickT}
 use Rattle.flows.specs.Classes.{classOf, numberOf, degrees}
 use Rattle.flows.specs.Test.{verdictAt}
+use Rattle.flows.specs.Overfull.{Overfull}
 use Rattle.sheets.specs.declared.Entry.{Entry}
 use Rattle.sheets.specs.declared.Balance.{Balance}
+use Rattle.sheets.specs.declared.Outcome.{Outcome}
+use Rattle.sheets.specs.Apart.{capped}
 
 -- A stream's entry: its class and its number; a withheld stream has none, and 0 stands there.
 abbrev pub entryOf : Class → ℤ → Entry
@@ -21,13 +23,14 @@ entryOf AsRead x = record { class = AsRead; flow = x }
 entryOf Given x = record { class = Given; flow = x }
 entryOf Withheld x = record { class = Withheld; flow = pos 0 }
 
--- The balance of a plant with a flow. (A record past the last stream is empty, from the outside to itself: it is withheld.)
+-- The balance of a plant with a flow: its cost as it is written, and the verdict by the cost itself. (A record past the last
+-- stream is empty, from the outside to itself: it is withheld.)
 unfoldable pub balanceOf : Plant → List ℤ → Balance
 balanceOf p xs =
     let c = cost (p .streams) xs in
     record {
       streams = values maxStreams (λ k. entryOf (classOf p k) (numberOf p xs k));
-      cost = c;
+      cost = capped c;
       degrees = degrees p;
       verdict = verdictAt (degrees p) c;
     }
@@ -35,3 +38,7 @@ balanceOf p xs =
 -- What the balance of a plant is: that of its cheapest flow.
 abbrev pub BalanceSays : Plant → Balance → Type 0
 BalanceSays p b = (xs : List ℤ) × Cheapest p xs × (b ≡ balanceOf p xs)
+
+-- What is found of a plant: its balance, or an overfull set.
+abbrev pub OutcomeSays : Plant → Outcome → Type 0
+OutcomeSays p r = pickT (r .found) (BalanceSays p (r .balance)) (Overfull p (r .marked))

@@ -10,6 +10,7 @@ use Rattle.flows.specs.Flows.{Cheapest}
 use Rattle.flows.specs.Chains.{everyStream, unmeteredOnly}
 use Rattle.flows.specs.Groups.{One-pass}
 use Rattle.flows.specs.Shown.{Demand-3}
+use Rattle.flows.specs.Overfull.{Refusal-19}
 use Rattle.sheets.specs.declared.Sheet.{Sheet}
 use Rattle.sheets.specs.Sentences.{topSheet, Answers}
 use Rattle.sheets.specs.Says.{SheetSays, No-choice}
@@ -28,7 +29,7 @@ pub record ReadsBack (file o′ : List ℕ) (r : Sheet) : Type 0 where
 pub record Demands : Type 0 where
   -- Of every call, its counter being of 32 bits: the refusal, or a sheet that tells what it has to.
   pub sentences : (file : List ℕ) (last : ℕ) (o o′ : List ℕ) (r : Sheet) → last ≤ topSheet → SheetSays file last o o′ r → Answers file last o o′ r
-  -- What a call returns and leaves behind follows from what it was handed.
+  -- What a call returns and leaves behind follows from what it was handed, but for the set that a 19 marks.
   pub no-choice : No-choice
   -- A plant file written from its parts and read again comes back the same, both ways.
   pub round : Round-trip
@@ -40,3 +41,5 @@ pub record Demands : Type 0 where
   -- Sheets read back in: writing and reading undo each other, and a sheet that a call drew reads back as the plant has it.
   pub reopening : Reopening
   pub kept : (file : List ℕ) (last : ℕ) (o o′ : List ℕ) (r : Sheet) → last ≤ topSheet → SheetSays file last o o′ r → r .number ≡ 0 → ReadsBack file o′ r
+  -- Refusal 19: a plant that is read has a cheapest flow or an overfull set, and never both.
+  pub nineteen : Refusal-19

@@ -1,5 +1,6 @@
 -- What the sheet call ensures, byte by byte.
 use mathlib.Core.Path.{_≡_}
+use mathlib.Core.Logic.{_⊎_}
 use mathlib.Core.List.{List}
 use lib.IntN.{ℤ}
 use Prim.Native.Nat.{ℕ, suc}
@@ -10,29 +11,37 @@ use Rattle.numbers.specs.Bytes.{over}
 use Rattle.plants.specs.Plants.{Plant}
 use Rattle.plants.specs.Files.{Got, bad, got, readPlant}
 use Rattle.flows.specs.Flows.{Cheapest}
+use Rattle.flows.specs.Overfull.{unmarked}
 use Rattle.sheets.specs.declared.Sheet.{Sheet}
 use Rattle.sheets.specs.Sheets.{sheetOf}
-use Rattle.sheets.specs.Sentences.{callFault, Refused}
+use Rattle.sheets.specs.Sentences.{callFault, Refused, Overfilled}
 
 -- A sheet drawn: that of the cheapest flow, under the next number; the slice past it as it was.
 abbrev pub Drawn : Plant → ℕ → List ℕ → List ℕ → Sheet → Type 0
 Drawn p last o o′ r =
     (xs : List ℤ)
     × Cheapest p xs
-    × (r ≡ record { number = 0; written = length (sheetOf p xs (suc last)); last = suc last })
+    × (r ≡ record { number = 0; written = length (sheetOf p xs (suc last)); last = suc last; marked = unmarked })
     × (o′ ≡ over (sheetOf p xs (suc last)) o)
 
 abbrev pub SheetWith : Got → ℕ → List ℕ → List ℕ → Sheet → Type 0
 SheetWith (bad f) last o o′ r = Refused f last o o′ r
-SheetWith (got p) last o o′ r = Drawn p last o o′ r
+SheetWith (got p) last o o′ r = Drawn p last o o′ r ⊎ Overfilled p last o o′ r
 
--- The sheet call: 1, 2, then the file's refusals, else the sheet.
+-- The sheet call: 1, 2, then the file's refusals, then 19, else the sheet.
 abbrev pub SheetSays : List ℕ → ℕ → List ℕ → List ℕ → Sheet → Type 0
 SheetSays file last o o′ r =
     pickT (eqb (callFault last o) 0) (SheetWith (readPlant file) last o o′ r) (Refused (callFault last o) last o o′ r)
 
--- No choice is left: what a call returns and leaves behind follows from what it was handed.
+-- Two answers are alike: the same but for the places marked, and the same altogether where the number is not 19.
+abbrev pub bare : Sheet → Sheet
+bare r = record { number = r .number; written = r .written; last = r .last; marked = unmarked }
+
+abbrev pub Alike : Sheet → Sheet → Type 0
+Alike r₁ r₂ = (bare r₁ ≡ bare r₂) × ((r₁ .number ≡ 19 → ⊥) → r₁ ≡ r₂)
+
+-- No choice is left but that of the set: what a call returns and leaves behind follows from what it was handed.
 abbrev pub No-choice : Type 0
 No-choice =
     (file : List ℕ) (last : ℕ) (o o₁ o₂ : List ℕ) (r₁ r₂ : Sheet)
-    → SheetSays file last o o₁ r₁ → SheetSays file last o o₂ r₂ → (r₁ ≡ r₂) × (o₁ ≡ o₂)
+    → SheetSays file last o o₁ r₁ → SheetSays file last o o₂ r₂ → Alike r₁ r₂ × (o₁ ≡ o₂)

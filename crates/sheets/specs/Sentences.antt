@@ -1,7 +1,7 @@
 -- What a customer reads in the slice that a call leaves behind: sentences about its bytes, over the flows of the plant.
 use mathlib.Core.Path.{_≡_}
 use mathlib.Core.Logic.{_↔_}
-use mathlib.Core.Bool.{true, false}
+use mathlib.Core.Bool.{Bool, true, false}
 use mathlib.Core.List.{List}
 use lib.IntN.{ℤ, pos, _*ℤ_}
 use Prim.Native.Nat.{ℕ, zero, suc, _+_, _*_, _≤_, _<_}
@@ -11,11 +11,12 @@ use Rattle.numbers.specs.Choice.{pick, refuseIf, firstOf}
 use Rattle.plants.specs.Limits.{maxUnits}
 use Rattle.plants.specs.Plants.{Plant}
 use Rattle.plants.specs.Files.{bad, got, readPlant}
-use Rattle.flows.specs.Flows.{streamAt, amountAt, balanced, allowed, cost, costOver, Agree, Cheapest, nearest}
+use Rattle.flows.specs.Flows.{streamAt, amountAt, balanced, allowedOver, allowed, cost, costOver, Agree, Cheapest, nearest}
 use Rattle.flows.specs.Chains.{everyStream, unmeteredOnly, Chain, OneEach}
 use Rattle.flows.specs.Test.{verdictAt}
+use Rattle.flows.specs.Overfull.{unmarked, Overfull}
 use Rattle.sheets.specs.declared.Sheet.{Sheet}
-use Rattle.sheets.specs.Apart.{adjustedKind, asReadKind, givenKind, withheldKind, totalKind, leastSlice, kindAt, numberAt, sheetNumberIn, costIn, degreesIn, verdictIn, sheetLength}
+use Rattle.sheets.specs.Apart.{adjustedKind, asReadKind, givenKind, withheldKind, totalKind, leastSlice, kindAt, numberAt, sheetNumberIn, costIn, degreesIn, verdictIn, capped, sheetLength}
 
 -- Stream i, from 0, is listed, and metered or not.
 abbrev pub MeteredAt : Plant → ℕ → Type 0
@@ -46,7 +47,8 @@ adjustedWeights p b (suc k) = pick (eqb (kindAt b k) adjustedKind) (streamAt (p 
 
 -- The bytes b, as sheet n of plant p, whose m streams they list.
 pub record Tells (p : Plant) (m n : ℕ) (b : List ℕ) : Type 0 where
-  -- A metered stream is A exactly when no chain of unmetered streams joins its ends, R exactly when one does; R is its reading.
+  -- A metered stream is A exactly when no chain of unmetered streams joins its ends, R exactly when one does; R is the nearest
+  -- value in range to its reading.
   pub adjusted : (i : ℕ) → MeteredAt p i → (kindAt b i ≡ adjustedKind) ↔ (EndsJoined p i → ⊥)
   pub as-read : (i : ℕ) → MeteredAt p i → (kindAt b i ≡ asReadKind) ↔ EndsJoined p i
   pub reading : (i : ℕ) → MeteredAt p i → kindAt b i ≡ asReadKind → numberAt b i ≡ nearest (streamAt (p .streams) i)
@@ -57,20 +59,20 @@ pub record Tells (p : Plant) (m n : ℕ) (b : List ℕ) : Type 0 where
   -- The number of a G stream is its amount in every balanced flow, in fractions too, with the sheet's metered amounts.
   pub number : (i d : ℕ) (ys : List ℤ) → UnmeteredAt p i → kindAt b i ≡ givenKind → balanced p ys ≡ true → MetersAs p b d ys
       → amountAt ys i ≡ pos d *ℤ numberAt b i
-  -- There is a cheapest flow; of every one, the metered numbers are its amounts, and the cost is its cost.
+  -- There is a cheapest flow; of every one, the metered numbers are its amounts, and the cost is its cost as it is written.
   pub some : (xs : List ℤ) × Cheapest p xs
   pub metered : (xs : List ℤ) → Cheapest p xs → (i : ℕ) → MeteredAt p i → numberAt b i ≡ amountAt xs i
-  pub costs : (xs : List ℤ) → Cheapest p xs → costIn b m ≡ cost (p .streams) xs
-  -- No flow in fractions undercuts the sheet's cost by more than a quarter of the summed weights of the A streams.
-  pub near : (d : ℕ) (ys : List ℤ) → 1 ≤ d → allowed p ys ≡ true
-      → 4 * (d * d) * costIn b m ≤ 4 * costOver d (p .streams) ys + d * d * adjustedWeights p b m
+  pub costs : (xs : List ℤ) → Cheapest p xs → costIn b m ≡ capped (cost (p .streams) xs)
+  -- No flow in fractions, within all ranges, undercuts its cost by more than a quarter of the summed weights of the A streams.
+  pub near : (xs : List ℤ) → Cheapest p xs → (d : ℕ) (ys : List ℤ) → 1 ≤ d → allowedOver d p ys ≡ true
+      → 4 * (d * d) * cost (p .streams) xs ≤ 4 * costOver d (p .streams) ys + d * d * adjustedWeights p b m
   -- Degrees: the number of groups, by chains of unmetered streams, less that of pieces, by chains of any streams.
   pub groups : (gs : List ℕ) × OneEach unmeteredOnly p gs
   pub pieces : (cs : List ℕ) × OneEach everyStream p cs
   pub degrees : (gs cs : List ℕ) → OneEach unmeteredOnly p gs → OneEach everyStream p cs → degreesIn b m + length cs ≡ length gs
   pub few : degreesIn b m ≤ maxUnits
-  -- The verdict by these degrees and this cost.
-  pub verdict : verdictIn b m ≡ verdictAt (degreesIn b m) (costIn b m)
+  -- The verdict by these degrees and the cost itself.
+  pub verdict : (xs : List ℤ) → Cheapest p xs → verdictIn b m ≡ verdictAt (degreesIn b m) (cost (p .streams) xs)
   -- The total stands behind the records, with the sheet's number.
   pub total : kindAt b m ≡ totalKind
   pub numbered : sheetNumberIn b m ≡ n
@@ -83,13 +85,21 @@ topSheet = 4294967295
 abbrev pub callFault : ℕ → List ℕ → ℕ
 callFault last o = firstOf (refuseIf (ltb (length o) leastSlice) 1) (refuseIf (eqb last topSheet) 2)
 
--- A refusal: its number, nothing written, counter and slice as they were.
+-- A refusal that marks these places: its number, nothing written, counter and slice as they were.
+abbrev pub RefusedWith : List Bool → ℕ → ℕ → List ℕ → List ℕ → Sheet → Type 0
+RefusedWith ms f last o o′ r = (r ≡ record { number = f; written = 0; last = last; marked = ms }) × (o′ ≡ o)
+
+-- All refusals but 19 mark none.
 abbrev pub Refused : ℕ → ℕ → List ℕ → List ℕ → Sheet → Type 0
-Refused f last o o′ r = (r ≡ record { number = f; written = 0; last = last }) × (o′ ≡ o)
+Refused f last o o′ r = RefusedWith unmarked f last o o′ r
+
+-- Refusal 19: which set is marked is the program's choice; every one is overfull.
+abbrev pub Overfilled : Plant → ℕ → List ℕ → List ℕ → Sheet → Type 0
+Overfilled p last o o′ r = (ms : List Bool) × Overfull p ms × RefusedWith ms 19 last o o′ r
 
 -- A full sheet of m streams: 0, its length, the counter one higher, which is its number; the slice past it as it was.
 pub record Full (p : Plant) (m last : ℕ) (o o′ : List ℕ) (r : Sheet) : Type 0 where
-  pub result : r ≡ record { number = 0; written = sheetLength o′ m; last = suc last }
+  pub result : r ≡ record { number = 0; written = sheetLength o′ m; last = suc last; marked = unmarked }
   pub tells : Tells p m (suc last) o′
   pub past : drop (sheetLength o′ m) o′ ≡ drop (sheetLength o′ m) o
   pub fits : sheetLength o′ m ≤ length o
@@ -99,4 +109,8 @@ pub record Full (p : Plant) (m last : ℕ) (o o′ : List ℕ) (r : Sheet) : Typ
 pub record Answers (file : List ℕ) (last : ℕ) (o o′ : List ℕ) (r : Sheet) : Type 0 where
   pub unfit : (callFault last o ≡ 0 → ⊥) → Refused (callFault last o) last o o′ r
   pub unread : (f : ℕ) → callFault last o ≡ 0 → readPlant file ≡ bad f → (f ≡ 0 → ⊥) × Refused f last o o′ r
-  pub full : (p : Plant) → callFault last o ≡ 0 → readPlant file ≡ got p → Full p (length (p .streams)) last o o′ r
+  -- A plant that is read, with a balanced flow within all ranges and without.
+  pub full : (p : Plant) (ys : List ℤ) → callFault last o ≡ 0 → readPlant file ≡ got p → allowed p ys ≡ true
+      → Full p (length (p .streams)) last o o′ r
+  pub overfull : (p : Plant) → callFault last o ≡ 0 → readPlant file ≡ got p → ((ys : List ℤ) → allowed p ys ≡ false)
+      → Overfilled p last o o′ r

@@ -1,12 +1,16 @@
 -- The proved table of plants: files, their cheapest flows, and the sheets that calls leave in the slice, byte for byte.
 use mathlib.Core.Path.{_≡_}
+use mathlib.Core.Bool.{Bool, true, false}
 use mathlib.Core.List.{List, [], _∷_, _++_}
 use lib.IntN.{ℤ, pos}
-use Prim.Native.Nat.{ℕ}
+use Prim.Native.Nat.{ℕ, _-_}
+use lib.ListN.{replicate}
 use Rattle.numbers.specs.Bytes.{over}
+use Rattle.plants.specs.Limits.{places}
 use Rattle.plants.specs.Plants.{Plant}
 use Rattle.plants.specs.Files.{got, readPlant}
 use Rattle.flows.specs.Flows.{Cheapest}
+use Rattle.flows.specs.Overfull.{Overfull}
 use Rattle.sheets.specs.declared.Sheet.{Sheet}
 use Rattle.sheets.specs.Sentences.{callFault}
 use Rattle.sheets.specs.Says.{SheetSays}
@@ -28,12 +32,23 @@ abbrev pub AllShow : List Example → Type 0
 AllShow [] = Unit {0}
 AllShow (e ∷ es) = Shows e × AllShow es
 
--- Records of a file, with a weight and a reading below 256; of a sheet, with an amount below 256 and a cost of two bytes.
+-- The file reads to a plant of which this set of places is overfull, and every first call with a slice that is taken returns 19.
+abbrev pub Refuses : List ℕ → List Bool → Type 0
+Refuses file ms =
+    (p : Plant)
+    × (readPlant file ≡ got p)
+    × Overfull p ms
+    × ((o o′ : List ℕ) (r : Sheet) → callFault 0 o ≡ 0 → SheetSays file 0 o o′ r → r .number ≡ 19)
+
+-- Records of a file, with a weight, a reading and a range below 256; of a sheet, with an amount below 256 and a cost of two bytes.
 abbrev pub site : ℕ → List ℕ
 site n = 1 ∷ n ∷ []
 
 abbrev pub meter : ℕ → ℕ → ℕ → ℕ → List ℕ
 meter u v w r = 2 ∷ u ∷ v ∷ 0 ∷ w ∷ 0 ∷ 0 ∷ 0 ∷ r ∷ []
+
+abbrev pub within : ℕ → ℕ → ℕ → ℕ → ℕ → ℕ → List ℕ
+within u v w r low high = 6 ∷ u ∷ v ∷ 0 ∷ w ∷ 0 ∷ 0 ∷ 0 ∷ r ∷ 0 ∷ 0 ∷ 0 ∷ low ∷ 0 ∷ 0 ∷ 0 ∷ high ∷ []
 
 abbrev pub pipe : ℕ → ℕ → List ℕ
 pipe u v = 3 ∷ u ∷ v ∷ []
@@ -56,6 +71,9 @@ total high low degrees verdict = 31 ∷ 0 ∷ 0 ∷ 0 ∷ 1 ∷ 0 ∷ 0 ∷ 0 �
 -- The same with weight 1: 61 costs 3,721 and passes, 62 costs 3,844 and fails.
 -- The listing's plant: 99, two blanks, 99, cost 20.
 -- No streams.
+-- In 103 within 0 to 100, out 60 and 40: 100, 60, 40, cost 90.
+-- In 100, out 103 within 102 to 200: 102, 102, cost 50, since the tie's 101 is not in range.
+-- In 100 within 0 to 90, out unmetered: R 90, G 90, cost 1,000, degrees 0, none.
 abbrev pub examples : List Example
 examples =
     record { file = site 1 ++ meter 0 1 10 103 ++ meter 1 0 10 60 ++ meter 1 0 10 40 ++ end 3; flow = pos 102 ∷ pos 61 ∷ pos 41 ∷ []; sheet = shown 17 102 ++ shown 17 61 ++ shown 17 41 ++ total 0 30 1 0 }
@@ -68,4 +86,14 @@ examples =
     ∷ record { file = site 1 ++ meter 0 1 1 62 ++ end 1; flow = pos 0 ∷ []; sheet = shown 17 0 ++ total 15 4 1 1 }
     ∷ record { file = site 2 ++ meter 0 1 10 100 ++ pipe 1 2 ++ pipe 1 2 ++ meter 2 0 10 98 ++ end 4; flow = pos 99 ∷ pos 99 ∷ pos 0 ∷ pos 99 ∷ []; sheet = shown 17 99 ++ (20 ∷ 20 ∷ []) ++ shown 17 99 ++ total 0 20 1 0 }
     ∷ record { file = site 1 ++ end 0; flow = []; sheet = total 0 0 0 2 }
+    ∷ record { file = site 1 ++ within 0 1 10 103 0 100 ++ meter 1 0 10 60 ++ meter 1 0 10 40 ++ end 3; flow = pos 100 ∷ pos 60 ∷ pos 40 ∷ []; sheet = shown 17 100 ++ shown 17 60 ++ shown 17 40 ++ total 0 90 1 0 }
+    ∷ record { file = site 1 ++ meter 0 1 10 100 ++ within 1 0 10 103 102 200 ++ end 2; flow = pos 102 ∷ pos 102 ∷ []; sheet = shown 17 102 ++ shown 17 102 ++ total 0 50 1 0 }
+    ∷ record { file = site 1 ++ within 0 1 10 100 0 90 ++ pipe 1 0 ++ end 2; flow = pos 90 ∷ pos 90 ∷ []; sheet = shown 18 90 ++ shown 19 90 ++ total 3 232 0 2 }
     ∷ []
+
+-- In within 10 to 20, out within 0 to 5: the unit must take in more than it can let out.
+abbrev pub fullFile : List ℕ
+fullFile = site 1 ++ within 0 1 10 15 10 20 ++ within 1 0 10 15 0 5 ++ end 2
+
+abbrev pub fullUnit : List Bool
+fullUnit = false ∷ true ∷ replicate (places - 2) false

@@ -1,4 +1,4 @@
-// The kinds of record on a sheet and their sizes, and the limits of a call. Each is stated here and nowhere else in code.
+// The kinds of record on a sheet and their sizes, and the limits of a cost and of a call. Each is stated here and nowhere else in code.
 use plants::limits::MAX_STREAMS;
 
 pub const ADJUSTED: u8 = 0x11;
@@ -18,6 +18,11 @@ pub const TOTAL_SIZE: usize = 15;
 
 // The least slice that is taken.
 pub const LEAST_SLICE: usize = MAX_STREAMS * STREAM_SIZE + TOTAL_SIZE;
+
+// The greatest cost that is written; one above it is written as this. And the greatest number whose square is no more.
+pub const TOP_COST: u64 = 18_446_744_073_709_551_615;
+
+pub const TOP_ROOT: u64 = 4_294_967_295;
 
 // The last sheet number that there is.
 pub const TOP_SHEET: u32 = 4_294_967_295;

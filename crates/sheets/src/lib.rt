@@ -1,6 +1,7 @@
 // Sheets: the balance of a plant, its bytes and what the sheet call promises, as definitions with their laws. No function stands here.
 use flows::Class;
 use plants::limits::MAX_STREAMS;
+use plants::limits::PLACES;
 
 pub mod kinds;
 
@@ -18,12 +19,20 @@ pub struct Balance {
     pub verdict: u8,
 }
 
+// What is found of a plant: its balance, or none and an overfull set of places, marked.
+pub struct Outcome {
+    pub found: bool,
+    pub balance: Balance,
+    pub marked: [bool; PLACES],
+}
+
 // What the sheet call hands over: 0, the bytes written and the sheet's number; or a refusal number, 0 and the last sheet
-// number as it was.
+// number as it was. Places are marked by refusal 19 alone.
 pub struct Sheet {
     pub number: u8,
     pub written: usize,
     pub last: u32,
+    pub marked: [bool; PLACES],
 }
 
 // The total of a sheet: its number, the cost, the degrees and the verdict.

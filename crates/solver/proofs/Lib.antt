@@ -1,2 +1,3 @@
--- Laws of the start: what the factorisation leaves.
+-- Laws of the start, and of what the solver hands over.
 pub mod Factored
+pub mod Solving

@@ -1,5 +1,7 @@
 -- The promise of the call that lists a plant, by what was found; and that it leaves no choice.
 use mathlib.Core.Path.{_≡_, refl, sym, ap, _∙_, subst}
+use mathlib.Core.Bool.{Bool}
+use mathlib.Core.Logic.{inl, inr}
 use mathlib.Core.List.{List, _++_}
 use Prim.Native.Nat.{ℕ, _≤_, _<_}
 use native.Mathlib.Omega.{arith}
@@ -17,10 +19,11 @@ use Rattle.plants.specs.Says.{plantOf, readOf}
 use Rattle.plants.specs.Within.{Within}
 use Rattle.plants.proofs.Limited.{within}
 use Rattle.plants.proofs.Accepted.{accepted}
+use Rattle.flows.specs.Overfull.{Overfull}
 use Rattle.sheets.specs.declared.Balance.{Balance}
 use Rattle.sheets.specs.Balances.{balanceOf, BalanceSays}
-use Rattle.sheets.proofs.Promise.{read-bad, found, plant-count, plant-balance}
-use Rattle.sheets.proofs.Unique.{one-balance}
+use Rattle.sheets.proofs.Promise.{read-bad, found, plant-count, plant-balance, plant-overfull}
+use Rattle.sheets.proofs.Unique.{one-balance, never-both}
 use Rattle.texts.specs.Listing.{listingOf, refusalText}
 use Rattle.texts.specs.Says.{leastText, ListWith, ListSays, Counts, One-text}
 
@@ -46,7 +49,11 @@ module _ (file o : List ℕ) where
         → Put (listingOf (y .plant .count) 1 b) o o′ r → ListSays file o o′ r
     plant-listed y b e n t p =
         let s = plant-balance file y e n b t in
-        by-file (rw (found file y e n .1) (s .0, s .1, subst (λ (l : List ℕ). Put l o o′ r) (λ i. listingOf (plant-count file y e n i) 1 (s .2 i)) p))
+        by-file (rw (found file y e n .1) (inl (s .0, s .1, subst (λ (l : List ℕ). Put l o o′ r) (λ i. listingOf (plant-count file y e n i) 1 (s .2 i)) p)))
+
+    pub plant-overfilled : (y : Read) (ms : List Bool) → y ≡ readOf (readPlant file) → y .number ≡ 0 → Overfull (plantOf (y .plant)) ms
+        → Put (refusalText 19) o o′ r → ListSays file o o′ r
+    plant-overfilled y ms e n t p = by-file (rw (found file y e n .1) (inr (ms, plant-overfull file y e n ms t, p)))
 
 -- Text and length follow from the file and the slice.
 module _ (o o₁ o₂ : List ℕ) (r₁ r₂ : ℕ) where
@@ -55,7 +62,10 @@ module _ (o o₁ o₂ : List ℕ) (r₁ r₂ : ℕ) where
 
   with-one : (g : Got) → ((p : Plant) → g ≡ got p → Within p) → ListWith g o o₁ r₁ → ListWith g o o₂ r₂ → (r₁ ≡ r₂) × (o₁ ≡ o₂)
   with-one (bad f) w a b = put-one refl a b
-  with-one (got p) w a b = put-one (ap (listingOf (length (p .streams)) 1) (one-balance p (w p refl) (a .0) (b .0) (a .1) (b .1))) (a .2) (b .2)
+  with-one (got p) w (inl a) (inr b) = never-both p (w p refl) (a .0) (a .1) (b .0) (b .1)
+  with-one (got p) w (inr a) (inl b) = never-both p (w p refl) (b .0) (b .1) (a .0) (a .1)
+  with-one (got p) w (inr a) (inr b) = put-one refl (a .2) (b .2)
+  with-one (got p) w (inl a) (inl b) = put-one (ap (listingOf (length (p .streams)) 1) (one-balance p (w p refl) (a .0) (b .0) (a .1) (b .1))) (a .2) (b .2)
 
 pub one-text : One-text
 one-text file o o₁ o₂ r₁ r₂ a b =

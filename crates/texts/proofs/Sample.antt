@@ -1,7 +1,7 @@
 -- The listing of the definition's plant, proved by computing: prices certify the flow.
 use mathlib.Core.Path.{refl}
 use mathlib.Core.List.{List, [], _∷_}
-use mathlib.Core.Bool.{true}
+use mathlib.Core.Bool.{true, false}
 use lib.IntN.{ℤ, pos, negsuc}
 use Rattle.plants.specs.Plants.{Plant, unmetered}
 use Rattle.flows.proofs.Certified.{certified-cheapest}
@@ -14,10 +14,10 @@ plant =
     record {
       units = 2;
       streams =
-          record { from = 0; to = 1; metered = true; weight = 10; reading = pos 100 }
+          record { from = 0; to = 1; metered = true; weight = 10; reading = pos 100; ranged = false; low = pos 0; high = pos 0 }
           ∷ unmetered 1 2
           ∷ unmetered 1 2
-          ∷ record { from = 2; to = 0; metered = true; weight = 10; reading = pos 98 }
+          ∷ record { from = 2; to = 0; metered = true; weight = 10; reading = pos 98; ranged = false; low = pos 0; high = pos 0 }
           ∷ [];
     }
 

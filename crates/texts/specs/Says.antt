@@ -1,5 +1,7 @@
 -- What the call that lists a plant promises.
 use mathlib.Core.Path.{_≡_}
+use mathlib.Core.Bool.{Bool}
+use mathlib.Core.Logic.{_⊎_}
 use mathlib.Core.List.{List}
 use lib.IntN.{ℤ}
 use Prim.Native.Nat.{ℕ, _+_, _*_, _≤_}
@@ -10,6 +12,7 @@ use Rattle.plants.specs.Limits.{maxStreams}
 use Rattle.plants.specs.Plants.{Plant}
 use Rattle.plants.specs.Files.{Got, bad, got, readPlant}
 use Rattle.flows.specs.Flows.{Cheapest}
+use Rattle.flows.specs.Overfull.{Overfull}
 use Rattle.sheets.specs.Balances.{balanceOf}
 use Rattle.texts.specs.Listing.{listingOf, refusalText}
 
@@ -24,10 +27,17 @@ totalSize = 47
 abbrev pub leastText : ℕ
 leastText = maxStreams * lineSize + totalSize
 
--- The text of a refusal, or the listing of sheet 1 of the balance by a cheapest flow; the slice past it as it was.
+-- The listing of sheet 1 of the balance by a cheapest flow; or, where a set of places is overfull, the text of refusal 19. The slice
+-- past it is as it was.
+abbrev pub Listed : Plant → List ℕ → List ℕ → ℕ → Type 0
+Listed p o o′ r = (xs : List ℤ) × Cheapest p xs × Put (listingOf (length (p .streams)) 1 (balanceOf p xs)) o o′ r
+
+abbrev pub Overfilled : Plant → List ℕ → List ℕ → ℕ → Type 0
+Overfilled p o o′ r = (ms : List Bool) × Overfull p ms × Put (refusalText 19) o o′ r
+
 abbrev pub ListWith : Got → List ℕ → List ℕ → ℕ → Type 0
 ListWith (bad f) o o′ r = Put (refusalText f) o o′ r
-ListWith (got p) o o′ r = (xs : List ℤ) × Cheapest p xs × Put (listingOf (length (p .streams)) 1 (balanceOf p xs)) o o′ r
+ListWith (got p) o o′ r = Listed p o o′ r ⊎ Overfilled p o o′ r
 
 -- A slice that is too short: nothing, and the slice as it was.
 abbrev pub ListSays : List ℕ → List ℕ → List ℕ → ℕ → Type 0

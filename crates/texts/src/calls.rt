@@ -27,6 +27,10 @@ pub fn list_plant(file: &[u8], text: &mut [u8]) -> usize
         return put_refusal(number, text);
     }
     let plant = read.plant;
-    let balance = balance_of(plant);
+    let outcome = balance_of(plant);
+    if !outcome.found {
+        return put_refusal(19, text);
+    }
+    let balance = outcome.balance;
     put_listing(plant.count as usize, 1, balance, text)
 }

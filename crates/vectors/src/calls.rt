@@ -2,22 +2,32 @@
 // back, and the bytes of the slice.
 //
 // 1, the sheet call: handed in the last sheet number and the plant file.
-// 2, the plant reader: handed in the plant file; the count is the units, the number how many streams, and the slice, of 864
-//    bytes, gets the 96 streams.
+// 2, the plant reader: handed in the plant file; the count is the units, the number how many streams, and the slice, of
+//    1,632 bytes, gets the 96 streams.
 // 3, the plant writer: handed in the units, how many streams, and 96 streams; no number.
 // 4, the solver without a hint: handed in a byte for each of 96 streams, 0 where its flow is not compared, then the plant file; the
-//    slice, of 768 bytes, gets the flows in two's complement, 8 bytes each, 0 where not compared; no count, no number.
+//    slice, of 768 bytes, gets the flows in two's complement, 8 bytes each, 0 where not compared; no count, no number. Where no
+//    flow is in range, 19 is returned and the slice left alone.
 // 5, the listing: handed in the plant file; the count is the text's length; no number.
 // 6, the sheet reader: handed in the sheet; the count is how many streams, the number the sheet's, and the slice, of 874 bytes,
 //    gets cost (8), degrees, verdict and an entry for each stream.
 // 7, the translator: handed in the transmitter file; no number.
+// 8, the closing: handed in the 33 prices of the places as they are held, 8 bytes each; the slice, of 264 bytes, gets them after
+//    the closing; no count, no number.
 //
-// A stream is 9 bytes: metered (0 or 1), from, to, weight (2), reading (4, two's complement). An entry is 9 bytes: the kind of
-// its record, its flow (8, two's complement).
+// A stream is 17 bytes: 1 where it is metered and 2 where it has a range, added; from, to, weight (2); reading, low, high (4
+// each, two's complement). An entry is 9 bytes: the kind of its record, its flow (8, two's complement).
+//
+// The places that calls 1 and 4 mark stand in no case: they are tested here, and where they are wrong NO_CASE is returned.
+use crate::marking::marks_right;
+use closing::refloor;
+use model::Hint;
 use model::sizes::FLOW_SHIFT;
+use model::sizes::PRICE_SHIFT;
 use plants::Plant;
 use plants::Stream;
 use plants::limits::MAX_STREAMS;
+use plants::limits::PLACES;
 use plants::streams::unmetered_stream;
 use sheets::Entry;
 use sheets::Sheet;
@@ -25,6 +35,10 @@ use sheets::Total;
 ghost use mathlib.Core.Path.{_≡_};
 ghost use Prim.Native.Nat.{_≤_};
 ghost use lib.ListN.{length};
+ghost use Rattle.plants.specs.Limits.{places};
+ghost use Rattle.model.specs.Sizes.{priceShift};
+ghost use Rattle.model.specs.Model.{noHint};
+ghost use Rattle.model.specs.SearchNeeds.{Prices};
 
 // The results but for the slice. NO_CASE is returned for bytes that no case may hand in.
 const NO_CASE: u8 = 255;
@@ -34,30 +48,55 @@ fn done(number: u8, count: usize, back: u32) -> Sheet {
         number: number,
         written: count,
         last: back,
+        marked: [false; PLACES],
     }
 }
 
-// A stream's bytes are those of a metered stream's record, but for the first.
+// A sheet call, its marks tested.
+fn sheet(number: u32, given: &[u8], out: &mut [u8]) -> Sheet {
+    let drawn = sheet_calls::balance_plant(given, number, out);
+    let marked = drawn.marked;
+    if marks_right(drawn.number, given, marked) {
+        return drawn;
+    }
+    done(NO_CASE, 0, 0)
+}
+
+// 1 where it is metered and 2 where it has a range, added.
+fn marks(metered: bool, ranged: bool) -> u8 {
+    if metered {
+        if ranged {
+            return 3;
+        }
+        return 1;
+    }
+    if ranged {
+        return 2;
+    }
+    0
+}
+
+// A stream's bytes are those of a record with a range, but for the first.
 fn put_stream(s: Stream, out: &mut [u8])
-    requires { ⌜ 9 ≤ length (now out) ⌝ }
+    requires { ⌜ 17 ≤ length (now out) ⌝ }
 {
-    plant_writer::put_metered(s.from, s.to, s.weight, s.reading, out);
-    out[0] = s.metered as u8;
+    plant_writer::put_ranged(s, out);
+    out[0] = marks(s.metered, s.ranged);
 }
 
 fn put_streams(streams: [Stream; MAX_STREAMS], out: &mut [u8])
-    requires { ⌜ length (now out) ≡ 864 ⌝ }
+    requires { ⌜ length (now out) ≡ 1632 ⌝ }
 {
     let mut i: usize = 0;
     while i < MAX_STREAMS {
         let s = streams[i];
-        put_stream(s, &mut out[9 * i..]);
+        put_stream(s, &mut out[17 * i..]);
         i += 1;
     }
 }
 
 fn reader(given: &[u8], out: &mut [u8]) -> Sheet {
-    if out.len() != 864 {
+    if out.len() != 1632 {
         return done(NO_CASE, 0, 0);
     }
     let read = plant_reader::read_plant(given);
@@ -68,27 +107,32 @@ fn reader(given: &[u8], out: &mut [u8]) -> Sheet {
 }
 
 fn stream_of(part: &[u8]) -> Stream
-    requires { ⌜ 9 ≤ length (now part) ⌝ }
+    requires { ⌜ 17 ≤ length (now part) ⌝ }
 {
     let weight = numbers::get_u16(&part[3..]);
     let reading = numbers::get_i32(&part[5..]);
+    let low = numbers::get_i32(&part[9..]);
+    let high = numbers::get_i32(&part[13..]);
     Stream {
         from: part[1],
         to: part[2],
-        metered: part[0] != 0,
+        metered: part[0] % 2 != 0,
         weight: weight,
         reading: reading,
+        ranged: 2 <= part[0],
+        low: low,
+        high: high,
     }
 }
 
 fn streams_of(given: &[u8]) -> [Stream; MAX_STREAMS]
-    requires { ⌜ length (now given) ≡ 864 ⌝ }
+    requires { ⌜ length (now given) ≡ 1632 ⌝ }
 {
     let none = unmetered_stream(0, 0);
     let mut streams = [none; MAX_STREAMS];
     let mut i: usize = 0;
     while i < MAX_STREAMS {
-        let s = stream_of(&given[9 * i..]);
+        let s = stream_of(&given[17 * i..]);
         streams[i] = s;
         i += 1;
     }
@@ -96,7 +140,7 @@ fn streams_of(given: &[u8]) -> [Stream; MAX_STREAMS]
 }
 
 fn writer(given: &[u8], out: &mut [u8]) -> Sheet {
-    if given.len() != 866 {
+    if given.len() != 1634 {
         return done(NO_CASE, 0, 0);
     }
     let streams = streams_of(&given[2..]);
@@ -128,6 +172,24 @@ fn put_flows(flows: [u64; MAX_STREAMS], asked: &[u8], out: &mut [u8])
     }
 }
 
+// No hint: amounts and prices 0.
+fn no_hint() -> Hint
+    ensures { λ r. ⌜ r ≡ noHint ⌝ }
+{
+    Hint {
+        flows: [FLOW_SHIFT; MAX_STREAMS],
+        prices: [PRICE_SHIFT; PLACES],
+    }
+}
+
+// No flow in range, the marks tested.
+fn no_flow(file: &[u8], marked: [bool; PLACES]) -> Sheet {
+    if marks_right(19, file, marked) {
+        return done(19, 0, 0);
+    }
+    done(NO_CASE, 0, 0)
+}
+
 fn unhinted(given: &[u8], out: &mut [u8]) -> Sheet {
     if given.len() < MAX_STREAMS {
         return done(NO_CASE, 0, 0);
@@ -141,7 +203,11 @@ fn unhinted(given: &[u8], out: &mut [u8]) -> Sheet {
         return done(number, 0, 0);
     }
     let p = read.plant;
-    let solved = solver::solve_from(p, improving::hints::no_hint());
+    let solved = solver::solve_from(p, no_hint());
+    let marked = solved.marked;
+    if !solved.found {
+        return no_flow(&given[MAX_STREAMS..], marked);
+    }
     let flows = solved.flows;
     put_flows(flows, given, out);
     done(0, 0, 0)
@@ -195,16 +261,66 @@ fn translate(given: &[u8], out: &mut [u8]) -> Sheet {
     done(d.number, d.written, 0)
 }
 
+// A price as it is held: none is above PRICE_SHIFT.
+fn price_of(part: &[u8]) -> u64
+    requires { ⌜ 8 ≤ length (now part) ⌝ }
+    ensures { λ r. ⌜ r ≤ priceShift ⌝ }
+{
+    let price = numbers::get_u64(part);
+    if PRICE_SHIFT < price {
+        PRICE_SHIFT
+    } else {
+        price
+    }
+}
+
+fn prices_of(given: &[u8]) -> [u64; PLACES]
+    requires { ⌜ length (now given) ≡ 264 ⌝ }
+    ensures { λ r. ⌜ Prices r ⌝ }
+{
+    let mut prices = [PRICE_SHIFT; PLACES];
+    let mut u: usize = 0;
+    while u < PLACES {
+        prices[u] = price_of(&given[8 * u..]);
+        u += 1;
+    }
+    prices
+}
+
+fn put_prices(prices: [u64; PLACES], out: &mut [u8])
+    requires { ⌜ length (now out) ≡ 264 ⌝ }
+{
+    let mut u: usize = 0;
+    while u < PLACES {
+        numbers::put_u64(prices[u], &mut out[8 * u..]);
+        u += 1;
+    }
+}
+
+fn close_up(given: &[u8], out: &mut [u8]) -> Sheet {
+    if given.len() != 264 {
+        return done(NO_CASE, 0, 0);
+    }
+    if out.len() != 264 {
+        return done(NO_CASE, 0, 0);
+    }
+    let mut prices = prices_of(given);
+    refloor(&mut prices);
+    put_prices(prices, out);
+    done(0, 0, 0)
+}
+
 // The call of this kind.
 pub fn call(kind: u8, number: u32, given: &[u8], out: &mut [u8]) -> Sheet {
     match kind {
-        1 => sheet_calls::balance_plant(given, number, out),
+        1 => sheet(number, given, out),
         2 => reader(given, out),
         3 => writer(given, out),
         4 => unhinted(given, out),
         5 => done(0, texts::list_plant(given, out), 0),
         6 => kept(given, out),
         7 => translate(given, out),
+        8 => close_up(given, out),
         _ => done(NO_CASE, 0, 0),
     }
 }

@@ -13,9 +13,9 @@ ghost use Prim.Native.Nat.{_<_};
 ghost use lib.ListN.{length, take};
 ghost use Rattle.plants.specs.Limits.{places};
 ghost use Rattle.model.specs.Sizes.{searchRounds};
-ghost use Rattle.model.specs.Search.{rootAt, grownBy, grow, tightPath};
+ghost use Rattle.model.specs.Search.{rootAt, grownBy, sought, tightPath};
 ghost use Rattle.model.specs.Near.{goalAt, reducedBy};
-ghost use Rattle.model.specs.SearchNeeds.{Searching, Falling};
+ghost use Rattle.model.specs.SearchNeeds.{Searching};
 
 pub mod relaxing;
 pub mod walking;
@@ -34,8 +34,9 @@ fn reduce(prices: &mut [u64; PLACES], visited: &[bool; PLACES], dist: &[u64; PLA
     }
 }
 
-// Places are visited, each over the stream of least slack and with the prices lowered by it, until one with a negative net is.
-// (The walk goes over the lanes of the streams by distances, and the prices fall once, at its end.)
+// Places are visited, each over the stream of least slack and with the prices lowered by it, until one with a negative net is; where
+// none can be reached, the prices stay. (The walk goes over the lanes of the streams by distances, and the prices fall once, at its
+// end.)
 pub fn search(
     lanes: &[u64; LANES],
     flows: &[u64; MAX_STREAMS],
@@ -44,8 +45,8 @@ pub fn search(
     s: usize,
     delta: u64,
 ) -> Searched
-    requires { ⌜ Searching (now lanes) (now flows) (now prices) delta × (s < places) × Falling (now prices) delta ⌝ }
-    ensures { λ r. ⌜ ((w : Searching (now (lanes .entry)) (now (flows .entry)) (now (prices .entry)) delta) → grownBy (r .found) (r .tree) (now (prices .exit)) ≡ grow (take (w .n) (w .streams)) (w .n) (now (flows .entry)) (now (nets .entry)) delta searchRounds (now (prices .entry)) (rootAt s)) ⌝ }
+    requires { ⌜ Searching (now lanes) (now flows) (now prices) delta × (s < places) × (length (now prices) ≡ places) ⌝ }
+    ensures { λ r. ⌜ ((w : Searching (now (lanes .entry)) (now (flows .entry)) (now (prices .entry)) delta) → grownBy (r .found) (r .tree) (now (prices .exit)) ≡ sought (take (w .n) (w .streams)) (now (flows .entry)) (now (nets .entry)) (now (prices .entry)) delta s) ⌝ }
 {
     let w = walk(
         lanes,
@@ -60,11 +61,17 @@ pub fn search(
         },
     );
     let t = w.tree;
+    if !w.found {
+        return Searched {
+            found: false,
+            tree: t,
+        };
+    }
     let visited = t.visited;
     let dist = w.dist;
     reduce(prices, &visited, &dist, w.reach);
     Searched {
-        found: w.found,
+        found: true,
         tree: t,
     }
 }

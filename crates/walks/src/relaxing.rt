@@ -4,6 +4,7 @@ use lanes::before_at;
 use lanes::count_of;
 use lanes::end_at;
 use lanes::last_at;
+use lanes::open_at;
 use lanes::place_at;
 use lanes::pull_at;
 use lanes::slacks::gap;
@@ -12,6 +13,7 @@ use lanes::weight_at;
 use model::Quest;
 use model::Spot;
 use model::sizes::FAR;
+use model::sizes::FARTHEST;
 use model::sizes::NUMBERING;
 use plants::limits::MAX_STREAMS;
 use plants::limits::PLACES;
@@ -19,13 +21,42 @@ ghost use mathlib.Core.Bool.{true, false};
 ghost use mathlib.Core.Path.{_≡_};
 ghost use Prim.Native.Nat.{_+_, _*_, _<_};
 ghost use lib.ListN.{getD, length};
-ghost use Rattle.plants.specs.Limits.{places, maxStreams, maxWeight};
-ghost use Rattle.model.specs.Sizes.{mostStep, farthest};
+ghost use Rattle.plants.specs.Limits.{places, maxStreams};
+ghost use Rattle.model.specs.Sizes.{farthest};
 ghost use Rattle.model.specs.Rows.{countOf, startsOf, endsOf};
-ghost use Rattle.model.specs.Near.{gapsOf, codeOf, lessened, relaxedTo, nearestWithin};
+ghost use Rattle.model.specs.Near.{gapAt, gapsOf, codeOf, lessened, relaxedTo, nearestWithin};
 ghost use Rattle.model.specs.SearchNeeds.{Lanes};
 
-// The slack of stream i; 1 where it is metered and its number below skip.
+// The slack of stream i, FARTHEST where it cannot move.
+fn slack_at(
+    lanes: &[u64; LANES],
+    flows: &[u64; MAX_STREAMS],
+    prices: &[u64; PLACES],
+    q: Quest,
+    forwards: bool,
+    i: usize,
+) -> u64
+    requires { ⌜ Lanes (now lanes) (now flows) (now prices) (q .delta) (q .skip) × (i < countOf (now lanes)) ⌝ }
+    ensures { λ r. ⌜ r ≡ gapAt (now (lanes .entry)) (now (flows .entry)) (now (prices .entry)) (q .delta) forwards i ⌝ }
+{
+    let x = flows[i];
+    if !open_at(lanes, forwards, i, x, q.delta) {
+        return FARTHEST;
+    }
+    let u = start_at(lanes, i);
+    let v = end_at(lanes, i);
+    gap(
+        weight_at(lanes, i),
+        pull_at(lanes, i),
+        forwards,
+        x,
+        prices[u],
+        prices[v],
+        q.delta,
+    )
+}
+
+// The same; 1 where it is metered and its number below skip.
 pub fn gap_past(
     lanes: &[u64; LANES],
     flows: &[u64; MAX_STREAMS],
@@ -37,28 +68,17 @@ pub fn gap_past(
     requires { ⌜ Lanes (now lanes) (now flows) (now prices) (q .delta) (q .skip) × (i < countOf (now lanes)) ⌝ }
     ensures { λ r. ⌜ r ≡ getD (gapsOf (now (lanes .entry)) (now (flows .entry)) (now (prices .entry)) (q .delta) (q .skip) forwards) i 0 ⌝ }
 {
-    let w = weight_at(lanes, i);
-    if 0 < w {
-        if i < q.skip {
+    if i < q.skip {
+        if 0 < weight_at(lanes, i) {
             return 1;
         }
     }
-    let u = start_at(lanes, i);
-    let v = end_at(lanes, i);
-    gap(
-        w,
-        pull_at(lanes, i),
-        forwards,
-        flows[i],
-        prices[u],
-        prices[v],
-        q.delta,
-    )
+    slack_at(lanes, flows, prices, q, forwards, i)
 }
 
 // Place v is offered distance d over stream i.
 fn offer(near: &mut [u64; PLACES], v: usize, d: u64, i: usize)
-    requires { ⌜ (d < farthest + 2 * maxWeight * mostStep) × (v < places) × (i < maxStreams) × (length (now near) ≡ places) ⌝ }
+    requires { ⌜ (d < 2 * farthest) × (v < places) × (i < maxStreams) × (length (now near) ≡ places) ⌝ }
     ensures { λ _. ⌜ now (near .exit) ≡ lessened (now (near .entry)) v (codeOf d i) ⌝ }
 {
     let code = d * NUMBERING + i as u64;

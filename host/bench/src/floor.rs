@@ -1,9 +1,11 @@
-//! The floor: the real-number optimum of a plant by Cholesky factorisation of its weighted Laplacian.
+//! The floor: the real-number optimum of a plant by Cholesky factorisation of its weighted Laplacian; where it has ranges,
+//! by Newton's method, which factors such a Laplacian several times.
 //!
 //! Its flows are fractions, so they do not balance in whole numbers; unmetered streams get none. Places that unmetered
 //! streams join are one row; the outside's row is left out, its price is 0.
 
 use crate::engine::groups::group;
+use crate::engine::newton::real_prices;
 use crate::plants::{Stream, MAX_STREAMS, MAX_UNITS, PLACES};
 
 /// A pivot below this belongs to a piece without the outside, and its price is 0.
@@ -84,17 +86,21 @@ impl System {
     }
 }
 
-/// The flows of the metered streams, of least cost, that balance in real numbers.
-pub fn solve(streams: &[Stream], units: usize, flows: &mut [f64; MAX_STREAMS]) {
+/// The prices of the places at which the flows of a plant without ranges balance.
+fn prices_of(streams: &[Stream], units: usize) -> [f64; PLACES] {
     let (row, size) = rows_of(streams, units);
     let mut system = assemble(streams, &row, size);
     system.factor();
     system.substitute();
-    let price = |place: u8| match row[usize::from(place)] {
-        0 => 0.0,
-        r => system.prices[r - 1],
-    };
+    row.map(|r| if r == 0 { 0.0 } else { system.prices[r - 1] })
+}
+
+/// The flows of the metered streams, of least cost, that balance in real numbers and keep in range, where some do.
+pub fn solve(streams: &[Stream], units: usize, flows: &mut [f64; MAX_STREAMS]) {
+    let ranges = streams.iter().any(|s| s.ranged);
+    let prices = if ranges { real_prices(streams, units) } else { prices_of(streams, units) };
     for (flow, s) in flows.iter_mut().zip(streams).filter(|(_, s)| s.metered) {
-        *flow = s.reading as f64 + (price(s.to) - price(s.from)) * (0.5 / s.weight as f64);
+        let climb = prices[usize::from(s.to)] - prices[usize::from(s.from)];
+        *flow = (s.reading as f64 + climb * (0.5 / s.weight as f64)).clamp(s.low as f64, s.high as f64);
     }
 }

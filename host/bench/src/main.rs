@@ -5,8 +5,9 @@
 //!     wengeludo_bench --table BEFORE AFTER     the table of two files of such times, each of one run or several
 //!
 //! PLANTS   how many plants of each kind and size
-//! SECONDS  how long the search for bad plants runs
-//! FOLDER   where the plot of how cost grows (speed.svg) and the worst plant found (worst.bin) are written
+//! SECONDS  how long the search for bad plants runs, for each of the three aims
+//! FOLDER   where the plot of how cost grows (speed.svg) and the worst plants found (worst.bin, worst_ranges.bin,
+//!          most_improvements.bin) are written
 
 use std::process::exit;
 use wengeludo_bench::{compare, plot, report};
@@ -42,7 +43,9 @@ fn tables(plants: &str, seconds: &str, folder: Option<&str>) -> Result<(), Strin
     let found = report::worst(seconds);
     if let Some(folder) = folder {
         save(folder, "speed.svg", plot::svg(&growth).as_bytes())?;
-        save(folder, "worst.bin", &found.file())?;
+        for (name, plant) in ["worst.bin", "worst_ranges.bin", "most_improvements.bin"].iter().zip(&found) {
+            save(folder, name, &plant.file())?;
+        }
     }
     Ok(())
 }

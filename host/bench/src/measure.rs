@@ -1,6 +1,6 @@
 //! Times of one plant, and what a list of times comes to.
 
-use crate::engine::{self, Unwatched, Work};
+use crate::engine::{self, Back, Unwatched, Watch, Work};
 use crate::floor;
 use crate::plants::{Plant, MAX_STREAMS};
 use std::hint::black_box;
@@ -32,8 +32,8 @@ fn least(mut run: impl FnMut()) -> f64 {
 pub fn library(file: &[u8]) -> f64 {
     let mut sheet = [0; SHEET_SIZE];
     least(|| {
-        let (mut last, mut written) = (0, 0);
-        black_box(raw::balance_plant(black_box(file), &mut last, &mut sheet, &mut written));
+        let (mut last, mut written, mut marked) = (0, 0, 0);
+        black_box(raw::balance_plant(black_box(file), &mut last, &mut sheet, &mut written, &mut marked));
     })
 }
 
@@ -41,9 +41,15 @@ pub fn library(file: &[u8]) -> f64 {
 pub fn plain(file: &[u8]) -> f64 {
     let mut sheet = [0; SHEET_SIZE];
     least(|| {
-        let (mut last, mut written) = (0, 0);
-        black_box(engine::balance_plant(black_box(file), &mut last, &mut sheet, &mut written, &mut Unwatched));
+        black_box(plain_call(black_box(file), &mut 0, &mut sheet, &mut Unwatched));
     })
+}
+
+/// The plain engine's sheet call: the number returned, the bytes counted, the marked places.
+fn plain_call(file: &[u8], last: &mut u32, out: &mut [u8], watch: &mut impl Watch) -> (u8, usize, u64) {
+    let (mut written, mut marked) = (0, 0);
+    let number = engine::balance_plant(file, Back { last, out, written: &mut written, marked: &mut marked }, watch);
+    (number, written, marked)
 }
 
 /// The floor, from the listed streams to the flows.
@@ -55,17 +61,22 @@ pub fn floor(plant: &Plant) -> f64 {
 /// Stops where the plain engine's sheet is not the library's, byte for byte.
 pub fn compare(file: &[u8]) {
     let (mut ours, mut theirs) = ([0xA5; SHEET_SIZE], [0xA5; SHEET_SIZE]);
-    let (mut our_last, mut their_last, mut our_count, mut their_count) = (6, 6, 1, 2);
-    let number = raw::balance_plant(file, &mut our_last, &mut ours, &mut our_count);
-    let other = engine::balance_plant(file, &mut their_last, &mut theirs, &mut their_count, &mut Unwatched);
-    let same = (number, our_last, our_count) == (other, their_last, their_count) && ours == theirs;
+    let (mut our_last, mut their_last, mut count, mut marked) = (6, 6, 1, 1);
+    let number = raw::balance_plant(file, &mut our_last, &mut ours, &mut count, &mut marked);
+    let (other, other_count, other_marked) = plain_call(file, &mut their_last, &mut theirs, &mut Unwatched);
+    let same = (number, our_last, count, marked != 0) == (other, their_last, other_count, other_marked != 0) && ours == theirs;
     assert!(same, "a sheet that is not the library's, of {file:02X?}");
+}
+
+/// What the plain engine returns for a file.
+pub fn number(file: &[u8]) -> u8 {
+    plain_call(file, &mut 0, &mut [0; SHEET_SIZE], &mut Unwatched).0
 }
 
 /// The plain engine's work on a file.
 pub fn work(file: &[u8]) -> Work {
     let mut work = Work::new();
-    engine::balance_plant(file, &mut 0, &mut [0; SHEET_SIZE], &mut 0, &mut work);
+    plain_call(file, &mut 0, &mut [0; SHEET_SIZE], &mut work);
     work
 }
 

@@ -1,4 +1,6 @@
-//! Plants drawn from seeds: three kinds, any number of units and streams within the limits; and their files.
+//! Plants drawn from seeds: several kinds, any number of units and streams within the limits; and their files.
+
+mod ranges;
 
 use crate::draws::Draws;
 
@@ -7,15 +9,43 @@ pub const PLACES: usize = MAX_UNITS + 1;
 pub const MAX_STREAMS: usize = 96;
 pub const MAX_WEIGHT: i64 = 1_000;
 pub const MAX_READING: i64 = 4_000_000;
+pub const MAX_RANGE: i64 = 2_000_000_000;
 
-/// A stream; an unmetered one has weight and reading 0.
-#[derive(Clone, Copy, Debug, Default, PartialEq, Eq)]
+/// No amount goes farther than this.
+pub const MOST_FLOW: i64 = 1 << 46;
+
+/// A stream; an unmetered one has weight and reading 0. Where there is no range, low and high are as far as amounts go.
+#[derive(Clone, Copy, Debug, PartialEq, Eq)]
 pub struct Stream {
     pub from: u8,
     pub to: u8,
     pub metered: bool,
     pub weight: i64,
     pub reading: i64,
+    pub ranged: bool,
+    pub low: i64,
+    pub high: i64,
+}
+
+impl Default for Stream {
+    fn default() -> Stream {
+        Stream { from: 0, to: 0, metered: false, weight: 0, reading: 0, ranged: false, low: -MOST_FLOW, high: MOST_FLOW }
+    }
+}
+
+impl Stream {
+    pub fn unmetered(from: u8, to: u8) -> Stream {
+        Stream { from, to, ..Stream::default() }
+    }
+
+    pub fn metered(from: u8, to: u8, weight: i64, reading: i64) -> Stream {
+        Stream { metered: true, weight, reading, ..Stream::unmetered(from, to) }
+    }
+
+    /// The same with a range.
+    pub fn within(self, low: i64, high: i64) -> Stream {
+        Stream { ranged: true, low, high, ..self }
+    }
 }
 
 #[derive(Clone, Debug, PartialEq, Eq)]
@@ -32,16 +62,25 @@ pub enum Kind {
     Site,
     /// Equal weights and small readings: many flows cost the same.
     Ties,
+    /// Random extremes with ranges round a balanced flow.
+    Ranges,
+    /// A network with ranges of what its pipes can carry.
+    Pipes,
+    /// Random extremes with ranges that no balanced flow keeps.
+    Overfull,
 }
 
 impl Kind {
-    pub const ALL: [Kind; 3] = [Kind::Extremes, Kind::Site, Kind::Ties];
+    pub const ALL: [Kind; 6] = [Kind::Extremes, Kind::Site, Kind::Ties, Kind::Ranges, Kind::Pipes, Kind::Overfull];
 
     pub fn name(self) -> &'static str {
         match self {
             Kind::Extremes => "random extremes",
             Kind::Site => "as a site has them",
             Kind::Ties => "tie-rich",
+            Kind::Ranges => "ranges, random",
+            Kind::Pipes => "ranges, as a site has them",
+            Kind::Overfull => "ranges, none in them",
         }
     }
 }
@@ -53,6 +92,9 @@ pub fn draw(kind: Kind, units: usize, streams: usize, seed: u64) -> Plant {
         Kind::Extremes => extremes(&mut draws, units, streams),
         Kind::Site => site(&mut draws, units, streams),
         Kind::Ties => ties(&mut draws, units, streams),
+        Kind::Ranges => ranges::ranges(&mut draws, units, streams),
+        Kind::Pipes => ranges::pipes(&mut draws, units, streams),
+        Kind::Overfull => ranges::overfull(&mut draws, units, streams),
     }
 }
 
@@ -69,11 +111,11 @@ fn extremes(draws: &mut Draws, units: usize, count: usize) -> Plant {
     let stream = |draws: &mut Draws| {
         let (from, to) = two_places(draws, units);
         if draws.chance(unmetered) {
-            return Stream { from, to, ..Stream::default() };
+            return Stream::unmetered(from, to);
         }
         let reading =
             if draws.chance(edges) { draws.pick(&[-MAX_READING, MAX_READING]) } else { draws.between(-MAX_READING, MAX_READING) };
-        Stream { from, to, metered: true, weight: draws.between(1, MAX_WEIGHT), reading }
+        Stream::metered(from, to, draws.between(1, MAX_WEIGHT), reading)
     };
     let streams = (0..count).map(|_| stream(draws)).collect();
     Plant { units, streams }
@@ -86,9 +128,9 @@ fn ties(draws: &mut Draws, units: usize, count: usize) -> Plant {
     let stream = |draws: &mut Draws| {
         let (from, to) = two_places(draws, units);
         if draws.chance(unmetered) {
-            return Stream { from, to, ..Stream::default() };
+            return Stream::unmetered(from, to);
         }
-        Stream { from, to, metered: true, weight, reading: draws.between(-span, span) }
+        Stream::metered(from, to, weight, draws.between(-span, span))
     };
     let streams = (0..count).map(|_| stream(draws)).collect();
     Plant { units, streams }
@@ -144,6 +186,11 @@ fn balanced(draws: &mut Draws, units: usize, ends: &[(u8, u8)]) -> Vec<i64> {
 }
 
 fn site(draws: &mut Draws, units: usize, count: usize) -> Plant {
+    site_and_flow(draws, units, count).0
+}
+
+/// A site and the balanced flow that its readings lie near.
+fn site_and_flow(draws: &mut Draws, units: usize, count: usize) -> (Plant, Vec<i64>) {
     let ends = site_ends(draws, units, count);
     let amounts = balanced(draws, units, &ends);
     let weights = draws.pick(&[&[10][..], &[1, 4, 10, 40, 100], &[1_000, 250, 1], &[1, 1_000]]);
@@ -152,15 +199,15 @@ fn site(draws: &mut Draws, units: usize, count: usize) -> Plant {
     let stream = |draws: &mut Draws, i: usize| {
         let (from, to) = ends[i];
         if !draws.chance(metered) {
-            return Stream { from, to, ..Stream::default() };
+            return Stream::unmetered(from, to);
         }
         let weight = draws.pick(weights);
         let error = draws.normal() * (1_000.0 / weight as f64).sqrt() * if i == fault { 50.0 } else { 1.0 };
         let reading = (amounts[i] + error.round() as i64).clamp(-MAX_READING, MAX_READING);
-        Stream { from, to, metered: true, weight, reading }
+        Stream::metered(from, to, weight, reading)
     };
     let streams = (0..count).map(|i| stream(draws, i)).collect();
-    Plant { units, streams }
+    (Plant { units, streams }, amounts)
 }
 
 impl Plant {
@@ -169,9 +216,13 @@ impl Plant {
         let mut bytes = vec![0x01, self.units as u8];
         for s in &self.streams {
             if s.metered {
-                bytes.extend([0x02, s.from, s.to]);
+                bytes.extend([if s.ranged { 0x06 } else { 0x02 }, s.from, s.to]);
                 bytes.extend((s.weight as u16).to_be_bytes());
                 bytes.extend((s.reading as i32).to_be_bytes());
+                if s.ranged {
+                    bytes.extend((s.low as i32).to_be_bytes());
+                    bytes.extend((s.high as i32).to_be_bytes());
+                }
             } else {
                 bytes.extend([0x03, s.from, s.to]);
             }

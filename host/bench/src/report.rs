@@ -1,6 +1,6 @@
 //! The tables, in Markdown.
 
-use crate::climb::{climb, Worst};
+use crate::climb::{climb, Worst, AIMS};
 use crate::engine::{Phase, Work};
 use crate::measure::{self, summary, Summary, Times};
 use crate::plants::{draw, Kind, Plant};
@@ -67,12 +67,11 @@ fn ratio_row(kind: Kind, units: usize, streams: usize, times: &[Times]) -> Strin
 /// What the plain engine does on the plants of all kinds and sizes, and how long each phase takes.
 pub fn work(count: usize) {
     println!(
-        "\nThe plain engine's work, {count} plants of each kind and size: improvements left after the hint (mean, most of one \
-         plant), places labelled per improvement, streams looked at, how many plants fell back to the hint by steps; and the \
-         mean microseconds of each phase.\n"
+        "\nThe plain engine's work, {count} plants of each kind and size: improvements (mean, most of one plant), places labelled \
+         per search, streams looked at, how many plants went by phases; and the mean microseconds of each part.\n"
     );
     println!(
-        "| plants | units | streams | left | most | labelled | looked at | fell back \
+        "| plants | units | streams | improvements | most | labelled | looked at | by phases \
          | reading | hint | improvements | ties | classes | writing |"
     );
     println!("|---|---|---|---|---|---|---|---|---|---|---|---|---|---|");
@@ -86,14 +85,15 @@ pub fn work(count: usize) {
 
 fn work_cells(all: &[Work]) -> String {
     let mean = |of: &dyn Fn(&Work) -> f64| all.iter().map(of).sum::<f64>() / all.len() as f64;
-    let left = mean(&|w| w.left as f64);
-    let most = all.iter().map(|w| w.left).max().unwrap_or(0);
-    let labelled = if left > 0.0 { mean(&|w| w.left_rounds as f64) / left } else { 0.0 };
+    let improvements = mean(&|w| w.improvements as f64);
+    let most = all.iter().map(|w| w.improvements).max().unwrap_or(0);
+    let searches = mean(&|w| (w.improvements + w.stuck) as f64);
+    let labelled = if searches > 0.0 { mean(&|w| w.labelled as f64) / searches } else { 0.0 };
     let visits = mean(&|w| w.visits as f64);
     let fell_back = all.iter().filter(|w| w.fell_back).count();
     let phases = [Phase::Read, Phase::Hint, Phase::Improvements, Phase::Ties, Phase::Classes, Phase::Write];
     let phases = phases.map(|p| short(mean(&|w| w.phases[p as usize]))).join(" | ");
-    format!("{left:.1} | {most} | {labelled:.1} | {visits:.0} | {fell_back} | {phases}")
+    format!("{improvements:.1} | {most} | {labelled:.1} | {visits:.0} | {fell_back} | {phases}")
 }
 
 /// Medians by the number of streams.
@@ -124,21 +124,26 @@ pub fn growth(count: usize) -> Vec<Growth> {
     (1..=16).map(|k| at(6 * k)).collect()
 }
 
-/// The worst plant that climbing found, handed over.
-pub fn worst(seconds: f64) -> Plant {
+/// The worst plants that climbing found, one for each aim, handed over; so many seconds for each.
+pub fn worst(seconds: f64) -> Vec<Plant> {
     let (units, streams) = SIZES[2];
     println!(
-        "\nThe search for bad plants of {units} units and {streams} streams, {seconds} s; the worst plant by streams looked at \
-         and amounts moved, and its microseconds.\n"
+        "\nThe search for bad plants of {units} units and {streams} streams, {seconds} s for each aim: the plant with most work, \
+         streams looked at and amounts moved, or with most improvements; the number returned, and its microseconds.\n"
     );
     println!(
-        "| plants tried | looked at | moved | improvements | left | library | plain | floor | library / floor | plain / floor |"
+        "| sought | plants tried | looked at | moved | improvements | stuck | returned \
+         | library | plain | floor | library / floor | plain / floor |"
     );
-    println!("|---|---|---|---|---|---|---|---|---|---|");
-    let Worst { plant, work, tried } = climb(seconds);
-    let t = measure::times(&plant);
-    let work = format!("{} | {} | {} | {}", work.visits, work.pushes, work.improvements, work.left);
-    let times = [t.library, t.plain, t.floor, t.library / t.floor, t.plain / t.floor].map(short);
-    println!("| {tried} | {work} | {} |", times.join(" | "));
-    plant
+    println!("|---|---|---|---|---|---|---|---|---|---|---|---|");
+    let climbed = AIMS.map(|aim| {
+        let Worst { plant, work, tried } = climb(aim, seconds);
+        let t = measure::times(&plant);
+        let work = [work.visits, work.pushes, work.improvements, work.stuck, measure::number(&plant.file()).into()];
+        let work = work.map(|n| n.to_string()).join(" | ");
+        let times = [t.library, t.plain, t.floor, t.library / t.floor, t.plain / t.floor].map(short);
+        println!("| {} | {tried} | {work} | {} |", aim.name, times.join(" | "));
+        plant
+    });
+    climbed.into()
 }

@@ -37,7 +37,7 @@ mod sheet;
 mod transmitter;
 
 pub use plant::Plant;
-pub use refusal::Refusal;
+pub use refusal::{Places, Refusal};
 pub use sheet::{balance, balance_into, Record, Sheet, Verdict};
 pub use transmitter::{plant_from_transmitter, plant_from_transmitter_into, Transmitter};
 
@@ -45,7 +45,7 @@ pub use transmitter::{plant_from_transmitter, plant_from_transmitter_into, Trans
 pub const SHEET_SIZE: usize = 879;
 
 /// The least slice that the plant writer and the translator take; the longest plant file.
-pub const FILE_SIZE: usize = 868;
+pub const FILE_SIZE: usize = 1636;
 
 /// The most streams of a plant; the sheet reader takes slices of at least so many elements.
 pub const MAX_STREAMS: usize = 96;

@@ -22,6 +22,9 @@ pub struct Plant {
     metered: Vec<u8>,
     weight: Vec<u16>,
     reading: Vec<i32>,
+    ranged: Vec<u8>,
+    low: Vec<i32>,
+    high: Vec<i32>,
 }
 
 impl Plant {
@@ -32,20 +35,41 @@ impl Plant {
 
     /// Adds a metered stream: from, to, weight (1,000 divided by the variance, 1 to 1,000), reading in kg per hour.
     pub fn metered(self, from: u8, to: u8, weight: u16, reading: i32) -> Plant {
-        self.stream(from, to, 1, weight, reading)
+        self.stream(from, to, Some((weight, reading)), None)
+    }
+
+    /// Adds a metered stream whose corrected flow keeps within a range, from low to high, both included; each is from
+    /// -2,000,000,000 to 2,000,000,000, and low is at most high.
+    ///
+    /// ```
+    /// use wengeludo_balance::{balance, Plant, Record, Refusal};
+    /// let plant = Plant::new(1).metered_within(0, 1, 10, 100, 0, 98).metered(1, 0, 10, 104);
+    /// assert_eq!(balance(&plant.file()?, &mut 0)?.records, [Record::Adjusted(98), Record::Adjusted(98)]);
+    /// let file = Plant::new(1).metered_within(0, 1, 10, 7, -1, 9).file()?;
+    /// assert_eq!(file, [1, 1, 6, 0, 1, 0, 10, 0, 0, 0, 7, 255, 255, 255, 255, 0, 0, 0, 9, 4, 1]);
+    /// assert_eq!(Plant::new(1).metered_within(0, 1, 10, 7, 9, 8).file(), Err(Refusal::Range));
+    /// # Ok::<(), Refusal>(())
+    /// ```
+    pub fn metered_within(self, from: u8, to: u8, weight: u16, reading: i32, low: i32, high: i32) -> Plant {
+        self.stream(from, to, Some((weight, reading)), Some((low, high)))
     }
 
     /// Adds an unmetered stream.
     pub fn unmetered(self, from: u8, to: u8) -> Plant {
-        self.stream(from, to, 0, 0, 0)
+        self.stream(from, to, None, None)
     }
 
-    fn stream(mut self, from: u8, to: u8, metered: u8, weight: u16, reading: i32) -> Plant {
+    fn stream(mut self, from: u8, to: u8, meter: Option<(u16, i32)>, range: Option<(i32, i32)>) -> Plant {
+        let (weight, reading) = meter.unwrap_or_default();
+        let (low, high) = range.unwrap_or_default();
         self.from.push(from);
         self.to.push(to);
-        self.metered.push(metered);
+        self.metered.push(meter.is_some().into());
         self.weight.push(weight);
         self.reading.push(reading);
+        self.ranged.push(range.is_some().into());
+        self.low.push(low);
+        self.high.push(high);
         self
     }
 
@@ -73,6 +97,9 @@ impl Plant {
             metered: &self.metered,
             weight: &self.weight,
             reading: &self.reading,
+            ranged: &self.ranged,
+            low: &self.low,
+            high: &self.high,
         };
         let mut written = 0;
         Refusal::check(raw::write_plant(parts, file, &mut written))?;

@@ -10,6 +10,7 @@ extern "C" {
         sheet: *mut u8,
         sheet_length: usize,
         written: *mut usize,
+        marked: *mut u64,
     ) -> u8;
     fn wengeludo_write_plant(
         units: u8,
@@ -24,6 +25,12 @@ extern "C" {
         weight_length: usize,
         reading: *const i32,
         reading_length: usize,
+        ranged: *const u8,
+        ranged_length: usize,
+        low: *const i32,
+        low_length: usize,
+        high: *const i32,
+        high_length: usize,
         file: *mut u8,
         file_length: usize,
         written: *mut usize,
@@ -54,11 +61,12 @@ extern "C" {
 const _: () = assert!(usize::BITS == 64);
 
 /// The sheet call. 0: the sheet is at the front of `sheet`, `written` its length, `last` one higher. Another number: a
-/// refusal; `written` is 0, `sheet` and `last` are as they were.
-pub fn balance_plant(file: &[u8], last: &mut u32, sheet: &mut [u8], written: &mut usize) -> u8 {
+/// refusal; `written` is 0, `sheet` and `last` are as they were. 19 hands over marked places as well, bit u of `marked` for
+/// place u: they must take in more than they can let out. Every other call leaves 0 in `marked`.
+pub fn balance_plant(file: &[u8], last: &mut u32, sheet: &mut [u8], written: &mut usize, marked: &mut u64) -> u8 {
     // SAFETY: each pointer comes from a reference or a slice with its length, the borrows keep what is written apart
     // from all else, and the call asks nothing more of its arguments.
-    unsafe { wengeludo_balance_plant(file.as_ptr(), file.len(), last, sheet.as_mut_ptr(), sheet.len(), written) }
+    unsafe { wengeludo_balance_plant(file.as_ptr(), file.len(), last, sheet.as_mut_ptr(), sheet.len(), written, marked) }
 }
 
 /// The parts of a plant, one slice for each; stream k, counted from 1, stands at index k - 1 of each.
@@ -78,6 +86,12 @@ pub struct Parts<'a> {
     pub weight: &'a [u16],
     /// The meter's reading.
     pub reading: &'a [i32],
+    /// 0 for a stream without a range, any other number for a metered one with a range.
+    pub ranged: &'a [u8],
+    /// The least flow in range.
+    pub low: &'a [i32],
+    /// The greatest flow in range.
+    pub high: &'a [i32],
 }
 
 /// The plant writer. 0: the file is at the front of `file`, `written` its length. Another number: a refusal; `written`
@@ -99,6 +113,12 @@ pub fn write_plant(parts: Parts, file: &mut [u8], written: &mut usize) -> u8 {
             parts.weight.len(),
             parts.reading.as_ptr(),
             parts.reading.len(),
+            parts.ranged.as_ptr(),
+            parts.ranged.len(),
+            parts.low.as_ptr(),
+            parts.low.len(),
+            parts.high.as_ptr(),
+            parts.high.len(),
             file.as_mut_ptr(),
             file.len(),
             written,

@@ -3,83 +3,108 @@
 use std::error::Error;
 use std::fmt;
 
-/// Why a call was refused. A refused call leaves every slice and the counter as they were.
-#[derive(Clone, Copy, Debug, PartialEq, Eq, Hash)]
-#[repr(u8)]
-pub enum Refusal {
-    /// Sheet slice under 879 bytes; for the plant writer and the translator, slice under 868; for the sheet reader, a slice under
-    /// 96 elements.
-    SliceTooShort = 1,
-    /// Last sheet number is 4,294,967,295.
-    NoSheetNumber = 2,
-    /// Bytes end where a record is due or inside a body.
-    FileEnds = 3,
-    /// Kind not allowed at this place.
-    Kind = 4,
-    /// A 97th stream; for the writer, a stream count over 96.
-    TooManyStreams = 5,
-    /// The number of units is 0 or over 32.
-    Units = 6,
-    /// From or to above the number of units.
-    Place = 7,
-    /// From equals to.
-    SamePlace = 8,
-    /// Weight 0 or over 1,000.
-    Weight = 9,
-    /// Reading outside -4,000,000 to 4,000,000.
-    Reading = 10,
-    /// End count differs from the streams read.
-    EndCount = 11,
-    /// Bytes after the end record.
-    AfterEnd = 12,
-    /// In a sheet, a record is missing, cut short, a 97th or of a wrong kind.
-    SheetRecord = 13,
-    /// In a sheet, a field of the total is not allowed.
-    SheetTotal = 14,
-    /// In a sheet, bytes follow the total.
-    AfterTotal = 15,
-    /// A transmitter's value is not finite.
-    Value = 16,
-    /// A transmitter's deviation is no finite number above 0.
-    Deviation = 17,
+/// A set of places, the outside being place 0.
+#[derive(Clone, Copy, Debug, Default, PartialEq, Eq, Hash)]
+pub struct Places(pub(crate) u64);
+
+impl Places {
+    /// Whether a place is among them.
+    pub fn has(self, place: u8) -> bool {
+        place < 64 && self.0 >> place & 1 == 1
+    }
+
+    /// The places, in rising order.
+    pub fn iter(self) -> impl Iterator<Item = u8> {
+        (0..64).filter(move |&place| self.has(place))
+    }
 }
 
-const ALL: [(Refusal, &str); 17] = [
+/// Why a call was refused. A refused call leaves every slice and the counter as they were.
+#[derive(Clone, Copy, Debug, PartialEq, Eq, Hash)]
+pub enum Refusal {
+    /// Sheet slice under 879 bytes; for the plant writer and the translator, slice under 1,636; for the sheet reader, a slice under
+    /// 96 elements.
+    SliceTooShort,
+    /// Last sheet number is 4,294,967,295.
+    NoSheetNumber,
+    /// Bytes end where a record is due or inside a body.
+    FileEnds,
+    /// Kind not allowed at this place.
+    Kind,
+    /// A 97th stream; for the writer, a stream count over 96.
+    TooManyStreams,
+    /// The number of units is 0 or over 32.
+    Units,
+    /// From or to above the number of units.
+    Place,
+    /// From equals to.
+    SamePlace,
+    /// Weight 0 or over 1,000.
+    Weight,
+    /// Reading outside -4,000,000 to 4,000,000.
+    Reading,
+    /// End count differs from the streams read.
+    EndCount,
+    /// Bytes after the end record.
+    AfterEnd,
+    /// In a sheet, a record is missing, cut short, a 97th or of a wrong kind.
+    SheetRecord,
+    /// In a sheet, a field of the total is not allowed.
+    SheetTotal,
+    /// In a sheet, bytes follow the total.
+    AfterTotal,
+    /// A transmitter's value is not finite.
+    Value,
+    /// A transmitter's deviation is no finite number above 0.
+    Deviation,
+    /// Low above high, or either outside -2,000,000,000 to 2,000,000,000.
+    Range,
+    /// No balanced flow lies within all ranges. The places marked must take in more than they can let out: every stream
+    /// across their edge has a range, and the lows in sum to more than the highs out.
+    NoFlow(Places),
+}
+
+/// Number and text of each refusal.
+const ALL: [(u8, Refusal, &str); 19] = [
     (
+        1,
         Refusal::SliceTooShort,
-        "a slice is too short: 879 bytes for a sheet, 868 for a plant file, 96 elements for the sheet reader",
+        "a slice is too short: 879 bytes for a sheet, 1,636 for a plant file, 96 elements for the sheet reader",
     ),
-    (Refusal::NoSheetNumber, "last sheet number is 4,294,967,295"),
-    (Refusal::FileEnds, "bytes end where a record is due or inside a body"),
-    (Refusal::Kind, "kind not allowed at this place"),
-    (Refusal::TooManyStreams, "a 97th stream; for the writer, a stream count over 96"),
-    (Refusal::Units, "n is 0 or over 32"),
-    (Refusal::Place, "from or to above n"),
-    (Refusal::SamePlace, "from equals to"),
-    (Refusal::Weight, "weight 0 or over 1,000"),
-    (Refusal::Reading, "reading outside its range"),
-    (Refusal::EndCount, "end count differs from the streams read"),
-    (Refusal::AfterEnd, "bytes after the end record"),
-    (Refusal::SheetRecord, "a sheet's record is missing, cut short, a 97th or of a wrong kind"),
-    (Refusal::SheetTotal, "a field of a sheet's total is not allowed"),
-    (Refusal::AfterTotal, "bytes after a sheet's total"),
-    (Refusal::Value, "a value is not finite"),
-    (Refusal::Deviation, "a deviation is no finite number above 0"),
+    (2, Refusal::NoSheetNumber, "last sheet number is 4,294,967,295"),
+    (3, Refusal::FileEnds, "bytes end where a record is due or inside a body"),
+    (4, Refusal::Kind, "kind not allowed at this place"),
+    (5, Refusal::TooManyStreams, "a 97th stream; for the writer, a stream count over 96"),
+    (6, Refusal::Units, "n is 0 or over 32"),
+    (7, Refusal::Place, "from or to above n"),
+    (8, Refusal::SamePlace, "from equals to"),
+    (9, Refusal::Weight, "weight 0 or over 1,000"),
+    (10, Refusal::Reading, "reading outside its range"),
+    (11, Refusal::EndCount, "end count differs from the streams read"),
+    (12, Refusal::AfterEnd, "bytes after the end record"),
+    (13, Refusal::SheetRecord, "a sheet's record is missing, cut short, a 97th or of a wrong kind"),
+    (14, Refusal::SheetTotal, "a field of a sheet's total is not allowed"),
+    (15, Refusal::AfterTotal, "bytes after a sheet's total"),
+    (16, Refusal::Value, "a value is not finite"),
+    (17, Refusal::Deviation, "a deviation is no finite number above 0"),
+    (18, Refusal::Range, "low above high, or either outside its limits"),
+    (19, Refusal::NoFlow(Places(0)), "no balanced flow lies within all ranges"),
 ];
 
 impl Refusal {
+    fn entry(self) -> (u8, Refusal, &'static str) {
+        let bare = if let Refusal::NoFlow(_) = self { Refusal::NoFlow(Places(0)) } else { self };
+        *ALL.iter().find(|entry| entry.1 == bare).expect("every refusal is in the table")
+    }
+
     /// The refusal's number.
     pub fn number(self) -> u8 {
-        self as u8
+        self.entry().0
     }
 
-    /// The refusal of a number; none for 0, which is no refusal, and for a number that no call returns.
+    /// The refusal of a number, 19 without its places; none for 0, which is no refusal, and for a number that is not given.
     pub fn from_number(number: u8) -> Option<Refusal> {
-        ALL.iter().map(|entry| entry.0).find(|refusal| refusal.number() == number)
-    }
-
-    fn text(self) -> &'static str {
-        ALL.iter().find(|entry| entry.0 == self).map_or("", |entry| entry.1)
+        ALL.iter().find(|entry| entry.0 == number).map(|entry| entry.1)
     }
 
     /// What a call returned: 0, or a refusal.
@@ -89,11 +114,25 @@ impl Refusal {
             Some(refusal) => Err(refusal),
         }
     }
+
+    /// What a sheet call returned, and the places that it marked.
+    pub(crate) fn check_marked(number: u8, marked: u64) -> Result<(), Refusal> {
+        match Refusal::check(number) {
+            Err(Refusal::NoFlow(_)) => Err(Refusal::NoFlow(Places(marked))),
+            other => other,
+        }
+    }
 }
 
 impl fmt::Display for Refusal {
     fn fmt(&self, f: &mut fmt::Formatter<'_>) -> fmt::Result {
-        write!(f, "refused {}: {}", self.number(), self.text())
+        let (number, _, text) = self.entry();
+        write!(f, "refused {number}: {text}")?;
+        if let Refusal::NoFlow(marked) = self {
+            let places: Vec<String> = marked.iter().map(|place| place.to_string()).collect();
+            write!(f, "; too much goes into places {}", places.join(", "))?;
+        }
+        Ok(())
     }
 }
 
@@ -105,17 +144,31 @@ mod tests {
 
     #[test]
     fn numbers_there_and_back() {
-        for number in 1..=17 {
-            assert_eq!(Refusal::from_number(number).unwrap().number(), number);
+        for (number, refusal, _) in ALL {
+            assert_eq!(Refusal::from_number(number), Some(refusal));
+            assert_eq!(refusal.number(), number);
         }
-        for number in [0, 18, 255] {
+        for number in [0, 20, 255] {
             assert_eq!(Refusal::from_number(number), None);
         }
+        assert_eq!(Refusal::NoFlow(Places(5)).number(), 19);
     }
 
     #[test]
     fn message() {
         assert_eq!(Refusal::SamePlace.to_string(), "refused 8: from equals to");
         assert_eq!(Refusal::Value.to_string(), "refused 16: a value is not finite");
+        assert_eq!(Refusal::Range.to_string(), "refused 18: low above high, or either outside its limits");
+        let none = Refusal::check_marked(19, 0b101).unwrap_err();
+        let text = "refused 19: no balanced flow lies within all ranges; too much goes into places 0, 2";
+        assert_eq!(none.to_string(), text);
+        assert_eq!(Refusal::check_marked(8, 0), Err(Refusal::SamePlace));
+    }
+
+    #[test]
+    fn places() {
+        let places = Places(1 << 32 | 5);
+        assert_eq!(places.iter().collect::<Vec<_>>(), [0, 2, 32]);
+        assert!(!places.has(1) && !places.has(64));
     }
 }

@@ -10,7 +10,7 @@ use std::fmt;
 pub enum Record {
     /// A: metered and corrected.
     Adjusted(i64),
-    /// R: metered, and its flow is its reading.
+    /// R: metered, and its flow is its reading, or the nearest value in range to it.
     AsRead(i64),
     /// G: unmetered, and the metered flows force its flow.
     Given(i64),
@@ -56,7 +56,7 @@ pub struct Sheet {
     pub records: Vec<Record>,
     /// The sheet's number.
     pub number: u32,
-    /// The cost, in thousandths.
+    /// The cost, in thousandths; one above the greatest number of 64 bits is written as that number.
     pub cost: u64,
     /// The degrees.
     pub degrees: u8,
@@ -121,10 +121,14 @@ impl fmt::Display for Sheet {
 /// and as it was where the call is refused.
 ///
 /// ```
-/// use wengeludo_balance::{balance, Refusal};
+/// use wengeludo_balance::{balance, Plant, Refusal};
 /// let mut last = 7;
 /// assert_eq!(balance(&[1, 1, 4, 1], &mut last), Err(Refusal::EndCount));
 /// assert_eq!(last, 7);
+/// let Err(Refusal::NoFlow(marked)) = balance(&Plant::new(1).metered_within(0, 1, 10, 5, 1, 9).file()?, &mut last) else {
+///     panic!("a dead end that takes in 1 at least");
+/// };
+/// assert!(marked.has(1) && !marked.has(0));
 /// assert_eq!(balance(&[1, 1, 4, 0], &mut last)?.to_string(), "total 8 0 0 none\n");
 /// # Ok::<(), Refusal>(())
 /// ```
@@ -137,7 +141,8 @@ pub fn balance(file: &[u8], last: &mut u32) -> Result<Sheet, Refusal> {
 /// Balances a plant file into a slice of at least [`SHEET_SIZE`] bytes, and says how many the sheet takes. The bytes past
 /// it keep their values; where the call is refused, all do. Nothing is allocated.
 pub fn balance_into(file: &[u8], last: &mut u32, sheet: &mut [u8]) -> Result<usize, Refusal> {
-    let mut written = 0;
-    Refusal::check(raw::balance_plant(file, last, sheet, &mut written))?;
+    let (mut written, mut marked) = (0, 0);
+    let number = raw::balance_plant(file, last, sheet, &mut written, &mut marked);
+    Refusal::check_marked(number, marked)?;
     Ok(written)
 }

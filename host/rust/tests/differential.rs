@@ -1,6 +1,7 @@
 //! The engine against the reference: drawn plants, damaged files, edges of the call, parts for the writer, kept and damaged sheets.
 //!
-//! On each input: the returned number, every byte of the slice with guard bytes round it, the counter, `written`.
+//! On each input: the returned number, every byte of the slice with guard bytes round it, the counter, `written`; the marked
+//! places of a refusal 19 are tested, and no other call marks one.
 //! A difference is shrunk, and the smallest input found is printed.
 //!
 //! WENGELUDO_INPUTS   how many inputs (default 100,000)
@@ -13,40 +14,44 @@ mod shrink;
 mod transmitters;
 
 use draw::{Call, Draw, Reopen, Write};
-use reference::{Outcome, Stream};
+use reference::{overfull, read, Outcome, Stream};
 use std::sync::atomic::{AtomicU64, Ordering};
 use wengeludo_balance::raw::{self, Parts, Total};
 
 const GUARD: usize = 64;
 
+/// The refusals of the sheet call.
+const REFUSALS: [usize; 14] = [1, 2, 3, 4, 5, 6, 7, 8, 9, 10, 11, 12, 18, 19];
+
 // Where outcomes are counted: those of the sheet call by their number, the writer's calls, those of the sheet reader by theirs.
-const WRITER: usize = 13;
-const READER: usize = 14;
+const WRITER: usize = 20;
+const READER: usize = 21;
 const OUTCOMES: usize = READER + 16;
 
 /// Runs a call on a slice with guard bytes round it; the outcome has the slice's bytes, and the guards are compared here.
-fn guarded(slice: &[u8], call: impl FnOnce(&mut [u8], &mut usize) -> (u8, u32)) -> Result<Outcome, String> {
+fn guarded(slice: &[u8], call: impl FnOnce(&mut [u8], &mut usize) -> (u8, u32, u64)) -> Result<Outcome, String> {
     let guard = |i: usize| (i as u8).wrapping_mul(37) ^ 0xA5;
     let mut memory: Vec<u8> = (0..GUARD).map(guard).collect();
     memory.extend(slice);
     memory.extend((0..GUARD).map(guard));
     let end = GUARD + slice.len();
     let mut written = 0xDEAD_BEEF;
-    let (returned, last) = call(&mut memory[GUARD..end], &mut written);
+    let (returned, last, marked) = call(&mut memory[GUARD..end], &mut written);
     for i in 0..GUARD {
         if memory[i] != guard(i) || memory[end + i] != guard(i) {
             return Err(format!("guard byte {i} changed"));
         }
     }
-    Ok(Outcome { returned, written, last, slice: memory[GUARD..end].to_vec() })
+    Ok(Outcome { returned, written, last, slice: memory[GUARD..end].to_vec(), marked })
 }
 
 /// The engine's sheet call.
 fn engine(call: &Call) -> Result<Outcome, String> {
     let file = call.file.clone();
     let outcome = guarded(&call.slice, |sheet, written| {
-        let mut last = call.last;
-        (raw::balance_plant(&file, &mut last, sheet, written), last)
+        let (mut last, mut marked) = (call.last, u64::MAX);
+        let returned = raw::balance_plant(&file, &mut last, sheet, written, &mut marked);
+        (returned, last, marked)
     })?;
     if file != call.file {
         return Err("the file changed".into());
@@ -71,22 +76,41 @@ fn compare(found: Result<Outcome, String>, expected: &Outcome) -> Result<(), Str
     }
 }
 
-fn sheet_difference(run: &dyn Fn(&Call) -> Result<Outcome, String>, call: &Call) -> Result<(), String> {
-    compare(run(call), &reference::sheet_call(&call.file, call.last, &call.slice))
+/// The marked places of a refusal 19 must take in more than they can let out; no other call marks a place.
+fn marks_right(file: &[u8], returned: u8, marked: u64) -> Result<(), String> {
+    let right = match read(file) {
+        Ok(plant) if returned == 19 => overfull(&plant, marked),
+        _ => marked == 0,
+    };
+    if right {
+        Ok(())
+    } else {
+        Err(format!("marked places {marked:#x}"))
+    }
+}
+
+fn sheet_difference(run: &dyn Fn(&Call) -> Result<Outcome, String>, call: &Call) -> Result<u8, String> {
+    let expected = reference::sheet_call(&call.file, call.last, &call.slice);
+    let found = run(call)?;
+    let (returned, marked) = (found.returned, found.marked);
+    compare(Ok(found), &expected)?;
+    marks_right(&call.file, returned, marked)?;
+    Ok(returned)
 }
 
 fn write_difference(w: &Write) -> Result<(), String> {
-    let reach = [w.from.len(), w.to.len(), w.metered.len(), w.weight.len(), w.reading.len()].into_iter().min().unwrap();
+    let reach = w.lengths().into_iter().min().unwrap();
     let streams: Vec<Option<Stream>> = (0..w.count.min(96))
         .map(|k| {
             (k < reach).then(|| Stream {
                 from: w.from[k].into(),
                 to: w.to[k].into(),
                 meter: (w.metered[k] != 0).then(|| (w.weight[k], w.reading[k])),
+                range: (w.ranged[k] != 0).then(|| (w.low[k], w.high[k])),
             })
         })
         .collect();
-    let mut expected = Outcome { returned: 0, written: 0, last: 0, slice: w.slice.clone() };
+    let mut expected = Outcome { returned: 0, written: 0, last: 0, slice: w.slice.clone(), marked: 0 };
     match reference::write(w.units, w.count, &streams, &w.slice) {
         Err(number) => expected.returned = number,
         Ok(file) => {
@@ -102,8 +126,11 @@ fn write_difference(w: &Write) -> Result<(), String> {
         metered: &w.metered,
         weight: &w.weight,
         reading: &w.reading,
+        ranged: &w.ranged,
+        low: &w.low,
+        high: &w.high,
     };
-    compare(guarded(&w.slice, |file, written| (raw::write_plant(parts, file, written), 0)), &expected)
+    compare(guarded(&w.slice, |file, written| (raw::write_plant(parts, file, written), 0, 0)), &expected)
 }
 
 /// What the sheet reader must hand over, the number first.
@@ -209,33 +236,36 @@ fn engine_and_reference_agree() {
                     counts[WRITER].fetch_add(1, Ordering::Relaxed);
                 } else {
                     let call = draw.call();
-                    let expected = reference::sheet_call(&call.file, call.last, &call.slice);
-                    if let Err(difference) = compare(engine(&call), &expected) {
-                        let small = shrink::smallest(call, &shrink::simpler_calls, &|c| sheet_difference(&engine, c).is_err());
-                        let again = sheet_difference(&engine, &small).unwrap_err();
-                        panic!("seed {}: {difference}\nsmallest input found: {again}\n{small}", seed + k);
-                    }
-                    counts[usize::from(expected.returned)].fetch_add(1, Ordering::Relaxed);
+                    match sheet_difference(&engine, &call) {
+                        Ok(returned) => counts[usize::from(returned)].fetch_add(1, Ordering::Relaxed),
+                        Err(difference) => {
+                            let differs = |c: &Call| sheet_difference(&engine, c).is_err();
+                            let small = shrink::smallest(call, &shrink::simpler_calls, &differs);
+                            let again = sheet_difference(&engine, &small).unwrap_err();
+                            panic!("seed {}: {difference}\nsmallest input found: {again}\n{small}", seed + k);
+                        }
+                    };
                 }
             });
         }
     });
     let count = |i: usize| counts[i].load(Ordering::Relaxed);
-    let refusals: Vec<String> = (1..=12).map(|i| format!("{i}: {}", count(i))).collect();
+    let refusals: Vec<String> = REFUSALS.map(|i| format!("{i}: {}", count(i))).into();
     println!("{inputs} inputs from seed {seed}, no difference");
     println!("sheets: {}; refusals {}; calls of the writer: {}", count(0), refusals.join(", "), count(WRITER));
     let reopened: Vec<String> = [1, 13, 14, 15].iter().map(|i| format!("{i}: {}", count(READER + i))).collect();
     println!("sheets read back in: {}; refusals {}", count(READER), reopened.join(", "));
     if inputs >= 100_000 {
-        let all = (0..=WRITER).chain([0, 1, 13, 14, 15].map(|i| READER + i));
+        let all = [0, WRITER].into_iter().chain(REFUSALS).chain([0, 1, 13, 14, 15].map(|i| READER + i));
         assert!(all.into_iter().all(|i| count(i) > 0), "some outcome never came up");
     }
 }
 
 #[test]
 fn plants_to_try() {
-    let m = |from, to, weight, reading| Stream { from, to, meter: Some((weight, reading)) };
-    let u = |from, to| Stream { from, to, meter: None };
+    let m = |from, to, weight, reading| Stream { from, to, meter: Some((weight, reading)), range: None };
+    let within = |s: Stream, low, high| Stream { range: Some((low, high)), ..s };
+    let u = |from, to| Stream { from, to, ..Stream::default() };
     let cases: Vec<(u8, Vec<Stream>, &str)> = vec![
         (1, vec![m(0, 1, 10, 103), m(1, 0, 10, 60), m(1, 0, 10, 40)], "1 A 102\n2 A 61\n3 A 41\ntotal 1 30 1 pass\n"),
         (1, vec![m(0, 1, 10, 101), m(1, 0, 10, 60), m(1, 0, 10, 40)], "1 A 100\n2 A 60\n3 A 40\ntotal 1 10 1 pass\n"),
@@ -246,12 +276,20 @@ fn plants_to_try() {
         (1, vec![m(0, 1, 1, 61)], "1 A 0\ntotal 1 3721 1 pass\n"),
         (1, vec![m(0, 1, 1, 62)], "1 A 0\ntotal 1 3844 1 fail\n"),
         (1, vec![], "total 1 0 0 none\n"),
+        // An end blocks the tie, the nearest value in range is shown, a cost beyond 64 bits is capped.
+        (1, vec![within(m(0, 1, 10, 100), 102, 105), m(1, 0, 10, 103)], "1 A 102\n2 A 102\ntotal 1 50 1 pass\n"),
+        (1, vec![within(m(0, 1, 10, 100), -5, 7), u(1, 0)], "1 R 7\n2 G 7\ntotal 1 86490 0 none\n"),
+        (
+            1,
+            vec![within(m(0, 1, 1000, 0), 2_000_000_000, 2_000_000_000), m(1, 0, 1000, 0)],
+            "1 A 2000000000\n2 A 2000000000\ntotal 1 18446744073709551615 1 fail\n",
+        ),
     ];
     for (units, streams, listing) in cases {
         let plant = reference::Listed { units, streams };
         let sheet = wengeludo_balance::balance(&reference::file_of(&plant), &mut 0).unwrap();
         assert_eq!(sheet.to_string(), listing);
-        let bytes = reference::sheet_of(&plant, 1);
+        let bytes = reference::sheet_of(&plant, 1).unwrap();
         assert_eq!(wengeludo_balance::Sheet::from_bytes(&bytes), Ok(sheet));
     }
 }
@@ -274,5 +312,5 @@ fn a_difference_is_shrunk() {
     let small = shrink::smallest(found, &shrink::simpler_calls, &differs);
     let plant = reference::read(&small.file).unwrap();
     assert_eq!((plant.streams.len(), plant.units), (3, 1), "not shrunk:\n{small}");
-    assert!(plant.streams.iter().all(|s| s.meter == Some((1, 0))), "not shrunk:\n{small}");
+    assert!(plant.streams.iter().all(|s| s.meter == Some((1, 0)) && s.range.is_none()), "not shrunk:\n{small}");
 }

@@ -2,7 +2,7 @@
 use borrow.Author.Needs.{needs}
 use native.Mathlib.Omega.{arith}
 use mathlib.Core.Path.{_≡_, refl, ap, _∙_}
-use lib.IntN.{pos}
+use lib.IntN.{ℤ, pos}
 use Prim.Native.Nat.{_-_}
 use lib.ListN.{getD}
 use mir.Syntax.{w64}
@@ -10,8 +10,9 @@ use mir.Val.{SFits, toZ, ofZ}
 use mir.Facts.{toZ-ofZ}
 use Rattle.plants.specs.Plants.{noStream}
 use Rattle.flows.specs.Flows.{amountAt}
+use Rattle.sheets.specs.Apart.{capped}
 use Rattle.sheets.specs.Calls.{streamCost}
-use Rattle.sheets.proofs.Costing.{Costed, Summed, summed-none, next-fits, sum-fits, summed-more, summed-all}
+use Rattle.sheets.proofs.Costing.{Costed, Summed, summed-none, next-fits, summed-more, summed-all}
 use Rattle.balances.proofs.cost_of.Statement.{statement}
 use Rattle.balances.proofs.cost_of.Tie as tie
 
@@ -25,7 +26,7 @@ cast-n : tie.Need-cast-n Inv-loop μ-loop
 cast-n c = search needs
 
 loop-holds : tie.Need-loop-holds Inv-loop μ-loop
-loop-holds c = (record { accepted = c .pre .0; amounts = search needs; fits = c .pre .1 }, refl, summed-none (c .args .t1) (c .args .t2))
+loop-holds c = (record { accepted = c .pre .0; amounts = search needs; small = c .pre .1 }, refl, summed-none (c .args .t1) (c .args .t2))
 
 mul-s : tie.Need-mul-s Inv-loop μ-loop
 mul-s c = search needs
@@ -54,11 +55,11 @@ stream-cost-requires c κs =
 
 -- What it costs.
 costs : (c : tie.After-stream-cost Inv-loop μ-loop)
-    → c .stream-cost .result ≡ streamCost (getD (c .before .before .before .before .before .args .t1 .streams) (c .before .before .before .before .loop .i) noStream) (amountAt (c .before .before .before .before .before .args .t2) (c .before .before .before .before .loop .i))
-costs c = c .stream-cost .ensures ∙ ap (streamCost (getD (c .before .before .before .before .before .args .t1 .streams) (c .before .before .before .before .loop .i) noStream)) (flow-is (c .before))
+    → c .stream-cost .result ≡ capped (streamCost (getD (c .before .before .before .before .before .args .t1 .streams) (c .before .before .before .before .loop .i) noStream) (amountAt (c .before .before .before .before .before .args .t2) (c .before .before .before .before .loop .i)))
+costs c = c .stream-cost .ensures ∙ ap (λ (x : ℤ). capped (streamCost (getD (c .before .before .before .before .before .args .t1 .streams) (c .before .before .before .before .loop .i) noStream) x)) (flow-is (c .before))
 
-add-sum : tie.Need-add-sum Inv-loop μ-loop
-add-sum c = let v = c .before .before .before .before .loop .inv in omega (arith, costs c, sum-fits (v .0) (v .2) (omega arith))
+capped-sum-requires : tie.Need-capped-sum-requires Inv-loop μ-loop
+capped-sum-requires c κs = search needs
 
 add-i : tie.Need-add-i Inv-loop μ-loop
 add-i c = search needs
@@ -68,8 +69,8 @@ loop-less c = search needs
 
 loop-again : tie.Need-loop-again Inv-loop μ-loop
 loop-again c =
-    let v = c .before .before .before .before .loop .inv in
-    (v .0, v .1, summed-more (v .0) (v .2) (omega arith) _ (costs c))
+    let v = c .before .before .before .before .before .loop .inv in
+    (v .0, v .1, summed-more (v .0) (v .2) (omega arith) _ _ (costs (c .before)) (c .capped-sum .ensures))
 
 returns : tie.Need-returns Inv-loop μ-loop
 returns c = summed-all (c .before .loop .inv .0) (c .before .loop .inv .2) (omega arith)
@@ -87,7 +88,7 @@ cost-of-spec =
     mul-stream-cost
     array-copy-out-stream-cost
     stream-cost-requires
-    add-sum
+    capped-sum-requires
     add-i
     loop-less
     loop-again

@@ -1,16 +1,13 @@
--- Weight times the size of the correction squared.
+-- Weight times the size of the correction squared, as it is written.
 use borrow.Author.Needs.{needs}
-use native.Mathlib.Omega.{arith}
 use mathlib.Core.Path.{_≡_, ap, _∙_}
 use lib.IntN.{ℤ, natAbs, _-ℤ_}
-use Prim.Native.Nat.{ℕ, _*_, _≤_}
 use mir.Syntax.{w32, w64}
 use mir.Val.{SFits, toZ, ofZ}
 use mir.ValLaws.{toZ-ofZ}
 use borrow.Author.Tests.{not-true, not-false}
 use Rattle.model.proofs.Weights.{wide}
-use Rattle.sheets.specs.Calls.{streamCost, mostCost}
-use Rattle.sheets.proofs.Costing.{unmetered-cost, metered-cost, cost-small, square-small, correction-fits, correction-is}
+use Rattle.sheets.proofs.Costing.{unmetered-cost, metered-cost, correction-fits, correction-is}
 use Rattle.balances.proofs.stream_cost.Statement.{statement}
 use Rattle.balances.proofs.stream_cost.Tie as tie
 
@@ -31,37 +28,31 @@ sub-size-of : tie.Need-sub-size-of
 sub-size-of c =
     let s = c .before .before .before .before .args .s in
     let x = c .before .before .before .before .args .flow in
-    rw (correction-is x (s .reading) (c .before .before .before .before .fits .flow) (reads (c .before .before .before .before)))
-    (correction-fits s x (not-false (s .metered) (c .before .before .if1 .left)) (c .before .before .before .before .pre))
+    let f = reads (c .before .before .before .before) in
+    rw (correction-is x (s .reading) (c .before .before .before .before .fits .flow) f) (correction-fits x (s .reading) (c .before .before .before .before .pre .1) f)
 
 size-of-requires : tie.Need-size-of-requires
 size-of-requires c κs = search needs
 
--- The size of the correction, and that the cost fits.
-costing : (c : tie.After-size-of) → let s = c .before .before .before .before .before .args .s in
-    let d = c .size-of .result in
-    (s .weight * (d * d) ≡ streamCost s (c .before .before .before .before .before .args .flow)) × (s .weight * (d * d) ≤ mostCost) × (d * d ≤ mostCost)
-costing c =
-    let s = c .before .before .before .before .before .args .s in
-    let x = c .before .before .before .before .before .args .flow in
-    let d = c .size-of .result in
-    let m = not-false (s .metered) (c .before .before .before .if1 .left) in
-    let f = correction-fits s x m (c .before .before .before .before .before .pre) in
-    let q = correction-is x (s .reading) (c .before .before .before .before .before .fits .flow) (reads (c .before .before .before .before .before)) in
-    let e : d ≡ natAbs (x -ℤ s .reading) = c .size-of .ensures ∙ ap (λ (y : ℤ). natAbs (toZ w64 (ofZ w64 y))) q ∙ ap natAbs (toZ-ofZ w64 _ f) in
-    (metered-cost s x m d e, cost-small s x m (c .before .before .before .before .before .pre) d e, square-small s x m (c .before .before .before .before .before .pre) d e)
+cast-weighed-square : tie.Need-cast-weighed-square
+cast-weighed-square c = search needs
 
-cast-result : tie.Need-cast-result
-cast-result c = search needs
-
-mul-result : tie.Need-mul-result
-mul-result c = record { fits = omega (arith, costing (c .before) .2) }
-
-mul-result-2 : tie.Need-mul-result-2
-mul-result-2 c = record { fits = omega (arith, costing (c .before) .1) }
+weighed-square-requires : tie.Need-weighed-square-requires
+weighed-square-requires c κs =
+    let start = c .before .before .before .before .before .before in
+    start .pre .0 .weighed (not-false (start .args .s .metered) (c .before .before .before .before .if1 .left))
 
 returns-2 : tie.Need-returns-2
-returns-2 c = costing (c .before) .0
+returns-2 c =
+    let start = c .before .before .before .before .before .before .before in
+    let s = start .args .s in
+    let x = start .args .flow in
+    let m = not-false (s .metered) (c .before .before .before .before .before .if1 .left) in
+    let d = c .before .before .size-of in
+    let q = correction-is x (s .reading) (start .fits .flow) (reads start) in
+    let f = correction-fits x (s .reading) (start .pre .1) (reads start) in
+    let e : d .result ≡ natAbs (x -ℤ s .reading) = d .ensures ∙ ap (λ (y : ℤ). natAbs (toZ w64 (ofZ w64 y))) q ∙ ap natAbs (toZ-ofZ w64 _ f) in
+    c .weighed-square .ensures ∙ metered-cost s x m (d .result) e
 
 pub stream-cost-spec : {M : Type 1} → statement M
 stream-cost-spec =
@@ -71,7 +62,6 @@ stream-cost-spec =
     cast-size-of
     sub-size-of
     size-of-requires
-    cast-result
-    mul-result
-    mul-result-2
+    cast-weighed-square
+    weighed-square-requires
     returns-2)

@@ -77,6 +77,30 @@ mul-lanes-5 c = search needs
 element-write-lanes-4 : tie.Need-element-write-lanes-4 Inv-loop μ-loop
 element-write-lanes-4 c = search needs
 
+low-of-requires : tie.Need-low-of-requires Inv-loop μ-loop
+low-of-requires c κs = search needs
+
+add-lanes-5 : tie.Need-add-lanes-5 Inv-loop μ-loop
+add-lanes-5 c = search needs
+
+mul-lanes-6 : tie.Need-mul-lanes-6 Inv-loop μ-loop
+mul-lanes-6 c = search needs
+
+element-write-lanes-5 : tie.Need-element-write-lanes-5 Inv-loop μ-loop
+element-write-lanes-5 c = search needs
+
+high-of-requires : tie.Need-high-of-requires Inv-loop μ-loop
+high-of-requires c κs = search needs
+
+add-lanes-6 : tie.Need-add-lanes-6 Inv-loop μ-loop
+add-lanes-6 c = search needs
+
+mul-lanes-7 : tie.Need-mul-lanes-7 Inv-loop μ-loop
+mul-lanes-7 c = search needs
+
+element-write-lanes-6 : tie.Need-element-write-lanes-6 Inv-loop μ-loop
+element-write-lanes-6 c = search needs
+
 add-i : tie.Need-add-i Inv-loop μ-loop
 add-i c = search needs
 
@@ -85,12 +109,14 @@ loop-less c = search needs
 
 loop-again : tie.Need-loop-again Inv-loop μ-loop
 loop-again c =
-    let at = c .before .before .before .before .before .before in
-    let pull = c .pull-of-reading .ensures in
-    let few : at .loop .i < maxStreams = omega (arith, at .before .pre .0 .within .few-streams, c .before .before .before .before .before .loop-test .taken) in (
+    let pulled = c .before .before in
+    let at = pulled .before .before .before .before .before .before in
+    let pull = pulled .pull-of-reading .ensures in
+    let few : at .loop .i < maxStreams = omega (arith, at .before .pre .0 .within .few-streams, pulled .before .before .before .before .before .loop-test .taken) in (
       omega arith,
-      rowed-put (at .before .args .t1) (at .loop .i) _ _ _ _ _ few (at .loop .inv .1) refl refl (c .before .weight-of .ensures) (ap (λ (x : ℕ). 2 * x) (pull .0)) (omega (arith, pull .1)),
-      λ u l. filled-other (at .before .args .t1) (at .loop .i) (getD (at .before .args .t1) (at .loop .i) noStream .from) (getD (at .before .args .t1) (at .loop .i) noStream .to) (c .before .weight-of .result) (2 * c .pull-of-reading .result) (at .loop .lanes) few u (λ o. omega arith) (λ o. omega arith) (λ o. omega arith) (λ o. omega arith) ∙ at .loop .inv .2 u l,
+      rowed-put (at .before .args .t1) (at .loop .i) _ _ _ _ _ _ _ few (at .loop .inv .1) refl refl (pulled .before .weight-of .ensures) (ap (λ (x : ℕ). 2 * x) (pull .0)) (omega (arith, pull .1))
+          (c .before .low-of .ensures .0) (c .high-of .ensures .0),
+      λ u l. filled-other (at .before .args .t1) (at .loop .i) (getD (at .before .args .t1) (at .loop .i) noStream .from) (getD (at .before .args .t1) (at .loop .i) noStream .to) (pulled .before .weight-of .result) (2 * pulled .pull-of-reading .result) (c .before .low-of .result) (c .high-of .result) (at .loop .lanes) few u (omega arith) ∙ at .loop .inv .2 u l,
     )
 
 returns : tie.Need-returns Inv-loop μ-loop
@@ -124,6 +150,14 @@ put-rows-spec =
     add-lanes-4
     mul-lanes-5
     element-write-lanes-4
+    low-of-requires
+    add-lanes-5
+    mul-lanes-6
+    element-write-lanes-5
+    high-of-requires
+    add-lanes-6
+    mul-lanes-7
+    element-write-lanes-6
     add-i
     loop-less
     loop-again

@@ -1,17 +1,51 @@
 -- The writer's promise of the plant that was handed over.
 use borrow.Author.Needs.{needs}
 use denote.Ref.{now}
-use mathlib.Core.Path.{subst}
+use mathlib.Core.Path.{_≡_, ap, ap₂, _∙_, subst}
 use Rattle.plants.specs.declared.Plant as Arrays
 use Rattle.plants.specs.Limits.{maxStreams}
 use Rattle.plants.specs.Says.{padded, WriteSays}
-use Rattle.linked.specs.Parts.{listed}
+use Rattle.linked.specs.Parts.{Slices, partsAt, least, reach, listedTo}
+use Rattle.linked.proofs.Gather.{reached, all-gathered}
 use Rattle.linked.proofs.Counts.{any-count}
 use Rattle.linked.proofs.wengeludo_write_plant.Statement.{statement}
 use Rattle.linked.proofs.wengeludo_write_plant.Tie as tie
 
-gathered-requires : tie.Need-gathered-requires
-gathered-requires c κs = search needs
+abbrev slices : tie.After-reached → Slices
+slices c =
+    let a = c .before .before .before .before .before .before .before .before .before .args in
+    record {
+      from = now (a .from);
+      to = now (a .to);
+      metered = now (a .metered);
+      weight = now (a .weight);
+      reading = now (a .reading);
+      ranged = now (a .ranged);
+      low = now (a .low);
+      high = now (a .high);
+    }
+
+reach-is : (c : tie.After-reached) → c .reached .result ≡ reach (slices c)
+reach-is c = c .reached .ensures ∙ ap (least maxStreams) (ap₂ least (c .before .before .meters-reach .ensures) (c .before .ranges-reach .ensures))
+
+meters-reach-requires : tie.Need-meters-reach-requires
+meters-reach-requires c κs = search needs
+
+ranges-reach-requires : tie.Need-ranges-reach-requires
+ranges-reach-requires c κs = search needs
+
+reached-requires : tie.Need-reached-requires
+reached-requires c κs = search needs
+
+meters-gathered-requires : tie.Need-meters-gathered-requires
+meters-gathered-requires c κs =
+    let r = reached (slices c) _ (reach-is c) in
+    (r .room, r .from-there, r .to-there, r .metered-there, r .weight-there, r .reading-there)
+
+ranges-gathered-requires : tie.Need-ranges-gathered-requires
+ranges-gathered-requires c κs =
+    let r = reached (slices (c .before)) _ (reach-is (c .before)) in
+    (r .room, r .ranged-there, r .low-there, r .high-there)
 
 count-byte-requires : tie.Need-count-byte-requires
 count-byte-requires c κs = search needs
@@ -22,15 +56,19 @@ write-plant-requires c κs = search needs
 same-length : tie.Need-same-length
 same-length c = search needs
 
+streams-are : (c : tie.After-ranges-gathered) → let p = slices (c .before .before) in c .ranges-gathered .result ≡ padded maxStreams (listedTo (partsAt p) (reach p))
+streams-are c = c .ranges-gathered .ensures ∙ all-gathered (slices (c .before .before)) _ _ (reach-is (c .before .before)) (c .before .meters-gathered .ensures)
+
 returns : tie.Need-returns
 returns c =
-    let a = c .before .before .before .before .before .before .before .before .before .before .before .args in
-    any-count (a .units) (padded maxStreams (listed (now (a .from)) (now (a .to)) (now (a .metered)) (now (a .weight)) (now (a .reading)))) (now (a .file)) _ _ (a .count)
-    (subst (λ (p : Arrays.Plant). WriteSays p (now (a .file)) (c .before .before .write-plant .last .1 .0) (c .before .before .write-plant .result))
-    (λ i. record { units = a .units; count = c .before .before .before .before .count-byte .ensures i; streams = c .before .before .before .before .before .gathered .ensures i })
+    let a = c .before .before .before .before .before .before .before .before .before .before .before .before .before .before .before .before .args in
+    let p = slices (c .before .before .before .before .before .before .before) in
+    any-count (a .units) (padded maxStreams (listedTo (partsAt p) (reach p))) (now (a .file)) _ _ (a .count)
+    (subst (λ (q : Arrays.Plant). WriteSays q (now (a .file)) (c .before .before .write-plant .last .1 .0) (c .before .before .write-plant .result))
+    (λ i. record { units = a .units; count = c .before .before .before .before .count-byte .ensures i; streams = streams-are (c .before .before .before .before .before) i })
     (c .before .before .write-plant .ensures))
 
 pub wengeludo-write-plant-spec : {M : Type 1} → statement M
 wengeludo-write-plant-spec =
     tie.close
-    (tie.spec gathered-requires count-byte-requires write-plant-requires same-length returns)
+    (tie.spec meters-reach-requires ranges-reach-requires reached-requires meters-gathered-requires ranges-gathered-requires count-byte-requires write-plant-requires same-length returns)

@@ -2,9 +2,10 @@
 use borrow.Author.Needs.{needs}
 use denote.Ref.{now}
 use mathlib.Core.Path.{ap, _∙_}
-use mathlib.Core.Bool.{true}
+use mathlib.Core.Bool.{true, false}
 use mathlib.Core.List.{List}
 use Prim.Native.Nat.{ℕ}
+use lib.IntN.{pos}
 use lib.ListN.{getD}
 use mir.Syntax.{w32}
 use mir.Val.{SFits}
@@ -49,7 +50,7 @@ returns c = let b = now (c .before .before .before .before .before .before .befo
     let w = c .before .before .before .before .get-u16 .ensures ∙ ap (be 0 2) (part-is 2 b) in
     let f : SFits w32 (c .before .before .get-i32 .result) = record { sfits = c .before .before .get-i32 .ok } in
     let r = toZ-ofZ f ∙ c .before .before .get-i32 .ensures ∙ ap (λ (s : List ℕ). signed 4 (be 0 4 s)) (part-is 4 b) in
-    λ i. record { from = getD b 0 0; to = getD b 1 0; metered = true; weight = w i; reading = r i }
+    λ i. record { from = getD b 0 0; to = getD b 1 0; metered = true; weight = w i; reading = r i; ranged = false; low = pos 0; high = pos 0 }
 
 pub metered-in-spec : {M : Type 1} → statement M
 metered-in-spec =

@@ -5,9 +5,9 @@ use mathlib.Core.Path.{sym, _∙_}
 use lib.Dec.{ltb}
 use lib.ListN.{take}
 use Rattle.numbers.specs.Choice.{firstOf, refuseIf}
+use Rattle.numbers.proofs.Tests.{first-some}
 use Rattle.plants.specs.Limits.{maxStreams}
 use Rattle.plants.specs.Plants.{unitsFault, firstFault}
-use Rattle.plant_writer.proofs.Loops.{first-some}
 use Rattle.plant_writer.proofs.parts_fault.Statement.{statement}
 use Rattle.plant_writer.proofs.parts_fault.Tie as tie
 

@@ -4,20 +4,8 @@ use Rattle.potentials.proofs.Levels.{level-labels}
 use Rattle.potentials.proofs.potentials_of.Statement.{statement}
 use Rattle.potentials.proofs.potentials_of.Tie as tie
 
-cast-places : tie.Need-cast-places
-cast-places c = search needs
-
-add-places : tie.Need-add-places
-add-places c = search needs
-
-laplacian-requires : tie.Need-laplacian-requires
-laplacian-requires c κs = search needs
-
-eliminate-requires : tie.Need-eliminate-requires
-eliminate-requires c κs = search needs
-
-substitute-requires : tie.Need-substitute-requires
-substitute-requires c κs = search needs
+descend-requires : tie.Need-descend-requires
+descend-requires c κs = search needs
 
 lowered-requires : tie.Need-lowered-requires
 lowered-requires c κs = search needs
@@ -26,18 +14,7 @@ by-label-requires : tie.Need-by-label-requires
 by-label-requires c κs = search needs
 
 returns : tie.Need-returns
-returns c =
-    rw (c .by-label .ensures) (level-labels (c .before .lowered .ensures) (c .before .before .before .before .before .before .before .before .pre .1))
+returns c = rw (c .by-label .ensures) (level-labels (c .before .lowered .ensures) (c .before .before .before .pre .1))
 
 pub potentials-of-spec : {M : Type 1} → statement M
-potentials-of-spec =
-    tie.close
-    (tie.spec
-    cast-places
-    add-places
-    laplacian-requires
-    eliminate-requires
-    substitute-requires
-    lowered-requires
-    by-label-requires
-    returns)
+potentials-of-spec = tie.close (tie.spec descend-requires lowered-requires by-label-requires returns)

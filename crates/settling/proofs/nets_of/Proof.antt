@@ -8,7 +8,8 @@ use lib.ListN.{take}
 use Rattle.model.specs.Sizes.{netRoom}
 use Rattle.model.specs.Model.{netsTo}
 use Rattle.model.proofs.Booking.{nets-around, around-more}
-use Rattle.model.proofs.Turns.{stream-is, nets-next, nets-none}
+use Rattle.model.proofs.Streams.{stream-is}
+use Rattle.model.proofs.Turns.{nets-next, nets-none}
 use Rattle.settling.proofs.nets_of.Statement.{statement}
 use Rattle.settling.proofs.nets_of.Tie as tie
 

@@ -1,7 +1,7 @@
 //! The search by distances: a distance per place, each labelled place looks at its own streams alone, prices fall once.
 
 use super::incidence::Incidence;
-use super::state::State;
+use super::state::{State, SHUT};
 use super::watch::Watch;
 use crate::plants::{Stream, PLACES};
 
@@ -50,7 +50,11 @@ impl Reach {
                 continue;
             }
             let i = usize::from(step.stream);
-            let distance = self.distance[u] + state.slack(&streams[i], state.flows[i], step.forwards, self.delta);
+            let slack = state.slack(&streams[i], state.flows[i], step.forwards, self.delta);
+            if slack == SHUT {
+                continue;
+            }
+            let distance = self.distance[u] + slack;
             if distance < self.distance[v] {
                 self.distance[v] = distance;
                 self.via[v] = step.stream;
@@ -74,14 +78,19 @@ impl Reach {
     }
 }
 
-/// One improvement at step delta, from the first place with so much net; false where there is none to make.
-pub fn improve<W: Watch>(streams: &[Stream], incidence: &Incidence, state: &mut State, delta: i64, watch: &mut W) -> bool {
-    let Some(start) = state.first_over(delta) else {
-        return false;
-    };
+/// One improvement at step delta from a place with so much net; where no way leads to a negative net, the places reached.
+pub fn improve_from<W: Watch>(
+    streams: &[Stream],
+    incidence: &Incidence,
+    state: &mut State,
+    start: usize,
+    delta: i64,
+    watch: &mut W,
+) -> Result<(), u64> {
     let mut reach = Reach::from(start, delta);
     let Some(target) = reach.search(streams, incidence, state, watch) else {
-        return false;
+        watch.stuck();
+        return Err(reach.labelled);
     };
     for u in bits(reach.labelled) {
         state.prices[u] -= reach.distance[target] - reach.distance[u];
@@ -90,5 +99,5 @@ pub fn improve<W: Watch>(streams: &[Stream], incidence: &Incidence, state: &mut 
     state.nets[start] -= delta;
     state.nets[target] += delta;
     watch.improvement();
-    true
+    Ok(())
 }

@@ -1,7 +1,7 @@
 //! The plant file, read.
 
 use super::Site;
-use crate::plants::{Stream, MAX_READING, MAX_STREAMS, MAX_UNITS, MAX_WEIGHT};
+use crate::plants::{Stream, MAX_RANGE, MAX_READING, MAX_STREAMS, MAX_UNITS, MAX_WEIGHT};
 
 /// The plant that a file lists, or a refusal's number.
 pub fn read(file: &[u8]) -> Result<Site, u8> {
@@ -13,6 +13,7 @@ pub fn read(file: &[u8]) -> Result<Site, u8> {
         let (stream, size) = match kind {
             0x02 => (metered(bytes_of(site.count, body)?), 8),
             0x03 => (unmetered(bytes_of(site.count, body)?), 2),
+            0x06 => (ranged(bytes_of(site.count, body)?), 16),
             0x04 => {
                 end(site.count, body)?;
                 return Ok(site);
@@ -47,11 +48,17 @@ fn bytes_of<const SIZE: usize>(count: usize, body: &[u8]) -> Result<&[u8; SIZE],
 fn metered(&[from, to, w1, w0, r3, r2, r1, r0]: &[u8; 8]) -> Stream {
     let weight = u16::from_be_bytes([w1, w0]).into();
     let reading = i32::from_be_bytes([r3, r2, r1, r0]).into();
-    Stream { from, to, metered: true, weight, reading }
+    Stream::metered(from, to, weight, reading)
 }
 
 fn unmetered(&[from, to]: &[u8; 2]) -> Stream {
-    Stream { from, to, ..Stream::default() }
+    Stream::unmetered(from, to)
+}
+
+fn ranged(&[from, to, w1, w0, r3, r2, r1, r0, l3, l2, l1, l0, h3, h2, h1, h0]: &[u8; 16]) -> Stream {
+    let low = i32::from_be_bytes([l3, l2, l1, l0]).into();
+    let high = i32::from_be_bytes([h3, h2, h1, h0]).into();
+    metered(&[from, to, w1, w0, r3, r2, r1, r0]).within(low, high)
 }
 
 /// The refusals of a stream's values.
@@ -67,6 +74,9 @@ fn check(units: u8, s: &Stream) -> Result<(), u8> {
     }
     if s.metered && !(-MAX_READING..=MAX_READING).contains(&s.reading) {
         return Err(10);
+    }
+    if s.ranged && (s.low > s.high || s.low < -MAX_RANGE || s.high > MAX_RANGE) {
+        return Err(18);
     }
     Ok(())
 }

@@ -2,14 +2,14 @@
 
 mod classes;
 mod distances;
-mod factor;
 mod file;
 mod forest;
 pub(crate) mod groups;
 mod incidence;
+pub(crate) mod newton;
+mod phases;
 mod sheet;
 mod state;
-mod steps;
 mod ties;
 mod watch;
 
@@ -32,27 +32,53 @@ impl Site {
     }
 }
 
-/// The hint by factorisation; where it leaves too much over, the hint by steps.
-fn hint<W: Watch>(site: &Site, watch: &mut W) -> State {
-    factor::begin(site.streams(), site.units).unwrap_or_else(|| {
+/// The cheapest balanced flow in range, by the tie rule the first one: from the hint, or by phases where it is none; or places
+/// that must take in more than they can let out.
+fn solve<W: Watch>(streams: &[Stream], hinted: bool, state: &mut State, watch: &mut W) -> Result<(), u64> {
+    let incidence = Incidence::new(streams);
+    let improved = if hinted {
+        phases::phase(streams, &incidence, state, 1, watch)
+    } else {
         watch.fell_back();
-        steps::begin(site.streams(), watch)
-    })
+        phases::phases(streams, &incidence, state, watch)
+    };
+    watch.phase(Phase::Improvements);
+    improved?;
+    ties::tie_all(streams, &incidence, state, watch);
+    watch.phase(Phase::Ties);
+    Ok(())
 }
 
-/// The cheapest balanced flow, by the tie rule the first one, from any hint.
-fn solve_from<W: Watch>(streams: &[Stream], mut state: State, watch: &mut W) -> [i64; MAX_STREAMS] {
-    let incidence = Incidence::new(streams);
-    while distances::improve(streams, &incidence, &mut state, 1, watch) {}
-    watch.phase(Phase::Improvements);
-    ties::tie_all(streams, &incidence, &mut state, watch);
-    watch.phase(Phase::Ties);
-    state.flows
+/// A hint put into a state; false where it is of no use.
+type HintInto = fn(&[Stream], usize, &mut State) -> bool;
+
+/// No hint.
+fn no_hint(_: &[Stream], _: usize, _: &mut State) -> bool {
+    false
+}
+
+/// What a sheet call hands back beside its number.
+pub struct Back<'a> {
+    pub last: &'a mut u32,
+    pub out: &'a mut [u8],
+    pub written: &'a mut usize,
+    pub marked: &'a mut u64,
 }
 
 /// The sheet call, as the library has it.
-pub fn balance_plant<W: Watch>(bytes: &[u8], last: &mut u32, out: &mut [u8], written: &mut usize, watch: &mut W) -> u8 {
+pub fn balance_plant<W: Watch>(bytes: &[u8], back: Back, watch: &mut W) -> u8 {
+    balance_from(bytes, back, newton::hint, watch)
+}
+
+/// The sheet call without the hint: every plant goes by phases.
+pub fn balance_by_phases<W: Watch>(bytes: &[u8], back: Back, watch: &mut W) -> u8 {
+    balance_from(bytes, back, no_hint, watch)
+}
+
+fn balance_from<W: Watch>(bytes: &[u8], back: Back, hint: HintInto, watch: &mut W) -> u8 {
+    let Back { last, out, written, marked } = back;
     *written = 0;
+    *marked = 0;
     if out.len() < sheet::LEAST_SLICE {
         return 1;
     }
@@ -65,11 +91,15 @@ pub fn balance_plant<W: Watch>(bytes: &[u8], last: &mut u32, out: &mut [u8], wri
         Err(number) => return number,
     };
     watch.phase(Phase::Read);
-    let state = hint(&site, watch);
+    let mut state = State::zero();
+    let hinted = hint(site.streams(), site.units, &mut state);
     watch.phase(Phase::Hint);
-    let flows = solve_from(site.streams(), state, watch);
+    if let Err(places) = solve(site.streams(), hinted, &mut state, watch) {
+        *marked = places;
+        return 19;
+    }
     *last += 1;
-    *written = sheet::put(&site, &flows, *last, out, watch);
+    *written = sheet::put(&site, &state.flows, *last, out, watch);
     0
 }
 
@@ -78,25 +108,50 @@ mod tests {
     use super::*;
     use crate::plants::{draw, Kind};
 
-    fn sheet_from(site: &Site, state: State) -> Vec<u8> {
-        let mut sheet = vec![0; sheet::LEAST_SLICE];
-        let flows = solve_from(site.streams(), state, &mut Unwatched);
-        sheet::put(site, &flows, 1, &mut sheet, &mut Unwatched);
-        sheet
+    /// The sheet; nothing where there is no flow, the places being tested.
+    fn sheet_from(site: &Site, hint: HintInto, watch: &mut impl Watch) -> Option<Vec<u8>> {
+        let (mut sheet, mut state) = (vec![0; sheet::LEAST_SLICE], State::zero());
+        let hinted = hint(site.streams(), site.units, &mut state);
+        match solve(site.streams(), hinted, &mut state, watch) {
+            Ok(()) => {
+                sheet::put(site, &state.flows, 1, &mut sheet, &mut Unwatched);
+                Some(sheet)
+            }
+            Err(places) => {
+                assert!(phases::overfull(site.streams(), places));
+                None
+            }
+        }
     }
 
-    /// Hardly a plant falls back, so the hint by steps is tried by itself: the sheet is the same from either hint.
-    #[test]
-    fn the_hint_makes_no_difference() {
+    /// Plants of every kind.
+    fn each(mut run: impl FnMut(&Site, &str)) {
         for kind in Kind::ALL {
             for seed in 0..100 {
                 let Ok(site) = file::read(&draw(kind, 32, 96, seed).file()) else { panic!("a plant refused") };
-                let hinted = factor::begin(site.streams(), site.units).expect("prices of use");
-                let mut work = Work::new();
-                let stepped = steps::begin(site.streams(), &mut work);
-                assert!(work.improvements > 0, "no step was made");
-                assert_eq!(sheet_from(&site, stepped), sheet_from(&site, hinted), "{} {seed}", kind.name());
+                run(&site, &format!("{} {seed}", kind.name()));
             }
         }
+    }
+
+    /// The work keeps within its bounds: improvements after a hint, improvements and stuck searches by phases.
+    #[test]
+    fn the_work_is_bounded() {
+        each(|site, name| {
+            for hint in [newton::hint as HintInto, no_hint] {
+                let mut work = Work::new();
+                sheet_from(site, hint, &mut work);
+                let (improvements, stuck) = if work.fell_back { (184_072, 960) } else { (512, 1) };
+                assert!(work.improvements <= improvements && work.stuck <= stuck, "{name}: {work:?}");
+            }
+        });
+    }
+
+    /// Few plants go by phases, so these are tried by themselves: the sheet is the same from a hint and without.
+    #[test]
+    fn the_hint_makes_no_difference() {
+        each(|site, name| {
+            assert_eq!(sheet_from(site, no_hint, &mut Unwatched), sheet_from(site, newton::hint, &mut Unwatched), "{name}");
+        });
     }
 }

@@ -4,7 +4,7 @@ use super::classes::{self, Class};
 use super::groups;
 use super::watch::{Phase, Watch};
 use super::Site;
-use crate::plants::MAX_STREAMS;
+use crate::plants::{Stream, MAX_STREAMS};
 
 /// The least slice that is taken.
 pub const LEAST_SLICE: usize = 9 * MAX_STREAMS + 15;
@@ -20,10 +20,18 @@ pub fn put<W: Watch>(site: &Site, flows: &[i64; MAX_STREAMS], number: u32, out: 
     for (&class, &flow) in classes[..site.count].iter().zip(flows) {
         at += put_record(class, flow, &mut out[at..]);
     }
-    let cost = streams.iter().zip(flows).map(|(s, x)| (s.weight * (x - s.reading) * (x - s.reading)) as u64).sum();
-    put_total(number, cost, degrees, &mut out[at..]);
+    put_total(number, cost(streams, flows), degrees, &mut out[at..]);
     watch.phase(Phase::Write);
     at + 15
+}
+
+/// The cost, or the greatest number of 64 bits where it is above that.
+fn cost(streams: &[Stream], flows: &[i64; MAX_STREAMS]) -> u64 {
+    let one = |s: &Stream, x: i64| {
+        let off = (x - s.reading).unsigned_abs();
+        off.saturating_mul(off).saturating_mul(s.weight as u64)
+    };
+    streams.iter().zip(flows).fold(0, |sum: u64, (s, x)| sum.saturating_add(one(s, *x)))
 }
 
 fn put_record(class: Class, flow: i64, out: &mut [u8]) -> usize {

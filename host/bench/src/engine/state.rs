@@ -3,6 +3,9 @@
 use super::watch::Watch;
 use crate::plants::{Stream, MAX_STREAMS, PLACES};
 
+/// The slack of a stream that has no room.
+pub const SHUT: i64 = i64::MAX;
+
 /// The amount of each stream, and the price and the net of each place.
 pub struct State {
     pub flows: [i64; MAX_STREAMS],
@@ -16,13 +19,14 @@ impl State {
         State { flows: [0; MAX_STREAMS], prices: [0; PLACES], nets: [0; PLACES] }
     }
 
-    /// Each metered stream's amount at the prices of its ends, the others as they are; and the nets.
+    /// Each metered stream's amount in range at the prices of its ends, the others as they are; and the nets.
     pub fn settle(&mut self, streams: &[Stream]) {
         self.nets = [0; PLACES];
         for (s, x) in streams.iter().zip(&mut self.flows) {
             let (u, v) = (usize::from(s.from), usize::from(s.to));
             if s.metered {
-                *x = s.reading + (self.prices[v] - self.prices[u] + s.weight).div_euclid(2 * s.weight);
+                let wanted = s.reading + (self.prices[v] - self.prices[u] + s.weight).div_euclid(2 * s.weight);
+                *x = wanted.clamp(s.low, s.high);
             }
             self.nets[u] -= *x;
             self.nets[v] += *x;
@@ -32,11 +36,6 @@ impl State {
     /// The summed positive net.
     pub fn over(&self) -> i64 {
         self.nets.iter().map(|&z| z.max(0)).sum()
-    }
-
-    /// The first place with a net of delta or more.
-    pub fn first_over(&self, delta: i64) -> Option<usize> {
-        self.nets.iter().position(|&z| z >= delta)
     }
 
     /// Delta is moved from one place to another, back along the streams by which each place was labelled.
@@ -60,8 +59,11 @@ impl State {
         }
     }
 
-    /// What is missing before delta can be moved along a stream with amount x.
+    /// What is missing before delta can be moved along a stream with amount x; SHUT where it would leave the range.
     pub fn slack(&self, s: &Stream, x: i64, forwards: bool, delta: i64) -> i64 {
+        if if forwards { x + delta > s.high } else { x - delta < s.low } {
+            return SHUT;
+        }
         let marginal = 2 * s.weight * (x - s.reading) + self.prices[usize::from(s.from)] - self.prices[usize::from(s.to)];
         let signed = if forwards { marginal } else { -marginal };
         (signed + s.weight * delta).max(0)

@@ -23,7 +23,11 @@ pub trait Watch {
     fn push(&mut self) {}
     /// An improvement was made.
     fn improvement(&mut self) {}
-    /// The hint by steps was taken.
+    /// A search found no way.
+    fn stuck(&mut self) {}
+    /// Gaps between prices were closed.
+    fn closed(&mut self) {}
+    /// The hint was left, for the phases.
     fn fell_back(&mut self) {}
     /// A phase ended.
     fn phase(&mut self, _phase: Phase) {}
@@ -39,11 +43,12 @@ pub struct Work {
     pub visits: u64,
     pub pushes: u64,
     pub improvements: u64,
-    /// Improvements and rounds that the hint leaves.
-    pub left: u64,
-    pub left_rounds: u64,
+    /// Places labelled in their searches, and searches that were stuck.
+    pub labelled: u64,
+    pub stuck: u64,
+    pub closed: u64,
     pub fell_back: bool,
-    finishing: bool,
+    improving: bool,
     then: Instant,
     /// Microseconds by phase.
     pub phases: [f64; 7],
@@ -55,16 +60,17 @@ impl Work {
             visits: 0,
             pushes: 0,
             improvements: 0,
-            left: 0,
-            left_rounds: 0,
+            labelled: 0,
+            stuck: 0,
+            closed: 0,
             fell_back: false,
-            finishing: false,
+            improving: false,
             then: Instant::now(),
             phases: [0.0; 7],
         }
     }
 
-    /// What the climb makes greatest: streams looked at and amounts moved.
+    /// What takes the time: streams looked at and amounts moved.
     pub fn total(&self) -> u64 {
         self.visits + self.pushes
     }
@@ -82,7 +88,7 @@ impl Watch for Work {
     }
 
     fn round(&mut self) {
-        self.left_rounds += u64::from(self.finishing);
+        self.labelled += u64::from(self.improving);
     }
 
     fn push(&mut self) {
@@ -91,7 +97,14 @@ impl Watch for Work {
 
     fn improvement(&mut self) {
         self.improvements += 1;
-        self.left += u64::from(self.finishing);
+    }
+
+    fn stuck(&mut self) {
+        self.stuck += 1;
+    }
+
+    fn closed(&mut self) {
+        self.closed += 1;
     }
 
     fn fell_back(&mut self) {
@@ -101,7 +114,7 @@ impl Watch for Work {
     fn phase(&mut self, phase: Phase) {
         let now = Instant::now();
         self.phases[phase as usize] = (now - self.then).as_secs_f64() * 1e6;
-        self.finishing = phase == Phase::Hint;
+        self.improving = phase == Phase::Hint;
         self.then = Instant::now();
     }
 }

@@ -1,5 +1,7 @@
 //! Inputs, drawn from a seed.
 
+mod ranges;
+
 use crate::reference::{file_of, read, sheet_bytes, sheet_of, Kept, Listed, Stream};
 use std::fmt;
 
@@ -19,9 +21,11 @@ impl fmt::Display for Call {
         if let Ok(plant) = read(&self.file) {
             writeln!(f, "{} units", plant.units)?;
             for (k, s) in plant.streams.iter().enumerate() {
-                match s.meter {
-                    Some((w, r)) => writeln!(f, "stream {}: {} to {}, weight {w}, reading {r}", k + 1, s.from, s.to)?,
-                    None => writeln!(f, "stream {}: {} to {}, unmetered", k + 1, s.from, s.to)?,
+                write!(f, "stream {}: {} to {}, ", k + 1, s.from, s.to)?;
+                match (s.meter, s.range) {
+                    (None, _) => writeln!(f, "unmetered")?,
+                    (Some((w, r)), None) => writeln!(f, "weight {w}, reading {r}")?,
+                    (Some((w, r)), Some((low, high))) => writeln!(f, "weight {w}, reading {r}, from {low} to {high}")?,
                 }
             }
         }
@@ -39,7 +43,18 @@ pub struct Write {
     pub metered: Vec<u8>,
     pub weight: Vec<u16>,
     pub reading: Vec<i32>,
+    pub ranged: Vec<u8>,
+    pub low: Vec<i32>,
+    pub high: Vec<i32>,
     pub slice: Vec<u8>,
+}
+
+impl Write {
+    /// The lengths of the parts.
+    pub fn lengths(&self) -> [usize; 8] {
+        let w = self;
+        [w.from.len(), w.to.len(), w.metered.len(), w.weight.len(), w.reading.len(), w.ranged.len(), w.low.len(), w.high.len()]
+    }
 }
 
 /// A call of the sheet reader.
@@ -79,8 +94,17 @@ impl Draw {
         (0..n).map(|_| self.bits() as u8).collect()
     }
 
+    /// A plant within its limits, with ranges or without.
+    pub fn plant(&mut self) -> Listed {
+        let mut plant = self.plant_without_ranges();
+        if self.below(2) == 0 {
+            ranges::put(self, &mut plant);
+        }
+        plant
+    }
+
     /// A plant within its limits: small ones mostly, some of the greatest size.
-    fn plant(&mut self) -> Listed {
+    fn plant_without_ranges(&mut self) -> Listed {
         let (units, most) = match self.below(100) {
             0 => (32, 96),
             1..=4 => (self.among(8, 32), 96),
@@ -113,7 +137,7 @@ impl Draw {
                         if edge { [-4_000_000, 4_000_000, 0][self.below(3)] } else { reading.clamp(-4_000_000, 4_000_000) };
                     (self.among(weights.0, weights.1) as u16, reading as i32)
                 });
-                Stream { from: from as usize, to: to as usize, meter }
+                Stream { from: from as usize, to: to as usize, meter, range: None }
             })
             .collect();
         Listed { units: units as u8, streams }
@@ -130,13 +154,17 @@ impl Draw {
                 } else {
                     let k = self.below(plant.streams.len());
                     let (units, s) = (usize::from(plant.units), &mut plant.streams[k]);
-                    match self.below(6) {
+                    match self.below(8) {
                         0 => s.from = units + self.below(2),
                         1 => s.to = units + self.below(2),
                         2 => s.to = s.from,
                         3 => s.meter = Some(([0, 1, 1000, 1001, 65535][self.below(5)], 5)),
                         4 => {
                             s.meter = Some((5, [-4_000_001, -4_000_000, 4_000_000, 4_000_001, i32::MIN, i32::MAX][self.below(6)]))
+                        }
+                        5 | 6 => {
+                            s.meter = s.meter.or(Some((1, 0)));
+                            s.range = Some(ranges::at_an_edge(self));
                         }
                         _ => plant.units = [0, 1, 32, 33][self.below(4)],
                     }
@@ -147,11 +175,12 @@ impl Draw {
                 // Too many streams, or as many as there may be.
                 plant.units = plant.units.max(2);
                 let count = 95 + self.below(4);
-                let metered = self.below(2) == 0;
-                plant.streams = (0..count).map(|_| Stream { from: 1, to: 2, meter: metered.then_some((1, 7)) }).collect();
+                let (metered, ranged) = (self.below(3) > 0, self.below(2) == 0);
+                let (meter, range) = (metered.then_some((1, 7)), (metered && ranged).then_some((-3, 7)));
+                plant.streams = (0..count).map(|_| Stream { from: 1, to: 2, meter, range }).collect();
                 let mut file = file_of(&plant);
                 if self.below(3) == 0 {
-                    let n = file.len() - self.below(12);
+                    let n = file.len() - self.below(20);
                     file.truncate(n);
                 }
                 file
@@ -171,7 +200,7 @@ impl Draw {
                 let mut file = file_of(&plant);
                 for _ in 0..=self.below(3) {
                     let at = self.below(file.len());
-                    file[at] = if self.below(2) == 0 { self.below(6) as u8 } else { self.bits() as u8 };
+                    file[at] = if self.below(2) == 0 { self.below(8) as u8 } else { self.bits() as u8 };
                 }
                 file
             }
@@ -219,13 +248,23 @@ impl Draw {
             metered: plant.streams.iter().map(|s| u8::from(s.meter.is_some())).collect(),
             weight: plant.streams.iter().map(|s| s.meter.map_or(0, |m| m.0)).collect(),
             reading: plant.streams.iter().map(|s| s.meter.map_or(0, |m| m.1)).collect(),
+            ranged: plant.streams.iter().map(|s| u8::from(s.range.is_some())).collect(),
+            low: plant.streams.iter().map(|s| s.range.map_or(0, |r| r.0)).collect(),
+            high: plant.streams.iter().map(|s| s.range.map_or(0, |r| r.1)).collect(),
             slice: Vec::new(),
         };
+        // What stands for a range that counts for nothing, for want of a range or of a meter.
+        for k in 0..w.count {
+            if w.ranged[k] == 0 && self.below(4) == 0 {
+                (w.low[k], w.high[k]) = (self.bits() as i32, self.bits() as i32);
+                w.ranged[k] = if w.metered[k] == 0 { self.below(3) as u8 } else { 0 };
+            }
+        }
         let length = match self.below(10) {
-            0 => 867,
-            1 => self.below(868),
-            2..=5 => 868 + self.below(100),
-            _ => 868,
+            0 => 1635,
+            1 => self.below(1636),
+            2..=5 => 1636 + self.below(100),
+            _ => 1636,
         };
         w.slice = self.bytes(length);
         // Elements past the count, a slice too short, another count, one value changed.
@@ -234,19 +273,25 @@ impl Draw {
             w.from.extend(self.bytes(more));
             w.to.extend(self.bytes(more));
             w.metered.extend(self.bytes(more));
+            w.ranged.extend(self.bytes(more));
             for _ in 0..more {
                 w.weight.push(self.bits() as u16);
                 w.reading.push(self.bits() as i32);
+                w.low.push(self.bits() as i32);
+                w.high.push(self.bits() as i32);
             }
         }
         if self.below(4) == 0 {
             let n = self.below(w.from.len() + 1);
-            match self.below(5) {
+            match self.below(8) {
                 0 => w.from.truncate(n),
                 1 => w.to.truncate(n),
                 2 => w.metered.truncate(n),
                 3 => w.weight.truncate(n),
-                _ => w.reading.truncate(n),
+                4 => w.reading.truncate(n),
+                5 => w.ranged.truncate(n),
+                6 => w.low.truncate(n),
+                _ => w.high.truncate(n),
             }
         }
         if self.below(6) == 0 {
@@ -254,7 +299,7 @@ impl Draw {
         }
         if self.below(3) == 0 && !w.from.is_empty() {
             let k = self.below(w.from.len());
-            match self.below(6) {
+            match self.below(8) {
                 0 => w.from[k] = self.bits() as u8,
                 1 if k < w.to.len() => w.to[k] = self.below(34) as u8,
                 2 if k < w.metered.len() => w.metered[k] = self.bits() as u8,
@@ -262,6 +307,8 @@ impl Draw {
                 4 if k < w.reading.len() => {
                     w.reading[k] = [-4_000_001, -4_000_000, 4_000_000, 4_000_001, i32::MIN][self.below(5)]
                 }
+                5 if k < w.ranged.len() => w.ranged[k] = self.bits() as u8,
+                6 if k < w.low.len().min(w.high.len()) => (w.low[k], w.high[k]) = ranges::at_an_edge(self),
                 _ => w.units = [0, 1, 32, 33, 255][self.below(5)],
             }
         }
@@ -307,7 +354,10 @@ impl Draw {
         let mut bytes = if self.below(4) == 0 {
             let plant = self.plant();
             let plant = if plant.streams.len() > 12 { Listed { units: 1, streams: Vec::new() } } else { plant };
-            sheet_of(&plant, 1 + self.below(1000) as u32)
+            match sheet_of(&plant, 1 + self.below(1000) as u32) {
+                Ok(sheet) => sheet,
+                Err(_) => sheet_bytes(&self.shown()),
+            }
         } else {
             sheet_bytes(&self.shown())
         };

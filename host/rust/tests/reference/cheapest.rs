@@ -1,67 +1,96 @@
-//! The cheapest balanced flow, by cancelling cycles.
+//! The cheapest balanced flow in range, by cancelling cycles; or places that must take in more than they can let out.
 
 use super::Listed;
 
-/// A stream between two groups: its number among all streams, ends, weight, reading, and 2 to the power of the metered
-/// streams after it.
+/// A stream between two groups: its number among all streams, ends, weight, reading, range, and 2 to the power of the
+/// metered streams after it.
 struct Arc {
     stream: usize,
     from: usize,
     to: usize,
     weight: i64,
     reading: i64,
+    range: Option<(i64, i64)>,
     rank: i128,
 }
 
-/// A change: of the cost, then of the flows weighed by rank.
-type Change = (i128, i128);
-
-fn sum(a: Change, b: Change) -> Change {
-    (a.0 + b.0, a.1 + b.1)
+impl Arc {
+    /// How far an amount lies outside the range.
+    fn outside(&self, x: i64) -> i64 {
+        self.range.map_or(0, |(low, high)| (low - x).max(x - high).max(0))
+    }
 }
 
-/// Each metered stream's flow, 0 for the others.
-pub fn metered_flows(plant: &Listed, group: &[usize]) -> Vec<i64> {
+/// A change: of what lies outside the ranges, then of the cost, then of the flows weighed by rank.
+type Change = (i64, i128, i128);
+
+fn sum(a: Change, b: Change) -> Change {
+    (a.0 + b.0, a.1 + b.1, a.2 + b.2)
+}
+
+/// The most times that a cycle is gone round at once.
+const MOST_TIMES: i64 = 1 << 20;
+
+/// Each metered stream's flow, 0 for the others. Where no balanced flow is in range, a set of places instead, by groups.
+pub fn metered_flows(plant: &Listed, group: &[usize]) -> Result<Vec<i64>, Vec<bool>> {
     let mut flow = vec![0; plant.streams.len()];
     let mut arcs = Vec::new();
     let mut after = plant.streams.iter().filter(|s| s.meter.is_some()).count();
     for (k, s) in plant.streams.iter().enumerate() {
         if let Some((weight, reading)) = s.meter {
             after -= 1;
-            let (from, to) = (group[s.from], group[s.to]);
+            let (from, to, reading, range) = (group[s.from], group[s.to], i64::from(reading), s.limits());
             if from == to {
-                flow[k] = i64::from(reading);
+                flow[k] = range.map_or(reading, |(low, high)| reading.clamp(low, high));
             } else {
-                arcs.push(Arc { stream: k, from, to, weight: weight.into(), reading: reading.into(), rank: 1 << after });
+                arcs.push(Arc { stream: k, from, to, weight: weight.into(), reading, range, rank: 1 << after });
             }
         }
     }
-    let mut x = first_flow(&arcs, group.len());
-    while let Some(cycle) = improving_cycle(&arcs, &x, group.len()) {
-        let times = best_times(&arcs, &x, &cycle);
-        for (a, sign) in cycle {
-            x[a] += sign * times;
-        }
+    let x = least(&arcs, group.len());
+    if arcs.iter().zip(&x).any(|(arc, x)| arc.outside(*x) > 0) {
+        let set = overfull(&arcs, &x, group.len());
+        return Err(group.iter().map(|g| set[*g]).collect());
     }
     for (arc, x) in arcs.iter().zip(x) {
         flow[arc.stream] = x;
     }
-    flow
+    Ok(flow)
 }
 
-/// What one step on an arc changes.
-fn step(arc: &Arc, x: i64, sign: i64) -> Change {
-    (i128::from(arc.weight * (2 * sign * (x - arc.reading) + 1)), i128::from(sign) * arc.rank)
+/// The balanced flow least outside the ranges, of these the cheapest, by the tie rule the first. Cycles are gone round in
+/// steps that halve down to 1; that no cycle of ones is left is what counts, the greater steps spare time.
+fn least(arcs: &[Arc], places: usize) -> Vec<i64> {
+    let mut x = first_flow(arcs, places);
+    let farthest = arcs.iter().zip(&x).map(|(arc, x)| arc.outside(*x)).max().unwrap_or(0);
+    let mut size = 1 << (64 - farthest.leading_zeros());
+    while size > 0 {
+        while let Some(cycle) = improving_cycle(arcs, &x, places, size) {
+            let times = good_times(arcs, &x, &cycle, size);
+            for (a, sign) in cycle {
+                x[a] += sign * times * size;
+            }
+        }
+        size /= 2;
+    }
+    x
+}
+
+/// What a move on an arc changes; flows are ranked in steps of 1 alone.
+fn change(arc: &Arc, x: i64, sign: i64, size: i64) -> Change {
+    let by = sign * size;
+    let cost = i128::from(arc.weight) * i128::from(by) * i128::from(2 * (x - arc.reading) + by);
+    (arc.outside(x + by) - arc.outside(x), cost, if size == 1 { i128::from(sign) * arc.rank } else { 0 })
 }
 
 /// A cycle of arcs with their directions whose steps together lower the objective.
-fn improving_cycle(arcs: &[Arc], x: &[i64], places: usize) -> Option<Vec<(usize, i64)>> {
+fn improving_cycle(arcs: &[Arc], x: &[i64], places: usize, size: i64) -> Option<Vec<(usize, i64)>> {
     let mut steps = Vec::with_capacity(2 * arcs.len());
     for (a, arc) in arcs.iter().enumerate() {
-        steps.push((arc.from, arc.to, step(arc, x[a], 1), (a, 1)));
-        steps.push((arc.to, arc.from, step(arc, x[a], -1), (a, -1)));
+        steps.push((arc.from, arc.to, change(arc, x[a], 1, size), (a, 1)));
+        steps.push((arc.to, arc.from, change(arc, x[a], -1, size), (a, -1)));
     }
-    let mut length: Vec<Change> = vec![(0, 0); places];
+    let mut length: Vec<Change> = vec![(0, 0, 0); places];
     let mut came: Vec<Option<(usize, (usize, i64))>> = vec![None; places];
     loop {
         let mut changed = false;
@@ -110,15 +139,43 @@ fn cycle_of(came: &[Option<(usize, (usize, i64))>]) -> Option<Vec<(usize, i64)>>
     None
 }
 
-/// How often to go round the cycle: what lowers the objective most.
-fn best_times(arcs: &[Arc], x: &[i64], cycle: &[(usize, i64)]) -> i64 {
-    let square: i128 = cycle.iter().map(|(a, _)| i128::from(arcs[*a].weight)).sum();
-    let line: i128 = cycle.iter().map(|(a, s)| i128::from(2 * arcs[*a].weight * s * (x[*a] - arcs[*a].reading))).sum();
-    let rank: i128 = cycle.iter().map(|(a, s)| i128::from(*s) * arcs[*a].rank).sum();
-    let change = |t: i128| (square * t * t + line * t, rank * t);
-    let t = (-line / (2 * square)).max(1);
-    assert!(change(1) < (0, 0), "a cycle that does not improve");
-    (if change(t + 1) < change(t) { t + 1 } else { t }) as i64
+/// How often to go round the cycle: twice as often as long as that is better.
+fn good_times(arcs: &[Arc], x: &[i64], cycle: &[(usize, i64)], size: i64) -> i64 {
+    let rank = if size == 1 { cycle.iter().map(|(a, sign)| i128::from(*sign) * arcs[*a].rank).sum() } else { 0 };
+    let after = |times: i64| {
+        let moved = cycle.iter().map(|(a, sign)| change(&arcs[*a], x[*a], *sign, times * size));
+        let (outside, cost) = moved.fold((0, 0), |all, one| (all.0 + one.0, all.1 + one.1));
+        (outside, cost, rank * i128::from(times))
+    };
+    assert!(after(1) < (0, 0, 0), "a cycle that does not improve");
+    let mut times = 1;
+    while times < MOST_TIMES && after(2 * times) < after(times) {
+        times *= 2;
+    }
+    times
+}
+
+/// The places nearer than the farther end of a stream outside its range, by what steps of 1 change outside the ranges.
+/// Each step out of them, along a stream or against it, adds at least 1: so a stream into them is at its low or below, one
+/// out of them at its high or above, and that one stream beyond. The set must take in more than it can let out.
+fn overfull(arcs: &[Arc], x: &[i64], places: usize) -> Vec<bool> {
+    let mut length = vec![0; places];
+    let mut changed = true;
+    while changed {
+        changed = false;
+        for (arc, x) in arcs.iter().zip(x) {
+            for (from, to, sign) in [(arc.from, arc.to, 1), (arc.to, arc.from, -1)] {
+                let through = length[from] + change(arc, *x, sign, 1).0;
+                if through < length[to] {
+                    length[to] = through;
+                    changed = true;
+                }
+            }
+        }
+    }
+    let beyond = arcs.iter().zip(x).find(|(arc, x)| arc.outside(**x) > 0).expect("a stream outside its range").0;
+    let limit = length[beyond.from].max(length[beyond.to]);
+    length.iter().map(|l| *l < limit).collect()
 }
 
 /// A balanced flow near the cheapest: the real-number optimum, rounded, with the balance kept by a forest of arcs.

@@ -1,11 +1,20 @@
 //! Plant files, read and written by the definition.
 
-/// A stream; weight and reading where it is metered.
-#[derive(Clone, Debug, PartialEq, Eq)]
+/// A stream; weight and reading where it is metered, and the range, low and high, where it has one: an unmetered stream's
+/// counts for nothing.
+#[derive(Clone, Debug, Default, PartialEq, Eq)]
 pub struct Stream {
     pub from: usize,
     pub to: usize,
     pub meter: Option<(u16, i32)>,
+    pub range: Option<(i32, i32)>,
+}
+
+impl Stream {
+    /// The range, if the stream is metered and has one.
+    pub fn limits(&self) -> Option<(i64, i64)> {
+        self.meter.and(self.range).map(|(low, high)| (low.into(), high.into()))
+    }
 }
 
 /// A plant.
@@ -33,6 +42,11 @@ fn fault(units: u8, s: &Stream) -> Result<(), Fault> {
             return Err(10);
         }
     }
+    if let Some((low, high)) = s.limits() {
+        if low > high || low < -2_000_000_000 || high > 2_000_000_000 {
+            return Err(18);
+        }
+    }
     Ok(())
 }
 
@@ -57,20 +71,22 @@ pub fn read(file: &[u8]) -> Result<Listed, Fault> {
             }
             return if next().is_ok() { Err(12) } else { Ok(Listed { units, streams }) };
         }
-        if kind != 2 && kind != 3 {
+        if ![2, 3, 6].contains(&kind) {
             return Err(4);
         }
         if streams.len() == 96 {
             return Err(5);
         }
         let (from, to) = (usize::from(next()?), usize::from(next()?));
-        let meter = if kind == 2 {
+        let mut s = Stream { from, to, ..Stream::default() };
+        if kind != 3 {
             let weight = u16::from_be_bytes([next()?, next()?]);
-            Some((weight, i32::from_be_bytes([next()?, next()?, next()?, next()?])))
-        } else {
-            None
-        };
-        let s = Stream { from, to, meter };
+            s.meter = Some((weight, i32::from_be_bytes([next()?, next()?, next()?, next()?])));
+        }
+        if kind == 6 {
+            let low = i32::from_be_bytes([next()?, next()?, next()?, next()?]);
+            s.range = Some((low, i32::from_be_bytes([next()?, next()?, next()?, next()?])));
+        }
         fault(units, &s)?;
         streams.push(s);
     }
@@ -80,12 +96,20 @@ pub fn read(file: &[u8]) -> Result<Listed, Fault> {
 pub fn file_of(plant: &Listed) -> Vec<u8> {
     let mut file = vec![1, plant.units];
     for s in &plant.streams {
-        file.push(if s.meter.is_some() { 2 } else { 3 });
+        file.push(match (s.meter, s.range) {
+            (None, _) => 3,
+            (Some(_), None) => 2,
+            (Some(_), Some(_)) => 6,
+        });
         file.push(s.from as u8);
         file.push(s.to as u8);
         if let Some((weight, reading)) = s.meter {
             file.extend(weight.to_be_bytes());
             file.extend(reading.to_be_bytes());
+            if let Some((low, high)) = s.range {
+                file.extend(low.to_be_bytes());
+                file.extend(high.to_be_bytes());
+            }
         }
     }
     file.push(4);
@@ -95,7 +119,7 @@ pub fn file_of(plant: &Listed) -> Vec<u8> {
 
 /// The plant writer: `None` stands for a stream that is not there whole.
 pub fn write(units: u8, count: usize, streams: &[Option<Stream>], slice: &[u8]) -> Result<Vec<u8>, Fault> {
-    if slice.len() < 868 {
+    if slice.len() < 1636 {
         return Err(1);
     }
     if !(1..=32).contains(&units) {

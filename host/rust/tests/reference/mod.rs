@@ -2,17 +2,20 @@
 //!
 //! The places are contracted to the groups that unmetered streams join; what is left is a balanced flow over the streams
 //! that lie between groups. A first flow comes from the real-number optimum, worked out in floating point and rounded: it
-//! need not be good, only balanced, and nothing after it depends on it. Then cycles are cancelled: as long as going once
-//! round some cycle lowers (cost, flows weighed by 2 to the power of the streams after them), in this order, the flow goes
-//! round it as often as lowers it most. The search for such a cycle is by lengths of walks (Bellman and Ford), over whole
-//! numbers. That no cycle is left is what makes a flow the cheapest one:
+//! need not be good, nor in range, only balanced, and nothing after it depends on it. Then cycles are cancelled: as long as
+//! going round some cycle lowers (what lies outside the ranges, cost, flows weighed by 2 to the power of the streams after
+//! them), in this order, the flow goes round it. The search for such a cycle is by lengths of walks (Bellman and Ford), over
+//! whole numbers. That no cycle is left is what makes a flow the cheapest one in range:
 //!
-//! 1. The difference of two balanced flows falls apart into cycles of ones that never run against it on a stream. Each
-//!    stream's cost is convex, so the changes of the single cycles add up to at most the whole change. If no cycle lowers
-//!    the cost, no flow costs less.
-//! 2. Two flows of least cost differ by at most 1 on each such stream: else one cycle of their difference, moved from one
-//!    to the other, lowers the two costs together, the weights being positive. So at the first stream where they differ
-//!    its power of 2 outweighs all later ones, and the lesser flow there is found by the second part.
+//! 1. The difference of two balanced flows falls apart into cycles of ones that never run against it on a stream. What lies
+//!    outside a range is convex, and so is each stream's cost: the changes of the single cycles add up to at most the whole
+//!    change. If no cycle lowers the pair, no flow has a lesser one. So a flow in range is found if there is one, and the
+//!    cheapest of them; else the places nearer than an end of a stream outside its range show that there is none, and they
+//!    are tested.
+//! 2. Two flows in range of least cost differ by at most 1 on each such stream: else one cycle of their difference, moved
+//!    from one to the other, keeps both in range and lowers the two costs together, the weights being positive. So at the
+//!    first stream where they differ its power of 2 outweighs all later ones, and the lesser flow there is found by the
+//!    third part.
 
 mod cheapest;
 mod file;
@@ -28,6 +31,8 @@ pub struct Outcome {
     pub written: usize,
     pub last: u32,
     pub slice: Vec<u8>,
+    /// Bit u for place u.
+    pub marked: u64,
 }
 
 const CRITICAL: [u64; 32] = [
@@ -37,22 +42,40 @@ const CRITICAL: [u64; 32] = [
 
 /// The sheet call.
 pub fn sheet_call(file: &[u8], last: u32, slice: &[u8]) -> Outcome {
-    let refused = |returned| Outcome { returned, written: 0, last, slice: slice.to_vec() };
+    let refused = |returned, marked| Outcome { returned, written: 0, last, slice: slice.to_vec(), marked };
     if slice.len() < 879 {
-        return refused(1);
+        return refused(1, 0);
     }
     if last == u32::MAX {
-        return refused(2);
+        return refused(2, 0);
     }
-    match read(file) {
-        Err(number) => refused(number),
-        Ok(plant) => {
-            let sheet = sheet_of(&plant, last + 1);
+    let plant = match read(file) {
+        Err(number) => return refused(number, 0),
+        Ok(plant) => plant,
+    };
+    match sheet_of(&plant, last + 1) {
+        Err(marked) => refused(19, marked),
+        Ok(sheet) => {
             let mut slice = slice.to_vec();
             slice[..sheet.len()].copy_from_slice(&sheet);
-            Outcome { returned: 0, written: sheet.len(), last: last + 1, slice }
+            Outcome { returned: 0, written: sheet.len(), last: last + 1, slice, marked: 0 }
         }
     }
+}
+
+/// Whether the marked places must take in more than they can let out: every stream across their edge has a range, and the
+/// lows in sum to more than the highs out. No place above the units is marked.
+pub fn overfull(plant: &Listed, marked: u64) -> bool {
+    let mut more = 0;
+    for s in &plant.streams {
+        match (marked >> s.from & 1, marked >> s.to & 1, s.limits()) {
+            (0, 1, Some((low, _))) => more += low,
+            (1, 0, Some((_, high))) => more -= high,
+            (from, to, None) if from != to => return false,
+            _ => {}
+        }
+    }
+    more > 0 && marked >> plant.units >> 1 == 0
 }
 
 /// The label of each place: the least place that the chosen streams join it to.
@@ -78,18 +101,26 @@ fn count(labels: &[usize]) -> usize {
     labels.iter().enumerate().filter(|(i, l)| i == *l).count()
 }
 
-/// The bytes of the plant's sheet under a number.
-pub fn sheet_of(plant: &Listed, number: u32) -> Vec<u8> {
+/// The bytes of the plant's sheet under a number; where no balanced flow is in range, places that show it.
+pub fn sheet_of(plant: &Listed, number: u32) -> Result<Vec<u8>, u64> {
     let group = joined(plant, |_, s| s.meter.is_none());
     let piece = joined(plant, |_, _| true);
-    let flow = cheapest::metered_flows(plant, &group);
+    let flow = match cheapest::metered_flows(plant, &group) {
+        Ok(flow) => flow,
+        Err(set) => {
+            let marked = set.iter().rev().fold(0, |mask, inside| mask << 1 | u64::from(*inside));
+            assert!(overfull(plant, marked), "no flow, and a set that does not show it");
+            return Err(marked);
+        }
+    };
     let mut sheet = Vec::new();
-    let mut cost: u64 = 0;
+    let mut cost: u128 = 0;
     for (k, s) in plant.streams.iter().enumerate() {
         let (kind, value) = match s.meter {
             Some((weight, reading)) => {
-                let off = flow[k] - i64::from(reading);
-                cost += u64::from(weight) * (off * off) as u64;
+                let off = i128::from(flow[k] - i64::from(reading));
+                cost += u128::from(weight) * (off * off) as u128;
+                assert!(s.limits().map_or(true, |(low, high)| (low..=high).contains(&flow[k])), "a flow outside its range");
                 (if group[s.from] != group[s.to] { 0x11 } else { 0x12 }, Some(flow[k]))
             }
             None => {
@@ -116,11 +147,11 @@ pub fn sheet_of(plant: &Listed, number: u32) -> Vec<u8> {
         }
     }
     let degrees = count(&group) - count(&piece);
-    let verdict = if degrees == 0 { 2 } else { u8::from(cost > CRITICAL[degrees - 1]) };
+    let verdict = if degrees == 0 { 2 } else { u8::from(cost > u128::from(CRITICAL[degrees - 1])) };
     sheet.push(0x1F);
     sheet.extend(number.to_be_bytes());
-    sheet.extend(cost.to_be_bytes());
+    sheet.extend(u64::try_from(cost).unwrap_or(u64::MAX).to_be_bytes());
     sheet.push(degrees as u8);
     sheet.push(verdict);
-    sheet
+    Ok(sheet)
 }

@@ -100,14 +100,33 @@ fn simpler_plants(plant: &Listed) -> Vec<Listed> {
                 with(weight, reading - reading.signum());
             }
         }
+        for range in simpler_ranges(plant.streams[k].range) {
+            let mut p = plant.clone();
+            p.streams[k].range = range;
+            all.push(p);
+        }
     }
     all
+}
+
+/// A number nearer to 0, the nearest first: less by all of it, a half, a quarter, .., 1.
+fn nearer(x: i32) -> Vec<i32> {
+    (0..31).map(|k| x / (1 << k)).filter(|part| *part != 0).map(|part| x - part).collect()
+}
+
+/// No range; or one with an end nearer to 0, or both.
+fn simpler_ranges(range: Option<(i32, i32)>) -> Vec<Option<(i32, i32)>> {
+    let Some((low, high)) = range else { return Vec::new() };
+    let lows = nearer(low).into_iter().map(|x| (x, high));
+    let highs = nearer(high).into_iter().map(|x| (low, x));
+    let both = nearer(low).into_iter().zip(nearer(high));
+    std::iter::once(None).chain(lows.chain(highs).chain(both).map(Some)).collect()
 }
 
 /// Simpler calls of the writer: without a stream, with another count, with a plain slice, with a number made 0.
 pub fn simpler_writes(w: &Write) -> Vec<Write> {
     let mut all = Vec::new();
-    let longest = [w.from.len(), w.to.len(), w.metered.len(), w.weight.len(), w.reading.len()].into_iter().max().unwrap();
+    let longest = w.lengths().into_iter().max().unwrap();
     for k in (0..longest).rev() {
         let mut v = w.clone();
         v.count -= usize::from(k < v.count);
@@ -116,14 +135,17 @@ pub fn simpler_writes(w: &Write) -> Vec<Write> {
         drop_at(&mut v.metered, k);
         drop_at(&mut v.weight, k);
         drop_at(&mut v.reading, k);
+        drop_at(&mut v.ranged, k);
+        drop_at(&mut v.low, k);
+        drop_at(&mut v.high, k);
         all.push(v);
     }
     if w.count > 0 {
         all.push(Write { count: w.count / 2, ..w.clone() });
         all.push(Write { count: w.count - 1, ..w.clone() });
     }
-    if w.slice.len() > 868 {
-        all.push(Write { slice: w.slice[..868].to_vec(), ..w.clone() });
+    if w.slice.len() > 1636 {
+        all.push(Write { slice: w.slice[..1636].to_vec(), ..w.clone() });
     }
     if w.slice.iter().any(|b| *b != 0) {
         all.push(Write { slice: vec![0; w.slice.len()], ..w.clone() });
@@ -135,6 +157,9 @@ pub fn simpler_writes(w: &Write) -> Vec<Write> {
         zero_at(&mut v.metered, k);
         zero_at(&mut v.weight, k);
         zero_at(&mut v.reading, k);
+        zero_at(&mut v.ranged, k);
+        zero_at(&mut v.low, k);
+        zero_at(&mut v.high, k);
         if v != *w {
             all.push(v);
         }

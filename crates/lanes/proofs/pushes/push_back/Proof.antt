@@ -5,11 +5,9 @@ use native.Mathlib.Omega.{arith}
 use borrow.Author.Needs.{needs}
 use lib.Dec.{eqb}
 use lib.ListN.{getD, take}
-use Rattle.numbers.specs.Choice.{pick}
 use Rattle.numbers.proofs.Tests.{picked}
 use Rattle.plants.specs.Limits.{places, maxStreams}
 use Rattle.plants.specs.Plants.{noStream}
-use Rattle.model.specs.Rows.{countOf}
 use Rattle.model.specs.Push.{pushed}
 use Rattle.model.specs.SearchNeeds.{Laying, Roomy}
 use Rattle.model.proofs.Filling.{starts-in, ends-in}

@@ -1,5 +1,4 @@
 -- `lanes::slacks::pull_of_reading` meets its contract: the product fits, by the bounds of weight and reading.
-use mathlib.Core.Path.{_≡_}
 use Prim.Native.Nat.{_*_, _≤_}
 use native.Mathlib.Omega.{arith}
 use Rattle.model.specs.Sizes.{mostPull}

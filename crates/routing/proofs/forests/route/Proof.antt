@@ -2,7 +2,7 @@
 use mathlib.Core.Path.{_≡_, refl}
 use Prim.Native.Nat.{_≤_, _<_, _-_}
 use native.Mathlib.Omega.{arith}
-use lib.ListN.{length, getD}
+use lib.ListN.{length, getD, take}
 use borrow.Author.Needs.{needs}
 use Rattle.plants.specs.Limits.{places, maxStreams}
 use Rattle.routing.specs.Forests.{Unmetered, Routes, Kept}
@@ -11,7 +11,7 @@ use Rattle.routing.proofs.forests.route.Statement.{statement}
 use Rattle.routing.proofs.forests.route.Tie as tie
 
 abbrev Inv-loop : tie.InvT-loop
-Inv-loop count nets₀ flows₀ streams f k₀ nets flows k = (k ≤ f .len) × (length nets ≡ places) × Routes flows × Kept streams count flows₀ flows
+Inv-loop count nets₀ flows₀ streams f k₀ nets flows k = (k ≤ f .len) × (length nets ≡ places) × Routes (take count streams) flows × Kept streams count flows₀ flows
 
 abbrev μ-loop : tie.MeasureT-loop
 μ-loop count nets₀ flows₀ streams f k₀ nets flows k = k

@@ -1,47 +1,85 @@
--- `solver::starts::start` meets its contract: both states are settled at a hint.
+-- `solver::starts::start` meets its contract: the prices are by label, and what is routed leaves the metered amounts settled.
+use mathlib.Core.Path.{subst}
+use mathlib.Core.List.{List}
+use Prim.Native.Nat.{ℕ}
+use native.Mathlib.Omega.{arith}
 use borrow.Author.Needs.{needs}
-use Rattle.model.proofs.Layouts.{hinted-ready, at-hint-around}
+use Rattle.plants.specs.Says.{plantOf}
+use Rattle.flows.specs.Chains.{unmeteredOnly}
+use Rattle.flows.specs.Labels.{labelsOf}
+use Rattle.flows.proofs.Grouping.{labels-are}
+use Rattle.potentials.specs.Levels.{Level}
+use Rattle.model.specs.Sizes.{priceShift, priceSpread}
+use Rattle.model.proofs.Booking.{nets-long}
+use Rattle.model.proofs.Layouts.{ready-settles}
 use Rattle.model.proofs.Theorem.{network-of}
+use Rattle.routing.proofs.Spanning.{routes-none, routes-amounts}
+use Rattle.solver.proofs.Factored.{labels-of, level-ready, level-routes, routed-start}
 use Rattle.solver.proofs.starts.start.Statement.{statement}
 use Rattle.solver.proofs.starts.start.Tie as tie
 
-fast-start-requires : tie.Need-fast-start-requires
-fast-start-requires c κs = search needs
+levels : (c : tie.After-potentials-of) → Level (labelsOf unmeteredOnly (plantOf (c .before .args .p))) priceShift priceSpread (c .potentials-of .result)
+levels c = subst (λ (ls : List ℕ). Level ls priceShift priceSpread (c .potentials-of .result)) (labels-are (c .before .args .p) (c .before .pre .0) unmeteredOnly _ (c .before .pre .1)) (c .potentials-of .ensures)
 
-over-sum-requires : tie.Need-over-sum-requires
-over-sum-requires c κs =
-    let f = c .before .before in
-    let st = f .before in
-    at-hint-around (st .args .p .streams) (st .args .p .count) (network-of (st .args .p) (st .pre .0)) (f .fast-start .result) (f .fast-start .ensures)
-
-returns : tie.Need-returns
-returns c = search needs
+potentials-of-requires : tie.Need-potentials-of-requires
+potentials-of-requires c κs = (c .pre .0, rw (labels-are (c .args .p) (c .pre .0) unmeteredOnly _ (c .pre .1)) (labels-of (c .args .p) (c .pre .0)), omega arith)
 
 cast-count : tie.Need-cast-count
 cast-count c = search needs
 
-hint-by-steps-requires : tie.Need-hint-by-steps-requires
-hint-by-steps-requires c κs =
+settle-flows-requires : tie.Need-settle-flows-requires
+settle-flows-requires c κs =
+    let at = c .before .before .before .before in
+    let st = at .before in
+    let p = st .args .p in
+    (ready-settles (p .streams) (p .count) (network-of p (st .pre .0)) _ (level-ready p (st .pre .0) (levels at)), routes-none {ss = plantOf p .streams} .long)
+
+nets-of-requires : tie.Need-nets-of-requires
+nets-of-requires c κs =
+    let at = c .before .before .before .before .before in
+    let st = at .before in
+    let p = st .args .p in
+    (network-of p (st .pre .0), rw (c .settle-flows .ensures) (routes-amounts (level-routes p (st .pre .0) (levels at))))
+
+forest-requires : tie.Need-forest-requires
+forest-requires c κs =
     let st = c .before .before .before .before .before .before .before in
     network-of (st .args .p) (st .pre .0)
 
-settle-requires : tie.Need-settle-requires
-settle-requires c κs =
-    let st = c .before .before .before .before .before .before .before .before in
-    let w = network-of (st .args .p) (st .pre .0) in
-    (w, hinted-ready (st .args .p .streams) (st .args .p .count) w (c .hint-by-steps .result) (c .hint-by-steps .ensures))
+route-requires : tie.Need-route-requires
+route-requires c κs =
+    let f = c .before .before in
+    let at = c .before .before .before .before .before .before .before .before .before in
+    let st = at .before in
+    let p = st .args .p in (
+      network-of p (st .pre .0),
+      f .forest .ensures,
+      rw (f .before .nets-of .ensures) (nets-long _ _ (p .count)),
+      rw (f .before .before .settle-flows .ensures) (level-routes p (st .pre .0) (levels at)),
+    )
 
-returns-2 : tie.Need-returns-2
-returns-2 c = search needs
+nets-of-requires-2 : tie.Need-nets-of-requires-2
+nets-of-requires-2 c κs =
+    let st = c .before .before .before .before .before .before .before .before .before .before .before in
+    (network-of (st .args .p) (st .pre .0), routes-amounts (c .route .ensures .0))
+
+returns : tie.Need-returns
+returns c =
+    let at = c .before .before .before .before .before .before .before .before .before .before .before in
+    let st = at .before in
+    let p = st .args .p in
+    let r = c .before .route in
+    rw (c .nets-of2 .ensures) (routed-start p (st .pre .0) (levels at) (c .before .before .before .before .before .before .settle-flows .ensures) (r .ensures .0) (r .ensures .1))
 
 pub start-spec : {M : Type 1} → statement M
 start-spec =
     tie.close
     (tie.spec
-    fast-start-requires
-    over-sum-requires
-    returns
+    potentials-of-requires
     cast-count
-    hint-by-steps-requires
-    settle-requires
-    returns-2)
+    settle-flows-requires
+    nets-of-requires
+    forest-requires
+    route-requires
+    nets-of-requires-2
+    returns)

@@ -7,7 +7,7 @@ use Rattle.vectors.proofs.calls.put_streams.Statement.{statement}
 use Rattle.vectors.proofs.calls.put_streams.Tie as tie
 
 abbrev Inv-loop : tie.InvT-loop
-Inv-loop out₀ streams i₀ out i = (i ≤ 96) × (length out ≡ 864)
+Inv-loop out₀ streams i₀ out i = (i ≤ 96) × (length out ≡ 1632)
 
 abbrev μ-loop : tie.MeasureT-loop
 μ-loop out₀ streams i₀ out i = 96 - i

@@ -49,6 +49,21 @@ solve-from-requires c κs =
     let a = plant-accepted (take (length given - 96) (drop 96 given)) (read .result) (read .ensures) (c .before .before .if3 .left) in
     (a, rw (c .no-hint .ensures) (Theorem.unhinted _ (within-of _ a)))
 
+sub-no-flow : tie.Need-sub-no-flow
+sub-no-flow c = search needs
+
+part-no-flow-start : tie.Need-part-no-flow-start
+part-no-flow-start c = search needs
+
+part-no-flow-end : tie.Need-part-no-flow-end
+part-no-flow-end c = search needs
+
+no-flow-requires : tie.Need-no-flow-requires
+no-flow-requires c κs = search needs
+
+returns-4 : tie.Need-returns-4
+returns-4 c = search needs
+
 put-flows-requires : tie.Need-put-flows-requires
 put-flows-requires c κs = search needs
 
@@ -58,8 +73,8 @@ done-requires-4 c κs = search needs
 same-length : tie.Need-same-length
 same-length c = search needs
 
-returns-4 : tie.Need-returns-4
-returns-4 c = search needs
+returns-5 : tie.Need-returns-5
+returns-5 c = search needs
 
 pub unhinted-spec : {M : Type 1} → statement M
 unhinted-spec =
@@ -77,7 +92,12 @@ unhinted-spec =
     returns-3
     no-hint-requires
     solve-from-requires
+    sub-no-flow
+    part-no-flow-start
+    part-no-flow-end
+    no-flow-requires
+    returns-4
     put-flows-requires
     done-requires-4
     same-length
-    returns-4)
+    returns-5)

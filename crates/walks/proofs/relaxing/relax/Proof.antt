@@ -11,8 +11,8 @@ use lib.Dec.{eqb, ltb}
 use lib.ListN.{length, getD}
 use Rattle.numbers.specs.Choice.{pick}
 use Rattle.numbers.proofs.Tests.{picked}
-use Rattle.plants.specs.Limits.{places, maxStreams, maxWeight}
-use Rattle.model.specs.Sizes.{mostStep}
+use Rattle.plants.specs.Limits.{places}
+use Rattle.model.specs.Sizes.{farthest}
 use Rattle.model.specs.Rows.{countOf, startsOf, endsOf}
 use Rattle.model.specs.Near.{gapsOf, codeOf, lessened, lastAt, linkAt, relaxedAlong, relaxedAt, relaxedTo}
 use Rattle.model.proofs.Filling.{relaxed-long}
@@ -105,7 +105,7 @@ end-in c =
     let m = start on .pre .0 in
     rw (c .place-at .ensures) (picked (λ (p : ℕ). p < places) (not (ahead on)) _ _ (λ o. m .from-in _ (low on)) (λ o. m .to-in _ (low on)))
 
-gap-in : (c : tie.After-gap-past Inv-loop μ-loop) → c .gap-past .result ≤ 2 * maxWeight * mostStep
+gap-in : (c : tie.After-gap-past Inv-loop μ-loop) → c .gap-past .result ≤ farthest
 gap-in c =
     let on = c .before .before .before .before in
     rw (c .gap-past .ensures) (start on .pre .0 .small _ (ahead on) (low on))

@@ -1,0 +1,3 @@
+-- Laws of the count.
+pub mod Paces
+pub mod Counted

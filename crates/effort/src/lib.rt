@@ -1,0 +1,1 @@
+// How many improvements the solver makes. No function stands here.

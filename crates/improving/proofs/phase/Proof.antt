@@ -1,0 +1,104 @@
+-- `improving::phase` meets its contract: the places one after the other.
+use mathlib.Core.Path.{_≡_}
+use mathlib.Core.Bool.{Bool, true, false, false≢true}
+use mathlib.Core.List.{List}
+use Prim.Native.Nat.{_≤_, _-_}
+use native.Mathlib.Omega.{arith}
+use borrow.Author.Needs.{needs}
+use lib.ListN.{take}
+use Rattle.plants.specs.Limits.{places}
+use Rattle.model.specs.declared.State.{State}
+use Rattle.model.specs.declared.Ended.{Ended}
+use Rattle.model.specs.Model.{stateOf, phaseTo, going, endedBy}
+use Rattle.model.specs.SolverNeeds.{Improvable}
+use Rattle.model.proofs.Streams.{solvable-of}
+use Rattle.model.proofs.PhaseTurns.{phase-none, phase-underway, phase-next, phase-full, phase-end}
+use Rattle.improving.proofs.phase.Statement.{statement}
+use Rattle.improving.proofs.phase.Tie as tie
+use Rattle.improving.proofs.from_place.Reads as from-place-reads
+
+abbrev Inv-loop : tie.InvT-loop
+Inv-loop lanes delta flows₀ prices₀ nets₀ s₀ flows prices nets s =
+    (s ≤ places)
+    × ((w : Improvable lanes delta (stateOf flows₀ prices₀ nets₀))
+    → phaseTo s (take (w .n) (w .streams)) delta (stateOf flows₀ prices₀ nets₀) ≡ going (stateOf flows prices nets))
+
+abbrev μ-loop : tie.MeasureT-loop
+μ-loop lanes delta flows₀ prices₀ nets₀ s₀ flows prices nets s = places - s
+
+-- The start; streams that the lanes are of.
+abbrev begin : tie.In-loop Inv-loop μ-loop → tie.Start Inv-loop μ-loop
+begin c = c .before .before .before .before .before
+
+abbrev Of : tie.Start Inv-loop μ-loop → Type 0
+Of st = Improvable (st .args .lanes .now) (st .args .delta) (st .args .start)
+
+-- Improvements can be made from one place more.
+abbrev able : (c : tie.In-loop Inv-loop μ-loop) → Of (begin c)
+    → Improvable (begin c .args .lanes .now) (begin c .args .delta) (stateOf (c .before .loop .flows) (c .before .loop .prices) (c .before .loop .nets))
+able c w = record {
+  streams = w .streams;
+  n = w .n;
+  network = w .network;
+  laid = w .laid;
+  step = w .step;
+  underway =
+      phase-underway _ (solvable-of (w .streams) (w .n) (w .network)) _ (w .step) _ (w .underway) (c .before .loop .s) (omega (arith, c .loop-test .taken)) _
+      (c .before .loop .inv .1 w);
+}
+
+-- What is handed over where a set is full.
+full-told : {r : Ended} (b : Bool) (st : State) (ms : List Bool) → b ≡ true → endedBy b st ms ≡ r → endedBy true st ms ≡ r
+full-told true st ms e q = q
+full-told false st ms e q = absurd (false≢true e)
+
+loop-holds : tie.Need-loop-holds Inv-loop μ-loop
+loop-holds c = (omega arith, λ w. phase-none _ _ _)
+
+from-place-requires : tie.Need-from-place-requires Inv-loop μ-loop
+from-place-requires c κs =
+    let on = c .before .before .before in
+    (able on (begin on .pre), omega (arith, on .loop-test .taken))
+
+returns : tie.Need-returns Inv-loop μ-loop
+returns c = λ w.
+    let f = c .before .before in
+    let on = f .before .before .before .before in
+    let t = c .before .if1 .taken in
+    full-told _ _ _ t
+    (phase-full _ (solvable-of (w .streams) (w .n) (w .network)) _ (w .step) _ (w .underway) (on .before .loop .s) (omega (arith, on .loop-test .taken)) _
+    (on .before .loop .inv .1 w) _ _ _ (f .from-place .ensures (able on w)) t)
+
+add-s : tie.Need-add-s Inv-loop μ-loop
+add-s c = search needs
+
+loop-less : tie.Need-loop-less Inv-loop μ-loop
+loop-less c = search needs
+
+loop-again : tie.Need-loop-again Inv-loop μ-loop
+loop-again c =
+    let f = c .before in
+    let on = f .before .before .before .before in (
+      omega arith,
+      λ w. phase-next _ (solvable-of (w .streams) (w .n) (w .network)) _ (w .step) _ (w .underway) (on .before .loop .s) (omega (arith, on .loop-test .taken)) _
+          (on .before .loop .inv .1 w) _ _ _ (f .from-place .ensures (able on w)) (c .if1 .left),
+    )
+
+returns-2 : tie.Need-returns-2 Inv-loop μ-loop
+returns-2 c = λ w.
+    let e : c .before .loop .s ≡ places = omega (arith, c .loop-test .left, c .before .loop .inv .0) in
+    phase-end _ _ _ _ _ e (c .before .loop .inv .1 w)
+
+pub phase-spec : {M : Type 1} → statement M
+phase-spec =
+    tie.close
+    (tie.spec
+    Inv-loop
+    μ-loop
+    loop-holds
+    from-place-requires
+    returns
+    add-s
+    loop-less
+    loop-again
+    returns-2)

@@ -1,0 +1,2 @@
+-- Definitions that the contracts of laplacians cite.
+pub mod Cells

@@ -1,0 +1,147 @@
+// Newton's method on the dual of the real-number problem: prices whose clamped amounts balance. What they cost is convex and its slope
+// along a direction is the sum of nets times changes, which rises; so a step is as long as the slope is not above 0.
+use crate::nets::greatest_net;
+use crate::nets::moved;
+use crate::nets::nets_at;
+use crate::nets::product;
+use laplacians::direction;
+use plants::Plant;
+use plants::limits::PLACES;
+ghost use mathlib.Core.Path.{_≡_};
+ghost use lib.ListN.{length};
+ghost use Rattle.plants.specs.Limits.{places};
+ghost use Rattle.plants.specs.Within.{Accepted};
+ghost use Rattle.laplacians.specs.Cells.{Labels};
+
+// How many steps there are at most, how near to 0 the nets have to come, and how often the length of a step is sought.
+const STEPS: usize = 23;
+
+const NEAR: f64 = 4.0;
+
+const TRIALS: usize = 12;
+
+// Two lengths of a step between which the best one lies, and the slopes there: at most 0, and above 0.
+struct Bracket {
+    short: f64,
+    long: f64,
+    falling: f64,
+    rising: f64,
+}
+
+// Whether some stream has a range.
+fn any_ranged(p: Plant) -> bool
+    requires { ⌜ Accepted p ⌝ }
+{
+    let n = p.count as usize;
+    let mut i: usize = 0;
+    while i < n {
+        let s = p.streams[i];
+        if s.ranged {
+            return true;
+        }
+        i += 1;
+    }
+    false
+}
+
+// The slope after a step of length t.
+fn slope(
+    p: Plant,
+    labels: &[u8; PLACES],
+    prices: &[f64; PLACES],
+    way: &[f64; PLACES],
+    t: f64,
+) -> f64
+    requires { ⌜ Accepted p × Labels (now labels) × (length (now prices) ≡ places) × (length (now way) ≡ places) ⌝ }
+{
+    let there = moved(prices, way, t);
+    let nets = nets_at(p, labels, &there);
+    product(&nets, way)
+}
+
+// A length between two: halfway each third time, else where a straight line has the slope 0.
+fn between(b: Bracket, trial: usize) -> f64 {
+    if trial % 3 == 2 {
+        return (b.short + b.long) / 2.0;
+    }
+    b.short - (b.long - b.short) * b.falling / (b.rising - b.falling)
+}
+
+// The bracket with the slope at t known.
+fn narrowed(b: Bracket, t: f64, at: f64) -> Bracket {
+    if at > 0.0 {
+        return Bracket {
+            short: b.short,
+            long: t,
+            falling: b.falling,
+            rising: at,
+        };
+    }
+    Bracket {
+        short: t,
+        long: b.long,
+        falling: at,
+        rising: b.rising,
+    }
+}
+
+// How long a step is: 1 where the slope is not above 0 there, else until it is within a tenth of what it was at first.
+fn step_length(
+    p: Plant,
+    labels: &[u8; PLACES],
+    prices: &[f64; PLACES],
+    way: &[f64; PLACES],
+    first: f64,
+) -> f64
+    requires { ⌜ Accepted p × Labels (now labels) × (length (now prices) ≡ places) × (length (now way) ≡ places) ⌝ }
+{
+    let whole = slope(p, labels, prices, way, 1.0);
+    if !(whole > 0.0) {
+        return 1.0;
+    }
+    let mut b = Bracket {
+        short: 0.0,
+        long: 1.0,
+        falling: first,
+        rising: whole,
+    };
+    let mut trial: usize = 0;
+    while trial < TRIALS {
+        let t = between(b, trial);
+        b = narrowed(b, t, slope(p, labels, prices, way, t));
+        if b.falling > 0.1 * first {
+            return b.short;
+        }
+        trial += 1;
+    }
+    b.short
+}
+
+// Real prices, one for each label: at first without ranges, then step by step with them.
+pub fn descend(p: Plant, labels: [u8; PLACES]) -> [f64; PLACES]
+    requires { ⌜ Accepted p × Labels labels ⌝ }
+    ensures { λ r. ⌜ length r ≡ places ⌝ }
+{
+    let none = [0.0f64; PLACES];
+    let mut prices = direction(p, labels, &none, true);
+    if !any_ranged(p) {
+        return prices;
+    }
+    let mut left = STEPS;
+    while 0 < left {
+        let nets = nets_at(p, &labels, &prices);
+        if greatest_net(&nets) < NEAR {
+            return prices;
+        }
+        let way = direction(p, labels, &prices, false);
+        let first = product(&nets, &way);
+        if !(first < 0.0) {
+            return prices;
+        }
+        let t = step_length(p, &labels, &prices, &way, first);
+        let next = moved(&prices, &way, t);
+        prices = next;
+        left -= 1;
+    }
+    prices
+}

@@ -1,0 +1,51 @@
+-- What the solver hands over is right, where a set is full and where a flow is found.
+use mathlib.Core.Path.{_≡_, subst}
+use mathlib.Core.Bool.{Bool, true, false}
+use mathlib.Core.List.{List}
+use Prim.Native.Nat.{ℕ}
+use Rattle.plants.specs.declared.Stream.{Stream}
+use Rattle.plants.specs.declared.Plant as Arrays
+use Rattle.plants.specs.Within.{Accepted}
+use Rattle.plants.specs.Says.{plantOf}
+use Rattle.plants.proofs.Arrayed.{all-listed, within-of}
+use Rattle.flows.specs.Overfull.{Overfull}
+use Rattle.model.specs.declared.State.{State}
+use Rattle.model.specs.declared.Ended.{Ended}
+use Rattle.model.specs.Model.{finished, masked, tiesTo, solvedFrom}
+use Rattle.model.specs.SearchNeeds.{Laid}
+use Rattle.model.specs.SolverNeeds.{AtHint, Tieable}
+use Rattle.model.specs.Promise.{Right}
+use Rattle.model.proofs.Phases.{Finished}
+use Rattle.model.proofs.Ending.{finished-good, finished-even}
+use Rattle.model.proofs.Theorem.{network-of, solvable-in, ended-full, solved-right}
+
+module _ (p : Arrays.Plant) (a : Accepted p) (st : State) (s : AtHint (plantOf p .streams) st) (e : Ended) (q : e ≡ finished (plantOf p .streams) st) where
+  abbrev ss : List Stream
+  ss = plantOf p .streams
+
+  pub ends : Finished ss e
+  ends = rw q (finished-good ss (solvable-in (plantOf p) (within-of p a)) st s)
+
+  pub full-right : (own : List Bool) → e .full ≡ true → own ≡ masked (p .units) (e .marked) → Overfull (plantOf p) own
+  full-right own n o = rw o (ended-full (plantOf p) (within-of p a) e ends n)
+
+  module _ (n : e .full ≡ false) where
+    -- What the tie pass begins from.
+    abbrev pub tieable : (ls : List ℕ) → Laid (p .streams) (p .count) ls → Tieable ls (e .state .prices) 0 (e .state .flows)
+    tieable ls l = record {
+      streams = p .streams;
+      n = p .count;
+      network = network-of p a;
+      laid = l;
+      prices = ends .underway n .sound .capped;
+      even = finished-even ss (solvable-in (plantOf p) (within-of p a)) e ends n;
+    }
+
+    found-is : (flows : List ℕ) (own : List Bool) → flows ≡ tiesTo ss (e .state .prices) (p .count) (e .state .flows) → own ≡ masked (p .units) (e .marked)
+        → solvedFrom (p .units) ss st ≡ record { found = true; flows = flows; prices = e .state .prices; marked = own }
+    unfolding solvedFrom
+    found-is flows own f o = rw (← q, n, f, o, all-listed p a)
+
+    pub found-right : (flows : List ℕ) (own : List Bool) → flows ≡ tiesTo ss (e .state .prices) (p .count) (e .state .flows) → own ≡ masked (p .units) (e .marked)
+        → Right p (record { found = true; flows = flows; prices = e .state .prices; marked = own })
+    found-right flows own f o = subst (Right p) (found-is flows own f o) (solved-right p a st s)

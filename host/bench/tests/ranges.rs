@@ -1,0 +1,99 @@
+//! The plain engine against the reference of the differential tests, on drawn plants with ranges: the same number, counter,
+//! count and bytes; and the marked places of a refusal 19 are tested. Neither needs the archive.
+//!
+//! WENGELUDO_INPUTS   how many inputs (default 100,000)
+//! WENGELUDO_SEED     the first seed (default 1); input k has the seed WENGELUDO_SEED + k
+//! WENGELUDO_PLANTS   how many plants of each kind and size that the benchmark draws (default 20)
+
+#[allow(dead_code, unused_imports)]
+#[path = "../../rust/tests/draw/mod.rs"]
+mod draw;
+#[allow(dead_code, unused_imports)]
+#[path = "../../rust/tests/reference/mod.rs"]
+mod reference;
+#[allow(dead_code, unused_imports)]
+#[path = "../../rust/tests/shrink/mod.rs"]
+mod shrink;
+
+use draw::{Call, Draw};
+use wengeludo_bench::engine::{balance_by_phases, balance_plant, Back, Unwatched};
+use wengeludo_bench::plants::Kind;
+use wengeludo_bench::report::{plants, SIZES};
+
+/// A sheet call of the plain engine.
+type Way = fn(&[u8], Back, &mut Unwatched) -> u8;
+
+/// With the hint, and by phases alone.
+const WAYS: [Way; 2] = [balance_plant, balance_by_phases];
+
+/// Where the plain engine differs from the reference, either way; else the number returned.
+fn compared(call: &Call) -> Result<u8, String> {
+    let expected = reference::sheet_call(&call.file, call.last, &call.slice);
+    for way in WAYS {
+        let (mut last, mut written, mut marked, mut slice) = (call.last, 77, u64::MAX, call.slice.clone());
+        let back = Back { last: &mut last, out: &mut slice, written: &mut written, marked: &mut marked };
+        let returned = way(&call.file, back, &mut Unwatched);
+        let wanted = (expected.returned, expected.last, expected.written);
+        if (returned, last, written) != wanted {
+            return Err(format!("{:?}, expected {wanted:?}", (returned, last, written)));
+        }
+        if slice != expected.slice {
+            return Err("the slice".to_string());
+        }
+        let right = match reference::read(&call.file) {
+            Ok(plant) if returned == 19 => reference::overfull(&plant, marked),
+            _ => marked == 0,
+        };
+        if !right {
+            return Err(format!("marked {marked:#x}"));
+        }
+    }
+    Ok(expected.returned)
+}
+
+fn number(name: &str, other: u64) -> u64 {
+    std::env::var(name).map_or(other, |text| text.replace('_', "").parse().unwrap_or_else(|_| panic!("{name}: {text}")))
+}
+
+#[test]
+fn plain_engine_and_reference_agree() {
+    let (inputs, seed) = (number("WENGELUDO_INPUTS", 100_000), number("WENGELUDO_SEED", 1));
+    let mut counts = [0u64; 20];
+    for k in 0..inputs {
+        let call = Draw::new(seed + k).call();
+        match compared(&call) {
+            Ok(returned) => counts[usize::from(returned)] += 1,
+            Err(difference) => {
+                let small = shrink::smallest(call, &shrink::simpler_calls, &|c| compared(c).is_err());
+                let again = compared(&small).unwrap_err();
+                panic!("seed {}: {difference}\nsmallest input found: {again}\n{small}", seed + k);
+            }
+        }
+    }
+    println!("{inputs} inputs from seed {seed}, no difference; by the number returned: {counts:?}");
+    assert!(inputs < 100_000 || (counts[0] > 0 && counts[18] > 0 && counts[19] > 0), "some outcome never came up");
+}
+
+/// Plants of every kind and size that the benchmark draws.
+#[test]
+fn plants_of_the_benchmark() {
+    let count = number("WENGELUDO_PLANTS", 20) as usize;
+    for kind in Kind::ALL {
+        for (units, streams) in SIZES {
+            for plant in plants(kind, units, streams, count) {
+                let call = Call { file: plant.file(), last: 0, slice: vec![0xA5; 879] };
+                assert_eq!(compared(&call), Ok(if kind == Kind::Overfull { 19 } else { 0 }), "{call}");
+            }
+        }
+    }
+}
+
+/// The worst plants that climbing found.
+#[test]
+fn recorded_plants() {
+    for name in ["worst.bin", "worst_ranges.bin", "most_improvements.bin"] {
+        let file = std::fs::read(std::path::Path::new(env!("CARGO_MANIFEST_DIR")).join(name)).expect("a recorded plant");
+        let call = Call { file, last: 0, slice: vec![0xA5; 879] };
+        assert_eq!(compared(&call), Ok(0), "{name}: {call}");
+    }
+}
