@@ -6,17 +6,17 @@ use lib.ListN.{length, take, drop}
 use Rattle.plants.proofs.Arrayed.{within-of}
 use Rattle.sheets.proofs.Promise.{plant-accepted}
 use Rattle.model.proofs.Theorem as Theorem
-use Rattle.vectors.proofs.calls.unhinted.Statement.{statement}
-use Rattle.vectors.proofs.calls.unhinted.Tie as tie
+use Rattle.flow_trials.proofs.unhinted.Statement.{statement}
+use Rattle.flow_trials.proofs.unhinted.Tie as tie
 
-done-requires : tie.Need-done-requires
-done-requires c κs = search needs
+no-case-requires : tie.Need-no-case-requires
+no-case-requires c κs = search needs
 
 returns : tie.Need-returns
 returns c = search needs
 
-done-requires-2 : tie.Need-done-requires-2
-done-requires-2 c κs = search needs
+no-case-requires-2 : tie.Need-no-case-requires-2
+no-case-requires-2 c κs = search needs
 
 returns-2 : tie.Need-returns-2
 returns-2 c = search needs
@@ -33,8 +33,8 @@ part-read-plant-end c = search needs
 read-plant-requires : tie.Need-read-plant-requires
 read-plant-requires c κs = search needs
 
-done-requires-3 : tie.Need-done-requires-3
-done-requires-3 c κs = search needs
+told-requires : tie.Need-told-requires
+told-requires c κs = search needs
 
 returns-3 : tie.Need-returns-3
 returns-3 c = search needs
@@ -67,8 +67,8 @@ returns-4 c = search needs
 put-flows-requires : tie.Need-put-flows-requires
 put-flows-requires c κs = search needs
 
-done-requires-4 : tie.Need-done-requires-4
-done-requires-4 c κs = search needs
+told-requires-2 : tie.Need-told-requires-2
+told-requires-2 c κs = search needs
 
 same-length : tie.Need-same-length
 same-length c = search needs
@@ -80,15 +80,15 @@ pub unhinted-spec : {M : Type 1} → statement M
 unhinted-spec =
     tie.close
     (tie.spec
-    done-requires
+    no-case-requires
     returns
-    done-requires-2
+    no-case-requires-2
     returns-2
     sub-read-plant
     part-read-plant-start
     part-read-plant-end
     read-plant-requires
-    done-requires-3
+    told-requires
     returns-3
     no-hint-requires
     solve-from-requires
@@ -98,6 +98,6 @@ unhinted-spec =
     no-flow-requires
     returns-4
     put-flows-requires
-    done-requires-4
+    told-requires-2
     same-length
     returns-5)

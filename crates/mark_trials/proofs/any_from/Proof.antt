@@ -2,8 +2,8 @@
 use borrow.Author.Needs.{needs}
 use Prim.Native.Nat.{_-_}
 use Rattle.plants.specs.Limits.{places}
-use Rattle.vectors.proofs.marking.any_from.Statement.{statement}
-use Rattle.vectors.proofs.marking.any_from.Tie as tie
+use Rattle.mark_trials.proofs.any_from.Statement.{statement}
+use Rattle.mark_trials.proofs.any_from.Tie as tie
 
 abbrev Inv-loop : tie.InvT-loop
 Inv-loop first marked found₀ u₀ found u = Unit {0}

@@ -1,8 +1,8 @@
 -- The index stays within the array.
 use borrow.Author.Needs.{needs}
 use Prim.Native.Nat.{_≤_, _-_}
-use Rattle.vectors.proofs.marking.edge_of.Statement.{statement}
-use Rattle.vectors.proofs.marking.edge_of.Tie as tie
+use Rattle.mark_trials.proofs.edge_of.Statement.{statement}
+use Rattle.mark_trials.proofs.edge_of.Tie as tie
 
 abbrev Inv-loop : tie.InvT-loop
 Inv-loop marked streams edge₀ i₀ edge i = i ≤ 96

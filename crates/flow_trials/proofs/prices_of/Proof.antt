@@ -8,8 +8,8 @@ use Rattle.plants.specs.Limits.{places}
 use Rattle.flows.proofs.Lists.{set-each}
 use Rattle.model.specs.Sizes.{priceShift}
 use Rattle.model.specs.SearchNeeds.{Prices}
-use Rattle.vectors.proofs.calls.prices_of.Statement.{statement}
-use Rattle.vectors.proofs.calls.prices_of.Tie as tie
+use Rattle.flow_trials.proofs.prices_of.Statement.{statement}
+use Rattle.flow_trials.proofs.prices_of.Tie as tie
 
 abbrev Inv-loop : tie.InvT-loop
 Inv-loop given prices₀ u₀ prices u = (u ≤ places) × (length prices ≡ places) × Prices prices
