@@ -4,6 +4,7 @@ use flows::Class;
 use flows::Cuts;
 use model::Solved;
 use model::sizes::FLOW_SHIFT;
+use numerals::size_of;
 use plants::Plant;
 use plants::Stream;
 use plants::limits::MAX_STREAMS;
@@ -96,17 +97,6 @@ fn entries_of(classes: [Class; MAX_STREAMS], flows: [i64; MAX_STREAMS]) -> [Entr
         i += 1;
     }
     streams
-}
-
-// The size of a signed number.
-pub fn size_of(z: i64) -> u64
-    ensures { λ r. ⌜ r ≡ natAbs z ⌝ }
-{
-    if 0 <= z {
-        return z as u64;
-    }
-    let below = (-1 - z) as u64;
-    below + 1
 }
 
 // Weight times a square, as it is written.

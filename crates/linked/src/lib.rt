@@ -1,19 +1,17 @@
 // The sheet call, the plant writer, the sheet reader and the translator for programs in C and Rust: functions on numbers and
 // slices of numbers.
-mod kept;
-mod marks;
-mod parts;
+mod marked;
 
-use marks::balance_marked;
+use marked::balance_marked;
 use plants::Plant;
 ghost use Prim.Native.Nat.{_<_, _^_};
 ghost use Rattle.sheets.specs.Says.{SheetSays};
 ghost use Rattle.plants.specs.Limits.{places};
 ghost use Rattle.plants.specs.Says.{WriteSays};
 ghost use Rattle.transmitters.specs.Says.{TranslateSays};
-ghost use Rattle.linked.specs.Parts.{handed};
-ghost use Rattle.linked.specs.Kept.{HandsOver};
-ghost use Rattle.linked.specs.Marks.{marksIn};
+ghost use Rattle.plant_slices.specs.Parts.{handed};
+ghost use Rattle.sheet_slices.specs.Kept.{HandsOver};
+ghost use Rattle.marks.specs.Marks.{marksIn};
 
 // The sheet call: the file's sheet in the slice, its bytes counted and the counter one higher; or a refusal number, none
 // counted, slice and counter as they were. With refusal 19 bit u of the marks is set where place u is in an overfull set; else
@@ -55,15 +53,15 @@ pub extern "C" fn wengeludo_write_plant(
 ) -> u8
     ensures { λ r. ⌜ WriteSays (handed units count (record { from = now (from .entry); to = now (to .entry); metered = now (metered .entry); weight = now (weight .entry); reading = now (reading .entry); ranged = now (ranged .entry); low = now (low .entry); high = now (high .entry) })) (now (file .entry)) (now (file .exit)) (record { number = r; written = now (written .exit) }) ⌝ }
 {
-    let n = parts::reached(
-        parts::meters_reach(from, to, metered, weight, reading),
-        parts::ranges_reach(ranged, low, high),
+    let n = plant_slices::reached(
+        plant_slices::meters_reach(from, to, metered, weight, reading),
+        plant_slices::ranges_reach(ranged, low, high),
     );
-    let meters = parts::meters_gathered(n, from, to, metered, weight, reading);
-    let streams = parts::ranges_gathered(n, meters, ranged, low, high);
+    let meters = plant_slices::meters_gathered(n, from, to, metered, weight, reading);
+    let streams = plant_slices::ranges_gathered(n, meters, ranged, low, high);
     let plant = Plant {
         units: units,
-        count: parts::count_byte(count),
+        count: plant_slices::count_byte(count),
         streams: streams,
     };
     let done = plant_writer::write_plant(plant, file);
@@ -87,11 +85,11 @@ pub extern "C" fn wengeludo_read_sheet(
 ) -> u8
     ensures { λ r. ⌜ HandsOver (now (bytes .entry)) (now (kinds .entry)) (now (kinds .exit)) (now (flows .entry)) (now (flows .exit)) r (now (count .exit)) (now (sheet .exit)) (now (cost .exit)) (now (degrees .exit)) (now (verdict .exit)) ⌝ }
 {
-    let read = kept::read_lent(bytes, kinds.len(), flows.len());
+    let read = sheet_slices::read_lent(bytes, kinds.len(), flows.len());
     let listed = read.count as usize;
     let streams = read.streams;
-    kept::put_kinds(listed, streams, kinds);
-    kept::put_flows(listed, streams, flows);
+    sheet_slices::put_kinds(listed, streams, kinds);
+    sheet_slices::put_flows(listed, streams, flows);
     let total = read.total;
     *count = listed;
     *sheet = total.sheet;

@@ -8,3 +8,4 @@ pub mod Loop
 pub mod Arrayed
 pub mod There
 pub mod Back
+pub mod Nineteen

@@ -24,8 +24,9 @@ use Rattle.sheets.specs.declared.Balance.{Balance}
 use Rattle.sheets.specs.Balances.{balanceOf, BalanceSays}
 use Rattle.sheets.proofs.Promise.{read-bad, found, plant-count, plant-balance, plant-overfull}
 use Rattle.sheets.proofs.Unique.{one-balance, never-both}
-use Rattle.texts.specs.Listing.{listingOf, refusalText}
-use Rattle.texts.specs.Says.{leastText, ListWith, ListSays, Counts, One-text}
+use Rattle.listings.specs.Listing.{listingOf, refusalText}
+use Rattle.listings.specs.Room.{leastText}
+use Rattle.texts.specs.Says.{ListWith, ListSays, Counts, One-text}
 
 -- A text lies within its slice.
 pub put-counts : {x o o′ : List ℕ} {r : ℕ} → Put x o o′ r → Counts r o′

@@ -6,7 +6,7 @@ use lib.IntN.{ℤ, pos, negsuc}
 use Rattle.plants.specs.Plants.{Plant, unmetered}
 use Rattle.flows.proofs.Certified.{certified-cheapest}
 use Rattle.sheets.specs.Balances.{balanceOf}
-use Rattle.texts.specs.Listing.{decimal}
+use Rattle.numerals.specs.Numerals.{decimal}
 use Rattle.texts.specs.Sample.{Sample}
 
 plant : Plant

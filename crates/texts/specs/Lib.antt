@@ -1,5 +1,3 @@
--- The listing of a balance as text, the sample's own listing, and what the calls that put a text into a slice promise.
-pub mod Listing
-pub mod Adding
+-- What the call that lists a plant promises, and the sample's own listing.
 pub mod Says
 pub mod Sample

@@ -9,7 +9,8 @@ use Rattle.plants.specs.Files.{got, readPlant}
 use Rattle.flows.specs.Flows.{Cheapest}
 use Rattle.sheets.specs.Balances.{balanceOf}
 use Rattle.sheets.specs.Table.{site, meter, pipe, end}
-use Rattle.texts.specs.Listing.{text, listingOf}
+use Rattle.numerals.specs.Numerals.{text}
+use Rattle.listings.specs.Listing.{listingOf}
 
 abbrev pub sampleFile : List ℕ
 sampleFile = site 2 ++ meter 0 1 10 100 ++ pipe 1 2 ++ pipe 1 2 ++ meter 2 0 10 98 ++ end 4

@@ -4,28 +4,17 @@ use mathlib.Core.Bool.{Bool}
 use mathlib.Core.Logic.{_⊎_}
 use mathlib.Core.List.{List}
 use lib.IntN.{ℤ}
-use Prim.Native.Nat.{ℕ, _+_, _*_, _≤_}
+use Prim.Native.Nat.{ℕ, _≤_}
 use lib.Dec.{ltb}
 use lib.ListN.{length, take}
 use Rattle.numbers.specs.Inner.{Put, pickT}
-use Rattle.plants.specs.Limits.{maxStreams}
 use Rattle.plants.specs.Plants.{Plant}
 use Rattle.plants.specs.Files.{Got, bad, got, readPlant}
 use Rattle.flows.specs.Flows.{Cheapest}
 use Rattle.flows.specs.Overfull.{Overfull}
 use Rattle.sheets.specs.Balances.{balanceOf}
-use Rattle.texts.specs.Listing.{listingOf, refusalText}
-
--- The longest line of a stream (a number of 2 digits, a flow of 20 characters), and that of the total (10, 20 and 3 digits).
-abbrev pub lineSize : ℕ
-lineSize = 26
-
-abbrev pub totalSize : ℕ
-totalSize = 47
-
--- The least slice that is taken: as many lines as there may be, and the total's. 2,543 characters.
-abbrev pub leastText : ℕ
-leastText = maxStreams * lineSize + totalSize
+use Rattle.listings.specs.Listing.{listingOf, refusalText}
+use Rattle.listings.specs.Room.{leastText}
 
 -- The listing of sheet 1 of the balance by a cheapest flow; or, where a set of places is overfull, the text of refusal 19. The slice
 -- past it is as it was.

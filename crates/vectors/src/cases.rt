@@ -11,9 +11,9 @@
 //     bytes 14-15  the count handed back
 //     bytes 16-19  the number handed back
 //
-// then the bytes handed in, then those of the slice. What they are for each call stands in calls.rt.
+// then the bytes handed in, then those of the slice. What they are for each call stands beside each (calls.rt).
 use crate::calls::call;
-use sheets::Sheet;
+use trials::Answer;
 ghost use Prim.Native.Nat.{_≤_};
 ghost use lib.ListN.{length};
 
@@ -41,16 +41,16 @@ fn read_part(file: i32, size: &[u8], out: &mut [u8]) -> usize
 }
 
 // Whether the numbers are those told.
-fn same_numbers(done: Sheet, told: &[u8]) -> bool
+fn same_numbers(done: Answer, told: &[u8]) -> bool
     requires { ⌜ 8 ≤ length (now told) ⌝ }
 {
     if done.number != told[0] {
         return false;
     }
-    if done.written != numbers::get_u16(&told[2..]) as usize {
+    if done.count != numbers::get_u16(&told[2..]) as usize {
         return false;
     }
-    done.last == numbers::get_u32(&told[4..])
+    done.back == numbers::get_u32(&told[4..])
 }
 
 // Makes the call, lent as much of the slice as the case says, and compares the numbers.

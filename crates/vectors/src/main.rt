@@ -1,7 +1,6 @@
 // Calls on the cases of files, each answer compared with what a separate reference solver gave.
 mod calls;
 mod cases;
-mod marking;
 
 use cases::END;
 use cases::WRONG;

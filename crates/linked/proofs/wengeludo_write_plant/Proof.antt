@@ -5,9 +5,9 @@ use mathlib.Core.Path.{_≡_, ap, ap₂, _∙_, subst}
 use Rattle.plants.specs.declared.Plant as Arrays
 use Rattle.plants.specs.Limits.{maxStreams}
 use Rattle.plants.specs.Says.{padded, WriteSays}
-use Rattle.linked.specs.Parts.{Slices, partsAt, least, reach, listedTo}
-use Rattle.linked.proofs.Gather.{reached, all-gathered}
-use Rattle.linked.proofs.Counts.{any-count}
+use Rattle.plant_slices.specs.Parts.{Slices, partsAt, least, reach, listedTo}
+use Rattle.plant_slices.proofs.Gather.{reached, all-gathered}
+use Rattle.plant_slices.proofs.Counts.{any-count}
 use Rattle.linked.proofs.wengeludo_write_plant.Statement.{statement}
 use Rattle.linked.proofs.wengeludo_write_plant.Tie as tie
 

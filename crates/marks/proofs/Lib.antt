@@ -1,0 +1,2 @@
+-- Laws of marked places as bits.
+pub mod Marking

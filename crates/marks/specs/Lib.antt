@@ -1,0 +1,2 @@
+-- Marked places, handed over as bits.
+pub mod Marks

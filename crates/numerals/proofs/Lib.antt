@@ -1,0 +1,4 @@
+-- Laws of numbers as text.
+pub mod Behind
+pub mod Decimals
+pub mod Signs

@@ -1,0 +1,3 @@
+-- Numbers as text, and text put into a slice.
+pub mod Numerals
+pub mod Adding

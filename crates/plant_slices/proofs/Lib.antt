@@ -1,0 +1,3 @@
+-- Laws of a plant's parts in slices.
+pub mod Gather
+pub mod Counts

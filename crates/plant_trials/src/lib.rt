@@ -1,0 +1,113 @@
+// The calls about plant files that cases try.
+//
+// A stream is 17 bytes: 1 where it is metered and 2 where it has a range, added; from, to, weight (2); reading, low, high (4
+// each, two's complement).
+use plants::Plant;
+use plants::Stream;
+use plants::limits::MAX_STREAMS;
+use plants::streams::unmetered_stream;
+use trials::Answer;
+use trials::no_case;
+use trials::told;
+ghost use mathlib.Core.Path.{_≡_};
+ghost use Prim.Native.Nat.{_≤_};
+ghost use lib.ListN.{length};
+
+// 1 where it is metered and 2 where it has a range, added.
+fn marks(metered: bool, ranged: bool) -> u8 {
+    if metered {
+        if ranged {
+            return 3;
+        }
+        return 1;
+    }
+    if ranged {
+        return 2;
+    }
+    0
+}
+
+// A stream's bytes are those of a record with a range, but for the first.
+fn put_stream(s: Stream, out: &mut [u8])
+    requires { ⌜ 17 ≤ length (now out) ⌝ }
+{
+    plant_writer::put_ranged(s, out);
+    out[0] = marks(s.metered, s.ranged);
+}
+
+fn put_streams(streams: [Stream; MAX_STREAMS], out: &mut [u8])
+    requires { ⌜ length (now out) ≡ 1632 ⌝ }
+{
+    let mut i: usize = 0;
+    while i < MAX_STREAMS {
+        let s = streams[i];
+        put_stream(s, &mut out[17 * i..]);
+        i += 1;
+    }
+}
+
+// The plant reader: the count is the units, the number how many streams, and the slice, of 1,632 bytes, gets the 96 streams.
+pub fn reader(given: &[u8], out: &mut [u8]) -> Answer {
+    if out.len() != 1632 {
+        return no_case();
+    }
+    let read = plant_reader::read_plant(given);
+    let p = read.plant;
+    let streams = p.streams;
+    put_streams(streams, out);
+    told(read.number, p.units as usize, p.count as u32)
+}
+
+fn stream_of(part: &[u8]) -> Stream
+    requires { ⌜ 17 ≤ length (now part) ⌝ }
+{
+    let weight = numbers::get_u16(&part[3..]);
+    let reading = numbers::get_i32(&part[5..]);
+    let low = numbers::get_i32(&part[9..]);
+    let high = numbers::get_i32(&part[13..]);
+    Stream {
+        from: part[1],
+        to: part[2],
+        metered: part[0] % 2 != 0,
+        weight: weight,
+        reading: reading,
+        ranged: 2 <= part[0],
+        low: low,
+        high: high,
+    }
+}
+
+fn streams_of(given: &[u8]) -> [Stream; MAX_STREAMS]
+    requires { ⌜ length (now given) ≡ 1632 ⌝ }
+{
+    let none = unmetered_stream(0, 0);
+    let mut streams = [none; MAX_STREAMS];
+    let mut i: usize = 0;
+    while i < MAX_STREAMS {
+        let s = stream_of(&given[17 * i..]);
+        streams[i] = s;
+        i += 1;
+    }
+    streams
+}
+
+// The plant writer: handed in the units, how many streams, and 96 streams; no number.
+pub fn writer(given: &[u8], out: &mut [u8]) -> Answer {
+    if given.len() != 1634 {
+        return no_case();
+    }
+    let streams = streams_of(&given[2..]);
+    let p = Plant {
+        units: given[0],
+        count: given[1],
+        streams: streams,
+    };
+    let d = plant_writer::write_plant(p, out);
+    told(d.number, d.written, 0)
+}
+
+// The translator: no number.
+pub fn translate(given: &[u8], out: &mut [u8]) -> Answer {
+    let d = translator::plant_from_transmitter(given, out);
+    told(d.number, d.written, 0)
+}

@@ -1,0 +1,2 @@
+-- Laws of a sheet's parts in slices.
+pub mod Handing

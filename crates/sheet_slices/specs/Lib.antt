@@ -1,0 +1,2 @@
+-- A sheet's parts, handed over in slices of numbers.
+pub mod Kept
