@@ -10,7 +10,7 @@ use std::num::wrapping_add_u64;
 use std::num::wrapping_sub_u64;
 ghost use mathlib.Core.Path.{_≡_};
 ghost use mathlib.Core.List.{List};
-ghost use Prim.Native.Nat.{ℕ, _<_};
+ghost use Prim.Native.Nat.{ℕ, suc, _≤_, _<_};
 ghost use lib.ListN.{length, getD, take};
 ghost use Rattle.plants.specs.declared.Stream.{Stream};
 ghost use Rattle.plants.specs.Limits.{maxUnits, places};
@@ -102,6 +102,14 @@ fn pass(
     len
 }
 
+// One more than c where a place is not reached.
+fn counted(c: usize, reached: bool) -> usize
+    requires { ⌜ c < places ⌝ }
+    ensures { λ r. ⌜ r ≤ suc c ⌝ }
+{
+    if reached { c } else { c + 1 }
+}
+
 // How many places are not reached.
 fn unreached(reached: &[bool; PLACES]) -> usize
     requires { ⌜ length (now reached) ≡ places ⌝ }
@@ -109,9 +117,7 @@ fn unreached(reached: &[bool; PLACES]) -> usize
     let mut c: usize = 0;
     let mut u: usize = 0;
     while u < PLACES {
-        if !reached[u] {
-            c += 1;
-        }
+        c = counted(c, reached[u]);
         u += 1;
     }
     c

@@ -1,41 +1,36 @@
+-- `routing::forests::unreached` meets its contract: every place looked at is one of the array.
+use Prim.Native.Nat.{_≤_, _-_}
+use borrow.Author.Needs.{needs}
+use Rattle.plants.specs.Limits.{places}
 use Rattle.routing.proofs.forests.unreached.Statement.{statement}
 use Rattle.routing.proofs.forests.unreached.Tie as tie
-use Rattle.routing.proofs.forests.unreached.Reads as reads
-use Rattle.routing.proofs.forests.unreached.Lts as lts
 
 abbrev Inv-loop : tie.InvT-loop
-Inv-loop reached c₀ u₀ c u = ?
+Inv-loop reached c₀ u₀ c u = (u ≤ places) × (c ≤ u)
 
 abbrev μ-loop : tie.MeasureT-loop
-μ-loop reached c₀ u₀ c u = ?
+μ-loop reached c₀ u₀ c u = places - u
 
--- src/forests.rt:111:5
 loop-holds : tie.Need-loop-holds Inv-loop μ-loop
-loop-holds c = ?
+loop-holds c = search needs
 
--- src/forests.rt:112:13
-element-copy-out-if1 : tie.Need-element-copy-out-if1 Inv-loop μ-loop
-element-copy-out-if1 c = ?
+element-copy-out-counted : tie.Need-element-copy-out-counted Inv-loop μ-loop
+element-copy-out-counted c = search needs
 
--- src/forests.rt:113:13
-add-c : tie.Need-add-c Inv-loop μ-loop
-add-c c = ?
+counted-requires : tie.Need-counted-requires Inv-loop μ-loop
+counted-requires c κs = search needs
 
--- src/forests.rt:115:9
 add-u : tie.Need-add-u Inv-loop μ-loop
-add-u c = ?
+add-u c = search needs
 
--- src/forests.rt:111:5
 loop-less : tie.Need-loop-less Inv-loop μ-loop
-loop-less c = ?
+loop-less c = search needs
 
--- src/forests.rt:111:5
 loop-again : tie.Need-loop-again Inv-loop μ-loop
-loop-again c = ?
+loop-again c = search needs
 
--- src/forests.rt:106:1
 returns : tie.Need-returns Inv-loop μ-loop
-returns c = ?
+returns c = search needs
 
 pub unreached-spec : {M : Type 1} → statement M
 unreached-spec =
@@ -44,8 +39,8 @@ unreached-spec =
     Inv-loop
     μ-loop
     loop-holds
-    element-copy-out-if1
-    add-c
+    element-copy-out-counted
+    counted-requires
     add-u
     loop-less
     loop-again
