@@ -9,9 +9,9 @@ pub struct Stream {
     pub from: u8,
     pub to: u8,
     pub metered: bool,
+    pub ranged: bool,
     pub weight: u16,
     pub reading: i32,
-    pub ranged: bool,
     pub low: i32,
     pub high: i32,
 }

@@ -5,13 +5,14 @@ use crate::nets::moved;
 use crate::nets::nets_at;
 use crate::nets::product;
 use laplacians::direction;
-use plants::Plant;
+use laplacians::meters::ENDS;
+use laplacians::meters::METERS;
 use plants::limits::PLACES;
 ghost use mathlib.Core.Path.{_≡_};
+ghost use Prim.Native.Nat.{_≤_};
 ghost use lib.ListN.{length};
-ghost use Rattle.plants.specs.Limits.{places};
-ghost use Rattle.plants.specs.Within.{Accepted};
-ghost use Rattle.laplacians.specs.Cells.{Labels};
+ghost use Rattle.plants.specs.Limits.{maxStreams, places};
+ghost use Rattle.laplacians.specs.Cells.{Ends, meterCells};
 
 // How many steps there are at most, how near to 0 the nets have to come, and how often the length of a step is sought.
 const STEPS: usize = 23;
@@ -28,34 +29,19 @@ struct Bracket {
     rising: f64,
 }
 
-// Whether some stream has a range.
-fn any_ranged(p: Plant) -> bool
-    requires { ⌜ Accepted p ⌝ }
-{
-    let n = p.count as usize;
-    let mut i: usize = 0;
-    while i < n {
-        let s = p.streams[i];
-        if s.ranged {
-            return true;
-        }
-        i += 1;
-    }
-    false
-}
-
 // The slope after a step of length t.
 fn slope(
-    p: Plant,
-    labels: &[u8; PLACES],
+    ends: &[u8; ENDS],
+    meters: &[f64; METERS],
+    count: usize,
     prices: &[f64; PLACES],
     way: &[f64; PLACES],
     t: f64,
 ) -> f64
-    requires { ⌜ Accepted p × Labels (now labels) × (length (now prices) ≡ places) × (length (now way) ≡ places) ⌝ }
+    requires { ⌜ Ends (now ends) × (length (now meters) ≡ meterCells) × (count ≤ maxStreams) × (length (now prices) ≡ places) × (length (now way) ≡ places) ⌝ }
 {
     let there = moved(prices, way, t);
-    let nets = nets_at(p, labels, &there);
+    let nets = nets_at(ends, meters, count, &there);
     product(&nets, way)
 }
 
@@ -87,15 +73,16 @@ fn narrowed(b: Bracket, t: f64, at: f64) -> Bracket {
 
 // How long a step is: 1 where the slope is not above 0 there, else until it is within a tenth of what it was at first.
 fn step_length(
-    p: Plant,
-    labels: &[u8; PLACES],
+    ends: &[u8; ENDS],
+    meters: &[f64; METERS],
+    count: usize,
     prices: &[f64; PLACES],
     way: &[f64; PLACES],
     first: f64,
 ) -> f64
-    requires { ⌜ Accepted p × Labels (now labels) × (length (now prices) ≡ places) × (length (now way) ≡ places) ⌝ }
+    requires { ⌜ Ends (now ends) × (length (now meters) ≡ meterCells) × (count ≤ maxStreams) × (length (now prices) ≡ places) × (length (now way) ≡ places) ⌝ }
 {
-    let whole = slope(p, labels, prices, way, 1.0);
+    let whole = slope(ends, meters, count, prices, way, 1.0);
     if !(whole > 0.0) {
         return 1.0;
     }
@@ -108,7 +95,7 @@ fn step_length(
     let mut trial: usize = 0;
     while trial < TRIALS {
         let t = between(b, trial);
-        b = narrowed(b, t, slope(p, labels, prices, way, t));
+        b = narrowed(b, t, slope(ends, meters, count, prices, way, t));
         if b.falling > 0.1 * first {
             return b.short;
         }
@@ -117,28 +104,34 @@ fn step_length(
     b.short
 }
 
-// Real prices, one for each label: at first without ranges, then step by step with them.
-pub fn descend(p: Plant, labels: [u8; PLACES]) -> [f64; PLACES]
-    requires { ⌜ Accepted p × Labels labels ⌝ }
+// Real prices of n places, one for each label: at first without ranges, then, where some stream has one, step by step with them.
+pub fn descend(
+    ends: &[u8; ENDS],
+    meters: &[f64; METERS],
+    count: usize,
+    n: usize,
+    ranged: bool,
+) -> [f64; PLACES]
+    requires { ⌜ Ends (now ends) × (length (now meters) ≡ meterCells) × (count ≤ maxStreams) × (n ≤ places) ⌝ }
     ensures { λ r. ⌜ length r ≡ places ⌝ }
 {
     let none = [0.0f64; PLACES];
-    let mut prices = direction(p, labels, &none, true);
-    if !any_ranged(p) {
+    let mut prices = direction(ends, meters, count, n, &none, true);
+    if !ranged {
         return prices;
     }
     let mut left = STEPS;
     while 0 < left {
-        let nets = nets_at(p, &labels, &prices);
+        let nets = nets_at(ends, meters, count, &prices);
         if greatest_net(&nets) < NEAR {
             return prices;
         }
-        let way = direction(p, labels, &prices, false);
+        let way = direction(ends, meters, count, n, &prices, false);
         let first = product(&nets, &way);
         if !(first < 0.0) {
             return prices;
         }
-        let t = step_length(p, &labels, &prices, &way, first);
+        let t = step_length(ends, meters, count, &prices, &way, first);
         let next = moved(&prices, &way, t);
         prices = next;
         left -= 1;

@@ -1,5 +1,8 @@
 // Prices of places (node potentials) at which the real-number optimum of a plant, within its ranges, balances, made whole.
 use descents::descend;
+use laplacians::meters::ENDS;
+use laplacians::meters::METERS;
+use laplacians::meters::gather;
 use plants::Plant;
 use plants::limits::PLACES;
 use wholes::by_label;
@@ -18,5 +21,10 @@ pub fn potentials_of(p: Plant, labels: [u8; PLACES], top: u64, band: u64) -> [u6
     requires { ⌜ Accepted p × Labels labels × (band ≤ top) ⌝ }
     ensures { λ r. ⌜ Level labels top band r ⌝ }
 {
-    by_label(lowered(descend(p, labels), top, band), labels)
+    let mut ends = [0u8; ENDS];
+    let mut meters = [0.0f64; METERS];
+    let got = gather(p, &labels, &mut ends, &mut meters);
+    let n = p.units as usize + 1;
+    let prices = descend(&ends, &meters, got.count, n, got.ranged);
+    by_label(lowered(prices, top, band), labels)
 }

@@ -1,45 +1,50 @@
 // What the groups' nets come to at real prices, each amount brought into its range.
-use laplacians::conductance;
-use laplacians::group_of;
-use laplacians::in_range;
-use plants::Plant;
-use plants::Stream;
+use laplacians::meters::ENDS;
+use laplacians::meters::METERS;
+use laplacians::meters::amount_at;
+use laplacians::meters::end_at;
+use laplacians::meters::in_range;
+use laplacians::meters::start_at;
 use plants::limits::PLACES;
 ghost use mathlib.Core.Path.{_≡_};
+ghost use Prim.Native.Nat.{_<_, _≤_};
 ghost use lib.ListN.{length};
-ghost use Rattle.plants.specs.Limits.{maxUnits, places};
-ghost use Rattle.plants.specs.Within.{WithinStream, Accepted};
-ghost use Rattle.laplacians.specs.Cells.{Labels};
+ghost use Rattle.plants.specs.Limits.{maxStreams, places};
+ghost use Rattle.laplacians.specs.Cells.{Ends, meterCells};
 
-// A stream's amount leaves the group of its start and comes to that of its end.
-fn bring(nets: &mut [f64; PLACES], s: Stream, labels: &[u8; PLACES], prices: &[f64; PLACES])
-    requires { ⌜ (length (now nets) ≡ places) × WithinStream maxUnits s × Labels (now labels) × (length (now prices) ≡ places) ⌝ }
+// What stream k carries leaves the group of its start and comes to that of its end.
+fn bring(
+    nets: &mut [f64; PLACES],
+    ends: &[u8; ENDS],
+    meters: &[f64; METERS],
+    k: usize,
+    prices: &[f64; PLACES],
+)
+    requires { ⌜ (length (now nets) ≡ places) × Ends (now ends) × (length (now meters) ≡ meterCells) × (k < maxStreams) × (length (now prices) ≡ places) ⌝ }
     ensures { λ _. ⌜ length (now (nets .exit)) ≡ places ⌝ }
 {
-    if !s.metered {
-        return;
-    }
-    let g = group_of(labels, s.from);
-    let h = group_of(labels, s.to);
-    let x = in_range(
-        s,
-        s.reading as f64 + (prices[h] - prices[g]) * conductance(s),
-    );
+    let g = start_at(ends, k);
+    let h = end_at(ends, k);
+    let x = in_range(meters, k, amount_at(meters, k, prices[h] - prices[g]));
     nets[g] = nets[g] - x;
     nets[h] = nets[h] + x;
 }
 
-// The nets by all streams.
-pub fn nets_at(p: Plant, labels: &[u8; PLACES], prices: &[f64; PLACES]) -> [f64; PLACES]
-    requires { ⌜ Accepted p × Labels (now labels) × (length (now prices) ≡ places) ⌝ }
+// The nets by the first count streams.
+pub fn nets_at(
+    ends: &[u8; ENDS],
+    meters: &[f64; METERS],
+    count: usize,
+    prices: &[f64; PLACES],
+) -> [f64; PLACES]
+    requires { ⌜ Ends (now ends) × (length (now meters) ≡ meterCells) × (count ≤ maxStreams) × (length (now prices) ≡ places) ⌝ }
     ensures { λ r. ⌜ length r ≡ places ⌝ }
 {
-    let n = p.count as usize;
     let mut nets = [0.0f64; PLACES];
-    let mut i: usize = 0;
-    while i < n {
-        bring(&mut nets, p.streams[i], labels, prices);
-        i += 1;
+    let mut k: usize = 0;
+    while k < count {
+        bring(&mut nets, ends, meters, k, prices);
+        k += 1;
     }
     nets
 }

@@ -10,7 +10,7 @@ use std::num::wrapping_add_u64;
 use std::num::wrapping_sub_u64;
 ghost use mathlib.Core.Path.{_≡_};
 ghost use mathlib.Core.List.{List};
-ghost use Prim.Native.Nat.{ℕ, _<_};
+ghost use Prim.Native.Nat.{ℕ, suc, _≤_, _<_};
 ghost use lib.ListN.{length, getD, take};
 ghost use Rattle.plants.specs.declared.Stream.{Stream};
 ghost use Rattle.plants.specs.Limits.{maxUnits, places};
@@ -102,39 +102,51 @@ fn pass(
     len
 }
 
-// Passes, until one reaches no further place.
-fn grow(
-    streams: [Stream; MAX_STREAMS],
-    count: usize,
-    reached: &mut [bool; PLACES],
-    via: &mut [u8; PLACES],
-    into: &mut [bool; PLACES],
-) -> usize
-    requires { ⌜ Network streams count × Spanning (now reached) (now via) (now into) 0 ⌝ }
-    ensures { λ r. ⌜ Spanning (now (reached .exit)) (now (via .exit)) (now (into .exit)) r × Listed streams count (now (via .exit)) r ⌝ }
+// One more than c where a place is not reached.
+fn counted(c: usize, reached: bool) -> usize
+    requires { ⌜ c < places ⌝ }
+    ensures { λ r. ⌜ r ≤ suc c ⌝ }
 {
-    let mut len: usize = 0;
-    let mut left: usize = PLACES;
-    while 0 < left {
-        let before = len;
-        len = pass(streams, count, reached, via, into, before);
-        if len == before {
-            return len;
-        }
-        left -= 1;
-    }
-    len
+    if reached { c } else { c + 1 }
 }
 
-// A spanning forest from the labels.
+// How many places are not reached.
+fn unreached(reached: &[bool; PLACES]) -> usize
+    requires { ⌜ length (now reached) ≡ places ⌝ }
+{
+    let mut c: usize = 0;
+    let mut u: usize = 0;
+    while u < PLACES {
+        c = counted(c, reached[u]);
+        u += 1;
+    }
+    c
+}
+
+// How many passes may still be made: one less than so many before, and none once all places are reached.
+fn passes_left(len: usize, all: usize, left: usize) -> usize
+    requires { ⌜ 0 < left ⌝ }
+    ensures { λ r. ⌜ r < left ⌝ }
+{
+    if len < all { left - 1 } else { 0 }
+}
+
+// A spanning forest from the labels, by passes.
 pub fn forest(streams: [Stream; MAX_STREAMS], count: usize, labels: [u8; PLACES]) -> Forest
     requires { ⌜ Network streams count ⌝ }
     ensures { λ r. ⌜ Routable streams count r ⌝ }
 {
     let mut reached = roots(labels);
+    let all = unreached(&reached);
     let mut via = [0u8; PLACES];
     let mut into = [false; PLACES];
-    let len = grow(streams, count, &mut reached, &mut via, &mut into);
+    let mut len: usize = 0;
+    let mut left = passes_left(0, all, PLACES);
+    while 0 < left {
+        let before = len;
+        len = pass(streams, count, &mut reached, &mut via, &mut into, before);
+        left = passes_left(len, all, left);
+    }
     Forest {
         via: via,
         into: into,

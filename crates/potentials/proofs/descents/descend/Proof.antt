@@ -7,16 +7,13 @@ use Rattle.potentials.proofs.descents.descend.Statement.{statement}
 use Rattle.potentials.proofs.descents.descend.Tie as tie
 
 abbrev Inv-loop : tie.InvT-loop
-Inv-loop p labels prices₀ left₀ prices left = length prices ≡ places
+Inv-loop ends meters count n ranged prices₀ left₀ prices left = length prices ≡ places
 
 abbrev μ-loop : tie.MeasureT-loop
-μ-loop p labels prices₀ left₀ prices left = left
+μ-loop ends meters count n ranged prices₀ left₀ prices left = left
 
 direction-requires : tie.Need-direction-requires Inv-loop μ-loop
 direction-requires c κs = search needs
-
-any-ranged-requires : tie.Need-any-ranged-requires Inv-loop μ-loop
-any-ranged-requires c κs = search needs
 
 returns : tie.Need-returns Inv-loop μ-loop
 returns c = search needs
@@ -67,7 +64,6 @@ descend-spec =
     Inv-loop
     μ-loop
     direction-requires
-    any-ranged-requires
     returns
     loop-holds
     nets-at-requires

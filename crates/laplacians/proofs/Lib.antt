@@ -1,0 +1,2 @@
+-- Laws of the laplacians.
+pub mod Ends
