@@ -1,0 +1,4 @@
+-- Laws of moved plants' sheets.
+pub mod Alike
+pub mod Near
+pub mod Same
