@@ -150,7 +150,7 @@ module _ (f : Stream → Stream) (keep : Keeps f) where
     unfolding balanceOf
     balance-same =
         let e = values-same maxStreams (λ k. entryOf (classOf (moved f p) k) (numberOf (moved f p) xs k)) (λ k. entryOf (classOf p k) (numberOf p xs k))
-            (λ k l. ap₂ entryOf (class-same p k) (number-same p k xs)) in
+        (λ k l. ap₂ entryOf (class-same p k) (number-same p k xs)) in
         let c = cost-same 1 (p .streams) xs in
         let d = degrees-same p in
         λ i. record { streams = e i; cost = capped (c i); degrees = d i; verdict = verdictAt (d i) (c i) }

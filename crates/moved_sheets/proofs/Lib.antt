@@ -2,3 +2,4 @@
 pub mod Alike
 pub mod Near
 pub mod Same
+pub mod Mixed
