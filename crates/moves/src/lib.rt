@@ -144,9 +144,9 @@ fn read_home(file: &[u8]) -> Read
     ensures { λ r. ⌜ r ≡ readOf (fromRanged (readPlant (now (file .entry)))) ⌝ }
 {
     let read = read_plant(file);
-    let number = read.number;
-    if number != 0 {
-        return refusal(number);
+    let refused = read.number;
+    if refused != 0 {
+        return refusal(refused);
     }
     let p = read.plant;
     let streams = p.streams;
