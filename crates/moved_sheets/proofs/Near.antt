@@ -1,15 +1,15 @@
 -- A plant without ranges: the zero flow costs so little that no flow that costs no more comes near the widest range.
-use mathlib.Core.Path.{_≡_, refl, ap}
+use mathlib.Core.Path.{_≡_, refl}
 use mathlib.Core.Bool.{Bool, true, false, not, _&&_}
 use mathlib.Core.Logic.{⊎-elim}
 use mathlib.Core.List.{List, [], _∷_}
 use lib.IntN.{ℤ, pos, natAbs, _+ℤ_, _-ℤ_, _*ℤ_}
 use Prim.Native.Nat.{ℕ, zero, suc, _+_, _*_, _≤_, _<_}
 use native.Mathlib.Omega.{arith}
-use native.Mathlib.Nat.{mul-le-mul, mul-le-mul-right, mul-le-mul-left}
+use native.Mathlib.Nat.{mul-le-mul, mul-le-mul-right}
 use lib.Dec.{eqb, ltb}
 use lib.ListN.{length, getD}
-use borrow.Author.Tests.{ltb-true, ltb-false, not-true, not-false}
+use borrow.Author.Tests.{ltb-true, ltb-false, not-true}
 use Rattle.numbers.specs.Choice.{pick}
 use Rattle.numbers.specs.Inner.{values}
 use Rattle.numbers.proofs.Tests.{by-cases, clash, picked, and-left, and-right}
@@ -17,11 +17,11 @@ use Rattle.plants.specs.declared.Stream.{Stream}
 use Rattle.plants.specs.Limits.{maxStreams, maxWeight, maxReading, maxRange}
 use Rattle.plants.specs.Plants.{Plant, noStream, limited}
 use Rattle.plants.specs.Within.{Within, WithinStream}
-use Rattle.flows.specs.Flows.{streamAt, amountAt, balanced, inRange, allowed, square, cost}
-use Rattle.flows.proofs.Integers.{Le, size-val, minus-val, parts, one-times}
+use Rattle.flows.specs.Flows.{streamAt, amountAt, balanced, inRange, square, cost}
+use Rattle.flows.proofs.Integers.{size-val, minus-val, parts, one-times}
 use Rattle.flows.proofs.Sums.{sum-none}
 use Rattle.flows.proofs.Nets.{countOf, streamOf, brought, listed, listed-balanced}
-use Rattle.flows.proofs.Ranges.{whole-holds, allowed-of}
+use Rattle.flows.proofs.Ranges.{whole-holds}
 use Rattle.moves.specs.Moves.{widestLow, widestHigh, widened}
 use Rattle.moves.specs.Trip.{rangeless}
 

@@ -33,7 +33,7 @@ use Rattle.moves.specs.Moves.{widened, forward}
 use Rattle.moves.specs.Trip.{rangeless}
 use Rattle.moves.proofs.Trip.{forward-read}
 use Rattle.moves.proofs.Kept.{forward-good}
-use Rattle.moved_sheets.specs.Same.{Same-sheet, Moved-sheets}
+use Rattle.moved_sheets.specs.Same.{Moved-sheets}
 use Rattle.moved_sheets.proofs.Alike.{widened-keeps, moved-at, balanced-same, cost-same, metered-same, sheet-same}
 use Rattle.moved_sheets.proofs.Near.{mostCost, zeroFlow, zero-most, zero-balanced, rangeless-at, any-amount, in-widest, near}
 

@@ -1,6 +1,6 @@
 -- A stream moved, and its range, by the tests in their order.
 use mathlib.Core.Path.{_≡_, sym}
-use mathlib.Core.Bool.{Bool, true, false, not, _||_}
+use mathlib.Core.Bool.{true, false, not}
 use lib.IntN.{pos}
 use lib.Signed.{ltZ}
 use Rattle.numbers.proofs.Tests.{or-left}

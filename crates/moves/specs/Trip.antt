@@ -10,7 +10,7 @@ use Rattle.plants.specs.declared.Done.{Done}
 use Rattle.plants.specs.Limits.{longestFile}
 use Rattle.plants.specs.Plants.{Plant, limited}
 use Rattle.plants.specs.Files.{got, readPlant, plantBytes}
-use Rattle.moves.specs.Moves.{forward, home, toRanged, fromRanged, ToSays, FromSays}
+use Rattle.moves.specs.Moves.{toRanged, fromRanged, ToSays, FromSays}
 
 -- A plant without 0x06: no stream has a range.
 abbrev pub rangeless : List Stream → Bool

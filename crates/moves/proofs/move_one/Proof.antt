@@ -1,6 +1,5 @@
 -- By the way that it goes.
 use borrow.Author.Needs.{needs}
-use mathlib.Core.Path.{_∙_}
 use Rattle.moves.proofs.move_one.Statement.{statement}
 use Rattle.moves.proofs.move_one.Tie as tie
 
