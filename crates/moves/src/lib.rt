@@ -105,14 +105,14 @@ fn move_all(forth: bool, streams: [Stream; MAX_STREAMS]) -> [Stream; MAX_STREAMS
 fn narrow_fault(streams: [Stream; MAX_STREAMS]) -> u8
     ensures { λ r. ⌜ r ≡ narrowFault streams ⌝ }
 {
-    let mut k: usize = 0;
-    while k < MAX_STREAMS {
-        let s = streams[k];
+    let mut at: usize = 0;
+    while at < MAX_STREAMS {
+        let s = streams[at];
         let found = narrow(s);
         if found {
             return 20;
         }
-        k += 1;
+        at += 1;
     }
     0
 }

@@ -23,7 +23,7 @@ mul-s : tie.Need-mul-s Inv-loop μ-loop
 mul-s c = record { fits = omega (arith, c .loop-test .taken) }
 
 array-copy-out-s : tie.Need-array-copy-out-s Inv-loop μ-loop
-array-copy-out-s c = c .loop-test .taken
+array-copy-out-s c = omega (arith, c .loop-test .taken)
 
 move-one-requires : tie.Need-move-one-requires Inv-loop μ-loop
 move-one-requires c κs = search needs
@@ -32,7 +32,7 @@ mul-all : tie.Need-mul-all Inv-loop μ-loop
 mul-all c = record { fits = omega (arith, c .before .before .loop-test .taken) }
 
 array-set-from-all : tie.Need-array-set-from-all Inv-loop μ-loop
-array-set-from-all c = c .before .before .loop-test .taken
+array-set-from-all c = omega (arith, c .before .before .loop-test .taken)
 
 add-k : tie.Need-add-k Inv-loop μ-loop
 add-k c = record { fits = omega (arith, c .before .before .loop-test .taken) }

@@ -11,13 +11,13 @@ use Rattle.moves.proofs.narrow_fault.Statement.{statement}
 use Rattle.moves.proofs.narrow_fault.Tie as tie
 
 abbrev Inv-loop : tie.InvT-loop
-Inv-loop streams k₀ k = (k ≤ maxStreams) × (narrowFault streams ≡ narrowFault (drop k streams)) × (length streams ≡ maxStreams)
+Inv-loop streams at₀ at = (at ≤ maxStreams) × (narrowFault streams ≡ narrowFault (drop at streams)) × (length streams ≡ maxStreams)
 
 abbrev μ-loop : tie.MeasureT-loop
-μ-loop streams k₀ k = maxStreams - k
+μ-loop streams at₀ at = maxStreams - at
 
 -- The stream looked at is one of the array's.
-within : (c : tie.In-loop Inv-loop μ-loop) → c .before .loop .k < length (c .before .before .args .t1)
+within : (c : tie.In-loop Inv-loop μ-loop) → c .before .loop .at < length (c .before .before .args .t1)
 within c = omega (arith, c .loop-test .taken, c .before .loop .inv .2)
 
 loop-holds : tie.Need-loop-holds Inv-loop μ-loop
@@ -37,8 +37,8 @@ returns c =
     let i = c .before .before .before .before .loop .inv in
     narrow-found _ _ (within (c .before .before .before)) (i .1) (sym (c .before .narrow .ensures) ∙ c .if1 .taken)
 
-add-k : tie.Need-add-k Inv-loop μ-loop
-add-k c = record { fits = omega (arith, c .before .before .before .loop-test .taken) }
+add-at : tie.Need-add-at Inv-loop μ-loop
+add-at c = record { fits = omega (arith, c .before .before .before .loop-test .taken) }
 
 loop-less : tie.Need-loop-less Inv-loop μ-loop
 loop-less c = omega (arith, c .before .before .before .loop-test .taken)
@@ -52,10 +52,10 @@ loop-again c =
 returns-2 : tie.Need-returns-2 Inv-loop μ-loop
 returns-2 c =
     let i = c .before .loop .inv in
-    let e : length (c .before .before .args .t1) ≤ c .before .loop .k = omega (arith, c .loop-test .left, i .2) in
+    let e : length (c .before .before .args .t1) ≤ c .before .loop .at = omega (arith, c .loop-test .left, i .2) in
     sym (i .1 ∙ narrow-end _ _ e)
 
 pub narrow-fault-spec : {M : Type 1} → statement M
 narrow-fault-spec =
     tie.close
-    (tie.spec Inv-loop μ-loop loop-holds mul-s array-copy-out-s narrow-requires returns add-k loop-less loop-again returns-2)
+    (tie.spec Inv-loop μ-loop loop-holds mul-s array-copy-out-s narrow-requires returns add-at loop-less loop-again returns-2)
