@@ -27,6 +27,8 @@ then the bytes handed in, then those of the slice as they must be after the call
     7 TRANSLATOR  handed in: transmitter file; back: `written`, the plant file in the slice
     8 CLOSING   handed in: the 33 prices of the places as the solver holds them, 8 bytes each; back: the same after they
                 were closed up where one was below the floor, in a slice of 264 bytes
+    9 FORTH     handed in: plant file; back: `written`, the plant file in the ranged form in the slice
+    10 HOME     handed in: plant file; back: `written`, the plant file moved home in the slice
 
 Where a call has no number or count, 0 stands. A stream is 17 bytes: 1 where it is metered and 2 where it has a range, added;
 from, to, weight (2); reading, low, high (4 each, two's complement). An entry is 9 bytes: the kind of the stream's record, its
@@ -39,7 +41,7 @@ is another, no place may be marked. So no case tells a set.
 
 from typing import NamedTuple
 
-SHEET, READER, WRITER, UNHINTED, LISTING, KEPT, TRANSLATOR, CLOSING = 1, 2, 3, 4, 5, 6, 7, 8
+SHEET, READER, WRITER, UNHINTED, LISTING, KEPT, TRANSLATOR, CLOSING, FORTH, HOME = 1, 2, 3, 4, 5, 6, 7, 8, 9, 10
 STREAMS = 96
 HEAD = 20
 ROOM = 2_560  # most bytes handed in, and of a slice

@@ -4,6 +4,7 @@ import math
 from typing import NamedTuple
 
 import cases
+import moves
 import solver
 import transmitter
 from solver import FILE_LENGTH, READING, SHEET_LENGTH, Stream
@@ -159,6 +160,21 @@ class Translation(NamedTuple):
         ))
 
 
+class Move(NamedTuple):
+    """A call of one of the two moves, on a plant file."""
+
+    file: bytes
+    move: object
+    slice_length: int = FILE_LENGTH
+    expected: int | None = None
+    filling: int = 0xA5
+
+    def record(self):
+        number, written, file = moves.move_call(self.file, self.slice_length, self.move)
+        call = cases.FORTH if self.move is moves.widened else cases.HOME
+        return meant(self, cases.Record(call, self.file, self.slice_length, file, self.filling, returned=number, count=written))
+
+
 class Closing(NamedTuple):
     """The closing of prices: before, and after."""
 
@@ -200,6 +216,14 @@ def ranged(source, target, reading, low, high, weight=10):
 def within(stream, low, high):
     """The stream with a range."""
     return stream._replace(low=low, high=high)
+
+
+def drawn_meters(draws, units, count):
+    """Streams without ranges, three of four metered, with any readings."""
+    for _ in range(count):
+        source, target = draws.two_places(units)
+        meter = metered(source, target, draws.between(-READING, READING), draws.between(1, 1_000))
+        yield meter if draws.chance(75) else unmetered(source, target)
 
 
 def site_record(units):

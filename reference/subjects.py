@@ -4,6 +4,7 @@ import math
 
 import closings_to_try
 import files_to_try
+import moves_to_try
 import plants_to_try
 import ranges_to_try
 import refusals
@@ -339,4 +340,6 @@ SUBJECTS = (
     ("range_files", ranges_to_try.range_files),
     ("range_phases", ranges_to_try.unhinted_ranges),
     ("closings", closings_to_try.closings),
+    ("moves", moves_to_try.moves_made),
+    ("moved_sheets", moves_to_try.moved_sheets),
 )

@@ -10,8 +10,8 @@
  *   - what a call writes overlaps nothing else that the same call is handed.
  * Lengths count elements. A slice may be longer than is needed.
  *
- * What each call does is proved against the definitions in crates/sheets/specs, crates/plants/specs
- * and crates/transmitters/specs: result, counts and every byte of a slice follow from what is handed in.
+ * What each call does is proved against the definitions in crates/sheets/specs, crates/plants/specs,
+ * crates/transmitters/specs and crates/moves/specs: result, counts and every byte of a slice follow from what is handed in.
  */
 #ifndef WENGELUDO_BALANCE_H
 #define WENGELUDO_BALANCE_H
@@ -40,8 +40,8 @@ extern "C" {
 /* What the calls return: 0, or the number of a refusal. */
 enum {
     WENGELUDO_DONE = 0,
-    WENGELUDO_SLICE_TOO_SHORT = 1,    /* sheet slice under 879 bytes; writer and translator: under 1,636; a slice of the sheet
-                                         reader under 96 elements */
+    WENGELUDO_SLICE_TOO_SHORT = 1,    /* sheet slice under 879 bytes; writer, translator and moves: under 1,636; a slice of the
+                                         sheet reader under 96 elements */
     WENGELUDO_NO_SHEET_NUMBER = 2,    /* last sheet number is 4,294,967,295 */
     WENGELUDO_FILE_ENDS = 3,          /* bytes end where a record is due or inside a body */
     WENGELUDO_KIND = 4,               /* kind not allowed at this place */
@@ -59,7 +59,8 @@ enum {
     WENGELUDO_VALUE = 16,             /* a transmitter's value is not finite */
     WENGELUDO_DEVIATION = 17,         /* a transmitter's deviation is no finite number above 0 */
     WENGELUDO_RANGE = 18,             /* low above high, or either outside -2,000,000,000 to 2,000,000,000 */
-    WENGELUDO_NO_FLOW = 19            /* no balanced flow lies within all ranges */
+    WENGELUDO_NO_FLOW = 19,           /* no balanced flow lies within all ranges */
+    WENGELUDO_NARROWER = 20           /* moving home, a range is narrower than -2,000,000,000 to 2,000,000,000 */
 };
 
 /* The kinds of record on a sheet. */
@@ -175,6 +176,31 @@ enum {
 uint8_t wengeludo_plant_from_transmitter(const uint8_t *file, size_t file_length,
                                          uint8_t *plant, size_t plant_length,
                                          size_t *written);
+
+/* The moves: a plant file to the ranged form, and home again.
+ *
+ * Reads   the file's file_length bytes, a plant file.
+ *         To the ranged form: each metered stream without a range (0x02) becomes one with the widest range, 0x06 with
+ *         -2,000,000,000 to 2,000,000,000; a stream that has a range keeps it. Home: each stream with the widest range
+ *         becomes one without (0x02). Unmetered streams stay as they are.
+ * Returns 0, or one of 1, 3 to 12, 18; home also 20, where any range is narrower. The order: 1, then the file's records
+ *         one after the other (18 after 10), 12, then 20. Neither call returns 19.
+ * Writes, where it returns 0:
+ *         the plant file at the front of `out` (at most 1,636 bytes); the bytes past it keep their values;
+ *         *written: how many bytes it has.
+ * Writes, where it returns another number:
+ *         *written: 0, and nothing else. All bytes of `out` are as they were.
+ * What *written was before the call makes no difference.
+ *
+ * A file without 0x06 survives the trip: moved there and home it is the file itself, and in the ranged form its sheet is
+ * the same, byte for byte. A plant that has both kinds may come to another sheet in the ranged form, or to 19.
+ */
+uint8_t wengeludo_to_ranged(const uint8_t *file, size_t file_length,
+                            uint8_t *out, size_t out_length,
+                            size_t *written);
+uint8_t wengeludo_from_ranged(const uint8_t *file, size_t file_length,
+                              uint8_t *out, size_t out_length,
+                              size_t *written);
 
 #ifdef __cplusplus
 }

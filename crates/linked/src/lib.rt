@@ -1,5 +1,5 @@
-// The sheet call, the plant writer, the sheet reader and the translator for programs in C and Rust: functions on numbers and
-// slices of numbers.
+// The sheet call, the plant writer, the sheet reader, the translator and the two moves for programs in C and Rust: functions on
+// numbers and slices of numbers.
 mod marked;
 
 use marked::balance_marked;
@@ -9,6 +9,7 @@ ghost use Rattle.sheets.specs.Says.{SheetSays};
 ghost use Rattle.plants.specs.Limits.{places};
 ghost use Rattle.plants.specs.Says.{WriteSays};
 ghost use Rattle.transmitters.specs.Says.{TranslateSays};
+ghost use Rattle.moves.specs.Moves.{ToSays, FromSays};
 ghost use Rattle.plant_slices.specs.Parts.{handed};
 ghost use Rattle.sheet_slices.specs.Kept.{HandsOver};
 ghost use Rattle.marks.specs.Marks.{marksIn};
@@ -112,4 +113,25 @@ pub extern "C" fn wengeludo_plant_from_transmitter(
     let made = translator::plant_from_transmitter(file, plant);
     *written = made.written;
     made.number
+}
+
+// Moves a plant file to the ranged form: the moved file in the slice, its bytes counted; or a refusal number, none counted, the
+// slice as it was.
+#[no_mangle]
+pub extern "C" fn wengeludo_to_ranged(file: &[u8], out: &mut [u8], written: &mut usize) -> u8
+    ensures { λ r. ⌜ ToSays (now (file .entry)) (now (out .entry)) (now (out .exit)) (record { number = r; written = now (written .exit) }) ⌝ }
+{
+    let done = moves::to_ranged(file, out);
+    *written = done.written;
+    done.number
+}
+
+// Moves a plant file home.
+#[no_mangle]
+pub extern "C" fn wengeludo_from_ranged(file: &[u8], out: &mut [u8], written: &mut usize) -> u8
+    ensures { λ r. ⌜ FromSays (now (file .entry)) (now (out .entry)) (now (out .exit)) (record { number = r; written = now (written .exit) }) ⌝ }
+{
+    let done = moves::from_ranged(file, out);
+    *written = done.written;
+    done.number
 }

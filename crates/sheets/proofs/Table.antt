@@ -1,23 +1,25 @@
 -- The table of plants, proved by one computed test: prices certify each flow.
 use mathlib.Core.Path.{_≡_, refl, ap, _∙_}
-use mathlib.Core.Bool.{Bool, true, false, _&&_, _||_, false≢true}
+use mathlib.Core.Bool.{Bool, true, false, _&&_, false≢true}
 use mathlib.Core.Logic.{_⊎_, ⊎-elim}
 use mathlib.Core.List.{List, [], _∷_}
 use lib.IntN.{ℤ, pos, negsuc}
+use lib.Signed.{ltZ}
 use Prim.Native.Nat.{ℕ, zero, suc, _-_, _<_}
 use native.Mathlib.Omega.{arith}
 use lib.Dec.{eqb}
-use lib.ListN.{getD, replicate}
+use lib.ListN.{length, getD, replicate}
 use borrow.Author.Tests.{eqb-true}
 use Rattle.numbers.proofs.Tests.{and-left, and-right}
 use Rattle.numbers.specs.Bytes.{over}
+use Rattle.plants.specs.declared.Stream.{Stream}
 use Rattle.plants.specs.Limits.{places}
 use Rattle.plants.specs.Plants.{Plant, limited}
 use Rattle.plants.specs.Files.{Got, bad, got, readPlant}
 use Rattle.plants.proofs.Limited.{within}
 use Rattle.plants.proofs.Accepted.{accepted}
 use Rattle.flows.specs.Flows.{streamAt, Cheapest}
-use Rattle.flows.specs.Overfull.{marks, enters, leaves, Overfull}
+use Rattle.flows.specs.Overfull.{marks, lowsIn, highsOut, Overfull}
 use Rattle.flows.specs.Certificate.{certified}
 use Rattle.flows.proofs.Certified.{certified-cheapest}
 use Rattle.sheets.specs.declared.Sheet.{Sheet}
@@ -55,11 +57,11 @@ calls-leave e p q c b o o′ r z s =
     (λ m. never-both p w (e .flow) c (m .0) (m .1)) given
 
 -- The test of one example, with prices for the places.
-abbrev shows : Example → List ℤ → Got → Bool
+abbrev pub shows : Example → List ℤ → Got → Bool
 shows e prices (bad f) = false
 shows e prices (got p) = certified p (e .flow) prices && sameBytes (sheetOf p (e .flow) 1) (e .sheet)
 
-shows-right : (e : Example) (prices : List ℤ) (g : Got) → readPlant (e .file) ≡ g → shows e prices g ≡ true → Shows e
+pub shows-right : (e : Example) (prices : List ℤ) (g : Got) → readPlant (e .file) ≡ g → shows e prices g ≡ true → Shows e
 shows-right e prices (bad f) r t = absurd (false≢true t)
 shows-right e prices (got p) r t =
     let c = certified p (e .flow) prices in
@@ -118,31 +120,35 @@ none-there zero k = refl
 none-there (suc n) zero = refl
 none-there (suc n) (suc k) = none-there n k
 
-full-unit : Overfull fullPlant fullUnit
-unfolding fullPlant
-full-unit = record { long = refl; placed = past; bounded = across; more = refl }
+-- Each stream has a range.
+abbrev pub allLimited : List Stream → Bool
+allLimited [] = true
+allLimited (s ∷ ss) = limited s && allLimited ss
+
+limited-at : (ss : List Stream) → allLimited ss ≡ true → (k : ℕ) → k < length ss → limited (streamAt ss k) ≡ true
+limited-at [] e k l = absurd (omega arith)
+limited-at (s ∷ ss) e zero l = and-left (limited s) (allLimited ss) e
+limited-at (s ∷ ss) e (suc k) l = limited-at ss (and-right (limited s) (allLimited ss) e) k (omega arith)
+
+-- One unit that must take in more than it can let out.
+pub unit-full : (ss : List Stream) → allLimited ss ≡ true → ltZ (highsOut (marks fullUnit) ss) (lowsIn (marks fullUnit) ss) ≡ true
+    → Overfull (record { units = 1; streams = ss }) fullUnit
+unit-full ss e m = record { long = refl; placed = past; bounded = λ k l t. limited-at ss e k l; more = m }
   where
     past : (u : ℕ) → 1 < u → marks fullUnit u ≡ false
     past zero l = absurd (omega arith)
     past (suc zero) l = absurd (omega arith)
     past (suc (suc u)) l = none-there (places - 2) u
 
-    across : (k : ℕ) → k < 2 → enters (marks fullUnit) (streamAt (fullPlant .streams) k) || leaves (marks fullUnit) (streamAt (fullPlant .streams) k) ≡ true
-        → limited (streamAt (fullPlant .streams) k) ≡ true
-    across zero l e = refl
-    across (suc zero) l e = refl
-    across (suc (suc k)) l e = absurd (omega arith)
-
 -- A call that drew a sheet would have a flow in range.
+pub refuses-right : (file : List ℕ) (p : Plant) (ms : List Bool) → readPlant file ≡ got p → Overfull p ms → Refuses file ms
+refuses-right file p ms e m = (p, e, m, calls)
+  where
+    calls : (o o′ : List ℕ) (r : Sheet) → callFault 0 o ≡ 0 → SheetSays file 0 o o′ r → r .number ≡ 19
+    calls o o′ r z s =
+        let given : Drawn p 0 o o′ r ⊎ Overfilled p 0 o o′ r = rw e at (call-taken file 0 o o′ r s z) in
+        ⊎-elim (λ d. never-both p (within p (accepted file p e .0)) (d .0) (d .1) ms m) (λ m. ap (λ (q : Sheet). q .number) (m .2 .0)) given
+
 pub refuses : Refuses fullFile fullUnit
 unfolding fullPlant
-refuses = (fullPlant, refl, full-unit, calls)
-  where
-    read : readPlant fullFile ≡ got fullPlant
-    read = refl
-
-    calls : (o o′ : List ℕ) (r : Sheet) → callFault 0 o ≡ 0 → SheetSays fullFile 0 o o′ r → r .number ≡ 19
-    calls o o′ r z s =
-        let given : Drawn fullPlant 0 o o′ r ⊎ Overfilled fullPlant 0 o o′ r = call-taken fullFile 0 o o′ r s z in
-        ⊎-elim (λ d. never-both fullPlant (within fullPlant (accepted fullFile fullPlant read .0)) (d .0) (d .1) fullUnit full-unit)
-        (λ m. ap (λ (q : Sheet). q .number) (m .2 .0)) given
+refuses = refuses-right fullFile fullPlant fullUnit refl (unit-full (fullPlant .streams) refl refl)

@@ -15,6 +15,8 @@ pub fn call(kind: u8, number: u32, given: &[u8], out: &mut [u8]) -> Answer {
         6 => sheet_trials::kept(given, out),
         7 => plant_trials::translate(given, out),
         8 => flow_trials::close_up(given, out),
+        9 => plant_trials::move_forward(given, out),
+        10 => plant_trials::move_home(given, out),
         _ => no_case(),
     }
 }

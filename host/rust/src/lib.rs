@@ -25,17 +25,21 @@
 //! A [`Transmitter`] lists what meters send, values and standard deviations as floats; its plant file is what the sheet call
 //! takes.
 //!
-//! A caller who has memory of its own uses [`balance_into`], [`Plant::write_into`] and [`plant_from_transmitter_into`], which
-//! allocate nothing.
+//! [`to_ranged`] moves a plant file to the form in which every meter has a range, [`from_ranged`] moves it home.
+//!
+//! A caller who has memory of its own uses [`balance_into`], [`Plant::write_into`], [`plant_from_transmitter_into`],
+//! [`to_ranged_into`] and [`from_ranged_into`], which allocate nothing.
 #![deny(missing_docs)]
 #![deny(unsafe_op_in_unsafe_fn)]
 
+mod moves;
 mod plant;
 pub mod raw;
 mod refusal;
 mod sheet;
 mod transmitter;
 
+pub use moves::{from_ranged, from_ranged_into, to_ranged, to_ranged_into};
 pub use plant::Plant;
 pub use refusal::{Places, Refusal};
 pub use sheet::{balance, balance_into, Record, Sheet, Verdict};
@@ -44,7 +48,7 @@ pub use transmitter::{plant_from_transmitter, plant_from_transmitter_into, Trans
 /// The least sheet slice that is taken.
 pub const SHEET_SIZE: usize = 879;
 
-/// The least slice that the plant writer and the translator take; the longest plant file.
+/// The least slice that the plant writer, the translator and the moves take; the longest plant file.
 pub const FILE_SIZE: usize = 1636;
 
 /// The most streams of a plant; the sheet reader takes slices of at least so many elements.

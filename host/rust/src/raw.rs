@@ -55,6 +55,8 @@ extern "C" {
         plant_length: usize,
         written: *mut usize,
     ) -> u8;
+    fn wengeludo_to_ranged(file: *const u8, file_length: usize, out: *mut u8, out_length: usize, written: *mut usize) -> u8;
+    fn wengeludo_from_ranged(file: *const u8, file_length: usize, out: *mut u8, out_length: usize, written: *mut usize) -> u8;
 }
 
 // A length is 64 bits wide in the archive.
@@ -168,4 +170,17 @@ pub fn read_sheet(bytes: &[u8], kinds: &mut [u8], flows: &mut [i64], total: &mut
 pub fn plant_from_transmitter(file: &[u8], plant: &mut [u8], written: &mut usize) -> u8 {
     // SAFETY: as above.
     unsafe { wengeludo_plant_from_transmitter(file.as_ptr(), file.len(), plant.as_mut_ptr(), plant.len(), written) }
+}
+
+/// The move to the ranged form. 0: the moved plant file is at the front of `out`, `written` its length. Another number: a
+/// refusal; `written` is 0, `out` is as it was.
+pub fn to_ranged(file: &[u8], out: &mut [u8], written: &mut usize) -> u8 {
+    // SAFETY: as above.
+    unsafe { wengeludo_to_ranged(file.as_ptr(), file.len(), out.as_mut_ptr(), out.len(), written) }
+}
+
+/// The move home. As [`to_ranged`]; 20 where a range is narrower than the widest.
+pub fn from_ranged(file: &[u8], out: &mut [u8], written: &mut usize) -> u8 {
+    // SAFETY: as above.
+    unsafe { wengeludo_from_ranged(file.as_ptr(), file.len(), out.as_mut_ptr(), out.len(), written) }
 }

@@ -22,8 +22,8 @@ impl Places {
 /// Why a call was refused. A refused call leaves every slice and the counter as they were.
 #[derive(Clone, Copy, Debug, PartialEq, Eq, Hash)]
 pub enum Refusal {
-    /// Sheet slice under 879 bytes; for the plant writer and the translator, slice under 1,636; for the sheet reader, a slice under
-    /// 96 elements.
+    /// Sheet slice under 879 bytes; for the plant writer, the translator and the moves, slice under 1,636; for the sheet reader, a
+    /// slice under 96 elements.
     SliceTooShort,
     /// Last sheet number is 4,294,967,295.
     NoSheetNumber,
@@ -62,10 +62,12 @@ pub enum Refusal {
     /// No balanced flow lies within all ranges. The places marked must take in more than they can let out: every stream
     /// across their edge has a range, and the lows in sum to more than the highs out.
     NoFlow(Places),
+    /// Moving home, a range is narrower than -2,000,000,000 to 2,000,000,000.
+    Narrower,
 }
 
 /// Number and text of each refusal.
-const ALL: [(u8, Refusal, &str); 19] = [
+const ALL: [(u8, Refusal, &str); 20] = [
     (
         1,
         Refusal::SliceTooShort,
@@ -89,6 +91,7 @@ const ALL: [(u8, Refusal, &str); 19] = [
     (17, Refusal::Deviation, "a deviation is no finite number above 0"),
     (18, Refusal::Range, "low above high, or either outside its limits"),
     (19, Refusal::NoFlow(Places(0)), "no balanced flow lies within all ranges"),
+    (20, Refusal::Narrower, "moving home, a range is narrower than the widest"),
 ];
 
 impl Refusal {
@@ -148,7 +151,7 @@ mod tests {
             assert_eq!(Refusal::from_number(number), Some(refusal));
             assert_eq!(refusal.number(), number);
         }
-        for number in [0, 20, 255] {
+        for number in [0, 21, 255] {
             assert_eq!(Refusal::from_number(number), None);
         }
         assert_eq!(Refusal::NoFlow(Places(5)).number(), 19);

@@ -9,6 +9,7 @@
 //! WENGELUDO_THREADS  how many threads (default: the machine's processors)
 
 mod draw;
+mod moves;
 mod reference;
 mod shrink;
 mod transmitters;

@@ -1,0 +1,2 @@
+-- Laws of files read and written anew.
+pub mod Promise

@@ -1,0 +1,1 @@
+// Files read and written anew as plant files. No function stands here.

@@ -1,0 +1,5 @@
+-- Laws of moved plants' sheets.
+pub mod Alike
+pub mod Near
+pub mod Same
+pub mod Mixed

@@ -1,0 +1,172 @@
+-- A plant without ranges and the same plant in the ranged form have the same cheapest flows, and so the same sheets.
+use mathlib.Core.Path.{_≡_, sym, ap, _∙_}
+use mathlib.Core.Bool.{Bool, true, false}
+use mathlib.Core.Logic.{inl, inr}
+use mathlib.Core.List.{List}
+use lib.IntN.{ℤ}
+use Prim.Native.Nat.{ℕ, suc, _≤_, _<_}
+use native.Mathlib.Omega.{arith}
+use native.Mathlib.Decide.{decLe}
+use lib.Dec.{eqb, ltb}
+use lib.ListN.{length, length-map}
+use Rattle.numbers.specs.Bytes.{over}
+use Rattle.numbers.proofs.Tests.{by-cases, clash}
+use Rattle.plants.specs.Plants.{Plant}
+use Rattle.plants.specs.Files.{got, readPlant, plantBytes}
+use Rattle.plants.specs.Within.{Within}
+use Rattle.plants.proofs.Limited.{within}
+use Rattle.plants.proofs.Accepted.{accepted}
+use Rattle.flows.specs.Flows.{amountAt, balanced, inRange, allowed, cost, meteredOf, notAfter, Cheapest}
+use Rattle.flows.specs.Overfull.{unmarked, Overfull}
+use Rattle.flows.proofs.Nets.{countOf, streamOf, balanced-size}
+use Rattle.flows.proofs.Ranges.{balanced-of, allowed-of}
+use Rattle.flows.proofs.Overfull.{overfull-none}
+use Rattle.flows.proofs.Decided.{Decided, solved, full}
+use Rattle.model.proofs.Theorem.{decided}
+use Rattle.sheets.specs.declared.Sheet.{Sheet}
+use Rattle.sheets.specs.Sheets.{sheetOf}
+use Rattle.sheets.specs.Says.{Drawn, SheetWith, SheetSays}
+use Rattle.sheets.specs.Apart.{leastSlice}
+use Rattle.sheets.specs.Sentences.{topSheet, callFault, Refused}
+use Rattle.sheets.proofs.Promise.{call-taken}
+use Rattle.moves.specs.Moves.{widened, forward}
+use Rattle.moves.specs.Trip.{rangeless}
+use Rattle.moves.proofs.Trip.{forward-read}
+use Rattle.moves.proofs.Kept.{forward-good}
+use Rattle.moved_sheets.specs.Same.{Moved-sheets}
+use Rattle.moved_sheets.proofs.Alike.{widened-keeps, moved-at, balanced-same, cost-same, metered-same, sheet-same}
+use Rattle.moved_sheets.proofs.Near.{mostCost, zeroFlow, zero-most, zero-balanced, rangeless-at, any-amount, in-widest, near}
+
+module _ (p : Plant) (w : Within p) (free : rangeless (p .streams) ≡ true) where
+  abbrev q : Plant
+  q = forward p
+
+  costs : (xs : List ℤ) → cost (q .streams) xs ≡ cost (p .streams) xs
+  costs xs = cost-same widened widened-keeps 1 (p .streams) xs
+
+  -- Every balanced flow is in range, and in the ranged form every one that costs no more than the zero flow may.
+  any-allowed : (xs : List ℤ) → balanced p xs ≡ true → allowed p xs ≡ true
+  any-allowed xs b = allowed-of 1 p xs b (λ k l. any-amount (streamOf p k) (amountAt xs k) (rangeless-at (p .streams) free k l))
+
+  allowed-back : (xs : List ℤ) → allowed q xs ≡ true → allowed p xs ≡ true
+  allowed-back xs a = any-allowed xs (sym (balanced-same widened widened-keeps p xs) ∙ balanced-of 1 q xs a)
+
+  allowed-forth : (xs : List ℤ) → allowed p xs ≡ true → cost (p .streams) xs ≤ mostCost → allowed q xs ≡ true
+  allowed-forth xs a c = allowed-of 1 q xs (balanced-same widened widened-keeps p xs ∙ b) (λ k l. each k (omega (arith, length-map (p .streams) widened)))
+    where
+      b : balanced p xs ≡ true
+      b = balanced-of 1 p xs a
+
+      each : (k : ℕ) → k < countOf p → inRange 1 (streamOf q k) (amountAt xs k) ≡ true
+      each k l =
+          rw (moved-at widened widened-keeps (p .streams) k)
+          (in-widest (streamOf p k) (amountAt xs k) (rangeless-at (p .streams) free k l) (near p w xs (balanced-size p xs b) c k l))
+
+  zero-there : allowed p (zeroFlow p) ≡ true
+  zero-there = any-allowed (zeroFlow p) (zero-balanced p)
+
+  zero-forth : allowed q (zeroFlow p) ≡ true
+  zero-forth = allowed-forth (zeroFlow p) zero-there (zero-most p w)
+
+  -- The order of the metered amounts is the same.
+  orders : (xs ys : List ℤ) → notAfter (meteredOf (q .streams) xs) (meteredOf (q .streams) ys) ≡ notAfter (meteredOf (p .streams) xs) (meteredOf (p .streams) ys)
+  orders xs ys = λ i. notAfter (metered-same widened widened-keeps (p .streams) xs i) (metered-same widened widened-keeps (p .streams) ys i)
+
+  cheapest-forth : (xs : List ℤ) → Cheapest p xs → Cheapest q xs
+  cheapest-forth xs c = record {
+    balance = allowed-forth xs (c .balance) (omega (arith, c .least (zeroFlow p) zero-there, zero-most p w));
+    least = λ ys a. omega (arith, costs xs, costs ys, c .least ys (allowed-back ys a));
+    tie = λ ys a e. orders xs ys ∙ c .tie ys (allowed-back ys a) (omega (arith, costs xs, costs ys, e));
+  }
+
+  cheapest-back : (xs : List ℤ) → Cheapest q xs → Cheapest p xs
+  cheapest-back xs c = record {
+    balance = allowed-back xs (c .balance);
+    least = λ ys a. elim (decLe (cost (p .streams) ys) mostCost) [
+      | yes h ↦ omega (arith, costs xs, costs ys, c .least ys (allowed-forth ys a h))
+      | no h ↦ omega (arith, little)
+    ];
+    tie = λ ys a e. sym (orders xs ys) ∙ c .tie ys (allowed-forth ys a (omega (arith, e, little))) (omega (arith, costs xs, costs ys, e));
+  }
+    where
+      little : cost (p .streams) xs ≤ mostCost
+      little = omega (arith, c .least (zeroFlow p) zero-forth, costs xs, costs (zeroFlow p), zero-most p w)
+
+  -- No set is overfull: the zero flow is in range.
+  module _ {A : Type 0} (ms : List Bool) where
+    none-full : Overfull p ms → A
+    none-full m = clash (allowed p (zeroFlow p)) zero-there (overfull-none p w ms m 1 (zeroFlow p) (omega arith))
+
+    none-forth : Within q → Overfull q ms → A
+    none-forth v m = clash (allowed q (zeroFlow p)) zero-forth (overfull-none q v ms m 1 (zeroFlow p) (omega arith))
+
+  some-flow : (xs : List ℤ) × Cheapest q xs
+  some-flow = go (decided p w)
+    where
+      go : Decided p → (xs : List ℤ) × Cheapest q xs
+      go (solved xs π c h) = (xs, cheapest-forth xs c)
+      go (full ms m) = none-full ms m
+
+  -- A sheet drawn of the one is a sheet drawn of the other.
+  module _ (last : ℕ) (o o′ : List ℕ) (r : Sheet) where
+    drawn-as : {u v : Plant} → ((xs : List ℤ) → Cheapest u xs → Cheapest v xs) → ((xs : List ℤ) → sheetOf u xs (suc last) ≡ sheetOf v xs (suc last))
+        → Drawn u last o o′ r → Drawn v last o o′ r
+    drawn-as h e d =
+        let s = e (d .0) in
+        (d .0, h (d .0) (d .1), d .2 ∙ (λ i. record { number = 0; written = length (s i); last = suc last; marked = unmarked }), d .3 ∙ ap (λ (l : List ℕ). over l o) s)
+
+    sheets : (xs : List ℤ) → sheetOf q xs (suc last) ≡ sheetOf p xs (suc last)
+    sheets xs = sheet-same widened widened-keeps p xs (suc last)
+
+    with-forth : SheetWith (got p) last o o′ r → SheetWith (got q) last o o′ r
+    with-forth (inl d) = inl (drawn-as {u = p} {v = q} cheapest-forth (λ xs. sym (sheets xs)) d)
+    with-forth (inr m) = none-full (m .0) (m .1)
+
+    with-back : Within q → SheetWith (got q) last o o′ r → SheetWith (got p) last o o′ r
+    with-back v (inl d) = inl (drawn-as {u = q} {v = p} cheapest-back sheets d)
+    with-back v (inr m) = none-forth (m .0) v (m .1)
+
+    with-sheet : SheetWith (got p) last o o′ r → r .number ≡ 19 → ⊥
+    with-sheet (inl d) n = omega (arith, ap (λ (y : Sheet). y .number) (d .2), n)
+    with-sheet (inr m) n = none-full (m .0) (m .1)
+
+-- What a call says of two files follows from what it says of their plants.
+says-as : (a b : List ℕ) (last : ℕ) (o o′ : List ℕ) (r : Sheet)
+    → (SheetWith (readPlant a) last o o′ r → SheetWith (readPlant b) last o o′ r) → SheetSays a last o o′ r → SheetSays b last o o′ r
+says-as a b last o o′ r h s = by-cases (eqb (callFault last o) 0) (λ t. rw t (h (rw t at s))) (λ t. rw t (rw t at s))
+
+-- 19 is neither a refusal of the call itself nor a sheet.
+never-19 : (file : List ℕ) (p : Plant) → readPlant file ≡ got p → Within p → rangeless (p .streams) ≡ true
+    → (last : ℕ) (o o′ : List ℕ) (r : Sheet) → SheetSays file last o o′ r → r .number ≡ 19 → ⊥
+never-19 file p e w free last o o′ r s n =
+    by-cases (ltb (length o) leastSlice)
+    (λ t. omega (arith, ap (λ (y : Sheet). y .number) (short t .0), n))
+    (λ t. by-cases (eqb last topSheet)
+    (λ u. omega (arith, ap (λ (y : Sheet). y .number) (spent t u .0), n))
+    (λ u. with-sheet p w free last o o′ r (rw e at (call-taken file last o o′ r s (simp (t, u)))) n))
+  where
+    short : ltb (length o) leastSlice ≡ true → Refused 1 last o o′ r
+    short t = rw t at s
+
+    spent : ltb (length o) leastSlice ≡ false → eqb last topSheet ≡ true → Refused 2 last o o′ r
+    spent t u = rw (t, u) at s
+
+pub moved-sheets : Moved-sheets
+moved-sheets file p e free = record {
+  read = there;
+  some = some-flow p w free;
+  same = λ last o o′ r. (
+    says-as file (plantBytes (forward p)) last o o′ r (λ s. rw there (with-forth p w free last o o′ r (rw e at s))),
+    says-as (plantBytes (forward p)) file last o o′ r (λ s. rw e (with-back p w free last o o′ r v (rw there at s))),
+  );
+  sheet = λ last o o′ r s n. never-19 file p e w free last o o′ r s n;
+}
+  where
+    w : Within p
+    w = within p (accepted file p e .0)
+
+    v : Within (forward p)
+    v = within (forward p) (forward-good p (accepted file p e .0))
+
+    there : readPlant (plantBytes (forward p)) ≡ got (forward p)
+    there = forward-read file p e

@@ -1,0 +1,1 @@
+// The sheets of moved plants. No function stands here.

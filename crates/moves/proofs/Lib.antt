@@ -1,0 +1,6 @@
+-- Laws of moved plants.
+pub mod Streams
+pub mod Mapped
+pub mod Kept
+pub mod Reading
+pub mod Trip
