@@ -172,7 +172,7 @@ static uint8_t sheet_fault(const uint8_t *sheet, size_t size, size_t room)
     if (at + 15 > size)
         return 13;
     uint8_t degrees = sheet[at + 13], verdict = sheet[at + 14];
-    if (field(sheet + at + 1, 4) == 0 || degrees > 32 || (degrees == 0 ? verdict != 2 : verdict > 1))
+    if (field(sheet + at + 1, 4) == 0 || degrees > 32 || (degrees == 0 ? verdict != 2 : verdict == 2 || verdict > 3))
         return 14;
     return at + 15 == size ? 0 : 15;
 }

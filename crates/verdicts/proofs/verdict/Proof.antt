@@ -1,5 +1,6 @@
 -- By the tests in their order.
 use borrow.Author.Needs.{needs}
+use native.Mathlib.Omega.{arith}
 use borrow.Author.Tests.{eq-eqb}
 use Rattle.verdicts.proofs.Edges.{pass-is, close-is, fail-is}
 use Rattle.verdicts.proofs.verdict.Statement.{statement}
@@ -21,16 +22,16 @@ array-read-value : tie.Need-array-read-value
 array-read-value c = search needs
 
 returns-2 : tie.Need-returns-2
-returns-2 c = pass-is _ _ _ (c .before .if1 .left) (c .if2 .taken)
+returns-2 c = let a = c .before .before .args in pass-is (a .degrees) (a .cost) (a .weights) (c .before .if1 .left) (omega (arith, c .if2 .taken))
 
 sub-if3 : tie.Need-sub-if3
 sub-if3 c = search needs
 
 returns-3 : tie.Need-returns-3
-returns-3 c = close-is _ _ _ (c .before .before .if1 .left) (c .before .if2 .left) (c .if3 .taken)
+returns-3 c = let a = c .before .before .before .args in close-is (a .degrees) (a .cost) (a .weights) (c .before .before .if1 .left) (omega (arith, c .before .if2 .left)) (omega (arith, c .if3 .taken))
 
 returns-4 : tie.Need-returns-4
-returns-4 c = fail-is _ _ _ (c .before .before .if1 .left) (c .before .if2 .left) (c .if3 .left)
+returns-4 c = let a = c .before .before .before .args in fail-is (a .degrees) (a .cost) (a .weights) (c .before .before .if1 .left) (omega (arith, c .before .if2 .left)) (omega (arith, c .if3 .left))
 
 pub verdict-spec : {M : Type 1} → statement M
 verdict-spec =

@@ -340,10 +340,10 @@ impl Draw {
         let most = if self.below(4) == 0 { 7 } else { 5 };
         let degrees = [0, 1, 2, 31, 32, 33, 255][self.below(most)];
         let verdict = match self.below(6) {
-            0 => self.below(4) as u8,
+            0 => self.below(5) as u8,
             1 => self.bits() as u8,
             _ if degrees == 0 => 2,
-            _ => self.below(2) as u8,
+            _ => [0, 1, 3][self.below(3)],
         };
         let number = if self.below(12) == 0 { 0 } else { [1, u32::MAX, self.bits() as u32][self.below(3)] };
         Kept { streams, number, cost: [0, u64::MAX, self.bits()][self.below(3)], degrees, verdict }
