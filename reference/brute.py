@@ -423,16 +423,18 @@ def check_close(count):
     rounded = 0
     while sum(told) < count:
         units = rng.randint(1, 3)
-        streams = []
-        for _ in range(rng.randint(units, 6)):
-            source, target = rng.sample(range(units + 1), 2)
-            streams.append(metered(source, target, rng.randint(-9, 9), rng.choice((1, 2, 3, rng.randint(1, 1_000)))))
-        plant = Plant(units, tuple(streams))
-        result = solver.balance(plant)
-        value = solver.CRITICAL[result.degrees - 1]
-        if result.degrees == 0 or not value - 500 <= result.cost <= value + 1_000:
+        ends = [rng.sample(range(units + 1), 2) for _ in range(rng.randint(units, 6))]
+        light = Plant(units, tuple(metered(a, b, rng.randint(-6, 6), rng.randint(1, 3)) for a, b in ends))
+        result = solver.balance(light)
+        if result.degrees == 0 or result.cost == 0:
             continue
-        least = real_cost(plant)
+        # Weights so many times as great have the same flow, and so many times the cost.
+        value = solver.CRITICAL[result.degrees - 1]
+        times = value // result.cost + rng.randint(-2, 3)
+        if not 1 <= times <= 333:
+            continue
+        plant = Plant(units, tuple(s._replace(weight=s.weight * times) for s in light.streams))
+        result, least = solver.balance(plant), real_cost(plant)
         if result.verdict == 1:
             expect(plant, least > value, True)
         else:
@@ -472,7 +474,7 @@ def main():
         ("critical values", check_critical),
         ("small plants against brute force", lambda: check_small(30_000)),
         ("small plants with ranges against brute force", lambda: check_ranged(30_000)),
-        ("plants near the critical value", lambda: check_close(4_000)),
+        ("plants near the critical value", lambda: check_close(2_000)),
         ("large plants", lambda: check_large(80)),
     ):
         start = time.monotonic()

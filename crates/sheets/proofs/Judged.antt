@@ -11,7 +11,7 @@ use Rattle.numbers.specs.Choice.{pick}
 use Rattle.flows.specs.Test.{criticalAt, verdictAt}
 
 -- The four verdicts by their three tests; 0 needs the second, 1 is without the third.
-abbrev pub byTests : Bool → Bool → Bool → ℕ
+abbrev byTests : Bool → Bool → Bool → ℕ
 byTests a b e = pick a 2 (pick b 0 (pick e 3 1))
 
 pass-tests : (a b e : Bool) → byTests a b e ≡ 0 → b ≡ true

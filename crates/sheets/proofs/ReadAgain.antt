@@ -1,15 +1,14 @@
 -- The sheet of a plant's cheapest flow is within its limits, and so it reads back as its parts.
 use mathlib.Core.Path.{_≡_, refl, sym, subst}
-use mathlib.Core.Bool.{Bool, true, false, _||_}
+use mathlib.Core.Bool.{true}
 use mathlib.Core.List.{List, [], _∷_}
 use lib.IntN.{ℤ, natAbs}
 use Prim.Native.Nat.{ℕ, suc, _+_, _*_, _^_, _<_, _≤_}
 use native.Mathlib.Omega.{arith}
-use lib.Dec.{eqb, leb, ltb}
+use lib.Dec.{eqb, leb}
 use lib.ListN.{length, getD}
 use borrow.Author.Tests.{ne-eqb, le-leb}
-use Rattle.numbers.specs.Choice.{pick}
-use Rattle.numbers.proofs.Tests.{and-both}
+use Rattle.numbers.proofs.Tests.{by-cases, and-both}
 use Rattle.numbers.proofs.Complement.{small-held}
 use Rattle.plants.specs.Plants.{Plant}
 use Rattle.plants.specs.Within.{Within}
@@ -31,7 +30,6 @@ use Rattle.flows.proofs.Ranges.{balanced-of}
 use Rattle.sheets.proofs.Capped.{capped-most}
 use Rattle.sheets.proofs.Entries.{noEntry}
 use Rattle.sheets.proofs.Telling.{Sized, es-long, entry-at, cost-is, degrees-is, verdict-is}
-use Rattle.sheets.proofs.Judged.{byTests}
 use Rattle.sheets.proofs.There.{there}
 
 -- Entries fit where each does.
@@ -48,13 +46,10 @@ entry-fits Withheld x h = refl
 
 -- A verdict fits the degrees that it was given at.
 verdict-fits : (d c q : ℕ) → verdictFits d (verdictAt d c q) ≡ true
-verdict-fits d c q = go (eqb d 0) (leb c (criticalAt d)) (leb (4 * c) (4 * criticalAt d + q))
-  where
-    go : (a b e : Bool) → pick a (eqb (byTests a b e) 2) (eqb (byTests a b e) 3 || ltb (byTests a b e) 2) ≡ true
-    go true b e = refl
-    go false true e = refl
-    go false false true = refl
-    go false false false = refl
+verdict-fits d c q =
+    by-cases (eqb d 0) (λ t. rw t refl)
+    (λ t. by-cases (leb c (criticalAt d)) (λ u. rw (t, u) refl)
+    (λ u. by-cases (leb (4 * c) (4 * criticalAt d + q)) (λ v. rw (t, u, v) refl) (λ v. rw (t, u, v) refl)))
 
 module _ (p : Plant) (w : Within p) (xs : List ℤ) (c : Cheapest p xs) (last : ℕ) (sized : Sized p xs) (small : suc last < 256 ^ 4) where
   abbrev parts : List Entry

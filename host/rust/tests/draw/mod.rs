@@ -96,11 +96,27 @@ impl Draw {
 
     /// A plant within its limits, with ranges or without.
     pub fn plant(&mut self) -> Listed {
-        let mut plant = self.plant_without_ranges();
+        let mut plant = if self.below(20) == 0 { self.small_header() } else { self.plant_without_ranges() };
         if self.below(2) == 0 {
             ranges::put(self, &mut plant);
         }
         plant
+    }
+
+    /// A small header: a few meters of one weight, by which the cost comes near its critical value.
+    fn small_header(&mut self) -> Listed {
+        let (outlets, apart) = (self.among(1, 4), self.among(3, 20));
+        // Whole numbers share what the meters are apart, some of them one more: the cost at weight 1.
+        let (share, more) = (apart / (outlets + 1), apart % (outlets + 1));
+        let least = (outlets + 1) * share * share + more * (2 * share + 1);
+        let weight = (3841 / least + self.among(-2, 4)).clamp(1, 1000) as u16;
+        let streams = (0..=outlets)
+            .map(|k| {
+                let reading = if k == 0 { 20 * outlets - apart } else { 20 };
+                Stream { from: usize::from(k > 0), to: usize::from(k == 0), meter: Some((weight, reading as i32)), range: None }
+            })
+            .collect();
+        Listed { units: 1, streams }
     }
 
     /// A plant within its limits: small ones mostly, some of the greatest size.
