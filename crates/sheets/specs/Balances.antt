@@ -24,8 +24,8 @@ entryOf AsRead x = record { class = AsRead; flow = x }
 entryOf Given x = record { class = Given; flow = x }
 entryOf Withheld x = record { class = Withheld; flow = pos 0 }
 
--- The balance of a plant with a flow: its cost as it is written, and the verdict by the cost itself and the A streams' weights. (A record past the last
--- stream is empty, from the outside to itself: it is withheld.)
+-- The balance of a plant with a flow: its cost as it is written, and the verdict by the cost itself and the A streams' weights.
+-- (A record past the last stream is empty, from the outside to itself: it is withheld.)
 unfoldable pub balanceOf : Plant → List ℤ → Balance
 balanceOf p xs =
     let c = cost (p .streams) xs in
