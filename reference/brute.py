@@ -153,7 +153,10 @@ def brute_balance(plant):
     if degrees == 0:
         verdict = 2
     else:
-        verdict = int(cost > solver.CRITICAL[degrees - 1])
+        # How far the cost is above the critical value, in quarters of the A streams' weights.
+        over = cost - solver.CRITICAL[degrees - 1]
+        quarter = Fraction(sum(s.weight for s, letter in zip(plant.streams, classes) if letter == "A"), 4)
+        verdict = 0 if over <= 0 else 3 if over <= quarter else 1
     return solver.Balance(classes, tuple(numbers), cost, degrees, verdict), equal > 1
 
 
@@ -294,6 +297,10 @@ STATED = (
     ((metered(0, 1, 7),), 1, "A", (0,), 490, 1, 0),
     ((metered(0, 1, 61, 1),), 1, "A", (0,), 3721, 1, 0),
     ((metered(0, 1, 62, 1),), 1, "A", (0,), 3844, 1, 1),
+    # Close: half a unit between them, 3,797.5 and 3,822, would pass; and one that even so would fail, at 3,846.5.
+    ((metered(0, 1, 100, 155), metered(1, 0, 107, 155)), 1, "AA", (103, 103), 3875, 1, 3),
+    ((metered(0, 1, 100, 156), metered(1, 0, 107, 156)), 1, "AA", (103, 103), 3900, 1, 3),
+    ((metered(0, 1, 100, 157), metered(1, 0, 107, 157)), 1, "AA", (103, 103), 3925, 1, 1),
     ((), 1, "", (), 0, 0, 2),
     ((metered(0, 1, 100), Stream(1, 2), Stream(1, 2), metered(2, 0, 98)), 2, "AWWA", (99, None, None, 99), 20, 1, 0),
     # With ranges: an end blocks the tie, one gives way for another, the nearest value in range is shown and costs.
@@ -409,6 +416,35 @@ def check_ranged(count):
     return count
 
 
+def check_close(count):
+    """Plants whose cost is near the critical value: what each verdict says of the optimum in fractions."""
+    rng = random.Random(3)
+    told = [0] * 4
+    rounded = 0
+    while sum(told) < count:
+        units = rng.randint(1, 3)
+        ends = [rng.sample(range(units + 1), 2) for _ in range(rng.randint(units, 6))]
+        light = Plant(units, tuple(metered(a, b, rng.randint(-6, 6), rng.randint(1, 3)) for a, b in ends))
+        result = solver.balance(light)
+        if result.degrees == 0 or result.cost == 0:
+            continue
+        # Weights so many times as great have the same flow, and so many times the cost.
+        value = solver.CRITICAL[result.degrees - 1]
+        times = value // result.cost + rng.randint(-2, 3)
+        if not 1 <= times <= 333:
+            continue
+        plant = Plant(units, tuple(s._replace(weight=s.weight * times) for s in light.streams))
+        result, least = solver.balance(plant), real_cost(plant)
+        if result.verdict == 1:
+            expect(plant, least > value, True)
+        else:
+            expect(plant, result.cost <= value, result.verdict == 0)
+        told[result.verdict] += 1
+        rounded += least <= value < result.cost
+    print(f"  pass {told[0]}, close {told[3]}, fail {told[1]}; above the value by rounding alone {rounded}")
+    return count
+
+
 def check_large(count):
     """On large plants: balance, the bound from the optimum in fractions, and renumbered places."""
     rng = random.Random(2)
@@ -438,6 +474,7 @@ def main():
         ("critical values", check_critical),
         ("small plants against brute force", lambda: check_small(30_000)),
         ("small plants with ranges against brute force", lambda: check_ranged(30_000)),
+        ("plants near the critical value", lambda: check_close(2_000)),
         ("large plants", lambda: check_large(80)),
     ):
         start = time.monotonic()

@@ -283,8 +283,10 @@ def listings():
     for sample in samples.SAMPLES:
         yield Listing(sample.file)
     sample = samples.LISTING.file
-    # A plant that fails the test, one without degrees (R and G), one whose flows run backwards, one without streams.
+    # A plant that fails the test, one that is close, one without degrees (R and G), one whose flows run backwards, one without
+    # streams.
     yield Listing(plant_file(1, [metered(0, 1, 62, 1)]))
+    yield Listing(plant_file(1, [metered(0, 1, 100, 155), metered(1, 0, 107, 155)]))
     yield Listing(plant_file(1, [metered(0, 1, 100), unmetered(1, 0)]))
     yield Listing(plant_file(1, [metered(0, 1, -103), metered(1, 0, -60), metered(1, 0, -40)]))
     yield Listing(plant_file(1, []))

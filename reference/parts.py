@@ -9,7 +9,7 @@ import solver
 import transmitter
 from solver import FILE_LENGTH, READING, SHEET_LENGTH, Stream
 
-TEXT_LENGTH = 2_543  # a slice of so many bytes holds every listing
+TEXT_LENGTH = 2_544  # a slice of so many bytes holds every listing
 
 
 class Draws:

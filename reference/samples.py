@@ -125,7 +125,14 @@ OVERFULL_SITE = Sample(
     tuple(stream for _, stream in _OVERFULL_SITE),
 )
 
-SAMPLES = (LISTING, STEAM_SITE, RATED_SITE, OVERFULL_SITE)
+SMALL_HEADER = Sample(
+    "small_header",
+    ("header",),
+    ("steam of the boiler", "steam to the kitchen", "steam to the laundry"),
+    (metered(0, 1, 52, 444), metered(1, 0, 30, 444), metered(1, 0, 27, 444)),
+)
+
+SAMPLES = (LISTING, STEAM_SITE, RATED_SITE, OVERFULL_SITE, SMALL_HEADER)
 
 
 def files():

@@ -73,7 +73,7 @@ def kept():
     # 14: each field of the total that is not allowed, alone and after streams.
     wrong = [total(0), total(0, degrees=0, verdict=2), total(degrees=33), total(degrees=255, verdict=1), total(degrees=33, verdict=2)]
     wrong += [total(degrees=0, verdict=v) for v in (0, 1, 3, 255)]
-    wrong += [total(degrees=d, verdict=v) for d in (1, 2, 31, 32) for v in (2, 3, 4, 255)]
+    wrong += [total(degrees=d, verdict=v) for d in (1, 2, 31, 32) for v in (2, 4, 255)]
     for ending in wrong:
         yield Keeping(ending, 14)
         yield Keeping(shown(0x11, -5) + shown(0x14) + ending, 14)
@@ -81,7 +81,7 @@ def kept():
         yield Keeping(ending + b"\0", 14)
         yield Keeping(shown(0x13, 9) * STREAMS + ending + total(), 14)
     for degrees in (1, 2, 31, 32):
-        for verdict in (0, 1):
+        for verdict in (0, 1, 3):
             yield Keeping(total(degrees=degrees, verdict=verdict), 0)
     # 15: bytes after the total.
     for after in (b"\0", b"\xFF", b"\x14", total(), total()[:5], listing, bytes(900)):

@@ -26,7 +26,7 @@ BODY = {SITE: 1, METERED: 8, UNMETERED: 2, END: 1, RANGED: 16}
 
 KIND = {"A": 0x11, "R": 0x12, "G": 0x13, "W": 0x14}
 TOTAL = 0x1F
-PASS, FAIL, NONE = 0, 1, 2
+PASS, FAIL, NONE, CLOSE = 0, 1, 2, 3
 
 # Chi-square, 95 per cent, in thousandths, degrees 1 to 32.
 CRITICAL = (
@@ -441,11 +441,18 @@ def balance(plant):
 
     cost = cost_of(plant.streams, flow)
     degrees = len(groups) - len(pieces)
+    adjusted = sum(s.weight for s, letter in zip(plant.streams, classes) if letter == "A")
+    return Balance(classes, tuple(numbers), cost, degrees, verdict_of(degrees, cost, adjusted))
+
+
+def verdict_of(degrees, cost, adjusted):
+    """By the degrees, the cost and the summed weights of the A streams."""
     if degrees == 0:
-        verdict = NONE
-    else:
-        verdict = PASS if cost <= CRITICAL[degrees - 1] else FAIL
-    return Balance(classes, tuple(numbers), cost, degrees, verdict)
+        return NONE
+    value = CRITICAL[degrees - 1]
+    if cost <= value:
+        return PASS
+    return CLOSE if 4 * cost <= 4 * value + adjusted else FAIL
 
 
 # Sheet
@@ -508,7 +515,7 @@ def read_sheet(data):
         raise Refused(13)
     number, cost = int.from_bytes(total[:4], "big"), int.from_bytes(total[4:12], "big")
     degrees, verdict = total[12:14]
-    if number == 0 or degrees > UNITS or verdict not in ((NONE,) if degrees == 0 else (PASS, FAIL)):
+    if number == 0 or degrees > UNITS or verdict not in ((NONE,) if degrees == 0 else (PASS, FAIL, CLOSE)):
         raise Refused(14)
     if len(total) > 14:
         raise Refused(15)
@@ -535,7 +542,7 @@ def listing(data):
         f"{i} {letter} {'-' if amount is None else amount}"
         for i, (letter, amount) in enumerate(zip(result.classes, result.numbers), 1)
     ]
-    word = ("pass", "fail", "none")[result.verdict]
+    word = ("pass", "fail", "none", "close")[result.verdict]
     lines.append(f"total 1 {min(result.cost, MOST_COST)} {result.degrees} {word}")
     return "\n".join(lines) + "\n"
 

@@ -2,6 +2,7 @@
 
 import math
 
+import close_to_try
 import closings_to_try
 import files_to_try
 import moves_to_try
@@ -267,7 +268,9 @@ def verdicts():
                 streams = [metered(0, k, r if k % 2 else -r, w) for k, (w, r) in enumerate(ends, 1)]
             plant = solver.Plant(degrees, tuple(streams))
             result = solver.balance(plant)
-            if (result.cost, result.degrees, result.verdict) != (cost, degrees, int(cost > value)):
+            near = 4 * (cost - value) <= sum(s.weight for s in streams)  # all of them are A
+            meant = solver.PASS if cost <= value else solver.CLOSE if near else solver.FAIL
+            if (result.cost, result.degrees, result.verdict) != (cost, degrees, meant):
                 raise ValueError(f"{plant} misses cost {cost}")
             yield taken(degrees, streams)
 
@@ -342,4 +345,5 @@ SUBJECTS = (
     ("closings", closings_to_try.closings),
     ("moves", moves_to_try.moves_made),
     ("moved_sheets", moves_to_try.moved_sheets),
+    ("close", close_to_try.close),
 )

@@ -16,7 +16,7 @@
 static uint8_t print_sheet(const uint8_t *sheet, size_t written)
 {
     static const char classes[] = "ARGW";
-    static const char *const verdicts[] = {"pass", "fail", "none"};
+    static const char *const verdicts[] = {"pass", "fail", "none", "close"};
     uint8_t kinds[WENGELUDO_MAX_STREAMS], degrees, verdict;
     int64_t flows[WENGELUDO_MAX_STREAMS];
     size_t count;

@@ -20,6 +20,7 @@ head -c 20 "$listing" >"$work/cut"
 expect 0 "$(cat samples/listing.expected)" "$listing"
 expect 0 "$(cat samples/steam_site.expected)" samples/steam_site.bin
 expect 0 "$(cat samples/rated_site.expected)" samples/rated_site.bin
+expect 0 "$(cat samples/small_header.expected)" samples/small_header.bin
 expect 1 "$(cat samples/overfull_site.expected)"$'\nmarked 2 3' samples/overfull_site.bin
 expect 0 $'1 A 99\n2 W -\n3 W -\n4 A 99\ntotal 4294967295 20 1 pass' "$listing" 4294967294
 expect 1 'refused 2' "$listing" 4294967295
@@ -36,4 +37,4 @@ for file in "$listing" "$work/cut"; do
     [ "$status" = 2 ] || { echo "balance_file $file to a full device: status $status, expected 2" >&2; failed=1; }
 done
 [ "$failed" = 0 ] || exit 1
-echo "balance_file: 14 runs as expected"
+echo "balance_file: 15 runs as expected"

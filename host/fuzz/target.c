@@ -172,7 +172,7 @@ static uint8_t sheet_fault(const uint8_t *sheet, size_t size, size_t room)
     if (at + 15 > size)
         return 13;
     uint8_t degrees = sheet[at + 13], verdict = sheet[at + 14];
-    if (field(sheet + at + 1, 4) == 0 || degrees > 32 || (degrees == 0 ? verdict != 2 : verdict > 1))
+    if (field(sheet + at + 1, 4) == 0 || degrees > 32 || (degrees == 0 ? verdict != 2 : verdict == 2 || verdict > 3))
         return 14;
     return at + 15 == size ? 0 : 15;
 }
@@ -299,11 +299,27 @@ static int64_t nearest(const struct parts *p, size_t k)
     return p->ranged[k] && p->reading[k] > p->high[k] ? p->high[k] : p->reading[k];
 }
 
-/* The sheet fits its streams: classes by metered or not, the flows' balance where no flow is withheld, ranges, the cost. */
+/* The verdict by degrees, cost and the summed weights of the A streams. */
+static uint8_t verdict_of(uint8_t degrees, unsigned __int128 cost, uint32_t weights)
+{
+    static const uint16_t critical[] = {3841,  5991,  7815,  9488,  11070, 12592, 14067, 15507, 16919, 18307, 19675,
+                                        21026, 22362, 23685, 24996, 26296, 27587, 28869, 30144, 31410, 32671, 33924,
+                                        35172, 36415, 37652, 38885, 40113, 41337, 42557, 43773, 44985, 46194};
+    if (degrees == 0)
+        return WENGELUDO_NONE;
+    unsigned __int128 value = critical[degrees - 1];
+    if (cost <= value)
+        return WENGELUDO_PASS;
+    return 4 * cost <= 4 * value + weights ? WENGELUDO_CLOSE : WENGELUDO_FAIL;
+}
+
+/* The sheet fits its streams: classes by metered or not, the flows' balance where no flow is withheld, ranges, the cost, and
+ * the verdict by cost and degrees. */
 static void sheet_fits(uint8_t units, const struct parts *p, size_t count, const uint8_t *sheet, size_t written)
 {
     size_t at = 0;
     unsigned __int128 cost = 0;
+    uint32_t weights = 0;
     int64_t net[33] = {0};
     int blank[33] = {0};
     for (size_t k = 0; k < count; k++) {
@@ -327,6 +343,8 @@ static void sheet_fits(uint8_t units, const struct parts *p, size_t count, const
             fail("a flow out of its range");
         if (p->ranged[k])
             counters[OF_SHEETS + 600 + (flow == p->low[k]) + 2 * (flow == p->high[k])] = 1;
+        if (kind == 0x11)
+            weights += p->weight[k];
         __int128 off = (__int128)flow - p->reading[k];
         if (p->metered[k])
             cost += (unsigned __int128)p->weight[k] * (unsigned __int128)(off * off);
@@ -337,7 +355,11 @@ static void sheet_fits(uint8_t units, const struct parts *p, size_t count, const
     uint64_t capped = cost > UINT64_MAX ? UINT64_MAX : (uint64_t)cost;
     if (at + 15 != written || sheet[at] != 0x1F || field(sheet + at + 5, 8) != capped)
         fail("a wrong total");
-    counters[OF_SHEETS + sheet[at + 13] * 3 + sheet[at + 14]] = 1;
+    uint8_t degrees = sheet[at + 13], verdict = sheet[at + 14];
+    if (degrees > 32 || verdict != verdict_of(degrees, cost, weights))
+        fail("a wrong verdict");
+    /* Verdict 2 comes at degrees 0 alone, and there comes no other: elsewhere its counter is that of 3. */
+    counters[OF_SHEETS + degrees * 3 + (verdict == WENGELUDO_CLOSE ? WENGELUDO_NONE : verdict)] = 1;
     if (cost > UINT64_MAX)
         counters[OF_SHEETS + 604] = 1;
 }

@@ -69,7 +69,15 @@ enum {
     WENGELUDO_AS_READ = 0x12,  /* the same */
     WENGELUDO_GIVEN = 0x13,    /* the same */
     WENGELUDO_WITHHELD = 0x14, /* no body */
-    WENGELUDO_TOTAL = 0x1F     /* sheet number (4), cost (8), degrees (1), verdict (1: 0 pass, 1 fail, 2 none) */
+    WENGELUDO_TOTAL = 0x1F     /* sheet number (4), cost (8), degrees (1), verdict (1) */
+};
+
+/* The verdicts of a sheet's total. */
+enum {
+    WENGELUDO_PASS = 0, /* the cost is at most the critical value */
+    WENGELUDO_FAIL = 1, /* it is above it by more than a quarter of the weights of the A streams: in fractions too no flow passes */
+    WENGELUDO_NONE = 2, /* there are no degrees to test */
+    WENGELUDO_CLOSE = 3 /* it is above it by at most that: rounding to whole kilograms alone may have taken it there */
 };
 
 /* The sheet call: balances a plant file and writes its sheet.
@@ -132,8 +140,8 @@ uint8_t wengeludo_write_plant(uint8_t units, size_t count,
  *         1:  `kinds` or `flows` has fewer than 96 elements, however many streams the sheet lists.
  *         13: a record is missing, cut short, a 97th stream or of a wrong kind. A total that is cut is 13, whatever the
  *             fields hold that are there.
- *         14: the sheet number is 0, the degrees are above 32, or the verdict is not 2 at degrees 0, or not 0 or 1 at
- *             more degrees. The cost is free, and nothing is compared with the streams.
+ *         14: the sheet number is 0, the degrees are above 32, or the verdict is not 2 at degrees 0, or not 0, 1 or 3
+ *             at more degrees. The cost is free, and nothing is compared with the streams.
  *         15: bytes follow the total.
  * Writes, where it returns 0:
  *         at index k - 1 of `kinds` the kind of stream k's record (0x11 A, 0x12 R, 0x13 G, 0x14 W), at the same index of

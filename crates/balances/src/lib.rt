@@ -165,7 +165,8 @@ fn balance_by(p: Plant, cuts: Cuts, solved: Solved) -> Balance
     let corrected = opened_flows(held);
     let cost = cost_of(p, corrected);
     let degrees = classes::degrees_of(p, labels);
-    let verdict = classes::verdicts::verdict(degrees, cost);
+    let weights = verdicts::adjusted_weights(p, classes);
+    let verdict = verdicts::verdict(degrees, cost, weights);
     let streams = entries_of(classes, corrected);
     Balance {
         streams: streams,

@@ -17,7 +17,6 @@ ghost use Rattle.flows.specs.Classes.{degrees};
 ghost use Rattle.flows.specs.Calls.{Grouped, Cutting, classIn, classesOf};
 
 pub mod sides;
-pub mod verdicts;
 
 // The class of a stream by the labels by the unmetered streams, the label that it took away and the bits of the streams that
 // lie on a loop.

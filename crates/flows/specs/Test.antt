@@ -1,6 +1,6 @@
 -- The test of the whole (the global test): the cost against a critical value of chi-square at 95 per cent.
 use mathlib.Core.List.{List, [], _∷_}
-use Prim.Native.Nat.{ℕ, _-_}
+use Prim.Native.Nat.{ℕ, _+_, _-_, _*_}
 use lib.Dec.{eqb, leb}
 use lib.ListN.{getD}
 use Rattle.numbers.specs.Choice.{pick}
@@ -13,6 +13,10 @@ critical =
     ∷ 27587 ∷ 28869 ∷ 30144 ∷ 31410 ∷ 32671 ∷ 33924 ∷ 35172 ∷ 36415
     ∷ 37652 ∷ 38885 ∷ 40113 ∷ 41337 ∷ 42557 ∷ 43773 ∷ 44985 ∷ 46194 ∷ []
 
--- Verdict by degrees d and cost c: 0 (pass) at most the value, 1 (fail) above it, 2 (none) at no degrees.
-abbrev pub verdictAt : ℕ → ℕ → ℕ
-verdictAt d c = pick (eqb d 0) 2 (pick (leb c (getD critical (d - 1) 0)) 0 1)
+abbrev pub criticalAt : ℕ → ℕ
+criticalAt d = getD critical (d - 1) 0
+
+-- Verdict by degrees d, cost c and the summed weights q of the A streams: 2 (none) at no degrees, 0 (pass) where the cost is at most
+-- the critical value, 3 (close) where it is above it and 4 × cost is at most 4 × value + q, else 1 (fail).
+abbrev pub verdictAt : ℕ → ℕ → ℕ → ℕ
+verdictAt d c q = pick (eqb d 0) 2 (pick (leb c (criticalAt d)) 0 (pick (leb (4 * c) (4 * criticalAt d + q)) 3 1))

@@ -51,18 +51,22 @@ word-pass v e = simp (eq-eqb v 0 e)
 pub word-fail : (v : ℕ) → (v ≡ 0 → ⊥) → v ≡ 1 → text "fail" ≡ wordOf v
 word-fail v n e = simp (ne-eqb v 0 n, eq-eqb v 1 e)
 
-pub word-none : (v : ℕ) → (v ≡ 0 → ⊥) → (v ≡ 1 → ⊥) → text "none" ≡ wordOf v
-word-none v n m = simp (ne-eqb v 0 n, ne-eqb v 1 m)
+pub word-close : (v : ℕ) → (v ≡ 0 → ⊥) → (v ≡ 1 → ⊥) → v ≡ 3 → text "close" ≡ wordOf v
+word-close v n m e = simp (ne-eqb v 0 n, ne-eqb v 1 m, eq-eqb v 3 e)
 
-pub word-size : (v : ℕ) → length (wordOf v) ≡ 4
-word-size v = go (eqb v 0) (eqb v 1)
+pub word-none : (v : ℕ) → (v ≡ 0 → ⊥) → (v ≡ 1 → ⊥) → (v ≡ 3 → ⊥) → text "none" ≡ wordOf v
+word-none v n m o = simp (ne-eqb v 0 n, ne-eqb v 1 m, ne-eqb v 3 o)
+
+word-most : (v : ℕ) → length (wordOf v) ≤ 5
+word-most v = go (eqb v 0) (eqb v 1) (eqb v 3)
   where
-    go : (a b : Bool) → length (pick a (text "pass") (pick b (text "fail") (text "none"))) ≡ 4
-    go true b = refl
-    go false true = refl
-    go false false = refl
+    go : (a b e : Bool) → length (pick a (text "pass") (pick b (text "fail") (pick e (text "close") (text "none")))) ≤ 5
+    go true b e = omega arith
+    go false true e = omega arith
+    go false false true = omega arith
+    go false false false = omega arith
 
-pub total-size : (n c d v : ℕ) → length (totalLine n c d v) ≡ 6 + length (field n) + length (field c) + length (field d) + 5
+pub total-size : (n c d v : ℕ) → length (totalLine n c d v) ≡ 6 + length (field n) + length (field c) + length (field d) + length (wordOf v) + 1
 total-size n c d v =
     let a = text "total " in
     omega (
@@ -72,12 +76,11 @@ total-size n c d v =
       length-append (a ++ field n ++ field c) (field d),
       length-append (a ++ field n) (field c),
       length-append a (field n),
-      word-size v,
     )
 
 pub total-most : (n c d v : ℕ) → n < 10 ^ 10 → c < 10 ^ 20 → d < 10 ^ 3 → length (totalLine n c d v) ≤ totalSize
 total-most n c d v h k l =
-    omega (arith, total-size n c d v, field-size n, field-size c, field-size d, decimal-most 9 n h, decimal-most 19 c k, decimal-most 2 d l)
+    omega (arith, total-size n c d v, word-most v, field-size n, field-size c, field-size d, decimal-most 9 n h, decimal-most 19 c k, decimal-most 2 d l)
 
 -- The text of a refusal.
 pub refusal-size : (f : ℕ) → length (refusalText f) ≡ 8 + length (decimal f) + 1

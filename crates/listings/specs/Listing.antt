@@ -27,9 +27,9 @@ abbrev pub linesFrom : ℕ → List Entry → List ℕ
 linesFrom number [] = []
 linesFrom number (e ∷ es) = lineOf number e ++ linesFrom (suc number) es
 
--- The word for a verdict: 0, 1, 2.
+-- The word for a verdict: 0, 1, 3, 2.
 abbrev pub wordOf : ℕ → List ℕ
-wordOf v = pick (eqb v 0) (text "pass") (pick (eqb v 1) (text "fail") (text "none"))
+wordOf v = pick (eqb v 0) (text "pass") (pick (eqb v 1) (text "fail") (pick (eqb v 3) (text "close") (text "none")))
 
 -- The line of the total: sheet number, cost, degrees, verdict.
 abbrev pub totalLine : ℕ → ℕ → ℕ → ℕ → List ℕ

@@ -78,6 +78,9 @@ fn put_word(verdict: u8, at: usize, out: &mut [u8]) -> usize
     if verdict == 1 {
         return put_text(b"fail", at, out);
     }
+    if verdict == 3 {
+        return put_text(b"close", at, out);
+    }
     put_text(b"none", at, out)
 }
 

@@ -1,4 +1,5 @@
--- What a change of ranges alone leaves as it is: nets, costs, groups, classes, numbers, degrees; so the balance of a flow.
+-- What a change of ranges alone leaves as it is: nets, costs, groups, classes, numbers, degrees, the A streams' weights; so the
+-- balance of a flow.
 use mathlib.Core.Path.{_≡_, refl, sym, ap, ap₂, _∙_}
 use mathlib.Core.Bool.{Bool, not, _&&_, _||_}
 use mathlib.Core.List.{List, [], _∷_, _++_, map}
@@ -17,6 +18,7 @@ use Rattle.flows.specs.Flows.{streamAt, amountAt, netAt, balancedTo, balanced, 
 use Rattle.flows.specs.Chains.{Counting, everyStream, unmeteredOnly}
 use Rattle.flows.specs.Classes.{has, including, spread, rounds, joinedTo, unmeteredBut, oneGroup, onLoop, classOf, sideOut, givenOf, numberOf, lowest, leadersTo, degrees}
 use Rattle.flows.specs.Test.{verdictAt}
+use Rattle.flows.specs.Shown.{adjustedWeight, adjustedTo, adjusted}
 use Rattle.flows.proofs.Lists.{values-same}
 use Rattle.sheets.specs.Apart.{capped}
 use Rattle.sheets.specs.Balances.{entryOf, balanceOf}
@@ -41,6 +43,13 @@ widened-keeps = record {
   reading = λ s. picked (λ (t : Stream). t .reading ≡ s .reading) (s .metered && not (s .ranged)) _ s (λ q. refl) (λ q. refl);
   empty = refl;
 }
+
+-- Of a stream only its weight is summed.
+weight-alone : (c : Class) (s t : Stream) → s .weight ≡ t .weight → adjustedWeight c s ≡ adjustedWeight c t
+weight-alone Adjusted s t e = e
+weight-alone AsRead s t e = refl
+weight-alone Given s t e = refl
+weight-alone Withheld s t e = refl
 
 module _ (f : Stream → Stream) (keep : Keeps f) where
   pub moved-at : (ss : List Stream) (k : ℕ) → streamAt (map f ss) k ≡ f (streamAt ss k)
@@ -128,6 +137,11 @@ module _ (f : Stream → Stream) (keep : Keeps f) where
     pub class-same : classOf (moved f p) k ≡ classOf p k
     class-same = λ i. pick {A = Class} (metered-at i) (pick (group-same i) AsRead Adjusted) (pick (loop-same i) Withheld Given)
 
+    weight-same : adjustedWeight (classOf (moved f p) k) (streamAt (map f (p .streams)) k) ≡ adjustedWeight (classOf p k) s
+    weight-same =
+        ap (λ (c : Class). adjustedWeight c (streamAt (map f (p .streams)) k)) class-same
+        ∙ weight-alone (classOf p k) _ s (ap (λ (t : Stream). t .weight) (moved-at (p .streams) k) ∙ keep .weight s)
+
     side-same : (side : List ℕ) (ss : List Stream) (xs : List ℤ) → sideOut side (map f ss) xs ≡ sideOut side ss xs
     side-same side [] xs = refl
     side-same side (t ∷ ss) [] = refl
@@ -144,6 +158,14 @@ module _ (f : Stream → Stream) (keep : Keeps f) where
     pub number-same : (xs : List ℤ) → numberOf (moved f p) xs k ≡ numberOf p xs k
     number-same xs = λ i. pick {A = ℤ} (metered-at i) (amountAt xs k) (given-same xs i)
 
+  -- The weights of the adjusted streams.
+  weights-to : (p : Plant) (k : ℕ) → adjustedTo (moved f p) k ≡ adjustedTo p k
+  weights-to p zero = refl
+  weights-to p (suc k) = ap₂ _+_ (weight-same p k) (weights-to p k)
+
+  weights-same : (p : Plant) → adjusted (moved f p) ≡ adjusted p
+  weights-same p = weights-to p (length (map f (p .streams))) ∙ ap (adjustedTo p) (length-map (p .streams) f)
+
   -- The balance of a flow, and its sheet.
   module _ (p : Plant) (xs : List ℤ) where
     balance-same : balanceOf (moved f p) xs ≡ balanceOf p xs
@@ -153,7 +175,8 @@ module _ (f : Stream → Stream) (keep : Keeps f) where
         (λ k l. ap₂ entryOf (class-same p k) (number-same p k xs)) in
         let c = cost-same 1 (p .streams) xs in
         let d = degrees-same p in
-        λ i. record { streams = e i; cost = capped (c i); degrees = d i; verdict = verdictAt (d i) (c i) }
+        let w = weights-same p in
+        λ i. record { streams = e i; cost = capped (c i); degrees = d i; verdict = verdictAt (d i) (c i) (w i) }
 
     pub sheet-same : (n : ℕ) → sheetOf (moved f p) xs n ≡ sheetOf p xs n
     sheet-same n = λ i. sheetBytes (length-map (p .streams) f i) n (balance-same i)

@@ -100,12 +100,15 @@ fn total_in(s: &[u8]) -> Total
     }
 }
 
-// Verdict 2 exactly at degrees 0, else 0 or 1.
+// Verdict 2 exactly at degrees 0, else 0, 1 or 3.
 fn verdict_fits(degrees: u8, verdict: u8) -> bool
     ensures { λ r. ⌜ r ≡ verdictFits degrees verdict ⌝ }
 {
     if degrees == 0 {
         return verdict == 2;
+    }
+    if verdict == 3 {
+        return true;
     }
     verdict < 2
 }

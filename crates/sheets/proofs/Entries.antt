@@ -3,7 +3,7 @@ use mathlib.Core.Path.{_≡_, refl, sym, ap, _∙_}
 use mathlib.Core.Bool.{true}
 use mathlib.Core.List.{List, map}
 use lib.IntN.{ℤ, pos}
-use Prim.Native.Nat.{ℕ}
+use Prim.Native.Nat.{ℕ, _≤_}
 use native.Mathlib.Omega.{arith}
 use borrow.Author.Tests.{ltb-true, ltb-false}
 use lib.Dec.{ltb}
@@ -22,6 +22,7 @@ use Rattle.flows.specs.Flows.{amountAt, balanced, cost, Cheapest}
 use Rattle.numbers.specs.Inner.{values}
 use Rattle.flows.specs.Classes.{classOf, numberOf, degrees}
 use Rattle.flows.specs.Test.{verdictAt}
+use Rattle.flows.specs.Shown.{adjusted}
 use Rattle.flows.specs.Calls.{classesOf}
 use Rattle.flows.proofs.Lists.{values-same, values-long, values-at, Written, written-all}
 use Rattle.flows.proofs.Given.{number-is}
@@ -32,7 +33,7 @@ use Rattle.model.specs.declared.Solved.{Solved}
 use Rattle.model.specs.Promise.{Solution}
 use Rattle.sheets.specs.declared.Entry.{Entry}
 use Rattle.sheets.specs.Balances.{entryOf, balanceOf, BalanceSays}
-use Rattle.sheets.specs.Apart.{capped}
+use Rattle.sheets.specs.Apart.{topCost, capped}
 use Rattle.sheets.specs.Calls.{entriesOf}
 use Rattle.sheets.proofs.Opening.{take-opened}
 use Rattle.sheets.proofs.Capped.{capped-verdict}
@@ -53,11 +54,13 @@ pub entry-as : (c : Class) {d : Class} {x y : ℤ} → d ≡ c → x ≡ y → e
 entry-as c {d} {x} {y} e f = ap (λ (k : Class). entryOf k x) (sym e) ∙ ap (entryOf d) f
 
 -- A balance by its parts.
-pub balance-is : (p : Plant) (xs : List ℤ) (es : List Entry) (c d v : ℕ) → es ≡ values maxStreams (λ k. entryOf (classOf p k) (numberOf p xs k))
-    → c ≡ capped (cost (p .streams) xs) → d ≡ degrees p → v ≡ verdictAt d c → record { streams = es; cost = c; degrees = d; verdict = v } ≡ balanceOf p xs
+pub balance-is : (p : Plant) (xs : List ℤ) (es : List Entry) (c d q v : ℕ) → es ≡ values maxStreams (λ k. entryOf (classOf p k) (numberOf p xs k))
+    → c ≡ capped (cost (p .streams) xs) → d ≡ degrees p → q ≡ adjusted p → q ≤ topCost → v ≡ verdictAt d c q
+    → record { streams = es; cost = c; degrees = d; verdict = v } ≡ balanceOf p xs
 unfolding balanceOf
-balance-is p xs es c d v e ec ed ev =
-    let judged : v ≡ verdictAt (degrees p) (cost (p .streams) xs) = ev ∙ (λ j. verdictAt (ed j) (ec j)) ∙ capped-verdict (degrees p) (cost (p .streams) xs) in
+balance-is p xs es c d q v e ec ed eq h ev =
+    let judged : v ≡ verdictAt (degrees p) (cost (p .streams) xs) (adjusted p) =
+    ev ∙ (λ j. verdictAt (ed j) (ec j) (eq j)) ∙ capped-verdict (degrees p) (cost (p .streams) xs) (adjusted p) (rw (← eq) h) in
     λ i. record { streams = e i; cost = ec i; degrees = ed i; verdict = judged i }
 
 pub balance-long : (p : Plant) (xs : List ℤ) → length (balanceOf p xs .streams) ≡ maxStreams
@@ -98,11 +101,12 @@ module _ (p : Arrays.Plant) (a : Accepted p) (s : Solved) (r : Solution p s) (xs
   pub flow-cheapest : Cheapest (plantOf p) (take (p .count) xs)
   flow-cheapest = rw flow-is (r .cheapest)
 
-  pub balanced-so : (cs : List Class) (es : List Entry) (c d v : ℕ) → cs ≡ classesOf (plantOf p) → es ≡ entriesOf cs xs
-      → c ≡ capped (cost (plantOf p .streams) (take (p .count) xs)) → d ≡ degrees (plantOf p) → v ≡ verdictAt d c
+  pub balanced-so : (cs : List Class) (es : List Entry) (c d q v : ℕ) → cs ≡ classesOf (plantOf p) → es ≡ entriesOf cs xs
+      → c ≡ capped (cost (plantOf p .streams) (take (p .count) xs)) → d ≡ degrees (plantOf p) → q ≡ adjusted (plantOf p) → q ≤ topCost
+      → v ≡ verdictAt d c q
       → BalanceSays (plantOf p) (record { streams = es; cost = c; degrees = d; verdict = v })
-  balanced-so cs es c d v ecs ees ec ed ev = (
+  balanced-so cs es c d q v ecs ees ec ed eq h ev = (
     take (p .count) xs,
     flow-cheapest,
-    balance-is (plantOf p) (take (p .count) xs) es c d v (ees ∙ entries-shown p xs a (balanced-of 1 (plantOf p) (take (p .count) xs) (flow-cheapest .balance)) cs ecs) ec ed ev,
+    balance-is (plantOf p) (take (p .count) xs) es c d q v (ees ∙ entries-shown p xs a (balanced-of 1 (plantOf p) (take (p .count) xs) (flow-cheapest .balance)) cs ecs) ec ed eq h ev,
   )

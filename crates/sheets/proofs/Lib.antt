@@ -10,6 +10,7 @@ pub mod Back
 pub mod Apart
 pub mod Promise
 pub mod Unique
+pub mod Judged
 pub mod Telling
 pub mod ReadAgain
 pub mod Answering

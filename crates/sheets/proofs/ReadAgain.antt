@@ -1,15 +1,14 @@
 -- The sheet of a plant's cheapest flow is within its limits, and so it reads back as its parts.
 use mathlib.Core.Path.{_≡_, refl, sym, subst}
-use mathlib.Core.Bool.{Bool, true, false}
+use mathlib.Core.Bool.{true}
 use mathlib.Core.List.{List, [], _∷_}
 use lib.IntN.{ℤ, natAbs}
-use Prim.Native.Nat.{ℕ, suc, _-_, _*_, _^_, _<_, _≤_}
+use Prim.Native.Nat.{ℕ, suc, _+_, _*_, _^_, _<_, _≤_}
 use native.Mathlib.Omega.{arith}
-use lib.Dec.{eqb, leb, ltb}
+use lib.Dec.{eqb, leb}
 use lib.ListN.{length, getD}
 use borrow.Author.Tests.{ne-eqb, le-leb}
-use Rattle.numbers.specs.Choice.{pick}
-use Rattle.numbers.proofs.Tests.{and-both}
+use Rattle.numbers.proofs.Tests.{by-cases, and-both}
 use Rattle.numbers.proofs.Complement.{small-held}
 use Rattle.plants.specs.Plants.{Plant}
 use Rattle.plants.specs.Within.{Within}
@@ -18,7 +17,8 @@ use Rattle.flows.specs.declared.Class.{Class}
 use Rattle.flows.specs.declared.Class.the-variants.{Adjusted, AsRead, Given, Withheld}
 use Rattle.flows.specs.Flows.{cost, Cheapest}
 use Rattle.flows.specs.Classes.{classOf, numberOf, degrees}
-use Rattle.flows.specs.Test.{critical, verdictAt}
+use Rattle.flows.specs.Test.{criticalAt, verdictAt}
+use Rattle.flows.specs.Shown.{adjusted}
 use Rattle.flows.proofs.Nets.{inside}
 use Rattle.flows.proofs.Given.{number-is}
 use Rattle.flows.proofs.Degrees.{degrees-most}
@@ -45,13 +45,11 @@ entry-fits Given x h = small-held 8 x (h (λ e. let z : _≡_ {A = ℕ} 0 1 = cc
 entry-fits Withheld x h = refl
 
 -- A verdict fits the degrees that it was given at.
-verdict-fits : (d c : ℕ) → verdictFits d (verdictAt d c) ≡ true
-verdict-fits d c = go (eqb d 0) (leb c (getD critical (d - 1) 0))
-  where
-    go : (a b : Bool) → pick a (eqb (pick a 2 (pick b 0 1)) 2) (ltb (pick a 2 (pick b 0 1)) 2) ≡ true
-    go true b = refl
-    go false true = refl
-    go false false = refl
+verdict-fits : (d c q : ℕ) → verdictFits d (verdictAt d c q) ≡ true
+verdict-fits d c q =
+    by-cases (eqb d 0) (λ t. rw t refl)
+    (λ t. by-cases (leb c (criticalAt d)) (λ u. rw (t, u) refl)
+    (λ u. by-cases (leb (4 * c) (4 * criticalAt d + q)) (λ v. rw (t, u, v) refl) (λ v. rw (t, u, v) refl)))
 
 module _ (p : Plant) (w : Within p) (xs : List ℤ) (c : Cheapest p xs) (last : ℕ) (sized : Sized p xs) (small : suc last < 256 ^ 4) where
   abbrev parts : List Entry
@@ -67,7 +65,7 @@ module _ (p : Plant) (w : Within p) (xs : List ℤ) (c : Cheapest p xs) (last : 
   total-fits =
       let few : degrees p ≤ maxUnits = degrees-most p (w .few-units) (inside p w) in
       rw (degrees-is p w xs c 0 [], verdict-is p w xs c 0 [], ne-eqb (suc last) 0 (omega arith), le-leb (degrees p) maxUnits few)
-      (verdict-fits (degrees p) (cost (p .streams) xs))
+      (verdict-fits (degrees p) (cost (p .streams) xs) (adjusted p))
 
   pub within-sheet : WithinSheet (plantParts p xs (suc last))
   within-sheet =

@@ -93,6 +93,8 @@ prices =
     ∷ (pos 0 ∷ negsuc 139 ∷ [])
     ∷ (pos 0 ∷ negsuc 121 ∷ [])
     ∷ (pos 0 ∷ negsuc 123 ∷ [])
+    ∷ (pos 0 ∷ pos 1085 ∷ [])
+    ∷ (pos 0 ∷ pos 1099 ∷ [])
     ∷ (pos 0 ∷ negsuc 19 ∷ negsuc 19 ∷ [])
     ∷ []
     ∷ (pos 0 ∷ pos 0 ∷ [])

@@ -17,11 +17,11 @@ use Rattle.plants.specs.Plants.{Plant}
 use Rattle.plants.specs.Within.{Within}
 use Rattle.flows.specs.declared.Class.{Class}
 use Rattle.flows.specs.declared.Class.the-variants.{Adjusted, AsRead, Given, Withheld}
-use Rattle.flows.specs.Flows.{streamAt, amountAt, balanced, cost, Cheapest, nearest}
+use Rattle.flows.specs.Flows.{streamAt, amountAt, balanced, allowedOver, cost, costOver, Cheapest, nearest}
 use Rattle.flows.specs.Chains.{everyStream, unmeteredOnly}
 use Rattle.flows.specs.Classes.{classOf, numberOf, degrees}
-use Rattle.flows.specs.Test.{verdictAt}
-use Rattle.flows.specs.Shown.{adjustedWeight, adjustedTo, Shown}
+use Rattle.flows.specs.Test.{criticalAt, verdictAt}
+use Rattle.flows.specs.Shown.{adjustedWeight, adjustedTo, adjusted, Shown}
 use Rattle.flows.proofs.Nets.{inside}
 use Rattle.flows.proofs.Lists.{values-at}
 use Rattle.flows.proofs.Ranges.{balanced-of}
@@ -38,6 +38,7 @@ use Rattle.sheets.proofs.Capped.{capped-most}
 use Rattle.sheets.proofs.Entries.{noEntry, balance-long}
 use Rattle.sheets.proofs.Apart.{kind-at, number-at, total-begins, total-kind, total-number, total-cost, total-degrees, total-verdict}
 use Rattle.sheets.proofs.Unique.{amount-same, cost-same}
+use Rattle.sheets.proofs.Judged.{passed-means, failed-means}
 
 -- What is read in bytes that begin with sheet n of a flow.
 pub record Told (p : Plant) (xs : List ℤ) (n : ℕ) (b : List ℕ) : Type 0 where
@@ -47,7 +48,7 @@ pub record Told (p : Plant) (xs : List ℤ) (n : ℕ) (b : List ℕ) : Type 0 wh
   pub numbered : sheetNumberIn b (length (p .streams)) ≡ n
   pub costs : costIn b (length (p .streams)) ≡ capped (cost (p .streams) xs)
   pub freedom : degreesIn b (length (p .streams)) ≡ degrees p
-  pub verdict : verdictIn b (length (p .streams)) ≡ verdictAt (degrees p) (cost (p .streams) xs)
+  pub verdict : verdictIn b (length (p .streams)) ≡ verdictAt (degrees p) (cost (p .streams) xs) (adjusted p)
   pub size : sheetLength b (length (p .streams)) ≡ length (sheetOf p xs n)
 
 -- An entry's class and its flow.
@@ -97,7 +98,7 @@ module _ (p : Plant) (w : Within p) (xs : List ℤ) (c : Cheapest p xs) (n : ℕ
   unfolding balanceOf
   degrees-is = refl
 
-  pub verdict-is : balanceOf p xs .verdict ≡ verdictAt (degrees p) (cost (p .streams) xs)
+  pub verdict-is : balanceOf p xs .verdict ≡ verdictAt (degrees p) (cost (p .streams) xs) (adjusted p)
   unfolding balanceOf
   verdict-is = refl
 
@@ -186,6 +187,13 @@ module _ (p : Plant) (w : Within p) (shown : Shown p) (xs : List ℤ) (c : Cheap
       ∙ ap (λ (q : ℕ). pick (eqb q adjustedKind) (streamAt (p .streams) k .weight) 0) (sym (t .kinds k (omega arith))))
       (weights k (omega arith))
 
+  quarter : (zs : List ℤ) → Cheapest p zs → (d : ℕ) (ys : List ℤ) → 1 ≤ d → allowedOver d p ys ≡ true
+      → 4 * (d * d) * cost (p .streams) zs ≤ 4 * costOver d (p .streams) ys + d * d * adjustedWeights p b m
+  quarter zs z d ys l a = rw (← weights m (omega arith)) (shown .near zs ys d z l a)
+
+  judged : (zs : List ℤ) → Cheapest p zs → verdictIn b m ≡ verdictAt (degreesIn b m) (cost (p .streams) zs) (adjustedWeights p b m)
+  judged zs z = t .verdict ∙ (λ i. verdictAt (sym (t .freedom) i) (cost-same p w xs zs c z i) (weights m (omega arith) i))
+
   pub tells : Tells p (length (p .streams)) n b
   tells = record {
     adjusted = λ i q. iff-both (kind-iff i (q .0) Adjusted) (adjusted-of p w i (q .1));
@@ -197,12 +205,14 @@ module _ (p : Plant) (w : Within p) (shown : Shown p) (xs : List ℤ) (c : Cheap
     some = (xs, c);
     metered = λ ys d i q. meter i q ∙ amount-same p w xs ys c d i (q .0) (metered-shown i (q .1));
     costs = λ ys d. t .costs ∙ ap capped (cost-same p w xs ys c d);
-    near = λ zs z d ys l a. rw (← weights m (omega arith)) (shown .near zs ys d z l a);
+    near = quarter;
     groups = some-each p w unmeteredOnly;
     pieces = some-each p w everyStream;
     degrees = λ gs cs g h. rw (t .freedom) (degrees-counted p w gs cs g h);
     few = rw (t .freedom) (degrees-most p (w .few-units) (inside p w));
-    verdict = λ zs z. t .verdict ∙ ap₂ verdictAt (sym (t .freedom)) (cost-same p w xs zs c z);
+    verdict = judged;
+    passes = λ e zs z. passed-means (degreesIn b m) (cost (p .streams) zs) (adjustedWeights p b m) (sym (judged zs z) ∙ e);
+    fails = λ e d ys l a. failed-means (degreesIn b m) (cost (p .streams) xs) (adjustedWeights p b m) (sym (judged xs c) ∙ e) d (costOver d (p .streams) ys) l (quarter xs c d ys l a);
     total = t .total;
     numbered = t .numbered;
   }

@@ -25,6 +25,7 @@ use Rattle.flows.specs.declared.Class.the-variants.{Adjusted, AsRead, Given, Wi
 use Rattle.flows.specs.Flows.{streamAt, amountAt, balanced, allowed, cost, meteredOf, Cheapest}
 use Rattle.flows.specs.Classes.{classOf, numberOf, degrees}
 use Rattle.flows.specs.Test.{verdictAt}
+use Rattle.flows.specs.Shown.{adjusted}
 use Rattle.flows.specs.Overfull.{unmarked, Overfull}
 use Rattle.flows.proofs.Nets.{balanced-size}
 use Rattle.flows.proofs.Ranges.{balanced-of}
@@ -93,7 +94,7 @@ module _ (p : Plant) (w : Within p) (xs ys : List ℤ) (c : Cheapest p xs) (d : 
   unfolding balanceOf
   one-balance =
       let e = values-same maxStreams (λ k. entryOf (classOf p k) (numberOf p xs k)) (λ k. entryOf (classOf p k) (numberOf p ys k)) (λ k l. entries-same k) in
-      λ i. record { streams = e i; cost = capped (cost-same i); degrees = degrees p; verdict = verdictAt (degrees p) (cost-same i) }
+      λ i. record { streams = e i; cost = capped (cost-same i); degrees = degrees p; verdict = verdictAt (degrees p) (cost-same i) (adjusted p) }
 
   pub one-sheet : (n : ℕ) → sheetOf p xs n ≡ sheetOf p ys n
   one-sheet n = ap (sheetBytes (length (p .streams)) n) one-balance

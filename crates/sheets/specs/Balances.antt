@@ -10,6 +10,7 @@ use Rattle.flows.specs.Flows.{cost, Cheapest}
 use Rattle.numbers.specs.Inner.{values, pickT}
 use Rattle.flows.specs.Classes.{classOf, numberOf, degrees}
 use Rattle.flows.specs.Test.{verdictAt}
+use Rattle.flows.specs.Shown.{adjusted}
 use Rattle.flows.specs.Overfull.{Overfull}
 use Rattle.sheets.specs.declared.Entry.{Entry}
 use Rattle.sheets.specs.declared.Balance.{Balance}
@@ -23,8 +24,8 @@ entryOf AsRead x = record { class = AsRead; flow = x }
 entryOf Given x = record { class = Given; flow = x }
 entryOf Withheld x = record { class = Withheld; flow = pos 0 }
 
--- The balance of a plant with a flow: its cost as it is written, and the verdict by the cost itself. (A record past the last
--- stream is empty, from the outside to itself: it is withheld.)
+-- The balance of a plant with a flow: its cost as it is written, and the verdict by the cost itself and the A streams' weights.
+-- (A record past the last stream is empty, from the outside to itself: it is withheld.)
 unfoldable pub balanceOf : Plant → List ℤ → Balance
 balanceOf p xs =
     let c = cost (p .streams) xs in
@@ -32,7 +33,7 @@ balanceOf p xs =
       streams = values maxStreams (λ k. entryOf (classOf p k) (numberOf p xs k));
       cost = capped c;
       degrees = degrees p;
-      verdict = verdictAt (degrees p) c;
+      verdict = verdictAt (degrees p) c (adjusted p);
     }
 
 -- What the balance of a plant is: that of its cheapest flow.

@@ -41,9 +41,9 @@ streamRecord size e c s = pick (leb maxStreams c || ltb (length s) size) (Refuse
 abbrev pub totalIn : List ℕ → Total
 totalIn s = record { sheet = be 1 4 s; cost = be 5 8 s; degrees = getD s 13 0; verdict = getD s 14 0 }
 
--- Verdict 2, none, exactly at degrees 0; else 0 or 1.
+-- Verdict 2, none, exactly at degrees 0; else 0, 1 or 3.
 abbrev pub verdictFits : ℕ → ℕ → Bool
-verdictFits d v = pick (eqb d 0) (eqb v 2) (ltb v 2)
+verdictFits d v = pick (eqb d 0) (eqb v 2) (eqb v 3 || ltb v 2)
 
 -- The fields that are allowed: a sheet number from 1, degrees up to the most units, a verdict that fits them.
 abbrev pub fieldsFit : Total → Bool

@@ -13,7 +13,7 @@ use Rattle.plants.specs.Plants.{Plant}
 use Rattle.plants.specs.Files.{bad, got, readPlant}
 use Rattle.flows.specs.Flows.{streamAt, amountAt, balanced, allowedOver, allowed, cost, costOver, Agree, Cheapest, nearest}
 use Rattle.flows.specs.Chains.{everyStream, unmeteredOnly, Chain, OneEach}
-use Rattle.flows.specs.Test.{verdictAt}
+use Rattle.flows.specs.Test.{criticalAt, verdictAt}
 use Rattle.flows.specs.Overfull.{unmarked, Overfull}
 use Rattle.sheets.specs.declared.Sheet.{Sheet}
 use Rattle.sheets.specs.Apart.{adjustedKind, asReadKind, givenKind, withheldKind, totalKind, leastSlice, kindAt, numberAt, sheetNumberIn, costIn, degreesIn, verdictIn, capped, sheetLength}
@@ -71,8 +71,13 @@ pub record Tells (p : Plant) (m n : ℕ) (b : List ℕ) : Type 0 where
   pub pieces : (cs : List ℕ) × OneEach everyStream p cs
   pub degrees : (gs cs : List ℕ) → OneEach unmeteredOnly p gs → OneEach everyStream p cs → degreesIn b m + length cs ≡ length gs
   pub few : degreesIn b m ≤ maxUnits
-  -- The verdict by these degrees and the cost itself.
-  pub verdict : (xs : List ℤ) → Cheapest p xs → verdictIn b m ≡ verdictAt (degreesIn b m) (cost (p .streams) xs)
+  -- The verdict by these degrees, the cost itself and the summed weights of the A streams.
+  pub verdict : (xs : List ℤ) → Cheapest p xs → verdictIn b m ≡ verdictAt (degreesIn b m) (cost (p .streams) xs) (adjustedWeights p b m)
+  -- What it means. Pass, 0: the sheet's own flow costs at most the critical value. Fail, 1: every balanced flow in fractions,
+  -- within all ranges, costs more.
+  pub passes : verdictIn b m ≡ 0 → (xs : List ℤ) → Cheapest p xs → cost (p .streams) xs ≤ criticalAt (degreesIn b m)
+  pub fails : verdictIn b m ≡ 1 → (d : ℕ) (ys : List ℤ) → 1 ≤ d → allowedOver d p ys ≡ true
+      → d * d * criticalAt (degreesIn b m) < costOver d (p .streams) ys
   -- The total stands behind the records, with the sheet's number.
   pub total : kindAt b m ≡ totalKind
   pub numbered : sheetNumberIn b m ≡ n

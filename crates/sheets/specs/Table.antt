@@ -69,6 +69,8 @@ total high low degrees verdict = 31 ∷ 0 ∷ 0 ∷ 0 ∷ 1 ∷ 0 ∷ 0 ∷ 0 �
 -- In 100 metered, out unmetered: R 100, G 100, degrees 0, none.
 -- A dead end, one metered stream in, 7: A 0, cost 490, degrees 1, pass.
 -- The same with weight 1: 61 costs 3,721 and passes, 62 costs 3,844 and fails.
+-- In 100, out 107, weights 155: 103, 103, cost 3,875, close: 103½, which no sheet shows, costs 3,797½ and would pass.
+-- The same with weights 157: cost 3,925, fail: 103½ costs 3,846½.
 -- The listing's plant: 99, two blanks, 99, cost 20.
 -- No streams.
 -- In 103 within 0 to 100, out 60 and 40: 100, 60, 40, cost 90.
@@ -84,6 +86,8 @@ examples =
     ∷ record { file = site 1 ++ meter 0 1 10 7 ++ end 1; flow = pos 0 ∷ []; sheet = shown 17 0 ++ total 1 234 1 0 }
     ∷ record { file = site 1 ++ meter 0 1 1 61 ++ end 1; flow = pos 0 ∷ []; sheet = shown 17 0 ++ total 14 137 1 0 }
     ∷ record { file = site 1 ++ meter 0 1 1 62 ++ end 1; flow = pos 0 ∷ []; sheet = shown 17 0 ++ total 15 4 1 1 }
+    ∷ record { file = site 1 ++ meter 0 1 155 100 ++ meter 1 0 155 107 ++ end 2; flow = pos 103 ∷ pos 103 ∷ []; sheet = shown 17 103 ++ shown 17 103 ++ total 15 35 1 3 }
+    ∷ record { file = site 1 ++ meter 0 1 157 100 ++ meter 1 0 157 107 ++ end 2; flow = pos 103 ∷ pos 103 ∷ []; sheet = shown 17 103 ++ shown 17 103 ++ total 15 85 1 1 }
     ∷ record { file = site 2 ++ meter 0 1 10 100 ++ pipe 1 2 ++ pipe 1 2 ++ meter 2 0 10 98 ++ end 4; flow = pos 99 ∷ pos 99 ∷ pos 0 ∷ pos 99 ∷ []; sheet = shown 17 99 ++ (20 ∷ 20 ∷ []) ++ shown 17 99 ++ total 0 20 1 0 }
     ∷ record { file = site 1 ++ end 0; flow = []; sheet = total 0 0 0 2 }
     ∷ record { file = site 1 ++ within 0 1 10 103 0 100 ++ meter 1 0 10 60 ++ meter 1 0 10 40 ++ end 3; flow = pos 100 ∷ pos 60 ∷ pos 40 ∷ []; sheet = shown 17 100 ++ shown 17 60 ++ shown 17 40 ++ total 0 90 1 0 }

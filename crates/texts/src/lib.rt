@@ -8,7 +8,7 @@ ghost use Rattle.texts.specs.Says.{ListSays, Counts};
 // The longest line of a stream, and that of the total.
 const LINE_SIZE: usize = 26;
 
-const TOTAL_SIZE: usize = 47;
+const TOTAL_SIZE: usize = 48;
 
 // The least slice that is taken: as many lines as there may be, and the total's.
 pub const LEAST_TEXT: usize = MAX_STREAMS * LINE_SIZE + TOTAL_SIZE;

@@ -139,7 +139,7 @@ pub struct Total {
     pub cost: u64,
     /// The degrees.
     pub degrees: u8,
-    /// The verdict: 0 pass, 1 fail, 2 none.
+    /// The verdict: 0 pass, 1 fail, 2 none, 3 close.
     pub verdict: u8,
 }
 

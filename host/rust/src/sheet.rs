@@ -43,10 +43,13 @@ impl Record {
 pub enum Verdict {
     /// The cost is at most the critical value.
     Pass,
-    /// The cost is above it.
+    /// The cost is above it by more than a quarter of the weights of the A streams: no balanced flow within the ranges, in
+    /// fractions either, costs at most the critical value.
     Fail,
     /// There are no degrees to test.
     None,
+    /// The cost is above it, but by no more than that: rounding to whole kilograms alone may have taken it there.
+    Close,
 }
 
 /// A balance sheet.
@@ -92,6 +95,7 @@ impl Sheet {
             verdict: match total.verdict {
                 0 => Verdict::Pass,
                 1 => Verdict::Fail,
+                3 => Verdict::Close,
                 _ => Verdict::None,
             },
         })
@@ -112,6 +116,7 @@ impl fmt::Display for Sheet {
             Verdict::Pass => "pass",
             Verdict::Fail => "fail",
             Verdict::None => "none",
+            Verdict::Close => "close",
         };
         writeln!(f, "total {} {} {} {}", self.number, self.cost, self.degrees, verdict)
     }

@@ -24,10 +24,12 @@ const GUARD: usize = 64;
 /// The refusals of the sheet call.
 const REFUSALS: [usize; 14] = [1, 2, 3, 4, 5, 6, 7, 8, 9, 10, 11, 12, 18, 19];
 
-// Where outcomes are counted: those of the sheet call by their number, the writer's calls, those of the sheet reader by theirs.
+// Where outcomes are counted: those of the sheet call by their number, the writer's calls, those of the sheet reader by theirs,
+// sheets with the verdict close, which are counted nowhere else.
 const WRITER: usize = 20;
 const READER: usize = 21;
-const OUTCOMES: usize = READER + 16;
+const CLOSE: usize = READER + 16;
+const OUTCOMES: usize = CLOSE + 1;
 
 /// Runs a call on a slice with guard bytes round it; the outcome has the slice's bytes, and the guards are compared here.
 fn guarded(slice: &[u8], call: impl FnOnce(&mut [u8], &mut usize) -> (u8, u32, u64)) -> Result<Outcome, String> {
@@ -90,13 +92,15 @@ fn marks_right(file: &[u8], returned: u8, marked: u64) -> Result<(), String> {
     }
 }
 
-fn sheet_difference(run: &dyn Fn(&Call) -> Result<Outcome, String>, call: &Call) -> Result<u8, String> {
+/// Where the outcome is counted, or the difference.
+fn sheet_difference(run: &dyn Fn(&Call) -> Result<Outcome, String>, call: &Call) -> Result<usize, String> {
     let expected = reference::sheet_call(&call.file, call.last, &call.slice);
     let found = run(call)?;
     let (returned, marked) = (found.returned, found.marked);
     compare(Ok(found), &expected)?;
     marks_right(&call.file, returned, marked)?;
-    Ok(returned)
+    let close = expected.written > 0 && expected.slice[expected.written - 1] == 3;
+    Ok(if close { CLOSE } else { returned.into() })
 }
 
 fn write_difference(w: &Write) -> Result<(), String> {
@@ -238,7 +242,7 @@ fn engine_and_reference_agree() {
                 } else {
                     let call = draw.call();
                     match sheet_difference(&engine, &call) {
-                        Ok(returned) => counts[usize::from(returned)].fetch_add(1, Ordering::Relaxed),
+                        Ok(outcome) => counts[outcome].fetch_add(1, Ordering::Relaxed),
                         Err(difference) => {
                             let differs = |c: &Call| sheet_difference(&engine, c).is_err();
                             let small = shrink::smallest(call, &shrink::simpler_calls, &differs);
@@ -253,11 +257,12 @@ fn engine_and_reference_agree() {
     let count = |i: usize| counts[i].load(Ordering::Relaxed);
     let refusals: Vec<String> = REFUSALS.map(|i| format!("{i}: {}", count(i))).into();
     println!("{inputs} inputs from seed {seed}, no difference");
-    println!("sheets: {}; refusals {}; calls of the writer: {}", count(0), refusals.join(", "), count(WRITER));
+    let (sheets, refusals) = (count(0) + count(CLOSE), refusals.join(", "));
+    println!("sheets: {sheets}, {} of them close; refusals {refusals}; calls of the writer: {}", count(CLOSE), count(WRITER));
     let reopened: Vec<String> = [1, 13, 14, 15].iter().map(|i| format!("{i}: {}", count(READER + i))).collect();
     println!("sheets read back in: {}; refusals {}", count(READER), reopened.join(", "));
     if inputs >= 100_000 {
-        let all = [0, WRITER].into_iter().chain(REFUSALS).chain([0, 1, 13, 14, 15].map(|i| READER + i));
+        let all = [0, WRITER, CLOSE].into_iter().chain(REFUSALS).chain([0, 1, 13, 14, 15].map(|i| READER + i));
         assert!(all.into_iter().all(|i| count(i) > 0), "some outcome never came up");
     }
 }
@@ -276,6 +281,9 @@ fn plants_to_try() {
         (1, vec![m(0, 1, 10, 7)], "1 A 0\ntotal 1 490 1 pass\n"),
         (1, vec![m(0, 1, 1, 61)], "1 A 0\ntotal 1 3721 1 pass\n"),
         (1, vec![m(0, 1, 1, 62)], "1 A 0\ntotal 1 3844 1 fail\n"),
+        // Close, by half a unit; and a fail beyond that.
+        (1, vec![m(0, 1, 155, 100), m(1, 0, 155, 107)], "1 A 103\n2 A 103\ntotal 1 3875 1 close\n"),
+        (1, vec![m(0, 1, 157, 100), m(1, 0, 157, 107)], "1 A 103\n2 A 103\ntotal 1 3925 1 fail\n"),
         (1, vec![], "total 1 0 0 none\n"),
         // An end blocks the tie, the nearest value in range is shown, a cost beyond 64 bits is capped.
         (1, vec![within(m(0, 1, 10, 100), 102, 105), m(1, 0, 10, 103)], "1 A 102\n2 A 102\ntotal 1 50 1 pass\n"),

@@ -1,5 +1,6 @@
 -- The parts make up the balance of the cheapest flow.
 use borrow.Author.Needs.{needs}
+use native.Mathlib.Omega.{arith}
 use Rattle.sheets.proofs.Opening.{held-amounts, flows-small}
 use Rattle.sheets.proofs.Entries.{balanced-so}
 use Rattle.balances.proofs.balance_by.Statement.{statement}
@@ -22,6 +23,9 @@ cost-of-requires c κs =
 degrees-of-requires : tie.Need-degrees-of-requires
 degrees-of-requires c κs = search needs
 
+adjusted-weights-requires : tie.Need-adjusted-weights-requires
+adjusted-weights-requires c κs = (c .before .before .before .before .before .before .pre .0, c .before .before .before .before .before .classes-of .ensures)
+
 verdict-requires : tie.Need-verdict-requires
 verdict-requires c κs = search needs
 
@@ -30,14 +34,15 @@ entries-of-requires c κs = search needs
 
 returns : tie.Need-returns
 returns c =
-    let start = c .before .before .before .before .before .before .before .before in
-    let opened = c .before .before .before .before .opened-flows in
-    let classes = c .before .before .before .before .before .before .before .classes-of in
-    let cost = c .before .before .before .cost-of in
-    let degrees = c .before .before .degrees-of in
+    let start = c .before .before .before .before .before .before .before .before .before in
+    let opened = c .before .before .before .before .before .opened-flows in
+    let classes = c .before .before .before .before .before .before .before .before .classes-of in
+    let cost = c .before .before .before .before .cost-of in
+    let degrees = c .before .before .before .degrees-of in
+    let weights = c .before .before .adjusted-weights in
     let verdict = c .before .verdict in
-    balanced-so (start .args .p) (start .pre .0) (start .args .solved) (start .pre .2) (opened .result) (opened .ensures) (classes .result) (c .entries-of .result) (cost .result) (degrees .result) (verdict .result)
-    (classes .ensures) (c .entries-of .ensures) (cost .ensures) (degrees .ensures .0) (verdict .ensures)
+    balanced-so (start .args .p) (start .pre .0) (start .args .solved) (start .pre .2) (opened .result) (opened .ensures) (classes .result) (c .entries-of .result) (cost .result) (degrees .result) (weights .result) (verdict .result)
+    (classes .ensures) (c .entries-of .ensures) (cost .ensures) (degrees .ensures .0) (weights .ensures) (omega arith) (verdict .ensures)
 
 pub balance-by-spec : {M : Type 1} → statement M
 balance-by-spec =
@@ -47,6 +52,7 @@ balance-by-spec =
     opened-flows-requires
     cost-of-requires
     degrees-of-requires
+    adjusted-weights-requires
     verdict-requires
     entries-of-requires
     returns)

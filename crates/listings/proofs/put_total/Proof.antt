@@ -2,7 +2,7 @@
 use borrow.Author.Needs.{needs}
 use native.Mathlib.Omega.{arith}
 use Rattle.numerals.proofs.Behind.{behind}
-use Rattle.listings.proofs.Sizes.{total-size, word-size}
+use Rattle.listings.proofs.Sizes.{total-size}
 use Rattle.listings.proofs.put_total.Statement.{statement}
 use Rattle.listings.proofs.put_total.Tie as tie
 
@@ -13,19 +13,19 @@ put-text-requires : tie.Need-put-text-requires
 put-text-requires c κs = search needs
 
 put-field-requires : tie.Need-put-field-requires
-put-field-requires c κs = let a = c .before .before .before .before .before .before .before .args in let s = total-size (a .number) (a .cost) (a .degrees) (a .verdict) in let w = word-size (a .verdict) in let p0 = c .before .before .before .put-text .ensures .place in omega arith
+put-field-requires c κs = let a = c .before .before .before .before .before .before .before .args in let s = total-size (a .number) (a .cost) (a .degrees) (a .verdict) in let p0 = c .before .before .before .put-text .ensures .place in omega arith
 
 put-field-requires-2 : tie.Need-put-field-requires-2
-put-field-requires-2 c κs = let a = c .before .before .before .before .before .before .before .before .before .before .before .args in let s = total-size (a .number) (a .cost) (a .degrees) (a .verdict) in let w = word-size (a .verdict) in let p0 = c .before .before .before .before .before .before .before .put-text .ensures .place in let p1 = c .before .before .before .put-field .ensures .place in omega arith
+put-field-requires-2 c κs = let a = c .before .before .before .before .before .before .before .before .before .before .before .args in let s = total-size (a .number) (a .cost) (a .degrees) (a .verdict) in let p0 = c .before .before .before .before .before .before .before .put-text .ensures .place in let p1 = c .before .before .before .put-field .ensures .place in omega arith
 
 put-field-requires-3 : tie.Need-put-field-requires-3
-put-field-requires-3 c κs = let a = c .before .before .before .before .before .before .before .before .before .before .before .before .before .before .before .args in let s = total-size (a .number) (a .cost) (a .degrees) (a .verdict) in let w = word-size (a .verdict) in let p0 = c .before .before .before .before .before .before .before .before .before .before .before .put-text .ensures .place in let p1 = c .before .before .before .before .before .before .before .put-field .ensures .place in let p2 = c .before .before .before .put-field2 .ensures .place in omega arith
+put-field-requires-3 c κs = let a = c .before .before .before .before .before .before .before .before .before .before .before .before .before .before .before .args in let s = total-size (a .number) (a .cost) (a .degrees) (a .verdict) in let p0 = c .before .before .before .before .before .before .before .before .before .before .before .put-text .ensures .place in let p1 = c .before .before .before .before .before .before .before .put-field .ensures .place in let p2 = c .before .before .before .put-field2 .ensures .place in omega arith
 
 put-word-requires : tie.Need-put-word-requires
-put-word-requires c κs = let a = c .before .before .before .before .before .before .before .before .before .before .before .before .before .before .before .before .before .before .before .args in let s = total-size (a .number) (a .cost) (a .degrees) (a .verdict) in let w = word-size (a .verdict) in let p0 = c .before .before .before .before .before .before .before .before .before .before .before .before .before .before .before .put-text .ensures .place in let p1 = c .before .before .before .before .before .before .before .before .before .before .before .put-field .ensures .place in let p2 = c .before .before .before .before .before .before .before .put-field2 .ensures .place in let p3 = c .before .before .before .put-field3 .ensures .place in omega arith
+put-word-requires c κs = let a = c .before .before .before .before .before .before .before .before .before .before .before .before .before .before .before .before .before .before .before .args in let s = total-size (a .number) (a .cost) (a .degrees) (a .verdict) in let p0 = c .before .before .before .before .before .before .before .before .before .before .before .before .before .before .before .put-text .ensures .place in let p1 = c .before .before .before .before .before .before .before .before .before .before .before .put-field .ensures .place in let p2 = c .before .before .before .before .before .before .before .put-field2 .ensures .place in let p3 = c .before .before .before .put-field3 .ensures .place in omega arith
 
 put-byte-requires : tie.Need-put-byte-requires
-put-byte-requires c κs = let a = c .before .before .before .before .before .before .before .before .before .before .before .before .before .before .before .before .before .before .before .before .before .before .before .args in let s = total-size (a .number) (a .cost) (a .degrees) (a .verdict) in let w = word-size (a .verdict) in let p0 = c .before .before .before .before .before .before .before .before .before .before .before .before .before .before .before .before .before .before .before .put-text .ensures .place in let p1 = c .before .before .before .before .before .before .before .before .before .before .before .before .before .before .before .put-field .ensures .place in let p2 = c .before .before .before .before .before .before .before .before .before .before .before .put-field2 .ensures .place in let p3 = c .before .before .before .before .before .before .before .put-field3 .ensures .place in let p4 = c .before .before .before .put-word .ensures .place in omega arith
+put-byte-requires c κs = let a = c .before .before .before .before .before .before .before .before .before .before .before .before .before .before .before .before .before .before .before .before .before .before .before .args in let s = total-size (a .number) (a .cost) (a .degrees) (a .verdict) in let p0 = c .before .before .before .before .before .before .before .before .before .before .before .before .before .before .before .before .before .before .before .put-text .ensures .place in let p1 = c .before .before .before .before .before .before .before .before .before .before .before .before .before .before .before .put-field .ensures .place in let p2 = c .before .before .before .before .before .before .before .before .before .before .before .put-field2 .ensures .place in let p3 = c .before .before .before .before .before .before .before .put-field3 .ensures .place in let p4 = c .before .before .before .put-word .ensures .place in omega arith
 
 same-length : tie.Need-same-length
 same-length c = search needs

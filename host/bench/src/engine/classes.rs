@@ -104,10 +104,17 @@ const CRITICAL: [u64; MAX_UNITS] = [
     30144, 31410, 32671, 33924, 35172, 36415, 37652, 38885, 40113, 41337, 42557, 43773, 44985, 46194,
 ];
 
-/// 0 (pass), 1 (fail), 2 (none).
-pub fn verdict(degrees: usize, cost: u64) -> u8 {
+/// The summed weights of the adjusted streams.
+pub fn adjusted_weights(streams: &[Stream], classes: &[Class]) -> u64 {
+    streams.iter().zip(classes).filter(|(_, class)| **class == Class::Adjusted).map(|(s, _)| s.weight as u64).sum()
+}
+
+/// 0 (pass), 1 (fail), 2 (none), 3 (close), the adjusted streams having these weights in sum.
+pub fn verdict(degrees: usize, cost: u64, weights: u64) -> u8 {
     match degrees.checked_sub(1) {
         None => 2,
-        Some(at) => u8::from(cost > CRITICAL[at]),
+        Some(at) if cost <= CRITICAL[at] => 0,
+        Some(at) if cost - CRITICAL[at] <= weights / 4 => 3,
+        Some(_) => 1,
     }
 }

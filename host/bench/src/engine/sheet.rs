@@ -20,7 +20,9 @@ pub fn put<W: Watch>(site: &Site, flows: &[i64; MAX_STREAMS], number: u32, out: 
     for (&class, &flow) in classes[..site.count].iter().zip(flows) {
         at += put_record(class, flow, &mut out[at..]);
     }
-    put_total(number, cost(streams, flows), degrees, &mut out[at..]);
+    let cost = cost(streams, flows);
+    let verdict = classes::verdict(degrees, cost, classes::adjusted_weights(streams, &classes));
+    put_total(number, cost, degrees, verdict, &mut out[at..]);
     watch.phase(Phase::Write);
     at + 15
 }
@@ -48,10 +50,10 @@ fn put_record(class: Class, flow: i64, out: &mut [u8]) -> usize {
     9
 }
 
-fn put_total(number: u32, cost: u64, degrees: usize, out: &mut [u8]) {
+fn put_total(number: u32, cost: u64, degrees: usize, verdict: u8, out: &mut [u8]) {
     out[0] = 0x1F;
     out[1..5].copy_from_slice(&number.to_be_bytes());
     out[5..13].copy_from_slice(&cost.to_be_bytes());
     out[13] = degrees as u8;
-    out[14] = classes::verdict(degrees, cost);
+    out[14] = verdict;
 }

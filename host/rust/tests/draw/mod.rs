@@ -96,11 +96,27 @@ impl Draw {
 
     /// A plant within its limits, with ranges or without.
     pub fn plant(&mut self) -> Listed {
-        let mut plant = self.plant_without_ranges();
+        let mut plant = if self.below(20) == 0 { self.small_header() } else { self.plant_without_ranges() };
         if self.below(2) == 0 {
             ranges::put(self, &mut plant);
         }
         plant
+    }
+
+    /// A small header: a few meters of one weight, by which the cost comes near its critical value.
+    fn small_header(&mut self) -> Listed {
+        let (outlets, apart) = (self.among(1, 4), self.among(3, 20));
+        // Whole numbers share what the meters are apart, some of them one more: the cost at weight 1.
+        let (share, more) = (apart / (outlets + 1), apart % (outlets + 1));
+        let least = (outlets + 1) * share * share + more * (2 * share + 1);
+        let weight = (3841 / least + self.among(-2, 4)).clamp(1, 1000) as u16;
+        let streams = (0..=outlets)
+            .map(|k| {
+                let reading = if k == 0 { 20 * outlets - apart } else { 20 };
+                Stream { from: usize::from(k > 0), to: usize::from(k == 0), meter: Some((weight, reading as i32)), range: None }
+            })
+            .collect();
+        Listed { units: 1, streams }
     }
 
     /// A plant within its limits: small ones mostly, some of the greatest size.
@@ -340,10 +356,10 @@ impl Draw {
         let most = if self.below(4) == 0 { 7 } else { 5 };
         let degrees = [0, 1, 2, 31, 32, 33, 255][self.below(most)];
         let verdict = match self.below(6) {
-            0 => self.below(4) as u8,
+            0 => self.below(5) as u8,
             1 => self.bits() as u8,
             _ if degrees == 0 => 2,
-            _ => self.below(2) as u8,
+            _ => [0, 1, 3][self.below(3)],
         };
         let number = if self.below(12) == 0 { 0 } else { [1, u32::MAX, self.bits() as u32][self.below(3)] };
         Kept { streams, number, cost: [0, u64::MAX, self.bits()][self.below(3)], degrees, verdict }

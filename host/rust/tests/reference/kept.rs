@@ -34,7 +34,7 @@ pub fn reopen(mut bytes: &[u8]) -> Result<Kept, Fault> {
     kept.number = u32::from_be_bytes(take(&mut bytes)?);
     kept.cost = u64::from_be_bytes(take(&mut bytes)?);
     [kept.degrees, kept.verdict] = take(&mut bytes)?;
-    let verdicts = if kept.degrees == 0 { 2..=2 } else { 0..=1 };
+    let verdicts: &[u8] = if kept.degrees == 0 { &[2] } else { &[0, 1, 3] };
     if kept.number == 0 || kept.degrees > 32 || !verdicts.contains(&kept.verdict) {
         return Err(14);
     }

@@ -114,14 +114,19 @@ pub fn sheet_of(plant: &Listed, number: u32) -> Result<Vec<u8>, u64> {
         }
     };
     let mut sheet = Vec::new();
-    let mut cost: u128 = 0;
+    let (mut cost, mut adjusted): (u128, u128) = (0, 0);
     for (k, s) in plant.streams.iter().enumerate() {
         let (kind, value) = match s.meter {
             Some((weight, reading)) => {
                 let off = i128::from(flow[k] - i64::from(reading));
                 cost += u128::from(weight) * (off * off) as u128;
                 assert!(s.limits().map_or(true, |(low, high)| (low..=high).contains(&flow[k])), "a flow outside its range");
-                (if group[s.from] != group[s.to] { 0x11 } else { 0x12 }, Some(flow[k]))
+                if group[s.from] != group[s.to] {
+                    adjusted += u128::from(weight);
+                    (0x11, Some(flow[k]))
+                } else {
+                    (0x12, Some(flow[k]))
+                }
             }
             None => {
                 // Without this stream: is its end still joined to its start? If not, it carries what the places beyond need.
@@ -147,7 +152,12 @@ pub fn sheet_of(plant: &Listed, number: u32) -> Result<Vec<u8>, u64> {
         }
     }
     let degrees = count(&group) - count(&piece);
-    let verdict = if degrees == 0 { 2 } else { u8::from(cost > u128::from(CRITICAL[degrees - 1])) };
+    let verdict = match degrees.checked_sub(1).map(|at| u128::from(CRITICAL[at])) {
+        None => 2,
+        Some(value) if cost <= value => 0,
+        Some(value) if 4 * cost <= 4 * value + adjusted => 3,
+        Some(_) => 1,
+    };
     sheet.push(0x1F);
     sheet.extend(number.to_be_bytes());
     sheet.extend(u64::try_from(cost).unwrap_or(u64::MAX).to_be_bytes());

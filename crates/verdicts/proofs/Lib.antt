@@ -1,0 +1,3 @@
+-- Laws of the test.
+pub mod Edges
+pub mod Summing
