@@ -14,7 +14,7 @@ use Rattle.plants.specs.declared.Stream.{Stream}
 use Rattle.plants.specs.Plants.{Plant, limited}
 use Rattle.flows.specs.Flows.{streamAt, amountAt, balanced, inRange, inRanges, allowedOver, nearest}
 use Rattle.flows.specs.Certificate.{rises, falls}
-use Rattle.flows.proofs.Integers.{up, dn, Le, Lt, leZ-le, le-leZ, ltZ-lt, lt-ltZ, Le-unless, Le-antisym, minus-val, up-times, dn-times, one-times, val}
+use Rattle.flows.proofs.Integers.{up, dn, Le, Lt, leZ-le, le-leZ, ltZ-lt, lt-ltZ, Le-unless, Le-antisym, minus-val, product, one-times, val}
 use Rattle.flows.proofs.Nets.{countOf, streamOf, balanced-size}
 use Rattle.flows.proofs.Steps.{Free}
 
@@ -22,7 +22,7 @@ use Rattle.flows.proofs.Steps.{Free}
 pub asked : (b t : Bool) → not b || t ≡ true → b ≡ true → t ≡ true
 asked b t e h = or-cases (not b) t e (λ z. clash b h (not-true b z)) (λ z. z)
 
-answered : (b t : Bool) → (b ≡ true → t ≡ true) → not b || t ≡ true
+pub answered : (b t : Bool) → (b ≡ true → t ≡ true) → not b || t ≡ true
 answered b t f = by-cases b (λ h. or-right (not b) t (f h)) (λ h. or-left (not b) t (ap not h))
 
 not-below : (x y : ℤ) → ltZ x y ≡ false → Le y x
@@ -78,22 +78,19 @@ unmetered-moves s x m = (rw m, rw m)
 
 -- Where an amount over D, in range, is above or below x, there is room for more, or less, than x.
 module _ (D : ℕ) (s : Stream) (x y : ℤ) (e : inRange D s y ≡ true) where
-  product : (z : ℤ) → (up (pos D *ℤ z) ≡ D * up z + 0 * dn z) × (dn (pos D *ℤ z) ≡ D * dn z + 0 * up z)
-  product z = (up-times (pos D) z, dn-times (pos D) z)
-
   higher : Lt (pos D *ℤ x) y → rises s x ≡ true
   higher h = answered (limited s) _ (λ q. lt-ltZ x (s .high)
-      (lt-of-mul-lt-mul-left D (omega (arith, range-says D s y e q .1, product x, product (s .high)))))
+      (lt-of-mul-lt-mul-left D (omega (arith, range-says D s y e q .1, product D x, product D (s .high)))))
 
   lower : Lt y (pos D *ℤ x) → falls s x ≡ true
   lower h = answered (limited s) _ (λ q. lt-ltZ (s .low) x
-      (lt-of-mul-lt-mul-left D (omega (arith, range-says D s y e q .0, product x, product (s .low)))))
+      (lt-of-mul-lt-mul-left D (omega (arith, range-says D s y e q .0, product D x, product D (s .low)))))
 
   -- The same of their deviations from the reading.
   pub free-over : Free (falls s x) (rises s x) (pos D *ℤ (x -ℤ s .reading)) (y -ℤ pos D *ℤ s .reading)
   free-over = record {
-    more = λ h. higher (omega (arith, minus-val y (pos D *ℤ s .reading), product (x -ℤ s .reading), scaled, product x, product (s .reading)));
-    less = λ h. lower (omega (arith, minus-val y (pos D *ℤ s .reading), product (x -ℤ s .reading), scaled, product x, product (s .reading)));
+    more = λ h. higher (omega (arith, minus-val y (pos D *ℤ s .reading), product D (x -ℤ s .reading), scaled, product D x, product D (s .reading)));
+    less = λ h. lower (omega (arith, minus-val y (pos D *ℤ s .reading), product D (x -ℤ s .reading), scaled, product D x, product D (s .reading)));
   }
     where
       scaled : D * (up (x -ℤ s .reading) + (dn x + up (s .reading))) ≡ D * (up x + dn (s .reading) + dn (x -ℤ s .reading))
