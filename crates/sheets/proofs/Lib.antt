@@ -17,3 +17,4 @@ pub mod DeskTool
 pub mod Answering
 pub mod Demands
 pub mod Table
+pub mod Farthest
