@@ -223,7 +223,7 @@ def table(plant):
     for k, (s, letter, x, y) in enumerate(zip(plant.streams, balance.classes, balance.numbers, b.flow), 1):
         if s.metered:
             part = s.weight * (x - y) ** 2
-            most = (b.weights / (4 * s.weight)) ** 0.5
+            most = (b.weights / (4 * s.weight)) ** 0.5 if letter == "A" else 0
             yield f"| {k} | {letter} | {s.weight} | {x} | {' | '.join(printed(y))} | {float(x - y):.3f} | {float(part):.3f} | {most:.2f} |"
     yield f"sum {b.apart} = {float(b.apart):.3f}; Q = {b.weights}, Q / 4 = {b.weights / 4:g}"
 

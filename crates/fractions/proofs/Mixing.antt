@@ -32,7 +32,7 @@ times-end c d l = (
 
 -- So many times an amount in range, and a mixture of two.
 module _ (s : Stream) (d : ℕ) (x : ℤ) (e : inRange d s x ≡ true) where
-  times-range : (c : ℕ) → inRange (c * d) s (pos c *ℤ x) ≡ true
+  pub times-range : (c : ℕ) → inRange (c * d) s (pos c *ℤ x) ≡ true
   times-range c = range-holds (c * d) s (pos c *ℤ x) (λ q.
       let t = range-says d s x e q in (
         omega (arith, times-le c (pos d *ℤ s .low) x (t .0), times-end c d (s .low), product c (pos d *ℤ s .low)),

@@ -43,7 +43,7 @@ too-many : (a e c n u v : ℕ) → n ≡ suc e → suc n * suc n * a ≤ c → c
 too-many a e c n u v q h k l = omega (arith, mul-le-mul-left n l)
 
 -- The cost of a flow over d as a sum.
-cost-sum : (p : Plant) (d : ℕ) (xs : List ℤ) → allowedOver d p xs ≡ true
+pub cost-sum : (p : Plant) (d : ℕ) (xs : List ℤ) → allowedOver d p xs ≡ true
     → sum (countOf p) (λ k. pos (shareOver d (streamOf p k) (amountAt xs k))) ≡ pos (costOver d (p .streams) xs)
 cost-sum p d xs a = sym (cost-is d (p .streams) xs (balanced-size p xs (balanced-of d p xs a)))
 
@@ -184,7 +184,7 @@ module _ (p : Plant) (w : Within p) where
           ∙ sum-same (countOf p) _ _ (λ k l. ap (λ (x : ℤ). pos (weightOf (streamOf p k) * square (x -ℤ amountAt ys k))) (sym (times-at p d xs k l)))
 
 -- No weighted square is 0 but that of 0.
-no-square : (w a : ℕ) → 1 ≤ w → w * (a * a) ≡ 0 → a ≡ 0
+pub no-square : (w a : ℕ) → 1 ≤ w → w * (a * a) ≡ 0 → a ≡ 0
 no-square w zero l e = refl
 no-square w (suc a) l e = absurd (omega (arith, mul-le-mul-right (suc a * suc a) l))
 

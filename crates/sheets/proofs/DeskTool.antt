@@ -2,7 +2,7 @@
 use mathlib.Core.Path.{_≡_, sym, ap, _∙_}
 use mathlib.Core.Logic.{⊎-elim}
 use mathlib.Core.List.{List}
-use lib.IntN.{ℤ}
+use lib.IntN.{ℤ, pos, _*ℤ_}
 use Prim.Native.Nat.{ℕ, suc, _*_, _≤_}
 use native.Mathlib.Nat.{mul-le-mul-left}
 use native.Mathlib.Omega.{arith}
@@ -19,6 +19,7 @@ use Rattle.flows.specs.Flows.{amountAt, allowedOver, Cheapest}
 use Rattle.flows.specs.Overfull.{Refusal-19}
 use Rattle.fractions.specs.Least.{LeastInFractions, apart}
 use Rattle.fractions.proofs.Distance.{apart-same, apart-part}
+use Rattle.fractions.proofs.AsRead.{as-read}
 use Rattle.fractions.proofs.Near.{near-fractions, one-fraction}
 use Rattle.sheets.specs.declared.Sheet.{Sheet}
 use Rattle.sheets.specs.Apart.{numberAt}
@@ -32,6 +33,7 @@ beside : (p : Plant) → Within p → (n : ℕ) (b : List ℕ) → Tells p (leng
 beside p w n b t d ys m = record {
   all = all;
   each = λ k q. omega (arith, all, mul-le-mul-left 4 (apart-part d (p .streams) ys (numberAt b) (length (p .streams)) k (q .0) (q .1)));
+  as-read = λ k q e. as-read p w d ys m k (q .0) (q .1) (t .as-read k q .0 e) ∙ ap (λ (x : ℤ). pos d *ℤ x) (sym (t .reading k q e));
 }
   where
     xs : List ℤ

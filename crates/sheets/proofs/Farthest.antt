@@ -4,7 +4,6 @@ use mathlib.Core.Bool.{true, false}
 use mathlib.Core.List.{List, [], _∷_}
 use lib.IntN.{pos}
 use Prim.Native.Nat.{ℕ, _*_}
-use lib.ListN.{length}
 use Rattle.numbers.specs.Bytes.{over}
 use Rattle.plants.specs.Plants.{Plant}
 use Rattle.fractions.specs.Least.{apart}

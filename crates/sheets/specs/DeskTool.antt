@@ -9,7 +9,7 @@ use Rattle.plants.specs.Files.{got, readPlant}
 use Rattle.flows.specs.Flows.{streamAt, amountAt, square}
 use Rattle.fractions.specs.Least.{LeastInFractions, apart}
 use Rattle.sheets.specs.declared.Sheet.{Sheet}
-use Rattle.sheets.specs.Apart.{numberAt}
+use Rattle.sheets.specs.Apart.{asReadKind, kindAt, numberAt}
 use Rattle.sheets.specs.Sentences.{MeteredAt, adjustedWeights, topSheet}
 use Rattle.sheets.specs.Says.{SheetSays}
 
@@ -20,6 +20,8 @@ pub record Beside (p : Plant) (b : List ℕ) (d : ℕ) (ys : List ℤ) : Type 0 
   -- So is each metered stream's part by itself.
   pub each : (k : ℕ) → MeteredAt p k
       → 4 * (streamAt (p .streams) k .weight * square (pos d *ℤ numberAt b k -ℤ amountAt ys k)) ≤ d * d * adjustedWeights p b (length (p .streams))
+  -- An R stream's number is the amount itself.
+  pub as-read : (k : ℕ) → MeteredAt p k → kindAt b k ≡ asReadKind → amountAt ys k ≡ pos d *ℤ numberAt b k
 
 pub record Desk-tool : Type 0 where
   -- Of every call that drew a sheet, and every flow in fractions of least cost.
