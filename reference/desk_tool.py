@@ -224,7 +224,8 @@ def table(plant):
         if s.metered:
             part = s.weight * (x - y) ** 2
             most = (b.weights / (4 * s.weight)) ** 0.5 if letter == "A" else 0
-            yield f"| {k} | {letter} | {s.weight} | {x} | {' | '.join(printed(y))} | {float(x - y):.3f} | {float(part):.3f} | {most:.2f} |"
+            shown = (k, letter, s.weight, x, *printed(y), f"{float(x - y):.3f}", f"{float(part):.3f}", f"{most:.2f}")
+            yield f"| {' | '.join(map(str, shown))} |"
     yield f"sum {b.apart} = {float(b.apart):.3f}; Q = {b.weights}, Q / 4 = {b.weights / 4:g}"
 
 
@@ -266,7 +267,8 @@ def hold(what, sheets):
         count += 1
         met += 4 * b.apart == b.weights > 0
         ends += any(s.ranged and y in (s.low, s.high) for s, y in zip(plant.streams, b.flow))
-    print(f"{what}: {count} sheets within the bound, {met} at it, {ends} with a stream at an end of its range, {time.monotonic() - start:.1f} s")
+    seconds = time.monotonic() - start
+    print(f"{what}: {count} sheets within the bound, {met} at it, {ends} with a stream at an end of its range, {seconds:.1f} s")
     if not (met and ends):
         sys.exit(f"{what}: none at the bound, or none at an end: nothing is shown")
 
