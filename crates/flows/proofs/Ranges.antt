@@ -132,3 +132,15 @@ module _ (s : Stream) (x : ℤ) (e : inRange 1 s x ≡ true) where
 
       at-least : (limited s ≡ true → Le (s .reading) (s .high)) → Le (s .reading) x
       at-least h = by-cases (rises s x) f (λ t. omega (arith, h (at-high t .0), val x (s .high) (at-high t .1)))
+
+-- It is in range.
+pub nearest-in : (s : Stream) → (limited s ≡ true → leZ (s .low) (s .high) ≡ true) → inRange 1 s (nearest s) ≡ true
+nearest-in s o =
+    picked (λ (y : ℤ). inRange 1 s y ≡ true) (limited s && ltZ (s .reading) (s .low)) (s .low) _
+    (λ t. whole-holds s (s .low) (λ q. (omega arith, ordered q)))
+    (λ t. picked (λ (y : ℤ). inRange 1 s y ≡ true) (limited s && ltZ (s .high) (s .reading)) (s .high) (s .reading)
+    (λ u. whole-holds s (s .high) (λ q. (ordered q, omega arith)))
+    (λ u. whole-holds s (s .reading) (λ q. (not-below (s .reading) (s .low) (rw q at t), not-below (s .high) (s .reading) (rw q at u)))))
+  where
+    ordered : limited s ≡ true → Le (s .low) (s .high)
+    ordered q = leZ-le (s .low) (s .high) (o q)
