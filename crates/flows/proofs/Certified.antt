@@ -21,7 +21,7 @@ use Rattle.flows.proofs.Prices.{StepAt}
 use Rattle.flows.proofs.Ties.{slack, stays-cheapest}
 use Rattle.flows.proofs.Nets.{countOf, streamOf}
 
-every-at : (n : ℕ) (test : ℕ → Bool) → every n test ≡ true → (k : ℕ) → k < n → test k ≡ true
+pub every-at : (n : ℕ) (test : ℕ → Bool) → every n test ≡ true → (k : ℕ) → k < n → test k ≡ true
 every-at zero test e k l = absurd (omega arith)
 every-at (suc n) test e k l = elim (ℕ-discrete k n) [
   | yes q ↦ rw q (and-left (test n) (every n test) e)

@@ -51,7 +51,7 @@ brought-times u s d x = go (eqb (s .to) u) (eqb (s .from) u)
     go false true = rw (← canon d, ← canon x) (simp Z·diff (omega arith))
     go false false = sym (*ℤ-zero d)
 
-times-balanced : (p : Plant) → Within p → (xs : List ℤ) → balanced p xs ≡ true → (d : ℤ) → balanced p (listed p (λ k. d *ℤ amountAt xs k)) ≡ true
+pub times-balanced : (p : Plant) → Within p → (xs : List ℤ) → balanced p xs ≡ true → (d : ℤ) → balanced p (listed p (λ k. d *ℤ amountAt xs k)) ≡ true
 times-balanced p w xs b d =
     listed-balanced p (λ k. d *ℤ amountAt xs k)
     (λ u l. sum-same (length (p .streams)) _ (λ k. d *ℤ brought u (streamAt (p .streams) k) (amountAt xs k))

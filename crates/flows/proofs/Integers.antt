@@ -80,6 +80,10 @@ dn-times (pos a) (negsuc b) = dn-neg (pos (a * suc b)) ∙ omega arith
 dn-times (negsuc a) (pos b) = dn-neg (pos (suc a * b)) ∙ omega arith
 dn-times (negsuc a) (negsuc b) = omega arith
 
+-- So many times an integer.
+pub product : (c : ℕ) (z : ℤ) → (up (pos c *ℤ z) ≡ c * up z + 0 * dn z) × (dn (pos c *ℤ z) ≡ c * dn z + 0 * up z)
+product c z = (up-times (pos c) z, dn-times (pos c) z)
+
 pub size-val : (x : ℤ) → natAbs x ≡ up x + dn x
 size-val (pos a) = omega arith
 size-val (negsuc a) = omega arith

@@ -37,14 +37,14 @@ share s x = weightOf s * square (x -ℤ s .reading)
 abbrev pub shareOver : ℕ → Stream → ℤ → ℕ
 shareOver D s x = weightOf s * square (x -ℤ pos D *ℤ s .reading)
 
+pub weighed : (b : Bool) (w q : ℕ) → pick b (w * q) 0 ≡ pick b w 0 * q
+weighed true w q = refl
+weighed false w q = omega arith
+
 pub cost-is : (D : ℕ) (ss : List Stream) (xs : List ℤ) → length xs ≡ length ss
     → pos (costOver D ss xs) ≡ sum (length ss) (λ k. pos (shareOver D (streamAt ss k) (amountAt xs k)))
 cost-is D = sum-listed (λ s x. pos (shareOver D s x)) (λ ss xs. pos (costOver D ss xs)) (λ xs. refl)
     (λ s ss x xs. ap (λ a. pos (a + costOver D ss xs)) (weighed (s .metered) (s .weight) (square (x -ℤ pos D *ℤ s .reading))))
-  where
-    weighed : (b : Bool) (w q : ℕ) → pick b (w * q) 0 ≡ pick b w 0 * q
-    weighed true w q = refl
-    weighed false w q = omega arith
 
 pub cost-one : (ss : List Stream) (xs : List ℤ) → length xs ≡ length ss
     → pos (cost ss xs) ≡ sum (length ss) (λ k. pos (share (streamAt ss k) (amountAt xs k)))

@@ -14,7 +14,7 @@ use Rattle.plants.specs.declared.Stream.{Stream}
 use Rattle.plants.specs.Plants.{Plant, limited}
 use Rattle.flows.specs.Flows.{streamAt, amountAt, balanced, inRange, inRanges, allowedOver, nearest}
 use Rattle.flows.specs.Certificate.{rises, falls}
-use Rattle.flows.proofs.Integers.{up, dn, Le, Lt, leZ-le, le-leZ, ltZ-lt, lt-ltZ, Le-unless, Le-antisym, minus-val, up-times, dn-times, one-times, val}
+use Rattle.flows.proofs.Integers.{up, dn, Le, Lt, leZ-le, le-leZ, ltZ-lt, lt-ltZ, Le-unless, Le-antisym, minus-val, product, one-times, val}
 use Rattle.flows.proofs.Nets.{countOf, streamOf, balanced-size}
 use Rattle.flows.proofs.Steps.{Free}
 
@@ -22,7 +22,7 @@ use Rattle.flows.proofs.Steps.{Free}
 pub asked : (b t : Bool) → not b || t ≡ true → b ≡ true → t ≡ true
 asked b t e h = or-cases (not b) t e (λ z. clash b h (not-true b z)) (λ z. z)
 
-answered : (b t : Bool) → (b ≡ true → t ≡ true) → not b || t ≡ true
+pub answered : (b t : Bool) → (b ≡ true → t ≡ true) → not b || t ≡ true
 answered b t f = by-cases b (λ h. or-right (not b) t (f h)) (λ h. or-left (not b) t (ap not h))
 
 not-below : (x y : ℤ) → ltZ x y ≡ false → Le y x
@@ -78,22 +78,19 @@ unmetered-moves s x m = (rw m, rw m)
 
 -- Where an amount over D, in range, is above or below x, there is room for more, or less, than x.
 module _ (D : ℕ) (s : Stream) (x y : ℤ) (e : inRange D s y ≡ true) where
-  product : (z : ℤ) → (up (pos D *ℤ z) ≡ D * up z + 0 * dn z) × (dn (pos D *ℤ z) ≡ D * dn z + 0 * up z)
-  product z = (up-times (pos D) z, dn-times (pos D) z)
-
   higher : Lt (pos D *ℤ x) y → rises s x ≡ true
   higher h = answered (limited s) _ (λ q. lt-ltZ x (s .high)
-      (lt-of-mul-lt-mul-left D (omega (arith, range-says D s y e q .1, product x, product (s .high)))))
+      (lt-of-mul-lt-mul-left D (omega (arith, range-says D s y e q .1, product D x, product D (s .high)))))
 
   lower : Lt y (pos D *ℤ x) → falls s x ≡ true
   lower h = answered (limited s) _ (λ q. lt-ltZ (s .low) x
-      (lt-of-mul-lt-mul-left D (omega (arith, range-says D s y e q .0, product x, product (s .low)))))
+      (lt-of-mul-lt-mul-left D (omega (arith, range-says D s y e q .0, product D x, product D (s .low)))))
 
   -- The same of their deviations from the reading.
   pub free-over : Free (falls s x) (rises s x) (pos D *ℤ (x -ℤ s .reading)) (y -ℤ pos D *ℤ s .reading)
   free-over = record {
-    more = λ h. higher (omega (arith, minus-val y (pos D *ℤ s .reading), product (x -ℤ s .reading), scaled, product x, product (s .reading)));
-    less = λ h. lower (omega (arith, minus-val y (pos D *ℤ s .reading), product (x -ℤ s .reading), scaled, product x, product (s .reading)));
+    more = λ h. higher (omega (arith, minus-val y (pos D *ℤ s .reading), product D (x -ℤ s .reading), scaled, product D x, product D (s .reading)));
+    less = λ h. lower (omega (arith, minus-val y (pos D *ℤ s .reading), product D (x -ℤ s .reading), scaled, product D x, product D (s .reading)));
   }
     where
       scaled : D * (up (x -ℤ s .reading) + (dn x + up (s .reading))) ≡ D * (up x + dn (s .reading) + dn (x -ℤ s .reading))
@@ -135,3 +132,15 @@ module _ (s : Stream) (x : ℤ) (e : inRange 1 s x ≡ true) where
 
       at-least : (limited s ≡ true → Le (s .reading) (s .high)) → Le (s .reading) x
       at-least h = by-cases (rises s x) f (λ t. omega (arith, h (at-high t .0), val x (s .high) (at-high t .1)))
+
+-- It is in range.
+pub nearest-in : (s : Stream) → (limited s ≡ true → leZ (s .low) (s .high) ≡ true) → inRange 1 s (nearest s) ≡ true
+nearest-in s o =
+    picked (λ (y : ℤ). inRange 1 s y ≡ true) (limited s && ltZ (s .reading) (s .low)) (s .low) _
+    (λ t. whole-holds s (s .low) (λ q. (omega arith, ordered q)))
+    (λ t. picked (λ (y : ℤ). inRange 1 s y ≡ true) (limited s && ltZ (s .high) (s .reading)) (s .high) (s .reading)
+    (λ u. whole-holds s (s .high) (λ q. (ordered q, omega arith)))
+    (λ u. whole-holds s (s .reading) (λ q. (not-below (s .reading) (s .low) (rw q at t), not-below (s .high) (s .reading) (rw q at u)))))
+  where
+    ordered : limited s ≡ true → Le (s .low) (s .high)
+    ordered q = leZ-le (s .low) (s .high) (o q)

@@ -43,6 +43,7 @@ use Rattle.sheets.proofs.Promise.{long-enough, one-left, call-taken}
 use Rattle.sheets.proofs.Unique.{amount-same, never-both, no-choice}
 use Rattle.sheets.proofs.Back.{reopening}
 use Rattle.sheets.proofs.ReadAgain.{read-back}
+use Rattle.sheets.proofs.DeskTool.{desk-tool}
 use Rattle.sheets.proofs.Telling.{Sized, Told, told, tells}
 
 -- The numbers of a cheapest flow that are shown are those of the solver's, which are small.
@@ -150,4 +151,5 @@ module _ (third : Demand-3) (nineteen : Refusal-19) (solve : (p : Arrays.Plant) 
     reopening = reopening;
     kept = λ file last o o′ r top. read-kept file last o o′ r top (sized-here file);
     nineteen = nineteen;
+    desk-tool = desk-tool nineteen answers;
   }

@@ -13,6 +13,8 @@ pub mod Unique
 pub mod Judged
 pub mod Telling
 pub mod ReadAgain
+pub mod DeskTool
 pub mod Answering
 pub mod Demands
 pub mod Table
+pub mod Farthest

@@ -15,6 +15,7 @@ use Rattle.sheets.specs.declared.Sheet.{Sheet}
 use Rattle.sheets.specs.Sentences.{topSheet, Answers}
 use Rattle.sheets.specs.Says.{SheetSays, No-choice}
 use Rattle.sheets.specs.Sheets.{plantParts}
+use Rattle.sheets.specs.DeskTool.{Desk-tool}
 use Rattle.sheets.specs.Kept.{someSheet, readSheet, Reopening}
 
 -- A call that drew a sheet: the bytes written, read back in, are the classes and the numbers of the plant's streams with a
@@ -43,3 +44,5 @@ pub record Demands : Type 0 where
   pub kept : (file : List ℕ) (last : ℕ) (o o′ : List ℕ) (r : Sheet) → last ≤ topSheet → SheetSays file last o o′ r → r .number ≡ 0 → ReadsBack file o′ r
   -- Refusal 19: a plant that is read has a cheapest flow or an overfull set, and never both.
   pub nineteen : Refusal-19
+  -- A desk tool that works in real numbers: how far its flow is from the metered numbers on a sheet at most.
+  pub desk-tool : Desk-tool

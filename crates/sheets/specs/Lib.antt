@@ -5,6 +5,7 @@ pub mod Balances
 pub mod Sheets
 pub mod Kept
 pub mod Says
+pub mod DeskTool
 pub mod Demands
 pub mod Calls
 pub mod Table

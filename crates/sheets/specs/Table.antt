@@ -3,16 +3,18 @@ use mathlib.Core.Path.{_≡_}
 use mathlib.Core.Bool.{Bool, true, false}
 use mathlib.Core.List.{List, [], _∷_, _++_}
 use lib.IntN.{ℤ, pos}
-use Prim.Native.Nat.{ℕ, _-_}
-use lib.ListN.{replicate}
+use Prim.Native.Nat.{ℕ, _-_, _*_}
+use lib.ListN.{length, replicate}
 use Rattle.numbers.specs.Bytes.{over}
 use Rattle.plants.specs.Limits.{places}
 use Rattle.plants.specs.Plants.{Plant}
 use Rattle.plants.specs.Files.{got, readPlant}
 use Rattle.flows.specs.Flows.{Cheapest}
 use Rattle.flows.specs.Overfull.{Overfull}
+use Rattle.fractions.specs.Least.{LeastInFractions, apart}
 use Rattle.sheets.specs.declared.Sheet.{Sheet}
-use Rattle.sheets.specs.Sentences.{callFault}
+use Rattle.sheets.specs.Apart.{numberAt}
+use Rattle.sheets.specs.Sentences.{adjustedWeights, callFault}
 use Rattle.sheets.specs.Says.{SheetSays}
 
 pub record Example : Type 0 where
@@ -62,9 +64,13 @@ shown kind x = kind ∷ 0 ∷ 0 ∷ 0 ∷ 0 ∷ 0 ∷ 0 ∷ 0 ∷ x ∷ []
 abbrev pub total : ℕ → ℕ → ℕ → ℕ → List ℕ
 total high low degrees verdict = 31 ∷ 0 ∷ 0 ∷ 0 ∷ 1 ∷ 0 ∷ 0 ∷ 0 ∷ 0 ∷ 0 ∷ 0 ∷ high ∷ low ∷ degrees ∷ verdict ∷ []
 
+-- In 100, out 103: 101, 101, cost 50.
+abbrev pub tie : Example
+tie = record { file = site 1 ++ meter 0 1 10 100 ++ meter 1 0 10 103 ++ end 2; flow = pos 101 ∷ pos 101 ∷ []; sheet = shown 17 101 ++ shown 17 101 ++ total 0 50 1 0 }
+
 -- In 103, out 60 and 40: 102, 61, 41, cost 30.
 -- In 101, out 60 and 40: 100, 60, 40, cost 10.
--- In 100, out 103: 101, 101, cost 50.
+-- The tie above.
 -- Weights 30 and 10, in 100, out 104: 101, 101, cost 120.
 -- In 100 metered, out unmetered: R 100, G 100, degrees 0, none.
 -- A dead end, one metered stream in, 7: A 0, cost 490, degrees 1, pass.
@@ -80,7 +86,7 @@ abbrev pub examples : List Example
 examples =
     record { file = site 1 ++ meter 0 1 10 103 ++ meter 1 0 10 60 ++ meter 1 0 10 40 ++ end 3; flow = pos 102 ∷ pos 61 ∷ pos 41 ∷ []; sheet = shown 17 102 ++ shown 17 61 ++ shown 17 41 ++ total 0 30 1 0 }
     ∷ record { file = site 1 ++ meter 0 1 10 101 ++ meter 1 0 10 60 ++ meter 1 0 10 40 ++ end 3; flow = pos 100 ∷ pos 60 ∷ pos 40 ∷ []; sheet = shown 17 100 ++ shown 17 60 ++ shown 17 40 ++ total 0 10 1 0 }
-    ∷ record { file = site 1 ++ meter 0 1 10 100 ++ meter 1 0 10 103 ++ end 2; flow = pos 101 ∷ pos 101 ∷ []; sheet = shown 17 101 ++ shown 17 101 ++ total 0 50 1 0 }
+    ∷ tie
     ∷ record { file = site 1 ++ meter 0 1 30 100 ++ meter 1 0 10 104 ++ end 2; flow = pos 101 ∷ pos 101 ∷ []; sheet = shown 17 101 ++ shown 17 101 ++ total 0 120 1 0 }
     ∷ record { file = site 1 ++ meter 0 1 10 100 ++ pipe 1 0 ++ end 2; flow = pos 100 ∷ pos 100 ∷ []; sheet = shown 18 100 ++ shown 19 100 ++ total 0 0 0 2 }
     ∷ record { file = site 1 ++ meter 0 1 10 7 ++ end 1; flow = pos 0 ∷ []; sheet = shown 17 0 ++ total 1 234 1 0 }
@@ -94,6 +100,15 @@ examples =
     ∷ record { file = site 1 ++ meter 0 1 10 100 ++ within 1 0 10 103 102 200 ++ end 2; flow = pos 102 ∷ pos 102 ∷ []; sheet = shown 17 102 ++ shown 17 102 ++ total 0 50 1 0 }
     ∷ record { file = site 1 ++ within 0 1 10 100 0 90 ++ pipe 1 0 ++ end 2; flow = pos 90 ∷ pos 90 ∷ []; sheet = shown 18 90 ++ shown 19 90 ++ total 3 232 0 2 }
     ∷ []
+
+-- A flow over d is of least cost in fractions, and every first call with a slice that is taken leaves a sheet as far from it as a
+-- sheet can be: the bound of the desk tool is met with equality. So it is for the tie, with 101 1/2 on both streams.
+pub record Farthest (e : Example) (d : ℕ) (ys : List ℤ) : Type 0 where
+  pub plant : Plant
+  pub listed : readPlant (e .file) ≡ got plant
+  pub least : LeastInFractions plant d ys
+  pub met : (o o′ : List ℕ) (r : Sheet) → callFault 0 o ≡ 0 → SheetSays (e .file) 0 o o′ r
+      → 4 * apart d (plant .streams) (numberAt o′) ys ≡ d * d * adjustedWeights plant o′ (length (plant .streams))
 
 -- In within 10 to 20, out within 0 to 5: the unit must take in more than it can let out.
 abbrev pub fullFile : List ℕ
