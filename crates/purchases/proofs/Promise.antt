@@ -1,0 +1,47 @@
+-- What is promised of meters to buy, of every plant that is read.
+use mathlib.Core.Path.{_≡_, refl, sym, _∙_}
+use mathlib.Core.Bool.{Bool}
+use mathlib.Core.List.{List}
+use Prim.Native.Nat.{ℕ}
+use native.Mathlib.Nat.{le-antisymm}
+use native.Mathlib.Decide.{ℕ-discrete}
+use Rattle.plants.specs.Plants.{Plant}
+use Rattle.plants.specs.Files.{Got, bad, got, readPlant}
+use Rattle.plants.specs.Within.{Within}
+use Rattle.plants.proofs.Limited.{within}
+use Rattle.plants.proofs.Accepted.{accepted}
+use Rattle.purchases.specs.declared.Bought.{Bought}
+use Rattle.purchases.specs.Purchases.{priceIn, pricesFault, priceOf, numbersOf, Best}
+use Rattle.purchases.specs.Choosing.{toBuy}
+use Rattle.purchases.specs.Says.{boughtOf, BuySays, Meters-to-buy}
+use Rattle.purchases.proofs.Sets.{one-best, same-price, nothing-to-buy, to-buy}
+
+read-within : (file : List ℕ) (p : Plant) → readPlant file ≡ got p → Within p
+read-within file p e = within p (accepted file p e .0)
+
+-- The answer is the same whichever best set is taken.
+one-answer : (p : Plant) (price : ℕ → ℕ) (a b : List Bool) → Best p price a → Best p price b → boughtOf price a ≡ boughtOf price b
+one-answer p price a b x y = rw (one-best p price a b x y, same-price p price a b x y)
+
+only : (file prices : List ℕ) (r r′ : Bought) → BuySays file prices r → BuySays file prices r′ → r ≡ r′
+only file prices r r′ x y = go (readPlant file) refl
+  where
+    go : (g : Got) → readPlant file ≡ g → r ≡ r′
+    go (bad f) e = x .unread f e ∙ sym (y .unread f e)
+    go (got p) e = elim (ℕ-discrete (pricesFault p prices) 0) [
+      | yes z ↦
+          let a = x .bought p e z in
+          let b = y .bought p e z in
+          a .2 ∙ one-answer p (priceIn (p .streams) prices) (a .0) (b .0) (a .1) (b .1) ∙ sym (b .2)
+      | no z ↦ x .unpriced p e z ∙ sym (y .unpriced p e z)
+    ]
+
+pub meters-to-buy : Meters-to-buy
+meters-to-buy = record {
+  some = λ file prices p e z. (toBuy p (priceIn (p .streams) prices), to-buy p (read-within file p e) prices z);
+  one = one-answer;
+  empty = λ file prices p set e z none b.
+      one-best p (priceIn (p .streams) prices) set (toBuy p (priceIn (p .streams) prices)) b (to-buy p (read-within file p e) prices z)
+      ∙ nothing-to-buy p (read-within file p e) (priceIn (p .streams) prices) none;
+  only = only;
+}
