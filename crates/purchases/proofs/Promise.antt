@@ -13,7 +13,7 @@ use Rattle.plants.proofs.Accepted.{accepted}
 use Rattle.purchases.specs.declared.Bought.{Bought}
 use Rattle.purchases.specs.Purchases.{priceIn, pricesFault, priceOf, numbersOf, Best}
 use Rattle.purchases.specs.Choosing.{toBuy}
-use Rattle.purchases.specs.Says.{boughtOf, BuySays, Meters-to-buy}
+use Rattle.purchases.specs.Says.{boughtOf, BuyOf, BuyWith, Meters-to-buy}
 use Rattle.purchases.proofs.Sets.{one-best, same-price, nothing-to-buy, to-buy}
 
 read-within : (file : List ℕ) (p : Plant) → readPlant file ≡ got p → Within p
@@ -23,18 +23,18 @@ read-within file p e = within p (accepted file p e .0)
 one-answer : (p : Plant) (price : ℕ → ℕ) (a b : List Bool) → Best p price a → Best p price b → boughtOf price a ≡ boughtOf price b
 one-answer p price a b x y = rw (one-best p price a b x y, same-price p price a b x y)
 
-only : (file prices : List ℕ) (r r′ : Bought) → BuySays file prices r → BuySays file prices r′ → r ≡ r′
-only file prices r r′ x y = go (readPlant file) refl
-  where
-    go : (g : Got) → readPlant file ≡ g → r ≡ r′
-    go (bad f) e = x .unread f e ∙ sym (y .unread f e)
-    go (got p) e = elim (ℕ-discrete (pricesFault p prices) 0) [
-      | yes z ↦
-          let a = x .bought p e z in
-          let b = y .bought p e z in
-          a .2 ∙ one-answer p (priceIn (p .streams) prices) (a .0) (b .0) (a .1) (b .1) ∙ sym (b .2)
-      | no z ↦ x .unpriced p e z ∙ sym (y .unpriced p e z)
-    ]
+same-of : (p : Plant) (prices : List ℕ) (r r′ : Bought) → BuyOf p prices r → BuyOf p prices r′ → r ≡ r′
+same-of p prices r r′ x y = elim (ℕ-discrete (pricesFault p prices) 0) [
+  | yes z ↦
+      let a = x .bought z in
+      let b = y .bought z in
+      a .2 ∙ one-answer p (priceIn (p .streams) prices) (a .0) (b .0) (a .1) (b .1) ∙ sym (b .2)
+  | no z ↦ x .unpriced z ∙ sym (y .unpriced z)
+]
+
+same-with : (g : Got) (prices : List ℕ) (r r′ : Bought) → BuyWith g prices r → BuyWith g prices r′ → r ≡ r′
+same-with (bad f) prices r r′ x y = x ∙ sym y
+same-with (got p) prices r r′ x y = same-of p prices r r′ x y
 
 pub meters-to-buy : Meters-to-buy
 meters-to-buy = record {
@@ -43,5 +43,5 @@ meters-to-buy = record {
   empty = λ file prices p set e z none b.
       one-best p (priceIn (p .streams) prices) set (toBuy p (priceIn (p .streams) prices)) b (to-buy p (read-within file p e) prices z)
       ∙ nothing-to-buy p (read-within file p e) (priceIn (p .streams) prices) none;
-  only = only;
+  only = λ file. same-with (readPlant file);
 }

@@ -8,6 +8,7 @@ use native.Mathlib.Omega.{arith}
 use borrow.Author.Tests.{eqb-true, eqb-false, ltb-true, ltb-false, not-true, not-false, ne-eqb}
 use lib.Dec.{eqb, ltb}
 use lib.ListN.{length, getD}
+use Rattle.numbers.specs.Arrays.{filled}
 use Rattle.numbers.proofs.Tests.{by-cases, clash, and-left, and-right, and-both, or-cases, or-none-left, or-none-right, refuse-none}
 use Rattle.plants.specs.Limits.{maxUnits, maxStreams}
 use Rattle.plants.specs.declared.Stream.{Stream}
@@ -16,14 +17,15 @@ use Rattle.plants.specs.Within.{Within}
 use Rattle.flows.specs.Flows.{streamAt}
 use Rattle.flows.specs.Classes.{unmeteredBut}
 use Rattle.flows.specs.Labels.{labelsOf, oneLabel}
-use Rattle.flows.proofs.Lists.{values-long, values-at}
+use Rattle.flows.proofs.Lists.{values-long, values-at, values-same}
 use Rattle.flows.proofs.Nets.{inside}
 use Rattle.flows.proofs.Reach.{Inside, chain-map, joined→chain, chain→joined}
-use Rattle.flows.proofs.Labels.{label-joined}
+use Rattle.flows.proofs.Labels.{label-joined, labels-same}
 use Rattle.forests.specs.Withheld.{NoneWithheld}
 use Rattle.forests.specs.Metering.{chosen}
 use Rattle.forests.proofs.Blanks.{none→classes}
 use Rattle.purchases.specs.Purchases.{maxPrice, unmeteredTo, priceIn, someUnfair, pricesFault, pricesTo, priceOf, numbersFrom, numbersOf, notLater, Serves, Best}
+use Rattle.purchases.specs.Says.{boughtOf}
 use Rattle.purchases.specs.Choosing.{before, dearer, bought, toBuy}
 use Rattle.purchases.proofs.Buying.{Priced, best}
 
@@ -73,7 +75,7 @@ module _ (p : Plant) (prices : List ℕ) (e : pricesFault p prices ≡ 0) where
   price-most k l m = fair-at k l m .1
 
 -- What a set of unmetered streams costs at most.
-sum-most : (n m : ℕ) (test : ℕ → Bool) (price : ℕ → ℕ) → ((k : ℕ) → k < n → test k ≡ true → price k ≤ m) → pricesTo n test price ≤ n * m
+pub sum-most : (n m : ℕ) (test : ℕ → Bool) (price : ℕ → ℕ) → ((k : ℕ) → k < n → test k ≡ true → price k ≤ m) → pricesTo n test price ≤ n * m
 sum-most zero m test price h = omega arith
 sum-most (suc n) m test price h =
     by-cases (test n) (λ t. rw t (omega (arith, h n (omega arith) t, sum-most n m test price (λ k l. h k (omega arith)))))
@@ -96,6 +98,32 @@ pub bought-by-labels : (p : Plant) → p .units ≤ maxUnits → Inside (p .unit
 bought-by-labels p small w price i l =
     let s = streamAt (p .streams) i in
     ap (λ (b : Bool). not (s .metered) && b) (label-joined (dearer price i) p small w (s .from) (s .to) (omega (arith, w i l)) (omega (arith, w i l)))
+
+-- Prices that agree on the streams buy the same, at the same price.
+pub prices-same : (n : ℕ) (s t : ℕ → Bool) (f g : ℕ → ℕ) → ((k : ℕ) → k < n → s k ≡ t k) → ((k : ℕ) → k < n → f k ≡ g k)
+    → pricesTo n s f ≡ pricesTo n t g
+prices-same zero s t f g h e = refl
+prices-same (suc n) s t f g h e =
+    rw (h n (omega arith), e n (omega arith), prices-same n s t f g (λ k l. h k (omega arith)) (λ k l. e k (omega arith)))
+
+module _ (p : Plant) (w : Within p) (f g : ℕ → ℕ) (e : (k : ℕ) → k < length (p .streams) → f k ≡ g k) where
+  bought-same : (i : ℕ) → i < length (p .streams) → bought p f i ≡ bought p g i
+  bought-same i l =
+      let s = streamAt (p .streams) i in
+      bought-by-labels p (w .few-units) (inside p w) f i l
+      ∙ ap (λ (ls : List ℕ). not (s .metered) && oneLabel ls (s .from) (s .to)) (labels-same (dearer f i) (dearer g i) (p .streams) (length (p .streams)) each)
+      ∙ sym (bought-by-labels p (w .few-units) (inside p w) g i l)
+    where
+      each : (j : ℕ) → j < length (p .streams) → dearer f i j (streamAt (p .streams) j) ≡ dearer g i j (streamAt (p .streams) j)
+      each j b = rw (e i l, e j b)
+
+  pub same-bought : boughtOf f (toBuy p f) ≡ boughtOf g (toBuy p g)
+  same-bought =
+      let n = length (p .streams) in
+      let sets : toBuy p f ≡ toBuy p g = values-same n (bought p f) (bought p g) bought-same in
+      let paid : priceOf f (toBuy p g) ≡ priceOf g (toBuy p g) =
+      prices-same (length (toBuy p g)) (chosen (toBuy p g)) (chosen (toBuy p g)) f g (λ k l. refl) (λ k l. e k (rw (values-long (bought p g) n) at l)) in
+      ap (boughtOf f) sets ∙ (λ j. record { number = 0; count = length (numbersOf (toBuy p g)); streams = filled 0 maxStreams (numbersOf (toBuy p g)); price = paid j })
 
 -- No stream goes before itself.
 not-itself : (price : ℕ → ℕ) (i j : ℕ) → before price i j ≡ true → j ≡ i → ⊥

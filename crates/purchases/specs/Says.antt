@@ -3,14 +3,11 @@ use mathlib.Core.Path.{_≡_}
 use mathlib.Core.Bool.{Bool}
 use mathlib.Core.List.{List, []}
 use Prim.Native.Nat.{ℕ}
-use lib.Dec.{ltb}
 use lib.ListN.{length, replicate}
 use Rattle.numbers.specs.Arrays.{filled}
-use Rattle.numbers.specs.Bytes.{over}
-use Rattle.numbers.specs.Choice.{pick}
 use Rattle.plants.specs.Limits.{maxStreams}
 use Rattle.plants.specs.Plants.{Plant}
-use Rattle.plants.specs.Files.{bad, got, readPlant}
+use Rattle.plants.specs.Files.{Got, bad, got, readPlant}
 use Rattle.forests.specs.Withheld.{NoneWithheld}
 use Rattle.purchases.specs.declared.Bought.{Bought}
 use Rattle.purchases.specs.Purchases.{priceIn, pricesFault, priceOf, numbersOf, Best}
@@ -24,12 +21,19 @@ abbrev pub boughtOf : (ℕ → ℕ) → List Bool → Bought
 boughtOf price set =
     record { number = 0; count = length (numbersOf set); streams = filled 0 maxStreams (numbersOf set); price = priceOf price set }
 
--- The call: the refusals of the file, 3 to 12 and 18, then 21; else the best set.
-pub record BuySays (file prices : List ℕ) (r : Bought) : Type 0 where
-  pub unread : (f : ℕ) → readPlant file ≡ bad f → r ≡ noneBought f
-  pub unpriced : (p : Plant) → readPlant file ≡ got p → (pricesFault p prices ≡ 0 → ⊥) → r ≡ noneBought (pricesFault p prices)
-  pub bought : (p : Plant) → readPlant file ≡ got p → pricesFault p prices ≡ 0
+-- A plant that is read: 21 where the prices are at fault; else the best set.
+pub record BuyOf (p : Plant) (prices : List ℕ) (r : Bought) : Type 0 where
+  pub unpriced : (pricesFault p prices ≡ 0 → ⊥) → r ≡ noneBought (pricesFault p prices)
+  pub bought : pricesFault p prices ≡ 0
       → let price = priceIn (p .streams) prices in (set : List Bool) × Best p price set × (r ≡ boughtOf price set)
+
+-- The call: the file's refusals, 3 to 12 and 18, come first.
+abbrev pub BuyWith : Got → List ℕ → Bought → Type 0
+BuyWith (bad f) prices r = r ≡ noneBought f
+BuyWith (got p) prices r = BuyOf p prices r
+
+abbrev pub BuySays : List ℕ → List ℕ → Bought → Type 0
+BuySays file prices r = BuyWith (readPlant file) prices r
 
 -- Of all plants that are read and prices without fault: some set is best, the answer is the same whichever is taken, and it is
 -- empty where nothing is withheld.

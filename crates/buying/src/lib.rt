@@ -1,0 +1,43 @@
+// Meters to buy: the call, and what it hands over in a lent slice.
+mod choosing;
+pub mod lent;
+mod prices;
+
+use choosing::choose;
+use plants::limits::MAX_STREAMS;
+use prices::by_stream;
+use prices::prices_fault;
+use purchases::Bought;
+ghost use mathlib.Core.Path.{_≡_};
+ghost use Rattle.purchases.specs.Says.{noneBought, BuySays};
+
+// A refusal buys nothing.
+pub fn refused(number: u8) -> Bought
+    ensures { λ r. ⌜ r ≡ noneBought number ⌝ }
+{
+    Bought {
+        number: number,
+        count: 0,
+        streams: [0; MAX_STREAMS],
+        price: 0,
+    }
+}
+
+// The cheapest set of unmetered streams to meter so that nothing is withheld; prices are one for each unmetered stream, in
+// stream order.
+pub fn meters_to_buy(file: &[u8], prices: &[u32]) -> Bought
+    ensures { λ r. ⌜ BuySays (now (file .entry)) (now (prices .entry)) r ⌝ }
+{
+    let read = plant_reader::read_plant(file);
+    let number = read.number;
+    if number != 0 {
+        return refused(number);
+    }
+    let plant = read.plant;
+    let fault = prices_fault(plant, prices);
+    if fault != 0 {
+        return refused(fault);
+    }
+    let each = by_stream(plant, prices);
+    choose(plant, each)
+}
