@@ -20,7 +20,7 @@ use Rattle.purchases.specs.Purchases.{maxPrice, unmeteredTo, priceIn, pricesFau
 use Rattle.purchases.specs.Says.{noneBought, boughtOf, BuyOf, BuyWith, BuySays}
 use Rattle.purchases.specs.Choosing.{toBuy}
 use Rattle.purchases.proofs.Sets.{same-bought, to-buy}
-use Rattle.buying.proofs.Pricing.{low, fair-all}
+use Rattle.pricing.proofs.Prices.{low, fair-all}
 
 none-past : (n k : ℕ) → getD {A = ℕ} (replicate n 0) k 0 ≡ 0
 none-past zero k = refl

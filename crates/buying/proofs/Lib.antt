@@ -1,4 +1,2 @@
--- Laws of the functions over meters to buy.
-pub mod Pricing
-pub mod Telling
+-- Laws of the call.
 pub mod Answering

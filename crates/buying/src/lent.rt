@@ -1,18 +1,19 @@
 // The numbers of the streams to be metered, handed over in a lent slice.
 use crate::meters_to_buy;
-use crate::refused;
+use choosing::refused;
 use numbers::put_u8;
 use plants::limits::MAX_STREAMS;
 use purchases::Bought;
+use purchases::Handed;
 ghost use mathlib.Core.Path.{_≡_};
 ghost use Prim.Native.Nat.{_≤_};
 ghost use lib.ListN.{length, take};
 ghost use Rattle.numbers.specs.Bytes.{over};
 ghost use Rattle.plants.specs.Limits.{maxStreams};
-ghost use Rattle.purchases.specs.Lent.{LentSays};
+ghost use Rattle.purchases.specs.Lent.{LentSays, BuyHandsOver};
 
 // The call, where a slice with room for so many numbers holds as many as there may be.
-pub fn buy_lent(file: &[u8], prices: &[u32], room: usize) -> Bought
+fn buy_lent(file: &[u8], prices: &[u32], room: usize) -> Bought
     ensures { λ r. ⌜ LentSays (now (file .entry)) (now (prices .entry)) room r ⌝ }
 {
     if room < MAX_STREAMS {
@@ -22,7 +23,7 @@ pub fn buy_lent(file: &[u8], prices: &[u32], room: usize) -> Bought
 }
 
 // The first so many numbers.
-pub fn put_numbers(count: usize, streams: [u8; MAX_STREAMS], out: &mut [u8])
+fn put_numbers(count: usize, streams: [u8; MAX_STREAMS], out: &mut [u8])
     requires { ⌜ (count ≤ maxStreams) × (count ≤ length (now out)) ⌝ }
     ensures { λ _. ⌜ now (out .exit) ≡ over (take count streams) (now (out .entry)) ⌝ }
 {
@@ -30,5 +31,20 @@ pub fn put_numbers(count: usize, streams: [u8; MAX_STREAMS], out: &mut [u8])
     while k < count {
         put_u8(streams[k], &mut out[k..]);
         k += 1;
+    }
+}
+
+// The call with a lent slice.
+pub fn buy_into(file: &[u8], prices: &[u32], out: &mut [u8]) -> Handed
+    ensures { λ r. ⌜ BuyHandsOver (now (file .entry)) (now (prices .entry)) (now (out .entry)) (now (out .exit)) r ⌝ }
+{
+    let bought = buy_lent(file, prices, out.len());
+    let count = bought.count as usize;
+    let streams = bought.streams;
+    put_numbers(count, streams, out);
+    Handed {
+        number: bought.number,
+        count: count,
+        price: bought.price,
     }
 }

@@ -1,27 +1,12 @@
 // Meters to buy: the call, and what it hands over in a lent slice.
-mod choosing;
 pub mod lent;
-mod prices;
 
 use choosing::choose;
-use plants::limits::MAX_STREAMS;
-use prices::by_stream;
-use prices::prices_fault;
+use choosing::refused;
+use pricing::by_stream;
+use pricing::prices_fault;
 use purchases::Bought;
-ghost use mathlib.Core.Path.{_≡_};
-ghost use Rattle.purchases.specs.Says.{noneBought, BuySays};
-
-// A refusal buys nothing.
-pub fn refused(number: u8) -> Bought
-    ensures { λ r. ⌜ r ≡ noneBought number ⌝ }
-{
-    Bought {
-        number: number,
-        count: 0,
-        streams: [0; MAX_STREAMS],
-        price: 0,
-    }
-}
+ghost use Rattle.purchases.specs.Says.{BuySays};
 
 // The cheapest set of unmetered streams to meter so that nothing is withheld; prices are one for each unmetered stream, in
 // stream order.

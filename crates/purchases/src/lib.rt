@@ -12,3 +12,10 @@ pub struct Bought {
     pub streams: [u8; MAX_STREAMS],
     pub price: u32,
 }
+
+// What the call with a lent slice hands over beside the slice.
+pub struct Handed {
+    pub number: u8,
+    pub count: usize,
+    pub price: u32,
+}
