@@ -171,7 +171,7 @@ SAMPLES = (LISTING, STEAM_SITE, RATED_SITE, OVERFULL_SITE, SMALL_HEADER, BLIND_S
 
 def files():
     """The files under samples/ that follow from the plants, as (path, bytes)."""
-    for sample in SAMPLES:
+    for sample in SAMPLES + (BLIND_SITE, SIGHTED_SITE):
         yield f"samples/{sample.name}.bin", sample.file
         yield f"samples/{sample.name}.expected", solver.listing(sample.file).encode()
     if transmitter.translate_call(TRANSMITTER, solver.FILE_LENGTH)[2] != LISTING.file:
@@ -185,7 +185,7 @@ def missing_text(root):
     """What samples/README.md should show and does not, as (path, problem)."""
     path = "samples/README.md"
     text = (root / path).read_text(encoding="utf-8") if (root / path).exists() else ""
-    for sample in SAMPLES:
+    for sample in SAMPLES + (BLIND_SITE,):
         bytes_shown = sample.file.hex(" ").upper()
         for what, wanted in (
             ("table", sample.table()),
@@ -196,5 +196,9 @@ def missing_text(root):
                 yield path, f"{what} of {sample.name}; wanted:\n{wanted}"
         if sample is LISTING and bytes_shown not in text:
             yield path, f"bytes of {sample.name}; wanted: {bytes_shown}"
+    if f"```\n{solver.listing(SIGHTED_SITE.file)}```" not in text:
+        yield path, f"listing of {SIGHTED_SITE.name}; wanted:\n{solver.listing(SIGHTED_SITE.file)}"
+    if f"meters_to_buy samples/blind_site.bin {' '.join(map(str, PRICES))}`" not in text:
+        yield path, f"the prices; wanted: {PRICES}"
     if TRANSMITTER.hex(" ").upper() not in text:
         yield path, f"bytes of the transmitter file; wanted: {TRANSMITTER.hex(' ').upper()}"
