@@ -1,20 +1,17 @@
--- Each turn reads the next price.
-use mathlib.Core.Path.{_≡_, _∙_}
-use Prim.Native.Nat.{ℕ, _*_, _≤_, _-_}
-use native.Mathlib.Omega.{arith}
+-- The index stays within the array and the bytes handed in.
 use borrow.Author.Needs.{needs}
-use lib.ListN.{length, length-set, length-replicate}
+use Prim.Native.Nat.{_≤_, _-_}
 use Rattle.purchase_trials.proofs.prices_in.Statement.{statement}
 use Rattle.purchase_trials.proofs.prices_in.Tie as tie
 
 abbrev Inv-loop : tie.InvT-loop
-Inv-loop count given prices₀ k₀ prices k = (k ≤ count) × (count ≤ 128) × (4 * count ≤ length given) × (length prices ≡ 128)
+Inv-loop count given prices₀ k₀ prices k = k ≤ count
 
 abbrev μ-loop : tie.MeasureT-loop
 μ-loop count given prices₀ k₀ prices k = count - k
 
 loop-holds : tie.Need-loop-holds Inv-loop μ-loop
-loop-holds c = (omega arith, c .before .pre .0, c .before .pre .1, length-replicate {A = ℕ} 128 0)
+loop-holds c = search needs
 
 mul-get-u32 : tie.Need-mul-get-u32 Inv-loop μ-loop
 mul-get-u32 c = search needs
@@ -44,9 +41,7 @@ loop-less : tie.Need-loop-less Inv-loop μ-loop
 loop-less c = search needs
 
 loop-again : tie.Need-loop-again Inv-loop μ-loop
-loop-again c =
-    let v = c .before .before .before .loop .inv in
-    (omega (arith, c .before .before .loop-test .taken), v .1, v .2, length-set _ _ _ ∙ v .3)
+loop-again c = search needs
 
 returns : tie.Need-returns Inv-loop μ-loop
 returns c = search needs

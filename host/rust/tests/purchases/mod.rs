@@ -120,8 +120,8 @@ fn plant(draw: &mut Draw) -> Listed {
     if draw.below(3) == 0 {
         return draw.plant();
     }
-    let units = 1 + draw.below(if draw.below(4) == 0 { 32 } else { 6 });
-    let most = if draw.below(4) == 0 { 97 } else { 12 };
+    let (units, most) = [(6, 12), (6, 12), (6, 97), (32, 97)][draw.below(4)];
+    let units = 1 + draw.below(units);
     let share = 1 + draw.below(10);
     let streams = (0..draw.below(most))
         .map(|_| {
