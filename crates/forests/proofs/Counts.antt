@@ -1,4 +1,4 @@
--- Counting the numbers below n that pass a test; a test of each; the most of their values.
+-- Counting the numbers below n that pass a test; the most of their values.
 use mathlib.Core.Path.{_≡_, refl}
 use mathlib.Core.Bool.{Bool, true, false, not, _&&_}
 use Prim.Native.Nat.{ℕ, zero, suc, _+_, _≤_, _<_, max}
@@ -7,8 +7,6 @@ use native.Mathlib.Decide.{ℕ-discrete}
 use borrow.Author.Tests.{eq-eqb}
 use lib.Dec.{eqb}
 use Rattle.numbers.specs.Choice.{pick}
-use Rattle.numbers.proofs.Tests.{and-left, and-right, and-both}
-use Rattle.flows.specs.Certificate.{every}
 use Rattle.forests.specs.Loops.{countTo}
 
 -- A test as a number.
@@ -62,23 +60,6 @@ count-but (suc n) i f l t = elim (ℕ-discrete n i) [
 pub count-front : (n : ℕ) (f : ℕ → Bool) → countTo (suc n) f ≡ one (f 0) + countTo n (λ k. f (suc k))
 count-front zero f = refl
 count-front (suc n) f = omega (arith, count-front n f)
-
--- More numbers.
-pub count-more : (a d : ℕ) (f : ℕ → Bool) → countTo a f ≤ countTo (a + d) f
-count-more a zero f = let e : a + 0 ≡ a = omega arith in rw e (omega arith)
-count-more a (suc d) f = let e : a + suc d ≡ suc (a + d) = omega arith in rw e (omega (arith, count-more a d f))
-
--- A test of each number below n.
-pub every-at : (n : ℕ) (test : ℕ → Bool) → every n test ≡ true → (k : ℕ) → k < n → test k ≡ true
-every-at zero test e k l = absurd (omega arith)
-every-at (suc n) test e k l = elim (ℕ-discrete k n) [
-  | yes q ↦ rw q (and-left (test n) (every n test) e)
-  | no q ↦ every-at n test (and-right (test n) (every n test) e) k (omega arith)
-]
-
-pub every-all : (n : ℕ) (test : ℕ → Bool) → ((k : ℕ) → k < n → test k ≡ true) → every n test ≡ true
-every-all zero test h = refl
-every-all (suc n) test h = and-both (test n) (every n test) (h n (omega arith)) (every-all n test (λ k l. h k (omega arith)))
 
 -- The most of the values below n.
 abbrev pub most : ℕ → (ℕ → ℕ) → ℕ

@@ -3,7 +3,7 @@ use mathlib.Core.Path.{_≡_, refl, sym, _∙_, ap}
 use mathlib.Core.Bool.{Bool, true, false, not, _&&_, _||_}
 use mathlib.Core.List.{List, [], _∷_}
 use Prim.Native.Nat.{ℕ, zero, suc, _*_, _+_, _-_, _≤_, _<_}
-use native.Mathlib.Nat.{le-antisymm, mul-le-mul-right}
+use native.Mathlib.Nat.{le-antisymm}
 use native.Mathlib.Omega.{arith}
 use borrow.Author.Tests.{eqb-true, eqb-false, ltb-true, ltb-false, not-true, not-false, ne-eqb}
 use lib.Dec.{eqb, ltb}
@@ -71,25 +71,12 @@ module _ (p : Plant) (prices : List ℕ) (e : pricesFault p prices ≡ 0) where
   pub fair-prices : Priced p (priceIn (p .streams) prices)
   fair-prices k l m = fair-at k l m .0
 
-  pub price-most : (k : ℕ) → k < length (p .streams) → streamAt (p .streams) k .metered ≡ false → priceIn (p .streams) prices k ≤ maxPrice
-  price-most k l m = fair-at k l m .1
-
 -- What a set of unmetered streams costs at most.
 pub sum-most : (n m : ℕ) (test : ℕ → Bool) (price : ℕ → ℕ) → ((k : ℕ) → k < n → test k ≡ true → price k ≤ m) → pricesTo n test price ≤ n * m
 sum-most zero m test price h = omega arith
 sum-most (suc n) m test price h =
     by-cases (test n) (λ t. rw t (omega (arith, h n (omega arith) t, sum-most n m test price (λ k l. h k (omega arith)))))
     (λ t. rw t (omega (arith, sum-most n m test price (λ k l. h k (omega arith)))))
-
-pub total-most : (p : Plant) → Within p → (prices : List ℕ) → pricesFault p prices ≡ 0 → (set : List Bool) → Serves p set
-    → priceOf (priceIn (p .streams) prices) set ≤ maxStreams * maxPrice
-total-most p w prices e set s =
-    rw (s .long)
-    (omega (
-      arith,
-      mul-le-mul-right maxPrice (w .few-streams),
-      sum-most (length (p .streams)) maxPrice (chosen set) (priceIn (p .streams) prices) (λ k l t. price-most p prices e k l (s .unmetered k l t)),
-    ))
 
 -- A stream is bought where its ends have one label by the streams that go before it.
 pub bought-by-labels : (p : Plant) → p .units ≤ maxUnits → Inside (p .units) (p .streams) → (price : ℕ → ℕ) (i : ℕ) → i < length (p .streams)
