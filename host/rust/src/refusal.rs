@@ -154,7 +154,7 @@ mod tests {
             assert_eq!(Refusal::from_number(number), Some(refusal));
             assert_eq!(refusal.number(), number);
         }
-        for number in [0, 21, 255] {
+        for number in [0, 22, 255] {
             assert_eq!(Refusal::from_number(number), None);
         }
         assert_eq!(Refusal::NoFlow(Places(5)).number(), 19);
