@@ -16,6 +16,7 @@ import time
 from fractions import Fraction
 from itertools import combinations, product
 
+import purchases
 import solver
 from solver import Plant, Stream
 
@@ -445,6 +446,24 @@ def check_close(count):
     return count
 
 
+def check_purchases(count):
+    """Meters to buy on small plants: the sort against all sets, and that the plant with these meters has no W."""
+    rng = random.Random(4)
+    ties = bought = 0
+    for _ in range(count):
+        plant = large_plant(rng, rng.randint(1, 5), rng.randint(0, 8), rng.choice((0.0, 0.2, 0.4)))
+        top = rng.choice((1, 2, 3, 50))
+        prices = [rng.randint(1, top) for s in plant.streams if not s.metered]
+        found = purchases.best_set(plant, prices)
+        expect(plant, found, purchases.all_sets(plant, prices))
+        then = Plant(plant.units, tuple(s._replace(weight=1) if k in found else s for k, s in enumerate(plant.streams, 1)))
+        expect(plant, "W" in solver.balance(then).classes, False)
+        bought += len(found)
+        ties += len(set(prices)) < len(prices)
+    print(f"  with equal prices {ties}; streams bought {bought}")
+    return count
+
+
 def check_large(count):
     """On large plants: balance, the bound from the optimum in fractions, and renumbered places."""
     rng = random.Random(2)
@@ -475,6 +494,7 @@ def main():
         ("small plants against brute force", lambda: check_small(30_000)),
         ("small plants with ranges against brute force", lambda: check_ranged(30_000)),
         ("plants near the critical value", lambda: check_close(2_000)),
+        ("meters to buy against all sets", lambda: check_purchases(3_000)),
         ("large plants", lambda: check_large(80)),
     ):
         start = time.monotonic()

@@ -5,6 +5,7 @@ from typing import NamedTuple
 
 import cases
 import moves
+import purchases
 import solver
 import transmitter
 from solver import FILE_LENGTH, READING, SHEET_LENGTH, Stream
@@ -185,6 +186,22 @@ class Closing(NamedTuple):
     def record(self):
         given, answer = (b"".join(cases.number(price, 8) for price in prices) for prices in (self.before, self.after))
         return meant(self, cases.Record(cases.CLOSING, given, len(answer), answer))
+
+
+class Buying(NamedTuple):
+    """The call over meters to buy: a plant file, prices, and for how many numbers a slice is lent."""
+
+    file: bytes
+    prices: tuple
+    room: int = cases.STREAMS
+    expected: int | None = None
+
+    def record(self):
+        number, bought, price = purchases.buy_call(self.file, self.prices, self.room)
+        given = cases.number(len(self.prices), 2) + b"".join(cases.number(price, 4) for price in self.prices) + self.file
+        return meant(self, cases.Record(
+            cases.BUYING, given, self.room, bytes(bought), returned=number, count=len(bought), number_back=price,
+        ))
 
 
 def meant(case, record):

@@ -3,6 +3,7 @@
 import struct
 from typing import NamedTuple
 
+import purchases
 import solver
 import transmitter
 from parts import metered, plant_file, unmetered, within
@@ -132,24 +133,59 @@ SMALL_HEADER = Sample(
     (metered(0, 1, 52, 444), metered(1, 0, 30, 444), metered(1, 0, 27, 444)),
 )
 
-SAMPLES = (LISTING, STEAM_SITE, RATED_SITE, OVERFULL_SITE, SMALL_HEADER)
+_BLIND_SITE = (
+    ("feedwater", metered(0, 1, 3_012, 4)),
+    ("steam of the boiler", unmetered(1, 2)),
+    ("steam through the turbine", unmetered(2, 3)),
+    ("reducing station", unmetered(2, 3)),
+    ("steam to the dryers", metered(3, 4, 5_862, 2)),
+    ("steam to the dye house", unmetered(3, 5)),
+    ("condensate of the dryers", unmetered(4, 6)),
+    ("condensate of the dye house", unmetered(5, 6)),
+    ("condensate returned", unmetered(6, 1)),
+    ("steam used up in the dryers", metered(4, 0, 1_244, 4)),
+    ("blowdown", metered(1, 0, 148, 40)),
+    ("steam used up in the dye house", metered(5, 0, 1_590, 4)),
+)
+
+BLIND_SITE = Sample(
+    "blind_site",
+    ("boiler", "high-pressure header", "low-pressure header", "dryers", "dye house", "condensate tank"),
+    tuple(name for name, _ in _BLIND_SITE),
+    tuple(stream for _, stream in _BLIND_SITE),
+)
+
+# What a meter costs on each of its unmetered streams; and the site with the meters bought, as they then read.
+PRICES = (900, 1_400, 650, 650, 300, 300, 420)
+READ_THEN = {4: metered(2, 3, 3_846, 2), 8: metered(5, 6, 2_411, 4)}
+
+SIGHTED_SITE = Sample(
+    "sighted_site",
+    BLIND_SITE.units,
+    BLIND_SITE.stream_names,
+    tuple(READ_THEN.get(k, stream) for k, stream in enumerate(BLIND_SITE.streams, 1)),
+)
+
+SAMPLES = (LISTING, STEAM_SITE, RATED_SITE, OVERFULL_SITE, SMALL_HEADER, BLIND_SITE, SIGHTED_SITE)
 
 
 def files():
     """The files under samples/ that follow from the plants, as (path, bytes)."""
-    for sample in SAMPLES:
+    for sample in SAMPLES + (BLIND_SITE, SIGHTED_SITE):
         yield f"samples/{sample.name}.bin", sample.file
         yield f"samples/{sample.name}.expected", solver.listing(sample.file).encode()
     if transmitter.translate_call(TRANSMITTER, solver.FILE_LENGTH)[2] != LISTING.file:
         raise ValueError("the sample's signals are another plant's")
     yield "samples/transmitter.bin", TRANSMITTER
+    if purchases.buy_call(BLIND_SITE.file, PRICES, solver.STREAMS)[1] != list(READ_THEN):
+        raise ValueError("other meters are to be bought")
 
 
 def missing_text(root):
     """What samples/README.md should show and does not, as (path, problem)."""
     path = "samples/README.md"
     text = (root / path).read_text(encoding="utf-8") if (root / path).exists() else ""
-    for sample in SAMPLES:
+    for sample in SAMPLES + (BLIND_SITE,):
         bytes_shown = sample.file.hex(" ").upper()
         for what, wanted in (
             ("table", sample.table()),
@@ -160,5 +196,9 @@ def missing_text(root):
                 yield path, f"{what} of {sample.name}; wanted:\n{wanted}"
         if sample is LISTING and bytes_shown not in text:
             yield path, f"bytes of {sample.name}; wanted: {bytes_shown}"
+    if f"```\n{solver.listing(SIGHTED_SITE.file)}```" not in text:
+        yield path, f"listing of {SIGHTED_SITE.name}; wanted:\n{solver.listing(SIGHTED_SITE.file)}"
+    if f"meters_to_buy samples/blind_site.bin {' '.join(map(str, PRICES))}`" not in text:
+        yield path, f"the prices; wanted: {PRICES}"
     if TRANSMITTER.hex(" ").upper() not in text:
         yield path, f"bytes of the transmitter file; wanted: {TRANSMITTER.hex(' ').upper()}"

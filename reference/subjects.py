@@ -7,6 +7,7 @@ import closings_to_try
 import files_to_try
 import moves_to_try
 import plants_to_try
+import purchases_to_try
 import ranges_to_try
 import refusals
 import samples
@@ -346,4 +347,5 @@ SUBJECTS = (
     ("moves", moves_to_try.moves_made),
     ("moved_sheets", moves_to_try.moved_sheets),
     ("close", close_to_try.close),
+    ("purchases", purchases_to_try.cases),
 )

@@ -1,5 +1,5 @@
 #!/usr/bin/env bash
-# Builds target/host/balance_file with the system's C compiler (CC, else cc).
+# Builds target/host/balance_file and target/host/meters_to_buy with the system's C compiler (CC, else cc).
 set -eu
 cd "$(dirname "$0")/../.."
 archive=target/staticlib/liblinked.a
@@ -12,5 +12,7 @@ if [ ! -e "$archive" ]; then
     exit 2
 fi
 mkdir -p target/host
-"${CC:-cc}" -std=c11 -O2 -Wall -Wextra -Werror -I host/include host/c/balance_file.c "$archive" -o target/host/balance_file
-echo "built target/host/balance_file"
+for program in balance_file meters_to_buy; do
+    "${CC:-cc}" -std=c11 -O2 -Wall -Wextra -Werror -I host/include "host/c/$program.c" "$archive" -o "target/host/$program"
+    echo "built target/host/$program"
+done

@@ -1,5 +1,5 @@
 #!/usr/bin/env bash
-# Runs target/host/balance_file: the samples, a cut plant, the last sheet number, and what cannot be read, written or understood.
+# Runs target/host/meters_to_buy, and target/host/balance_file: the samples, a cut plant, the last sheet number, and what cannot be read, written or understood.
 set -eu
 cd "$(dirname "$0")/../.."
 program=target/host/balance_file
@@ -7,11 +7,11 @@ program=target/host/balance_file
 work=$(mktemp -d)
 trap 'rm -rf "$work"' EXIT
 failed=0
-expect() { # status, output, words
+expect() { # status, output, words; of the program that is tried
     local status=0 out
     out=$("$program" "${@:3}" 2>/dev/null) || status=$?
     if [ "$status" != "$1" ] || [ "$out" != "$2" ]; then
-        printf 'balance_file %s: status %s, expected %s; printed:\n%s\nexpected:\n%s\n' "${*:3}" "$status" "$1" "$out" "$2" >&2
+        printf '%s %s: status %s, expected %s; printed:\n%s\nexpected:\n%s\n' "$program" "${*:3}" "$status" "$1" "$out" "$2" >&2
         failed=1
     fi
 }
@@ -36,5 +36,21 @@ for file in "$listing" "$work/cut"; do
     "$program" "$file" >/dev/full 2>/dev/null || status=$?
     [ "$status" = 2 ] || { echo "balance_file $file to a full device: status $status, expected 2" >&2; failed=1; }
 done
+# Meters to buy.
+program=target/host/meters_to_buy
+[ -x "$program" ] || { echo "no $program: build it with 'bash host/c/build.sh'" >&2; exit 2; }
+blind=samples/blind_site.bin
+expect 0 $'buy 4\nbuy 8\nprice 950' "$blind" 900 1400 650 650 300 300 420
+expect 0 $'buy 3\nprice 3' "$listing" 5 3
+expect 0 $'buy 2\nprice 4' "$listing" 4 4
+expect 0 'price 0' samples/sighted_site.bin 900 1400 650 300 420
+expect 1 'refused 21' "$blind" 900 1400 650 650 300 300
+expect 1 'refused 21' "$listing" 0 3
+expect 1 'refused 21' "$listing" 5 1000001
+expect 1 'refused 3' "$work/cut"
+expect 2 ''
+expect 2 '' "$listing" 5 x
+expect 2 '' "$listing" 5 4294967296
+expect 2 '' "$work/missing" 5 3
 [ "$failed" = 0 ] || exit 1
-echo "balance_file: 15 runs as expected"
+echo "balance_file: 15 runs as expected; meters_to_buy: 12"

@@ -10,8 +10,9 @@
  * An input: 1 byte that chooses the slice's length, 1 byte that chooses the last sheet number, then a plant file; or, the
  * second byte being 249, parts for the writer: units, count (2), which slice is cut (1) and where (1), then 18 bytes for each
  * stream: from, to, metered, weight (2), reading (4), ranged, low (4), high (4); or, the second byte being 248, a kept sheet;
- * or, the second byte being 247, a transmitter file; or, the second byte being 246, a plant file to be moved both ways. Each
- * sheet that is drawn is read back in as well.
+ * or, the second byte being 247, a transmitter file; or, the second byte being 246, a plant file to be moved both ways; or, the
+ * second byte being 245, a plant file for meters to buy, the first byte choosing prices and slice. Each sheet that is drawn is read
+ * back in as well.
  * Each slice ends at a page that may not be touched, and bytes stand before it that may not change.
  */
 #define _GNU_SOURCE
@@ -559,6 +560,92 @@ static void translate(const uint8_t *data, size_t size, size_t length)
         fail("the sheet call refuses a file of the translator");
 }
 
+/* Whether stream j goes before stream i where streams are left unmetered: dearer, or as dear and of higher number. */
+static int before(const uint32_t *price, size_t i, size_t j) { return price[j] > price[i] || (price[j] == price[i] && j > i); }
+
+/* Whether kept streams, of those that go before stream i only these, join its ends; i past the count: whether any has a loop. */
+static int joined(const struct parts *p, size_t count, const uint8_t *kept, const uint32_t *price, size_t i)
+{
+    uint8_t set[256];
+    int loop = 0;
+    for (int u = 0; u < 256; u++)
+        set[u] = (uint8_t)u;
+    for (size_t k = 0; k < count; k++) {
+        if (!kept[k] || (i < count && !before(price, i, k)))
+            continue;
+        uint8_t one = set[p->from[k]], other = set[p->to[k]];
+        loop |= one == other;
+        for (int u = 0; u < 256; u++)
+            set[u] = set[u] == one ? other : set[u];
+    }
+    return i < count ? set[p->from[i]] == set[p->to[i]] : loop;
+}
+
+/* The answer: unmetered streams in rising order; those left have no loop, and join the ends of each that is bought by streams that
+ * go before it. No other set has both. */
+static void purchase_fits(const struct parts *p, size_t count, const uint32_t *price, const uint8_t *streams, size_t bought,
+                          uint32_t total)
+{
+    uint8_t kept[112];
+    uint32_t sum = 0;
+    for (size_t k = 0; k < count; k++)
+        kept[k] = !p->metered[k];
+    for (size_t b = 0; b < bought; b++) {
+        if (streams[b] < 1 || streams[b] > count || !kept[streams[b] - 1] || (b > 0 && streams[b] <= streams[b - 1]))
+            fail("a number that is not to be bought");
+        kept[streams[b] - 1] = 0;
+        sum += price[streams[b] - 1];
+    }
+    if (sum != total)
+        fail("another total");
+    if (joined(p, count, kept, price, count))
+        fail("a loop is left");
+    for (size_t b = 0; b < bought; b++)
+        if (!joined(p, count, kept, price, streams[b] - 1u))
+            fail("a stream is bought that closes no loop");
+}
+
+/* Meters to buy on any file: the number returned, the slice, and the answer. */
+static void buy(const uint8_t *data, size_t size, uint8_t choice)
+{
+    size_t length = choice < 240 ? 96 + choice % 3 : choice - 240u, listed_prices = 0, count = 0, bought = SIZE_MAX;
+    uint8_t *file = file_end - size, *out = out_end - length;
+    uint32_t price[112], prices[113], total = UINT32_MAX, top = choice % 4 == 0 ? 1000000 : 1u + choice % 4;
+    struct parts p;
+    memcpy(file, data, size);
+    uint8_t fault = sheet_call(file, size, 0, WENGELUDO_SHEET_SIZE, again_end, 0).returned;
+    if (fault == 0 || fault == WENGELUDO_NO_FLOW) {
+        fault = choice % 16 == 9 || choice % 16 == 10 ? WENGELUDO_PRICES : 0;
+        count = listed(file, &p);
+    }
+    for (size_t k = 0; k < count; k++) {
+        price[k] = 1 + (uint32_t)((k * 2654435761u + choice * 40503u) >> 3) % top;
+        if (!p.metered[k])
+            prices[listed_prices++] = price[k];
+    }
+    if (choice % 16 == 9)
+        prices[listed_prices++] = 1;
+    else if (choice % 16 == 10 && listed_prices > 0)
+        prices[listed_prices - 1] = choice % 32 == 10 ? 0 : 1000001;
+    else if (choice % 16 == 10 && fault == WENGELUDO_PRICES)
+        fault = 0;
+    for (size_t i = 0; i < length + GUARD; i++)
+        out[-GUARD + (ptrdiff_t)i] = fill(i, 0);
+    uint8_t returned = wengeludo_meters_to_buy(file, size, prices, listed_prices, out, length, &bought, &total);
+    if (returned != (length < WENGELUDO_MAX_STREAMS ? 1 : fault))
+        fail("meters to buy: another number");
+    if (returned != 0 && (bought != 0 || total != 0))
+        fail("a refusal buys");
+    for (size_t i = 0; i < length + GUARD; i++)
+        if ((i < GUARD || i >= GUARD + bought) && out[-GUARD + (ptrdiff_t)i] != fill(i, 0))
+            fail("meters to buy change what is not theirs");
+    if (memcmp(file, data, size) != 0)
+        fail("the file changed");
+    counters[OF_SHEETS + 672 + returned] = 1;
+    if (returned == 0)
+        purchase_fits(&p, count, price, out, bought, total);
+}
+
 size_t LLVMFuzzerMutate(uint8_t *data, size_t size, size_t most);
 
 /* The records of a plant file that is read, rewritten where they stand: to the ranged form, or home; 0 bytes where a range is
@@ -736,6 +823,10 @@ int LLVMFuzzerTestOneInput(const uint8_t *data, size_t size)
 {
     if (size < 2 || size > 2 + 2100)
         return 0;
+    if (data[1] == 245) {
+        buy(data + 2, size - 2, data[0]);
+        return 0;
+    }
     if (data[1] == 247) {
         translate(data + 2, size - 2, slice_length(data[0], WENGELUDO_FILE_SIZE));
         return 0;

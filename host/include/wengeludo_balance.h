@@ -11,7 +11,8 @@
  * Lengths count elements. A slice may be longer than is needed.
  *
  * What each call does is proved against the definitions in crates/sheets/specs, crates/plants/specs,
- * crates/transmitters/specs and crates/moves/specs: result, counts and every byte of a slice follow from what is handed in.
+ * crates/transmitters/specs, crates/moves/specs and crates/purchases/specs: result, counts and every byte of a slice follow
+ * from what is handed in.
  */
 #ifndef WENGELUDO_BALANCE_H
 #define WENGELUDO_BALANCE_H
@@ -37,11 +38,14 @@ extern "C" {
 #define WENGELUDO_MAX_READING 4000000
 #define WENGELUDO_MAX_RANGE 2000000000
 
+/* The greatest price of a meter. */
+#define WENGELUDO_MAX_PRICE 1000000
+
 /* What the calls return: 0, or the number of a refusal. */
 enum {
     WENGELUDO_DONE = 0,
     WENGELUDO_SLICE_TOO_SHORT = 1,    /* sheet slice under 879 bytes; writer, translator and moves: under 1,636; a slice of the
-                                         sheet reader under 96 elements */
+                                         sheet reader or for meters to buy under 96 elements */
     WENGELUDO_NO_SHEET_NUMBER = 2,    /* last sheet number is 4,294,967,295 */
     WENGELUDO_FILE_ENDS = 3,          /* bytes end where a record is due or inside a body */
     WENGELUDO_KIND = 4,               /* kind not allowed at this place */
@@ -60,7 +64,8 @@ enum {
     WENGELUDO_DEVIATION = 17,         /* a transmitter's deviation is no finite number above 0 */
     WENGELUDO_RANGE = 18,             /* low above high, or either outside -2,000,000,000 to 2,000,000,000 */
     WENGELUDO_NO_FLOW = 19,           /* no balanced flow lies within all ranges */
-    WENGELUDO_NARROWER = 20           /* moving home, a range is narrower than -2,000,000,000 to 2,000,000,000 */
+    WENGELUDO_NARROWER = 20,          /* moving home, a range is narrower than -2,000,000,000 to 2,000,000,000 */
+    WENGELUDO_PRICES = 21             /* prices are not one for each unmetered stream, or one is 0 or over 1,000,000 */
 };
 
 /* The kinds of record on a sheet. */
@@ -209,6 +214,29 @@ uint8_t wengeludo_to_ranged(const uint8_t *file, size_t file_length,
 uint8_t wengeludo_from_ranged(const uint8_t *file, size_t file_length,
                               uint8_t *out, size_t out_length,
                               size_t *written);
+
+/* Meters to buy: the cheapest set of unmetered streams to be metered so that nothing is withheld.
+ *
+ * Reads   the plant file's file_length bytes, and prices_length prices: one for each unmetered stream, in stream order, from
+ *         1 to 1,000,000. Ranges play no part.
+ * Returns 0, or one of 1, 3 to 12, 18, 21. The order: 1, then the file's records one after the other, then 21, also where
+ *         nothing is withheld.
+ *         1:  `streams` has fewer than 96 elements, however many streams are to be metered.
+ * Writes, where it returns 0:
+ *         the numbers of the streams to be metered, counted from 1, in rising order at the front of `streams`; the elements
+ *         past them keep their values; *count: how many they are, none where nothing is withheld; *price: what they cost
+ *         together, at most 95,000,000.
+ * Writes, where it returns another number:
+ *         0 to *count and *price, and nothing else. All elements of `streams` are as they were.
+ * What the two numbers were before the call makes no difference.
+ *
+ * With these streams metered too, every two balanced flows that agree on all metered streams are equal. No set of unmetered
+ * streams with that property is cheaper; of the equally cheap ones, the numbers of this one come first at the first difference.
+ */
+uint8_t wengeludo_meters_to_buy(const uint8_t *file, size_t file_length,
+                                const uint32_t *prices, size_t prices_length,
+                                uint8_t *streams, size_t streams_length,
+                                size_t *count, uint32_t *price);
 
 #ifdef __cplusplus
 }

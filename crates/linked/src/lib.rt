@@ -1,5 +1,5 @@
-// The sheet call, the plant writer, the sheet reader, the translator and the two moves for programs in C and Rust: functions on
-// numbers and slices of numbers.
+// The sheet call, the plant writer, the sheet reader, the translator, the two moves and meters to buy for programs in C and Rust:
+// functions on numbers and slices of numbers.
 mod marked;
 
 use marked::balance_marked;
@@ -10,6 +10,7 @@ ghost use Rattle.plants.specs.Limits.{places};
 ghost use Rattle.plants.specs.Says.{WriteSays};
 ghost use Rattle.transmitters.specs.Says.{TranslateSays};
 ghost use Rattle.moves.specs.Moves.{ToSays, FromSays};
+ghost use Rattle.purchases.specs.Lent.{BuyHandsOver};
 ghost use Rattle.plant_slices.specs.Parts.{handed};
 ghost use Rattle.sheet_slices.specs.Kept.{HandsOver};
 ghost use Rattle.marks.specs.Marks.{marksIn};
@@ -134,4 +135,23 @@ pub extern "C" fn wengeludo_from_ranged(file: &[u8], out: &mut [u8], written: &m
     let done = moves::from_ranged(file, out);
     *written = done.written;
     done.number
+}
+
+// Meters to buy: the numbers of the streams to be metered at the front of a slice, how many they are, and what they cost
+// together; or a refusal number, zeros, and the slice as it was. A slice that does not hold as many as there may be is refused
+// as 1, before the file is read.
+#[no_mangle]
+pub extern "C" fn wengeludo_meters_to_buy(
+    file: &[u8],
+    prices: &[u32],
+    streams: &mut [u8],
+    count: &mut usize,
+    price: &mut u32,
+) -> u8
+    ensures { λ r. ⌜ BuyHandsOver (now (file .entry)) (now (prices .entry)) (now (streams .entry)) (now (streams .exit)) (record { number = r; count = now (count .exit); price = now (price .exit) }) ⌝ }
+{
+    let handed = buying::lent::buy_into(file, prices, streams);
+    *count = handed.count;
+    *price = handed.price;
+    handed.number
 }

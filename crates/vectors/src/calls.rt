@@ -17,6 +17,7 @@ pub fn call(kind: u8, number: u32, given: &[u8], out: &mut [u8]) -> Answer {
         8 => flow_trials::close_up(given, out),
         9 => plant_trials::move_forward(given, out),
         10 => plant_trials::move_home(given, out),
+        11 => purchase_trials::buy(given, out),
         _ => no_case(),
     }
 }

@@ -27,6 +27,8 @@
 //!
 //! [`to_ranged`] moves a plant file to the form in which every meter has a range, [`from_ranged`] moves it home.
 //!
+//! [`meters_to_buy`] says which streams to meter, at the least price, so that no record is [`Record::Withheld`] any more.
+//!
 //! A caller who has memory of its own uses [`balance_into`], [`Plant::write_into`], [`plant_from_transmitter_into`],
 //! [`to_ranged_into`] and [`from_ranged_into`], which allocate nothing.
 #![deny(missing_docs)]
@@ -34,6 +36,7 @@
 
 mod moves;
 mod plant;
+mod purchase;
 pub mod raw;
 mod refusal;
 mod sheet;
@@ -41,6 +44,7 @@ mod transmitter;
 
 pub use moves::{from_ranged, from_ranged_into, to_ranged, to_ranged_into};
 pub use plant::Plant;
+pub use purchase::{meters_to_buy, Purchase};
 pub use refusal::{Places, Refusal};
 pub use sheet::{balance, balance_into, Record, Sheet, Verdict};
 pub use transmitter::{plant_from_transmitter, plant_from_transmitter_into, Transmitter};
@@ -51,5 +55,5 @@ pub const SHEET_SIZE: usize = 879;
 /// The least slice that the plant writer, the translator and the moves take; the longest plant file.
 pub const FILE_SIZE: usize = 1636;
 
-/// The most streams of a plant; the sheet reader takes slices of at least so many elements.
+/// The most streams of a plant; the sheet reader and [`raw::meters_to_buy`] take slices of at least so many elements.
 pub const MAX_STREAMS: usize = 96;

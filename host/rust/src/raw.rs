@@ -57,6 +57,16 @@ extern "C" {
     ) -> u8;
     fn wengeludo_to_ranged(file: *const u8, file_length: usize, out: *mut u8, out_length: usize, written: *mut usize) -> u8;
     fn wengeludo_from_ranged(file: *const u8, file_length: usize, out: *mut u8, out_length: usize, written: *mut usize) -> u8;
+    fn wengeludo_meters_to_buy(
+        file: *const u8,
+        file_length: usize,
+        prices: *const u32,
+        prices_length: usize,
+        streams: *mut u8,
+        streams_length: usize,
+        count: *mut usize,
+        price: *mut u32,
+    ) -> u8;
 }
 
 // A length is 64 bits wide in the archive.
@@ -183,4 +193,23 @@ pub fn to_ranged(file: &[u8], out: &mut [u8], written: &mut usize) -> u8 {
 pub fn from_ranged(file: &[u8], out: &mut [u8], written: &mut usize) -> u8 {
     // SAFETY: as above.
     unsafe { wengeludo_from_ranged(file.as_ptr(), file.len(), out.as_mut_ptr(), out.len(), written) }
+}
+
+/// Meters to buy. 0: the numbers of the streams to be metered are at the front of `streams`, `count` says how many, `price` what
+/// they cost together. Another number: a refusal; `count` and `price` are 0, `streams` is as it was. A slice with room for fewer
+/// than 96 numbers is refused as 1.
+pub fn meters_to_buy(file: &[u8], prices: &[u32], streams: &mut [u8], count: &mut usize, price: &mut u32) -> u8 {
+    // SAFETY: as above.
+    unsafe {
+        wengeludo_meters_to_buy(
+            file.as_ptr(),
+            file.len(),
+            prices.as_ptr(),
+            prices.len(),
+            streams.as_mut_ptr(),
+            streams.len(),
+            count,
+            price,
+        )
+    }
 }

@@ -22,8 +22,8 @@ impl Places {
 /// Why a call was refused. A refused call leaves every slice and the counter as they were.
 #[derive(Clone, Copy, Debug, PartialEq, Eq, Hash)]
 pub enum Refusal {
-    /// Sheet slice under 879 bytes; for the plant writer, the translator and the moves, slice under 1,636; for the sheet reader, a
-    /// slice under 96 elements.
+    /// Sheet slice under 879 bytes; for the plant writer, the translator and the moves, slice under 1,636; for the sheet reader and
+    /// meters to buy, a slice under 96 elements.
     SliceTooShort,
     /// Last sheet number is 4,294,967,295.
     NoSheetNumber,
@@ -64,14 +64,16 @@ pub enum Refusal {
     NoFlow(Places),
     /// Moving home, a range is narrower than -2,000,000,000 to 2,000,000,000.
     Narrower,
+    /// For meters to buy: the prices are not one for each unmetered stream, or one is 0 or over 1,000,000.
+    Prices,
 }
 
 /// Number and text of each refusal.
-const ALL: [(u8, Refusal, &str); 20] = [
+const ALL: [(u8, Refusal, &str); 21] = [
     (
         1,
         Refusal::SliceTooShort,
-        "a slice is too short: 879 bytes for a sheet, 1,636 for a plant file, 96 elements for the sheet reader",
+        "a slice is too short: 879 bytes for a sheet, 1,636 for a plant file, 96 elements for the sheet reader and meters to buy",
     ),
     (2, Refusal::NoSheetNumber, "last sheet number is 4,294,967,295"),
     (3, Refusal::FileEnds, "bytes end where a record is due or inside a body"),
@@ -92,6 +94,7 @@ const ALL: [(u8, Refusal, &str); 20] = [
     (18, Refusal::Range, "low above high, or either outside its limits"),
     (19, Refusal::NoFlow(Places(0)), "no balanced flow lies within all ranges"),
     (20, Refusal::Narrower, "moving home, a range is narrower than the widest"),
+    (21, Refusal::Prices, "prices are not one for each unmetered stream, or one is 0 or over 1,000,000"),
 ];
 
 impl Refusal {
@@ -151,7 +154,7 @@ mod tests {
             assert_eq!(Refusal::from_number(number), Some(refusal));
             assert_eq!(refusal.number(), number);
         }
-        for number in [0, 21, 255] {
+        for number in [0, 22, 255] {
             assert_eq!(Refusal::from_number(number), None);
         }
         assert_eq!(Refusal::NoFlow(Places(5)).number(), 19);

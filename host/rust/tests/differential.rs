@@ -10,6 +10,7 @@
 
 mod draw;
 mod moves;
+mod purchases;
 mod reference;
 mod shrink;
 mod transmitters;

@@ -1,0 +1,54 @@
+-- Nothing is withheld exactly where the unmetered streams have no loop; one pass decides it.
+use mathlib.Core.Path.{_≡_, refl}
+use mathlib.Core.Logic.{_↔_}
+use Prim.Native.Nat.{ℕ, _<_}
+use borrow.Author.Tests.{not-true}
+use lib.ListN.{length}
+use Rattle.numbers.proofs.Tests.{by-cases}
+use Rattle.plants.specs.Limits.{maxUnits}
+use Rattle.plants.specs.Plants.{Plant}
+use Rattle.plants.specs.Within.{Within}
+use Rattle.flows.specs.declared.Class.the-variants.{Withheld}
+use Rattle.flows.specs.Flows.{streamAt}
+use Rattle.flows.specs.Chains.{unmeteredOnly}
+use Rattle.flows.specs.Classes.{unmeteredBut, onLoop, classOf}
+use Rattle.flows.specs.Shown.{Unmetered}
+use Rattle.flows.proofs.Nets.{inside}
+use Rattle.flows.proofs.Reach.{joined→chain, chain→joined}
+use Rattle.flows.proofs.Given.{class-means}
+use Rattle.flows.proofs.Withheld.{number-of, blank-of}
+use Rattle.forests.specs.Withheld.{NoneWithheld}
+use Rattle.forests.specs.Loops.{AllJoin}
+use Rattle.forests.proofs.Ranks.{Free, free-joins, joins-free}
+
+-- No stream has the class Withheld.
+abbrev pub NoneOfClass : Plant → Type 0
+NoneOfClass p = (i : ℕ) → i < length (p .streams) → classOf p i ≡ Withheld → ⊥
+
+module _ (p : Plant) (w : Within p) where
+  pub none→classes : NoneWithheld p → NoneOfClass p
+  none→classes n i l e =
+      let u : Unmetered p i = record { listed = l; unmetered = class-means p i Withheld e .0 } in
+      let d = blank-of p w i u .0 e in
+      d .3 (n i u (d .0) (d .1) (d .2))
+
+  pub classes→none : NoneOfClass p → NoneWithheld p
+  classes→none n i u =
+      number-of p w i u .0
+      (by-cases (onLoop p i) (λ o. absurd (n i (u .listed) (rw (u .unmetered, o)))) (λ o. rw (u .unmetered, o)))
+
+  pub none→free : NoneWithheld p → Free unmeteredOnly (p .streams)
+  none→free n i l t c =
+      none→classes n i l (rw (not-true (streamAt (p .streams) i .metered) t, chain→joined (unmeteredBut i) p (inside p w) c))
+
+  pub free→none : Free unmeteredOnly (p .streams) → NoneWithheld p
+  free→none f = classes→none (λ i l e.
+      let c = class-means p i Withheld e in
+      f i l (rw (c .0)) (joined→chain (unmeteredBut i) p _ _ (c .1)))
+
+  -- One pass over the streams decides whether anything is withheld.
+  pub one-pass-decides : NoneWithheld p ↔ AllJoin unmeteredOnly (p .streams)
+  one-pass-decides = (
+    λ n. free-joins p (w .few-units) (inside p w) maxUnits refl unmeteredOnly (none→free n),
+    λ a. free→none (joins-free p (w .few-units) (inside p w) maxUnits refl unmeteredOnly a),
+  )

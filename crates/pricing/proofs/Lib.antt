@@ -1,0 +1,2 @@
+-- Laws of prices.
+pub mod Prices
