@@ -6,16 +6,17 @@ use Prim.Native.Nat.{ℕ, zero, suc, _+_, _^_, _≤_, _<_}
 use native.Mathlib.Omega.{arith}
 use borrow.Author.Tests.{ne-eqb, ltb-true, ltb-false}
 use lib.Dec.{eqb, ltb}
-use lib.ListN.{length, getD, List·getD-eq-default}
-use lib.Seq.{ext-getD}
+use lib.ListN.{length, getD, take, List·getD-eq-default}
+use lib.Seq.{ext-getD, length-take-le, getD-take}
 use Rattle.numbers.proofs.Tests.{by-cases, same-test}
 use Rattle.plants.specs.declared.Read.{Read}
 use Rattle.plants.specs.declared.Stream.{Stream}
-use Rattle.plants.specs.Plants.{Plant}
+use Rattle.plants.specs.declared.Plant as Arrays
+use Rattle.plants.specs.Plants.{Plant, noStream}
 use Rattle.plants.specs.Files.{Got, bad, got, readPlant}
-use Rattle.plants.specs.Within.{Within}
+use Rattle.plants.specs.Within.{Within, Accepted}
 use Rattle.plants.specs.Says.{plantOf, readOf}
-use Rattle.plants.proofs.Arrayed.{read-held}
+use Rattle.plants.proofs.Arrayed.{all-listed, listed-at, within-of, stream-within, read-held}
 use Rattle.sheets.proofs.Promise.{read-bad, found, plant-count}
 use Rattle.flows.specs.Sides.{bit}
 use Rattle.forests.specs.Loops.{countTo}
@@ -23,10 +24,10 @@ use Rattle.forests.proofs.Counts.{count-same}
 use Rattle.surveys.specs.declared.Layouts.{Layouts}
 use Rattle.surveys.specs.Layouts.{laidOut, size, setsOf, Counted}
 use Rattle.surveys.specs.Says.{maxSurveyed, surveySize, refusedWith, Surveyed, SurveySays, One-survey}
-use Rattle.surveys.specs.Inner.{eachMeets, ones, countBelow}
+use Rattle.surveys.specs.Inner.{eachMeets, ones, countBelow, Few}
 use Rattle.surveys.proofs.Deciding.{eachJoins, decides}
 use Rattle.surveys.proofs.Masks.{sets-below}
-use Rattle.surveys.proofs.Turns.{count-most}
+use Rattle.surveys.proofs.Turns.{count-most, few-long, few-at}
 
 -- The count of the sets, from the count of the numbers.
 pub counted : (p : Plant) → Within p → (k c : ℕ) → c ≡ countBelow (p .streams) k (2 ^ length (p .streams)) → Counted p k c
@@ -59,6 +60,31 @@ surveyed-by p w r n c l h few = record {
       (λ t. h k (ltb-true k surveySize t) ∙ below-none (p .streams) k (2 ^ length (p .streams)) b)
       (λ t. List·getD-eq-default (r .counts) 0 (rw l (ltb-false k surveySize t)));
 }
+
+-- A plant in its array: its first streams, and its survey by their counts.
+module _ (p : Arrays.Plant) (a : Accepted p) (few : p .count ≤ maxSurveyed) where
+  pub few-of : Few (p .count) (take maxSurveyed (p .streams))
+  few-of = record {
+    few = few;
+    long = length-take-le maxSurveyed (p .streams) (omega (arith, a .long));
+    each = λ k l. rw (getD-take maxSurveyed (p .streams) k noStream (omega arith)) (stream-within p a k l);
+  }
+
+  same-streams : take (p .count) (take maxSurveyed (p .streams)) ≡ plantOf p .streams
+  same-streams =
+      ext-getD noStream (take (p .count) (take maxSurveyed (p .streams))) (plantOf p .streams)
+      (few-long (p .count) (take maxSurveyed (p .streams)) few-of ∙ sym (all-listed p a))
+      (λ k l.
+      let h : k < p .count = rw (few-long (p .count) (take maxSurveyed (p .streams)) few-of) at l in
+      few-at (p .count) (take maxSurveyed (p .streams)) few-of k h ∙ getD-take maxSurveyed (p .streams) k noStream (omega arith) ∙ sym (listed-at p a k h))
+
+  pub plant-surveyed : (ss : List Stream) → ss ≡ take maxSurveyed (p .streams) → (counts : List ℕ)
+      → (length counts ≡ surveySize) × ((k : ℕ) → k < surveySize → getD counts k 0 ≡ countBelow (take (p .count) ss) k (2 ^ p .count))
+      → Surveyed (plantOf p) (record { number = 0; count = p .count; counts = counts })
+  plant-surveyed ss e counts t =
+      surveyed-by (plantOf p) (within-of p a) (record { number = 0; count = p .count; counts = counts }) refl (sym (all-listed p a)) (t .0)
+      (λ k l. t .1 k l ∙ ap (λ (x : List Stream). countBelow x k (2 ^ p .count)) (ap (take (p .count)) e ∙ same-streams) ∙ ap (λ (n : ℕ). countBelow (plantOf p .streams) k (2 ^ n)) (sym (all-listed p a)))
+      (rw (all-listed p a) few)
 
 -- What the call answers, by what the reader handed over.
 got-bad : {p : Plant} {f : ℕ} {A : Type 0} → got p ≡ bad f → A
