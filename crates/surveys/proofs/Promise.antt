@@ -6,7 +6,7 @@ use Prim.Native.Nat.{ℕ, zero, suc, _+_, _^_, _≤_, _<_}
 use native.Mathlib.Omega.{arith}
 use borrow.Author.Tests.{ne-eqb, ltb-true, ltb-false}
 use lib.Dec.{eqb, ltb}
-use lib.ListN.{length, getD, take, List·getD-eq-default}
+use lib.ListN.{length, getD, take, length-replicate, List·getD-eq-default}
 use lib.Seq.{ext-getD, length-take-le, getD-take}
 use Rattle.numbers.proofs.Tests.{by-cases, same-test}
 use Rattle.plants.specs.declared.Read.{Read}
@@ -162,3 +162,17 @@ one-survey file r s x y = go (readPlant file) refl
         by-cases (ltb maxSurveyed (length (p .streams)))
         (λ t. let m = ltb-true maxSurveyed (length (p .streams)) t in x .too-many p e m ∙ sym (y .too-many p e m))
         (λ t. let m = ltb-false maxSurveyed (length (p .streams)) t in one-plant p r s (x .surveyed p e m) (y .surveyed p e m))
+
+-- A survey fits its array.
+pub survey-fits : (file : List ℕ) (r : Layouts) → SurveySays file r → (r .count ≤ maxSurveyed) × (length (r .counts) ≡ surveySize)
+survey-fits file r x = go (readPlant file) refl
+  where
+    none : (f : ℕ) → r ≡ refusedWith f → (r .count ≤ maxSurveyed) × (length (r .counts) ≡ surveySize)
+    none f e = rw e (omega arith, length-replicate {A = ℕ} surveySize 0)
+
+    go : (g : Got) → readPlant file ≡ g → (r .count ≤ maxSurveyed) × (length (r .counts) ≡ surveySize)
+    go (bad f) e = none f (x .unread f e)
+    go (got p) e =
+        by-cases (ltb maxSurveyed (length (p .streams)))
+        (λ t. none 23 (x .too-many p e (ltb-true maxSurveyed (length (p .streams)) t)))
+        (λ t. let m = ltb-false maxSurveyed (length (p .streams)) t in let s = x .surveyed p e m in (omega (arith, s .count), s .long))

@@ -1,8 +1,10 @@
 -- What the survey of meter layouts promises.
 use mathlib.Core.Path.{_≡_}
-use mathlib.Core.List.{List}
+use mathlib.Core.List.{List, []}
 use Prim.Native.Nat.{ℕ, suc, _≤_, _<_}
-use lib.ListN.{length, getD, replicate}
+use lib.Dec.{eqb}
+use lib.ListN.{length, getD, take, replicate}
+use Rattle.numbers.specs.Choice.{pick}
 use Rattle.plants.specs.Plants.{Plant}
 use Rattle.plants.specs.Files.{bad, got, readPlant}
 use Rattle.surveys.specs.declared.Layouts.{Layouts}
@@ -18,6 +20,10 @@ surveySize = suc maxSurveyed
 -- A refusal: its number, no streams, zeros.
 abbrev pub refusedWith : ℕ → Layouts
 refusedWith f = record { number = f; count = 0; counts = replicate surveySize 0 }
+
+-- The counts that there are: none with a refusal, else one for each k up to the number of streams.
+abbrev pub listed : Layouts → List ℕ
+listed r = pick (eqb (r .number) 0) (take (suc (r .count)) (r .counts)) []
 
 -- The survey of a plant: a count for each k up to the number of streams, 0 past it.
 pub record Surveyed (p : Plant) (r : Layouts) : Type 0 where
