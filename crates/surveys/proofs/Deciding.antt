@@ -3,11 +3,11 @@ use mathlib.Core.Path.{_≡_, refl, sym}
 use mathlib.Core.Logic.{_↔_}
 use mathlib.Core.Bool.{Bool, true, false, not, _||_}
 use mathlib.Core.List.{List, map}
-use Prim.Native.Nat.{ℕ, _<_}
+use Prim.Native.Nat.{ℕ, zero, suc, _<_}
 use native.Mathlib.Omega.{arith}
 use borrow.Author.Tests.{not-true}
 use lib.ListN.{length, length-map}
-use Rattle.numbers.proofs.Tests.{clash}
+use Rattle.numbers.proofs.Tests.{clash, and-both}
 use Rattle.plants.specs.declared.Stream.{Stream}
 use Rattle.plants.specs.Limits.{maxUnits}
 use Rattle.plants.specs.Plants.{Plant, noStream, unmetered}
@@ -16,12 +16,12 @@ use Rattle.flows.specs.Flows.{streamAt}
 use Rattle.flows.specs.Chains.{Counting}
 use Rattle.flows.specs.Labels.{labelsAfter, oneLabel}
 use Rattle.flows.specs.Certificate.{every}
+use Rattle.flows.proofs.Certified.{every-at}
 use Rattle.flows.proofs.Lists.{map-at}
 use Rattle.flows.proofs.Nets.{inside}
 use Rattle.forests.specs.Withheld.{NoneWithheld}
 use Rattle.forests.specs.Metering.{chosen}
 use Rattle.forests.specs.Loops.{left, AllJoin}
-use Rattle.forests.proofs.Counts.{every-at, every-all}
 use Rattle.forests.proofs.Ranks.{free-joins, joins-free}
 use Rattle.forests.proofs.Left.{Same, same-sym, free-same, none→left, left→none}
 use Rattle.surveys.specs.Layouts.{bare, laidOut}
@@ -35,6 +35,11 @@ joinsAt set ss k = chosen set k || not (oneLabel (labelsAfter (leftOut set) ss k
 
 abbrev pub eachJoins : List Bool → List Stream → Bool
 eachJoins set ss = every (length ss) (joinsAt set ss)
+
+-- A test that each number below n passes.
+every-all : (n : ℕ) (test : ℕ → Bool) → ((k : ℕ) → k < n → test k ≡ true) → every n test ≡ true
+every-all zero test h = refl
+every-all (suc n) test h = and-both (test n) (every n test) (h n (omega arith)) (every-all n test (λ k l. h k (omega arith)))
 
 plain-within : (n : ℕ) (s : Stream) → WithinStream n s → WithinStream n (unmetered (s .from) (s .to))
 plain-within n s w = record {

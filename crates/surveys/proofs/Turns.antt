@@ -22,10 +22,11 @@ use Rattle.flows.specs.Groups.{AmongPlaces, StepSays}
 use Rattle.flows.specs.Labels.{ownNumbers, labelsAfter, oneLabel}
 use Rattle.flows.specs.Sides.{bit}
 use Rattle.flows.specs.Certificate.{every}
+use Rattle.flows.proofs.Certified.{every-at}
 use Rattle.flows.proofs.Labels.{step-none, labels-long}
 use Rattle.flows.proofs.Grouping.{step-said}
 use Rattle.forests.specs.Loops.{countTo}
-use Rattle.forests.proofs.Counts.{one, every-at}
+use Rattle.forests.proofs.Counts.{one}
 use Rattle.surveys.specs.Says.{maxSurveyed, surveySize}
 use Rattle.surveys.specs.Inner.{bitOff, meets, eachMeets, ones, countBelow, Few}
 
