@@ -31,6 +31,8 @@ then the bytes handed in, then those of the slice as they must be after the call
     10 HOME     handed in: plant file; back: `written`, the plant file moved home in the slice
     11 BUYING   handed in: how many prices (2), the prices (4 each), then the plant file; back: how many streams are to be
                 metered, what they cost together, and their numbers at the front of the slice
+    12 SURVEY   handed in: plant file; back: how many streams, the 13 counts in a slice of 26 bytes, 2 bytes each
+    13 LAYOUTS  handed in: plant file; back: the text's length, the text of the survey in the slice
 
 Where a call has no number or count, 0 stands. A stream is 17 bytes: 1 where it is metered and 2 where it has a range, added;
 from, to, weight (2); reading, low, high (4 each, two's complement). An entry is 9 bytes: the kind of the stream's record, its
@@ -45,6 +47,7 @@ from typing import NamedTuple
 
 SHEET, READER, WRITER, UNHINTED, LISTING, KEPT, TRANSLATOR, CLOSING, FORTH, HOME = 1, 2, 3, 4, 5, 6, 7, 8, 9, 10
 BUYING = 11
+SURVEY, LAYOUTS = 12, 13
 STREAMS = 96
 HEAD = 20
 ROOM = 2_560  # most bytes handed in, and of a slice

@@ -7,6 +7,7 @@ import cases
 import moves
 import purchases
 import solver
+import survey
 import transmitter
 from solver import FILE_LENGTH, READING, SHEET_LENGTH, Stream
 
@@ -202,6 +203,33 @@ class Buying(NamedTuple):
         return meant(self, cases.Record(
             cases.BUYING, given, self.room, bytes(bought), returned=number, count=len(bought), number_back=price,
         ))
+
+
+class Survey(NamedTuple):
+    """A survey of meter layouts, with the counts, if said."""
+
+    file: bytes
+    expected: int | None = None
+    counts: list | None = None
+
+    def record(self):
+        number, count, counts = survey.layouts_call(self.file)
+        if self.counts is not None and counts != self.counts:
+            raise ValueError(f"{self}: {counts} counted")
+        answer = b"".join(cases.number(k, 2) for k in counts + [0] * (survey.SIZE - len(counts)))
+        return meant(self, cases.Record(cases.SURVEY, self.file, len(answer), answer, returned=number, count=count))
+
+
+class LayoutText(NamedTuple):
+    """The text of a survey; a slice that is too short gets no text."""
+
+    file: bytes
+    slice_length: int = survey.TEXT_LENGTH
+    expected: int | None = None
+
+    def record(self):
+        text = survey.text(self.file).encode() if self.slice_length >= survey.TEXT_LENGTH else b""
+        return meant(self, cases.Record(cases.LAYOUTS, self.file, self.slice_length, text, count=len(text)))
 
 
 def meant(case, record):

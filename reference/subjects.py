@@ -5,6 +5,7 @@ import math
 import close_to_try
 import closings_to_try
 import files_to_try
+import layouts_to_try
 import moves_to_try
 import plants_to_try
 import purchases_to_try
@@ -348,4 +349,6 @@ SUBJECTS = (
     ("moved_sheets", moves_to_try.moved_sheets),
     ("close", close_to_try.close),
     ("purchases", purchases_to_try.cases),
+    ("surveys", layouts_to_try.surveys),
+    ("layouts", layouts_to_try.texts),
 )

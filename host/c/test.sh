@@ -1,5 +1,6 @@
 #!/usr/bin/env bash
-# Runs target/host/meters_to_buy, and target/host/balance_file: the samples, a cut plant, the last sheet number, and what cannot be read, written or understood.
+# Runs target/host/balance_file, target/host/meters_to_buy and target/host/layouts_file: the samples, a cut plant, the last sheet
+# number, and what cannot be read, written or understood.
 set -eu
 cd "$(dirname "$0")/../.."
 program=target/host/balance_file
@@ -11,7 +12,7 @@ expect() { # status, output, words; of the program that is tried
     local status=0 out
     out=$("$program" "${@:3}" 2>/dev/null) || status=$?
     if [ "$status" != "$1" ] || [ "$out" != "$2" ]; then
-        printf '%s %s: status %s, expected %s; printed:\n%s\nexpected:\n%s\n' "$program" "${*:3}" "$status" "$1" "$out" "$2" >&2
+        printf '%s %s: status %s, expected %s; printed:\n%s\nexpected:\n%s\n' "${program##*/}" "${*:3}" "$status" "$1" "$out" "$2" >&2
         failed=1
     fi
 }
@@ -54,3 +55,19 @@ expect 2 '' "$listing" 5 4294967296
 expect 2 '' "$work/missing" 5 3
 [ "$failed" = 0 ] || exit 1
 echo "balance_file: 15 runs as expected; meters_to_buy: 12"
+program=target/host/layouts_file
+[ -x "$program" ] || { echo "no $program: build it with 'bash host/c/build.sh'" >&2; exit 2; }
+printf '\001\001\004\000' >"$work/empty"
+expect 0 "$(cat samples/listing.layouts)" "$listing"
+expect 0 '0 1' "$work/empty"
+expect 1 'refused 23' samples/steam_site.bin
+expect 1 'refused 3' "$work/cut"
+expect 2 ''
+expect 2 '' "$listing" 0
+expect 2 '' "$work/missing"
+expect 2 '' "$work"
+status=0
+"$program" "$listing" >/dev/full 2>/dev/null || status=$?
+[ "$status" = 2 ] || { echo "layouts_file to a full device: status $status, expected 2" >&2; failed=1; }
+[ "$failed" = 0 ] || exit 1
+echo "layouts_file: 9 runs as expected"

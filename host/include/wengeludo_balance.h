@@ -41,11 +41,15 @@ extern "C" {
 /* The greatest price of a meter. */
 #define WENGELUDO_MAX_PRICE 1000000
 
+/* The most streams of a plant whose layouts are surveyed; the least slice for their counts. */
+#define WENGELUDO_MAX_SURVEYED 12
+#define WENGELUDO_SURVEY_SIZE 13
+
 /* What the calls return: 0, or the number of a refusal. */
 enum {
     WENGELUDO_DONE = 0,
     WENGELUDO_SLICE_TOO_SHORT = 1,    /* sheet slice under 879 bytes; writer, translator and moves: under 1,636; a slice of the
-                                         sheet reader or for meters to buy under 96 elements */
+                                         sheet reader or for meters to buy under 96 elements; of the survey under 13 */
     WENGELUDO_NO_SHEET_NUMBER = 2,    /* last sheet number is 4,294,967,295 */
     WENGELUDO_FILE_ENDS = 3,          /* bytes end where a record is due or inside a body */
     WENGELUDO_KIND = 4,               /* kind not allowed at this place */
@@ -65,7 +69,8 @@ enum {
     WENGELUDO_RANGE = 18,             /* low above high, or either outside -2,000,000,000 to 2,000,000,000 */
     WENGELUDO_NO_FLOW = 19,           /* no balanced flow lies within all ranges */
     WENGELUDO_NARROWER = 20,          /* moving home, a range is narrower than -2,000,000,000 to 2,000,000,000 */
-    WENGELUDO_PRICES = 21             /* prices are not one for each unmetered stream, or one is 0 or over 1,000,000 */
+    WENGELUDO_PRICES = 21,            /* prices are not one for each unmetered stream, or one is 0 or over 1,000,000 */
+    WENGELUDO_TOO_MANY_TO_SURVEY = 23 /* more streams than the 12 of which layouts are surveyed */
 };
 
 /* The kinds of record on a sheet. */
@@ -237,6 +242,23 @@ uint8_t wengeludo_meters_to_buy(const uint8_t *file, size_t file_length,
                                 const uint32_t *prices, size_t prices_length,
                                 uint8_t *streams, size_t streams_length,
                                 size_t *count, uint32_t *price);
+
+/* The survey of meter layouts: which of the streams of a plant file are metered plays no part, nor do ranges.
+ *
+ * Reads   the file's file_length bytes.
+ * Returns 0, or one of 1, 3 to 12, 18, 23. The order: 1 (`counts` has fewer than 13 elements), then the file's records as
+ *         in the sheet call, then 23 (more than 12 streams). Never 19.
+ * Writes, where it returns 0:
+ *         at index k of `counts`, for each k from 0 to the number of streams, how many choices of k metered streams
+ *         leave none withheld; the elements past them keep their values;
+ *         *count: how many streams there are.
+ * Writes, where it returns another number:
+ *         *count: 0, and nothing else. All elements of `counts` are as they were.
+ * What *count was before the call makes no difference.
+ */
+uint8_t wengeludo_layouts_of(const uint8_t *file, size_t file_length,
+                             uint16_t *counts, size_t counts_length,
+                             size_t *count);
 
 #ifdef __cplusplus
 }

@@ -2,38 +2,9 @@
 // writing is said on standard error, in one line.
 use plants::limits::LONGEST_FILE;
 use texts::LEAST_TEXT;
-ghost use Rattle.io.specs.Counts.{Counts};
 
 // One byte more than the longest plant file.
 const MOST_READ: usize = LONGEST_FILE + 1;
-
-// How many bytes were read, and whether a read failed.
-struct Input {
-    size: usize,
-    failed: bool,
-}
-
-// Standard input to its end, or as much of it as the slice holds.
-fn read_input(file: &mut [u8]) -> Input
-    ensures { λ r. ⌜ Counts (r .size) (now (file .exit)) ⌝ }
-{
-    let mut size: usize = 0;
-    while size < file.len() {
-        let got = libc::read(libc::STDIN_FILENO, &mut file[size..]);
-        let more = io::count(got, &file[size..]);
-        if more == 0 {
-            return Input {
-                size: size,
-                failed: got < 0,
-            };
-        }
-        size += more;
-    }
-    Input {
-        size: size,
-        failed: false,
-    }
-}
 
 fn main() {
     if 1 < os::arg_count() {
@@ -44,7 +15,7 @@ fn main() {
         return;
     }
     let mut file = [0u8; MOST_READ];
-    let input = read_input(&mut file);
+    let input = inputs::read_input(&mut file);
     if input.failed {
         io::write_all(
             libc::STDERR_FILENO,

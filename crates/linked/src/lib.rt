@@ -1,5 +1,5 @@
-// The sheet call, the plant writer, the sheet reader, the translator, the two moves and meters to buy for programs in C and Rust:
-// functions on numbers and slices of numbers.
+// The sheet call, the plant writer, the sheet reader, the translator, the two moves, meters to buy and the survey for programs in C
+// and Rust: functions on numbers and slices of numbers.
 mod marked;
 
 use marked::balance_marked;
@@ -14,6 +14,7 @@ ghost use Rattle.purchases.specs.Lent.{BuyHandsOver};
 ghost use Rattle.plant_slices.specs.Parts.{handed};
 ghost use Rattle.sheet_slices.specs.Kept.{HandsOver};
 ghost use Rattle.marks.specs.Marks.{marksIn};
+ghost use Rattle.survey_slices.specs.Lent.{LendSays};
 
 // The sheet call: the file's sheet in the slice, its bytes counted and the counter one higher; or a refusal number, none
 // counted, slice and counter as they were. With refusal 19 bit u of the marks is set where place u is in an overfull set; else
@@ -154,4 +155,16 @@ pub extern "C" fn wengeludo_meters_to_buy(
     *count = handed.count;
     *price = handed.price;
     handed.number
+}
+
+// The survey of meter layouts: for each k from 0 to the number of streams, how many choices of k metered streams leave none
+// withheld, at the front of the slice, and how many streams there are; or a refusal number, 0, and the slice as it was. A slice
+// that does not hold 13 counts is refused as 1, before the file is read.
+#[no_mangle]
+pub extern "C" fn wengeludo_layouts_of(file: &[u8], counts: &mut [u16], count: &mut usize) -> u8
+    ensures { λ r. ⌜ LendSays (now (file .entry)) (now (counts .entry)) (now (counts .exit)) r (now (count .exit)) ⌝ }
+{
+    let lent = survey_slices::layouts_lent(file, counts);
+    *count = lent.count;
+    lent.number
 }

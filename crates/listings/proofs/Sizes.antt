@@ -7,15 +7,17 @@ use Prim.Native.Nat.{ℕ, suc, _+_, _^_, _<_, _≤_}
 use native.Mathlib.Omega.{arith}
 use borrow.Author.Tests.{eq-eqb, ne-eqb}
 use lib.Dec.{eqb}
-use lib.ListN.{length, length-append}
+use lib.ListN.{length, drop, length-append}
+use lib.Seq.{length-take-le}
 use mir.Syntax.{w64}
 use mir.Val.{SFits}
 use Rattle.numbers.specs.Choice.{pick}
+use Rattle.numbers.specs.Inner.{Put}
 use Rattle.flows.specs.declared.Class.{Class}
 use Rattle.flows.specs.declared.Class.the-variants.{Adjusted, AsRead, Given, Withheld}
 use Rattle.numerals.specs.Numerals.{text, decimal, signedDecimal, field}
 use Rattle.listings.specs.Listing.{entryText, wordOf, totalLine, refusalText}
-use Rattle.listings.specs.Room.{lineSize, totalSize, leastText}
+use Rattle.listings.specs.Room.{lineSize, totalSize, refusalSize, Counts}
 use Rattle.numerals.proofs.Decimals.{decimal-most, field-size}
 
 -- The line of a stream.
@@ -88,5 +90,12 @@ refusal-size f =
     let a = text "refused " in
     omega (arith, length-append (a ++ decimal f) (text "\n"), length-append a (decimal f))
 
-pub refusal-most : (f : ℕ) → f < 10 ^ 3 → length (refusalText f) ≤ leastText
+pub refusal-most : (f : ℕ) → f < 10 ^ 3 → length (refusalText f) ≤ refusalSize
 refusal-most f h = omega (arith, refusal-size f, decimal-most 2 f h)
+
+-- A text at the front of a slice lies within it.
+pub put-counts : {x o o′ : List ℕ} {r : ℕ} → Put x o o′ r → Counts r o′
+put-counts {x} {o} {o′} {r} p =
+    let s = p .size in
+    let h : r ≤ length o′ = omega (arith, ap length (p .bytes), length-append x (drop (length x) o)) in
+    (h, sym (length-take-le r o′ h))

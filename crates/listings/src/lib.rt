@@ -16,7 +16,7 @@ ghost use Rattle.plants.specs.Limits.{maxStreams};
 ghost use Rattle.numerals.specs.Numerals.{text, signedDecimal, field};
 ghost use Rattle.listings.specs.Listing.{entryText, linesFrom, wordOf, totalLine, listingOf, refusalText};
 ghost use Rattle.numerals.specs.Adding.{Added};
-ghost use Rattle.listings.specs.Room.{lineSize, leastText};
+ghost use Rattle.listings.specs.Room.{lineSize, leastText, refusalSize};
 
 // A class letter and a flow.
 fn put_flow(letter: u8, flow: i64, at: usize, out: &mut [u8]) -> usize
@@ -109,7 +109,7 @@ pub fn put_listing(count: usize, number: u32, b: Balance, out: &mut [u8]) -> usi
 
 // The text of a refusal, and how long it is.
 pub fn put_refusal(number: u8, out: &mut [u8]) -> usize
-    requires { ⌜ leastText ≤ length (now out) ⌝ }
+    requires { ⌜ refusalSize ≤ length (now out) ⌝ }
     ensures { λ r. ⌜ Put (refusalText number) (now (out .entry)) (now (out .exit)) r ⌝ }
 {
     let a = put_text(b"refused ", 0, out);

@@ -2,13 +2,11 @@
 use mathlib.Core.Path.{_≡_, refl, sym, ap, _∙_, subst}
 use mathlib.Core.Bool.{Bool}
 use mathlib.Core.Logic.{inl, inr}
-use mathlib.Core.List.{List, _++_}
+use mathlib.Core.List.{List}
 use Prim.Native.Nat.{ℕ, _≤_, _<_}
-use native.Mathlib.Omega.{arith}
 use borrow.Author.Tests.{lt-ltb, le-ltb}
 use lib.Dec.{ltb}
-use lib.ListN.{length, drop, length-append}
-use lib.Seq.{length-take-le}
+use lib.ListN.{length}
 use Rattle.numbers.specs.Bytes.{over}
 use Rattle.numbers.specs.Inner.{Put}
 use Rattle.numbers.proofs.Tests.{by-cases}
@@ -26,14 +24,7 @@ use Rattle.sheets.proofs.Promise.{read-bad, found, plant-count, plant-balance, 
 use Rattle.sheets.proofs.Unique.{one-balance, never-both}
 use Rattle.listings.specs.Listing.{listingOf, refusalText}
 use Rattle.listings.specs.Room.{leastText}
-use Rattle.texts.specs.Says.{ListWith, ListSays, Counts, One-text}
-
--- A text lies within its slice.
-pub put-counts : {x o o′ : List ℕ} {r : ℕ} → Put x o o′ r → Counts r o′
-put-counts {x} {o} {o′} {r} p =
-    let s = p .size in
-    let h : r ≤ length o′ = omega (arith, ap length (p .bytes), length-append x (drop (length x) o)) in
-    (h, sym (length-take-le r o′ h))
+use Rattle.texts.specs.Says.{ListWith, ListSays, One-text}
 
 module _ (file o : List ℕ) where
   pub too-short : length o < leastText → ListSays file o o 0

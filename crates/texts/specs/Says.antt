@@ -4,9 +4,9 @@ use mathlib.Core.Bool.{Bool}
 use mathlib.Core.Logic.{_⊎_}
 use mathlib.Core.List.{List}
 use lib.IntN.{ℤ}
-use Prim.Native.Nat.{ℕ, _≤_}
+use Prim.Native.Nat.{ℕ}
 use lib.Dec.{ltb}
-use lib.ListN.{length, take}
+use lib.ListN.{length}
 use Rattle.numbers.specs.Inner.{Put, pickT}
 use Rattle.plants.specs.Plants.{Plant}
 use Rattle.plants.specs.Files.{Got, bad, got, readPlant}
@@ -31,10 +31,6 @@ ListWith (got p) o o′ r = Listed p o o′ r ⊎ Overfilled p o o′ r
 -- A slice that is too short: nothing, and the slice as it was.
 abbrev pub ListSays : List ℕ → List ℕ → List ℕ → ℕ → Type 0
 ListSays file o o′ r = pickT (ltb (length o) leastText) ((r ≡ 0) × (o′ ≡ o)) (ListWith (readPlant file) o o′ r)
-
--- The slice has so many characters at its front, for a caller to take.
-abbrev pub Counts : ℕ → List ℕ → Type 0
-Counts r o = (r ≤ length o) × (r ≡ length (take r o))
 
 -- No choice is left: text and length follow from the file and the slice.
 abbrev pub One-text : Type 0

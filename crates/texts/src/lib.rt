@@ -3,7 +3,8 @@ use balances::balance_of;
 use listings::put_listing;
 use listings::put_refusal;
 use plants::limits::MAX_STREAMS;
-ghost use Rattle.texts.specs.Says.{ListSays, Counts};
+ghost use Rattle.listings.specs.Room.{Counts};
+ghost use Rattle.texts.specs.Says.{ListSays};
 
 // The longest line of a stream, and that of the total.
 const LINE_SIZE: usize = 26;

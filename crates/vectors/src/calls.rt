@@ -18,6 +18,8 @@ pub fn call(kind: u8, number: u32, given: &[u8], out: &mut [u8]) -> Answer {
         9 => plant_trials::move_forward(given, out),
         10 => plant_trials::move_home(given, out),
         11 => purchase_trials::buy(given, out),
+        12 => survey_trials::survey(given, out),
+        13 => survey_trials::survey_text(given, out),
         _ => no_case(),
     }
 }

@@ -29,11 +29,14 @@
 //!
 //! [`meters_to_buy`] says which streams to meter, at the least price, so that no record is [`Record::Withheld`] any more.
 //!
+//! [`layouts`] counts, for each number of meters, the ways to lay them out that leave no flow unknown.
+//!
 //! A caller who has memory of its own uses [`balance_into`], [`Plant::write_into`], [`plant_from_transmitter_into`],
 //! [`to_ranged_into`] and [`from_ranged_into`], which allocate nothing.
 #![deny(missing_docs)]
 #![deny(unsafe_op_in_unsafe_fn)]
 
+mod layouts;
 mod moves;
 mod plant;
 mod purchase;
@@ -42,6 +45,7 @@ mod refusal;
 mod sheet;
 mod transmitter;
 
+pub use layouts::{layouts, MAX_SURVEYED};
 pub use moves::{from_ranged, from_ranged_into, to_ranged, to_ranged_into};
 pub use plant::Plant;
 pub use purchase::{meters_to_buy, Purchase};

@@ -67,6 +67,13 @@ extern "C" {
         count: *mut usize,
         price: *mut u32,
     ) -> u8;
+    fn wengeludo_layouts_of(
+        file: *const u8,
+        file_length: usize,
+        counts: *mut u16,
+        counts_length: usize,
+        count: *mut usize,
+    ) -> u8;
 }
 
 // A length is 64 bits wide in the archive.
@@ -212,4 +219,12 @@ pub fn meters_to_buy(file: &[u8], prices: &[u32], streams: &mut [u8], count: &mu
             price,
         )
     }
+}
+
+/// The survey of meter layouts. 0: at index k of `counts`, for each k from 0 to `count`, how many choices of k metered streams
+/// leave none withheld, `count` being how many streams there are. Another number: a refusal; `count` is 0, `counts` is as it
+/// was. A slice with room for fewer than 13 counts is refused as 1.
+pub fn layouts_of(file: &[u8], counts: &mut [u16], count: &mut usize) -> u8 {
+    // SAFETY: as above.
+    unsafe { wengeludo_layouts_of(file.as_ptr(), file.len(), counts.as_mut_ptr(), counts.len(), count) }
 }

@@ -23,7 +23,7 @@ impl Places {
 #[derive(Clone, Copy, Debug, PartialEq, Eq, Hash)]
 pub enum Refusal {
     /// Sheet slice under 879 bytes; for the plant writer, the translator and the moves, slice under 1,636; for the sheet reader and
-    /// meters to buy, a slice under 96 elements.
+    /// meters to buy, a slice under 96 elements; for the survey, one under 13.
     SliceTooShort,
     /// Last sheet number is 4,294,967,295.
     NoSheetNumber,
@@ -66,10 +66,12 @@ pub enum Refusal {
     Narrower,
     /// For meters to buy: the prices are not one for each unmetered stream, or one is 0 or over 1,000,000.
     Prices,
+    /// More streams than the 12 of which layouts are surveyed.
+    TooManyToSurvey,
 }
 
 /// Number and text of each refusal.
-const ALL: [(u8, Refusal, &str); 21] = [
+const ALL: [(u8, Refusal, &str); 22] = [
     (
         1,
         Refusal::SliceTooShort,
@@ -95,6 +97,7 @@ const ALL: [(u8, Refusal, &str); 21] = [
     (19, Refusal::NoFlow(Places(0)), "no balanced flow lies within all ranges"),
     (20, Refusal::Narrower, "moving home, a range is narrower than the widest"),
     (21, Refusal::Prices, "prices are not one for each unmetered stream, or one is 0 or over 1,000,000"),
+    (23, Refusal::TooManyToSurvey, "more than the 12 streams of which layouts are surveyed"),
 ];
 
 impl Refusal {

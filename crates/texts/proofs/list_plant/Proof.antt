@@ -6,7 +6,8 @@ use mathlib.Core.Path.{refl}
 use borrow.Author.Tests.{not-true, not-false}
 use Rattle.plants.specs.Says.{plantOf}
 use Rattle.sheets.proofs.Promise.{plant-accepted, outcome-balance, outcome-overfull}
-use Rattle.texts.proofs.Promise.{too-short, file-refused, plant-listed, plant-overfilled, put-counts}
+use Rattle.listings.proofs.Sizes.{put-counts}
+use Rattle.texts.proofs.Promise.{too-short, file-refused, plant-listed, plant-overfilled}
 use Rattle.texts.proofs.list_plant.Statement.{statement}
 use Rattle.texts.proofs.list_plant.Tie as tie
 

@@ -4,8 +4,8 @@ use borrow.Author.Needs.{needs}
 use Prim.Native.Nat.{_-_, _≤_}
 use lib.ListN.{length}
 use lib.Seq.{length-take-le}
-use Rattle.balance.proofs.read_input.Statement.{statement}
-use Rattle.balance.proofs.read_input.Tie as tie
+use Rattle.inputs.proofs.read_input.Statement.{statement}
+use Rattle.inputs.proofs.read_input.Tie as tie
 
 abbrev Inv-loop : tie.InvT-loop
 Inv-loop file₀ size₀ file size = (size ≤ length file) × (length file ≡ length file₀)

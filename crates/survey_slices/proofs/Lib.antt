@@ -1,0 +1,2 @@
+-- Laws of a survey that is handed over.
+pub mod Lending

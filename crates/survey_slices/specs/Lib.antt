@@ -1,0 +1,2 @@
+-- A survey, handed over in a slice.
+pub mod Lent

@@ -1,0 +1,64 @@
+// The survey of a plant file, as text.
+use listings::put_refusal;
+use numerals::put_byte;
+use numerals::put_decimal;
+use numerals::put_field;
+use surveyor::layouts_of;
+use surveys::SURVEY_SIZE;
+ghost use Prim.Native.Nat.{_+_, _≤_};
+ghost use mathlib.Core.List.{_++_};
+ghost use lib.ListN.{length, take};
+ghost use Rattle.numbers.specs.Inner.{Put};
+ghost use Rattle.numerals.specs.Adding.{Added};
+ghost use Rattle.listings.specs.Room.{Counts};
+ghost use Rattle.surveys.specs.Says.{surveySize};
+ghost use Rattle.survey_texts.specs.Text.{lineOf, linesFrom};
+ghost use Rattle.survey_texts.specs.Says.{leastText, TextSays};
+
+// The longest line.
+const LINE_SIZE: usize = 9;
+
+// The least slice that is taken: as many lines as there may be.
+pub const LEAST_TEXT: usize = SURVEY_SIZE * LINE_SIZE;
+
+// The line of a size: k, count.
+fn put_line(k: usize, count: u16, at: usize, out: &mut [u8]) -> usize
+    requires { ⌜ at + length (lineOf k count) ≤ length (now out) ⌝ }
+    ensures { λ r. ⌜ Added (lineOf k count) at (now (out .entry)) (now (out .exit)) r ⌝ }
+{
+    let a = put_field(k as u64, at, out);
+    let b = put_decimal(count as u64, a, out);
+    put_byte(b'\n', b, out)
+}
+
+// The lines of the first so many sizes, and how long they are.
+fn put_lines(size: usize, counts: [u16; SURVEY_SIZE], out: &mut [u8]) -> usize
+    requires { ⌜ (size ≤ surveySize) × (leastText ≤ length (now out)) ⌝ }
+    ensures { λ r. ⌜ Put (linesFrom 0 (take size counts)) (now (out .entry)) (now (out .exit)) r ⌝ }
+{
+    let mut at: usize = 0;
+    let mut k: usize = 0;
+    while k < size {
+        at = put_line(k, counts[k], at, out);
+        k += 1;
+    }
+    at
+}
+
+// The survey of a plant file, a line for each size, or the text of its refusal, and how long it is. Nothing where the slice is
+// too short.
+pub fn list_layouts(file: &[u8], text: &mut [u8]) -> usize
+    ensures { λ r. ⌜ TextSays (now (file .entry)) (now (text .entry)) (now (text .exit)) r ⌝ }
+    ensures { λ r. ⌜ Counts r (now (text .exit)) ⌝ }
+{
+    if text.len() < LEAST_TEXT {
+        return 0;
+    }
+    let layouts = layouts_of(file);
+    let number = layouts.number;
+    if number != 0 {
+        return put_refusal(number, text);
+    }
+    let counts = layouts.counts;
+    put_lines(layouts.count as usize + 1, counts, text)
+}
