@@ -1,11 +1,11 @@
--- `settling::nearest` meets its contract: every part fits, by the bounds of weight, reading and prices.
+-- `amounts::nearest` meets its contract: every part fits, by the bounds of weight, reading and prices.
 use native.Mathlib.Nat.{div-le-self}
 use native.Mathlib.Omega.{arith}
 use Prim.Native.Nat.{ℕ, _+_, _/_, _<_}
 use borrow.Author.Tests.{le-leb, lt-leb}
 use borrow.Author.Needs.{needs}
-use Rattle.settling.proofs.nearest.Statement.{statement}
-use Rattle.settling.proofs.nearest.Tie as tie
+use Rattle.amounts.proofs.nearest.Statement.{statement}
+use Rattle.amounts.proofs.nearest.Tie as tie
 use Rattle.lanes.proofs.slacks.minus.Reads as minus-reads
 
 add-if1 : tie.Need-add-if1

@@ -1,8 +1,8 @@
--- `settling::clamp` meets its contract: by its two tests.
+-- `amounts::clamp` meets its contract: by its two tests.
 use borrow.Author.Tests.{lt-ltb, le-ltb}
 use native.Mathlib.Omega.{arith}
-use Rattle.settling.proofs.clamp.Statement.{statement}
-use Rattle.settling.proofs.clamp.Tie as tie
+use Rattle.amounts.proofs.clamp.Statement.{statement}
+use Rattle.amounts.proofs.clamp.Tie as tie
 
 returns : tie.Need-returns
 returns c = rw (lt-ltb _ _ (c .if1 .taken))

@@ -1,15 +1,15 @@
--- `settling::amount_at` meets its contract: the nearest amount, brought into the range.
+-- `amounts::amount_at` meets its contract: the nearest amount, brought into the range.
 use native.Mathlib.Omega.{arith}
 use Rattle.model.proofs.Weights.{weight-most, weight-least}
 use borrow.Author.Needs.{needs}
-use Rattle.settling.proofs.amount_at.Statement.{statement}
-use Rattle.settling.proofs.amount_at.Tie as tie
+use Rattle.amounts.proofs.amount_at.Statement.{statement}
+use Rattle.amounts.proofs.amount_at.Tie as tie
 use Rattle.lanes.proofs.slacks.high_of.Reads as high-of-reads
 use Rattle.lanes.proofs.slacks.low_of.Reads as low-of-reads
 use Rattle.lanes.proofs.slacks.reading_of.Reads as reading-of-reads
 use Rattle.lanes.proofs.slacks.weight_of.Reads as weight-of-reads
-use Rattle.settling.proofs.clamp.Reads as clamp-reads
-use Rattle.settling.proofs.nearest.Reads as nearest-reads
+use Rattle.amounts.proofs.clamp.Reads as clamp-reads
+use Rattle.amounts.proofs.nearest.Reads as nearest-reads
 
 weight-of-requires : tie.Need-weight-of-requires
 weight-of-requires c κs = search needs
