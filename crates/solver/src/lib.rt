@@ -1,7 +1,6 @@
 // The cheapest balanced flow of a plant, with prices that certify it; or a set of places that must take in more than it can let out.
 use improving::finishing::finish;
-use improving::ties::tie_all;
-use lanes::lay;
+use laying::lay;
 use model::Hint;
 use model::Solved;
 use model::State;
@@ -10,6 +9,7 @@ use plants::limits::MAX_STREAMS;
 use plants::limits::PLACES;
 use settling::settle;
 use starts::start;
+use ties::tie_all;
 ghost use mathlib.Core.Path.{_≡_};
 ghost use mathlib.Core.Bool.{_&&_};
 ghost use lib.Dec.{leb};
