@@ -1,4 +1,4 @@
--- `solver::starts::start` meets its contract: the prices are by label, and what is routed leaves the metered amounts settled.
+-- `starts::start` meets its contract: the prices are by label, and what is routed leaves the metered amounts settled.
 use mathlib.Core.Path.{subst}
 use mathlib.Core.List.{List}
 use Prim.Native.Nat.{ℕ}
@@ -14,9 +14,9 @@ use Rattle.model.proofs.Booking.{nets-long}
 use Rattle.model.proofs.Layouts.{ready-settles}
 use Rattle.model.proofs.Theorem.{network-of}
 use Rattle.routing.proofs.Spanning.{routes-none, routes-amounts}
-use Rattle.solver.proofs.Factored.{labels-of, level-ready, level-routes, routed-start}
-use Rattle.solver.proofs.starts.start.Statement.{statement}
-use Rattle.solver.proofs.starts.start.Tie as tie
+use Rattle.starts.proofs.Factored.{labels-of, level-ready, level-routes, routed-start}
+use Rattle.starts.proofs.start.Statement.{statement}
+use Rattle.starts.proofs.start.Tie as tie
 
 levels : (c : tie.After-potentials-of) → Level (labelsOf unmeteredOnly (plantOf (c .before .args .p))) priceShift priceSpread (c .potentials-of .result)
 levels c = subst (λ (ls : List ℕ). Level ls priceShift priceSpread (c .potentials-of .result)) (labels-are (c .before .args .p) (c .before .pre .0) unmeteredOnly _ (c .before .pre .1)) (c .potentials-of .ensures)

@@ -1,7 +1,7 @@
--- `solver::own_mark` meets its contract: by the mark.
+-- `outcomes::own_mark` meets its contract: by the mark.
 use borrow.Author.Needs.{needs}
-use Rattle.solver.proofs.own_mark.Statement.{statement}
-use Rattle.solver.proofs.own_mark.Tie as tie
+use Rattle.outcomes.proofs.own_mark.Statement.{statement}
+use Rattle.outcomes.proofs.own_mark.Tie as tie
 
 returns : tie.Need-returns
 returns c = rw (c .if1 .taken)

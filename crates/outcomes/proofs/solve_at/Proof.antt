@@ -1,10 +1,10 @@
--- `solver::solve_at` meets its contract: what the code computes is what the definitions give, and that is right.
+-- `outcomes::solve_at` meets its contract: what the code computes is what the definitions give, and that is right.
 use borrow.Author.Needs.{needs}
 use Rattle.model.specs.SolverNeeds.{Tieable}
 use Rattle.model.proofs.Theorem.{network-of}
-use Rattle.solver.proofs.Solving.{full-right, tieable, found-right}
-use Rattle.solver.proofs.solve_at.Statement.{statement}
-use Rattle.solver.proofs.solve_at.Tie as tie
+use Rattle.outcomes.proofs.Solving.{full-right, tieable, found-right}
+use Rattle.outcomes.proofs.solve_at.Statement.{statement}
+use Rattle.outcomes.proofs.solve_at.Tie as tie
 
 -- The end of the phases, from where its outcome is known.
 abbrev ended : tie.After-flows → tie.After-finish
