@@ -16,10 +16,10 @@ ghost use mathlib.Core.Path.{_≡_};
 ghost use Prim.Native.Nat.{_<_, _≤_};
 ghost use lib.ListN.{length};
 ghost use Rattle.plants.specs.Limits.{maxStreams, places};
-ghost use Rattle.laplacians.specs.Cells.{Ends, cells, meterCells};
+ghost use Rattle.meters.specs.Ends.{Ends, meterCells};
+ghost use Rattle.laplacians.specs.Cells.{cells};
 
 mod elimination;
-pub mod meters;
 
 // Each row of the equations: its right-hand side, then a coefficient for each place.
 const WIDTH: usize = PLACES + 1;

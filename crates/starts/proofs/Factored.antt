@@ -14,8 +14,8 @@ use Rattle.plants.specs.Says.{plantOf}
 use Rattle.plants.proofs.Arrayed.{all-listed, listed-at, within-of}
 use Rattle.flows.specs.Chains.{unmeteredOnly}
 use Rattle.flows.specs.Labels.{labelsOf}
-use Rattle.laplacians.specs.Cells.{Labels}
-use Rattle.potentials.specs.Levels.{Level}
+use Rattle.meters.specs.Ends.{Labels}
+use Rattle.wholes.specs.Levels.{Level}
 use Rattle.model.specs.Sizes.{flowShift, priceShift, priceSpread, hintRoom}
 use Rattle.model.specs.declared.Hint.{Hint}
 use Rattle.model.specs.Model.{settledTo, netsTo, stateOf}

@@ -8,7 +8,7 @@ use Rattle.plants.specs.Says.{plantOf}
 use Rattle.flows.specs.Chains.{unmeteredOnly}
 use Rattle.flows.specs.Labels.{labelsOf}
 use Rattle.flows.proofs.Grouping.{labels-are}
-use Rattle.potentials.specs.Levels.{Level}
+use Rattle.wholes.specs.Levels.{Level}
 use Rattle.model.specs.Sizes.{priceShift, priceSpread}
 use Rattle.model.proofs.Booking.{nets-long}
 use Rattle.model.proofs.Layouts.{ready-settles}
