@@ -20,13 +20,13 @@ use Rattle.model.specs.Sizes.{flowShift, priceShift, priceSpread, hintRoom}
 use Rattle.model.specs.declared.Hint.{Hint}
 use Rattle.model.specs.Model.{settledTo, netsTo, stateOf}
 use Rattle.model.specs.SolverNeeds.{Hinted, Ready, AtHint}
-use Rattle.routing.specs.Forests.{Routes, Kept}
+use Rattle.routing.specs.Routes.{Routes, Kept}
 use Rattle.flows.proofs.Nets.{inside-of}
 use Rattle.flows.proofs.Labels.{label-long, label-low, label-level}
 use Rattle.model.proofs.Nearest.{settled-long, settled-at, settled-again, settled-free}
 use Rattle.model.proofs.Layouts.{hinted-ready, ready-amounts, settled-is}
 use Rattle.model.proofs.Theorem.{network-of, solvable-in}
-use Rattle.routing.proofs.Spanning.{routes-none}
+use Rattle.routing.proofs.Routes.{routes-none}
 
 module _ (p : Arrays.Plant) (a : Accepted p) where
   pub labels-of : Labels (labelsOf unmeteredOnly (plantOf p))

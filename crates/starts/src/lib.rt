@@ -8,10 +8,10 @@ use plants::Plant;
 use plants::limits::MAX_STREAMS;
 use plants::limits::PLACES;
 use potentials::potentials_of;
-use routing::forests::forest;
-use routing::forests::route;
+use routing::route;
 use settling::nets_of;
 use settling::settle_flows;
+use spanning::span;
 ghost use Rattle.plants.specs.Within.{Accepted};
 ghost use Rattle.plants.specs.Says.{plantOf};
 ghost use Rattle.flows.specs.Calls.{Grouped};
@@ -31,7 +31,7 @@ pub fn start(p: Plant, labels: [u8; PLACES]) -> State
     route(
         streams,
         count,
-        forest(streams, count, labels),
+        span(streams, count, labels),
         &mut given,
         &mut flows,
     );

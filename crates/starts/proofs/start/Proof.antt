@@ -13,7 +13,7 @@ use Rattle.model.specs.Sizes.{priceShift, priceSpread}
 use Rattle.model.proofs.Booking.{nets-long}
 use Rattle.model.proofs.Layouts.{ready-settles}
 use Rattle.model.proofs.Theorem.{network-of}
-use Rattle.routing.proofs.Spanning.{routes-none, routes-amounts}
+use Rattle.routing.proofs.Routes.{routes-none, routes-amounts}
 use Rattle.starts.proofs.Factored.{labels-of, level-ready, level-routes, routed-start}
 use Rattle.starts.proofs.start.Statement.{statement}
 use Rattle.starts.proofs.start.Tie as tie
@@ -41,8 +41,8 @@ nets-of-requires c κs =
     let p = st .args .p in
     (network-of p (st .pre .0), rw (c .settle-flows .ensures) (routes-amounts (level-routes p (st .pre .0) (levels at))))
 
-forest-requires : tie.Need-forest-requires
-forest-requires c κs =
+span-requires : tie.Need-span-requires
+span-requires c κs =
     let st = c .before .before .before .before .before .before .before in
     network-of (st .args .p) (st .pre .0)
 
@@ -53,7 +53,7 @@ route-requires c κs =
     let st = at .before in
     let p = st .args .p in (
       network-of p (st .pre .0),
-      f .forest .ensures,
+      f .span .ensures,
       rw (f .before .nets-of .ensures) (nets-long _ _ (p .count)),
       rw (f .before .before .settle-flows .ensures) (level-routes p (st .pre .0) (levels at)),
     )
@@ -79,7 +79,7 @@ start-spec =
     cast-count
     settle-flows-requires
     nets-of-requires
-    forest-requires
+    span-requires
     route-requires
     nets-of-requires-2
     returns)

@@ -1,11 +1,11 @@
--- `routing::forests::forest` meets its contract: each pass keeps what is asked of a forest, and what is grown from the labels can be
+-- `spanning::span` meets its contract: each pass keeps what is asked of a forest, and what is grown from the labels can be
 -- routed along.
 use native.Mathlib.Omega.{arith}
 use borrow.Author.Needs.{needs}
-use Rattle.routing.specs.Forests.{Spanning, Listed}
-use Rattle.routing.proofs.Spanning.{spanning-short}
-use Rattle.routing.proofs.forests.forest.Statement.{statement}
-use Rattle.routing.proofs.forests.forest.Tie as tie
+use Rattle.spanning.specs.Forests.{Spanning, Listed}
+use Rattle.spanning.proofs.Spanning.{spanning-short}
+use Rattle.spanning.proofs.span.Statement.{statement}
+use Rattle.spanning.proofs.span.Tie as tie
 
 abbrev Inv-loop : tie.InvT-loop
 Inv-loop streams count reached₀ all via₀ into₀ len₀ left₀ reached via into len left = Spanning reached via into len × Listed streams count via len
@@ -42,8 +42,8 @@ returns c =
     let s = c .before .loop .inv .0 in
     record { vias = s .vias; intos = s .intos; short = spanning-short s; listed = c .before .loop .inv .1 }
 
-pub forest-spec : {M : Type 1} → statement M
-forest-spec =
+pub span-spec : {M : Type 1} → statement M
+span-spec =
     tie.close
     (tie.spec
     Inv-loop

@@ -1,8 +1,8 @@
--- `routing::forests::reach` meets its contract: one place more is reached, over one stream more.
+-- `spanning::reach` meets its contract: one place more is reached, over one stream more.
 use borrow.Author.Needs.{needs}
-use Rattle.routing.proofs.Spanning.{spanning-room, spanning-grown, listed-grown}
-use Rattle.routing.proofs.forests.reach.Statement.{statement}
-use Rattle.routing.proofs.forests.reach.Tie as tie
+use Rattle.spanning.proofs.Spanning.{spanning-room, spanning-grown, listed-grown}
+use Rattle.spanning.proofs.reach.Statement.{statement}
+use Rattle.spanning.proofs.reach.Tie as tie
 
 element-copy-out-if1 : tie.Need-element-copy-out-if1
 element-copy-out-if1 c = search needs

@@ -1,11 +1,11 @@
--- `routing::forests::pass` meets its contract: each stream keeps what is asked of a forest.
+-- `spanning::pass` meets its contract: each stream keeps what is asked of a forest.
 use mathlib.Core.Path.{refl}
 use Prim.Native.Nat.{_≤_, _-_}
 use native.Mathlib.Omega.{arith}
 use borrow.Author.Needs.{needs}
-use Rattle.routing.specs.Forests.{Spanning, Listed}
-use Rattle.routing.proofs.forests.pass.Statement.{statement}
-use Rattle.routing.proofs.forests.pass.Tie as tie
+use Rattle.spanning.specs.Forests.{Spanning, Listed}
+use Rattle.spanning.proofs.pass.Statement.{statement}
+use Rattle.spanning.proofs.pass.Tie as tie
 
 abbrev Inv-loop : tie.InvT-loop
 Inv-loop count reached₀ via₀ into₀ start streams len₀ i₀ reached via into len i = (i ≤ count) × Spanning reached via into len × Listed streams count via len

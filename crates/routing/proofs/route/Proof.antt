@@ -1,14 +1,15 @@
--- `routing::forests::route` meets its contract: each stream routed keeps the lengths and the room, and the metered amounts.
+-- `routing::route` meets its contract: each stream routed keeps the lengths and the room, and the metered amounts.
 use mathlib.Core.Path.{_≡_, refl}
 use Prim.Native.Nat.{_≤_, _<_, _-_}
 use native.Mathlib.Omega.{arith}
 use lib.ListN.{length, getD, take}
 use borrow.Author.Needs.{needs}
 use Rattle.plants.specs.Limits.{places, maxStreams}
-use Rattle.routing.specs.Forests.{Unmetered, Routes, Kept}
-use Rattle.routing.proofs.Spanning.{routes-set, kept-set}
-use Rattle.routing.proofs.forests.route.Statement.{statement}
-use Rattle.routing.proofs.forests.route.Tie as tie
+use Rattle.spanning.specs.Forests.{Unmetered}
+use Rattle.routing.specs.Routes.{Routes, Kept}
+use Rattle.routing.proofs.Routes.{routes-set, kept-set}
+use Rattle.routing.proofs.route.Statement.{statement}
+use Rattle.routing.proofs.route.Tie as tie
 
 abbrev Inv-loop : tie.InvT-loop
 Inv-loop count nets₀ flows₀ streams f k₀ nets flows k = (k ≤ f .len) × (length nets ≡ places) × Routes (take count streams) flows × Kept streams count flows₀ flows

@@ -1,9 +1,9 @@
--- `routing::forests::along` meets its contract: what is reached is reached over stream i, which is unmetered.
+-- `spanning::along` meets its contract: what is reached is reached over stream i, which is unmetered.
 use mathlib.Core.Path.{_∙_, ap}
 use borrow.Author.Needs.{needs}
 use Rattle.plants.specs.declared.Stream.{Stream}
-use Rattle.routing.proofs.forests.along.Statement.{statement}
-use Rattle.routing.proofs.forests.along.Tie as tie
+use Rattle.spanning.proofs.along.Statement.{statement}
+use Rattle.spanning.proofs.along.Tie as tie
 
 returns : tie.Need-returns
 returns c = search needs

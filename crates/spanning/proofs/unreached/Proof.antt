@@ -1,9 +1,9 @@
--- `routing::forests::unreached` meets its contract: every place looked at is one of the array.
+-- `spanning::unreached` meets its contract: every place looked at is one of the array.
 use Prim.Native.Nat.{_≤_, _-_}
 use borrow.Author.Needs.{needs}
 use Rattle.plants.specs.Limits.{places}
-use Rattle.routing.proofs.forests.unreached.Statement.{statement}
-use Rattle.routing.proofs.forests.unreached.Tie as tie
+use Rattle.spanning.proofs.unreached.Statement.{statement}
+use Rattle.spanning.proofs.unreached.Tie as tie
 
 abbrev Inv-loop : tie.InvT-loop
 Inv-loop reached c₀ u₀ c u = (u ≤ places) × (c ≤ u)

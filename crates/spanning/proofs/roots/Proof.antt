@@ -1,12 +1,12 @@
--- `routing::forests::roots` meets its contract: each store keeps the length.
+-- `spanning::roots` meets its contract: each store keeps the length.
 use mathlib.Core.Path.{_≡_}
 use Prim.Native.Nat.{_≤_, _-_}
 use native.Mathlib.Omega.{arith}
 use lib.ListN.{length}
 use borrow.Author.Needs.{needs}
 use Rattle.plants.specs.Limits.{places}
-use Rattle.routing.proofs.forests.roots.Statement.{statement}
-use Rattle.routing.proofs.forests.roots.Tie as tie
+use Rattle.spanning.proofs.roots.Statement.{statement}
+use Rattle.spanning.proofs.roots.Tie as tie
 
 abbrev Inv-loop : tie.InvT-loop
 Inv-loop labels reached₀ u₀ reached u = (u ≤ places) × (length reached ≡ places)

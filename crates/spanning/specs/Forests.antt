@@ -1,16 +1,13 @@
--- What is asked of a spanning forest and of the amounts routed along it: ranges, and that metered amounts stay as they are.
+-- What is asked of a spanning forest: ranges, and that its streams are unmetered.
 use mathlib.Core.Path.{_≡_}
-use mathlib.Core.Bool.{Bool, true, false}
+use mathlib.Core.Bool.{Bool, false}
 use mathlib.Core.List.{List}
 use Prim.Native.Nat.{ℕ, _≤_, _<_}
 use lib.ListN.{length, getD}
 use Rattle.plants.specs.declared.Stream.{Stream}
-use Rattle.plants.specs.Limits.{places, maxUnits, maxStreams}
+use Rattle.plants.specs.Limits.{places, maxUnits}
 use Rattle.plants.specs.Plants.{noStream}
-use Rattle.routing.specs.declared.Forest.{Forest}
-use Rattle.flows.specs.Flows.{streamAt}
-use Rattle.model.specs.Sizes.{mostFlow, hintRoom}
-use Rattle.model.specs.SearchNeeds.{Close}
+use Rattle.spanning.specs.declared.Forest.{Forest}
 use Rattle.model.specs.Counts.{countTo}
 
 -- A forest of len streams, with as many places reached, at least.
@@ -34,13 +31,3 @@ pub record Routable (streams : List Stream) (n : ℕ) (f : Forest) : Type 0 wher
   pub intos : length (f .into) ≡ places
   pub short : f .len ≤ places
   pub listed : Listed streams n (f .via) (f .len)
-
--- Held amounts of the streams ss: those of unmetered streams are within the hint's room.
-pub record Routes (ss : List Stream) (xs : List ℕ) : Type 0 where
-  pub long : length xs ≡ maxStreams
-  pub most : (k : ℕ) → k < maxStreams → getD xs k 0 ≤ mostFlow
-  pub close : (k : ℕ) → k < maxStreams → streamAt ss k .metered ≡ false → Close hintRoom (getD xs k 0)
-
--- The metered ones of the first n streams carry in ys what they carry in xs.
-pub record Kept (streams : List Stream) (n : ℕ) (xs ys : List ℕ) : Type 0 where
-  pub each : (k : ℕ) → k < n → getD streams k noStream .metered ≡ true → getD ys k 0 ≡ getD xs k 0
