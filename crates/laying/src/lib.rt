@@ -19,11 +19,29 @@ use lanes::start_at;
 use plants::Stream;
 use plants::limits::MAX_STREAMS;
 ghost use mathlib.Core.Path.{_≡_};
-ghost use Prim.Native.Nat.{ℕ, _≤_, _<_};
+ghost use Prim.Native.Nat.{ℕ, _*_, _≤_, _<_};
 ghost use lib.ListN.{getD, length};
-ghost use Rattle.plants.specs.Limits.{places};
+ghost use Rattle.plants.specs.Limits.{maxUnits, maxStreams, places};
+ghost use Rattle.plants.specs.Within.{WithinStream};
+ghost use Rattle.flows.specs.Certificate.{weightOf};
+ghost use Rattle.model.specs.Sizes.{mostPull};
+ghost use Rattle.model.specs.Held.{readingOf};
 ghost use Rattle.model.specs.Rows.{rowAt, laneCells, startsOf, endsOf};
 ghost use Rattle.model.specs.SearchNeeds.{Network, Rowed, Linkable, Linked, Laid};
+ghost use Rattle.laying.specs.Stores.{rowPut, linkPut};
+
+// The numbers of stream i, each in its row.
+fn put_row(lanes: &mut [u64; LANES], i: usize, s: Stream)
+    requires { ⌜ (length (now lanes) ≡ laneCells) × (i < maxStreams) × WithinStream maxUnits s ⌝ }
+    ensures { λ _. ⌜ (now (lanes .exit) ≡ rowPut i s (now (lanes .entry))) × (weightOf s * readingOf s ≤ mostPull) ⌝ }
+{
+    lanes[STARTS + i] = s.from as u64;
+    lanes[ENDS + i] = s.to as u64;
+    lanes[WEIGHTS + i] = weight_of(s);
+    lanes[PULLS + i] = 2 * pull_of_reading(s);
+    lanes[LOWS + i] = low_of(s);
+    lanes[HIGHS + i] = high_of(s);
+}
 
 // The rows of the streams' own numbers.
 fn put_rows(streams: [Stream; MAX_STREAMS], count: usize, lanes: &mut [u64; LANES])
@@ -32,15 +50,22 @@ fn put_rows(streams: [Stream; MAX_STREAMS], count: usize, lanes: &mut [u64; LANE
 {
     let mut i: usize = 0;
     while i < count {
-        let s = streams[i];
-        lanes[STARTS + i] = s.from as u64;
-        lanes[ENDS + i] = s.to as u64;
-        lanes[WEIGHTS + i] = weight_of(s);
-        lanes[PULLS + i] = 2 * pull_of_reading(s);
-        lanes[LOWS + i] = low_of(s);
-        lanes[HIGHS + i] = high_of(s);
+        put_row(lanes, i, streams[i]);
         i += 1;
     }
+}
+
+// Stream i becomes the last in the lists of its start and of its end.
+fn link_at(lanes: &mut [u64; LANES], i: usize)
+    requires { ⌜ (length (now lanes) ≡ laneCells) × (i < maxStreams) × (getD (startsOf (now lanes)) i 0 < places) × (getD (endsOf (now lanes)) i 0 < places) ⌝ }
+    ensures { λ _. ⌜ now (lanes .exit) ≡ linkPut i (getD (startsOf (now (lanes .entry))) i 0) (getD (endsOf (now (lanes .entry))) i 0) (now (lanes .entry)) ⌝ }
+{
+    let u = start_at(lanes, i);
+    let v = end_at(lanes, i);
+    lanes[OUT + i] = lanes[u];
+    lanes[INTO + i] = lanes[v];
+    lanes[v] = 2 * i as u64;
+    lanes[u] = 2 * i as u64 + 1;
 }
 
 // The lists of each place's streams, none there yet.
@@ -50,12 +75,7 @@ fn link(count: usize, lanes: &mut [u64; LANES])
 {
     let mut i: usize = 0;
     while i < count {
-        let u = start_at(lanes, i);
-        let v = end_at(lanes, i);
-        lanes[OUT + i] = lanes[u];
-        lanes[INTO + i] = lanes[v];
-        lanes[v] = 2 * i as u64;
-        lanes[u] = 2 * i as u64 + 1;
+        link_at(lanes, i);
         i += 1;
     }
 }

@@ -1,8 +1,8 @@
 -- `laying::link` meets its contract: the first i streams are in the lists, and the other rows are as they were.
-use mathlib.Core.Path.{_≡_, refl, _∙_}
-use Prim.Native.Nat.{ℕ, _+_, _*_, _≤_, _<_, _-_}
+use mathlib.Core.Path.{_≡_, refl, sym, _∙_}
+use Prim.Native.Nat.{ℕ, _≤_, _<_, _-_}
 use native.Mathlib.Omega.{arith}
-use lib.ListN.{getD, set}
+use lib.ListN.{getD}
 use Rattle.plants.specs.Limits.{places, maxStreams}
 use Rattle.model.specs.Rows.{rowAt, startsOf, endsOf}
 use Rattle.model.specs.SearchNeeds.{Linked}
@@ -18,87 +18,27 @@ Inv-loop count lanes₀ i₀ lanes i = (i ≤ count) × Linked i (startsOf lanes
 abbrev μ-loop : tie.MeasureT-loop
 μ-loop count lanes₀ i₀ lanes i = count - i
 
--- The turn of the loop, and the start.
-abbrev turn : tie.After-start-at Inv-loop μ-loop → tie.At-loop Inv-loop μ-loop
-turn c = c .before .before .before
+low : (c : tie.In-loop Inv-loop μ-loop) → c .before .loop .i < maxStreams
+low c = omega (arith, c .loop-test .taken, c .before .before .pre .few)
 
-abbrev start : tie.After-start-at Inv-loop μ-loop → tie.Start Inv-loop μ-loop
-start c = c .before .before .before .before
+-- The stream's start and its end are what they were at first, and places.
+from-is : (c : tie.In-loop Inv-loop μ-loop) → getD (startsOf (c .before .loop .lanes)) (c .before .loop .i) 0 ≡ getD (startsOf (c .before .before .args .lanes .now)) (c .before .loop .i) 0
+from-is c = row-same (c .before .loop .lanes) (c .before .before .args .lanes .now) (c .before .loop .inv .2) 2 (c .before .loop .i) (omega arith)
 
-low : (c : tie.After-start-at Inv-loop μ-loop) → turn c .loop .i < maxStreams
-low c = omega (arith, c .before .before .loop-test .taken, start c .pre .few)
+from-in : (c : tie.In-loop Inv-loop μ-loop) → getD (startsOf (c .before .loop .lanes)) (c .before .loop .i) 0 < places
+from-in c = rw (from-is c) (c .before .before .pre .from-in _ (c .loop-test .taken))
 
-from-is : (c : tie.After-start-at Inv-loop μ-loop) → c .start-at .result ≡ getD (startsOf (start c .args .lanes .now)) (turn c .loop .i) 0
-from-is c = c .start-at .ensures ∙ row-same (turn c .loop .lanes) (start c .args .lanes .now) (turn c .loop .inv .2) 2 (turn c .loop .i) (omega arith)
+to-is : (c : tie.In-loop Inv-loop μ-loop) → getD (endsOf (c .before .loop .lanes)) (c .before .loop .i) 0 ≡ getD (endsOf (c .before .before .args .lanes .now)) (c .before .loop .i) 0
+to-is c = row-same (c .before .loop .lanes) (c .before .before .args .lanes .now) (c .before .loop .inv .2) 3 (c .before .loop .i) (omega arith)
 
-from-in : (c : tie.After-start-at Inv-loop μ-loop) → c .start-at .result < places
-from-in c = rw (from-is c) (start c .pre .from-in _ (c .before .before .loop-test .taken))
-
-to-is : (c : tie.After-end-at Inv-loop μ-loop) → c .end-at .result ≡ getD (endsOf (start (c .before .before) .args .lanes .now)) (turn (c .before .before) .loop .i) 0
-to-is c = c .end-at .ensures ∙ row-same (turn (c .before .before) .loop .lanes) (start (c .before .before) .args .lanes .now) (turn (c .before .before) .loop .inv .2) 3 (turn (c .before .before) .loop .i) (omega arith)
-
-to-in : (c : tie.After-end-at Inv-loop μ-loop) → c .end-at .result < places
-to-in c = rw (to-is c) (start (c .before .before) .pre .to-in _ (c .before .before .before .before .loop-test .taken))
+to-in : (c : tie.In-loop Inv-loop μ-loop) → getD (endsOf (c .before .loop .lanes)) (c .before .loop .i) 0 < places
+to-in c = rw (to-is c) (c .before .before .pre .to-in _ (c .loop-test .taken))
 
 loop-holds : tie.Need-loop-holds Inv-loop μ-loop
 loop-holds c = (omega arith, link-none _ _ (c .pre), λ k l. refl)
 
-start-at-requires : tie.Need-start-at-requires Inv-loop μ-loop
-start-at-requires c κs = search needs
-
-end-at-requires : tie.Need-end-at-requires Inv-loop μ-loop
-end-at-requires c κs = search needs
-
-mul-lanes : tie.Need-mul-lanes Inv-loop μ-loop
-mul-lanes c = omega (arith, from-in (c .before .before))
-
-element-copy-out-lanes : tie.Need-element-copy-out-lanes Inv-loop μ-loop
-element-copy-out-lanes c = omega (arith, from-in (c .before .before))
-
-add-lanes : tie.Need-add-lanes Inv-loop μ-loop
-add-lanes c = omega (arith, low (c .before .before .before))
-
-mul-lanes-2 : tie.Need-mul-lanes-2 Inv-loop μ-loop
-mul-lanes-2 c = omega (arith, low (c .before .before .before))
-
-element-write-lanes : tie.Need-element-write-lanes Inv-loop μ-loop
-element-write-lanes c = omega (arith, low (c .before .before .before))
-
-mul-lanes-3 : tie.Need-mul-lanes-3 Inv-loop μ-loop
-mul-lanes-3 c = omega (arith, to-in (c .before))
-
-element-copy-out-lanes-2 : tie.Need-element-copy-out-lanes-2 Inv-loop μ-loop
-element-copy-out-lanes-2 c = omega (arith, to-in (c .before))
-
-add-lanes-2 : tie.Need-add-lanes-2 Inv-loop μ-loop
-add-lanes-2 c = omega (arith, low (c .before .before .before .before))
-
-mul-lanes-4 : tie.Need-mul-lanes-4 Inv-loop μ-loop
-mul-lanes-4 c = omega (arith, low (c .before .before .before .before))
-
-element-write-lanes-2 : tie.Need-element-write-lanes-2 Inv-loop μ-loop
-element-write-lanes-2 c = omega (arith, low (c .before .before .before .before))
-
-mul-lanes-5 : tie.Need-mul-lanes-5 Inv-loop μ-loop
-mul-lanes-5 c = omega (arith, low (c .before .before .before .before))
-
-mul-lanes-6 : tie.Need-mul-lanes-6 Inv-loop μ-loop
-mul-lanes-6 c = omega (arith, to-in (c .before .before))
-
-element-write-lanes-3 : tie.Need-element-write-lanes-3 Inv-loop μ-loop
-element-write-lanes-3 c = omega (arith, to-in (c .before .before))
-
-mul-lanes-7 : tie.Need-mul-lanes-7 Inv-loop μ-loop
-mul-lanes-7 c = omega (arith, low (c .before .before .before .before))
-
-add-lanes-3 : tie.Need-add-lanes-3 Inv-loop μ-loop
-add-lanes-3 c = omega (arith, low (c .before .before .before .before))
-
-mul-lanes-8 : tie.Need-mul-lanes-8 Inv-loop μ-loop
-mul-lanes-8 c = omega (arith, from-in (c .before .before .before .before))
-
-element-write-lanes-4 : tie.Need-element-write-lanes-4 Inv-loop μ-loop
-element-write-lanes-4 c = omega (arith, from-in (c .before .before .before .before))
+link-at-requires : tie.Need-link-at-requires Inv-loop μ-loop
+link-at-requires c κs = let at = c .before in (at .before .loop .inv .1 .long, low at, from-in at, to-in at)
 
 add-i : tie.Need-add-i Inv-loop μ-loop
 add-i c = search needs
@@ -108,12 +48,11 @@ loop-less c = search needs
 
 loop-again : tie.Need-loop-again Inv-loop μ-loop
 loop-again c =
-    let v = c .before .before in
-    let u = v .before .before in
-    let at = turn u in (
+    let on = c .before .before in
+    let at = on .before .loop in (
       omega arith,
-      link-step _ _ (at .loop .i) _ _ _ (low u) (from-is u) (to-is v) (from-in u) (to-in v) (at .loop .inv .1),
-      λ k l. linked-other (at .loop .i) (u .start-at .result) (v .end-at .result) (getD (at .loop .lanes) (u .start-at .result) 0) (getD (set (at .loop .lanes) (rowAt 0 + at .loop .i) (getD (at .loop .lanes) (u .start-at .result) 0)) (v .end-at .result) 0) (2 * at .loop .i) (2 * at .loop .i + 1) (at .loop .lanes) k (low u) (from-in u) (to-in v) l ∙ at .loop .inv .2 k l,
+      rw (c .link-at .ensures) (link-step _ _ (at .i) _ _ (at .lanes) (low on) (from-is on) (to-is on) (from-in on) (to-in on) (at .inv .1)),
+      λ k l. rw (c .link-at .ensures) (linked-other (at .i) _ _ _ _ _ _ (at .lanes) k (low on) (from-in on) (to-in on) l ∙ at .inv .2 k l),
     )
 
 returns : tie.Need-returns Inv-loop μ-loop
@@ -124,30 +63,4 @@ returns c =
 pub link-spec : {M : Type 1} → statement M
 link-spec =
     tie.close
-    (tie.spec
-    Inv-loop
-    μ-loop
-    loop-holds
-    start-at-requires
-    end-at-requires
-    mul-lanes
-    element-copy-out-lanes
-    add-lanes
-    mul-lanes-2
-    element-write-lanes
-    mul-lanes-3
-    element-copy-out-lanes-2
-    add-lanes-2
-    mul-lanes-4
-    element-write-lanes-2
-    mul-lanes-5
-    mul-lanes-6
-    element-write-lanes-3
-    mul-lanes-7
-    add-lanes-3
-    mul-lanes-8
-    element-write-lanes-4
-    add-i
-    loop-less
-    loop-again
-    returns)
+    (tie.spec Inv-loop μ-loop loop-holds link-at-requires add-i loop-less loop-again returns)
