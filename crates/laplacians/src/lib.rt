@@ -9,7 +9,6 @@ use meters::amount_at;
 use meters::conductance_at;
 use meters::end_at;
 use meters::in_range;
-use meters::reading_at;
 use meters::start_at;
 use plants::limits::PLACES;
 ghost use mathlib.Core.Path.{_≡_};
@@ -54,7 +53,7 @@ fn between(a: &mut [f64; CELLS], g: usize, h: usize, x: f64, c: f64)
     }
 }
 
-// Stream k. (With no prices yet, ranges are left out of account.)
+// Stream k. (At first, with no prices yet, ranges are left out of account.)
 fn join(
     a: &mut [f64; CELLS],
     ends: &[u8; ENDS],
@@ -69,17 +68,9 @@ fn join(
     let g = start_at(ends, k);
     let h = end_at(ends, k);
     let c = conductance_at(meters, k);
-    if first {
-        between(a, g, h, reading_at(meters, k), c);
-        return;
-    }
     let x = amount_at(meters, k, prices[h] - prices[g]);
-    let y = in_range(meters, k, x);
-    if x == y {
-        between(a, g, h, x, c);
-    } else {
-        between(a, g, h, y, c * SHUT);
-    }
+    let y = if first { x } else { in_range(meters, k, x) };
+    between(a, g, h, y, if x == y { c } else { c * SHUT });
 }
 
 // The first count streams.

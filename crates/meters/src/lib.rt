@@ -39,13 +39,6 @@ pub fn end_at(ends: &[u8; ENDS], k: usize) -> usize
     ends[2 * k + 1] as usize
 }
 
-// Its reading.
-pub fn reading_at(meters: &[f64; METERS], k: usize) -> f64
-    requires { ⌜ (length (now meters) ≡ meterCells) × (k < maxStreams) ⌝ }
-{
-    meters[4 * k]
-}
-
 // Its conductance.
 pub fn conductance_at(meters: &[f64; METERS], k: usize) -> f64
     requires { ⌜ (length (now meters) ≡ meterCells) × (k < maxStreams) ⌝ }
@@ -57,18 +50,19 @@ pub fn conductance_at(meters: &[f64; METERS], k: usize) -> f64
 pub fn amount_at(meters: &[f64; METERS], k: usize, climb: f64) -> f64
     requires { ⌜ (length (now meters) ≡ meterCells) × (k < maxStreams) ⌝ }
 {
-    reading_at(meters, k) + climb * conductance_at(meters, k)
+    meters[4 * k] + climb * conductance_at(meters, k)
 }
 
 // An amount brought into its range.
 pub fn in_range(meters: &[f64; METERS], k: usize, x: f64) -> f64
     requires { ⌜ (length (now meters) ≡ meterCells) × (k < maxStreams) ⌝ }
 {
-    let low = meters[4 * k + 2];
+    let meter = 4 * k;
+    let low = meters[meter + 2];
     if x < low {
         return low;
     }
-    let high = meters[4 * k + 3];
+    let high = meters[meter + 3];
     if high < x {
         return high;
     }
@@ -95,12 +89,14 @@ fn put(ends: &mut [u8; ENDS], meters: &mut [f64; METERS], k: usize, s: Stream, g
     requires { ⌜ Ends (now ends) × (length (now meters) ≡ meterCells) × (k < maxStreams) × (g < places) × (h < places) ⌝ }
     ensures { λ _. ⌜ Ends (now (ends .exit)) × (length (now (meters .exit)) ≡ meterCells) ⌝ }
 {
-    ends[2 * k] = g;
-    ends[2 * k + 1] = h;
-    meters[4 * k] = s.reading as f64;
-    meters[4 * k + 1] = 0.5 / s.weight as f64;
-    meters[4 * k + 2] = low_of(s);
-    meters[4 * k + 3] = high_of(s);
+    let end = 2 * k;
+    ends[end] = g;
+    ends[end + 1] = h;
+    let meter = 4 * k;
+    meters[meter] = s.reading as f64;
+    meters[meter + 1] = 0.5 / s.weight as f64;
+    meters[meter + 2] = low_of(s);
+    meters[meter + 3] = high_of(s);
 }
 
 // The label of a place.

@@ -6,14 +6,11 @@ use Rattle.meters.proofs.Ends.{ends-set}
 use Rattle.meters.proofs.put.Statement.{statement}
 use Rattle.meters.proofs.put.Tie as tie
 
-mul-ends : tie.Need-mul-ends
-mul-ends c = search needs
+mul-end : tie.Need-mul-end
+mul-end c = search needs
 
 element-write-ends : tie.Need-element-write-ends
 element-write-ends c = search needs
-
-mul-ends-2 : tie.Need-mul-ends-2
-mul-ends-2 c = search needs
 
 add-ends : tie.Need-add-ends
 add-ends c = search needs
@@ -21,14 +18,14 @@ add-ends c = search needs
 element-write-ends-2 : tie.Need-element-write-ends-2
 element-write-ends-2 c = search needs
 
+mul-meter : tie.Need-mul-meter
+mul-meter c = search needs
+
 int-to-float-meters : tie.Need-int-to-float-meters
 int-to-float-meters c = search needs
 
 mul-meters : tie.Need-mul-meters
 mul-meters c = search needs
-
-mul-meters-2 : tie.Need-mul-meters-2
-mul-meters-2 c = search needs
 
 element-write-meters : tie.Need-element-write-meters
 element-write-meters c = search needs
@@ -36,14 +33,11 @@ element-write-meters c = search needs
 int-to-float-meters-2 : tie.Need-int-to-float-meters-2
 int-to-float-meters-2 c = search needs
 
-mul-meters-3 : tie.Need-mul-meters-3
-mul-meters-3 c = search needs
-
 add-meters : tie.Need-add-meters
 add-meters c = search needs
 
-mul-meters-4 : tie.Need-mul-meters-4
-mul-meters-4 c = search needs
+mul-meters-2 : tie.Need-mul-meters-2
+mul-meters-2 c = search needs
 
 element-write-meters-2 : tie.Need-element-write-meters-2
 element-write-meters-2 c = search needs
@@ -51,14 +45,11 @@ element-write-meters-2 c = search needs
 low-of-requires : tie.Need-low-of-requires
 low-of-requires c κs = search needs
 
-mul-meters-5 : tie.Need-mul-meters-5
-mul-meters-5 c = search needs
-
 add-meters-2 : tie.Need-add-meters-2
 add-meters-2 c = search needs
 
-mul-meters-6 : tie.Need-mul-meters-6
-mul-meters-6 c = search needs
+mul-meters-3 : tie.Need-mul-meters-3
+mul-meters-3 c = search needs
 
 element-write-meters-3 : tie.Need-element-write-meters-3
 element-write-meters-3 c = search needs
@@ -66,14 +57,11 @@ element-write-meters-3 c = search needs
 high-of-requires : tie.Need-high-of-requires
 high-of-requires c κs = search needs
 
-mul-meters-7 : tie.Need-mul-meters-7
-mul-meters-7 c = search needs
-
 add-meters-3 : tie.Need-add-meters-3
 add-meters-3 c = search needs
 
-mul-meters-8 : tie.Need-mul-meters-8
-mul-meters-8 c = search needs
+mul-meters-4 : tie.Need-mul-meters-4
+mul-meters-4 c = search needs
 
 element-write-meters-4 : tie.Need-element-write-meters-4
 element-write-meters-4 c = search needs
@@ -87,28 +75,24 @@ pub put-spec : {M : Type 1} → statement M
 put-spec =
     tie.close
     (tie.spec
-    mul-ends
+    mul-end
     element-write-ends
-    mul-ends-2
     add-ends
     element-write-ends-2
+    mul-meter
     int-to-float-meters
     mul-meters
-    mul-meters-2
     element-write-meters
     int-to-float-meters-2
-    mul-meters-3
     add-meters
-    mul-meters-4
+    mul-meters-2
     element-write-meters-2
     low-of-requires
-    mul-meters-5
     add-meters-2
-    mul-meters-6
+    mul-meters-3
     element-write-meters-3
     high-of-requires
-    mul-meters-7
     add-meters-3
-    mul-meters-8
+    mul-meters-4
     element-write-meters-4
     returns)
