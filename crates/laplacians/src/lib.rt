@@ -69,8 +69,16 @@ fn join(
     let h = end_at(ends, k);
     let c = conductance_at(meters, k);
     let x = amount_at(meters, k, prices[h] - prices[g]);
-    let y = if first { x } else { in_range(meters, k, x) };
-    between(a, g, h, y, if x == y { c } else { c * SHUT });
+    if first {
+        between(a, g, h, x, c);
+        return;
+    }
+    let y = in_range(meters, k, x);
+    if x == y {
+        between(a, g, h, x, c);
+    } else {
+        between(a, g, h, y, c * SHUT);
+    }
 }
 
 // The first count streams.
