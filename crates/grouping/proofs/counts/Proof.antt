@@ -1,8 +1,8 @@
--- `groups::counts` meets its contract.
+-- `grouping::counts` meets its contract.
 use mathlib.Core.Path.{refl}
 use borrow.Author.Needs.{needs}
-use Rattle.groups.proofs.counts.Statement.{statement}
-use Rattle.groups.proofs.counts.Tie as tie
+use Rattle.grouping.proofs.counts.Statement.{statement}
+use Rattle.grouping.proofs.counts.Tie as tie
 
 enum-told : tie.Need-enum-told
 enum-told c = search needs

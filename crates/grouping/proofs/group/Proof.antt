@@ -1,4 +1,4 @@
--- `groups::group` meets its contract: after i turns the labels are those of the groups by the first i streams.
+-- `grouping::group` meets its contract: after i turns the labels are those of the groups by the first i streams.
 use mathlib.Core.Path.{_≡_, sym}
 use Prim.Native.Nat.{_≤_, _<_, _-_}
 use lib.ListN.{length}
@@ -10,8 +10,8 @@ use Rattle.flows.specs.Calls.{counting}
 use Rattle.flows.proofs.Grouping.{groups-none, ends-in}
 use Rattle.plants.proofs.Arrayed.{all-listed, listed-at, stream-within}
 use borrow.Author.Needs.{needs}
-use Rattle.groups.proofs.group.Statement.{statement}
-use Rattle.groups.proofs.group.Tie as tie
+use Rattle.grouping.proofs.group.Statement.{statement}
+use Rattle.grouping.proofs.group.Tie as tie
 
 abbrev Inv-loop : tie.InvT-loop
 Inv-loop which p n labels₀ i₀ labels i = (i ≤ p .count) × Groups (counting which) (plantOf p .streams) i labels
