@@ -24,6 +24,7 @@ ghost use Rattle.model.specs.Model.{stateOf, improvedBy, improvedAt, endedBy, f
 ghost use Rattle.model.specs.SolverNeeds.{Improvable};
 
 pub mod finishing;
+pub mod marks;
 
 // One improvement at step delta from place s: a search to a place with a negative net, and delta pushed along the way to it. Where no
 // such place can be reached, nothing changes.

@@ -1,4 +1,4 @@
--- `outcomes::masked` meets its contract: the marks of the first u places are written.
+-- `improving::marks::masked` meets its contract: the marks of the first u places are written.
 use mathlib.Core.Path.{_≡_}
 use mathlib.Core.Bool.{Bool, false, _&&_}
 use mathlib.Core.List.{List}
@@ -11,8 +11,8 @@ use Rattle.plants.specs.Limits.{places}
 use Rattle.flows.proofs.Lists.{values-at, Written, written-none, written-put, written-all}
 use Rattle.model.specs.Model.{masked}
 use Rattle.model.proofs.Marked.{masked-long}
-use Rattle.outcomes.proofs.masked.Statement.{statement}
-use Rattle.outcomes.proofs.masked.Tie as tie
+use Rattle.improving.proofs.marks.masked.Statement.{statement}
+use Rattle.improving.proofs.marks.masked.Tie as tie
 
 abbrev Inv-loop : tie.InvT-loop
 Inv-loop n marked own₀ u₀ own u = (u ≤ places) × Written false places (λ k x. getD marked k false && leb k n) own₀ own u

@@ -1,7 +1,7 @@
--- `outcomes::own_mark` meets its contract: by the mark.
+-- `improving::marks::own_mark` meets its contract: by the mark.
 use borrow.Author.Needs.{needs}
-use Rattle.outcomes.proofs.own_mark.Statement.{statement}
-use Rattle.outcomes.proofs.own_mark.Tie as tie
+use Rattle.improving.proofs.marks.own_mark.Statement.{statement}
+use Rattle.improving.proofs.marks.own_mark.Tie as tie
 
 returns : tie.Need-returns
 returns c = rw (c .if1 .taken)
