@@ -4,7 +4,7 @@ use plants::limits::MAX_STREAMS;
 use plants::limits::PLACES;
 ghost use mathlib.Core.Path.{_≡_};
 ghost use mathlib.Core.List.{List};
-ghost use Prim.Native.Nat.{ℕ, suc, _≤_, _<_};
+ghost use Prim.Native.Nat.{ℕ, _≤_, _<_};
 ghost use lib.ListN.{length, getD};
 ghost use Rattle.plants.specs.declared.Stream.{Stream};
 ghost use Rattle.plants.specs.Limits.{maxUnits, places};
@@ -103,14 +103,6 @@ fn pass(
     len
 }
 
-// One more than c where a place is not reached.
-fn counted(c: usize, reached: bool) -> usize
-    requires { ⌜ c < places ⌝ }
-    ensures { λ r. ⌜ r ≤ suc c ⌝ }
-{
-    if reached { c } else { c + 1 }
-}
-
 // How many places are not reached.
 fn unreached(reached: &[bool; PLACES]) -> usize
     requires { ⌜ length (now reached) ≡ places ⌝ }
@@ -118,7 +110,9 @@ fn unreached(reached: &[bool; PLACES]) -> usize
     let mut c: usize = 0;
     let mut u: usize = 0;
     while u < PLACES {
-        c = counted(c, reached[u]);
+        if !reached[u] {
+            c += 1;
+        }
         u += 1;
     }
     c
