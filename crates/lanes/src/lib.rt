@@ -4,15 +4,15 @@
 use plants::limits::MAX_STREAMS;
 use plants::limits::PLACES;
 ghost use mathlib.Core.Path.{_≡_};
-ghost use Prim.Native.Nat.{ℕ, _≤_, _<_};
-ghost use lib.ListN.{getD, length};
+ghost use Prim.Native.Nat.{_≤_, _<_};
+ghost use lib.ListN.{getD};
 ghost use Rattle.numbers.specs.Choice.{pick};
 ghost use Rattle.plants.specs.Limits.{places, maxStreams};
 ghost use Rattle.model.specs.Sizes.{mostFlow, mostStep};
-ghost use Rattle.model.specs.Rows.{rowAt, laneCells, countOf, startsOf, endsOf, weightsOf, pullsOf, lowsOf, highsOf};
+ghost use Rattle.model.specs.Rows.{countOf, startsOf, endsOf, weightsOf, pullsOf, lowsOf, highsOf};
 ghost use Rattle.model.specs.Slack.{openBy};
 ghost use Rattle.model.specs.Near.{linkAt};
-ghost use Rattle.model.specs.SearchNeeds.{Network, Rowed, Linkable, Linked, Laid};
+ghost use Rattle.model.specs.SearchNeeds.{Linked};
 
 pub mod slacks;
 

@@ -4,7 +4,7 @@ use plants::limits::MAX_STREAMS;
 use plants::limits::PLACES;
 ghost use mathlib.Core.Path.{_≡_};
 ghost use mathlib.Core.List.{List};
-ghost use Prim.Native.Nat.{ℕ, _≤_, _<_};
+ghost use Prim.Native.Nat.{ℕ, _<_};
 ghost use lib.ListN.{length, getD};
 ghost use Rattle.plants.specs.declared.Stream.{Stream};
 ghost use Rattle.plants.specs.Limits.{maxUnits, places};

@@ -1,7 +1,6 @@
 -- `spanning::roots` meets its contract: each store keeps the length.
 use mathlib.Core.Path.{_≡_}
 use Prim.Native.Nat.{_≤_, _-_}
-use native.Mathlib.Omega.{arith}
 use lib.ListN.{length}
 use borrow.Author.Needs.{needs}
 use Rattle.plants.specs.Limits.{places}
