@@ -2,6 +2,7 @@
 use flows::Class;
 use flows::Cuts;
 use flows::Which;
+use grouping;
 use groups;
 use plants::Plant;
 use plants::Stream;
@@ -62,7 +63,7 @@ pub fn degrees_of(p: Plant, labels: [u8; PLACES]) -> u8
 {
     let n = p.units;
     let count = groups::own_labels(labels, n);
-    let all = groups::group(p, Which::Every);
+    let all = grouping::group(p, Which::Every);
     let pieces = groups::own_labels(all, n);
     count - pieces
 }
