@@ -61,17 +61,11 @@ pub fn search(
         },
     );
     let t = w.tree;
-    if !w.found {
-        return Searched {
-            found: false,
-            tree: t,
-        };
+    if w.found {
+        reduce(prices, &t.visited, &w.dist, w.reach);
     }
-    let visited = t.visited;
-    let dist = w.dist;
-    reduce(prices, &visited, &dist, w.reach);
     Searched {
-        found: true,
+        found: w.found,
         tree: t,
     }
 }
