@@ -1,32 +1,19 @@
 -- `walks::walking::walk` meets its contract: with `left` steps to go the walk comes to what it comes to from the start.
-use mathlib.Core.Path.{_≡_, refl, sym, _∙_}
+use mathlib.Core.Path.{_≡_}
 use mathlib.Core.Bool.{true, false}
-use mathlib.Core.List.{[]}
-use Prim.Native.Nat.{ℕ, _+_, _<_}
+use Prim.Native.Nat.{_<_}
 use native.Mathlib.Omega.{arith}
 use borrow.Author.Needs.{needs}
-use lib.ListN.{length, replicate}
 use Rattle.plants.specs.Limits.{places}
-use Rattle.model.specs.Sizes.{searchRounds, farthest, far}
 use Rattle.model.specs.Rows.{countOf, startsOf, endsOf}
-use Rattle.model.specs.Search.{rootAt}
-use Rattle.model.specs.Near.{gapsOf, walked}
-use Rattle.model.specs.Fringe.{Open}
-use Rattle.model.proofs.Opening.{open-none}
-use Rattle.model.proofs.Steps.{walk-end}
-use Rattle.model.proofs.Stepping.{step-stops, step-place, step-distance, step-long, step-hits, step-goes-on}
+use Rattle.model.specs.Near.{gapsOf}
+use Rattle.walks.proofs.Turns.{Walking, starts, ends, stops, room, within, hits, goes-on}
 use Rattle.walks.proofs.walking.walk.Statement.{statement}
 use Rattle.walks.proofs.walking.walk.Tie as tie
 
 abbrev Inv-loop : tie.InvT-loop
 Inv-loop lanes flows prices nets q s at₀ t₀ dist₀ near₀ left₀ at t dist near left =
-    (left + t .len ≡ searchRounds)
-    × (length near ≡ places)
-    × (at .distance < farthest)
-    × (at .place < places)
-    × Open (q .limit) near (at .fringe)
-    × (walked (startsOf lanes) (endsOf lanes) (gapsOf lanes flows prices (q .delta) (q .skip) true) (gapsOf lanes flows prices (q .delta) (q .skip) false) (countOf lanes) nets (q .limit) left (at .distance) (at .place) dist near t
-    ≡ walked (startsOf lanes) (endsOf lanes) (gapsOf lanes flows prices (q .delta) (q .skip) true) (gapsOf lanes flows prices (q .delta) (q .skip) false) (countOf lanes) nets (q .limit) searchRounds 0 (q .start) (replicate places 0) (replicate places far) (rootAt (q .start)))
+    Walking (startsOf lanes) (endsOf lanes) (gapsOf lanes flows prices (q .delta) (q .skip) true) (gapsOf lanes flows prices (q .delta) (q .skip) false) (countOf lanes) nets (q .limit) (q .start) left at t dist near
 
 abbrev μ-loop : tie.MeasureT-loop
 μ-loop lanes flows prices nets q s at₀ t₀ dist₀ near₀ left₀ at t dist near left = left
@@ -40,12 +27,10 @@ tested c = c .before .before .before .before
 
 -- A place is taken, and there is room for it in the tree.
 one : (c : tie.Else1 Inv-loop μ-loop) → c .before .step .result .place < places
-one c =
-    let f = c .before in
-    step-place _ _ _ _ _ [] _ _ _ (turn f .loop .dist) _ (turn f .loop .t) (turn f .loop .inv .1) _ _ (f .step .ensures) (c .if1 .left)
+one c = let f = c .before in within _ _ _ _ _ _ _ _ _ _ _ _ _ (turn f .loop .inv) (tested f .loop-test .taken) _ _ (f .step .ensures) (c .if1 .left)
 
 few : (c : tie.Else1 Inv-loop μ-loop) → turn (c .before) .loop .t .len < places
-few c = let f = c .before in omega (arith, turn f .loop .inv .0, tested f .loop-test .taken)
+few c = let f = c .before in room _ _ _ _ _ _ _ _ _ _ _ _ _ (turn f .loop .inv) (tested f .loop-test .taken) _ _ (f .step .ensures)
 
 bare-requires : tie.Need-bare-requires Inv-loop μ-loop
 bare-requires c κs = search needs
@@ -54,17 +39,16 @@ element-write-t : tie.Need-element-write-t Inv-loop μ-loop
 element-write-t c = c .before .pre .1
 
 loop-holds : tie.Need-loop-holds Inv-loop μ-loop
-loop-holds c = (rw (c .bare .ensures) (omega arith), refl, omega arith, c .before .pre .1, open-none _, rw (c .bare .ensures))
+loop-holds c = rw (c .bare .ensures) (starts _ _ _ _ _ _ _ _ (c .before .pre .1))
 
 step-requires : tie.Need-step-requires Inv-loop μ-loop
 step-requires c κs =
     let at = c .before .before .before .before in
-    (at .before .before .pre .0, at .loop .inv .3, at .loop .inv .2, at .loop .inv .1, at .loop .inv .4)
+    let w = at .loop .inv in
+    (at .before .before .pre .0, w .place, w .short, w .long, w .fringe)
 
 returns : tie.Need-returns Inv-loop μ-loop
-returns c =
-    let f = c .before in
-    sym (step-stops _ _ _ _ _ _ _ _ _ _ _ _ (turn f .loop .inv .1) _ _ (f .step .ensures) (turn f .loop .left) (tested f .loop-test .taken) (c .if1 .taken)) ∙ turn f .loop .inv .5
+returns c = let f = c .before in stops _ _ _ _ _ _ _ _ _ _ _ _ _ (turn f .loop .inv) (tested f .loop-test .taken) _ _ (f .step .ensures) (c .if1 .taken)
 
 mul-dist : tie.Need-mul-dist Inv-loop μ-loop
 mul-dist c = omega (arith, one c)
@@ -97,7 +81,7 @@ returns-2 : tie.Need-returns-2 Inv-loop μ-loop
 returns-2 c =
     let o = c .before .before in
     let f = o .before in
-    sym (step-hits _ _ _ _ _ _ _ _ _ _ _ _ (turn f .loop .inv .1) _ _ (f .step .ensures) (o .if1 .left) (turn f .loop .left) (tested f .loop-test .taken) (c .if2 .taken)) ∙ turn f .loop .inv .5
+    hits _ _ _ _ _ _ _ _ _ _ _ _ _ (turn f .loop .inv) (tested f .loop-test .taken) _ _ (f .step .ensures) (o .if1 .left) (c .if2 .taken)
 
 sub-left : tie.Need-sub-left Inv-loop μ-loop
 sub-left c = search needs
@@ -109,20 +93,10 @@ loop-again : tie.Need-loop-again Inv-loop μ-loop
 loop-again c =
     let o = c .before .before in
     let f = o .before in
-    let v = turn f .loop .inv in
-    let w = f .step .ensures in (
-      omega (arith, v .0, tested f .loop-test .taken),
-      step-long _ _ _ _ _ [] _ _ _ (turn f .loop .dist) _ (turn f .loop .t) (v .1) _ _ w (o .if1 .left),
-      step-distance _ _ _ _ _ [] _ _ _ (turn f .loop .dist) _ (turn f .loop .t) (v .1) _ _ w (o .if1 .left),
-      one o,
-      w .fringe (o .if1 .left),
-      sym (step-goes-on _ _ _ _ _ _ _ _ _ _ _ _ (v .1) _ _ w (o .if1 .left) (turn f .loop .left) (tested f .loop-test .taken) (c .if2 .left)) ∙ v .5,
-    )
+    goes-on _ _ _ _ _ _ _ _ _ _ _ _ _ (turn f .loop .inv) (tested f .loop-test .taken) _ _ (f .step .ensures) (o .if1 .left) (c .if2 .left)
 
 returns-3 : tie.Need-returns-3 Inv-loop μ-loop
-returns-3 c =
-    let z : c .before .loop .left ≡ 0 = omega arith in
-    sym (walk-end _ _ _ _ _ _ _ _ _ _ _ _) ∙ (rw z at (c .before .loop .inv .5))
+returns-3 c = ends _ _ _ _ _ _ _ _ _ _ _ _ _ (c .before .loop .inv) (c .loop-test .left)
 
 pub walk-spec : {M : Type 1} → statement M
 walk-spec =
