@@ -99,8 +99,9 @@ pub fn nearest(near: &[u64; PLACES], fringe: u64, limit: u64) -> usize
     let mut left = fringe;
     while 0 < left {
         let u = u64::trailing_zeros(left) as usize;
-        if near[u] < best {
-            best = near[u];
+        let code = near[u];
+        if code < best {
+            best = code;
             at = u;
         }
         left = left & (left - 1);

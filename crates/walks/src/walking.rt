@@ -19,7 +19,7 @@ ghost use Rattle.plants.specs.Limits.{places};
 ghost use Rattle.model.specs.Sizes.{searchRounds, farthest, far};
 ghost use Rattle.model.specs.Rows.{countOf, startsOf, endsOf};
 ghost use Rattle.model.specs.Search.{rootAt};
-ghost use Rattle.model.specs.Near.{gapsOf, relaxedTo, walked};
+ghost use Rattle.model.specs.Near.{gapsOf, relaxedTo, walkedBy, walked};
 ghost use Rattle.model.specs.Fringe.{Open, Stepped};
 ghost use Rattle.model.specs.SearchNeeds.{Lanes};
 
@@ -35,6 +35,30 @@ fn bare() -> Tree
         via: [0u8; PLACES],
         ends: [0u8; PLACES],
         len: 0,
+    }
+}
+
+// Where a walk starts.
+fn first(s: usize) -> Spot
+    ensures { λ r. ⌜ r ≡ record { place = s; distance = 0; stream = 0; fringe = 0 } ⌝ }
+{
+    Spot {
+        place: s,
+        distance: 0,
+        stream: 0,
+        fringe: 0,
+    }
+}
+
+// What a walk hands over.
+fn walked_by(found: bool, t: Tree, dist: [u64; PLACES], reach: u64) -> Walked
+    ensures { λ r. ⌜ r ≡ walkedBy found t dist reach ⌝ }
+{
+    Walked {
+        found: found,
+        tree: t,
+        dist: dist,
+        reach: reach,
     }
 }
 
@@ -83,12 +107,7 @@ pub fn walk(
     ensures { λ r. ⌜ r ≡ walked (startsOf (now (lanes .entry))) (endsOf (now (lanes .entry))) (gapsOf (now (lanes .entry)) (now (flows .entry)) (now (prices .entry)) (q .delta) (q .skip) true) (gapsOf (now (lanes .entry)) (now (flows .entry)) (now (prices .entry)) (q .delta) (q .skip) false) (countOf (now (lanes .entry))) (now (nets .entry)) (q .limit) searchRounds 0 (q .start) (replicate places 0) (replicate places far) (rootAt (q .start)) ⌝ }
 {
     let s = q.start;
-    let mut at = Spot {
-        place: s,
-        distance: 0,
-        stream: 0,
-        fringe: 0,
-    };
+    let mut at = first(s);
     let mut t = bare();
     let mut dist = [0u64; PLACES];
     let mut near = [FAR; PLACES];
@@ -98,12 +117,7 @@ pub fn walk(
         at = step(lanes, flows, prices, q, &t.visited, at, &mut near);
         let e = at.place;
         if e == PLACES {
-            return Walked {
-                found: false,
-                tree: t,
-                dist: dist,
-                reach: at.distance,
-            };
+            return walked_by(false, t, dist, at.distance);
         }
         let len = t.len;
         dist[e] = at.distance;
@@ -112,19 +126,9 @@ pub fn walk(
         t.ends[len] = e as u8;
         t.len = len + 1;
         if nets[e] < NET_SHIFT {
-            return Walked {
-                found: true,
-                tree: t,
-                dist: dist,
-                reach: at.distance,
-            };
+            return walked_by(true, t, dist, at.distance);
         }
         left -= 1;
     }
-    Walked {
-        found: false,
-        tree: t,
-        dist: dist,
-        reach: at.distance,
-    }
+    walked_by(false, t, dist, at.distance)
 }

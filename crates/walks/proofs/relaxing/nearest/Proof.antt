@@ -27,17 +27,11 @@ loop-holds c = (search needs, scan-none (c .args .limit) _ _ (c .pre .1))
 cast-u : tie.Need-cast-u Inv-loop μ-loop
 cast-u c = omega (arith, place c)
 
-mul-if1 : tie.Need-mul-if1 Inv-loop μ-loop
-mul-if1 c = omega (arith, place c)
+mul-code : tie.Need-mul-code Inv-loop μ-loop
+mul-code c = omega (arith, place c)
 
-element-copy-out-if1 : tie.Need-element-copy-out-if1 Inv-loop μ-loop
-element-copy-out-if1 c = place c
-
-mul-best : tie.Need-mul-best Inv-loop μ-loop
-mul-best c = omega (arith, place (c .before .before))
-
-element-copy-out-best : tie.Need-element-copy-out-best Inv-loop μ-loop
-element-copy-out-best c = place (c .before .before)
+element-copy-out-code : tie.Need-element-copy-out-code Inv-loop μ-loop
+element-copy-out-code c = place c
 
 sub-left : tie.Need-sub-left Inv-loop μ-loop
 sub-left c = search needs
@@ -53,7 +47,7 @@ loop-again c =
     let w = at .before .loop .inv in (
       omega (arith, and-le-r (at .before .loop .left) (at .before .loop .left - 1), w .0),
       ⊎-elim
-          (λ o. rw (o .2, o .3) (scan-nearer _ _ _ _ _ (w .1) (at .loop-test .taken) (w .0) (o .0 .taken)))
+          (λ o. rw (o .1, o .2) (scan-nearer _ _ _ _ _ (w .1) (at .loop-test .taken) (w .0) (o .0 .taken)))
           (λ o. rw (o .1, o .2) (scan-not _ _ _ _ _ (w .1) (at .loop-test .taken) (w .0) (o .0 .left)))
           (c .if1 .came),
     )
@@ -76,10 +70,8 @@ nearest-spec =
     μ-loop
     loop-holds
     cast-u
-    mul-if1
-    element-copy-out-if1
-    mul-best
-    element-copy-out-best
+    mul-code
+    element-copy-out-code
     sub-left
     loop-less
     loop-again

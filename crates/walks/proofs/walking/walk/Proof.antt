@@ -1,5 +1,5 @@
 -- `walks::walking::walk` meets its contract: with `left` steps to go the walk comes to what it comes to from the start.
-use mathlib.Core.Path.{_≡_}
+use mathlib.Core.Path.{_≡_, _∙_}
 use mathlib.Core.Bool.{true, false}
 use Prim.Native.Nat.{_<_}
 use native.Mathlib.Omega.{arith}
@@ -32,23 +32,32 @@ one c = let f = c .before in within _ _ _ _ _ _ _ _ _ _ _ _ _ (turn f .loop .inv
 few : (c : tie.Else1 Inv-loop μ-loop) → turn (c .before) .loop .t .len < places
 few c = let f = c .before in room _ _ _ _ _ _ _ _ _ _ _ _ _ (turn f .loop .inv) (tested f .loop-test .taken) _ _ (f .step .ensures)
 
+first-requires : tie.Need-first-requires Inv-loop μ-loop
+first-requires c κs = search needs
+
 bare-requires : tie.Need-bare-requires Inv-loop μ-loop
 bare-requires c κs = search needs
 
 element-write-t : tie.Need-element-write-t Inv-loop μ-loop
-element-write-t c = c .before .pre .1
+element-write-t c = c .before .before .pre .1
 
 loop-holds : tie.Need-loop-holds Inv-loop μ-loop
-loop-holds c = rw (c .bare .ensures) (starts _ _ _ _ _ _ _ _ (c .before .pre .1))
+loop-holds c = rw (c .before .first .ensures, c .bare .ensures) (starts _ _ _ _ _ _ _ _ (c .before .before .pre .1))
 
 step-requires : tie.Need-step-requires Inv-loop μ-loop
 step-requires c κs =
     let at = c .before .before .before .before in
     let w = at .loop .inv in
-    (at .before .before .pre .0, w .place, w .short, w .long, w .fringe)
+    (at .before .before .before .pre .0, w .place, w .short, w .long, w .fringe)
+
+walked-by-requires : tie.Need-walked-by-requires Inv-loop μ-loop
+walked-by-requires c κs = search needs
 
 returns : tie.Need-returns Inv-loop μ-loop
-returns c = let f = c .before in stops _ _ _ _ _ _ _ _ _ _ _ _ _ (turn f .loop .inv) (tested f .loop-test .taken) _ _ (f .step .ensures) (c .if1 .taken)
+returns c =
+    let o = c .before in
+    let f = o .before in
+    c .walked-by .ensures ∙ stops _ _ _ _ _ _ _ _ _ _ _ _ _ (turn f .loop .inv) (tested f .loop-test .taken) _ _ (f .step .ensures) (o .if1 .taken)
 
 mul-dist : tie.Need-mul-dist Inv-loop μ-loop
 mul-dist c = omega (arith, one c)
@@ -77,11 +86,14 @@ mul-if2 c = omega (arith, one c)
 element-copy-out-if2 : tie.Need-element-copy-out-if2 Inv-loop μ-loop
 element-copy-out-if2 c = one c
 
+walked-by-requires-2 : tie.Need-walked-by-requires-2 Inv-loop μ-loop
+walked-by-requires-2 c κs = search needs
+
 returns-2 : tie.Need-returns-2 Inv-loop μ-loop
 returns-2 c =
-    let o = c .before .before in
+    let o = c .before .before .before in
     let f = o .before in
-    hits _ _ _ _ _ _ _ _ _ _ _ _ _ (turn f .loop .inv) (tested f .loop-test .taken) _ _ (f .step .ensures) (o .if1 .left) (c .if2 .taken)
+    c .walked-by2 .ensures ∙ hits _ _ _ _ _ _ _ _ _ _ _ _ _ (turn f .loop .inv) (tested f .loop-test .taken) _ _ (f .step .ensures) (o .if1 .left) (c .before .if2 .taken)
 
 sub-left : tie.Need-sub-left Inv-loop μ-loop
 sub-left c = search needs
@@ -95,8 +107,11 @@ loop-again c =
     let f = o .before in
     goes-on _ _ _ _ _ _ _ _ _ _ _ _ _ (turn f .loop .inv) (tested f .loop-test .taken) _ _ (f .step .ensures) (o .if1 .left) (c .if2 .left)
 
+walked-by-requires-3 : tie.Need-walked-by-requires-3 Inv-loop μ-loop
+walked-by-requires-3 c κs = search needs
+
 returns-3 : tie.Need-returns-3 Inv-loop μ-loop
-returns-3 c = ends _ _ _ _ _ _ _ _ _ _ _ _ _ (c .before .loop .inv) (c .loop-test .left)
+returns-3 c = c .walked-by3 .ensures ∙ ends _ _ _ _ _ _ _ _ _ _ _ _ _ (c .before .before .loop .inv) (c .before .loop-test .left)
 
 pub walk-spec : {M : Type 1} → statement M
 walk-spec =
@@ -104,10 +119,12 @@ walk-spec =
     (tie.spec
     Inv-loop
     μ-loop
+    first-requires
     bare-requires
     element-write-t
     loop-holds
     step-requires
+    walked-by-requires
     returns
     mul-dist
     array-write-dist
@@ -118,8 +135,10 @@ walk-spec =
     add-t
     mul-if2
     element-copy-out-if2
+    walked-by-requires-2
     returns-2
     sub-left
     loop-less
     loop-again
+    walked-by-requires-3
     returns-3)
