@@ -1,12 +1,12 @@
--- `walks::relaxing::slack_at` meets its contract: by whether the stream can move.
+-- `gaps::slack_at` meets its contract: by whether the stream can move.
 use mathlib.Core.Path.{sym, _∙_}
 use Prim.Native.Nat.{_<_}
 use native.Mathlib.Omega.{arith}
 use borrow.Author.Tests.{not-true, not-false}
 use borrow.Author.Needs.{needs}
 use Rattle.plants.specs.Limits.{places}
-use Rattle.walks.proofs.relaxing.slack_at.Statement.{statement}
-use Rattle.walks.proofs.relaxing.slack_at.Tie as tie
+use Rattle.gaps.proofs.slack_at.Statement.{statement}
+use Rattle.gaps.proofs.slack_at.Tie as tie
 
 start-in : (c : tie.After-start-at) → c .start-at .result < places
 start-in c = let st = c .before .before .before .before in rw (c .start-at .ensures) (st .pre .0 .from-in _ (st .pre .1))
