@@ -4,9 +4,9 @@ use mathlib.Core.Path.{_≡_}
 use denote.Ref.{now}
 use Rattle.plants.specs.Files.{readPlant}
 use Rattle.plants.specs.Says.{readOf}
 use Rattle.moves.proofs.Reading.{forward-bad, forward-good}
-use Rattle.moves.proofs.read_forward.Statement.{statement}
-use Rattle.moves.proofs.read_forward.Tie as tie
+use Rattle.move_calls.proofs.read_forward.Statement.{statement}
+use Rattle.move_calls.proofs.read_forward.Tie as tie
 
 -- What was read is what the file says.
 read-in : (c : tie.After-read-plant) → c .read-plant .result ≡ readOf (readPlant (now (c .before .before .args .file)))

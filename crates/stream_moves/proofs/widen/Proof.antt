@@ -5,10 +5,10 @@ use mathlib.Core.Bool.{true}
 use mir.Syntax.{w32}
 use mir.Val.{SFits}
 use mir.Facts.{toZ-ofZ}
 use Rattle.moves.specs.Moves.{widestLow, widestHigh}
 use Rattle.moves.proofs.Streams.{unmetered-widened, widened-before, widened-now}
-use Rattle.moves.proofs.widen.Statement.{statement}
-use Rattle.moves.proofs.widen.Tie as tie
+use Rattle.stream_moves.proofs.widen.Statement.{statement}
+use Rattle.stream_moves.proofs.widen.Tie as tie
 
 returns : tie.Need-returns
 returns c = unmetered-widened _ (c .if1 .taken)

@@ -2,8 +2,8 @@
 use borrow.Author.Needs.{needs}
 use denote.Ref.{now}
 use Rattle.conversions.proofs.Promise.{too-short, file-bad, file-good}
-use Rattle.moves.proofs.write_read.Statement.{statement}
-use Rattle.moves.proofs.write_read.Tie as tie
+use Rattle.move_calls.proofs.write_read.Statement.{statement}
+use Rattle.move_calls.proofs.write_read.Tie as tie
 
 returns : tie.Need-returns
 returns c g d e = too-short g (now (c .before .before .args .out)) (c .if1 .taken)

@@ -2,10 +2,10 @@
 use borrow.Author.Needs.{needs}
 use denote.Ref.{now}
 use Rattle.plants.specs.Files.{readPlant}
 use Rattle.moves.specs.Moves.{toRanged}
 use Rattle.moves.proofs.Kept.{to-good}
-use Rattle.moves.proofs.to_ranged.Statement.{statement}
-use Rattle.moves.proofs.to_ranged.Tie as tie
+use Rattle.move_calls.proofs.to_ranged.Statement.{statement}
+use Rattle.move_calls.proofs.to_ranged.Tie as tie
 
 read-forward-requires : tie.Need-read-forward-requires
 read-forward-requires c κs = search needs

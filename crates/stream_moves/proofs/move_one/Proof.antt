@@ -1,7 +1,7 @@
 -- By the way that it goes.
 use borrow.Author.Needs.{needs}
-use Rattle.moves.proofs.move_one.Statement.{statement}
-use Rattle.moves.proofs.move_one.Tie as tie
+use Rattle.stream_moves.proofs.move_one.Statement.{statement}
+use Rattle.stream_moves.proofs.move_one.Tie as tie
 
 widen-requires : tie.Need-widen-requires
 widen-requires c κs = search needs

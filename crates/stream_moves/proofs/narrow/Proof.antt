@@ -7,10 +7,10 @@ use lib.Signed.{ltZ}
 use mir.Syntax.{w32}
 use mir.Val.{SFits}
 use mir.Facts.{toZ-ofZ}
 use Rattle.moves.specs.Moves.{widestHigh}
 use Rattle.moves.proofs.Streams.{unmetered-wide, bare-wide, low-above, by-high}
-use Rattle.moves.proofs.narrow.Statement.{statement}
-use Rattle.moves.proofs.narrow.Tie as tie
+use Rattle.stream_moves.proofs.narrow.Statement.{statement}
+use Rattle.stream_moves.proofs.narrow.Tie as tie
 
 returns : tie.Need-returns
 returns c = unmetered-wide (c .before .before .args .s) (c .if1 .taken)

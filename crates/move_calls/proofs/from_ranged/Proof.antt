@@ -2,10 +2,10 @@
 use borrow.Author.Needs.{needs}
 use denote.Ref.{now}
 use Rattle.plants.specs.Files.{readPlant}
 use Rattle.moves.specs.Moves.{fromRanged}
 use Rattle.moves.proofs.Kept.{from-good}
-use Rattle.moves.proofs.from_ranged.Statement.{statement}
-use Rattle.moves.proofs.from_ranged.Tie as tie
+use Rattle.move_calls.proofs.from_ranged.Statement.{statement}
+use Rattle.move_calls.proofs.from_ranged.Tie as tie
 
 read-home-requires : tie.Need-read-home-requires
 read-home-requires c κs = search needs

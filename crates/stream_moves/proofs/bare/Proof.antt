@@ -7,9 +7,9 @@ use lib.IntN.{pos}
 use mir.Syntax.{w32}
 use mir.Val.{SFits}
 use mir.Facts.{toZ-ofZ}
 use Rattle.moves.proofs.Streams.{unmetered-bared, bared-before, bared-now}
-use Rattle.moves.proofs.bare.Statement.{statement}
-use Rattle.moves.proofs.bare.Tie as tie
+use Rattle.stream_moves.proofs.bare.Statement.{statement}
+use Rattle.stream_moves.proofs.bare.Tie as tie
 
 returns : tie.Need-returns
 returns c = unmetered-bared _ (c .if1 .taken)
