@@ -6,8 +6,8 @@ use lib.Dec.{eqb}
 use native.Mathlib.Omega.{arith}
 use Rattle.surveys.proofs.Turns.{Passed, passed-none, passed-long, passed-closed, passed-more, passed-all}
 use borrow.Author.Needs.{needs}
-use Rattle.surveyor.proofs.counting.leaves_none.Statement.{statement}
-use Rattle.surveyor.proofs.counting.leaves_none.Tie as tie
+use Rattle.counting.proofs.leaves_none.Statement.{statement}
+use Rattle.counting.proofs.leaves_none.Tie as tie
 
 abbrev Inv-loop : tie.InvT-loop
 Inv-loop n m streams labels₀ left₀ j₀ labels left j = Passed n streams m labels left j

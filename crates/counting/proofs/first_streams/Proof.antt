@@ -8,8 +8,8 @@ use Rattle.plants.specs.Plants.{noStream}
 use Rattle.flows.proofs.Lists.{Written, written-none, written-put, written-all}
 use Rattle.surveys.specs.Says.{maxSurveyed}
 use borrow.Author.Needs.{needs}
-use Rattle.surveyor.proofs.counting.first_streams.Statement.{statement}
-use Rattle.surveyor.proofs.counting.first_streams.Tie as tie
+use Rattle.counting.proofs.first_streams.Statement.{statement}
+use Rattle.counting.proofs.first_streams.Tie as tie
 
 abbrev Inv-loop : tie.InvT-loop
 Inv-loop plant streams₀ k₀ streams k = (k ≤ maxSurveyed) × Written noStream maxSurveyed (λ k x. getD (plant .streams) k noStream) streams₀ streams k

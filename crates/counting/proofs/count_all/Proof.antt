@@ -9,8 +9,8 @@ use Rattle.surveys.specs.Says.{surveySize}
 use Rattle.surveys.specs.Inner.{ones}
 use Rattle.surveys.proofs.Turns.{top-so, few-long, Tallied, tallied-none, tally-most, tallied-not, tallied-one}
 use borrow.Author.Needs.{needs}
-use Rattle.surveyor.proofs.counting.count_all.Statement.{statement}
-use Rattle.surveyor.proofs.counting.count_all.Tie as tie
+use Rattle.counting.proofs.count_all.Statement.{statement}
+use Rattle.counting.proofs.count_all.Tie as tie
 
 abbrev Inv-loop : tie.InvT-loop
 Inv-loop streams n top counts₀ m₀ counts m = (m ≤ top) × Tallied (take n streams) counts m

@@ -1,8 +1,8 @@
 -- `survey` meets its contract: the counts are those of the plant's first streams, which are all.
 use Rattle.surveys.proofs.Promise.{few-of, plant-surveyed}
 use borrow.Author.Needs.{needs}
-use Rattle.surveyor.proofs.calls.survey.Statement.{statement}
-use Rattle.surveyor.proofs.calls.survey.Tie as tie
+use Rattle.surveyor.proofs.survey.Statement.{statement}
+use Rattle.surveyor.proofs.survey.Tie as tie
 
 first-streams-requires : tie.Need-first-streams-requires
 first-streams-requires c κs = c .pre .0

@@ -6,8 +6,8 @@ use Rattle.flows.specs.Sides.{bit}
 use Rattle.surveys.specs.Inner.{ones}
 use Rattle.surveys.proofs.Turns.{none-taken, half-left, ones-more, count-most}
 use borrow.Author.Needs.{needs}
-use Rattle.surveyor.proofs.counting.ones_of.Statement.{statement}
-use Rattle.surveyor.proofs.counting.ones_of.Tie as tie
+use Rattle.counting.proofs.ones_of.Statement.{statement}
+use Rattle.counting.proofs.ones_of.Tie as tie
 
 abbrev Inv-loop : tie.InvT-loop
 Inv-loop m n size₀ left₀ j₀ size left j = (j ≤ n) × (size ≡ ones j m) × (left ≡ m / 2 ^ j)
