@@ -11,8 +11,8 @@ use mir.Facts.{toZ-ofZ}
 use Rattle.numbers.specs.Bytes.{be, signed}
 use Rattle.numbers.proofs.Parts.{part-is}
 use Rattle.plants.specs.declared.Stream.{Stream}
-use Rattle.plant_reader.proofs.ranged_in.Statement.{statement}
-use Rattle.plant_reader.proofs.ranged_in.Tie as tie
+use Rattle.stream_bodies.proofs.ranged_in.Statement.{statement}
+use Rattle.stream_bodies.proofs.ranged_in.Tie as tie
 
 metered-in-requires : tie.Need-metered-in-requires
 metered-in-requires c κs = search needs

@@ -12,8 +12,8 @@ use mir.Val.{SFits}
 use mir.Facts.{toZ-ofZ}
 use Rattle.numbers.specs.Bytes.{be, signed}
 use Rattle.numbers.proofs.Parts.{part-is}
-use Rattle.plant_reader.proofs.metered_in.Statement.{statement}
-use Rattle.plant_reader.proofs.metered_in.Tie as tie
+use Rattle.stream_bodies.proofs.metered_in.Statement.{statement}
+use Rattle.stream_bodies.proofs.metered_in.Tie as tie
 
 sub-get-u16 : tie.Need-sub-get-u16
 sub-get-u16 c = search needs
