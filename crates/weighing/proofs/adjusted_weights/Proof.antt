@@ -3,9 +3,9 @@ use borrow.Author.Needs.{needs}
 use native.Mathlib.Omega.{arith}
 use mathlib.Core.Path.{_≡_, refl}
 use Prim.Native.Nat.{_-_}
-use Rattle.verdicts.proofs.Summing.{Classed, Weighed, weighed-none, weighed-more, weighed-all}
-use Rattle.verdicts.proofs.adjusted_weights.Statement.{statement}
-use Rattle.verdicts.proofs.adjusted_weights.Tie as tie
+use Rattle.weighing.proofs.Summing.{Classed, Weighed, weighed-none, weighed-more, weighed-all}
+use Rattle.weighing.proofs.adjusted_weights.Statement.{statement}
+use Rattle.weighing.proofs.adjusted_weights.Tie as tie
 
 abbrev Inv-loop : tie.InvT-loop
 Inv-loop p classes n sum₀ i₀ sum i = Classed p classes × (n ≡ p .count) × Weighed p sum i
