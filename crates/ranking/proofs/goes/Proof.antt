@@ -1,8 +1,8 @@
 -- By the two tests.
 use native.Mathlib.Omega.{arith}
 use borrow.Author.Tests.{lt-ltb, le-ltb, eq-eqb, ne-eqb}
-use Rattle.choosing.proofs.goes.Statement.{statement}
-use Rattle.choosing.proofs.goes.Tie as tie
+use Rattle.ranking.proofs.goes.Statement.{statement}
+use Rattle.ranking.proofs.goes.Tie as tie
 
 returns : tie.Need-returns
 returns c = rw (lt-ltb _ _ (c .if1 .taken))

@@ -1,7 +1,7 @@
 -- A metered stream does not count.
 use borrow.Author.Needs.{needs}
-use Rattle.choosing.proofs.counts.Statement.{statement}
-use Rattle.choosing.proofs.counts.Tie as tie
+use Rattle.ranking.proofs.counts.Statement.{statement}
+use Rattle.ranking.proofs.counts.Tie as tie
 
 returns : tie.Need-returns
 returns c = search needs
