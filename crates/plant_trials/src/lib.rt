@@ -31,7 +31,7 @@ fn marks(metered: bool, ranged: bool) -> u8 {
 fn put_stream(s: Stream, out: &mut [u8])
     requires { ⌜ 17 ≤ length (now out) ⌝ }
 {
-    plant_writer::put_ranged(s, out);
+    stream_writer::put_ranged(s, out);
     out[0] = marks(s.metered, s.ranged);
 }
 

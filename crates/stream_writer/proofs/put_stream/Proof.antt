@@ -3,8 +3,8 @@ use borrow.Author.Needs.{needs}
 use borrow.Author.Tests.{not-true, not-false}
 use Rattle.numbers.proofs.Parts.{put-as}
 use Rattle.plants.proofs.Records.{metered-bytes, ranged-bytes, unmetered-bytes}
-use Rattle.plant_writer.proofs.put_stream.Statement.{statement}
-use Rattle.plant_writer.proofs.put_stream.Tie as tie
+use Rattle.stream_writer.proofs.put_stream.Statement.{statement}
+use Rattle.stream_writer.proofs.put_stream.Tie as tie
 
 put-ends-requires : tie.Need-put-ends-requires
 put-ends-requires c κs = search needs

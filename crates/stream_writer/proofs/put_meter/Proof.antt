@@ -8,8 +8,8 @@ use mir.Val.{SFits}
 use mir.Facts.{toZ-ofZ}
 use Rattle.numbers.specs.Bytes.{putBe, raw}
 use Rattle.numbers.proofs.Parts.{laid, lay}
-use Rattle.plant_writer.proofs.put_meter.Statement.{statement}
-use Rattle.plant_writer.proofs.put_meter.Tie as tie
+use Rattle.stream_writer.proofs.put_meter.Statement.{statement}
+use Rattle.stream_writer.proofs.put_meter.Tie as tie
 
 reading-fits : (c : tie.After-struct-told) → SFits w32 (c .before .before .before .before .before .before .before .before .before .before .before .args .s .reading)
 reading-fits c = search needs

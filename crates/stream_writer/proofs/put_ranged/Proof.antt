@@ -10,8 +10,8 @@ use Rattle.numbers.specs.Bytes.{putBe, raw}
 use Rattle.numbers.proofs.Parts.{laid, lay}
 use Rattle.plants.specs.Limits.{rangedKind}
 use Rattle.plants.specs.Files.{meterBytes}
-use Rattle.plant_writer.proofs.put_ranged.Statement.{statement}
-use Rattle.plant_writer.proofs.put_ranged.Tie as tie
+use Rattle.stream_writer.proofs.put_ranged.Statement.{statement}
+use Rattle.stream_writer.proofs.put_ranged.Tie as tie
 
 low-fits : (c : tie.After-struct-told) → SFits w32 (c .before .before .before .before .before .before .before .args .s .low)
 low-fits c = search needs

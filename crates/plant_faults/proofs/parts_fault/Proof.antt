@@ -8,8 +8,8 @@ use Rattle.numbers.specs.Choice.{firstOf, refuseIf}
 use Rattle.numbers.proofs.Tests.{first-some}
 use Rattle.plants.specs.Limits.{maxStreams}
 use Rattle.plants.specs.Plants.{unitsFault, firstFault}
-use Rattle.plant_writer.proofs.parts_fault.Statement.{statement}
-use Rattle.plant_writer.proofs.parts_fault.Tie as tie
+use Rattle.plant_faults.proofs.parts_fault.Statement.{statement}
+use Rattle.plant_faults.proofs.parts_fault.Tie as tie
 
 units-fault-requires : tie.Need-units-fault-requires
 units-fault-requires c κs = search needs

@@ -2,9 +2,9 @@
 use borrow.Author.Needs.{needs}
 use native.Mathlib.Omega.{arith}
 use Prim.Native.Nat.{_-_}
-use Rattle.plant_writer.proofs.Loops.{Looked, look, at-fault, look-on, no-fault}
-use Rattle.plant_writer.proofs.streams_fault.Statement.{statement}
-use Rattle.plant_writer.proofs.streams_fault.Tie as tie
+use Rattle.plant_faults.proofs.Looking.{Looked, look, at-fault, look-on, no-fault}
+use Rattle.plant_faults.proofs.streams_fault.Statement.{statement}
+use Rattle.plant_faults.proofs.streams_fault.Tie as tie
 
 abbrev Inv-loop : tie.InvT-loop
 Inv-loop units count streams i₀ i = Looked units count streams i

@@ -5,8 +5,8 @@ use native.Mathlib.Omega.{arith}
 use lib.Seq.{sets-eq}
 use mathlib.Core.List.{[], _∷_}
 use lib.ListN.{length-set}
-use Rattle.plant_writer.proofs.put_ends.Statement.{statement}
-use Rattle.plant_writer.proofs.put_ends.Tie as tie
+use Rattle.stream_writer.proofs.put_ends.Statement.{statement}
+use Rattle.stream_writer.proofs.put_ends.Tie as tie
 
 slice-write-out : tie.Need-slice-write-out
 slice-write-out c = search needs
