@@ -6,8 +6,8 @@ ghost use Rattle.plants.specs.Limits.{maxStreams};
 ghost use Rattle.plants.specs.Plants.{firstFault, partsFault};
 use plants::Stream;
 use plants::limits::MAX_STREAMS;
-use plants::streams::stream_fault;
-use plants::streams::units_fault;
+use stream_faults::stream_fault;
+use stream_faults::units_fault;
 
 // The first fault of the first so many streams.
 fn streams_fault(units: u8, count: usize, streams: [Stream; MAX_STREAMS]) -> u8

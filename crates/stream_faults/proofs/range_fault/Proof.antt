@@ -5,10 +5,10 @@ use Prim.Native.Nat.{_-_}
 use mir.Syntax.{w32}
 use mir.Facts.{toZ-ofZ}
 use Rattle.numbers.proofs.Complement.{below-range, above-range}
 use Rattle.plants.specs.Limits.{maxRange}
 use Rattle.plants.proofs.Ranges.{out-of-order, low-outside, high-outside, range-kept}
-use Rattle.plants.proofs.streams.range_fault.Statement.{statement}
-use Rattle.plants.proofs.streams.range_fault.Tie as tie
+use Rattle.stream_faults.proofs.range_fault.Statement.{statement}
+use Rattle.stream_faults.proofs.range_fault.Tie as tie
 
 returns : tie.Need-returns
 returns c = simp (not-true (c .before .args .ranged) (c .if1 .taken))
