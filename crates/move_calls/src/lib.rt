@@ -5,14 +5,14 @@ ghost use Rattle.plants.specs.Says.{readOf};
 ghost use Rattle.moves.specs.Moves.{toRanged, fromRanged, ToSays, FromSays};
 ghost use Rattle.moves.specs.Inner.{WritesRead};
 use file_parts::refusal;
+use plant_moves::move_all;
+use plant_moves::narrow_fault;
 use plant_reader::read_plant;
 use plant_writer::write_plant;
 use plants::Done;
 use plants::Plant;
 use plants::Read;
 use plants::limits::LONGEST_FILE;
-use stream_moves::move_all;
-use stream_moves::narrow_fault;
 
 // The plant of a file, moved to the ranged form; or the reader's refusal.
 fn read_forward(file: &[u8]) -> Read

@@ -7,8 +7,8 @@ use lib.ListN.{length}
 use Rattle.plants.specs.Limits.{maxStreams}
 use Rattle.moves.specs.Inner.{moving}
 use Rattle.moves.proofs.Mapped.{partly, partly-none, partly-more, partly-all}
-use Rattle.stream_moves.proofs.move_all.Statement.{statement}
-use Rattle.stream_moves.proofs.move_all.Tie as tie
+use Rattle.plant_moves.proofs.move_all.Statement.{statement}
+use Rattle.plant_moves.proofs.move_all.Tie as tie
 
 abbrev Inv-loop : tie.InvT-loop
 Inv-loop forth streams all₀ k₀ all k = (k ≤ maxStreams) × (all ≡ partly (moving forth) k streams) × (length streams ≡ maxStreams)

@@ -7,8 +7,8 @@ use lib.ListN.{length, drop}
 use Rattle.plants.specs.Limits.{maxStreams}
 use Rattle.moves.specs.Moves.{narrowFault}
 use Rattle.moves.proofs.Mapped.{narrow-found, narrow-more, narrow-end}
-use Rattle.stream_moves.proofs.narrow_fault.Statement.{statement}
-use Rattle.stream_moves.proofs.narrow_fault.Tie as tie
+use Rattle.plant_moves.proofs.narrow_fault.Statement.{statement}
+use Rattle.plant_moves.proofs.narrow_fault.Tie as tie
 
 abbrev Inv-loop : tie.InvT-loop
 Inv-loop streams at₀ at = (at ≤ maxStreams) × (narrowFault streams ≡ narrowFault (drop at streams)) × (length streams ≡ maxStreams)
