@@ -123,7 +123,7 @@ pub extern "C" fn wengeludo_plant_from_transmitter(
 pub extern "C" fn wengeludo_to_ranged(file: &[u8], out: &mut [u8], written: &mut usize) -> u8
     ensures { λ r. ⌜ ToSays (now (file .entry)) (now (out .entry)) (now (out .exit)) (record { number = r; written = now (written .exit) }) ⌝ }
 {
-    let done = moves::to_ranged(file, out);
+    let done = move_calls::to_ranged(file, out);
     *written = done.written;
     done.number
 }
@@ -133,7 +133,7 @@ pub extern "C" fn wengeludo_to_ranged(file: &[u8], out: &mut [u8], written: &mut
 pub extern "C" fn wengeludo_from_ranged(file: &[u8], out: &mut [u8], written: &mut usize) -> u8
     ensures { λ r. ⌜ FromSays (now (file .entry)) (now (out .entry)) (now (out .exit)) (record { number = r; written = now (written .exit) }) ⌝ }
 {
-    let done = moves::from_ranged(file, out);
+    let done = move_calls::from_ranged(file, out);
     *written = done.written;
     done.number
 }

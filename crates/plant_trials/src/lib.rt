@@ -31,7 +31,7 @@ fn marks(metered: bool, ranged: bool) -> u8 {
 fn put_stream(s: Stream, out: &mut [u8])
     requires { ⌜ 17 ≤ length (now out) ⌝ }
 {
-    plant_writer::put_ranged(s, out);
+    stream_writer::put_ranged(s, out);
     out[0] = marks(s.metered, s.ranged);
 }
 
@@ -114,11 +114,11 @@ pub fn translate(given: &[u8], out: &mut [u8]) -> Answer {
 
 // The moves to the ranged form and home: no number.
 pub fn move_forward(given: &[u8], out: &mut [u8]) -> Answer {
-    let d = moves::to_ranged(given, out);
+    let d = move_calls::to_ranged(given, out);
     told(d.number, d.written, 0)
 }
 
 pub fn move_home(given: &[u8], out: &mut [u8]) -> Answer {
-    let d = moves::from_ranged(given, out);
+    let d = move_calls::from_ranged(given, out);
     told(d.number, d.written, 0)
 }
