@@ -3,8 +3,8 @@ use borrow.Author.Needs.{needs}
 use mathlib.Core.Path.{_≡_, sym, _∙_}
 use mathlib.Core.Bool.{true, false}
 use Rattle.sheets.specs.Kept.{fieldsFit}
-use Rattle.sheet_reader.proofs.total_fault.Statement.{statement}
-use Rattle.sheet_reader.proofs.total_fault.Tie as tie
+use Rattle.sheet_fields.proofs.total_fault.Statement.{statement}
+use Rattle.sheet_fields.proofs.total_fault.Tie as tie
 
 fields-fit-requires : tie.Need-fields-fit-requires
 fields-fit-requires c κs = search needs

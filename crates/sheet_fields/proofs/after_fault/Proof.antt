@@ -1,7 +1,7 @@
 -- By the test.
 use borrow.Author.Tests.{eq-eqb, ne-eqb}
-use Rattle.sheet_reader.proofs.after_fault.Statement.{statement}
-use Rattle.sheet_reader.proofs.after_fault.Tie as tie
+use Rattle.sheet_fields.proofs.after_fault.Statement.{statement}
+use Rattle.sheet_fields.proofs.after_fault.Tie as tie
 
 returns : tie.Need-returns
 returns c = simp (eq-eqb _ _ (c .if1 .taken))

@@ -1,8 +1,8 @@
 -- By the tests in their order.
 use borrow.Author.Needs.{needs}
 use borrow.Author.Tests.{eq-eqb, ne-eqb, lt-leb, le-leb}
-use Rattle.sheet_reader.proofs.fields_fit.Statement.{statement}
-use Rattle.sheet_reader.proofs.fields_fit.Tie as tie
+use Rattle.sheet_fields.proofs.fields_fit.Statement.{statement}
+use Rattle.sheet_fields.proofs.fields_fit.Tie as tie
 
 returns : tie.Need-returns
 returns c = simp (eq-eqb _ _ (c .if1 .taken))

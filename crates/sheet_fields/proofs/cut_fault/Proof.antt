@@ -1,7 +1,7 @@
 -- By the test.
 use borrow.Author.Tests.{lt-ltb, le-ltb}
-use Rattle.sheet_reader.proofs.cut_fault.Statement.{statement}
-use Rattle.sheet_reader.proofs.cut_fault.Tie as tie
+use Rattle.sheet_fields.proofs.cut_fault.Statement.{statement}
+use Rattle.sheet_fields.proofs.cut_fault.Tie as tie
 
 returns : tie.Need-returns
 returns c = simp (lt-ltb _ _ (c .if1 .taken))

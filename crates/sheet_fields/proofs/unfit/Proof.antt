@@ -1,7 +1,7 @@
 -- By the two tests.
 use borrow.Author.Tests.{le-leb, lt-leb}
-use Rattle.sheet_reader.proofs.unfit.Statement.{statement}
-use Rattle.sheet_reader.proofs.unfit.Tie as tie
+use Rattle.sheet_fields.proofs.unfit.Statement.{statement}
+use Rattle.sheet_fields.proofs.unfit.Tie as tie
 
 returns : tie.Need-returns
 returns c = simp (le-leb _ _ (c .if1 .taken))

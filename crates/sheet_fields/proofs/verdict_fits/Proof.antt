@@ -1,7 +1,7 @@
 -- By the degrees, then by the verdict.
 use borrow.Author.Tests.{eq-eqb, ne-eqb}
-use Rattle.sheet_reader.proofs.verdict_fits.Statement.{statement}
-use Rattle.sheet_reader.proofs.verdict_fits.Tie as tie
+use Rattle.sheet_fields.proofs.verdict_fits.Statement.{statement}
+use Rattle.sheet_fields.proofs.verdict_fits.Tie as tie
 
 returns : tie.Need-returns
 returns c = simp (eq-eqb _ _ (c .if1 .taken))
