@@ -11,14 +11,14 @@ use sheets::kinds::TOTAL;
 use sheets::kinds::TOTAL_SIZE;
 use sheets::kinds::WITHHELD;
 ghost use mathlib.Core.Path.{_≡_};
-ghost use mathlib.Core.List.{_∷_};
+ghost use mathlib.Core.List.{[], _∷_, _++_};
 ghost use Prim.Native.Nat.{_≤_, _*_};
 ghost use lib.ListN.{length, take};
 ghost use Rattle.numbers.specs.Bytes.{putBe, raw, over};
 ghost use Rattle.numbers.specs.Inner.{Put};
 ghost use Rattle.plants.specs.Limits.{maxStreams};
 ghost use Rattle.sheets.specs.Sheets.{recordOf, recordsOf, totalOf, sheetBytes};
-ghost use Rattle.sheets.specs.Apart.{streamSize, totalSize, leastSlice};
+ghost use Rattle.sheets.specs.Apart.{totalKind, streamSize, totalSize, leastSlice};
 
 // A kind and a flow.
 fn put_flow(kind: u8, flow: i64, out: &mut [u8])
@@ -71,16 +71,32 @@ fn put_records(count: usize, streams: [Entry; MAX_STREAMS], out: &mut [u8]) -> u
     at
 }
 
+// The kind of the total and the sheet's number.
+fn put_number(number: u32, out: &mut [u8])
+    requires { ⌜ totalSize ≤ length (now out) ⌝ }
+    ensures { λ _. ⌜ now (out .exit) ≡ over (totalKind ∷ putBe 4 number) (now (out .entry)) ⌝ }
+{
+    numbers::put_u8(TOTAL, out);
+    numbers::put_u32(number, &mut out[1..]);
+}
+
+// What stands behind them: cost, degrees and verdict.
+fn put_cost(cost: u64, degrees: u8, verdict: u8, out: &mut [u8])
+    requires { ⌜ 10 ≤ length (now out) ⌝ }
+    ensures { λ _. ⌜ now (out .exit) ≡ over (putBe 8 cost ++ (degrees ∷ verdict ∷ [])) (now (out .entry)) ⌝ }
+{
+    numbers::put_u64(cost, out);
+    numbers::put_u8(degrees, &mut out[8..]);
+    numbers::put_u8(verdict, &mut out[9..]);
+}
+
 // The total.
 fn put_total(number: u32, cost: u64, degrees: u8, verdict: u8, out: &mut [u8])
     requires { ⌜ totalSize ≤ length (now out) ⌝ }
     ensures { λ _. ⌜ now (out .exit) ≡ over (totalOf number cost degrees verdict) (now (out .entry)) ⌝ }
 {
-    numbers::put_u8(TOTAL, out);
-    numbers::put_u32(number, &mut out[1..]);
-    numbers::put_u64(cost, &mut out[5..]);
-    numbers::put_u8(degrees, &mut out[13..]);
-    numbers::put_u8(verdict, &mut out[14..]);
+    put_number(number, out);
+    put_cost(cost, degrees, verdict, &mut out[5..]);
 }
 
 // The sheet of a balance with so many streams, under a number, and how many bytes it takes.
