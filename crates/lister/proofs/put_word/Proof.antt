@@ -6,9 +6,9 @@ use mathlib.Core.List.{List}
 use Prim.Native.Nat.{ℕ}
 use lib.ListN.{length}
 use Rattle.numerals.proofs.Behind.{added-as}
 use Rattle.listings.proofs.Sizes.{word-pass, word-fail, word-close, word-none}
-use Rattle.listings.proofs.put_word.Statement.{statement}
-use Rattle.listings.proofs.put_word.Tie as tie
+use Rattle.lister.proofs.put_word.Statement.{statement}
+use Rattle.lister.proofs.put_word.Tie as tie
 
 slice-aggregate-put-text : tie.Need-slice-aggregate-put-text
 slice-aggregate-put-text c = search needs

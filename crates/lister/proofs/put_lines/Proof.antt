@@ -9,9 +9,9 @@ use mir.Val.{SFits}
 use mir.Facts.{toZ-ofZ}
 use Rattle.sheets.proofs.Entries.{noEntry}
 use Rattle.numerals.proofs.Behind.{kept-length}
-use Rattle.listings.proofs.Lined.{Lined, no-lines, line-room, one-line, all-lines, lines-most}
-use Rattle.listings.proofs.put_lines.Statement.{statement}
-use Rattle.listings.proofs.put_lines.Tie as tie
+use Rattle.lister.proofs.Lined.{Lined, no-lines, line-room, one-line, all-lines, lines-most}
+use Rattle.lister.proofs.put_lines.Statement.{statement}
+use Rattle.lister.proofs.put_lines.Tie as tie
 
 abbrev Inv-loop : tie.InvT-loop
 Inv-loop count out₀ streams at₀ i₀ out at i = Lined streams count out₀ out at i

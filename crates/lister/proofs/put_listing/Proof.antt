@@ -2,9 +2,9 @@
 use borrow.Author.Needs.{needs}
 use native.Mathlib.Omega.{arith}
 use Rattle.numerals.proofs.Behind.{behind, put-front}
 use Rattle.listings.proofs.Sizes.{total-most}
-use Rattle.listings.proofs.put_listing.Statement.{statement}
-use Rattle.listings.proofs.put_listing.Tie as tie
+use Rattle.lister.proofs.put_listing.Statement.{statement}
+use Rattle.lister.proofs.put_listing.Tie as tie
 
 put-lines-requires : tie.Need-put-lines-requires
 put-lines-requires c κs = search needs

@@ -5,11 +5,11 @@ use mathlib.Core.Path.{ap}
 use lib.IntN.{ℤ}
 use lib.ListN.{length}
 use mir.Facts.{toZ-ofZ}
 use Rattle.listings.specs.Listing.{entryText}
 use Rattle.numerals.proofs.Behind.{behind}
 use Rattle.listings.proofs.Sizes.{line-size}
-use Rattle.listings.proofs.put_line.Statement.{statement}
-use Rattle.listings.proofs.put_line.Tie as tie
+use Rattle.lister.proofs.put_line.Statement.{statement}
+use Rattle.lister.proofs.put_line.Tie as tie
 
 put-field-requires : tie.Need-put-field-requires
 put-field-requires c κs = let a = c .before .before .args in let s = line-size (a .number) (a .class) (a .flow) in omega arith

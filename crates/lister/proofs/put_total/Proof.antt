@@ -2,9 +2,9 @@
 use borrow.Author.Needs.{needs}
 use native.Mathlib.Omega.{arith}
 use Rattle.numerals.proofs.Behind.{behind}
 use Rattle.listings.proofs.Sizes.{total-size}
-use Rattle.listings.proofs.put_total.Statement.{statement}
-use Rattle.listings.proofs.put_total.Tie as tie
+use Rattle.lister.proofs.put_total.Statement.{statement}
+use Rattle.lister.proofs.put_total.Tie as tie
 
 slice-aggregate-put-text : tie.Need-slice-aggregate-put-text
 slice-aggregate-put-text c = search needs
