@@ -7,8 +7,8 @@ use mathlib.Core.List.{List, [], _∷_, append-assoc}
 use Prim.Native.Nat.{ℕ}
 use Rattle.numbers.specs.Bytes.{putBe, over}
 use Rattle.numbers.proofs.Parts.{laid, lay}
-use Rattle.sheet_writer.proofs.put_cost.Statement.{statement}
-use Rattle.sheet_writer.proofs.put_cost.Tie as tie
+use Rattle.sheet_records.proofs.put_cost.Statement.{statement}
+use Rattle.sheet_records.proofs.put_cost.Tie as tie
 
 put-u64-requires : tie.Need-put-u64-requires
 put-u64-requires c κs = search needs

@@ -6,8 +6,8 @@ use Rattle.numbers.proofs.Parts.{put-as}
 use Rattle.flows.specs.declared.Class.{Class}
 use Rattle.sheets.specs.Sheets.{recordOf}
 use Rattle.sheets.proofs.Laying.{record-as}
-use Rattle.sheet_writer.proofs.put_record.Statement.{statement}
-use Rattle.sheet_writer.proofs.put_record.Tie as tie
+use Rattle.sheet_records.proofs.put_record.Statement.{statement}
+use Rattle.sheet_records.proofs.put_record.Tie as tie
 
 enum-told : tie.Need-enum-told
 enum-told c = search needs

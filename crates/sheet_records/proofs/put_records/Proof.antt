@@ -18,8 +18,8 @@ use Rattle.sheets.specs.Sheets.{recordOf, recordsOf}
 use Rattle.sheets.specs.Apart.{streamSize}
 use Rattle.sheets.proofs.Entries.{noEntry}
 use Rattle.sheets.proofs.Laying.{record-most, records-more}
-use Rattle.sheet_writer.proofs.put_records.Statement.{statement}
-use Rattle.sheet_writer.proofs.put_records.Tie as tie
+use Rattle.sheet_records.proofs.put_records.Statement.{statement}
+use Rattle.sheet_records.proofs.put_records.Tie as tie
 
 abbrev Inv-loop : tie.InvT-loop
 Inv-loop count out₀ streams at₀ i₀ out at i = (count ≤ maxStreams) × (length streams ≡ maxStreams) × Rows (λ k. recordsOf (take k streams)) streamSize count out₀ out at i

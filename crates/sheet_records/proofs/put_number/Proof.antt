@@ -6,8 +6,8 @@ use mathlib.Core.List.{[], _∷_}
 use Rattle.numbers.specs.Bytes.{putBe}
 use Rattle.numbers.proofs.Parts.{laid, lay}
 use Rattle.sheets.specs.Apart.{totalKind}
-use Rattle.sheet_writer.proofs.put_number.Statement.{statement}
-use Rattle.sheet_writer.proofs.put_number.Tie as tie
+use Rattle.sheet_records.proofs.put_number.Statement.{statement}
+use Rattle.sheet_records.proofs.put_number.Tie as tie
 
 put-u8-requires : tie.Need-put-u8-requires
 put-u8-requires c κs = search needs

@@ -10,8 +10,8 @@ use mir.Val.{toZ, ofZ}
 use mir.Facts.{toZ-ofZ}
 use Rattle.numbers.specs.Bytes.{putBe, raw, over}
 use Rattle.numbers.proofs.Parts.{laid, lay}
-use Rattle.sheet_writer.proofs.put_flow.Statement.{statement}
-use Rattle.sheet_writer.proofs.put_flow.Tie as tie
+use Rattle.sheet_records.proofs.put_flow.Statement.{statement}
+use Rattle.sheet_records.proofs.put_flow.Tie as tie
 
 put-u8-requires : tie.Need-put-u8-requires
 put-u8-requires c κs = search needs

@@ -6,8 +6,8 @@ use mathlib.Core.List.{[], _∷_, _++_}
 use Rattle.numbers.specs.Bytes.{putBe}
 use Rattle.numbers.proofs.Parts.{laid, lay}
 use Rattle.sheets.specs.Apart.{totalKind}
-use Rattle.sheet_writer.proofs.put_total.Statement.{statement}
-use Rattle.sheet_writer.proofs.put_total.Tie as tie
+use Rattle.sheet_records.proofs.put_total.Statement.{statement}
+use Rattle.sheet_records.proofs.put_total.Tie as tie
 
 put-number-requires : tie.Need-put-number-requires
 put-number-requires c κs = search needs
