@@ -13,7 +13,7 @@ ghost use lib.ListN.{length};
 ghost use Rattle.numbers.specs.Choice.{refuseIf, firstOf};
 ghost use Rattle.plants.specs.Limits.{maxStreams};
 ghost use Rattle.sheets.specs.Apart.{totalSize};
-ghost use Rattle.sheets.specs.Kept.{blank, verdictFits, fieldsFit, totalFault, afterFault};
+ghost use Rattle.sheets.specs.Kept.{blank, verdictFits, totalFault, afterFault};
 
 // A stream record of so many bytes, after so many streams: there is no room for it, or it is cut.
 pub fn unfit(size: usize, count: u8, s: &[u8]) -> bool
@@ -48,24 +48,17 @@ fn verdict_fits(degrees: u8, verdict: u8) -> bool
     verdict < 2
 }
 
-// The fields that are allowed.
-fn fields_fit(t: Total) -> bool
-    ensures { λ r. ⌜ r ≡ fieldsFit t ⌝ }
-{
-    if t.sheet == 0 {
-        return false;
-    }
-    if MAX_UNITS < t.degrees {
-        return false;
-    }
-    verdict_fits(t.degrees, t.verdict)
-}
-
 // A field that is not allowed.
-fn total_fault(t: Total) -> u8
+fn fields_fault(t: Total) -> u8
     ensures { λ r. ⌜ r ≡ totalFault t ⌝ }
 {
-    if fields_fit(t) {
+    if t.sheet == 0 {
+        return 14;
+    }
+    if MAX_UNITS < t.degrees {
+        return 14;
+    }
+    if verdict_fits(t.degrees, t.verdict) {
         return 0;
     }
     14
@@ -95,7 +88,7 @@ fn after_fault(s: &[u8]) -> u8
 pub fn rest_fault(t: Total, s: &[u8]) -> u8
     ensures { λ r. ⌜ r ≡ firstOf (totalFault t) (afterFault (now (s .entry))) ⌝ }
 {
-    let fields = total_fault(t);
+    let fields = fields_fault(t);
     let after = after_fault(s);
     first_of(fields, after)
 }
