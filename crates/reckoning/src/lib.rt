@@ -1,4 +1,4 @@
-// The balance by the cheapest flow: entries, cost, degrees and verdict. It stands below the solver: what a solution is, it is told.
+// The balance by the cheapest flow: entries, cost, degrees and verdict. It stands below the solver, and is handed a solution.
 use costs::cost_of;
 use entries::classes_of;
 use entries::entries_of;
