@@ -1,14 +1,16 @@
-// The calls about plant files that cases try.
+// The calls about plant files that cases try, and what every case is made of.
 //
 // A stream is 17 bytes: 1 where it is metered and 2 where it has a range, added; from, to, weight (2); reading, low, high (4
 // each, two's complement).
+pub mod cases;
+
+use cases::NO_CASE;
+use cases::told;
+use plants::Done;
 use plants::Plant;
 use plants::Stream;
 use plants::limits::MAX_STREAMS;
 use plants::streams::unmetered_stream;
-use trials::Answer;
-use trials::no_case;
-use trials::told;
 ghost use mathlib.Core.Path.{_≡_};
 ghost use Prim.Native.Nat.{_≤_};
 ghost use lib.ListN.{length};
@@ -47,9 +49,9 @@ fn put_streams(streams: [Stream; MAX_STREAMS], out: &mut [u8])
 }
 
 // The plant reader: the count is the units, the number how many streams, and the slice, of 1,632 bytes, gets the 96 streams.
-pub fn reader(given: &[u8], out: &mut [u8]) -> Answer {
+pub fn reader(given: &[u8], out: &mut [u8]) -> u64 {
     if out.len() != 1632 {
-        return no_case();
+        return NO_CASE;
     }
     let read = plant_reader::read_plant(given);
     let p = read.plant;
@@ -77,48 +79,34 @@ fn stream_of(part: &[u8]) -> Stream
     }
 }
 
-fn streams_of(given: &[u8]) -> [Stream; MAX_STREAMS]
-    requires { ⌜ length (now given) ≡ 1632 ⌝ }
+// The units, how many streams, and 96 streams.
+fn plant_of(given: &[u8]) -> Plant
+    requires { ⌜ length (now given) ≡ 1634 ⌝ }
 {
     let none = unmetered_stream(0, 0);
     let mut streams = [none; MAX_STREAMS];
     let mut i: usize = 0;
     while i < MAX_STREAMS {
-        let s = stream_of(&given[17 * i..]);
+        let s = stream_of(&given[2 + 17 * i..]);
         streams[i] = s;
         i += 1;
     }
-    streams
-}
-
-// The plant writer: handed in the units, how many streams, and 96 streams; no number.
-pub fn writer(given: &[u8], out: &mut [u8]) -> Answer {
-    if given.len() != 1634 {
-        return no_case();
-    }
-    let streams = streams_of(&given[2..]);
-    let p = Plant {
+    Plant {
         units: given[0],
         count: given[1],
         streams: streams,
-    };
-    let d = plant_writer::write_plant(p, out);
+    }
+}
+
+// A plant file written: no number.
+pub fn written(d: Done) -> u64 {
     told(d.number, d.written, 0)
 }
 
-// The translator: no number.
-pub fn translate(given: &[u8], out: &mut [u8]) -> Answer {
-    let d = translator::plant_from_transmitter(given, out);
-    told(d.number, d.written, 0)
-}
-
-// The moves to the ranged form and home: no number.
-pub fn move_forward(given: &[u8], out: &mut [u8]) -> Answer {
-    let d = moves::to_ranged(given, out);
-    told(d.number, d.written, 0)
-}
-
-pub fn move_home(given: &[u8], out: &mut [u8]) -> Answer {
-    let d = moves::from_ranged(given, out);
-    told(d.number, d.written, 0)
+// The plant writer: handed in a plant.
+pub fn writer(given: &[u8], out: &mut [u8]) -> u64 {
+    if given.len() != 1634 {
+        return NO_CASE;
+    }
+    written(plant_writer::write_plant(plant_of(given), out))
 }

@@ -1,21 +1,26 @@
-// What a call that a case tries comes to, but for the slice.
-pub struct Answer {
-    pub number: u8,
-    pub count: usize,
-    pub back: u32,
-}
+// The calls that cases try, but for those about plant files and those of the solver, and the test of the places that a call marks.
+mod closed;
+mod kept;
+pub mod marking;
+mod meters;
+pub mod solved;
 
-// What is returned for bytes that no case may hand in, and for a wrong answer that stands in no case.
-const NO_CASE: u8 = 255;
+use closed::close_up;
+use kept::kept;
+use meters::buy;
+use meters::survey;
+use plant_trials::cases::NO_CASE;
+use plant_trials::cases::told;
+use survey_texts::list_layouts;
 
-pub fn told(number: u8, count: usize, back: u32) -> Answer {
-    Answer {
-        number: number,
-        count: count,
-        back: back,
+// The call of this kind.
+pub fn call(kind: u64, given: &[u8], out: &mut [u8]) -> u64 {
+    match kind {
+        6 => kept(given, out),
+        8 => close_up(given, out),
+        11 => buy(given, out),
+        12 => survey(given, out),
+        13 => told(0, list_layouts(given, out), 0),
+        _ => NO_CASE,
     }
-}
-
-pub fn no_case() -> Answer {
-    told(NO_CASE, 0, 0)
 }

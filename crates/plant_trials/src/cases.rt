@@ -1,0 +1,61 @@
+// A file of cases has one after the other, with no gap. A case, its numbers with the high byte first:
+//
+//     byte 0       what is called: 1 the sheet call, 2 the plant reader, 3 the plant writer, 4 the solver without a hint,
+//                  5 the listing, 6 the sheet reader, 7 the translator, 8 the closing, 9 and 10 the moves,
+//                  11 meters to buy, 12 the survey, 13 its text
+//     byte 1       what the slice holds before the call
+//     bytes 2-3    how many bytes are handed in, at most ROOM
+//     bytes 4-5    how many bytes of the slice follow, at most ROOM; those past them are as before the call
+//     bytes 6-7    how long the slice is, at most ROOM
+//     bytes 8-11   the number handed in
+//     byte 12      the number returned, and a 0 after it
+//     bytes 14-15  the count handed back
+//     bytes 16-19  the number handed back
+//
+// then the bytes handed in, then those of the slice. What they are for each call stands beside each.
+ghost use Prim.Native.Nat.{_≤_};
+
+pub const ROOM: usize = 2560;
+
+// What is told for bytes that no case may hand in, and for a wrong answer that stands in no case.
+pub const NO_CASE: u64 = 18_446_744_073_709_551_615;
+
+// What a call comes to, but for the slice, as bytes 12 to 19 tell it.
+pub fn told(number: u8, count: usize, back: u32) -> u64 {
+    if 65_535 < count {
+        return NO_CASE;
+    }
+    (number as u64 * 16_777_216 + count as u64) * 4_294_967_296 + back as u64
+}
+
+// The next four bytes of a file, 0 where it ends.
+pub fn next_u32(file: i32) -> u32 {
+    let mut bytes = [0u8; 4];
+    io::read_full(file, &mut bytes);
+    numbers::get_u32(&bytes)
+}
+
+// The next eight.
+pub fn next_u64(file: i32) -> u64 {
+    let high = next_u32(file) as u64;
+    high * 4_294_967_296 + next_u32(file) as u64
+}
+
+// The size that the last two of some bytes tell: 0 where it is too long.
+pub fn size_in(bytes: u64) -> usize
+    ensures { λ r. ⌜ r ≤ 2560 ⌝ }
+{
+    let size = (bytes % 65_536) as usize;
+    if ROOM < size {
+        return 0;
+    }
+    size
+}
+
+// Reads the part of this size, with this byte after it.
+pub fn read_part(file: i32, bytes: u64, after: u8) -> [u8; ROOM] {
+    let mut part = [after; ROOM];
+    let size = size_in(bytes);
+    io::read_full(file, &mut part[0..size]);
+    part
+}
