@@ -1,7 +1,7 @@
 // The closing.
 use closing::refloor;
+use file_trials::cases::NO_CASE;
 use model::sizes::PRICE_SHIFT;
-use plant_trials::cases::NO_CASE;
 use plants::limits::PLACES;
 ghost use mathlib.Core.Path.{_≡_};
 ghost use lib.ListN.{length};

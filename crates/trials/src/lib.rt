@@ -1,22 +1,19 @@
-// The calls that cases try, but for those about plant files and those of the solver, and the test of the places that a call marks.
+// The closing and the calls about meters, as cases try them; and what the calls of the solver are handed and tested by.
 mod closed;
-mod kept;
 pub mod marking;
 mod meters;
 pub mod solved;
 
 use closed::close_up;
-use kept::kept;
+use file_trials::cases::NO_CASE;
+use file_trials::cases::told;
 use meters::buy;
 use meters::survey;
-use plant_trials::cases::NO_CASE;
-use plant_trials::cases::told;
 use survey_texts::list_layouts;
 
 // The call of this kind.
 pub fn call(kind: u64, given: &[u8], out: &mut [u8]) -> u64 {
     match kind {
-        6 => kept(given, out),
         8 => close_up(given, out),
         11 => buy(given, out),
         12 => survey(given, out),

@@ -1,7 +1,7 @@
 // Meters to buy, and the survey of meter layouts.
 use buying::lent::buy_into;
-use plant_trials::cases::NO_CASE;
-use plant_trials::cases::told;
+use file_trials::cases::NO_CASE;
+use file_trials::cases::told;
 use surveys::SURVEY_SIZE;
 ghost use mathlib.Core.Path.{_≡_};
 ghost use Prim.Native.Nat.{_*_, _≤_};

@@ -2,16 +2,18 @@
 // back, and the bytes of the slice. What each is handed and hands back stands where it is defined.
 use crate::solving::sheet;
 use crate::solving::unhinted;
-use plant_trials::cases::told;
-use plant_trials::reader;
-use plant_trials::writer;
-use plant_trials::written;
+use file_trials::cases::told;
+use file_trials::kept::kept;
+use file_trials::plant_files::reader;
+use file_trials::plant_files::writer;
+use file_trials::plant_files::written;
 
-// The calls about plant files, and others that need no solver. The translator and the moves are handed in a file.
-fn plant_call(kind: u64, given: &[u8], out: &mut [u8]) -> u64 {
+// The calls that read or write a file. The translator and the moves are handed in a file.
+fn file_call(kind: u64, given: &[u8], out: &mut [u8]) -> u64 {
     match kind {
         2 => reader(given, out),
         3 => writer(given, out),
+        6 => kept(given, out),
         7 => written(translator::plant_from_transmitter(given, out)),
         9 => written(moves::to_ranged(given, out)),
         10 => written(moves::from_ranged(given, out)),
@@ -25,6 +27,6 @@ pub fn call(kind: u64, number: u32, given: &[u8], out: &mut [u8]) -> u64 {
         1 => sheet(number, given, out),
         4 => unhinted(given, out),
         5 => told(0, texts::list_plant(given, out), 0),
-        _ => plant_call(kind, given, out),
+        _ => file_call(kind, given, out),
     }
 }

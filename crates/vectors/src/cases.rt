@@ -1,10 +1,11 @@
-// A case: the bytes of its parts stand where a case is defined (plant_trials).
+// A case: the bytes of its parts stand where a case is defined (file_trials).
 use crate::calls::call;
-use plant_trials::cases::ROOM;
-use plant_trials::cases::next_u32;
-use plant_trials::cases::next_u64;
-use plant_trials::cases::read_part;
-use plant_trials::cases::size_in;
+use file_trials::cases::ROOM;
+use file_trials::cases::next_u32;
+use file_trials::cases::next_u64;
+use file_trials::cases::read_part;
+use file_trials::cases::same_part;
+use file_trials::cases::size_in;
 ghost use mathlib.Core.Path.{_≡_};
 ghost use lib.ListN.{length};
 
@@ -35,8 +36,8 @@ fn case_right(file: i32, sizes: u64, number: u32, told: u64) -> bool {
     let given = read_part(file, sizes / 4_294_967_296, 0);
     let mut slice = [fill; ROOM];
     let right = answer(sizes, number, given, &mut slice) == told;
-    let known = read_part(file, sizes / 65_536, fill);
-    right && check::same(&slice, &known)
+    let same = same_part(file, sizes / 65_536, fill, &slice);
+    right && same
 }
 
 // Tries the next case of an open file; END where the file ends.

@@ -1,6 +1,6 @@
 // The calls that balance a plant.
-use plant_trials::cases::NO_CASE;
-use plant_trials::cases::told;
+use file_trials::cases::NO_CASE;
+use file_trials::cases::told;
 use plants::limits::MAX_STREAMS;
 use trials::marking::tested;
 use trials::solved::no_hint;

@@ -1,8 +1,8 @@
 -- The index stays within the array and the bytes handed in.
 use borrow.Author.Needs.{needs}
 use Prim.Native.Nat.{_≤_, _-_}
-use Rattle.plant_trials.proofs.plant_of.Statement.{statement}
-use Rattle.plant_trials.proofs.plant_of.Tie as tie
+use Rattle.file_trials.proofs.plant_files.plant_of.Statement.{statement}
+use Rattle.file_trials.proofs.plant_files.plant_of.Tie as tie
 
 abbrev Inv-loop : tie.InvT-loop
 Inv-loop given streams₀ i₀ streams i = i ≤ 96

@@ -3,8 +3,8 @@ use borrow.Author.Needs.{needs}
 use Prim.Native.Nat.{_≤_, _-_}
 use mathlib.Core.Path.{_≡_}
 use lib.ListN.{length}
-use Rattle.trials.proofs.kept.put_entries.Statement.{statement}
-use Rattle.trials.proofs.kept.put_entries.Tie as tie
+use Rattle.file_trials.proofs.kept.put_entries.Statement.{statement}
+use Rattle.file_trials.proofs.kept.put_entries.Tie as tie
 
 abbrev Inv-loop : tie.InvT-loop
 Inv-loop count out₀ streams i₀ out i = (i ≤ count) × (count ≤ 96) × (length out ≡ 864)

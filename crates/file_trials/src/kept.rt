@@ -1,8 +1,8 @@
 // The sheet reader.
 //
 // An entry is 9 bytes: the kind of its record, its flow (8, two's complement).
-use plant_trials::cases::NO_CASE;
-use plant_trials::cases::told;
+use crate::cases::NO_CASE;
+use crate::cases::told;
 use plants::limits::MAX_STREAMS;
 use sheets::Entry;
 use sheets::Total;

@@ -13,6 +13,7 @@
 //     bytes 16-19  the number handed back
 //
 // then the bytes handed in, then those of the slice. What they are for each call stands beside each.
+use libc::STDOUT_FILENO;
 ghost use Prim.Native.Nat.{_≤_};
 
 pub const ROOM: usize = 2560;
@@ -58,4 +59,34 @@ pub fn read_part(file: i32, bytes: u64, after: u8) -> [u8; ROOM] {
     let size = size_in(bytes);
     io::read_full(file, &mut part[0..size]);
     part
+}
+
+// Whether the next part, with this byte after it, is the slice.
+pub fn same_part(file: i32, bytes: u64, after: u8, slice: &[u8]) -> bool {
+    let known = read_part(file, bytes, after);
+    check::same(slice, &known)
+}
+
+// Opens the file of cases that argument i names, and says its name.
+pub fn open_argument(i: usize) -> i32 {
+    let mut name = [0u8; 64];
+    let size = os::arg(i, &mut name);
+    io::write_all(STDOUT_FILENO, &name[0..size]);
+    os::open_read(&name[0..size])
+}
+
+fn say(text: &[u8], count: u64) {
+    io::write_all(STDOUT_FILENO, text);
+    io::print_decimal(STDOUT_FILENO, count);
+}
+
+// The case of this number is not as it must be.
+pub fn say_differs(case: u64) {
+    say(b", differs: case ", case);
+}
+
+// A file had so many cases.
+pub fn say_cases(cases: u64) {
+    say(b", cases: ", cases);
+    io::write_all(STDOUT_FILENO, b"\n");
 }

@@ -3,8 +3,8 @@ use borrow.Author.Needs.{needs}
 use Prim.Native.Nat.{_≤_, _-_}
 use mathlib.Core.Path.{_≡_}
 use lib.ListN.{length}
-use Rattle.plant_trials.proofs.put_streams.Statement.{statement}
-use Rattle.plant_trials.proofs.put_streams.Tie as tie
+use Rattle.file_trials.proofs.plant_files.put_streams.Statement.{statement}
+use Rattle.file_trials.proofs.plant_files.put_streams.Tie as tie
 
 abbrev Inv-loop : tie.InvT-loop
 Inv-loop out₀ streams i₀ out i = (i ≤ 96) × (length out ≡ 1632)

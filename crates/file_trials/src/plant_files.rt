@@ -1,11 +1,9 @@
-// The calls about plant files that cases try, and what every case is made of.
+// The plant reader and the plant writer.
 //
 // A stream is 17 bytes: 1 where it is metered and 2 where it has a range, added; from, to, weight (2); reading, low, high (4
 // each, two's complement).
-pub mod cases;
-
-use cases::NO_CASE;
-use cases::told;
+use crate::cases::NO_CASE;
+use crate::cases::told;
 use plants::Done;
 use plants::Plant;
 use plants::Stream;
