@@ -3,8 +3,8 @@ use mathlib.Core.Path.{sym}
 use borrow.Author.Needs.{needs}
 use denote.Ref.{now}
 use lib.ListN.{List·getD-eq-default}
-use Rattle.pricing.proofs.price_at.Statement.{statement}
-use Rattle.pricing.proofs.price_at.Tie as tie
+use Rattle.spreading.proofs.price_at.Statement.{statement}
+use Rattle.spreading.proofs.price_at.Tie as tie
 
 mul-result : tie.Need-mul-result
 mul-result c = search needs

@@ -9,9 +9,9 @@ use Rattle.plants.specs.Limits.{maxStreams}
 use Rattle.plants.specs.Says.{plantOf}
 use Rattle.flows.proofs.Lists.{Written, written-none, written-put}
 use Rattle.purchases.specs.Purchases.{unmeteredTo, priceIn}
 use Rattle.pricing.proofs.Prices.{unmetered-few, unmetered-next}
-use Rattle.pricing.proofs.by_stream.Statement.{statement}
-use Rattle.pricing.proofs.by_stream.Tie as tie
+use Rattle.spreading.proofs.by_stream.Statement.{statement}
+use Rattle.spreading.proofs.by_stream.Tie as tie
 
 abbrev Inv-loop : tie.InvT-loop
 Inv-loop prices p n each₀ k₀ i₀ each k i = (i ≤ p .count) × (k ≡ unmeteredTo (plantOf p .streams) i) × Written 0 maxStreams (λ k x. priceIn (plantOf p .streams) prices k) (replicate maxStreams 0) each i
