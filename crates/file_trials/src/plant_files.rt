@@ -13,26 +13,12 @@ ghost use mathlib.Core.Path.{_≡_};
 ghost use Prim.Native.Nat.{_≤_};
 ghost use lib.ListN.{length};
 
-// 1 where it is metered and 2 where it has a range, added.
-fn marks(metered: bool, ranged: bool) -> u8 {
-    if metered {
-        if ranged {
-            return 3;
-        }
-        return 1;
-    }
-    if ranged {
-        return 2;
-    }
-    0
-}
-
 // A stream's bytes are those of a record with a range, but for the first.
 fn put_stream(s: Stream, out: &mut [u8])
     requires { ⌜ 17 ≤ length (now out) ⌝ }
 {
     plant_writer::put_ranged(s, out);
-    out[0] = marks(s.metered, s.ranged);
+    out[0] = s.metered as u8 | (s.ranged as u8) << 1;
 }
 
 fn put_streams(streams: [Stream; MAX_STREAMS], out: &mut [u8])

@@ -61,20 +61,18 @@ fn mark_past(bits: u64, units: u8) -> bool {
     units < 63 && bits >> (units + 1) != 0
 }
 
-// Whether the marks of a call that returned this number on a plant file are as they must be.
-fn marks_right(number: u8, file: &[u8], marked: [bool; PLACES]) -> bool {
-    let bits = bits_of(marked);
-    if number != 19 {
-        return bits == 0;
-    }
-    let read = plant_reader::read_plant(file);
-    let p = read.plant;
-    overfull(bits, p)
-}
-
-// The answer of such a call: its marks stand in no case, and are tested here.
+// The answer of a call that returned this number on a plant file, where its marks, which stand in no case, are as they must be.
 pub fn tested(answer: u64, number: u8, file: &[u8], marked: [bool; PLACES]) -> u64 {
-    if marks_right(number, file, marked) {
+    let bits = bits_of(marked);
+    if number == 19 {
+        let read = plant_reader::read_plant(file);
+        let p = read.plant;
+        if overfull(bits, p) {
+            return answer;
+        }
+        return NO_CASE;
+    }
+    if bits == 0 {
         return answer;
     }
     NO_CASE
