@@ -1,9 +1,9 @@
 -- The lesser of two at a time.
 use borrow.Author.Needs.{needs}
 use mathlib.Core.Path.{ap, _∙_}
 use Rattle.plant_slices.specs.Parts.{least}
-use Rattle.plant_slices.proofs.reached.Statement.{statement}
-use Rattle.plant_slices.proofs.reached.Tie as tie
+use Rattle.reaches.proofs.reached.Statement.{statement}
+use Rattle.reaches.proofs.reached.Tie as tie
 
 lesser-requires : tie.Need-lesser-requires
 lesser-requires c κs = search needs

@@ -3,9 +3,9 @@ use borrow.Author.Needs.{needs}
 use native.Mathlib.Omega.{arith}
 use Rattle.plants.specs.Limits.{maxStreams}
 use Prim.Native.Nat.{suc}
 use Rattle.plant_slices.proofs.Gather.{least-right}
-use Rattle.plant_slices.proofs.count_byte.Statement.{statement}
-use Rattle.plant_slices.proofs.count_byte.Tie as tie
+use Rattle.reaches.proofs.count_byte.Statement.{statement}
+use Rattle.reaches.proofs.count_byte.Tie as tie
 
 add-lesser : tie.Need-add-lesser
 add-lesser c = search needs

@@ -1,7 +1,7 @@
 -- By the test.
 use borrow.Author.Tests.{lt-ltb, le-ltb}
-use Rattle.plant_slices.proofs.lesser.Statement.{statement}
-use Rattle.plant_slices.proofs.lesser.Tie as tie
+use Rattle.reaches.proofs.lesser.Statement.{statement}
+use Rattle.reaches.proofs.lesser.Tie as tie
 
 returns : tie.Need-returns
 returns c = simp (lt-ltb _ _ (c .if1 .taken))
