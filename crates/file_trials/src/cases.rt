@@ -1,18 +1,4 @@
-// A file of cases has one after the other, with no gap. A case, its numbers with the high byte first:
-//
-//     byte 0       what is called: 1 the sheet call, 2 the plant reader, 3 the plant writer, 4 the solver without a hint,
-//                  5 the listing, 6 the sheet reader, 7 the translator, 8 the closing, 9 and 10 the moves,
-//                  11 meters to buy, 12 the survey, 13 its text
-//     byte 1       what the slice holds before the call
-//     bytes 2-3    how many bytes are handed in, at most ROOM
-//     bytes 4-5    how many bytes of the slice follow, at most ROOM; those past them are as before the call
-//     bytes 6-7    how long the slice is, at most ROOM
-//     bytes 8-11   the number handed in
-//     byte 12      the number returned, and a 0 after it
-//     bytes 14-15  the count handed back
-//     bytes 16-19  the number handed back
-//
-// then the bytes handed in, then those of the slice. What they are for each call stands beside each.
+// The parts of a case, and what is said of cases. The form of a case stands beside the program that tries them, vectors.
 use libc::STDOUT_FILENO;
 ghost use Prim.Native.Nat.{_≤_};
 

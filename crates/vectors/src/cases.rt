@@ -1,4 +1,18 @@
-// A case: the bytes of its parts stand where a case is defined (file_trials).
+// A file of cases has one after the other, with no gap. A case, its numbers with the high byte first:
+//
+//     byte 0       what is called: 1 the sheet call, 2 the plant reader, 3 the plant writer, 4 the solver without a hint,
+//                  5 the listing, 6 the sheet reader, 7 the translator, 8 the closing, 9 and 10 the moves,
+//                  11 meters to buy, 12 the survey, 13 its text
+//     byte 1       what the slice holds before the call
+//     bytes 2-3    how many bytes are handed in, at most ROOM
+//     bytes 4-5    how many bytes of the slice follow, at most ROOM; those past them are as before the call
+//     bytes 6-7    how long the slice is, at most ROOM
+//     bytes 8-11   the number handed in
+//     byte 12      the number returned, and a 0 after it
+//     bytes 14-15  the count handed back
+//     bytes 16-19  the number handed back
+//
+// then the bytes handed in, then those of the slice. What they are for each call stands beside each.
 use crate::calls::call;
 use file_trials::cases::ROOM;
 use file_trials::cases::next_u32;
@@ -8,6 +22,16 @@ use file_trials::cases::same_part;
 use file_trials::cases::size_in;
 ghost use mathlib.Core.Path.{_≡_};
 ghost use lib.ListN.{length};
+
+// Bytes 0 to 7 are read as one number. The kind, what the slice holds and the first two sizes are the last part of
+// that number divided by these; the third is the last part of the number itself.
+const KIND: u64 = 72_057_594_037_927_936;
+
+const FILL: u64 = 281_474_976_710_656;
+
+const GIVEN: u64 = 4_294_967_296;
+
+const KNOWN: u64 = 65_536;
 
 // What came of a case.
 pub const END: u8 = 0;
@@ -20,23 +44,18 @@ pub const WRONG: u8 = 2;
 fn answer(sizes: u64, number: u32, given: [u8; ROOM], slice: &mut [u8]) -> u64
     requires { ⌜ length (now slice) ≡ 2560 ⌝ }
 {
-    let size = size_in(sizes / 4_294_967_296);
+    let size = size_in(sizes / GIVEN);
     let room = size_in(sizes);
-    call(
-        sizes / 72_057_594_037_927_936,
-        number,
-        &given[0..size],
-        &mut slice[0..room],
-    )
+    call(sizes / KIND, number, &given[0..size], &mut slice[0..room])
 }
 
 // Tries the case whose bytes 0 to 7 are these, and which tells this.
 fn case_right(file: i32, sizes: u64, number: u32, told: u64) -> bool {
-    let fill = (sizes / 281_474_976_710_656 % 256) as u8;
-    let given = read_part(file, sizes / 4_294_967_296, 0);
+    let fill = (sizes / FILL % 256) as u8;
+    let given = read_part(file, sizes / GIVEN, 0);
     let mut slice = [fill; ROOM];
     let right = answer(sizes, number, given, &mut slice) == told;
-    let same = same_part(file, sizes / 65_536, fill, &slice);
+    let same = same_part(file, sizes / KNOWN, fill, &slice);
     right && same
 }
 
