@@ -15,8 +15,8 @@ fn file_call(kind: u64, given: &[u8], out: &mut [u8]) -> u64 {
         3 => writer(given, out),
         6 => kept(given, out),
         7 => written(translator::plant_from_transmitter(given, out)),
-        9 => written(moves::to_ranged(given, out)),
-        10 => written(moves::from_ranged(given, out)),
+        9 => written(move_calls::to_ranged(given, out)),
+        10 => written(move_calls::from_ranged(given, out)),
         _ => trials::call(kind, given, out),
     }
 }
