@@ -1,4 +1,4 @@
-"""The form of a case, stated here and in crates/vectors/src/cases.rt and crates/{plant,flow,sheet}_trials.
+"""The form of a case, stated here and in crates/vectors/src/cases.rt.
 
 A file has its cases one after the other, with no gap. A case, numbers high byte first:
 

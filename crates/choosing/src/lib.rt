@@ -7,10 +7,9 @@ use plants::Stream;
 use plants::limits::MAX_STREAMS;
 use plants::limits::PLACES;
 use purchases::Bought;
+use ranking::counts;
 ghost use mathlib.Core.Path.{_≡_};
-ghost use mathlib.Core.Bool.{not, _&&_, _||_};
 ghost use Prim.Native.Nat.{ℕ, _+_, _<_, _≤_, _^_};
-ghost use lib.Dec.{eqb, ltb};
 ghost use lib.ListN.{length, getD, set};
 ghost use Rattle.numbers.specs.Choice.{pick};
 ghost use Rattle.plants.specs.Limits.{maxStreams};
@@ -31,29 +30,6 @@ pub fn refused(number: u8) -> Bought
         streams: [0; MAX_STREAMS],
         price: 0,
     }
-}
-
-// Whether stream j, at price b, goes before stream i, at price a.
-fn goes(a: u32, b: u32, i: usize, j: usize) -> bool
-    ensures { λ r. ⌜ r ≡ (ltb a b || (eqb a b && ltb i j)) ⌝ }
-{
-    if a < b {
-        return true;
-    }
-    if a == b {
-        return i < j;
-    }
-    false
-}
-
-// Whether it counts: it is unmetered too.
-fn counts(s: Stream, a: u32, b: u32, i: usize, j: usize) -> bool
-    ensures { λ r. ⌜ r ≡ (not (s .metered) && (ltb a b || (eqb a b && ltb i j))) ⌝ }
-{
-    if s.metered {
-        return false;
-    }
-    goes(a, b, i, j)
 }
 
 // The labels by the unmetered streams that go before stream i.

@@ -1,11 +1,10 @@
-// The four classes of stream, and the degrees of freedom.
+// The class of a stream, and the degrees of freedom.
 use flows::Class;
-use flows::Cuts;
 use flows::Which;
+use grouping;
 use groups;
 use plants::Plant;
 use plants::Stream;
-use plants::limits::MAX_STREAMS;
 use plants::limits::PLACES;
 ghost use mathlib.Core.Path.{_≡_};
 ghost use Prim.Native.Nat.{_≤_, _<_};
@@ -14,13 +13,11 @@ ghost use Rattle.plants.specs.Limits.{maxUnits, places};
 ghost use Rattle.plants.specs.Within.{WithinStream, Accepted};
 ghost use Rattle.plants.specs.Says.{plantOf};
 ghost use Rattle.flows.specs.Classes.{degrees};
-ghost use Rattle.flows.specs.Calls.{Grouped, Cutting, classIn, classesOf};
-
-pub mod sides;
+ghost use Rattle.flows.specs.Calls.{Grouped, classIn};
 
 // The class of a stream by the labels by the unmetered streams, the label that it took away and the bits of the streams that
 // lie on a loop.
-fn class_of(labels: &[u8; PLACES], s: Stream, h: u8, looped: u64) -> Class
+pub fn class_of(labels: &[u8; PLACES], s: Stream, h: u8, looped: u64) -> Class
     requires { ⌜ WithinStream maxUnits s × (length (now labels) ≡ places) × (h < places) ⌝ }
     ensures { λ r. ⌜ r ≡ classIn (now (labels .entry)) s h looped ⌝ }
 {
@@ -36,25 +33,6 @@ fn class_of(labels: &[u8; PLACES], s: Stream, h: u8, looped: u64) -> Class
     Class::Given
 }
 
-// The classes of all streams; past the last one, Withheld.
-pub fn classes_of(p: Plant, cuts: Cuts) -> [Class; MAX_STREAMS]
-    requires { ⌜ Accepted p × Cutting p cuts ⌝ }
-    ensures { λ r. ⌜ r ≡ classesOf (plantOf p) ⌝ }
-{
-    let n = p.count as usize;
-    let labels = cuts.labels;
-    let taken = cuts.taken;
-    let mut r = [Class::Withheld; MAX_STREAMS];
-    let mut i: usize = 0;
-    while i < n {
-        let s = p.streams[i];
-        let c = class_of(&labels, s, taken[i], cuts.looped);
-        r[i] = c;
-        i += 1;
-    }
-    r
-}
-
 // The number of groups less the number of connected pieces.
 pub fn degrees_of(p: Plant, labels: [u8; PLACES]) -> u8
     requires { ⌜ Accepted p × Grouped p labels ⌝ }
@@ -62,7 +40,7 @@ pub fn degrees_of(p: Plant, labels: [u8; PLACES]) -> u8
 {
     let n = p.units;
     let count = groups::own_labels(labels, n);
-    let all = groups::group(p, Which::Every);
+    let all = grouping::group(p, Which::Every);
     let pieces = groups::own_labels(all, n);
     count - pieces
 }

@@ -1,27 +1,13 @@
-// Groups of places, formed in one pass over the streams: each place has a label, the lowest place of its group.
-use flows::Which;
-use plants::Plant;
+// Groups of places, formed stream by stream: each place has a label, the lowest place of its group.
 use plants::Stream;
 use plants::limits::PLACES;
 ghost use mathlib.Core.Path.{_≡_};
-ghost use Prim.Native.Nat.{ℕ, _≤_};
+ghost use Prim.Native.Nat.{_≤_};
 ghost use lib.ListN.{length};
 ghost use Rattle.plants.specs.Limits.{maxUnits, places};
-ghost use Rattle.plants.specs.Within.{WithinStream, Accepted};
-ghost use Rattle.plants.specs.Says.{plantOf};
-ghost use Rattle.flows.specs.Groups.{Groups, StepSays};
+ghost use Rattle.plants.specs.Within.{WithinStream};
+ghost use Rattle.flows.specs.Groups.{StepSays};
 ghost use Rattle.flows.specs.Labels.{ownNumbers, renamed, relabelled, oneLabel, ownLabels};
-ghost use Rattle.flows.specs.Calls.{counting};
-
-// Whether a stream counts, whatever its number.
-pub fn counts(which: Which, s: Stream) -> bool
-    ensures { λ r. ⌜ ((i : ℕ) → r ≡ counting which i s) ⌝ }
-{
-    match which {
-        Which::Every => true,
-        Which::Unmetered => !s.metered,
-    }
-}
 
 // Before the first step each place has its own number.
 pub fn own_numbers() -> [u8; PLACES]
@@ -79,23 +65,6 @@ pub fn step(labels: &mut [u8; PLACES], s: Stream, counts: bool)
         return;
     }
     rename(labels, b, a);
-}
-
-// The labels of the groups by all streams that count: a step for each stream, in one pass.
-pub fn group(p: Plant, which: Which) -> [u8; PLACES]
-    requires { ⌜ Accepted p ⌝ }
-    ensures { λ r. ⌜ Groups (counting which) (plantOf p .streams) (p .count) r ⌝ }
-{
-    let n = p.count as usize;
-    let mut labels = own_numbers();
-    let mut i: usize = 0;
-    while i < n {
-        let s = p.streams[i];
-        let c = counts(which, s);
-        step(&mut labels, s, c);
-        i += 1;
-    }
-    labels
 }
 
 // Whether a stream's ends have one label.

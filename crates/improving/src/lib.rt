@@ -1,17 +1,18 @@
 // Improvements: net is moved from a place that has too much to one that has too little, at the least cost; phase after phase, at
 // smaller and smaller steps.
 use closing::refloor;
-use full::tested;
 use lanes::LANES;
-use lanes::pushes::push_back;
 use lanes::slacks::minus;
 use model::Ended;
 use model::Halt;
 use model::Searched;
 use model::State;
 use model::sizes::NET_SHIFT;
+use overfull::tested;
 use plants::limits::MAX_STREAMS;
 use plants::limits::PLACES;
+use pushes::push_back;
+use pushes::shift_nets;
 use walks::search;
 ghost use mathlib.Core.Path.{_≡_};
 ghost use Prim.Native.Nat.{_+_, _-_, _/_, _≤_, _<_};
@@ -19,21 +20,11 @@ ghost use lib.ListN.{getD, take};
 ghost use Rattle.plants.specs.Limits.{places};
 ghost use Rattle.model.specs.Sizes.{netShift};
 ghost use Rattle.model.specs.Model as M;
-ghost use Rattle.model.specs.Model.{shiftedNets, stateOf, improvedBy, improvedAt, endedBy, fromPlace};
-ghost use Rattle.model.specs.SolverNeeds.{Shiftable, Improvable};
+ghost use Rattle.model.specs.Model.{stateOf, improvedBy, improvedAt, endedBy, fromPlace};
+ghost use Rattle.model.specs.SolverNeeds.{Improvable};
 
 pub mod finishing;
-pub mod full;
-pub mod ties;
-
-// Delta of net moves from place s to place v.
-fn shift_nets(nets: &mut [u64; PLACES], s: usize, v: usize, delta: u64)
-    requires { ⌜ Shiftable (now nets) s v delta ⌝ }
-    ensures { λ _. ⌜ now (nets .exit) ≡ shiftedNets (now (nets .entry)) s v delta ⌝ }
-{
-    nets[s] = nets[s] - delta;
-    nets[v] = nets[v] + delta;
-}
+pub mod marks;
 
 // One improvement at step delta from place s: a search to a place with a negative net, and delta pushed along the way to it. Where no
 // such place can be reached, nothing changes.

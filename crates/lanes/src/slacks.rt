@@ -6,7 +6,6 @@ ghost use mathlib.Core.Path.{_≡_};
 ghost use Prim.Native.Nat.{_+_, _-_, _*_, _≤_};
 ghost use Rattle.numbers.specs.Choice.{pick};
 ghost use Rattle.plants.specs.Limits.{maxUnits, maxWeight};
-ghost use Rattle.plants.specs.Plants.{limited};
 ghost use Rattle.plants.specs.Within.{WithinStream};
 ghost use Rattle.model.specs.Sizes.{mostFlow, mostPull};
 ghost use Rattle.flows.specs.Certificate.{weightOf};
@@ -19,13 +18,6 @@ pub fn weight_of(s: Stream) -> u64
     ensures { λ r. ⌜ r ≡ weightOf s ⌝ }
 {
     if s.metered { s.weight as u64 } else { 0 }
-}
-
-// Whether a stream has a range.
-fn limits(s: Stream) -> bool
-    ensures { λ r. ⌜ r ≡ limited s ⌝ }
-{
-    s.metered && s.ranged
 }
 
 // An amount, shifted.
@@ -46,14 +38,24 @@ pub fn reading_of(s: Stream) -> u64
 pub fn low_of(s: Stream) -> u64
     ensures { λ r. ⌜ (r ≡ lowOf s) × (r ≤ mostFlow) ⌝ }
 {
-    if limits(s) { hold(s.low) } else { 0 }
+    if s.metered {
+        if s.ranged {
+            return hold(s.low);
+        }
+    }
+    0
 }
 
 // The greatest; MOST_FLOW where it has none.
 pub fn high_of(s: Stream) -> u64
     ensures { λ r. ⌜ (r ≡ highOf s) × (r ≤ mostFlow) ⌝ }
 {
-    if limits(s) { hold(s.high) } else { MOST_FLOW }
+    if s.metered {
+        if s.ranged {
+            return hold(s.high);
+        }
+    }
+    MOST_FLOW
 }
 
 // Weight times the reading.

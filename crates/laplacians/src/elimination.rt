@@ -23,7 +23,8 @@ fn take_row(a: &mut [f64; CELLS], k: usize, i: usize, f: f64)
     let to = i * WIDTH;
     let mut j: usize = 0;
     while j < i + 2 {
-        a[to + j] = a[to + j] - f * a[from + j];
+        let at = to + j;
+        a[at] = a[at] - f * a[from + j];
         j += 1;
     }
 }
@@ -63,15 +64,15 @@ pub fn eliminate(a: &mut [f64; CELLS], n: usize)
 fn change_at(a: &[f64; CELLS], x: &[f64; PLACES], k: usize) -> f64
     requires { ⌜ (length (now a) ≡ cells) × (length (now x) ≡ places) × (k < places) ⌝ }
 {
-    let row = k * WIDTH;
-    let pivot = a[row + 1 + k];
+    let row = k * WIDTH + 1;
+    let pivot = a[row + k];
     if pivot < LEAST_PIVOT {
         return 0.0;
     }
-    let mut rest = a[row];
+    let mut rest = a[row - 1];
     let mut j: usize = 0;
     while j < k {
-        rest = rest - a[row + 1 + j] * x[j];
+        rest = rest - a[row + j] * x[j];
         j += 1;
     }
     rest / pivot

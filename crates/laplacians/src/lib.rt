@@ -9,17 +9,16 @@ use meters::amount_at;
 use meters::conductance_at;
 use meters::end_at;
 use meters::in_range;
-use meters::reading_at;
 use meters::start_at;
 use plants::limits::PLACES;
 ghost use mathlib.Core.Path.{_≡_};
 ghost use Prim.Native.Nat.{_<_, _≤_};
 ghost use lib.ListN.{length};
 ghost use Rattle.plants.specs.Limits.{maxStreams, places};
-ghost use Rattle.laplacians.specs.Cells.{Ends, cells, meterCells};
+ghost use Rattle.meters.specs.Ends.{Ends, meterCells};
+ghost use Rattle.laplacians.specs.Cells.{cells};
 
 mod elimination;
-pub mod meters;
 
 // Each row of the equations: its right-hand side, then a coefficient for each place.
 const WIDTH: usize = PLACES + 1;
@@ -54,7 +53,7 @@ fn between(a: &mut [f64; CELLS], g: usize, h: usize, x: f64, c: f64)
     }
 }
 
-// Stream k. (With no prices yet, ranges are left out of account.)
+// Stream k. (At first, with no prices yet, ranges are left out of account.)
 fn join(
     a: &mut [f64; CELLS],
     ends: &[u8; ENDS],
@@ -69,11 +68,11 @@ fn join(
     let g = start_at(ends, k);
     let h = end_at(ends, k);
     let c = conductance_at(meters, k);
+    let x = amount_at(meters, k, prices[h] - prices[g]);
     if first {
-        between(a, g, h, reading_at(meters, k), c);
+        between(a, g, h, x, c);
         return;
     }
-    let x = amount_at(meters, k, prices[h] - prices[g]);
     let y = in_range(meters, k, x);
     if x == y {
         between(a, g, h, x, c);

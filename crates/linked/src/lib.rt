@@ -56,15 +56,15 @@ pub extern "C" fn wengeludo_write_plant(
 ) -> u8
     ensures { λ r. ⌜ WriteSays (handed units count (record { from = now (from .entry); to = now (to .entry); metered = now (metered .entry); weight = now (weight .entry); reading = now (reading .entry); ranged = now (ranged .entry); low = now (low .entry); high = now (high .entry) })) (now (file .entry)) (now (file .exit)) (record { number = r; written = now (written .exit) }) ⌝ }
 {
-    let n = plant_slices::reached(
-        plant_slices::meters_reach(from, to, metered, weight, reading),
-        plant_slices::ranges_reach(ranged, low, high),
+    let n = reaches::reached(
+        reaches::meters_reach(from, to, metered, weight, reading),
+        reaches::ranges_reach(ranged, low, high),
     );
     let meters = plant_slices::meters_gathered(n, from, to, metered, weight, reading);
     let streams = plant_slices::ranges_gathered(n, meters, ranged, low, high);
     let plant = Plant {
         units: units,
-        count: plant_slices::count_byte(count),
+        count: reaches::count_byte(count),
         streams: streams,
     };
     let done = plant_writer::write_plant(plant, file);
@@ -123,7 +123,7 @@ pub extern "C" fn wengeludo_plant_from_transmitter(
 pub extern "C" fn wengeludo_to_ranged(file: &[u8], out: &mut [u8], written: &mut usize) -> u8
     ensures { λ r. ⌜ ToSays (now (file .entry)) (now (out .entry)) (now (out .exit)) (record { number = r; written = now (written .exit) }) ⌝ }
 {
-    let done = moves::to_ranged(file, out);
+    let done = move_calls::to_ranged(file, out);
     *written = done.written;
     done.number
 }
@@ -133,7 +133,7 @@ pub extern "C" fn wengeludo_to_ranged(file: &[u8], out: &mut [u8], written: &mut
 pub extern "C" fn wengeludo_from_ranged(file: &[u8], out: &mut [u8], written: &mut usize) -> u8
     ensures { λ r. ⌜ FromSays (now (file .entry)) (now (out .entry)) (now (out .exit)) (record { number = r; written = now (written .exit) }) ⌝ }
 {
-    let done = moves::from_ranged(file, out);
+    let done = move_calls::from_ranged(file, out);
     *written = done.written;
     done.number
 }

@@ -1,3 +1,2 @@
 -- Laws of the lines of a listing.
 pub mod Sizes
-pub mod Lined

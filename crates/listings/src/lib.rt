@@ -1,22 +1,17 @@
-// The lines of a listing, and that of a refusal.
+// The parts of a listing: a stream's class and flow, and the text of a refusal.
 use flows::Class;
 use numerals::put_byte;
 use numerals::put_decimal;
-use numerals::put_field;
 use numerals::put_signed;
 use numerals::put_text;
-use plants::limits::MAX_STREAMS;
-use sheets::Balance;
-use sheets::Entry;
-ghost use Prim.Native.Nat.{_+_, _*_, _≤_};
+ghost use Prim.Native.Nat.{_+_, _≤_};
 ghost use mathlib.Core.List.{_∷_, _++_};
-ghost use lib.ListN.{length, take};
+ghost use lib.ListN.{length};
 ghost use Rattle.numbers.specs.Inner.{Put};
-ghost use Rattle.plants.specs.Limits.{maxStreams};
-ghost use Rattle.numerals.specs.Numerals.{text, signedDecimal, field};
-ghost use Rattle.listings.specs.Listing.{entryText, linesFrom, wordOf, totalLine, listingOf, refusalText};
+ghost use Rattle.numerals.specs.Numerals.{text, signedDecimal};
+ghost use Rattle.listings.specs.Listing.{entryText, refusalText};
 ghost use Rattle.numerals.specs.Adding.{Added};
-ghost use Rattle.listings.specs.Room.{lineSize, leastText, refusalSize};
+ghost use Rattle.listings.specs.Room.{refusalSize};
 
 // A class letter and a flow.
 fn put_flow(letter: u8, flow: i64, at: usize, out: &mut [u8]) -> usize
@@ -29,7 +24,7 @@ fn put_flow(letter: u8, flow: i64, at: usize, out: &mut [u8]) -> usize
 }
 
 // A stream's class letter and its flow; a dash where it is withheld.
-fn put_entry(class: Class, flow: i64, at: usize, out: &mut [u8]) -> usize
+pub fn put_entry(class: Class, flow: i64, at: usize, out: &mut [u8]) -> usize
     requires { ⌜ at + length (entryText class flow) ≤ length (now out) ⌝ }
     ensures { λ r. ⌜ Added (entryText class flow) at (now (out .entry)) (now (out .exit)) r ⌝ }
 {
@@ -39,72 +34,6 @@ fn put_entry(class: Class, flow: i64, at: usize, out: &mut [u8]) -> usize
         Class::Given => put_flow(b'G', flow, at, out),
         Class::Withheld => put_text(b"W -", at, out),
     }
-}
-
-// The line of a stream: number, class letter, flow.
-fn put_line(number: usize, class: Class, flow: i64, at: usize, out: &mut [u8]) -> usize
-    requires { ⌜ at + length (field number ++ entryText class flow ++ text "\n") ≤ length (now out) ⌝ }
-    ensures { λ r. ⌜ Added (field number ++ entryText class flow ++ text "\n") at (now (out .entry)) (now (out .exit)) r ⌝ }
-{
-    let a = put_field(number as u64, at, out);
-    let b = put_entry(class, flow, a, out);
-    put_byte(b'\n', b, out)
-}
-
-// The lines of the first so many streams.
-fn put_lines(count: usize, streams: [Entry; MAX_STREAMS], out: &mut [u8]) -> usize
-    requires { ⌜ (count ≤ maxStreams) × (maxStreams * lineSize ≤ length (now out)) ⌝ }
-    ensures { λ r. ⌜ Added (linesFrom 1 (take count streams)) 0 (now (out .entry)) (now (out .exit)) r × (r ≤ maxStreams * lineSize) ⌝ }
-{
-    let mut at: usize = 0;
-    let mut i: usize = 0;
-    while i < count {
-        let e = streams[i];
-        let class = e.class;
-        i += 1;
-        at = put_line(i, class, e.flow, at, out);
-    }
-    at
-}
-
-// The word for a verdict.
-fn put_word(verdict: u8, at: usize, out: &mut [u8]) -> usize
-    requires { ⌜ at + length (wordOf verdict) ≤ length (now out) ⌝ }
-    ensures { λ r. ⌜ Added (wordOf verdict) at (now (out .entry)) (now (out .exit)) r ⌝ }
-{
-    if verdict == 0 {
-        return put_text(b"pass", at, out);
-    }
-    if verdict == 1 {
-        return put_text(b"fail", at, out);
-    }
-    if verdict == 3 {
-        return put_text(b"close", at, out);
-    }
-    put_text(b"none", at, out)
-}
-
-// The line of the total: sheet number, cost, degrees, verdict.
-fn put_total(number: u32, cost: u64, degrees: u8, verdict: u8, at: usize, out: &mut [u8]) -> usize
-    requires { ⌜ at + length (totalLine number cost degrees verdict) ≤ length (now out) ⌝ }
-    ensures { λ r. ⌜ Added (totalLine number cost degrees verdict) at (now (out .entry)) (now (out .exit)) r ⌝ }
-{
-    let a = put_text(b"total ", at, out);
-    let b = put_field(number as u64, a, out);
-    let c = put_field(cost, b, out);
-    let d = put_field(degrees as u64, c, out);
-    let e = put_word(verdict, d, out);
-    put_byte(b'\n', e, out)
-}
-
-// The listing of sheet `number` of a balance with so many streams, and how long it is.
-pub fn put_listing(count: usize, number: u32, b: Balance, out: &mut [u8]) -> usize
-    requires { ⌜ (count ≤ maxStreams) × (leastText ≤ length (now out)) ⌝ }
-    ensures { λ r. ⌜ Put (listingOf count number b) (now (out .entry)) (now (out .exit)) r ⌝ }
-{
-    let streams = b.streams;
-    let at = put_lines(count, streams, out);
-    put_total(number, b.cost, b.degrees, b.verdict, at, out)
 }
 
 // The text of a refusal, and how long it is.

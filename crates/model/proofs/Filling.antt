@@ -4,7 +4,6 @@ use mathlib.Core.Bool.{Bool, true, false, _&&_}
 use mathlib.Core.List.{List, [], _∷_}
 use Prim.Native.Nat.{ℕ, zero, suc, _+_, _-_, _<_}
 use native.Mathlib.Omega.{arith}
-use native.Mathlib.Numerals.{add-one}
 use lib.Dec.{eqb, ltb}
 use lib.ListN.{length, getD, set, length-set}
 use lib.Seq.{ext-getD}
@@ -13,9 +12,8 @@ use Rattle.numbers.proofs.Tests.{picked}
 use Rattle.plants.specs.declared.Stream.{Stream}
 use Rattle.plants.specs.Limits.{places}
 use Rattle.flows.proofs.Lists.{Written, values-at}
-use Rattle.model.specs.Sizes.{far}
 use Rattle.model.specs.Search.{fallen}
-use Rattle.model.specs.Near.{gapAt, gapsOf, codeOf, lessened, relaxedAlong, relaxedAt, relaxedTo, nearestTo, reducedBy}
+use Rattle.model.specs.Near.{gapAt, gapsOf, codeOf, lessened, relaxedAlong, relaxedAt, relaxedTo, reducedBy}
 use Rattle.model.specs.Rows.{countOf, startsOf, endsOf, weightsOf}
 use Rattle.model.specs.SearchNeeds.{Network, Rowed}
 
@@ -74,16 +72,6 @@ pub relaxed-all-long : (fs ts gs bs : List ℕ) (ls : List Bool) (k e i : ℕ) (
 unfolding relaxedTo
 relaxed-all-long fs ts gs bs ls k e zero near = refl
 relaxed-all-long fs ts gs bs ls k e (suc i) near = relaxed-all-long fs ts gs bs ls k e i _ ∙ relaxed-long fs ts gs bs ls k e i near
-
--- One place more.
-pub nearest-none : (near : List ℕ) → nearestTo near 0 ≡ places
-unfolding nearestTo
-nearest-none near = refl
-
-pub nearest-next : (near : List ℕ) (n r best : ℕ) → r ≡ nearestTo near n → best ≡ getD near r far
-    → nearestTo near (n + 1) ≡ pick (ltb (getD near n far) best) n r
-unfolding nearestTo
-nearest-next near n r best e b = rw (add-one, b, e)
 
 -- What is read past the end does not matter before it.
 pub getD-any : {A : Type 0} (xs : List A) (i : ℕ) (a b : A) → i < length xs → getD xs i a ≡ getD xs i b

@@ -7,6 +7,9 @@ pub mod Filling
 pub mod Listing
 pub mod Nearing
 pub mod Steps
+pub mod Lowest
+pub mod Opening
+pub mod Stepping
 pub mod Walks
 pub mod Bounds
 pub mod Finds

@@ -7,6 +7,7 @@ pub mod Held
 pub mod Slack
 pub mod Search
 pub mod Near
+pub mod Fringe
 pub mod Push
 pub mod SearchNeeds
 pub mod Closing

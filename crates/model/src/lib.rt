@@ -13,10 +13,13 @@ pub struct Quest {
     pub limit: u64,
 }
 
-// A visited place and its distance.
+// The place visited last, its distance and the stream that led to it; and the fringe, a bit for each place: those to which a stream
+// from a visited place leads, within the limit.
 pub struct Spot {
     pub place: usize,
     pub distance: u64,
+    pub stream: u8,
+    pub fringe: u64,
 }
 
 // The visited places; and for each place visited after the first, in order, the stream that led to it and the place.

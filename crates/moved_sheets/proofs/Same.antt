@@ -1,5 +1,5 @@
 -- A plant without ranges and the same plant in the ranged form have the same cheapest flows, and so the same sheets.
-use mathlib.Core.Path.{_≡_, sym, ap, _∙_}
+use mathlib.Core.Path.{_≡_, sym, ap, subst, _∙_}
 use mathlib.Core.Bool.{Bool, true, false}
 use mathlib.Core.Logic.{inl, inr}
 use mathlib.Core.List.{List}
@@ -9,10 +9,12 @@ use native.Mathlib.Omega.{arith}
 use native.Mathlib.Decide.{decLe}
 use lib.Dec.{eqb, ltb}
 use lib.ListN.{length, length-map}
+use Rattle.numbers.specs.Choice.{refuseIf, firstOf}
 use Rattle.numbers.specs.Bytes.{over}
-use Rattle.numbers.proofs.Tests.{by-cases, clash}
+use Rattle.numbers.specs.Inner.{pickT}
+use Rattle.numbers.proofs.Tests.{clash}
 use Rattle.plants.specs.Plants.{Plant}
-use Rattle.plants.specs.Files.{got, readPlant, plantBytes}
+use Rattle.plants.specs.Files.{Got, got, readPlant, plantBytes}
 use Rattle.plants.specs.Within.{Within}
 use Rattle.plants.proofs.Limited.{within}
 use Rattle.plants.proofs.Accepted.{accepted}
@@ -28,7 +30,6 @@ use Rattle.sheets.specs.Sheets.{sheetOf}
 use Rattle.sheets.specs.Says.{Drawn, SheetWith, SheetSays}
 use Rattle.sheets.specs.Apart.{leastSlice}
 use Rattle.sheets.specs.Sentences.{topSheet, callFault, Refused}
-use Rattle.sheets.proofs.Promise.{call-taken}
 use Rattle.moves.specs.Moves.{widened, forward}
 use Rattle.moves.specs.Trip.{rangeless}
 use Rattle.moves.proofs.Trip.{forward-read}
@@ -131,33 +132,42 @@ module _ (p : Plant) (w : Within p) (free : rangeless (p .streams) ≡ true) whe
     with-sheet (inr m) n = none-full (m .0) (m .1)
 
 -- What a call says of two files follows from what it says of their plants.
+picked-as : (b : Bool) (A B C : Type 0) → (A → B) → pickT b A C → pickT b B C
+picked-as true A B C h s = h s
+picked-as false A B C h s = s
+
 says-as : (a b : List ℕ) (last : ℕ) (o o′ : List ℕ) (r : Sheet)
     → (SheetWith (readPlant a) last o o′ r → SheetWith (readPlant b) last o o′ r) → SheetSays a last o o′ r → SheetSays b last o o′ r
-says-as a b last o o′ r h s = by-cases (eqb (callFault last o) 0) (λ t. rw t (h (rw t at s))) (λ t. rw t (rw t at s))
+says-as a b last o o′ r =
+    picked-as (eqb (callFault last o) 0) (SheetWith (readPlant a) last o o′ r) (SheetWith (readPlant b) last o o′ r) (Refused (callFault last o) last o o′ r)
 
 -- 19 is neither a refusal of the call itself nor a sheet.
+call-faults : (b c : Bool) → firstOf (refuseIf b 1) (refuseIf c 2) ≤ 2
+call-faults true c = omega arith
+call-faults false true = omega arith
+call-faults false false = omega arith
+
+never : (b : Bool) (A : Type 0) (f last : ℕ) (o o′ : List ℕ) (r : Sheet) → f ≤ 2 → (A → r .number ≡ 19 → ⊥) → pickT b A (Refused f last o o′ r) → r .number ≡ 19 → ⊥
+never true A f last o o′ r l h s n = h s n
+never false A f last o o′ r l h s n = omega (arith, ap (λ (y : Sheet). y .number) (s .0), n)
+
+-- What a call says of a file, of the plant that it is read as.
+abbrev Said : ℕ → List ℕ → List ℕ → Sheet → Got → Type 0
+Said last o o′ r g = SheetWith g last o o′ r
+
 never-19 : (file : List ℕ) (p : Plant) → readPlant file ≡ got p → Within p → rangeless (p .streams) ≡ true
     → (last : ℕ) (o o′ : List ℕ) (r : Sheet) → SheetSays file last o o′ r → r .number ≡ 19 → ⊥
-never-19 file p e w free last o o′ r s n =
-    by-cases (ltb (length o) leastSlice)
-    (λ t. omega (arith, ap (λ (y : Sheet). y .number) (short t .0), n))
-    (λ t. by-cases (eqb last topSheet)
-    (λ u. omega (arith, ap (λ (y : Sheet). y .number) (spent t u .0), n))
-    (λ u. with-sheet p w free last o o′ r (rw e at (call-taken file last o o′ r s (simp (t, u)))) n))
-  where
-    short : ltb (length o) leastSlice ≡ true → Refused 1 last o o′ r
-    short t = rw t at s
-
-    spent : ltb (length o) leastSlice ≡ false → eqb last topSheet ≡ true → Refused 2 last o o′ r
-    spent t u = rw (t, u) at s
+never-19 file p e w free last o o′ r =
+    never (eqb (callFault last o) 0) (SheetWith (readPlant file) last o o′ r) (callFault last o) last o o′ r (call-faults (ltb (length o) leastSlice) (eqb last topSheet))
+    (λ s. with-sheet p w free last o o′ r (subst (Said last o o′ r) e s))
 
 pub moved-sheets : Moved-sheets
 moved-sheets file p e free = record {
   read = there;
   some = some-flow p w free;
   same = λ last o o′ r. (
-    says-as file (plantBytes (forward p)) last o o′ r (λ s. rw there (with-forth p w free last o o′ r (rw e at s))),
-    says-as (plantBytes (forward p)) file last o o′ r (λ s. rw e (with-back p w free last o o′ r v (rw there at s))),
+    says-as file (plantBytes (forward p)) last o o′ r (λ s. subst (Said last o o′ r) (sym there) (with-forth p w free last o o′ r (subst (Said last o o′ r) e s))),
+    says-as (plantBytes (forward p)) file last o o′ r (λ s. subst (Said last o o′ r) (sym e) (with-back p w free last o o′ r v (subst (Said last o o′ r) there s))),
   );
   sheet = λ last o o′ r s n. never-19 file p e w free last o o′ r s n;
 }

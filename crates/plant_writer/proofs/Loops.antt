@@ -1,57 +1,22 @@
--- Writing a plant: streams looked at one after the other for a fault, and written one after the other.
+-- Writing a plant: its streams written one after the other.
 use mathlib.Core.Path.{_≡_, refl, sym, ap, _∙_}
 use mathlib.Core.List.{List, [], _∷_, _++_, append-assoc, append-nil}
-use Prim.Native.Nat.{ℕ, zero, suc, _+_, _-_, _*_, _<_, _≤_}
+use Prim.Native.Nat.{ℕ, suc, _+_, _*_, _<_, _≤_}
 use native.Mathlib.Omega.{arith}
 use native.Mathlib.Numerals.{add-one}
-use lib.ListN.{length, getD, take, drop, length-append}
-use lib.Seq.{take-suc, drop-cons, length-take-le}
-use Rattle.numbers.specs.Choice.{pick, firstOf}
+use lib.ListN.{length, getD, take, length-append}
+use lib.Seq.{take-suc, length-take-le}
+use Rattle.numbers.specs.Choice.{pick}
 use Rattle.numbers.specs.Bytes.{over}
 use Rattle.numbers.specs.Inner.{Put}
-use Rattle.numbers.proofs.Tests.{picked, first-some}
+use Rattle.numbers.proofs.Tests.{picked}
 use Rattle.numbers.proofs.Parts.{Laid, laid, lay, room, may-lend, partFrom, returned}
 use Rattle.numbers.proofs.Rows.{Rows, no-rows, one-row}
 use Rattle.plants.specs.declared.Stream.{Stream}
 use Rattle.plants.specs.Limits.{maxStreams, siteKind, meteredKind, unmeteredKind, endKind, rangedKind, rangedBody, longestFile}
-use Rattle.plants.specs.Plants.{noStream, streamFault, firstFault}
+use Rattle.plants.specs.Plants.{noStream}
 use Rattle.plants.specs.Files.{meterBytes, rangeBytes, streamBytes, streamsBytes, plantBytes}
 use Rattle.plants.specs.Says.{listing}
-
--- i streams looked at, none at fault: the rest decides.
-pub record Looked (n k : ℕ) (ss : List Stream) (i : ℕ) : Type 0 where
-  pub within : i ≤ k
-  pub held : length ss ≡ maxStreams
-  pub rest : firstFault n (take k ss) ≡ firstFault n (take (k - i) (drop i ss))
-
-pub look : (n k : ℕ) (ss : List Stream) → length ss ≡ maxStreams → Looked n k ss 0
-look n k ss h = let e : k ≡ k - 0 = omega arith in record { within = omega arith; held = h; rest = ap (λ (j : ℕ). firstFault n (take j ss)) e }
-
-module _ {n k : ℕ} {ss : List Stream} {i : ℕ} (l : Looked n k ss i) (f : ℕ) (few : k ≤ maxStreams) (more : i < k) (e : f ≡ streamFault n (getD ss i noStream)) where
-  after : ℕ
-  after = firstFault n (take (k - (i + 1)) (drop (i + 1) ss))
-
-  whole : firstFault n (take k ss) ≡ firstOf f after
-  unfolding after
-  whole =
-      let h = l .held in
-      let z : k - i ≡ suc (k - (i + 1)) = omega arith in
-      l .rest
-      ∙ ap (λ (t : List Stream). firstFault n (take (k - i) t)) (drop-cons ss i noStream (omega arith))
-      ∙ ap (λ (j : ℕ). firstFault n (take j (getD ss i noStream ∷ drop (suc i) ss))) z
-      ∙ (λ j. firstOf (sym e j) (firstFault n (take (k - (i + 1)) (drop (sym (add-one i) j) ss))))
-
-  pub at-fault : (f ≡ 0 → ⊥) → f ≡ firstFault n (take k ss)
-  at-fault z = first-some f f after refl z ∙ sym whole
-
-  pub look-on : f ≡ 0 → Looked n k ss (i + 1)
-  unfolding after
-  look-on z = record { within = omega arith; held = l .held; rest = whole ∙ ap (λ (g : ℕ). firstOf g after) z }
-
-pub no-fault : {n k : ℕ} {ss : List Stream} {i : ℕ} → Looked n k ss i → k ≤ i → 0 ≡ firstFault n (take k ss)
-no-fault {n} {k} {ss} {i} l h =
-    let z : k - i ≡ 0 = omega arith in
-    sym (l .rest ∙ ap (λ (j : ℕ). firstFault n (take j (drop i ss))) z)
 
 -- The bytes of streams.
 bytes-append : (xs ys : List Stream) → streamsBytes (xs ++ ys) ≡ streamsBytes xs ++ streamsBytes ys

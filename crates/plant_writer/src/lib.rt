@@ -2,28 +2,21 @@
 ghost use mathlib.Core.Path.{_≡_};
 ghost use Prim.Native.Nat.{suc, _*_, _≤_};
 ghost use lib.ListN.{length, take};
-ghost use mathlib.Core.List.{[], _∷_, _++_};
+ghost use mathlib.Core.List.{[], _∷_};
 ghost use Rattle.numbers.specs.Bytes.{over};
 ghost use Rattle.numbers.specs.Inner.{Put};
-ghost use Rattle.plants.specs.Limits.{maxStreams, rangedKind, meteredBody, rangedBody, longestFile};
-ghost use Rattle.plants.specs.Plants.{firstFault, partsFault};
-ghost use Rattle.plants.specs.Files.{meterBytes, rangeBytes, streamBytes, streamsBytes, plantBytes};
+ghost use Rattle.plants.specs.Limits.{maxStreams, rangedBody, longestFile};
+ghost use Rattle.plants.specs.Files.{streamsBytes, plantBytes};
 ghost use Rattle.plants.specs.Says.{listing, WriteSays};
+use plant_faults::parts_fault;
 use plants::Done;
 use plants::Plant;
 use plants::Stream;
 use plants::limits::END;
 use plants::limits::LONGEST_FILE;
 use plants::limits::MAX_STREAMS;
-use plants::limits::METERED;
-use plants::limits::METERED_BODY;
-use plants::limits::RANGED;
-use plants::limits::RANGED_BODY;
 use plants::limits::SITE;
-use plants::limits::UNMETERED;
-use plants::limits::UNMETERED_BODY;
-use plants::streams::stream_fault;
-use plants::streams::units_fault;
+use stream_writer::put_stream;
 
 // A kind and one number: the site record and the end record.
 fn put_pair(kind: u8, value: u8, out: &mut [u8])
@@ -32,55 +25,6 @@ fn put_pair(kind: u8, value: u8, out: &mut [u8])
 {
     out[0] = kind;
     out[1] = value;
-}
-
-// A kind and two places: the start of a stream record.
-fn put_ends(kind: u8, from: u8, to: u8, out: &mut [u8])
-    requires { ⌜ 3 ≤ length (now out) ⌝ }
-    ensures { λ _. ⌜ now (out .exit) ≡ over (kind ∷ from ∷ to ∷ []) (now (out .entry)) ⌝ }
-{
-    out[0] = kind;
-    out[1] = from;
-    out[2] = to;
-}
-
-// A kind, and what both kinds of metered stream have.
-fn put_meter(kind: u8, s: Stream, out: &mut [u8])
-    requires { ⌜ suc meteredBody ≤ length (now out) ⌝ }
-    ensures { λ _. ⌜ now (out .exit) ≡ over (kind ∷ meterBytes s) (now (out .entry)) ⌝ }
-{
-    put_ends(kind, s.from, s.to, out);
-    numbers::put_u16(s.weight, &mut out[3..]);
-    numbers::put_i32(s.reading, &mut out[5..]);
-}
-
-// The record of a metered stream with a range.
-pub fn put_ranged(s: Stream, out: &mut [u8])
-    requires { ⌜ suc rangedBody ≤ length (now out) ⌝ }
-    ensures { λ _. ⌜ now (out .exit) ≡ over (rangedKind ∷ meterBytes s ++ rangeBytes s) (now (out .entry)) ⌝ }
-{
-    put_meter(RANGED, s, out);
-    numbers::put_i32(s.low, &mut out[9..]);
-    numbers::put_i32(s.high, &mut out[13..]);
-}
-
-// A stream record, and how many bytes it takes.
-fn put_stream(s: Stream, out: &mut [u8]) -> usize
-    requires { ⌜ suc rangedBody ≤ length (now out) ⌝ }
-    ensures { λ r. ⌜ Put (streamBytes s) (now (out .entry)) (now (out .exit)) r ⌝ }
-{
-    let metered = s.metered;
-    let ranged = s.ranged;
-    if !metered {
-        put_ends(UNMETERED, s.from, s.to, out);
-        return 1 + UNMETERED_BODY;
-    }
-    if ranged {
-        put_ranged(s, out);
-        return 1 + RANGED_BODY;
-    }
-    put_meter(METERED, s, out);
-    1 + METERED_BODY
 }
 
 // The stream records, one after the other, and how many bytes they take.
@@ -109,38 +53,6 @@ fn put_plant(units: u8, count: u8, streams: [Stream; MAX_STREAMS], out: &mut [u8
     let at = 2 + size;
     put_pair(END, count, &mut out[at..]);
     at + 2
-}
-
-// The first fault of the first so many streams.
-fn streams_fault(units: u8, count: usize, streams: [Stream; MAX_STREAMS]) -> u8
-    requires { ⌜ count ≤ maxStreams ⌝ }
-    ensures { λ r. ⌜ r ≡ firstFault units (take count streams) ⌝ }
-{
-    let mut i = 0;
-    while i < count {
-        let s = streams[i];
-        let fault = stream_fault(units, s);
-        if fault != 0 {
-            return fault;
-        }
-        i += 1;
-    }
-    0
-}
-
-// The first fault of a plant's parts.
-fn parts_fault(units: u8, count: u8, streams: [Stream; MAX_STREAMS]) -> u8
-    ensures { λ r. ⌜ r ≡ partsFault units count (take count streams) ⌝ }
-{
-    let fault = units_fault(units);
-    if fault != 0 {
-        return fault;
-    }
-    let listed = count as usize;
-    if MAX_STREAMS < listed {
-        return 5;
-    }
-    streams_fault(units, listed, streams)
 }
 
 // The plant's file at the front of the slice, or a refusal that leaves the slice as it was.

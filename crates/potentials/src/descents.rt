@@ -5,14 +5,14 @@ use crate::nets::moved;
 use crate::nets::nets_at;
 use crate::nets::product;
 use laplacians::direction;
-use laplacians::meters::ENDS;
-use laplacians::meters::METERS;
+use meters::ENDS;
+use meters::METERS;
 use plants::limits::PLACES;
 ghost use mathlib.Core.Path.{_≡_};
 ghost use Prim.Native.Nat.{_≤_};
 ghost use lib.ListN.{length};
 ghost use Rattle.plants.specs.Limits.{maxStreams, places};
-ghost use Rattle.laplacians.specs.Cells.{Ends, meterCells};
+ghost use Rattle.meters.specs.Ends.{Ends, meterCells};
 
 // How many steps there are at most, how near to 0 the nets have to come, and how often the length of a step is sought.
 const STEPS: usize = 23;

@@ -1,20 +1,19 @@
 // Prices of places (node potentials) at which the real-number optimum of a plant, within its ranges, balances, made whole.
 use descents::descend;
-use laplacians::meters::ENDS;
-use laplacians::meters::METERS;
-use laplacians::meters::gather;
+use meters::ENDS;
+use meters::METERS;
+use meters::gather;
 use plants::Plant;
 use plants::limits::PLACES;
 use wholes::by_label;
 use wholes::lowered;
 ghost use Prim.Native.Nat.{_≤_};
 ghost use Rattle.plants.specs.Within.{Accepted};
-ghost use Rattle.laplacians.specs.Cells.{Labels};
-ghost use Rattle.potentials.specs.Levels.{Level};
+ghost use Rattle.meters.specs.Ends.{Labels};
+ghost use Rattle.wholes.specs.Levels.{Level};
 
 mod descents;
 mod nets;
-mod wholes;
 
 // Prices from top − band to top, one for each label.
 pub fn potentials_of(p: Plant, labels: [u8; PLACES], top: u64, band: u64) -> [u64; PLACES]

@@ -1,16 +1,16 @@
 // What the groups' nets come to at real prices, each amount brought into its range.
-use laplacians::meters::ENDS;
-use laplacians::meters::METERS;
-use laplacians::meters::amount_at;
-use laplacians::meters::end_at;
-use laplacians::meters::in_range;
-use laplacians::meters::start_at;
+use meters::ENDS;
+use meters::METERS;
+use meters::amount_at;
+use meters::end_at;
+use meters::in_range;
+use meters::start_at;
 use plants::limits::PLACES;
 ghost use mathlib.Core.Path.{_≡_};
 ghost use Prim.Native.Nat.{_<_, _≤_};
 ghost use lib.ListN.{length};
 ghost use Rattle.plants.specs.Limits.{maxStreams, places};
-ghost use Rattle.laplacians.specs.Cells.{Ends, meterCells};
+ghost use Rattle.meters.specs.Ends.{Ends, meterCells};
 
 // What stream k carries leaves the group of its start and comes to that of its end.
 fn bring(

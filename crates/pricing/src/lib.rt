@@ -1,18 +1,15 @@
-// Prices: refusal 21, and the price of each stream by its number.
+// Prices: refusal 21.
 use plants::Plant;
-use plants::limits::MAX_STREAMS;
 use purchases::MAX_PRICE;
 ghost use mathlib.Core.Path.{_≡_};
 ghost use mathlib.Core.Bool.{_||_};
 ghost use Prim.Native.Nat.{_+_, _<_};
 ghost use lib.Dec.{eqb, ltb};
-ghost use lib.ListN.{getD, replicate};
 ghost use Rattle.numbers.specs.Choice.{pick};
 ghost use Rattle.plants.specs.Limits.{maxStreams};
 ghost use Rattle.plants.specs.Within.{Accepted};
 ghost use Rattle.plants.specs.Says.{plantOf};
-ghost use Rattle.flows.proofs.Lists.{Written};
-ghost use Rattle.purchases.specs.Purchases.{maxPrice, unmeteredTo, priceIn, someUnfair, pricesFault};
+ghost use Rattle.purchases.specs.Purchases.{maxPrice, unmeteredTo, someUnfair, pricesFault};
 
 // A price is 0 or over its limit.
 fn unfair(c: u32) -> bool
@@ -38,7 +35,7 @@ fn some_unfair(prices: &[u32]) -> bool
 }
 
 // One more, where a stream is unmetered.
-fn more(k: usize, metered: bool) -> usize
+pub fn more(k: usize, metered: bool) -> usize
     requires { ⌜ k < maxStreams ⌝ }
     ensures { λ r. ⌜ r ≡ pick metered 0 1 + k ⌝ }
 {
@@ -76,32 +73,4 @@ pub fn prices_fault(p: Plant, prices: &[u32]) -> u8
         return 21;
     }
     0
-}
-
-// A price in the list, 0 past its end.
-fn price_at(prices: &[u32], k: usize) -> u32
-    ensures { λ r. ⌜ r ≡ getD (now (prices .entry)) k 0 ⌝ }
-{
-    if k < prices.len() {
-        return prices[k];
-    }
-    0
-}
-
-// The price of each stream by its number.
-pub fn by_stream(p: Plant, prices: &[u32]) -> [u32; MAX_STREAMS]
-    requires { ⌜ Accepted p ⌝ }
-    ensures { λ r. ⌜ Written 0 maxStreams (λ k x. priceIn (plantOf p .streams) (now (prices .entry)) k) (replicate maxStreams 0) r (p .count) ⌝ }
-{
-    let n = p.count as usize;
-    let mut each = [0u32; MAX_STREAMS];
-    let mut k: usize = 0;
-    let mut i: usize = 0;
-    while i < n {
-        let s = p.streams[i];
-        each[i] = price_at(prices, k);
-        k = more(k, s.metered);
-        i += 1;
-    }
-    each
 }

@@ -1,2 +1,2 @@
--- Laws of a spanning forest and of the amounts routed along it.
-pub mod Spanning
+-- Laws of routed amounts.
+pub mod Routes

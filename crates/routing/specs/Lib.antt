@@ -1,2 +1,2 @@
--- What is asked of a spanning forest and of the amounts routed along it.
-pub mod Forests
+-- Definitions that the contracts of routing cite.
+pub mod Routes

@@ -1,9 +1,6 @@
 // Amounts settled at prices, and the nets that they leave.
-use lanes::slacks::high_of;
-use lanes::slacks::low_of;
+use amounts::amount_at;
 use lanes::slacks::minus;
-use lanes::slacks::reading_of;
-use lanes::slacks::weight_of;
 use model::Hint;
 use model::State;
 use model::sizes::FLOW_SHIFT;
@@ -14,44 +11,13 @@ use plants::limits::PLACES;
 ghost use mathlib.Core.Path.{_≡_};
 ghost use lib.ListN.{length, take};
 ghost use Prim.Native.Nat.{_≤_};
-ghost use Rattle.plants.specs.Limits.{maxUnits, maxStreams, maxWeight};
+ghost use Rattle.plants.specs.Limits.{maxUnits, maxStreams};
 ghost use Rattle.plants.specs.Within.{WithinStream};
 ghost use Rattle.model.specs.Sizes.{mostFlow};
-ghost use Rattle.model.specs.SearchNeeds.{Network, Sized};
+ghost use Rattle.model.specs.SearchNeeds.{Network};
 ghost use Rattle.model.specs.Sizes.{netRoom};
-ghost use Rattle.model.specs.Model.{clamped, nearestAmount, settledOf, settledTo, booked, netsTo, settled, overSum};
-ghost use Rattle.model.specs.SolverNeeds.{Amounts, Around, Settleable, Settles, Ready};
-
-// The amount nearest to a reading, at the prices of a stream's start and its end, by its weight. (The numbers divided are kept small: a
-// division of small numbers is quicker.)
-fn nearest(w: u64, read: u64, pu: u64, pv: u64) -> u64
-    requires { ⌜ (1 ≤ w) × (w ≤ maxWeight) × Sized read pu pv 0 ⌝ }
-    ensures { λ r. ⌜ r ≡ nearestAmount w read pu pv ⌝ }
-{
-    if pu <= pv + w {
-        return read + (pv + w - pu) / (2 * w);
-    }
-    minus(read, (pu - pv + w - 1) / (2 * w))
-}
-
-// A number brought into a range.
-fn clamp(low: u64, high: u64, x: u64) -> u64
-    ensures { λ r. ⌜ r ≡ clamped low high x ⌝ }
-{
-    if x < low {
-        return low;
-    }
-    if high < x { high } else { x }
-}
-
-// A metered stream's amount at the prices of its start and its end.
-fn amount_at(s: Stream, pu: u64, pv: u64) -> u64
-    requires { ⌜ Settleable s pu pv ⌝ }
-    ensures { λ r. ⌜ r ≡ settledOf s pu pv ⌝ }
-{
-    let x = nearest(weight_of(s), reading_of(s), pu, pv);
-    clamp(low_of(s), high_of(s), x)
-}
+ghost use Rattle.model.specs.Model.{settledTo, booked, netsTo, settled, overSum};
+ghost use Rattle.model.specs.SolverNeeds.{Amounts, Around, Settles, Ready};
 
 // Each metered stream's amount is settled; the others stay as they are.
 pub fn settle_flows(

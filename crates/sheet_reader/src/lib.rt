@@ -1,18 +1,10 @@
 // The sheet reader: stream records, then the total.
-ghost use mathlib.Core.Path.{_≡_};
-ghost use mathlib.Core.Bool.{_||_};
-ghost use Prim.Native.Nat.{_≤_};
-ghost use lib.Dec.{leb, ltb};
-ghost use lib.ListN.{length};
-ghost use Rattle.numbers.specs.Choice.{refuseIf, firstOf};
-ghost use Rattle.plants.specs.Limits.{maxStreams};
-ghost use Rattle.sheets.specs.Apart.{streamSize, totalSize};
-ghost use Rattle.sheets.specs.Sheets.{kindOf};
-ghost use Rattle.sheets.specs.Kept.{shownIn, blank, streamRecord, totalIn, verdictFits, fieldsFit, totalFault, afterFault, totalRecord, recordAt, recordNumber, noSheet, readOf, ReadSays};
 use flows::Class;
-use numbers::first_of;
 use plants::limits::MAX_STREAMS;
-use plants::limits::MAX_UNITS;
+use sheet_fields::blank_entry;
+use sheet_fields::cut_fault;
+use sheet_fields::rest_fault;
+use sheet_fields::unfit;
 use sheets::Entry;
 use sheets::SheetRead;
 use sheets::SheetRecord;
@@ -22,8 +14,13 @@ use sheets::kinds::AS_READ;
 use sheets::kinds::GIVEN;
 use sheets::kinds::STREAM_SIZE;
 use sheets::kinds::TOTAL;
-use sheets::kinds::TOTAL_SIZE;
 use sheets::kinds::WITHHELD;
+ghost use mathlib.Core.Path.{_≡_};
+ghost use Prim.Native.Nat.{_≤_};
+ghost use lib.ListN.{length};
+ghost use Rattle.sheets.specs.Apart.{streamSize, totalSize};
+ghost use Rattle.sheets.specs.Sheets.{kindOf};
+ghost use Rattle.sheets.specs.Kept.{shownIn, blank, streamRecord, totalIn, totalRecord, recordAt, recordNumber, noSheet, readOf, ReadSays};
 
 // The kind of record that a class has.
 pub fn kind_of(class: Class) -> u8
@@ -35,16 +32,6 @@ pub fn kind_of(class: Class) -> u8
         Class::Given => GIVEN,
         Class::Withheld => WITHHELD,
     }
-}
-
-// A stream record of so many bytes, after so many streams: there is no room for it, or it is cut.
-fn unfit(size: usize, count: u8, s: &[u8]) -> bool
-    ensures { λ r. ⌜ r ≡ (leb maxStreams count || ltb (length (now (s .entry))) size) ⌝ }
-{
-    if MAX_STREAMS <= count as usize {
-        return true;
-    }
-    s.len() < size
 }
 
 // A stream that shows a number.
@@ -61,16 +48,6 @@ fn read_shown(class: Class, count: u8, s: &[u8]) -> SheetRecord
             flow: flow,
         },
         size: STREAM_SIZE,
-    }
-}
-
-// A withheld stream shows none.
-fn blank_entry() -> Entry
-    ensures { λ r. ⌜ r ≡ blank ⌝ }
-{
-    Entry {
-        class: Class::Withheld,
-        flow: 0,
     }
 }
 
@@ -100,62 +77,6 @@ fn total_in(s: &[u8]) -> Total
     }
 }
 
-// Verdict 2 exactly at degrees 0, else 0, 1 or 3.
-fn verdict_fits(degrees: u8, verdict: u8) -> bool
-    ensures { λ r. ⌜ r ≡ verdictFits degrees verdict ⌝ }
-{
-    if degrees == 0 {
-        return verdict == 2;
-    }
-    if verdict == 3 {
-        return true;
-    }
-    verdict < 2
-}
-
-// The fields that are allowed.
-fn fields_fit(t: Total) -> bool
-    ensures { λ r. ⌜ r ≡ fieldsFit t ⌝ }
-{
-    if t.sheet == 0 {
-        return false;
-    }
-    if MAX_UNITS < t.degrees {
-        return false;
-    }
-    verdict_fits(t.degrees, t.verdict)
-}
-
-// A field that is not allowed.
-fn total_fault(t: Total) -> u8
-    ensures { λ r. ⌜ r ≡ totalFault t ⌝ }
-{
-    if fields_fit(t) {
-        return 0;
-    }
-    14
-}
-
-// A total that is cut.
-fn cut_fault(s: &[u8]) -> u8
-    ensures { λ r. ⌜ r ≡ refuseIf (ltb (length (now (s .entry))) totalSize) 13 ⌝ }
-{
-    if s.len() < TOTAL_SIZE {
-        return 13;
-    }
-    0
-}
-
-// Bytes after the total.
-fn after_fault(s: &[u8]) -> u8
-    ensures { λ r. ⌜ r ≡ afterFault (now (s .entry)) ⌝ }
-{
-    if s.len() == TOTAL_SIZE {
-        return 0;
-    }
-    15
-}
-
 fn read_total(s: &[u8]) -> SheetRecord
     ensures { λ r. ⌜ r ≡ totalRecord (now (s .entry)) ⌝ }
 {
@@ -164,9 +85,7 @@ fn read_total(s: &[u8]) -> SheetRecord
         return SheetRecord::Refused(cut);
     }
     let total = total_in(s);
-    let fields = total_fault(total);
-    let after = after_fault(s);
-    let fault = first_of(fields, after);
+    let fault = rest_fault(total, s);
     if fault != 0 {
         return SheetRecord::Refused(fault);
     }

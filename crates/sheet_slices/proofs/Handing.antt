@@ -1,6 +1,6 @@
 -- Handing a kept sheet over: there is room in the slices, and the elements are laid down one after the other.
-use mathlib.Core.Path.{_≡_, refl, ap, _∙_}
-use mathlib.Core.Bool.{_||_}
+use mathlib.Core.Path.{_≡_, refl, sym, ap, _∙_}
+use mathlib.Core.Bool.{Bool, true, false, _||_}
 use mathlib.Core.List.{List, [], _∷_, map}
 use lib.IntN.{ℤ}
 use Prim.Native.Nat.{ℕ, zero, suc, _+_, _≤_, _<_}
@@ -9,8 +9,9 @@ use native.Mathlib.Numerals.{add-one}
 use lib.Dec.{ltb}
 use lib.ListN.{length, getD, set, take}
 use borrow.Author.Tests.{lt-ltb, le-ltb, ltb-false}
+use Rattle.numbers.specs.Choice.{pick}
 use Rattle.numbers.specs.Bytes.{over}
-use Rattle.numbers.proofs.Tests.{by-cases, or-none-left, or-none-right}
+use Rattle.numbers.proofs.Tests.{or-none-left, or-none-right}
 use Rattle.plants.specs.Limits.{maxStreams}
 use Rattle.sheets.specs.declared.SheetRead.{SheetRead}
 use Rattle.sheets.specs.Kept.{Reopened, noSheet, someSheet, readSheet, readOf}
@@ -18,24 +19,29 @@ use Rattle.sheets.proofs.Back.{few-read}
 use Rattle.sheet_slices.specs.Kept.{readLent, kindsOf, flowsOf, HandedOver}
 
 -- A sheet has no more streams than there may be.
-few-streams : (bytes : List ℕ) → readOf (readSheet bytes) .count ≤ maxStreams
-few-streams bytes = go (readSheet bytes) refl
-  where
-    go : (g : Reopened) → readSheet bytes ≡ g → readOf g .count ≤ maxStreams
-    go (noSheet f) e = omega arith
-    go (someSheet s) e = few-read bytes s e
+few-streams : (bytes : List ℕ) (g : Reopened) → readSheet bytes ≡ g → readOf g .count ≤ maxStreams
+few-streams bytes (noSheet f) e = omega arith
+few-streams bytes (someSheet s) e = few-read bytes s e
+
+-- Which of two readings it is, whatever they are.
+module _ (b : Bool) (g h : Reopened) where
+  first-read : b ≡ true → readOf g ≡ readOf (pick b g h)
+  first-read t = ap (λ (b : Bool). readOf (pick b g h)) (sym t)
+
+  second-read : b ≡ false → readOf h ≡ readOf (pick b g h)
+  second-read t = ap (λ (b : Bool). readOf (pick b g h)) (sym t)
 
 -- The reading, by the two lengths.
 module _ (bytes : List ℕ) (k f : ℕ) where
   pub kinds-short : k < maxStreams → readOf (noSheet 1) ≡ readOf (readLent bytes k f)
-  kinds-short h = rw (lt-ltb k maxStreams h) refl
+  kinds-short h = first-read (ltb k maxStreams || ltb f maxStreams) (noSheet 1) (readSheet bytes) (rw (lt-ltb k maxStreams h) refl)
 
   module _ (h : maxStreams ≤ k) where
     pub flows-short : f < maxStreams → readOf (noSheet 1) ≡ readOf (readLent bytes k f)
-    flows-short l = rw (le-ltb k maxStreams h, lt-ltb f maxStreams l) refl
+    flows-short l = first-read (ltb k maxStreams || ltb f maxStreams) (noSheet 1) (readSheet bytes) (rw (le-ltb k maxStreams h, lt-ltb f maxStreams l) refl)
 
     pub both-long : maxStreams ≤ f → readOf (readSheet bytes) ≡ readOf (readLent bytes k f)
-    both-long l = rw (le-ltb k maxStreams h, le-ltb f maxStreams l) refl
+    both-long l = second-read (ltb k maxStreams || ltb f maxStreams) (noSheet 1) (readSheet bytes) (rw (le-ltb k maxStreams h, le-ltb f maxStreams l) refl)
 
 -- What is handed over has room: no more than there may be, nor than either slice holds.
 pub record Room (c k f : ℕ) : Type 0 where
@@ -43,16 +49,20 @@ pub record Room (c k f : ℕ) : Type 0 where
   pub in-kinds : c ≤ k
   pub in-flows : c ≤ f
 
-pub room-lent : (bytes : List ℕ) (k f : ℕ) (r : SheetRead) → r ≡ readOf (readLent bytes k f) → Room (r .count) k f
-room-lent bytes k f r e =
-    let few = few-streams bytes in
-    by-cases (ltb k maxStreams || ltb f maxStreams)
-    (λ t. let z : r .count ≡ 0 = ap (λ (y : SheetRead). y .count) e ∙ rw t refl in
-    record { few = omega arith; in-kinds = omega arith; in-flows = omega arith })
-    (λ t. let z : r .count ≡ readOf (readSheet bytes) .count = ap (λ (y : SheetRead). y .count) e ∙ rw t refl in
+room-by : (b : Bool) (g : Reopened) (k f : ℕ) (r : SheetRead) → readOf g .count ≤ maxStreams → (ltb k maxStreams || ltb f maxStreams) ≡ b
+    → r ≡ readOf (pick b (noSheet 1) g) → Room (r .count) k f
+room-by true g k f r few t e =
+    let z : r .count ≡ 0 = ap (λ (y : SheetRead). y .count) e in
+    record { few = omega arith; in-kinds = omega arith; in-flows = omega arith }
+room-by false g k f r few t e =
+    let z : r .count ≡ readOf g .count = ap (λ (y : SheetRead). y .count) e in
     let a = ltb-false k maxStreams (or-none-left (ltb k maxStreams) (ltb f maxStreams) t) in
     let b = ltb-false f maxStreams (or-none-right (ltb k maxStreams) (ltb f maxStreams) t) in
-    record { few = omega arith; in-kinds = omega arith; in-flows = omega arith })
+    record { few = omega arith; in-kinds = omega arith; in-flows = omega arith }
+
+pub room-lent : (bytes : List ℕ) (k f : ℕ) (r : SheetRead) → r ≡ readOf (readLent bytes k f) → Room (r .count) k f
+room-lent bytes k f r e =
+    room-by (ltb k maxStreams || ltb f maxStreams) (readSheet bytes) k f r (few-streams bytes (readSheet bytes) refl) refl e
 
 -- The values of a function at the first k of a list, laid over the front of a slice o, which is n now; c of them are to be laid.
 pub record Handing {A B : Type 0} (f : A → B) (xs : List A) (c : ℕ) (o n : List B) (k : ℕ) : Type 0 where

@@ -6,7 +6,7 @@ use mathlib.Core.List.{List}
 use lib.IntN.{ℤ}
 use Prim.Native.Nat.{ℕ, suc, _^_, _≤_, _<_}
 use native.Mathlib.Omega.{arith}
-use borrow.Author.Tests.{ne-eqb, eqb-true, eqb-false}
+use borrow.Author.Tests.{eqb-true, eqb-false}
 use lib.Dec.{eqb}
 use lib.ListN.{length, getD, take, drop}
 use lib.Seq.{drop-append-seam, take-at}
@@ -31,7 +31,7 @@ use Rattle.model.specs.declared.Solved.{Solved}
 use Rattle.model.specs.Promise.{flowOf, Solution, Right}
 use Rattle.model.proofs.Amounts.{opened-at}
 use Rattle.sheets.specs.declared.Sheet.{Sheet}
-use Rattle.sheets.specs.Sentences.{topSheet, callFault, Refused, Overfilled, Full, Answers}
+use Rattle.sheets.specs.Sentences.{topSheet, callFault, Overfilled, Full, Answers}
 use Rattle.sheets.specs.Sheets.{plantParts, sheetOf}
 use Rattle.sheets.specs.Says.{Drawn, SheetWith, SheetSays}
 use Rattle.sheets.specs.Kept.{someSheet, readSheet}
@@ -39,7 +39,7 @@ use Rattle.sheets.specs.Demands.{ReadsBack, Demands}
 use Rattle.sheets.specs.Calls.{Small}
 use Rattle.sheets.proofs.Opening.{right-found, right-overfull, held-amounts, opened-small}
 use Rattle.sheets.proofs.Laying.{sheet-most}
-use Rattle.sheets.proofs.Promise.{long-enough, one-left, call-taken}
+use Rattle.sheets.proofs.Promise.{long-enough, one-left, call-faulty, call-taken, call-read}
 use Rattle.sheets.proofs.Unique.{amount-same, never-both, no-choice}
 use Rattle.sheets.proofs.Back.{reopening}
 use Rattle.sheets.proofs.ReadAgain.{read-back}
@@ -116,8 +116,7 @@ module _ (file : List ℕ) (last : ℕ) (o o′ : List ℕ) (r : Sheet) (top : l
   read-kept : SheetSays file last o o′ r → r .number ≡ 0 → ReadsBack file o′ r
   read-kept s n = by-cases (eqb (callFault last o) 0)
       (λ t. let f = eqb-true (callFault last o) 0 t in go (readPlant file) refl f (call-taken file last o o′ r s f))
-      (λ t. let f = eqb-false (callFault last o) 0 t in
-      let u : Refused (callFault last o) last o o′ r = rw t at s in absurd (f (sym (ap (λ (y : Sheet). y .number) (u .0)) ∙ n)))
+      (λ t. let f = eqb-false (callFault last o) 0 t in absurd (f (sym (ap (λ (y : Sheet). y .number) (call-faulty file last o o′ r s f .0)) ∙ n)))
     where
       go : (g : Got) → readPlant file ≡ g → callFault last o ≡ 0 → SheetWith g last o o′ r → ReadsBack file o′ r
       go (bad f) e z u = absurd (refused file f e (sym (ap (λ (y : Sheet). y .number) (u .0)) ∙ n))
@@ -131,12 +130,12 @@ module _ (third : Demand-3) (nineteen : Refusal-19) (solve : (p : Arrays.Plant) 
 
   answers : (file : List ℕ) (last : ℕ) (o o′ : List ℕ) (r : Sheet) → last ≤ topSheet → SheetSays file last o o′ r → Answers file last o o′ r
   answers file last o o′ r top s = record {
-    unfit = λ n. rw (ne-eqb (callFault last o) 0 n) at s;
-    unread = λ f z e. (refused file f e, rw e at (call-taken file last o o′ r s z));
+    unfit = λ n. call-faulty file last o o′ r s n;
+    unread = λ f z e. (refused file f e, call-read file last o o′ r s (bad f) z e);
     full = λ p ys z e a.
         let w = within p (accepted file p e .0) in
-        full p w last o o′ r (third file p ys e a) (sized-here file p e) top z (drawn-of p w last o o′ r (rw e at (call-taken file last o o′ r s z)) ys a);
-    overfull = λ p z e. overfilled-of p (within p (accepted file p e .0)) last o o′ r (rw e at (call-taken file last o o′ r s z));
+        full p w last o o′ r (third file p ys e a) (sized-here file p e) top z (drawn-of p w last o o′ r (call-read file last o o′ r s (got p) z e) ys a);
+    overfull = λ p z e. overfilled-of p (within p (accepted file p e .0)) last o o′ r (call-read file last o o′ r s (got p) z e);
   }
 
   -- The demands, all of them.

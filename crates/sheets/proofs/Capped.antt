@@ -1,17 +1,11 @@
--- A cost as it is written: sums of such, and the verdict.
-use mathlib.Core.Path.{_≡_, refl, sym, ap, _∙_}
-use mathlib.Core.Bool.{Bool, true, _&&_}
-use mathlib.Core.List.{List, [], _∷_}
-use Prim.Native.Nat.{ℕ, zero, suc, _+_, _-_, _*_, _≤_, _<_}
+-- A cost as it is written.
+use mathlib.Core.Path.{_≡_}
+use Prim.Native.Nat.{ℕ, _≤_}
 use native.Mathlib.Omega.{arith}
-use native.Mathlib.Decide.{decLe}
-use native.Mathlib.Nat.{le-antisymm, mul-le-mul-left, one-mul}
-use borrow.Author.Tests.{le-leb, leb-true, ltb-true}
-use lib.Dec.{eqb, leb, ltb}
-use lib.ListN.{getD}
-use Rattle.numbers.specs.Choice.{pick}
-use Rattle.numbers.proofs.Tests.{by-cases, same-test, and-left, and-right}
-use Rattle.flows.specs.Test.{critical, criticalAt, verdictAt}
+use native.Mathlib.Nat.{le-antisymm}
+use borrow.Author.Tests.{le-leb, leb-true}
+use lib.Dec.{leb}
+use Rattle.numbers.proofs.Tests.{by-cases}
 use Rattle.sheets.specs.Apart.{topCost, capped}
 
 pub capped-below : (c : ℕ) → c ≤ topCost → capped c ≡ c
@@ -22,50 +16,3 @@ capped-above c h = by-cases (leb c topCost) (λ t. rw t (le-antisymm (leb-true c
 
 pub capped-most : (c : ℕ) → capped c ≤ topCost
 capped-most c = by-cases (leb c topCost) (λ t. rw t (leb-true c topCost t)) (λ t. rw t (omega arith))
-
--- A part of a sum may be capped before the sum is.
-pub capped-add : (a c : ℕ) → capped (capped a + c) ≡ capped (a + c)
-capped-add a c = elim (decLe a topCost) [
-  | yes h ↦ ap (λ (k : ℕ). capped (k + c)) (capped-below a h)
-  | no h ↦ capped-above (capped a + c) (omega (arith, capped-above a (omega arith))) ∙ sym (capped-above (a + c) (omega arith))
-]
-
-pub capped-sum : (a b c : ℕ) → capped (capped (a + capped b) + c) ≡ capped (a + (b + c))
-capped-sum a b c =
-    let e : a + capped b + c ≡ capped b + (a + c) = omega arith in
-    let f : b + (a + c) ≡ a + (b + c) = omega arith in
-    capped-add (a + capped b) c ∙ ap capped e ∙ capped-add b (a + c) ∙ ap capped f
-
--- The critical values, and they with a quarter of any weights that 8 bytes hold, are far below the cap, so the verdict is the
--- same.
-abbrev allBelow : ℕ → List ℕ → Bool
-allBelow m [] = true
-allBelow m (x ∷ xs) = ltb x m && allBelow m xs
-
-below-at : (m : ℕ) (xs : List ℕ) → 1 ≤ m → allBelow m xs ≡ true → (k : ℕ) → getD xs k 0 < m
-below-at m [] l e k = omega arith
-below-at m (x ∷ xs) l e zero = ltb-true x m (and-left (ltb x m) (allBelow m xs) e)
-below-at m (x ∷ xs) l e (suc k) = below-at m xs l (and-right (ltb x m) (allBelow m xs) e) k
-
--- So many times a cost that is above the cap is above the same times the cap.
-below-test : (n c v : ℕ) → v < n * topCost → leb (n * capped c) v ≡ leb (n * c) v
-below-test n c v h = elim (decLe c topCost) [
-  | yes l ↦ ap (λ (k : ℕ). leb (n * k) v) (capped-below c l)
-  | no l ↦ same-test (leb (n * capped c) v) (leb (n * c) v)
-      (λ t. absurd (omega (arith, leb-true (n * capped c) v t, ap (λ (k : ℕ). n * k) (capped-above c (omega arith)))))
-      (λ t. absurd (omega (arith, leb-true (n * c) v t, mul-le-mul-left n (le-of c l))))
-]
-  where
-    le-of : (c : ℕ) → (c ≤ topCost → ⊥) → topCost ≤ c
-    le-of c l = omega arith
-
-critical-low : (d : ℕ) → criticalAt d < 65536
-critical-low d = below-at 65536 critical (omega arith) refl (d - 1)
-
-pub capped-verdict : (d c q : ℕ) → q ≤ topCost → verdictAt d (capped c) q ≡ verdictAt d c q
-capped-verdict d c q h =
-    let v = criticalAt d in
-    let l = critical-low d in
-    let one : leb (capped c) v ≡ leb c v = simp one-mul at (below-test 1 c v (omega arith)) in
-    let four : leb (4 * capped c) (4 * v + q) ≡ leb (4 * c) (4 * v + q) = below-test 4 c (4 * v + q) (omega arith) in
-    λ i. pick (eqb d 0) 2 (pick (one i) 0 (pick (four i) 3 1))

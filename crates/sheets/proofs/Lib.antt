@@ -1,7 +1,6 @@
 -- Laws of balances and sheets.
 pub mod Opening
 pub mod Capped
-pub mod Costing
 pub mod Entries
 pub mod Laying
 pub mod Records

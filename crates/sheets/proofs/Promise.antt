@@ -1,17 +1,14 @@
--- The sheet call's promise, by what was found.
+-- What a plant file and an outcome give, by what was found, and a call without fault.
 use mathlib.Core.Path.{_≡_, refl, sym, ap, _∙_, subst}
 use mathlib.Core.Bool.{Bool, true, false}
-use mathlib.Core.Logic.{inl, inr}
 use mathlib.Core.List.{List}
-use Prim.Native.Nat.{ℕ, suc, _+_, _≤_}
-use native.Mathlib.Numerals.{add-one}
+use Prim.Native.Nat.{ℕ, _≤_}
 use lib.ListN.{length}
-use lib.Dec.{ltb}
+use lib.Dec.{eqb, ltb}
 use borrow.Author.Tests.{eq-eqb, ne-eqb, ltb-false, eqb-false}
 use Rattle.numbers.specs.Choice.{refuseIf}
 use Rattle.numbers.proofs.Tests.{refuse-none, first-none-left, first-none-right}
-use Rattle.numbers.specs.Bytes.{over}
-use Rattle.numbers.specs.Inner.{Put, pickT}
+use Rattle.numbers.specs.Inner.{pickT}
 use Rattle.plants.specs.declared.Read.{Read}
 use Rattle.plants.specs.Plants.{Plant}
 use Rattle.plants.specs.Files.{Got, bad, got, readPlant}
@@ -19,15 +16,14 @@ use Rattle.plants.specs.Within.{Accepted}
 use Rattle.plants.specs.Says.{arrayed, plantOf, readOf}
 use Rattle.plants.proofs.Accepted.{refused}
 use Rattle.plants.proofs.Arrayed.{all-listed, read-accepted, read-held}
-use Rattle.flows.specs.Overfull.{unmarked, Overfull}
+use Rattle.flows.specs.Overfull.{Overfull}
 use Rattle.sheets.specs.declared.Sheet.{Sheet}
 use Rattle.sheets.specs.declared.Balance.{Balance}
 use Rattle.sheets.specs.declared.Outcome.{Outcome}
 use Rattle.sheets.specs.Balances.{BalanceSays, OutcomeSays}
-use Rattle.sheets.specs.Sheets.{sheetBytes, sheetOf}
 use Rattle.sheets.specs.Apart.{leastSlice}
 use Rattle.sheets.specs.Says.{SheetWith, SheetSays}
-use Rattle.sheets.specs.Sentences.{topSheet, callFault}
+use Rattle.sheets.specs.Sentences.{topSheet, callFault, Refused}
 
 -- What the reader handed over, by its number.
 pub read-bad : (g : Got) (y : Read) → y ≡ readOf g → (y .number ≡ 0 → ⊥) → g ≡ bad (y .number)
@@ -66,9 +62,6 @@ module _ (p : Plant) (r : Outcome) (h : OutcomeSays p r) where
   pub outcome-overfull : r .found ≡ false → Overfull p (r .marked)
   outcome-overfull t = subst (λ (b : Bool). pickT b (BalanceSays p (r .balance)) (Overfull p (r .marked))) t h
 
-pub says-overfull : (p : Plant) (r : Outcome) (ms : List Bool) → (r .found ≡ false) × (r .marked ≡ ms) → Overfull p ms → OutcomeSays p r
-says-overfull p r ms e o = subst (λ (b : Bool). pickT b (BalanceSays p (r .balance)) (Overfull p (r .marked))) (sym (e .0)) (rw (e .1) o)
-
 -- A call without fault: the slice is long enough, and a sheet number is left.
 module _ (last : ℕ) (o : List ℕ) (e : callFault last o ≡ 0) where
   pub long-enough : leastSlice ≤ length o
@@ -77,37 +70,16 @@ module _ (last : ℕ) (o : List ℕ) (e : callFault last o ≡ 0) where
   pub one-left : last ≡ topSheet → ⊥
   one-left = eqb-false last topSheet (refuse-none _ 1 (first-none-right (refuseIf (ltb (length o) leastSlice) 1) _ e))
 
--- What a call without fault ensures, by the file.
-pub call-taken : (file : List ℕ) (last : ℕ) (o o′ : List ℕ) (r : Sheet) → SheetSays file last o o′ r → callFault last o ≡ 0
-    → SheetWith (readPlant file) last o o′ r
-call-taken file last o o′ r s z = rw (eq-eqb (callFault last o) 0 z) at s
+-- What a call ensures, by its fault and by the file.
+module _ (file : List ℕ) (last : ℕ) (o o′ : List ℕ) (r : Sheet) (s : SheetSays file last o o′ r) where
+  call-by : (b : Bool) → eqb (callFault last o) 0 ≡ b → pickT b (SheetWith (readPlant file) last o o′ r) (Refused (callFault last o) last o o′ r)
+  call-by b e = subst (λ (b : Bool). pickT b (SheetWith (readPlant file) last o o′ r) (Refused (callFault last o) last o o′ r)) e s
 
-module _ (file : List ℕ) (last : ℕ) (o : List ℕ) where
-  pub call-refused : (f : ℕ) (r : Sheet) → f ≡ callFault last o → (f ≡ 0 → ⊥) → r ≡ record { number = f; written = 0; last = last; marked = unmarked } → SheetSays file last o o r
-  call-refused f r e n q = rw (ne-eqb (callFault last o) 0 (λ d. n (e ∙ d))) (q ∙ (λ i. record { number = e i; written = 0; last = last; marked = unmarked }), refl)
+  pub call-faulty : (callFault last o ≡ 0 → ⊥) → Refused (callFault last o) last o o′ r
+  call-faulty n = call-by false (ne-eqb (callFault last o) 0 n)
 
-  module _ (f : ℕ) (e : f ≡ callFault last o) (z : f ≡ 0) where
-    by-file : (o′ : List ℕ) (r : Sheet) → SheetWith (readPlant file) last o o′ r → SheetSays file last o o′ r
-    by-file o′ r w = rw (eq-eqb (callFault last o) 0 (sym e ∙ z)) w
+  pub call-taken : callFault last o ≡ 0 → SheetWith (readPlant file) last o o′ r
+  call-taken z = call-by true (eq-eqb (callFault last o) 0 z)
 
-    pub file-refused : (y : Read) (r : Sheet) → y ≡ readOf (readPlant file) → (y .number ≡ 0 → ⊥)
-        → r ≡ record { number = y .number; written = 0; last = last; marked = unmarked } → SheetSays file last o o r
-    file-refused y r q n w = by-file o r (rw (read-bad (readPlant file) y q n) (w, refl))
-
-    pub sheet-overfilled : (y : Read) (ms : List Bool) (r : Sheet) → y ≡ readOf (readPlant file) → y .number ≡ 0 → Overfull (plantOf (y .plant)) ms
-        → r ≡ record { number = 19; written = 0; last = last; marked = ms } → SheetSays file last o o r
-    sheet-overfilled y ms r q n t w = by-file o r (rw (found file y q n .1) (inr (ms, plant-overfull file y q n ms t, (w, refl))))
-
-    pub sheet-drawn : (y : Read) (b : Balance) (o′ : List ℕ) (m : ℕ) → y ≡ readOf (readPlant file) → y .number ≡ 0 → BalanceSays (plantOf (y .plant)) b
-        → Put (sheetBytes (y .plant .count) (last + 1) b) o o′ m → SheetSays file last o o′ (record { number = 0; written = m; last = last + 1; marked = unmarked })
-    sheet-drawn y b o′ m q n t p =
-        let s = plant-balance file y q n b t in
-        let sheet : sheetBytes (y .plant .count) (last + 1) b ≡ sheetOf (found file y q n .0) (s .0) (suc last) =
-        λ i. sheetBytes (plant-count file y q n i) (add-one last i) (s .2 i) in
-        by-file o′ (record { number = 0; written = m; last = last + 1; marked = unmarked })
-        (rw (found file y q n .1) (inl (
-          s .0,
-          s .1,
-          (λ i. record { number = 0; written = (p .size ∙ ap length sheet) i; last = add-one last i; marked = unmarked }),
-          p .bytes ∙ ap (λ (l : List ℕ). over l o) sheet,
-        )))
+  pub call-read : (g : Got) → callFault last o ≡ 0 → readPlant file ≡ g → SheetWith g last o o′ r
+  call-read g z e = subst (λ (g : Got). SheetWith g last o o′ r) e (call-taken z)

@@ -28,7 +28,7 @@ use Rattle.sheets.specs.Balances.{balanceOf}
 use Rattle.sheets.specs.Sheets.{sheetOf}
 use Rattle.sheets.specs.Says.{Drawn, SheetSays}
 use Rattle.sheets.specs.Table.{Example, Shows, AllShow, Refuses, examples, fullFile, fullUnit}
-use Rattle.sheets.proofs.Promise.{call-taken}
+use Rattle.sheets.proofs.Promise.{call-read}
 use Rattle.sheets.proofs.Unique.{never-both, one-sheet}
 
 -- Two lists of bytes are one.
@@ -52,7 +52,7 @@ calls-leave : (e : Example) (p : Plant) → readPlant (e .file) ≡ got p → Ch
     → (o o′ : List ℕ) (r : Sheet) → callFault 0 o ≡ 0 → SheetSays (e .file) 0 o o′ r → o′ ≡ over (e .sheet) o
 calls-leave e p q c b o o′ r z s =
     let w = within p (accepted (e .file) p q .0) in
-    let given : Drawn p 0 o o′ r ⊎ Overfilled p 0 o o′ r = rw q at (call-taken (e .file) 0 o o′ r s z) in
+    let given : Drawn p 0 o o′ r ⊎ Overfilled p 0 o o′ r = call-read (e .file) 0 o o′ r s (got p) z q in
     ⊎-elim (λ d. d .3 ∙ ap (λ (l : List ℕ). over l o) (one-sheet p w (d .0) (e .flow) (d .1) c 1 ∙ b))
     (λ m. never-both p w (e .flow) c (m .0) (m .1)) given
 
@@ -148,7 +148,7 @@ refuses-right file p ms e m = (p, e, m, calls)
   where
     calls : (o o′ : List ℕ) (r : Sheet) → callFault 0 o ≡ 0 → SheetSays file 0 o o′ r → r .number ≡ 19
     calls o o′ r z s =
-        let given : Drawn p 0 o o′ r ⊎ Overfilled p 0 o o′ r = rw e at (call-taken file 0 o o′ r s z) in
+        let given : Drawn p 0 o o′ r ⊎ Overfilled p 0 o o′ r = call-read file 0 o o′ r s (got p) z e in
         ⊎-elim (λ d. never-both p (within p (accepted file p e .0)) (d .0) (d .1) ms m) (λ m. ap (λ (q : Sheet). q .number) (m .2 .0)) given
 
 pub refuses : Refuses fullFile fullUnit

@@ -12,6 +12,7 @@ use lib.Dec.{eqb, ltb}
 use lib.ListN.{length}
 use Rattle.numbers.specs.Choice.{pick}
 use Rattle.numbers.specs.Bytes.{over}
+use Rattle.numbers.specs.Inner.{pickT}
 use Rattle.numbers.proofs.Tests.{by-cases, clash}
 use Rattle.plants.specs.declared.Stream.{Stream}
 use Rattle.plants.specs.Limits.{maxStreams}
@@ -132,8 +133,12 @@ module _ (last : ℕ) (o o₁ o₂ : List ℕ) (r₁ r₂ : Sheet) where
   read-same (got p) h (inr a) (inl b) = never-both p (h p refl) (b .0) (b .1) (a .0) (a .1)
   read-same (got p) h (inr a) (inr b) = marked-same p a b
 
+-- A call with a fault is refused; one without is answered by the file.
+call-same : (b : Bool) (file : List ℕ) (last : ℕ) (o o₁ o₂ : List ℕ) (r₁ r₂ : Sheet)
+    → pickT b (SheetWith (readPlant file) last o o₁ r₁) (Refused (callFault last o) last o o₁ r₁)
+    → pickT b (SheetWith (readPlant file) last o o₂ r₂) (Refused (callFault last o) last o o₂ r₂) → Alike r₁ r₂ × (o₁ ≡ o₂)
+call-same true file last o o₁ o₂ r₁ r₂ a b = read-same last o o₁ o₂ r₁ r₂ (readPlant file) (λ p e. within p (accepted file p e .0)) a b
+call-same false file last o o₁ o₂ r₁ r₂ a b = refused-same last o o₁ o₂ r₁ r₂ (callFault last o) a b
+
 pub no-choice : No-choice
-no-choice file last o o₁ o₂ r₁ r₂ a b =
-    by-cases (eqb (callFault last o) 0)
-    (λ t. read-same last o o₁ o₂ r₁ r₂ (readPlant file) (λ p e. within p (accepted file p e .0)) (rw t at a) (rw t at b))
-    (λ t. refused-same last o o₁ o₂ r₁ r₂ (callFault last o) (rw t at a) (rw t at b))
+no-choice file last o o₁ o₂ r₁ r₂ a b = call-same (eqb (callFault last o) 0) file last o o₁ o₂ r₁ r₂ a b

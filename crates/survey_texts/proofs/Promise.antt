@@ -26,8 +26,12 @@ module _ (file o : List ℕ) where
     pub says-refused : (l .number ≡ 0 → ⊥) → Put (refusalText (l .number)) o o′ r → TextSays file o o′ r
     says-refused n p = record { too-short = λ x. absurd (omega arith); told = λ x. (l, s, rw (ne-eqb (l .number) 0 n) p) }
 
-    pub says-lines : l .number ≡ 0 → Put (linesFrom 0 (take (suc (l .count)) (l .counts))) o o′ r → TextSays file o o′ r
-    says-lines n p = record { too-short = λ x. absurd (omega arith); told = λ x. (l, s, rw (eq-eqb (l .number) 0 n) p) }
+    -- A line for no stream metered, and one more for each stream.
+    pub says-lines : l .number ≡ 0 → {n : ℕ} → Put (linesFrom 0 (take n (l .counts))) o o′ r → n ≡ suc (l .count) → TextSays file o o′ r
+    says-lines z p e = record {
+      too-short = λ x. absurd (omega arith);
+      told = λ x. (l, s, rw (eq-eqb (l .number) 0 z) (subst (λ (n : ℕ). Put (linesFrom 0 (take n (l .counts))) o o′ r) e p));
+    }
 
 -- Text and length follow from the file and the slice.
 put-one : {x y o o₁ o₂ : List ℕ} {r₁ r₂ : ℕ} → x ≡ y → Put x o o₁ r₁ → Put y o o₂ r₂ → (r₁ ≡ r₂) × (o₁ ≡ o₂)

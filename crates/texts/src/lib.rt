@@ -1,6 +1,6 @@
 // The listing of a plant file, as text.
 use balances::balance_of;
-use listings::put_listing;
+use lister::put_listing;
 use listings::put_refusal;
 use plants::limits::MAX_STREAMS;
 ghost use Rattle.listings.specs.Room.{Counts};

@@ -1,21 +1,23 @@
-// What a call that a case tries comes to, but for the slice.
-pub struct Answer {
-    pub number: u8,
-    pub count: usize,
-    pub back: u32,
-}
+// The closing and the calls about meters, as cases try them; and what the calls of the solver are handed and tested by.
+mod closed;
+pub mod marking;
+mod meters;
+pub mod solved;
 
-// What is returned for bytes that no case may hand in, and for a wrong answer that stands in no case.
-const NO_CASE: u8 = 255;
+use closed::close_up;
+use file_trials::cases::NO_CASE;
+use file_trials::cases::told;
+use meters::buy;
+use meters::survey;
+use survey_texts::list_layouts;
 
-pub fn told(number: u8, count: usize, back: u32) -> Answer {
-    Answer {
-        number: number,
-        count: count,
-        back: back,
+// The call of this kind.
+pub fn call(kind: u64, given: &[u8], out: &mut [u8]) -> u64 {
+    match kind {
+        8 => close_up(given, out),
+        11 => buy(given, out),
+        12 => survey(given, out),
+        13 => told(0, list_layouts(given, out), 0),
+        _ => NO_CASE,
     }
-}
-
-pub fn no_case() -> Answer {
-    told(NO_CASE, 0, 0)
 }

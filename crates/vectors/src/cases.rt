@@ -2,25 +2,36 @@
 //
 //     byte 0       what is called: 1 the sheet call, 2 the plant reader, 3 the plant writer, 4 the solver without a hint,
 //                  5 the listing, 6 the sheet reader, 7 the translator, 8 the closing, 9 and 10 the moves,
-//                  11 meters to buy
+//                  11 meters to buy, 12 the survey, 13 its text
 //     byte 1       what the slice holds before the call
 //     bytes 2-3    how many bytes are handed in, at most ROOM
 //     bytes 4-5    how many bytes of the slice follow, at most ROOM; those past them are as before the call
 //     bytes 6-7    how long the slice is, at most ROOM
 //     bytes 8-11   the number handed in
-//     byte 12      the number returned
+//     byte 12      the number returned, and a 0 after it
 //     bytes 14-15  the count handed back
 //     bytes 16-19  the number handed back
 //
-// then the bytes handed in, then those of the slice. What they are for each call stands beside each (calls.rt).
+// then the bytes handed in, then those of the slice. What they are for each call stands beside each.
 use crate::calls::call;
-use trials::Answer;
-ghost use Prim.Native.Nat.{_≤_};
+use file_trials::cases::ROOM;
+use file_trials::cases::next_u32;
+use file_trials::cases::next_u64;
+use file_trials::cases::read_part;
+use file_trials::cases::same_part;
+use file_trials::cases::size_in;
+ghost use mathlib.Core.Path.{_≡_};
 ghost use lib.ListN.{length};
 
-const ROOM: usize = 2560;
+// Bytes 0 to 7 are read as one number. The kind, what the slice holds and the first two sizes are the last part of
+// that number divided by these; the third is the last part of the number itself.
+const KIND: u64 = 72_057_594_037_927_936;
 
-const HEAD: usize = 20;
+const FILL: u64 = 281_474_976_710_656;
+
+const GIVEN: u64 = 4_294_967_296;
+
+const KNOWN: u64 = 65_536;
 
 // What came of a case.
 pub const END: u8 = 0;
@@ -29,68 +40,35 @@ pub const RIGHT: u8 = 1;
 
 pub const WRONG: u8 = 2;
 
-// Reads the part of a case whose size stands in two bytes, and answers how many bytes it has: none where it is too long.
-fn read_part(file: i32, size: &[u8], out: &mut [u8]) -> usize
-    requires { ⌜ 2 ≤ length (now size) ⌝ }
-    ensures { λ r. ⌜ r ≤ length (now (out .exit)) ⌝ }
+// Makes the call, with these bytes handed in, and lends it as much of the slice as the case says.
+fn answer(sizes: u64, number: u32, given: [u8; ROOM], slice: &mut [u8]) -> u64
+    requires { ⌜ length (now slice) ≡ 2560 ⌝ }
 {
-    let size = numbers::get_u16(size) as usize;
-    if out.len() < size {
-        return 0;
-    }
-    io::read_full(file, &mut out[0..size])
+    let size = size_in(sizes / GIVEN);
+    let room = size_in(sizes);
+    call(sizes / KIND, number, &given[0..size], &mut slice[0..room])
 }
 
-// Whether the numbers are those told.
-fn same_numbers(done: Answer, told: &[u8]) -> bool
-    requires { ⌜ 8 ≤ length (now told) ⌝ }
-{
-    if done.number != told[0] {
-        return false;
-    }
-    if done.count != numbers::get_u16(&told[2..]) as usize {
-        return false;
-    }
-    done.back == numbers::get_u32(&told[4..])
-}
-
-// Makes the call, lent as much of the slice as the case says, and compares the numbers.
-fn call_right(head: &[u8], given: &[u8], slice: &mut [u8]) -> bool
-    requires { ⌜ 20 ≤ length (now head) ⌝ }
-{
-    let room = numbers::get_u16(&head[6..]) as usize;
-    if slice.len() < room {
-        return false;
-    }
-    let number = numbers::get_u32(&head[8..]);
-    let done = call(head[0], number, given, &mut slice[0..room]);
-    same_numbers(done, &head[12..])
-}
-
-// Reads the bytes handed in, and makes the call.
-fn given_right(file: i32, head: &[u8], slice: &mut [u8]) -> bool
-    requires { ⌜ 20 ≤ length (now head) ⌝ }
-{
-    let mut given = [0u8; ROOM];
-    let size = read_part(file, &head[2..], &mut given);
-    call_right(head, &given[0..size], slice)
-}
-
-// Tries the case that starts so.
-fn case_right(file: i32, head: [u8; HEAD]) -> bool {
-    let mut slice = [head[1]; ROOM];
-    let right = given_right(file, &head, &mut slice);
-    let mut known = [head[1]; ROOM];
-    read_part(file, &head[4..], &mut known);
-    right && check::same(&slice, &known)
+// Tries the case whose bytes 0 to 7 are these, and which tells this.
+fn case_right(file: i32, sizes: u64, number: u32, told: u64) -> bool {
+    let fill = (sizes / FILL % 256) as u8;
+    let given = read_part(file, sizes / GIVEN, 0);
+    let mut slice = [fill; ROOM];
+    let right = answer(sizes, number, given, &mut slice) == told;
+    let same = same_part(file, sizes / KNOWN, fill, &slice);
+    right && same
 }
 
 // Tries the next case of an open file; END where the file ends.
 pub fn try_next(file: i32) -> u8 {
-    let mut head = [0u8; HEAD];
-    let got = io::read_full(file, &mut head);
-    if got == 0 {
+    let sizes = next_u64(file);
+    if sizes == 0 {
         return END;
     }
-    if case_right(file, head) { RIGHT } else { WRONG }
+    let number = next_u32(file);
+    if case_right(file, sizes, number, next_u64(file)) {
+        RIGHT
+    } else {
+        WRONG
+    }
 }

@@ -1,3 +1,2 @@
 -- Laws of the test.
 pub mod Edges
-pub mod Summing

@@ -1,17 +1,10 @@
 // The test of the whole: the cost against a critical value, and how far above it rounding alone may take a cost.
-use flows::Class;
-use plants::Plant;
-use plants::Stream;
-use plants::limits::MAX_STREAMS;
 use plants::limits::MAX_UNITS;
+pub use weighing::adjusted_weights;
 ghost use mathlib.Core.Path.{_≡_};
 ghost use Prim.Native.Nat.{_≤_};
 ghost use Rattle.plants.specs.Limits.{maxUnits};
-ghost use Rattle.plants.specs.Within.{Accepted};
-ghost use Rattle.plants.specs.Says.{plantOf};
 ghost use Rattle.flows.specs.Test.{verdictAt};
-ghost use Rattle.flows.specs.Shown.{adjustedWeight, adjusted};
-ghost use Rattle.flows.specs.Calls.{classesOf};
 
 // Critical values of chi-square at 95 per cent, in thousandths, by degrees minus one.
 const CRITICAL: [u64; MAX_UNITS as usize] = [
@@ -48,36 +41,6 @@ const CRITICAL: [u64; MAX_UNITS as usize] = [
     44985,
     46194,
 ];
-
-// A stream's weight where it is adjusted.
-fn adjusted_weight(class: Class, s: Stream) -> u64
-    ensures { λ r. ⌜ (r ≡ adjustedWeight class s) × (r ≤ 65535) ⌝ }
-{
-    match class {
-        Class::Adjusted => s.weight as u64,
-        Class::AsRead => 0,
-        Class::Given => 0,
-        Class::Withheld => 0,
-    }
-}
-
-// The summed weights of the adjusted streams.
-pub fn adjusted_weights(p: Plant, classes: [Class; MAX_STREAMS]) -> u64
-    requires { ⌜ Accepted p × (classes ≡ classesOf (plantOf p)) ⌝ }
-    ensures { λ r. ⌜ r ≡ adjusted (plantOf p) ⌝ }
-{
-    let n = p.count as usize;
-    let mut sum: u64 = 0;
-    let mut i: usize = 0;
-    while i < n {
-        let s = p.streams[i];
-        let c = classes[i];
-        let more = adjusted_weight(c, s);
-        sum += more;
-        i += 1;
-    }
-    sum
-}
 
 // The verdict by degrees, cost and the summed weights of the adjusted streams: 0 (pass), 1 (fail), 2 (none), 3 (close). What a
 // cost is above the value is held against a quarter of the weights: four times the cost may pass 64 bits.

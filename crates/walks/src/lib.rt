@@ -9,8 +9,9 @@ use plants::limits::MAX_STREAMS;
 use plants::limits::PLACES;
 use walking::walk;
 ghost use mathlib.Core.Path.{_≡_};
-ghost use Prim.Native.Nat.{_<_};
+ghost use Prim.Native.Nat.{_-_, _<_};
 ghost use lib.ListN.{length, take};
+ghost use Rattle.numbers.specs.Choice.{pick};
 ghost use Rattle.plants.specs.Limits.{places};
 ghost use Rattle.model.specs.Sizes.{searchRounds};
 ghost use Rattle.model.specs.Search.{rootAt, grownBy, sought, tightPath};
@@ -20,16 +21,22 @@ ghost use Rattle.model.specs.SearchNeeds.{Searching};
 pub mod relaxing;
 pub mod walking;
 
-// The prices of visited places fall by what the search's distance exceeds theirs.
+// The price of a visited place falls by what the search's distance exceeds its own; another's stays.
+fn fall(visited: bool, reach: u64, dist: u64) -> u64
+    ensures { λ r. ⌜ r ≡ pick visited (reach - dist) 0 ⌝ }
+{
+    if visited { minus(reach, dist) } else { 0 }
+}
+
+// The prices of all places. (A place's is written whether it falls or not: which places are visited cannot be foreseen.)
 fn reduce(prices: &mut [u64; PLACES], visited: &[bool; PLACES], dist: &[u64; PLACES], reach: u64)
     requires { ⌜ length (now prices) ≡ places ⌝ }
     ensures { λ _. ⌜ now (prices .exit) ≡ reducedBy (now (visited .entry)) (now (dist .entry)) reach (now (prices .entry)) ⌝ }
 {
     let mut u: usize = 0;
     while u < PLACES {
-        if visited[u] {
-            prices[u] = minus(prices[u], minus(reach, dist[u]));
-        }
+        let by = fall(visited[u], reach, dist[u]);
+        prices[u] = minus(prices[u], by);
         u += 1;
     }
 }
@@ -61,17 +68,11 @@ pub fn search(
         },
     );
     let t = w.tree;
-    if !w.found {
-        return Searched {
-            found: false,
-            tree: t,
-        };
+    if w.found {
+        reduce(prices, &t.visited, &w.dist, w.reach);
     }
-    let visited = t.visited;
-    let dist = w.dist;
-    reduce(prices, &visited, &dist, w.reach);
     Searched {
-        found: true,
+        found: w.found,
         tree: t,
     }
 }

@@ -1,11 +1,22 @@
 -- By whether the solver found a flow.
 use borrow.Author.Needs.{needs}
 use borrow.Author.Tests.{not-true, not-false}
+use mathlib.Core.Path.{_≡_, sym, subst}
+use mathlib.Core.Bool.{Bool, false}
+use mathlib.Core.List.{List}
+use Rattle.numbers.specs.Inner.{pickT}
+use Rattle.plants.specs.Plants.{Plant}
 use Rattle.plants.specs.Says.{plantOf}
+use Rattle.flows.specs.Overfull.{Overfull}
+use Rattle.sheets.specs.declared.Outcome.{Outcome}
+use Rattle.sheets.specs.Balances.{BalanceSays, OutcomeSays}
 use Rattle.sheets.proofs.Opening.{right-found, right-overfull}
-use Rattle.sheets.proofs.Promise.{says-overfull}
 use Rattle.balances.proofs.balance_of.Statement.{statement}
 use Rattle.balances.proofs.balance_of.Tie as tie
+
+-- An overfull set, as an outcome has it.
+says-overfull : (p : Plant) (r : Outcome) (ms : List Bool) → (r .found ≡ false) × (r .marked ≡ ms) → Overfull p ms → OutcomeSays p r
+says-overfull p r ms e o = subst (λ (b : Bool). pickT b (BalanceSays p (r .balance)) (Overfull p (r .marked))) (sym (e .0)) (rw (e .1) o)
 
 cuts-of-requires : tie.Need-cuts-of-requires
 cuts-of-requires c κs = search needs

@@ -1,9 +1,11 @@
 -- `classes::degrees_of` meets its contract, by the laws of degrees by labels.
-use mathlib.Core.Path.{_≡_, sym}
-use Prim.Native.Nat.{_-_}
+use mathlib.Core.Path.{_≡_, sym, ap, _∙_}
+use mathlib.Core.List.{List}
+use Prim.Native.Nat.{ℕ, _-_}
 use Rattle.plants.specs.Says.{plantOf}
 use Rattle.flows.specs.Classes.{degrees}
 use Rattle.flows.specs.Chains.{everyStream, unmeteredOnly}
+use Rattle.flows.specs.Labels.{labelsOf, ownLabels}
 use Rattle.flows.proofs.Nets.{inside-of}
 use Rattle.flows.proofs.Grouping.{labels-are}
 use Rattle.flows.proofs.Degrees.{pieces-le, degrees-own, degrees-most}
@@ -20,20 +22,30 @@ group-requires c κs = search needs
 own-labels-requires-2 : tie.Need-own-labels-requires-2
 own-labels-requires-2 c κs = search needs
 
+-- The groups and the pieces, by the labels of each.
+groups-are : (c : tie.After-own-labels2) → let p = c .before .before .before .args .p in c .before .before .own-labels .result ≡ ownLabels (labelsOf unmeteredOnly (plantOf p)) (p .units)
+groups-are c =
+    let st = c .before .before .before in
+    c .before .before .own-labels .ensures ∙ ap (λ (l : List ℕ). ownLabels l (st .args .p .units)) (labels-are (st .args .p) (st .pre .0) unmeteredOnly _ (st .pre .1))
+
+pieces-are : (c : tie.After-own-labels2) → let p = c .before .before .before .args .p in c .own-labels2 .result ≡ ownLabels (labelsOf everyStream (plantOf p)) (p .units)
+pieces-are c =
+    let st = c .before .before .before in
+    c .own-labels2 .ensures ∙ ap (λ (l : List ℕ). ownLabels l (st .args .p .units)) (labels-are (st .args .p) (st .pre .0) everyStream _ (c .before .group .ensures))
+
 sub-result : tie.Need-sub-result
 sub-result c =
     let st = c .before .before .before in
-    rw (c .own-labels2 .ensures, c .before .before .own-labels .ensures)
-    (rw (labels-are (st .args .p) (st .pre .0) unmeteredOnly _ (st .pre .1), labels-are (st .args .p) (st .pre .0) everyStream _ (c .before .group .ensures)) (pieces-le (plantOf (st .args .p)) (st .pre .0 .within .few-units) (inside-of (st .args .p) (st .pre .0))))
+    rw (pieces-are c, groups-are c) (pieces-le (plantOf (st .args .p)) (st .pre .0 .within .few-units) (inside-of (st .args .p) (st .pre .0)))
 
 returns : tie.Need-returns
 returns c =
     let st = c .before .before .before in
+    let p = plantOf (st .args .p) in
     let w = inside-of (st .args .p) (st .pre .0) in
-    let e : c .before .before .own-labels .result - c .own-labels2 .result ≡ degrees (plantOf (st .args .p)) =
-    rw (c .own-labels2 .ensures, c .before .before .own-labels .ensures)
-    (rw (labels-are (st .args .p) (st .pre .0) unmeteredOnly _ (st .pre .1), labels-are (st .args .p) (st .pre .0) everyStream _ (c .before .group .ensures)) (sym (degrees-own (plantOf (st .args .p)) (st .pre .0 .within .few-units) w))) in
-    (e, rw e (degrees-most (plantOf (st .args .p)) (st .pre .0 .within .few-units) w))
+    let e : c .before .before .own-labels .result - c .own-labels2 .result ≡ degrees p =
+    (λ i. groups-are c i - pieces-are c i) ∙ sym (degrees-own p (st .pre .0 .within .few-units) w) in
+    (e, rw e (degrees-most p (st .pre .0 .within .few-units) w))
 
 pub degrees-of-spec : {M : Type 1} → statement M
 degrees-of-spec =

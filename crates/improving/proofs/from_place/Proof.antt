@@ -20,7 +20,7 @@ use Rattle.model.proofs.Turns.{improve-laying}
 use Rattle.model.proofs.PhaseTurns.{Running, running-start, running-over, running-next, stuck-same, from-none, from-next, from-stuck}
 use Rattle.improving.proofs.from_place.Statement.{statement}
 use Rattle.improving.proofs.from_place.Tie as tie
-use Rattle.improving.proofs.full.tested.Reads as tested-reads
+use Rattle.overfull.proofs.tested.Reads as tested-reads
 use Rattle.improving.proofs.improve_from.Reads as improve-from-reads
 
 abbrev Inv-loop : tie.InvT-loop

@@ -14,9 +14,9 @@ use borrow.Author.Tests.{not-true, not-false}
 use Rattle.improving.proofs.improve_from.Statement.{statement}
 use Rattle.improving.proofs.improve_from.Tie as tie
 use Rattle.walks.proofs.search.Reads as search-reads
-use Rattle.lanes.proofs.pushes.push_back.Reads as push-back-reads
+use Rattle.pushes.proofs.push_back.Reads as push-back-reads
 use Rattle.closing.proofs.refloor.Reads as refloor-reads
-use Rattle.improving.proofs.shift_nets.Reads as shift-nets-reads
+use Rattle.pushes.proofs.shift_nets.Reads as shift-nets-reads
 
 -- The start, from where the search is done; and the search, from where a place is found.
 abbrev start : tie.After-search → tie.Start

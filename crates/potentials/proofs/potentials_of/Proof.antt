@@ -1,8 +1,8 @@
 -- `potentials::potentials_of` meets its contract: what is read by label is within the bounds, and one for each label.
 use mathlib.Core.Path.{refl}
 use borrow.Author.Needs.{needs}
-use Rattle.laplacians.proofs.Ends.{ends-start}
-use Rattle.potentials.proofs.Levels.{level-labels}
+use Rattle.meters.proofs.Ends.{ends-start}
+use Rattle.wholes.proofs.Levels.{level-labels}
 use Rattle.potentials.proofs.potentials_of.Statement.{statement}
 use Rattle.potentials.proofs.potentials_of.Tie as tie
 

@@ -2,7 +2,7 @@
 use borrow.Author.Needs.{needs}
 use borrow.Author.Tests.{ltb-false}
 use denote.Ref.{now}
-use mathlib.Core.Path.{_≡_, sym, ap, _∙_}
+use mathlib.Core.Path.{_≡_, refl, sym, ap, _∙_}
 use Prim.Native.Nat.{ℕ, _≤_}
 use lib.ListN.{length}
 use Rattle.numbers.specs.Choice.{firstOf}
@@ -19,9 +19,8 @@ whole : (c : tie.Else1) → totalSize ≤ length (now (c .before .before .before
 whole c = ltb-false _ totalSize (refuse-none _ 12 (sym (c .before .cut-fault .ensures) ∙ c .if1 .left))
 
 -- The fault is that of the end.
-fault : (c : tie.After-first-of) → c .first-of .result ≡ endFault (now (c .before .before .before .before .before .before .before .args .s))
-fault c = end-is (now (c .before .before .before .before .before .before .before .args .s)) (whole (c .before .before .before .before)) (c .before .before .before .total-in .ensures)
-    (c .before .before .total-fault .ensures) (c .before .after-fault .ensures) (c .first-of .ensures)
+fault : (c : tie.After-rest-fault) → c .rest-fault .result ≡ endFault (now (c .before .before .before .before .before .args .s))
+fault c = end-is (now (c .before .before .before .before .before .args .s)) (whole (c .before .before)) (c .before .total-in .ensures) refl refl (c .rest-fault .ensures)
 
 cut-fault-requires : tie.Need-cut-fault-requires
 cut-fault-requires c κs = search needs
@@ -36,21 +35,15 @@ returns c =
 total-in-requires : tie.Need-total-in-requires
 total-in-requires c κs = whole c
 
-total-fault-requires : tie.Need-total-fault-requires
-total-fault-requires c κs = search needs
-
-after-fault-requires : tie.Need-after-fault-requires
-after-fault-requires c κs = search needs
-
-first-of-requires : tie.Need-first-of-requires
-first-of-requires c κs = search needs
+rest-fault-requires : tie.Need-rest-fault-requires
+rest-fault-requires c κs = search needs
 
 returns-2 : tie.Need-returns-2
-returns-2 c = let s = now (c .before .before .before .before .before .before .before .before .args .s) in refused-by _ (endFault s) (Ended (totalIn s)) Refused (fault (c .before)) (c .if2 .taken)
+returns-2 c = let s = now (c .before .before .before .before .before .before .args .s) in refused-by _ (endFault s) (Ended (totalIn s)) Refused (fault (c .before)) (c .if2 .taken)
 
 returns-3 : tie.Need-returns-3
-returns-3 c = let s = now (c .before .before .before .before .before .before .before .before .args .s) in
-    ap Ended (c .before .before .before .before .total-in .ensures) ∙ accepted-by _ (endFault s) (Ended (totalIn s)) Refused (fault (c .before)) (c .if2 .left)
+returns-3 c = let s = now (c .before .before .before .before .before .before .args .s) in
+    ap Ended (c .before .before .total-in .ensures) ∙ accepted-by _ (endFault s) (Ended (totalIn s)) Refused (fault (c .before)) (c .if2 .left)
 
 pub read-total-spec : {M : Type 1} → statement M
 read-total-spec =
@@ -59,8 +52,6 @@ read-total-spec =
     cut-fault-requires
     returns
     total-in-requires
-    total-fault-requires
-    after-fault-requires
-    first-of-requires
+    rest-fault-requires
     returns-2
     returns-3)

@@ -48,8 +48,8 @@ returns-3 : tie.Need-returns-3
 returns-3 c =
     let a = c .before .before .before .before .before .before .before .before .before .before .before .args in
     let l = c .before .before .before .before .before .before .before .layouts-of in
-    let p = rw (add-one (l .result .count)) at (c .before .before .put-lines .ensures) in
-    (says-lines (now (a .file)) (now (a .text)) (c .before .before .before .before .before .before .before .before .if1 .left) _ _ (l .result) (l .ensures) (c .before .before .before .before .before .before .if2 .left) p, put-counts p)
+    let p = c .before .before .put-lines .ensures in
+    (says-lines (now (a .file)) (now (a .text)) (c .before .before .before .before .before .before .before .before .if1 .left) _ _ (l .result) (l .ensures) (c .before .before .before .before .before .before .if2 .left) p (add-one (l .result .count)), put-counts p)
 
 pub list-layouts-spec : {M : Type 1} → statement M
 list-layouts-spec =

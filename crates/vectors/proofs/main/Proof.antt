@@ -16,8 +16,14 @@ arg-count-requires c κs = search needs
 loop-holds : tie.Need-loop-holds Inv-loop μ-loop
 loop-holds c = search needs
 
-try-argument-requires : tie.Need-try-argument-requires Inv-loop μ-loop
-try-argument-requires c κs = search needs
+open-argument-requires : tie.Need-open-argument-requires Inv-loop μ-loop
+open-argument-requires c κs = search needs
+
+try-cases-requires : tie.Need-try-cases-requires Inv-loop μ-loop
+try-cases-requires c κs = search needs
+
+close-requires : tie.Need-close-requires Inv-loop μ-loop
+close-requires c κs = search needs
 
 add-i : tie.Need-add-i Inv-loop μ-loop
 add-i c = search needs
@@ -39,7 +45,9 @@ main-spec =
     μ-loop
     arg-count-requires
     loop-holds
-    try-argument-requires
+    open-argument-requires
+    try-cases-requires
+    close-requires
     add-i
     loop-less
     loop-again

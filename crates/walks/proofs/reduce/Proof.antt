@@ -1,13 +1,13 @@
 -- `walks::reduce` meets its contract: the prices of the first u places are reduced.
-use mathlib.Core.Path.{_≡_}
-use mathlib.Core.Bool.{false}
-use mathlib.Core.Logic.{⊎-elim}
-use Prim.Native.Nat.{_≤_, _-_}
+use mathlib.Core.Path.{_≡_, refl, _∙_}
+use mathlib.Core.Bool.{Bool, true, false}
+use Prim.Native.Nat.{ℕ, _≤_, _-_}
 use native.Mathlib.Omega.{arith}
 use lib.ListN.{getD}
+use Rattle.numbers.specs.Choice.{pick}
 use Rattle.plants.specs.Limits.{places}
 use Rattle.model.specs.Search.{fallen}
-use Rattle.flows.proofs.Lists.{Written, written-none, written-put, written-keep}
+use Rattle.flows.proofs.Lists.{Written, written-none, written-put}
 use Rattle.model.proofs.Filling.{reduced-is}
 use borrow.Author.Needs.{needs}
 use Rattle.walks.proofs.reduce.Statement.{statement}
@@ -22,8 +22,17 @@ abbrev μ-loop : tie.MeasureT-loop
 loop-holds : tie.Need-loop-holds Inv-loop μ-loop
 loop-holds c = (omega arith, written-none (c .pre))
 
-element-copy-out-if1 : tie.Need-element-copy-out-if1 Inv-loop μ-loop
-element-copy-out-if1 c = search needs
+element-copy-out-fall : tie.Need-element-copy-out-fall Inv-loop μ-loop
+element-copy-out-fall c = search needs
+
+mul-fall : tie.Need-mul-fall Inv-loop μ-loop
+mul-fall c = search needs
+
+element-copy-out-fall-2 : tie.Need-element-copy-out-fall-2 Inv-loop μ-loop
+element-copy-out-fall-2 c = search needs
+
+fall-requires : tie.Need-fall-requires Inv-loop μ-loop
+fall-requires c κs = search needs
 
 mul-minus : tie.Need-mul-minus Inv-loop μ-loop
 mul-minus c = search needs
@@ -31,17 +40,8 @@ mul-minus c = search needs
 element-copy-out-minus : tie.Need-element-copy-out-minus Inv-loop μ-loop
 element-copy-out-minus c = search needs
 
-mul-minus-2 : tie.Need-mul-minus-2 Inv-loop μ-loop
-mul-minus-2 c = search needs
-
-element-copy-out-minus-2 : tie.Need-element-copy-out-minus-2 Inv-loop μ-loop
-element-copy-out-minus-2 c = search needs
-
 minus-requires : tie.Need-minus-requires Inv-loop μ-loop
 minus-requires c κs = search needs
-
-minus-requires-2 : tie.Need-minus-requires-2 Inv-loop μ-loop
-minus-requires-2 c κs = search needs
 
 mul-prices : tie.Need-mul-prices Inv-loop μ-loop
 mul-prices c = search needs
@@ -55,15 +55,18 @@ add-u c = search needs
 loop-less : tie.Need-loop-less Inv-loop μ-loop
 loop-less c = search needs
 
+-- A price that falls, or not.
+fallen-by : (b : Bool) (g p : ℕ) → p - pick b g 0 ≡ fallen b g p
+fallen-by true g p = refl
+fallen-by false g p = omega arith
+
 loop-again : tie.Need-loop-again Inv-loop μ-loop
 loop-again c =
-    let m = c .before .before .before .loop .inv .1 in
-    let u = c .before .before .before .loop .u in (
+    let at = c .before .before .before .before .before .before in
+    let m = at .loop .inv .1 in
+    let u = at .loop .u in (
       omega arith,
-      ⊎-elim
-          (λ w. rw (w .5) (written-put m (omega arith) _ (rw (w .4 .ensures, w .3 .ensures, w .0 .taken, m .rest u (omega arith)))))
-          (λ w. rw (w .1) (written-keep m (rw (w .0 .left))))
-          (c .if1 .came),
+      written-put m (omega arith) _ (c .minus .ensures ∙ rw (c .before .before .fall .ensures, m .rest u (omega arith)) (fallen-by (getD (at .before .args .visited .now) u false) _ _)),
     )
 
 returns : tie.Need-returns Inv-loop μ-loop
@@ -78,13 +81,13 @@ reduce-spec =
     Inv-loop
     μ-loop
     loop-holds
-    element-copy-out-if1
+    element-copy-out-fall
+    mul-fall
+    element-copy-out-fall-2
+    fall-requires
     mul-minus
     element-copy-out-minus
-    mul-minus-2
-    element-copy-out-minus-2
     minus-requires
-    minus-requires-2
     mul-prices
     element-write-prices
     add-u

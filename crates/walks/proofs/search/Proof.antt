@@ -1,6 +1,6 @@
 -- `walks::search` meets its contract: the walk comes to what the search comes to.
-use borrow.Author.Tests.{not-true, not-false}
 use Rattle.model.proofs.Finds.{lanes-of, search-laid}
+use borrow.Author.Needs.{needs}
 use Rattle.walks.proofs.search.Statement.{statement}
 use Rattle.walks.proofs.search.Tie as tie
 
@@ -10,23 +10,23 @@ walk-requires c κs =
     let w = st .pre .0 in
     (lanes-of _ _ _ _ _ _ _ (w .laid) (w .walkable), st .pre .1)
 
+reduce-requires : tie.Need-reduce-requires
+reduce-requires c κs = search needs
+
 returns : tie.Need-returns
 returns c = λ w.
-    let f = c .before .before .before in
+    let e = c .before .before .before .before .before .before in
+    let f = e .before .before in
     let st = f .before .before in
-    rw (not-true (f .walk .result .found) (c .if1 .taken)) at
-    (search-laid (st .args .lanes .now) (st .args .flows .now) (st .args .prices .now) (st .args .nets .now) (st .args .delta) (st .args .s) (st .pre .1) w (f .walk .result) (f .walk .ensures))
-
-reduce-requires : tie.Need-reduce-requires
-reduce-requires c κs = c .before .before .before .before .before .before .before .before .before .before .pre .2
+    rw (c .reduce .ensures, e .if1 .taken)
+    (rw (e .if1 .taken) at (search-laid (st .args .lanes .now) (st .args .flows .now) (st .args .prices .now) (st .args .nets .now) (st .args .delta) (st .args .s) (st .pre .1) w (f .walk .result) (f .walk .ensures)))
 
 returns-2 : tie.Need-returns-2
 returns-2 c = λ w.
-    let e = c .before .before .before .before .before .before in
-    let f = e .before .before .before in
+    let f = c .before .before in
     let st = f .before .before in
-    rw (c .reduce .ensures)
-    (rw (not-false (f .walk .result .found) (e .if1 .left)) at (search-laid (st .args .lanes .now) (st .args .flows .now) (st .args .prices .now) (st .args .nets .now) (st .args .delta) (st .args .s) (st .pre .1) w (f .walk .result) (f .walk .ensures)))
+    rw (c .if1 .left)
+    (rw (c .if1 .left) at (search-laid (st .args .lanes .now) (st .args .flows .now) (st .args .prices .now) (st .args .nets .now) (st .args .delta) (st .args .s) (st .pre .1) w (f .walk .result) (f .walk .ensures)))
 
 pub search-spec : {M : Type 1} → statement M
-search-spec = tie.close (tie.spec walk-requires returns reduce-requires returns-2)
+search-spec = tie.close (tie.spec walk-requires reduce-requires returns returns-2)

@@ -10,20 +10,21 @@ use Rattle.model.proofs.Bounds.{low-is, low-free}
 use Rattle.lanes.proofs.slacks.low_of.Statement.{statement}
 use Rattle.lanes.proofs.slacks.low_of.Tie as tie
 
-limits-requires : tie.Need-limits-requires
-limits-requires c κs = search needs
-
 hold-requires : tie.Need-hold-requires
 hold-requires c κs = search needs
 
 returns : tie.Need-returns
 returns c =
-    let s = c .before .before .before .before .args .s in
+    let on = c .before .before in
+    let s = on .before .before .args .s in
     let fits : SFits w32 (s .low) = search needs in
-    (c .hold .ensures .0 ∙ ap shifted (toZ-ofZ fits) ∙ sym (low-is s (sym (c .before .before .before .limits .ensures) ∙ c .before .before .if1 .taken)), c .hold .ensures .1)
+    (c .hold .ensures .0 ∙ ap shifted (toZ-ofZ fits) ∙ sym (low-is s (rw (on .before .if1 .taken, on .if2 .taken))), c .hold .ensures .1)
 
 returns-2 : tie.Need-returns-2
-returns-2 c = (sym (low-free (c .before .before .args .s) (sym (c .before .limits .ensures) ∙ c .if1 .left)), omega arith)
+returns-2 c = (sym (low-free (c .before .before .args .s) (rw (c .before .if1 .taken, c .if2 .left))), omega arith)
+
+returns-3 : tie.Need-returns-3
+returns-3 c = (sym (low-free (c .before .args .s) (rw (c .if1 .left))), omega arith)
 
 pub low-of-spec : {M : Type 1} → statement M
-low-of-spec = tie.close (tie.spec limits-requires hold-requires returns returns-2)
+low-of-spec = tie.close (tie.spec hold-requires returns returns-2 returns-3)

@@ -13,11 +13,11 @@ abbrev μ-loop : tie.MeasureT-loop
 mul-row : tie.Need-mul-row Inv-loop μ-loop
 mul-row c = search needs
 
+add-row : tie.Need-add-row Inv-loop μ-loop
+add-row c = search needs
+
 add-pivot : tie.Need-add-pivot Inv-loop μ-loop
 add-pivot c = search needs
-
-add-pivot-2 : tie.Need-add-pivot-2 Inv-loop μ-loop
-add-pivot-2 c = search needs
 
 mul-pivot : tie.Need-mul-pivot Inv-loop μ-loop
 mul-pivot c = search needs
@@ -27,6 +27,9 @@ element-copy-out-pivot c = search needs
 
 returns : tie.Need-returns Inv-loop μ-loop
 returns c = search needs
+
+sub-rest : tie.Need-sub-rest Inv-loop μ-loop
+sub-rest c = search needs
 
 mul-rest : tie.Need-mul-rest Inv-loop μ-loop
 mul-rest c = search needs
@@ -39,9 +42,6 @@ loop-holds c = search needs
 
 add-rest : tie.Need-add-rest Inv-loop μ-loop
 add-rest c = search needs
-
-add-rest-2 : tie.Need-add-rest-2 Inv-loop μ-loop
-add-rest-2 c = search needs
 
 mul-rest-2 : tie.Need-mul-rest-2 Inv-loop μ-loop
 mul-rest-2 c = search needs
@@ -74,16 +74,16 @@ change-at-spec =
     Inv-loop
     μ-loop
     mul-row
+    add-row
     add-pivot
-    add-pivot-2
     mul-pivot
     element-copy-out-pivot
     returns
+    sub-rest
     mul-rest
     element-copy-out-rest
     loop-holds
     add-rest
-    add-rest-2
     mul-rest-2
     element-copy-out-rest-2
     mul-rest-3

@@ -28,8 +28,8 @@ loop-holds c = search needs
 add-loop : tie.Need-add-loop Inv-loop μ-loop
 add-loop c = search needs
 
-add-a : tie.Need-add-a Inv-loop μ-loop
-add-a c = search needs
+add-at : tie.Need-add-at Inv-loop μ-loop
+add-at c = search needs
 
 mul-a : tie.Need-mul-a Inv-loop μ-loop
 mul-a c = search needs
@@ -37,17 +37,14 @@ mul-a c = search needs
 element-copy-out-a : tie.Need-element-copy-out-a Inv-loop μ-loop
 element-copy-out-a c = search needs
 
-add-a-2 : tie.Need-add-a-2 Inv-loop μ-loop
-add-a-2 c = search needs
+add-a : tie.Need-add-a Inv-loop μ-loop
+add-a c = search needs
 
 mul-a-2 : tie.Need-mul-a-2 Inv-loop μ-loop
 mul-a-2 c = search needs
 
 element-copy-out-a-2 : tie.Need-element-copy-out-a-2 Inv-loop μ-loop
 element-copy-out-a-2 c = search needs
-
-add-a-3 : tie.Need-add-a-3 Inv-loop μ-loop
-add-a-3 c = search needs
 
 mul-a-3 : tie.Need-mul-a-3 Inv-loop μ-loop
 mul-a-3 c = search needs
@@ -78,13 +75,12 @@ take-row-spec =
     mul-to
     loop-holds
     add-loop
-    add-a
+    add-at
     mul-a
     element-copy-out-a
-    add-a-2
+    add-a
     mul-a-2
     element-copy-out-a-2
-    add-a-3
     mul-a-3
     element-write-a
     add-j

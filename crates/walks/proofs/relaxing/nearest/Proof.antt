@@ -1,71 +1,66 @@
--- `walks::relaxing::nearest` meets its contract: the nearest of the first u places is known, and its code.
-use Rattle.model.proofs.Filling.{nearest-none, nearest-next, getD-any}
-use mathlib.Core.Path.{_≡_, sym, _∙_, ap}
+-- `walks::relaxing::nearest` meets its contract: of the places of the fringe that are looked at the nearest is known, and its code.
+use mathlib.Core.Path.{_≡_}
 use mathlib.Core.Logic.{⊎-elim}
-use borrow.Author.Tests.{lt-ltb, le-ltb}
-use Prim.Native.Nat.{ℕ, _≤_, _-_, _/_}
+use Prim.Native.Nat.{ℕ, _-_, _<_, _^_}
 use native.Mathlib.Omega.{arith}
-use lib.ListN.{getD, List·getD-eq-default}
-use Rattle.plants.specs.Limits.{places}
-use Rattle.model.specs.Sizes.{far, numbering}
-use Rattle.model.specs.Near.{nearestTo}
+use lib.Bits.{and-le-r}
+use lib.Count.{trailingZeros}
 use borrow.Author.Needs.{needs}
+use Rattle.plants.specs.Limits.{places}
+use Rattle.model.proofs.Opening.{Scan, scan-none, scan-in, scan-nearer, scan-not, scan-far, scan-near}
 use Rattle.walks.proofs.relaxing.nearest.Statement.{statement}
 use Rattle.walks.proofs.relaxing.nearest.Tie as tie
 
 abbrev Inv-loop : tie.InvT-loop
-Inv-loop near limit best₀ at₀ u₀ best at u = (u ≤ places) × (at ≡ nearestTo near u) × (best ≡ getD near at far)
+Inv-loop near fringe limit best₀ at₀ left₀ best at left = (left < 2 ^ 64) × Scan near fringe left at best
 
 abbrev μ-loop : tie.MeasureT-loop
-μ-loop near limit best₀ at₀ u₀ best at u = places - u
+μ-loop near fringe limit best₀ at₀ left₀ best at left = left
+
+-- The lowest that is left is a place.
+place : (c : tie.In-loop Inv-loop μ-loop) → trailingZeros 64 (c .before .loop .left) < places
+place c = scan-in _ _ _ _ _ (c .before .loop .inv .1) (c .loop-test .taken) (c .before .loop .inv .0) .1
 
 loop-holds : tie.Need-loop-holds Inv-loop μ-loop
-loop-holds c = (omega arith, sym (nearest-none _), sym (List·getD-eq-default (c .args .near .now) far {n = places} (omega (arith, c .pre))))
+loop-holds c = (search needs, scan-none (c .args .limit) _ _ (c .pre .1))
 
-mul-if1 : tie.Need-mul-if1 Inv-loop μ-loop
-mul-if1 c = search needs
+cast-u : tie.Need-cast-u Inv-loop μ-loop
+cast-u c = omega (arith, place c)
 
-element-copy-out-if1 : tie.Need-element-copy-out-if1 Inv-loop μ-loop
-element-copy-out-if1 c = search needs
+mul-code : tie.Need-mul-code Inv-loop μ-loop
+mul-code c = omega (arith, place c)
 
-mul-best : tie.Need-mul-best Inv-loop μ-loop
-mul-best c = search needs
+element-copy-out-code : tie.Need-element-copy-out-code Inv-loop μ-loop
+element-copy-out-code c = place c
 
-element-copy-out-best : tie.Need-element-copy-out-best Inv-loop μ-loop
-element-copy-out-best c = search needs
-
-add-u : tie.Need-add-u Inv-loop μ-loop
-add-u c = search needs
+sub-left : tie.Need-sub-left Inv-loop μ-loop
+sub-left c = search needs
 
 loop-less : tie.Need-loop-less Inv-loop μ-loop
-loop-less c = search needs
+loop-less c =
+    let at = c .before .before in
+    omega (arith, and-le-r (at .before .loop .left) (at .before .loop .left - 1), at .loop-test .taken)
 
 loop-again : tie.Need-loop-again Inv-loop μ-loop
 loop-again c =
-    let at = c .before .before .before in
-    let near = at .before .args .near .now in
-    let u = at .loop .u in
-    let n = nearest-next near u (at .loop .at) (at .loop .best) (at .loop .inv .1) (at .loop .inv .2) in
-    let same : getD near u far ≡ getD near u 0 = getD-any near u far 0 (omega (arith, at .before .pre)) in (
-      omega arith,
-      ⊎-elim (λ w. w .3 ∙ sym (n ∙ rw (same, lt-ltb _ _ (w .0 .taken)))) (λ w. w .2 ∙ sym (n ∙ rw (same, le-ltb _ _ (w .0 .left)))) (c .if1 .came),
-      ⊎-elim (λ w. w .2 ∙ rw (w .3) (sym same)) (λ w. rw (w .1, w .2) (at .loop .inv .2)) (c .if1 .came),
+    let at = c .before .before in
+    let w = at .before .loop .inv in (
+      omega (arith, and-le-r (at .before .loop .left) (at .before .loop .left - 1), w .0),
+      ⊎-elim
+          (λ o. rw (o .1, o .2) (scan-nearer _ _ _ _ _ (w .1) (at .loop-test .taken) (w .0) (o .0 .taken)))
+          (λ o. rw (o .1, o .2) (scan-not _ _ _ _ _ (w .1) (at .loop-test .taken) (w .0) (o .0 .left)))
+          (c .if1 .came),
     )
 
--- All places are looked at.
-is : (c : tie.After-loop Inv-loop μ-loop) → c .before .loop .at ≡ nearestTo (c .before .before .args .near .now) places
-is c =
-    let e : c .before .loop .u ≡ places = omega arith in
-    rw e at (c .before .loop .inv .1)
-
-code : (c : tie.After-loop Inv-loop μ-loop) → c .before .loop .best / numbering ≡ getD (c .before .before .args .near .now) (nearestTo (c .before .before .args .near .now) places) far / numbering
-code c = ap (λ (x : ℕ). x / numbering) (c .before .loop .inv .2 ∙ ap (λ (k : ℕ). getD (c .before .before .args .near .now) k far) (is c))
-
 returns : tie.Need-returns Inv-loop μ-loop
-returns c = sym (rw (← code (c .before), lt-ltb _ _ (c .if2 .taken)))
+returns c =
+    let e : c .before .before .loop .left ≡ 0 = omega arith in
+    scan-far _ _ _ _ _ (c .before .before .before .pre .1) (c .before .before .before .pre .0) (rw e at (c .before .before .loop .inv .1)) (c .if2 .taken)
 
 returns-2 : tie.Need-returns-2 Inv-loop μ-loop
-returns-2 c = is (c .before) ∙ sym (rw (← code (c .before), le-ltb _ _ (c .if2 .left)))
+returns-2 c =
+    let e : c .before .before .loop .left ≡ 0 = omega arith in
+    scan-near _ _ _ _ _ (c .before .before .before .pre .1) (c .before .before .before .pre .0) (rw e at (c .before .before .loop .inv .1)) (c .if2 .left)
 
 pub nearest-spec : {M : Type 1} → statement M
 nearest-spec =
@@ -74,11 +69,10 @@ nearest-spec =
     Inv-loop
     μ-loop
     loop-holds
-    mul-if1
-    element-copy-out-if1
-    mul-best
-    element-copy-out-best
-    add-u
+    cast-u
+    mul-code
+    element-copy-out-code
+    sub-left
     loop-less
     loop-again
     returns

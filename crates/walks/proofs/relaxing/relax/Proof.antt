@@ -17,12 +17,15 @@ use Rattle.model.specs.Rows.{countOf, startsOf, endsOf}
 use Rattle.model.specs.Near.{gapsOf, codeOf, lessened, lastAt, linkAt, relaxedAlong, relaxedAt, relaxedTo}
 use Rattle.model.proofs.Filling.{relaxed-long}
 use Rattle.model.proofs.Listing.{touches, last-good, link-is, link-less, relaxed-last, relaxed-none, tail-touching, relaxed-touching}
+use Rattle.model.specs.Fringe.{Open}
+use Rattle.model.proofs.Opening.{open-offered}
 use Rattle.walks.proofs.relaxing.relax.Statement.{statement}
 use Rattle.walks.proofs.relaxing.relax.Tie as tie
 
 abbrev Inv-loop : tie.InvT-loop
-Inv-loop lanes flows prices q visited at near₀ end e link₀ near link =
+Inv-loop lanes flows prices q visited at near₀ end e fringe₀ link₀ near fringe link =
     (length near ≡ places)
+    × Open (q .limit) near fringe
     × ((m : ℕ)
     × (m ≤ countOf lanes)
     × (link ≡ linkAt (startsOf lanes) (endsOf lanes) (at .place) m)
@@ -30,7 +33,7 @@ Inv-loop lanes flows prices q visited at near₀ end e link₀ near link =
     ≡ relaxedTo (startsOf lanes) (endsOf lanes) (gapsOf lanes flows prices (q .delta) (q .skip) true) (gapsOf lanes flows prices (q .delta) (q .skip) false) visited (at .distance) (at .place) (countOf lanes) near₀))
 
 abbrev μ-loop : tie.MeasureT-loop
-μ-loop lanes flows prices q visited at near₀ end e link₀ near link = pick (ltb link end) (suc link) 0
+μ-loop lanes flows prices q visited at near₀ end e fringe₀ link₀ near fringe link = pick (ltb link end) (suc link) 0
 
 -- The start, from the turn of the loop; the stream looked at, and its direction.
 abbrev start : tie.In-loop Inv-loop μ-loop → tie.Start Inv-loop μ-loop
@@ -58,24 +61,24 @@ half-below l n h =
 low : (c : tie.In-loop Inv-loop μ-loop) → stream c < countOf (start c .args .lanes .now)
 low c = let n = c .before .before .before .count-of in rw (← n .ensures) (half-below (c .before .loop .link) (n .result) (c .loop-test .taken) .0)
 
-is-last : (c : tie.In-loop Inv-loop μ-loop) → stream c ≡ lastAt (startsOf (start c .args .lanes .now)) (endsOf (start c .args .lanes .now)) (start c .args .at .place) (c .before .loop .inv .1 .0)
+is-last : (c : tie.In-loop Inv-loop μ-loop) → stream c ≡ lastAt (startsOf (start c .args .lanes .now)) (endsOf (start c .args .lanes .now)) (start c .args .at .place) (c .before .loop .inv .2 .0)
 is-last c =
     let st = start c in
-    let v = c .before .loop .inv .1 in
+    let v = c .before .loop .inv .2 in
     let w = link-is (startsOf (st .args .lanes .now)) (endsOf (st .args .lanes .now)) (st .args .at .place) (v .0) in
     halves (c .before .loop .link) _ (w .0) (v .2 ∙ w .1) (w .2) .0
 
 at-place : (c : tie.In-loop Inv-loop μ-loop)
-    → (stream c < c .before .loop .inv .1 .0) × (touches (startsOf (start c .args .lanes .now)) (endsOf (start c .args .lanes .now)) (start c .args .at .place) (stream c) ≡ true)
+    → (stream c < c .before .loop .inv .2 .0) × (touches (startsOf (start c .args .lanes .now)) (endsOf (start c .args .lanes .now)) (start c .args .at .place) (stream c) ≡ true)
 at-place c =
     let st = start c in
-    let v = c .before .loop .inv .1 in
+    let v = c .before .loop .inv .2 in
     ⊎-elim (λ o. subst (λ (i : ℕ). (i < v .0) × (touches (startsOf (st .args .lanes .now)) (endsOf (st .args .lanes .now)) (st .args .at .place) i ≡ true)) (sym (is-last c)) o) (λ o. absurd (omega (arith, o, is-last c, low c, st .pre .0 .few))) (last-good (startsOf (st .args .lanes .now)) (endsOf (st .args .lanes .now)) (st .args .at .place) (v .0))
 
 forwards : (c : tie.In-loop Inv-loop μ-loop) → ahead c ≡ eqb (getD (startsOf (start c .args .lanes .now)) (stream c) 0) (start c .args .at .place)
 forwards c =
     let st = start c in
-    let v = c .before .loop .inv .1 in
+    let v = c .before .loop .inv .2 in
     let w = link-is (startsOf (st .args .lanes .now)) (endsOf (st .args .lanes .now)) (st .args .at .place) (v .0) in
     ap (λ (d : ℕ). eqb d 1) (halves (c .before .loop .link) _ (w .0) (v .2 ∙ w .1) (w .2) .1)
     ∙ w .3 (omega (arith, is-last c, low c, st .pre .0 .few))
@@ -93,7 +96,7 @@ last-at-requires c κs = search needs
 loop-holds : tie.Need-loop-holds Inv-loop μ-loop
 loop-holds c =
     let st = c .before .before in
-    (st .pre .3, (countOf (st .args .lanes .now), omega arith, c .last-at .ensures ∙ st .pre .0 .linked .last _ (st .pre .1), refl))
+    (st .pre .3, st .pre .4, (countOf (st .args .lanes .now), omega arith, c .last-at .ensures ∙ st .pre .0 .linked .last _ (st .pre .1), refl))
 
 place-at-requires : tie.Need-place-at-requires Inv-loop μ-loop
 place-at-requires c κs = omega (arith, low c, start c .pre .0 .few)
@@ -184,8 +187,18 @@ looked c =
     let to = c .before .before in
     let st = start (to .before) in
     ⊎-elim
-    (λ w. w .5 ∙ w .4 .ensures ∙ along-open (st .args .visited .now) _ (to .place-at .result) _ _ _ (not-true _ (w .0 .taken)) ∙ along-is to _ (w .1 .ensures))
+    (λ w. w .5 ∙ w .4 .ensures .0 ∙ along-open (st .args .visited .now) _ (to .place-at .result) _ _ _ (not-true _ (w .0 .taken)) ∙ along-is to _ (w .1 .ensures))
     (λ w. w .1 ∙ along-visited (st .args .visited .now) _ (to .place-at .result) _ _ _ (not-false _ (w .0 .left)) ∙ along-is to _ refl)
+    (c .if1 .came)
+
+-- The fringe after it was.
+opened : (c : tie.Joined1 Inv-loop μ-loop) → Open (start (c .before .before .before) .args .q .limit) (c .if1 .near) (c .if1 .fringe)
+opened c =
+    let on = c .before .before .before in
+    let inv = on .before .loop .inv in
+    ⊎-elim
+    (λ w. rw (w .5, w .6, w .4 .ensures .0, w .4 .ensures .1) (open-offered _ _ _ _ _ _ (inv .1) (end-in (c .before .before)) (inv .0) (omega (arith, low on, start on .pre .0 .few))))
+    (λ w. rw (w .1, w .2) (inv .1))
     (c .if1 .came)
 
 loop-less : tie.Need-loop-less Inv-loop μ-loop
@@ -201,8 +214,9 @@ loop-again : tie.Need-loop-again Inv-loop μ-loop
 loop-again c =
     let on = c .before .before .before .before in
     let st = start on in
-    let v = on .before .loop .inv .1 in (
+    let v = on .before .loop .inv .2 in (
       rw (looked (c .before)) (relaxed-long _ _ _ _ _ _ _ _ _ ∙ on .before .loop .inv .0),
+      opened (c .before),
       (
         stream on,
         omega (arith, low on),
@@ -213,10 +227,10 @@ loop-again c =
 
 returns : tie.Need-returns Inv-loop μ-loop
 returns c =
-    let v = c .before .loop .inv .1 in
+    let v = c .before .loop .inv .2 in
     let st = c .before .before .before .before in
     let w = link-is (startsOf (st .args .lanes .now)) (endsOf (st .args .lanes .now)) (st .args .at .place) (v .0) in
-    sym (relaxed-none _ _ _ _ _ _ _ (v .0) _ (omega (arith, v .1, v .2, w .1, w .2, c .loop-test .left, c .before .before .before .count-of .ensures))) ∙ v .3
+    (sym (relaxed-none _ _ _ _ _ _ _ (v .0) _ (omega (arith, v .1, v .2, w .1, w .2, c .loop-test .left, c .before .before .before .count-of .ensures))) ∙ v .3, c .before .loop .inv .1)
 
 pub relax-spec : {M : Type 1} → statement M
 relax-spec =

@@ -1,0 +1,2 @@
+-- Laws of costs.
+pub mod Costing

@@ -1,0 +1,2 @@
+-- Laws of what is drawn.
+pub mod Drawn

@@ -1,0 +1,3 @@
+-- Laws of entries.
+pub mod Opening
+pub mod Entered

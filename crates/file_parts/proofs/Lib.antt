@@ -1,0 +1,2 @@
+-- Laws of files of this shape.
+pub mod Chosen

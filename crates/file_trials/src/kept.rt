@@ -1,0 +1,56 @@
+// The sheet reader.
+//
+// An entry is 9 bytes: the kind of its record, its flow (8, two's complement).
+use crate::cases::NO_CASE;
+use crate::cases::told;
+use plants::limits::MAX_STREAMS;
+use sheets::Entry;
+use sheets::Total;
+ghost use mathlib.Core.Path.{_≡_};
+ghost use Prim.Native.Nat.{_≤_};
+ghost use lib.ListN.{length};
+
+fn put_entry(e: Entry, out: &mut [u8])
+    requires { ⌜ 9 ≤ length (now out) ⌝ }
+{
+    let class = e.class;
+    numbers::put_i64(e.flow, &mut out[1..]);
+    out[0] = sheet_reader::kind_of(class);
+}
+
+fn put_entries(count: usize, streams: [Entry; MAX_STREAMS], out: &mut [u8])
+    requires { ⌜ (count ≤ 96) × (length (now out) ≡ 864) ⌝ }
+{
+    let mut i: usize = 0;
+    while i < count {
+        let e = streams[i];
+        put_entry(e, &mut out[9 * i..]);
+        i += 1;
+    }
+}
+
+fn put_total(total: Total, out: &mut [u8])
+    requires { ⌜ 10 ≤ length (now out) ⌝ }
+{
+    numbers::put_u64(total.cost, out);
+    out[8] = total.degrees;
+    out[9] = total.verdict;
+}
+
+// The sheet reader: handed in the sheet; the count is how many streams, the number the sheet's, and the slice, of 874 bytes, gets
+// cost (8), degrees, verdict and an entry for each stream.
+pub fn kept(given: &[u8], out: &mut [u8]) -> u64 {
+    if out.len() != 874 {
+        return NO_CASE;
+    }
+    let read = sheet_reader::read_sheet(given);
+    let count = read.count as usize;
+    if MAX_STREAMS < count {
+        return NO_CASE;
+    }
+    let streams = read.streams;
+    put_entries(count, streams, &mut out[10..]);
+    let total = read.total;
+    put_total(total, out);
+    told(read.number, count, total.sheet)
+}

@@ -1,2 +1,0 @@
--- Laws of the laplacians.
-pub mod Ends

@@ -1,0 +1,2 @@
+-- Definitions that the contracts of laying cite.
+pub mod Stores

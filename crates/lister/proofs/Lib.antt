@@ -1,0 +1,2 @@
+-- Laws of lines put one behind the other.
+pub mod Lined

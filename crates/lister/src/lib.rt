@@ -1,0 +1,84 @@
+// The lines of a listing: one for each stream, then that of the total.
+use flows::Class;
+use listings::put_entry;
+use numerals::put_byte;
+use numerals::put_field;
+use numerals::put_text;
+use plants::limits::MAX_STREAMS;
+use sheets::Balance;
+use sheets::Entry;
+ghost use Prim.Native.Nat.{_+_, _*_, _≤_};
+ghost use mathlib.Core.List.{_++_};
+ghost use lib.ListN.{length, take};
+ghost use Rattle.numbers.specs.Inner.{Put};
+ghost use Rattle.plants.specs.Limits.{maxStreams};
+ghost use Rattle.numerals.specs.Numerals.{text, field};
+ghost use Rattle.numerals.specs.Adding.{Added};
+ghost use Rattle.listings.specs.Listing.{entryText, linesFrom, wordOf, totalLine, listingOf};
+ghost use Rattle.listings.specs.Room.{lineSize, leastText};
+
+// The line of a stream: number, class letter, flow.
+fn put_line(number: usize, class: Class, flow: i64, at: usize, out: &mut [u8]) -> usize
+    requires { ⌜ at + length (field number ++ entryText class flow ++ text "\n") ≤ length (now out) ⌝ }
+    ensures { λ r. ⌜ Added (field number ++ entryText class flow ++ text "\n") at (now (out .entry)) (now (out .exit)) r ⌝ }
+{
+    let a = put_field(number as u64, at, out);
+    let b = put_entry(class, flow, a, out);
+    put_byte(b'\n', b, out)
+}
+
+// The lines of the first so many streams.
+fn put_lines(count: usize, streams: [Entry; MAX_STREAMS], out: &mut [u8]) -> usize
+    requires { ⌜ (count ≤ maxStreams) × (maxStreams * lineSize ≤ length (now out)) ⌝ }
+    ensures { λ r. ⌜ Added (linesFrom 1 (take count streams)) 0 (now (out .entry)) (now (out .exit)) r × (r ≤ maxStreams * lineSize) ⌝ }
+{
+    let mut at: usize = 0;
+    let mut i: usize = 0;
+    while i < count {
+        let e = streams[i];
+        let class = e.class;
+        i += 1;
+        at = put_line(i, class, e.flow, at, out);
+    }
+    at
+}
+
+// The word for a verdict.
+fn put_word(verdict: u8, at: usize, out: &mut [u8]) -> usize
+    requires { ⌜ at + length (wordOf verdict) ≤ length (now out) ⌝ }
+    ensures { λ r. ⌜ Added (wordOf verdict) at (now (out .entry)) (now (out .exit)) r ⌝ }
+{
+    if verdict == 0 {
+        return put_text(b"pass", at, out);
+    }
+    if verdict == 1 {
+        return put_text(b"fail", at, out);
+    }
+    if verdict == 3 {
+        return put_text(b"close", at, out);
+    }
+    put_text(b"none", at, out)
+}
+
+// The line of the total: sheet number, cost, degrees, verdict.
+fn put_total(number: u32, cost: u64, degrees: u8, verdict: u8, at: usize, out: &mut [u8]) -> usize
+    requires { ⌜ at + length (totalLine number cost degrees verdict) ≤ length (now out) ⌝ }
+    ensures { λ r. ⌜ Added (totalLine number cost degrees verdict) at (now (out .entry)) (now (out .exit)) r ⌝ }
+{
+    let a = put_text(b"total ", at, out);
+    let b = put_field(number as u64, a, out);
+    let c = put_field(cost, b, out);
+    let d = put_field(degrees as u64, c, out);
+    let e = put_word(verdict, d, out);
+    put_byte(b'\n', e, out)
+}
+
+// The listing of sheet `number` of a balance with so many streams, and how long it is.
+pub fn put_listing(count: usize, number: u32, b: Balance, out: &mut [u8]) -> usize
+    requires { ⌜ (count ≤ maxStreams) × (leastText ≤ length (now out)) ⌝ }
+    ensures { λ r. ⌜ Put (listingOf count number b) (now (out .entry)) (now (out .exit)) r ⌝ }
+{
+    let streams = b.streams;
+    let at = put_lines(count, streams, out);
+    put_total(number, b.cost, b.degrees, b.verdict, at, out)
+}

@@ -1,0 +1,2 @@
+-- Definitions that the contracts of meters cite.
+pub mod Ends

@@ -1,0 +1,154 @@
+// The metered streams that lead from one group to another, as numbers: in one array the groups of start and end of each, in another its
+// reading, its conductance and the ends of its range, as real numbers.
+use plants::Plant;
+use plants::Stream;
+use plants::limits::MAX_STREAMS;
+use plants::limits::PLACES;
+ghost use mathlib.Core.Path.{_≡_};
+ghost use Prim.Native.Nat.{suc, _<_, _≤_};
+ghost use lib.ListN.{length};
+ghost use Rattle.plants.specs.Limits.{maxUnits, maxStreams, places};
+ghost use Rattle.plants.specs.Within.{WithinStream, Accepted};
+ghost use Rattle.meters.specs.Ends.{Labels, Ends, meterCells};
+
+pub const ENDS: usize = 2 * MAX_STREAMS;
+
+pub const METERS: usize = 4 * MAX_STREAMS;
+
+// Where a stream has no range: no amount comes so far.
+const FAR: f64 = 1000000000000000000000000.0;
+
+// How many streams were gathered, and whether some stream has a range.
+pub struct Gathered {
+    pub count: usize,
+    pub ranged: bool,
+}
+
+// The group of the start of stream k, and of its end.
+pub fn start_at(ends: &[u8; ENDS], k: usize) -> usize
+    requires { ⌜ Ends (now ends) × (k < maxStreams) ⌝ }
+    ensures { λ r. ⌜ r < places ⌝ }
+{
+    ends[2 * k] as usize
+}
+
+pub fn end_at(ends: &[u8; ENDS], k: usize) -> usize
+    requires { ⌜ Ends (now ends) × (k < maxStreams) ⌝ }
+    ensures { λ r. ⌜ r < places ⌝ }
+{
+    ends[2 * k + 1] as usize
+}
+
+// Its conductance.
+pub fn conductance_at(meters: &[f64; METERS], k: usize) -> f64
+    requires { ⌜ (length (now meters) ≡ meterCells) × (k < maxStreams) ⌝ }
+{
+    meters[4 * k + 1]
+}
+
+// Its amount between prices that differ by climb.
+pub fn amount_at(meters: &[f64; METERS], k: usize, climb: f64) -> f64
+    requires { ⌜ (length (now meters) ≡ meterCells) × (k < maxStreams) ⌝ }
+{
+    meters[4 * k] + climb * conductance_at(meters, k)
+}
+
+// An amount brought into its range.
+pub fn in_range(meters: &[f64; METERS], k: usize, x: f64) -> f64
+    requires { ⌜ (length (now meters) ≡ meterCells) × (k < maxStreams) ⌝ }
+{
+    let meter = 4 * k;
+    let low = meters[meter + 2];
+    if x < low {
+        return low;
+    }
+    let high = meters[meter + 3];
+    if high < x {
+        return high;
+    }
+    x
+}
+
+// The ends of a stream's range.
+fn low_of(s: Stream) -> f64 {
+    if s.ranged {
+        return s.low as f64;
+    }
+    -FAR
+}
+
+fn high_of(s: Stream) -> f64 {
+    if s.ranged {
+        return s.high as f64;
+    }
+    FAR
+}
+
+// A metered stream from group g to group h becomes stream k.
+fn put(ends: &mut [u8; ENDS], meters: &mut [f64; METERS], k: usize, s: Stream, g: u8, h: u8)
+    requires { ⌜ Ends (now ends) × (length (now meters) ≡ meterCells) × (k < maxStreams) × (g < places) × (h < places) ⌝ }
+    ensures { λ _. ⌜ Ends (now (ends .exit)) × (length (now (meters .exit)) ≡ meterCells) ⌝ }
+{
+    let end = 2 * k;
+    ends[end] = g;
+    ends[end + 1] = h;
+    let meter = 4 * k;
+    meters[meter] = s.reading as f64;
+    meters[meter + 1] = 0.5 / s.weight as f64;
+    meters[meter + 2] = low_of(s);
+    meters[meter + 3] = high_of(s);
+}
+
+// The label of a place.
+fn group_of(labels: &[u8; PLACES], u: u8) -> u8
+    requires { ⌜ Labels (now labels) × (u < places) ⌝ }
+    ensures { λ r. ⌜ r < places ⌝ }
+{
+    labels[u as usize]
+}
+
+// A stream, where it is metered and leads from one group to another. How many streams there are now.
+fn take_in(
+    ends: &mut [u8; ENDS],
+    meters: &mut [f64; METERS],
+    k: usize,
+    s: Stream,
+    labels: &[u8; PLACES],
+) -> usize
+    requires { ⌜ Ends (now ends) × (length (now meters) ≡ meterCells) × (k < maxStreams) × WithinStream maxUnits s × Labels (now labels) ⌝ }
+    ensures { λ r. ⌜ Ends (now (ends .exit)) × (length (now (meters .exit)) ≡ meterCells) × (r ≤ suc k) ⌝ }
+{
+    let g = group_of(labels, s.from);
+    let h = group_of(labels, s.to);
+    if g == h || !s.metered {
+        return k;
+    }
+    put(ends, meters, k, s, g, h);
+    k + 1
+}
+
+// All such streams of a plant.
+pub fn gather(
+    p: Plant,
+    labels: &[u8; PLACES],
+    ends: &mut [u8; ENDS],
+    meters: &mut [f64; METERS],
+) -> Gathered
+    requires { ⌜ Accepted p × Labels (now labels) × Ends (now ends) × (length (now meters) ≡ meterCells) ⌝ }
+    ensures { λ r. ⌜ Ends (now (ends .exit)) × (length (now (meters .exit)) ≡ meterCells) × (r .count ≤ maxStreams) ⌝ }
+{
+    let n = p.count as usize;
+    let mut ranged = false;
+    let mut k: usize = 0;
+    let mut i: usize = 0;
+    while i < n {
+        let s = p.streams[i];
+        k = take_in(ends, meters, k, s, labels);
+        ranged = ranged || s.ranged;
+        i += 1;
+    }
+    Gathered {
+        count: k,
+        ranged: ranged,
+    }
+}

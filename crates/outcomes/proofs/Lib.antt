@@ -1,0 +1,2 @@
+-- Laws of what the solver hands over.
+pub mod Solving

@@ -1,0 +1,2 @@
+-- Laws of a plant's faults.
+pub mod Looking

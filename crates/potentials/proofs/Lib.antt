@@ -1,2 +1,0 @@
--- Laws of potentials.
-pub mod Levels

@@ -1,0 +1,3 @@
+-- Laws of a balance by its parts.
+pub mod Verdicts
+pub mod Balanced

@@ -1,0 +1,22 @@
+-- What is asked of the amounts routed along a spanning forest: ranges, and that metered amounts stay as they are.
+use mathlib.Core.Path.{_≡_}
+use mathlib.Core.Bool.{true, false}
+use mathlib.Core.List.{List}
+use Prim.Native.Nat.{ℕ, _≤_, _<_}
+use lib.ListN.{length, getD}
+use Rattle.plants.specs.declared.Stream.{Stream}
+use Rattle.plants.specs.Limits.{maxStreams}
+use Rattle.plants.specs.Plants.{noStream}
+use Rattle.flows.specs.Flows.{streamAt}
+use Rattle.model.specs.Sizes.{mostFlow, hintRoom}
+use Rattle.model.specs.SearchNeeds.{Close}
+
+-- Held amounts of the streams ss: those of unmetered streams are within the hint's room.
+pub record Routes (ss : List Stream) (xs : List ℕ) : Type 0 where
+  pub long : length xs ≡ maxStreams
+  pub most : (k : ℕ) → k < maxStreams → getD xs k 0 ≤ mostFlow
+  pub close : (k : ℕ) → k < maxStreams → streamAt ss k .metered ≡ false → Close hintRoom (getD xs k 0)
+
+-- The metered ones of the first n streams carry in ys what they carry in xs.
+pub record Kept (streams : List Stream) (n : ℕ) (xs ys : List ℕ) : Type 0 where
+  pub each : (k : ℕ) → k < n → getD streams k noStream .metered ≡ true → getD ys k 0 ≡ getD xs k 0

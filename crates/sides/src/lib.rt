@@ -1,0 +1,94 @@
+// A stream that joins two groups takes a label away, the higher one of its ends. Bit h of a place's sides tells on which side of the
+// stream that took label h away the place lies.
+use groups;
+use plants::Stream;
+use plants::limits::PLACES;
+ghost use mathlib.Core.Path.{_≡_};
+ghost use Prim.Native.Nat.{_<_};
+ghost use lib.ListN.{length};
+ghost use lib.Bits.{bitXor};
+ghost use Rattle.numbers.specs.Choice.{pick};
+ghost use lib.Dec.{eqb};
+ghost use Rattle.plants.specs.Limits.{maxUnits, places};
+ghost use Rattle.plants.specs.Within.{WithinStream};
+ghost use Rattle.flows.specs.Sides.{takenBy, apart, loopedBy, turned, parted};
+
+// The label that a stream takes away.
+pub fn taken_by(labels: &[u8; PLACES], s: Stream) -> u8
+    requires { ⌜ WithinStream maxUnits s × (length (now labels) ≡ places) ⌝ }
+    ensures { λ r. ⌜ r ≡ takenBy (now (labels .entry)) s ⌝ }
+{
+    if s.metered {
+        return 0;
+    }
+    let u = s.from as usize;
+    let v = s.to as usize;
+    let a = labels[u];
+    let b = labels[v];
+    if a == b {
+        return 0;
+    }
+    if a <= b {
+        return b;
+    }
+    a
+}
+
+// The streams on the way between a stream's ends, by their bits.
+fn way_between(sides: &[u64; PLACES], s: Stream) -> u64
+    requires { ⌜ WithinStream maxUnits s × (length (now sides) ≡ places) ⌝ }
+    ensures { λ r. ⌜ r ≡ apart (now (sides .entry)) s ⌝ }
+{
+    let u = s.from as usize;
+    let v = s.to as usize;
+    sides[u] ^ sides[v]
+}
+
+// The streams that lie on a loop with a stream, where it is unmetered and earlier ones join its ends.
+pub fn looped_by(labels: &[u8; PLACES], sides: &[u64; PLACES], s: Stream) -> u64
+    requires { ⌜ WithinStream maxUnits s × (length (now labels) ≡ places) × (length (now sides) ≡ places) ⌝ }
+    ensures { λ r. ⌜ r ≡ loopedBy (now (labels .entry)) (now (sides .entry)) s ⌝ }
+{
+    if s.metered {
+        return 0;
+    }
+    if groups::one_label(labels, s) {
+        return way_between(sides, s);
+    }
+    0
+}
+
+// The sides of a place, changed where its label is h.
+fn turned_sides(x: u64, label: u8, h: u8, by: u64) -> u64
+    ensures { λ r. ⌜ r ≡ pick (eqb label h) (bitXor x by) x ⌝ }
+{
+    if label == h {
+        return x ^ by;
+    }
+    x
+}
+
+// The places labelled h change sides.
+fn turn(sides: &mut [u64; PLACES], labels: &[u8; PLACES], h: u8, by: u64)
+    requires { ⌜ (length (now sides) ≡ places) × (length (now labels) ≡ places) ⌝ }
+    ensures { λ _. ⌜ now (sides .exit) ≡ turned h by (now (labels .entry)) (now (sides .entry)) ⌝ }
+{
+    let mut u: usize = 0;
+    while u < PLACES {
+        let x = turned_sides(sides[u], labels[u], h, by);
+        sides[u] = x;
+        u += 1;
+    }
+}
+
+// A stream takes label h away.
+pub fn part(sides: &mut [u64; PLACES], labels: &[u8; PLACES], s: Stream, h: u8)
+    requires { ⌜ WithinStream maxUnits s × (length (now sides) ≡ places) × (length (now labels) ≡ places) × (h < places) ⌝ }
+    ensures { λ _. ⌜ now (sides .exit) ≡ parted h (now (labels .entry)) s (now (sides .entry)) ⌝ }
+{
+    if h == 0 {
+        return;
+    }
+    let way = way_between(sides, s);
+    turn(sides, labels, h, way ^ (1u64 << h));
+}

@@ -1,3 +1,0 @@
--- Laws of the start, and of what the solver hands over.
-pub mod Factored
-pub mod Solving

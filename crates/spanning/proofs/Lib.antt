@@ -1,0 +1,2 @@
+-- Laws of spanning forests.
+pub mod Spanning

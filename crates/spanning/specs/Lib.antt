@@ -1,0 +1,2 @@
+-- Definitions that the contracts of spanning cite.
+pub mod Forests

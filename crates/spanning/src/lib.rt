@@ -1,0 +1,150 @@
+// A spanning forest of the unmetered streams, from the places that are labels.
+use plants::Stream;
+use plants::limits::MAX_STREAMS;
+use plants::limits::PLACES;
+ghost use mathlib.Core.Path.{_≡_};
+ghost use mathlib.Core.List.{List};
+ghost use Prim.Native.Nat.{ℕ, _<_};
+ghost use lib.ListN.{length, getD};
+ghost use Rattle.plants.specs.declared.Stream.{Stream};
+ghost use Rattle.plants.specs.Limits.{maxUnits, places};
+ghost use Rattle.plants.specs.Within.{WithinStream};
+ghost use Rattle.plants.specs.Plants.{noStream};
+ghost use Rattle.model.specs.SearchNeeds.{Network};
+ghost use Rattle.spanning.specs.Forests.{Spanning, Unmetered, Listed, Routable};
+
+// A spanning forest of unmetered streams: in the order in which places were reached, the stream that leads to each, and whether
+// it leads into it.
+pub struct Forest {
+    pub via: [u8; PLACES],
+    pub into: [bool; PLACES],
+    pub len: usize,
+}
+
+// The places that are labels.
+fn roots(labels: [u8; PLACES]) -> [bool; PLACES]
+    ensures { λ r. ⌜ length r ≡ places ⌝ }
+{
+    let mut reached = [false; PLACES];
+    let mut u: usize = 0;
+    while u < PLACES {
+        reached[u] = labels[u] as usize == u;
+        u += 1;
+    }
+    reached
+}
+
+// Place e over stream i, where it is not reached yet. How many streams there are now.
+fn reach(
+    reached: &mut [bool; PLACES],
+    via: &mut [u8; PLACES],
+    into: &mut [bool; PLACES],
+    len: usize,
+    i: u8,
+    e: usize,
+    inwards: bool,
+) -> usize
+    requires { ⌜ Spanning (now reached) (now via) (now into) len × (e < places) ⌝ }
+    ensures { λ r. ⌜ Spanning (now (reached .exit)) (now (via .exit)) (now (into .exit)) r × ((ss : List Stream) (n : ℕ) → Unmetered ss n i → Listed ss n (now (via .entry)) len → Listed ss n (now (via .exit)) r) ⌝ }
+{
+    if reached[e] {
+        return len;
+    }
+    reached[e] = true;
+    via[len] = i;
+    into[len] = inwards;
+    len + 1
+}
+
+// Unmetered stream i, where it leads from a place that is reached to one that is not.
+fn along(
+    reached: &mut [bool; PLACES],
+    via: &mut [u8; PLACES],
+    into: &mut [bool; PLACES],
+    len: usize,
+    i: u8,
+    s: Stream,
+) -> usize
+    requires { ⌜ Spanning (now reached) (now via) (now into) len × WithinStream maxUnits s ⌝ }
+    ensures { λ r. ⌜ Spanning (now (reached .exit)) (now (via .exit)) (now (into .exit)) r × ((ss : List Stream) (n : ℕ) → i < n → getD ss i noStream ≡ s → Listed ss n (now (via .entry)) len → Listed ss n (now (via .exit)) r) ⌝ }
+{
+    if s.metered {
+        return len;
+    }
+    let u = s.from as usize;
+    let v = s.to as usize;
+    if reached[u] {
+        return reach(reached, via, into, len, i, v, true);
+    }
+    if reached[v] {
+        return reach(reached, via, into, len, i, u, false);
+    }
+    len
+}
+
+// One pass over the streams.
+fn pass(
+    streams: [Stream; MAX_STREAMS],
+    count: usize,
+    reached: &mut [bool; PLACES],
+    via: &mut [u8; PLACES],
+    into: &mut [bool; PLACES],
+    start: usize,
+) -> usize
+    requires { ⌜ Network streams count × Spanning (now reached) (now via) (now into) start × Listed streams count (now via) start ⌝ }
+    ensures { λ r. ⌜ Spanning (now (reached .exit)) (now (via .exit)) (now (into .exit)) r × Listed streams count (now (via .exit)) r ⌝ }
+{
+    let mut len = start;
+    let mut i: usize = 0;
+    while i < count {
+        len = along(reached, via, into, len, i as u8, streams[i]);
+        i += 1;
+    }
+    len
+}
+
+// How many places are not reached.
+fn unreached(reached: &[bool; PLACES]) -> usize
+    requires { ⌜ length (now reached) ≡ places ⌝ }
+{
+    let mut c: usize = 0;
+    let mut u: usize = 0;
+    while u < PLACES {
+        if !reached[u] {
+            c += 1;
+        }
+        u += 1;
+    }
+    c
+}
+
+// How many passes may still be made: one less than so many before, and none once all places are reached.
+fn passes_left(len: usize, all: usize, left: usize) -> usize
+    requires { ⌜ 0 < left ⌝ }
+    ensures { λ r. ⌜ r < left ⌝ }
+{
+    if len < all { left - 1 } else { 0 }
+}
+
+// A spanning forest from the labels, by passes.
+pub fn span(streams: [Stream; MAX_STREAMS], count: usize, labels: [u8; PLACES]) -> Forest
+    requires { ⌜ Network streams count ⌝ }
+    ensures { λ r. ⌜ Routable streams count r ⌝ }
+{
+    let mut reached = roots(labels);
+    let all = unreached(&reached);
+    let mut via = [0u8; PLACES];
+    let mut into = [false; PLACES];
+    let mut len: usize = 0;
+    let mut left = passes_left(0, all, PLACES);
+    while 0 < left {
+        let before = len;
+        len = pass(streams, count, &mut reached, &mut via, &mut into, before);
+        left = passes_left(len, all, left);
+    }
+    Forest {
+        via: via,
+        into: into,
+        len: len,
+    }
+}

@@ -1,0 +1,44 @@
+// The start by factorisation: metered amounts settled at prices at which the real-number optimum balances, and unmetered amounts
+// routed along a spanning forest.
+use model::State;
+use model::sizes::FLOW_SHIFT;
+use model::sizes::PRICE_SHIFT;
+use model::sizes::PRICE_SPREAD;
+use plants::Plant;
+use plants::limits::MAX_STREAMS;
+use plants::limits::PLACES;
+use potentials::potentials_of;
+use routing::route;
+use settling::nets_of;
+use settling::settle_flows;
+use spanning::span;
+ghost use Rattle.plants.specs.Within.{Accepted};
+ghost use Rattle.plants.specs.Says.{plantOf};
+ghost use Rattle.flows.specs.Calls.{Grouped};
+ghost use Rattle.model.specs.SolverNeeds.{AtHint};
+
+// Prices from the labels by the unmetered streams, and amounts at these. Routing leaves metered amounts as they are.
+pub fn start(p: Plant, labels: [u8; PLACES]) -> State
+    requires { ⌜ Accepted p × Grouped p labels ⌝ }
+    ensures { λ r. ⌜ AtHint (plantOf p .streams) r ⌝ }
+{
+    let prices = potentials_of(p, labels, PRICE_SHIFT, PRICE_SPREAD);
+    let streams = p.streams;
+    let count = p.count as usize;
+    let mut flows = [FLOW_SHIFT; MAX_STREAMS];
+    settle_flows(streams, count, &prices, &mut flows);
+    let mut given = nets_of(streams, count, flows);
+    route(
+        streams,
+        count,
+        span(streams, count, labels),
+        &mut given,
+        &mut flows,
+    );
+    let nets = nets_of(streams, count, flows);
+    State {
+        flows: flows,
+        prices: prices,
+        nets: nets,
+    }
+}

@@ -1,0 +1,79 @@
+// The faults of a plant's parts: of its units, and of a stream.
+ghost use mathlib.Core.Path.{_≡_};
+ghost use Rattle.plants.specs.Plants.{unitsFault, meterFault, rangeFault, streamFault};
+use numbers::first_of;
+use plants::Stream;
+use plants::limits::MAX_RANGE;
+use plants::limits::MAX_READING;
+use plants::limits::MAX_UNITS;
+use plants::limits::MAX_WEIGHT;
+
+pub fn units_fault(units: u8) -> u8
+    ensures { λ r. ⌜ r ≡ unitsFault units ⌝ }
+{
+    if units == 0 {
+        return 6;
+    }
+    if MAX_UNITS < units {
+        return 6;
+    }
+    0
+}
+
+fn meter_fault(weight: u16, reading: i32) -> u8
+    ensures { λ r. ⌜ r ≡ meterFault weight reading ⌝ }
+{
+    if weight == 0 {
+        return 9;
+    }
+    if MAX_WEIGHT < weight {
+        return 9;
+    }
+    if reading < -MAX_READING {
+        return 10;
+    }
+    if MAX_READING < reading {
+        return 10;
+    }
+    0
+}
+
+// (With low at most high, the lower limit of the one and the upper of the other are enough.)
+fn range_fault(ranged: bool, low: i32, high: i32) -> u8
+    ensures { λ r. ⌜ r ≡ rangeFault ranged low high ⌝ }
+{
+    if !ranged {
+        return 0;
+    }
+    if high < low {
+        return 18;
+    }
+    if low < -MAX_RANGE {
+        return 18;
+    }
+    if MAX_RANGE < high {
+        return 18;
+    }
+    0
+}
+
+pub fn stream_fault(units: u8, s: Stream) -> u8
+    ensures { λ r. ⌜ r ≡ streamFault units s ⌝ }
+{
+    if units < s.from {
+        return 7;
+    }
+    if units < s.to {
+        return 7;
+    }
+    if s.from == s.to {
+        return 8;
+    }
+    let metered = s.metered;
+    if metered {
+        let meter = meter_fault(s.weight, s.reading);
+        let range = range_fault(s.ranged, s.low, s.high);
+        return first_of(meter, range);
+    }
+    0
+}

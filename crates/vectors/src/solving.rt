@@ -1,0 +1,51 @@
+// The calls that balance a plant.
+use file_trials::cases::NO_CASE;
+use file_trials::cases::told;
+use plants::limits::MAX_STREAMS;
+use trials::marking::tested;
+use trials::solved::no_hint;
+use trials::solved::put_flows;
+ghost use mathlib.Core.Path.{_≡_};
+ghost use Prim.Native.Nat.{_≤_};
+ghost use lib.ListN.{length};
+
+// The sheet call: handed in the last sheet number and the plant file.
+pub fn sheet(number: u32, given: &[u8], out: &mut [u8]) -> u64 {
+    let drawn = sheet_calls::balance_plant(given, number, out);
+    let marked = drawn.marked;
+    let answer = told(drawn.number, drawn.written, drawn.last);
+    tested(answer, drawn.number, given, marked)
+}
+
+// The solver on a plant file, its flows where they are asked for.
+fn solve_file(asked: &[u8], file: &[u8], out: &mut [u8]) -> u64
+    requires { ⌜ (96 ≤ length (now asked)) × (length (now out) ≡ 768) ⌝ }
+{
+    let read = plant_reader::read_plant(file);
+    let number = read.number;
+    if number != 0 {
+        return told(number, 0, 0);
+    }
+    let p = read.plant;
+    let solved = solver::solve_from(p, no_hint());
+    if !solved.found {
+        let marked = solved.marked;
+        return tested(told(19, 0, 0), 19, file, marked);
+    }
+    let flows = solved.flows;
+    put_flows(flows, asked, out);
+    0
+}
+
+// The solver without a hint: handed in a byte for each of 96 streams, 0 where its flow is not compared, then the plant file; the
+// slice, of 768 bytes, gets the flows in two's complement, 8 bytes each, 0 where not compared; no count, no number. Where no flow
+// is in range, 19 is returned and the slice left alone.
+pub fn unhinted(given: &[u8], out: &mut [u8]) -> u64 {
+    if given.len() < MAX_STREAMS {
+        return NO_CASE;
+    }
+    if out.len() != 768 {
+        return NO_CASE;
+    }
+    solve_file(given, &given[MAX_STREAMS..], out)
+}

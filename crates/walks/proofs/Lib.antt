@@ -1,0 +1,2 @@
+-- Laws of the walk's loop.
+pub mod Turns

@@ -1,0 +1,2 @@
+-- Laws of the summed weights.
+pub mod Summing

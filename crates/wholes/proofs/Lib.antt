@@ -1,0 +1,2 @@
+-- Laws of the prices made whole.
+pub mod Levels

@@ -1,0 +1,2 @@
+-- Definitions that the contracts of wholes cite.
+pub mod Levels
