@@ -77,8 +77,9 @@ int main(int argc, char **argv) {
     for (int k = 0; k < plants; k++) {
         size_t length = up || down ? chain(file, down) : draw_plant(file, streams), written = 0;
         uint32_t last = 0;
+        uint64_t marked = 0; /* an archive from before ranges leaves it alone */
         if (up || down || strcmp(argv[1], "sheet") == 0) {
-            uint8_t number = wengeludo_balance_plant(file, length, &last, sheet, sizeof sheet, &written);
+            uint8_t number = wengeludo_balance_plant(file, length, &last, sheet, sizeof sheet, &written, &marked);
             if (number != 0) return 1;
         } else if (strcmp(argv[1], "read") == 0) {
             sum += wengeludo_probe_read(file, length);
