@@ -1,10 +1,10 @@
 -- What is promised of meters worth a visit, of every file; and what the call answers, by what was found.
 use mathlib.Core.Path.{_≡_, refl, sym, _∙_, ap, subst}
-use mathlib.Core.Bool.{Bool, true, false}
-use mathlib.Core.Logic.{⊎-elim}
+use mathlib.Core.Bool.{Bool, true, false, false≢true}
+use mathlib.Core.Logic.{_↔_, ⊎-elim}
 use mathlib.Core.List.{List}
 use lib.IntN.{ℤ}
-use Prim.Native.Nat.{ℕ, _≤_}
+use Prim.Native.Nat.{ℕ, _≤_, _<_}
 use native.Mathlib.Omega.{arith}
 use lib.ListN.{length}
 use Rattle.numbers.proofs.Tests.{clash}
@@ -17,13 +17,19 @@ use Rattle.plants.specs.Says.{plantOf, readOf}
 use Rattle.plants.proofs.Limited.{within}
 use Rattle.plants.proofs.Accepted.{accepted}
 use Rattle.plants.proofs.Arrayed.{read-held}
-use Rattle.flows.specs.Flows.{allowed}
+use Rattle.flows.specs.declared.Class.{Class}
+use Rattle.flows.specs.declared.Class.the-variants.{Adjusted, AsRead, Given, Withheld}
+use Rattle.flows.specs.Flows.{streamAt, allowed}
+use Rattle.flows.specs.Classes.{classOf}
 use Rattle.flows.specs.Overfull.{Overfull}
+use Rattle.flows.proofs.Given.{class-means}
+use Rattle.flows.proofs.Chained.{adjusted-of}
 use Rattle.flows.proofs.Overfull.{overfull-none}
 use Rattle.model.proofs.Demand.{refusal-19}
+use Rattle.sheets.specs.Sentences.{EndsJoined}
 use Rattle.sheets.proofs.Promise.{read-bad, found}
 use Rattle.visit_def.specs.declared.Visits.{Visits}
-use Rattle.visit_def.specs.Visits.{without, isListed, AllLeast, Ordered}
+use Rattle.visit_def.specs.Visits.{without, isAdjusted, isListed, AllLeast, Ordered}
 use Rattle.visit_def.specs.Says.{noVisits, VisitsFor, VisitsWith, VisitsSays, Meters-worth-a-visit}
 use Rattle.visit_def.proofs.Unmetered.{feasible, sheet-without, not-above, one-cost}
 use Rattle.visit_def.proofs.Listing.{stands, in-order, one-list, ordered-by}
@@ -46,11 +52,27 @@ same-with : (file : List ℕ) (g : Got) → readPlant file ≡ g → (r r′ : V
 same-with file (bad f) e r r′ x y = x ∙ sym y
 same-with file (got p) e r r′ x y = same-for file p e r r′ x y
 
+-- Which streams are listed, by chains.
+adjusted-alone : (c : Class) → isAdjusted c ≡ true → c ≡ Adjusted
+adjusted-alone Adjusted t = refl
+adjusted-alone AsRead t = absurd (false≢true t)
+adjusted-alone Given t = absurd (false≢true t)
+adjusted-alone Withheld t = absurd (false≢true t)
+
+which : (file : List ℕ) (p : Plant) → readPlant file ≡ got p → (k : ℕ) → k < length (p .streams)
+    → (isListed p k ≡ true) ↔ ((streamAt (p .streams) k .metered ≡ true) × (EndsJoined p k → ⊥))
+which file p e k l =
+    let w = within p (accepted file p e .0) in (
+      λ t. let a = adjusted-alone (classOf p k) t in let m = class-means p k Adjusted a .0 in (m, adjusted-of p w k m .0 a),
+      λ h. ap isAdjusted (adjusted-of p w k (h .0) .1 (h .1)),
+    )
+
 pub meters-worth-a-visit : Meters-worth-a-visit
 meters-worth-a-visit = record {
   feasible = feasible;
   some = sheet-without;
   not-above = not-above;
+  which = which;
   one = one-cost;
   stands = λ p costs r few o i h. let s = stands p few costs r o i h in (s .0, s .1, s .2, s .4, s .5);
   in-order = λ p costs r few o. in-order p few costs r o;

@@ -1,6 +1,6 @@
 -- What the call over meters worth a visit promises.
 use mathlib.Core.Path.{_≡_}
-use mathlib.Core.Logic.{_⊎_}
+use mathlib.Core.Logic.{_⊎_, _↔_}
 use mathlib.Core.Bool.{true, false}
 use mathlib.Core.List.{List}
 use lib.IntN.{ℤ}
@@ -9,8 +9,9 @@ use lib.ListN.{length, getD, replicate}
 use Rattle.plants.specs.Limits.{maxStreams}
 use Rattle.plants.specs.Plants.{Plant}
 use Rattle.plants.specs.Files.{Got, bad, got, readPlant}
-use Rattle.flows.specs.Flows.{allowed, cost, Cheapest}
+use Rattle.flows.specs.Flows.{streamAt, allowed, cost, Cheapest}
 use Rattle.sheets.specs.Apart.{capped}
+use Rattle.sheets.specs.Sentences.{EndsJoined}
 use Rattle.visit_def.specs.declared.Visits.{Visits}
 use Rattle.visit_def.specs.Visits.{without, isListed, LeastCost, Ordered, AllLeast}
 
@@ -37,6 +38,9 @@ pub record Meters-worth-a-visit : Type 0 where
   pub some : (file : List ℕ) (p : Plant) → readPlant file ≡ got p → (xs : List ℤ) → allowed p xs ≡ true
       → (k : ℕ) → k < length (p .streams) → (ys : List ℤ) × Cheapest (without p k) ys
   pub not-above : (p : Plant) (k : ℕ) (xs : List ℤ) (c : ℕ) → Cheapest p xs → LeastCost (without p k) c → c ≤ capped (cost (p .streams) xs)
+  -- The streams listed are the A streams: metered, and no chain of unmetered streams joins their ends.
+  pub which : (file : List ℕ) (p : Plant) → readPlant file ≡ got p → (k : ℕ) → k < length (p .streams)
+      → (isListed p k ≡ true) ↔ ((streamAt (p .streams) k .metered ≡ true) × (EndsJoined p k → ⊥))
   -- There is one least cost alone.
   pub one : (p : Plant) (c d : ℕ) → LeastCost p c → LeastCost p d → c ≡ d
   -- A list by costs holds A streams alone, each once, in the order of their costs, equals by their numbers; and it is one.
