@@ -205,3 +205,22 @@ fn the_serial_system() {
     let list = wengeludo_balance::visits(&plant.file().unwrap()).unwrap();
     assert_eq!(list[0], Visit { stream: 4, cost: 1250 });
 }
+
+/// The deepest calls in a thread with little more stack than the header speaks of, 72 KB; what the thread itself needs is in the rest.
+#[test]
+fn little_stack() {
+    let bench = concat!(env!("CARGO_MANIFEST_DIR"), "/../bench");
+    let worst =
+        ["worst.bin", "worst_ranges.bin", "most_improvements.bin"].map(|name| std::fs::read(format!("{bench}/{name}")).unwrap());
+    let mut drawn: Vec<Vec<u8>> = (0..300).map(|k| file_of(&Draw::new(k).plant())).collect();
+    drawn.extend(worst);
+    let calls = move || {
+        for file in &drawn {
+            let (mut streams, mut costs, mut count) = (vec![0; 96], vec![0; 96], 0);
+            raw::visits(file, &mut streams, &mut costs, &mut count);
+            let (mut sheet, mut last, mut marked) = (vec![0; 879], 0, 0);
+            raw::balance_plant(file, &mut last, &mut sheet, &mut count, &mut marked);
+        }
+    };
+    std::thread::Builder::new().stack_size(76 * 1024).spawn(calls).unwrap().join().unwrap();
+}
