@@ -41,6 +41,9 @@ part "the Rust crate and the differential tests"
 part "the benchmark, a short run"
 bash host/bench/run.sh 5 1 >target/host/bench.log || { tail -20 target/host/bench.log >&2; exit 1; }
 grep -E '^\| (plants|random extremes|as a site has them|tie-rich) \| (units|32) ' target/host/bench.log | head -4
+part "the list of meters worth a visit, a short run"
+bash host/bench/visits.sh 20 1 >target/host/visits.log || { tail -20 target/host/visits.log >&2; exit 1; }
+grep -E '^\| (plants|as a site has them) \| (units|32) ' target/host/visits.log
 part "the fuzz target, ${FUZZ_SECONDS:-60} seconds"
 bash host/fuzz/build.sh
 if ! bash host/fuzz/run.sh "${FUZZ_SECONDS:-60}" >target/host/fuzz/log 2>&1; then

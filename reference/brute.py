@@ -18,6 +18,7 @@ from itertools import combinations, product
 
 import purchases
 import solver
+import visits
 from solver import Plant, Stream
 
 # Brute force
@@ -464,6 +465,47 @@ def check_purchases(count):
     return count
 
 
+def check_visits(count):
+    """Meters worth a visit on small plants, half of them with ranges: the flows of each plant with a meter less are listed."""
+    rng = random.Random(5)
+    none = entries = lower = equal = 0
+    for k in range(count):
+        plant = ranged_plant(rng) if k % 2 else small_plant(rng)
+        found = brute_balance(plant)
+        if found is None:
+            none += 1
+            continue
+        group = joined(plant, lambda s: not s.metered)
+        wanted = []
+        for i, s in enumerate(plant.streams):
+            if s.metered and not group[s.source][s.target]:
+                streams = [Stream(s.source, s.target) if j == i else other for j, other in enumerate(plant.streams)]
+                wanted.append((brute_flows(Plant(plant.units, tuple(streams)))[0], i + 1))
+        wanted.sort()
+        expect(plant, visits.visits_of(plant), [(stream, cost) for cost, stream in wanted])
+        expect(plant, all(cost <= found[0].cost for cost, _ in wanted), True)
+        entries += len(wanted)
+        lower += sum(cost < found[0].cost for cost, _ in wanted)
+        equal += len(wanted) - len({cost for cost, _ in wanted})
+    print(f"  entries {entries}, below the sheet's cost {lower}, equal to one before {equal}; plants with no flow in range {none}")
+    return count
+
+
+def check_large_visits(count):
+    """On larger plants: each entry is the cost of the whole solve of its plant; without ranges it keeps to the bound in fractions."""
+    rng = random.Random(6)
+    for k in range(count):
+        units, streams = ((12, 36), (20, 60), (32, 48))[k % 3]
+        plant = large_plant(rng, units, streams, rng.choice((0.6, 1.0)))
+        for stream, cost in visits.least_costs(plant):
+            less = visits.without(plant, stream - 1)
+            result, least = solver.balance(less), real_cost(less)
+            expect(less, cost, result.cost)
+            slack = Fraction(sum(s.weight for s, letter in zip(less.streams, result.classes) if letter == "A"), 4)
+            expect(less, least <= cost <= least + slack, True)
+    return count
+
+
 def check_large(count):
     """On large plants: balance, the bound from the optimum in fractions, and renumbered places."""
     rng = random.Random(2)
@@ -495,6 +537,8 @@ def main():
         ("small plants with ranges against brute force", lambda: check_ranged(30_000)),
         ("plants near the critical value", lambda: check_close(2_000)),
         ("meters to buy against all sets", lambda: check_purchases(3_000)),
+        ("meters worth a visit against brute force", lambda: check_visits(6_000)),
+        ("meters worth a visit on larger plants", lambda: check_large_visits(6)),
         ("large plants", lambda: check_large(80)),
     ):
         start = time.monotonic()

@@ -33,6 +33,9 @@ then the bytes handed in, then those of the slice as they must be after the call
                 metered, what they cost together, and their numbers at the front of the slice
     12 SURVEY   handed in: plant file; back: how many streams, the 13 counts in a slice of 26 bytes, 2 bytes each
     13 LAYOUTS  handed in: plant file; back: the text's length, the text of the survey in the slice
+    14 VISITS   handed in: plant file; back: how many streams are listed, and at the front of a slice of 864 bytes or more for each
+                of them, in the list's order, its number (1) and its cost (8)
+    15 VISIT_TEXT  handed in: plant file; back: the text's length, the text of that list in the slice
 
 Where a call has no number or count, 0 stands. A stream is 17 bytes: 1 where it is metered and 2 where it has a range, added;
 from, to, weight (2); reading, low, high (4 each, two's complement). An entry is 9 bytes: the kind of the stream's record, its
@@ -48,6 +51,7 @@ from typing import NamedTuple
 SHEET, READER, WRITER, UNHINTED, LISTING, KEPT, TRANSLATOR, CLOSING, FORTH, HOME = 1, 2, 3, 4, 5, 6, 7, 8, 9, 10
 BUYING = 11
 SURVEY, LAYOUTS = 12, 13
+VISITS, VISIT_TEXT = 14, 15
 STREAMS = 96
 HEAD = 20
 ROOM = 2_560  # most bytes handed in, and of a slice

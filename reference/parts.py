@@ -9,6 +9,7 @@ import purchases
 import solver
 import survey
 import transmitter
+import visits
 from solver import FILE_LENGTH, READING, SHEET_LENGTH, Stream
 
 TEXT_LENGTH = 2_544  # a slice of so many bytes holds every listing
@@ -230,6 +231,37 @@ class LayoutText(NamedTuple):
     def record(self):
         text = survey.text(self.file).encode() if self.slice_length >= survey.TEXT_LENGTH else b""
         return meant(self, cases.Record(cases.LAYOUTS, self.file, self.slice_length, text, count=len(text)))
+
+
+class Visiting(NamedTuple):
+    """Meters worth a visit, with the first of the list or all of it, if said."""
+
+    file: bytes
+    expected: int | None = None
+    first: list | None = None
+    slice_length: int = visits.ENTRY * cases.STREAMS
+    filling: int = 0xA5
+
+    def record(self):
+        number, listed = visits.visits_call(self.file)
+        if self.first is not None and listed[: len(self.first)] != self.first:
+            raise ValueError(f"{self}: {listed} listed")
+        answer = b"".join(bytes((stream,)) + cases.number(cost, 8) for stream, cost in listed)
+        return meant(self, cases.Record(
+            cases.VISITS, self.file, self.slice_length, answer, self.filling, returned=number, count=len(listed),
+        ))
+
+
+class VisitText(NamedTuple):
+    """The text of that list; a slice that is too short gets no text."""
+
+    file: bytes
+    slice_length: int = visits.TEXT_LENGTH
+    expected: int | None = None
+
+    def record(self):
+        text = visits.text(self.file).encode() if self.slice_length >= visits.TEXT_LENGTH else b""
+        return meant(self, cases.Record(cases.VISIT_TEXT, self.file, self.slice_length, text, count=len(text)))
 
 
 def meant(case, record):

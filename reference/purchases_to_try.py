@@ -25,7 +25,7 @@ def plants():
     pair = samples.LISTING.streams
     for prices in ((5, 3), (3, 5), (4, 4), (1, 1), (PRICE, PRICE), (1, PRICE), (PRICE, 1)):
         yield bought(2, pair, prices)
-    for sample in samples.SAMPLES + (samples.BLIND_SITE, samples.SIGHTED_SITE):
+    for sample in samples.SAMPLES:
         count = sum(not s.metered for s in sample.streams)
         for prices in ([100] * count, range(1, count + 1), range(count, 0, -1), [k * 7 % 11 + 1 for k in range(count)]):
             yield bought(len(sample.units), sample.streams, list(prices))

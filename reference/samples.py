@@ -5,7 +5,9 @@ from typing import NamedTuple
 
 import purchases
 import solver
+import survey
 import transmitter
+import visits
 from parts import metered, plant_file, unmetered, within
 
 
@@ -166,17 +168,47 @@ SIGHTED_SITE = Sample(
     tuple(READ_THEN.get(k, stream) for k, stream in enumerate(BLIND_SITE.streams, 1)),
 )
 
+# A site with one meter far off.
+_FAR_OFF_SITE = (
+    ("make-up water", metered(0, 1, 2_093, 10)),
+    ("condensate returned", metered(7, 1, 8_318, 4)),
+    ("feedwater to boiler 1", metered(1, 2, 6_251, 4)),
+    ("feedwater to boiler 2", metered(1, 3, 4_152, 4)),
+    ("blowdown of boiler 1", metered(2, 0, 63, 40)),
+    ("blowdown of boiler 2", unmetered(3, 0)),
+    ("steam of boiler 1", metered(2, 4, 6_188, 2)),
+    ("steam of boiler 2", metered(3, 4, 4_117, 2)),
+    ("steam to the mill", metered(4, 5, 6_383, 2)),
+    ("steam to the dye house", metered(4, 6, 4_262, 10)),
+    ("condensate of the mill", metered(5, 7, 5_611, 4)),
+    ("condensate of the dye house", metered(6, 7, 2_688, 4)),
+    ("steam used up in the mill", metered(5, 0, 812, 4)),
+    ("steam used up in the dye house", metered(6, 0, 1_194, 4)),
+)
+
+FAR_OFF_SITE = Sample(
+    "far_off_site",
+    ("feed tank", "boiler 1", "boiler 2", "header", "mill", "dye house", "condensate tank"),
+    tuple(name for name, _ in _FAR_OFF_SITE),
+    tuple(stream for _, stream in _FAR_OFF_SITE),
+)
+
+FAR_OFF = 10  # the number of that meter's stream
+
 SAMPLES = (LISTING, STEAM_SITE, RATED_SITE, OVERFULL_SITE, SMALL_HEADER, BLIND_SITE, SIGHTED_SITE)
 
 
 def files():
     """The files under samples/ that follow from the plants, as (path, bytes)."""
-    for sample in SAMPLES + (BLIND_SITE, SIGHTED_SITE):
+    for sample in SAMPLES + (FAR_OFF_SITE,):
         yield f"samples/{sample.name}.bin", sample.file
         yield f"samples/{sample.name}.expected", solver.listing(sample.file).encode()
     if transmitter.translate_call(TRANSMITTER, solver.FILE_LENGTH)[2] != LISTING.file:
         raise ValueError("the sample's signals are another plant's")
     yield "samples/transmitter.bin", TRANSMITTER
+    yield "samples/listing.layouts", survey.text(LISTING.file).encode()
+    for sample in (LISTING, FAR_OFF_SITE):
+        yield f"samples/{sample.name}.visits", visits.text(sample.file).encode()
     if purchases.buy_call(BLIND_SITE.file, PRICES, solver.STREAMS)[1] != list(READ_THEN):
         raise ValueError("other meters are to be bought")
 
@@ -185,7 +217,7 @@ def missing_text(root):
     """What samples/README.md should show and does not, as (path, problem)."""
     path = "samples/README.md"
     text = (root / path).read_text(encoding="utf-8") if (root / path).exists() else ""
-    for sample in SAMPLES + (BLIND_SITE,):
+    for sample in SAMPLES + (FAR_OFF_SITE,):
         bytes_shown = sample.file.hex(" ").upper()
         for what, wanted in (
             ("table", sample.table()),
@@ -196,8 +228,14 @@ def missing_text(root):
                 yield path, f"{what} of {sample.name}; wanted:\n{wanted}"
         if sample is LISTING and bytes_shown not in text:
             yield path, f"bytes of {sample.name}; wanted: {bytes_shown}"
-    if f"```\n{solver.listing(SIGHTED_SITE.file)}```" not in text:
-        yield path, f"listing of {SIGHTED_SITE.name}; wanted:\n{solver.listing(SIGHTED_SITE.file)}"
+    unread = visits.without(solver.read_plant(FAR_OFF_SITE.file), FAR_OFF - 1)
+    shown = solver.listing(plant_file(*unread)).splitlines()
+    for what, wanted in (
+        ("visits", f"```\n{visits.text(FAR_OFF_SITE.file)}```"),
+        ("sheet without that meter", f"`{shown[FAR_OFF - 1]}` and `{shown[-1]}`"),
+    ):
+        if wanted not in text:
+            yield path, f"{what} of {FAR_OFF_SITE.name}; wanted:\n{wanted}"
     if f"meters_to_buy samples/blind_site.bin {' '.join(map(str, PRICES))}`" not in text:
         yield path, f"the prices; wanted: {PRICES}"
     if TRANSMITTER.hex(" ").upper() not in text:

@@ -271,12 +271,17 @@ def cheapest_flow(plant):
         square[i] = streams[i].weight << len(metered)
         slope[i] = 1 << (len(metered) - k)
 
-    flow = flow_in_range(plant)
     step = 1 << max((abs(x) for s in streams for x in (s.reading, s.low or 0, s.high or 0)), default=0).bit_length()
+    return improved(plant, flow_in_range(plant), square, slope, step)
+
+
+def improved(plant, flow, square, slope, step):
+    """A balanced flow in range, improved along cycles until no cycle of ones improves it; the steps begin with this one."""
+    flow = list(flow)
     while step:
         while cycles := improving_cycles(plant, flow, square, slope, step):
             for cycle in cycles:
-                improve(streams, flow, square, slope, step, cycle)
+                improve(plant.streams, flow, square, slope, step, cycle)
         step //= 2
     return flow
 

@@ -16,6 +16,7 @@ import shapes
 import sheets_to_try
 import signals_to_try
 import solver
+import visits_to_try
 from parts import (
     Case, Draws, balanced_amounts, end_record, metered, metered_record, plant_file, read_with_noise,
     site_record, taken, unmetered,
@@ -351,4 +352,6 @@ SUBJECTS = (
     ("purchases", purchases_to_try.cases),
     ("surveys", layouts_to_try.surveys),
     ("layouts", layouts_to_try.texts),
+    ("visits", visits_to_try.cases),
+    ("visit_texts", visits_to_try.texts),
 )

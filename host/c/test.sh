@@ -1,6 +1,6 @@
 #!/usr/bin/env bash
-# Runs target/host/balance_file, target/host/meters_to_buy and target/host/layouts_file: the samples, a cut plant, the last sheet
-# number, and what cannot be read, written or understood.
+# Runs balance_file, meters_to_buy, layouts_file and visits_file of target/host: the samples, a cut plant, the last sheet number, and
+# what cannot be read, written or understood.
 set -eu
 cd "$(dirname "$0")/../.."
 program=target/host/balance_file
@@ -22,6 +22,7 @@ expect 0 "$(cat samples/listing.expected)" "$listing"
 expect 0 "$(cat samples/steam_site.expected)" samples/steam_site.bin
 expect 0 "$(cat samples/rated_site.expected)" samples/rated_site.bin
 expect 0 "$(cat samples/small_header.expected)" samples/small_header.bin
+expect 0 "$(cat samples/far_off_site.expected)" samples/far_off_site.bin
 expect 1 "$(cat samples/overfull_site.expected)"$'\nmarked 2 3' samples/overfull_site.bin
 expect 0 $'1 A 99\n2 W -\n3 W -\n4 A 99\ntotal 4294967295 20 1 pass' "$listing" 4294967294
 expect 1 'refused 2' "$listing" 4294967295
@@ -54,7 +55,7 @@ expect 2 '' "$listing" 5 x
 expect 2 '' "$listing" 5 4294967296
 expect 2 '' "$work/missing" 5 3
 [ "$failed" = 0 ] || exit 1
-echo "balance_file: 15 runs as expected; meters_to_buy: 12"
+echo "balance_file: 16 runs as expected; meters_to_buy: 12"
 program=target/host/layouts_file
 [ -x "$program" ] || { echo "no $program: build it with 'bash host/c/build.sh'" >&2; exit 2; }
 printf '\001\001\004\000' >"$work/empty"
@@ -71,3 +72,21 @@ status=0
 [ "$status" = 2 ] || { echo "layouts_file to a full device: status $status, expected 2" >&2; failed=1; }
 [ "$failed" = 0 ] || exit 1
 echo "layouts_file: 9 runs as expected"
+program=target/host/visits_file
+[ -x "$program" ] || { echo "no $program: build it with 'bash host/c/build.sh'" >&2; exit 2; }
+expect 0 "$(cat samples/listing.visits)" "$listing"
+expect 0 "$(cat samples/far_off_site.visits)" samples/far_off_site.bin
+expect 0 '' "$work/empty"
+expect 1 'refused 19' samples/overfull_site.bin
+expect 1 'refused 3' "$work/cut"
+expect 2 ''
+expect 2 '' "$listing" 0
+expect 2 '' "$work/missing"
+expect 2 '' "$work"
+for file in "$listing" "$work/cut"; do
+    status=0
+    "$program" "$file" >/dev/full 2>/dev/null || status=$?
+    [ "$status" = 2 ] || { echo "visits_file $file to a full device: status $status, expected 2" >&2; failed=1; }
+done
+[ "$failed" = 0 ] || exit 1
+echo "visits_file: 11 runs as expected"

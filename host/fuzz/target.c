@@ -11,8 +11,8 @@
  * second byte being 249, parts for the writer: units, count (2), which slice is cut (1) and where (1), then 18 bytes for each
  * stream: from, to, metered, weight (2), reading (4), ranged, low (4), high (4); or, the second byte being 248, a kept sheet;
  * or, the second byte being 247, a transmitter file; or, the second byte being 246, a plant file to be moved both ways; or, the
- * second byte being 245, a plant file for meters to buy, the first byte choosing prices and slice. Each sheet that is drawn is read
- * back in as well.
+ * second byte being 245, a plant file for meters to buy, the first byte choosing prices and slice; or, the second byte being 244, a
+ * plant file for meters worth a visit, the first byte choosing the slices. Each sheet that is drawn is read back in as well.
  * Each slice ends at a page that may not be touched, and bytes stand before it that may not change.
  */
 #define _GNU_SOURCE
@@ -701,6 +701,87 @@ static void survey(const uint8_t *file, size_t size, uint8_t sheet_number)
             fail("a count of the survey");
 }
 
+/* The cost on a sheet. */
+static uint64_t cost_on(const uint8_t *sheet, size_t written) { return field(sheet + written - 10, 8); }
+
+/* The sheet's cost of an accepted file with stream k, counted from 0, unmetered. */
+static uint64_t cost_without(const uint8_t *file, size_t size, size_t k)
+{
+    static uint8_t less[WENGELUDO_FILE_SIZE], sheet[WENGELUDO_SHEET_SIZE];
+    size_t at = 2, written;
+    uint32_t last = 0;
+    uint64_t marked;
+    for (size_t i = 0; i < k; i++)
+        at += body(file[at]);
+    size_t rest = at + body(file[at]);
+    memcpy(less, file, at + 3);
+    less[at] = 3;
+    memcpy(less + at + 3, file + rest, size - rest);
+    if (wengeludo_balance_plant(less, at + 3 + size - rest, &last, sheet, sizeof sheet, &written, &marked) != 0)
+        fail("no sheet without a meter");
+    return cost_on(sheet, written);
+}
+
+/* The list: each A stream of the sheet once, by cost, equals by number; no cost above the sheet's; few of them, or some, by the sheets
+ * of the plants with that stream unmetered. */
+static void list_fits(const uint8_t *file, size_t size, const uint8_t *sheet, size_t written, const uint8_t *streams,
+                      const uint64_t *costs, size_t count)
+{
+    uint8_t adjusted[WENGELUDO_MAX_STREAMS] = {0};
+    size_t letters = 0, listed_streams = 0, step = count > 12 ? 7 + size % 5 : 1;
+    for (size_t at = 0; sheet[at] != WENGELUDO_TOTAL; at += sheet[at] == WENGELUDO_WITHHELD ? 1 : 9)
+        letters += adjusted[listed_streams++] = sheet[at] == WENGELUDO_ADJUSTED;
+    if (count != letters)
+        fail("more or fewer than the A streams are listed");
+    for (size_t i = 0; i < count; i++) {
+        if (streams[i] < 1 || streams[i] > listed_streams || !adjusted[streams[i] - 1])
+            fail("a number is listed that is no A stream, or twice");
+        adjusted[streams[i] - 1] = 0;
+        if (costs[i] > cost_on(sheet, written))
+            fail("a cost above the sheet's");
+        if (i > 0 && (costs[i] < costs[i - 1] || (costs[i] == costs[i - 1] && streams[i] < streams[i - 1])))
+            fail("a list out of order");
+    }
+    for (size_t i = size % step; i < count; i += step)
+        if (costs[i] != cost_without(file, size, streams[i] - 1u))
+            fail("another cost than that of the sheet without the meter");
+    counters[OF_SHEETS + 724] |= count > 1 && costs[count - 2] == UINT64_MAX;
+    counters[OF_SHEETS + 725] |= count > 1 && costs[0] < costs[count - 1] && costs[count - 1] == UINT64_MAX;
+    counters[OF_SHEETS + 728 + (count > 95 ? 95 : count)] = 1;
+}
+
+/* Meters worth a visit on any file: the number returned, the slices, and the list. */
+static void visit(const uint8_t *data, size_t size, uint8_t choice)
+{
+    const size_t most = WENGELUDO_MAX_STREAMS;
+    size_t numbers = choice < 224 ? most + choice % 3 : choice < 240 ? most : (choice - 240u) * 6, count = SIZE_MAX;
+    size_t words = choice < 224 ? most + choice % 5 : choice < 240 ? (choice - 224u) * 6 : most;
+    uint8_t *file = file_end - size, *streams = kinds_end - numbers, *sheet = again_end - WENGELUDO_SHEET_SIZE;
+    uint64_t *costs = (uint64_t *)(void *)flows_end - words;
+    memcpy(file, data, size);
+    struct outcome o = sheet_call(file, size, 0, WENGELUDO_SHEET_SIZE, again_end, 0);
+    for (size_t i = 0; i < numbers + GUARD; i++)
+        streams[-GUARD + (ptrdiff_t)i] = fill(i, 0);
+    for (size_t i = 0; i < words + GUARD; i++)
+        costs[-GUARD + (ptrdiff_t)i] = ~(uint64_t)i;
+    uint8_t returned = wengeludo_visits(file, size, streams, numbers, costs, words, &count);
+    if (returned != (numbers < most || words < most ? WENGELUDO_SLICE_TOO_SHORT : o.returned))
+        fail("meters worth a visit: another number");
+    if (returned != 0 ? count != 0 : count > most)
+        fail("meters worth a visit: another count");
+    for (size_t i = 0; i < numbers + GUARD; i++)
+        if ((i < GUARD || i >= GUARD + count) && streams[-GUARD + (ptrdiff_t)i] != fill(i, 0))
+            fail("a number past the list changed");
+    for (size_t i = 0; i < words + GUARD; i++)
+        if ((i < GUARD || i >= GUARD + count) && costs[-GUARD + (ptrdiff_t)i] != ~(uint64_t)i)
+            fail("a cost past the list changed");
+    if (memcmp(file, data, size) != 0)
+        fail("the file changed");
+    counters[OF_SHEETS + 704 + returned] = 1;
+    if (returned == 0)
+        list_fits(file, size, sheet, o.written, streams, costs, count);
+}
+
 size_t LLVMFuzzerMutate(uint8_t *data, size_t size, size_t most);
 
 /* The records of a plant file that is read, rewritten where they stand: to the ranged form, or home; 0 bytes where a range is
@@ -878,6 +959,10 @@ int LLVMFuzzerTestOneInput(const uint8_t *data, size_t size)
 {
     if (size < 2 || size > 2 + 2100)
         return 0;
+    if (data[1] == 244) {
+        visit(data + 2, size - 2, data[0]);
+        return 0;
+    }
     if (data[1] == 245) {
         buy(data + 2, size - 2, data[0]);
         return 0;

@@ -2,7 +2,7 @@
  *
  * Build the archive with `rt staticlib linked` (target/staticlib/liblinked.a, x86-64 Linux) and link it;
  * it needs nothing but the C library (memcpy, memset). The calls keep no state, allocate nothing, take less than
- * 56 KB of stack, and may run in several threads at once on memory of their own.
+ * 72 KB of stack, and may run in several threads at once on memory of their own.
  *
  * What holds of every pointer here, and what no call can check:
  *   - it points to as many elements as the length beside it says (a pointer without a length: to one);
@@ -11,8 +11,8 @@
  * Lengths count elements. A slice may be longer than is needed.
  *
  * What each call does is proved against the definitions in crates/sheets/specs, crates/plants/specs,
- * crates/transmitters/specs, crates/moves/specs and crates/purchases/specs: result, counts and every byte of a slice follow
- * from what is handed in.
+ * crates/transmitters/specs, crates/moves/specs, crates/purchases/specs, crates/surveys/specs and crates/visit_def/specs:
+ * result, counts and every byte of a slice follow from what is handed in.
  */
 #ifndef WENGELUDO_BALANCE_H
 #define WENGELUDO_BALANCE_H
@@ -49,7 +49,8 @@ extern "C" {
 enum {
     WENGELUDO_DONE = 0,
     WENGELUDO_SLICE_TOO_SHORT = 1,    /* sheet slice under 879 bytes; writer, translator and moves: under 1,636; a slice of the
-                                         sheet reader or for meters to buy under 96 elements; of the survey under 13 */
+                                         sheet reader, for meters to buy or worth a visit under 96 elements; of the survey
+                                         under 13 */
     WENGELUDO_NO_SHEET_NUMBER = 2,    /* last sheet number is 4,294,967,295 */
     WENGELUDO_FILE_ENDS = 3,          /* bytes end where a record is due or inside a body */
     WENGELUDO_KIND = 4,               /* kind not allowed at this place */
@@ -259,6 +260,29 @@ uint8_t wengeludo_meters_to_buy(const uint8_t *file, size_t file_length,
 uint8_t wengeludo_layouts_of(const uint8_t *file, size_t file_length,
                              uint16_t *counts, size_t counts_length,
                              size_t *count);
+
+/* Meters worth a visit: what each meter costs the balance.
+ *
+ * Reads   the file's file_length bytes, a plant file.
+ * Returns 0, or one of 1, 3 to 12, 18, 19. The order: 1, then the file's records as in the sheet call, then 19, also where
+ *         making one meter unmetered would leave a balanced flow in range.
+ *         1:  `streams` or `costs` has fewer than 96 elements, however many streams are listed.
+ * Writes, where it returns 0:
+ *         for every A stream of the plant's sheet the least cost with that stream, and its range, made unmetered, listed by
+ *         that cost, equals by stream number: at the front of `streams` the streams' numbers, counted from 1, at the same
+ *         indices of `costs` their costs; the elements past the list keep their values;
+ *         *count: how many streams are listed, none where no stream is of class A.
+ * Writes, where it returns another number:
+ *         *count: 0, and nothing else. All elements of `streams` and `costs` are as they were.
+ * What *count was before the call makes no difference.
+ *
+ * A cost above 18,446,744,073,709,551,615 counts and is written as that number, as on a sheet. No cost is above the sheet's. No
+ * place is marked where 19 is returned; the sheet call does that.
+ */
+uint8_t wengeludo_visits(const uint8_t *file, size_t file_length,
+                         uint8_t *streams, size_t streams_length,
+                         uint64_t *costs, size_t costs_length,
+                         size_t *count);
 
 #ifdef __cplusplus
 }

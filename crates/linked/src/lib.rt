@@ -1,5 +1,5 @@
-// The sheet call, the plant writer, the sheet reader, the translator, the two moves, meters to buy and the survey for programs in C
-// and Rust: functions on numbers and slices of numbers.
+// The sheet call, the plant writer, the sheet reader, the translator, the two moves, meters to buy, the survey and meters worth a
+// visit for programs in C and Rust: functions on numbers and slices of numbers.
 mod marked;
 
 use marked::balance_marked;
@@ -15,6 +15,7 @@ ghost use Rattle.plant_slices.specs.Parts.{handed};
 ghost use Rattle.sheet_slices.specs.Kept.{HandsOver};
 ghost use Rattle.marks.specs.Marks.{marksIn};
 ghost use Rattle.survey_slices.specs.Lent.{LendSays};
+ghost use Rattle.visit_parts.specs.Lent.{VisitsHandOver};
 
 // The sheet call: the file's sheet in the slice, its bytes counted and the counter one higher; or a refusal number, none
 // counted, slice and counter as they were. With refusal 19 bit u of the marks is set where place u is in an overfull set; else
@@ -167,4 +168,21 @@ pub extern "C" fn wengeludo_layouts_of(file: &[u8], counts: &mut [u16], count: &
     let lent = survey_slices::layouts_lent(file, counts);
     *count = lent.count;
     lent.number
+}
+
+// Meters worth a visit: for every A stream the least cost with that stream, and its range, made unmetered, listed by cost, equals by
+// number: the streams' numbers at the front of one slice, the costs at the front of another, and how many they are; or a refusal
+// number, 0, and the slices as they were. A slice that does not hold as many as there may be is refused as 1, before the file is read.
+#[no_mangle]
+pub extern "C" fn wengeludo_visits(
+    file: &[u8],
+    streams: &mut [u8],
+    costs: &mut [u64],
+    count: &mut usize,
+) -> u8
+    ensures { λ r. ⌜ VisitsHandOver (now (file .entry)) (now (streams .entry)) (now (streams .exit)) (now (costs .entry)) (now (costs .exit)) r (now (count .exit)) ⌝ }
+{
+    let handed = visit_parts::visits_into(file, streams, costs);
+    *count = handed.count;
+    handed.number
 }

@@ -1,6 +1,6 @@
 -- Handing a survey over, by what was found.
 use mathlib.Core.Path.{_≡_, refl, sym, ap, _∙_}
-use mathlib.Core.List.{List, [], _∷_, map}
+use mathlib.Core.List.{List}
 use Prim.Native.Nat.{ℕ, suc, _+_, _≤_, _<_}
 use native.Mathlib.Numerals.{add-one}
 use native.Mathlib.Omega.{arith}
@@ -10,13 +10,6 @@ use Rattle.numbers.specs.Bytes.{over}
 use Rattle.surveys.specs.declared.Layouts.{Layouts}
 use Rattle.surveys.specs.Says.{surveySize, SurveySays}
 use Rattle.survey_slices.specs.Lent.{HandedOver, LendSays}
-
-abbrev pub itself : ℕ → ℕ
-itself x = x
-
-pub map-itself : (xs : List ℕ) → map itself xs ≡ xs
-map-itself [] = refl
-map-itself (x ∷ xs) = ap (λ (l : List ℕ). x ∷ l) (map-itself xs)
 
 module _ (file cs : List ℕ) where
   pub lends-nothing : length cs < surveySize → LendSays file cs cs 1 0

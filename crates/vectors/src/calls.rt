@@ -17,6 +17,7 @@ fn file_call(kind: u64, given: &[u8], out: &mut [u8]) -> u64 {
         7 => written(translator::plant_from_transmitter(given, out)),
         9 => written(move_calls::to_ranged(given, out)),
         10 => written(move_calls::from_ranged(given, out)),
+        14..=15 => case_visits::call(kind, given, out),
         _ => trials::call(kind, given, out),
     }
 }

@@ -31,6 +31,8 @@
 //!
 //! [`layouts`] counts, for each number of meters, the ways to lay them out that leave no flow unknown.
 //!
+//! [`visits`] lists what the balance costs at least without each meter: where a fitter goes first.
+//!
 //! A caller who has memory of its own uses [`balance_into`], [`Plant::write_into`], [`plant_from_transmitter_into`],
 //! [`to_ranged_into`] and [`from_ranged_into`], which allocate nothing.
 #![deny(missing_docs)]
@@ -44,6 +46,7 @@ pub mod raw;
 mod refusal;
 mod sheet;
 mod transmitter;
+mod visits;
 
 pub use layouts::{layouts, MAX_SURVEYED};
 pub use moves::{from_ranged, from_ranged_into, to_ranged, to_ranged_into};
@@ -52,6 +55,7 @@ pub use purchase::{meters_to_buy, Purchase};
 pub use refusal::{Places, Refusal};
 pub use sheet::{balance, balance_into, Record, Sheet, Verdict};
 pub use transmitter::{plant_from_transmitter, plant_from_transmitter_into, Transmitter};
+pub use visits::{visits, Visit};
 
 /// The least sheet slice that is taken.
 pub const SHEET_SIZE: usize = 879;
@@ -59,5 +63,6 @@ pub const SHEET_SIZE: usize = 879;
 /// The least slice that the plant writer, the translator and the moves take; the longest plant file.
 pub const FILE_SIZE: usize = 1636;
 
-/// The most streams of a plant; the sheet reader and [`raw::meters_to_buy`] take slices of at least so many elements.
+/// The most streams of a plant; the sheet reader, [`raw::meters_to_buy`] and [`raw::visits`] take slices of at least so many
+/// elements.
 pub const MAX_STREAMS: usize = 96;

@@ -74,6 +74,15 @@ extern "C" {
         counts_length: usize,
         count: *mut usize,
     ) -> u8;
+    fn wengeludo_visits(
+        file: *const u8,
+        file_length: usize,
+        streams: *mut u8,
+        streams_length: usize,
+        costs: *mut u64,
+        costs_length: usize,
+        count: *mut usize,
+    ) -> u8;
 }
 
 // A length is 64 bits wide in the archive.
@@ -227,4 +236,14 @@ pub fn meters_to_buy(file: &[u8], prices: &[u32], streams: &mut [u8], count: &mu
 pub fn layouts_of(file: &[u8], counts: &mut [u16], count: &mut usize) -> u8 {
     // SAFETY: as above.
     unsafe { wengeludo_layouts_of(file.as_ptr(), file.len(), counts.as_mut_ptr(), counts.len(), count) }
+}
+
+/// Meters worth a visit. 0: the numbers of the streams listed are at the front of `streams`, the least cost without each of them at
+/// the front of `costs`, `count` says how many. Another number: a refusal; `count` is 0, `streams` and `costs` are as they were.
+/// Slices with room for fewer than 96 elements are refused as 1.
+pub fn visits(file: &[u8], streams: &mut [u8], costs: &mut [u64], count: &mut usize) -> u8 {
+    // SAFETY: as above.
+    unsafe {
+        wengeludo_visits(file.as_ptr(), file.len(), streams.as_mut_ptr(), streams.len(), costs.as_mut_ptr(), costs.len(), count)
+    }
 }

@@ -22,8 +22,8 @@ impl Places {
 /// Why a call was refused. A refused call leaves every slice and the counter as they were.
 #[derive(Clone, Copy, Debug, PartialEq, Eq, Hash)]
 pub enum Refusal {
-    /// Sheet slice under 879 bytes; for the plant writer, the translator and the moves, slice under 1,636; for the sheet reader and
-    /// meters to buy, a slice under 96 elements; for the survey, one under 13.
+    /// Sheet slice under 879 bytes; for the plant writer, the translator and the moves, slice under 1,636; for the sheet reader,
+    /// meters to buy and meters worth a visit, a slice under 96 elements; for the survey, one under 13.
     SliceTooShort,
     /// Last sheet number is 4,294,967,295.
     NoSheetNumber,
@@ -59,8 +59,8 @@ pub enum Refusal {
     Deviation,
     /// Low above high, or either outside -2,000,000,000 to 2,000,000,000.
     Range,
-    /// No balanced flow lies within all ranges. The places marked must take in more than they can let out: every stream
-    /// across their edge has a range, and the lows in sum to more than the highs out.
+    /// No balanced flow lies within all ranges. The places that the sheet call marks must take in more than they can let out: every
+    /// stream across their edge has a range, and the lows in sum to more than the highs out. Other calls mark none.
     NoFlow(Places),
     /// Moving home, a range is narrower than -2,000,000,000 to 2,000,000,000.
     Narrower,
@@ -75,7 +75,7 @@ const ALL: [(u8, Refusal, &str); 22] = [
     (
         1,
         Refusal::SliceTooShort,
-        "a slice is too short: 879 bytes for a sheet, 1,636 for a plant file, 96 elements for the sheet reader and meters to buy",
+        "a slice is too short: 879 bytes for a sheet, 1,636 for a plant file, 96 elements for the sheet reader and lists of streams",
     ),
     (2, Refusal::NoSheetNumber, "last sheet number is 4,294,967,295"),
     (3, Refusal::FileEnds, "bytes end where a record is due or inside a body"),
@@ -137,7 +137,7 @@ impl fmt::Display for Refusal {
     fn fmt(&self, f: &mut fmt::Formatter<'_>) -> fmt::Result {
         let (number, _, text) = self.entry();
         write!(f, "refused {number}: {text}")?;
-        if let Refusal::NoFlow(marked) = self {
+        if let Refusal::NoFlow(marked @ Places(1..)) = self {
             let places: Vec<String> = marked.iter().map(|place| place.to_string()).collect();
             write!(f, "; too much goes into places {}", places.join(", "))?;
         }
@@ -171,6 +171,7 @@ mod tests {
         let none = Refusal::check_marked(19, 0b101).unwrap_err();
         let text = "refused 19: no balanced flow lies within all ranges; too much goes into places 0, 2";
         assert_eq!(none.to_string(), text);
+        assert_eq!(Refusal::check(19).unwrap_err().to_string(), "refused 19: no balanced flow lies within all ranges");
         assert_eq!(Refusal::check_marked(8, 0), Err(Refusal::SamePlace));
     }
 

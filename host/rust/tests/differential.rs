@@ -14,6 +14,7 @@ mod purchases;
 mod reference;
 mod shrink;
 mod transmitters;
+mod visits;
 
 use draw::{Call, Draw, Reopen, Write};
 use reference::{overfull, read, Outcome, Stream};

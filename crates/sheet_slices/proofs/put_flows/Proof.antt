@@ -10,7 +10,7 @@ use mir.Val.{SFits, toZ, ofZ}
 use mir.Facts.{toZ-ofZ}
 use Rattle.sheets.specs.declared.Entry.{Entry}
 use Rattle.sheets.proofs.Entries.{noEntry}
-use Rattle.sheet_slices.proofs.Handing.{Handing, none-handed, slice-long, room-there, one-handed, all-handed}
+use Rattle.num_lists.proofs.Handing.{Handing, none-handed, slice-long, room-there, one-handed, all-handed}
 use Rattle.sheet_slices.proofs.put_flows.Statement.{statement}
 use Rattle.sheet_slices.proofs.put_flows.Tie as tie
 

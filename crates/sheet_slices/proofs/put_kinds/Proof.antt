@@ -6,7 +6,7 @@ use Prim.Native.Nat.{ℕ, _-_}
 use Rattle.sheets.specs.declared.Entry.{Entry}
 use Rattle.sheets.specs.Sheets.{kindOf}
 use Rattle.sheets.proofs.Entries.{noEntry}
-use Rattle.sheet_slices.proofs.Handing.{Handing, none-handed, slice-long, room-there, one-handed, all-handed}
+use Rattle.num_lists.proofs.Handing.{Handing, none-handed, slice-long, room-there, one-handed, all-handed}
 use Rattle.sheet_slices.proofs.put_kinds.Statement.{statement}
 use Rattle.sheet_slices.proofs.put_kinds.Tie as tie
 

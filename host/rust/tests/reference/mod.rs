@@ -20,9 +20,11 @@
 mod cheapest;
 mod file;
 mod kept;
+mod visits;
 
 pub use file::{file_of, read, write, Listed, Stream};
 pub use kept::{reopen, sheet_bytes, Kept};
+pub use visits::visits;
 
 /// What a call returns and leaves behind.
 #[derive(Clone, Debug, PartialEq, Eq)]

@@ -1,0 +1,2 @@
+-- Laws of elements handed over in a slice.
+pub mod Handing

@@ -1,0 +1,85 @@
+// The least costs without the meter of one stream, for each A stream.
+use flows::Class;
+use plants::Plant;
+use plants::limits::MAX_STREAMS;
+use plants::streams::unmetered_stream;
+use visit_least::least_cost;
+ghost use mathlib.Core.Path.{_≡_};
+ghost use mathlib.Core.Bool.{true, false};
+ghost use Prim.Native.Nat.{ℕ, _<_};
+ghost use lib.ListN.{getD, replicate};
+ghost use Rattle.plants.specs.Limits.{maxStreams};
+ghost use Rattle.plants.specs.Within.{Accepted};
+ghost use Rattle.plants.specs.Says.{plantOf};
+ghost use Rattle.flows.specs.declared.Class.the-variants.{Adjusted};
+ghost use Rattle.flows.proofs.Lists.{Written};
+ghost use Rattle.visit_def.specs.Visits.{without, LeastCost, Feasible, isAdjusted};
+
+// The plant with stream k unmetered, and its range gone.
+fn unmeter_one(p: Plant, k: usize) -> Plant
+    requires { ⌜ Accepted p × (k < p .count) ⌝ }
+    ensures { λ r. ⌜ Accepted r × (plantOf r ≡ without (plantOf p) k) ⌝ }
+{
+    let s = p.streams[k];
+    let mut streams = p.streams;
+    let bare = unmetered_stream(s.from, s.to);
+    streams[k] = bare;
+    Plant {
+        units: p.units,
+        count: p.count,
+        streams: streams,
+    }
+}
+
+fn is_adjusted(class: Class) -> bool
+    ensures { λ r. ⌜ r ≡ isAdjusted class ⌝ }
+{
+    match class {
+        Class::Adjusted => true,
+        Class::AsRead => false,
+        Class::Given => false,
+        Class::Withheld => false,
+    }
+}
+
+// Whether each stream is an A stream.
+pub fn adjusted_of(classes: [Class; MAX_STREAMS]) -> [bool; MAX_STREAMS]
+    ensures { λ r. ⌜ Written false maxStreams (λ k x. isAdjusted (getD classes k Adjusted)) (replicate maxStreams false) r maxStreams ⌝ }
+{
+    let mut r = [false; MAX_STREAMS];
+    let mut k: usize = 0;
+    while k < MAX_STREAMS {
+        let c = classes[k];
+        r[k] = is_adjusted(c);
+        k += 1;
+    }
+    r
+}
+
+// The least cost without stream k's meter, where it is listed.
+fn cost_without(p: Plant, k: usize, listed: bool) -> u64
+    requires { ⌜ Accepted p × (k < p .count) × Feasible (plantOf p) ⌝ }
+    ensures { λ r. ⌜ (listed ≡ true → LeastCost (without (plantOf p) k) r) ⌝ }
+{
+    if !listed {
+        return 0;
+    }
+    let q = unmeter_one(p, k);
+    least_cost(q)
+}
+
+// For each stream that is listed.
+pub fn costs_without(p: Plant, listed: [bool; MAX_STREAMS]) -> [u64; MAX_STREAMS]
+    requires { ⌜ Accepted p × Feasible (plantOf p) ⌝ }
+    ensures { λ r. ⌜ ((k : ℕ) → k < p .count → getD listed k false ≡ true → LeastCost (without (plantOf p) k) (getD r k 0)) ⌝ }
+{
+    let n = p.count as usize;
+    let mut costs = [0u64; MAX_STREAMS];
+    let mut k: usize = 0;
+    while k < n {
+        let c = cost_without(p, k, listed[k]);
+        costs[k] = c;
+        k += 1;
+    }
+    costs
+}

@@ -1,0 +1,118 @@
+-- What is promised of meters worth a visit, of every file; and what the call answers, by what was found.
+use mathlib.Core.Path.{_≡_, refl, sym, _∙_, ap, subst}
+use mathlib.Core.Bool.{Bool, true, false, false≢true}
+use mathlib.Core.Logic.{_↔_, ⊎-elim}
+use mathlib.Core.List.{List}
+use lib.IntN.{ℤ}
+use Prim.Native.Nat.{ℕ, _≤_, _<_}
+use native.Mathlib.Omega.{arith}
+use lib.ListN.{length}
+use Rattle.numbers.proofs.Tests.{clash}
+use Rattle.plants.specs.declared.Read.{Read}
+use Rattle.plants.specs.Limits.{maxStreams}
+use Rattle.plants.specs.Plants.{Plant}
+use Rattle.plants.specs.Files.{Got, bad, got, readPlant}
+use Rattle.plants.specs.Within.{Within}
+use Rattle.plants.specs.Says.{plantOf, readOf}
+use Rattle.plants.proofs.Limited.{within}
+use Rattle.plants.proofs.Accepted.{accepted}
+use Rattle.plants.proofs.Arrayed.{read-held}
+use Rattle.flows.specs.declared.Class.{Class}
+use Rattle.flows.specs.declared.Class.the-variants.{Adjusted, AsRead, Given, Withheld}
+use Rattle.flows.specs.Flows.{streamAt, allowed}
+use Rattle.flows.specs.Classes.{classOf}
+use Rattle.flows.specs.Overfull.{Overfull}
+use Rattle.flows.proofs.Given.{class-means}
+use Rattle.flows.proofs.Chained.{adjusted-of}
+use Rattle.flows.proofs.Overfull.{overfull-none}
+use Rattle.model.proofs.Demand.{refusal-19}
+use Rattle.sheets.specs.Sentences.{EndsJoined}
+use Rattle.sheets.proofs.Promise.{read-bad, found}
+use Rattle.visit_def.specs.declared.Visits.{Visits}
+use Rattle.visit_def.specs.Visits.{without, isAdjusted, isListed, AllLeast, Ordered}
+use Rattle.visit_def.specs.Says.{noVisits, VisitsFor, VisitsWith, VisitsSays, Meters-worth-a-visit}
+use Rattle.visit_def.proofs.Unmetered.{feasible, sheet-without, not-above, one-cost}
+use Rattle.visit_def.proofs.Listing.{stands, in-order, one-list, ordered-by}
+use Rattle.visit_def.proofs.Placing.{count-few}
+
+-- One answer of a plant.
+same-for : (file : List ℕ) (p : Plant) → readPlant file ≡ got p → (r r′ : Visits) → VisitsFor p r → VisitsFor p r′ → r ≡ r′
+same-for file p e r r′ x y =
+    let w = within p (accepted file p e .0) in
+    ⊎-elim
+    (λ c.
+    let a = x .listed (c .0) (c .1 .balance) in
+    let b = y .listed (c .0) (c .1 .balance) in
+    one-list p (w .few-streams) (b .0) r r′
+    (ordered-by p (a .0) (b .0) (λ k l t. one-cost (without p k) (a .0 k) (b .0 k) (a .1 k l t) (b .1 k l t)) r (a .2)) (b .2))
+    (λ m. let n : (ys : List ℤ) → allowed p ys ≡ false = λ ys. overfull-none p w (m .0) (m .1) 1 ys (omega arith) in x .unbalanced n ∙ sym (y .unbalanced n))
+    (refusal-19 .either file p e)
+
+same-with : (file : List ℕ) (g : Got) → readPlant file ≡ g → (r r′ : Visits) → VisitsWith g r → VisitsWith g r′ → r ≡ r′
+same-with file (bad f) e r r′ x y = x ∙ sym y
+same-with file (got p) e r r′ x y = same-for file p e r r′ x y
+
+-- Which streams are listed, by chains.
+adjusted-alone : (c : Class) → isAdjusted c ≡ true → c ≡ Adjusted
+adjusted-alone Adjusted t = refl
+adjusted-alone AsRead t = absurd (false≢true t)
+adjusted-alone Given t = absurd (false≢true t)
+adjusted-alone Withheld t = absurd (false≢true t)
+
+which : (file : List ℕ) (p : Plant) → readPlant file ≡ got p → (k : ℕ) → k < length (p .streams)
+    → (isListed p k ≡ true) ↔ ((streamAt (p .streams) k .metered ≡ true) × (EndsJoined p k → ⊥))
+which file p e k l =
+    let w = within p (accepted file p e .0) in (
+      λ t. let a = adjusted-alone (classOf p k) t in let m = class-means p k Adjusted a .0 in (m, adjusted-of p w k m .0 a),
+      λ h. ap isAdjusted (adjusted-of p w k (h .0) .1 (h .1)),
+    )
+
+pub meters-worth-a-visit : Meters-worth-a-visit
+meters-worth-a-visit = record {
+  feasible = feasible;
+  some = sheet-without;
+  not-above = not-above;
+  which = which;
+  one = one-cost;
+  stands = λ p costs r few o i h. let s = stands p few costs r o i h in (s .0, s .1, s .2, s .4, s .5);
+  in-order = λ p costs r few o. in-order p few costs r o;
+  only = λ file. same-with file (readPlant file) refl;
+}
+
+-- By the plant: no flow in range, or the list.
+module _ (p : Plant) (w : Within p) (r : Visits) where
+  pub none-balanced : (ms : List Bool) → Overfull p ms → r ≡ noVisits 19 → VisitsFor p r
+  none-balanced ms m e = record {
+    unbalanced = λ n. e;
+    listed = λ ys t. clash (allowed p ys) t (overfull-none p w ms m 1 ys (omega arith));
+  }
+
+  pub all-listed : (xs : List ℤ) → allowed p xs ≡ true → (costs : ℕ → ℕ) → AllLeast p costs → Ordered p costs r → VisitsFor p r
+  all-listed xs t costs l o = record {
+    unbalanced = λ none. clash (allowed p xs) t (none xs);
+    listed = λ ys s. (costs, l, o);
+  }
+
+-- By the reading.
+module _ (file : List ℕ) (y : Read) (e : y ≡ readOf (readPlant file)) (r : Visits) where
+  pub unread : (y .number ≡ 0 → ⊥) → r ≡ noVisits (y .number) → VisitsSays file r
+  unread n q = subst (λ (g : Got). VisitsWith g r) (sym (read-bad (readPlant file) y e n)) q
+
+  pub answered : y .number ≡ 0 → VisitsFor (plantOf (y .plant)) r → VisitsSays file r
+  answered n b =
+      let q = found file y e n in
+      let same : plantOf (y .plant) ≡ q .0 = ap plantOf (q .2) ∙ read-held file (q .0) (q .1) in
+      subst (λ (g : Got). VisitsWith g r) (sym (q .1)) (subst (λ (p : Plant). VisitsFor p r) same b)
+
+-- A list fits its arrays.
+pub visits-fit : (file : List ℕ) (r : Visits) → VisitsSays file r → r .count ≤ maxStreams
+visits-fit file r x = go (readPlant file) refl x
+  where
+    go : (g : Got) → readPlant file ≡ g → VisitsWith g r → r .count ≤ maxStreams
+    go (bad f) e y = rw y (omega arith)
+    go (got p) e y =
+        let w = within p (accepted file p e .0) in
+        ⊎-elim
+        (λ c. let a = y .listed (c .0) (c .1 .balance) in omega (arith, a .2 .count, count-few (length (p .streams)) (isListed p), w .few-streams))
+        (λ m. rw (y .unbalanced (λ ys. overfull-none p w (m .0) (m .1) 1 ys (omega arith))) (omega arith))
+        (refusal-19 .either file p e)

@@ -1,0 +1,32 @@
+// The least cost of a plant that has a flow in range. No tie is sought: every flow of least cost has this one.
+use costs::cost_of;
+use entries::opened_flows;
+use flows::Which;
+use grouping::group;
+use improving::finishing::finish;
+use laying::lay;
+use plants::Plant;
+use starts::start;
+ghost use Rattle.plants.specs.Within.{Accepted};
+ghost use Rattle.plants.specs.Says.{plantOf};
+ghost use Rattle.visit_def.specs.Visits.{LeastCost, Feasible};
+
+// The least cost, as it is written on a sheet. (No set of places is overfull.)
+pub fn least_cost(p: Plant) -> u64
+    requires { ⌜ Accepted p × Feasible (plantOf p) ⌝ }
+    ensures { λ r. ⌜ LeastCost (plantOf p) r ⌝ }
+{
+    let labels = group(p, Which::Unmetered);
+    let begun = start(p, labels);
+    let streams = p.streams;
+    let count = p.count as usize;
+    let lanes = lay(streams, count);
+    let e = finish(streams, count, &lanes, begun);
+    if e.full {
+        return 0;
+    }
+    let st = e.state;
+    let held = st.flows;
+    let flows = opened_flows(held);
+    cost_of(p, flows)
+}

@@ -1,0 +1,2 @@
+-- Laws of meters worth a visit in slices.
+pub mod Lending

@@ -1,0 +1,51 @@
+-- By what was found.
+use native.Mathlib.Omega.{arith}
+use denote.Ref.{now}
+use mathlib.Core.Path.{refl}
+use Rattle.listings.proofs.Sizes.{put-counts}
+use Rattle.visit_def.proofs.Promise.{visits-fit}
+use Rattle.visit_text.proofs.Promise.{says-nothing, says-refused, says-lines}
+use borrow.Author.Needs.{needs}
+use Rattle.visit_text.proofs.list_visits.Statement.{statement}
+use Rattle.visit_text.proofs.list_visits.Tie as tie
+
+returns : tie.Need-returns
+returns c = (says-nothing (now (c .before .before .before .args .file)) (now (c .before .before .before .args .text)) (c .if1 .taken), (omega arith, refl))
+
+visits-of-requires : tie.Need-visits-of-requires
+visits-of-requires c κs = search needs
+
+put-refusal-requires : tie.Need-put-refusal-requires
+put-refusal-requires c κs = search needs
+
+same-length : tie.Need-same-length
+same-length c = search needs
+
+returns-2 : tie.Need-returns-2
+returns-2 c = let p = c .before .before .put-refusal .ensures in (says-refused (now (c .before .before .before .before .before .before .before .before .before .args .file)) (now (c .before .before .before .before .before .before .before .before .before .args .text)) (c .before .before .before .before .before .before .if1 .left) _ _ (c .before .before .before .before .before .visits-of .result) (c .before .before .before .before .before .visits-of .ensures) (c .before .before .before .before .if2 .taken) p, put-counts p)
+
+cast-put-lines : tie.Need-cast-put-lines
+cast-put-lines c = search needs
+
+put-lines-requires : tie.Need-put-lines-requires
+put-lines-requires c κs = (visits-fit (now (c .before .before .before .before .before .before .before .before .before .args .file)) (c .before .before .before .before .before .visits-of .result) (c .before .before .before .before .before .visits-of .ensures), c .before .before .before .before .before .before .if1 .left)
+
+same-length-2 : tie.Need-same-length-2
+same-length-2 c = search needs
+
+returns-3 : tie.Need-returns-3
+returns-3 c = let p = c .before .before .put-lines .ensures in (says-lines (now (c .before .before .before .before .before .before .before .before .before .before .before .before .args .file)) (now (c .before .before .before .before .before .before .before .before .before .before .before .before .args .text)) (c .before .before .before .before .before .before .before .before .before .if1 .left) _ _ (c .before .before .before .before .before .before .before .before .visits-of .result) (c .before .before .before .before .before .before .before .before .visits-of .ensures) (c .before .before .before .before .before .before .before .if2 .left) p, put-counts p)
+
+pub list-visits-spec : {M : Type 1} → statement M
+list-visits-spec =
+    tie.close
+    (tie.spec
+    returns
+    visits-of-requires
+    put-refusal-requires
+    same-length
+    returns-2
+    cast-put-lines
+    put-lines-requires
+    same-length-2
+    returns-3)

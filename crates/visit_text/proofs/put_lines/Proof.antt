@@ -1,0 +1,70 @@
+-- Line by line.
+use denote.Ref.{now}
+use Prim.Native.Nat.{_-_}
+use lib.ListN.{getD}
+use mir.Syntax.{w8, w64}
+use mir.Val.{Fits}
+use Rattle.numerals.proofs.Behind.{kept-length}
+use Rattle.visit_text.proofs.Lined.{Lined, no-lines, line-room, one-line, all-lines}
+use borrow.Author.Needs.{needs}
+use Rattle.visit_text.proofs.put_lines.Statement.{statement}
+use Rattle.visit_text.proofs.put_lines.Tie as tie
+
+abbrev Inv-loop : tie.InvT-loop
+Inv-loop count out₀ streams costs at₀ k₀ out at k = Lined streams costs count out₀ out at k
+
+abbrev μ-loop : tie.MeasureT-loop
+μ-loop count out₀ streams costs at₀ k₀ out at k = count - k
+
+loop-holds : tie.Need-loop-holds Inv-loop μ-loop
+loop-holds c = no-lines (c .before .args .t2) (c .before .args .t3) (c .before .args .count) (now (c .before .args .out)) (c .before .pre .0) (search needs, search needs) (c .before .pre .1)
+
+array-read-put-line : tie.Need-array-read-put-line Inv-loop μ-loop
+array-read-put-line c = search needs
+
+mul-put-line : tie.Need-mul-put-line Inv-loop μ-loop
+mul-put-line c = search needs
+
+array-read-put-line-2 : tie.Need-array-read-put-line-2 Inv-loop μ-loop
+array-read-put-line-2 c = search needs
+
+put-line-requires : tie.Need-put-line-requires Inv-loop μ-loop
+put-line-requires c κs =
+    let f : Fits w8 (getD (c .before .before .before .before .args .t2) (c .before .before .loop .k) 0) = search needs in
+    let g : Fits w64 (getD (c .before .before .before .before .args .t3) (c .before .before .loop .k) 0) = search needs in
+    line-room (c .before .before .loop .inv) (c .before .loop-test .taken) (f .fits) (g .fits)
+
+add-k : tie.Need-add-k Inv-loop μ-loop
+add-k c = search needs
+
+loop-less : tie.Need-loop-less Inv-loop μ-loop
+loop-less c = search needs
+
+loop-again : tie.Need-loop-again Inv-loop μ-loop
+loop-again c =
+    let f : Fits w8 (getD (c .before .before .before .before .before .before .before .args .t2) (c .before .before .before .before .before .loop .k) 0) = search needs in
+    let g : Fits w64 (getD (c .before .before .before .before .before .before .before .args .t3) (c .before .before .before .before .before .loop .k) 0) = search needs in
+    one-line (c .before .before .before .before .before .loop .inv) (c .before .before .before .before .loop-test .taken) (f .fits) (g .fits) (c .before .before .put-line .ensures)
+
+same-length : tie.Need-same-length Inv-loop μ-loop
+same-length c = kept-length (c .before .loop .inv .so-far)
+
+returns : tie.Need-returns Inv-loop μ-loop
+returns c = all-lines (c .before .loop .inv) (c .loop-test .left)
+
+pub put-lines-spec : {M : Type 1} → statement M
+put-lines-spec =
+    tie.close
+    (tie.spec
+    Inv-loop
+    μ-loop
+    loop-holds
+    array-read-put-line
+    mul-put-line
+    array-read-put-line-2
+    put-line-requires
+    add-k
+    loop-less
+    loop-again
+    same-length
+    returns)
