@@ -348,9 +348,13 @@ def check_stated():
     expect("listing", solver.listing(bytes.fromhex(LISTING_PLANT)), LISTING)
     sheet = b"".join((
         struct.pack(">Bq", 0x11, 99), b"\x14\x14", struct.pack(">Bq", 0x11, 99),
-        struct.pack(">BIQBB", 0x1F, 8, 20, 1, 0),
+        struct.pack(">BBIQBB", 0x1E, 5, 8, 20, 1, 0),
     ))
-    expect("sheet", solver.sheet_call(bytes.fromhex(LISTING_PLANT), 7, 879), (0, 35, 8, sheet))
+    lasts = (1, 2, 3, 4, 5, 7, 2**32 - 1, 0)
+    expect("sheet", solver.sheet_call(bytes.fromhex(LISTING_PLANT), 5, lasts, 880), (0, 36, lasts[:5] + (8,) + lasts[6:], sheet))
+    expect("kept", solver.read_sheet(sheet), solver.Kept("AWWA", (99, 0, 0, 99), 0x1E, 5, 8, 20, 1, 0))
+    plain = sheet[:20] + b"\x1F" + sheet[22:]
+    expect("plain", solver.read_sheet(plain), solver.Kept("AWWA", (99, 0, 0, 99), 0x1F, 0, 8, 20, 1, 0))
     return len(STATED)
 
 
@@ -358,9 +362,13 @@ def check_refused():
     for text, number in REFUSED:
         data = bytes.fromhex(text)
         for last in (0, 7, 2**32 - 2):
-            expect(text, solver.sheet_call(data, last, 879), (number, 0, last, b""))
-        expect(text, solver.sheet_call(data, 2**32 - 1, 879), (2, 0, 2**32 - 1, b""))
-        expect(text, solver.sheet_call(data, 2**32 - 1, 878), (1, 0, 2**32 - 1, b""))
+            lasts = (2**32 - 1,) * 3 + (last,) + (2**32 - 1,) * 4
+            expect(text, solver.sheet_call(data, 3, lasts, 880), (number, 0, lasts, b""))
+        lasts = (0,) * 3 + (2**32 - 1,) + (0,) * 4
+        expect(text, solver.sheet_call(data, 3, lasts, 880), (2, 0, lasts, b""))
+        expect(text, solver.sheet_call(data, 8, lasts, 880), (22, 0, lasts, b""))
+        expect(text, solver.sheet_call(data, 3, lasts, 879), (1, 0, lasts, b""))
+        expect(text, solver.sheet_call(data, 8, lasts, 879), (1, 0, lasts, b""))
         expect(text, solver.listing(data), f"refused {number}\n")
     return len(REFUSED)
 

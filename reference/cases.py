@@ -15,15 +15,16 @@ A file has its cases one after the other, with no gap. A case, numbers high byte
 
 then the bytes handed in, then those of the slice as they must be after the call. For each call:
 
-    1 SHEET     handed in: last sheet number, plant file; back: `written`, last sheet number, the sheet in the slice
+    1 SHEET     of office 0. Handed in: its last sheet number (the others' are 0), plant file; back: `written`, its last sheet
+                number, the sheet in the slice
     2 READER    handed in: plant file; back: units, how many streams, the 96 streams in a slice of 1,632 bytes
     3 WRITER    handed in: units (1), how many streams (1), 96 streams; back: `written`, the file in the slice
     4 UNHINTED  handed in: for each of 96 streams 1 where its flow is compared, else 0, then the plant file; back: the 96
                 flows in a slice of 768 bytes, 8 bytes each, two's complement, 0 where not compared; where no flow is in
                 range, 19 is returned and the slice is left alone
     5 LISTING   handed in: plant file; back: the text's length, the text in the slice
-    6 KEPT      handed in: sheet; back: how many streams, the sheet's number, and at the front of a slice of 874 bytes the cost
-                (8), degrees, verdict and an entry for each stream
+    6 KEPT      handed in: sheet; back: how many streams, the sheet's number, and at the front of a slice of 876 bytes the kind
+                of the total, the office, the cost (8), degrees, verdict and an entry for each stream
     7 TRANSLATOR  handed in: transmitter file; back: `written`, the plant file in the slice
     8 CLOSING   handed in: the 33 prices of the places as the solver holds them, 8 bytes each; back: the same after they
                 were closed up where one was below the floor, in a slice of 264 bytes
@@ -36,12 +37,15 @@ then the bytes handed in, then those of the slice as they must be after the call
     14 VISITS   handed in: plant file; back: how many streams are listed, and at the front of a slice of 864 bytes or more for each
                 of them, in the list's order, its number (1) and its cost (8)
     15 VISIT_TEXT  handed in: plant file; back: the text's length, the text of that list in the slice
+    16 OFFICES  the sheet call of any office. Handed in: the office (1), the eight last sheet numbers (4 each), then the plant
+                file; back: `written`; the last sheet numbers in the first 32 bytes of the slice, and the sheet in the part
+                behind them, which is the slice that the call is lent
 
 Where a call has no number or count, 0 stands. A stream is 17 bytes: 1 where it is metered and 2 where it has a range, added;
 from, to, weight (2); reading, low, high (4 each, two's complement). An entry is 9 bytes: the kind of the stream's record, its
 flow (8, two's complement; 0 for W).
 
-Calls 1 and 4 also mark places. Where 19 is the number returned, the program reads the plant from the bytes handed in and tests
+Calls 1, 4 and 16 also mark places. Where 19 is the number returned, the program reads the plant from the bytes handed in and tests
 the set: no place above the units, only ranged streams across its edge, the lows in summing to more than the highs out. Where it
 is another, no place may be marked. So no case tells a set.
 """
@@ -52,6 +56,8 @@ SHEET, READER, WRITER, UNHINTED, LISTING, KEPT, TRANSLATOR, CLOSING, FORTH, HOME
 BUYING = 11
 SURVEY, LAYOUTS = 12, 13
 VISITS, VISIT_TEXT = 14, 15
+OFFICES = 16
+LASTS = 32  # bytes of the eight last sheet numbers
 STREAMS = 96
 HEAD = 20
 ROOM = 2_560  # most bytes handed in, and of a slice
@@ -71,6 +77,10 @@ class Record(NamedTuple):
 
 def number(value, size):
     return value.to_bytes(size, "big", signed=value < 0)
+
+
+def lasts(numbers):
+    return b"".join(number(value, 4) for value in numbers)
 
 
 def stream(source, target, metered, weight, reading, ranged, low, high):

@@ -10,7 +10,7 @@ import solver
 import survey
 import transmitter
 import visits
-from solver import FILE_LENGTH, READING, SHEET_LENGTH, Stream
+from solver import FILE_LENGTH, READING, SHEET_LENGTH, Stream, offices_from
 
 TEXT_LENGTH = 2_544  # a slice of so many bytes holds every listing
 
@@ -58,7 +58,7 @@ class Draws:
 
 
 class Case(NamedTuple):
-    """A sheet call: plant file, last sheet number, slice length; the number meant to be returned, if said; the slice's bytes."""
+    """A sheet call of office 0, the others' last numbers being 0: plant file, its last sheet number, slice length; the number meant to be returned, if said; the slice's bytes."""
 
     file: bytes
     last: int = 0
@@ -67,9 +67,28 @@ class Case(NamedTuple):
     filling: int = 0xA5
 
     def record(self):
-        number, written, after, sheet = solver.sheet_call(self.file, self.last, self.slice_length)
+        number, written, after, sheet = solver.sheet_call(self.file, 0, offices_from(self.last), self.slice_length)
         return meant(self, cases.Record(
-            cases.SHEET, self.file, self.slice_length, sheet, self.filling, self.last, number, written, after,
+            cases.SHEET, self.file, self.slice_length, sheet, self.filling, self.last, number, written, after[0],
+        ))
+
+
+class Drawing(NamedTuple):
+    """A sheet call of any office: plant file, office, all last sheet numbers, length of the slice for the sheet."""
+
+    file: bytes
+    office: int
+    lasts: tuple
+    slice_length: int = SHEET_LENGTH
+    expected: int | None = None
+    filling: int = 0xA5
+
+    def record(self):
+        number, written, after, sheet = solver.sheet_call(self.file, self.office, self.lasts, self.slice_length)
+        given = bytes((self.office,)) + cases.lasts(self.lasts) + self.file
+        answer = cases.lasts(after) + sheet
+        return meant(self, cases.Record(
+            cases.OFFICES, given, cases.LASTS + self.slice_length, answer, self.filling, returned=number, count=written,
         ))
 
 
@@ -141,10 +160,10 @@ class Keeping(NamedTuple):
 
     def record(self):
         number, kept = solver.reopen_call(self.sheet)
-        answer = cases.number(kept.cost, 8) + bytes((kept.degrees, kept.verdict))
+        answer = bytes((kept.kind, kept.office)) + cases.number(kept.cost, 8) + bytes((kept.degrees, kept.verdict))
         answer += b"".join(bytes((solver.KIND[letter],)) + cases.number(flow, 8) for letter, flow in zip(kept.classes, kept.flows))
         return meant(self, cases.Record(
-            cases.KEPT, self.sheet, 874, answer, returned=number, count=len(kept.flows), number_back=kept.number,
+            cases.KEPT, self.sheet, 876, answer, returned=number, count=len(kept.flows), number_back=kept.number,
         ))
 
 

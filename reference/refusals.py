@@ -136,10 +136,10 @@ def calls():
             yield Case(file, LAST_SHEET, length, 2)
         for last in (0, 1, LAST_SHEET - 1):
             yield Case(file, last, SHEET_LENGTH, number)
-    for length in (879, 880, 881, 900, 999, 1_000):
+    for length in (880, 881, 882, 900, 999, 1_000):
         for last in (0, 1, 255, 256, 65_535, 2**31 - 1, 2**31, LAST_SHEET - 1):
             yield Case(LISTING if length % 2 else LONGEST, last, length, 0)
-    for length in (0, 1, 15, 27, 28, 35, 500, 867, 868, 869, 877, 878):
+    for length in (0, 1, 15, 27, 28, 35, 500, 867, 868, 869, 878, 879):
         yield Case(LISTING, draws.between(0, LAST_SHEET), length, 1)
     for last in (LAST_SHEET - 256, LAST_SHEET - 65_536, 2**24 - 1, 2**24, 4_278_190_079):
         yield Case(LISTING, last, SHEET_LENGTH, 0)

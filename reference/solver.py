@@ -17,7 +17,8 @@ WEIGHT = 1_000
 READING = 4_000_000
 RANGE = 2_000_000_000
 FILE_LENGTH = 1_636
-SHEET_LENGTH = 879
+SHEET_LENGTH = 880
+OFFICES = 8
 LAST_SHEET = 4_294_967_295
 MOST_COST = 18_446_744_073_709_551_615
 
@@ -25,7 +26,7 @@ SITE, METERED, UNMETERED, END, RANGED = 0x01, 0x02, 0x03, 0x04, 0x06
 BODY = {SITE: 1, METERED: 8, UNMETERED: 2, END: 1, RANGED: 16}
 
 KIND = {"A": 0x11, "R": 0x12, "G": 0x13, "W": 0x14}
-TOTAL = 0x1F
+TOTAL, PLAIN = 0x1E, 0x1F  # with the office that drew the sheet, and without
 PASS, FAIL, NONE, CLOSE = 0, 1, 2, 3
 
 # Chi-square, 95 per cent, in thousandths, degrees 1 to 32.
@@ -463,30 +464,38 @@ def verdict_of(degrees, cost, adjusted):
 # Sheet
 
 
-def sheet_bytes(result, number):
+def sheet_bytes(result, number, office=0):
     sheet = b""
     for letter, amount in zip(result.classes, result.numbers):
         sheet += bytes([KIND[letter]])
         if letter != "W":
             sheet += amount.to_bytes(8, "big", signed=True)
-    sheet += bytes([TOTAL]) + number.to_bytes(4, "big") + min(result.cost, MOST_COST).to_bytes(8, "big")
+    sheet += bytes([TOTAL, office]) + number.to_bytes(4, "big") + min(result.cost, MOST_COST).to_bytes(8, "big")
     return sheet + bytes([result.degrees, result.verdict])
 
 
-def sheet_call(data, last, slice_length):
-    """(returned number, written, last sheet number after, sheet bytes) of one call."""
+def offices_from(last):
+    """The last sheet numbers of the offices, where there was one number before."""
+    return (last,) + (0,) * (OFFICES - 1)
+
+
+def sheet_call(data, office, lasts, slice_length):
+    """(returned number, written, last sheet numbers after, sheet bytes) of one call by an office."""
     try:
         if slice_length < SHEET_LENGTH:
             raise Refused(1)
-        if last == LAST_SHEET:
+        if office >= OFFICES:
+            raise Refused(22)
+        if lasts[office] == LAST_SHEET:
             raise Refused(2)
         result = balance(read_plant(data))
     except Refused as refusal:
-        return refusal.number, 0, last, b""
+        return refusal.number, 0, lasts, b""
     except Overfull:
-        return 19, 0, last, b""
-    sheet = sheet_bytes(result, last + 1)
-    return 0, len(sheet), last + 1, sheet
+        return 19, 0, lasts, b""
+    number = lasts[office] + 1
+    sheet = sheet_bytes(result, number, office)
+    return 0, len(sheet), lasts[:office] + (number,) + lasts[office + 1 :], sheet
 
 
 # Kept sheets
@@ -497,6 +506,8 @@ class Kept(NamedTuple):
 
     classes: str = ""
     flows: tuple = ()
+    kind: int = 0
+    office: int = 0
     number: int = 0
     cost: int = 0
     degrees: int = 0
@@ -507,7 +518,7 @@ def read_sheet(data):
     """What a kept sheet shows, or Refused with 13 to 15."""
     letters = {kind: letter for letter, kind in KIND.items()}
     classes, flows, place = "", [], 0
-    while data[place : place + 1] != bytes((TOTAL,)):
+    while data[place : place + 1] not in (bytes((TOTAL,)), bytes((PLAIN,))):
         letter = letters.get(data[place]) if place < len(data) else None
         end = place + (1 if letter == "W" else 9)
         if letter is None or len(flows) == STREAMS or end > len(data):
@@ -515,16 +526,19 @@ def read_sheet(data):
         classes += letter
         flows.append(int.from_bytes(data[place + 1 : end], "big", signed=True))
         place = end
-    total = data[place + 1 :]
+    kind = data[place]
+    shown = 1 if kind == TOTAL else 0  # the office, which a plain total does not show
+    total = data[place + 1 + shown :]
     if len(total) < 14:
         raise Refused(13)
+    office = data[place + 1] if shown else 0
     number, cost = int.from_bytes(total[:4], "big"), int.from_bytes(total[4:12], "big")
     degrees, verdict = total[12:14]
-    if number == 0 or degrees > UNITS or verdict not in ((NONE,) if degrees == 0 else (PASS, FAIL, CLOSE)):
+    if office >= OFFICES or number == 0 or degrees > UNITS or verdict not in ((NONE,) if degrees == 0 else (PASS, FAIL, CLOSE)):
         raise Refused(14)
     if len(total) > 14:
         raise Refused(15)
-    return Kept(classes, tuple(flows), number, cost, degrees, verdict)
+    return Kept(classes, tuple(flows), kind, office, number, cost, degrees, verdict)
 
 
 def reopen_call(data):

@@ -7,6 +7,7 @@ import closings_to_try
 import files_to_try
 import layouts_to_try
 import moves_to_try
+import offices_to_try
 import plants_to_try
 import purchases_to_try
 import ranges_to_try
@@ -354,4 +355,5 @@ SUBJECTS = (
     ("layouts", layouts_to_try.texts),
     ("visits", visits_to_try.cases),
     ("visit_texts", visits_to_try.texts),
+    ("offices", offices_to_try.cases),
 )

@@ -1,8 +1,8 @@
-/* Balances the plant file that is named on the command line, under the sheet number after the last one given,
- * and prints the sheet: per stream its number, class letter, flow or '-'; then the total. A refusal prints its number;
- * 19 also prints the marked places.
+/* Balances the plant file that is named on the command line, for an office, 0 where none is given, under the sheet number after
+ * the last one that is given for it, and prints the sheet: per stream its number, class letter, flow or '-'; then the total. A
+ * refusal prints its number; 19 also prints the marked places.
  *
- *     balance_file FILE [LAST]
+ *     balance_file FILE [LAST [OFFICE]]
  *
  * Exit status: 0 a sheet, 1 a refusal, 2 the command line is wrong, the file cannot be read or the text not be written.
  */
@@ -17,13 +17,13 @@ static uint8_t print_sheet(const uint8_t *sheet, size_t written)
 {
     static const char classes[] = "ARGW";
     static const char *const verdicts[] = {"pass", "fail", "none", "close"};
-    uint8_t kinds[WENGELUDO_MAX_STREAMS], degrees, verdict;
+    uint8_t kinds[WENGELUDO_MAX_STREAMS], kind, office, degrees, verdict;
     int64_t flows[WENGELUDO_MAX_STREAMS];
     size_t count;
     uint32_t number;
     uint64_t cost;
     uint8_t refusal = wengeludo_read_sheet(sheet, written, kinds, WENGELUDO_MAX_STREAMS, flows, WENGELUDO_MAX_STREAMS,
-                                           &count, &number, &cost, &degrees, &verdict);
+                                           &count, &kind, &office, &number, &cost, &degrees, &verdict);
     if (refusal != WENGELUDO_DONE)
         return refusal;
     for (size_t k = 0; k < count; k++) {
@@ -56,21 +56,28 @@ static int done(const char *program, int status)
     return 2;
 }
 
+/* A word as a number of at most `most`; 0 where it is none. */
+static int read_number(const char *word, unsigned long most, unsigned long *number)
+{
+    char *end;
+    *number = strtoul(word, &end, 10);
+    return *word >= '0' && *word <= '9' && *end == '\0' && *number <= most;
+}
+
 int main(int count, char **words)
 {
-    if (count < 2 || count > 3) {
-        fprintf(stderr, "usage: %s FILE [LAST]\n", words[0]);
+    if (count < 2 || count > 4) {
+        fprintf(stderr, "usage: %s FILE [LAST [OFFICE]]\n", words[0]);
         return 2;
     }
-    uint32_t last = 0;
-    if (count == 3) {
-        char *end;
-        unsigned long value = strtoul(words[2], &end, 10);
-        if (*words[2] == '\0' || *end != '\0' || value > UINT32_MAX) {
-            fprintf(stderr, "%s: no sheet number: %s\n", words[0], words[2]);
-            return 2;
-        }
-        last = (uint32_t)value;
+    unsigned long last = 0, office = 0;
+    if (count > 2 && !read_number(words[2], UINT32_MAX, &last)) {
+        fprintf(stderr, "%s: no sheet number: %s\n", words[0], words[2]);
+        return 2;
+    }
+    if (count > 3 && !read_number(words[3], UINT8_MAX, &office)) {
+        fprintf(stderr, "%s: no office: %s\n", words[0], words[3]);
+        return 2;
     }
     FILE *in = fopen(words[1], "rb");
     if (in == NULL) {
@@ -87,9 +94,13 @@ int main(int count, char **words)
         return 2;
     }
     uint8_t sheet[WENGELUDO_SHEET_SIZE];
+    uint32_t lasts[WENGELUDO_OFFICES] = {0};
+    if (office < WENGELUDO_OFFICES)
+        lasts[office] = (uint32_t)last;
     size_t written;
     uint64_t marked;
-    uint8_t refusal = wengeludo_balance_plant(file, length, &last, sheet, sizeof sheet, &written, &marked);
+    uint8_t refusal = wengeludo_balance_plant(file, length, (uint8_t)office, lasts, WENGELUDO_OFFICES, sheet, sizeof sheet,
+                                              &written, &marked);
     if (refusal == WENGELUDO_DONE)
         refusal = print_sheet(sheet, written);
     if (refusal != WENGELUDO_DONE)

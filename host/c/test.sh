@@ -1,6 +1,6 @@
 #!/usr/bin/env bash
-# Runs balance_file, meters_to_buy, layouts_file and visits_file of target/host: the samples, a cut plant, the last sheet number, and
-# what cannot be read, written or understood.
+# Runs balance_file, meters_to_buy, layouts_file and visits_file of target/host: the samples, a cut plant, the last sheet number, the
+# offices, and what cannot be read, written or understood.
 set -eu
 cd "$(dirname "$0")/../.."
 program=target/host/balance_file
@@ -26,9 +26,15 @@ expect 0 "$(cat samples/far_off_site.expected)" samples/far_off_site.bin
 expect 1 "$(cat samples/overfull_site.expected)"$'\nmarked 2 3' samples/overfull_site.bin
 expect 0 $'1 A 99\n2 W -\n3 W -\n4 A 99\ntotal 4294967295 20 1 pass' "$listing" 4294967294
 expect 1 'refused 2' "$listing" 4294967295
+expect 0 $'1 A 99\n2 W -\n3 W -\n4 A 99\ntotal 8 20 1 pass' "$listing" 7 7
+expect 1 'refused 2' "$listing" 4294967295 3
+expect 1 'refused 22' "$listing" 4294967295 8
+expect 1 'refused 22' "$work/cut" 0 255
 expect 1 'refused 3' "$work/cut"
 expect 2 ''
-expect 2 '' "$listing" 0 0
+expect 2 '' "$listing" 0 0 0
+expect 2 '' "$listing" 0 256
+expect 2 '' "$listing" 0 x
 expect 2 '' "$listing" 4294967296
 expect 2 '' "$work/missing"
 expect 2 '' "$work"
@@ -55,7 +61,7 @@ expect 2 '' "$listing" 5 x
 expect 2 '' "$listing" 5 4294967296
 expect 2 '' "$work/missing" 5 3
 [ "$failed" = 0 ] || exit 1
-echo "balance_file: 16 runs as expected; meters_to_buy: 12"
+echo "balance_file: 22 runs as expected; meters_to_buy: 12"
 program=target/host/layouts_file
 [ -x "$program" ] || { echo "no $program: build it with 'bash host/c/build.sh'" >&2; exit 2; }
 printf '\001\001\004\000' >"$work/empty"

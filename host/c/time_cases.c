@@ -26,11 +26,11 @@ static double time_call(const uint8_t *file, size_t length) {
     static uint8_t sheet[1000];
     double least = 1e18;
     for (int i = 0; i < TIMES; i++) {
-        uint32_t last = 0;
+        uint32_t lasts[WENGELUDO_OFFICES] = {0};
         size_t written = 0;
         uint64_t marked = 0;
         double start = now_us();
-        wengeludo_balance_plant(file, length, &last, sheet, sizeof sheet, &written, &marked);
+        wengeludo_balance_plant(file, length, 0, lasts, WENGELUDO_OFFICES, sheet, sizeof sheet, &written, &marked);
         double took = now_us() - start;
         if (took < least) least = took;
     }

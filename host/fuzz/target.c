@@ -7,9 +7,10 @@
  * Each combination of degrees and verdict, and each class beside each number of streams, counts as new as well. Three of
  * four changed inputs are repaired to a plant within its limits, so that the search gets past the reader.
  *
- * An input: 1 byte that chooses the slice's length, 1 byte that chooses the last sheet number, then a plant file; or, the
- * second byte being 249, parts for the writer: units, count (2), which slice is cut (1) and where (1), then 18 bytes for each
- * stream: from, to, metered, weight (2), reading (4), ranged, low (4), high (4); or, the second byte being 248, a kept sheet;
+ * An input: 1 byte that chooses the slice's length and the office, 1 byte that chooses the last sheet number and how many of them
+ * are lent, then a plant file; or, the second byte being 249, parts for the writer: units, count (2), which slice is cut (1) and
+ * where (1), then 18 bytes for each stream: from, to, metered, weight (2), reading (4), ranged, low (4), high (4); or, the second
+ * byte being 248, a kept sheet;
  * or, the second byte being 247, a transmitter file; or, the second byte being 246, a plant file to be moved both ways; or, the
  * second byte being 245, a plant file for meters to buy, the first byte choosing prices and slice; or, the second byte being 244, a
  * plant file for meters worth a visit, the first byte choosing the slices. Each sheet that is drawn is read back in as well.
@@ -75,7 +76,7 @@ static uint8_t *area(void)
     return memory + AREA;
 }
 
-static uint8_t *file_end, *out_end, *again_end, *kinds_end, *flows_end;
+static uint8_t *file_end, *out_end, *again_end, *kinds_end, *flows_end, *lasts_end;
 
 /* How much of the archive ran; the blocks that did not, by address. */
 static void summary(void)
@@ -98,6 +99,7 @@ int LLVMFuzzerInitialize(int *count, char ***words)
     again_end = area();
     kinds_end = area();
     flows_end = area();
+    lasts_end = area();
     FILE *list = fopen(BLOCKS, "r");
     if (list == NULL)
         fail("no " BLOCKS ": build with host/fuzz/build.sh");
@@ -132,24 +134,58 @@ static uint64_t field(const uint8_t *at, int bytes)
 
 static uint8_t fill(size_t i, int round) { return (uint8_t)(i * 31 + (round ? 7 : 200)); }
 
-struct outcome { uint8_t returned; uint32_t last; size_t written; uint64_t marked; };
+/* The office that calls, its last sheet number, and how many last numbers are lent. */
+struct caller { uint8_t office; uint32_t last; size_t lent; };
 
-/* A sheet call on a slice between a guard and a page; checks what must stay as it was. */
-static struct outcome sheet_call(const uint8_t *file, size_t size, uint32_t last, size_t length, uint8_t *end, int round)
+static const struct caller first_call = {.office = 0, .last = 0, .lent = WENGELUDO_OFFICES};
+
+struct outcome { uint8_t returned; size_t written; uint64_t marked; };
+
+/* The refusal of the call itself, as the header states it; 0 where it has none. */
+static uint8_t call_fault(struct caller c, size_t length)
+{
+    if (c.lent < WENGELUDO_OFFICES || length < WENGELUDO_SHEET_SIZE)
+        return WENGELUDO_SLICE_TOO_SHORT;
+    if (c.office >= WENGELUDO_OFFICES)
+        return WENGELUDO_NO_OFFICE;
+    return c.last == UINT32_MAX ? WENGELUDO_NO_SHEET_NUMBER : WENGELUDO_DONE;
+}
+
+/* The last number of office k before the call: of every other office none is left, or some. */
+static uint32_t last_before(struct caller c, size_t k, int round)
+{
+    return k == c.office ? c.last : round ? UINT32_MAX : (uint32_t)(1000 * k);
+}
+
+/* A sheet call on slices between a guard and a page; checks what must stay as it was. */
+static struct outcome sheet_call(const uint8_t *file, size_t size, struct caller c, size_t length, uint8_t *end, int round)
 {
     uint8_t *slice = end - length;
     for (size_t i = 0; i < length + GUARD; i++)
         slice[-GUARD + (ptrdiff_t)i] = fill(i, round);
-    struct outcome o = {.last = last, .written = round ? 12345 : SIZE_MAX, .marked = round ? 0 : UINT64_MAX};
-    o.returned = wengeludo_balance_plant(file, size, &o.last, slice, length, &o.written, &o.marked);
-    if (o.returned > 12 && o.returned != WENGELUDO_RANGE && o.returned != WENGELUDO_NO_FLOW)
-        fail("a number that is no refusal");
+    uint32_t *lasts = (uint32_t *)(void *)lasts_end - c.lent;
+    for (size_t k = 0; k < c.lent; k++)
+        lasts[k] = last_before(c, k, round);
+    memset(lasts - GUARD, 0x3C, GUARD * sizeof *lasts);
+    struct outcome o = {.written = round ? 12345 : SIZE_MAX, .marked = round ? 0 : UINT64_MAX};
+    o.returned = wengeludo_balance_plant(file, size, c.office, lasts, c.lent, slice, length, &o.written, &o.marked);
+    uint8_t fault = call_fault(c, length);
+    if (fault != 0 ? o.returned != fault
+                   : o.returned == 1 || o.returned == 2 || (o.returned > 12 && o.returned != WENGELUDO_RANGE && o.returned != WENGELUDO_NO_FLOW))
+        fail("a number that is no refusal, or another one");
     if (o.returned != WENGELUDO_NO_FLOW && o.marked != 0)
         fail("a call that marks places");
-    if (o.returned != 0 && (o.written != 0 || o.last != last))
-        fail("a refusal counts, or changes the counter");
-    if (o.returned == 0 && (o.last != last + 1 || o.written < 15 || o.written > WENGELUDO_SHEET_SIZE))
-        fail("a sheet with a wrong count or counter");
+    if (o.returned != 0 && o.written != 0)
+        fail("a refusal counts");
+    if (o.returned == 0 && (o.written < 16 || o.written > WENGELUDO_SHEET_SIZE || slice[o.written - 16] != WENGELUDO_TOTAL
+                            || slice[o.written - 15] != c.office || field(slice + o.written - 14, 4) != (uint64_t)c.last + 1))
+        fail("a sheet with a wrong count, office or number");
+    for (size_t k = 0; k < c.lent; k++)
+        if (lasts[k] != last_before(c, k, round) + (o.returned == 0 && k == c.office))
+            fail("a wrong last number");
+    for (size_t i = 1; i <= GUARD; i++)
+        if (lasts[-(ptrdiff_t)i] != 0x3C3C3C3C)
+            fail("a number before the last numbers changed");
     for (size_t i = 0; i < GUARD; i++)
         if (slice[-GUARD + (ptrdiff_t)i] != fill(i, round))
             fail("a byte before the slice changed");
@@ -165,17 +201,20 @@ static uint8_t sheet_fault(const uint8_t *sheet, size_t size, size_t room)
     size_t at = 0, streams = 0;
     if (room < WENGELUDO_MAX_STREAMS)
         return 1;
-    while (at < size && sheet[at] != WENGELUDO_TOTAL) {
+    while (at < size && sheet[at] != WENGELUDO_TOTAL && sheet[at] != WENGELUDO_PLAIN) {
         if (sheet[at] < WENGELUDO_ADJUSTED || sheet[at] > WENGELUDO_WITHHELD || streams++ == WENGELUDO_MAX_STREAMS)
             return 13;
         at += sheet[at] == WENGELUDO_WITHHELD ? 1 : 9;
     }
-    if (at + 15 > size)
+    size_t end = at + (at < size && sheet[at] == WENGELUDO_TOTAL ? 16 : 15);
+    if (end > size)
         return 13;
-    uint8_t degrees = sheet[at + 13], verdict = sheet[at + 14];
-    if (field(sheet + at + 1, 4) == 0 || degrees > 32 || (degrees == 0 ? verdict != 2 : verdict == 2 || verdict > 3))
+    uint8_t degrees = sheet[end - 2], verdict = sheet[end - 1];
+    if (sheet[at] == WENGELUDO_TOTAL && sheet[at + 1] >= WENGELUDO_OFFICES)
         return 14;
-    return at + 15 == size ? 0 : 15;
+    if (field(sheet + end - 14, 4) == 0 || degrees > 32 || (degrees == 0 ? verdict != 2 : verdict == 2 || verdict > 3))
+        return 14;
+    return end == size ? 0 : 15;
 }
 
 /* A sheet read back in, `room` elements being lent: the number returned, what stays as it was, and that the parts, written
@@ -193,11 +232,12 @@ static void read_back(const uint8_t *sheet, size_t size, size_t room)
     size_t count = SIZE_MAX;
     uint32_t number = 1;
     uint64_t cost = 1;
-    uint8_t degrees = 1, verdict = 1;
-    uint8_t returned = wengeludo_read_sheet(sheet, size, kinds, room, flows, room, &count, &number, &cost, &degrees, &verdict);
+    uint8_t kind = 1, office = 1, degrees = 1, verdict = 1;
+    uint8_t returned = wengeludo_read_sheet(sheet, size, kinds, room, flows, room, &count, &kind, &office, &number, &cost, &degrees,
+                                            &verdict);
     if (returned != sheet_fault(sheet, size, room))
         fail("the sheet reader returns another number");
-    if (returned != 0 && (count != 0 || number != 0 || cost != 0 || degrees != 0 || verdict != 0))
+    if (returned != 0 && (count != 0 || kind != 0 || office != 0 || number != 0 || cost != 0 || degrees != 0 || verdict != 0))
         fail("a refused sheet hands something over");
     if (count > WENGELUDO_MAX_STREAMS)
         fail("more streams than there may be");
@@ -218,7 +258,11 @@ static void read_back(const uint8_t *sheet, size_t size, size_t room)
         if (kinds[k] == WENGELUDO_WITHHELD && flows[k] != 0)
             fail("a blank with a flow");
     }
-    again[length++] = WENGELUDO_TOTAL;
+    again[length++] = kind;
+    if (kind == WENGELUDO_TOTAL)
+        again[length++] = office;
+    else if (office != 0)
+        fail("a plain total with an office");
     for (int shift = 24; shift >= 0; shift -= 8)
         again[length++] = (uint8_t)(number >> shift);
     for (int shift = 56; shift >= 0; shift -= 8)
@@ -354,9 +398,9 @@ static void sheet_fits(uint8_t units, const struct parts *p, size_t count, const
         if (!blank[place] && net[place] != 0)
             fail("a place does not balance");
     uint64_t capped = cost > UINT64_MAX ? UINT64_MAX : (uint64_t)cost;
-    if (at + 15 != written || sheet[at] != 0x1F || field(sheet + at + 5, 8) != capped)
+    if (at + 16 != written || sheet[at] != WENGELUDO_TOTAL || field(sheet + at + 6, 8) != capped)
         fail("a wrong total");
-    uint8_t degrees = sheet[at + 13], verdict = sheet[at + 14];
+    uint8_t degrees = sheet[at + 14], verdict = sheet[at + 15];
     if (degrees > 32 || verdict != verdict_of(degrees, cost, weights))
         fail("a wrong verdict");
     /* Verdict 2 comes at degrees 0 alone, and there comes no other: elsewhere its counter is that of 3. */
@@ -451,7 +495,7 @@ static void write_parts(const uint8_t *data, size_t size, size_t length)
         if ((i < GUARD || i >= GUARD + written) && out[-GUARD + (ptrdiff_t)i] != fill(i, 0))
             fail("the writer changes a byte that is not its own");
     if (returned == 0) {
-        struct outcome o = sheet_call(out, written, 0, WENGELUDO_SHEET_SIZE, again_end, 0);
+        struct outcome o = sheet_call(out, written, first_call, WENGELUDO_SHEET_SIZE, again_end, 0);
         if (o.returned != 0 && o.returned != WENGELUDO_NO_FLOW)
             fail("the sheet call refuses a file of the writer");
     }
@@ -556,7 +600,7 @@ static void translate(const uint8_t *data, size_t size, size_t length)
     if (memcmp(file, data, size) != 0)
         fail("the transmitter file changed");
     counters[OF_SHEETS + 640 + returned] = 1;
-    if (returned == 0 && sheet_call(out, written, 0, WENGELUDO_SHEET_SIZE, again_end, 0).returned != 0)
+    if (returned == 0 && sheet_call(out, written, first_call, WENGELUDO_SHEET_SIZE, again_end, 0).returned != 0)
         fail("the sheet call refuses a file of the translator");
 }
 
@@ -613,7 +657,7 @@ static void buy(const uint8_t *data, size_t size, uint8_t choice)
     uint32_t price[112], prices[113], total = UINT32_MAX, top = choice % 4 == 0 ? 1000000 : 1u + choice % 4;
     struct parts p;
     memcpy(file, data, size);
-    uint8_t fault = sheet_call(file, size, 0, WENGELUDO_SHEET_SIZE, again_end, 0).returned;
+    uint8_t fault = sheet_call(file, size, first_call, WENGELUDO_SHEET_SIZE, again_end, 0).returned;
     if (fault == 0 || fault == WENGELUDO_NO_FLOW) {
         fault = choice % 16 == 9 || choice % 16 == 10 ? WENGELUDO_PRICES : 0;
         count = listed(file, &p);
@@ -674,7 +718,7 @@ static void survey(const uint8_t *file, size_t size, uint8_t sheet_number)
         counts[k] = before[k] = fill(k, (int)(size & 1));
     size_t count = 99;
     uint8_t returned = wengeludo_layouts_of(file, size, counts + 1, WENGELUDO_SURVEY_SIZE, &count);
-    if (sheet_number == WENGELUDO_SLICE_TOO_SHORT || sheet_number == WENGELUDO_NO_SHEET_NUMBER)
+    if (sheet_number == WENGELUDO_SLICE_TOO_SHORT || sheet_number == WENGELUDO_NO_SHEET_NUMBER || sheet_number == WENGELUDO_NO_OFFICE)
         sheet_number = returned == WENGELUDO_TOO_MANY_TO_SURVEY ? 0 : returned;
     int taken = sheet_number == 0 || sheet_number == WENGELUDO_NO_FLOW;
     uint8_t due = !taken ? sheet_number : file[size - 1] > WENGELUDO_MAX_SURVEYED ? WENGELUDO_TOO_MANY_TO_SURVEY : 0;
@@ -709,7 +753,7 @@ static uint64_t cost_without(const uint8_t *file, size_t size, size_t k)
 {
     static uint8_t less[WENGELUDO_FILE_SIZE], sheet[WENGELUDO_SHEET_SIZE];
     size_t at = 2, written;
-    uint32_t last = 0;
+    uint32_t lasts[WENGELUDO_OFFICES] = {0};
     uint64_t marked;
     for (size_t i = 0; i < k; i++)
         at += body(file[at]);
@@ -717,7 +761,7 @@ static uint64_t cost_without(const uint8_t *file, size_t size, size_t k)
     memcpy(less, file, at + 3);
     less[at] = 3;
     memcpy(less + at + 3, file + rest, size - rest);
-    if (wengeludo_balance_plant(less, at + 3 + size - rest, &last, sheet, sizeof sheet, &written, &marked) != 0)
+    if (wengeludo_balance_plant(less, at + 3 + size - rest, 0, lasts, WENGELUDO_OFFICES, sheet, sizeof sheet, &written, &marked) != 0)
         fail("no sheet without a meter");
     return cost_on(sheet, written);
 }
@@ -759,7 +803,7 @@ static void visit(const uint8_t *data, size_t size, uint8_t choice)
     uint8_t *file = file_end - size, *streams = kinds_end - numbers, *sheet = again_end - WENGELUDO_SHEET_SIZE;
     uint64_t *costs = (uint64_t *)(void *)flows_end - words;
     memcpy(file, data, size);
-    struct outcome o = sheet_call(file, size, 0, WENGELUDO_SHEET_SIZE, again_end, 0);
+    struct outcome o = sheet_call(file, size, first_call, WENGELUDO_SHEET_SIZE, again_end, 0);
     for (size_t i = 0; i < numbers + GUARD; i++)
         streams[-GUARD + (ptrdiff_t)i] = fill(i, 0);
     for (size_t i = 0; i < words + GUARD; i++)
@@ -835,10 +879,11 @@ static void move_both(const uint8_t *data, size_t size, size_t length)
     static uint8_t there[WENGELUDO_FILE_SIZE], home[WENGELUDO_FILE_SIZE], sheet[2][WENGELUDO_SHEET_SIZE];
     uint8_t *file = file_end - size;
     memcpy(file, data, size);
-    uint32_t last[2] = {0, 0};
+    uint32_t lasts[2][WENGELUDO_OFFICES] = {{0}, {0}};
     size_t written[2];
     uint64_t marked[2];
-    uint8_t returned = wengeludo_balance_plant(file, size, &last[0], sheet[0], sizeof sheet[0], &written[0], &marked[0]);
+    uint8_t returned =
+        wengeludo_balance_plant(file, size, 0, lasts[0], WENGELUDO_OFFICES, sheet[0], sizeof sheet[0], &written[0], &marked[0]);
     uint8_t reads = returned == WENGELUDO_NO_FLOW ? 0 : returned;
     size_t forth = move(file, size, length, reads, 1, there);
     move(file, size, length, reads, 0, home);
@@ -851,8 +896,10 @@ static void move_both(const uint8_t *data, size_t size, size_t length)
             return;
     if (move(there, forth, WENGELUDO_FILE_SIZE, 0, 0, home) != size || memcmp(home, file, size) != 0)
         fail("the trip changed the file");
-    if (wengeludo_balance_plant(there, forth, &last[1], sheet[1], sizeof sheet[1], &written[1], &marked[1]) != returned
-        || written[0] != written[1] || last[0] != last[1] || marked[0] != marked[1] || memcmp(sheet[0], sheet[1], written[0]) != 0)
+    if (wengeludo_balance_plant(there, forth, 0, lasts[1], WENGELUDO_OFFICES, sheet[1], sizeof sheet[1], &written[1], &marked[1])
+            != returned
+        || written[0] != written[1] || memcmp(lasts[0], lasts[1], sizeof lasts[0]) != 0 || marked[0] != marked[1]
+        || memcmp(sheet[0], sheet[1], written[0]) != 0)
         fail("another sheet in the ranged form");
 }
 
@@ -988,13 +1035,17 @@ int LLVMFuzzerTestOneInput(const uint8_t *data, size_t size)
         return 0;
     }
     size_t length = slice_length(data[0], WENGELUDO_SHEET_SIZE);
-    uint32_t last = data[1] < 250 ? data[1] : UINT32_MAX - (255 - data[1]);
+    struct caller caller = {
+        .office = data[0] % 9,
+        .last = data[1] < 250 ? data[1] : UINT32_MAX - (255 - data[1]),
+        .lent = data[1] == 200 ? data[0] % WENGELUDO_OFFICES : WENGELUDO_OFFICES + (data[1] % 4 == 3 ? data[1] % 3u : 0),
+    };
     size -= 2;
     uint8_t *file = file_end - size;
     memcpy(file, data + 2, size);
-    struct outcome a = sheet_call(file, size, last, length, out_end, 0);
-    struct outcome b = sheet_call(file, size, last, length, again_end, 1);
-    if (a.returned != b.returned || a.written != b.written || a.last != b.last || a.marked != b.marked)
+    struct outcome a = sheet_call(file, size, caller, length, out_end, 0);
+    struct outcome b = sheet_call(file, size, caller, length, again_end, 1);
+    if (a.returned != b.returned || a.written != b.written || a.marked != b.marked)
         fail("two calls differ");
     if (memcmp(out_end - length, again_end - length, a.written) != 0)
         fail("two sheets differ");

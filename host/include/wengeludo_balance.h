@@ -12,7 +12,8 @@
  *
  * What each call does is proved against the definitions in crates/sheets/specs, crates/plants/specs,
  * crates/transmitters/specs, crates/moves/specs, crates/purchases/specs, crates/surveys/specs and crates/visit_def/specs:
- * result, counts and every byte of a slice follow from what is handed in.
+ * result, counts and every byte of a slice follow from what is handed in. What comes of the offices' sheet
+ * numbers over any calls is proved in crates/office_history.
  */
 #ifndef WENGELUDO_BALANCE_H
 #define WENGELUDO_BALANCE_H
@@ -25,8 +26,11 @@ extern "C" {
 #endif
 
 /* The least sheet slice and the least slice for a plant file; the longest plant file. */
-#define WENGELUDO_SHEET_SIZE 879
+#define WENGELUDO_SHEET_SIZE 880
 #define WENGELUDO_FILE_SIZE 1636
+
+/* The offices that draw sheets, 0 to 7; the least slice of last sheet numbers. */
+#define WENGELUDO_OFFICES 8
 
 /* The longest transmitter file. */
 #define WENGELUDO_TRANSMITTER_SIZE 1444
@@ -48,10 +52,10 @@ extern "C" {
 /* What the calls return: 0, or the number of a refusal. */
 enum {
     WENGELUDO_DONE = 0,
-    WENGELUDO_SLICE_TOO_SHORT = 1,    /* sheet slice under 879 bytes; writer, translator and moves: under 1,636; a slice of the
-                                         sheet reader, for meters to buy or worth a visit under 96 elements; of the survey
-                                         under 13 */
-    WENGELUDO_NO_SHEET_NUMBER = 2,    /* last sheet number is 4,294,967,295 */
+    WENGELUDO_SLICE_TOO_SHORT = 1,    /* sheet slice under 880 bytes, or fewer than 8 last sheet numbers; writer, translator and
+                                         moves: under 1,636; a slice of the sheet reader, for meters to buy or worth a visit
+                                         under 96 elements; of the survey under 13 */
+    WENGELUDO_NO_SHEET_NUMBER = 2,    /* the calling office's last sheet number is 4,294,967,295 */
     WENGELUDO_FILE_ENDS = 3,          /* bytes end where a record is due or inside a body */
     WENGELUDO_KIND = 4,               /* kind not allowed at this place */
     WENGELUDO_TOO_MANY_STREAMS = 5,   /* a 97th stream; for the writer, a stream count over 96 */
@@ -63,7 +67,8 @@ enum {
     WENGELUDO_END_COUNT = 11,         /* end count differs from the streams read */
     WENGELUDO_AFTER_END = 12,         /* bytes after the end record */
     WENGELUDO_SHEET_RECORD = 13,      /* in a sheet, a record is missing, cut short, a 97th or of a wrong kind */
-    WENGELUDO_SHEET_TOTAL = 14,       /* in a sheet, sheet number 0, degrees over 32, or a verdict that does not fit */
+    WENGELUDO_SHEET_TOTAL = 14,       /* in a sheet, an office over 7, sheet number 0, degrees over 32, or a verdict that does not
+                                         fit */
     WENGELUDO_AFTER_TOTAL = 15,       /* in a sheet, bytes after the total */
     WENGELUDO_VALUE = 16,             /* a transmitter's value is not finite */
     WENGELUDO_DEVIATION = 17,         /* a transmitter's deviation is no finite number above 0 */
@@ -71,6 +76,7 @@ enum {
     WENGELUDO_NO_FLOW = 19,           /* no balanced flow lies within all ranges */
     WENGELUDO_NARROWER = 20,          /* moving home, a range is narrower than -2,000,000,000 to 2,000,000,000 */
     WENGELUDO_PRICES = 21,            /* prices are not one for each unmetered stream, or one is 0 or over 1,000,000 */
+    WENGELUDO_NO_OFFICE = 22,         /* the office is above 7 */
     WENGELUDO_TOO_MANY_TO_SURVEY = 23 /* more streams than the 12 of which layouts are surveyed */
 };
 
@@ -80,7 +86,8 @@ enum {
     WENGELUDO_AS_READ = 0x12,  /* the same */
     WENGELUDO_GIVEN = 0x13,    /* the same */
     WENGELUDO_WITHHELD = 0x14, /* no body */
-    WENGELUDO_TOTAL = 0x1F     /* sheet number (4), cost (8), degrees (1), verdict (1) */
+    WENGELUDO_TOTAL = 0x1E,    /* office (1), sheet number (4), cost (8), degrees (1), verdict (1) */
+    WENGELUDO_PLAIN = 0x1F     /* the same without the office, on sheets drawn before there were offices; none is drawn any more */
 };
 
 /* The verdicts of a sheet's total. */
@@ -91,26 +98,31 @@ enum {
     WENGELUDO_CLOSE = 3 /* it is above it by at most that: rounding to whole kilograms alone may have taken it there */
 };
 
-/* The sheet call: balances a plant file and writes its sheet.
+/* The sheet call: balances a plant file and writes its sheet, drawn for an office under its next number.
  *
- * Reads   the file's file_length bytes, and *last, the last sheet number used (0 before the first sheet).
- * Returns 0, or one of 1 to 12, 18 or 19. The order: 1, 2, then the file's records one after the other (18 after 10),
- *         then 19.
+ * Reads   the file's file_length bytes, the office, 0 to 7, and the first eight of `lasts`: lasts[k] is the last sheet number
+ *         that office k used, 0 before its first sheet. (Who had one last number before there were offices hands it over as
+ *         that of office 0, with seven zeros: uint32_t lasts[WENGELUDO_OFFICES] = {last}.)
+ * Returns 0, or one of 1 to 12, 18, 19 or 22. The order: 1, 22, 2, then the file's records one after the other (18 after
+ *         10), then 19. 2 looks at the calling office's number alone.
+ *         1:  `sheet` has fewer than 880 bytes, or `lasts` fewer than eight numbers.
  * Writes, where it returns 0:
- *         the sheet at the front of `sheet` (at most 879 bytes: a record for each stream in file order, then
+ *         the sheet at the front of `sheet` (at most 880 bytes: a record for each stream in file order, then
  *         the total); the bytes of the slice past the total keep their values;
- *         *written: how many bytes the sheet has; *last: one higher, the number on this sheet; *marked: 0.
+ *         *written: how many bytes the sheet has; lasts[office]: one higher, the number on this sheet; *marked: 0.
  * Writes, where it returns another number:
  *         *written: 0; *marked: 0, or where it returns 19 the marked places, bit u for place u. Nothing else: all bytes
- *         of `sheet` and *last are as they were.
- * What *written and *marked were before the call makes no difference.
+ *         of `sheet` and all numbers of `lasts` are as they were.
+ * No call alters another office's last number, nor any number past the eighth. What *written and *marked were before the call
+ * makes no difference.
  *
  * The marked places must take in more than they can let out: every stream across their edge has a range, and the lows
  * of those in sum to more than the highs of those out. Any such places will do; the choice is the call's. Place 0, the
  * outside, may be among them; no place above n is. A cost above 18,446,744,073,709,551,615 is written as that number.
  */
 uint8_t wengeludo_balance_plant(const uint8_t *file, size_t file_length,
-                                uint32_t *last,
+                                uint8_t office,
+                                uint32_t *lasts, size_t lasts_length,
                                 uint8_t *sheet, size_t sheet_length,
                                 size_t *written, uint64_t *marked);
 
@@ -151,23 +163,25 @@ uint8_t wengeludo_write_plant(uint8_t units, size_t count,
  *         1:  `kinds` or `flows` has fewer than 96 elements, however many streams the sheet lists.
  *         13: a record is missing, cut short, a 97th stream or of a wrong kind. A total that is cut is 13, whatever the
  *             fields hold that are there.
- *         14: the sheet number is 0, the degrees are above 32, or the verdict is not 2 at degrees 0, or not 0, 1 or 3
- *             at more degrees. The cost is free, and nothing is compared with the streams.
+ *         14: the office is above 7, the sheet number is 0, the degrees are above 32, or the verdict is not 2 at degrees 0,
+ *             or not 0, 1 or 3 at more degrees. The cost is free, and nothing is compared with the streams.
  *         15: bytes follow the total.
  * Writes, where it returns 0:
  *         at index k - 1 of `kinds` the kind of stream k's record (0x11 A, 0x12 R, 0x13 G, 0x14 W), at the same index of
  *         `flows` its flow, 0 for W; the elements past the last stream keep their values;
- *         *count: how many streams there are; *sheet, *cost, *degrees, *verdict: the total.
+ *         *count: how many streams there are; *kind: the kind of the total, 0x1E, or 0x1F on sheets drawn before there were
+ *         offices; *office: the office that drew the sheet, 0 for 0x1F; *sheet, *cost, *degrees, *verdict: the rest of the total.
  * Writes, where it returns another number:
- *         0 to *count, *sheet, *cost, *degrees and *verdict, and nothing else. All elements of `kinds` and `flows` are
- *         as they were.
- * What the five numbers were before the call makes no difference. A sheet of the sheet call is always read, and gives
+ *         0 to *count, *kind, *office, *sheet, *cost, *degrees and *verdict, and nothing else. All elements of `kinds` and
+ *         `flows` are as they were.
+ * What the seven numbers were before the call makes no difference. A sheet of the sheet call is always read, and gives
  * what was written.
  */
 uint8_t wengeludo_read_sheet(const uint8_t *bytes, size_t bytes_length,
                              uint8_t *kinds, size_t kinds_length,
                              int64_t *flows, size_t flows_length,
-                             size_t *count, uint32_t *sheet, uint64_t *cost,
+                             size_t *count, uint8_t *kind, uint8_t *office,
+                             uint32_t *sheet, uint64_t *cost,
                              uint8_t *degrees, uint8_t *verdict);
 
 /* The kinds of record of a transmitter file, beside the site (0x01) and the end (0x04) of a plant file. */

@@ -30,17 +30,19 @@ fn put_entries(count: usize, streams: [Entry; MAX_STREAMS], out: &mut [u8])
 }
 
 fn put_total(total: Total, out: &mut [u8])
-    requires { ⌜ 10 ≤ length (now out) ⌝ }
+    requires { ⌜ 12 ≤ length (now out) ⌝ }
 {
-    numbers::put_u64(total.cost, out);
-    out[8] = total.degrees;
-    out[9] = total.verdict;
+    numbers::put_u8(total.kind, out);
+    numbers::put_u8(total.office, &mut out[1..]);
+    numbers::put_u64(total.cost, &mut out[2..]);
+    numbers::put_u8(total.degrees, &mut out[10..]);
+    numbers::put_u8(total.verdict, &mut out[11..]);
 }
 
-// The sheet reader: handed in the sheet; the count is how many streams, the number the sheet's, and the slice, of 874 bytes, gets
-// cost (8), degrees, verdict and an entry for each stream.
+// The sheet reader: handed in the sheet; the count is how many streams, the number the sheet's, and the slice, of 876 bytes, gets
+// the kind of the total, the office, cost (8), degrees, verdict and an entry for each stream.
 pub fn kept(given: &[u8], out: &mut [u8]) -> u64 {
-    if out.len() != 874 {
+    if out.len() != 876 {
         return NO_CASE;
     }
     let read = sheet_reader::read_sheet(given);
@@ -49,7 +51,7 @@ pub fn kept(given: &[u8], out: &mut [u8]) -> u64 {
         return NO_CASE;
     }
     let streams = read.streams;
-    put_entries(count, streams, &mut out[10..]);
+    put_entries(count, streams, &mut out[12..]);
     let total = read.total;
     put_total(total, out);
     told(read.number, count, total.sheet)

@@ -1,11 +1,9 @@
 // The sheet call, the plant writer, the sheet reader, the translator, the two moves, meters to buy, the survey and meters worth a
 // visit for programs in C and Rust: functions on numbers and slices of numbers.
-mod marked;
-
-use marked::balance_marked;
 use plants::Plant;
+use sheet_lent::balance_lent;
 ghost use Prim.Native.Nat.{_<_, _^_};
-ghost use Rattle.sheets.specs.Says.{SheetSays};
+ghost use Rattle.sheet_lent.specs.Lent.{LentSays};
 ghost use Rattle.plants.specs.Limits.{places};
 ghost use Rattle.plants.specs.Says.{WriteSays};
 ghost use Rattle.transmitters.specs.Says.{TranslateSays};
@@ -17,21 +15,21 @@ ghost use Rattle.marks.specs.Marks.{marksIn};
 ghost use Rattle.survey_slices.specs.Lent.{LendSays};
 ghost use Rattle.visit_parts.specs.Lent.{VisitsHandOver};
 
-// The sheet call: the file's sheet in the slice, its bytes counted and the counter one higher; or a refusal number, none
-// counted, slice and counter as they were. With refusal 19 bit u of the marks is set where place u is in an overfull set; else
-// no bit is.
+// The sheet call: the file's sheet in the slice, drawn for an office, its bytes counted and the office's last number one higher; or
+// a refusal number, none counted, slice and numbers as they were. Fewer than eight last numbers are refused as 1; those past the
+// eighth stay as they are. With refusal 19 bit u of the marks is set where place u is in an overfull set; else no bit is.
 #[no_mangle]
 pub extern "C" fn wengeludo_balance_plant(
     file: &[u8],
-    last: &mut u32,
+    office: u8,
+    lasts: &mut [u32],
     sheet: &mut [u8],
     written: &mut usize,
     marked: &mut u64,
 ) -> u8
-    ensures { λ r. ⌜ SheetSays (now (file .entry)) (now (last .entry)) (now (sheet .entry)) (now (sheet .exit)) (record { number = r; written = now (written .exit); last = now (last .exit); marked = marksIn (now (marked .exit)) }) × (now (marked .exit) < 2 ^ places) ⌝ }
+    ensures { λ r. ⌜ LentSays (now (file .entry)) office (now (lasts .entry)) (now (sheet .entry)) (now (sheet .exit)) (record { number = r; written = now (written .exit); lasts = now (lasts .exit); marked = marksIn (now (marked .exit)) }) × (now (marked .exit) < 2 ^ places) ⌝ }
 {
-    let drawn = balance_marked(file, *last, sheet);
-    *last = drawn.last;
+    let drawn = balance_lent(file, office, lasts, sheet);
     *written = drawn.written;
     *marked = drawn.bits;
     drawn.number
@@ -74,20 +72,22 @@ pub extern "C" fn wengeludo_write_plant(
 }
 
 // The sheet reader: the kinds of a sheet's stream records, which tell the classes, and the flows at the front of two slices, how
-// many they are, and the total; or a refusal number, zeros, and the slices as they were. A slice that does not hold as many as
-// there may be is refused as 1, before the sheet is read.
+// many they are, and the total with its kind and its office, 0 where it shows none; or a refusal number, zeros, and the slices as
+// they were. A slice that does not hold as many as there may be is refused as 1, before the sheet is read.
 #[no_mangle]
 pub extern "C" fn wengeludo_read_sheet(
     bytes: &[u8],
     kinds: &mut [u8],
     flows: &mut [i64],
     count: &mut usize,
+    kind: &mut u8,
+    office: &mut u8,
     sheet: &mut u32,
     cost: &mut u64,
     degrees: &mut u8,
     verdict: &mut u8,
 ) -> u8
-    ensures { λ r. ⌜ HandsOver (now (bytes .entry)) (now (kinds .entry)) (now (kinds .exit)) (now (flows .entry)) (now (flows .exit)) r (now (count .exit)) (now (sheet .exit)) (now (cost .exit)) (now (degrees .exit)) (now (verdict .exit)) ⌝ }
+    ensures { λ r. ⌜ HandsOver (now (bytes .entry)) (now (kinds .entry)) (now (kinds .exit)) (now (flows .entry)) (now (flows .exit)) r (now (count .exit)) (now (kind .exit)) (now (office .exit)) (now (sheet .exit)) (now (cost .exit)) (now (degrees .exit)) (now (verdict .exit)) ⌝ }
 {
     let read = sheet_slices::read_lent(bytes, kinds.len(), flows.len());
     let listed = read.count as usize;
@@ -96,6 +96,8 @@ pub extern "C" fn wengeludo_read_sheet(
     sheet_slices::put_flows(listed, streams, flows);
     let total = read.total;
     *count = listed;
+    *kind = total.kind;
+    *office = total.office;
     *sheet = total.sheet;
     *cost = total.cost;
     *degrees = total.degrees;

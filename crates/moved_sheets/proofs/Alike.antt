@@ -178,5 +178,5 @@ module _ (f : Stream → Stream) (keep : Keeps f) where
         let w = weights-same p in
         λ i. record { streams = e i; cost = capped (c i); degrees = d i; verdict = verdictAt (d i) (c i) (w i) }
 
-    pub sheet-same : (n : ℕ) → sheetOf (moved f p) xs n ≡ sheetOf p xs n
-    sheet-same n = λ i. sheetBytes (length-map (p .streams) f i) n (balance-same i)
+    pub sheet-same : (office n : ℕ) → sheetOf office (moved f p) xs n ≡ sheetOf office p xs n
+    sheet-same office n = λ i. sheetBytes office (length-map (p .streams) f i) n (balance-same i)

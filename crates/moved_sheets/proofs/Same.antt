@@ -4,10 +4,10 @@ use mathlib.Core.Bool.{Bool, true, false}
 use mathlib.Core.Logic.{inl, inr}
 use mathlib.Core.List.{List}
 use lib.IntN.{ℤ}
-use Prim.Native.Nat.{ℕ, suc, _≤_, _<_}
+use Prim.Native.Nat.{ℕ, _≤_, _<_}
 use native.Mathlib.Omega.{arith}
 use native.Mathlib.Decide.{decLe}
-use lib.Dec.{eqb, ltb}
+use lib.Dec.{eqb, ltb, leb}
 use lib.ListN.{length, length-map}
 use Rattle.numbers.specs.Choice.{refuseIf, firstOf}
 use Rattle.numbers.specs.Bytes.{over}
@@ -27,9 +27,10 @@ use Rattle.flows.proofs.Decided.{Decided, solved, full}
 use Rattle.model.proofs.Theorem.{decided}
 use Rattle.sheets.specs.declared.Sheet.{Sheet}
 use Rattle.sheets.specs.Sheets.{sheetOf}
+use Rattle.sheets.specs.Counters.{offices, topSheet, counterOf, nextOf, raised}
 use Rattle.sheets.specs.Says.{Drawn, SheetWith, SheetSays}
 use Rattle.sheets.specs.Apart.{leastSlice}
-use Rattle.sheets.specs.Sentences.{topSheet, callFault, Refused}
+use Rattle.sheets.specs.Sentences.{callFault, Refused}
 use Rattle.moves.specs.Moves.{widened, forward}
 use Rattle.moves.specs.Trip.{rangeless}
 use Rattle.moves.proofs.Trip.{forward-read}
@@ -109,25 +110,25 @@ module _ (p : Plant) (w : Within p) (free : rangeless (p .streams) ≡ true) whe
       go (full ms m) = none-full ms m
 
   -- A sheet drawn of the one is a sheet drawn of the other.
-  module _ (last : ℕ) (o o′ : List ℕ) (r : Sheet) where
-    drawn-as : {u v : Plant} → ((xs : List ℤ) → Cheapest u xs → Cheapest v xs) → ((xs : List ℤ) → sheetOf u xs (suc last) ≡ sheetOf v xs (suc last))
-        → Drawn u last o o′ r → Drawn v last o o′ r
+  module _ (office : ℕ) (lasts o o′ : List ℕ) (r : Sheet) where
+    drawn-as : {u v : Plant} → ((xs : List ℤ) → Cheapest u xs → Cheapest v xs) → ((xs : List ℤ) → sheetOf office u xs (nextOf office lasts) ≡ sheetOf office v xs (nextOf office lasts))
+        → Drawn u office lasts o o′ r → Drawn v office lasts o o′ r
     drawn-as h e d =
         let s = e (d .0) in
-        (d .0, h (d .0) (d .1), d .2 ∙ (λ i. record { number = 0; written = length (s i); last = suc last; marked = unmarked }), d .3 ∙ ap (λ (l : List ℕ). over l o) s)
+        (d .0, h (d .0) (d .1), d .2 ∙ (λ i. record { number = 0; written = length (s i); lasts = raised office lasts; marked = unmarked }), d .3 ∙ ap (λ (l : List ℕ). over l o) s)
 
-    sheets : (xs : List ℤ) → sheetOf q xs (suc last) ≡ sheetOf p xs (suc last)
-    sheets xs = sheet-same widened widened-keeps p xs (suc last)
+    sheets : (xs : List ℤ) → sheetOf office q xs (nextOf office lasts) ≡ sheetOf office p xs (nextOf office lasts)
+    sheets xs = sheet-same widened widened-keeps p xs office (nextOf office lasts)
 
-    with-forth : SheetWith (got p) last o o′ r → SheetWith (got q) last o o′ r
+    with-forth : SheetWith (got p) office lasts o o′ r → SheetWith (got q) office lasts o o′ r
     with-forth (inl d) = inl (drawn-as {u = p} {v = q} cheapest-forth (λ xs. sym (sheets xs)) d)
     with-forth (inr m) = none-full (m .0) (m .1)
 
-    with-back : Within q → SheetWith (got q) last o o′ r → SheetWith (got p) last o o′ r
+    with-back : Within q → SheetWith (got q) office lasts o o′ r → SheetWith (got p) office lasts o o′ r
     with-back v (inl d) = inl (drawn-as {u = q} {v = p} cheapest-back sheets d)
     with-back v (inr m) = none-forth (m .0) v (m .1)
 
-    with-sheet : SheetWith (got p) last o o′ r → r .number ≡ 19 → ⊥
+    with-sheet : SheetWith (got p) office lasts o o′ r → r .number ≡ 19 → ⊥
     with-sheet (inl d) n = omega (arith, ap (λ (y : Sheet). y .number) (d .2), n)
     with-sheet (inr m) n = none-full (m .0) (m .1)
 
@@ -136,40 +137,41 @@ picked-as : (b : Bool) (A B C : Type 0) → (A → B) → pickT b A C → pickT 
 picked-as true A B C h s = h s
 picked-as false A B C h s = s
 
-says-as : (a b : List ℕ) (last : ℕ) (o o′ : List ℕ) (r : Sheet)
-    → (SheetWith (readPlant a) last o o′ r → SheetWith (readPlant b) last o o′ r) → SheetSays a last o o′ r → SheetSays b last o o′ r
-says-as a b last o o′ r =
-    picked-as (eqb (callFault last o) 0) (SheetWith (readPlant a) last o o′ r) (SheetWith (readPlant b) last o o′ r) (Refused (callFault last o) last o o′ r)
+says-as : (a b : List ℕ) (office : ℕ) (lasts o o′ : List ℕ) (r : Sheet)
+    → (SheetWith (readPlant a) office lasts o o′ r → SheetWith (readPlant b) office lasts o o′ r) → SheetSays a office lasts o o′ r → SheetSays b office lasts o o′ r
+says-as a b office lasts o o′ r =
+    picked-as (eqb (callFault office lasts o) 0) (SheetWith (readPlant a) office lasts o o′ r) (SheetWith (readPlant b) office lasts o o′ r) (Refused (callFault office lasts o) lasts o o′ r)
 
 -- 19 is neither a refusal of the call itself nor a sheet.
-call-faults : (b c : Bool) → firstOf (refuseIf b 1) (refuseIf c 2) ≤ 2
-call-faults true c = omega arith
-call-faults false true = omega arith
-call-faults false false = omega arith
+call-faults : (b c d : Bool) → firstOf (refuseIf b 1) (firstOf (refuseIf c 22) (refuseIf d 2)) ≡ 19 → ⊥
+call-faults true c d e = omega arith
+call-faults false true d e = omega arith
+call-faults false false true e = omega arith
+call-faults false false false e = omega arith
 
-never : (b : Bool) (A : Type 0) (f last : ℕ) (o o′ : List ℕ) (r : Sheet) → f ≤ 2 → (A → r .number ≡ 19 → ⊥) → pickT b A (Refused f last o o′ r) → r .number ≡ 19 → ⊥
-never true A f last o o′ r l h s n = h s n
-never false A f last o o′ r l h s n = omega (arith, ap (λ (y : Sheet). y .number) (s .0), n)
+never : (b : Bool) (A : Type 0) (f : ℕ) (lasts o o′ : List ℕ) (r : Sheet) → (f ≡ 19 → ⊥) → (A → r .number ≡ 19 → ⊥) → pickT b A (Refused f lasts o o′ r) → r .number ≡ 19 → ⊥
+never true A f lasts o o′ r l h s n = h s n
+never false A f lasts o o′ r l h s n = l (sym (ap (λ (y : Sheet). y .number) (s .0)) ∙ n)
 
 -- What a call says of a file, of the plant that it is read as.
-abbrev Said : ℕ → List ℕ → List ℕ → Sheet → Got → Type 0
-Said last o o′ r g = SheetWith g last o o′ r
+abbrev Said : ℕ → List ℕ → List ℕ → List ℕ → Sheet → Got → Type 0
+Said office lasts o o′ r g = SheetWith g office lasts o o′ r
 
 never-19 : (file : List ℕ) (p : Plant) → readPlant file ≡ got p → Within p → rangeless (p .streams) ≡ true
-    → (last : ℕ) (o o′ : List ℕ) (r : Sheet) → SheetSays file last o o′ r → r .number ≡ 19 → ⊥
-never-19 file p e w free last o o′ r =
-    never (eqb (callFault last o) 0) (SheetWith (readPlant file) last o o′ r) (callFault last o) last o o′ r (call-faults (ltb (length o) leastSlice) (eqb last topSheet))
-    (λ s. with-sheet p w free last o o′ r (subst (Said last o o′ r) e s))
+    → (office : ℕ) (lasts o o′ : List ℕ) (r : Sheet) → SheetSays file office lasts o o′ r → r .number ≡ 19 → ⊥
+never-19 file p e w free office lasts o o′ r =
+    never (eqb (callFault office lasts o) 0) (SheetWith (readPlant file) office lasts o o′ r) (callFault office lasts o) lasts o o′ r (call-faults (ltb (length o) leastSlice) (leb offices office) (eqb (counterOf office lasts) topSheet))
+    (λ s. with-sheet p w free office lasts o o′ r (subst (Said office lasts o o′ r) e s))
 
 pub moved-sheets : Moved-sheets
 moved-sheets file p e free = record {
   read = there;
   some = some-flow p w free;
-  same = λ last o o′ r. (
-    says-as file (plantBytes (forward p)) last o o′ r (λ s. subst (Said last o o′ r) (sym there) (with-forth p w free last o o′ r (subst (Said last o o′ r) e s))),
-    says-as (plantBytes (forward p)) file last o o′ r (λ s. subst (Said last o o′ r) (sym e) (with-back p w free last o o′ r v (subst (Said last o o′ r) there s))),
+  same = λ office lasts o o′ r. (
+    says-as file (plantBytes (forward p)) office lasts o o′ r (λ s. subst (Said office lasts o o′ r) (sym there) (with-forth p w free office lasts o o′ r (subst (Said office lasts o o′ r) e s))),
+    says-as (plantBytes (forward p)) file office lasts o o′ r (λ s. subst (Said office lasts o o′ r) (sym e) (with-back p w free office lasts o o′ r v (subst (Said office lasts o o′ r) there s))),
   );
-  sheet = λ last o o′ r s n. never-19 file p e w free last o o′ r s n;
+  sheet = λ office lasts o o′ r s n. never-19 file p e w free office lasts o o′ r s n;
 }
   where
     w : Within p

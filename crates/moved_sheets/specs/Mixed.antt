@@ -20,7 +20,7 @@ abbrev pub adjusted : ℤ → List ℕ
 adjusted x = 17 ∷ putBe 8 (raw 8 x)
 
 abbrev pub failing : ℕ → List ℕ
-failing cost = 31 ∷ putBe 4 1 ++ putBe 8 cost ++ (1 ∷ 1 ∷ [])
+failing cost = 30 ∷ 0 ∷ putBe 4 1 ++ putBe 8 cost ++ (1 ∷ 1 ∷ [])
 
 -- In 2,000,000,000 (its range has no other value) and 3,001,000 with weight 1,000, out 0: the second takes 1,000,000 in, and
 -- 2,001,000,000 goes out.

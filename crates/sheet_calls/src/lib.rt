@@ -4,22 +4,24 @@ use drawing::call_fault;
 use drawing::draw;
 use drawing::refused;
 use sheets::Sheet;
+use sheets::kinds::OFFICES;
 ghost use Rattle.sheets.specs.Says.{SheetSays};
 
-// The balance sheet of a plant file, or a refusal that leaves slice and counter as they were.
-pub fn balance_plant(file: &[u8], last: u32, sheet: &mut [u8]) -> Sheet
-    ensures { λ r. ⌜ SheetSays (now (file .entry)) last (now (sheet .entry)) (now (sheet .exit)) r ⌝ }
+// The balance sheet of a plant file, drawn for an office under its next number; or a refusal that leaves slice and counters as they
+// were.
+pub fn balance_plant(file: &[u8], office: u8, lasts: [u32; OFFICES], sheet: &mut [u8]) -> Sheet
+    ensures { λ r. ⌜ SheetSays (now (file .entry)) office lasts (now (sheet .entry)) (now (sheet .exit)) r ⌝ }
 {
-    let fault = call_fault(last, sheet);
+    let fault = call_fault(office, lasts, sheet);
     if fault != 0 {
-        return refused(fault, last);
+        return refused(fault, lasts);
     }
     let read = plant_reader::read_plant(file);
     let number = read.number;
     if number != 0 {
-        return refused(number, last);
+        return refused(number, lasts);
     }
     let plant = read.plant;
     let outcome = balance_of(plant);
-    draw(plant.count as usize, outcome, last, sheet)
+    draw(plant.count as usize, outcome, office, lasts, sheet)
 }

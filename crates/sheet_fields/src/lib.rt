@@ -5,14 +5,13 @@ use plants::limits::MAX_STREAMS;
 use plants::limits::MAX_UNITS;
 use sheets::Entry;
 use sheets::Total;
-use sheets::kinds::TOTAL_SIZE;
+use sheets::kinds::OFFICES;
 ghost use mathlib.Core.Path.{_≡_};
 ghost use mathlib.Core.Bool.{_||_};
 ghost use lib.Dec.{leb, ltb};
 ghost use lib.ListN.{length};
 ghost use Rattle.numbers.specs.Choice.{refuseIf, firstOf};
 ghost use Rattle.plants.specs.Limits.{maxStreams};
-ghost use Rattle.sheets.specs.Apart.{totalSize};
 ghost use Rattle.sheets.specs.Kept.{blank, verdictFits, totalFault, afterFault};
 
 // A stream record of so many bytes, after so many streams: there is no room for it, or it is cut.
@@ -52,6 +51,9 @@ fn verdict_fits(degrees: u8, verdict: u8) -> bool
 fn fields_fault(t: Total) -> u8
     ensures { λ r. ⌜ r ≡ totalFault t ⌝ }
 {
+    if OFFICES <= t.office as usize {
+        return 14;
+    }
     if t.sheet == 0 {
         return 14;
     }
@@ -64,31 +66,31 @@ fn fields_fault(t: Total) -> u8
     14
 }
 
-// A total that is cut.
-pub fn cut_fault(s: &[u8]) -> u8
-    ensures { λ r. ⌜ r ≡ refuseIf (ltb (length (now (s .entry))) totalSize) 13 ⌝ }
+// A total of this size that is cut.
+pub fn cut_fault(size: usize, s: &[u8]) -> u8
+    ensures { λ r. ⌜ r ≡ refuseIf (ltb (length (now (s .entry))) size) 13 ⌝ }
 {
-    if s.len() < TOTAL_SIZE {
+    if s.len() < size {
         return 13;
     }
     0
 }
 
-// Bytes after the total.
-fn after_fault(s: &[u8]) -> u8
-    ensures { λ r. ⌜ r ≡ afterFault (now (s .entry)) ⌝ }
+// Bytes after a total of this size.
+fn after_fault(size: usize, s: &[u8]) -> u8
+    ensures { λ r. ⌜ r ≡ afterFault size (now (s .entry)) ⌝ }
 {
-    if s.len() == TOTAL_SIZE {
+    if s.len() == size {
         return 0;
     }
     15
 }
 
 // The fields of a total that is whole, then bytes after it.
-pub fn rest_fault(t: Total, s: &[u8]) -> u8
-    ensures { λ r. ⌜ r ≡ firstOf (totalFault t) (afterFault (now (s .entry))) ⌝ }
+pub fn rest_fault(size: usize, t: Total, s: &[u8]) -> u8
+    ensures { λ r. ⌜ r ≡ firstOf (totalFault t) (afterFault size (now (s .entry))) ⌝ }
 {
     let fields = fields_fault(t);
-    let after = after_fault(s);
+    let after = after_fault(size, s);
     first_of(fields, after)
 }

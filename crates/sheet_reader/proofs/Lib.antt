@@ -1,3 +1,4 @@
 -- Laws of the sheet reader.
 pub mod ByKind
 pub mod Loop
+pub mod Totals

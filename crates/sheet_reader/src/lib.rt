@@ -12,15 +12,18 @@ use sheets::Total;
 use sheets::kinds::ADJUSTED;
 use sheets::kinds::AS_READ;
 use sheets::kinds::GIVEN;
+use sheets::kinds::PLAIN;
+use sheets::kinds::PLAIN_SIZE;
 use sheets::kinds::STREAM_SIZE;
 use sheets::kinds::TOTAL;
+use sheets::kinds::TOTAL_SIZE;
 use sheets::kinds::WITHHELD;
 ghost use mathlib.Core.Path.{_≡_};
 ghost use Prim.Native.Nat.{_≤_};
 ghost use lib.ListN.{length};
-ghost use Rattle.sheets.specs.Apart.{streamSize, totalSize};
+ghost use Rattle.sheets.specs.Apart.{streamSize, bodySize, totalSize, plainSize};
 ghost use Rattle.sheets.specs.Sheets.{kindOf};
-ghost use Rattle.sheets.specs.Kept.{shownIn, blank, streamRecord, totalIn, totalRecord, recordAt, recordNumber, noSheet, readOf, ReadSays};
+ghost use Rattle.sheets.specs.Kept.{shownIn, blank, streamRecord, bodyIn, totalIn, plainIn, totalRecord, recordAt, recordNumber, noSheet, readOf, ReadSays};
 
 // The kind of record that a class has.
 pub fn kind_of(class: Class) -> u8
@@ -63,33 +66,56 @@ fn read_blank(count: u8, s: &[u8]) -> SheetRecord
     }
 }
 
-fn total_in(s: &[u8]) -> Total
-    requires { ⌜ totalSize ≤ length (now s) ⌝ }
-    ensures { λ r. ⌜ r ≡ totalIn (now (s .entry)) ⌝ }
+// What both totals end in.
+fn body_in(kind: u8, office: u8, body: &[u8]) -> Total
+    requires { ⌜ bodySize ≤ length (now body) ⌝ }
+    ensures { λ r. ⌜ r ≡ bodyIn kind office (now (body .entry)) ⌝ }
 {
-    let sheet = numbers::get_u32(&s[1..]);
-    let cost = numbers::get_u64(&s[5..]);
+    let sheet = numbers::get_u32(body);
+    let cost = numbers::get_u64(&body[4..]);
     Total {
+        kind: kind,
+        office: office,
         sheet: sheet,
         cost: cost,
-        degrees: s[13],
-        verdict: s[14],
+        degrees: body[12],
+        verdict: body[13],
     }
 }
 
-fn read_total(s: &[u8]) -> SheetRecord
-    ensures { λ r. ⌜ r ≡ totalRecord (now (s .entry)) ⌝ }
+// A total of this size, which is there whole: refused for its fields or for what follows it, or the end of the sheet.
+fn end_with(size: usize, total: Total, s: &[u8]) -> SheetRecord
+    requires { ⌜ size ≤ length (now s) ⌝ }
+    ensures { λ r. ⌜ r ≡ totalRecord size total (now (s .entry)) ⌝ }
 {
-    let cut = cut_fault(s);
-    if cut != 0 {
-        return SheetRecord::Refused(cut);
-    }
-    let total = total_in(s);
-    let fault = rest_fault(total, s);
+    let fault = rest_fault(size, total, s);
     if fault != 0 {
         return SheetRecord::Refused(fault);
     }
     SheetRecord::Ended(total)
+}
+
+fn read_total(s: &[u8]) -> SheetRecord
+    ensures { λ r. ⌜ r ≡ totalRecord totalSize (totalIn (now (s .entry))) (now (s .entry)) ⌝ }
+{
+    let cut = cut_fault(TOTAL_SIZE, s);
+    if cut != 0 {
+        return SheetRecord::Refused(cut);
+    }
+    let total = body_in(TOTAL, s[1], &s[2..]);
+    end_with(TOTAL_SIZE, total, s)
+}
+
+// The total of a sheet drawn before there were offices: that of office 0.
+fn read_plain(s: &[u8]) -> SheetRecord
+    ensures { λ r. ⌜ r ≡ totalRecord plainSize (plainIn (now (s .entry))) (now (s .entry)) ⌝ }
+{
+    let cut = cut_fault(PLAIN_SIZE, s);
+    if cut != 0 {
+        return SheetRecord::Refused(cut);
+    }
+    let total = body_in(PLAIN, 0, &s[1..]);
+    end_with(PLAIN_SIZE, total, s)
 }
 
 // What stands where a record is due, after so many streams.
@@ -115,6 +141,9 @@ fn read_record(count: u8, s: &[u8]) -> SheetRecord
     if kind == TOTAL {
         return read_total(s);
     }
+    if kind == PLAIN {
+        return read_plain(s);
+    }
     SheetRecord::Refused(13)
 }
 
@@ -138,6 +167,8 @@ pub fn refusal(number: u8) -> SheetRead
         count: 0,
         streams: [none; MAX_STREAMS],
         total: Total {
+            kind: 0,
+            office: 0,
             sheet: 0,
             cost: 0,
             degrees: 0,

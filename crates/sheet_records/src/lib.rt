@@ -70,13 +70,14 @@ pub fn put_records(count: usize, streams: [Entry; MAX_STREAMS], out: &mut [u8]) 
     at
 }
 
-// The kind of the total and the sheet's number.
-fn put_number(number: u32, out: &mut [u8])
+// The kind of the total, the office and the sheet's number.
+fn put_number(office: u8, number: u32, out: &mut [u8])
     requires { ⌜ totalSize ≤ length (now out) ⌝ }
-    ensures { λ _. ⌜ now (out .exit) ≡ over (totalKind ∷ putBe 4 number) (now (out .entry)) ⌝ }
+    ensures { λ _. ⌜ now (out .exit) ≡ over (totalKind ∷ office ∷ putBe 4 number) (now (out .entry)) ⌝ }
 {
     numbers::put_u8(TOTAL, out);
-    numbers::put_u32(number, &mut out[1..]);
+    numbers::put_u8(office, &mut out[1..]);
+    numbers::put_u32(number, &mut out[2..]);
 }
 
 // What stands behind them: cost, degrees and verdict.
@@ -90,10 +91,10 @@ fn put_cost(cost: u64, degrees: u8, verdict: u8, out: &mut [u8])
 }
 
 // The total.
-pub fn put_total(number: u32, cost: u64, degrees: u8, verdict: u8, out: &mut [u8])
+pub fn put_total(office: u8, number: u32, cost: u64, degrees: u8, verdict: u8, out: &mut [u8])
     requires { ⌜ totalSize ≤ length (now out) ⌝ }
-    ensures { λ _. ⌜ now (out .exit) ≡ over (totalOf number cost degrees verdict) (now (out .entry)) ⌝ }
+    ensures { λ _. ⌜ now (out .exit) ≡ over (totalOf office number cost degrees verdict) (now (out .entry)) ⌝ }
 {
-    put_number(number, out);
-    put_cost(cost, degrees, verdict, &mut out[5..]);
+    put_number(office, number, out);
+    put_cost(cost, degrees, verdict, &mut out[6..]);
 }

@@ -66,7 +66,7 @@ room-lent bytes k f r e =
 -- A reading, in the caller's slices and numbers.
 pub handed-over : {r y : SheetRead} {ks ks′ : List ℕ} {fs fs′ : List ℤ} → y ≡ r
     → ks′ ≡ over (kindsOf (take (y .count) (y .streams))) ks → fs′ ≡ over (flowsOf (take (y .count) (y .streams))) fs
-    → HandedOver r ks ks′ fs fs′ (y .number) (y .count) (y .total .sheet) (y .total .cost) (y .total .degrees) (y .total .verdict)
+    → HandedOver r ks ks′ fs fs′ (y .number) (y .count) (y .total .kind) (y .total .office) (y .total .sheet) (y .total .cost) (y .total .degrees) (y .total .verdict)
 handed-over {ks = ks} {fs = fs} e a b = record {
   numbered = ap (λ (x : SheetRead). x .number) e;
   counted = ap (λ (x : SheetRead). x .count) e;

@@ -26,13 +26,13 @@ flowsOf = map (λ e. e .flow)
 
 -- What was read, as the caller finds it: the number, the count and the total; the kinds and the flows of the streams at the front
 -- of the slices, the rest of them as it was. (A refusal has no streams: the slices are as they were.)
-pub record HandedOver (r : SheetRead) (ks ks′ : List ℕ) (fs fs′ : List ℤ) (number count sheet cost degrees verdict : ℕ) : Type 0 where
+pub record HandedOver (r : SheetRead) (ks ks′ : List ℕ) (fs fs′ : List ℤ) (number count kind office sheet cost degrees verdict : ℕ) : Type 0 where
   pub numbered : number ≡ r .number
   pub counted : count ≡ r .count
-  pub totalled : record { sheet = sheet; cost = cost; degrees = degrees; verdict = verdict } ≡ r .total
+  pub totalled : record { kind = kind; office = office; sheet = sheet; cost = cost; degrees = degrees; verdict = verdict } ≡ r .total
   pub kinds : ks′ ≡ over (kindsOf (take (r .count) (r .streams))) ks
   pub flows : fs′ ≡ over (flowsOf (take (r .count) (r .streams))) fs
 
 -- The exported sheet reader.
-abbrev pub HandsOver : List ℕ → List ℕ → List ℕ → List ℤ → List ℤ → ℕ → ℕ → ℕ → ℕ → ℕ → ℕ → Type 0
+abbrev pub HandsOver : List ℕ → List ℕ → List ℕ → List ℤ → List ℤ → ℕ → ℕ → ℕ → ℕ → ℕ → ℕ → ℕ → ℕ → Type 0
 HandsOver bytes ks ks′ fs fs′ = HandedOver (readOf (readLent bytes (length ks) (length fs))) ks ks′ fs fs′

@@ -10,13 +10,13 @@ ghost use Rattle.plants.specs.Limits.{maxStreams};
 ghost use Rattle.sheets.specs.Sheets.{sheetBytes};
 ghost use Rattle.sheets.specs.Apart.{leastSlice};
 
-// The sheet of a balance with so many streams, under a number, and how many bytes it takes.
-pub fn put_sheet(count: usize, number: u32, b: Balance, out: &mut [u8]) -> usize
+// An office's sheet of a balance with so many streams, under a number, and how many bytes it takes.
+pub fn put_sheet(office: u8, count: usize, number: u32, b: Balance, out: &mut [u8]) -> usize
     requires { ⌜ (count ≤ maxStreams) × (leastSlice ≤ length (now out)) ⌝ }
-    ensures { λ r. ⌜ Put (sheetBytes count number b) (now (out .entry)) (now (out .exit)) r ⌝ }
+    ensures { λ r. ⌜ Put (sheetBytes office count number b) (now (out .entry)) (now (out .exit)) r ⌝ }
 {
     let streams = b.streams;
     let at = put_records(count, streams, out);
-    put_total(number, b.cost, b.degrees, b.verdict, &mut out[at..]);
+    put_total(office, number, b.cost, b.degrees, b.verdict, &mut out[at..]);
     at + TOTAL_SIZE
 }

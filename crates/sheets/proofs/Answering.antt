@@ -4,7 +4,7 @@ use mathlib.Core.Bool.{true, false}
 use mathlib.Core.Logic.{_⊎_, inl, inr, ⊎-elim}
 use mathlib.Core.List.{List}
 use lib.IntN.{ℤ}
-use Prim.Native.Nat.{ℕ, suc, _^_, _≤_, _<_}
+use Prim.Native.Nat.{ℕ, _^_, _≤_, _<_}
 use native.Mathlib.Omega.{arith}
 use borrow.Author.Tests.{eqb-true, eqb-false}
 use lib.Dec.{eqb}
@@ -31,15 +31,17 @@ use Rattle.model.specs.declared.Solved.{Solved}
 use Rattle.model.specs.Promise.{flowOf, Solution, Right}
 use Rattle.model.proofs.Amounts.{opened-at}
 use Rattle.sheets.specs.declared.Sheet.{Sheet}
-use Rattle.sheets.specs.Sentences.{topSheet, callFault, Overfilled, Full, Answers}
-use Rattle.sheets.specs.Sheets.{plantParts, sheetOf}
+use Rattle.sheets.specs.Sentences.{callFault, Overfilled, Full, Answers}
+use Rattle.sheets.specs.Apart.{totalKind}
+use Rattle.sheets.specs.Counters.{topSheet, counterOf, nextOf, raised}
+use Rattle.sheets.specs.Sheets.{sheetOf}
 use Rattle.sheets.specs.Says.{Drawn, SheetWith, SheetSays}
-use Rattle.sheets.specs.Kept.{someSheet, readSheet}
+use Rattle.sheets.specs.Kept.{readSheet}
 use Rattle.sheets.specs.Demands.{ReadsBack, Demands}
 use Rattle.sheets.specs.Calls.{Small}
 use Rattle.sheets.proofs.Opening.{right-found, right-overfull, held-amounts, opened-small}
 use Rattle.sheets.proofs.Laying.{sheet-most}
-use Rattle.sheets.proofs.Promise.{long-enough, one-left, call-faulty, call-taken, call-read}
+use Rattle.sheets.proofs.Promise.{long-enough, has-counter, one-left, call-faulty, call-taken, call-read}
 use Rattle.sheets.proofs.Unique.{amount-same, never-both, no-choice}
 use Rattle.sheets.proofs.Back.{reopening}
 use Rattle.sheets.proofs.ReadAgain.{read-back}
@@ -69,39 +71,39 @@ module _ (file : List ℕ) (p : Plant) (e : readPlant file ≡ got p) (s : Solve
       rw (amount-same p within-limits xs (flowOf (arrayed p) s) c solved k h n) (omega (arith, amount-small q k h))
 
 -- A sheet drawn is a full sheet.
-module _ (p : Plant) (w : Within p) (last : ℕ) (o o′ : List ℕ) (r : Sheet) where
-  full : Shown p → ((xs : List ℤ) → Cheapest p xs → Sized p xs) → last ≤ topSheet → callFault last o ≡ 0 → Drawn p last o o′ r
-      → Full p (length (p .streams)) last o o′ r
+module _ (p : Plant) (w : Within p) (office : ℕ) (lasts o o′ : List ℕ) (r : Sheet) where
+  full : Shown p → ((xs : List ℤ) → Cheapest p xs → Sized p xs) → counterOf office lasts ≤ topSheet → callFault office lasts o ≡ 0 → Drawn p office lasts o o′ r
+      → Full p (length (p .streams)) office lasts o o′ r
   full shown sized top f d =
       let xs = d .0 in
-      let sheet = sheetOf p xs (suc last) in
-      let small : suc last < 256 ^ 4 = let q = one-left last o f in omega (arith, q) in
-      let t : Told p xs (suc last) o′ = subst (Told p xs (suc last)) (sym (d .3)) (told p w xs (d .1) (suc last) (drop (length sheet) o) (sized xs (d .1)) small) in
-      let wide : length sheet ≤ length o = omega (arith, long-enough last o f, sheet-most p xs (suc last) (w .few-streams)) in
+      let sheet = sheetOf office p xs (nextOf office lasts) in
+      let small : nextOf office lasts < 256 ^ 4 = let q = one-left office lasts o f in omega (arith, q) in
+      let t : Told p xs office (nextOf office lasts) o′ = subst (Told p xs office (nextOf office lasts)) (sym (d .3)) (told p w xs (d .1) office (nextOf office lasts) (drop (length sheet) o) (sized xs (d .1)) small) in
+      let wide : length sheet ≤ length o = omega (arith, long-enough office lasts o f, sheet-most office p xs (nextOf office lasts) (w .few-streams)) in
       record {
-        result = d .2 ∙ (λ i. record { number = 0; written = sym (t .size) i; last = suc last; marked = unmarked });
-        tells = tells p w shown xs (d .1) (suc last) o′ t;
+        result = d .2 ∙ (λ i. record { number = 0; written = sym (t .size) i; lasts = raised office lasts; marked = unmarked });
+        tells = tells p w shown xs (d .1) office (nextOf office lasts) o′ t;
         past = rw (t .size) (ap (drop (length sheet)) (d .3) ∙ drop-append-seam sheet (drop (length sheet) o));
         fits = rw (t .size) wide;
         long = same-length (laid sheet o wide (d .3));
       }
 
   -- With a flow in range a sheet is drawn, and without one a set is marked.
-  module _ (given : Drawn p last o o′ r ⊎ Overfilled p last o o′ r) where
-    drawn-of : (ys : List ℤ) → allowed p ys ≡ true → Drawn p last o o′ r
+  module _ (given : Drawn p office lasts o o′ r ⊎ Overfilled p lasts o o′ r) where
+    drawn-of : (ys : List ℤ) → allowed p ys ≡ true → Drawn p office lasts o o′ r
     drawn-of ys a = ⊎-elim (λ d. d) (λ m. clash (allowed p ys) a (overfull-none p w (m .0) (m .1) 1 ys (omega arith))) given
 
-    overfilled-of : ((ys : List ℤ) → allowed p ys ≡ false) → Overfilled p last o o′ r
+    overfilled-of : ((ys : List ℤ) → allowed p ys ≡ false) → Overfilled p lasts o o′ r
     overfilled-of n = ⊎-elim (λ d. clash (allowed p (d .0)) (d .1 .balance) (n (d .0))) (λ m. m) given
 
 -- A sheet that a call drew, read back in.
-module _ (file : List ℕ) (last : ℕ) (o o′ : List ℕ) (r : Sheet) (top : last ≤ topSheet)
+module _ (file : List ℕ) (office : ℕ) (lasts o o′ : List ℕ) (r : Sheet) (top : counterOf office lasts ≤ topSheet)
     (sized-of : (p : Plant) → readPlant file ≡ got p → (xs : List ℤ) → Cheapest p xs → Sized p xs) where
-  drawn-back : (p : Plant) → readPlant file ≡ got p → callFault last o ≡ 0 → Drawn p last o o′ r → ReadsBack file o′ r
+  drawn-back : (p : Plant) → readPlant file ≡ got p → callFault office lasts o ≡ 0 → Drawn p office lasts o o′ r → ReadsBack file office lasts o′ r
   drawn-back p e f d =
       let xs = d .0 in
-      let sheet = sheetOf p xs (suc last) in
-      let small : suc last < 256 ^ 4 = let q = one-left last o f in omega (arith, q) in
+      let sheet = sheetOf office p xs (nextOf office lasts) in
+      let small : nextOf office lasts < 256 ^ 4 = let q = one-left office lasts o f in omega (arith, q) in
       let bytes : take (r .written) o′ ≡ sheet =
       ap (λ (y : Sheet). take (y .written) o′) (d .2) ∙ ap (take (length sheet)) (d .3) ∙ take-at sheet (drop (length sheet) o) (length sheet) refl in
       record {
@@ -109,33 +111,33 @@ module _ (file : List ℕ) (last : ℕ) (o o′ : List ℕ) (r : Sheet) (top : l
         listed = e;
         flow = xs;
         cheapest = d .1;
-        read = ap readSheet bytes ∙ read-back p (within p (accepted file p e .0)) xs (d .1) last (sized-of p e xs (d .1)) small
-            ∙ ap (λ (y : Sheet). someSheet (plantParts p xs (y .last))) (sym (d .2));
+        read = ap readSheet bytes
+            ∙ read-back p (within p (accepted file p e .0)) xs (d .1) (sized-of p e xs (d .1)) totalKind office (counterOf office lasts) refl (has-counter office lasts o f) small;
       }
 
-  read-kept : SheetSays file last o o′ r → r .number ≡ 0 → ReadsBack file o′ r
-  read-kept s n = by-cases (eqb (callFault last o) 0)
-      (λ t. let f = eqb-true (callFault last o) 0 t in go (readPlant file) refl f (call-taken file last o o′ r s f))
-      (λ t. let f = eqb-false (callFault last o) 0 t in absurd (f (sym (ap (λ (y : Sheet). y .number) (call-faulty file last o o′ r s f .0)) ∙ n)))
+  read-kept : SheetSays file office lasts o o′ r → r .number ≡ 0 → ReadsBack file office lasts o′ r
+  read-kept s n = by-cases (eqb (callFault office lasts o) 0)
+      (λ t. let f = eqb-true (callFault office lasts o) 0 t in go (readPlant file) refl f (call-taken file office lasts o o′ r s f))
+      (λ t. let f = eqb-false (callFault office lasts o) 0 t in absurd (f (sym (ap (λ (y : Sheet). y .number) (call-faulty file office lasts o o′ r s f .0)) ∙ n)))
     where
-      go : (g : Got) → readPlant file ≡ g → callFault last o ≡ 0 → SheetWith g last o o′ r → ReadsBack file o′ r
+      go : (g : Got) → readPlant file ≡ g → callFault office lasts o ≡ 0 → SheetWith g office lasts o o′ r → ReadsBack file office lasts o′ r
       go (bad f) e z u = absurd (refused file f e (sym (ap (λ (y : Sheet). y .number) (u .0)) ∙ n))
       go (got p) e z (inl d) = drawn-back p e z d
       go (got p) e z (inr m) = absurd (omega (arith, ap (λ (y : Sheet). y .number) (m .2 .0)))
 
 -- Of every call, where the solver is right of every plant.
 module _ (third : Demand-3) (nineteen : Refusal-19) (solve : (p : Arrays.Plant) → Accepted p → (s : Solved) × Right p s) where
-  sized-here : (file : List ℕ) (p : Plant) → readPlant file ≡ got p → (xs : List ℤ) → Cheapest p xs → Sized p xs
+  pub sized-here : (file : List ℕ) (p : Plant) → readPlant file ≡ got p → (xs : List ℤ) → Cheapest p xs → Sized p xs
   sized-here file p e = let h = solve (arrayed p) (read-accepted file p e) in sized file p e (h .0) (h .1)
 
-  answers : (file : List ℕ) (last : ℕ) (o o′ : List ℕ) (r : Sheet) → last ≤ topSheet → SheetSays file last o o′ r → Answers file last o o′ r
-  answers file last o o′ r top s = record {
-    unfit = λ n. call-faulty file last o o′ r s n;
-    unread = λ f z e. (refused file f e, call-read file last o o′ r s (bad f) z e);
+  answers : (file : List ℕ) (office : ℕ) (lasts o o′ : List ℕ) (r : Sheet) → counterOf office lasts ≤ topSheet → SheetSays file office lasts o o′ r → Answers file office lasts o o′ r
+  answers file office lasts o o′ r top s = record {
+    unfit = λ n. call-faulty file office lasts o o′ r s n;
+    unread = λ f z e. (refused file f e, call-read file office lasts o o′ r s (bad f) z e);
     full = λ p ys z e a.
         let w = within p (accepted file p e .0) in
-        full p w last o o′ r (third file p ys e a) (sized-here file p e) top z (drawn-of p w last o o′ r (call-read file last o o′ r s (got p) z e) ys a);
-    overfull = λ p z e. overfilled-of p (within p (accepted file p e .0)) last o o′ r (call-read file last o o′ r s (got p) z e);
+        full p w office lasts o o′ r (third file p ys e a) (sized-here file p e) top z (drawn-of p w office lasts o o′ r (call-read file office lasts o o′ r s (got p) z e) ys a);
+    overfull = λ p z e. overfilled-of p (within p (accepted file p e .0)) office lasts o o′ r (call-read file office lasts o o′ r s (got p) z e);
   }
 
   -- The demands, all of them.
@@ -148,7 +150,7 @@ module _ (third : Demand-3) (nineteen : Refusal-19) (solve : (p : Arrays.Plant) 
     pieces = one-pass everyStream;
     third = third;
     reopening = reopening;
-    kept = λ file last o o′ r top. read-kept file last o o′ r top (sized-here file);
+    kept = λ file office lasts o o′ r top. read-kept file office lasts o o′ r top (sized-here file);
     nineteen = nineteen;
     desk-tool = desk-tool nineteen answers;
   }

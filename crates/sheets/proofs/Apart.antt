@@ -13,7 +13,7 @@ use Rattle.numbers.proofs.Complement.{signed-raw, raw-fits}
 use Rattle.flows.specs.declared.Class.{Class}
 use Rattle.flows.specs.declared.Class.the-variants.{Adjusted, AsRead, Given, Withheld}
 use Rattle.sheets.specs.declared.Entry.{Entry}
-use Rattle.sheets.specs.Apart.{totalKind, recordSize, begins, kindAt, numberAt, sheetNumberIn, costIn, degreesIn, verdictIn}
+use Rattle.sheets.specs.Apart.{totalKind, recordSize, begins, kindAt, numberAt, officeIn, sheetNumberIn, costIn, degreesIn, verdictIn}
 use Rattle.sheets.specs.Sheets.{kindOf, recordOf, recordsOf, totalOf}
 use Rattle.sheets.proofs.Laying.{records-more}
 
@@ -103,29 +103,32 @@ module _ (es : List Entry) (t : List ℕ) (none : Entry) where
   total-begins = begins-there (length es) (omega arith) ∙ ap (λ (l : List Entry). length (recordsOf l)) (take-all (length es) es (omega arith))
 
 -- The fields of the total.
-module _ (es : List Entry) (n c d v : ℕ) (rest : List ℕ) (none : Entry) where
+module _ (es : List Entry) (k n c d v : ℕ) (rest : List ℕ) (none : Entry) where
   abbrev whole : List ℕ
-  whole = recordsOf es ++ (totalOf n c d v ++ rest)
+  whole = recordsOf es ++ (totalOf k n c d v ++ rest)
 
-  byte : (i : ℕ) → getD whole (begins whole (length es) + i) 0 ≡ getD (totalOf n c d v ++ rest) i 0
-  byte i = rw (total-begins es (totalOf n c d v ++ rest) none) (getD-append-add (recordsOf es) (totalOf n c d v ++ rest) i 0)
+  byte : (i : ℕ) → getD whole (begins whole (length es) + i) 0 ≡ getD (totalOf k n c d v ++ rest) i 0
+  byte i = rw (total-begins es (totalOf k n c d v ++ rest) none) (getD-append-add (recordsOf es) (totalOf k n c d v ++ rest) i 0)
 
-  field : (i k : ℕ) → be (begins whole (length es) + i) k whole ≡ be i k (totalOf n c d v ++ rest)
-  field i k = rw (total-begins es (totalOf n c d v ++ rest) none) (be-behind (recordsOf es) (totalOf n c d v ++ rest) i k)
+  field : (i j : ℕ) → be (begins whole (length es) + i) j whole ≡ be i j (totalOf k n c d v ++ rest)
+  field i j = rw (total-begins es (totalOf k n c d v ++ rest) none) (be-behind (recordsOf es) (totalOf k n c d v ++ rest) i j)
 
   pub total-kind : kindAt whole (length es) ≡ totalKind
   total-kind =
       let z : begins whole (length es) ≡ begins whole (length es) + 0 = omega arith in
       ap (λ (i : ℕ). getD whole i 0) z ∙ byte 0
 
+  pub total-office : officeIn whole (length es) ≡ k
+  total-office = byte 1
+
   pub total-number : n < 256 ^ 4 → sheetNumberIn whole (length es) ≡ n
-  total-number h = field 1 4 ∙ be-put 4 n (putBe 8 c ++ (d ∷ v ∷ []) ++ rest) h
+  total-number h = field 2 4 ∙ be-put 4 n (putBe 8 c ++ (d ∷ v ∷ []) ++ rest) h
 
   pub total-cost : c < 256 ^ 8 → costIn whole (length es) ≡ c
-  total-cost h = field 5 8 ∙ be-put 8 c (d ∷ v ∷ rest) h
+  total-cost h = field 6 8 ∙ be-put 8 c (d ∷ v ∷ rest) h
 
   pub total-degrees : degreesIn whole (length es) ≡ d
-  total-degrees = byte 13
+  total-degrees = byte 14
 
   pub total-verdict : verdictIn whole (length es) ≡ v
-  total-verdict = byte 14
+  total-verdict = byte 15

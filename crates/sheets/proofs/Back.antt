@@ -12,12 +12,12 @@ use Rattle.plants.specs.Limits.{maxStreams}
 use Rattle.sheets.specs.declared.Entry.{Entry}
 use Rattle.sheets.specs.declared.SheetRecord.{SheetRecord}
 use Rattle.sheets.specs.declared.SheetRecord.the-variants.{Listed, Ended, Refused}
-use Rattle.sheets.specs.Sheets.{recordOf, recordsOf, SheetParts, partsBytes}
-use Rattle.sheets.specs.Kept.{noSheet, someSheet, fieldsFit, recordAt, onRecord, sheetWith, recordsFrom, mostRecords, readSheet, fits, allFit, WithinSheet, Reopening}
-use Rattle.sheets.proofs.Records.{totalBytes, EndedAs, Meaning, record-means}
+use Rattle.sheets.specs.Sheets.{recordOf, recordsOf, totalBytes, SheetParts, partsBytes}
+use Rattle.sheets.specs.Kept.{noSheet, someSheet, fieldsFit, recordAt, onRecord, sheetWith, recordsFrom, mostRecords, readSheet, fits, allFit, kindFits, WithinSheet, Reopening}
+use Rattle.sheets.proofs.Records.{EndedAs, Meaning, record-means}
 use Rattle.sheets.proofs.There.{there}
 
-not-both : (f : ℕ) (p : SheetParts) → noSheet f ≡ someSheet p → ⊥
+pub not-both : (f : ℕ) (p : SheetParts) → noSheet f ≡ someSheet p → ⊥
 not-both f p e = let z : _≡_ {A = ℕ} 0 1 = cc in omega arith
 
 -- The streams that the rest of the bytes lists.
@@ -26,6 +26,7 @@ record Lists (done : List Entry) (s : List ℕ) (p : SheetParts) : Type 0 where
   streams : p .streams ≡ done ++ more
   bytes : s ≡ recordsOf more ++ totalBytes (p .total)
   flows : allFit more ≡ true
+  kind : kindFits (p .total .kind) (p .total .office) ≡ true
   number : p .total .sheet < 256 ^ 4
   cost : p .total .cost < 256 ^ 8
   allowed : fieldsFit (p .total) ≡ true
@@ -48,6 +49,7 @@ rest-back (suc l) done s p a e =
           streams = sym (d ∙ ap (λ (q : SheetParts). q .streams) g);
           bytes = k .bytes a;
           flows = refl;
+          kind = k .kind;
           number = k .number a;
           cost = k .cost a;
           allowed = k .allowed;
@@ -62,6 +64,7 @@ rest-back (suc l) done s p a e =
           streams = r .streams ∙ d;
           bytes = h .bytes a ∙ ap (λ (t : List ℕ). b ++ t) (r .bytes) ∙ sym (append-assoc b (recordsOf es) (totalBytes (p .total)));
           flows = and-both (fits (x .class) (x .flow)) (allFit es) (h .held a) (r .flows);
+          kind = r .kind;
           number = r .number;
           cost = r .cost;
           allowed = r .allowed;
@@ -94,6 +97,7 @@ all-back l b s a e =
       record {
         few = rest-few l [] b s (omega arith) e;
         flows = rw same (r .flows);
+        kind = r .kind;
         number = r .number;
         cost = r .cost;
         allowed = r .allowed;

@@ -3,7 +3,7 @@ use mathlib.Core.Path.{_≡_, sym, ap, _∙_}
 use mathlib.Core.Logic.{⊎-elim}
 use mathlib.Core.List.{List}
 use lib.IntN.{ℤ, pos, _*ℤ_}
-use Prim.Native.Nat.{ℕ, suc, _*_, _≤_}
+use Prim.Native.Nat.{ℕ, _*_, _≤_}
 use native.Mathlib.Nat.{mul-le-mul-left}
 use native.Mathlib.Omega.{arith}
 use borrow.Author.Tests.{eqb-true, eqb-false}
@@ -23,14 +23,15 @@ use Rattle.fractions.proofs.AsRead.{as-read}
 use Rattle.fractions.proofs.Near.{near-fractions, one-fraction}
 use Rattle.sheets.specs.declared.Sheet.{Sheet}
 use Rattle.sheets.specs.Apart.{numberAt}
-use Rattle.sheets.specs.Sentences.{adjustedWeights, topSheet, callFault, Tells, Answers}
+use Rattle.sheets.specs.Sentences.{adjustedWeights, callFault, Tells, Answers}
+use Rattle.sheets.specs.Counters.{topSheet, counterOf, nextOf}
 use Rattle.sheets.specs.Says.{SheetSays}
 use Rattle.sheets.specs.DeskTool.{Beside, Desk-tool}
 
 -- Of bytes that tell of a plant what a sheet has to.
-beside : (p : Plant) → Within p → (n : ℕ) (b : List ℕ) → Tells p (length (p .streams)) n b → (d : ℕ) (ys : List ℤ) → LeastInFractions p d ys
+beside : (p : Plant) → Within p → (k n : ℕ) (b : List ℕ) → Tells p (length (p .streams)) k n b → (d : ℕ) (ys : List ℤ) → LeastInFractions p d ys
     → Beside p b d ys
-beside p w n b t d ys m = record {
+beside p w i n b t d ys m = record {
   all = all;
   each = λ k q. omega (arith, all, mul-le-mul-left 4 (apart-part d (p .streams) ys (numberAt b) (length (p .streams)) k (q .0) (q .1)));
   as-read = λ k q e. as-read p w d ys m k (q .0) (q .1) (t .as-read k q .0 e) ∙ ap (λ (x : ℤ). pos d *ℤ x) (sym (t .reading k q e));
@@ -49,7 +50,7 @@ beside p w n b t d ys m = record {
     all = rw shown (near-fractions p w xs ys d (adjustedWeights p b (length (p .streams))) (c .balance) m (t .near xs c d ys (m .some) (m .allowed)))
 
 module _ (nineteen : Refusal-19)
-    (answers : (file : List ℕ) (last : ℕ) (o o′ : List ℕ) (r : Sheet) → last ≤ topSheet → SheetSays file last o o′ r → Answers file last o o′ r) where
+    (answers : (file : List ℕ) (office : ℕ) (lasts o o′ : List ℕ) (r : Sheet) → counterOf office lasts ≤ topSheet → SheetSays file office lasts o o′ r → Answers file office lasts o o′ r) where
   -- A plant with a flow in fractions has a cheapest whole-number flow.
   some-cheapest : (file : List ℕ) (p : Plant) (d : ℕ) (ys : List ℤ) → readPlant file ≡ got p → LeastInFractions p d ys → (xs : List ℤ) × Cheapest p xs
   some-cheapest file p d ys e m =
@@ -57,13 +58,13 @@ module _ (nineteen : Refusal-19)
 
   pub desk-tool : Desk-tool
   desk-tool = record {
-    near = λ file last o o′ r top s n p d ys e m.
-        let a = answers file last o o′ r top s in
+    near = λ file office lasts o o′ r top s n p d ys e m.
+        let a = answers file office lasts o o′ r top s in
         let x = some-cheapest file p d ys e m in
-        beside p (within p (accepted file p e .0)) (suc last) o′ (a .full p (x .0) (taken file last o o′ r a n) e (x .1 .balance) .tells) d ys m;
+        beside p (within p (accepted file p e .0)) office (nextOf office lasts) o′ (a .full p (x .0) (taken file office lasts o o′ r a n) e (x .1 .balance) .tells) d ys m;
     one = λ file p d e ys zs g m o k q. one-fraction p (within p (accepted file p g .0)) d e ys zs m o k (q .0) (q .1);
   }
     where
-      taken : (file : List ℕ) (last : ℕ) (o o′ : List ℕ) (r : Sheet) → Answers file last o o′ r → r .number ≡ 0 → callFault last o ≡ 0
-      taken file last o o′ r a n = by-cases (eqb (callFault last o) 0) (λ t. eqb-true (callFault last o) 0 t)
-          (λ t. sym (ap (λ (y : Sheet). y .number) (a .unfit (eqb-false (callFault last o) 0 t) .0)) ∙ n)
+      taken : (file : List ℕ) (office : ℕ) (lasts o o′ : List ℕ) (r : Sheet) → Answers file office lasts o o′ r → r .number ≡ 0 → callFault office lasts o ≡ 0
+      taken file office lasts o o′ r a n = by-cases (eqb (callFault office lasts o) 0) (λ t. eqb-true (callFault office lasts o) 0 t)
+          (λ t. sym (ap (λ (y : Sheet). y .number) (a .unfit (eqb-false (callFault office lasts o) 0 t) .0)) ∙ n)

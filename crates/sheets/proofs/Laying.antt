@@ -50,10 +50,10 @@ records-most (suc k) (e ∷ es) =
     omega (arith, length-append b (recordsOf (take k es)), record-most (e .class) (e .flow), records-most k es)
 
 -- A sheet is no longer than the least slice.
-pub sheet-most : (p : Plant) (xs : List ℤ) (n : ℕ) → length (p .streams) ≤ maxStreams → length (sheetOf p xs n) ≤ leastSlice
-sheet-most p xs n h =
+pub sheet-most : (office : ℕ) (p : Plant) (xs : List ℤ) (n : ℕ) → length (p .streams) ≤ maxStreams → length (sheetOf office p xs n) ≤ leastSlice
+sheet-most office p xs n h =
     let rs = recordsOf (take (length (p .streams)) (balanceOf p xs .streams)) in
-    let t = totalOf n (balanceOf p xs .cost) (balanceOf p xs .degrees) (balanceOf p xs .verdict) in
+    let t = totalOf office n (balanceOf p xs .cost) (balanceOf p xs .degrees) (balanceOf p xs .verdict) in
     omega (arith, length-append rs t, records-most (length (p .streams)) (balanceOf p xs .streams))
 
 -- The records laid down: the total has room behind them.
@@ -77,10 +77,10 @@ module _ {k : ℕ} (b : Balance) {o o₁ : List ℕ} {m : ℕ} (r : Recorded k (
   total-room = let a = r .wide in let b = r .most in room (r .so-far) totalSize (omega arith)
 
   -- The total behind them makes the sheet whole.
-  pub sheet-put : (n : ℕ) (last : List ℕ) → last ≡ over (totalOf n (b .cost) (b .degrees) (b .verdict)) (partFrom m o₁)
-      → Put (sheetBytes k n b) o (returned m o₁ last) (m + totalSize)
-  sheet-put n last q =
+  pub sheet-put : (office n : ℕ) (last : List ℕ) → last ≡ over (totalOf office n (b .cost) (b .degrees) (b .verdict)) (partFrom m o₁)
+      → Put (sheetBytes office k n b) o (returned m o₁ last) (m + totalSize)
+  sheet-put office n last q =
       let a = r .wide in
       let c = r .most in
-      let l = lay (r .so-far) (totalOf n (b .cost) (b .degrees) (b .verdict)) (omega arith) q in
+      let l = lay (r .so-far) (totalOf office n (b .cost) (b .degrees) (b .verdict)) (omega arith) q in
       record { bytes = l .bytes; size = sym (l .size) }

@@ -2,11 +2,11 @@
 use mathlib.Core.Path.{_≡_, refl, sym, ap, _∙_, subst}
 use mathlib.Core.Bool.{Bool, true, false}
 use mathlib.Core.List.{List}
-use Prim.Native.Nat.{ℕ, _≤_}
+use Prim.Native.Nat.{ℕ, _≤_, _<_}
 use lib.ListN.{length}
-use lib.Dec.{eqb, ltb}
-use borrow.Author.Tests.{eq-eqb, ne-eqb, ltb-false, eqb-false}
-use Rattle.numbers.specs.Choice.{refuseIf}
+use lib.Dec.{eqb, ltb, leb}
+use borrow.Author.Tests.{eq-eqb, ne-eqb, ltb-false, leb-false, eqb-false}
+use Rattle.numbers.specs.Choice.{refuseIf, firstOf}
 use Rattle.numbers.proofs.Tests.{refuse-none, first-none-left, first-none-right}
 use Rattle.numbers.specs.Inner.{pickT}
 use Rattle.plants.specs.declared.Read.{Read}
@@ -23,7 +23,8 @@ use Rattle.sheets.specs.declared.Outcome.{Outcome}
 use Rattle.sheets.specs.Balances.{BalanceSays, OutcomeSays}
 use Rattle.sheets.specs.Apart.{leastSlice}
 use Rattle.sheets.specs.Says.{SheetWith, SheetSays}
-use Rattle.sheets.specs.Sentences.{topSheet, callFault, Refused}
+use Rattle.sheets.specs.Counters.{offices, topSheet, counterOf}
+use Rattle.sheets.specs.Sentences.{callFault, Refused}
 
 -- What the reader handed over, by its number.
 pub read-bad : (g : Got) (y : Read) → y ≡ readOf g → (y .number ≡ 0 → ⊥) → g ≡ bad (y .number)
@@ -62,24 +63,30 @@ module _ (p : Plant) (r : Outcome) (h : OutcomeSays p r) where
   pub outcome-overfull : r .found ≡ false → Overfull p (r .marked)
   outcome-overfull t = subst (λ (b : Bool). pickT b (BalanceSays p (r .balance)) (Overfull p (r .marked))) t h
 
--- A call without fault: the slice is long enough, and a sheet number is left.
-module _ (last : ℕ) (o : List ℕ) (e : callFault last o ≡ 0) where
+-- A call without fault: the slice is long enough, the office has a counter, and a sheet number is left of it.
+module _ (office : ℕ) (lasts : List ℕ) (o : List ℕ) (e : callFault office lasts o ≡ 0) where
   pub long-enough : leastSlice ≤ length o
   long-enough = ltb-false (length o) leastSlice (refuse-none _ 0 (first-none-left (refuseIf (ltb (length o) leastSlice) 1) _ e))
 
-  pub one-left : last ≡ topSheet → ⊥
-  one-left = eqb-false last topSheet (refuse-none _ 1 (first-none-right (refuseIf (ltb (length o) leastSlice) 1) _ e))
+  taken : firstOf (refuseIf (leb offices office) 22) (refuseIf (eqb (counterOf office lasts) topSheet) 2) ≡ 0
+  taken = first-none-right (refuseIf (ltb (length o) leastSlice) 1) _ e
+
+  pub has-counter : office < offices
+  has-counter = leb-false offices office (refuse-none _ 21 (first-none-left (refuseIf (leb offices office) 22) _ taken))
+
+  pub one-left : counterOf office lasts ≡ topSheet → ⊥
+  one-left = eqb-false (counterOf office lasts) topSheet (refuse-none _ 1 (first-none-right (refuseIf (leb offices office) 22) _ taken))
 
 -- What a call ensures, by its fault and by the file.
-module _ (file : List ℕ) (last : ℕ) (o o′ : List ℕ) (r : Sheet) (s : SheetSays file last o o′ r) where
-  call-by : (b : Bool) → eqb (callFault last o) 0 ≡ b → pickT b (SheetWith (readPlant file) last o o′ r) (Refused (callFault last o) last o o′ r)
-  call-by b e = subst (λ (b : Bool). pickT b (SheetWith (readPlant file) last o o′ r) (Refused (callFault last o) last o o′ r)) e s
+module _ (file : List ℕ) (office : ℕ) (lasts o o′ : List ℕ) (r : Sheet) (s : SheetSays file office lasts o o′ r) where
+  call-by : (b : Bool) → eqb (callFault office lasts o) 0 ≡ b → pickT b (SheetWith (readPlant file) office lasts o o′ r) (Refused (callFault office lasts o) lasts o o′ r)
+  call-by b e = subst (λ (b : Bool). pickT b (SheetWith (readPlant file) office lasts o o′ r) (Refused (callFault office lasts o) lasts o o′ r)) e s
 
-  pub call-faulty : (callFault last o ≡ 0 → ⊥) → Refused (callFault last o) last o o′ r
-  call-faulty n = call-by false (ne-eqb (callFault last o) 0 n)
+  pub call-faulty : (callFault office lasts o ≡ 0 → ⊥) → Refused (callFault office lasts o) lasts o o′ r
+  call-faulty n = call-by false (ne-eqb (callFault office lasts o) 0 n)
 
-  pub call-taken : callFault last o ≡ 0 → SheetWith (readPlant file) last o o′ r
-  call-taken z = call-by true (eq-eqb (callFault last o) 0 z)
+  pub call-taken : callFault office lasts o ≡ 0 → SheetWith (readPlant file) office lasts o o′ r
+  call-taken z = call-by true (eq-eqb (callFault office lasts o) 0 z)
 
-  pub call-read : (g : Got) → callFault last o ≡ 0 → readPlant file ≡ g → SheetWith g last o o′ r
-  call-read g z e = subst (λ (g : Got). SheetWith g last o o′ r) e (call-taken z)
+  pub call-read : (g : Got) → callFault office lasts o ≡ 0 → readPlant file ≡ g → SheetWith g office lasts o o′ r
+  call-read g z e = subst (λ (g : Got). SheetWith g office lasts o o′ r) e (call-taken z)

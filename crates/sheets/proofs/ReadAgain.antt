@@ -6,8 +6,8 @@ use lib.IntN.{ℤ, natAbs}
 use Prim.Native.Nat.{ℕ, suc, _+_, _*_, _^_, _<_, _≤_}
 use native.Mathlib.Omega.{arith}
 use lib.Dec.{eqb, leb}
-use lib.ListN.{length, getD}
-use borrow.Author.Tests.{ne-eqb, le-leb}
+use lib.ListN.{length, getD, take}
+use borrow.Author.Tests.{lt-ltb, ne-eqb, le-leb}
 use Rattle.numbers.proofs.Tests.{by-cases, and-both}
 use Rattle.numbers.proofs.Complement.{small-held}
 use Rattle.plants.specs.Plants.{Plant}
@@ -23,9 +23,10 @@ use Rattle.flows.proofs.Nets.{inside}
 use Rattle.flows.proofs.Given.{number-is}
 use Rattle.flows.proofs.Degrees.{degrees-most}
 use Rattle.sheets.specs.declared.Entry.{Entry}
-use Rattle.sheets.specs.Balances.{entryOf}
-use Rattle.sheets.specs.Sheets.{plantParts, sheetOf}
-use Rattle.sheets.specs.Kept.{someSheet, readSheet, verdictFits, fieldsFit, fits, allFit, WithinSheet}
+use Rattle.sheets.specs.Balances.{entryOf, balanceOf}
+use Rattle.sheets.specs.Sheets.{SheetParts, partsBytes, partsOf}
+use Rattle.sheets.specs.Counters.{offices}
+use Rattle.sheets.specs.Kept.{someSheet, readSheet, verdictFits, fieldsFit, fits, allFit, kindFits, WithinSheet}
 use Rattle.flows.proofs.Ranges.{balanced-of}
 use Rattle.sheets.proofs.Capped.{capped-most}
 use Rattle.sheets.proofs.Entries.{noEntry}
@@ -51,32 +52,38 @@ verdict-fits d c q =
     (λ t. by-cases (leb c (criticalAt d)) (λ u. rw (t, u) refl)
     (λ u. by-cases (leb (4 * c) (4 * criticalAt d + q)) (λ v. rw (t, u, v) refl) (λ v. rw (t, u, v) refl)))
 
-module _ (p : Plant) (w : Within p) (xs : List ℤ) (c : Cheapest p xs) (last : ℕ) (sized : Sized p xs) (small : suc last < 256 ^ 4) where
-  abbrev parts : List Entry
-  parts = plantParts p xs (suc last) .streams
+module _ (p : Plant) (w : Within p) (xs : List ℤ) (c : Cheapest p xs) (sized : Sized p xs) where
+  abbrev listed : List Entry
+  listed = take (length (p .streams)) (balanceOf p xs .streams)
 
-  each : (k : ℕ) → k < length parts → fits (getD parts k noEntry .class) (getD parts k noEntry .flow) ≡ true
+  each : (k : ℕ) → k < length listed → fits (getD listed k noEntry .class) (getD listed k noEntry .flow) ≡ true
   each k h =
-      let l : k < length (p .streams) = omega (arith, es-long p w xs c 0 []) in
-      subst (λ (e : Entry). fits (e .class) (e .flow) ≡ true) (sym (entry-at p w xs c 0 [] k l))
+      let l : k < length (p .streams) = omega (arith, es-long p w xs c 0 0 []) in
+      subst (λ (e : Entry). fits (e .class) (e .flow) ≡ true) (sym (entry-at p w xs c 0 0 [] k l))
       (entry-fits (classOf p k) (numberOf p xs k) (λ n. rw (number-is p w xs (balanced-of 1 p xs (c .balance)) k l n) (sized k l n)))
 
-  total-fits : fieldsFit (plantParts p xs (suc last) .total) ≡ true
-  total-fits =
-      let few : degrees p ≤ maxUnits = degrees-most p (w .few-units) (inside p w) in
-      rw (degrees-is p w xs c 0 [], verdict-is p w xs c 0 [], ne-eqb (suc last) 0 (omega arith), le-leb (degrees p) maxUnits few)
-      (verdict-fits (degrees p) (cost (p .streams) xs) (adjusted p))
+  -- Under a total of either kind.
+  module _ (kind office last : ℕ) (fit : kindFits kind office ≡ true) (known : office < offices) (small : suc last < 256 ^ 4) where
+    abbrev parts : SheetParts
+    parts = partsOf kind office (length (p .streams)) (suc last) (balanceOf p xs)
 
-  pub within-sheet : WithinSheet (plantParts p xs (suc last))
-  within-sheet =
-      let f = w .few-streams in
-      record {
-        few = omega (arith, es-long p w xs c 0 []);
-        flows = all-fit parts each;
-        number = small;
-        cost = omega (arith, cost-is p w xs c 0 [], capped-most (cost (p .streams) xs));
-        allowed = total-fits;
-      }
+    total-fits : fieldsFit (parts .total) ≡ true
+    total-fits =
+        let few : degrees p ≤ maxUnits = degrees-most p (w .few-units) (inside p w) in
+        rw (lt-ltb office offices known, degrees-is p w xs c 0 0 [], verdict-is p w xs c 0 0 [], ne-eqb (suc last) 0 (omega arith), le-leb (degrees p) maxUnits few)
+        (verdict-fits (degrees p) (cost (p .streams) xs) (adjusted p))
 
-  pub read-back : readSheet (sheetOf p xs (suc last)) ≡ someSheet (plantParts p xs (suc last))
-  read-back = there (plantParts p xs (suc last)) within-sheet
+    pub within-sheet : WithinSheet parts
+    within-sheet =
+        let f = w .few-streams in
+        record {
+          few = omega (arith, es-long p w xs c 0 0 []);
+          flows = all-fit listed each;
+          kind = fit;
+          number = small;
+          cost = omega (arith, cost-is p w xs c 0 0 [], capped-most (cost (p .streams) xs));
+          allowed = total-fits;
+        }
+
+    pub read-back : readSheet (partsBytes parts) ≡ someSheet parts
+    read-back = there parts within-sheet

@@ -20,13 +20,9 @@ use Rattle.sheets.specs.declared.Entry.{Entry}
 use Rattle.sheets.specs.declared.Total.{Total}
 use Rattle.sheets.specs.declared.SheetRecord.{SheetRecord}
 use Rattle.sheets.specs.declared.SheetRecord.the-variants.{Listed, Ended, Refused}
-use Rattle.sheets.specs.Apart.{adjustedKind, asReadKind, givenKind, withheldKind, totalKind, streamSize, totalSize}
-use Rattle.sheets.specs.Sheets.{recordOf, totalOf}
-use Rattle.sheets.specs.Kept.{shownIn, blank, streamRecord, totalIn, fieldsFit, totalFault, afterFault, endFault, totalRecord, kindRecord, recordAt, fits}
-
--- The bytes of a total.
-abbrev pub totalBytes : Total → List ℕ
-totalBytes t = totalOf (t .sheet) (t .cost) (t .degrees) (t .verdict)
+use Rattle.sheets.specs.Apart.{adjustedKind, asReadKind, givenKind, withheldKind, totalKind, plainKind, streamSize, bodySize, totalSize, plainSize}
+use Rattle.sheets.specs.Sheets.{recordOf, bodyOf, totalBytes}
+use Rattle.sheets.specs.Kept.{shownIn, blank, streamRecord, totalIn, plainIn, fieldsFit, totalFault, afterFault, endFault, totalRecord, kindRecord, recordAt, fits, kindFits}
 
 -- An entry listed by a record of m bytes at the front of s, after c streams.
 pub record ListedAs (c : ℕ) (s : List ℕ) (e : Entry) (m : ℕ) : Type 0 where
@@ -38,6 +34,7 @@ pub record ListedAs (c : ℕ) (s : List ℕ) (e : Entry) (m : ℕ) : Type 0 wher
 -- A total that ends the sheet.
 pub record EndedAs (s : List ℕ) (t : Total) : Type 0 where
   pub allowed : fieldsFit t ≡ true
+  pub kind : kindFits (t .kind) (t .office) ≡ true
   pub bytes : allBytes s ≡ true → s ≡ totalBytes t
   pub number : allBytes s ≡ true → t .sheet < 256 ^ 4
   pub cost : allBytes s ≡ true → t .cost < 256 ^ 8
@@ -72,12 +69,12 @@ module _ (size : ℕ) (e : Entry) (c : ℕ) (s : List ℕ) (b : Bool) (q : b ≡
 pub fit-whole : (size c : ℕ) (s : List ℕ) (b : Bool) → b ≡ (leb maxStreams c || ltb (length s) size) → b ≡ false → size ≤ length s
 fit-whole size c s b q t = ltb-false (length s) size (or-none-right (leb maxStreams c) (ltb (length s) size) (sym q ∙ t))
 
--- The total at the end, whole: the refusal of its fields or of what follows it.
-pub end-is : (s : List ℕ) {t : Total} {f a g : ℕ} → totalSize ≤ length s → t ≡ totalIn s → f ≡ totalFault t → a ≡ afterFault s → g ≡ firstOf f a → g ≡ endFault s
-end-is s {g = g} l et ef ea eg = eg ∙ (λ i. firstOf ((ef ∙ ap totalFault et) i) (ea i)) ∙ whole
+-- A total at the end, whole: the refusal of its fields or of what follows it.
+pub end-is : (size : ℕ) (t : Total) (s : List ℕ) {g : ℕ} → size ≤ length s → g ≡ firstOf (totalFault t) (afterFault size s) → g ≡ endFault size t s
+end-is size t s l e = e ∙ whole
   where
-    whole : firstOf (totalFault (totalIn s)) (afterFault s) ≡ endFault s
-    whole = simp (le-ltb (length s) totalSize l)
+    whole : firstOf (totalFault t) (afterFault size s) ≡ endFault size t s
+    whole = simp (le-ltb (length s) size l)
 
 -- A number behind the kind, written again.
 number-again : (b : List ℕ) → allBytes b ≡ true → 8 ≤ length b → b ≡ putBe 8 (raw 8 (signed 8 (be 0 8 b))) ++ drop 8 b
@@ -95,15 +92,15 @@ shown-again x k b e f h a =
     let bytes = byte-first x b a .1 in
     (f ∙ number-held b bytes (omega arith), ap (λ (l : List ℕ). x ∷ l) (number-again b bytes (omega arith)) ∙ ap (λ (l : List ℕ). l ++ drop 8 b) (sym e))
 
--- The total, written again.
+-- What a total ends in, written again.
 last-two : (r : List ℕ) → length r ≡ 2 → r ≡ getD r 0 0 ∷ getD r 1 0 ∷ []
 last-two [] h = absurd (omega arith)
 last-two (x ∷ []) h = absurd (omega arith)
 last-two (x ∷ y ∷ []) h = refl
 last-two (x ∷ y ∷ z ∷ r) h = absurd (omega arith)
 
-total-again : (b : List ℕ) → allBytes b ≡ true → length b ≡ 14 → b ≡ putBe 4 (be 0 4 b) ++ putBe 8 (be 4 8 b) ++ (getD b 12 0 ∷ getD b 13 0 ∷ [])
-total-again b a h =
+body-again : (b : List ℕ) → allBytes b ≡ true → length b ≡ bodySize → b ≡ bodyOf (be 0 4 b) (be 4 8 b) (getD b 12 0) (getD b 13 0)
+body-again b a h =
     let n : putBe 4 (be 0 4 b) ≡ take 4 b = put-be 0 4 b a (omega arith) in
     let c : putBe 8 (be 4 8 b) ≡ take 8 (drop 4 b) = put-be 4 8 b a (omega arith) in
     let size : length (drop 12 b) ≡ 2 = omega (arith, length-drop 12 b) in
@@ -122,24 +119,55 @@ three false true c h = (omega arith, omega arith)
 three false false true h = (omega arith, omega arith)
 three false false false h = absurd (h refl)
 
-ended-means : (s : List ℕ) → endFault s ≡ 0 → (allBytes s ≡ true → length s ≡ totalSize → s ≡ totalBytes (totalIn s)) → EndedAs s (totalIn s)
-ended-means s e again =
-    let after = first-none-right (refuseIf (ltb (length s) totalSize) 13) _ e in
-    let u = eqb (length s) totalSize in
-    let l : length s ≡ totalSize = eqb-true (length s) totalSize (not-false u (refuse-none (not u) 14 (first-none-right (totalFault (totalIn s)) (afterFault s) after))) in
+-- What is known of the bytes of a total, where they are whole and no more.
+record Again (s : List ℕ) (t : Total) : Type 0 where
+  bytes : s ≡ totalBytes t
+  number : t .sheet < 256 ^ 4
+  cost : t .cost < 256 ^ 8
+
+plain-again : (b : List ℕ) → allBytes b ≡ true → length b ≡ bodySize → Again (plainKind ∷ b) (plainIn (plainKind ∷ b))
+plain-again b a l = record {
+  bytes = ap (λ (r : List ℕ). plainKind ∷ r) (body-again b a l);
+  number = be-fits 0 4 b a (omega arith);
+  cost = be-fits 4 8 b a (omega arith);
+}
+
+total-again : (b : List ℕ) → allBytes b ≡ true → length b ≡ suc bodySize → Again (totalKind ∷ b) (totalIn (totalKind ∷ b))
+total-again [] a l = absurd (omega arith)
+total-again (k ∷ b) a l =
+    let bytes = byte-first k b a .1 in
     record {
-      allowed = not-false (fieldsFit (totalIn s)) (refuse-none _ 13 (first-none-left (totalFault (totalIn s)) (afterFault s) after));
-      bytes = λ a. again a l;
-      number = λ a. be-fits 1 4 s a (omega arith);
-      cost = λ a. be-fits 5 8 s a (omega arith);
+      bytes = ap (λ (r : List ℕ). totalKind ∷ k ∷ r) (body-again b bytes (omega arith));
+      number = be-fits 0 4 b bytes (omega arith);
+      cost = be-fits 4 8 b bytes (omega arith);
     }
 
-total-means : (c : ℕ) (b : List ℕ) → Meaning c (totalKind ∷ b) (totalRecord (totalKind ∷ b))
-total-means c b =
-    picked (Meaning c (totalKind ∷ b)) (eqb (endFault (totalKind ∷ b)) 0) (Ended (totalIn (totalKind ∷ b))) (Refused (endFault (totalKind ∷ b)))
-    (λ t. ended-means (totalKind ∷ b) (eqb-true (endFault (totalKind ∷ b)) 0 t)
-    (λ a l. ap (λ (r : List ℕ). totalKind ∷ r) (total-again b (byte-first totalKind b a .1) (omega arith))))
-    (λ t. three (ltb (suc (length b)) totalSize) (not (fieldsFit (totalIn (totalKind ∷ b)))) (not (eqb (suc (length b)) totalSize)) (eqb-false (endFault (totalKind ∷ b)) 0 t))
+-- A total that is there whole, or its refusal.
+module _ (size : ℕ) (t : Total) (s : List ℕ) (fit : kindFits (t .kind) (t .office) ≡ true) (again : allBytes s ≡ true → length s ≡ size → Again s t) where
+  ended-means : endFault size t s ≡ 0 → EndedAs s t
+  ended-means e =
+      let after = first-none-right (refuseIf (ltb (length s) size) 13) _ e in
+      let u = eqb (length s) size in
+      let l : length s ≡ size = eqb-true (length s) size (not-false u (refuse-none (not u) 14 (first-none-right (totalFault t) (afterFault size s) after))) in
+      record {
+        allowed = not-false (fieldsFit t) (refuse-none _ 13 (first-none-left (totalFault t) (afterFault size s) after));
+        kind = fit;
+        bytes = λ a. again a l .bytes;
+        number = λ a. again a l .number;
+        cost = λ a. again a l .cost;
+      }
+
+  end-means : (c : ℕ) → Meaning c s (totalRecord size t s)
+  end-means c =
+      picked (Meaning c s) (eqb (endFault size t s) 0) (Ended t) (Refused (endFault size t s))
+      (λ z. ended-means (eqb-true (endFault size t s) 0 z))
+      (λ z. three (ltb (length s) size) (not (fieldsFit t)) (not (eqb (length s) size)) (eqb-false (endFault size t s) 0 z))
+
+total-means : (c : ℕ) (b : List ℕ) → Meaning c (totalKind ∷ b) (totalRecord totalSize (totalIn (totalKind ∷ b)) (totalKind ∷ b))
+total-means c b = end-means totalSize (totalIn (totalKind ∷ b)) (totalKind ∷ b) refl (λ a l. total-again b (byte-first totalKind b a .1) (omega arith)) c
+
+plain-means : (c : ℕ) (b : List ℕ) → Meaning c (plainKind ∷ b) (totalRecord plainSize (plainIn (plainKind ∷ b)) (plainKind ∷ b))
+plain-means c b = end-means plainSize (plainIn (plainKind ∷ b)) (plainKind ∷ b) refl (λ a l. plain-again b (byte-first plainKind b a .1) (omega arith)) c
 
 -- What is known of the record that stands where one is due.
 pub record-means : (c : ℕ) (s : List ℕ) → Meaning c s (recordAt c s)
@@ -150,7 +178,8 @@ record-means c (k ∷ b) =
     (λ t. picked M (eqb k asReadKind) _ _ (λ u. rw (eqb-true k asReadKind u) (stream-means c streamSize (asReadKind ∷ b) (shownIn AsRead (asReadKind ∷ b)) (shown-again asReadKind AsRead b refl refl)))
     (λ t. picked M (eqb k givenKind) _ _ (λ u. rw (eqb-true k givenKind u) (stream-means c streamSize (givenKind ∷ b) (shownIn Given (givenKind ∷ b)) (shown-again givenKind Given b refl refl)))
     (λ t. picked M (eqb k withheldKind) _ _ (λ u. rw (eqb-true k withheldKind u) (stream-means c 1 (withheldKind ∷ b) blank (λ l a. (refl, refl))))
-    (λ t. picked M (eqb k totalKind) _ _ (λ u. rw (eqb-true k totalKind u) (total-means c b)) (λ t. refused))))))
+    (λ t. picked M (eqb k totalKind) _ _ (λ u. rw (eqb-true k totalKind u) (total-means c b))
+    (λ t. picked M (eqb k plainKind) _ _ (λ u. rw (eqb-true k plainKind u) (plain-means c b)) (λ t. refused)))))))
   where
     M : SheetRecord → Type 0
     M = Meaning c (k ∷ b)

@@ -24,6 +24,7 @@ use Rattle.flows.specs.Certificate.{certified}
 use Rattle.flows.proofs.Certified.{certified-cheapest}
 use Rattle.sheets.specs.declared.Sheet.{Sheet}
 use Rattle.sheets.specs.Sentences.{callFault, Overfilled}
+use Rattle.sheets.specs.Counters.{officesFrom}
 use Rattle.sheets.specs.Balances.{balanceOf}
 use Rattle.sheets.specs.Sheets.{sheetOf}
 use Rattle.sheets.specs.Says.{Drawn, SheetSays}
@@ -48,26 +49,26 @@ same-bytes (x ∷ xs) (y ∷ ys) e =
     λ i. h i ∷ t i
 
 -- A call draws the sheet of some cheapest flow, and any two have one sheet.
-calls-leave : (e : Example) (p : Plant) → readPlant (e .file) ≡ got p → Cheapest p (e .flow) → sheetOf p (e .flow) 1 ≡ e .sheet
-    → (o o′ : List ℕ) (r : Sheet) → callFault 0 o ≡ 0 → SheetSays (e .file) 0 o o′ r → o′ ≡ over (e .sheet) o
+calls-leave : (e : Example) (p : Plant) → readPlant (e .file) ≡ got p → Cheapest p (e .flow) → sheetOf 0 p (e .flow) 1 ≡ e .sheet
+    → (o o′ : List ℕ) (r : Sheet) → callFault 0 (officesFrom 0) o ≡ 0 → SheetSays (e .file) 0 (officesFrom 0) o o′ r → o′ ≡ over (e .sheet) o
 calls-leave e p q c b o o′ r z s =
     let w = within p (accepted (e .file) p q .0) in
-    let given : Drawn p 0 o o′ r ⊎ Overfilled p 0 o o′ r = call-read (e .file) 0 o o′ r s (got p) z q in
-    ⊎-elim (λ d. d .3 ∙ ap (λ (l : List ℕ). over l o) (one-sheet p w (d .0) (e .flow) (d .1) c 1 ∙ b))
+    let given : Drawn p 0 (officesFrom 0) o o′ r ⊎ Overfilled p (officesFrom 0) o o′ r = call-read (e .file) 0 (officesFrom 0) o o′ r s (got p) z q in
+    ⊎-elim (λ d. d .3 ∙ ap (λ (l : List ℕ). over l o) (one-sheet p w (d .0) (e .flow) (d .1) c 0 1 ∙ b))
     (λ m. never-both p w (e .flow) c (m .0) (m .1)) given
 
 -- The test of one example, with prices for the places.
 abbrev pub shows : Example → List ℤ → Got → Bool
 shows e prices (bad f) = false
-shows e prices (got p) = certified p (e .flow) prices && sameBytes (sheetOf p (e .flow) 1) (e .sheet)
+shows e prices (got p) = certified p (e .flow) prices && sameBytes (sheetOf 0 p (e .flow) 1) (e .sheet)
 
 pub shows-right : (e : Example) (prices : List ℤ) (g : Got) → readPlant (e .file) ≡ g → shows e prices g ≡ true → Shows e
 shows-right e prices (bad f) r t = absurd (false≢true t)
 shows-right e prices (got p) r t =
     let c = certified p (e .flow) prices in
-    let s = sameBytes (sheetOf p (e .flow) 1) (e .sheet) in
+    let s = sameBytes (sheetOf 0 p (e .flow) 1) (e .sheet) in
     let cheapest = certified-cheapest p (e .flow) prices (and-left c s t) in
-    (p, r, cheapest, calls-leave e p r cheapest (same-bytes (sheetOf p (e .flow) 1) (e .sheet) (and-right c s t)))
+    (p, r, cheapest, calls-leave e p r cheapest (same-bytes (sheetOf 0 p (e .flow) 1) (e .sheet) (and-right c s t)))
 
 -- The test of the whole table.
 abbrev allShow : List Example → List (List ℤ) → Bool
@@ -146,9 +147,9 @@ unit-full ss e m = record { long = refl; placed = past; bounded = λ k l t. limi
 pub refuses-right : (file : List ℕ) (p : Plant) (ms : List Bool) → readPlant file ≡ got p → Overfull p ms → Refuses file ms
 refuses-right file p ms e m = (p, e, m, calls)
   where
-    calls : (o o′ : List ℕ) (r : Sheet) → callFault 0 o ≡ 0 → SheetSays file 0 o o′ r → r .number ≡ 19
+    calls : (o o′ : List ℕ) (r : Sheet) → callFault 0 (officesFrom 0) o ≡ 0 → SheetSays file 0 (officesFrom 0) o o′ r → r .number ≡ 19
     calls o o′ r z s =
-        let given : Drawn p 0 o o′ r ⊎ Overfilled p 0 o o′ r = call-read file 0 o o′ r s (got p) z e in
+        let given : Drawn p 0 (officesFrom 0) o o′ r ⊎ Overfilled p (officesFrom 0) o o′ r = call-read file 0 (officesFrom 0) o o′ r s (got p) z e in
         ⊎-elim (λ d. never-both p (within p (accepted file p e .0)) (d .0) (d .1) ms m) (λ m. ap (λ (q : Sheet). q .number) (m .2 .0)) given
 
 pub refuses : Refuses fullFile fullUnit

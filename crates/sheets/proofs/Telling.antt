@@ -30,26 +30,27 @@ use Rattle.flows.proofs.Degrees.{degrees-most}
 use Rattle.flows.proofs.Counted.{some-each, degrees-counted}
 use Rattle.flows.proofs.Chained.{as-read-of, adjusted-of, given-times}
 use Rattle.sheets.specs.declared.Entry.{Entry}
-use Rattle.sheets.specs.Apart.{adjustedKind, totalKind, kindAt, numberAt, sheetNumberIn, costIn, degreesIn, verdictIn, capped, sheetLength}
+use Rattle.sheets.specs.Apart.{adjustedKind, totalKind, kindAt, numberAt, officeIn, sheetNumberIn, costIn, degreesIn, verdictIn, capped, sheetLength}
 use Rattle.sheets.specs.Sentences.{MeteredAt, UnmeteredAt, MetersAs, adjustedWeights, Tells}
 use Rattle.sheets.specs.Balances.{entryOf, balanceOf}
 use Rattle.sheets.specs.Sheets.{kindOf, recordsOf, totalOf, sheetOf}
 use Rattle.sheets.proofs.Capped.{capped-most}
 use Rattle.sheets.proofs.Entries.{noEntry, balance-long}
-use Rattle.sheets.proofs.Apart.{kind-at, number-at, total-begins, total-kind, total-number, total-cost, total-degrees, total-verdict}
+use Rattle.sheets.proofs.Apart.{kind-at, number-at, total-begins, total-kind, total-office, total-number, total-cost, total-degrees, total-verdict}
 use Rattle.sheets.proofs.Unique.{amount-same, cost-same}
 use Rattle.sheets.proofs.Judged.{passed-means, failed-means}
 
--- What is read in bytes that begin with sheet n of a flow.
-pub record Told (p : Plant) (xs : List ℤ) (n : ℕ) (b : List ℕ) : Type 0 where
+-- What is read in bytes that begin with an office's sheet n of a flow.
+pub record Told (p : Plant) (xs : List ℤ) (office n : ℕ) (b : List ℕ) : Type 0 where
   pub kinds : (k : ℕ) → k < length (p .streams) → kindAt b k ≡ kindOf (classOf p k)
   pub numbers : (k : ℕ) → k < length (p .streams) → (classOf p k ≡ Withheld → ⊥) → numberAt b k ≡ amountAt xs k
   pub total : kindAt b (length (p .streams)) ≡ totalKind
+  pub drawer : officeIn b (length (p .streams)) ≡ office
   pub numbered : sheetNumberIn b (length (p .streams)) ≡ n
   pub costs : costIn b (length (p .streams)) ≡ capped (cost (p .streams) xs)
   pub freedom : degreesIn b (length (p .streams)) ≡ degrees p
   pub verdict : verdictIn b (length (p .streams)) ≡ verdictAt (degrees p) (cost (p .streams) xs) (adjusted p)
-  pub size : sheetLength b (length (p .streams)) ≡ length (sheetOf p xs n)
+  pub size : sheetLength b (length (p .streams)) ≡ length (sheetOf office p xs n)
 
 -- An entry's class and its flow.
 entry-class : (c : Class) (x : ℤ) → entryOf c x .class ≡ c
@@ -68,7 +69,7 @@ entry-flow Withheld x n = absurd (n refl)
 abbrev pub Sized : Plant → List ℤ → Type 0
 Sized p xs = (k : ℕ) → k < length (p .streams) → (classOf p k ≡ Withheld → ⊥) → 2 * natAbs (amountAt xs k) < 256 ^ 8
 
-module _ (p : Plant) (w : Within p) (xs : List ℤ) (c : Cheapest p xs) (n : ℕ) (rest : List ℕ) where
+module _ (p : Plant) (w : Within p) (xs : List ℤ) (c : Cheapest p xs) (office n : ℕ) (rest : List ℕ) where
   abbrev count : ℕ
   count = length (p .streams)
 
@@ -103,10 +104,10 @@ module _ (p : Plant) (w : Within p) (xs : List ℤ) (c : Cheapest p xs) (n : ℕ
   verdict-is = refl
 
   abbrev end : List ℕ
-  end = totalOf n (balanceOf p xs .cost) (balanceOf p xs .degrees) (balanceOf p xs .verdict)
+  end = totalOf office n (balanceOf p xs .cost) (balanceOf p xs .degrees) (balanceOf p xs .verdict)
 
   module _ (sized : Sized p xs) (small : n < 256 ^ 4) where
-    told-apart : Told p xs n (recordsOf es ++ (end ++ rest))
+    told-apart : Told p xs office n (recordsOf es ++ (end ++ rest))
     told-apart =
         let l = es-long in
         let cs = balanceOf p xs .cost in
@@ -116,16 +117,17 @@ module _ (p : Plant) (w : Within p) (xs : List ℤ) (c : Cheapest p xs) (n : ℕ
         record {
           kinds = λ k h. kind-at es (end ++ rest) noEntry k (omega arith) ∙ ap kindOf (class-at k h);
           numbers = λ k h o. number-at es (end ++ rest) noEntry k (omega arith) (λ e. o (sym (class-at k h) ∙ e)) (rw (flow-at k h o) (sized k h o)) ∙ flow-at k h o;
-          total = rw es-long at (total-kind es n cs ds vs rest noEntry);
-          numbered = rw es-long at (total-number es n cs ds vs rest noEntry small);
-          costs = rw es-long at (total-cost es n cs ds vs rest noEntry fits) ∙ cost-is;
-          freedom = rw es-long at (total-degrees es n cs ds vs rest noEntry) ∙ degrees-is;
-          verdict = rw es-long at (total-verdict es n cs ds vs rest noEntry) ∙ verdict-is;
-          size = ap (λ (i : ℕ). i + 15) (rw es-long at (total-begins es (end ++ rest) noEntry)) ∙ sym (length-append (recordsOf es) end);
+          total = rw es-long at (total-kind es office n cs ds vs rest noEntry);
+          drawer = rw es-long at (total-office es office n cs ds vs rest noEntry);
+          numbered = rw es-long at (total-number es office n cs ds vs rest noEntry small);
+          costs = rw es-long at (total-cost es office n cs ds vs rest noEntry fits) ∙ cost-is;
+          freedom = rw es-long at (total-degrees es office n cs ds vs rest noEntry) ∙ degrees-is;
+          verdict = rw es-long at (total-verdict es office n cs ds vs rest noEntry) ∙ verdict-is;
+          size = ap (λ (i : ℕ). i + 16) (rw es-long at (total-begins es (end ++ rest) noEntry)) ∙ sym (length-append (recordsOf es) end);
         }
 
-    pub told : Told p xs n (sheetOf p xs n ++ rest)
-    told = subst (Told p xs n) (sym (append-assoc (recordsOf es) end rest)) told-apart
+    pub told : Told p xs office n (sheetOf office p xs n ++ rest)
+    told = subst (Told p xs office n) (sym (append-assoc (recordsOf es) end rest)) told-apart
 
 -- The kind tells the class.
 classFrom : ℕ → Class
@@ -150,7 +152,7 @@ weight-told Withheld s = refl
 iff-both : {A B C : Type 0} → (A ↔ B) → (B ↔ C) → A ↔ C
 iff-both f g = (λ a. g .0 (f .0 a), λ c. f .1 (g .1 c))
 
-module _ (p : Plant) (w : Within p) (shown : Shown p) (xs : List ℤ) (c : Cheapest p xs) (n : ℕ) (b : List ℕ) (t : Told p xs n b) where
+module _ (p : Plant) (w : Within p) (shown : Shown p) (xs : List ℤ) (c : Cheapest p xs) (office n : ℕ) (b : List ℕ) (t : Told p xs office n b) where
   abbrev m : ℕ
   m = length (p .streams)
 
@@ -194,7 +196,7 @@ module _ (p : Plant) (w : Within p) (shown : Shown p) (xs : List ℤ) (c : Cheap
   judged : (zs : List ℤ) → Cheapest p zs → verdictIn b m ≡ verdictAt (degreesIn b m) (cost (p .streams) zs) (adjustedWeights p b m)
   judged zs z = t .verdict ∙ (λ i. verdictAt (sym (t .freedom) i) (cost-same p w xs zs c z i) (weights m (omega arith) i))
 
-  pub tells : Tells p (length (p .streams)) n b
+  pub tells : Tells p (length (p .streams)) office n b
   tells = record {
     adjusted = λ i q. iff-both (kind-iff i (q .0) Adjusted) (adjusted-of p w i (q .1));
     as-read = λ i q. iff-both (kind-iff i (q .0) AsRead) (as-read-of p w i (q .1));
@@ -214,5 +216,6 @@ module _ (p : Plant) (w : Within p) (shown : Shown p) (xs : List ℤ) (c : Cheap
     passes = λ e zs z. passed-means (degreesIn b m) (cost (p .streams) zs) (adjustedWeights p b m) (sym (judged zs z) ∙ e);
     fails = λ e d ys l a. failed-means (degreesIn b m) (cost (p .streams) xs) (adjustedWeights p b m) (sym (judged xs c) ∙ e) d (costOver d (p .streams) ys) l (quarter xs c d ys l a);
     total = t .total;
+    drawer = t .drawer;
     numbered = t .numbered;
   }

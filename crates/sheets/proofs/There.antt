@@ -1,6 +1,7 @@
 -- A sheet written from its parts and read again: the parts.
-use mathlib.Core.Path.{_≡_, sym, ap, _∙_}
-use mathlib.Core.Bool.{true}
+use mathlib.Core.Path.{_≡_, sym, ap, _∙_, subst}
+use mathlib.Core.Bool.{Bool, true, false, _&&_, _||_, false≢true}
+use mathlib.Core.Logic.{_⊎_, inl, inr, ⊎-elim}
 use mathlib.Core.List.{List, [], _∷_, _++_, append-assoc, append-nil}
 use lib.IntN.{ℤ, pos, negsuc, natAbs}
 use Prim.Native.Nat.{ℕ, zero, suc, _+_, _<_, _≤_, _^_}
@@ -21,10 +22,9 @@ use Rattle.sheets.specs.declared.Entry.{Entry}
 use Rattle.sheets.specs.declared.Total.{Total}
 use Rattle.sheets.specs.declared.SheetRecord.{SheetRecord}
 use Rattle.sheets.specs.declared.SheetRecord.the-variants.{Listed, Ended, Refused}
-use Rattle.sheets.specs.Apart.{streamSize}
-use Rattle.sheets.specs.Sheets.{kindOf, recordOf, recordsOf, SheetParts, partsBytes}
-use Rattle.sheets.specs.Kept.{noSheet, someSheet, streamRecord, totalIn, fieldsFit, totalFault, kindRecord, recordAt, onRecord, sheetWith, recordsFrom, mostRecords, readSheet, fits, allFit, WithinSheet}
-use Rattle.sheets.proofs.Records.{totalBytes}
+use Rattle.sheets.specs.Apart.{totalKind, plainKind, streamSize}
+use Rattle.sheets.specs.Sheets.{kindOf, recordOf, recordsOf, bodyOf, totalBytes, SheetParts, partsBytes}
+use Rattle.sheets.specs.Kept.{noSheet, someSheet, streamRecord, bodyIn, fieldsFit, totalFault, kindRecord, recordAt, onRecord, sheetWith, recordsFrom, mostRecords, readSheet, fits, allFit, kindFits, WithinSheet}
 
 -- A record is there: it goes by its kind.
 due : (c k : ℕ) (b : List ℕ) → recordAt c (k ∷ b) ≡ kindRecord c k (k ∷ b)
@@ -57,17 +57,43 @@ record-there Withheld x r c more f =
     due c (kindOf Withheld) r
     ∙ stream-there 1 c (record { class = Withheld; flow = pos 0 }) (record { class = Withheld; flow = x }) (kindOf Withheld ∷ r) more (omega arith) (λ i. record { class = Withheld; flow = z i })
 
+-- The two kinds of total, by the test.
+kind-cases : (a b c : Bool) → (a || (b && c)) ≡ true → (a ≡ true) ⊎ ((b ≡ true) × (c ≡ true))
+kind-cases true b c e = inl e
+kind-cases false true true e = inr (e, e)
+kind-cases false true false e = absurd (false≢true e)
+kind-cases false false c e = absurd (false≢true e)
+
 -- The total.
-module _ (t : Total) (fit : fieldsFit t ≡ true) (small : t .sheet < 256 ^ 4) (paid : t .cost < 256 ^ 8) where
-  total-same : totalIn (totalBytes t) ≡ t
-  total-same =
+module _ (t : Total) (fit : fieldsFit t ≡ true) (kind : kindFits (t .kind) (t .office) ≡ true) (small : t .sheet < 256 ^ 4) (paid : t .cost < 256 ^ 8) where
+  -- With another kind and another office.
+  abbrev under : ℕ → ℕ → Total
+  under k j = record { kind = k; office = j; sheet = t .sheet; cost = t .cost; degrees = t .degrees; verdict = t .verdict }
+
+  body-same : (k j : ℕ) → bodyIn k j (bodyOf (t .sheet) (t .cost) (t .degrees) (t .verdict)) ≡ under k j
+  body-same k j =
       let n = be-put 4 (t .sheet) (putBe 8 (t .cost) ++ (t .degrees ∷ t .verdict ∷ [])) small in
       let c = be-put 8 (t .cost) (t .degrees ∷ t .verdict ∷ []) paid in
-      λ i. record { sheet = n i; cost = c i; degrees = t .degrees; verdict = t .verdict }
+      λ i. record { kind = k; office = j; sheet = n i; cost = c i; degrees = t .degrees; verdict = t .verdict }
+
+  ends : (k j : ℕ) → fieldsFit (under k j) ≡ true → let u = bodyIn k j (bodyOf (t .sheet) (t .cost) (t .degrees) (t .verdict)) in
+      pick (eqb (firstOf (totalFault u) 0) 0) (Ended u) (Refused (firstOf (totalFault u) 0)) ≡ Ended (under k j)
+  ends k j f = ap (λ (u : Total). pick (eqb (firstOf (totalFault u) 0) 0) (Ended u) (Refused (firstOf (totalFault u) 0))) (body-same k j) ∙ rw f
 
   total-there : (c : ℕ) → recordAt c (totalBytes t) ≡ Ended t
-  total-there c =
-      ap (λ (u : Total). pick (eqb (firstOf (totalFault u) 0) 0) (Ended u) (Refused (firstOf (totalFault u) 0))) total-same ∙ rw fit
+  total-there c = ⊎-elim office plain (kind-cases (eqb (t .kind) totalKind) (eqb (t .kind) plainKind) (eqb (t .office) 0) kind)
+    where
+      office : eqb (t .kind) totalKind ≡ true → recordAt c (totalBytes t) ≡ Ended t
+      office e =
+          subst (λ (k : ℕ). recordAt c (totalBytes (under k (t .office))) ≡ Ended (under k (t .office))) (sym (eqb-true (t .kind) totalKind e)) (ends totalKind (t .office) fit)
+
+      plain : (eqb (t .kind) plainKind ≡ true) × (eqb (t .office) 0 ≡ true) → recordAt c (totalBytes t) ≡ Ended t
+      plain e =
+          let z : t .office ≡ 0 = eqb-true (t .office) 0 (e .1) in
+          let f : fieldsFit (under plainKind 0) ≡ true = rw z at fit in
+          (λ i. recordAt c (totalBytes (under (eqb-true (t .kind) plainKind (e .0) i) (z i))))
+          ∙ ends plainKind 0 f
+          ∙ (λ i. Ended (under (sym (eqb-true (t .kind) plainKind (e .0)) i) (sym z i)))
 
   -- What is listed already, and what follows.
   rest-there : (es done : List Entry) (l : ℕ) → length done + length es ≤ maxStreams → length es < l → allFit es ≡ true
@@ -91,7 +117,7 @@ module _ (t : Total) (fit : fieldsFit t ≡ true) (small : t .sheet < 256 ^ 4) (
 
 -- (At any fuel that is enough: a numeral here would be unfolded.)
 all-there : (l : ℕ) (s : SheetParts) → WithinSheet s → length (s .streams) < l → recordsFrom l [] (partsBytes s) ≡ someSheet s
-all-there l s w g = let f = w .few in rest-there (s .total) (w .allowed) (w .number) (w .cost) (s .streams) [] l (omega arith) g (w .flows)
+all-there l s w g = let f = w .few in rest-there (s .total) (w .allowed) (w .kind) (w .number) (w .cost) (s .streams) [] l (omega arith) g (w .flows)
 
 pub there : (s : SheetParts) → WithinSheet s → readSheet (partsBytes s) ≡ someSheet s
 there s w = let f = w .few in all-there mostRecords s w (omega arith)

@@ -37,6 +37,7 @@ use Rattle.flows.proofs.ByLabels.{class-past}
 use Rattle.flows.proofs.Given.{class-means, number-is, given-agree}
 use Rattle.sheets.specs.declared.Sheet.{Sheet}
 use Rattle.sheets.specs.Apart.{capped}
+use Rattle.sheets.specs.Counters.{nextOf, raised}
 use Rattle.sheets.specs.Balances.{entryOf, balanceOf}
 use Rattle.sheets.specs.Sheets.{sheetBytes, sheetOf}
 use Rattle.sheets.specs.Says.{Drawn, SheetWith, bare, Alike, No-choice}
@@ -97,8 +98,8 @@ module _ (p : Plant) (w : Within p) (xs ys : List ℤ) (c : Cheapest p xs) (d : 
       let e = values-same maxStreams (λ k. entryOf (classOf p k) (numberOf p xs k)) (λ k. entryOf (classOf p k) (numberOf p ys k)) (λ k l. entries-same k) in
       λ i. record { streams = e i; cost = capped (cost-same i); degrees = degrees p; verdict = verdictAt (degrees p) (cost-same i) (adjusted p) }
 
-  pub one-sheet : (n : ℕ) → sheetOf p xs n ≡ sheetOf p ys n
-  one-sheet n = ap (sheetBytes (length (p .streams)) n) one-balance
+  pub one-sheet : (office n : ℕ) → sheetOf office p xs n ≡ sheetOf office p ys n
+  one-sheet office n = ap (sheetBytes office (length (p .streams)) n) one-balance
 
 -- A plant with a flow in range has no overfull set.
 pub never-both : {A : Type 0} (p : Plant) → Within p → (xs : List ℤ) → Cheapest p xs → (ms : List Bool) → Overfull p ms → A
@@ -108,25 +109,25 @@ never-both p w xs c ms m = clash (allowed p xs) (c .balance) (overfull-none p w 
 pub alike-same : (r₁ r₂ : Sheet) → r₁ ≡ r₂ → Alike r₁ r₂
 alike-same r₁ r₂ e = (ap bare e, λ n. e)
 
-module _ (last : ℕ) (o o₁ o₂ : List ℕ) (r₁ r₂ : Sheet) where
-  refused-same : (f : ℕ) → Refused f last o o₁ r₁ → Refused f last o o₂ r₂ → Alike r₁ r₂ × (o₁ ≡ o₂)
+module _ (office : ℕ) (lasts : List ℕ) (o o₁ o₂ : List ℕ) (r₁ r₂ : Sheet) where
+  refused-same : (f : ℕ) → Refused f lasts o o₁ r₁ → Refused f lasts o o₂ r₂ → Alike r₁ r₂ × (o₁ ≡ o₂)
   refused-same f a b = (alike-same r₁ r₂ (a .0 ∙ sym (b .0)), a .1 ∙ sym (b .1))
 
-  drawn-same : (p : Plant) → Within p → Drawn p last o o₁ r₁ → Drawn p last o o₂ r₂ → Alike r₁ r₂ × (o₁ ≡ o₂)
+  drawn-same : (p : Plant) → Within p → Drawn p office lasts o o₁ r₁ → Drawn p office lasts o o₂ r₂ → Alike r₁ r₂ × (o₁ ≡ o₂)
   drawn-same p w a b =
-      let e = one-sheet p w (a .0) (b .0) (a .1) (b .1) (suc last) in (
-        alike-same r₁ r₂ (a .2 ∙ (λ i. record { number = 0; written = length (e i); last = suc last; marked = unmarked }) ∙ sym (b .2)),
+      let e = one-sheet p w (a .0) (b .0) (a .1) (b .1) office (nextOf office lasts) in (
+        alike-same r₁ r₂ (a .2 ∙ (λ i. record { number = 0; written = length (e i); lasts = raised office lasts; marked = unmarked }) ∙ sym (b .2)),
         a .3 ∙ ap (λ (l : List ℕ). over l o) e ∙ sym (b .3),
       )
 
   -- Two sets may be marked, but all else is the same.
-  marked-same : (p : Plant) → Overfilled p last o o₁ r₁ → Overfilled p last o o₂ r₂ → Alike r₁ r₂ × (o₁ ≡ o₂)
+  marked-same : (p : Plant) → Overfilled p lasts o o₁ r₁ → Overfilled p lasts o o₂ r₂ → Alike r₁ r₂ × (o₁ ≡ o₂)
   marked-same p a b = (
     (ap bare (a .2 .0) ∙ sym (ap bare (b .2 .0)), λ n. absurd (n (ap (λ (r : Sheet). r .number) (a .2 .0)))),
     a .2 .1 ∙ sym (b .2 .1),
   )
 
-  read-same : (g : Got) → ((p : Plant) → g ≡ got p → Within p) → SheetWith g last o o₁ r₁ → SheetWith g last o o₂ r₂ → Alike r₁ r₂ × (o₁ ≡ o₂)
+  read-same : (g : Got) → ((p : Plant) → g ≡ got p → Within p) → SheetWith g office lasts o o₁ r₁ → SheetWith g office lasts o o₂ r₂ → Alike r₁ r₂ × (o₁ ≡ o₂)
   read-same (bad f) h a b = refused-same f a b
   read-same (got p) h (inl a) (inl b) = drawn-same p (h p refl) a b
   read-same (got p) h (inl a) (inr b) = never-both p (h p refl) (a .0) (a .1) (b .0) (b .1)
@@ -134,11 +135,11 @@ module _ (last : ℕ) (o o₁ o₂ : List ℕ) (r₁ r₂ : Sheet) where
   read-same (got p) h (inr a) (inr b) = marked-same p a b
 
 -- A call with a fault is refused; one without is answered by the file.
-call-same : (b : Bool) (file : List ℕ) (last : ℕ) (o o₁ o₂ : List ℕ) (r₁ r₂ : Sheet)
-    → pickT b (SheetWith (readPlant file) last o o₁ r₁) (Refused (callFault last o) last o o₁ r₁)
-    → pickT b (SheetWith (readPlant file) last o o₂ r₂) (Refused (callFault last o) last o o₂ r₂) → Alike r₁ r₂ × (o₁ ≡ o₂)
-call-same true file last o o₁ o₂ r₁ r₂ a b = read-same last o o₁ o₂ r₁ r₂ (readPlant file) (λ p e. within p (accepted file p e .0)) a b
-call-same false file last o o₁ o₂ r₁ r₂ a b = refused-same last o o₁ o₂ r₁ r₂ (callFault last o) a b
+call-same : (b : Bool) (file : List ℕ) (office : ℕ) (lasts : List ℕ) (o o₁ o₂ : List ℕ) (r₁ r₂ : Sheet)
+    → pickT b (SheetWith (readPlant file) office lasts o o₁ r₁) (Refused (callFault office lasts o) lasts o o₁ r₁)
+    → pickT b (SheetWith (readPlant file) office lasts o o₂ r₂) (Refused (callFault office lasts o) lasts o o₂ r₂) → Alike r₁ r₂ × (o₁ ≡ o₂)
+call-same true file office lasts o o₁ o₂ r₁ r₂ a b = read-same office lasts o o₁ o₂ r₁ r₂ (readPlant file) (λ p e. within p (accepted file p e .0)) a b
+call-same false file office lasts o o₁ o₂ r₁ r₂ a b = refused-same office lasts o o₁ o₂ r₁ r₂ (callFault office lasts o) a b
 
 pub no-choice : No-choice
-no-choice file last o o₁ o₂ r₁ r₂ a b = call-same (eqb (callFault last o) 0) file last o o₁ o₂ r₁ r₂ a b
+no-choice file office lasts o o₁ o₂ r₁ r₂ a b = call-same (eqb (callFault office lasts o) 0) file office lasts o o₁ o₂ r₁ r₂ a b

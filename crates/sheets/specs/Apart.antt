@@ -8,7 +8,8 @@ use Rattle.numbers.specs.Choice.{pick}
 use Rattle.numbers.specs.Bytes.{be, signed}
 use Rattle.plants.specs.Limits.{maxStreams}
 
--- The kinds of record: A, adjusted; R, as read; G, given; W, withheld (the blank); the total.
+-- The kinds of record: A, adjusted; R, as read; G, given; W, withheld (the blank); the total, with the office that drew the sheet;
+-- the plain total of sheets drawn before there were offices.
 abbrev pub adjustedKind : ℕ
 adjustedKind = 17
 
@@ -22,16 +23,25 @@ abbrev pub withheldKind : ℕ
 withheldKind = 20
 
 abbrev pub totalKind : ℕ
-totalKind = 31
+totalKind = 30
 
--- The lengths of a stream record with a number, and of the total.
+abbrev pub plainKind : ℕ
+plainKind = 31
+
+-- The lengths of a stream record with a number, of what the totals end in, and of the totals.
 abbrev pub streamSize : ℕ
 streamSize = 9
 
-abbrev pub totalSize : ℕ
-totalSize = 15
+abbrev pub bodySize : ℕ
+bodySize = 14
 
--- The least slice that is taken: as many numbers as there may be, and the total. 879 bytes.
+abbrev pub totalSize : ℕ
+totalSize = 16
+
+abbrev pub plainSize : ℕ
+plainSize = 15
+
+-- The least slice that is taken: as many numbers as there may be, and the total. 880 bytes.
 abbrev pub leastSlice : ℕ
 leastSlice = maxStreams * streamSize + totalSize
 
@@ -51,18 +61,21 @@ kindAt b k = getD b (begins b k) 0
 abbrev pub numberAt : List ℕ → ℕ → ℤ
 numberAt b k = signed 8 (be (begins b k + 1) 8 b)
 
--- The total after the records of m streams: kind (1), sheet number (4), cost (8), degrees (1), verdict (1).
+-- The total after the records of m streams: kind (1), office (1), sheet number (4), cost (8), degrees (1), verdict (1).
+abbrev pub officeIn : List ℕ → ℕ → ℕ
+officeIn b m = getD b (begins b m + 1) 0
+
 abbrev pub sheetNumberIn : List ℕ → ℕ → ℕ
-sheetNumberIn b m = be (begins b m + 1) 4 b
+sheetNumberIn b m = be (begins b m + 2) 4 b
 
 abbrev pub costIn : List ℕ → ℕ → ℕ
-costIn b m = be (begins b m + 5) 8 b
+costIn b m = be (begins b m + 6) 8 b
 
 abbrev pub degreesIn : List ℕ → ℕ → ℕ
-degreesIn b m = getD b (begins b m + 13) 0
+degreesIn b m = getD b (begins b m + 14) 0
 
 abbrev pub verdictIn : List ℕ → ℕ → ℕ
-verdictIn b m = getD b (begins b m + 14) 0
+verdictIn b m = getD b (begins b m + 15) 0
 
 -- A cost as it is written: one that 8 bytes do not hold as the greatest that they hold.
 abbrev pub topCost : ℕ

@@ -10,7 +10,8 @@ use Rattle.flows.specs.Flows.{streamAt, amountAt, square}
 use Rattle.fractions.specs.Least.{LeastInFractions, apart}
 use Rattle.sheets.specs.declared.Sheet.{Sheet}
 use Rattle.sheets.specs.Apart.{asReadKind, kindAt, numberAt}
-use Rattle.sheets.specs.Sentences.{MeteredAt, adjustedWeights, topSheet}
+use Rattle.sheets.specs.Sentences.{MeteredAt, adjustedWeights}
+use Rattle.sheets.specs.Counters.{topSheet, counterOf}
 use Rattle.sheets.specs.Says.{SheetSays}
 
 -- The metered numbers in the bytes b beside a flow over d, its amounts ys.
@@ -25,8 +26,8 @@ pub record Beside (p : Plant) (b : List ℕ) (d : ℕ) (ys : List ℤ) : Type 0 
 
 pub record Desk-tool : Type 0 where
   -- Of every call that drew a sheet, and every flow in fractions of least cost.
-  pub near : (file : List ℕ) (last : ℕ) (o o′ : List ℕ) (r : Sheet) → last ≤ topSheet → SheetSays file last o o′ r → r .number ≡ 0
-      → (p : Plant) (d : ℕ) (ys : List ℤ) → readPlant file ≡ got p → LeastInFractions p d ys → Beside p o′ d ys
+  pub near : (file : List ℕ) (office : ℕ) (lasts o o′ : List ℕ) (r : Sheet) → counterOf office lasts ≤ topSheet → SheetSays file office lasts o o′ r
+      → r .number ≡ 0 → (p : Plant) (d : ℕ) (ys : List ℤ) → readPlant file ≡ got p → LeastInFractions p d ys → Beside p o′ d ys
   -- On the metered streams there is only one such flow: ys over d and zs over e are the same fractions.
   pub one : (file : List ℕ) (p : Plant) (d e : ℕ) (ys zs : List ℤ) → readPlant file ≡ got p → LeastInFractions p d ys → LeastInFractions p e zs
       → (k : ℕ) → MeteredAt p k → pos e *ℤ amountAt ys k ≡ pos d *ℤ amountAt zs k

@@ -17,7 +17,8 @@ use Rattle.sheets.specs.declared.Total.{Total}
 use Rattle.sheets.specs.declared.SheetRead.{SheetRead}
 use Rattle.sheets.specs.declared.SheetRecord.{SheetRecord}
 use Rattle.sheets.specs.declared.SheetRecord.the-variants.{Listed, Ended, Refused}
-use Rattle.sheets.specs.Apart.{adjustedKind, asReadKind, givenKind, withheldKind, totalKind, streamSize, totalSize}
+use Rattle.sheets.specs.Apart.{adjustedKind, asReadKind, givenKind, withheldKind, totalKind, plainKind, streamSize, totalSize, plainSize}
+use Rattle.sheets.specs.Counters.{offices}
 use Rattle.sheets.specs.Sheets.{SheetParts, partsBytes}
 
 -- A reading of a sheet: a refusal number, or its parts.
@@ -37,32 +38,41 @@ blank = record { class = Withheld; flow = pos 0 }
 abbrev pub streamRecord : ℕ → Entry → ℕ → List ℕ → SheetRecord
 streamRecord size e c s = pick (leb maxStreams c || ltb (length s) size) (Refused 13) (Listed e size)
 
--- The total: sheet number (4), cost (8), degrees, verdict.
+-- What a total ends in: sheet number (4), cost (8), degrees, verdict.
+abbrev pub bodyIn : ℕ → ℕ → List ℕ → Total
+bodyIn kind office b =
+    record { kind = kind; office = office; sheet = be 0 4 b; cost = be 4 8 b; degrees = getD b 12 0; verdict = getD b 13 0 }
+
+-- The total, behind its office; and the plain total, which is that of office 0.
 abbrev pub totalIn : List ℕ → Total
-totalIn s = record { sheet = be 1 4 s; cost = be 5 8 s; degrees = getD s 13 0; verdict = getD s 14 0 }
+totalIn s = bodyIn totalKind (getD s 1 0) (drop 2 s)
+
+abbrev pub plainIn : List ℕ → Total
+plainIn s = bodyIn plainKind 0 (drop 1 s)
 
 -- Verdict 2, none, exactly at degrees 0; else 0, 1 or 3.
 abbrev pub verdictFits : ℕ → ℕ → Bool
 verdictFits d v = pick (eqb d 0) (eqb v 2) (eqb v 3 || ltb v 2)
 
--- The fields that are allowed: a sheet number from 1, degrees up to the most units, a verdict that fits them.
+-- The fields that are allowed: an office up to 7, a sheet number from 1, degrees up to the most units, a verdict that fits them.
 abbrev pub fieldsFit : Total → Bool
-fieldsFit t = not (eqb (t .sheet) 0) && (leb (t .degrees) maxUnits && verdictFits (t .degrees) (t .verdict))
+fieldsFit t =
+    ltb (t .office) offices && (not (eqb (t .sheet) 0) && (leb (t .degrees) maxUnits && verdictFits (t .degrees) (t .verdict)))
 
 -- A field that is not allowed: 14.
 abbrev pub totalFault : Total → ℕ
 totalFault t = refuseIf (not (fieldsFit t)) 14
 
--- Bytes after the total: 15.
-abbrev pub afterFault : List ℕ → ℕ
-afterFault s = refuseIf (not (eqb (length s) totalSize)) 15
+-- Bytes after a total of this size: 15.
+abbrev pub afterFault : ℕ → List ℕ → ℕ
+afterFault size s = refuseIf (not (eqb (length s) size)) 15
 
--- The total at the end: cut 13, then its fields, then bytes after it.
-abbrev pub endFault : List ℕ → ℕ
-endFault s = firstOf (refuseIf (ltb (length s) totalSize) 13) (firstOf (totalFault (totalIn s)) (afterFault s))
+-- A total of this size at the end: cut 13, then its fields, then bytes after it.
+abbrev pub endFault : ℕ → Total → List ℕ → ℕ
+endFault size t s = firstOf (refuseIf (ltb (length s) size) 13) (firstOf (totalFault t) (afterFault size s))
 
-abbrev pub totalRecord : List ℕ → SheetRecord
-totalRecord s = pick (eqb (endFault s) 0) (Ended (totalIn s)) (Refused (endFault s))
+abbrev pub totalRecord : ℕ → Total → List ℕ → SheetRecord
+totalRecord size t s = pick (eqb (endFault size t s) 0) (Ended t) (Refused (endFault size t s))
 
 -- The record of kind k at the front of s, after c streams: another kind 13.
 abbrev pub kindRecord : ℕ → ℕ → List ℕ → SheetRecord
@@ -71,7 +81,8 @@ kindRecord c k s =
     (pick (eqb k asReadKind) (streamRecord streamSize (shownIn AsRead s) c s)
     (pick (eqb k givenKind) (streamRecord streamSize (shownIn Given s) c s)
     (pick (eqb k withheldKind) (streamRecord 1 blank c s)
-    (pick (eqb k totalKind) (totalRecord s) (Refused 13)))))
+    (pick (eqb k totalKind) (totalRecord totalSize (totalIn s) s)
+    (pick (eqb k plainKind) (totalRecord plainSize (plainIn s) s) (Refused 13))))))
 
 -- What stands where a record is due: a missing one 13.
 abbrev pub recordAt : ℕ → List ℕ → SheetRecord
@@ -111,7 +122,7 @@ handedOver f es t = record { number = f; count = length es; streams = filled bla
 
 -- The sheet reader hands over a refusal's number with no streams and zeros, or 0 and the sheet.
 abbrev pub readOf : Reopened → SheetRead
-readOf (noSheet f) = handedOver f [] (record { sheet = 0; cost = 0; degrees = 0; verdict = 0 })
+readOf (noSheet f) = handedOver f [] (record { kind = 0; office = 0; sheet = 0; cost = 0; degrees = 0; verdict = 0 })
 readOf (someSheet s) = handedOver 0 (s .streams) (s .total)
 
 abbrev pub ReadSays : List ℕ → SheetRead → Type 0
@@ -128,10 +139,15 @@ abbrev pub allFit : List Entry → Bool
 allFit [] = true
 allFit (e ∷ es) = fits (e .class) (e .flow) && allFit es
 
+-- A kind of total with its office: the plain one has office 0.
+abbrev pub kindFits : ℕ → ℕ → Bool
+kindFits kind office = eqb kind totalKind || (eqb kind plainKind && eqb office 0)
+
 -- A sheet's parts within their limits.
 pub record WithinSheet (s : SheetParts) : Type 0 where
   pub few : length (s .streams) ≤ maxStreams
   pub flows : allFit (s .streams) ≡ true
+  pub kind : kindFits (s .total .kind) (s .total .office) ≡ true
   pub number : s .total .sheet < 256 ^ 4
   pub cost : s .total .cost < 256 ^ 8
   pub allowed : fieldsFit (s .total) ≡ true

@@ -1,5 +1,6 @@
 -- Balances and sheets: a sheet taken apart, the sentences about its bytes and the demands; the bytes of a sheet, what the sheet
 pub mod Apart
+pub mod Counters
 pub mod Sentences
 pub mod Balances
 pub mod Sheets

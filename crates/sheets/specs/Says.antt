@@ -3,7 +3,7 @@ use mathlib.Core.Path.{_≡_}
 use mathlib.Core.Logic.{_⊎_}
 use mathlib.Core.List.{List}
 use lib.IntN.{ℤ}
-use Prim.Native.Nat.{ℕ, suc}
+use Prim.Native.Nat.{ℕ}
 use lib.Dec.{eqb}
 use lib.ListN.{length}
 use Rattle.numbers.specs.Inner.{pickT}
@@ -13,29 +13,31 @@ use Rattle.plants.specs.Files.{Got, bad, got, readPlant}
 use Rattle.flows.specs.Flows.{Cheapest}
 use Rattle.flows.specs.Overfull.{unmarked}
 use Rattle.sheets.specs.declared.Sheet.{Sheet}
+use Rattle.sheets.specs.Counters.{nextOf, raised}
 use Rattle.sheets.specs.Sheets.{sheetOf}
 use Rattle.sheets.specs.Sentences.{callFault, Refused, Overfilled}
 
--- A sheet drawn: that of the cheapest flow, under the next number; the slice past it as it was.
-abbrev pub Drawn : Plant → ℕ → List ℕ → List ℕ → Sheet → Type 0
-Drawn p last o o′ r =
+-- A sheet drawn: that of the cheapest flow, under the calling office's next number, and no other office's number is touched; the
+-- slice past it as it was.
+abbrev pub Drawn : Plant → ℕ → List ℕ → List ℕ → List ℕ → Sheet → Type 0
+Drawn p office lasts o o′ r =
     (xs : List ℤ)
     × Cheapest p xs
-    × (r ≡ record { number = 0; written = length (sheetOf p xs (suc last)); last = suc last; marked = unmarked })
-    × (o′ ≡ over (sheetOf p xs (suc last)) o)
+    × (r ≡ record { number = 0; written = length (sheetOf office p xs (nextOf office lasts)); lasts = raised office lasts; marked = unmarked })
+    × (o′ ≡ over (sheetOf office p xs (nextOf office lasts)) o)
 
-abbrev pub SheetWith : Got → ℕ → List ℕ → List ℕ → Sheet → Type 0
-SheetWith (bad f) last o o′ r = Refused f last o o′ r
-SheetWith (got p) last o o′ r = Drawn p last o o′ r ⊎ Overfilled p last o o′ r
+abbrev pub SheetWith : Got → ℕ → List ℕ → List ℕ → List ℕ → Sheet → Type 0
+SheetWith (bad f) office lasts o o′ r = Refused f lasts o o′ r
+SheetWith (got p) office lasts o o′ r = Drawn p office lasts o o′ r ⊎ Overfilled p lasts o o′ r
 
--- The sheet call: 1, 2, then the file's refusals, then 19, else the sheet.
-abbrev pub SheetSays : List ℕ → ℕ → List ℕ → List ℕ → Sheet → Type 0
-SheetSays file last o o′ r =
-    pickT (eqb (callFault last o) 0) (SheetWith (readPlant file) last o o′ r) (Refused (callFault last o) last o o′ r)
+-- The sheet call: 1, 22, 2, then the file's refusals, then 19, else the sheet.
+abbrev pub SheetSays : List ℕ → ℕ → List ℕ → List ℕ → List ℕ → Sheet → Type 0
+SheetSays file office lasts o o′ r =
+    pickT (eqb (callFault office lasts o) 0) (SheetWith (readPlant file) office lasts o o′ r) (Refused (callFault office lasts o) lasts o o′ r)
 
 -- Two answers are alike: the same but for the places marked, and the same altogether where the number is not 19.
 abbrev pub bare : Sheet → Sheet
-bare r = record { number = r .number; written = r .written; last = r .last; marked = unmarked }
+bare r = record { number = r .number; written = r .written; lasts = r .lasts; marked = unmarked }
 
 abbrev pub Alike : Sheet → Sheet → Type 0
 Alike r₁ r₂ = (bare r₁ ≡ bare r₂) × ((r₁ .number ≡ 19 → ⊥) → r₁ ≡ r₂)
@@ -43,5 +45,5 @@ Alike r₁ r₂ = (bare r₁ ≡ bare r₂) × ((r₁ .number ≡ 19 → ⊥) �
 -- No choice is left but that of the set: what a call returns and leaves behind follows from what it was handed.
 abbrev pub No-choice : Type 0
 No-choice =
-    (file : List ℕ) (last : ℕ) (o o₁ o₂ : List ℕ) (r₁ r₂ : Sheet)
-    → SheetSays file last o o₁ r₁ → SheetSays file last o o₂ r₂ → Alike r₁ r₂ × (o₁ ≡ o₂)
+    (file : List ℕ) (office : ℕ) (lasts : List ℕ) (o o₁ o₂ : List ℕ) (r₁ r₂ : Sheet)
+    → SheetSays file office lasts o o₁ r₁ → SheetSays file office lasts o o₂ r₂ → Alike r₁ r₂ × (o₁ ≡ o₂)

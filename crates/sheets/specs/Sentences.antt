@@ -5,7 +5,7 @@ use mathlib.Core.Bool.{Bool, true, false}
 use mathlib.Core.List.{List}
 use lib.IntN.{ℤ, pos, _*ℤ_}
 use Prim.Native.Nat.{ℕ, zero, suc, _+_, _*_, _≤_, _<_}
-use lib.Dec.{eqb, ltb}
+use lib.Dec.{eqb, ltb, leb}
 use lib.ListN.{length, drop}
 use Rattle.numbers.specs.Choice.{pick, refuseIf, firstOf}
 use Rattle.plants.specs.Limits.{maxUnits}
@@ -16,7 +16,8 @@ use Rattle.flows.specs.Chains.{everyStream, unmeteredOnly, Chain, OneEach}
 use Rattle.flows.specs.Test.{criticalAt, verdictAt}
 use Rattle.flows.specs.Overfull.{unmarked, Overfull}
 use Rattle.sheets.specs.declared.Sheet.{Sheet}
-use Rattle.sheets.specs.Apart.{adjustedKind, asReadKind, givenKind, withheldKind, totalKind, leastSlice, kindAt, numberAt, sheetNumberIn, costIn, degreesIn, verdictIn, capped, sheetLength}
+use Rattle.sheets.specs.Apart.{adjustedKind, asReadKind, givenKind, withheldKind, totalKind, leastSlice, kindAt, numberAt, officeIn, sheetNumberIn, costIn, degreesIn, verdictIn, capped, sheetLength}
+use Rattle.sheets.specs.Counters.{offices, topSheet, counterOf, nextOf, raised}
 
 -- Stream i, from 0, is listed, and metered or not.
 abbrev pub MeteredAt : Plant → ℕ → Type 0
@@ -45,8 +46,8 @@ abbrev pub adjustedWeights : Plant → List ℕ → ℕ → ℕ
 adjustedWeights p b zero = 0
 adjustedWeights p b (suc k) = pick (eqb (kindAt b k) adjustedKind) (streamAt (p .streams) k .weight) 0 + adjustedWeights p b k
 
--- The bytes b, as sheet n of plant p, whose m streams they list.
-pub record Tells (p : Plant) (m n : ℕ) (b : List ℕ) : Type 0 where
+-- The bytes b, as an office's sheet n of plant p, whose m streams they list.
+pub record Tells (p : Plant) (m office n : ℕ) (b : List ℕ) : Type 0 where
   -- A metered stream is A exactly when no chain of unmetered streams joins its ends, R exactly when one does; R is the nearest
   -- value in range to its reading.
   pub adjusted : (i : ℕ) → MeteredAt p i → (kindAt b i ≡ adjustedKind) ↔ (EndsJoined p i → ⊥)
@@ -78,44 +79,44 @@ pub record Tells (p : Plant) (m n : ℕ) (b : List ℕ) : Type 0 where
   pub passes : verdictIn b m ≡ 0 → (xs : List ℤ) → Cheapest p xs → cost (p .streams) xs ≤ criticalAt (degreesIn b m)
   pub fails : verdictIn b m ≡ 1 → (d : ℕ) (ys : List ℤ) → 1 ≤ d → allowedOver d p ys ≡ true
       → d * d * criticalAt (degreesIn b m) < costOver d (p .streams) ys
-  -- The total stands behind the records, with the sheet's number.
+  -- The total stands behind the records, with the office and the sheet's number.
   pub total : kindAt b m ≡ totalKind
+  pub drawer : officeIn b m ≡ office
   pub numbered : sheetNumberIn b m ≡ n
 
--- The last sheet number that there is.
-abbrev pub topSheet : ℕ
-topSheet = 4294967295
+-- The refusals of the call itself: a slice under 880 bytes 1, an office above 7, which has no counter, 22, no sheet number left of
+-- the calling office's 2.
+abbrev pub callFault : ℕ → List ℕ → List ℕ → ℕ
+callFault office lasts o =
+    firstOf (refuseIf (ltb (length o) leastSlice) 1) (firstOf (refuseIf (leb offices office) 22) (refuseIf (eqb (counterOf office lasts) topSheet) 2))
 
--- The refusals of the call itself: a slice under 879 bytes 1, no sheet number left 2.
-abbrev pub callFault : ℕ → List ℕ → ℕ
-callFault last o = firstOf (refuseIf (ltb (length o) leastSlice) 1) (refuseIf (eqb last topSheet) 2)
-
--- A refusal that marks these places: its number, nothing written, counter and slice as they were.
-abbrev pub RefusedWith : List Bool → ℕ → ℕ → List ℕ → List ℕ → Sheet → Type 0
-RefusedWith ms f last o o′ r = (r ≡ record { number = f; written = 0; last = last; marked = ms }) × (o′ ≡ o)
+-- A refusal that marks these places: its number, nothing written, counters and slice as they were.
+abbrev pub RefusedWith : List Bool → ℕ → List ℕ → List ℕ → List ℕ → Sheet → Type 0
+RefusedWith ms f lasts o o′ r = (r ≡ record { number = f; written = 0; lasts = lasts; marked = ms }) × (o′ ≡ o)
 
 -- All refusals but 19 mark none.
-abbrev pub Refused : ℕ → ℕ → List ℕ → List ℕ → Sheet → Type 0
-Refused f last o o′ r = RefusedWith unmarked f last o o′ r
+abbrev pub Refused : ℕ → List ℕ → List ℕ → List ℕ → Sheet → Type 0
+Refused f lasts o o′ r = RefusedWith unmarked f lasts o o′ r
 
 -- Refusal 19: which set is marked is the program's choice; every one is overfull.
-abbrev pub Overfilled : Plant → ℕ → List ℕ → List ℕ → Sheet → Type 0
-Overfilled p last o o′ r = (ms : List Bool) × Overfull p ms × RefusedWith ms 19 last o o′ r
+abbrev pub Overfilled : Plant → List ℕ → List ℕ → List ℕ → Sheet → Type 0
+Overfilled p lasts o o′ r = (ms : List Bool) × Overfull p ms × RefusedWith ms 19 lasts o o′ r
 
--- A full sheet of m streams: 0, its length, the counter one higher, which is its number; the slice past it as it was.
-pub record Full (p : Plant) (m last : ℕ) (o o′ : List ℕ) (r : Sheet) : Type 0 where
-  pub result : r ≡ record { number = 0; written = sheetLength o′ m; last = suc last; marked = unmarked }
-  pub tells : Tells p m (suc last) o′
+-- A full sheet of m streams: 0, its length, the calling office's counter one higher, which is its number, the other counters as they
+-- were; the slice past it as it was.
+pub record Full (p : Plant) (m office : ℕ) (lasts o o′ : List ℕ) (r : Sheet) : Type 0 where
+  pub result : r ≡ record { number = 0; written = sheetLength o′ m; lasts = raised office lasts; marked = unmarked }
+  pub tells : Tells p m office (nextOf office lasts) o′
   pub past : drop (sheetLength o′ m) o′ ≡ drop (sheetLength o′ m) o
   pub fits : sheetLength o′ m ≤ length o
   pub long : length o′ ≡ length o
 
--- What a call answers: the slice o before it and o′ after it, the counter handed in, and what it hands over.
-pub record Answers (file : List ℕ) (last : ℕ) (o o′ : List ℕ) (r : Sheet) : Type 0 where
-  pub unfit : (callFault last o ≡ 0 → ⊥) → Refused (callFault last o) last o o′ r
-  pub unread : (f : ℕ) → callFault last o ≡ 0 → readPlant file ≡ bad f → (f ≡ 0 → ⊥) × Refused f last o o′ r
+-- What a call answers: the slice o before it and o′ after it, the office and the counters handed in, and what it hands over.
+pub record Answers (file : List ℕ) (office : ℕ) (lasts o o′ : List ℕ) (r : Sheet) : Type 0 where
+  pub unfit : (callFault office lasts o ≡ 0 → ⊥) → Refused (callFault office lasts o) lasts o o′ r
+  pub unread : (f : ℕ) → callFault office lasts o ≡ 0 → readPlant file ≡ bad f → (f ≡ 0 → ⊥) × Refused f lasts o o′ r
   -- A plant that is read, with a balanced flow within all ranges and without.
-  pub full : (p : Plant) (ys : List ℤ) → callFault last o ≡ 0 → readPlant file ≡ got p → allowed p ys ≡ true
-      → Full p (length (p .streams)) last o o′ r
-  pub overfull : (p : Plant) → callFault last o ≡ 0 → readPlant file ≡ got p → ((ys : List ℤ) → allowed p ys ≡ false)
-      → Overfilled p last o o′ r
+  pub full : (p : Plant) (ys : List ℤ) → callFault office lasts o ≡ 0 → readPlant file ≡ got p → allowed p ys ≡ true
+      → Full p (length (p .streams)) office lasts o o′ r
+  pub overfull : (p : Plant) → callFault office lasts o ≡ 0 → readPlant file ≡ got p → ((ys : List ℤ) → allowed p ys ≡ false)
+      → Overfilled p lasts o o′ r

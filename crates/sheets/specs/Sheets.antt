@@ -2,7 +2,9 @@
 use mathlib.Core.List.{List, [], _∷_, _++_}
 use lib.IntN.{ℤ}
 use Prim.Native.Nat.{ℕ, _+_}
+use lib.Dec.{eqb}
 use lib.ListN.{length, take}
+use Rattle.numbers.specs.Choice.{pick}
 use Rattle.numbers.specs.Bytes.{putBe, raw}
 use Rattle.plants.specs.Plants.{Plant}
 use Rattle.flows.specs.declared.Class.{Class}
@@ -30,9 +32,17 @@ abbrev pub recordsOf : List Entry → List ℕ
 recordsOf [] = []
 recordsOf (e ∷ es) = recordOf (e .class) (e .flow) ++ recordsOf es
 
--- The total: sheet number (4), cost (8), degrees, verdict.
-abbrev pub totalOf : ℕ → ℕ → ℕ → ℕ → List ℕ
-totalOf n c d v = totalKind ∷ putBe 4 n ++ putBe 8 c ++ (d ∷ v ∷ [])
+-- What a total ends in: sheet number (4), cost (8), degrees, verdict.
+abbrev pub bodyOf : ℕ → ℕ → ℕ → ℕ → List ℕ
+bodyOf n c d v = putBe 4 n ++ putBe 8 c ++ (d ∷ v ∷ [])
+
+-- The total of a sheet that is drawn: an office byte goes before.
+abbrev pub totalOf : ℕ → ℕ → ℕ → ℕ → ℕ → List ℕ
+totalOf office n c d v = totalKind ∷ office ∷ bodyOf n c d v
+
+-- The bytes of a total of either kind: the plain one has no office byte.
+abbrev pub totalBytes : Total → List ℕ
+totalBytes t = t .kind ∷ pick (eqb (t .kind) totalKind) (t .office ∷ []) [] ++ bodyOf (t .sheet) (t .cost) (t .degrees) (t .verdict)
 
 -- A sheet by its parts: an entry for each stream, in stream order, and the total.
 pub record SheetParts : Type 0 where
@@ -41,19 +51,23 @@ pub record SheetParts : Type 0 where
 
 -- The bytes of a sheet: the records of its streams, then the total.
 abbrev pub partsBytes : SheetParts → List ℕ
-partsBytes s = recordsOf (s .streams) ++ totalOf (s .total .sheet) (s .total .cost) (s .total .degrees) (s .total .verdict)
+partsBytes s = recordsOf (s .streams) ++ totalBytes (s .total)
 
--- Sheet n of a balance, of its first so many streams: its parts, and its bytes.
-abbrev pub partsOf : ℕ → ℕ → Balance → SheetParts
-partsOf count n b =
-    record { streams = take count (b .streams); total = record { sheet = n; cost = b .cost; degrees = b .degrees; verdict = b .verdict } }
+-- An office's sheet n of a balance, of its first so many streams: its parts, under a total of some kind.
+abbrev pub partsOf : ℕ → ℕ → ℕ → ℕ → Balance → SheetParts
+partsOf kind office count n b =
+    record {
+      streams = take count (b .streams);
+      total = record { kind = kind; office = office; sheet = n; cost = b .cost; degrees = b .degrees; verdict = b .verdict };
+    }
 
-abbrev pub sheetBytes : ℕ → ℕ → Balance → List ℕ
-sheetBytes count n b = partsBytes (partsOf count n b)
+-- Its bytes, as it is drawn.
+abbrev pub sheetBytes : ℕ → ℕ → ℕ → Balance → List ℕ
+sheetBytes office count n b = partsBytes (partsOf totalKind office count n b)
 
--- Sheet n of a plant with a flow: its parts, and its bytes.
-abbrev pub plantParts : Plant → List ℤ → ℕ → SheetParts
-plantParts p xs n = partsOf (length (p .streams)) n (balanceOf p xs)
+-- An office's sheet n of a plant with a flow: its parts, and its bytes.
+abbrev pub plantParts : ℕ → Plant → List ℤ → ℕ → SheetParts
+plantParts office p xs n = partsOf totalKind office (length (p .streams)) n (balanceOf p xs)
 
-abbrev pub sheetOf : Plant → List ℤ → ℕ → List ℕ
-sheetOf p xs n = partsBytes (plantParts p xs n)
+abbrev pub sheetOf : ℕ → Plant → List ℤ → ℕ → List ℕ
+sheetOf office p xs n = partsBytes (plantParts office p xs n)

@@ -15,6 +15,7 @@ use Rattle.fractions.specs.Least.{LeastInFractions, apart}
 use Rattle.sheets.specs.declared.Sheet.{Sheet}
 use Rattle.sheets.specs.Apart.{numberAt}
 use Rattle.sheets.specs.Sentences.{adjustedWeights, callFault}
+use Rattle.sheets.specs.Counters.{officesFrom}
 use Rattle.sheets.specs.Says.{SheetSays}
 
 pub record Example : Type 0 where
@@ -22,25 +23,25 @@ pub record Example : Type 0 where
   pub flow : List ℤ
   pub sheet : List ℕ
 
--- The file reads to a plant, the flow is its cheapest, and every first call with a slice that is taken leaves this sheet there.
+-- The file reads to a plant, the flow is its cheapest, and every first call of office 0 with a slice that is taken leaves this sheet there.
 abbrev pub Shows : Example → Type 0
 Shows e =
     (p : Plant)
     × (readPlant (e .file) ≡ got p)
     × Cheapest p (e .flow)
-    × ((o o′ : List ℕ) (r : Sheet) → callFault 0 o ≡ 0 → SheetSays (e .file) 0 o o′ r → o′ ≡ over (e .sheet) o)
+    × ((o o′ : List ℕ) (r : Sheet) → callFault 0 (officesFrom 0) o ≡ 0 → SheetSays (e .file) 0 (officesFrom 0) o o′ r → o′ ≡ over (e .sheet) o)
 
 abbrev pub AllShow : List Example → Type 0
 AllShow [] = Unit {0}
 AllShow (e ∷ es) = Shows e × AllShow es
 
--- The file reads to a plant of which this set of places is overfull, and every first call with a slice that is taken returns 19.
+-- The file reads to a plant of which this set of places is overfull, and every first call of office 0 with a slice that is taken returns 19.
 abbrev pub Refuses : List ℕ → List Bool → Type 0
 Refuses file ms =
     (p : Plant)
     × (readPlant file ≡ got p)
     × Overfull p ms
-    × ((o o′ : List ℕ) (r : Sheet) → callFault 0 o ≡ 0 → SheetSays file 0 o o′ r → r .number ≡ 19)
+    × ((o o′ : List ℕ) (r : Sheet) → callFault 0 (officesFrom 0) o ≡ 0 → SheetSays file 0 (officesFrom 0) o o′ r → r .number ≡ 19)
 
 -- Records of a file, with a weight, a reading and a range below 256; of a sheet, with an amount below 256 and a cost of two bytes.
 abbrev pub site : ℕ → List ℕ
@@ -62,7 +63,7 @@ abbrev pub shown : ℕ → ℕ → List ℕ
 shown kind x = kind ∷ 0 ∷ 0 ∷ 0 ∷ 0 ∷ 0 ∷ 0 ∷ 0 ∷ x ∷ []
 
 abbrev pub total : ℕ → ℕ → ℕ → ℕ → List ℕ
-total high low degrees verdict = 31 ∷ 0 ∷ 0 ∷ 0 ∷ 1 ∷ 0 ∷ 0 ∷ 0 ∷ 0 ∷ 0 ∷ 0 ∷ high ∷ low ∷ degrees ∷ verdict ∷ []
+total high low degrees verdict = 30 ∷ 0 ∷ 0 ∷ 0 ∷ 0 ∷ 1 ∷ 0 ∷ 0 ∷ 0 ∷ 0 ∷ 0 ∷ 0 ∷ high ∷ low ∷ degrees ∷ verdict ∷ []
 
 -- In 100, out 103: 101, 101, cost 50.
 abbrev pub tie : Example
@@ -101,13 +102,13 @@ examples =
     ∷ record { file = site 1 ++ within 0 1 10 100 0 90 ++ pipe 1 0 ++ end 2; flow = pos 90 ∷ pos 90 ∷ []; sheet = shown 18 90 ++ shown 19 90 ++ total 3 232 0 2 }
     ∷ []
 
--- A flow over d is of least cost in fractions, and every first call with a slice that is taken leaves a sheet as far from it as a
+-- A flow over d is of least cost in fractions, and every first call of office 0 with a slice that is taken leaves a sheet as far from it as a
 -- sheet can be: the bound of the desk tool is met with equality. So it is for the tie, with 101 1/2 on both streams.
 pub record Farthest (e : Example) (d : ℕ) (ys : List ℤ) : Type 0 where
   pub plant : Plant
   pub listed : readPlant (e .file) ≡ got plant
   pub least : LeastInFractions plant d ys
-  pub met : (o o′ : List ℕ) (r : Sheet) → callFault 0 o ≡ 0 → SheetSays (e .file) 0 o o′ r
+  pub met : (o o′ : List ℕ) (r : Sheet) → callFault 0 (officesFrom 0) o ≡ 0 → SheetSays (e .file) 0 (officesFrom 0) o o′ r
       → 4 * apart d (plant .streams) (numberAt o′) ys ≡ d * d * adjustedWeights plant o′ (length (plant .streams))
 
 -- In within 10 to 20, out within 0 to 5: the unit must take in more than it can let out.

@@ -1,4 +1,5 @@
 // Sheets: the balance of a plant, its bytes and what the sheet call promises, as definitions with their laws. No function stands here.
+use crate::kinds::OFFICES;
 use flows::Class;
 use plants::limits::MAX_STREAMS;
 use plants::limits::PLACES;
@@ -26,17 +27,20 @@ pub struct Outcome {
     pub marked: [bool; PLACES],
 }
 
-// What the sheet call hands over: 0, the bytes written and the sheet's number; or a refusal number, 0 and the last sheet
-// number as it was. Places are marked by refusal 19 alone.
+// What the sheet call hands over: 0, the bytes written and the offices' last sheet numbers, the calling office's one higher, which
+// is the sheet's; or a refusal number, 0 and the last sheet numbers as they were. Places are marked by refusal 19 alone.
 pub struct Sheet {
     pub number: u8,
     pub written: usize,
-    pub last: u32,
+    pub lasts: [u32; OFFICES],
     pub marked: [bool; PLACES],
 }
 
-// The total of a sheet: its number, the cost, the degrees and the verdict.
+// The total of a sheet: its kind, the office that drew it, its number, the cost, the degrees and the verdict. A total without an
+// office is that of office 0.
 pub struct Total {
+    pub kind: u8,
+    pub office: u8,
     pub sheet: u32,
     pub cost: u64,
     pub degrees: u8,

@@ -1,6 +1,7 @@
 // The calls that cases try, each with its results as those of the sheet call: a number returned, a count and a number handed
 // back, and the bytes of the slice. What each is handed and hands back stands where it is defined.
-use crate::solving::sheet;
+use crate::drawing::office_sheet;
+use crate::drawing::sheet;
 use crate::solving::unhinted;
 use file_trials::cases::told;
 use file_trials::kept::kept;
@@ -28,6 +29,7 @@ pub fn call(kind: u64, number: u32, given: &[u8], out: &mut [u8]) -> u64 {
         1 => sheet(number, given, out),
         4 => unhinted(given, out),
         5 => told(0, texts::list_plant(given, out), 0),
+        16 => office_sheet(given, out),
         _ => file_call(kind, given, out),
     }
 }

@@ -1,6 +1,7 @@
 // Calls on the cases of files, each answer compared with what a separate reference solver gave.
 mod calls;
 mod cases;
+mod drawing;
 mod solving;
 
 use cases::END;

@@ -1,4 +1,4 @@
-// The calls that balance a plant.
+// The solver.
 use file_trials::cases::NO_CASE;
 use file_trials::cases::told;
 use plants::limits::MAX_STREAMS;
@@ -8,14 +8,6 @@ use trials::solved::put_flows;
 ghost use mathlib.Core.Path.{_≡_};
 ghost use Prim.Native.Nat.{_≤_};
 ghost use lib.ListN.{length};
-
-// The sheet call: handed in the last sheet number and the plant file.
-pub fn sheet(number: u32, given: &[u8], out: &mut [u8]) -> u64 {
-    let drawn = sheet_calls::balance_plant(given, number, out);
-    let marked = drawn.marked;
-    let answer = told(drawn.number, drawn.written, drawn.last);
-    tested(answer, drawn.number, given, marked)
-}
 
 // The solver on a plant file, its flows where they are asked for.
 fn solve_file(asked: &[u8], file: &[u8], out: &mut [u8]) -> u64

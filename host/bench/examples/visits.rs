@@ -9,7 +9,7 @@
 
 use std::hint::black_box;
 use std::time::Instant;
-use wengeludo_balance::{raw, visits, Visit, MAX_STREAMS, SHEET_SIZE};
+use wengeludo_balance::{raw, visits, Visit, MAX_STREAMS, OFFICES, SHEET_SIZE};
 use wengeludo_bench::measure::summary;
 use wengeludo_bench::plants::{draw, Kind, Plant, Stream};
 
@@ -25,8 +25,8 @@ struct Site {
 /// The sheet call: the number returned and the cost.
 fn sheet(file: &[u8]) -> (u8, u64) {
     let mut sheet = [0; SHEET_SIZE];
-    let (mut last, mut written, mut marked) = (0, 0, 0);
-    let number = raw::balance_plant(black_box(file), &mut last, &mut sheet, &mut written, &mut marked);
+    let (mut lasts, mut written, mut marked) = ([0; OFFICES], 0, 0);
+    let number = raw::balance_plant(black_box(file), 0, &mut lasts, &mut sheet, &mut written, &mut marked);
     let total = if number == 0 { &sheet[written - 10..written - 2] } else { &sheet[..8] };
     (number, u64::from_be_bytes(total.try_into().unwrap()))
 }

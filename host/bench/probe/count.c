@@ -68,7 +68,7 @@ static size_t chain(uint8_t *file, int down) {
 }
 
 int main(int argc, char **argv) {
-    static uint8_t file[868], sheet[879];
+    static uint8_t file[868], sheet[WENGELUDO_SHEET_SIZE];
     if (argc != 4) return 2;
     uint32_t streams = (uint32_t)atoi(argv[2]);
     int plants = atoi(argv[3]);
@@ -76,10 +76,10 @@ int main(int argc, char **argv) {
     unsigned sum = 0;
     for (int k = 0; k < plants; k++) {
         size_t length = up || down ? chain(file, down) : draw_plant(file, streams), written = 0;
-        uint32_t last = 0;
+        uint32_t lasts[WENGELUDO_OFFICES] = {0};
         uint64_t marked = 0; /* an archive from before ranges leaves it alone */
         if (up || down || strcmp(argv[1], "sheet") == 0) {
-            uint8_t number = wengeludo_balance_plant(file, length, &last, sheet, sizeof sheet, &written, &marked);
+            uint8_t number = wengeludo_balance_plant(file, length, 0, lasts, WENGELUDO_OFFICES, sheet, sizeof sheet, &written, &marked);
             if (number != 0) return 1;
         } else if (strcmp(argv[1], "read") == 0) {
             sum += wengeludo_probe_read(file, length);

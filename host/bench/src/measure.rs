@@ -5,7 +5,7 @@ use crate::floor;
 use crate::plants::{Plant, MAX_STREAMS};
 use std::hint::black_box;
 use std::time::Instant;
-use wengeludo_balance::{raw, SHEET_SIZE};
+use wengeludo_balance::{raw, OFFICES, SHEET_SIZE};
 
 /// Each call is made so many times at least and at most, the more while they take less than this together, in microseconds.
 const LEAST_RUNS: usize = 5;
@@ -32,8 +32,8 @@ fn least(mut run: impl FnMut()) -> f64 {
 pub fn library(file: &[u8]) -> f64 {
     let mut sheet = [0; SHEET_SIZE];
     least(|| {
-        let (mut last, mut written, mut marked) = (0, 0, 0);
-        black_box(raw::balance_plant(black_box(file), &mut last, &mut sheet, &mut written, &mut marked));
+        let (mut lasts, mut written, mut marked) = ([0; OFFICES], 0, 0);
+        black_box(raw::balance_plant(black_box(file), 0, &mut lasts, &mut sheet, &mut written, &mut marked));
     })
 }
 
@@ -41,14 +41,14 @@ pub fn library(file: &[u8]) -> f64 {
 pub fn plain(file: &[u8]) -> f64 {
     let mut sheet = [0; SHEET_SIZE];
     least(|| {
-        black_box(plain_call(black_box(file), &mut 0, &mut sheet, &mut Unwatched));
+        black_box(plain_call(black_box(file), &mut [0; OFFICES], &mut sheet, &mut Unwatched));
     })
 }
 
-/// The plain engine's sheet call: the number returned, the bytes counted, the marked places.
-fn plain_call(file: &[u8], last: &mut u32, out: &mut [u8], watch: &mut impl Watch) -> (u8, usize, u64) {
+/// The plain engine's sheet call of office 0: the number returned, the bytes counted, the marked places.
+fn plain_call(file: &[u8], lasts: &mut [u32], out: &mut [u8], watch: &mut impl Watch) -> (u8, usize, u64) {
     let (mut written, mut marked) = (0, 0);
-    let number = engine::balance_plant(file, Back { last, out, written: &mut written, marked: &mut marked }, watch);
+    let number = engine::balance_plant(file, Back { office: 0, lasts, out, written: &mut written, marked: &mut marked }, watch);
     (number, written, marked)
 }
 
@@ -61,22 +61,22 @@ pub fn floor(plant: &Plant) -> f64 {
 /// Stops where the plain engine's sheet is not the library's, byte for byte.
 pub fn compare(file: &[u8]) {
     let (mut ours, mut theirs) = ([0xA5; SHEET_SIZE], [0xA5; SHEET_SIZE]);
-    let (mut our_last, mut their_last, mut count, mut marked) = (6, 6, 1, 1);
-    let number = raw::balance_plant(file, &mut our_last, &mut ours, &mut count, &mut marked);
-    let (other, other_count, other_marked) = plain_call(file, &mut their_last, &mut theirs, &mut Unwatched);
-    let same = (number, our_last, count, marked != 0) == (other, their_last, other_count, other_marked != 0) && ours == theirs;
+    let (mut our_lasts, mut their_lasts, mut count, mut marked) = ([6; OFFICES], [6; OFFICES], 1, 1);
+    let number = raw::balance_plant(file, 0, &mut our_lasts, &mut ours, &mut count, &mut marked);
+    let (other, other_count, other_marked) = plain_call(file, &mut their_lasts, &mut theirs, &mut Unwatched);
+    let same = (number, our_lasts, count, marked != 0) == (other, their_lasts, other_count, other_marked != 0) && ours == theirs;
     assert!(same, "a sheet that is not the library's, of {file:02X?}");
 }
 
 /// What the plain engine returns for a file.
 pub fn number(file: &[u8]) -> u8 {
-    plain_call(file, &mut 0, &mut [0; SHEET_SIZE], &mut Unwatched).0
+    plain_call(file, &mut [0; OFFICES], &mut [0; SHEET_SIZE], &mut Unwatched).0
 }
 
 /// The plain engine's work on a file.
 pub fn work(file: &[u8]) -> Work {
     let mut work = Work::new();
-    plain_call(file, &mut 0, &mut [0; SHEET_SIZE], &mut work);
+    plain_call(file, &mut [0; OFFICES], &mut [0; SHEET_SIZE], &mut work);
     work
 }
 

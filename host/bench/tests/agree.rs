@@ -1,36 +1,46 @@
 //! The plain engine against the library, byte for byte, on every plant that the benchmark times and on damaged files; and
 //! the floor against the sheet's cost.
 
-use wengeludo_balance::{raw, SHEET_SIZE};
+use wengeludo_balance::{raw, OFFICES, SHEET_SIZE};
 use wengeludo_bench::draws::Draws;
 use wengeludo_bench::engine::{self, Back, Unwatched};
 use wengeludo_bench::floor;
 use wengeludo_bench::plants::{draw, Kind, Plant, MAX_STREAMS};
 use wengeludo_bench::report::{plants, SIZES};
 
-/// What a sheet call leaves: its number, the counter, the bytes counted, the slice, whether it marked places.
-type Outcome = (u8, u32, usize, Vec<u8>, bool);
+/// What a sheet call leaves: its number, the last sheet numbers, the bytes counted, the slice, whether it marked places.
+type Outcome = (u8, Vec<u32>, usize, Vec<u8>, bool);
 
-fn outcome(slice: usize, last: u32, call: impl FnOnce(&mut u32, &mut [u8], &mut usize, &mut u64) -> u8) -> Outcome {
-    let (mut last, mut written, mut marked, mut sheet) = (last, 77, u64::MAX, vec![0xA5; slice]);
-    let number = call(&mut last, &mut sheet, &mut written, &mut marked);
-    (number, last, written, sheet, marked != 0)
+/// Who calls: the office, and the last sheet numbers that it lends.
+#[derive(Clone, Copy)]
+struct Caller<'a> {
+    office: u8,
+    lasts: &'a [u32],
 }
 
-fn library(file: &[u8], slice: usize, last: u32) -> Outcome {
-    outcome(slice, last, |last, sheet, written, marked| raw::balance_plant(file, last, sheet, written, marked))
+/// Office 0, before its first sheet.
+const FIRST: Caller = Caller { office: 0, lasts: &[0; OFFICES] };
+
+fn outcome(slice: usize, caller: Caller, call: impl FnOnce(&mut [u32], &mut [u8], &mut usize, &mut u64) -> u8) -> Outcome {
+    let (mut lasts, mut written, mut marked, mut sheet) = (caller.lasts.to_vec(), 77, u64::MAX, vec![0xA5; slice]);
+    let number = call(&mut lasts, &mut sheet, &mut written, &mut marked);
+    (number, lasts, written, sheet, marked != 0)
 }
 
-fn plain(file: &[u8], slice: usize, last: u32) -> Outcome {
-    outcome(slice, last, |last, out, written, marked| {
-        engine::balance_plant(file, Back { last, out, written, marked }, &mut Unwatched)
+fn library(file: &[u8], slice: usize, caller: Caller) -> Outcome {
+    outcome(slice, caller, |lasts, sheet, written, marked| raw::balance_plant(file, caller.office, lasts, sheet, written, marked))
+}
+
+fn plain(file: &[u8], slice: usize, caller: Caller) -> Outcome {
+    outcome(slice, caller, |lasts, out, written, marked| {
+        engine::balance_plant(file, Back { office: caller.office, lasts, out, written, marked }, &mut Unwatched)
     })
 }
 
 /// The plain engine leaves what the library leaves, the choice of marked places aside.
-fn compare(file: &[u8], slice: usize, last: u32) -> u8 {
-    let library = library(file, slice, last);
-    assert_eq!(plain(file, slice, last), library, "{file:02X?}");
+fn compare(file: &[u8], slice: usize, caller: Caller) -> u8 {
+    let library = library(file, slice, caller);
+    assert_eq!(plain(file, slice, caller), library, "{file:02X?}");
     library.0
 }
 
@@ -39,7 +49,7 @@ fn agree_on(kind: Kind) {
     let number = if kind == Kind::Overfull { 19 } else { 0 };
     for (units, streams) in SIZES {
         for plant in plants(kind, units, streams, 1_000) {
-            assert_eq!(compare(&plant.file(), SHEET_SIZE, 0), number);
+            assert_eq!(compare(&plant.file(), SHEET_SIZE, FIRST), number);
         }
     }
 }
@@ -74,16 +84,16 @@ fn ranges_that_no_flow_keeps() {
 fn plants_of_every_number_of_streams() {
     for streams in (6..=96).step_by(6) {
         for plant in plants(Kind::Extremes, streams / 3, streams, 200) {
-            assert_eq!(compare(&plant.file(), SHEET_SIZE, 0), 0);
+            assert_eq!(compare(&plant.file(), SHEET_SIZE, FIRST), 0);
         }
     }
 }
 
-/// Files cut, lengthened or with a byte changed; slices and counters at their edges.
+/// Files cut, lengthened or with a byte changed; slices, offices and counters at their edges.
 #[test]
 fn refusals() {
     let mut draws = Draws::new(3);
-    let mut seen = [false; 20];
+    let mut seen = [false; 23];
     for seed in 0..20_000 {
         let mut file = draw(draws.pick(&Kind::ALL), 5 + draws.below(3), 1 + draws.below(8), seed).file();
         match draws.below(4) {
@@ -95,19 +105,21 @@ fn refusals() {
             }
         }
         let slice = draws.pick(&[SHEET_SIZE, SHEET_SIZE, SHEET_SIZE + 9, SHEET_SIZE - 1]);
-        let last = draws.pick(&[0, 0, 41, u32::MAX - 1, u32::MAX]);
-        seen[usize::from(compare(&file, slice, last))] = true;
+        let office = draws.pick(&[0, 0, 3, 7, 7, 8, 255]);
+        let lent = draws.pick(&[OFFICES, OFFICES, OFFICES, OFFICES + 1, OFFICES - 1]);
+        let lasts: Vec<u32> = (0..lent).map(|_| draws.pick(&[0, 0, 41, u32::MAX - 1, u32::MAX])).collect();
+        seen[usize::from(compare(&file, slice, Caller { office, lasts: &lasts }))] = true;
     }
     let mut file = vec![1, 1];
     (0..96).for_each(|_| file.extend([3, 0, 1]));
     file.push(2);
-    seen[usize::from(compare(&file, SHEET_SIZE, 0))] = true;
-    assert!((0..=12).chain([18, 19]).all(|number| seen[number]), "some number never came up: {seen:?}");
+    seen[usize::from(compare(&file, SHEET_SIZE, FIRST))] = true;
+    assert!((0..=12).chain([18, 19, 22]).all(|number| seen[number]), "some number never came up: {seen:?}");
 }
 
 /// The sheet's cost as its total has it.
 fn cost_on_sheet(plant: &Plant) -> f64 {
-    let (_, _, written, sheet, _) = library(&plant.file(), SHEET_SIZE, 0);
+    let (_, _, written, sheet, _) = library(&plant.file(), SHEET_SIZE, FIRST);
     let cost: [u8; 8] = sheet[written - 10..written - 2].try_into().unwrap();
     u64::from_be_bytes(cost) as f64
 }

@@ -1,4 +1,4 @@
-//! The plain engine against the reference of the differential tests, on drawn plants with ranges: the same number, counter,
+//! The plain engine against the reference of the differential tests, on drawn plants with ranges: the same number, counters,
 //! count and bytes; and the marked places of a refusal 19 are tested. Neither needs the archive.
 //!
 //! WENGELUDO_INPUTS   how many inputs (default 100,000)
@@ -28,14 +28,15 @@ const WAYS: [Way; 2] = [balance_plant, balance_by_phases];
 
 /// Where the plain engine differs from the reference, either way; else the number returned.
 fn compared(call: &Call) -> Result<u8, String> {
-    let expected = reference::sheet_call(&call.file, call.last, &call.slice);
+    let expected = reference::sheet_call(&call.file, call.office, &call.lasts, &call.slice);
     for way in WAYS {
-        let (mut last, mut written, mut marked, mut slice) = (call.last, 77, u64::MAX, call.slice.clone());
-        let back = Back { last: &mut last, out: &mut slice, written: &mut written, marked: &mut marked };
+        let (mut lasts, mut written, mut marked, mut slice) = (call.lasts.clone(), 77, u64::MAX, call.slice.clone());
+        let office = call.office;
+        let back = Back { office, lasts: &mut lasts, out: &mut slice, written: &mut written, marked: &mut marked };
         let returned = way(&call.file, back, &mut Unwatched);
-        let wanted = (expected.returned, expected.last, expected.written);
-        if (returned, last, written) != wanted {
-            return Err(format!("{:?}, expected {wanted:?}", (returned, last, written)));
+        let wanted = (expected.returned, &expected.lasts, expected.written);
+        if (returned, &lasts, written) != wanted {
+            return Err(format!("{:?}, expected {wanted:?}", (returned, lasts, written)));
         }
         if slice != expected.slice {
             return Err("the slice".to_string());
@@ -58,7 +59,7 @@ fn number(name: &str, other: u64) -> u64 {
 #[test]
 fn plain_engine_and_reference_agree() {
     let (inputs, seed) = (number("WENGELUDO_INPUTS", 100_000), number("WENGELUDO_SEED", 1));
-    let mut counts = [0u64; 20];
+    let mut counts = [0u64; 23];
     for k in 0..inputs {
         let call = Draw::new(seed + k).call();
         match compared(&call) {
@@ -71,7 +72,12 @@ fn plain_engine_and_reference_agree() {
         }
     }
     println!("{inputs} inputs from seed {seed}, no difference; by the number returned: {counts:?}");
-    assert!(inputs < 100_000 || (counts[0] > 0 && counts[18] > 0 && counts[19] > 0), "some outcome never came up");
+    assert!(inputs < 100_000 || [0, 18, 19, 22].into_iter().all(|number| counts[number] > 0), "some outcome never came up");
+}
+
+/// The first call of office 0.
+fn first_call(file: Vec<u8>) -> Call {
+    Call { file, office: 0, lasts: vec![0; 8], slice: vec![0xA5; 880] }
 }
 
 /// Plants of every kind and size that the benchmark draws.
@@ -81,7 +87,7 @@ fn plants_of_the_benchmark() {
     for kind in Kind::ALL {
         for (units, streams) in SIZES {
             for plant in plants(kind, units, streams, count) {
-                let call = Call { file: plant.file(), last: 0, slice: vec![0xA5; 879] };
+                let call = first_call(plant.file());
                 assert_eq!(compared(&call), Ok(if kind == Kind::Overfull { 19 } else { 0 }), "{call}");
             }
         }
@@ -93,7 +99,7 @@ fn plants_of_the_benchmark() {
 fn recorded_plants() {
     for name in ["worst.bin", "worst_ranges.bin", "most_improvements.bin"] {
         let file = std::fs::read(std::path::Path::new(env!("CARGO_MANIFEST_DIR")).join(name)).expect("a recorded plant");
-        let call = Call { file, last: 0, slice: vec![0xA5; 879] };
+        let call = first_call(file);
         assert_eq!(compared(&call), Ok(0), "{name}: {call}");
     }
 }

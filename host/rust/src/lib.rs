@@ -1,10 +1,10 @@
 //! Steam and condensate balance sheets.
 //!
-//! A [`Plant`] lists the streams between its units; [`balance`] takes a plant file and returns its [`Sheet`], or a
-//! [`Refusal`] that leaves the sheet counter as it was.
+//! A [`Plant`] lists the streams between its units; [`Offices`] have the sheet counters of the offices, and [`Offices::draw`] takes
+//! an office and a plant file and returns its [`Sheet`], or a [`Refusal`] that leaves all counters as they were.
 //!
 //! ```
-//! use wengeludo_balance::{balance, Plant, Record, Verdict};
+//! use wengeludo_balance::{Offices, Plant, Record, Verdict};
 //!
 //! let file = Plant::new(2)
 //!     .metered(0, 1, 10, 100)
@@ -12,15 +12,16 @@
 //!     .unmetered(1, 2)
 //!     .metered(2, 0, 10, 98)
 //!     .file()?;
-//! let mut last = 0;
-//! let sheet = balance(&file, &mut last)?;
+//! let mut offices = Offices::default();
+//! let sheet = offices.draw(0, &file)?;
 //! assert_eq!(sheet.records, [Record::Adjusted(99), Record::Withheld, Record::Withheld, Record::Adjusted(99)]);
 //! assert_eq!((sheet.number, sheet.cost, sheet.degrees, sheet.verdict), (1, 20, 1, Verdict::Pass));
-//! assert_eq!(last, 1);
+//! assert_eq!(offices.lasts(), [1, 0, 0, 0, 0, 0, 0, 0]);
 //! # Ok::<(), wengeludo_balance::Refusal>(())
 //! ```
 //!
-//! A kept sheet is reopened by [`Sheet::from_bytes`].
+//! A kept sheet is reopened by [`Sheet::from_bytes`], one drawn before there were offices too; who had one sheet counter then goes
+//! on with [`Offices::from_last`].
 //!
 //! A [`Transmitter`] lists what meters send, values and standard deviations as floats; its plant file is what the sheet call
 //! takes.
@@ -33,13 +34,14 @@
 //!
 //! [`visits`] lists what the balance costs at least without each meter: where a fitter goes first.
 //!
-//! A caller who has memory of its own uses [`balance_into`], [`Plant::write_into`], [`plant_from_transmitter_into`],
+//! A caller who has memory of its own uses [`Offices::draw_into`], [`Plant::write_into`], [`plant_from_transmitter_into`],
 //! [`to_ranged_into`] and [`from_ranged_into`], which allocate nothing.
 #![deny(missing_docs)]
 #![deny(unsafe_op_in_unsafe_fn)]
 
 mod layouts;
 mod moves;
+mod offices;
 mod plant;
 mod purchase;
 pub mod raw;
@@ -50,15 +52,16 @@ mod visits;
 
 pub use layouts::{layouts, MAX_SURVEYED};
 pub use moves::{from_ranged, from_ranged_into, to_ranged, to_ranged_into};
+pub use offices::{Offices, OFFICES};
 pub use plant::Plant;
 pub use purchase::{meters_to_buy, Purchase};
 pub use refusal::{Places, Refusal};
-pub use sheet::{balance, balance_into, Record, Sheet, Verdict};
+pub use sheet::{Record, Sheet, TotalKind, Verdict};
 pub use transmitter::{plant_from_transmitter, plant_from_transmitter_into, Transmitter};
 pub use visits::{visits, Visit};
 
 /// The least sheet slice that is taken.
-pub const SHEET_SIZE: usize = 879;
+pub const SHEET_SIZE: usize = 880;
 
 /// The least slice that the plant writer, the translator and the moves take; the longest plant file.
 pub const FILE_SIZE: usize = 1636;

@@ -8,7 +8,7 @@ use crate::FILE_SIZE;
 /// stream that has a range keeps it. The sheet of a plant without ranges stays the same.
 ///
 /// ```
-/// use wengeludo_balance::{balance, from_ranged, to_ranged, Plant, Refusal};
+/// use wengeludo_balance::{from_ranged, to_ranged, Offices, Plant, Refusal};
 /// let file = Plant::new(1).metered(0, 1, 10, 100).metered(1, 0, 10, 103).file()?;
 /// let ranged = to_ranged(&file)?;
 /// let widest = (-2_000_000_000, 2_000_000_000);
@@ -16,7 +16,7 @@ use crate::FILE_SIZE;
 ///     .metered_within(0, 1, 10, 100, widest.0, widest.1)
 ///     .metered_within(1, 0, 10, 103, widest.0, widest.1);
 /// assert_eq!(ranged, plant.file()?);
-/// assert_eq!(balance(&ranged, &mut 0)?, balance(&file, &mut 0)?);
+/// assert_eq!(Offices::default().draw(0, &ranged)?, Offices::default().draw(0, &file)?);
 /// assert_eq!(from_ranged(&ranged)?, file);
 /// # Ok::<(), Refusal>(())
 /// ```

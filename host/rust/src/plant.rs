@@ -42,9 +42,9 @@ impl Plant {
     /// -2,000,000,000 to 2,000,000,000, and low is at most high.
     ///
     /// ```
-    /// use wengeludo_balance::{balance, Plant, Record, Refusal};
+    /// use wengeludo_balance::{Offices, Plant, Record, Refusal};
     /// let plant = Plant::new(1).metered_within(0, 1, 10, 100, 0, 98).metered(1, 0, 10, 104);
-    /// assert_eq!(balance(&plant.file()?, &mut 0)?.records, [Record::Adjusted(98), Record::Adjusted(98)]);
+    /// assert_eq!(Offices::default().draw(0, &plant.file()?)?.records, [Record::Adjusted(98), Record::Adjusted(98)]);
     /// let file = Plant::new(1).metered_within(0, 1, 10, 7, -1, 9).file()?;
     /// assert_eq!(file, [1, 1, 6, 0, 1, 0, 10, 0, 0, 0, 7, 255, 255, 255, 255, 0, 0, 0, 9, 4, 1]);
     /// assert_eq!(Plant::new(1).metered_within(0, 1, 10, 7, 9, 8).file(), Err(Refusal::Range));

@@ -18,12 +18,12 @@ pub struct Purchase {
 /// first difference. Ranges play no part.
 ///
 /// ```
-/// use wengeludo_balance::{balance, meters_to_buy, Plant, Refusal};
+/// use wengeludo_balance::{meters_to_buy, Offices, Plant, Refusal};
 /// let blind = Plant::new(2).metered(0, 1, 10, 100).unmetered(1, 2).unmetered(1, 2).metered(2, 0, 10, 98).file()?;
 /// let bought = meters_to_buy(&blind, &[500, 300])?;
 /// assert_eq!((bought.streams, bought.price), (vec![3], 300));
 /// let then = Plant::new(2).metered(0, 1, 10, 100).unmetered(1, 2).metered(1, 2, 10, 40).metered(2, 0, 10, 98).file()?;
-/// assert_eq!(balance(&then, &mut 0)?.to_string(), "1 A 99\n2 G 59\n3 R 40\n4 A 99\ntotal 1 20 1 pass\n");
+/// assert_eq!(Offices::default().draw(0, &then)?.to_string(), "1 A 99\n2 G 59\n3 R 40\n4 A 99\ntotal 1 20 1 pass\n");
 /// assert_eq!(meters_to_buy(&then, &[500])?.streams, []);
 /// assert_eq!(meters_to_buy(&blind, &[500]), Err(Refusal::Prices));
 /// # Ok::<(), Refusal>(())

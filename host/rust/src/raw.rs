@@ -6,7 +6,9 @@ extern "C" {
     fn wengeludo_balance_plant(
         file: *const u8,
         file_length: usize,
-        last: *mut u32,
+        office: u8,
+        lasts: *mut u32,
+        lasts_length: usize,
         sheet: *mut u8,
         sheet_length: usize,
         written: *mut usize,
@@ -43,6 +45,8 @@ extern "C" {
         flows: *mut i64,
         flows_length: usize,
         count: *mut usize,
+        kind: *mut u8,
+        office: *mut u8,
         sheet: *mut u32,
         cost: *mut u64,
         degrees: *mut u8,
@@ -88,13 +92,27 @@ extern "C" {
 // A length is 64 bits wide in the archive.
 const _: () = assert!(usize::BITS == 64);
 
-/// The sheet call. 0: the sheet is at the front of `sheet`, `written` its length, `last` one higher. Another number: a
-/// refusal; `written` is 0, `sheet` and `last` are as they were. 19 hands over marked places as well, bit u of `marked` for
-/// place u: they must take in more than they can let out. Every other call leaves 0 in `marked`.
-pub fn balance_plant(file: &[u8], last: &mut u32, sheet: &mut [u8], written: &mut usize, marked: &mut u64) -> u8 {
+/// The sheet call of an office, 0 to 7; `lasts` are the offices' last sheet numbers. 0: the sheet is at the front of `sheet`,
+/// `written` its length, the office's last number one higher, and all others are as they were. Another number: a refusal; `written`
+/// is 0, `sheet` and `lasts` are as they were. 19 hands over marked places as well, bit u of `marked` for place u: they must take in
+/// more than they can let out. Every other call leaves 0 in `marked`. Fewer than eight last numbers are refused as 1; those past the
+/// eighth stay as they are.
+pub fn balance_plant(file: &[u8], office: u8, lasts: &mut [u32], sheet: &mut [u8], written: &mut usize, marked: &mut u64) -> u8 {
     // SAFETY: each pointer comes from a reference or a slice with its length, the borrows keep what is written apart
     // from all else, and the call asks nothing more of its arguments.
-    unsafe { wengeludo_balance_plant(file.as_ptr(), file.len(), last, sheet.as_mut_ptr(), sheet.len(), written, marked) }
+    unsafe {
+        wengeludo_balance_plant(
+            file.as_ptr(),
+            file.len(),
+            office,
+            lasts.as_mut_ptr(),
+            lasts.len(),
+            sheet.as_mut_ptr(),
+            sheet.len(),
+            written,
+            marked,
+        )
+    }
 }
 
 /// The parts of a plant, one slice for each; stream k, counted from 1, stands at index k - 1 of each.
@@ -159,6 +177,10 @@ pub fn write_plant(parts: Parts, file: &mut [u8], written: &mut usize) -> u8 {
 pub struct Total {
     /// How many streams the sheet lists.
     pub count: usize,
+    /// The kind of the total: 0x1E with an office, 0x1F without.
+    pub kind: u8,
+    /// The office that drew the sheet, 0 where the total has none.
+    pub office: u8,
     /// The sheet's number.
     pub sheet: u32,
     /// The cost.
@@ -183,6 +205,8 @@ pub fn read_sheet(bytes: &[u8], kinds: &mut [u8], flows: &mut [i64], total: &mut
             flows.as_mut_ptr(),
             flows.len(),
             &mut total.count,
+            &mut total.kind,
+            &mut total.office,
             &mut total.sheet,
             &mut total.cost,
             &mut total.degrees,

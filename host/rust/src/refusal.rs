@@ -19,13 +19,14 @@ impl Places {
     }
 }
 
-/// Why a call was refused. A refused call leaves every slice and the counter as they were.
+/// Why a call was refused. A refused call leaves every slice and all counters as they were.
 #[derive(Clone, Copy, Debug, PartialEq, Eq, Hash)]
 pub enum Refusal {
-    /// Sheet slice under 879 bytes; for the plant writer, the translator and the moves, slice under 1,636; for the sheet reader,
-    /// meters to buy and meters worth a visit, a slice under 96 elements; for the survey, one under 13.
+    /// Sheet slice under 880 bytes, or fewer than eight last sheet numbers; for the plant writer, the translator and the moves, slice
+    /// under 1,636; for the sheet reader, meters to buy and meters worth a visit, a slice under 96 elements; for the survey, one
+    /// under 13.
     SliceTooShort,
-    /// Last sheet number is 4,294,967,295.
+    /// The calling office's last sheet number is 4,294,967,295.
     NoSheetNumber,
     /// Bytes end where a record is due or inside a body.
     FileEnds,
@@ -66,18 +67,20 @@ pub enum Refusal {
     Narrower,
     /// For meters to buy: the prices are not one for each unmetered stream, or one is 0 or over 1,000,000.
     Prices,
+    /// The office is above 7.
+    NoOffice,
     /// More streams than the 12 of which layouts are surveyed.
     TooManyToSurvey,
 }
 
 /// Number and text of each refusal.
-const ALL: [(u8, Refusal, &str); 22] = [
+const ALL: [(u8, Refusal, &str); 23] = [
     (
         1,
         Refusal::SliceTooShort,
-        "a slice is too short: 879 bytes for a sheet, 1,636 for a plant file, 96 elements for the sheet reader and lists of streams",
+        "a slice is too short: 880 bytes for a sheet, 1,636 for a plant file, 96 elements for the sheet reader and lists of streams",
     ),
-    (2, Refusal::NoSheetNumber, "last sheet number is 4,294,967,295"),
+    (2, Refusal::NoSheetNumber, "the office's last sheet number is 4,294,967,295"),
     (3, Refusal::FileEnds, "bytes end where a record is due or inside a body"),
     (4, Refusal::Kind, "kind not allowed at this place"),
     (5, Refusal::TooManyStreams, "a 97th stream; for the writer, a stream count over 96"),
@@ -97,6 +100,7 @@ const ALL: [(u8, Refusal, &str); 22] = [
     (19, Refusal::NoFlow(Places(0)), "no balanced flow lies within all ranges"),
     (20, Refusal::Narrower, "moving home, a range is narrower than the widest"),
     (21, Refusal::Prices, "prices are not one for each unmetered stream, or one is 0 or over 1,000,000"),
+    (22, Refusal::NoOffice, "the office is above 7"),
     (23, Refusal::TooManyToSurvey, "more than the 12 streams of which layouts are surveyed"),
 ];
 
@@ -157,7 +161,7 @@ mod tests {
             assert_eq!(Refusal::from_number(number), Some(refusal));
             assert_eq!(refusal.number(), number);
         }
-        for number in [0, 22, 255] {
+        for number in [0, 99, 255] {
             assert_eq!(Refusal::from_number(number), None);
         }
         assert_eq!(Refusal::NoFlow(Places(5)).number(), 19);

@@ -2,7 +2,7 @@
 
 use crate::raw::{self, Total};
 use crate::refusal::Refusal;
-use crate::{MAX_STREAMS, SHEET_SIZE};
+use crate::MAX_STREAMS;
 use std::fmt;
 
 /// A stream's record on a sheet: its class, and its flow in kg per hour where there is one.
@@ -52,12 +52,25 @@ pub enum Verdict {
     Close,
 }
 
+/// The kind of a sheet's total.
+#[derive(Clone, Copy, Debug, PartialEq, Eq, Hash)]
+pub enum TotalKind {
+    /// 0x1E: with the office that drew the sheet.
+    Office,
+    /// 0x1F: without, on sheets drawn before there were offices; their office is 0. None is drawn any more.
+    Plain,
+}
+
 /// A balance sheet.
 #[derive(Clone, Debug, PartialEq, Eq, Hash)]
 pub struct Sheet {
     /// A record for each stream, in the order of the file.
     pub records: Vec<Record>,
-    /// The sheet's number.
+    /// The kind of the total.
+    pub kind: TotalKind,
+    /// The office that drew the sheet, 0 where the total is plain.
+    pub office: u8,
+    /// The sheet's number among those of its office.
     pub number: u32,
     /// The cost, in thousandths; one above the greatest number of 64 bits is written as that number.
     pub cost: u64,
@@ -68,14 +81,20 @@ pub struct Sheet {
 }
 
 impl Sheet {
-    /// Reads a kept sheet from its bytes, as [`balance_into`] writes them, or says why they are not a whole sheet
-    /// ([`Refusal::SheetRecord`], [`Refusal::SheetTotal`], [`Refusal::AfterTotal`]).
+    /// Reads a kept sheet from its bytes, as [`Offices::draw_into`](crate::Offices::draw_into) writes them, or as they were written
+    /// before there were offices; or says why they are not a whole sheet ([`Refusal::SheetRecord`], [`Refusal::SheetTotal`],
+    /// [`Refusal::AfterTotal`]).
     ///
     /// ```
-    /// use wengeludo_balance::{Refusal, Sheet};
-    /// let bytes = [0x14, 0x1F, 0, 0, 0, 7, 0, 0, 0, 0, 0, 0, 0, 0, 0, 2];
-    /// assert_eq!(Sheet::from_bytes(&bytes)?.to_string(), "1 W -\ntotal 7 0 0 none\n");
-    /// assert_eq!(Sheet::from_bytes(&bytes[..15]), Err(Refusal::SheetRecord));
+    /// use wengeludo_balance::{Refusal, Sheet, TotalKind};
+    /// let bytes = [0x14, 0x1E, 3, 0, 0, 0, 7, 0, 0, 0, 0, 0, 0, 0, 0, 0, 2];
+    /// let sheet = Sheet::from_bytes(&bytes)?;
+    /// assert_eq!((sheet.kind, sheet.office, sheet.number), (TotalKind::Office, 3, 7));
+    /// assert_eq!(sheet.to_string(), "1 W -\ntotal 7 0 0 none\n");
+    /// assert_eq!(Sheet::from_bytes(&bytes[..16]), Err(Refusal::SheetRecord));
+    ///
+    /// let before = [0x14, 0x1F, 0, 0, 0, 7, 0, 0, 0, 0, 0, 0, 0, 0, 0, 2];
+    /// assert_eq!(Sheet::from_bytes(&before)?, Sheet { kind: TotalKind::Plain, office: 0, ..sheet });
     /// # Ok::<(), Refusal>(())
     /// ```
     pub fn from_bytes(bytes: &[u8]) -> Result<Sheet, Refusal> {
@@ -89,6 +108,8 @@ impl Sheet {
         };
         Ok(Sheet {
             records: kinds.iter().zip(&flows).take(total.count).map(record).collect(),
+            kind: if total.kind == 0x1F { TotalKind::Plain } else { TotalKind::Office },
+            office: total.office,
             number: total.sheet,
             cost: total.cost,
             degrees: total.degrees,
@@ -120,34 +141,4 @@ impl fmt::Display for Sheet {
         };
         writeln!(f, "total {} {} {} {}", self.number, self.cost, self.degrees, verdict)
     }
-}
-
-/// Balances a plant file. `last` is the last sheet number used, 0 before the first sheet; it is one higher afterwards,
-/// and as it was where the call is refused.
-///
-/// ```
-/// use wengeludo_balance::{balance, Plant, Refusal};
-/// let mut last = 7;
-/// assert_eq!(balance(&[1, 1, 4, 1], &mut last), Err(Refusal::EndCount));
-/// assert_eq!(last, 7);
-/// let Err(Refusal::NoFlow(marked)) = balance(&Plant::new(1).metered_within(0, 1, 10, 5, 1, 9).file()?, &mut last) else {
-///     panic!("a dead end that takes in 1 at least");
-/// };
-/// assert!(marked.has(1) && !marked.has(0));
-/// assert_eq!(balance(&[1, 1, 4, 0], &mut last)?.to_string(), "total 8 0 0 none\n");
-/// # Ok::<(), Refusal>(())
-/// ```
-pub fn balance(file: &[u8], last: &mut u32) -> Result<Sheet, Refusal> {
-    let mut bytes = [0; SHEET_SIZE];
-    let written = balance_into(file, last, &mut bytes)?;
-    Sheet::from_bytes(&bytes[..written])
-}
-
-/// Balances a plant file into a slice of at least [`SHEET_SIZE`] bytes, and says how many the sheet takes. The bytes past
-/// it keep their values; where the call is refused, all do. Nothing is allocated.
-pub fn balance_into(file: &[u8], last: &mut u32, sheet: &mut [u8]) -> Result<usize, Refusal> {
-    let (mut written, mut marked) = (0, 0);
-    let number = raw::balance_plant(file, last, sheet, &mut written, &mut marked);
-    Refusal::check_marked(number, marked)?;
-    Ok(written)
 }

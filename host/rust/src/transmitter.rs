@@ -78,9 +78,9 @@ impl Transmitter {
 /// The plant file that a transmitter file becomes.
 ///
 /// ```
-/// use wengeludo_balance::{balance, plant_from_transmitter, Refusal, Transmitter};
+/// use wengeludo_balance::{plant_from_transmitter, Offices, Refusal, Transmitter};
 /// let file = Transmitter::new(1).measured(0, 1, 100.0, 10.0).held(1, 0, 103.0, 5.0).file();
-/// let sheet = balance(&plant_from_transmitter(&file)?, &mut 0)?;
+/// let sheet = Offices::default().draw(0, &plant_from_transmitter(&file)?)?;
 /// assert_eq!(sheet.to_string(), "1 A 101\n2 A 101\ntotal 1 50 1 pass\n");
 /// # Ok::<(), Refusal>(())
 /// ```

@@ -15,13 +15,13 @@ pub struct Visit {
 /// by stream number. No cost is above the sheet's, and the meters without which the balance costs least stand first.
 ///
 /// ```
-/// use wengeludo_balance::{balance, visits, Plant, Visit};
+/// use wengeludo_balance::{visits, Offices, Plant, Visit};
 ///
 /// // Three meters in a row, of which the second disagrees with the other two.
 /// let file = Plant::new(2).metered(0, 1, 10, 100).metered(1, 2, 10, 160).metered(2, 0, 10, 101).file()?;
 /// let list = visits(&file)?;
 /// assert_eq!(list[0], Visit { stream: 2, cost: 10 });
-/// assert!(list.iter().all(|visit| visit.cost <= balance(&file, &mut 0).unwrap().cost));
+/// assert!(list.iter().all(|visit| visit.cost <= Offices::default().draw(0, &file).unwrap().cost));
 ///
 /// // Of equal costs the lower number comes first; a plant without A streams has an empty list.
 /// let pair = Plant::new(2).metered(0, 1, 10, 100).unmetered(1, 2).unmetered(1, 2).metered(2, 0, 10, 98).file()?;

@@ -1,7 +1,7 @@
 //! The engine against the reference: drawn plants, damaged files, edges of the call, parts for the writer, kept and damaged sheets.
 //!
-//! On each input: the returned number, every byte of the slice with guard bytes round it, the counter, `written`; the marked
-//! places of a refusal 19 are tested, and no other call marks one.
+//! On each input: the returned number, every byte of the slice with guard bytes round it, all last sheet numbers that are lent with
+//! guard numbers round them, `written`; the marked places of a refusal 19 are tested, and no other call marks one.
 //! A difference is shrunk, and the smallest input found is printed.
 //!
 //! WENGELUDO_INPUTS   how many inputs (default 100,000)
@@ -10,6 +10,7 @@
 
 mod draw;
 mod moves;
+mod offices;
 mod purchases;
 mod reference;
 mod shrink;
@@ -24,40 +25,46 @@ use wengeludo_balance::raw::{self, Parts, Total};
 const GUARD: usize = 64;
 
 /// The refusals of the sheet call.
-const REFUSALS: [usize; 14] = [1, 2, 3, 4, 5, 6, 7, 8, 9, 10, 11, 12, 18, 19];
+const REFUSALS: [usize; 15] = [1, 2, 3, 4, 5, 6, 7, 8, 9, 10, 11, 12, 18, 19, 22];
 
 // Where outcomes are counted: those of the sheet call by their number, the writer's calls, those of the sheet reader by theirs,
 // sheets with the verdict close, which are counted nowhere else.
-const WRITER: usize = 20;
-const READER: usize = 21;
+const WRITER: usize = 23;
+const READER: usize = 24;
 const CLOSE: usize = READER + 16;
 const OUTCOMES: usize = CLOSE + 1;
 
 /// Runs a call on a slice with guard bytes round it; the outcome has the slice's bytes, and the guards are compared here.
-fn guarded(slice: &[u8], call: impl FnOnce(&mut [u8], &mut usize) -> (u8, u32, u64)) -> Result<Outcome, String> {
+fn guarded(slice: &[u8], call: impl FnOnce(&mut [u8], &mut usize) -> (u8, Vec<u32>, u64)) -> Result<Outcome, String> {
     let guard = |i: usize| (i as u8).wrapping_mul(37) ^ 0xA5;
     let mut memory: Vec<u8> = (0..GUARD).map(guard).collect();
     memory.extend(slice);
     memory.extend((0..GUARD).map(guard));
     let end = GUARD + slice.len();
     let mut written = 0xDEAD_BEEF;
-    let (returned, last, marked) = call(&mut memory[GUARD..end], &mut written);
+    let (returned, lasts, marked) = call(&mut memory[GUARD..end], &mut written);
     for i in 0..GUARD {
         if memory[i] != guard(i) || memory[end + i] != guard(i) {
             return Err(format!("guard byte {i} changed"));
         }
     }
-    Ok(Outcome { returned, written, last, slice: memory[GUARD..end].to_vec(), marked })
+    Ok(Outcome { returned, written, lasts, slice: memory[GUARD..end].to_vec(), marked })
 }
 
 /// The engine's sheet call.
 fn engine(call: &Call) -> Result<Outcome, String> {
     let file = call.file.clone();
+    let guard = [0xC3C3_C3C3; GUARD];
+    let mut memory = [&guard[..], &call.lasts, &guard].concat();
+    let end = GUARD + call.lasts.len();
     let outcome = guarded(&call.slice, |sheet, written| {
-        let (mut last, mut marked) = (call.last, u64::MAX);
-        let returned = raw::balance_plant(&file, &mut last, sheet, written, &mut marked);
-        (returned, last, marked)
+        let mut marked = u64::MAX;
+        let returned = raw::balance_plant(&file, call.office, &mut memory[GUARD..end], sheet, written, &mut marked);
+        (returned, memory[GUARD..end].to_vec(), marked)
     })?;
+    if memory[..GUARD] != guard || memory[end..] != guard {
+        return Err("a number beside the last sheet numbers changed".into());
+    }
     if file != call.file {
         return Err("the file changed".into());
     }
@@ -72,8 +79,8 @@ fn compare(found: Result<Outcome, String>, expected: &Outcome) -> Result<(), Str
     if found.written != expected.written {
         return Err(format!("written {}, expected {}", found.written, expected.written));
     }
-    if found.last != expected.last {
-        return Err(format!("counter {}, expected {}", found.last, expected.last));
+    if found.lasts != expected.lasts {
+        return Err(format!("last sheet numbers {:?}, expected {:?}", found.lasts, expected.lasts));
     }
     match (0..expected.slice.len()).find(|&i| found.slice[i] != expected.slice[i]) {
         Some(i) => Err(format!("byte {i} of the slice is {}, expected {}", found.slice[i], expected.slice[i])),
@@ -96,7 +103,7 @@ fn marks_right(file: &[u8], returned: u8, marked: u64) -> Result<(), String> {
 
 /// Where the outcome is counted, or the difference.
 fn sheet_difference(run: &dyn Fn(&Call) -> Result<Outcome, String>, call: &Call) -> Result<usize, String> {
-    let expected = reference::sheet_call(&call.file, call.last, &call.slice);
+    let expected = reference::sheet_call(&call.file, call.office, &call.lasts, &call.slice);
     let found = run(call)?;
     let (returned, marked) = (found.returned, found.marked);
     compare(Ok(found), &expected)?;
@@ -117,7 +124,7 @@ fn write_difference(w: &Write) -> Result<(), String> {
             })
         })
         .collect();
-    let mut expected = Outcome { returned: 0, written: 0, last: 0, slice: w.slice.clone(), marked: 0 };
+    let mut expected = Outcome { returned: 0, written: 0, lasts: Vec::new(), slice: w.slice.clone(), marked: 0 };
     match reference::write(w.units, w.count, &streams, &w.slice) {
         Err(number) => expected.returned = number,
         Ok(file) => {
@@ -137,7 +144,7 @@ fn write_difference(w: &Write) -> Result<(), String> {
         low: &w.low,
         high: &w.high,
     };
-    compare(guarded(&w.slice, |file, written| (raw::write_plant(parts, file, written), 0, 0)), &expected)
+    compare(guarded(&w.slice, |file, written| (raw::write_plant(parts, file, written), Vec::new(), 0)), &expected)
 }
 
 /// What the sheet reader must hand over, the number first.
@@ -147,8 +154,15 @@ fn reopened(r: &Reopen) -> (u8, Total, Vec<u8>, Vec<i64>) {
         Err(number) => (number, reference::Kept::default()),
         Ok(kept) => (0, kept),
     };
-    let total =
-        Total { count: kept.streams.len(), sheet: kept.number, cost: kept.cost, degrees: kept.degrees, verdict: kept.verdict };
+    let total = Total {
+        count: kept.streams.len(),
+        kind: kept.kind,
+        office: kept.office,
+        sheet: kept.number,
+        cost: kept.cost,
+        degrees: kept.degrees,
+        verdict: kept.verdict,
+    };
     let (mut kinds, mut flows) = (r.kinds.clone(), r.flows.clone());
     for (k, (kind, flow)) in kept.streams.iter().enumerate() {
         kinds[k] = *kind;
@@ -164,7 +178,7 @@ fn reopen_difference(r: &Reopen) -> Result<u8, String> {
     let (kind_guard, flow_guard) = ([0xC3; GUARD], [-0x1234_5678_9ABC; GUARD]);
     let mut kind_memory = [&kind_guard[..], &r.kinds, &kind_guard].concat();
     let mut flow_memory = [&flow_guard[..], &r.flows, &flow_guard].concat();
-    let mut found = Total { count: 77, sheet: 77, cost: 77, degrees: 77, verdict: 77 };
+    let mut found = Total { count: 77, kind: 77, office: 77, sheet: 77, cost: 77, degrees: 77, verdict: 77 };
     let returned = raw::read_sheet(
         &bytes,
         &mut kind_memory[GUARD..GUARD + r.kinds.len()],
@@ -188,8 +202,8 @@ fn reopen_difference(r: &Reopen) -> Result<u8, String> {
     }
     if returned == 0 {
         let streams = kinds.into_iter().zip(flows).take(found.count).collect();
-        let Total { sheet, cost, degrees, verdict, .. } = found;
-        if reference::sheet_bytes(&reference::Kept { streams, number: sheet, cost, degrees, verdict }) != bytes {
+        let Total { kind, office, sheet, cost, degrees, verdict, .. } = found;
+        if reference::sheet_bytes(&reference::Kept { streams, kind, office, number: sheet, cost, degrees, verdict }) != bytes {
             return Err("written again it differs".into());
         }
     }
@@ -298,9 +312,9 @@ fn plants_to_try() {
     ];
     for (units, streams, listing) in cases {
         let plant = reference::Listed { units, streams };
-        let sheet = wengeludo_balance::balance(&reference::file_of(&plant), &mut 0).unwrap();
+        let sheet = wengeludo_balance::Offices::default().draw(0, &reference::file_of(&plant)).unwrap();
         assert_eq!(sheet.to_string(), listing);
-        let bytes = reference::sheet_of(&plant, 1).unwrap();
+        let bytes = reference::sheet_of(&plant, 0, 1).unwrap();
         assert_eq!(wengeludo_balance::Sheet::from_bytes(&bytes), Ok(sheet));
     }
 }
@@ -309,7 +323,7 @@ fn plants_to_try() {
 #[test]
 fn a_difference_is_shrunk() {
     let faulty = |call: &Call| {
-        let mut outcome = reference::sheet_call(&call.file, call.last, &call.slice);
+        let mut outcome = reference::sheet_call(&call.file, call.office, &call.lasts, &call.slice);
         if outcome.returned == 0 {
             let sheet = wengeludo_balance::Sheet::from_bytes(&outcome.slice[..outcome.written]).unwrap();
             if sheet.records.iter().filter(|r| r.letter() == 'A').count() >= 3 {

@@ -21,7 +21,7 @@ returns : tie.Need-returns
 returns c =
     let a = c .before .before .before .before .before .before .args in
     let fault = c .before .before .call-fault in
-    call-refused (now (a .file)) (a .last) (now (a .sheet)) (fault .result) (c .refused .result) (fault .ensures) (c .before .if1 .taken) (c .refused .ensures)
+    call-refused (now (a .file)) (a .office) (a .lasts) (now (a .sheet)) (fault .result) (c .refused .result) (fault .ensures) (c .before .if1 .taken) (c .refused .ensures)
 
 read-plant-requires : tie.Need-read-plant-requires
 read-plant-requires c κs = search needs
@@ -37,7 +37,7 @@ returns-2 c =
     let a = c .before .before .before .before .before .before .before .before .args in
     let fault = c .before .before .before .before .call-fault in
     let read = c .before .before .read-plant in
-    file-refused (now (a .file)) (a .last) (now (a .sheet)) (fault .result) (fault .ensures) (c .before .before .before .if1 .left) (read .result) (read .ensures) (c .refused2 .result) (c .before .if2 .taken) (c .refused2 .ensures)
+    file-refused (now (a .file)) (a .office) (a .lasts) (now (a .sheet)) (fault .result) (fault .ensures) (c .before .before .before .if1 .left) (read .result) (read .ensures) (c .refused2 .result) (c .before .if2 .taken) (c .refused2 .ensures)
 
 balance-of-requires : tie.Need-balance-of-requires
 balance-of-requires c κs =
@@ -62,7 +62,7 @@ returns-3 c =
     let fault = c .before .before .before .before .before .before .before .before .before .before .call-fault in
     let read = c .before .before .before .before .before .before .before .before .read-plant in
     let outcome = c .before .before .before .before .before .balance-of in
-    outcome-drawn (now (a .file)) (a .last) (now (a .sheet)) (fault .result) (fault .ensures) (c .before .before .before .before .before .before .before .before .before .if1 .left) (read .result) (read .ensures) (c .before .before .before .before .before .before .before .if2 .left)
+    outcome-drawn (now (a .file)) (a .office) (a .lasts) (now (a .sheet)) (fault .result) (fault .ensures) (c .before .before .before .before .before .before .before .before .before .if1 .left) (read .result) (read .ensures) (c .before .before .before .before .before .before .before .if2 .left)
     _ (c .before .before .draw .result) (outcome .result) (outcome .ensures) (c .before .before .draw .ensures)
 
 pub balance-plant-spec : {M : Type 1} → statement M

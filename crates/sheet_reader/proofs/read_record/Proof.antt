@@ -3,7 +3,7 @@ use borrow.Author.Needs.{needs}
 use denote.Ref.{now}
 use borrow.Author.Tests.{eq-eqb}
 use mathlib.Core.Path.{_∙_}
-use Rattle.sheet_reader.proofs.ByKind.{adjusted-at, as-read-at, given-at, withheld-at, total-at, no-kind}
+use Rattle.sheet_reader.proofs.ByKind.{adjusted-at, as-read-at, given-at, withheld-at, total-at, plain-at, no-kind}
 use Rattle.sheet_reader.proofs.read_record.Statement.{statement}
 use Rattle.sheet_reader.proofs.read_record.Tie as tie
 
@@ -48,9 +48,16 @@ returns-6 : tie.Need-returns-6
 returns-6 c = let a = c .before .before .before .before .before .before .before .before .before .args in
     c .read-total .ensures ∙ total-at (a .count) (now (a .s)) (c .before .before .before .before .before .before .before .if1 .left) (c .before .before .before .before .before .if2 .left) (c .before .before .before .before .if3 .left) (c .before .before .before .if4 .left) (c .before .before .if5 .left) (c .before .if6 .taken)
 
+read-plain-requires : tie.Need-read-plain-requires
+read-plain-requires c κs = search needs
+
 returns-7 : tie.Need-returns-7
-returns-7 c = let a = c .before .before .before .before .before .before .before .before .args in
-    no-kind (a .count) (now (a .s)) (c .before .before .before .before .before .before .if1 .left) (c .before .before .before .before .if2 .left) (c .before .before .before .if3 .left) (c .before .before .if4 .left) (c .before .if5 .left) (c .if6 .left)
+returns-7 c = let a = c .before .before .before .before .before .before .before .before .before .before .args in
+    c .read-plain .ensures ∙ plain-at (a .count) (now (a .s)) (c .before .before .before .before .before .before .before .before .if1 .left) (c .before .before .before .before .before .before .if2 .left) (c .before .before .before .before .before .if3 .left) (c .before .before .before .before .if4 .left) (c .before .before .before .if5 .left) (c .before .before .if6 .left) (c .before .if7 .taken)
+
+returns-8 : tie.Need-returns-8
+returns-8 c = let a = c .before .before .before .before .before .before .before .before .before .args in
+    no-kind (a .count) (now (a .s)) (c .before .before .before .before .before .before .before .if1 .left) (c .before .before .before .before .before .if2 .left) (c .before .before .before .before .if3 .left) (c .before .before .before .if4 .left) (c .before .before .if5 .left) (c .before .if6 .left) (c .if7 .left)
 
 pub read-record-spec : {M : Type 1} → statement M
 read-record-spec =
@@ -68,4 +75,6 @@ read-record-spec =
     returns-5
     read-total-requires
     returns-6
-    returns-7)
+    read-plain-requires
+    returns-7
+    returns-8)

@@ -1,49 +1,45 @@
--- Cut, or refused for its fields or for what follows it, or the total.
+-- Cut, or there whole.
 use borrow.Author.Needs.{needs}
-use borrow.Author.Tests.{ltb-false}
+use native.Mathlib.Omega.{arith}
 use denote.Ref.{now}
-use mathlib.Core.Path.{_≡_, refl, sym, ap, _∙_}
-use Prim.Native.Nat.{ℕ, _≤_}
-use lib.ListN.{length}
-use Rattle.numbers.specs.Choice.{firstOf}
-use Rattle.numbers.proofs.Tests.{refuse-none, first-is, refused-by, accepted-by}
-use Rattle.sheets.specs.Apart.{totalSize}
-use Rattle.sheets.specs.declared.SheetRecord.the-variants.{Ended, Refused}
-use Rattle.sheets.specs.Kept.{totalIn, totalFault, afterFault, endFault}
-use Rattle.sheets.proofs.Records.{end-is}
+use Prim.Native.Nat.{_≤_}
+use lib.ListN.{length, getD}
+use Rattle.numbers.proofs.Parts.{length-part}
+use Rattle.sheets.specs.Apart.{totalKind, totalSize}
+use Rattle.sheets.specs.Kept.{totalIn}
+use Rattle.sheet_reader.proofs.Totals.{cut-refused, whole, total-behind}
 use Rattle.sheet_reader.proofs.read_total.Statement.{statement}
 use Rattle.sheet_reader.proofs.read_total.Tie as tie
 
--- The total is there whole.
-whole : (c : tie.Else1) → totalSize ≤ length (now (c .before .before .before .args .s))
-whole c = ltb-false _ totalSize (refuse-none _ 12 (sym (c .before .cut-fault .ensures) ∙ c .if1 .left))
-
--- The fault is that of the end.
-fault : (c : tie.After-rest-fault) → c .rest-fault .result ≡ endFault (now (c .before .before .before .before .before .args .s))
-fault c = end-is (now (c .before .before .before .before .before .args .s)) (whole (c .before .before)) (c .before .total-in .ensures) refl refl (c .rest-fault .ensures)
+there : (c : tie.Else1) → totalSize ≤ length (now (c .before .before .before .args .s))
+there c = whole totalSize (now (c .before .before .before .args .s)) _ (c .before .cut-fault .ensures) (c .if1 .left)
 
 cut-fault-requires : tie.Need-cut-fault-requires
 cut-fault-requires c κs = search needs
 
 returns : tie.Need-returns
-returns c =
-    let s = now (c .before .before .before .args .s) in
-    let rest = firstOf (totalFault (totalIn s)) (afterFault s) in
-    let e : c .before .cut-fault .result ≡ endFault s = first-is _ rest (c .if1 .taken) ∙ ap (λ (f : ℕ). firstOf f rest) (c .before .cut-fault .ensures) in
-    refused-by _ (endFault s) (Ended (totalIn s)) Refused e (c .if1 .taken)
+returns c = let s = now (c .before .before .before .args .s) in cut-refused totalSize s _ (c .before .cut-fault .ensures) (totalIn s) (c .if1 .taken)
 
-total-in-requires : tie.Need-total-in-requires
-total-in-requires c κs = whole c
+shared-slice-read-body-in : tie.Need-shared-slice-read-body-in
+shared-slice-read-body-in c = omega (arith, there (c .before))
 
-rest-fault-requires : tie.Need-rest-fault-requires
-rest-fault-requires c κs = search needs
+sub-body-in : tie.Need-sub-body-in
+sub-body-in c = omega (arith, there (c .before))
+
+part-body-in-start : tie.Need-part-body-in-start
+part-body-in-start c = omega (arith, there (c .before))
+
+part-body-in-end : tie.Need-part-body-in-end
+part-body-in-end c = search needs
+
+body-in-requires : tie.Need-body-in-requires
+body-in-requires c κs = omega (arith, there (c .before .before), length-part 2 (now (c .before .before .before .before .before .args .s)))
+
+end-with-requires : tie.Need-end-with-requires
+end-with-requires c κs = there (c .before .before .before)
 
 returns-2 : tie.Need-returns-2
-returns-2 c = let s = now (c .before .before .before .before .before .before .args .s) in refused-by _ (endFault s) (Ended (totalIn s)) Refused (fault (c .before)) (c .if2 .taken)
-
-returns-3 : tie.Need-returns-3
-returns-3 c = let s = now (c .before .before .before .before .before .before .args .s) in
-    ap Ended (c .before .before .total-in .ensures) ∙ accepted-by _ (endFault s) (Ended (totalIn s)) Refused (fault (c .before)) (c .if2 .left)
+returns-2 c = let s = now (c .before .before .before .before .before .before .before .args .s) in total-behind totalSize 2 totalKind (getD s 1 0) s (c .before .body-in .ensures) (c .end-with .ensures)
 
 pub read-total-spec : {M : Type 1} → statement M
 read-total-spec =
@@ -51,7 +47,10 @@ read-total-spec =
     (tie.spec
     cut-fault-requires
     returns
-    total-in-requires
-    rest-fault-requires
-    returns-2
-    returns-3)
+    shared-slice-read-body-in
+    sub-body-in
+    part-body-in-start
+    part-body-in-end
+    body-in-requires
+    end-with-requires
+    returns-2)

@@ -1,4 +1,4 @@
--- Kind and number, then the rest in the part behind them.
+-- Kind, office and number, then the rest in the part behind them.
 use borrow.Author.Needs.{needs}
 use native.Mathlib.Omega.{arith}
 use denote.Ref.{now}
@@ -30,7 +30,7 @@ same-length c = search needs
 returns : tie.Need-returns
 returns c =
     let a = c .before .before .before .before .before .before .before .before .before .args in
-    let numbered = laid (totalKind ∷ putBe 4 (a .number)) (now (a .out)) (omega arith) (c .before .before .before .before .before .before .put-number .ensures) in
+    let numbered = laid (totalKind ∷ a .office ∷ putBe 4 (a .number)) (now (a .out)) (omega arith) (c .before .before .before .before .before .before .put-number .ensures) in
     lay numbered (putBe 8 (a .cost) ++ (a .degrees ∷ a .verdict ∷ [])) (omega arith) (c .before .before .put-cost .ensures) .bytes
 
 pub put-total-spec : {M : Type 1} → statement M

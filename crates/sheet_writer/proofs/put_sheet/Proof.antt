@@ -37,7 +37,7 @@ same-length c = search needs
 returns : tie.Need-returns
 returns c =
     let a = c .before .before .before .before .before .before .before .before .before .before .args in
-    sheet-put (a .b) (behind (c .before .before .before .before)) (a .number) (c .before .before .put-total .last .1 .1 .1 .1 .0) (c .before .before .put-total .ensures)
+    sheet-put (a .b) (behind (c .before .before .before .before)) (a .office) (a .number) (c .before .before .put-total .last .1 .1 .1 .1 .1 .0) (c .before .before .put-total .ensures)
 
 pub put-sheet-spec : {M : Type 1} → statement M
 put-sheet-spec =

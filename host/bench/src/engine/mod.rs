@@ -17,7 +17,11 @@ pub use watch::{Phase, Unwatched, Watch, Work};
 
 use crate::plants::{Stream, MAX_STREAMS};
 use incidence::Incidence;
+use sheet::Drawer;
 use state::State;
+
+/// The offices, 0 to 7.
+const OFFICES: usize = 8;
 
 /// A plant as read: its streams are the first `count`.
 pub struct Site {
@@ -57,9 +61,10 @@ fn no_hint(_: &[Stream], _: usize, _: &mut State) -> bool {
     false
 }
 
-/// What a sheet call hands back beside its number.
+/// The office that calls, and what a sheet call hands back beside its number.
 pub struct Back<'a> {
-    pub last: &'a mut u32,
+    pub office: u8,
+    pub lasts: &'a mut [u32],
     pub out: &'a mut [u8],
     pub written: &'a mut usize,
     pub marked: &'a mut u64,
@@ -76,12 +81,16 @@ pub fn balance_by_phases<W: Watch>(bytes: &[u8], back: Back, watch: &mut W) -> u
 }
 
 fn balance_from<W: Watch>(bytes: &[u8], back: Back, hint: HintInto, watch: &mut W) -> u8 {
-    let Back { last, out, written, marked } = back;
+    let Back { office, lasts, out, written, marked } = back;
     *written = 0;
     *marked = 0;
-    if out.len() < sheet::LEAST_SLICE {
+    if out.len() < sheet::LEAST_SLICE || lasts.len() < OFFICES {
         return 1;
     }
+    if usize::from(office) >= OFFICES {
+        return 22;
+    }
+    let last = &mut lasts[usize::from(office)];
     if *last == u32::MAX {
         return 2;
     }
@@ -99,7 +108,7 @@ fn balance_from<W: Watch>(bytes: &[u8], back: Back, hint: HintInto, watch: &mut 
         return 19;
     }
     *last += 1;
-    *written = sheet::put(&site, &state.flows, *last, out, watch);
+    *written = sheet::put(&site, &state.flows, Drawer { office, number: *last }, out, watch);
     0
 }
 
@@ -114,7 +123,7 @@ mod tests {
         let hinted = hint(site.streams(), site.units, &mut state);
         match solve(site.streams(), hinted, &mut state, watch) {
             Ok(()) => {
-                sheet::put(site, &state.flows, 1, &mut sheet, &mut Unwatched);
+                sheet::put(site, &state.flows, Drawer { office: 0, number: 1 }, &mut sheet, &mut Unwatched);
                 Some(sheet)
             }
             Err(places) => {

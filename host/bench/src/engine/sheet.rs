@@ -7,10 +7,17 @@ use super::Site;
 use crate::plants::{Stream, MAX_STREAMS};
 
 /// The least slice that is taken.
-pub const LEAST_SLICE: usize = 9 * MAX_STREAMS + 15;
+pub const LEAST_SLICE: usize = 9 * MAX_STREAMS + 16;
+
+/// Whose sheet it is: the office, and the sheet's number among its sheets.
+#[derive(Clone, Copy)]
+pub struct Drawer {
+    pub office: u8,
+    pub number: u32,
+}
 
 /// The sheet at the front of the slice, and how many bytes it takes.
-pub fn put<W: Watch>(site: &Site, flows: &[i64; MAX_STREAMS], number: u32, out: &mut [u8], watch: &mut W) -> usize {
+pub fn put<W: Watch>(site: &Site, flows: &[i64; MAX_STREAMS], drawer: Drawer, out: &mut [u8], watch: &mut W) -> usize {
     let streams = site.streams();
     let labels = groups::group(streams, |s| !s.metered);
     let classes = classes::classes(streams, &labels);
@@ -22,9 +29,9 @@ pub fn put<W: Watch>(site: &Site, flows: &[i64; MAX_STREAMS], number: u32, out: 
     }
     let cost = cost(streams, flows);
     let verdict = classes::verdict(degrees, cost, classes::adjusted_weights(streams, &classes));
-    put_total(number, cost, degrees, verdict, &mut out[at..]);
+    put_total(drawer, cost, degrees, verdict, &mut out[at..]);
     watch.phase(Phase::Write);
-    at + 15
+    at + 16
 }
 
 /// The cost, or the greatest number of 64 bits where it is above that.
@@ -50,10 +57,11 @@ fn put_record(class: Class, flow: i64, out: &mut [u8]) -> usize {
     9
 }
 
-fn put_total(number: u32, cost: u64, degrees: usize, verdict: u8, out: &mut [u8]) {
-    out[0] = 0x1F;
-    out[1..5].copy_from_slice(&number.to_be_bytes());
-    out[5..13].copy_from_slice(&cost.to_be_bytes());
-    out[13] = degrees as u8;
-    out[14] = verdict;
+fn put_total(drawer: Drawer, cost: u64, degrees: usize, verdict: u8, out: &mut [u8]) {
+    out[0] = 0x1E;
+    out[1] = drawer.office;
+    out[2..6].copy_from_slice(&drawer.number.to_be_bytes());
+    out[6..14].copy_from_slice(&cost.to_be_bytes());
+    out[14] = degrees as u8;
+    out[15] = verdict;
 }

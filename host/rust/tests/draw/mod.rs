@@ -5,18 +5,20 @@ mod ranges;
 use crate::reference::{file_of, read, sheet_bytes, sheet_of, Kept, Listed, Stream};
 use std::fmt;
 
-/// A sheet call.
+/// A sheet call: the plant file, the office, the last sheet numbers that are lent, the slice.
 #[derive(Clone, Debug, PartialEq, Eq)]
 pub struct Call {
     pub file: Vec<u8>,
-    pub last: u32,
+    pub office: u8,
+    pub lasts: Vec<u32>,
     pub slice: Vec<u8>,
 }
 
 impl fmt::Display for Call {
     fn fmt(&self, f: &mut fmt::Formatter<'_>) -> fmt::Result {
         let hex: Vec<String> = self.file.iter().map(|b| format!("{b:02X}")).collect();
-        writeln!(f, "last sheet number {}, slice of {} bytes, file of {} bytes:", self.last, self.slice.len(), self.file.len())?;
+        writeln!(f, "office {}, last sheet numbers {:?}", self.office, self.lasts)?;
+        writeln!(f, "slice of {} bytes, file of {} bytes:", self.slice.len(), self.file.len())?;
         writeln!(f, "{}", hex.join(" "))?;
         if let Ok(plant) = read(&self.file) {
             writeln!(f, "{} units", plant.units)?;
@@ -237,20 +239,39 @@ impl Draw {
 
     pub fn call(&mut self) -> Call {
         let file = if self.below(4) == 0 { self.damaged() } else { file_of(&self.plant()) };
-        let last = match self.below(20) {
+        let length = match self.below(20) {
+            0 => 879,
+            1 => self.below(880),
+            2..=9 => 880 + self.below(200),
+            _ => 880,
+        };
+        let lent = match self.below(40) {
+            0 => 7,
+            1 => self.below(8),
+            2..=9 => 9 + self.below(4),
+            _ => 8,
+        };
+        let lasts = (0..lent).map(|_| self.last()).collect();
+        Call { file, office: self.office(), lasts, slice: self.bytes(length) }
+    }
+
+    /// An office, now and then one that there is not.
+    pub fn office(&mut self) -> u8 {
+        match self.below(40) {
+            0 => 8,
+            1 => 8 + self.below(248) as u8,
+            _ => self.below(8) as u8,
+        }
+    }
+
+    /// A last sheet number.
+    pub fn last(&mut self) -> u32 {
+        match self.below(20) {
             0 => u32::MAX,
             1 => u32::MAX - 1,
             2..=9 => self.bits() as u32,
             _ => 0,
-        };
-        let length = match self.below(20) {
-            0 => 878,
-            1 => self.below(879),
-            2..=9 => 879 + self.below(200),
-            _ => 879,
-        };
-        let slice = self.bytes(length);
-        Call { file, last, slice }
+        }
     }
 
     pub fn write(&mut self) -> Write {
@@ -362,7 +383,14 @@ impl Draw {
             _ => [0, 1, 3][self.below(3)],
         };
         let number = if self.below(12) == 0 { 0 } else { [1, u32::MAX, self.bits() as u32][self.below(3)] };
-        Kept { streams, number, cost: [0, u64::MAX, self.bits()][self.below(3)], degrees, verdict }
+        let kind = 0x1E + self.below(2) as u8;
+        let office = match (kind, self.below(12)) {
+            (0x1F, _) => 0,
+            (_, 0) => self.bits() as u8,
+            (_, 1) => 8,
+            _ => self.below(8) as u8,
+        };
+        Kept { streams, kind, office, number, cost: [0, u64::MAX, self.bits()][self.below(3)], degrees, verdict }
     }
 
     /// A kept sheet, of a plant or drawn; half of them damaged; and the slices.
@@ -370,7 +398,7 @@ impl Draw {
         let mut bytes = if self.below(4) == 0 {
             let plant = self.plant();
             let plant = if plant.streams.len() > 12 { Listed { units: 1, streams: Vec::new() } } else { plant };
-            match sheet_of(&plant, 1 + self.below(1000) as u32) {
+            match sheet_of(&plant, self.below(8) as u8, 1 + self.below(1000) as u32) {
                 Ok(sheet) => sheet,
                 Err(_) => sheet_bytes(&self.shown()),
             }

@@ -36,7 +36,7 @@ fn moved(file: &[u8], forth: bool) -> Result<Vec<u8>, u8> {
 }
 
 fn expected(call: &Call, forth: bool) -> Outcome {
-    let mut outcome = Outcome { returned: 1, written: 0, last: 0, slice: call.slice.clone(), marked: 0 };
+    let mut outcome = Outcome { returned: 1, written: 0, lasts: Vec::new(), slice: call.slice.clone(), marked: 0 };
     if call.slice.len() >= 1636 {
         match moved(&call.file, forth) {
             Err(number) => outcome.returned = number,
@@ -54,7 +54,7 @@ fn found(call: &Call, forth: bool) -> Result<Outcome, String> {
     let file = call.file.clone();
     let outcome = guarded(&call.slice, |out, written| {
         let move_it = if forth { raw::to_ranged } else { raw::from_ranged };
-        (move_it(&file, out, written), 0, 0)
+        (move_it(&file, out, written), Vec::new(), 0)
     });
     if file != call.file {
         return Err("the file changed".into());
@@ -72,7 +72,7 @@ fn trip(call: &Call) -> Result<(), String> {
     if wengeludo_balance::from_ranged(&there).map_err(|r| r.to_string())? != call.file {
         return Err("not the file itself after the trip".into());
     }
-    let slice = vec![0xA5; 879];
+    let slice = vec![0xA5; 880];
     let before = engine(&Call { slice: slice.clone(), ..call.clone() })?;
     let after = engine(&Call { file: there, slice, ..call.clone() })?;
     compare(Ok(after), &before)
@@ -143,7 +143,7 @@ fn mixed_plants() {
         .metered(1, 0, 1, 0)
         .file()
         .unwrap();
-    let listing = |file: &[u8]| wengeludo_balance::balance(file, &mut 0).map(|sheet| sheet.to_string());
+    let listing = |file: &[u8]| wengeludo_balance::Offices::default().draw(0, file).map(|sheet| sheet.to_string());
     let there = |file: &[u8]| wengeludo_balance::to_ranged(file).unwrap();
     let before = "1 A 2000000000\n2 A 1000000\n3 A 2001000000\ntotal 1 8008005001000000000 1 fail\n";
     let after = "1 A 2000000000\n2 A 0\n3 A 2000000000\ntotal 1 8009006001000000000 1 fail\n";

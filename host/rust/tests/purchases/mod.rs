@@ -236,6 +236,7 @@ fn the_sample_site() {
     let sample = |name: &str| std::fs::read(format!("{}/../../samples/{name}", env!("CARGO_MANIFEST_DIR"))).unwrap();
     let bought = wengeludo_balance::meters_to_buy(&sample("blind_site.bin"), &[900, 1400, 650, 650, 300, 300, 420]).unwrap();
     assert_eq!((bought.streams, bought.price), (vec![4, 8], 950));
-    let blank = |name: &str| wengeludo_balance::balance(&sample(name), &mut 0).unwrap().to_string().matches('W').count();
+    let blank =
+        |name: &str| wengeludo_balance::Offices::default().draw(0, &sample(name)).unwrap().to_string().matches('W').count();
     assert_eq!((blank("blind_site.bin"), blank("sighted_site.bin")), (6, 0));
 }

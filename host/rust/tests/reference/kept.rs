@@ -6,6 +6,9 @@ use super::file::Fault;
 #[derive(Clone, Debug, Default, PartialEq, Eq)]
 pub struct Kept {
     pub streams: Vec<(u8, i64)>,
+    /// 0x1E, or 0x1F where the total has no office.
+    pub kind: u8,
+    pub office: u8,
     pub number: u32,
     pub cost: u64,
     pub degrees: u8,
@@ -24,18 +27,24 @@ pub fn reopen(mut bytes: &[u8]) -> Result<Kept, Fault> {
     let mut kept = Kept::default();
     loop {
         match take(&mut bytes)? {
-            [0x1F] => break,
+            [kind @ (0x1E | 0x1F)] => {
+                kept.kind = kind;
+                break;
+            }
             [0x11..=0x14] if kept.streams.len() == 96 => return Err(13),
             [0x14] => kept.streams.push((0x14, 0)),
             [kind @ 0x11..=0x13] => kept.streams.push((kind, i64::from_be_bytes(take(&mut bytes)?))),
             _ => return Err(13),
         }
     }
+    if kept.kind == 0x1E {
+        [kept.office] = take(&mut bytes)?;
+    }
     kept.number = u32::from_be_bytes(take(&mut bytes)?);
     kept.cost = u64::from_be_bytes(take(&mut bytes)?);
     [kept.degrees, kept.verdict] = take(&mut bytes)?;
     let verdicts: &[u8] = if kept.degrees == 0 { &[2] } else { &[0, 1, 3] };
-    if kept.number == 0 || kept.degrees > 32 || !verdicts.contains(&kept.verdict) {
+    if kept.office > 7 || kept.number == 0 || kept.degrees > 32 || !verdicts.contains(&kept.verdict) {
         return Err(14);
     }
     if bytes.is_empty() {
@@ -54,7 +63,10 @@ pub fn sheet_bytes(kept: &Kept) -> Vec<u8> {
             sheet.extend(flow.to_be_bytes());
         }
     }
-    sheet.push(0x1F);
+    sheet.push(kept.kind);
+    if kept.kind == 0x1E {
+        sheet.push(kept.office);
+    }
     sheet.extend(kept.number.to_be_bytes());
     sheet.extend(kept.cost.to_be_bytes());
     sheet.extend([kept.degrees, kept.verdict]);

@@ -31,7 +31,8 @@ pub use visits::visits;
 pub struct Outcome {
     pub returned: u8,
     pub written: usize,
-    pub last: u32,
+    /// The last sheet numbers, of the sheet call; none of another.
+    pub lasts: Vec<u32>,
     pub slice: Vec<u8>,
     /// Bit u for place u.
     pub marked: u64,
@@ -42,25 +43,31 @@ const CRITICAL: [u64; 32] = [
     30144, 31410, 32671, 33924, 35172, 36415, 37652, 38885, 40113, 41337, 42557, 43773, 44985, 46194,
 ];
 
-/// The sheet call.
-pub fn sheet_call(file: &[u8], last: u32, slice: &[u8]) -> Outcome {
-    let refused = |returned, marked| Outcome { returned, written: 0, last, slice: slice.to_vec(), marked };
-    if slice.len() < 879 {
+/// The sheet call of an office, over as many last sheet numbers as are lent.
+pub fn sheet_call(file: &[u8], office: u8, lasts: &[u32], slice: &[u8]) -> Outcome {
+    let refused = |returned, marked| Outcome { returned, written: 0, lasts: lasts.to_vec(), slice: slice.to_vec(), marked };
+    if slice.len() < 880 || lasts.len() < 8 {
         return refused(1, 0);
     }
-    if last == u32::MAX {
+    if office > 7 {
+        return refused(22, 0);
+    }
+    let mut lasts = lasts.to_vec();
+    let last = &mut lasts[usize::from(office)];
+    if *last == u32::MAX {
         return refused(2, 0);
     }
     let plant = match read(file) {
         Err(number) => return refused(number, 0),
         Ok(plant) => plant,
     };
-    match sheet_of(&plant, last + 1) {
+    *last += 1;
+    match sheet_of(&plant, office, *last) {
         Err(marked) => refused(19, marked),
         Ok(sheet) => {
             let mut slice = slice.to_vec();
             slice[..sheet.len()].copy_from_slice(&sheet);
-            Outcome { returned: 0, written: sheet.len(), last: last + 1, slice, marked: 0 }
+            Outcome { returned: 0, written: sheet.len(), lasts, slice, marked: 0 }
         }
     }
 }
@@ -103,8 +110,8 @@ fn count(labels: &[usize]) -> usize {
     labels.iter().enumerate().filter(|(i, l)| i == *l).count()
 }
 
-/// The bytes of the plant's sheet under a number; where no balanced flow is in range, places that show it.
-pub fn sheet_of(plant: &Listed, number: u32) -> Result<Vec<u8>, u64> {
+/// The bytes of an office's sheet of the plant under a number; where no balanced flow is in range, places that show it.
+pub fn sheet_of(plant: &Listed, office: u8, number: u32) -> Result<Vec<u8>, u64> {
     let group = joined(plant, |_, s| s.meter.is_none());
     let piece = joined(plant, |_, _| true);
     let flow = match cheapest::metered_flows(plant, &group) {
@@ -160,7 +167,7 @@ pub fn sheet_of(plant: &Listed, number: u32) -> Result<Vec<u8>, u64> {
         Some(value) if 4 * cost <= 4 * value + adjusted => 3,
         Some(_) => 1,
     };
-    sheet.push(0x1F);
+    sheet.extend([0x1E, office]);
     sheet.extend(number.to_be_bytes());
     sheet.extend(u64::try_from(cost).unwrap_or(u64::MAX).to_be_bytes());
     sheet.push(degrees as u8);

@@ -14,11 +14,17 @@ pub fn smallest<T>(mut input: T, simpler: &dyn Fn(&T) -> Vec<T>, differs: &dyn F
 /// Simpler sheet calls, the simplest first.
 pub fn simpler_calls(call: &Call) -> Vec<Call> {
     let mut all = Vec::new();
-    if call.last != 0 {
-        all.push(Call { last: 0, ..call.clone() });
+    if call.lasts != [0; 8] {
+        all.push(Call { lasts: vec![0; 8], ..call.clone() });
     }
-    if call.slice.len() > 879 {
-        all.push(Call { slice: call.slice[..879].to_vec(), ..call.clone() });
+    if call.lasts.iter().any(|last| *last != 0) {
+        all.push(Call { lasts: vec![0; call.lasts.len()], ..call.clone() });
+    }
+    if call.office != 0 {
+        all.push(Call { office: 0, ..call.clone() });
+    }
+    if call.slice.len() > 880 {
+        all.push(Call { slice: call.slice[..880].to_vec(), ..call.clone() });
     }
     if call.slice.iter().any(|b| *b != 0) {
         all.push(Call { slice: vec![0; call.slice.len()], ..call.clone() });

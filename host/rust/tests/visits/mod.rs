@@ -118,7 +118,7 @@ fn drawn(draw: &mut Draw) -> Visits {
 
 /// Simpler calls: a simpler file, plain slices of 96 elements.
 fn simpler(call: &Visits) -> Vec<Visits> {
-    let sheet = Call { file: call.file.clone(), last: 0, slice: vec![0; 879] };
+    let sheet = Call { file: call.file.clone(), office: 0, lasts: vec![0; 8], slice: vec![0; 880] };
     let mut all: Vec<Visits> =
         shrink::simpler_calls(&sheet).into_iter().map(|c| Visits { file: c.file, ..call.clone() }).collect();
     let plain = Visits { file: call.file.clone(), streams: vec![0; 96], costs: vec![0; 96] };
@@ -162,7 +162,7 @@ fn visits_and_reference_agree() {
                     Err(text) => {
                         let small = shrink::smallest(call, &simpler, &|c| difference(c).is_err());
                         let again = difference(&small).unwrap_err();
-                        let file = Call { file: small.file, last: 0, slice: Vec::new() };
+                        let file = Call { file: small.file, office: 0, lasts: Vec::new(), slice: Vec::new() };
                         panic!("seed {}: meters worth a visit: {text}\nsmallest input found: {again}\n{file}", seed + k);
                     }
                 }
@@ -192,7 +192,7 @@ fn the_site_with_a_meter_far_off() {
     assert_eq!(list[0], Visit { stream: 10, cost: 2844 });
     let mut plant = read(&file).unwrap();
     plant.streams[9].meter = None;
-    let sheet = wengeludo_balance::balance(&file_of(&plant), &mut 0).unwrap();
+    let sheet = wengeludo_balance::Offices::default().draw(0, &file_of(&plant)).unwrap();
     assert_eq!((sheet.cost, sheet.verdict), (2844, wengeludo_balance::Verdict::Pass));
 }
 
@@ -218,8 +218,8 @@ fn little_stack() {
         for file in &drawn {
             let (mut streams, mut costs, mut count) = (vec![0; 96], vec![0; 96], 0);
             raw::visits(file, &mut streams, &mut costs, &mut count);
-            let (mut sheet, mut last, mut marked) = (vec![0; 879], 0, 0);
-            raw::balance_plant(file, &mut last, &mut sheet, &mut count, &mut marked);
+            let (mut sheet, mut lasts, mut marked) = (vec![0; 880], [0; 8], 0);
+            raw::balance_plant(file, 7, &mut lasts, &mut sheet, &mut count, &mut marked);
         }
     };
     std::thread::Builder::new().stack_size(76 * 1024).spawn(calls).unwrap().join().unwrap();

@@ -1,0 +1,6 @@
+-- Laws of the counters.
+pub mod Steps
+pub mod Sequences
+pub mod Plain
+pub mod Reading
+pub mod History

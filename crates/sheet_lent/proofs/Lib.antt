@@ -1,0 +1,2 @@
+-- Laws of lent last numbers.
+pub mod Lending

@@ -1,0 +1,2 @@
+-- The sheet call over lent last numbers.
+pub mod Lent

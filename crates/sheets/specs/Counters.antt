@@ -1,0 +1,26 @@
+-- The counters: each office's last sheet number.
+use mathlib.Core.List.{List, _∷_}
+use Prim.Native.Nat.{ℕ, suc}
+use lib.ListN.{getD, set, replicate}
+
+-- The offices, 0 to 7.
+abbrev pub offices : ℕ
+offices = 8
+
+-- The last sheet number that there is.
+abbrev pub topSheet : ℕ
+topSheet = 4294967295
+
+-- An office's last sheet number, the number of its next sheet, and the counters when it is drawn.
+abbrev pub counterOf : ℕ → List ℕ → ℕ
+counterOf office lasts = getD lasts office 0
+
+abbrev pub nextOf : ℕ → List ℕ → ℕ
+nextOf office lasts = suc (counterOf office lasts)
+
+abbrev pub raised : ℕ → List ℕ → List ℕ
+raised office lasts = set lasts office (nextOf office lasts)
+
+-- The one counter of the time before there were offices passes to office 0; the others begin at 0.
+abbrev pub officesFrom : ℕ → List ℕ
+officesFrom last = last ∷ replicate 7 0
