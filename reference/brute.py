@@ -16,6 +16,7 @@ import time
 from fractions import Fraction
 from itertools import combinations, product
 
+import charges
 import purchases
 import solver
 import visits
@@ -514,6 +515,25 @@ def check_large_visits(count):
     return count
 
 
+def check_charges(count):
+    """Charges of drawn shares, credits among them: the sort against all sets; the sum, and how far each is from its share."""
+    rng = random.Random(7)
+    ties = credits = missing = 0
+    for _ in range(count):
+        top, unit = rng.choice(((1, 2), (2, 4), (3, 10), (50_000, 10_000), (50_000, 10_000)))
+        shares = [Fraction(rng.randint(-top, top), unit) for _ in range(rng.randint(0, 8))]
+        cents = charges.shared(shares)
+        expect(shares, cents, charges.of_all_sets(shares))
+        expect(shares, sum(cents), math.floor(sum(shares)))
+        expect(shares, all(abs(cent - share) < 1 for cent, share in zip(cents, shares)), True)
+        parts = [share - math.floor(share) for share in shares]
+        ties += len(set(parts)) < len(parts)
+        credits += any(share < 0 for share in shares)
+        missing += sum(cents) - sum(map(math.floor, shares))
+    print(f"  with equal remainders {ties}, with a credit {credits}; cents missing {missing}")
+    return count
+
+
 def check_large(count):
     """On large plants: balance, the bound from the optimum in fractions, and renumbered places."""
     rng = random.Random(2)
@@ -547,6 +567,7 @@ def main():
         ("meters to buy against all sets", lambda: check_purchases(3_000)),
         ("meters worth a visit against brute force", lambda: check_visits(6_000)),
         ("meters worth a visit on larger plants", lambda: check_large_visits(6)),
+        ("steam charges against all sets", lambda: check_charges(5_000)),
         ("large plants", lambda: check_large(80)),
     ):
         start = time.monotonic()

@@ -40,6 +40,9 @@ then the bytes handed in, then those of the slice as they must be after the call
     16 OFFICES  the sheet call of any office. Handed in: the office (1), the eight last sheet numbers (4 each), then the plant
                 file; back: `written`; the last sheet numbers in the first 32 bytes of the slice, and the sheet in the part
                 behind them, which is the slice that the call is lent
+    17 CHARGES  handed in: how many rates (2), the rates (2 each), then the plant file; back: how many streams are charged, and at
+                the front of a slice of 872 bytes the bill (8, two's complement) and for each of them 9 bytes: its number, and
+                its cents (8, two's complement)
 
 Where a call has no number or count, 0 stands. A stream is 17 bytes: 1 where it is metered and 2 where it has a range, added;
 from, to, weight (2); reading, low, high (4 each, two's complement). An entry is 9 bytes: the kind of the stream's record, its
@@ -58,6 +61,7 @@ SURVEY, LAYOUTS = 12, 13
 VISITS, VISIT_TEXT = 14, 15
 OFFICES = 16
 LASTS = 32  # bytes of the eight last sheet numbers
+CHARGES = 17
 STREAMS = 96
 HEAD = 20
 ROOM = 2_560  # most bytes handed in, and of a slice

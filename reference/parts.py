@@ -4,6 +4,7 @@ import math
 from typing import NamedTuple
 
 import cases
+import charges
 import moves
 import purchases
 import solver
@@ -281,6 +282,23 @@ class VisitText(NamedTuple):
     def record(self):
         text = visits.text(self.file).encode() if self.slice_length >= visits.TEXT_LENGTH else b""
         return meant(self, cases.Record(cases.VISIT_TEXT, self.file, self.slice_length, text, count=len(text)))
+
+
+class Charging(NamedTuple):
+    """A call over steam charges: a plant file and rates, with the cents, if said."""
+
+    file: bytes
+    rates: tuple
+    expected: int | None = None
+    cents: list | None = None
+
+    def record(self):
+        number, streams, cents, bill = charges.charge_call(self.file, self.rates, cases.STREAMS)
+        if self.cents is not None and cents != self.cents:
+            raise ValueError(f"{self}: {cents} charged")
+        given = cases.number(len(self.rates), 2) + b"".join(cases.number(rate, 2) for rate in self.rates) + self.file
+        answer = cases.number(bill, 8) + b"".join(bytes((k,)) + cases.number(charge, 8) for k, charge in zip(streams, cents))
+        return meant(self, cases.Record(cases.CHARGES, given, 872, answer, returned=number, count=len(streams)))
 
 
 def meant(case, record):

@@ -3,6 +3,7 @@
 import struct
 from typing import NamedTuple
 
+import charges
 import purchases
 import solver
 import survey
@@ -195,14 +196,52 @@ FAR_OFF_SITE = Sample(
 
 FAR_OFF = 10  # the number of that meter's stream
 
+_BILLED_SITE = (
+    ("feedwater", metered(0, 1, 9_846, 4)),
+    ("blowdown", metered(1, 0, 152, 40)),
+    ("steam of the boiler", metered(1, 2, 9_730, 1)),
+    ("steam to the brewery", metered(2, 0, 5_213, 2)),
+    ("steam to the laundry", metered(2, 0, 3_107, 4)),
+    ("line to the paper mill", metered(2, 0, -1_284, 4)),
+    ("steam to the baths", unmetered(2, 0)),
+)
+
+BILLED_SITE = Sample(
+    "billed_site",
+    ("boiler", "header"),
+    tuple(name for name, _ in _BILLED_SITE),
+    tuple(stream for _, stream in _BILLED_SITE),
+)
+
+_TWIN_LINES = (
+    ("feedwater", metered(0, 1, 6_120, 4)),
+    ("steam of the boiler", metered(1, 2, 6_088, 1)),
+    ("steam to the hospital", metered(2, 0, 4_015, 4)),
+    ("steam to the school, main line", unmetered(2, 0)),
+    ("steam to the school, stand-by line", unmetered(2, 0)),
+)
+
+TWIN_LINES = Sample(
+    "twin_lines",
+    ("boiler", "header"),
+    tuple(name for name, _ in _TWIN_LINES),
+    tuple(stream for _, stream in _TWIN_LINES),
+)
+
+# The rates of the streams to the outside, in ten-thousandths of a cent per kg.
+BILLS = ((BILLED_SITE, (0, 8_350, 8_350, 7_120, 9_060)), (TWIN_LINES, (8_350, 8_350, 8_350)))
+
 SAMPLES = (LISTING, STEAM_SITE, RATED_SITE, OVERFULL_SITE, SMALL_HEADER, BLIND_SITE, SIGHTED_SITE)
+BILLED = tuple(sample for sample, _ in BILLS)
 
 
 def files():
     """The files under samples/ that follow from the plants, as (path, bytes)."""
-    for sample in SAMPLES + (FAR_OFF_SITE,):
+    for sample in SAMPLES + (FAR_OFF_SITE,) + BILLED:
         yield f"samples/{sample.name}.bin", sample.file
         yield f"samples/{sample.name}.expected", solver.listing(sample.file).encode()
+    for sample, rates in BILLS:
+        yield f"samples/{sample.name}.charges", charges.text(sample.file, rates).encode()
     if transmitter.translate_call(TRANSMITTER, solver.FILE_LENGTH)[2] != LISTING.file:
         raise ValueError("the sample's signals are another plant's")
     yield "samples/transmitter.bin", TRANSMITTER
@@ -217,7 +256,7 @@ def missing_text(root):
     """What samples/README.md should show and does not, as (path, problem)."""
     path = "samples/README.md"
     text = (root / path).read_text(encoding="utf-8") if (root / path).exists() else ""
-    for sample in SAMPLES + (FAR_OFF_SITE,):
+    for sample in SAMPLES + (FAR_OFF_SITE,) + BILLED:
         bytes_shown = sample.file.hex(" ").upper()
         for what, wanted in (
             ("table", sample.table()),
@@ -238,5 +277,9 @@ def missing_text(root):
             yield path, f"{what} of {FAR_OFF_SITE.name}; wanted:\n{wanted}"
     if f"meters_to_buy samples/blind_site.bin {' '.join(map(str, PRICES))}`" not in text:
         yield path, f"the prices; wanted: {PRICES}"
+    for sample, rates in BILLS:
+        for wanted in (f"charges_file samples/{sample.name}.bin {' '.join(map(str, rates))}`", f"```\n{charges.text(sample.file, rates)}```"):
+            if wanted not in text:
+                yield path, f"the charges of {sample.name}; wanted:\n{wanted}"
     if TRANSMITTER.hex(" ").upper() not in text:
         yield path, f"bytes of the transmitter file; wanted: {TRANSMITTER.hex(' ').upper()}"

@@ -2,6 +2,7 @@
 
 import math
 
+import charges_to_try
 import close_to_try
 import closings_to_try
 import files_to_try
@@ -356,4 +357,5 @@ SUBJECTS = (
     ("visits", visits_to_try.cases),
     ("visit_texts", visits_to_try.texts),
     ("offices", offices_to_try.cases),
+    ("charges", charges_to_try.cases),
 )

@@ -1,6 +1,6 @@
 #!/usr/bin/env bash
-# Runs balance_file, meters_to_buy, layouts_file and visits_file of target/host: the samples, a cut plant, the last sheet number, the
-# offices, and what cannot be read, written or understood.
+# Runs balance_file, meters_to_buy, layouts_file, visits_file and charges_file of target/host: the samples, a cut plant, the last sheet
+# number, the offices, and what cannot be read, written or understood.
 set -eu
 cd "$(dirname "$0")/../.."
 program=target/host/balance_file
@@ -96,3 +96,32 @@ for file in "$listing" "$work/cut"; do
 done
 [ "$failed" = 0 ] || exit 1
 echo "visits_file: 11 runs as expected"
+program=target/host/charges_file
+[ -x "$program" ] || { echo "no $program: build it with 'bash host/c/build.sh'" >&2; exit 2; }
+billed=samples/billed_site.bin
+expect 0 "$(cat samples/billed_site.charges)" "$billed" 0 8350 8350 7120 9060
+expect 1 "$(cat samples/twin_lines.charges)" samples/twin_lines.bin 8350 8350 8350
+expect 1 'refused 25' samples/twin_lines.bin 8350 0 0
+expect 0 $'4 99\nbill 99' "$listing" 10000
+expect 0 $'4 0\nbill 0' "$listing" 0
+expect 0 'bill 0' "$work/empty"
+expect 1 'refused 24' "$listing"
+expect 1 'refused 24' "$listing" 5 5
+expect 1 'refused 24' "$listing" 10001
+expect 1 'refused 24' samples/twin_lines.bin 8350 10001 0
+expect 1 'refused 19' samples/overfull_site.bin 10001
+expect 1 'refused 3' "$work/cut" 5
+expect 2 ''
+expect 2 '' "$listing" x
+expect 2 '' "$listing" 5x
+expect 2 '' "$listing" -1
+expect 2 '' "$listing" 65536
+expect 2 '' "$work/missing" 5
+expect 2 '' "$work" 5
+for file in "$listing" "$work/cut"; do
+    status=0
+    "$program" "$file" 5 >/dev/full 2>/dev/null || status=$?
+    [ "$status" = 2 ] || { echo "charges_file $file to a full device: status $status, expected 2" >&2; failed=1; }
+done
+[ "$failed" = 0 ] || exit 1
+echo "charges_file: 21 runs as expected"

@@ -13,7 +13,8 @@
  * byte being 248, a kept sheet;
  * or, the second byte being 247, a transmitter file; or, the second byte being 246, a plant file to be moved both ways; or, the
  * second byte being 245, a plant file for meters to buy, the first byte choosing prices and slice; or, the second byte being 244, a
- * plant file for meters worth a visit, the first byte choosing the slices. Each sheet that is drawn is read back in as well.
+ * plant file for meters worth a visit, the first byte choosing the slices; or, the second byte being 243, a plant file for steam
+ * charges, the first byte choosing rates and slices. Each sheet that is drawn is read back in as well.
  * Each slice ends at a page that may not be touched, and bytes stand before it that may not change.
  */
 #define _GNU_SOURCE
@@ -826,6 +827,100 @@ static void visit(const uint8_t *data, size_t size, uint8_t choice)
         list_fits(file, size, sheet, o.written, streams, costs, count);
 }
 
+/* Ten-thousandths rounded toward minus infinity, and what remains. */
+static int rest_of(__int128 share) { return (int)((share % 10000 + 10000) % 10000); }
+static int64_t cents_of(__int128 share) { return (int64_t)((share - rest_of(share)) / 10000); }
+
+/* The charges of shares, the missing cents handed out one after the other; returns the bill. */
+static int64_t apportioned(const __int128 *shares, size_t count, int64_t *cents)
+{
+    uint8_t given[WENGELUDO_MAX_STREAMS] = {0};
+    __int128 sum = 0;
+    int64_t rounded = 0;
+    for (size_t k = 0; k < count; k++) {
+        sum += shares[k];
+        rounded += cents[k] = cents_of(shares[k]);
+    }
+    counters[OF_SHEETS + 864 + cents_of(sum) - rounded] = 1;
+    for (; rounded < cents_of(sum); rounded++) {
+        size_t first = count;
+        for (size_t k = 0; k < count; k++)
+            if (!given[k] && (first == count || rest_of(shares[k]) > rest_of(shares[first])))
+                first = k;
+        given[first] = 1;
+        cents[first]++;
+    }
+    return rounded;
+}
+
+/* The streams to the outside: their numbers, and their shares by the flows on the sheet; 25 where one is blank. */
+static uint8_t owed(const struct parts *p, size_t count, const uint8_t *sheet, const uint16_t *rates, uint8_t *numbers, __int128 *shares)
+{
+    uint8_t fault = 0;
+    for (size_t k = 0, j = 0, at = 0; k < count; k++) {
+        int blank = sheet[at] == WENGELUDO_WITHHELD;
+        if (p->to[k] == 0) {
+            numbers[j] = (uint8_t)(k + 1);
+            shares[j] = blank ? 0 : (__int128)(int64_t)field(sheet + at + 1, 8) * rates[j];
+            fault = blank ? WENGELUDO_CHARGE_WITHHELD : fault;
+            j++;
+        }
+        at += blank ? 1 : 9;
+    }
+    return fault;
+}
+
+/* Steam charges on any file: the number returned, the slices, the charges and the bill. */
+static void charge(const uint8_t *data, size_t size, uint8_t choice)
+{
+    const size_t most = WENGELUDO_MAX_STREAMS;
+    size_t room = choice < 224 ? most + choice % 3 : choice < 240 ? most : (choice - 240u) * 6, charged = 0, count = SIZE_MAX;
+    size_t words = choice < 224 ? most + choice % 5 : choice < 240 ? (choice - 224u) * 6 : most, listed_rates, streams_in = 0;
+    uint8_t *file = file_end - size, *streams = kinds_end - room, due_streams[WENGELUDO_MAX_STREAMS];
+    int64_t *cents = (int64_t *)(void *)flows_end - words, due_cents[WENGELUDO_MAX_STREAMS], bill = 77, due_bill = 0;
+    __int128 shares[WENGELUDO_MAX_STREAMS];
+    uint16_t rates[WENGELUDO_MAX_STREAMS + 1];
+    struct parts p;
+    memcpy(file, data, size);
+    struct outcome o = sheet_call(file, size, first_call, WENGELUDO_SHEET_SIZE, again_end, 0);
+    uint8_t due = o.returned;
+    if (due == 0)
+        streams_in = listed(file, &p);
+    for (size_t k = 0; k < streams_in; k++)
+        charged += p.to[k] == 0;
+    for (size_t k = 0; k <= charged; k++)
+        rates[k] = choice % 4 == 0 ? 5000 : choice % 4 == 1 ? (uint16_t)(3333 + k % 2) : (uint16_t)((k * 40503u + choice * 9973u) % 10001);
+    listed_rates = choice % 16 == 9 ? charged + 1 : choice % 16 == 10 && charged > 0 ? charged - 1 : charged;
+    if (choice % 16 == 11 && charged > 0)
+        rates[charged - 1] = choice % 32 == 11 ? 10001 : UINT16_MAX;
+    if (due == 0 && (listed_rates != charged || (choice % 16 == 11 && charged > 0)))
+        due = WENGELUDO_RATES;
+    if (due == 0)
+        due = owed(&p, streams_in, again_end - WENGELUDO_SHEET_SIZE, rates, due_streams, shares);
+    if (room < most || words < most)
+        due = WENGELUDO_SLICE_TOO_SHORT;
+    for (size_t i = 0; i < room + GUARD; i++)
+        streams[-GUARD + (ptrdiff_t)i] = fill(i, 0);
+    for (size_t i = 0; i < words + GUARD; i++)
+        cents[-GUARD + (ptrdiff_t)i] = ~(int64_t)i;
+    uint8_t returned = wengeludo_charges(file, size, rates, listed_rates, streams, room, cents, words, &count, &bill);
+    if (returned != due)
+        fail("steam charges: another number");
+    if (returned == 0)
+        due_bill = apportioned(shares, charged, due_cents);
+    if (count != (returned == 0 ? charged : 0) || bill != due_bill)
+        fail("steam charges: another count or bill");
+    for (size_t i = 0; i < room + GUARD; i++)
+        if (streams[-GUARD + (ptrdiff_t)i] != (i >= GUARD && i < GUARD + count ? due_streams[i - GUARD] : fill(i, 0)))
+            fail("steam charges: another number of a stream");
+    for (size_t i = 0; i < words + GUARD; i++)
+        if (cents[-GUARD + (ptrdiff_t)i] != (i >= GUARD && i < GUARD + count ? due_cents[i - GUARD] : ~(int64_t)i))
+            fail("steam charges: another charge");
+    if (memcmp(file, data, size) != 0)
+        fail("the file changed");
+    counters[OF_SHEETS + 832 + returned] = 1;
+}
+
 size_t LLVMFuzzerMutate(uint8_t *data, size_t size, size_t most);
 
 /* The records of a plant file that is read, rewritten where they stand: to the ranged form, or home; 0 bytes where a range is
@@ -1006,6 +1101,10 @@ int LLVMFuzzerTestOneInput(const uint8_t *data, size_t size)
 {
     if (size < 2 || size > 2 + 2100)
         return 0;
+    if (data[1] == 243) {
+        charge(data + 2, size - 2, data[0]);
+        return 0;
+    }
     if (data[1] == 244) {
         visit(data + 2, size - 2, data[0]);
         return 0;

@@ -11,9 +11,9 @@
  * Lengths count elements. A slice may be longer than is needed.
  *
  * What each call does is proved against the definitions in crates/sheets/specs, crates/plants/specs,
- * crates/transmitters/specs, crates/moves/specs, crates/purchases/specs, crates/surveys/specs and crates/visit_def/specs:
- * result, counts and every byte of a slice follow from what is handed in. What comes of the offices' sheet
- * numbers over any calls is proved in crates/office_history.
+ * crates/transmitters/specs, crates/moves/specs, crates/purchases/specs, crates/surveys/specs, crates/visit_def/specs and
+ * crates/charge_def/specs: result, counts and every byte of a slice follow from what is handed in. What comes of the offices'
+ * sheet numbers over any calls is proved in crates/office_history.
  */
 #ifndef WENGELUDO_BALANCE_H
 #define WENGELUDO_BALANCE_H
@@ -45,6 +45,9 @@ extern "C" {
 /* The greatest price of a meter. */
 #define WENGELUDO_MAX_PRICE 1000000
 
+/* The greatest rate of a stream to the outside, in ten-thousandths of a cent per kg. */
+#define WENGELUDO_MAX_RATE 10000
+
 /* The most streams of a plant whose layouts are surveyed; the least slice for their counts. */
 #define WENGELUDO_MAX_SURVEYED 12
 #define WENGELUDO_SURVEY_SIZE 13
@@ -54,7 +57,7 @@ enum {
     WENGELUDO_DONE = 0,
     WENGELUDO_SLICE_TOO_SHORT = 1,    /* sheet slice under 880 bytes, or fewer than 8 last sheet numbers; writer, translator and
                                          moves: under 1,636; a slice of the sheet reader, for meters to buy or worth a visit
-                                         under 96 elements; of the survey under 13 */
+                                         or for charges under 96 elements; of the survey under 13 */
     WENGELUDO_NO_SHEET_NUMBER = 2,    /* the calling office's last sheet number is 4,294,967,295 */
     WENGELUDO_FILE_ENDS = 3,          /* bytes end where a record is due or inside a body */
     WENGELUDO_KIND = 4,               /* kind not allowed at this place */
@@ -77,7 +80,9 @@ enum {
     WENGELUDO_NARROWER = 20,          /* moving home, a range is narrower than -2,000,000,000 to 2,000,000,000 */
     WENGELUDO_PRICES = 21,            /* prices are not one for each unmetered stream, or one is 0 or over 1,000,000 */
     WENGELUDO_NO_OFFICE = 22,         /* the office is above 7 */
-    WENGELUDO_TOO_MANY_TO_SURVEY = 23 /* more streams than the 12 of which layouts are surveyed */
+    WENGELUDO_TOO_MANY_TO_SURVEY = 23, /* more streams than the 12 of which layouts are surveyed */
+    WENGELUDO_RATES = 24,             /* rates are not one for each stream to the outside, or one is over 10,000 */
+    WENGELUDO_CHARGE_WITHHELD = 25    /* a stream to the outside is withheld, whatever its rate */
 };
 
 /* The kinds of record on a sheet. */
@@ -297,6 +302,34 @@ uint8_t wengeludo_visits(const uint8_t *file, size_t file_length,
                          uint8_t *streams, size_t streams_length,
                          uint64_t *costs, size_t costs_length,
                          size_t *count);
+
+/* Steam charges: what each stream to the outside is charged for one hour, in whole cents, and the bill.
+ *
+ * Reads   the file's file_length bytes, a plant file, and rates_length rates: one for each stream whose `to` is 0, in stream
+ *         order, from 0 to 10,000 ten-thousandths of a cent per kg. That they are in stream order is the caller's word: the
+ *         call sees how many they are and how large. A stream from the outside is not charged, whatever it carries.
+ * Returns 0, or one of 1, 3 to 12, 18, 19, 24, 25. The order: 1, then the file's records as in the sheet call, then 19, 24, 25.
+ *         1:  `streams` or `charges` has fewer than 96 elements, however many streams are charged.
+ *         25: a stream to the outside is withheld on the sheet, also where its rate is 0.
+ *         No sheet number is drawn, and the verdict is not looked at: a sheet that fails is billed as one that passes.
+ * Writes, where it returns 0:
+ *         at the front of `streams` the numbers of the streams to the outside, counted from 1, in stream order, at the same
+ *         indices of `charges` what each is charged, in cents; the elements past them keep their values;
+ *         *count: how many they are; *bill: the bill, in cents.
+ * Writes, where it returns another number:
+ *         0 to *count and *bill, and nothing else. All elements of `streams` and `charges` are as they were.
+ * What the two numbers were before the call makes no difference.
+ *
+ * A share is the flow on the sheet times the rate; a negative flow has a credit. The bill is the exact sum of the shares, rounded
+ * toward minus infinity. Each charge is its share rounded the same way, and the cents then missing from the bill go one each to
+ * the largest remainders, of equal ones to the lower stream. So the charges add up to the bill, and each is less than one cent
+ * away from its share. Of two credits of half a cent the lower stream gets 0, the higher -1.
+ */
+uint8_t wengeludo_charges(const uint8_t *file, size_t file_length,
+                          const uint16_t *rates, size_t rates_length,
+                          uint8_t *streams, size_t streams_length,
+                          int64_t *charges, size_t charges_length,
+                          size_t *count, int64_t *bill);
 
 #ifdef __cplusplus
 }

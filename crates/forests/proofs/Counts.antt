@@ -13,6 +13,14 @@ use Rattle.forests.specs.Loops.{countTo}
 abbrev pub one : Bool → ℕ
 one b = pick b 1 0
 
+pub one-most : (b : Bool) → one b ≤ 1
+one-most true = omega arith
+one-most false = omega arith
+
+pub count-few : (n : ℕ) (f : ℕ → Bool) → countTo n f ≤ n
+count-few zero f = omega arith
+count-few (suc n) f = omega (arith, one-most (f n), count-few n f)
+
 -- An order of numbers at each place is one of their sums; stated of four tests, two on each side.
 pub count-four : (n : ℕ) (f g h i : ℕ → Bool) → ((k : ℕ) → k < n → one (f k) + one (g k) ≤ one (h k) + one (i k))
     → countTo n f + countTo n g ≤ countTo n h + countTo n i
@@ -39,6 +47,26 @@ count-same (suc n) f g e = rw (e n (omega arith), count-same n f g (λ k l. e k 
 pub count-le : (n : ℕ) (f g : ℕ → Bool) → ((k : ℕ) → k < n → one (f k) ≤ one (g k)) → countTo n f ≤ countTo n g
 count-le zero f g e = omega arith
 count-le (suc n) f g e = omega (arith, e n (omega arith), count-le n f g (λ k l. e k (omega arith)))
+
+pub count-none : (n : ℕ) (f : ℕ → Bool) → ((k : ℕ) → k < n → f k ≡ false) → countTo n f ≡ 0
+count-none zero f e = refl
+count-none (suc n) f e = rw (e n (omega arith)) (omega (arith, count-none n f (λ k l. e k (omega arith))))
+
+pub count-all : (n : ℕ) → countTo n (λ k. true) ≡ n
+count-all zero = refl
+count-all (suc n) = omega (arith, count-all n)
+
+-- Number i alone passes the second test and not the first.
+pub count-one : (n i : ℕ) (f g : ℕ → Bool) → i < n → f i ≡ false → g i ≡ true → ((k : ℕ) → k < n → (k ≡ i → ⊥) → f k ≡ g k)
+    → countTo n g ≡ suc (countTo n f)
+count-one zero i f g l s t e = absurd (omega arith)
+count-one (suc n) i f g l s t e = elim (ℕ-discrete n i) [
+  | yes q ↦ rw (last q f s, last q g t) (omega (arith, count-same n f g (λ k b. e k (omega arith) (λ z. omega arith))))
+  | no q ↦ rw (e n (omega arith) q) (omega (arith, count-one n i f g (omega arith) s t (λ k b. e k (omega arith))))
+]
+  where
+    last : n ≡ i → (h : ℕ → Bool) {b : Bool} → h i ≡ b → h n ≡ b
+    last q h t = rw q t
 
 -- All but number i, which passes: one less.
 pub count-but : (n i : ℕ) (f : ℕ → Bool) → i < n → f i ≡ true → suc (countTo n (λ k. f k && not (eqb k i))) ≤ countTo n f

@@ -1,5 +1,5 @@
-// The sheet call, the plant writer, the sheet reader, the translator, the two moves, meters to buy, the survey and meters worth a
-// visit for programs in C and Rust: functions on numbers and slices of numbers.
+// The sheet call, the plant writer, the sheet reader, the translator, the two moves, meters to buy, the survey, meters worth a visit
+// and steam charges for programs in C and Rust: functions on numbers and slices of numbers.
 use plants::Plant;
 use sheet_lent::balance_lent;
 ghost use Prim.Native.Nat.{_<_, _^_};
@@ -14,6 +14,7 @@ ghost use Rattle.sheet_slices.specs.Kept.{HandsOver};
 ghost use Rattle.marks.specs.Marks.{marksIn};
 ghost use Rattle.survey_slices.specs.Lent.{LendSays};
 ghost use Rattle.visit_parts.specs.Lent.{VisitsHandOver};
+ghost use Rattle.charge_parts.specs.Lent.{ChargesHandOver};
 
 // The sheet call: the file's sheet in the slice, drawn for an office, its bytes counted and the office's last number one higher; or
 // a refusal number, none counted, slice and numbers as they were. Fewer than eight last numbers are refused as 1; those past the
@@ -186,5 +187,26 @@ pub extern "C" fn wengeludo_visits(
 {
     let handed = visit_parts::visits_into(file, streams, costs);
     *count = handed.count;
+    handed.number
+}
+
+// Steam charges: the numbers of the streams to the outside and what each is charged for one hour, in cents, at the front of two
+// slices, how many they are, and the bill; or a refusal number, zeros, and the slices as they were. A slice that does not hold as
+// many as there may be is refused as 1, before the file is read.
+#[no_mangle]
+pub extern "C" fn wengeludo_charges(
+    file: &[u8],
+    rates: &[u16],
+    streams: &mut [u8],
+    charges: &mut [i64],
+    count: &mut usize,
+    bill: &mut i64,
+) -> u8
+    ensures { λ r. ⌜ ChargesHandOver (now (file .entry)) (now (rates .entry)) (now (streams .entry)) (now (streams .exit)) (now (charges .entry)) (now (charges .exit)) r (now (count .exit)) (now (bill .exit)) ⌝ }
+{
+    let handed = charge_parts::charges_into(file, rates, streams, charges);
+    let total = handed.bill;
+    *count = handed.count;
+    *bill = total;
     handed.number
 }

@@ -54,9 +54,9 @@ module _ {A B : Type 0} (f : A → B) where
     all-handed l = let a = h .within in let e : k ≡ c = omega arith in h .so-far ∙ ap (λ (j : ℕ). over (map f (take j xs)) o) e
 
 -- Elements as they are.
-abbrev pub itself : ℕ → ℕ
+abbrev pub itself : {A : Type 0} → A → A
 itself x = x
 
-pub map-itself : (xs : List ℕ) → map itself xs ≡ xs
+pub map-itself : {A : Type 0} (xs : List A) → map itself xs ≡ xs
 map-itself [] = refl
-map-itself (x ∷ xs) = ap (λ (l : List ℕ). x ∷ l) (map-itself xs)
+map-itself {A = A} (x ∷ xs) = ap (λ (l : List A). x ∷ l) (map-itself xs)

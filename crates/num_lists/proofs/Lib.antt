@@ -1,2 +1,3 @@
 -- Laws of elements handed over in a slice.
 pub mod Handing
+pub mod Rooms

@@ -29,3 +29,16 @@ pub fn put_words(count: usize, found: [u64; MAX_STREAMS], out: &mut [u64])
         k += 1;
     }
 }
+
+// The first so many signed numbers of eight bytes.
+pub fn put_signed(count: usize, found: [i64; MAX_STREAMS], out: &mut [i64])
+    requires { ⌜ (count ≤ maxStreams) × (count ≤ length (now out)) ⌝ }
+    ensures { λ _. ⌜ now (out .exit) ≡ over (take count found) (now (out .entry)) ⌝ }
+{
+    let mut k: usize = 0;
+    while k < count {
+        let x = found[k];
+        out[k] = x;
+        k += 1;
+    }
+}

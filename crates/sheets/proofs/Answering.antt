@@ -68,7 +68,7 @@ module _ (file : List ℕ) (p : Plant) (e : readPlant file ≡ got p) (s : Solve
   sized xs c k h n =
       let q = solution xs c in
       let solved : Cheapest p (flowOf (arrayed p) s) = subst (λ (q : Plant). Cheapest q (flowOf (arrayed p) s)) (read-held file p e) (q .cheapest) in
-      rw (amount-same p within-limits xs (flowOf (arrayed p) s) c solved k h n) (omega (arith, amount-small q k h))
+      rw (amount-same p within-limits xs (flowOf (arrayed p) s) c solved k h n) (amount-small q k h)
 
 -- A sheet drawn is a full sheet.
 module _ (p : Plant) (w : Within p) (office : ℕ) (lasts o o′ : List ℕ) (r : Sheet) where

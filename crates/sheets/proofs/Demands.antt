@@ -29,6 +29,6 @@ solved p a = (
 pub demands : Demands
 demands = demands-met demand-3 refusal-19 solved
 
--- The numbers of a cheapest flow that are shown fit 8 bytes.
+-- The numbers of a cheapest flow that are shown are small.
 pub all-sized : (file : List ℕ) (p : Plant) → readPlant file ≡ got p → (xs : List ℤ) → Cheapest p xs → Sized p xs
 all-sized = sized-here demand-3 refusal-19 solved

@@ -60,7 +60,7 @@ module _ (p : Plant) (w : Within p) (xs : List ℤ) (c : Cheapest p xs) (sized :
   each k h =
       let l : k < length (p .streams) = omega (arith, es-long p w xs c 0 0 []) in
       subst (λ (e : Entry). fits (e .class) (e .flow) ≡ true) (sym (entry-at p w xs c 0 0 [] k l))
-      (entry-fits (classOf p k) (numberOf p xs k) (λ n. rw (number-is p w xs (balanced-of 1 p xs (c .balance)) k l n) (sized k l n)))
+      (entry-fits (classOf p k) (numberOf p xs k) (λ n. rw (number-is p w xs (balanced-of 1 p xs (c .balance)) k l n) (omega (arith, sized k l n))))
 
   -- Under a total of either kind.
   module _ (kind office last : ℕ) (fit : kindFits kind office ≡ true) (known : office < offices) (small : suc last < 256 ^ 4) where

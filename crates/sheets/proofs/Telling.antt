@@ -3,7 +3,7 @@ use mathlib.Core.Path.{_≡_, refl, sym, ap, ap₂, _∙_, subst}
 use mathlib.Core.Bool.{true}
 use mathlib.Core.Logic.{_↔_}
 use mathlib.Core.List.{List, _++_, append-assoc}
-use lib.IntN.{ℤ, pos, natAbs, _*ℤ_}
+use lib.IntN.{ℤ, pos, _*ℤ_}
 use Prim.Native.Nat.{ℕ, zero, suc, _+_, _*_, _^_, _≤_, _<_}
 use native.Mathlib.Omega.{arith}
 use lib.Dec.{eqb}
@@ -33,6 +33,7 @@ use Rattle.sheets.specs.declared.Entry.{Entry}
 use Rattle.sheets.specs.Apart.{adjustedKind, totalKind, kindAt, numberAt, officeIn, sheetNumberIn, costIn, degreesIn, verdictIn, capped, sheetLength}
 use Rattle.sheets.specs.Sentences.{MeteredAt, UnmeteredAt, MetersAs, adjustedWeights, Tells}
 use Rattle.sheets.specs.Balances.{entryOf, balanceOf}
+use Rattle.sheets.specs.Calls.{Small}
 use Rattle.sheets.specs.Sheets.{kindOf, recordsOf, totalOf, sheetOf}
 use Rattle.sheets.proofs.Capped.{capped-most}
 use Rattle.sheets.proofs.Entries.{noEntry, balance-long}
@@ -53,21 +54,21 @@ pub record Told (p : Plant) (xs : List ℤ) (office n : ℕ) (b : List ℕ) : Ty
   pub size : sheetLength b (length (p .streams)) ≡ length (sheetOf office p xs n)
 
 -- An entry's class and its flow.
-entry-class : (c : Class) (x : ℤ) → entryOf c x .class ≡ c
+pub entry-class : (c : Class) (x : ℤ) → entryOf c x .class ≡ c
 entry-class Adjusted x = refl
 entry-class AsRead x = refl
 entry-class Given x = refl
 entry-class Withheld x = refl
 
-entry-flow : (c : Class) (x : ℤ) → (c ≡ Withheld → ⊥) → entryOf c x .flow ≡ x
+pub entry-flow : (c : Class) (x : ℤ) → (c ≡ Withheld → ⊥) → entryOf c x .flow ≡ x
 entry-flow Adjusted x n = refl
 entry-flow AsRead x n = refl
 entry-flow Given x n = refl
 entry-flow Withheld x n = absurd (n refl)
 
--- Each number of a flow that is shown fits 8 bytes.
+-- Each number of a flow that is shown is small, and fits 8 bytes.
 abbrev pub Sized : Plant → List ℤ → Type 0
-Sized p xs = (k : ℕ) → k < length (p .streams) → (classOf p k ≡ Withheld → ⊥) → 2 * natAbs (amountAt xs k) < 256 ^ 8
+Sized p xs = (k : ℕ) → k < length (p .streams) → (classOf p k ≡ Withheld → ⊥) → Small (amountAt xs k)
 
 module _ (p : Plant) (w : Within p) (xs : List ℤ) (c : Cheapest p xs) (office n : ℕ) (rest : List ℕ) where
   abbrev count : ℕ
@@ -116,7 +117,7 @@ module _ (p : Plant) (w : Within p) (xs : List ℤ) (c : Cheapest p xs) (office 
         let fits : cs < 256 ^ 8 = omega (arith, cost-is, capped-most (cost (p .streams) xs)) in
         record {
           kinds = λ k h. kind-at es (end ++ rest) noEntry k (omega arith) ∙ ap kindOf (class-at k h);
-          numbers = λ k h o. number-at es (end ++ rest) noEntry k (omega arith) (λ e. o (sym (class-at k h) ∙ e)) (rw (flow-at k h o) (sized k h o)) ∙ flow-at k h o;
+          numbers = λ k h o. number-at es (end ++ rest) noEntry k (omega arith) (λ e. o (sym (class-at k h) ∙ e)) (rw (flow-at k h o) (omega (arith, sized k h o))) ∙ flow-at k h o;
           total = rw es-long at (total-kind es office n cs ds vs rest noEntry);
           drawer = rw es-long at (total-office es office n cs ds vs rest noEntry);
           numbered = rw es-long at (total-number es office n cs ds vs rest noEntry small);

@@ -19,6 +19,7 @@ fn file_call(kind: u64, given: &[u8], out: &mut [u8]) -> u64 {
         9 => written(move_calls::to_ranged(given, out)),
         10 => written(move_calls::from_ranged(given, out)),
         14..=15 => case_visits::call(kind, given, out),
+        17 => case_charges::charge(given, out),
         _ => trials::call(kind, given, out),
     }
 }

@@ -15,7 +15,7 @@ use Rattle.forests.specs.Loops.{countTo}
 use Rattle.forests.proofs.Counts.{count-same}
 use Rattle.visit_def.specs.declared.Visits.{Visits}
 use Rattle.visit_def.specs.Visits.{isListed, comesFirst, placeOf, Ordered}
-use Rattle.visit_def.proofs.Places.{keyOf, by-key, belowTo, Different, below-few, apart, rises, taken}
+use Rattle.forests.proofs.Places.{keyOf, by-key, belowTo, Different, below-few, apart, rises, taken}
 
 module _ (p : Plant) (few : length (p .streams) ≤ maxStreams) (costs : ℕ → ℕ) where
   abbrev n : ℕ

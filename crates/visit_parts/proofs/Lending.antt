@@ -1,27 +1,17 @@
 -- What is handed over has room in the slices, and no choice is left.
 use mathlib.Core.Path.{_≡_, sym, _∙_, ap}
-use mathlib.Core.Logic.{_⊎_, inl, inr, ⊎-elim}
+use mathlib.Core.Logic.{⊎-elim}
 use mathlib.Core.List.{List}
 use Prim.Native.Nat.{ℕ, _≤_, _<_}
 use native.Mathlib.Omega.{arith}
-use native.Mathlib.Decide.{decLe}
 use lib.ListN.{length, take}
 use Rattle.numbers.specs.Bytes.{over}
 use Rattle.plants.specs.Limits.{maxStreams}
+use Rattle.num_lists.proofs.Rooms.{by-room}
 use Rattle.visit_def.specs.declared.Visits.{Visits}
 use Rattle.visit_def.specs.Says.{noVisits, VisitsSays}
 use Rattle.visit_def.proofs.Promise.{meters-worth-a-visit, visits-fit}
 use Rattle.visit_parts.specs.Lent.{LentSays, VisitsHandOver, One-hand-over}
-
--- The lengths are both enough, or one is not.
-by-room : {A : Type 0} (m n : ℕ) → ((m < maxStreams) ⊎ (n < maxStreams) → A) → (maxStreams ≤ m → maxStreams ≤ n → A) → A
-by-room m n f g = elim (decLe maxStreams m) [
-  | yes h ↦ elim (decLe maxStreams n) [
-    | yes l ↦ g h l
-    | no l ↦ f (inr (omega arith))
-  ]
-  | no h ↦ f (inl (omega arith))
-]
 
 -- What the call says, by the two lengths.
 module _ {file : List ℕ} {m n : ℕ} {r : Visits} where

@@ -34,11 +34,14 @@
 //!
 //! [`visits`] lists what the balance costs at least without each meter: where a fitter goes first.
 //!
+//! [`charges`] bills the streams to the outside by the flows on the sheet.
+//!
 //! A caller who has memory of its own uses [`Offices::draw_into`], [`Plant::write_into`], [`plant_from_transmitter_into`],
 //! [`to_ranged_into`] and [`from_ranged_into`], which allocate nothing.
 #![deny(missing_docs)]
 #![deny(unsafe_op_in_unsafe_fn)]
 
+mod charges;
 mod layouts;
 mod moves;
 mod offices;
@@ -50,6 +53,7 @@ mod sheet;
 mod transmitter;
 mod visits;
 
+pub use charges::{charges, Bill, Charge, MAX_RATE};
 pub use layouts::{layouts, MAX_SURVEYED};
 pub use moves::{from_ranged, from_ranged_into, to_ranged, to_ranged_into};
 pub use offices::{Offices, OFFICES};
@@ -66,6 +70,6 @@ pub const SHEET_SIZE: usize = 880;
 /// The least slice that the plant writer, the translator and the moves take; the longest plant file.
 pub const FILE_SIZE: usize = 1636;
 
-/// The most streams of a plant; the sheet reader, [`raw::meters_to_buy`] and [`raw::visits`] take slices of at least so many
-/// elements.
+/// The most streams of a plant; the sheet reader, [`raw::meters_to_buy`], [`raw::visits`] and [`raw::charges`] take slices of at
+/// least so many elements.
 pub const MAX_STREAMS: usize = 96;

@@ -87,6 +87,18 @@ extern "C" {
         costs_length: usize,
         count: *mut usize,
     ) -> u8;
+    fn wengeludo_charges(
+        file: *const u8,
+        file_length: usize,
+        rates: *const u16,
+        rates_length: usize,
+        streams: *mut u8,
+        streams_length: usize,
+        charges: *mut i64,
+        charges_length: usize,
+        count: *mut usize,
+        bill: *mut i64,
+    ) -> u8;
 }
 
 // A length is 64 bits wide in the archive.
@@ -269,5 +281,26 @@ pub fn visits(file: &[u8], streams: &mut [u8], costs: &mut [u64], count: &mut us
     // SAFETY: as above.
     unsafe {
         wengeludo_visits(file.as_ptr(), file.len(), streams.as_mut_ptr(), streams.len(), costs.as_mut_ptr(), costs.len(), count)
+    }
+}
+
+/// Steam charges. 0: the numbers of the streams to the outside are at the front of `streams`, what each is charged, in cents, at the
+/// front of `charges`, `count` says how many, `bill` is the bill. Another number: a refusal; `count` and `bill` are 0, `streams` and
+/// `charges` are as they were. Slices with room for fewer than 96 elements are refused as 1.
+pub fn charges(file: &[u8], rates: &[u16], streams: &mut [u8], charges: &mut [i64], count: &mut usize, bill: &mut i64) -> u8 {
+    // SAFETY: as above.
+    unsafe {
+        wengeludo_charges(
+            file.as_ptr(),
+            file.len(),
+            rates.as_ptr(),
+            rates.len(),
+            streams.as_mut_ptr(),
+            streams.len(),
+            charges.as_mut_ptr(),
+            charges.len(),
+            count,
+            bill,
+        )
     }
 }

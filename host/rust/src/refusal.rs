@@ -23,8 +23,8 @@ impl Places {
 #[derive(Clone, Copy, Debug, PartialEq, Eq, Hash)]
 pub enum Refusal {
     /// Sheet slice under 880 bytes, or fewer than eight last sheet numbers; for the plant writer, the translator and the moves, slice
-    /// under 1,636; for the sheet reader, meters to buy and meters worth a visit, a slice under 96 elements; for the survey, one
-    /// under 13.
+    /// under 1,636; for the sheet reader, meters to buy, meters worth a visit and charges, a slice under 96 elements; for the survey,
+    /// one under 13.
     SliceTooShort,
     /// The calling office's last sheet number is 4,294,967,295.
     NoSheetNumber,
@@ -71,10 +71,14 @@ pub enum Refusal {
     NoOffice,
     /// More streams than the 12 of which layouts are surveyed.
     TooManyToSurvey,
+    /// For charges: the rates are not one for each stream to the outside, or one is over 10,000.
+    Rates,
+    /// For charges: a stream to the outside is withheld, whatever its rate.
+    ChargeWithheld,
 }
 
 /// Number and text of each refusal.
-const ALL: [(u8, Refusal, &str); 23] = [
+const ALL: [(u8, Refusal, &str); 25] = [
     (
         1,
         Refusal::SliceTooShort,
@@ -102,6 +106,8 @@ const ALL: [(u8, Refusal, &str); 23] = [
     (21, Refusal::Prices, "prices are not one for each unmetered stream, or one is 0 or over 1,000,000"),
     (22, Refusal::NoOffice, "the office is above 7"),
     (23, Refusal::TooManyToSurvey, "more than the 12 streams of which layouts are surveyed"),
+    (24, Refusal::Rates, "rates are not one for each stream to the outside, or one is over 10,000"),
+    (25, Refusal::ChargeWithheld, "a stream to the outside is withheld"),
 ];
 
 impl Refusal {

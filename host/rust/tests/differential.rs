@@ -8,6 +8,7 @@
 //! WENGELUDO_SEED     the first seed (default 1); input k has the seed WENGELUDO_SEED + k
 //! WENGELUDO_THREADS  how many threads (default: the machine's processors)
 
+mod charges;
 mod draw;
 mod moves;
 mod offices;

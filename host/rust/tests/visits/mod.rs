@@ -218,6 +218,9 @@ fn little_stack() {
         for file in &drawn {
             let (mut streams, mut costs, mut count) = (vec![0; 96], vec![0; 96], 0);
             raw::visits(file, &mut streams, &mut costs, &mut count);
+            let charged = read(file).map_or(0, |plant| plant.streams.iter().filter(|s| s.to == 0).count());
+            let (mut cents, mut bill) = (vec![0; 96], 0);
+            raw::charges(file, &vec![1; charged], &mut streams, &mut cents, &mut count, &mut bill);
             let (mut sheet, mut lasts, mut marked) = (vec![0; 880], [0; 8], 0);
             raw::balance_plant(file, 7, &mut lasts, &mut sheet, &mut count, &mut marked);
         }

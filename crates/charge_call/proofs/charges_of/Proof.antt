@@ -1,0 +1,32 @@
+-- By what was read.
+use denote.Ref.{now}
+use Rattle.plants.specs.Within.{Accepted}
+use Rattle.sheets.proofs.Promise.{plant-accepted}
+use Rattle.charge_def.proofs.Answering.{small-read, unread, answered}
+use borrow.Author.Needs.{needs}
+use Rattle.charge_call.proofs.charges_of.Statement.{statement}
+use Rattle.charge_call.proofs.charges_of.Tie as tie
+
+taken : (c : tie.After-plant) → Accepted (c .before .before .read-plant .result .plant)
+taken c = plant-accepted (now (c .before .before .before .before .before .args .file)) (c .before .before .read-plant .result) (c .before .before .read-plant .ensures) (c .before .if1 .left)
+
+read-plant-requires : tie.Need-read-plant-requires
+read-plant-requires c κs = search needs
+
+refused-requires : tie.Need-refused-requires
+refused-requires c κs = search needs
+
+returns : tie.Need-returns
+returns c = unread (now (c .before .before .before .before .before .args .file)) (now (c .before .before .before .before .before .args .rates)) (c .before .before .read-plant .result) (c .before .before .read-plant .ensures) (c .refused .result) (c .before .if1 .taken) (c .refused .ensures)
+
+balance-of-requires : tie.Need-balance-of-requires
+balance-of-requires c κs = taken (c)
+
+bill-outcome-requires : tie.Need-bill-outcome-requires
+bill-outcome-requires c κs = (taken (c .before), c .balance-of .ensures, small-read (now (c .before .before .before .before .before .before .args .file)) (c .before .before .before .read-plant .result) (c .before .before .before .read-plant .ensures) (c .before .before .if1 .left) (c .balance-of .result) (c .balance-of .ensures))
+
+returns-2 : tie.Need-returns-2
+returns-2 c = answered (now (c .before .before .before .before .before .before .before .args .file)) (now (c .before .before .before .before .before .before .before .args .rates)) (c .before .before .before .before .read-plant .result) (c .before .before .before .before .read-plant .ensures) (c .bill-outcome .result) (c .before .before .before .if1 .left) (c .bill-outcome .ensures)
+
+pub charges-of-spec : {M : Type 1} → statement M
+charges-of-spec = tie.close (tie.spec read-plant-requires refused-requires returns balance-of-requires bill-outcome-requires returns-2)
