@@ -44,6 +44,9 @@ grep -E '^\| (plants|random extremes|as a site has them|tie-rich) \| (units|32) 
 part "the list of meters worth a visit, a short run"
 bash host/bench/visits.sh 20 1 >target/host/visits.log || { tail -20 target/host/visits.log >&2; exit 1; }
 grep -E '^\| (plants|as a site has them) \| (units|32) ' target/host/visits.log
+part "the check of a sheet, a short run"
+bash host/bench/checks.sh 20 1 >target/host/checks.log || { tail -20 target/host/checks.log >&2; exit 1; }
+grep -E '^\| (plants|as a site has them) \| (units|32) ' target/host/checks.log
 part "the fuzz target, ${FUZZ_SECONDS:-60} seconds"
 bash host/fuzz/build.sh
 if ! bash host/fuzz/run.sh "${FUZZ_SECONDS:-60}" >target/host/fuzz/log 2>&1; then

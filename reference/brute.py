@@ -17,6 +17,7 @@ from fractions import Fraction
 from itertools import combinations, product
 
 import charges
+import foreign
 import purchases
 import solver
 import visits
@@ -534,6 +535,32 @@ def check_charges(count):
     return count
 
 
+def check_foreign(count):
+    """Sheets drawn up elsewhere, on small plants: of all balanced flows in range up to some cost, those of least cost pass with the
+    same numbers, and no dearer one does, its total told as ours, with any numbers of a box."""
+    rng = random.Random(5)
+    equal = dearer = 0
+    for _ in range(count):
+        plant = ranged_plant(rng)
+        ours = foreign.ours(plant)
+        if ours is None:
+            continue
+        numbers = foreign.numbers_for(plant, solver.cheapest_flow(plant))
+        tried = [numbers, [0] * len(numbers)] + [[rng.randint(-6, 6) for _ in numbers] for _ in range(6)]
+        for flow in balanced_flows(plant, ours.cost + 6):
+            shown = solver.balance_by(plant, flow)
+            kept = solver.read_sheet(solver.sheet_bytes(ours._replace(numbers=shown.numbers), 1))
+            least = shown.cost == ours.cost
+            if least:
+                expect((plant, flow), list(foreign.broken(plant, kept, numbers)), [])
+            else:
+                expect((plant, flow), all(any(foreign.broken(plant, kept, some)) for some in tried), True)
+            equal += least
+            dearer += not least
+    print(f"  flows of least cost {equal}, dearer ones {dearer}")
+    return count
+
+
 def check_large(count):
     """On large plants: balance, the bound from the optimum in fractions, and renumbered places."""
     rng = random.Random(2)
@@ -568,6 +595,7 @@ def main():
         ("meters worth a visit against brute force", lambda: check_visits(6_000)),
         ("meters worth a visit on larger plants", lambda: check_large_visits(6)),
         ("steam charges against all sets", lambda: check_charges(5_000)),
+        ("sheets drawn up elsewhere against brute force", lambda: check_foreign(4_000)),
         ("large plants", lambda: check_large(80)),
     ):
         start = time.monotonic()

@@ -43,6 +43,11 @@ then the bytes handed in, then those of the slice as they must be after the call
     17 CHARGES  handed in: how many rates (2), the rates (2 each), then the plant file; back: how many streams are charged, and at
                 the front of a slice of 872 bytes the bill (8, two's complement) and for each of them 9 bytes: its number, and
                 its cents (8, two's complement)
+    18 CHECK    the check of a sheet. Handed in: how many numbers (2), how many bytes the sheet has (2), the numbers (8 each, two's
+                complement), the sheet, then the plant file
+    19 NUMBERS  handed in: for how many numbers a slice is lent (2), how many bytes the sheet has (2), the sheet, then the plant
+                file; back: how many numbers. Which they are stands in no case: the program checks the sheet with them, and
+                that the rest of the slice is as it was
 
 Where a call has no number or count, 0 stands. A stream is 17 bytes: 1 where it is metered and 2 where it has a range, added;
 from, to, weight (2); reading, low, high (4 each, two's complement). An entry is 9 bytes: the kind of the stream's record, its
@@ -60,6 +65,7 @@ BUYING = 11
 SURVEY, LAYOUTS = 12, 13
 VISITS, VISIT_TEXT = 14, 15
 OFFICES = 16
+CHECK, NUMBERS = 18, 19
 LASTS = 32  # bytes of the eight last sheet numbers
 CHARGES = 17
 STREAMS = 96

@@ -4,6 +4,7 @@ import math
 from typing import NamedTuple
 
 import cases
+import foreign
 import charges
 import moves
 import purchases
@@ -299,6 +300,35 @@ class Charging(NamedTuple):
         given = cases.number(len(self.rates), 2) + b"".join(cases.number(rate, 2) for rate in self.rates) + self.file
         answer = cases.number(bill, 8) + b"".join(bytes((k,)) + cases.number(charge, 8) for k, charge in zip(streams, cents))
         return meant(self, cases.Record(cases.CHARGES, given, 872, answer, returned=number, count=len(streams)))
+
+
+class Checking(NamedTuple):
+    """The check of a sheet: a plant file, a sheet, the numbers of the places."""
+
+    file: bytes
+    sheet: bytes
+    numbers: tuple
+    expected: int | None = None
+
+    def record(self):
+        front = cases.number(len(self.numbers), 2) + cases.number(len(self.sheet), 2)
+        given = front + b"".join(cases.number(x, 8) for x in self.numbers) + self.sheet + self.file
+        number = foreign.check_call(self.file, self.sheet, self.numbers)
+        return meant(self, cases.Record(cases.CHECK, given, 0, b"", returned=number))
+
+
+class Numbering(NamedTuple):
+    """Numbers of the places: a plant file, for how many a slice is lent, and a sheet that must pass with them."""
+
+    file: bytes
+    sheet: bytes = b""
+    room: int = foreign.PLACES
+    expected: int | None = None
+
+    def record(self):
+        number, count = foreign.numbers_call(self.file, self.room)
+        given = cases.number(self.room, 2) + cases.number(len(self.sheet), 2) + self.sheet + self.file
+        return meant(self, cases.Record(cases.NUMBERS, given, 0, b"", returned=number, count=count))
 
 
 def meant(case, record):

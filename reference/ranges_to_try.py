@@ -2,6 +2,7 @@
 
 import math
 
+import foreign
 import shapes
 import solver
 from parts import (
@@ -127,16 +128,12 @@ def blocked(units, streams):
 
 def tied(units, streams):
     """Whether the greatest cheapest flow in range is not the least one."""
+    plant = solver.Plant(units, tuple(streams))
     try:
-        least = solver.cheapest_flow(solver.Plant(units, tuple(streams)))
+        least = solver.cheapest_flow(plant)
     except solver.Overfull:
         return False
-
-    def turned(s):
-        return s._replace(reading=-s.reading, low=-s.high if s.ranged else None, high=-s.low if s.ranged else None)
-
-    greatest = solver.cheapest_flow(solver.Plant(units, tuple(map(turned, streams))))
-    return any(s.metered and x != -y for s, x, y in zip(streams, least, greatest))
+    return any(s.metered and x != y for s, x, y in zip(streams, least, foreign.last_flow(plant)))
 
 
 def range_ties():

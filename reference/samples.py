@@ -4,6 +4,7 @@ import struct
 from typing import NamedTuple
 
 import charges
+import foreign
 import purchases
 import solver
 import survey
@@ -231,6 +232,12 @@ TWIN_LINES = Sample(
 # The rates of the streams to the outside, in ten-thousandths of a cent per kg.
 BILLS = ((BILLED_SITE, (0, 8_350, 8_350, 7_120, 9_060)), (TWIN_LINES, (8_350, 8_350, 8_350)))
 
+# A sheet of the rated site as another solver might draw it, for office 3 under number 12, and its numbers of the places, by another
+# method than the engine's.
+_RATED = solver.Plant(len(RATED_SITE.units), RATED_SITE.streams)
+RATED_SHEET = solver.sheet_bytes(solver.balance(_RATED), 12, 3)
+RATED_NUMBERS = foreign.numbers_for(_RATED, solver.cheapest_flow(_RATED))
+
 SAMPLES = (LISTING, STEAM_SITE, RATED_SITE, OVERFULL_SITE, SMALL_HEADER, BLIND_SITE, SIGHTED_SITE)
 BILLED = tuple(sample for sample, _ in BILLS)
 
@@ -248,6 +255,10 @@ def files():
     yield "samples/listing.layouts", survey.text(LISTING.file).encode()
     for sample in (LISTING, FAR_OFF_SITE):
         yield f"samples/{sample.name}.visits", visits.text(sample.file).encode()
+    if foreign.check_call(RATED_SITE.file, RATED_SHEET, RATED_NUMBERS) != 0:
+        raise ValueError("the sample's sheet does not pass")
+    yield "samples/rated_site.sheet", RATED_SHEET
+    yield "samples/rated_site.numbers", "".join(f"{x}\n" for x in RATED_NUMBERS).encode()
     if purchases.buy_call(BLIND_SITE.file, PRICES, solver.STREAMS)[1] != list(READ_THEN):
         raise ValueError("other meters are to be bought")
 
@@ -281,5 +292,7 @@ def missing_text(root):
         for wanted in (f"charges_file samples/{sample.name}.bin {' '.join(map(str, rates))}`", f"```\n{charges.text(sample.file, rates)}```"):
             if wanted not in text:
                 yield path, f"the charges of {sample.name}; wanted:\n{wanted}"
+    if f"numbers {', '.join(map(str, RATED_NUMBERS))}" not in text:
+        yield path, f"the numbers of rated_site; wanted: {RATED_NUMBERS}"
     if TRANSMITTER.hex(" ").upper() not in text:
         yield path, f"bytes of the transmitter file; wanted: {TRANSMITTER.hex(' ').upper()}"

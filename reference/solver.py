@@ -426,7 +426,11 @@ def given_number(plant, flow, links, i):
 
 def balance(plant):
     """The balance of a plant, or Overfull."""
-    flow = cheapest_flow(plant)
+    return balance_by(plant, cheapest_flow(plant))
+
+
+def balance_by(plant, flow):
+    """What a sheet shows of a flow."""
     unmetered = links_of(plant, lambda s: not s.metered)
     groups = parts_of(unmetered)
     pieces = parts_of(links_of(plant, lambda s: True))

@@ -6,6 +6,8 @@ import charges_to_try
 import close_to_try
 import closings_to_try
 import files_to_try
+import foreign
+import foreign_to_try
 import layouts_to_try
 import moves_to_try
 import offices_to_try
@@ -88,10 +90,8 @@ def plants():
 
 def tied(streams, units):
     """Whether another flow costs as much: the greatest cheapest flow is not the least one."""
-    least = solver.cheapest_flow(solver.Plant(units, tuple(streams)))
-    mirror = solver.Plant(units, tuple(s._replace(reading=-s.reading) for s in streams))
-    greatest = solver.cheapest_flow(mirror)
-    return any(s.weight and x != -y for s, x, y in zip(streams, least, greatest))
+    plant = solver.Plant(units, tuple(streams))
+    return any(s.weight and x != y for s, x, y in zip(streams, solver.cheapest_flow(plant), foreign.last_flow(plant)))
 
 
 def ties():
@@ -358,4 +358,6 @@ SUBJECTS = (
     ("visit_texts", visits_to_try.texts),
     ("offices", offices_to_try.cases),
     ("charges", charges_to_try.cases),
+    ("foreign", foreign_to_try.checks),
+    ("place_numbers", foreign_to_try.numbers),
 )

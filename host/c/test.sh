@@ -1,5 +1,5 @@
 #!/usr/bin/env bash
-# Runs balance_file, meters_to_buy, layouts_file, visits_file and charges_file of target/host: the samples, a cut plant, the last sheet
+# Runs balance_file, meters_to_buy, layouts_file, visits_file, charges_file, check_sheet and place_numbers of target/host: the samples, a cut plant, the last sheet
 # number, the offices, and what cannot be read, written or understood.
 set -eu
 cd "$(dirname "$0")/../.."
@@ -125,3 +125,54 @@ for file in "$listing" "$work/cut"; do
 done
 [ "$failed" = 0 ] || exit 1
 echo "charges_file: 21 runs as expected"
+# Sheets drawn up elsewhere.
+program=target/host/check_sheet
+[ -x "$program" ] || { echo "no $program: build it with 'bash host/c/build.sh'" >&2; exit 2; }
+rated=samples/rated_site.bin
+sheet=samples/rated_site.sheet
+numbers=samples/rated_site.numbers
+changed() { # name, byte from 0, its new value in octal: the sheet with that byte changed
+    { head -c "$2" "$sheet"; printf "\\$3"; tail -c "+$(($2 + 2))" "$sheet"; } >"$work/$1"
+    echo "$work/$1"
+}
+listed() { printf '%s\n' "${@:2}" >"$work/$1"; echo "$work/$1"; } # name, numbers: a file of them
+expect 0 'passes' "$rated" "$sheet" "$numbers"
+expect 0 'passes' "$rated" "$(changed office 73 007)" "$numbers"
+expect 0 'passes' "$rated" "$(changed number 74 001)" "$numbers"
+expect 1 $'refused 26\nthere are 4 numbers for 5 places' "$rated" "$sheet" "$(listed few -27 -103 -48 0)"
+expect 1 $'refused 26\nplace 2: its number is past its limit' "$rated" "$sheet" "$(listed far -27 -103 1000000000000000001 0 -27)"
+expect 1 $'refused 26\nstream 1: its class is A, not R' "$rated" "$(changed class 0 022)" "$numbers"
+expect 1 $'refused 26\nthe degrees are 3, not 2' "$rated" "$(changed degrees 86 002)" "$numbers"
+expect 1 $'refused 26\nthe least cost is 5322, not 5323' "$rated" "$(changed cost 85 313)" "$numbers"
+expect 1 $'refused 26\nthe verdict is pass, not close' "$rated" "$(changed verdict 87 003)" "$numbers"
+expect 1 $'refused 26\nstream 7: its places have unequal numbers' "$rated" "$sheet" "$(listed unequal -26 -103 -48 0 -27)"
+expect 1 $'refused 26\nstream 1: the difference of its places\' numbers exceeds the top' "$rated" "$(changed less 8 261)" "$numbers"
+expect 1 $'refused 26\nstream 1: the difference of its places\' numbers falls short of the bottom' "$rated" "$(changed more 8 264)" "$numbers"
+expect 1 $'refused 26\nstream 3: its flow is out of range' "$rated" "$(changed above 26 021)" "$numbers"
+expect 1 $'refused 26\nplace 0, with the places that W streams join to it: flows in and out have other sums' "$rated" "$(changed given 62 021)" "$numbers"
+expect 1 $'refused 26\nthe sheet lists 8 streams, the plant 4' "$listing" "$sheet" "$(listed three 0 0 0)"
+expect 1 $'refused 26\nthe plant has no sheet: no balanced flow lies within all ranges' samples/overfull_site.bin "$sheet" "$(listed six 0 0 0 0 0 0)"
+expect 1 'refused 3' "$work/cut" "$work/cut" "$numbers"
+expect 1 'refused 13' "$rated" "$work/cut" "$(listed none)"
+expect 2 '' "$rated" "$sheet"
+expect 2 '' "$rated" "$sheet" "$work/missing"
+expect 2 '' "$rated" "$work/missing" "$numbers"
+expect 2 '' "$rated" "$sheet" "$(listed words -27 -103 x 0 -27)"
+expect 2 '' "$rated" "$sheet" "$(listed long -27 -103 9223372036854775808 0 -27)"
+status=0
+"$program" "$rated" "$sheet" "$numbers" >/dev/full 2>/dev/null || status=$?
+[ "$status" = 2 ] || { echo "check_sheet to a full device: status $status, expected 2" >&2; failed=1; }
+# The archive's own numbers.
+for file in "$listing" samples/steam_site.bin "$rated"; do
+    target/host/place_numbers "$file" >"$work/own" || { echo "place_numbers $file: status $?" >&2; failed=1; }
+    [ "$(head -n 1 "$work/own")" = 0 ] || { echo "place_numbers $file: the outside has not 0" >&2; failed=1; }
+done
+expect 0 'passes' "$rated" "$sheet" "$work/own"
+program=target/host/place_numbers
+expect 1 'refused 19' samples/overfull_site.bin
+expect 1 'refused 3' "$work/cut"
+expect 2 ''
+expect 2 '' "$work/missing"
+expect 2 '' "$work"
+[ "$failed" = 0 ] || exit 1
+echo "check_sheet: 25 runs as expected; place_numbers: 8"

@@ -14,7 +14,8 @@
  * or, the second byte being 247, a transmitter file; or, the second byte being 246, a plant file to be moved both ways; or, the
  * second byte being 245, a plant file for meters to buy, the first byte choosing prices and slice; or, the second byte being 244, a
  * plant file for meters worth a visit, the first byte choosing the slices; or, the second byte being 243, a plant file for steam
- * charges, the first byte choosing rates and slices. Each sheet that is drawn is read back in as well.
+ * charges, the first byte choosing rates and slices. Each sheet that is drawn is read back in
+ * as well, and checked with the archive's own numbers of the places, as it is and with a bit of it, or a number, changed.
  * Each slice ends at a page that may not be touched, and bytes stand before it that may not change.
  */
 #define _GNU_SOURCE
@@ -27,6 +28,7 @@
 #include <ucontext.h>
 #include <unistd.h>
 
+#include "../c/rules.h"
 #include "wengeludo_balance.h"
 
 #define MOST_BLOCKS 8192
@@ -921,6 +923,53 @@ static void charge(const uint8_t *data, size_t size, uint8_t choice)
     counters[OF_SHEETS + 832 + returned] = 1;
 }
 
+/* Numbers of the places of a file, of which the sheet call returned this number, on a slice between a guard and a page: what is
+ * returned, what stays as it was. */
+static int64_t *place_numbers(const uint8_t *file, size_t size, uint8_t sheet_number, size_t *count)
+{
+    int64_t *numbers = (int64_t *)(void *)flows_end - WENGELUDO_MAX_PLACES;
+    for (int u = -(int)GUARD; u < WENGELUDO_MAX_PLACES; u++)
+        numbers[u] = 1000 * u - 7;
+    *count = 99;
+    uint8_t returned = wengeludo_place_numbers(file, size, numbers, WENGELUDO_MAX_PLACES, count);
+    int of_call = sheet_number == WENGELUDO_SLICE_TOO_SHORT || sheet_number == WENGELUDO_NO_SHEET_NUMBER || sheet_number == WENGELUDO_NO_OFFICE;
+    if (!of_call && returned != sheet_number)
+        fail("another number than the sheet call's, with numbers of the places");
+    if (*count != (returned == 0 ? (size_t)file[1] + 1 : 0))
+        fail("as many numbers as there are not places");
+    for (int u = -(int)GUARD; u < WENGELUDO_MAX_PLACES; u++)
+        if ((u < 0 || u >= (int)*count) && numbers[u] != 1000 * u - 7)
+            fail("an element beside the numbers changed");
+    return numbers;
+}
+
+/* The sheet of a file passes with these numbers; with a byte of the sheet changed, or a number, the check finds what the rules say. */
+static void checked(const uint8_t *file, size_t size, const uint8_t *sheet, size_t written, const uint8_t *choices)
+{
+    struct shown ours, theirs;
+    char words[160];
+    size_t count;
+    int64_t *numbers = place_numbers(file, size, 0, &count);
+    if (wengeludo_check_sheet(file, size, sheet, written, numbers, count) != 0)
+        fail("a sheet of ours does not pass");
+    read_shown(sheet, written, &ours);
+    uint8_t copy[WENGELUDO_SHEET_SIZE];
+    memcpy(copy, sheet, written);
+    if (choices[0] & 1)
+        copy[(choices[0] >> 1) * written / 128] ^= (uint8_t)(1 << (choices[1] & 7));
+    else
+        numbers[choices[1] % count] = (int64_t)((uint64_t)numbers[choices[1] % count] + ((uint64_t)choices[0] << (choices[1] & 63)));
+    uint8_t due = sheet_fault(copy, written, WENGELUDO_MAX_STREAMS);
+    if (due == 0) {
+        read_shown(copy, written, &theirs);
+        due = first_broken(file, &theirs, &ours, numbers, count, words, sizeof words) ? WENGELUDO_RULE_BROKEN : WENGELUDO_DONE;
+    }
+    if (wengeludo_check_sheet(file, size, copy, written, numbers, count) != due)
+        fail("another number than the rules give");
+    if (wengeludo_check_sheet(file, size, sheet, written, numbers, count - 1) != WENGELUDO_RULE_BROKEN)
+        fail("a number less passes");
+}
+
 size_t LLVMFuzzerMutate(uint8_t *data, size_t size, size_t most);
 
 /* The records of a plant file that is read, rewritten where they stand: to the ranged form, or home; 0 bytes where a range is
@@ -1151,6 +1200,8 @@ int LLVMFuzzerTestOneInput(const uint8_t *data, size_t size)
     if (memcmp(file, data + 2, size) != 0)
         fail("the file changed");
     survey(file, size, a.returned);
+    size_t numbered;
+    place_numbers(file, size, a.returned, &numbered);
     if (a.returned != 0 && a.returned != WENGELUDO_NO_FLOW)
         return 0;
     struct parts p;
@@ -1159,6 +1210,7 @@ int LLVMFuzzerTestOneInput(const uint8_t *data, size_t size)
     if (a.returned == 0) {
         sheet_fits(file[1], &p, count, out_end - length, a.written);
         read_back(out_end - length, a.written, WENGELUDO_MAX_STREAMS);
+        checked(file, size, out_end - length, a.written, data);
     } else {
         marks_fit(file[1], &p, count, a.marked);
     }

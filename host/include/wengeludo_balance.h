@@ -11,8 +11,9 @@
  * Lengths count elements. A slice may be longer than is needed.
  *
  * What each call does is proved against the definitions in crates/sheets/specs, crates/plants/specs,
- * crates/transmitters/specs, crates/moves/specs, crates/purchases/specs, crates/surveys/specs, crates/visit_def/specs and
- * crates/charge_def/specs: result, counts and every byte of a slice follow from what is handed in. What comes of the offices'
+ * crates/transmitters/specs, crates/moves/specs, crates/purchases/specs, crates/surveys/specs, crates/visit_def/specs,
+ * crates/charge_def/specs and crates/foreign_def/specs: result, counts and every byte of a slice follow from what is handed in, but
+ * for the choices that two calls have, which places are marked and which numbers places get. What comes of the offices'
  * sheet numbers over any calls is proved in crates/office_history.
  */
 #ifndef WENGELUDO_BALANCE_H
@@ -52,12 +53,17 @@ extern "C" {
 #define WENGELUDO_MAX_SURVEYED 12
 #define WENGELUDO_SURVEY_SIZE 13
 
+/* The most places of a plant, the outside among them; the least slice for their numbers, and the greatest number in size. */
+#define WENGELUDO_MAX_PLACES 33
+#define WENGELUDO_MAX_NUMBER INT64_C(1000000000000000000)
+
 /* What the calls return: 0, or the number of a refusal. */
 enum {
     WENGELUDO_DONE = 0,
     WENGELUDO_SLICE_TOO_SHORT = 1,    /* sheet slice under 880 bytes, or fewer than 8 last sheet numbers; writer, translator and
                                          moves: under 1,636; a slice of the sheet reader, for meters to buy or worth a visit
-                                         or for charges under 96 elements; of the survey under 13 */
+                                         or for charges under 96 elements; of the survey under 13, for
+                                         numbers of the places under 33 */
     WENGELUDO_NO_SHEET_NUMBER = 2,    /* the calling office's last sheet number is 4,294,967,295 */
     WENGELUDO_FILE_ENDS = 3,          /* bytes end where a record is due or inside a body */
     WENGELUDO_KIND = 4,               /* kind not allowed at this place */
@@ -82,7 +88,9 @@ enum {
     WENGELUDO_NO_OFFICE = 22,         /* the office is above 7 */
     WENGELUDO_TOO_MANY_TO_SURVEY = 23, /* more streams than the 12 of which layouts are surveyed */
     WENGELUDO_RATES = 24,             /* rates are not one for each stream to the outside, or one is over 10,000 */
-    WENGELUDO_CHARGE_WITHHELD = 25    /* a stream to the outside is withheld, whatever its rate */
+    WENGELUDO_CHARGE_WITHHELD = 25,   /* a stream to the outside is withheld, whatever its rate */
+    WENGELUDO_RULE_BROKEN = 26        /* a sheet that is checked breaks a rule, a number of a place is missing, extra or past its
+                                         limit, or the plant has no sheet */
 };
 
 /* The kinds of record on a sheet. */
@@ -330,6 +338,45 @@ uint8_t wengeludo_charges(const uint8_t *file, size_t file_length,
                           uint8_t *streams, size_t streams_length,
                           int64_t *charges, size_t charges_length,
                           size_t *count, int64_t *bill);
+
+/* The check of a sheet, drawn up here or elsewhere, against its plant file.
+ *
+ * Reads   the plant file's plant_length bytes, the sheet's sheet_length bytes, and one number for each of the places 0 to n.
+ * Returns 0 where the sheet passes, or one of 3 to 12, 18, 13 to 15, 26. The order: the plant file's records as in the sheet
+ *         call, then the sheet's as in the sheet reader, then 26. Never 19.
+ *         26: a rule is broken. The numbers are one for each place, from -10^18 to 10^18. The plant has a sheet; classes, degrees,
+ *             cost and verdict are those of that sheet (its number, its office and the kind of its total are free). For an A or R
+ *             stream the number of its to-place less that of its from-place lies from weight * (2 * d - 1) to
+ *             weight * (2 * d + 1), d being its flow less its reading; a flow at its low may fall short of the first, one at its
+ *             high may exceed the second. Its flow lies in range. The places of an unmetered stream have equal numbers. In each
+ *             set of places that W streams join, a place without them being a set by itself, the flows of the other streams in
+ *             and out have equal sums.
+ * Writes  nothing.
+ *
+ * A sheet that passes shows a balanced flow within all ranges, the W streams aside, that no other undercuts in cost. No flow is
+ * looked for, so the check takes less than half the time of a sheet call.
+ */
+uint8_t wengeludo_check_sheet(const uint8_t *plant, size_t plant_length,
+                              const uint8_t *sheet, size_t sheet_length,
+                              const int64_t *numbers, size_t numbers_length);
+
+/* Numbers of the places of a plant file, with which its sheets pass the check.
+ *
+ * Reads   the file's file_length bytes.
+ * Returns 0, or one of 1, 3 to 12, 18, 19. The order: 1 (`numbers` has fewer than 33 elements), then as in the sheet call.
+ * Writes, where it returns 0:
+ *         at index u of `numbers` the number of place u, 0 for the outside; the elements past them keep their values;
+ *         *count: how many places there are, n + 1.
+ * Writes, where it returns another number:
+ *         *count: 0, and nothing else. All elements of `numbers` are as they were.
+ * What *count was before the call makes no difference.
+ *
+ * Which numbers they are is the call's choice. With every choice each sheet that the sheet call draws of the file passes, and each
+ * that differs from it only in showing another balanced flow within all ranges of the same cost.
+ */
+uint8_t wengeludo_place_numbers(const uint8_t *file, size_t file_length,
+                                int64_t *numbers, size_t numbers_length,
+                                size_t *count);
 
 #ifdef __cplusplus
 }

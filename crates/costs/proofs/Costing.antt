@@ -30,15 +30,15 @@ use Rattle.sheets.specs.Calls.{Small, AllSmall, streamCost}
 use Rattle.sheets.proofs.Capped.{capped-below, capped-above, capped-most}
 
 -- A reading taken away from a small flow fits.
-size-fits : (z : ℤ) → 2 * natAbs z < 2 ^ 64 → SFits w64 z
+pub size-fits : (z : ℤ) → 2 * natAbs z < 2 ^ 64 → SFits w64 z
 size-fits (pos a) h = sfits-of (omega arith)
 size-fits (negsuc a) h = sfits-of (omega arith)
 
-reading-size : (z : ℤ) → SFits w32 z → natAbs z ≤ 2 ^ 31
+pub reading-size : (z : ℤ) → SFits w32 z → natAbs z ≤ 2 ^ 31
 reading-size (pos a) f = omega (arith, f .sfits)
 reading-size (negsuc a) f = omega (arith, f .sfits)
 
-minus-size : (x z : ℤ) → natAbs (x -ℤ z) ≤ natAbs x + natAbs z
+pub minus-size : (x z : ℤ) → natAbs (x -ℤ z) ≤ natAbs x + natAbs z
 minus-size x z =
     let d = x -ℤ z in
     let a = minus-val x z in

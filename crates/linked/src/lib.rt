@@ -1,5 +1,6 @@
-// The sheet call, the plant writer, the sheet reader, the translator, the two moves, meters to buy, the survey, meters worth a visit
-// and steam charges for programs in C and Rust: functions on numbers and slices of numbers.
+// The sheet call, the plant writer, the sheet reader, the translator, the two moves, meters to buy, the survey, meters worth a
+// visit, steam charges, the check of a sheet and numbers of the places for programs in C and Rust: functions on numbers and slices
+// of numbers.
 use plants::Plant;
 use sheet_lent::balance_lent;
 ghost use Prim.Native.Nat.{_<_, _^_};
@@ -13,6 +14,8 @@ ghost use Rattle.plant_slices.specs.Parts.{handed};
 ghost use Rattle.sheet_slices.specs.Kept.{HandsOver};
 ghost use Rattle.marks.specs.Marks.{marksIn};
 ghost use Rattle.survey_slices.specs.Lent.{LendSays};
+ghost use Rattle.foreign_def.specs.Says.{CheckSays};
+ghost use Rattle.foreign_def.specs.Numbers.{NumbersLent};
 ghost use Rattle.visit_parts.specs.Lent.{VisitsHandOver};
 ghost use Rattle.charge_parts.specs.Lent.{ChargesHandOver};
 
@@ -209,4 +212,24 @@ pub extern "C" fn wengeludo_charges(
     *count = handed.count;
     *bill = total;
     handed.number
+}
+
+// The check of a plant, a sheet drawn up elsewhere and one number for each place: the plant reader's refusals, then the sheet
+// reader's, then 26 where any rule is broken; 0 where the sheet passes, and then its flows have least cost.
+#[no_mangle]
+pub extern "C" fn wengeludo_check_sheet(plant: &[u8], sheet: &[u8], numbers: &[i64]) -> u8
+    ensures { λ r. ⌜ CheckSays (now (plant .entry)) (now (sheet .entry)) (now (numbers .entry)) r ⌝ }
+{
+    foreign_call::check_sheet(plant, sheet, numbers)
+}
+
+// Numbers of the places, with which each sheet of the file passes the check, at the front of the slice, and how many they are; or a
+// refusal number, 0, and the slice as it was. A slice that does not hold 33 numbers is refused as 1, before the file is read.
+#[no_mangle]
+pub extern "C" fn wengeludo_place_numbers(file: &[u8], numbers: &mut [i64], count: &mut usize) -> u8
+    ensures { λ r. ⌜ NumbersLent (now (file .entry)) (now (numbers .entry)) (now (numbers .exit)) r (now (count .exit)) ⌝ }
+{
+    let lent = foreign_numbers::numbers_lent(file, numbers);
+    *count = lent.count;
+    lent.number
 }

@@ -8,9 +8,8 @@
 //! archives that lack the call.)
 
 use std::hint::black_box;
-use std::time::Instant;
 use wengeludo_balance::{raw, visits, Visit, MAX_STREAMS, OFFICES, SHEET_SIZE};
-use wengeludo_bench::measure::summary;
+use wengeludo_bench::measure::{median, round, summary};
 use wengeludo_bench::plants::{draw, Kind, Plant, Stream};
 
 const KINDS: [Kind; 5] = [Kind::Site, Kind::Extremes, Kind::Ties, Kind::Ranges, Kind::Pipes];
@@ -61,22 +60,6 @@ fn draw_each(site: &Site) {
     for file in &site.less {
         black_box(sheet(file));
     }
-}
-
-/// One round: the time of a call on each site, in microseconds.
-fn round(sites: &[Site], call: fn(&Site)) -> Vec<f64> {
-    sites
-        .iter()
-        .map(|site| {
-            let start = Instant::now();
-            call(site);
-            start.elapsed().as_secs_f64() * 1e6
-        })
-        .collect()
-}
-
-fn median(list: impl Iterator<Item = f64>) -> f64 {
-    summary(list).median
 }
 
 /// The row of a kind and size.

@@ -118,3 +118,20 @@ pub fn summary(list: impl Iterator<Item = f64>) -> Summary {
     let n = sorted.len();
     Summary { median: sorted[n / 2], high: sorted[n * 99 / 100], worst: sorted[n - 1] }
 }
+
+/// One round over all sites in sequence: the time of a call on each, in microseconds. A site comes again when all the others were
+/// there, as it does in a program that balances many sites.
+pub fn round<T>(sites: &[T], call: fn(&T)) -> Vec<f64> {
+    sites
+        .iter()
+        .map(|site| {
+            let start = Instant::now();
+            call(site);
+            start.elapsed().as_secs_f64() * 1e6
+        })
+        .collect()
+}
+
+pub fn median(list: impl Iterator<Item = f64>) -> f64 {
+    summary(list).median
+}

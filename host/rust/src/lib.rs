@@ -36,12 +36,15 @@
 //!
 //! [`charges`] bills the streams to the outside by the flows on the sheet.
 //!
+//! [`check`] tests a sheet drawn up elsewhere with a number for each place; [`Certificate::of`] has such numbers for a plant file.
+//!
 //! A caller who has memory of its own uses [`Offices::draw_into`], [`Plant::write_into`], [`plant_from_transmitter_into`],
 //! [`to_ranged_into`] and [`from_ranged_into`], which allocate nothing.
 #![deny(missing_docs)]
 #![deny(unsafe_op_in_unsafe_fn)]
 
 mod charges;
+mod check;
 mod layouts;
 mod moves;
 mod offices;
@@ -54,6 +57,7 @@ mod transmitter;
 mod visits;
 
 pub use charges::{charges, Bill, Charge, MAX_RATE};
+pub use check::{check, Certificate, MAX_PLACES};
 pub use layouts::{layouts, MAX_SURVEYED};
 pub use moves::{from_ranged, from_ranged_into, to_ranged, to_ranged_into};
 pub use offices::{Offices, OFFICES};

@@ -99,6 +99,21 @@ extern "C" {
         count: *mut usize,
         bill: *mut i64,
     ) -> u8;
+    fn wengeludo_check_sheet(
+        plant: *const u8,
+        plant_length: usize,
+        sheet: *const u8,
+        sheet_length: usize,
+        numbers: *const i64,
+        numbers_length: usize,
+    ) -> u8;
+    fn wengeludo_place_numbers(
+        file: *const u8,
+        file_length: usize,
+        numbers: *mut i64,
+        numbers_length: usize,
+        count: *mut usize,
+    ) -> u8;
 }
 
 // A length is 64 bits wide in the archive.
@@ -303,4 +318,18 @@ pub fn charges(file: &[u8], rates: &[u16], streams: &mut [u8], charges: &mut [i6
             bill,
         )
     }
+}
+
+/// The check of a sheet drawn up elsewhere, with one number for each place. 0: it passes. Another number: a refusal of the plant
+/// reader, then of the sheet reader, then 26.
+pub fn check_sheet(plant: &[u8], sheet: &[u8], numbers: &[i64]) -> u8 {
+    // SAFETY: as above.
+    unsafe { wengeludo_check_sheet(plant.as_ptr(), plant.len(), sheet.as_ptr(), sheet.len(), numbers.as_ptr(), numbers.len()) }
+}
+
+/// Numbers of the places. 0: the number of each place is at the front of `numbers`, `count` says how many they are. Another number:
+/// a refusal; `count` is 0, `numbers` is as it was. A slice with room for fewer than 33 numbers is refused as 1.
+pub fn place_numbers(file: &[u8], numbers: &mut [i64], count: &mut usize) -> u8 {
+    // SAFETY: as above.
+    unsafe { wengeludo_place_numbers(file.as_ptr(), file.len(), numbers.as_mut_ptr(), numbers.len(), count) }
 }

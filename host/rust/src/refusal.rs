@@ -24,7 +24,7 @@ impl Places {
 pub enum Refusal {
     /// Sheet slice under 880 bytes, or fewer than eight last sheet numbers; for the plant writer, the translator and the moves, slice
     /// under 1,636; for the sheet reader, meters to buy, meters worth a visit and charges, a slice under 96 elements; for the survey,
-    /// one under 13.
+    /// one under 13; for numbers of the places, one under 33.
     SliceTooShort,
     /// The calling office's last sheet number is 4,294,967,295.
     NoSheetNumber,
@@ -75,10 +75,12 @@ pub enum Refusal {
     Rates,
     /// For charges: a stream to the outside is withheld, whatever its rate.
     ChargeWithheld,
+    /// A sheet that is checked breaks a rule, a number of a place is missing, extra or past its limit, or the plant has no sheet.
+    RuleBroken,
 }
 
 /// Number and text of each refusal.
-const ALL: [(u8, Refusal, &str); 25] = [
+const ALL: [(u8, Refusal, &str); 26] = [
     (
         1,
         Refusal::SliceTooShort,
@@ -108,6 +110,7 @@ const ALL: [(u8, Refusal, &str); 25] = [
     (23, Refusal::TooManyToSurvey, "more than the 12 streams of which layouts are surveyed"),
     (24, Refusal::Rates, "rates are not one for each stream to the outside, or one is over 10,000"),
     (25, Refusal::ChargeWithheld, "a stream to the outside is withheld"),
+    (26, Refusal::RuleBroken, "a sheet breaks a rule of the check, a place number does, or the plant has no sheet"),
 ];
 
 impl Refusal {

@@ -10,6 +10,7 @@
 
 mod charges;
 mod draw;
+mod foreign;
 mod moves;
 mod offices;
 mod purchases;

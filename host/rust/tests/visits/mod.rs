@@ -223,6 +223,9 @@ fn little_stack() {
             raw::charges(file, &vec![1; charged], &mut streams, &mut cents, &mut count, &mut bill);
             let (mut sheet, mut lasts, mut marked) = (vec![0; 880], [0; 8], 0);
             raw::balance_plant(file, 7, &mut lasts, &mut sheet, &mut count, &mut marked);
+            let (mut numbers, mut places) = (vec![0; 33], 0);
+            raw::place_numbers(file, &mut numbers, &mut places);
+            raw::check_sheet(file, &sheet[..count], &numbers[..places]);
         }
     };
     std::thread::Builder::new().stack_size(76 * 1024).spawn(calls).unwrap().join().unwrap();

@@ -1,0 +1,100 @@
+// The check of a plant, a sheet drawn up elsewhere and one number for each place.
+use costs::cost_of;
+use cuts::cuts_of;
+use entries::classes_of;
+use flows::Class;
+use foreign_flows::flows_fit;
+use foreign_flows::numbers_fit;
+use foreign_flows::records_fit;
+use foreign_flows::shown_flows;
+use foreign_sets::nets_fit;
+use plants::Plant;
+use plants::limits::MAX_STREAMS;
+use plants::limits::PLACES;
+use sheets::SheetRead;
+use sheets::Total;
+ghost use mathlib.Core.Path.{_≡_};
+ghost use Prim.Native.Nat.{_≤_};
+ghost use lib.ListN.{length, take};
+ghost use Rattle.plants.specs.Limits.{maxStreams};
+ghost use Rattle.plants.specs.Within.{Accepted};
+ghost use Rattle.plants.specs.Says.{plantOf};
+ghost use Rattle.flows.specs.Flows.{cost};
+ghost use Rattle.flows.specs.Calls.{Grouped, classesOf};
+ghost use Rattle.sheets.specs.Calls.{AllSmall};
+ghost use Rattle.foreign_def.specs.Test.{totalFits, partsIn, passes};
+ghost use Rattle.foreign_def.specs.Says.{CheckSays};
+
+// Degrees are ours, cost and verdict those of the flows shown.
+fn total_fits(
+    p: Plant,
+    labels: [u8; PLACES],
+    classes: [Class; MAX_STREAMS],
+    flows: [i64; MAX_STREAMS],
+    total: Total,
+) -> bool
+    requires { ⌜ Accepted p × Grouped p labels × (classes ≡ classesOf (plantOf p)) × AllSmall flows ⌝ }
+    ensures { λ r. ⌜ r ≡ totalFits (plantOf p) (cost (plantOf p .streams) (take (p .count) flows)) total ⌝ }
+{
+    let degrees = classes::degrees_of(p, labels);
+    if total.degrees != degrees {
+        return false;
+    }
+    let cost = cost_of(p, flows);
+    if total.cost != cost {
+        return false;
+    }
+    let weights = verdicts::adjusted_weights(p, classes);
+    let verdict = verdicts::verdict(degrees, cost, weights);
+    total.verdict == verdict
+}
+
+// No rule is broken. No flow is looked for: where the other rules hold, the flows shown have least cost.
+fn rules_hold(p: Plant, kept: SheetRead, numbers: &[i64]) -> bool
+    requires { ⌜ Accepted p × (kept .count ≤ maxStreams) × (length (kept .streams) ≡ maxStreams) ⌝ }
+    ensures { λ r. ⌜ r ≡ passes (plantOf p) (partsIn kept) (now (numbers .entry)) ⌝ }
+{
+    if !numbers_fit(p.units, numbers) {
+        return false;
+    }
+    if kept.count != p.count {
+        return false;
+    }
+    let entries = kept.streams;
+    let cuts = cuts_of(p);
+    let classes = classes_of(p, cuts);
+    let flows = shown_flows(classes, entries);
+    if !records_fit(p.count, entries, classes, flows) {
+        return false;
+    }
+    if !flows_fit(p, flows, numbers) {
+        return false;
+    }
+    if !nets_fit(p, classes, flows) {
+        return false;
+    }
+    let labels = cuts.labels;
+    let total = kept.total;
+    total_fits(p, labels, classes, flows, total)
+}
+
+// The plant reader's refusals, then the sheet reader's, then 26 where a rule is broken; 0 where the sheet passes.
+pub fn check_sheet(plant: &[u8], sheet: &[u8], numbers: &[i64]) -> u8
+    ensures { λ r. ⌜ CheckSays (now (plant .entry)) (now (sheet .entry)) (now (numbers .entry)) r ⌝ }
+{
+    let read = plant_reader::read_plant(plant);
+    let number = read.number;
+    if number != 0 {
+        return number;
+    }
+    let kept = sheet_reader::read_sheet(sheet);
+    let refused = kept.number;
+    if refused != 0 {
+        return refused;
+    }
+    let p = read.plant;
+    if rules_hold(p, kept, numbers) {
+        return 0;
+    }
+    26
+}

@@ -1,0 +1,12 @@
+-- Laws of sheets drawn up elsewhere.
+pub mod Every
+pub mod Filling
+pub mod Stepping
+pub mod Meeting
+pub mod Numbers
+pub mod Sums
+pub mod Passing
+pub mod Serving
+pub mod Tested
+pub mod Promise
+pub mod Examples

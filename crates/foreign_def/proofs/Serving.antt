@@ -1,0 +1,114 @@
+-- Numbers of our own: the solver's prices serve, so every plant that is read has numbers, or an overfull set.
+use mathlib.Core.Path.{_≡_, refl, sym, _∙_, ap, subst}
+use mathlib.Core.Bool.{Bool, true, false}
+use mathlib.Core.List.{List}
+use mathlib.Core.Logic.{⊎-elim}
+use lib.IntN.{ℤ, pos, _-ℤ_, +ℤ-invr}
+use Prim.Native.Nat.{ℕ, suc, _≤_, _<_}
+use native.Mathlib.Omega.{arith}
+use borrow.Author.Tests.{le-leb, lt-leb, ltb-true, ltb-false}
+use lib.Dec.{leb, ltb}
+use lib.ListN.{length, getD, take, List·getD-eq-default}
+use lib.Seq.{ext-getD, getD-take, length-take-le}
+use Rattle.numbers.specs.Choice.{pick}
+use Rattle.numbers.specs.Inner.{values}
+use Rattle.numbers.proofs.Tests.{by-cases, clash}
+use Rattle.plants.specs.declared.Plant as Arrays
+use Rattle.plants.specs.Limits.{places}
+use Rattle.plants.specs.Plants.{Plant}
+use Rattle.plants.specs.Within.{Within, Accepted}
+use Rattle.plants.specs.Says.{arrayed, plantOf}
+use Rattle.plants.proofs.Arrayed.{within-of, array-accepted}
+use Rattle.plants.proofs.Held.{plant-held}
+use Rattle.flows.specs.Flows.{allowed}
+use Rattle.flows.specs.Overfull.{Overfull}
+use Rattle.flows.proofs.Lists.{values-long, values-at}
+use Rattle.flows.proofs.Overfull.{overfull-none}
+use Rattle.model.specs.declared.Solved.{Solved}
+use Rattle.model.specs.Model.{noHint, settled, solvedFrom}
+use Rattle.model.specs.Promise.{flowOf, Solution, Right}
+use Rattle.model.proofs.Theorem.{from-none, solved-right}
+use Rattle.sheets.proofs.Opening.{right-found, right-overfull}
+use Rattle.foreign_def.specs.declared.PlaceNumbers.{PlaceNumbers}
+use Rattle.foreign_def.specs.Passing.{placeNumber}
+use Rattle.foreign_def.specs.Numbers.{noNumbers, numbersIn, Serve, Numbered, NumbersOf}
+use Rattle.foreign_def.specs.Test.{priceFrom, PricedBy}
+use Rattle.foreign_def.proofs.Numbers.{solution-certifies, solution-few}
+use Rattle.foreign_def.proofs.Passing.{certified-serve}
+
+-- The first numbers are the prices'.
+module _ (n : ℕ) (ps : List ℕ) (few : suc n ≤ places) (numbers : List ℤ) (b : PricedBy n ps numbers) where
+  long : length (take (suc n) numbers) ≡ suc n
+  long = length-take-le (suc n) numbers (omega (arith, b .long))
+
+  pub numbers-are : take (suc n) numbers ≡ values (suc n) (priceFrom ps)
+  numbers-are =
+      ext-getD (pos 0) (take (suc n) numbers) (values (suc n) (priceFrom ps)) (long ∙ sym (values-long (priceFrom ps) (suc n)))
+      (λ u l. let h : u < suc n = rw long at l in
+      getD-take (suc n) numbers u (pos 0) h ∙ b .each u (omega arith) ∙ sym (values-at (priceFrom ps) (pos 0) (suc n) u h))
+
+-- Numbers by the prices of a solution.
+module _ (p : Arrays.Plant) (a : Accepted p) (s : Solved) (r : Solution p s) where
+  serves : Serve (plantOf p) (values (suc (p .units)) (priceFrom (s .prices)))
+  serves = certified-serve (plantOf p) (within-of p a) (priceFrom (s .prices)) (solution-few p a s r) _ (solution-certifies p a s r)
+
+  pub solution-numbered : (numbers : List ℤ) → PricedBy (p .units) (s .prices) numbers
+      → Numbered (plantOf p) (record { number = 0; count = suc (p .units); numbers = numbers })
+  solution-numbered numbers b = record {
+    number = refl;
+    count = refl;
+    serve = subst (Serve (plantOf p)) (sym (numbers-are (p .units) (s .prices) (omega (arith, a .within .few-units)) numbers b)) serves;
+    outside = b .each 0 (omega arith) ∙ +ℤ-invr (pos (getD (s .prices) 0 0));
+    past = b .past;
+    long = b .long;
+  }
+
+-- Where some flow is in range there are numbers; where a set is overfull there is none.
+module _ (p : Plant) (w : Within p) (r : PlaceNumbers) where
+  pub numbers-of : (xs : List ℤ) → allowed p xs ≡ true → Numbered p r → NumbersOf p r
+  numbers-of xs h n = record { some = λ ys e. n; none = λ none. clash (allowed p xs) h (none xs) }
+
+  pub no-numbers-of : (ms : List Bool) → Overfull p ms → r ≡ noNumbers 19 → NumbersOf p r
+  no-numbers-of ms o e = record {
+    some = λ ys h. clash (allowed p ys) h (overfull-none p w ms o 1 ys (omega arith));
+    none = λ none. e;
+  }
+
+-- So there is an answer for every plant.
+module _ (p : Plant) (w : Within p) where
+  abbrev array : Arrays.Plant
+  array = arrayed p
+
+  held : Accepted (arrayed p)
+  held = array-accepted p w
+
+  solved : Solved
+  solved = solvedFrom (p .units) (plantOf (arrayed p) .streams) (settled (plantOf (arrayed p) .streams) noHint)
+
+  right : Right array solved
+  unfolding solved
+  right = solved-right array held _ (from-none (plantOf array) (within-of array held))
+
+  listed : List ℤ
+  listed = values places (λ u. pick (leb u (p .units)) (priceFrom (solved .prices) u) (pos 0))
+
+  priced : PricedBy (p .units) (solved .prices) listed
+  unfolding listed
+  priced = record {
+    long = values-long f places;
+    each = λ u l. values-at f (pos 0) places u (omega (arith, w .few-units)) ∙ rw (le-leb u (p .units) l) refl;
+    past = λ u l. by-cases (ltb u places)
+        (λ t. values-at f (pos 0) places u (ltb-true u places t) ∙ rw (lt-leb u (p .units) l) refl)
+        (λ t. List·getD-eq-default (values places f) (pos 0) {n = u} (omega (arith, values-long f places, ltb-false u places t)));
+  }
+    where
+      f : ℕ → ℤ
+      f u = pick (leb u (p .units)) (priceFrom (solved .prices) u) (pos 0)
+
+  pub some-numbers : (r : PlaceNumbers) × NumbersOf p r
+  some-numbers = subst (λ (q : Plant). (r : PlaceNumbers) × NumbersOf q r) (plant-held p (w .few-streams)) (by-cases (solved .found)
+      (λ t. let s = right-found array solved right t in (
+        record { number = 0; count = suc (p .units); numbers = listed },
+        numbers-of (plantOf array) (within-of array held) _ (flowOf array solved) (s .cheapest .balance) (solution-numbered array held solved s listed priced),
+      ))
+      (λ t. (noNumbers 19, no-numbers-of (plantOf array) (within-of array held) _ _ (right-overfull array solved right t) refl)))

@@ -1,0 +1,311 @@
+-- The computed test says whether a sheet passes. It runs no solver: where the other rules hold, the flows shown have least cost.
+use mathlib.Core.Path.{_≡_, refl, sym, _∙_, ap}
+use mathlib.Core.Logic.{_↔_}
+use mathlib.Core.Bool.{Bool, true, false, _&&_}
+use mathlib.Core.List.{List, []}
+use lib.IntN.{ℤ, pos, negℤ, natAbs, _+ℤ_, +ℤ-idl, +ℤ-idr, +ℤ-invr}
+use Prim.Native.Nat.{ℕ, suc, _≤_, _<_}
+use native.Mathlib.Nat.{le-antisymm}
+use native.Mathlib.Omega.{arith}
+use native.Mathlib.Decide.{ℕ-discrete, decLe}
+use borrow.Author.Tests.{eqb-true, eq-eqb, ne-eqb, leb-true, le-leb}
+use lib.Dec.{eqb, leb}
+use lib.ListN.{length, getD}
+use Rattle.numbers.specs.Choice.{pick}
+use Rattle.numbers.proofs.Tests.{by-cases, clash, and-left, and-right, and-both, same-test}
+use Rattle.plants.specs.declared.Stream.{Stream}
+use Rattle.plants.specs.Limits.{places}
+use Rattle.plants.specs.Plants.{Plant}
+use Rattle.plants.specs.Within.{Within}
+use Rattle.flows.specs.declared.Class.{Class}
+use Rattle.flows.specs.declared.Class.the-variants.{Adjusted, AsRead, Given, Withheld}
+use Rattle.flows.specs.Flows.{inRange, allowed, cost}
+use Rattle.flows.specs.Chains.{Counting}
+use Rattle.flows.specs.Classes.{has, joinedTo, classOf, degrees}
+use Rattle.flows.specs.Labels.{labelsOf, oneLabel}
+use Rattle.flows.specs.Test.{verdictAt}
+use Rattle.flows.specs.Shown.{adjusted}
+use Rattle.flows.specs.Certificate.{priced}
+use Rattle.flows.proofs.Integers.{size-none, minus-none}
+use Rattle.flows.proofs.Certified.{every-at}
+use Rattle.flows.proofs.Sums.{sum, sum-same, sum-none}
+use Rattle.flows.proofs.Nets.{countOf, streamOf, inside, crossing}
+use Rattle.flows.proofs.Labels.{label-joined, label-member, label-low}
+use Rattle.flows.proofs.Decided.{Decided, solved, full}
+use Rattle.flows.proofs.Overfull.{overfull-none}
+use Rattle.model.specs.Sizes.{flowShift}
+use Rattle.model.proofs.Theorem.{decided}
+use Rattle.sheets.specs.Apart.{capped}
+use Rattle.sheets.specs.Sheets.{SheetParts, kindOf}
+use Rattle.sheets.proofs.Telling.{cost-is, degrees-is, verdict-is}
+use Rattle.foreign_def.specs.Passing.{numberLimit, placeNumber, classAt, flowAt, Ours, known, withheldOnly, JoinedByW, sumIn, sumOut, Passes}
+use Rattle.foreign_def.specs.Says.{OfLeastCost}
+use Rattle.foreign_def.specs.Test.{shownAt, shownFlows, broughtBy, netBy, numbersFit, recordsFit, flowsFit, netsFit, totalFits, passes}
+use Rattle.foreign_def.proofs.Every.{every-all}
+use Rattle.foreign_def.proofs.Filling.{Closed}
+use Rattle.foreign_def.proofs.Stepping.{priced-says, says-priced, step-level, step-bottom, step-top}
+use Rattle.foreign_def.proofs.Meeting.{Meets, metered-known, filledIn, filled-at, filled-allowed, filled-certified, filled-least, filled-cost, known-few}
+use Rattle.foreign_def.proofs.Sums.{crossing-sums}
+use Rattle.foreign_def.proofs.Passing.{ours-long, ours-class, like-long, like-class, joined-set, passes-meets}
+
+-- A class by its kind.
+class-of : ℕ → Class
+class-of k = pick (eqb k 17) Adjusted (pick (eqb k 18) AsRead (pick (eqb k 19) Given Withheld))
+
+of-kind : (c : Class) → class-of (kindOf c) ≡ c
+unfolding class-of
+of-kind Adjusted = refl
+of-kind AsRead = refl
+of-kind Given = refl
+of-kind Withheld = refl
+
+same-class : (a b : Class) → kindOf a ≡ kindOf b → a ≡ b
+same-class a b e = sym (of-kind a) ∙ ap class-of e ∙ of-kind b
+
+-- The rules as the test has them: what a total says is said of the flows shown.
+pub record Kept (p : Plant) (sheet : SheetParts) (numbers : List ℤ) : Type 0 where
+  pub one-each : length numbers ≡ suc (p .units)
+  pub small : (u : ℕ) → u ≤ p .units → natAbs (placeNumber numbers u) ≤ numberLimit
+  pub long : length (sheet .streams) ≡ length (p .streams)
+  pub classes : (k : ℕ) → k < length (p .streams) → classAt sheet k ≡ classOf p k
+  pub meets : Meets p (placeNumber numbers) (shownAt p sheet)
+  pub freedom : sheet .total .degrees ≡ degrees p
+  pub costs : sheet .total .cost ≡ capped (cost (p .streams) (shownFlows p sheet))
+  pub verdict : sheet .total .verdict ≡ verdictAt (degrees p) (cost (p .streams) (shownFlows p sheet)) (adjusted p)
+
+-- Nets by labels are what crosses the border of a set of joined places.
+module _ (counts : Counting) (p : Plant) (w : Within p) where
+  abbrev labels : List ℕ
+  labels = labelsOf counts p
+
+  abbrev label : ℕ → ℕ
+  label u = getD (labelsOf counts p) u 0
+
+  brought-crosses : (s : Stream) (x : ℤ) (v : ℕ) → broughtBy labels v s x ≡ crossing (λ t. eqb (label t) v) s x
+  brought-crosses s x v = go (eqb (label (s .to)) v) (eqb (label (s .from)) v)
+    where
+      go : (t f : Bool) → pick t x (pos 0) +ℤ pick f (negℤ x) (pos 0) ≡ pick t (pick f (pos 0) x) (pick f (negℤ x) (pos 0))
+      go true true = +ℤ-invr x
+      go true false = +ℤ-idr x
+      go false true = +ℤ-idl (negℤ x)
+      go false false = refl
+
+  low : (u : ℕ) → u ≤ p .units → u < places
+  low u l = omega (arith, w .few-units)
+
+  by-label : (u t : ℕ) → u ≤ p .units → t ≤ p .units → eqb (label t) (label u) ≡ has t (joinedTo counts p u)
+  by-label u t a b =
+      same-test (eqb (label t) (label u)) (oneLabel labels u t) (λ q. eq-eqb (label u) (label t) (sym (eqb-true (label t) (label u) q)))
+      (λ q. eq-eqb (label t) (label u) (sym (eqb-true (label u) (label t) q)))
+      ∙ sym (label-joined counts p (w .few-units) (inside p w) u t (low u a) (low t b))
+
+  own : (u : ℕ) → u ≤ p .units → label (label u) ≡ label u
+  own u l =
+      let d : label u ≤ p .units = omega (arith, label-low counts p (w .few-units) (inside p w) u (low u l)) in
+      eqb-true (label (label u)) (label u) (by-label u (label u) l d ∙ label-member counts p (w .few-units) (inside p w) u (low u l))
+
+  module _ (x : ℕ → ℤ) where
+    abbrev net : ℕ → ℤ
+    net v = sum (countOf p) (λ k. broughtBy labels v (streamOf p k) (x k))
+
+    net-crosses : (u : ℕ) → u ≤ p .units → net (label u) ≡ sum (countOf p) (λ k. crossing (λ v. has v (joinedTo counts p u)) (streamOf p k) (x k))
+    net-crosses u l = sum-same (countOf p) _ _ (λ k h.
+        let s = streamOf p k in
+        brought-crosses s (x k) (label u)
+        ∙ rw (by-label u (s .to) l (w .each k h .to-in), by-label u (s .from) l (w .each k h .from-in)))
+
+    pub nets-closed : ((v : ℕ) → v < places → net v ≡ pos 0) → Closed counts p x
+    nets-closed h u l =
+        let d : label u < places = omega (arith, low u l, label-low counts p (w .few-units) (inside p w) u (low u l)) in
+        sym (net-crosses u l) ∙ h (label u) d
+
+    -- A number that labels no place has no net.
+    nobody : (v : ℕ) → ((u : ℕ) → u ≤ p .units → label u ≡ v → ⊥) → net v ≡ pos 0
+    nobody v n = sum-none (countOf p) _ (λ k h.
+        let s = streamOf p k in
+        rw (ne-eqb (label (s .to)) v (n (s .to) (w .each k h .to-in)), ne-eqb (label (s .from)) v (n (s .from) (w .each k h .from-in))))
+
+    pub closed-nets : Closed counts p x → (v : ℕ) → net v ≡ pos 0
+    closed-nets c v = elim (decLe v (p .units)) [
+      | yes h ↦ elim (ℕ-discrete (label v) v) [
+        | yes e ↦ ap net (sym e) ∙ net-crosses v h ∙ c v h
+        | no e ↦ nobody v (λ u l q. e (ap label (sym q) ∙ own u l ∙ q))
+      ]
+      | no h ↦ nobody v (λ u l q. omega (arith, label-low counts p (w .few-units) (inside p w) u (low u l)))
+    ]
+
+module _ (p : Plant) (w : Within p) (sheet : SheetParts) (numbers : List ℤ) where
+  abbrev π : ℕ → ℤ
+  π = placeNumber numbers
+
+  abbrev x : ℕ → ℤ
+  x = shownAt p sheet
+
+  -- What passes keeps the rules.
+  module _ (g : Passes p sheet numbers) where
+    abbrev xs : List ℤ
+    xs = g .ours .0
+
+    passed-met : Meets p π x
+    passed-met = passes-meets p w sheet numbers g
+
+    zs-least : OfLeastCost p (filledIn p w π x passed-met)
+    zs-least = filled-least p w π x passed-met
+
+    -- Our cost is that of the flows shown.
+    our-cost : cost (p .streams) (g .ours .0) ≡ cost (p .streams) (shownFlows p sheet)
+    our-cost =
+        le-antisymm (g .ours .1 .least (filledIn p w π x passed-met) (zs-least .balance)) (zs-least .least (g .ours .0) (g .ours .1 .balance))
+        ∙ filled-cost p w π x passed-met
+
+    pub passes-kept : Kept p sheet numbers
+    passes-kept = record {
+      one-each = g .one-each;
+      small = g .small;
+      long = like-long p w sheet (g .ours);
+      classes = like-class p w sheet (g .ours);
+      meets = passed-met;
+      freedom = g .ours .2 .degrees ∙ degrees-is p w xs (g .ours .1) 0 0 [];
+      costs = g .ours .2 .cost ∙ cost-is p w xs (g .ours .1) 0 0 [] ∙ ap capped our-cost;
+      verdict = g .ours .2 .verdict ∙ verdict-is p w xs (g .ours .1) 0 0 [] ∙ ap (λ (c : ℕ). verdictAt (degrees p) c (adjusted p)) our-cost;
+    }
+
+  -- What keeps the rules passes.
+  module _ (g : Kept p sheet numbers) where
+    abbrev met : Meets p π x
+    met = g .meets
+
+    shown-metered : (k : ℕ) → streamOf p k .metered ≡ true → x k ≡ flowAt sheet k
+    shown-metered k m = rw (metered-known p w k m)
+
+    ours-by : Decided p → Ours p sheet
+    ours-by (full ms o) =
+        clash (allowed p (filledIn p w π x met)) (filled-allowed p w π x met) (overfull-none p w ms o 1 (filledIn p w π x met) (omega arith))
+    ours-by (solved xs ρ h c) = (
+      xs,
+      h,
+      record {
+        count = g .long ∙ sym (ours-long p w xs h 0 1);
+        classes = λ k l. let b : k < countOf p = rw (ours-long p w xs h 0 1) at l in g .classes k b ∙ sym (ours-class p w xs h 0 1 k b);
+        degrees = g .freedom ∙ sym (degrees-is p w xs h 0 0 []);
+        cost = g .costs ∙ ap capped (sym same) ∙ sym (cost-is p w xs h 0 0 []);
+        verdict = g .verdict ∙ ap (λ (c : ℕ). verdictAt (degrees p) c (adjusted p)) (sym same) ∙ sym (verdict-is p w xs h 0 0 []);
+      },
+    )
+      where
+        least : OfLeastCost p (filledIn p w π x met)
+        least = filled-least p w π x met
+
+        same : cost (p .streams) xs ≡ cost (p .streams) (shownFlows p sheet)
+        same = le-antisymm (h .least (filledIn p w π x met) (least .balance)) (least .least xs (h .balance)) ∙ filled-cost p w π x met
+
+    module _ (u : ℕ) (c : ℕ → Bool) (l : u ≤ p .units) (j : JoinedByW p u c) where
+      -- The set is the one that is computed.
+      same-set : (v : ℕ) → v ≤ p .units → has v (joinedTo (withheldOnly p) p u) ≡ c v
+      same-set v b =
+          let d = joined-set p w u v b in
+          let e = j v b in
+          same-test (has v (joinedTo (withheldOnly p) p u)) (c v) (λ t. e .1 (d .0 t)) (λ t. d .1 (e .0 t))
+
+      kept-sums : sumIn c (p .streams) (sheet .streams) ≡ sumOut c (p .streams) (sheet .streams)
+      kept-sums = minus-none _ _ (
+          sym (crossing-sums p sheet (g .long) (g .classes) c)
+          ∙ sum-same (countOf p) _ (λ k. crossing (λ v. has v (joinedTo (withheldOnly p) p u)) (streamOf p k) (x k))
+          (λ k h. rw (same-set (streamOf p k .to) (w .each k h .to-in), same-set (streamOf p k .from) (w .each k h .from-in)))
+          ∙ g .meets .closed u l)
+
+    pub kept-passes : Passes p sheet numbers
+    kept-passes = record {
+      one-each = g .one-each;
+      small = g .small;
+      ours = ours-by (decided p w);
+      from-bottom = λ k i. rw (shown-metered k (i .1)) at (step-bottom π (streamOf p k) (x k) (i .1) (met .ranges k (i .0)) (met .steps k (i .0)));
+      to-top = λ k i. rw (shown-metered k (i .1)) at (step-top π (streamOf p k) (x k) (i .1) (met .ranges k (i .0)) (met .steps k (i .0)));
+      ranges = λ k i. rw (shown-metered k (i .1)) at (met .ranges k (i .0));
+      equal = λ k i. sym (minus-none (π (streamOf p k .to)) (π (streamOf p k .from)) (step-level π (streamOf p k) (i .1) (x k) (met .steps k (i .0))));
+      sums = kept-sums;
+    }
+
+    -- So no known flow is large: one that is can be refused before sums and products are formed.
+    pub kept-small : (k : ℕ) → k < countOf p → natAbs (x k) ≤ flowShift
+    kept-small k l = by-cases (known (classOf p k))
+        (λ t. rw (← filled-at p w π x met k l t) (omega (arith, known-few p w π (filledIn p w π x met) (filled-certified p w π x met) k l t)))
+        (λ t. rw t (omega arith))
+
+  abbrev c : ℕ
+  c = cost (p .streams) (shownFlows p sheet)
+
+  -- The test is that of these rules.
+  test-kept : passes p sheet numbers ≡ true → Kept p sheet numbers
+  unfolding passes netsFit
+  test-kept e = record {
+    one-each = eqb-true (length numbers) (suc (p .units)) (and-left (eqb (length numbers) (suc (p .units))) _ one);
+    small = λ u l. leb-true (natAbs (π u)) numberLimit
+        (every-at (suc (p .units)) (λ u. leb (natAbs (placeNumber numbers u)) numberLimit) (and-right (eqb (length numbers) (suc (p .units))) _ one) u (omega arith));
+    long = eqb-true (length (sheet .streams)) (length (p .streams)) (and-left (eqb (length (sheet .streams)) (length (p .streams))) _ after-one);
+    classes = λ k l. same-class (classAt sheet k) (classOf p k)
+        (eqb-true (kindOf (classAt sheet k)) (kindOf (classOf p k)) (and-left (eqb (kindOf (classAt sheet k)) (kindOf (classOf p k))) _ (entry k l)));
+    meets = record {
+      steps = λ k l. priced-says π (streamOf p k) (x k) (and-right (inRange 1 (streamOf p k) (x k)) _ (flow k l));
+      ranges = λ k l. and-left (inRange 1 (streamOf p k) (x k)) _ (flow k l);
+      closed = nets-closed (withheldOnly p) p w x
+          (λ v l. size-none _ (eqb-true _ 0 (every-at places (λ v. eqb (natAbs (netBy (labelsOf (withheldOnly p) p) (p .streams) x v)) 0) nets v l)));
+    };
+    freedom = eqb-true (sheet .total .degrees) (degrees p) (and-left (eqb (sheet .total .degrees) (degrees p)) _ total);
+    costs = eqb-true (sheet .total .cost) _ (and-left (eqb (sheet .total .cost) (capped c)) _ rest);
+    verdict = eqb-true (sheet .total .verdict) _ (and-right (eqb (sheet .total .cost) (capped c)) _ rest);
+  }
+    where
+      nets-and : Bool
+      nets-and = netsFit (labelsOf (withheldOnly p) p) (p .streams) x && totalFits p c (sheet .total)
+
+      flows-and : Bool
+      flows-and = flowsFit (p .streams) x numbers && nets-and
+
+      records-and : Bool
+      records-and = recordsFit (countOf p) (classAt sheet) (classOf p) x && flows-and
+
+      one : numbersFit (p .units) numbers ≡ true
+      one = and-left (numbersFit (p .units) numbers) _ e
+
+      after-one : eqb (length (sheet .streams)) (length (p .streams)) && records-and ≡ true
+      after-one = and-right (numbersFit (p .units) numbers) _ e
+
+      records : records-and ≡ true
+      records = and-right (eqb (length (sheet .streams)) (length (p .streams))) _ after-one
+
+      flows : flows-and ≡ true
+      flows = and-right (recordsFit (countOf p) (classAt sheet) (classOf p) x) _ records
+
+      after-flows : nets-and ≡ true
+      after-flows = and-right (flowsFit (p .streams) x numbers) _ flows
+
+      nets : netsFit (labelsOf (withheldOnly p) p) (p .streams) x ≡ true
+      nets = and-left (netsFit (labelsOf (withheldOnly p) p) (p .streams) x) _ after-flows
+
+      total : totalFits p c (sheet .total) ≡ true
+      total = and-right (netsFit (labelsOf (withheldOnly p) p) (p .streams) x) _ after-flows
+
+      rest : eqb (sheet .total .cost) (capped c) && eqb (sheet .total .verdict) (verdictAt (degrees p) c (adjusted p)) ≡ true
+      rest = and-right (eqb (sheet .total .degrees) (degrees p)) _ total
+
+      entry : (k : ℕ) → k < countOf p → eqb (kindOf (classAt sheet k)) (kindOf (classOf p k)) && leb (natAbs (x k)) flowShift ≡ true
+      entry k l = every-at (countOf p) _ (and-left (recordsFit (countOf p) (classAt sheet) (classOf p) x) _ records) k l
+
+      flow : (k : ℕ) → k < countOf p → inRange 1 (streamOf p k) (x k) && priced π (streamOf p k) (x k) ≡ true
+      flow k l = every-at (countOf p) _ (and-left (flowsFit (p .streams) x numbers) _ flows) k l
+
+  kept-test : Kept p sheet numbers → passes p sheet numbers ≡ true
+  unfolding passes netsFit
+  kept-test g =
+      and-both _ _
+      (and-both _ _ (eq-eqb _ _ (g .one-each)) (every-all (suc (p .units)) _ (λ u l. le-leb _ numberLimit (g .small u (omega arith)))))
+      (and-both _ _ (eq-eqb _ _ (g .long))
+      (and-both _ _ (every-all (countOf p) _ (λ k l. and-both _ _ (eq-eqb _ _ (ap kindOf (g .classes k l))) (le-leb _ flowShift (kept-small g k l))))
+      (and-both _ _ (every-all (countOf p) _ (λ k l. and-both _ _ (g .meets .ranges k l) (says-priced π (streamOf p k) (x k) (g .meets .steps k l))))
+      (and-both _ _ (every-all places _ (λ v l. eq-eqb _ 0 (ap natAbs (closed-nets (withheldOnly p) p w x (g .meets .closed) v))))
+      (and-both _ _ (eq-eqb _ _ (g .freedom)) (and-both _ _ (eq-eqb _ _ (g .costs)) (eq-eqb _ _ (g .verdict))))))))
+
+  -- The computed test says whether the sheet passes.
+  pub test-is : (passes p sheet numbers ≡ true) ↔ Passes p sheet numbers
+  test-is = (λ e. kept-passes (test-kept e), λ g. kept-test (passes-kept g))

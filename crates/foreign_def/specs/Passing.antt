@@ -1,0 +1,120 @@
+-- Sheets drawn up elsewhere: when a sheet passes as a sheet of a plant, with one number for each place.
+use mathlib.Core.Path.{_≡_}
+use mathlib.Core.Logic.{_↔_, _⊎_}
+use mathlib.Core.Bool.{Bool, true, false, not, _&&_}
+use mathlib.Core.List.{List, [], _∷_}
+use lib.IntN.{ℤ, pos, natAbs, _+ℤ_, _-ℤ_, _*ℤ_}
+use lib.Signed.{leZ}
+use Prim.Native.Nat.{ℕ, suc, _≤_, _<_}
+use lib.ListN.{length, getD}
+use Rattle.numbers.specs.Choice.{pick}
+use Rattle.plants.specs.declared.Stream.{Stream}
+use Rattle.plants.specs.Plants.{Plant, limited}
+use Rattle.flows.specs.declared.Class.{Class}
+use Rattle.flows.specs.declared.Class.the-variants.{Adjusted, AsRead, Given, Withheld}
+use Rattle.flows.specs.Flows.{streamAt, inRange, Cheapest}
+use Rattle.flows.specs.Chains.{Counting, Chain}
+use Rattle.flows.specs.Classes.{classOf}
+use Rattle.sheets.specs.declared.Entry.{Entry}
+use Rattle.sheets.specs.Sentences.{MeteredAt, UnmeteredAt}
+use Rattle.sheets.specs.Sheets.{SheetParts, plantParts}
+use Rattle.sheets.specs.Kept.{blank}
+
+-- The limit of a place's number.
+abbrev pub numberLimit : ℕ
+numberLimit = 1000000000000000000
+
+-- The number of place u.
+abbrev pub placeNumber : List ℤ → ℕ → ℤ
+placeNumber numbers u = getD numbers u (pos 0)
+
+-- A stream's to-place's number minus its from-place's.
+abbrev pub difference : List ℤ → Stream → ℤ
+difference numbers s = placeNumber numbers (s .to) -ℤ placeNumber numbers (s .from)
+
+-- What it lies between: weight × (2d − 1) and weight × (2d + 1), d being flow minus reading.
+abbrev pub bottom : Stream → ℤ → ℤ
+bottom s flow = pos (s .weight) *ℤ (pos 2 *ℤ (flow -ℤ s .reading) -ℤ pos 1)
+
+abbrev pub top : Stream → ℤ → ℤ
+top s flow = pos (s .weight) *ℤ (pos 2 *ℤ (flow -ℤ s .reading) +ℤ pos 1)
+
+-- A flow at an end of the stream's range.
+abbrev pub AtHigh : Stream → ℤ → Type 0
+AtHigh s flow = (limited s ≡ true) × (flow ≡ s .high)
+
+abbrev pub AtLow : Stream → ℤ → Type 0
+AtLow s flow = (limited s ≡ true) × (flow ≡ s .low)
+
+-- Stream k's class and flow on a sheet, from 0.
+abbrev pub classAt : SheetParts → ℕ → Class
+classAt sheet k = getD (sheet .streams) k blank .class
+
+abbrev pub flowAt : SheetParts → ℕ → ℤ
+flowAt sheet k = getD (sheet .streams) k blank .flow
+
+-- A sheet b has the classes, degrees, cost and verdict of a. (Its number, its office, the kind of its total and its flows are free.)
+pub record Matches (a b : SheetParts) : Type 0 where
+  pub count : length (b .streams) ≡ length (a .streams)
+  pub classes : (k : ℕ) → k < length (a .streams) → classAt b k ≡ classAt a k
+  pub degrees : b .total .degrees ≡ a .total .degrees
+  pub cost : b .total .cost ≡ a .total .cost
+  pub verdict : b .total .verdict ≡ a .total .verdict
+
+-- Classes, degrees, cost and verdict are ours: those of office 0's sheet 1 of the plant's cheapest flow. So the plant has a sheet.
+abbrev pub ourSheet : Plant → List ℤ → SheetParts
+ourSheet p xs = plantParts 0 p xs 1
+
+abbrev pub Ours : Plant → SheetParts → Type 0
+Ours p sheet = (xs : List ℤ) × Cheapest p xs × Matches (ourSheet p xs) sheet
+
+-- A flow is known where its record has a number: all but W.
+abbrev pub known : Class → Bool
+known Adjusted = true
+known AsRead = true
+known Given = true
+known Withheld = false
+
+-- The W streams.
+abbrev pub withheldOnly : Plant → Counting
+withheldOnly p k s = not (known (classOf p k))
+
+-- A set of places that W streams join: c tells of each place whether chains of W streams join it to u. (Without them: u alone.)
+abbrev pub JoinedByW : Plant → ℕ → (ℕ → Bool) → Type 0
+JoinedByW p u c = (v : ℕ) → v ≤ p .units → (c v ≡ true) ↔ Chain (withheldOnly p) (p .streams) u v
+
+-- The known flows of the streams that a test takes, summed; those into a set of places, and those out of it.
+abbrev pub knownSum : (Stream → Bool) → List Stream → List Entry → ℤ
+knownSum takes [] es = pos 0
+knownSum takes (s ∷ ss) [] = pos 0
+knownSum takes (s ∷ ss) (e ∷ es) = pick (known (e .class) && takes s) (e .flow) (pos 0) +ℤ knownSum takes ss es
+
+abbrev pub sumIn : (ℕ → Bool) → List Stream → List Entry → ℤ
+sumIn c = knownSum (λ s. c (s .to))
+
+abbrev pub sumOut : (ℕ → Bool) → List Stream → List Entry → ℤ
+sumOut c = knownSum (λ s. c (s .from))
+
+-- A sheet passes as a sheet of plant p, with these numbers of the places.
+pub record Passes (p : Plant) (sheet : SheetParts) (numbers : List ℤ) : Type 0 where
+  -- One number for each of the places 0 to n, within the limit.
+  pub one-each : length numbers ≡ suc (p .units)
+  pub small : (u : ℕ) → u ≤ p .units → natAbs (placeNumber numbers u) ≤ numberLimit
+  -- Classes, degrees, cost and verdict are ours.
+  pub ours : Ours p sheet
+  -- For an A or R stream the difference lies from bottom to top; a flow at high may exceed the top, and one at low may fall short
+  -- of the bottom.
+  pub from-bottom : (k : ℕ) → MeteredAt p k
+      → let s = streamAt (p .streams) k in
+      AtLow s (flowAt sheet k) ⊎ (leZ (bottom s (flowAt sheet k)) (difference numbers s) ≡ true)
+  pub to-top : (k : ℕ) → MeteredAt p k
+      → let s = streamAt (p .streams) k in
+      AtHigh s (flowAt sheet k) ⊎ (leZ (difference numbers s) (top s (flowAt sheet k)) ≡ true)
+  -- Flows lie in range.
+  pub ranges : (k : ℕ) → MeteredAt p k → inRange 1 (streamAt (p .streams) k) (flowAt sheet k) ≡ true
+  -- Unmetered streams have equal numbers at both ends.
+  pub equal : (k : ℕ) → UnmeteredAt p k
+      → let s = streamAt (p .streams) k in
+      placeNumber numbers (s .from) ≡ placeNumber numbers (s .to)
+  -- In each set of places joined by W streams, known flows in and out have equal sums.
+  pub sums : (u : ℕ) (c : ℕ → Bool) → u ≤ p .units → JoinedByW p u c → sumIn c (p .streams) (sheet .streams) ≡ sumOut c (p .streams) (sheet .streams)

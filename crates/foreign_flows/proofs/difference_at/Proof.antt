@@ -1,0 +1,55 @@
+-- The difference of two numbers within the limit fits 64 bits.
+use lib.IntN.{pos}
+use lib.ListN.{getD}
+use mir.Syntax.{w64}
+use mir.Val.{SFits}
+use denote.Ref.{now}
+use Rattle.foreign_flows.proofs.Checking as C
+use borrow.Author.Needs.{needs}
+use Rattle.foreign_flows.proofs.difference_at.Statement.{statement}
+use Rattle.foreign_flows.proofs.difference_at.Tie as tie
+
+cast-u : tie.Need-cast-u
+cast-u c = search needs
+
+cast-v : tie.Need-cast-v
+cast-v c = search needs
+
+mul-result : tie.Need-mul-result
+mul-result c = search needs
+
+shared-slice-copy-out-result : tie.Need-shared-slice-copy-out-result
+shared-slice-copy-out-result c = search needs
+
+mul-result-2 : tie.Need-mul-result-2
+mul-result-2 c = search needs
+
+shared-slice-copy-out-result-2 : tie.Need-shared-slice-copy-out-result-2
+shared-slice-copy-out-result-2 c = search needs
+
+sub-result : tie.Need-sub-result
+sub-result c =
+    let st = c .before .before .before .before in
+    let f : SFits w64 (getD (now (st .args .numbers)) (st .args .s .to) (pos 0)) = search needs in
+    let g : SFits w64 (getD (now (st .args .numbers)) (st .args .s .from) (pos 0)) = search needs in
+    C.difference-fits _ _ f g (st .pre .1 .1) (st .pre .1 .0)
+
+returns : tie.Need-returns
+returns c =
+    let st = c .before .before .before .before in
+    let f : SFits w64 (getD (now (st .args .numbers)) (st .args .s .to) (pos 0)) = search needs in
+    let g : SFits w64 (getD (now (st .args .numbers)) (st .args .s .from) (pos 0)) = search needs in
+    C.difference-is _ _ f g (st .pre .1 .1) (st .pre .1 .0)
+
+pub difference-at-spec : {M : Type 1} → statement M
+difference-at-spec =
+    tie.close
+    (tie.spec
+    cast-u
+    cast-v
+    mul-result
+    shared-slice-copy-out-result
+    mul-result-2
+    shared-slice-copy-out-result-2
+    sub-result
+    returns)

@@ -1,0 +1,2 @@
+-- Laws of the call over numbers of the places.
+pub mod Numbering

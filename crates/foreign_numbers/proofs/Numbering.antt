@@ -1,0 +1,52 @@
+-- The call's answer, by what was read; and what is handed over in a slice.
+use mathlib.Core.Path.{_≡_, refl, sym, _∙_, ap, subst}
+use mathlib.Core.List.{List}
+use mathlib.Core.Logic.{⊎-elim}
+use lib.IntN.{ℤ}
+use Prim.Native.Nat.{ℕ, _≤_, _<_}
+use native.Mathlib.Omega.{arith}
+use lib.ListN.{length}
+use Rattle.numbers.specs.Bytes.{over}
+use Rattle.plants.specs.declared.Read.{Read}
+use Rattle.plants.specs.Limits.{places}
+use Rattle.plants.specs.Plants.{Plant}
+use Rattle.plants.specs.Files.{Got, bad, got, readPlant}
+use Rattle.plants.specs.Says.{plantOf, readOf}
+use Rattle.plants.proofs.Arrayed.{read-held}
+use Rattle.sheets.proofs.Promise.{read-bad, found}
+use Rattle.sheets.proofs.Demands.{demands}
+use Rattle.foreign_def.specs.declared.PlaceNumbers.{PlaceNumbers}
+use Rattle.foreign_def.specs.Numbers.{noNumbers, numbersIn, NumbersOf, NumbersWith, NumbersSay, NumbersLent}
+use Rattle.foreign_def.proofs.Promise.{read-within}
+
+module _ (file : List ℕ) (y : Read) (e : y ≡ readOf (readPlant file)) (r : PlaceNumbers) where
+  pub says-unread : (y .number ≡ 0 → ⊥) → r ≡ noNumbers (y .number) → NumbersSay file r
+  says-unread n q = subst (λ (g : Got). NumbersWith g r) (sym (read-bad (readPlant file) y e n)) q
+
+  pub says-numbers : y .number ≡ 0 → NumbersOf (plantOf (y .plant)) r → NumbersSay file r
+  says-numbers n h =
+      let f = found file y e n in
+      subst (λ (g : Got). NumbersWith g r) (sym (f .1)) (subst (λ (q : Plant). NumbersOf q r) (ap plantOf (f .2) ∙ read-held file (f .0) (f .1)) h)
+
+-- There are no more numbers than there may be.
+pub numbers-few : (file : List ℕ) (r : PlaceNumbers) → NumbersSay file r → r .count ≤ places
+numbers-few file r = go (readPlant file) refl
+  where
+    none : (f : ℕ) → r ≡ noNumbers f → r .count ≤ places
+    none f q = omega (arith, ap (λ (x : PlaceNumbers). x .count) q)
+
+    go : (g : Got) → readPlant file ≡ g → NumbersWith g r → r .count ≤ places
+    go (bad f) e n = none f n
+    go (got p) e n = ⊎-elim
+        (λ c. omega (arith, n .some (c .0) (c .1 .balance) .count, read-within file p e .few-units))
+        (λ o. none 19 (n .none (λ ys. demands .nineteen .none file p (o .0) e (o .1) 1 ys (omega arith))))
+        (demands .nineteen .either file p e)
+
+-- In a slice.
+module _ (file : List ℕ) (o : List ℤ) where
+  pub lends-nothing : length o < places → NumbersLent file o o 1 0
+  lends-nothing h = record { short = λ l. (refl, refl, refl); told = λ l. absurd (omega arith) }
+
+  pub lends-numbers : places ≤ length o → (r : PlaceNumbers) → NumbersSay file r → (o′ : List ℤ) → o′ ≡ over (numbersIn r) o
+      → NumbersLent file o o′ (r .number) (r .count)
+  lends-numbers h r n o′ e = record { short = λ l. absurd (omega arith); told = λ l. (r, n, refl, refl, e) }

@@ -1,0 +1,2 @@
+-- Laws of numbers by prices.
+pub mod Pricing

@@ -1,0 +1,92 @@
+-- After j turns the labels are those after j steps.
+use mathlib.Core.Path.{_≡_, sym, _∙_, ap}
+use Prim.Native.Nat.{_≤_, _<_, _-_}
+use native.Mathlib.Omega.{arith}
+use lib.ListN.{length}
+use Rattle.plants.specs.Says.{plantOf}
+use Rattle.plants.proofs.Arrayed.{all-listed, listed-at, stream-within}
+use Rattle.flows.specs.Labels.{labelsAfter}
+use Rattle.flows.proofs.Grouping.{ends-in, step-said}
+use Rattle.flows.proofs.Labels.{step-none, labels-long}
+use Rattle.foreign_def.specs.Passing.{withheldOnly}
+use Rattle.foreign_sets.proofs.Carrying as C
+use borrow.Author.Needs.{needs}
+use Rattle.foreign_sets.proofs.labels_by.Statement.{statement}
+use Rattle.foreign_sets.proofs.labels_by.Tie as tie
+
+abbrev Inv-loop : tie.InvT-loop
+Inv-loop p classes n labels₀ j₀ labels j = (j ≤ p .count) × (labels ≡ labelsAfter (withheldOnly (plantOf p)) (plantOf p .streams) j)
+
+abbrev μ-loop : tie.MeasureT-loop
+μ-loop p classes n labels₀ j₀ labels j = n - j
+
+cast-n : tie.Need-cast-n Inv-loop μ-loop
+cast-n c = search needs
+
+own-numbers-requires : tie.Need-own-numbers-requires Inv-loop μ-loop
+own-numbers-requires c κs = search needs
+
+loop-holds : tie.Need-loop-holds Inv-loop μ-loop
+loop-holds c = (omega arith, step-none _ _ _ (c .own-numbers .ensures))
+
+mul-s : tie.Need-mul-s Inv-loop μ-loop
+mul-s c = search needs
+
+element-copy-out-s : tie.Need-element-copy-out-s Inv-loop μ-loop
+element-copy-out-s c = search needs
+
+array-copy-out-class : tie.Need-array-copy-out-class Inv-loop μ-loop
+array-copy-out-class c = search needs
+
+is-withheld-requires : tie.Need-is-withheld-requires Inv-loop μ-loop
+is-withheld-requires c κs = search needs
+
+step-requires : tie.Need-step-requires Inv-loop μ-loop
+step-requires c κs =
+    let st = c .before .before .before .before .before .before .before in
+    (stream-within (st .args .t1) (st .pre .0) _ (c .before .before .before .before .loop-test .taken), ap length (c .before .before .before .before .before .loop .inv .1) ∙ labels-long _ _ _)
+
+add-j : tie.Need-add-j Inv-loop μ-loop
+add-j c = search needs
+
+loop-less : tie.Need-loop-less Inv-loop μ-loop
+loop-less c = search needs
+
+loop-again : tie.Need-loop-again Inv-loop μ-loop
+loop-again c =
+    let st = c .before .before .before .before .before .before .before .before in
+    let at = c .before .before .before .before .before .before .loop in
+    let p = st .args .t1 in
+    let taken = c .before .before .before .before .before .loop-test .taken in
+    let listed : at .j < length (plantOf p .streams) = rw (all-listed p (st .pre .0)) taken in (
+      omega arith,
+      step-said (withheldOnly (plantOf p)) (plantOf p .streams) (ends-in p (st .pre .0)) (at .j) _ _ _ _ listed (at .inv .1)
+          (listed-at p (st .pre .0) (at .j) taken)
+          (c .before .before .is-withheld .ensures ∙ C.withheld-at p (st .pre .0) (st .args .t2) (st .pre .1) (at .j) taken) (c .step .ensures),
+    )
+
+returns : tie.Need-returns Inv-loop μ-loop
+returns c =
+    let st = c .before .before .before in
+    let at = c .before .loop in
+    let e : at .j ≡ st .args .t1 .count = omega arith in
+    at .inv .1 ∙ ap (labelsAfter _ _) (e ∙ sym (all-listed (st .args .t1) (st .pre .0)))
+
+pub labels-by-spec : {M : Type 1} → statement M
+labels-by-spec =
+    tie.close
+    (tie.spec
+    Inv-loop
+    μ-loop
+    cast-n
+    own-numbers-requires
+    loop-holds
+    mul-s
+    element-copy-out-s
+    array-copy-out-class
+    is-withheld-requires
+    step-requires
+    add-j
+    loop-less
+    loop-again
+    returns)

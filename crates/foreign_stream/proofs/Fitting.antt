@@ -1,0 +1,168 @@
+-- Tests of one stream, by their branches; and its bounds in 64 bits.
+use mathlib.Core.Path.{_≡_, refl, ap}
+use mathlib.Core.Bool.{Bool, true, false, not, _&&_, _||_}
+use mathlib.Core.Logic.{⊎-elim}
+use lib.IntN.{ℤ, pos, natAbs, _+ℤ_, _-ℤ_, _*ℤ_}
+use lib.Signed.{ltZ, leZ}
+use Prim.Native.Nat.{ℕ, _+_, _*_, _^_, _≤_, _<_}
+use native.Mathlib.Nat.{mul-le-mul}
+use native.Mathlib.Omega.{arith}
+use mir.Syntax.{w32, w64}
+use mir.Val.{SFits, toZ, ofZ}
+use mir.ValLaws.{toZ-ofZ}
+use mir.Facts.{toZ-pos}
+use Rattle.numbers.proofs.Tests.{by-cases, clash}
+use Rattle.plants.specs.declared.Stream.{Stream}
+use Rattle.plants.specs.Limits.{maxWeight}
+use Rattle.plants.specs.Plants.{limited}
+use Rattle.flows.specs.Flows.{inRange}
+use Rattle.flows.specs.Certificate.{weightOf, lower, upper, rises, falls, leastClimb, mostClimb}
+use Rattle.flows.proofs.Integers.{plus-val, size-val, parts, product, one-times, ltZ-lt, le-leZ, leZ-le, lt-ltZ, Le-unless}
+use Rattle.model.proofs.Weights.{wide}
+use Rattle.sheets.specs.Calls.{Small}
+use Rattle.costs.proofs.Costing.{size-fits, reading-size, minus-size}
+use Rattle.foreign_def.specs.Test.{flowFits}
+
+-- A number that came through 32 and 64 bits.
+pub widened : (z : ℤ) → SFits w32 z → toZ w64 (ofZ w64 (toZ w32 (ofZ w32 z))) ≡ z
+widened z f = rw (toZ-ofZ w32 z f, toZ-ofZ w64 z (wide z f)) refl
+
+pub widens : (z : ℤ) → SFits w32 z → SFits w64 (toZ w32 (ofZ w32 z))
+widens z f = rw (toZ-ofZ w32 z f) (wide z f)
+
+-- In range, by the branches.
+module _ (s : Stream) (x : ℤ) where
+  pub unlimited : limited s ≡ false → (true ≡ inRange 1 s x) × (true ≡ falls s x) × (true ≡ rises s x)
+  unlimited e = (rw e, rw e, rw e)
+
+  module _ (e : limited s ≡ true) where
+    pub under-low : ltZ x (s .low) ≡ true → false ≡ inRange 1 s x
+    under-low t =
+        by-cases (leZ (s .low) x)
+        (λ u. absurd (omega (arith, ltZ-lt x (s .low) t, leZ-le (s .low) x u)))
+        (λ u. rw (e, one-times (s .low), u))
+
+    pub from-low : ltZ x (s .low) ≡ false → leZ x (s .high) ≡ inRange 1 s x
+    from-low t =
+        by-cases (leZ (s .low) x)
+        (λ u. rw (e, one-times (s .low), one-times (s .high), u))
+        (λ u. absurd (none u))
+      where
+        none : leZ (s .low) x ≡ false → ⊥
+        none u = clash (leZ (s .low) x) (le-leZ (s .low) x (Le-unless (s .low) x (λ l. clash (ltZ x (s .low)) (lt-ltZ x (s .low) l) t))) u
+
+    pub limited-falls : ltZ (s .low) x ≡ falls s x
+    limited-falls = rw e
+
+    pub limited-rises : ltZ x (s .high) ≡ rises s x
+    limited-rises = rw e
+
+-- A bound that is waived, and one that is asked.
+pub waived : (b t : Bool) → b ≡ false → true ≡ (not b || t)
+waived b t e = rw e
+
+module _ (s : Stream) (x c : ℤ) (w : ℕ) (d b : ℤ) (ew : w ≡ weightOf s) (ed : d ≡ x -ℤ s .reading) where
+  pub bottom-asked : falls s x ≡ true → b ≡ lower 1 w d → leZ b c ≡ (not (falls s x) || leZ (leastClimb s x) c)
+  bottom-asked e q = rw (e, q, ew, ed)
+
+  pub top-asked : rises s x ≡ true → b ≡ upper 1 w d → leZ c b ≡ (not (rises s x) || leZ c (mostClimb s x))
+  top-asked e q = rw (e, q, ew, ed)
+
+-- The three tests, one after the other.
+module _ (s : Stream) (x c : ℤ) where
+  abbrev low-kept : Bool
+  low-kept = not (falls s x) || leZ (leastClimb s x) c
+
+  abbrev high-kept : Bool
+  high-kept = not (rises s x) || leZ c (mostClimb s x)
+
+  pub out-of-range : inRange 1 s x ≡ false → false ≡ flowFits s x c
+  out-of-range e = rw e
+
+  pub under-bottom : inRange 1 s x ≡ true → (not (falls s x) || leZ (leastClimb s x) c) ≡ false → false ≡ flowFits s x c
+  under-bottom e f = go (inRange 1 s x) low-kept high-kept e f
+    where
+      go : (a b d : Bool) → a ≡ true → b ≡ false → false ≡ (a && (b && d))
+      go a b d p q = rw (p, q)
+
+  pub by-top : inRange 1 s x ≡ true → (not (falls s x) || leZ (leastClimb s x) c) ≡ true → (not (rises s x) || leZ c (mostClimb s x)) ≡ flowFits s x c
+  by-top e f = go (inRange 1 s x) low-kept high-kept e f
+    where
+      go : (a b d : Bool) → a ≡ true → b ≡ true → d ≡ (a && (b && d))
+      go a b d p q = rw (p, q)
+
+-- Small numbers fit.
+pub correction-size : (x z y : ℤ) → Small x → SFits w32 z → y ≡ x -ℤ z → natAbs y ≤ 2 ^ 47
+correction-size x z y h f e = rw e (omega (arith, minus-size x z, reading-size z f))
+
+pub plus-size : (x y : ℤ) → natAbs (x +ℤ y) ≤ natAbs x + natAbs y
+plus-size x y =
+    let z = x +ℤ y in
+    let v = plus-val x y in
+    let l = size-val x in
+    let m = size-val y in
+    let n = size-val z in
+    ⊎-elim (λ k. omega arith) (λ k. omega arith) (parts z)
+
+times-size : (w : ℕ) (y : ℤ) → natAbs (pos w *ℤ y) ≡ w * natAbs y
+times-size w y = omega (arith, size-val (pos w *ℤ y), product w y, ap (λ k. w * k) (size-val y))
+
+module _ (w : ℕ) (d : ℤ) (f : SFits w64 d) (light : w ≤ maxWeight) (near : natAbs d ≤ 2 ^ 47) where
+  twice : SFits w64 (pos 2 *ℤ d)
+  twice = size-fits (pos 2 *ℤ d) (omega (arith, times-size 2 d))
+
+  less : SFits w64 (pos 2 *ℤ d -ℤ pos 1)
+  less = size-fits (pos 2 *ℤ d -ℤ pos 1) (omega (arith, times-size 2 d, minus-size (pos 2 *ℤ d) (pos 1)))
+
+  more : SFits w64 (pos 2 *ℤ d +ℤ pos 1)
+  more = size-fits (pos 2 *ℤ d +ℤ pos 1) (omega (arith, times-size 2 d, plus-size (pos 2 *ℤ d) (pos 1)))
+
+  weight-is : toZ w64 w ≡ pos w
+  weight-is = toZ-pos w64 (omega arith)
+
+  few : (y : ℤ) → natAbs y ≤ 2 * 2 ^ 47 + 1 → SFits w64 (pos w *ℤ y)
+  few y h = size-fits (pos w *ℤ y) (omega (arith, times-size w y, mul-le-mul light h))
+
+  lower-fits : SFits w64 (lower 1 w d)
+  lower-fits = few (pos 2 *ℤ d -ℤ pos 1) (omega (arith, times-size 2 d, minus-size (pos 2 *ℤ d) (pos 1)))
+
+  upper-fits : SFits w64 (upper 1 w d)
+  upper-fits = few (pos 2 *ℤ d +ℤ pos 1) (omega (arith, times-size 2 d, plus-size (pos 2 *ℤ d) (pos 1)))
+
+  pub twice-fits : SFits w64 (pos 2 *ℤ toZ w64 (ofZ w64 d))
+  twice-fits = rw (toZ-ofZ w64 d f) twice
+
+  twice-is : toZ w64 (ofZ w64 (pos 2 *ℤ toZ w64 (ofZ w64 d))) ≡ pos 2 *ℤ d
+  twice-is = rw (toZ-ofZ w64 d f) (toZ-ofZ w64 (pos 2 *ℤ d) twice)
+
+  pub less-fits : SFits w64 (toZ w64 (ofZ w64 (pos 2 *ℤ toZ w64 (ofZ w64 d))) -ℤ pos 1)
+  less-fits = rw twice-is less
+
+  pub more-fits : SFits w64 (toZ w64 (ofZ w64 (pos 2 *ℤ toZ w64 (ofZ w64 d))) +ℤ pos 1)
+  more-fits = rw twice-is more
+
+  lower-is : toZ w64 w *ℤ toZ w64 (ofZ w64 (toZ w64 (ofZ w64 (pos 2 *ℤ toZ w64 (ofZ w64 d))) -ℤ pos 1)) ≡ lower 1 w d
+  lower-is = rw (twice-is, toZ-ofZ w64 (pos 2 *ℤ d -ℤ pos 1) less, weight-is) refl
+
+  upper-is : toZ w64 w *ℤ toZ w64 (ofZ w64 (toZ w64 (ofZ w64 (pos 2 *ℤ toZ w64 (ofZ w64 d))) +ℤ pos 1)) ≡ upper 1 w d
+  upper-is = rw (twice-is, toZ-ofZ w64 (pos 2 *ℤ d +ℤ pos 1) more, weight-is) refl
+
+  pub bottom-fits : SFits w64 (toZ w64 w *ℤ toZ w64 (ofZ w64 (toZ w64 (ofZ w64 (pos 2 *ℤ toZ w64 (ofZ w64 d))) -ℤ pos 1)))
+  bottom-fits = rw lower-is lower-fits
+
+  pub top-fits : SFits w64 (toZ w64 w *ℤ toZ w64 (ofZ w64 (toZ w64 (ofZ w64 (pos 2 *ℤ toZ w64 (ofZ w64 d))) +ℤ pos 1)))
+  top-fits = rw upper-is upper-fits
+
+  pub bottom-is : toZ w64 (ofZ w64 (toZ w64 w *ℤ toZ w64 (ofZ w64 (toZ w64 (ofZ w64 (pos 2 *ℤ toZ w64 (ofZ w64 d))) -ℤ pos 1)))) ≡ lower 1 w d
+  bottom-is = rw lower-is (toZ-ofZ w64 (lower 1 w d) lower-fits)
+
+  pub top-is : toZ w64 (ofZ w64 (toZ w64 w *ℤ toZ w64 (ofZ w64 (toZ w64 (ofZ w64 (pos 2 *ℤ toZ w64 (ofZ w64 d))) +ℤ pos 1)))) ≡ upper 1 w d
+  top-is = rw upper-is (toZ-ofZ w64 (upper 1 w d) upper-fits)
+
+-- A difference of two numbers that came through 64 bits.
+module _ (x y : ℤ) (fx : SFits w64 x) (fy : SFits w64 y) (fd : SFits w64 (x -ℤ y)) where
+  pub coded-fits : SFits w64 (toZ w64 (ofZ w64 x) -ℤ toZ w64 (ofZ w64 y))
+  coded-fits = rw (toZ-ofZ w64 x fx, toZ-ofZ w64 y fy) fd
+
+  pub coded-is : toZ w64 (ofZ w64 (toZ w64 (ofZ w64 x) -ℤ toZ w64 (ofZ w64 y))) ≡ x -ℤ y
+  coded-is = rw (toZ-ofZ w64 x fx, toZ-ofZ w64 y fy) (toZ-ofZ w64 (x -ℤ y) fd)

@@ -1,0 +1,92 @@
+/* Checks a sheet, drawn up here or elsewhere, against its plant file, with one number for each place.
+ *
+ *     check_sheet PLANT SHEET NUMBERS
+ *
+ * PLANT and SHEET are the bytes of a plant file and of a sheet; NUMBERS is text, the numbers of the places 0 to n with blanks or
+ * line ends between them, as place_numbers prints them. Prints `passes`, or `refused` and a number; after 26 a line with the first
+ * broken rule in words.
+ *
+ * Exit status: 0 it passes, 1 a refusal, 2 the command line is wrong, a file cannot be read or the text not be written.
+ */
+#include <errno.h>
+#include <stdlib.h>
+
+#include "rules.h"
+
+/* One more than the longest file and sheet, and than the most numbers: what is longer is refused all the same. */
+enum { MOST_PLANT = WENGELUDO_FILE_SIZE + 1, MOST_SHEET = WENGELUDO_SHEET_SIZE + 1, MOST_NUMBERS = WENGELUDO_MAX_PLACES + 1 };
+
+/* At most so many bytes of a file; 0 where it cannot be read. */
+static int read_bytes(const char *name, uint8_t *bytes, size_t most, size_t *length)
+{
+    FILE *in = fopen(name, "rb");
+    if (in == NULL)
+        return 0;
+    *length = fread(bytes, 1, most, in);
+    int failed = ferror(in);
+    fclose(in);
+    return !failed;
+}
+
+/* The numbers of a text; 0 where it cannot be read, or holds something else than numbers of 64 bits. */
+static int read_numbers(const char *name, int64_t *numbers, size_t *count)
+{
+    char word[32], *end;
+    FILE *in = fopen(name, "r");
+    if (in == NULL)
+        return 0;
+    int good = 1;
+    for (*count = 0; good && *count < MOST_NUMBERS && fscanf(in, "%31s", word) == 1; ++*count) {
+        errno = 0;
+        numbers[*count] = strtoll(word, &end, 10);
+        good = *end == '\0' && errno == 0;
+    }
+    good = good && !ferror(in);
+    fclose(in);
+    return good;
+}
+
+/* Words for a 26. */
+static void print_rule(const uint8_t *plant, size_t plant_length, const uint8_t *sheet, size_t sheet_length, const int64_t *numbers,
+                       size_t count)
+{
+    uint8_t drawn[WENGELUDO_SHEET_SIZE];
+    uint32_t lasts[WENGELUDO_OFFICES] = {0};
+    size_t written;
+    uint64_t marked;
+    struct shown theirs, ours;
+    char words[160];
+    int none = wengeludo_balance_plant(plant, plant_length, 0, lasts, WENGELUDO_OFFICES, drawn, sizeof drawn, &written, &marked) != 0;
+    if (!none)
+        read_shown(drawn, written, &ours);
+    read_shown(sheet, sheet_length, &theirs);
+    if (first_broken(plant, &theirs, none ? NULL : &ours, numbers, count, words, sizeof words))
+        printf("%s\n", words);
+}
+
+int main(int words_given, char **words)
+{
+    uint8_t plant[MOST_PLANT], sheet[MOST_SHEET];
+    int64_t numbers[MOST_NUMBERS];
+    size_t plant_length, sheet_length, count;
+    if (words_given != 4) {
+        fprintf(stderr, "usage: %s PLANT SHEET NUMBERS\n", words[0]);
+        return 2;
+    }
+    if (!read_bytes(words[1], plant, sizeof plant, &plant_length) || !read_bytes(words[2], sheet, sizeof sheet, &sheet_length)
+        || !read_numbers(words[3], numbers, &count)) {
+        fprintf(stderr, "%s: a file cannot be read, or has other words than numbers\n", words[0]);
+        return 2;
+    }
+    uint8_t refusal = wengeludo_check_sheet(plant, plant_length, sheet, sheet_length, numbers, count);
+    if (refusal == WENGELUDO_DONE)
+        printf("passes\n");
+    else
+        printf("refused %d\n", refusal);
+    if (refusal == WENGELUDO_RULE_BROKEN)
+        print_rule(plant, plant_length, sheet, sheet_length, numbers, count);
+    if (fflush(stdout) == 0 && !ferror(stdout))
+        return refusal != WENGELUDO_DONE;
+    fprintf(stderr, "%s: standard output cannot be written\n", words[0]);
+    return 2;
+}
