@@ -1,6 +1,6 @@
 #!/usr/bin/env bash
-# The gate, then the archive and all that is built over it: the C program, the Rust crate with its differential tests, a short
-# run of the benchmark, the fuzz target.
+# The gate, then the archive and all that is built over it: the C programs, C++, what is installed, the Rust crate with its
+# differential tests, short runs of the benchmarks, the fuzz target, and every command that the texts name.
 #
 #     bash test_all.sh               everything
 #     bash test_all.sh --after-gate  what follows the gate
@@ -16,8 +16,13 @@ need() { # command, what to install
 }
 need rt "install the Rattle kit (rattle-kit-5 or later)"
 need "${CC:-cc}" "install a C compiler (Debian: apt-get install gcc libc6-dev) or name one in CC"
-need cargo "install Rust 1.66 or later (https://rustup.rs, or Debian: apt-get install cargo)"
+need cargo "install Rust 1.66 or later (https://rustup.rs, or Debian 12: apt-get install cargo-web); the crate itself takes 1.63"
 need clang "install clang with its libFuzzer (Debian: apt-get install clang)"
+need g++ "install a C++ compiler (Debian: apt-get install g++)"
+need python3 "install Python 3 (Debian: apt-get install python3)"
+need cmake "install CMake (Debian: apt-get install cmake)"
+need pkg-config "install pkg-config (Debian: apt-get install pkgconf)"
+need man "install man and groff (Debian: apt-get install man-db)"
 need objdump "install the binary utilities (Debian: apt-get install binutils)"
 [ "$missing" = 0 ] || exit 2
 if [ "$(uname -m)" != x86_64 ]; then
@@ -31,13 +36,25 @@ case "${1:-}" in
 --after-gate) ;;
 *) echo "usage: bash test_all.sh [--after-gate]" >&2; exit 2 ;;
 esac
+part "texts that are made from lists and samples"
+python3 host/check/versions.py
+python3 host/check/refusals.py
+python3 host/check/picture.py
 part "the archive"
 rt staticlib linked
-part "the C program"
+python3 host/check/archive.py
+part "the C programs"
 bash host/c/build.sh
 bash host/c/test.sh
+target/host/empty_slices
+part "C++"
+bash host/cpp/test.sh
+part "what is installed"
+bash host/install/test.sh
 part "the Rust crate and the differential tests"
 (cd host/rust && cargo test --offline --quiet -- --nocapture)
+bash host/rust/test_archives.sh
+bash host/rust/test_oldest.sh
 part "the benchmark, a short run"
 bash host/bench/run.sh 5 1 >target/host/bench.log || { tail -20 target/host/bench.log >&2; exit 1; }
 grep -E '^\| (plants|random extremes|as a site has them|tie-rich) \| (units|32) ' target/host/bench.log | head -4
@@ -55,4 +72,6 @@ if ! bash host/fuzz/run.sh "${FUZZ_SECONDS:-60}" >target/host/fuzz/log 2>&1; the
     exit 1
 fi
 grep -E '^(Done|fuzz target:)' target/host/fuzz/log
+part "every command of the texts"
+python3 host/check/commands.py
 echo "test_all: all passed"

@@ -5,7 +5,7 @@
 #
 # A program is linked with each archive. The two run in turns, once in each round, and the least time of each plant over all
 # rounds counts: other work on the machine has to last through every round to show, and then it meets both alike.
-# Both archives must have the calls of host/include: one from before there were offices has another sheet call.
+# Both archives must have the calls of host/include; the Rust crate refuses one from before version 1.0.0.
 set -euo pipefail
 here=$(cd "$(dirname "$0")" && pwd)
 out=$here/../../target/host/bench/compare

@@ -1,14 +1,14 @@
-/* Steam and condensate balance sheets: the calls of liblinked.a.
+/* Steam and condensate balance sheets: the calls of libwengeludo.
  *
- * Build the archive with `rt staticlib linked` (target/staticlib/liblinked.a, x86-64 Linux) and link it;
- * it needs nothing but the C library (memcpy, memset). The calls keep no state, allocate nothing, take less than
+ * `bash install.sh PREFIX` puts the library where a compiler finds it (-lwengeludo), for x86-64 Linux; `rt staticlib linked`
+ * proves it and writes target/staticlib/liblinked.a, which is the same archive, to be linked as it is.
+ * It needs nothing but the C library (memcpy, memset). The calls keep no state, allocate nothing, take less than
  * 72 KB of stack, and may run in several threads at once on memory of their own.
  *
  * What holds of every pointer here, and what no call can check:
- *   - it points to as many elements as the length beside it says (a pointer without a length: to one);
- *   - it is not NULL, also where the length is 0;
+ *   - it points to as many elements as the length beside it says (a pointer without a length: to one, never NULL);
  *   - what a call writes overlaps nothing else that the same call is handed.
- * Lengths count elements. A slice may be longer than is needed.
+ * Lengths count elements. A slice may be longer than is needed. A slice of length 0 may be NULL: it is never looked at.
  *
  * What each call does is proved against the definitions in crates/sheets/specs, crates/plants/specs,
  * crates/transmitters/specs, crates/moves/specs, crates/purchases/specs, crates/surveys/specs, crates/visit_def/specs,
@@ -25,6 +25,17 @@
 #ifdef __cplusplus
 extern "C" {
 #endif
+
+/* The version of this header. What may change between versions: CHANGELOG.md. */
+#define WENGELUDO_VERSION_MAJOR 1
+#define WENGELUDO_VERSION_MINOR 0
+#define WENGELUDO_VERSION_PATCH 0
+#define WENGELUDO_VERSION (10000 * WENGELUDO_VERSION_MAJOR + 100 * WENGELUDO_VERSION_MINOR + WENGELUDO_VERSION_PATCH)
+
+/* The version of the library, a number like WENGELUDO_VERSION: 10000 is 1.0.0. A program may go on where its ten thousands are
+ * those of the header and the rest is no less.
+ */
+uint32_t wengeludo_version(void);
 
 /* The least sheet slice and the least slice for a plant file; the longest plant file. */
 #define WENGELUDO_SHEET_SIZE 880
@@ -59,39 +70,108 @@ extern "C" {
 
 /* What the calls return: 0, or the number of a refusal. */
 enum {
+    /* refusals: enum, from host/refusals.tsv */
     WENGELUDO_DONE = 0,
-    WENGELUDO_SLICE_TOO_SHORT = 1,    /* sheet slice under 880 bytes, or fewer than 8 last sheet numbers; writer, translator and
-                                         moves: under 1,636; a slice of the sheet reader, for meters to buy or worth a visit
-                                         or for charges under 96 elements; of the survey under 13, for
-                                         numbers of the places under 33 */
-    WENGELUDO_NO_SHEET_NUMBER = 2,    /* the calling office's last sheet number is 4,294,967,295 */
-    WENGELUDO_FILE_ENDS = 3,          /* bytes end where a record is due or inside a body */
-    WENGELUDO_KIND = 4,               /* kind not allowed at this place */
-    WENGELUDO_TOO_MANY_STREAMS = 5,   /* a 97th stream; for the writer, a stream count over 96 */
-    WENGELUDO_UNITS = 6,              /* n is 0 or over 32 */
-    WENGELUDO_PLACE = 7,              /* from or to above n */
-    WENGELUDO_SAME_PLACE = 8,         /* from equals to */
-    WENGELUDO_WEIGHT = 9,             /* weight 0 or over 1,000 */
-    WENGELUDO_READING = 10,           /* reading outside -4,000,000 to 4,000,000 */
-    WENGELUDO_END_COUNT = 11,         /* end count differs from the streams read */
-    WENGELUDO_AFTER_END = 12,         /* bytes after the end record */
-    WENGELUDO_SHEET_RECORD = 13,      /* in a sheet, a record is missing, cut short, a 97th or of a wrong kind */
-    WENGELUDO_SHEET_TOTAL = 14,       /* in a sheet, an office over 7, sheet number 0, degrees over 32, or a verdict that does not
-                                         fit */
-    WENGELUDO_AFTER_TOTAL = 15,       /* in a sheet, bytes after the total */
-    WENGELUDO_VALUE = 16,             /* a transmitter's value is not finite */
-    WENGELUDO_DEVIATION = 17,         /* a transmitter's deviation is no finite number above 0 */
-    WENGELUDO_RANGE = 18,             /* low above high, or either outside -2,000,000,000 to 2,000,000,000 */
-    WENGELUDO_NO_FLOW = 19,           /* no balanced flow lies within all ranges */
-    WENGELUDO_NARROWER = 20,          /* moving home, a range is narrower than -2,000,000,000 to 2,000,000,000 */
-    WENGELUDO_PRICES = 21,            /* prices are not one for each unmetered stream, or one is 0 or over 1,000,000 */
-    WENGELUDO_NO_OFFICE = 22,         /* the office is above 7 */
-    WENGELUDO_TOO_MANY_TO_SURVEY = 23, /* more streams than the 12 of which layouts are surveyed */
-    WENGELUDO_RATES = 24,             /* rates are not one for each stream to the outside, or one is over 10,000 */
-    WENGELUDO_CHARGE_WITHHELD = 25,   /* a stream to the outside is withheld, whatever its rate */
-    WENGELUDO_RULE_BROKEN = 26        /* a sheet that is checked breaks a rule, a number of a place is missing, extra or past its
-                                         limit, or the plant has no sheet */
+    WENGELUDO_SLICE_TOO_SHORT = 1,     /* a slice is too short: under 880 bytes for a sheet, 8 numbers for the offices, 1,636
+                                          bytes for a plant file, 96 elements for the sheet reader and for lists of streams, 13
+                                          for the survey, 33 for the numbers of the places */
+    WENGELUDO_NO_SHEET_NUMBER = 2,     /* the calling office's last sheet number is 4,294,967,295 */
+    WENGELUDO_FILE_ENDS = 3,           /* bytes end where a record is due or inside a body */
+    WENGELUDO_KIND = 4,                /* kind not allowed at this place */
+    WENGELUDO_TOO_MANY_STREAMS = 5,    /* a 97th stream; for the plant writer, a count over 96 */
+    WENGELUDO_UNITS = 6,               /* the number of units, n, is 0 or over 32 */
+    WENGELUDO_PLACE = 7,               /* from or to above n */
+    WENGELUDO_SAME_PLACE = 8,          /* from equals to */
+    WENGELUDO_WEIGHT = 9,              /* weight 0 or over 1,000 */
+    WENGELUDO_READING = 10,            /* reading outside -4,000,000 to 4,000,000 */
+    WENGELUDO_END_COUNT = 11,          /* end count differs from the streams read */
+    WENGELUDO_AFTER_END = 12,          /* bytes after the end record */
+    WENGELUDO_SHEET_RECORD = 13,       /* in a sheet, a record is missing, cut short, a 97th or of a wrong kind */
+    WENGELUDO_SHEET_TOTAL = 14,        /* in a sheet, a field of the total is not allowed: an office over 7, number 0, degrees
+                                          over 32 or a verdict that does not fit */
+    WENGELUDO_AFTER_TOTAL = 15,        /* in a sheet, bytes after the total */
+    WENGELUDO_VALUE = 16,              /* a transmitter's value is not finite */
+    WENGELUDO_DEVIATION = 17,          /* a transmitter's deviation is no finite number above 0 */
+    WENGELUDO_RANGE = 18,              /* low above high, or either outside -2,000,000,000 to 2,000,000,000 */
+    WENGELUDO_NO_FLOW = 19,            /* no balanced flow lies within all ranges */
+    WENGELUDO_NARROWER = 20,           /* moving home, a range is narrower than -2,000,000,000 to 2,000,000,000 */
+    WENGELUDO_PRICES = 21,             /* prices are not one for each unmetered stream, or one is 0 or over 1,000,000 */
+    WENGELUDO_NO_OFFICE = 22,          /* the office is above 7 */
+    WENGELUDO_TOO_MANY_TO_SURVEY = 23, /* more than the 12 streams of which layouts are surveyed */
+    WENGELUDO_RATES = 24,              /* rates are not one for each stream to the outside, or one is over 10,000 */
+    WENGELUDO_CHARGE_WITHHELD = 25,    /* a stream to the outside is withheld, whatever its rate */
+    WENGELUDO_RULE_BROKEN = 26,        /* a sheet that is checked breaks a rule, a number of a place is missing, extra or past
+                                          its limit, or the plant has no sheet */
+    /* refusals: end of enum */
 };
+
+/* What a number says, as a sentence without a full stop; also for 0, and for a number that this header does not know. */
+/* refusals: texts, from host/refusals.tsv */
+static inline const char *wengeludo_refusal_text(uint8_t number)
+{
+    switch (number) {
+    case WENGELUDO_DONE:
+        return "done";
+    case WENGELUDO_SLICE_TOO_SHORT:
+        return "a slice is too short: under 880 bytes for a sheet, 8 numbers for the offices, 1,636 bytes for a plant file, 96 "
+               "elements for the sheet reader and for lists of streams, 13 for the survey, 33 for the numbers of the places";
+    case WENGELUDO_NO_SHEET_NUMBER:
+        return "the calling office's last sheet number is 4,294,967,295";
+    case WENGELUDO_FILE_ENDS:
+        return "bytes end where a record is due or inside a body";
+    case WENGELUDO_KIND:
+        return "kind not allowed at this place";
+    case WENGELUDO_TOO_MANY_STREAMS:
+        return "a 97th stream; for the plant writer, a count over 96";
+    case WENGELUDO_UNITS:
+        return "the number of units, n, is 0 or over 32";
+    case WENGELUDO_PLACE:
+        return "from or to above n";
+    case WENGELUDO_SAME_PLACE:
+        return "from equals to";
+    case WENGELUDO_WEIGHT:
+        return "weight 0 or over 1,000";
+    case WENGELUDO_READING:
+        return "reading outside -4,000,000 to 4,000,000";
+    case WENGELUDO_END_COUNT:
+        return "end count differs from the streams read";
+    case WENGELUDO_AFTER_END:
+        return "bytes after the end record";
+    case WENGELUDO_SHEET_RECORD:
+        return "in a sheet, a record is missing, cut short, a 97th or of a wrong kind";
+    case WENGELUDO_SHEET_TOTAL:
+        return "in a sheet, a field of the total is not allowed: an office over 7, number 0, degrees over 32 or a verdict that "
+               "does not fit";
+    case WENGELUDO_AFTER_TOTAL:
+        return "in a sheet, bytes after the total";
+    case WENGELUDO_VALUE:
+        return "a transmitter's value is not finite";
+    case WENGELUDO_DEVIATION:
+        return "a transmitter's deviation is no finite number above 0";
+    case WENGELUDO_RANGE:
+        return "low above high, or either outside -2,000,000,000 to 2,000,000,000";
+    case WENGELUDO_NO_FLOW:
+        return "no balanced flow lies within all ranges";
+    case WENGELUDO_NARROWER:
+        return "moving home, a range is narrower than -2,000,000,000 to 2,000,000,000";
+    case WENGELUDO_PRICES:
+        return "prices are not one for each unmetered stream, or one is 0 or over 1,000,000";
+    case WENGELUDO_NO_OFFICE:
+        return "the office is above 7";
+    case WENGELUDO_TOO_MANY_TO_SURVEY:
+        return "more than the 12 streams of which layouts are surveyed";
+    case WENGELUDO_RATES:
+        return "rates are not one for each stream to the outside, or one is over 10,000";
+    case WENGELUDO_CHARGE_WITHHELD:
+        return "a stream to the outside is withheld, whatever its rate";
+    case WENGELUDO_RULE_BROKEN:
+        return "a sheet that is checked breaks a rule, a number of a place is missing, extra or past its limit, or the plant "
+               "has no sheet";
+    default:
+        return "a number that this version does not know";
+    }
+}
+/* refusals: end of texts */
 
 /* The kinds of record on a sheet. */
 enum {

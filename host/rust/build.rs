@@ -1,28 +1,107 @@
-//! Links liblinked.a from the repository's target/staticlib, or from the folder that WENGELUDO_ARCHIVE_DIR names.
+//! Links the engine's archive, and refuses one that this crate was not made for.
+//!
+//! The archive is liblinked.a or libwengeludo.a in the folder that WENGELUDO_ARCHIVE_DIR names; without it liblinked.a in the
+//! repository's target/staticlib; without that the libwengeludo.a that pkg-config finds. Its version is asked by a program of three
+//! lines that calls it: the major version must be this crate's and the minor version no lower.
 use std::env;
-use std::path::PathBuf;
-use std::process::exit;
+use std::fs;
+use std::path::{Path, PathBuf};
+use std::process::{exit, Command};
 
 fn main() {
     println!("cargo:rerun-if-env-changed=WENGELUDO_ARCHIVE_DIR");
+    println!("cargo:rerun-if-changed=build.rs");
+    if env::var_os("DOCS_RS").is_some() {
+        return; // pages are made without the archive
+    }
     let arch = env::var("CARGO_CFG_TARGET_ARCH").unwrap_or_default();
     let os = env::var("CARGO_CFG_TARGET_OS").unwrap_or_default();
     if arch != "x86_64" || os != "linux" {
-        eprintln!("wengeludo_balance: the archive is for x86-64 Linux, not for {arch} {os}");
-        exit(1);
+        stop(&format!("the archive is for x86-64 Linux, not for {arch} {os}"));
     }
-    let folder = match env::var_os("WENGELUDO_ARCHIVE_DIR") {
-        Some(folder) => PathBuf::from(folder),
-        None => PathBuf::from(env::var_os("CARGO_MANIFEST_DIR").unwrap()).join("../../target/staticlib"),
-    };
-    let archive = folder.join("liblinked.a");
-    println!("cargo:rerun-if-changed={}", archive.display());
-    if !archive.is_file() {
-        eprintln!("wengeludo_balance: no {}", archive.display());
-        eprintln!("Build it at the repository's root with `rt staticlib linked` (Rattle kit rattle-kit-5 or later),");
-        eprintln!("or name the folder that has liblinked.a in WENGELUDO_ARCHIVE_DIR.");
-        exit(1);
+    let (folder, name) = archive();
+    let path = folder.join(format!("lib{name}.a"));
+    println!("cargo:rerun-if-changed={}", path.display());
+    if env::var("HOST") == env::var("TARGET") {
+        check_version(&path, version_of(&folder, name, &path));
     }
     println!("cargo:rustc-link-search=native={}", folder.display());
-    println!("cargo:rustc-link-lib=static=linked");
+    println!("cargo:rustc-link-lib=static={name}");
+    println!("cargo:archive={}", path.display()); // DEP_WENGELUDO_ARCHIVE for crates that depend on this one
+}
+
+fn stop(text: &str) -> ! {
+    eprintln!("wengeludo_balance: {text}");
+    exit(1)
+}
+
+/// The archive's folder, and its name without lib and .a.
+fn archive() -> (PathBuf, &'static str) {
+    if let Some(folder) = env::var_os("WENGELUDO_ARCHIVE_DIR") {
+        let folder = PathBuf::from(folder);
+        for name in ["linked", "wengeludo"] {
+            if folder.join(format!("lib{name}.a")).is_file() {
+                return (folder, name);
+            }
+        }
+        stop(&format!("neither liblinked.a nor libwengeludo.a in {} (WENGELUDO_ARCHIVE_DIR)", folder.display()));
+    }
+    let own = PathBuf::from(env::var_os("CARGO_MANIFEST_DIR").unwrap()).join("../../target/staticlib");
+    if own.join("liblinked.a").is_file() {
+        return (own, "linked");
+    }
+    match installed() {
+        Some(folder) => (folder, "wengeludo"),
+        None => {
+            println!("cargo:rerun-if-changed={}", own.display());
+            eprintln!("wengeludo_balance: no {}, and no wengeludo that pkg-config knows", own.join("liblinked.a").display());
+            eprintln!("Build it at the repository's root with `rt staticlib linked` (Rattle kit rattle-kit-5 or later), install it");
+            eprintln!("with `bash install.sh PREFIX`, or name the folder that has it in WENGELUDO_ARCHIVE_DIR.");
+            exit(1)
+        }
+    }
+}
+
+/// The folder of an installed archive.
+fn installed() -> Option<PathBuf> {
+    let said = Command::new("pkg-config").args(["--variable=libdir", "wengeludo"]).output().ok()?;
+    let folder = PathBuf::from(String::from_utf8(said.stdout).ok()?.trim());
+    folder.join("libwengeludo.a").is_file().then_some(folder)
+}
+
+/// What the archive's wengeludo_version returns; none where it has no such call.
+fn version_of(folder: &Path, name: &str, path: &Path) -> Option<u32> {
+    let out = PathBuf::from(env::var_os("OUT_DIR").unwrap());
+    let (source, program) = (out.join("version.rs"), out.join("version"));
+    let text = "extern \"C\" {\n    fn wengeludo_version() -> u32;\n}\nfn main() {\n    print!(\"{}\", unsafe { wengeludo_version() });\n}\n";
+    fs::write(&source, text).unwrap_or_else(|error| stop(&format!("{}: {error}", source.display())));
+    let mut rustc = Command::new(env::var_os("RUSTC").unwrap_or_else(|| "rustc".into()));
+    rustc.arg("--edition=2021").arg("-o").arg(&program).arg(&source);
+    rustc.arg("-L").arg(format!("native={}", folder.display())).arg("-l").arg(format!("static={name}"));
+    if let Some(linker) = env::var_os("RUSTC_LINKER") {
+        rustc.arg("-C").arg(format!("linker={}", linker.to_string_lossy()));
+    }
+    let built = rustc.output().unwrap_or_else(|error| stop(&format!("rustc cannot be run: {error}")));
+    if !built.status.success() {
+        let said = String::from_utf8_lossy(&built.stderr);
+        if said.contains("wengeludo_version") {
+            return None;
+        }
+        stop(&format!("{} cannot be linked:\n{said}", path.display()));
+    }
+    let ran = Command::new(&program).output().unwrap_or_else(|error| stop(&format!("{}: {error}", program.display())));
+    Some(String::from_utf8_lossy(&ran.stdout).parse().unwrap_or_else(|_| stop(&format!("{} tells no version", path.display()))))
+}
+
+fn check_version(path: &Path, found: Option<u32>) {
+    let part = |name: &str| -> u32 { env::var(name).unwrap().parse().unwrap() };
+    let (major, minor) = (part("CARGO_PKG_VERSION_MAJOR"), part("CARGO_PKG_VERSION_MINOR"));
+    let needs = format!("this crate needs {major}.{minor} or a later {major}");
+    match found {
+        None => stop(&format!("{} is older than 1.0.0 (it has no wengeludo_version); {needs}", path.display())),
+        Some(n) if n / 10_000 != major || n / 100 % 100 < minor => {
+            stop(&format!("{} is version {}.{}.{}; {needs}", path.display(), n / 10_000, n / 100 % 100, n % 100))
+        }
+        Some(_) => {}
+    }
 }

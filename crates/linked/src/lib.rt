@@ -1,8 +1,9 @@
-// The sheet call, the plant writer, the sheet reader, the translator, the two moves, meters to buy, the survey, meters worth a
+// The version, the sheet call, the plant writer, the sheet reader, the translator, the two moves, meters to buy, the survey, meters worth a
 // visit, steam charges, the check of a sheet and numbers of the places for programs in C and Rust: functions on numbers and slices
 // of numbers.
 use plants::Plant;
 use sheet_lent::balance_lent;
+ghost use mathlib.Core.Path.{_≡_};
 ghost use Prim.Native.Nat.{_<_, _^_};
 ghost use Rattle.sheet_lent.specs.Lent.{LentSays};
 ghost use Rattle.plants.specs.Limits.{places};
@@ -18,6 +19,15 @@ ghost use Rattle.foreign_def.specs.Says.{CheckSays};
 ghost use Rattle.foreign_def.specs.Numbers.{NumbersLent};
 ghost use Rattle.visit_parts.specs.Lent.{VisitsHandOver};
 ghost use Rattle.charge_parts.specs.Lent.{ChargesHandOver};
+ghost use Rattle.version.specs.Version.{version};
+
+// The version as one number: 10,000 is 1.0.0.
+#[no_mangle]
+pub extern "C" fn wengeludo_version() -> u32
+    ensures { λ r. ⌜ r ≡ version ⌝ }
+{
+    version::version_number()
+}
 
 // The sheet call: the file's sheet in the slice, drawn for an office, its bytes counted and the office's last number one higher; or
 // a refusal number, none counted, slice and numbers as they were. Fewer than eight last numbers are refused as 1; those past the

@@ -40,6 +40,9 @@
 //!
 //! A caller who has memory of its own uses [`Offices::draw_into`], [`Plant::write_into`], [`plant_from_transmitter_into`],
 //! [`to_ranged_into`] and [`from_ranged_into`], which allocate nothing.
+//!
+//! The archive that this crate links has the version [`version`]; the crate takes any of its own major version whose minor version
+//! is no lower.
 #![deny(missing_docs)]
 #![deny(unsafe_op_in_unsafe_fn)]
 
@@ -63,10 +66,15 @@ pub use moves::{from_ranged, from_ranged_into, to_ranged, to_ranged_into};
 pub use offices::{Offices, OFFICES};
 pub use plant::Plant;
 pub use purchase::{meters_to_buy, Purchase};
+pub use raw::version;
 pub use refusal::{Places, Refusal};
 pub use sheet::{Record, Sheet, TotalKind, Verdict};
 pub use transmitter::{plant_from_transmitter, plant_from_transmitter_into, Transmitter};
 pub use visits::{visits, Visit};
+
+/// The version of this crate, a number like [`version`]'s: 10,000 is 1.0.0. Building it against an archive of another major
+/// version, or of a lower minor one, fails.
+pub const VERSION: u32 = 10_000;
 
 /// The least sheet slice that is taken.
 pub const SHEET_SIZE: usize = 880;

@@ -40,10 +40,9 @@ impl Offices {
     /// let mut offices = Offices::from_last(7);
     /// assert_eq!(offices.draw(0, &[1, 1, 4, 1]), Err(Refusal::EndCount));
     /// assert_eq!(offices.draw(8, &[1, 1, 4, 0]), Err(Refusal::NoOffice));
-    /// let Err(Refusal::NoFlow(marked)) = offices.draw(0, &Plant::new(1).metered_within(0, 1, 10, 5, 1, 9).file()?) else {
-    ///     panic!("a dead end that takes in 1 at least");
-    /// };
-    /// assert!(marked.has(1) && !marked.has(0));
+    /// // A dead end that takes in 1 at least.
+    /// let refused = offices.draw(0, &Plant::new(1).metered_within(0, 1, 10, 5, 1, 9).file()?);
+    /// assert!(matches!(refused, Err(Refusal::NoFlow(marked)) if marked.has(1) && !marked.has(0)));
     /// assert_eq!(offices, Offices::from_last(7));
     /// assert_eq!(offices.draw(0, &[1, 1, 4, 0])?.to_string(), "total 8 0 0 none\n");
     /// assert_eq!(offices.draw(3, &[1, 1, 4, 0])?.to_string(), "total 1 0 0 none\n");

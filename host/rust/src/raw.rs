@@ -3,6 +3,7 @@
 //! The rest of this crate is easier to use. These are for a caller who keeps numbers, and for tests.
 
 extern "C" {
+    fn wengeludo_version() -> u32;
     fn wengeludo_balance_plant(
         file: *const u8,
         file_length: usize,
@@ -118,6 +119,12 @@ extern "C" {
 
 // A length is 64 bits wide in the archive.
 const _: () = assert!(usize::BITS == 64);
+
+/// The version of the archive: 10,000 is 1.0.0.
+pub fn version() -> u32 {
+    // SAFETY: the call takes nothing and reads nothing.
+    unsafe { wengeludo_version() }
+}
 
 /// The sheet call of an office, 0 to 7; `lasts` are the offices' last sheet numbers. 0: the sheet is at the front of `sheet`,
 /// `written` its length, the office's last number one higher, and all others are as they were. Another number: a refusal; `written`

@@ -38,8 +38,9 @@ impl Record {
     }
 }
 
-/// The verdict of the test.
+/// The verdict of the test. A later version may have more of them.
 #[derive(Clone, Copy, Debug, PartialEq, Eq, Hash)]
+#[non_exhaustive]
 pub enum Verdict {
     /// The cost is at most the critical value.
     Pass,
@@ -100,15 +101,21 @@ impl Sheet {
     pub fn from_bytes(bytes: &[u8]) -> Result<Sheet, Refusal> {
         let (mut kinds, mut flows, mut total) = ([0; MAX_STREAMS], [0; MAX_STREAMS], Total::default());
         Refusal::check(raw::read_sheet(bytes, &mut kinds, &mut flows, &mut total))?;
+        // What no sheet reader hands over is not taken for something that it does.
         let record = |(kind, flow): (&u8, &i64)| match kind {
-            0x11 => Record::Adjusted(*flow),
-            0x12 => Record::AsRead(*flow),
-            0x13 => Record::Given(*flow),
-            _ => Record::Withheld,
+            0x11 => Ok(Record::Adjusted(*flow)),
+            0x12 => Ok(Record::AsRead(*flow)),
+            0x13 => Ok(Record::Given(*flow)),
+            0x14 => Ok(Record::Withheld),
+            _ => Err(Refusal::SheetRecord),
         };
         Ok(Sheet {
-            records: kinds.iter().zip(&flows).take(total.count).map(record).collect(),
-            kind: if total.kind == 0x1F { TotalKind::Plain } else { TotalKind::Office },
+            records: kinds.iter().zip(&flows).take(total.count).map(record).collect::<Result<_, _>>()?,
+            kind: match total.kind {
+                0x1E => TotalKind::Office,
+                0x1F => TotalKind::Plain,
+                _ => return Err(Refusal::SheetTotal),
+            },
             office: total.office,
             number: total.sheet,
             cost: total.cost,
@@ -116,8 +123,9 @@ impl Sheet {
             verdict: match total.verdict {
                 0 => Verdict::Pass,
                 1 => Verdict::Fail,
+                2 => Verdict::None,
                 3 => Verdict::Close,
-                _ => Verdict::None,
+                _ => return Err(Refusal::SheetTotal),
             },
         })
     }

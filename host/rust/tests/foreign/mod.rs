@@ -42,7 +42,10 @@ fn other(plant: &Listed) -> Option<Kept> {
 
 /// The bounds of the difference of the numbers at a stream's ends, where they are asked.
 fn bounds(s: &Stream, flow: i64) -> (Option<i128>, Option<i128>) {
-    let Some((weight, reading)) = s.meter else { return (Some(0), Some(0)) };
+    let (weight, reading) = match s.meter {
+        Some(meter) => meter,
+        None => return (Some(0), Some(0)),
+    };
     let d = i128::from(flow) - i128::from(reading);
     let (low, high) = s.limits().map_or((None, None), |(low, high)| (Some(low), Some(high)));
     let bound = |end: Option<i64>, one: i128| (end != Some(flow)).then_some(i128::from(weight) * (2 * d + one));
@@ -51,7 +54,10 @@ fn bounds(s: &Stream, flow: i64) -> (Option<i128>, Option<i128>) {
 
 /// The rules, one after the other.
 fn passes(plant: &Listed, kept: &Kept, numbers: &[i64]) -> bool {
-    let Some(ours) = ours(plant) else { return false };
+    let ours = match ours(plant) {
+        Some(ours) => ours,
+        None => return false,
+    };
     let kinds = |kept: &Kept| kept.streams.iter().map(|(kind, _)| *kind).collect::<Vec<u8>>();
     if numbers.len() != usize::from(plant.units) + 1 || numbers.iter().any(|x| !(-LIMIT..=LIMIT).contains(x)) {
         return false;

@@ -64,7 +64,10 @@ fn found(call: &Call, forth: bool) -> Result<Outcome, String> {
 
 /// A file without ranges, there and home, is the file itself, and its sheet is the same in the ranged form.
 fn trip(call: &Call) -> Result<(), String> {
-    let Ok(plant) = read(&call.file) else { return Ok(()) };
+    let plant = match read(&call.file) {
+        Ok(plant) => plant,
+        Err(_) => return Ok(()),
+    };
     if plant.streams.iter().any(|s| s.limits().is_some()) {
         return Ok(());
     }

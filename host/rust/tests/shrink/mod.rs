@@ -122,7 +122,10 @@ fn nearer(x: i32) -> Vec<i32> {
 
 /// No range; or one with an end nearer to 0, or both.
 fn simpler_ranges(range: Option<(i32, i32)>) -> Vec<Option<(i32, i32)>> {
-    let Some((low, high)) = range else { return Vec::new() };
+    let (low, high) = match range {
+        Some(ends) => ends,
+        None => return Vec::new(),
+    };
     let lows = nearer(low).into_iter().map(|x| (x, high));
     let highs = nearer(high).into_iter().map(|x| (low, x));
     let both = nearer(low).into_iter().zip(nearer(high));

@@ -1,0 +1,2 @@
+-- The version of the part.
+pub mod Version

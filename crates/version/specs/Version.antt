@@ -1,0 +1,15 @@
+-- The version of the part, by semantic versioning, and the number that tells it.
+use Prim.Native.Nat.{ℕ, _+_, _*_}
+
+abbrev pub major : ℕ
+major = 1
+
+abbrev pub minor : ℕ
+minor = 0
+
+abbrev pub patch : ℕ
+patch = 0
+
+-- Two digits for each of the last two: 10,000 is 1.0.0.
+abbrev pub version : ℕ
+version = 10000 * major + 100 * minor + patch

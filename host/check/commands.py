@@ -1,0 +1,276 @@
+#!/usr/bin/env python3
+"""Every command that README.md, docs/, samples/README.md and reference/README.md name, read out of the text and run.
+
+    python3 host/check/commands.py          runs them; status 1 where one fails or prints something else than the text says
+    python3 host/check/commands.py --all    also those that take minutes
+    python3 host/check/commands.py --list   prints what would be done with each
+
+A command is a line that starts with `$ ` in a block marked sh (the lines below it are what it prints; `...` stands for any lines), a
+line of an indented block, or a piece of code in a sentence, where it starts with the name of a program. Blocks marked c, cpp and rust are
+compiled, those in Rust run too. docs/changes tells of older versions and is left out. The archive must be there (`rt staticlib
+linked`). What test_all.sh runs by itself is not run again, unless the text has what it prints. The rules below say which commands are run
+with other words, and which are not run; a rule that fits no command is an error.
+"""
+import glob
+import os
+import re
+import shutil
+import subprocess
+import sys
+import tempfile
+from typing import NamedTuple
+
+ROOT = os.path.abspath(os.path.join(os.path.dirname(__file__), '..', '..'))
+ARCHIVE = 'target/staticlib/liblinked.a'
+FIRST = re.compile(r'^(?:[A-Z_]+=\S+ )*(?:(?:rt|bash|sh|cargo|python3|cc|c\+\+|cmake|ctest|pkg-config|man|time|mkdir|cp|git|pip|dot) +\S'
+                   r'|target/(?:bin|host)/\S+(?: |$))')
+LIMIT = 900  # seconds for one command
+
+
+class Rule(NamedTuple):
+    pattern: str
+    do: str  # run, long, not
+    word: str  # the words that are run, or why none are
+
+
+RULES = [
+    Rule(r'time bash \.ci/run', 'not', 'test_all.sh runs it, without a clock'),
+    Rule(r'bash test_all\.sh( --after-gate)?', 'not', 'this test is a part of it'),
+    Rule(r'rt must-fail \[NAME\.\.\]', 'run', 'rt must-fail version'),
+    Rule(r'python3 host/check/commands\.py.*', 'not', 'this test itself'),
+    Rule(r'python3 host/check/archive\.py --write', 'not', 'it changes a text'),
+    Rule(r'python3 host/check/(refusals|picture)\.py --write', 'not', 'it changes texts'),
+    Rule(r'python3 host/check/seconds\.py (crates|edits|modules).*', 'run', r'python3 host/check/seconds.py \1 version'),
+    Rule(r'bash install\.sh (--uninstall )?PREFIX', 'run', r'bash install.sh \1"$PREFIX"'),
+    Rule(r'target/host/(balance_file samples/overfull_site|charges_file samples/twin_lines)\.bin.*', 'run', r'\g<0> || [ $? = 1 ]'),
+    Rule(r'cargo doc --open', 'run', 'cargo doc --offline --no-deps'),
+    Rule(r'(?:WENGELUDO_\w+=\d+ )*(cargo test .*)', 'run', r'WENGELUDO_INPUTS=2000 WENGELUDO_SURVEYS=100 \1'),
+    Rule(r'bash host/bench/(run|visits|checks)\.sh.*', 'run', r'bash host/bench/\1.sh 2 1'),
+    Rule(r'bash host/bench/compare\.sh BEFORE\.a AFTER\.a.*', 'long', f'bash host/bench/compare.sh {ARCHIVE} {ARCHIVE} 2 1'),
+    Rule(r'bash host/bench/groups\.sh .*', 'not', 'it needs the checkout of another version'),
+    Rule(r'bash host/fuzz/run\.sh \S+', 'run', 'bash host/fuzz/run.sh 1'),
+    Rule(r'python3 reference/desk_tool\.py --hold', 'long', r'\g<0>'),
+    Rule(r'python3 reference/(brute|certify)\.py', 'long', r'\g<0>'),
+    Rule(r'python3 reference/make_cases\.py --write', 'not', 'it changes files; --check compares them'),
+    Rule(r'time COMMAND', 'not', 'a form, with any command'),
+]
+
+
+class Command(NamedTuple):
+    text: str
+    where: str
+    folder: str
+    prints: list  # lines
+
+
+class Code(NamedTuple):
+    language: str
+    text: str
+    where: str
+
+
+def texts():
+    found = ['README.md', 'samples/README.md', 'reference/README.md']
+    found += sorted(os.path.relpath(path, ROOT) for path in glob.glob(os.path.join(ROOT, 'docs', '*.md')))
+    return [path for path in found if os.path.exists(os.path.join(ROOT, path))]
+
+
+def folder_of(command, after):
+    """Where a command is run: as the text says behind it, cargo in the Rust crate, all else at the root."""
+    told = re.match(r'[^`.;|]{0,20}\bin `?(host/\w+)', after)
+    if told:
+        return told.group(1)
+    return 'host/rust' if re.search(r'(^| )cargo ', command) else '.'
+
+
+def read(path):
+    """The commands and the code of a text, in their order."""
+    with open(os.path.join(ROOT, path), encoding='utf-8') as file:
+        lines = file.read().split('\n')
+    commands, codes, block = [], [], None
+    for number, line in enumerate(lines, 1):
+        where = f'{path}:{number}'
+        if line.startswith('```'):
+            if block is None:
+                block = (line[3:].strip(), where, [])
+            else:
+                language, start, inside = block
+                block = None
+                if language == 'sh':
+                    commands += session(inside, start)
+                elif language in ('c', 'cpp', 'rust'):
+                    codes.append(Code(language, '\n'.join(inside) + '\n', start))
+        elif block is not None:
+            block[2].append(line)
+        elif line.startswith('    ') and FIRST.match(line.strip()):
+            text = re.sub(r'\s+#.*$', '', line.strip())
+            commands.append(Command(text, where, folder_of(text, ''), []))
+        else:
+            for piece in re.finditer(r'`([^`]+)`', line):
+                if FIRST.match(piece.group(1)):
+                    after = line[piece.end():]
+                    commands.append(Command(piece.group(1), where, folder_of(piece.group(1), after), []))
+    return commands, codes
+
+
+def session(lines, start):
+    """The commands of a block marked sh, each with what it prints."""
+    found = []
+    for line in lines:
+        if line.startswith('$ '):
+            found.append((line[2:].strip(), []))
+        elif found and line.strip():
+            found[-1][1].append(line)
+    return [Command(text, start, folder_of(text, ''), prints if set(prints) != {'...'} else []) for text, prints in found]
+
+
+def plan(command):
+    """What is done with a command, the words that are run, and the rule that says so."""
+    if not command.prints and command.text in ELSEWHERE:
+        return 'elsewhere', 'test_all.sh', None
+    for rule in RULES:
+        if re.fullmatch(rule.pattern, command.text):
+            words = rule.word if rule.do == 'not' else re.sub(rule.pattern, rule.word, command.text, count=1)
+            return rule.do, words, rule
+    return 'run', command.text, None
+
+
+class InTestAll:
+    """The commands that test_all.sh runs by itself, without comparing what they print."""
+
+    def __init__(self):
+        with open(os.path.join(ROOT, 'test_all.sh'), encoding='utf-8') as file:
+            self.lines = [line for line in file.read().split('\n') if not line.lstrip().startswith('#')]
+
+    def __contains__(self, command):
+        whole = re.compile(r'(?<![\w/."])' + re.escape(command) + r'(?![\w/.-])')
+        return any(whole.search(line) for line in self.lines)
+
+
+ELSEWHERE = InTestAll()
+
+
+def fits(prints, said):
+    """Whether the lines are those that the text has, `...` standing for any."""
+    if '...' not in prints:
+        return list(prints) == said
+    parts, part = [], []
+    for line in prints:
+        if line == '...':
+            parts.append(part)
+            part = []
+        else:
+            part.append(line)
+    parts.append(part)
+    if said[:len(parts[0])] != parts[0] or (parts[-1] and said[-len(parts[-1]):] != parts[-1]):
+        return False
+    at = len(parts[0])
+    for part in parts[1:-1]:
+        while part and said[at:at + len(part)] != part:
+            at += 1
+            if at > len(said):
+                return False
+        at += len(part)
+    return at <= len(said) - len(parts[-1])
+
+
+def environment(work):
+    """A scratch prefix for install.sh, in which compilers and tools look."""
+    prefix = os.path.join(work, 'prefix')
+    more = {'PREFIX': prefix, 'PKG_CONFIG_PATH': f'{prefix}/lib/pkgconfig', 'CMAKE_PREFIX_PATH': prefix, 'CPATH': f'{prefix}/include',
+            'LIBRARY_PATH': f'{prefix}/lib', 'LD_LIBRARY_PATH': f'{prefix}/lib'}
+    return {**os.environ, **more}
+
+
+def run(words, folder, env):
+    """Status, what was printed on standard output, and all that was said."""
+    done = subprocess.run(['bash', '-c', 'set -e; ' + words], cwd=os.path.join(ROOT, folder), env=env, text=True, errors='replace',
+                          stdin=subprocess.DEVNULL, stdout=subprocess.PIPE, stderr=subprocess.PIPE, timeout=LIMIT)
+    return done.returncode, done.stdout.rstrip('\n').split('\n') if done.stdout else [], done.stdout + done.stderr
+
+
+def compile_code(code, work, env):
+    """Compiles a piece of code as a text has it; what is wrong with it, or nothing."""
+    if code.language == 'rust':
+        folder = os.path.join(work, 'user')
+        os.makedirs(os.path.join(folder, 'src'), exist_ok=True)
+        with open(os.path.join(folder, 'Cargo.toml'), 'w', encoding='utf-8') as file:
+            file.write('[package]\nname = "user"\nversion = "0.1.0"\nedition = "2021"\n[dependencies]\n'
+                       f'wengeludo_balance = {{ path = "{ROOT}/host/rust" }}\n[workspace]\n')
+        with open(os.path.join(folder, 'src', 'main.rs'), 'w', encoding='utf-8') as file:
+            file.write(code.text)
+        words = f'cd {folder} && cargo run --offline --quiet'
+    else:
+        heads = [line for line in code.text.split('\n') if line.startswith('#include')]
+        inside = [line for line in code.text.split('\n') if not line.startswith('#include')]
+        plus = code.language == 'cpp'
+        ahead = ['#include <array>', '#include <cstdio>', '#include <vector>'] if plus else []
+        given = 'const std::vector<std::uint8_t> &file, std::uint8_t office' if plus else 'const uint8_t *file, size_t file_length, uint8_t office'
+        path = os.path.join(work, 'code.' + code.language)
+        with open(path, 'w', encoding='utf-8') as file:
+            file.write('\n'.join(ahead + heads + [f'int customer({given});', f'int customer({given})', '{'] + inside + ['return 0;', '}', '']))
+        words = f'{"g++ -std=c++17" if plus else "cc -std=c11"} -Wall -Wextra -Werror -fsyntax-only -I host/include {path}'
+    status, _, said = run(words, '.', env)
+    return '' if status == 0 else said
+
+
+def main(args):
+    if args not in ([], ['--all'], ['--list']):
+        sys.exit('usage: python3 host/check/commands.py [--all | --list]')
+    if args != ['--list'] and not os.path.exists(os.path.join(ROOT, ARCHIVE)):
+        sys.exit(f'commands: no {ARCHIVE}: build it with `rt staticlib linked`')
+    commands, codes = [], []
+    for path in texts():
+        found = read(path)
+        commands += found[0]
+        codes += found[1]
+    once = {}  # each command where it stands first, with all that texts say of what it prints
+    for command in commands:
+        first = once.setdefault((command.text, command.folder), command._replace(prints=[]))
+        if command.prints:
+            first.prints.append(command.prints)
+    fitted = {rule.pattern for rule in (plan(command)[2] for command in once.values()) if rule}
+    failed, counts, ran = [], {'run': 0, 'elsewhere': 0, 'long': 0, 'not': 0, 'code': 0}, set()
+    work = tempfile.mkdtemp(prefix='commands')
+    env = environment(work)
+    os.makedirs(os.path.join(ROOT, 'target', 'host'), exist_ok=True)
+    try:
+        for command in once.values():
+            do, words, _ = plan(command)
+            if args == ['--list']:
+                print(f'{do:9} {command.where:28} {command.text}' + (f'  =>  {words}' if words != command.text else ''))
+                continue
+            counts[do] += 1
+            if do in ('not', 'elsewhere') or (do == 'long' and not args):
+                continue
+            if (words, command.folder) in ran and not command.prints:
+                continue
+            ran.add((words, command.folder))
+            try:
+                status, printed, said = run(words, command.folder, env)
+            except subprocess.TimeoutExpired:
+                status, printed, said = 124, [], f'still running after {LIMIT} seconds'
+            if status != 0:
+                failed.append(f'{command.where}: `{words}` ended with status {status}:\n{said[-2000:]}')
+            elif not all(fits(prints, printed) for prints in command.prints):
+                failed.append(f'{command.where}: `{words}` does not print what the text says:\n{said[-2000:]}')
+        for code in codes if args != ['--list'] else []:
+            counts['code'] += 1
+            wrong = compile_code(code, work, env)
+            if wrong:
+                failed.append(f'{code.where}: the code in {code.language} is not taken:\n{wrong[-2000:]}')
+    finally:
+        shutil.rmtree(work)
+    failed += [f'host/check/commands.py: no text has a command for the rule {rule.pattern}' for rule in RULES if rule.pattern not in fitted]
+    for text in failed:
+        print(f'commands: {text}', file=sys.stderr)
+    if failed:
+        sys.exit(1)
+    if args != ['--list']:
+        later = '' if args else f', {counts["long"]} take minutes (--all)'
+        print(f'commands: {len(once)} commands of {len(texts())} texts: {counts["run"] + (counts["long"] if args else 0)} run{later}, '
+              f'{counts["elsewhere"]} run by test_all.sh itself, {counts["not"]} not to be run; {counts["code"]} pieces of code compiled')
+
+
+if __name__ == '__main__':
+    main(sys.argv[1:])

@@ -1,0 +1,21 @@
+#!/usr/bin/env bash
+# wengeludo.hpp with g++ and clang++, warnings as errors: the example's sheet, and what slices take, in C++17 and C++20.
+set -eu
+cd "$(dirname "$0")/../.."
+archive=target/staticlib/liblinked.a
+[ -e "$archive" ] || { echo "no $archive: build it with 'rt staticlib linked'" >&2; exit 2; }
+mkdir -p target/host/cpp
+tried=""
+for compiler in ${CXX:-g++ clang++}; do
+    command -v "$compiler" >/dev/null || { echo "no $compiler: install it (Debian: apt-get install g++ clang)" >&2; exit 2; }
+    for standard in c++17 c++20; do
+        for program in balance_site slices; do
+            "$compiler" -std="$standard" -Wall -Wextra -pedantic -Wconversion -Werror -fno-exceptions -fno-rtti -O1 -I host/include \
+                "host/cpp/$program.cpp" "$archive" -o "target/host/cpp/$program"
+        done
+        target/host/cpp/slices
+        target/host/cpp/balance_site | cmp - samples/listing.expected
+    done
+    tried="$tried $compiler"
+done
+echo "wengeludo.hpp: the listing's sheet and every call, in C++17 and C++20, by$tried"

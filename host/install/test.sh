@@ -1,0 +1,106 @@
+#!/usr/bin/env bash
+# install.sh in a scratch prefix, as a customer uses it: pkg-config, plain cc, CMake, the manual pages, the Rust crate, DESTDIR, and
+# that uninstalling leaves nothing.
+set -eu
+cd "$(dirname "$0")/../.."
+for tool in pkg-config cmake man groff readelf cargo; do
+    command -v "$tool" >/dev/null || { echo "install/test: no $tool (Debian: apt-get install pkgconf cmake man-db groff-base binutils)" >&2; exit 2; }
+done
+work=$(mktemp -d)
+trap 'rm -rf "$work"' EXIT
+prefix=$work/prefix
+fail() { echo "install/test: $*" >&2; exit 1; }
+listing() { # program and its words: prints the listing's sheet
+    "$@" samples/listing.bin | cmp -s - samples/listing.expected || fail "$1 does not print the sheet of samples/listing.bin"
+}
+sheet() { "$1" | cmp -s - samples/listing.expected || fail "$1 does not print the listing's sheet"; }
+quiet() { "$@" >"$work/log" 2>&1 || { cat "$work/log" >&2; fail "$*"; }; }
+
+quiet bash install.sh "$prefix"
+quiet bash install.sh "$prefix" # a second time over the first
+version=$(sed -n 's/^Version: //p' "$prefix/lib/pkgconfig/wengeludo.pc")
+export PKG_CONFIG_PATH=$prefix/lib/pkgconfig LD_LIBRARY_PATH=$prefix/lib
+
+# The shared library: its name, and the calls of the header and nothing else.
+readelf -d "$prefix/lib/libwengeludo.so" | grep -q 'SONAME.*\[libwengeludo.so.1\]' || fail "soname"
+nm -D --defined-only "$prefix/lib/libwengeludo.so" | awk '$2 == "T" { sub("@.*", "", $3); print $3 }' | sort >"$work/exported"
+grep -oE '^uint(8|32)_t wengeludo_[a-z_]+' "$prefix/include/wengeludo_balance.h" | awk '{ print $2 }' | sort >"$work/declared"
+cmp "$work/exported" "$work/declared" || fail "the shared library does not export the calls of the header"
+nm -g --defined-only "$prefix/lib/libwengeludo.a" | awk '$2 == "T" { print $3 }' | sort | cmp - "$work/declared" || fail "the archive's calls"
+nm -u "$prefix/lib/libwengeludo.a" | awk 'NF == 2 { print $2 }' | sort | tr '\n' ' ' >"$work/needs"
+[ "$(cat "$work/needs")" = "memcpy memset " ] || fail "the archive needs $(cat "$work/needs")"
+
+# pkg-config, plain cc, the archive by its name.
+[ "$(pkg-config --modversion wengeludo)" = "$version" ] || fail "pkg-config --modversion"
+# shellcheck disable=SC2046
+"${CC:-cc}" host/c/balance_file.c $(pkg-config --cflags --libs wengeludo) -o "$work/by_pkg_config"
+listing "$work/by_pkg_config"
+(cd "$work" && cp "$OLDPWD/host/c/balance_file.c" x.c && CPATH=$prefix/include LIBRARY_PATH=$prefix/lib "${CC:-cc}" x.c -lwengeludo -o by_cc)
+listing "$work/by_cc"
+readelf -d "$work/by_cc" | grep -q 'NEEDED.*libwengeludo.so.1' || fail "cc -lwengeludo did not take the shared library"
+(cd "$work" && CPATH=$prefix/include LIBRARY_PATH=$prefix/lib "${CC:-cc}" x.c -l:libwengeludo.a -o by_archive)
+LD_LIBRARY_PATH='' listing "$work/by_archive"
+
+# CMake: three programs; a version that is not there is not found.
+quiet cmake -S host/install/cmake -B "$work/cmake" -DCMAKE_PREFIX_PATH="$prefix" -DSOURCES="$PWD"
+quiet cmake --build "$work/cmake"
+listing "$work/cmake/shared"
+LD_LIBRARY_PATH='' listing "$work/cmake/fixed"
+sheet "$work/cmake/plus"
+for asked in 2 0.9 1.99; do
+    mkdir -p "$work/asks"
+    sed "s/find_package(wengeludo 1 /find_package(wengeludo $asked /" host/install/cmake/CMakeLists.txt >"$work/asks/CMakeLists.txt"
+    rm -rf "$work/asks/build"
+    if cmake -S "$work/asks" -B "$work/asks/build" -DCMAKE_PREFIX_PATH="$prefix" -DSOURCES="$PWD" >"$work/log" 2>&1; then
+        fail "find_package(wengeludo $asked) took $version"
+    fi
+    grep -q 'not compatible\|compatible with requested version\|not accepted' "$work/log" || { cat "$work/log" >&2; fail "find_package(wengeludo $asked)"; }
+done
+
+# Manual pages: one for each call, nothing that groff warns of, every refusal in it.
+while read -r call; do
+    man -M "$prefix/share/man" -w "$call" >/dev/null || fail "no manual page of $call"
+done <"$work/declared"
+groff -man -ww -z "$prefix/share/man/man3/wengeludo.3" 2>"$work/log"
+[ ! -s "$work/log" ] || { cat "$work/log" >&2; fail "groff warns of the manual page"; }
+MANWIDTH=200 man -M "$prefix/share/man" wengeludo_balance_plant >"$work/page" 2>/dev/null
+for word in $(cut -f2 host/refusals.tsv | tail -n +2); do
+    grep -q "WENGELUDO_$word (" "$work/page" || fail "WENGELUDO_$word is not in the manual page"
+done
+
+# The Rust crate by itself, over the installed archive that pkg-config names.
+mkdir -p "$work/rust/host" "$work/user/src"
+cp -r host/rust "$work/rust/host/rust"
+rm -rf "$work/rust/host/rust/target"
+cp LICENCE "$work/rust/"
+cat >"$work/user/Cargo.toml" <<TOML
+[package]
+name = "user"
+version = "0.1.0"
+edition = "2021"
+[dependencies]
+wengeludo_balance = { path = "../rust/host/rust" }
+[workspace]
+TOML
+cp host/install/user.rs "$work/user/src/main.rs"
+(cd "$work/user" && LD_LIBRARY_PATH='' cargo run --offline --quiet) >"$work/said" 2>"$work/log" || { cat "$work/log" >&2; fail "the Rust crate over the installed archive"; }
+printf '1 A 101\n2 A 101\ntotal 1 50 1 pass\n' | cmp - "$work/said" || fail "the Rust crate prints something else"
+
+# docs.rs has no archive: the pages are made all the same.
+(cd "$work/rust/host/rust" && PKG_CONFIG_PATH='' DOCS_RS=1 RUSTDOCFLAGS=-Dwarnings cargo doc --no-deps --offline --quiet) 2>"$work/log" ||
+    { cat "$work/log" >&2; fail "cargo doc without an archive"; }
+
+# DESTDIR and LIBDIR: the files lie below it, and name the prefix alone.
+quiet env DESTDIR="$work/dest" LIBDIR=lib/x86_64-linux-gnu bash install.sh /usr
+grep -qx 'prefix=/usr' "$work/dest/usr/lib/x86_64-linux-gnu/pkgconfig/wengeludo.pc" || fail "DESTDIR stands in the pkg-config file"
+quiet cmake -S host/install/cmake -B "$work/cmake2" -DCMAKE_PREFIX_PATH="$work/dest/usr" -DSOURCES="$PWD" -DCMAKE_LIBRARY_ARCHITECTURE=x86_64-linux-gnu
+quiet cmake --build "$work/cmake2" --target fixed
+LD_LIBRARY_PATH='' listing "$work/cmake2/fixed"
+
+# Away again.
+quiet bash install.sh --uninstall "$prefix"
+quiet env DESTDIR="$work/dest" LIBDIR=lib/x86_64-linux-gnu bash install.sh --uninstall /usr
+left=$(find "$prefix" "$work/dest" ! -type d)
+[ -z "$left" ] || fail "left after --uninstall: $left"
+if bash install.sh >/dev/null 2>&1 || bash install.sh --bad >/dev/null 2>&1; then fail "wrong use is not refused"; fi
+echo "install: wengeludo $version by pkg-config, cc -lwengeludo, find_package and the Rust crate; $(wc -l <"$work/declared") calls with manual pages; nothing left after --uninstall"

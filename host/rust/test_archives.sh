@@ -1,0 +1,45 @@
+#!/usr/bin/env bash
+# The Rust crate with archives that it was not made for, each made here in C with the calls of target/staticlib/liblinked.a:
+#   one whose calls all return 99 (no call of the crate may take that for done), one of a later minor version (taken),
+#   one of another major version, one without a version, and none at all (the build fails and says why).
+set -eu
+cd "$(dirname "$0")/../.."
+archive=target/staticlib/liblinked.a
+[ -e "$archive" ] || { echo "no $archive: build it with 'rt staticlib linked'" >&2; exit 2; }
+work=$PWD/target/host/archives
+rm -rf "$work"
+mkdir -p "$work"
+calls=$(nm -g --defined-only "$archive" | awk '$2 == "T" { print $3 }' | grep -v '^wengeludo_version$')
+
+made() { # folder, version or none: an archive whose calls return 99
+    mkdir -p "$work/$1"
+    {
+        for call in $calls; do echo "unsigned char $call(void) { return 99; }"; done
+        [ "$2" = none ] || echo "unsigned wengeludo_version(void) { return $2; }"
+    } >"$work/$1/linked.c"
+    "${CC:-cc}" -std=c11 -Wall -Wextra -Werror -ffunction-sections -c "$work/$1/linked.c" -o "$work/$1/linked.o"
+    ar rcs "$work/$1/liblinked.a" "$work/$1/linked.o"
+}
+crate() { # folder, words for cargo
+    (cd host/rust && WENGELUDO_ARCHIVE_DIR="$work/$1" CARGO_TARGET_DIR="$work/target" cargo "$2" --offline --quiet "${@:3}")
+}
+refused() { # folder, what must be said
+    if crate "$1" build >"$work/log" 2>&1; then
+        echo "test_archives: the crate was built with the archive of $1" >&2
+        exit 1
+    fi
+    grep -qF "$2" "$work/log" || { echo "test_archives: the build with $1 does not say '$2':" >&2; cat "$work/log" >&2; exit 1; }
+}
+
+made returns_99 10000
+crate returns_99 test --test unknown_number -- --ignored 2>"$work/log" >&2 || { cat "$work/log" >&2; exit 1; }
+grep -q '1 passed' "$work/log" || { cat "$work/log" >&2; exit 1; }
+made later_minor 10100
+crate later_minor build
+made another_major 20000
+refused another_major "liblinked.a is version 2.0.0; this crate needs 1.0 or a later 1"
+made no_version none
+refused no_version "liblinked.a is older than 1.0.0"
+mkdir "$work/none"
+refused none "neither liblinked.a nor libwengeludo.a in"
+echo "rust crate: fails closed at 99; takes 1.1.0; refuses 2.0.0, an archive without a version, and none"
