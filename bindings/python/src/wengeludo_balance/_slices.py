@@ -4,7 +4,7 @@ from __future__ import annotations
 
 from typing import Any, Iterable, Tuple
 
-from ._native import ffi, lib  # type: ignore[import]
+from ._native import ffi, lib
 from .refusal import Refusal
 
 __all__ = ["ffi", "fitting", "lent", "lib", "out", "raise_for"]
