@@ -16,22 +16,25 @@ from conftest import SAMPLES
 from test_book import sound
 
 from wengeludo.book import Book
+from wengeludo.sheet import balance
+from wengeludo.site import read_site
 
 HOURS = int(os.environ.get("WENGELUDO_HOURS") or 200)
 
 
 @pytest.fixture(scope="session")
 def year(tmp_path_factory):
-    """Hours of a site, each reading with noise by its accuracy; in some hours a meter is far off."""
+    """Hours of a site: its balanced flows, each reading with noise by its accuracy; in some hours a meter is far off."""
     folder = tmp_path_factory.mktemp("year")
     rows = list(csv.DictReader((SAMPLES / "steam_site.csv").open(encoding="utf-8")))
+    flows = [line.flow for line in balance(read_site(SAMPLES / "steam_site.csv")).lines]
     rng = random.Random(8760)
     for hour in range(HOURS):
         with open(folder / f"{hour:04}.csv", "w", newline="", encoding="utf-8") as file:
             writer = csv.DictWriter(file, rows[0])
             writer.writeheader()
-            for row in rows:
-                reading = row["reading"] and round(float(row["reading"]) + rng.gauss(0, float(row["accuracy"])))
+            for row, flow in zip(rows, flows):
+                reading = row["reading"] and round(flow + rng.gauss(0, float(row["accuracy"])))
                 writer.writerow({**row, "reading": reading + 500 if reading and row["stream"] == "9" and hour % 50 == 7 else reading})
     return folder
 

@@ -1,5 +1,6 @@
 """Each page opened in a real browser: no error on its console, every stream and number in its text; it sorts, and it prints."""
 
+import html
 import json
 import os
 import re
@@ -92,6 +93,8 @@ def test_positions_are_kept(run, tmp_path):
     source.write_bytes((SAMPLES / "listing.csv").read_bytes())
     Path(tmp_path / "site.places.csv").write_text("unit,x,y\nboiler,2,2\nheader,10,6\n")
     assert run("sheet", source, "-o", tmp_path / "site.svg").status == 0
-    svg = (tmp_path / "site.svg").read_text()
-    spots = dict(re.findall(r'id="unit-(\d)".*?<path[^>]* d="M([-\d.]+)', svg, re.DOTALL))
-    assert float(spots["2"]) - float(spots["1"]) == pytest.approx(8 * 72 / 2.54, abs=20)
+    svg = html.unescape((tmp_path / "site.svg").read_text())
+    texts = re.findall(r'id="unit-(\d)".*?<text[^>]* x="([-\d.]+)" y="([-\d.]+)"', svg, re.DOTALL)
+    spots = {unit: (float(x), float(y)) for unit, x, y in texts}
+    across, down = (spots["2"][k] - spots["1"][k] for k in (0, 1))
+    assert (across, down) == pytest.approx((8 * 72 / 2.54, 4 * 72 / 2.54), abs=40)

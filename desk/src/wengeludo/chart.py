@@ -31,7 +31,7 @@ def chart(outcomes: Sequence[Outcome], title: str) -> str:
         f'<svg xmlns="http://www.w3.org/2000/svg" viewBox="0 0 {WIDTH} {HEIGHT}" {look}><title>{escape(title)}</title>'
         f'<rect width="{WIDTH}" height="{HEIGHT}" fill="#fff"/>'
         f'<text x="{LEFT}" y="18" font-size="13" font-weight="bold" fill="#1d252c">{escape(title)}</text>'
-        + _axis(y, full) + _limit(outcomes, step, y) + marks + faults + _foot(outcomes) + "</svg>\n"
+        + _axis(y, full) + marks + faults + _limit(outcomes, step, y) + _foot(outcomes) + "</svg>\n"
     )
 
 
@@ -62,7 +62,7 @@ def _limit(outcomes: Sequence[Outcome], step: float, y: Height) -> str:
         return ""
     last = points[-1].split(",")[1]
     line = f'<polyline points="{" ".join(points)}" fill="none" stroke="#1d252c" stroke-width="1.2" stroke-dasharray="5 3"/>'
-    return line + f'<text x="{WIDTH - RIGHT}" y="{float(last) - 4:.1f}" text-anchor="end" fill="#1d252c">limit</text>'
+    return line + f'<text x="{WIDTH - RIGHT}" y="{float(last) - 4:.1f}" text-anchor="end" fill="#1d252c" stroke="#fff" stroke-width="3" paint-order="stroke">limit</text>'
 
 
 def _foot(outcomes: Sequence[Outcome]) -> str:

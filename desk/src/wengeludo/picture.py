@@ -11,13 +11,14 @@ import re
 import subprocess
 import textwrap
 from html import escape
-from typing import Dict, List, Tuple
+from typing import Dict, List, Optional, Tuple
 
 from wengeludo_balance import Kind
 
 from .faults import Stopped
 from .legend import legend
 from .sheet import Balance, Line, sigmas
+from .spots import outside_spots
 
 FONT = "DejaVu Sans,Verdana,sans-serif"
 COLOURS = {Kind.ADJUSTED: "#1b6ca8", Kind.AS_READ: "#8a6d00", Kind.GIVEN: "#2e7d32", Kind.WITHHELD: "#6a3d9a"}
@@ -34,14 +35,14 @@ def picture(balance: Balance) -> str:
 
 def dot_source(balance: Balance) -> str:
     """What graphviz is given."""
-    spots = balance.site.list.spots
+    spots, ends = balance.site.list.spots, outside_spots(balance.site.list)
     lines = [
         "digraph site {",
         f'graph [rankdir=TB, nodesep=0.35, ranksep=0.3, bgcolor="transparent", fontname="{FONT}"{", splines=true" if spots else ""}];',
         f'node [fontname="{FONT}", fontsize=12, shape=box, style="filled,rounded", fillcolor="#f4f6f8", color="{GREY}", margin="0.14,0.08"];',
         f'edge [fontname="{FONT}", fontsize=9, arrowsize=0.7];',
         *(_unit(balance, place) for place in range(1, len(balance.site.list.places))),
-        *(_stream(balance, k) for k in range(len(balance.site.list.pipes))),
+        *(_stream(balance, k, ends.get(k)) for k in range(len(balance.site.list.pipes))),
         "}",
     ]
     return "\n".join(lines)
@@ -74,16 +75,13 @@ def _at(spot: Tuple[float, float]) -> str:
     return f"{spot[0] * CENTIMETRE:.1f},{-spot[1] * CENTIMETRE:.1f}!"
 
 
-def _stream(balance: Balance, k: int) -> str:
-    pipe, spots = balance.site.list.pipes[k], balance.site.list.spots
-    lines, ends = [], []
+def _stream(balance: Balance, k: int, spot: Optional[Tuple[float, float]]) -> str:
+    pipe, lines, ends = balance.site.list.pipes[k], [], []
     for place, end in ((pipe.source, "from"), (pipe.target, "to")):
         if place:
             ends.append(f"p{place}")
             continue
-        beside = spots.get(pipe.target or pipe.source)
-        turn = 2 * math.pi * (0.13 * k + 0.1)
-        pos = {"pos": _at((beside[0] + 3.2 * math.cos(turn), beside[1] + 2.4 * math.sin(turn)))} if beside else {}
+        pos = {"pos": _at(spot)} if spot else {}
         lines.append(f"o{k}{end} " + _attributes(shape="point", width=0.06, color=GREY, label="", tooltip="outside", **pos))
         ends.append(f"o{k}{end}")
     colour, style, width = _look(balance, k)
@@ -121,7 +119,8 @@ def _label(balance: Balance, k: int, colour: str) -> str:
     rows = [f'<font color="#666666">{escape(pipe.label)} </font>{large}']
     rows += [f'<font point-size="9" color="#555555">{escape(text)}</font>' for text in (_broken(pipe.what) + small) if text]
     cells = "".join(f"<tr><td>&#8195;</td><td>{row}</td></tr>" for row in rows)
-    return f'<<table border="0" cellspacing="0" cellpadding="0">{cells}</table>>'
+    ground = ' bgcolor="#ffffffb0"' if balance.site.list.spots else ""  # there lines and labels may cross
+    return f'<<table border="0" cellspacing="0" cellpadding="0"{ground}>{cells}</table>>'
 
 
 def _broken(text: str, width: int = 36) -> List[str]:
