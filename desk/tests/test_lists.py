@@ -1,6 +1,7 @@
 """Faults of lists, one by one: row, column, stream, what stands there and what would do; and lists of every shape that is taken."""
 
 import io
+from dataclasses import replace
 from pathlib import Path
 
 import openpyxl
@@ -136,6 +137,20 @@ def test_shapes_that_are_taken(text, listed):
     pipe = read_list(listed(text)).pipes[0]
     assert (pipe.label, pipe.what, pipe.source, pipe.target, pipe.reading, pipe.low, pipe.high) == ("1", "feed", 0, 1, 7979.5, 0, 9000)
     assert pipe.accuracy.deviation == pytest.approx(159.59)
+
+
+def test_titles_above_the_header(listed):
+    pipes = read_list(listed("Steam site, hour 14\n\nstream,from,to\n7,outside,boiler\n"))
+    assert [(pipe.label, pipe.row) for pipe in pipes.pipes] == [("7", 4)]
+
+
+def test_a_text_is_no_formula(tmp_path):
+    from wengeludo.packing import written
+
+    path = tmp_path / "list.xlsx"
+    pipes = read_list(Path(__file__).parents[1] / "samples" / "listing.csv")
+    path.write_bytes(written(replace(pipes, pipes=(replace(pipes.pipes[0], label="=1+1"),)), path))
+    assert read_list(path).pipes[0].label == "=1+1"
 
 
 def test_unknown_columns_are_kept(listed):

@@ -49,12 +49,19 @@ def test_layouts(sample):
     assert "".join(f"{k} {count}\n" for k, count in enumerate(counts)) == sample("listing.layouts").decode()
 
 
-def test_visits(sample):
-    assert w.visits(sample("listing.bin")) == (w.Visit(1, 0), w.Visit(4, 0))
+@pytest.mark.parametrize("name", sorted(path.stem for path in SAMPLES.glob("*.visits")))
+def test_visits(name, sample):
+    listed = "".join(f"{visit.stream} {visit.cost}\n" for visit in w.visits(sample(f"{name}.bin")))
+    assert listed == sample(f"{name}.visits").decode()
 
 
 def test_charges(sample):
-    assert w.charges(sample("listing.bin"), [5_000]) == w.Bill(((4, 49),), 49)
+    bill = w.charges(sample("billed_site.bin"), (0, 8350, 8350, 7120, 9060))
+    listed = "".join(f"{stream} {cents}\n" for stream, cents in bill.charges) + f"bill {bill.cents}\n"
+    assert listed == sample("billed_site.charges").decode()
+    with pytest.raises(w.Refusal) as caught:
+        w.charges(sample("twin_lines.bin"), (8350, 8350, 8350))
+    assert sample("twin_lines.charges").decode() == f"refused {caught.value.number}\n"
 
 
 def test_offices(sample):

@@ -84,12 +84,14 @@ class _Reader:
         rows = [(k, row) for k, row in enumerate(self.grid.rows, 1) if any(cell.strip() for cell in row)]
         if not rows:
             raise Faulty(self.path, [Fault("the list is empty: a header line with at least from and to, then a row for each stream")])
-        self.header(*rows[0])
+        top = next((k for k, (_, row) in enumerate(rows) if {"from", "to"} <= {cell.strip().casefold() for cell in row}), 0)
+        self.header(*rows[top])
         if self.faults:
             raise Faulty(self.path, self.faults)
-        self.decimal(rows[1:])
-        self.numbered(rows[1:])
-        pipes = [self.pipe(place, row) for place, row in rows[1:]]
+        rows = rows[top + 1 :]
+        self.decimal(rows)
+        self.numbered(rows)
+        pipes = [self.pipe(place, row, k) for k, (place, row) in enumerate(rows, 1)]
         self.whole_list(pipes)
         spots = self.positions()
         if self.faults:
@@ -137,8 +139,8 @@ class _Reader:
         at = self.columns.get(column, self.extras.get(column, len(row)))
         return row[at].strip() if at < len(row) else ""
 
-    def pipe(self, place: int, row: List[str]) -> Pipe:
-        label = self.cell(row, "stream") if "stream" in self.columns else str(place - 1)
+    def pipe(self, place: int, row: List[str], number: int) -> Pipe:
+        label = self.cell(row, "stream") if "stream" in self.columns else str(number)
         if not label:
             self.fault("a number or a name of the stream would do", place, "stream", found="")
         known = set(self.columns.values()) | set(self.extras.values())

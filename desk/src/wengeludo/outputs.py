@@ -8,7 +8,7 @@ import json
 import os
 import tempfile
 from pathlib import Path
-from typing import Callable, Dict, Sequence
+from typing import Any, Callable, Dict, Sequence
 
 from . import view
 from .faults import Stopped
@@ -72,12 +72,12 @@ def _xlsx(balance: Balance) -> bytes:
     sheet = book.active
     sheet.title = "sheet"
     for line in (balance.site.list.name, view.headline(balance), view.summary(balance), "", *steps(balance), ""):
-        sheet.append([safe(line)])
+        put(sheet, [line])
     sheet["A1"].font = sheet["A2"].font = Font(bold=True, size=13)
-    sheet.append(list(view.heads(balance)))
+    put(sheet, view.heads(balance))
     head = sheet.max_row
     for row in view.rows(balance):
-        sheet.append([safe(row.cells[0]), *(safe(key) if isinstance(key, str) else key for key in row.keys[1:])])
+        put(sheet, [row.cells[0], *row.keys[1:]])
         if row.mark:
             for cell in sheet[sheet.max_row]:
                 cell.fill = PatternFill("solid", fgColor="FFD9D6" if row.mark == "worst" else "FFE9C9")
@@ -92,10 +92,12 @@ def _xlsx(balance: Balance) -> bytes:
     return data.getvalue()
 
 
-def safe(text: str) -> str:
-    """A text that a spreadsheet takes as text: no formula, no character that XLSX cannot hold."""
-    clean = "".join(c for c in text if c >= " " or c in "\t\n")
-    return "'" + clean if clean[:1] in ("=", "+", "@") else clean
+def put(sheet: Any, cells: Sequence[Any]) -> None:
+    """Adds a row to a workbook's sheet. A text is a text there, never a formula, and has no character that XLSX cannot hold."""
+    sheet.append(["".join(c for c in cell if c >= " " or c in "\t\n") if isinstance(cell, str) else cell for cell in cells])
+    for cell in sheet[sheet.max_row]:
+        if cell.data_type == "f":
+            cell.data_type = "s"
 
 
 FORMS: Dict[str, Callable[[Balance], bytes]] = {

@@ -13,7 +13,7 @@ import wengeludo_balance as engine
 from .faults import Stopped
 from .lists import OUTSIDE, Pipe, PipeList
 from .numbers import accuracy, Marks
-from .outputs import safe
+from .outputs import put
 from .site import Site
 
 HEAD = ("stream", "what", "from", "to", "reading", "accuracy", "low", "high")
@@ -88,7 +88,7 @@ def written(pipes: PipeList, path: Path) -> bytes:
 
         book = Workbook()
         for row in rows:
-            book.active.append([safe(cell) if isinstance(cell, str) else cell for cell in row])
+            put(book.active, row)
         data = io.BytesIO()
         book.save(data)
         return data.getvalue()

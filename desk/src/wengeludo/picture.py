@@ -178,6 +178,7 @@ def _finished(svg: str, balance: Balance) -> str:
     full = max(width, key_width)
     head = f'<svg xmlns="http://www.w3.org/2000/svg" xmlns:xlink="http://www.w3.org/1999/xlink" viewBox="0 0 {full:.0f} {height + key_height:.0f}" '
     head += f'width="{full:.0f}pt" height="{height + key_height:.0f}pt" role="img" class="drawing"><title>{escape(balance.site.list.name)}</title>'
+    head += '<rect width="100%" height="100%" fill="#ffffff"/>'
     inner = body[body.index(">") + 1 : body.rindex("</svg>")]
     shift = (full - width) / 2
     return f'{head}<g transform="translate({shift:.1f} 0)">{inner}</g><g transform="translate({(full - key_width) / 2:.1f} {height:.1f})">{key}</g></svg>\n'
