@@ -19,7 +19,7 @@ def steps(balance: Balance) -> List[str]:
     """What an engineer does with this sheet."""
     if balance.refused:
         return _overfull(balance)
-    found = [*_verdict(balance), *_blanks(balance), *_clamps(balance), *notes(balance.site)]
+    found = [*_verdict(balance), *_blanks(balance), *_held(balance), *_clamps(balance), *notes(balance.site)]
     return found[:MOST] or ["Nothing: the meters agree, and every flow is known."]
 
 
@@ -58,6 +58,18 @@ def _blanks(balance: Balance) -> List[str]:
     known = f" Together {sums}." if sums else ""
     end = f"The cheapest meters that end it: {purchase.words(purchase.cheapest(site))}."
     return [f"Not known: {labels}, which lie on {on} without meters.{known} {end}"]
+
+
+def _held(balance: Balance) -> List[str]:
+    """Meters that read outside their range, so that the end of it stands."""
+    site = balance.site
+    told = []
+    for line in balance.lines:
+        pipe = line.pipe
+        beyond = (pipe.low is not None and (pipe.reading or 0) < pipe.low) or (pipe.high is not None and (pipe.reading or 0) > pipe.high)
+        if line.held and beyond:
+            told.append(f"{pipe.title} reads {site.shown(pipe.reading or 0)}, its {line.held} end is {site.shown(line.flow or 0)}")
+    return [f"Range or meter is off where the end of a range stands: {'; '.join(told)}."] if told else []
 
 
 def _overfull(balance: Balance) -> List[str]:
