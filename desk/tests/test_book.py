@@ -42,7 +42,7 @@ def test_kept_and_reopened(run, tmp_path):
     assert [line.split()[:2] for line in run("open", path).out.splitlines()[2:]] == [["0", "1"], ["3", "1"], ["3", "2"]]
     shown = run("open", path, "2", "--office", "3", "-o", tmp_path / "sheet.html")
     assert "checked again with its place numbers: it passes" in shown.out and "sheet 2 of office 3" in shown.out
-    assert "make-up water" in (tmp_path / "sheet.html").read_text()
+    assert "make-up water" in (tmp_path / "sheet.html").read_text() and "kept 2" in (tmp_path / "sheet.html").read_text()
     assert run("open", path, "7").status == 1
 
 
@@ -50,7 +50,9 @@ def test_the_same_sheet_comes_back(tmp_path):
     for name in ("steam_site", "two_percent", "rated_site", "blind_site"):
         book, site = Book(tmp_path / name, make=True), read_site(SAMPLES / f"{name}.csv")
         assert book.keep([(site, name)], 4) == [1]
-        back, drawn = book.sheet(4, 1).balance(), balance(site, 4)
+        kept = book.sheet(4, 1)
+        back, drawn = kept.balance(), balance(site, 4)
+        assert back.date == kept.date
         assert (back.drawn, back.lines, back.site.clamps) == (drawn.drawn, drawn.lines, drawn.site.clamps) or name == "rated_site"
         assert [(line.flow, line.spread) for line in back.lines] == [(line.flow, line.spread) for line in drawn.lines]
 

@@ -28,6 +28,8 @@ def test_statuses(run, listed):
 def test_unknown_suffix_and_stream(run):
     ended = run("sheet", SAMPLES / "steam_site.csv", "-o", "sheet.docx")
     assert ended.status == 1 and ".html, .svg, .xlsx, .csv, .json" in ended.err
+    ended = run("sheet", SAMPLES / "steam_site.csv", "-o", "no such folder/sheet.html")
+    assert ended.status == 1 and ended.err == "no such folder/sheet.html: No such file or directory\n"
     ended = run("why", SAMPLES / "listing.csv", "77")
     assert ended.status == 1 and "has no stream 77" in ended.err
     assert run("why", SAMPLES / "listing.csv").status == 2

@@ -8,7 +8,7 @@ from __future__ import annotations
 import json
 import sqlite3
 from contextlib import contextmanager
-from dataclasses import dataclass
+from dataclasses import dataclass, replace
 from datetime import datetime, timezone
 from fractions import Fraction
 from pathlib import Path
@@ -55,7 +55,7 @@ class Kept:
     def balance(self) -> Balance:
         """The sheet with its names, read by the sheet reader; Stopped where what is kept is damaged."""
         try:
-            return reopened(_site(self), self.sheet)
+            return replace(reopened(_site(self), self.sheet), date=self.date)
         except (engine.Refusal, ValueError, KeyError, TypeError, IndexError) as error:
             raise Stopped(f"sheet {self.number} of office {self.office} is damaged in the book: {error}") from None
 

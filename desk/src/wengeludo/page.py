@@ -33,7 +33,7 @@ def scale(balance: Balance) -> Optional[Scale]:
     return Scale(100 * balance.cost / full, 100 * balance.limit / full)
 
 
-def page(balance: Balance, date: Optional[datetime] = None) -> str:
+def page(balance: Balance) -> str:
     """The page of a balance as HTML."""
     environment = Environment(loader=PackageLoader("wengeludo"), autoescape=select_autoescape(), trim_blocks=True, lstrip_blocks=True)
     return environment.get_template("page.html").render(
@@ -42,5 +42,5 @@ def page(balance: Balance, date: Optional[datetime] = None) -> str:
         headline=view.headline(balance), summary=view.summary(balance),
         tone=view.tone(balance), cost_text=view.cost_text, scale=scale(balance), steps=steps(balance), notes=notes(balance.site),
         overfull=overfull(balance) if balance.refused else [], picture=Markup(picture(balance)), unit=f"{float(balance.site.unit):g}",
-        date=date or datetime.now().replace(microsecond=0),
+        date=f"kept {balance.date}" if balance.date else datetime.now().strftime("%Y-%m-%d %H:%M"),
     )

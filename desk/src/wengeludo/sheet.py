@@ -66,6 +66,7 @@ class Balance:
     sheet: Optional[engine.Sheet] = None
     drawn: bytes = b""
     marked: FrozenSet[int] = frozenset()
+    date: str = ""  # when it was kept
 
     @property
     def refused(self) -> bool:
