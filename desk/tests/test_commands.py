@@ -151,6 +151,10 @@ class TestCheck:
         overfull = (ENGINE_SAMPLES / "overfull_site.bin").read_bytes()
         assert "the plant has no sheet" in self.told(run, files(plant=overfull, numbers=[0] * 6))
 
+    def test_sample(self, run):
+        paths = [ENGINE_SAMPLES / f"rated_site{suffix}" for suffix in (".bin", ".sheet", ".numbers")]
+        assert self.told(run, paths, 0).startswith("passes")
+
     def test_no_number(self, run, files):
         paths = files()
         paths[2].write_text("1 2 x")

@@ -88,5 +88,11 @@ def test_checked(sample):
     assert caught.value.number == 26
 
 
+def test_sheet_drawn_up_elsewhere(sample):
+    numbers = [int(word) for word in sample("rated_site.numbers").split()]
+    w.check_sheet(sample("rated_site.bin"), sample("rated_site.sheet"), numbers)
+    assert w.read_sheet(sample("rated_site.sheet")).office == 3
+
+
 def test_documentation():
     assert doctest.testmod(w).failed == 0

@@ -4,11 +4,10 @@ from __future__ import annotations
 
 import csv
 import io
-import zipfile
+import warnings
 from dataclasses import dataclass, field
 from pathlib import Path
 from typing import Any, List, Tuple
-from xml.etree.ElementTree import ParseError
 
 from .faults import Fault, Faulty
 
@@ -55,14 +54,16 @@ def _lines(path: Path, data: bytes) -> Tuple[List[List[str]], str]:
 
 def _workbook(path: Path, data: bytes) -> Grid:
     import openpyxl
-    from openpyxl.utils.exceptions import InvalidFileException
 
     try:
-        values = openpyxl.load_workbook(io.BytesIO(data), data_only=True)
-        formulas = openpyxl.load_workbook(io.BytesIO(data))
-        sheets = [(one, formulas[one.title]) for one in values.worksheets[:2]]
-        tables = [_table(path, one, other) for one, other in sheets]
-    except (InvalidFileException, zipfile.BadZipFile, KeyError, ValueError, TypeError, ParseError, AttributeError, IndexError, EOFError):
+        with warnings.catch_warnings():
+            warnings.simplefilter("ignore")
+            values = openpyxl.load_workbook(io.BytesIO(data), data_only=True)
+            formulas = openpyxl.load_workbook(io.BytesIO(data))
+        tables = [_table(path, one, other) for one, other in zip(values.worksheets[:2], formulas.worksheets[:2])]
+    except Faulty:
+        raise
+    except Exception:  # of a damaged workbook the library may raise anything: zip, zlib, XML, dates, names
         raise Faulty(path, [Fault("the file is no XLSX workbook that can be read: save it anew")]) from None
     return Grid(tables[0] if tables else [], ",", tables[1] if len(tables) > 1 else [])
 
