@@ -1,6 +1,7 @@
 #!/usr/bin/env bash
 # The gate, then the archive and all that is built over it: the C programs, C++, what is installed, the Rust crate with its
-# differential tests, short runs of the benchmarks, the fuzz target, and every command that the texts name.
+# differential tests, the Python binding and the desk tool (where Debian's packages are there), short runs of the benchmarks, the
+# fuzz target, and every command that the texts name.
 #
 #     bash test_all.sh               everything
 #     bash test_all.sh --after-gate  what follows the gate
@@ -55,6 +56,8 @@ part "the Rust crate and the differential tests"
 (cd host/rust && cargo test --offline --quiet -- --nocapture)
 bash host/rust/test_archives.sh
 bash host/rust/test_oldest.sh
+part "the Python binding and the desk tool"
+bash desk/test.sh
 part "the benchmark, a short run"
 bash host/bench/run.sh 5 1 >target/host/bench.log || { tail -20 target/host/bench.log >&2; exit 1; }
 grep -E '^\| (plants|random extremes|as a site has them|tie-rich) \| (units|32) ' target/host/bench.log | head -4

@@ -1,0 +1,50 @@
+"""Steam and condensate balance sheets.
+
+>>> from wengeludo_balance import Plant, Stream, balance
+>>> file = Plant(1, (Stream(0, 1, 10, 100), Stream(1, 0, 10, 103))).file()
+>>> print(balance(file), end="")
+1 A 101
+2 A 101
+total 1 50 1 pass
+
+Every call is one of the proved archive; `Refusal` is the one exception. The calls keep no state and may run in several threads.
+"""
+
+from .meters import Bill, Purchase, Visit, charges, layouts_of, meters_to_buy, visits
+from .plant import (
+    FILE_SIZE,
+    WIDEST,
+    Plant,
+    Signal,
+    Stream,
+    from_ranged,
+    plant_from_transmitter,
+    read_plant,
+    to_ranged,
+    transmitter_file,
+    write_plant,
+)
+from .refusal import TEXTS, Refusal
+from .sheet import (
+    MAX_STREAMS,
+    NO_SHEETS,
+    OFFICES,
+    SHEET_SIZE,
+    Drawn,
+    Kind,
+    Record,
+    Sheet,
+    Verdict,
+    balance,
+    balance_plant,
+    check_sheet,
+    place_numbers,
+    read_sheet,
+)
+
+__all__ = [
+    "Bill", "Drawn", "FILE_SIZE", "Kind", "MAX_STREAMS", "NO_SHEETS", "OFFICES", "Plant", "Purchase", "Record", "Refusal",
+    "SHEET_SIZE", "Sheet", "Signal", "Stream", "TEXTS", "Verdict", "Visit", "WIDEST", "balance", "balance_plant", "charges",
+    "check_sheet", "from_ranged", "layouts_of", "meters_to_buy", "place_numbers", "plant_from_transmitter", "read_plant",
+    "read_sheet", "to_ranged", "transmitter_file", "visits", "write_plant",
+]

@@ -1,0 +1,31 @@
+"""What the calls share: slices of C numbers, and refusals raised."""
+
+from __future__ import annotations
+
+from typing import Any, Iterable, Tuple
+
+from ._native import ffi, lib
+from .refusal import Refusal
+
+__all__ = ["ffi", "fitting", "lent", "lib", "out", "raise_for"]
+
+
+def out(element: str, length: int) -> Any:
+    """Memory for a call to write to."""
+    return ffi.new(f"{element}[]", length)
+
+
+def lent(array: Any) -> Tuple[Any, int]:
+    """Pointer and length, as the calls take them."""
+    return array, len(array)
+
+
+def fitting(array: str, values: Iterable[Any], least: int, most: int, refused: int) -> Any:
+    """An array of these numbers, and in the place of one that does not fit a number that the call refuses."""
+    return ffi.new(array, [value if least <= value <= most else refused for value in values])
+
+
+def raise_for(number: int, marked: int = 0) -> None:
+    """Raises what a call returned, unless it is 0."""
+    if number:
+        raise Refusal(number, marked)

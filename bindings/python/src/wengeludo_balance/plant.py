@@ -1,0 +1,139 @@
+"""Plants: their streams, plant files and transmitter files."""
+
+from __future__ import annotations
+
+import struct
+from dataclasses import dataclass
+from typing import Iterable, Optional, Sequence, Tuple
+
+from ._slices import ffi, fitting, lib, lent, out, raise_for
+
+FILE_SIZE = lib.WENGELUDO_FILE_SIZE
+WIDEST = lib.WENGELUDO_MAX_RANGE
+_SITE, _METERED, _UNMETERED, _END, _RANGED = 0x01, 0x02, 0x03, 0x04, 0x06
+
+
+@dataclass(frozen=True)
+class Stream:
+    """A stream from one place to another; place 0 is the outside.
+
+    Without a weight it is unmetered. `low` and `high`, both or neither, are the range of a metered stream.
+    """
+
+    source: int
+    target: int
+    weight: Optional[int] = None
+    reading: int = 0
+    low: Optional[int] = None
+    high: Optional[int] = None
+
+    @property
+    def metered(self) -> bool:
+        return self.weight is not None
+
+    @property
+    def ranged(self) -> bool:
+        return self.metered and self.low is not None and self.high is not None
+
+    def unmetered(self) -> "Stream":
+        """The same pipe without its meter and range."""
+        return Stream(self.source, self.target)
+
+
+@dataclass(frozen=True)
+class Plant:
+    """Units 1 to `units`, and the streams in file order."""
+
+    units: int
+    streams: Tuple[Stream, ...] = ()
+
+    def file(self) -> bytes:
+        """The plant file. Refused: 5 to 10, 18."""
+        return write_plant(self.units, self.streams)
+
+
+@dataclass(frozen=True)
+class Signal:
+    """What a transmitter sends of a stream. Without a value: a fault."""
+
+    source: int
+    target: int
+    value: Optional[float] = None
+    deviation: float = 0.0
+    held: bool = False
+
+
+def write_plant(units: int, streams: Sequence[Stream]) -> bytes:
+    """The plant file of a plant's parts. Refused: 6, 5, then stream after stream 7 to 10, 18.
+
+    A number that does not fit its field in C is handed over as one that the call refuses.
+    """
+    metered = [s.metered for s in streams]
+    ranged = [s.ranged for s in streams]
+    columns = (
+        fitting("uint8_t[]", (s.source for s in streams), 0, 255, 255),
+        fitting("uint8_t[]", (s.target for s in streams), 0, 255, 255),
+        ffi.new("uint8_t[]", metered),
+        fitting("uint16_t[]", (s.weight or 0 for s in streams), 0, 65_535, 0),
+        fitting("int32_t[]", (s.reading for s in streams), -(2**31), 2**31 - 1, 2**31 - 1),
+        ffi.new("uint8_t[]", ranged),
+        fitting("int32_t[]", (s.low if r else 0 for s, r in zip(streams, ranged)), -(2**31), 2**31 - 1, -(2**31)),
+        fitting("int32_t[]", (s.high if r else 0 for s, r in zip(streams, ranged)), -(2**31), 2**31 - 1, 2**31 - 1),
+    )
+    file, written = out("uint8_t", FILE_SIZE), ffi.new("size_t *")
+    slices = [part for column in columns for part in lent(column)]
+    raise_for(lib.wengeludo_write_plant(units if 0 <= units <= 255 else 0, len(streams), *slices, *lent(file), written))
+    return bytes(ffi.buffer(file, written[0]))
+
+
+def read_plant(file: bytes) -> Plant:
+    """The units and streams of a plant file. Refused: 3 to 12, 18.
+
+    The archive exports no reader: the move to the ranged form, which reads as the plant reader does, decides whether the file is
+    taken, and the records are then told apart here.
+    """
+    to_ranged(file)
+    streams, at = [], 2
+    while file[at] != _END:
+        source, target = file[at + 1], file[at + 2]
+        if file[at] == _UNMETERED:
+            streams.append(Stream(source, target))
+            at += 3
+            continue
+        weight, reading = struct.unpack_from(">Hi", file, at + 3)
+        low, high = struct.unpack_from(">ii", file, at + 9) if file[at] == _RANGED else (None, None)
+        streams.append(Stream(source, target, weight, reading, low, high))
+        at += 17 if file[at] == _RANGED else 9
+    return Plant(file[1], tuple(streams))
+
+
+def _moved(call: str, file: bytes) -> bytes:
+    moved, written = out("uint8_t", FILE_SIZE), ffi.new("size_t *")
+    raise_for(getattr(lib, call)(file, len(file), *lent(moved), written))
+    return bytes(ffi.buffer(moved, written[0]))
+
+
+def to_ranged(file: bytes) -> bytes:
+    """The plant file with the widest range on each meter that had none. Refused: 3 to 12, 18."""
+    return _moved("wengeludo_to_ranged", file)
+
+
+def from_ranged(file: bytes) -> bytes:
+    """The plant file with no widest range. Refused: 3 to 12, 18, 20 where a range is narrower."""
+    return _moved("wengeludo_from_ranged", file)
+
+
+def plant_from_transmitter(file: bytes) -> bytes:
+    """The plant file that a transmitter file becomes. Refused: 3 to 12, 16, 17."""
+    return _moved("wengeludo_plant_from_transmitter", file)
+
+
+def transmitter_file(units: int, signals: Iterable[Signal]) -> bytes:
+    """A transmitter file of its parts; struct.error or OverflowError where a number does not fit its field."""
+    records = []
+    for s in signals:
+        if s.value is None:
+            records.append(struct.pack(">BBB", 0x23, s.source, s.target))
+        else:
+            records.append(struct.pack(">BBBfd", 0x22 if s.held else 0x21, s.source, s.target, s.value, s.deviation))
+    return struct.pack(">BB", _SITE, units) + b"".join(records) + struct.pack(">BB", _END, len(records))

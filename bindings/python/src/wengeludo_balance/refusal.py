@@ -1,0 +1,53 @@
+"""Refusals: the one exception of this package."""
+
+from __future__ import annotations
+
+from typing import FrozenSet
+
+TEXTS = {
+    1: "a slice is too short",
+    2: "the office's last sheet number is 4,294,967,295",
+    3: "bytes end where a record is due or inside a body",
+    4: "kind not allowed at this place",
+    5: "a 97th stream",
+    6: "the number of units is 0 or over 32",
+    7: "from or to above the number of units",
+    8: "from equals to",
+    9: "weight 0 or over 1,000",
+    10: "reading outside -4,000,000 to 4,000,000",
+    11: "end count differs from the streams read",
+    12: "bytes after the end record",
+    13: "a sheet's record is missing, cut short, a 97th or of a wrong kind",
+    14: "a field of a sheet's total is not allowed",
+    15: "bytes after a sheet's total",
+    16: "a transmitter's value is not finite",
+    17: "a transmitter's deviation is no finite number above 0",
+    18: "low above high, or either outside -2,000,000,000 to 2,000,000,000",
+    19: "no balanced flow lies within all ranges",
+    20: "moving home, a range is narrower than the widest",
+    21: "prices are not one for each unmetered stream, or one is 0 or over 1,000,000",
+    22: "the office is above 7",
+    23: "more than the 12 streams of which layouts are surveyed",
+    24: "rates are not one for each stream to the outside, or one is over 10,000",
+    25: "a charged stream is withheld",
+    26: "the sheet breaks a rule of the check, or the plant has no sheet",
+}
+
+
+class Refusal(Exception):
+    """A call was refused. Nothing was written, no sheet number was drawn.
+
+    number  the refusal's number, 1 to 26
+    text    what it means
+    places  with 19, the marked places: they must take in more than they can let out; else empty
+    """
+
+    def __init__(self, number: int, marked: int = 0) -> None:
+        self.number = number
+        self.text = TEXTS.get(number, "a number that this binding does not know")
+        self.places: FrozenSet[int] = frozenset(place for place in range(64) if marked >> place & 1)
+        super().__init__(number, marked)
+
+    def __str__(self) -> str:
+        marked = f"; too much goes into places {', '.join(map(str, sorted(self.places)))}" if self.places else ""
+        return f"refused {self.number}: {self.text}{marked}"

@@ -1,0 +1,7 @@
+#!/usr/bin/env bash
+# Draws the pictures of docs/desk anew, by the tool itself: bash desk/pictures.sh (wengeludo on the PATH)
+set -eu
+cd "$(dirname "$0")"
+for name in steam_site steam_site_off blind_site overfull_site; do
+    wengeludo sheet "samples/$name.csv" -o "../docs/desk/$name.svg" >/dev/null || [ $? -lt 4 ]
+done

@@ -1,0 +1,3 @@
+"""The desk tool: balance sheets from pipe lists, over the proved balance engine."""
+
+__version__ = "1.0.0"

@@ -1,0 +1,124 @@
+"""A folder of lists or plant files in one run: a line for each, all cores, a chart of the cost over time. One bad file stops nothing."""
+
+from __future__ import annotations
+
+import csv
+import os
+from concurrent.futures import ProcessPoolExecutor
+from dataclasses import dataclass
+from fractions import Fraction
+from pathlib import Path
+from typing import Callable, Iterator, List, Optional, Sequence, Tuple
+
+import wengeludo_balance as engine
+
+from .book import Book
+from .faults import Stopped
+from .packing import unpacked
+from .sheet import Balance, balance
+from .site import Site, read_site, site_of
+from .unit import choose
+
+HEAD = ("file", "verdict", "cost", "limit", "degrees", "blanks", "worst", "worst σ", "unit", "office", "sheet", "fault")
+SUFFIXES = (".csv", ".xlsx", ".bin")
+CHUNK = 64
+
+
+@dataclass(frozen=True)
+class Outcome:
+    """A line of the summary; the site, where it is to be kept."""
+
+    file: str
+    cells: Tuple[object, ...]
+    site: Optional[Site] = None
+
+    @property
+    def cost(self) -> Optional[float]:
+        return self.cells[1] if isinstance(self.cells[1], float) else None
+
+    @property
+    def limit(self) -> Optional[float]:
+        return self.cells[2] if isinstance(self.cells[2], float) else None
+
+
+def files_in(folder: Path) -> List[Path]:
+    """The lists and plant files of a folder, by name."""
+    try:
+        found = sorted(p for p in folder.iterdir() if p.suffix.lower() in SUFFIXES and p.is_file())
+    except OSError as error:
+        raise Stopped(f"{folder}: {error.strerror}") from None
+    return [p for p in found if not p.name.endswith(".places.csv") and not p.name.startswith(".")]
+
+
+def site_in(path: Path, unit: Optional[Fraction]) -> Site:
+    """The site of a list or of a plant file."""
+    if path.suffix.lower() != ".bin":
+        return read_site(path, unit)
+    pipes = unpacked(path)
+    return site_of(pipes, unit or choose(pipes.pipes), path)
+
+
+def outcome(path: Path, unit: Optional[Fraction], keep: bool = False) -> Outcome:
+    """What one file comes to; a fault is a line like any other."""
+    try:
+        site = site_in(path, unit)
+        drawn = balance(site, estimated=False)
+    except (Stopped, engine.Refusal, OSError) as error:
+        return Outcome(path.name, ("fault", *[""] * 9, " | ".join(str(error).splitlines())))
+    return Outcome(path.name, _cells(drawn), site if keep and not drawn.refused else None)
+
+
+def _cells(drawn: Balance) -> Tuple[object, ...]:
+    unit = f"{float(drawn.site.unit):g}"
+    if drawn.refused:
+        places = ", ".join(drawn.site.place(p) for p in sorted(drawn.marked))
+        return ("no flow in range", *[""] * 6, unit, "", "", f"overfull: {places}")
+    worst = max((line for line in drawn.lines if line.sigmas is not None), key=lambda line: abs(line.sigmas or 0), default=None)
+    off = ("", "") if worst is None else (worst.pipe.label, round(worst.sigmas or 0, 2))
+    verdict = drawn.total.verdict.name.lower()
+    limit = "" if drawn.limit is None else drawn.limit
+    return (verdict, drawn.cost, limit, drawn.total.degrees, len(drawn.blanks), *off, unit, "", "", "")
+
+
+def _work(task: Tuple[Sequence[Path], Optional[Fraction], bool]) -> List[Outcome]:
+    paths, unit, keep = task
+    return [outcome(path, unit, keep) for path in paths]
+
+
+def outcomes(paths: Sequence[Path], unit: Optional[Fraction], keep: bool, jobs: int) -> Iterator[List[Outcome]]:
+    """What the files come to, in their order, some at a time."""
+    tasks = [(paths[at : at + CHUNK], unit, keep) for at in range(0, len(paths), CHUNK)]
+    if jobs < 2 or len(tasks) < 2:
+        yield from map(_work, tasks)
+        return
+    with ProcessPoolExecutor(jobs) as pool:
+        yield from pool.map(_work, tasks)
+
+
+def run(folder: Path, summary: Path, unit: Optional[Fraction] = None, book: Optional[Book] = None, office: int = 0,
+        jobs: Optional[int] = None, told: Callable[[int, int], None] = lambda done, of: None) -> List[Outcome]:
+    """Balances every file of a folder; the summary is written as it grows. With a book each sheet is kept, and files whose sheets it has
+    are left out, so that a run that was cut off goes on where it stopped."""
+    paths = files_in(folder)
+    known = set(book.sources()) if book else set()
+    todo = [p for p in paths if str(p.resolve()) not in known]
+    done: List[Outcome] = []
+    with open(summary, "w", newline="", encoding="utf-8") as file:
+        writer = csv.writer(file)
+        writer.writerow(HEAD)
+        for some in outcomes(todo, unit, book is not None, jobs or os.cpu_count() or 1):
+            kept = _kept(some, folder, book, office)
+            writer.writerows((o.file, *o.cells) for o in kept)
+            file.flush()
+            done += [Outcome(o.file, o.cells) for o in kept]
+            told(len(done), len(todo))
+    return done
+
+
+def _kept(some: List[Outcome], folder: Path, book: Optional[Book], office: int) -> List[Outcome]:
+    """The same lines, with the numbers under which the book keeps their sheets."""
+    if book is None:
+        return some
+    sites = [(o.site, str((folder / o.file).resolve())) for o in some if o.site]
+    numbers = iter(book.keep(sites, office))
+    return [Outcome(o.file, (*o.cells[:8], office, next(numbers), o.cells[10]) if o.site else o.cells) for o in some]

@@ -1,0 +1,112 @@
+"""Files that a command writes: page, drawing, workbook, table, document. The suffix says which."""
+
+from __future__ import annotations
+
+import csv
+import io
+import json
+import os
+import tempfile
+from pathlib import Path
+from typing import Any, Callable, Dict, Sequence
+
+from . import view
+from .faults import Stopped
+from .page import page
+from .picture import picture
+from .sheet import Balance
+from .steps import steps
+
+
+def write(path: Path, data: bytes) -> None:
+    """Writes a file whole or not at all."""
+    try:
+        handle, name = tempfile.mkstemp(dir=path.parent, prefix=f".{path.name}.")
+    except OSError as error:
+        raise Stopped(f"{path}: {error.strerror}") from None
+    try:
+        with os.fdopen(handle, "wb") as file:
+            file.write(data)
+        os.chmod(name, 0o666 & ~_umask())
+        os.replace(name, path)
+    except BaseException:
+        os.unlink(name)
+        raise
+
+
+def _umask() -> int:
+    mask = os.umask(0)
+    os.umask(mask)
+    return mask
+
+
+def write_all(balance: Balance, paths: Sequence[Path]) -> None:
+    """Writes every file that is asked for."""
+    for path in paths:
+        write(path, FORMS[path.suffix.lower()](balance))
+
+
+def checked(path: Path) -> Path:
+    """A path whose suffix says what to write; Stopped if it does not."""
+    if path.suffix.lower() not in FORMS:
+        raise Stopped(f"{path}: the suffix says what is written: {', '.join(FORMS)}")
+    return path
+
+
+def _csv(balance: Balance) -> bytes:
+    text = io.StringIO(newline="")
+    writer = csv.writer(text)
+    writer.writerow(view.heads(balance))
+    for row in view.rows(balance):
+        writer.writerow([row.cells[0], *("" if key is None else key for key in row.keys[1:])])
+    return text.getvalue().encode("utf-8-sig")
+
+
+def _json(balance: Balance) -> bytes:
+    return (json.dumps(view.document(balance), indent=1, ensure_ascii=False) + "\n").encode()
+
+
+def _xlsx(balance: Balance) -> bytes:
+    from openpyxl import Workbook
+    from openpyxl.styles import Font, PatternFill
+    from openpyxl.utils import get_column_letter
+
+    book = Workbook()
+    sheet = book.active
+    sheet.title = "sheet"
+    for line in (balance.site.list.name, view.headline(balance), view.summary(balance), "", *steps(balance), ""):
+        put(sheet, [line])
+    sheet["A1"].font = sheet["A2"].font = Font(bold=True, size=13)
+    put(sheet, view.heads(balance))
+    head = sheet.max_row
+    for row in view.rows(balance):
+        put(sheet, [row.cells[0], *row.keys[1:]])
+        if row.mark:
+            for cell in sheet[sheet.max_row]:
+                cell.fill = PatternFill("solid", fgColor="FFD9D6" if row.mark == "worst" else "FFE9C9")
+    for k, name in enumerate(view.heads(balance), 1):
+        sheet.cell(head, k).font = Font(bold=True)
+        longest = max([len(name), *(len(row.cells[k - 1]) for row in view.rows(balance))])
+        sheet.column_dimensions[get_column_letter(k)].width = min(40, longest + 3)
+    sheet.freeze_panes = sheet.cell(head + 1, 1)
+    sheet.auto_filter.ref = f"A{head}:{get_column_letter(len(view.heads(balance)))}{sheet.max_row}"
+    data = io.BytesIO()
+    book.save(data)
+    return data.getvalue()
+
+
+def put(sheet: Any, cells: Sequence[Any]) -> None:
+    """Adds a row to a workbook's sheet. A text is a text there, never a formula, and has no character that XLSX cannot hold."""
+    sheet.append(["".join(c for c in cell if c >= " " or c in "\t\n") if isinstance(cell, str) else cell for cell in cells])
+    for cell in sheet[sheet.max_row]:
+        if cell.data_type == "f":
+            cell.data_type = "s"
+
+
+FORMS: Dict[str, Callable[[Balance], bytes]] = {
+    ".html": lambda balance: page(balance).encode(),
+    ".svg": lambda balance: picture(balance).encode(),
+    ".xlsx": _xlsx,
+    ".csv": _csv,
+    ".json": _json,
+}

@@ -1,0 +1,46 @@
+"""The page: one file, no network, prints on A4."""
+
+from __future__ import annotations
+
+from dataclasses import dataclass
+from datetime import datetime
+from typing import Optional
+
+from jinja2 import Environment, PackageLoader, select_autoescape
+from markupsafe import Markup
+
+from . import view
+from .picture import picture
+from .sheet import Balance
+from .site import notes
+from .steps import steps
+from .why import overfull
+
+
+@dataclass(frozen=True)
+class Scale:
+    """The cost on a scale with its limit, in per cent of its length."""
+
+    cost: float
+    limit: float
+
+
+def scale(balance: Balance) -> Optional[Scale]:
+    """Where cost and limit lie; none where there is nothing to test."""
+    if balance.refused or balance.limit is None:
+        return None
+    full = max(balance.cost * 1.05, balance.limit * 1.3)
+    return Scale(100 * balance.cost / full, 100 * balance.limit / full)
+
+
+def page(balance: Balance) -> str:
+    """The page of a balance as HTML."""
+    environment = Environment(loader=PackageLoader("wengeludo"), autoescape=select_autoescape(), trim_blocks=True, lstrip_blocks=True)
+    return environment.get_template("page.html").render(
+        site=balance.site.list.name, balance=balance, heads=view.heads(balance), numeric=view.NUMERIC,
+        looks={"balanced": "balanced", "correction": "off", "σ": "off"}, estimates=view.ESTIMATES, rows=view.rows(balance),
+        headline=view.headline(balance), summary=view.summary(balance),
+        tone=view.tone(balance), cost_text=view.cost_text, scale=scale(balance), steps=steps(balance), notes=notes(balance.site),
+        overfull=overfull(balance) if balance.refused else [], picture=Markup(picture(balance)), unit=f"{float(balance.site.unit):g}",
+        date=f"kept {balance.date}" if balance.date else datetime.now().strftime("%Y-%m-%d %H:%M"),
+    )

@@ -1,0 +1,35 @@
+#!/usr/bin/env bash
+# Tests the Python binding and the desk tool on the archive, in an environment of its own (target/desk): bash desk/test.sh
+#
+# Where Debian's packages are missing it says which and ends with 0: the engine does not need them.
+# WENGELUDO_ARCHIVE, WENGELUDO_INCLUDE   another archive and its header's folder
+# WENGELUDO_HOURS (default 200)          lists of the batch test; 8760 is a year
+# WENGELUDO_EXAMPLES (default 100)       drawn lists of each kind
+set -eu
+cd "$(dirname "$0")/.."
+python=/usr/bin/python3 # Debian's own: another python3 on the PATH sees none of Debian's packages
+modules="cffi click rich openpyxl jinja2 numpy pytest hypothesis setuptools venv"
+absent=
+for module in $modules; do "$python" -c "import $module" 2>/dev/null || absent="$absent $module"; done
+command -v dot >/dev/null || absent="$absent graphviz"
+[ -e "$("$python" -c 'import sysconfig; print(sysconfig.get_path("include"))' 2>/dev/null)/Python.h" ] || absent="$absent Python.h"
+if [ -n "$absent" ]; then
+    echo "desk: not tested, as $python has no:$absent"
+    echo "desk: apt-get install python3-venv python3-dev python3-pip python3-setuptools python3-wheel python3-cffi python3-click python3-rich" \
+        "python3-openpyxl python3-jinja2 python3-numpy python3-pytest python3-hypothesis graphviz"
+    exit 0
+fi
+command -v "${CHROMIUM:-chromium}" >/dev/null || echo "desk: pages are not opened in a browser, as there is no chromium (apt-get install chromium)"
+home=$PWD/target/desk
+[ -x "$home/bin/python3" ] || "$python" -m venv --system-site-packages "$home"
+export WENGELUDO_INCLUDE="${WENGELUDO_INCLUDE:-$PWD/host/include}" WENGELUDO_ARCHIVE="${WENGELUDO_ARCHIVE:-$PWD/target/staticlib/liblinked.a}"
+build=$(mktemp -d)
+trap 'rm -rf "$build"' EXIT
+for part in bindings/python desk; do
+    mkdir -p "$build/$part"
+    cp -r "$part/." "$build/$part/"
+    "$home/bin/python3" -m pip install --quiet --no-index --no-build-isolation --no-deps --force-reinstall --disable-pip-version-check "$build/$part"
+done
+for part in bindings/python desk; do
+    (cd "$part" && "$home/bin/python3" -m pytest -q -p no:cacheprovider)
+done

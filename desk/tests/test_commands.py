@@ -1,0 +1,171 @@
+"""Every command: its status, what it writes, and wrong use of it."""
+
+import csv
+import json
+import subprocess
+import sys
+
+import openpyxl
+import pytest
+from conftest import SAMPLES
+
+import wengeludo_balance as engine
+
+ENGINE_SAMPLES = SAMPLES.parents[1] / "samples"
+
+
+def test_statuses(run, listed):
+    assert run("sheet", SAMPLES / "steam_site.csv").status == 0
+    assert run("sheet", SAMPLES / "steam_site_off.csv").status == 3
+    assert run("sheet", SAMPLES / "overfull_site.csv").status == 1
+    faulty = run("sheet", listed("from,to,reading,accuracy\na,a,x,\n"))
+    assert faulty.status == 1 and faulty.err.count("row 2") == 2 and faulty.out == ""
+    assert run("sheet", "there is no such list.csv").status == 1
+    for wrong in ((), ("sheet",), ("nothing",), ("sheet", "--unit", "x", "a.csv"), ("sheet", "--office", "8", "a.csv")):
+        assert run(*wrong).status in ((0, 2) if wrong == () else (2,))
+
+
+def test_unknown_suffix_and_stream(run):
+    ended = run("sheet", SAMPLES / "steam_site.csv", "-o", "sheet.docx")
+    assert ended.status == 1 and ".html, .svg, .xlsx, .csv, .json" in ended.err
+    ended = run("sheet", SAMPLES / "steam_site.csv", "-o", "no such folder/sheet.html")
+    assert ended.status == 1 and ended.err == "no such folder/sheet.html: No such file or directory\n"
+    ended = run("why", SAMPLES / "listing.csv", "77")
+    assert ended.status == 1 and "has no stream 77" in ended.err
+    assert run("why", SAMPLES / "listing.csv").status == 2
+
+
+def test_outputs(run, tmp_path):
+    paths = [tmp_path / f"sheet{suffix}" for suffix in (".html", ".svg", ".xlsx", ".csv", ".json")]
+    words = [word for path in paths for word in ("-o", path)]
+    assert run("sheet", SAMPLES / "steam_site.csv", "--office", "5", "--last", "41", *words).status == 0
+    page, drawing, workbook, table, document = paths
+    assert "make-up water" in page.read_text() and drawing.read_text().startswith("<svg")
+    cells = [row for row in openpyxl.load_workbook(workbook).active.values]
+    assert ("1", "make-up water", "outside", "deaerator", 3254, 3254) in [row[:6] for row in cells]
+    rows = list(csv.reader(table.open(encoding="utf-8-sig")))
+    assert len(rows) == 27 and rows[4][:6] == ["4", "vent of the deaerator", "deaerator", "outside", "", "67.0"]
+    told = json.loads(document.read_text())
+    assert (told["office"], told["sheet"], told["verdict"], told["cost_thousandths"]) == (5, 42, "pass", 2021)
+
+
+def test_no_sheet_number_left(run):
+    ended = run("sheet", SAMPLES / "listing.csv", "--last", 2**32 - 1)
+    assert ended.status == 1 and "last sheet number is 4,294,967,295 (2)" in ended.err
+
+
+def test_bill_faults(run, listed):
+    ended = run("bill", SAMPLES / "listing.csv")
+    assert ended.status == 1 and "row 5, column rate, stream 4" in ended.err
+    text = "from,to,reading,accuracy,rate\noutside,a,100,w10,\na,outside,,,100\na,outside,,,100\n"
+    ended = run("bill", listed(text))
+    assert ended.status == 1 and "is not known (25)" in ended.err
+    text = "from,to,reading,accuracy,rate\noutside,a,100000,5000,\na,outside,,,10000\n"
+    ended = run("bill", listed(text))
+    assert ended.status == 1 and "another --unit would do" in ended.err
+
+
+@pytest.mark.parametrize("name", ["listing", "steam_site", "rated_site", "overfull_site", "small_header", "blind_site", "sighted_site"])
+def test_packed_and_unpacked(name, run, tmp_path):
+    plant = ENGINE_SAMPLES / f"{name}.bin"
+    for suffix in (".csv", ".xlsx"):
+        assert run("unpack", plant, tmp_path / f"list{suffix}").status == 0
+        assert run("pack", tmp_path / f"list{suffix}", tmp_path / "plant.bin").status == 0
+        assert (tmp_path / "plant.bin").read_bytes() == plant.read_bytes()
+
+
+def test_a_list_gives_the_sample(run, tmp_path):
+    for name in ("listing", "rated_site", "small_header", "blind_site", "overfull_site"):
+        assert run("pack", SAMPLES / f"{name}.csv", tmp_path / "plant.bin").status == 0
+        assert (tmp_path / "plant.bin").read_bytes() == (ENGINE_SAMPLES / f"{name}.bin").read_bytes(), name
+
+
+def test_transmitter(run, tmp_path):
+    assert run("unpack", ENGINE_SAMPLES / "transmitter.bin", tmp_path / "list.csv").status == 0
+    assert run("pack", tmp_path / "list.csv", tmp_path / "plant.bin").status == 0
+    assert (tmp_path / "plant.bin").read_bytes() == (ENGINE_SAMPLES / "listing.bin").read_bytes()
+    assert run("pack", "--transmitter", SAMPLES / "listing.csv", tmp_path / "sent.bin").status == 0
+    assert engine.plant_from_transmitter((tmp_path / "sent.bin").read_bytes()) == (ENGINE_SAMPLES / "listing.bin").read_bytes()
+    ended = run("pack", "--transmitter", SAMPLES / "rated_site.csv", tmp_path / "x.bin")
+    assert ended.status == 1 and "has a range" in ended.err
+
+
+def test_damaged_plant(run, listed):
+    assert "end count differs" in run("unpack", listed(b"\x01\x01\x04\x01", "plant.bin"), "x.csv").err
+    assert "(17)" in run("unpack", listed(b"\x01\x01\x21\x00\x01" + bytes(12) + b"\x04\x01", "sent.bin"), "x.csv").err
+
+
+def test_plant_files_are_lists_too(run):
+    assert run("sheet", ENGINE_SAMPLES / "steam_site.bin").status == 0
+
+
+class TestCheck:
+    @pytest.fixture
+    def files(self, tmp_path):
+        plant = (ENGINE_SAMPLES / "steam_site.bin").read_bytes()
+        sheet, numbers = engine.balance_plant(plant).sheet, engine.place_numbers(plant)
+
+        def write(plant=plant, sheet=sheet, numbers=numbers):
+            paths = [tmp_path / name for name in ("plant.bin", "sheet.bin", "numbers.txt")]
+            for path, data in zip(paths, (plant, sheet, "\n".join(map(str, numbers)).encode())):
+                path.write_bytes(data)
+            return paths
+
+        write.sheet, write.numbers = sheet, numbers
+        return write
+
+    def told(self, run, paths, status=1):
+        ended = run("check", *paths)
+        assert ended.status == status
+        return ended.out
+
+    def test_passes(self, run, files):
+        assert self.told(run, files(), 0).startswith("passes")
+
+    def test_rules(self, run, files):
+        sheet, numbers = files.sheet, list(files.numbers)
+        assert "13 place numbers for 14 places" in self.told(run, files(numbers=numbers[:-1]))
+        assert "place 2 is beyond" in self.told(run, files(numbers=numbers[:2] + [10**18 + 1] + numbers[3:]))
+        assert "no meter, and the numbers of its two places differ" in self.told(run, files(numbers=numbers[:7] + [numbers[7] + 1] + numbers[8:]))
+        assert "place numbers differ by" in self.told(run, files(numbers=[numbers[0]] * 14))
+        assert "is shown as A and is R" in self.told(run, files(sheet=b"\x11" + sheet[1:]))
+        changed = sheet[:36] + b"\x11" + (20_500).to_bytes(8, "big") + sheet[45:]
+        assert "place numbers differ by" in self.told(run, files(sheet=changed))
+        total = len(sheet) - 16
+        cost = sheet[: total + 6] + (2_022).to_bytes(8, "big") + sheet[total + 14 :]
+        assert "cost shown is 2,022 and should be 2,021" in self.told(run, files(sheet=cost))
+        verdict = sheet[:-1] + b"\x01"
+        assert "verdict shown is fail and should be pass" in self.told(run, files(sheet=verdict))
+        degrees = sheet[:-2] + b"\x06" + sheet[-1:]
+        assert "degrees shown is 6 and should be 5" in self.told(run, files(sheet=degrees))
+
+    def test_given_flow_and_missing_stream(self, run, files):
+        sheet = files.sheet
+        changed = sheet[:18] + b"\x13" + (1_993).to_bytes(8, "big") + sheet[27:]
+        assert "exceed those out by" in self.told(run, files(sheet=changed))
+        assert "the sheet has 25 streams, the plant 26" in self.told(run, files(sheet=sheet[9:]))
+
+    def test_refusals_first(self, run, files):
+        assert "(13)" in self.told(run, files(sheet=b""))
+        assert "(3)" in self.told(run, files(plant=b""))
+        overfull = (ENGINE_SAMPLES / "overfull_site.bin").read_bytes()
+        assert "the plant has no sheet" in self.told(run, files(plant=overfull, numbers=[0] * 6))
+
+    def test_sample(self, run):
+        paths = [ENGINE_SAMPLES / f"rated_site{suffix}" for suffix in (".bin", ".sheet", ".numbers")]
+        assert self.told(run, paths, 0).startswith("passes")
+
+    def test_no_number(self, run, files):
+        paths = files()
+        paths[2].write_text("1 2 x")
+        assert run("check", *paths).status == 1
+
+
+def test_closed_output_and_own_process(tmp_path):
+    command = [sys.executable, "-m", "wengeludo", "sheet", str(SAMPLES / "steam_site.csv")]
+    done = subprocess.run(command, stdout=subprocess.PIPE, stderr=subprocess.PIPE, text=True)
+    assert (done.returncode, done.stderr) == (0, "")
+    closed = subprocess.run(f"{' '.join(command)} | head -1", shell=True, capture_output=True, text=True)
+    assert closed.stderr == "" and "steam_site" in closed.stdout
+    bare = {"PATH": "/usr/bin:/bin", "LC_ALL": "C", "PYTHONIOENCODING": "ascii", "PYTHONPATH": ":".join(sys.path)}
+    assert subprocess.run(command, capture_output=True, env=bare).returncode == 0

@@ -1,0 +1,100 @@
+"""Each page opened in a real browser: no error on its console, every stream and number in its text; it sorts, and it prints."""
+
+import html
+import json
+import os
+import re
+import shutil
+import subprocess
+from pathlib import Path
+
+import pytest
+from conftest import SAMPLES
+
+from wengeludo import view
+from wengeludo.sheet import balance
+from wengeludo.site import read_site
+
+CHROMIUM = shutil.which(os.environ.get("CHROMIUM", "chromium"))
+pytestmark = pytest.mark.skipif(not CHROMIUM, reason="no chromium")
+NAMES = sorted(path.stem for path in SAMPLES.glob("*.csv") if ".places" not in path.name)
+PROBE = """
+<script>
+addEventListener("load", () => {
+  const heads = [...document.querySelectorAll("th button")];
+  const column = heads.findIndex((head) => head.textContent.startsWith("reading"));
+  heads[column].click();
+  const sorted = [...document.querySelectorAll("tbody tr")].map((row) => row.children[column].dataset.key);
+  const out = document.createElement("script");
+  out.type = "application/json"; out.id = "probe";
+  out.textContent = JSON.stringify({ text: document.body.innerText, svg: document.querySelector("svg").textContent, sorted, errors: window.errors,
+    edges: document.querySelectorAll("svg .edge").length, wide: document.documentElement.scrollWidth - innerWidth });
+  document.body.append(out);
+});
+</script>
+"""
+CATCH = '<script>window.errors = []; addEventListener("error", (event) => window.errors.push(event.message));</script>'
+
+
+def browser(profile, *words):
+    command = [CHROMIUM, "--headless", "--no-sandbox", "--disable-gpu", f"--user-data-dir={profile}", "--enable-logging=stderr", *words]
+    return subprocess.run(command, capture_output=True, text=True, timeout=300)
+
+
+def squeezed(text):
+    return " ".join(text.split())
+
+
+@pytest.mark.parametrize("name", NAMES)
+def test_page(name, run, tmp_path):
+    page = tmp_path / "page.html"
+    run("sheet", SAMPLES / f"{name}.csv", "-o", page)
+    text = page.read_text(encoding="utf-8")
+    assert not re.search(r'(?:src|href)\s*=\s*"(?!#)|url\(|@import', re.sub(r"<svg.*?</svg>", "", text, flags=re.DOTALL)), "nothing is fetched"
+    probe = tmp_path / "probe.html"
+    probe.write_text(text.replace("<body", CATCH + "<body", 1).replace("</body>", PROBE + "</body>"), encoding="utf-8")
+    done = browser(tmp_path / "profile", "--window-size=1280,1000", "--dump-dom", probe.as_uri())
+    told = json.loads(re.search(r'id="probe">(.*?)</script>', done.stdout, re.DOTALL)[1].replace("&lt;", "<").replace("&amp;", "&"))
+    assert told["errors"] == [] and "CONSOLE" not in done.stderr
+    drawn = balance(read_site(SAMPLES / f"{name}.csv"))
+    for row in view.rows(drawn):
+        for cell in row.cells:
+            assert squeezed(cell) in squeezed(told["text"])
+    svg = squeezed(told["svg"])
+    for line in drawn.lines:
+        assert line.pipe.label in svg and ("?" if line.flow is None else drawn.site.shown(line.flow)) in svg
+    for place in drawn.site.list.places[1:]:
+        assert place in svg
+    assert told["edges"] == len(drawn.site.list.pipes) and told["wide"] <= 0
+    keys = [float(key) for key in told["sorted"] if key]
+    assert keys == sorted(keys) and told["sorted"][len(keys):] == [""] * (len(told["sorted"]) - len(keys))
+
+
+def test_names_that_are_no_markup(run, listed, tmp_path):
+    text = 'stream,what,from,to,reading,accuracy\n"<b>1","<script>alert(1)</script>",outside,"a & ""b""",5,1\n2,"\\N [/red] {{7*7}}","a & ""b""",outside,5,1\n'
+    page = tmp_path / "page.html"
+    assert run("sheet", listed(text), "-o", page, "-o", tmp_path / "x.svg", "-o", tmp_path / "x.xlsx").status == 0
+    shown = page.read_text(encoding="utf-8")
+    assert "<script>alert" not in shown and "&lt;script&gt;alert(1)" in shown and "{{7*7}}" in shown
+
+
+def test_prints_on_two_pages(run, tmp_path):
+    if not shutil.which("pdfinfo"):
+        pytest.skip("no pdfinfo")
+    page, pdf = tmp_path / "page.html", tmp_path / "page.pdf"
+    run("sheet", SAMPLES / "steam_site_off.csv", "-o", page)
+    browser(tmp_path / "profile", "--print-to-pdf-no-header", f"--print-to-pdf={pdf}", page.as_uri())
+    told = subprocess.run(["pdfinfo", pdf], capture_output=True, text=True, check=True).stdout
+    assert re.search(r"Pages:\s+2\n", told) and "A4" in told
+
+
+def test_positions_are_kept(run, tmp_path):
+    source = tmp_path / "site.csv"
+    source.write_bytes((SAMPLES / "listing.csv").read_bytes())
+    Path(tmp_path / "site.places.csv").write_text("unit,x,y\nboiler,2,2\nheader,10,6\n")
+    assert run("sheet", source, "-o", tmp_path / "site.svg").status == 0
+    svg = html.unescape((tmp_path / "site.svg").read_text())
+    texts = re.findall(r'id="unit-(\d)".*?<text[^>]* x="([-\d.]+)" y="([-\d.]+)"', svg, re.DOTALL)
+    spots = {unit: (float(x), float(y)) for unit, x, y in texts}
+    across, down = (spots["2"][k] - spots["1"][k] for k in (0, 1))
+    assert (across, down) == pytest.approx((8 * 72 / 2.54, 4 * 72 / 2.54), abs=40)
