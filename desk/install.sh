@@ -25,8 +25,12 @@ if [ -n "$missing" ]; then
     command -v apt-get >/dev/null || fail "needs Debian's packages:$missing"
     say "Debian's packages:$missing"
     run=; [ "$(id -u)" = 0 ] || run=sudo
-    { $run apt-get update -qq && DEBIAN_FRONTEND=noninteractive $run apt-get install -y -qq --no-install-recommends $missing; } >/dev/null ||
+    log=$(mktemp)
+    if ! { $run apt-get update && $run env DEBIAN_FRONTEND=noninteractive apt-get install -y --no-install-recommends $missing; } >"$log" 2>&1; then
+        tail -20 "$log" >&2
         fail "apt-get could not install:$missing"
+    fi
+    rm -f "$log"
 fi
 
 if [ -z "${WENGELUDO_ARCHIVE:-}" ] && [ ! -e "$root/target/staticlib/liblinked.a" ]; then

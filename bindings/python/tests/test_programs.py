@@ -43,3 +43,20 @@ def test_sample(path):
     rates = [10 * k + 3 for k, s in enumerate(streams) if s.target == 0]
     bill = told(lambda: w.charges(file, rates), lambda b: "".join(f"{k} {cents}\n" for k, cents in b.charges) + f"bill {b.cents}\n")
     assert printed("charges_file", path, *rates) == bill
+    numbers = told(lambda: w.place_numbers(file), lambda found: "".join(f"{number}\n" for number in found))
+    assert printed("place_numbers", path) == numbers
+
+
+@pytest.mark.parametrize("path", FILES, ids=lambda path: path.stem)
+def test_checked(path, tmp_path):
+    """The C program passes the binding's sheet with the binding's numbers, and one with another cost not."""
+    file = path.read_bytes()
+    try:
+        sheet, numbers = w.balance_plant(file, 5).sheet, w.place_numbers(file)
+    except w.Refusal:
+        return
+    other = sheet[:-10] + bytes(((sheet[-10] + 1) % 256,)) + sheet[-9:]
+    (tmp_path / "numbers").write_text("".join(f"{number}\n" for number in numbers))
+    for data, passes in ((sheet, True), (other, False)):
+        (tmp_path / "sheet").write_bytes(data)
+        assert printed("check_sheet", path, tmp_path / "sheet", tmp_path / "numbers").startswith("passes") == passes
