@@ -62,7 +62,8 @@ def _limit(outcomes: Sequence[Outcome], step: float, y: Height) -> str:
         return ""
     last = points[-1].split(",")[1]
     line = f'<polyline points="{" ".join(points)}" fill="none" stroke="#1d252c" stroke-width="1.2" stroke-dasharray="5 3"/>'
-    return line + f'<text x="{WIDTH - RIGHT}" y="{float(last) - 4:.1f}" text-anchor="end" fill="#1d252c" stroke="#fff" stroke-width="3" paint-order="stroke">limit</text>'
+    look = 'text-anchor="end" fill="#1d252c" stroke="#fff" stroke-width="3" paint-order="stroke"'
+    return line + f'<text x="{WIDTH - RIGHT}" y="{float(last) - 4:.1f}" {look}>limit</text>'
 
 
 def _foot(outcomes: Sequence[Outcome]) -> str:
