@@ -54,7 +54,7 @@ def test_texts_are_those_of_the_header():
     import build_native
 
     text = build_native.HEADER.read_text(encoding="utf-8")
-    listed = re.search(r"enum \{\s*WENGELUDO_DONE = 0,(.*?)\};", text, re.DOTALL)[1]
+    listed = re.search(r"WENGELUDO_DONE = 0,(.*?)\};", text, re.DOTALL)[1]
     assert {int(n) for n in re.findall(r"WENGELUDO_\w+ = (\d+)", listed)} <= set(w.TEXTS)
 
 
