@@ -22,7 +22,7 @@ from typing import NamedTuple
 
 ROOT = os.path.abspath(os.path.join(os.path.dirname(__file__), '..', '..'))
 ARCHIVE = 'target/staticlib/liblinked.a'
-FIRST = re.compile(r'^(?:[A-Z_]+=\S+ )*(?:(?:rt|bash|sh|cargo|python3|cc|c\+\+|cmake|ctest|pkg-config|man|time|mkdir|cp|git|pip|dot) +\S'
+FIRST = re.compile(r'^(?:[A-Z_]+=\S+ )*(?:(?:rt|bash|sh|wengeludo|cargo|python3|cc|c\+\+|cmake|ctest|pkg-config|man|time|mkdir|cp|git|pip|dot) +\S'
                    r'|target/(?:bin|host)/\S+(?: |$))')
 LIMIT = 900  # seconds for one command
 
@@ -43,6 +43,8 @@ RULES = [
     Rule(r'python3 host/check/seconds\.py (crates|edits|modules).*', 'run', r'python3 host/check/seconds.py \1 version'),
     Rule(r'bash install\.sh (--uninstall )?PREFIX', 'run', r'bash install.sh \1"$PREFIX"'),
     Rule(r'target/host/(balance_file samples/overfull_site|charges_file samples/twin_lines)\.bin.*', 'run', r'\g<0> || [ $? = 1 ]'),
+    Rule(r'bash desk/install\.sh', 'not', 'it installs packages of the system; desk/test.sh sets up the same below target/'),
+    Rule(r'wengeludo (sheet \S+) -o \S+', 'run', r'[ ! -x target/desk/bin/wengeludo ] || target/desk/bin/wengeludo \1 -o "$PREFIX.html"'),
     Rule(r'cargo doc --open', 'run', 'cargo doc --offline --no-deps'),
     Rule(r'(?:WENGELUDO_\w+=\d+ )*(cargo test .*)', 'run', r'WENGELUDO_INPUTS=2000 WENGELUDO_SURVEYS=100 \1'),
     Rule(r'bash host/bench/(run|visits|checks)\.sh.*', 'run', r'bash host/bench/\1.sh 2 1'),

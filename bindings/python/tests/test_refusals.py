@@ -53,9 +53,12 @@ def test_other_offices_are_not_full():
 def test_texts_are_those_of_the_header():
     import build_native
 
-    text = build_native.HEADER.read_text(encoding="utf-8")
-    listed = re.search(r"WENGELUDO_DONE = 0,(.*?)\};", text, re.DOTALL)[1]
-    assert {int(n) for n in re.findall(r"WENGELUDO_\w+ = (\d+)", listed)} <= set(w.TEXTS)
+    text = re.sub(r"/\*.*?\*/", "", build_native.HEADER.read_text(encoding="utf-8"), flags=re.DOTALL)
+    listed = re.search(r"enum \{\s*WENGELUDO_DONE = 0,(.*?)\};", text, re.DOTALL)[1]
+    assert {int(n) for n in re.findall(r"WENGELUDO_\w+ = (\d+)", listed)} == set(w.TEXTS)
+    texts = dict(re.findall(r"case (WENGELUDO_\w+):\s*return ((?:\"[^\"]*\"\s*)+);", text))
+    for name, number in re.findall(r"(WENGELUDO_\w+) = (\d+)", listed):
+        assert "".join(re.findall(r"\"([^\"]*)\"", texts[name])) == w.TEXTS[int(number)]
 
 
 @pytest.mark.parametrize(
