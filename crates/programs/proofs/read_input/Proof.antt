@@ -4,14 +4,15 @@ use borrow.Author.Needs.{needs}
 use Prim.Native.Nat.{_-_, _≤_}
 use lib.ListN.{length}
 use lib.Seq.{length-take-le}
-use Rattle.inputs.proofs.read_input.Statement.{statement}
-use Rattle.inputs.proofs.read_input.Tie as tie
+use Rattle.programs.proofs.Answers.{read-out, full}
+use Rattle.programs.proofs.read_input.Statement.{statement}
+use Rattle.programs.proofs.read_input.Tie as tie
 
 abbrev Inv-loop : tie.InvT-loop
-Inv-loop file₀ size₀ file size = (size ≤ length file) × (length file ≡ length file₀)
+Inv-loop file₀ size₀ last₀ file size last = (size ≤ length file) × (length file ≡ length file₀)
 
 abbrev μ-loop : tie.MeasureT-loop
-μ-loop file₀ size₀ file size = length file - size
+μ-loop file₀ size₀ last₀ file size last = length file - size
 
 loop-holds : tie.Need-loop-holds Inv-loop μ-loop
 loop-holds c = search needs
@@ -44,7 +45,7 @@ same-length : tie.Need-same-length Inv-loop μ-loop
 same-length c = search needs
 
 returns : tie.Need-returns Inv-loop μ-loop
-returns c = (search needs, sym (length-take-le _ _ (search needs)))
+returns c = ((search needs, sym (length-take-le _ _ (search needs))), (search needs, read-out _ _ (c .before .count .result) _ (c .before .count .ensures .1) (search needs)))
 
 add-size : tie.Need-add-size Inv-loop μ-loop
 add-size c = search needs
@@ -59,7 +60,7 @@ same-length-2 : tie.Need-same-length-2 Inv-loop μ-loop
 same-length-2 c = search needs
 
 returns-2 : tie.Need-returns-2 Inv-loop μ-loop
-returns-2 c = (search needs, sym (length-take-le _ _ (search needs)))
+returns-2 c = ((search needs, sym (length-take-le _ _ (search needs))), (search needs, full _ _ _ (search needs)))
 
 pub read-input-spec : {M : Type 1} → statement M
 read-input-spec =
