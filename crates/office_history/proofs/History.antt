@@ -17,7 +17,7 @@ use Rattle.flows.specs.Overfull.{unmarked}
 use Rattle.sheets.specs.declared.Sheet.{Sheet}
 use Rattle.sheets.specs.Apart.{leastSlice}
 use Rattle.sheets.specs.Counters.{offices, topSheet, counterOf, nextOf, raised}
-use Rattle.sheets.specs.Sheets.{sheetOf}
+use Rattle.sheets.specs.Drawings.{sheetOf}
 use Rattle.sheets.specs.Sentences.{callFault, RefusedWith, Refused}
 use Rattle.sheets.specs.Kept.{mostRecords}
 use Rattle.sheets.specs.Says.{SheetWith, SheetSays}

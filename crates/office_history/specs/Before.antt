@@ -22,7 +22,8 @@ use Rattle.sheets.specs.declared.SheetRecord.the-variants.{Refused}
 use Rattle.sheets.specs.Apart.{totalKind, plainKind, streamSize, plainSize}
 use Rattle.sheets.specs.Balances.{balanceOf}
 use Rattle.sheets.specs.Counters.{topSheet}
-use Rattle.sheets.specs.Sheets.{SheetParts, partsBytes, partsOf}
+use Rattle.sheets.specs.Sheets.{SheetParts, partsBytes}
+use Rattle.sheets.specs.Drawings.{partsOf}
 use Rattle.sheets.specs.Kept.{Reopened, noSheet, recordAt, onRecord, sheetWith, mostRecords}
 
 -- What it handed over.

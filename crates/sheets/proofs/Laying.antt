@@ -16,7 +16,8 @@ use Rattle.flows.specs.declared.Class.the-variants.{Adjusted, AsRead, Given, Wi
 use Rattle.sheets.specs.declared.Entry.{Entry}
 use Rattle.sheets.specs.declared.Balance.{Balance}
 use Rattle.sheets.specs.Balances.{balanceOf}
-use Rattle.sheets.specs.Sheets.{recordOf, recordsOf, totalOf, sheetBytes, sheetOf}
+use Rattle.sheets.specs.Sheets.{recordOf, recordsOf, totalOf}
+use Rattle.sheets.specs.Drawings.{sheetBytes, sheetOf}
 use Rattle.sheets.specs.Apart.{streamSize, totalSize, leastSlice}
 
 -- No stream record is longer than a number's.
