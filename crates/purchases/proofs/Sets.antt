@@ -64,7 +64,7 @@ module _ (p : Plant) (prices : List ℕ) (e : pricesFault p prices ≡ 0) where
           let q : suc k + (length (p .streams) - suc k) ≡ length (p .streams) = omega arith in
           rw q at (unmetered-more (p .streams) (suc k) (length (p .streams) - suc k))
 
-  fair-at : (k : ℕ) → k < length (p .streams) → streamAt (p .streams) k .metered ≡ false
+  pub fair-at : (k : ℕ) → k < length (p .streams) → streamAt (p .streams) k .metered ≡ false
       → (1 ≤ priceIn (p .streams) prices k) × (priceIn (p .streams) prices k ≤ maxPrice)
   fair-at k l m = fair prices (unmeteredTo (p .streams) k) (or-none-right (not (eqb (length prices) all)) (someUnfair prices) tests) (listed k l m)
 

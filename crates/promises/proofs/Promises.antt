@@ -1,0 +1,39 @@
+-- Every promise is kept.
+use Rattle.plants.proofs.Refusals.{file-refusals}
+use Rattle.plants.proofs.Longest.{longest-file}
+use Rattle.sheets.proofs.Demands.{demands}
+use Rattle.office_history.proofs.History.{history}
+use Rattle.texts.proofs.Promise.{one-text}
+use Rattle.texts.proofs.Printed.{printed}
+use Rattle.signals.proofs.Rules.{rounding}
+use Rattle.transmitters.proofs.Promise.{translated}
+use Rattle.moves.proofs.Trip.{moving}
+use Rattle.moved_sheets.proofs.Same.{moved-sheets}
+use Rattle.purchases.proofs.Promise.{meters-to-buy}
+use Rattle.surveys.proofs.Promise.{one-survey}
+use Rattle.survey_texts.proofs.Promise as Survey-texts
+use Rattle.visit_def.proofs.Promise.{meters-worth-a-visit}
+use Rattle.visit_text.proofs.Promise as Visit-texts
+use Rattle.promises.specs.Promises.{Promises}
+use Rattle.promises.proofs.Bounds.{without-19, bounds}
+
+pub promises : Promises
+promises = record {
+  longest-file = longest-file;
+  file-refusals = file-refusals;
+  demands = demands;
+  history = history;
+  one-text = one-text;
+  printed = printed;
+  rounding = rounding;
+  translated = translated;
+  moving = moving;
+  moved-sheets = moved-sheets;
+  meters-to-buy = meters-to-buy;
+  one-survey = one-survey;
+  layouts = Survey-texts.texts;
+  meters-worth-a-visit = meters-worth-a-visit;
+  visits = Visit-texts.texts;
+  without-19 = without-19;
+  bounds = bounds;
+}
