@@ -11,7 +11,7 @@
 # FUZZ_SECONDS (default 60)          how long the fuzz target runs
 # SHORT=1                            no benchmark, and the commands of the texts are not run
 # SKIP_MISSING=1                     a part whose tool is missing is left out, and the last lines say so
-set -eu
+set -euo pipefail
 cd "$(dirname "$0")"
 
 case "${1:-}" in
@@ -79,6 +79,7 @@ if part "texts that are made from lists and samples, and what is to be believed"
     python3 host/check/versions.py
     python3 host/check/refusals.py
     python3 host/check/picture.py
+    python3 host/check/believe.py | tail -1
 fi
 part "the archive"
 rt staticlib linked
