@@ -6,6 +6,7 @@ use Rattle.office_history.proofs.History.{history}
 use Rattle.texts.proofs.Promise.{one-text}
 use Rattle.texts.proofs.Printed.{printed}
 use Rattle.signals.proofs.Rules.{rounding}
+use Rattle.signals.proofs.Numbers.{numbered}
 use Rattle.transmitters.proofs.Promise.{translated}
 use Rattle.moves.proofs.Trip.{moving}
 use Rattle.moved_sheets.proofs.Same.{moved-sheets}
@@ -26,6 +27,7 @@ promises = record {
   one-text = one-text;
   printed = printed;
   rounding = rounding;
+  numbered = numbered;
   translated = translated;
   moving = moving;
   moved-sheets = moved-sheets;

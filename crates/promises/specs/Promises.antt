@@ -4,6 +4,7 @@ use Rattle.sheets.specs.Demands.{Demands}
 use Rattle.office_history.specs.History.{History}
 use Rattle.texts.specs.Says.{One-text}
 use Rattle.texts.specs.Printed.{Printed}
+use Rattle.signals.specs.Answers.{Numbered}
 use Rattle.signals.specs.Rounding.{Rounding}
 use Rattle.transmitters.specs.Says.{Translated}
 use Rattle.moves.specs.Trip.{Moving}
@@ -24,8 +25,9 @@ pub record Promises : Type 0 where
   pub history : History
   pub one-text : One-text
   pub printed : Printed
-  -- Transmitter files: rounding, and what comes out.
+  -- Transmitter files: rounding, the numbers of the two answers, and what comes out.
   pub rounding : Rounding
+  pub numbered : Numbered
   pub translated : Translated
   -- Moves: there and home, and the same sheet in the ranged form.
   pub moving : Moving
