@@ -37,6 +37,7 @@ SUBJECTS = (
     ("layouts of meters", {"linked": {"wengeludo_layouts_of"}, "survey_texts": {"list_layouts"}}, ("surveys/Says/One-survey",)),
     ("meters worth a visit", {"linked": {"wengeludo_visits"}, "visit_text": {"list_visits"}},
      ("visit_def/Says/Meters-worth-a-visit", "visit_parts/Lent/One-hand-over")),
+    ("steam charges", {"linked": {"wengeludo_charges"}}, ("charge_def/Says/Steam-charges", "charge_parts/Lent/One-hand-over")),
     ("bounds, and the record of all promises", {"linked": None}, ("promises/Promises/Promises",)),
 )
 

@@ -15,6 +15,9 @@ use Rattle.surveys.proofs.Promise.{one-survey}
 use Rattle.survey_texts.proofs.Promise as Survey-texts
 use Rattle.visit_def.proofs.Promise.{meters-worth-a-visit}
 use Rattle.visit_text.proofs.Promise as Visit-texts
+use Rattle.visit_parts.proofs.Lending as Visit-parts
+use Rattle.charge_def.proofs.Promise.{steam-charges}
+use Rattle.charge_parts.proofs.Lending as Charge-parts
 use Rattle.promises.specs.Promises.{Promises}
 use Rattle.promises.proofs.Bounds.{without-19, bounds}
 
@@ -36,6 +39,9 @@ promises = record {
   layouts = Survey-texts.texts;
   meters-worth-a-visit = meters-worth-a-visit;
   visits = Visit-texts.texts;
+  one-list = Visit-parts.one-hand-over;
+  steam-charges = steam-charges;
+  one-bill = Charge-parts.one-hand-over;
   without-19 = without-19;
   bounds = bounds;
 }

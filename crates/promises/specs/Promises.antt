@@ -14,6 +14,9 @@ use Rattle.surveys.specs.Says.{One-survey}
 use Rattle.survey_texts.specs.Says as Survey-texts
 use Rattle.visit_def.specs.Says.{Meters-worth-a-visit}
 use Rattle.visit_text.specs.Says as Visit-texts
+use Rattle.visit_parts.specs.Lent as Visit-parts
+use Rattle.charge_def.specs.Says.{Steam-charges}
+use Rattle.charge_parts.specs.Lent as Charge-parts
 use Rattle.promises.specs.Bounds.{Without-19, Bounds}
 
 pub record Promises : Type 0 where
@@ -38,6 +41,10 @@ pub record Promises : Type 0 where
   pub layouts : Survey-texts.Texts
   pub meters-worth-a-visit : Meters-worth-a-visit
   pub visits : Visit-texts.Texts
+  pub one-list : Visit-parts.One-hand-over
+  -- Steam charges.
+  pub steam-charges : Steam-charges
+  pub one-bill : Charge-parts.One-hand-over
   -- Numbers that are never given, and bounds.
   pub without-19 : Without-19
   pub bounds : Bounds
