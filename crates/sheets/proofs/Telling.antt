@@ -114,6 +114,15 @@ weight-told Withheld s = refl
 iff-both : {A B C : Type 0} → (A ↔ B) → (B ↔ C) → A ↔ C
 iff-both f g = (λ a. g .0 (f .0 a), λ c. f .1 (g .1 c))
 
+-- The summed weights of the A streams, where a sheet has the classes.
+pub weights-told : (p : Plant) (s : SheetParts) → ((k : ℕ) → k < length (p .streams) → classOn s k ≡ classOf p k) → (k : ℕ) → k ≤ length (p .streams)
+    → adjustedTo p k ≡ weightsTo p s k
+weights-told p s classes zero h = refl
+weights-told p s classes (suc k) h =
+    ap₂ _+_ (weight-told (classOf p k) (streamAt (p .streams) k)
+    ∙ ap (λ (q : Class). pick (eqb (kindOf q) adjustedKind) (streamAt (p .streams) k .weight) 0) (sym (classes k (omega arith))))
+    (weights-told p s classes k (omega arith))
+
 module _ (p : Plant) (w : Within p) (shown : Shown p) (xs : List ℤ) (c : Cheapest p xs) (s : SheetParts) (t : Told p xs s) where
   class-iff : (k : ℕ) → k < length (p .streams) → (a : Class) → (classOn s k ≡ a) ↔ (classOf p k ≡ a)
   class-iff k h a = (λ e. sym (t .classes k h) ∙ e, λ e. t .classes k h ∙ e)
@@ -142,11 +151,7 @@ module _ (p : Plant) (w : Within p) (shown : Shown p) (xs : List ℤ) (c : Cheap
       ∙ ap (λ (z : ℤ). pos d *ℤ z) (sym shows)
 
   weights : (k : ℕ) → k ≤ length (p .streams) → adjustedTo p k ≡ weightsTo p s k
-  weights zero h = refl
-  weights (suc k) h =
-      ap₂ _+_ (weight-told (classOf p k) (streamAt (p .streams) k)
-      ∙ ap (λ (q : Class). pick (eqb (kindOf q) adjustedKind) (streamAt (p .streams) k .weight) 0) (sym (t .classes k (omega arith))))
-      (weights k (omega arith))
+  weights = weights-told p s (t .classes)
 
   quarter : (zs : List ℤ) → Cheapest p zs → (d : ℕ) (ys : List ℤ) → 1 ≤ d → allowedOver d p ys ≡ true
       → 4 * (d * d) * cost (p .streams) zs ≤ 4 * costOver d (p .streams) ys + d * d * adjustedWeights p s
