@@ -28,7 +28,7 @@ LED_ON = {
 # What is read for what, each list going on from those above it: its title, the functions whose contracts it begins at, and the theorems.
 SUBJECTS = (
     ("sheets", {"linked": {"wengeludo_balance_plant", "wengeludo_write_plant", "wengeludo_read_sheet"}},
-     ("plants/Says/Longest-file", "plants/Says/File-refusals", "plants/Says/Never-19", "sheets/Demands/Demands")),
+     ("plants/Says/Longest-file", "plants/Says/File-refusals", "sheets/Demands/Demands")),
     ("the offices' sheet numbers", {}, ("office_history/History/History",)),
     ("the listing and the programs", {"texts": {"list_plant"}, "programs": {"plant_file"}}, ("texts/Says/One-text", "texts/Printed/Printed")),
     ("the translator", {"linked": {"wengeludo_plant_from_transmitter"}}, ("transmitters/Says/Translated",)),
@@ -38,6 +38,8 @@ SUBJECTS = (
     ("meters worth a visit", {"linked": {"wengeludo_visits"}, "visit_text": {"list_visits"}},
      ("visit_def/Says/Meters-worth-a-visit", "visit_parts/Lent/One-hand-over")),
     ("steam charges", {"linked": {"wengeludo_charges"}}, ("charge_def/Says/Steam-charges", "charge_parts/Lent/One-hand-over")),
+    ("sheets drawn up elsewhere", {"linked": {"wengeludo_check_sheet", "wengeludo_place_numbers"}},
+     ("foreign_def/Says/Foreign-sheets", "foreign_def/Numbers/Own-numbers")),
     ("bounds, and the record of all promises", {"linked": None}, ("promises/Promises/Promises",)),
 )
 
@@ -185,9 +187,18 @@ def listed():
     return rows
 
 
+def told(sums):
+    """What docs/PROMISES.md says of the lists' lengths, and of all of them together, where it is not true."""
+    text = (ROOT / "docs" / "PROMISES.md").read_text()
+    said = {title: int(lines.replace(",", "")) for title, lines in re.findall(r"\*\*For (.*?)\*\*, ([\d,]+) lines:", text)}
+    wrong = [f"{title}: {sums[title]} lines, docs/PROMISES.md says {said.get(title)}" for title in sums if said.get(title) != sums[title]]
+    together = f"Together {sum(sums.values()):,} lines, {sums['sheets']:,} of them for the sheets."
+    return wrong if together in text else wrong + [f"docs/PROMISES.md does not say: {together}"]
+
+
 def main(arguments):
     house = House()
-    rows, wrong, total, seen = listed(), [], 0, set()
+    rows, wrong, total, sums, seen = listed(), [], 0, {}, set()
     for title, functions, theorems in SUBJECTS:
         roots = [found for crate, only in functions.items() for found in house.contracts(crate, only)]
         roots += [house.specs(*theorem.split("/")[:2]).names[theorem.split("/")[2]] for theorem in theorems]
@@ -208,9 +219,11 @@ def main(arguments):
                 wrong.append(f"{title}: {lines} lines of {key[1]}/{key[2]} are cited, docs/PROMISES.md says {rows[key]}: {names}")
             rows.pop(key, None)
         total += lines_here
+        sums[title] = lines_here
         print(f"{title}: {lines_here} lines in {len(by_file)} files")
     wrong += [f"{key[0]}: {key[1]}/{key[2]} is listed, and nothing there cites it" for key in rows]
     print(f"together {total} lines, {len(seen)} definitions")
+    wrong += told(sums)
     for line in wrong:
         print(f"believe: {line}", file=sys.stderr)
     sys.exit(1 if wrong else 0)

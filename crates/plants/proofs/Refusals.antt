@@ -18,12 +18,11 @@ use Rattle.plants.specs.declared.Site.the-variants.{Units, Missing}
 use Rattle.plants.specs.declared.Record.{Record}
 use Rattle.plants.specs.declared.Record.the-variants.{Listed, End, Refused}
 use Rattle.plants.specs.declared.Plant as Arrays
-use Rattle.plants.specs.declared.Read.{Read}
 use Rattle.plants.specs.declared.Done.{Done}
 use Rattle.plants.specs.Limits.{maxUnits, maxStreams, maxWeight, maxReading, maxRange, siteKind, meteredKind, unmeteredKind, endKind, rangedKind, siteBody, meteredBody, rangedBody, unmeteredBody, endBody, longestFile}
 use Rattle.plants.specs.Plants.{Plant, unitsFault, meterFault, rangeFault, streamFault, firstFault, partsFault}
 use Rattle.plants.specs.Files.{Got, bad, got, siteFault, siteAt, onSite, meteredIn, rangedIn, unmeteredIn, bodyFault, checked, streamRecord, endFault, endRecord, kindRecord, recordAt, onRecord, withStream, recordsBy, mostRecords, readPlant}
-use Rattle.plants.specs.Says.{plantOf, readOf, writeFault, fileNumber, File-refusals, Never-19}
+use Rattle.plants.specs.Says.{plantOf, writeFault, fileNumber, File-refusals, WriteSays}
 use Rattle.plants.proofs.Accepted.{refused}
 
 -- None, or one of the numbers of a file.
@@ -139,10 +138,6 @@ file-known l s =
     (λ t. records-known l (record { units = getD s 1 0; streams = [] }) (drop (suc siteBody) s))
     (λ t. site-known s)
 
-number-known : (g : Got) → Tells g → Known (readOf g .number)
-number-known (bad f) h = h
-number-known (got p) h = refl
-
 write-known : (p : Arrays.Plant) (o : List ℕ) → (writeFault p o ≡ 1) ⊎ Known (writeFault p o)
 write-known p o = go (ltb (length o) longestFile)
   where
@@ -163,9 +158,8 @@ not-19 f h e = true-false (subst Known e h)
 pub file-refusals : File-refusals
 file-refusals s f e = or-cases (eqb f 0) (fileNumber f) (subst Tells e (file-known mostRecords s)) (λ z. absurd (refused s f e (eqb-true f 0 z))) (λ k. k)
 
-pub never-19 : Never-19
-never-19 = record {
-  reading = λ file r h e. not-19 (r .number) (subst Known (sym (ap (λ (y : Read). y .number) h)) (number-known (readPlant file) (file-known mostRecords file))) e;
-  writing = λ p o o′ r h e. let n = ap (λ (y : Done). y .number) (h .0) in
-      ⊎-elim (λ one. let z : _≡_ {A = ℕ} 1 19 = sym one ∙ sym n ∙ e in omega arith) (λ k. not-19 (r .number) (subst Known (sym n) k) e) (write-known p o);
-}
+-- So the writer never gives 19, the refusal of a plant that has no flow in range.
+pub write-not-19 : (p : Arrays.Plant) (o o′ : List ℕ) (r : Done) → WriteSays p o o′ r → r .number ≡ 19 → ⊥
+write-not-19 p o o′ r h e =
+    let n = ap (λ (y : Done). y .number) (h .0) in
+    ⊎-elim (λ one. let z : _≡_ {A = ℕ} 1 19 = sym one ∙ sym n ∙ e in omega arith) (λ k. not-19 (r .number) (subst Known (sym n) k) e) (write-known p o)

@@ -19,7 +19,7 @@ use Rattle.plants.specs.Says.{fileNumber}
 use Rattle.plants.specs.Within.{Within}
 use Rattle.plants.proofs.Limited.{within}
 use Rattle.plants.proofs.Accepted.{accepted}
-use Rattle.plants.proofs.Refusals.{file-refusals, never-19}
+use Rattle.plants.proofs.Refusals.{file-refusals, write-not-19}
 use Rattle.conversions.specs.Says.{faultOf, convertFault, Converts}
 use Rattle.moves.specs.Moves.{narrower, narrowFault, home, toRanged, fromRanged}
 use Rattle.transmitters.proofs.Short.{written-short}
@@ -94,8 +94,7 @@ survey-not file r s (got p) e n = elim (decLe (length (p .streams)) maxSurveyed)
 
 pub without-19 : Without-19
 without-19 = record {
-  reader = never-19 .reading;
-  writer = never-19 .writing;
+  writer = write-not-19;
   forth = λ file o o′ r. converts-not (toRanged (readPlant file)) o o′ r (to-not file (readPlant file) refl);
   home = λ file o o′ r. converts-not (fromRanged (readPlant file)) o o′ r (from-not file (readPlant file) refl);
   purchase = λ file prices r b. buy-not file prices r (readPlant file) refl b;

@@ -18,6 +18,7 @@ use Rattle.visit_text.proofs.Promise as Visit-texts
 use Rattle.visit_parts.proofs.Lending as Visit-parts
 use Rattle.charge_def.proofs.Promise.{steam-charges}
 use Rattle.charge_parts.proofs.Lending as Charge-parts
+use Rattle.foreign_def.proofs.Promise.{foreign-sheets, own-numbers}
 use Rattle.promises.specs.Promises.{Promises}
 use Rattle.promises.proofs.Bounds.{without-19, bounds}
 
@@ -42,6 +43,8 @@ promises = record {
   one-list = Visit-parts.one-hand-over;
   steam-charges = steam-charges;
   one-bill = Charge-parts.one-hand-over;
+  foreign-sheets = foreign-sheets;
+  own-numbers = own-numbers;
   without-19 = without-19;
   bounds = bounds;
 }

@@ -3,10 +3,9 @@ use mathlib.Core.Path.{_≡_}
 use mathlib.Core.List.{List}
 use Prim.Native.Nat.{ℕ, suc, _+_, _*_, _-_, _≤_}
 use Rattle.plants.specs.declared.Done.{Done}
-use Rattle.plants.specs.declared.Read.{Read}
 use Rattle.plants.specs.declared.Plant as Arrays
 use Rattle.plants.specs.Limits.{maxStreams, siteBody, meteredBody, endBody}
-use Rattle.plants.specs.Says.{ReadSays, WriteSays}
+use Rattle.plants.specs.Says.{WriteSays}
 use Rattle.moves.specs.Moves.{ToSays, FromSays}
 use Rattle.transmitters.specs.Says.{TranslateSays}
 use Rattle.purchases.specs.declared.Bought.{Bought}
@@ -18,9 +17,9 @@ use Rattle.surveys.specs.declared.Layouts.{Layouts}
 use Rattle.surveys.specs.Says.{SurveySays}
 use Rattle.survey_slices.specs.Lent.{LendSays}
 
--- No reader, writer, move, purchase or survey gives 19: that number is of a plant that has no flow in range, and these look for none.
+-- No writer, move, purchase or survey gives 19: that number is of a plant that has no flow in range, and these look for none. (Nor does
+-- a reader: `File-refusals` and `Reopening.refused` have the numbers that readers give.)
 pub record Without-19 : Type 0 where
-  pub reader : (file : List ℕ) (r : Read) → ReadSays file r → r .number ≡ 19 → ⊥
   pub writer : (p : Arrays.Plant) (o o′ : List ℕ) (r : Done) → WriteSays p o o′ r → r .number ≡ 19 → ⊥
   pub forth : (file o o′ : List ℕ) (r : Done) → ToSays file o o′ r → r .number ≡ 19 → ⊥
   pub home : (file o o′ : List ℕ) (r : Done) → FromSays file o o′ r → r .number ≡ 19 → ⊥

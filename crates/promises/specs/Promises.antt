@@ -17,6 +17,8 @@ use Rattle.visit_text.specs.Says as Visit-texts
 use Rattle.visit_parts.specs.Lent as Visit-parts
 use Rattle.charge_def.specs.Says.{Steam-charges}
 use Rattle.charge_parts.specs.Lent as Charge-parts
+use Rattle.foreign_def.specs.Says.{Foreign-sheets}
+use Rattle.foreign_def.specs.Numbers.{Own-numbers}
 use Rattle.promises.specs.Bounds.{Without-19, Bounds}
 
 pub record Promises : Type 0 where
@@ -45,6 +47,9 @@ pub record Promises : Type 0 where
   -- Steam charges.
   pub steam-charges : Steam-charges
   pub one-bill : Charge-parts.One-hand-over
+  -- Sheets drawn up elsewhere, and numbers of the places of our own.
+  pub foreign-sheets : Foreign-sheets
+  pub own-numbers : Own-numbers
   -- Numbers that are never given, and bounds.
   pub without-19 : Without-19
   pub bounds : Bounds
