@@ -9,7 +9,7 @@
 #
 # WENGELUDO_INPUTS (default 100000)  inputs of the differential tests
 # FUZZ_SECONDS (default 60)          how long the fuzz target runs
-# SHORT=1                            no benchmark, and the commands of the texts are not run
+# SHORT=1                            no benchmark, no browser, no older Rust, and the commands of the texts are not run
 # SKIP_MISSING=1                     a part whose tool is missing is left out, and the last lines say so
 set -euo pipefail
 cd "$(dirname "$0")"
@@ -30,7 +30,7 @@ advice() { # tool
     cargo) echo "install Rust 1.66 or later (https://rustup.rs, or Debian 12: apt-get install cargo-web); the crate itself takes 1.63" ;;
     clang | clang++) echo "install clang with its libFuzzer (Debian: apt-get install clang)" ;;
     g++) echo "install a C++ compiler (Debian: apt-get install g++)" ;;
-    objdump) echo "install the binary utilities (Debian: apt-get install binutils)" ;;
+    objdump | nm | ar) echo "install the binary utilities (Debian: apt-get install binutils)" ;;
     python3) echo "install Python 3.9 or later (Debian: apt-get install python3)" ;;
     cmake) echo "install CMake (Debian: apt-get install cmake)" ;;
     pkg-config) echo "install pkg-config (Debian: apt-get install pkgconf)" ;;
@@ -45,21 +45,21 @@ there() { # tool
 compiler=${CC:-cc}
 if [ "${SKIP_MISSING:-0}" != 1 ]; then
     missing=0
-    for tool in rt "$compiler" g++ clang clang++ cargo python3 cmake pkg-config man groff objdump; do
+    for tool in rt "$compiler" g++ clang clang++ cargo python3 cmake pkg-config man groff objdump nm ar; do
         there "$tool" || { echo "test_all: no $tool on the PATH, or too old: $(advice "$tool")" >&2; missing=1; }
     done
     [ "$missing" = 0 ] || exit 2
 fi
 
 skipped=()
+skip() { # what, why
+    skipped+=("$1: $2")
+    echo "== skipped, $2: $1"
+}
 part() { # what, tools: true where it is to be run
     local tool
     for tool in "${@:2}"; do
-        if ! there "$tool"; then
-            skipped+=("$1: no $tool, or too old")
-            echo "== skipped, no $tool: $1"
-            return 1
-        fi
+        there "$tool" || { skip "$1" "no $tool, or too old"; return 1; }
     done
     echo "== $1"
 }
@@ -80,6 +80,7 @@ if part "texts that are made from lists and samples, and what is to be believed"
     python3 host/check/refusals.py
     python3 host/check/picture.py
     python3 host/check/believe.py | tail -1
+    python3 host/check/names.py
 fi
 part "the archive"
 rt staticlib linked
@@ -103,12 +104,16 @@ fi
 if part "the cases and samples, made anew" python3; then
     quietly target/host/cases.log '^[0-9,]+ ' python3 reference/make_cases.py --check
 fi
-if part "the Rust crate and the differential tests" cargo; then
+if part "the Rust crate and the differential tests" cargo "$compiler" nm ar; then
     (cd host/rust && cargo test --offline --quiet -- --nocapture)
     bash host/rust/test_archives.sh
-    bash host/rust/test_oldest.sh
+    ! long || bash host/rust/test_oldest.sh
 fi
-if part "the Python binding and the desk tool" python3; then
+absent=$(bash desk/test.sh --missing)
+if [ -n "$absent" ]; then
+    skip "the Python binding and the desk tool" "no$absent"
+elif part "the Python binding and the desk tool" "$compiler"; then
+    long || export CHROMIUM=none
     bash desk/test.sh
 fi
 if long && part "the benchmark, a short run" cargo; then
@@ -120,16 +125,12 @@ fi
 if long && part "the check of a sheet, a short run" cargo; then
     quietly target/host/checks.log "$rows" bash host/bench/checks.sh 20 1
 fi
-if part "the fuzz target, ${FUZZ_SECONDS:-60} seconds" clang objdump; then
-    status=0
-    bash host/fuzz/build.sh || status=$?
-    if [ "$status" = 2 ] && [ "${SKIP_MISSING:-0}" = 1 ]; then
-        skipped+=("the fuzz target: clang has no libFuzzer")
-    elif [ "$status" != 0 ]; then
-        exit "$status"
-    else
-        quietly target/host/fuzz/log '^(Done|fuzz target:)' bash host/fuzz/run.sh "${FUZZ_SECONDS:-60}"
-    fi
+fuzzer() { echo 'int LLVMFuzzerTestOneInput(const char *d, long n) { return n < 0 && *d; }' | clang -fsanitize=fuzzer -x c - -o /dev/null 2>/dev/null; }
+if there clang && ! fuzzer && [ "${SKIP_MISSING:-0}" = 1 ]; then
+    skip "the fuzz target" "clang has no libFuzzer"
+elif part "the fuzz target, ${FUZZ_SECONDS:-60} seconds" clang objdump nm; then
+    bash host/fuzz/build.sh
+    quietly target/host/fuzz/log '^(Done|fuzz target:)' bash host/fuzz/run.sh "${FUZZ_SECONDS:-60}"
 fi
 if long && part "every command of the texts" python3; then
     python3 host/check/commands.py
