@@ -51,6 +51,8 @@ if [ "${SKIP_MISSING:-0}" != 1 ]; then
     [ "$missing" = 0 ] || exit 2
 fi
 
+now="its own set-up"
+trap '[ $? = 0 ] || echo "test_all: FAILED in: $now" >&2' EXIT
 skipped=()
 skip() { # what, why
     skipped+=("$1: $2")
@@ -61,6 +63,7 @@ part() { # what, tools: true where it is to be run
     for tool in "${@:2}"; do
         there "$tool" || { skip "$1" "no $tool, or too old"; return 1; }
     done
+    now=$1
     echo "== $1"
 }
 long() { [ "${SHORT:-0}" != 1 ]; }

@@ -8,6 +8,8 @@
 # WENGELUDO_ARCHIVE, WENGELUDO_INCLUDE   another archive and its header's folder
 # WENGELUDO_HOURS (default 200)          lists of the batch test; 8760 is a year
 # WENGELUDO_EXAMPLES (default 100)       drawn lists of each kind
+# WENGELUDO_DRAWN (default 300)          drawn plants for the binding
+# CHROMIUM (default chromium)            the browser that opens the pages; none: they are not opened
 set -eu
 cd "$(dirname "$0")/.."
 python=/usr/bin/python3 # Debian's own: another python3 on the PATH sees none of Debian's packages
@@ -26,7 +28,7 @@ if [ -n "$absent" ]; then
         "python3-openpyxl python3-jinja2 python3-numpy python3-pytest python3-hypothesis graphviz"
     exit 0
 fi
-command -v "${CHROMIUM:-chromium}" >/dev/null || echo "desk: pages are not opened in a browser, as there is no chromium (apt-get install chromium)"
+[ "${CHROMIUM:-}" = none ] || command -v "${CHROMIUM:-chromium}" >/dev/null || echo "desk: pages are not opened in a browser, as there is no chromium (apt-get install chromium)"
 home=$PWD/target/desk
 [ -x "$home/bin/python3" ] || "$python" -m venv --system-site-packages "$home"
 export WENGELUDO_INCLUDE="${WENGELUDO_INCLUDE:-$PWD/host/include}" WENGELUDO_ARCHIVE="${WENGELUDO_ARCHIVE:-$PWD/target/staticlib/liblinked.a}"
