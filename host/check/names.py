@@ -6,7 +6,9 @@
 
 A name is a path below a folder of the repository, anywhere in a text; in a piece of code also `crate/specs/File`, `crate/proofs/File`,
 `crate/src/file` and `crate/edit`. `{a,b}` stands for both, `*` for anything. A relative link must lead somewhere. docs/EDITS.md names
-every edit, docs/ARCHITECTURE.md and crates.txt every crate. docs/changes and CHANGELOG.md tell of older versions and are left out.
+every edit, docs/ARCHITECTURE.md and crates.txt every crate. A piece of code that is one word, or two with a dot or colons between them,
+stands in the code: a definition, field, function or variable that was renamed is found so. docs/changes and CHANGELOG.md tell of older
+versions and are left out.
 """
 import glob
 import os
@@ -22,6 +24,8 @@ CODE = re.compile(r'`([^`\n]+)`')
 WORD = re.compile(r'(?<![\w/.$-])[a-z0-9_]+/[\w/{},.*-]*[\w}*]')
 LINK = re.compile(r'\]\(([^)#:]+)(?:#[^)]*)?\)')
 ROW = re.compile(r'^\| `([a-z0-9_]+/[a-z0-9_]+)` \|', re.M)  # an edit's own row
+TOKEN = re.compile(r'(?=([\w-]+))(\w+)')  # with its hyphens, and up to the first of them
+KIT = re.compile(r'rattle-kit|sha256sum$')  # not ours
 FORM = re.compile(r'\b(NAME|EDIT)\b')  # any crate, any edit
 
 
@@ -68,6 +72,28 @@ def names(path, crates):
         yield link, [os.path.normpath(os.path.join(os.path.dirname(path), link))]
 
 
+def written():
+    """Every word of the code, its files and folders."""
+    words = set()
+    for folder, below, files in os.walk(ROOT):
+        below[:] = [name for name in below if name not in ('target', 'docs', 'data', '.git', 'corpus')]
+        words.update(os.path.relpath(folder, ROOT).split(os.sep))
+        for name in files:
+            words.update(re.split(r'[.]', name))
+            if name == 'run' or re.search(r'\.(rt|antt|py|rs|c|h|hpp|cpp|sh|toml|txt|tsv|cmake|in)$', name):
+                with open(os.path.join(folder, name), encoding='utf-8') as file:
+                    words.update(word for line in file for both in TOKEN.findall(line) for word in both)
+    return words
+
+
+def unwritten(path, words):
+    """Pieces of code in a text that stand nowhere in the code."""
+    for code in sorted(set(CODE.findall(read(path)))):
+        if re.fullmatch(r'[A-Za-z][\w-]*(?:(?:\.|::)[\w-]+)?', code) and not KIT.match(code):
+            if not set(re.split(r'\.|::', code)) <= words:
+                yield f'{path} names {code}, which stands nowhere in the code'
+
+
 def unnamed(crates):
     """Crates and edits that the texts leave out."""
     listed = set(re.findall(r'^(\w+):', read('crates.txt'), re.M))
@@ -88,7 +114,7 @@ def main(words):
     if words not in ([], ['--list']):
         sys.exit('usage: python3 host/check/names.py [--list]')
     crates = {os.path.basename(path) for path in glob.glob(os.path.join(ROOT, 'crates', '*'))}
-    faults, count = list(unnamed(crates)), 0
+    faults, count, words_written = list(unnamed(crates)), 0, written()
     texts = sorted(os.path.relpath(path, ROOT) for pattern in TEXTS for path in glob.glob(os.path.join(ROOT, pattern)))
     for path in texts:
         for name, places in {name: places for name, places in names(path, crates)}.items():
@@ -98,6 +124,8 @@ def main(words):
                 print(f'{path}: {name}: {found[0] if found else "NOT THERE"}')
             if not found:
                 faults.append(f'{path} names {name}, which is not there')
+        if path.endswith('.md'):
+            faults += unwritten(path, words_written)
     for fault in faults:
         print(f'names: {fault}', file=sys.stderr)
     if faults:
