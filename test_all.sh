@@ -23,7 +23,7 @@ if [ "$(uname -m)" != x86_64 ]; then
     exit 2
 fi
 
-# What a tool is installed by; cargo must be 1.66 or later.
+# What a tool is installed by; cargo must be 1.66 or later, python3 3.10.
 advice() { # tool
     case "$1" in
     rt) echo "install the Rattle kit (rattle-kit-5 or later)" ;;
@@ -31,7 +31,7 @@ advice() { # tool
     clang | clang++) echo "install clang with its libFuzzer (Debian: apt-get install clang)" ;;
     g++) echo "install a C++ compiler (Debian: apt-get install g++)" ;;
     objdump | nm | ar) echo "install the binary utilities (Debian: apt-get install binutils)" ;;
-    python3) echo "install Python 3.9 or later (Debian: apt-get install python3)" ;;
+    python3) echo "install Python 3.10 or later (Debian: apt-get install python3)" ;;
     cmake) echo "install CMake (Debian: apt-get install cmake)" ;;
     pkg-config) echo "install pkg-config (Debian: apt-get install pkgconf)" ;;
     man | groff) echo "install man and groff (Debian: apt-get install man-db groff-base)" ;;
@@ -40,7 +40,10 @@ advice() { # tool
 }
 there() { # tool
     command -v "$1" >/dev/null || return 1
-    [ "$1" != cargo ] || printf '1.66\n%s\n' "$(cargo --version | cut -d' ' -f2)" | sort -V -C
+    case "$1" in
+    cargo) printf '1.66\n%s\n' "$(cargo --version | cut -d' ' -f2)" | sort -V -C ;;
+    python3) python3 -c 'import sys; sys.exit(sys.version_info < (3, 10))' ;;
+    esac
 }
 compiler=${CC:-cc}
 if [ "${SKIP_MISSING:-0}" != 1 ]; then
