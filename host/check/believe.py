@@ -25,6 +25,12 @@ LED_ON = {
     ("visit_def", "Visits", "isListed"): "Meters-worth-a-visit.which",
 }
 
+# How files and sheets are read -> the theorem that says which are read, and as what: all but the number of a refusal.
+BY_WRITING = {
+    ("plants", "Files", "readPlant"): "Demands.round",
+    ("sheets", "Kept", "readSheet"): "Demands.reopening",
+}
+
 # What is read for what, each list going on from those above it: its title, the functions whose contracts it begins at, and the theorems.
 SUBJECTS = (
     ("sheets", {"linked": {"wengeludo_balance_plant", "wengeludo_write_plant", "wengeludo_read_sheet"}},
@@ -137,7 +143,7 @@ class House:
             elif rest and alias in specs.modules:
                 yield self.at(specs.modules[alias], rest.split(".")[0])
 
-    def walk(self, roots):
+    def walk(self, roots, led_on=LED_ON):
         reached, due = {}, list(roots)
         while due:
             definition = due.pop()
@@ -145,7 +151,7 @@ class House:
                 continue
             key = definition.crate, definition.file, definition.name
             reached[key] = definition
-            if key in LED_ON or definition.file.startswith("src/"):
+            if key in led_on or definition.file.startswith("src/"):
                 continue
             due += self.cited(self.specs(definition.crate, definition.file), "\n".join(definition.lines))
         return reached
@@ -187,13 +193,14 @@ def listed():
     return rows
 
 
-def told(sums):
-    """What docs/PROMISES.md says of the lists' lengths, and of all of them together, where it is not true."""
+def told(sums, written):
+    """What docs/PROMISES.md says of the lists' lengths, of all of them together and of the first by the written form, where it is not true."""
     text = (ROOT / "docs" / "PROMISES.md").read_text()
     said = {title: int(lines.replace(",", "")) for title, lines in re.findall(r"\*\*For (.*?)\*\*, ([\d,]+) lines:", text)}
     wrong = [f"{title}: {sums[title]} lines, docs/PROMISES.md says {said.get(title)}" for title in sums if said.get(title) != sums[title]]
     together = f"Together {sum(sums.values()):,} lines, {sums['sheets']:,} of them for the sheets."
-    return wrong if together in text else wrong + [f"docs/PROMISES.md does not say: {together}"]
+    shorter = f"that leaves {written:,} of the {sums['sheets']:,} lines for the sheets"
+    return wrong + [f"docs/PROMISES.md does not say: {sentence}" for sentence in (together, shorter) if sentence not in text]
 
 
 def main(arguments):
@@ -203,6 +210,9 @@ def main(arguments):
         roots = [found for crate, only in functions.items() for found in house.contracts(crate, only)]
         roots += [house.specs(*theorem.split("/")[:2]).names[theorem.split("/")[2]] for theorem in theorems]
         by_file, lines_here = {}, 0
+        if title == "sheets":
+            led_on = {**LED_ON, **BY_WRITING}
+            written = sum(len(definition.lines) for key, definition in house.walk(roots, led_on).items() if key not in led_on)
         for key, definition in house.walk(roots).items():
             if key not in seen and key not in LED_ON:
                 seen.add(key)
@@ -223,7 +233,8 @@ def main(arguments):
         print(f"{title}: {lines_here} lines in {len(by_file)} files")
     wrong += [f"{key[0]}: {key[1]}/{key[2]} is listed, and nothing there cites it" for key in rows]
     print(f"together {total} lines, {len(seen)} definitions")
-    wrong += told(sums)
+    print(f"sheets by the written form alone: {written} lines")
+    wrong += told(sums, written)
     for line in wrong:
         print(f"believe: {line}", file=sys.stderr)
     sys.exit(1 if wrong else 0)

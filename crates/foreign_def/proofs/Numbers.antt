@@ -1,6 +1,6 @@
 -- Numbers of the places: prices that certify a flow certify every flow of least cost; those of the solver are within the limit.
 use mathlib.Core.Path.{_≡_, subst}
-use mathlib.Core.Bool.{Bool, true}
+use mathlib.Core.Bool.{true}
 use mathlib.Core.List.{List}
 use mathlib.Core.Logic.{⊎-elim}
 use lib.IntN.{ℤ, pos, _-ℤ_, natAbs}

@@ -6,7 +6,7 @@ use lib.IntN.{ℤ, pos, _-ℤ_, natAbs}
 use Prim.Native.Nat.{ℕ, suc, _≤_, _<_}
 use native.Mathlib.Nat.{le-antisymm}
 use native.Mathlib.Omega.{arith}
-use lib.ListN.{length, getD}
+use lib.ListN.{length}
 use Rattle.numbers.specs.Inner.{values}
 use Rattle.numbers.proofs.Tests.{by-cases, same-test}
 use Rattle.plants.specs.Plants.{Plant}

@@ -1,7 +1,7 @@
 -- The promises of the check and of the numbers are kept: the check's answer is one, what it vouches for is so, and what must pass
 -- passes, with our own numbers too.
 use mathlib.Core.Path.{_≡_, refl, sym, _∙_, ap, subst}
-use mathlib.Core.Bool.{Bool, true, false}
+use mathlib.Core.Bool.{Bool, true}
 use mathlib.Core.List.{List}
 use mathlib.Core.Logic.{_⊎_, inl, inr, ⊎-elim}
 use lib.IntN.{ℤ}

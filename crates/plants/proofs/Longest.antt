@@ -13,7 +13,7 @@ use Rattle.plants.specs.declared.Record.{Record}
 use Rattle.plants.specs.declared.Record.the-variants.{Listed, End, Refused}
 use Rattle.plants.specs.Limits.{maxStreams, meteredKind, unmeteredKind, endKind, rangedKind, siteBody, meteredBody, rangedBody, unmeteredBody, endBody, longestFile}
 use Rattle.plants.specs.Plants.{Plant, streamFault}
-use Rattle.plants.specs.Files.{Got, bad, got, siteAt, onSite, meteredIn, rangedIn, unmeteredIn, bodyFault, checked, streamRecord, endFault, endRecord, kindRecord, recordAt, onRecord, withStream, recordsBy, mostRecords, readPlant}
+use Rattle.plants.specs.Files.{Got, bad, got, siteAt, onSite, meteredIn, rangedIn, unmeteredIn, bodyFault, checked, streamRecord, endFault, kindRecord, recordAt, onRecord, withStream, recordsBy, mostRecords}
 use Rattle.plants.specs.Says.{Longest-file}
 use Rattle.plants.proofs.Records.{Meaning, record-means}
 

@@ -21,7 +21,7 @@ use Rattle.plants.specs.declared.Plant as Arrays
 use Rattle.plants.specs.declared.Done.{Done}
 use Rattle.plants.specs.Limits.{maxUnits, maxStreams, maxWeight, maxReading, maxRange, siteKind, meteredKind, unmeteredKind, endKind, rangedKind, siteBody, meteredBody, rangedBody, unmeteredBody, endBody, longestFile}
 use Rattle.plants.specs.Plants.{Plant, unitsFault, meterFault, rangeFault, streamFault, firstFault, partsFault}
-use Rattle.plants.specs.Files.{Got, bad, got, siteFault, siteAt, onSite, meteredIn, rangedIn, unmeteredIn, bodyFault, checked, streamRecord, endFault, endRecord, kindRecord, recordAt, onRecord, withStream, recordsBy, mostRecords, readPlant}
+use Rattle.plants.specs.Files.{Got, bad, got, siteFault, siteAt, onSite, meteredIn, rangedIn, unmeteredIn, bodyFault, checked, streamRecord, endFault, endRecord, kindRecord, recordAt, onRecord, withStream, recordsBy, mostRecords}
 use Rattle.plants.specs.Says.{plantOf, writeFault, fileNumber, File-refusals, WriteSays}
 use Rattle.plants.proofs.Accepted.{refused}
 

@@ -1,13 +1,12 @@
 -- One place more: the greatest size, and the sum of products.
-use mathlib.Core.Path.{_≡_, refl, sym, ap, _∙_}
-use mathlib.Core.Bool.{Bool, true, false}
+use mathlib.Core.Path.{_≡_, refl, ap, _∙_}
+use mathlib.Core.Bool.{true, false}
 use mathlib.Core.List.{List}
-use Prim.Native.Nat.{ℕ, suc, _+_, _≤_, _<_}
+use Prim.Native.Nat.{ℕ, _+_, _≤_, _<_}
 use native.Mathlib.Omega.{arith}
 use native.Mathlib.Numerals.{add-one}
 use lib.ListN.{getD}
 use lib.Ieee.{Float, nan, binary64, neg, add, mul, lt}
-use Rattle.numbers.specs.Choice.{pick}
 use Rattle.plants.specs.Limits.{places}
 use Rattle.potentials.specs.Nets.{none, larger, greatestTo, productTo}
 

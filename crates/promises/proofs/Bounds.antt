@@ -1,15 +1,15 @@
 -- What the calls give at most, and what they never give.
-use mathlib.Core.Path.{_≡_, refl, sym, ap, _∙_, subst}
+use mathlib.Core.Path.{_≡_, refl, sym, ap, _∙_}
 use mathlib.Core.Bool.{Bool, true, false, not, _||_}
 use mathlib.Core.List.{List, [], _∷_}
-use Prim.Native.Nat.{ℕ, zero, suc, _-_, _*_, _≤_, _<_}
+use Prim.Native.Nat.{ℕ, _-_, _*_, _≤_, _<_}
 use native.Mathlib.Omega.{arith}
 use native.Mathlib.Decide.{ℕ-discrete, decLe}
 use lib.Dec.{eqb, ltb}
 use lib.ListN.{length, take}
-use Rattle.numbers.specs.Choice.{pick, refuseIf, firstOf}
+use Rattle.numbers.specs.Choice.{refuseIf, firstOf}
 use Rattle.numbers.specs.Bytes.{over}
-use Rattle.numbers.proofs.Tests.{by-cases, clash, picked}
+use Rattle.numbers.proofs.Tests.{clash, picked}
 use Rattle.plants.specs.declared.Stream.{Stream}
 use Rattle.plants.specs.declared.Done.{Done}
 use Rattle.plants.specs.Limits.{maxStreams, longestFile}
@@ -20,13 +20,13 @@ use Rattle.plants.specs.Within.{Within}
 use Rattle.plants.proofs.Limited.{within}
 use Rattle.plants.proofs.Accepted.{accepted}
 use Rattle.plants.proofs.Refusals.{file-refusals, write-not-19}
-use Rattle.conversions.specs.Says.{faultOf, convertFault, Converts}
+use Rattle.conversions.specs.Says.{faultOf, Converts}
 use Rattle.moves.specs.Moves.{narrower, narrowFault, home, toRanged, fromRanged}
 use Rattle.transmitters.proofs.Short.{written-short}
 use Rattle.purchases.specs.declared.Bought.{Bought}
 use Rattle.purchases.specs.declared.Handed.{Handed}
 use Rattle.purchases.specs.Purchases.{maxPrice, unmeteredTo, someUnfair, pricesFault}
-use Rattle.purchases.specs.Says.{noneBought, BuyOf, BuyWith, BuySays}
+use Rattle.purchases.specs.Says.{BuyWith}
 use Rattle.purchases.specs.Lent.{LentSays, BuyHandsOver}
 use Rattle.purchases.proofs.Price.{price-most}
 use Rattle.purchases.proofs.Promise.{meters-to-buy}

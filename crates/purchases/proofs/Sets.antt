@@ -24,7 +24,7 @@ use Rattle.flows.proofs.Labels.{label-joined, labels-same}
 use Rattle.forests.specs.Withheld.{NoneWithheld}
 use Rattle.forests.specs.Metering.{chosen}
 use Rattle.forests.proofs.Blanks.{none→classes}
-use Rattle.purchases.specs.Purchases.{maxPrice, unmeteredTo, priceIn, someUnfair, pricesFault, pricesTo, priceOf, numbersFrom, numbersOf, notLater, Serves, Best}
+use Rattle.purchases.specs.Purchases.{maxPrice, unmeteredTo, priceIn, someUnfair, pricesFault, pricesTo, priceOf, numbersFrom, numbersOf, notLater, Best}
 use Rattle.purchases.specs.Says.{boughtOf}
 use Rattle.purchases.specs.Choosing.{before, dearer, bought, toBuy}
 use Rattle.purchases.proofs.Buying.{Priced, best}

@@ -1,13 +1,13 @@
 -- What a cheapest flow's sheet tells: each sentence, from the classes and the flow that they were made of.
-use mathlib.Core.Path.{_≡_, refl, sym, ap, ap₂, _∙_, subst}
+use mathlib.Core.Path.{_≡_, refl, sym, ap, ap₂, _∙_}
 use mathlib.Core.Bool.{true}
 use mathlib.Core.Logic.{_↔_}
-use mathlib.Core.List.{List, _++_, append-assoc}
+use mathlib.Core.List.{List, _++_}
 use lib.IntN.{ℤ, pos, _*ℤ_}
 use Prim.Native.Nat.{ℕ, zero, suc, _+_, _*_, _^_, _≤_, _<_}
 use native.Mathlib.Omega.{arith}
 use lib.Dec.{eqb}
-use lib.ListN.{length, getD, take, length-append}
+use lib.ListN.{length, getD, take}
 use lib.Seq.{length-take-le, getD-take}
 use Rattle.numbers.specs.Choice.{pick}
 use Rattle.numbers.proofs.Tests.{clash}
@@ -20,7 +20,7 @@ use Rattle.flows.specs.declared.Class.the-variants.{Adjusted, AsRead, Given, Wi
 use Rattle.flows.specs.Flows.{streamAt, amountAt, balanced, allowedOver, cost, costOver, Cheapest, nearest}
 use Rattle.flows.specs.Chains.{everyStream, unmeteredOnly}
 use Rattle.flows.specs.Classes.{classOf, numberOf, degrees}
-use Rattle.flows.specs.Test.{criticalAt, verdictAt}
+use Rattle.flows.specs.Test.{verdictAt}
 use Rattle.flows.specs.Shown.{adjustedWeight, adjustedTo, adjusted, Shown}
 use Rattle.flows.proofs.Nets.{inside}
 use Rattle.flows.proofs.Lists.{values-at}

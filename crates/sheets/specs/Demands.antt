@@ -8,7 +8,7 @@ use Rattle.flows.specs.Groups.{One-pass}
 use Rattle.flows.specs.Overfull.{unmarked, Refusal-19}
 use Rattle.sheets.specs.declared.Sheet.{Sheet}
 use Rattle.sheets.specs.Sentences.{Answers}
-use Rattle.sheets.specs.Counters.{topSheet, counterOf, nextOf}
+use Rattle.sheets.specs.Counters.{topSheet, counterOf}
 use Rattle.sheets.specs.Says.{SheetSays}
 use Rattle.sheets.specs.DeskTool.{Desk-tool}
 use Rattle.sheets.specs.Kept.{Reopening}

@@ -10,7 +10,6 @@ use borrow.Author.Tests.{lt-ltb, le-ltb}
 use lib.Dec.{ltb}
 use lib.ListN.{length, take}
 use Rattle.numbers.specs.Inner.{Put, pickT}
-use Rattle.numerals.specs.Numerals.{text}
 use Rattle.plants.specs.Plants.{Plant}
 use Rattle.plants.specs.Files.{Got, bad, got, readPlant}
 use Rattle.plants.specs.Within.{Within}
@@ -24,7 +23,6 @@ use Rattle.sheets.specs.Counters.{officesFrom}
 use Rattle.sheets.specs.Sheets.{SheetParts}
 use Rattle.sheets.specs.Drawings.{plantParts}
 use Rattle.sheets.specs.Kept.{someSheet, readSheet}
-use Rattle.sheets.specs.Sentences.{callFault}
 use Rattle.sheets.specs.Says.{SheetWith, SheetSays}
 use Rattle.sheets.proofs.Promise.{call-taken}
 use Rattle.sheets.proofs.Unique.{one-balance, never-both}
@@ -34,11 +32,8 @@ use Rattle.listings.specs.Listing.{listingOf, refusalText}
 use Rattle.listings.specs.Room.{leastText}
 use Rattle.texts.specs.Says.{Listed, Overfilled, ListWith, ListSays}
 use Rattle.texts.specs.Sample.{sampleFile}
-use Rattle.texts.specs.Printed.{sheetText, Prints, Printed}
+use Rattle.texts.specs.Printed.{sheetText, Printed}
 use Rattle.texts.proofs.Sample.{sample}
-
-prints : {t o o′ : List ℕ} {r : ℕ} → Put t o o′ r → Prints t o o′ r
-prints p = (p .size, p .bytes)
 
 module _ (file o o′ : List ℕ) (r : ℕ) where
   by-length : (b : Bool) → ltb (length o) leastText ≡ b → ListSays file o o′ r → pickT b ((r ≡ 0) × (o′ ≡ o)) (ListWith (readPlant file) o o′ r)
@@ -87,9 +82,9 @@ drawn file b b′ o o′ q s r says n read h list =
 pub printed : Printed
 printed = record {
   short = short;
-  sheet = λ file b b′ o o′ q s r says n read h list. prints (drawn file b b′ o o′ q s r says n read h list);
+  sheet = drawn;
   refused = λ file b b′ o o′ q r says z n h list.
-      prints (told file o o′ r h list q b b′ n (readPlant file) refl (call-taken file 0 (officesFrom 0) b b′ q says z));
+      told file o o′ r h list q b b′ n (readPlant file) refl (call-taken file 0 (officesFrom 0) b b′ q says z);
   sample = λ o o′ r h list.
-      prints (subst (λ (t : List ℕ). Put t o o′ r) (sample .4) (listed sampleFile o o′ r h list (sample .0) (sample .2) (sample .1) (sample .3)));
+      subst (λ (t : List ℕ). Put t o o′ r) (sample .4) (listed sampleFile o o′ r h list (sample .0) (sample .2) (sample .1) (sample .3));
 }
