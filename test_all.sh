@@ -1,80 +1,147 @@
 #!/usr/bin/env bash
-# The gate, then the archive and all that is built over it: the C programs, C++, what is installed, the Rust crate with its
-# differential tests, the Python binding and the desk tool (where Debian's packages are there), short runs of the benchmarks, the
-# fuzz target, and every command that the texts name.
+# The gate, then the archive and all that is built over it: the C programs, the programs themselves, C++, what is installed, the Rust
+# crate with its differential tests, the Python binding and the desk tool (where Debian's packages are there), short runs of the
+# benchmarks, the fuzz target, and every command that the texts name; and what the reference and the lists of the documentation must
+# agree with.
 #
 #     bash test_all.sh               everything
 #     bash test_all.sh --after-gate  what follows the gate
 #
 # WENGELUDO_INPUTS (default 100000)  inputs of the differential tests
 # FUZZ_SECONDS (default 60)          how long the fuzz target runs
-set -eu
+# SHORT=1                            no benchmark, no browser, no older Rust, and the commands of the texts are not run
+# SKIP_MISSING=1                     a part whose tool is missing is left out, and the last lines say so
+set -euo pipefail
 cd "$(dirname "$0")"
 
-missing=0
-need() { # command, what to install
-    command -v "$1" >/dev/null || { echo "test_all: no $1 on the PATH: $2" >&2; missing=1; }
-}
-need rt "install the Rattle kit (rattle-kit-5 or later)"
-need "${CC:-cc}" "install a C compiler (Debian: apt-get install gcc libc6-dev) or name one in CC"
-need cargo "install Rust 1.66 or later (https://rustup.rs, or Debian 12: apt-get install cargo-web); the crate itself takes 1.63"
-need clang "install clang with its libFuzzer (Debian: apt-get install clang)"
-need g++ "install a C++ compiler (Debian: apt-get install g++)"
-need python3 "install Python 3 (Debian: apt-get install python3)"
-need cmake "install CMake (Debian: apt-get install cmake)"
-need pkg-config "install pkg-config (Debian: apt-get install pkgconf)"
-need man "install man and groff (Debian: apt-get install man-db)"
-need objdump "install the binary utilities (Debian: apt-get install binutils)"
-[ "$missing" = 0 ] || exit 2
+case "${1:-}" in
+"" | --after-gate) ;;
+*) echo "usage: bash test_all.sh [--after-gate]" >&2; exit 2 ;;
+esac
 if [ "$(uname -m)" != x86_64 ]; then
     echo "test_all: the archive is for x86-64, and this machine is $(uname -m)" >&2
     exit 2
 fi
 
-part() { echo "== $*"; }
-case "${1:-}" in
-"") part "the gate"; bash .ci/run ;;
---after-gate) ;;
-*) echo "usage: bash test_all.sh [--after-gate]" >&2; exit 2 ;;
-esac
-part "texts that are made from lists and samples"
-python3 host/check/versions.py
-python3 host/check/refusals.py
-python3 host/check/picture.py
+# What a tool is installed by; cargo must be 1.66 or later, python3 3.10.
+advice() { # tool
+    case "$1" in
+    rt) echo "install the Rattle kit (rattle-kit-5 or later)" ;;
+    cargo) echo "install Rust 1.66 or later (https://rustup.rs, or Debian 12: apt-get install cargo-web); the crate itself takes 1.63" ;;
+    clang | clang++) echo "install clang with its libFuzzer (Debian: apt-get install clang)" ;;
+    g++) echo "install a C++ compiler (Debian: apt-get install g++)" ;;
+    objdump | nm | ar) echo "install the binary utilities (Debian: apt-get install binutils)" ;;
+    python3) echo "install Python 3.10 or later (Debian: apt-get install python3)" ;;
+    cmake) echo "install CMake (Debian: apt-get install cmake)" ;;
+    pkg-config) echo "install pkg-config (Debian: apt-get install pkgconf)" ;;
+    man | groff) echo "install man and groff (Debian: apt-get install man-db groff-base)" ;;
+    *) echo "install a C compiler (Debian: apt-get install gcc libc6-dev) or name one in CC" ;;
+    esac
+}
+there() { # tool
+    command -v "$1" >/dev/null || return 1
+    case "$1" in
+    cargo) printf '1.66\n%s\n' "$(cargo --version | cut -d' ' -f2)" | sort -V -C ;;
+    python3) python3 -c 'import sys; sys.exit(sys.version_info < (3, 10))' ;;
+    esac
+}
+compiler=${CC:-cc}
+if [ "${SKIP_MISSING:-0}" != 1 ]; then
+    missing=0
+    for tool in rt "$compiler" g++ clang clang++ cargo python3 cmake pkg-config man groff objdump nm ar; do
+        there "$tool" || { echo "test_all: no $tool on the PATH, or too old: $(advice "$tool")" >&2; missing=1; }
+    done
+    [ "$missing" = 0 ] || exit 2
+fi
+
+now="its own set-up"
+trap '[ $? = 0 ] || echo "test_all: FAILED in: $now" >&2' EXIT
+skipped=()
+skip() { # what, why
+    skipped+=("$1: $2")
+    echo "== skipped, $2: $1"
+}
+part() { # what, tools: true where it is to be run
+    local tool
+    for tool in "${@:2}"; do
+        there "$tool" || { skip "$1" "no $tool, or too old"; return 1; }
+    done
+    now=$1
+    echo "== $1"
+}
+long() { [ "${SHORT:-0}" != 1 ]; }
+quietly() { # log, lines to show, command
+    mkdir -p target/host
+    "${@:3}" >"$1" 2>&1 || { tail -20 "$1" >&2; exit 1; }
+    grep -aE "$2" "$1"
+}
+rows='^\| (plants|random extremes|as a site has them|tie-rich) \| (units|32) '
+
+if [ "${1:-}" = "" ]; then
+    part "the gate"
+    bash .ci/run --gate
+fi
+if part "texts that are made from lists and samples, and what is to be believed" python3; then
+    python3 host/check/versions.py
+    python3 host/check/refusals.py
+    python3 host/check/picture.py
+    python3 host/check/believe.py | tail -1
+    python3 host/check/names.py
+fi
 part "the archive"
 rt staticlib linked
-python3 host/check/archive.py
-part "the C programs"
-bash host/c/build.sh
-bash host/c/test.sh
-target/host/empty_slices
-part "C++"
-bash host/cpp/test.sh
-part "what is installed"
-bash host/install/test.sh
-part "the Rust crate and the differential tests"
-(cd host/rust && cargo test --offline --quiet -- --nocapture)
-bash host/rust/test_archives.sh
-bash host/rust/test_oldest.sh
-part "the Python binding and the desk tool"
-bash desk/test.sh
-part "the benchmark, a short run"
-bash host/bench/run.sh 5 1 >target/host/bench.log || { tail -20 target/host/bench.log >&2; exit 1; }
-grep -E '^\| (plants|random extremes|as a site has them|tie-rich) \| (units|32) ' target/host/bench.log | head -4
-part "the list of meters worth a visit, a short run"
-bash host/bench/visits.sh 20 1 >target/host/visits.log || { tail -20 target/host/visits.log >&2; exit 1; }
-grep -E '^\| (plants|as a site has them) \| (units|32) ' target/host/visits.log
-part "the check of a sheet, a short run"
-bash host/bench/checks.sh 20 1 >target/host/checks.log || { tail -20 target/host/checks.log >&2; exit 1; }
-grep -E '^\| (plants|as a site has them) \| (units|32) ' target/host/checks.log
-part "the fuzz target, ${FUZZ_SECONDS:-60} seconds"
-bash host/fuzz/build.sh
-if ! bash host/fuzz/run.sh "${FUZZ_SECONDS:-60}" >target/host/fuzz/log 2>&1; then
-    echo "test_all: the fuzz target found something; the last lines of target/host/fuzz/log:" >&2
-    tail -20 target/host/fuzz/log >&2
-    exit 1
+if part "the archive's bytes" python3; then
+    python3 host/check/archive.py
 fi
-grep -E '^(Done|fuzz target:)' target/host/fuzz/log
-part "every command of the texts"
-python3 host/check/commands.py
-echo "test_all: all passed"
+if part "the C programs" "$compiler"; then
+    bash host/c/build.sh
+    bash host/c/test.sh
+    target/host/empty_slices
+fi
+if part "the programs themselves" python3; then
+    python3 host/programs/test.py
+fi
+if part "C++" g++ clang++; then
+    bash host/cpp/test.sh
+fi
+if part "what is installed" "$compiler" pkg-config cmake man groff objdump cargo; then
+    bash host/install/test.sh
+fi
+if part "the cases and samples, made anew" python3; then
+    quietly target/host/cases.log '^[0-9,]+ ' python3 reference/make_cases.py --check
+fi
+if part "the Rust crate and the differential tests" cargo "$compiler" nm ar; then
+    (cd host/rust && cargo test --offline --quiet -- --nocapture)
+    bash host/rust/test_archives.sh
+    ! long || bash host/rust/test_oldest.sh
+fi
+absent=$(bash desk/test.sh --missing)
+if [ -n "$absent" ]; then
+    skip "the Python binding and the desk tool" "no$absent"
+elif part "the Python binding and the desk tool" "$compiler"; then
+    long || export CHROMIUM=none
+    bash desk/test.sh
+fi
+if long && part "the benchmark, a short run" cargo; then
+    quietly target/host/bench.log "$rows" bash host/bench/run.sh 5 1 | head -4
+fi
+if long && part "the list of meters worth a visit, a short run" cargo; then
+    quietly target/host/visits.log "$rows" bash host/bench/visits.sh 20 1
+fi
+if long && part "the check of a sheet, a short run" cargo; then
+    quietly target/host/checks.log "$rows" bash host/bench/checks.sh 20 1
+fi
+fuzzer() { echo 'int LLVMFuzzerTestOneInput(const char *d, long n) { return n < 0 && *d; }' | clang -fsanitize=fuzzer -x c - -o /dev/null 2>/dev/null; }
+if there clang && ! fuzzer && [ "${SKIP_MISSING:-0}" = 1 ]; then
+    skip "the fuzz target" "clang has no libFuzzer"
+elif part "the fuzz target, ${FUZZ_SECONDS:-60} seconds" clang objdump nm; then
+    bash host/fuzz/build.sh
+    quietly target/host/fuzz/log '^(Done|fuzz target:)' bash host/fuzz/run.sh "${FUZZ_SECONDS:-60}"
+fi
+if long && part "every command of the texts" python3; then
+    python3 host/check/commands.py
+fi
+for what in "${skipped[@]+"${skipped[@]}"}"; do
+    echo "test_all: SKIPPED $what"
+done
+echo "test_all: all that was run passed"

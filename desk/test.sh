@@ -1,25 +1,34 @@
 #!/usr/bin/env bash
-# Tests the Python binding and the desk tool on the archive, in an environment of its own (target/desk): bash desk/test.sh
+# Tests the Python binding and the desk tool on the archive, in an environment of its own (target/desk).
+#
+#     bash desk/test.sh            the tests
+#     bash desk/test.sh --missing  what they need and this machine lacks, nothing where it has all
 #
 # Where Debian's packages are missing it says which and ends with 0: the engine does not need them.
 # WENGELUDO_ARCHIVE, WENGELUDO_INCLUDE   another archive and its header's folder
 # WENGELUDO_HOURS (default 200)          lists of the batch test; 8760 is a year
 # WENGELUDO_EXAMPLES (default 100)       drawn lists of each kind
+# WENGELUDO_DRAWN (default 300)          drawn plants for the binding
+# CHROMIUM (default chromium)            the browser that opens the pages; none: they are not opened
 set -eu
 cd "$(dirname "$0")/.."
 python=/usr/bin/python3 # Debian's own: another python3 on the PATH sees none of Debian's packages
-modules="cffi click rich openpyxl jinja2 numpy pytest hypothesis setuptools venv"
+modules="cffi click rich openpyxl jinja2 numpy pytest hypothesis setuptools wheel venv ensurepip"
 absent=
 for module in $modules; do "$python" -c "import $module" 2>/dev/null || absent="$absent $module"; done
 command -v dot >/dev/null || absent="$absent graphviz"
 [ -e "$("$python" -c 'import sysconfig; print(sysconfig.get_path("include"))' 2>/dev/null)/Python.h" ] || absent="$absent Python.h"
+if [ "${1:-}" = --missing ]; then
+    echo "$absent"
+    exit 0
+fi
 if [ -n "$absent" ]; then
     echo "desk: not tested, as $python has no:$absent"
     echo "desk: apt-get install python3-venv python3-dev python3-pip python3-setuptools python3-wheel python3-cffi python3-click python3-rich" \
         "python3-openpyxl python3-jinja2 python3-numpy python3-pytest python3-hypothesis graphviz"
     exit 0
 fi
-command -v "${CHROMIUM:-chromium}" >/dev/null || echo "desk: pages are not opened in a browser, as there is no chromium (apt-get install chromium)"
+[ "${CHROMIUM:-}" = none ] || command -v "${CHROMIUM:-chromium}" >/dev/null || echo "desk: pages are not opened in a browser, as there is no chromium (apt-get install chromium)"
 home=$PWD/target/desk
 [ -x "$home/bin/python3" ] || "$python" -m venv --system-site-packages "$home"
 export WENGELUDO_INCLUDE="${WENGELUDO_INCLUDE:-$PWD/host/include}" WENGELUDO_ARCHIVE="${WENGELUDO_ARCHIVE:-$PWD/target/staticlib/liblinked.a}"

@@ -12,6 +12,7 @@ import layouts_to_try
 import moves_to_try
 import offices_to_try
 import plants_to_try
+import published_to_try
 import purchases_to_try
 import ranges_to_try
 import refusals
@@ -360,4 +361,5 @@ SUBJECTS = (
     ("charges", charges_to_try.cases),
     ("foreign", foreign_to_try.checks),
     ("place_numbers", foreign_to_try.numbers),
+    ("published", published_to_try.published),
 )

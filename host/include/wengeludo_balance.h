@@ -10,11 +10,9 @@
  *   - what a call writes overlaps nothing else that the same call is handed.
  * Lengths count elements. A slice may be longer than is needed. A slice of length 0 may be NULL: it is never looked at.
  *
- * What each call does is proved against the definitions in crates/sheets/specs, crates/plants/specs,
- * crates/transmitters/specs, crates/moves/specs, crates/purchases/specs, crates/surveys/specs, crates/visit_def/specs,
- * crates/charge_def/specs and crates/foreign_def/specs: result, counts and every byte of a slice follow from what is handed in, but
- * for the choices that two calls have, which places are marked and which numbers places get. What comes of the offices'
- * sheet numbers over any calls is proved in crates/office_history.
+ * What each call does is proved against definitions that docs/PROMISES.md lists, call by call and file by file: result, counts
+ * and every byte of a slice follow from what is handed in, but for the choices that two calls have, which places are marked and
+ * which numbers places get.
  */
 #ifndef WENGELUDO_BALANCE_H
 #define WENGELUDO_BALANCE_H

@@ -1,35 +1,14 @@
 // The listing of a plant: the plant file from standard input, its listing to standard output. What goes wrong in reading or
 // writing is said on standard error, in one line.
-use plants::limits::LONGEST_FILE;
 use texts::LEAST_TEXT;
 
-// One byte more than the longest plant file.
-const MOST_READ: usize = LONGEST_FILE + 1;
-
 fn main() {
-    if 1 < os::arg_count() {
-        io::write_all(
-            libc::STDERR_FILENO,
-            b"balance: a plant file is read from standard input, and no argument is taken\n",
-        );
-        return;
-    }
-    let mut file = [0u8; MOST_READ];
-    let input = inputs::read_input(&mut file);
-    if input.failed {
-        io::write_all(
-            libc::STDERR_FILENO,
-            b"balance: standard input cannot be read\n",
-        );
-        return;
-    }
-    let size = input.size;
-    let mut text = [0u8; LEAST_TEXT];
-    let end = texts::list_plant(&file[..size], &mut text);
-    if !io::write_all(libc::STDOUT_FILENO, &text[..end]) {
-        io::write_all(
-            libc::STDERR_FILENO,
-            b"balance: standard output cannot be written\n",
-        );
+    let fed = programs::plant_file(b"balance");
+    if fed.taken {
+        let file = fed.file;
+        let size = fed.size;
+        let mut text = [0u8; LEAST_TEXT];
+        let end = texts::list_plant(&file[..size], &mut text);
+        programs::put_text(b"balance", &text[..end]);
     }
 }

@@ -11,7 +11,7 @@ use Rattle.flows.specs.Overfull.{unmarked}
 use Rattle.sheets.specs.declared.Sheet.{Sheet}
 use Rattle.sheets.specs.declared.Outcome.{Outcome}
 use Rattle.sheets.specs.Counters.{counterOf, nextOf, raised}
-use Rattle.sheets.specs.Sheets.{sheetBytes}
+use Rattle.sheets.specs.Drawings.{sheetBytes}
 use Rattle.sheets.specs.Sentences.{RefusedWith}
 use Rattle.drawing.specs.Draws.{Filled, DrawnOf}
 

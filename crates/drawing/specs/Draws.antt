@@ -10,7 +10,7 @@ use Rattle.sheets.specs.declared.Sheet.{Sheet}
 use Rattle.sheets.specs.declared.Balance.{Balance}
 use Rattle.sheets.specs.declared.Outcome.{Outcome}
 use Rattle.sheets.specs.Counters.{nextOf, raised}
-use Rattle.sheets.specs.Sheets.{sheetBytes}
+use Rattle.sheets.specs.Drawings.{sheetBytes}
 use Rattle.sheets.specs.Sentences.{RefusedWith}
 
 -- The sheet of a balance with so many streams, under the office's next number; the slice past it as it was.

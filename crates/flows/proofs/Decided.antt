@@ -39,7 +39,7 @@ shown p w xs π h c = record {
 }
 
 -- Where some flow is in range no set is overfull.
-decided-shown : (p : Plant) → Within p → (ys : List ℤ) → allowed p ys ≡ true → Decided p → Shown p
+pub decided-shown : (p : Plant) → Within p → (ys : List ℤ) → allowed p ys ≡ true → Decided p → Shown p
 decided-shown p w ys a (solved xs π h c) = shown p w xs π h c
 decided-shown p w ys a (full ms o) = clash (allowed p ys) a (overfull-none p w ms o 1 ys (omega arith))
 

@@ -8,6 +8,7 @@ use borrow.Author.Count.{below-none, below-more}
 use lib.ListN.{length, getD, set, length-set}
 use lib.Seq.{ext-getD, getD-set-same, getD-set-other}
 use Rattle.numbers.specs.Inner.{values}
+pub use Rattle.flows.specs.Written.{Written}
 
 pub map-at : {A B : Type 0} (f : A → B) (xs : List A) (i : ℕ) (d : B) (e : A) → i < length xs → getD (map f xs) i d ≡ f (getD xs i e)
 map-at f [] i d e h = absurd (omega arith)
@@ -37,12 +38,6 @@ set-each P d xs i v n l p all k m = elim (ℕ-discrete k i) [
   | yes e ↦ rw (e, getD-set-same xs i v d l) p
   | no e ↦ rw (getD-set-other xs i k v d e) (all k m)
 ]
-
--- The first u elements are f's values, the others are as they were. (d is read past the end.)
-pub record Written {A : Type 0} (d : A) (n : ℕ) (f : ℕ → A → A) (before now : List A) (u : ℕ) : Type 0 where
-  pub long : length now ≡ n
-  pub done : (k : ℕ) → k < u → getD now k d ≡ f k (getD before k d)
-  pub rest : (k : ℕ) → u ≤ k → getD now k d ≡ getD before k d
 
 module _ {A : Type 0} {d : A} {n : ℕ} {f : ℕ → A → A} where
   pub written-none : {xs : List A} → length xs ≡ n → Written d n f xs xs 0

@@ -56,13 +56,6 @@ classOf p i =
     let s = streamAt (p .streams) i in
     pick (s .metered) (pick (oneGroup p (s .from) (s .to)) AsRead Adjusted) (pick (onLoop p i) Withheld Given)
 
--- The number of each class.
-abbrev pub classNumber : Class → ℕ
-classNumber Adjusted = 0
-classNumber AsRead = 1
-classNumber Given = 2
-classNumber Withheld = 3
-
 -- What the metered streams take out of a set of places, less what they bring in.
 abbrev pub sideOut : List ℕ → List Stream → List ℤ → ℤ
 sideOut side [] xs = pos 0

@@ -84,6 +84,11 @@ notAfter [] ys = true
 notAfter (x ∷ xs) [] = false
 notAfter (x ∷ xs) (y ∷ ys) = ltZ x y || (leZ x y && notAfter xs ys)
 
+-- A flow of least cost: a balanced whole-number flow within all ranges that no other undercuts.
+pub record OfLeastCost (p : Plant) (xs : List ℤ) : Type 0 where
+  pub balance : allowed p xs ≡ true
+  pub least : (ys : List ℤ) → allowed p ys ≡ true → cost (p .streams) xs ≤ cost (p .streams) ys
+
 -- The cheapest flow: of least cost among all balanced whole-number flows within all ranges; among these, the one whose first
 -- metered stream is least, then the second, and so on.
 pub record Cheapest (p : Plant) (xs : List ℤ) : Type 0 where

@@ -12,3 +12,4 @@ pub mod Overfull
 pub mod Certificate
 pub mod Nets
 pub mod Calls
+pub mod Written

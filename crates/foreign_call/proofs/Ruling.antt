@@ -41,13 +41,14 @@ use Rattle.sheets.specs.Apart.{topCost, capped}
 use Rattle.sheets.specs.Calls.{AllSmall}
 use Rattle.sheets.specs.Sheets.{SheetParts, kindOf}
 use Rattle.sheets.specs.Kept.{Reopened, noSheet, someSheet, readSheet, readOf, blank}
+use Rattle.sheets.specs.Sentences.{classOn}
 use Rattle.sheets.proofs.Promise.{read-bad, found}
 use Rattle.sheets.proofs.Back.{few-read}
 use Rattle.sheets.proofs.Demands.{demands}
 use Rattle.reckoning.proofs.Verdicts.{capped-verdict}
-use Rattle.foreign_def.specs.Passing.{difference, classAt, known, withheldOnly}
+use Rattle.foreign_def.specs.Passing.{difference, known}
 use Rattle.foreign_def.specs.Says.{CheckSays}
-use Rattle.foreign_def.specs.Test.{shownAt, shownFlows, noEntry, flowsShown, numbersFit, recordsFit, flowFits, flowsFit, broughtBy, netsFit, totalFits, partsIn, passes, checkWith}
+use Rattle.foreign_def.specs.Test.{withheldOnly, shownAt, shownFlows, noEntry, flowsShown, numbersFit, recordsFit, flowFits, flowsFit, broughtBy, netsFit, totalFits, partsIn, passes, checkWith}
 use Rattle.foreign_def.proofs.Every.{every-same}
 use Rattle.foreign_def.proofs.Sums.{same-default}
 use Rattle.foreign_def.proofs.Promise.{check-says}
@@ -117,7 +118,7 @@ module _ (p : Arrays.Plant) (kept : SheetRead) (numbers : List ℤ) where
   same-count = eqb (length (S .streams)) (length (P .streams))
 
   abbrev recorded : Bool
-  recorded = recordsFit (length (P .streams)) (classAt S) (classOf P) (shownAt P S)
+  recorded = recordsFit (length (P .streams)) (classOn S) (classOf P) (shownAt P S)
 
   abbrev flowing : Bool
   flowing = flowsFit (P .streams) (shownAt P S) numbers
@@ -172,14 +173,14 @@ module _ (p : Arrays.Plant) (kept : SheetRead) (numbers : List ℤ) where
     listed : (k : ℕ) → k < length (P .streams) → k < p .count
     listed k l = rw all-of at l
 
-    records-same : recordsIn p kept classes flows ≡ recordsFit (length (P .streams)) (classAt S) (classOf P) (shownAt P S)
+    records-same : recordsIn p kept classes flows ≡ recordsFit (length (P .streams)) (classOn S) (classOf P) (shownAt P S)
     records-same =
-        every-same (p .count) _ (λ k. eqb (kindOf (classAt S k)) (kindOf (classOf P k)) && leb (natAbs (shownAt P S k)) flowShift) each
-        ∙ ap (λ (n : ℕ). recordsFit n (classAt S) (classOf P) (shownAt P S)) (sym all-of)
+        every-same (p .count) _ (λ k. eqb (kindOf (classOn S k)) (kindOf (classOf P k)) && leb (natAbs (shownAt P S k)) flowShift) each
+        ∙ ap (λ (n : ℕ). recordsFit n (classOn S) (classOf P) (shownAt P S)) (sym all-of)
       where
         each : (k : ℕ) → k < p .count
             → (eqb (kindOf (getD (kept .streams) k noEntry .class)) (kindOf (getD classes k Adjusted)) && leb (natAbs (amountAt flows k)) flowShift)
-            ≡ (eqb (kindOf (classAt S k)) (kindOf (classOf P k)) && leb (natAbs (shownAt P S k)) flowShift)
+            ≡ (eqb (kindOf (classOn S k)) (kindOf (classOf P k)) && leb (natAbs (shownAt P S k)) flowShift)
         each k l =
             let x = ap (λ (e : Entry). e .class) (entry-same k l) in
             let y = class-same k (omega (arith, small-count)) in

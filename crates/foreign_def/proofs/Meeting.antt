@@ -17,7 +17,7 @@ use Rattle.plants.specs.Plants.{Plant}
 use Rattle.plants.specs.Within.{Within}
 use Rattle.flows.specs.declared.Class.{Class}
 use Rattle.flows.specs.declared.Class.the-variants.{Adjusted, AsRead, Given, Withheld}
-use Rattle.flows.specs.Flows.{streamAt, amountAt, balanced, inRange, allowed, cost}
+use Rattle.flows.specs.Flows.{streamAt, amountAt, balanced, inRange, allowed, cost, OfLeastCost}
 use Rattle.flows.specs.Classes.{has, joinedTo, unmeteredBut, classOf, sideOut}
 use Rattle.flows.proofs.Integers.{up, dn, plus-val, up-neg, dn-neg, size-val, parts, minus-none}
 use Rattle.flows.proofs.Sums.{sum-same}
@@ -27,8 +27,8 @@ use Rattle.flows.proofs.Ranges.{allowed-of, range-of, balanced-of}
 use Rattle.flows.proofs.Prices.{StepAt, Steps, Certificate, share, cost-one, least}
 use Rattle.model.proofs.Overs.{over, overTo}
 use Rattle.model.proofs.Tall.{tall}
-use Rattle.foreign_def.specs.Passing.{known, withheldOnly}
-use Rattle.foreign_def.specs.Says.{OfLeastCost}
+use Rattle.foreign_def.specs.Passing.{known}
+use Rattle.foreign_def.specs.Test.{withheldOnly}
 use Rattle.foreign_def.proofs.Filling.{Closed, fill}
 use Rattle.foreign_def.proofs.Stepping.{step-level, level-step, step-slopes}
 

@@ -1,6 +1,6 @@
 -- Numbers of the places: prices that certify a flow certify every flow of least cost; those of the solver are within the limit.
 use mathlib.Core.Path.{_≡_, subst}
-use mathlib.Core.Bool.{Bool, true}
+use mathlib.Core.Bool.{true}
 use mathlib.Core.List.{List}
 use mathlib.Core.Logic.{⊎-elim}
 use lib.IntN.{ℤ, pos, _-ℤ_, natAbs}
@@ -12,7 +12,7 @@ use Rattle.plants.specs.declared.Plant as Arrays
 use Rattle.plants.specs.Plants.{Plant}
 use Rattle.plants.specs.Says.{plantOf}
 use Rattle.plants.specs.Within.{Within, Accepted}
-use Rattle.flows.specs.Flows.{amountAt}
+use Rattle.flows.specs.Flows.{amountAt, OfLeastCost}
 use Rattle.flows.specs.Certificate.{weightOf, climb, rises, falls}
 use Rattle.flows.proofs.Integers.{same, val, minus-val, size-val, parts}
 use Rattle.flows.proofs.Nets.{countOf, streamOf}
@@ -21,7 +21,6 @@ use Rattle.model.specs.Sizes.{priceShift}
 use Rattle.model.specs.declared.Solved.{Solved}
 use Rattle.model.specs.Promise.{price, priceAt, flowOf, Solution}
 use Rattle.foreign_def.specs.Passing.{numberLimit}
-use Rattle.foreign_def.specs.Says.{OfLeastCost}
 use Rattle.foreign_def.specs.Test.{priceFrom}
 use Rattle.foreign_def.proofs.Stepping.{step-level, level-step, step-alike, tied-step, priced-says}
 

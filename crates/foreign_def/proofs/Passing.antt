@@ -6,75 +6,109 @@ use lib.IntN.{ℤ, pos, _-ℤ_, natAbs}
 use Prim.Native.Nat.{ℕ, suc, _≤_, _<_}
 use native.Mathlib.Nat.{le-antisymm}
 use native.Mathlib.Omega.{arith}
-use lib.ListN.{length, getD}
+use lib.ListN.{length}
 use Rattle.numbers.specs.Inner.{values}
 use Rattle.numbers.proofs.Tests.{by-cases, same-test}
 use Rattle.plants.specs.Plants.{Plant}
 use Rattle.plants.specs.Within.{Within}
 use Rattle.flows.specs.declared.Class.{Class}
 use Rattle.flows.specs.declared.Class.the-variants.{Adjusted, AsRead, Given, Withheld}
-use Rattle.flows.specs.Flows.{amountAt, inRange, cost, Cheapest}
+use Rattle.flows.specs.Flows.{amountAt, inRange, cost, OfLeastCost, Cheapest}
 use Rattle.flows.specs.Chains.{Chain}
-use Rattle.flows.specs.Classes.{has, joinedTo, classOf, numberOf}
+use Rattle.flows.specs.Classes.{has, joinedTo, classOf, degrees}
+use Rattle.flows.specs.Test.{verdictAt}
+use Rattle.flows.specs.Shown.{adjusted}
 use Rattle.flows.specs.Certificate.{climb}
 use Rattle.flows.proofs.Integers.{minus-none, none-minus}
 use Rattle.flows.proofs.Lists.{values-long, values-at}
 use Rattle.flows.proofs.Sums.{sum-same}
 use Rattle.flows.proofs.Nets.{countOf, streamOf, inside, crossing, crossing-level, no-crossing}
-use Rattle.flows.proofs.Reach.{joined→chain, chain→joined}
+use Rattle.flows.proofs.Reach.{chain-map, joined→chain, chain→joined}
+use Rattle.flows.proofs.Given.{class-means}
+use Rattle.flows.proofs.Withheld.{number-of, blank-of}
+use Rattle.flows.proofs.Chained.{as-read-of, adjusted-of}
+use Rattle.flows.proofs.Counted.{degrees-counted}
+use Rattle.flows.proofs.Decided.{decided-shown}
 use Rattle.flows.proofs.Ranges.{balanced-of, range-of}
 use Rattle.flows.proofs.Prices.{StepAt, Certificate}
-use Rattle.sheets.specs.declared.Entry.{Entry}
-use Rattle.sheets.specs.Apart.{capped}
-use Rattle.sheets.specs.Balances.{entryOf}
-use Rattle.sheets.specs.Sheets.{SheetParts, plantParts}
-use Rattle.sheets.specs.Kept.{blank}
-use Rattle.sheets.proofs.Entries.{noEntry}
-use Rattle.sheets.proofs.Telling.{es-long, entry-at, flow-at, cost-is}
-use Rattle.foreign_def.specs.Passing.{numberLimit, placeNumber, classAt, flowAt, Ours, known, withheldOnly, JoinedByW, sumIn, sumOut, Passes}
-use Rattle.foreign_def.specs.Says.{OfLeastCost, ShowsFlow, OtherFlow}
+use Rattle.model.proofs.Theorem.{decided}
+use Rattle.sheets.specs.Apart.{totalKind, capped}
+use Rattle.sheets.specs.Sheets.{SheetParts}
+use Rattle.sheets.specs.Drawings.{plantParts}
+use Rattle.sheets.specs.Sentences.{classOn, numberOn, Tells}
+use Rattle.sheets.proofs.Telling.{told, weights-told, tells}
+use Rattle.foreign_def.specs.Passing.{numberLimit, placeNumber, Ours, known, withheldOn, JoinedByW, sumIn, sumOut, Passes}
+use Rattle.foreign_def.specs.Says.{ShowsFlow, OtherFlow}
 use Rattle.foreign_def.specs.Numbers.{Serve}
-use Rattle.foreign_def.specs.Test.{shownAt}
+use Rattle.foreign_def.specs.Test.{withheldOnly, shownAt}
 use Rattle.foreign_def.proofs.Stepping.{step-level, level-step, step-alike, between-step, step-bottom, step-top}
 use Rattle.foreign_def.proofs.Meeting.{known-not, known-shown, Meets, metered-known, filledIn, filled-at, filled-least}
 use Rattle.foreign_def.proofs.Numbers.{same-prices}
-use Rattle.foreign_def.proofs.Sums.{same-default, crossing-sums}
+use Rattle.foreign_def.proofs.Sums.{crossing-sums}
 
-entry-class : (c : Class) (x : ℤ) → entryOf c x .class ≡ c
-entry-class Adjusted x = refl
-entry-class AsRead x = refl
-entry-class Given x = refl
-entry-class Withheld x = refl
+-- A sheet that tells of a plant what it has to has the classes, the degrees and the verdict as they are computed.
+module _ (p : Plant) (w : Within p) (s : SheetParts) (t : Tells p s) where
+  pub told-class : (k : ℕ) → k < countOf p → classOn s k ≡ classOf p k
+  told-class k l = go (classOf p k) refl
+    where
+      go : (c : Class) → classOf p k ≡ c → classOn s k ≡ c
+      go Adjusted e = let m = class-means p k Adjusted e .0 in t .adjusted k (l, m) .1 (adjusted-of p w k m .0 e)
+      go AsRead e = let m = class-means p k AsRead e .0 in t .as-read k (l, m) .1 (as-read-of p w k m .0 e)
+      go Given e = let m = class-means p k Given e .0 in t .given k (l, m) .1 (number-of p w k (record { listed = l; unmetered = m }) .0 e)
+      go Withheld e = let m = class-means p k Withheld e .0 in t .withheld k (l, m) .1 (blank-of p w k (record { listed = l; unmetered = m }) .0 e)
 
--- Our sheet: as many records as streams, each of our class; it shows the flow.
+  pub told-degrees : s .total .degrees ≡ degrees p
+  told-degrees =
+      let g = t .groups in
+      let c = t .pieces in
+      omega (arith, t .degrees (g .0) (c .0) (g .1) (c .1), degrees-counted p w (g .0) (c .0) (g .1) (c .1))
+
+  pub told-verdict : (xs : List ℤ) → Cheapest p xs → s .total .verdict ≡ verdictAt (degrees p) (cost (p .streams) xs) (adjusted p)
+  told-verdict xs c = t .verdict xs c ∙ (λ i. verdictAt (told-degrees i) (cost (p .streams) xs) (sym (weights-told p s told-class (countOf p) (omega arith)) i))
+
+-- Our sheet of a cheapest flow: it tells what it has to, and shows the flow.
 module _ (p : Plant) (w : Within p) (xs : List ℤ) (c : Cheapest p xs) (office n : ℕ) where
-  pub ours-long : length (plantParts office p xs n .streams) ≡ countOf p
-  ours-long = es-long p w xs c 0 0 []
-
-  ours-at : (k : ℕ) → k < countOf p → getD (plantParts office p xs n .streams) k blank ≡ getD (plantParts office p xs n .streams) k noEntry
-  ours-at k l = same-default (plantParts office p xs n .streams) k blank noEntry (rw ours-long l)
-
-  pub ours-class : (k : ℕ) → k < countOf p → classAt (plantParts office p xs n) k ≡ classOf p k
-  ours-class k l = ap (λ (e : Entry). e .class) (ours-at k l ∙ entry-at p w xs c 0 0 [] k l) ∙ entry-class (classOf p k) (numberOf p xs k)
+  pub ours-tell : Tells p (plantParts office p xs n)
+  ours-tell = tells p w (decided-shown p w xs (c .balance) (decided p w)) xs c (plantParts office p xs n) (told p w xs c totalKind office n)
 
   pub ours-shows : ShowsFlow p (plantParts office p xs n) xs
-  ours-shows k l o = ap (λ (e : Entry). e .flow) (ours-at k l) ∙ flow-at p w xs c 0 0 [] k l o
+  ours-shows k l o = let t = told p w xs c totalKind office n in t .numbers k l (λ e. o (t .classes k l ∙ e))
 
 module _ (p : Plant) (w : Within p) where
   -- A sheet like ours.
   module _ (sheet : SheetParts) (o : Ours p sheet) where
     pub like-long : length (sheet .streams) ≡ countOf p
-    like-long = o .2 .count ∙ ours-long p w (o .0) (o .1) 0 1
+    like-long = o .2 .count ∙ o .1 .listed
 
-    pub like-class : (k : ℕ) → k < countOf p → classAt sheet k ≡ classOf p k
-    like-class k l = o .2 .classes k (rw (ours-long p w (o .0) (o .1) 0 1) l) ∙ ours-class p w (o .0) (o .1) 0 1 k l
+    pub like-class : (k : ℕ) → k < countOf p → classOn sheet k ≡ classOf p k
+    like-class k l = o .2 .classes k (rw (o .1 .listed) l) ∙ told-class p w (o .0) (o .1) k l
 
-  shown-known : (sheet : SheetParts) (k : ℕ) → known (classOf p k) ≡ true → shownAt p sheet k ≡ flowAt sheet k
+    pub like-degrees : sheet .total .degrees ≡ degrees p
+    like-degrees = o .2 .degrees ∙ told-degrees p w (o .0) (o .1)
+
+    pub like-cost : (xs : List ℤ) → Cheapest p xs → sheet .total .cost ≡ capped (cost (p .streams) xs)
+    like-cost xs c = o .2 .cost ∙ o .1 .costs xs c
+
+    pub like-verdict : (xs : List ℤ) → Cheapest p xs → sheet .total .verdict ≡ verdictAt (degrees p) (cost (p .streams) xs) (adjusted p)
+    like-verdict xs c = o .2 .verdict ∙ told-verdict p w (o .0) (o .1) xs c
+
+    -- A stream is withheld on it where its class says so.
+    like-withheld : (k : ℕ) → k < countOf p → withheldOn sheet k (streamOf p k) ≡ withheldOnly p k (streamOf p k)
+    like-withheld k l = ap (λ (c : Class). not (known c)) (like-class k l)
+
+    -- The set of places that are joined to u by the streams withheld, as it is computed.
+    pub like-joined : (u : ℕ) → JoinedByW p sheet u (λ v. has v (joinedTo (withheldOnly p) p u))
+    like-joined u v l = (
+      λ e. chain-map (λ k h q. like-withheld k h ∙ q) (joined→chain (withheldOnly p) p u v e),
+      λ c. chain→joined (withheldOnly p) p (inside p w) (chain-map (λ k h q. sym (like-withheld k h) ∙ q) c),
+    )
+
+  shown-known : (sheet : SheetParts) (k : ℕ) → known (classOf p k) ≡ true → shownAt p sheet k ≡ numberOn sheet k
   shown-known sheet k e = rw e
 
-  -- The set of places joined to u, as it is computed.
-  pub joined-set : (u : ℕ) → JoinedByW p u (λ v. has v (joinedTo (withheldOnly p) p u))
-  joined-set u v l = (joined→chain (withheldOnly p) p u v, chain→joined (withheldOnly p) p (inside p w))
+  -- Of any sheet: the set of places joined to u.
+  pub joined-set : (sheet : SheetParts) (u : ℕ) → JoinedByW p sheet u (λ v. has v (joinedTo (withheldOn sheet) p u))
+  joined-set sheet u v l = (joined→chain (withheldOn sheet) p u v, chain→joined (withheldOn sheet) p (inside p w))
 
   module _ (sheet : SheetParts) (numbers : List ℤ) (g : Passes p sheet numbers) where
     abbrev π : ℕ → ℤ
@@ -83,7 +117,7 @@ module _ (p : Plant) (w : Within p) where
     step : (k : ℕ) → k < countOf p → StepAt 1 π (streamOf p k) (shownAt p sheet k)
     step k l = by-cases (streamOf p k .metered)
         (λ m. subst (λ (z : ℤ). StepAt 1 π (streamOf p k) z) (sym (shown-known sheet k (metered-known p w k m)))
-        (between-step π (streamOf p k) (flowAt sheet k) m (g .from-bottom k (l, m)) (g .to-top k (l, m))))
+        (between-step π (streamOf p k) (numberOn sheet k) m (g .from-bottom k (l, m)) (g .to-top k (l, m))))
         (λ m. level-step π (streamOf p k) m _ (none-minus (π (streamOf p k .to)) (π (streamOf p k .from)) (sym (g .equal k (l, m)))))
 
     in-range : (k : ℕ) → k < countOf p → inRange 1 (streamOf p k) (shownAt p sheet k) ≡ true
@@ -99,7 +133,7 @@ module _ (p : Plant) (w : Within p) where
       closed = λ u l.
           let c : ℕ → Bool = λ v. has v (joinedTo (withheldOnly p) p u) in
           crossing-sums p sheet (like-long sheet (g .ours)) (like-class sheet (g .ours)) c
-          ∙ none-minus _ _ (g .sums u c l (joined-set u));
+          ∙ none-minus _ _ (g .sums u c l (like-joined sheet (g .ours) u));
     }
 
     abbrev zs : List ℤ
@@ -107,7 +141,7 @@ module _ (p : Plant) (w : Within p) where
 
     zs-shown : ShowsFlow p sheet zs
     zs-shown k l n =
-        let t = known-not (classOf p k) n in
+        let t = known-not (classOf p k) (λ e. n (like-class sheet (g .ours) k l ∙ e)) in
         sym (filled-at p w π (shownAt p sheet) passes-meets k l t ∙ shown-known sheet k t)
 
     zs-least : OfLeastCost p zs
@@ -116,9 +150,9 @@ module _ (p : Plant) (w : Within p) where
     -- The sheet's cost is its cost.
     zs-cost : sheet .total .cost ≡ capped (cost (p .streams) zs)
     zs-cost =
-        let c = g .ours .1 in
-        g .ours .2 .cost ∙ cost-is p w (g .ours .0) c 0 0 []
-        ∙ ap capped (le-antisymm (c .least zs (zs-least .balance)) (zs-least .least (g .ours .0) (c .balance)))
+        let xs = g .ours .1 .some .0 in
+        let c = g .ours .1 .some .1 in
+        like-cost sheet (g .ours) xs c ∙ ap capped (le-antisymm (c .least zs (zs-least .balance)) (zs-least .least xs (c .balance)))
 
     pub passed-least : (xs : List ℤ) × OfLeastCost p xs × ShowsFlow p sheet xs × (sheet .total .cost ≡ capped (cost (p .streams) xs))
     passed-least = (zs, zs-least, zs-shown, zs-cost)
@@ -135,28 +169,29 @@ module _ (p : Plant) (w : Within p) where
     same-climb k l = ap₂ _-ℤ_ (number-at (streamOf p k .to) (w .each k l .to-in)) (number-at (streamOf p k .from) (w .each k l .from-in))
 
     module _ (ys : List ℤ) (c : Certificate p ys π) (sheet : SheetParts) (o : Ours p sheet) (shows : ShowsFlow p sheet ys) where
-      shown : (k : ℕ) → k < countOf p → known (classOf p k) ≡ true → flowAt sheet k ≡ amountAt ys k
-      shown k l t = shows k l (known-shown (classOf p k) t)
+      shown : (k : ℕ) → k < countOf p → known (classOf p k) ≡ true → numberOn sheet k ≡ amountAt ys k
+      shown k l t = shows k l (λ e. known-shown (classOf p k) t (sym (like-class sheet o k l) ∙ e))
 
       listed-step : (k : ℕ) → k < countOf p → StepAt 1 (placeNumber numbers) (streamOf p k) (amountAt ys k)
       listed-step k l = step-alike (placeNumber numbers) π (streamOf p k) (amountAt ys k) (same-climb k l) (c .steps k l)
 
-      flow-step : (k : ℕ) → k < countOf p → streamOf p k .metered ≡ true → StepAt 1 (placeNumber numbers) (streamOf p k) (flowAt sheet k)
+      flow-step : (k : ℕ) → k < countOf p → streamOf p k .metered ≡ true → StepAt 1 (placeNumber numbers) (streamOf p k) (numberOn sheet k)
       flow-step k l m = subst (λ (z : ℤ). StepAt 1 (placeNumber numbers) (streamOf p k) z) (sym (shown k l (metered-known p w k m))) (listed-step k l)
 
-      flow-range : (k : ℕ) → k < countOf p → streamOf p k .metered ≡ true → inRange 1 (streamOf p k) (flowAt sheet k) ≡ true
+      flow-range : (k : ℕ) → k < countOf p → streamOf p k .metered ≡ true → inRange 1 (streamOf p k) (numberOn sheet k) ≡ true
       flow-range k l m = subst (λ (z : ℤ). inRange 1 (streamOf p k) z ≡ true) (sym (shown k l (metered-known p w k m))) (range-of 1 p ys (c .balance) k l)
 
-      module _ (u : ℕ) (d : ℕ → Bool) (joined : JoinedByW p u d) where
+      module _ (u : ℕ) (d : ℕ → Bool) (joined : JoinedByW p sheet u d) where
         -- A withheld stream does not cross the border of the set.
         inner : (k : ℕ) → k < countOf p → known (classOf p k) ≡ false → d (streamOf p k .from) ≡ d (streamOf p k .to)
         inner k l t =
             let s = streamOf p k in
             let a = joined (s .from) (w .each k l .from-in) in
             let b = joined (s .to) (w .each k l .to-in) in
+            let h : withheldOn sheet k (streamOf p k) ≡ true = like-withheld sheet o k l ∙ ap not t in
             same-test (d (s .from)) (d (s .to))
-            (λ e. b .1 (Chain.along k l (rw t) (a .0 e)))
-            (λ e. a .1 (Chain.back k l (rw t) (b .0 e)))
+            (λ e. b .1 (Chain.along k l h (a .0 e)))
+            (λ e. a .1 (Chain.back k l h (b .0 e)))
 
         each : (k : ℕ) → k < countOf p → crossing d (streamOf p k) (shownAt p sheet k) ≡ crossing d (streamOf p k) (amountAt ys k)
         each k l = by-cases (known (classOf p k))
@@ -174,31 +209,24 @@ module _ (p : Plant) (w : Within p) where
         one-each = values-long π (suc (p .units));
         small = λ u l. rw (number-at u l) (few u l);
         ours = o;
-        from-bottom = λ k i. step-bottom (placeNumber numbers) (streamOf p k) (flowAt sheet k) (i .1) (flow-range k (i .0) (i .1)) (flow-step k (i .0) (i .1));
-        to-top = λ k i. step-top (placeNumber numbers) (streamOf p k) (flowAt sheet k) (i .1) (flow-range k (i .0) (i .1)) (flow-step k (i .0) (i .1));
+        from-bottom = λ k i. step-bottom (placeNumber numbers) (streamOf p k) (numberOn sheet k) (i .1) (flow-range k (i .0) (i .1)) (flow-step k (i .0) (i .1));
+        to-top = λ k i. step-top (placeNumber numbers) (streamOf p k) (numberOn sheet k) (i .1) (flow-range k (i .0) (i .1)) (flow-step k (i .0) (i .1));
         ranges = λ k i. flow-range k (i .0) (i .1);
         equal = λ k i. sym (minus-none (placeNumber numbers (streamOf p k .to)) (placeNumber numbers (streamOf p k .from))
             (step-level (placeNumber numbers) (streamOf p k) (i .1) (amountAt ys k) (listed-step k (i .0))));
         sums = λ u d l j. equal-sums u d j;
       }
 
-  -- Another flow of the same cost has least cost.
-  other-least : (xs : List ℤ) (sheet : SheetParts) (f : OtherFlow p xs sheet) → OfLeastCost p (f .flow)
-  other-least xs sheet f = record { balance = f .balance; least = λ ys a. omega (arith, f .same-cost, f .ours .least ys a) }
-
   -- Our sheet is one that shows such a flow.
-  pub our-flow : (xs : List ℤ) (office n : ℕ) → Cheapest p xs → OtherFlow p xs (plantParts office p xs n)
+  pub our-flow : (xs : List ℤ) (office n : ℕ) → Cheapest p xs → OtherFlow p (plantParts office p xs n)
   our-flow xs office n c = record {
-    ours = c;
-    matches = record { count = refl; classes = λ k l. refl; degrees = refl; cost = refl; verdict = refl };
+    ours = (plantParts office p xs n, ours-tell p w xs c office n, record { count = refl; classes = λ k l. refl; degrees = refl; cost = refl; verdict = refl });
     flow = xs;
-    balance = c .balance;
-    same-cost = refl;
+    least = record { balance = c .balance; least = c .least };
     shows = ours-shows p w xs c office n;
   }
 
   -- Prices within the limit that certify some flow serve.
   pub certified-serve : (π : ℕ → ℤ) → ((u : ℕ) → u ≤ p .units → natAbs (π u) ≤ numberLimit) → (xs : List ℤ) → Certificate p xs π
       → Serve p (values (suc (p .units)) π)
-  certified-serve π few xs c ys sheet f =
-      certified-passes π few (f .flow) (same-prices p w π xs c (f .flow) (other-least ys sheet f)) sheet (ys, f .ours, f .matches) (f .shows)
+  certified-serve π few xs c sheet f = certified-passes π few (f .flow) (same-prices p w π xs c (f .flow) (f .least)) sheet (f .ours) (f .shows)

@@ -1,7 +1,7 @@
 -- The promises of the check and of the numbers are kept: the check's answer is one, what it vouches for is so, and what must pass
 -- passes, with our own numbers too.
 use mathlib.Core.Path.{_≡_, refl, sym, _∙_, ap, subst}
-use mathlib.Core.Bool.{Bool, true, false}
+use mathlib.Core.Bool.{Bool, true}
 use mathlib.Core.List.{List}
 use mathlib.Core.Logic.{_⊎_, inl, inr, ⊎-elim}
 use lib.IntN.{ℤ}
@@ -22,13 +22,14 @@ use Rattle.flows.specs.Classes.{has, joinedTo}
 use Rattle.flows.proofs.Reach.{joined-self}
 use Rattle.sheets.specs.declared.Sheet.{Sheet}
 use Rattle.sheets.specs.Counters.{nextOf}
-use Rattle.sheets.specs.Sheets.{SheetParts, plantParts}
+use Rattle.sheets.specs.Sheets.{SheetParts}
+use Rattle.sheets.specs.Drawings.{plantParts}
 use Rattle.sheets.specs.Sentences.{callFault, Refused, Overfilled}
 use Rattle.sheets.specs.Says.{Drawn, SheetWith, SheetSays}
 use Rattle.sheets.specs.Kept.{Reopened, noSheet, someSheet, readSheet}
-use Rattle.sheets.proofs.Demands.{demands}
+use Rattle.sheets.proofs.Demands.{demands, drawn-kept}
 use Rattle.foreign_def.specs.declared.PlaceNumbers.{PlaceNumbers}
-use Rattle.foreign_def.specs.Passing.{withheldOnly, Passes}
+use Rattle.foreign_def.specs.Passing.{withheldOn, Passes}
 use Rattle.foreign_def.specs.Says.{CheckOf, CheckWith, CheckSays, Vouched, PassAll, Foreign-sheets}
 use Rattle.foreign_def.specs.Numbers.{noNumbers, numbersIn, Serve, Numbered, NumbersOf, NumbersWith, NumbersSay, Own-numbers}
 use Rattle.foreign_def.specs.Test.{passes, checkWith}
@@ -98,14 +99,14 @@ module _ (file : List ℕ) (p : Plant) (e : readPlant file ≡ got p) (numbers :
   pub pass-all : PassAll file p numbers
   pass-all = record {
     ours = λ office lasts o o′ s r top says z c.
-        let b = demands .kept file office lasts o o′ s top says z in
+        let b = drawn-kept file office lasts o o′ s top says z in
         let q = same-plant file p (b .plant) e (b .listed) in
         let cheap : Cheapest p (b .flow) = subst (λ (q : Plant). Cheapest q (b .flow)) q (b .cheapest) in
         let sheet = plantParts office p (b .flow) (nextOf office lasts) in
         said-of file (take (s .written) o′) numbers r p sheet e
         (subst (λ (q : Plant). readSheet (take (s .written) o′) ≡ someSheet (plantParts office q (b .flow) (nextOf office lasts))) q (b .read)) c .passed
-        (serve (b .flow) sheet (our-flow p (read-within file p e) (b .flow) office (nextOf office lasts) cheap));
-    others = λ xs sheet bytes r f q c. said-of file bytes numbers r p sheet e q c .passed (serve xs sheet f);
+        (serve sheet (our-flow p (read-within file p e) (b .flow) office (nextOf office lasts) cheap));
+    others = λ sheet bytes r f q c. said-of file bytes numbers r p sheet e q c .passed (serve sheet f);
   }
 
 -- Of a plant with a flow in range.
@@ -116,14 +117,15 @@ some-pass file p ys e a =
 
 pub foreign-sheets : Foreign-sheets
 foreign-sheets = record {
-  sets = λ file p u e l.
-      let c : ℕ → Bool = λ v. has v (joinedTo (withheldOnly p) p u) in
-      (c, joined-self (withheldOnly p) p u, joined-set p (read-within file p e) u);
+  sets = λ file p sheet u e l.
+      let c : ℕ → Bool = λ v. has v (joinedTo (withheldOn sheet) p u) in
+      (c, joined-self (withheldOn sheet) p u, joined-set p (read-within file p e) sheet u);
   some = λ file bytes numbers. (checkWith (readPlant file) (readSheet bytes) numbers, check-says file bytes numbers);
   one = λ file bytes numbers r₁ r₂ a b. said-is file bytes numbers r₁ a ∙ sym (said-is file bytes numbers r₂ b);
   sound = vouched;
   none = λ file bytes numbers p sheet r e n q c.
-      said-of file bytes numbers r p sheet e q c .broken (λ g. clash (allowed p (g .ours .0)) (g .ours .1 .balance) (n (g .ours .0)));
+      said-of file bytes numbers r p sheet e q c .broken
+      (λ g. let x = g .ours .1 .some in clash (allowed p (x .0)) (x .1 .balance) (n (x .0)));
   complete = some-pass;
 }
 

@@ -16,7 +16,8 @@ use Rattle.flows.proofs.Nets.{countOf, streamOf, crossing}
 use Rattle.sheets.specs.declared.Entry.{Entry}
 use Rattle.sheets.specs.Sheets.{SheetParts}
 use Rattle.sheets.specs.Kept.{blank}
-use Rattle.foreign_def.specs.Passing.{known, classAt, flowAt, knownSum, sumIn, sumOut}
+use Rattle.sheets.specs.Sentences.{classOn, numberOn}
+use Rattle.foreign_def.specs.Passing.{known, knownSum, sumIn, sumOut}
 use Rattle.foreign_def.specs.Test.{shownAt}
 
 -- What is read past the end makes no difference before it.
@@ -51,12 +52,12 @@ both-ways false true false x = refl
 both-ways false false false x = refl
 
 module _ (p : Plant) (sheet : SheetParts) (long : length (sheet .streams) ≡ length (p .streams))
-    (ours : (k : ℕ) → k < length (p .streams) → classAt sheet k ≡ classOf p k) (c : ℕ → Bool) where
+    (ours : (k : ℕ) → k < length (p .streams) → classOn sheet k ≡ classOf p k) (c : ℕ → Bool) where
   abbrev inward : ℕ → ℤ
-  inward k = pick (known (classAt sheet k) && c (streamOf p k .to)) (flowAt sheet k) (pos 0)
+  inward k = pick (known (classOn sheet k) && c (streamOf p k .to)) (numberOn sheet k) (pos 0)
 
   abbrev outward : ℕ → ℤ
-  outward k = pick (known (classAt sheet k) && c (streamOf p k .from)) (flowAt sheet k) (pos 0)
+  outward k = pick (known (classOn sheet k) && c (streamOf p k .from)) (numberOn sheet k) (pos 0)
 
   in-is : sumIn c (p .streams) (sheet .streams) ≡ sum (countOf p) inward
   in-is = known-is (λ s. c (s .to)) (p .streams) (sheet .streams) long
@@ -72,4 +73,4 @@ module _ (p : Plant) (sheet : SheetParts) (long : length (sheet .streams) ≡ le
       ∙ ap₂ _+ℤ_ (sym in-is) (sum-neg (countOf p) outward ∙ ap negℤ (sym out-is))
     where
       each : (k : ℕ) → k < countOf p → crossing c (streamOf p k) (shownAt p sheet k) ≡ inward k -ℤ outward k
-      each k l = rw (ours k l) (both-ways (c (streamOf p k .to)) (c (streamOf p k .from)) (known (classOf p k)) (flowAt sheet k))
+      each k l = rw (ours k l) (both-ways (c (streamOf p k .to)) (c (streamOf p k .from)) (known (classOf p k)) (numberOn sheet k))

@@ -19,7 +19,7 @@ use Rattle.plants.specs.Plants.{Plant}
 use Rattle.plants.specs.Within.{Within}
 use Rattle.flows.specs.declared.Class.{Class}
 use Rattle.flows.specs.declared.Class.the-variants.{Adjusted, AsRead, Given, Withheld}
-use Rattle.flows.specs.Flows.{inRange, allowed, cost}
+use Rattle.flows.specs.Flows.{inRange, allowed, cost, OfLeastCost}
 use Rattle.flows.specs.Chains.{Counting}
 use Rattle.flows.specs.Classes.{has, joinedTo, classOf, degrees}
 use Rattle.flows.specs.Labels.{labelsOf, oneLabel}
@@ -37,16 +37,16 @@ use Rattle.model.specs.Sizes.{flowShift}
 use Rattle.model.proofs.Theorem.{decided}
 use Rattle.sheets.specs.Apart.{capped}
 use Rattle.sheets.specs.Sheets.{SheetParts, kindOf}
-use Rattle.sheets.proofs.Telling.{cost-is, degrees-is, verdict-is}
-use Rattle.foreign_def.specs.Passing.{numberLimit, placeNumber, classAt, flowAt, Ours, known, withheldOnly, JoinedByW, sumIn, sumOut, Passes}
-use Rattle.foreign_def.specs.Says.{OfLeastCost}
-use Rattle.foreign_def.specs.Test.{shownAt, shownFlows, broughtBy, netBy, numbersFit, recordsFit, flowsFit, netsFit, totalFits, passes}
+use Rattle.sheets.specs.Drawings.{plantParts}
+use Rattle.sheets.specs.Sentences.{classOn, numberOn}
+use Rattle.foreign_def.specs.Passing.{numberLimit, placeNumber, Ours, known, JoinedByW, sumIn, sumOut, Passes}
+use Rattle.foreign_def.specs.Test.{withheldOnly, shownAt, shownFlows, broughtBy, netBy, numbersFit, recordsFit, flowsFit, netsFit, totalFits, passes}
 use Rattle.foreign_def.proofs.Every.{every-all}
 use Rattle.foreign_def.proofs.Filling.{Closed}
 use Rattle.foreign_def.proofs.Stepping.{priced-says, says-priced, step-level, step-bottom, step-top}
 use Rattle.foreign_def.proofs.Meeting.{Meets, metered-known, filledIn, filled-at, filled-allowed, filled-certified, filled-least, filled-cost, known-few}
 use Rattle.foreign_def.proofs.Sums.{crossing-sums}
-use Rattle.foreign_def.proofs.Passing.{ours-long, ours-class, like-long, like-class, joined-set, passes-meets}
+use Rattle.foreign_def.proofs.Passing.{told-class, told-degrees, told-verdict, ours-tell, like-long, like-class, like-degrees, like-cost, like-verdict, like-joined, passes-meets}
 
 -- A class by its kind.
 class-of : ℕ → Class
@@ -67,7 +67,7 @@ pub record Kept (p : Plant) (sheet : SheetParts) (numbers : List ℤ) : Type 0 w
   pub one-each : length numbers ≡ suc (p .units)
   pub small : (u : ℕ) → u ≤ p .units → natAbs (placeNumber numbers u) ≤ numberLimit
   pub long : length (sheet .streams) ≡ length (p .streams)
-  pub classes : (k : ℕ) → k < length (p .streams) → classAt sheet k ≡ classOf p k
+  pub classes : (k : ℕ) → k < length (p .streams) → classOn sheet k ≡ classOf p k
   pub meets : Meets p (placeNumber numbers) (shownAt p sheet)
   pub freedom : sheet .total .degrees ≡ degrees p
   pub costs : sheet .total .cost ≡ capped (cost (p .streams) (shownFlows p sheet))
@@ -144,7 +144,7 @@ module _ (p : Plant) (w : Within p) (sheet : SheetParts) (numbers : List ℤ) wh
   -- What passes keeps the rules.
   module _ (g : Passes p sheet numbers) where
     abbrev xs : List ℤ
-    xs = g .ours .0
+    xs = g .ours .1 .some .0
 
     passed-met : Meets p π x
     passed-met = passes-meets p w sheet numbers g
@@ -153,9 +153,10 @@ module _ (p : Plant) (w : Within p) (sheet : SheetParts) (numbers : List ℤ) wh
     zs-least = filled-least p w π x passed-met
 
     -- Our cost is that of the flows shown.
-    our-cost : cost (p .streams) (g .ours .0) ≡ cost (p .streams) (shownFlows p sheet)
+    our-cost : cost (p .streams) (g .ours .1 .some .0) ≡ cost (p .streams) (shownFlows p sheet)
     our-cost =
-        le-antisymm (g .ours .1 .least (filledIn p w π x passed-met) (zs-least .balance)) (zs-least .least (g .ours .0) (g .ours .1 .balance))
+        let c = g .ours .1 .some .1 in
+        le-antisymm (c .least (filledIn p w π x passed-met) (zs-least .balance)) (zs-least .least xs (c .balance))
         ∙ filled-cost p w π x passed-met
 
     pub passes-kept : Kept p sheet numbers
@@ -165,9 +166,9 @@ module _ (p : Plant) (w : Within p) (sheet : SheetParts) (numbers : List ℤ) wh
       long = like-long p w sheet (g .ours);
       classes = like-class p w sheet (g .ours);
       meets = passed-met;
-      freedom = g .ours .2 .degrees ∙ degrees-is p w xs (g .ours .1) 0 0 [];
-      costs = g .ours .2 .cost ∙ cost-is p w xs (g .ours .1) 0 0 [] ∙ ap capped our-cost;
-      verdict = g .ours .2 .verdict ∙ verdict-is p w xs (g .ours .1) 0 0 [] ∙ ap (λ (c : ℕ). verdictAt (degrees p) c (adjusted p)) our-cost;
+      freedom = like-degrees p w sheet (g .ours);
+      costs = like-cost p w sheet (g .ours) xs (g .ours .1 .some .1) ∙ ap capped our-cost;
+      verdict = like-verdict p w sheet (g .ours) xs (g .ours .1 .some .1) ∙ ap (λ (c : ℕ). verdictAt (degrees p) c (adjusted p)) our-cost;
     }
 
   -- What keeps the rules passes.
@@ -175,23 +176,25 @@ module _ (p : Plant) (w : Within p) (sheet : SheetParts) (numbers : List ℤ) wh
     abbrev met : Meets p π x
     met = g .meets
 
-    shown-metered : (k : ℕ) → streamOf p k .metered ≡ true → x k ≡ flowAt sheet k
+    shown-metered : (k : ℕ) → streamOf p k .metered ≡ true → x k ≡ numberOn sheet k
     shown-metered k m = rw (metered-known p w k m)
 
     ours-by : Decided p → Ours p sheet
     ours-by (full ms o) =
         clash (allowed p (filledIn p w π x met)) (filled-allowed p w π x met) (overfull-none p w ms o 1 (filledIn p w π x met) (omega arith))
-    ours-by (solved xs ρ h c) = (
-      xs,
-      h,
-      record {
-        count = g .long ∙ sym (ours-long p w xs h 0 1);
-        classes = λ k l. let b : k < countOf p = rw (ours-long p w xs h 0 1) at l in g .classes k b ∙ sym (ours-class p w xs h 0 1 k b);
-        degrees = g .freedom ∙ sym (degrees-is p w xs h 0 0 []);
-        cost = g .costs ∙ ap capped (sym same) ∙ sym (cost-is p w xs h 0 0 []);
-        verdict = g .verdict ∙ ap (λ (c : ℕ). verdictAt (degrees p) c (adjusted p)) (sym same) ∙ sym (verdict-is p w xs h 0 0 []);
-      },
-    )
+    ours-by (solved xs ρ h c) =
+        let s = plantParts 0 p xs 1 in
+        let t = ours-tell p w xs h 0 1 in (
+          s,
+          t,
+          record {
+            count = g .long ∙ sym (t .listed);
+            classes = λ k l. let b : k < countOf p = rw (t .listed) at l in g .classes k b ∙ sym (told-class p w s t k b);
+            degrees = g .freedom ∙ sym (told-degrees p w s t);
+            cost = g .costs ∙ ap capped (sym same) ∙ sym (t .costs xs h);
+            verdict = g .verdict ∙ ap (λ (c : ℕ). verdictAt (degrees p) c (adjusted p)) (sym same) ∙ sym (told-verdict p w s t xs h);
+          },
+        )
       where
         least : OfLeastCost p (filledIn p w π x met)
         least = filled-least p w π x met
@@ -199,11 +202,11 @@ module _ (p : Plant) (w : Within p) (sheet : SheetParts) (numbers : List ℤ) wh
         same : cost (p .streams) xs ≡ cost (p .streams) (shownFlows p sheet)
         same = le-antisymm (h .least (filledIn p w π x met) (least .balance)) (least .least xs (h .balance)) ∙ filled-cost p w π x met
 
-    module _ (u : ℕ) (c : ℕ → Bool) (l : u ≤ p .units) (j : JoinedByW p u c) where
+    module _ (u : ℕ) (c : ℕ → Bool) (l : u ≤ p .units) (j : JoinedByW p sheet u c) where
       -- The set is the one that is computed.
       same-set : (v : ℕ) → v ≤ p .units → has v (joinedTo (withheldOnly p) p u) ≡ c v
       same-set v b =
-          let d = joined-set p w u v b in
+          let d = like-joined p w sheet (ours-by (decided p w)) u v b in
           let e = j v b in
           same-test (has v (joinedTo (withheldOnly p) p u)) (c v) (λ t. e .1 (d .0 t)) (λ t. d .1 (e .0 t))
 
@@ -243,8 +246,8 @@ module _ (p : Plant) (w : Within p) (sheet : SheetParts) (numbers : List ℤ) wh
     small = λ u l. leb-true (natAbs (π u)) numberLimit
         (every-at (suc (p .units)) (λ u. leb (natAbs (placeNumber numbers u)) numberLimit) (and-right (eqb (length numbers) (suc (p .units))) _ one) u (omega arith));
     long = eqb-true (length (sheet .streams)) (length (p .streams)) (and-left (eqb (length (sheet .streams)) (length (p .streams))) _ after-one);
-    classes = λ k l. same-class (classAt sheet k) (classOf p k)
-        (eqb-true (kindOf (classAt sheet k)) (kindOf (classOf p k)) (and-left (eqb (kindOf (classAt sheet k)) (kindOf (classOf p k))) _ (entry k l)));
+    classes = λ k l. same-class (classOn sheet k) (classOf p k)
+        (eqb-true (kindOf (classOn sheet k)) (kindOf (classOf p k)) (and-left (eqb (kindOf (classOn sheet k)) (kindOf (classOf p k))) _ (entry k l)));
     meets = record {
       steps = λ k l. priced-says π (streamOf p k) (x k) (and-right (inRange 1 (streamOf p k) (x k)) _ (flow k l));
       ranges = λ k l. and-left (inRange 1 (streamOf p k) (x k)) _ (flow k l);
@@ -263,7 +266,7 @@ module _ (p : Plant) (w : Within p) (sheet : SheetParts) (numbers : List ℤ) wh
       flows-and = flowsFit (p .streams) x numbers && nets-and
 
       records-and : Bool
-      records-and = recordsFit (countOf p) (classAt sheet) (classOf p) x && flows-and
+      records-and = recordsFit (countOf p) (classOn sheet) (classOf p) x && flows-and
 
       one : numbersFit (p .units) numbers ≡ true
       one = and-left (numbersFit (p .units) numbers) _ e
@@ -275,7 +278,7 @@ module _ (p : Plant) (w : Within p) (sheet : SheetParts) (numbers : List ℤ) wh
       records = and-right (eqb (length (sheet .streams)) (length (p .streams))) _ after-one
 
       flows : flows-and ≡ true
-      flows = and-right (recordsFit (countOf p) (classAt sheet) (classOf p) x) _ records
+      flows = and-right (recordsFit (countOf p) (classOn sheet) (classOf p) x) _ records
 
       after-flows : nets-and ≡ true
       after-flows = and-right (flowsFit (p .streams) x numbers) _ flows
@@ -289,8 +292,8 @@ module _ (p : Plant) (w : Within p) (sheet : SheetParts) (numbers : List ℤ) wh
       rest : eqb (sheet .total .cost) (capped c) && eqb (sheet .total .verdict) (verdictAt (degrees p) c (adjusted p)) ≡ true
       rest = and-right (eqb (sheet .total .degrees) (degrees p)) _ total
 
-      entry : (k : ℕ) → k < countOf p → eqb (kindOf (classAt sheet k)) (kindOf (classOf p k)) && leb (natAbs (x k)) flowShift ≡ true
-      entry k l = every-at (countOf p) _ (and-left (recordsFit (countOf p) (classAt sheet) (classOf p) x) _ records) k l
+      entry : (k : ℕ) → k < countOf p → eqb (kindOf (classOn sheet k)) (kindOf (classOf p k)) && leb (natAbs (x k)) flowShift ≡ true
+      entry k l = every-at (countOf p) _ (and-left (recordsFit (countOf p) (classOn sheet) (classOf p) x) _ records) k l
 
       flow : (k : ℕ) → k < countOf p → inRange 1 (streamOf p k) (x k) && priced π (streamOf p k) (x k) ≡ true
       flow k l = every-at (countOf p) _ (and-left (flowsFit (p .streams) x numbers) _ flows) k l

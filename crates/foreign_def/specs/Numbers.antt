@@ -29,7 +29,7 @@ numbersIn r = take (r .count) (r .numbers)
 -- Numbers with which our sheet of a plant passes, and each that differs from it only in showing another balanced flow in range of the
 -- same cost.
 abbrev pub Serve : Plant → List ℤ → Type 0
-Serve p numbers = (xs : List ℤ) (sheet : SheetParts) → OtherFlow p xs sheet → Passes p sheet numbers
+Serve p numbers = (sheet : SheetParts) → OtherFlow p sheet → Passes p sheet numbers
 
 -- One number for each of the places 0 to n, 0 past them. Which they are is the program's choice; every choice serves, and gives the
 -- outside 0.

@@ -12,13 +12,11 @@ use Rattle.plants.specs.declared.Stream.{Stream}
 use Rattle.plants.specs.Plants.{Plant, limited}
 use Rattle.flows.specs.declared.Class.{Class}
 use Rattle.flows.specs.declared.Class.the-variants.{Adjusted, AsRead, Given, Withheld}
-use Rattle.flows.specs.Flows.{streamAt, inRange, Cheapest}
+use Rattle.flows.specs.Flows.{streamAt, inRange}
 use Rattle.flows.specs.Chains.{Counting, Chain}
-use Rattle.flows.specs.Classes.{classOf}
 use Rattle.sheets.specs.declared.Entry.{Entry}
-use Rattle.sheets.specs.Sentences.{MeteredAt, UnmeteredAt}
-use Rattle.sheets.specs.Sheets.{SheetParts, plantParts}
-use Rattle.sheets.specs.Kept.{blank}
+use Rattle.sheets.specs.Sheets.{SheetParts}
+use Rattle.sheets.specs.Sentences.{MeteredAt, UnmeteredAt, classOn, numberOn, Tells}
 
 -- The limit of a place's number.
 abbrev pub numberLimit : ℕ
@@ -46,27 +44,17 @@ AtHigh s flow = (limited s ≡ true) × (flow ≡ s .high)
 abbrev pub AtLow : Stream → ℤ → Type 0
 AtLow s flow = (limited s ≡ true) × (flow ≡ s .low)
 
--- Stream k's class and flow on a sheet, from 0.
-abbrev pub classAt : SheetParts → ℕ → Class
-classAt sheet k = getD (sheet .streams) k blank .class
-
-abbrev pub flowAt : SheetParts → ℕ → ℤ
-flowAt sheet k = getD (sheet .streams) k blank .flow
-
 -- A sheet b has the classes, degrees, cost and verdict of a. (Its number, its office, the kind of its total and its flows are free.)
 pub record Matches (a b : SheetParts) : Type 0 where
   pub count : length (b .streams) ≡ length (a .streams)
-  pub classes : (k : ℕ) → k < length (a .streams) → classAt b k ≡ classAt a k
+  pub classes : (k : ℕ) → k < length (a .streams) → classOn b k ≡ classOn a k
   pub degrees : b .total .degrees ≡ a .total .degrees
   pub cost : b .total .cost ≡ a .total .cost
   pub verdict : b .total .verdict ≡ a .total .verdict
 
--- Classes, degrees, cost and verdict are ours: those of office 0's sheet 1 of the plant's cheapest flow. So the plant has a sheet.
-abbrev pub ourSheet : Plant → List ℤ → SheetParts
-ourSheet p xs = plantParts 0 p xs 1
-
+-- Classes, degrees, cost and verdict are ours: those of a sheet that tells of the plant what a sheet has to. So the plant has a sheet.
 abbrev pub Ours : Plant → SheetParts → Type 0
-Ours p sheet = (xs : List ℤ) × Cheapest p xs × Matches (ourSheet p xs) sheet
+Ours p sheet = (s : SheetParts) × Tells p s × Matches s sheet
 
 -- A flow is known where its record has a number: all but W.
 abbrev pub known : Class → Bool
@@ -75,13 +63,13 @@ known AsRead = true
 known Given = true
 known Withheld = false
 
--- The W streams.
-abbrev pub withheldOnly : Plant → Counting
-withheldOnly p k s = not (known (classOf p k))
+-- The W streams of a sheet.
+abbrev pub withheldOn : SheetParts → Counting
+withheldOn sheet k s = not (known (classOn sheet k))
 
 -- A set of places that W streams join: c tells of each place whether chains of W streams join it to u. (Without them: u alone.)
-abbrev pub JoinedByW : Plant → ℕ → (ℕ → Bool) → Type 0
-JoinedByW p u c = (v : ℕ) → v ≤ p .units → (c v ≡ true) ↔ Chain (withheldOnly p) (p .streams) u v
+abbrev pub JoinedByW : Plant → SheetParts → ℕ → (ℕ → Bool) → Type 0
+JoinedByW p sheet u c = (v : ℕ) → v ≤ p .units → (c v ≡ true) ↔ Chain (withheldOn sheet) (p .streams) u v
 
 -- The known flows of the streams that a test takes, summed; those into a set of places, and those out of it.
 abbrev pub knownSum : (Stream → Bool) → List Stream → List Entry → ℤ
@@ -106,15 +94,15 @@ pub record Passes (p : Plant) (sheet : SheetParts) (numbers : List ℤ) : Type 0
   -- of the bottom.
   pub from-bottom : (k : ℕ) → MeteredAt p k
       → let s = streamAt (p .streams) k in
-      AtLow s (flowAt sheet k) ⊎ (leZ (bottom s (flowAt sheet k)) (difference numbers s) ≡ true)
+      AtLow s (numberOn sheet k) ⊎ (leZ (bottom s (numberOn sheet k)) (difference numbers s) ≡ true)
   pub to-top : (k : ℕ) → MeteredAt p k
       → let s = streamAt (p .streams) k in
-      AtHigh s (flowAt sheet k) ⊎ (leZ (difference numbers s) (top s (flowAt sheet k)) ≡ true)
+      AtHigh s (numberOn sheet k) ⊎ (leZ (difference numbers s) (top s (numberOn sheet k)) ≡ true)
   -- Flows lie in range.
-  pub ranges : (k : ℕ) → MeteredAt p k → inRange 1 (streamAt (p .streams) k) (flowAt sheet k) ≡ true
+  pub ranges : (k : ℕ) → MeteredAt p k → inRange 1 (streamAt (p .streams) k) (numberOn sheet k) ≡ true
   -- Unmetered streams have equal numbers at both ends.
   pub equal : (k : ℕ) → UnmeteredAt p k
       → let s = streamAt (p .streams) k in
       placeNumber numbers (s .from) ≡ placeNumber numbers (s .to)
   -- In each set of places joined by W streams, known flows in and out have equal sums.
-  pub sums : (u : ℕ) (c : ℕ → Bool) → u ≤ p .units → JoinedByW p u c → sumIn c (p .streams) (sheet .streams) ≡ sumOut c (p .streams) (sheet .streams)
+  pub sums : (u : ℕ) (c : ℕ → Bool) → u ≤ p .units → JoinedByW p sheet u c → sumIn c (p .streams) (sheet .streams) ≡ sumOut c (p .streams) (sheet .streams)

@@ -8,15 +8,15 @@ use lib.ListN.{length, take}
 use Rattle.plants.specs.Plants.{Plant}
 use Rattle.plants.specs.Files.{Got, bad, got, readPlant}
 use Rattle.flows.specs.declared.Class.the-variants.{Withheld}
-use Rattle.flows.specs.Flows.{amountAt, allowed, cost, Cheapest}
-use Rattle.flows.specs.Classes.{classOf}
+use Rattle.flows.specs.Flows.{amountAt, allowed, cost, OfLeastCost}
 use Rattle.sheets.specs.Apart.{capped}
 use Rattle.sheets.specs.Counters.{topSheet, counterOf}
 use Rattle.sheets.specs.declared.Sheet.{Sheet}
 use Rattle.sheets.specs.Sheets.{SheetParts}
 use Rattle.sheets.specs.Says.{SheetSays}
 use Rattle.sheets.specs.Kept.{Reopened, noSheet, someSheet, readSheet}
-use Rattle.foreign_def.specs.Passing.{flowAt, Matches, ourSheet, JoinedByW, Passes}
+use Rattle.sheets.specs.Sentences.{classOn, numberOn}
+use Rattle.foreign_def.specs.Passing.{Ours, JoinedByW, Passes}
 
 -- Of a plant and a sheet that are read: 0 where the sheet passes, 26 where any rule is broken.
 pub record CheckOf (p : Plant) (sheet : SheetParts) (numbers : List ℤ) (r : ℕ) : Type 0 where
@@ -32,23 +32,16 @@ CheckWith (got p) (someSheet s) numbers r = CheckOf p s numbers r
 abbrev pub CheckSays : List ℕ → List ℕ → List ℤ → ℕ → Type 0
 CheckSays file sheet numbers r = CheckWith (readPlant file) (readSheet sheet) numbers r
 
--- A flow that no balanced flow in range undercuts.
-pub record OfLeastCost (p : Plant) (xs : List ℤ) : Type 0 where
-  pub balance : allowed p xs ≡ true
-  pub least : (ys : List ℤ) → allowed p ys ≡ true → cost (p .streams) xs ≤ cost (p .streams) ys
-
 -- A sheet shows a flow: its numbers, on all but the W streams, are the flow's amounts.
 abbrev pub ShowsFlow : Plant → SheetParts → List ℤ → Type 0
-ShowsFlow p sheet xs = (k : ℕ) → k < length (p .streams) → (classOf p k ≡ Withheld → ⊥) → flowAt sheet k ≡ amountAt xs k
+ShowsFlow p sheet xs = (k : ℕ) → k < length (p .streams) → (classOn sheet k ≡ Withheld → ⊥) → numberOn sheet k ≡ amountAt xs k
 
--- A sheet that differs from ours, that of the cheapest flow xs, only in showing another balanced flow in range of the same cost. (Our
--- own is one of them.)
-pub record OtherFlow (p : Plant) (xs : List ℤ) (sheet : SheetParts) : Type 0 where
-  pub ours : Cheapest p xs
-  pub matches : Matches (ourSheet p xs) sheet
+-- A sheet that differs from ours only in showing another balanced flow in range of the same cost, which is the least. (Our own is one
+-- of them.)
+pub record OtherFlow (p : Plant) (sheet : SheetParts) : Type 0 where
+  pub ours : Ours p sheet
   pub flow : List ℤ
-  pub balance : allowed p flow ≡ true
-  pub same-cost : cost (p .streams) flow ≡ cost (p .streams) xs
+  pub least : OfLeastCost p flow
   pub shows : ShowsFlow p sheet flow
 
 -- What an answer 0 vouches for: both files are read and the sheet passes; so a flow of least cost shows its numbers and its cost.
@@ -68,13 +61,14 @@ pub record Vouched (file bytes : List ℕ) (numbers : List ℤ) : Type 0 where
 pub record PassAll (file : List ℕ) (p : Plant) (numbers : List ℤ) : Type 0 where
   pub ours : (office : ℕ) (lasts o o′ : List ℕ) (s : Sheet) (r : ℕ) → counterOf office lasts ≤ topSheet → SheetSays file office lasts o o′ s
       → s .number ≡ 0 → CheckSays file (take (s .written) o′) numbers r → r ≡ 0
-  pub others : (xs : List ℤ) (sheet : SheetParts) (bytes : List ℕ) (r : ℕ) → OtherFlow p xs sheet → readSheet bytes ≡ someSheet sheet
+  pub others : (sheet : SheetParts) (bytes : List ℕ) (r : ℕ) → OtherFlow p sheet → readSheet bytes ≡ someSheet sheet
       → CheckSays file bytes numbers r → r ≡ 0
 
 -- The promise.
 pub record Foreign-sheets : Type 0 where
   -- Each place is in a set that W streams join, so that the rule of sums asks something of it.
-  pub sets : (file : List ℕ) (p : Plant) (u : ℕ) → readPlant file ≡ got p → u ≤ p .units → (c : ℕ → Bool) × (c u ≡ true) × JoinedByW p u c
+  pub sets : (file : List ℕ) (p : Plant) (sheet : SheetParts) (u : ℕ) → readPlant file ≡ got p → u ≤ p .units
+      → (c : ℕ → Bool) × (c u ≡ true) × JoinedByW p sheet u c
   -- There is an answer, and no choice is left.
   pub some : (file bytes : List ℕ) (numbers : List ℤ) → (r : ℕ) × CheckSays file bytes numbers r
   pub one : (file bytes : List ℕ) (numbers : List ℤ) (r₁ r₂ : ℕ) → CheckSays file bytes numbers r₁ → CheckSays file bytes numbers r₂ → r₁ ≡ r₂

@@ -14,6 +14,7 @@ use Rattle.plants.specs.Limits.{places, maxStreams}
 use Rattle.plants.specs.Plants.{Plant}
 use Rattle.plants.specs.Files.{Got, bad, got}
 use Rattle.flows.specs.Flows.{streamAt, inRange, cost}
+use Rattle.flows.specs.Chains.{Counting}
 use Rattle.flows.specs.declared.Class.{Class}
 use Rattle.flows.specs.declared.Class.the-variants.{Adjusted}
 use Rattle.flows.specs.Classes.{classOf, degrees}
@@ -29,11 +30,16 @@ use Rattle.sheets.specs.declared.Total.{Total}
 use Rattle.sheets.specs.declared.SheetRead.{SheetRead}
 use Rattle.sheets.specs.Sheets.{SheetParts, kindOf}
 use Rattle.sheets.specs.Kept.{Reopened, noSheet, someSheet}
-use Rattle.foreign_def.specs.Passing.{numberLimit, placeNumber, difference, known, classAt, flowAt, withheldOnly}
+use Rattle.sheets.specs.Sentences.{classOn, numberOn}
+use Rattle.foreign_def.specs.Passing.{numberLimit, placeNumber, difference, known}
+
+-- The streams that are withheld by their class as it is computed.
+abbrev pub withheldOnly : Plant → Counting
+withheldOnly p k s = not (known (classOf p k))
 
 -- The flows of a sheet, 0 where a stream is withheld by its class.
 abbrev pub shownAt : Plant → SheetParts → ℕ → ℤ
-shownAt p sheet k = pick (known (classOf p k)) (flowAt sheet k) (pos 0)
+shownAt p sheet k = pick (known (classOf p k)) (numberOn sheet k) (pos 0)
 
 abbrev pub shownFlows : Plant → SheetParts → List ℤ
 shownFlows p sheet = values (length (p .streams)) (shownAt p sheet)
@@ -91,7 +97,7 @@ passes p sheet numbers =
     let x = shownAt p sheet in
     numbersFit (p .units) numbers
     && (eqb (length (sheet .streams)) (length (p .streams))
-    && (recordsFit (length (p .streams)) (classAt sheet) (classOf p) x
+    && (recordsFit (length (p .streams)) (classOn sheet) (classOf p) x
     && (flowsFit (p .streams) x numbers
     && (netsFit (labelsOf (withheldOnly p) p) (p .streams) x && totalFits p (cost (p .streams) (shownFlows p sheet)) (sheet .total)))))
 

@@ -16,8 +16,8 @@ ghost use Rattle.flows.specs.Flows.{amountAt};
 ghost use Rattle.flows.specs.Labels.{labelsOf};
 ghost use Rattle.flows.specs.Calls.{classesOf};
 ghost use Rattle.sheets.specs.Calls.{AllSmall};
-ghost use Rattle.foreign_def.specs.Passing.{known, withheldOnly};
-ghost use Rattle.foreign_def.specs.Test.{ArePlaces, Nets, Moved, Roomy, netsFit};
+ghost use Rattle.foreign_def.specs.Passing.{known};
+ghost use Rattle.foreign_def.specs.Test.{withheldOnly, ArePlaces, Nets, Moved, Roomy, netsFit};
 
 fn is_withheld(class: Class) -> bool
     ensures { λ r. ⌜ r ≡ not (known class) ⌝ }

@@ -1,4 +1,4 @@
--- Sets of streams without loops. For proofs and for what inner calls promise: no public promise cites it.
+-- Sets of streams without loops. (Of these only `countTo`, how many pass a test, stands in a public promise.)
 use mathlib.Core.Path.{_≡_}
 use mathlib.Core.Bool.{Bool, true, false, not, _&&_}
 use mathlib.Core.List.{List}

@@ -1,2 +1,3 @@
 -- Definitions that the contracts of meters cite.
 pub mod Ends
+pub mod Amounts

@@ -10,6 +10,7 @@ ghost use lib.ListN.{length};
 ghost use Rattle.plants.specs.Limits.{maxUnits, maxStreams, places};
 ghost use Rattle.plants.specs.Within.{WithinStream, Accepted};
 ghost use Rattle.meters.specs.Ends.{Labels, Ends, meterCells};
+ghost use Rattle.meters.specs.Amounts.{conductance, amountBy, broughtIn, lowEnd, highEnd};
 
 pub const ENDS: usize = 2 * MAX_STREAMS;
 
@@ -42,6 +43,7 @@ pub fn end_at(ends: &[u8; ENDS], k: usize) -> usize
 // Its conductance.
 pub fn conductance_at(meters: &[f64; METERS], k: usize) -> f64
     requires { ⌜ (length (now meters) ≡ meterCells) × (k < maxStreams) ⌝ }
+    ensures { λ r. ⌜ r ≡ conductance (now (meters .entry)) k ⌝ }
 {
     meters[4 * k + 1]
 }
@@ -49,6 +51,7 @@ pub fn conductance_at(meters: &[f64; METERS], k: usize) -> f64
 // Its amount between prices that differ by climb.
 pub fn amount_at(meters: &[f64; METERS], k: usize, climb: f64) -> f64
     requires { ⌜ (length (now meters) ≡ meterCells) × (k < maxStreams) ⌝ }
+    ensures { λ r. ⌜ r ≡ amountBy (now (meters .entry)) k climb ⌝ }
 {
     meters[4 * k] + climb * conductance_at(meters, k)
 }
@@ -56,6 +59,7 @@ pub fn amount_at(meters: &[f64; METERS], k: usize, climb: f64) -> f64
 // An amount brought into its range.
 pub fn in_range(meters: &[f64; METERS], k: usize, x: f64) -> f64
     requires { ⌜ (length (now meters) ≡ meterCells) × (k < maxStreams) ⌝ }
+    ensures { λ r. ⌜ r ≡ broughtIn (now (meters .entry)) k x ⌝ }
 {
     let meter = 4 * k;
     let low = meters[meter + 2];
@@ -70,14 +74,18 @@ pub fn in_range(meters: &[f64; METERS], k: usize, x: f64) -> f64
 }
 
 // The ends of a stream's range.
-fn low_of(s: Stream) -> f64 {
+fn low_of(s: Stream) -> f64
+    ensures { λ r. do far ← ⟦FAR⟧ .entry; ⌜ r ≡ lowEnd far s ⌝ }
+{
     if s.ranged {
         return s.low as f64;
     }
     -FAR
 }
 
-fn high_of(s: Stream) -> f64 {
+fn high_of(s: Stream) -> f64
+    ensures { λ r. do far ← ⟦FAR⟧ .entry; ⌜ r ≡ highEnd far s ⌝ }
+{
     if s.ranged {
         return s.high as f64;
     }

@@ -22,7 +22,7 @@ use Rattle.flows.specs.Shown.{adjustedWeight, adjustedTo, adjusted}
 use Rattle.flows.proofs.Lists.{values-same}
 use Rattle.sheets.specs.Apart.{capped}
 use Rattle.sheets.specs.Balances.{entryOf, balanceOf}
-use Rattle.sheets.specs.Sheets.{sheetBytes, sheetOf}
+use Rattle.sheets.specs.Drawings.{sheetBytes, sheetOf}
 use Rattle.moves.specs.Moves.{widened, moved}
 
 -- A move that keeps all of a stream but its range.

@@ -26,7 +26,7 @@ use Rattle.flows.proofs.Overfull.{overfull-none}
 use Rattle.flows.proofs.Decided.{Decided, solved, full}
 use Rattle.model.proofs.Theorem.{decided}
 use Rattle.sheets.specs.declared.Sheet.{Sheet}
-use Rattle.sheets.specs.Sheets.{sheetOf}
+use Rattle.sheets.specs.Drawings.{sheetOf}
 use Rattle.sheets.specs.Counters.{offices, topSheet, counterOf, nextOf, raised}
 use Rattle.sheets.specs.Says.{Drawn, SheetWith, SheetSays}
 use Rattle.sheets.specs.Apart.{leastSlice}

@@ -1,4 +1,4 @@
--- What inner promises and proofs cite, and no public promise.
+-- A choice between statements, values listed, bytes put down: what inner promises cite, and a few public ones.
 use mathlib.Core.Path.{_≡_}
 use mathlib.Core.Bool.{Bool, true, false}
 use mathlib.Core.List.{List, [], _∷_}

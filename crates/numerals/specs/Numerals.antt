@@ -32,3 +32,7 @@ signedDecimal (negsuc n) = text "-" ++ decimal (suc n)
 -- A number and the blank behind it.
 abbrev pub field : ℕ → List ℕ
 field n = decimal n ++ text " "
+
+-- A line of two numbers.
+abbrev pub pairLine : ℕ → ℕ → List ℕ
+pairLine n m = field n ++ decimal m ++ text "\n"

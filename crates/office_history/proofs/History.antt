@@ -11,15 +11,14 @@ use lib.ListN.{length}
 use Rattle.numbers.specs.Choice.{pick, refuseIf, firstOf}
 use Rattle.numbers.specs.Bytes.{over}
 use Rattle.numbers.specs.Inner.{pickT}
-use Rattle.plants.specs.Files.{Got, bad, got, readPlant}
+use Rattle.plants.specs.Files.{Got, bad, got, readPlant, mostRecords}
 use Rattle.plants.proofs.Accepted.{refused}
 use Rattle.flows.specs.Overfull.{unmarked}
 use Rattle.sheets.specs.declared.Sheet.{Sheet}
 use Rattle.sheets.specs.Apart.{leastSlice}
 use Rattle.sheets.specs.Counters.{offices, topSheet, counterOf, nextOf, raised}
-use Rattle.sheets.specs.Sheets.{sheetOf}
+use Rattle.sheets.specs.Drawings.{sheetOf}
 use Rattle.sheets.specs.Sentences.{callFault, RefusedWith, Refused}
-use Rattle.sheets.specs.Kept.{mostRecords}
 use Rattle.sheets.specs.Says.{SheetWith, SheetSays}
 use Rattle.sheets.proofs.Unique.{no-choice}
 use Rattle.office_history.specs.History.{History}

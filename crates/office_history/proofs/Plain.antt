@@ -22,7 +22,7 @@ use Rattle.sheets.specs.Apart.{plainKind, streamSize, plainSize}
 use Rattle.sheets.specs.Counters.{topSheet, counterOf, officesFrom}
 use Rattle.sheets.specs.Kept.{readSheet}
 use Rattle.sheets.proofs.ReadAgain.{read-back}
-use Rattle.sheets.proofs.Demands.{all-sized}
+use Rattle.sheets.proofs.Demands.{all-sized, parts-tell}
 use Rattle.office_history.specs.Before.{PlainSheet, plainParts, plainOf, plainFault, PlainRefused, PlainDrawn, PlainWith, PlainSays, PlainCall, PlainCalls, lastAfter, plainCount, plainSheets}
 use Rattle.office_history.specs.History.{Call, Calls, drawnCount, drawnSheets, numbersOf, upFrom, Eight, ReadsPlain}
 use Rattle.office_history.proofs.Sequences.{read-own, numbers}
@@ -57,8 +57,9 @@ module _ (file : List ℕ) (last : ℕ) (o o′ : List ℕ) (r : PlainSheet) (to
         read = record {
           plant = p;
           listed = e;
-          flow = xs;
-          cheapest = d .1;
+          sheet = plainParts p xs (suc last);
+          tells = parts-tell file p e xs (d .1) plainKind 0 (suc last);
+          under = record { kinded = refl; drawer = refl; numbered = refl };
           read = ap readSheet bytes ∙ read-back p (within p (accepted file p e .0)) xs (d .1) (all-sized file p e xs (d .1)) plainKind 0 last refl (omega arith) small;
         };
       }
@@ -99,7 +100,8 @@ module _ (last : ℕ) (c : PlainCall) (ps : List PlainCall) (rest : Came (c .ans
         counted = let q = rest .counted in let a = d .after in omega (arith, q, a, count);
         held = rest .held;
         numbered = λ bs. ap (λ (l : List (List ℕ)). numbersOf 0 (l ++ bs)) listed
-            ∙ read-own 0 sheet (plainSheets ps ++ bs) (plainParts (d .read .plant) (d .read .flow) (suc last)) (d .read .read) refl
+            ∙ read-own 0 sheet (plainSheets ps ++ bs) (d .read .sheet) (d .read .read) (d .read .under .drawer)
+            ∙ ap (λ (n : ℕ). n ∷ numbersOf 0 (plainSheets ps ++ bs)) (d .read .under .numbered)
             ∙ ap (λ (l : List ℕ). suc last ∷ l) (rest .numbered bs ∙ ap (λ (n : ℕ). upFrom (suc n) (plainCount ps) ++ numbersOf 0 bs) (d .after))
             ∙ sym (ap (λ (n : ℕ). upFrom (suc last) n ++ numbersOf 0 bs) count);
       }

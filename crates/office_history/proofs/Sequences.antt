@@ -11,11 +11,12 @@ use lib.ListN.{take}
 use Rattle.numbers.specs.Choice.{pick}
 use Rattle.numbers.proofs.Tests.{by-cases}
 use Rattle.sheets.specs.Counters.{counterOf, nextOf}
-use Rattle.sheets.specs.Sheets.{SheetParts, plantParts}
+use Rattle.sheets.specs.Sheets.{SheetParts}
+use Rattle.sheets.specs.Drawings.{plantParts}
 use Rattle.sheets.specs.Says.{SheetSays}
 use Rattle.sheets.specs.Kept.{someSheet, readSheet}
-use Rattle.sheets.specs.Demands.{ReadsBack}
-use Rattle.sheets.proofs.Demands.{demands}
+use Rattle.sheets.proofs.Answering.{ReadsBack}
+use Rattle.sheets.proofs.Demands.{drawn-kept}
 use Rattle.office_history.specs.History.{Call, Calls, countersAfter, drawnCount, drawnSheets, numberRead, numbersOf, upFrom, Eight}
 use Rattle.office_history.proofs.Steps.{Drew, Idle, step, own-raised, other-same, step-eight}
 
@@ -79,7 +80,7 @@ module _ (lasts : List ℕ) (c : Call) (cs : List Call) (w : Eight lasts) (s : S
   drawn-numbers d =
       let done : eqb (c .answer .number) 0 ≡ true = eq-eqb (c .answer .number) 0 (d .done) in
       let back : ReadsBack (c .file) (c .office) lasts (c .after) (c .answer) =
-      demands .kept (c .file) (c .office) lasts (c .before) (c .after) (c .answer) (w .held (c .office)) s (d .done) in
+      drawn-kept (c .file) (c .office) lasts (c .before) (c .after) (c .answer) (w .held (c .office)) s (d .done) in
       let parts : SheetParts = plantParts (c .office) (back .plant) (back .flow) (nextOf (c .office) lasts) in
       let listed : numbersOf k (drawnSheets (c ∷ cs)) ≡ numbersOf k (take (c .answer .written) (c .after) ∷ drawnSheets cs) = rw done refl in
       by-cases (eqb (c .office) k)

@@ -13,7 +13,7 @@ use Rattle.numbers.specs.Inner.{pickT}
 use Rattle.numbers.specs.Bytes.{over}
 use Rattle.plants.specs.Limits.{maxStreams}
 use Rattle.plants.specs.Plants.{Plant}
-use Rattle.plants.specs.Files.{Got, bad, got, readPlant}
+use Rattle.plants.specs.Files.{Got, bad, got, readPlant, mostRecords}
 use Rattle.flows.specs.Flows.{Cheapest}
 use Rattle.flows.specs.Overfull.{unmarked, Overfull}
 use Rattle.sheets.specs.declared.Entry.{Entry}
@@ -22,8 +22,9 @@ use Rattle.sheets.specs.declared.SheetRecord.the-variants.{Refused}
 use Rattle.sheets.specs.Apart.{totalKind, plainKind, streamSize, plainSize}
 use Rattle.sheets.specs.Balances.{balanceOf}
 use Rattle.sheets.specs.Counters.{topSheet}
-use Rattle.sheets.specs.Sheets.{SheetParts, partsBytes, partsOf}
-use Rattle.sheets.specs.Kept.{Reopened, noSheet, recordAt, onRecord, sheetWith, mostRecords}
+use Rattle.sheets.specs.Sheets.{SheetParts, partsBytes}
+use Rattle.sheets.specs.Drawings.{partsOf}
+use Rattle.sheets.specs.Kept.{Reopened, noSheet, recordAt, onRecord, sheetWith}
 
 -- What it handed over.
 pub record PlainSheet : Type 0 where

@@ -3,21 +3,20 @@
 use mathlib.Core.Path.{_≡_}
 use mathlib.Core.Bool.{Bool, _&&_}
 use mathlib.Core.List.{List, [], _∷_, _++_}
-use lib.IntN.{ℤ}
 use Prim.Native.Nat.{ℕ, zero, suc, _+_, _≤_}
 use lib.Dec.{eqb}
 use lib.ListN.{length, take}
 use Rattle.numbers.specs.Choice.{pick}
 use Rattle.plants.specs.Plants.{Plant}
 use Rattle.plants.specs.Files.{got, readPlant}
-use Rattle.flows.specs.Flows.{Cheapest}
 use Rattle.sheets.specs.declared.Sheet.{Sheet}
 use Rattle.sheets.specs.Counters.{offices, topSheet, counterOf, nextOf, officesFrom}
 use Rattle.sheets.specs.Says.{SheetSays}
 use Rattle.sheets.specs.Kept.{Reopened, noSheet, someSheet, readSheet}
 use Rattle.sheets.specs.Apart.{plainKind}
 use Rattle.sheets.specs.Sheets.{SheetParts}
-use Rattle.office_history.specs.Before.{PlainSheet, plainParts, PlainSays, PlainCall, PlainCalls, lastAfter, plainCount, plainSheets, readBefore}
+use Rattle.sheets.specs.Sentences.{Tells, Under}
+use Rattle.office_history.specs.Before.{PlainSheet, PlainSays, PlainCall, PlainCalls, lastAfter, plainCount, plainSheets, readBefore}
 
 -- A call: its plant file, the calling office, the slice before it and after it, and what it handed over.
 pub record Call : Type 0 where
@@ -67,13 +66,14 @@ pub record Eight (lasts : List ℕ) : Type 0 where
   pub long : length lasts ≡ offices
   pub held : (k : ℕ) → counterOf k lasts ≤ topSheet
 
--- A call before the change that drew a sheet: it reads back with its kind, as that of office 0.
+-- A call before the change that drew a sheet: it reads back with its kind, as that of office 0, and tells of the plant what a sheet has to.
 pub record ReadsPlain (file : List ℕ) (last : ℕ) (o′ : List ℕ) (r : PlainSheet) : Type 0 where
   pub plant : Plant
   pub listed : readPlant file ≡ got plant
-  pub flow : List ℤ
-  pub cheapest : Cheapest plant flow
-  pub read : readSheet (take (r .written) o′) ≡ someSheet (plainParts plant flow (suc last))
+  pub sheet : SheetParts
+  pub read : readSheet (take (r .written) o′) ≡ someSheet sheet
+  pub tells : Tells plant sheet
+  pub under : Under plainKind 0 (suc last) sheet
 
 pub record History : Type 0 where
   -- No call alters another office's number, nor does what it returns and leaves behind depend on one: its refusal, the bytes written

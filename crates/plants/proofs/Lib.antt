@@ -8,4 +8,5 @@ pub mod Loop
 pub mod Arrayed
 pub mod There
 pub mod Back
-pub mod Nineteen
+pub mod Refusals
+pub mod Longest

@@ -137,7 +137,8 @@ streamsBytes (s ∷ ss) = streamBytes s ++ streamsBytes ss
 abbrev pub plantBytes : Plant → List ℕ
 plantBytes p = siteKind ∷ p .units ∷ streamsBytes (p .streams) ++ (endKind ∷ length (p .streams) ∷ [])
 
--- A plant file written from its parts and read again comes back the same, both ways.
+-- A plant file written from its parts and read again comes back the same, both ways; and what is read is without fault, so that exactly
+-- the files of such plants are read.
 pub record Round-trip : Type 0 where
   pub there : (p : Plant) → plantFault p ≡ 0 → plain (p .streams) ≡ true → readPlant (plantBytes p) ≡ got p
-  pub back : (s : List ℕ) (p : Plant) → allBytes s ≡ true → readPlant s ≡ got p → plantBytes p ≡ s
+  pub back : (s : List ℕ) (p : Plant) → allBytes s ≡ true → readPlant s ≡ got p → (plantBytes p ≡ s) × (plantFault p ≡ 0) × (plain (p .streams) ≡ true)

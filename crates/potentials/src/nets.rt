@@ -11,6 +11,7 @@ ghost use Prim.Native.Nat.{_<_, _≤_};
 ghost use lib.ListN.{length};
 ghost use Rattle.plants.specs.Limits.{maxStreams, places};
 ghost use Rattle.meters.specs.Ends.{Ends, meterCells};
+ghost use Rattle.potentials.specs.Nets.{greatestTo, productTo};
 
 // What stream k carries leaves the group of its start and comes to that of its end.
 fn bring(
@@ -52,6 +53,7 @@ pub fn nets_at(
 // The greatest size of a net.
 pub fn greatest_net(nets: &[f64; PLACES]) -> f64
     requires { ⌜ length (now nets) ≡ places ⌝ }
+    ensures { λ r. ⌜ r ≡ greatestTo (now (nets .entry)) places ⌝ }
 {
     let mut most = 0.0f64;
     let mut u: usize = 0;
@@ -71,6 +73,7 @@ pub fn greatest_net(nets: &[f64; PLACES]) -> f64
 // The sum of products, place by place.
 pub fn product(x: &[f64; PLACES], y: &[f64; PLACES]) -> f64
     requires { ⌜ (length (now x) ≡ places) × (length (now y) ≡ places) ⌝ }
+    ensures { λ r. ⌜ r ≡ productTo (now (x .entry)) (now (y .entry)) places ⌝ }
 {
     let mut sum = 0.0f64;
     let mut u: usize = 0;

@@ -5,3 +5,4 @@ pub mod Firsts
 pub mod Buying
 pub mod Sets
 pub mod Promise
+pub mod Price

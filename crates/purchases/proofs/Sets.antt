@@ -24,7 +24,7 @@ use Rattle.flows.proofs.Labels.{label-joined, labels-same}
 use Rattle.forests.specs.Withheld.{NoneWithheld}
 use Rattle.forests.specs.Metering.{chosen}
 use Rattle.forests.proofs.Blanks.{none→classes}
-use Rattle.purchases.specs.Purchases.{maxPrice, unmeteredTo, priceIn, someUnfair, pricesFault, pricesTo, priceOf, numbersFrom, numbersOf, notLater, Serves, Best}
+use Rattle.purchases.specs.Purchases.{maxPrice, unmeteredTo, priceIn, someUnfair, pricesFault, pricesTo, priceOf, numbersFrom, numbersOf, notLater, Best}
 use Rattle.purchases.specs.Says.{boughtOf}
 use Rattle.purchases.specs.Choosing.{before, dearer, bought, toBuy}
 use Rattle.purchases.proofs.Buying.{Priced, best}
@@ -64,7 +64,7 @@ module _ (p : Plant) (prices : List ℕ) (e : pricesFault p prices ≡ 0) where
           let q : suc k + (length (p .streams) - suc k) ≡ length (p .streams) = omega arith in
           rw q at (unmetered-more (p .streams) (suc k) (length (p .streams) - suc k))
 
-  fair-at : (k : ℕ) → k < length (p .streams) → streamAt (p .streams) k .metered ≡ false
+  pub fair-at : (k : ℕ) → k < length (p .streams) → streamAt (p .streams) k .metered ≡ false
       → (1 ≤ priceIn (p .streams) prices k) × (priceIn (p .streams) prices k ≤ maxPrice)
   fair-at k l m = fair prices (unmeteredTo (p .streams) k) (or-none-right (not (eqb (length prices) all)) (someUnfair prices) tests) (listed k l m)
 

@@ -18,7 +18,7 @@ use Rattle.sheets.specs.declared.Balance.{Balance}
 use Rattle.sheets.specs.declared.Outcome.{Outcome}
 use Rattle.sheets.specs.Balances.{BalanceSays, OutcomeSays}
 use Rattle.sheets.specs.Counters.{nextOf, raised}
-use Rattle.sheets.specs.Sheets.{sheetBytes, sheetOf}
+use Rattle.sheets.specs.Drawings.{sheetBytes, sheetOf}
 use Rattle.sheets.specs.Says.{SheetWith, SheetSays}
 use Rattle.sheets.specs.Sentences.{callFault, Refused, RefusedWith}
 use Rattle.sheets.proofs.Promise.{read-bad, found, plant-count, plant-balance, plant-overfull}

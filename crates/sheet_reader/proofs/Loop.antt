@@ -11,12 +11,13 @@ use Rattle.numbers.specs.Arrays.{filled}
 use Rattle.numbers.proofs.Parts.{partFrom, part-is}
 use Rattle.numbers.proofs.Filled.{filled-none, filled-more}
 use Rattle.plants.specs.Limits.{maxStreams}
+use Rattle.plants.specs.Files.{mostRecords}
 use Rattle.sheets.specs.declared.Entry.{Entry}
 use Rattle.sheets.specs.declared.Total.{Total}
 use Rattle.sheets.specs.declared.SheetRead.{SheetRead}
 use Rattle.sheets.specs.declared.SheetRecord.{SheetRecord}
 use Rattle.sheets.specs.declared.SheetRecord.the-variants.{Listed, Ended, Refused}
-use Rattle.sheets.specs.Kept.{noSheet, blank, recordAt, recordNumber, onRecord, sheetWith, recordsFrom, mostRecords, readSheet, readOf, ReadSays}
+use Rattle.sheets.specs.Kept.{noSheet, blank, recordAt, recordNumber, onRecord, sheetWith, recordsFrom, readSheet, readOf, ReadSays}
 use Rattle.sheets.proofs.SheetRecord as record-type
 use Rattle.sheets.proofs.Records.{ListedAs, Meaning, record-means}
 

@@ -7,7 +7,7 @@ ghost use Prim.Native.Nat.{_≤_};
 ghost use lib.ListN.{length};
 ghost use Rattle.numbers.specs.Inner.{Put};
 ghost use Rattle.plants.specs.Limits.{maxStreams};
-ghost use Rattle.sheets.specs.Sheets.{sheetBytes};
+ghost use Rattle.sheets.specs.Drawings.{sheetBytes};
 ghost use Rattle.sheets.specs.Apart.{leastSlice};
 
 // An office's sheet of a balance with so many streams, under a number, and how many bytes it takes.

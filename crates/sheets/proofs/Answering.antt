@@ -34,10 +34,10 @@ use Rattle.sheets.specs.declared.Sheet.{Sheet}
 use Rattle.sheets.specs.Sentences.{callFault, Overfilled, Full, Answers}
 use Rattle.sheets.specs.Apart.{totalKind}
 use Rattle.sheets.specs.Counters.{topSheet, counterOf, nextOf, raised}
-use Rattle.sheets.specs.Sheets.{sheetOf}
+use Rattle.sheets.specs.Drawings.{plantParts, sheetOf}
 use Rattle.sheets.specs.Says.{Drawn, SheetWith, SheetSays}
-use Rattle.sheets.specs.Kept.{readSheet}
-use Rattle.sheets.specs.Demands.{ReadsBack, Demands}
+use Rattle.sheets.specs.Kept.{someSheet, readSheet}
+use Rattle.sheets.specs.Demands.{Demands}
 use Rattle.sheets.specs.Calls.{Small}
 use Rattle.sheets.proofs.Opening.{right-found, right-overfull, held-amounts, opened-small}
 use Rattle.sheets.proofs.Laying.{sheet-most}
@@ -46,7 +46,7 @@ use Rattle.sheets.proofs.Unique.{amount-same, never-both, no-choice}
 use Rattle.sheets.proofs.Back.{reopening}
 use Rattle.sheets.proofs.ReadAgain.{read-back}
 use Rattle.sheets.proofs.DeskTool.{desk-tool}
-use Rattle.sheets.proofs.Telling.{Sized, Told, told, tells}
+use Rattle.sheets.proofs.Telling.{Sized, told, tells}
 
 -- The numbers of a cheapest flow that are shown are those of the solver's, which are small.
 module _ (file : List ℕ) (p : Plant) (e : readPlant file ≡ got p) (s : Solved) (r : Right (arrayed p) s) where
@@ -70,21 +70,39 @@ module _ (file : List ℕ) (p : Plant) (e : readPlant file ≡ got p) (s : Solve
       let solved : Cheapest p (flowOf (arrayed p) s) = subst (λ (q : Plant). Cheapest q (flowOf (arrayed p) s)) (read-held file p e) (q .cheapest) in
       rw (amount-same p within-limits xs (flowOf (arrayed p) s) c solved k h n) (amount-small q k h)
 
+-- The bytes that a call wrote are the sheet's.
+bytes-written : (p : Plant) (office : ℕ) (lasts o o′ : List ℕ) (r : Sheet) (d : Drawn p office lasts o o′ r)
+    → take (r .written) o′ ≡ sheetOf office p (d .0) (nextOf office lasts)
+bytes-written p office lasts o o′ r d =
+    let sheet = sheetOf office p (d .0) (nextOf office lasts) in
+    ap (λ (y : Sheet). take (y .written) o′) (d .2) ∙ ap (take (length sheet)) (d .3) ∙ take-at sheet (drop (length sheet) o) (length sheet) refl
+
+-- A sheet drawn reads back as its parts.
+parts-read : (p : Plant) → Within p → (office : ℕ) (lasts o o′ : List ℕ) (r : Sheet) (d : Drawn p office lasts o o′ r) → Sized p (d .0)
+    → counterOf office lasts ≤ topSheet → callFault office lasts o ≡ 0
+    → readSheet (take (r .written) o′) ≡ someSheet (plantParts office p (d .0) (nextOf office lasts))
+parts-read p w office lasts o o′ r d sized top f =
+    let small : nextOf office lasts < 256 ^ 4 = let q = one-left office lasts o f in omega (arith, q) in
+    ap readSheet (bytes-written p office lasts o o′ r d)
+    ∙ read-back p w (d .0) (d .1) sized totalKind office (counterOf office lasts) refl (has-counter office lasts o f) small
+
 -- A sheet drawn is a full sheet.
 module _ (p : Plant) (w : Within p) (office : ℕ) (lasts o o′ : List ℕ) (r : Sheet) where
   full : Shown p → ((xs : List ℤ) → Cheapest p xs → Sized p xs) → counterOf office lasts ≤ topSheet → callFault office lasts o ≡ 0 → Drawn p office lasts o o′ r
-      → Full p (length (p .streams)) office lasts o o′ r
+      → Full p office lasts o o′ r
   full shown sized top f d =
       let xs = d .0 in
       let sheet = sheetOf office p xs (nextOf office lasts) in
-      let small : nextOf office lasts < 256 ^ 4 = let q = one-left office lasts o f in omega (arith, q) in
-      let t : Told p xs office (nextOf office lasts) o′ = subst (Told p xs office (nextOf office lasts)) (sym (d .3)) (told p w xs (d .1) office (nextOf office lasts) (drop (length sheet) o) (sized xs (d .1)) small) in
+      let size : r .written ≡ length sheet = ap (λ (y : Sheet). y .written) (d .2) in
       let wide : length sheet ≤ length o = omega (arith, long-enough office lasts o f, sheet-most office p xs (nextOf office lasts) (w .few-streams)) in
       record {
-        result = d .2 ∙ (λ i. record { number = 0; written = sym (t .size) i; lasts = raised office lasts; marked = unmarked });
-        tells = tells p w shown xs (d .1) office (nextOf office lasts) o′ t;
-        past = rw (t .size) (ap (drop (length sheet)) (d .3) ∙ drop-append-seam sheet (drop (length sheet) o));
-        fits = rw (t .size) wide;
+        result = d .2 ∙ (λ i. record { number = 0; written = sym size i; lasts = raised office lasts; marked = unmarked });
+        sheet = plantParts office p xs (nextOf office lasts);
+        read = parts-read p w office lasts o o′ r d (sized xs (d .1)) top f;
+        tells = tells p w shown xs (d .1) (plantParts office p xs (nextOf office lasts)) (told p w xs (d .1) totalKind office (nextOf office lasts));
+        under = record { kinded = refl; drawer = refl; numbered = refl };
+        past = rw size (ap (drop (length sheet)) (d .3) ∙ drop-append-seam sheet (drop (length sheet) o));
+        fits = rw size wide;
         long = same-length (laid sheet o wide (d .3));
       }
 
@@ -96,26 +114,26 @@ module _ (p : Plant) (w : Within p) (office : ℕ) (lasts o o′ : List ℕ) (r 
     overfilled-of : ((ys : List ℤ) → allowed p ys ≡ false) → Overfilled p lasts o o′ r
     overfilled-of n = ⊎-elim (λ d. clash (allowed p (d .0)) (d .1 .balance) (n (d .0))) (λ m. m) given
 
--- A sheet that a call drew, read back in.
+-- A sheet that a call drew, read back in: the classes and the numbers of the plant's streams with a cheapest flow, and the total.
+pub record ReadsBack (file : List ℕ) (office : ℕ) (lasts o′ : List ℕ) (r : Sheet) : Type 0 where
+  pub plant : Plant
+  pub listed : readPlant file ≡ got plant
+  pub flow : List ℤ
+  pub cheapest : Cheapest plant flow
+  pub read : readSheet (take (r .written) o′) ≡ someSheet (plantParts office plant flow (nextOf office lasts))
+
 module _ (file : List ℕ) (office : ℕ) (lasts o o′ : List ℕ) (r : Sheet) (top : counterOf office lasts ≤ topSheet)
     (sized-of : (p : Plant) → readPlant file ≡ got p → (xs : List ℤ) → Cheapest p xs → Sized p xs) where
   drawn-back : (p : Plant) → readPlant file ≡ got p → callFault office lasts o ≡ 0 → Drawn p office lasts o o′ r → ReadsBack file office lasts o′ r
-  drawn-back p e f d =
-      let xs = d .0 in
-      let sheet = sheetOf office p xs (nextOf office lasts) in
-      let small : nextOf office lasts < 256 ^ 4 = let q = one-left office lasts o f in omega (arith, q) in
-      let bytes : take (r .written) o′ ≡ sheet =
-      ap (λ (y : Sheet). take (y .written) o′) (d .2) ∙ ap (take (length sheet)) (d .3) ∙ take-at sheet (drop (length sheet) o) (length sheet) refl in
-      record {
-        plant = p;
-        listed = e;
-        flow = xs;
-        cheapest = d .1;
-        read = ap readSheet bytes
-            ∙ read-back p (within p (accepted file p e .0)) xs (d .1) (sized-of p e xs (d .1)) totalKind office (counterOf office lasts) refl (has-counter office lasts o f) small;
-      }
+  drawn-back p e f d = record {
+    plant = p;
+    listed = e;
+    flow = d .0;
+    cheapest = d .1;
+    read = parts-read p (within p (accepted file p e .0)) office lasts o o′ r d (sized-of p e (d .0) (d .1)) top f;
+  }
 
-  read-kept : SheetSays file office lasts o o′ r → r .number ≡ 0 → ReadsBack file office lasts o′ r
+  pub read-kept : SheetSays file office lasts o o′ r → r .number ≡ 0 → ReadsBack file office lasts o′ r
   read-kept s n = by-cases (eqb (callFault office lasts o) 0)
       (λ t. let f = eqb-true (callFault office lasts o) 0 t in go (readPlant file) refl f (call-taken file office lasts o o′ r s f))
       (λ t. let f = eqb-false (callFault office lasts o) 0 t in absurd (f (sym (ap (λ (y : Sheet). y .number) (call-faulty file office lasts o o′ r s f .0)) ∙ n)))
@@ -148,9 +166,7 @@ module _ (third : Demand-3) (nineteen : Refusal-19) (solve : (p : Arrays.Plant) 
     round = round-trip;
     groups = one-pass unmeteredOnly;
     pieces = one-pass everyStream;
-    third = third;
     reopening = reopening;
-    kept = λ file office lasts o o′ r top. read-kept file office lasts o o′ r top (sized-here file);
     nineteen = nineteen;
     desk-tool = desk-tool nineteen answers;
   }

@@ -9,11 +9,12 @@ use Rattle.numbers.specs.Bytes.{allBytes}
 use Rattle.numbers.proofs.Digits.{bytes-drop}
 use Rattle.numbers.proofs.Tests.{and-both}
 use Rattle.plants.specs.Limits.{maxStreams}
+use Rattle.plants.specs.Files.{mostRecords}
 use Rattle.sheets.specs.declared.Entry.{Entry}
 use Rattle.sheets.specs.declared.SheetRecord.{SheetRecord}
 use Rattle.sheets.specs.declared.SheetRecord.the-variants.{Listed, Ended, Refused}
 use Rattle.sheets.specs.Sheets.{recordOf, recordsOf, totalBytes, SheetParts, partsBytes}
-use Rattle.sheets.specs.Kept.{noSheet, someSheet, fieldsFit, recordAt, onRecord, sheetWith, recordsFrom, mostRecords, readSheet, fits, allFit, kindFits, WithinSheet, Reopening}
+use Rattle.sheets.specs.Kept.{noSheet, someSheet, fieldsFit, recordAt, onRecord, sheetWith, recordsFrom, readSheet, fits, allFit, kindFits, WithinSheet, Reopening}
 use Rattle.sheets.proofs.Records.{EndedAs, Meaning, record-means}
 use Rattle.sheets.proofs.There.{there}
 

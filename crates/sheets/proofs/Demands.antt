@@ -2,12 +2,15 @@
 use mathlib.Core.Path.{_≡_}
 use mathlib.Core.List.{List}
 use lib.IntN.{ℤ}
-use Prim.Native.Nat.{ℕ}
+use Prim.Native.Nat.{ℕ, _≤_}
+use lib.ListN.{length}
 use Rattle.plants.specs.declared.Plant as Arrays
 use Rattle.plants.specs.Plants.{Plant}
 use Rattle.plants.specs.Files.{got, readPlant}
 use Rattle.plants.specs.Within.{Accepted}
 use Rattle.plants.specs.Says.{plantOf}
+use Rattle.plants.proofs.Limited.{within}
+use Rattle.plants.proofs.Accepted.{accepted}
 use Rattle.plants.proofs.Arrayed.{within-of}
 use Rattle.flows.specs.Flows.{Cheapest}
 use Rattle.model.specs.declared.Solved.{Solved}
@@ -15,9 +18,15 @@ use Rattle.model.specs.Model.{noHint, settled, solvedFrom}
 use Rattle.model.specs.Promise.{Right}
 use Rattle.model.proofs.Theorem.{from-none, solved-right}
 use Rattle.model.proofs.Demand.{demand-3, refusal-19}
+use Rattle.sheets.specs.declared.Sheet.{Sheet}
+use Rattle.sheets.specs.Counters.{topSheet, counterOf}
+use Rattle.sheets.specs.Says.{SheetSays}
 use Rattle.sheets.specs.Demands.{Demands}
-use Rattle.sheets.proofs.Telling.{Sized}
-use Rattle.sheets.proofs.Answering.{sized-here, demands-met}
+use Rattle.sheets.specs.Sentences.{Tells}
+use Rattle.sheets.specs.Balances.{balanceOf}
+use Rattle.sheets.specs.Drawings.{partsOf}
+use Rattle.sheets.proofs.Telling.{Sized, told, tells}
+use Rattle.sheets.proofs.Answering.{ReadsBack, read-kept, sized-here, demands-met}
 
 -- What its definitions find, which need no hint.
 solved : (p : Arrays.Plant) → Accepted p → (s : Solved) × Right p s
@@ -32,3 +41,15 @@ demands = demands-met demand-3 refusal-19 solved
 -- The numbers of a cheapest flow that are shown are small.
 pub all-sized : (file : List ℕ) (p : Plant) → readPlant file ≡ got p → (xs : List ℤ) → Cheapest p xs → Sized p xs
 all-sized = sized-here demand-3 refusal-19 solved
+
+-- A sheet that a call drew reads back as its parts.
+pub drawn-kept : (file : List ℕ) (office : ℕ) (lasts o o′ : List ℕ) (r : Sheet) → counterOf office lasts ≤ topSheet → SheetSays file office lasts o o′ r → r .number ≡ 0
+    → ReadsBack file office lasts o′ r
+drawn-kept file office lasts o o′ r top = read-kept file office lasts o o′ r top (all-sized file)
+
+-- The sheet of a cheapest flow, under a total of any kind, tells of the plant what it has to.
+pub parts-tell : (file : List ℕ) (p : Plant) → readPlant file ≡ got p → (xs : List ℤ) → Cheapest p xs → (kind office n : ℕ)
+    → Tells p (partsOf kind office (length (p .streams)) n (balanceOf p xs))
+parts-tell file p e xs c kind office n =
+    let w = within p (accepted file p e .0) in
+    tells p w (demand-3 file p xs e (c .balance)) xs c (partsOf kind office (length (p .streams)) n (balanceOf p xs)) (told p w xs c kind office n)

@@ -1,5 +1,5 @@
 -- The sheet's metered numbers are near to every flow in fractions of least cost.
-use mathlib.Core.Path.{_≡_, sym, ap, _∙_}
+use mathlib.Core.Path.{_≡_, sym, ap, _∙_, subst}
 use mathlib.Core.Logic.{⊎-elim}
 use mathlib.Core.List.{List}
 use lib.IntN.{ℤ, pos, _*ℤ_}
@@ -22,18 +22,18 @@ use Rattle.fractions.proofs.Distance.{apart-same, apart-part}
 use Rattle.fractions.proofs.AsRead.{as-read}
 use Rattle.fractions.proofs.Near.{near-fractions, one-fraction}
 use Rattle.sheets.specs.declared.Sheet.{Sheet}
-use Rattle.sheets.specs.Apart.{numberAt}
-use Rattle.sheets.specs.Sentences.{adjustedWeights, callFault, Tells, Answers}
-use Rattle.sheets.specs.Counters.{topSheet, counterOf, nextOf}
+use Rattle.sheets.specs.Sheets.{SheetParts}
+use Rattle.sheets.specs.Kept.{someSheet}
+use Rattle.sheets.specs.Sentences.{numberOn, adjustedWeights, callFault, Tells, Answers}
+use Rattle.sheets.specs.Counters.{topSheet, counterOf}
 use Rattle.sheets.specs.Says.{SheetSays}
 use Rattle.sheets.specs.DeskTool.{Beside, Desk-tool}
 
--- Of bytes that tell of a plant what a sheet has to.
-beside : (p : Plant) → Within p → (k n : ℕ) (b : List ℕ) → Tells p (length (p .streams)) k n b → (d : ℕ) (ys : List ℤ) → LeastInFractions p d ys
-    → Beside p b d ys
-beside p w i n b t d ys m = record {
+-- Of a sheet that tells of a plant what a sheet has to.
+beside : (p : Plant) → Within p → (s : SheetParts) → Tells p s → (d : ℕ) (ys : List ℤ) → LeastInFractions p d ys → Beside p s d ys
+beside p w s t d ys m = record {
   all = all;
-  each = λ k q. omega (arith, all, mul-le-mul-left 4 (apart-part d (p .streams) ys (numberAt b) (length (p .streams)) k (q .0) (q .1)));
+  each = λ k q. omega (arith, all, mul-le-mul-left 4 (apart-part d (p .streams) ys (numberOn s) (length (p .streams)) k (q .0) (q .1)));
   as-read = λ k q e. as-read p w d ys m k (q .0) (q .1) (t .as-read k q .0 e) ∙ ap (λ (x : ℤ). pos d *ℤ x) (sym (t .reading k q e));
 }
   where
@@ -43,11 +43,15 @@ beside p w i n b t d ys m = record {
     c : Cheapest p xs
     c = t .some .1
 
-    shown : apart d (p .streams) (numberAt b) ys ≡ apart d (p .streams) (amountAt xs) ys
-    shown = apart-same d (p .streams) ys (numberAt b) (amountAt xs) (length (p .streams)) (λ k l q. t .metered xs c k (l, q))
+    shown : apart d (p .streams) (numberOn s) ys ≡ apart d (p .streams) (amountAt xs) ys
+    shown = apart-same d (p .streams) ys (numberOn s) (amountAt xs) (length (p .streams)) (λ k l q. t .metered xs c k (l, q))
 
-    all : 4 * apart d (p .streams) (numberAt b) ys ≤ d * d * adjustedWeights p b (length (p .streams))
-    all = rw shown (near-fractions p w xs ys d (adjustedWeights p b (length (p .streams))) (c .balance) m (t .near xs c d ys (m .some) (m .allowed)))
+    all : 4 * apart d (p .streams) (numberOn s) ys ≤ d * d * adjustedWeights p s
+    all = rw shown (near-fractions p w xs ys d (adjustedWeights p s) (c .balance) m (t .near xs c d ys (m .some) (m .allowed)))
+
+-- A reading of bytes has one result.
+same-parts : (s t : SheetParts) → someSheet s ≡ someSheet t → s ≡ t
+same-parts s t e = cc
 
 module _ (nineteen : Refusal-19)
     (answers : (file : List ℕ) (office : ℕ) (lasts o o′ : List ℕ) (r : Sheet) → counterOf office lasts ≤ topSheet → SheetSays file office lasts o o′ r → Answers file office lasts o o′ r) where
@@ -58,10 +62,11 @@ module _ (nineteen : Refusal-19)
 
   pub desk-tool : Desk-tool
   desk-tool = record {
-    near = λ file office lasts o o′ r top s n p d ys e m.
+    near = λ file office lasts o o′ r top s n p d ys e m sheet read.
         let a = answers file office lasts o o′ r top s in
         let x = some-cheapest file p d ys e m in
-        beside p (within p (accepted file p e .0)) office (nextOf office lasts) o′ (a .full p (x .0) (taken file office lasts o o′ r a n) e (x .1 .balance) .tells) d ys m;
+        let f = a .full p (x .0) (taken file office lasts o o′ r a n) e (x .1 .balance) in
+        beside p (within p (accepted file p e .0)) sheet (subst (Tells p) (same-parts (f .sheet) sheet (sym (f .read) ∙ read)) (f .tells)) d ys m;
     one = λ file p d e ys zs g m o k q. one-fraction p (within p (accepted file p g .0)) d e ys zs m o k (q .0) (q .1);
   }
     where

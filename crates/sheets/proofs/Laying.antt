@@ -1,5 +1,5 @@
 -- The bytes of a sheet, laid down: records, then the total.
-use mathlib.Core.Path.{_≡_, refl, sym, ap, _∙_}
+use mathlib.Core.Path.{_≡_, sym, ap, _∙_}
 use mathlib.Core.List.{List, [], _∷_, _++_, append-nil, append-assoc}
 use lib.IntN.{ℤ}
 use Prim.Native.Nat.{ℕ, zero, suc, _+_, _*_, _≤_, _<_}
@@ -16,7 +16,8 @@ use Rattle.flows.specs.declared.Class.the-variants.{Adjusted, AsRead, Given, Wi
 use Rattle.sheets.specs.declared.Entry.{Entry}
 use Rattle.sheets.specs.declared.Balance.{Balance}
 use Rattle.sheets.specs.Balances.{balanceOf}
-use Rattle.sheets.specs.Sheets.{recordOf, recordsOf, totalOf, sheetBytes, sheetOf}
+use Rattle.sheets.specs.Sheets.{recordOf, recordsOf, totalOf}
+use Rattle.sheets.specs.Drawings.{sheetBytes, sheetOf}
 use Rattle.sheets.specs.Apart.{streamSize, totalSize, leastSlice}
 
 -- No stream record is longer than a number's.

@@ -6,7 +6,6 @@ pub mod Laying
 pub mod Records
 pub mod There
 pub mod Back
-pub mod Apart
 pub mod Promise
 pub mod Unique
 pub mod Judged

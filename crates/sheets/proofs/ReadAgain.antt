@@ -24,7 +24,8 @@ use Rattle.flows.proofs.Given.{number-is}
 use Rattle.flows.proofs.Degrees.{degrees-most}
 use Rattle.sheets.specs.declared.Entry.{Entry}
 use Rattle.sheets.specs.Balances.{entryOf, balanceOf}
-use Rattle.sheets.specs.Sheets.{SheetParts, partsBytes, partsOf}
+use Rattle.sheets.specs.Sheets.{SheetParts, partsBytes}
+use Rattle.sheets.specs.Drawings.{partsOf}
 use Rattle.sheets.specs.Counters.{offices}
 use Rattle.sheets.specs.Kept.{someSheet, readSheet, verdictFits, fieldsFit, fits, allFit, kindFits, WithinSheet}
 use Rattle.flows.proofs.Ranges.{balanced-of}
@@ -58,8 +59,8 @@ module _ (p : Plant) (w : Within p) (xs : List ℤ) (c : Cheapest p xs) (sized :
 
   each : (k : ℕ) → k < length listed → fits (getD listed k noEntry .class) (getD listed k noEntry .flow) ≡ true
   each k h =
-      let l : k < length (p .streams) = omega (arith, es-long p w xs c 0 0 []) in
-      subst (λ (e : Entry). fits (e .class) (e .flow) ≡ true) (sym (entry-at p w xs c 0 0 [] k l))
+      let l : k < length (p .streams) = omega (arith, es-long p w xs c) in
+      subst (λ (e : Entry). fits (e .class) (e .flow) ≡ true) (sym (entry-at p w xs c noEntry k l))
       (entry-fits (classOf p k) (numberOf p xs k) (λ n. rw (number-is p w xs (balanced-of 1 p xs (c .balance)) k l n) (omega (arith, sized k l n))))
 
   -- Under a total of either kind.
@@ -70,18 +71,18 @@ module _ (p : Plant) (w : Within p) (xs : List ℤ) (c : Cheapest p xs) (sized :
     total-fits : fieldsFit (parts .total) ≡ true
     total-fits =
         let few : degrees p ≤ maxUnits = degrees-most p (w .few-units) (inside p w) in
-        rw (lt-ltb office offices known, degrees-is p w xs c 0 0 [], verdict-is p w xs c 0 0 [], ne-eqb (suc last) 0 (omega arith), le-leb (degrees p) maxUnits few)
+        rw (lt-ltb office offices known, degrees-is p w xs c, verdict-is p w xs c, ne-eqb (suc last) 0 (omega arith), le-leb (degrees p) maxUnits few)
         (verdict-fits (degrees p) (cost (p .streams) xs) (adjusted p))
 
     pub within-sheet : WithinSheet parts
     within-sheet =
         let f = w .few-streams in
         record {
-          few = omega (arith, es-long p w xs c 0 0 []);
+          few = omega (arith, es-long p w xs c);
           flows = all-fit listed each;
           kind = fit;
           number = small;
-          cost = omega (arith, cost-is p w xs c 0 0 [], capped-most (cost (p .streams) xs));
+          cost = omega (arith, cost-is p w xs c, capped-most (cost (p .streams) xs));
           allowed = total-fits;
         }
 

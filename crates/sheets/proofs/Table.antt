@@ -26,7 +26,7 @@ use Rattle.sheets.specs.declared.Sheet.{Sheet}
 use Rattle.sheets.specs.Sentences.{callFault, Overfilled}
 use Rattle.sheets.specs.Counters.{officesFrom}
 use Rattle.sheets.specs.Balances.{balanceOf}
-use Rattle.sheets.specs.Sheets.{sheetOf}
+use Rattle.sheets.specs.Drawings.{sheetOf}
 use Rattle.sheets.specs.Says.{Drawn, SheetSays}
 use Rattle.sheets.specs.Table.{Example, Shows, AllShow, Refuses, examples, fullFile, fullUnit}
 use Rattle.sheets.proofs.Promise.{call-read}

@@ -1,13 +1,13 @@
--- What the bytes of a cheapest flow's sheet tell: each sentence, from the classes and the flow that they were made of.
-use mathlib.Core.Path.{_≡_, refl, sym, ap, ap₂, _∙_, subst}
+-- What a cheapest flow's sheet tells: each sentence, from the classes and the flow that they were made of.
+use mathlib.Core.Path.{_≡_, refl, sym, ap, ap₂, _∙_}
 use mathlib.Core.Bool.{true}
 use mathlib.Core.Logic.{_↔_}
-use mathlib.Core.List.{List, _++_, append-assoc}
+use mathlib.Core.List.{List, _++_}
 use lib.IntN.{ℤ, pos, _*ℤ_}
 use Prim.Native.Nat.{ℕ, zero, suc, _+_, _*_, _^_, _≤_, _<_}
 use native.Mathlib.Omega.{arith}
 use lib.Dec.{eqb}
-use lib.ListN.{length, getD, take, length-append}
+use lib.ListN.{length, getD, take}
 use lib.Seq.{length-take-le, getD-take}
 use Rattle.numbers.specs.Choice.{pick}
 use Rattle.numbers.proofs.Tests.{clash}
@@ -20,7 +20,7 @@ use Rattle.flows.specs.declared.Class.the-variants.{Adjusted, AsRead, Given, Wi
 use Rattle.flows.specs.Flows.{streamAt, amountAt, balanced, allowedOver, cost, costOver, Cheapest, nearest}
 use Rattle.flows.specs.Chains.{everyStream, unmeteredOnly}
 use Rattle.flows.specs.Classes.{classOf, numberOf, degrees}
-use Rattle.flows.specs.Test.{criticalAt, verdictAt}
+use Rattle.flows.specs.Test.{verdictAt}
 use Rattle.flows.specs.Shown.{adjustedWeight, adjustedTo, adjusted, Shown}
 use Rattle.flows.proofs.Nets.{inside}
 use Rattle.flows.proofs.Lists.{values-at}
@@ -30,28 +30,25 @@ use Rattle.flows.proofs.Degrees.{degrees-most}
 use Rattle.flows.proofs.Counted.{some-each, degrees-counted}
 use Rattle.flows.proofs.Chained.{as-read-of, adjusted-of, given-times}
 use Rattle.sheets.specs.declared.Entry.{Entry}
-use Rattle.sheets.specs.Apart.{adjustedKind, totalKind, kindAt, numberAt, officeIn, sheetNumberIn, costIn, degreesIn, verdictIn, capped, sheetLength}
-use Rattle.sheets.specs.Sentences.{MeteredAt, UnmeteredAt, MetersAs, adjustedWeights, Tells}
+use Rattle.sheets.specs.Apart.{adjustedKind, capped}
+use Rattle.sheets.specs.Sentences.{MeteredAt, UnmeteredAt, classOn, numberOn, MetersAs, weightsTo, adjustedWeights, Tells}
 use Rattle.sheets.specs.Balances.{entryOf, balanceOf}
 use Rattle.sheets.specs.Calls.{Small}
-use Rattle.sheets.specs.Sheets.{kindOf, recordsOf, totalOf, sheetOf}
-use Rattle.sheets.proofs.Capped.{capped-most}
-use Rattle.sheets.proofs.Entries.{noEntry, balance-long}
-use Rattle.sheets.proofs.Apart.{kind-at, number-at, total-begins, total-kind, total-office, total-number, total-cost, total-degrees, total-verdict}
+use Rattle.sheets.specs.Sheets.{kindOf, SheetParts}
+use Rattle.sheets.specs.Kept.{blank}
+use Rattle.sheets.specs.Drawings.{partsOf}
+use Rattle.sheets.proofs.Entries.{balance-long}
 use Rattle.sheets.proofs.Unique.{amount-same, cost-same}
 use Rattle.sheets.proofs.Judged.{passed-means, failed-means}
 
--- What is read in bytes that begin with an office's sheet n of a flow.
-pub record Told (p : Plant) (xs : List ℤ) (office n : ℕ) (b : List ℕ) : Type 0 where
-  pub kinds : (k : ℕ) → k < length (p .streams) → kindAt b k ≡ kindOf (classOf p k)
-  pub numbers : (k : ℕ) → k < length (p .streams) → (classOf p k ≡ Withheld → ⊥) → numberAt b k ≡ amountAt xs k
-  pub total : kindAt b (length (p .streams)) ≡ totalKind
-  pub drawer : officeIn b (length (p .streams)) ≡ office
-  pub numbered : sheetNumberIn b (length (p .streams)) ≡ n
-  pub costs : costIn b (length (p .streams)) ≡ capped (cost (p .streams) xs)
-  pub freedom : degreesIn b (length (p .streams)) ≡ degrees p
-  pub verdict : verdictIn b (length (p .streams)) ≡ verdictAt (degrees p) (cost (p .streams) xs) (adjusted p)
-  pub size : sheetLength b (length (p .streams)) ≡ length (sheetOf office p xs n)
+-- What a sheet of a flow shows.
+pub record Told (p : Plant) (xs : List ℤ) (s : SheetParts) : Type 0 where
+  pub long : length (s .streams) ≡ length (p .streams)
+  pub classes : (k : ℕ) → k < length (p .streams) → classOn s k ≡ classOf p k
+  pub numbers : (k : ℕ) → k < length (p .streams) → (classOf p k ≡ Withheld → ⊥) → numberOn s k ≡ amountAt xs k
+  pub costs : s .total .cost ≡ capped (cost (p .streams) xs)
+  pub freedom : s .total .degrees ≡ degrees p
+  pub verdict : s .total .verdict ≡ verdictAt (degrees p) (cost (p .streams) xs) (adjusted p)
 
 -- An entry's class and its flow.
 pub entry-class : (c : Class) (x : ℤ) → entryOf c x .class ≡ c
@@ -70,7 +67,7 @@ entry-flow Withheld x n = absurd (n refl)
 abbrev pub Sized : Plant → List ℤ → Type 0
 Sized p xs = (k : ℕ) → k < length (p .streams) → (classOf p k ≡ Withheld → ⊥) → Small (amountAt xs k)
 
-module _ (p : Plant) (w : Within p) (xs : List ℤ) (c : Cheapest p xs) (office n : ℕ) (rest : List ℕ) where
+module _ (p : Plant) (w : Within p) (xs : List ℤ) (c : Cheapest p xs) where
   abbrev count : ℕ
   count = length (p .streams)
 
@@ -80,17 +77,17 @@ module _ (p : Plant) (w : Within p) (xs : List ℤ) (c : Cheapest p xs) (office 
   pub es-long : length es ≡ count
   es-long = let l = balance-long p xs in let f = w .few-streams in length-take-le count (balanceOf p xs .streams) (omega arith)
 
-  pub entry-at : (k : ℕ) → k < count → getD es k noEntry ≡ entryOf (classOf p k) (numberOf p xs k)
+  pub entry-at : (none : Entry) (k : ℕ) → k < count → getD es k none ≡ entryOf (classOf p k) (numberOf p xs k)
   unfolding balanceOf
-  entry-at k h =
+  entry-at none k h =
       let f = w .few-streams in
-      getD-take count (balanceOf p xs .streams) k noEntry h ∙ values-at (λ k. entryOf (classOf p k) (numberOf p xs k)) noEntry maxStreams k (omega arith)
+      getD-take count (balanceOf p xs .streams) k none h ∙ values-at (λ k. entryOf (classOf p k) (numberOf p xs k)) none maxStreams k (omega arith)
 
-  class-at : (k : ℕ) → k < count → getD es k noEntry .class ≡ classOf p k
-  class-at k h = ap (λ (e : Entry). e .class) (entry-at k h) ∙ entry-class (classOf p k) (numberOf p xs k)
+  pub class-at : (none : Entry) (k : ℕ) → k < count → getD es k none .class ≡ classOf p k
+  class-at none k h = ap (λ (e : Entry). e .class) (entry-at none k h) ∙ entry-class (classOf p k) (numberOf p xs k)
 
-  pub flow-at : (k : ℕ) → k < count → (classOf p k ≡ Withheld → ⊥) → getD es k noEntry .flow ≡ amountAt xs k
-  flow-at k h o = ap (λ (e : Entry). e .flow) (entry-at k h) ∙ entry-flow (classOf p k) (numberOf p xs k) o ∙ number-is p w xs (balanced-of 1 p xs (c .balance)) k h o
+  pub flow-at : (none : Entry) (k : ℕ) → k < count → (classOf p k ≡ Withheld → ⊥) → getD es k none .flow ≡ amountAt xs k
+  flow-at none k h o = ap (λ (e : Entry). e .flow) (entry-at none k h) ∙ entry-flow (classOf p k) (numberOf p xs k) o ∙ number-is p w xs (balanced-of 1 p xs (c .balance)) k h o
 
   pub cost-is : balanceOf p xs .cost ≡ capped (cost (p .streams) xs)
   unfolding balanceOf
@@ -104,45 +101,9 @@ module _ (p : Plant) (w : Within p) (xs : List ℤ) (c : Cheapest p xs) (office 
   unfolding balanceOf
   verdict-is = refl
 
-  abbrev end : List ℕ
-  end = totalOf office n (balanceOf p xs .cost) (balanceOf p xs .degrees) (balanceOf p xs .verdict)
-
-  module _ (sized : Sized p xs) (small : n < 256 ^ 4) where
-    told-apart : Told p xs office n (recordsOf es ++ (end ++ rest))
-    told-apart =
-        let l = es-long in
-        let cs = balanceOf p xs .cost in
-        let ds = balanceOf p xs .degrees in
-        let vs = balanceOf p xs .verdict in
-        let fits : cs < 256 ^ 8 = omega (arith, cost-is, capped-most (cost (p .streams) xs)) in
-        record {
-          kinds = λ k h. kind-at es (end ++ rest) noEntry k (omega arith) ∙ ap kindOf (class-at k h);
-          numbers = λ k h o. number-at es (end ++ rest) noEntry k (omega arith) (λ e. o (sym (class-at k h) ∙ e)) (rw (flow-at k h o) (omega (arith, sized k h o))) ∙ flow-at k h o;
-          total = rw es-long at (total-kind es office n cs ds vs rest noEntry);
-          drawer = rw es-long at (total-office es office n cs ds vs rest noEntry);
-          numbered = rw es-long at (total-number es office n cs ds vs rest noEntry small);
-          costs = rw es-long at (total-cost es office n cs ds vs rest noEntry fits) ∙ cost-is;
-          freedom = rw es-long at (total-degrees es office n cs ds vs rest noEntry) ∙ degrees-is;
-          verdict = rw es-long at (total-verdict es office n cs ds vs rest noEntry) ∙ verdict-is;
-          size = ap (λ (i : ℕ). i + 16) (rw es-long at (total-begins es (end ++ rest) noEntry)) ∙ sym (length-append (recordsOf es) end);
-        }
-
-    pub told : Told p xs office n (sheetOf office p xs n ++ rest)
-    told = subst (Told p xs office n) (sym (append-assoc (recordsOf es) end rest)) told-apart
-
--- The kind tells the class.
-classFrom : ℕ → Class
-classFrom k = pick (eqb k 17) Adjusted (pick (eqb k 18) AsRead (pick (eqb k 19) Given Withheld))
-
-from-kind : (c : Class) → classFrom (kindOf c) ≡ c
-unfolding classFrom
-from-kind Adjusted = refl
-from-kind AsRead = refl
-from-kind Given = refl
-from-kind Withheld = refl
-
-kind-class : (c d : Class) → kindOf c ≡ kindOf d → c ≡ d
-kind-class c d e = sym (from-kind c) ∙ ap classFrom e ∙ from-kind d
+  -- The sheet of a flow, under a total of some kind.
+  pub told : (kind office n : ℕ) → Told p xs (partsOf kind office (length (p .streams)) n (balanceOf p xs))
+  told kind office n = record { long = es-long; classes = class-at blank; numbers = flow-at blank; costs = cost-is; freedom = degrees-is; verdict = verdict-is }
 
 weight-told : (c : Class) (s : Stream) → adjustedWeight c s ≡ pick (eqb (kindOf c) adjustedKind) (s .weight) 0
 weight-told Adjusted s = refl
@@ -153,12 +114,18 @@ weight-told Withheld s = refl
 iff-both : {A B C : Type 0} → (A ↔ B) → (B ↔ C) → A ↔ C
 iff-both f g = (λ a. g .0 (f .0 a), λ c. f .1 (g .1 c))
 
-module _ (p : Plant) (w : Within p) (shown : Shown p) (xs : List ℤ) (c : Cheapest p xs) (office n : ℕ) (b : List ℕ) (t : Told p xs office n b) where
-  abbrev m : ℕ
-  m = length (p .streams)
+-- The summed weights of the A streams, where a sheet has the classes.
+pub weights-told : (p : Plant) (s : SheetParts) → ((k : ℕ) → k < length (p .streams) → classOn s k ≡ classOf p k) → (k : ℕ) → k ≤ length (p .streams)
+    → adjustedTo p k ≡ weightsTo p s k
+weights-told p s classes zero h = refl
+weights-told p s classes (suc k) h =
+    ap₂ _+_ (weight-told (classOf p k) (streamAt (p .streams) k)
+    ∙ ap (λ (q : Class). pick (eqb (kindOf q) adjustedKind) (streamAt (p .streams) k .weight) 0) (sym (classes k (omega arith))))
+    (weights-told p s classes k (omega arith))
 
-  kind-iff : (k : ℕ) → k < length (p .streams) → (a : Class) → (kindAt b k ≡ kindOf a) ↔ (classOf p k ≡ a)
-  kind-iff k h a = (λ e. kind-class (classOf p k) a (sym (t .kinds k h) ∙ e), λ e. t .kinds k h ∙ ap kindOf e)
+module _ (p : Plant) (w : Within p) (shown : Shown p) (xs : List ℤ) (c : Cheapest p xs) (s : SheetParts) (t : Told p xs s) where
+  class-iff : (k : ℕ) → k < length (p .streams) → (a : Class) → (classOn s k ≡ a) ↔ (classOf p k ≡ a)
+  class-iff k h a = (λ e. sym (t .classes k h) ∙ e, λ e. t .classes k h ∙ e)
 
   -- A metered stream is not withheld, nor is a given one.
   metered-shown : (k : ℕ) → streamAt (p .streams) k .metered ≡ true → classOf p k ≡ Withheld → ⊥
@@ -170,41 +137,38 @@ module _ (p : Plant) (w : Within p) (shown : Shown p) (xs : List ℤ) (c : Cheap
   differ : {a : Class} → (kindOf a ≡ kindOf Withheld → ⊥) → a ≡ Withheld → ⊥
   differ f e = f (ap kindOf e)
 
-  meter : (k : ℕ) → MeteredAt p k → numberAt b k ≡ amountAt xs k
+  meter : (k : ℕ) → MeteredAt p k → numberOn s k ≡ amountAt xs k
   meter k q = t .numbers k (q .0) (metered-shown k (q .1))
 
-  reading : (i : ℕ) → MeteredAt p i → classOf p i ≡ AsRead → numberAt b i ≡ nearest (streamAt (p .streams) i)
+  reading : (i : ℕ) → MeteredAt p i → classOf p i ≡ AsRead → numberOn s i ≡ nearest (streamAt (p .streams) i)
   reading i q e = meter i q ∙ shown .as-read xs i c (q .0) e
 
-  given-number : (i d : ℕ) (ys : List ℤ) → UnmeteredAt p i → classOf p i ≡ Given → balanced p ys ≡ true → MetersAs p b d ys
-      → amountAt ys i ≡ pos d *ℤ numberAt b i
+  given-number : (i d : ℕ) (ys : List ℤ) → UnmeteredAt p i → classOf p i ≡ Given → balanced p ys ≡ true → MetersAs p s d ys
+      → amountAt ys i ≡ pos d *ℤ numberOn s i
   given-number i d ys u e bal f =
-      let shows : numberAt b i ≡ amountAt xs i = t .numbers i (u .0) (as-shown (differ (λ q. omega arith)) i e) in
+      let shows : numberOn s i ≡ amountAt xs i = t .numbers i (u .0) (as-shown (differ (λ q. omega arith)) i e) in
       given-times p w i (u .0) e (pos d) xs ys (balanced-of 1 p xs (c .balance)) bal (λ k l q. f k (l, q) ∙ ap (λ (z : ℤ). pos d *ℤ z) (meter k (l, q)))
       ∙ ap (λ (z : ℤ). pos d *ℤ z) (sym shows)
 
-  weights : (k : ℕ) → k ≤ length (p .streams) → adjustedTo p k ≡ adjustedWeights p b k
-  weights zero h = refl
-  weights (suc k) h =
-      ap₂ _+_ (weight-told (classOf p k) (streamAt (p .streams) k)
-      ∙ ap (λ (q : ℕ). pick (eqb q adjustedKind) (streamAt (p .streams) k .weight) 0) (sym (t .kinds k (omega arith))))
-      (weights k (omega arith))
+  weights : (k : ℕ) → k ≤ length (p .streams) → adjustedTo p k ≡ weightsTo p s k
+  weights = weights-told p s (t .classes)
 
   quarter : (zs : List ℤ) → Cheapest p zs → (d : ℕ) (ys : List ℤ) → 1 ≤ d → allowedOver d p ys ≡ true
-      → 4 * (d * d) * cost (p .streams) zs ≤ 4 * costOver d (p .streams) ys + d * d * adjustedWeights p b m
-  quarter zs z d ys l a = rw (← weights m (omega arith)) (shown .near zs ys d z l a)
+      → 4 * (d * d) * cost (p .streams) zs ≤ 4 * costOver d (p .streams) ys + d * d * adjustedWeights p s
+  quarter zs z d ys l a = rw (← weights (length (p .streams)) (omega arith)) (shown .near zs ys d z l a)
 
-  judged : (zs : List ℤ) → Cheapest p zs → verdictIn b m ≡ verdictAt (degreesIn b m) (cost (p .streams) zs) (adjustedWeights p b m)
-  judged zs z = t .verdict ∙ (λ i. verdictAt (sym (t .freedom) i) (cost-same p w xs zs c z i) (weights m (omega arith) i))
+  judged : (zs : List ℤ) → Cheapest p zs → s .total .verdict ≡ verdictAt (s .total .degrees) (cost (p .streams) zs) (adjustedWeights p s)
+  judged zs z = t .verdict ∙ (λ i. verdictAt (sym (t .freedom) i) (cost-same p w xs zs c z i) (weights (length (p .streams)) (omega arith) i))
 
-  pub tells : Tells p (length (p .streams)) office n b
+  pub tells : Tells p s
   tells = record {
-    adjusted = λ i q. iff-both (kind-iff i (q .0) Adjusted) (adjusted-of p w i (q .1));
-    as-read = λ i q. iff-both (kind-iff i (q .0) AsRead) (as-read-of p w i (q .1));
-    reading = λ i q e. reading i q (kind-iff i (q .0) AsRead .0 e);
-    given = λ i q. iff-both (kind-iff i (q .0) Given) (shown .number i (record { listed = q .0; unmetered = q .1 }));
-    withheld = λ i q. iff-both (kind-iff i (q .0) Withheld) (shown .blank i (record { listed = q .0; unmetered = q .1 }));
-    number = λ i d ys q e. given-number i d ys q (kind-iff i (q .0) Given .0 e);
+    listed = t .long;
+    adjusted = λ i q. iff-both (class-iff i (q .0) Adjusted) (adjusted-of p w i (q .1));
+    as-read = λ i q. iff-both (class-iff i (q .0) AsRead) (as-read-of p w i (q .1));
+    reading = λ i q e. reading i q (class-iff i (q .0) AsRead .0 e);
+    given = λ i q. iff-both (class-iff i (q .0) Given) (shown .number i (record { listed = q .0; unmetered = q .1 }));
+    withheld = λ i q. iff-both (class-iff i (q .0) Withheld) (shown .blank i (record { listed = q .0; unmetered = q .1 }));
+    number = λ i d ys q e. given-number i d ys q (class-iff i (q .0) Given .0 e);
     some = (xs, c);
     metered = λ ys d i q. meter i q ∙ amount-same p w xs ys c d i (q .0) (metered-shown i (q .1));
     costs = λ ys d. t .costs ∙ ap capped (cost-same p w xs ys c d);
@@ -214,9 +178,6 @@ module _ (p : Plant) (w : Within p) (shown : Shown p) (xs : List ℤ) (c : Cheap
     degrees = λ gs cs g h. rw (t .freedom) (degrees-counted p w gs cs g h);
     few = rw (t .freedom) (degrees-most p (w .few-units) (inside p w));
     verdict = judged;
-    passes = λ e zs z. passed-means (degreesIn b m) (cost (p .streams) zs) (adjustedWeights p b m) (sym (judged zs z) ∙ e);
-    fails = λ e d ys l a. failed-means (degreesIn b m) (cost (p .streams) xs) (adjustedWeights p b m) (sym (judged xs c) ∙ e) d (costOver d (p .streams) ys) l (quarter xs c d ys l a);
-    total = t .total;
-    drawer = t .drawer;
-    numbered = t .numbered;
+    passes = λ e zs z. passed-means (s .total .degrees) (cost (p .streams) zs) (adjustedWeights p s) (sym (judged zs z) ∙ e);
+    fails = λ e d ys l a. failed-means (s .total .degrees) (cost (p .streams) xs) (adjustedWeights p s) (sym (judged xs c) ∙ e) d (costOver d (p .streams) ys) l (quarter xs c d ys l a);
   }

@@ -16,6 +16,7 @@ use Rattle.numbers.proofs.Tests.{and-left, and-right}
 use Rattle.numbers.proofs.Digits.{be-put}
 use Rattle.numbers.proofs.Complement.{held-back, held-fits}
 use Rattle.plants.specs.Limits.{maxStreams}
+use Rattle.plants.specs.Files.{mostRecords}
 use Rattle.flows.specs.declared.Class.{Class}
 use Rattle.flows.specs.declared.Class.the-variants.{Adjusted, AsRead, Given, Withheld}
 use Rattle.sheets.specs.declared.Entry.{Entry}
@@ -24,7 +25,7 @@ use Rattle.sheets.specs.declared.SheetRecord.{SheetRecord}
 use Rattle.sheets.specs.declared.SheetRecord.the-variants.{Listed, Ended, Refused}
 use Rattle.sheets.specs.Apart.{totalKind, plainKind, streamSize}
 use Rattle.sheets.specs.Sheets.{kindOf, recordOf, recordsOf, bodyOf, totalBytes, SheetParts, partsBytes}
-use Rattle.sheets.specs.Kept.{noSheet, someSheet, streamRecord, bodyIn, fieldsFit, totalFault, kindRecord, recordAt, onRecord, sheetWith, recordsFrom, mostRecords, readSheet, fits, allFit, kindFits, WithinSheet}
+use Rattle.sheets.specs.Kept.{noSheet, someSheet, streamRecord, bodyIn, fieldsFit, totalFault, kindRecord, recordAt, onRecord, sheetWith, recordsFrom, readSheet, fits, allFit, kindFits, WithinSheet}
 
 -- A record is there: it goes by its kind.
 due : (c k : ℕ) (b : List ℕ) → recordAt c (k ∷ b) ≡ kindRecord c k (k ∷ b)

@@ -39,8 +39,9 @@ use Rattle.sheets.specs.declared.Sheet.{Sheet}
 use Rattle.sheets.specs.Apart.{capped}
 use Rattle.sheets.specs.Counters.{nextOf, raised}
 use Rattle.sheets.specs.Balances.{entryOf, balanceOf}
-use Rattle.sheets.specs.Sheets.{sheetBytes, sheetOf}
-use Rattle.sheets.specs.Says.{Drawn, SheetWith, bare, Alike, No-choice}
+use Rattle.sheets.specs.Drawings.{sheetBytes, sheetOf}
+use Rattle.sheets.specs.Demands.{bare, Alike, No-choice}
+use Rattle.sheets.specs.Says.{Drawn, SheetWith}
 use Rattle.sheets.specs.Sentences.{callFault, Refused, Overfilled}
 use Rattle.sheets.proofs.Entries.{entry-same}
 

@@ -1,32 +1,30 @@
 -- The demands, all in one record. `SheetSays file office lasts o o′ r` is what the sheet call ensures.
 use mathlib.Core.Path.{_≡_}
 use mathlib.Core.List.{List}
-use lib.IntN.{ℤ}
 use Prim.Native.Nat.{ℕ, _≤_}
-use lib.ListN.{take}
-use Rattle.plants.specs.Plants.{Plant}
-use Rattle.plants.specs.Files.{got, readPlant, Round-trip}
-use Rattle.flows.specs.Flows.{Cheapest}
+use Rattle.plants.specs.Files.{Round-trip}
 use Rattle.flows.specs.Chains.{everyStream, unmeteredOnly}
 use Rattle.flows.specs.Groups.{One-pass}
-use Rattle.flows.specs.Shown.{Demand-3}
-use Rattle.flows.specs.Overfull.{Refusal-19}
+use Rattle.flows.specs.Overfull.{unmarked, Refusal-19}
 use Rattle.sheets.specs.declared.Sheet.{Sheet}
 use Rattle.sheets.specs.Sentences.{Answers}
-use Rattle.sheets.specs.Counters.{topSheet, counterOf, nextOf}
-use Rattle.sheets.specs.Says.{SheetSays, No-choice}
-use Rattle.sheets.specs.Sheets.{plantParts}
+use Rattle.sheets.specs.Counters.{topSheet, counterOf}
+use Rattle.sheets.specs.Says.{SheetSays}
 use Rattle.sheets.specs.DeskTool.{Desk-tool}
-use Rattle.sheets.specs.Kept.{someSheet, readSheet, Reopening}
+use Rattle.sheets.specs.Kept.{Reopening}
 
--- A call that drew a sheet: the bytes written, read back in, are the classes and the numbers of the plant's streams with a
--- cheapest flow, and the total under the office and the number drawn, of the kind that has an office.
-pub record ReadsBack (file : List ℕ) (office : ℕ) (lasts o′ : List ℕ) (r : Sheet) : Type 0 where
-  pub plant : Plant
-  pub listed : readPlant file ≡ got plant
-  pub flow : List ℤ
-  pub cheapest : Cheapest plant flow
-  pub read : readSheet (take (r .written) o′) ≡ someSheet (plantParts office plant flow (nextOf office lasts))
+-- Two answers are alike: the same but for the places marked, and the same altogether where the number is not 19.
+abbrev pub bare : Sheet → Sheet
+bare r = record { number = r .number; written = r .written; lasts = r .lasts; marked = unmarked }
+
+abbrev pub Alike : Sheet → Sheet → Type 0
+Alike r₁ r₂ = (bare r₁ ≡ bare r₂) × ((r₁ .number ≡ 19 → ⊥) → r₁ ≡ r₂)
+
+-- No choice is left but that of the set: what a call returns and leaves behind follows from what it was handed.
+abbrev pub No-choice : Type 0
+No-choice =
+    (file : List ℕ) (office : ℕ) (lasts : List ℕ) (o o₁ o₂ : List ℕ) (r₁ r₂ : Sheet)
+    → SheetSays file office lasts o o₁ r₁ → SheetSays file office lasts o o₂ r₂ → Alike r₁ r₂ × (o₁ ≡ o₂)
 
 pub record Demands : Type 0 where
   -- Of every call, the office's counter being of 32 bits: the refusal, or a sheet that tells what it has to.
@@ -39,12 +37,8 @@ pub record Demands : Type 0 where
   -- Groups, by the unmetered streams, and connected pieces, by all, are formed in one pass over the streams.
   pub groups : One-pass unmeteredOnly
   pub pieces : One-pass everyStream
-  -- Demand 3 by classes; the sentences say it of the bytes.
-  pub third : Demand-3
-  -- Sheets read back in: writing and reading undo each other, and a sheet that a call drew reads back as the plant has it.
+  -- Sheets read back in: writing and reading undo each other. (What a sheet that a call drew reads back as, the sentences say.)
   pub reopening : Reopening
-  pub kept : (file : List ℕ) (office : ℕ) (lasts o o′ : List ℕ) (r : Sheet) → counterOf office lasts ≤ topSheet → SheetSays file office lasts o o′ r
-      → r .number ≡ 0 → ReadsBack file office lasts o′ r
   -- Refusal 19: a plant that is read has a cheapest flow or an overfull set, and never both.
   pub nineteen : Refusal-19
   -- A desk tool that works in real numbers: how far its flow is from the metered numbers on a sheet at most.

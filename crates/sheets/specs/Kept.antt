@@ -10,6 +10,7 @@ use Rattle.numbers.specs.Choice.{pick, refuseIf, firstOf}
 use Rattle.numbers.specs.Bytes.{be, signed, holds, allBytes}
 use Rattle.numbers.specs.Arrays.{filled}
 use Rattle.plants.specs.Limits.{maxUnits, maxStreams}
+use Rattle.plants.specs.Files.{mostRecords}
 use Rattle.flows.specs.declared.Class.{Class}
 use Rattle.flows.specs.declared.Class.the-variants.{Adjusted, AsRead, Given, Withheld}
 use Rattle.sheets.specs.declared.Entry.{Entry}
@@ -107,10 +108,6 @@ sheetWith es t = someSheet (record { streams = es; total = t })
 abbrev pub recordsFrom : ℕ → List Entry → List ℕ → Reopened
 recordsFrom zero es s = noSheet 13
 recordsFrom (suc fuel) es s = onRecord (recordAt (length es) s) (λ e m. recordsFrom fuel (es ++ (e ∷ [])) (drop m s)) (sheetWith es) noSheet
-
--- Enough for every stream there may be, and the record that ends the reading.
-abbrev pub mostRecords : ℕ
-mostRecords = suc maxStreams
 
 -- A sheet: the stream records, then one total and nothing more.
 abbrev pub readSheet : List ℕ → Reopened

@@ -14,7 +14,7 @@ use Rattle.flows.specs.Flows.{Cheapest}
 use Rattle.flows.specs.Overfull.{unmarked}
 use Rattle.sheets.specs.declared.Sheet.{Sheet}
 use Rattle.sheets.specs.Counters.{nextOf, raised}
-use Rattle.sheets.specs.Sheets.{sheetOf}
+use Rattle.sheets.specs.Drawings.{sheetOf}
 use Rattle.sheets.specs.Sentences.{callFault, Refused, Overfilled}
 
 -- A sheet drawn: that of the cheapest flow, under the calling office's next number, and no other office's number is touched; the
@@ -34,16 +34,3 @@ SheetWith (got p) office lasts o o′ r = Drawn p office lasts o o′ r ⊎ Over
 abbrev pub SheetSays : List ℕ → ℕ → List ℕ → List ℕ → List ℕ → Sheet → Type 0
 SheetSays file office lasts o o′ r =
     pickT (eqb (callFault office lasts o) 0) (SheetWith (readPlant file) office lasts o o′ r) (Refused (callFault office lasts o) lasts o o′ r)
-
--- Two answers are alike: the same but for the places marked, and the same altogether where the number is not 19.
-abbrev pub bare : Sheet → Sheet
-bare r = record { number = r .number; written = r .written; lasts = r .lasts; marked = unmarked }
-
-abbrev pub Alike : Sheet → Sheet → Type 0
-Alike r₁ r₂ = (bare r₁ ≡ bare r₂) × ((r₁ .number ≡ 19 → ⊥) → r₁ ≡ r₂)
-
--- No choice is left but that of the set: what a call returns and leaves behind follows from what it was handed.
-abbrev pub No-choice : Type 0
-No-choice =
-    (file : List ℕ) (office : ℕ) (lasts : List ℕ) (o o₁ o₂ : List ℕ) (r₁ r₂ : Sheet)
-    → SheetSays file office lasts o o₁ r₁ → SheetSays file office lasts o o₂ r₂ → Alike r₁ r₂ × (o₁ ≡ o₂)

@@ -1,4 +1,5 @@
--- What a customer reads in the slice that a call leaves behind: sentences about its bytes, over the flows of the plant.
+-- What a customer reads in the slice that a call leaves behind: sentences about the sheet that the reader finds there, over the flows of
+-- the plant.
 use mathlib.Core.Path.{_≡_}
 use mathlib.Core.Logic.{_↔_}
 use mathlib.Core.Bool.{Bool, true, false}
@@ -6,7 +7,7 @@ use mathlib.Core.List.{List}
 use lib.IntN.{ℤ, pos, _*ℤ_}
 use Prim.Native.Nat.{ℕ, zero, suc, _+_, _*_, _≤_, _<_}
 use lib.Dec.{eqb, ltb, leb}
-use lib.ListN.{length, drop}
+use lib.ListN.{length, getD, take, drop}
 use Rattle.numbers.specs.Choice.{pick, refuseIf, firstOf}
 use Rattle.plants.specs.Limits.{maxUnits}
 use Rattle.plants.specs.Plants.{Plant}
@@ -15,8 +16,12 @@ use Rattle.flows.specs.Flows.{streamAt, amountAt, balanced, allowedOver, allowe
 use Rattle.flows.specs.Chains.{everyStream, unmeteredOnly, Chain, OneEach}
 use Rattle.flows.specs.Test.{criticalAt, verdictAt}
 use Rattle.flows.specs.Overfull.{unmarked, Overfull}
+use Rattle.flows.specs.declared.Class.{Class}
+use Rattle.flows.specs.declared.Class.the-variants.{Adjusted, AsRead, Given, Withheld}
 use Rattle.sheets.specs.declared.Sheet.{Sheet}
-use Rattle.sheets.specs.Apart.{adjustedKind, asReadKind, givenKind, withheldKind, totalKind, leastSlice, kindAt, numberAt, officeIn, sheetNumberIn, costIn, degreesIn, verdictIn, capped, sheetLength}
+use Rattle.sheets.specs.Apart.{adjustedKind, totalKind, leastSlice, capped}
+use Rattle.sheets.specs.Sheets.{kindOf, SheetParts}
+use Rattle.sheets.specs.Kept.{blank, someSheet, readSheet}
 use Rattle.sheets.specs.Counters.{offices, topSheet, counterOf, nextOf, raised}
 
 -- Stream i, from 0, is listed, and metered or not.
@@ -37,52 +42,66 @@ Forced p i = (ys zs : List ℤ) → Agree p ys zs → amountAt ys i ≡ amountAt
 abbrev pub Free : Plant → ℕ → Type 0
 Free p i = (ys : List ℤ) × (zs : List ℤ) × Agree p ys zs × (amountAt ys i ≡ amountAt zs i → ⊥)
 
+-- Stream i of a sheet, from 0: its class, and the number beside it.
+abbrev pub classOn : SheetParts → ℕ → Class
+classOn s i = getD (s .streams) i blank .class
+
+abbrev pub numberOn : SheetParts → ℕ → ℤ
+numberOn s i = getD (s .streams) i blank .flow
+
 -- The metered amounts of a flow, its amounts over d, are those on the sheet.
-abbrev pub MetersAs : Plant → List ℕ → ℕ → List ℤ → Type 0
-MetersAs p b d ys = (k : ℕ) → MeteredAt p k → amountAt ys k ≡ pos d *ℤ numberAt b k
+abbrev pub MetersAs : Plant → SheetParts → ℕ → List ℤ → Type 0
+MetersAs p s d ys = (k : ℕ) → MeteredAt p k → amountAt ys k ≡ pos d *ℤ numberOn s k
 
 -- The summed weights of the A streams among the first k.
-abbrev pub adjustedWeights : Plant → List ℕ → ℕ → ℕ
-adjustedWeights p b zero = 0
-adjustedWeights p b (suc k) = pick (eqb (kindAt b k) adjustedKind) (streamAt (p .streams) k .weight) 0 + adjustedWeights p b k
+abbrev pub weightsTo : Plant → SheetParts → ℕ → ℕ
+weightsTo p s zero = 0
+weightsTo p s (suc k) = pick (eqb (kindOf (classOn s k)) adjustedKind) (streamAt (p .streams) k .weight) 0 + weightsTo p s k
 
--- The bytes b, as an office's sheet n of plant p, whose m streams they list.
-pub record Tells (p : Plant) (m office n : ℕ) (b : List ℕ) : Type 0 where
+abbrev pub adjustedWeights : Plant → SheetParts → ℕ
+adjustedWeights p s = weightsTo p s (length (p .streams))
+
+-- A sheet s of plant p.
+pub record Tells (p : Plant) (s : SheetParts) : Type 0 where
+  -- It lists the streams of the plant, in their order.
+  pub listed : length (s .streams) ≡ length (p .streams)
   -- A metered stream is A exactly when no chain of unmetered streams joins its ends, R exactly when one does; R is the nearest
   -- value in range to its reading.
-  pub adjusted : (i : ℕ) → MeteredAt p i → (kindAt b i ≡ adjustedKind) ↔ (EndsJoined p i → ⊥)
-  pub as-read : (i : ℕ) → MeteredAt p i → (kindAt b i ≡ asReadKind) ↔ EndsJoined p i
-  pub reading : (i : ℕ) → MeteredAt p i → kindAt b i ≡ asReadKind → numberAt b i ≡ nearest (streamAt (p .streams) i)
+  pub adjusted : (i : ℕ) → MeteredAt p i → (classOn s i ≡ Adjusted) ↔ (EndsJoined p i → ⊥)
+  pub as-read : (i : ℕ) → MeteredAt p i → (classOn s i ≡ AsRead) ↔ EndsJoined p i
+  pub reading : (i : ℕ) → MeteredAt p i → classOn s i ≡ AsRead → numberOn s i ≡ nearest (streamAt (p .streams) i)
   -- An unmetered stream has a number, G, exactly when every two flows that agree on the meters agree on it, a blank, W, exactly
   -- when some two differ.
-  pub given : (i : ℕ) → UnmeteredAt p i → (kindAt b i ≡ givenKind) ↔ Forced p i
-  pub withheld : (i : ℕ) → UnmeteredAt p i → (kindAt b i ≡ withheldKind) ↔ Free p i
+  pub given : (i : ℕ) → UnmeteredAt p i → (classOn s i ≡ Given) ↔ Forced p i
+  pub withheld : (i : ℕ) → UnmeteredAt p i → (classOn s i ≡ Withheld) ↔ Free p i
   -- The number of a G stream is its amount in every balanced flow, in fractions too, with the sheet's metered amounts.
-  pub number : (i d : ℕ) (ys : List ℤ) → UnmeteredAt p i → kindAt b i ≡ givenKind → balanced p ys ≡ true → MetersAs p b d ys
-      → amountAt ys i ≡ pos d *ℤ numberAt b i
+  pub number : (i d : ℕ) (ys : List ℤ) → UnmeteredAt p i → classOn s i ≡ Given → balanced p ys ≡ true → MetersAs p s d ys
+      → amountAt ys i ≡ pos d *ℤ numberOn s i
   -- There is a cheapest flow; of every one, the metered numbers are its amounts, and the cost is its cost as it is written.
   pub some : (xs : List ℤ) × Cheapest p xs
-  pub metered : (xs : List ℤ) → Cheapest p xs → (i : ℕ) → MeteredAt p i → numberAt b i ≡ amountAt xs i
-  pub costs : (xs : List ℤ) → Cheapest p xs → costIn b m ≡ capped (cost (p .streams) xs)
+  pub metered : (xs : List ℤ) → Cheapest p xs → (i : ℕ) → MeteredAt p i → numberOn s i ≡ amountAt xs i
+  pub costs : (xs : List ℤ) → Cheapest p xs → s .total .cost ≡ capped (cost (p .streams) xs)
   -- No flow in fractions, within all ranges, undercuts its cost by more than a quarter of the summed weights of the A streams.
   pub near : (xs : List ℤ) → Cheapest p xs → (d : ℕ) (ys : List ℤ) → 1 ≤ d → allowedOver d p ys ≡ true
-      → 4 * (d * d) * cost (p .streams) xs ≤ 4 * costOver d (p .streams) ys + d * d * adjustedWeights p b m
+      → 4 * (d * d) * cost (p .streams) xs ≤ 4 * costOver d (p .streams) ys + d * d * adjustedWeights p s
   -- Degrees: the number of groups, by chains of unmetered streams, less that of pieces, by chains of any streams.
   pub groups : (gs : List ℕ) × OneEach unmeteredOnly p gs
   pub pieces : (cs : List ℕ) × OneEach everyStream p cs
-  pub degrees : (gs cs : List ℕ) → OneEach unmeteredOnly p gs → OneEach everyStream p cs → degreesIn b m + length cs ≡ length gs
-  pub few : degreesIn b m ≤ maxUnits
+  pub degrees : (gs cs : List ℕ) → OneEach unmeteredOnly p gs → OneEach everyStream p cs → s .total .degrees + length cs ≡ length gs
+  pub few : s .total .degrees ≤ maxUnits
   -- The verdict by these degrees, the cost itself and the summed weights of the A streams.
-  pub verdict : (xs : List ℤ) → Cheapest p xs → verdictIn b m ≡ verdictAt (degreesIn b m) (cost (p .streams) xs) (adjustedWeights p b m)
+  pub verdict : (xs : List ℤ) → Cheapest p xs → s .total .verdict ≡ verdictAt (s .total .degrees) (cost (p .streams) xs) (adjustedWeights p s)
   -- What it means. Pass, 0: the sheet's own flow costs at most the critical value. Fail, 1: every balanced flow in fractions,
   -- within all ranges, costs more.
-  pub passes : verdictIn b m ≡ 0 → (xs : List ℤ) → Cheapest p xs → cost (p .streams) xs ≤ criticalAt (degreesIn b m)
-  pub fails : verdictIn b m ≡ 1 → (d : ℕ) (ys : List ℤ) → 1 ≤ d → allowedOver d p ys ≡ true
-      → d * d * criticalAt (degreesIn b m) < costOver d (p .streams) ys
-  -- The total stands behind the records, with the office and the sheet's number.
-  pub total : kindAt b m ≡ totalKind
-  pub drawer : officeIn b m ≡ office
-  pub numbered : sheetNumberIn b m ≡ n
+  pub passes : s .total .verdict ≡ 0 → (xs : List ℤ) → Cheapest p xs → cost (p .streams) xs ≤ criticalAt (s .total .degrees)
+  pub fails : s .total .verdict ≡ 1 → (d : ℕ) (ys : List ℤ) → 1 ≤ d → allowedOver d p ys ≡ true
+      → d * d * criticalAt (s .total .degrees) < costOver d (p .streams) ys
+
+-- Its total: the kind, the office that drew it, and the sheet's number.
+pub record Under (kind office n : ℕ) (s : SheetParts) : Type 0 where
+  pub kinded : s .total .kind ≡ kind
+  pub drawer : s .total .office ≡ office
+  pub numbered : s .total .sheet ≡ n
 
 -- The refusals of the call itself: a slice under 880 bytes 1, an office above 7, which has no counter, 22, no sheet number left of
 -- the calling office's 2.
@@ -102,13 +121,17 @@ Refused f lasts o o′ r = RefusedWith unmarked f lasts o o′ r
 abbrev pub Overfilled : Plant → List ℕ → List ℕ → List ℕ → Sheet → Type 0
 Overfilled p lasts o o′ r = (ms : List Bool) × Overfull p ms × RefusedWith ms 19 lasts o o′ r
 
--- A full sheet of m streams: 0, its length, the calling office's counter one higher, which is its number, the other counters as they
--- were; the slice past it as it was.
-pub record Full (p : Plant) (m office : ℕ) (lasts o o′ : List ℕ) (r : Sheet) : Type 0 where
-  pub result : r ≡ record { number = 0; written = sheetLength o′ m; lasts = raised office lasts; marked = unmarked }
-  pub tells : Tells p m office (nextOf office lasts) o′
-  pub past : drop (sheetLength o′ m) o′ ≡ drop (sheetLength o′ m) o
-  pub fits : sheetLength o′ m ≤ length o
+-- A full sheet: 0, and so many bytes, in which the sheet reader finds a sheet, and nothing after it, that tells of the plant what it
+-- has to; the calling office's counter one higher, which is the sheet's number, the other counters as they were; the slice past it as
+-- it was.
+pub record Full (p : Plant) (office : ℕ) (lasts o o′ : List ℕ) (r : Sheet) : Type 0 where
+  pub result : r ≡ record { number = 0; written = r .written; lasts = raised office lasts; marked = unmarked }
+  pub sheet : SheetParts
+  pub read : readSheet (take (r .written) o′) ≡ someSheet sheet
+  pub tells : Tells p sheet
+  pub under : Under totalKind office (nextOf office lasts) sheet
+  pub past : drop (r .written) o′ ≡ drop (r .written) o
+  pub fits : r .written ≤ length o
   pub long : length o′ ≡ length o
 
 -- What a call answers: the slice o before it and o′ after it, the office and the counters handed in, and what it hands over.
@@ -117,6 +140,6 @@ pub record Answers (file : List ℕ) (office : ℕ) (lasts o o′ : List ℕ) (r
   pub unread : (f : ℕ) → callFault office lasts o ≡ 0 → readPlant file ≡ bad f → (f ≡ 0 → ⊥) × Refused f lasts o o′ r
   -- A plant that is read, with a balanced flow within all ranges and without.
   pub full : (p : Plant) (ys : List ℤ) → callFault office lasts o ≡ 0 → readPlant file ≡ got p → allowed p ys ≡ true
-      → Full p (length (p .streams)) office lasts o o′ r
+      → Full p office lasts o o′ r
   pub overfull : (p : Plant) → callFault office lasts o ≡ 0 → readPlant file ≡ got p → ((ys : List ℤ) → allowed p ys ≡ false)
       → Overfilled p lasts o o′ r

@@ -1,24 +1,22 @@
 -- A sheet: one record per stream in stream order, then the total, with no gap.
 use mathlib.Core.List.{List, [], _∷_, _++_}
 use lib.IntN.{ℤ}
-use Prim.Native.Nat.{ℕ, _+_}
+use Prim.Native.Nat.{ℕ}
 use lib.Dec.{eqb}
-use lib.ListN.{length, take}
 use Rattle.numbers.specs.Choice.{pick}
 use Rattle.numbers.specs.Bytes.{putBe, raw}
-use Rattle.plants.specs.Plants.{Plant}
 use Rattle.flows.specs.declared.Class.{Class}
 use Rattle.flows.specs.declared.Class.the-variants.{Adjusted, AsRead, Given, Withheld}
-use Rattle.flows.specs.Classes.{classNumber}
 use Rattle.sheets.specs.declared.Entry.{Entry}
-use Rattle.sheets.specs.declared.Balance.{Balance}
 use Rattle.sheets.specs.declared.Total.{Total}
-use Rattle.sheets.specs.Apart.{totalKind}
-use Rattle.sheets.specs.Balances.{balanceOf}
+use Rattle.sheets.specs.Apart.{adjustedKind, asReadKind, givenKind, withheldKind, totalKind}
 
 -- The kinds of a stream's record: 0x11 A, 0x12 R, 0x13 G, 0x14 W.
 abbrev pub kindOf : Class → ℕ
-kindOf c = 17 + classNumber c
+kindOf Adjusted = adjustedKind
+kindOf AsRead = asReadKind
+kindOf Given = givenKind
+kindOf Withheld = withheldKind
 
 -- A stream's record: the flow in 8 bytes, two's complement; the blank has no body.
 abbrev pub recordOf : Class → ℤ → List ℕ
@@ -52,22 +50,3 @@ pub record SheetParts : Type 0 where
 -- The bytes of a sheet: the records of its streams, then the total.
 abbrev pub partsBytes : SheetParts → List ℕ
 partsBytes s = recordsOf (s .streams) ++ totalBytes (s .total)
-
--- An office's sheet n of a balance, of its first so many streams: its parts, under a total of some kind.
-abbrev pub partsOf : ℕ → ℕ → ℕ → ℕ → Balance → SheetParts
-partsOf kind office count n b =
-    record {
-      streams = take count (b .streams);
-      total = record { kind = kind; office = office; sheet = n; cost = b .cost; degrees = b .degrees; verdict = b .verdict };
-    }
-
--- Its bytes, as it is drawn.
-abbrev pub sheetBytes : ℕ → ℕ → ℕ → Balance → List ℕ
-sheetBytes office count n b = partsBytes (partsOf totalKind office count n b)
-
--- An office's sheet n of a plant with a flow: its parts, and its bytes.
-abbrev pub plantParts : ℕ → Plant → List ℤ → ℕ → SheetParts
-plantParts office p xs n = partsOf totalKind office (length (p .streams)) n (balanceOf p xs)
-
-abbrev pub sheetOf : ℕ → Plant → List ℤ → ℕ → List ℕ
-sheetOf office p xs n = partsBytes (plantParts office p xs n)

@@ -4,7 +4,7 @@ use mathlib.Core.Bool.{Bool, true, false}
 use mathlib.Core.List.{List, [], _∷_, _++_}
 use lib.IntN.{ℤ, pos}
 use Prim.Native.Nat.{ℕ, _-_, _*_}
-use lib.ListN.{length, replicate}
+use lib.ListN.{replicate}
 use Rattle.numbers.specs.Bytes.{over}
 use Rattle.plants.specs.Limits.{places}
 use Rattle.plants.specs.Plants.{Plant}
@@ -13,8 +13,9 @@ use Rattle.flows.specs.Flows.{Cheapest}
 use Rattle.flows.specs.Overfull.{Overfull}
 use Rattle.fractions.specs.Least.{LeastInFractions, apart}
 use Rattle.sheets.specs.declared.Sheet.{Sheet}
-use Rattle.sheets.specs.Apart.{numberAt}
-use Rattle.sheets.specs.Sentences.{adjustedWeights, callFault}
+use Rattle.sheets.specs.Sentences.{numberOn, adjustedWeights, callFault}
+use Rattle.sheets.specs.Sheets.{SheetParts}
+use Rattle.sheets.specs.Kept.{someSheet, readSheet}
 use Rattle.sheets.specs.Counters.{officesFrom}
 use Rattle.sheets.specs.Says.{SheetSays}
 
@@ -102,14 +103,15 @@ examples =
     ∷ record { file = site 1 ++ within 0 1 10 100 0 90 ++ pipe 1 0 ++ end 2; flow = pos 90 ∷ pos 90 ∷ []; sheet = shown 18 90 ++ shown 19 90 ++ total 3 232 0 2 }
     ∷ []
 
--- A flow over d is of least cost in fractions, and every first call of office 0 with a slice that is taken leaves a sheet as far from it as a
--- sheet can be: the bound of the desk tool is met with equality. So it is for the tie, with 101 1/2 on both streams.
+-- A flow over d is of least cost in fractions, and the sheet, which every first call leaves, is as far from it as a sheet can be: the
+-- bound of the desk tool is met with equality. So it is for the tie, with 101 1/2 on both streams.
 pub record Farthest (e : Example) (d : ℕ) (ys : List ℤ) : Type 0 where
   pub plant : Plant
   pub listed : readPlant (e .file) ≡ got plant
   pub least : LeastInFractions plant d ys
-  pub met : (o o′ : List ℕ) (r : Sheet) → callFault 0 (officesFrom 0) o ≡ 0 → SheetSays (e .file) 0 (officesFrom 0) o o′ r
-      → 4 * apart d (plant .streams) (numberAt o′) ys ≡ d * d * adjustedWeights plant o′ (length (plant .streams))
+  pub sheet : SheetParts
+  pub read : readSheet (e .sheet) ≡ someSheet sheet
+  pub met : 4 * apart d (plant .streams) (numberOn sheet) ys ≡ d * d * adjustedWeights plant sheet
 
 -- In within 10 to 20, out within 0 to 5: the unit must take in more than it can let out.
 abbrev pub fullFile : List ℕ

@@ -7,7 +7,7 @@ ghost use lib.ListN.{getD, replicate};
 ghost use Rattle.plants.specs.Limits.{maxStreams};
 ghost use Rattle.plants.specs.Within.{Accepted};
 ghost use Rattle.plants.specs.Says.{plantOf};
-ghost use Rattle.flows.proofs.Lists.{Written};
+ghost use Rattle.flows.specs.Written.{Written};
 ghost use Rattle.purchases.specs.Purchases.{priceIn};
 
 // A price in the list, 0 past its end.

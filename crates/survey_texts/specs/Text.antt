@@ -3,19 +3,15 @@ use mathlib.Core.List.{List, [], _∷_, _++_}
 use Prim.Native.Nat.{ℕ, suc}
 use lib.Dec.{eqb}
 use Rattle.numbers.specs.Choice.{pick}
-use Rattle.numerals.specs.Numerals.{text, decimal, field}
+use Rattle.numerals.specs.Numerals.{pairLine}
 use Rattle.listings.specs.Listing.{refusalText}
 use Rattle.surveys.specs.declared.Layouts.{Layouts}
 use Rattle.surveys.specs.Says.{listed}
 
--- The line of a size: k, count.
-abbrev pub lineOf : ℕ → ℕ → List ℕ
-lineOf k c = field k ++ decimal c ++ text "\n"
-
 -- The lines of counts, the first of which is of this size.
 abbrev pub linesFrom : ℕ → List ℕ → List ℕ
 linesFrom k [] = []
-linesFrom k (c ∷ cs) = lineOf k c ++ linesFrom (suc k) cs
+linesFrom k (c ∷ cs) = pairLine k c ++ linesFrom (suc k) cs
 
 -- A line for each size; or the refusal's number, alone.
 abbrev pub surveyText : Layouts → List ℕ

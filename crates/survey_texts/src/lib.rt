@@ -12,7 +12,8 @@ ghost use Rattle.numbers.specs.Inner.{Put};
 ghost use Rattle.numerals.specs.Adding.{Added};
 ghost use Rattle.listings.specs.Room.{Counts};
 ghost use Rattle.surveys.specs.Says.{surveySize};
-ghost use Rattle.survey_texts.specs.Text.{lineOf, linesFrom};
+ghost use Rattle.numerals.specs.Numerals.{pairLine};
+ghost use Rattle.survey_texts.specs.Text.{linesFrom};
 ghost use Rattle.survey_texts.specs.Says.{leastText, TextSays};
 
 // The longest line.
@@ -23,8 +24,8 @@ pub const LEAST_TEXT: usize = SURVEY_SIZE * LINE_SIZE;
 
 // The line of a size: k, count.
 fn put_line(k: usize, count: u16, at: usize, out: &mut [u8]) -> usize
-    requires { ⌜ at + length (lineOf k count) ≤ length (now out) ⌝ }
-    ensures { λ r. ⌜ Added (lineOf k count) at (now (out .entry)) (now (out .exit)) r ⌝ }
+    requires { ⌜ at + length (pairLine k count) ≤ length (now out) ⌝ }
+    ensures { λ r. ⌜ Added (pairLine k count) at (now (out .entry)) (now (out .exit)) r ⌝ }
 {
     let a = put_field(k as u64, at, out);
     let b = put_decimal(count as u64, a, out);

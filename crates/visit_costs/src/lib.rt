@@ -12,7 +12,7 @@ ghost use Rattle.plants.specs.Limits.{maxStreams};
 ghost use Rattle.plants.specs.Within.{Accepted};
 ghost use Rattle.plants.specs.Says.{plantOf};
 ghost use Rattle.flows.specs.declared.Class.the-variants.{Adjusted};
-ghost use Rattle.flows.proofs.Lists.{Written};
+ghost use Rattle.flows.specs.Written.{Written};
 ghost use Rattle.visit_def.specs.Visits.{without, LeastCost, Feasible, isAdjusted};
 
 // The plant with stream k unmetered, and its range gone.

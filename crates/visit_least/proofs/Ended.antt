@@ -13,7 +13,7 @@ use Rattle.plants.specs.Plants.{Plant}
 use Rattle.plants.specs.Within.{Accepted}
 use Rattle.plants.specs.Says.{plantOf}
 use Rattle.plants.proofs.Arrayed.{all-listed, within-of}
-use Rattle.flows.specs.Flows.{allowed, cost}
+use Rattle.flows.specs.Flows.{allowed, cost, OfLeastCost}
 use Rattle.flows.proofs.Overfull.{overfull-none}
 use Rattle.flows.proofs.Prices.{Certificate, least}
 use Rattle.model.specs.declared.State.{State}
@@ -29,7 +29,7 @@ use Rattle.model.proofs.Theorem.{solvable-in, ended-full}
 use Rattle.sheets.specs.Apart.{capped}
 use Rattle.sheets.specs.Calls.{AllSmall}
 use Rattle.reckoning.proofs.Balanced.{flows-small, take-opened}
-use Rattle.visit_def.specs.Visits.{Least, LeastCost, Feasible}
+use Rattle.visit_def.specs.Visits.{LeastCost, Feasible}
 
 module _ (p : Arrays.Plant) (a : Accepted p) (st : State) (s : AtHint (plantOf p .streams) st) (e : Ended) (q : e ≡ finished (plantOf p .streams) st) where
   abbrev ss : List Stream
@@ -57,9 +57,9 @@ module _ (p : Arrays.Plant) (a : Accepted p) (st : State) (s : AtHint (plantOf p
     sure : Certificate (plantOf p) (opened (length ss) (e .state .flows)) (priceAt (e .state .prices))
     sure = certify (plantOf p) (within-of p a) (e .state .prices) 0 (e .state .flows) even (omega arith)
 
-    least-flow : Least (plantOf p) (opened (p .count) (e .state .flows))
+    least-flow : OfLeastCost (plantOf p) (opened (p .count) (e .state .flows))
     least-flow =
-        subst (λ (m : ℕ). Least (plantOf p) (opened m (e .state .flows))) (all-listed p a)
+        subst (λ (m : ℕ). OfLeastCost (plantOf p) (opened m (e .state .flows))) (all-listed p a)
         (record {
           balance = sure .balance;
           least = λ ys b. least (plantOf p) (within-of p a) (priceAt (e .state .prices)) (opened (length ss) (e .state .flows)) sure ys b;

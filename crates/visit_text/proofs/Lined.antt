@@ -6,29 +6,29 @@ use native.Mathlib.Omega.{arith}
 use native.Mathlib.Numerals.{add-one}
 use lib.ListN.{length, getD, take, length-append}
 use Rattle.numbers.specs.Inner.{Put}
-use Rattle.numerals.specs.Numerals.{text, decimal, field}
+use Rattle.numerals.specs.Numerals.{text, decimal, field, pairLine}
 use Rattle.numerals.specs.Adding.{Added}
 use Rattle.numerals.proofs.Behind.{nothing, behind, kept-length, put-front}
 use Rattle.numerals.proofs.Decimals.{decimal-most, field-size}
 use Rattle.plants.specs.Limits.{maxStreams}
-use Rattle.visit_text.specs.Text.{lineOf, linesFor}
+use Rattle.visit_text.specs.Text.{linesFor}
 use Rattle.visit_text.specs.Says.{lineSize, leastText}
 
-pub line-size : (n c : ℕ) → length (lineOf n c) ≡ length (field n) + length (decimal c) + 1
+pub line-size : (n c : ℕ) → length (pairLine n c) ≡ length (field n) + length (decimal c) + 1
 line-size n c = length-append (field n ++ decimal c) (text "\n") ∙ ap (λ (m : ℕ). m + 1) (length-append (field n) (decimal c))
 
-line-most : (n c : ℕ) → n < 10 ^ 3 → c < 10 ^ 20 → length (lineOf n c) ≤ lineSize
+line-most : (n c : ℕ) → n < 10 ^ 3 → c < 10 ^ 20 → length (pairLine n c) ≤ lineSize
 line-most n c h l = omega (arith, line-size n c, field-size n, decimal-most 2 n h, decimal-most 19 c l)
 
 -- One line more.
 lines-more : (ns cs : List ℕ) (i : ℕ) → i < length ns → i < length cs
-    → linesFor (take (suc i) ns) (take (suc i) cs) ≡ linesFor (take i ns) (take i cs) ++ lineOf (getD ns i 0) (getD cs i 0)
+    → linesFor (take (suc i) ns) (take (suc i) cs) ≡ linesFor (take i ns) (take i cs) ++ pairLine (getD ns i 0) (getD cs i 0)
 lines-more [] cs i h l = absurd (omega arith)
 lines-more (n ∷ ns) [] i h l = absurd (omega arith)
-lines-more (n ∷ ns) (c ∷ cs) zero h l = append-nil (lineOf n c)
+lines-more (n ∷ ns) (c ∷ cs) zero h l = append-nil (pairLine n c)
 lines-more (n ∷ ns) (c ∷ cs) (suc i) h l =
-    ap (λ (x : List ℕ). lineOf n c ++ x) (lines-more ns cs i (omega arith) (omega arith))
-    ∙ sym (append-assoc (lineOf n c) (linesFor (take i ns) (take i cs)) (lineOf (getD ns i 0) (getD cs i 0)))
+    ap (λ (x : List ℕ). pairLine n c ++ x) (lines-more ns cs i (omega arith) (omega arith))
+    ∙ sym (append-assoc (pairLine n c) (linesFor (take i ns) (take i cs)) (pairLine (getD ns i 0) (getD cs i 0)))
 
 -- Of the lines of m streams i are put into o, which is o₁ now; the next place is `at`.
 pub record Lined (ns cs : List ℕ) (m : ℕ) (o o₁ : List ℕ) (at i : ℕ) : Type 0 where
@@ -43,18 +43,18 @@ pub no-lines : (ns cs : List ℕ) (m : ℕ) (o : List ℕ) → m ≤ maxStreams 
 no-lines ns cs m o f l w = record { few = f; long = l; wide = w; within = omega arith; so-far = nothing 0 o (omega arith); bound = omega arith }
 
 module _ {ns cs : List ℕ} {m : ℕ} {o o₁ : List ℕ} {at i : ℕ} (w : Lined ns cs m o o₁ at i) (h : i < m) (s : getD ns i 0 < 2 ^ 8) (t : getD cs i 0 < 2 ^ 64) where
-  small : length (lineOf (getD ns i 0) (getD cs i 0)) ≤ lineSize
+  small : length (pairLine (getD ns i 0) (getD cs i 0)) ≤ lineSize
   small = line-most (getD ns i 0) (getD cs i 0) (omega arith) (omega arith)
 
-  pub line-room : at + length (lineOf (getD ns i 0) (getD cs i 0)) ≤ length o₁
+  pub line-room : at + length (pairLine (getD ns i 0) (getD cs i 0)) ≤ length o₁
   line-room = let a = w .few in let b = w .bound in let c = w .wide in omega (arith, small, kept-length (w .so-far))
 
-  pub one-line : {o₂ : List ℕ} {a : ℕ} → Added (lineOf (getD ns i 0) (getD cs i 0)) at o₁ o₂ a → Lined ns cs m o o₂ a (i + 1)
+  pub one-line : {o₂ : List ℕ} {a : ℕ} → Added (pairLine (getD ns i 0) (getD cs i 0)) at o₁ o₂ a → Lined ns cs m o o₂ a (i + 1)
   one-line {o₂} {a} p =
       let l = w .long in
       let c = w .few in
       let b = w .bound in
-      let e : linesFor (take (i + 1) ns) (take (i + 1) cs) ≡ linesFor (take i ns) (take i cs) ++ lineOf (getD ns i 0) (getD cs i 0) =
+      let e : linesFor (take (i + 1) ns) (take (i + 1) cs) ≡ linesFor (take i ns) (take i cs) ++ pairLine (getD ns i 0) (getD cs i 0) =
       ap (λ (j : ℕ). linesFor (take j ns) (take j cs)) (add-one i) ∙ lines-more ns cs i (omega (arith, l .0)) (omega (arith, l .1)) in
       record {
         few = c;

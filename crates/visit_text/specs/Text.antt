@@ -4,18 +4,14 @@ use Prim.Native.Nat.{ℕ}
 use lib.Dec.{eqb}
 use lib.ListN.{take}
 use Rattle.numbers.specs.Choice.{pick}
-use Rattle.numerals.specs.Numerals.{text, decimal, field}
+use Rattle.numerals.specs.Numerals.{pairLine}
 use Rattle.listings.specs.Listing.{refusalText}
 use Rattle.visit_def.specs.declared.Visits.{Visits}
-
--- The line of a stream: number, cost.
-abbrev pub lineOf : ℕ → ℕ → List ℕ
-lineOf n c = field n ++ decimal c ++ text "\n"
 
 abbrev pub linesFor : List ℕ → List ℕ → List ℕ
 linesFor [] cs = []
 linesFor (n ∷ ns) [] = []
-linesFor (n ∷ ns) (c ∷ cs) = lineOf n c ++ linesFor ns cs
+linesFor (n ∷ ns) (c ∷ cs) = pairLine n c ++ linesFor ns cs
 
 -- A line for each stream listed; or the refusal's number, alone.
 abbrev pub visitsText : Visits → List ℕ

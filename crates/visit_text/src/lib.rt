@@ -11,7 +11,8 @@ ghost use Rattle.numbers.specs.Inner.{Put};
 ghost use Rattle.numerals.specs.Adding.{Added};
 ghost use Rattle.plants.specs.Limits.{maxStreams};
 ghost use Rattle.listings.specs.Room.{Counts};
-ghost use Rattle.visit_text.specs.Text.{lineOf, linesFor};
+ghost use Rattle.numerals.specs.Numerals.{pairLine};
+ghost use Rattle.visit_text.specs.Text.{linesFor};
 ghost use Rattle.visit_text.specs.Says.{leastText, TextSays};
 
 // The longest line.
@@ -22,8 +23,8 @@ pub const LEAST_TEXT: usize = MAX_STREAMS * LINE_SIZE;
 
 // The line of a stream: number, cost.
 fn put_line(stream: u8, cost: u64, at: usize, out: &mut [u8]) -> usize
-    requires { ⌜ at + length (lineOf stream cost) ≤ length (now out) ⌝ }
-    ensures { λ r. ⌜ Added (lineOf stream cost) at (now (out .entry)) (now (out .exit)) r ⌝ }
+    requires { ⌜ at + length (pairLine stream cost) ≤ length (now out) ⌝ }
+    ensures { λ r. ⌜ Added (pairLine stream cost) at (now (out .entry)) (now (out .exit)) r ⌝ }
 {
     let a = put_field(stream as u64, at, out);
     let b = put_decimal(cost, a, out);

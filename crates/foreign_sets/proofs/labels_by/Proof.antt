@@ -8,7 +8,7 @@ use Rattle.plants.proofs.Arrayed.{all-listed, listed-at, stream-within}
 use Rattle.flows.specs.Labels.{labelsAfter}
 use Rattle.flows.proofs.Grouping.{ends-in, step-said}
 use Rattle.flows.proofs.Labels.{step-none, labels-long}
-use Rattle.foreign_def.specs.Passing.{withheldOnly}
+use Rattle.foreign_def.specs.Test.{withheldOnly}
 use Rattle.foreign_sets.proofs.Carrying as C
 use borrow.Author.Needs.{needs}
 use Rattle.foreign_sets.proofs.labels_by.Statement.{statement}

@@ -5,8 +5,9 @@ use native.Mathlib.Omega.{arith}
 use mathlib.Core.Path.{_≡_, ap, sym, _∙_}
 use Prim.Native.Nat.{ℕ, _-_}
 use Rattle.numbers.proofs.Parts.{partFrom}
+use Rattle.plants.specs.Files.{mostRecords}
 use Rattle.sheets.specs.declared.SheetRecord.the-variants.{Listed}
-use Rattle.sheets.specs.Kept.{noSheet, recordAt, mostRecords, readOf}
+use Rattle.sheets.specs.Kept.{noSheet, recordAt, readOf}
 use Rattle.sheet_reader.proofs.Loop.{Reading, begin, turn, room-left, ended-here, refused-here}
 use Rattle.sheet_reader.proofs.read_sheet.Statement.{statement}
 use Rattle.sheet_reader.proofs.read_sheet.Tie as tie

@@ -1,18 +1,21 @@
 -- `potentials::nets::product` meets its contract: every number read is that of a place.
+use mathlib.Core.Path.{_≡_, ap, _∙_}
 use Prim.Native.Nat.{_≤_, _-_}
 use borrow.Author.Needs.{needs}
 use Rattle.plants.specs.Limits.{places}
+use Rattle.potentials.specs.Nets.{productTo}
+use Rattle.potentials.proofs.Steps.{product-none, product-more, all-done}
 use Rattle.potentials.proofs.nets.product.Statement.{statement}
 use Rattle.potentials.proofs.nets.product.Tie as tie
 
 abbrev Inv-loop : tie.InvT-loop
-Inv-loop x y sum₀ u₀ sum u = u ≤ places
+Inv-loop x y sum₀ u₀ sum u = (u ≤ places) × (sum ≡ productTo x y u)
 
 abbrev μ-loop : tie.MeasureT-loop
 μ-loop x y sum₀ u₀ sum u = places - u
 
 loop-holds : tie.Need-loop-holds Inv-loop μ-loop
-loop-holds c = search needs
+loop-holds c = (search needs, product-none _ _)
 
 mul-sum : tie.Need-mul-sum Inv-loop μ-loop
 mul-sum c = search needs
@@ -33,10 +36,10 @@ loop-less : tie.Need-loop-less Inv-loop μ-loop
 loop-less c = search needs
 
 loop-again : tie.Need-loop-again Inv-loop μ-loop
-loop-again c = search needs
+loop-again c = let b = c .before .before .before in (search needs, product-more _ _ (b .loop .u) (b .loop .sum) (b .loop .inv .1))
 
 returns : tie.Need-returns Inv-loop μ-loop
-returns c = search needs
+returns c = let l = c .before .loop in l .inv .1 ∙ ap (productTo _ _) (all-done (l .u) (l .inv .0) (c .loop-test .left))
 
 pub product-spec : {M : Type 1} → statement M
 product-spec =

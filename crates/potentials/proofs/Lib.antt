@@ -1,0 +1,2 @@
+-- Laws of the nets.
+pub mod Steps

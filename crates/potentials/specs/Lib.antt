@@ -1,0 +1,2 @@
+-- Definitions that the contracts of potentials cite.
+pub mod Nets

@@ -1,0 +1,2 @@
+-- What the answers of a read say.
+pub mod Answers

@@ -1,0 +1,2 @@
+-- What a program is fed.
+pub mod Fed

@@ -1,0 +1,148 @@
+-- What the calls give at most, and what they never give.
+use mathlib.Core.Path.{_≡_, refl, sym, ap, _∙_}
+use mathlib.Core.Bool.{Bool, true, false, not, _||_}
+use mathlib.Core.List.{List, [], _∷_}
+use Prim.Native.Nat.{ℕ, _-_, _*_, _≤_, _<_}
+use native.Mathlib.Omega.{arith}
+use native.Mathlib.Decide.{ℕ-discrete, decLe}
+use lib.Dec.{eqb, ltb}
+use lib.ListN.{length, take}
+use Rattle.numbers.specs.Choice.{refuseIf, firstOf}
+use Rattle.numbers.specs.Bytes.{over}
+use Rattle.numbers.proofs.Tests.{clash, picked}
+use Rattle.plants.specs.declared.Stream.{Stream}
+use Rattle.plants.specs.declared.Done.{Done}
+use Rattle.plants.specs.Limits.{maxStreams, longestFile}
+use Rattle.plants.specs.Plants.{Plant}
+use Rattle.plants.specs.Files.{Got, bad, got, readPlant}
+use Rattle.plants.specs.Says.{fileNumber}
+use Rattle.plants.specs.Within.{Within}
+use Rattle.plants.proofs.Limited.{within}
+use Rattle.plants.proofs.Accepted.{accepted}
+use Rattle.plants.proofs.Refusals.{file-refusals, write-not-19}
+use Rattle.conversions.specs.Says.{faultOf, Converts}
+use Rattle.moves.specs.Moves.{narrower, narrowFault, home, toRanged, fromRanged}
+use Rattle.transmitters.proofs.Short.{written-short}
+use Rattle.purchases.specs.declared.Bought.{Bought}
+use Rattle.purchases.specs.declared.Handed.{Handed}
+use Rattle.purchases.specs.Purchases.{maxPrice, unmeteredTo, someUnfair, pricesFault}
+use Rattle.purchases.specs.Says.{BuyWith}
+use Rattle.purchases.specs.Lent.{LentSays, BuyHandsOver}
+use Rattle.purchases.proofs.Price.{price-most}
+use Rattle.purchases.proofs.Promise.{meters-to-buy}
+use Rattle.surveys.specs.declared.Layouts.{Layouts}
+use Rattle.surveys.specs.Says.{maxSurveyed, surveySize, listed, refusedWith, SurveySays}
+use Rattle.surveys.proofs.Promise.{one-survey}
+use Rattle.survey_slices.specs.Lent.{HandedOver, LendSays}
+use Rattle.promises.specs.Bounds.{Without-19, Bounds}
+
+read-within : (file : List ℕ) (p : Plant) → readPlant file ≡ got p → Within p
+read-within file p e = within p (accepted file p e .0)
+
+-- No file is refused with 19, nor with anything but its numbers.
+bad-not : (file : List ℕ) (f : ℕ) → readPlant file ≡ bad f → f ≡ 19 → ⊥
+bad-not file f e n = clash (fileNumber 19) (ap fileNumber (sym n) ∙ file-refusals file f e) refl
+
+-- A call that reads a file and writes a plant file: 1, or the reading's.
+converts-not : (g : Got) (o o′ : List ℕ) (r : Done) → (faultOf g ≡ 19 → ⊥) → Converts g o o′ r → r .number ≡ 19 → ⊥
+converts-not g o o′ r h c e = go (ltb (length o) longestFile) (sym (ap (λ (y : Done). y .number) (c .0)) ∙ e)
+  where
+    go : (b : Bool) → firstOf (refuseIf b 1) (faultOf g) ≡ 19 → ⊥
+    go true q = omega arith
+    go false q = h q
+
+to-not : (file : List ℕ) (g : Got) → readPlant file ≡ g → faultOf (toRanged g) ≡ 19 → ⊥
+to-not file (bad f) e = bad-not file f e
+to-not file (got p) e = λ q. omega arith
+
+narrow-not : (ss : List Stream) → narrowFault ss ≡ 19 → ⊥
+narrow-not [] e = omega arith
+narrow-not (s ∷ ss) e = go (narrower s) (narrow-not ss) e
+  where
+    go : (b : Bool) → (narrowFault ss ≡ 19 → ⊥) → firstOf (refuseIf b 20) (narrowFault ss) ≡ 19 → ⊥
+    go true h q = omega arith
+    go false h q = h q
+
+from-not : (file : List ℕ) (g : Got) → readPlant file ≡ g → faultOf (fromRanged g) ≡ 19 → ⊥
+from-not file (bad f) e = bad-not file f e
+from-not file (got p) e =
+    picked (λ (g : Got). faultOf g ≡ 19 → ⊥) (eqb (narrowFault (p .streams)) 0) (got (home p)) (bad (narrowFault (p .streams))) (λ t q. omega arith) (λ t. narrow-not (p .streams))
+
+prices-not : (p : Plant) (prices : List ℕ) → pricesFault p prices ≡ 19 → ⊥
+prices-not p prices = go (not (eqb (length prices) (unmeteredTo (p .streams) (length (p .streams)))) || someUnfair prices)
+  where
+    go : (b : Bool) → refuseIf b 21 ≡ 19 → ⊥
+    go true q = omega arith
+    go false q = omega arith
+
+number-of : {r y : Bought} → r ≡ y → r .number ≡ y .number
+number-of e = ap (λ (z : Bought). z .number) e
+
+buy-not : (file prices : List ℕ) (r : Bought) (g : Got) → readPlant file ≡ g → BuyWith g prices r → r .number ≡ 19 → ⊥
+buy-not file prices r (bad f) e b n = bad-not file f e (sym (number-of b) ∙ n)
+buy-not file prices r (got p) e b n = elim (ℕ-discrete (pricesFault p prices) 0) [
+  | yes z ↦ let q : _≡_ {A = ℕ} 0 19 = sym (number-of (b .bought z .2)) ∙ n in omega arith
+  | no z ↦ prices-not p prices (sym (number-of (b .unpriced z)) ∙ n)
+]
+
+survey-not : (file : List ℕ) (r : Layouts) → SurveySays file r → (g : Got) → readPlant file ≡ g → r .number ≡ 19 → ⊥
+survey-not file r s (bad f) e n = bad-not file f e (sym (ap (λ (y : Layouts). y .number) (s .unread f e)) ∙ n)
+survey-not file r s (got p) e n = elim (decLe (length (p .streams)) maxSurveyed) [
+  | yes h ↦ let q : _≡_ {A = ℕ} 0 19 = sym (s .surveyed p e h .number) ∙ n in omega arith
+  | no h ↦ let q : _≡_ {A = ℕ} 23 19 = sym (ap (λ (y : Layouts). y .number) (s .too-many p e (omega arith))) ∙ n in omega arith
+]
+
+pub without-19 : Without-19
+without-19 = record {
+  writer = write-not-19;
+  forth = λ file o o′ r. converts-not (toRanged (readPlant file)) o o′ r (to-not file (readPlant file) refl);
+  home = λ file o o′ r. converts-not (fromRanged (readPlant file)) o o′ r (from-not file (readPlant file) refl);
+  purchase = λ file prices r b. buy-not file prices r (readPlant file) refl b;
+  survey = λ file r s. survey-not file r s (readPlant file) refl;
+}
+
+-- What a purchase costs.
+buy-price : (file prices : List ℕ) (r : Bought) (g : Got) → readPlant file ≡ g → BuyWith g prices r → r .price ≤ (maxStreams - 1) * maxPrice
+buy-price file prices r (bad f) e b = rw b (omega arith)
+buy-price file prices r (got p) e b = elim (ℕ-discrete (pricesFault p prices) 0) [
+  | yes z ↦ let x = b .bought z in rw (x .2) (price-most p (read-within file p e) prices z (x .0) (x .1))
+  | no z ↦ rw (b .unpriced z) (omega arith)
+]
+
+-- One purchase, and one survey.
+one-made : (file prices : List ℕ) (room : ℕ) (r s : Bought) → LentSays file prices room r → LentSays file prices room s → r ≡ s
+one-made file prices room r s a b = elim (decLe maxStreams room) [
+  | yes h ↦ meters-to-buy .only file prices r s (a .enough h) (b .enough h)
+  | no h ↦ a .short (omega arith) ∙ sym (b .short (omega arith))
+]
+
+one-handed : (file prices o o₁ o₂ : List ℕ) (r₁ r₂ : Handed) → BuyHandsOver file prices o o₁ r₁ → BuyHandsOver file prices o o₂ r₂ → (r₁ ≡ r₂) × (o₁ ≡ o₂)
+one-handed file prices o o₁ o₂ r₁ r₂ a b =
+    let e = one-made file prices (length o) (a .made) (b .made) (a .said) (b .said) in (
+      a .handed ∙ ap (λ (m : Bought). record { number = m .number; count = m .count; price = m .price }) e ∙ sym (b .handed),
+      a .numbers ∙ ap (λ (m : Bought). over (take (m .count) (m .streams)) o) e ∙ sym (b .numbers),
+    )
+
+one-over : (l k : Layouts) (o o₁ o₂ : List ℕ) (n₁ n₂ c₁ c₂ : ℕ) → l ≡ k → HandedOver l o o₁ n₁ c₁ → HandedOver k o o₂ n₂ c₂ → (n₁ ≡ n₂) × (c₁ ≡ c₂) × (o₁ ≡ o₂)
+one-over l k o o₁ o₂ n₁ n₂ c₁ c₂ e a b = (
+  a .numbered ∙ ap (λ (y : Layouts). y .number) e ∙ sym (b .numbered),
+  a .counted ∙ ap (λ (y : Layouts). y .count) e ∙ sym (b .counted),
+  a .counts ∙ ap (λ (y : Layouts). over (listed y) o) e ∙ sym (b .counts),
+)
+
+one-lent : (file o o₁ o₂ : List ℕ) (n₁ n₂ c₁ c₂ : ℕ) → LendSays file o o₁ n₁ c₁ → LendSays file o o₂ n₂ c₂ → (n₁ ≡ n₂) × (c₁ ≡ c₂) × (o₁ ≡ o₂)
+one-lent file o o₁ o₂ n₁ n₂ c₁ c₂ a b = elim (decLe surveySize (length o)) [
+  | yes h ↦
+      let x = a .told h in
+      let y = b .told h in
+      one-over (x .0) (y .0) o o₁ o₂ n₁ n₂ c₁ c₂ (one-survey file (x .0) (y .0) (x .1) (y .1)) (x .2) (y .2)
+  | no h ↦ one-over (refusedWith 1) (refusedWith 1) o o₁ o₂ n₁ n₂ c₁ c₂ refl (a .too-short (omega arith)) (b .too-short (omega arith))
+]
+
+pub bounds : Bounds
+bounds = record {
+  translated = written-short;
+  price = λ file prices r b. buy-price file prices r (readPlant file) refl b;
+  one-purchase = one-handed;
+  one-survey = one-lent;
+}

@@ -1,0 +1,3 @@
+-- The promises, proved.
+pub mod Bounds
+pub mod Promises

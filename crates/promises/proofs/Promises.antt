@@ -1,0 +1,50 @@
+-- Every promise is kept.
+use Rattle.plants.proofs.Refusals.{file-refusals}
+use Rattle.plants.proofs.Longest.{longest-file}
+use Rattle.sheets.proofs.Demands.{demands}
+use Rattle.office_history.proofs.History.{history}
+use Rattle.texts.proofs.Promise.{one-text}
+use Rattle.texts.proofs.Printed.{printed}
+use Rattle.signals.proofs.Rules.{rounding}
+use Rattle.signals.proofs.Numbers.{numbered}
+use Rattle.transmitters.proofs.Promise.{translated}
+use Rattle.moves.proofs.Trip.{moving}
+use Rattle.moved_sheets.proofs.Same.{moved-sheets}
+use Rattle.purchases.proofs.Promise.{meters-to-buy}
+use Rattle.surveys.proofs.Promise.{one-survey}
+use Rattle.survey_texts.proofs.Promise as Survey-texts
+use Rattle.visit_def.proofs.Promise.{meters-worth-a-visit}
+use Rattle.visit_text.proofs.Promise as Visit-texts
+use Rattle.visit_parts.proofs.Lending as Visit-parts
+use Rattle.charge_def.proofs.Promise.{steam-charges}
+use Rattle.charge_parts.proofs.Lending as Charge-parts
+use Rattle.foreign_def.proofs.Promise.{foreign-sheets, own-numbers}
+use Rattle.promises.specs.Promises.{Promises}
+use Rattle.promises.proofs.Bounds.{without-19, bounds}
+
+pub promises : Promises
+promises = record {
+  longest-file = longest-file;
+  file-refusals = file-refusals;
+  demands = demands;
+  history = history;
+  one-text = one-text;
+  printed = printed;
+  rounding = rounding;
+  numbered = numbered;
+  translated = translated;
+  moving = moving;
+  moved-sheets = moved-sheets;
+  meters-to-buy = meters-to-buy;
+  one-survey = one-survey;
+  layouts = Survey-texts.texts;
+  meters-worth-a-visit = meters-worth-a-visit;
+  visits = Visit-texts.texts;
+  one-list = Visit-parts.one-hand-over;
+  steam-charges = steam-charges;
+  one-bill = Charge-parts.one-hand-over;
+  foreign-sheets = foreign-sheets;
+  own-numbers = own-numbers;
+  without-19 = without-19;
+  bounds = bounds;
+}

@@ -1,0 +1,42 @@
+-- What the calls give at most: numbers, lengths, prices; and that the exported purchase and survey leave no choice.
+use mathlib.Core.Path.{_≡_}
+use mathlib.Core.List.{List}
+use Prim.Native.Nat.{ℕ, suc, _+_, _*_, _-_, _≤_}
+use Rattle.plants.specs.declared.Done.{Done}
+use Rattle.plants.specs.declared.Plant as Arrays
+use Rattle.plants.specs.Limits.{maxStreams, siteBody, meteredBody, endBody}
+use Rattle.plants.specs.Says.{WriteSays}
+use Rattle.moves.specs.Moves.{ToSays, FromSays}
+use Rattle.transmitters.specs.Says.{TranslateSays}
+use Rattle.purchases.specs.declared.Bought.{Bought}
+use Rattle.purchases.specs.declared.Handed.{Handed}
+use Rattle.purchases.specs.Purchases.{maxPrice}
+use Rattle.purchases.specs.Says.{BuySays}
+use Rattle.purchases.specs.Lent.{BuyHandsOver}
+use Rattle.surveys.specs.declared.Layouts.{Layouts}
+use Rattle.surveys.specs.Says.{SurveySays}
+use Rattle.survey_slices.specs.Lent.{LendSays}
+
+-- No writer, move, purchase or survey gives 19: that number is of a plant that has no flow in range, and these look for none. (Nor does
+-- a reader: `File-refusals` and `Reopening.refused` have the numbers that readers give.)
+pub record Without-19 : Type 0 where
+  pub writer : (p : Arrays.Plant) (o o′ : List ℕ) (r : Done) → WriteSays p o o′ r → r .number ≡ 19 → ⊥
+  pub forth : (file o o′ : List ℕ) (r : Done) → ToSays file o o′ r → r .number ≡ 19 → ⊥
+  pub home : (file o o′ : List ℕ) (r : Done) → FromSays file o o′ r → r .number ≡ 19 → ⊥
+  pub purchase : (file prices : List ℕ) (r : Bought) → BuySays file prices r → r .number ≡ 19 → ⊥
+  pub survey : (file : List ℕ) (r : Layouts) → SurveySays file r → r .number ≡ 19 → ⊥
+
+-- The longest file without ranges: a site, as many metered streams as there may be, an end. 868 bytes.
+abbrev pub longestPlain : ℕ
+longestPlain = suc siteBody + maxStreams * suc meteredBody + suc endBody
+
+pub record Bounds : Type 0 where
+  -- The translator writes no ranges: 868 bytes at most.
+  pub translated : (file o o′ : List ℕ) (r : Done) → TranslateSays file o o′ r → r .written ≤ longestPlain
+  -- A purchase leaves a stream unmetered: 95,000,000 at most.
+  pub price : (file prices : List ℕ) (r : Bought) → BuySays file prices r → r .price ≤ (maxStreams - 1) * maxPrice
+  -- The exported purchase and the exported survey leave no choice.
+  pub one-purchase : (file prices o o₁ o₂ : List ℕ) (r₁ r₂ : Handed) → BuyHandsOver file prices o o₁ r₁ → BuyHandsOver file prices o o₂ r₂
+      → (r₁ ≡ r₂) × (o₁ ≡ o₂)
+  pub one-survey : (file o o₁ o₂ : List ℕ) (n₁ n₂ c₁ c₂ : ℕ) → LendSays file o o₁ n₁ c₁ → LendSays file o o₂ n₂ c₂
+      → (n₁ ≡ n₂) × (c₁ ≡ c₂) × (o₁ ≡ o₂)

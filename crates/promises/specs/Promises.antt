@@ -1,0 +1,55 @@
+-- Every public theorem, in one record. docs/PROMISES.md follows it field by field.
+use Rattle.plants.specs.Says.{Longest-file, File-refusals}
+use Rattle.sheets.specs.Demands.{Demands}
+use Rattle.office_history.specs.History.{History}
+use Rattle.texts.specs.Says.{One-text}
+use Rattle.texts.specs.Printed.{Printed}
+use Rattle.signals.specs.Answers.{Numbered}
+use Rattle.signals.specs.Rounding.{Rounding}
+use Rattle.transmitters.specs.Says.{Translated}
+use Rattle.moves.specs.Trip.{Moving}
+use Rattle.moved_sheets.specs.Same.{Moved-sheets}
+use Rattle.purchases.specs.Says.{Meters-to-buy}
+use Rattle.surveys.specs.Says.{One-survey}
+use Rattle.survey_texts.specs.Says as Survey-texts
+use Rattle.visit_def.specs.Says.{Meters-worth-a-visit}
+use Rattle.visit_text.specs.Says as Visit-texts
+use Rattle.visit_parts.specs.Lent as Visit-parts
+use Rattle.charge_def.specs.Says.{Steam-charges}
+use Rattle.charge_parts.specs.Lent as Charge-parts
+use Rattle.foreign_def.specs.Says.{Foreign-sheets}
+use Rattle.foreign_def.specs.Numbers.{Own-numbers}
+use Rattle.promises.specs.Bounds.{Without-19, Bounds}
+
+pub record Promises : Type 0 where
+  -- Plant files: how long one is at most, and with which numbers it is refused.
+  pub longest-file : Longest-file
+  pub file-refusals : File-refusals
+  -- Sheets: the demands; the sheet numbers of the offices, over any calls; what `balance` prints.
+  pub demands : Demands
+  pub history : History
+  pub one-text : One-text
+  pub printed : Printed
+  -- Transmitter files: rounding, the numbers of the two answers, and what comes out.
+  pub rounding : Rounding
+  pub numbered : Numbered
+  pub translated : Translated
+  -- Moves: there and home, and the same sheet in the ranged form.
+  pub moving : Moving
+  pub moved-sheets : Moved-sheets
+  -- Meters to buy; layouts of meters, and their text; meters worth a visit, and their text.
+  pub meters-to-buy : Meters-to-buy
+  pub one-survey : One-survey
+  pub layouts : Survey-texts.Texts
+  pub meters-worth-a-visit : Meters-worth-a-visit
+  pub visits : Visit-texts.Texts
+  pub one-list : Visit-parts.One-hand-over
+  -- Steam charges.
+  pub steam-charges : Steam-charges
+  pub one-bill : Charge-parts.One-hand-over
+  -- Sheets drawn up elsewhere, and numbers of the places of our own.
+  pub foreign-sheets : Foreign-sheets
+  pub own-numbers : Own-numbers
+  -- Numbers that are never given, and bounds.
+  pub without-19 : Without-19
+  pub bounds : Bounds

@@ -1,0 +1,1 @@
+// The end of the reading: every public theorem in one record.
