@@ -196,8 +196,10 @@ class TestCheck:
 
     def test_no_number(self, run, files):
         paths = files()
-        paths[2].write_text("1 2 x")
-        assert run("check", *paths).status == 1
+        for text in ("1 2 x", "1 2 1.5", "1 " + 50 * "9", "½"):
+            paths[2].write_text(text)
+            ended = run("check", *paths)
+            assert ended.status == 1 and ended.err.endswith("stands there; whole numbers would do, one for each place, the outside first\n")
 
 
 def test_the_workbook_is_the_list(run, tmp_path):

@@ -4,6 +4,7 @@ from __future__ import annotations
 
 import csv
 import io
+import re
 from dataclasses import replace
 from fractions import Fraction
 from pathlib import Path
@@ -11,7 +12,7 @@ from typing import List, Optional, Tuple
 
 import wengeludo_balance as engine
 
-from .faults import Stopped
+from .faults import Stopped, quoted
 from .lists import OUTSIDE, Pipe, PipeList
 from .numbers import accuracy, Marks
 from .outputs import put
@@ -116,7 +117,7 @@ def written(pipes: PipeList, path: Path) -> bytes:
 def numbers_in(path: Path) -> List[int]:
     """Place numbers in a text, one after the other, the outside's first; Stopped where one is none."""
     words = path.read_text(encoding="utf-8-sig", errors="replace").replace(",", " ").replace(";", " ").split()
-    try:
-        return [int(word) for word in words]
-    except ValueError as error:
-        raise Stopped(f"{path}: whole numbers would do, one for each place, the outside first: {error}") from None
+    wrong = next((word for word in words if not re.fullmatch(r"[+-]?[0-9]{1,40}", word)), None)
+    if wrong is not None:
+        raise Stopped(f"{path}: {quoted(wrong)} stands there; whole numbers would do, one for each place, the outside first")
+    return [int(word) for word in words]
