@@ -148,7 +148,7 @@ class Book:
 
     def number_of(self, site: Site, source: str, office: int) -> Optional[int]:
         """The number of the office's sheet that was kept from this file with the same plant and names; None where there is none."""
-        question = "SELECT max(number) FROM sheets WHERE source = ? AND office = ? AND plant = ? AND names = ?"
+        question = "SELECT max(number) FROM sheets INDEXED BY sheets_by_source WHERE source = ? AND office = ? AND plant = ? AND names = ?"
         found: Optional[int] = self.base.execute(question, (source, office, site.file, _names(site))).fetchone()[0]
         return found
 
