@@ -49,6 +49,16 @@ def test_outputs(run, tmp_path):
     assert (told["office"], told["sheet"], told["verdict"], told["cost_thousandths"]) == (5, 42, "pass", 2021)
 
 
+def test_a_list_is_not_written_over(run, listed):
+    """Nor is a plant file."""
+    workbook, plant = (SAMPLES / "steam_site.xlsx").read_bytes(), (ENGINE_SAMPLES / "listing.bin").read_bytes()
+    path, file = listed(workbook, "mine.xlsx"), listed(plant, "plant.bin")
+    for words in (("sheet", path, "-o", path.parent / "." / "mine.xlsx"), ("pack", path, path), ("unpack", file, file)):
+        ended = run(*words)
+        assert ended.status == 1 and "that is what is read, and would be lost: another name would do" in ended.err
+    assert (path.read_bytes(), file.read_bytes()) == (workbook, plant)
+
+
 def test_no_sheet_number_left(run):
     ended = run("sheet", SAMPLES / "listing.csv", "--last", 2**32 - 1)
     assert ended.status == 1 and "last sheet number is 4,294,967,295 (2)" in ended.err

@@ -26,7 +26,7 @@ def pack(list: Path, plant: Path, transmitter: bool, units: Optional[int], unit:
     site = site_in(list, unit)
     site = packing.with_units(site, units) if units else site
     data = packing.transmitter(site) if transmitter else site.file
-    outputs.write(plant, data)
+    outputs.write(outputs.other(plant, list), data)
     places = ", ".join(f"{k} {name}" for k, name in enumerate(site.list.places))
     terminal.lines([f"{plant}: {len(data)} bytes, flows in units of {float(site.unit):g} kg/h; places: {places}"])
     return 0
@@ -41,7 +41,7 @@ def unpack(plant: Path, list: Path, unit: Fraction) -> int:
     pipes = packing.unpacked(plant, unit)
     if not pipes.pipes:
         raise Stopped(f"{plant}: the plant has no stream, so there is nothing to list")
-    outputs.write(list, packing.written(pipes, list))
+    outputs.write(outputs.other(list, plant), packing.written(pipes, list))
     units, idle = len(pipes.places) - 1, packing.idle(pipes)
     terminal.lines([f"{list}: {len(pipes.pipes)} streams, {units - len(idle)} units, its flows taken as units of {float(unit):g} kg/h"])
     if idle:

@@ -24,7 +24,7 @@ from .options import FAILED, LIST, OFFICE, OUTPUT, REFUSED, UNIT, drawn_of, shee
 @click.option("--last", type=click.IntRange(0, 2**32 - 1), default=0, help="The office's last sheet number; `keep` counts by itself.")
 def sheet(list: Path, outputs_: Sequence[Path], unit: Optional[Fraction], office: int, last: int) -> int:
     """The sheet of LIST: flows, corrections, verdict, and what to do next."""
-    paths = [outputs.checked(path) for path in outputs_]
+    paths = [outputs.checked(path, list) for path in outputs_]
     drawn = drawn_of(list, unit, office, last)
     terminal.show(drawn)
     outputs.write_all(drawn, paths)
