@@ -60,7 +60,7 @@ RULES = [
     Rule(r'bash host/fuzz/run\.sh \S+', 'run', 'bash host/fuzz/run.sh 1'),
     Rule(r'python3 reference/desk_tool\.py --hold', 'long', r'\g<0>'),
     Rule(r'python3 reference/(brute|certify)\.py', 'long', r'\g<0>'),
-    Rule(r'python3 reference/make_cases\.py --write', 'run', r'cd "$COPY" && \g<0> && diff -rq crates "$TREE/crates" && diff -rq samples "$TREE/samples"'),
+    Rule(r'python3 reference/make_cases\.py --write', 'long', r'cd "$COPY" && \g<0> && diff -rq crates "$TREE/crates" && diff -rq samples "$TREE/samples"'),
     Rule(r'time COMMAND', 'not', 'a form, with any command'),
 ]
 
@@ -210,8 +210,8 @@ def run(words, folder, env):
     return done.returncode, done.stdout.rstrip('\n').split('\n') if done.stdout else [], done.stdout + done.stderr
 
 
-def compile_code(code, work, env):
-    """Compiles a piece of code as a text has it; what is wrong with it, or nothing."""
+def compiled(code, work, env):
+    """Compiles a piece of code as a text has it: what is wrong with it, or nothing."""
     if code.language == 'python':
         path, python = os.path.join(work, 'code.py'), os.path.join(env['COPY'], 'target', 'python', 'bin', 'python3')
         with open(path, 'w', encoding='utf-8') as file:
@@ -237,7 +237,7 @@ def compile_code(code, work, env):
             file.write('\n'.join(ahead + heads + [f'int customer({given});', f'int customer({given})', '{'] + inside + ['return 0;', '}', '']))
         words = f'{"g++ -std=c++17" if plus else "cc -std=c11"} -Wall -Wextra -Werror -fsyntax-only -I host/include {path}'
     status, _, said = run(words, '.', env)
-    return '' if status == 0 else said
+    return '' if status == 0 else f'{code.where}: the code in {code.language} is not taken:\n{said[-2000:]}'
 
 
 def gathered():
@@ -287,10 +287,8 @@ def run_all(commands, codes, everything):
             if do == 'run' and not again or do == 'long' and everything and not again:
                 ran.add((words, command.folder))
                 failed.append(tried(command, words, env))
-        for code in codes:
-            counts['code'] += 1
-            wrong = compile_code(code, work, env)
-            failed.append(f'{code.where}: the code in {code.language} is not taken:\n{wrong[-2000:]}' if wrong else '')
+        counts['code'] = len(codes)
+        failed += [compiled(code, work, env) for code in codes]
     finally:
         shutil.rmtree(work)
     return [text for text in failed if text], counts
