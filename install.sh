@@ -23,7 +23,7 @@ major=$(number MAJOR)
 version=$major.$(number MINOR).$(number PATCH)
 need() { command -v "$1" >/dev/null || { echo "install: no $1: $2" >&2; exit 2; }; }
 need python3 "the manual pages are made from the header by a script (Debian: apt-get install python3)"
-calls=$(python3 "$here/host/install/man.py" --names)
+calls="$(python3 "$here/host/install/man.py" --names) wengeludo_refusal_text"
 
 # What is put below PREFIX, all of it: files, and links with what they lead to.
 files() {

@@ -5,6 +5,7 @@
 #
 # PREFIX (default: ~/.local)  the launcher goes to PREFIX/bin/wengeludo, what it runs to PREFIX/share/wengeludo
 # WENGELUDO_ARCHIVE           an archive built elsewhere (with WENGELUDO_INCLUDE, its header's folder), in place of `rt staticlib linked`
+# WENGELUDO_APT=no            names Debian's packages that are missing, and installs none
 #
 # A second run takes seconds: what is there is left alone, and binding and tool are put in place anew.
 set -eu
@@ -22,7 +23,7 @@ for package in $packages; do
     dpkg-query -W -f '${Status}' "$package" 2>/dev/null | grep -q 'ok installed' || missing="$missing $package"
 done
 if [ -n "$missing" ]; then
-    command -v apt-get >/dev/null || fail "needs Debian's packages:$missing"
+    { [ "${WENGELUDO_APT:-}" != no ] && command -v apt-get >/dev/null; } || fail "needs Debian's packages:$missing"
     say "Debian's packages:$missing"
     run=; [ "$(id -u)" = 0 ] || run=sudo
     log=$(mktemp)

@@ -5,3 +5,4 @@ cd "$(dirname "$0")"
 for name in steam_site steam_site_off blind_site overfull_site; do
     wengeludo sheet "samples/$name.csv" -o "../docs/desk/$name.svg" >/dev/null || [ $? -lt 4 ]
 done
+wengeludo sheet samples/steam_site.xlsx -o ../docs/desk/own_drawing.svg >/dev/null

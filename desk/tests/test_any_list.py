@@ -6,6 +6,7 @@ WENGELUDO_EXAMPLES (default 100)  how many lists of each kind
 import csv
 import io
 import os
+import re
 
 import pytest
 from hypothesis import HealthCheck, given, settings
@@ -57,6 +58,8 @@ def ends_well(path):
         site = site_of(pipes)
     except Faulty as faulty:
         assert faulty.faults and all(fault.wanted for fault in faulty.faults)
+        for fault in faulty.faults:  # of a cell its row and column are told, of a row its number; else it is the list or the file that is meant
+            assert (fault.row and fault.column) or (fault.found is None and (fault.row or re.search("the (list|file)", fault.wanted)))
         return
     except Stopped as stopped:
         assert str(stopped)

@@ -92,6 +92,26 @@ def test_cut_off_in_the_middle(year, tmp_path):
     told = [int(line["sheet"]) for line in lines_of(summary) if line["sheet"]]
     before = sound(book)[0]
     assert set(told) <= set(before)
-    assert subprocess.run(command, capture_output=True).returncode == 0
+    again = subprocess.run(command, capture_output=True, text=True)
+    assert again.returncode == 0 and f"{HOURS:,} files, {len(before):,} of them in the book before: " in again.stdout
     kept = list(Book(book).sheets())
     assert [k.number for k in kept] == list(range(1, HOURS + 1)) and len({k.source for k in kept}) == HOURS
+    assert {line["file"]: int(line["sheet"]) for line in lines_of(summary)} == {os.path.basename(k.source): k.number for k in kept}
+
+
+def test_a_list_is_kept_once_and_anew_when_it_changes(run, tmp_path):
+    folder, book = tmp_path / "hours", tmp_path / "sheets.book"
+    folder.mkdir()
+    for name in ("a", "b"):
+        (folder / f"{name}.csv").write_bytes((SAMPLES / "listing.csv").read_bytes())
+    words = ("batch", folder, "-o", folder / "summary.csv", "--book", book, "--office", "2")
+
+    def kept():
+        assert run(*words).status == 0
+        return [(line["file"], line["sheet"]) for line in lines_of(folder / "summary.csv")]
+
+    assert kept() == kept() == [("a.csv", "1"), ("b.csv", "2")], "nor is the summary taken for a list"
+    text = (folder / "a.csv").read_text()
+    (folder / "a.csv").write_text(text.replace("100", "101"))
+    assert kept() == [("a.csv", "3"), ("b.csv", "2")]
+    assert run(*words[:-1], "5").status == 0 and sound(book) == {2: [1, 2, 3], 5: [1, 2]}, "another office draws its own"

@@ -57,6 +57,12 @@ def test_the_same_sheet_comes_back(tmp_path):
         assert [(line.flow, line.spread) for line in back.lines] == [(line.flow, line.spread) for line in drawn.lines]
 
 
+def test_a_drawing_of_its_own_is_kept(run, tmp_path):
+    run("keep", SAMPLES / "steam_site.xlsx", tmp_path / "sheets.book")
+    drawn, kept = read_site(SAMPLES / "steam_site.xlsx"), Book(tmp_path / "sheets.book").sheet(0, 1).balance()
+    assert drawn.list.spots and kept.site.list.spots == drawn.list.spots
+
+
 def test_refused_sheets_draw_no_number(run, tmp_path):
     path = tmp_path / "sheets.book"
     assert run("keep", SAMPLES / "overfull_site.csv", path).status == 1

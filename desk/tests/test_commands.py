@@ -49,6 +49,16 @@ def test_outputs(run, tmp_path):
     assert (told["office"], told["sheet"], told["verdict"], told["cost_thousandths"]) == (5, 42, "pass", 2021)
 
 
+def test_a_list_is_not_written_over(run, listed):
+    """Nor is a plant file."""
+    workbook, plant = (SAMPLES / "steam_site.xlsx").read_bytes(), (ENGINE_SAMPLES / "listing.bin").read_bytes()
+    path, file = listed(workbook, "mine.xlsx"), listed(plant, "plant.bin")
+    for words in (("sheet", path, "-o", path.parent / "." / "mine.xlsx"), ("pack", path, path), ("unpack", file, file)):
+        ended = run(*words)
+        assert ended.status == 1 and "that is what is read, and would be lost: another name would do" in ended.err
+    assert (path.read_bytes(), file.read_bytes()) == (workbook, plant)
+
+
 def test_no_sheet_number_left(run):
     ended = run("sheet", SAMPLES / "listing.csv", "--last", 2**32 - 1)
     assert ended.status == 1 and "last sheet number is 4,294,967,295 (2)" in ended.err
@@ -72,6 +82,45 @@ def test_packed_and_unpacked(name, run, tmp_path):
         assert run("unpack", plant, tmp_path / f"list{suffix}").status == 0
         assert run("pack", tmp_path / f"list{suffix}", tmp_path / "plant.bin").status == 0
         assert (tmp_path / "plant.bin").read_bytes() == plant.read_bytes()
+
+
+def test_units_without_a_stream(run, listed, tmp_path):
+    """Units 3 to 5 have no stream; 3 stands below 4 and is kept, the last are told and can be asked for."""
+    plant = engine.write_plant(6, (engine.Stream(0, 1, 10, 100), engine.Stream(1, 4), engine.Stream(4, 0, 10, 98)))
+    ended = run("unpack", listed(plant, "plant.bin"), tmp_path / "list.csv")
+    assert ended.status == 0 and "4 units" in ended.out and "Left out, as no stream runs from or to them: unit 5, unit 6" in ended.out
+    assert run("pack", tmp_path / "list.csv", tmp_path / "back.bin", "--units", "6").status == 0
+    assert (tmp_path / "back.bin").read_bytes() == plant
+    assert run("pack", tmp_path / "list.csv", tmp_path / "back.bin").status == 0
+    assert engine.read_plant((tmp_path / "back.bin").read_bytes()).units == 4
+    ended = run("pack", tmp_path / "list.csv", tmp_path / "back.bin", "--units", "3")
+    assert ended.status == 1 and "has 4 units: --units 3 is too few" in ended.err
+    ended = run("unpack", listed(engine.write_plant(1, ()), "none.bin"), tmp_path / "none.csv")
+    assert ended.status == 1 and "no stream" in ended.err and not (tmp_path / "none.csv").exists()
+    assert run("sheet", listed(engine.write_plant(1, ()), "none.bin")).status in (0, 1)
+
+
+def test_unpacked_in_another_unit(run, tmp_path):
+    """A list whose unit is 20 kg/h, packed, unpacked in that unit and packed again: readings in kg/h, the same plant."""
+    assert "units of 20 kg/h" in run("pack", SAMPLES / "two_percent.csv", tmp_path / "plant.bin").out
+    for suffix in (".csv", ".xlsx"):
+        assert run("unpack", tmp_path / "plant.bin", tmp_path / f"list{suffix}", "--unit", "20").status == 0
+        assert run("pack", tmp_path / f"list{suffix}", tmp_path / "back.bin", "--unit", "20").status == 0
+        assert (tmp_path / "back.bin").read_bytes() == (tmp_path / "plant.bin").read_bytes()
+    rows = list(csv.DictReader((tmp_path / "list.csv").open()))
+    assert rows[4]["reading"] == "20400" and rows[4]["accuracy"].startswith("±")
+
+
+def test_prices_that_are_missing(run, listed):
+    text = (SAMPLES / "blind_site.csv").read_text()
+    whole = run("buy", SAMPLES / "blind_site.csv").out
+    deduced = run("buy", listed(text.replace("dryers,condensate tank,,,,,300", "dryers,condensate tank,,,,,"))).out
+    assert deduced == whole, "stream 7 is deduced: its price plays no part"
+    some = run("buy", listed(text.replace("low-pressure header,,,,,650", "low-pressure header,,,,,"))).out
+    assert [line.split()[0] for line in some.splitlines()[2:4]] == ["3", "8"], "4 has no price: the priced one beside it is told"
+    assert "Together 1,700.\n" in some and "No price in the list for: 4 reducing station. They were taken as dearer" in some
+    none = run("buy", listed(text.replace(",650", ",").replace(",1400", ","))).out
+    assert "Together 300, and what the meter of 3 steam through the turbine costs.\n" in none and "not said" in none
 
 
 def test_a_list_gives_the_sample(run, tmp_path):
@@ -157,8 +206,20 @@ class TestCheck:
 
     def test_no_number(self, run, files):
         paths = files()
-        paths[2].write_text("1 2 x")
-        assert run("check", *paths).status == 1
+        for text in ("1 2 x", "1 2 1.5", "1 " + 50 * "9", "½"):
+            paths[2].write_text(text)
+            ended = run("check", *paths)
+            assert ended.status == 1 and ended.err.endswith("stands there; whole numbers would do, one for each place, the outside first\n")
+
+
+def test_the_workbook_is_the_list(run, tmp_path):
+    """The sample that is shipped as XLSX has the streams of the CSV, and a drawing of its own."""
+    from wengeludo.lists import read_list
+
+    book, text = (read_list(SAMPLES / f"steam_site{suffix}") for suffix in (".xlsx", ".csv"))
+    assert (book.pipes, book.places) == (text.pipes, text.places) and len(book.spots) == len(book.places) - 1 and not text.spots
+    out = [run("sheet", SAMPLES / f"steam_site{suffix}").out for suffix in (".xlsx", ".csv")]
+    assert out[0] == out[1]
 
 
 def test_closed_output_and_own_process(tmp_path):

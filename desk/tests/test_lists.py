@@ -14,7 +14,7 @@ HEAD = "stream,what,from,to,reading,accuracy,low,high,price,rate\n"
 FORMS = "2% (of the reading), ±50 (standard deviation in kg/h) or w40 (weight) would do"
 UNSURE = "it may be thousands or decimals: write it without a mark for thousands"
 LARGE = "a number from -4,000,000,000,000 to 4,000,000,000,000 would do"
-BOTH = "both a decimal point and a decimal comma stand in the list, as in 2.5 and 1,5: one of them would do"
+BOTH = 'row 3, column reading: "2.5" stands there; row 2 has 1,5: decimal points all over the list, or decimal commas, would do'
 KNOWN = "stream, what, from, to, reading, accuracy, low, high, price, rate"
 GOOD = "1,feed,outside,boiler,100,w10,,,,\n"
 
@@ -73,7 +73,7 @@ def test_all_faults_at_once(listed):
         ("a\0b", "the file is no text: a list is CSV or XLSX"),
         (b"from,to\n\xff\xfe,b\n", "row 2: the file is not UTF-8 text: save it as “CSV UTF-8” or as XLSX"),
         (HEAD + "".join(f"{k},x,outside,boiler,,,,,,\n" for k in range(97)), "row 98: the list has 97 streams: at most 96 would do"),
-        (HEAD + "".join(f"{k},x,outside,u{k},,,,,,\n" for k in range(33)), "the list has 33 places beside the outside: at most 32 would do"),
+        (HEAD + "".join(f"{k},x,outside,u{k},,,,,,\n" for k in range(33)), "row 34, column to: the list has 33 places beside the outside: at most 32 would do"),
         ("from;to;reading;accuracy\na;outside;7.979;5\n", 'row 2, column reading, stream 1: "7.979" stands there; ' + UNSURE),
         ('from,to,reading,accuracy\na,outside,"7,979",5\n', 'row 2, column reading, stream 1: "7,979" stands there; ' + UNSURE),
         ("from;to;reading;accuracy\na;outside;1,5;5\na;outside;2.5;5\n", BOTH),

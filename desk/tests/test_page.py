@@ -1,12 +1,10 @@
 """Each page opened in a real browser: no error on its console, every stream and number in its text; it sorts, and it prints."""
 
-import html
 import json
 import os
 import re
 import shutil
 import subprocess
-from pathlib import Path
 
 import pytest
 from conftest import SAMPLES
@@ -17,7 +15,7 @@ from wengeludo.site import read_site
 
 CHROMIUM = shutil.which(os.environ.get("CHROMIUM", "chromium"))
 pytestmark = pytest.mark.skipif(not CHROMIUM, reason="no chromium")
-NAMES = sorted(path.stem for path in SAMPLES.glob("*.csv") if ".places" not in path.name)
+NAMES = sorted(path.name for path in SAMPLES.iterdir() if path.suffix in (".csv", ".xlsx"))
 PROBE = """
 <script>
 addEventListener("load", () => {
@@ -48,7 +46,7 @@ def squeezed(text):
 @pytest.mark.parametrize("name", NAMES)
 def test_page(name, run, tmp_path):
     page = tmp_path / "page.html"
-    run("sheet", SAMPLES / f"{name}.csv", "-o", page)
+    run("sheet", SAMPLES / name, "-o", page)
     text = page.read_text(encoding="utf-8")
     assert not re.search(r'(?:src|href)\s*=\s*"(?!#)|url\(|@import', re.sub(r"<svg.*?</svg>", "", text, flags=re.DOTALL)), "nothing is fetched"
     probe = tmp_path / "probe.html"
@@ -56,7 +54,7 @@ def test_page(name, run, tmp_path):
     done = browser(tmp_path / "profile", "--window-size=1280,1000", "--dump-dom", probe.as_uri())
     told = json.loads(re.search(r'id="probe">(.*?)</script>', done.stdout, re.DOTALL)[1].replace("&lt;", "<").replace("&amp;", "&"))
     assert told["errors"] == [] and "CONSOLE" not in done.stderr
-    drawn = balance(read_site(SAMPLES / f"{name}.csv"))
+    drawn = balance(read_site(SAMPLES / name))
     for row in view.rows(drawn):
         for cell in row.cells:
             assert squeezed(cell) in squeezed(told["text"])
@@ -70,31 +68,12 @@ def test_page(name, run, tmp_path):
     assert keys == sorted(keys) and told["sorted"][len(keys):] == [""] * (len(told["sorted"]) - len(keys))
 
 
-def test_names_that_are_no_markup(run, listed, tmp_path):
-    text = 'stream,what,from,to,reading,accuracy\n"<b>1","<script>alert(1)</script>",outside,"a & ""b""",5,1\n2,"\\N [/red] {{7*7}}","a & ""b""",outside,5,1\n'
-    page = tmp_path / "page.html"
-    assert run("sheet", listed(text), "-o", page, "-o", tmp_path / "x.svg", "-o", tmp_path / "x.xlsx").status == 0
-    shown = page.read_text(encoding="utf-8")
-    assert "<script>alert" not in shown and "&lt;script&gt;alert(1)" in shown and "{{7*7}}" in shown
-
-
-def test_prints_on_two_pages(run, tmp_path):
+@pytest.mark.parametrize("name", ["steam_site_off.csv", "steam_site.xlsx", "overfull_site.csv"])
+def test_prints_on_two_pages(name, run, tmp_path):
     if not shutil.which("pdfinfo"):
         pytest.skip("no pdfinfo")
     page, pdf = tmp_path / "page.html", tmp_path / "page.pdf"
-    run("sheet", SAMPLES / "steam_site_off.csv", "-o", page)
+    run("sheet", SAMPLES / name, "-o", page)
     browser(tmp_path / "profile", "--print-to-pdf-no-header", f"--print-to-pdf={pdf}", page.as_uri())
     told = subprocess.run(["pdfinfo", pdf], capture_output=True, text=True, check=True).stdout
     assert re.search(r"Pages:\s+2\n", told) and "A4" in told
-
-
-def test_positions_are_kept(run, tmp_path):
-    source = tmp_path / "site.csv"
-    source.write_bytes((SAMPLES / "listing.csv").read_bytes())
-    Path(tmp_path / "site.places.csv").write_text("unit,x,y\nboiler,2,2\nheader,10,6\n")
-    assert run("sheet", source, "-o", tmp_path / "site.svg").status == 0
-    svg = html.unescape((tmp_path / "site.svg").read_text())
-    texts = re.findall(r'id="unit-(\d)".*?<text[^>]* x="([-\d.]+)" y="([-\d.]+)"', svg, re.DOTALL)
-    spots = {unit: (float(x), float(y)) for unit, x, y in texts}
-    across, down = (spots["2"][k] - spots["1"][k] for k in (0, 1))
-    assert (across, down) == pytest.approx((8 * 72 / 2.54, 4 * 72 / 2.54), abs=40)

@@ -1,15 +1,18 @@
 #!/usr/bin/env python3
-"""Every command that README.md, docs/, samples/README.md and reference/README.md name, read out of the text and run.
+"""Every command that README.md, docs/ and the README of samples, reference, bindings/python and desk name, read out of the text and run.
 
     python3 host/check/commands.py          runs them; status 1 where one fails or prints something else than the text says
     python3 host/check/commands.py --all    also those that take minutes
     python3 host/check/commands.py --list   prints what would be done with each
 
 A command is a line that starts with `$ ` in a block marked sh (the lines below it are what it prints; `...` stands for any lines), a
-line of an indented block, or a piece of code in a sentence, where it starts with the name of a program. Blocks marked c, cpp and rust are
-compiled, those in Rust run too. docs/changes tells of older versions and is left out. The archive must be there (`rt staticlib
-linked`). What test_all.sh runs by itself is not run again, unless the text has what it prints. The rules below say which commands are run
-with other words, and which are not run; a rule that fits no command is an error.
+line of an indented block, or a piece of code in a sentence, where it starts with the name of a program. Blocks marked c, cpp, rust and
+python are compiled, those in Rust and Python run too. docs/changes tells of older versions and is left out; the blocks of desk/README.md
+marked console are run by desk/tests/test_readme.py. The archive must be there (`rt staticlib linked`). What test_all.sh runs by itself is
+not run again, unless the text has what it prints. Commands that write into the tree (--write, pip) are run in a copy of it, $COPY.
+
+The rules below say which commands are run with other words, and which are not run and why; a rule that fits no command is an error. What
+Debian's packages are needed for is left out where they are missing, and counted.
 """
 import glob
 import os
@@ -22,8 +25,9 @@ from typing import NamedTuple
 
 ROOT = os.path.abspath(os.path.join(os.path.dirname(__file__), '..', '..'))
 ARCHIVE = 'target/staticlib/liblinked.a'
-FIRST = re.compile(r'^(?:[A-Z_]+=\S+ )*(?:(?:rt|bash|sh|wengeludo|cargo|python3|cc|c\+\+|cmake|ctest|pkg-config|man|time|mkdir|cp|git|pip|dot) +\S'
-                   r'|target/(?:bin|host)/\S+(?: |$))')
+FIRST = re.compile(r'^(?:[A-Z_]+=\S+ )*(?:(?:rt|bash|sh|wengeludo|cargo|(?:/usr/bin/)?python3|cc|c\+\+|cmake|ctest|pkg-config|man|time|mkdir|cp|git'
+                   r'|pip|dot) +\S|target/(?:bin|host|python)/\S+(?: |$))')
+DESK = 'target/desk/bin/wengeludo'  # there where Debian's packages are, by desk/test.sh
 LIMIT = 900  # seconds for one command
 
 
@@ -31,29 +35,32 @@ class Rule(NamedTuple):
     pattern: str
     do: str  # run, long, not
     word: str  # the words that are run, or why none are
+    needs: str = ''  # a file or a program without which it is left out
 
 
 RULES = [
     Rule(r'time bash \.ci/run', 'not', 'test_all.sh runs it, without a clock'),
     Rule(r'bash test_all\.sh( --after-gate)?', 'not', 'this test is a part of it'),
     Rule(r'rt must-fail \[NAME\.\.\]', 'run', 'rt must-fail version'),
-    Rule(r'python3 host/check/commands\.py.*', 'not', 'this test itself'),
-    Rule(r'python3 host/check/archive\.py --write', 'not', 'it changes a text'),
-    Rule(r'python3 host/check/(refusals|picture)\.py --write', 'not', 'it changes texts'),
+    Rule(r'python3 host/check/(archive|refusals)\.py --write', 'run', r'cd "$COPY" && \g<0> && python3 host/check/\1.py'),
+    Rule(r'python3 host/check/(picture)\.py --write', 'run', r'cd "$COPY" && \g<0> && python3 host/check/\1.py', 'dot'),
     Rule(r'python3 host/check/seconds\.py (crates|edits|modules).*', 'run', r'python3 host/check/seconds.py \1 version'),
     Rule(r'bash install\.sh (--uninstall )?PREFIX', 'run', r'bash install.sh \1"$PREFIX"'),
     Rule(r'target/host/(balance_file samples/overfull_site|charges_file samples/twin_lines)\.bin.*', 'run', r'\g<0> || [ $? = 1 ]'),
-    Rule(r'bash desk/install\.sh', 'not', 'it installs packages of the system; desk/test.sh sets up the same below target/'),
-    Rule(r'wengeludo (sheet \S+) -o \S+', 'run', r'[ ! -x target/desk/bin/wengeludo ] || target/desk/bin/wengeludo \1 -o "$PREFIX.html"'),
+    Rule(r'bash desk/install\.sh', 'run', r'WENGELUDO_APT=no \g<0> "$PREFIX/desk"', DESK),
+    Rule(r'wengeludo (sheet desk/\S+) -o \S+', 'run', r'"$PREFIX/desk/bin/wengeludo" \1 -o "$PREFIX/desk/page.html"', DESK),
+    Rule(r'wengeludo .*[A-Z]{4}.*|wengeludo (suspects|buy)', 'not', 'a form; desk/tests/test_readme.py runs the commands of desk/README.md'),
+    Rule(r'(/usr/bin/python3 -m venv|target/python/bin/pip install) .*', 'run', r'cd "$COPY" && \g<0>', DESK),
+    Rule(r'python3 -m pytest', 'not', 'desk/test.sh runs it, in an environment of its own'),
     Rule(r'cargo doc --open', 'run', 'cargo doc --offline --no-deps'),
     Rule(r'(?:WENGELUDO_\w+=\d+ )*(cargo test .*)', 'run', r'WENGELUDO_INPUTS=2000 WENGELUDO_SURVEYS=100 \1'),
     Rule(r'bash host/bench/(run|visits|checks)\.sh.*', 'run', r'bash host/bench/\1.sh 2 1'),
     Rule(r'bash host/bench/compare\.sh BEFORE\.a AFTER\.a.*', 'long', f'bash host/bench/compare.sh {ARCHIVE} {ARCHIVE} 2 1'),
-    Rule(r'bash host/bench/groups\.sh .*', 'not', 'it needs the checkout of another version'),
+    Rule(r'bash host/bench/groups\.sh .*', 'not', 'it proves a crate more in copies of two versions, one of them checked out elsewhere'),
     Rule(r'bash host/fuzz/run\.sh \S+', 'run', 'bash host/fuzz/run.sh 1'),
     Rule(r'python3 reference/desk_tool\.py --hold', 'long', r'\g<0>'),
     Rule(r'python3 reference/(brute|certify)\.py', 'long', r'\g<0>'),
-    Rule(r'python3 reference/make_cases\.py --write', 'not', 'it changes files; --check compares them'),
+    Rule(r'python3 reference/make_cases\.py --write', 'long', r'cd "$COPY" && \g<0> && diff -rq crates "$TREE/crates" && diff -rq samples "$TREE/samples"'),
     Rule(r'time COMMAND', 'not', 'a form, with any command'),
 ]
 
@@ -72,7 +79,7 @@ class Code(NamedTuple):
 
 
 def texts():
-    found = ['README.md', 'samples/README.md', 'reference/README.md']
+    found = ['README.md', 'CHANGELOG.md', 'samples/README.md', 'reference/README.md', 'bindings/python/README.md', 'desk/README.md']
     found += sorted(os.path.relpath(path, ROOT) for path in glob.glob(os.path.join(ROOT, 'docs', '*.md')))
     return [path for path in found if os.path.exists(os.path.join(ROOT, path))]
 
@@ -100,7 +107,7 @@ def read(path):
                 block = None
                 if language == 'sh':
                     commands += session(inside, start)
-                elif language in ('c', 'cpp', 'rust'):
+                elif language in ('c', 'cpp', 'rust', 'python'):
                     codes.append(Code(language, '\n'.join(inside) + '\n', start))
         elif block is not None:
             block[2].append(line)
@@ -177,11 +184,23 @@ def fits(prints, said):
 
 
 def environment(work):
-    """A scratch prefix for install.sh, in which compilers and tools look."""
-    prefix = os.path.join(work, 'prefix')
+    """A scratch prefix for install.sh, in which compilers and tools look; a copy of the tree, with the archive."""
+    prefix, copy = os.path.join(work, 'prefix'), os.path.join(work, 'copy')
     more = {'PREFIX': prefix, 'PKG_CONFIG_PATH': f'{prefix}/lib/pkgconfig', 'CMAKE_PREFIX_PATH': prefix, 'CPATH': f'{prefix}/include',
-            'LIBRARY_PATH': f'{prefix}/lib', 'LD_LIBRARY_PATH': f'{prefix}/lib'}
+            'LIBRARY_PATH': f'{prefix}/lib', 'LD_LIBRARY_PATH': f'{prefix}/lib', 'COPY': copy, 'TREE': ROOT}
     return {**os.environ, **more}
+
+
+def copied(copy):
+    """The tree without what is built, and its archive."""
+    shutil.copytree(ROOT, copy, ignore=shutil.ignore_patterns('.git', 'target', 'build', '__pycache__', '*.egg-info'))
+    os.makedirs(os.path.join(copy, 'target'))
+    os.symlink(os.path.join(ROOT, 'target', 'staticlib'), os.path.join(copy, 'target', 'staticlib'))
+
+
+def absent(rule):
+    """Whether what a rule needs is not here."""
+    return bool(rule and rule.needs) and not os.path.exists(os.path.join(ROOT, rule.needs)) and shutil.which(rule.needs) is None
 
 
 def run(words, folder, env):
@@ -191,9 +210,14 @@ def run(words, folder, env):
     return done.returncode, done.stdout.rstrip('\n').split('\n') if done.stdout else [], done.stdout + done.stderr
 
 
-def compile_code(code, work, env):
-    """Compiles a piece of code as a text has it; what is wrong with it, or nothing."""
-    if code.language == 'rust':
+def compiled(code, work, env):
+    """Compiles a piece of code as a text has it: what is wrong with it, or nothing."""
+    if code.language == 'python':
+        path, python = os.path.join(work, 'code.py'), os.path.join(env['COPY'], 'target', 'python', 'bin', 'python3')
+        with open(path, 'w', encoding='utf-8') as file:
+            file.write(code.text)
+        words = f'{python} {path}' if os.path.exists(python) else f'python3 -m py_compile {path}'
+    elif code.language == 'rust':
         folder = os.path.join(work, 'user')
         os.makedirs(os.path.join(folder, 'src'), exist_ok=True)
         with open(os.path.join(folder, 'Cargo.toml'), 'w', encoding='utf-8') as file:
@@ -213,65 +237,83 @@ def compile_code(code, work, env):
             file.write('\n'.join(ahead + heads + [f'int customer({given});', f'int customer({given})', '{'] + inside + ['return 0;', '}', '']))
         words = f'{"g++ -std=c++17" if plus else "cc -std=c11"} -Wall -Wextra -Werror -fsyntax-only -I host/include {path}'
     status, _, said = run(words, '.', env)
-    return '' if status == 0 else said
+    return '' if status == 0 else f'{code.where}: the code in {code.language} is not taken:\n{said[-2000:]}'
+
+
+def gathered():
+    """Each command of the texts where it stands first, with all that they say of what it prints; and the pieces of code."""
+    once, codes = {}, []
+    for path in texts():
+        found = read(path)
+        codes += found[1]
+        for command in found[0]:
+            first = once.setdefault((command.text, command.folder), command._replace(prints=[]))
+            if command.prints:
+                first.prints.append(command.prints)
+    return list(once.values()), codes
+
+
+def tried(command, words, env):
+    """Runs a command: what is wrong with it, or nothing."""
+    try:
+        status, printed, said = run(words, command.folder, env)
+    except subprocess.TimeoutExpired:
+        status, printed, said = 124, [], f'still running after {LIMIT} seconds'
+    if status != 0:
+        return f'{command.where}: `{words}` ended with status {status}:\n{said[-2000:]}'
+    if not all(fits(prints, printed) for prints in command.prints):
+        return f'{command.where}: `{words}` does not print what the text says:\n{said[-2000:]}'
+    return ''
+
+
+def listed(commands):
+    for command in commands:
+        do, words, _ = plan(command)
+        print(f'{do:9} {command.where:28} {command.text}' + (f'  =>  {words}' if words != command.text else ''))
+
+
+def run_all(commands, codes, everything):
+    """What is wrong, and how many commands there are of each kind."""
+    failed, counts, ran = [], dict.fromkeys(('run', 'elsewhere', 'long', 'not', 'absent', 'code'), 0), set()
+    work = tempfile.mkdtemp(prefix='commands')
+    env = environment(work)
+    try:
+        copied(env['COPY'])
+        for command in commands:
+            do, words, rule = plan(command)
+            do = 'absent' if do in ('run', 'long') and absent(rule) else do
+            counts[do] += 1
+            again = (words, command.folder) in ran and not command.prints
+            if do == 'run' and not again or do == 'long' and everything and not again:
+                ran.add((words, command.folder))
+                failed.append(tried(command, words, env))
+        counts['code'] = len(codes)
+        failed += [compiled(code, work, env) for code in codes]
+    finally:
+        shutil.rmtree(work)
+    return [text for text in failed if text], counts
 
 
 def main(args):
     if args not in ([], ['--all'], ['--list']):
         sys.exit('usage: python3 host/check/commands.py [--all | --list]')
-    if args != ['--list'] and not os.path.exists(os.path.join(ROOT, ARCHIVE)):
+    commands, codes = gathered()
+    if args == ['--list']:
+        return listed(commands)
+    if not os.path.exists(os.path.join(ROOT, ARCHIVE)):
         sys.exit(f'commands: no {ARCHIVE}: build it with `rt staticlib linked`')
-    commands, codes = [], []
-    for path in texts():
-        found = read(path)
-        commands += found[0]
-        codes += found[1]
-    once = {}  # each command where it stands first, with all that texts say of what it prints
-    for command in commands:
-        first = once.setdefault((command.text, command.folder), command._replace(prints=[]))
-        if command.prints:
-            first.prints.append(command.prints)
-    fitted = {rule.pattern for rule in (plan(command)[2] for command in once.values()) if rule}
-    failed, counts, ran = [], {'run': 0, 'elsewhere': 0, 'long': 0, 'not': 0, 'code': 0}, set()
-    work = tempfile.mkdtemp(prefix='commands')
-    env = environment(work)
     os.makedirs(os.path.join(ROOT, 'target', 'host'), exist_ok=True)
-    try:
-        for command in once.values():
-            do, words, _ = plan(command)
-            if args == ['--list']:
-                print(f'{do:9} {command.where:28} {command.text}' + (f'  =>  {words}' if words != command.text else ''))
-                continue
-            counts[do] += 1
-            if do in ('not', 'elsewhere') or (do == 'long' and not args):
-                continue
-            if (words, command.folder) in ran and not command.prints:
-                continue
-            ran.add((words, command.folder))
-            try:
-                status, printed, said = run(words, command.folder, env)
-            except subprocess.TimeoutExpired:
-                status, printed, said = 124, [], f'still running after {LIMIT} seconds'
-            if status != 0:
-                failed.append(f'{command.where}: `{words}` ended with status {status}:\n{said[-2000:]}')
-            elif not all(fits(prints, printed) for prints in command.prints):
-                failed.append(f'{command.where}: `{words}` does not print what the text says:\n{said[-2000:]}')
-        for code in codes if args != ['--list'] else []:
-            counts['code'] += 1
-            wrong = compile_code(code, work, env)
-            if wrong:
-                failed.append(f'{code.where}: the code in {code.language} is not taken:\n{wrong[-2000:]}')
-    finally:
-        shutil.rmtree(work)
+    failed, counts = run_all(commands, codes, bool(args))
+    fitted = {rule.pattern for rule in (plan(command)[2] for command in commands) if rule}
     failed += [f'host/check/commands.py: no text has a command for the rule {rule.pattern}' for rule in RULES if rule.pattern not in fitted]
     for text in failed:
         print(f'commands: {text}', file=sys.stderr)
     if failed:
         sys.exit(1)
-    if args != ['--list']:
-        later = '' if args else f', {counts["long"]} take minutes (--all)'
-        print(f'commands: {len(once)} commands of {len(texts())} texts: {counts["run"] + (counts["long"] if args else 0)} run{later}, '
-              f'{counts["elsewhere"]} run by test_all.sh itself, {counts["not"]} not to be run; {counts["code"]} pieces of code compiled')
+    later = '' if args else f', {counts["long"]} take minutes (--all)'
+    more = f', {counts["absent"]} left out for want of Debian\'s packages' if counts['absent'] else ''
+    print(f'commands: {len(commands)} commands of {len(texts())} texts: {counts["run"] + (counts["long"] if args else 0)} run{later}, '
+          f'{counts["elsewhere"]} run by test_all.sh itself, {counts["not"]} not to be run{more}; {counts["code"]} pieces of code compiled')
 
 
 if __name__ == '__main__':

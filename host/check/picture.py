@@ -23,7 +23,7 @@ LOOKS = {
     'A': ('#1b6ca8', 'solid', 'A adjusted: metered, and corrected'),
     'R': ('#8a6d00', 'solid', 'R as read: metered, nothing can check it'),
     'G': ('#2e7d32', 'dashed', 'G given: not metered, forced by the others'),
-    'W': ('#c62828', 'dotted', 'W withheld: not metered, not forced, blank'),
+    'W': ('#6a3d9a', 'dotted', 'W withheld: not metered, not forced, blank'),
 }
 
 
@@ -61,7 +61,7 @@ def dot():
         if 0 in (stream.source, stream.target):
             out.append(f'o{k} [shape=circle, label="", width=0.08, height=0.08, fixedsize=true, fillcolor=white];')
         colour, line, _ = LOOKS[letter]
-        width = 1 + min(3, math.sqrt(abs(flow or 0)) / 45)
+        width = 2 if flow is None else 1 + min(3, math.sqrt(abs(flow)) / 45)
         name, value = shown(k, letter, flow)
         label = f'<font color="#54606c">{name} </font><font color="{colour}"><b>{value}</b></font>'
         out.append(f'{ends[0]} -> {ends[1]} [label=<{label}>, color="{colour}", style={line}, penwidth={width:.1f},'

@@ -1,6 +1,6 @@
 #!/usr/bin/env python3
 """One version everywhere: the definition and the code of the crate `version`, the C header, the Rust crate, the newest heading of
-CHANGELOG.md, and the Python packages where there are any. Prints it; status 1 where two differ."""
+CHANGELOG.md, docs/LINKING.md, and the Python packages where there are any. Prints it; status 1 where two differ."""
 import os
 import re
 import sys
@@ -14,6 +14,7 @@ PLACES = [
     ('host/rust/Cargo.toml', r'^version = "(\d+)\.(\d+)\.(\d+)"'),
     ('host/rust/src/lib.rs', r'pub const VERSION: u32 = ([\d_]+);'),  # one number
     ('CHANGELOG.md', r'^## (\d+)\.(\d+)\.(\d+)'),
+    ('docs/LINKING.md', r'^\*\*v(\d+)\.(\d+)\.(\d+)\*\*'),
 ]
 # These are made elsewhere in the repository, and looked at where they are.
 PYTHON = [(f'{folder}/pyproject.toml', r'^version = "(\d+)\.(\d+)\.(\d+)"') for folder in ('bindings/python', 'desk')]

@@ -60,7 +60,7 @@ done
 # Manual pages: one for each call, nothing that groff warns of, every refusal in it.
 while read -r call; do
     man -M "$prefix/share/man" -w "$call" >/dev/null || fail "no manual page of $call"
-done <"$work/declared"
+done < <(cat "$work/declared" && echo wengeludo_refusal_text)
 groff -man -ww -z "$prefix/share/man/man3/wengeludo.3" 2>"$work/log"
 [ ! -s "$work/log" ] || { cat "$work/log" >&2; fail "groff warns of the manual page"; }
 MANWIDTH=200 man -M "$prefix/share/man" wengeludo_balance_plant >"$work/page" 2>/dev/null

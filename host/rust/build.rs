@@ -55,8 +55,8 @@ fn archive() -> (PathBuf, &'static str) {
         None => {
             println!("cargo:rerun-if-changed={}", own.display());
             eprintln!("wengeludo_balance: no {}, and no wengeludo that pkg-config knows", own.join("liblinked.a").display());
-            eprintln!("Build it at the repository's root with `rt staticlib linked` (Rattle kit rattle-kit-5 or later), install it");
-            eprintln!("with `bash install.sh PREFIX`, or name the folder that has it in WENGELUDO_ARCHIVE_DIR.");
+            eprintln!("Build it at the repository's root with `rt staticlib linked` (Rattle kit rattle-kit-5 or later), install");
+            eprintln!("it with `bash install.sh PREFIX`, or name the folder that has it in WENGELUDO_ARCHIVE_DIR.");
             exit(1)
         }
     }

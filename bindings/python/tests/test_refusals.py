@@ -94,3 +94,9 @@ def test_last_numbers():
     for lasts in ((0,) * 7, (0,) * 9, (-1,) + (0,) * 7, (2**32,) + (0,) * 7):
         with pytest.raises(ValueError):
             w.balance_plant(LISTING, 0, lasts)
+
+
+@pytest.mark.parametrize("words", [{"low": 0}, {"high": 0}, {"weight": None, "low": 0, "high": 1}])
+def test_half_a_range_and_one_without_a_meter(words):
+    with pytest.raises(ValueError):
+        w.Stream(0, 1, **{"weight": 10, **words})

@@ -5,7 +5,7 @@ from __future__ import annotations
 import csv
 import os
 from concurrent.futures import ProcessPoolExecutor
-from dataclasses import dataclass
+from dataclasses import dataclass, replace
 from fractions import Fraction
 from pathlib import Path
 from typing import Callable, Iterator, List, Optional, Sequence, Tuple
@@ -31,6 +31,7 @@ class Outcome:
     file: str
     cells: Tuple[object, ...]
     site: Optional[Site] = None
+    before: bool = False  # the book had its sheet already
 
     @property
     def cost(self) -> Optional[float]:
@@ -97,28 +98,30 @@ def outcomes(paths: Sequence[Path], unit: Optional[Fraction], keep: bool, jobs: 
 
 def run(folder: Path, summary: Path, unit: Optional[Fraction] = None, book: Optional[Book] = None, office: int = 0,
         jobs: Optional[int] = None, told: Callable[[int, int], None] = lambda done, of: None) -> List[Outcome]:
-    """Balances every file of a folder; the summary is written as it grows. With a book each sheet is kept, and files whose sheets it has
-    are left out, so that a run that was cut off goes on where it stopped."""
-    paths = files_in(folder)
-    known = set(book.sources()) if book else set()
-    todo = [p for p in paths if str(p.resolve()) not in known]
+    """Balances every file of a folder; the summary is written as it grows. With a book each sheet is kept, once: a list whose sheet the
+    book has, with the same readings and names, draws no other, so that a run that was cut off goes on where it stopped."""
+    paths = [p for p in files_in(folder) if p.resolve() != summary.resolve()]
     done: List[Outcome] = []
     with open(summary, "w", newline="", encoding="utf-8") as file:
         writer = csv.writer(file)
         writer.writerow(HEAD)
-        for some in outcomes(todo, unit, book is not None, jobs or os.cpu_count() or 1):
-            kept = _kept(some, folder, book, office)
+        for some in outcomes(paths, unit, book is not None, jobs or os.cpu_count() or 1):
+            kept = _kept(some, folder, book, office) if book else some
             writer.writerows((o.file, *o.cells) for o in kept)
             file.flush()
-            done += [Outcome(o.file, o.cells) for o in kept]
-            told(len(done), len(todo))
+            done += [replace(o, site=None) for o in kept]
+            told(len(done), len(paths))
     return done
 
 
-def _kept(some: List[Outcome], folder: Path, book: Optional[Book], office: int) -> List[Outcome]:
-    """The same lines, with the numbers under which the book keeps their sheets."""
-    if book is None:
-        return some
+def _kept(some: List[Outcome], folder: Path, book: Book, office: int) -> List[Outcome]:
+    """The same lines, with the numbers under which the book has their sheets, now or from before."""
     sites = [(o.site, str((folder / o.file).resolve())) for o in some if o.site]
-    numbers = iter(book.keep(sites, office))
-    return [Outcome(o.file, (*o.cells[:8], office, next(numbers), o.cells[10]) if o.site else o.cells) for o in some]
+    before = [book.number_of(site, source, office) for site, source in sites]
+    drawn = iter(book.keep([one for one, known in zip(sites, before) if known is None], office))
+    numbers = iter([(next(drawn) if known is None else known, known is not None) for known in before])
+    return [_numbered(o, office, *next(numbers)) if o.site else o for o in some]
+
+
+def _numbered(line: Outcome, office: int, number: Optional[int], before: bool) -> Outcome:
+    return replace(line, cells=(*line.cells[:8], office, number, line.cells[10]), before=before)

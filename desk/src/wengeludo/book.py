@@ -146,18 +146,22 @@ class Book:
         except (sqlite3.DatabaseError, ValueError, TypeError) as error:
             raise Stopped(f"{self.path}: the book is damaged ({error})") from None
 
-    def sources(self) -> List[str]:
-        """What the kept sheets were drawn from."""
-        return [source for (source,) in self.base.execute("SELECT source FROM sheets")]
+    def number_of(self, site: Site, source: str, office: int) -> Optional[int]:
+        """The number of the office's sheet that was kept from this file with the same plant and names; None where there is none."""
+        question = "SELECT max(number) FROM sheets INDEXED BY sheets_by_source WHERE source = ? AND office = ? AND plant = ? AND names = ?"
+        found: Optional[int] = self.base.execute(question, (source, office, site.file, _names(site))).fetchone()[0]
+        return found
 
 
 def _names(site: Site) -> str:
-    """What a plant file does not hold: names, unit, readings as listed, accuracies, columns of the user's own."""
+    """What a plant file does not hold: names, unit, readings as listed, accuracies, columns and places of the user's own."""
     pipes = [
         [p.label, p.what, p.reading, p.stated, p.accuracy.deviation if p.accuracy else None, p.price, p.rate, *p.extra]
         for p in site.list.pipes
     ]
     told = {"site": site.list.name, "unit": str(site.unit), "places": site.list.places, "extras": site.list.extras, "pipes": pipes}
+    if site.list.spots:
+        told["spots"] = [[place, *spot] for place, spot in sorted(site.list.spots.items())]
     return json.dumps(told, ensure_ascii=False)
 
 
@@ -170,6 +174,7 @@ def _site(kept: Kept) -> Site:
         low, high = (None if end is None else float(end * unit) for end in (stream.low, stream.high))
         accuracy = None if deviation is None else Accuracy(deviation)
         pipes.append(Pipe(row, label, what, stream.source, stream.target, reading, accuracy, stated, low, high, price, rate, tuple(extra)))
-    listed = PipeList(told["site"], tuple(pipes), tuple(told["places"]), tuple(told["extras"]))
+    spots = {place: (float(x), float(y)) for place, x, y in told.get("spots", ())}
+    listed = PipeList(told["site"], tuple(pipes), tuple(told["places"]), tuple(told["extras"]), spots)
     found = (clamp(pipe, stream.weight or 1, unit) for pipe, stream in zip(pipes, plant.streams))
     return Site(listed, unit, plant, tuple(one for one in found if one))

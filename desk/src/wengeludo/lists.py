@@ -121,10 +121,11 @@ class _Reader:
                 self.fault(f"there is no column {needed}{hint}; known columns are {', '.join(COLUMNS)}", place)
 
     def decimal(self, rows: List[Tuple[int, List[str]]]) -> None:
-        cells = [self.cell(row, column).strip("wW%± ") for _, row in rows for column in NUMBERS]
-        self.marks, clash = marks_of(cells, self.grid.separator)
+        cells = [(place, column, self.cell(row, column).strip("wW%± ")) for place, row in rows for column in NUMBERS]
+        self.marks, clash = marks_of([text for _, _, text in cells], self.grid.separator)
         if clash:
-            self.fault(f"both a decimal point and a decimal comma stand in the list, as in {clash[0]} and {clash[1]}: one of them would do")
+            (before, _, one), (place, column, other) = sorted(next(cell for cell in cells if cell[2] == text) for text in clash)
+            self.fault(f"row {before} has {one}: decimal points all over the list, or decimal commas, would do", place, column, found=other)
 
     def numbered(self, rows: List[Tuple[int, List[str]]]) -> None:
         """Where all places are called unit 1, unit 2 and so on, as in a list made of a plant file, they keep their numbers."""
@@ -202,7 +203,8 @@ class _Reader:
         if len(pipes) > MOST_STREAMS:
             self.fault(f"the list has {len(pipes)} streams: at most {MOST_STREAMS} would do", pipes[MOST_STREAMS].row)
         if len(self.names) - 1 > MOST_UNITS:
-            self.fault(f"the list has {len(self.names) - 1} places beside the outside: at most {MOST_UNITS} would do")
+            row, column = next((p.row, "from" if p.source > MOST_UNITS else "to") for p in pipes if max(p.source, p.target) > MOST_UNITS)
+            self.fault(f"the list has {len(self.names) - 1} places beside the outside: at most {MOST_UNITS} would do", row, column)
         if not pipes:
             self.fault("the list has a header line and no stream: a row for each stream would do")
 

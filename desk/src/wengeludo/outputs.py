@@ -8,7 +8,7 @@ import json
 import os
 import tempfile
 from pathlib import Path
-from typing import Any, Callable, Dict, Sequence
+from typing import Any, Callable, Dict, Optional, Sequence
 
 from . import view
 from .faults import Stopped
@@ -46,10 +46,17 @@ def write_all(balance: Balance, paths: Sequence[Path]) -> None:
         write(path, FORMS[path.suffix.lower()](balance))
 
 
-def checked(path: Path) -> Path:
-    """A path whose suffix says what to write; Stopped if it does not."""
+def checked(path: Path, read: Optional[Path] = None) -> Path:
+    """A path whose suffix says what to write; Stopped if it does not, or if it is the list that is read."""
     if path.suffix.lower() not in FORMS:
         raise Stopped(f"{path}: the suffix says what is written: {', '.join(FORMS)}")
+    return other(path, read)
+
+
+def other(path: Path, read: Optional[Path]) -> Path:
+    """A path to write; Stopped if it is the one that is read."""
+    if read is not None and path.resolve() == read.resolve():
+        raise Stopped(f"{path}: that is what is read, and would be lost: another name would do")
     return path
 
 

@@ -4,17 +4,20 @@ from __future__ import annotations
 
 import csv
 import io
+import re
 from dataclasses import replace
+from fractions import Fraction
 from pathlib import Path
 from typing import List, Optional, Tuple
 
 import wengeludo_balance as engine
 
-from .faults import Stopped
+from .faults import Stopped, quoted
 from .lists import OUTSIDE, Pipe, PipeList
 from .numbers import accuracy, Marks
 from .outputs import put
 from .site import Site
+from .unit import deviation_of
 
 HEAD = ("stream", "what", "from", "to", "reading", "accuracy", "low", "high")
 
@@ -37,11 +40,11 @@ def transmitter(site: Site) -> bytes:
     return file
 
 
-def unpacked(path: Path) -> PipeList:
-    """The list of a plant file or a transmitter file, in units of 1 kg/h; Stopped where it is neither."""
+def unpacked(path: Path, unit: Fraction = Fraction(1)) -> PipeList:
+    """The list of a plant file or a transmitter file whose flows are in this unit; Stopped where it is neither."""
     file = path.read_bytes()
     try:
-        return _list(path.stem, engine.read_plant(file))
+        return _list(path.stem, engine.read_plant(file), unit)
     except engine.Refusal as refusal:
         first = refusal
     try:
@@ -50,21 +53,35 @@ def unpacked(path: Path) -> PipeList:
         if file[2:3] and file[2] in (0x21, 0x22, 0x23):
             first = refusal
         raise Stopped(f"{path}: {first.text} ({first.number})") from None
-    return _list(path.stem, plant)
+    return _list(path.stem, plant, unit)
 
 
-def _list(name: str, plant: engine.Plant) -> PipeList:
+def _list(name: str, plant: engine.Plant, unit: Fraction) -> PipeList:
     places = (OUTSIDE, *(f"unit {k}" for k in range(1, plant.units + 1)))
-    return PipeList(name, tuple(_pipe(k, s) for k, s in enumerate(plant.streams, 1)), places)
+    return PipeList(name, tuple(_pipe(k, s, unit) for k, s in enumerate(plant.streams, 1)), places)
 
 
-def _pipe(k: int, stream: engine.Stream) -> Pipe:
+def _pipe(k: int, stream: engine.Stream, unit: Fraction) -> Pipe:
     pipe = Pipe(k + 1, str(k), "", stream.source, stream.target)
     if stream.weight is None:
         return pipe
-    stated = f"w{stream.weight}"
+    stated = f"w{stream.weight}" if unit == 1 else f"±{deviation_of(stream.weight, unit):.7g}"
     known = accuracy(stated, stream.reading, Marks(".", True))
-    return replace(pipe, reading=float(stream.reading), accuracy=known, stated=stated, low=stream.low, high=stream.high)
+    reading, low, high = (None if end is None else float(end * unit) for end in (stream.reading, stream.low, stream.high))
+    return replace(pipe, reading=reading, accuracy=known, stated=stated, low=low, high=high)
+
+
+def idle(pipes: PipeList) -> List[str]:
+    """The last units, which have no stream: a list, which has units by their streams, cannot hold them."""
+    last = max((end for pipe in pipes.pipes for end in (pipe.source, pipe.target)), default=0)
+    return list(pipes.places[last + 1 :])
+
+
+def with_units(site: Site, units: int) -> Site:
+    """The site with so many units, the last of them without a stream; Stopped where its list has more."""
+    if units < site.plant.units:
+        raise Stopped(f"{site.list.name} has {site.plant.units} units: --units {units} is too few")
+    return replace(site, plant=replace(site.plant, units=units))
 
 
 def table(pipes: PipeList) -> List[Tuple[object, ...]]:
@@ -100,7 +117,7 @@ def written(pipes: PipeList, path: Path) -> bytes:
 def numbers_in(path: Path) -> List[int]:
     """Place numbers in a text, one after the other, the outside's first; Stopped where one is none."""
     words = path.read_text(encoding="utf-8-sig", errors="replace").replace(",", " ").replace(";", " ").split()
-    try:
-        return [int(word) for word in words]
-    except ValueError as error:
-        raise Stopped(f"{path}: whole numbers would do, one for each place, the outside first: {error}") from None
+    wrong = next((word for word in words if not re.fullmatch(r"[+-]?[0-9]{1,40}", word)), None)
+    if wrong is not None:
+        raise Stopped(f"{path}: {quoted(wrong)} stands there; whole numbers would do, one for each place, the outside first")
+    return [int(word) for word in words]

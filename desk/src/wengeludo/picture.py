@@ -8,33 +8,36 @@ from __future__ import annotations
 
 import math
 import re
-import subprocess
 import textwrap
+from dataclasses import replace
 from html import escape
 from typing import Dict, List, Optional, Tuple
 
 from wengeludo_balance import Kind
 
-from .faults import Stopped
+from .labels import FONT, Label, labelled
 from .legend import legend
 from .sheet import Balance, Line, sigmas
-from .spots import outside_spots
+from .spots import CENTIMETRE, WIDE, all_spots, graphviz, header, outside_spots
 
-FONT = "DejaVu Sans,Verdana,sans-serif"
 COLOURS = {Kind.ADJUSTED: "#1b6ca8", Kind.AS_READ: "#8a6d00", Kind.GIVEN: "#2e7d32", Kind.WITHHELD: "#6a3d9a"}
 STYLES = {Kind.ADJUSTED: "solid", Kind.AS_READ: "solid", Kind.GIVEN: "dashed", Kind.WITHHELD: "dotted"}
 WORST, NOTABLE, GREY = "#c62828", "#c96f00", "#54606c"
-HEADERS = ("header", "manifold", " main", "mains")
-CENTIMETRE = 72 / 2.54
+BLANK = 2.2  # the width of a dotted line, which is faint when thin
 
 
 def picture(balance: Balance) -> str:
     """The drawing as SVG, with its legend."""
-    return _finished(_drawn(dot_source(balance), bool(balance.site.list.spots)), balance)
+    if not balance.site.list.spots:
+        return _finished(graphviz(["dot", "-Tsvg"], dot_source(balance)), balance)
+    listed = balance.site.list
+    placed = replace(balance, site=replace(balance.site, list=replace(listed, spots=all_spots(listed))))
+    svg = graphviz(["neato", "-n1", "-Tsvg"], dot_source(placed))
+    return _finished(labelled(svg, [_label(placed, k) for k in range(len(listed.pipes))]), balance)
 
 
 def dot_source(balance: Balance) -> str:
-    """What graphviz is given."""
+    """What graphviz is given; where the user has placed the units, without the labels of streams."""
     spots, ends = balance.site.list.spots, outside_spots(balance.site.list)
     lines = [
         "digraph site {",
@@ -61,8 +64,8 @@ def _attributes(**values: object) -> str:
 def _unit(balance: Balance, place: int) -> str:
     name = balance.site.place(place)
     look: Dict[str, object] = {"label": f"<<font>{escape(name)}</font>>", "id": f"unit-{place}", "tooltip": name}
-    if any(word in f" {name.casefold()}" for word in HEADERS):
-        look |= {"width": 3.2, "height": 0.25, "style": "filled", "fillcolor": "#d9e4ee"}
+    if header(name):
+        look |= {"width": WIDE, "height": 0.25, "style": "filled", "fillcolor": "#d9e4ee"}
     if place in balance.marked:
         look |= {"fillcolor": "#ffd9d6", "color": WORST, "penwidth": 2.4, "label": f"<<b>{escape(name)}</b><br/><font point-size='8'>overfull</font>>"}
     if place in balance.site.list.spots:
@@ -86,7 +89,7 @@ def _stream(balance: Balance, k: int, spot: Optional[Tuple[float, float]]) -> st
         ends.append(f"o{k}{end}")
     colour, style, width = _look(balance, k)
     look = {
-        "label": _label(balance, k, colour), "color": colour, "style": style, "penwidth": f"{width:.1f}", "id": f"stream-{k}",
+        "label": "" if balance.site.list.spots else _table(_label(balance, k)), "color": colour, "style": style, "penwidth": f"{width:.1f}", "id": f"stream-{k}",
         "tooltip": f"{pipe.title}: {balance.site.place(pipe.source)} to {balance.site.place(pipe.target)}",
     }
     return "\n".join([*lines, f"{ends[0]} -> {ends[1]} {_attributes(**look)}"])
@@ -100,7 +103,7 @@ def _look(balance: Balance, k: int) -> Tuple[str, str, float]:
         return WORST if crossing else GREY, "solid" if stream.metered else "dashed", 2.4 if crossing else 1.2
     line = balance.lines[k]
     greatest = max((abs(other.flow or 0) for other in balance.lines), default=0) or 1
-    width = 1.1 + 3.4 * math.sqrt(abs(line.flow or 0) / greatest)
+    width = BLANK if line.flow is None else 1.1 + 3.4 * math.sqrt(abs(line.flow) / greatest)
     return mark(balance, k)[0] or COLOURS[line.kind], STYLES[line.kind], width
 
 
@@ -111,19 +114,24 @@ def mark(balance: Balance, k: int) -> Tuple[str, str]:
     return (NOTABLE, "▲") if balance.lines[k].notable else ("", "")
 
 
-def _label(balance: Balance, k: int, colour: str) -> str:
-    """Number of the stream, large flow; name, reading and correction small; a blank left of it all."""
+def _label(balance: Balance, k: int) -> Label:
+    """Number of the stream, large flow; name, reading and correction small."""
     pipe = balance.site.list.pipes[k]
     big, small = _range_words(balance, k) if balance.refused else _words(balance, k)
-    large = f'<b><font point-size="13" color="{colour}">{escape(big)}</font></b>' if big else ""
-    rows = [f'<font color="#666666">{escape(pipe.label)} </font>{large}']
-    rows += [f'<font point-size="9" color="#555555">{escape(text)}</font>' for text in (_broken(pipe.what) + small) if text]
+    name = _broken(pipe.what, 22 if balance.site.list.spots else 36)
+    return Label(pipe.label, big, tuple(text for text in name + small if text), _look(balance, k)[0])
+
+
+def _table(label: Label) -> str:
+    """A label for graphviz, with a blank left of it all."""
+    large = f'<b><font point-size="13" color="{label.colour}">{escape(label.large)}</font></b>' if label.large else ""
+    rows = [f'<font color="#666666">{escape(label.number)} </font>{large}']
+    rows += [f'<font point-size="9" color="#555555">{escape(text)}</font>' for text in label.small]
     cells = "".join(f"<tr><td>&#8195;</td><td>{row}</td></tr>" for row in rows)
-    ground = ' bgcolor="#ffffffb0"' if balance.site.list.spots else ""  # there lines and labels may cross
-    return f'<<table border="0" cellspacing="0" cellpadding="0"{ground}>{cells}</table>>'
+    return f'<<table border="0" cellspacing="0" cellpadding="0">{cells}</table>>'
 
 
-def _broken(text: str, width: int = 36) -> List[str]:
+def _broken(text: str, width: int) -> List[str]:
     """A name in lines of bearable and about equal length."""
     count = -(-len(text) // width) or 1
     return textwrap.wrap(text, max(12, len(text) // count + 6)) or [""]
@@ -157,17 +165,6 @@ def _range_words(balance: Balance, k: int) -> Tuple[str, List[str]]:
         return "", read or ["no meter"]
     end = stream.low if within else stream.high
     return f"{'≥' if within else '≤'} {site.shown(site.kg(end or 0))}", [("in, at least" if within else "out, at most"), *read]
-
-
-def _drawn(source: str, fixed: bool) -> str:
-    command = ["neato", "-n1", "-Tsvg"] if fixed else ["dot", "-Tsvg"]
-    try:
-        done = subprocess.run(command, input=source, capture_output=True, text=True, check=True, timeout=120)
-    except FileNotFoundError:
-        raise Stopped("no drawing: graphviz is not installed (Debian: apt-get install graphviz)") from None
-    except (subprocess.CalledProcessError, subprocess.TimeoutExpired) as error:
-        raise Stopped(f"no drawing: graphviz could not lay it out ({error})") from None
-    return done.stdout
 
 
 def _finished(svg: str, balance: Balance) -> str:

@@ -8,37 +8,60 @@ from typing import List, Tuple
 import wengeludo_balance as engine
 
 from .faults import Fault, Faulty, Stopped
+from .graph import chain, unmetered
 from .lists import Pipe
 from .site import Site
 
 
+DEAREST = 1_000_000  # the greatest price that the engine takes
+
+
 @dataclass(frozen=True)
 class Purchase:
-    """The meters to buy, their price, and the streams whose price the list does not say."""
+    """The meters to buy; of the streams whose meter could end a blank, those whose price the list says, and the others."""
 
     pipes: Tuple[Pipe, ...]
-    price: int
+    priced: Tuple[Pipe, ...]
     unpriced: Tuple[Pipe, ...]
 
     @property
-    def priced(self) -> bool:
-        return not self.unpriced
+    def price(self) -> int:
+        """What the meters cost whose price is known."""
+        return sum(pipe.price or 0 for pipe in self.pipes)
 
 
 def cheapest(site: Site) -> Purchase:
-    """The cheapest meters that end every blank; where not all prices are known, all meters are taken as equally dear."""
-    bare = [pipe for pipe in site.list.pipes if pipe.reading is None]
-    unpriced = tuple(pipe for pipe in bare if pipe.price is None)
-    prices = [1 if unpriced else pipe.price or 1 for pipe in bare]
-    bought = engine.meters_to_buy(site.file, prices)
-    return Purchase(tuple(site.list.pipes[k - 1] for k in bought.streams), bought.price, unpriced)
+    """The cheapest meters that end every blank. A price that the list does not say is taken as the greatest, so that the prices that it
+    does say decide."""
+    pipes, streams = site.list.pipes, site.plant.streams
+    bare = unmetered(streams)
+    blank = [k for k in bare if chain(streams, (j for j in bare if j != k), streams[k].target, streams[k].source) is not None]
+    bought = engine.meters_to_buy(site.file, [pipes[k].price or DEAREST for k in bare])
+    sides = [tuple(pipes[k] for k in blank if (pipes[k].price is not None) == said) for said in (True, False)]
+    return Purchase(tuple(pipes[k - 1] for k in bought.streams), sides[0], sides[1])
 
 
 def words(purchase: Purchase) -> str:
     """The meters, and what they cost."""
     names = ", ".join(pipe.title for pipe in purchase.pipes)
-    price = f"price {purchase.price:,}" if purchase.priced else "all meters taken as equally dear"
-    return f"{names} ({price})"
+    if not purchase.priced:
+        return f"{names} (the list has no prices)"
+    labels = ", ".join(pipe.label for pipe in purchase.unpriced)
+    return f"{names} (price {purchase.price:,}{f', without a price in the list for {labels}' if labels else ''})"
+
+
+def account(purchase: Purchase) -> List[str]:
+    """What they cost together, and how far that is the least."""
+    if not purchase.unpriced:
+        return [f"Together {purchase.price:,}; no set of meters does it for less."]
+    if not purchase.priced:
+        return ["No smaller number of meters does it. The list has no prices: of equally many meters those with the lowest streams are told."]
+    left = ", ".join(pipe.title for pipe in purchase.pipes if pipe.price is None)
+    missing = ", ".join(pipe.title for pipe in purchase.unpriced)
+    return [
+        f"Together {purchase.price:,}" + (f", and what the meter of {left} costs." if left else "."),
+        f"No price in the list for: {missing}. They were taken as dearer than any other; with their prices another set may cost less.",
+    ]
 
 
 def layouts(site: Site) -> List[Tuple[int, int]]:

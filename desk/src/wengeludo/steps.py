@@ -78,7 +78,7 @@ def _overfull(balance: Balance) -> List[str]:
     for k, way in sorted(across(streams, balance.marked), key=lambda one: -one[1]):
         end = streams[k].low if way > 0 else streams[k].high
         ends.append(f"{site.list.pipes[k].title} (at {'least' if way > 0 else 'most'} {site.shown(site.kg(end or 0))})")
-    return [f"Look again at these ranges, one of them is wrong: {', '.join(ends)}.", overfull(balance)[-1]]
+    return [f"Look again at these ranges, at least one of them is wrong: {', '.join(ends)}.", overfull(balance)[-1]]
 
 
 def _clamps(balance: Balance) -> List[str]:

@@ -131,7 +131,7 @@ def _entry(balance: Balance, k: int) -> Dict[str, Any]:
     site, pipe = balance.site, balance.site.list.pipes[k]
     entry: Dict[str, Any] = {
         "stream": pipe.label, "what": pipe.what, "from": site.place(pipe.source), "to": site.place(pipe.target), "reading": pipe.reading,
-        "accuracy": pipe.stated or None,
+        "accuracy": pipe.stated or None, "low": pipe.low, "high": pipe.high,
     }
     if balance.lines:
         line = balance.lines[k]

@@ -72,13 +72,8 @@ extern "C" {
         count: *mut usize,
         price: *mut u32,
     ) -> u8;
-    fn wengeludo_layouts_of(
-        file: *const u8,
-        file_length: usize,
-        counts: *mut u16,
-        counts_length: usize,
-        count: *mut usize,
-    ) -> u8;
+    fn wengeludo_layouts_of(file: *const u8, file_length: usize, counts: *mut u16, counts_length: usize, count: *mut usize)
+        -> u8;
     fn wengeludo_visits(
         file: *const u8,
         file_length: usize,

@@ -2,8 +2,8 @@
 //! builds such an archive and runs this test with it.
 
 use wengeludo_balance::{
-    charges, check, from_ranged, layouts, meters_to_buy, plant_from_transmitter, to_ranged, visits, Certificate, Offices, Plant, Refusal,
-    Sheet, SHEET_SIZE,
+    charges, check, from_ranged, layouts, meters_to_buy, plant_from_transmitter, to_ranged, visits, Certificate, Offices, Plant,
+    Refusal, Sheet, SHEET_SIZE,
 };
 
 #[test]

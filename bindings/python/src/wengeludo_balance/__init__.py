@@ -10,6 +10,7 @@ total 1 50 1 pass
 Every call is one of the proved archive; `Refusal` is the one exception. The calls keep no state and may run in several threads.
 """
 
+from ._version import version
 from .meters import Bill, Purchase, Visit, charges, layouts_of, meters_to_buy, visits
 from .plant import (
     FILE_SIZE,
@@ -46,5 +47,5 @@ __all__ = [
     "Bill", "Drawn", "FILE_SIZE", "Kind", "MAX_STREAMS", "NO_SHEETS", "OFFICES", "Plant", "Purchase", "Record", "Refusal",
     "SHEET_SIZE", "Sheet", "Signal", "Stream", "TEXTS", "Verdict", "Visit", "WIDEST", "balance", "balance_plant", "charges",
     "check_sheet", "from_ranged", "layouts_of", "meters_to_buy", "place_numbers", "plant_from_transmitter", "read_plant",
-    "read_sheet", "to_ranged", "transmitter_file", "visits", "write_plant",
+    "read_sheet", "to_ranged", "transmitter_file", "version", "visits", "write_plant",
 ]

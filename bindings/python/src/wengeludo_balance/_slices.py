@@ -4,6 +4,7 @@ from __future__ import annotations
 
 from typing import Any, Iterable, Tuple
 
+from . import _version  # noqa: F401  an archive that the header does not fit is refused before any call
 from ._native import ffi, lib
 from .refusal import Refusal
 

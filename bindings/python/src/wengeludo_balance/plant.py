@@ -17,7 +17,7 @@ _SITE, _METERED, _UNMETERED, _END, _RANGED = 0x01, 0x02, 0x03, 0x04, 0x06
 class Stream:
     """A stream from one place to another; place 0 is the outside.
 
-    Without a weight it is unmetered. `low` and `high`, both or neither, are the range of a metered stream.
+    Without a weight it is unmetered. `low` and `high`, both or neither, are the range of a metered stream; ValueError else.
     """
 
     source: int
@@ -26,6 +26,10 @@ class Stream:
     reading: int = 0
     low: Optional[int] = None
     high: Optional[int] = None
+
+    def __post_init__(self) -> None:
+        if (self.low is None) != (self.high is None) or (self.weight is None and self.low is not None):
+            raise ValueError("a range is low and high, both or neither, of a stream with a weight")
 
     @property
     def metered(self) -> bool:

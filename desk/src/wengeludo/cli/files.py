@@ -1,0 +1,49 @@
+"""Commands over files: pack, unpack."""
+
+from __future__ import annotations
+
+from fractions import Fraction
+from pathlib import Path
+from typing import Optional
+
+import click
+
+from .. import outputs, packing, terminal
+from ..batch import site_in
+from ..faults import Stopped
+from ..lists import MOST_UNITS
+from .options import FILE, LIST, UNIT, UnitType
+
+
+@click.command()
+@LIST
+@click.argument("plant", type=FILE)
+@click.option("--transmitter", is_flag=True, help="Write a transmitter file, with readings and deviations as floats.")
+@click.option("--units", type=click.IntRange(1, MOST_UNITS), help="How many units the plant has, where the last have no stream.")
+@UNIT
+def pack(list: Path, plant: Path, transmitter: bool, units: Optional[int], unit: Optional[Fraction]) -> int:
+    """Writes the PLANT file of LIST."""
+    site = site_in(list, unit)
+    site = packing.with_units(site, units) if units else site
+    data = packing.transmitter(site) if transmitter else site.file
+    outputs.write(outputs.other(plant, list), data)
+    places = ", ".join(f"{k} {name}" for k, name in enumerate(site.list.places))
+    terminal.lines([f"{plant}: {len(data)} bytes, flows in units of {float(site.unit):g} kg/h; places: {places}"])
+    return 0
+
+
+@click.command()
+@click.argument("plant", type=FILE)
+@LIST
+@click.option("--unit", type=UnitType(), default="1", show_default=True, help="The unit of the plant file's flows in kg/h, as `pack` told it.")
+def unpack(plant: Path, list: Path, unit: Fraction) -> int:
+    """Writes the LIST (CSV or XLSX) of a PLANT file or a transmitter file."""
+    pipes = packing.unpacked(plant, unit)
+    if not pipes.pipes:
+        raise Stopped(f"{plant}: the plant has no stream, so there is nothing to list")
+    outputs.write(outputs.other(list, plant), packing.written(pipes, list))
+    units, idle = len(pipes.places) - 1, packing.idle(pipes)
+    terminal.lines([f"{list}: {len(pipes.pipes)} streams, {units - len(idle)} units, its flows taken as units of {float(unit):g} kg/h"])
+    if idle:
+        terminal.lines([f"Left out, as no stream runs from or to them: {', '.join(idle)}. `pack --units {units}` writes them again."])
+    return 0

@@ -1,0 +1,73 @@
+"""Commands over one sheet: sheet, why, suspects."""
+
+from __future__ import annotations
+
+from fractions import Fraction
+from pathlib import Path
+from typing import Optional, Sequence
+
+import click
+
+from wengeludo_balance import Verdict
+
+from .. import outputs, suspects, terminal
+from ..sheet import VERDICT
+from ..why import overfull, why
+from .options import FAILED, LIST, OFFICE, OUTPUT, REFUSED, UNIT, drawn_of, sheet_of
+
+
+@click.command()
+@LIST
+@OUTPUT
+@UNIT
+@OFFICE
+@click.option("--last", type=click.IntRange(0, 2**32 - 1), default=0, help="The office's last sheet number; `keep` counts by itself.")
+def sheet(list: Path, outputs_: Sequence[Path], unit: Optional[Fraction], office: int, last: int) -> int:
+    """The sheet of LIST: flows, corrections, verdict, and what to do next."""
+    paths = [outputs.checked(path, list) for path in outputs_]
+    drawn = drawn_of(list, unit, office, last)
+    terminal.show(drawn)
+    outputs.write_all(drawn, paths)
+    if drawn.refused:
+        return REFUSED
+    return FAILED if drawn.total.verdict is Verdict.FAIL else 0
+
+
+@click.command("why")
+@LIST
+@click.argument("stream", required=False)
+@UNIT
+def why_(list: Path, stream: Optional[str], unit: Optional[Fraction]) -> int:
+    """Why STREAM of LIST has its number, or none; where there is no sheet, why there is none."""
+    drawn = drawn_of(list, unit)
+    if drawn.refused:
+        terminal.lines(overfull(drawn))
+        return REFUSED
+    if stream is None:
+        raise click.UsageError("a sheet can be drawn: name a stream")
+    terminal.lines(why(drawn, drawn.site.list.find(stream)))
+    return 0
+
+
+@click.command("suspects")
+@LIST
+@UNIT
+def suspects_(list: Path, unit: Optional[Fraction]) -> int:
+    """The meters worth a visit: the cost without each, and what its pipe would then carry."""
+    drawn = sheet_of(list, unit)
+    site, listed = drawn.site, suspects.suspects(drawn)
+    if not listed:
+        terminal.lines(["No meter is checked by another, so none can be suspected."])
+        return 0
+    terminal.lines([f"The sheet costs {drawn.cost:,.1f}: {VERDICT[drawn.total.verdict]}.", ""])
+    likely = {s.index for s in suspects.likeliest(drawn, listed) if not s.why_not} if drawn.total.verdict is Verdict.FAIL else set()
+    rows = []
+    for s in listed:
+        pipe = site.list.pipes[s.index]
+        off = site.shown((pipe.reading or 0) - s.flow, "+")
+        remark = s.why_not or ("visit this one" if s.index in likely else "")
+        cells = (pipe.label, pipe.what, f"{s.cost:,.1f}", s.verdict.name.lower(), site.shown(pipe.reading or 0), site.shown(s.flow), off, remark)
+        rows.append((cells, "bold" if s.index in likely else ""))
+    heads = ("stream", "what", "cost without it", "verdict then", "reads", "would carry", "off by", "")
+    terminal.table(heads, rows, ("cost without it", "reads", "would carry", "off by"))
+    return 0
