@@ -1,8 +1,7 @@
 //! A search for bad plants: changes are kept where what is sought of the plain engine's work does not fall.
 
 use crate::draws::Draws;
-use crate::engine::Work;
-use crate::measure;
+use crate::engine::{work_on, Work};
 use crate::plants::{draw, two_places, Kind, Plant, Stream, MAX_RANGE, MAX_READING, MAX_STREAMS, MAX_UNITS, MAX_WEIGHT};
 use std::time::{Duration, Instant};
 
@@ -96,7 +95,7 @@ fn change(draws: &mut Draws, plant: &mut Plant, ranges: bool) {
 fn start(aim: Aim, kind: Kind, first_seed: u64) -> (Plant, Work) {
     (first_seed..first_seed + DRAWN)
         .map(|seed| draw(kind, MAX_UNITS, MAX_STREAMS, seed))
-        .map(|plant| (measure::work(&plant.file()), plant))
+        .map(|plant| (work_on(&plant.file()), plant))
         .max_by_key(|(work, _)| (aim.of)(work))
         .map(|(work, plant)| (plant, work))
         .expect("some plant is drawn")
@@ -127,7 +126,7 @@ fn climb_from(aim: Aim, from: (Plant, Work), seed: u64, seconds: f64, tried: &mu
         for _ in 0..=draws.below(3) {
             change(&mut draws, &mut next, aim.ranges);
         }
-        let found = measure::work(&next.file());
+        let found = work_on(&next.file());
         *tried += 1;
         if (aim.of)(&found) >= (aim.of)(&work) {
             (plant, work) = (next, found);

@@ -112,6 +112,15 @@ fn balance_from<W: Watch>(bytes: &[u8], back: Back, hint: HintInto, watch: &mut 
     0
 }
 
+/// What a sheet call of a file takes, and the number that it returns.
+pub fn work_on(file: &[u8]) -> Work {
+    let (mut lasts, mut out, mut written, mut marked) = ([0; OFFICES], [0; sheet::LEAST_SLICE], 0, 0);
+    let mut work = Work::new();
+    let back = Back { office: 0, lasts: &mut lasts, out: &mut out, written: &mut written, marked: &mut marked };
+    work.returned = balance_plant(file, back, &mut work);
+    work
+}
+
 #[cfg(test)]
 mod tests {
     use super::*;
