@@ -9,6 +9,7 @@
 #     bash host/bench/run.sh --record [...]                the same, and puts the tables into docs/SPEED.md, the plot beside it, and
 #                                                          the worst plants into host/bench
 set -euo pipefail
+start=$PWD
 cd "$(dirname "$0")/../.."
 words=
 record=
@@ -23,7 +24,7 @@ object() { # name, archive or shared object: prints the shared object, made from
         realpath "$2"
     else
         "${CC:-cc}" -shared -nostartfiles -Wl,--version-script,host/install/wengeludo.map -Wl,-z,defs -Wl,-z,now \
-            -Wl,--whole-archive "$2" -Wl,--no-whole-archive -o "$out/$1.so"
+            -Wl,--whole-archive "$2" -Wl,--no-whole-archive -o "$out/$1.so" || exit 2
         realpath "$out/$1.so"
     fi
 }
@@ -33,13 +34,24 @@ need "${CC:-cc}" "a C compiler (Debian: apt-get install gcc libc6-dev)"
 mkdir -p "$out"
 while [ $# -gt 0 ]; do
     case "$1" in
-    --record) record=yes && words+=' --record' && shift ;;
-    --before) [ $# -gt 1 ] || usage; before=$(object before "$2") && options+=(--before "$before") && words+=' --before LIBRARY' && shift 2 ;;
+    --record)
+        record=yes
+        words+=' --record'
+        shift
+        ;;
+    --before)
+        [ $# -gt 1 ] || usage
+        before=$(object before "$(cd "$start" && realpath "$2")")
+        options+=(--before "$before")
+        words+=' --before LIBRARY'
+        shift 2
+        ;;
     -*) usage ;;
     *) break ;;
     esac
 done
 [ $# -le 3 ] || usage
+for word in "$@"; do [[ $word =~ ^[0-9]+$ ]] || usage; done
 words+=${*:+ $*}
 if [ ! -e target/staticlib/liblinked.a ]; then
     echo "no target/staticlib/liblinked.a: building it with 'rt staticlib linked'" >&2

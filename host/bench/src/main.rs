@@ -10,6 +10,7 @@
 //!          most_improvements.bin) are written
 
 use std::process::exit;
+use wengeludo_bench::climb::AIMS;
 use wengeludo_bench::contestants::Contestant;
 use wengeludo_bench::load;
 use wengeludo_bench::plot;
@@ -61,10 +62,7 @@ fn tables(race: &Race, seconds: f64, folder: &str) -> Result<(), String> {
     report::work(race.count, race.rounds);
     let found = report::worst(race, seconds);
     save(folder, "speed.svg", plot::svg(&growth).as_bytes())?;
-    for (name, plant) in ["worst.bin", "worst_ranges.bin", "most_improvements.bin"].iter().zip(&found) {
-        save(folder, name, &plant.file())?;
-    }
-    Ok(())
+    AIMS.iter().zip(&found).try_for_each(|(aim, plant)| save(folder, aim.file, &plant.file()))
 }
 
 fn save(folder: &str, name: &str, bytes: &[u8]) -> Result<(), String> {

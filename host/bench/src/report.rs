@@ -93,9 +93,9 @@ pub fn sizes(race: &Race) {
     let rows = race.run(Kind::ALL.into_iter().flat_map(|kind| SIZES.map(|size| group(kind, size))).collect());
     let first = "plants | units | streams";
     println!("Microseconds in sequence, medians of {} plants of each kind and size over {} rounds.\n", race.count, race.rounds);
-    head(&format!("{first} | library, one plant repeated"), race.names(), str::to_string);
+    head(first, race.names().chain(["library, one plant repeated"]), str::to_string);
     for row in &rows {
-        println!("| {} | {} | {} |", row.head, short(row.repeated), cells(&row.times, "–", |times| short(of(times).median)));
+        println!("| {} | {} | {} |", row.head, cells(&row.times, "–", |times| short(of(times).median)), short(row.repeated));
     }
     println!("\nThe same plants: 99th percentile and worst.\n");
     head(first, race.names(), |name| format!("{name}: 99th | worst"));

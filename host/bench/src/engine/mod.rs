@@ -15,7 +15,7 @@ mod watch;
 
 pub use watch::{Phase, Unwatched, Watch, Work};
 
-use crate::plants::{Stream, MAX_STREAMS};
+use crate::plants::{Plant, Stream, MAX_STREAMS};
 use incidence::Incidence;
 use sheet::Drawer;
 use state::State;
@@ -110,6 +110,12 @@ fn balance_from<W: Watch>(bytes: &[u8], back: Back, hint: HintInto, watch: &mut 
     *last += 1;
     *written = sheet::put(&site, &state.flows, Drawer { office, number: *last }, out, watch);
     0
+}
+
+/// The plant that a file lists.
+pub fn plant_of(file: &[u8]) -> Option<Plant> {
+    let site = file::read(file).ok()?;
+    Some(Plant { units: site.units, streams: site.streams().to_vec() })
 }
 
 /// What a sheet call of a file takes, and the number that it returns.
