@@ -17,8 +17,8 @@ peer() { # name, source, header, package, more options
         echo "peers: no $1 beside the others (Debian: apt-get install g++ $4)" >&2
         return
     fi
-    # What is made from older sources is made again; otherwise it stays.
-    if [ ! -e "$object" ] || [ "$here/$2.cpp" -nt "$object" ] || [ "$here/peer.h" -nt "$object" ] || [ "$here/build.sh" -nt "$object" ]; then
+    # It is made again where something that it is made from is newer.
+    if [ -n "$(find "$here/$2.cpp" "$here/peer.h" "$here/build.sh" -newer "$object" 2>/dev/null)" ] || [ ! -e "$object" ]; then
         "$cxx" -std=c++17 -O3 -DNDEBUG -Wall -Wextra -pedantic "${@:5}" -shared -fPIC -Wl,-z,defs "$here/$2.cpp" -o "$object"
     fi
     echo "$1=$object"

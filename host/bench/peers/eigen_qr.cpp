@@ -1,7 +1,8 @@
 // Eigen's QR as a peer: data reconciliation in real numbers, as textbooks have it.
 //
-// Does: reads the file; QR of the unmetered columns of the balance matrix; the balances left without them, whose columns tell A from R;
-// the least weighted squares by a QR of these balances; the unmetered flows by substitution; G from W by the rows of what is left free.
+// Does: reads the file; QR of the unmetered columns of the balance matrix; the balances left without them, whose columns tell A
+// from R; the least weighted squares by a QR of these balances; the unmetered flows by substitution; G from W by the rows of what
+// is left free.
 // Does not: ranges, whole numbers, the tie rule, the cost, the test, the sheet. Its flows are fractions.
 #include <Eigen/Dense>
 
@@ -50,7 +51,8 @@ Vector reconciled(const Balances &balances, const Vector &readings, const Vector
 
 // Flows and classes of the unmetered streams: what the metered ones leave at the rows of the rank, by substitution. A stream that
 // depends on one outside the rank is withheld, and so are those.
-void deduce(const Eigen::ColPivHouseholderQR<Balances> &qr, const Columns &unmetered, const Vector &left, std::uint8_t *kinds, double *flows) {
+void deduce(const Eigen::ColPivHouseholderQR<Balances> &qr, const Columns &unmetered, const Vector &left, std::uint8_t *kinds,
+            double *flows) {
     const auto rank = qr.rank(), free = unmetered.count - rank;
     const auto triangle = qr.matrixQR().topLeftCorner(rank, rank).triangularView<Eigen::Upper>();
     const Vector values = triangle.solve(-left.head(rank));

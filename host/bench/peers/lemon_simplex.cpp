@@ -1,10 +1,10 @@
 // LEMON's network simplex as a peer: the cheapest balanced flow in whole numbers, its cost taken piece by piece.
 //
-// Does: reads the file; the real-number optimum of the plant without its ranges, for a start (a few lines of our own, LEMON has none);
-// a flow of least cost in whole numbers, within the ranges, or that there is none; exact, since the last round has pieces of one kg/h
-// about its flow and none of them is used up.
-// Does not: the tie rule (of several flows of least cost it gives any), classes and blanks (every unmetered stream gets some flow), the
-// test, the sheet.
+// Does: reads the file; the real-number optimum of the plant without its ranges, for a start (a few lines of our own, LEMON has
+// none); a flow of least cost in whole numbers, within the ranges, or that there is none; exact, since the last round has pieces of
+// one kg/h about its flow and none of them is used up.
+// Does not: the tie rule (of several flows of least cost it gives any), classes and blanks (every unmetered stream gets some flow),
+// the test, the sheet, which places are overfull.
 #include <lemon/network_simplex.h>
 #include <lemon/smart_graph.h>
 
@@ -101,7 +101,8 @@ struct Network {
     SmartDigraph::NodeMap<std::int64_t> supply;
     int stream[peer::MAX_STREAMS * (2 * PIECES + 2)], sign[peer::MAX_STREAMS * (2 * PIECES + 2)];
 
-    Network(const peer::Plant &plant, const std::int64_t *flows, std::int64_t width) : plant(plant), room(graph), price(graph), supply(graph, 0) {
+    Network(const peer::Plant &plant, const std::int64_t *flows, std::int64_t width)
+        : plant(plant), room(graph), price(graph), supply(graph, 0) {
         graph.reserveNode(plant.units + 1);
         graph.reserveArc(plant.count * (2 * PIECES + 2));
         for (int u = 0; u <= plant.units; u++) supply[graph.addNode()] = 0;
@@ -129,8 +130,8 @@ struct Network {
     }
 
     void add(int i, int up, std::int64_t wide, std::int64_t by_kg) {
-        const int from = up > 0 ? plant.streams[i].from : plant.streams[i].to, to = up > 0 ? plant.streams[i].to : plant.streams[i].from;
-        const SmartDigraph::Arc arc = graph.addArc(node(from), node(to));
+        const SmartDigraph::Node from = node(plant.streams[i].from), to = node(plant.streams[i].to);
+        const SmartDigraph::Arc arc = up > 0 ? graph.addArc(from, to) : graph.addArc(to, from);
         room[arc] = wide;
         price[arc] = by_kg;
         stream[graph.id(arc)] = i;
@@ -141,7 +142,10 @@ struct Network {
     bool improve(std::int64_t *flows) const {
         Simplex simplex(graph);
         if (simplex.upperMap(room).costMap(price).supplyMap(supply).run() != Simplex::OPTIMAL) return false;
-        for (SmartDigraph::ArcIt arc(graph); arc != lemon::INVALID; ++arc) flows[stream[graph.id(arc)]] += sign[graph.id(arc)] * simplex.flow(arc);
+        for (SmartDigraph::ArcIt arc(graph); arc != lemon::INVALID; ++arc) {
+            const int k = graph.id(arc);
+            flows[stream[k]] += sign[k] * simplex.flow(arc);
+        }
         return true;
     }
 };

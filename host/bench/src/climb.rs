@@ -1,5 +1,5 @@
-//! A search for bad plants: changes are kept where what is sought of the plain engine's work does not fall. It goes on from the plant that
-//! was recorded, and from drawn ones.
+//! A search for bad plants: changes are kept where what is sought of the plain engine's work does not fall. It goes on from the
+//! plant that was recorded, and from drawn ones.
 
 use crate::draws::Draws;
 use crate::engine::{plant_of, work_on, Work};
@@ -13,8 +13,8 @@ const STARTS: u32 = 6;
 /// Drawn plants among which a start is the worst.
 const DRAWN: u64 = 30;
 
-/// What is sought: among which kinds of plants, with ranges or without, what of their work should be great, and which file of host/bench
-/// has the worst plant recorded.
+/// What is sought: among which kinds of plants, with ranges or without, what of their work should be great, and which file of
+/// host/bench has the worst plant recorded.
 #[derive(Clone, Copy)]
 pub struct Aim {
     pub name: &'static str,

@@ -1,6 +1,6 @@
 //! The tables, in Markdown.
 
-use crate::climb::{climb, Worst, AIMS};
+use crate::climb::{climb, Aim, Worst, AIMS};
 use crate::contestants::{Case, Contestant};
 use crate::engine::{work_on, Phase, Work};
 use crate::plants::{draw, Kind, Plant};
@@ -84,6 +84,11 @@ fn head(first: &str, names: impl Iterator<Item = impl AsRef<str>>, cells: fn(&st
     println!("{line}\n|{}", "---|".repeat(line.matches(" | ").count() + 1));
 }
 
+/// A table's rows.
+fn body(rows: &[Row], cells: impl Fn(&Row) -> String) {
+    rows.iter().for_each(|row| println!("| {} | {} |", row.head, cells(row)));
+}
+
 /// Times and ratios of all kinds and sizes.
 pub fn sizes(race: &Race) {
     let group = |kind: Kind, (units, streams): (usize, usize)| {
@@ -94,20 +99,15 @@ pub fn sizes(race: &Race) {
     let first = "plants | units | streams";
     println!("Microseconds in sequence, medians of {} plants of each kind and size over {} rounds.\n", race.count, race.rounds);
     head(first, race.names().chain(["library, one plant repeated"]), str::to_string);
-    for row in &rows {
-        println!("| {} | {} | {} |", row.head, cells(&row.times, "–", |times| short(of(times).median)), short(row.repeated));
-    }
+    let medians = |row: &Row| cells(&row.times, "–", |times| short(of(times).median));
+    body(&rows, |row| format!("{} | {}", medians(row), short(row.repeated)));
     println!("\nThe same plants: 99th percentile and worst.\n");
     head(first, race.names(), |name| format!("{name}: 99th | worst"));
-    for row in &rows {
-        let tail = |s: Summary| format!("{} | {}", short(s.high), short(s.worst));
-        println!("| {} | {} |", row.head, cells(&row.times, "– | –", |times| tail(of(times))));
-    }
+    let tail = |s: Summary| format!("{} | {}", short(s.high), short(s.worst));
+    body(&rows, |row| cells(&row.times, "– | –", |times| tail(of(times))));
     println!("\nThe library's time over that of each other, plant by plant: the median and the worst.\n");
     head(first, race.names().skip(1), |name| format!("library / {name} | worst"));
-    for row in &rows {
-        println!("| {} | {} |", row.head, cells(&row.times[1..], "– | –", |times| ratios(&row.times[0], times)));
-    }
+    body(&rows, |row| cells(&row.times[1..], "– | –", |times| ratios(&row.times[0], times)));
 }
 
 /// The library's times over another's, plant by plant.
@@ -178,10 +178,8 @@ pub fn growth(race: &Race) -> Vec<Growth> {
     let sizes: Vec<usize> = (1..=16).map(|k| 6 * k).collect();
     let rows = race.run(sizes.iter().map(|&streams| group(streams)).collect());
     head("streams | units", race.names(), |name| format!("{name} | worst"));
-    for row in &rows {
-        let both = |s: Summary| format!("{} | {}", short(s.median), short(s.worst));
-        println!("| {} | {} |", row.head, cells(&row.times, "– | –", |times| both(of(times))));
-    }
+    let both = |s: Summary| format!("{} | {}", short(s.median), short(s.worst));
+    body(&rows, |row| cells(&row.times, "– | –", |times| both(of(times))));
     let points = |k: usize| sizes.iter().zip(&rows).filter_map(|(&n, row)| row.times[k].as_ref().map(|t| (n, of(t)))).collect();
     race.names().enumerate().map(|(k, name)| Growth { name: name.to_string(), points: points(k) }).collect()
 }
@@ -197,15 +195,17 @@ pub fn worst(race: &Race, seconds: f64) -> Vec<Plant> {
     let first = "sought | plants tried | looked at | moved | improvements | stuck | returned";
     head(first, race.names(), str::to_string);
     let climbed = AIMS.map(|aim| (aim, climb(aim, seconds)));
-    let group = |worst: &Worst| {
+    let group = |(aim, worst): &(Aim, Worst)| {
         let between = plants(Kind::Extremes, units, streams, BETWEEN);
-        (String::new(), std::iter::once(worst.plant.clone()).chain(between).map(Case::new).collect())
+        (found(aim, worst), std::iter::once(worst.plant.clone()).chain(between).map(Case::new).collect())
     };
-    let rows = race.run(climbed.iter().map(|(_, worst)| group(worst)).collect());
-    for ((aim, Worst { work, tried, .. }), row) in climbed.iter().zip(&rows) {
-        let work = [work.visits, work.pushes, work.improvements, work.stuck, work.returned.into()];
-        let work = work.map(|n| n.to_string()).join(" | ");
-        println!("| {} | {tried} | {work} | {} |", aim.name, cells(&row.times, "–", |times| short(times[0])));
-    }
+    let rows = race.run(climbed.iter().map(group).collect());
+    body(&rows, |row| cells(&row.times, "–", |times| short(times[0])));
     climbed.into_iter().map(|(_, worst)| worst.plant).collect()
+}
+
+/// The first cells of the row of a worst plant.
+fn found(aim: &Aim, Worst { work, tried, .. }: &Worst) -> String {
+    let work = [*tried, work.visits, work.pushes, work.improvements, work.stuck, work.returned.into()];
+    format!("{} | {}", aim.name, work.map(|n| n.to_string()).join(" | "))
 }

@@ -43,8 +43,8 @@ fn medians(rounds: &[Vec<f64>]) -> Vec<f64> {
     (0..rounds[0].len()).map(|site| median(rounds.iter().map(|times| times[site]))).collect()
 }
 
-/// Groups of sites with so many calls in turns: each round goes over all groups, and in a group over all sites with one call, then with
-/// the next. The medians over the rounds, by the group, the call and the site.
+/// Groups of sites with so many calls in turns: each round goes over all groups, and in a group over all sites with one call, then
+/// with the next. The medians over the rounds, by the group, the call and the site.
 pub fn in_turns<T>(groups: &[Vec<T>], calls: usize, rounds: usize, call: impl Fn(usize, &T)) -> Vec<Vec<Vec<f64>>> {
     let mut times: Vec<Rounds> = groups.iter().map(|_| vec![Vec::new(); calls]).collect();
     for number in 0..rounds {
