@@ -2,7 +2,7 @@
 //!
 //!     checks [PLANTS [ROUNDS]]
 //!
-//! A plant's time is its median over the rounds. Before that each sheet must pass the check with its numbers.
+//! A plant's time is the lower quartile of its rounds. Before that each sheet must pass the check with its numbers.
 
 use std::hint::black_box;
 use wengeludo_balance::{raw, MAX_PLACES, OFFICES, SHEET_SIZE};

@@ -5,7 +5,7 @@ use crate::contestants::{Case, Contestant};
 use crate::engine::{work_on, Phase, Work};
 use crate::plants::{draw, Kind, Plant};
 use crate::sequence::in_turns;
-use crate::summary::{median, short, summary, Summary};
+use crate::summary::{median, quartile, short, summary, Summary};
 use std::time::Instant;
 
 /// Units and streams of the plants measured.
@@ -135,12 +135,12 @@ pub fn work(count: usize, rounds: usize) {
     }
 }
 
-/// The work on each file, each part's time being its median over the rounds.
+/// The work on each file, each part's time being the lower quartile of its rounds.
 fn works(files: &[Vec<u8>], rounds: usize) -> Vec<Work> {
     let all: Vec<Vec<Work>> = (0..rounds).map(|_| files.iter().map(|file| work_on(file)).collect()).collect();
     let mut last: Vec<Work> = all[rounds - 1].clone();
     for (k, work) in last.iter_mut().enumerate() {
-        work.phases = std::array::from_fn(|part| median(all.iter().map(|round| round[k].phases[part])));
+        work.phases = std::array::from_fn(|part| quartile(all.iter().map(|round| round[k].phases[part])));
     }
     last
 }

@@ -1,7 +1,7 @@
 //! Times in sequence: a site comes again when all the others were there, as it does in a program that balances many sites. A
 //! processor that meets one plant again and again learns its branches, and the times flatter.
 
-use crate::summary::median;
+use crate::summary::quartile;
 use std::time::Instant;
 
 /// So many of the last sites are called before a round without being timed, so that the first do not pay for what another call left
@@ -38,19 +38,19 @@ fn turns<T>(sites: &[T], times: &mut Rounds, number: usize, call: &impl Fn(usize
     }
 }
 
-/// The median of each site's times over the rounds.
-fn medians(rounds: &[Vec<f64>]) -> Vec<f64> {
-    (0..rounds[0].len()).map(|site| median(rounds.iter().map(|times| times[site]))).collect()
+/// The lower quartile of each site's times over the rounds.
+fn quartiles(rounds: &[Vec<f64>]) -> Vec<f64> {
+    (0..rounds[0].len()).map(|site| quartile(rounds.iter().map(|times| times[site]))).collect()
 }
 
 /// Groups of sites with so many calls in turns: each round goes over all groups, and in a group over all sites with one call, then
-/// with the next. The medians over the rounds, by the group, the call and the site.
+/// with the next. What each site takes, the lower quartile of its rounds, by the group, the call and the site.
 pub fn in_turns<T>(groups: &[Vec<T>], calls: usize, rounds: usize, call: impl Fn(usize, &T)) -> Vec<Vec<Vec<f64>>> {
     let mut times: Vec<Rounds> = groups.iter().map(|_| vec![Vec::new(); calls]).collect();
     for number in 0..rounds {
         groups.iter().zip(&mut times).for_each(|(sites, times)| turns(sites, times, number, &call));
     }
-    times.iter().map(|calls| calls.iter().map(|rounds| medians(rounds)).collect()).collect()
+    times.iter().map(|calls| calls.iter().map(|rounds| quartiles(rounds)).collect()).collect()
 }
 
 #[cfg(test)]
@@ -80,7 +80,8 @@ mod tests {
     }
 
     #[test]
-    fn a_disturbed_round_does_not_count() {
-        assert_eq!(medians(&[vec![1.0, 5.0], vec![90.0, 4.0], vec![2.0, 3.0]]), [2.0, 4.0]);
+    fn disturbed_and_lucky_rounds_do_not_count() {
+        let rounds = [vec![2.0, 5.0], vec![90.0, 4.0], vec![95.0, 1.0], vec![1.0, 4.0], vec![2.0, 5.0]];
+        assert_eq!(quartiles(&rounds), [2.0, 4.0]);
     }
 }
