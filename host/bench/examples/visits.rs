@@ -2,7 +2,8 @@
 //!
 //!     visits [PLANTS [ROUNDS]]
 //!
-//! A plant's time is the lower quartile of its rounds. Before that, each list is compared with the sheets of the plants with one meter less.
+//! A plant's time is the lower quartile of its rounds. Before that, each list is compared with the sheets of the plants with one
+//! meter less.
 
 use std::hint::black_box;
 use wengeludo_balance::{raw, visits, Visit, MAX_STREAMS, OFFICES, SHEET_SIZE};

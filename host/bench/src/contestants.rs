@@ -135,8 +135,8 @@ fn cost(streams: &[Stream], flow: impl Fn(usize) -> f64) -> f64 {
     metered.map(|(i, s)| s.weight as f64 * (flow(i) - s.reading as f64).powi(2)).sum()
 }
 
-/// A peer's answer beside the sheet: the same refusal; the same classes, where it tells them; in whole numbers the same cost, in real
-/// numbers a cost that is no higher, and lower by at most a quarter of the metered streams' weights.
+/// A peer's answer beside the sheet: the same refusal; the same classes, where it tells them; in whole numbers the same cost, in
+/// real numbers a cost that is no higher, and lower by at most a quarter of the metered streams' weights; a balanced flow.
 fn agrees(plant: &Plant, (number, kinds, flows): &Solved, sheet: &Sheet) -> bool {
     if *number != 0 || sheet.0 != 0 {
         return *number == NO_FLOW && sheet.0 == NO_FLOW;

@@ -1,4 +1,5 @@
-//! The benchmark of the sheet call: archives of the library beside the same algorithm in plain Rust, a real-number solve, and peers.
+//! The benchmark of the sheet call: archives of the library beside the same algorithm in plain Rust, a real-number solve and
+//! other libraries.
 
 pub mod climb;
 pub mod contestants;

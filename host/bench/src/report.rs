@@ -184,8 +184,8 @@ pub fn growth(race: &Race) -> Vec<Growth> {
     race.names().enumerate().map(|(k, name)| Growth { name: name.to_string(), points: points(k) }).collect()
 }
 
-/// The worst plants that climbing found, one for each aim, handed over; so many seconds for each. They are timed with drawn plants of
-/// their size between them.
+/// The worst plants that climbing found, one for each aim, handed over; so many seconds for each. They are timed with drawn plants
+/// of their size between them.
 pub fn worst(race: &Race, seconds: f64) -> Vec<Plant> {
     let (units, streams) = SIZES[2];
     println!(

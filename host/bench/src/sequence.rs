@@ -4,8 +4,8 @@
 use crate::summary::quartile;
 use std::time::Instant;
 
-/// So many of the last sites are called before a round without being timed, so that the first do not pay for what another call left
-/// in the caches.
+/// So many of the last sites are called before a round without being timed, so that the first do not pay for what another call
+/// left in the caches.
 const BEFORE: usize = 30;
 
 /// One round over sites with one call: the time of each, in microseconds.
@@ -22,8 +22,8 @@ fn round<T>(sites: &[T], call: impl Fn(&T)) -> Vec<f64> {
 /// A group's times: by the call, the round and the site.
 type Rounds = Vec<Vec<Vec<f64>>>;
 
-/// Which call comes at a turn of a round. From round to round another comes first, and in as many rounds as there are calls each comes
-/// after as many different ones as can be (a Latin square by the row 0, 1, -1, 2, -2 and so on).
+/// Which call comes at a turn of a round. From round to round another comes first, and in as many rounds as there are calls each
+/// comes after as many different ones as can be (a Latin square by the row 0, 1, -1, 2, -2 and so on).
 fn at_turn(turn: usize, round: usize, calls: usize) -> usize {
     let step = (turn + 1) / 2;
     (round + if turn % 2 == 1 { step } else { calls - step }) % calls

@@ -19,8 +19,8 @@ pub fn median(list: impl Iterator<Item = f64>) -> f64 {
     summary(list).median
 }
 
-/// The number that a quarter of a list lies below. Other work on the machine only lengthens a time, and the least time of several may be
-/// luck: this is what one thing takes that was timed several times.
+/// The number that a quarter of a list lies below. Other work on the machine only lengthens a time, and the least time of several
+/// may be luck: this is what one thing takes that was timed several times.
 pub fn quartile(list: impl Iterator<Item = f64>) -> f64 {
     let mut sorted: Vec<f64> = list.collect();
     sorted.sort_by(f64::total_cmp);
