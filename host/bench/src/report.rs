@@ -97,7 +97,7 @@ pub fn sizes(race: &Race) {
     };
     let rows = race.run(Kind::ALL.into_iter().flat_map(|kind| SIZES.map(|size| group(kind, size))).collect());
     let first = "plants | units | streams";
-    println!("Microseconds in sequence, medians of {} plants of each kind and size over {} rounds.\n", race.count, race.rounds);
+    println!("Microseconds in sequence, medians of {} plants of each kind and size, {} rounds.\n", race.count, race.rounds);
     head(first, race.names().chain(["library, one plant repeated"]), str::to_string);
     let medians = |row: &Row| cells(&row.times, "–", |times| short(of(times).median));
     body(&rows, |row| format!("{} | {}", medians(row), short(row.repeated)));
