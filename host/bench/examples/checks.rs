@@ -2,15 +2,16 @@
 //!
 //!     checks [PLANTS [ROUNDS]]
 //!
-//! A plant's time is its median over the rounds. Before that each sheet must pass the check with its numbers.
+//! A plant's time is the lower quartile of its rounds. Before that each sheet must pass the check with its numbers.
 
 use std::hint::black_box;
 use wengeludo_balance::{raw, MAX_PLACES, OFFICES, SHEET_SIZE};
-use wengeludo_bench::measure::{median, round, summary};
 use wengeludo_bench::plants::{draw, Kind, Plant};
+use wengeludo_bench::report::SIZES;
+use wengeludo_bench::sequence::in_turns;
+use wengeludo_bench::summary::{median, summary};
 
 const KINDS: [Kind; 5] = [Kind::Site, Kind::Extremes, Kind::Ties, Kind::Ranges, Kind::Pipes];
-const SIZES: [(usize, usize); 3] = [(5, 15), (12, 36), (32, 96)];
 const SMALL: [(usize, usize); 3] = [(1, 0), (1, 2), (2, 6)];
 
 /// A plant file, its sheet and its numbers.
@@ -54,21 +55,17 @@ fn number(site: &Site) {
     black_box(raw::place_numbers(black_box(&site.file), &mut numbers, &mut count));
 }
 
-/// The row of a kind and size.
-fn row(kind: Kind, (units, streams): (usize, usize), plants: usize, rounds: usize) -> String {
-    let sites: Vec<Site> = (0..).filter_map(|seed| site(draw(kind, units, streams, seed))).take(plants).collect();
-    let mut times: [Vec<Vec<f64>>; 3] = Default::default();
-    for _ in 0..rounds {
-        for (times, call) in times.iter_mut().zip([draw_sheet, check, number]) {
-            times.push(round(&sites, call));
-        }
-    }
-    let of = |call: usize, k: usize| median(times[call].iter().map(|round| round[k]));
-    let all = |call: usize| median((0..plants).map(|k| of(call, k)));
-    let by_plant = summary((0..plants).map(|k| of(1, k) / of(0, k)));
+/// The plants of a kind and size that have a sheet.
+fn sites(kind: Kind, (units, streams): (usize, usize), plants: usize) -> Vec<Site> {
+    (0..).filter_map(|seed| site(draw(kind, units, streams, seed))).take(plants).collect()
+}
+
+/// A row's cells, from the times by the call and the plant.
+fn cells(times: &[Vec<f64>]) -> String {
+    let all = |call: usize| median(times[call].iter().copied());
+    let by_plant = summary(times[1].iter().zip(&times[0]).map(|(check, sheet)| check / sheet));
     let cells = [all(0), all(1), all(2), all(1) / all(0), by_plant.median, by_plant.worst];
-    let cells: Vec<String> = cells.iter().map(|x| format!("{x:.2}")).collect();
-    format!("| {} | {units} | {streams} | {} |", kind.name(), cells.join(" | "))
+    cells.map(|x| format!("{x:.2}")).join(" | ")
 }
 
 fn main() {
@@ -81,7 +78,10 @@ fn main() {
     println!("| plants | units | streams | sheet call | check | numbers | check / sheet call | by plant | worst |");
     println!("|---|---|---|---|---|---|---|---|---|");
     let rows = KINDS.into_iter().flat_map(|kind| SIZES.map(|size| (kind, size)));
-    for (kind, size) in SMALL.map(|size| (Kind::Extremes, size)).into_iter().chain(rows) {
-        println!("{}", row(kind, size, plants, rounds));
+    let rows: Vec<_> = SMALL.map(|size| (Kind::Extremes, size)).into_iter().chain(rows).collect();
+    let groups: Vec<Vec<Site>> = rows.iter().map(|&(kind, size)| sites(kind, size, plants)).collect();
+    let times = in_turns(&groups, 3, rounds, |call, site| [draw_sheet, check, number][call](site));
+    for ((kind, (units, streams)), times) in rows.into_iter().zip(times) {
+        println!("| {} | {units} | {streams} | {} |", kind.name(), cells(&times));
     }
 }

@@ -2,15 +2,14 @@
 //!
 //!     visits [PLANTS [ROUNDS]]
 //!
-//! A round goes over all plants of a kind with one call each, then with the next call: so a plant comes again when all the others were
-//! there, as it does in a program that balances many sites. A plant's time is its median over the rounds. Before that, each list is
-//! compared with the sheets of the plants with one meter less. (An example and not part of the program, so that the program links with
-//! archives that lack the call.)
+//! A plant's time is the lower quartile of its rounds. Before that, each list is compared with the sheets of the plants with one
+//! meter less.
 
 use std::hint::black_box;
 use wengeludo_balance::{raw, visits, Visit, MAX_STREAMS, OFFICES, SHEET_SIZE};
-use wengeludo_bench::measure::{median, round, summary};
 use wengeludo_bench::plants::{draw, Kind, Plant, Stream};
+use wengeludo_bench::sequence::in_turns;
+use wengeludo_bench::summary::{median, summary};
 
 const KINDS: [Kind; 5] = [Kind::Site, Kind::Extremes, Kind::Ties, Kind::Ranges, Kind::Pipes];
 const SIZES: [(usize, usize); 2] = [(12, 36), (32, 96)];
@@ -62,22 +61,17 @@ fn draw_each(site: &Site) {
     }
 }
 
-/// The row of a kind and size.
-fn row(kind: Kind, (units, streams): (usize, usize), plants: usize, rounds: usize) -> String {
-    let sites: Vec<Site> = (0..).filter_map(|seed| site(draw(kind, units, streams, seed))).take(plants).collect();
-    let mut times: [Vec<Vec<f64>>; 3] = Default::default();
-    for _ in 0..rounds {
-        for (times, call) in times.iter_mut().zip([draw_sheet, list, draw_each]) {
-            times.push(round(&sites, call));
-        }
-    }
-    let of = |call: usize, k: usize| median(times[call].iter().map(|round| round[k]));
-    let all = |call: usize| median((0..plants).map(|k| of(call, k)));
-    let by_plant = summary((0..plants).map(|k| of(1, k) / of(0, k)));
-    let listed = median(sites.iter().map(|site| site.less.len() as f64));
+/// The plants of a kind and size that have a list.
+fn sites(kind: Kind, (units, streams): (usize, usize), plants: usize) -> Vec<Site> {
+    (0..).filter_map(|seed| site(draw(kind, units, streams, seed))).take(plants).collect()
+}
+
+/// A row's cells, from the times by the call and the plant.
+fn cells(times: &[Vec<f64>]) -> String {
+    let all = |call: usize| median(times[call].iter().copied());
+    let by_plant = summary(times[1].iter().zip(&times[0]).map(|(list, sheet)| list / sheet));
     let cells = [all(0), all(1), all(1) / all(0), by_plant.median, by_plant.worst, all(2) / all(0)];
-    let cells: Vec<String> = cells.iter().map(|x| format!("{x:.1}")).collect();
-    format!("| {} | {units} | {streams} | {listed:.0} | {} |", kind.name(), cells.join(" | "))
+    cells.map(|x| format!("{x:.1}")).join(" | ")
 }
 
 fn main() {
@@ -89,9 +83,11 @@ fn main() {
     };
     println!("| plants | units | streams | listed | sheet call | list | list / sheet call | by plant | worst | a sheet call for each entry |");
     println!("|---|---|---|---|---|---|---|---|---|---|");
-    for kind in KINDS {
-        for size in SIZES {
-            println!("{}", row(kind, size, plants, rounds));
-        }
+    let rows: Vec<_> = KINDS.into_iter().flat_map(|kind| SIZES.map(|size| (kind, size))).collect();
+    let groups: Vec<Vec<Site>> = rows.iter().map(|&(kind, size)| sites(kind, size, plants)).collect();
+    let times = in_turns(&groups, 3, rounds, |call, site| [draw_sheet, list, draw_each][call](site));
+    for (((kind, (units, streams)), sites), times) in rows.into_iter().zip(&groups).zip(times) {
+        let listed = median(sites.iter().map(|site| site.less.len() as f64));
+        println!("| {} | {units} | {streams} | {listed:.0} | {} |", kind.name(), cells(&times));
     }
 }

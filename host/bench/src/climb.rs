@@ -1,9 +1,10 @@
-//! A search for bad plants: changes are kept where what is sought of the plain engine's work does not fall.
+//! A search for bad plants: changes are kept where what is sought of the plain engine's work does not fall. It goes on from the
+//! plant that was recorded, and from drawn ones.
 
 use crate::draws::Draws;
-use crate::engine::Work;
-use crate::measure;
+use crate::engine::{plant_of, work_on, Work};
 use crate::plants::{draw, two_places, Kind, Plant, Stream, MAX_RANGE, MAX_READING, MAX_STREAMS, MAX_UNITS, MAX_WEIGHT};
+use std::path::Path;
 use std::time::{Duration, Instant};
 
 /// How many plants are climbed from, one after the other.
@@ -12,19 +13,33 @@ const STARTS: u32 = 6;
 /// Drawn plants among which a start is the worst.
 const DRAWN: u64 = 30;
 
-/// What is sought: among which kinds of plants, with ranges or without, and what of their work should be great.
+/// What is sought: among which kinds of plants, with ranges or without, what of their work should be great, and which file of
+/// host/bench has the worst plant recorded.
 #[derive(Clone, Copy)]
 pub struct Aim {
     pub name: &'static str,
+    pub file: &'static str,
     pub kinds: &'static [Kind],
     pub ranges: bool,
     pub of: fn(&Work) -> u64,
 }
 
 pub const AIMS: [Aim; 3] = [
-    Aim { name: "work, no ranges", kinds: &[Kind::Extremes, Kind::Site, Kind::Ties], ranges: false, of: Work::total },
-    Aim { name: "work, ranges", kinds: &RANGED, ranges: true, of: Work::total },
-    Aim { name: "improvements, ranges", kinds: &RANGED, ranges: true, of: |work| work.improvements },
+    Aim {
+        name: "work, no ranges",
+        file: "worst.bin",
+        kinds: &[Kind::Extremes, Kind::Site, Kind::Ties],
+        ranges: false,
+        of: Work::total,
+    },
+    Aim { name: "work, ranges", file: "worst_ranges.bin", kinds: &RANGED, ranges: true, of: Work::total },
+    Aim {
+        name: "improvements, ranges",
+        file: "most_improvements.bin",
+        kinds: &RANGED,
+        ranges: true,
+        of: |work| work.improvements,
+    },
 ];
 
 const RANGED: [Kind; 3] = [Kind::Ranges, Kind::Pipes, Kind::Overfull];
@@ -92,11 +107,17 @@ fn change(draws: &mut Draws, plant: &mut Plant, ranges: bool) {
     }
 }
 
+/// The plant that was recorded.
+fn recorded(aim: Aim) -> Option<(Plant, Work)> {
+    let file = std::fs::read(Path::new(env!("CARGO_MANIFEST_DIR")).join(aim.file)).ok()?;
+    Some((plant_of(&file)?, work_on(&file)))
+}
+
 /// The worst of some drawn plants of the greatest size.
-fn start(aim: Aim, kind: Kind, first_seed: u64) -> (Plant, Work) {
+fn drawn(aim: Aim, kind: Kind, first_seed: u64) -> (Plant, Work) {
     (first_seed..first_seed + DRAWN)
         .map(|seed| draw(kind, MAX_UNITS, MAX_STREAMS, seed))
-        .map(|plant| (measure::work(&plant.file()), plant))
+        .map(|plant| (work_on(&plant.file()), plant))
         .max_by_key(|(work, _)| (aim.of)(work))
         .map(|(work, plant)| (plant, work))
         .expect("some plant is drawn")
@@ -109,7 +130,8 @@ pub fn climb(aim: Aim, seconds: f64) -> Worst {
     for k in 0..STARTS {
         let kind = aim.kinds[k as usize % aim.kinds.len()];
         let seed = 1_000_000 + u64::from(k) * DRAWN;
-        let (plant, work) = climb_from(aim, start(aim, kind, seed), seed, seconds / f64::from(STARTS), &mut tried);
+        let start = recorded(aim).filter(|_| k == 0).unwrap_or_else(|| drawn(aim, kind, seed));
+        let (plant, work) = climb_from(aim, start, seed, seconds / f64::from(STARTS), &mut tried);
         if worst.as_ref().map_or(true, |(_, most)| (aim.of)(&work) > (aim.of)(most)) {
             worst = Some((plant, work));
         }
@@ -127,7 +149,7 @@ fn climb_from(aim: Aim, from: (Plant, Work), seed: u64, seconds: f64, tried: &mu
         for _ in 0..=draws.below(3) {
             change(&mut draws, &mut next, aim.ranges);
         }
-        let found = measure::work(&next.file());
+        let found = work_on(&next.file());
         *tried += 1;
         if (aim.of)(&found) >= (aim.of)(&work) {
             (plant, work) = (next, found);

@@ -1,11 +1,14 @@
-//! The benchmark of the sheet call: the library beside the same algorithm in plain Rust and a real-number solve.
+//! The benchmark of the sheet call: archives of the library beside the same algorithm in plain Rust, a real-number solve and
+//! other libraries.
 
 pub mod climb;
-pub mod compare;
+pub mod contestants;
 pub mod draws;
 pub mod engine;
 pub mod floor;
-pub mod measure;
+pub mod load;
 pub mod plants;
 pub mod plot;
 pub mod report;
+pub mod sequence;
+pub mod summary;

@@ -1,59 +1,68 @@
-//! The benchmark's program:
+//! The benchmark's program (run.sh builds what it is handed, and runs it):
 //!
-//!     wengeludo_bench PLANTS SECONDS [FOLDER]  measures everything in one run and prints the tables
-//!     wengeludo_bench --times PLANTS           prints the times of each plant
-//!     wengeludo_bench --table BEFORE AFTER     the table of two files of such times, each of one run or several
+//!     wengeludo_bench [--before OBJECT] [--peer NAME=OBJECT]... LIBRARY PLANTS SECONDS ROUNDS FOLDER
 //!
+//! LIBRARY  the archive that is measured, as a shared object; with --before another one beside it
 //! PLANTS   how many plants of each kind and size
 //! SECONDS  how long the search for bad plants runs, for each of the three aims
+//! ROUNDS   how many times each plant is timed, all others between
 //! FOLDER   where the plot of how cost grows (speed.svg) and the worst plants found (worst.bin, worst_ranges.bin,
 //!          most_improvements.bin) are written
 
 use std::process::exit;
-use wengeludo_bench::{compare, plot, report};
+use wengeludo_bench::climb::AIMS;
+use wengeludo_bench::contestants::Contestant;
+use wengeludo_bench::load;
+use wengeludo_bench::plot;
+use wengeludo_bench::report::{self, Race};
 
-const USAGE: &str = "usage: wengeludo_bench PLANTS SECONDS [FOLDER] | --times PLANTS | --table BEFORE AFTER";
+const USAGE: &str = "usage: wengeludo_bench [--before OBJECT] [--peer NAME=OBJECT]... LIBRARY PLANTS SECONDS ROUNDS FOLDER";
 
 fn main() {
     let words: Vec<String> = std::env::args().skip(1).collect();
-    let words: Vec<&str> = words.iter().map(String::as_str).collect();
-    let done = match words[..] {
-        ["--times", plants] => count(plants).map(compare::print_times),
-        ["--table", before, after] => table(before, after),
-        [plants, seconds] => tables(plants, seconds, None),
-        [plants, seconds, folder] => tables(plants, seconds, Some(folder)),
-        _ => Err(USAGE.to_string()),
-    };
-    if let Err(message) = done {
+    if let Err(message) = run(&words) {
         eprintln!("{message}");
         exit(2);
     }
 }
 
-fn count(word: &str) -> Result<usize, String> {
-    word.parse().ok().filter(|&plants| plants > 0).ok_or_else(|| USAGE.to_string())
-}
-
-fn tables(plants: &str, seconds: &str, folder: Option<&str>) -> Result<(), String> {
-    let plants = count(plants)?;
-    let seconds = seconds.parse().ok().filter(|&s| s >= 0.0).ok_or(USAGE)?;
-    report::sizes(plants);
-    let growth = report::growth((plants + 4) / 5);
-    report::work(plants);
-    let found = report::worst(seconds);
-    if let Some(folder) = folder {
-        save(folder, "speed.svg", plot::svg(&growth).as_bytes())?;
-        for (name, plant) in ["worst.bin", "worst_ranges.bin", "most_improvements.bin"].iter().zip(&found) {
-            save(folder, name, &plant.file())?;
+fn run(words: &[String]) -> Result<(), String> {
+    let (mut before, mut peers) = (Vec::new(), Vec::new());
+    let mut rest = words;
+    while let [option, value, after @ ..] = rest {
+        match (option.as_str(), value.split_once('=')) {
+            ("--before", _) => before.push(archive("before", value)?),
+            ("--peer", Some((name, path))) => {
+                peers.push(Contestant::Peer { name: name.to_string(), call: load::peer_call(path)? })
+            }
+            _ => break,
         }
+        rest = after;
     }
-    Ok(())
+    let [library, plants, seconds, rounds, folder] = rest else { return Err(USAGE.to_string()) };
+    let mut contestants = vec![archive("library", library)?];
+    contestants.extend(before);
+    contestants.extend([Contestant::Plain, Contestant::Floor]);
+    contestants.extend(peers);
+    let seconds = seconds.parse().ok().filter(|&s| s >= 0.0).ok_or(USAGE)?;
+    tables(&Race { count: count(plants)?, rounds: count(rounds)?, contestants }, seconds, folder)
 }
 
-fn table(before: &str, after: &str) -> Result<(), String> {
-    let read = |path: &str| std::fs::read_to_string(path).map_err(|error| format!("{path}: {error}"));
-    println!("{}", compare::table(&read(before)?, &read(after)?)?);
-    Ok(())
+fn archive(name: &'static str, path: &str) -> Result<Contestant, String> {
+    Ok(Contestant::Archive { name, call: load::sheet_call(path)? })
+}
+
+fn count(word: &str) -> Result<usize, String> {
+    word.parse().ok().filter(|&n| n > 0).ok_or_else(|| USAGE.to_string())
+}
+
+fn tables(race: &Race, seconds: f64, folder: &str) -> Result<(), String> {
+    report::sizes(race);
+    let growth = report::growth(race);
+    report::work(race.count, race.rounds);
+    let found = report::worst(race, seconds);
+    save(folder, "speed.svg", plot::svg(&growth).as_bytes())?;
+    AIMS.iter().zip(&found).try_for_each(|(aim, plant)| save(folder, aim.file, &plant.file()))
 }
 
 fn save(folder: &str, name: &str, bytes: &[u8]) -> Result<(), String> {

@@ -1,7 +1,7 @@
 //! The plot of how cost grows: streams to the right, microseconds upwards by powers of ten.
 
-use crate::measure::Summary;
 use crate::report::Growth;
+use crate::summary::Summary;
 use std::fmt::Write;
 
 const WIDTH: f64 = 720.0;
@@ -11,6 +11,7 @@ const RIGHT: f64 = 110.0;
 const TOP: f64 = 24.0;
 const BOTTOM: f64 = 50.0;
 const MOST_STREAMS: f64 = 96.0;
+const COLOURS: [&str; 6] = ["#b03030", "#3050b0", "#308050", "#a06010", "#703090", "#606060"];
 
 /// The powers of ten that hold all times.
 struct Scale {
@@ -20,7 +21,7 @@ struct Scale {
 
 impl Scale {
     fn of(growth: &[Growth]) -> Scale {
-        let all = || growth.iter().flat_map(|g| [g.library, g.plain, g.floor]);
+        let all = || growth.iter().flat_map(|g| &g.points).map(|(_, summary)| summary);
         let low = all().map(|s| s.median).fold(f64::MAX, f64::min).log10().floor() as i32;
         let high = all().map(|s| s.worst).fold(f64::MIN, f64::max).log10().ceil() as i32;
         Scale { low, high }
@@ -59,16 +60,17 @@ fn axes(svg: &mut String, scale: &Scale) {
 }
 
 /// The medians as a line, the worst as a dashed one, the name in the given row of the list at the right.
-fn series(svg: &mut String, scale: &Scale, growth: &[Growth], row: u8, name: &str, colour: &str, of: fn(&Growth) -> Summary) {
-    let points = |time: fn(Summary) -> f64| {
-        let pairs: Vec<String> = growth.iter().map(|g| format!("{:.1},{:.1}", x(g.streams), scale.y(time(of(g))))).collect();
-        pairs.join(" ")
+fn series(svg: &mut String, scale: &Scale, growth: &Growth, row: usize) {
+    let colour = COLOURS[row % COLOURS.len()];
+    let points = |time: fn(&Summary) -> f64| {
+        let pairs = growth.points.iter().map(|(streams, s)| format!("{:.1},{:.1}", x(*streams), scale.y(time(s))));
+        pairs.collect::<Vec<String>>().join(" ")
     };
     let (median, worst) = (points(|s| s.median), points(|s| s.worst));
     let _ = writeln!(svg, r#"<polyline points="{median}" fill="none" stroke="{colour}" stroke-width="2"/>"#);
     let _ = writeln!(svg, r#"<polyline points="{worst}" fill="none" stroke="{colour}" stroke-dasharray="4 4"/>"#);
-    let (left, y) = (WIDTH - RIGHT + 12.0, TOP + 16.0 * f64::from(row) + 10.0);
-    let _ = writeln!(svg, r#"<text x="{left}" y="{y}" fill="{colour}">{name}</text>"#);
+    let (left, y) = (WIDTH - RIGHT + 12.0, TOP + 16.0 * row as f64 + 10.0);
+    let _ = writeln!(svg, r#"<text x="{left}" y="{y}" fill="{colour}">{}</text>"#, growth.name);
 }
 
 /// The plot as SVG.
@@ -82,9 +84,7 @@ pub fn svg(growth: &[Growth]) -> String {
     let _ = writeln!(svg, r##"<rect width="{WIDTH}" height="{HEIGHT}" fill="#fff"/>"##);
     let _ = writeln!(svg, "<title>Time by the number of streams: median, and dashed the worst</title>");
     axes(&mut svg, &scale);
-    series(&mut svg, &scale, growth, 0, "library", "#b03030", |g| g.library);
-    series(&mut svg, &scale, growth, 1, "plain Rust", "#3050b0", |g| g.plain);
-    series(&mut svg, &scale, growth, 2, "floor", "#308050", |g| g.floor);
+    growth.iter().enumerate().for_each(|(row, growth)| series(&mut svg, &scale, growth, row));
     svg.push_str("</svg>\n");
     svg
 }

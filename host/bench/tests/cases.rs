@@ -58,8 +58,11 @@ fn split(bytes: &[u8]) -> (Case<'_>, &[u8]) {
     (case, &bytes[HEAD + pair(2) + pair(4)..])
 }
 
-/// What the three ways leave: number, counters, count, slice, and the marked places.
-fn outcomes(case: &Case) -> [(u8, Vec<u32>, usize, Vec<u8>, u64); 3] {
+/// What a way leaves: number, counters, count, slice, and the marked places.
+type Outcome = (u8, Vec<u32>, usize, Vec<u8>, u64);
+
+/// What the three ways leave.
+fn outcomes(case: &Case) -> [Outcome; 3] {
     let plain = |way: fn(&[u8], Back, &mut Unwatched) -> u8| {
         let (mut lasts, mut written, mut marked, mut out) = (case.lasts.clone(), 77, u64::MAX, case.before.clone());
         let office = case.office;

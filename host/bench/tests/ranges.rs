@@ -16,6 +16,7 @@ mod reference;
 mod shrink;
 
 use draw::{Call, Draw};
+use wengeludo_bench::climb::AIMS;
 use wengeludo_bench::engine::{balance_by_phases, balance_plant, Back, Unwatched};
 use wengeludo_bench::plants::Kind;
 use wengeludo_bench::report::{plants, SIZES};
@@ -97,7 +98,7 @@ fn plants_of_the_benchmark() {
 /// The worst plants that climbing found.
 #[test]
 fn recorded_plants() {
-    for name in ["worst.bin", "worst_ranges.bin", "most_improvements.bin"] {
+    for name in AIMS.map(|aim| aim.file) {
         let file = std::fs::read(std::path::Path::new(env!("CARGO_MANIFEST_DIR")).join(name)).expect("a recorded plant");
         let call = first_call(file);
         assert_eq!(compared(&call), Ok(0), "{name}: {call}");

@@ -15,7 +15,7 @@ mod watch;
 
 pub use watch::{Phase, Unwatched, Watch, Work};
 
-use crate::plants::{Stream, MAX_STREAMS};
+use crate::plants::{Plant, Stream, MAX_STREAMS};
 use incidence::Incidence;
 use sheet::Drawer;
 use state::State;
@@ -110,6 +110,21 @@ fn balance_from<W: Watch>(bytes: &[u8], back: Back, hint: HintInto, watch: &mut 
     *last += 1;
     *written = sheet::put(&site, &state.flows, Drawer { office, number: *last }, out, watch);
     0
+}
+
+/// The plant that a file lists.
+pub fn plant_of(file: &[u8]) -> Option<Plant> {
+    let site = file::read(file).ok()?;
+    Some(Plant { units: site.units, streams: site.streams().to_vec() })
+}
+
+/// What a sheet call of a file takes, and the number that it returns.
+pub fn work_on(file: &[u8]) -> Work {
+    let (mut lasts, mut out, mut written, mut marked) = ([0; OFFICES], [0; sheet::LEAST_SLICE], 0, 0);
+    let mut work = Work::new();
+    let back = Back { office: 0, lasts: &mut lasts, out: &mut out, written: &mut written, marked: &mut marked };
+    work.returned = balance_plant(file, back, &mut work);
+    work
 }
 
 #[cfg(test)]

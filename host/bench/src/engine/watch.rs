@@ -48,6 +48,8 @@ pub struct Work {
     pub stuck: u64,
     pub closed: u64,
     pub fell_back: bool,
+    /// The number that the call returned.
+    pub returned: u8,
     improving: bool,
     then: Instant,
     /// Microseconds by phase.
@@ -64,6 +66,7 @@ impl Work {
             stuck: 0,
             closed: 0,
             fell_back: false,
+            returned: 0,
             improving: false,
             then: Instant::now(),
             phases: [0.0; 7],
