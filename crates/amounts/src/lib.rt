@@ -1,21 +1,21 @@
 // The amount of a metered stream at prices: the one nearest to its reading, brought into its range.
-use lanes::slacks::high_of;
-use lanes::slacks::low_of;
-use lanes::slacks::minus;
-use lanes::slacks::reading_of;
-use lanes::slacks::weight_of;
 use plants::Stream;
+use solve_held::high_of;
+use solve_held::low_of;
+use solve_held::minus;
+use solve_held::reading_of;
+use solve_held::weight_of;
 ghost use mathlib.Core.Path.{_≡_};
 ghost use Prim.Native.Nat.{_≤_};
 ghost use Rattle.plants.specs.Limits.{maxWeight};
-ghost use Rattle.model.specs.SearchNeeds.{Sized};
+ghost use Rattle.model.specs.Sizes.{mostFlow, priceShift};
 ghost use Rattle.model.specs.Model.{clamped, nearestAmount, settledOf};
 ghost use Rattle.model.specs.SolverNeeds.{Settleable};
 
 // The amount nearest to a reading, at the prices of a stream's start and its end, by its weight. (The numbers divided are kept small: a
 // division of small numbers is quicker.)
 fn nearest(w: u64, read: u64, pu: u64, pv: u64) -> u64
-    requires { ⌜ (1 ≤ w) × (w ≤ maxWeight) × Sized read pu pv 0 ⌝ }
+    requires { ⌜ (1 ≤ w) × (w ≤ maxWeight) × (read ≤ mostFlow) × (pu ≤ priceShift) × (pv ≤ priceShift) ⌝ }
     ensures { λ r. ⌜ r ≡ nearestAmount w read pu pv ⌝ }
 {
     if pu <= pv + w {

@@ -4,10 +4,10 @@ use Rattle.model.proofs.Weights.{weight-most, weight-least}
 use borrow.Author.Needs.{needs}
 use Rattle.amounts.proofs.amount_at.Statement.{statement}
 use Rattle.amounts.proofs.amount_at.Tie as tie
-use Rattle.lanes.proofs.slacks.high_of.Reads as high-of-reads
-use Rattle.lanes.proofs.slacks.low_of.Reads as low-of-reads
-use Rattle.lanes.proofs.slacks.reading_of.Reads as reading-of-reads
-use Rattle.lanes.proofs.slacks.weight_of.Reads as weight-of-reads
+use Rattle.solve_held.proofs.high_of.Reads as high-of-reads
+use Rattle.solve_held.proofs.low_of.Reads as low-of-reads
+use Rattle.solve_held.proofs.reading_of.Reads as reading-of-reads
+use Rattle.solve_held.proofs.weight_of.Reads as weight-of-reads
 use Rattle.amounts.proofs.clamp.Reads as clamp-reads
 use Rattle.amounts.proofs.nearest.Reads as nearest-reads
 
@@ -22,7 +22,9 @@ nearest-requires c κs =
     let st = c .before .before in (
       rw (c .before .weight-of .ensures) (weight-least (st .args .s) (st .pre .within) (st .pre .metered)),
       rw (c .before .weight-of .ensures) (weight-most (st .args .s) (st .pre .within)),
-      record { amount = c .reading-of .ensures .1; step = omega arith; price-u = st .pre .price-u; price-v = st .pre .price-v },
+      c .reading-of .ensures .1,
+      st .pre .price-u,
+      st .pre .price-v,
     )
 
 low-of-requires : tie.Need-low-of-requires

@@ -6,7 +6,7 @@ use borrow.Author.Tests.{le-leb, lt-leb}
 use borrow.Author.Needs.{needs}
 use Rattle.amounts.proofs.nearest.Statement.{statement}
 use Rattle.amounts.proofs.nearest.Tie as tie
-use Rattle.lanes.proofs.slacks.minus.Reads as minus-reads
+use Rattle.solve_held.proofs.minus.Reads as minus-reads
 
 add-if1 : tie.Need-add-if1
 add-if1 c = search needs
