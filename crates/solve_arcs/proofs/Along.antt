@@ -1,4 +1,4 @@
--- An arc by its stream and its direction: where it leads, and its slack.
+-- An arc by its stream and its direction: where it leads, and its reduced cost.
 use mathlib.Core.Path.{_≡_, refl, sym, _∙_, ap}
 use mathlib.Core.Bool.{Bool, true, false}
 use mathlib.Core.List.{List}

@@ -1,4 +1,4 @@
--- The slacks over arcs are those of the streams, and a walk over arcs comes to what the search comes to.
+-- The reduced costs of arcs are the slacks of the streams, and a walk over arcs comes to what the search comes to.
 use mathlib.Core.Path.{_≡_, refl, sym, _∙_, ap}
 use mathlib.Core.Bool.{Bool, true, false, _&&_}
 use mathlib.Core.List.{List}

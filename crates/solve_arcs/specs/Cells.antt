@@ -1,4 +1,4 @@
--- The arcs: the streams in use as one list of bytes. A stream k has two arcs, 2k + 1 forwards from its start to its end and 2k
+-- The residual arcs: the streams in use as one list of bytes. A stream k has two arcs, 2k + 1 forwards from its start to its end and 2k
 -- backwards. First, for each place, the arc of the last stream that starts or ends there (arcAt in Near); then for each arc the place
 -- that it leads to; then for each arc the next one of the place that it leaves; last, how many streams are in use.
 -- The rows: four numbers for each stream, its weight, twice its weight times its reading, and the ends of its range.

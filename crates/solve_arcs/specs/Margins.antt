@@ -1,4 +1,4 @@
--- Margins: for each arc what one step more along it costs at the present amounts, before prices.
+-- Margins: for each arc its marginal cost, what one step more along it costs at the present amounts, before prices.
 use mathlib.Core.Bool.{Bool, true, false, _&&_}
 use mathlib.Core.List.{List}
 use Prim.Native.Nat.{ℕ, _+_, _-_, _*_}
@@ -33,14 +33,15 @@ marginAt rs f k x d = marginBy (getD rs (4 * k) 0) (getD rs (4 * k + 1) 0) (getD
 abbrev pub spared : List ℕ → ℕ → ℕ → Bool
 spared rs skip k = ltb 0 (getD rs (4 * k) 0) && ltb k skip
 
--- The slack over an arc of margin m, from a place of price p to one of price r; at most farthest.
+-- The reduced cost of an arc of margin m, from a place of price p to one of price r; at least 0 and at most farthest. It is the slack of
+-- the arc's stream (slackPast in Slack).
 abbrev pub lessOf : ℕ → ℕ → ℕ
 lessOf a b = pick (ltb b a) b a
 
 abbrev pub reducedCost : ℕ → ℕ → ℕ → ℕ
 reducedCost m p r = lessOf ((m + p) - (r + lift)) farthest
 
--- The slacks of the streams in use in one direction.
+-- The reduced costs of the streams in use in one direction.
 abbrev pub leaves : List ℕ → Bool → ℕ → ℕ
 leaves ls f k = pick f (getD (startsOf ls) k 0) (getD (endsOf ls) k 0)
 

@@ -1,4 +1,4 @@
-// The arcs: the streams in use as one array of bytes. Stream i has two arcs, 2i + 1 forwards from its start to its end and 2i
+// The residual arcs: the streams in use as one array of bytes. Stream i has two arcs, 2i + 1 forwards from its start to its end and 2i
 // backwards. First, for each place, the arc of the last stream that starts or ends there; then for each arc the place that it leads
 // to; then for each arc the next one of the place that it leaves; last, how many streams are in use. What is where is known here and
 // nowhere else in code, and in specs/Cells.antt.
@@ -24,10 +24,11 @@ pub const NONE: usize = 2 * MAX_STREAMS;
 // Four numbers for each stream: weight, twice the weight times the reading, low, high.
 pub const ROWS: usize = 4 * MAX_STREAMS;
 
-// A number for each arc.
+// A number for each arc: its marginal cost.
 pub const MARGINS: usize = 2 * MAX_STREAMS;
 
-fn wide(b: u8) -> usize
+// A byte as an index.
+pub fn wide(b: u8) -> usize
     ensures { λ r. ⌜ (r ≡ b) × (r < 256) ⌝ }
 {
     b as usize

@@ -6,6 +6,7 @@ use solve_arcs::COUNT;
 use solve_arcs::NEXT;
 use solve_arcs::ROWS;
 use solve_arcs::TO;
+use solve_arcs::wide;
 use solve_held::high_of;
 use solve_held::low_of;
 use solve_held::pull_of_reading;
@@ -48,12 +49,6 @@ fn put_first(arcs: &mut [u8; ARCS], i: usize, u: usize, v: usize)
 {
     arcs[v] = (2 * i) as u8;
     arcs[u] = (2 * i + 1) as u8;
-}
-
-fn wide(b: u8) -> usize
-    ensures { λ r. ⌜ (r ≡ b) × (r < 256) ⌝ }
-{
-    b as usize
 }
 
 // Stream i becomes the last in the lists of its start and of its end.

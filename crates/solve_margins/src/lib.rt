@@ -1,4 +1,5 @@
-// Margins: for each arc what one step more along it costs at the present amounts, before prices; and the slack that comes of it.
+// Margins: for each arc its marginal cost, what one step more along it costs at the present amounts; and the reduced cost, by the prices
+// of its two ends.
 use model::sizes::FARTHEST;
 use model::sizes::MOST_FLOW;
 use plants::limits::MAX_STREAMS;
@@ -17,7 +18,7 @@ ghost use Rattle.solve_arcs.specs.Margins.{lessOf, marginBy, marginAt, shut, re
 ghost use Rattle.solve_arcs.specs.ArcNeeds.{Row, Margined};
 
 // A margin z is held as z + LIFT; an arc that cannot be moved along has the margin SHUT.
-pub const LIFT: u64 = 2 * (MAX_WEIGHT as u64 * MOST_FLOW);
+const LIFT: u64 = 2 * (MAX_WEIGHT as u64 * MOST_FLOW);
 
 const SHUT: u64 = 4_611_686_018_427_387_904;
 
@@ -28,7 +29,7 @@ pub fn lesser(a: u64, b: u64) -> u64
     if b < a { b } else { a }
 }
 
-// The slack over an arc of margin m, from a place of price p to one of price r; at most FARTHEST.
+// The reduced cost of an arc of margin m, from a place of price p to one of price r; at least 0 and at most FARTHEST.
 pub fn reduced_cost(m: u64, p: u64, r: u64) -> u64
     requires { ⌜ (m ≤ shut) × (p ≤ priceShift) × (r ≤ priceShift) ⌝ }
     ensures { λ g. ⌜ (g ≡ reducedCost m p r) × (g ≤ farthest) ⌝ }

@@ -1,4 +1,4 @@
-// The search over visited places, along arcs.
+// Shortest paths: the search over visited places, along arcs by their reduced costs.
 use model::Searched;
 use plants::limits::PLACES;
 use solve_arcs::ARCS;
@@ -62,7 +62,7 @@ pub fn search(
     }
 }
 
-// Places are visited over arcs without slack until v is, metered streams before number skip left alone: their arcs are shut.
+// Places are visited over arcs of reduced cost 0 until v is, metered streams before number skip left alone: their arcs are shut.
 pub fn tight_path(
     arcs: &[u8; ARCS],
     margins: &[u64; MARGINS],

@@ -84,7 +84,7 @@ fn walked_by(found: bool, t: Tree, dist: [u64; PLACES], reach: u64) -> Walked
     }
 }
 
-// What a search over arcs without slack hands over.
+// What a search over arcs of reduced cost 0 hands over.
 fn searched_by(found: bool, t: Tree) -> Searched
     ensures { λ r. ⌜ r ≡ record { found = found; tree = t } ⌝ }
 {
@@ -163,7 +163,7 @@ pub fn walk(
     walked_by(false, t, dist, at.distance)
 }
 
-// From place s over arcs without slack until v is visited.
+// From place s over arcs of reduced cost 0 until v is visited.
 pub fn tight_walk(
     arcs: &[u8; ARCS],
     margins: &[u64; MARGINS],

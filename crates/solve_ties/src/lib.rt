@@ -54,7 +54,7 @@ fn spare(rows: &[u64; ROWS], margins: &mut [u64; MARGINS], i: usize)
     }
 }
 
-// Stream i, which can fall at no cost and is left alone, less by one where a way of no slack leads round it.
+// Stream i, which can fall at no cost and is left alone, less by one where a way of reduced cost 0 leads round it.
 fn tie_at(
     arcs: &[u8; ARCS],
     rows: &[u64; ROWS],

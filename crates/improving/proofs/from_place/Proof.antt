@@ -88,12 +88,14 @@ returns c = λ w.
     let made = f .improve-from .ensures (able on w) in
     let q = not-true _ (c .before .before .before .if1 .taken) in
     let l : 0 < on .before .loop .left = omega (arith, on .loop-test .taken) in
-    let ms = f .improve-from .result .tree .visited in
-    (halted (overfull (take (w .n) (w .streams)) ms) _ _ ms _
-    (stuck-same _ _ _ _ _ _ _ _ (made .0) l (solvable-of (w .streams) (w .n) (w .network)) (w .step) (begin on .pre .1) (on .before .loop .inv w .0) q)
-    (c .tested .ensures (improve-laying _ _ _ _ _ w))
-    ∙ from-stuck _ _ _ _ _ _ _ _ (made .0) l q
-    ∙ on .before .loop .inv w .1, made .1)
+    let ms = f .improve-from .result .tree .visited in (
+      halted (overfull (take (w .n) (w .streams)) ms) _ _ ms _
+          (stuck-same _ _ _ _ _ _ _ _ (made .0) l (solvable-of (w .streams) (w .n) (w .network)) (w .step) (begin on .pre .1) (on .before .loop .inv w .0) q)
+          (c .tested .ensures (improve-laying _ _ _ _ _ w))
+          ∙ from-stuck _ _ _ _ _ _ _ _ (made .0) l q
+          ∙ on .before .loop .inv w .1,
+      made .1,
+    )
 
 sub-left : tie.Need-sub-left Inv-loop μ-loop
 sub-left c = search needs

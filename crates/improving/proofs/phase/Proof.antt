@@ -80,10 +80,12 @@ returns c = λ w.
     let f = c .before .before in
     let on = f .before .before .before .before .before in
     let t = c .before .if1 .taken in
-    let made = f .from-place .ensures (able on w) in
-    (full-told _ _ _ t
-    (phase-full _ (solvable-of (w .streams) (w .n) (w .network)) _ (w .step) _ (w .underway) (on .before .loop .s) (omega (arith, on .loop-test .taken)) _
-    (on .before .loop .inv .1 w .0) _ _ _ (made .0) t), made .1)
+    let made = f .from-place .ensures (able on w) in (
+      full-told _ _ _ t
+          (phase-full _ (solvable-of (w .streams) (w .n) (w .network)) _ (w .step) _ (w .underway) (on .before .loop .s) (omega (arith, on .loop-test .taken)) _
+          (on .before .loop .inv .1 w .0) _ _ _ (made .0) t),
+      made .1,
+    )
 
 add-s : tie.Need-add-s Inv-loop μ-loop
 add-s c = search needs

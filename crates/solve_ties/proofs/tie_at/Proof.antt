@@ -22,7 +22,7 @@ use borrow.Author.Needs.{needs}
 use Rattle.solve_ties.proofs.tie_at.Statement.{statement}
 use Rattle.solve_ties.proofs.tie_at.Tie as tie
 
--- The start, from where the search is done; streams that the lanes are of.
+-- The start, from where the search is done; streams that the arcs are of.
 abbrev start : tie.After-tight-path → tie.Start
 start c = c .before .before .before .before
 

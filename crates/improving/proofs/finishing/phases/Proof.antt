@@ -121,10 +121,12 @@ returns-2 c =
     let at = c .before .before .before .before in
     let st = begin at in
     let v = solvable-of (st .args .streams) (st .args .count) (st .pre .0) in
-    let made = c .phase2 .ensures (able-last (c .before .before)) in
-    (made .0
-    ∙ ap (λ (s : State). phase (take (st .args .count) (st .args .streams)) 1 s) (c .before .before .settle2 .ensures)
-    ∙ staged-last _ v _ _ (staged at) (omega (arith, c .before .before .before .loop-test .left)) .1, λ o. made .1)
+    let made = c .phase2 .ensures (able-last (c .before .before)) in (
+      made .0
+          ∙ ap (λ (s : State). phase (take (st .args .count) (st .args .streams)) 1 s) (c .before .before .settle2 .ensures)
+          ∙ staged-last _ v _ _ (staged at) (omega (arith, c .before .before .before .loop-test .left)) .1,
+      λ o. made .1,
+    )
 
 pub phases-spec : {M : Type 1} → statement M
 phases-spec =
