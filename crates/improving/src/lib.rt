@@ -43,15 +43,16 @@ fn from_place(
     ensures { λ r. ⌜ ((w : Improvable (now (arcs .entry)) (now (rows .entry)) (now (margins .entry)) (q .delta) (stateOf (now (flows .entry)) (now (prices .entry)) (now (nets .entry)))) → (endedBy (r .full) (stateOf (now (flows .exit)) (now (prices .exit)) (now (nets .exit))) (r .marked) ≡ fromPlace ((getD (now (nets .entry)) (q .start) 0 - netShift) / q .delta) (take (w .n) (w .streams)) (q .delta) (q .start) (stateOf (now (flows .entry)) (now (prices .entry)) (now (nets .entry)))) × Margined (w .n) (now (rows .entry)) (now (flows .exit)) (q .delta) 0 (now (margins .exit))) ⌝ }
 {
     let s = q.start;
-    let mut left = minus(nets[s], NET_SHIFT) / q.delta;
-    while 0 < left {
+    let delta = q.delta;
+    let mut over = minus(nets[s], NET_SHIFT);
+    while delta <= over {
         let h = improve_from(arcs, rows, margins, flows, prices, nets, q);
         if !h.found {
             let t = h.tree;
             let visited = t.visited;
             return tested(arcs, rows, visited);
         }
-        left -= 1;
+        over -= delta;
     }
     Halt {
         full: false,
