@@ -1,6 +1,5 @@
 // From amounts settled at a hint to a balanced flow that meets the step condition at 1, or to a set that is overfull.
 use crate::phase;
-use lanes::LANES;
 use model::Ended;
 use model::Hint;
 use model::State;
@@ -13,13 +12,19 @@ use plants::limits::MAX_STREAMS;
 use plants::limits::PLACES;
 use settling::over_sum;
 use settling::settle;
+use solve_arcs::ARCS;
+use solve_arcs::MARGINS;
+use solve_arcs::ROWS;
 ghost use mathlib.Core.Path.{_≡_};
-ghost use lib.ListN.{take};
+ghost use mathlib.Core.Bool.{false};
+ghost use lib.ListN.{length, take};
 ghost use Rattle.model.specs.Sizes.{halvings};
-ghost use Rattle.model.specs.SearchNeeds.{Network, Laid};
+ghost use Rattle.model.specs.SearchNeeds.{Network};
 ghost use Rattle.model.specs.Model as M;
 ghost use Rattle.model.specs.Model.{noHint, asHint, finished};
 ghost use Rattle.model.specs.SolverNeeds.{AtHint};
+ghost use Rattle.solve_arcs.specs.Cells.{marginCells};
+ghost use Rattle.solve_arcs.specs.ArcNeeds.{Laid, Margined};
 
 // No hint: amounts and prices 0.
 fn no_hint() -> Hint
@@ -44,15 +49,21 @@ fn hint_of(st: State) -> Hint
 }
 
 // From no hint: at each step from MOST_STEP down to 1 amounts are settled anew, and a phase is gone through.
-fn phases(streams: [Stream; MAX_STREAMS], count: usize, lanes: &[u64; LANES]) -> Ended
-    requires { ⌜ Network streams count × Laid streams count (now lanes) ⌝ }
-    ensures { λ r. ⌜ r ≡ M.phases halvings (take count streams) noHint ⌝ }
+fn phases(
+    streams: [Stream; MAX_STREAMS],
+    count: usize,
+    arcs: &[u8; ARCS],
+    rows: &[u64; ROWS],
+    margins: &mut [u64; MARGINS],
+) -> Ended
+    requires { ⌜ Network streams count × Laid streams count (now arcs) (now rows) × (length (now margins) ≡ marginCells) ⌝ }
+    ensures { λ r. ⌜ (r ≡ M.phases halvings (take count streams) noHint) × (r .full ≡ false → Margined count (now (rows .entry)) (r .state .flows) 1 0 (now (margins .exit))) ⌝ }
 {
     let mut h = no_hint();
     let mut step = MOST_STEP;
     while 1 < step {
         let st = settle(streams, count, h);
-        let e = phase(lanes, st, step);
+        let e = phase(arcs, rows, margins, st, step);
         if e.full {
             return e;
         }
@@ -60,22 +71,24 @@ fn phases(streams: [Stream; MAX_STREAMS], count: usize, lanes: &[u64; LANES]) ->
         step = step / 2;
     }
     let st = settle(streams, count, h);
-    phase(lanes, st, 1)
+    phase(arcs, rows, margins, st, 1)
 }
 
-// One phase at step 1; where too much is over, all phases from no hint.
+// One phase at step 1; where too much is over, all phases from no hint. Where no set is full, the margins are those of the amounts.
 pub fn finish(
     streams: [Stream; MAX_STREAMS],
     count: usize,
-    lanes: &[u64; LANES],
+    arcs: &[u8; ARCS],
+    rows: &[u64; ROWS],
+    margins: &mut [u64; MARGINS],
     st: State,
 ) -> Ended
-    requires { ⌜ Network streams count × AtHint (take count streams) st × Laid streams count (now lanes) ⌝ }
-    ensures { λ r. ⌜ r ≡ finished (take count streams) st ⌝ }
+    requires { ⌜ Network streams count × AtHint (take count streams) st × Laid streams count (now arcs) (now rows) × (length (now margins) ≡ marginCells) ⌝ }
+    ensures { λ r. ⌜ (r ≡ finished (take count streams) st) × (r .full ≡ false → Margined count (now (rows .entry)) (r .state .flows) 1 0 (now (margins .exit))) ⌝ }
 {
     let nets = st.nets;
     if over_sum(&nets) <= MOST_TRIED {
-        return phase(lanes, st, 1);
+        return phase(arcs, rows, margins, st, 1);
     }
-    phases(streams, count, lanes)
+    phases(streams, count, arcs, rows, margins)
 }

@@ -5,15 +5,11 @@ use mathlib.Core.List.{List, [], _∷_}
 use Prim.Native.Nat.{ℕ, zero, suc, _+_, _-_, _*_, _≤_, _<_}
 use native.Mathlib.Omega.{arith}
 use native.Mathlib.Decide.{ℕ-discrete}
-use lib.Dec.{eqb}
 use lib.ListN.{length, getD, set, length-set}
 use lib.Seq.{getD-set-same, getD-set-other}
-use Rattle.numbers.specs.Choice.{pick}
-use Rattle.plants.specs.declared.Stream.{Stream}
 use Rattle.plants.specs.Limits.{maxStreams}
 use Rattle.model.specs.Sizes.{mostFlow, mostStep}
 use Rattle.model.specs.Search.{fallen, loweredBy}
-use Rattle.model.specs.Push.{movedOf}
 use Rattle.model.specs.SearchNeeds.{Roomy}
 
 -- The prices of visited places lowered.
@@ -49,14 +45,6 @@ set-each P xs i v n l p all k m = elim (ℕ-discrete k i) [
 -- Room for one step less, and after one step.
 pub roomy-less : {xs : List ℕ} {j : ℕ} → Roomy xs j → Roomy xs (j - 1)
 roomy-less {xs} {j} r = record { long = r .long; low = λ k l. omega (arith, r .low k l); high = λ k l. omega (arith, r .high k l) }
-
-pub moved-near : (s : Stream) (x c d j : ℕ) → 0 < j → d ≤ mostStep → mostStep * j ≤ x → x + mostStep * j ≤ mostFlow
-    → (mostStep * (j - 1) ≤ movedOf s x c d) × (movedOf s x c d + mostStep * (j - 1) ≤ mostFlow)
-moved-near s x c d j p hd lo hi = by-end (eqb (s .to) c)
-  where
-    by-end : (b : Bool) → (mostStep * (j - 1) ≤ pick b (x + d) (x - d)) × (pick b (x + d) (x - d) + mostStep * (j - 1) ≤ mostFlow)
-    by-end true = (omega arith, omega arith)
-    by-end false = (omega arith, omega arith)
 
 pub roomy-set : {xs : List ℕ} {j : ℕ} → Roomy xs j → (i v : ℕ) → i < maxStreams → (mostStep * (j - 1) ≤ v) × (v + mostStep * (j - 1) ≤ mostFlow)
     → Roomy (set xs i v) (j - 1)

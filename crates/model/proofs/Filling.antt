@@ -1,6 +1,6 @@
 -- What the search's loops write, one stream or one place after the other.
 use mathlib.Core.Path.{_≡_, refl, sym, _∙_, ap}
-use mathlib.Core.Bool.{Bool, true, false, _&&_}
+use mathlib.Core.Bool.{Bool, true, false}
 use mathlib.Core.List.{List, [], _∷_}
 use Prim.Native.Nat.{ℕ, zero, suc, _+_, _-_, _<_}
 use native.Mathlib.Omega.{arith}
@@ -9,13 +9,10 @@ use lib.ListN.{length, getD, set, length-set}
 use lib.Seq.{ext-getD}
 use Rattle.numbers.specs.Choice.{pick}
 use Rattle.numbers.proofs.Tests.{picked}
-use Rattle.plants.specs.declared.Stream.{Stream}
 use Rattle.plants.specs.Limits.{places}
-use Rattle.flows.proofs.Lists.{Written, values-at}
+use Rattle.flows.proofs.Lists.{Written}
 use Rattle.model.specs.Search.{fallen}
-use Rattle.model.specs.Near.{gapAt, gapsOf, codeOf, lessened, relaxedAlong, relaxedAt, relaxedTo, reducedBy}
-use Rattle.model.specs.Rows.{countOf, startsOf, endsOf, weightsOf}
-use Rattle.model.specs.SearchNeeds.{Network, Rowed}
+use Rattle.model.specs.Near.{codeOf, lessened, relaxedAlong, relaxedAt, relaxedTo, reducedBy}
 
 -- The prices of visited places reduced.
 pub reduced-at : (ls : List Bool) (ks : List ℕ) (k : ℕ) (ps : List ℕ) (u : ℕ)
@@ -78,16 +75,3 @@ pub getD-any : {A : Type 0} (xs : List A) (i : ℕ) (a b : A) → i < length xs 
 getD-any [] i a b l = absurd (omega arith)
 getD-any (x ∷ xs) zero a b l = refl
 getD-any (x ∷ xs) (suc i) a b l = getD-any xs i a b (omega arith)
-
--- One of the slacks.
-pub gap-at : (ls xs ps : List ℕ) (d skip : ℕ) (f : Bool) (k : ℕ) → k < countOf ls
-    → getD (gapsOf ls xs ps d skip f) k 0
-    ≡ pick (ltb 0 (getD (weightsOf ls) k 0) && ltb k skip) 1 (gapAt ls xs ps d f k)
-gap-at ls xs ps d skip f k l = values-at _ 0 (countOf ls) k l
-
--- The starts and the ends of the streams in use are places.
-pub starts-in : {streams : List Stream} {n : ℕ} {ls : List ℕ} → Network streams n → Rowed streams n ls → (k : ℕ) → k < n → getD (startsOf ls) k 0 < places
-starts-in w r k l = rw (r .starts k l) (omega (arith, w .within .each k l .from-in))
-
-pub ends-in : {streams : List Stream} {n : ℕ} {ls : List ℕ} → Network streams n → Rowed streams n ls → (k : ℕ) → k < n → getD (endsOf ls) k 0 < places
-ends-in w r k l = rw (r .ends k l) (omega (arith, w .within .each k l .to-in))

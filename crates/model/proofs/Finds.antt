@@ -1,12 +1,12 @@
 -- The search by a walk: it comes to what the search comes to.
-use mathlib.Core.Path.{_≡_, refl, sym, _∙_, ap, subst}
+use mathlib.Core.Path.{_≡_, refl, sym, _∙_, ap}
 use mathlib.Core.Bool.{Bool, true, false, not, _&&_}
 use mathlib.Core.List.{List}
 use Prim.Native.Nat.{ℕ, zero, suc, _+_, _-_, _*_, _/_, _%_, _≤_, _<_}
 use native.Mathlib.Nat.{div-add-mod}
 use native.Mathlib.Omega.{arith}
 use native.Mathlib.Decide.{ℕ-discrete}
-use borrow.Author.Tests.{ltb-true, ltb-false, lt-ltb, le-ltb}
+use borrow.Author.Tests.{ltb-true, ltb-false}
 use lib.Dec.{ltb}
 use lib.ListN.{length, getD, set, take, replicate, length-set, getD-replicate}
 use lib.Seq.{getD-take, length-take-le, getD-set-same, getD-set-other}
@@ -17,20 +17,18 @@ use Rattle.plants.specs.Limits.{maxUnits, places}
 use Rattle.plants.specs.Within.{WithinStream}
 use Rattle.plants.specs.Plants.{noStream}
 use Rattle.flows.specs.Flows.{streamAt}
-use Rattle.flows.specs.Certificate.{weightOf}
 use Rattle.model.specs.declared.Tree.{Tree}
 use Rattle.model.specs.declared.Walked.{Walked}
 use Rattle.model.specs.Sizes.{netShift, mostStep, searchRounds, mostMarginal, priceFloor, numbering, farthest, far}
 use Rattle.model.specs.Held.{AllHeld}
 use Rattle.model.specs.Slack.{Crossing, At, Nothing, leastTo, slackBy, slackAt, slackPast}
-use Rattle.model.specs.Search.{fallen, loweredBy, farEnd, rootAt, addedTo, Grown, grownBy, grow, sought}
-use Rattle.model.specs.Rows.{countOf, startsOf, endsOf}
-use Rattle.model.specs.Near.{gapsOf, relaxedTo, nearestTo, reducedBy, walked}
-use Rattle.model.specs.SearchNeeds.{Network, Prices, Moderate, Floored, Linked, Laid, Walkable, Lanes, Searching}
-use Rattle.model.proofs.Bounds.{Open, slack-open, slack-shut, open-of, open-or, slack-most, low-high, high-most, reading-close}
+use Rattle.model.specs.Search.{fallen, loweredBy, farEnd, rootAt, addedTo, Grown, grownBy, grow}
+use Rattle.model.specs.Near.{relaxedTo, nearestTo, reducedBy, walked}
+use Rattle.model.specs.SearchNeeds.{Network, Prices, Moderate, Floored}
+use Rattle.model.proofs.Bounds.{Open, slack-open, slack-shut, open-of, open-or, slack-most, reading-close}
 use Rattle.model.proofs.Growing.{slack-rise}
 use Rattle.model.proofs.Weights.{weight-most}
-use Rattle.model.proofs.Filling.{getD-any, reduced-at, reduced-none, gap-at, starts-in, ends-in}
+use Rattle.model.proofs.Filling.{getD-any, reduced-at, reduced-none}
 use Rattle.model.proofs.Least.{Usable, all-usable, startIn, endIn, Answers, least-good, answers-same}
 use Rattle.model.proofs.Rounds.{grow-none, grow-stop, grow-hit, grow-more, grow-end}
 use Rattle.model.proofs.Steps.{walk-none, walk-hit, walk-more, walk-end}
@@ -88,11 +86,11 @@ module _ (streams : List Stream) (n : ℕ) (xs ps : List ℕ) (d skip : ℕ) (fs
   pub open-small : (k : ℕ) (f : Bool) → k < n → Open (streamAt (take n streams) k) f (getD xs k 0) d → slackAt (take n streams) xs ps d k f < farthest
   open-small k f l o = omega (arith, rises k f l o, laid .floor (headOf n fs ts gs bs k f) (heads k f l), laid .prices (tailOf n fs ts gs bs k f) (tails k f l))
 
-  -- It is 1 where the stream is left alone, and at most farthest in any case.
+  -- It is farthest where the stream is left alone, and at most that in any case.
   pub slack-small : (k : ℕ) (f : Bool) → k < n → slackOf n fs ts gs bs k f ≤ farthest
   slack-small k f l = rw (past k f l) (go (streamAt (take n streams) k .metered && ltb k skip))
     where
-      go : (b : Bool) → pick b 1 (slackAt (take n streams) xs ps d k f) ≤ farthest
+      go : (b : Bool) → pick b farthest (slackAt (take n streams) xs ps d k f) ≤ farthest
       go true = omega arith
       go false = slack-most f (streamAt (take n streams) k) (getD xs k 0) _ _ d (λ o. omega (arith, open-small k f l o))
 
@@ -104,65 +102,9 @@ module _ (streams : List Stream) (n : ℕ) (xs ps : List ℕ) (d skip : ℕ) (fs
   pub left-alone : (k : ℕ) (f : Bool) → k < n → slackOf n fs ts gs bs k f ≡ 0 → Usable (take n streams) skip k
   left-alone k f l z = go (streamAt (take n streams) k .metered && ltb k skip) (sym (past k f l) ∙ z)
     where
-      go : (b : Bool) → pick b 1 (slackAt (take n streams) xs ps d k f) ≡ 0 → b ≡ false
+      go : (b : Bool) → pick b farthest (slackAt (take n streams) xs ps d k f) ≡ 0 → b ≡ false
       go true h = absurd (omega arith)
       go false h = refl
-
--- The slacks over the lanes of the streams.
-module _ (streams : List Stream) (n : ℕ) (xs ps : List ℕ) (d skip : ℕ) (ls : List ℕ) (laid : Laid streams n ls) (w : Walkable streams n xs ps d) where
-  -- A metered stream is one that weighs something.
-  metered-is : (k : ℕ) → k < n → ltb 0 (weightOf (getD streams k noStream)) ≡ getD streams k noStream .metered
-  metered-is k l = go (getD streams k noStream .metered) (w .searchable .network .within .each k l .weighed)
-    where
-      go : (b : Bool) → (b ≡ true → 1 ≤ getD streams k noStream .weight) → ltb 0 (pick b (getD streams k noStream .weight) 0) ≡ b
-      go true h = lt-ltb 0 (getD streams k noStream .weight) (omega (arith, h refl))
-      go false h = le-ltb 0 0 (omega arith)
-
-  gap-is : (f : Bool) (k : ℕ) → k < n → getD (gapsOf ls xs ps d skip f) k 0 ≡ slackPast (take n streams) xs ps d skip f k
-  gap-is f k l =
-      gap-at ls xs ps d skip f k (rw (laid .counted) l)
-      ∙ rw
-      (laid .rowed .weights k l, laid .rowed .pulls k l, laid .rowed .starts k l, laid .rowed .ends k l, laid .rowed .lows k l, laid .rowed .highs k l, metered-is k l, getD-take n streams k noStream l)
-
-  pub slacked : Slacked streams n xs ps d skip (startsOf ls) (endsOf ls) (gapsOf ls xs ps d skip true) (gapsOf ls xs ps d skip false)
-  slacked = record {
-    network = w .searchable .network;
-    held = w .held;
-    step = w .searchable .step;
-    prices = w .searchable .prices;
-    moderate = w .moderate;
-    floor = w .floored;
-    starts = λ k l. laid .rowed .starts k l ∙ sym (rw (getD-take n streams k noStream l));
-    ends = λ k l. laid .rowed .ends k l ∙ sym (rw (getD-take n streams k noStream l));
-    ahead = gap-is true;
-    back = gap-is false;
-  }
-
-  pub lanes-of : Lanes ls xs ps d skip
-  lanes-of = record {
-    few = rw (laid .counted) (w .searchable .network .within .few-streams);
-    from-in = λ k l. starts-in (w .searchable .network) (laid .rowed) k (at l);
-    to-in = λ k l. ends-in (w .searchable .network) (laid .rowed) k (at l);
-    light = λ k l. rw (laid .rowed .weights k (at l)) (weight-most (getD streams k noStream) (each k l));
-    pulled = λ k l. laid .rowed .pulled k (at l);
-    linked = subst (λ (m : ℕ). Linked m (startsOf ls) (endsOf ls) ls) (sym (laid .counted)) (laid .linked);
-    amounts = λ k l. w .searchable .amounts k (at l);
-    prices = w .searchable .prices;
-    step = w .searchable .step;
-    low-in = λ k l. rw (laid .rowed .lows k (at l)) (omega (arith, low-high (getD streams k noStream) (each k l), high-most (getD streams k noStream) (each k l)));
-    high-in = λ k l. rw (laid .rowed .highs k (at l)) (high-most (getD streams k noStream) (each k l));
-    small = λ k f l. small k f (at l);
-  }
-    where
-      at : {k : ℕ} → k < countOf ls → k < n
-      at l = rw (laid .counted) at l
-
-      each : (k : ℕ) → k < countOf ls → WithinStream maxUnits (getD streams k noStream)
-      each k l = w .searchable .network .within .each k (at l)
-
-      small : (k : ℕ) (f : Bool) → k < n → getD (gapsOf ls xs ps d skip f) k 0 ≤ farthest
-      small k true l = slack-small streams n xs ps d skip (startsOf ls) (endsOf ls) _ _ slacked k true l
-      small k false l = slack-small streams n xs ps d skip (startsOf ls) (endsOf ls) _ _ slacked k false l
 
 pub zeros : (m u : ℕ) → _≡_ {A = ℕ} (getD (replicate m 0) u 0) 0
 zeros zero u = refl
@@ -430,18 +372,3 @@ module _ (streams : List Stream) (n : ℕ) (xs ps : List ℕ) (d : ℕ) (fs ts g
         short = omega arith;
         tall = λ u b y. omega (arith, zeros places u, ap (λ (v : ℕ). getD ps v 0) (only-root root u within b y));
       })
-
--- Over the lanes: the prices are reduced where a place was found.
-pub search-laid : (ls xs ps es : List ℕ) (d s : ℕ) → s < places → (w : Searching ls xs ps d) → (r : Walked)
-    → r ≡ walked (startsOf ls) (endsOf ls) (gapsOf ls xs ps d 0 true) (gapsOf ls xs ps d 0 false) (countOf ls) es far searchRounds 0 s (replicate places 0) (replicate places far) (rootAt s)
-    → grownBy (r .found) (r .tree) (pick (r .found) (reducedBy (r .tree .visited) (r .dist) (r .reach) ps) ps) ≡ sought (take (w .n) (w .streams)) xs es ps d s
-unfolding sought
-search-laid ls xs ps es d s l w r e =
-    rw (in-use (w .streams) (w .n) xs ps d 0 (startsOf ls) (endsOf ls) _ _ all)
-    (ap (λ (g : Grown). grownBy (g .found) (g .tree) (pick (g .found) (g .prices) ps))
-    (ap (λ (v : Walked). grownBy (v .found) (v .tree) (reducedBy (v .tree .visited) (v .dist) (v .reach) ps))
-    (e ∙ ap (λ (m : ℕ). walked (startsOf ls) (endsOf ls) (gapsOf ls xs ps d 0 true) (gapsOf ls xs ps d 0 false) m es far searchRounds 0 s (replicate places 0) (replicate places far) (rootAt s)) (w .laid .counted))
-    ∙ sym (search-walk (w .streams) (w .n) xs ps d (startsOf ls) (endsOf ls) _ _ all es s l)))
-  where
-    all : Slacked (w .streams) (w .n) xs ps d 0 (startsOf ls) (endsOf ls) (gapsOf ls xs ps d 0 true) (gapsOf ls xs ps d 0 false)
-    all = slacked (w .streams) (w .n) xs ps d 0 ls (w .laid) (w .walkable)

@@ -16,7 +16,6 @@ pub mod Finds
 pub mod Rounding
 pub mod Amounts
 pub mod Pushing
-pub mod Rows
 pub mod Counting
 pub mod Growing
 pub mod Hunting
@@ -36,7 +35,6 @@ pub mod Fulls
 pub mod Steady
 pub mod Phases
 pub mod Turns
-pub mod FullTurns
 pub mod PhaseTurns
 pub mod Layouts
 pub mod Ending

@@ -1,22 +1,17 @@
 -- The lists of streams: how they are made, and that a place's list has all its streams.
-use mathlib.Core.Path.{_≡_, refl, sym, _∙_, ap}
+use mathlib.Core.Path.{_≡_, refl, sym}
 use mathlib.Core.Bool.{Bool, true, false, not, _||_}
 use mathlib.Core.List.{List}
 use mathlib.Core.Logic.{_⊎_, inl, inr, ⊎-elim}
 use Prim.Native.Nat.{ℕ, zero, suc, _+_, _*_, _≤_, _<_}
 use native.Mathlib.Omega.{arith}
-use native.Mathlib.Decide.{ℕ-discrete}
 use borrow.Author.Tests.{lt-ltb, le-ltb, eqb-true}
 use lib.Dec.{eqb, ltb}
-use lib.ListN.{length, getD, set, length-set}
-use lib.Seq.{getD-set-same, getD-set-other}
+use lib.ListN.{getD}
 use Rattle.numbers.specs.Choice.{pick}
 use Rattle.numbers.proofs.Tests.{by-cases, clash}
-use Rattle.plants.specs.Limits.{places, maxStreams}
-use Rattle.model.specs.Rows.{rowAt, laneCells}
-use Rattle.model.specs.Near.{lastAt, linkAt, relaxedAlong, relaxedAt, relaxedTo}
-use Rattle.model.specs.SearchNeeds.{Linkable, Linked}
-use Rattle.model.proofs.Amounts.{get-set}
+use Rattle.plants.specs.Limits.{maxStreams}
+use Rattle.model.specs.Near.{lastAt, arcAt, relaxedAlong, relaxedAt, relaxedTo}
 
 module _ (fs ts : List ℕ) where
   abbrev pub touches : ℕ → ℕ → Bool
@@ -30,23 +25,23 @@ module _ (fs ts : List ℕ) where
       (λ t. rw t (inl (omega arith, t)))
       (λ t. rw t (⊎-elim (λ o. inl (omega (arith, o .0), o .1)) (λ o. inr o) (last-good u n)))
 
-  -- What a link tells: the stream, and whether it starts at the place.
-  pub link-is : (u n : ℕ) → (d : ℕ) × (linkAt fs ts u n ≡ 2 * lastAt fs ts u n + d) × (d ≤ 1) × (lastAt fs ts u n < maxStreams → eqb d 1 ≡ eqb (getD fs (lastAt fs ts u n) 0) u)
-  unfolding linkAt lastAt
-  link-is u zero = (0, refl, omega arith, λ l. absurd (omega arith))
-  link-is u (suc n) = by-cases (eqb (getD fs n 0) u)
+  -- What an arc tells: the stream, and whether it starts at the place.
+  pub arc-is : (u n : ℕ) → (d : ℕ) × (arcAt fs ts u n ≡ 2 * lastAt fs ts u n + d) × (d ≤ 1) × (lastAt fs ts u n < maxStreams → eqb d 1 ≡ eqb (getD fs (lastAt fs ts u n) 0) u)
+  unfolding arcAt lastAt
+  arc-is u zero = (0, refl, omega arith, λ l. absurd (omega arith))
+  arc-is u (suc n) = by-cases (eqb (getD fs n 0) u)
       (λ t. rw t (1, refl, omega arith, λ l. sym t))
       (λ t. by-cases (eqb (getD ts n 0) u)
       (λ r. rw (t, r) (0, omega arith, omega arith, λ l. sym t))
-      (λ r. rw (t, r) (link-is u n)))
+      (λ r. rw (t, r) (arc-is u n)))
 
   -- So a walk along a list comes to an end.
-  pub link-less : (u i c n : ℕ) → c < n → 2 * i ≤ c → n ≤ 2 * maxStreams → pick {A = ℕ} (ltb (linkAt fs ts u i) n) (suc (linkAt fs ts u i)) 0 < pick {A = ℕ} (ltb c n) (suc c) 0
-  link-less u i c n l h m =
+  pub arc-less : (u i c n : ℕ) → c < n → 2 * i ≤ c → n ≤ 2 * maxStreams → pick {A = ℕ} (ltb (arcAt fs ts u i) n) (suc (arcAt fs ts u i)) 0 < pick {A = ℕ} (ltb c n) (suc c) 0
+  arc-less u i c n l h m =
       rw (lt-ltb c n l)
-      (⊎-elim (λ o. go (ltb (linkAt fs ts u i) n) (omega (arith, o .0, link-is u i .1, link-is u i .2))) (λ o. rw (le-ltb (linkAt fs ts u i) n (omega (arith, o, link-is u i .1))) (omega arith)) (last-good u i))
+      (⊎-elim (λ o. go (ltb (arcAt fs ts u i) n) (omega (arith, o .0, arc-is u i .1, arc-is u i .2))) (λ o. rw (le-ltb (arcAt fs ts u i) n (omega (arith, o, arc-is u i .1))) (omega arith)) (last-good u i))
     where
-      go : (b : Bool) → linkAt fs ts u i < c → pick {A = ℕ} b (suc (linkAt fs ts u i)) 0 < suc c
+      go : (b : Bool) → arcAt fs ts u i < c → pick {A = ℕ} b (suc (arcAt fs ts u i)) 0 < suc c
       go true h = omega arith
       go false h = omega arith
 
@@ -92,59 +87,3 @@ module _ (fs ts : List ℕ) where
     unfolding relaxedAt
     relaxed-touching G ls k near true h = rw (← h)
     relaxed-touching G ls k near false h = rw (← h, other (sym h))
-
-  -- One stream more in the lists, from place u to place v.
-  pub link-step : (i u v : ℕ) (next : List ℕ) → i < maxStreams → u ≡ getD fs i 0 → v ≡ getD ts i 0 → u < places → v < places → Linked i fs ts next
-      → Linked (i + 1) fs ts
-      (set (set (set (set next (rowAt 0 + i) (getD next u 0)) (rowAt 1 + i) (getD (set next (rowAt 0 + i) (getD next u 0)) v 0)) v (2 * i)) u (2 * i + 1))
-  unfolding linkAt
-  link-step i u v next l iu iv fu tv h = record {
-    long = length-set n3 u (2 * i + 1) ∙ length-set n2 v (2 * i) ∙ length-set n1 (places + maxStreams + i) (getD n1 v 0) ∙ long1;
-    last = λ w b. let e : suc i ≡ i + 1 = omega arith in top w b ∙ ap (λ (m : ℕ). linkAt fs ts w m) e;
-    out = λ k b. elim (ℕ-discrete k i) [
-      | yes q ↦ rw q (low (places + i) (omega arith) ∙ getD-set-other n1 (places + maxStreams + i) (places + i) (getD n1 v 0) 0 (λ o. omega arith)
-          ∙ getD-set-same next (places + i) (getD next u 0) 0 (omega (arith, h .long)) ∙ h .last u fu ∙ ap (λ (w : ℕ). linkAt fs ts w i) iu)
-      | no q ↦ low (places + k) (omega arith) ∙ getD-set-other n1 (places + maxStreams + i) (places + k) (getD n1 v 0) 0 (λ o. omega arith)
-          ∙ getD-set-other next (places + i) (places + k) (getD next u 0) 0 (λ o. q (omega arith)) ∙ h .out k (omega arith)
-    ];
-    into = λ k b. elim (ℕ-discrete k i) [
-      | yes q ↦ rw q (low (places + maxStreams + i) (omega arith) ∙ getD-set-same n1 (places + maxStreams + i) (getD n1 v 0) 0 (omega (arith, long1))
-          ∙ getD-set-other next (places + i) v (getD next u 0) 0 (λ o. omega arith) ∙ h .last v tv ∙ ap (λ (w : ℕ). linkAt fs ts w i) iv)
-      | no q ↦ low (places + maxStreams + k) (omega arith) ∙ getD-set-other n1 (places + maxStreams + i) (places + maxStreams + k) (getD n1 v 0) 0 (λ o. q (omega arith))
-          ∙ getD-set-other next (places + i) (places + maxStreams + k) (getD next u 0) 0 (λ o. omega arith) ∙ h .into k (omega arith)
-    ];
-  }
-    where
-      n1 : List ℕ
-      n1 = set next (places + i) (getD next u 0)
-
-      n2 : List ℕ
-      n2 = set n1 (places + maxStreams + i) (getD n1 v 0)
-
-      n3 : List ℕ
-      n3 = set n2 v (2 * i)
-
-      long1 : length n1 ≡ laneCells
-      long1 = length-set next (places + i) (getD next u 0) ∙ h .long
-
-      long2 : length n2 ≡ laneCells
-      long2 = length-set n1 (places + maxStreams + i) (getD n1 v 0) ∙ long1
-
-      long3 : length n3 ≡ laneCells
-      long3 = length-set n2 v (2 * i) ∙ long2
-
-      low : (c : ℕ) → places ≤ c → getD (set n3 u (2 * i + 1)) c 0 ≡ getD n2 c 0
-      low c b = getD-set-other n3 u c (2 * i + 1) 0 (λ o. omega arith) ∙ getD-set-other n2 v c (2 * i) 0 (λ o. omega arith)
-
-      old : (w : ℕ) → w < places → getD n2 w 0 ≡ getD next w 0
-      old w b = getD-set-other n1 (places + maxStreams + i) w (getD n1 v 0) 0 (λ o. omega arith) ∙ getD-set-other next (places + i) w (getD next u 0) 0 (λ o. omega arith)
-
-      top : (w : ℕ) → w < places → getD (set n3 u (2 * i + 1)) w 0 ≡ pick (eqb (getD fs i 0) w) (2 * i + 1) (pick (eqb (getD ts i 0) w) (2 * i) (linkAt fs ts w i))
-      top w b =
-          get-set n3 u w (2 * i + 1) 0 (omega (arith, long3))
-          ∙ rw (get-set n2 v w (2 * i) 0 (omega (arith, long2)), old w b, h .last w b, ← iu, ← iv) refl
-
-  -- Empty lists.
-  pub link-none : {n : ℕ} {ls : List ℕ} → Linkable n ls → Linked 0 fs ts ls
-  unfolding linkAt
-  link-none h = record { long = h .long; last = h .none; out = λ k b. absurd (omega arith); into = λ k b. absurd (omega arith) }

@@ -16,21 +16,19 @@ use Rattle.model.specs.declared.Walked.{Walked}
 use Rattle.model.specs.Sizes.{netShift, searchRounds, numbering, farthest, far}
 use Rattle.model.specs.Slack.{Crossing, At, Nothing, leastTo, slackAt}
 use Rattle.model.specs.Search.{farEnd, rootAt, addedTo, Grown, grownBy, tightPath}
-use Rattle.model.specs.Rows.{countOf, startsOf, endsOf}
-use Rattle.model.specs.SearchNeeds.{Searching}
-use Rattle.model.specs.Near.{gapsOf, relaxedTo, nearestTo, goalAt, walked}
+use Rattle.model.specs.Near.{relaxedTo, nearestTo, goalAt, walked}
 use Rattle.model.proofs.Least.{Usable, startIn, endIn, Answers, least-good, answers-same}
 use Rattle.model.proofs.Rounds.{path-none, path-stop, path-hit, path-more, path-end}
 use Rattle.model.proofs.Steps.{walk-none, walk-far, walk-hit, walk-more, walk-end}
 use Rattle.model.proofs.Nearing.{tailOf, headOf, slackOf, overOf, Nears, relaxed-good, next-good}
 use Rattle.model.proofs.Walks.{leaving, leads-on, Told, told, none-leads}
-use Rattle.model.proofs.Finds.{Slacked, slacked, heads, tails, usable-slack, left-alone, zeros, root-nears}
+use Rattle.model.proofs.Finds.{Slacked, heads, tails, usable-slack, left-alone, zeros, root-nears}
 
 -- Only place v has a negative net.
-goal-hit : (v : ℕ) → v < places → getD (goalAt v) v 0 < netShift
+pub goal-hit : (v : ℕ) → v < places → getD (goalAt v) v 0 < netShift
 goal-hit v l = rw (getD-set-same (replicate places netShift) v 0 0 l) (omega arith)
 
-goal-miss : (v u : ℕ) → u < places → (u ≡ v → ⊥) → netShift ≤ getD (goalAt v) u 0
+pub goal-miss : (v u : ℕ) → u < places → (u ≡ v → ⊥) → netShift ≤ getD (goalAt v) u 0
 goal-miss v u l q = rw (getD-set-other (replicate places netShift) v u 0 0 q, getD-replicate places u netShift 0 l) (omega arith)
 
 module _ (streams : List Stream) (n : ℕ) (xs ps : List ℕ) (skip : ℕ) (fs ts gs bs : List ℕ) (laid : Slacked streams n xs ps 1 skip fs ts gs bs) (v : ℕ) (vl : v < places) where
@@ -211,12 +209,3 @@ module _ (streams : List Stream) (n : ℕ) (xs ps : List ℕ) (skip : ℕ) (fs t
     dists = refl;
     none = zeros places;
   })
-
--- Over the lanes.
-pub path-laid : (ls xs ps : List ℕ) (v skip s : ℕ) → v < places → s < places → (w : Searching ls xs ps 1) → (r : Walked)
-    → r ≡ walked (startsOf ls) (endsOf ls) (gapsOf ls xs ps 1 skip true) (gapsOf ls xs ps 1 skip false) (countOf ls) (goalAt v) 0 searchRounds 0 s (replicate places 0) (replicate places far) (rootAt s)
-    → grownBy (r .found) (r .tree) ps ≡ tightPath (take (w .n) (w .streams)) (w .n) xs ps v skip searchRounds (rootAt s)
-path-laid ls xs ps v skip s lv l w r e =
-    ap (λ (q : Walked). grownBy (q .found) (q .tree) ps)
-    (e ∙ ap (λ (m : ℕ). walked (startsOf ls) (endsOf ls) (gapsOf ls xs ps 1 skip true) (gapsOf ls xs ps 1 skip false) m (goalAt v) 0 searchRounds 0 s (replicate places 0) (replicate places far) (rootAt s)) (w .laid .counted))
-    ∙ sym (path-walk (w .streams) (w .n) xs ps skip (startsOf ls) (endsOf ls) _ _ (slacked (w .streams) (w .n) xs ps 1 skip ls (w .laid) (w .walkable)) v lv s l)

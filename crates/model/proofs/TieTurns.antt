@@ -1,12 +1,12 @@
 -- The tie pass over the array: one stream by its parts, and what the push round it needs.
 use mathlib.Core.Path.{_≡_, refl, sym, _∙_, ap, subst}
-use mathlib.Core.Bool.{Bool, true, false, _&&_}
+use mathlib.Core.Bool.{Bool, true, false}
 use mathlib.Core.List.{List}
-use Prim.Native.Nat.{ℕ, zero, suc, _+_, _-_, _≤_, _<_}
+use Prim.Native.Nat.{ℕ, suc, _+_, _-_, _≤_, _<_}
 use native.Mathlib.Numerals.{add-one}
 use native.Mathlib.Omega.{arith}
-use borrow.Author.Tests.{lt-ltb, le-ltb, eqb-true, eqb-false}
-use lib.Dec.{eqb, ltb}
+use borrow.Author.Tests.{lt-ltb, le-ltb}
+use lib.Dec.{ltb}
 use lib.ListN.{length, getD, set, take}
 use Rattle.numbers.specs.Choice.{pick}
 use Rattle.numbers.proofs.Tests.{clash}
@@ -14,20 +14,16 @@ use Rattle.plants.specs.declared.Stream.{Stream}
 use Rattle.plants.specs.Limits.{maxUnits}
 use Rattle.plants.specs.Plants.{noStream}
 use Rattle.flows.specs.Flows.{streamAt}
-use Rattle.flows.specs.Certificate.{weightOf}
 use Rattle.model.specs.declared.Tree.{Tree}
 use Rattle.model.specs.Sizes.{searchRounds}
 use Rattle.model.specs.Slack.{slackBy}
-use Rattle.model.specs.Rows.{countOf, weightsOf}
-use Rattle.model.specs.Near.{gapsOf}
 use Rattle.model.specs.Search.{rootAt, Grown, tightPath}
 use Rattle.model.specs.Push.{pushed}
-use Rattle.model.specs.SearchNeeds.{Network, Trail, Roomy, Laid, Searching, Laying}
-use Rattle.model.proofs.Filling.{gap-at}
+use Rattle.model.specs.SearchNeeds.{Network, Trail, Roomy}
 use Rattle.model.proofs.Counting.{count-most}
 use Rattle.model.proofs.TightPath.{Path, way, shut}
 use Rattle.model.specs.Model.{tiedBy, tiedAt, tiesTo}
-use Rattle.model.specs.SolverNeeds.{Even, Falls, Tieable}
+use Rattle.model.specs.SolverNeeds.{Even}
 use Rattle.model.proofs.Streams.{stream-is, in-use, solvable-of}
 use Rattle.model.proofs.Detours.{round-path, left-some, ties-even}
 
@@ -39,10 +35,10 @@ module _ (streams : List Stream) (n : ℕ) (w : Network streams n) (ps : List �
   s = getD streams i noStream
 
   -- The slack against less, and the search for a way round.
-  abbrev lack : ℕ
+  abbrev pub lack : ℕ
   lack = slackBy (getD streams i noStream) false (getD xs i 0) (getD ps (getD streams i noStream .from) 0) (getD ps (getD streams i noStream .to) 0) 1
 
-  abbrev searched : Grown
+  abbrev pub searched : Grown
   searched = tightPath (take n streams) n xs ps (getD streams i noStream .to) (suc i) searchRounds (rootAt (getD streams i noStream .from))
 
   parts : tiedAt ss ps i xs ≡ pick (s .metered) (pick (ltb 0 lack) xs (tiedBy ss xs (s .to) i searched)) xs
@@ -100,71 +96,6 @@ module _ (streams : List Stream) (n : ℕ) (w : Network streams n) (ps : List �
             };
             some = rw at at (left-some ss (solvable-of streams n w) ps i li xs h (rw at e) (rw at (omega arith)) (g .tree) (rw at a) (rw at r) u);
           }
-
--- A search can go over the lanes; and the test by them.
-abbrev pub tie-searching : (ls ps : List ℕ) (i : ℕ) (xs : List ℕ) (w : Tieable ls ps i xs) → i ≤ w .n → Searching ls xs ps 1
-tie-searching ls ps i xs w l = record {
-  streams = w .streams;
-  n = w .n;
-  walkable = record {
-    searchable = record {
-      network = w .network;
-      step = omega arith;
-      amounts = λ k m. omega (arith, w .even .close k (omega (arith, w .network .within .few-streams)) .0, w .network .within .few-streams, l);
-      prices = w .prices;
-    };
-    held = w .even .held;
-    moderate = λ k m e. let o = w .even .moderate k m e in (omega (arith, o .0, w .network .within .few-streams, l), omega (arith, o .1, w .network .within .few-streams, l));
-    floored = w .even .floor;
-  };
-  laid = w .laid;
-}
-
-abbrev pub tie-laying : (ls ps : List ℕ) (i : ℕ) (xs : List ℕ) → Tieable ls ps i xs → Laying ls
-tie-laying ls ps i xs w = record { streams = w .streams; n = w .n; network = w .network; laid = w .laid }
-
-pub tie-trail : (ls ps : List ℕ) (i : ℕ) (xs : List ℕ) (w : Tieable ls ps i xs) (via : List ℕ) (len : ℕ) → Trail via (w .n) len → Trail via (countOf ls) len
-tie-trail ls ps i xs w via len t = subst (λ (m : ℕ). Trail via m len) (sym (w .laid .counted)) t
-
-module _ (streams : List Stream) (n : ℕ) (w : Network streams n) (ps : List ℕ) (i : ℕ) (l : i < n) (xs ls : List ℕ) (laid : Laid streams n ls) where
-  abbrev test : Bool
-  test = ltb 0 (getD (weightsOf ls) i 0) && eqb (getD (gapsOf ls xs ps 1 0 false) i 0) 0
-
-  gap-is : getD (gapsOf ls xs ps 1 0 false) i 0 ≡ lack streams n w ps i l xs
-  gap-is =
-      gap-at ls xs ps 1 0 false i (rw (laid .counted) l)
-      ∙ rw (laid .rowed .weights i l, laid .rowed .pulls i l, laid .rowed .starts i l, laid .rowed .ends i l, laid .rowed .lows i l, le-ltb i 0 (omega arith))
-      (go (ltb 0 (weightOf (getD streams i noStream))))
-    where
-      go : (b : Bool) → pick (b && false) 1 (lack streams n w ps i l xs) ≡ lack streams n w ps i l xs
-      go true = refl
-      go false = refl
-
-  test-is : test ≡ (getD streams i noStream .metered && eqb (lack streams n w ps i l xs) 0)
-  test-is = rw (gap-is, laid .rowed .weights i l) (go (getD streams i noStream .metered) (w .within .each i l .weighed))
-    where
-      go : (b : Bool) → (b ≡ true → 1 ≤ getD streams i noStream .weight)
-          → (ltb 0 (pick b (getD streams i noStream .weight) 0) && eqb (lack streams n w ps i l xs) 0) ≡ (b && eqb (lack streams n w ps i l xs) 0)
-      go true h = rw (lt-ltb 0 (getD streams i noStream .weight) (omega (arith, h refl)))
-      go false h = rw (le-ltb 0 0 (omega arith))
-
-  pub falls : test ≡ true → Falls streams ps i xs
-  falls e = go (getD streams i noStream .metered) refl (sym test-is ∙ e)
-    where
-      go : (b : Bool) → getD streams i noStream .metered ≡ b → (b && eqb (lack streams n w ps i l xs) 0) ≡ true → Falls streams ps i xs
-      go true m h = record { metered = m; tight = omega (arith, eqb-true (lack streams n w ps i l xs) 0 h) }
-      go false m h = clash false h refl
-
-  pub stays : test ≡ false → tiedAt (take n streams) ps i xs ≡ xs
-  stays e = go (getD streams i noStream .metered) refl (sym test-is ∙ e)
-    where
-      go : (b : Bool) → getD streams i noStream .metered ≡ b → (b && eqb (lack streams n w ps i l xs) 0) ≡ false → tiedAt (take n streams) ps i xs ≡ xs
-      go true m h = tied-slack streams n w ps i l xs m (go-lack (lack streams n w ps i l xs) (eqb-false (lack streams n w ps i l xs) 0 h))
-        where
-          go-lack : (a : ℕ) → (a ≡ 0 → ⊥) → 0 < a
-          go-lack zero q = absurd (q refl)
-          go-lack (suc a) q = omega arith
-      go false m h = tied-free streams n w ps i l xs m
 
 -- The pass.
 pub tying-even : (streams : List Stream) (n : ℕ) (w : Network streams n) (ps xs : List ℕ) → Even (take n streams) ps 0 xs → (i : ℕ) → i ≤ n

@@ -17,14 +17,12 @@ use Rattle.model.specs.declared.Tree.{Tree}
 use Rattle.model.specs.declared.State.{State}
 use Rattle.model.specs.Sizes.{netShift, settledRoom}
 use Rattle.model.specs.Search.{target, Grown, grownBy, sought}
-use Rattle.model.specs.SearchNeeds.{Network, Prices, Close, Trail, Roomy, Searching, Laying}
-use Rattle.model.specs.Rows.{countOf}
+use Rattle.model.specs.SearchNeeds.{Network, Prices, Close, Trail, Roomy}
 use Rattle.model.specs.Model.{improvedBy, settledOf, settledTo, booked, netsTo, pushedOn, improvedAt, overSum}
-use Rattle.model.specs.SolverNeeds.{Step, Shiftable, Underway, Improvable}
+use Rattle.model.specs.SolverNeeds.{Step, Shiftable, Underway}
 use Rattle.model.proofs.Counting.{count-most}
 use Rattle.model.proofs.Hunting.{Hunt, hit, stuck, sought-stays}
-use Rattle.model.proofs.Streams.{Solvable, in-use, solvable-of}
-use Rattle.model.proofs.Tall.{sound-moderate}
+use Rattle.model.proofs.Streams.{in-use, solvable-of}
 use Rattle.model.proofs.Steady.{over-at, sound-close, underway-room, finds}
 
 -- A store keeps a bound.
@@ -168,31 +166,3 @@ pub over-to-most : (es : List ℕ) (b n : ℕ) → ((u : ℕ) → u < n → getD
 unfolding overTo
 over-to-most es b zero h = omega arith
 over-to-most es b (suc n) h = omega (arith, h n (omega arith), over-to-most es b n (λ u l. h u (omega arith)))
-
--- A search can go over the lanes.
-abbrev pub improve-searching : (ls : List ℕ) (d : ℕ) (st : State) → Improvable ls d st → Searching ls (st .flows) (st .prices) d
-improve-searching ls d st w = record {
-  streams = w .streams;
-  n = w .n;
-  walkable = record {
-    searchable = record {
-      network = w .network;
-      step = w .step .1;
-      amounts = λ k l. omega (arith, sound-close _ v d (w .underway .size) (w .step) st (w .underway .sound) (omega (arith, w .underway .fits)) k (omega (arith, w .network .within .few-streams)) .0);
-      prices = w .underway .sound .capped;
-    };
-    held = w .underway .sound .held;
-    moderate = sound-moderate _ v d (w .underway .size) st (w .step .1) (w .underway .sound);
-    floored = w .underway .sound .floor;
-  };
-  laid = w .laid;
-}
-  where
-    v : Solvable (take (w .n) (w .streams))
-    v = solvable-of (w .streams) (w .n) (w .network)
-
-abbrev pub improve-laying : (ls : List ℕ) (d : ℕ) (st : State) → Improvable ls d st → Laying ls
-improve-laying ls d st w = record { streams = w .streams; n = w .n; network = w .network; laid = w .laid }
-
-pub improve-trail : (ls : List ℕ) (d : ℕ) (st : State) (w : Improvable ls d st) (via : List ℕ) (len : ℕ) → Trail via (w .n) len → Trail via (countOf ls) len
-improve-trail ls d st w via len t = subst (λ (m : ℕ). Trail via m len) (sym (w .laid .counted)) t

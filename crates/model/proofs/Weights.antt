@@ -1,15 +1,14 @@
 -- Readings and weights as they are held: what the code's conversions and products come to.
 use mathlib.Core.Path.{_≡_, ap}
 use lib.IntN.{ℤ, pos, negsuc, _+ℤ_}
-use mathlib.Core.Bool.{Bool, true, false}
-use Prim.Native.Nat.{ℕ, suc, _+_, _-_, _*_, _≤_}
+use mathlib.Core.Bool.{true}
+use Prim.Native.Nat.{ℕ, suc, _*_, _≤_}
 use native.Mathlib.Nat.{mul-le-mul}
 use native.Mathlib.Omega.{arith}
 use mir.Val.{SFits}
 use mir.Syntax.{w32, w64}
 use borrow.Author.Needs.{sfits-of}
 use borrow.Author.Tests.{le-ltb}
-use Rattle.numbers.specs.Choice.{pick}
 use Rattle.numbers.proofs.Tests.{picked}
 use Rattle.plants.specs.declared.Stream.{Stream}
 use Rattle.plants.specs.Limits.{maxWeight}
@@ -17,7 +16,6 @@ use Rattle.plants.specs.Within.{WithinStream}
 use Rattle.flows.specs.Certificate.{weightOf}
 use Rattle.model.specs.Sizes.{flowShift, mostFlow, mostPull}
 use Rattle.model.specs.Held.{shifted}
-use Rattle.model.specs.Slack.{gapBy}
 
 -- A stream's weight is in range, and not 0 where it is metered.
 pub weight-most : {n : ℕ} (s : Stream) → WithinStream n s → weightOf s ≤ maxWeight
@@ -44,9 +42,3 @@ shifted-fits z f = let b : shifted z ≤ mostFlow = shifted-most z f in sfits-of
 -- Weight times a held amount.
 pub pull-most : (w x : ℕ) → w ≤ maxWeight → x ≤ mostFlow → w * x ≤ mostPull
 pull-most w x hw hx = mul-le-mul hw hx
-
--- The slack in either direction as one difference.
-pub gap-chosen : (w q : ℕ) (b : Bool) (x pu pv d : ℕ)
-    → (pick b (2 * (w * x) + pu) (pv + q) + w * d) - pick b (pv + q) (2 * (w * x) + pu) ≡ gapBy w q b x pu pv d
-gap-chosen w q true x pu pv d = omega arith
-gap-chosen w q false x pu pv d = omega arith

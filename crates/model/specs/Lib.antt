@@ -2,7 +2,6 @@
 -- the solver promises.
 pub mod Sizes
 pub mod Counts
-pub mod Rows
 pub mod Held
 pub mod Slack
 pub mod Search

@@ -1,32 +1,17 @@
 -- The search by distances: for each place that is not visited, the stream by which the visited places come nearest to it. A stream
 -- has two directions, forwards from its start to its end and backwards from its end to its start. In what follows fs are the starts
 -- of streams, ts their ends, gs the slacks forwards and bs backwards.
-use mathlib.Core.Bool.{Bool, true, false, _&&_, _||_}
+use mathlib.Core.Bool.{Bool, true, false, _||_}
 use mathlib.Core.List.{List, [], _∷_}
 use Prim.Native.Nat.{ℕ, zero, suc, _+_, _-_, _*_, _/_, _%_}
 use lib.Dec.{eqb, ltb}
 use lib.ListN.{getD, set, replicate}
 use Rattle.numbers.specs.Choice.{pick}
 use Rattle.plants.specs.Limits.{places, maxStreams}
-use Rattle.numbers.specs.Inner.{values}
 use Rattle.model.specs.declared.Tree.{Tree}
 use Rattle.model.specs.declared.Walked.{Walked}
-use Rattle.model.specs.Sizes.{netShift, farthest, far, numbering}
-use Rattle.model.specs.Rows.{countOf, startsOf, endsOf, weightsOf, pullsOf, lowsOf, highsOf}
-use Rattle.model.specs.Slack.{gapBy, openBy}
+use Rattle.model.specs.Sizes.{netShift, far, numbering}
 use Rattle.model.specs.Search.{fallen, addedTo}
-
--- The slack of stream k in one direction, by its lanes, the amounts xs and the prices ps; `farthest` where it cannot move by d.
-abbrev pub gapAt : List ℕ → List ℕ → List ℕ → ℕ → Bool → ℕ → ℕ
-gapAt ls xs ps d f k =
-    pick (openBy (getD (lowsOf ls) k 0) (getD (highsOf ls) k 0) f (getD xs k 0) d)
-    (gapBy (getD (weightsOf ls) k 0) (getD (pullsOf ls) k 0) f (getD xs k 0) (getD ps (getD (startsOf ls) k 0) 0) (getD ps (getD (endsOf ls) k 0) 0) d)
-    farthest
-
--- Of the streams in use; a metered stream, whose weight is not 0, before number skip counts as one with slack.
-abbrev pub gapsOf : List ℕ → List ℕ → List ℕ → ℕ → ℕ → Bool → List ℕ
-gapsOf ls xs ps d skip f =
-    values (countOf ls) (λ k. pick (ltb 0 (getD (weightsOf ls) k 0) && ltb k skip) 1 (gapAt ls xs ps d f k))
 
 -- The last of the first n streams that starts or ends at place u; maxStreams where there is none.
 unfoldable pub lastAt : List ℕ → List ℕ → ℕ → ℕ → ℕ
@@ -34,9 +19,9 @@ lastAt fs ts u zero = maxStreams
 lastAt fs ts u (suc n) = pick (eqb (getD fs n 0) u || eqb (getD ts n 0) u) n (lastAt fs ts u n)
 
 -- Twice its number, and one more where it starts there.
-unfoldable pub linkAt : List ℕ → List ℕ → ℕ → ℕ → ℕ
-linkAt fs ts u zero = 2 * maxStreams
-linkAt fs ts u (suc n) = pick (eqb (getD fs n 0) u) (2 * n + 1) (pick (eqb (getD ts n 0) u) (2 * n) (linkAt fs ts u n))
+unfoldable pub arcAt : List ℕ → List ℕ → ℕ → ℕ → ℕ
+arcAt fs ts u zero = 2 * maxStreams
+arcAt fs ts u (suc n) = pick (eqb (getD fs n 0) u) (2 * n + 1) (pick (eqb (getD ts n 0) u) (2 * n) (arcAt fs ts u n))
 
 -- A distance k and the number i of the stream that leads there, as one number.
 abbrev pub codeOf : ℕ → ℕ → ℕ

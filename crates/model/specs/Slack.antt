@@ -29,9 +29,9 @@ slackBy s forwards x pu pv d =
 abbrev pub slackAt : List Stream → List ℕ → List ℕ → ℕ → ℕ → Bool → ℕ
 slackAt ss xs ps d k b = slackBy (streamAt ss k) b (getD xs k 0) (getD ps (streamAt ss k .from) 0) (getD ps (streamAt ss k .to) 0) d
 
--- A metered stream before number skip is left alone: it counts as one with slack.
+-- A metered stream before number skip is left alone: it counts as one that cannot move.
 abbrev pub slackPast : List Stream → List ℕ → List ℕ → ℕ → ℕ → Bool → ℕ → ℕ
-slackPast ss xs ps d skip b k = pick (streamAt ss k .metered && ltb k skip) 1 (slackAt ss xs ps d k b)
+slackPast ss xs ps d skip b k = pick (streamAt ss k .metered && ltb k skip) farthest (slackAt ss xs ps d k b)
 
 -- A stream that leaves the visited places, by its number, with its slack; or no such stream.
 pub data Crossing : Type 0 where

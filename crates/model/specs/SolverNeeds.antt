@@ -4,7 +4,7 @@ use mathlib.Core.Bool.{true, false}
 use mathlib.Core.List.{List}
 use lib.IntN.{pos, _-ℤ_}
 use Prim.Native.Nat.{ℕ, _+_, _*_, _≤_, _<_}
-use lib.ListN.{length, getD, take}
+use lib.ListN.{length, getD}
 use Rattle.plants.specs.declared.Stream.{Stream}
 use Rattle.plants.specs.Limits.{places, maxUnits, maxStreams}
 use Rattle.plants.specs.Plants.{noStream}
@@ -14,7 +14,7 @@ use Rattle.flows.specs.Nets.{netOf}
 use Rattle.model.specs.Sizes.{flowShift, mostFlow, priceShift, netShift, mostStep}
 use Rattle.model.specs.Held.{unshifted, AllHeld, AllInside}
 use Rattle.model.specs.Slack.{slackBy}
-use Rattle.model.specs.SearchNeeds.{Network, Prices, Floored, Close, Laid}
+use Rattle.model.specs.SearchNeeds.{Network, Prices, Floored, Close}
 use Rattle.model.specs.declared.Hint.{Hint}
 use Rattle.model.specs.declared.State.{State}
 use Rattle.model.specs.Model.{settled, overSum, stepsOver}
@@ -123,27 +123,3 @@ pub record Falls (streams : List Stream) (ps : List ℕ) (i : ℕ) (xs : List �
   pub metered : getD streams i noStream .metered ≡ true
   pub tight :
       slackBy (getD streams i noStream) false (getD xs i 0) (getD ps (getD streams i noStream .from) 0) (getD ps (getD streams i noStream .to) 0) 1 ≤ 0
-
--- Streams that lanes are of, and a state in a phase at step d.
-pub record Improvable (ls : List ℕ) (d : ℕ) (st : State) : Type 0 where
-  pub streams : List Stream
-  pub n : ℕ
-  pub network : Network streams n
-  pub laid : Laid streams n ls
-  pub step : Step d
-  pub underway : Underway (take n streams) d settledRoom st
-
--- And prices and a flow before the tie pass comes to stream i.
-pub record Tieable (ls ps : List ℕ) (i : ℕ) (xs : List ℕ) : Type 0 where
-  pub streams : List Stream
-  pub n : ℕ
-  pub network : Network streams n
-  pub laid : Laid streams n ls
-  pub prices : Prices ps
-  pub even : Even (take n streams) ps i xs
-
--- Where it can fall at no cost.
-pub record Tying (ls ps : List ℕ) (i : ℕ) (xs : List ℕ) : Type 0 where
-  pub tieable : Tieable ls ps i xs
-  pub below : i < tieable .n
-  pub falls : Falls (tieable .streams) ps i xs

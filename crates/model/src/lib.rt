@@ -5,12 +5,17 @@ use plants::limits::PLACES;
 
 pub mod sizes;
 
-// What a walk is to do: where it starts, the step, the number before which metered streams are left alone, and how far it may go.
+// What an improvement is to do: the place that it starts from, and the step.
 pub struct Quest {
     pub start: usize,
     pub delta: u64,
-    pub skip: usize,
-    pub limit: u64,
+}
+
+// A way to push along: how many streams are remembered, the place that the way ends at, and the step.
+pub struct Route {
+    pub len: usize,
+    pub target: u8,
+    pub delta: u64,
 }
 
 // The place visited last, its distance and the stream that led to it; and the fringe, a bit for each place: those to which a stream

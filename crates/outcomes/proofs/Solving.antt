@@ -1,5 +1,5 @@
 -- What the solver hands over is right, where a set is full and where a flow is found.
-use mathlib.Core.Path.{_≡_, subst}
+use mathlib.Core.Path.{_≡_, sym, subst}
 use mathlib.Core.Bool.{Bool, true, false}
 use mathlib.Core.List.{List}
 use Prim.Native.Nat.{ℕ}
@@ -12,12 +12,14 @@ use Rattle.flows.specs.Overfull.{Overfull}
 use Rattle.model.specs.declared.State.{State}
 use Rattle.model.specs.declared.Ended.{Ended}
 use Rattle.model.specs.Model.{finished, masked, tiesTo, solvedFrom}
-use Rattle.model.specs.SearchNeeds.{Laid}
-use Rattle.model.specs.SolverNeeds.{AtHint, Tieable}
+use Rattle.model.specs.SolverNeeds.{AtHint}
 use Rattle.model.specs.Promise.{Right}
 use Rattle.model.proofs.Phases.{Finished}
 use Rattle.model.proofs.Ending.{finished-good, finished-even}
 use Rattle.model.proofs.Theorem.{network-of, solvable-in, ended-full, solved-right}
+use Rattle.solve_arcs.specs.Cells.{countOf}
+use Rattle.solve_arcs.specs.ArcNeeds.{Laid, Margined}
+use Rattle.solve_ties.specs.Evens.{Tieable}
 
 module _ (p : Arrays.Plant) (a : Accepted p) (st : State) (s : AtHint (plantOf p .streams) st) (e : Ended) (q : e ≡ finished (plantOf p .streams) st) where
   abbrev ss : List Stream
@@ -31,8 +33,8 @@ module _ (p : Arrays.Plant) (a : Accepted p) (st : State) (s : AtHint (plantOf p
 
   module _ (n : e .full ≡ false) where
     -- What the tie pass begins from.
-    abbrev pub tieable : (ls : List ℕ) → Laid (p .streams) (p .count) ls → Tieable ls (e .state .prices) 0 (e .state .flows)
-    tieable ls l = record {
+    abbrev pub tieable : (ls rs : List ℕ) → Laid (p .streams) (p .count) ls rs → Tieable ls rs (e .state .prices) 0 (e .state .flows)
+    tieable ls rs l = record {
       streams = p .streams;
       n = p .count;
       network = network-of p a;
@@ -40,6 +42,11 @@ module _ (p : Arrays.Plant) (a : Accepted p) (st : State) (s : AtHint (plantOf p
       prices = ends .underway n .sound .capped;
       even = finished-even ss (solvable-in (plantOf p) (within-of p a)) e ends n;
     }
+
+    -- And the margins of all streams in use.
+    pub tie-margined : (ls rs ms : List ℕ) → Laid (p .streams) (p .count) ls rs → Margined (p .count) rs (e .state .flows) 1 0 ms
+        → Margined (countOf ls) rs (e .state .flows) 1 0 ms
+    tie-margined ls rs ms l m = subst (λ (k : ℕ). Margined k rs (e .state .flows) 1 0 ms) (sym (l .along .counted)) m
 
     found-is : (flows : List ℕ) (own : List Bool) → flows ≡ tiesTo ss (e .state .prices) (p .count) (e .state .flows) → own ≡ masked (p .units) (e .marked)
         → solvedFrom (p .units) ss st ≡ record { found = true; flows = flows; prices = e .state .prices; marked = own }

@@ -2,11 +2,15 @@
 // more than it can let out.
 use improving::finishing::finish;
 use improving::marks::masked;
-use laying::lay;
 use model::Solved;
 use model::State;
 use plants::Plant;
-use ties::tie_all;
+use solve_arcs::ARCS;
+use solve_arcs::MARGINS;
+use solve_arcs::NONE;
+use solve_arcs::ROWS;
+use solve_arcs_fill::lay;
+use solve_ties::tie_all;
 ghost use Rattle.plants.specs.Within.{Accepted};
 ghost use Rattle.plants.specs.Says.{plantOf};
 ghost use Rattle.model.specs.SolverNeeds.{AtHint};
@@ -19,8 +23,11 @@ pub fn solve_at(p: Plant, start: State) -> Solved
 {
     let streams = p.streams;
     let count = p.count as usize;
-    let lanes = lay(streams, count);
-    let e = finish(streams, count, &lanes, start);
+    let mut arcs = [NONE as u8; ARCS];
+    let mut rows = [0u64; ROWS];
+    let mut margins = [0u64; MARGINS];
+    lay(streams, count, &mut arcs, &mut rows);
+    let e = finish(streams, count, &arcs, &rows, &mut margins, start);
     let marked = e.marked;
     let own = masked(marked, p.units);
     let st = e.state;
@@ -34,7 +41,7 @@ pub fn solve_at(p: Plant, start: State) -> Solved
             marked: own,
         };
     }
-    tie_all(&lanes, &mut flows, &prices);
+    tie_all(&arcs, &rows, &mut margins, &mut flows, &prices);
     Solved {
         found: true,
         flows: flows,

@@ -1,14 +1,12 @@
 // The test of a set of places: whether it must take in more than it can let out, by the ranges of the streams across its edge.
-use lanes::LANES;
-use lanes::count_of;
-use lanes::end_at;
-use lanes::high_at;
-use lanes::low_at;
-use lanes::start_at;
 use model::Halt;
 use model::sizes::FLOW_SHIFT;
 use model::sizes::MOST_FLOW;
 use plants::limits::PLACES;
+use solve_arcs::ARCS;
+use solve_arcs::ROWS;
+use solve_arcs::count_of;
+use solve_arcs::end_at;
 ghost use mathlib.Core.Path.{_≡_};
 ghost use Prim.Native.Nat.{_≤_};
 ghost use lib.ListN.{take};
@@ -18,7 +16,7 @@ ghost use Rattle.model.specs.Sizes.{mostFlow};
 ghost use Rattle.model.specs.Full as F;
 ghost use Rattle.model.specs.Full.{mayCross};
 ghost use Rattle.flows.specs.Overfull.{unmarked};
-ghost use Rattle.model.specs.SearchNeeds.{Laying};
+ghost use Rattle.solve_arcs.specs.ArcNeeds.{Laying};
 
 // Whether a stream may stand across the edge of a set, by whether its start and its end are in the set, and its low.
 fn may_cross(start: bool, end: bool, low: u64) -> bool
@@ -48,32 +46,32 @@ fn pressed(start: bool, end: bool, low: u64, high: u64) -> u64
 }
 
 // Every stream across has a range, and the lows in sum to more than the highs out.
-fn overfull(lanes: &[u64; LANES], marked: &[bool; PLACES]) -> bool
-    requires { ⌜ Laying (now lanes) ⌝ }
-    ensures { λ r. ⌜ ((w : Laying (now (lanes .entry))) → r ≡ F.overfull (take (w .n) (w .streams)) (now (marked .entry))) ⌝ }
+fn overfull(arcs: &[u8; ARCS], rows: &[u64; ROWS], marked: &[bool; PLACES]) -> bool
+    requires { ⌜ Laying (now arcs) (now rows) ⌝ }
+    ensures { λ r. ⌜ ((w : Laying (now (arcs .entry)) (now (rows .entry))) → r ≡ F.overfull (take (w .n) (w .streams)) (now (marked .entry))) ⌝ }
 {
-    let n = count_of(lanes);
+    let n = count_of(arcs);
     let mut sum: u64 = 0;
     let mut i: usize = 0;
     while i < n {
-        let start = marked[start_at(lanes, i)];
-        let end = marked[end_at(lanes, i)];
-        let low = low_at(lanes, i);
+        let start = marked[end_at(arcs, 2 * i)];
+        let end = marked[end_at(arcs, 2 * i + 1)];
+        let low = rows[4 * i + 2];
         if !may_cross(start, end, low) {
             return false;
         }
-        sum += pressed(start, end, low, high_at(lanes, i));
+        sum += pressed(start, end, low, rows[4 * i + 3]);
         i += 1;
     }
     n as u64 * FLOW_SHIFT < sum
 }
 
 // Where no improvement can be made: the visited places, if they are such a set.
-pub fn tested(lanes: &[u64; LANES], visited: [bool; PLACES]) -> Halt
-    requires { ⌜ Laying (now lanes) ⌝ }
-    ensures { λ r. ⌜ ((w : Laying (now (lanes .entry))) → r ≡ pick (F.overfull (take (w .n) (w .streams)) visited) (record { full = true; marked = visited }) (record { full = false; marked = unmarked })) ⌝ }
+pub fn tested(arcs: &[u8; ARCS], rows: &[u64; ROWS], visited: [bool; PLACES]) -> Halt
+    requires { ⌜ Laying (now arcs) (now rows) ⌝ }
+    ensures { λ r. ⌜ ((w : Laying (now (arcs .entry)) (now (rows .entry))) → r ≡ pick (F.overfull (take (w .n) (w .streams)) visited) (record { full = true; marked = visited }) (record { full = false; marked = unmarked })) ⌝ }
 {
-    if overfull(lanes, &visited) {
+    if overfull(arcs, rows, &visited) {
         return Halt {
             full: true,
             marked: visited,

@@ -1,6 +1,5 @@
 // Amounts settled at prices, and the nets that they leave.
 use amounts::amount_at;
-use lanes::slacks::minus;
 use model::Hint;
 use model::State;
 use model::sizes::FLOW_SHIFT;
@@ -8,6 +7,7 @@ use model::sizes::NET_SHIFT;
 use plants::Stream;
 use plants::limits::MAX_STREAMS;
 use plants::limits::PLACES;
+use solve_held::minus;
 ghost use mathlib.Core.Path.{_≡_};
 ghost use lib.ListN.{length, take};
 ghost use Prim.Native.Nat.{_≤_};

@@ -1,14 +1,14 @@
 // The places that a call marks, tested by the definition: refusal 19 marks places that must take in more than they can let
 // out, every other call none.
 use file_trials::cases::NO_CASE;
-use lanes::slacks::high_of;
-use lanes::slacks::low_of;
 use marks::bits_of;
 use model::sizes::FLOW_SHIFT;
 use plants::Plant;
 use plants::Stream;
 use plants::limits::MAX_STREAMS;
 use plants::limits::PLACES;
+use solve_held::high_of;
+use solve_held::low_of;
 use std::num::wrapping_add_u64;
 use std::num::wrapping_sub_u64;
 

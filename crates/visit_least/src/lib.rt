@@ -4,8 +4,12 @@ use entries::opened_flows;
 use flows::Which;
 use grouping::group;
 use improving::finishing::finish;
-use laying::lay;
 use plants::Plant;
+use solve_arcs::ARCS;
+use solve_arcs::MARGINS;
+use solve_arcs::NONE;
+use solve_arcs::ROWS;
+use solve_arcs_fill::lay;
 use starts::start;
 ghost use Rattle.plants.specs.Within.{Accepted};
 ghost use Rattle.plants.specs.Says.{plantOf};
@@ -20,8 +24,11 @@ pub fn least_cost(p: Plant) -> u64
     let begun = start(p, labels);
     let streams = p.streams;
     let count = p.count as usize;
-    let lanes = lay(streams, count);
-    let e = finish(streams, count, &lanes, begun);
+    let mut arcs = [NONE as u8; ARCS];
+    let mut rows = [0u64; ROWS];
+    let mut margins = [0u64; MARGINS];
+    lay(streams, count, &mut arcs, &mut rows);
+    let e = finish(streams, count, &arcs, &rows, &mut margins, begun);
     if e.full {
         return 0;
     }

@@ -9,10 +9,10 @@ use Rattle.plants.specs.declared.Stream.{Stream}
 use Rattle.model.specs.Sizes.{mostTried, halvings}
 use Rattle.model.specs.declared.State.{State}
 use Rattle.model.specs.Model.{phase, phases, finished, noHint, overSum}
-use Rattle.model.specs.SolverNeeds.{Improvable}
 use Rattle.model.proofs.Streams.{solvable-of}
 use Rattle.model.proofs.Layouts.{at-hint-around}
 use Rattle.model.proofs.Ending.{hint-underway}
+use Rattle.solve_improve.specs.Improves.{Phasable}
 use Rattle.improving.proofs.finishing.finish.Statement.{statement}
 use Rattle.improving.proofs.finishing.finish.Tie as tie
 use Rattle.improving.proofs.phase.Reads as phase-reads
@@ -33,7 +33,7 @@ over-sum-requires c κs =
     at-hint-around (st .args .streams) (st .args .count) (st .pre .0) (st .args .st) (st .pre .1)
 
 -- What the phase begins from.
-abbrev able : (c : tie.Then1) → Improvable (c .before .before .before .before .args .lanes .now) 1 (c .before .before .before .before .args .st)
+abbrev able : (c : tie.Then1) → Phasable (c .before .before .before .before .args .arcs .now) (c .before .before .before .before .args .rows .now) 1 (c .before .before .before .before .args .st)
 able c =
     let st = c .before .before .before .before in
     record {
@@ -46,24 +46,25 @@ able c =
     }
 
 phase-requires : tie.Need-phase-requires
-phase-requires c κs = able c
+phase-requires c κs = (able (c .before), c .before .before .before .before .before .pre .3)
 
 returns : tie.Need-returns
 returns c =
-    let t = c .before in
+    let t = c .before .before in
     let st = t .before .before .before .before in
-    c .phase .ensures (able t) ∙ by-hint (take (st .args .count) (st .args .streams)) (st .args .st) _ (t .before .over-sum .ensures) (t .if1 .taken)
+    let made = c .phase .ensures (able t) in
+    (made .0 ∙ by-hint (take (st .args .count) (st .args .streams)) (st .args .st) _ (t .before .over-sum .ensures) (t .if1 .taken), λ o. made .1)
 
 phases-requires : tie.Need-phases-requires
 phases-requires c κs =
-    let st = c .before .before .before .before in
-    (st .pre .0, st .pre .2)
+    let st = c .before .before .before .before .before in
+    (st .pre .0, st .pre .2, st .pre .3)
 
 returns-2 : tie.Need-returns-2
 returns-2 c =
-    let t = c .before in
+    let t = c .before .before in
     let st = t .before .before .before .before in
-    c .phases .ensures ∙ by-phases (take (st .args .count) (st .args .streams)) (st .args .st) _ (t .before .over-sum .ensures) (t .if1 .left)
+    (c .phases .ensures .0 ∙ by-phases (take (st .args .count) (st .args .streams)) (st .args .st) _ (t .before .over-sum .ensures) (t .if1 .left), c .phases .ensures .1)
 
 pub finish-spec : {M : Type 1} → statement M
 finish-spec = tie.close (tie.spec over-sum-requires phase-requires returns phases-requires returns-2)

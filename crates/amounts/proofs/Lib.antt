@@ -1,0 +1,2 @@
+-- Laws of the nearest amount.
+pub mod Quotients

@@ -1,2 +1,0 @@
--- Definitions that the contracts of laying cite.
-pub mod Stores

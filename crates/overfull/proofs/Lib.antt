@@ -1,0 +1,2 @@
+-- Laws of the test of a set.
+pub mod Edges

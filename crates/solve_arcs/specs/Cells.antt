@@ -1,0 +1,43 @@
+-- The residual arcs: the streams in use as one list of bytes. A stream k has two arcs, 2k + 1 forwards from its start to its end and 2k
+-- backwards. First, for each place, the arc of the last stream that starts or ends there (arcAt in Near); then for each arc the place
+-- that it leads to; then for each arc the next one of the place that it leaves; last, how many streams are in use.
+-- The rows: four numbers for each stream, its weight, twice its weight times its reading, and the ends of its range.
+use mathlib.Core.Bool.{Bool, true, false}
+use mathlib.Core.List.{List}
+use Prim.Native.Nat.{ℕ, _+_, _*_}
+use lib.ListN.{getD}
+use Rattle.numbers.specs.Choice.{pick}
+use Rattle.numbers.specs.Inner.{values}
+use Rattle.plants.specs.Limits.{places, maxStreams}
+
+abbrev pub toCell : ℕ
+toCell = places
+
+abbrev pub nextCell : ℕ
+nextCell = places + 2 * maxStreams
+
+abbrev pub countCell : ℕ
+countCell = places + 4 * maxStreams
+
+abbrev pub arcCells : ℕ
+arcCells = countCell + 1
+
+-- The arc of stream k forwards, and backwards.
+abbrev pub arcOf : ℕ → Bool → ℕ
+arcOf k f = 2 * k + pick f 1 0
+
+abbrev pub countOf : List ℕ → ℕ
+countOf ls = getD ls countCell 0
+
+-- Where the streams in use start, and where they end: where their arcs lead backwards, and forwards.
+unfoldable pub startsOf : List ℕ → List ℕ
+startsOf ls = values (countOf ls) (λ k. getD ls (toCell + 2 * k) 0)
+
+unfoldable pub endsOf : List ℕ → List ℕ
+endsOf ls = values (countOf ls) (λ k. getD ls (toCell + (2 * k + 1)) 0)
+
+abbrev pub rowCells : ℕ
+rowCells = 4 * maxStreams
+
+abbrev pub marginCells : ℕ
+marginCells = 2 * maxStreams

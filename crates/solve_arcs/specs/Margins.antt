@@ -1,0 +1,52 @@
+-- Margins: for each arc its marginal cost, what one step more along it costs at the present amounts, before prices.
+use mathlib.Core.Bool.{Bool, true, false, _&&_}
+use mathlib.Core.List.{List}
+use Prim.Native.Nat.{ℕ, _+_, _-_, _*_}
+use lib.Dec.{ltb}
+use lib.ListN.{getD}
+use Rattle.numbers.specs.Choice.{pick}
+use Rattle.numbers.specs.Inner.{values}
+use Rattle.model.specs.Sizes.{mostPull, farthest}
+use Rattle.model.specs.Slack.{openBy}
+use Rattle.solve_arcs.specs.Cells.{arcOf, countOf, startsOf, endsOf}
+
+-- A margin z is held as z + lift, which no margin that arises takes below 0; an arc that is shut has the margin shut, 2^62:
+-- farthest + priceShift + lift ≤ shut, and in 64 bits shut + priceShift < 2^64.
+abbrev pub lift : ℕ
+lift = 2 * mostPull
+
+abbrev pub shut : ℕ
+shut = 4611686018427387904
+
+-- Of a stream of weight w, q being twice the weight times the reading, with the amount x, from low to high in range, at step d.
+abbrev pub costBy : ℕ → ℕ → Bool → ℕ → ℕ → ℕ
+costBy w q f x d = pick f ((2 * (w * x) + (w * d + lift)) - q) ((q + (w * d + lift)) - 2 * (w * x))
+
+abbrev pub marginBy : ℕ → ℕ → ℕ → ℕ → Bool → ℕ → ℕ → ℕ
+marginBy w q low high f x d = pick (openBy low high f x d) (costBy w q f x d) shut
+
+-- Of stream k by its row.
+abbrev pub marginAt : List ℕ → Bool → ℕ → ℕ → ℕ → ℕ
+marginAt rs f k x d = marginBy (getD rs (4 * k) 0) (getD rs (4 * k + 1) 0) (getD rs (4 * k + 2) 0) (getD rs (4 * k + 3) 0) f x d
+
+-- Stream k is left alone: it is metered, and its number below skip. Its arcs are shut.
+abbrev pub spared : List ℕ → ℕ → ℕ → Bool
+spared rs skip k = ltb 0 (getD rs (4 * k) 0) && ltb k skip
+
+-- The reduced cost of an arc of margin m, from a place of price p to one of price r; at least 0 and at most farthest. It is the slack of
+-- the arc's stream (slackPast in Slack).
+abbrev pub lessOf : ℕ → ℕ → ℕ
+lessOf a b = pick (ltb b a) b a
+
+abbrev pub reducedCost : ℕ → ℕ → ℕ → ℕ
+reducedCost m p r = lessOf ((m + p) - (r + lift)) farthest
+
+-- The reduced costs of the streams in use in one direction.
+abbrev pub leaves : List ℕ → Bool → ℕ → ℕ
+leaves ls f k = pick f (getD (startsOf ls) k 0) (getD (endsOf ls) k 0)
+
+abbrev pub reaches : List ℕ → Bool → ℕ → ℕ
+reaches ls f k = pick f (getD (endsOf ls) k 0) (getD (startsOf ls) k 0)
+
+unfoldable pub reducedCosts : List ℕ → List ℕ → List ℕ → Bool → List ℕ
+reducedCosts ls ms ps f = values (countOf ls) (λ k. reducedCost (getD ms (arcOf k f) 0) (getD ps (leaves ls f k) 0) (getD ps (reaches ls f k) 0))

@@ -1,0 +1,33 @@
+-- What is stored of one stream in the arcs and in the rows.
+use mathlib.Core.List.{List}
+use Prim.Native.Nat.{ℕ, _+_, _*_}
+use lib.ListN.{getD, set}
+use Rattle.numbers.specs.Inner.{values}
+use Rattle.plants.specs.declared.Stream.{Stream}
+use Rattle.plants.specs.Plants.{noStream}
+use Rattle.flows.specs.Certificate.{weightOf}
+use Rattle.model.specs.Held.{readingOf, lowOf, highOf}
+use Rattle.solve_arcs.specs.Cells.{toCell, nextCell}
+
+-- Where the first n streams start, and where they end.
+unfoldable pub startsIn : List Stream → ℕ → List ℕ
+startsIn streams n = values n (λ k. getD streams k noStream .from)
+
+unfoldable pub endsIn : List Stream → ℕ → List ℕ
+endsIn streams n = values n (λ k. getD streams k noStream .to)
+
+-- Stream i, from place u to place v: where its arcs lead, then the arcs that were first at the places that they leave; and its
+-- arcs become the first there.
+abbrev pub endsPut : ℕ → ℕ → ℕ → List ℕ → List ℕ
+endsPut i u v ls = set (set ls (toCell + 2 * i) u) (toCell + (2 * i + 1)) v
+
+abbrev pub nextPut : ℕ → ℕ → ℕ → List ℕ → List ℕ
+nextPut i x y ls = set (set ls (nextCell + (2 * i + 1)) x) (nextCell + 2 * i) y
+
+abbrev pub firstPut : ℕ → ℕ → ℕ → List ℕ → List ℕ
+firstPut i u v ls = set (set ls v (2 * i)) u (2 * i + 1)
+
+-- The row of stream i.
+abbrev pub rowPut : ℕ → Stream → List ℕ → List ℕ
+rowPut i s rs =
+    set (set (set (set rs (4 * i) (weightOf s)) (4 * i + 1) (2 * (weightOf s * readingOf s))) (4 * i + 2) (lowOf s)) (4 * i + 3) (highOf s)

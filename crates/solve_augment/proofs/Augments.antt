@@ -1,0 +1,105 @@
+-- The push along arcs: with j streams to go it comes to what it comes to from the start, and the margins are those of the amounts.
+use mathlib.Core.Path.{_≡_, refl, sym, _∙_, ap}
+use mathlib.Core.Bool.{Bool, true, false}
+use mathlib.Core.List.{List}
+use Prim.Native.Nat.{ℕ, _+_, _-_, _*_, _≤_, _<_}
+use native.Mathlib.Omega.{arith}
+use lib.Dec.{eqb}
+use lib.ListN.{length, getD, set, take}
+use Rattle.numbers.specs.Choice.{pick}
+use Rattle.numbers.proofs.Tests.{picked}
+use Rattle.plants.specs.Limits.{places, maxStreams}
+use Rattle.plants.specs.Plants.{noStream}
+use Rattle.model.specs.Sizes.{mostFlow, mostStep}
+use Rattle.model.specs.Push.{pushed}
+use Rattle.model.specs.SearchNeeds.{Trail, Roomy}
+use Rattle.model.proofs.Rounds.{push-hit, push-miss}
+use Rattle.model.proofs.Elements.{roomy-less, roomy-set}
+use Rattle.solve_arcs.specs.Cells.{toCell, countOf, marginCells}
+use Rattle.solve_arcs.specs.Margins.{marginAt}
+use Rattle.solve_arcs.specs.ArcNeeds.{Laying, Margined, Free}
+use Rattle.solve_arcs.proofs.Along.{starts-at, ends-at}
+use Rattle.solve_arcs.proofs.Stores.{put-long, margined-moved}
+
+pub record Pushing (ls rs via ends : List ℕ) (len target d : ℕ) (xs₀ ms₀ xs ms : List ℕ) (at j : ℕ) : Type 0 where
+  pub short : j ≤ len
+  pub byte : at < 256
+  pub roomy : Roomy xs j
+  pub long : length ms ≡ marginCells
+  pub margined : (skip : ℕ) → Margined (countOf ls) rs xs₀ d skip ms₀ → Free rs skip via len → Margined (countOf ls) rs xs d skip ms
+  pub same : (w : Laying ls rs) → pushed (take (w .n) (w .streams)) via ends d j at xs ≡ pushed (take (w .n) (w .streams)) via ends d len target xs₀
+
+pub pushed-all : (ls rs via ends : List ℕ) (len target d : ℕ) (xs₀ ms₀ xs ms : List ℕ) (at : ℕ) → Pushing ls rs via ends len target d xs₀ ms₀ xs ms at 0
+    → ((skip : ℕ) → Margined (countOf ls) rs xs₀ d skip ms₀ → Free rs skip via len → Margined (countOf ls) rs xs d skip ms) × ((w : Laying ls rs) → xs ≡ pushed (take (w .n) (w .streams)) via ends d len target xs₀)
+unfolding pushed
+pushed-all ls rs via ends len target d xs₀ ms₀ xs ms at p = (p .margined, λ w. p .same w)
+
+module _ (ls rs via ends : List ℕ) (len target d : ℕ) (xs₀ ms₀ xs ms : List ℕ) (at j : ℕ) (p : Pushing ls rs via ends len target d xs₀ ms₀ xs ms at j) (some : 0 < j) where
+  abbrev i : ℕ
+  i = getD via (j - 1) 0
+
+  abbrev u : ℕ
+  u = getD ls (toCell + 2 * i) 0
+
+  abbrev v : ℕ
+  v = getD ls (toCell + (2 * i + 1)) 0
+
+  abbrev f : Bool
+  f = eqb v at
+
+  abbrev x : ℕ
+  x = pick f (getD xs i 0 + d) (getD xs i 0 - d)
+
+  pub push-index : Trail via (countOf ls) len → i < countOf ls
+  push-index t = t .within (j - 1) (omega (arith, p .short))
+
+  module _ (hd : d ≤ mostStep) (low : i < maxStreams) where
+    near : (b : Bool) → (mostStep * (j - 1) ≤ pick b (getD xs i 0 + d) (getD xs i 0 - d)) × (pick b (getD xs i 0 + d) (getD xs i 0 - d) + mostStep * (j - 1) ≤ mostFlow)
+    near true = (omega (arith, p .roomy .low i low, p .roomy .high i low), omega (arith, p .roomy .low i low, p .roomy .high i low))
+    near false = (omega (arith, p .roomy .low i low, p .roomy .high i low), omega (arith, p .roomy .low i low, p .roomy .high i low))
+
+    pub push-most : (b : Bool) → pick b (getD xs i 0 + d) (getD xs i 0 - d) ≤ mostFlow
+    push-most b = omega (arith, near b .1)
+
+  module _ (hd : d ≤ mostStep) (t : Trail via (countOf ls) len) (w : Laying ls rs) where
+    in-use : i < countOf ls
+    in-use = push-index t
+
+    low-in : i < maxStreams
+    low-in = omega (arith, in-use, w .laid .along .linked .few)
+
+    starts : u < places
+    starts = rw (← starts-at ls i in-use) (w .laid .along .linked .from-in i in-use)
+
+    ends-there : v < places
+    ends-there = rw (← ends-at ls i in-use) (w .laid .along .linked .to-in i in-use)
+
+    pub push-place : (b : Bool) → pick b u v < places
+    push-place b = picked (λ (q : ℕ). q < places) b u v (λ o. starts) (λ o. ends-there)
+
+    pub push-hits : getD ends (j - 1) 0 ≡ at
+        → Pushing ls rs via ends len target d xs₀ ms₀ (set xs i x) (set (set ms (2 * i + 1) (marginAt rs true i x d)) (2 * i) (marginAt rs false i x d)) (pick f u v) (j - 1)
+    push-hits h = record {
+      short = omega (arith, p .short);
+      byte = omega (arith, push-place f);
+      roomy = roomy-set (p .roomy) i x low-in (near hd low-in f);
+      long = put-long i _ _ ms low-in (p .long);
+      margined = λ skip m o. margined-moved rs d i ms low-in (countOf ls) skip xs x (omega (arith, p .roomy .long, low-in)) (o (j - 1) (omega (arith, p .short))) (p .margined skip m o);
+      same = λ z. step z ∙ p .same z;
+    }
+      where
+        step : (z : Laying ls rs) → pushed (take (z .n) (z .streams)) via ends d (j - 1) (pick f u v) (set xs i x) ≡ pushed (take (z .n) (z .streams)) via ends d j at xs
+        step z =
+            let l : i < z .n = rw (z .laid .along .counted) at in-use in
+            rw (sym (starts-at ls i in-use) ∙ z .laid .along .starts i l, sym (ends-at ls i in-use) ∙ z .laid .along .ends i l)
+            (sym (push-hit (z .streams) (z .n) via ends d j at xs some l h))
+
+    pub push-misses : (getD ends (j - 1) 0 ≡ at → ⊥) → Pushing ls rs via ends len target d xs₀ ms₀ xs ms at (j - 1)
+    push-misses h = record {
+      short = omega (arith, p .short);
+      byte = p .byte;
+      roomy = roomy-less (p .roomy);
+      long = p .long;
+      margined = p .margined;
+      same = λ z. sym (push-miss (z .streams) (z .n) via ends d j at xs some h) ∙ p .same z;
+    }

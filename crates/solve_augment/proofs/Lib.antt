@@ -1,0 +1,2 @@
+-- Laws of the push along arcs.
+pub mod Augments

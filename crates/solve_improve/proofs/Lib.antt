@@ -1,0 +1,2 @@
+-- Laws of an improvement over arcs.
+pub mod Improved

@@ -1,0 +1,29 @@
+-- What a phase begins from, and what an improvement requires.
+use mathlib.Core.List.{List}
+use Prim.Native.Nat.{ℕ}
+use lib.ListN.{take}
+use Rattle.plants.specs.declared.Stream.{Stream}
+use Rattle.model.specs.declared.State.{State}
+use Rattle.model.specs.Sizes.{settledRoom}
+use Rattle.model.specs.SearchNeeds.{Network}
+use Rattle.model.specs.SolverNeeds.{Step, Underway}
+use Rattle.solve_arcs.specs.ArcNeeds.{Laid, Margined}
+
+-- Streams that arcs and rows are of, and a state in a phase at step d.
+pub record Phasable (ls rs : List ℕ) (d : ℕ) (st : State) : Type 0 where
+  pub streams : List Stream
+  pub n : ℕ
+  pub network : Network streams n
+  pub laid : Laid streams n ls rs
+  pub step : Step d
+  pub underway : Underway (take n streams) d settledRoom st
+
+-- And its margins.
+pub record Improvable (ls rs ms : List ℕ) (d : ℕ) (st : State) : Type 0 where
+  pub streams : List Stream
+  pub n : ℕ
+  pub network : Network streams n
+  pub laid : Laid streams n ls rs
+  pub step : Step d
+  pub underway : Underway (take n streams) d settledRoom st
+  pub margined : Margined n rs (st .flows) d 0 ms

@@ -1,0 +1,2 @@
+-- What an improvement over arcs requires.
+pub mod Improves

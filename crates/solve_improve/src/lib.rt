@@ -1,0 +1,70 @@
+// Improvements over arcs: net is moved from a place that has too much to one that has too little, at the least cost.
+use closing::refloor;
+use model::Quest;
+use model::Route;
+use model::Searched;
+use plants::limits::MAX_STREAMS;
+use plants::limits::PLACES;
+use solve_arcs::ARCS;
+use solve_arcs::MARGINS;
+use solve_arcs::ROWS;
+use solve_augment::augment;
+use solve_augment::shift_nets;
+use solve_path::search;
+ghost use mathlib.Core.Path.{_≡_};
+ghost use Prim.Native.Nat.{_+_, _≤_, _<_};
+ghost use lib.ListN.{getD, take};
+ghost use Rattle.plants.specs.Limits.{places};
+ghost use Rattle.model.specs.Sizes.{netShift};
+ghost use Rattle.model.specs.Model.{stateOf, improvedBy, improvedAt};
+ghost use Rattle.solve_arcs.specs.ArcNeeds.{Margined};
+ghost use Rattle.solve_improve.specs.Improves.{Improvable};
+
+// One improvement at step delta from place s: a search to a place with a negative net, and delta pushed along the way to it. Where no
+// such place can be reached, nothing changes. The margins stay those of the amounts.
+pub fn improve_from(
+    arcs: &[u8; ARCS],
+    rows: &[u64; ROWS],
+    margins: &mut [u64; MARGINS],
+    flows: &mut [u64; MAX_STREAMS],
+    prices: &mut [u64; PLACES],
+    nets: &mut [u64; PLACES],
+    q: Quest,
+) -> Searched
+    requires { ⌜ Improvable (now arcs) (now rows) (now margins) (q .delta) (stateOf (now flows) (now prices) (now nets)) × (q .start < places) × (netShift + q .delta ≤ getD (now nets) (q .start) 0) ⌝ }
+    ensures { λ r. ⌜ ((w : Improvable (now (arcs .entry)) (now (rows .entry)) (now (margins .entry)) (q .delta) (stateOf (now (flows .entry)) (now (prices .entry)) (now (nets .entry)))) → (improvedBy (r .found) (stateOf (now (flows .exit)) (now (prices .exit)) (now (nets .exit))) (r .tree .visited) ≡ improvedAt (take (w .n) (w .streams)) (stateOf (now (flows .entry)) (now (prices .entry)) (now (nets .entry))) (q .delta) (q .start)) × Margined (w .n) (now (rows .entry)) (now (flows .exit)) (q .delta) 0 (now (margins .exit))) ⌝ }
+{
+    let s = q.start;
+    let delta = q.delta;
+    let h = search(arcs, margins, prices, nets, s, delta);
+    let t = h.tree;
+    if !h.found {
+        return Searched {
+            found: false,
+            tree: t,
+        };
+    }
+    let via = t.via;
+    let ends = t.ends;
+    let len = t.len;
+    let target = ends[len - 1];
+    augment(
+        arcs,
+        rows,
+        margins,
+        flows,
+        &via,
+        &ends,
+        Route {
+            len: len,
+            target: target,
+            delta: delta,
+        },
+    );
+    shift_nets(nets, s, target as usize, delta);
+    refloor(prices);
+    Searched {
+        found: true,
+        tree: t,
+    }
+}

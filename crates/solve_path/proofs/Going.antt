@@ -1,0 +1,98 @@
+-- The walk's loop over arcs, by the codes that are kept.
+use mathlib.Core.Path.{_≡_, refl, sym, _∙_, ap}
+use mathlib.Core.Bool.{Bool, true, false}
+use mathlib.Core.List.{List}
+use Prim.Native.Nat.{ℕ, _+_, _-_, _≤_, _<_}
+use native.Mathlib.Omega.{arith}
+use native.Mathlib.Decide.{ℕ-discrete}
+use lib.ListN.{length, getD, set, replicate, length-set, length-replicate, getD-replicate}
+use lib.Seq.{ext-getD, getD-set-same, getD-set-other}
+use Rattle.numbers.proofs.Tests.{clash}
+use Rattle.plants.specs.Limits.{places}
+use Rattle.flows.specs.Sides.{bit}
+use Rattle.flows.proofs.Binary.{bit-zero}
+use Rattle.model.specs.declared.Spot.{Spot}
+use Rattle.model.specs.declared.Tree.{Tree}
+use Rattle.model.specs.Sizes.{netShift, searchRounds, far}
+use Rattle.model.specs.Search.{rootAt, addedTo}
+use Rattle.model.specs.Near.{walkedBy, walked}
+use Rattle.model.proofs.Opening.{open-none}
+use Rattle.solve_arcs.specs.Cells.{countOf, startsOf, endsOf}
+use Rattle.solve_arcs.specs.Margins.{reducedCosts}
+use Rattle.solve_relax.specs.Codes.{shown, Coded}
+use Rattle.solve_relax.proofs.Coding.{shown-at, shown-long}
+use Rattle.solve_path.specs.Paces.{Paced}
+use Rattle.solve_path.proofs.Turns as W
+
+-- At first the start alone is visited.
+module _ (s : ℕ) (l : s < places) where
+  abbrev codes : List ℕ
+  codes = set (replicate places far) s 0
+
+  pub first-shown : shown (rootAt s .visited) codes ≡ replicate places far
+  first-shown = ext-getD 0 (shown (rootAt s .visited) codes) (replicate places far) (shown-long (rootAt s .visited) codes) (λ u b. each u (rw (shown-long (rootAt s .visited) codes) at b))
+    where
+      each : (u : ℕ) → u < places → getD (shown (rootAt s .visited) codes) u 0 ≡ getD (replicate places far) u 0
+      each u b = shown-at (rootAt s .visited) codes u b ∙ (elim (ℕ-discrete u s) [
+        | yes q ↦ rw (q, getD-set-same (replicate places false) s true false l) (sym (getD-replicate places s far 0 l))
+        | no q ↦ rw (getD-set-other (replicate places false) s u true false q, getD-replicate places u false false b) (getD-set-other (replicate places far) s u 0 0 q)
+      ])
+
+  pub first-coded : Coded (rootAt s .visited) codes 0
+  first-coded = record {
+    zero = λ v b o. elim (ℕ-discrete v s) [
+      | yes q ↦ rw q (getD-set-same (replicate places far) s 0 0 l)
+      | no q ↦ clash _ o (getD-set-other (replicate places false) s v true false q ∙ getD-replicate places v false false b)
+    ];
+    fresh = λ v b. clash (bit v 0) b (bit-zero v);
+    fringe = rw first-shown (open-none far);
+  }
+
+module _ (ls ms ps es : List ℕ) (s : ℕ) where
+  abbrev Walks : ℕ → Spot → Tree → List ℕ → List ℕ → Type 0
+  Walks left at t ks near = W.Walking (startsOf ls) (endsOf ls) (reducedCosts ls ms ps true) (reducedCosts ls ms ps false) (countOf ls) es far s left at t ks near
+
+  pub record Going (left : ℕ) (at : Spot) (t : Tree) (ks near : List ℕ) : Type 0 where
+    pub walks : Walks left at t ks (shown (t .visited) near)
+    pub long : length near ≡ places
+    pub visits : length (t .visited) ≡ places
+    pub coded : Coded (t .visited) near (at .fringe)
+
+  pub starts : s < places → Going searchRounds (record { place = s; distance = 0; stream = 0; fringe = 0 }) (rootAt s) (replicate places 0) (set (replicate places far) s 0)
+  starts l = record {
+    walks = rw (first-shown s l) (W.starts _ _ _ _ _ _ _ s l);
+    long = length-set (replicate places far) s 0 ∙ length-replicate places far;
+    visits = length-set (replicate places false) s true ∙ length-replicate places false;
+    coded = first-coded s l;
+  }
+
+  module _ (left : ℕ) (at : Spot) (t : Tree) (ks near : List ℕ) (g : Going left at t ks near) where
+    pub ends : left ≤ 0 → walkedBy false t ks (at .distance)
+        ≡ walked (startsOf ls) (endsOf ls) (reducedCosts ls ms ps true) (reducedCosts ls ms ps false) (countOf ls) es far searchRounds 0 s (replicate places 0) (replicate places far) (rootAt s)
+    ends l = W.ends _ _ _ _ _ _ _ s left at t ks (shown (t .visited) near) (g .walks) l
+
+    module _ (p : 0 < left) (next : List ℕ) (r : Spot) (h : Paced ls ms ps (at .distance) (at .place) near next r (t .visited)) where
+      pub stops : r .place ≡ places → walkedBy false t ks (r .distance)
+          ≡ walked (startsOf ls) (endsOf ls) (reducedCosts ls ms ps true) (reducedCosts ls ms ps false) (countOf ls) es far searchRounds 0 s (replicate places 0) (replicate places far) (rootAt s)
+      stops q = W.stops _ _ _ _ _ _ _ s left at t ks _ (g .walks) p _ r (h .stepped) q
+
+      pub room : t .len < places
+      room = W.room _ _ _ _ _ _ _ s left at t ks _ (g .walks) p _ r (h .stepped)
+
+      module _ (q : r .place ≡ places → ⊥) where
+        pub within : r .place < places
+        within = W.within _ _ _ _ _ _ _ s left at t ks _ (g .walks) p _ r (h .stepped) q
+
+        pub hits : getD es (r .place) 0 < netShift
+            → walkedBy true (addedTo t (r .stream) (r .place)) (set ks (r .place) (r .distance)) (r .distance)
+            ≡ walked (startsOf ls) (endsOf ls) (reducedCosts ls ms ps true) (reducedCosts ls ms ps false) (countOf ls) es far searchRounds 0 s (replicate places 0) (replicate places far) (rootAt s)
+        hits m = W.hits _ _ _ _ _ _ _ s left at t ks _ (g .walks) p _ r (h .stepped) q m
+
+        pub goes-on : length next ≡ places → netShift ≤ getD es (r .place) 0
+            → Going (left - 1) r (addedTo t (r .stream) (r .place)) (set ks (r .place) (r .distance)) next
+        goes-on long m = record {
+          walks = W.goes-on _ _ _ _ _ _ _ s left at t ks _ (g .walks) p _ r (h .stepped) q m;
+          long = long;
+          visits = length-set (t .visited) (r .place) true ∙ g .visits;
+          coded = h .coded q;
+        }

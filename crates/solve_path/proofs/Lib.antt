@@ -1,0 +1,5 @@
+-- Laws of a walk over arcs.
+pub mod Pacing
+pub mod Turns
+pub mod Going
+pub mod Tight

@@ -1,0 +1,96 @@
+-- `solve_path::lower` meets its contract: the prices of the first u places are reduced.
+use mathlib.Core.Path.{_≡_, refl, _∙_}
+use mathlib.Core.Bool.{Bool, true, false}
+use Prim.Native.Nat.{ℕ, _≤_, _-_}
+use native.Mathlib.Omega.{arith}
+use lib.ListN.{getD}
+use Rattle.numbers.specs.Choice.{pick}
+use Rattle.plants.specs.Limits.{places}
+use Rattle.model.specs.Search.{fallen}
+use Rattle.flows.proofs.Lists.{Written, written-none, written-put}
+use Rattle.model.proofs.Filling.{reduced-is}
+use borrow.Author.Needs.{needs}
+use Rattle.solve_path.proofs.lower.Statement.{statement}
+use Rattle.solve_path.proofs.lower.Tie as tie
+
+abbrev Inv-loop : tie.InvT-loop
+Inv-loop prices₀ visited dist reach u₀ prices u = (u ≤ places) × Written 0 places (λ k x. fallen (getD visited k false) (reach - getD dist k 0) x) prices₀ prices u
+
+abbrev μ-loop : tie.MeasureT-loop
+μ-loop prices₀ visited dist reach u₀ prices u = places - u
+
+loop-holds : tie.Need-loop-holds Inv-loop μ-loop
+loop-holds c = (omega arith, written-none (c .pre))
+
+element-copy-out-fall : tie.Need-element-copy-out-fall Inv-loop μ-loop
+element-copy-out-fall c = search needs
+
+mul-fall : tie.Need-mul-fall Inv-loop μ-loop
+mul-fall c = search needs
+
+element-copy-out-fall-2 : tie.Need-element-copy-out-fall-2 Inv-loop μ-loop
+element-copy-out-fall-2 c = search needs
+
+fall-requires : tie.Need-fall-requires Inv-loop μ-loop
+fall-requires c κs = search needs
+
+mul-minus : tie.Need-mul-minus Inv-loop μ-loop
+mul-minus c = search needs
+
+element-copy-out-minus : tie.Need-element-copy-out-minus Inv-loop μ-loop
+element-copy-out-minus c = search needs
+
+minus-requires : tie.Need-minus-requires Inv-loop μ-loop
+minus-requires c κs = search needs
+
+mul-prices : tie.Need-mul-prices Inv-loop μ-loop
+mul-prices c = search needs
+
+element-write-prices : tie.Need-element-write-prices Inv-loop μ-loop
+element-write-prices c = search needs
+
+add-u : tie.Need-add-u Inv-loop μ-loop
+add-u c = search needs
+
+loop-less : tie.Need-loop-less Inv-loop μ-loop
+loop-less c = search needs
+
+-- A price that falls, or not.
+fallen-by : (b : Bool) (g p : ℕ) → p - pick b g 0 ≡ fallen b g p
+fallen-by true g p = refl
+fallen-by false g p = omega arith
+
+loop-again : tie.Need-loop-again Inv-loop μ-loop
+loop-again c =
+    let at = c .before .before .before .before .before .before in
+    let m = at .loop .inv .1 in
+    let u = at .loop .u in (
+      omega arith,
+      written-put m (omega arith) _ (c .minus .ensures ∙ rw (c .before .before .fall .ensures, m .rest u (omega arith)) (fallen-by (getD (at .before .args .visited .now) u false) _ _)),
+    )
+
+returns : tie.Need-returns Inv-loop μ-loop
+returns c =
+    let e : c .before .loop .u ≡ places = omega arith in
+    reduced-is _ _ _ _ _ (c .before .before .pre) (rw e at (c .before .loop .inv .1))
+
+pub lower-spec : {M : Type 1} → statement M
+lower-spec =
+    tie.close
+    (tie.spec
+    Inv-loop
+    μ-loop
+    loop-holds
+    element-copy-out-fall
+    mul-fall
+    element-copy-out-fall-2
+    fall-requires
+    mul-minus
+    element-copy-out-minus
+    minus-requires
+    mul-prices
+    element-write-prices
+    add-u
+    loop-less
+    loop-again
+    returns)

@@ -1,0 +1,2 @@
+-- The steps of a walk over arcs.
+pub mod Paces

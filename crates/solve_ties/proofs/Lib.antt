@@ -1,0 +1,2 @@
+-- Laws of the tie pass over arcs.
+pub mod Evened

@@ -1,0 +1,172 @@
+-- `solve_ties::tie_at` meets its contract: by whether a way leads round; it leaves room for the push.
+use Rattle.model.proofs.TieTurns.{tied-cut, tied-round, Pushable, pushable}
+use Rattle.plants.specs.Limits.{maxStreams}
+use Rattle.solve_arcs.specs.Cells.{countOf}
+use Rattle.solve_arcs.specs.ArcNeeds.{Margined}
+use Rattle.solve_arcs.proofs.Along.{starts-at, ends-at}
+use Rattle.solve_arcs.proofs.Stores.{margined-own, spare-own}
+use Rattle.solve_ties.proofs.Evened.{tie-searching, tie-laying, tie-trail, way-free, weighs-some}
+use Rattle.solve_ties.specs.Evens.{Tying}
+use Rattle.model.specs.Search.{rootAt, grownBy, tightPath}
+use Rattle.model.specs.Push.{pushed}
+use Rattle.model.specs.Sizes.{searchRounds}
+use Rattle.plants.specs.Limits.{places}
+use Rattle.plants.specs.Plants.{noStream}
+use lib.ListN.{getD, take}
+use borrow.Author.Tests.{not-true, not-false}
+use native.Mathlib.Numerals.{add-one}
+use native.Mathlib.Omega.{arith}
+use Prim.Native.Nat.{ℕ, suc, _+_, _-_, _<_}
+use mathlib.Core.Path.{_≡_, sym, _∙_, ap}
+use borrow.Author.Needs.{needs}
+use Rattle.solve_ties.proofs.tie_at.Statement.{statement}
+use Rattle.solve_ties.proofs.tie_at.Tie as tie
+
+-- The start, from where the search is done; streams that the arcs are of.
+abbrev start : tie.After-tight-path → tie.Start
+start c = c .before .before .before .before
+
+abbrev Of : tie.Start → Type 0
+Of st = Tying (st .args .arcs .now) (st .args .rows .now) (st .args .prices .now) (st .args .i) (st .args .flows .now)
+
+used : (st : tie.Start) (w : Of st) → st .args .i < countOf (st .args .arcs .now)
+used st w = rw (w .tieable .laid .along .counted) (w .below)
+
+from-is : (c : tie.After-end-at) (w : Of (c .before)) → c .end-at .result ≡ getD (w .tieable .streams) (c .before .args .i) noStream .from
+from-is c w = c .end-at .ensures ∙ sym (starts-at _ _ (used (c .before) w)) ∙ w .tieable .laid .along .starts _ (w .below)
+
+to-is : (c : tie.After-end-at2) (w : Of (c .before .before)) → c .end-at2 .result ≡ getD (w .tieable .streams) (c .before .before .args .i) noStream .to
+to-is c w = c .end-at2 .ensures ∙ sym (ends-at _ _ (used (c .before .before) w)) ∙ w .tieable .laid .along .ends _ (w .below)
+
+start-in : (c : tie.After-end-at) → c .end-at .result < places
+start-in c = let w = c .before .pre .0 in rw (from-is c w) (omega (arith, w .tieable .network .within .each _ (w .below) .from-in))
+
+end-in : (c : tie.After-end-at2) → c .end-at2 .result < places
+end-in c = let w = c .before .before .pre .0 in rw (to-is c w) (omega (arith, w .tieable .network .within .each _ (w .below) .to-in))
+
+low : (st : tie.Start) → st .args .i < maxStreams
+low st = let w = st .pre .0 in omega (arith, w .below, w .tieable .network .within .few-streams)
+
+-- What the call of tight_path says.
+told : (c : tie.After-tight-path) (w : Of (start c))
+    → grownBy (c .tight-path .result .found) (c .tight-path .result .tree) (start c .args .prices .now)
+    ≡ tightPath (take (w .tieable .n) (w .tieable .streams)) (w .tieable .n) (start c .args .flows .now) (start c .args .prices .now) (getD (w .tieable .streams) (start c .args .i) noStream .to) (suc (start c .args .i)) searchRounds (rootAt (getD (w .tieable .streams) (start c .args .i) noStream .from))
+told c w =
+    let st = start c in
+    let t = w .tieable in
+    c .tight-path .ensures (st .args .i + 1) (tie-searching _ _ _ _ _ _ _ t (omega (arith, w .below)) (st .pre .1))
+    ∙ ap (λ (v : ℕ). tightPath (take (t .n) (t .streams)) (t .n) (st .args .flows .now) (st .args .prices .now) v (st .args .i + 1) searchRounds (rootAt (c .before .before .before .end-at .result))) (to-is (c .before .before) w)
+    ∙ ap (λ (u : ℕ). tightPath (take (t .n) (t .streams)) (t .n) (st .args .flows .now) (st .args .prices .now) (getD (t .streams) (st .args .i) noStream .to) (st .args .i + 1) searchRounds (rootAt u)) (from-is (c .before .before .before) w)
+    ∙ ap (λ (k : ℕ). tightPath (take (t .n) (t .streams)) (t .n) (st .args .flows .now) (st .args .prices .now) (getD (t .streams) (st .args .i) noStream .to) k searchRounds (rootAt (getD (t .streams) (st .args .i) noStream .from))) (add-one (st .args .i))
+
+-- A way round was found: what the push needs.
+ready : (c : tie.Else1) (w : Of (start (c .before .before)))
+    → Pushable (w .tieable .streams) (w .tieable .n) (w .tieable .network) (start (c .before .before) .args .prices .now) (start (c .before .before) .args .i) (w .below) (start (c .before .before) .args .flows .now) (c .before .before .tight-path .result .tree)
+ready c w =
+    let f = c .before .before in
+    pushable (w .tieable .streams) (w .tieable .n) (w .tieable .network) _ _ (w .below) _ (w .tieable .even) _ (w .falls .metered) (w .falls .tight) (told f w) (not-false _ (c .if1 .left))
+
+-- The search, and the start, from where the push is done.
+abbrev hunt : tie.After-augment → tie.After-tight-path
+hunt c = c .before .before .before .before .before .before .before .before .before .before
+
+abbrev found : tie.After-augment → tie.Else1
+found c = c .before .before .before .before .before .before .before .before
+
+-- The amounts after the push.
+moved-are : (c : tie.After-augment) (w : Of (start (hunt c)))
+    → c .augment .last .1 .1 .1 .0 ≡ pushed (take (w .tieable .n) (w .tieable .streams)) (hunt c .tight-path .result .tree .via) (hunt c .tight-path .result .tree .ends) 1 (hunt c .tight-path .result .tree .len) (getD (w .tieable .streams) (start (hunt c) .args .i) noStream .to) (start (hunt c) .args .flows .now)
+moved-are c w =
+    let f = hunt c in
+    let t = f .tight-path .result .tree in
+    c .augment .ensures .1 (tie-laying _ _ _ _ _ (w .tieable))
+    ∙ ap (λ (v : ℕ). pushed (take (w .tieable .n) (w .tieable .streams)) (t .via) (t .ends) 1 (t .len) v (start f .args .flows .now)) (to-is (f .before .before) w)
+
+mul-end-at : tie.Need-mul-end-at
+mul-end-at c = search needs
+
+mul-end-at-2 : tie.Need-mul-end-at-2
+mul-end-at-2 c = search needs
+
+add-end-at : tie.Need-add-end-at
+add-end-at c = search needs
+
+end-at-requires : tie.Need-end-at-requires
+end-at-requires c κs = search needs
+
+end-at-requires-2 : tie.Need-end-at-requires-2
+end-at-requires-2 c κs = search needs
+
+tight-path-requires : tie.Need-tight-path-requires
+tight-path-requires c κs =
+    let st = c .before .before .before in
+    let w = st .pre .0 in
+    ((st .args .i + 1, tie-searching _ _ _ _ _ _ _ (w .tieable) (omega (arith, w .below)) (st .pre .1)), start-in (c .before .before), end-in (c .before))
+
+returns : tie.Need-returns
+returns c =
+    let f = c .before .before in
+    (λ w. sym (tied-cut (w .tieable .streams) (w .tieable .n) (w .tieable .network) _ _ (w .below) _ _ (w .falls .metered) (w .falls .tight) (told f w) (not-true _ (c .if1 .taken))), start f .pre .1)
+
+cast-target : tie.Need-cast-target
+cast-target c = omega (arith, end-in (c .before .before .before .before .before .before .before))
+
+augment-requires : tie.Need-augment-requires
+augment-requires c κs =
+    let e = c .before .before .before .before .before .before .before in
+    let st = start (e .before .before) in
+    let w = st .pre .0 in
+    let r = ready e w in
+    (tie-laying _ _ _ _ _ (w .tieable), omega arith, tie-trail _ _ _ _ _ (w .tieable) _ _ (r .trail), r .roomy, st .pre .1 .long)
+
+mul-flows : tie.Need-mul-flows
+mul-flows c = omega (arith, low (start (hunt c)))
+
+element-copy-out-flows : tie.Need-element-copy-out-flows
+element-copy-out-flows c = low (start (hunt c))
+
+sub-flows : tie.Need-sub-flows
+sub-flows c =
+    let p = c .before in
+    let w = start (hunt p) .pre .0 in
+    rw (moved-are p w) (ready (found p) w .some)
+
+mul-flows-2 : tie.Need-mul-flows-2
+mul-flows-2 c = omega (arith, low (start (hunt (c .before))))
+
+element-write-flows : tie.Need-element-write-flows
+element-write-flows c = low (start (hunt (c .before)))
+
+returns-2 : tie.Need-returns-2
+returns-2 c =
+    let p = c .before in
+    let f = hunt p in
+    let st = start f in
+    let v = st .pre .0 in
+    let n = v .tieable in (
+      λ w. rw (moved-are p w)
+          (sym (tied-round (w .tieable .streams) (w .tieable .n) (w .tieable .network) _ _ (w .below) _ _ (w .falls .metered) (w .falls .tight) (told f w) (not-false _ (found p .if1 .left)))),
+      margined-own (st .args .rows .now) 1 (st .args .i) _ (low st) _ (st .args .i + 1) _ _
+          (spare-own (st .args .rows .now) (st .args .i) (weighs-some (n .streams) (n .n) (n .network) (st .args .rows .now) (n .laid .rowed) (st .args .i) (v .below) (v .falls .metered)))
+          (p .augment .ensures .0 (st .args .i + 1) (st .pre .1) (way-free (n .streams) (n .n) (n .network) (st .args .rows .now) (n .laid .rowed) _ (st .args .i) (v .below) _ (n .even) _ (told f v) (not-false _ (found p .if1 .left)))),
+    )
+
+pub tie-at-spec : {M : Type 1} → statement M
+tie-at-spec =
+    tie.close
+    (tie.spec
+    mul-end-at
+    end-at-requires
+    mul-end-at-2
+    add-end-at
+    end-at-requires-2
+    tight-path-requires
+    returns
+    cast-target
+    augment-requires
+    mul-flows
+    element-copy-out-flows
+    sub-flows
+    mul-flows-2
+    element-write-flows
+    returns-2)

@@ -1,0 +1,2 @@
+-- What the tie pass over arcs requires.
+pub mod Evens

@@ -1,0 +1,117 @@
+// Ties over arcs: among equally cheap flows, the first metered stream least, then the second, and so on.
+use model::Route;
+use plants::limits::MAX_STREAMS;
+use plants::limits::PLACES;
+use solve_arcs::ARCS;
+use solve_arcs::MARGINS;
+use solve_arcs::ROWS;
+use solve_arcs::count_of;
+use solve_arcs::end_at;
+use solve_augment::augment;
+use solve_margins::reduced_cost;
+use solve_margins::shut_margins;
+use solve_path::tight_path;
+ghost use mathlib.Core.Bool.{false, _&&_};
+ghost use mathlib.Core.List.{List};
+ghost use mathlib.Core.Path.{_≡_};
+ghost use Prim.Native.Nat.{ℕ, _+_, _*_, _<_};
+ghost use lib.Dec.{eqb, ltb};
+ghost use lib.ListN.{getD, length, take};
+ghost use Rattle.plants.specs.Limits.{maxStreams};
+ghost use Rattle.model.specs.Model.{tiedAt, tiesTo};
+ghost use Rattle.solve_arcs.specs.Cells.{countOf, marginCells};
+ghost use Rattle.solve_arcs.specs.Margins.{reducedCosts};
+ghost use Rattle.solve_arcs.specs.ArcNeeds.{Ways, Margined};
+ghost use Rattle.solve_ties.specs.Evens.{Tieable, Tying};
+
+// Whether stream i is metered and its amount can fall at no cost.
+fn can_fall(
+    arcs: &[u8; ARCS],
+    rows: &[u64; ROWS],
+    margins: &[u64; MARGINS],
+    prices: &[u64; PLACES],
+    i: usize,
+) -> bool
+    requires { ⌜ Ways (now arcs) (now margins) (now prices) × (i < countOf (now arcs)) ⌝ }
+    ensures { λ r. ⌜ r ≡ (ltb 0 (getD (now (rows .entry)) (4 * i) 0) && eqb (getD (reducedCosts (now (arcs .entry)) (now (margins .entry)) (now (prices .entry)) false) i 0) 0) ⌝ }
+{
+    if 0 < rows[4 * i] {
+        let u = end_at(arcs, 2 * i);
+        let v = end_at(arcs, 2 * i + 1);
+        reduced_cost(margins[2 * i], prices[v], prices[u]) == 0
+    } else {
+        false
+    }
+}
+
+// Stream i is left alone from now on, if it is metered.
+fn spare(rows: &[u64; ROWS], margins: &mut [u64; MARGINS], i: usize)
+    requires { ⌜ (i < maxStreams) × (length (now margins) ≡ marginCells) ⌝ }
+    ensures { λ _. ⌜ ((n : ℕ) (xs : List ℕ) → Margined n (now (rows .entry)) xs 1 i (now (margins .entry)) → Margined n (now (rows .entry)) xs 1 (i + 1) (now (margins .exit))) ⌝ }
+{
+    if 0 < rows[4 * i] {
+        shut_margins(margins, i);
+    }
+}
+
+// Stream i, which can fall at no cost and is left alone, less by one where a way of reduced cost 0 leads round it.
+fn tie_at(
+    arcs: &[u8; ARCS],
+    rows: &[u64; ROWS],
+    margins: &mut [u64; MARGINS],
+    flows: &mut [u64; MAX_STREAMS],
+    prices: &[u64; PLACES],
+    i: usize,
+)
+    requires { ⌜ Tying (now arcs) (now rows) (now prices) i (now flows) × Margined (countOf (now arcs)) (now rows) (now flows) 1 (i + 1) (now margins) ⌝ }
+    ensures { λ _. ⌜ ((w : Tying (now (arcs .entry)) (now (rows .entry)) (now (prices .entry)) i (now (flows .entry))) → now (flows .exit) ≡ tiedAt (take (w .tieable .n) (w .tieable .streams)) (now (prices .entry)) i (now (flows .entry))) × Margined (countOf (now (arcs .entry))) (now (rows .entry)) (now (flows .exit)) 1 (i + 1) (now (margins .exit)) ⌝ }
+{
+    let u = end_at(arcs, 2 * i);
+    let v = end_at(arcs, 2 * i + 1);
+    let h = tight_path(arcs, margins, prices, u, v);
+    if !h.found {
+        return;
+    }
+    let t = h.tree;
+    let via = t.via;
+    let ends = t.ends;
+    let len = t.len;
+    let target = v as u8;
+    augment(
+        arcs,
+        rows,
+        margins,
+        flows,
+        &via,
+        &ends,
+        Route {
+            len: len,
+            target: target,
+            delta: 1,
+        },
+    );
+    flows[i] = flows[i] - 1;
+}
+
+// The streams one after the other.
+pub fn tie_all(
+    arcs: &[u8; ARCS],
+    rows: &[u64; ROWS],
+    margins: &mut [u64; MARGINS],
+    flows: &mut [u64; MAX_STREAMS],
+    prices: &[u64; PLACES],
+)
+    requires { ⌜ Tieable (now arcs) (now rows) (now prices) 0 (now flows) × Margined (countOf (now arcs)) (now rows) (now flows) 1 0 (now margins) ⌝ }
+    ensures { λ _. ⌜ ((w : Tieable (now (arcs .entry)) (now (rows .entry)) (now (prices .entry)) 0 (now (flows .entry))) → now (flows .exit) ≡ tiesTo (take (w .n) (w .streams)) (now (prices .entry)) (w .n) (now (flows .entry))) ⌝ }
+{
+    let n = count_of(arcs);
+    let mut i: usize = 0;
+    while i < n {
+        let falls = can_fall(arcs, rows, margins, prices, i);
+        spare(rows, margins, i);
+        if falls {
+            tie_at(arcs, rows, margins, flows, prices, i);
+        }
+        i += 1;
+    }
+}

@@ -1,2 +1,0 @@
--- Laws of the walk's loop.
-pub mod Turns
