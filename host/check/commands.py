@@ -39,7 +39,7 @@ RULES = [
     Rule(r'rt must-fail \[NAME\.\.\]', 'run', 'rt must-fail version'),
     Rule(r'python3 host/check/commands\.py.*', 'not', 'this test itself'),
     Rule(r'python3 host/check/archive\.py --write', 'not', 'it changes a text'),
-    Rule(r'python3 host/check/(refusals|picture)\.py --write', 'not', 'it changes texts'),
+    Rule(r'python3 host/check/(refusals|picture|crate_list|edits)\.py --write', 'not', 'it changes texts'),
     Rule(r'python3 host/check/seconds\.py (crates|edits|modules).*', 'run', r'python3 host/check/seconds.py \1 version'),
     Rule(r'bash install\.sh (--uninstall )?PREFIX', 'run', r'bash install.sh \1"$PREFIX"'),
     Rule(r'target/host/(balance_file samples/overfull_site|charges_file samples/twin_lines)\.bin.*', 'run', r'\g<0> || [ $? = 1 ]'),
