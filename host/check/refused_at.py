@@ -40,7 +40,11 @@ def marks(need, message, where, places):
 def told(crate, edit):
     source = f'crates/{crate}/must-fail/{edit}.edit'
     places = {path.split('/')[0] for path in re.findall(r'^file: (\S+)', read(source), re.M)} if os.path.exists(source) else set()
-    first = re.search(r'/(proofs|specs|src)/(\S+?):\d+:\d+: error: (?:`([^`]+)`: )?(.*)', read(f'{TOP}/{crate}/{edit}/.log'))
+    log = read(f'{TOP}/{crate}/{edit}/.log')
+    first = re.search(r'/(proofs|specs|src)/(\S+?):\d+:\d+: error: (?:`([^`]+)`: )?(.*)', log)
+    itself = re.search(r'^fn \S*?(\w+): no proof: .* does not close (.*)$', log, re.M)
+    if not first and itself:
+        return f'{crate}/{edit} [{"+".join(sorted(places))}]: {itself[1]} (by itself): {itself[2]}'
     if not first:
         return f'{crate}/{edit}: no error found in its log'
     where, need, message = f'{first[1]}/{first[2]}', first[3] or '-', first[4]
