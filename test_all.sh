@@ -42,6 +42,7 @@ python3 host/check/versions.py
 python3 host/check/refusals.py
 python3 host/check/crate_list.py --check
 python3 host/check/edits.py --check
+python3 host/check/glossary.py
 python3 host/check/picture.py
 part "the archive"
 rt staticlib linked
