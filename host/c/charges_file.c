@@ -12,26 +12,17 @@
 /* One more than the most rates: more are refused all the same. */
 enum { MOST_RATES = WENGELUDO_MAX_STREAMS + 1 };
 
-/* The rates of the command line; 0 where one is no number of 16 bits. */
-static int read_rates(int count, char **words, uint16_t *rates, size_t *listed)
-{
-    for (*listed = 0; *listed < (size_t)count && *listed < MOST_RATES; ++*listed) {
-        uint64_t rate;
-        if (!read_number(words[*listed], UINT16_MAX, &rate))
-            return 0;
-        rates[*listed] = (uint16_t)rate;
-    }
-    return 1;
-}
-
 int main(int count_of_words, char **words)
 {
     uint8_t file[MOST_BYTES], streams[WENGELUDO_MAX_STREAMS];
     uint16_t rates[MOST_RATES];
     int64_t charges[WENGELUDO_MAX_STREAMS], bill;
+    uint64_t given[MOST_RATES];
     size_t length, listed, count;
-    if (count_of_words < 2 || !read_rates(count_of_words - 2, words + 2, rates, &listed))
+    if (count_of_words < 2 || !read_list(count_of_words - 2, words + 2, UINT16_MAX, given, MOST_RATES, &listed))
         return usage(words[0], "FILE [RATE..]");
+    for (size_t k = 0; k < listed; k++)
+        rates[k] = (uint16_t)given[k];
     if (!read_bytes(words[0], words[1], file, sizeof file, &length))
         return FAILED;
     int status = told(wengeludo_charges(file, length, rates, listed, streams, WENGELUDO_MAX_STREAMS, charges, WENGELUDO_MAX_STREAMS,

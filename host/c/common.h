@@ -39,6 +39,15 @@ static inline int read_number(const char *word, uint64_t most, uint64_t *number)
     return *word >= '0' && *word <= '9' && *end == '\0' && *number <= most;
 }
 
+/* The words as numbers of at most `most`, so many of them as there is room for; 0 where one is no such number. */
+static inline int read_list(int count, char **words, uint64_t most, uint64_t *numbers, size_t room, size_t *listed)
+{
+    for (*listed = 0; *listed < (size_t)count && *listed < room; ++*listed)
+        if (!read_number(words[*listed], most, &numbers[*listed]))
+            return 0;
+    return 1;
+}
+
 static inline int usage(const char *program, const char *words)
 {
     fprintf(stderr, "usage: %s %s\n", program, words);

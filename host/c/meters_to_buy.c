@@ -12,25 +12,16 @@
 /* One more than the most prices: more are refused all the same. */
 enum { MOST_PRICES = WENGELUDO_MAX_STREAMS + 1 };
 
-/* The prices of the command line; 0 where one is no number of 32 bits. */
-static int read_prices(int count, char **words, uint32_t *prices, size_t *listed)
-{
-    for (*listed = 0; *listed < (size_t)count && *listed < MOST_PRICES; ++*listed) {
-        uint64_t price;
-        if (!read_number(words[*listed], UINT32_MAX, &price))
-            return 0;
-        prices[*listed] = (uint32_t)price;
-    }
-    return 1;
-}
-
 int main(int count_of_words, char **words)
 {
     uint8_t file[MOST_BYTES], streams[WENGELUDO_MAX_STREAMS];
     uint32_t prices[MOST_PRICES], price;
+    uint64_t given[MOST_PRICES];
     size_t length, listed, count;
-    if (count_of_words < 2 || !read_prices(count_of_words - 2, words + 2, prices, &listed))
+    if (count_of_words < 2 || !read_list(count_of_words - 2, words + 2, UINT32_MAX, given, MOST_PRICES, &listed))
         return usage(words[0], "FILE [PRICE..]");
+    for (size_t k = 0; k < listed; k++)
+        prices[k] = (uint32_t)given[k];
     if (!read_bytes(words[0], words[1], file, sizeof file, &length))
         return FAILED;
     int status = told(wengeludo_meters_to_buy(file, length, prices, listed, streams, sizeof streams, &count, &price));
