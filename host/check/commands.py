@@ -14,7 +14,6 @@ with other words, and which are not run; a rule that fits no command is an error
 import glob
 import os
 import re
-import shutil
 import subprocess
 import sys
 import tempfile
@@ -227,62 +226,74 @@ def compile_code(code, work, env):
     return '' if status == 0 else said
 
 
+def gathered():
+    """Each command where it stands first, with all that texts say of what it prints; and the pieces of code."""
+    once, codes = {}, []
+    for path in texts():
+        commands, found = read(path)
+        codes += found
+        for command in commands:
+            first = once.setdefault((command.text, command.folder), command._replace(prints=[]))
+            if command.prints:
+                first.prints.append(command.prints)
+    return list(once.values()), codes
+
+
+def wrong_with(command, words, env):
+    """Runs a command; what is wrong with it, or nothing."""
+    try:
+        status, printed, said = run(words, command.folder, env)
+    except subprocess.TimeoutExpired:
+        status, printed, said = 124, [], f'still running after {LIMIT} seconds'
+    if status != 0:
+        return f'{command.where}: `{words}` ended with status {status}:\n{said[-2000:]}'
+    if not all(fits(prints, printed) for prints in command.prints):
+        return f'{command.where}: `{words}` does not print what the text says:\n{said[-2000:]}'
+    return ''
+
+
+def performed(commands, codes, with_long, work):
+    """Runs the commands and compiles the code: what failed, and how many of each kind there were."""
+    counts, ran, failed = {'run': 0, 'elsewhere': 0, 'long': 0, 'not': 0}, set(), []
+    env = environment(work)
+    for command in commands:
+        do, words, _ = plan(command)
+        counts[do] += 1
+        if do in ('not', 'elsewhere') or (do == 'long' and not with_long) or ((words, command.folder) in ran and not command.prints):
+            continue
+        ran.add((words, command.folder))
+        failed.append(wrong_with(command, words, env))
+    for code in codes:
+        wrong = compile_code(code, work, env)
+        failed.append(f'{code.where}: the code in {code.language} is not taken:\n{wrong[-2000:]}' if wrong else '')
+    return [text for text in failed if text], counts
+
+
 def main(args):
     if args not in ([], ['--all'], ['--list']):
         sys.exit('usage: python3 host/check/commands.py [--all | --list]')
-    if args != ['--list'] and not os.path.exists(os.path.join(ROOT, ARCHIVE)):
-        sys.exit(f'commands: no {ARCHIVE}: build it with `rt staticlib linked`')
-    commands, codes = [], []
-    for path in texts():
-        found = read(path)
-        commands += found[0]
-        codes += found[1]
-    once = {}  # each command where it stands first, with all that texts say of what it prints
-    for command in commands:
-        first = once.setdefault((command.text, command.folder), command._replace(prints=[]))
-        if command.prints:
-            first.prints.append(command.prints)
-    fitted = {rule.pattern for rule in (plan(command)[2] for command in once.values()) if rule}
-    failed, counts, ran = [], {'run': 0, 'elsewhere': 0, 'long': 0, 'not': 0, 'code': 0}, set()
-    work = tempfile.mkdtemp(prefix='commands')
-    env = environment(work)
-    os.makedirs(os.path.join(ROOT, 'target', 'host'), exist_ok=True)
-    try:
-        for command in once.values():
+    commands, codes = gathered()
+    fitted = {rule.pattern for rule in (plan(command)[2] for command in commands) if rule}
+    failed = [f'host/check/commands.py: no text has a command for the rule {rule.pattern}' for rule in RULES if rule.pattern not in fitted]
+    if args == ['--list']:
+        for command in commands:
             do, words, _ = plan(command)
-            if args == ['--list']:
-                print(f'{do:9} {command.where:28} {command.text}' + (f'  =>  {words}' if words != command.text else ''))
-                continue
-            counts[do] += 1
-            if do in ('not', 'elsewhere') or (do == 'long' and not args):
-                continue
-            if (words, command.folder) in ran and not command.prints:
-                continue
-            ran.add((words, command.folder))
-            try:
-                status, printed, said = run(words, command.folder, env)
-            except subprocess.TimeoutExpired:
-                status, printed, said = 124, [], f'still running after {LIMIT} seconds'
-            if status != 0:
-                failed.append(f'{command.where}: `{words}` ended with status {status}:\n{said[-2000:]}')
-            elif not all(fits(prints, printed) for prints in command.prints):
-                failed.append(f'{command.where}: `{words}` does not print what the text says:\n{said[-2000:]}')
-        for code in codes if args != ['--list'] else []:
-            counts['code'] += 1
-            wrong = compile_code(code, work, env)
-            if wrong:
-                failed.append(f'{code.where}: the code in {code.language} is not taken:\n{wrong[-2000:]}')
-    finally:
-        shutil.rmtree(work)
-    failed += [f'host/check/commands.py: no text has a command for the rule {rule.pattern}' for rule in RULES if rule.pattern not in fitted]
+            print(f'{do:9} {command.where:28} {command.text}' + (f'  =>  {words}' if words != command.text else ''))
+    elif not os.path.exists(os.path.join(ROOT, ARCHIVE)):
+        sys.exit(f'commands: no {ARCHIVE}: build it with `rt staticlib linked`')
+    else:
+        os.makedirs(os.path.join(ROOT, 'target', 'host'), exist_ok=True)
+        with tempfile.TemporaryDirectory(prefix='commands') as work:
+            found, counts = performed(commands, codes, bool(args), work)
+        failed = found + failed
     for text in failed:
         print(f'commands: {text}', file=sys.stderr)
     if failed:
         sys.exit(1)
     if args != ['--list']:
         later = '' if args else f', {counts["long"]} take minutes (--all)'
-        print(f'commands: {len(once)} commands of {len(texts())} texts: {counts["run"] + (counts["long"] if args else 0)} run{later}, '
-              f'{counts["elsewhere"]} run by test_all.sh itself, {counts["not"]} not to be run; {counts["code"]} pieces of code compiled')
+        print(f'commands: {len(commands)} commands of {len(texts())} texts: {counts["run"] + (counts["long"] if args else 0)} run{later}, '
+              f'{counts["elsewhere"]} run by test_all.sh itself, {counts["not"]} not to be run; {len(codes)} pieces of code compiled')
 
 
 if __name__ == '__main__':
