@@ -84,6 +84,9 @@ fi
 if part "texts that are made from lists and samples, and what is to be believed" python3; then
     python3 host/check/versions.py
     python3 host/check/refusals.py
+    python3 host/check/crate_list.py --check
+    python3 host/check/edits.py --check
+    python3 host/check/glossary.py
     python3 host/check/picture.py
     python3 host/check/believe.py | tail -1
     python3 host/check/names.py

@@ -15,13 +15,13 @@ import sys
 import time
 from fractions import Fraction
 from itertools import combinations, product
+from pathlib import Path
 
-import charges
-import foreign
-import purchases
-import solver
-import visits
-from solver import Plant, Stream
+if not __package__:  # run by its path, and not as `python3 -m reference.brute`
+    sys.path[0] = str(Path(__file__).resolve().parent.parent)
+
+from reference import charges, foreign, purchases, solver, visits
+from reference.solver import Plant, Stream
 
 # Brute force
 

@@ -1,11 +1,10 @@
 """Cases of the call over steam charges."""
 
-import charges
-import samples
-from charges import RATE
-from parts import Charging, Draws, balanced_amounts, drawn_meters, end_record, metered, plant_file, ranged, read_with_noise
-from parts import site_record, unmetered, within
-from solver import READING, Plant
+from reference import charges, samples
+from reference.charges import RATE
+from reference.parts import Charging, Draws, balanced_amounts, drawn_meters, end_record, metered, plant_file, ranged, read_with_noise
+from reference.parts import site_record, unmetered, within
+from reference.solver import READING, Plant
 
 FEW = 8  # up to so many charges every set of streams is tried as well
 

@@ -2,9 +2,9 @@
 
 import math
 
-import solver
-from parts import metered, taken, unmetered, within
-from solver import CLOSE, CRITICAL, FAIL, NONE, PASS
+from reference import solver
+from reference.parts import metered, taken, unmetered, within
+from reference.solver import CLOSE, CRITICAL, FAIL, NONE, PASS
 
 
 def meant(units, streams, cost, degrees, verdict):

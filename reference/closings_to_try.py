@@ -4,7 +4,7 @@ A gap is what a price lies below the next higher one, or the highest below PRICE
 every gap above MARGINAL becomes MARGINAL.
 """
 
-from parts import Closing, Draws
+from reference.parts import Closing, Draws
 
 PLACES = 33
 PRICE_SHIFT = 2**57

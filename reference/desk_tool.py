@@ -17,9 +17,10 @@ import time
 from fractions import Fraction
 from typing import NamedTuple
 
-import brute
-import cases
-import solver
+if not __package__:  # run by its path, and not as `python3 -m reference.desk_tool`
+    sys.path[0] = str(pathlib.Path(__file__).resolve().parent.parent)
+
+from reference import brute, cases, solver
 
 DATA = pathlib.Path(__file__).parent.parent / "crates" / "vectors" / "data"
 

@@ -2,9 +2,9 @@
 
 from typing import NamedTuple
 
-import samples
-from parts import TEXT_LENGTH, Draws, Listing, Reading, Writing, metered, plant_file, ranged, unmetered
-from solver import FILE_LENGTH, RANGE, READING as MOST, STREAMS, read_plant
+from reference import samples
+from reference.parts import TEXT_LENGTH, Draws, Listing, Reading, Writing, metered, plant_file, ranged, unmetered
+from reference.solver import FILE_LENGTH, RANGE, READING as MOST, STREAMS, read_plant
 
 # A slice of so many bytes is long enough for the writer, and longer.
 ROOMY = 1_700

@@ -6,7 +6,7 @@ passes are distances over the streams that can carry one more or one less (Bellm
 
 from functools import lru_cache
 
-import solver
+from reference import solver
 
 LIMIT = 10**18
 PLACES = solver.UNITS + 1

@@ -1,15 +1,11 @@
 """Sheets to check, drawn up here and elsewhere, and plants for numbers of the places."""
 
-import foreign
-import ranges_to_try
-import samples
-import shapes
-import solver
-from foreign import LIMIT, PLACES
-from parts import Checking, Draws, Numbering, metered, plant_file, ranged, unmetered, within
-from refusals import LISTING, LONGEST
-from sheets_to_try import plain, shown, total
-from solver import KIND, LAST_SHEET, Plant, read_plant, read_sheet, sheet_bytes
+from reference import foreign, ranges_to_try, samples, shapes, solver
+from reference.foreign import LIMIT, PLACES
+from reference.parts import Checking, Draws, Numbering, metered, plant_file, ranged, unmetered, within
+from reference.refusals import LISTING, LONGEST
+from reference.sheets_to_try import plain, shown, total
+from reference.solver import KIND, LAST_SHEET, Plant, read_plant, read_sheet, sheet_bytes
 
 MOST_FILE = 1_400  # a longer plant file does not fit into a case beside its sheet and its numbers
 

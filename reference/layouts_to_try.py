@@ -1,12 +1,11 @@
 """The cases of the survey: by hand, drawn, and each refusal in its order."""
 
-import samples
-import shapes
-from parts import (
+from reference import samples, shapes
+from reference.parts import (
     Draws, LayoutText, Survey, end_record, metered, metered_record, plant_file, ranged, ranged_record, site_record, stream_record,
     unmetered,
 )
-from survey import TEXT_LENGTH
+from reference.survey import TEXT_LENGTH
 
 # Plants whose counts can be told by hand, with these.
 BY_HAND = (

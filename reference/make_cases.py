@@ -10,9 +10,10 @@ import sys
 import time
 from pathlib import Path
 
-import cases
-import samples
-import subjects
+if not __package__:  # run by its path, and not as `python3 -m reference.make_cases`
+    sys.path[0] = str(Path(__file__).resolve().parent.parent)
+
+from reference import cases, samples, subjects
 
 ROOT = Path(__file__).resolve().parent.parent
 VECTORS = ROOT / "crates" / "vectors"

@@ -1,6 +1,6 @@
 """The moves of a plant file to the ranged form and home, record by record over its bytes; no plant is written anew."""
 
-from solver import BODY, FILE_LENGTH, METERED, RANGE, RANGED, Refused, read_plant
+from reference.solver import BODY, FILE_LENGTH, METERED, RANGE, RANGED, Refused, read_plant
 
 WIDEST = (-RANGE).to_bytes(4, "big", signed=True) + RANGE.to_bytes(4, "big")
 

@@ -1,9 +1,9 @@
 """Sheet calls by several offices: one after the other, each handed the last numbers that the one before gave back; refusals and their order."""
 
-import samples
-from parts import Draws, Drawing, end_record, metered_record, site_record
-from refusals import LISTING, LONGEST
-from solver import LAST_SHEET, OFFICES, SHEET_LENGTH, offices_from, sheet_call
+from reference import samples
+from reference.parts import Draws, Drawing, end_record, metered_record, site_record
+from reference.refusals import LISTING, LONGEST
+from reference.solver import LAST_SHEET, OFFICES, SHEET_LENGTH, offices_from, sheet_call
 
 NO_FLOW = samples.OVERFULL_SITE.file
 FILES = (

@@ -3,16 +3,8 @@
 import math
 from typing import NamedTuple
 
-import cases
-import foreign
-import charges
-import moves
-import purchases
-import solver
-import survey
-import transmitter
-import visits
-from solver import FILE_LENGTH, READING, SHEET_LENGTH, Stream, offices_from
+from reference import cases, charges, foreign, moves, purchases, solver, survey, transmitter, visits
+from reference.solver import FILE_LENGTH, READING, SHEET_LENGTH, Stream, offices_from
 
 TEXT_LENGTH = 2_544  # a slice of so many bytes holds every listing
 

@@ -5,8 +5,8 @@ What was written by hand or found by another program is held to the reference so
 
 from pathlib import Path
 
-from parts import Unhinted, metered, plant_file, taken, unmetered
-from solver import Plant, Stream, balance
+from reference.parts import Unhinted, metered, plant_file, taken, unmetered
+from reference.solver import Plant, Stream, balance
 
 # Units, degrees, and three characters for each stream: from, to (0 to 9, then a for 10 and so on to w for 32), and its class.
 # Streams of class A and R are metered, those of class G and W are not.

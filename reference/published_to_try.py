@@ -5,8 +5,8 @@
 
 from typing import NamedTuple
 
-import solver
-from parts import metered, plant_file, ranged, taken, unmetered
+from reference import solver
+from reference.parts import metered, plant_file, ranged, taken, unmetered
 
 
 class Example(NamedTuple):

@@ -8,7 +8,7 @@ rows of the incidence matrix are independent. For plants with few unmetered stre
 
 from itertools import combinations
 
-from solver import STREAMS, Refused, read_plant
+from reference.solver import STREAMS, Refused, read_plant
 
 PRICE = 1_000_000  # the greatest
 

@@ -1,11 +1,9 @@
 """Cases of the call over meters to buy."""
 
-import purchases
-import samples
-import shapes
-from parts import Buying, Draws, end_record, metered, plant_file, ranged, site_record, unmetered
-from purchases import PRICE
-from solver import STREAMS, Plant
+from reference import purchases, samples, shapes
+from reference.parts import Buying, Draws, end_record, metered, plant_file, ranged, site_record, unmetered
+from reference.purchases import PRICE
+from reference.solver import STREAMS, Plant
 
 FEW = 7  # up to so many unmetered streams every set is tried as well
 

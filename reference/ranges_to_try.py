@@ -2,14 +2,12 @@
 
 import math
 
-import foreign
-import shapes
-import solver
-from parts import (
+from reference import foreign, shapes, solver
+from reference.parts import (
     Case, Draws, Unhinted, balanced_amounts, end_record, metered, metered_record, plant_file, ranged_record,
     read_with_noise, site_record, taken, unmetered, within,
 )
-from solver import LAST_SHEET, RANGE, READING as MOST, SHEET_LENGTH
+from reference.solver import LAST_SHEET, RANGE, READING as MOST, SHEET_LENGTH
 
 
 def none_in_range(units, streams, last=0):

@@ -1,10 +1,10 @@
 """The cases of damaged files and of calls: slices, counters, the order of refusals."""
 
-import samples
-from parts import (
+from reference import samples
+from reference.parts import (
     Case, Draws, end_record, metered, metered_record, plant_file, ranged_record, site_record, stream_record, unmetered,
 )
-from solver import LAST_SHEET, RANGE, READING as MOST, SHEET_LENGTH
+from reference.solver import LAST_SHEET, RANGE, READING as MOST, SHEET_LENGTH
 
 LISTING = samples.LISTING.file
 LONGEST = plant_file(32, [metered(k % 32, k % 32 + 1, 1_000 + k, 10) for k in range(96)])

@@ -3,14 +3,8 @@
 import struct
 from typing import NamedTuple
 
-import charges
-import foreign
-import purchases
-import solver
-import survey
-import transmitter
-import visits
-from parts import metered, plant_file, unmetered, within
+from reference import charges, foreign, purchases, solver, survey, transmitter, visits
+from reference.parts import metered, plant_file, unmetered, within
 
 
 class Sample(NamedTuple):

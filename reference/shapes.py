@@ -1,7 +1,7 @@
 """Plants of plain shapes: paths, stars, rings, ladders, trees, parallel streams, several pieces; and the shape of a site."""
 
-from parts import Draws, metered, taken, unmetered
-from solver import READING as MOST
+from reference.parts import Draws, metered, taken, unmetered
+from reference.solver import READING as MOST
 
 
 def path(units):

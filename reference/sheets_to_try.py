@@ -1,9 +1,8 @@
 """Sheets to try with the sheet reader: those of plants, damaged ones, each refusal, their order, the edges."""
 
-import files_to_try
-import samples
-from parts import Draws, Keeping, plant_file
-from solver import KIND, LAST_SHEET, OFFICES, PLAIN, STREAMS, TOTAL, Overfull, balance, read_plant, sheet_bytes
+from reference import files_to_try, samples
+from reference.parts import Draws, Keeping, plant_file
+from reference.solver import KIND, LAST_SHEET, OFFICES, PLAIN, STREAMS, TOTAL, Overfull, balance, read_plant, sheet_bytes
 
 KINDS = tuple(KIND.values())
 

@@ -4,10 +4,10 @@ order; files cut anywhere; drawn files."""
 import math
 import struct
 
-import samples
-from parts import Draws, Translation, end_record, site_record
-from solver import FILE_LENGTH, READING as MOST, STREAMS
-from transmitter import ratio_of, read_transmitter
+from reference import samples
+from reference.parts import Draws, Translation, end_record, site_record
+from reference.solver import FILE_LENGTH, READING as MOST, STREAMS
+from reference.transmitter import ratio_of, read_transmitter
 
 MEASURED, HELD = 0x21, 0x22
 

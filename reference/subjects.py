@@ -2,31 +2,16 @@
 
 import math
 
-import charges_to_try
-import close_to_try
-import closings_to_try
-import files_to_try
-import foreign
-import foreign_to_try
-import layouts_to_try
-import moves_to_try
-import offices_to_try
-import plants_to_try
-import published_to_try
-import purchases_to_try
-import ranges_to_try
-import refusals
-import samples
-import shapes
-import sheets_to_try
-import signals_to_try
-import solver
-import visits_to_try
-from parts import (
+from reference import (
+    charges_to_try, close_to_try, closings_to_try, files_to_try, foreign, foreign_to_try, layouts_to_try, moves_to_try,
+    offices_to_try, plants_to_try, published_to_try, purchases_to_try, ranges_to_try, refusals, samples, shapes, sheets_to_try, signals_to_try,
+    solver, visits_to_try
+)
+from reference.parts import (
     Case, Draws, balanced_amounts, end_record, metered, metered_record, plant_file, read_with_noise,
     site_record, taken, unmetered,
 )
-from solver import LAST_SHEET, READING as MOST, SHEET_LENGTH
+from reference.solver import LAST_SHEET, READING as MOST, SHEET_LENGTH
 
 
 # Plants to try, and their edges

@@ -5,7 +5,7 @@ columns of the incidence matrix that belong to them, the units' rows, are indepe
 rank is the same over the field of two elements: a column is a set of bits, and elimination is exclusive or.
 """
 
-import solver
+from reference import solver
 
 MOST = 12  # streams of a plant that is surveyed
 SIZE = MOST + 1

@@ -7,9 +7,13 @@ cycle of ones improves it (README.md says why it then costs the least). No tie i
 """
 
 import sys
+from pathlib import Path
 
-import solver
-from solver import FILE_LENGTH, MOST_COST, Stream
+if not __package__:  # run by its path, and not as `python3 -m reference.visits`
+    sys.path[0] = str(Path(__file__).resolve().parent.parent)
+
+from reference import solver
+from reference.solver import FILE_LENGTH, MOST_COST, Stream
 
 ENTRY = 9  # bytes of a listed stream in a case: its number, then its cost
 TEXT_LENGTH = 2_400  # a slice of so many bytes holds the text of every list

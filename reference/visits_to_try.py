@@ -1,14 +1,13 @@
 """The cases of meters worth a visit: by hand, equal costs, costs at the cap, drawn plants, sites, and each refusal in its order."""
 
-import samples
-import shapes
-from parts import (
+from reference import samples, shapes
+from reference.parts import (
     Draws, Visiting, VisitText, balanced_amounts, end_record, metered, metered_record, plant_file, ranged, ranged_record,
     read_with_noise, site_record, stream_record, unmetered, within,
 )
-from ranges_to_try import drawn_streams, squares, with_ranges
-from solver import MOST_COST, RANGE, READING as MOST
-from visits import TEXT_LENGTH
+from reference.ranges_to_try import drawn_streams, squares, with_ranges
+from reference.solver import MOST_COST, RANGE, READING as MOST
+from reference.visits import TEXT_LENGTH
 
 # Three units in a row, the first fed back to from the second; six meters of weight 10. Published in tenths, with true flows of
 # 100 150 50 100 200 200: the fourth meter is the one that is off, and without it the cost is 1,250.

@@ -2,12 +2,4 @@
 # Measures the check of a sheet and the call over numbers of the places beside the sheet call, on plants in sequence.
 #
 #     bash host/bench/checks.sh [PLANTS [ROUNDS]]   prints the table; 400 plants of each kind and size, 9 rounds
-set -euo pipefail
-cd "$(dirname "$0")/../.."
-command -v cargo >/dev/null || { echo "no cargo: install Rust 1.66 or later (https://rustup.rs)" >&2; exit 2; }
-[ -e target/staticlib/liblinked.a ] || { echo "no target/staticlib/liblinked.a: build it with 'rt staticlib linked'" >&2; exit 2; }
-(cd host/bench && cargo build --release --offline --quiet --example checks)
-echo "Microseconds and quotients, medians of ${1:-400} plants of each kind and size, ${2:-9} rounds; load average before the run:" \
-    "$(cut -d ' ' -f 1 /proc/loadavg)."
-echo
-host/bench/target/release/examples/checks "$@"
+exec bash "$(dirname "$0")/sequence.sh" checks 400 "$@"

@@ -6,11 +6,7 @@
  *
  * Exit status: 0 a sheet, 1 a refusal, 2 the command line is wrong, the file cannot be read or the text not be written.
  */
-#include <inttypes.h>
-#include <stdio.h>
-#include <stdlib.h>
-
-#include "wengeludo_balance.h"
+#include "common.h"
 
 /* Reads the sheet back in and prints it; the number of a refusal, or 0. */
 static uint8_t print_sheet(const uint8_t *sheet, size_t written)
@@ -47,65 +43,35 @@ static void print_marked(uint64_t marked)
     printf("\n");
 }
 
-/* What was printed reached its end. */
-static int done(const char *program, int status)
+/* A number of the command line, of at most `most`, or 0 where the word is left out; 0 is returned where it is no such number. */
+static int optional(int count, char **words, int k, uint64_t most, const char *what, uint64_t *number)
 {
-    if (fflush(stdout) == 0 && !ferror(stdout))
-        return status;
-    fprintf(stderr, "%s: standard output cannot be written\n", program);
-    return 2;
-}
-
-/* A word as a number of at most `most`; 0 where it is none. */
-static int read_number(const char *word, unsigned long most, unsigned long *number)
-{
-    char *end;
-    *number = strtoul(word, &end, 10);
-    return *word >= '0' && *word <= '9' && *end == '\0' && *number <= most;
+    *number = 0;
+    if (count <= k || read_number(words[k], most, number))
+        return 1;
+    fprintf(stderr, "%s: no %s: %s\n", words[0], what, words[k]);
+    return 0;
 }
 
 int main(int count, char **words)
 {
-    if (count < 2 || count > 4) {
-        fprintf(stderr, "usage: %s FILE [LAST [OFFICE]]\n", words[0]);
-        return 2;
-    }
-    unsigned long last = 0, office = 0;
-    if (count > 2 && !read_number(words[2], UINT32_MAX, &last)) {
-        fprintf(stderr, "%s: no sheet number: %s\n", words[0], words[2]);
-        return 2;
-    }
-    if (count > 3 && !read_number(words[3], UINT8_MAX, &office)) {
-        fprintf(stderr, "%s: no office: %s\n", words[0], words[3]);
-        return 2;
-    }
-    FILE *in = fopen(words[1], "rb");
-    if (in == NULL) {
-        perror(words[1]);
-        return 2;
-    }
-    /* One byte more than the longest file: a longer one is refused for what follows its end record. */
-    uint8_t file[WENGELUDO_FILE_SIZE + 1];
-    size_t length = fread(file, 1, sizeof file, in);
-    int failed = ferror(in);
-    fclose(in);
-    if (failed) {
-        fprintf(stderr, "%s: cannot be read\n", words[1]);
-        return 2;
-    }
-    uint8_t sheet[WENGELUDO_SHEET_SIZE];
+    uint8_t file[MOST_BYTES], sheet[WENGELUDO_SHEET_SIZE];
     uint32_t lasts[WENGELUDO_OFFICES] = {0};
+    size_t length, written;
+    uint64_t last, office, marked;
+    if (count < 2 || count > 4)
+        return usage(words[0], "FILE [LAST [OFFICE]]");
+    if (!optional(count, words, 2, UINT32_MAX, "sheet number", &last) || !optional(count, words, 3, UINT8_MAX, "office", &office)
+        || !read_bytes(words[0], words[1], file, sizeof file, &length))
+        return FAILED;
     if (office < WENGELUDO_OFFICES)
         lasts[office] = (uint32_t)last;
-    size_t written;
-    uint64_t marked;
     uint8_t refusal = wengeludo_balance_plant(file, length, (uint8_t)office, lasts, WENGELUDO_OFFICES, sheet, sizeof sheet,
                                               &written, &marked);
     if (refusal == WENGELUDO_DONE)
         refusal = print_sheet(sheet, written);
-    if (refusal != WENGELUDO_DONE)
-        printf("refused %d\n", refusal);
+    int status = told(refusal);
     if (refusal == WENGELUDO_NO_FLOW)
         print_marked(marked);
-    return done(words[0], refusal != WENGELUDO_DONE);
+    return finish(words[0], status);
 }

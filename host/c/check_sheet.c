@@ -8,41 +8,28 @@
  *
  * Exit status: 0 it passes, 1 a refusal, 2 the command line is wrong, a file cannot be read or the text not be written.
  */
-#include <errno.h>
-#include <stdlib.h>
-
+#include "common.h"
 #include "rules.h"
 
-/* One more than the longest file and sheet, and than the most numbers: what is longer is refused all the same. */
-enum { MOST_PLANT = WENGELUDO_FILE_SIZE + 1, MOST_SHEET = WENGELUDO_SHEET_SIZE + 1, MOST_NUMBERS = WENGELUDO_MAX_PLACES + 1 };
-
-/* At most so many bytes of a file; 0 where it cannot be read. */
-static int read_bytes(const char *name, uint8_t *bytes, size_t most, size_t *length)
-{
-    FILE *in = fopen(name, "rb");
-    if (in == NULL)
-        return 0;
-    *length = fread(bytes, 1, most, in);
-    int failed = ferror(in);
-    fclose(in);
-    return !failed;
-}
+/* One more than the longest sheet, and than the most numbers: what is longer is refused all the same. */
+enum { MOST_SHEET = WENGELUDO_SHEET_SIZE + 1, MOST_NUMBERS = WENGELUDO_MAX_PLACES + 1 };
 
 /* The numbers of a text; 0 where it cannot be read, or holds something else than numbers of 64 bits. */
-static int read_numbers(const char *name, int64_t *numbers, size_t *count)
+static int read_numbers(const char *program, const char *name, int64_t *numbers, size_t *count)
 {
     char word[32], *end;
     FILE *in = fopen(name, "r");
-    if (in == NULL)
-        return 0;
-    int good = 1;
+    int good = in != NULL;
     for (*count = 0; good && *count < MOST_NUMBERS && fscanf(in, "%31s", word) == 1; ++*count) {
         errno = 0;
         numbers[*count] = strtoll(word, &end, 10);
         good = *end == '\0' && errno == 0;
     }
     good = good && !ferror(in);
-    fclose(in);
+    if (in != NULL)
+        fclose(in);
+    if (!good)
+        fprintf(stderr, "%s: %s cannot be read, or has other words than numbers\n", program, name);
     return good;
 }
 
@@ -64,29 +51,21 @@ static void print_rule(const uint8_t *plant, size_t plant_length, const uint8_t 
         printf("%s\n", words);
 }
 
-int main(int words_given, char **words)
+int main(int count_of_words, char **words)
 {
-    uint8_t plant[MOST_PLANT], sheet[MOST_SHEET];
+    uint8_t plant[MOST_BYTES], sheet[MOST_SHEET];
     int64_t numbers[MOST_NUMBERS];
     size_t plant_length, sheet_length, count;
-    if (words_given != 4) {
-        fprintf(stderr, "usage: %s PLANT SHEET NUMBERS\n", words[0]);
-        return 2;
-    }
-    if (!read_bytes(words[1], plant, sizeof plant, &plant_length) || !read_bytes(words[2], sheet, sizeof sheet, &sheet_length)
-        || !read_numbers(words[3], numbers, &count)) {
-        fprintf(stderr, "%s: a file cannot be read, or has other words than numbers\n", words[0]);
-        return 2;
-    }
+    if (count_of_words != 4)
+        return usage(words[0], "PLANT SHEET NUMBERS");
+    if (!read_bytes(words[0], words[1], plant, sizeof plant, &plant_length)
+        || !read_bytes(words[0], words[2], sheet, sizeof sheet, &sheet_length) || !read_numbers(words[0], words[3], numbers, &count))
+        return FAILED;
     uint8_t refusal = wengeludo_check_sheet(plant, plant_length, sheet, sheet_length, numbers, count);
-    if (refusal == WENGELUDO_DONE)
+    int status = told(refusal);
+    if (status == ANSWERED)
         printf("passes\n");
-    else
-        printf("refused %d\n", refusal);
     if (refusal == WENGELUDO_RULE_BROKEN)
         print_rule(plant, plant_length, sheet, sheet_length, numbers, count);
-    if (fflush(stdout) == 0 && !ferror(stdout))
-        return refusal != WENGELUDO_DONE;
-    fprintf(stderr, "%s: standard output cannot be written\n", words[0]);
-    return 2;
+    return finish(words[0], status);
 }

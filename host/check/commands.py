@@ -1,5 +1,5 @@
 #!/usr/bin/env python3
-"""Every command that README.md, docs/ and the README of samples, reference, bindings/python and desk name, read out of the text and run.
+"""Every command that README.md, CONTRIBUTING.md, docs/ and the README of samples, reference, bindings/python and desk name, read out of the text and run.
 
     python3 host/check/commands.py          runs them; status 1 where one fails or prints something else than the text says
     python3 host/check/commands.py --all    also those that take minutes
@@ -41,8 +41,19 @@ class Rule(NamedTuple):
 RULES = [
     Rule(r'time bash \.ci/run', 'not', 'test_all.sh runs it, without a clock'),
     Rule(r'bash test_all\.sh( --after-gate)?', 'not', 'this test is a part of it'),
-    Rule(r'rt must-fail \[NAME\.\.\]', 'run', 'rt must-fail version'),
-    Rule(r'python3 host/check/(archive|refusals)\.py --write', 'run', r'cd "$COPY" && \g<0> && python3 host/check/\1.py'),
+    Rule(r'rt (check|dev|must-fail)( \[NAME\.\.\]| LOWER| CRATE| NAME)?', 'run', r'rt \1 version'),
+    Rule(r'rt fmt', 'run', 'rt fmt --check'),
+    Rule(r'python3 host/check/dev\.py CRATE', 'run', 'python3 host/check/dev.py version'),
+    Rule(r'bash host/check/places\.sh CRATE FUNCTION', 'run', 'bash host/check/places.sh version version_number'),
+    Rule(r'python3 host/check/refused_at\.py.*', 'run', 'rt must-fail version && python3 host/check/refused_at.py version'),
+    Rule(r'python3 host/check/audit\.py', 'run', r'\g<0> || [ $? = 1 ]'),
+    Rule(r'python3 host/check/repeats\.py( \[DIR\])?', 'run', 'python3 host/check/repeats.py crates/version'),
+    Rule(r'bash host/check/unproved\.sh OUT\.so', 'run', 'bash host/check/unproved.sh target/host/unproved.so'),
+    Rule(r'bash host/check/check_time\.sh BEFORE AFTER', 'not', 'it proves two versions from nothing'),
+    Rule(r'python3 host/check/rename_crates\.py MAP', 'run',
+         "echo 'version release' >target/host/map && python3 host/check/rename_crates.py target/host/map --dry-run || [ $? = 1 ]"),
+    Rule(r'python3 host/check/merge_crates\.py NEW A B', 'not', 'it changes the crates'),
+    Rule(r'python3 host/check/(archive|refusals|crate_list|edits)\.py --write', 'run', r'cd "$COPY" && \g<0> && python3 host/check/\1.py'),
     Rule(r'python3 host/check/(picture)\.py --write', 'run', r'cd "$COPY" && \g<0> && python3 host/check/\1.py', 'dot'),
     Rule(r'python3 host/check/seconds\.py (crates|edits|modules).*', 'run', r'python3 host/check/seconds.py \1 version'),
     Rule(r'bash install\.sh (--uninstall )?PREFIX', 'run', r'bash install.sh \1"$PREFIX"'),
@@ -79,7 +90,7 @@ class Code(NamedTuple):
 
 
 def texts():
-    found = ['README.md', 'CHANGELOG.md', 'samples/README.md', 'reference/README.md', 'bindings/python/README.md', 'desk/README.md']
+    found = ['README.md', 'CONTRIBUTING.md', 'CHANGELOG.md', 'samples/README.md', 'reference/README.md', 'bindings/python/README.md', 'desk/README.md']
     found += sorted(os.path.relpath(path, ROOT) for path in glob.glob(os.path.join(ROOT, 'docs', '*.md')))
     return [path for path in found if os.path.exists(os.path.join(ROOT, path))]
 

@@ -25,7 +25,7 @@ WORD = re.compile(r'(?<![\w/.$-])[a-z0-9_]+/[\w/{},.*-]*[\w}*]')
 LINK = re.compile(r'\]\(([^)#:]+)(?:#[^)]*)?\)')
 ROW = re.compile(r'^\| `([a-z0-9_]+/[a-z0-9_]+)` \|', re.M)  # an edit's own row
 TOKEN = re.compile(r'(?=([\w-]+))(\w+)')  # with its hyphens, and up to the first of them
-KIT = re.compile(r'rattle-kit|sha256sum$')  # not ours
+KIT = re.compile(r'rattle-kit|sha256sum$|[A-Z_]+_PROOFS$|NOT_COVERED$')  # not ours
 FORM = re.compile(r'\b(NAME|EDIT)\b')  # any crate, any edit
 
 

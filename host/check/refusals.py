@@ -5,14 +5,17 @@
     python3 host/check/refusals.py --write   makes it anew
 
 Made from it, each between two marks: the enum and wengeludo_refusal_text in the C header, the enum of wengeludo.hpp, the enum and
-the texts of the Rust crate, the texts of the Python package where it is there, the table in docs/FORMATS.md.
+the texts of the Rust crate, the texts of the Python package, the tables in docs/FORMATS.md: the refusals, and which numbers are
+used and which are free.
 """
 import csv
 import os
 import re
 import sys
 
-ROOT = os.path.abspath(os.path.join(os.path.dirname(__file__), '..', '..'))
+import made
+from made import ROOT
+
 LIST = os.path.join(ROOT, 'host', 'refusals.tsv')
 DONE = 'done'
 UNKNOWN = 'a number that this version does not know'
@@ -133,6 +136,28 @@ def table(found):
     return text
 
 
+def runs(numbers):
+    """Numbers that follow on one another, as pairs of the first and the last."""
+    found = []
+    for number in sorted(numbers):
+        if found and found[-1][1] == number - 1:
+            found[-1][1] = number
+        else:
+            found.append([number, number])
+    return found
+
+
+def free(found):
+    """Which numbers of one byte are used, and which are free."""
+    used = {row[0] for row in found}
+    left = set(range(1, 256)) - used
+    says = [(0, 0, f'{DONE}: no refusal')]
+    says += [(*run, 'used: the table above') for run in runs(used)]
+    says += [(*run, f'free; a new refusal takes {run[0]}' if run[0] == min(left) else 'free') for run in runs(left)]
+    text = ['| numbers | |', '|---|---|']
+    return text + [f'| {first if first == last else f"{first} to {last}"} | {what} |' for first, last, what in sorted(says)]
+
+
 MADE = [
     ('host/include/wengeludo_balance.h', '    /* refusals: {} */', 'enum', c_enum),
     ('host/include/wengeludo_balance.h', '/* refusals: {} */', 'texts', c_text),
@@ -140,40 +165,30 @@ MADE = [
     ('host/rust/src/refusal.rs', '    // refusals: {}', 'enum', rust_enum),
     ('host/rust/src/refusal.rs', '// refusals: {}', 'texts', rust_texts),
     ('docs/FORMATS.md', '<!-- refusals: {} -->', 'table', table),
+    ('docs/FORMATS.md', '<!-- refusals: {} -->', 'free numbers', free),
     ('bindings/python/src/wengeludo_balance/refusal.py', '    # refusals: {}', 'texts', python_texts),
 ]
 
 
-def main(words):
-    if words not in ([], ['--write']):
-        sys.exit('usage: python3 host/check/refusals.py [--write]')
-    found, differ = rows(), []
+def texts(found):
+    """For each text a function that makes its parts anew."""
+    parts = {}
     for path, mark, name, make in MADE:
-        where = os.path.join(ROOT, path)
-        if path.startswith('bindings/') and not os.path.exists(where):
-            continue
-        with open(where, encoding='utf-8') as file:
-            old = file.read()
-        begin, end = mark.format(f'{name}, from host/refusals.tsv'), mark.format(f'end of {name}')
-        if old.count(begin + '\n') != 1 or old.count(end + '\n') != 1:
-            sys.exit(f'refusals: {path} does not have the marks "{begin.strip()}" and "{end.strip()}" once each')
-        before, rest = old.split(begin + '\n')
-        inside, after = rest.split(end + '\n')
-        new = before + '\n'.join([begin] + make(found) + [end]) + '\n' + after
-        if new == old:
-            continue
-        if words:
-            with open(where, 'w', encoding='utf-8') as file:
-                file.write(new)
-            print(f'refusals: {name} of {path} made anew')
-        else:
-            differ.append(f'{name} of {path}')
-    for place in differ:
-        print(f'refusals: {place} is not what host/refusals.tsv makes it; run python3 host/check/refusals.py --write', file=sys.stderr)
-    if differ:
-        sys.exit(1)
-    if not words:
-        print(f'refusals: {len(found)} numbers, the same wherever they are told')
+        parts.setdefault(path, []).append((mark.format(f'{name}, from host/refusals.tsv'), mark.format(f'end of {name}'), make(found)))
+
+    def remade(marked):
+        def make(text):
+            for begin, end, lines in marked:
+                text = made.between(text, begin, end, lines) if text is not None else None
+            return text
+        return make
+
+    return {path: remade(marked) for path, marked in parts.items()}
+
+
+def main(words):
+    found = rows()
+    made.remake('refusals', words, texts(found), f'{len(found)} numbers')
 
 
 if __name__ == '__main__':

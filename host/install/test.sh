@@ -35,7 +35,7 @@ nm -u "$prefix/lib/libwengeludo.a" | awk 'NF == 2 { print $2 }' | sort | tr '\n'
 # shellcheck disable=SC2046
 "${CC:-cc}" host/c/balance_file.c $(pkg-config --cflags --libs wengeludo) -o "$work/by_pkg_config"
 listing "$work/by_pkg_config"
-(cd "$work" && cp "$OLDPWD/host/c/balance_file.c" x.c && CPATH=$prefix/include LIBRARY_PATH=$prefix/lib "${CC:-cc}" x.c -lwengeludo -o by_cc)
+(cd "$work" && cp "$OLDPWD/host/c/balance_file.c" x.c && cp "$OLDPWD/host/c/common.h" . && CPATH=$prefix/include LIBRARY_PATH=$prefix/lib "${CC:-cc}" x.c -lwengeludo -o by_cc)
 listing "$work/by_cc"
 readelf -d "$work/by_cc" | grep -q 'NEEDED.*libwengeludo.so.1' || fail "cc -lwengeludo did not take the shared library"
 (cd "$work" && CPATH=$prefix/include LIBRARY_PATH=$prefix/lib "${CC:-cc}" x.c -l:libwengeludo.a -o by_archive)

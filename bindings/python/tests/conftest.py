@@ -8,7 +8,7 @@ import pytest
 
 ROOT = Path(__file__).resolve().parents[3]
 REFERENCE = Path(os.environ.get("WENGELUDO_REFERENCE") or ROOT / "reference")
-sys.path.insert(0, str(REFERENCE))
+sys.path.insert(0, str(REFERENCE.resolve().parent))
 
 
 @pytest.fixture

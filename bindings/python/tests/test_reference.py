@@ -6,16 +6,10 @@ WENGELUDO_DRAWN (default 300)  how many plants
 import os
 import random
 
-import charges as charging
-import foreign
-import moves
-import purchases
-import solver
-import survey
-import transmitter
-import visits as visiting
-
 import wengeludo_balance as w
+from reference import charges as charging
+from reference import foreign, moves, purchases, solver, survey, transmitter
+from reference import visits as visiting
 
 DRAWN = int(os.environ.get("WENGELUDO_DRAWN") or 300)
 

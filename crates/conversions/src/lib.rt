@@ -1,1 +1,1 @@
-// Files read and written anew as plant files. No function stands here.
+// What a call promises that reads a file and writes a plant file from it. No function stands here.

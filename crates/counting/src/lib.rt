@@ -1,4 +1,4 @@
-// The sets of n streams, one for each number below 2 to the n: stream k, from 0, is metered where bit k is 1.
+// Meter layouts counted over the sets of n streams, one for each number below 2 to the n: stream k, from 0, is metered where bit k is 1.
 use groups::one_label;
 use groups::own_numbers;
 use groups::step;

@@ -1,6 +1,6 @@
-// The equations of a step towards prices at which the real-number optimum of a plant balances: the Laplacian of the groups, each stream
-// of weight w with the conductance 1 / 2w. Row g has the right-hand side, what the amounts take out of group g less what they bring in,
-// and then the coefficients of the groups up to g.
+// The equations of a step towards prices at which the real-number optimum of a plant balances. They are the Laplacian of the groups, each
+// stream of weight w with the conductance 1 / 2w. Row g has the right-hand side, what the amounts take out of group g less what they
+// bring in, and then the coefficients of the groups up to g.
 use elimination::eliminate;
 use elimination::substitute;
 use meters::ENDS;

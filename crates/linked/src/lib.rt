@@ -1,6 +1,6 @@
-// The version, the sheet call, the plant writer, the sheet reader, the translator, the two moves, meters to buy, the survey, meters worth a
-// visit, steam charges, the check of a sheet and numbers of the places for programs in C and Rust: functions on numbers and slices
-// of numbers.
+// The calls for programs in C and Rust, as functions on numbers and slices of numbers: the archive. They are the version, the sheet call,
+// the plant writer, the sheet reader, the translator, the two moves, meters to buy, the survey, meters worth a visit, steam charges, the
+// check of a sheet and numbers of the places.
 use plants::Plant;
 use sheet_lent::balance_lent;
 ghost use mathlib.Core.Path.{_≡_};

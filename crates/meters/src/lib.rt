@@ -1,5 +1,5 @@
-// The metered streams that lead from one group to another, as numbers: in one array the groups of start and end of each, in another its
-// reading, its conductance and the ends of its range, as real numbers.
+// The metered streams that lead from one group to another, as real numbers. One array has the groups of start and end of each, another
+// its reading, its conductance and the ends of its range.
 use plants::Plant;
 use plants::Stream;
 use plants::limits::MAX_STREAMS;

@@ -1,4 +1,4 @@
-// Prices: refusal 21.
+// The prices that a call is handed: one for each unmetered stream, each within its limits; refusal 21.
 use plants::Plant;
 use purchases::MAX_PRICE;
 ghost use mathlib.Core.Path.{_≡_};

@@ -1,5 +1,5 @@
-// A stream that joins two groups takes a label away, the higher one of its ends. Bit h of a place's sides tells on which side of the
-// stream that took label h away the place lies.
+// On which side of each stream that joins two groups a place lies. Such a stream takes a label away, the higher one of its ends. Bit h of
+// a place's sides tells on which side of the stream that took label h away the place lies.
 use groups;
 use plants::Stream;
 use plants::limits::PLACES;

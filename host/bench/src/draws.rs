@@ -1,30 +1,11 @@
-//! Numbers drawn from a seed (splitmix64).
+//! Numbers drawn from a seed, by the generator of the tests.
 
-pub struct Draws(u64);
+#[path = "../../rust/tests/draw/splitmix.rs"]
+mod splitmix;
+
+pub use splitmix::Draw as Draws;
 
 impl Draws {
-    pub fn new(seed: u64) -> Draws {
-        Draws(seed.wrapping_mul(0x9E37_79B9_7F4A_7C15) ^ 0x5DEE_CE66)
-    }
-
-    fn bits(&mut self) -> u64 {
-        self.0 = self.0.wrapping_add(0x9E37_79B9_7F4A_7C15);
-        let mut z = self.0;
-        z = (z ^ (z >> 30)).wrapping_mul(0xBF58_476D_1CE4_E5B9);
-        z = (z ^ (z >> 27)).wrapping_mul(0x94D0_49BB_1331_11EB);
-        z ^ (z >> 31)
-    }
-
-    /// One of the numbers from 0 up to n, without n.
-    pub fn below(&mut self, n: usize) -> usize {
-        (self.bits() % n as u64) as usize
-    }
-
-    /// One of the numbers from a to b.
-    pub fn between(&mut self, a: i64, b: i64) -> i64 {
-        a + (self.bits() % (b - a + 1) as u64) as i64
-    }
-
     /// True so many times in a hundred.
     pub fn chance(&mut self, per_cent: usize) -> bool {
         self.below(100) < per_cent

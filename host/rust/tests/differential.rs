@@ -2,12 +2,9 @@
 //!
 //! On each input: the returned number, every byte of the slice with guard bytes round it, all last sheet numbers that are lent with
 //! guard numbers round them, `written`; the marked places of a refusal 19 are tested, and no other call marks one.
-//! A difference is shrunk, and the smallest input found is printed.
-//!
-//! WENGELUDO_INPUTS   how many inputs (default 100,000)
-//! WENGELUDO_SEED     the first seed (default 1); input k has the seed WENGELUDO_SEED + k
-//! WENGELUDO_THREADS  how many threads (default: the machine's processors)
+//! The loop, with its variables, stands in `agree`; the other calls have modules of their own.
 
+mod agree;
 mod charges;
 mod draw;
 mod foreign;
@@ -19,9 +16,9 @@ mod shrink;
 mod transmitters;
 mod visits;
 
+use agree::{Counts, Subject};
 use draw::{Call, Draw, Reopen, Write};
 use reference::{overfull, read, Outcome, Stream};
-use std::sync::atomic::{AtomicU64, Ordering};
 use wengeludo_balance::raw::{self, Parts, Total};
 
 const GUARD: usize = 64;
@@ -212,77 +209,60 @@ fn reopen_difference(r: &Reopen) -> Result<u8, String> {
     Ok(returned)
 }
 
-fn number(name: &str, other: u64) -> u64 {
-    match std::env::var(name) {
-        Ok(text) => text.replace('_', "").parse().unwrap_or_else(|_| panic!("{name} is no number: {text}")),
-        Err(_) => other,
+/// A call of the sheet call, the writer or the reader.
+enum Input {
+    Sheet(Call),
+    Writer(Write),
+    Reader(Reopen),
+}
+
+fn drawn(draw: &mut Draw) -> Input {
+    match draw.below(10) {
+        0 => Input::Writer(draw.write()),
+        1 => Input::Reader(draw.reopen()),
+        _ => Input::Sheet(draw.call()),
+    }
+}
+
+/// Where the outcome is counted, or the difference.
+fn difference(input: &Input) -> Result<usize, String> {
+    match input {
+        Input::Sheet(call) => sheet_difference(&engine, call),
+        Input::Writer(w) => write_difference(w).map(|()| WRITER),
+        Input::Reader(r) => reopen_difference(r).map(|returned| READER + usize::from(returned)),
+    }
+}
+
+fn simpler(input: &Input) -> Vec<Input> {
+    match input {
+        Input::Sheet(call) => shrink::simpler_calls(call).into_iter().map(Input::Sheet).collect(),
+        Input::Writer(w) => shrink::simpler_writes(w).into_iter().map(Input::Writer).collect(),
+        Input::Reader(r) => shrink::simpler_reopens(r).into_iter().map(Input::Reader).collect(),
+    }
+}
+
+fn shown(input: &Input) -> String {
+    match input {
+        Input::Sheet(call) => format!("the sheet call: {call}"),
+        Input::Writer(w) => format!("the writer: {w:?}"),
+        Input::Reader(r) => format!("the sheet reader: {r:?}"),
     }
 }
 
 #[test]
 fn engine_and_reference_agree() {
-    let inputs = number("WENGELUDO_INPUTS", 100_000);
-    let seed = number("WENGELUDO_SEED", 1);
-    let threads = number("WENGELUDO_THREADS", std::thread::available_parallelism().map_or(1, |n| n.get() as u64)).max(1);
-    let next = AtomicU64::new(0);
-    let counts: Vec<AtomicU64> = (0..OUTCOMES).map(|_| AtomicU64::new(0)).collect();
-    std::thread::scope(|scope| {
-        for _ in 0..threads {
-            scope.spawn(|| loop {
-                let k = next.fetch_add(1, Ordering::Relaxed);
-                if k >= inputs {
-                    return;
-                }
-                match k % 1_000_000 {
-                    0 if k > 0 => println!("{k} inputs, no difference so far"),
-                    _ => {}
-                }
-                let mut draw = Draw::new(seed + k);
-                let which = draw.below(10);
-                if which == 1 {
-                    let r = draw.reopen();
-                    match reopen_difference(&r) {
-                        Ok(returned) => counts[READER + usize::from(returned)].fetch_add(1, Ordering::Relaxed),
-                        Err(difference) => {
-                            let small = shrink::smallest(r, &shrink::simpler_reopens, &|r| reopen_difference(r).is_err());
-                            let again = reopen_difference(&small).unwrap_err();
-                            panic!("seed {}: the sheet reader: {difference}\nsmallest input found: {again}\n{small:?}", seed + k);
-                        }
-                    };
-                } else if which == 0 {
-                    let w = draw.write();
-                    if let Err(difference) = write_difference(&w) {
-                        let small = shrink::smallest(w, &shrink::simpler_writes, &|w| write_difference(w).is_err());
-                        let again = write_difference(&small).unwrap_err();
-                        panic!("seed {}: the writer: {difference}\nsmallest input found: {again}\n{small:?}", seed + k);
-                    }
-                    counts[WRITER].fetch_add(1, Ordering::Relaxed);
-                } else {
-                    let call = draw.call();
-                    match sheet_difference(&engine, &call) {
-                        Ok(outcome) => counts[outcome].fetch_add(1, Ordering::Relaxed),
-                        Err(difference) => {
-                            let differs = |c: &Call| sheet_difference(&engine, c).is_err();
-                            let small = shrink::smallest(call, &shrink::simpler_calls, &differs);
-                            let again = sheet_difference(&engine, &small).unwrap_err();
-                            panic!("seed {}: {difference}\nsmallest input found: {again}\n{small}", seed + k);
-                        }
-                    };
-                }
-            });
-        }
-    });
-    let count = |i: usize| counts[i].load(Ordering::Relaxed);
-    let refusals: Vec<String> = REFUSALS.map(|i| format!("{i}: {}", count(i))).into();
-    println!("{inputs} inputs from seed {seed}, no difference");
-    let (sheets, refusals) = (count(0) + count(CLOSE), refusals.join(", "));
+    let note = |counts: &Counts, place: &usize| counts.one(*place);
+    let name = "sheet call, writer and sheet reader";
+    let tally = Subject { name, drawn, difference, simpler, shown, note, places: OUTCOMES, one_for: 1 }.agree();
+    let count = |i| tally.count(i);
+    let refusals = tally.listed(REFUSALS.into_iter().map(|i| (i, i)));
+    let sheets = count(0) + count(CLOSE);
     println!("sheets: {sheets}, {} of them close; refusals {refusals}; calls of the writer: {}", count(CLOSE), count(WRITER));
-    let reopened: Vec<String> = [1, 13, 14, 15].iter().map(|i| format!("{i}: {}", count(READER + i))).collect();
-    println!("sheets read back in: {}; refusals {}", count(READER), reopened.join(", "));
-    if inputs >= 100_000 {
-        let all = [0, WRITER, CLOSE].into_iter().chain(REFUSALS).chain([0, 1, 13, 14, 15].map(|i| READER + i));
-        assert!(all.into_iter().all(|i| count(i) > 0), "some outcome never came up");
-    }
+    let reopened = tally.listed([1, 13, 14, 15].into_iter().map(|i| (i, READER + i)));
+    println!("sheets read back in: {}; refusals {reopened}", count(READER));
+    let reader = [0, 1, 13, 14, 15].map(|i| READER + i);
+    let all: Vec<usize> = [0, WRITER, CLOSE].into_iter().chain(REFUSALS).chain(reader).collect();
+    tally.all_met(&all, 0, OUTCOMES - 1);
 }
 
 #[test]

@@ -6,20 +6,11 @@
 //!
 //! `WENGELUDO_SURVEYS` (default 2,000) is how many plants are drawn, `WENGELUDO_SEED` (default 1) the first seed.
 
+#[path = "draw/splitmix.rs"]
+mod splitmix;
+
+use splitmix::Draw;
 use wengeludo_balance::raw;
-
-/// Repeatable draws (splitmix64).
-struct Draw(u64);
-
-impl Draw {
-    fn below(&mut self, n: u64) -> u64 {
-        self.0 = self.0.wrapping_add(0x9E37_79B9_7F4A_7C15);
-        let mut z = self.0;
-        z = (z ^ (z >> 30)).wrapping_mul(0xBF58_476D_1CE4_E5B9);
-        z = (z ^ (z >> 27)).wrapping_mul(0x94D0_49BB_1331_11EB);
-        (u128::from(z ^ (z >> 31)) * u128::from(n) >> 64) as u64
-    }
-}
 
 /// A plant's ends, and its file: each stream unmetered, metered or metered with a range.
 fn drawn(draw: &mut Draw) -> (Vec<(u8, u8)>, Vec<u8>) {
@@ -103,9 +94,9 @@ fn surveys_agree() {
     let inputs = number("WENGELUDO_SURVEYS", 2_000);
     let (mut surveyed, mut refused) = (0, 0);
     for seed in first..first + inputs {
-        let draw = &mut Draw(seed);
+        let draw = &mut Draw::new(seed);
         let (ends, file) = drawn(draw);
-        let length = if draw.below(8) == 0 { draw.below(16) as usize } else { 13 + draw.below(3) as usize };
+        let length = if draw.below(8) == 0 { draw.below(16) } else { 13 + draw.below(3) };
         let found = call(&file, length);
         if length < 13 {
             assert_eq!(found, (1, 0, untouched(length)), "seed {seed}");
@@ -120,7 +111,7 @@ fn surveys_agree() {
             surveyed += 1;
         }
         // A file cut or with a byte too many is refused before its streams are counted.
-        let cut = draw.below(file.len() as u64) as usize;
+        let cut = draw.below(file.len());
         assert_eq!(call(&file[..cut], 13), (3, 0, untouched(13)), "seed {seed}, cut at {cut}");
         let mut longer = file.clone();
         longer.push(0);

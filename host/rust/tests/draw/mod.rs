@@ -1,6 +1,9 @@
 //! Inputs, drawn from a seed.
 
 mod ranges;
+mod splitmix;
+
+pub use splitmix::Draw;
 
 use crate::reference::{file_of, read, sheet_bytes, sheet_of, Kept, Listed, Stream};
 use std::fmt;
@@ -67,31 +70,7 @@ pub struct Reopen {
     pub flows: Vec<i64>,
 }
 
-/// A source of drawn numbers (splitmix64).
-pub struct Draw(u64);
-
 impl Draw {
-    pub fn new(seed: u64) -> Draw {
-        Draw(seed.wrapping_mul(0x9E37_79B9_7F4A_7C15) ^ 0x5DEE_CE66)
-    }
-
-    pub fn bits(&mut self) -> u64 {
-        self.0 = self.0.wrapping_add(0x9E37_79B9_7F4A_7C15);
-        let mut z = self.0;
-        z = (z ^ (z >> 30)).wrapping_mul(0xBF58_476D_1CE4_E5B9);
-        z = (z ^ (z >> 27)).wrapping_mul(0x94D0_49BB_1331_11EB);
-        z ^ (z >> 31)
-    }
-
-    pub fn below(&mut self, n: usize) -> usize {
-        (self.bits() % n as u64) as usize
-    }
-
-    /// One of the numbers from a to b.
-    pub fn among(&mut self, a: i64, b: i64) -> i64 {
-        a + (self.bits() % (b - a + 1) as u64) as i64
-    }
-
     pub fn bytes(&mut self, n: usize) -> Vec<u8> {
         (0..n).map(|_| self.bits() as u8).collect()
     }
@@ -107,11 +86,11 @@ impl Draw {
 
     /// A small header: a few meters of one weight, by which the cost comes near its critical value.
     fn small_header(&mut self) -> Listed {
-        let (outlets, apart) = (self.among(1, 4), self.among(3, 20));
+        let (outlets, apart) = (self.between(1, 4), self.between(3, 20));
         // Whole numbers share what the meters are apart, some of them one more: the cost at weight 1.
         let (share, more) = (apart / (outlets + 1), apart % (outlets + 1));
         let least = (outlets + 1) * share * share + more * (2 * share + 1);
-        let weight = (3841 / least + self.among(-2, 4)).clamp(1, 1000) as u16;
+        let weight = (3841 / least + self.between(-2, 4)).clamp(1, 1000) as u16;
         let streams = (0..=outlets)
             .map(|k| {
                 let reading = if k == 0 { 20 * outlets - apart } else { 20 };
@@ -125,35 +104,35 @@ impl Draw {
     fn plant_without_ranges(&mut self) -> Listed {
         let (units, most) = match self.below(100) {
             0 => (32, 96),
-            1..=4 => (self.among(8, 32), 96),
-            5..=24 => (self.among(3, 16), 40),
-            25..=59 => (self.among(2, 8), 16),
-            _ => (self.among(1, 4), 7),
+            1..=4 => (self.between(8, 32), 96),
+            5..=24 => (self.between(3, 16), 40),
+            25..=59 => (self.between(2, 8), 16),
+            _ => (self.between(1, 4), 7),
         };
-        let count = if self.below(20) == 0 { most } else { self.among(0, most) };
+        let count = if self.below(20) == 0 { most } else { self.between(0, most) };
         let unmetered = [0, 10, 30, 50, 80][self.below(5)];
         let spread = [1, 3, 20, 1000, 4_000_000][self.below(5)];
         let middle = if spread == 4_000_000 { 0 } else { [0, 100, -50, 900_000][self.below(4)] };
         let weights = [(10, 10), (1, 1), (1, 3), (1, 1000), (1000, 1000), (9, 11)][self.below(6)];
         // Readings that lie near a balanced flow, or anywhere in the spread.
-        let level: Option<Vec<i64>> = (self.below(3) == 0).then(|| (0..=units).map(|_| self.among(-200, 200)).collect());
+        let level: Option<Vec<i64>> = (self.below(3) == 0).then(|| (0..=units).map(|_| self.between(-200, 200)).collect());
         let edge = self.below(12) == 0;
         let near = self.below(4) == 0;
         let streams = (0..count)
             .map(|k| {
-                let from = self.among(0, units);
-                let mut to = if near { (from + self.among(1, 2)) % (units + 1) } else { self.among(0, units) };
+                let from = self.between(0, units);
+                let mut to = if near { (from + self.between(1, 2)) % (units + 1) } else { self.between(0, units) };
                 if to == from {
                     to = (from + 1) % (units + 1);
                 }
                 let meter = (self.below(100) >= unmetered).then(|| {
                     let reading = match &level {
-                        Some(level) => level[from as usize] - level[to as usize] + self.among(-2, 2) + k % 2,
-                        None => middle + self.among(-spread, spread),
+                        Some(level) => level[from as usize] - level[to as usize] + self.between(-2, 2) + k % 2,
+                        None => middle + self.between(-spread, spread),
                     };
                     let reading =
                         if edge { [-4_000_000, 4_000_000, 0][self.below(3)] } else { reading.clamp(-4_000_000, 4_000_000) };
-                    (self.among(weights.0, weights.1) as u16, reading as i32)
+                    (self.between(weights.0, weights.1) as u16, reading as i32)
                 });
                 Stream { from: from as usize, to: to as usize, meter, range: None }
             })
@@ -365,7 +344,7 @@ impl Draw {
                 let flow = match self.below(4) {
                     0 => [0, -1, i64::MIN, i64::MAX][self.below(4)],
                     1 => self.bits() as i64,
-                    _ => self.among(-300, 300),
+                    _ => self.between(-300, 300),
                 };
                 if self.below(100) < blanks {
                     (0x14, 0)

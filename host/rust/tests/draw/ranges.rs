@@ -54,10 +54,10 @@ pub fn put(draw: &mut Draw, plant: &mut Listed) {
 fn range(draw: &mut Draw, manner: Manner, size: i64, flow: i64, s: &Stream) -> (i64, i64) {
     let reading = s.meter.map_or(0, |m| i64::from(m.1));
     let (a, b) = match manner {
-        Manner::Any => (draw.among(-size, size), draw.among(-size, size)),
-        Manner::Tight => (flow - draw.among(0, 3), flow + draw.among(0, 3)),
-        Manner::Wide => (flow - draw.among(0, size / 2), flow + draw.among(0, size / 2)),
-        Manner::Near => (reading - draw.among(-1, size / 4 + 1), reading + draw.among(-1, size / 4 + 1)),
+        Manner::Any => (draw.between(-size, size), draw.between(-size, size)),
+        Manner::Tight => (flow - draw.between(0, 3), flow + draw.between(0, 3)),
+        Manner::Wide => (flow - draw.between(0, size / 2), flow + draw.between(0, size / 2)),
+        Manner::Near => (reading - draw.between(-1, size / 4 + 1), reading + draw.between(-1, size / 4 + 1)),
         Manner::Point => (flow, flow),
         Manner::Edge => ([-size, 0, size][draw.below(3)], [-size, size][draw.below(2)]),
         Manner::Mixed => {
@@ -97,7 +97,7 @@ fn balanced(draw: &mut Draw, plant: &Listed, size: i64) -> Vec<i64> {
         if above[s.from] == Some(k) || above[s.to] == Some(k) {
             continue;
         }
-        let amount = draw.among(-size / 8 - 1, size / 8 + 1);
+        let amount = draw.between(-size / 8 - 1, size / 8 + 1);
         flow[k] += amount;
         // What arrives at `to` goes back to `from`: up from the one end and down to the other.
         let (mut to, mut from) = (s.to, s.from);

@@ -5,7 +5,7 @@
 
 use crate::draw::Draw;
 use crate::reference::{file_of, read, reopen, sheet_bytes, sheet_of, Kept, Listed, Stream};
-use crate::{number, shrink, GUARD};
+use crate::{agree::Subject, shrink, GUARD};
 use wengeludo_balance::raw;
 
 const LIMIT: i64 = 1_000_000_000_000_000_000;
@@ -224,7 +224,7 @@ fn drawn(draw: &mut Draw) -> Check {
     // What is free.
     (kept.kind, kept.office) = if draw.below(3) == 0 { (0x1F, 0) } else { (0x1E, draw.below(8) as u8) };
     kept.number = 1 + draw.below(1 << 20) as u32;
-    let by = if draw.below(4) == 0 { draw.among(-LIMIT / 2, LIMIT / 2) } else { 0 };
+    let by = if draw.below(4) == 0 { draw.between(-LIMIT / 2, LIMIT / 2) } else { 0 };
     numbers.iter_mut().for_each(|x| *x += by);
     for _ in 0..[0, 1, 1, 2][draw.below(4)] {
         damage(draw, &mut kept, &mut numbers);
@@ -267,59 +267,40 @@ fn simpler(call: &Check) -> Vec<Check> {
 
 #[test]
 fn checks_and_reference_agree() {
-    let inputs = number("WENGELUDO_INPUTS", 100_000);
-    let seed = number("WENGELUDO_SEED", 1);
-    let mut counts = [0; 27];
-    for k in 0..inputs {
-        let call = drawn(&mut Draw::new(seed + k));
-        match difference(&call) {
-            Ok(returned) => counts[usize::from(returned)] += 1,
-            Err(text) => {
-                let small = shrink::smallest(call, &simpler, &|c| difference(c).is_err());
-                let again = difference(&small).unwrap_err();
-                panic!("seed {}: the check: {text}\nsmallest input found: {again}\n{small:02X?}", seed + k);
-            }
-        }
+    let tally = Subject {
+        name: "the check",
+        drawn,
+        difference,
+        simpler,
+        shown: |call| format!("{call:02X?}"),
+        note: |counts, returned| counts.one(*returned),
+        places: 27,
+        one_for: 1,
     }
-    println!("{inputs} checks from seed {seed}, no difference");
-    println!("passed: {}; refusals 1 to 26: {:?}", counts[0], &counts[1..]);
-    if inputs >= 100_000 {
-        let met = [0, 3, 4, 5, 6, 7, 8, 9, 10, 11, 12, 13, 14, 15, 18, 26];
-        assert!(
-            (0..27).all(|i| (counts[i] > 0) == met.contains(&i)),
-            "an outcome that never came up, or one that the check does not have"
-        );
-    }
+    .agree();
+    println!("passed: {}; refusals {}", tally.count(0), tally.refusals(1, 26));
+    tally.all_met(&[0, 3, 4, 5, 6, 7, 8, 9, 10, 11, 12, 13, 14, 15, 18, 26], 0, 26);
 }
 
 #[test]
 fn numbers_pass() {
-    let inputs = number("WENGELUDO_INPUTS", 100_000);
-    let seed = number("WENGELUDO_SEED", 1);
-    let mut counts = [0; 27];
-    for k in 0..inputs {
-        let mut draw = Draw::new(seed + k);
-        let call = draw.call();
-        let room = [PLACES, PLACES, PLACES + 5, draw.below(PLACES)][draw.below(4)];
-        match numbers_difference(&call.file, room) {
-            Ok(returned) => counts[usize::from(returned)] += 1,
-            Err(text) => {
-                let differs = |c: &crate::draw::Call| numbers_difference(&c.file, room).is_err();
-                let small = shrink::smallest(call, &shrink::simpler_calls, &differs);
-                let again = numbers_difference(&small.file, room).unwrap_err();
-                panic!("seed {}: numbers: {text}\nsmallest input found: {again}\n{small}", seed + k);
-            }
-        }
+    let tally = Subject {
+        name: "numbers of the places",
+        drawn: |draw| {
+            let call = draw.call();
+            let room = [PLACES, PLACES, PLACES + 5, draw.below(PLACES)][draw.below(4)];
+            (call, room)
+        },
+        difference: |(call, room)| numbers_difference(&call.file, *room),
+        simpler: |(call, room)| shrink::simpler_calls(call).into_iter().map(|simpler| (simpler, *room)).collect(),
+        shown: |(call, room)| format!("slice of {room} numbers; {call}"),
+        note: |counts, returned| counts.one(*returned),
+        places: 27,
+        one_for: 1,
     }
-    println!("{inputs} calls over numbers of the places from seed {seed}, no difference");
-    println!("numbers: {}; refusals 1 to 26: {:?}", counts[0], &counts[1..]);
-    if inputs >= 100_000 {
-        let met = [0, 1, 3, 4, 5, 6, 7, 8, 9, 10, 11, 12, 18, 19];
-        assert!(
-            (0..27).all(|i| (counts[i] > 0) == met.contains(&i)),
-            "an outcome that never came up, or one that the call does not have"
-        );
-    }
+    .agree();
+    println!("numbers: {}; refusals {}", tally.count(0), tally.refusals(1, 26));
+    tally.all_met(&[0, 1, 3, 4, 5, 6, 7, 8, 9, 10, 11, 12, 18, 19], 0, 26);
 }
 
 /// The same numbers pass 101 and 102, whose cost is the same; and a flow at high excuses the top.

@@ -5,7 +5,7 @@
 
 use crate::draw::{Call, Draw};
 use crate::reference::{read, Outcome};
-use crate::{compare, engine, guarded, number, shrink};
+use crate::{agree::Subject, compare, engine, guarded, shrink};
 use wengeludo_balance::raw;
 
 /// -2,000,000,000 to 2,000,000,000.
@@ -110,31 +110,32 @@ fn drawn(draw: &mut Draw) -> Call {
     call
 }
 
+/// Outcomes of the way home are counted behind those of the way there.
+const HOME: usize = 21;
+
 #[test]
 fn moves_and_reference_agree() {
-    let inputs = number("WENGELUDO_INPUTS", 100_000);
-    let seed = number("WENGELUDO_SEED", 1);
-    let mut counts = [[0; 21]; 2];
-    for k in 0..inputs {
-        let call = drawn(&mut Draw::new(seed + k));
-        match difference(&call) {
-            Ok(returned) => (0..2).for_each(|i| counts[i][usize::from(returned[i])] += 1),
-            Err(found) => {
-                let small = shrink::smallest(call, &shrink::simpler_calls, &|c| difference(c).is_err());
-                let again = difference(&small).unwrap_err();
-                panic!("seed {}: the moves: {found}\nsmallest input found: {again}\n{small}", seed + k);
-            }
-        }
+    let tally = Subject {
+        name: "the moves",
+        drawn,
+        difference,
+        simpler: shrink::simpler_calls,
+        shown: |call| call.to_string(),
+        note: |counts, returned| {
+            counts.one(returned[0]);
+            counts.one(HOME + usize::from(returned[1]));
+        },
+        places: 2 * HOME,
+        one_for: 1,
     }
-    println!("{inputs} plant files moved both ways from seed {seed}, no difference");
-    for (name, counts) in ["there", "home"].iter().zip(counts) {
-        println!("{name}: {} files; refusals 1 to 20: {:?}", counts[0], &counts[1..]);
+    .agree();
+    for (name, at) in [("there", 0), ("home", HOME)] {
+        println!("{name}: {} files; refusals {}", tally.count(at), tally.listed((1..HOME).map(|i| (i, at + i))));
     }
-    if inputs >= 100_000 {
-        let refusals = (0..=12).filter(|&i| i != 2).chain([18]);
-        assert!(refusals.clone().all(|i| counts[0][i] > 0 && counts[1][i] > 0), "some outcome never came up");
-        assert!(counts[1][20] > 0 && counts[0][20] == 0, "20 never came up, or there");
-    }
+    let refusals: Vec<usize> = (0..=12).filter(|&i| i != 2).chain([18]).collect();
+    tally.all_met(&refusals, 0, HOME - 1);
+    let home: Vec<usize> = refusals.iter().chain([&20]).map(|i| HOME + i).collect();
+    tally.all_met(&home, HOME, 2 * HOME - 1);
 }
 
 /// The proved examples of mixed plants: another sheet, and none.

@@ -7,7 +7,7 @@
 
 use crate::draw::{Call, Draw};
 use crate::reference::{sheet_bytes, Kept};
-use crate::{engine, number, sheet_difference, shrink};
+use crate::{agree::Subject, engine, sheet_difference, shrink};
 use wengeludo_balance::{Offices, Sheet, OFFICES};
 
 /// The last numbers at the beginning, how many plain sheets office 0's goes on with, and the calls; what last numbers they have makes
@@ -21,7 +21,7 @@ struct Sequence {
 
 /// What came of the calls: how many sheets each office drew, how many calls were refused.
 #[derive(Default)]
-struct Counts {
+struct Drawn {
     sheets: [u64; OFFICES],
     refused: u64,
 }
@@ -49,12 +49,12 @@ fn numbers(office: usize, sheets: &[Vec<u8>]) -> Result<Vec<u64>, String> {
     Ok(of_office.map(|sheet| sheet.number.into()).collect())
 }
 
-fn difference(s: &Sequence) -> Result<Counts, String> {
+fn difference(s: &Sequence) -> Result<Drawn, String> {
     let mut sheets: Vec<Vec<u8>> = (1..=s.plain).map(|k| plain_sheet(s.start[0] + k)).collect();
     let mut lasts = s.start;
     lasts[0] += s.plain;
     let mut offices = if s.start[1..] == [0; 7] { Offices::from_last(lasts[0]) } else { Offices::from_lasts(lasts) };
-    let mut counts = Counts::default();
+    let mut counts = Drawn::default();
     for call in &s.calls {
         let call = Call { lasts: offices.lasts().to_vec(), ..call.clone() };
         sheet_difference(&engine, &call)?;
@@ -127,25 +127,21 @@ fn simpler(s: &Sequence) -> Vec<Sequence> {
 
 #[test]
 fn offices_in_sequence() {
-    let (inputs, seed) = (number("WENGELUDO_INPUTS", 100_000) / 20, number("WENGELUDO_SEED", 1));
-    let mut counts = Counts::default();
-    for k in 0..inputs {
-        let s = sequence(&mut Draw::new(seed + k));
-        match difference(&s) {
-            Ok(found) => {
-                (0..OFFICES).for_each(|office| counts.sheets[office] += found.sheets[office]);
-                counts.refused += found.refused;
-            }
-            Err(difference) => {
-                let small = shrink::smallest(s, &simpler, &|s| self::difference(s).is_err());
-                let again = self::difference(&small).err().unwrap();
-                panic!("seed {}: {difference}\nsmallest sequence found: {again}\n{small:?}", seed + k);
-            }
-        }
+    let tally = Subject {
+        name: "offices in sequence",
+        drawn: sequence,
+        difference,
+        simpler,
+        shown: |s| format!("{s:?}"),
+        note: |counts, drawn| {
+            (0..OFFICES).for_each(|office| counts.add(office, drawn.sheets[office]));
+            counts.add(OFFICES, drawn.refused);
+        },
+        places: OFFICES + 1,
+        one_for: 20,
     }
-    println!(
-        "{inputs} sequences from seed {seed}, no difference; sheets by office: {:?}, refused: {}",
-        counts.sheets, counts.refused
-    );
-    assert!(inputs < 1_000 || counts.sheets.iter().chain([&counts.refused]).all(|n| *n > 0), "some office never drew a sheet");
+    .agree();
+    let sheets: Vec<u64> = (0..OFFICES).map(|office| tally.count(office)).collect();
+    println!("sheets by office: {sheets:?}, refused: {}", tally.count(OFFICES));
+    tally.all_met(&(0..=OFFICES).collect::<Vec<usize>>(), 0, OFFICES);
 }

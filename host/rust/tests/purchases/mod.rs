@@ -1,8 +1,8 @@
 //! Meters to buy against a reference: all sets on plants with few unmetered streams, a sorted forest on the others.
 
+use crate::agree::Subject;
 use crate::draw::Draw;
 use crate::reference::{file_of, read, Listed, Stream};
-use crate::{number, shrink};
 use wengeludo_balance::raw;
 
 const GUARD: usize = 64;
@@ -191,27 +191,19 @@ fn simpler(call: &Purchase) -> Vec<Purchase> {
 
 #[test]
 fn purchases_and_reference_agree() {
-    let inputs = number("WENGELUDO_INPUTS", 100_000);
-    let seed = number("WENGELUDO_SEED", 1);
-    let mut counts = [0; 22];
-    for k in 0..inputs {
-        let call = drawn(&mut Draw::new(seed + k));
-        match difference(&call) {
-            Ok(returned) => counts[usize::from(returned)] += 1,
-            Err(text) => {
-                let small = shrink::smallest(call, &simpler, &|c| difference(c).is_err());
-                let again = difference(&small).unwrap_err();
-                panic!("seed {}: meters to buy: {text}\nsmallest input found: {again}\n{small:02X?}", seed + k);
-            }
-        }
+    let tally = Subject {
+        name: "meters to buy",
+        drawn,
+        difference,
+        simpler,
+        shown: |call| format!("{call:02X?}"),
+        note: |counts, returned| counts.one(*returned),
+        places: 22,
+        one_for: 1,
     }
-    println!("{inputs} calls over meters to buy from seed {seed}, no difference");
-    println!("sets: {}; refusals 1 to 21: {:?}", counts[0], &counts[1..]);
-    if inputs >= 100_000 {
-        let met = [0, 1, 3, 4, 5, 6, 7, 8, 9, 10, 11, 12, 18, 21];
-        assert!(met.into_iter().all(|i| counts[i] > 0), "some outcome never came up");
-        assert!((0..22).all(|i| counts[i] == 0 || met.contains(&i)), "an outcome that the call does not have");
-    }
+    .agree();
+    println!("sets: {}; refusals {}", tally.count(0), tally.refusals(1, 21));
+    tally.all_met(&[0, 1, 3, 4, 5, 6, 7, 8, 9, 10, 11, 12, 18, 21], 0, 21);
 }
 
 /// The sort against all sets, by themselves.

@@ -50,8 +50,16 @@ fn fault(units: u8, s: &Stream) -> Result<(), Fault> {
     Ok(())
 }
 
-/// The plant that a file lists.
-pub fn read(file: &[u8]) -> Result<Listed, Fault> {
+/// Hands out the bytes of a file one by one, and refusal 3 past its end.
+pub type Next<'a> = dyn FnMut() -> Result<u8, Fault> + 'a;
+
+/// What plant files and transmitter files share: a site, records of these kinds, an end. The rest of a record is read by `record`,
+/// which is handed its kind and the units.
+pub fn read_records(
+    file: &[u8],
+    kinds: &[u8],
+    record: impl Fn(u8, u8, &mut Next) -> Result<Stream, Fault>,
+) -> Result<Listed, Fault> {
     let mut rest = file.iter().copied();
     let mut next = || rest.next().ok_or(3);
     if next()? != 1 {
@@ -71,12 +79,19 @@ pub fn read(file: &[u8]) -> Result<Listed, Fault> {
             }
             return if next().is_ok() { Err(12) } else { Ok(Listed { units, streams }) };
         }
-        if ![2, 3, 6].contains(&kind) {
+        if !kinds.contains(&kind) {
             return Err(4);
         }
         if streams.len() == 96 {
             return Err(5);
         }
+        streams.push(record(kind, units, &mut next)?);
+    }
+}
+
+/// The plant that a file lists.
+pub fn read(file: &[u8]) -> Result<Listed, Fault> {
+    read_records(file, &[2, 3, 6], |kind, units, next| {
         let (from, to) = (usize::from(next()?), usize::from(next()?));
         let mut s = Stream { from, to, ..Stream::default() };
         if kind != 3 {
@@ -88,8 +103,8 @@ pub fn read(file: &[u8]) -> Result<Listed, Fault> {
             s.range = Some((low, i32::from_be_bytes([next()?, next()?, next()?, next()?])));
         }
         fault(units, &s)?;
-        streams.push(s);
-    }
+        Ok(s)
+    })
 }
 
 /// The bytes of a plant's file, whatever its values.

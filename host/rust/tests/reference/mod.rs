@@ -22,7 +22,7 @@ mod file;
 mod kept;
 mod visits;
 
-pub use file::{file_of, read, write, Listed, Stream};
+pub use file::{file_of, read, read_records, write, Listed, Stream};
 pub use kept::{reopen, sheet_bytes, Kept};
 pub use visits::visits;
 

@@ -3,10 +3,10 @@
 //!
 //! A list takes the reference as many solves as there are A streams, so there is one input for ten of the sheet call.
 
+use crate::agree::{Counts, Subject};
 use crate::draw::{Call, Draw};
 use crate::reference::{self, file_of, read, Listed};
-use crate::{number, shrink};
-use std::sync::atomic::{AtomicU64, Ordering};
+use crate::shrink;
 use wengeludo_balance::{raw, Visit};
 
 const GUARD: usize = 64;
@@ -93,7 +93,7 @@ fn far_off(draw: &mut Draw, plant: &mut Listed) {
             }
         }
         1 => s.range = Some((s.meter.map_or(0, |m| m.1), 2_000_000_000)),
-        _ => s.meter = s.meter.map(|(w, r)| (w, (r + draw.among(-50_000, 50_000) as i32).clamp(-4_000_000, 4_000_000))),
+        _ => s.meter = s.meter.map(|(w, r)| (w, (r + draw.between(-50_000, 50_000) as i32).clamp(-4_000_000, 4_000_000))),
     }
 }
 
@@ -133,52 +133,31 @@ const ENTRIES: usize = 20;
 const EQUALS: usize = 21;
 const CAPPED: usize = 22;
 
-fn note(counts: &[AtomicU64], answer: &Answer) {
-    let add = |at: usize, many: usize| counts[at].fetch_add(many as u64, Ordering::Relaxed);
+fn note(counts: &Counts, answer: &Answer) {
     let costs = &answer.costs[..answer.count];
-    add(answer.returned.into(), 1);
-    add(ENTRIES, costs.len());
-    add(EQUALS, costs.windows(2).filter(|pair| pair[0] == pair[1]).count());
-    add(CAPPED, costs.iter().filter(|cost| **cost == u64::MAX).count());
+    counts.one(answer.returned);
+    counts.add(ENTRIES, costs.len() as u64);
+    counts.add(EQUALS, costs.windows(2).filter(|pair| pair[0] == pair[1]).count() as u64);
+    counts.add(CAPPED, costs.iter().filter(|cost| **cost == u64::MAX).count() as u64);
 }
 
 #[test]
 fn visits_and_reference_agree() {
-    let inputs = number("WENGELUDO_INPUTS", 100_000) / 10;
-    let seed = number("WENGELUDO_SEED", 1);
-    let threads = number("WENGELUDO_THREADS", std::thread::available_parallelism().map_or(1, |n| n.get() as u64)).max(1);
-    let next = AtomicU64::new(0);
-    let counts: Vec<AtomicU64> = (0..=CAPPED).map(|_| AtomicU64::new(0)).collect();
-    std::thread::scope(|scope| {
-        for _ in 0..threads {
-            scope.spawn(|| loop {
-                let k = next.fetch_add(1, Ordering::Relaxed);
-                if k >= inputs {
-                    return;
-                }
-                let call = drawn(&mut Draw::new(seed + k));
-                match difference(&call) {
-                    Ok(answer) => note(&counts, &answer),
-                    Err(text) => {
-                        let small = shrink::smallest(call, &simpler, &|c| difference(c).is_err());
-                        let again = difference(&small).unwrap_err();
-                        let file = Call { file: small.file, office: 0, lasts: Vec::new(), slice: Vec::new() };
-                        panic!("seed {}: meters worth a visit: {text}\nsmallest input found: {again}\n{file}", seed + k);
-                    }
-                }
-            });
-        }
-    });
-    let count = |i: usize| counts[i].load(Ordering::Relaxed);
-    let refusals: Vec<u64> = (1..20).map(count).collect();
-    println!("{inputs} calls over meters worth a visit from seed {seed}, no difference");
-    println!("lists: {}; refusals 1 to 19: {refusals:?}", count(0));
-    println!("entries: {}, as dear as the one before: {}, at the cap: {}", count(ENTRIES), count(EQUALS), count(CAPPED));
-    if inputs >= 10_000 {
-        let met = [0, 1, 3, 4, 5, 6, 7, 8, 9, 10, 11, 12, 18, 19, ENTRIES, EQUALS, CAPPED];
-        assert!(met.into_iter().all(|i| count(i) > 0), "some outcome never came up");
-        assert!((0..20).all(|i| count(i) == 0 || met.contains(&i)), "an outcome that the call does not have");
+    let tally = Subject {
+        name: "meters worth a visit",
+        drawn,
+        difference,
+        simpler,
+        shown: |call| Call { file: call.file.clone(), office: 0, lasts: Vec::new(), slice: Vec::new() }.to_string(),
+        note,
+        places: CAPPED + 1,
+        one_for: 10,
     }
+    .agree();
+    let count = |i| tally.count(i);
+    println!("lists: {}; refusals {}", count(0), tally.refusals(1, 19));
+    println!("entries: {}, as dear as the one before: {}, at the cap: {}", count(ENTRIES), count(EQUALS), count(CAPPED));
+    tally.all_met(&[0, 1, 3, 4, 5, 6, 7, 8, 9, 10, 11, 12, 18, 19, ENTRIES, EQUALS, CAPPED], 0, 19);
 }
 
 /// The sample: the meter that is off stands first, and without it the sheet passes at the cost that the list has.
