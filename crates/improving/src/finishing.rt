@@ -7,7 +7,6 @@ use model::sizes::FLOW_SHIFT;
 use model::sizes::MOST_STEP;
 use model::sizes::MOST_TRIED;
 use model::sizes::PRICE_SHIFT;
-use plants::Stream;
 use plants::limits::MAX_STREAMS;
 use plants::limits::PLACES;
 use settling::over_sum;
@@ -19,12 +18,11 @@ ghost use mathlib.Core.Path.{_≡_};
 ghost use mathlib.Core.Bool.{false};
 ghost use lib.ListN.{length, take};
 ghost use Rattle.model.specs.Sizes.{halvings};
-ghost use Rattle.model.specs.SearchNeeds.{Network};
 ghost use Rattle.model.specs.Model as M;
 ghost use Rattle.model.specs.Model.{noHint, asHint, finished};
-ghost use Rattle.model.specs.SolverNeeds.{AtHint};
 ghost use Rattle.solve_arcs.specs.Cells.{marginCells};
-ghost use Rattle.solve_arcs.specs.ArcNeeds.{Laid, Margined};
+ghost use Rattle.solve_arcs.specs.ArcNeeds.{Laying, Margined};
+ghost use Rattle.improving.specs.Finishes.{Finishable};
 
 // No hint: amounts and prices 0.
 fn no_hint() -> Hint
@@ -49,20 +47,14 @@ fn hint_of(st: State) -> Hint
 }
 
 // From no hint: at each step from MOST_STEP down to 1 amounts are settled anew, and a phase is gone through.
-fn phases(
-    streams: [Stream; MAX_STREAMS],
-    count: usize,
-    arcs: &[u8; ARCS],
-    rows: &[u64; ROWS],
-    margins: &mut [u64; MARGINS],
-) -> Ended
-    requires { ⌜ Network streams count × Laid streams count (now arcs) (now rows) × (length (now margins) ≡ marginCells) ⌝ }
-    ensures { λ r. ⌜ (r ≡ M.phases halvings (take count streams) noHint) × (r .full ≡ false → Margined count (now (rows .entry)) (r .state .flows) 1 0 (now (margins .exit))) ⌝ }
+fn phases(arcs: &[u8; ARCS], rows: &[u64; ROWS], margins: &mut [u64; MARGINS]) -> Ended
+    requires { ⌜ Laying (now arcs) (now rows) × (length (now margins) ≡ marginCells) ⌝ }
+    ensures { λ r. ⌜ ((w : Laying (now (arcs .entry)) (now (rows .entry))) → (r ≡ M.phases halvings (take (w .n) (w .streams)) noHint) × (r .full ≡ false → Margined (w .n) (now (rows .entry)) (r .state .flows) 1 0 (now (margins .exit)))) ⌝ }
 {
     let mut h = no_hint();
     let mut step = MOST_STEP;
     while 1 < step {
-        let st = settle(streams, count, h);
+        let st = settle(arcs, rows, h);
         let e = phase(arcs, rows, margins, st, step);
         if e.full {
             return e;
@@ -70,25 +62,23 @@ fn phases(
         h = hint_of(e.state);
         step = step / 2;
     }
-    let st = settle(streams, count, h);
+    let st = settle(arcs, rows, h);
     phase(arcs, rows, margins, st, 1)
 }
 
 // One phase at step 1; where too much is over, all phases from no hint. Where no set is full, the margins are those of the amounts.
 pub fn finish(
-    streams: [Stream; MAX_STREAMS],
-    count: usize,
     arcs: &[u8; ARCS],
     rows: &[u64; ROWS],
     margins: &mut [u64; MARGINS],
     st: State,
 ) -> Ended
-    requires { ⌜ Network streams count × AtHint (take count streams) st × Laid streams count (now arcs) (now rows) × (length (now margins) ≡ marginCells) ⌝ }
-    ensures { λ r. ⌜ (r ≡ finished (take count streams) st) × (r .full ≡ false → Margined count (now (rows .entry)) (r .state .flows) 1 0 (now (margins .exit))) ⌝ }
+    requires { ⌜ Finishable (now arcs) (now rows) st × (length (now margins) ≡ marginCells) ⌝ }
+    ensures { λ r. ⌜ ((w : Finishable (now (arcs .entry)) (now (rows .entry)) st) → (r ≡ finished (take (w .laying .n) (w .laying .streams)) st) × (r .full ≡ false → Margined (w .laying .n) (now (rows .entry)) (r .state .flows) 1 0 (now (margins .exit)))) ⌝ }
 {
     let nets = st.nets;
     if over_sum(&nets) <= MOST_TRIED {
         return phase(arcs, rows, margins, st, 1);
     }
-    phases(streams, count, arcs, rows, margins)
+    phases(arcs, rows, margins)
 }

@@ -7,27 +7,21 @@ use model::State;
 use plants::Plant;
 use solve_arcs::ARCS;
 use solve_arcs::MARGINS;
-use solve_arcs::NONE;
 use solve_arcs::ROWS;
-use solve_arcs_fill::lay;
 use solve_ties::tie_all;
 ghost use Rattle.plants.specs.Within.{Accepted};
 ghost use Rattle.plants.specs.Says.{plantOf};
 ghost use Rattle.model.specs.SolverNeeds.{AtHint};
 ghost use Rattle.model.specs.Promise.{Right};
+ghost use Rattle.solve_arcs.specs.ArcNeeds.{Laid};
 
 // The cheapest balanced flow of a plant, from amounts settled at a hint; or a set of places that must take in more than it can let out.
-pub fn solve_at(p: Plant, start: State) -> Solved
-    requires { ⌜ Accepted p × AtHint (plantOf p .streams) start ⌝ }
+pub fn solve_at(p: Plant, arcs: &[u8; ARCS], rows: &[u64; ROWS], start: State) -> Solved
+    requires { ⌜ Accepted p × Laid (p .streams) (p .count) (now arcs) (now rows) × AtHint (plantOf p .streams) start ⌝ }
     ensures { λ r. ⌜ Right p r ⌝ }
 {
-    let streams = p.streams;
-    let count = p.count as usize;
-    let mut arcs = [NONE as u8; ARCS];
-    let mut rows = [0u64; ROWS];
     let mut margins = [0u64; MARGINS];
-    lay(streams, count, &mut arcs, &mut rows);
-    let e = finish(streams, count, &arcs, &rows, &mut margins, start);
+    let e = finish(arcs, rows, &mut margins, start);
     let marked = e.marked;
     let own = masked(marked, p.units);
     let st = e.state;
@@ -41,7 +35,7 @@ pub fn solve_at(p: Plant, start: State) -> Solved
             marked: own,
         };
     }
-    tie_all(&arcs, &rows, &mut margins, &mut flows, &prices);
+    tie_all(arcs, rows, &mut margins, &mut flows, &prices);
     Solved {
         found: true,
         flows: flows,

@@ -10,7 +10,6 @@ use lib.Dec.{ltb}
 use lib.ListN.{length, getD, take}
 use Rattle.numbers.proofs.Tests.{and-both}
 use Rattle.plants.specs.declared.Stream.{Stream}
-use Rattle.plants.specs.Limits.{places}
 use Rattle.plants.specs.Plants.{noStream}
 use Rattle.flows.specs.Flows.{streamAt}
 use Rattle.model.specs.Sizes.{flowShift, mostFlow}
@@ -20,7 +19,7 @@ use Rattle.model.proofs.Bounds.{high-most, low-high}
 use Rattle.model.proofs.Streams.{stream-is, in-use}
 use Rattle.solve_arcs.specs.Cells.{toCell, countOf}
 use Rattle.solve_arcs.specs.ArcNeeds.{Laying}
-use Rattle.solve_arcs.proofs.Along.{starts-at, ends-at}
+use Rattle.solve_arcs.proofs.Rowing.{below, from-is, to-is}
 
 pub bounded-none : (ss : List Stream) (ms : List Bool) → boundedTo ss ms 0 ≡ true
 unfolding boundedTo
@@ -54,9 +53,6 @@ module _ (ls rs : List ℕ) (w : Laying ls rs) (ms : List Bool) (i : ℕ) (l : i
   abbrev ss : List Stream
   ss = take (w .n) (w .streams)
 
-  below : i < w .n
-  below = rw (w .laid .along .counted) at l
-
   -- The places that its arcs lead to, and its range.
   abbrev from : ℕ
   from = getD ls (toCell + 2 * i) 0
@@ -76,28 +72,17 @@ module _ (ls rs : List ℕ) (w : Laying ls rs) (ms : List Bool) (i : ℕ) (l : i
   abbrev push : ℕ
   push = pressed (getD ms from false) (getD ms to false) low high
 
-  from-is : from ≡ getD (w .streams) i noStream .from
-  from-is = sym (starts-at ls i l) ∙ w .laid .along .starts i below
-
-  to-is : to ≡ getD (w .streams) i noStream .to
-  to-is = sym (ends-at ls i l) ∙ w .laid .along .ends i below
-
-  pub arc-ends : (from < places) × (to < places)
-  arc-ends =
-      let e = w .network .within .each i below in
-      (rw from-is (omega (arith, e .from-in)), rw to-is (omega (arith, e .to-in)))
-
   pub row-range : (low ≤ mostFlow) × (high ≤ mostFlow)
   row-range =
       let s = getD (w .streams) i noStream in
-      let e = w .network .within .each i below in
-      (rw (w .laid .rowed .lows i below) (omega (arith, low-high s e, high-most s e)), rw (w .laid .rowed .highs i below) (high-most s e))
+      let e = w .network .within .each i (below ls rs w i l) in
+      (rw (w .laid .rowed .lows i (below ls rs w i l)) (omega (arith, low-high s e, high-most s e)), rw (w .laid .rowed .highs i (below ls rs w i l)) (high-most s e))
 
   may-is : may ≡ mayCross (getD ms (streamAt ss i .from) false) (getD ms (streamAt ss i .to) false) (lowOf (streamAt ss i))
-  may-is = rw (from-is, to-is, w .laid .rowed .lows i below, stream-is (w .streams) (w .n) i below)
+  may-is = rw (from-is ls rs w i l, to-is ls rs w i l, w .laid .rowed .lows i (below ls rs w i l), stream-is (w .streams) (w .n) i (below ls rs w i l))
 
   push-is : push ≡ pressed (getD ms (streamAt ss i .from) false) (getD ms (streamAt ss i .to) false) (lowOf (streamAt ss i)) (highOf (streamAt ss i))
-  push-is = rw (from-is, to-is, w .laid .rowed .lows i below, w .laid .rowed .highs i below, stream-is (w .streams) (w .n) i below)
+  push-is = rw (from-is ls rs w i l, to-is ls rs w i l, w .laid .rowed .lows i (below ls rs w i l), w .laid .rowed .highs i (below ls rs w i l), stream-is (w .streams) (w .n) i (below ls rs w i l))
 
   pub bounded-next : may ≡ true → boundedTo ss ms i ≡ true → boundedTo ss ms (i + 1) ≡ true
   unfolding boundedTo
@@ -108,7 +93,7 @@ module _ (ls rs : List ℕ) (w : Laying ls rs) (ms : List Bool) (i : ℕ) (l : i
   pressed-next = rw add-one (ap (λ (k : ℕ). k + pressedTo ss ms i) (sym push-is))
 
   pub full-stop : may ≡ false → false ≡ overfull ss ms
-  full-stop e = sym (rw (bounded-stop ss ms i (length ss) (rw (in-use (w .streams) (w .n) (w .network)) below) (sym may-is ∙ e)))
+  full-stop e = sym (rw (bounded-stop ss ms i (length ss) (rw (in-use (w .streams) (w .n) (w .network)) (below ls rs w i l)) (sym may-is ∙ e)))
 
 -- The test at the end.
 pub full-end : (ls rs : List ℕ) (w : Laying ls rs) (ms : List Bool) (n sum : ℕ) (r : Bool) → n ≡ countOf ls

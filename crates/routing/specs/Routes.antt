@@ -3,13 +3,16 @@ use mathlib.Core.Path.{_≡_}
 use mathlib.Core.Bool.{true, false}
 use mathlib.Core.List.{List}
 use Prim.Native.Nat.{ℕ, _≤_, _<_}
-use lib.ListN.{length, getD}
+use lib.ListN.{length, getD, take}
 use Rattle.plants.specs.declared.Stream.{Stream}
 use Rattle.plants.specs.Limits.{maxStreams}
 use Rattle.plants.specs.Plants.{noStream}
 use Rattle.flows.specs.Flows.{streamAt}
 use Rattle.model.specs.Sizes.{mostFlow, hintRoom}
 use Rattle.model.specs.SearchNeeds.{Close}
+use Rattle.solve_arcs.specs.ArcNeeds.{Laying}
+use Rattle.spanning.specs.declared.Forest.{Forest}
+use Rattle.spanning.specs.Forests.{Routable}
 
 -- Held amounts of the streams ss: those of unmetered streams are within the hint's room.
 pub record Routes (ss : List Stream) (xs : List ℕ) : Type 0 where
@@ -20,3 +23,10 @@ pub record Routes (ss : List Stream) (xs : List ℕ) : Type 0 where
 -- The metered ones of the first n streams carry in ys what they carry in xs.
 pub record Kept (streams : List Stream) (n : ℕ) (xs ys : List ℕ) : Type 0 where
   pub each : (k : ℕ) → k < n → getD streams k noStream .metered ≡ true → getD ys k 0 ≡ getD xs k 0
+
+-- Streams that arcs are of, a forest of them, and amounts to be routed along it.
+pub record Routing (ls : List ℕ) (f : Forest) (xs : List ℕ) : Type 0 where
+  pub rows : List ℕ
+  pub laying : Laying ls rows
+  pub forest : Routable (laying .streams) (laying .n) f
+  pub routes : Routes (take (laying .n) (laying .streams)) xs

@@ -2,21 +2,20 @@
 use model::sizes::FLOW_SHIFT;
 use model::sizes::HINT_ROOM;
 use model::sizes::NET_SHIFT;
-use plants::Stream;
 use plants::limits::MAX_STREAMS;
 use plants::limits::PLACES;
+use solve_arcs::ARCS;
+use solve_arcs::end_at;
 use spanning::Forest;
 use std::num::wrapping_add_u64;
 use std::num::wrapping_sub_u64;
 ghost use mathlib.Core.Path.{_≡_};
 ghost use Prim.Native.Nat.{_<_};
 ghost use lib.ListN.{length, take};
-ghost use Rattle.plants.specs.Limits.{maxUnits, places};
-ghost use Rattle.plants.specs.Within.{WithinStream};
-ghost use Rattle.model.specs.SearchNeeds.{Network, Close};
+ghost use Rattle.plants.specs.Limits.{places};
+ghost use Rattle.model.specs.SearchNeeds.{Close};
 ghost use Rattle.model.specs.Sizes.{hintRoom};
-ghost use Rattle.spanning.specs.Forests.{Routable};
-ghost use Rattle.routing.specs.Routes.{Routes, Kept};
+ghost use Rattle.routing.specs.Routes.{Routes, Kept, Routing};
 
 // The held amount nearest to x within the hint's room.
 fn close(x: u64) -> u64
@@ -42,13 +41,11 @@ fn hand_on(nets: &mut [u64; PLACES], u: usize, v: usize) -> u64
     z
 }
 
-// The amount of a stream by which the place that it was to reach hands its net on.
-fn routed(nets: &mut [u64; PLACES], s: Stream, into: bool) -> u64
-    requires { ⌜ (length (now nets) ≡ places) × WithinStream maxUnits s ⌝ }
+// The amount of a stream from place u to place v by which the place that it was to reach hands its net on.
+fn routed(nets: &mut [u64; PLACES], u: usize, v: usize, into: bool) -> u64
+    requires { ⌜ (length (now nets) ≡ places) × (u < places) × (v < places) ⌝ }
     ensures { λ r. ⌜ (length (now (nets .exit)) ≡ places) × Close hintRoom r ⌝ }
 {
-    let u = s.from as usize;
-    let v = s.to as usize;
     if into {
         let z = hand_on(nets, u, v);
         close(wrapping_sub_u64(FLOW_SHIFT, z))
@@ -59,21 +56,17 @@ fn routed(nets: &mut [u64; PLACES], s: Stream, into: bool) -> u64
 }
 
 // The place reached last first, so that only labels keep a net.
-pub fn route(
-    streams: [Stream; MAX_STREAMS],
-    count: usize,
-    f: Forest,
-    nets: &mut [u64; PLACES],
-    flows: &mut [u64; MAX_STREAMS],
-)
-    requires { ⌜ Network streams count × Routable streams count f × (length (now nets) ≡ places) × Routes (take count streams) (now flows) ⌝ }
-    ensures { λ _. ⌜ Routes (take count streams) (now (flows .exit)) × Kept streams count (now (flows .entry)) (now (flows .exit)) ⌝ }
+pub fn route(arcs: &[u8; ARCS], f: Forest, nets: &mut [u64; PLACES], flows: &mut [u64; MAX_STREAMS])
+    requires { ⌜ Routing (now arcs) f (now flows) × (length (now nets) ≡ places) ⌝ }
+    ensures { λ _. ⌜ ((w : Routing (now (arcs .entry)) f (now (flows .entry))) → Routes (take (w .laying .n) (w .laying .streams)) (now (flows .exit)) × Kept (w .laying .streams) (w .laying .n) (now (flows .entry)) (now (flows .exit))) ⌝ }
 {
     let mut k = f.len;
     while 0 < k {
         k -= 1;
         let i = f.via[k] as usize;
         let into = f.into[k];
-        flows[i] = routed(nets, streams[i], into);
+        let u = end_at(arcs, 2 * i);
+        let v = end_at(arcs, 2 * i + 1);
+        flows[i] = routed(nets, u, v, into);
     }
 }

@@ -4,80 +4,83 @@ use model::Hint;
 use model::State;
 use model::sizes::FLOW_SHIFT;
 use model::sizes::NET_SHIFT;
-use plants::Stream;
 use plants::limits::MAX_STREAMS;
 use plants::limits::PLACES;
+use solve_arcs::ARCS;
+use solve_arcs::ROWS;
+use solve_arcs::count_of;
+use solve_arcs::end_at;
 use solve_held::minus;
 ghost use mathlib.Core.Path.{_≡_};
 ghost use lib.ListN.{length, take};
-ghost use Prim.Native.Nat.{_≤_};
-ghost use Rattle.plants.specs.Limits.{maxUnits, maxStreams};
-ghost use Rattle.plants.specs.Within.{WithinStream};
+ghost use mathlib.Core.List.{List};
+ghost use Prim.Native.Nat.{ℕ, _≤_, _<_};
+ghost use Rattle.plants.specs.Limits.{places, maxStreams};
 ghost use Rattle.model.specs.Sizes.{mostFlow};
-ghost use Rattle.model.specs.SearchNeeds.{Network};
+ghost use Rattle.model.specs.SearchNeeds.{Prices};
 ghost use Rattle.model.specs.Sizes.{netRoom};
-ghost use Rattle.model.specs.Model.{settledTo, booked, netsTo, settled, overSum};
-ghost use Rattle.model.specs.SolverNeeds.{Amounts, Around, Settles, Ready};
+ghost use Rattle.model.specs.Model.{settledTo, left, come, netsTo, settled, overSum};
+ghost use Rattle.model.specs.SolverNeeds.{Amounts, Around};
+ghost use Rattle.solve_arcs.specs.ArcNeeds.{Laying};
+ghost use Rattle.settling.specs.Hints.{Hinting};
 
 // Each metered stream's amount is settled; the others stay as they are.
 pub fn settle_flows(
-    streams: [Stream; MAX_STREAMS],
-    count: usize,
+    arcs: &[u8; ARCS],
+    rows: &[u64; ROWS],
     prices: &[u64; PLACES],
     flows: &mut [u64; MAX_STREAMS],
 )
-    requires { ⌜ Settles streams count (now prices) × (length (now flows) ≡ maxStreams) ⌝ }
-    ensures { λ _. ⌜ now (flows .exit) ≡ settledTo (take count streams) (now (prices .entry)) (now (flows .entry)) count ⌝ }
+    requires { ⌜ Laying (now arcs) (now rows) × Prices (now prices) × (length (now flows) ≡ maxStreams) ⌝ }
+    ensures { λ _. ⌜ ((w : Laying (now (arcs .entry)) (now (rows .entry))) → now (flows .exit) ≡ settledTo (take (w .n) (w .streams)) (now (prices .entry)) (now (flows .entry)) (w .n)) ⌝ }
 {
+    let n = count_of(arcs);
     let mut i: usize = 0;
-    while i < count {
-        let s = streams[i];
-        if s.metered {
-            let u = s.from as usize;
-            let v = s.to as usize;
-            flows[i] = amount_at(s, prices[u], prices[v]);
+    while i < n {
+        if 0 < rows[4 * i] {
+            let u = end_at(arcs, 2 * i);
+            let v = end_at(arcs, 2 * i + 1);
+            flows[i] = amount_at(rows, i, prices[u], prices[v]);
         }
         i += 1;
     }
 }
 
 // A stream's amount leaves its start and comes to its end.
-fn book(nets: &mut [u64; PLACES], s: Stream, x: u64)
-    requires { ⌜ WithinStream maxUnits s × (x ≤ mostFlow) × Around (now nets) netRoom ⌝ }
-    ensures { λ _. ⌜ now (nets .exit) ≡ booked (now (nets .entry)) s x ⌝ }
+fn book(nets: &mut [u64; PLACES], u: usize, v: usize, x: u64)
+    requires { ⌜ (u < places) × (v < places) × (x ≤ mostFlow) × Around (now nets) netRoom ⌝ }
+    ensures { λ _. ⌜ now (nets .exit) ≡ come (left (now (nets .entry)) u x) v x ⌝ }
 {
-    let u = s.from as usize;
-    let v = s.to as usize;
     nets[u] = nets[u] + FLOW_SHIFT - x;
     nets[v] = nets[v] + x - FLOW_SHIFT;
 }
 
-pub fn nets_of(
-    streams: [Stream; MAX_STREAMS],
-    count: usize,
-    flows: [u64; MAX_STREAMS],
-) -> [u64; PLACES]
-    requires { ⌜ Network streams count × Amounts flows ⌝ }
-    ensures { λ r. ⌜ r ≡ netsTo (take count streams) flows count ⌝ }
+// The nets of all places.
+pub fn nets_of(arcs: &[u8; ARCS], flows: &[u64; MAX_STREAMS]) -> [u64; PLACES]
+    requires { ⌜ ((rs : List ℕ) × Laying (now arcs) rs) × Amounts (now flows) ⌝ }
+    ensures { λ r. ⌜ ((rs : List ℕ) (w : Laying (now (arcs .entry)) rs) → r ≡ netsTo (take (w .n) (w .streams)) (now (flows .entry)) (w .n)) ⌝ }
 {
+    let n = count_of(arcs);
     let mut nets = [NET_SHIFT; PLACES];
     let mut i: usize = 0;
-    while i < count {
-        book(&mut nets, streams[i], flows[i]);
+    while i < n {
+        let u = end_at(arcs, 2 * i);
+        let v = end_at(arcs, 2 * i + 1);
+        book(&mut nets, u, v, flows[i]);
         i += 1;
     }
     nets
 }
 
 // Amounts and nets at the prices of a hint.
-pub fn settle(streams: [Stream; MAX_STREAMS], count: usize, h: Hint) -> State
-    requires { ⌜ Network streams count × Ready (take count streams) h ⌝ }
-    ensures { λ r. ⌜ r ≡ settled (take count streams) h ⌝ }
+pub fn settle(arcs: &[u8; ARCS], rows: &[u64; ROWS], h: Hint) -> State
+    requires { ⌜ Hinting (now arcs) (now rows) h ⌝ }
+    ensures { λ r. ⌜ ((w : Laying (now (arcs .entry)) (now (rows .entry))) → r ≡ settled (take (w .n) (w .streams)) h) ⌝ }
 {
     let prices = h.prices;
     let mut flows = h.flows;
-    settle_flows(streams, count, &prices, &mut flows);
-    let nets = nets_of(streams, count, flows);
+    settle_flows(arcs, rows, &prices, &mut flows);
+    let nets = nets_of(arcs, &flows);
     State {
         flows: flows,
         prices: prices,

@@ -5,6 +5,10 @@ use outcomes::solve_at;
 use plants::Plant;
 use plants::limits::PLACES;
 use settling::settle;
+use solve_arcs::ARCS;
+use solve_arcs::NONE;
+use solve_arcs::ROWS;
+use solve_arcs_fill::lay;
 use starts::start;
 ghost use Rattle.plants.specs.Within.{Accepted};
 ghost use Rattle.plants.specs.Says.{plantOf};
@@ -18,7 +22,12 @@ pub fn solve_from(p: Plant, h: Hint) -> Solved
     ensures { λ r. ⌜ Right p r ⌝ }
 {
     let streams = p.streams;
-    solve_at(p, settle(streams, p.count as usize, h))
+    let count = p.count as usize;
+    let mut arcs = [NONE as u8; ARCS];
+    let mut rows = [0u64; ROWS];
+    lay(streams, count, &mut arcs, &mut rows);
+    let st = settle(&arcs, &rows, h);
+    solve_at(p, &arcs, &rows, st)
 }
 
 // The same of a plant whose labels by the unmetered streams are handed in.
@@ -26,5 +35,11 @@ pub fn solve(p: Plant, labels: [u8; PLACES]) -> Solved
     requires { ⌜ Accepted p × Grouped p labels ⌝ }
     ensures { λ r. ⌜ Right p r ⌝ }
 {
-    solve_at(p, start(p, labels))
+    let streams = p.streams;
+    let count = p.count as usize;
+    let mut arcs = [NONE as u8; ARCS];
+    let mut rows = [0u64; ROWS];
+    lay(streams, count, &mut arcs, &mut rows);
+    let begun = start(p, labels, &arcs, &rows);
+    solve_at(p, &arcs, &rows, begun)
 }

@@ -1,16 +1,16 @@
 // A spanning forest of the unmetered streams, from the places that are labels.
-use plants::Stream;
-use plants::limits::MAX_STREAMS;
 use plants::limits::PLACES;
+use solve_arcs::ARCS;
+use solve_arcs::ROWS;
+use solve_arcs::count_of;
+use solve_arcs::end_at;
 ghost use mathlib.Core.Path.{_≡_};
 ghost use mathlib.Core.List.{List};
 ghost use Prim.Native.Nat.{ℕ, _<_};
-ghost use lib.ListN.{length, getD};
+ghost use lib.ListN.{length};
 ghost use Rattle.plants.specs.declared.Stream.{Stream};
-ghost use Rattle.plants.specs.Limits.{maxUnits, places};
-ghost use Rattle.plants.specs.Within.{WithinStream};
-ghost use Rattle.plants.specs.Plants.{noStream};
-ghost use Rattle.model.specs.SearchNeeds.{Network};
+ghost use Rattle.plants.specs.Limits.{places};
+ghost use Rattle.solve_arcs.specs.ArcNeeds.{Laying};
 ghost use Rattle.spanning.specs.Forests.{Spanning, Unmetered, Listed, Routable};
 
 // A spanning forest of unmetered streams: in the order in which places were reached, the stream that leads to each, and whether
@@ -56,23 +56,19 @@ fn reach(
     len + 1
 }
 
-// Unmetered stream i, where it leads from a place that is reached to one that is not.
+// Unmetered stream i from place u to place v, where one of them is reached and the other is not.
 fn along(
     reached: &mut [bool; PLACES],
     via: &mut [u8; PLACES],
     into: &mut [bool; PLACES],
     len: usize,
     i: u8,
-    s: Stream,
+    u: usize,
+    v: usize,
 ) -> usize
-    requires { ⌜ Spanning (now reached) (now via) (now into) len × WithinStream maxUnits s ⌝ }
-    ensures { λ r. ⌜ Spanning (now (reached .exit)) (now (via .exit)) (now (into .exit)) r × ((ss : List Stream) (n : ℕ) → i < n → getD ss i noStream ≡ s → Listed ss n (now (via .entry)) len → Listed ss n (now (via .exit)) r) ⌝ }
+    requires { ⌜ Spanning (now reached) (now via) (now into) len × (u < places) × (v < places) ⌝ }
+    ensures { λ r. ⌜ Spanning (now (reached .exit)) (now (via .exit)) (now (into .exit)) r × ((ss : List Stream) (n : ℕ) → Unmetered ss n i → Listed ss n (now (via .entry)) len → Listed ss n (now (via .exit)) r) ⌝ }
 {
-    if s.metered {
-        return len;
-    }
-    let u = s.from as usize;
-    let v = s.to as usize;
     if reached[u] {
         return reach(reached, via, into, len, i, v, true);
     }
@@ -84,20 +80,25 @@ fn along(
 
 // One pass over the streams.
 fn pass(
-    streams: [Stream; MAX_STREAMS],
-    count: usize,
+    arcs: &[u8; ARCS],
+    rows: &[u64; ROWS],
     reached: &mut [bool; PLACES],
     via: &mut [u8; PLACES],
     into: &mut [bool; PLACES],
     start: usize,
 ) -> usize
-    requires { ⌜ Network streams count × Spanning (now reached) (now via) (now into) start × Listed streams count (now via) start ⌝ }
-    ensures { λ r. ⌜ Spanning (now (reached .exit)) (now (via .exit)) (now (into .exit)) r × Listed streams count (now (via .exit)) r ⌝ }
+    requires { ⌜ Laying (now arcs) (now rows) × Spanning (now reached) (now via) (now into) start × ((w : Laying (now arcs) (now rows)) → Listed (w .streams) (w .n) (now via) start) ⌝ }
+    ensures { λ r. ⌜ Spanning (now (reached .exit)) (now (via .exit)) (now (into .exit)) r × ((w : Laying (now (arcs .entry)) (now (rows .entry))) → Listed (w .streams) (w .n) (now (via .exit)) r) ⌝ }
 {
+    let n = count_of(arcs);
     let mut len = start;
     let mut i: usize = 0;
-    while i < count {
-        len = along(reached, via, into, len, i as u8, streams[i]);
+    while i < n {
+        if rows[4 * i] == 0 {
+            let u = end_at(arcs, 2 * i);
+            let v = end_at(arcs, 2 * i + 1);
+            len = along(reached, via, into, len, i as u8, u, v);
+        }
         i += 1;
     }
     len
@@ -127,9 +128,9 @@ fn passes_left(len: usize, all: usize, left: usize) -> usize
 }
 
 // A spanning forest from the labels, by passes.
-pub fn span(streams: [Stream; MAX_STREAMS], count: usize, labels: [u8; PLACES]) -> Forest
-    requires { ⌜ Network streams count ⌝ }
-    ensures { λ r. ⌜ Routable streams count r ⌝ }
+pub fn span(arcs: &[u8; ARCS], rows: &[u64; ROWS], labels: [u8; PLACES]) -> Forest
+    requires { ⌜ Laying (now arcs) (now rows) ⌝ }
+    ensures { λ r. ⌜ ((w : Laying (now (arcs .entry)) (now (rows .entry))) → Routable (w .streams) (w .n) r) ⌝ }
 {
     let mut reached = roots(labels);
     let all = unreached(&reached);
@@ -139,7 +140,7 @@ pub fn span(streams: [Stream; MAX_STREAMS], count: usize, labels: [u8; PLACES]) 
     let mut left = passes_left(0, all, PLACES);
     while 0 < left {
         let before = len;
-        len = pass(streams, count, &mut reached, &mut via, &mut into, before);
+        len = pass(arcs, rows, &mut reached, &mut via, &mut into, before);
         left = passes_left(len, all, left);
     }
     Forest {

@@ -11,31 +11,26 @@ use potentials::potentials_of;
 use routing::route;
 use settling::nets_of;
 use settling::settle_flows;
+use solve_arcs::ARCS;
+use solve_arcs::ROWS;
 use spanning::span;
 ghost use Rattle.plants.specs.Within.{Accepted};
 ghost use Rattle.plants.specs.Says.{plantOf};
 ghost use Rattle.flows.specs.Calls.{Grouped};
 ghost use Rattle.model.specs.SolverNeeds.{AtHint};
+ghost use Rattle.solve_arcs.specs.ArcNeeds.{Laid};
 
 // Prices from the labels by the unmetered streams, and amounts at these. Routing leaves metered amounts as they are.
-pub fn start(p: Plant, labels: [u8; PLACES]) -> State
-    requires { ⌜ Accepted p × Grouped p labels ⌝ }
+pub fn start(p: Plant, labels: [u8; PLACES], arcs: &[u8; ARCS], rows: &[u64; ROWS]) -> State
+    requires { ⌜ Accepted p × Grouped p labels × Laid (p .streams) (p .count) (now arcs) (now rows) ⌝ }
     ensures { λ r. ⌜ AtHint (plantOf p .streams) r ⌝ }
 {
     let prices = potentials_of(p, labels, PRICE_SHIFT, PRICE_SPREAD);
-    let streams = p.streams;
-    let count = p.count as usize;
     let mut flows = [FLOW_SHIFT; MAX_STREAMS];
-    settle_flows(streams, count, &prices, &mut flows);
-    let mut given = nets_of(streams, count, flows);
-    route(
-        streams,
-        count,
-        span(streams, count, labels),
-        &mut given,
-        &mut flows,
-    );
-    let nets = nets_of(streams, count, flows);
+    settle_flows(arcs, rows, &prices, &mut flows);
+    let mut given = nets_of(arcs, &flows);
+    route(arcs, span(arcs, rows, labels), &mut given, &mut flows);
+    let nets = nets_of(arcs, &flows);
     State {
         flows: flows,
         prices: prices,

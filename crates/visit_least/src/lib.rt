@@ -21,14 +21,14 @@ pub fn least_cost(p: Plant) -> u64
     ensures { λ r. ⌜ LeastCost (plantOf p) r ⌝ }
 {
     let labels = group(p, Which::Unmetered);
-    let begun = start(p, labels);
     let streams = p.streams;
     let count = p.count as usize;
     let mut arcs = [NONE as u8; ARCS];
     let mut rows = [0u64; ROWS];
     let mut margins = [0u64; MARGINS];
     lay(streams, count, &mut arcs, &mut rows);
-    let e = finish(streams, count, &arcs, &rows, &mut margins, begun);
+    let begun = start(p, labels, &arcs, &rows);
+    let e = finish(&arcs, &rows, &mut margins, begun);
     if e.full {
         return 0;
     }

@@ -12,7 +12,8 @@ use Rattle.model.specs.Sizes.{mostFlow}
 use Rattle.model.specs.Full.{mayCross, pressed, boundedTo, pressedTo}
 use Rattle.solve_arcs.specs.Cells.{toCell, countOf}
 use Rattle.solve_arcs.specs.ArcNeeds.{Laying}
-use Rattle.overfull.proofs.Edges.{bounded-none, pressed-none, pressed-most, arc-ends, row-range, bounded-next, pressed-next, full-stop, full-end}
+use Rattle.solve_arcs.proofs.Rowing.{start-in, end-in}
+use Rattle.overfull.proofs.Edges.{bounded-none, pressed-none, pressed-most, row-range, bounded-next, pressed-next, full-stop, full-end}
 use Rattle.overfull.proofs.overfull.Statement.{statement}
 use Rattle.overfull.proofs.overfull.Tie as tie
 
@@ -76,7 +77,7 @@ element-copy-out-start : tie.Need-element-copy-out-start Inv-loop μ-loop
 element-copy-out-start c =
     let on = c .before in
     let st = begin on in
-    rw (c .end-at .ensures) (arc-ends _ _ (st .pre) (st .args .marked .now) _ (below on) .0)
+    rw (c .end-at .ensures) (start-in _ _ (st .pre) _ (below on))
 
 mul-end-at-2 : tie.Need-mul-end-at-2 Inv-loop μ-loop
 mul-end-at-2 c = omega (arith, low-in (c .before .before))
@@ -91,7 +92,7 @@ element-copy-out-end : tie.Need-element-copy-out-end Inv-loop μ-loop
 element-copy-out-end c =
     let on = c .before .before .before in
     let st = begin on in
-    rw (c .end-at2 .ensures) (arc-ends _ _ (st .pre) (st .args .marked .now) _ (below on) .1)
+    rw (c .end-at2 .ensures) (end-in _ _ (st .pre) _ (below on))
 
 mul-low : tie.Need-mul-low Inv-loop μ-loop
 mul-low c = omega (arith, low-in (c .before .before .before .before))

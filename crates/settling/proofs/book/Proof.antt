@@ -11,14 +11,8 @@ use Rattle.settling.proofs.book.Statement.{statement}
 use Rattle.settling.proofs.book.Tie as tie
 
 -- After the first store.
-once : (st : tie.Start) → Around (left (st .args .nets .now) (st .args .s .from) (st .args .x)) (netRoom + mostFlow)
-once st = left-around (st .pre .2) (omega arith) (st .args .s .from) (st .args .x) (omega (arith, st .pre .0 .from-in)) (st .pre .1)
-
-cast-u : tie.Need-cast-u
-cast-u c = search needs
-
-cast-v : tie.Need-cast-v
-cast-v c = search needs
+once : (st : tie.Start) → Around (left (st .args .nets .now) (st .args .u) (st .args .x)) (netRoom + mostFlow)
+once st = left-around (st .pre .3) (omega arith) (st .args .u) (st .args .x) (st .pre .0) (st .pre .2)
 
 mul-nets : tie.Need-mul-nets
 mul-nets c = search needs
@@ -28,13 +22,11 @@ element-copy-out-nets c = search needs
 
 add-nets : tie.Need-add-nets
 add-nets c =
-    let st = c .before .before .before in
-    omega (arith, st .pre .2 .high (st .args .s .from) (omega (arith, st .pre .0 .from-in)))
+    let st = c .before in omega (arith, st .pre .3 .high (st .args .u) (st .pre .0))
 
 sub-nets : tie.Need-sub-nets
 sub-nets c =
-    let st = c .before .before .before in
-    omega (arith, st .pre .2 .low (st .args .s .from) (omega (arith, st .pre .0 .from-in)))
+    let st = c .before in omega (arith, st .pre .3 .low (st .args .u) (st .pre .0))
 
 mul-nets-2 : tie.Need-mul-nets-2
 mul-nets-2 c = search needs
@@ -50,13 +42,13 @@ element-copy-out-nets-2 c = search needs
 
 add-nets-2 : tie.Need-add-nets-2
 add-nets-2 c =
-    let st = c .before .before .before .before in
-    omega (arith, once st .high (st .args .s .to) (omega (arith, st .pre .0 .to-in)))
+    let st = c .before .before in
+    omega (arith, once st .high (st .args .v) (st .pre .1))
 
 sub-nets-2 : tie.Need-sub-nets-2
 sub-nets-2 c =
-    let st = c .before .before .before .before in
-    omega (arith, once st .low (st .args .s .to) (omega (arith, st .pre .0 .to-in)))
+    let st = c .before .before in
+    omega (arith, once st .low (st .args .v) (st .pre .1))
 
 mul-nets-4 : tie.Need-mul-nets-4
 mul-nets-4 c = search needs
@@ -71,8 +63,6 @@ pub book-spec : {M : Type 1} → statement M
 book-spec =
     tie.close
     (tie.spec
-    cast-u
-    cast-v
     mul-nets
     element-copy-out-nets
     add-nets

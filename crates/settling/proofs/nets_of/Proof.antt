@@ -1,51 +1,83 @@
 -- `settling::nets_of` meets its contract: the first i streams are booked.
 use mathlib.Core.Path.{_≡_, sym, _∙_}
-use Prim.Native.Nat.{_≤_, _-_}
+use mathlib.Core.List.{List}
+use Prim.Native.Nat.{ℕ, _≤_, _<_, _-_}
 use native.Mathlib.Omega.{arith}
 use borrow.Author.Needs.{needs}
-use mathlib.Core.List.{[]}
 use lib.ListN.{take}
+use Rattle.plants.specs.Limits.{places}
 use Rattle.model.specs.Sizes.{netRoom}
 use Rattle.model.specs.Model.{netsTo}
 use Rattle.model.proofs.Booking.{nets-around, around-more}
 use Rattle.model.proofs.Streams.{stream-is}
-use Rattle.model.proofs.Turns.{nets-next, nets-none}
+use Rattle.model.proofs.Turns.{nets-none}
+use Rattle.solve_arcs.specs.Cells.{countOf}
+use Rattle.solve_arcs.specs.ArcNeeds.{Laying}
+use Rattle.solve_arcs.proofs.Rowing.{low-in, start-in, end-in}
+use Rattle.settling.proofs.Rowing.{booked-row}
 use Rattle.settling.proofs.nets_of.Statement.{statement}
 use Rattle.settling.proofs.nets_of.Tie as tie
 
 abbrev Inv-loop : tie.InvT-loop
-Inv-loop count streams flows nets₀ i₀ nets i = (i ≤ count) × (nets ≡ netsTo (take count streams) flows i)
+Inv-loop arcs flows n nets₀ i₀ nets i = (i ≤ n) × ((rs : List ℕ) (w : Laying arcs rs) → nets ≡ netsTo (take (w .n) (w .streams)) flows i)
 
 abbrev μ-loop : tie.MeasureT-loop
-μ-loop count streams flows nets₀ i₀ nets i = count - i
+μ-loop arcs flows n nets₀ i₀ nets i = n - i
+
+-- The start, from a turn of the loop; the stream is in use.
+abbrev begin : tie.In-loop Inv-loop μ-loop → tie.Start Inv-loop μ-loop
+begin c = c .before .before .before
+
+below : (c : tie.In-loop Inv-loop μ-loop) → c .before .loop .i < countOf (begin c .args .arcs .now)
+below c = rw (← c .before .before .count-of .ensures) (c .loop-test .taken)
+
+few : (c : tie.In-loop Inv-loop μ-loop) → c .before .loop .i < 96
+few c = low-in _ _ (begin c .pre .0 .1) _ (below c)
+
+count-of-requires : tie.Need-count-of-requires Inv-loop μ-loop
+count-of-requires c κs = search needs
 
 loop-holds : tie.Need-loop-holds Inv-loop μ-loop
-loop-holds c = (omega arith, sym (nets-none _ _))
+loop-holds c = (omega arith, λ rs w. sym (nets-none _ _))
+
+mul-end-at : tie.Need-mul-end-at Inv-loop μ-loop
+mul-end-at c = omega (arith, few c)
+
+end-at-requires : tie.Need-end-at-requires Inv-loop μ-loop
+end-at-requires c κs = omega (arith, few c)
+
+mul-end-at-2 : tie.Need-mul-end-at-2 Inv-loop μ-loop
+mul-end-at-2 c = omega (arith, few (c .before))
+
+add-end-at : tie.Need-add-end-at Inv-loop μ-loop
+add-end-at c = omega (arith, few (c .before))
+
+end-at-requires-2 : tie.Need-end-at-requires-2 Inv-loop μ-loop
+end-at-requires-2 c κs = omega (arith, few (c .before))
 
 mul-book : tie.Need-mul-book Inv-loop μ-loop
-mul-book c = search needs
+mul-book c = omega (arith, few (c .before .before .before))
 
-array-copy-out-book : tie.Need-array-copy-out-book Inv-loop μ-loop
-array-copy-out-book c = search needs
-
-mul-book-2 : tie.Need-mul-book-2 Inv-loop μ-loop
-mul-book-2 c = search needs
-
-array-read-book : tie.Need-array-read-book Inv-loop μ-loop
-array-read-book c = search needs
+element-copy-out-book : tie.Need-element-copy-out-book Inv-loop μ-loop
+element-copy-out-book c = few (c .before .before .before)
 
 book-requires : tie.Need-book-requires Inv-loop μ-loop
 book-requires c κs =
-    let at = c .before .before .before in
-    let st = at .before in
-    let w = st .pre .0 in (
-      w .within .each _ (omega arith),
-      st .pre .1 _ (omega (arith, w .within .few-streams)),
-      rw (at .loop .inv .1)
+    let v = c .before .before in
+    let on = v .before .before in
+    let at = on .before .loop in
+    let st = begin on in
+    let w = st .pre .0 .1 in
+    let net = w .network in
+    let n : at .i < w .n = rw (w .laid .along .counted) at (below on) in (
+      rw (v .before .end-at .ensures) (start-in _ _ w _ (below on)),
+      rw (v .end-at2 .ensures) (end-in _ _ w _ (below on)),
+      st .pre .1 _ (few on),
+      rw (at .inv .1 _ w)
           (around-more
-          (nets-around (take (st .args .count) (st .args .t1)) (st .args .t3) (at .loop .i) (omega (arith, w .within .few-streams))
-          (λ k h. rw (stream-is (st .args .t1) (st .args .count) k (omega arith)) (w .within .each k (omega arith) .from-in, w .within .each k (omega arith) .to-in))
-          (λ k h. st .pre .1 k (omega (arith, w .within .few-streams)))) netRoom (omega (arith, w .within .few-streams))),
+          (nets-around (take (w .n) (w .streams)) (st .args .flows .now) (at .i) (omega (arith, few on))
+          (λ k h. rw (stream-is (w .streams) (w .n) k (omega arith)) (net .within .each k (omega arith) .from-in, net .within .each k (omega arith) .to-in))
+          (λ k h. st .pre .1 k (omega (arith, few on)))) netRoom (omega (arith, few on))),
     )
 
 add-i : tie.Need-add-i Inv-loop μ-loop
@@ -56,14 +88,15 @@ loop-less c = search needs
 
 loop-again : tie.Need-loop-again Inv-loop μ-loop
 loop-again c =
-    let at = c .before .before .before .before in
-    let st = at .before in
-    (omega arith, c .book .ensures ∙ rw (at .loop .inv .1) (sym (nets-next (st .args .t1) (st .args .count) [] _ (at .loop .i) (omega arith))))
+    let v = c .before .before .before in
+    let on = v .before .before in
+    let at = on .before .loop in
+    (omega arith, λ rs w. c .book .ensures ∙ rw (v .before .end-at .ensures, v .end-at2 .ensures) (booked-row _ rs w _ (below on) _ _ (at .inv .1 rs w)))
 
 returns : tie.Need-returns Inv-loop μ-loop
-returns c =
-    let e : c .before .loop .i ≡ c .before .before .args .count = omega arith in
-    rw e at (c .before .loop .inv .1)
+returns c = λ rs w.
+    let e : c .before .loop .i ≡ w .n = omega (arith, c .before .before .count-of .ensures, w .laid .along .counted, c .loop-test .left) in
+    rw e at (c .before .loop .inv .1 rs w)
 
 pub nets-of-spec : {M : Type 1} → statement M
 nets-of-spec =
@@ -71,11 +104,15 @@ nets-of-spec =
     (tie.spec
     Inv-loop
     μ-loop
+    count-of-requires
     loop-holds
+    mul-end-at
+    end-at-requires
+    mul-end-at-2
+    add-end-at
+    end-at-requires-2
     mul-book
-    array-copy-out-book
-    mul-book-2
-    array-read-book
+    element-copy-out-book
     book-requires
     add-i
     loop-less

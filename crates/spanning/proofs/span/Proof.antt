@@ -2,16 +2,17 @@
 -- routed along.
 use native.Mathlib.Omega.{arith}
 use borrow.Author.Needs.{needs}
+use Rattle.solve_arcs.specs.ArcNeeds.{Laying}
 use Rattle.spanning.specs.Forests.{Spanning, Listed}
 use Rattle.spanning.proofs.Spanning.{spanning-short}
 use Rattle.spanning.proofs.span.Statement.{statement}
 use Rattle.spanning.proofs.span.Tie as tie
 
 abbrev Inv-loop : tie.InvT-loop
-Inv-loop streams count reached₀ all via₀ into₀ len₀ left₀ reached via into len left = Spanning reached via into len × Listed streams count via len
+Inv-loop arcs rows reached₀ all via₀ into₀ len₀ left₀ reached via into len left = Spanning reached via into len × ((w : Laying arcs rows) → Listed (w .streams) (w .n) via len)
 
 abbrev μ-loop : tie.MeasureT-loop
-μ-loop streams count reached₀ all via₀ into₀ len₀ left₀ reached via into len left = left
+μ-loop arcs rows reached₀ all via₀ into₀ len₀ left₀ reached via into len left = left
 
 roots-requires : tie.Need-roots-requires Inv-loop μ-loop
 roots-requires c κs = search needs
@@ -23,7 +24,7 @@ passes-left-requires : tie.Need-passes-left-requires Inv-loop μ-loop
 passes-left-requires c κs = search needs
 
 loop-holds : tie.Need-loop-holds Inv-loop μ-loop
-loop-holds c = (search needs, λ k l. absurd (omega arith))
+loop-holds c = (search needs, λ w k l. absurd (omega arith))
 
 pass-requires : tie.Need-pass-requires Inv-loop μ-loop
 pass-requires c κs = search needs
@@ -38,9 +39,9 @@ loop-again : tie.Need-loop-again Inv-loop μ-loop
 loop-again c = search needs
 
 returns : tie.Need-returns Inv-loop μ-loop
-returns c =
+returns c = λ w.
     let s = c .before .loop .inv .0 in
-    record { vias = s .vias; intos = s .intos; short = spanning-short s; listed = c .before .loop .inv .1 }
+    record { vias = s .vias; intos = s .intos; short = spanning-short s; listed = c .before .loop .inv .1 w }
 
 pub span-spec : {M : Type 1} → statement M
 span-spec =

@@ -1,18 +1,21 @@
 -- `starts::start` meets its contract: the prices are by label, and what is routed leaves the metered amounts settled.
-use mathlib.Core.Path.{subst}
+use mathlib.Core.Path.{_≡_, subst}
 use mathlib.Core.List.{List}
 use Prim.Native.Nat.{ℕ}
 use native.Mathlib.Omega.{arith}
-use borrow.Author.Needs.{needs}
+use lib.ListN.{replicate}
+use Rattle.plants.specs.Limits.{maxStreams}
 use Rattle.plants.specs.Says.{plantOf}
 use Rattle.flows.specs.Chains.{unmeteredOnly}
 use Rattle.flows.specs.Labels.{labelsOf}
 use Rattle.flows.proofs.Grouping.{labels-are}
 use Rattle.wholes.specs.Levels.{Level}
-use Rattle.model.specs.Sizes.{priceShift, priceSpread}
+use Rattle.model.specs.Sizes.{flowShift, priceShift, priceSpread}
+use Rattle.model.specs.Model.{settledTo}
 use Rattle.model.proofs.Booking.{nets-long}
-use Rattle.model.proofs.Layouts.{ready-settles}
 use Rattle.model.proofs.Theorem.{network-of}
+use Rattle.solve_arcs.specs.ArcNeeds.{Laying}
+use Rattle.routing.specs.Routes.{Routing}
 use Rattle.routing.proofs.Routes.{routes-none, routes-amounts}
 use Rattle.starts.proofs.Factored.{labels-of, level-ready, level-routes, routed-start}
 use Rattle.starts.proofs.start.Statement.{statement}
@@ -24,59 +27,73 @@ levels c = subst (λ (ls : List ℕ). Level ls priceShift priceSpread (c .potent
 potentials-of-requires : tie.Need-potentials-of-requires
 potentials-of-requires c κs = (c .pre .0, rw (labels-are (c .args .p) (c .pre .0) unmeteredOnly _ (c .pre .1)) (labels-of (c .args .p) (c .pre .0)), omega arith)
 
-cast-count : tie.Need-cast-count
-cast-count c = search needs
+-- Streams that the arcs and the rows are of.
+abbrev laying : (st : tie.Start) → Laying (st .args .arcs .now) (st .args .rows .now)
+laying st = record { streams = st .args .p .streams; n = st .args .p .count; network = network-of (st .args .p) (st .pre .0); laid = st .pre .2 }
 
 settle-flows-requires : tie.Need-settle-flows-requires
 settle-flows-requires c κs =
-    let at = c .before .before .before .before in
+    let at = c .before .before in
     let st = at .before in
     let p = st .args .p in
-    (ready-settles (p .streams) (p .count) (network-of p (st .pre .0)) _ (level-ready p (st .pre .0) (levels at)), routes-none {ss = plantOf p .streams} .long)
+    (laying st, level-ready p (st .pre .0) (levels at) .start .capped, routes-none {ss = plantOf p .streams} .long)
 
 nets-of-requires : tie.Need-nets-of-requires
 nets-of-requires c κs =
-    let at = c .before .before .before .before .before in
+    let f = c .before in
+    let at = f .before .before .before in
     let st = at .before in
-    let p = st .args .p in
-    (network-of p (st .pre .0), rw (c .settle-flows .ensures) (routes-amounts (level-routes p (st .pre .0) (levels at))))
+    ((_, laying st), rw (f .settle-flows .ensures (laying st)) (routes-amounts (level-routes (st .args .p) (st .pre .0) (levels at))))
 
 span-requires : tie.Need-span-requires
-span-requires c κs =
-    let st = c .before .before .before .before .before .before .before in
-    network-of (st .args .p) (st .pre .0)
+span-requires c κs = laying (c .before .before .before .before .before .before)
+
+-- What is routed, and along what.
+abbrev begun : tie.After-span → tie.After-potentials-of
+begun c = c .before .before .before .before .before .before
+
+abbrev routing : (c : tie.After-span) (xs : List ℕ) → let st = begun c .before in let p = st .args .p in
+    xs ≡ settledTo (plantOf p .streams) (begun c .potentials-of .result) (replicate maxStreams flowShift) (p .count) → Routing (st .args .arcs .now) (c .span .result) xs
+routing c xs e =
+    let st = begun c .before in
+    record {
+      rows = st .args .rows .now;
+      laying = laying st;
+      forest = c .span .ensures (laying st);
+      routes = rw e (level-routes (st .args .p) (st .pre .0) (levels (begun c)));
+    }
+
+-- The settled amounts, from where the forest is known.
+abbrev settled-are : tie.After-span → tie.After-settle-flows
+settled-are c = c .before .before .before
 
 route-requires : tie.Need-route-requires
 route-requires c κs =
     let f = c .before .before in
-    let at = c .before .before .before .before .before .before .before .before .before in
-    let st = at .before in
-    let p = st .args .p in (
-      network-of p (st .pre .0),
-      f .span .ensures,
-      rw (f .before .nets-of .ensures) (nets-long _ _ (p .count)),
-      rw (f .before .before .settle-flows .ensures) (level-routes p (st .pre .0) (levels at)),
-    )
+    let st = begun f .before in
+    (routing f _ (settled-are f .settle-flows .ensures (laying st)), rw (f .before .nets-of .ensures _ (laying st)) (nets-long _ _ (st .args .p .count)))
 
 nets-of-requires-2 : tie.Need-nets-of-requires-2
 nets-of-requires-2 c κs =
-    let st = c .before .before .before .before .before .before .before .before .before .before .before in
-    (network-of (st .args .p) (st .pre .0), routes-amounts (c .route .ensures .0))
+    let r = c .before in
+    let f = r .before .before .before in
+    let st = begun f .before in
+    ((_, laying st), routes-amounts (r .route .ensures (routing f _ (settled-are f .settle-flows .ensures (laying st))) .0))
 
 returns : tie.Need-returns
 returns c =
-    let at = c .before .before .before .before .before .before .before .before .before .before .before in
-    let st = at .before in
-    let p = st .args .p in
-    let r = c .before .route in
-    rw (c .nets-of2 .ensures) (routed-start p (st .pre .0) (levels at) (c .before .before .before .before .before .before .settle-flows .ensures) (r .ensures .0) (r .ensures .1))
+    let r = c .before .before in
+    let f = r .before .before .before in
+    let st = begun f .before in
+    let e = settled-are f .settle-flows .ensures (laying st) in
+    let o = r .route .ensures (routing f _ e) in
+    rw (c .nets-of2 .ensures _ (laying st)) (routed-start (st .args .p) (st .pre .0) (levels (begun f)) e (o .0) (o .1))
 
 pub start-spec : {M : Type 1} → statement M
 start-spec =
     tie.close
     (tie.spec
     potentials-of-requires
-    cast-count
     settle-flows-requires
     nets-of-requires
     span-requires

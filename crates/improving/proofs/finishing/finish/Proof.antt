@@ -13,6 +13,7 @@ use Rattle.model.proofs.Streams.{solvable-of}
 use Rattle.model.proofs.Layouts.{at-hint-around}
 use Rattle.model.proofs.Ending.{hint-underway}
 use Rattle.solve_improve.specs.Improves.{Phasable}
+use Rattle.improving.specs.Finishes.{Finishable}
 use Rattle.improving.proofs.finishing.finish.Statement.{statement}
 use Rattle.improving.proofs.finishing.finish.Tie as tie
 use Rattle.improving.proofs.phase.Reads as phase-reads
@@ -30,41 +31,45 @@ by-phases ss st over e l = sym (rw (← e, lt-leb over mostTried l))
 over-sum-requires : tie.Need-over-sum-requires
 over-sum-requires c κs =
     let st = c .before .before in
-    at-hint-around (st .args .streams) (st .args .count) (st .pre .0) (st .args .st) (st .pre .1)
+    let w = st .pre .0 .laying in
+    at-hint-around (w .streams) (w .n) (w .network) (st .args .st) (st .pre .0 .at-hint)
 
 -- What the phase begins from.
-abbrev able : (c : tie.Then1) → Phasable (c .before .before .before .before .args .arcs .now) (c .before .before .before .before .args .rows .now) 1 (c .before .before .before .before .args .st)
-able c =
+abbrev able : (c : tie.Then1) → let st = c .before .before .before .before in Finishable (st .args .arcs .now) (st .args .rows .now) (st .args .st)
+    → Phasable (c .before .before .before .before .args .arcs .now) (c .before .before .before .before .args .rows .now) 1 (c .before .before .before .before .args .st)
+able c f =
     let st = c .before .before .before .before in
+    let w = f .laying in
     record {
-      streams = st .args .streams;
-      n = st .args .count;
-      network = st .pre .0;
-      laid = st .pre .2;
+      streams = w .streams;
+      n = w .n;
+      network = w .network;
+      laid = w .laid;
       step = (omega arith, omega arith);
-      underway = hint-underway _ (solvable-of (st .args .streams) (st .args .count) (st .pre .0)) (st .args .st) (st .pre .1) (omega (arith, c .before .over-sum .ensures, c .if1 .taken));
+      underway = hint-underway _ (solvable-of (w .streams) (w .n) (w .network)) (st .args .st) (f .at-hint) (omega (arith, c .before .over-sum .ensures, c .if1 .taken));
     }
 
 phase-requires : tie.Need-phase-requires
-phase-requires c κs = (able (c .before), c .before .before .before .before .before .pre .3)
+phase-requires c κs = let st = c .before .before .before .before .before in (able (c .before) (st .pre .0), st .pre .1)
 
 returns : tie.Need-returns
-returns c =
+returns c = λ f.
     let t = c .before .before in
     let st = t .before .before .before .before in
-    let made = c .phase .ensures (able t) in
-    (made .0 ∙ by-hint (take (st .args .count) (st .args .streams)) (st .args .st) _ (t .before .over-sum .ensures) (t .if1 .taken), λ o. made .1)
+    let made = c .phase .ensures (able t f) in
+    (made .0 ∙ by-hint (take (f .laying .n) (f .laying .streams)) (st .args .st) _ (t .before .over-sum .ensures) (t .if1 .taken), λ o. made .1)
 
 phases-requires : tie.Need-phases-requires
 phases-requires c κs =
     let st = c .before .before .before .before .before in
-    (st .pre .0, st .pre .2, st .pre .3)
+    (st .pre .0 .laying, st .pre .1)
 
 returns-2 : tie.Need-returns-2
-returns-2 c =
+returns-2 c = λ f.
     let t = c .before .before in
     let st = t .before .before .before .before in
-    (c .phases .ensures .0 ∙ by-phases (take (st .args .count) (st .args .streams)) (st .args .st) _ (t .before .over-sum .ensures) (t .if1 .left), c .phases .ensures .1)
+    let made = c .phases .ensures (f .laying) in
+    (made .0 ∙ by-phases (take (f .laying .n) (f .laying .streams)) (st .args .st) _ (t .before .over-sum .ensures) (t .if1 .left), made .1)
 
 pub finish-spec : {M : Type 1} → statement M
 finish-spec = tie.close (tie.spec over-sum-requires phase-requires returns phases-requires returns-2)

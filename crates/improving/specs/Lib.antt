@@ -1,0 +1,2 @@
+-- What the phases require.
+pub mod Finishes

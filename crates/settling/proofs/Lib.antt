@@ -1,0 +1,2 @@
+-- Laws of settling over arcs and rows.
+pub mod Rowing

@@ -1,0 +1,2 @@
+-- What settling requires.
+pub mod Hints
