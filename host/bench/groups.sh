@@ -26,11 +26,11 @@ build() { # name, tree
     done
     mkdir -p "$copy/crates/probe/src" "$copy/crates/probe/proofs/wengeludo_probe_groups"
     # Earlier versions have the pass over all streams in the crate groups.
-    local below="groups flows plant_reader plants numbers" pass=groups
+    local below="groups flow_def plant_reader plants num_bytes" pass=groups
     [ ! -d "$copy/crates/grouping" ] || { below="grouping $below" && pass=grouping; }
     sed "s/grouping::/$pass::/" "$here/probe/lib.rt.txt" >"$copy/crates/probe/src/lib.rt"
     cp "$here/probe/Proof.antt.txt" "$copy/crates/probe/proofs/wengeludo_probe_groups/Proof.antt"
-    echo "probe: sheets model $below" >>"$copy/crates.txt"
+    echo "probe: sheet_def solve_def $below" >>"$copy/crates.txt"
     (cd "$copy" && rt staticlib linked && rt staticlib probe) >"$copy/log" 2>&1 || { tail "$copy/log" >&2; exit 1; }
     "${CC:-cc}" -O2 -I "$here/../include" "$here/probe/count.c" "$copy"/target/staticlib/lib{linked,probe}.a -o "$copy/count"
 }

@@ -7,8 +7,8 @@ use native.Mathlib.Omega.{arith}
 use native.Mathlib.Decide.{decLe}
 use borrow.Author.Tests.{leb-true, leb-false}
 use lib.Dec.{leb}
-use Rattle.numbers.proofs.Tests.{by-cases}
-use Rattle.model.specs.Model.{nearestAmount}
+use Rattle.num_bytes.proofs.Tests.{by-cases}
+use Rattle.solve_def.specs.Model.{nearestAmount}
 
 -- a below R times m: the quotient falls by that of a, rounded up.
 module _ (m R a : ℕ) (some : 0 < m) (one : 1 ≤ a) where

@@ -5,8 +5,8 @@ ghost use mathlib.Core.Path.{_≡_};
 ghost use Prim.Native.Nat.{ℕ, _+_, _*_, _≤_};
 ghost use lib.ListN.{getD};
 ghost use Rattle.plants.specs.Limits.{maxWeight};
-ghost use Rattle.model.specs.Sizes.{mostPull, priceShift};
-ghost use Rattle.model.specs.Model.{clamped, nearestAmount};
+ghost use Rattle.solve_def.specs.Sizes.{mostPull, priceShift};
+ghost use Rattle.solve_def.specs.Model.{clamped, nearestAmount};
 ghost use Rattle.solve_arcs.specs.ArcNeeds.{Row};
 
 // The amount nearest to a reading R, at the prices of a stream's start and its end, by its weight and twice the weight times R. (One

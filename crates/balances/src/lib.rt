@@ -1,18 +1,18 @@
 // The balance of a plant: the class and the flow of each stream, the cost, degrees and verdict; or an overfull set of its places.
 // Nothing is written.
-use flows::Class;
+use flow_def::Class;
 use plants::Plant;
 use plants::limits::MAX_STREAMS;
 use plants::limits::PLACES;
 use reckoning::balance_by;
-use sheets::Balance;
-use sheets::Entry;
-use sheets::Outcome;
+use sheet_def::Balance;
+use sheet_def::Entry;
+use sheet_def::Outcome;
 ghost use mathlib.Core.Path.{_≡_};
 ghost use mathlib.Core.Bool.{false};
 ghost use Rattle.plants.specs.Within.{Accepted};
 ghost use Rattle.plants.specs.Says.{plantOf};
-ghost use Rattle.sheets.specs.Balances.{OutcomeSays};
+ghost use Rattle.sheet_def.specs.Balances.{OutcomeSays};
 
 // No balance, and the overfull set.
 fn overfilled(marked: [bool; PLACES]) -> Outcome

@@ -13,13 +13,13 @@ use Rattle.plants.specs.Files.{Got, got, readPlant}
 use Rattle.plants.specs.Within.{Accepted}
 use Rattle.plants.specs.Says.{plantOf, readOf}
 use Rattle.plants.proofs.Arrayed.{all-listed, within-of, read-held}
-use Rattle.flows.proofs.Lists.{Written}
-use Rattle.sheets.proofs.Promise.{read-bad, found}
-use Rattle.purchases.specs.declared.Bought.{Bought}
-use Rattle.purchases.specs.Purchases.{maxPrice, unmeteredTo, priceIn, pricesFault}
-use Rattle.purchases.specs.Says.{noneBought, boughtOf, BuyOf, BuyWith, BuySays}
-use Rattle.purchases.specs.Choosing.{toBuy}
-use Rattle.purchases.proofs.Sets.{same-bought, to-buy}
+use Rattle.flow_def.proofs.Lists.{Written}
+use Rattle.sheet_def.proofs.Promise.{read-bad, found}
+use Rattle.purchase_def.specs.declared.Bought.{Bought}
+use Rattle.purchase_def.specs.Purchases.{maxPrice, unmeteredTo, priceIn, pricesFault}
+use Rattle.purchase_def.specs.Says.{noneBought, boughtOf, BuyOf, BuyWith, BuySays}
+use Rattle.purchase_def.specs.Choosing.{toBuy}
+use Rattle.purchase_def.proofs.Sets.{same-bought, to-buy}
 use Rattle.pricing.proofs.Prices.{low, fair-all}
 
 none-past : (n k : ℕ) → getD {A = ℕ} (replicate n 0) k 0 ≡ 0

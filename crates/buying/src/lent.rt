@@ -1,16 +1,16 @@
 // The numbers of the streams to be metered, handed over in a lent slice.
 use crate::meters_to_buy;
 use choosing::refused;
-use numbers::put_u8;
+use num_bytes::put_u8;
 use plants::limits::MAX_STREAMS;
-use purchases::Bought;
-use purchases::Handed;
+use purchase_def::Bought;
+use purchase_def::Handed;
 ghost use mathlib.Core.Path.{_≡_};
 ghost use Prim.Native.Nat.{_≤_};
 ghost use lib.ListN.{length, take};
-ghost use Rattle.numbers.specs.Bytes.{over};
+ghost use Rattle.num_bytes.specs.Bytes.{over};
 ghost use Rattle.plants.specs.Limits.{maxStreams};
-ghost use Rattle.purchases.specs.Lent.{LentSays, BuyHandsOver};
+ghost use Rattle.purchase_def.specs.Lent.{LentSays, BuyHandsOver};
 
 // The call, where a slice with room for so many numbers holds as many as there may be.
 fn buy_lent(file: &[u8], prices: &[u32], room: usize) -> Bought

@@ -4,9 +4,9 @@ pub mod lent;
 use choosing::choose;
 use choosing::refused;
 use pricing::prices_fault;
-use purchases::Bought;
+use purchase_def::Bought;
 use spreading::by_stream;
-ghost use Rattle.purchases.specs.Says.{BuySays};
+ghost use Rattle.purchase_def.specs.Says.{BuySays};
 
 // The cheapest set of unmetered streams to meter so that nothing is withheld; prices are one for each unmetered stream, in
 // stream order.

@@ -1,10 +1,10 @@
 // Steam charges, as cases try them.
 //
 // A charge is 9 bytes: the number of its stream, its cents (8, two's complement).
+use case_files::cases::NO_CASE;
+use case_files::cases::told;
 use charge_call::charges_of;
 use charge_def::Charges;
-use file_trials::cases::NO_CASE;
-use file_trials::cases::told;
 use plants::limits::MAX_STREAMS;
 ghost use mathlib.Core.Path.{_≡_};
 ghost use Prim.Native.Nat.{_*_, _≤_};
@@ -19,7 +19,7 @@ fn rates_in(count: usize, given: &[u8]) -> [u16; MOST_RATES]
     let mut rates = [0u16; MOST_RATES];
     let mut k: usize = 0;
     while k < count {
-        rates[k] = numbers::get_u16(&given[2 * k..]);
+        rates[k] = num_bytes::get_u16(&given[2 * k..]);
         k += 1;
     }
     rates
@@ -28,7 +28,7 @@ fn rates_in(count: usize, given: &[u8]) -> [u16; MOST_RATES]
 fn put_charge(stream: u8, cents: i64, out: &mut [u8])
     requires { ⌜ 9 ≤ length (now out) ⌝ }
 {
-    numbers::put_i64(cents, &mut out[1..]);
+    num_bytes::put_i64(cents, &mut out[1..]);
     out[0] = stream;
 }
 
@@ -53,7 +53,7 @@ fn put_bill(charges: Charges, out: &mut [u8]) -> u64
     let streams = charges.streams;
     let cents = charges.cents;
     put_charges(count, streams, cents, &mut out[8..]);
-    numbers::put_i64(charges.bill, out);
+    num_bytes::put_i64(charges.bill, out);
     told(charges.number, count, 0)
 }
 
@@ -75,7 +75,7 @@ pub fn charge(given: &[u8], out: &mut [u8]) -> u64 {
     if given.len() < 2 {
         return NO_CASE;
     }
-    let count = numbers::get_u16(given) as usize;
+    let count = num_bytes::get_u16(given) as usize;
     let rest = &given[2..];
     if MOST_RATES < count || rest.len() < 2 * count {
         return NO_CASE;

@@ -1,6 +1,6 @@
 // The check of a sheet and numbers of the places, as cases try them.
-use file_trials::cases::NO_CASE;
-use file_trials::cases::told;
+use case_files::cases::NO_CASE;
+use case_files::cases::told;
 use foreign_call::check_sheet;
 use foreign_numbers::numbers_lent;
 ghost use Prim.Native.Nat.{_+_, _*_, _≤_};
@@ -18,7 +18,7 @@ fn numbers_in(count: usize, given: &[u8]) -> [i64; MOST_NUMBERS]
     let mut found = [0i64; MOST_NUMBERS];
     let mut k: usize = 0;
     while k < count {
-        let z = numbers::get_i64(&given[8 * k..]);
+        let z = num_bytes::get_i64(&given[8 * k..]);
         found[k] = z;
         k += 1;
     }
@@ -98,11 +98,11 @@ pub fn call(kind: u64, given: &[u8]) -> u64 {
     if given.len() < 4 {
         return NO_CASE;
     }
-    let count = numbers::get_u16(given) as usize;
+    let count = num_bytes::get_u16(given) as usize;
     if MOST_NUMBERS < count {
         return NO_CASE;
     }
-    let size = numbers::get_u16(&given[2..]) as usize;
+    let size = num_bytes::get_u16(&given[2..]) as usize;
     match kind {
         18 => check(count, size, &given[4..]),
         19 => place_numbers(count, size, &given[4..]),

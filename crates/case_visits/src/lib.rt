@@ -1,6 +1,6 @@
 // Meters worth a visit, as cases try them.
-use file_trials::cases::NO_CASE;
-use file_trials::cases::told;
+use case_files::cases::NO_CASE;
+use case_files::cases::told;
 use plants::limits::MAX_STREAMS;
 use visit_call::visits_of;
 use visit_text::list_visits;
@@ -16,8 +16,8 @@ const LEAST_ROOM: usize = MAX_STREAMS * LISTED;
 fn put_visit(stream: u8, cost: u64, out: &mut [u8])
     requires { ⌜ 9 ≤ length (now out) ⌝ }
 {
-    numbers::put_u8(stream, out);
-    numbers::put_u64(cost, &mut out[1..]);
+    num_bytes::put_u8(stream, out);
+    num_bytes::put_u64(cost, &mut out[1..]);
 }
 
 fn put_visits(count: usize, streams: [u8; MAX_STREAMS], costs: [u64; MAX_STREAMS], out: &mut [u8])

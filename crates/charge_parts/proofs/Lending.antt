@@ -5,7 +5,7 @@ use mathlib.Core.List.{List}
 use Prim.Native.Nat.{ℕ, _≤_, _<_}
 use native.Mathlib.Omega.{arith}
 use lib.ListN.{length, take}
-use Rattle.numbers.specs.Bytes.{over}
+use Rattle.num_bytes.specs.Bytes.{over}
 use Rattle.plants.specs.Limits.{maxStreams}
 use Rattle.num_lists.proofs.Rooms.{by-room}
 use Rattle.charge_def.specs.declared.Charges.{Charges}

@@ -6,25 +6,25 @@ use Prim.Native.Nat.{ℕ, zero, suc, _+_, _≤_, _<_, _^_}
 use native.Mathlib.Numerals.{add-one}
 use native.Mathlib.Omega.{arith}
 use lib.ListN.{length, getD, set, replicate, length-append}
-use Rattle.numbers.specs.Arrays.{filled}
-use Rattle.numbers.specs.Choice.{pick}
-use Rattle.numbers.specs.Inner.{values}
-use Rattle.numbers.proofs.Filled.{length-filled, filled-none, filled-more}
+use Rattle.num_bytes.specs.Arrays.{filled}
+use Rattle.num_bytes.specs.Choice.{pick}
+use Rattle.num_bytes.specs.Inner.{values}
+use Rattle.num_bytes.proofs.Filled.{length-filled, filled-none, filled-more}
 use Rattle.plants.specs.declared.Plant as Arrays
 use Rattle.plants.specs.Limits.{maxStreams}
 use Rattle.plants.specs.Plants.{noStream}
 use Rattle.plants.specs.Within.{Accepted}
 use Rattle.plants.specs.Says.{plantOf}
 use Rattle.plants.proofs.Arrayed.{all-listed, listed-at, within-of}
-use Rattle.flows.specs.Labels.{labelsOf, oneLabel}
-use Rattle.flows.proofs.Lists.{values-long, values-at}
-use Rattle.flows.proofs.Nets.{inside}
+use Rattle.flow_def.specs.Labels.{labelsOf, oneLabel}
+use Rattle.flow_def.proofs.Lists.{values-long, values-at}
+use Rattle.flow_def.proofs.Nets.{inside}
 use Rattle.forests.specs.Metering.{chosen}
-use Rattle.purchases.specs.declared.Bought.{Bought}
-use Rattle.purchases.specs.Purchases.{maxPrice, pricesTo, priceOf, numbersFrom}
-use Rattle.purchases.specs.Says.{noneBought, boughtOf}
-use Rattle.purchases.specs.Choosing.{dearer, bought, toBuy}
-use Rattle.purchases.proofs.Sets.{bought-by-labels, sum-most, prices-same}
+use Rattle.purchase_def.specs.declared.Bought.{Bought}
+use Rattle.purchase_def.specs.Purchases.{maxPrice, pricesTo, priceOf, numbersFrom}
+use Rattle.purchase_def.specs.Says.{noneBought, boughtOf}
+use Rattle.purchase_def.specs.Choosing.{dearer, bought, toBuy}
+use Rattle.purchase_def.proofs.Sets.{bought-by-labels, sum-most, prices-same}
 
 -- A metered stream is not bought; another by the labels of those that go before it.
 module _ (p : Arrays.Plant) (a : Accepted p) (price : ℕ → ℕ) (i : ℕ) (l : i < p .count) where

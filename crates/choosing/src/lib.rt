@@ -6,19 +6,19 @@ use plants::Plant;
 use plants::Stream;
 use plants::limits::MAX_STREAMS;
 use plants::limits::PLACES;
-use purchases::Bought;
+use purchase_def::Bought;
 use ranking::counts;
 ghost use mathlib.Core.Path.{_≡_};
 ghost use Prim.Native.Nat.{ℕ, _+_, _<_, _≤_, _^_};
 ghost use lib.ListN.{length, getD, set};
-ghost use Rattle.numbers.specs.Choice.{pick};
+ghost use Rattle.num_bytes.specs.Choice.{pick};
 ghost use Rattle.plants.specs.Limits.{maxStreams};
 ghost use Rattle.plants.specs.Within.{Accepted};
 ghost use Rattle.plants.specs.Says.{plantOf};
-ghost use Rattle.flows.specs.Labels.{labelsOf};
-ghost use Rattle.purchases.specs.Purchases.{maxPrice};
-ghost use Rattle.purchases.specs.Says.{noneBought, boughtOf};
-ghost use Rattle.purchases.specs.Choosing.{dearer, bought, toBuy};
+ghost use Rattle.flow_def.specs.Labels.{labelsOf};
+ghost use Rattle.purchase_def.specs.Purchases.{maxPrice};
+ghost use Rattle.purchase_def.specs.Says.{noneBought, boughtOf};
+ghost use Rattle.purchase_def.specs.Choosing.{dearer, bought, toBuy};
 
 // A refusal buys nothing.
 pub fn refused(number: u8) -> Bought

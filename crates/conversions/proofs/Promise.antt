@@ -5,7 +5,7 @@ use Prim.Native.Nat.{ℕ, _<_, _≤_}
 use native.Mathlib.Omega.{arith}
 use lib.ListN.{length}
 use borrow.Author.Tests.{lt-ltb, le-ltb, ne-eqb}
-use Rattle.numbers.specs.Bytes.{over}
+use Rattle.num_bytes.specs.Bytes.{over}
 use Rattle.plants.specs.declared.Read.{Read}
 use Rattle.plants.specs.declared.Done.{Done}
 use Rattle.plants.specs.declared.Plant as Arrays

@@ -3,7 +3,7 @@ use mathlib.Core.List.{List, []}
 use Prim.Native.Nat.{ℕ}
 use lib.Dec.{ltb}
 use lib.ListN.{length}
-use Rattle.numbers.specs.Choice.{refuseIf, firstOf}
+use Rattle.num_bytes.specs.Choice.{refuseIf, firstOf}
 use Rattle.plants.specs.declared.Done.{Done}
 use Rattle.plants.specs.Limits.{longestFile}
 use Rattle.plants.specs.Files.{Got, bad, got, plantBytes}

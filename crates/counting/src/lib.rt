@@ -4,14 +4,14 @@ use groups::own_numbers;
 use groups::step;
 use plants::Plant;
 use plants::Stream;
-use surveys::MAX_SURVEYED;
-use surveys::SURVEY_SIZE;
+use survey_def::MAX_SURVEYED;
+use survey_def::SURVEY_SIZE;
 ghost use mathlib.Core.Path.{_≡_};
 ghost use Prim.Native.Nat.{ℕ, _^_, _≤_, _<_};
 ghost use lib.ListN.{length, getD, take};
 ghost use Rattle.plants.specs.Within.{Accepted};
-ghost use Rattle.surveys.specs.Says.{maxSurveyed, surveySize};
-ghost use Rattle.surveys.specs.Inner.{eachMeets, ones, countBelow, Few};
+ghost use Rattle.survey_def.specs.Says.{maxSurveyed, surveySize};
+ghost use Rattle.survey_def.specs.Inner.{eachMeets, ones, countBelow, Few};
 
 // The first streams of a plant, as many as are surveyed.
 pub fn first_streams(plant: Plant) -> [Stream; MAX_SURVEYED]

@@ -1,5 +1,5 @@
 // The streams that join two groups, in one pass over the streams.
-use flows::Cuts;
+use flow_def::Cuts;
 use plants::Plant;
 use plants::Stream;
 use plants::limits::MAX_STREAMS;
@@ -10,9 +10,9 @@ ghost use Prim.Native.Nat.{_<_};
 ghost use lib.ListN.{length};
 ghost use Rattle.plants.specs.Limits.{maxUnits, places};
 ghost use Rattle.plants.specs.Within.{WithinStream, Accepted};
-ghost use Rattle.flows.specs.Groups.{StepSays};
-ghost use Rattle.flows.specs.Sides.{loopedBy, parted};
-ghost use Rattle.flows.specs.Calls.{Cutting};
+ghost use Rattle.flow_def.specs.Groups.{StepSays};
+ghost use Rattle.flow_def.specs.Sides.{loopedBy, parted};
+ghost use Rattle.flow_def.specs.Calls.{Cutting};
 
 // One stream more, which takes label h away: labels and sides after it, and the bits of the streams that lie on a loop with it.
 fn pass(labels: &mut [u8; PLACES], sides: &mut [u64; PLACES], s: Stream, h: u8) -> u64

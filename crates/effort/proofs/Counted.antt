@@ -12,31 +12,31 @@ use borrow.Author.Tests.{leb-true, leb-false}
 use lib.Dec.{leb}
 use lib.ListN.{length, getD}
 use lib.Pow.{pow-pos}
-use Rattle.numbers.specs.Choice.{pick}
-use Rattle.numbers.proofs.Tests.{by-cases}
+use Rattle.num_bytes.specs.Choice.{pick}
+use Rattle.num_bytes.proofs.Tests.{by-cases}
 use Rattle.plants.specs.declared.Stream.{Stream}
 use Rattle.plants.specs.Limits.{maxUnits, places, maxStreams}
-use Rattle.flows.specs.Flows.{streamAt}
-use Rattle.flows.specs.Certificate.{weightOf}
-use Rattle.flows.proofs.Integers.{up, dn, Le, plus-val, minus-val}
-use Rattle.flows.proofs.Sums.{sum}
-use Rattle.flows.proofs.Nets.{nets-sum}
-use Rattle.model.specs.Sizes.{flowShift, netShift, mostStep, mostOver, mostTried, halvings, settledRoom}
-use Rattle.model.specs.Held.{unshifted, readingOf, lowOf, highOf, Held}
-use Rattle.model.specs.declared.Hint.{Hint}
-use Rattle.model.specs.declared.State.{State}
-use Rattle.model.specs.declared.Ended.{Ended}
-use Rattle.model.specs.Model.{phase, settled, asHint, noHint, overSum, stepsOver}
-use Rattle.model.specs.SolverNeeds.{AtHint, Sound, Underway}
-use Rattle.model.proofs.Amounts.{net, unshifted-val}
-use Rattle.model.proofs.Bounds.{weight-some}
-use Rattle.model.proofs.Streams.{Solvable}
-use Rattle.model.proofs.Sums.{sum-holds}
-use Rattle.model.proofs.Overs.{over-moved}
-use Rattle.model.proofs.Nearest.{ys, sound-over, settled-one, settled-free, settled-over, again-start}
-use Rattle.model.proofs.Steady.{steps-over}
-use Rattle.model.proofs.Phases.{Phased, Stage, stage-underway, stage-phased, stage-next}
-use Rattle.model.proofs.Ending.{none-stage, none-over, hint-underway}
+use Rattle.flow_def.specs.Flows.{streamAt}
+use Rattle.flow_def.specs.Certificate.{weightOf}
+use Rattle.flow_def.proofs.Integers.{up, dn, Le, plus-val, minus-val}
+use Rattle.flow_def.proofs.Sums.{sum}
+use Rattle.flow_def.proofs.Nets.{nets-sum}
+use Rattle.solve_def.specs.Sizes.{flowShift, netShift, mostStep, mostOver, mostTried, halvings, settledRoom}
+use Rattle.solve_def.specs.Held.{unshifted, readingOf, lowOf, highOf, Held}
+use Rattle.solve_def.specs.declared.Hint.{Hint}
+use Rattle.solve_def.specs.declared.State.{State}
+use Rattle.solve_def.specs.declared.Ended.{Ended}
+use Rattle.solve_def.specs.Model.{phase, settled, asHint, noHint, overSum, stepsOver}
+use Rattle.solve_def.specs.SolverNeeds.{AtHint, Sound, Underway}
+use Rattle.solve_def.proofs.Amounts.{net, unshifted-val}
+use Rattle.solve_def.proofs.Bounds.{weight-some}
+use Rattle.solve_def.proofs.Streams.{Solvable}
+use Rattle.solve_def.proofs.Sums.{sum-holds}
+use Rattle.solve_def.proofs.Overs.{over-moved}
+use Rattle.solve_def.proofs.Nearest.{ys, sound-over, settled-one, settled-free, settled-over, again-start}
+use Rattle.solve_def.proofs.Steady.{steps-over}
+use Rattle.solve_def.proofs.Phases.{Phased, Stage, stage-underway, stage-phased, stage-next}
+use Rattle.solve_def.proofs.Ending.{none-stage, none-over, hint-underway}
 use Rattle.effort.specs.Made.{madeTo, stuckTo, madeBy, stuckBy, made, stuck}
 use Rattle.effort.specs.Few.{Few}
 use Rattle.effort.proofs.Paces.{phase-made, phase-stuck}

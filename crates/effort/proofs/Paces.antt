@@ -8,20 +8,20 @@ use native.Mathlib.Nat.{div-eq-of-lt}
 use native.Mathlib.Omega.{arith}
 use native.Mathlib.Decide.{ℕ-discrete}
 use lib.ListN.{getD}
-use Rattle.numbers.specs.Choice.{pick}
-use Rattle.numbers.proofs.Tests.{by-cases}
+use Rattle.num_bytes.specs.Choice.{pick}
+use Rattle.num_bytes.proofs.Tests.{by-cases}
 use Rattle.plants.specs.declared.Stream.{Stream}
 use Rattle.plants.specs.Limits.{places}
-use Rattle.model.specs.Sizes.{netShift, settledRoom}
-use Rattle.model.specs.declared.State.{State}
-use Rattle.model.specs.declared.Ended.{Ended}
-use Rattle.model.specs.Full.{overfull}
-use Rattle.model.specs.Model.{Improved, improvedAt, fromPlace, phaseTo, going, endedBy, stepsOver}
-use Rattle.model.specs.SolverNeeds.{Step, Underway}
-use Rattle.model.proofs.Streams.{Solvable}
-use Rattle.model.proofs.Steady.{underway-room, Outcome, better, jammed, improved-good}
-use Rattle.model.proofs.Phases.{Left, from-left, Phased, phased, underway-more}
-use Rattle.model.proofs.PhaseTurns.{Running, running-start}
+use Rattle.solve_def.specs.Sizes.{netShift, settledRoom}
+use Rattle.solve_def.specs.declared.State.{State}
+use Rattle.solve_def.specs.declared.Ended.{Ended}
+use Rattle.solve_def.specs.Full.{overfull}
+use Rattle.solve_def.specs.Model.{Improved, improvedAt, fromPlace, phaseTo, going, endedBy, stepsOver}
+use Rattle.solve_def.specs.SolverNeeds.{Step, Underway}
+use Rattle.solve_def.proofs.Streams.{Solvable}
+use Rattle.solve_def.proofs.Steady.{underway-room, Outcome, better, jammed, improved-good}
+use Rattle.solve_def.proofs.Phases.{Left, from-left, Phased, phased, underway-more}
+use Rattle.solve_def.proofs.PhaseTurns.{Running, running-start}
 use Rattle.effort.specs.Made.{madeFrom, stuckFrom, madeTo, stuckTo}
 
 module _ (ss : List Stream) (v : Solvable ss) (d t : ℕ) (step : Step d) (fits : t ≤ settledRoom) where

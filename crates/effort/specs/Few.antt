@@ -2,9 +2,9 @@
 use mathlib.Core.List.{List}
 use Prim.Native.Nat.{ℕ, _≤_}
 use Rattle.plants.specs.declared.Stream.{Stream}
-use Rattle.model.specs.Sizes.{mostTried}
-use Rattle.model.specs.declared.State.{State}
-use Rattle.model.specs.Model.{overSum}
+use Rattle.solve_def.specs.Sizes.{mostTried}
+use Rattle.solve_def.specs.declared.State.{State}
+use Rattle.solve_def.specs.Model.{overSum}
 use Rattle.effort.specs.Made.{made, stuck}
 
 -- The first phase makes 357 improvements at most, each of the 29 others 6,335; in each at most 32 searches are stuck.

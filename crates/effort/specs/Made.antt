@@ -3,13 +3,13 @@ use mathlib.Core.List.{List}
 use Prim.Native.Nat.{ℕ, zero, suc, _+_, _-_, _/_, _^_}
 use lib.Dec.{leb}
 use lib.ListN.{getD}
-use Rattle.numbers.specs.Choice.{pick}
+use Rattle.num_bytes.specs.Choice.{pick}
 use Rattle.plants.specs.declared.Stream.{Stream}
 use Rattle.plants.specs.Limits.{places}
-use Rattle.model.specs.Sizes.{netShift, mostTried, halvings}
-use Rattle.model.specs.declared.Hint.{Hint}
-use Rattle.model.specs.declared.State.{State}
-use Rattle.model.specs.Model.{improvedAt, phaseTo, phase, settled, asHint, noHint, overSum}
+use Rattle.solve_def.specs.Sizes.{netShift, mostTried, halvings}
+use Rattle.solve_def.specs.declared.Hint.{Hint}
+use Rattle.solve_def.specs.declared.State.{State}
+use Rattle.solve_def.specs.Model.{improvedAt, phaseTo, phase, settled, asHint, noHint, overSum}
 
 -- From place s, of k attempts at step d at most: those that succeed; and 1 where one does not, which ends them.
 unfoldable pub madeFrom : ℕ → List Stream → ℕ → ℕ → State → ℕ

@@ -4,13 +4,13 @@ use mathlib.Core.List.{List}
 use lib.IntN.{ℤ}
 use lib.ListN.{getD}
 use Rattle.plants.specs.Limits.{maxStreams}
-use Rattle.flows.specs.declared.Class.{Class}
-use Rattle.flows.specs.declared.Class.the-variants.{Adjusted}
-use Rattle.flows.specs.Flows.{amountAt}
-use Rattle.flows.proofs.Lists.{values-long, values-at, Written, written-all}
-use Rattle.sheets.specs.declared.Entry.{Entry}
-use Rattle.sheets.specs.Balances.{entryOf}
-use Rattle.sheets.specs.Calls.{entriesOf}
+use Rattle.flow_def.specs.declared.Class.{Class}
+use Rattle.flow_def.specs.declared.Class.the-variants.{Adjusted}
+use Rattle.flow_def.specs.Flows.{amountAt}
+use Rattle.flow_def.proofs.Lists.{values-long, values-at, Written, written-all}
+use Rattle.sheet_def.specs.declared.Entry.{Entry}
+use Rattle.sheet_def.specs.Balances.{entryOf}
+use Rattle.sheet_def.specs.Calls.{entriesOf}
 
 -- An entry under its class and with its flow.
 pub entry-as : (c : Class) {d : Class} {x y : ℤ} → d ≡ c → x ≡ y → entryOf c x ≡ entryOf d y

@@ -10,11 +10,11 @@ use mir.Val.{SFits, toZ, hbits}
 use mir.Facts.{toZ-pos}
 use borrow.Author.Needs.{sfits-of}
 use Rattle.plants.specs.Limits.{maxStreams}
-use Rattle.flows.proofs.Integers.{up, dn}
-use Rattle.flows.proofs.Lists.{map-at, Written, written-all}
-use Rattle.model.specs.Sizes.{flowShift, mostFlow}
-use Rattle.model.specs.Held.{unshifted}
-use Rattle.model.proofs.Amounts.{unshifted-val}
+use Rattle.flow_def.proofs.Integers.{up, dn}
+use Rattle.flow_def.proofs.Lists.{map-at, Written, written-all}
+use Rattle.solve_def.specs.Sizes.{flowShift, mostFlow}
+use Rattle.solve_def.specs.Held.{unshifted}
+use Rattle.solve_def.proofs.Amounts.{unshifted-val}
 
 -- A held amount, the shift taken away, fits.
 pub opened-here : (x : ℕ) → x ≤ mostFlow → toZ w64 x -ℤ toZ w64 flowShift ≡ unshifted x

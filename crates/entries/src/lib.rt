@@ -1,22 +1,22 @@
 // The entries of all streams: their classes, and the flows that the solver holds, opened.
-use classes;
-use flows::Class;
-use flows::Cuts;
-use model::sizes::FLOW_SHIFT;
+use flow_classes;
+use flow_def::Class;
+use flow_def::Cuts;
 use plants::Plant;
 use plants::limits::MAX_STREAMS;
-use sheets::Entry;
+use sheet_def::Entry;
+use solve_def::sizes::FLOW_SHIFT;
 ghost use mathlib.Core.Path.{_≡_};
 ghost use mathlib.Core.List.{map};
 ghost use Prim.Native.Nat.{_≤_};
 ghost use Rattle.plants.specs.Within.{Accepted};
 ghost use Rattle.plants.specs.Says.{plantOf};
-ghost use Rattle.flows.specs.Calls.{Cutting, classesOf};
-ghost use Rattle.model.specs.Sizes.{mostFlow};
-ghost use Rattle.model.specs.Held.{unshifted};
-ghost use Rattle.model.specs.SolverNeeds.{Amounts};
-ghost use Rattle.sheets.specs.Balances.{entryOf};
-ghost use Rattle.sheets.specs.Calls.{entriesOf};
+ghost use Rattle.flow_def.specs.Calls.{Cutting, classesOf};
+ghost use Rattle.solve_def.specs.Sizes.{mostFlow};
+ghost use Rattle.solve_def.specs.Held.{unshifted};
+ghost use Rattle.solve_def.specs.SolverNeeds.{Amounts};
+ghost use Rattle.sheet_def.specs.Balances.{entryOf};
+ghost use Rattle.sheet_def.specs.Calls.{entriesOf};
 
 // The flow that the solver holds as x.
 fn opened_flow(x: u64) -> i64
@@ -53,7 +53,7 @@ pub fn classes_of(p: Plant, cuts: Cuts) -> [Class; MAX_STREAMS]
     let mut i: usize = 0;
     while i < n {
         let s = p.streams[i];
-        let c = classes::class_of(&labels, s, taken[i], cuts.looped);
+        let c = flow_classes::class_of(&labels, s, taken[i], cuts.looped);
         r[i] = c;
         i += 1;
     }

@@ -1,5 +1,5 @@
 // Numbers of the places of a plant file, with which its sheets pass the check: the call, and the same in a lent slice.
-use flows::Which;
+use flow_def::Which;
 use foreign_def::PlaceNumbers;
 use foreign_prices::no_numbers;
 use foreign_prices::numbers_by;
@@ -7,7 +7,7 @@ use plants::limits::PLACES;
 ghost use mathlib.Core.Path.{_≡_};
 ghost use Prim.Native.Nat.{_≤_};
 ghost use lib.ListN.{length, take};
-ghost use Rattle.numbers.specs.Bytes.{over};
+ghost use Rattle.num_bytes.specs.Bytes.{over};
 ghost use Rattle.plants.specs.Limits.{places};
 ghost use Rattle.foreign_def.specs.Numbers.{NumbersSay, NumbersLent};
 

@@ -15,11 +15,11 @@ use Rattle.plants.specs.Limits.{places}
 use Rattle.plants.specs.Within.{Accepted}
 use Rattle.plants.specs.Says.{plantOf}
 use Rattle.plants.proofs.Arrayed.{within-of}
-use Rattle.flows.proofs.Lists.{Written}
-use Rattle.model.specs.Sizes.{priceShift}
-use Rattle.model.specs.declared.Solved.{Solved}
-use Rattle.model.specs.Promise.{flowOf, Solution}
-use Rattle.costs.proofs.Costing.{size-fits, minus-size}
+use Rattle.flow_def.proofs.Lists.{Written}
+use Rattle.solve_def.specs.Sizes.{priceShift}
+use Rattle.solve_def.specs.declared.Solved.{Solved}
+use Rattle.solve_def.specs.Promise.{flowOf, Solution}
+use Rattle.sheet_cost.proofs.Costing.{size-fits, minus-size}
 use Rattle.foreign_def.specs.Numbers.{NumbersOf}
 use Rattle.foreign_def.specs.Test.{priceFrom, PricedBy}
 use Rattle.foreign_def.proofs.Every.{zeros}

@@ -1,17 +1,17 @@
 // Numbers of the places by what the solver found. It stands below the solver, and is handed what that hands over.
 use foreign_def::PlaceNumbers;
-use model::Solved;
 use plants::Plant;
 use plants::limits::PLACES;
+use solve_def::Solved;
 ghost use mathlib.Core.Path.{_≡_};
 ghost use lib.IntN.{pos, _-ℤ_};
 ghost use Prim.Native.Nat.{_≤_};
 ghost use Rattle.plants.specs.Limits.{maxUnits};
 ghost use Rattle.plants.specs.Within.{Accepted};
 ghost use Rattle.plants.specs.Says.{plantOf};
-ghost use Rattle.model.specs.Sizes.{priceShift};
-ghost use Rattle.model.specs.SearchNeeds.{Prices};
-ghost use Rattle.model.specs.Promise.{Right};
+ghost use Rattle.solve_def.specs.Sizes.{priceShift};
+ghost use Rattle.solve_def.specs.SearchNeeds.{Prices};
+ghost use Rattle.solve_def.specs.Promise.{Right};
 ghost use Rattle.foreign_def.specs.Numbers.{noNumbers, NumbersOf};
 ghost use Rattle.foreign_def.specs.Test.{PricedBy};
 

@@ -1,5 +1,5 @@
 // The sets of places that W streams join, by labels, and the known flows into each, less those out of it.
-use flows::Class;
+use flow_def::Class;
 use groups::own_numbers;
 use groups::step;
 use plants::Plant;
@@ -12,10 +12,10 @@ ghost use lib.ListN.{length};
 ghost use Rattle.plants.specs.Limits.{places};
 ghost use Rattle.plants.specs.Within.{Accepted};
 ghost use Rattle.plants.specs.Says.{plantOf};
-ghost use Rattle.flows.specs.Flows.{amountAt};
-ghost use Rattle.flows.specs.Labels.{labelsOf};
-ghost use Rattle.flows.specs.Calls.{classesOf};
-ghost use Rattle.sheets.specs.Calls.{AllSmall};
+ghost use Rattle.flow_def.specs.Flows.{amountAt};
+ghost use Rattle.flow_def.specs.Labels.{labelsOf};
+ghost use Rattle.flow_def.specs.Calls.{classesOf};
+ghost use Rattle.sheet_def.specs.Calls.{AllSmall};
 ghost use Rattle.foreign_def.specs.Passing.{known};
 ghost use Rattle.foreign_def.specs.Test.{withheldOnly, ArePlaces, Nets, Moved, Roomy, netsFit};
 

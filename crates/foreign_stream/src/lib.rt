@@ -8,9 +8,9 @@ ghost use Prim.Native.Nat.{_≤_, _^_};
 ghost use Rattle.plants.specs.Limits.{maxUnits, maxWeight};
 ghost use Rattle.plants.specs.Plants.{limited};
 ghost use Rattle.plants.specs.Within.{WithinStream};
-ghost use Rattle.flows.specs.Flows.{inRange};
-ghost use Rattle.flows.specs.Certificate.{weightOf, rises, falls, lower, upper, leastClimb, mostClimb};
-ghost use Rattle.sheets.specs.Calls.{Small};
+ghost use Rattle.flow_def.specs.Flows.{inRange};
+ghost use Rattle.flow_def.specs.Certificate.{weightOf, rises, falls, lower, upper, leastClimb, mostClimb};
+ghost use Rattle.sheet_def.specs.Calls.{Small};
 ghost use Rattle.foreign_def.specs.Test.{flowFits};
 
 // Whether a stream has a range.

@@ -4,19 +4,19 @@ use mathlib.Core.Logic.{_↔_}
 use Prim.Native.Nat.{ℕ, _<_}
 use borrow.Author.Tests.{not-true}
 use lib.ListN.{length}
-use Rattle.numbers.proofs.Tests.{by-cases}
+use Rattle.num_bytes.proofs.Tests.{by-cases}
 use Rattle.plants.specs.Limits.{maxUnits}
 use Rattle.plants.specs.Plants.{Plant}
 use Rattle.plants.specs.Within.{Within}
-use Rattle.flows.specs.declared.Class.the-variants.{Withheld}
-use Rattle.flows.specs.Flows.{streamAt}
-use Rattle.flows.specs.Chains.{unmeteredOnly}
-use Rattle.flows.specs.Classes.{unmeteredBut, onLoop, classOf}
-use Rattle.flows.specs.Shown.{Unmetered}
-use Rattle.flows.proofs.Nets.{inside}
-use Rattle.flows.proofs.Reach.{joined→chain, chain→joined}
-use Rattle.flows.proofs.Given.{class-means}
-use Rattle.flows.proofs.Withheld.{number-of, blank-of}
+use Rattle.flow_def.specs.declared.Class.the-variants.{Withheld}
+use Rattle.flow_def.specs.Flows.{streamAt}
+use Rattle.flow_def.specs.Chains.{unmeteredOnly}
+use Rattle.flow_def.specs.Classes.{unmeteredBut, onLoop, classOf}
+use Rattle.flow_def.specs.Shown.{Unmetered}
+use Rattle.flow_def.proofs.Nets.{inside}
+use Rattle.flow_def.proofs.Reach.{joined→chain, chain→joined}
+use Rattle.flow_def.proofs.Given.{class-means}
+use Rattle.flow_def.proofs.Withheld.{number-of, blank-of}
 use Rattle.forests.specs.Withheld.{NoneWithheld}
 use Rattle.forests.specs.Loops.{AllJoin}
 use Rattle.forests.proofs.Ranks.{Free, free-joins, joins-free}

@@ -5,9 +5,9 @@ use mathlib.Core.List.{List}
 use Prim.Native.Nat.{ℕ, _<_}
 use lib.ListN.{length}
 use Rattle.plants.specs.declared.Stream.{Stream}
-use Rattle.flows.specs.Flows.{streamAt}
-use Rattle.flows.specs.Chains.{Counting, Chain}
-use Rattle.flows.proofs.Reach.{chain-trans, chain-sym}
+use Rattle.flow_def.specs.Flows.{streamAt}
+use Rattle.flow_def.specs.Chains.{Counting, Chain}
+use Rattle.flow_def.proofs.Reach.{chain-trans, chain-sym}
 
 -- The ends of each stream that counts in the one way are joined by those that count in the other.
 abbrev pub Spans : Counting → Counting → List Stream → Type 0

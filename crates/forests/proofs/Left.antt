@@ -6,12 +6,12 @@ use Prim.Native.Nat.{ℕ, zero, suc, _≤_, _<_}
 use native.Mathlib.Omega.{arith}
 use lib.Dec.{eqb}
 use lib.ListN.{length}
-use Rattle.numbers.specs.Choice.{pick}
+use Rattle.num_bytes.specs.Choice.{pick}
 use Rattle.plants.specs.declared.Stream.{Stream}
 use Rattle.plants.specs.Plants.{Plant}
 use Rattle.plants.specs.Within.{WithinStream, Within}
-use Rattle.flows.specs.Flows.{streamAt}
-use Rattle.flows.specs.Chains.{Counting, Chain, unmeteredOnly}
+use Rattle.flow_def.specs.Flows.{streamAt}
+use Rattle.flow_def.specs.Chains.{Counting, Chain, unmeteredOnly}
 use Rattle.forests.specs.Withheld.{NoneWithheld}
 use Rattle.forests.specs.Metering.{chosen, meter, meterAll, metering}
 use Rattle.forests.specs.Loops.{but, left}

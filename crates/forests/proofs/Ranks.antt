@@ -9,17 +9,17 @@ use native.Mathlib.Decide.{decLe, ℕ-discrete}
 use borrow.Author.Tests.{eqb-true, eqb-false, eq-eqb, ne-eqb, ltb-true, leb-true, leb-false, le-leb, lt-leb}
 use lib.Dec.{eqb, ltb, leb}
 use lib.ListN.{length, getD}
-use Rattle.numbers.proofs.Tests.{by-cases, and-left, and-right, and-both}
+use Rattle.num_bytes.proofs.Tests.{by-cases, and-left, and-right, and-both}
 use Rattle.plants.specs.declared.Stream.{Stream}
 use Rattle.plants.specs.Limits.{maxUnits, places}
 use Rattle.plants.specs.Plants.{Plant}
-use Rattle.flows.specs.Flows.{streamAt}
-use Rattle.flows.specs.Chains.{Counting, Chain}
-use Rattle.flows.specs.Labels.{renamed, relabelled, united, stepped, labelsAfter, labelsOf, oneLabel, ownLabels}
-use Rattle.flows.specs.Groups.{firstOnly}
-use Rattle.flows.proofs.Lists.{map-at}
-use Rattle.flows.proofs.Reach.{Inside, bit-mono, chain-map, joined→chain, chain→joined}
-use Rattle.flows.proofs.Labels.{Labelling, labelling, label→chain, label-member, label-low, label-lowest, stepped-one}
+use Rattle.flow_def.specs.Flows.{streamAt}
+use Rattle.flow_def.specs.Chains.{Counting, Chain}
+use Rattle.flow_def.specs.Labels.{renamed, relabelled, united, stepped, labelsAfter, labelsOf, oneLabel, ownLabels}
+use Rattle.flow_def.specs.Groups.{firstOnly}
+use Rattle.flow_def.proofs.Lists.{map-at}
+use Rattle.flow_def.proofs.Reach.{Inside, bit-mono, chain-map, joined→chain, chain→joined}
+use Rattle.flow_def.proofs.Labels.{Labelling, labelling, label→chain, label-member, label-low, label-lowest, stepped-one}
 use Rattle.forests.specs.Loops.{countTo, but, joins, AllJoin}
 use Rattle.forests.proofs.Counts.{one, count-le, count-same, count-but}
 use Rattle.forests.proofs.Chains.{Spans, chain-bind}

@@ -5,11 +5,11 @@ use mathlib.Core.List.{List}
 use Prim.Native.Nat.{ℕ, zero, suc, _+_, _<_}
 use lib.Dec.{eqb}
 use lib.ListN.{length}
-use Rattle.numbers.specs.Choice.{pick}
+use Rattle.num_bytes.specs.Choice.{pick}
 use Rattle.plants.specs.declared.Stream.{Stream}
-use Rattle.flows.specs.Flows.{streamAt}
-use Rattle.flows.specs.Chains.{Counting}
-use Rattle.flows.specs.Labels.{labelsAfter, oneLabel}
+use Rattle.flow_def.specs.Flows.{streamAt}
+use Rattle.flow_def.specs.Chains.{Counting}
+use Rattle.flow_def.specs.Labels.{labelsAfter, oneLabel}
 use Rattle.forests.specs.Metering.{chosen}
 
 -- How many of the numbers below n pass a test.

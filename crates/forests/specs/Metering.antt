@@ -4,7 +4,7 @@ use mathlib.Core.List.{List, [], _∷_}
 use lib.IntN.{pos}
 use Prim.Native.Nat.{ℕ}
 use lib.ListN.{getD}
-use Rattle.numbers.specs.Choice.{pick}
+use Rattle.num_bytes.specs.Choice.{pick}
 use Rattle.plants.specs.declared.Stream.{Stream}
 use Rattle.plants.specs.Plants.{Plant}
 

@@ -4,8 +4,8 @@ use mathlib.Core.List.{List}
 use lib.IntN.{ℤ}
 use Prim.Native.Nat.{ℕ}
 use Rattle.plants.specs.Plants.{Plant}
-use Rattle.flows.specs.Flows.{amountAt, Agree}
-use Rattle.flows.specs.Shown.{Unmetered}
+use Rattle.flow_def.specs.Flows.{amountAt, Agree}
+use Rattle.flow_def.specs.Shown.{Unmetered}
 
 -- On each unmetered stream every two balanced flows are equal that are equal on all metered streams.
 abbrev pub NoneWithheld : Plant → Type 0

@@ -9,20 +9,20 @@ use Prim.Native.Nat.{ℕ, _*_, _≤_, _<_}
 use native.Mathlib.Nat.{mul-le-mul, mul-le-mul-left}
 use native.Mathlib.Omega.{arith}
 use native.Mathlib.Decide.{ℕ-discrete}
-use Rattle.numbers.proofs.Tests.{by-cases, clash, and-left, and-right, picked}
+use Rattle.num_bytes.proofs.Tests.{by-cases, clash, and-left, and-right, picked}
 use Rattle.plants.specs.declared.Stream.{Stream}
 use Rattle.plants.specs.Plants.{Plant, limited}
 use Rattle.plants.specs.Within.{Within}
-use Rattle.flows.specs.Flows.{amountAt, balanced, inRange, allowedOver, square, nearest}
-use Rattle.flows.specs.Chains.{unmeteredOnly, Chain}
-use Rattle.flows.specs.Certificate.{weightOf}
-use Rattle.flows.proofs.Integers.{Le, val, parts, canon, Z·diff, minus-val, size-val, size-none, minus-none, none-minus, ltZ-lt}
-use Rattle.flows.proofs.Sums.{sum-plus, sum-tight}
-use Rattle.flows.proofs.Reach.{chain-sym}
-use Rattle.flows.proofs.Nets.{countOf, streamOf, netOf, listed, listed-at, listed-balanced, balanced-nets}
-use Rattle.flows.proofs.Routes.{only, only-at, only-off, brought-ends, net-plus, net-only, Route, route}
-use Rattle.flows.proofs.Ranges.{range-says, range-holds, nearest-in, balanced-of, range-of, allowed-of}
-use Rattle.flows.proofs.Prices.{shareOver}
+use Rattle.flow_def.specs.Flows.{amountAt, balanced, inRange, allowedOver, square, nearest}
+use Rattle.flow_def.specs.Chains.{unmeteredOnly, Chain}
+use Rattle.flow_def.specs.Certificate.{weightOf}
+use Rattle.flow_def.proofs.Integers.{Le, val, parts, canon, Z·diff, minus-val, size-val, size-none, minus-none, none-minus, ltZ-lt}
+use Rattle.flow_def.proofs.Sums.{sum-plus, sum-tight}
+use Rattle.flow_def.proofs.Reach.{chain-sym}
+use Rattle.flow_def.proofs.Nets.{countOf, streamOf, netOf, listed, listed-at, listed-balanced, balanced-nets}
+use Rattle.flow_def.proofs.Routes.{only, only-at, only-off, brought-ends, net-plus, net-only, Route, route}
+use Rattle.flow_def.proofs.Ranges.{range-says, range-holds, nearest-in, balanced-of, range-of, allowed-of}
+use Rattle.flow_def.proofs.Prices.{shareOver}
 use Rattle.fractions.specs.Least.{LeastInFractions}
 use Rattle.fractions.proofs.Mixing.{times-le, times-range}
 use Rattle.fractions.proofs.Near.{no-square, cost-sum, gap-at, gap-cost}

@@ -6,12 +6,12 @@ use lib.IntN.{ℤ, pos, _+ℤ_, _-ℤ_, _*ℤ_}
 use Prim.Native.Nat.{ℕ, zero, suc, _+_, _*_, _≤_, _<_}
 use native.Mathlib.Omega.{arith}
 use native.Mathlib.Decide.{ℕ-discrete}
-use Rattle.numbers.specs.Choice.{pick}
+use Rattle.num_bytes.specs.Choice.{pick}
 use Rattle.plants.specs.declared.Stream.{Stream}
-use Rattle.flows.specs.Flows.{streamAt, amountAt, square}
-use Rattle.flows.specs.Certificate.{weightOf}
-use Rattle.flows.proofs.Sums.{sum}
-use Rattle.flows.proofs.Prices.{weighed}
+use Rattle.flow_def.specs.Flows.{streamAt, amountAt, square}
+use Rattle.flow_def.specs.Certificate.{weightOf}
+use Rattle.flow_def.proofs.Sums.{sum}
+use Rattle.flow_def.proofs.Prices.{weighed}
 use Rattle.fractions.specs.Least.{apartTo}
 
 module _ (d : ℕ) (ss : List Stream) (ys : List ℤ) where

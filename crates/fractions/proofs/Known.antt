@@ -10,19 +10,19 @@ use native.Mathlib.Nat.{mul-le-mul-left, lt-of-mul-lt-mul-left}
 use native.Mathlib.Omega.{arith}
 use borrow.Author.Tests.{eqb-true, leb-true}
 use lib.Dec.{eqb, leb}
-use Rattle.numbers.proofs.Tests.{and-left, and-right}
+use Rattle.num_bytes.proofs.Tests.{and-left, and-right}
 use Rattle.plants.specs.declared.Stream.{Stream}
 use Rattle.plants.specs.Plants.{Plant, limited, plantFault}
 use Rattle.plants.specs.Within.{Within}
 use Rattle.plants.proofs.Limited.{within}
-use Rattle.flows.specs.Flows.{amountAt, inRange, allowedOver, square, costOver}
-use Rattle.flows.specs.Certificate.{weightOf, climb, every, listedPrice}
-use Rattle.flows.proofs.Integers.{up, dn, Le, Lt, val, canon, Z·diff, plus-val, minus-val, up-times, dn-times, product, leZ-le, lt-ltZ}
-use Rattle.flows.proofs.Sums.{sum, sum-same, sum-plus, sum-times, sum-le}
-use Rattle.flows.proofs.Nets.{countOf, streamOf, balanced-size, no-gain}
-use Rattle.flows.proofs.Ranges.{asked, answered, range-says, balanced-of, range-of}
-use Rattle.flows.proofs.Prices.{shareOver, cost-is}
-use Rattle.flows.proofs.Certified.{every-at}
+use Rattle.flow_def.specs.Flows.{amountAt, inRange, allowedOver, square, costOver}
+use Rattle.flow_def.specs.Certificate.{weightOf, climb, every, listedPrice}
+use Rattle.flow_def.proofs.Integers.{up, dn, Le, Lt, val, canon, Z·diff, plus-val, minus-val, up-times, dn-times, product, leZ-le, lt-ltZ}
+use Rattle.flow_def.proofs.Sums.{sum, sum-same, sum-plus, sum-times, sum-le}
+use Rattle.flow_def.proofs.Nets.{countOf, streamOf, balanced-size, no-gain}
+use Rattle.flow_def.proofs.Ranges.{asked, answered, range-says, balanced-of, range-of}
+use Rattle.flow_def.proofs.Prices.{shareOver, cost-is}
+use Rattle.flow_def.proofs.Certified.{every-at}
 use Rattle.fractions.specs.Least.{LeastInFractions}
 use Rattle.fractions.specs.Exact.{risesOver, fallsOver, marginal, exact, exactPrices}
 use Rattle.fractions.proofs.Shares.{mixed-share, times-share, cross-from}

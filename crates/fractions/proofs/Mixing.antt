@@ -9,12 +9,12 @@ use native.Mathlib.Omega.{arith}
 use Rattle.plants.specs.declared.Stream.{Stream}
 use Rattle.plants.specs.Plants.{Plant}
 use Rattle.plants.specs.Within.{Within}
-use Rattle.flows.specs.Flows.{amountAt, balanced, inRange, allowedOver}
-use Rattle.flows.proofs.Integers.{up, dn, Le, plus-val, product}
-use Rattle.flows.proofs.Nets.{countOf, streamOf, listed, listed-at, listed-balanced, balanced-nets}
-use Rattle.flows.proofs.Routes.{net-plus}
-use Rattle.flows.proofs.Chained.{times-balanced}
-use Rattle.flows.proofs.Ranges.{range-says, range-holds, balanced-of, range-of, allowed-of}
+use Rattle.flow_def.specs.Flows.{amountAt, balanced, inRange, allowedOver}
+use Rattle.flow_def.proofs.Integers.{up, dn, Le, plus-val, product}
+use Rattle.flow_def.proofs.Nets.{countOf, streamOf, listed, listed-at, listed-balanced, balanced-nets}
+use Rattle.flow_def.proofs.Routes.{net-plus}
+use Rattle.flow_def.proofs.Chained.{times-balanced}
+use Rattle.flow_def.proofs.Ranges.{range-says, range-holds, balanced-of, range-of, allowed-of}
 
 -- An order, so many times, and mixed with another.
 pub times-le : (c : ℕ) (a x : ℤ) → Le a x → Le (pos c *ℤ a) (pos c *ℤ x)

@@ -11,13 +11,13 @@ use native.Mathlib.Decide.{decLe}
 use Rattle.plants.specs.declared.Stream.{Stream}
 use Rattle.plants.specs.Plants.{Plant}
 use Rattle.plants.specs.Within.{Within}
-use Rattle.flows.specs.Flows.{amountAt, allowedOver, allowed, square, cost, costOver}
-use Rattle.flows.specs.Certificate.{weightOf}
-use Rattle.flows.proofs.Integers.{up, dn, Le, val, canon, Z·diff, Le-unless, size-none, minus-none, plus-val}
-use Rattle.flows.proofs.Sums.{sum, sum-same, sum-none, sum-plus, sum-times, sum-tight}
-use Rattle.flows.proofs.Nets.{countOf, streamOf, listed-size, balanced-size}
-use Rattle.flows.proofs.Ranges.{balanced-of}
-use Rattle.flows.proofs.Prices.{shareOver, weighed, cost-is}
+use Rattle.flow_def.specs.Flows.{amountAt, allowedOver, allowed, square, cost, costOver}
+use Rattle.flow_def.specs.Certificate.{weightOf}
+use Rattle.flow_def.proofs.Integers.{up, dn, Le, val, canon, Z·diff, Le-unless, size-none, minus-none, plus-val}
+use Rattle.flow_def.proofs.Sums.{sum, sum-same, sum-none, sum-plus, sum-times, sum-tight}
+use Rattle.flow_def.proofs.Nets.{countOf, streamOf, listed-size, balanced-size}
+use Rattle.flow_def.proofs.Ranges.{balanced-of}
+use Rattle.flow_def.proofs.Prices.{shareOver, weighed, cost-is}
 use Rattle.fractions.specs.Least.{LeastInFractions, apart}
 use Rattle.fractions.proofs.Shares.{mixed-share, gap-share, times-share, times-from, mixed-from, gap-from}
 use Rattle.fractions.proofs.Distance.{apart-is}

@@ -3,8 +3,8 @@ use mathlib.Core.Path.{_≡_, sym, _∙_, ap, ap₂}
 use lib.IntN.{ℤ, pos, _+ℤ_, _-ℤ_, _*ℤ_}
 use Prim.Native.Nat.{ℕ, suc, _*_}
 use native.Mathlib.Omega.{arith}
-use Rattle.flows.specs.Flows.{square}
-use Rattle.flows.proofs.Integers.{canon, Z·diff, square-is}
+use Rattle.flow_def.specs.Flows.{square}
+use Rattle.flow_def.proofs.Integers.{canon, Z·diff, square-is}
 
 weighed-square : (w : ℕ) (x : ℤ) → pos (w * square x) ≡ pos w *ℤ (x *ℤ x)
 weighed-square w x = ap (λ (z : ℤ). pos w *ℤ z) (square-is x)

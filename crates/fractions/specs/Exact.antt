@@ -8,8 +8,8 @@ use lib.Dec.{eqb, leb}
 use lib.ListN.{length}
 use Rattle.plants.specs.declared.Stream.{Stream}
 use Rattle.plants.specs.Plants.{Plant, limited, plantFault}
-use Rattle.flows.specs.Flows.{streamAt, amountAt, allowedOver}
-use Rattle.flows.specs.Certificate.{weightOf, climb, every, listedPrice}
+use Rattle.flow_def.specs.Flows.{streamAt, amountAt, allowedOver}
+use Rattle.flow_def.specs.Certificate.{weightOf, climb, every, listedPrice}
 
 -- More, or less, than an amount over d is in the stream's range.
 abbrev pub risesOver : ℕ → Stream → ℤ → Bool

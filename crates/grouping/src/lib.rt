@@ -1,5 +1,5 @@
 // The groups of a plant, in one pass over its streams.
-use flows::Which;
+use flow_def::Which;
 use groups::own_numbers;
 use groups::step;
 use plants::Plant;
@@ -9,8 +9,8 @@ ghost use mathlib.Core.Path.{_≡_};
 ghost use Prim.Native.Nat.{ℕ};
 ghost use Rattle.plants.specs.Within.{Accepted};
 ghost use Rattle.plants.specs.Says.{plantOf};
-ghost use Rattle.flows.specs.Groups.{Groups};
-ghost use Rattle.flows.specs.Calls.{counting};
+ghost use Rattle.flow_def.specs.Groups.{Groups};
+ghost use Rattle.flow_def.specs.Calls.{counting};
 
 // Whether a stream counts, whatever its number.
 fn counts(which: Which, s: Stream) -> bool

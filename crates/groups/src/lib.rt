@@ -6,8 +6,8 @@ ghost use Prim.Native.Nat.{_≤_};
 ghost use lib.ListN.{length};
 ghost use Rattle.plants.specs.Limits.{maxUnits, places};
 ghost use Rattle.plants.specs.Within.{WithinStream};
-ghost use Rattle.flows.specs.Groups.{StepSays};
-ghost use Rattle.flows.specs.Labels.{ownNumbers, renamed, relabelled, oneLabel, ownLabels};
+ghost use Rattle.flow_def.specs.Groups.{StepSays};
+ghost use Rattle.flow_def.specs.Labels.{ownNumbers, renamed, relabelled, oneLabel, ownLabels};
 
 // Before the first step each place has its own number.
 pub fn own_numbers() -> [u8; PLACES]

@@ -9,11 +9,11 @@ ghost use Rattle.sheet_lent.specs.Lent.{LentSays};
 ghost use Rattle.plants.specs.Limits.{places};
 ghost use Rattle.plants.specs.Says.{WriteSays};
 ghost use Rattle.transmitters.specs.Says.{TranslateSays};
-ghost use Rattle.moves.specs.Moves.{ToSays, FromSays};
-ghost use Rattle.purchases.specs.Lent.{BuyHandsOver};
+ghost use Rattle.ranged_def.specs.Moves.{ToSays, FromSays};
+ghost use Rattle.purchase_def.specs.Lent.{BuyHandsOver};
 ghost use Rattle.plant_slices.specs.Parts.{handed};
-ghost use Rattle.sheet_slices.specs.Kept.{HandsOver};
-ghost use Rattle.marks.specs.Marks.{marksIn};
+ghost use Rattle.sheet_parts.specs.Kept.{HandsOver};
+ghost use Rattle.flow_marks.specs.Marks.{marksIn};
 ghost use Rattle.survey_slices.specs.Lent.{LendSays};
 ghost use Rattle.foreign_def.specs.Says.{CheckSays};
 ghost use Rattle.foreign_def.specs.Numbers.{NumbersLent};
@@ -103,11 +103,11 @@ pub extern "C" fn wengeludo_read_sheet(
 ) -> u8
     ensures { λ r. ⌜ HandsOver (now (bytes .entry)) (now (kinds .entry)) (now (kinds .exit)) (now (flows .entry)) (now (flows .exit)) r (now (count .exit)) (now (kind .exit)) (now (office .exit)) (now (sheet .exit)) (now (cost .exit)) (now (degrees .exit)) (now (verdict .exit)) ⌝ }
 {
-    let read = sheet_slices::read_lent(bytes, kinds.len(), flows.len());
+    let read = sheet_parts::read_lent(bytes, kinds.len(), flows.len());
     let listed = read.count as usize;
     let streams = read.streams;
-    sheet_slices::put_kinds(listed, streams, kinds);
-    sheet_slices::put_flows(listed, streams, flows);
+    sheet_parts::put_kinds(listed, streams, kinds);
+    sheet_parts::put_flows(listed, streams, flows);
     let total = read.total;
     *count = listed;
     *kind = total.kind;

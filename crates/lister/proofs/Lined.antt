@@ -8,11 +8,11 @@ use lib.ListN.{length, getD, take}
 use mir.Syntax.{w64}
 use mir.Val.{SFits}
 use Rattle.plants.specs.Limits.{maxStreams}
-use Rattle.sheets.specs.declared.Entry.{Entry}
+use Rattle.sheet_def.specs.declared.Entry.{Entry}
 use Rattle.listings.specs.Listing.{lineOf, linesFrom}
-use Rattle.numerals.specs.Adding.{Added}
+use Rattle.num_text.specs.Adding.{Added}
 use Rattle.listings.specs.Room.{lineSize}
-use Rattle.numerals.proofs.Behind.{nothing, behind, kept-length}
+use Rattle.num_text.proofs.Behind.{nothing, behind, kept-length}
 use Rattle.listings.proofs.Sizes.{line-most}
 
 -- One line more.

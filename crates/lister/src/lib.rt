@@ -1,19 +1,19 @@
 // The lines of a listing: one for each stream, then that of the total.
-use flows::Class;
+use flow_def::Class;
 use listings::put_entry;
-use numerals::put_byte;
-use numerals::put_field;
-use numerals::put_text;
+use num_text::put_byte;
+use num_text::put_field;
+use num_text::put_text;
 use plants::limits::MAX_STREAMS;
-use sheets::Balance;
-use sheets::Entry;
+use sheet_def::Balance;
+use sheet_def::Entry;
 ghost use Prim.Native.Nat.{_+_, _*_, _≤_};
 ghost use mathlib.Core.List.{_++_};
 ghost use lib.ListN.{length, take};
-ghost use Rattle.numbers.specs.Inner.{Put};
+ghost use Rattle.num_bytes.specs.Inner.{Put};
 ghost use Rattle.plants.specs.Limits.{maxStreams};
-ghost use Rattle.numerals.specs.Numerals.{text, field};
-ghost use Rattle.numerals.specs.Adding.{Added};
+ghost use Rattle.num_text.specs.Numerals.{text, field};
+ghost use Rattle.num_text.specs.Adding.{Added};
 ghost use Rattle.listings.specs.Listing.{entryText, linesFrom, wordOf, totalLine, listingOf};
 ghost use Rattle.listings.specs.Room.{lineSize, leastText};
 

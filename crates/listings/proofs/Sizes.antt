@@ -11,14 +11,14 @@ use lib.ListN.{length, drop, length-append}
 use lib.Seq.{length-take-le}
 use mir.Syntax.{w64}
 use mir.Val.{SFits}
-use Rattle.numbers.specs.Choice.{pick}
-use Rattle.numbers.specs.Inner.{Put}
-use Rattle.flows.specs.declared.Class.{Class}
-use Rattle.flows.specs.declared.Class.the-variants.{Adjusted, AsRead, Given, Withheld}
-use Rattle.numerals.specs.Numerals.{text, decimal, signedDecimal, field}
+use Rattle.num_bytes.specs.Choice.{pick}
+use Rattle.num_bytes.specs.Inner.{Put}
+use Rattle.flow_def.specs.declared.Class.{Class}
+use Rattle.flow_def.specs.declared.Class.the-variants.{Adjusted, AsRead, Given, Withheld}
+use Rattle.num_text.specs.Numerals.{text, decimal, signedDecimal, field}
 use Rattle.listings.specs.Listing.{entryText, wordOf, totalLine, refusalText}
 use Rattle.listings.specs.Room.{lineSize, totalSize, refusalSize, Counts}
-use Rattle.numerals.proofs.Decimals.{decimal-most, field-size}
+use Rattle.num_text.proofs.Decimals.{decimal-most, field-size}
 
 -- The line of a stream.
 pub line-size : (n : ℕ) (c : Class) (x : ℤ) → length (field n ++ entryText c x ++ text "\n") ≡ length (field n) + length (entryText c x) + 1

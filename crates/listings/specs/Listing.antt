@@ -4,12 +4,12 @@ use lib.IntN.{ℤ}
 use Prim.Native.Nat.{ℕ, suc}
 use lib.Dec.{eqb}
 use lib.ListN.{take}
-use Rattle.numbers.specs.Choice.{pick}
-use Rattle.numerals.specs.Numerals.{text, decimal, signedDecimal, field}
-use Rattle.flows.specs.declared.Class.{Class}
-use Rattle.flows.specs.declared.Class.the-variants.{Adjusted, AsRead, Given, Withheld}
-use Rattle.sheets.specs.declared.Entry.{Entry}
-use Rattle.sheets.specs.declared.Balance.{Balance}
+use Rattle.num_bytes.specs.Choice.{pick}
+use Rattle.num_text.specs.Numerals.{text, decimal, signedDecimal, field}
+use Rattle.flow_def.specs.declared.Class.{Class}
+use Rattle.flow_def.specs.declared.Class.the-variants.{Adjusted, AsRead, Given, Withheld}
+use Rattle.sheet_def.specs.declared.Entry.{Entry}
+use Rattle.sheet_def.specs.declared.Balance.{Balance}
 
 -- A stream's class letter and its flow; a dash where it is withheld.
 abbrev pub entryText : Class → ℤ → List ℕ

@@ -1,16 +1,16 @@
 // The parts of a listing: a stream's class and flow, and the text of a refusal.
-use flows::Class;
-use numerals::put_byte;
-use numerals::put_decimal;
-use numerals::put_signed;
-use numerals::put_text;
+use flow_def::Class;
+use num_text::put_byte;
+use num_text::put_decimal;
+use num_text::put_signed;
+use num_text::put_text;
 ghost use Prim.Native.Nat.{_+_, _≤_};
 ghost use mathlib.Core.List.{_∷_, _++_};
 ghost use lib.ListN.{length};
-ghost use Rattle.numbers.specs.Inner.{Put};
-ghost use Rattle.numerals.specs.Numerals.{text, signedDecimal};
+ghost use Rattle.num_bytes.specs.Inner.{Put};
+ghost use Rattle.num_text.specs.Numerals.{text, signedDecimal};
 ghost use Rattle.listings.specs.Listing.{entryText, refusalText};
-ghost use Rattle.numerals.specs.Adding.{Added};
+ghost use Rattle.num_text.specs.Adding.{Added};
 ghost use Rattle.listings.specs.Room.{refusalSize};
 
 // A class letter and a flow.

@@ -5,7 +5,7 @@ use lib.ListN.{set, length-set, replicate, getD-replicate}
 use mathlib.Core.List.{List}
 use Prim.Native.Nat.{ℕ, _*_, _<_}
 use Rattle.plants.specs.Limits.{places, maxStreams}
-use Rattle.flows.proofs.Lists.{set-each}
+use Rattle.flow_def.proofs.Lists.{set-each}
 use Rattle.meters.specs.Ends.{Ends}
 
 pub ends-set : (es : List ℕ) (j g : ℕ) → Ends es → j < 2 * maxStreams → g < places → Ends (set es j g)

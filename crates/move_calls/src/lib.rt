@@ -2,9 +2,9 @@
 ghost use mathlib.Core.Path.{_≡_};
 ghost use Rattle.plants.specs.Files.{readPlant};
 ghost use Rattle.plants.specs.Says.{readOf};
-ghost use Rattle.moves.specs.Moves.{toRanged, fromRanged, ToSays, FromSays};
-ghost use Rattle.moves.specs.Inner.{WritesRead};
-use file_parts::refusal;
+ghost use Rattle.ranged_def.specs.Moves.{toRanged, fromRanged, ToSays, FromSays};
+ghost use Rattle.ranged_def.specs.Inner.{WritesRead};
+use plant_frame::refusal;
 use plant_moves::move_all;
 use plant_moves::narrow_fault;
 use plant_reader::read_plant;

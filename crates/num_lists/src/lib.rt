@@ -3,7 +3,7 @@ use plants::limits::MAX_STREAMS;
 ghost use mathlib.Core.Path.{_≡_};
 ghost use Prim.Native.Nat.{_≤_};
 ghost use lib.ListN.{length, take};
-ghost use Rattle.numbers.specs.Bytes.{over};
+ghost use Rattle.num_bytes.specs.Bytes.{over};
 ghost use Rattle.plants.specs.Limits.{maxStreams};
 
 // The first so many numbers of a byte.

@@ -8,15 +8,15 @@ use Rattle.plants.specs.declared.Plant as Arrays
 use Rattle.plants.specs.Within.{Accepted}
 use Rattle.plants.specs.Says.{plantOf}
 use Rattle.plants.proofs.Arrayed.{all-listed, within-of}
-use Rattle.flows.specs.Overfull.{Overfull}
-use Rattle.model.specs.declared.State.{State}
-use Rattle.model.specs.declared.Ended.{Ended}
-use Rattle.model.specs.Model.{finished, masked, tiesTo, solvedFrom}
-use Rattle.model.specs.SolverNeeds.{AtHint}
-use Rattle.model.specs.Promise.{Right}
-use Rattle.model.proofs.Phases.{Finished}
-use Rattle.model.proofs.Ending.{finished-good, finished-even}
-use Rattle.model.proofs.Theorem.{network-of, solvable-in, ended-full, solved-right}
+use Rattle.flow_def.specs.Overfull.{Overfull}
+use Rattle.solve_def.specs.declared.State.{State}
+use Rattle.solve_def.specs.declared.Ended.{Ended}
+use Rattle.solve_def.specs.Model.{finished, masked, tiesTo, solvedFrom}
+use Rattle.solve_def.specs.SolverNeeds.{AtHint}
+use Rattle.solve_def.specs.Promise.{Right}
+use Rattle.solve_def.proofs.Phases.{Finished}
+use Rattle.solve_def.proofs.Ending.{finished-good, finished-even}
+use Rattle.solve_def.proofs.Theorem.{network-of, solvable-in, ended-full, solved-right}
 use Rattle.solve_arcs.specs.Cells.{countOf}
 use Rattle.solve_arcs.specs.ArcNeeds.{Laid, Margined}
 use Rattle.solve_ties.specs.Evens.{Tieable}

@@ -1,18 +1,18 @@
 // What the phases come to: the cheapest balanced flow of a plant, with prices that certify it; or a set of places that must take in
 // more than it can let out.
-use improving::finishing::finish;
-use improving::marks::masked;
-use model::Solved;
-use model::State;
 use plants::Plant;
 use solve_arcs::ARCS;
 use solve_arcs::MARGINS;
 use solve_arcs::ROWS;
+use solve_def::Solved;
+use solve_def::State;
+use solve_phases::finishing::finish;
+use solve_phases::marks::masked;
 use solve_ties::tie_all;
 ghost use Rattle.plants.specs.Within.{Accepted};
 ghost use Rattle.plants.specs.Says.{plantOf};
-ghost use Rattle.model.specs.SolverNeeds.{AtHint};
-ghost use Rattle.model.specs.Promise.{Right};
+ghost use Rattle.solve_def.specs.SolverNeeds.{AtHint};
+ghost use Rattle.solve_def.specs.Promise.{Right};
 ghost use Rattle.solve_arcs.specs.ArcNeeds.{Laid};
 
 // The cheapest balanced flow of a plant, from amounts settled at a hint; or a set of places that must take in more than it can let out.

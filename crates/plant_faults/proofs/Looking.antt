@@ -6,8 +6,8 @@ use native.Mathlib.Omega.{arith}
 use native.Mathlib.Numerals.{add-one}
 use lib.ListN.{length, getD, take, drop}
 use lib.Seq.{drop-cons}
-use Rattle.numbers.specs.Choice.{firstOf}
-use Rattle.numbers.proofs.Tests.{first-some}
+use Rattle.num_bytes.specs.Choice.{firstOf}
+use Rattle.num_bytes.proofs.Tests.{first-some}
 use Rattle.plants.specs.declared.Stream.{Stream}
 use Rattle.plants.specs.Limits.{maxStreams}
 use Rattle.plants.specs.Plants.{noStream, streamFault, firstFault}

@@ -1,8 +1,8 @@
 // All streams of a plant moved, and the refusal of a range that would be lost.
 ghost use mathlib.Core.Path.{_≡_};
 ghost use mathlib.Core.List.{map};
-ghost use Rattle.moves.specs.Moves.{narrowFault};
-ghost use Rattle.moves.specs.Inner.{moving};
+ghost use Rattle.ranged_def.specs.Moves.{narrowFault};
+ghost use Rattle.ranged_def.specs.Inner.{moving};
 use plants::Stream;
 use plants::limits::MAX_STREAMS;
 use stream_moves::move_one;

@@ -3,12 +3,12 @@ use mathlib.Core.Path.{_≡_, ap, sym, _∙_}
 use mathlib.Core.List.{List}
 use Prim.Native.Nat.{ℕ}
 use lib.ListN.{length, drop, getD}
-use Rattle.numbers.proofs.Parts.{partFrom, part-is}
+use Rattle.num_bytes.proofs.Parts.{partFrom, part-is}
 use Rattle.plants.specs.declared.Record.{Record}
 use Rattle.plants.specs.declared.Record.the-variants.{Refused}
 use Rattle.plants.specs.Limits.{meteredKind, unmeteredKind, endKind, rangedKind, meteredBody, rangedBody, unmeteredBody}
 use Rattle.plants.specs.Files.{meteredIn, rangedIn, unmeteredIn, streamRecord, endRecord, recordAt}
-use Rattle.file_parts.proofs.Chosen.{first, second, third, fourth, none}
+use Rattle.plant_frame.proofs.Chosen.{first, second, third, fourth, none}
 
 module _ (n c : ℕ) (s : List ℕ) (h : length s ≡ 0 → ⊥) where
   abbrev kind : ℕ

@@ -6,8 +6,8 @@ use native.Mathlib.Omega.{arith}
 use lib.Dec.{ltb}
 use lib.ListN.{length}
 use borrow.Author.Tests.{lt-ltb, ltb-false, ne-eqb}
-use Rattle.numbers.specs.Choice.{refuseIf, firstOf}
-use Rattle.numbers.proofs.Tests.{by-cases, first-none-right}
+use Rattle.num_bytes.specs.Choice.{refuseIf, firstOf}
+use Rattle.num_bytes.proofs.Tests.{by-cases, first-none-right}
 use Rattle.plants.specs.declared.Stream.{Stream}
 use Rattle.plants.specs.declared.Plant as Arrays
 use Rattle.plants.specs.declared.Done.{Done}

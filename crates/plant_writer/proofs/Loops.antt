@@ -6,12 +6,12 @@ use native.Mathlib.Omega.{arith}
 use native.Mathlib.Numerals.{add-one}
 use lib.ListN.{length, getD, take, length-append}
 use lib.Seq.{take-suc, length-take-le}
-use Rattle.numbers.specs.Choice.{pick}
-use Rattle.numbers.specs.Bytes.{over}
-use Rattle.numbers.specs.Inner.{Put}
-use Rattle.numbers.proofs.Tests.{picked}
-use Rattle.numbers.proofs.Parts.{Laid, laid, lay, room, may-lend, partFrom, returned}
-use Rattle.numbers.proofs.Rows.{Rows, no-rows, one-row}
+use Rattle.num_bytes.specs.Choice.{pick}
+use Rattle.num_bytes.specs.Bytes.{over}
+use Rattle.num_bytes.specs.Inner.{Put}
+use Rattle.num_bytes.proofs.Tests.{picked}
+use Rattle.num_bytes.proofs.Parts.{Laid, laid, lay, room, may-lend, partFrom, returned}
+use Rattle.num_bytes.proofs.Rows.{Rows, no-rows, one-row}
 use Rattle.plants.specs.declared.Stream.{Stream}
 use Rattle.plants.specs.Limits.{maxStreams, siteKind, meteredKind, unmeteredKind, endKind, rangedKind, rangedBody, longestFile}
 use Rattle.plants.specs.Plants.{noStream}

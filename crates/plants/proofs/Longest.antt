@@ -5,7 +5,7 @@ use Prim.Native.Nat.{ℕ, zero, suc, _+_, _*_, _≤_}
 use native.Mathlib.Omega.{arith}
 use lib.Dec.{eqb}
 use lib.ListN.{length, getD, drop, length-append, length-drop}
-use Rattle.numbers.proofs.Tests.{picked}
+use Rattle.num_bytes.proofs.Tests.{picked}
 use Rattle.plants.specs.declared.Stream.{Stream}
 use Rattle.plants.specs.declared.Site.{Site}
 use Rattle.plants.specs.declared.Site.the-variants.{Units, Missing}

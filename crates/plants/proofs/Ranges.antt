@@ -7,8 +7,8 @@ use lib.Dec.{ltb}
 use Prim.Native.Nat.{ℕ, suc, _-_, _<_, _≤_}
 use native.Mathlib.Omega.{arith}
 use borrow.Author.Tests.{ltb-false, lt-ltb, le-ltb}
-use Rattle.numbers.specs.Choice.{refuseIf}
-use Rattle.numbers.proofs.Tests.{or-left, or-right}
+use Rattle.num_bytes.specs.Choice.{refuseIf}
+use Rattle.num_bytes.proofs.Tests.{or-left, or-right}
 use Rattle.plants.specs.Limits.{maxRange}
 use Rattle.plants.specs.Plants.{rangeFault}
 

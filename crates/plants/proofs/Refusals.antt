@@ -9,9 +9,9 @@ use Prim.Native.Nat.{ℕ, zero, suc}
 use native.Mathlib.Omega.{arith}
 use lib.Dec.{eqb, ltb, leb}
 use lib.ListN.{length, getD, drop}
-use Rattle.numbers.specs.Choice.{pick, refuseIf, firstOf}
+use Rattle.num_bytes.specs.Choice.{pick, refuseIf, firstOf}
 use borrow.Author.Tests.{eqb-true}
-use Rattle.numbers.proofs.Tests.{or-cases, picked}
+use Rattle.num_bytes.proofs.Tests.{or-cases, picked}
 use Rattle.plants.specs.declared.Stream.{Stream}
 use Rattle.plants.specs.declared.Site.{Site}
 use Rattle.plants.specs.declared.Site.the-variants.{Units, Missing}

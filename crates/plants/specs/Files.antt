@@ -6,8 +6,8 @@ use lib.IntN.{ℤ, pos}
 use Prim.Native.Nat.{ℕ, zero, suc}
 use lib.Dec.{eqb, ltb, leb}
 use lib.ListN.{length, getD, drop}
-use Rattle.numbers.specs.Choice.{pick, refuseIf, firstOf}
-use Rattle.numbers.specs.Bytes.{be, putBe, signed, raw, allBytes}
+use Rattle.num_bytes.specs.Choice.{pick, refuseIf, firstOf}
+use Rattle.num_bytes.specs.Bytes.{be, putBe, signed, raw, allBytes}
 use Rattle.plants.specs.declared.Stream.{Stream}
 use Rattle.plants.specs.declared.Site.{Site}
 use Rattle.plants.specs.declared.Site.the-variants.{Units, Missing}

@@ -3,7 +3,7 @@ use mathlib.Core.List.{List}
 use Prim.Native.Nat.{ℕ, zero, suc}
 use lib.ListN.{getD}
 use lib.Ieee.{Float, nan, binary64, neg, add, mul, lt, ofBits}
-use Rattle.numbers.specs.Choice.{pick}
+use Rattle.num_bytes.specs.Choice.{pick}
 
 abbrev pub none : Float
 none = ofBits binary64 0

@@ -8,15 +8,15 @@ use native.Mathlib.Omega.{arith}
 use borrow.Author.Tests.{eq-eqb, ne-eqb, ltb-false}
 use lib.Dec.{eqb, ltb}
 use lib.ListN.{length, getD}
-use Rattle.numbers.specs.Choice.{pick, refuseIf}
-use Rattle.numbers.proofs.Tests.{or-left, or-right, or-none-left, or-none-right, refuse-none}
+use Rattle.num_bytes.specs.Choice.{pick, refuseIf}
+use Rattle.num_bytes.proofs.Tests.{or-left, or-right, or-none-left, or-none-right, refuse-none}
 use Rattle.plants.specs.declared.Stream.{Stream}
 use Rattle.plants.specs.declared.Plant as Arrays
 use Rattle.plants.specs.Plants.{Plant, noStream}
 use Rattle.plants.specs.Within.{Accepted}
 use Rattle.plants.specs.Says.{plantOf}
 use Rattle.plants.proofs.Arrayed.{all-listed, listed-at}
-use Rattle.purchases.specs.Purchases.{maxPrice, unmeteredTo, someUnfair, pricesFault}
+use Rattle.purchase_def.specs.Purchases.{maxPrice, unmeteredTo, someUnfair, pricesFault}
 
 -- A price is 0 or over its limit.
 abbrev pub off : ℕ → Bool

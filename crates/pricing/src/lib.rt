@@ -1,15 +1,15 @@
 // The prices that a call is handed: one for each unmetered stream, each within its limits; refusal 21.
 use plants::Plant;
-use purchases::MAX_PRICE;
+use purchase_def::MAX_PRICE;
 ghost use mathlib.Core.Path.{_≡_};
 ghost use mathlib.Core.Bool.{_||_};
 ghost use Prim.Native.Nat.{_+_, _<_};
 ghost use lib.Dec.{eqb, ltb};
-ghost use Rattle.numbers.specs.Choice.{pick};
+ghost use Rattle.num_bytes.specs.Choice.{pick};
 ghost use Rattle.plants.specs.Limits.{maxStreams};
 ghost use Rattle.plants.specs.Within.{Accepted};
 ghost use Rattle.plants.specs.Says.{plantOf};
-ghost use Rattle.purchases.specs.Purchases.{maxPrice, unmeteredTo, someUnfair, pricesFault};
+ghost use Rattle.purchase_def.specs.Purchases.{maxPrice, unmeteredTo, someUnfair, pricesFault};
 
 // A price is 0 or over its limit.
 fn unfair(c: u32) -> bool

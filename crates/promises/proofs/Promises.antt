@@ -1,17 +1,17 @@
 -- Every promise is kept.
 use Rattle.plants.proofs.Refusals.{file-refusals}
 use Rattle.plants.proofs.Longest.{longest-file}
-use Rattle.sheets.proofs.Demands.{demands}
-use Rattle.office_history.proofs.History.{history}
-use Rattle.texts.proofs.Promise.{one-text}
-use Rattle.texts.proofs.Printed.{printed}
+use Rattle.sheet_def.proofs.Demands.{demands}
+use Rattle.sheet_history.proofs.History.{history}
+use Rattle.listing_call.proofs.Promise.{one-text}
+use Rattle.listing_call.proofs.Printed.{printed}
 use Rattle.signals.proofs.Rules.{rounding}
 use Rattle.signals.proofs.Numbers.{numbered}
 use Rattle.transmitters.proofs.Promise.{translated}
-use Rattle.moves.proofs.Trip.{moving}
-use Rattle.moved_sheets.proofs.Same.{moved-sheets}
-use Rattle.purchases.proofs.Promise.{meters-to-buy}
-use Rattle.surveys.proofs.Promise.{one-survey}
+use Rattle.ranged_def.proofs.Trip.{moving}
+use Rattle.ranged_same_sheet.proofs.Same.{moved-sheets}
+use Rattle.purchase_def.proofs.Promise.{meters-to-buy}
+use Rattle.survey_def.proofs.Promise.{one-survey}
 use Rattle.survey_texts.proofs.Promise as Survey-texts
 use Rattle.visit_def.proofs.Promise.{meters-worth-a-visit}
 use Rattle.visit_text.proofs.Promise as Visit-texts

@@ -9,35 +9,35 @@ use borrow.Author.Tests.{ltb-true, ltb-false}
 use lib.Dec.{ltb}
 use lib.ListN.{length, getD, take}
 use lib.Seq.{getD-take}
-use Rattle.numbers.proofs.Tests.{by-cases}
+use Rattle.num_bytes.proofs.Tests.{by-cases}
 use Rattle.plants.specs.declared.Plant as Arrays
 use Rattle.plants.specs.Limits.{maxStreams}
 use Rattle.plants.specs.Plants.{Plant}
 use Rattle.plants.specs.Within.{Accepted}
 use Rattle.plants.specs.Says.{plantOf}
 use Rattle.plants.proofs.Arrayed.{all-listed, within-of}
-use Rattle.flows.specs.declared.Class.{Class}
-use Rattle.flows.specs.declared.Class.the-variants.{Adjusted, Withheld}
-use Rattle.flows.specs.Flows.{amountAt, balanced, cost, Cheapest}
-use Rattle.numbers.specs.Inner.{values}
-use Rattle.flows.specs.Classes.{classOf, numberOf, degrees}
-use Rattle.flows.specs.Test.{verdictAt}
-use Rattle.flows.specs.Shown.{adjusted}
-use Rattle.flows.specs.Calls.{classesOf}
-use Rattle.flows.proofs.Lists.{map-at, values-same, values-at}
-use Rattle.flows.proofs.Given.{number-is}
-use Rattle.flows.proofs.Ranges.{balanced-of}
-use Rattle.flows.proofs.ByLabels.{class-past}
-use Rattle.model.specs.Held.{unshifted, opened}
-use Rattle.model.specs.declared.Solved.{Solved}
-use Rattle.model.specs.SolverNeeds.{Amounts}
-use Rattle.model.specs.Promise.{Solution}
-use Rattle.sheets.specs.declared.Entry.{Entry}
-use Rattle.sheets.specs.Balances.{entryOf, balanceOf, BalanceSays}
-use Rattle.sheets.specs.Apart.{topCost, capped}
-use Rattle.sheets.specs.Calls.{AllSmall, entriesOf}
-use Rattle.sheets.proofs.Opening.{opened-small}
-use Rattle.sheets.proofs.Entries.{entry-same}
+use Rattle.flow_def.specs.declared.Class.{Class}
+use Rattle.flow_def.specs.declared.Class.the-variants.{Adjusted, Withheld}
+use Rattle.flow_def.specs.Flows.{amountAt, balanced, cost, Cheapest}
+use Rattle.num_bytes.specs.Inner.{values}
+use Rattle.flow_def.specs.Classes.{classOf, numberOf, degrees}
+use Rattle.flow_def.specs.Test.{verdictAt}
+use Rattle.flow_def.specs.Shown.{adjusted}
+use Rattle.flow_def.specs.Calls.{classesOf}
+use Rattle.flow_def.proofs.Lists.{map-at, values-same, values-at}
+use Rattle.flow_def.proofs.Given.{number-is}
+use Rattle.flow_def.proofs.Ranges.{balanced-of}
+use Rattle.flow_def.proofs.ByLabels.{class-past}
+use Rattle.solve_def.specs.Held.{unshifted, opened}
+use Rattle.solve_def.specs.declared.Solved.{Solved}
+use Rattle.solve_def.specs.SolverNeeds.{Amounts}
+use Rattle.solve_def.specs.Promise.{Solution}
+use Rattle.sheet_def.specs.declared.Entry.{Entry}
+use Rattle.sheet_def.specs.Balances.{entryOf, balanceOf, BalanceSays}
+use Rattle.sheet_def.specs.Apart.{topCost, capped}
+use Rattle.sheet_def.specs.Calls.{AllSmall, entriesOf}
+use Rattle.sheet_def.proofs.Opening.{opened-small}
+use Rattle.sheet_def.proofs.Entries.{entry-same}
 use Rattle.reckoning.proofs.Verdicts.{capped-verdict}
 
 -- The solver's flows are small.

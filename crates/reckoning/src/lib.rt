@@ -1,17 +1,17 @@
 // The balance by the cheapest flow: entries, cost, degrees and verdict. It stands below the solver, and is handed a solution.
-use costs::cost_of;
 use entries::classes_of;
 use entries::entries_of;
 use entries::opened_flows;
-use flows::Cuts;
-use model::Solved;
+use flow_def::Cuts;
 use plants::Plant;
-use sheets::Balance;
+use sheet_cost::cost_of;
+use sheet_def::Balance;
+use solve_def::Solved;
 ghost use Rattle.plants.specs.Within.{Accepted};
 ghost use Rattle.plants.specs.Says.{plantOf};
-ghost use Rattle.flows.specs.Calls.{Cutting};
-ghost use Rattle.model.specs.Promise.{Solution};
-ghost use Rattle.sheets.specs.Balances.{BalanceSays};
+ghost use Rattle.flow_def.specs.Calls.{Cutting};
+ghost use Rattle.solve_def.specs.Promise.{Solution};
+ghost use Rattle.sheet_def.specs.Balances.{BalanceSays};
 
 // The balance by the cheapest flow. The plant as read stands unchanged beside the corrected flows.
 pub fn balance_by(p: Plant, cuts: Cuts, solved: Solved) -> Balance
@@ -23,7 +23,7 @@ pub fn balance_by(p: Plant, cuts: Cuts, solved: Solved) -> Balance
     let held = solved.flows;
     let corrected = opened_flows(held);
     let cost = cost_of(p, corrected);
-    let degrees = classes::degrees_of(p, labels);
+    let degrees = flow_classes::degrees_of(p, labels);
     let weights = verdicts::adjusted_weights(p, classes);
     let verdict = verdicts::verdict(degrees, cost, weights);
     let streams = entries_of(classes, corrected);

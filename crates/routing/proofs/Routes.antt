@@ -7,15 +7,15 @@ use native.Mathlib.Decide.{ℕ-discrete}
 use lib.ListN.{getD, set, length-set, replicate, length-replicate, getD-replicate}
 use lib.Seq.{getD-set-same, getD-set-other}
 use Rattle.plants.specs.declared.Stream.{Stream}
-use Rattle.numbers.proofs.Tests.{clash}
+use Rattle.num_bytes.proofs.Tests.{clash}
 use Rattle.plants.specs.Limits.{maxStreams}
 use Rattle.plants.specs.Plants.{noStream}
-use Rattle.model.specs.Sizes.{flowShift, mostFlow, hintRoom}
-use Rattle.model.specs.SearchNeeds.{Close}
-use Rattle.model.specs.SolverNeeds.{Amounts}
+use Rattle.solve_def.specs.Sizes.{flowShift, mostFlow, hintRoom}
+use Rattle.solve_def.specs.SearchNeeds.{Close}
+use Rattle.solve_def.specs.SolverNeeds.{Amounts}
 use Rattle.spanning.specs.Forests.{Unmetered}
 use Rattle.routing.specs.Routes.{Routes, Kept}
-use Rattle.flows.proofs.Lists.{set-each}
+use Rattle.flow_def.proofs.Lists.{set-each}
 
 -- Amounts 0, and one of them another.
 pub routes-none : {ss : List Stream} → Routes ss (replicate maxStreams flowShift)

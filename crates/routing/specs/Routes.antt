@@ -7,9 +7,9 @@ use lib.ListN.{length, getD, take}
 use Rattle.plants.specs.declared.Stream.{Stream}
 use Rattle.plants.specs.Limits.{maxStreams}
 use Rattle.plants.specs.Plants.{noStream}
-use Rattle.flows.specs.Flows.{streamAt}
-use Rattle.model.specs.Sizes.{mostFlow, hintRoom}
-use Rattle.model.specs.SearchNeeds.{Close}
+use Rattle.flow_def.specs.Flows.{streamAt}
+use Rattle.solve_def.specs.Sizes.{mostFlow, hintRoom}
+use Rattle.solve_def.specs.SearchNeeds.{Close}
 use Rattle.solve_arcs.specs.ArcNeeds.{Laying}
 use Rattle.spanning.specs.declared.Forest.{Forest}
 use Rattle.spanning.specs.Forests.{Routable}

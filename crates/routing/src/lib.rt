@@ -1,11 +1,11 @@
 // Amounts of unmetered streams, routed along a spanning forest.
-use model::sizes::FLOW_SHIFT;
-use model::sizes::HINT_ROOM;
-use model::sizes::NET_SHIFT;
 use plants::limits::MAX_STREAMS;
 use plants::limits::PLACES;
 use solve_arcs::ARCS;
 use solve_arcs::end_at;
+use solve_def::sizes::FLOW_SHIFT;
+use solve_def::sizes::HINT_ROOM;
+use solve_def::sizes::NET_SHIFT;
 use spanning::Forest;
 use std::num::wrapping_add_u64;
 use std::num::wrapping_sub_u64;
@@ -13,8 +13,8 @@ ghost use mathlib.Core.Path.{_≡_};
 ghost use Prim.Native.Nat.{_<_};
 ghost use lib.ListN.{length, take};
 ghost use Rattle.plants.specs.Limits.{places};
-ghost use Rattle.model.specs.SearchNeeds.{Close};
-ghost use Rattle.model.specs.Sizes.{hintRoom};
+ghost use Rattle.solve_def.specs.SearchNeeds.{Close};
+ghost use Rattle.solve_def.specs.Sizes.{hintRoom};
 ghost use Rattle.routing.specs.Routes.{Routes, Kept, Routing};
 
 // The held amount nearest to x within the hint's room.

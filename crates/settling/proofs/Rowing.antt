@@ -5,9 +5,9 @@ use Prim.Native.Nat.{ℕ, _+_, _*_, _≤_, _<_}
 use lib.ListN.{getD, set, take}
 use Rattle.plants.specs.declared.Stream.{Stream}
 use Rattle.plants.specs.Plants.{noStream}
-use Rattle.model.specs.Held.{readingOf}
-use Rattle.model.specs.Model.{clamped, nearestAmount, settledTo, left, come, netsTo}
-use Rattle.model.proofs.Turns.{settle-hit, settle-miss, nets-next}
+use Rattle.solve_def.specs.Held.{readingOf}
+use Rattle.solve_def.specs.Model.{clamped, nearestAmount, settledTo, left, come, netsTo}
+use Rattle.solve_def.proofs.Turns.{settle-hit, settle-miss, nets-next}
 use Rattle.solve_arcs.specs.Cells.{toCell, countOf}
 use Rattle.solve_arcs.specs.ArcNeeds.{Laying}
 use Rattle.solve_arcs.proofs.Rowing.{below, from-is, to-is, metered-of, free-of}

@@ -2,8 +2,8 @@
 use mathlib.Core.List.{List}
 use Prim.Native.Nat.{ℕ}
 use lib.ListN.{take}
-use Rattle.model.specs.declared.Hint.{Hint}
-use Rattle.model.specs.SolverNeeds.{Ready}
+use Rattle.solve_def.specs.declared.Hint.{Hint}
+use Rattle.solve_def.specs.SolverNeeds.{Ready}
 use Rattle.solve_arcs.specs.ArcNeeds.{Laying}
 
 pub record Hinting (ls rs : List ℕ) (h : Hint) : Type 0 where

@@ -1,26 +1,26 @@
 // Amounts settled at prices, and the nets that they leave.
 use amounts::amount_at;
-use model::Hint;
-use model::State;
-use model::sizes::FLOW_SHIFT;
-use model::sizes::NET_SHIFT;
 use plants::limits::MAX_STREAMS;
 use plants::limits::PLACES;
 use solve_arcs::ARCS;
 use solve_arcs::ROWS;
 use solve_arcs::count_of;
 use solve_arcs::end_at;
+use solve_def::Hint;
+use solve_def::State;
+use solve_def::sizes::FLOW_SHIFT;
+use solve_def::sizes::NET_SHIFT;
 use solve_held::minus;
 ghost use mathlib.Core.Path.{_≡_};
 ghost use lib.ListN.{length, take};
 ghost use mathlib.Core.List.{List};
 ghost use Prim.Native.Nat.{ℕ, _≤_, _<_};
 ghost use Rattle.plants.specs.Limits.{places, maxStreams};
-ghost use Rattle.model.specs.Sizes.{mostFlow};
-ghost use Rattle.model.specs.SearchNeeds.{Prices};
-ghost use Rattle.model.specs.Sizes.{netRoom};
-ghost use Rattle.model.specs.Model.{settledTo, left, come, netsTo, settled, overSum};
-ghost use Rattle.model.specs.SolverNeeds.{Amounts, Around};
+ghost use Rattle.solve_def.specs.Sizes.{mostFlow};
+ghost use Rattle.solve_def.specs.SearchNeeds.{Prices};
+ghost use Rattle.solve_def.specs.Sizes.{netRoom};
+ghost use Rattle.solve_def.specs.Model.{settledTo, left, come, netsTo, settled, overSum};
+ghost use Rattle.solve_def.specs.SolverNeeds.{Amounts, Around};
 ghost use Rattle.solve_arcs.specs.ArcNeeds.{Laying};
 ghost use Rattle.settling.specs.Hints.{Hinting};
 

@@ -7,22 +7,22 @@ use Prim.Native.Nat.{ℕ}
 use lib.Dec.{eqb}
 use lib.ListN.{length}
 use borrow.Author.Tests.{eq-eqb, ne-eqb}
-use Rattle.numbers.specs.Bytes.{over}
-use Rattle.numbers.specs.Inner.{pickT}
+use Rattle.num_bytes.specs.Bytes.{over}
+use Rattle.num_bytes.specs.Inner.{pickT}
 use Rattle.plants.specs.declared.Read.{Read}
 use Rattle.plants.specs.Files.{Got, got, readPlant}
 use Rattle.plants.specs.Says.{plantOf, readOf}
-use Rattle.flows.specs.Overfull.{unmarked, Overfull}
-use Rattle.sheets.specs.declared.Sheet.{Sheet}
-use Rattle.sheets.specs.declared.Balance.{Balance}
-use Rattle.sheets.specs.declared.Outcome.{Outcome}
-use Rattle.sheets.specs.Balances.{BalanceSays, OutcomeSays}
-use Rattle.sheets.specs.Counters.{nextOf, raised}
-use Rattle.sheets.specs.Drawings.{sheetBytes, sheetOf}
-use Rattle.sheets.specs.Says.{SheetWith, SheetSays}
-use Rattle.sheets.specs.Sentences.{callFault, Refused, RefusedWith}
-use Rattle.sheets.proofs.Promise.{read-bad, found, plant-count, plant-balance, plant-overfull}
-use Rattle.drawing.specs.Draws.{Filled, DrawnOf}
+use Rattle.flow_def.specs.Overfull.{unmarked, Overfull}
+use Rattle.sheet_def.specs.declared.Sheet.{Sheet}
+use Rattle.sheet_def.specs.declared.Balance.{Balance}
+use Rattle.sheet_def.specs.declared.Outcome.{Outcome}
+use Rattle.sheet_def.specs.Balances.{BalanceSays, OutcomeSays}
+use Rattle.sheet_def.specs.Counters.{nextOf, raised}
+use Rattle.sheet_def.specs.Drawings.{sheetBytes, sheetOf}
+use Rattle.sheet_def.specs.Says.{SheetWith, SheetSays}
+use Rattle.sheet_def.specs.Sentences.{callFault, Refused, RefusedWith}
+use Rattle.sheet_def.proofs.Promise.{read-bad, found, plant-count, plant-balance, plant-overfull}
+use Rattle.sheet_draw.specs.Draws.{Filled, DrawnOf}
 
 module _ (file : List ℕ) (office : ℕ) (lasts : List ℕ) (o : List ℕ) where
   -- By the test of the call itself.

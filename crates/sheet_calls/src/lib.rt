@@ -1,11 +1,11 @@
 // The sheet call.
 use balances::balance_of;
-use drawing::call_fault;
-use drawing::draw;
-use drawing::refused;
-use sheets::Sheet;
-use sheets::kinds::OFFICES;
-ghost use Rattle.sheets.specs.Says.{SheetSays};
+use sheet_def::Sheet;
+use sheet_def::kinds::OFFICES;
+use sheet_draw::call_fault;
+use sheet_draw::draw;
+use sheet_draw::refused;
+ghost use Rattle.sheet_def.specs.Says.{SheetSays};
 
 // The balance sheet of a plant file, drawn for an office under its next number; or a refusal that leaves slice and counters as they
 // were.

@@ -1,18 +1,18 @@
 // The fields of a kept sheet: the blank, records that do not fit, and the refusals of the total, in their order.
-use flows::Class;
-use numbers::first_of;
+use flow_def::Class;
+use num_bytes::first_of;
 use plants::limits::MAX_STREAMS;
 use plants::limits::MAX_UNITS;
-use sheets::Entry;
-use sheets::Total;
-use sheets::kinds::OFFICES;
+use sheet_def::Entry;
+use sheet_def::Total;
+use sheet_def::kinds::OFFICES;
 ghost use mathlib.Core.Path.{_≡_};
 ghost use mathlib.Core.Bool.{_||_};
 ghost use lib.Dec.{leb, ltb};
 ghost use lib.ListN.{length};
-ghost use Rattle.numbers.specs.Choice.{refuseIf, firstOf};
+ghost use Rattle.num_bytes.specs.Choice.{refuseIf, firstOf};
 ghost use Rattle.plants.specs.Limits.{maxStreams};
-ghost use Rattle.sheets.specs.Kept.{blank, verdictFits, totalFault, afterFault};
+ghost use Rattle.sheet_def.specs.Kept.{blank, verdictFits, totalFault, afterFault};
 
 // A stream record of so many bytes, after so many streams: there is no room for it, or it is cut.
 pub fn unfit(size: usize, count: u8, s: &[u8]) -> bool

@@ -1,31 +1,31 @@
 // The bytes of a sheet's records: those of the streams, and the total. Each writer is lent the part of the slice that starts at the
 // next free byte.
-use flows::Class;
+use flow_def::Class;
 use plants::limits::MAX_STREAMS;
-use sheets::Entry;
-use sheets::kinds::ADJUSTED;
-use sheets::kinds::AS_READ;
-use sheets::kinds::GIVEN;
-use sheets::kinds::STREAM_SIZE;
-use sheets::kinds::TOTAL;
-use sheets::kinds::WITHHELD;
+use sheet_def::Entry;
+use sheet_def::kinds::ADJUSTED;
+use sheet_def::kinds::AS_READ;
+use sheet_def::kinds::GIVEN;
+use sheet_def::kinds::STREAM_SIZE;
+use sheet_def::kinds::TOTAL;
+use sheet_def::kinds::WITHHELD;
 ghost use mathlib.Core.Path.{_≡_};
 ghost use mathlib.Core.List.{[], _∷_, _++_};
 ghost use Prim.Native.Nat.{_≤_, _*_};
 ghost use lib.ListN.{length, take};
-ghost use Rattle.numbers.specs.Bytes.{putBe, raw, over};
-ghost use Rattle.numbers.specs.Inner.{Put};
+ghost use Rattle.num_bytes.specs.Bytes.{putBe, raw, over};
+ghost use Rattle.num_bytes.specs.Inner.{Put};
 ghost use Rattle.plants.specs.Limits.{maxStreams};
-ghost use Rattle.sheets.specs.Sheets.{recordOf, recordsOf, totalOf};
-ghost use Rattle.sheets.specs.Apart.{totalKind, streamSize, totalSize};
+ghost use Rattle.sheet_def.specs.Sheets.{recordOf, recordsOf, totalOf};
+ghost use Rattle.sheet_def.specs.Apart.{totalKind, streamSize, totalSize};
 
 // A kind and a flow.
 fn put_flow(kind: u8, flow: i64, out: &mut [u8])
     requires { ⌜ streamSize ≤ length (now out) ⌝ }
     ensures { λ _. ⌜ now (out .exit) ≡ over (kind ∷ putBe 8 (raw 8 flow)) (now (out .entry)) ⌝ }
 {
-    numbers::put_u8(kind, out);
-    numbers::put_i64(flow, &mut out[1..]);
+    num_bytes::put_u8(kind, out);
+    num_bytes::put_i64(flow, &mut out[1..]);
 }
 
 // A stream's record, and how many bytes it takes. The blank has no body.
@@ -47,7 +47,7 @@ fn put_record(class: Class, flow: i64, out: &mut [u8]) -> usize
             STREAM_SIZE
         }
         Class::Withheld => {
-            numbers::put_u8(WITHHELD, out);
+            num_bytes::put_u8(WITHHELD, out);
             1
         }
     }
@@ -75,9 +75,9 @@ fn put_number(office: u8, number: u32, out: &mut [u8])
     requires { ⌜ totalSize ≤ length (now out) ⌝ }
     ensures { λ _. ⌜ now (out .exit) ≡ over (totalKind ∷ office ∷ putBe 4 number) (now (out .entry)) ⌝ }
 {
-    numbers::put_u8(TOTAL, out);
-    numbers::put_u8(office, &mut out[1..]);
-    numbers::put_u32(number, &mut out[2..]);
+    num_bytes::put_u8(TOTAL, out);
+    num_bytes::put_u8(office, &mut out[1..]);
+    num_bytes::put_u32(number, &mut out[2..]);
 }
 
 // What stands behind them: cost, degrees and verdict.
@@ -85,9 +85,9 @@ fn put_cost(cost: u64, degrees: u8, verdict: u8, out: &mut [u8])
     requires { ⌜ 10 ≤ length (now out) ⌝ }
     ensures { λ _. ⌜ now (out .exit) ≡ over (putBe 8 cost ++ (degrees ∷ verdict ∷ [])) (now (out .entry)) ⌝ }
 {
-    numbers::put_u64(cost, out);
-    numbers::put_u8(degrees, &mut out[8..]);
-    numbers::put_u8(verdict, &mut out[9..]);
+    num_bytes::put_u64(cost, out);
+    num_bytes::put_u8(degrees, &mut out[8..]);
+    num_bytes::put_u8(verdict, &mut out[9..]);
 }
 
 // The total.

@@ -1,14 +1,14 @@
 // The bytes of a sheet.
+use sheet_def::Balance;
+use sheet_def::kinds::TOTAL_SIZE;
 use sheet_records::put_records;
 use sheet_records::put_total;
-use sheets::Balance;
-use sheets::kinds::TOTAL_SIZE;
 ghost use Prim.Native.Nat.{_≤_};
 ghost use lib.ListN.{length};
-ghost use Rattle.numbers.specs.Inner.{Put};
+ghost use Rattle.num_bytes.specs.Inner.{Put};
 ghost use Rattle.plants.specs.Limits.{maxStreams};
-ghost use Rattle.sheets.specs.Drawings.{sheetBytes};
-ghost use Rattle.sheets.specs.Apart.{leastSlice};
+ghost use Rattle.sheet_def.specs.Drawings.{sheetBytes};
+ghost use Rattle.sheet_def.specs.Apart.{leastSlice};
 
 // An office's sheet of a balance with so many streams, under a number, and how many bytes it takes.
 pub fn put_sheet(office: u8, count: usize, number: u32, b: Balance, out: &mut [u8]) -> usize

@@ -7,11 +7,11 @@ ghost use mathlib.Core.Path.{_≡_};
 ghost use Prim.Native.Nat.{_<_};
 ghost use lib.ListN.{length};
 ghost use lib.Bits.{bitXor};
-ghost use Rattle.numbers.specs.Choice.{pick};
+ghost use Rattle.num_bytes.specs.Choice.{pick};
 ghost use lib.Dec.{eqb};
 ghost use Rattle.plants.specs.Limits.{maxUnits, places};
 ghost use Rattle.plants.specs.Within.{WithinStream};
-ghost use Rattle.flows.specs.Sides.{takenBy, apart, loopedBy, turned, parted};
+ghost use Rattle.flow_def.specs.Sides.{takenBy, apart, loopedBy, turned, parted};
 
 // The label that a stream takes away.
 pub fn taken_by(labels: &[u8; PLACES], s: Stream) -> u8

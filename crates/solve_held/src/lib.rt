@@ -1,14 +1,14 @@
 // Weights, readings and ranges as the solver holds them.
-use model::sizes::FLOW_SHIFT;
-use model::sizes::MOST_FLOW;
 use plants::Stream;
+use solve_def::sizes::FLOW_SHIFT;
+use solve_def::sizes::MOST_FLOW;
 ghost use mathlib.Core.Path.{_≡_};
 ghost use Prim.Native.Nat.{_-_, _*_, _≤_};
 ghost use Rattle.plants.specs.Limits.{maxUnits};
 ghost use Rattle.plants.specs.Within.{WithinStream};
-ghost use Rattle.model.specs.Sizes.{mostFlow, mostPull};
-ghost use Rattle.flows.specs.Certificate.{weightOf};
-ghost use Rattle.model.specs.Held.{shifted, readingOf, lowOf, highOf};
+ghost use Rattle.solve_def.specs.Sizes.{mostFlow, mostPull};
+ghost use Rattle.flow_def.specs.Certificate.{weightOf};
+ghost use Rattle.solve_def.specs.Held.{shifted, readingOf, lowOf, highOf};
 
 // A stream's weight; an unmetered stream counts as one of weight 0.
 pub fn weight_of(s: Stream) -> u64

@@ -1,18 +1,18 @@
 // Margins: for each arc its marginal cost, what one step more along it costs at the present amounts; and the reduced cost, by the prices
 // of its two ends.
-use model::sizes::FARTHEST;
-use model::sizes::MOST_FLOW;
 use plants::limits::MAX_STREAMS;
 use plants::limits::MAX_WEIGHT;
 use solve_arcs::MARGINS;
 use solve_arcs::ROWS;
+use solve_def::sizes::FARTHEST;
+use solve_def::sizes::MOST_FLOW;
 use solve_held::minus;
 ghost use mathlib.Core.Bool.{true, false};
 ghost use mathlib.Core.Path.{_≡_};
 ghost use Prim.Native.Nat.{ℕ, _+_, _*_, _≤_, _<_};
 ghost use lib.ListN.{getD, length, set};
 ghost use Rattle.plants.specs.Limits.{maxStreams, maxWeight};
-ghost use Rattle.model.specs.Sizes.{farthest, mostFlow, mostPull, mostStep, priceShift};
+ghost use Rattle.solve_def.specs.Sizes.{farthest, mostFlow, mostPull, mostStep, priceShift};
 ghost use Rattle.solve_arcs.specs.Cells.{marginCells};
 ghost use Rattle.solve_arcs.specs.Margins.{lessOf, marginBy, marginAt, shut, reducedCost};
 ghost use Rattle.solve_arcs.specs.ArcNeeds.{Row, Margined};

@@ -1,19 +1,19 @@
 // Shortest paths: the search over visited places, along arcs by their reduced costs.
-use model::Searched;
 use plants::limits::PLACES;
 use solve_arcs::ARCS;
 use solve_arcs::MARGINS;
+use solve_def::Searched;
 use solve_held::minus;
 use walking::tight_walk;
 use walking::walk;
 ghost use mathlib.Core.Path.{_≡_};
 ghost use Prim.Native.Nat.{ℕ, _-_, _<_};
 ghost use lib.ListN.{length, take};
-ghost use Rattle.numbers.specs.Choice.{pick};
+ghost use Rattle.num_bytes.specs.Choice.{pick};
 ghost use Rattle.plants.specs.Limits.{places};
-ghost use Rattle.model.specs.Search.{rootAt, grownBy, sought, tightPath};
-ghost use Rattle.model.specs.Sizes.{searchRounds};
-ghost use Rattle.model.specs.Near.{reducedBy};
+ghost use Rattle.solve_def.specs.Search.{rootAt, grownBy, sought, tightPath};
+ghost use Rattle.solve_def.specs.Sizes.{searchRounds};
+ghost use Rattle.solve_def.specs.Near.{reducedBy};
 ghost use Rattle.solve_arcs.specs.ArcNeeds.{Searching};
 
 pub mod walking;

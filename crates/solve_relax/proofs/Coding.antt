@@ -10,17 +10,17 @@ use lib.Bits.{bitOr, or-zero-r}
 use lib.Dec.{ltb}
 use lib.ListN.{length, getD, set, length-set}
 use lib.Seq.{ext-getD, getD-set-same, getD-set-other, set-getD}
-use Rattle.numbers.specs.Choice.{pick}
-use Rattle.numbers.proofs.Tests.{by-cases, clash, or-cases, picked}
+use Rattle.num_bytes.specs.Choice.{pick}
+use Rattle.num_bytes.proofs.Tests.{by-cases, clash, or-cases, picked}
 use Rattle.plants.specs.Limits.{places, maxStreams}
-use Rattle.flows.specs.Sides.{bit}
-use Rattle.flows.proofs.Lists.{values-at, values-long}
-use Rattle.flows.proofs.Binary.{bit-or, bit-zero, bit-other}
-use Rattle.flows.proofs.Passed.{shifted}
-use Rattle.model.specs.Sizes.{far, farthest}
-use Rattle.model.specs.Near.{codeOf, lessened, arcAt, relaxedAlong, relaxedTo}
-use Rattle.model.specs.Fringe.{Open, openedBy}
-use Rattle.model.proofs.Opening.{open-offered}
+use Rattle.flow_def.specs.Sides.{bit}
+use Rattle.flow_def.proofs.Lists.{values-at, values-long}
+use Rattle.flow_def.proofs.Binary.{bit-or, bit-zero, bit-other}
+use Rattle.flow_def.proofs.Passed.{shifted}
+use Rattle.solve_def.specs.Sizes.{far, farthest}
+use Rattle.solve_def.specs.Near.{codeOf, lessened, arcAt, relaxedAlong, relaxedTo}
+use Rattle.solve_def.specs.Fringe.{Open, openedBy}
+use Rattle.solve_def.proofs.Opening.{open-offered}
 use Rattle.solve_arcs.specs.Cells.{toCell, nextCell, countOf, startsOf, endsOf}
 use Rattle.solve_arcs.specs.Margins.{lessOf, reducedCost, reducedCosts}
 use Rattle.solve_arcs.specs.ArcNeeds.{Linked}

@@ -4,13 +4,13 @@ use mathlib.Core.Bool.{Bool, true, false}
 use mathlib.Core.List.{List}
 use Prim.Native.Nat.{ℕ, _<_}
 use lib.ListN.{length, getD}
-use Rattle.numbers.specs.Choice.{pick}
-use Rattle.numbers.specs.Inner.{values}
+use Rattle.num_bytes.specs.Choice.{pick}
+use Rattle.num_bytes.specs.Inner.{values}
 use Rattle.plants.specs.Limits.{places}
-use Rattle.flows.specs.Sides.{bit}
-use Rattle.model.specs.Sizes.{far}
-use Rattle.model.specs.Near.{relaxedTo}
-use Rattle.model.specs.Fringe.{Open}
+use Rattle.flow_def.specs.Sides.{bit}
+use Rattle.solve_def.specs.Sizes.{far}
+use Rattle.solve_def.specs.Near.{relaxedTo}
+use Rattle.solve_def.specs.Fringe.{Open}
 use Rattle.solve_arcs.specs.Cells.{countOf, startsOf, endsOf}
 use Rattle.solve_arcs.specs.Margins.{reducedCosts}
 

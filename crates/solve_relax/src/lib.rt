@@ -1,6 +1,4 @@
 // The streams at a place, looked at along its arcs.
-use model::Spot;
-use model::sizes::NUMBERING;
 use plants::limits::PLACES;
 use solve_arcs::ARCS;
 use solve_arcs::MARGINS;
@@ -8,6 +6,8 @@ use solve_arcs::NONE;
 use solve_arcs::end_at;
 use solve_arcs::first_at;
 use solve_arcs::next_at;
+use solve_def::Spot;
+use solve_def::sizes::NUMBERING;
 use solve_margins::lesser;
 use solve_margins::reduced_cost;
 ghost use mathlib.Core.Bool.{Bool};
@@ -16,10 +16,10 @@ ghost use mathlib.Core.Path.{_≡_};
 ghost use Prim.Native.Nat.{_+_, _*_, _<_};
 ghost use lib.ListN.{length};
 ghost use Rattle.plants.specs.Limits.{places, maxStreams};
-ghost use Rattle.model.specs.Sizes.{farthest, far};
-ghost use Rattle.numbers.specs.Choice.{pick};
-ghost use Rattle.model.specs.Near.{codeOf, lessened};
-ghost use Rattle.model.specs.Fringe.{openedBy};
+ghost use Rattle.solve_def.specs.Sizes.{farthest, far};
+ghost use Rattle.num_bytes.specs.Choice.{pick};
+ghost use Rattle.solve_def.specs.Near.{codeOf, lessened};
+ghost use Rattle.solve_def.specs.Fringe.{openedBy};
 ghost use Rattle.solve_arcs.specs.ArcNeeds.{Ways};
 ghost use Rattle.solve_relax.specs.Codes.{Coded, Looked};
 

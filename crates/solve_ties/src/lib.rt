@@ -1,5 +1,4 @@
 // Ties over arcs: among equally cheap flows, the first metered stream least, then the second, and so on.
-use model::Route;
 use plants::limits::MAX_STREAMS;
 use plants::limits::PLACES;
 use solve_arcs::ARCS;
@@ -8,6 +7,7 @@ use solve_arcs::ROWS;
 use solve_arcs::count_of;
 use solve_arcs::end_at;
 use solve_augment::augment;
+use solve_def::Route;
 use solve_margins::reduced_cost;
 use solve_margins::shut_margins;
 use solve_path::tight_path;
@@ -18,7 +18,7 @@ ghost use Prim.Native.Nat.{ℕ, _+_, _*_, _<_};
 ghost use lib.Dec.{eqb, ltb};
 ghost use lib.ListN.{getD, length, take};
 ghost use Rattle.plants.specs.Limits.{maxStreams};
-ghost use Rattle.model.specs.Model.{tiedAt, tiesTo};
+ghost use Rattle.solve_def.specs.Model.{tiedAt, tiesTo};
 ghost use Rattle.solve_arcs.specs.Cells.{countOf, marginCells};
 ghost use Rattle.solve_arcs.specs.Margins.{reducedCosts};
 ghost use Rattle.solve_arcs.specs.ArcNeeds.{Ways, Margined};

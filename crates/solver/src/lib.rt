@@ -1,6 +1,4 @@
 // The cheapest balanced flow of a plant, with prices that certify it; or a set of places that must take in more than it can let out.
-use model::Hint;
-use model::Solved;
 use outcomes::solve_at;
 use plants::Plant;
 use plants::limits::PLACES;
@@ -9,12 +7,14 @@ use solve_arcs::ARCS;
 use solve_arcs::NONE;
 use solve_arcs::ROWS;
 use solve_arcs_fill::lay;
-use starts::start;
+use solve_def::Hint;
+use solve_def::Solved;
+use solve_start::start;
 ghost use Rattle.plants.specs.Within.{Accepted};
 ghost use Rattle.plants.specs.Says.{plantOf};
-ghost use Rattle.flows.specs.Calls.{Grouped};
-ghost use Rattle.model.specs.SolverNeeds.{Hinted};
-ghost use Rattle.model.specs.Promise.{Right};
+ghost use Rattle.flow_def.specs.Calls.{Grouped};
+ghost use Rattle.solve_def.specs.SolverNeeds.{Hinted};
+ghost use Rattle.solve_def.specs.Promise.{Right};
 
 // From any hint.
 pub fn solve_from(p: Plant, h: Hint) -> Solved

@@ -10,8 +10,8 @@ use borrow.Author.Count.{below-more}
 use Rattle.plants.specs.declared.Stream.{Stream}
 use Rattle.plants.specs.Limits.{places, maxUnits}
 use Rattle.spanning.specs.Forests.{Spanning, Unmetered, Listed}
-use Rattle.model.specs.Counts.{countTo}
-use Rattle.model.proofs.Counting.{count-most, count-more}
+use Rattle.solve_def.specs.Counts.{countTo}
+use Rattle.solve_def.proofs.Counting.{count-most, count-more}
 
 pub spanning-short : {reached : List Bool} {via : List ℕ} {into : List Bool} {len : ℕ} → Spanning reached via into len → len ≤ places
 spanning-short {reached} s = omega (arith, s .few, count-most maxUnits (λ u. getD reached u false))

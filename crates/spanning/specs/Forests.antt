@@ -8,7 +8,7 @@ use Rattle.plants.specs.declared.Stream.{Stream}
 use Rattle.plants.specs.Limits.{places, maxUnits}
 use Rattle.plants.specs.Plants.{noStream}
 use Rattle.spanning.specs.declared.Forest.{Forest}
-use Rattle.model.specs.Counts.{countTo}
+use Rattle.solve_def.specs.Counts.{countTo}
 
 -- A forest of len streams, with as many places reached, at least.
 pub record Spanning (reached : List Bool) (via : List ℕ) (into : List Bool) (len : ℕ) : Type 0 where

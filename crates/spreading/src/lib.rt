@@ -7,8 +7,8 @@ ghost use lib.ListN.{getD, replicate};
 ghost use Rattle.plants.specs.Limits.{maxStreams};
 ghost use Rattle.plants.specs.Within.{Accepted};
 ghost use Rattle.plants.specs.Says.{plantOf};
-ghost use Rattle.flows.specs.Written.{Written};
-ghost use Rattle.purchases.specs.Purchases.{priceIn};
+ghost use Rattle.flow_def.specs.Written.{Written};
+ghost use Rattle.purchase_def.specs.Purchases.{priceIn};
 
 // A price in the list, 0 past its end.
 fn price_at(prices: &[u32], k: usize) -> u32

@@ -11,8 +11,8 @@ pub fn metered_in(b: &[u8]) -> Stream
     requires { ⌜ meteredBody ≤ length (now b) ⌝ }
     ensures { λ r. ⌜ r ≡ meteredIn (now (b .entry)) ⌝ }
 {
-    let weight = numbers::get_u16(&b[2..]);
-    let reading = numbers::get_i32(&b[4..]);
+    let weight = num_bytes::get_u16(&b[2..]);
+    let reading = num_bytes::get_i32(&b[4..]);
     Stream {
         from: b[0],
         to: b[1],
@@ -30,8 +30,8 @@ pub fn ranged_in(b: &[u8]) -> Stream
     ensures { λ r. ⌜ r ≡ rangedIn (now (b .entry)) ⌝ }
 {
     let s = metered_in(b);
-    let low = numbers::get_i32(&b[8..]);
-    let high = numbers::get_i32(&b[12..]);
+    let low = num_bytes::get_i32(&b[8..]);
+    let high = num_bytes::get_i32(&b[12..]);
     Stream {
         from: s.from,
         to: s.to,

@@ -1,7 +1,7 @@
 // The faults of a plant's parts: of its units, and of a stream.
 ghost use mathlib.Core.Path.{_≡_};
 ghost use Rattle.plants.specs.Plants.{unitsFault, meterFault, rangeFault, streamFault};
-use numbers::first_of;
+use num_bytes::first_of;
 use plants::Stream;
 use plants::limits::MAX_RANGE;
 use plants::limits::MAX_READING;

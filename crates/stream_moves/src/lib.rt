@@ -1,7 +1,7 @@
 // A stream moved to the ranged form and home again, and whether its range is narrower than the widest.
 ghost use mathlib.Core.Path.{_≡_};
-ghost use Rattle.moves.specs.Moves.{widened, bared, narrower};
-ghost use Rattle.moves.specs.Inner.{moving};
+ghost use Rattle.ranged_def.specs.Moves.{widened, bared, narrower};
+ghost use Rattle.ranged_def.specs.Inner.{moving};
 use plants::Stream;
 use plants::limits::MAX_RANGE;
 

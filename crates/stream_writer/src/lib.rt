@@ -3,8 +3,8 @@ ghost use mathlib.Core.Path.{_≡_};
 ghost use Prim.Native.Nat.{suc, _≤_};
 ghost use lib.ListN.{length};
 ghost use mathlib.Core.List.{[], _∷_, _++_};
-ghost use Rattle.numbers.specs.Bytes.{over};
-ghost use Rattle.numbers.specs.Inner.{Put};
+ghost use Rattle.num_bytes.specs.Bytes.{over};
+ghost use Rattle.num_bytes.specs.Inner.{Put};
 ghost use Rattle.plants.specs.Limits.{rangedKind, meteredBody, rangedBody};
 ghost use Rattle.plants.specs.Files.{meterBytes, rangeBytes, streamBytes};
 use plants::Stream;
@@ -31,8 +31,8 @@ fn put_meter(kind: u8, s: Stream, out: &mut [u8])
     ensures { λ _. ⌜ now (out .exit) ≡ over (kind ∷ meterBytes s) (now (out .entry)) ⌝ }
 {
     put_ends(kind, s.from, s.to, out);
-    numbers::put_u16(s.weight, &mut out[3..]);
-    numbers::put_i32(s.reading, &mut out[5..]);
+    num_bytes::put_u16(s.weight, &mut out[3..]);
+    num_bytes::put_i32(s.reading, &mut out[5..]);
 }
 
 // The record of a metered stream with a range.
@@ -41,8 +41,8 @@ pub fn put_ranged(s: Stream, out: &mut [u8])
     ensures { λ _. ⌜ now (out .exit) ≡ over (rangedKind ∷ meterBytes s ++ rangeBytes s) (now (out .entry)) ⌝ }
 {
     put_meter(RANGED, s, out);
-    numbers::put_i32(s.low, &mut out[9..]);
-    numbers::put_i32(s.high, &mut out[13..]);
+    num_bytes::put_i32(s.low, &mut out[9..]);
+    num_bytes::put_i32(s.high, &mut out[13..]);
 }
 
 // A stream record, and how many bytes it takes.

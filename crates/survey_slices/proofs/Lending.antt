@@ -6,9 +6,9 @@ use native.Mathlib.Numerals.{add-one}
 use native.Mathlib.Omega.{arith}
 use borrow.Author.Tests.{eq-eqb, ne-eqb}
 use lib.ListN.{length, take}
-use Rattle.numbers.specs.Bytes.{over}
-use Rattle.surveys.specs.declared.Layouts.{Layouts}
-use Rattle.surveys.specs.Says.{surveySize, SurveySays}
+use Rattle.num_bytes.specs.Bytes.{over}
+use Rattle.survey_def.specs.declared.Layouts.{Layouts}
+use Rattle.survey_def.specs.Says.{surveySize, SurveySays}
 use Rattle.survey_slices.specs.Lent.{HandedOver, LendSays}
 
 module _ (file cs : List ℕ) where

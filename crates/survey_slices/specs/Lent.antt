@@ -3,9 +3,9 @@ use mathlib.Core.Path.{_≡_}
 use mathlib.Core.List.{List}
 use Prim.Native.Nat.{ℕ, _≤_, _<_}
 use lib.ListN.{length}
-use Rattle.numbers.specs.Bytes.{over}
-use Rattle.surveys.specs.declared.Layouts.{Layouts}
-use Rattle.surveys.specs.Says.{surveySize, refusedWith, listed, SurveySays}
+use Rattle.num_bytes.specs.Bytes.{over}
+use Rattle.survey_def.specs.declared.Layouts.{Layouts}
+use Rattle.survey_def.specs.Says.{surveySize, refusedWith, listed, SurveySays}
 
 -- What the caller finds: the number, how many streams there are, and the counts at the front of the slice, the rest as it was. (With
 -- a refusal there are no counts: the slice is as it was.)

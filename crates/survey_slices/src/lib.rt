@@ -1,11 +1,11 @@
 // The survey of a plant file, its counts handed over in a slice.
+use survey_def::SURVEY_SIZE;
 use surveyor::layouts_of;
-use surveys::SURVEY_SIZE;
 ghost use mathlib.Core.Path.{_≡_};
 ghost use Prim.Native.Nat.{_≤_};
 ghost use lib.ListN.{length, take};
-ghost use Rattle.numbers.specs.Bytes.{over};
-ghost use Rattle.surveys.specs.Says.{surveySize};
+ghost use Rattle.num_bytes.specs.Bytes.{over};
+ghost use Rattle.survey_def.specs.Says.{surveySize};
 ghost use Rattle.survey_slices.specs.Lent.{LendSays};
 
 // What is handed over beside the slice: the number, and how many streams there are.

@@ -6,15 +6,15 @@ use native.Mathlib.Omega.{arith}
 use borrow.Author.Tests.{eq-eqb, ne-eqb, ltb-true, ltb-false}
 use lib.Dec.{ltb}
 use lib.ListN.{length, take}
-use Rattle.numbers.specs.Bytes.{over}
-use Rattle.numbers.specs.Inner.{Put}
-use Rattle.numbers.proofs.Tests.{by-cases}
-use Rattle.numerals.specs.Numerals.{decimal}
+use Rattle.num_bytes.specs.Bytes.{over}
+use Rattle.num_bytes.specs.Inner.{Put}
+use Rattle.num_bytes.proofs.Tests.{by-cases}
+use Rattle.num_text.specs.Numerals.{decimal}
 use Rattle.listings.specs.Listing.{refusalText}
-use Rattle.surveys.specs.declared.Layouts.{Layouts}
-use Rattle.surveys.specs.Says.{SurveySays}
-use Rattle.surveys.proofs.Promise.{one-survey}
-use Rattle.surveys.proofs.Samples.{samples}
+use Rattle.survey_def.specs.declared.Layouts.{Layouts}
+use Rattle.survey_def.specs.Says.{SurveySays}
+use Rattle.survey_def.proofs.Promise.{one-survey}
+use Rattle.survey_def.proofs.Samples.{samples}
 use Rattle.survey_texts.specs.Text.{linesFrom, surveyText}
 use Rattle.survey_texts.specs.Says.{leastText, TextSays, Texts}
 

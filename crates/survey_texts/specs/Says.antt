@@ -3,11 +3,11 @@ use mathlib.Core.Path.{_≡_}
 use mathlib.Core.List.{List}
 use Prim.Native.Nat.{ℕ, _*_, _≤_, _<_}
 use lib.ListN.{length}
-use Rattle.numbers.specs.Inner.{Put}
-use Rattle.numerals.specs.Numerals.{text}
-use Rattle.surveys.specs.declared.Layouts.{Layouts}
-use Rattle.surveys.specs.Says.{surveySize, SurveySays}
-use Rattle.surveys.specs.Sample.{sampleFile, emptyFile}
+use Rattle.num_bytes.specs.Inner.{Put}
+use Rattle.num_text.specs.Numerals.{text}
+use Rattle.survey_def.specs.declared.Layouts.{Layouts}
+use Rattle.survey_def.specs.Says.{surveySize, SurveySays}
+use Rattle.survey_def.specs.Sample.{sampleFile, emptyFile}
 use Rattle.survey_texts.specs.Text.{surveyText}
 
 -- The longest line: a size of 2 digits, a count of 5.

@@ -2,11 +2,11 @@
 use mathlib.Core.List.{List, [], _∷_, _++_}
 use Prim.Native.Nat.{ℕ, suc}
 use lib.Dec.{eqb}
-use Rattle.numbers.specs.Choice.{pick}
-use Rattle.numerals.specs.Numerals.{pairLine}
+use Rattle.num_bytes.specs.Choice.{pick}
+use Rattle.num_text.specs.Numerals.{pairLine}
 use Rattle.listings.specs.Listing.{refusalText}
-use Rattle.surveys.specs.declared.Layouts.{Layouts}
-use Rattle.surveys.specs.Says.{listed}
+use Rattle.survey_def.specs.declared.Layouts.{Layouts}
+use Rattle.survey_def.specs.Says.{listed}
 
 -- The lines of counts, the first of which is of this size.
 abbrev pub linesFrom : ℕ → List ℕ → List ℕ

@@ -1,18 +1,18 @@
 // The survey of a plant file, as text.
 use listings::put_refusal;
-use numerals::put_byte;
-use numerals::put_decimal;
-use numerals::put_field;
+use num_text::put_byte;
+use num_text::put_decimal;
+use num_text::put_field;
+use survey_def::SURVEY_SIZE;
 use surveyor::layouts_of;
-use surveys::SURVEY_SIZE;
 ghost use Prim.Native.Nat.{_+_, _≤_};
 ghost use mathlib.Core.List.{_++_};
 ghost use lib.ListN.{length, take};
-ghost use Rattle.numbers.specs.Inner.{Put};
-ghost use Rattle.numerals.specs.Adding.{Added};
+ghost use Rattle.num_bytes.specs.Inner.{Put};
+ghost use Rattle.num_text.specs.Adding.{Added};
 ghost use Rattle.listings.specs.Room.{Counts};
-ghost use Rattle.surveys.specs.Says.{surveySize};
-ghost use Rattle.numerals.specs.Numerals.{pairLine};
+ghost use Rattle.survey_def.specs.Says.{surveySize};
+ghost use Rattle.num_text.specs.Numerals.{pairLine};
 ghost use Rattle.survey_texts.specs.Text.{linesFrom};
 ghost use Rattle.survey_texts.specs.Says.{leastText, TextSays};
 

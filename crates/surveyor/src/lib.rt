@@ -2,14 +2,14 @@
 use counting::count_all;
 use counting::first_streams;
 use plants::Plant;
-use surveys::Layouts;
-use surveys::MAX_SURVEYED;
-use surveys::SURVEY_SIZE;
+use survey_def::Layouts;
+use survey_def::MAX_SURVEYED;
+use survey_def::SURVEY_SIZE;
 ghost use mathlib.Core.Path.{_≡_};
 ghost use Prim.Native.Nat.{_≤_};
 ghost use Rattle.plants.specs.Within.{Accepted};
 ghost use Rattle.plants.specs.Says.{plantOf};
-ghost use Rattle.surveys.specs.Says.{maxSurveyed, refusedWith, Surveyed, SurveySays};
+ghost use Rattle.survey_def.specs.Says.{maxSurveyed, refusedWith, Surveyed, SurveySays};
 
 // A refusal: its number, no streams, zeros.
 fn refusal(number: u8) -> Layouts

@@ -1,10 +1,10 @@
 // The solver.
-use file_trials::cases::NO_CASE;
-use file_trials::cases::told;
+use case_calls::marking::tested;
+use case_calls::solved::no_hint;
+use case_calls::solved::put_flows;
+use case_files::cases::NO_CASE;
+use case_files::cases::told;
 use plants::limits::MAX_STREAMS;
-use trials::marking::tested;
-use trials::solved::no_hint;
-use trials::solved::put_flows;
 ghost use mathlib.Core.Path.{_≡_};
 ghost use Prim.Native.Nat.{_≤_};
 ghost use lib.ListN.{length};

@@ -5,7 +5,7 @@ use Prim.Native.Nat.{ℕ, _+_, _-_, _*_, _/_, _≤_, _<_}
 use native.Mathlib.Omega.{arith}
 use borrow.Author.Tests.{ne-eqb, le-leb, lt-leb}
 use lib.Dec.{leb}
-use Rattle.flows.specs.Test.{criticalAt, verdictAt}
+use Rattle.flow_def.specs.Test.{criticalAt, verdictAt}
 
 module _ (d c q : ℕ) (some : d ≡ 0 → ⊥) where
   pub pass-is : c ≤ criticalAt d → 0 ≡ verdictAt d c q

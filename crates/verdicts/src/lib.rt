@@ -4,7 +4,7 @@ pub use weighing::adjusted_weights;
 ghost use mathlib.Core.Path.{_≡_};
 ghost use Prim.Native.Nat.{_≤_};
 ghost use Rattle.plants.specs.Limits.{maxUnits};
-ghost use Rattle.flows.specs.Test.{verdictAt};
+ghost use Rattle.flow_def.specs.Test.{verdictAt};
 
 // Critical values of chi-square at 95 per cent, in thousandths, by degrees minus one.
 const CRITICAL: [u64; MAX_UNITS as usize] = [

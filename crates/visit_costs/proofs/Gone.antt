@@ -13,7 +13,7 @@ use Rattle.plants.specs.Plants.{Plant, noStream}
 use Rattle.plants.specs.Within.{Accepted}
 use Rattle.plants.specs.Says.{plantOf}
 use Rattle.plants.proofs.Arrayed.{listed-at}
-use Rattle.flows.specs.Flows.{streamAt}
+use Rattle.flow_def.specs.Flows.{streamAt}
 use Rattle.visit_def.specs.Visits.{unmeter, without, LeastCost, Feasible}
 use Rattle.visit_def.proofs.Unmetered.{parts-gone, feasible}
 

@@ -1,5 +1,5 @@
 // The least costs without the meter of one stream, for each A stream.
-use flows::Class;
+use flow_def::Class;
 use plants::Plant;
 use plants::limits::MAX_STREAMS;
 use plants::streams::unmetered_stream;
@@ -11,8 +11,8 @@ ghost use lib.ListN.{getD, replicate};
 ghost use Rattle.plants.specs.Limits.{maxStreams};
 ghost use Rattle.plants.specs.Within.{Accepted};
 ghost use Rattle.plants.specs.Says.{plantOf};
-ghost use Rattle.flows.specs.declared.Class.the-variants.{Adjusted};
-ghost use Rattle.flows.specs.Written.{Written};
+ghost use Rattle.flow_def.specs.declared.Class.the-variants.{Adjusted};
+ghost use Rattle.flow_def.specs.Written.{Written};
 ghost use Rattle.visit_def.specs.Visits.{without, LeastCost, Feasible, isAdjusted};
 
 // The plant with stream k unmetered, and its range gone.

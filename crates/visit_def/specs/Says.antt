@@ -9,9 +9,9 @@ use lib.ListN.{length, getD, replicate}
 use Rattle.plants.specs.Limits.{maxStreams}
 use Rattle.plants.specs.Plants.{Plant}
 use Rattle.plants.specs.Files.{Got, bad, got, readPlant}
-use Rattle.flows.specs.Flows.{streamAt, allowed, cost, Cheapest}
-use Rattle.sheets.specs.Apart.{capped}
-use Rattle.sheets.specs.Sentences.{EndsJoined}
+use Rattle.flow_def.specs.Flows.{streamAt, allowed, cost, Cheapest}
+use Rattle.sheet_def.specs.Apart.{capped}
+use Rattle.sheet_def.specs.Sentences.{EndsJoined}
 use Rattle.visit_def.specs.declared.Visits.{Visits}
 use Rattle.visit_def.specs.Visits.{without, isListed, LeastCost, Ordered, AllLeast}
 

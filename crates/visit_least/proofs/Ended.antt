@@ -6,28 +6,28 @@ use lib.IntN.{ℤ}
 use Prim.Native.Nat.{ℕ}
 use native.Mathlib.Omega.{arith}
 use lib.ListN.{length, take}
-use Rattle.numbers.proofs.Tests.{clash}
+use Rattle.num_bytes.proofs.Tests.{clash}
 use Rattle.plants.specs.declared.Stream.{Stream}
 use Rattle.plants.specs.declared.Plant as Arrays
 use Rattle.plants.specs.Plants.{Plant}
 use Rattle.plants.specs.Within.{Accepted}
 use Rattle.plants.specs.Says.{plantOf}
 use Rattle.plants.proofs.Arrayed.{all-listed, within-of}
-use Rattle.flows.specs.Flows.{allowed, cost, OfLeastCost}
-use Rattle.flows.proofs.Overfull.{overfull-none}
-use Rattle.flows.proofs.Prices.{Certificate, least}
-use Rattle.model.specs.declared.State.{State}
-use Rattle.model.specs.declared.Ended.{Ended}
-use Rattle.model.specs.Held.{unshifted, opened}
-use Rattle.model.specs.Model.{finished, masked}
-use Rattle.model.specs.Promise.{priceAt}
-use Rattle.model.specs.SolverNeeds.{AtHint, Even, Amounts}
-use Rattle.model.proofs.Phases.{Finished}
-use Rattle.model.proofs.Ending.{finished-good, finished-even}
-use Rattle.model.proofs.Certify.{certify}
-use Rattle.model.proofs.Theorem.{solvable-in, ended-full}
-use Rattle.sheets.specs.Apart.{capped}
-use Rattle.sheets.specs.Calls.{AllSmall}
+use Rattle.flow_def.specs.Flows.{allowed, cost, OfLeastCost}
+use Rattle.flow_def.proofs.Overfull.{overfull-none}
+use Rattle.flow_def.proofs.Prices.{Certificate, least}
+use Rattle.solve_def.specs.declared.State.{State}
+use Rattle.solve_def.specs.declared.Ended.{Ended}
+use Rattle.solve_def.specs.Held.{unshifted, opened}
+use Rattle.solve_def.specs.Model.{finished, masked}
+use Rattle.solve_def.specs.Promise.{priceAt}
+use Rattle.solve_def.specs.SolverNeeds.{AtHint, Even, Amounts}
+use Rattle.solve_def.proofs.Phases.{Finished}
+use Rattle.solve_def.proofs.Ending.{finished-good, finished-even}
+use Rattle.solve_def.proofs.Certify.{certify}
+use Rattle.solve_def.proofs.Theorem.{solvable-in, ended-full}
+use Rattle.sheet_def.specs.Apart.{capped}
+use Rattle.sheet_def.specs.Calls.{AllSmall}
 use Rattle.reckoning.proofs.Balanced.{flows-small, take-opened}
 use Rattle.visit_def.specs.Visits.{LeastCost, Feasible}
 

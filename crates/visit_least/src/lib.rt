@@ -1,16 +1,16 @@
 // The least cost of a plant that has a flow in range. No tie is sought: every flow of least cost has this one.
-use costs::cost_of;
 use entries::opened_flows;
-use flows::Which;
+use flow_def::Which;
 use grouping::group;
-use improving::finishing::finish;
 use plants::Plant;
+use sheet_cost::cost_of;
 use solve_arcs::ARCS;
 use solve_arcs::MARGINS;
 use solve_arcs::NONE;
 use solve_arcs::ROWS;
 use solve_arcs_fill::lay;
-use starts::start;
+use solve_phases::finishing::finish;
+use solve_start::start;
 ghost use Rattle.plants.specs.Within.{Accepted};
 ghost use Rattle.plants.specs.Says.{plantOf};
 ghost use Rattle.visit_def.specs.Visits.{LeastCost, Feasible};

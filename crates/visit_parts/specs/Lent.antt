@@ -4,7 +4,7 @@ use mathlib.Core.Logic.{_⊎_}
 use mathlib.Core.List.{List}
 use Prim.Native.Nat.{ℕ, _≤_, _<_}
 use lib.ListN.{length, take}
-use Rattle.numbers.specs.Bytes.{over}
+use Rattle.num_bytes.specs.Bytes.{over}
 use Rattle.plants.specs.Limits.{maxStreams}
 use Rattle.visit_def.specs.declared.Visits.{Visits}
 use Rattle.visit_def.specs.Says.{noVisits, VisitsSays}

@@ -12,12 +12,12 @@ use Rattle.plants.specs.Plants.{noStream}
 use Rattle.plants.specs.Within.{Accepted}
 use Rattle.plants.specs.Says.{plantOf}
 use Rattle.plants.proofs.Arrayed.{all-listed, listed-at}
-use Rattle.flows.specs.declared.Class.{Class}
-use Rattle.flows.specs.declared.Class.the-variants.{Adjusted}
-use Rattle.flows.specs.Classes.{classOf}
-use Rattle.flows.specs.Calls.{classesOf}
-use Rattle.flows.specs.Shown.{adjustedWeight, adjustedTo, adjusted}
-use Rattle.flows.proofs.Lists.{values-at}
+use Rattle.flow_def.specs.declared.Class.{Class}
+use Rattle.flow_def.specs.declared.Class.the-variants.{Adjusted}
+use Rattle.flow_def.specs.Classes.{classOf}
+use Rattle.flow_def.specs.Calls.{classesOf}
+use Rattle.flow_def.specs.Shown.{adjustedWeight, adjustedTo, adjusted}
+use Rattle.flow_def.proofs.Lists.{values-at}
 
 -- A plant and the classes of its streams.
 pub record Classed (p : Arrays.Plant) (cs : List Class) : Type 0 where

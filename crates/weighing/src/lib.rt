@@ -1,5 +1,5 @@
 // The weights of the adjusted streams, summed: how far above the best cost in fractions rounding may take a cost.
-use flows::Class;
+use flow_def::Class;
 use plants::Plant;
 use plants::Stream;
 use plants::limits::MAX_STREAMS;
@@ -7,8 +7,8 @@ ghost use mathlib.Core.Path.{_≡_};
 ghost use Prim.Native.Nat.{_≤_};
 ghost use Rattle.plants.specs.Within.{Accepted};
 ghost use Rattle.plants.specs.Says.{plantOf};
-ghost use Rattle.flows.specs.Shown.{adjustedWeight, adjusted};
-ghost use Rattle.flows.specs.Calls.{classesOf};
+ghost use Rattle.flow_def.specs.Shown.{adjustedWeight, adjusted};
+ghost use Rattle.flow_def.specs.Calls.{classesOf};
 
 // A stream's weight where it is adjusted.
 fn adjusted_weight(class: Class, s: Stream) -> u64

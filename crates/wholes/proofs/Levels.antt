@@ -5,7 +5,7 @@ use Prim.Native.Nat.{ℕ, _+_, _≤_, _<_}
 use native.Mathlib.Omega.{arith}
 use lib.ListN.{getD, set, length-set, length-map, replicate, length-replicate, getD-replicate}
 use Rattle.plants.specs.Limits.{places}
-use Rattle.flows.proofs.Lists.{map-at, set-each, Written, written-all}
+use Rattle.flow_def.proofs.Lists.{map-at, set-each, Written, written-all}
 use Rattle.meters.specs.Ends.{Labels}
 use Rattle.wholes.specs.Levels.{Banded, atLabels, Level}
 

@@ -4,13 +4,13 @@ use borrow.Author.Tests.{not-true, not-false}
 use mathlib.Core.Path.{_≡_, sym, subst}
 use mathlib.Core.Bool.{Bool, false}
 use mathlib.Core.List.{List}
-use Rattle.numbers.specs.Inner.{pickT}
+use Rattle.num_bytes.specs.Inner.{pickT}
 use Rattle.plants.specs.Plants.{Plant}
 use Rattle.plants.specs.Says.{plantOf}
-use Rattle.flows.specs.Overfull.{Overfull}
-use Rattle.sheets.specs.declared.Outcome.{Outcome}
-use Rattle.sheets.specs.Balances.{BalanceSays, OutcomeSays}
-use Rattle.sheets.proofs.Opening.{right-found, right-overfull}
+use Rattle.flow_def.specs.Overfull.{Overfull}
+use Rattle.sheet_def.specs.declared.Outcome.{Outcome}
+use Rattle.sheet_def.specs.Balances.{BalanceSays, OutcomeSays}
+use Rattle.sheet_def.proofs.Opening.{right-found, right-overfull}
 use Rattle.balances.proofs.balance_of.Statement.{statement}
 use Rattle.balances.proofs.balance_of.Tie as tie
 

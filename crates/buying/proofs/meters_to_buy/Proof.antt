@@ -4,8 +4,8 @@ use borrow.Author.Needs.{needs}
 use denote.Ref.{now}
 use Rattle.plants.specs.Within.{Accepted}
 use Rattle.plants.specs.Says.{plantOf}
-use Rattle.sheets.proofs.Promise.{plant-accepted}
-use Rattle.purchases.specs.Purchases.{pricesFault}
+use Rattle.sheet_def.proofs.Promise.{plant-accepted}
+use Rattle.purchase_def.specs.Purchases.{pricesFault}
 use Rattle.buying.proofs.Answering.{held-low, best-bought, mispriced, unread, answered}
 use Rattle.buying.proofs.meters_to_buy.Statement.{statement}
 use Rattle.buying.proofs.meters_to_buy.Tie as tie

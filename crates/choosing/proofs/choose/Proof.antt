@@ -5,7 +5,7 @@ use native.Mathlib.Omega.{arith}
 use borrow.Author.Needs.{needs}
 use lib.ListN.{getD}
 use Rattle.plants.specs.Says.{plantOf}
-use Rattle.purchases.specs.Choosing.{bought}
+use Rattle.purchase_def.specs.Choosing.{bought}
 use Rattle.choosing.proofs.Telling.{soFar, none-yet, with-room, next, told}
 use Rattle.choosing.proofs.choose.Statement.{statement}
 use Rattle.choosing.proofs.choose.Tie as tie

@@ -3,7 +3,7 @@ use mathlib.Core.Path.{_∙_, ap}
 use borrow.Author.Needs.{needs}
 use lib.ListN.{length, getD}
 use Rattle.plants.proofs.Arrayed.{stream-within}
-use Rattle.flows.proofs.Labels.{labels-long}
+use Rattle.flow_def.proofs.Labels.{labels-long}
 use Rattle.choosing.proofs.Telling.{metered-not, by-label}
 use Rattle.choosing.proofs.is_bought.Statement.{statement}
 use Rattle.choosing.proofs.is_bought.Tie as tie

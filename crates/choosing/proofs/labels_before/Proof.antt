@@ -5,11 +5,11 @@ use native.Mathlib.Omega.{arith}
 use lib.ListN.{length, getD}
 use borrow.Author.Needs.{needs}
 use Rattle.plants.specs.Says.{plantOf}
-use Rattle.flows.specs.Labels.{labelsAfter}
+use Rattle.flow_def.specs.Labels.{labelsAfter}
 use Rattle.plants.proofs.Arrayed.{all-listed, listed-at, stream-within}
-use Rattle.flows.proofs.Grouping.{ends-in, step-said}
-use Rattle.flows.proofs.Labels.{step-none, labels-long}
-use Rattle.purchases.specs.Choosing.{dearer}
+use Rattle.flow_def.proofs.Grouping.{ends-in, step-said}
+use Rattle.flow_def.proofs.Labels.{step-none, labels-long}
+use Rattle.purchase_def.specs.Choosing.{dearer}
 use Rattle.choosing.proofs.labels_before.Statement.{statement}
 use Rattle.choosing.proofs.labels_before.Tie as tie
 

@@ -5,9 +5,9 @@ use lib.ListN.{length, getD, take}
 use native.Mathlib.Nat.{le-antisymm}
 use native.Mathlib.Omega.{arith}
 use mathlib.Core.Logic.{⊎-elim}
-use Rattle.surveys.specs.Says.{surveySize}
-use Rattle.surveys.specs.Inner.{ones}
-use Rattle.surveys.proofs.Turns.{top-so, few-long, Tallied, tallied-none, tally-most, tallied-not, tallied-one}
+use Rattle.survey_def.specs.Says.{surveySize}
+use Rattle.survey_def.specs.Inner.{ones}
+use Rattle.survey_def.proofs.Turns.{top-so, few-long, Tallied, tallied-none, tally-most, tallied-not, tallied-one}
 use borrow.Author.Needs.{needs}
 use Rattle.counting.proofs.count_all.Statement.{statement}
 use Rattle.counting.proofs.count_all.Tie as tie

@@ -5,8 +5,8 @@ use lib.ListN.{length, getD, take, length-replicate}
 use lib.Seq.{length-take-le, getD-take}
 use native.Mathlib.Omega.{arith}
 use Rattle.plants.specs.Plants.{noStream}
-use Rattle.flows.proofs.Lists.{Written, written-none, written-put, written-all}
-use Rattle.surveys.specs.Says.{maxSurveyed}
+use Rattle.flow_def.proofs.Lists.{Written, written-none, written-put, written-all}
+use Rattle.survey_def.specs.Says.{maxSurveyed}
 use borrow.Author.Needs.{needs}
 use Rattle.counting.proofs.first_streams.Statement.{statement}
 use Rattle.counting.proofs.first_streams.Tie as tie

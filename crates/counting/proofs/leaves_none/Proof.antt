@@ -4,7 +4,7 @@ use mathlib.Core.Bool.{Bool, _&&_}
 use Prim.Native.Nat.{_-_, _%_}
 use lib.Dec.{eqb}
 use native.Mathlib.Omega.{arith}
-use Rattle.surveys.proofs.Turns.{Passed, passed-none, passed-long, passed-closed, passed-more, passed-all}
+use Rattle.survey_def.proofs.Turns.{Passed, passed-none, passed-long, passed-closed, passed-more, passed-all}
 use borrow.Author.Needs.{needs}
 use Rattle.counting.proofs.leaves_none.Statement.{statement}
 use Rattle.counting.proofs.leaves_none.Tie as tie

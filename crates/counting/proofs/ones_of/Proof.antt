@@ -2,9 +2,9 @@
 use mathlib.Core.Path.{_≡_, refl, ap, ap₂, _∙_}
 use Prim.Native.Nat.{ℕ, _+_, _≤_, _-_, _/_, _%_, _^_}
 use native.Mathlib.Omega.{arith}
-use Rattle.flows.specs.Sides.{bit}
-use Rattle.surveys.specs.Inner.{ones}
-use Rattle.surveys.proofs.Turns.{none-taken, half-left, ones-more, count-most}
+use Rattle.flow_def.specs.Sides.{bit}
+use Rattle.survey_def.specs.Inner.{ones}
+use Rattle.survey_def.proofs.Turns.{none-taken, half-left, ones-more, count-most}
 use borrow.Author.Needs.{needs}
 use Rattle.counting.proofs.ones_of.Statement.{statement}
 use Rattle.counting.proofs.ones_of.Tie as tie

@@ -3,7 +3,7 @@ use mathlib.Core.Path.{_≡_}
 use Prim.Native.Nat.{_-_}
 use native.Mathlib.Omega.{arith}
 use Rattle.plants.proofs.Arrayed.{stream-within}
-use Rattle.flows.proofs.Passed.{Passed, passed-none, labels-all, sides-all, taken-in, passed-more, passed-all}
+use Rattle.flow_def.proofs.Passed.{Passed, passed-none, labels-all, sides-all, taken-in, passed-more, passed-all}
 use borrow.Author.Needs.{needs}
 use Rattle.cuts.proofs.cuts_of.Statement.{statement}
 use Rattle.cuts.proofs.cuts_of.Tie as tie

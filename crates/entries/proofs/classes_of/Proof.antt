@@ -5,12 +5,12 @@ use native.Mathlib.Omega.{arith}
 use lib.ListN.{length-replicate}
 use Rattle.plants.specs.Limits.{maxStreams}
 use Rattle.plants.specs.Says.{plantOf}
-use Rattle.flows.specs.declared.Class.the-variants.{Withheld}
-use Rattle.flows.specs.Classes.{classOf}
-use Rattle.flows.proofs.Lists.{Written, written-none, written-put}
+use Rattle.flow_def.specs.declared.Class.the-variants.{Withheld}
+use Rattle.flow_def.specs.Classes.{classOf}
+use Rattle.flow_def.proofs.Lists.{Written, written-none, written-put}
 use Rattle.plants.proofs.Arrayed.{all-listed, stream-within}
-use Rattle.flows.proofs.ByLabels.{classes-all}
-use Rattle.flows.proofs.BySides.{class-in}
+use Rattle.flow_def.proofs.ByLabels.{classes-all}
+use Rattle.flow_def.proofs.BySides.{class-in}
 use borrow.Author.Needs.{needs}
 use Rattle.entries.proofs.classes_of.Statement.{statement}
 use Rattle.entries.proofs.classes_of.Tie as tie

@@ -9,12 +9,12 @@ use mir.Syntax.{w64}
 use mir.Val.{SFits}
 use mir.Facts.{toZ-ofZ}
 use Rattle.plants.specs.Limits.{maxStreams}
-use Rattle.flows.specs.declared.Class.the-variants.{Adjusted, Withheld}
-use Rattle.flows.specs.Flows.{amountAt}
-use Rattle.flows.proofs.Lists.{Written, written-none, written-put}
-use Rattle.sheets.specs.declared.Entry.{Entry}
-use Rattle.sheets.specs.Balances.{entryOf}
-use Rattle.sheets.proofs.Entries.{noEntry}
+use Rattle.flow_def.specs.declared.Class.the-variants.{Adjusted, Withheld}
+use Rattle.flow_def.specs.Flows.{amountAt}
+use Rattle.flow_def.proofs.Lists.{Written, written-none, written-put}
+use Rattle.sheet_def.specs.declared.Entry.{Entry}
+use Rattle.sheet_def.specs.Balances.{entryOf}
+use Rattle.sheet_def.proofs.Entries.{noEntry}
 use Rattle.entries.proofs.Entered.{entries-all}
 use Rattle.entries.proofs.entries_of.Statement.{statement}
 use Rattle.entries.proofs.entries_of.Tie as tie

@@ -2,9 +2,9 @@
 use borrow.Author.Needs.{needs}
 use mathlib.Core.Path.{sym, ap}
 use mir.Facts.{toZ-ofZ}
-use Rattle.flows.specs.declared.Class.{Class}
-use Rattle.flows.specs.declared.Class.the-variants.{Adjusted, AsRead, Given}
-use Rattle.sheets.specs.Balances.{entryOf}
+use Rattle.flow_def.specs.declared.Class.{Class}
+use Rattle.flow_def.specs.declared.Class.the-variants.{Adjusted, AsRead, Given}
+use Rattle.sheet_def.specs.Balances.{entryOf}
 use Rattle.entries.proofs.Entered.{entry-as}
 use Rattle.entries.proofs.entry_of.Statement.{statement}
 use Rattle.entries.proofs.entry_of.Tie as tie

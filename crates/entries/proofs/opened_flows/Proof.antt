@@ -9,9 +9,9 @@ use mir.Syntax.{w64}
 use mir.Val.{toZ, ofZ}
 use mir.Facts.{toZ-ofZ}
 use Rattle.plants.specs.Limits.{maxStreams}
-use Rattle.flows.proofs.Lists.{Written, written-none, written-put}
-use Rattle.model.specs.Held.{unshifted}
-use Rattle.model.specs.SolverNeeds.{Amounts}
+use Rattle.flow_def.proofs.Lists.{Written, written-none, written-put}
+use Rattle.solve_def.specs.Held.{unshifted}
+use Rattle.solve_def.specs.SolverNeeds.{Amounts}
 use Rattle.entries.proofs.Opening.{opened-fits, opened-all}
 use Rattle.entries.proofs.opened_flows.Statement.{statement}
 use Rattle.entries.proofs.opened_flows.Tie as tie

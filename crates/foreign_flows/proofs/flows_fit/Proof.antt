@@ -15,7 +15,7 @@ use Rattle.foreign_flows.proofs.Checking as C
 use Rattle.plants.specs.Plants.{noStream}
 use Rattle.plants.specs.Says.{plantOf}
 use Rattle.plants.proofs.Arrayed.{stream-within}
-use Rattle.flows.specs.Flows.{streamAt, amountAt}
+use Rattle.flow_def.specs.Flows.{streamAt, amountAt}
 use Rattle.foreign_def.specs.Passing.{difference}
 use Rattle.foreign_def.specs.Test.{flowFits}
 use borrow.Author.Needs.{needs}

@@ -4,7 +4,7 @@ use denote.Ref.{now}
 use Rattle.plants.specs.Files.{readPlant}
 use Rattle.plants.specs.Says.{readOf}
 use Rattle.plants.specs.Within.{Accepted}
-use Rattle.sheets.proofs.Promise.{plant-accepted}
+use Rattle.sheet_def.proofs.Promise.{plant-accepted}
 use Rattle.foreign_numbers.proofs.Numbering.{says-unread, says-numbers}
 use borrow.Author.Needs.{needs}
 use Rattle.foreign_numbers.proofs.place_numbers.Statement.{statement}

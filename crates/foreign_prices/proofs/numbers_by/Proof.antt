@@ -3,8 +3,8 @@ use borrow.Author.Needs.{needs}
 use borrow.Author.Tests.{not-true, not-false}
 use Rattle.plants.specs.Says.{plantOf}
 use Rattle.plants.proofs.Arrayed.{within-of}
-use Rattle.sheets.proofs.Opening.{right-found, right-overfull}
-use Rattle.model.specs.Promise.{Solution}
+use Rattle.sheet_def.proofs.Opening.{right-found, right-overfull}
+use Rattle.solve_def.specs.Promise.{Solution}
 use Rattle.foreign_def.proofs.Serving.{no-numbers-of}
 use Rattle.foreign_prices.proofs.Pricing.{found-numbers}
 use Rattle.foreign_prices.proofs.numbers_by.Statement.{statement}

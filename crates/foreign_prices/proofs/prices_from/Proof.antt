@@ -8,7 +8,7 @@ use mir.Syntax.{w64}
 use mir.Val.{SFits}
 use mir.ValLaws.{toZ-ofZ}
 use Rattle.plants.specs.Limits.{places}
-use Rattle.flows.proofs.Lists.{Written, written-none, written-put}
+use Rattle.flow_def.proofs.Lists.{Written, written-none, written-put}
 use Rattle.foreign_def.specs.Test.{priceFrom}
 use Rattle.foreign_prices.proofs.Pricing.{priced-all}
 use borrow.Author.Needs.{needs}

@@ -9,7 +9,7 @@ use mir.Val.{SFits}
 use borrow.Author.Count.{below-none, below-more}
 use Rattle.plants.specs.Limits.{places}
 use Rattle.plants.specs.Says.{plantOf}
-use Rattle.flows.specs.Flows.{amountAt}
+use Rattle.flow_def.specs.Flows.{amountAt}
 use Rattle.foreign_sets.proofs.Carrying as C
 use borrow.Author.Needs.{needs}
 use Rattle.foreign_sets.proofs.nets_fit.Statement.{statement}

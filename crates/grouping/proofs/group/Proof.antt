@@ -5,9 +5,9 @@ use lib.ListN.{length}
 use native.Mathlib.Omega.{arith}
 use Rattle.plants.specs.Says.{plantOf}
 use native.Mathlib.Numerals.{add-one}
-use Rattle.flows.specs.Groups.{Groups}
-use Rattle.flows.specs.Calls.{counting}
-use Rattle.flows.proofs.Grouping.{groups-none, ends-in}
+use Rattle.flow_def.specs.Groups.{Groups}
+use Rattle.flow_def.specs.Calls.{counting}
+use Rattle.flow_def.proofs.Grouping.{groups-none, ends-in}
 use Rattle.plants.proofs.Arrayed.{all-listed, listed-at, stream-within}
 use borrow.Author.Needs.{needs}
 use Rattle.grouping.proofs.group.Statement.{statement}

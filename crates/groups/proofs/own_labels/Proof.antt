@@ -2,8 +2,8 @@
 use mathlib.Core.Path.{_≡_, _∙_}
 use Prim.Native.Nat.{_≤_, _-_}
 use native.Mathlib.Omega.{arith}
-use Rattle.flows.specs.Labels.{ownLabels}
-use Rattle.flows.proofs.Degrees.{own-more, own-stay, own-most}
+use Rattle.flow_def.specs.Labels.{ownLabels}
+use Rattle.flow_def.proofs.Degrees.{own-more, own-stay, own-most}
 use borrow.Author.Needs.{needs}
 use Rattle.groups.proofs.own_labels.Statement.{statement}
 use Rattle.groups.proofs.own_labels.Tie as tie

@@ -4,8 +4,8 @@ use Prim.Native.Nat.{ℕ, _≤_, _-_}
 use native.Mathlib.Omega.{arith}
 use lib.ListN.{length-replicate}
 use Rattle.plants.specs.Limits.{places}
-use Rattle.flows.specs.Labels.{ownNumbers}
-use Rattle.flows.proofs.Lists.{values-long, values-at, Written, written-none, written-put, written-all}
+use Rattle.flow_def.specs.Labels.{ownNumbers}
+use Rattle.flow_def.proofs.Lists.{values-long, values-at, Written, written-none, written-put, written-all}
 use borrow.Author.Needs.{needs}
 use Rattle.groups.proofs.own_numbers.Statement.{statement}
 use Rattle.groups.proofs.own_numbers.Tie as tie

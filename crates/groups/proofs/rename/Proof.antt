@@ -3,9 +3,9 @@ use mathlib.Core.Path.{_≡_, ap, _∙_}
 use Prim.Native.Nat.{_≤_, _-_}
 use native.Mathlib.Omega.{arith}
 use Rattle.plants.specs.Limits.{places}
-use Rattle.flows.specs.Labels.{renamed}
-use Rattle.flows.proofs.Lists.{Written, written-none, written-put}
-use Rattle.flows.proofs.Labels.{renamed-all}
+use Rattle.flow_def.specs.Labels.{renamed}
+use Rattle.flow_def.proofs.Lists.{Written, written-none, written-put}
+use Rattle.flow_def.proofs.Labels.{renamed-all}
 use borrow.Author.Needs.{needs}
 use Rattle.groups.proofs.rename.Statement.{statement}
 use Rattle.groups.proofs.rename.Tie as tie

@@ -1,6 +1,6 @@
 -- `groups::renamed_label` meets its contract.
 use mathlib.Core.Path.{sym}
-use Rattle.flows.proofs.Labels.{renamed-hit, renamed-miss}
+use Rattle.flow_def.proofs.Labels.{renamed-hit, renamed-miss}
 use Rattle.groups.proofs.renamed_label.Statement.{statement}
 use Rattle.groups.proofs.renamed_label.Tie as tie
 

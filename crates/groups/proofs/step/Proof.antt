@@ -3,8 +3,8 @@ use mathlib.Core.Path.{_∙_}
 use native.Mathlib.Nat.{le-of-lt}
 use denote.Ref.{now}
 use borrow.Author.Tests.{not-true, not-false}
-use Rattle.flows.proofs.Labels.{stepped-none, stepped-one, stepped-up, stepped-down}
-use Rattle.flows.proofs.Grouping.{step-says}
+use Rattle.flow_def.proofs.Labels.{stepped-none, stepped-one, stepped-up, stepped-down}
+use Rattle.flow_def.proofs.Grouping.{step-says}
 use borrow.Author.Needs.{needs}
 use Rattle.groups.proofs.step.Statement.{statement}
 use Rattle.groups.proofs.step.Tie as tie

@@ -6,7 +6,7 @@ use lib.IntN.{ℤ}
 use lib.ListN.{length}
 use mir.Facts.{toZ-ofZ}
 use Rattle.listings.specs.Listing.{entryText}
-use Rattle.numerals.proofs.Behind.{behind}
+use Rattle.num_text.proofs.Behind.{behind}
 use Rattle.listings.proofs.Sizes.{line-size}
 use Rattle.lister.proofs.put_line.Statement.{statement}
 use Rattle.lister.proofs.put_line.Tie as tie

@@ -7,8 +7,8 @@ use lib.ListN.{getD}
 use mir.Syntax.{w64}
 use mir.Val.{SFits}
 use mir.Facts.{toZ-ofZ}
-use Rattle.sheets.proofs.Entries.{noEntry}
-use Rattle.numerals.proofs.Behind.{kept-length}
+use Rattle.sheet_def.proofs.Entries.{noEntry}
+use Rattle.num_text.proofs.Behind.{kept-length}
 use Rattle.lister.proofs.Lined.{Lined, no-lines, line-room, one-line, all-lines, lines-most}
 use Rattle.lister.proofs.put_lines.Statement.{statement}
 use Rattle.lister.proofs.put_lines.Tie as tie

@@ -1,7 +1,7 @@
 -- The lines, then the total's.
 use borrow.Author.Needs.{needs}
 use native.Mathlib.Omega.{arith}
-use Rattle.numerals.proofs.Behind.{behind, put-front}
+use Rattle.num_text.proofs.Behind.{behind, put-front}
 use Rattle.listings.proofs.Sizes.{total-most}
 use Rattle.lister.proofs.put_listing.Statement.{statement}
 use Rattle.lister.proofs.put_listing.Tie as tie

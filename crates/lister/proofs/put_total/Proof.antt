@@ -1,7 +1,7 @@
 -- The word, then field by field.
 use borrow.Author.Needs.{needs}
 use native.Mathlib.Omega.{arith}
-use Rattle.numerals.proofs.Behind.{behind}
+use Rattle.num_text.proofs.Behind.{behind}
 use Rattle.listings.proofs.Sizes.{total-size}
 use Rattle.lister.proofs.put_total.Statement.{statement}
 use Rattle.lister.proofs.put_total.Tie as tie

@@ -5,7 +5,7 @@ use mathlib.Core.Path.{ap}
 use mathlib.Core.List.{List}
 use Prim.Native.Nat.{ℕ}
 use lib.ListN.{length}
-use Rattle.numerals.proofs.Behind.{added-as}
+use Rattle.num_text.proofs.Behind.{added-as}
 use Rattle.listings.proofs.Sizes.{word-pass, word-fail, word-close, word-none}
 use Rattle.lister.proofs.put_word.Statement.{statement}
 use Rattle.lister.proofs.put_word.Tie as tie

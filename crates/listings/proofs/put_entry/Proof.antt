@@ -4,7 +4,7 @@ use native.Mathlib.Omega.{arith}
 use mathlib.Core.Path.{ap}
 use lib.ListN.{length}
 use mir.Facts.{toZ-ofZ}
-use Rattle.numerals.proofs.Behind.{added-as}
+use Rattle.num_text.proofs.Behind.{added-as}
 use Rattle.listings.proofs.Sizes.{entry-as}
 use Rattle.listings.proofs.put_entry.Statement.{statement}
 use Rattle.listings.proofs.put_entry.Tie as tie

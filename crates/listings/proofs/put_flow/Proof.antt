@@ -2,7 +2,7 @@
 use borrow.Author.Needs.{needs}
 use native.Mathlib.Omega.{arith}
 use mir.Facts.{toZ-ofZ}
-use Rattle.numerals.proofs.Behind.{behind}
+use Rattle.num_text.proofs.Behind.{behind}
 use Rattle.listings.proofs.put_flow.Statement.{statement}
 use Rattle.listings.proofs.put_flow.Tie as tie
 

@@ -1,7 +1,7 @@
 -- The word, the number, the line's end.
 use borrow.Author.Needs.{needs}
 use native.Mathlib.Omega.{arith}
-use Rattle.numerals.proofs.Behind.{behind, put-front}
+use Rattle.num_text.proofs.Behind.{behind, put-front}
 use Rattle.listings.proofs.Sizes.{refusal-size, refusal-most}
 use Rattle.listings.proofs.put_refusal.Statement.{statement}
 use Rattle.listings.proofs.put_refusal.Tie as tie

@@ -2,8 +2,8 @@
 use borrow.Author.Needs.{needs}
 use denote.Ref.{now}
 use Rattle.plants.specs.Files.{readPlant}
-use Rattle.moves.specs.Moves.{fromRanged}
-use Rattle.moves.proofs.Kept.{from-good}
+use Rattle.ranged_def.specs.Moves.{fromRanged}
+use Rattle.ranged_def.proofs.Kept.{from-good}
 use Rattle.move_calls.proofs.from_ranged.Statement.{statement}
 use Rattle.move_calls.proofs.from_ranged.Tie as tie
 

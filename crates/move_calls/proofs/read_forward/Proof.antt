@@ -4,7 +4,7 @@ use mathlib.Core.Path.{_≡_}
 use denote.Ref.{now}
 use Rattle.plants.specs.Files.{readPlant}
 use Rattle.plants.specs.Says.{readOf}
-use Rattle.moves.proofs.Reading.{forward-bad, forward-good}
+use Rattle.ranged_def.proofs.Reading.{forward-bad, forward-good}
 use Rattle.move_calls.proofs.read_forward.Statement.{statement}
 use Rattle.move_calls.proofs.read_forward.Tie as tie
 

@@ -4,7 +4,7 @@ use mathlib.Core.Path.{_≡_}
 use denote.Ref.{now}
 use Rattle.plants.specs.Files.{readPlant}
 use Rattle.plants.specs.Says.{readOf}
-use Rattle.moves.proofs.Reading.{home-bad, home-narrow, home-good}
+use Rattle.ranged_def.proofs.Reading.{home-bad, home-narrow, home-good}
 use Rattle.move_calls.proofs.read_home.Statement.{statement}
 use Rattle.move_calls.proofs.read_home.Tie as tie
 

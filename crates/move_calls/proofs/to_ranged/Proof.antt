@@ -2,8 +2,8 @@
 use borrow.Author.Needs.{needs}
 use denote.Ref.{now}
 use Rattle.plants.specs.Files.{readPlant}
-use Rattle.moves.specs.Moves.{toRanged}
-use Rattle.moves.proofs.Kept.{to-good}
+use Rattle.ranged_def.specs.Moves.{toRanged}
+use Rattle.ranged_def.proofs.Kept.{to-good}
 use Rattle.move_calls.proofs.to_ranged.Statement.{statement}
 use Rattle.move_calls.proofs.to_ranged.Tie as tie
 

@@ -5,7 +5,7 @@ use mathlib.Core.Path.{refl, ap, _∙_}
 use mathlib.Core.List.{List}
 use Prim.Native.Nat.{ℕ, _-_}
 use lib.ListN.{take}
-use Rattle.numbers.specs.Bytes.{over}
+use Rattle.num_bytes.specs.Bytes.{over}
 use Rattle.num_lists.proofs.Handing.{Handing, none-handed, slice-long, room-there, one-handed, all-handed, itself, map-itself}
 use borrow.Author.Needs.{needs}
 use Rattle.num_lists.proofs.put_bytes.Statement.{statement}

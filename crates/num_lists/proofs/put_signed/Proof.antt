@@ -9,7 +9,7 @@ use lib.ListN.{getD, take}
 use mir.Syntax.{w64}
 use mir.Val.{SFits, toZ, ofZ}
 use mir.Facts.{toZ-ofZ}
-use Rattle.numbers.specs.Bytes.{over}
+use Rattle.num_bytes.specs.Bytes.{over}
 use Rattle.num_lists.proofs.Handing.{Handing, none-handed, slice-long, room-there, one-handed, all-handed, itself, map-itself}
 use borrow.Author.Needs.{needs}
 use Rattle.num_lists.proofs.put_signed.Statement.{statement}

@@ -1,9 +1,9 @@
 -- `outcomes::solve_at` meets its contract: what the code computes is what the definitions give, and that is right.
 use mathlib.Core.Path.{refl}
 use borrow.Author.Needs.{needs}
-use Rattle.model.proofs.Theorem.{network-of}
+use Rattle.solve_def.proofs.Theorem.{network-of}
 use Rattle.solve_ties.specs.Evens.{Tieable}
-use Rattle.improving.specs.Finishes.{Finishable}
+use Rattle.solve_phases.specs.Finishes.{Finishable}
 use Rattle.outcomes.proofs.Solving.{full-right, tieable, tie-margined, found-right}
 use Rattle.outcomes.proofs.solve_at.Statement.{statement}
 use Rattle.outcomes.proofs.solve_at.Tie as tie

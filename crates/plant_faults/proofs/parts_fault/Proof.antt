@@ -4,8 +4,8 @@ use borrow.Author.Tests.{lt-ltb, le-ltb}
 use mathlib.Core.Path.{sym, _∙_}
 use lib.Dec.{ltb}
 use lib.ListN.{take}
-use Rattle.numbers.specs.Choice.{firstOf, refuseIf}
-use Rattle.numbers.proofs.Tests.{first-some}
+use Rattle.num_bytes.specs.Choice.{firstOf, refuseIf}
+use Rattle.num_bytes.proofs.Tests.{first-some}
 use Rattle.plants.specs.Limits.{maxStreams}
 use Rattle.plants.specs.Plants.{unitsFault, firstFault}
 use Rattle.plant_faults.proofs.parts_fault.Statement.{statement}

@@ -5,8 +5,8 @@ use mathlib.Core.Path.{_≡_, _∙_}
 use Prim.Native.Nat.{_-_, _≤_}
 use lib.ListN.{length}
 use Rattle.plants.specs.Limits.{maxStreams}
-use Rattle.moves.specs.Inner.{moving}
-use Rattle.moves.proofs.Mapped.{partly, partly-none, partly-more, partly-all}
+use Rattle.ranged_def.specs.Inner.{moving}
+use Rattle.ranged_def.proofs.Mapped.{partly, partly-none, partly-more, partly-all}
 use Rattle.plant_moves.proofs.move_all.Statement.{statement}
 use Rattle.plant_moves.proofs.move_all.Tie as tie
 

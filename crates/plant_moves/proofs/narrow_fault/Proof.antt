@@ -5,8 +5,8 @@ use mathlib.Core.Path.{_≡_, refl, sym, _∙_}
 use Prim.Native.Nat.{_-_, _<_, _≤_}
 use lib.ListN.{length, drop}
 use Rattle.plants.specs.Limits.{maxStreams}
-use Rattle.moves.specs.Moves.{narrowFault}
-use Rattle.moves.proofs.Mapped.{narrow-found, narrow-more, narrow-end}
+use Rattle.ranged_def.specs.Moves.{narrowFault}
+use Rattle.ranged_def.proofs.Mapped.{narrow-found, narrow-more, narrow-end}
 use Rattle.plant_moves.proofs.narrow_fault.Statement.{statement}
 use Rattle.plant_moves.proofs.narrow_fault.Tie as tie
 

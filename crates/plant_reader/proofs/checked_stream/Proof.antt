@@ -2,7 +2,7 @@
 use borrow.Author.Needs.{needs}
 use Rattle.plants.specs.declared.Record.the-variants.{Listed, Refused}
 use Rattle.plants.specs.Plants.{streamFault}
-use Rattle.numbers.proofs.Tests.{refused-by, accepted-by}
+use Rattle.num_bytes.proofs.Tests.{refused-by, accepted-by}
 use Rattle.plant_reader.proofs.checked_stream.Statement.{statement}
 use Rattle.plant_reader.proofs.checked_stream.Tie as tie
 

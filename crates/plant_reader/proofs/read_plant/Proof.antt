@@ -4,7 +4,7 @@ use denote.Ref.{now}
 use native.Mathlib.Omega.{arith}
 use mathlib.Core.Path.{_≡_, ap, sym, _∙_}
 use Prim.Native.Nat.{ℕ, _-_}
-use Rattle.numbers.proofs.Parts.{partFrom}
+use Rattle.num_bytes.proofs.Parts.{partFrom}
 use Rattle.plants.specs.declared.Record.the-variants.{Listed}
 use Rattle.plants.specs.Files.{bad, recordAt, mostRecords}
 use Rattle.plants.specs.Says.{readOf}

@@ -2,7 +2,7 @@
 use borrow.Author.Needs.{needs}
 use denote.Ref.{now}
 use native.Mathlib.Omega.{arith}
-use Rattle.numbers.proofs.Parts.{returned}
+use Rattle.num_bytes.proofs.Parts.{returned}
 use Rattle.plant_writer.proofs.Loops.{Streamed, streamed, end-lend, end-room, plant-put}
 use Rattle.plant_writer.proofs.put_plant.Statement.{statement}
 use Rattle.plant_writer.proofs.put_plant.Tie as tie

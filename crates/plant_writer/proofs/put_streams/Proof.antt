@@ -5,8 +5,8 @@ use native.Mathlib.Omega.{arith}
 use mathlib.Core.Path.{_≡_}
 use Prim.Native.Nat.{_+_, _-_, _≤_}
 use lib.ListN.{length}
-use Rattle.numbers.proofs.Parts.{returned}
-use Rattle.numbers.proofs.Rows.{rows-long, rows-lend, rows-room, all-rows}
+use Rattle.num_bytes.proofs.Parts.{returned}
+use Rattle.num_bytes.proofs.Rows.{rows-long, rows-lend, rows-room, all-rows}
 use Rattle.plants.specs.Limits.{maxStreams}
 use Rattle.plant_writer.proofs.Loops.{Streams, no-streams, one-stream}
 use Rattle.plant_writer.proofs.put_streams.Statement.{statement}

@@ -4,7 +4,7 @@ use Prim.Native.Nat.{_≤_, _-_}
 use native.Mathlib.Omega.{arith}
 use borrow.Author.Needs.{needs}
 use Rattle.plants.specs.Says.{plantOf}
-use Rattle.purchases.specs.Purchases.{unmeteredTo}
+use Rattle.purchase_def.specs.Purchases.{unmeteredTo}
 use Rattle.pricing.proofs.Prices.{unmetered-few, unmetered-next}
 use Rattle.pricing.proofs.unmetered_in.Statement.{statement}
 use Rattle.pricing.proofs.unmetered_in.Tie as tie

@@ -1,7 +1,7 @@
 -- The parts make up the balance of the cheapest flow.
 use borrow.Author.Needs.{needs}
 use native.Mathlib.Omega.{arith}
-use Rattle.sheets.proofs.Opening.{held-amounts}
+use Rattle.sheet_def.proofs.Opening.{held-amounts}
 use Rattle.reckoning.proofs.Balanced.{flows-small, balanced-so}
 use Rattle.reckoning.proofs.balance_by.Statement.{statement}
 use Rattle.reckoning.proofs.balance_by.Tie as tie

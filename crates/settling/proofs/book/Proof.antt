@@ -2,11 +2,11 @@
 use Prim.Native.Nat.{_+_}
 use native.Mathlib.Omega.{arith}
 use borrow.Author.Needs.{needs}
-use Rattle.model.specs.Sizes.{mostFlow}
-use Rattle.model.specs.Sizes.{netRoom}
-use Rattle.model.specs.Model.{left}
-use Rattle.model.specs.SolverNeeds.{Around}
-use Rattle.model.proofs.Booking.{left-around}
+use Rattle.solve_def.specs.Sizes.{mostFlow}
+use Rattle.solve_def.specs.Sizes.{netRoom}
+use Rattle.solve_def.specs.Model.{left}
+use Rattle.solve_def.specs.SolverNeeds.{Around}
+use Rattle.solve_def.proofs.Booking.{left-around}
 use Rattle.settling.proofs.book.Statement.{statement}
 use Rattle.settling.proofs.book.Tie as tie
 

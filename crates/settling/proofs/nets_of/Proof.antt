@@ -6,11 +6,11 @@ use native.Mathlib.Omega.{arith}
 use borrow.Author.Needs.{needs}
 use lib.ListN.{take}
 use Rattle.plants.specs.Limits.{places}
-use Rattle.model.specs.Sizes.{netRoom}
-use Rattle.model.specs.Model.{netsTo}
-use Rattle.model.proofs.Booking.{nets-around, around-more}
-use Rattle.model.proofs.Streams.{stream-is}
-use Rattle.model.proofs.Turns.{nets-none}
+use Rattle.solve_def.specs.Sizes.{netRoom}
+use Rattle.solve_def.specs.Model.{netsTo}
+use Rattle.solve_def.proofs.Booking.{nets-around, around-more}
+use Rattle.solve_def.proofs.Streams.{stream-is}
+use Rattle.solve_def.proofs.Turns.{nets-none}
 use Rattle.solve_arcs.specs.Cells.{countOf}
 use Rattle.solve_arcs.specs.ArcNeeds.{Laying}
 use Rattle.solve_arcs.proofs.Rowing.{low-in, start-in, end-in}

@@ -4,8 +4,8 @@ use Prim.Native.Nat.{_≤_, _-_}
 use native.Mathlib.Omega.{arith}
 use borrow.Author.Needs.{needs}
 use Rattle.plants.specs.Limits.{places}
-use Rattle.model.specs.Sizes.{netRoom}
-use Rattle.model.proofs.Turns.{overTo, over-next, over-none, over-all, over-to-most}
+use Rattle.solve_def.specs.Sizes.{netRoom}
+use Rattle.solve_def.proofs.Turns.{overTo, over-next, over-none, over-all, over-to-most}
 use Rattle.settling.proofs.over_sum.Statement.{statement}
 use Rattle.settling.proofs.over_sum.Tie as tie
 

@@ -1,6 +1,6 @@
 -- `settling::settle` meets its contract: from what a hint in range gives.
 use mathlib.Core.Path.{sym}
-use Rattle.model.proofs.Layouts.{ready-amounts, settled-is}
+use Rattle.solve_def.proofs.Layouts.{ready-amounts, settled-is}
 use Rattle.settling.proofs.settle.Statement.{statement}
 use Rattle.settling.proofs.settle.Tie as tie
 

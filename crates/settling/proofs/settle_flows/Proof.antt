@@ -6,8 +6,8 @@ use native.Mathlib.Omega.{arith}
 use borrow.Author.Needs.{needs}
 use lib.ListN.{take}
 use Rattle.plants.specs.Limits.{places}
-use Rattle.model.specs.Model.{settledTo}
-use Rattle.model.proofs.Turns.{settle-none}
+use Rattle.solve_def.specs.Model.{settledTo}
+use Rattle.solve_def.proofs.Turns.{settle-none}
 use Rattle.solve_arcs.specs.Cells.{countOf}
 use Rattle.solve_arcs.specs.ArcNeeds.{Laying}
 use Rattle.solve_arcs.proofs.Rowing.{low-in, row-at, start-in, end-in}

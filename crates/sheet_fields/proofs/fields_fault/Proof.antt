@@ -3,7 +3,7 @@ use borrow.Author.Needs.{needs}
 use borrow.Author.Tests.{lt-ltb, le-ltb, eq-eqb, ne-eqb, lt-leb, le-leb}
 use mathlib.Core.Path.{_≡_, sym, _∙_}
 use mathlib.Core.Bool.{Bool, true, false, _&&_, not}
-use Rattle.numbers.specs.Choice.{refuseIf}
+use Rattle.num_bytes.specs.Choice.{refuseIf}
 use Rattle.sheet_fields.proofs.fields_fault.Statement.{statement}
 use Rattle.sheet_fields.proofs.fields_fault.Tie as tie
 

@@ -1,7 +1,7 @@
 -- The first of the two.
 use borrow.Author.Needs.{needs}
 use mathlib.Core.Path.{_∙_}
-use Rattle.numbers.specs.Choice.{firstOf}
+use Rattle.num_bytes.specs.Choice.{firstOf}
 use Rattle.sheet_fields.proofs.rest_fault.Statement.{statement}
 use Rattle.sheet_fields.proofs.rest_fault.Tie as tie
 

@@ -5,8 +5,8 @@ use denote.Ref.{now}
 use mathlib.Core.Path.{ap, _∙_}
 use mathlib.Core.List.{List, [], _∷_, append-assoc}
 use Prim.Native.Nat.{ℕ}
-use Rattle.numbers.specs.Bytes.{putBe, over}
-use Rattle.numbers.proofs.Parts.{laid, lay}
+use Rattle.num_bytes.specs.Bytes.{putBe, over}
+use Rattle.num_bytes.proofs.Parts.{laid, lay}
 use Rattle.sheet_records.proofs.put_cost.Statement.{statement}
 use Rattle.sheet_records.proofs.put_cost.Tie as tie
 

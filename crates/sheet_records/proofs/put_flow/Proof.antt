@@ -8,8 +8,8 @@ use lib.IntN.{ℤ}
 use mir.Syntax.{w64}
 use mir.Val.{toZ, ofZ}
 use mir.Facts.{toZ-ofZ}
-use Rattle.numbers.specs.Bytes.{putBe, raw, over}
-use Rattle.numbers.proofs.Parts.{laid, lay}
+use Rattle.num_bytes.specs.Bytes.{putBe, raw, over}
+use Rattle.num_bytes.proofs.Parts.{laid, lay}
 use Rattle.sheet_records.proofs.put_flow.Statement.{statement}
 use Rattle.sheet_records.proofs.put_flow.Tie as tie
 

@@ -3,9 +3,9 @@ use borrow.Author.Needs.{needs}
 use native.Mathlib.Omega.{arith}
 use denote.Ref.{now}
 use mathlib.Core.List.{[], _∷_}
-use Rattle.numbers.specs.Bytes.{putBe}
-use Rattle.numbers.proofs.Parts.{laid, lay}
-use Rattle.sheets.specs.Apart.{totalKind}
+use Rattle.num_bytes.specs.Bytes.{putBe}
+use Rattle.num_bytes.proofs.Parts.{laid, lay}
+use Rattle.sheet_def.specs.Apart.{totalKind}
 use Rattle.sheet_records.proofs.put_number.Statement.{statement}
 use Rattle.sheet_records.proofs.put_number.Tie as tie
 

@@ -2,10 +2,10 @@
 use borrow.Author.Needs.{needs}
 use mathlib.Core.Path.{sym, ap}
 use mir.Facts.{toZ-ofZ}
-use Rattle.numbers.proofs.Parts.{put-as}
-use Rattle.flows.specs.declared.Class.{Class}
-use Rattle.sheets.specs.Sheets.{recordOf}
-use Rattle.sheets.proofs.Laying.{record-as}
+use Rattle.num_bytes.proofs.Parts.{put-as}
+use Rattle.flow_def.specs.declared.Class.{Class}
+use Rattle.sheet_def.specs.Sheets.{recordOf}
+use Rattle.sheet_def.proofs.Laying.{record-as}
 use Rattle.sheet_records.proofs.put_record.Statement.{statement}
 use Rattle.sheet_records.proofs.put_record.Tie as tie
 

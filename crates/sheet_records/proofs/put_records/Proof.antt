@@ -10,14 +10,14 @@ use lib.ListN.{length, getD, take}
 use mir.Syntax.{w64}
 use mir.Val.{SFits}
 use mir.Facts.{toZ-ofZ}
-use Rattle.numbers.specs.Inner.{Put}
-use Rattle.numbers.proofs.Parts.{returned, partFrom}
-use Rattle.numbers.proofs.Rows.{Rows, no-rows, one-row, rows-long, rows-lend, rows-room, all-rows}
+use Rattle.num_bytes.specs.Inner.{Put}
+use Rattle.num_bytes.proofs.Parts.{returned, partFrom}
+use Rattle.num_bytes.proofs.Rows.{Rows, no-rows, one-row, rows-long, rows-lend, rows-room, all-rows}
 use Rattle.plants.specs.Limits.{maxStreams}
-use Rattle.sheets.specs.Sheets.{recordOf, recordsOf}
-use Rattle.sheets.specs.Apart.{streamSize}
-use Rattle.sheets.proofs.Entries.{noEntry}
-use Rattle.sheets.proofs.Laying.{record-most, records-more}
+use Rattle.sheet_def.specs.Sheets.{recordOf, recordsOf}
+use Rattle.sheet_def.specs.Apart.{streamSize}
+use Rattle.sheet_def.proofs.Entries.{noEntry}
+use Rattle.sheet_def.proofs.Laying.{record-most, records-more}
 use Rattle.sheet_records.proofs.put_records.Statement.{statement}
 use Rattle.sheet_records.proofs.put_records.Tie as tie
 

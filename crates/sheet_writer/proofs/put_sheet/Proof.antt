@@ -2,7 +2,7 @@
 use borrow.Author.Needs.{needs}
 use native.Mathlib.Omega.{arith}
 use denote.Ref.{now}
-use Rattle.sheets.proofs.Laying.{Recorded, recorded, total-lend, total-room, sheet-put}
+use Rattle.sheet_def.proofs.Laying.{Recorded, recorded, total-lend, total-room, sheet-put}
 use Rattle.sheet_writer.proofs.put_sheet.Statement.{statement}
 use Rattle.sheet_writer.proofs.put_sheet.Tie as tie
 

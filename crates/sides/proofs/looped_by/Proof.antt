@@ -1,7 +1,7 @@
 -- `sides::looped_by` meets its contract.
 use mathlib.Core.Path.{sym, _∙_}
 use denote.Ref.{now}
-use Rattle.flows.proofs.BySides.{looped-one, looped-joins}
+use Rattle.flow_def.proofs.BySides.{looped-one, looped-joins}
 use borrow.Author.Needs.{needs}
 use Rattle.sides.proofs.looped_by.Statement.{statement}
 use Rattle.sides.proofs.looped_by.Tie as tie

@@ -1,8 +1,8 @@
 -- `sides::part` meets its contract.
 use mathlib.Core.Path.{_∙_}
 use denote.Ref.{now}
-use Rattle.flows.proofs.BySides.{parted-none}
-use Rattle.flows.proofs.Passed.{shifted, part-by}
+use Rattle.flow_def.proofs.BySides.{parted-none}
+use Rattle.flow_def.proofs.Passed.{shifted, part-by}
 use borrow.Author.Needs.{needs}
 use Rattle.sides.proofs.part.Statement.{statement}
 use Rattle.sides.proofs.part.Tie as tie

@@ -3,7 +3,7 @@ use mathlib.Core.Path.{sym, _∙_}
 use native.Mathlib.Nat.{le-of-lt, max-eq-left, max-eq-right}
 use denote.Ref.{now}
 use borrow.Author.Tests.{eq-eqb, ne-eqb}
-use Rattle.flows.proofs.BySides.{taken-one, taken-joins}
+use Rattle.flow_def.proofs.BySides.{taken-one, taken-joins}
 use borrow.Author.Needs.{needs}
 use Rattle.sides.proofs.taken_by.Statement.{statement}
 use Rattle.sides.proofs.taken_by.Tie as tie

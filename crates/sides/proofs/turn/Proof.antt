@@ -6,10 +6,10 @@ use denote.Ref.{now}
 use lib.Bits.{bitXor}
 use lib.Dec.{eqb}
 use lib.ListN.{getD}
-use Rattle.numbers.specs.Choice.{pick}
+use Rattle.num_bytes.specs.Choice.{pick}
 use Rattle.plants.specs.Limits.{places}
-use Rattle.flows.proofs.Lists.{Written, written-none, written-put}
-use Rattle.flows.proofs.BySides.{turned-all}
+use Rattle.flow_def.proofs.Lists.{Written, written-none, written-put}
+use Rattle.flow_def.proofs.BySides.{turned-all}
 use borrow.Author.Needs.{needs}
 use Rattle.sides.proofs.turn.Statement.{statement}
 use Rattle.sides.proofs.turn.Tie as tie

@@ -5,8 +5,8 @@ use mir.Val.{SFits}
 use mir.Syntax.{w32}
 use mir.Facts.{toZ-ofZ}
 use borrow.Author.Needs.{needs}
-use Rattle.model.specs.Held.{shifted}
-use Rattle.model.proofs.Bounds.{high-is, high-free}
+use Rattle.solve_def.specs.Held.{shifted}
+use Rattle.solve_def.proofs.Bounds.{high-is, high-free}
 use Rattle.solve_held.proofs.high_of.Statement.{statement}
 use Rattle.solve_held.proofs.high_of.Tie as tie
 

@@ -5,8 +5,8 @@ use native.Mathlib.Nat.{mul-le-mul}
 use borrow.Author.Tests.{le-leb, lt-leb}
 use borrow.Author.Needs.{needs}
 use Rattle.plants.specs.Limits.{maxWeight}
-use Rattle.model.specs.Sizes.{mostPull, mostStep}
-use Rattle.model.proofs.Weights.{pull-most}
+use Rattle.solve_def.specs.Sizes.{mostPull, mostStep}
+use Rattle.solve_def.proofs.Weights.{pull-most}
 use Rattle.solve_margins.proofs.falling.Statement.{statement}
 use Rattle.solve_margins.proofs.falling.Tie as tie
 

@@ -5,8 +5,8 @@ use native.Mathlib.Omega.{arith}
 use borrow.Author.Needs.{needs}
 use borrow.Author.Tests.{ltb-false}
 use lib.Dec.{ltb}
-use Rattle.numbers.proofs.Tests.{picked}
-use Rattle.model.specs.Sizes.{farthest}
+use Rattle.num_bytes.proofs.Tests.{picked}
+use Rattle.solve_def.specs.Sizes.{farthest}
 use Rattle.solve_arcs.specs.Margins.{lessOf}
 use Rattle.solve_margins.proofs.reduced_cost.Statement.{statement}
 use Rattle.solve_margins.proofs.reduced_cost.Tie as tie

@@ -7,8 +7,8 @@ use native.Mathlib.Omega.{arith}
 use borrow.Author.Needs.{needs}
 use lib.ListN.{length, getD}
 use Rattle.plants.specs.Limits.{places, maxStreams}
-use Rattle.model.specs.Near.{arcAt, codeOf, lessened, relaxedTo}
-use Rattle.model.specs.Fringe.{openedBy}
+use Rattle.solve_def.specs.Near.{arcAt, codeOf, lessened, relaxedTo}
+use Rattle.solve_def.specs.Fringe.{openedBy}
 use Rattle.solve_arcs.specs.Cells.{toCell, countOf, startsOf, endsOf}
 use Rattle.solve_arcs.specs.Margins.{reducedCost, reducedCosts}
 use Rattle.solve_arcs.specs.ArcNeeds.{Linked}

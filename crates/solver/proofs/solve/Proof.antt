@@ -5,7 +5,7 @@ use native.Mathlib.Omega.{arith}
 use borrow.Author.Needs.{needs}
 use lib.ListN.{getD-replicate}
 use Rattle.plants.specs.Limits.{maxStreams}
-use Rattle.model.proofs.Theorem.{network-of}
+use Rattle.solve_def.proofs.Theorem.{network-of}
 use Rattle.solve_arcs.specs.Cells.{arcCells}
 use Rattle.solver.proofs.solve.Statement.{statement}
 use Rattle.solver.proofs.solve.Tie as tie

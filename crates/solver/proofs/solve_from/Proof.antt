@@ -5,8 +5,8 @@ use native.Mathlib.Omega.{arith}
 use borrow.Author.Needs.{needs}
 use lib.ListN.{getD-replicate}
 use Rattle.plants.specs.Limits.{maxStreams}
-use Rattle.model.proofs.Layouts.{hinted-ready}
-use Rattle.model.proofs.Theorem.{network-of}
+use Rattle.solve_def.proofs.Layouts.{hinted-ready}
+use Rattle.solve_def.proofs.Theorem.{network-of}
 use Rattle.solve_arcs.specs.Cells.{arcCells}
 use Rattle.solver.proofs.solve_from.Statement.{statement}
 use Rattle.solver.proofs.solve_from.Tie as tie

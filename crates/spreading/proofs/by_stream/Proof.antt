@@ -7,8 +7,8 @@ use denote.Ref.{now}
 use lib.ListN.{getD, replicate, length-replicate}
 use Rattle.plants.specs.Limits.{maxStreams}
 use Rattle.plants.specs.Says.{plantOf}
-use Rattle.flows.proofs.Lists.{Written, written-none, written-put}
-use Rattle.purchases.specs.Purchases.{unmeteredTo, priceIn}
+use Rattle.flow_def.proofs.Lists.{Written, written-none, written-put}
+use Rattle.purchase_def.specs.Purchases.{unmeteredTo, priceIn}
 use Rattle.pricing.proofs.Prices.{unmetered-few, unmetered-next}
 use Rattle.spreading.proofs.by_stream.Statement.{statement}
 use Rattle.spreading.proofs.by_stream.Tie as tie

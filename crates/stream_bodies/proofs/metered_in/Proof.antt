@@ -10,8 +10,8 @@ use lib.ListN.{getD}
 use mir.Syntax.{w32}
 use mir.Val.{SFits}
 use mir.Facts.{toZ-ofZ}
-use Rattle.numbers.specs.Bytes.{be, signed}
-use Rattle.numbers.proofs.Parts.{part-is}
+use Rattle.num_bytes.specs.Bytes.{be, signed}
+use Rattle.num_bytes.proofs.Parts.{part-is}
 use Rattle.stream_bodies.proofs.metered_in.Statement.{statement}
 use Rattle.stream_bodies.proofs.metered_in.Tie as tie
 

@@ -8,8 +8,8 @@ use Prim.Native.Nat.{ℕ}
 use mir.Syntax.{w32}
 use mir.Val.{SFits}
 use mir.Facts.{toZ-ofZ}
-use Rattle.numbers.specs.Bytes.{be, signed}
-use Rattle.numbers.proofs.Parts.{part-is}
+use Rattle.num_bytes.specs.Bytes.{be, signed}
+use Rattle.num_bytes.proofs.Parts.{part-is}
 use Rattle.plants.specs.declared.Stream.{Stream}
 use Rattle.stream_bodies.proofs.ranged_in.Statement.{statement}
 use Rattle.stream_bodies.proofs.ranged_in.Tie as tie

@@ -4,7 +4,7 @@ use borrow.Author.Tests.{not-true, not-false}
 use Prim.Native.Nat.{_-_}
 use mir.Syntax.{w32}
 use mir.Facts.{toZ-ofZ}
-use Rattle.numbers.proofs.Complement.{below-range, above-range}
+use Rattle.num_bytes.proofs.Complement.{below-range, above-range}
 use Rattle.plants.specs.Limits.{maxRange}
 use Rattle.plants.proofs.Ranges.{out-of-order, low-outside, high-outside, range-kept}
 use Rattle.stream_faults.proofs.range_fault.Statement.{statement}

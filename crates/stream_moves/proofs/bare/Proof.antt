@@ -7,7 +7,7 @@ use lib.IntN.{pos}
 use mir.Syntax.{w32}
 use mir.Val.{SFits}
 use mir.Facts.{toZ-ofZ}
-use Rattle.moves.proofs.Streams.{unmetered-bared, bared-before, bared-now}
+use Rattle.ranged_def.proofs.Streams.{unmetered-bared, bared-before, bared-now}
 use Rattle.stream_moves.proofs.bare.Statement.{statement}
 use Rattle.stream_moves.proofs.bare.Tie as tie
 

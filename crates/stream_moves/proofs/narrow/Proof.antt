@@ -7,8 +7,8 @@ use lib.Signed.{ltZ}
 use mir.Syntax.{w32}
 use mir.Val.{SFits}
 use mir.Facts.{toZ-ofZ}
-use Rattle.moves.specs.Moves.{widestHigh}
-use Rattle.moves.proofs.Streams.{unmetered-wide, bare-wide, low-above, by-high}
+use Rattle.ranged_def.specs.Moves.{widestHigh}
+use Rattle.ranged_def.proofs.Streams.{unmetered-wide, bare-wide, low-above, by-high}
 use Rattle.stream_moves.proofs.narrow.Statement.{statement}
 use Rattle.stream_moves.proofs.narrow.Tie as tie
 

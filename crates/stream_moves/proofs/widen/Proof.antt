@@ -5,8 +5,8 @@ use mathlib.Core.Bool.{true}
 use mir.Syntax.{w32}
 use mir.Val.{SFits}
 use mir.Facts.{toZ-ofZ}
-use Rattle.moves.specs.Moves.{widestLow, widestHigh}
-use Rattle.moves.proofs.Streams.{unmetered-widened, widened-before, widened-now}
+use Rattle.ranged_def.specs.Moves.{widestLow, widestHigh}
+use Rattle.ranged_def.proofs.Streams.{unmetered-widened, widened-before, widened-now}
 use Rattle.stream_moves.proofs.widen.Statement.{statement}
 use Rattle.stream_moves.proofs.widen.Tie as tie
 

@@ -6,8 +6,8 @@ use mathlib.Core.List.{[], _∷_}
 use mir.Syntax.{w32}
 use mir.Val.{SFits}
 use mir.Facts.{toZ-ofZ}
-use Rattle.numbers.specs.Bytes.{putBe, raw}
-use Rattle.numbers.proofs.Parts.{laid, lay}
+use Rattle.num_bytes.specs.Bytes.{putBe, raw}
+use Rattle.num_bytes.proofs.Parts.{laid, lay}
 use Rattle.stream_writer.proofs.put_meter.Statement.{statement}
 use Rattle.stream_writer.proofs.put_meter.Tie as tie
 

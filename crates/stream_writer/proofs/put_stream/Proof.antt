@@ -1,7 +1,7 @@
 -- By whether the stream is metered, and has a range.
 use borrow.Author.Needs.{needs}
 use borrow.Author.Tests.{not-true, not-false}
-use Rattle.numbers.proofs.Parts.{put-as}
+use Rattle.num_bytes.proofs.Parts.{put-as}
 use Rattle.plants.proofs.Records.{metered-bytes, ranged-bytes, unmetered-bytes}
 use Rattle.stream_writer.proofs.put_stream.Statement.{statement}
 use Rattle.stream_writer.proofs.put_stream.Tie as tie

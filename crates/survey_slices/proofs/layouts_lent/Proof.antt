@@ -1,7 +1,7 @@
 -- By what was found.
 use native.Mathlib.Omega.{arith}
 use denote.Ref.{now}
-use Rattle.surveys.proofs.Promise.{survey-fits}
+use Rattle.survey_def.proofs.Promise.{survey-fits}
 use Rattle.survey_slices.proofs.Lending.{lends-nothing, lends-refusal, lends-counts}
 use borrow.Author.Needs.{needs}
 use Rattle.survey_slices.proofs.layouts_lent.Statement.{statement}

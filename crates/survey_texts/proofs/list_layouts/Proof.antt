@@ -4,7 +4,7 @@ use native.Mathlib.Numerals.{add-one}
 use denote.Ref.{now}
 use mathlib.Core.Path.{refl}
 use Rattle.listings.proofs.Sizes.{put-counts}
-use Rattle.surveys.proofs.Promise.{survey-fits}
+use Rattle.survey_def.proofs.Promise.{survey-fits}
 use Rattle.survey_texts.proofs.Promise.{says-nothing, says-refused, says-lines}
 use borrow.Author.Needs.{needs}
 use Rattle.survey_texts.proofs.list_layouts.Statement.{statement}

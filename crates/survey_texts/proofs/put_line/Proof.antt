@@ -1,6 +1,6 @@
 -- The size, the count, the line's end.
 use native.Mathlib.Omega.{arith}
-use Rattle.numerals.proofs.Behind.{behind}
+use Rattle.num_text.proofs.Behind.{behind}
 use Rattle.survey_texts.proofs.Lined.{line-size}
 use borrow.Author.Needs.{needs}
 use Rattle.survey_texts.proofs.put_line.Statement.{statement}

@@ -5,7 +5,7 @@ use Prim.Native.Nat.{_-_}
 use lib.ListN.{getD}
 use mir.Syntax.{w16}
 use mir.Val.{Fits}
-use Rattle.numerals.proofs.Behind.{kept-length}
+use Rattle.num_text.proofs.Behind.{kept-length}
 use Rattle.survey_texts.proofs.Lined.{Lined, no-lines, line-room, one-line, all-lines}
 use borrow.Author.Needs.{needs}
 use Rattle.survey_texts.proofs.put_lines.Statement.{statement}

@@ -4,8 +4,8 @@ use mathlib.Core.Path.{_≡_}
 use denote.Ref.{now}
 use Rattle.plants.specs.Files.{readPlant}
 use Rattle.plants.specs.Says.{readOf}
-use Rattle.sheets.proofs.Promise.{plant-accepted}
-use Rattle.surveys.proofs.Promise.{says-unread, says-many, says-surveyed}
+use Rattle.sheet_def.proofs.Promise.{plant-accepted}
+use Rattle.survey_def.proofs.Promise.{says-unread, says-many, says-surveyed}
 use borrow.Author.Needs.{needs}
 use Rattle.surveyor.proofs.layouts_of.Statement.{statement}
 use Rattle.surveyor.proofs.layouts_of.Tie as tie

@@ -1,5 +1,5 @@
 -- `survey` meets its contract: the counts are those of the plant's first streams, which are all.
-use Rattle.surveys.proofs.Promise.{few-of, plant-surveyed}
+use Rattle.survey_def.proofs.Promise.{few-of, plant-surveyed}
 use borrow.Author.Needs.{needs}
 use Rattle.surveyor.proofs.survey.Statement.{statement}
 use Rattle.surveyor.proofs.survey.Tie as tie

@@ -4,8 +4,8 @@ use borrow.Author.Tests.{not-true, not-false}
 use Rattle.plants.specs.Within.{Accepted}
 use Rattle.plants.specs.Says.{plantOf}
 use Rattle.plants.proofs.Arrayed.{within-of}
-use Rattle.sheets.proofs.Promise.{plant-accepted}
-use Rattle.sheets.proofs.Opening.{right-found, right-overfull}
+use Rattle.sheet_def.proofs.Promise.{plant-accepted}
+use Rattle.sheet_def.proofs.Opening.{right-found, right-overfull}
 use Rattle.visit_def.specs.Visits.{Feasible}
 use Rattle.visit_def.proofs.Promise.{unread, answered, none-balanced}
 use Rattle.visit_call.proofs.Told.{solved-feasible, told}

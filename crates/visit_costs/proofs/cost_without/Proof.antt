@@ -1,7 +1,7 @@
 -- By whether it is listed.
 use mathlib.Core.Path.{subst}
 use borrow.Author.Tests.{not-true}
-use Rattle.numbers.proofs.Tests.{clash}
+use Rattle.num_bytes.proofs.Tests.{clash}
 use Rattle.plants.specs.Plants.{Plant}
 use Rattle.plants.specs.Says.{plantOf}
 use Rattle.visit_def.specs.Visits.{LeastCost}

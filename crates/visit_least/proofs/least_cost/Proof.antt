@@ -7,11 +7,11 @@ use borrow.Author.Needs.{needs}
 use lib.ListN.{getD-replicate}
 use Rattle.plants.specs.Limits.{maxStreams}
 use Rattle.plants.specs.Says.{plantOf}
-use Rattle.model.specs.Model.{finished}
-use Rattle.model.proofs.Theorem.{network-of}
+use Rattle.solve_def.specs.Model.{finished}
+use Rattle.solve_def.proofs.Theorem.{network-of}
 use Rattle.solve_arcs.specs.Cells.{arcCells}
 use Rattle.solve_arcs.specs.ArcNeeds.{Laid}
-use Rattle.improving.specs.Finishes.{Finishable}
+use Rattle.solve_phases.specs.Finishes.{Finishable}
 use Rattle.visit_least.proofs.Ended.{never-full, amounts, all-small, least-found}
 use Rattle.visit_least.proofs.least_cost.Statement.{statement}
 use Rattle.visit_least.proofs.least_cost.Tie as tie

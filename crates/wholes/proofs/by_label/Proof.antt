@@ -5,7 +5,7 @@ use native.Mathlib.Omega.{arith}
 use lib.ListN.{getD}
 use borrow.Author.Needs.{needs}
 use Rattle.plants.specs.Limits.{places}
-use Rattle.flows.proofs.Lists.{Written, written-none, written-put}
+use Rattle.flow_def.proofs.Lists.{Written, written-none, written-put}
 use Rattle.wholes.proofs.Levels.{labels-all}
 use Rattle.wholes.proofs.by_label.Statement.{statement}
 use Rattle.wholes.proofs.by_label.Tie as tie

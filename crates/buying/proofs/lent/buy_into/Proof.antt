@@ -1,7 +1,7 @@
 -- There is room for the numbers.
 use denote.Ref.{now}
 use lib.ListN.{length}
-use Rattle.purchases.proofs.Promise.{few-lent}
+use Rattle.purchase_def.proofs.Promise.{few-lent}
 use borrow.Author.Needs.{needs}
 use Rattle.buying.proofs.lent.buy_into.Statement.{statement}
 use Rattle.buying.proofs.lent.buy_into.Tie as tie

@@ -8,7 +8,7 @@ use borrow.Author.Needs.{needs}
 use denote.Ref.{now}
 use lib.ListN.{length, getD, take}
 use lib.Seq.{take-suc}
-use Rattle.numbers.proofs.Rows.{Rows, no-rows, rows-long, rows-lend, rows-room, one-row, all-rows}
+use Rattle.num_bytes.proofs.Rows.{Rows, no-rows, rows-long, rows-lend, rows-room, one-row, all-rows}
 use Rattle.plants.specs.Limits.{maxStreams}
 use Rattle.buying.proofs.lent.put_numbers.Statement.{statement}
 use Rattle.buying.proofs.lent.put_numbers.Tie as tie

@@ -3,9 +3,9 @@ use Prim.Native.Nat.{_<_}
 use native.Mathlib.Omega.{arith}
 use lib.ListN.{length-set}
 use Rattle.plants.specs.Limits.{places}
-use Rattle.flows.proofs.Passed.{shifted}
-use Rattle.model.specs.Sizes.{far}
-use Rattle.model.proofs.Stepping.{step-in}
+use Rattle.flow_def.proofs.Passed.{shifted}
+use Rattle.solve_def.specs.Sizes.{far}
+use Rattle.solve_def.proofs.Stepping.{step-in}
 use Rattle.solve_relax.specs.Codes.{shown}
 use Rattle.solve_relax.proofs.Coding.{shown-long}
 use Rattle.solve_path.proofs.Pacing.{paced-none, paced-some}
