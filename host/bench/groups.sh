@@ -26,8 +26,8 @@ build() { # name, tree
     done
     mkdir -p "$copy/crates/probe/src" "$copy/crates/probe/proofs/wengeludo_probe_groups"
     # Earlier versions have the pass over all streams in the crate groups.
-    local below="groups flow_def plant_reader plants num_bytes" pass=groups
-    [ ! -d "$copy/crates/grouping" ] || { below="grouping $below" && pass=grouping; }
+    local below="flow_components flow_def plant_read plant_def num_bytes" pass=groups
+    [ ! -d "$copy/crates/flow_components" ] || { below="flow_components $below" && pass=grouping; }
     sed "s/grouping::/$pass::/" "$here/probe/lib.rt.txt" >"$copy/crates/probe/src/lib.rt"
     cp "$here/probe/Proof.antt.txt" "$copy/crates/probe/proofs/wengeludo_probe_groups/Proof.antt"
     echo "probe: sheet_def solve_def $below" >>"$copy/crates.txt"

@@ -1,6 +1,6 @@
 // The closing.
 use case_files::cases::NO_CASE;
-use plants::limits::PLACES;
+use plant_def::limits::PLACES;
 use solve_compress::refloor;
 use solve_def::sizes::PRICE_SHIFT;
 ghost use mathlib.Core.Path.{_≡_};

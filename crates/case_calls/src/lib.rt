@@ -9,7 +9,7 @@ use case_files::cases::told;
 use closed::close_up;
 use meters::buy;
 use meters::survey;
-use survey_texts::list_layouts;
+use survey_answers::list_layouts;
 
 // The call of this kind.
 pub fn call(kind: u64, given: &[u8], out: &mut [u8]) -> u64 {

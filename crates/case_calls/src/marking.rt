@@ -1,14 +1,14 @@
 // The places that a call marks, tested by the definition: refusal 19 marks places that must take in more than they can let
 // out, every other call none.
 use case_files::cases::NO_CASE;
-use flow_marks::bits_of;
-use plants::Plant;
-use plants::Stream;
-use plants::limits::MAX_STREAMS;
-use plants::limits::PLACES;
+use num_lent::bits_of;
+use plant_def::Plant;
+use plant_def::Stream;
+use plant_def::limits::MAX_STREAMS;
+use plant_def::limits::PLACES;
+use solve_arcs::high_of;
+use solve_arcs::low_of;
 use solve_def::sizes::FLOW_SHIFT;
-use solve_held::high_of;
-use solve_held::low_of;
 use std::num::wrapping_add_u64;
 use std::num::wrapping_sub_u64;
 
@@ -65,7 +65,7 @@ fn mark_past(bits: u64, units: u8) -> bool {
 pub fn tested(answer: u64, number: u8, file: &[u8], marked: [bool; PLACES]) -> u64 {
     let bits = bits_of(marked);
     if number == 19 {
-        let read = plant_reader::read_plant(file);
+        let read = plant_read::read_plant(file);
         let p = read.plant;
         if overfull(bits, p) {
             return answer;

@@ -1,7 +1,7 @@
 // Meters to buy, and the survey of meter layouts.
-use buying::lent::buy_into;
 use case_files::cases::NO_CASE;
 use case_files::cases::told;
+use purchase_call::lent::buy_into;
 use survey_def::SURVEY_SIZE;
 ghost use mathlib.Core.Path.{_≡_};
 ghost use Prim.Native.Nat.{_*_, _≤_};
@@ -60,7 +60,7 @@ pub fn survey(given: &[u8], out: &mut [u8]) -> u64 {
     if out.len() != 26 {
         return NO_CASE;
     }
-    let layouts = surveyor::layouts_of(given);
+    let layouts = survey_count::layouts_of(given);
     let counts = layouts.counts;
     put_counts(counts, out);
     told(layouts.number, layouts.count as usize, 0)

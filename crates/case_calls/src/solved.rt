@@ -1,6 +1,6 @@
 // What the solver without a hint is handed, and its flows.
-use plants::limits::MAX_STREAMS;
-use plants::limits::PLACES;
+use plant_def::limits::MAX_STREAMS;
+use plant_def::limits::PLACES;
 use solve_def::Hint;
 use solve_def::sizes::FLOW_SHIFT;
 use solve_def::sizes::PRICE_SHIFT;

@@ -3,7 +3,7 @@
 // An entry is 9 bytes: the kind of its record, its flow (8, two's complement).
 use crate::cases::NO_CASE;
 use crate::cases::told;
-use plants::limits::MAX_STREAMS;
+use plant_def::limits::MAX_STREAMS;
 use sheet_def::Entry;
 use sheet_def::Total;
 ghost use mathlib.Core.Path.{_≡_};

@@ -4,11 +4,11 @@
 // each, two's complement).
 use crate::cases::NO_CASE;
 use crate::cases::told;
-use plants::Done;
-use plants::Plant;
-use plants::Stream;
-use plants::limits::MAX_STREAMS;
-use plants::streams::unmetered_stream;
+use plant_def::Done;
+use plant_def::Plant;
+use plant_def::Stream;
+use plant_def::limits::MAX_STREAMS;
+use plant_def::streams::unmetered_stream;
 ghost use mathlib.Core.Path.{_≡_};
 ghost use Prim.Native.Nat.{_≤_};
 ghost use lib.ListN.{length};
@@ -17,7 +17,7 @@ ghost use lib.ListN.{length};
 fn put_stream(s: Stream, out: &mut [u8])
     requires { ⌜ 17 ≤ length (now out) ⌝ }
 {
-    stream_writer::put_ranged(s, out);
+    plant_write::put_ranged(s, out);
     out[0] = s.metered as u8 | (s.ranged as u8) << 1;
 }
 
@@ -37,7 +37,7 @@ pub fn reader(given: &[u8], out: &mut [u8]) -> u64 {
     if out.len() != 1632 {
         return NO_CASE;
     }
-    let read = plant_reader::read_plant(given);
+    let read = plant_read::read_plant(given);
     let p = read.plant;
     let streams = p.streams;
     put_streams(streams, out);
@@ -92,5 +92,5 @@ pub fn writer(given: &[u8], out: &mut [u8]) -> u64 {
     if given.len() != 1634 {
         return NO_CASE;
     }
-    written(plant_writer::write_plant(plant_of(given), out))
+    written(plant_write::write_plant(plant_of(given), out))
 }

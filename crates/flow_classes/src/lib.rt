@@ -1,17 +1,16 @@
 // The class of a stream, and the degrees of freedom.
+use flow_components;
 use flow_def::Class;
 use flow_def::Which;
-use grouping;
-use groups;
-use plants::Plant;
-use plants::Stream;
-use plants::limits::PLACES;
+use plant_def::Plant;
+use plant_def::Stream;
+use plant_def::limits::PLACES;
 ghost use mathlib.Core.Path.{_≡_};
 ghost use Prim.Native.Nat.{_≤_, _<_};
 ghost use lib.ListN.{length};
-ghost use Rattle.plants.specs.Limits.{maxUnits, places};
-ghost use Rattle.plants.specs.Within.{WithinStream, Accepted};
-ghost use Rattle.plants.specs.Says.{plantOf};
+ghost use Rattle.plant_def.specs.Limits.{maxUnits, places};
+ghost use Rattle.plant_def.specs.Within.{WithinStream, Accepted};
+ghost use Rattle.plant_def.specs.Says.{plantOf};
 ghost use Rattle.flow_def.specs.Classes.{degrees};
 ghost use Rattle.flow_def.specs.Calls.{Grouped, classIn};
 
@@ -22,7 +21,7 @@ pub fn class_of(labels: &[u8; PLACES], s: Stream, h: u8, looped: u64) -> Class
     ensures { λ r. ⌜ r ≡ classIn (now (labels .entry)) s h looped ⌝ }
 {
     if s.metered {
-        if groups::one_label(labels, s) {
+        if flow_components::one_label(labels, s) {
             return Class::AsRead;
         }
         return Class::Adjusted;
@@ -39,8 +38,8 @@ pub fn degrees_of(p: Plant, labels: [u8; PLACES]) -> u8
     ensures { λ r. ⌜ (r ≡ degrees (plantOf p)) × (r ≤ maxUnits) ⌝ }
 {
     let n = p.units;
-    let count = groups::own_labels(labels, n);
-    let all = grouping::group(p, Which::Every);
-    let pieces = groups::own_labels(all, n);
+    let count = flow_components::own_labels(labels, n);
+    let all = flow_components::group(p, Which::Every);
+    let pieces = flow_components::own_labels(all, n);
     count - pieces
 }

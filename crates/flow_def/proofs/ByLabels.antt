@@ -10,9 +10,9 @@ use lib.ListN.{length, getD, replicate, List·getD-eq-default, getD-replicate}
 use lib.Seq.{ext-getD}
 use Rattle.num_bytes.specs.Choice.{pick}
 use Rattle.num_bytes.proofs.Tests.{by-cases, and-right}
-use Rattle.plants.specs.declared.Stream.{Stream}
-use Rattle.plants.specs.Limits.{maxUnits}
-use Rattle.plants.specs.Plants.{Plant, noStream}
+use Rattle.plant_def.specs.declared.Stream.{Stream}
+use Rattle.plant_def.specs.Limits.{maxUnits}
+use Rattle.plant_def.specs.Plants.{Plant, noStream}
 use Rattle.flow_def.specs.declared.Class.{Class}
 use Rattle.flow_def.specs.declared.Class.the-variants.{Adjusted, AsRead, Withheld}
 use Rattle.flow_def.specs.Flows.{streamAt}

@@ -12,13 +12,13 @@ use lib.Dec.{eqb, ltb}
 use lib.ListN.{length, getD, replicate, getD-replicate, length-replicate}
 use Rattle.num_bytes.specs.Choice.{pick}
 use Rattle.num_bytes.proofs.Tests.{by-cases, and-left, and-right, and-both, or-left}
-use Rattle.plants.specs.declared.Stream.{Stream}
-use Rattle.plants.specs.Limits.{maxUnits, places}
-use Rattle.plants.specs.declared.Plant as Arrays
-use Rattle.plants.specs.Plants.{Plant, noStream}
-use Rattle.plants.specs.Within.{Accepted}
-use Rattle.plants.specs.Says.{plantOf}
-use Rattle.plants.proofs.Arrayed.{all-listed, listed-at}
+use Rattle.plant_def.specs.declared.Stream.{Stream}
+use Rattle.plant_def.specs.Limits.{maxUnits, places}
+use Rattle.plant_def.specs.declared.Plant as Arrays
+use Rattle.plant_def.specs.Plants.{Plant, noStream}
+use Rattle.plant_def.specs.Within.{Accepted}
+use Rattle.plant_def.specs.Says.{plantOf}
+use Rattle.plant_def.proofs.Arrayed.{all-listed, listed-at}
 use Rattle.flow_def.specs.declared.Class.the-variants.{Adjusted, AsRead, Given, Withheld}
 use Rattle.flow_def.specs.Flows.{streamAt}
 use Rattle.flow_def.specs.Classes.{has, joinedTo, unmeteredBut, classOf}

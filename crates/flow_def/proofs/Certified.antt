@@ -10,9 +10,9 @@ use native.Mathlib.Decide.{ℕ-discrete}
 use borrow.Author.Tests.{eqb-true}
 use lib.Dec.{eqb}
 use Rattle.num_bytes.proofs.Tests.{and-left, and-right}
-use Rattle.plants.specs.declared.Stream.{Stream}
-use Rattle.plants.specs.Plants.{Plant, plantFault}
-use Rattle.plants.proofs.Limited.{within}
+use Rattle.plant_def.specs.declared.Stream.{Stream}
+use Rattle.plant_def.specs.Plants.{Plant, plantFault}
+use Rattle.plant_def.proofs.Limited.{within}
 use Rattle.flow_def.specs.Flows.{amountAt, allowed, Cheapest}
 use Rattle.flow_def.specs.Certificate.{climb, leastClimb, mostClimb, rises, falls, priced, stays, every, listedPrice, certified}
 use Rattle.flow_def.proofs.Integers.{leZ-le, ltZ-lt}

@@ -11,9 +11,9 @@ use lib.Dec.{eqb, ltb}
 use lib.ListN.{length, getD}
 use Rattle.num_bytes.specs.Choice.{pick}
 use Rattle.num_bytes.proofs.Tests.{by-cases, picked}
-use Rattle.plants.specs.Limits.{maxUnits}
-use Rattle.plants.specs.Plants.{Plant}
-use Rattle.plants.specs.Within.{Within}
+use Rattle.plant_def.specs.Limits.{maxUnits}
+use Rattle.plant_def.specs.Plants.{Plant}
+use Rattle.plant_def.specs.Within.{Within}
 use Rattle.flow_def.specs.Chains.{Counting, everyStream, unmeteredOnly, Chain, OneEach}
 use Rattle.flow_def.specs.Classes.{degrees}
 use Rattle.flow_def.specs.Labels.{renamed, labelsOf, ownLabels}

@@ -9,8 +9,8 @@ use borrow.Author.Tests.{eqb-true, eq-eqb, ne-eqb, leb-true, le-leb}
 use lib.Dec.{eqb, leb}
 use lib.ListN.{getD}
 use Rattle.num_bytes.proofs.Tests.{and-left, and-right, and-both, or-right, or-cases, same-test}
-use Rattle.plants.specs.Limits.{maxUnits, places}
-use Rattle.plants.specs.Plants.{Plant}
+use Rattle.plant_def.specs.Limits.{maxUnits, places}
+use Rattle.plant_def.specs.Plants.{Plant}
 use Rattle.flow_def.specs.Classes.{has, joinedTo, lowest, leadersTo, degrees}
 use Rattle.flow_def.specs.Chains.{Counting, everyStream, unmeteredOnly}
 use Rattle.flow_def.specs.Labels.{labelsOf, ownLabels}

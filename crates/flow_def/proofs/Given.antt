@@ -10,9 +10,9 @@ use borrow.Author.Tests.{ne-eqb}
 use lib.ListN.{length}
 use Rattle.num_bytes.specs.Choice.{pick}
 use Rattle.num_bytes.proofs.Tests.{by-cases, clash}
-use Rattle.plants.specs.declared.Stream.{Stream}
-use Rattle.plants.specs.Plants.{Plant}
-use Rattle.plants.specs.Within.{Within}
+use Rattle.plant_def.specs.declared.Stream.{Stream}
+use Rattle.plant_def.specs.Plants.{Plant}
+use Rattle.plant_def.specs.Within.{Within}
 use Rattle.flow_def.specs.declared.Class.{Class}
 use Rattle.flow_def.specs.declared.Class.the-variants.{Adjusted, AsRead, Given, Withheld}
 use Rattle.flow_def.specs.Flows.{streamAt, amountAt, balanced, meteredOf, Agree}

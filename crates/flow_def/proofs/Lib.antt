@@ -1,4 +1,4 @@
--- Laws of flows.
+-- Laws of flows. Laws of flows in fractions. Laws of streams without loops.
 pub mod Integers
 pub mod Sums
 pub mod Reach
@@ -28,3 +28,15 @@ pub mod Parting
 pub mod BySides
 pub mod Passed
 pub mod Critical
+pub mod Shares
+pub mod Mixing
+pub mod Distance
+pub mod Near
+pub mod AsRead
+pub mod Known
+pub mod Counts
+pub mod Places
+pub mod Chains
+pub mod Ranks
+pub mod Blanks
+pub mod Left

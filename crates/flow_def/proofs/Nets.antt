@@ -11,12 +11,12 @@ use lib.Dec.{eqb}
 use lib.ListN.{length}
 use Rattle.num_bytes.specs.Choice.{pick}
 use Rattle.num_bytes.proofs.Tests.{and-left, and-right, and-both}
-use Rattle.plants.specs.declared.Stream.{Stream}
-use Rattle.plants.specs.Plants.{Plant}
-use Rattle.plants.specs.declared.Plant as Arrays
-use Rattle.plants.specs.Within.{Within, Accepted}
-use Rattle.plants.specs.Says.{plantOf}
-use Rattle.plants.proofs.Arrayed.{within-of}
+use Rattle.plant_def.specs.declared.Stream.{Stream}
+use Rattle.plant_def.specs.Plants.{Plant}
+use Rattle.plant_def.specs.declared.Plant as Arrays
+use Rattle.plant_def.specs.Within.{Within, Accepted}
+use Rattle.plant_def.specs.Says.{plantOf}
+use Rattle.plant_def.proofs.Arrayed.{within-of}
 use Rattle.flow_def.specs.Flows.{streamAt, amountAt, netAt, balancedTo, balanced}
 use Rattle.num_bytes.specs.Inner.{values}
 use Rattle.flow_def.specs.Classes.{has, sideOut}

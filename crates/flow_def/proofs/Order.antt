@@ -11,8 +11,8 @@ use native.Mathlib.Decide.{decLe}
 use lib.ListN.{length}
 use Rattle.num_bytes.specs.Choice.{pick}
 use Rattle.num_bytes.proofs.Tests.{and-left, and-right, and-both, or-left, or-right, or-cases}
-use Rattle.plants.specs.declared.Stream.{Stream}
-use Rattle.plants.specs.Plants.{Plant}
+use Rattle.plant_def.specs.declared.Stream.{Stream}
+use Rattle.plant_def.specs.Plants.{Plant}
 use Rattle.flow_def.specs.Flows.{streamAt, amountAt, cost, meteredOf, notAfter, Cheapest}
 use Rattle.flow_def.proofs.Integers.{up, dn, Le, val, leZ-le, le-leZ, ltZ-lt, lt-ltZ, Le-antisym}
 

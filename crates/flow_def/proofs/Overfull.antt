@@ -9,9 +9,9 @@ use native.Mathlib.Omega.{arith}
 use lib.ListN.{length}
 use Rattle.num_bytes.specs.Choice.{pick}
 use Rattle.num_bytes.proofs.Tests.{by-cases}
-use Rattle.plants.specs.declared.Stream.{Stream}
-use Rattle.plants.specs.Plants.{Plant}
-use Rattle.plants.specs.Within.{Within}
+use Rattle.plant_def.specs.declared.Stream.{Stream}
+use Rattle.plant_def.specs.Plants.{Plant}
+use Rattle.plant_def.specs.Within.{Within}
 use Rattle.flow_def.specs.Flows.{amountAt, allowedOver}
 use Rattle.flow_def.specs.Overfull.{marks, enters, leaves, lowsIn, highsOut, Overfull}
 use Rattle.flow_def.proofs.Integers.{Le, ltZ-lt, plus-val, up-neg, dn-neg, up-times, dn-times}

@@ -11,8 +11,8 @@ use lib.Dec.{eqb, ltb}
 use lib.ListN.{length, getD}
 use lib.Bits.{bitOr}
 use Rattle.num_bytes.proofs.Tests.{by-cases, clash, and-left, and-right, and-both, or-none-left, or-none-right}
-use Rattle.plants.specs.declared.Stream.{Stream}
-use Rattle.plants.specs.Limits.{places}
+use Rattle.plant_def.specs.declared.Stream.{Stream}
+use Rattle.plant_def.specs.Limits.{places}
 use Rattle.flow_def.specs.Flows.{streamAt}
 use Rattle.flow_def.specs.Classes.{unmeteredBut}
 use Rattle.flow_def.specs.Chains.{Counting, unmeteredOnly, Chain}

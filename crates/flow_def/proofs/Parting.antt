@@ -11,8 +11,8 @@ use lib.Dec.{eqb}
 use lib.ListN.{length, getD}
 use Rattle.num_bytes.specs.Choice.{pick}
 use Rattle.num_bytes.proofs.Tests.{by-cases, clash}
-use Rattle.plants.specs.declared.Stream.{Stream}
-use Rattle.plants.specs.Limits.{places}
+use Rattle.plant_def.specs.declared.Stream.{Stream}
+use Rattle.plant_def.specs.Limits.{places}
 use Rattle.flow_def.specs.Flows.{streamAt}
 use Rattle.flow_def.specs.Labels.{renamed, relabelled}
 use Rattle.flow_def.specs.Sides.{bit, apart, turned, takenAt}

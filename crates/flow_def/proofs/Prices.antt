@@ -7,9 +7,9 @@ use Prim.Native.Nat.{ℕ, _+_, _*_, _≤_, _<_}
 use native.Mathlib.Omega.{arith}
 use lib.ListN.{length}
 use Rattle.num_bytes.specs.Choice.{pick}
-use Rattle.plants.specs.declared.Stream.{Stream}
-use Rattle.plants.specs.Plants.{Plant}
-use Rattle.plants.specs.Within.{Within}
+use Rattle.plant_def.specs.declared.Stream.{Stream}
+use Rattle.plant_def.specs.Plants.{Plant}
+use Rattle.plant_def.specs.Within.{Within}
 use Rattle.flow_def.specs.Flows.{streamAt, amountAt, balanced, allowed, square, cost, costOver}
 use Rattle.flow_def.specs.Certificate.{weightOf, climb, rises, falls}
 use Rattle.flow_def.proofs.Integers.{Le, canon, Z·diff, plus-val, one-times}

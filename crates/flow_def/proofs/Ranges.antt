@@ -10,8 +10,8 @@ use native.Mathlib.Omega.{arith}
 use borrow.Author.Tests.{not-true, not-false}
 use lib.ListN.{length}
 use Rattle.num_bytes.proofs.Tests.{by-cases, clash, and-left, and-right, and-both, or-left, or-right, or-cases, or-none-left, or-none-right, picked}
-use Rattle.plants.specs.declared.Stream.{Stream}
-use Rattle.plants.specs.Plants.{Plant, limited}
+use Rattle.plant_def.specs.declared.Stream.{Stream}
+use Rattle.plant_def.specs.Plants.{Plant, limited}
 use Rattle.flow_def.specs.Flows.{streamAt, amountAt, balanced, inRange, inRanges, allowedOver, nearest}
 use Rattle.flow_def.specs.Certificate.{rises, falls}
 use Rattle.flow_def.proofs.Integers.{up, dn, Le, Lt, leZ-le, le-leZ, ltZ-lt, lt-ltZ, Le-unless, Le-antisym, minus-val, product, one-times, val}

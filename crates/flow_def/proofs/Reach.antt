@@ -10,8 +10,8 @@ use lib.Dec.{eqb}
 use lib.ListN.{length}
 use Rattle.num_bytes.specs.Choice.{pick}
 use Rattle.num_bytes.proofs.Tests.{by-cases, clash, and-left, and-right, or-left, or-right, or-cases, picked}
-use Rattle.plants.specs.declared.Stream.{Stream}
-use Rattle.plants.specs.Plants.{Plant}
+use Rattle.plant_def.specs.declared.Stream.{Stream}
+use Rattle.plant_def.specs.Plants.{Plant}
 use Rattle.flow_def.specs.Flows.{streamAt}
 use Rattle.flow_def.specs.Classes.{has, including, spread, rounds, joinedTo}
 use Rattle.flow_def.specs.Chains.{Counting, Chain, stop, along, back}

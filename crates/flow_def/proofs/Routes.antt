@@ -10,7 +10,7 @@ use lib.Dec.{eqb}
 use lib.ListN.{length}
 use Rattle.num_bytes.specs.Choice.{pick}
 use Rattle.num_bytes.proofs.Tests.{clash}
-use Rattle.plants.specs.declared.Stream.{Stream}
+use Rattle.plant_def.specs.declared.Stream.{Stream}
 use Rattle.flow_def.specs.Flows.{streamAt}
 use Rattle.flow_def.specs.Chains.{Counting, Chain}
 use Rattle.flow_def.proofs.Integers.{canon, Z·diff, plus-four}

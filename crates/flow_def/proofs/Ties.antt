@@ -11,9 +11,9 @@ use lib.Dec.{leb}
 use lib.ListN.{length}
 use Rattle.num_bytes.specs.Choice.{pick}
 use Rattle.num_bytes.proofs.Tests.{by-cases, clash, and-left, and-right}
-use Rattle.plants.specs.declared.Stream.{Stream}
-use Rattle.plants.specs.Plants.{Plant}
-use Rattle.plants.specs.Within.{Within}
+use Rattle.plant_def.specs.declared.Stream.{Stream}
+use Rattle.plant_def.specs.Plants.{Plant}
+use Rattle.plant_def.specs.Within.{Within}
 use Rattle.flow_def.specs.Flows.{streamAt, amountAt, allowed, cost, Cheapest}
 use Rattle.flow_def.specs.Certificate.{weightOf, climb, lower, upper, leastClimb, mostClimb, rises, falls}
 use Rattle.flow_def.proofs.Integers.{Le, Lt, Le-unless, val, plus-val, minus-val, up-neg, dn-neg}

@@ -4,11 +4,11 @@ use mathlib.Core.List.{List}
 use Prim.Native.Nat.{ℕ, _<_}
 use lib.ListN.{length, getD}
 use Rattle.num_bytes.specs.Choice.{pick}
-use Rattle.plants.specs.declared.Stream.{Stream}
-use Rattle.plants.specs.declared.Plant as Arrays
-use Rattle.plants.specs.Limits.{places, maxStreams}
-use Rattle.plants.specs.Plants.{Plant}
-use Rattle.plants.specs.Says.{plantOf}
+use Rattle.plant_def.specs.declared.Stream.{Stream}
+use Rattle.plant_def.specs.declared.Plant as Arrays
+use Rattle.plant_def.specs.Limits.{places, maxStreams}
+use Rattle.plant_def.specs.Plants.{Plant}
+use Rattle.plant_def.specs.Says.{plantOf}
 use Rattle.flow_def.specs.declared.Class.{Class}
 use Rattle.flow_def.specs.declared.Class.the-variants.{AsRead, Adjusted, Given, Withheld}
 use Rattle.flow_def.specs.declared.Cuts.{Cuts}

@@ -4,8 +4,8 @@ use mathlib.Core.Bool.{Bool, true, not}
 use mathlib.Core.List.{List}
 use Prim.Native.Nat.{ℕ, _≤_, _<_}
 use lib.ListN.{length, getD}
-use Rattle.plants.specs.declared.Stream.{Stream}
-use Rattle.plants.specs.Plants.{Plant}
+use Rattle.plant_def.specs.declared.Stream.{Stream}
+use Rattle.plant_def.specs.Plants.{Plant}
 use Rattle.flow_def.specs.Flows.{streamAt}
 
 -- Which streams count: a test of the stream's number, from 0, and its record.

@@ -7,8 +7,8 @@ use lib.Dec.{eqb}
 use lib.ListN.{getD, replicate}
 use lib.Bits.{bitOr, bitXor}
 use Rattle.num_bytes.specs.Choice.{pick}
-use Rattle.plants.specs.declared.Stream.{Stream}
-use Rattle.plants.specs.Limits.{places}
+use Rattle.plant_def.specs.declared.Stream.{Stream}
+use Rattle.plant_def.specs.Limits.{places}
 use Rattle.flow_def.specs.Flows.{streamAt}
 use Rattle.num_bytes.specs.Inner.{values}
 use Rattle.flow_def.specs.Chains.{unmeteredOnly}

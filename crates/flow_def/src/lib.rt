@@ -1,6 +1,7 @@
-// Flows of a plant: balance, cost, groups, classes and the test, as definitions with their laws. No function stands here.
-use plants::limits::MAX_STREAMS;
-use plants::limits::PLACES;
+// Flows of a plant, whole or in fractions: balance, cost, groups, classes, forests and the test, as definitions with their laws.
+// No function stands here.
+use plant_def::limits::MAX_STREAMS;
+use plant_def::limits::PLACES;
 
 // The class of a stream. A (a redundant meter), R (a non-redundant meter), G (observable), W (unobservable).
 pub enum Class {

@@ -12,15 +12,15 @@ use borrow.Author.Tests.{eq-eqb, ne-eqb, ltb-true, ltb-false, leb-true}
 use Rattle.num_bytes.specs.Choice.{pick}
 use Rattle.num_bytes.proofs.Tests.{by-cases, and-right}
 use Rattle.num_bytes.proofs.Filled.{length-filled, take-filled}
-use Rattle.plants.specs.declared.Plant as Arrays
-use Rattle.plants.specs.declared.Read.{Read}
-use Rattle.plants.specs.Limits.{maxStreams, places}
-use Rattle.plants.specs.Plants.{Plant}
-use Rattle.plants.specs.Within.{Accepted}
-use Rattle.plants.specs.Files.{readPlant}
-use Rattle.plants.specs.Says as Plants
-use Rattle.plants.specs.Says.{plantOf}
-use Rattle.plants.proofs.Arrayed.{all-listed, read-held}
+use Rattle.plant_def.specs.declared.Plant as Arrays
+use Rattle.plant_def.specs.declared.Read.{Read}
+use Rattle.plant_def.specs.Limits.{maxStreams, places}
+use Rattle.plant_def.specs.Plants.{Plant}
+use Rattle.plant_def.specs.Within.{Accepted}
+use Rattle.plant_def.specs.Files.{readPlant}
+use Rattle.plant_def.specs.Says as Plants
+use Rattle.plant_def.specs.Says.{plantOf}
+use Rattle.plant_def.proofs.Arrayed.{all-listed, read-held}
 use Rattle.flow_def.specs.declared.Class.{Class}
 use Rattle.flow_def.specs.declared.Class.the-variants.{Adjusted}
 use Rattle.flow_def.specs.Flows.{streamAt, amountAt, cost}
@@ -45,7 +45,7 @@ use Rattle.sheet_def.specs.Sentences.{classOn}
 use Rattle.sheet_def.proofs.Promise.{read-bad, found}
 use Rattle.sheet_def.proofs.Back.{few-read}
 use Rattle.sheet_def.proofs.Demands.{demands}
-use Rattle.reckoning.proofs.Verdicts.{capped-verdict}
+use Rattle.sheet_entries.proofs.Verdicts.{capped-verdict}
 use Rattle.foreign_def.specs.Passing.{difference, known}
 use Rattle.foreign_def.specs.Says.{CheckSays}
 use Rattle.foreign_def.specs.Test.{withheldOnly, shownAt, shownFlows, noEntry, flowsShown, numbersFit, recordsFit, flowFits, flowsFit, broughtBy, netsFit, totalFits, partsIn, passes, checkWith}

@@ -3,7 +3,7 @@ use mathlib.Core.Path.{_≡_, refl}
 use mathlib.Core.List.{List, [], _∷_, _++_}
 use lib.IntN.{ℤ, pos, negsuc}
 use Prim.Native.Nat.{ℕ}
-use Rattle.plants.specs.Files.{readPlant}
+use Rattle.plant_def.specs.Files.{readPlant}
 use Rattle.flow_def.specs.Labels.{labelsAfter}
 use Rattle.sheet_def.specs.Kept.{readSheet}
 use Rattle.sheet_def.specs.Table.{site, meter, within, pipe, end, shown, total}

@@ -8,10 +8,10 @@ use Prim.Native.Nat.{ℕ, _+_, _≤_, _<_}
 use native.Mathlib.Omega.{arith}
 use lib.ListN.{getD}
 use Rattle.num_bytes.proofs.Tests.{by-cases}
-use Rattle.plants.specs.declared.Plant as Arrays
-use Rattle.plants.specs.Plants.{Plant}
-use Rattle.plants.specs.Says.{plantOf}
-use Rattle.plants.specs.Within.{Within, Accepted}
+use Rattle.plant_def.specs.declared.Plant as Arrays
+use Rattle.plant_def.specs.Plants.{Plant}
+use Rattle.plant_def.specs.Says.{plantOf}
+use Rattle.plant_def.specs.Within.{Within, Accepted}
 use Rattle.flow_def.specs.Flows.{amountAt, OfLeastCost}
 use Rattle.flow_def.specs.Certificate.{weightOf, climb, rises, falls}
 use Rattle.flow_def.proofs.Integers.{same, val, minus-val, size-val, parts}

@@ -13,13 +13,13 @@ use lib.Seq.{ext-getD, getD-take, length-take-le}
 use Rattle.num_bytes.specs.Choice.{pick}
 use Rattle.num_bytes.specs.Inner.{values}
 use Rattle.num_bytes.proofs.Tests.{by-cases, clash}
-use Rattle.plants.specs.declared.Plant as Arrays
-use Rattle.plants.specs.Limits.{places}
-use Rattle.plants.specs.Plants.{Plant}
-use Rattle.plants.specs.Within.{Within, Accepted}
-use Rattle.plants.specs.Says.{arrayed, plantOf}
-use Rattle.plants.proofs.Arrayed.{within-of, array-accepted}
-use Rattle.plants.proofs.Held.{plant-held}
+use Rattle.plant_def.specs.declared.Plant as Arrays
+use Rattle.plant_def.specs.Limits.{places}
+use Rattle.plant_def.specs.Plants.{Plant}
+use Rattle.plant_def.specs.Within.{Within, Accepted}
+use Rattle.plant_def.specs.Says.{arrayed, plantOf}
+use Rattle.plant_def.proofs.Arrayed.{within-of, array-accepted}
+use Rattle.plant_def.proofs.Held.{plant-held}
 use Rattle.flow_def.specs.Flows.{allowed}
 use Rattle.flow_def.specs.Overfull.{Overfull}
 use Rattle.flow_def.proofs.Lists.{values-long, values-at}

@@ -8,10 +8,10 @@ use Prim.Native.Nat.{ℕ, suc, _+_, _*_, _≤_, _<_}
 use native.Mathlib.Nat.{mul-le-mul-left}
 use native.Mathlib.Omega.{arith}
 use Rattle.num_bytes.proofs.Tests.{by-cases, and-left, and-right, and-both}
-use Rattle.plants.specs.declared.Stream.{Stream}
-use Rattle.plants.specs.Limits.{maxRange}
-use Rattle.plants.specs.Plants.{limited}
-use Rattle.plants.specs.Within.{WithinStream}
+use Rattle.plant_def.specs.declared.Stream.{Stream}
+use Rattle.plant_def.specs.Limits.{maxRange}
+use Rattle.plant_def.specs.Plants.{limited}
+use Rattle.plant_def.specs.Within.{WithinStream}
 use Rattle.flow_def.specs.Flows.{inRange}
 use Rattle.flow_def.specs.Certificate.{weightOf, climb, lower, upper, leastClimb, mostClimb, rises, falls, priced}
 use Rattle.flow_def.proofs.Integers.{up, dn, Le, Lt, val, canon, Z·diff, minus-val, size-val, leZ-le, le-leZ, ltZ-lt}

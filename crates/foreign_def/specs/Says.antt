@@ -5,8 +5,8 @@ use mathlib.Core.List.{List}
 use lib.IntN.{ℤ}
 use Prim.Native.Nat.{ℕ, _≤_, _<_}
 use lib.ListN.{length, take}
-use Rattle.plants.specs.Plants.{Plant}
-use Rattle.plants.specs.Files.{Got, bad, got, readPlant}
+use Rattle.plant_def.specs.Plants.{Plant}
+use Rattle.plant_def.specs.Files.{Got, bad, got, readPlant}
 use Rattle.flow_def.specs.declared.Class.the-variants.{Withheld}
 use Rattle.flow_def.specs.Flows.{amountAt, allowed, cost, OfLeastCost}
 use Rattle.sheet_def.specs.Apart.{capped}

@@ -12,9 +12,9 @@ use mir.Val.{SFits, toZ, ofZ}
 use mir.ValLaws.{toZ-ofZ}
 use mir.Facts.{toZ-pos}
 use Rattle.num_bytes.proofs.Tests.{by-cases, clash}
-use Rattle.plants.specs.declared.Stream.{Stream}
-use Rattle.plants.specs.Limits.{maxWeight}
-use Rattle.plants.specs.Plants.{limited}
+use Rattle.plant_def.specs.declared.Stream.{Stream}
+use Rattle.plant_def.specs.Limits.{maxWeight}
+use Rattle.plant_def.specs.Plants.{limited}
 use Rattle.flow_def.specs.Flows.{inRange}
 use Rattle.flow_def.specs.Certificate.{weightOf, lower, upper, rises, falls, leastClimb, mostClimb}
 use Rattle.flow_def.proofs.Integers.{plus-val, size-val, parts, product, one-times, ltZ-lt, le-leZ, leZ-le, lt-ltZ, Le-unless}

@@ -10,11 +10,11 @@ use borrow.Author.Tests.{lt-ltb, le-ltb}
 use lib.Dec.{ltb}
 use lib.ListN.{length, take}
 use Rattle.num_bytes.specs.Inner.{Put, pickT}
-use Rattle.plants.specs.Plants.{Plant}
-use Rattle.plants.specs.Files.{Got, bad, got, readPlant}
-use Rattle.plants.specs.Within.{Within}
-use Rattle.plants.proofs.Limited.{within}
-use Rattle.plants.proofs.Accepted.{accepted}
+use Rattle.plant_def.specs.Plants.{Plant}
+use Rattle.plant_def.specs.Files.{Got, bad, got, readPlant}
+use Rattle.plant_def.specs.Within.{Within}
+use Rattle.plant_def.proofs.Limited.{within}
+use Rattle.plant_def.proofs.Accepted.{accepted}
 use Rattle.flow_def.specs.Flows.{Cheapest}
 use Rattle.sheet_def.specs.declared.Balance.{Balance}
 use Rattle.sheet_def.specs.declared.Sheet.{Sheet}
@@ -28,8 +28,8 @@ use Rattle.sheet_def.proofs.Promise.{call-taken}
 use Rattle.sheet_def.proofs.Unique.{one-balance, never-both}
 use Rattle.sheet_def.proofs.Answering.{ReadsBack}
 use Rattle.sheet_def.proofs.Demands.{drawn-kept}
-use Rattle.listings.specs.Listing.{listingOf, refusalText}
-use Rattle.listings.specs.Room.{leastText}
+use Rattle.listing_lines.specs.Listing.{listingOf, refusalText}
+use Rattle.listing_lines.specs.Room.{leastText}
 use Rattle.listing_call.specs.Says.{Listed, Overfilled, ListWith, ListSays}
 use Rattle.listing_call.specs.Sample.{sampleFile}
 use Rattle.listing_call.specs.Printed.{sheetText, Printed}

@@ -9,20 +9,20 @@ use lib.Dec.{ltb}
 use lib.ListN.{length}
 use Rattle.num_bytes.specs.Bytes.{over}
 use Rattle.num_bytes.specs.Inner.{Put, pickT}
-use Rattle.plants.specs.declared.Read.{Read}
-use Rattle.plants.specs.Plants.{Plant}
-use Rattle.plants.specs.Files.{Got, bad, got, readPlant}
-use Rattle.plants.specs.Says.{plantOf, readOf}
-use Rattle.plants.specs.Within.{Within}
-use Rattle.plants.proofs.Limited.{within}
-use Rattle.plants.proofs.Accepted.{accepted}
+use Rattle.plant_def.specs.declared.Read.{Read}
+use Rattle.plant_def.specs.Plants.{Plant}
+use Rattle.plant_def.specs.Files.{Got, bad, got, readPlant}
+use Rattle.plant_def.specs.Says.{plantOf, readOf}
+use Rattle.plant_def.specs.Within.{Within}
+use Rattle.plant_def.proofs.Limited.{within}
+use Rattle.plant_def.proofs.Accepted.{accepted}
 use Rattle.flow_def.specs.Overfull.{Overfull}
 use Rattle.sheet_def.specs.declared.Balance.{Balance}
 use Rattle.sheet_def.specs.Balances.{balanceOf, BalanceSays}
 use Rattle.sheet_def.proofs.Promise.{read-bad, found, plant-count, plant-balance, plant-overfull}
 use Rattle.sheet_def.proofs.Unique.{one-balance, never-both}
-use Rattle.listings.specs.Listing.{listingOf, refusalText}
-use Rattle.listings.specs.Room.{leastText}
+use Rattle.listing_lines.specs.Listing.{listingOf, refusalText}
+use Rattle.listing_lines.specs.Room.{leastText}
 use Rattle.listing_call.specs.Says.{ListWith, ListSays, One-text}
 
 module _ (file o : List ℕ) where

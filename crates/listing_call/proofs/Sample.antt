@@ -3,7 +3,7 @@ use mathlib.Core.Path.{refl}
 use mathlib.Core.List.{List, [], _∷_}
 use mathlib.Core.Bool.{true, false}
 use lib.IntN.{ℤ, pos, negsuc}
-use Rattle.plants.specs.Plants.{Plant, unmetered}
+use Rattle.plant_def.specs.Plants.{Plant, unmetered}
 use Rattle.flow_def.proofs.Certified.{certified-cheapest}
 use Rattle.sheet_def.specs.Balances.{balanceOf}
 use Rattle.num_text.specs.Numerals.{decimal}

@@ -12,8 +12,8 @@ use Rattle.sheet_def.specs.Sheets.{SheetParts}
 use Rattle.sheet_def.specs.Kept.{someSheet, readSheet}
 use Rattle.sheet_def.specs.Sentences.{callFault}
 use Rattle.sheet_def.specs.Says.{SheetSays}
-use Rattle.listings.specs.Listing.{linesFrom, totalLine, refusalText}
-use Rattle.listings.specs.Room.{leastText}
+use Rattle.listing_lines.specs.Listing.{linesFrom, totalLine, refusalText}
+use Rattle.listing_lines.specs.Room.{leastText}
 use Rattle.listing_call.specs.Says.{ListSays}
 use Rattle.listing_call.specs.Sample.{sampleFile}
 

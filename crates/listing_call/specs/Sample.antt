@@ -4,13 +4,13 @@ use mathlib.Core.List.{List, _++_}
 use lib.IntN.{ℤ}
 use Prim.Native.Nat.{ℕ}
 use lib.ListN.{length}
-use Rattle.plants.specs.Plants.{Plant}
-use Rattle.plants.specs.Files.{got, readPlant}
+use Rattle.plant_def.specs.Plants.{Plant}
+use Rattle.plant_def.specs.Files.{got, readPlant}
 use Rattle.flow_def.specs.Flows.{Cheapest}
 use Rattle.sheet_def.specs.Balances.{balanceOf}
 use Rattle.sheet_def.specs.Table.{site, meter, pipe, end}
 use Rattle.num_text.specs.Numerals.{text}
-use Rattle.listings.specs.Listing.{listingOf}
+use Rattle.listing_lines.specs.Listing.{listingOf}
 
 abbrev pub sampleFile : List ℕ
 sampleFile = site 2 ++ meter 0 1 10 100 ++ pipe 1 2 ++ pipe 1 2 ++ meter 2 0 10 98 ++ end 4

@@ -8,13 +8,13 @@ use Prim.Native.Nat.{ℕ}
 use lib.Dec.{ltb}
 use lib.ListN.{length}
 use Rattle.num_bytes.specs.Inner.{Put, pickT}
-use Rattle.plants.specs.Plants.{Plant}
-use Rattle.plants.specs.Files.{Got, bad, got, readPlant}
+use Rattle.plant_def.specs.Plants.{Plant}
+use Rattle.plant_def.specs.Files.{Got, bad, got, readPlant}
 use Rattle.flow_def.specs.Flows.{Cheapest}
 use Rattle.flow_def.specs.Overfull.{Overfull}
 use Rattle.sheet_def.specs.Balances.{balanceOf}
-use Rattle.listings.specs.Listing.{listingOf, refusalText}
-use Rattle.listings.specs.Room.{leastText}
+use Rattle.listing_lines.specs.Listing.{listingOf, refusalText}
+use Rattle.listing_lines.specs.Room.{leastText}
 
 -- The listing of sheet 1 of the balance by a cheapest flow; or, where a set of places is overfull, the text of refusal 19. The slice
 -- past it is as it was.

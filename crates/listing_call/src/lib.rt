@@ -1,9 +1,9 @@
 // The listing of a plant file, as text.
-use balances::balance_of;
-use lister::put_listing;
-use listings::put_refusal;
-use plants::limits::MAX_STREAMS;
-ghost use Rattle.listings.specs.Room.{Counts};
+use listing_lines::put_listing;
+use listing_lines::put_refusal;
+use plant_def::limits::MAX_STREAMS;
+use sheet_call::balance_of;
+ghost use Rattle.listing_lines.specs.Room.{Counts};
 ghost use Rattle.listing_call.specs.Says.{ListSays};
 
 // The longest line of a stream, and that of the total.
@@ -22,7 +22,7 @@ pub fn list_plant(file: &[u8], text: &mut [u8]) -> usize
     if text.len() < LEAST_TEXT {
         return 0;
     }
-    let read = plant_reader::read_plant(file);
+    let read = plant_read::read_plant(file);
     let number = read.number;
     if number != 0 {
         return put_refusal(number, text);

@@ -10,15 +10,15 @@ use borrow.Author.Tests.{not-true, lt-ltb, leb-true, le-leb, lt-leb, ltb-true}
 use lib.Dec.{ltb, leb}
 use lib.ListN.{length}
 use Rattle.num_bytes.proofs.Tests.{by-cases, and-left, same-test}
-use Rattle.plants.specs.Plants.{Plant}
-use Rattle.plants.specs.Within.{Within}
+use Rattle.plant_def.specs.Plants.{Plant}
+use Rattle.plant_def.specs.Within.{Within}
 use Rattle.flow_def.specs.Flows.{streamAt}
 use Rattle.flow_def.proofs.Lists.{values-long, values-at}
 use Rattle.flow_def.proofs.Nets.{inside}
-use Rattle.forests.specs.Loops.{countTo, left}
-use Rattle.forests.specs.Metering.{chosen}
-use Rattle.forests.proofs.Counts.{one, count-same, count-gap, most, most-le}
-use Rattle.forests.proofs.Left.{none→left, left→none}
+use Rattle.flow_def.specs.Loops.{countTo, left}
+use Rattle.flow_def.specs.Metering.{chosen}
+use Rattle.flow_def.proofs.Counts.{one, count-same, count-gap, most, most-le}
+use Rattle.flow_def.proofs.Left.{none→left, left→none}
 use Rattle.purchase_def.specs.Purchases.{priceOf, numbersOf, notLater, Serves, Best}
 use Rattle.purchase_def.specs.Choosing.{before, bought, toBuy}
 use Rattle.purchase_def.proofs.Layers.{sumTo, sum-le, sum-tight, layers, value, value-layer, ordered}

@@ -9,17 +9,17 @@ use borrow.Author.Tests.{eqb-false, leb-true, le-leb, not-true}
 use lib.Dec.{eqb, leb}
 use lib.ListN.{length}
 use Rattle.num_bytes.proofs.Tests.{by-cases, clash, and-left, and-right, and-both, same-test}
-use Rattle.plants.specs.declared.Stream.{Stream}
-use Rattle.plants.specs.Limits.{maxUnits}
-use Rattle.plants.specs.Plants.{Plant}
+use Rattle.plant_def.specs.declared.Stream.{Stream}
+use Rattle.plant_def.specs.Limits.{maxUnits}
+use Rattle.plant_def.specs.Plants.{Plant}
 use Rattle.flow_def.specs.Flows.{streamAt}
 use Rattle.flow_def.specs.Chains.{Counting, Chain}
 use Rattle.flow_def.specs.Classes.{has, joinedTo}
 use Rattle.flow_def.proofs.Reach.{Inside, chain-trans, chain-sym, chain-map, joined→chain, chain→joined}
-use Rattle.forests.specs.Loops.{countTo, but}
-use Rattle.forests.proofs.Counts.{one, count-four}
-use Rattle.forests.proofs.Chains.{Spans, chain-bind}
-use Rattle.forests.proofs.Ranks.{Free, free-few}
+use Rattle.flow_def.specs.Loops.{countTo, but}
+use Rattle.flow_def.proofs.Counts.{one, count-four}
+use Rattle.flow_def.proofs.Chains.{Spans, chain-bind}
+use Rattle.flow_def.proofs.Ranks.{Free, free-few}
 
 -- Those of value t or more.
 abbrev pub from-value : (ℕ → ℕ) → ℕ → Counting → Counting

@@ -10,15 +10,15 @@ use lib.Dec.{ltb, eqb}
 use lib.ListN.{length}
 use Rattle.num_bytes.specs.Inner.{values}
 use Rattle.num_bytes.proofs.Tests.{by-cases, and-left, and-right}
-use Rattle.plants.specs.Limits.{maxStreams}
-use Rattle.plants.specs.Plants.{Plant}
-use Rattle.plants.specs.Within.{Within}
+use Rattle.plant_def.specs.Limits.{maxStreams}
+use Rattle.plant_def.specs.Plants.{Plant}
+use Rattle.plant_def.specs.Within.{Within}
 use Rattle.flow_def.specs.Flows.{streamAt}
 use Rattle.flow_def.specs.Chains.{Chain}
 use Rattle.flow_def.proofs.Lists.{values-long, values-at}
-use Rattle.forests.specs.Loops.{but, left}
-use Rattle.forests.specs.Metering.{chosen}
-use Rattle.forests.proofs.Left.{left→none}
+use Rattle.flow_def.specs.Loops.{but, left}
+use Rattle.flow_def.specs.Metering.{chosen}
+use Rattle.flow_def.proofs.Left.{left→none}
 use Rattle.purchase_def.specs.Purchases.{maxPrice, priceIn, pricesFault, pricesTo, priceOf, Serves, Best}
 use Rattle.purchase_def.proofs.Sets.{sum-most, fair-at, prices-same}
 

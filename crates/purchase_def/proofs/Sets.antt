@@ -10,10 +10,10 @@ use lib.Dec.{eqb, ltb}
 use lib.ListN.{length, getD}
 use Rattle.num_bytes.specs.Arrays.{filled}
 use Rattle.num_bytes.proofs.Tests.{by-cases, clash, and-left, and-right, and-both, or-cases, or-none-left, or-none-right, refuse-none}
-use Rattle.plants.specs.Limits.{maxUnits, maxStreams}
-use Rattle.plants.specs.declared.Stream.{Stream}
-use Rattle.plants.specs.Plants.{Plant}
-use Rattle.plants.specs.Within.{Within}
+use Rattle.plant_def.specs.Limits.{maxUnits, maxStreams}
+use Rattle.plant_def.specs.declared.Stream.{Stream}
+use Rattle.plant_def.specs.Plants.{Plant}
+use Rattle.plant_def.specs.Within.{Within}
 use Rattle.flow_def.specs.Flows.{streamAt}
 use Rattle.flow_def.specs.Classes.{unmeteredBut}
 use Rattle.flow_def.specs.Labels.{labelsOf, oneLabel}
@@ -21,9 +21,9 @@ use Rattle.flow_def.proofs.Lists.{values-long, values-at, values-same}
 use Rattle.flow_def.proofs.Nets.{inside}
 use Rattle.flow_def.proofs.Reach.{Inside, chain-map, joined→chain, chain→joined}
 use Rattle.flow_def.proofs.Labels.{label-joined, labels-same}
-use Rattle.forests.specs.Withheld.{NoneWithheld}
-use Rattle.forests.specs.Metering.{chosen}
-use Rattle.forests.proofs.Blanks.{none→classes}
+use Rattle.flow_def.specs.Withheld.{NoneWithheld}
+use Rattle.flow_def.specs.Metering.{chosen}
+use Rattle.flow_def.proofs.Blanks.{none→classes}
 use Rattle.purchase_def.specs.Purchases.{maxPrice, unmeteredTo, priceIn, someUnfair, pricesFault, pricesTo, priceOf, numbersFrom, numbersOf, notLater, Best}
 use Rattle.purchase_def.specs.Says.{boughtOf}
 use Rattle.purchase_def.specs.Choosing.{before, dearer, bought, toBuy}

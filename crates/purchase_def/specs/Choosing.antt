@@ -5,7 +5,7 @@ use Prim.Native.Nat.{ℕ}
 use lib.Dec.{eqb, ltb}
 use lib.ListN.{length}
 use Rattle.num_bytes.specs.Inner.{values}
-use Rattle.plants.specs.Plants.{Plant}
+use Rattle.plant_def.specs.Plants.{Plant}
 use Rattle.flow_def.specs.Flows.{streamAt}
 use Rattle.flow_def.specs.Chains.{Counting}
 use Rattle.flow_def.specs.Classes.{has, joinedTo}

@@ -4,7 +4,7 @@ use mathlib.Core.List.{List}
 use Prim.Native.Nat.{ℕ, _≤_, _<_}
 use lib.ListN.{length, take}
 use Rattle.num_bytes.specs.Bytes.{over}
-use Rattle.plants.specs.Limits.{maxStreams}
+use Rattle.plant_def.specs.Limits.{maxStreams}
 use Rattle.purchase_def.specs.declared.Bought.{Bought}
 use Rattle.purchase_def.specs.declared.Handed.{Handed}
 use Rattle.purchase_def.specs.Says.{noneBought, BuySays}

@@ -6,11 +6,11 @@ use Prim.Native.Nat.{ℕ, zero, suc, _+_, _≤_, _<_}
 use lib.Dec.{eqb, ltb}
 use lib.ListN.{length, getD}
 use Rattle.num_bytes.specs.Choice.{pick, refuseIf}
-use Rattle.plants.specs.declared.Stream.{Stream}
-use Rattle.plants.specs.Plants.{Plant}
+use Rattle.plant_def.specs.declared.Stream.{Stream}
+use Rattle.plant_def.specs.Plants.{Plant}
 use Rattle.flow_def.specs.Flows.{streamAt}
-use Rattle.forests.specs.Withheld.{NoneWithheld}
-use Rattle.forests.specs.Metering.{chosen, metering}
+use Rattle.flow_def.specs.Withheld.{NoneWithheld}
+use Rattle.flow_def.specs.Metering.{chosen, metering}
 
 -- Prices are from 1 to this.
 abbrev pub maxPrice : ℕ

@@ -5,10 +5,10 @@ use mathlib.Core.List.{List, []}
 use Prim.Native.Nat.{ℕ}
 use lib.ListN.{length, replicate}
 use Rattle.num_bytes.specs.Arrays.{filled}
-use Rattle.plants.specs.Limits.{maxStreams}
-use Rattle.plants.specs.Plants.{Plant}
-use Rattle.plants.specs.Files.{Got, bad, got, readPlant}
-use Rattle.forests.specs.Withheld.{NoneWithheld}
+use Rattle.plant_def.specs.Limits.{maxStreams}
+use Rattle.plant_def.specs.Plants.{Plant}
+use Rattle.plant_def.specs.Files.{Got, bad, got, readPlant}
+use Rattle.flow_def.specs.Withheld.{NoneWithheld}
 use Rattle.purchase_def.specs.declared.Bought.{Bought}
 use Rattle.purchase_def.specs.Purchases.{priceIn, pricesFault, priceOf, numbersOf, Best}
 

@@ -1,5 +1,5 @@
 // Meters to buy: definitions and laws. No function stands here.
-use plants::limits::MAX_STREAMS;
+use plant_def::limits::MAX_STREAMS;
 
 // The greatest price.
 pub const MAX_PRICE: u32 = 1_000_000;

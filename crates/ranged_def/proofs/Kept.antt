@@ -8,12 +8,12 @@ use lib.ListN.{length, length-map}
 use borrow.Author.Tests.{eqb-false}
 use Rattle.num_bytes.specs.Choice.{refuseIf, firstOf}
 use Rattle.num_bytes.proofs.Tests.{picked, and-left, and-right, and-both, first-none-left, first-none-right}
-use Rattle.plants.specs.declared.Stream.{Stream}
-use Rattle.plants.specs.Limits.{maxStreams}
-use Rattle.plants.specs.Plants.{Plant, limited, unitsFault, meterFault, rangeFault, streamFault, firstFault, partsFault, plantFault, plainOne, plain}
-use Rattle.plants.specs.Files.{Got, bad, got, readPlant}
-use Rattle.plants.proofs.Accepted.{accepted, refused}
-use Rattle.conversions.specs.Needs.{Faultless}
+use Rattle.plant_def.specs.declared.Stream.{Stream}
+use Rattle.plant_def.specs.Limits.{maxStreams}
+use Rattle.plant_def.specs.Plants.{Plant, limited, unitsFault, meterFault, rangeFault, streamFault, firstFault, partsFault, plantFault, plainOne, plain}
+use Rattle.plant_def.specs.Files.{Got, bad, got, readPlant}
+use Rattle.plant_def.proofs.Accepted.{accepted, refused}
+use Rattle.plant_def.specs.Needs.{Faultless}
 use Rattle.ranged_def.specs.Moves.{widened, bared, narrowFault, moved, toRanged, fromRanged}
 
 -- The meter's faults of a stream without fault, with no fault of a range after them.

@@ -8,9 +8,9 @@ use native.Mathlib.Numerals.{add-one}
 use lib.ListN.{length, getD, set, drop, drop-of-length-le}
 use lib.Seq.{drop-cons}
 use Rattle.num_bytes.specs.Choice.{refuseIf, firstOf}
-use Rattle.plants.specs.declared.Stream.{Stream}
-use Rattle.plants.specs.Plants.{noStream}
-use Rattle.plants.specs.Says.{padded}
+use Rattle.plant_def.specs.declared.Stream.{Stream}
+use Rattle.plant_def.specs.Plants.{noStream}
+use Rattle.plant_def.specs.Says.{padded}
 use Rattle.ranged_def.specs.Moves.{narrower, narrowFault}
 
 -- The first k elements moved.

@@ -4,14 +4,14 @@ use mathlib.Core.List.{List, map}
 use Prim.Native.Nat.{ℕ}
 use lib.ListN.{length, length-map}
 use borrow.Author.Tests.{eq-eqb, ne-eqb}
-use Rattle.plants.specs.declared.Stream.{Stream}
-use Rattle.plants.specs.declared.Read.{Read}
-use Rattle.plants.specs.Limits.{maxStreams}
-use Rattle.plants.specs.Plants.{Plant, noStream}
-use Rattle.plants.specs.Files.{Got, bad, got, readPlant}
-use Rattle.plants.specs.Says.{arrayed, readOf}
-use Rattle.plants.proofs.Accepted.{accepted, refused}
-use Rattle.plants.proofs.Limited.{few-parts}
+use Rattle.plant_def.specs.declared.Stream.{Stream}
+use Rattle.plant_def.specs.declared.Read.{Read}
+use Rattle.plant_def.specs.Limits.{maxStreams}
+use Rattle.plant_def.specs.Plants.{Plant, noStream}
+use Rattle.plant_def.specs.Files.{Got, bad, got, readPlant}
+use Rattle.plant_def.specs.Says.{arrayed, readOf}
+use Rattle.plant_def.proofs.Accepted.{accepted, refused}
+use Rattle.plant_def.proofs.Limited.{few-parts}
 use Rattle.ranged_def.specs.Moves.{widened, bared, narrowFault, moved, toRanged, fromRanged}
 use Rattle.ranged_def.proofs.Mapped.{map-padded, narrow-padded}
 

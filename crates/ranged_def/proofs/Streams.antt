@@ -5,7 +5,7 @@ use lib.IntN.{pos}
 use lib.Signed.{ltZ}
 use Rattle.num_bytes.proofs.Tests.{or-left}
 use borrow.Author.Tests.{not-true, not-false}
-use Rattle.plants.specs.declared.Stream.{Stream}
+use Rattle.plant_def.specs.declared.Stream.{Stream}
 use Rattle.ranged_def.specs.Moves.{widestLow, widestHigh, widened, bared, narrower}
 
 module _ (s : Stream) where

@@ -11,16 +11,16 @@ use borrow.Author.Tests.{not-true, eq-eqb}
 use Rattle.num_bytes.specs.Bytes.{allBytes, over}
 use Rattle.num_bytes.specs.Choice.{pick}
 use Rattle.num_bytes.proofs.Tests.{by-cases, and-left, and-right}
-use Rattle.plants.specs.declared.Stream.{Stream}
-use Rattle.plants.specs.declared.Done.{Done}
-use Rattle.plants.specs.Limits.{longestFile, siteKind, endKind}
-use Rattle.plants.specs.Plants.{Plant, limited}
-use Rattle.plants.specs.Files.{Got, bad, got, readPlant, streamBytes, streamsBytes, plantBytes}
-use Rattle.plants.proofs.Accepted.{accepted}
-use Rattle.plants.proofs.There.{there}
-use Rattle.plants.proofs.Back.{back}
-use Rattle.conversions.specs.Says.{Converts}
-use Rattle.conversions.proofs.Promise.{converted}
+use Rattle.plant_def.specs.declared.Stream.{Stream}
+use Rattle.plant_def.specs.declared.Done.{Done}
+use Rattle.plant_def.specs.Limits.{longestFile, siteKind, endKind}
+use Rattle.plant_def.specs.Plants.{Plant, limited}
+use Rattle.plant_def.specs.Files.{Got, bad, got, readPlant, streamBytes, streamsBytes, plantBytes}
+use Rattle.plant_def.proofs.Accepted.{accepted}
+use Rattle.plant_def.proofs.There.{there}
+use Rattle.plant_def.proofs.Back.{back}
+use Rattle.plant_def.specs.Converts.{Converts}
+use Rattle.plant_def.proofs.Promise.{converted}
 use Rattle.ranged_def.specs.Moves.{widened, bared, narrower, narrowFault, moved, forward, home, toRanged, fromRanged, ToSays, FromSays}
 use Rattle.ranged_def.specs.Trip.{rangeless, Moving}
 use Rattle.ranged_def.proofs.Kept.{forward-good, home-good, widened-plain, bared-plain, moved-plain}

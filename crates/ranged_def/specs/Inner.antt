@@ -4,13 +4,13 @@ use mathlib.Core.Bool.{Bool}
 use mathlib.Core.List.{List}
 use Prim.Native.Nat.{ℕ}
 use Rattle.num_bytes.specs.Choice.{pick}
-use Rattle.plants.specs.declared.Stream.{Stream}
-use Rattle.plants.specs.declared.Read.{Read}
-use Rattle.plants.specs.declared.Done.{Done}
-use Rattle.plants.specs.Files.{Got}
-use Rattle.plants.specs.Says.{readOf}
-use Rattle.conversions.specs.Says.{Converts}
-use Rattle.conversions.specs.Needs.{Faultless}
+use Rattle.plant_def.specs.declared.Stream.{Stream}
+use Rattle.plant_def.specs.declared.Read.{Read}
+use Rattle.plant_def.specs.declared.Done.{Done}
+use Rattle.plant_def.specs.Files.{Got}
+use Rattle.plant_def.specs.Says.{readOf}
+use Rattle.plant_def.specs.Converts.{Converts}
+use Rattle.plant_def.specs.Needs.{Faultless}
 use Rattle.ranged_def.specs.Moves.{widened, bared}
 
 -- A stream moved forward, or home.

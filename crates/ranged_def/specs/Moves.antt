@@ -6,12 +6,12 @@ use lib.Signed.{ltZ}
 use Prim.Native.Nat.{ℕ}
 use lib.Dec.{eqb}
 use Rattle.num_bytes.specs.Choice.{pick, refuseIf, firstOf}
-use Rattle.plants.specs.declared.Stream.{Stream}
-use Rattle.plants.specs.declared.Done.{Done}
-use Rattle.plants.specs.Limits.{maxRange}
-use Rattle.plants.specs.Plants.{Plant, limited}
-use Rattle.plants.specs.Files.{Got, bad, got, readPlant}
-use Rattle.conversions.specs.Says.{Converts}
+use Rattle.plant_def.specs.declared.Stream.{Stream}
+use Rattle.plant_def.specs.declared.Done.{Done}
+use Rattle.plant_def.specs.Limits.{maxRange}
+use Rattle.plant_def.specs.Plants.{Plant, limited}
+use Rattle.plant_def.specs.Files.{Got, bad, got, readPlant}
+use Rattle.plant_def.specs.Converts.{Converts}
 
 -- The widest range that there is.
 abbrev pub widestLow : ℤ

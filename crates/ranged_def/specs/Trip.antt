@@ -5,11 +5,11 @@ use mathlib.Core.List.{List, [], _∷_}
 use Prim.Native.Nat.{ℕ, _≤_}
 use lib.ListN.{length, take}
 use Rattle.num_bytes.specs.Bytes.{allBytes, over}
-use Rattle.plants.specs.declared.Stream.{Stream}
-use Rattle.plants.specs.declared.Done.{Done}
-use Rattle.plants.specs.Limits.{longestFile}
-use Rattle.plants.specs.Plants.{Plant, limited}
-use Rattle.plants.specs.Files.{got, readPlant, plantBytes}
+use Rattle.plant_def.specs.declared.Stream.{Stream}
+use Rattle.plant_def.specs.declared.Done.{Done}
+use Rattle.plant_def.specs.Limits.{longestFile}
+use Rattle.plant_def.specs.Plants.{Plant, limited}
+use Rattle.plant_def.specs.Files.{got, readPlant, plantBytes}
 use Rattle.ranged_def.specs.Moves.{toRanged, fromRanged, ToSays, FromSays}
 
 -- A plant without 0x06: no stream has a range.

@@ -6,9 +6,9 @@ use lib.IntN.{pos, negsuc}
 use Prim.Native.Nat.{ℕ}
 use native.Mathlib.Omega.{arith}
 use lib.ListN.{getD}
-use Rattle.plants.specs.declared.Stream.{Stream}
-use Rattle.plants.specs.Plants.{Plant}
-use Rattle.plants.specs.Files.{readPlant}
+use Rattle.plant_def.specs.declared.Stream.{Stream}
+use Rattle.plant_def.specs.Plants.{Plant}
+use Rattle.plant_def.specs.Files.{readPlant}
 use Rattle.sheet_def.specs.Table.{fullUnit}
 use Rattle.sheet_def.specs.Balances.{balanceOf}
 use Rattle.sheet_def.proofs.Table.{shows-right, unit-full, refuses-right}

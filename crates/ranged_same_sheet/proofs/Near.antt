@@ -13,10 +13,10 @@ use borrow.Author.Tests.{ltb-true, ltb-false, not-true}
 use Rattle.num_bytes.specs.Choice.{pick}
 use Rattle.num_bytes.specs.Inner.{values}
 use Rattle.num_bytes.proofs.Tests.{by-cases, clash, picked, and-left, and-right}
-use Rattle.plants.specs.declared.Stream.{Stream}
-use Rattle.plants.specs.Limits.{maxStreams, maxWeight, maxReading, maxRange}
-use Rattle.plants.specs.Plants.{Plant, noStream, limited}
-use Rattle.plants.specs.Within.{Within, WithinStream}
+use Rattle.plant_def.specs.declared.Stream.{Stream}
+use Rattle.plant_def.specs.Limits.{maxStreams, maxWeight, maxReading, maxRange}
+use Rattle.plant_def.specs.Plants.{Plant, noStream, limited}
+use Rattle.plant_def.specs.Within.{Within, WithinStream}
 use Rattle.flow_def.specs.Flows.{streamAt, amountAt, balanced, inRange, square, cost}
 use Rattle.flow_def.proofs.Integers.{size-val, minus-val, parts, one-times}
 use Rattle.flow_def.proofs.Sums.{sum-none}

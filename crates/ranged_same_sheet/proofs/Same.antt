@@ -13,11 +13,11 @@ use Rattle.num_bytes.specs.Choice.{refuseIf, firstOf}
 use Rattle.num_bytes.specs.Bytes.{over}
 use Rattle.num_bytes.specs.Inner.{pickT}
 use Rattle.num_bytes.proofs.Tests.{clash}
-use Rattle.plants.specs.Plants.{Plant}
-use Rattle.plants.specs.Files.{Got, got, readPlant, plantBytes}
-use Rattle.plants.specs.Within.{Within}
-use Rattle.plants.proofs.Limited.{within}
-use Rattle.plants.proofs.Accepted.{accepted}
+use Rattle.plant_def.specs.Plants.{Plant}
+use Rattle.plant_def.specs.Files.{Got, got, readPlant, plantBytes}
+use Rattle.plant_def.specs.Within.{Within}
+use Rattle.plant_def.proofs.Limited.{within}
+use Rattle.plant_def.proofs.Accepted.{accepted}
 use Rattle.flow_def.specs.Flows.{amountAt, balanced, inRange, allowed, cost, meteredOf, notAfter, Cheapest}
 use Rattle.flow_def.specs.Overfull.{unmarked, Overfull}
 use Rattle.flow_def.proofs.Nets.{countOf, streamOf, balanced-size}

@@ -4,9 +4,9 @@ use mathlib.Core.List.{List, [], _∷_, _++_}
 use lib.IntN.{ℤ, pos}
 use Prim.Native.Nat.{ℕ}
 use Rattle.num_bytes.specs.Bytes.{putBe, raw}
-use Rattle.plants.specs.Files.{readPlant}
+use Rattle.plant_def.specs.Files.{readPlant}
 use Rattle.sheet_def.specs.Table.{Example, Shows, Refuses, site, end, fullUnit}
-use Rattle.conversions.specs.Says.{bytesOf}
+use Rattle.plant_def.specs.Converts.{bytesOf}
 use Rattle.ranged_def.specs.Moves.{widestLow, widestHigh, toRanged}
 
 -- Records of a file; of a sheet whose degrees are 1 and whose verdict is 1, fail.

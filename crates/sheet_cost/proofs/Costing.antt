@@ -15,13 +15,13 @@ use mir.Syntax.{w32, w64}
 use mir.Val.{SFits, toZ, ofZ}
 use mir.ValLaws.{toZ-ofZ}
 use borrow.Author.Needs.{sfits-of}
-use Rattle.plants.specs.declared.Stream.{Stream}
-use Rattle.plants.specs.declared.Plant as Arrays
-use Rattle.plants.specs.Plants.{noStream}
-use Rattle.plants.specs.Says.{plantOf}
-use Rattle.plants.specs.Limits.{maxUnits, maxStreams}
-use Rattle.plants.specs.Within.{WithinStream, Accepted}
-use Rattle.plants.proofs.Arrayed.{all-listed, listed-at, stream-within}
+use Rattle.plant_def.specs.declared.Stream.{Stream}
+use Rattle.plant_def.specs.declared.Plant as Arrays
+use Rattle.plant_def.specs.Plants.{noStream}
+use Rattle.plant_def.specs.Says.{plantOf}
+use Rattle.plant_def.specs.Limits.{maxUnits, maxStreams}
+use Rattle.plant_def.specs.Within.{WithinStream, Accepted}
+use Rattle.plant_def.proofs.Arrayed.{all-listed, listed-at, stream-within}
 use Rattle.flow_def.specs.Flows.{streamAt, amountAt, cost}
 use Rattle.flow_def.proofs.Integers.{size-val, minus-val, parts, one-times}
 use Rattle.solve_def.proofs.Weights.{wide}

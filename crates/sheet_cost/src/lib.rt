@@ -1,16 +1,16 @@
 // What a flow costs, as it is written: stream by stream, and summed up.
 use num_text::size_of;
-use plants::Plant;
-use plants::Stream;
-use plants::limits::MAX_STREAMS;
+use plant_def::Plant;
+use plant_def::Stream;
+use plant_def::limits::MAX_STREAMS;
 use sheet_def::kinds::TOP_COST;
 use sheet_def::kinds::TOP_ROOT;
 ghost use mathlib.Core.Path.{_≡_};
 ghost use Prim.Native.Nat.{_+_, _*_, _≤_};
 ghost use lib.ListN.{take};
-ghost use Rattle.plants.specs.Limits.{maxUnits};
-ghost use Rattle.plants.specs.Within.{WithinStream, Accepted};
-ghost use Rattle.plants.specs.Says.{plantOf};
+ghost use Rattle.plant_def.specs.Limits.{maxUnits};
+ghost use Rattle.plant_def.specs.Within.{WithinStream, Accepted};
+ghost use Rattle.plant_def.specs.Says.{plantOf};
 ghost use Rattle.flow_def.specs.Flows.{cost};
 ghost use Rattle.sheet_def.specs.Apart.{capped};
 ghost use Rattle.sheet_def.specs.Calls.{Small, AllSmall, streamCost};

@@ -12,15 +12,15 @@ use lib.ListN.{length, getD, take, drop}
 use lib.Seq.{drop-append-seam, take-at}
 use Rattle.num_bytes.proofs.Tests.{by-cases, clash}
 use Rattle.num_bytes.proofs.Parts.{laid, same-length}
-use Rattle.plants.specs.declared.Plant as Arrays
-use Rattle.plants.specs.Plants.{Plant}
-use Rattle.plants.specs.Files.{Got, bad, got, readPlant}
-use Rattle.plants.specs.Says.{arrayed}
-use Rattle.plants.specs.Within.{Within, Accepted}
-use Rattle.plants.proofs.Limited.{within}
-use Rattle.plants.proofs.Accepted.{accepted, refused}
-use Rattle.plants.proofs.Arrayed.{read-accepted, read-held}
-use Rattle.plants.proofs.Back.{round-trip}
+use Rattle.plant_def.specs.declared.Plant as Arrays
+use Rattle.plant_def.specs.Plants.{Plant}
+use Rattle.plant_def.specs.Files.{Got, bad, got, readPlant}
+use Rattle.plant_def.specs.Says.{arrayed}
+use Rattle.plant_def.specs.Within.{Within, Accepted}
+use Rattle.plant_def.proofs.Limited.{within}
+use Rattle.plant_def.proofs.Accepted.{accepted, refused}
+use Rattle.plant_def.proofs.Arrayed.{read-accepted, read-held}
+use Rattle.plant_def.proofs.Back.{round-trip}
 use Rattle.flow_def.specs.Flows.{amountAt, allowed, Cheapest}
 use Rattle.flow_def.specs.Chains.{everyStream, unmeteredOnly}
 use Rattle.flow_def.specs.Shown.{Shown, Demand-3}

@@ -8,8 +8,8 @@ use lib.ListN.{length, drop, length-append}
 use Rattle.num_bytes.specs.Bytes.{allBytes}
 use Rattle.num_bytes.proofs.Digits.{bytes-drop}
 use Rattle.num_bytes.proofs.Tests.{and-both}
-use Rattle.plants.specs.Limits.{maxStreams}
-use Rattle.plants.specs.Files.{mostRecords}
+use Rattle.plant_def.specs.Limits.{maxStreams}
+use Rattle.plant_def.specs.Files.{mostRecords}
 use Rattle.sheet_def.specs.declared.Entry.{Entry}
 use Rattle.sheet_def.specs.declared.SheetRecord.{SheetRecord}
 use Rattle.sheet_def.specs.declared.SheetRecord.the-variants.{Listed, Ended, Refused}

@@ -4,14 +4,14 @@ use mathlib.Core.List.{List}
 use lib.IntN.{ℤ}
 use Prim.Native.Nat.{ℕ, _≤_}
 use lib.ListN.{length}
-use Rattle.plants.specs.declared.Plant as Arrays
-use Rattle.plants.specs.Plants.{Plant}
-use Rattle.plants.specs.Files.{got, readPlant}
-use Rattle.plants.specs.Within.{Accepted}
-use Rattle.plants.specs.Says.{plantOf}
-use Rattle.plants.proofs.Limited.{within}
-use Rattle.plants.proofs.Accepted.{accepted}
-use Rattle.plants.proofs.Arrayed.{within-of}
+use Rattle.plant_def.specs.declared.Plant as Arrays
+use Rattle.plant_def.specs.Plants.{Plant}
+use Rattle.plant_def.specs.Files.{got, readPlant}
+use Rattle.plant_def.specs.Within.{Accepted}
+use Rattle.plant_def.specs.Says.{plantOf}
+use Rattle.plant_def.proofs.Limited.{within}
+use Rattle.plant_def.proofs.Accepted.{accepted}
+use Rattle.plant_def.proofs.Arrayed.{within-of}
 use Rattle.flow_def.specs.Flows.{Cheapest}
 use Rattle.solve_def.specs.declared.Solved.{Solved}
 use Rattle.solve_def.specs.Model.{noHint, settled, solvedFrom}

@@ -10,17 +10,17 @@ use borrow.Author.Tests.{eqb-true, eqb-false}
 use lib.Dec.{eqb}
 use lib.ListN.{length}
 use Rattle.num_bytes.proofs.Tests.{by-cases, clash}
-use Rattle.plants.specs.Plants.{Plant}
-use Rattle.plants.specs.Files.{got, readPlant}
-use Rattle.plants.specs.Within.{Within}
-use Rattle.plants.proofs.Limited.{within}
-use Rattle.plants.proofs.Accepted.{accepted}
+use Rattle.plant_def.specs.Plants.{Plant}
+use Rattle.plant_def.specs.Files.{got, readPlant}
+use Rattle.plant_def.specs.Within.{Within}
+use Rattle.plant_def.proofs.Limited.{within}
+use Rattle.plant_def.proofs.Accepted.{accepted}
 use Rattle.flow_def.specs.Flows.{amountAt, allowedOver, Cheapest}
 use Rattle.flow_def.specs.Overfull.{Refusal-19}
-use Rattle.fractions.specs.Least.{LeastInFractions, apart}
-use Rattle.fractions.proofs.Distance.{apart-same, apart-part}
-use Rattle.fractions.proofs.AsRead.{as-read}
-use Rattle.fractions.proofs.Near.{near-fractions, one-fraction}
+use Rattle.flow_def.specs.Least.{LeastInFractions, apart}
+use Rattle.flow_def.proofs.Distance.{apart-same, apart-part}
+use Rattle.flow_def.proofs.AsRead.{as-read}
+use Rattle.flow_def.proofs.Near.{near-fractions, one-fraction}
 use Rattle.sheet_def.specs.declared.Sheet.{Sheet}
 use Rattle.sheet_def.specs.Sheets.{SheetParts}
 use Rattle.sheet_def.specs.Kept.{someSheet}

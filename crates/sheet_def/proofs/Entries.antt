@@ -5,8 +5,8 @@ use lib.IntN.{ℤ, pos}
 use Prim.Native.Nat.{ℕ}
 use native.Mathlib.Omega.{arith}
 use lib.ListN.{length}
-use Rattle.plants.specs.Limits.{maxStreams}
-use Rattle.plants.specs.Plants.{Plant}
+use Rattle.plant_def.specs.Limits.{maxStreams}
+use Rattle.plant_def.specs.Plants.{Plant}
 use Rattle.flow_def.specs.declared.Class.{Class}
 use Rattle.flow_def.specs.declared.Class.the-variants.{Adjusted, AsRead, Given, Withheld}
 use Rattle.flow_def.specs.Classes.{classOf, numberOf}

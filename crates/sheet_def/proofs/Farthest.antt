@@ -3,8 +3,8 @@ use mathlib.Core.Path.{_≡_, refl}
 use mathlib.Core.Bool.{true, false}
 use mathlib.Core.List.{[], _∷_}
 use lib.IntN.{pos}
-use Rattle.plants.specs.Plants.{Plant}
-use Rattle.fractions.proofs.Known.{exact-least}
+use Rattle.plant_def.specs.Plants.{Plant}
+use Rattle.flow_def.proofs.Known.{exact-least}
 use Rattle.flow_def.specs.declared.Class.the-variants.{Adjusted}
 use Rattle.sheet_def.specs.Apart.{totalKind}
 use Rattle.sheet_def.specs.Sheets.{SheetParts}

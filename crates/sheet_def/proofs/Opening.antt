@@ -4,9 +4,9 @@ use mathlib.Core.Bool.{Bool, true, false}
 use mathlib.Core.Logic.{⊎-elim}
 use Prim.Native.Nat.{ℕ, _≤_}
 use native.Mathlib.Omega.{arith}
-use Rattle.plants.specs.declared.Plant as Arrays
+use Rattle.plant_def.specs.declared.Plant as Arrays
 use Rattle.num_bytes.specs.Inner.{pickT}
-use Rattle.plants.specs.Says.{plantOf}
+use Rattle.plant_def.specs.Says.{plantOf}
 use Rattle.flow_def.specs.Overfull.{Overfull}
 use Rattle.flow_def.proofs.Integers.{size-val, parts}
 use Rattle.solve_def.specs.Sizes.{mostFlow}

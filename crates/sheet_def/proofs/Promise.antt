@@ -9,13 +9,13 @@ use borrow.Author.Tests.{eq-eqb, ne-eqb, ltb-false, leb-false, eqb-false}
 use Rattle.num_bytes.specs.Choice.{refuseIf, firstOf}
 use Rattle.num_bytes.proofs.Tests.{refuse-none, first-none-left, first-none-right}
 use Rattle.num_bytes.specs.Inner.{pickT}
-use Rattle.plants.specs.declared.Read.{Read}
-use Rattle.plants.specs.Plants.{Plant}
-use Rattle.plants.specs.Files.{Got, bad, got, readPlant}
-use Rattle.plants.specs.Within.{Accepted}
-use Rattle.plants.specs.Says.{arrayed, plantOf, readOf}
-use Rattle.plants.proofs.Accepted.{refused}
-use Rattle.plants.proofs.Arrayed.{all-listed, read-accepted, read-held}
+use Rattle.plant_def.specs.declared.Read.{Read}
+use Rattle.plant_def.specs.Plants.{Plant}
+use Rattle.plant_def.specs.Files.{Got, bad, got, readPlant}
+use Rattle.plant_def.specs.Within.{Accepted}
+use Rattle.plant_def.specs.Says.{arrayed, plantOf, readOf}
+use Rattle.plant_def.proofs.Accepted.{refused}
+use Rattle.plant_def.proofs.Arrayed.{all-listed, read-accepted, read-held}
 use Rattle.flow_def.specs.Overfull.{Overfull}
 use Rattle.sheet_def.specs.declared.Sheet.{Sheet}
 use Rattle.sheet_def.specs.declared.Balance.{Balance}

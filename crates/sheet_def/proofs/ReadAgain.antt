@@ -10,9 +10,9 @@ use lib.ListN.{length, getD, take}
 use borrow.Author.Tests.{lt-ltb, ne-eqb, le-leb}
 use Rattle.num_bytes.proofs.Tests.{by-cases, and-both}
 use Rattle.num_bytes.proofs.Complement.{small-held}
-use Rattle.plants.specs.Plants.{Plant}
-use Rattle.plants.specs.Within.{Within}
-use Rattle.plants.specs.Limits.{maxUnits}
+use Rattle.plant_def.specs.Plants.{Plant}
+use Rattle.plant_def.specs.Within.{Within}
+use Rattle.plant_def.specs.Limits.{maxUnits}
 use Rattle.flow_def.specs.declared.Class.{Class}
 use Rattle.flow_def.specs.declared.Class.the-variants.{Adjusted, AsRead, Given, Withheld}
 use Rattle.flow_def.specs.Flows.{cost, Cheapest}

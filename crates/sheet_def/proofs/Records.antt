@@ -13,7 +13,7 @@ use Rattle.num_bytes.specs.Bytes.{be, putBe, signed, raw, holds, allBytes}
 use Rattle.num_bytes.proofs.Tests.{picked, or-none-left, or-none-right, refuse-none, first-none-left, first-none-right}
 use Rattle.num_bytes.proofs.Digits.{byte-first, put-be, be-fits}
 use Rattle.num_bytes.proofs.Complement.{raw-signed, signed-held}
-use Rattle.plants.specs.Limits.{maxStreams}
+use Rattle.plant_def.specs.Limits.{maxStreams}
 use Rattle.flow_def.specs.declared.Class.{Class}
 use Rattle.flow_def.specs.declared.Class.the-variants.{Adjusted, AsRead, Given}
 use Rattle.sheet_def.specs.declared.Entry.{Entry}

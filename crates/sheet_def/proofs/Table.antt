@@ -12,12 +12,12 @@ use lib.ListN.{length, getD, replicate}
 use borrow.Author.Tests.{eqb-true}
 use Rattle.num_bytes.proofs.Tests.{and-left, and-right}
 use Rattle.num_bytes.specs.Bytes.{over}
-use Rattle.plants.specs.declared.Stream.{Stream}
-use Rattle.plants.specs.Limits.{places}
-use Rattle.plants.specs.Plants.{Plant, limited}
-use Rattle.plants.specs.Files.{Got, bad, got, readPlant}
-use Rattle.plants.proofs.Limited.{within}
-use Rattle.plants.proofs.Accepted.{accepted}
+use Rattle.plant_def.specs.declared.Stream.{Stream}
+use Rattle.plant_def.specs.Limits.{places}
+use Rattle.plant_def.specs.Plants.{Plant, limited}
+use Rattle.plant_def.specs.Files.{Got, bad, got, readPlant}
+use Rattle.plant_def.proofs.Limited.{within}
+use Rattle.plant_def.proofs.Accepted.{accepted}
 use Rattle.flow_def.specs.Flows.{streamAt, Cheapest}
 use Rattle.flow_def.specs.Overfull.{marks, lowsIn, highsOut, Overfull}
 use Rattle.flow_def.specs.Certificate.{certified}

@@ -11,10 +11,10 @@ use lib.ListN.{length, getD, take}
 use lib.Seq.{length-take-le, getD-take}
 use Rattle.num_bytes.specs.Choice.{pick}
 use Rattle.num_bytes.proofs.Tests.{clash}
-use Rattle.plants.specs.declared.Stream.{Stream}
-use Rattle.plants.specs.Limits.{maxStreams}
-use Rattle.plants.specs.Plants.{Plant}
-use Rattle.plants.specs.Within.{Within}
+use Rattle.plant_def.specs.declared.Stream.{Stream}
+use Rattle.plant_def.specs.Limits.{maxStreams}
+use Rattle.plant_def.specs.Plants.{Plant}
+use Rattle.plant_def.specs.Within.{Within}
 use Rattle.flow_def.specs.declared.Class.{Class}
 use Rattle.flow_def.specs.declared.Class.the-variants.{Adjusted, AsRead, Given, Withheld}
 use Rattle.flow_def.specs.Flows.{streamAt, amountAt, balanced, allowedOver, cost, costOver, Cheapest, nearest}

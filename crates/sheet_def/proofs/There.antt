@@ -15,8 +15,8 @@ use Rattle.num_bytes.specs.Bytes.{be, putBe, signed, raw, holds}
 use Rattle.num_bytes.proofs.Tests.{and-left, and-right}
 use Rattle.num_bytes.proofs.Digits.{be-put}
 use Rattle.num_bytes.proofs.Complement.{held-back, held-fits}
-use Rattle.plants.specs.Limits.{maxStreams}
-use Rattle.plants.specs.Files.{mostRecords}
+use Rattle.plant_def.specs.Limits.{maxStreams}
+use Rattle.plant_def.specs.Files.{mostRecords}
 use Rattle.flow_def.specs.declared.Class.{Class}
 use Rattle.flow_def.specs.declared.Class.the-variants.{Adjusted, AsRead, Given, Withheld}
 use Rattle.sheet_def.specs.declared.Entry.{Entry}

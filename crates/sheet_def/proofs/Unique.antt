@@ -14,13 +14,13 @@ use Rattle.num_bytes.specs.Choice.{pick}
 use Rattle.num_bytes.specs.Bytes.{over}
 use Rattle.num_bytes.specs.Inner.{pickT}
 use Rattle.num_bytes.proofs.Tests.{by-cases, clash}
-use Rattle.plants.specs.declared.Stream.{Stream}
-use Rattle.plants.specs.Limits.{maxStreams}
-use Rattle.plants.specs.Plants.{Plant}
-use Rattle.plants.specs.Files.{Got, bad, got, readPlant}
-use Rattle.plants.specs.Within.{Within}
-use Rattle.plants.proofs.Limited.{within}
-use Rattle.plants.proofs.Accepted.{accepted}
+use Rattle.plant_def.specs.declared.Stream.{Stream}
+use Rattle.plant_def.specs.Limits.{maxStreams}
+use Rattle.plant_def.specs.Plants.{Plant}
+use Rattle.plant_def.specs.Files.{Got, bad, got, readPlant}
+use Rattle.plant_def.specs.Within.{Within}
+use Rattle.plant_def.proofs.Limited.{within}
+use Rattle.plant_def.proofs.Accepted.{accepted}
 use Rattle.flow_def.specs.declared.Class.{Class}
 use Rattle.flow_def.specs.declared.Class.the-variants.{Adjusted, AsRead, Given, Withheld}
 use Rattle.flow_def.specs.Flows.{streamAt, amountAt, balanced, allowed, cost, meteredOf, Cheapest}

@@ -2,7 +2,7 @@
 use Prim.Native.Nat.{ℕ, _+_, _*_}
 use lib.Dec.{leb}
 use Rattle.num_bytes.specs.Choice.{pick}
-use Rattle.plants.specs.Limits.{maxStreams}
+use Rattle.plant_def.specs.Limits.{maxStreams}
 
 -- The kinds of record: A, adjusted; R, as read; G, given; W, withheld (the blank); the total, with the office that drew the sheet;
 -- the plain total of sheets drawn before there were offices.

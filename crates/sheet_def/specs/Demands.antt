@@ -2,7 +2,7 @@
 use mathlib.Core.Path.{_≡_}
 use mathlib.Core.List.{List}
 use Prim.Native.Nat.{ℕ, _≤_}
-use Rattle.plants.specs.Files.{Round-trip}
+use Rattle.plant_def.specs.Files.{Round-trip}
 use Rattle.flow_def.specs.Chains.{everyStream, unmeteredOnly}
 use Rattle.flow_def.specs.Groups.{One-pass}
 use Rattle.flow_def.specs.Overfull.{unmarked, Refusal-19}

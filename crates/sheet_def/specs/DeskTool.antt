@@ -4,10 +4,10 @@ use mathlib.Core.List.{List}
 use lib.IntN.{ℤ, pos, _-ℤ_, _*ℤ_}
 use Prim.Native.Nat.{ℕ, _*_, _≤_}
 use lib.ListN.{take}
-use Rattle.plants.specs.Plants.{Plant}
-use Rattle.plants.specs.Files.{got, readPlant}
+use Rattle.plant_def.specs.Plants.{Plant}
+use Rattle.plant_def.specs.Files.{got, readPlant}
 use Rattle.flow_def.specs.Flows.{streamAt, amountAt, square}
-use Rattle.fractions.specs.Least.{LeastInFractions, apart}
+use Rattle.flow_def.specs.Least.{LeastInFractions, apart}
 use Rattle.flow_def.specs.declared.Class.the-variants.{AsRead}
 use Rattle.sheet_def.specs.declared.Sheet.{Sheet}
 use Rattle.sheet_def.specs.Sheets.{SheetParts}

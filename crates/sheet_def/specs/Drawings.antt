@@ -3,7 +3,7 @@ use mathlib.Core.List.{List}
 use lib.IntN.{ℤ}
 use Prim.Native.Nat.{ℕ}
 use lib.ListN.{length, take}
-use Rattle.plants.specs.Plants.{Plant}
+use Rattle.plant_def.specs.Plants.{Plant}
 use Rattle.sheet_def.specs.declared.Balance.{Balance}
 use Rattle.sheet_def.specs.Apart.{totalKind}
 use Rattle.sheet_def.specs.Balances.{balanceOf}

@@ -9,8 +9,8 @@ use lib.ListN.{length, getD, drop}
 use Rattle.num_bytes.specs.Choice.{pick, refuseIf, firstOf}
 use Rattle.num_bytes.specs.Bytes.{be, signed, holds, allBytes}
 use Rattle.num_bytes.specs.Arrays.{filled}
-use Rattle.plants.specs.Limits.{maxUnits, maxStreams}
-use Rattle.plants.specs.Files.{mostRecords}
+use Rattle.plant_def.specs.Limits.{maxUnits, maxStreams}
+use Rattle.plant_def.specs.Files.{mostRecords}
 use Rattle.flow_def.specs.declared.Class.{Class}
 use Rattle.flow_def.specs.declared.Class.the-variants.{Adjusted, AsRead, Given, Withheld}
 use Rattle.sheet_def.specs.declared.Entry.{Entry}

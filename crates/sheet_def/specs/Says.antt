@@ -8,8 +8,8 @@ use lib.Dec.{eqb}
 use lib.ListN.{length}
 use Rattle.num_bytes.specs.Inner.{pickT}
 use Rattle.num_bytes.specs.Bytes.{over}
-use Rattle.plants.specs.Plants.{Plant}
-use Rattle.plants.specs.Files.{Got, bad, got, readPlant}
+use Rattle.plant_def.specs.Plants.{Plant}
+use Rattle.plant_def.specs.Files.{Got, bad, got, readPlant}
 use Rattle.flow_def.specs.Flows.{Cheapest}
 use Rattle.flow_def.specs.Overfull.{unmarked}
 use Rattle.sheet_def.specs.declared.Sheet.{Sheet}

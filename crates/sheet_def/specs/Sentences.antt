@@ -9,9 +9,9 @@ use Prim.Native.Nat.{ℕ, zero, suc, _+_, _*_, _≤_, _<_}
 use lib.Dec.{eqb, ltb, leb}
 use lib.ListN.{length, getD, take, drop}
 use Rattle.num_bytes.specs.Choice.{pick, refuseIf, firstOf}
-use Rattle.plants.specs.Limits.{maxUnits}
-use Rattle.plants.specs.Plants.{Plant}
-use Rattle.plants.specs.Files.{bad, got, readPlant}
+use Rattle.plant_def.specs.Limits.{maxUnits}
+use Rattle.plant_def.specs.Plants.{Plant}
+use Rattle.plant_def.specs.Files.{bad, got, readPlant}
 use Rattle.flow_def.specs.Flows.{streamAt, amountAt, balanced, allowedOver, allowed, cost, costOver, Agree, Cheapest, nearest}
 use Rattle.flow_def.specs.Chains.{everyStream, unmeteredOnly, Chain, OneEach}
 use Rattle.flow_def.specs.Test.{criticalAt, verdictAt}

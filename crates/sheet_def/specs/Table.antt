@@ -6,12 +6,12 @@ use lib.IntN.{ℤ, pos}
 use Prim.Native.Nat.{ℕ, _-_, _*_}
 use lib.ListN.{replicate}
 use Rattle.num_bytes.specs.Bytes.{over}
-use Rattle.plants.specs.Limits.{places}
-use Rattle.plants.specs.Plants.{Plant}
-use Rattle.plants.specs.Files.{got, readPlant}
+use Rattle.plant_def.specs.Limits.{places}
+use Rattle.plant_def.specs.Plants.{Plant}
+use Rattle.plant_def.specs.Files.{got, readPlant}
 use Rattle.flow_def.specs.Flows.{Cheapest}
 use Rattle.flow_def.specs.Overfull.{Overfull}
-use Rattle.fractions.specs.Least.{LeastInFractions, apart}
+use Rattle.flow_def.specs.Least.{LeastInFractions, apart}
 use Rattle.sheet_def.specs.declared.Sheet.{Sheet}
 use Rattle.sheet_def.specs.Sentences.{numberOn, adjustedWeights, callFault}
 use Rattle.sheet_def.specs.Sheets.{SheetParts}

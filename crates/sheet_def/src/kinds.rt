@@ -1,5 +1,5 @@
 // The kinds of record on a sheet and their sizes, and the limits of a cost and of a call. Each is stated here and nowhere else in code.
-use plants::limits::MAX_STREAMS;
+use plant_def::limits::MAX_STREAMS;
 
 pub const ADJUSTED: u8 = 0x11;
 

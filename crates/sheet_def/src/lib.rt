@@ -1,8 +1,8 @@
 // Sheets: the balance of a plant, its bytes and what the sheet call promises, as definitions with their laws. No function stands here.
 use crate::kinds::OFFICES;
 use flow_def::Class;
-use plants::limits::MAX_STREAMS;
-use plants::limits::PLACES;
+use plant_def::limits::MAX_STREAMS;
+use plant_def::limits::PLACES;
 
 pub mod kinds;
 

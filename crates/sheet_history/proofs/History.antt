@@ -11,8 +11,8 @@ use lib.ListN.{length}
 use Rattle.num_bytes.specs.Choice.{pick, refuseIf, firstOf}
 use Rattle.num_bytes.specs.Bytes.{over}
 use Rattle.num_bytes.specs.Inner.{pickT}
-use Rattle.plants.specs.Files.{Got, bad, got, readPlant, mostRecords}
-use Rattle.plants.proofs.Accepted.{refused}
+use Rattle.plant_def.specs.Files.{Got, bad, got, readPlant, mostRecords}
+use Rattle.plant_def.proofs.Accepted.{refused}
 use Rattle.flow_def.specs.Overfull.{unmarked}
 use Rattle.sheet_def.specs.declared.Sheet.{Sheet}
 use Rattle.sheet_def.specs.Apart.{leastSlice}

@@ -12,11 +12,11 @@ use lib.Seq.{take-at}
 use Rattle.num_bytes.specs.Choice.{refuseIf}
 use Rattle.num_bytes.specs.Inner.{pickT}
 use Rattle.num_bytes.proofs.Tests.{refuse-none, first-none-right}
-use Rattle.plants.specs.Limits.{maxStreams}
-use Rattle.plants.specs.Plants.{Plant}
-use Rattle.plants.specs.Files.{Got, bad, got, readPlant}
-use Rattle.plants.proofs.Limited.{within}
-use Rattle.plants.proofs.Accepted.{accepted, refused}
+use Rattle.plant_def.specs.Limits.{maxStreams}
+use Rattle.plant_def.specs.Plants.{Plant}
+use Rattle.plant_def.specs.Files.{Got, bad, got, readPlant}
+use Rattle.plant_def.proofs.Limited.{within}
+use Rattle.plant_def.proofs.Accepted.{accepted, refused}
 use Rattle.flow_def.specs.Overfull.{unmarked}
 use Rattle.sheet_def.specs.Apart.{plainKind, streamSize, plainSize}
 use Rattle.sheet_def.specs.Counters.{topSheet, counterOf, officesFrom}

@@ -9,8 +9,8 @@ use lib.Dec.{eqb}
 use lib.ListN.{length, length-set}
 use lib.Seq.{getD-set-same, getD-set-other}
 use Rattle.num_bytes.proofs.Tests.{by-cases}
-use Rattle.plants.specs.Files.{Got, bad, got, readPlant}
-use Rattle.plants.proofs.Accepted.{refused}
+use Rattle.plant_def.specs.Files.{Got, bad, got, readPlant}
+use Rattle.plant_def.proofs.Accepted.{refused}
 use Rattle.sheet_def.specs.declared.Sheet.{Sheet}
 use Rattle.sheet_def.specs.Counters.{offices, topSheet, counterOf, nextOf, raised}
 use Rattle.sheet_def.specs.Sentences.{callFault, Refused}

@@ -11,9 +11,9 @@ use lib.ListN.{length, getD, take, drop}
 use Rattle.num_bytes.specs.Choice.{pick, refuseIf, firstOf}
 use Rattle.num_bytes.specs.Inner.{pickT}
 use Rattle.num_bytes.specs.Bytes.{over}
-use Rattle.plants.specs.Limits.{maxStreams}
-use Rattle.plants.specs.Plants.{Plant}
-use Rattle.plants.specs.Files.{Got, bad, got, readPlant, mostRecords}
+use Rattle.plant_def.specs.Limits.{maxStreams}
+use Rattle.plant_def.specs.Plants.{Plant}
+use Rattle.plant_def.specs.Files.{Got, bad, got, readPlant, mostRecords}
 use Rattle.flow_def.specs.Flows.{Cheapest}
 use Rattle.flow_def.specs.Overfull.{unmarked, Overfull}
 use Rattle.sheet_def.specs.declared.Entry.{Entry}

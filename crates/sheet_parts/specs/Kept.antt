@@ -8,7 +8,7 @@ use lib.Dec.{ltb}
 use lib.ListN.{length, take}
 use Rattle.num_bytes.specs.Choice.{pick}
 use Rattle.num_bytes.specs.Bytes.{over}
-use Rattle.plants.specs.Limits.{maxStreams}
+use Rattle.plant_def.specs.Limits.{maxStreams}
 use Rattle.sheet_def.specs.declared.Entry.{Entry}
 use Rattle.sheet_def.specs.declared.SheetRead.{SheetRead}
 use Rattle.sheet_def.specs.Sheets.{kindOf}

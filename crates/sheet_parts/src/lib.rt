@@ -1,5 +1,5 @@
 // A kept sheet's streams, handed over in one slice for the kinds of their records and one for the flows.
-use plants::limits::MAX_STREAMS;
+use plant_def::limits::MAX_STREAMS;
 use sheet_def::Entry;
 use sheet_def::SheetRead;
 use sheet_read::kind_of;
@@ -7,7 +7,7 @@ ghost use mathlib.Core.Path.{_≡_};
 ghost use Prim.Native.Nat.{_≤_};
 ghost use lib.ListN.{length, take};
 ghost use Rattle.num_bytes.specs.Bytes.{over};
-ghost use Rattle.plants.specs.Limits.{maxStreams};
+ghost use Rattle.plant_def.specs.Limits.{maxStreams};
 ghost use Rattle.sheet_def.specs.Kept.{readOf};
 ghost use Rattle.sheet_parts.specs.Kept.{readLent, kindsOf, flowsOf};
 

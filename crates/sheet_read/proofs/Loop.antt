@@ -10,8 +10,8 @@ use denote.Enum.Declared.{tagOf, declared}
 use Rattle.num_bytes.specs.Arrays.{filled}
 use Rattle.num_bytes.proofs.Parts.{partFrom, part-is}
 use Rattle.num_bytes.proofs.Filled.{filled-none, filled-more}
-use Rattle.plants.specs.Limits.{maxStreams}
-use Rattle.plants.specs.Files.{mostRecords}
+use Rattle.plant_def.specs.Limits.{maxStreams}
+use Rattle.plant_def.specs.Files.{mostRecords}
 use Rattle.sheet_def.specs.declared.Entry.{Entry}
 use Rattle.sheet_def.specs.declared.Total.{Total}
 use Rattle.sheet_def.specs.declared.SheetRead.{SheetRead}

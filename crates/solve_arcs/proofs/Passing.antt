@@ -10,7 +10,7 @@ use lib.Dec.{eqb, ltb}
 use lib.ListN.{getD}
 use Rattle.num_bytes.specs.Choice.{pick}
 use Rattle.num_bytes.proofs.Tests.{picked}
-use Rattle.plants.specs.Limits.{places, maxStreams}
+use Rattle.plant_def.specs.Limits.{places, maxStreams}
 use Rattle.solve_def.specs.Near.{codeOf, lessened, lastAt, arcAt, relaxedAlong, relaxedAt, relaxedTo}
 use Rattle.solve_def.proofs.Listing.{touches, last-good, arc-is, arc-less, relaxed-last, relaxed-none, tail-touching, relaxed-touching}
 use Rattle.solve_arcs.specs.Cells.{toCell, nextCell, arcOf, countOf, startsOf, endsOf}

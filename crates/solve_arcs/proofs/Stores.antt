@@ -11,7 +11,7 @@ use lib.ListN.{length, getD, set, length-set}
 use lib.Seq.{getD-set-same, getD-set-other}
 use Rattle.num_bytes.specs.Choice.{pick}
 use Rattle.num_bytes.proofs.Tests.{clash}
-use Rattle.plants.specs.Limits.{maxStreams}
+use Rattle.plant_def.specs.Limits.{maxStreams}
 use Rattle.solve_arcs.specs.Cells.{arcOf, marginCells}
 use Rattle.solve_arcs.specs.Margins.{marginAt, shut, spared}
 use Rattle.solve_arcs.specs.ArcNeeds.{Margined}

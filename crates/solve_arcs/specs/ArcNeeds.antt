@@ -5,9 +5,9 @@ use mathlib.Core.List.{List}
 use Prim.Native.Nat.{ℕ, _+_, _*_, _≤_, _<_}
 use lib.ListN.{length, getD}
 use Rattle.num_bytes.specs.Choice.{pick}
-use Rattle.plants.specs.declared.Stream.{Stream}
-use Rattle.plants.specs.Limits.{places, maxStreams, maxWeight}
-use Rattle.plants.specs.Plants.{noStream}
+use Rattle.plant_def.specs.declared.Stream.{Stream}
+use Rattle.plant_def.specs.Limits.{places, maxStreams, maxWeight}
+use Rattle.plant_def.specs.Plants.{noStream}
 use Rattle.flow_def.specs.Certificate.{weightOf}
 use Rattle.solve_def.specs.Sizes.{mostFlow, mostPull, mostStep}
 use Rattle.solve_def.specs.Held.{readingOf, lowOf, highOf}

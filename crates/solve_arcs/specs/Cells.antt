@@ -8,7 +8,7 @@ use Prim.Native.Nat.{ℕ, _+_, _*_}
 use lib.ListN.{getD}
 use Rattle.num_bytes.specs.Choice.{pick}
 use Rattle.num_bytes.specs.Inner.{values}
-use Rattle.plants.specs.Limits.{places, maxStreams}
+use Rattle.plant_def.specs.Limits.{places, maxStreams}
 
 abbrev pub toCell : ℕ
 toCell = places

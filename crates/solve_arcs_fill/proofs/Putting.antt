@@ -10,9 +10,9 @@ use lib.Dec.{eqb}
 use lib.ListN.{length, getD, set, length-set}
 use lib.Seq.{getD-set-same, getD-set-other}
 use Rattle.num_bytes.specs.Choice.{pick}
-use Rattle.plants.specs.declared.Stream.{Stream}
-use Rattle.plants.specs.Limits.{places, maxStreams}
-use Rattle.plants.specs.Plants.{noStream}
+use Rattle.plant_def.specs.declared.Stream.{Stream}
+use Rattle.plant_def.specs.Limits.{places, maxStreams}
+use Rattle.plant_def.specs.Plants.{noStream}
 use Rattle.flow_def.proofs.Lists.{values-at, values-same}
 use Rattle.flow_def.specs.Certificate.{weightOf}
 use Rattle.solve_def.specs.Sizes.{mostPull}

@@ -8,8 +8,8 @@ use lib.Dec.{eqb}
 use lib.ListN.{length, getD, set, take}
 use Rattle.num_bytes.specs.Choice.{pick}
 use Rattle.num_bytes.proofs.Tests.{picked}
-use Rattle.plants.specs.Limits.{places, maxStreams}
-use Rattle.plants.specs.Plants.{noStream}
+use Rattle.plant_def.specs.Limits.{places, maxStreams}
+use Rattle.plant_def.specs.Plants.{noStream}
 use Rattle.solve_def.specs.Sizes.{mostFlow, mostStep}
 use Rattle.solve_def.specs.Push.{pushed}
 use Rattle.solve_def.specs.SearchNeeds.{Trail, Roomy}

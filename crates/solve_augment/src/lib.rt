@@ -1,17 +1,17 @@
 // Augmenting: what is moved along the streams that a search remembers, with their margins; and from excess to excess.
-use plants::limits::MAX_STREAMS;
-use plants::limits::PLACES;
+use plant_def::limits::MAX_STREAMS;
+use plant_def::limits::PLACES;
 use solve_arcs::ARCS;
 use solve_arcs::MARGINS;
 use solve_arcs::ROWS;
 use solve_arcs::end_at;
+use solve_arcs::put_margins;
 use solve_def::Route;
-use solve_margins::put_margins;
 ghost use mathlib.Core.Path.{_≡_};
 ghost use Prim.Native.Nat.{ℕ, _+_, _-_, _*_, _≤_, _<_};
 ghost use lib.ListN.{getD, length, take};
 ghost use Rattle.num_bytes.specs.Choice.{pick};
-ghost use Rattle.plants.specs.Limits.{maxStreams};
+ghost use Rattle.plant_def.specs.Limits.{maxStreams};
 ghost use Rattle.solve_def.specs.Sizes.{mostFlow, mostStep};
 ghost use Rattle.solve_def.specs.Push.{pushed};
 ghost use Rattle.solve_def.specs.Model.{shiftedNets};

@@ -12,7 +12,7 @@ use lib.ListN.{length, getD, set, take, length-map}
 use lib.Seq.{getD-set-same, getD-set-other, getD-take, length-take-le}
 use Rattle.num_bytes.specs.Choice.{pick}
 use Rattle.num_bytes.proofs.Tests.{by-cases}
-use Rattle.plants.specs.declared.Stream.{Stream}
+use Rattle.plant_def.specs.declared.Stream.{Stream}
 use Rattle.flow_def.specs.Flows.{streamAt, amountAt}
 use Rattle.flow_def.proofs.Integers.{up, dn, same, diff, diff-val, plus-val, minus-val, up-neg, dn-neg}
 use Rattle.flow_def.proofs.Sums.{sum, sum-same}

@@ -9,8 +9,8 @@ use lib.Dec.{eqb}
 use lib.ListN.{length, getD, set, replicate, length-set, getD-replicate}
 use Rattle.num_bytes.specs.Choice.{pick}
 use Rattle.num_bytes.proofs.Tests.{by-cases}
-use Rattle.plants.specs.declared.Stream.{Stream}
-use Rattle.plants.specs.Limits.{maxUnits, places, maxStreams}
+use Rattle.plant_def.specs.declared.Stream.{Stream}
+use Rattle.plant_def.specs.Limits.{maxUnits, places, maxStreams}
 use Rattle.flow_def.specs.Flows.{streamAt}
 use Rattle.flow_def.proofs.Integers.{up, dn, same, plus-val, minus-val}
 use Rattle.flow_def.proofs.Sums.{sum}

@@ -9,9 +9,9 @@ use native.Mathlib.Omega.{arith}
 use borrow.Author.Tests.{le-leb, leb-true, leb-false}
 use lib.Dec.{leb}
 use Rattle.num_bytes.proofs.Tests.{by-cases}
-use Rattle.plants.specs.declared.Stream.{Stream}
-use Rattle.plants.specs.Plants.{limited}
-use Rattle.plants.specs.Within.{WithinStream}
+use Rattle.plant_def.specs.declared.Stream.{Stream}
+use Rattle.plant_def.specs.Plants.{limited}
+use Rattle.plant_def.specs.Within.{WithinStream}
 use Rattle.flow_def.specs.Certificate.{weightOf}
 use Rattle.solve_def.specs.Sizes.{flowShift, mostFlow, farthest, mostReading, mostRange}
 use Rattle.solve_def.specs.Held.{shifted, readingOf, lowOf, highOf, Held}

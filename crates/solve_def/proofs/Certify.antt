@@ -8,9 +8,9 @@ use Prim.Native.Nat.{ℕ, suc, _+_, _-_, _*_, _≤_, _<_}
 use native.Mathlib.Omega.{arith}
 use lib.ListN.{length, getD}
 use Rattle.num_bytes.proofs.Tests.{by-cases}
-use Rattle.plants.specs.declared.Stream.{Stream}
-use Rattle.plants.specs.Plants.{Plant, limited}
-use Rattle.plants.specs.Within.{Within, WithinStream}
+use Rattle.plant_def.specs.declared.Stream.{Stream}
+use Rattle.plant_def.specs.Plants.{Plant, limited}
+use Rattle.plant_def.specs.Within.{Within, WithinStream}
 use Rattle.flow_def.specs.Flows.{streamAt, amountAt, inRange}
 use Rattle.flow_def.specs.Certificate.{weightOf, climb, lower, upper, rises, falls}
 use Rattle.flow_def.proofs.Integers.{up, dn, diff, Le, Lt, Z·diff, diff-val, Le-iff, minus-val, same, val, none-minus, ltZ-lt}

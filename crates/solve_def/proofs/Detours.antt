@@ -12,8 +12,8 @@ use lib.ListN.{length, getD, set, length-set}
 use lib.Seq.{getD-set-same, getD-set-other}
 use Rattle.num_bytes.specs.Choice.{pick}
 use Rattle.num_bytes.proofs.Tests.{picked}
-use Rattle.plants.specs.declared.Stream.{Stream}
-use Rattle.plants.specs.Limits.{maxUnits, places, maxStreams}
+use Rattle.plant_def.specs.declared.Stream.{Stream}
+use Rattle.plant_def.specs.Limits.{maxUnits, places, maxStreams}
 use Rattle.flow_def.specs.Flows.{streamAt}
 use Rattle.flow_def.proofs.Integers.{up, dn, same}
 use Rattle.flow_def.specs.Certificate.{weightOf}

@@ -6,10 +6,10 @@ use Prim.Native.Nat.{ℕ, _≤_, _<_}
 use native.Mathlib.Omega.{arith}
 use native.Mathlib.Decide.{decLe}
 use lib.ListN.{length, getD, take, List·getD-eq-default}
-use Rattle.plants.specs.declared.Stream.{Stream}
-use Rattle.plants.specs.Limits.{maxUnits, maxStreams}
-use Rattle.plants.specs.Plants.{noStream}
-use Rattle.plants.specs.Within.{WithinStream}
+use Rattle.plant_def.specs.declared.Stream.{Stream}
+use Rattle.plant_def.specs.Limits.{maxUnits, maxStreams}
+use Rattle.plant_def.specs.Plants.{noStream}
+use Rattle.plant_def.specs.Within.{WithinStream}
 use Rattle.flow_def.specs.Flows.{streamAt}
 use Rattle.solve_def.specs.Sizes.{mostFlow, netRoom, hintRoom}
 use Rattle.solve_def.specs.SearchNeeds.{Network}

@@ -1,4 +1,4 @@
--- Laws of the search, of the push and of the solver.
+-- Laws of the search, of the push and of the solver. Laws of the count.
 pub mod Weights
 pub mod Least
 pub mod Rounds
@@ -45,3 +45,5 @@ pub mod Tying
 pub mod TieTurns
 pub mod Theorem
 pub mod Demand
+pub mod Paces
+pub mod Counted

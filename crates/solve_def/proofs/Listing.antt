@@ -10,7 +10,7 @@ use lib.Dec.{eqb, ltb}
 use lib.ListN.{getD}
 use Rattle.num_bytes.specs.Choice.{pick}
 use Rattle.num_bytes.proofs.Tests.{by-cases, clash}
-use Rattle.plants.specs.Limits.{maxStreams}
+use Rattle.plant_def.specs.Limits.{maxStreams}
 use Rattle.solve_def.specs.Near.{lastAt, arcAt, relaxedAlong, relaxedAt, relaxedTo}
 
 module _ (fs ts : List ℕ) where

@@ -14,7 +14,7 @@ use lib.ListN.{length, getD, set, replicate, List·getD-eq-default}
 use lib.Seq.{getD-set-same, getD-set-other}
 use Rattle.num_bytes.specs.Choice.{pick}
 use Rattle.num_bytes.proofs.Tests.{by-cases, clash, or-left, or-right, or-cases}
-use Rattle.plants.specs.Limits.{places}
+use Rattle.plant_def.specs.Limits.{places}
 use Rattle.flow_def.specs.Sides.{bit}
 use Rattle.flow_def.proofs.Binary.{unlike, bit-or, bit-xor, bit-zero, bit-same, bit-other}
 use Rattle.solve_def.specs.Sizes.{far, numbering}

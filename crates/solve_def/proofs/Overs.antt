@@ -8,7 +8,7 @@ use Prim.Native.Nat.{ℕ, zero, suc, _+_, _-_, _*_, _≤_, _<_}
 use native.Mathlib.Omega.{arith}
 use lib.ListN.{length, getD}
 use Rattle.num_bytes.specs.Choice.{pick}
-use Rattle.plants.specs.declared.Stream.{Stream}
+use Rattle.plant_def.specs.declared.Stream.{Stream}
 use Rattle.flow_def.specs.Flows.{streamAt}
 use Rattle.flow_def.proofs.Integers.{up, dn, Le, plus-val, minus-val, up-neg, dn-neg, size-val, parts}
 use Rattle.flow_def.proofs.Sums.{sum, sum-plus, sum-le}

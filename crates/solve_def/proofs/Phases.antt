@@ -11,8 +11,8 @@ use lib.ListN.{getD}
 use lib.Pow.{pow-pos}
 use Rattle.num_bytes.specs.Choice.{pick}
 use Rattle.num_bytes.proofs.Tests.{by-cases, clash, picked}
-use Rattle.plants.specs.declared.Stream.{Stream}
-use Rattle.plants.specs.Limits.{places, maxStreams}
+use Rattle.plant_def.specs.declared.Stream.{Stream}
+use Rattle.plant_def.specs.Limits.{places, maxStreams}
 use Rattle.solve_def.specs.Sizes.{flowShift, netShift, mostStep, mostOver, settledRoom}
 use Rattle.solve_def.specs.Full.{overfull}
 use Rattle.solve_def.specs.declared.Hint.{Hint}

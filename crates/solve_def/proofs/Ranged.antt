@@ -4,9 +4,9 @@ use mathlib.Core.Bool.{false}
 use Prim.Native.Nat.{ℕ, _+_, _≤_, _<_}
 use native.Mathlib.Omega.{arith}
 use Rattle.num_bytes.proofs.Tests.{by-cases}
-use Rattle.plants.specs.declared.Stream.{Stream}
-use Rattle.plants.specs.Plants.{limited}
-use Rattle.plants.specs.Within.{WithinStream}
+use Rattle.plant_def.specs.declared.Stream.{Stream}
+use Rattle.plant_def.specs.Plants.{limited}
+use Rattle.plant_def.specs.Within.{WithinStream}
 use Rattle.solve_def.specs.Sizes.{flowShift, mostFlow, mostRange}
 use Rattle.solve_def.specs.Held.{lowOf, highOf}
 use Rattle.solve_def.proofs.Bounds.{unlimited, low-free, high-free, low-close, high-close, low-high, high-most}

@@ -14,9 +14,9 @@ use lib.ListN.{length, getD, set, length-set, List·getD-eq-default}
 use lib.Seq.{getD-set-other}
 use Rattle.num_bytes.specs.Choice.{pick}
 use Rattle.num_bytes.proofs.Tests.{by-cases}
-use Rattle.plants.specs.declared.Stream.{Stream}
-use Rattle.plants.specs.Limits.{maxUnits, places, maxStreams}
-use Rattle.plants.specs.Plants.{noStream}
+use Rattle.plant_def.specs.declared.Stream.{Stream}
+use Rattle.plant_def.specs.Limits.{maxUnits, places, maxStreams}
+use Rattle.plant_def.specs.Plants.{noStream}
 use Rattle.flow_def.specs.Flows.{streamAt}
 use Rattle.flow_def.proofs.Integers.{up, dn, minus-val}
 use Rattle.solve_def.specs.Sizes.{mostFlow, netShift, settledRoom}

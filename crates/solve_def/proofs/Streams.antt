@@ -7,10 +7,10 @@ use Prim.Native.Nat.{ℕ, _≤_, _<_}
 use native.Mathlib.Omega.{arith}
 use lib.ListN.{length, getD, take}
 use lib.Seq.{getD-take, length-take-le}
-use Rattle.plants.specs.declared.Stream.{Stream}
-use Rattle.plants.specs.Limits.{maxUnits, maxStreams}
-use Rattle.plants.specs.Plants.{noStream}
-use Rattle.plants.specs.Within.{WithinStream}
+use Rattle.plant_def.specs.declared.Stream.{Stream}
+use Rattle.plant_def.specs.Limits.{maxUnits, maxStreams}
+use Rattle.plant_def.specs.Plants.{noStream}
+use Rattle.plant_def.specs.Within.{WithinStream}
 use Rattle.flow_def.specs.Flows.{streamAt}
 use Rattle.solve_def.specs.Sizes.{mostReading}
 use Rattle.solve_def.specs.SearchNeeds.{Network}

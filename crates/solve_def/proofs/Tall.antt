@@ -12,8 +12,8 @@ use native.Mathlib.Decide.{decLe, ℕ-discrete}
 use lib.ListN.{length, getD}
 use Rattle.num_bytes.specs.Choice.{pick}
 use Rattle.num_bytes.proofs.Tests.{by-cases}
-use Rattle.plants.specs.declared.Stream.{Stream}
-use Rattle.plants.specs.Limits.{maxUnits}
+use Rattle.plant_def.specs.declared.Stream.{Stream}
+use Rattle.plant_def.specs.Limits.{maxUnits}
 use Rattle.flow_def.specs.Flows.{streamAt}
 use Rattle.flow_def.specs.Certificate.{climb, weightOf}
 use Rattle.flow_def.proofs.Integers.{up, dn, Le, Lt, plus-val, minus-val, up-neg, dn-neg, size-val, parts, leZ-le, le-leZ}

@@ -9,12 +9,12 @@ use native.Mathlib.Omega.{arith}
 use lib.ListN.{length}
 use Rattle.num_bytes.specs.Choice.{pick}
 use Rattle.num_bytes.proofs.Tests.{by-cases, and-both}
-use Rattle.plants.specs.declared.Stream.{Stream}
-use Rattle.plants.specs.declared.Plant as Arrays
-use Rattle.plants.specs.Plants.{Plant}
-use Rattle.plants.specs.Says.{plantOf}
-use Rattle.plants.specs.Within.{Within, Accepted}
-use Rattle.plants.proofs.Arrayed.{all-listed, within-of, stream-within}
+use Rattle.plant_def.specs.declared.Stream.{Stream}
+use Rattle.plant_def.specs.declared.Plant as Arrays
+use Rattle.plant_def.specs.Plants.{Plant}
+use Rattle.plant_def.specs.Says.{plantOf}
+use Rattle.plant_def.specs.Within.{Within, Accepted}
+use Rattle.plant_def.proofs.Arrayed.{all-listed, within-of, stream-within}
 use Rattle.flow_def.specs.Flows.{streamAt, amountAt, Cheapest}
 use Rattle.flow_def.specs.Certificate.{climb, leastClimb, mostClimb, priced, rises, falls}
 use Rattle.flow_def.specs.Overfull.{unmarked, Overfull}

@@ -11,7 +11,7 @@ use lib.ListN.{length, getD, set}
 use lib.Seq.{getD-set-same, getD-set-other}
 use Rattle.num_bytes.specs.Choice.{pick}
 use Rattle.num_bytes.proofs.Tests.{by-cases, clash}
-use Rattle.plants.specs.declared.Stream.{Stream}
+use Rattle.plant_def.specs.declared.Stream.{Stream}
 use Rattle.flow_def.specs.Flows.{streamAt}
 use Rattle.solve_def.specs.declared.Tree.{Tree}
 use Rattle.solve_def.specs.Slack.{Crossing, At, Nothing, leastTo, slackAt}

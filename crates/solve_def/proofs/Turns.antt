@@ -10,9 +10,9 @@ use lib.ListN.{length, getD, set, take, replicate}
 use lib.Seq.{getD-set-same, getD-set-other, getD-take}
 use Rattle.num_bytes.specs.Choice.{pick}
 use Rattle.num_bytes.proofs.Tests.{clash}
-use Rattle.plants.specs.declared.Stream.{Stream}
-use Rattle.plants.specs.Limits.{maxUnits, places, maxStreams}
-use Rattle.plants.specs.Plants.{noStream}
+use Rattle.plant_def.specs.declared.Stream.{Stream}
+use Rattle.plant_def.specs.Limits.{maxUnits, places, maxStreams}
+use Rattle.plant_def.specs.Plants.{noStream}
 use Rattle.solve_def.specs.declared.Tree.{Tree}
 use Rattle.solve_def.specs.declared.State.{State}
 use Rattle.solve_def.specs.Sizes.{netShift, settledRoom}

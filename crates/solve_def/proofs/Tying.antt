@@ -12,9 +12,9 @@ use lib.Dec.{ltb, leb}
 use lib.ListN.{length, getD}
 use Rattle.num_bytes.specs.Choice.{pick}
 use Rattle.num_bytes.proofs.Tests.{by-cases, clash}
-use Rattle.plants.specs.declared.Stream.{Stream}
-use Rattle.plants.specs.Plants.{Plant}
-use Rattle.plants.specs.Within.{Within}
+use Rattle.plant_def.specs.declared.Stream.{Stream}
+use Rattle.plant_def.specs.Plants.{Plant}
+use Rattle.plant_def.specs.Within.{Within}
 use Rattle.flow_def.specs.Flows.{streamAt, amountAt, allowed, cost, Cheapest}
 use Rattle.flow_def.specs.Certificate.{weightOf}
 use Rattle.flow_def.proofs.Integers.{Le}

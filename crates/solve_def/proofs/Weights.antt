@@ -10,9 +10,9 @@ use mir.Syntax.{w32, w64}
 use borrow.Author.Needs.{sfits-of}
 use borrow.Author.Tests.{le-ltb}
 use Rattle.num_bytes.proofs.Tests.{picked}
-use Rattle.plants.specs.declared.Stream.{Stream}
-use Rattle.plants.specs.Limits.{maxWeight}
-use Rattle.plants.specs.Within.{WithinStream}
+use Rattle.plant_def.specs.declared.Stream.{Stream}
+use Rattle.plant_def.specs.Limits.{maxWeight}
+use Rattle.plant_def.specs.Within.{WithinStream}
 use Rattle.flow_def.specs.Certificate.{weightOf}
 use Rattle.solve_def.specs.Sizes.{flowShift, mostFlow, mostPull}
 use Rattle.solve_def.specs.Held.{shifted}

@@ -6,7 +6,7 @@ use Prim.Native.Nat.{ℕ, _/_, _%_, _^_, _≤_, _<_}
 use lib.Dec.{ltb}
 use lib.ListN.{getD, set}
 use Rattle.num_bytes.specs.Choice.{pick}
-use Rattle.plants.specs.Limits.{places}
+use Rattle.plant_def.specs.Limits.{places}
 use Rattle.flow_def.specs.Sides.{bit}
 use Rattle.solve_def.specs.Sizes.{far, numbering}
 use Rattle.solve_def.specs.declared.Spot.{Spot}

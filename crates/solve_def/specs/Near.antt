@@ -7,7 +7,7 @@ use Prim.Native.Nat.{ℕ, zero, suc, _+_, _-_, _*_, _/_, _%_}
 use lib.Dec.{eqb, ltb}
 use lib.ListN.{getD, set, replicate}
 use Rattle.num_bytes.specs.Choice.{pick}
-use Rattle.plants.specs.Limits.{places, maxStreams}
+use Rattle.plant_def.specs.Limits.{places, maxStreams}
 use Rattle.solve_def.specs.declared.Tree.{Tree}
 use Rattle.solve_def.specs.declared.Walked.{Walked}
 use Rattle.solve_def.specs.Sizes.{netShift, far, numbering}

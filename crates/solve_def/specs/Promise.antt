@@ -6,9 +6,9 @@ use lib.IntN.{ℤ, pos, _-ℤ_}
 use Prim.Native.Nat.{ℕ, _+_, _≤_, _<_}
 use lib.ListN.{length, getD}
 use Rattle.num_bytes.specs.Inner.{pickT}
-use Rattle.plants.specs.declared.Plant as Arrays
-use Rattle.plants.specs.Limits.{places, maxStreams}
-use Rattle.plants.specs.Says.{plantOf}
+use Rattle.plant_def.specs.declared.Plant as Arrays
+use Rattle.plant_def.specs.Limits.{places, maxStreams}
+use Rattle.plant_def.specs.Says.{plantOf}
 use Rattle.flow_def.specs.Flows.{streamAt, amountAt, Cheapest}
 use Rattle.flow_def.specs.Certificate.{priced}
 use Rattle.flow_def.specs.Overfull.{unmarked, Overfull}

@@ -4,9 +4,9 @@ use mathlib.Core.Bool.{true}
 use mathlib.Core.List.{List}
 use Prim.Native.Nat.{ℕ, _+_, _*_, _≤_, _<_}
 use lib.ListN.{length, getD, take}
-use Rattle.plants.specs.declared.Stream.{Stream}
-use Rattle.plants.specs.Limits.{places, maxUnits, maxStreams}
-use Rattle.plants.specs.Within.{Accepted}
+use Rattle.plant_def.specs.declared.Stream.{Stream}
+use Rattle.plant_def.specs.Limits.{places, maxUnits, maxStreams}
+use Rattle.plant_def.specs.Within.{Accepted}
 use Rattle.solve_def.specs.Sizes.{flowShift, mostFlow, priceShift, priceFloor, mostStep, mostAmount}
 use Rattle.flow_def.specs.Flows.{streamAt}
 use Rattle.solve_def.specs.Held.{AllHeld}

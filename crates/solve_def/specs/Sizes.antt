@@ -1,7 +1,7 @@
 -- Shifts and limits of the numbers that the solver works with, with the inequality that each must meet. Each is stated here and
 -- nowhere else in specs/.
 use Prim.Native.Nat.{ℕ, _*_, _+_, _-_}
-use Rattle.plants.specs.Limits.{maxUnits, places, maxWeight, maxStreams}
+use Rattle.plant_def.specs.Limits.{maxUnits, places, maxWeight, maxStreams}
 
 -- The greatest reading, and the greatest size of a range's ends, provided for: maxReading ≤ mostReading, maxRange ≤ mostRange.
 abbrev pub mostReading : ℕ

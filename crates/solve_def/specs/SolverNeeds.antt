@@ -5,10 +5,10 @@ use mathlib.Core.List.{List}
 use lib.IntN.{pos, _-ℤ_}
 use Prim.Native.Nat.{ℕ, _+_, _*_, _≤_, _<_}
 use lib.ListN.{length, getD}
-use Rattle.plants.specs.declared.Stream.{Stream}
-use Rattle.plants.specs.Limits.{places, maxUnits, maxStreams}
-use Rattle.plants.specs.Plants.{noStream}
-use Rattle.plants.specs.Within.{WithinStream}
+use Rattle.plant_def.specs.declared.Stream.{Stream}
+use Rattle.plant_def.specs.Limits.{places, maxUnits, maxStreams}
+use Rattle.plant_def.specs.Plants.{noStream}
+use Rattle.plant_def.specs.Within.{WithinStream}
 use Rattle.flow_def.specs.Flows.{streamAt}
 use Rattle.flow_def.specs.Nets.{netOf}
 use Rattle.solve_def.specs.Sizes.{flowShift, mostFlow, priceShift, netShift, mostStep}

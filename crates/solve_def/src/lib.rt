@@ -1,7 +1,7 @@
-// The cheapest balanced flow, computed: search, push and solver as definitions with their laws. No function stands here. Amounts,
-// prices and nets are held shifted, as unsigned numbers (sizes.rt).
-use plants::limits::MAX_STREAMS;
-use plants::limits::PLACES;
+// The cheapest balanced flow, computed: search, push and solver as definitions with their laws, and how many improvements it
+// makes.
+use plant_def::limits::MAX_STREAMS;
+use plant_def::limits::PLACES;
 
 pub mod sizes;
 

@@ -4,7 +4,7 @@ use mathlib.Core.List.{List}
 use Prim.Native.Nat.{ℕ, _≤_, _<_}
 use native.Mathlib.Omega.{arith}
 use lib.ListN.{getD, take}
-use Rattle.plants.specs.Limits.{maxStreams}
+use Rattle.plant_def.specs.Limits.{maxStreams}
 use Rattle.solve_def.specs.Sizes.{mostFlow}
 use Rattle.solve_def.specs.declared.State.{State}
 use Rattle.solve_def.specs.SearchNeeds.{Trail}

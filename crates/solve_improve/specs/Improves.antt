@@ -2,7 +2,7 @@
 use mathlib.Core.List.{List}
 use Prim.Native.Nat.{ℕ}
 use lib.ListN.{take}
-use Rattle.plants.specs.declared.Stream.{Stream}
+use Rattle.plant_def.specs.declared.Stream.{Stream}
 use Rattle.solve_def.specs.declared.State.{State}
 use Rattle.solve_def.specs.Sizes.{settledRoom}
 use Rattle.solve_def.specs.SearchNeeds.{Network}

@@ -1,6 +1,6 @@
 // Improvements over arcs: net is moved from a place that has too much to one that has too little, at the least cost.
-use plants::limits::MAX_STREAMS;
-use plants::limits::PLACES;
+use plant_def::limits::MAX_STREAMS;
+use plant_def::limits::PLACES;
 use solve_arcs::ARCS;
 use solve_arcs::MARGINS;
 use solve_arcs::ROWS;
@@ -14,7 +14,7 @@ use solve_path::search;
 ghost use mathlib.Core.Path.{_≡_};
 ghost use Prim.Native.Nat.{_+_, _≤_, _<_};
 ghost use lib.ListN.{getD, take};
-ghost use Rattle.plants.specs.Limits.{places};
+ghost use Rattle.plant_def.specs.Limits.{places};
 ghost use Rattle.solve_def.specs.Sizes.{netShift};
 ghost use Rattle.solve_def.specs.Model.{stateOf, improvedBy, improvedAt};
 ghost use Rattle.solve_arcs.specs.ArcNeeds.{Margined};

@@ -1,5 +1,5 @@
 // The test of a set of places: whether it must take in more than it can let out, by the ranges of the streams across its edge.
-use plants::limits::PLACES;
+use plant_def::limits::PLACES;
 use solve_arcs::ARCS;
 use solve_arcs::ROWS;
 use solve_arcs::count_of;

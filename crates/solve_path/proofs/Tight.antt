@@ -9,7 +9,7 @@ use lib.Dec.{ltb}
 use lib.ListN.{length, getD, set, replicate, length-set, length-replicate}
 use Rattle.num_bytes.specs.Choice.{pick}
 use Rattle.num_bytes.proofs.Tests.{by-cases}
-use Rattle.plants.specs.Limits.{places}
+use Rattle.plant_def.specs.Limits.{places}
 use Rattle.solve_def.specs.declared.Spot.{Spot}
 use Rattle.solve_def.specs.declared.Tree.{Tree}
 use Rattle.solve_def.specs.declared.Walked.{Walked}
@@ -25,8 +25,8 @@ use Rattle.solve_def.proofs.Stepping.{step-none}
 use Rattle.solve_def.proofs.Rounding.{goal-hit, goal-miss}
 use Rattle.solve_arcs.specs.Cells.{countOf, startsOf, endsOf}
 use Rattle.solve_arcs.specs.Margins.{reducedCosts}
-use Rattle.solve_relax.specs.Codes.{shown, Coded, lookedAt}
-use Rattle.solve_relax.proofs.Coding.{shown-long}
+use Rattle.solve_path.specs.Codes.{shown, Coded, lookedAt}
+use Rattle.solve_path.proofs.Coding.{shown-long}
 use Rattle.solve_path.specs.Paces.{Paced, Tightly}
 use Rattle.solve_path.proofs.Turns as W
 use Rattle.solve_path.proofs.Going.{first-shown, first-coded}

@@ -1,5 +1,5 @@
 // The walk from a place: the nearest place is visited, again and again.
-use plants::limits::PLACES;
+use plant_def::limits::PLACES;
 use solve_arcs::ARCS;
 use solve_arcs::MARGINS;
 use solve_def::Searched;
@@ -9,20 +9,19 @@ use solve_def::Walked;
 use solve_def::sizes::FAR;
 use solve_def::sizes::NET_SHIFT;
 use solve_def::sizes::NUMBERING;
-use solve_relax::relax;
 ghost use mathlib.Core.Bool.{Bool, true, false};
 ghost use mathlib.Core.List.{List};
 ghost use mathlib.Core.Path.{_≡_};
 ghost use Prim.Native.Nat.{_<_};
 ghost use lib.ListN.{length, replicate};
-ghost use Rattle.plants.specs.Limits.{places};
+ghost use Rattle.plant_def.specs.Limits.{places};
 ghost use Rattle.solve_def.specs.Sizes.{searchRounds, farthest, far};
 ghost use Rattle.solve_def.specs.Search.{rootAt};
 ghost use Rattle.solve_def.specs.Near.{nearestWithin, goalAt, walkedBy, walked};
 ghost use Rattle.solve_arcs.specs.Cells.{countOf, startsOf, endsOf};
 ghost use Rattle.solve_arcs.specs.Margins.{reducedCosts};
 ghost use Rattle.solve_arcs.specs.ArcNeeds.{Ways};
-ghost use Rattle.solve_relax.specs.Codes.{shown, Coded};
+ghost use Rattle.solve_path.specs.Codes.{shown, Coded};
 ghost use Rattle.solve_path.specs.Paces.{Paced, Tightly};
 
 // The most places that a walk visits after the first.

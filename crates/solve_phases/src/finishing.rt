@@ -1,9 +1,7 @@
 // From amounts settled at a hint to a balanced flow that meets the step condition at 1, or to a set that is overfull.
 use crate::phase;
-use plants::limits::MAX_STREAMS;
-use plants::limits::PLACES;
-use settling::over_sum;
-use settling::settle;
+use plant_def::limits::MAX_STREAMS;
+use plant_def::limits::PLACES;
 use solve_arcs::ARCS;
 use solve_arcs::MARGINS;
 use solve_arcs::ROWS;
@@ -14,6 +12,8 @@ use solve_def::sizes::FLOW_SHIFT;
 use solve_def::sizes::MOST_STEP;
 use solve_def::sizes::MOST_TRIED;
 use solve_def::sizes::PRICE_SHIFT;
+use solve_settle::over_sum;
+use solve_settle::settle;
 ghost use mathlib.Core.Path.{_≡_};
 ghost use mathlib.Core.Bool.{false};
 ghost use lib.ListN.{length, take};

@@ -1,23 +1,23 @@
 // Phases: improvements from the places one after the other, at smaller and smaller steps.
-use plants::limits::MAX_STREAMS;
-use plants::limits::PLACES;
+use plant_def::limits::MAX_STREAMS;
+use plant_def::limits::PLACES;
 use solve_arcs::ARCS;
 use solve_arcs::MARGINS;
 use solve_arcs::ROWS;
 use solve_arcs::count_of;
+use solve_arcs::margins_of;
+use solve_arcs::minus;
 use solve_def::Ended;
 use solve_def::Halt;
 use solve_def::Quest;
 use solve_def::State;
 use solve_def::sizes::NET_SHIFT;
-use solve_held::minus;
 use solve_improve::improve_from;
 use solve_infeasible::tested;
-use solve_margins::margins_of;
 ghost use mathlib.Core.Path.{_≡_};
 ghost use Prim.Native.Nat.{_-_, _/_, _<_};
 ghost use lib.ListN.{getD, length, take};
-ghost use Rattle.plants.specs.Limits.{places};
+ghost use Rattle.plant_def.specs.Limits.{places};
 ghost use Rattle.solve_def.specs.Sizes.{netShift};
 ghost use Rattle.solve_def.specs.Model as M;
 ghost use Rattle.solve_def.specs.Model.{stateOf, endedBy, fromPlace};

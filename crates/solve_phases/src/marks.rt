@@ -1,5 +1,5 @@
 // The marks of a set that is overfull, as a plant has places.
-use plants::limits::PLACES;
+use plant_def::limits::PLACES;
 ghost use mathlib.Core.Path.{_≡_};
 ghost use mathlib.Core.Bool.{_&&_};
 ghost use lib.Dec.{leb};

@@ -5,28 +5,28 @@ use mathlib.Core.List.{List}
 use Prim.Native.Nat.{ℕ}
 use native.Mathlib.Omega.{arith}
 use lib.ListN.{getD, replicate}
-use Rattle.plants.specs.declared.Stream.{Stream}
-use Rattle.plants.specs.declared.Plant as Arrays
+use Rattle.plant_def.specs.declared.Stream.{Stream}
+use Rattle.plant_def.specs.declared.Plant as Arrays
 use Rattle.flow_def.specs.Flows.{streamAt}
-use Rattle.plants.specs.Limits.{maxStreams}
-use Rattle.plants.specs.Within.{Accepted}
-use Rattle.plants.specs.Says.{plantOf}
-use Rattle.plants.proofs.Arrayed.{all-listed, listed-at, within-of}
+use Rattle.plant_def.specs.Limits.{maxStreams}
+use Rattle.plant_def.specs.Within.{Accepted}
+use Rattle.plant_def.specs.Says.{plantOf}
+use Rattle.plant_def.proofs.Arrayed.{all-listed, listed-at, within-of}
 use Rattle.flow_def.specs.Chains.{unmeteredOnly}
 use Rattle.flow_def.specs.Labels.{labelsOf}
-use Rattle.meters.specs.Ends.{Labels}
-use Rattle.wholes.specs.Levels.{Level}
+use Rattle.newton_laplacian.specs.Ends.{Labels}
+use Rattle.newton_descend.specs.Levels.{Level}
 use Rattle.solve_def.specs.Sizes.{flowShift, priceShift, priceSpread, hintRoom}
 use Rattle.solve_def.specs.declared.Hint.{Hint}
 use Rattle.solve_def.specs.Model.{settledTo, netsTo, stateOf}
 use Rattle.solve_def.specs.SolverNeeds.{Hinted, Ready, AtHint}
-use Rattle.routing.specs.Routes.{Routes, Kept}
+use Rattle.solve_forest.specs.Routes.{Routes, Kept}
 use Rattle.flow_def.proofs.Nets.{inside-of}
 use Rattle.flow_def.proofs.Labels.{label-long, label-low, label-level}
 use Rattle.solve_def.proofs.Nearest.{settled-long, settled-at, settled-again, settled-free}
 use Rattle.solve_def.proofs.Layouts.{hinted-ready, ready-amounts, settled-is}
 use Rattle.solve_def.proofs.Theorem.{network-of, solvable-in}
-use Rattle.routing.proofs.Routes.{routes-none}
+use Rattle.solve_forest.proofs.Routes.{routes-none}
 
 module _ (p : Arrays.Plant) (a : Accepted p) where
   pub labels-of : Labels (labelsOf unmeteredOnly (plantOf p))

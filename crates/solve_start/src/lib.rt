@@ -1,21 +1,21 @@
 // The start by factorisation: metered amounts settled at prices at which the real-number optimum balances, and unmetered amounts
 // routed along a spanning forest.
-use plants::Plant;
-use plants::limits::MAX_STREAMS;
-use plants::limits::PLACES;
-use potentials::potentials_of;
-use routing::route;
-use settling::nets_of;
-use settling::settle_flows;
+use newton_descend::potentials_of;
+use plant_def::Plant;
+use plant_def::limits::MAX_STREAMS;
+use plant_def::limits::PLACES;
 use solve_arcs::ARCS;
 use solve_arcs::ROWS;
 use solve_def::State;
 use solve_def::sizes::FLOW_SHIFT;
 use solve_def::sizes::PRICE_SHIFT;
 use solve_def::sizes::PRICE_SPREAD;
-use spanning::span;
-ghost use Rattle.plants.specs.Within.{Accepted};
-ghost use Rattle.plants.specs.Says.{plantOf};
+use solve_forest::route;
+use solve_forest::span;
+use solve_settle::nets_of;
+use solve_settle::settle_flows;
+ghost use Rattle.plant_def.specs.Within.{Accepted};
+ghost use Rattle.plant_def.specs.Says.{plantOf};
 ghost use Rattle.flow_def.specs.Calls.{Grouped};
 ghost use Rattle.solve_def.specs.SolverNeeds.{AtHint};
 ghost use Rattle.solve_arcs.specs.ArcNeeds.{Laid};

@@ -2,7 +2,7 @@
 use mathlib.Core.List.{List}
 use Prim.Native.Nat.{ℕ, _<_}
 use lib.ListN.{take}
-use Rattle.plants.specs.declared.Stream.{Stream}
+use Rattle.plant_def.specs.declared.Stream.{Stream}
 use Rattle.solve_def.specs.SearchNeeds.{Network, Prices}
 use Rattle.solve_def.specs.SolverNeeds.{Even, Falls}
 use Rattle.solve_arcs.specs.ArcNeeds.{Laid}

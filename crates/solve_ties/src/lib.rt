@@ -1,15 +1,15 @@
 // Ties over arcs: among equally cheap flows, the first metered stream least, then the second, and so on.
-use plants::limits::MAX_STREAMS;
-use plants::limits::PLACES;
+use plant_def::limits::MAX_STREAMS;
+use plant_def::limits::PLACES;
 use solve_arcs::ARCS;
 use solve_arcs::MARGINS;
 use solve_arcs::ROWS;
 use solve_arcs::count_of;
 use solve_arcs::end_at;
+use solve_arcs::reduced_cost;
+use solve_arcs::shut_margins;
 use solve_augment::augment;
 use solve_def::Route;
-use solve_margins::reduced_cost;
-use solve_margins::shut_margins;
 use solve_path::tight_path;
 ghost use mathlib.Core.Bool.{false, _&&_};
 ghost use mathlib.Core.List.{List};
@@ -17,7 +17,7 @@ ghost use mathlib.Core.Path.{_≡_};
 ghost use Prim.Native.Nat.{ℕ, _+_, _*_, _<_};
 ghost use lib.Dec.{eqb, ltb};
 ghost use lib.ListN.{getD, length, take};
-ghost use Rattle.plants.specs.Limits.{maxStreams};
+ghost use Rattle.plant_def.specs.Limits.{maxStreams};
 ghost use Rattle.solve_def.specs.Model.{tiedAt, tiesTo};
 ghost use Rattle.solve_arcs.specs.Cells.{countOf, marginCells};
 ghost use Rattle.solve_arcs.specs.Margins.{reducedCosts};

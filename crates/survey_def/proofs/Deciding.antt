@@ -8,10 +8,10 @@ use native.Mathlib.Omega.{arith}
 use borrow.Author.Tests.{not-true}
 use lib.ListN.{length, length-map}
 use Rattle.num_bytes.proofs.Tests.{clash, and-both}
-use Rattle.plants.specs.declared.Stream.{Stream}
-use Rattle.plants.specs.Limits.{maxUnits}
-use Rattle.plants.specs.Plants.{Plant, noStream, unmetered}
-use Rattle.plants.specs.Within.{WithinStream, Within}
+use Rattle.plant_def.specs.declared.Stream.{Stream}
+use Rattle.plant_def.specs.Limits.{maxUnits}
+use Rattle.plant_def.specs.Plants.{Plant, noStream, unmetered}
+use Rattle.plant_def.specs.Within.{WithinStream, Within}
 use Rattle.flow_def.specs.Flows.{streamAt}
 use Rattle.flow_def.specs.Chains.{Counting}
 use Rattle.flow_def.specs.Labels.{labelsAfter, oneLabel}
@@ -19,11 +19,11 @@ use Rattle.flow_def.specs.Certificate.{every}
 use Rattle.flow_def.proofs.Certified.{every-at}
 use Rattle.flow_def.proofs.Lists.{map-at}
 use Rattle.flow_def.proofs.Nets.{inside}
-use Rattle.forests.specs.Withheld.{NoneWithheld}
-use Rattle.forests.specs.Metering.{chosen}
-use Rattle.forests.specs.Loops.{left, AllJoin}
-use Rattle.forests.proofs.Ranks.{free-joins, joins-free}
-use Rattle.forests.proofs.Left.{Same, same-sym, free-same, none→left, left→none}
+use Rattle.flow_def.specs.Withheld.{NoneWithheld}
+use Rattle.flow_def.specs.Metering.{chosen}
+use Rattle.flow_def.specs.Loops.{left, AllJoin}
+use Rattle.flow_def.proofs.Ranks.{free-joins, joins-free}
+use Rattle.flow_def.proofs.Left.{Same, same-sym, free-same, none→left, left→none}
 use Rattle.survey_def.specs.Layouts.{bare, laidOut}
 
 -- The streams that are not in a set count; each joins two groups when it is met.

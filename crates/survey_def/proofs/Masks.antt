@@ -9,14 +9,14 @@ use lib.Dec.{eqb}
 use lib.ListN.{length}
 use Rattle.num_bytes.specs.Choice.{pick}
 use Rattle.num_bytes.specs.Inner.{values}
-use Rattle.plants.specs.declared.Stream.{Stream}
+use Rattle.plant_def.specs.declared.Stream.{Stream}
 use Rattle.flow_def.specs.Sides.{bit}
 use Rattle.flow_def.specs.Certificate.{every}
 use Rattle.flow_def.proofs.Lists.{values-at, values-same}
 use Rattle.flow_def.proofs.Labels.{labels-same}
-use Rattle.forests.specs.Metering.{chosen}
-use Rattle.forests.specs.Loops.{countTo}
-use Rattle.forests.proofs.Counts.{count-same, count-front}
+use Rattle.flow_def.specs.Metering.{chosen}
+use Rattle.flow_def.specs.Loops.{countTo}
+use Rattle.flow_def.proofs.Counts.{count-same, count-front}
 use Rattle.survey_def.specs.Layouts.{size, setsOf}
 use Rattle.survey_def.specs.Inner.{bitOff, meets, eachMeets, ones, countBelow}
 use Rattle.survey_def.proofs.Deciding.{leftOut, joinsAt, eachJoins}

@@ -9,18 +9,18 @@ use lib.Dec.{eqb, ltb}
 use lib.ListN.{length, getD, take, length-replicate, List·getD-eq-default}
 use lib.Seq.{ext-getD, length-take-le, getD-take}
 use Rattle.num_bytes.proofs.Tests.{by-cases, same-test}
-use Rattle.plants.specs.declared.Read.{Read}
-use Rattle.plants.specs.declared.Stream.{Stream}
-use Rattle.plants.specs.declared.Plant as Arrays
-use Rattle.plants.specs.Plants.{Plant, noStream}
-use Rattle.plants.specs.Files.{Got, bad, got, readPlant}
-use Rattle.plants.specs.Within.{Within, Accepted}
-use Rattle.plants.specs.Says.{plantOf, readOf}
-use Rattle.plants.proofs.Arrayed.{all-listed, listed-at, within-of, stream-within, read-held}
+use Rattle.plant_def.specs.declared.Read.{Read}
+use Rattle.plant_def.specs.declared.Stream.{Stream}
+use Rattle.plant_def.specs.declared.Plant as Arrays
+use Rattle.plant_def.specs.Plants.{Plant, noStream}
+use Rattle.plant_def.specs.Files.{Got, bad, got, readPlant}
+use Rattle.plant_def.specs.Within.{Within, Accepted}
+use Rattle.plant_def.specs.Says.{plantOf, readOf}
+use Rattle.plant_def.proofs.Arrayed.{all-listed, listed-at, within-of, stream-within, read-held}
 use Rattle.sheet_def.proofs.Promise.{read-bad, found, plant-count}
 use Rattle.flow_def.specs.Sides.{bit}
-use Rattle.forests.specs.Loops.{countTo}
-use Rattle.forests.proofs.Counts.{count-same}
+use Rattle.flow_def.specs.Loops.{countTo}
+use Rattle.flow_def.proofs.Counts.{count-same}
 use Rattle.survey_def.specs.declared.Layouts.{Layouts}
 use Rattle.survey_def.specs.Layouts.{laidOut, size, setsOf, Counted}
 use Rattle.survey_def.specs.Says.{maxSurveyed, surveySize, refusedWith, Surveyed, SurveySays, One-survey}

@@ -7,11 +7,11 @@ use Prim.Native.Nat.{ℕ, _^_, _≤_, _<_}
 use native.Mathlib.Omega.{arith}
 use lib.ListN.{length, getD}
 use Rattle.num_bytes.specs.Inner.{values}
-use Rattle.plants.specs.Plants.{Plant, unmetered}
-use Rattle.plants.specs.Files.{got, readPlant}
-use Rattle.plants.specs.Within.{Within}
-use Rattle.plants.proofs.Limited.{within}
-use Rattle.plants.proofs.Accepted.{accepted}
+use Rattle.plant_def.specs.Plants.{Plant, unmetered}
+use Rattle.plant_def.specs.Files.{got, readPlant}
+use Rattle.plant_def.specs.Within.{Within}
+use Rattle.plant_def.proofs.Limited.{within}
+use Rattle.plant_def.proofs.Accepted.{accepted}
 use Rattle.flow_def.specs.Labels.{labelsAfter}
 use Rattle.flow_def.proofs.Lists.{values-at}
 use Rattle.survey_def.specs.declared.Layouts.{Layouts}

@@ -14,9 +14,9 @@ use lib.Seq.{length-take-le, getD-take, getD-set-same, getD-set-other, ext-getD}
 use native.Mathlib.Decide.{ℕ-discrete}
 use Rattle.num_bytes.specs.Choice.{pick}
 use Rattle.num_bytes.proofs.Tests.{by-cases, clash}
-use Rattle.plants.specs.declared.Stream.{Stream}
-use Rattle.plants.specs.Limits.{maxUnits, places}
-use Rattle.plants.specs.Plants.{noStream}
+use Rattle.plant_def.specs.declared.Stream.{Stream}
+use Rattle.plant_def.specs.Limits.{maxUnits, places}
+use Rattle.plant_def.specs.Plants.{noStream}
 use Rattle.flow_def.specs.Flows.{streamAt}
 use Rattle.flow_def.specs.Groups.{AmongPlaces, StepSays}
 use Rattle.flow_def.specs.Labels.{ownNumbers, labelsAfter, oneLabel}
@@ -25,8 +25,8 @@ use Rattle.flow_def.specs.Certificate.{every}
 use Rattle.flow_def.proofs.Certified.{every-at}
 use Rattle.flow_def.proofs.Labels.{step-none, labels-long}
 use Rattle.flow_def.proofs.Grouping.{step-said}
-use Rattle.forests.specs.Loops.{countTo}
-use Rattle.forests.proofs.Counts.{one}
+use Rattle.flow_def.specs.Loops.{countTo}
+use Rattle.flow_def.proofs.Counts.{one}
 use Rattle.survey_def.specs.Says.{maxSurveyed, surveySize}
 use Rattle.survey_def.specs.Inner.{bitOff, meets, eachMeets, ones, countBelow, Few}
 

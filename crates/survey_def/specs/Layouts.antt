@@ -7,10 +7,10 @@ use Prim.Native.Nat.{ℕ, zero, suc, _+_}
 use lib.Dec.{eqb}
 use lib.ListN.{length}
 use Rattle.num_bytes.specs.Choice.{pick}
-use Rattle.plants.specs.declared.Stream.{Stream}
-use Rattle.plants.specs.Plants.{Plant, unmetered}
-use Rattle.forests.specs.Withheld.{NoneWithheld}
-use Rattle.forests.specs.Metering.{metering}
+use Rattle.plant_def.specs.declared.Stream.{Stream}
+use Rattle.plant_def.specs.Plants.{Plant, unmetered}
+use Rattle.flow_def.specs.Withheld.{NoneWithheld}
+use Rattle.flow_def.specs.Metering.{metering}
 
 -- The plant without any meter, and with the streams of a set metered and no others.
 abbrev pub bare : Plant → Plant

@@ -5,8 +5,8 @@ use Prim.Native.Nat.{ℕ, suc, _≤_, _<_}
 use lib.Dec.{eqb}
 use lib.ListN.{length, getD, take, replicate}
 use Rattle.num_bytes.specs.Choice.{pick}
-use Rattle.plants.specs.Plants.{Plant}
-use Rattle.plants.specs.Files.{bad, got, readPlant}
+use Rattle.plant_def.specs.Plants.{Plant}
+use Rattle.plant_def.specs.Files.{bad, got, readPlant}
 use Rattle.survey_def.specs.declared.Layouts.{Layouts}
 use Rattle.survey_def.specs.Layouts.{Counted}
 

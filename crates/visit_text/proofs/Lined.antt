@@ -10,7 +10,7 @@ use Rattle.num_text.specs.Numerals.{text, decimal, field, pairLine}
 use Rattle.num_text.specs.Adding.{Added}
 use Rattle.num_text.proofs.Behind.{nothing, behind, kept-length, put-front}
 use Rattle.num_text.proofs.Decimals.{decimal-most, field-size}
-use Rattle.plants.specs.Limits.{maxStreams}
+use Rattle.plant_def.specs.Limits.{maxStreams}
 use Rattle.visit_text.specs.Text.{linesFor}
 use Rattle.visit_text.specs.Says.{lineSize, leastText}
 

@@ -10,7 +10,7 @@ use Rattle.num_bytes.specs.Bytes.{over}
 use Rattle.num_bytes.specs.Inner.{Put}
 use Rattle.num_bytes.proofs.Tests.{by-cases}
 use Rattle.num_text.specs.Numerals.{decimal}
-use Rattle.listings.specs.Listing.{refusalText}
+use Rattle.listing_lines.specs.Listing.{refusalText}
 use Rattle.visit_def.specs.declared.Visits.{Visits}
 use Rattle.visit_def.specs.Says.{VisitsSays}
 use Rattle.visit_def.proofs.Promise.{meters-worth-a-visit}

@@ -5,7 +5,7 @@ use lib.Dec.{eqb}
 use lib.ListN.{take}
 use Rattle.num_bytes.specs.Choice.{pick}
 use Rattle.num_text.specs.Numerals.{pairLine}
-use Rattle.listings.specs.Listing.{refusalText}
+use Rattle.listing_lines.specs.Listing.{refusalText}
 use Rattle.visit_def.specs.declared.Visits.{Visits}
 
 abbrev pub linesFor : List ℕ → List ℕ → List ℕ

@@ -1,6 +1,6 @@
 -- By what was read.
 use denote.Ref.{now}
-use Rattle.plants.specs.Within.{Accepted}
+use Rattle.plant_def.specs.Within.{Accepted}
 use Rattle.sheet_def.proofs.Promise.{plant-accepted}
 use Rattle.charge_def.proofs.Answering.{small-read, unread, answered}
 use borrow.Author.Needs.{needs}

@@ -2,7 +2,7 @@
 use mathlib.Core.Path.{_≡_, sym, ap, _∙_}
 use mathlib.Core.List.{List}
 use Prim.Native.Nat.{ℕ, _-_}
-use Rattle.plants.specs.Says.{plantOf}
+use Rattle.plant_def.specs.Says.{plantOf}
 use Rattle.flow_def.specs.Classes.{degrees}
 use Rattle.flow_def.specs.Chains.{everyStream, unmeteredOnly}
 use Rattle.flow_def.specs.Labels.{labelsOf, ownLabels}

@@ -4,9 +4,9 @@ use native.Mathlib.Omega.{arith}
 use denote.Ref.{now}
 use mathlib.Core.Path.{refl}
 use borrow.Author.Tests.{not-true, not-false}
-use Rattle.plants.specs.Says.{plantOf}
+use Rattle.plant_def.specs.Says.{plantOf}
 use Rattle.sheet_def.proofs.Promise.{plant-accepted, outcome-balance, outcome-overfull}
-use Rattle.listings.proofs.Sizes.{put-counts}
+use Rattle.listing_lines.proofs.Sizes.{put-counts}
 use Rattle.listing_call.proofs.Promise.{too-short, file-refused, plant-listed, plant-overfilled}
 use Rattle.listing_call.proofs.list_plant.Statement.{statement}
 use Rattle.listing_call.proofs.list_plant.Tie as tie

@@ -8,7 +8,7 @@ use lib.ListN.{getD}
 use mir.Syntax.{w64}
 use mir.Val.{SFits, toZ, ofZ}
 use mir.Facts.{toZ-ofZ}
-use Rattle.plants.specs.Plants.{noStream}
+use Rattle.plant_def.specs.Plants.{noStream}
 use Rattle.flow_def.specs.Flows.{amountAt}
 use Rattle.sheet_def.specs.Apart.{capped}
 use Rattle.sheet_def.specs.Calls.{streamCost}

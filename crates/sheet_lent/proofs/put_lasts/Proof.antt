@@ -9,7 +9,7 @@ use lib.ListN.{length, take}
 use lib.Seq.{take-all}
 use Rattle.num_bytes.specs.Bytes.{over}
 use Rattle.sheet_def.specs.Counters.{offices}
-use Rattle.num_lists.proofs.Handing.{Handing, none-handed, slice-long, room-there, one-handed, all-handed, itself, map-itself}
+use Rattle.num_lent.proofs.Handing.{Handing, none-handed, slice-long, room-there, one-handed, all-handed, itself, map-itself}
 use Rattle.sheet_lent.proofs.put_lasts.Statement.{statement}
 use Rattle.sheet_lent.proofs.put_lasts.Tie as tie
 

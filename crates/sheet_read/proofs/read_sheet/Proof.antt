@@ -5,7 +5,7 @@ use native.Mathlib.Omega.{arith}
 use mathlib.Core.Path.{_≡_, ap, sym, _∙_}
 use Prim.Native.Nat.{ℕ, _-_}
 use Rattle.num_bytes.proofs.Parts.{partFrom}
-use Rattle.plants.specs.Files.{mostRecords}
+use Rattle.plant_def.specs.Files.{mostRecords}
 use Rattle.sheet_def.specs.declared.SheetRecord.the-variants.{Listed}
 use Rattle.sheet_def.specs.Kept.{noSheet, recordAt, readOf}
 use Rattle.sheet_read.proofs.Loop.{Reading, begin, turn, room-left, ended-here, refused-here}

@@ -3,7 +3,7 @@ use borrow.Author.Needs.{needs}
 use mathlib.Core.Path.{ap, _∙_}
 use lib.ListN.{replicate}
 use mathlib.Core.List.{List}
-use Rattle.plants.specs.Limits.{maxStreams}
+use Rattle.plant_def.specs.Limits.{maxStreams}
 use Rattle.sheet_def.specs.declared.Entry.{Entry}
 use Rattle.sheet_def.specs.Kept.{blank}
 use Rattle.num_bytes.proofs.Filled.{filled-none}

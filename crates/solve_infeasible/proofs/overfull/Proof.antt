@@ -7,7 +7,7 @@ use native.Mathlib.Omega.{arith}
 use borrow.Author.Needs.{needs}
 use borrow.Author.Tests.{not-true, not-false}
 use lib.ListN.{getD, take}
-use Rattle.plants.specs.Limits.{maxStreams}
+use Rattle.plant_def.specs.Limits.{maxStreams}
 use Rattle.solve_def.specs.Sizes.{mostFlow}
 use Rattle.solve_def.specs.Full.{mayCross, pressed, boundedTo, pressedTo}
 use Rattle.solve_arcs.specs.Cells.{toCell, countOf}

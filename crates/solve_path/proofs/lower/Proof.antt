@@ -5,7 +5,7 @@ use Prim.Native.Nat.{ℕ, _≤_, _-_}
 use native.Mathlib.Omega.{arith}
 use lib.ListN.{getD}
 use Rattle.num_bytes.specs.Choice.{pick}
-use Rattle.plants.specs.Limits.{places}
+use Rattle.plant_def.specs.Limits.{places}
 use Rattle.solve_def.specs.Search.{fallen}
 use Rattle.flow_def.proofs.Lists.{Written, written-none, written-put}
 use Rattle.solve_def.proofs.Filling.{reduced-is}

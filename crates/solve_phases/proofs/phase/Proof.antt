@@ -6,7 +6,7 @@ use Prim.Native.Nat.{_≤_, _-_}
 use native.Mathlib.Omega.{arith}
 use borrow.Author.Needs.{needs}
 use lib.ListN.{take}
-use Rattle.plants.specs.Limits.{places}
+use Rattle.plant_def.specs.Limits.{places}
 use Rattle.solve_def.specs.declared.State.{State}
 use Rattle.solve_def.specs.declared.Ended.{Ended}
 use Rattle.solve_def.specs.Model.{stateOf, phaseTo, going, endedBy}

@@ -4,19 +4,19 @@ use mathlib.Core.List.{List}
 use Prim.Native.Nat.{ℕ}
 use native.Mathlib.Omega.{arith}
 use lib.ListN.{replicate}
-use Rattle.plants.specs.Limits.{maxStreams}
-use Rattle.plants.specs.Says.{plantOf}
+use Rattle.plant_def.specs.Limits.{maxStreams}
+use Rattle.plant_def.specs.Says.{plantOf}
 use Rattle.flow_def.specs.Chains.{unmeteredOnly}
 use Rattle.flow_def.specs.Labels.{labelsOf}
 use Rattle.flow_def.proofs.Grouping.{labels-are}
-use Rattle.wholes.specs.Levels.{Level}
+use Rattle.newton_descend.specs.Levels.{Level}
 use Rattle.solve_def.specs.Sizes.{flowShift, priceShift, priceSpread}
 use Rattle.solve_def.specs.Model.{settledTo}
 use Rattle.solve_def.proofs.Booking.{nets-long}
 use Rattle.solve_def.proofs.Theorem.{network-of}
 use Rattle.solve_arcs.specs.ArcNeeds.{Laying}
-use Rattle.routing.specs.Routes.{Routing}
-use Rattle.routing.proofs.Routes.{routes-none, routes-amounts}
+use Rattle.solve_forest.specs.Routes.{Routing}
+use Rattle.solve_forest.proofs.Routes.{routes-none, routes-amounts}
 use Rattle.solve_start.proofs.Factored.{labels-of, level-ready, level-routes, routed-start}
 use Rattle.solve_start.proofs.start.Statement.{statement}
 use Rattle.solve_start.proofs.start.Tie as tie

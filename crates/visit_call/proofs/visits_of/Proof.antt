@@ -1,9 +1,9 @@
 -- By what was found, in the order of the refusals.
 use denote.Ref.{now}
 use borrow.Author.Tests.{not-true, not-false}
-use Rattle.plants.specs.Within.{Accepted}
-use Rattle.plants.specs.Says.{plantOf}
-use Rattle.plants.proofs.Arrayed.{within-of}
+use Rattle.plant_def.specs.Within.{Accepted}
+use Rattle.plant_def.specs.Says.{plantOf}
+use Rattle.plant_def.proofs.Arrayed.{within-of}
 use Rattle.sheet_def.proofs.Promise.{plant-accepted}
 use Rattle.sheet_def.proofs.Opening.{right-found, right-overfull}
 use Rattle.visit_def.specs.Visits.{Feasible}

@@ -4,7 +4,7 @@ use mathlib.Core.Path.{_≡_, _∙_}
 use Prim.Native.Nat.{ℕ, suc, _%_, _≤_, _-_}
 use native.Mathlib.Omega.{arith}
 use lib.ListN.{length, length-set, length-replicate, getD-replicate}
-use Rattle.plants.specs.Limits.{places}
+use Rattle.plant_def.specs.Limits.{places}
 use Rattle.flow_def.proofs.Lists.{set-each}
 use Rattle.solve_def.specs.Sizes.{priceShift}
 use Rattle.solve_def.specs.SearchNeeds.{Prices}

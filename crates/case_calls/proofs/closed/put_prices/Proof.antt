@@ -3,7 +3,7 @@ use borrow.Author.Needs.{needs}
 use mathlib.Core.Path.{_≡_}
 use Prim.Native.Nat.{_≤_, _-_}
 use lib.ListN.{length}
-use Rattle.plants.specs.Limits.{places}
+use Rattle.plant_def.specs.Limits.{places}
 use Rattle.case_calls.proofs.closed.put_prices.Statement.{statement}
 use Rattle.case_calls.proofs.closed.put_prices.Tie as tie
 

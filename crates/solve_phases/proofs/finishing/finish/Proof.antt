@@ -5,7 +5,7 @@ use Prim.Native.Nat.{ℕ, _≤_, _<_}
 use native.Mathlib.Omega.{arith}
 use borrow.Author.Tests.{le-leb, lt-leb}
 use lib.ListN.{take}
-use Rattle.plants.specs.declared.Stream.{Stream}
+use Rattle.plant_def.specs.declared.Stream.{Stream}
 use Rattle.solve_def.specs.Sizes.{mostTried, halvings}
 use Rattle.solve_def.specs.declared.State.{State}
 use Rattle.solve_def.specs.Model.{phase, phases, finished, noHint, overSum}

@@ -12,7 +12,7 @@ use Rattle.solve_def.specs.Model.{phase, settled}
 use Rattle.solve_def.specs.SolverNeeds.{Underway}
 use Rattle.solve_def.proofs.Streams.{solvable-of}
 use Rattle.solve_def.proofs.PhaseTurns.{Staged, staged-start, staged-step, staged-ready, staged-underway, staged-next, staged-full, staged-last}
-use Rattle.settling.specs.Hints.{Hinting}
+use Rattle.solve_settle.specs.Hints.{Hinting}
 use Rattle.solve_arcs.specs.Cells.{marginCells}
 use Rattle.solve_arcs.specs.ArcNeeds.{Laying}
 use Rattle.solve_improve.specs.Improves.{Phasable}
