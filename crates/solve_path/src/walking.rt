@@ -1,4 +1,5 @@
 // The walk from a place: the nearest place is visited, again and again.
+use crate::relax;
 use plant_def::limits::PLACES;
 use solve_arcs::ARCS;
 use solve_arcs::MARGINS;

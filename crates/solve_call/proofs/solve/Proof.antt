@@ -37,7 +37,7 @@ solve-at-requires c κs =
     (begin f .pre .0, f .lay .ensures, s .start .ensures)
 
 returns : tie.Need-returns
-returns c = c .solve-at .ensures
+returns c = search needs
 
 pub solve-spec : {M : Type 1} → statement M
 solve-spec = tie.close (tie.spec cast-count cast-arcs lay-requires start-requires solve-at-requires returns)

@@ -53,7 +53,7 @@ solve-at-requires c κs =
     )
 
 returns : tie.Need-returns
-returns c = c .solve-at .ensures
+returns c = search needs
 
 pub solve-from-spec : {M : Type 1} → statement M
 solve-from-spec = tie.close (tie.spec cast-count cast-arcs lay-requires settle-requires solve-at-requires returns)
