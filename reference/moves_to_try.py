@@ -1,7 +1,10 @@
 """Plant files to move: each refusal and 20 after it, ranges next to the widest, mixed plants, the trip, sheets before and after."""
 
 from reference import files_to_try, moves
-from reference.parts import Case, Draws, Move, drawn_meters, end_record, metered, metered_record, plant_file, ranged, ranged_record, site_record, unmetered
+from reference.parts import (
+    Case, Draws, Move, drawn_meters, end_record, metered, metered_record,
+    plant_file, ranged, ranged_record, site_record, unmetered
+)
 from reference.solver import FILE_LENGTH, RANGE, READING as MOST, balance, read_plant
 
 FORTH, HOME = moves.widened, moves.bared

@@ -2,7 +2,7 @@
 # Counts what the groups take of a sheet call, by the number of streams, in instructions (callgrind): the labels by the unmetered
 # streams and those by all streams, beside the whole call.
 #
-#     bash host/bench/groups.sh [NAME=TREE...]   for each tree, a checkout of a version; this one, as 'now', unless told otherwise
+#     bash host/bench/groups.sh [NAME=TREE...]   for each tree, a checkout of a version with these crates; this one, as 'now', unless told otherwise
 #
 # Counts hardly change from run to run, whatever else the machine does. A copy of each tree gets a crate that calls the parts by
 # themselves (host/bench/probe, whose files are text here since no crate of the repository has them), and is proved where its target/
@@ -25,12 +25,9 @@ build() { # name, tree
         [ ! -e "$2/target/$part" ] || { mkdir -p "$copy/target" && cp -a "$2/target/$part" "$copy/target"; }
     done
     mkdir -p "$copy/crates/probe/src" "$copy/crates/probe/proofs/wengeludo_probe_groups"
-    # Earlier versions have the pass over all streams in the crate groups.
-    local below="groups flows plant_reader plants numbers" pass=groups
-    [ ! -d "$copy/crates/grouping" ] || { below="grouping $below" && pass=grouping; }
-    sed "s/grouping::/$pass::/" "$here/probe/lib.rt.txt" >"$copy/crates/probe/src/lib.rt"
+    cp "$here/probe/lib.rt.txt" "$copy/crates/probe/src/lib.rt"
     cp "$here/probe/Proof.antt.txt" "$copy/crates/probe/proofs/wengeludo_probe_groups/Proof.antt"
-    echo "probe: sheets model $below" >>"$copy/crates.txt"
+    echo "probe: sheet_def solve_def flow_components flow_def plant_read plant_def num_bytes" >>"$copy/crates.txt"
     (cd "$copy" && rt staticlib linked && rt staticlib probe) >"$copy/log" 2>&1 || { tail "$copy/log" >&2; exit 1; }
     "${CC:-cc}" -O2 -I "$here/../include" "$here/probe/count.c" "$copy"/target/staticlib/lib{linked,probe}.a -o "$copy/count"
 }

@@ -19,31 +19,31 @@ CRATES = ROOT / "crates"
 
 # What a call ensures -> the field of the theorem that says what follows.
 LED_ON = {
-    ("sheets", "Says", "SheetSays"): "Demands.sentences",
-    ("texts", "Says", "ListSays"): "Printed",
-    ("office_history", "Before", "PlainSays"): "History: what the call promised before there were offices",
+    ("sheet_def", "Says", "SheetSays"): "Demands.sentences",
+    ("listing_call", "Says", "ListSays"): "Printed",
+    ("sheet_history", "Before", "PlainSays"): "History: what the call promised before there were offices",
     ("visit_def", "Visits", "isListed"): "Meters-worth-a-visit.which",
 }
 
 # How files and sheets are read -> the theorem that says which are read, and as what: all but the number of a refusal.
 BY_WRITING = {
-    ("plants", "Files", "readPlant"): "Demands.round",
-    ("sheets", "Kept", "readSheet"): "Demands.reopening",
+    ("plant_def", "Files", "readPlant"): "Demands.round",
+    ("sheet_def", "Kept", "readSheet"): "Demands.reopening",
 }
 
 # What is read for what, each list going on from those above it: its title, the functions whose contracts it begins at, and the theorems.
 SUBJECTS = (
     ("sheets", {"linked": {"wengeludo_balance_plant", "wengeludo_write_plant", "wengeludo_read_sheet"}},
-     ("plants/Says/Longest-file", "plants/Says/File-refusals", "sheets/Demands/Demands")),
-    ("the offices' sheet numbers", {}, ("office_history/History/History",)),
-    ("the listing and the programs", {"texts": {"list_plant"}, "programs": {"plant_file"}}, ("texts/Says/One-text", "texts/Printed/Printed")),
-    ("the translator", {"linked": {"wengeludo_plant_from_transmitter"}}, ("transmitters/Says/Translated",)),
-    ("the two moves", {"linked": {"wengeludo_to_ranged", "wengeludo_from_ranged"}}, ("moves/Trip/Moving", "moved_sheets/Same/Moved-sheets")),
-    ("meters to buy", {"linked": {"wengeludo_meters_to_buy"}}, ("purchases/Says/Meters-to-buy",)),
-    ("layouts of meters", {"linked": {"wengeludo_layouts_of"}, "survey_texts": {"list_layouts"}}, ("surveys/Says/One-survey",)),
+     ("plant_def/Says/Longest-file", "plant_def/Says/File-refusals", "sheet_def/Demands/Demands")),
+    ("the offices' sheet numbers", {}, ("sheet_history/History/History",)),
+    ("the listing and the programs", {"listing_call": {"list_plant"}, "programs": {"plant_file"}}, ("listing_call/Says/One-text", "listing_call/Printed/Printed")),
+    ("the translator", {"linked": {"wengeludo_plant_from_transmitter"}}, ("transmitter_def/Says/Translated",)),
+    ("the two moves", {"linked": {"wengeludo_to_ranged", "wengeludo_from_ranged"}}, ("ranged_def/Trip/Moving", "ranged_same_sheet/Same/Moved-sheets")),
+    ("meters to buy", {"linked": {"wengeludo_meters_to_buy"}}, ("purchase_def/Says/Meters-to-buy",)),
+    ("layouts of meters", {"linked": {"wengeludo_layouts_of"}, "survey_answers": {"list_layouts"}}, ("survey_def/Says/One-survey",)),
     ("meters worth a visit", {"linked": {"wengeludo_visits"}, "visit_text": {"list_visits"}},
-     ("visit_def/Says/Meters-worth-a-visit", "visit_parts/Lent/One-hand-over")),
-    ("steam charges", {"linked": {"wengeludo_charges"}}, ("charge_def/Says/Steam-charges", "charge_parts/Lent/One-hand-over")),
+     ("visit_def/Says/Meters-worth-a-visit", "visit_call/Lent/One-hand-over")),
+    ("steam charges", {"linked": {"wengeludo_charges"}}, ("charge_def/Says/Steam-charges", "charge_call/Lent/One-hand-over")),
     ("sheets drawn up elsewhere", {"linked": {"wengeludo_check_sheet", "wengeludo_place_numbers"}},
      ("foreign_def/Says/Foreign-sheets", "foreign_def/Numbers/Own-numbers")),
     ("bounds, and the record of all promises", {"linked": None}, ("promises/Promises/Promises",)),

@@ -14,8 +14,8 @@ import sys
 
 ROOT = os.path.abspath(os.path.join(os.path.dirname(__file__), '..', '..'))
 PICTURE = os.path.join(ROOT, 'docs', 'sheet.svg')
-sys.path.insert(0, os.path.join(ROOT, 'reference'))
-import samples  # noqa: E402
+sys.path.insert(0, ROOT)
+from reference import samples  # noqa: E402
 
 SAMPLE = samples.BLIND_SITE
 # Colour, line and words of each class; the line alone tells them apart too.

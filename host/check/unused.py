@@ -64,7 +64,8 @@ def unused_functions(path, text, said):
 def unused(files):
     bodies = {path: re.sub(r'--.*|//.*', '', text) for path, text in files.items()}
     count = Counter(word for body in bodies.values() for word in WORD.findall(body))
-    said = Counter(word for path, text in files.items() if path.endswith('.rt') for word in re.findall(r'\b\w+\b', re.sub(r'//.*', '', text)))
+    code = [re.sub(r'//.*', '', text) for path, text in files.items() if path.endswith('.rt')]
+    said = Counter(word for text in code for word in re.findall(r'\b\w+\b', text))
     for path, text in files.items():
         if path.endswith('.rt'):
             unused_functions(path, text, said)

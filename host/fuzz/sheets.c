@@ -25,8 +25,9 @@ static uint32_t last_before(struct caller c, size_t k, int round)
 /* What a call returned, counted and marked fits its fault, and the sheet shows its office and number. */
 static void outcome_fits(struct outcome o, struct caller c, uint8_t fault, const uint8_t *slice)
 {
-    if (fault != 0 ? o.returned != fault
-                   : o.returned == 1 || o.returned == 2 || (o.returned > 12 && o.returned != WENGELUDO_RANGE && o.returned != WENGELUDO_NO_FLOW))
+    int of_the_file = o.returned == 0 || (o.returned >= 3 && o.returned <= 12) || o.returned == WENGELUDO_RANGE
+                      || o.returned == WENGELUDO_NO_FLOW;
+    if (fault != 0 ? o.returned != fault : !of_the_file)
         fail("a number that is no refusal, or another one");
     if (o.returned != WENGELUDO_NO_FLOW && o.marked != 0)
         fail("a call that marks places");

@@ -17,13 +17,13 @@ import time
 from pathlib import Path
 
 ROOT = Path(__file__).resolve().parent.parent.parent
-sys.path.insert(0, str(ROOT / "reference"))
+sys.path.insert(0, str(ROOT))
 
-import parts  # noqa: E402
-import samples  # noqa: E402
-import solver  # noqa: E402
-import survey  # noqa: E402
-import visits  # noqa: E402
+from reference import parts  # noqa: E402
+from reference import samples  # noqa: E402
+from reference import solver  # noqa: E402
+from reference import survey  # noqa: E402
+from reference import visits  # noqa: E402
 
 PROGRAMS = {"balance": solver.listing, "layouts": survey.text, "visits": visits.text}
 LONGEST = 1_636

@@ -1,6 +1,6 @@
 // The listing of a plant: the plant file from standard input, its listing to standard output. What goes wrong in reading or
 // writing is said on standard error, in one line.
-use texts::LEAST_TEXT;
+use listing_call::LEAST_TEXT;
 
 fn main() {
     let fed = programs::plant_file(b"balance");
@@ -8,7 +8,7 @@ fn main() {
         let file = fed.file;
         let size = fed.size;
         let mut text = [0u8; LEAST_TEXT];
-        let end = texts::list_plant(&file[..size], &mut text);
+        let end = listing_call::list_plant(&file[..size], &mut text);
         programs::put_text(b"balance", &text[..end]);
     }
 }

@@ -9,43 +9,43 @@ use lib.Dec.{eqb, leb, ltb}
 use lib.ListN.{length, getD, take}
 use lib.Seq.{ext-getD, getD-take, length-take-le}
 use borrow.Author.Tests.{eq-eqb, ne-eqb, ltb-true, ltb-false, leb-true}
-use Rattle.numbers.specs.Choice.{pick}
-use Rattle.numbers.proofs.Tests.{by-cases, and-right}
-use Rattle.numbers.proofs.Filled.{length-filled, take-filled}
-use Rattle.plants.specs.declared.Plant as Arrays
-use Rattle.plants.specs.declared.Read.{Read}
-use Rattle.plants.specs.Limits.{maxStreams, places}
-use Rattle.plants.specs.Plants.{Plant}
-use Rattle.plants.specs.Within.{Accepted}
-use Rattle.plants.specs.Files.{readPlant}
-use Rattle.plants.specs.Says as Plants
-use Rattle.plants.specs.Says.{plantOf}
-use Rattle.plants.proofs.Arrayed.{all-listed, read-held}
-use Rattle.flows.specs.declared.Class.{Class}
-use Rattle.flows.specs.declared.Class.the-variants.{Adjusted}
-use Rattle.flows.specs.Flows.{streamAt, amountAt, cost}
-use Rattle.flows.specs.Labels.{labelsOf}
-use Rattle.flows.specs.Classes.{classOf, degrees}
-use Rattle.flows.specs.Calls.{classesOf}
-use Rattle.flows.specs.Shown.{adjusted}
-use Rattle.flows.specs.Test.{verdictAt}
-use Rattle.flows.proofs.Certified.{every-at}
-use Rattle.flows.proofs.ByLabels.{class-past}
-use Rattle.flows.proofs.Lists.{values-long, values-at}
-use Rattle.flows.proofs.Sums.{sum-same}
-use Rattle.model.specs.Sizes.{flowShift}
-use Rattle.sheets.specs.declared.Entry.{Entry}
-use Rattle.sheets.specs.declared.Total.{Total}
-use Rattle.sheets.specs.declared.SheetRead.{SheetRead}
-use Rattle.sheets.specs.Apart.{topCost, capped}
-use Rattle.sheets.specs.Calls.{AllSmall}
-use Rattle.sheets.specs.Sheets.{SheetParts, kindOf}
-use Rattle.sheets.specs.Kept.{Reopened, noSheet, someSheet, readSheet, readOf, blank}
-use Rattle.sheets.specs.Sentences.{classOn}
-use Rattle.sheets.proofs.Promise.{read-bad, found}
-use Rattle.sheets.proofs.Back.{few-read}
-use Rattle.sheets.proofs.Demands.{demands}
-use Rattle.reckoning.proofs.Verdicts.{capped-verdict}
+use Rattle.num_bytes.specs.Choice.{pick}
+use Rattle.num_bytes.proofs.Tests.{by-cases, and-right}
+use Rattle.num_bytes.proofs.Filled.{length-filled, take-filled}
+use Rattle.plant_def.specs.declared.Plant as Arrays
+use Rattle.plant_def.specs.declared.Read.{Read}
+use Rattle.plant_def.specs.Limits.{maxStreams, places}
+use Rattle.plant_def.specs.Plants.{Plant}
+use Rattle.plant_def.specs.Within.{Accepted}
+use Rattle.plant_def.specs.Files.{readPlant}
+use Rattle.plant_def.specs.Says as Plants
+use Rattle.plant_def.specs.Says.{plantOf}
+use Rattle.plant_def.proofs.Arrayed.{all-listed, read-held}
+use Rattle.flow_def.specs.declared.Class.{Class}
+use Rattle.flow_def.specs.declared.Class.the-variants.{Adjusted}
+use Rattle.flow_def.specs.Flows.{streamAt, amountAt, cost}
+use Rattle.flow_def.specs.Labels.{labelsOf}
+use Rattle.flow_def.specs.Classes.{classOf, degrees}
+use Rattle.flow_def.specs.Calls.{classesOf}
+use Rattle.flow_def.specs.Shown.{adjusted}
+use Rattle.flow_def.specs.Test.{verdictAt}
+use Rattle.flow_def.proofs.Certified.{every-at}
+use Rattle.flow_def.proofs.ByLabels.{class-past}
+use Rattle.flow_def.proofs.Lists.{values-long, values-at}
+use Rattle.flow_def.proofs.Sums.{sum-same}
+use Rattle.solve_def.specs.Sizes.{flowShift}
+use Rattle.sheet_def.specs.declared.Entry.{Entry}
+use Rattle.sheet_def.specs.declared.Total.{Total}
+use Rattle.sheet_def.specs.declared.SheetRead.{SheetRead}
+use Rattle.sheet_def.specs.Apart.{topCost, capped}
+use Rattle.sheet_def.specs.Calls.{AllSmall}
+use Rattle.sheet_def.specs.Sheets.{SheetParts, kindOf}
+use Rattle.sheet_def.specs.Kept.{Reopened, noSheet, someSheet, readSheet, readOf, blank}
+use Rattle.sheet_def.specs.Sentences.{classOn}
+use Rattle.sheet_def.proofs.Promise.{read-bad, found}
+use Rattle.sheet_def.proofs.Back.{few-read}
+use Rattle.sheet_def.proofs.Demands.{demands}
+use Rattle.sheet_entries.proofs.Verdicts.{capped-verdict}
 use Rattle.foreign_def.specs.Passing.{difference, known}
 use Rattle.foreign_def.specs.Says.{CheckSays}
 use Rattle.foreign_def.specs.Test.{withheldOnly, shownAt, shownFlows, noEntry, flowsShown, numbersFit, recordsFit, flowFits, flowsFit, broughtBy, netsFit, totalFits, partsIn, passes, checkWith}

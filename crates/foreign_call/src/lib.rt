@@ -1,27 +1,27 @@
 // The check of a plant, a sheet drawn up elsewhere and one number for each place.
-use costs::cost_of;
-use cuts::cuts_of;
-use entries::classes_of;
-use flows::Class;
+use flow_bridges::cuts_of;
+use flow_def::Class;
 use foreign_flows::flows_fit;
 use foreign_flows::numbers_fit;
 use foreign_flows::records_fit;
 use foreign_flows::shown_flows;
 use foreign_sets::nets_fit;
-use plants::Plant;
-use plants::limits::MAX_STREAMS;
-use plants::limits::PLACES;
-use sheets::SheetRead;
-use sheets::Total;
+use plant_def::Plant;
+use plant_def::limits::MAX_STREAMS;
+use plant_def::limits::PLACES;
+use sheet_cost::cost_of;
+use sheet_def::SheetRead;
+use sheet_def::Total;
+use sheet_entries::classes_of;
 ghost use mathlib.Core.Path.{_≡_};
 ghost use Prim.Native.Nat.{_≤_};
 ghost use lib.ListN.{length, take};
-ghost use Rattle.plants.specs.Limits.{maxStreams};
-ghost use Rattle.plants.specs.Within.{Accepted};
-ghost use Rattle.plants.specs.Says.{plantOf};
-ghost use Rattle.flows.specs.Flows.{cost};
-ghost use Rattle.flows.specs.Calls.{Grouped, classesOf};
-ghost use Rattle.sheets.specs.Calls.{AllSmall};
+ghost use Rattle.plant_def.specs.Limits.{maxStreams};
+ghost use Rattle.plant_def.specs.Within.{Accepted};
+ghost use Rattle.plant_def.specs.Says.{plantOf};
+ghost use Rattle.flow_def.specs.Flows.{cost};
+ghost use Rattle.flow_def.specs.Calls.{Grouped, classesOf};
+ghost use Rattle.sheet_def.specs.Calls.{AllSmall};
 ghost use Rattle.foreign_def.specs.Test.{totalFits, partsIn, passes};
 ghost use Rattle.foreign_def.specs.Says.{CheckSays};
 
@@ -36,7 +36,7 @@ fn total_fits(
     requires { ⌜ Accepted p × Grouped p labels × (classes ≡ classesOf (plantOf p)) × AllSmall flows ⌝ }
     ensures { λ r. ⌜ r ≡ totalFits (plantOf p) (cost (plantOf p .streams) (take (p .count) flows)) total ⌝ }
 {
-    let degrees = classes::degrees_of(p, labels);
+    let degrees = flow_classes::degrees_of(p, labels);
     if total.degrees != degrees {
         return false;
     }
@@ -44,8 +44,8 @@ fn total_fits(
     if total.cost != cost {
         return false;
     }
-    let weights = verdicts::adjusted_weights(p, classes);
-    let verdict = verdicts::verdict(degrees, cost, weights);
+    let weights = flow_test::adjusted_weights(p, classes);
+    let verdict = flow_test::verdict(degrees, cost, weights);
     total.verdict == verdict
 }
 
@@ -82,12 +82,12 @@ fn rules_hold(p: Plant, kept: SheetRead, numbers: &[i64]) -> bool
 pub fn check_sheet(plant: &[u8], sheet: &[u8], numbers: &[i64]) -> u8
     ensures { λ r. ⌜ CheckSays (now (plant .entry)) (now (sheet .entry)) (now (numbers .entry)) r ⌝ }
 {
-    let read = plant_reader::read_plant(plant);
+    let read = plant_read::read_plant(plant);
     let number = read.number;
     if number != 0 {
         return number;
     }
-    let kept = sheet_reader::read_sheet(sheet);
+    let kept = sheet_read::read_sheet(sheet);
     let refused = kept.number;
     if refused != 0 {
         return refused;

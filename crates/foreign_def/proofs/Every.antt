@@ -6,8 +6,8 @@ use Prim.Native.Nat.{ℕ, zero, suc, _<_}
 use native.Mathlib.Omega.{arith}
 use native.Mathlib.Decide.{ℕ-discrete}
 use lib.ListN.{getD, replicate}
-use Rattle.numbers.proofs.Tests.{and-both}
-use Rattle.flows.specs.Certificate.{every}
+use Rattle.num_bytes.proofs.Tests.{and-both}
+use Rattle.flow_def.specs.Certificate.{every}
 
 pub every-all : (n : ℕ) (test : ℕ → Bool) → ((k : ℕ) → k < n → test k ≡ true) → every n test ≡ true
 every-all zero test h = refl

@@ -3,10 +3,10 @@ use mathlib.Core.Path.{_≡_, refl}
 use mathlib.Core.List.{List, [], _∷_, _++_}
 use lib.IntN.{ℤ, pos, negsuc}
 use Prim.Native.Nat.{ℕ}
-use Rattle.plants.specs.Files.{readPlant}
-use Rattle.flows.specs.Labels.{labelsAfter}
-use Rattle.sheets.specs.Kept.{readSheet}
-use Rattle.sheets.specs.Table.{site, meter, within, pipe, end, shown, total}
+use Rattle.plant_def.specs.Files.{readPlant}
+use Rattle.flow_def.specs.Labels.{labelsAfter}
+use Rattle.sheet_def.specs.Kept.{readSheet}
+use Rattle.sheet_def.specs.Table.{site, meter, within, pipe, end, shown, total}
 use Rattle.foreign_def.specs.Test.{netsFit, passes, checkWith}
 
 abbrev check : List ℕ → List ℕ → List ℤ → ℕ

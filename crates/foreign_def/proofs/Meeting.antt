@@ -9,24 +9,24 @@ use Prim.Native.Nat.{ℕ, zero, suc, _+_, _*_, _≤_, _<_}
 use native.Mathlib.Nat.{mul-le-mul-right}
 use native.Mathlib.Omega.{arith}
 use lib.ListN.{length}
-use Rattle.numbers.specs.Choice.{pick}
-use Rattle.numbers.proofs.Tests.{by-cases}
-use Rattle.plants.specs.declared.Stream.{Stream}
-use Rattle.plants.specs.Limits.{maxStreams, maxRange}
-use Rattle.plants.specs.Plants.{Plant}
-use Rattle.plants.specs.Within.{Within}
-use Rattle.flows.specs.declared.Class.{Class}
-use Rattle.flows.specs.declared.Class.the-variants.{Adjusted, AsRead, Given, Withheld}
-use Rattle.flows.specs.Flows.{streamAt, amountAt, balanced, inRange, allowed, cost, OfLeastCost}
-use Rattle.flows.specs.Classes.{has, joinedTo, unmeteredBut, classOf, sideOut}
-use Rattle.flows.proofs.Integers.{up, dn, plus-val, up-neg, dn-neg, size-val, parts, minus-none}
-use Rattle.flows.proofs.Sums.{sum-same}
-use Rattle.flows.proofs.Nets.{countOf, streamOf, netOf, inside, listed, listed-size, listed-at, balanced-nets}
-use Rattle.flows.proofs.Given.{class-means, number-is}
-use Rattle.flows.proofs.Ranges.{allowed-of, range-of, balanced-of}
-use Rattle.flows.proofs.Prices.{StepAt, Steps, Certificate, share, cost-one, least}
-use Rattle.model.proofs.Overs.{over, overTo}
-use Rattle.model.proofs.Tall.{tall}
+use Rattle.num_bytes.specs.Choice.{pick}
+use Rattle.num_bytes.proofs.Tests.{by-cases}
+use Rattle.plant_def.specs.declared.Stream.{Stream}
+use Rattle.plant_def.specs.Limits.{maxStreams, maxRange}
+use Rattle.plant_def.specs.Plants.{Plant}
+use Rattle.plant_def.specs.Within.{Within}
+use Rattle.flow_def.specs.declared.Class.{Class}
+use Rattle.flow_def.specs.declared.Class.the-variants.{Adjusted, AsRead, Given, Withheld}
+use Rattle.flow_def.specs.Flows.{streamAt, amountAt, balanced, inRange, allowed, cost, OfLeastCost}
+use Rattle.flow_def.specs.Classes.{has, joinedTo, unmeteredBut, classOf, sideOut}
+use Rattle.flow_def.proofs.Integers.{up, dn, plus-val, up-neg, dn-neg, size-val, parts, minus-none}
+use Rattle.flow_def.proofs.Sums.{sum-same}
+use Rattle.flow_def.proofs.Nets.{countOf, streamOf, netOf, inside, listed, listed-size, listed-at, balanced-nets}
+use Rattle.flow_def.proofs.Given.{class-means, number-is}
+use Rattle.flow_def.proofs.Ranges.{allowed-of, range-of, balanced-of}
+use Rattle.flow_def.proofs.Prices.{StepAt, Steps, Certificate, share, cost-one, least}
+use Rattle.solve_def.proofs.Overs.{over, overTo}
+use Rattle.solve_def.proofs.Tall.{tall}
 use Rattle.foreign_def.specs.Passing.{known}
 use Rattle.foreign_def.specs.Test.{withheldOnly}
 use Rattle.foreign_def.proofs.Filling.{Closed, fill}

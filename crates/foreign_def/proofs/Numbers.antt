@@ -7,19 +7,19 @@ use lib.IntN.{ℤ, pos, _-ℤ_, natAbs}
 use Prim.Native.Nat.{ℕ, _+_, _≤_, _<_}
 use native.Mathlib.Omega.{arith}
 use lib.ListN.{getD}
-use Rattle.numbers.proofs.Tests.{by-cases}
-use Rattle.plants.specs.declared.Plant as Arrays
-use Rattle.plants.specs.Plants.{Plant}
-use Rattle.plants.specs.Says.{plantOf}
-use Rattle.plants.specs.Within.{Within, Accepted}
-use Rattle.flows.specs.Flows.{amountAt, OfLeastCost}
-use Rattle.flows.specs.Certificate.{weightOf, climb, rises, falls}
-use Rattle.flows.proofs.Integers.{same, val, minus-val, size-val, parts}
-use Rattle.flows.proofs.Nets.{countOf, streamOf}
-use Rattle.flows.proofs.Prices.{StepAt, Certificate, ties}
-use Rattle.model.specs.Sizes.{priceShift}
-use Rattle.model.specs.declared.Solved.{Solved}
-use Rattle.model.specs.Promise.{price, priceAt, flowOf, Solution}
+use Rattle.num_bytes.proofs.Tests.{by-cases}
+use Rattle.plant_def.specs.declared.Plant as Arrays
+use Rattle.plant_def.specs.Plants.{Plant}
+use Rattle.plant_def.specs.Says.{plantOf}
+use Rattle.plant_def.specs.Within.{Within, Accepted}
+use Rattle.flow_def.specs.Flows.{amountAt, OfLeastCost}
+use Rattle.flow_def.specs.Certificate.{weightOf, climb, rises, falls}
+use Rattle.flow_def.proofs.Integers.{same, val, minus-val, size-val, parts}
+use Rattle.flow_def.proofs.Nets.{countOf, streamOf}
+use Rattle.flow_def.proofs.Prices.{StepAt, Certificate, ties}
+use Rattle.solve_def.specs.Sizes.{priceShift}
+use Rattle.solve_def.specs.declared.Solved.{Solved}
+use Rattle.solve_def.specs.Promise.{price, priceAt, flowOf, Solution}
 use Rattle.foreign_def.specs.Passing.{numberLimit}
 use Rattle.foreign_def.specs.Test.{priceFrom}
 use Rattle.foreign_def.proofs.Stepping.{step-level, level-step, step-alike, tied-step, priced-says}

@@ -7,36 +7,36 @@ use Prim.Native.Nat.{ℕ, suc, _≤_, _<_}
 use native.Mathlib.Nat.{le-antisymm}
 use native.Mathlib.Omega.{arith}
 use lib.ListN.{length}
-use Rattle.numbers.specs.Inner.{values}
-use Rattle.numbers.proofs.Tests.{by-cases, same-test}
-use Rattle.plants.specs.Plants.{Plant}
-use Rattle.plants.specs.Within.{Within}
-use Rattle.flows.specs.declared.Class.{Class}
-use Rattle.flows.specs.declared.Class.the-variants.{Adjusted, AsRead, Given, Withheld}
-use Rattle.flows.specs.Flows.{amountAt, inRange, cost, OfLeastCost, Cheapest}
-use Rattle.flows.specs.Chains.{Chain}
-use Rattle.flows.specs.Classes.{has, joinedTo, classOf, degrees}
-use Rattle.flows.specs.Test.{verdictAt}
-use Rattle.flows.specs.Shown.{adjusted}
-use Rattle.flows.specs.Certificate.{climb}
-use Rattle.flows.proofs.Integers.{minus-none, none-minus}
-use Rattle.flows.proofs.Lists.{values-long, values-at}
-use Rattle.flows.proofs.Sums.{sum-same}
-use Rattle.flows.proofs.Nets.{countOf, streamOf, inside, crossing, crossing-level, no-crossing}
-use Rattle.flows.proofs.Reach.{chain-map, joined→chain, chain→joined}
-use Rattle.flows.proofs.Given.{class-means}
-use Rattle.flows.proofs.Withheld.{number-of, blank-of}
-use Rattle.flows.proofs.Chained.{as-read-of, adjusted-of}
-use Rattle.flows.proofs.Counted.{degrees-counted}
-use Rattle.flows.proofs.Decided.{decided-shown}
-use Rattle.flows.proofs.Ranges.{balanced-of, range-of}
-use Rattle.flows.proofs.Prices.{StepAt, Certificate}
-use Rattle.model.proofs.Theorem.{decided}
-use Rattle.sheets.specs.Apart.{totalKind, capped}
-use Rattle.sheets.specs.Sheets.{SheetParts}
-use Rattle.sheets.specs.Drawings.{plantParts}
-use Rattle.sheets.specs.Sentences.{classOn, numberOn, Tells}
-use Rattle.sheets.proofs.Telling.{told, weights-told, tells}
+use Rattle.num_bytes.specs.Inner.{values}
+use Rattle.num_bytes.proofs.Tests.{by-cases, same-test}
+use Rattle.plant_def.specs.Plants.{Plant}
+use Rattle.plant_def.specs.Within.{Within}
+use Rattle.flow_def.specs.declared.Class.{Class}
+use Rattle.flow_def.specs.declared.Class.the-variants.{Adjusted, AsRead, Given, Withheld}
+use Rattle.flow_def.specs.Flows.{amountAt, inRange, cost, OfLeastCost, Cheapest}
+use Rattle.flow_def.specs.Chains.{Chain}
+use Rattle.flow_def.specs.Classes.{has, joinedTo, classOf, degrees}
+use Rattle.flow_def.specs.Test.{verdictAt}
+use Rattle.flow_def.specs.Shown.{adjusted}
+use Rattle.flow_def.specs.Certificate.{climb}
+use Rattle.flow_def.proofs.Integers.{minus-none, none-minus}
+use Rattle.flow_def.proofs.Lists.{values-long, values-at}
+use Rattle.flow_def.proofs.Sums.{sum-same}
+use Rattle.flow_def.proofs.Nets.{countOf, streamOf, inside, crossing, crossing-level, no-crossing}
+use Rattle.flow_def.proofs.Reach.{chain-map, joined→chain, chain→joined}
+use Rattle.flow_def.proofs.Given.{class-means}
+use Rattle.flow_def.proofs.Withheld.{number-of, blank-of}
+use Rattle.flow_def.proofs.Chained.{as-read-of, adjusted-of}
+use Rattle.flow_def.proofs.Counted.{degrees-counted}
+use Rattle.flow_def.proofs.Decided.{decided-shown}
+use Rattle.flow_def.proofs.Ranges.{balanced-of, range-of}
+use Rattle.flow_def.proofs.Prices.{StepAt, Certificate}
+use Rattle.solve_def.proofs.Theorem.{decided}
+use Rattle.sheet_def.specs.Apart.{totalKind, capped}
+use Rattle.sheet_def.specs.Sheets.{SheetParts}
+use Rattle.sheet_def.specs.Drawings.{plantParts}
+use Rattle.sheet_def.specs.Sentences.{classOn, numberOn, Tells}
+use Rattle.sheet_def.proofs.Telling.{told, weights-told, tells}
 use Rattle.foreign_def.specs.Passing.{numberLimit, placeNumber, Ours, known, withheldOn, JoinedByW, sumIn, sumOut, Passes}
 use Rattle.foreign_def.specs.Says.{ShowsFlow, OtherFlow}
 use Rattle.foreign_def.specs.Numbers.{Serve}

@@ -9,25 +9,25 @@ use Prim.Native.Nat.{ℕ}
 use native.Mathlib.Omega.{arith}
 use borrow.Author.Tests.{eq-eqb}
 use lib.ListN.{take}
-use Rattle.numbers.specs.Choice.{pick}
-use Rattle.numbers.specs.Inner.{pickT}
-use Rattle.numbers.proofs.Tests.{by-cases, clash}
-use Rattle.plants.specs.Plants.{Plant}
-use Rattle.plants.specs.Files.{Got, bad, got, readPlant}
-use Rattle.plants.specs.Within.{Within}
-use Rattle.plants.proofs.Limited.{within}
-use Rattle.plants.proofs.Accepted.{accepted, refused}
-use Rattle.flows.specs.Flows.{allowed, Cheapest}
-use Rattle.flows.specs.Classes.{has, joinedTo}
-use Rattle.flows.proofs.Reach.{joined-self}
-use Rattle.sheets.specs.declared.Sheet.{Sheet}
-use Rattle.sheets.specs.Counters.{nextOf}
-use Rattle.sheets.specs.Sheets.{SheetParts}
-use Rattle.sheets.specs.Drawings.{plantParts}
-use Rattle.sheets.specs.Sentences.{callFault, Refused, Overfilled}
-use Rattle.sheets.specs.Says.{Drawn, SheetWith, SheetSays}
-use Rattle.sheets.specs.Kept.{Reopened, noSheet, someSheet, readSheet}
-use Rattle.sheets.proofs.Demands.{demands, drawn-kept}
+use Rattle.num_bytes.specs.Choice.{pick}
+use Rattle.num_bytes.specs.Inner.{pickT}
+use Rattle.num_bytes.proofs.Tests.{by-cases, clash}
+use Rattle.plant_def.specs.Plants.{Plant}
+use Rattle.plant_def.specs.Files.{Got, bad, got, readPlant}
+use Rattle.plant_def.specs.Within.{Within}
+use Rattle.plant_def.proofs.Limited.{within}
+use Rattle.plant_def.proofs.Accepted.{accepted, refused}
+use Rattle.flow_def.specs.Flows.{allowed, Cheapest}
+use Rattle.flow_def.specs.Classes.{has, joinedTo}
+use Rattle.flow_def.proofs.Reach.{joined-self}
+use Rattle.sheet_def.specs.declared.Sheet.{Sheet}
+use Rattle.sheet_def.specs.Counters.{nextOf}
+use Rattle.sheet_def.specs.Sheets.{SheetParts}
+use Rattle.sheet_def.specs.Drawings.{plantParts}
+use Rattle.sheet_def.specs.Sentences.{callFault, Refused, Overfilled}
+use Rattle.sheet_def.specs.Says.{Drawn, SheetWith, SheetSays}
+use Rattle.sheet_def.specs.Kept.{Reopened, noSheet, someSheet, readSheet}
+use Rattle.sheet_def.proofs.Demands.{demands, drawn-kept}
 use Rattle.foreign_def.specs.declared.PlaceNumbers.{PlaceNumbers}
 use Rattle.foreign_def.specs.Passing.{withheldOn, Passes}
 use Rattle.foreign_def.specs.Says.{CheckOf, CheckWith, CheckSays, Vouched, PassAll, Foreign-sheets}

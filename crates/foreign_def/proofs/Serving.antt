@@ -10,25 +10,25 @@ use borrow.Author.Tests.{le-leb, lt-leb, ltb-true, ltb-false}
 use lib.Dec.{leb, ltb}
 use lib.ListN.{length, getD, take, List·getD-eq-default}
 use lib.Seq.{ext-getD, getD-take, length-take-le}
-use Rattle.numbers.specs.Choice.{pick}
-use Rattle.numbers.specs.Inner.{values}
-use Rattle.numbers.proofs.Tests.{by-cases, clash}
-use Rattle.plants.specs.declared.Plant as Arrays
-use Rattle.plants.specs.Limits.{places}
-use Rattle.plants.specs.Plants.{Plant}
-use Rattle.plants.specs.Within.{Within, Accepted}
-use Rattle.plants.specs.Says.{arrayed, plantOf}
-use Rattle.plants.proofs.Arrayed.{within-of, array-accepted}
-use Rattle.plants.proofs.Held.{plant-held}
-use Rattle.flows.specs.Flows.{allowed}
-use Rattle.flows.specs.Overfull.{Overfull}
-use Rattle.flows.proofs.Lists.{values-long, values-at}
-use Rattle.flows.proofs.Overfull.{overfull-none}
-use Rattle.model.specs.declared.Solved.{Solved}
-use Rattle.model.specs.Model.{noHint, settled, solvedFrom}
-use Rattle.model.specs.Promise.{flowOf, Solution, Right}
-use Rattle.model.proofs.Theorem.{from-none, solved-right}
-use Rattle.sheets.proofs.Opening.{right-found, right-overfull}
+use Rattle.num_bytes.specs.Choice.{pick}
+use Rattle.num_bytes.specs.Inner.{values}
+use Rattle.num_bytes.proofs.Tests.{by-cases, clash}
+use Rattle.plant_def.specs.declared.Plant as Arrays
+use Rattle.plant_def.specs.Limits.{places}
+use Rattle.plant_def.specs.Plants.{Plant}
+use Rattle.plant_def.specs.Within.{Within, Accepted}
+use Rattle.plant_def.specs.Says.{arrayed, plantOf}
+use Rattle.plant_def.proofs.Arrayed.{within-of, array-accepted}
+use Rattle.plant_def.proofs.Held.{plant-held}
+use Rattle.flow_def.specs.Flows.{allowed}
+use Rattle.flow_def.specs.Overfull.{Overfull}
+use Rattle.flow_def.proofs.Lists.{values-long, values-at}
+use Rattle.flow_def.proofs.Overfull.{overfull-none}
+use Rattle.solve_def.specs.declared.Solved.{Solved}
+use Rattle.solve_def.specs.Model.{noHint, settled, solvedFrom}
+use Rattle.solve_def.specs.Promise.{flowOf, Solution, Right}
+use Rattle.solve_def.proofs.Theorem.{from-none, solved-right}
+use Rattle.sheet_def.proofs.Opening.{right-found, right-overfull}
 use Rattle.foreign_def.specs.declared.PlaceNumbers.{PlaceNumbers}
 use Rattle.foreign_def.specs.Passing.{placeNumber}
 use Rattle.foreign_def.specs.Numbers.{noNumbers, numbersIn, Serve, Numbered, NumbersOf}

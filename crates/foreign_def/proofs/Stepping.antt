@@ -7,18 +7,18 @@ use lib.Signed.{leZ}
 use Prim.Native.Nat.{ℕ, suc, _+_, _*_, _≤_, _<_}
 use native.Mathlib.Nat.{mul-le-mul-left}
 use native.Mathlib.Omega.{arith}
-use Rattle.numbers.proofs.Tests.{by-cases, and-left, and-right, and-both}
-use Rattle.plants.specs.declared.Stream.{Stream}
-use Rattle.plants.specs.Limits.{maxRange}
-use Rattle.plants.specs.Plants.{limited}
-use Rattle.plants.specs.Within.{WithinStream}
-use Rattle.flows.specs.Flows.{inRange}
-use Rattle.flows.specs.Certificate.{weightOf, climb, lower, upper, leastClimb, mostClimb, rises, falls, priced}
-use Rattle.flows.proofs.Integers.{up, dn, Le, Lt, val, canon, Z·diff, minus-val, size-val, leZ-le, le-leZ, ltZ-lt}
-use Rattle.flows.proofs.Ranges.{asked, answered, whole-says, at-low, at-high, unmetered-moves}
-use Rattle.flows.proofs.Steps.{Step, Tied, level, above, below, free}
-use Rattle.flows.proofs.Prices.{StepAt}
-use Rattle.model.proofs.Tall.{Slopes}
+use Rattle.num_bytes.proofs.Tests.{by-cases, and-left, and-right, and-both}
+use Rattle.plant_def.specs.declared.Stream.{Stream}
+use Rattle.plant_def.specs.Limits.{maxRange}
+use Rattle.plant_def.specs.Plants.{limited}
+use Rattle.plant_def.specs.Within.{WithinStream}
+use Rattle.flow_def.specs.Flows.{inRange}
+use Rattle.flow_def.specs.Certificate.{weightOf, climb, lower, upper, leastClimb, mostClimb, rises, falls, priced}
+use Rattle.flow_def.proofs.Integers.{up, dn, Le, Lt, val, canon, Z·diff, minus-val, size-val, leZ-le, le-leZ, ltZ-lt}
+use Rattle.flow_def.proofs.Ranges.{asked, answered, whole-says, at-low, at-high, unmetered-moves}
+use Rattle.flow_def.proofs.Steps.{Step, Tied, level, above, below, free}
+use Rattle.flow_def.proofs.Prices.{StepAt}
+use Rattle.solve_def.proofs.Tall.{Slopes}
 use Rattle.foreign_def.specs.Passing.{bottom, top, AtHigh, AtLow}
 
 -- The bounds over naturals.

@@ -6,17 +6,17 @@ use lib.IntN.{ℤ, pos, negℤ, _+ℤ_, _-ℤ_, +ℤ-idl, +ℤ-idr, +ℤ-invr, n
 use Prim.Native.Nat.{ℕ, zero, suc, _<_}
 use native.Mathlib.Omega.{arith}
 use lib.ListN.{length, getD}
-use Rattle.numbers.specs.Choice.{pick}
-use Rattle.plants.specs.declared.Stream.{Stream}
-use Rattle.plants.specs.Plants.{Plant}
-use Rattle.flows.specs.Flows.{streamAt}
-use Rattle.flows.specs.Classes.{classOf}
-use Rattle.flows.proofs.Sums.{sum, sum-same, sum-plus, sum-front}
-use Rattle.flows.proofs.Nets.{countOf, streamOf, crossing}
-use Rattle.sheets.specs.declared.Entry.{Entry}
-use Rattle.sheets.specs.Sheets.{SheetParts}
-use Rattle.sheets.specs.Kept.{blank}
-use Rattle.sheets.specs.Sentences.{classOn, numberOn}
+use Rattle.num_bytes.specs.Choice.{pick}
+use Rattle.plant_def.specs.declared.Stream.{Stream}
+use Rattle.plant_def.specs.Plants.{Plant}
+use Rattle.flow_def.specs.Flows.{streamAt}
+use Rattle.flow_def.specs.Classes.{classOf}
+use Rattle.flow_def.proofs.Sums.{sum, sum-same, sum-plus, sum-front}
+use Rattle.flow_def.proofs.Nets.{countOf, streamOf, crossing}
+use Rattle.sheet_def.specs.declared.Entry.{Entry}
+use Rattle.sheet_def.specs.Sheets.{SheetParts}
+use Rattle.sheet_def.specs.Kept.{blank}
+use Rattle.sheet_def.specs.Sentences.{classOn, numberOn}
 use Rattle.foreign_def.specs.Passing.{known, knownSum, sumIn, sumOut}
 use Rattle.foreign_def.specs.Test.{shownAt}
 

@@ -11,34 +11,34 @@ use native.Mathlib.Decide.{ℕ-discrete, decLe}
 use borrow.Author.Tests.{eqb-true, eq-eqb, ne-eqb, leb-true, le-leb}
 use lib.Dec.{eqb, leb}
 use lib.ListN.{length, getD}
-use Rattle.numbers.specs.Choice.{pick}
-use Rattle.numbers.proofs.Tests.{by-cases, clash, and-left, and-right, and-both, same-test}
-use Rattle.plants.specs.declared.Stream.{Stream}
-use Rattle.plants.specs.Limits.{places}
-use Rattle.plants.specs.Plants.{Plant}
-use Rattle.plants.specs.Within.{Within}
-use Rattle.flows.specs.declared.Class.{Class}
-use Rattle.flows.specs.declared.Class.the-variants.{Adjusted, AsRead, Given, Withheld}
-use Rattle.flows.specs.Flows.{inRange, allowed, cost, OfLeastCost}
-use Rattle.flows.specs.Chains.{Counting}
-use Rattle.flows.specs.Classes.{has, joinedTo, classOf, degrees}
-use Rattle.flows.specs.Labels.{labelsOf, oneLabel}
-use Rattle.flows.specs.Test.{verdictAt}
-use Rattle.flows.specs.Shown.{adjusted}
-use Rattle.flows.specs.Certificate.{priced}
-use Rattle.flows.proofs.Integers.{size-none, minus-none}
-use Rattle.flows.proofs.Certified.{every-at}
-use Rattle.flows.proofs.Sums.{sum, sum-same, sum-none}
-use Rattle.flows.proofs.Nets.{countOf, streamOf, inside, crossing}
-use Rattle.flows.proofs.Labels.{label-joined, label-member, label-low}
-use Rattle.flows.proofs.Decided.{Decided, solved, full}
-use Rattle.flows.proofs.Overfull.{overfull-none}
-use Rattle.model.specs.Sizes.{flowShift}
-use Rattle.model.proofs.Theorem.{decided}
-use Rattle.sheets.specs.Apart.{capped}
-use Rattle.sheets.specs.Sheets.{SheetParts, kindOf}
-use Rattle.sheets.specs.Drawings.{plantParts}
-use Rattle.sheets.specs.Sentences.{classOn, numberOn}
+use Rattle.num_bytes.specs.Choice.{pick}
+use Rattle.num_bytes.proofs.Tests.{by-cases, clash, and-left, and-right, and-both, same-test}
+use Rattle.plant_def.specs.declared.Stream.{Stream}
+use Rattle.plant_def.specs.Limits.{places}
+use Rattle.plant_def.specs.Plants.{Plant}
+use Rattle.plant_def.specs.Within.{Within}
+use Rattle.flow_def.specs.declared.Class.{Class}
+use Rattle.flow_def.specs.declared.Class.the-variants.{Adjusted, AsRead, Given, Withheld}
+use Rattle.flow_def.specs.Flows.{inRange, allowed, cost, OfLeastCost}
+use Rattle.flow_def.specs.Chains.{Counting}
+use Rattle.flow_def.specs.Classes.{has, joinedTo, classOf, degrees}
+use Rattle.flow_def.specs.Labels.{labelsOf, oneLabel}
+use Rattle.flow_def.specs.Test.{verdictAt}
+use Rattle.flow_def.specs.Shown.{adjusted}
+use Rattle.flow_def.specs.Certificate.{priced}
+use Rattle.flow_def.proofs.Integers.{size-none, minus-none}
+use Rattle.flow_def.proofs.Certified.{every-at}
+use Rattle.flow_def.proofs.Sums.{sum, sum-same, sum-none}
+use Rattle.flow_def.proofs.Nets.{countOf, streamOf, inside, crossing}
+use Rattle.flow_def.proofs.Labels.{label-joined, label-member, label-low}
+use Rattle.flow_def.proofs.Decided.{Decided, solved, full}
+use Rattle.flow_def.proofs.Overfull.{overfull-none}
+use Rattle.solve_def.specs.Sizes.{flowShift}
+use Rattle.solve_def.proofs.Theorem.{decided}
+use Rattle.sheet_def.specs.Apart.{capped}
+use Rattle.sheet_def.specs.Sheets.{SheetParts, kindOf}
+use Rattle.sheet_def.specs.Drawings.{plantParts}
+use Rattle.sheet_def.specs.Sentences.{classOn, numberOn}
 use Rattle.foreign_def.specs.Passing.{numberLimit, placeNumber, Ours, known, JoinedByW, sumIn, sumOut, Passes}
 use Rattle.foreign_def.specs.Test.{withheldOnly, shownAt, shownFlows, broughtBy, netBy, numbersFit, recordsFit, flowsFit, netsFit, totalFits, passes}
 use Rattle.foreign_def.proofs.Every.{every-all}

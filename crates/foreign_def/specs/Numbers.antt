@@ -5,15 +5,15 @@ use mathlib.Core.List.{List}
 use lib.IntN.{ℤ, pos}
 use Prim.Native.Nat.{ℕ, suc, _≤_, _<_}
 use lib.ListN.{length, take, replicate}
-use Rattle.numbers.specs.Bytes.{over}
-use Rattle.plants.specs.Limits.{places}
-use Rattle.plants.specs.Plants.{Plant}
-use Rattle.plants.specs.Files.{Got, bad, got, readPlant}
-use Rattle.flows.specs.Flows.{allowed}
-use Rattle.sheets.specs.declared.Sheet.{Sheet}
-use Rattle.sheets.specs.Sheets.{SheetParts}
-use Rattle.sheets.specs.Sentences.{callFault}
-use Rattle.sheets.specs.Says.{SheetSays}
+use Rattle.num_bytes.specs.Bytes.{over}
+use Rattle.plant_def.specs.Limits.{places}
+use Rattle.plant_def.specs.Plants.{Plant}
+use Rattle.plant_def.specs.Files.{Got, bad, got, readPlant}
+use Rattle.flow_def.specs.Flows.{allowed}
+use Rattle.sheet_def.specs.declared.Sheet.{Sheet}
+use Rattle.sheet_def.specs.Sheets.{SheetParts}
+use Rattle.sheet_def.specs.Sentences.{callFault}
+use Rattle.sheet_def.specs.Says.{SheetSays}
 use Rattle.foreign_def.specs.declared.PlaceNumbers.{PlaceNumbers}
 use Rattle.foreign_def.specs.Passing.{placeNumber, Passes}
 use Rattle.foreign_def.specs.Says.{OtherFlow, PassAll}

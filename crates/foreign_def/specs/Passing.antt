@@ -7,16 +7,16 @@ use lib.IntN.{ℤ, pos, natAbs, _+ℤ_, _-ℤ_, _*ℤ_}
 use lib.Signed.{leZ}
 use Prim.Native.Nat.{ℕ, suc, _≤_, _<_}
 use lib.ListN.{length, getD}
-use Rattle.numbers.specs.Choice.{pick}
-use Rattle.plants.specs.declared.Stream.{Stream}
-use Rattle.plants.specs.Plants.{Plant, limited}
-use Rattle.flows.specs.declared.Class.{Class}
-use Rattle.flows.specs.declared.Class.the-variants.{Adjusted, AsRead, Given, Withheld}
-use Rattle.flows.specs.Flows.{streamAt, inRange}
-use Rattle.flows.specs.Chains.{Counting, Chain}
-use Rattle.sheets.specs.declared.Entry.{Entry}
-use Rattle.sheets.specs.Sheets.{SheetParts}
-use Rattle.sheets.specs.Sentences.{MeteredAt, UnmeteredAt, classOn, numberOn, Tells}
+use Rattle.num_bytes.specs.Choice.{pick}
+use Rattle.plant_def.specs.declared.Stream.{Stream}
+use Rattle.plant_def.specs.Plants.{Plant, limited}
+use Rattle.flow_def.specs.declared.Class.{Class}
+use Rattle.flow_def.specs.declared.Class.the-variants.{Adjusted, AsRead, Given, Withheld}
+use Rattle.flow_def.specs.Flows.{streamAt, inRange}
+use Rattle.flow_def.specs.Chains.{Counting, Chain}
+use Rattle.sheet_def.specs.declared.Entry.{Entry}
+use Rattle.sheet_def.specs.Sheets.{SheetParts}
+use Rattle.sheet_def.specs.Sentences.{MeteredAt, UnmeteredAt, classOn, numberOn, Tells}
 
 -- The limit of a place's number.
 abbrev pub numberLimit : ℕ

@@ -5,17 +5,17 @@ use mathlib.Core.List.{List}
 use lib.IntN.{ℤ}
 use Prim.Native.Nat.{ℕ, _≤_, _<_}
 use lib.ListN.{length, take}
-use Rattle.plants.specs.Plants.{Plant}
-use Rattle.plants.specs.Files.{Got, bad, got, readPlant}
-use Rattle.flows.specs.declared.Class.the-variants.{Withheld}
-use Rattle.flows.specs.Flows.{amountAt, allowed, cost, OfLeastCost}
-use Rattle.sheets.specs.Apart.{capped}
-use Rattle.sheets.specs.Counters.{topSheet, counterOf}
-use Rattle.sheets.specs.declared.Sheet.{Sheet}
-use Rattle.sheets.specs.Sheets.{SheetParts}
-use Rattle.sheets.specs.Says.{SheetSays}
-use Rattle.sheets.specs.Kept.{Reopened, noSheet, someSheet, readSheet}
-use Rattle.sheets.specs.Sentences.{classOn, numberOn}
+use Rattle.plant_def.specs.Plants.{Plant}
+use Rattle.plant_def.specs.Files.{Got, bad, got, readPlant}
+use Rattle.flow_def.specs.declared.Class.the-variants.{Withheld}
+use Rattle.flow_def.specs.Flows.{amountAt, allowed, cost, OfLeastCost}
+use Rattle.sheet_def.specs.Apart.{capped}
+use Rattle.sheet_def.specs.Counters.{topSheet, counterOf}
+use Rattle.sheet_def.specs.declared.Sheet.{Sheet}
+use Rattle.sheet_def.specs.Sheets.{SheetParts}
+use Rattle.sheet_def.specs.Says.{SheetSays}
+use Rattle.sheet_def.specs.Kept.{Reopened, noSheet, someSheet, readSheet}
+use Rattle.sheet_def.specs.Sentences.{classOn, numberOn}
 use Rattle.foreign_def.specs.Passing.{Ours, JoinedByW, Passes}
 
 -- Of a plant and a sheet that are read: 0 where the sheet passes, 26 where any rule is broken.

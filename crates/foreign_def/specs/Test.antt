@@ -7,30 +7,30 @@ use lib.Signed.{leZ}
 use Prim.Native.Nat.{ℕ, suc, _+_, _*_, _^_, _≤_, _<_}
 use lib.Dec.{eqb, leb}
 use lib.ListN.{length, getD, take}
-use Rattle.numbers.specs.Choice.{pick}
-use Rattle.numbers.specs.Inner.{values}
-use Rattle.plants.specs.declared.Stream.{Stream}
-use Rattle.plants.specs.Limits.{places, maxStreams}
-use Rattle.plants.specs.Plants.{Plant}
-use Rattle.plants.specs.Files.{Got, bad, got}
-use Rattle.flows.specs.Flows.{streamAt, inRange, cost}
-use Rattle.flows.specs.Chains.{Counting}
-use Rattle.flows.specs.declared.Class.{Class}
-use Rattle.flows.specs.declared.Class.the-variants.{Adjusted}
-use Rattle.flows.specs.Classes.{classOf, degrees}
-use Rattle.flows.specs.Labels.{labelsOf}
-use Rattle.flows.specs.Test.{verdictAt}
-use Rattle.flows.specs.Shown.{adjusted}
-use Rattle.flows.specs.Certificate.{leastClimb, mostClimb, rises, falls, every}
-use Rattle.flows.specs.Nets.{sum}
-use Rattle.model.specs.Sizes.{flowShift}
-use Rattle.sheets.specs.Apart.{capped}
-use Rattle.sheets.specs.declared.Entry.{Entry}
-use Rattle.sheets.specs.declared.Total.{Total}
-use Rattle.sheets.specs.declared.SheetRead.{SheetRead}
-use Rattle.sheets.specs.Sheets.{SheetParts, kindOf}
-use Rattle.sheets.specs.Kept.{Reopened, noSheet, someSheet}
-use Rattle.sheets.specs.Sentences.{classOn, numberOn}
+use Rattle.num_bytes.specs.Choice.{pick}
+use Rattle.num_bytes.specs.Inner.{values}
+use Rattle.plant_def.specs.declared.Stream.{Stream}
+use Rattle.plant_def.specs.Limits.{places, maxStreams}
+use Rattle.plant_def.specs.Plants.{Plant}
+use Rattle.plant_def.specs.Files.{Got, bad, got}
+use Rattle.flow_def.specs.Flows.{streamAt, inRange, cost}
+use Rattle.flow_def.specs.Chains.{Counting}
+use Rattle.flow_def.specs.declared.Class.{Class}
+use Rattle.flow_def.specs.declared.Class.the-variants.{Adjusted}
+use Rattle.flow_def.specs.Classes.{classOf, degrees}
+use Rattle.flow_def.specs.Labels.{labelsOf}
+use Rattle.flow_def.specs.Test.{verdictAt}
+use Rattle.flow_def.specs.Shown.{adjusted}
+use Rattle.flow_def.specs.Certificate.{leastClimb, mostClimb, rises, falls, every}
+use Rattle.flow_def.specs.Nets.{sum}
+use Rattle.solve_def.specs.Sizes.{flowShift}
+use Rattle.sheet_def.specs.Apart.{capped}
+use Rattle.sheet_def.specs.declared.Entry.{Entry}
+use Rattle.sheet_def.specs.declared.Total.{Total}
+use Rattle.sheet_def.specs.declared.SheetRead.{SheetRead}
+use Rattle.sheet_def.specs.Sheets.{SheetParts, kindOf}
+use Rattle.sheet_def.specs.Kept.{Reopened, noSheet, someSheet}
+use Rattle.sheet_def.specs.Sentences.{classOn, numberOn}
 use Rattle.foreign_def.specs.Passing.{numberLimit, placeNumber, difference, known}
 
 -- The streams that are withheld by their class as it is computed.

@@ -1,5 +1,5 @@
 // Sheets drawn up elsewhere, as definitions with their laws. No function stands here.
-use plants::limits::PLACES;
+use plant_def::limits::PLACES;
 
 // The limit of a place's number.
 pub const NUMBER_LIMIT: u64 = 1_000_000_000_000_000_000;

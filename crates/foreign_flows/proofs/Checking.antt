@@ -12,26 +12,26 @@ use mir.Syntax.{w64}
 use mir.Val.{SFits, toZ, ofZ}
 use mir.ValLaws.{toZ-ofZ}
 use borrow.Author.Tests.{eq-eqb, ne-eqb, eqb-true, leb-true}
-use Rattle.numbers.specs.Choice.{pick}
-use Rattle.numbers.specs.Inner.{values}
-use Rattle.numbers.proofs.Tests.{and-left, and-right}
-use Rattle.plants.specs.declared.Plant as Arrays
-use Rattle.plants.specs.Limits.{maxStreams}
-use Rattle.plants.specs.Plants.{noStream}
-use Rattle.plants.specs.Within.{Accepted}
-use Rattle.plants.specs.Says.{plantOf}
-use Rattle.plants.proofs.Arrayed.{all-listed, listed-at}
-use Rattle.flows.specs.declared.Class.{Class}
-use Rattle.flows.specs.declared.Class.the-variants.{Adjusted}
-use Rattle.flows.specs.Flows.{streamAt, amountAt}
-use Rattle.flows.specs.Certificate.{every}
-use Rattle.flows.proofs.Certified.{every-at}
-use Rattle.flows.proofs.Lists.{values-long, values-at}
-use Rattle.sheets.specs.declared.Entry.{Entry}
+use Rattle.num_bytes.specs.Choice.{pick}
+use Rattle.num_bytes.specs.Inner.{values}
+use Rattle.num_bytes.proofs.Tests.{and-left, and-right}
+use Rattle.plant_def.specs.declared.Plant as Arrays
+use Rattle.plant_def.specs.Limits.{maxStreams}
+use Rattle.plant_def.specs.Plants.{noStream}
+use Rattle.plant_def.specs.Within.{Accepted}
+use Rattle.plant_def.specs.Says.{plantOf}
+use Rattle.plant_def.proofs.Arrayed.{all-listed, listed-at}
+use Rattle.flow_def.specs.declared.Class.{Class}
+use Rattle.flow_def.specs.declared.Class.the-variants.{Adjusted}
+use Rattle.flow_def.specs.Flows.{streamAt, amountAt}
+use Rattle.flow_def.specs.Certificate.{every}
+use Rattle.flow_def.proofs.Certified.{every-at}
+use Rattle.flow_def.proofs.Lists.{values-long, values-at}
+use Rattle.sheet_def.specs.declared.Entry.{Entry}
 use Rattle.foreign_def.specs.Passing.{numberLimit, placeNumber, difference, known}
 use Rattle.foreign_def.specs.Test.{noEntry, numbersFit, flowFits, flowsFit, flowsShown}
 use Rattle.foreign_def.proofs.Every.{every-all, every-off}
-use Rattle.costs.proofs.Costing.{size-fits, minus-size}
+use Rattle.sheet_cost.proofs.Costing.{size-fits, minus-size}
 use Rattle.foreign_stream.proofs.Fitting.{coded-fits, coded-is}
 
 -- A test of elements of an array: one that fails, and none.

@@ -1,2 +1,3 @@
--- Laws of the call over numbers of the places.
+-- Laws of numbers by prices. Laws of the call over numbers of the places.
+pub mod Pricing
 pub mod Numbering

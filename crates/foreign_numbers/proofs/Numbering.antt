@@ -6,15 +6,15 @@ use lib.IntN.{ℤ}
 use Prim.Native.Nat.{ℕ, _≤_, _<_}
 use native.Mathlib.Omega.{arith}
 use lib.ListN.{length}
-use Rattle.numbers.specs.Bytes.{over}
-use Rattle.plants.specs.declared.Read.{Read}
-use Rattle.plants.specs.Limits.{places}
-use Rattle.plants.specs.Plants.{Plant}
-use Rattle.plants.specs.Files.{Got, bad, got, readPlant}
-use Rattle.plants.specs.Says.{plantOf, readOf}
-use Rattle.plants.proofs.Arrayed.{read-held}
-use Rattle.sheets.proofs.Promise.{read-bad, found}
-use Rattle.sheets.proofs.Demands.{demands}
+use Rattle.num_bytes.specs.Bytes.{over}
+use Rattle.plant_def.specs.declared.Read.{Read}
+use Rattle.plant_def.specs.Limits.{places}
+use Rattle.plant_def.specs.Plants.{Plant}
+use Rattle.plant_def.specs.Files.{Got, bad, got, readPlant}
+use Rattle.plant_def.specs.Says.{plantOf, readOf}
+use Rattle.plant_def.proofs.Arrayed.{read-held}
+use Rattle.sheet_def.proofs.Promise.{read-bad, found}
+use Rattle.sheet_def.proofs.Demands.{demands}
 use Rattle.foreign_def.specs.declared.PlaceNumbers.{PlaceNumbers}
 use Rattle.foreign_def.specs.Numbers.{noNumbers, numbersIn, NumbersOf, NumbersWith, NumbersSay, NumbersLent}
 use Rattle.foreign_def.proofs.Promise.{read-within}

@@ -1,15 +1,74 @@
-// Numbers of the places of a plant file, with which its sheets pass the check: the call, and the same in a lent slice.
-use flows::Which;
+// Numbers of the places of a plant file, with which its sheets pass the check: the call.
+use flow_def::Which;
 use foreign_def::PlaceNumbers;
-use foreign_prices::no_numbers;
-use foreign_prices::numbers_by;
-use plants::limits::PLACES;
+use plant_def::Plant;
+use plant_def::limits::PLACES;
+use solve_def::Solved;
 ghost use mathlib.Core.Path.{_≡_};
+ghost use lib.IntN.{pos, _-ℤ_};
 ghost use Prim.Native.Nat.{_≤_};
+ghost use Rattle.plant_def.specs.Limits.{maxUnits, places};
+ghost use Rattle.plant_def.specs.Within.{Accepted};
+ghost use Rattle.plant_def.specs.Says.{plantOf};
+ghost use Rattle.solve_def.specs.Sizes.{priceShift};
+ghost use Rattle.solve_def.specs.SearchNeeds.{Prices};
+ghost use Rattle.solve_def.specs.Promise.{Right};
+ghost use Rattle.foreign_def.specs.Numbers.{noNumbers, NumbersOf, NumbersSay, NumbersLent};
+ghost use Rattle.foreign_def.specs.Test.{PricedBy};
 ghost use lib.ListN.{length, take};
-ghost use Rattle.numbers.specs.Bytes.{over};
-ghost use Rattle.plants.specs.Limits.{places};
-ghost use Rattle.foreign_def.specs.Numbers.{NumbersSay, NumbersLent};
+ghost use Rattle.num_bytes.specs.Bytes.{over};
+
+// A refusal: its number, no places, zeros.
+pub fn no_numbers(number: u8) -> PlaceNumbers
+    ensures { λ r. ⌜ r ≡ noNumbers number ⌝ }
+{
+    PlaceNumbers {
+        number: number,
+        count: 0,
+        numbers: [0i64; PLACES],
+    }
+}
+
+// A price less that of the outside.
+fn price_from(price: u64, outside: u64) -> i64
+    requires { ⌜ (price ≤ priceShift) × (outside ≤ priceShift) ⌝ }
+    ensures { λ r. ⌜ r ≡ pos price -ℤ pos outside ⌝ }
+{
+    price as i64 - outside as i64
+}
+
+// The prices of the places 0 to n, each less that of the outside; 0 past them.
+fn prices_from(units: u8, prices: [u64; PLACES]) -> [i64; PLACES]
+    requires { ⌜ (units ≤ maxUnits) × Prices prices ⌝ }
+    ensures { λ r. ⌜ PricedBy units prices r ⌝ }
+{
+    let n = units as usize;
+    let mut numbers = [0i64; PLACES];
+    let mut u: usize = 0;
+    while u <= n {
+        let z = price_from(prices[u], prices[0]);
+        numbers[u] = z;
+        u += 1;
+    }
+    numbers
+}
+
+// A number for each place, where a flow was found; else 19.
+pub fn numbers_by(p: Plant, solved: Solved) -> PlaceNumbers
+    requires { ⌜ Accepted p × Right p solved ⌝ }
+    ensures { λ r. ⌜ NumbersOf (plantOf p) r ⌝ }
+{
+    if !solved.found {
+        return no_numbers(19);
+    }
+    let prices = solved.prices;
+    let numbers = prices_from(p.units, prices);
+    PlaceNumbers {
+        number: 0,
+        count: p.units + 1,
+        numbers: numbers,
+    }
+}
 
 // What is handed over beside the slice: the number, and how many places there are.
 pub struct Lent {
@@ -22,14 +81,14 @@ pub struct Lent {
 pub fn place_numbers(file: &[u8]) -> PlaceNumbers
     ensures { λ r. ⌜ NumbersSay (now (file .entry)) r ⌝ }
 {
-    let read = plant_reader::read_plant(file);
+    let read = plant_read::read_plant(file);
     let number = read.number;
     if number != 0 {
         return no_numbers(number);
     }
     let plant = read.plant;
-    let labels = grouping::group(plant, Which::Unmetered);
-    let solved = solver::solve(plant, labels);
+    let labels = flow_components::group(plant, Which::Unmetered);
+    let solved = solve_call::solve(plant, labels);
     numbers_by(plant, solved)
 }
 

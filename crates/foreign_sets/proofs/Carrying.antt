@@ -15,32 +15,32 @@ use mir.Syntax.{w64}
 use mir.Val.{SFits, toZ, ofZ}
 use mir.ValLaws.{toZ-ofZ}
 use borrow.Author.Tests.{eq-eqb, ne-eqb}
-use Rattle.numbers.specs.Choice.{pick}
-use Rattle.plants.specs.declared.Stream.{Stream}
-use Rattle.plants.specs.declared.Plant as Arrays
-use Rattle.plants.specs.Limits.{places, maxStreams}
-use Rattle.plants.specs.Plants.{noStream}
-use Rattle.plants.specs.Within.{Accepted}
-use Rattle.plants.specs.Says.{plantOf}
-use Rattle.plants.proofs.Arrayed.{all-listed, listed-at, within-of}
-use Rattle.flows.specs.declared.Class.{Class}
-use Rattle.flows.specs.declared.Class.the-variants.{Adjusted}
-use Rattle.flows.specs.Classes.{classOf}
-use Rattle.flows.specs.Calls.{classesOf}
-use Rattle.flows.specs.Flows.{streamAt, amountAt}
-use Rattle.flows.specs.Nets.{sum}
-use Rattle.flows.specs.Chains.{Counting}
-use Rattle.flows.specs.Labels.{labelsOf}
-use Rattle.flows.proofs.Labels.{label-low}
-use Rattle.flows.proofs.Nets.{inside}
-use Rattle.flows.proofs.Lists.{values-at}
-use Rattle.flows.proofs.Integers.{up-neg, dn-neg, size-val, size-none, canon, Z·diff}
-use Rattle.model.specs.Sizes.{flowShift}
-use Rattle.sheets.specs.Calls.{AllSmall}
+use Rattle.num_bytes.specs.Choice.{pick}
+use Rattle.plant_def.specs.declared.Stream.{Stream}
+use Rattle.plant_def.specs.declared.Plant as Arrays
+use Rattle.plant_def.specs.Limits.{places, maxStreams}
+use Rattle.plant_def.specs.Plants.{noStream}
+use Rattle.plant_def.specs.Within.{Accepted}
+use Rattle.plant_def.specs.Says.{plantOf}
+use Rattle.plant_def.proofs.Arrayed.{all-listed, listed-at, within-of}
+use Rattle.flow_def.specs.declared.Class.{Class}
+use Rattle.flow_def.specs.declared.Class.the-variants.{Adjusted}
+use Rattle.flow_def.specs.Classes.{classOf}
+use Rattle.flow_def.specs.Calls.{classesOf}
+use Rattle.flow_def.specs.Flows.{streamAt, amountAt}
+use Rattle.flow_def.specs.Nets.{sum}
+use Rattle.flow_def.specs.Chains.{Counting}
+use Rattle.flow_def.specs.Labels.{labelsOf}
+use Rattle.flow_def.proofs.Labels.{label-low}
+use Rattle.flow_def.proofs.Nets.{inside}
+use Rattle.flow_def.proofs.Lists.{values-at}
+use Rattle.flow_def.proofs.Integers.{up-neg, dn-neg, size-val, size-none, canon, Z·diff}
+use Rattle.solve_def.specs.Sizes.{flowShift}
+use Rattle.sheet_def.specs.Calls.{AllSmall}
 use Rattle.foreign_def.specs.Passing.{known}
 use Rattle.foreign_def.specs.Test.{broughtBy, netBy, ArePlaces, Nets, Moved, Roomy, netsFit}
 use Rattle.foreign_def.proofs.Every.{every-all, every-off}
-use Rattle.costs.proofs.Costing.{size-fits}
+use Rattle.sheet_cost.proofs.Costing.{size-fits}
 use Rattle.foreign_stream.proofs.Fitting.{plus-size, coded-fits, coded-is}
 
 -- A store of one element.

@@ -1,21 +1,21 @@
 // The sets of places that W streams join, by labels, and the known flows into each, less those out of it.
-use flows::Class;
-use groups::own_numbers;
-use groups::step;
-use plants::Plant;
-use plants::limits::MAX_STREAMS;
-use plants::limits::PLACES;
+use flow_components::own_numbers;
+use flow_components::step;
+use flow_def::Class;
+use plant_def::Plant;
+use plant_def::limits::MAX_STREAMS;
+use plant_def::limits::PLACES;
 ghost use mathlib.Core.Path.{_≡_};
 ghost use mathlib.Core.Bool.{not};
 ghost use Prim.Native.Nat.{_<_};
 ghost use lib.ListN.{length};
-ghost use Rattle.plants.specs.Limits.{places};
-ghost use Rattle.plants.specs.Within.{Accepted};
-ghost use Rattle.plants.specs.Says.{plantOf};
-ghost use Rattle.flows.specs.Flows.{amountAt};
-ghost use Rattle.flows.specs.Labels.{labelsOf};
-ghost use Rattle.flows.specs.Calls.{classesOf};
-ghost use Rattle.sheets.specs.Calls.{AllSmall};
+ghost use Rattle.plant_def.specs.Limits.{places};
+ghost use Rattle.plant_def.specs.Within.{Accepted};
+ghost use Rattle.plant_def.specs.Says.{plantOf};
+ghost use Rattle.flow_def.specs.Flows.{amountAt};
+ghost use Rattle.flow_def.specs.Labels.{labelsOf};
+ghost use Rattle.flow_def.specs.Calls.{classesOf};
+ghost use Rattle.sheet_def.specs.Calls.{AllSmall};
 ghost use Rattle.foreign_def.specs.Passing.{known};
 ghost use Rattle.foreign_def.specs.Test.{withheldOnly, ArePlaces, Nets, Moved, Roomy, netsFit};
 

@@ -11,16 +11,16 @@ use mir.Syntax.{w32, w64}
 use mir.Val.{SFits, toZ, ofZ}
 use mir.ValLaws.{toZ-ofZ}
 use mir.Facts.{toZ-pos}
-use Rattle.numbers.proofs.Tests.{by-cases, clash}
-use Rattle.plants.specs.declared.Stream.{Stream}
-use Rattle.plants.specs.Limits.{maxWeight}
-use Rattle.plants.specs.Plants.{limited}
-use Rattle.flows.specs.Flows.{inRange}
-use Rattle.flows.specs.Certificate.{weightOf, lower, upper, rises, falls, leastClimb, mostClimb}
-use Rattle.flows.proofs.Integers.{plus-val, size-val, parts, product, one-times, ltZ-lt, le-leZ, leZ-le, lt-ltZ, Le-unless}
-use Rattle.model.proofs.Weights.{wide}
-use Rattle.sheets.specs.Calls.{Small}
-use Rattle.costs.proofs.Costing.{size-fits, reading-size, minus-size}
+use Rattle.num_bytes.proofs.Tests.{by-cases, clash}
+use Rattle.plant_def.specs.declared.Stream.{Stream}
+use Rattle.plant_def.specs.Limits.{maxWeight}
+use Rattle.plant_def.specs.Plants.{limited}
+use Rattle.flow_def.specs.Flows.{inRange}
+use Rattle.flow_def.specs.Certificate.{weightOf, lower, upper, rises, falls, leastClimb, mostClimb}
+use Rattle.flow_def.proofs.Integers.{plus-val, size-val, parts, product, one-times, ltZ-lt, le-leZ, leZ-le, lt-ltZ, Le-unless}
+use Rattle.solve_def.proofs.Weights.{wide}
+use Rattle.sheet_def.specs.Calls.{Small}
+use Rattle.sheet_cost.proofs.Costing.{size-fits, reading-size, minus-size}
 use Rattle.foreign_def.specs.Test.{flowFits}
 
 -- A number that came through 32 and 64 bits.

@@ -1,16 +1,16 @@
 // One stream of a sheet drawn up elsewhere: its flow in range, and the numbers at its ends within its bounds.
-use plants::Stream;
+use plant_def::Stream;
 ghost use mathlib.Core.Path.{_≡_};
 ghost use mathlib.Core.Bool.{not, _||_};
 ghost use lib.IntN.{natAbs, _-ℤ_};
 ghost use lib.Signed.{leZ};
 ghost use Prim.Native.Nat.{_≤_, _^_};
-ghost use Rattle.plants.specs.Limits.{maxUnits, maxWeight};
-ghost use Rattle.plants.specs.Plants.{limited};
-ghost use Rattle.plants.specs.Within.{WithinStream};
-ghost use Rattle.flows.specs.Flows.{inRange};
-ghost use Rattle.flows.specs.Certificate.{weightOf, rises, falls, lower, upper, leastClimb, mostClimb};
-ghost use Rattle.sheets.specs.Calls.{Small};
+ghost use Rattle.plant_def.specs.Limits.{maxUnits, maxWeight};
+ghost use Rattle.plant_def.specs.Plants.{limited};
+ghost use Rattle.plant_def.specs.Within.{WithinStream};
+ghost use Rattle.flow_def.specs.Flows.{inRange};
+ghost use Rattle.flow_def.specs.Certificate.{weightOf, rises, falls, lower, upper, leastClimb, mostClimb};
+ghost use Rattle.sheet_def.specs.Calls.{Small};
 ghost use Rattle.foreign_def.specs.Test.{flowFits};
 
 // Whether a stream has a range.

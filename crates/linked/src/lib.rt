@@ -1,24 +1,24 @@
 // The calls for programs in C and Rust, as functions on numbers and slices of numbers: the archive. They are the version, the sheet call,
 // the plant writer, the sheet reader, the translator, the two moves, meters to buy, the survey, meters worth a visit, steam charges, the
 // check of a sheet and numbers of the places.
-use plants::Plant;
+use plant_def::Plant;
 use sheet_lent::balance_lent;
 ghost use mathlib.Core.Path.{_≡_};
 ghost use Prim.Native.Nat.{_<_, _^_};
 ghost use Rattle.sheet_lent.specs.Lent.{LentSays};
-ghost use Rattle.plants.specs.Limits.{places};
-ghost use Rattle.plants.specs.Says.{WriteSays};
-ghost use Rattle.transmitters.specs.Says.{TranslateSays};
-ghost use Rattle.moves.specs.Moves.{ToSays, FromSays};
-ghost use Rattle.purchases.specs.Lent.{BuyHandsOver};
-ghost use Rattle.plant_slices.specs.Parts.{handed};
-ghost use Rattle.sheet_slices.specs.Kept.{HandsOver};
-ghost use Rattle.marks.specs.Marks.{marksIn};
-ghost use Rattle.survey_slices.specs.Lent.{LendSays};
+ghost use Rattle.plant_def.specs.Limits.{places};
+ghost use Rattle.plant_def.specs.Says.{WriteSays};
+ghost use Rattle.transmitter_def.specs.Says.{TranslateSays};
+ghost use Rattle.ranged_def.specs.Moves.{ToSays, FromSays};
+ghost use Rattle.purchase_def.specs.Lent.{BuyHandsOver};
+ghost use Rattle.plant_parts.specs.Parts.{handed};
+ghost use Rattle.sheet_parts.specs.Kept.{HandsOver};
+ghost use Rattle.num_lent.specs.Marks.{marksIn};
+ghost use Rattle.survey_answers.specs.Lent.{LendSays};
 ghost use Rattle.foreign_def.specs.Says.{CheckSays};
 ghost use Rattle.foreign_def.specs.Numbers.{NumbersLent};
-ghost use Rattle.visit_parts.specs.Lent.{VisitsHandOver};
-ghost use Rattle.charge_parts.specs.Lent.{ChargesHandOver};
+ghost use Rattle.visit_call.specs.Lent.{VisitsHandOver};
+ghost use Rattle.charge_call.specs.Lent.{ChargesHandOver};
 ghost use Rattle.version.specs.Version.{version};
 
 // The version as one number: 10,000 is 1.0.0.
@@ -69,18 +69,18 @@ pub extern "C" fn wengeludo_write_plant(
 ) -> u8
     ensures { λ r. ⌜ WriteSays (handed units count (record { from = now (from .entry); to = now (to .entry); metered = now (metered .entry); weight = now (weight .entry); reading = now (reading .entry); ranged = now (ranged .entry); low = now (low .entry); high = now (high .entry) })) (now (file .entry)) (now (file .exit)) (record { number = r; written = now (written .exit) }) ⌝ }
 {
-    let n = reaches::reached(
-        reaches::meters_reach(from, to, metered, weight, reading),
-        reaches::ranges_reach(ranged, low, high),
+    let n = plant_parts::reached(
+        plant_parts::meters_reach(from, to, metered, weight, reading),
+        plant_parts::ranges_reach(ranged, low, high),
     );
-    let meters = plant_slices::meters_gathered(n, from, to, metered, weight, reading);
-    let streams = plant_slices::ranges_gathered(n, meters, ranged, low, high);
+    let meters = plant_parts::meters_gathered(n, from, to, metered, weight, reading);
+    let streams = plant_parts::ranges_gathered(n, meters, ranged, low, high);
     let plant = Plant {
         units: units,
-        count: reaches::count_byte(count),
+        count: plant_parts::count_byte(count),
         streams: streams,
     };
-    let done = plant_writer::write_plant(plant, file);
+    let done = plant_write::write_plant(plant, file);
     *written = done.written;
     done.number
 }
@@ -103,11 +103,11 @@ pub extern "C" fn wengeludo_read_sheet(
 ) -> u8
     ensures { λ r. ⌜ HandsOver (now (bytes .entry)) (now (kinds .entry)) (now (kinds .exit)) (now (flows .entry)) (now (flows .exit)) r (now (count .exit)) (now (kind .exit)) (now (office .exit)) (now (sheet .exit)) (now (cost .exit)) (now (degrees .exit)) (now (verdict .exit)) ⌝ }
 {
-    let read = sheet_slices::read_lent(bytes, kinds.len(), flows.len());
+    let read = sheet_parts::read_lent(bytes, kinds.len(), flows.len());
     let listed = read.count as usize;
     let streams = read.streams;
-    sheet_slices::put_kinds(listed, streams, kinds);
-    sheet_slices::put_flows(listed, streams, flows);
+    sheet_parts::put_kinds(listed, streams, kinds);
+    sheet_parts::put_flows(listed, streams, flows);
     let total = read.total;
     *count = listed;
     *kind = total.kind;
@@ -129,7 +129,7 @@ pub extern "C" fn wengeludo_plant_from_transmitter(
 ) -> u8
     ensures { λ r. ⌜ TranslateSays (now (file .entry)) (now (plant .entry)) (now (plant .exit)) (record { number = r; written = now (written .exit) }) ⌝ }
 {
-    let made = translator::plant_from_transmitter(file, plant);
+    let made = transmitter_translate::plant_from_transmitter(file, plant);
     *written = made.written;
     made.number
 }
@@ -140,7 +140,7 @@ pub extern "C" fn wengeludo_plant_from_transmitter(
 pub extern "C" fn wengeludo_to_ranged(file: &[u8], out: &mut [u8], written: &mut usize) -> u8
     ensures { λ r. ⌜ ToSays (now (file .entry)) (now (out .entry)) (now (out .exit)) (record { number = r; written = now (written .exit) }) ⌝ }
 {
-    let done = move_calls::to_ranged(file, out);
+    let done = ranged_call::to_ranged(file, out);
     *written = done.written;
     done.number
 }
@@ -150,7 +150,7 @@ pub extern "C" fn wengeludo_to_ranged(file: &[u8], out: &mut [u8], written: &mut
 pub extern "C" fn wengeludo_from_ranged(file: &[u8], out: &mut [u8], written: &mut usize) -> u8
     ensures { λ r. ⌜ FromSays (now (file .entry)) (now (out .entry)) (now (out .exit)) (record { number = r; written = now (written .exit) }) ⌝ }
 {
-    let done = move_calls::from_ranged(file, out);
+    let done = ranged_call::from_ranged(file, out);
     *written = done.written;
     done.number
 }
@@ -168,7 +168,7 @@ pub extern "C" fn wengeludo_meters_to_buy(
 ) -> u8
     ensures { λ r. ⌜ BuyHandsOver (now (file .entry)) (now (prices .entry)) (now (streams .entry)) (now (streams .exit)) (record { number = r; count = now (count .exit); price = now (price .exit) }) ⌝ }
 {
-    let handed = buying::lent::buy_into(file, prices, streams);
+    let handed = purchase_call::lent::buy_into(file, prices, streams);
     *count = handed.count;
     *price = handed.price;
     handed.number
@@ -181,7 +181,7 @@ pub extern "C" fn wengeludo_meters_to_buy(
 pub extern "C" fn wengeludo_layouts_of(file: &[u8], counts: &mut [u16], count: &mut usize) -> u8
     ensures { λ r. ⌜ LendSays (now (file .entry)) (now (counts .entry)) (now (counts .exit)) r (now (count .exit)) ⌝ }
 {
-    let lent = survey_slices::layouts_lent(file, counts);
+    let lent = survey_answers::layouts_lent(file, counts);
     *count = lent.count;
     lent.number
 }
@@ -198,7 +198,7 @@ pub extern "C" fn wengeludo_visits(
 ) -> u8
     ensures { λ r. ⌜ VisitsHandOver (now (file .entry)) (now (streams .entry)) (now (streams .exit)) (now (costs .entry)) (now (costs .exit)) r (now (count .exit)) ⌝ }
 {
-    let handed = visit_parts::visits_into(file, streams, costs);
+    let handed = visit_call::visits_into(file, streams, costs);
     *count = handed.count;
     handed.number
 }
@@ -217,7 +217,7 @@ pub extern "C" fn wengeludo_charges(
 ) -> u8
     ensures { λ r. ⌜ ChargesHandOver (now (file .entry)) (now (rates .entry)) (now (streams .entry)) (now (streams .exit)) (now (charges .entry)) (now (charges .exit)) r (now (count .exit)) (now (bill .exit)) ⌝ }
 {
-    let handed = charge_parts::charges_into(file, rates, streams, charges);
+    let handed = charge_call::charges_into(file, rates, streams, charges);
     let total = handed.bill;
     *count = handed.count;
     *bill = total;

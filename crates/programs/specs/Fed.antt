@@ -6,7 +6,7 @@ use lib.IntN.{ℤ, pos}
 use lib.Signed.{ltZ}
 use Prim.Native.Nat.{ℕ, suc, _<_}
 use lib.ListN.{length}
-use Rattle.plants.specs.Limits.{longestFile}
+use Rattle.plant_def.specs.Limits.{longestFile}
 use Rattle.programs.specs.declared.Fed.{Fed}
 
 -- So many bytes have been read into a slice, and this is what the last read answered: reading ends where the slice is full, or where a

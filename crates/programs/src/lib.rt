@@ -1,5 +1,5 @@
 // What the programs share: what they are fed, what they answer, and what they say where either fails.
-use plants::limits::LONGEST_FILE;
+use plant_def::limits::LONGEST_FILE;
 ghost use mathlib.Core.Path.{_≡_};
 ghost use lib.ListN.{length};
 ghost use Rattle.io.specs.Counts.{Counts};

@@ -7,33 +7,33 @@ use native.Mathlib.Omega.{arith}
 use native.Mathlib.Decide.{ℕ-discrete, decLe}
 use lib.Dec.{eqb, ltb}
 use lib.ListN.{length, take}
-use Rattle.numbers.specs.Choice.{refuseIf, firstOf}
-use Rattle.numbers.specs.Bytes.{over}
-use Rattle.numbers.proofs.Tests.{clash, picked}
-use Rattle.plants.specs.declared.Stream.{Stream}
-use Rattle.plants.specs.declared.Done.{Done}
-use Rattle.plants.specs.Limits.{maxStreams, longestFile}
-use Rattle.plants.specs.Plants.{Plant}
-use Rattle.plants.specs.Files.{Got, bad, got, readPlant}
-use Rattle.plants.specs.Says.{fileNumber}
-use Rattle.plants.specs.Within.{Within}
-use Rattle.plants.proofs.Limited.{within}
-use Rattle.plants.proofs.Accepted.{accepted}
-use Rattle.plants.proofs.Refusals.{file-refusals, write-not-19}
-use Rattle.conversions.specs.Says.{faultOf, Converts}
-use Rattle.moves.specs.Moves.{narrower, narrowFault, home, toRanged, fromRanged}
-use Rattle.transmitters.proofs.Short.{written-short}
-use Rattle.purchases.specs.declared.Bought.{Bought}
-use Rattle.purchases.specs.declared.Handed.{Handed}
-use Rattle.purchases.specs.Purchases.{maxPrice, unmeteredTo, someUnfair, pricesFault}
-use Rattle.purchases.specs.Says.{BuyWith}
-use Rattle.purchases.specs.Lent.{LentSays, BuyHandsOver}
-use Rattle.purchases.proofs.Price.{price-most}
-use Rattle.purchases.proofs.Promise.{meters-to-buy}
-use Rattle.surveys.specs.declared.Layouts.{Layouts}
-use Rattle.surveys.specs.Says.{maxSurveyed, surveySize, listed, refusedWith, SurveySays}
-use Rattle.surveys.proofs.Promise.{one-survey}
-use Rattle.survey_slices.specs.Lent.{HandedOver, LendSays}
+use Rattle.num_bytes.specs.Choice.{refuseIf, firstOf}
+use Rattle.num_bytes.specs.Bytes.{over}
+use Rattle.num_bytes.proofs.Tests.{clash, picked}
+use Rattle.plant_def.specs.declared.Stream.{Stream}
+use Rattle.plant_def.specs.declared.Done.{Done}
+use Rattle.plant_def.specs.Limits.{maxStreams, longestFile}
+use Rattle.plant_def.specs.Plants.{Plant}
+use Rattle.plant_def.specs.Files.{Got, bad, got, readPlant}
+use Rattle.plant_def.specs.Says.{fileNumber}
+use Rattle.plant_def.specs.Within.{Within}
+use Rattle.plant_def.proofs.Limited.{within}
+use Rattle.plant_def.proofs.Accepted.{accepted}
+use Rattle.plant_def.proofs.Refusals.{file-refusals, write-not-19}
+use Rattle.plant_def.specs.Converts.{faultOf, Converts}
+use Rattle.ranged_def.specs.Moves.{narrower, narrowFault, home, toRanged, fromRanged}
+use Rattle.transmitter_def.proofs.Short.{written-short}
+use Rattle.purchase_def.specs.declared.Bought.{Bought}
+use Rattle.purchase_def.specs.declared.Handed.{Handed}
+use Rattle.purchase_def.specs.Purchases.{maxPrice, unmeteredTo, someUnfair, pricesFault}
+use Rattle.purchase_def.specs.Says.{BuyWith}
+use Rattle.purchase_def.specs.Lent.{LentSays, BuyHandsOver}
+use Rattle.purchase_def.proofs.Price.{price-most}
+use Rattle.purchase_def.proofs.Promise.{meters-to-buy}
+use Rattle.survey_def.specs.declared.Layouts.{Layouts}
+use Rattle.survey_def.specs.Says.{maxSurveyed, surveySize, listed, refusedWith, SurveySays}
+use Rattle.survey_def.proofs.Promise.{one-survey}
+use Rattle.survey_answers.specs.Lent.{HandedOver, LendSays}
 use Rattle.promises.specs.Bounds.{Without-19, Bounds}
 
 read-within : (file : List ℕ) (p : Plant) → readPlant file ≡ got p → Within p

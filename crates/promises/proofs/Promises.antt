@@ -1,23 +1,23 @@
 -- Every promise is kept.
-use Rattle.plants.proofs.Refusals.{file-refusals}
-use Rattle.plants.proofs.Longest.{longest-file}
-use Rattle.sheets.proofs.Demands.{demands}
-use Rattle.office_history.proofs.History.{history}
-use Rattle.texts.proofs.Promise.{one-text}
-use Rattle.texts.proofs.Printed.{printed}
-use Rattle.signals.proofs.Rules.{rounding}
-use Rattle.signals.proofs.Numbers.{numbered}
-use Rattle.transmitters.proofs.Promise.{translated}
-use Rattle.moves.proofs.Trip.{moving}
-use Rattle.moved_sheets.proofs.Same.{moved-sheets}
-use Rattle.purchases.proofs.Promise.{meters-to-buy}
-use Rattle.surveys.proofs.Promise.{one-survey}
-use Rattle.survey_texts.proofs.Promise as Survey-texts
+use Rattle.plant_def.proofs.Refusals.{file-refusals}
+use Rattle.plant_def.proofs.Longest.{longest-file}
+use Rattle.sheet_def.proofs.Demands.{demands}
+use Rattle.sheet_history.proofs.History.{history}
+use Rattle.listing_call.proofs.Promise.{one-text}
+use Rattle.listing_call.proofs.Printed.{printed}
+use Rattle.transmitter_def.proofs.Rules.{rounding}
+use Rattle.transmitter_def.proofs.Numbers.{numbered}
+use Rattle.transmitter_def.proofs.Promise.{translated}
+use Rattle.ranged_def.proofs.Trip.{moving}
+use Rattle.ranged_same_sheet.proofs.Same.{moved-sheets}
+use Rattle.purchase_def.proofs.Promise.{meters-to-buy}
+use Rattle.survey_def.proofs.Promise.{one-survey}
+use Rattle.survey_answers.proofs.Promise as Survey-texts
 use Rattle.visit_def.proofs.Promise.{meters-worth-a-visit}
 use Rattle.visit_text.proofs.Promise as Visit-texts
-use Rattle.visit_parts.proofs.Lending as Visit-parts
+use Rattle.visit_call.proofs.Lending as Visit-parts
 use Rattle.charge_def.proofs.Promise.{steam-charges}
-use Rattle.charge_parts.proofs.Lending as Charge-parts
+use Rattle.charge_call.proofs.Lending as Charge-parts
 use Rattle.foreign_def.proofs.Promise.{foreign-sheets, own-numbers}
 use Rattle.promises.specs.Promises.{Promises}
 use Rattle.promises.proofs.Bounds.{without-19, bounds}

@@ -2,20 +2,20 @@
 use mathlib.Core.Path.{_≡_}
 use mathlib.Core.List.{List}
 use Prim.Native.Nat.{ℕ, suc, _+_, _*_, _-_, _≤_}
-use Rattle.plants.specs.declared.Done.{Done}
-use Rattle.plants.specs.declared.Plant as Arrays
-use Rattle.plants.specs.Limits.{maxStreams, siteBody, meteredBody, endBody}
-use Rattle.plants.specs.Says.{WriteSays}
-use Rattle.moves.specs.Moves.{ToSays, FromSays}
-use Rattle.transmitters.specs.Says.{TranslateSays}
-use Rattle.purchases.specs.declared.Bought.{Bought}
-use Rattle.purchases.specs.declared.Handed.{Handed}
-use Rattle.purchases.specs.Purchases.{maxPrice}
-use Rattle.purchases.specs.Says.{BuySays}
-use Rattle.purchases.specs.Lent.{BuyHandsOver}
-use Rattle.surveys.specs.declared.Layouts.{Layouts}
-use Rattle.surveys.specs.Says.{SurveySays}
-use Rattle.survey_slices.specs.Lent.{LendSays}
+use Rattle.plant_def.specs.declared.Done.{Done}
+use Rattle.plant_def.specs.declared.Plant as Arrays
+use Rattle.plant_def.specs.Limits.{maxStreams, siteBody, meteredBody, endBody}
+use Rattle.plant_def.specs.Says.{WriteSays}
+use Rattle.ranged_def.specs.Moves.{ToSays, FromSays}
+use Rattle.transmitter_def.specs.Says.{TranslateSays}
+use Rattle.purchase_def.specs.declared.Bought.{Bought}
+use Rattle.purchase_def.specs.declared.Handed.{Handed}
+use Rattle.purchase_def.specs.Purchases.{maxPrice}
+use Rattle.purchase_def.specs.Says.{BuySays}
+use Rattle.purchase_def.specs.Lent.{BuyHandsOver}
+use Rattle.survey_def.specs.declared.Layouts.{Layouts}
+use Rattle.survey_def.specs.Says.{SurveySays}
+use Rattle.survey_answers.specs.Lent.{LendSays}
 
 -- No writer, move, purchase or survey gives 19: that number is of a plant that has no flow in range, and these look for none. (Nor does
 -- a reader: `File-refusals` and `Reopening.refused` have the numbers that readers give.)

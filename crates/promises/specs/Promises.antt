@@ -1,22 +1,22 @@
 -- Every public theorem, in one record. docs/PROMISES.md follows it field by field.
-use Rattle.plants.specs.Says.{Longest-file, File-refusals}
-use Rattle.sheets.specs.Demands.{Demands}
-use Rattle.office_history.specs.History.{History}
-use Rattle.texts.specs.Says.{One-text}
-use Rattle.texts.specs.Printed.{Printed}
-use Rattle.signals.specs.Answers.{Numbered}
-use Rattle.signals.specs.Rounding.{Rounding}
-use Rattle.transmitters.specs.Says.{Translated}
-use Rattle.moves.specs.Trip.{Moving}
-use Rattle.moved_sheets.specs.Same.{Moved-sheets}
-use Rattle.purchases.specs.Says.{Meters-to-buy}
-use Rattle.surveys.specs.Says.{One-survey}
-use Rattle.survey_texts.specs.Says as Survey-texts
+use Rattle.plant_def.specs.Says.{Longest-file, File-refusals}
+use Rattle.sheet_def.specs.Demands.{Demands}
+use Rattle.sheet_history.specs.History.{History}
+use Rattle.listing_call.specs.Says.{One-text}
+use Rattle.listing_call.specs.Printed.{Printed}
+use Rattle.transmitter_def.specs.Answers.{Numbered}
+use Rattle.transmitter_def.specs.Rounding.{Rounding}
+use Rattle.transmitter_def.specs.Says.{Translated}
+use Rattle.ranged_def.specs.Trip.{Moving}
+use Rattle.ranged_same_sheet.specs.Same.{Moved-sheets}
+use Rattle.purchase_def.specs.Says.{Meters-to-buy}
+use Rattle.survey_def.specs.Says.{One-survey}
+use Rattle.survey_answers.specs.Says as Survey-texts
 use Rattle.visit_def.specs.Says.{Meters-worth-a-visit}
 use Rattle.visit_text.specs.Says as Visit-texts
-use Rattle.visit_parts.specs.Lent as Visit-parts
+use Rattle.visit_call.specs.Lent as Visit-parts
 use Rattle.charge_def.specs.Says.{Steam-charges}
-use Rattle.charge_parts.specs.Lent as Charge-parts
+use Rattle.charge_call.specs.Lent as Charge-parts
 use Rattle.foreign_def.specs.Says.{Foreign-sheets}
 use Rattle.foreign_def.specs.Numbers.{Own-numbers}
 use Rattle.promises.specs.Bounds.{Without-19, Bounds}

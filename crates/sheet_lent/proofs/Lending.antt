@@ -8,12 +8,12 @@ use borrow.Author.Tests.{lt-ltb, le-ltb}
 use lib.Dec.{ltb}
 use lib.ListN.{length, getD, take, drop}
 use lib.Seq.{take-at, drop-at}
-use Rattle.numbers.specs.Bytes.{over}
-use Rattle.numbers.specs.Inner.{pickT}
-use Rattle.sheets.specs.declared.Sheet.{Sheet}
-use Rattle.sheets.specs.Counters.{offices}
-use Rattle.sheets.specs.Sentences.{Refused}
-use Rattle.sheets.specs.Says.{SheetSays}
+use Rattle.num_bytes.specs.Bytes.{over}
+use Rattle.num_bytes.specs.Inner.{pickT}
+use Rattle.sheet_def.specs.declared.Sheet.{Sheet}
+use Rattle.sheet_def.specs.Counters.{offices}
+use Rattle.sheet_def.specs.Sentences.{Refused}
+use Rattle.sheet_def.specs.Says.{SheetSays}
 use Rattle.sheet_lent.specs.Lent.{fronted, LentSays}
 
 -- The first eight, one by one.

@@ -4,11 +4,11 @@ use mathlib.Core.List.{List}
 use Prim.Native.Nat.{ℕ}
 use lib.Dec.{ltb}
 use lib.ListN.{length, take, drop}
-use Rattle.numbers.specs.Inner.{pickT}
-use Rattle.sheets.specs.declared.Sheet.{Sheet}
-use Rattle.sheets.specs.Counters.{offices}
-use Rattle.sheets.specs.Sentences.{Refused}
-use Rattle.sheets.specs.Says.{SheetSays}
+use Rattle.num_bytes.specs.Inner.{pickT}
+use Rattle.sheet_def.specs.declared.Sheet.{Sheet}
+use Rattle.sheet_def.specs.Counters.{offices}
+use Rattle.sheet_def.specs.Sentences.{Refused}
+use Rattle.sheet_def.specs.Says.{SheetSays}
 
 -- The answer with the offices' last numbers alone.
 abbrev pub fronted : Sheet → Sheet

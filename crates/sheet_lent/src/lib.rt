@@ -1,15 +1,15 @@
 // The sheet call for callers who lend the offices' last sheet numbers in a slice; its marked places as the bits of a number.
-use marks::bits_of;
-use sheet_calls::balance_plant;
-use sheets::kinds::OFFICES;
+use num_lent::bits_of;
+use sheet_call::balance_plant;
+use sheet_def::kinds::OFFICES;
 ghost use mathlib.Core.Path.{_≡_};
 ghost use Prim.Native.Nat.{_≤_, _<_, _^_};
 ghost use lib.ListN.{length, take};
-ghost use Rattle.numbers.specs.Bytes.{over};
-ghost use Rattle.plants.specs.Limits.{places};
-ghost use Rattle.sheets.specs.Counters.{offices};
-ghost use Rattle.sheets.specs.Says.{SheetSays};
-ghost use Rattle.marks.specs.Marks.{marksIn};
+ghost use Rattle.num_bytes.specs.Bytes.{over};
+ghost use Rattle.plant_def.specs.Limits.{places};
+ghost use Rattle.sheet_def.specs.Counters.{offices};
+ghost use Rattle.sheet_def.specs.Says.{SheetSays};
+ghost use Rattle.num_lent.specs.Marks.{marksIn};
 ghost use Rattle.sheet_lent.specs.Lent.{LentSays};
 
 // What the sheet call hands over, the marks as bits.

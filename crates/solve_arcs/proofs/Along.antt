@@ -7,8 +7,8 @@ use native.Mathlib.Nat.{div-add-mod', mod-lt}
 use native.Mathlib.Omega.{arith}
 use lib.Dec.{eqb}
 use lib.ListN.{getD}
-use Rattle.numbers.specs.Choice.{pick}
-use Rattle.flows.proofs.Lists.{values-at}
+use Rattle.num_bytes.specs.Choice.{pick}
+use Rattle.flow_def.proofs.Lists.{values-at}
 use Rattle.solve_arcs.specs.Cells.{toCell, arcOf, countOf, startsOf, endsOf}
 use Rattle.solve_arcs.specs.Margins.{reducedCost, reducedCosts, leaves, reaches}
 

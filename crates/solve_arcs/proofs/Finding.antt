@@ -9,29 +9,29 @@ use borrow.Author.Tests.{lt-ltb, le-ltb}
 use lib.Dec.{ltb}
 use lib.ListN.{length, getD, take, replicate}
 use lib.Seq.{getD-take}
-use Rattle.numbers.specs.Choice.{pick}
-use Rattle.numbers.specs.Inner.{values}
-use Rattle.numbers.proofs.Tests.{by-cases, picked}
-use Rattle.plants.specs.declared.Stream.{Stream}
-use Rattle.plants.specs.Limits.{places, maxUnits, maxWeight}
-use Rattle.plants.specs.Within.{WithinStream}
-use Rattle.plants.specs.Plants.{noStream}
-use Rattle.flows.specs.Flows.{streamAt}
-use Rattle.flows.specs.Certificate.{weightOf}
-use Rattle.flows.proofs.Lists.{values-at}
-use Rattle.model.specs.declared.Walked.{Walked}
-use Rattle.model.specs.declared.Tree.{Tree}
-use Rattle.model.specs.Sizes.{mostFlow, mostPull, mostStep, priceShift, farthest, far, searchRounds}
-use Rattle.model.specs.Held.{readingOf, lowOf, highOf}
-use Rattle.model.specs.Slack.{gapBy, openBy, slackBy, slackAt, slackPast}
-use Rattle.model.specs.Search.{rootAt, Grown, grownBy, sought, tightPath}
-use Rattle.model.specs.Near.{goalAt, reducedBy, walked}
-use Rattle.model.specs.SearchNeeds.{Walkable}
-use Rattle.model.proofs.Weights.{weight-most, pull-most}
-use Rattle.model.proofs.Least.{Usable}
-use Rattle.model.proofs.Nearing.{slackOf}
-use Rattle.model.proofs.Finds.{Slacked, in-use, slack-small, usable-slack, search-walk}
-use Rattle.model.proofs.Rounding.{path-walk}
+use Rattle.num_bytes.specs.Choice.{pick}
+use Rattle.num_bytes.specs.Inner.{values}
+use Rattle.num_bytes.proofs.Tests.{by-cases, picked}
+use Rattle.plant_def.specs.declared.Stream.{Stream}
+use Rattle.plant_def.specs.Limits.{places, maxUnits, maxWeight}
+use Rattle.plant_def.specs.Within.{WithinStream}
+use Rattle.plant_def.specs.Plants.{noStream}
+use Rattle.flow_def.specs.Flows.{streamAt}
+use Rattle.flow_def.specs.Certificate.{weightOf}
+use Rattle.flow_def.proofs.Lists.{values-at}
+use Rattle.solve_def.specs.declared.Walked.{Walked}
+use Rattle.solve_def.specs.declared.Tree.{Tree}
+use Rattle.solve_def.specs.Sizes.{mostFlow, mostPull, mostStep, priceShift, farthest, far, searchRounds}
+use Rattle.solve_def.specs.Held.{readingOf, lowOf, highOf}
+use Rattle.solve_def.specs.Slack.{gapBy, openBy, slackBy, slackAt, slackPast}
+use Rattle.solve_def.specs.Search.{rootAt, Grown, grownBy, sought, tightPath}
+use Rattle.solve_def.specs.Near.{goalAt, reducedBy, walked}
+use Rattle.solve_def.specs.SearchNeeds.{Walkable}
+use Rattle.solve_def.proofs.Weights.{weight-most, pull-most}
+use Rattle.solve_def.proofs.Least.{Usable}
+use Rattle.solve_def.proofs.Nearing.{slackOf}
+use Rattle.solve_def.proofs.Finds.{Slacked, in-use, slack-small, usable-slack, search-walk}
+use Rattle.solve_def.proofs.Rounding.{path-walk}
 use Rattle.solve_arcs.specs.Cells.{arcOf, countOf, startsOf, endsOf}
 use Rattle.solve_arcs.specs.Margins.{lift, shut, costBy, marginBy, marginAt, spared, lessOf, reducedCost, reducedCosts, leaves, reaches}
 use Rattle.solve_arcs.specs.ArcNeeds.{Laid, Margined, Ways, Searching}

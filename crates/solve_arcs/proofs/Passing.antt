@@ -8,11 +8,11 @@ use native.Mathlib.Nat.{div-add-mod', mod-lt}
 use native.Mathlib.Omega.{arith}
 use lib.Dec.{eqb, ltb}
 use lib.ListN.{getD}
-use Rattle.numbers.specs.Choice.{pick}
-use Rattle.numbers.proofs.Tests.{picked}
-use Rattle.plants.specs.Limits.{places, maxStreams}
-use Rattle.model.specs.Near.{codeOf, lessened, lastAt, arcAt, relaxedAlong, relaxedAt, relaxedTo}
-use Rattle.model.proofs.Listing.{touches, last-good, arc-is, arc-less, relaxed-last, relaxed-none, tail-touching, relaxed-touching}
+use Rattle.num_bytes.specs.Choice.{pick}
+use Rattle.num_bytes.proofs.Tests.{picked}
+use Rattle.plant_def.specs.Limits.{places, maxStreams}
+use Rattle.solve_def.specs.Near.{codeOf, lessened, lastAt, arcAt, relaxedAlong, relaxedAt, relaxedTo}
+use Rattle.solve_def.proofs.Listing.{touches, last-good, arc-is, arc-less, relaxed-last, relaxed-none, tail-touching, relaxed-touching}
 use Rattle.solve_arcs.specs.Cells.{toCell, nextCell, arcOf, countOf, startsOf, endsOf}
 use Rattle.solve_arcs.specs.Margins.{shut, reducedCost, reducedCosts, leaves, reaches}
 use Rattle.solve_arcs.specs.ArcNeeds.{Linked, Ways}

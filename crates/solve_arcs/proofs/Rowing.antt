@@ -5,13 +5,13 @@ use mathlib.Core.List.{List}
 use Prim.Native.Nat.{ℕ, _+_, _*_, _≤_, _<_}
 use native.Mathlib.Omega.{arith}
 use lib.ListN.{getD}
-use Rattle.numbers.specs.Choice.{pick}
-use Rattle.plants.specs.declared.Stream.{Stream}
-use Rattle.plants.specs.Limits.{places, maxStreams}
-use Rattle.plants.specs.Plants.{noStream}
-use Rattle.model.specs.SearchNeeds.{Network}
-use Rattle.model.proofs.Weights.{weight-most}
-use Rattle.model.proofs.Bounds.{low-high, high-most}
+use Rattle.num_bytes.specs.Choice.{pick}
+use Rattle.plant_def.specs.declared.Stream.{Stream}
+use Rattle.plant_def.specs.Limits.{places, maxStreams}
+use Rattle.plant_def.specs.Plants.{noStream}
+use Rattle.solve_def.specs.SearchNeeds.{Network}
+use Rattle.solve_def.proofs.Weights.{weight-most}
+use Rattle.solve_def.proofs.Bounds.{low-high, high-most}
 use Rattle.solve_arcs.specs.Cells.{toCell, countOf}
 use Rattle.solve_arcs.specs.ArcNeeds.{Rowed, Row, Laying}
 use Rattle.solve_arcs.proofs.Along.{starts-at, ends-at}

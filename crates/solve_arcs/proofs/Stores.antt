@@ -9,9 +9,9 @@ use borrow.Author.Tests.{lt-ltb, le-ltb}
 use lib.Dec.{ltb}
 use lib.ListN.{length, getD, set, length-set}
 use lib.Seq.{getD-set-same, getD-set-other}
-use Rattle.numbers.specs.Choice.{pick}
-use Rattle.numbers.proofs.Tests.{clash}
-use Rattle.plants.specs.Limits.{maxStreams}
+use Rattle.num_bytes.specs.Choice.{pick}
+use Rattle.num_bytes.proofs.Tests.{clash}
+use Rattle.plant_def.specs.Limits.{maxStreams}
 use Rattle.solve_arcs.specs.Cells.{arcOf, marginCells}
 use Rattle.solve_arcs.specs.Margins.{marginAt, shut, spared}
 use Rattle.solve_arcs.specs.ArcNeeds.{Margined}

@@ -4,15 +4,15 @@ use mathlib.Core.Bool.{Bool, true, false}
 use mathlib.Core.List.{List}
 use Prim.Native.Nat.{ℕ, _+_, _*_, _≤_, _<_}
 use lib.ListN.{length, getD}
-use Rattle.numbers.specs.Choice.{pick}
-use Rattle.plants.specs.declared.Stream.{Stream}
-use Rattle.plants.specs.Limits.{places, maxStreams, maxWeight}
-use Rattle.plants.specs.Plants.{noStream}
-use Rattle.flows.specs.Certificate.{weightOf}
-use Rattle.model.specs.Sizes.{mostFlow, mostPull, mostStep}
-use Rattle.model.specs.Held.{readingOf, lowOf, highOf}
-use Rattle.model.specs.Near.{arcAt}
-use Rattle.model.specs.SearchNeeds.{Network, Prices, Walkable}
+use Rattle.num_bytes.specs.Choice.{pick}
+use Rattle.plant_def.specs.declared.Stream.{Stream}
+use Rattle.plant_def.specs.Limits.{places, maxStreams, maxWeight}
+use Rattle.plant_def.specs.Plants.{noStream}
+use Rattle.flow_def.specs.Certificate.{weightOf}
+use Rattle.solve_def.specs.Sizes.{mostFlow, mostPull, mostStep}
+use Rattle.solve_def.specs.Held.{readingOf, lowOf, highOf}
+use Rattle.solve_def.specs.Near.{arcAt}
+use Rattle.solve_def.specs.SearchNeeds.{Network, Prices, Walkable}
 use Rattle.solve_arcs.specs.Cells.{toCell, nextCell, arcCells, arcOf, countOf, startsOf, endsOf, rowCells, marginCells}
 use Rattle.solve_arcs.specs.Margins.{marginAt, shut, spared, leaves}
 

@@ -4,10 +4,10 @@ use mathlib.Core.List.{List}
 use Prim.Native.Nat.{ℕ, _+_, _-_, _*_}
 use lib.Dec.{ltb}
 use lib.ListN.{getD}
-use Rattle.numbers.specs.Choice.{pick}
-use Rattle.numbers.specs.Inner.{values}
-use Rattle.model.specs.Sizes.{mostPull, farthest}
-use Rattle.model.specs.Slack.{openBy}
+use Rattle.num_bytes.specs.Choice.{pick}
+use Rattle.num_bytes.specs.Inner.{values}
+use Rattle.solve_def.specs.Sizes.{mostPull, farthest}
+use Rattle.solve_def.specs.Slack.{openBy}
 use Rattle.solve_arcs.specs.Cells.{arcOf, countOf, startsOf, endsOf}
 
 -- A margin z is held as z + lift, which no margin that arises takes below 0; an arc that is shut has the margin shut, 2^62:

@@ -9,17 +9,17 @@ use borrow.Author.Count.{below-none, below-more}
 use lib.Dec.{eqb}
 use lib.ListN.{length, getD, set, length-set}
 use lib.Seq.{getD-set-same, getD-set-other}
-use Rattle.numbers.specs.Choice.{pick}
-use Rattle.plants.specs.declared.Stream.{Stream}
-use Rattle.plants.specs.Limits.{places, maxStreams}
-use Rattle.plants.specs.Plants.{noStream}
-use Rattle.flows.proofs.Lists.{values-at, values-same}
-use Rattle.flows.specs.Certificate.{weightOf}
-use Rattle.model.specs.Sizes.{mostPull}
-use Rattle.model.specs.Held.{readingOf, lowOf, highOf}
-use Rattle.model.specs.Near.{arcAt}
-use Rattle.model.specs.SearchNeeds.{Network}
-use Rattle.model.proofs.Amounts.{get-set}
+use Rattle.num_bytes.specs.Choice.{pick}
+use Rattle.plant_def.specs.declared.Stream.{Stream}
+use Rattle.plant_def.specs.Limits.{places, maxStreams}
+use Rattle.plant_def.specs.Plants.{noStream}
+use Rattle.flow_def.proofs.Lists.{values-at, values-same}
+use Rattle.flow_def.specs.Certificate.{weightOf}
+use Rattle.solve_def.specs.Sizes.{mostPull}
+use Rattle.solve_def.specs.Held.{readingOf, lowOf, highOf}
+use Rattle.solve_def.specs.Near.{arcAt}
+use Rattle.solve_def.specs.SearchNeeds.{Network}
+use Rattle.solve_def.proofs.Amounts.{get-set}
 use Rattle.solve_arcs.specs.Cells.{toCell, nextCell, countCell, arcCells, arcOf, countOf, startsOf, endsOf, rowCells}
 use Rattle.solve_arcs.specs.ArcNeeds.{Listed, Linked, LaidArcs, Rowed}
 use Rattle.solve_arcs.proofs.Along.{starts-at, ends-at}

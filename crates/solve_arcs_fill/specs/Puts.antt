@@ -2,11 +2,11 @@
 use mathlib.Core.List.{List}
 use Prim.Native.Nat.{ℕ, _+_, _*_}
 use lib.ListN.{getD, set}
-use Rattle.numbers.specs.Inner.{values}
-use Rattle.plants.specs.declared.Stream.{Stream}
-use Rattle.plants.specs.Plants.{noStream}
-use Rattle.flows.specs.Certificate.{weightOf}
-use Rattle.model.specs.Held.{readingOf, lowOf, highOf}
+use Rattle.num_bytes.specs.Inner.{values}
+use Rattle.plant_def.specs.declared.Stream.{Stream}
+use Rattle.plant_def.specs.Plants.{noStream}
+use Rattle.flow_def.specs.Certificate.{weightOf}
+use Rattle.solve_def.specs.Held.{readingOf, lowOf, highOf}
 use Rattle.solve_arcs.specs.Cells.{toCell, nextCell}
 
 -- Where the first n streams start, and where they end.

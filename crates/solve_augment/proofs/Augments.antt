@@ -6,15 +6,15 @@ use Prim.Native.Nat.{ℕ, _+_, _-_, _*_, _≤_, _<_}
 use native.Mathlib.Omega.{arith}
 use lib.Dec.{eqb}
 use lib.ListN.{length, getD, set, take}
-use Rattle.numbers.specs.Choice.{pick}
-use Rattle.numbers.proofs.Tests.{picked}
-use Rattle.plants.specs.Limits.{places, maxStreams}
-use Rattle.plants.specs.Plants.{noStream}
-use Rattle.model.specs.Sizes.{mostFlow, mostStep}
-use Rattle.model.specs.Push.{pushed}
-use Rattle.model.specs.SearchNeeds.{Trail, Roomy}
-use Rattle.model.proofs.Rounds.{push-hit, push-miss}
-use Rattle.model.proofs.Elements.{roomy-less, roomy-set}
+use Rattle.num_bytes.specs.Choice.{pick}
+use Rattle.num_bytes.proofs.Tests.{picked}
+use Rattle.plant_def.specs.Limits.{places, maxStreams}
+use Rattle.plant_def.specs.Plants.{noStream}
+use Rattle.solve_def.specs.Sizes.{mostFlow, mostStep}
+use Rattle.solve_def.specs.Push.{pushed}
+use Rattle.solve_def.specs.SearchNeeds.{Trail, Roomy}
+use Rattle.solve_def.proofs.Rounds.{push-hit, push-miss}
+use Rattle.solve_def.proofs.Elements.{roomy-less, roomy-set}
 use Rattle.solve_arcs.specs.Cells.{toCell, countOf, marginCells}
 use Rattle.solve_arcs.specs.Margins.{marginAt}
 use Rattle.solve_arcs.specs.ArcNeeds.{Laying, Margined, Free}

@@ -1,22 +1,22 @@
 // Augmenting: what is moved along the streams that a search remembers, with their margins; and from excess to excess.
-use model::Route;
-use plants::limits::MAX_STREAMS;
-use plants::limits::PLACES;
+use plant_def::limits::MAX_STREAMS;
+use plant_def::limits::PLACES;
 use solve_arcs::ARCS;
 use solve_arcs::MARGINS;
 use solve_arcs::ROWS;
 use solve_arcs::end_at;
-use solve_margins::put_margins;
+use solve_arcs::put_margins;
+use solve_def::Route;
 ghost use mathlib.Core.Path.{_≡_};
 ghost use Prim.Native.Nat.{ℕ, _+_, _-_, _*_, _≤_, _<_};
 ghost use lib.ListN.{getD, length, take};
-ghost use Rattle.numbers.specs.Choice.{pick};
-ghost use Rattle.plants.specs.Limits.{maxStreams};
-ghost use Rattle.model.specs.Sizes.{mostFlow, mostStep};
-ghost use Rattle.model.specs.Push.{pushed};
-ghost use Rattle.model.specs.Model.{shiftedNets};
-ghost use Rattle.model.specs.SearchNeeds.{Trail, Roomy};
-ghost use Rattle.model.specs.SolverNeeds.{Shiftable};
+ghost use Rattle.num_bytes.specs.Choice.{pick};
+ghost use Rattle.plant_def.specs.Limits.{maxStreams};
+ghost use Rattle.solve_def.specs.Sizes.{mostFlow, mostStep};
+ghost use Rattle.solve_def.specs.Push.{pushed};
+ghost use Rattle.solve_def.specs.Model.{shiftedNets};
+ghost use Rattle.solve_def.specs.SearchNeeds.{Trail, Roomy};
+ghost use Rattle.solve_def.specs.SolverNeeds.{Shiftable};
 ghost use Rattle.solve_arcs.specs.Cells.{toCell, countOf, marginCells};
 ghost use Rattle.solve_arcs.specs.ArcNeeds.{Laying, Margined, Free};
 

@@ -4,13 +4,13 @@ use mathlib.Core.List.{List}
 use Prim.Native.Nat.{ℕ, _≤_, _<_}
 use native.Mathlib.Omega.{arith}
 use lib.ListN.{getD, take}
-use Rattle.plants.specs.Limits.{maxStreams}
-use Rattle.model.specs.Sizes.{mostFlow}
-use Rattle.model.specs.declared.State.{State}
-use Rattle.model.specs.SearchNeeds.{Trail}
-use Rattle.model.proofs.Streams.{Solvable, solvable-of}
-use Rattle.model.proofs.Tall.{sound-moderate}
-use Rattle.model.proofs.Steady.{sound-close}
+use Rattle.plant_def.specs.Limits.{maxStreams}
+use Rattle.solve_def.specs.Sizes.{mostFlow}
+use Rattle.solve_def.specs.declared.State.{State}
+use Rattle.solve_def.specs.SearchNeeds.{Trail}
+use Rattle.solve_def.proofs.Streams.{Solvable, solvable-of}
+use Rattle.solve_def.proofs.Tall.{sound-moderate}
+use Rattle.solve_def.proofs.Steady.{sound-close}
 use Rattle.solve_arcs.specs.Cells.{countOf}
 use Rattle.solve_arcs.specs.ArcNeeds.{Row, Laying, Searching, Margined}
 use Rattle.solve_arcs.proofs.Rowing.{row-of}

@@ -2,11 +2,11 @@
 use mathlib.Core.List.{List}
 use Prim.Native.Nat.{ℕ}
 use lib.ListN.{take}
-use Rattle.plants.specs.declared.Stream.{Stream}
-use Rattle.model.specs.declared.State.{State}
-use Rattle.model.specs.Sizes.{settledRoom}
-use Rattle.model.specs.SearchNeeds.{Network}
-use Rattle.model.specs.SolverNeeds.{Step, Underway}
+use Rattle.plant_def.specs.declared.Stream.{Stream}
+use Rattle.solve_def.specs.declared.State.{State}
+use Rattle.solve_def.specs.Sizes.{settledRoom}
+use Rattle.solve_def.specs.SearchNeeds.{Network}
+use Rattle.solve_def.specs.SolverNeeds.{Step, Underway}
 use Rattle.solve_arcs.specs.ArcNeeds.{Laid, Margined}
 
 -- Streams that arcs and rows are of, and a state in a phase at step d.

@@ -1,22 +1,22 @@
 // Improvements over arcs: net is moved from a place that has too much to one that has too little, at the least cost.
-use closing::refloor;
-use model::Quest;
-use model::Route;
-use model::Searched;
-use plants::limits::MAX_STREAMS;
-use plants::limits::PLACES;
+use plant_def::limits::MAX_STREAMS;
+use plant_def::limits::PLACES;
 use solve_arcs::ARCS;
 use solve_arcs::MARGINS;
 use solve_arcs::ROWS;
 use solve_augment::augment;
 use solve_augment::shift_nets;
+use solve_compress::refloor;
+use solve_def::Quest;
+use solve_def::Route;
+use solve_def::Searched;
 use solve_path::search;
 ghost use mathlib.Core.Path.{_≡_};
 ghost use Prim.Native.Nat.{_+_, _≤_, _<_};
 ghost use lib.ListN.{getD, take};
-ghost use Rattle.plants.specs.Limits.{places};
-ghost use Rattle.model.specs.Sizes.{netShift};
-ghost use Rattle.model.specs.Model.{stateOf, improvedBy, improvedAt};
+ghost use Rattle.plant_def.specs.Limits.{places};
+ghost use Rattle.solve_def.specs.Sizes.{netShift};
+ghost use Rattle.solve_def.specs.Model.{stateOf, improvedBy, improvedAt};
 ghost use Rattle.solve_arcs.specs.ArcNeeds.{Margined};
 ghost use Rattle.solve_improve.specs.Improves.{Improvable};
 

@@ -7,20 +7,20 @@ use native.Mathlib.Omega.{arith}
 use native.Mathlib.Decide.{ℕ-discrete}
 use lib.ListN.{length, getD, set, replicate, length-set, length-replicate, getD-replicate}
 use lib.Seq.{ext-getD, getD-set-same, getD-set-other}
-use Rattle.numbers.proofs.Tests.{clash}
-use Rattle.plants.specs.Limits.{places}
-use Rattle.flows.specs.Sides.{bit}
-use Rattle.flows.proofs.Binary.{bit-zero}
-use Rattle.model.specs.declared.Spot.{Spot}
-use Rattle.model.specs.declared.Tree.{Tree}
-use Rattle.model.specs.Sizes.{netShift, searchRounds, far}
-use Rattle.model.specs.Search.{rootAt, addedTo}
-use Rattle.model.specs.Near.{walkedBy, walked}
-use Rattle.model.proofs.Opening.{open-none}
+use Rattle.num_bytes.proofs.Tests.{clash}
+use Rattle.plant_def.specs.Limits.{places}
+use Rattle.flow_def.specs.Sides.{bit}
+use Rattle.flow_def.proofs.Binary.{bit-zero}
+use Rattle.solve_def.specs.declared.Spot.{Spot}
+use Rattle.solve_def.specs.declared.Tree.{Tree}
+use Rattle.solve_def.specs.Sizes.{netShift, searchRounds, far}
+use Rattle.solve_def.specs.Search.{rootAt, addedTo}
+use Rattle.solve_def.specs.Near.{walkedBy, walked}
+use Rattle.solve_def.proofs.Opening.{open-none}
 use Rattle.solve_arcs.specs.Cells.{countOf, startsOf, endsOf}
 use Rattle.solve_arcs.specs.Margins.{reducedCosts}
-use Rattle.solve_relax.specs.Codes.{shown, Coded}
-use Rattle.solve_relax.proofs.Coding.{shown-at, shown-long}
+use Rattle.solve_path.specs.Codes.{shown, Coded}
+use Rattle.solve_path.proofs.Coding.{shown-at, shown-long}
 use Rattle.solve_path.specs.Paces.{Paced}
 use Rattle.solve_path.proofs.Turns as W
 

@@ -1,4 +1,5 @@
--- Laws of a walk over arcs.
+-- Laws of the codes. Laws of a walk over arcs.
+pub mod Coding
 pub mod Pacing
 pub mod Turns
 pub mod Going

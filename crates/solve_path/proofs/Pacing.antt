@@ -10,20 +10,20 @@ use lib.Bits.{bitAnd, bitXor, and-le-r}
 use lib.Count.{trailingZeros}
 use lib.ListN.{length, getD, set, length-set}
 use lib.Seq.{ext-getD, getD-set-same, getD-set-other}
-use Rattle.numbers.specs.Choice.{pick}
-use Rattle.numbers.proofs.Tests.{clash}
-use Rattle.plants.specs.Limits.{places}
-use Rattle.flows.specs.Sides.{bit}
-use Rattle.flows.proofs.Binary.{unlike, bit-xor, bit-same, bit-other}
-use Rattle.model.specs.Sizes.{far, numbering}
-use Rattle.model.specs.declared.Spot.{Spot}
-use Rattle.model.specs.Near.{nearestWithin}
-use Rattle.model.specs.Fringe.{Open, Stepped}
-use Rattle.model.proofs.Lowest.{lowest, without-lowest, with-others}
-use Rattle.model.proofs.Opening.{Scan, scan-none, scan-nearer, scan-not, scan-near}
-use Rattle.model.proofs.Stepping.{step-none, step-in, step-some}
-use Rattle.solve_relax.specs.Codes.{shown, Coded, lookedAt, Looked}
-use Rattle.solve_relax.proofs.Coding.{shown-at, shown-long, shown-open}
+use Rattle.num_bytes.specs.Choice.{pick}
+use Rattle.num_bytes.proofs.Tests.{clash}
+use Rattle.plant_def.specs.Limits.{places}
+use Rattle.flow_def.specs.Sides.{bit}
+use Rattle.flow_def.proofs.Binary.{unlike, bit-xor, bit-same, bit-other}
+use Rattle.solve_def.specs.Sizes.{far, numbering}
+use Rattle.solve_def.specs.declared.Spot.{Spot}
+use Rattle.solve_def.specs.Near.{nearestWithin}
+use Rattle.solve_def.specs.Fringe.{Open, Stepped}
+use Rattle.solve_def.proofs.Lowest.{lowest, without-lowest, with-others}
+use Rattle.solve_def.proofs.Opening.{Scan, scan-none, scan-nearer, scan-not, scan-near}
+use Rattle.solve_def.proofs.Stepping.{step-none, step-in, step-some}
+use Rattle.solve_path.specs.Codes.{shown, Coded, lookedAt, Looked}
+use Rattle.solve_path.proofs.Coding.{shown-at, shown-long, shown-open}
 use Rattle.solve_path.specs.Paces.{Paced}
 
 -- The places of the fringe are looked at, by the codes that are kept; `left` are the others.

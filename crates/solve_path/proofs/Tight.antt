@@ -7,26 +7,26 @@ use native.Mathlib.Omega.{arith}
 use borrow.Author.Tests.{lt-ltb, le-ltb, ltb-false}
 use lib.Dec.{ltb}
 use lib.ListN.{length, getD, set, replicate, length-set, length-replicate}
-use Rattle.numbers.specs.Choice.{pick}
-use Rattle.numbers.proofs.Tests.{by-cases}
-use Rattle.plants.specs.Limits.{places}
-use Rattle.model.specs.declared.Spot.{Spot}
-use Rattle.model.specs.declared.Tree.{Tree}
-use Rattle.model.specs.declared.Walked.{Walked}
-use Rattle.model.specs.declared.Searched.{Searched}
-use Rattle.model.specs.Sizes.{netShift, searchRounds, far, farthest, numbering}
-use Rattle.model.specs.Search.{rootAt, addedTo}
-use Rattle.model.specs.Near.{nearestTo, nearestWithin, goalAt, walkedBy, walked}
-use Rattle.model.specs.Fringe.{Open, Stepped}
-use Rattle.model.proofs.Filling.{getD-any, relaxed-all-long}
-use Rattle.model.proofs.Nearing.{nearest-is}
-use Rattle.model.proofs.Steps.{within-is}
-use Rattle.model.proofs.Stepping.{step-none}
-use Rattle.model.proofs.Rounding.{goal-hit, goal-miss}
+use Rattle.num_bytes.specs.Choice.{pick}
+use Rattle.num_bytes.proofs.Tests.{by-cases}
+use Rattle.plant_def.specs.Limits.{places}
+use Rattle.solve_def.specs.declared.Spot.{Spot}
+use Rattle.solve_def.specs.declared.Tree.{Tree}
+use Rattle.solve_def.specs.declared.Walked.{Walked}
+use Rattle.solve_def.specs.declared.Searched.{Searched}
+use Rattle.solve_def.specs.Sizes.{netShift, searchRounds, far, farthest, numbering}
+use Rattle.solve_def.specs.Search.{rootAt, addedTo}
+use Rattle.solve_def.specs.Near.{nearestTo, nearestWithin, goalAt, walkedBy, walked}
+use Rattle.solve_def.specs.Fringe.{Open, Stepped}
+use Rattle.solve_def.proofs.Filling.{getD-any, relaxed-all-long}
+use Rattle.solve_def.proofs.Nearing.{nearest-is}
+use Rattle.solve_def.proofs.Steps.{within-is}
+use Rattle.solve_def.proofs.Stepping.{step-none}
+use Rattle.solve_def.proofs.Rounding.{goal-hit, goal-miss}
 use Rattle.solve_arcs.specs.Cells.{countOf, startsOf, endsOf}
 use Rattle.solve_arcs.specs.Margins.{reducedCosts}
-use Rattle.solve_relax.specs.Codes.{shown, Coded, lookedAt}
-use Rattle.solve_relax.proofs.Coding.{shown-long}
+use Rattle.solve_path.specs.Codes.{shown, Coded, lookedAt}
+use Rattle.solve_path.proofs.Coding.{shown-long}
 use Rattle.solve_path.specs.Paces.{Paced, Tightly}
 use Rattle.solve_path.proofs.Turns as W
 use Rattle.solve_path.proofs.Going.{first-shown, first-coded}

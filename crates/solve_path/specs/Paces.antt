@@ -4,13 +4,13 @@ use mathlib.Core.Bool.{Bool, true}
 use mathlib.Core.List.{List}
 use Prim.Native.Nat.{ℕ}
 use lib.ListN.{set}
-use Rattle.plants.specs.Limits.{places}
-use Rattle.model.specs.Sizes.{far}
-use Rattle.model.specs.declared.Spot.{Spot}
-use Rattle.model.specs.declared.Walked.{Walked}
-use Rattle.model.specs.declared.Searched.{Searched}
-use Rattle.model.specs.Fringe.{Stepped}
-use Rattle.solve_relax.specs.Codes.{shown, Coded, lookedAt}
+use Rattle.plant_def.specs.Limits.{places}
+use Rattle.solve_def.specs.Sizes.{far}
+use Rattle.solve_def.specs.declared.Spot.{Spot}
+use Rattle.solve_def.specs.declared.Walked.{Walked}
+use Rattle.solve_def.specs.declared.Searched.{Searched}
+use Rattle.solve_def.specs.Fringe.{Stepped}
+use Rattle.solve_path.specs.Codes.{shown, Coded, lookedAt}
 
 pub record Paced (ls ms ps : List ℕ) (k e : ℕ) (before after : List ℕ) (r : Spot) (vs : List Bool) : Type 0 where
   pub stepped : Stepped far (lookedAt ls ms ps vs k e (shown vs before)) k (shown (set vs (r .place) true) after) r

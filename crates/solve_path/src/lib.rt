@@ -1,22 +1,78 @@
-// Shortest paths: the search over visited places, along arcs by their reduced costs.
-use model::Searched;
-use plants::limits::PLACES;
+// Shortest paths: the search over visited places, along the arcs of each by their reduced costs.
+use plant_def::limits::PLACES;
 use solve_arcs::ARCS;
 use solve_arcs::MARGINS;
-use solve_held::minus;
+use solve_arcs::NONE;
+use solve_arcs::end_at;
+use solve_arcs::first_at;
+use solve_arcs::lesser;
+use solve_arcs::minus;
+use solve_arcs::next_at;
+use solve_arcs::reduced_cost;
+use solve_def::Searched;
+use solve_def::Spot;
+use solve_def::sizes::NUMBERING;
 use walking::tight_walk;
 use walking::walk;
-ghost use mathlib.Core.Path.{_≡_};
-ghost use Prim.Native.Nat.{ℕ, _-_, _<_};
-ghost use lib.ListN.{length, take};
-ghost use Rattle.numbers.specs.Choice.{pick};
-ghost use Rattle.plants.specs.Limits.{places};
-ghost use Rattle.model.specs.Search.{rootAt, grownBy, sought, tightPath};
-ghost use Rattle.model.specs.Sizes.{searchRounds};
-ghost use Rattle.model.specs.Near.{reducedBy};
-ghost use Rattle.solve_arcs.specs.ArcNeeds.{Searching};
 
 pub mod walking;
+
+ghost use mathlib.Core.Bool.{Bool};
+ghost use mathlib.Core.List.{List};
+ghost use mathlib.Core.Path.{_≡_};
+ghost use Prim.Native.Nat.{_+_, _*_, _<_, ℕ, _-_};
+ghost use lib.ListN.{length, take};
+ghost use Rattle.plant_def.specs.Limits.{places, maxStreams};
+ghost use Rattle.solve_def.specs.Sizes.{farthest, far, searchRounds};
+ghost use Rattle.num_bytes.specs.Choice.{pick};
+ghost use Rattle.solve_def.specs.Near.{codeOf, lessened, reducedBy};
+ghost use Rattle.solve_def.specs.Fringe.{openedBy};
+ghost use Rattle.solve_arcs.specs.ArcNeeds.{Ways, Searching};
+ghost use Rattle.solve_path.specs.Codes.{Coded, Looked};
+ghost use Rattle.solve_def.specs.Search.{rootAt, grownBy, sought, tightPath};
+
+fn digit(b: bool) -> u64
+    ensures { λ r. ⌜ r ≡ pick b 1 0 ⌝ }
+{
+    if b { 1 } else { 0 }
+}
+
+// Place v is offered distance d over stream i; its bit, where that is nearer. (Which it is cannot be foreseen: so the code is stored in
+// any case.)
+fn offer(near: &mut [u64; PLACES], v: usize, d: u64, i: usize) -> u64
+    requires { ⌜ (d < 2 * farthest) × (v < places) × (i < maxStreams) × (length (now near) ≡ places) ⌝ }
+    ensures { λ r. ⌜ (now (near .exit) ≡ lessened (now (near .entry)) v (codeOf d i)) × (r ≡ openedBy far (now (near .entry)) v d i) ⌝ }
+{
+    let code = d * NUMBERING + i as u64;
+    let old = near[v];
+    near[v] = lesser(old, code);
+    digit(code < old) << v
+}
+
+// The arcs of the place visited last are gone along, and each place that they lead to is offered its distance; the fringe after that.
+pub fn relax(
+    arcs: &[u8; ARCS],
+    margins: &[u64; MARGINS],
+    prices: &[u64; PLACES],
+    at: Spot,
+    near: &mut [u64; PLACES],
+) -> u64
+    requires { ⌜ Ways (now arcs) (now margins) (now prices) × (at .place < places) × (at .distance < farthest) × (length (now near) ≡ places) ⌝ }
+    ensures { λ r. ⌜ (length (now (near .exit)) ≡ places) × ((vs : List Bool) → Coded vs (now (near .entry)) (at .fringe) → Looked (now (arcs .entry)) (now (margins .entry)) (now (prices .entry)) (at .distance) (at .place) (now (near .entry)) (at .fringe) (now (near .exit)) r vs) ⌝ }
+{
+    let e = at.place;
+    let p = prices[e];
+    let mut fringe = at.fringe;
+    let mut arc = first_at(arcs, e);
+    while arc < NONE {
+        let v = end_at(arcs, arc);
+        let g = reduced_cost(margins[arc], p, prices[v]);
+        let bit = offer(near, v, at.distance + g, arc / 2);
+        fringe = fringe | bit;
+        arc = next_at(arcs, arc);
+    }
+    fringe
+}
 
 // The price of a visited place falls by what the search's distance exceeds its own; another's stays.
 fn fall(visited: bool, reach: u64, dist: u64) -> u64

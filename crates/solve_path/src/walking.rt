@@ -1,28 +1,28 @@
 // The walk from a place: the nearest place is visited, again and again.
-use model::Searched;
-use model::Spot;
-use model::Tree;
-use model::Walked;
-use model::sizes::FAR;
-use model::sizes::NET_SHIFT;
-use model::sizes::NUMBERING;
-use plants::limits::PLACES;
+use crate::relax;
+use plant_def::limits::PLACES;
 use solve_arcs::ARCS;
 use solve_arcs::MARGINS;
-use solve_relax::relax;
+use solve_def::Searched;
+use solve_def::Spot;
+use solve_def::Tree;
+use solve_def::Walked;
+use solve_def::sizes::FAR;
+use solve_def::sizes::NET_SHIFT;
+use solve_def::sizes::NUMBERING;
 ghost use mathlib.Core.Bool.{Bool, true, false};
 ghost use mathlib.Core.List.{List};
 ghost use mathlib.Core.Path.{_≡_};
 ghost use Prim.Native.Nat.{_<_};
 ghost use lib.ListN.{length, replicate};
-ghost use Rattle.plants.specs.Limits.{places};
-ghost use Rattle.model.specs.Sizes.{searchRounds, farthest, far};
-ghost use Rattle.model.specs.Search.{rootAt};
-ghost use Rattle.model.specs.Near.{nearestWithin, goalAt, walkedBy, walked};
+ghost use Rattle.plant_def.specs.Limits.{places};
+ghost use Rattle.solve_def.specs.Sizes.{searchRounds, farthest, far};
+ghost use Rattle.solve_def.specs.Search.{rootAt};
+ghost use Rattle.solve_def.specs.Near.{nearestWithin, goalAt, walkedBy, walked};
 ghost use Rattle.solve_arcs.specs.Cells.{countOf, startsOf, endsOf};
 ghost use Rattle.solve_arcs.specs.Margins.{reducedCosts};
 ghost use Rattle.solve_arcs.specs.ArcNeeds.{Ways};
-ghost use Rattle.solve_relax.specs.Codes.{shown, Coded};
+ghost use Rattle.solve_path.specs.Codes.{shown, Coded};
 ghost use Rattle.solve_path.specs.Paces.{Paced, Tightly};
 
 // The most places that a walk visits after the first.

@@ -8,25 +8,25 @@ use borrow.Author.Tests.{lt-ltb, le-ltb, eqb-true, eqb-false}
 use lib.Dec.{eqb, ltb}
 use lib.ListN.{length, getD, take}
 use lib.Seq.{getD-take}
-use Rattle.numbers.specs.Choice.{pick}
-use Rattle.numbers.proofs.Tests.{clash}
-use Rattle.plants.specs.declared.Stream.{Stream}
-use Rattle.plants.specs.Limits.{maxUnits}
-use Rattle.plants.specs.Plants.{noStream}
-use Rattle.flows.specs.Flows.{streamAt}
-use Rattle.flows.specs.Certificate.{weightOf}
-use Rattle.model.specs.declared.Tree.{Tree}
-use Rattle.model.specs.Sizes.{farthest}
-use Rattle.model.specs.Slack.{slackAt, slackPast}
-use Rattle.model.specs.Search.{Grown}
-use Rattle.model.specs.SearchNeeds.{Network, Trail, Walkable}
-use Rattle.model.specs.Model.{tiedAt}
-use Rattle.model.specs.SolverNeeds.{Even, Falls}
-use Rattle.model.proofs.Streams.{stream-is, in-use, solvable-of}
-use Rattle.model.proofs.Weights.{weight-least}
-use Rattle.model.proofs.TightPath.{Path, way, shut}
-use Rattle.model.proofs.Detours.{round-path}
-use Rattle.model.proofs.TieTurns.{lack, searched, tied-free, tied-slack}
+use Rattle.num_bytes.specs.Choice.{pick}
+use Rattle.num_bytes.proofs.Tests.{clash}
+use Rattle.plant_def.specs.declared.Stream.{Stream}
+use Rattle.plant_def.specs.Limits.{maxUnits}
+use Rattle.plant_def.specs.Plants.{noStream}
+use Rattle.flow_def.specs.Flows.{streamAt}
+use Rattle.flow_def.specs.Certificate.{weightOf}
+use Rattle.solve_def.specs.declared.Tree.{Tree}
+use Rattle.solve_def.specs.Sizes.{farthest}
+use Rattle.solve_def.specs.Slack.{slackAt, slackPast}
+use Rattle.solve_def.specs.Search.{Grown}
+use Rattle.solve_def.specs.SearchNeeds.{Network, Trail, Walkable}
+use Rattle.solve_def.specs.Model.{tiedAt}
+use Rattle.solve_def.specs.SolverNeeds.{Even, Falls}
+use Rattle.solve_def.proofs.Streams.{stream-is, in-use, solvable-of}
+use Rattle.solve_def.proofs.Weights.{weight-least}
+use Rattle.solve_def.proofs.TightPath.{Path, way, shut}
+use Rattle.solve_def.proofs.Detours.{round-path}
+use Rattle.solve_def.proofs.TieTurns.{lack, searched, tied-free, tied-slack}
 use Rattle.solve_arcs.specs.Cells.{toCell, arcOf, countOf}
 use Rattle.solve_arcs.specs.Margins as Mg
 use Rattle.solve_arcs.specs.Margins.{spared, reducedCost, reducedCosts}

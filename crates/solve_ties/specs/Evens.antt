@@ -2,9 +2,9 @@
 use mathlib.Core.List.{List}
 use Prim.Native.Nat.{ℕ, _<_}
 use lib.ListN.{take}
-use Rattle.plants.specs.declared.Stream.{Stream}
-use Rattle.model.specs.SearchNeeds.{Network, Prices}
-use Rattle.model.specs.SolverNeeds.{Even, Falls}
+use Rattle.plant_def.specs.declared.Stream.{Stream}
+use Rattle.solve_def.specs.SearchNeeds.{Network, Prices}
+use Rattle.solve_def.specs.SolverNeeds.{Even, Falls}
 use Rattle.solve_arcs.specs.ArcNeeds.{Laid}
 
 pub record Tieable (ls rs ps : List ℕ) (i : ℕ) (xs : List ℕ) : Type 0 where

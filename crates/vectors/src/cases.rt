@@ -16,12 +16,12 @@
 //
 // then the bytes handed in, then those of the slice. What they are for each call stands beside each.
 use crate::calls::call;
-use file_trials::cases::ROOM;
-use file_trials::cases::next_u32;
-use file_trials::cases::next_u64;
-use file_trials::cases::read_part;
-use file_trials::cases::same_part;
-use file_trials::cases::size_in;
+use case_files::cases::ROOM;
+use case_files::cases::next_u32;
+use case_files::cases::next_u64;
+use case_files::cases::read_part;
+use case_files::cases::same_part;
+use case_files::cases::size_in;
 ghost use mathlib.Core.Path.{_≡_};
 ghost use lib.ListN.{length};
 

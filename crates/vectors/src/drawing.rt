@@ -1,10 +1,10 @@
 // The sheet call.
-use file_trials::cases::NO_CASE;
-use file_trials::cases::told;
-use numbers::get_u32;
-use numbers::put_u32;
-use sheets::kinds::OFFICES;
-use trials::marking::tested;
+use case_calls::marking::tested;
+use case_files::cases::NO_CASE;
+use case_files::cases::told;
+use num_bytes::get_u32;
+use num_bytes::put_u32;
+use sheet_def::kinds::OFFICES;
 ghost use Prim.Native.Nat.{_≤_};
 ghost use lib.ListN.{length};
 
@@ -22,7 +22,7 @@ fn others(lasts: [u32; OFFICES]) -> bool {
 // The sheet call of office 0: handed in its last sheet number, the others' being 0, and the plant file. Where another office's number
 // is not as it was, the answer stands in no case.
 pub fn sheet(number: u32, given: &[u8], out: &mut [u8]) -> u64 {
-    let drawn = sheet_calls::balance_plant(given, 0, office_history::offices_from(number), out);
+    let drawn = sheet_call::balance_plant(given, 0, sheet_history::offices_from(number), out);
     let after = drawn.lasts;
     if others(after) {
         return NO_CASE;
@@ -81,7 +81,7 @@ pub fn office_sheet(given: &[u8], out: &mut [u8]) -> u64 {
         return NO_CASE;
     }
     let lasts = lasts_in(&given[1..]);
-    let drawn = sheet_calls::balance_plant(&given[FRONT..], given[0], lasts, &mut out[LASTS..]);
+    let drawn = sheet_call::balance_plant(&given[FRONT..], given[0], lasts, &mut out[LASTS..]);
     let after = drawn.lasts;
     put_lasts(after, out);
     let marked = drawn.marked;

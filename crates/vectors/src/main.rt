@@ -4,12 +4,12 @@ mod cases;
 mod drawing;
 mod solving;
 
+use case_files::cases::open_argument;
+use case_files::cases::say_cases;
+use case_files::cases::say_differs;
 use cases::END;
 use cases::WRONG;
 use cases::try_next;
-use file_trials::cases::open_argument;
-use file_trials::cases::say_cases;
-use file_trials::cases::say_differs;
 
 // A file has no more cases than this.
 const MOST_CASES: u64 = 10_000;

@@ -1,10 +1,10 @@
 // The solver.
-use file_trials::cases::NO_CASE;
-use file_trials::cases::told;
-use plants::limits::MAX_STREAMS;
-use trials::marking::tested;
-use trials::solved::no_hint;
-use trials::solved::put_flows;
+use case_calls::marking::tested;
+use case_calls::solved::no_hint;
+use case_calls::solved::put_flows;
+use case_files::cases::NO_CASE;
+use case_files::cases::told;
+use plant_def::limits::MAX_STREAMS;
 ghost use mathlib.Core.Path.{_≡_};
 ghost use Prim.Native.Nat.{_≤_};
 ghost use lib.ListN.{length};
@@ -13,13 +13,13 @@ ghost use lib.ListN.{length};
 fn solve_file(asked: &[u8], file: &[u8], out: &mut [u8]) -> u64
     requires { ⌜ (96 ≤ length (now asked)) × (length (now out) ≡ 768) ⌝ }
 {
-    let read = plant_reader::read_plant(file);
+    let read = plant_read::read_plant(file);
     let number = read.number;
     if number != 0 {
         return told(number, 0, 0);
     }
     let p = read.plant;
-    let solved = solver::solve_from(p, no_hint());
+    let solved = solve_call::solve_from(p, no_hint());
     if !solved.found {
         let marked = solved.marked;
         return tested(told(19, 0, 0), 19, file, marked);

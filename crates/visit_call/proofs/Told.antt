@@ -5,19 +5,19 @@ use mathlib.Core.List.{List}
 use Prim.Native.Nat.{ℕ, _<_}
 use native.Mathlib.Omega.{arith}
 use lib.ListN.{getD, replicate}
-use Rattle.plants.specs.declared.Plant as Arrays
-use Rattle.plants.specs.Limits.{maxStreams}
-use Rattle.plants.specs.Plants.{Plant}
-use Rattle.plants.specs.Within.{Accepted}
-use Rattle.plants.specs.Says.{plantOf}
-use Rattle.plants.proofs.Arrayed.{all-listed, within-of}
-use Rattle.flows.specs.declared.Class.{Class}
-use Rattle.flows.specs.declared.Class.the-variants.{Adjusted}
-use Rattle.flows.specs.Classes.{classOf}
-use Rattle.flows.specs.Calls.{classesOf}
-use Rattle.flows.proofs.Lists.{Written, values-at}
-use Rattle.model.specs.declared.Solved.{Solved}
-use Rattle.model.specs.Promise.{flowOf, Solution}
+use Rattle.plant_def.specs.declared.Plant as Arrays
+use Rattle.plant_def.specs.Limits.{maxStreams}
+use Rattle.plant_def.specs.Plants.{Plant}
+use Rattle.plant_def.specs.Within.{Accepted}
+use Rattle.plant_def.specs.Says.{plantOf}
+use Rattle.plant_def.proofs.Arrayed.{all-listed, within-of}
+use Rattle.flow_def.specs.declared.Class.{Class}
+use Rattle.flow_def.specs.declared.Class.the-variants.{Adjusted}
+use Rattle.flow_def.specs.Classes.{classOf}
+use Rattle.flow_def.specs.Calls.{classesOf}
+use Rattle.flow_def.proofs.Lists.{Written, values-at}
+use Rattle.solve_def.specs.declared.Solved.{Solved}
+use Rattle.solve_def.specs.Promise.{flowOf, Solution}
 use Rattle.visit_def.specs.declared.Visits.{Visits}
 use Rattle.visit_def.specs.Visits.{without, LeastCost, Feasible, isAdjusted, isListed, AllLeast}
 use Rattle.visit_def.specs.Says.{VisitsFor}

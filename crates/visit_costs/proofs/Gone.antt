@@ -7,13 +7,13 @@ use native.Mathlib.Omega.{arith}
 use native.Mathlib.Decide.{ℕ-discrete}
 use lib.ListN.{length, getD, set, take, length-set}
 use lib.Seq.{getD-set-same, getD-set-other}
-use Rattle.plants.specs.declared.Stream.{Stream}
-use Rattle.plants.specs.declared.Plant as Arrays
-use Rattle.plants.specs.Plants.{Plant, noStream}
-use Rattle.plants.specs.Within.{Accepted}
-use Rattle.plants.specs.Says.{plantOf}
-use Rattle.plants.proofs.Arrayed.{listed-at}
-use Rattle.flows.specs.Flows.{streamAt}
+use Rattle.plant_def.specs.declared.Stream.{Stream}
+use Rattle.plant_def.specs.declared.Plant as Arrays
+use Rattle.plant_def.specs.Plants.{Plant, noStream}
+use Rattle.plant_def.specs.Within.{Accepted}
+use Rattle.plant_def.specs.Says.{plantOf}
+use Rattle.plant_def.proofs.Arrayed.{listed-at}
+use Rattle.flow_def.specs.Flows.{streamAt}
 use Rattle.visit_def.specs.Visits.{unmeter, without, LeastCost, Feasible}
 use Rattle.visit_def.proofs.Unmetered.{parts-gone, feasible}
 

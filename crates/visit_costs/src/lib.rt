@@ -1,19 +1,52 @@
-// The least costs without the meter of one stream, for each A stream.
-use flows::Class;
-use plants::Plant;
-use plants::limits::MAX_STREAMS;
-use plants::streams::unmetered_stream;
-use visit_least::least_cost;
+// The least cost of a plant without the meter of one stream, for each A stream.
+use flow_components::group;
+use flow_def::Class;
+use flow_def::Which;
+use plant_def::Plant;
+use plant_def::limits::MAX_STREAMS;
+use plant_def::streams::unmetered_stream;
+use sheet_cost::cost_of;
+use sheet_entries::opened_flows;
+use solve_arcs::ARCS;
+use solve_arcs::MARGINS;
+use solve_arcs::NONE;
+use solve_arcs::ROWS;
+use solve_arcs_fill::lay;
+use solve_phases::finishing::finish;
+use solve_start::start;
+ghost use Rattle.plant_def.specs.Within.{Accepted};
+ghost use Rattle.plant_def.specs.Says.{plantOf};
+ghost use Rattle.visit_def.specs.Visits.{LeastCost, Feasible, without, isAdjusted};
 ghost use mathlib.Core.Path.{_≡_};
 ghost use mathlib.Core.Bool.{true, false};
 ghost use Prim.Native.Nat.{ℕ, _<_};
 ghost use lib.ListN.{getD, replicate};
-ghost use Rattle.plants.specs.Limits.{maxStreams};
-ghost use Rattle.plants.specs.Within.{Accepted};
-ghost use Rattle.plants.specs.Says.{plantOf};
-ghost use Rattle.flows.specs.declared.Class.the-variants.{Adjusted};
-ghost use Rattle.flows.specs.Written.{Written};
-ghost use Rattle.visit_def.specs.Visits.{without, LeastCost, Feasible, isAdjusted};
+ghost use Rattle.plant_def.specs.Limits.{maxStreams};
+ghost use Rattle.flow_def.specs.declared.Class.the-variants.{Adjusted};
+ghost use Rattle.flow_def.specs.Written.{Written};
+
+// The least cost, as it is written on a sheet. (No set of places is overfull.)
+pub fn least_cost(p: Plant) -> u64
+    requires { ⌜ Accepted p × Feasible (plantOf p) ⌝ }
+    ensures { λ r. ⌜ LeastCost (plantOf p) r ⌝ }
+{
+    let labels = group(p, Which::Unmetered);
+    let streams = p.streams;
+    let count = p.count as usize;
+    let mut arcs = [NONE as u8; ARCS];
+    let mut rows = [0u64; ROWS];
+    let mut margins = [0u64; MARGINS];
+    lay(streams, count, &mut arcs, &mut rows);
+    let begun = start(p, labels, &arcs, &rows);
+    let e = finish(&arcs, &rows, &mut margins, begun);
+    if e.full {
+        return 0;
+    }
+    let st = e.state;
+    let held = st.flows;
+    let flows = opened_flows(held);
+    cost_of(p, flows)
+}
 
 // The plant with stream k unmetered, and its range gone.
 fn unmeter_one(p: Plant, k: usize) -> Plant

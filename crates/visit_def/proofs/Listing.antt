@@ -8,14 +8,14 @@ use native.Mathlib.Decide.{decLe}
 use lib.Dec.{eqb, ltb}
 use lib.ListN.{length, getD}
 use lib.Seq.{ext-getD}
-use Rattle.numbers.proofs.Tests.{by-cases}
-use Rattle.plants.specs.Limits.{maxStreams}
-use Rattle.plants.specs.Plants.{Plant}
-use Rattle.forests.specs.Loops.{countTo}
-use Rattle.forests.proofs.Counts.{count-same}
+use Rattle.num_bytes.proofs.Tests.{by-cases}
+use Rattle.plant_def.specs.Limits.{maxStreams}
+use Rattle.plant_def.specs.Plants.{Plant}
+use Rattle.flow_def.specs.Loops.{countTo}
+use Rattle.flow_def.proofs.Counts.{count-same}
 use Rattle.visit_def.specs.declared.Visits.{Visits}
 use Rattle.visit_def.specs.Visits.{isListed, comesFirst, placeOf, Ordered}
-use Rattle.forests.proofs.Places.{keyOf, by-key, belowTo, Different, below-few, apart, rises, taken}
+use Rattle.flow_def.proofs.Places.{keyOf, by-key, belowTo, Different, below-few, apart, rises, taken}
 
 module _ (p : Plant) (few : length (p .streams) ≤ maxStreams) (costs : ℕ → ℕ) where
   abbrev n : ℕ

@@ -7,33 +7,33 @@ use lib.IntN.{ℤ}
 use Prim.Native.Nat.{ℕ, _≤_, _<_}
 use native.Mathlib.Omega.{arith}
 use lib.ListN.{length}
-use Rattle.numbers.proofs.Tests.{clash}
-use Rattle.plants.specs.declared.Read.{Read}
-use Rattle.plants.specs.Limits.{maxStreams}
-use Rattle.plants.specs.Plants.{Plant}
-use Rattle.plants.specs.Files.{Got, bad, got, readPlant}
-use Rattle.plants.specs.Within.{Within}
-use Rattle.plants.specs.Says.{plantOf, readOf}
-use Rattle.plants.proofs.Limited.{within}
-use Rattle.plants.proofs.Accepted.{accepted}
-use Rattle.plants.proofs.Arrayed.{read-held}
-use Rattle.flows.specs.declared.Class.{Class}
-use Rattle.flows.specs.declared.Class.the-variants.{Adjusted, AsRead, Given, Withheld}
-use Rattle.flows.specs.Flows.{streamAt, allowed}
-use Rattle.flows.specs.Classes.{classOf}
-use Rattle.flows.specs.Overfull.{Overfull}
-use Rattle.flows.proofs.Given.{class-means}
-use Rattle.flows.proofs.Chained.{adjusted-of}
-use Rattle.flows.proofs.Overfull.{overfull-none}
-use Rattle.model.proofs.Demand.{refusal-19}
-use Rattle.sheets.specs.Sentences.{EndsJoined}
-use Rattle.sheets.proofs.Promise.{read-bad, found}
+use Rattle.num_bytes.proofs.Tests.{clash}
+use Rattle.plant_def.specs.declared.Read.{Read}
+use Rattle.plant_def.specs.Limits.{maxStreams}
+use Rattle.plant_def.specs.Plants.{Plant}
+use Rattle.plant_def.specs.Files.{Got, bad, got, readPlant}
+use Rattle.plant_def.specs.Within.{Within}
+use Rattle.plant_def.specs.Says.{plantOf, readOf}
+use Rattle.plant_def.proofs.Limited.{within}
+use Rattle.plant_def.proofs.Accepted.{accepted}
+use Rattle.plant_def.proofs.Arrayed.{read-held}
+use Rattle.flow_def.specs.declared.Class.{Class}
+use Rattle.flow_def.specs.declared.Class.the-variants.{Adjusted, AsRead, Given, Withheld}
+use Rattle.flow_def.specs.Flows.{streamAt, allowed}
+use Rattle.flow_def.specs.Classes.{classOf}
+use Rattle.flow_def.specs.Overfull.{Overfull}
+use Rattle.flow_def.proofs.Given.{class-means}
+use Rattle.flow_def.proofs.Chained.{adjusted-of}
+use Rattle.flow_def.proofs.Overfull.{overfull-none}
+use Rattle.solve_def.proofs.Demand.{refusal-19}
+use Rattle.sheet_def.specs.Sentences.{EndsJoined}
+use Rattle.sheet_def.proofs.Promise.{read-bad, found}
 use Rattle.visit_def.specs.declared.Visits.{Visits}
 use Rattle.visit_def.specs.Visits.{without, isAdjusted, isListed, AllLeast, Ordered}
 use Rattle.visit_def.specs.Says.{noVisits, VisitsFor, VisitsWith, VisitsSays, Meters-worth-a-visit}
 use Rattle.visit_def.proofs.Unmetered.{feasible, sheet-without, not-above, one-cost}
 use Rattle.visit_def.proofs.Listing.{stands, in-order, one-list, ordered-by}
-use Rattle.forests.proofs.Counts.{count-few}
+use Rattle.flow_def.proofs.Counts.{count-few}
 
 -- One answer of a plant.
 same-for : (file : List ℕ) (p : Plant) → readPlant file ≡ got p → (r r′ : Visits) → VisitsFor p r → VisitsFor p r′ → r ≡ r′

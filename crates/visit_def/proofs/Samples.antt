@@ -6,10 +6,10 @@ use lib.IntN.{ℤ, pos}
 use Prim.Native.Nat.{ℕ, zero, suc, _≤_, _<_}
 use native.Mathlib.Omega.{arith}
 use lib.ListN.{length, getD, replicate}
-use Rattle.plants.specs.Plants.{Plant, unmetered}
-use Rattle.plants.proofs.Limited.{within}
-use Rattle.plants.proofs.Accepted.{accepted}
-use Rattle.flows.specs.Flows.{allowed, cost}
+use Rattle.plant_def.specs.Plants.{Plant, unmetered}
+use Rattle.plant_def.proofs.Limited.{within}
+use Rattle.plant_def.proofs.Accepted.{accepted}
+use Rattle.flow_def.specs.Flows.{allowed, cost}
 use Rattle.visit_def.specs.Visits.{without, LeastCost, isListed, AllLeast, placeOf, Ordered}
 use Rattle.visit_def.specs.Says.{VisitsSays}
 use Rattle.visit_def.specs.Sample.{sampleFile, sampleVisits, Sample}

@@ -10,19 +10,19 @@ use borrow.Author.Tests.{le-leb, lt-leb}
 use lib.Dec.{eqb}
 use lib.ListN.{length, getD, set, length-set}
 use lib.Seq.{getD-set-same, getD-set-other}
-use Rattle.numbers.specs.Choice.{pick}
-use Rattle.numbers.proofs.Tests.{and-left, and-right, and-both, clash}
-use Rattle.plants.specs.declared.Stream.{Stream}
-use Rattle.plants.specs.Plants.{Plant, noStream}
-use Rattle.plants.specs.Files.{got, readPlant}
-use Rattle.plants.specs.Within.{WithinStream, WithinParts, Within}
-use Rattle.plants.proofs.Limited.{within}
-use Rattle.plants.proofs.Accepted.{accepted}
-use Rattle.flows.specs.Flows.{streamAt, netAt, balancedTo, balanced, inRange, inRanges, allowedOver, allowed, costOver, cost, Cheapest}
-use Rattle.flows.proofs.Decided.{Decided, solved, full}
-use Rattle.flows.proofs.Overfull.{overfull-none}
-use Rattle.model.proofs.Theorem.{decided}
-use Rattle.sheets.specs.Apart.{topCost, capped}
+use Rattle.num_bytes.specs.Choice.{pick}
+use Rattle.num_bytes.proofs.Tests.{and-left, and-right, and-both, clash}
+use Rattle.plant_def.specs.declared.Stream.{Stream}
+use Rattle.plant_def.specs.Plants.{Plant, noStream}
+use Rattle.plant_def.specs.Files.{got, readPlant}
+use Rattle.plant_def.specs.Within.{WithinStream, WithinParts, Within}
+use Rattle.plant_def.proofs.Limited.{within}
+use Rattle.plant_def.proofs.Accepted.{accepted}
+use Rattle.flow_def.specs.Flows.{streamAt, netAt, balancedTo, balanced, inRange, inRanges, allowedOver, allowed, costOver, cost, Cheapest}
+use Rattle.flow_def.proofs.Decided.{Decided, solved, full}
+use Rattle.flow_def.proofs.Overfull.{overfull-none}
+use Rattle.solve_def.proofs.Theorem.{decided}
+use Rattle.sheet_def.specs.Apart.{topCost, capped}
 use Rattle.visit_def.specs.Visits.{unmeter, without, LeastCost}
 
 abbrev gone : List Stream → ℕ → List Stream

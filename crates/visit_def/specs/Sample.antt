@@ -3,8 +3,8 @@ use mathlib.Core.Path.{_≡_}
 use mathlib.Core.List.{List, [], _∷_}
 use Prim.Native.Nat.{ℕ}
 use lib.ListN.{replicate}
-use Rattle.numbers.specs.Arrays.{filled}
-use Rattle.plants.specs.Limits.{maxStreams}
+use Rattle.num_bytes.specs.Arrays.{filled}
+use Rattle.plant_def.specs.Limits.{maxStreams}
 use Rattle.visit_def.specs.declared.Visits.{Visits}
 use Rattle.visit_def.specs.Says.{VisitsSays}
 

@@ -6,12 +6,12 @@ use mathlib.Core.List.{List}
 use lib.IntN.{ℤ}
 use Prim.Native.Nat.{ℕ, suc, _≤_, _<_}
 use lib.ListN.{length, getD, replicate}
-use Rattle.plants.specs.Limits.{maxStreams}
-use Rattle.plants.specs.Plants.{Plant}
-use Rattle.plants.specs.Files.{Got, bad, got, readPlant}
-use Rattle.flows.specs.Flows.{streamAt, allowed, cost, Cheapest}
-use Rattle.sheets.specs.Apart.{capped}
-use Rattle.sheets.specs.Sentences.{EndsJoined}
+use Rattle.plant_def.specs.Limits.{maxStreams}
+use Rattle.plant_def.specs.Plants.{Plant}
+use Rattle.plant_def.specs.Files.{Got, bad, got, readPlant}
+use Rattle.flow_def.specs.Flows.{streamAt, allowed, cost, Cheapest}
+use Rattle.sheet_def.specs.Apart.{capped}
+use Rattle.sheet_def.specs.Sentences.{EndsJoined}
 use Rattle.visit_def.specs.declared.Visits.{Visits}
 use Rattle.visit_def.specs.Visits.{without, isListed, LeastCost, Ordered, AllLeast}
 

@@ -5,12 +5,12 @@ use Prim.Native.Nat.{ℕ, zero, suc, _+_, _*_, _^_, _<_, _≤_}
 use native.Mathlib.Omega.{arith}
 use native.Mathlib.Numerals.{add-one}
 use lib.ListN.{length, getD, take, length-append}
-use Rattle.numbers.specs.Inner.{Put}
-use Rattle.numerals.specs.Numerals.{text, decimal, field, pairLine}
-use Rattle.numerals.specs.Adding.{Added}
-use Rattle.numerals.proofs.Behind.{nothing, behind, kept-length, put-front}
-use Rattle.numerals.proofs.Decimals.{decimal-most, field-size}
-use Rattle.plants.specs.Limits.{maxStreams}
+use Rattle.num_bytes.specs.Inner.{Put}
+use Rattle.num_text.specs.Numerals.{text, decimal, field, pairLine}
+use Rattle.num_text.specs.Adding.{Added}
+use Rattle.num_text.proofs.Behind.{nothing, behind, kept-length, put-front}
+use Rattle.num_text.proofs.Decimals.{decimal-most, field-size}
+use Rattle.plant_def.specs.Limits.{maxStreams}
 use Rattle.visit_text.specs.Text.{linesFor}
 use Rattle.visit_text.specs.Says.{lineSize, leastText}
 

@@ -6,11 +6,11 @@ use native.Mathlib.Omega.{arith}
 use borrow.Author.Tests.{eq-eqb, ne-eqb, ltb-true, ltb-false}
 use lib.Dec.{ltb}
 use lib.ListN.{length, take}
-use Rattle.numbers.specs.Bytes.{over}
-use Rattle.numbers.specs.Inner.{Put}
-use Rattle.numbers.proofs.Tests.{by-cases}
-use Rattle.numerals.specs.Numerals.{decimal}
-use Rattle.listings.specs.Listing.{refusalText}
+use Rattle.num_bytes.specs.Bytes.{over}
+use Rattle.num_bytes.specs.Inner.{Put}
+use Rattle.num_bytes.proofs.Tests.{by-cases}
+use Rattle.num_text.specs.Numerals.{decimal}
+use Rattle.listing_lines.specs.Listing.{refusalText}
 use Rattle.visit_def.specs.declared.Visits.{Visits}
 use Rattle.visit_def.specs.Says.{VisitsSays}
 use Rattle.visit_def.proofs.Promise.{meters-worth-a-visit}

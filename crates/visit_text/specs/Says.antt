@@ -3,9 +3,9 @@ use mathlib.Core.Path.{_≡_}
 use mathlib.Core.List.{List}
 use Prim.Native.Nat.{ℕ, _*_, _≤_, _<_}
 use lib.ListN.{length}
-use Rattle.numbers.specs.Inner.{Put}
-use Rattle.numerals.specs.Numerals.{text}
-use Rattle.plants.specs.Limits.{maxStreams}
+use Rattle.num_bytes.specs.Inner.{Put}
+use Rattle.num_text.specs.Numerals.{text}
+use Rattle.plant_def.specs.Limits.{maxStreams}
 use Rattle.visit_def.specs.declared.Visits.{Visits}
 use Rattle.visit_def.specs.Says.{VisitsSays}
 use Rattle.visit_def.specs.Sample.{sampleFile}

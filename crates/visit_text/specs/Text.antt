@@ -3,9 +3,9 @@ use mathlib.Core.List.{List, [], _∷_, _++_}
 use Prim.Native.Nat.{ℕ}
 use lib.Dec.{eqb}
 use lib.ListN.{take}
-use Rattle.numbers.specs.Choice.{pick}
-use Rattle.numerals.specs.Numerals.{pairLine}
-use Rattle.listings.specs.Listing.{refusalText}
+use Rattle.num_bytes.specs.Choice.{pick}
+use Rattle.num_text.specs.Numerals.{pairLine}
+use Rattle.listing_lines.specs.Listing.{refusalText}
 use Rattle.visit_def.specs.declared.Visits.{Visits}
 
 abbrev pub linesFor : List ℕ → List ℕ → List ℕ

@@ -1,17 +1,17 @@
 // Meters worth a visit, as text.
-use listings::put_refusal;
-use numerals::put_byte;
-use numerals::put_decimal;
-use numerals::put_field;
-use plants::limits::MAX_STREAMS;
+use listing_lines::put_refusal;
+use num_text::put_byte;
+use num_text::put_decimal;
+use num_text::put_field;
+use plant_def::limits::MAX_STREAMS;
 use visit_call::visits_of;
 ghost use Prim.Native.Nat.{_+_, _≤_};
 ghost use lib.ListN.{length, take};
-ghost use Rattle.numbers.specs.Inner.{Put};
-ghost use Rattle.numerals.specs.Adding.{Added};
-ghost use Rattle.plants.specs.Limits.{maxStreams};
-ghost use Rattle.listings.specs.Room.{Counts};
-ghost use Rattle.numerals.specs.Numerals.{pairLine};
+ghost use Rattle.num_bytes.specs.Inner.{Put};
+ghost use Rattle.num_text.specs.Adding.{Added};
+ghost use Rattle.plant_def.specs.Limits.{maxStreams};
+ghost use Rattle.listing_lines.specs.Room.{Counts};
+ghost use Rattle.num_text.specs.Numerals.{pairLine};
 ghost use Rattle.visit_text.specs.Text.{linesFor};
 ghost use Rattle.visit_text.specs.Says.{leastText, TextSays};
 

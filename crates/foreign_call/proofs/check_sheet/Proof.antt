@@ -3,8 +3,8 @@ use mathlib.Core.Path.{_≡_, sym, _∙_}
 use mathlib.Core.Bool.{Bool, true, false}
 use denote.Ref.{now}
 use borrow.Author.Needs.{needs}
-use Rattle.numbers.specs.Choice.{pick}
-use Rattle.sheets.proofs.Promise.{plant-accepted}
+use Rattle.num_bytes.specs.Choice.{pick}
+use Rattle.sheet_def.proofs.Promise.{plant-accepted}
 use Rattle.foreign_def.specs.Says.{CheckSays}
 use Rattle.foreign_call.proofs.Ruling as R
 use Rattle.foreign_call.proofs.check_sheet.Statement.{statement}

@@ -4,7 +4,7 @@ use mathlib.Core.Bool.{true}
 use denote.Ref.{now}
 use borrow.Author.Needs.{needs}
 use borrow.Author.Tests.{not-true, not-false}
-use Rattle.sheets.specs.Calls.{AllSmall}
+use Rattle.sheet_def.specs.Calls.{AllSmall}
 use Rattle.foreign_def.specs.Test.{numbersFit}
 use Rattle.foreign_call.proofs.Ruling as R
 use Rattle.foreign_call.proofs.rules_hold.Statement.{statement}

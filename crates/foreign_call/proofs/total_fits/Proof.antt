@@ -3,8 +3,8 @@ use Prim.Native.Nat.{ℕ}
 use native.Mathlib.Omega.{arith}
 use lib.ListN.{take}
 use borrow.Author.Needs.{needs}
-use Rattle.plants.specs.Says.{plantOf}
-use Rattle.flows.specs.Flows.{cost}
+use Rattle.plant_def.specs.Says.{plantOf}
+use Rattle.flow_def.specs.Flows.{cost}
 use Rattle.foreign_call.proofs.Ruling as R
 use Rattle.foreign_call.proofs.total_fits.Statement.{statement}
 use Rattle.foreign_call.proofs.total_fits.Tie as tie

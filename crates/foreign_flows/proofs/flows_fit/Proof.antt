@@ -12,10 +12,10 @@ use denote.Ref.{now}
 use borrow.Author.Count.{below-none, below-more}
 use borrow.Author.Tests.{not-true, not-false}
 use Rattle.foreign_flows.proofs.Checking as C
-use Rattle.plants.specs.Plants.{noStream}
-use Rattle.plants.specs.Says.{plantOf}
-use Rattle.plants.proofs.Arrayed.{stream-within}
-use Rattle.flows.specs.Flows.{streamAt, amountAt}
+use Rattle.plant_def.specs.Plants.{noStream}
+use Rattle.plant_def.specs.Says.{plantOf}
+use Rattle.plant_def.proofs.Arrayed.{stream-within}
+use Rattle.flow_def.specs.Flows.{streamAt, amountAt}
 use Rattle.foreign_def.specs.Passing.{difference}
 use Rattle.foreign_def.specs.Test.{flowFits}
 use borrow.Author.Needs.{needs}

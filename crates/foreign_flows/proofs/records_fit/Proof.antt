@@ -11,10 +11,10 @@ use mir.ValLaws.{toZ-ofZ}
 use borrow.Author.Count.{below-none, below-more}
 use borrow.Author.Tests.{not-true, not-false}
 use Rattle.foreign_flows.proofs.Checking as C
-use Rattle.flows.specs.declared.Class.the-variants.{Adjusted}
-use Rattle.flows.specs.Flows.{amountAt}
-use Rattle.model.specs.Sizes.{flowShift}
-use Rattle.sheets.specs.Sheets.{kindOf}
+use Rattle.flow_def.specs.declared.Class.the-variants.{Adjusted}
+use Rattle.flow_def.specs.Flows.{amountAt}
+use Rattle.solve_def.specs.Sizes.{flowShift}
+use Rattle.sheet_def.specs.Sheets.{kindOf}
 use Rattle.foreign_def.specs.Test.{noEntry}
 use borrow.Author.Needs.{needs}
 use Rattle.foreign_flows.proofs.records_fit.Statement.{statement}

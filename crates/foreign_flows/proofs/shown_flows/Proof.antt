@@ -8,10 +8,10 @@ use mir.Syntax.{w64}
 use mir.Val.{SFits}
 use mir.ValLaws.{toZ-ofZ}
 use Rattle.foreign_flows.proofs.Checking as C
-use Rattle.numbers.specs.Choice.{pick}
-use Rattle.plants.specs.Limits.{maxStreams}
-use Rattle.flows.specs.declared.Class.the-variants.{Adjusted}
-use Rattle.flows.proofs.Lists.{Written, written-none, written-put}
+use Rattle.num_bytes.specs.Choice.{pick}
+use Rattle.plant_def.specs.Limits.{maxStreams}
+use Rattle.flow_def.specs.declared.Class.the-variants.{Adjusted}
+use Rattle.flow_def.proofs.Lists.{Written, written-none, written-put}
 use Rattle.foreign_def.specs.Passing.{known}
 use Rattle.foreign_def.specs.Test.{noEntry}
 use borrow.Author.Needs.{needs}

@@ -2,7 +2,7 @@
 use native.Mathlib.Omega.{arith}
 use denote.Ref.{now}
 use Prim.Native.Nat.{_≤_}
-use Rattle.plants.specs.Limits.{places}
+use Rattle.plant_def.specs.Limits.{places}
 use Rattle.foreign_numbers.proofs.Numbering.{numbers-few, lends-nothing, lends-numbers}
 use borrow.Author.Needs.{needs}
 use Rattle.foreign_numbers.proofs.numbers_lent.Statement.{statement}

@@ -1,10 +1,10 @@
 -- By what was read, then by what the solver found.
 use mathlib.Core.Path.{_≡_}
 use denote.Ref.{now}
-use Rattle.plants.specs.Files.{readPlant}
-use Rattle.plants.specs.Says.{readOf}
-use Rattle.plants.specs.Within.{Accepted}
-use Rattle.sheets.proofs.Promise.{plant-accepted}
+use Rattle.plant_def.specs.Files.{readPlant}
+use Rattle.plant_def.specs.Says.{readOf}
+use Rattle.plant_def.specs.Within.{Accepted}
+use Rattle.sheet_def.proofs.Promise.{plant-accepted}
 use Rattle.foreign_numbers.proofs.Numbering.{says-unread, says-numbers}
 use borrow.Author.Needs.{needs}
 use Rattle.foreign_numbers.proofs.place_numbers.Statement.{statement}

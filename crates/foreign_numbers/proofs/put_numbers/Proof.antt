@@ -9,8 +9,8 @@ use denote.Ref.{now}
 use mir.Syntax.{w64}
 use mir.Val.{SFits}
 use mir.Facts.{toZ-ofZ}
-use Rattle.numbers.specs.Bytes.{over}
-use Rattle.num_lists.proofs.Handing.{Handing, none-handed, slice-long, room-there, one-handed, all-handed}
+use Rattle.num_bytes.specs.Bytes.{over}
+use Rattle.num_lent.proofs.Handing.{Handing, none-handed, slice-long, room-there, one-handed, all-handed}
 use borrow.Author.Needs.{needs}
 use Rattle.foreign_numbers.proofs.put_numbers.Statement.{statement}
 use Rattle.foreign_numbers.proofs.put_numbers.Tie as tie

@@ -3,11 +3,11 @@ use mathlib.Core.Path.{_≡_, sym, _∙_, ap}
 use Prim.Native.Nat.{_≤_, _<_, _-_}
 use native.Mathlib.Omega.{arith}
 use lib.ListN.{length}
-use Rattle.plants.specs.Says.{plantOf}
-use Rattle.plants.proofs.Arrayed.{all-listed, listed-at, stream-within}
-use Rattle.flows.specs.Labels.{labelsAfter}
-use Rattle.flows.proofs.Grouping.{ends-in, step-said}
-use Rattle.flows.proofs.Labels.{step-none, labels-long}
+use Rattle.plant_def.specs.Says.{plantOf}
+use Rattle.plant_def.proofs.Arrayed.{all-listed, listed-at, stream-within}
+use Rattle.flow_def.specs.Labels.{labelsAfter}
+use Rattle.flow_def.proofs.Grouping.{ends-in, step-said}
+use Rattle.flow_def.proofs.Labels.{step-none, labels-long}
 use Rattle.foreign_def.specs.Test.{withheldOnly}
 use Rattle.foreign_sets.proofs.Carrying as C
 use borrow.Author.Needs.{needs}

@@ -7,10 +7,10 @@ use lib.ListN.{getD, length-replicate}
 use mir.Syntax.{w64}
 use mir.Val.{SFits}
 use mir.ValLaws.{toZ-ofZ}
-use Rattle.plants.specs.Limits.{places, maxUnits}
-use Rattle.plants.specs.Plants.{noStream}
-use Rattle.plants.specs.Within.{Accepted, WithinStream}
-use Rattle.plants.proofs.Arrayed.{stream-within}
+use Rattle.plant_def.specs.Limits.{places, maxUnits}
+use Rattle.plant_def.specs.Plants.{noStream}
+use Rattle.plant_def.specs.Within.{Accepted, WithinStream}
+use Rattle.plant_def.proofs.Arrayed.{stream-within}
 use Rattle.foreign_def.specs.Test.{Roomy}
 use Rattle.foreign_def.proofs.Every.{zeros}
 use Rattle.foreign_sets.proofs.Carrying as C

@@ -7,9 +7,9 @@ use lib.ListN.{getD}
 use mir.Syntax.{w64}
 use mir.Val.{SFits}
 use borrow.Author.Count.{below-none, below-more}
-use Rattle.plants.specs.Limits.{places}
-use Rattle.plants.specs.Says.{plantOf}
-use Rattle.flows.specs.Flows.{amountAt}
+use Rattle.plant_def.specs.Limits.{places}
+use Rattle.plant_def.specs.Says.{plantOf}
+use Rattle.flow_def.specs.Flows.{amountAt}
 use Rattle.foreign_sets.proofs.Carrying as C
 use borrow.Author.Needs.{needs}
 use Rattle.foreign_sets.proofs.nets_fit.Statement.{statement}

@@ -5,7 +5,7 @@ use mir.Syntax.{w64}
 use mir.Val.{toZ, ofZ}
 use mir.ValLaws.{toZ-ofZ}
 use Rattle.foreign_stream.proofs.Fitting as F
-use Rattle.costs.proofs.Costing.{correction-fits, correction-is}
+use Rattle.sheet_cost.proofs.Costing.{correction-fits, correction-is}
 use Rattle.foreign_stream.proofs.correction.Statement.{statement}
 use Rattle.foreign_stream.proofs.correction.Tie as tie
 

@@ -6,8 +6,8 @@ use lib.Signed.{leZ}
 use mir.Syntax.{w64}
 use mir.ValLaws.{toZ-ofZ}
 use borrow.Author.Tests.{not-true, not-false}
-use Rattle.flows.specs.Flows.{inRange}
-use Rattle.flows.specs.Certificate.{leastClimb, mostClimb, falls, rises}
+use Rattle.flow_def.specs.Flows.{inRange}
+use Rattle.flow_def.specs.Certificate.{leastClimb, mostClimb, falls, rises}
 use Rattle.foreign_stream.proofs.Fitting as F
 use borrow.Author.Needs.{needs}
 use Rattle.foreign_stream.proofs.flow_fits.Statement.{statement}

@@ -5,7 +5,7 @@ use mir.Syntax.{w32, w64}
 use mir.Val.{SFits}
 use mir.ValLaws.{toZ-ofZ}
 use borrow.Author.Tests.{not-true, not-false}
-use Rattle.flows.specs.Certificate.{upper, rises}
+use Rattle.flow_def.specs.Certificate.{upper, rises}
 use Rattle.foreign_stream.proofs.Fitting as F
 use borrow.Author.Needs.{needs}
 use Rattle.foreign_stream.proofs.to_top.Statement.{statement}

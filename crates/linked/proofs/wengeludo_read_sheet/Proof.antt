@@ -2,7 +2,7 @@
 use borrow.Author.Needs.{needs}
 use denote.Ref.{now}
 use lib.ListN.{length}
-use Rattle.sheet_slices.proofs.Handing.{Room, room-lent, handed-over}
+use Rattle.sheet_parts.proofs.Handing.{Room, room-lent, handed-over}
 use Rattle.linked.proofs.wengeludo_read_sheet.Statement.{statement}
 use Rattle.linked.proofs.wengeludo_read_sheet.Tie as tie
 

@@ -2,12 +2,12 @@
 use borrow.Author.Needs.{needs}
 use denote.Ref.{now}
 use mathlib.Core.Path.{_≡_, ap, ap₂, _∙_, subst}
-use Rattle.plants.specs.declared.Plant as Arrays
-use Rattle.plants.specs.Limits.{maxStreams}
-use Rattle.plants.specs.Says.{padded, WriteSays}
-use Rattle.plant_slices.specs.Parts.{Slices, partsAt, least, reach, listedTo}
-use Rattle.plant_slices.proofs.Gather.{reached, all-gathered}
-use Rattle.plant_slices.proofs.Counts.{any-count}
+use Rattle.plant_def.specs.declared.Plant as Arrays
+use Rattle.plant_def.specs.Limits.{maxStreams}
+use Rattle.plant_def.specs.Says.{padded, WriteSays}
+use Rattle.plant_parts.specs.Parts.{Slices, partsAt, least, reach, listedTo}
+use Rattle.plant_parts.proofs.Gather.{reached, all-gathered}
+use Rattle.plant_parts.proofs.Counts.{any-count}
 use Rattle.linked.proofs.wengeludo_write_plant.Statement.{statement}
 use Rattle.linked.proofs.wengeludo_write_plant.Tie as tie
 

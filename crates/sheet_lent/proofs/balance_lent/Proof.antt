@@ -5,8 +5,8 @@ use denote.Ref.{now}
 use mathlib.Core.Path.{refl, subst}
 use mathlib.Core.List.{List}
 use Prim.Native.Nat.{ℕ}
-use Rattle.sheets.specs.Says.{SheetSays}
-use Rattle.marks.specs.Marks.{marksIn}
+use Rattle.sheet_def.specs.Says.{SheetSays}
+use Rattle.num_lent.specs.Marks.{marksIn}
 use Rattle.sheet_lent.proofs.Lending.{too-few, enough}
 use Rattle.sheet_lent.proofs.balance_lent.Statement.{statement}
 use Rattle.sheet_lent.proofs.balance_lent.Tie as tie

@@ -4,7 +4,7 @@ use denote.Ref.{now}
 use mathlib.Core.Path.{sym, subst}
 use mathlib.Core.Bool.{Bool}
 use mathlib.Core.List.{List}
-use Rattle.sheets.specs.Says.{SheetSays}
+use Rattle.sheet_def.specs.Says.{SheetSays}
 use Rattle.sheet_lent.proofs.balance_marked.Statement.{statement}
 use Rattle.sheet_lent.proofs.balance_marked.Tie as tie
 

@@ -4,9 +4,9 @@ use Prim.Native.Nat.{_≤_, _<_, _-_}
 use native.Mathlib.Omega.{arith}
 use lib.ListN.{getD}
 use borrow.Author.Needs.{needs}
-use Rattle.plants.specs.Limits.{maxUnits, maxStreams, places}
-use Rattle.plants.specs.Plants.{noStream}
-use Rattle.plants.specs.Within.{WithinStream}
+use Rattle.plant_def.specs.Limits.{maxUnits, maxStreams, places}
+use Rattle.plant_def.specs.Plants.{noStream}
+use Rattle.plant_def.specs.Within.{WithinStream}
 use Rattle.solve_arcs.specs.Cells.{countOf}
 use Rattle.solve_arcs.specs.ArcNeeds.{Listed, Rowed}
 use Rattle.solve_arcs_fill.specs.Puts.{startsIn, endsIn}

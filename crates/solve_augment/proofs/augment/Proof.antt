@@ -5,7 +5,7 @@ use native.Mathlib.Omega.{arith}
 use borrow.Author.Needs.{needs}
 use lib.Dec.{eqb}
 use lib.ListN.{getD}
-use Rattle.plants.specs.Limits.{places, maxStreams}
+use Rattle.plant_def.specs.Limits.{places, maxStreams}
 use Rattle.solve_arcs.proofs.Rowing.{row-of}
 use Rattle.solve_augment.proofs.Augments.{Pushing, push-index, push-most, push-place, push-hits, push-misses, pushed-all}
 use Rattle.solve_augment.proofs.augment.Statement.{statement}

@@ -3,8 +3,8 @@ use Prim.Native.Nat.{_-_, _*_}
 use lib.ListN.{getD}
 use native.Mathlib.Omega.{arith}
 use borrow.Author.Needs.{needs}
-use Rattle.model.specs.Sizes.{netShift}
-use Rattle.model.proofs.Turns.{set-le}
+use Rattle.solve_def.specs.Sizes.{netShift}
+use Rattle.solve_def.proofs.Turns.{set-le}
 use Rattle.solve_augment.proofs.shift_nets.Statement.{statement}
 use Rattle.solve_augment.proofs.shift_nets.Tie as tie
 

@@ -1,10 +1,10 @@
 -- `solve_improve::improve_from` meets its contract: where the search finds a place, the push and the nets have room.
-use Rattle.model.proofs.Turns.{Moving, moving, found-prices, improved-none, improved-done}
+use Rattle.solve_def.proofs.Turns.{Moving, moving, found-prices, improved-none, improved-done}
 use Rattle.solve_arcs.proofs.Stores.{spare-none}
 use Rattle.solve_improve.proofs.Improved.{improve-searching, improve-laying, improve-trail, improve-margined, improved-margined}
-use Rattle.model.specs.declared.Tree.{Tree}
-use Rattle.model.specs.Search.{Grown, grownBy}
-use Rattle.model.specs.Model.{stateOf, improvedBy}
+use Rattle.solve_def.specs.declared.Tree.{Tree}
+use Rattle.solve_def.specs.Search.{Grown, grownBy}
+use Rattle.solve_def.specs.Model.{stateOf, improvedBy}
 use Rattle.solve_improve.specs.Improves.{Improvable}
 use lib.ListN.{getD, take}
 use native.Mathlib.Omega.{arith}

@@ -4,11 +4,11 @@ use mathlib.Core.Bool.{Bool, true, false}
 use Prim.Native.Nat.{ℕ, _≤_, _-_}
 use native.Mathlib.Omega.{arith}
 use lib.ListN.{getD}
-use Rattle.numbers.specs.Choice.{pick}
-use Rattle.plants.specs.Limits.{places}
-use Rattle.model.specs.Search.{fallen}
-use Rattle.flows.proofs.Lists.{Written, written-none, written-put}
-use Rattle.model.proofs.Filling.{reduced-is}
+use Rattle.num_bytes.specs.Choice.{pick}
+use Rattle.plant_def.specs.Limits.{places}
+use Rattle.solve_def.specs.Search.{fallen}
+use Rattle.flow_def.proofs.Lists.{Written, written-none, written-put}
+use Rattle.solve_def.proofs.Filling.{reduced-is}
 use borrow.Author.Needs.{needs}
 use Rattle.solve_path.proofs.lower.Statement.{statement}
 use Rattle.solve_path.proofs.lower.Tie as tie

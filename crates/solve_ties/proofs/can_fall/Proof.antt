@@ -4,7 +4,7 @@ use Prim.Native.Nat.{ℕ, _<_}
 use native.Mathlib.Omega.{arith}
 use borrow.Author.Tests.{lt-ltb, le-ltb}
 use lib.Dec.{eqb}
-use Rattle.plants.specs.Limits.{places}
+use Rattle.plant_def.specs.Limits.{places}
 use Rattle.solve_arcs.proofs.Along.{starts-at, ends-at}
 use Rattle.solve_ties.proofs.Evened.{small-back, slack-back}
 use borrow.Author.Needs.{needs}

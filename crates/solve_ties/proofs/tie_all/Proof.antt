@@ -7,9 +7,9 @@ use Prim.Native.Nat.{ℕ, _+_, _≤_, _<_, _-_}
 use native.Mathlib.Omega.{arith}
 use lib.ListN.{take}
 use borrow.Author.Needs.{needs}
-use Rattle.model.specs.Model.{tiedAt, tiesTo}
-use Rattle.model.specs.SolverNeeds.{Even}
-use Rattle.model.proofs.TieTurns.{tying-even, ties-next, ties-none}
+use Rattle.solve_def.specs.Model.{tiedAt, tiesTo}
+use Rattle.solve_def.specs.SolverNeeds.{Even}
+use Rattle.solve_def.proofs.TieTurns.{tying-even, ties-next, ties-none}
 use Rattle.solve_arcs.specs.Cells.{countOf}
 use Rattle.solve_arcs.specs.ArcNeeds.{Margined}
 use Rattle.solve_arcs.proofs.Finding.{ways-of}

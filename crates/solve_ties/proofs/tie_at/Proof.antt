@@ -1,17 +1,17 @@
 -- `solve_ties::tie_at` meets its contract: by whether a way leads round; it leaves room for the push.
-use Rattle.model.proofs.TieTurns.{tied-cut, tied-round, Pushable, pushable}
-use Rattle.plants.specs.Limits.{maxStreams}
+use Rattle.solve_def.proofs.TieTurns.{tied-cut, tied-round, Pushable, pushable}
+use Rattle.plant_def.specs.Limits.{maxStreams}
 use Rattle.solve_arcs.specs.Cells.{countOf}
 use Rattle.solve_arcs.specs.ArcNeeds.{Margined}
 use Rattle.solve_arcs.proofs.Along.{starts-at, ends-at}
 use Rattle.solve_arcs.proofs.Stores.{margined-own, spare-own}
 use Rattle.solve_ties.proofs.Evened.{tie-searching, tie-laying, tie-trail, way-free, weighs-some}
 use Rattle.solve_ties.specs.Evens.{Tying}
-use Rattle.model.specs.Search.{rootAt, grownBy, tightPath}
-use Rattle.model.specs.Push.{pushed}
-use Rattle.model.specs.Sizes.{searchRounds}
-use Rattle.plants.specs.Limits.{places}
-use Rattle.plants.specs.Plants.{noStream}
+use Rattle.solve_def.specs.Search.{rootAt, grownBy, tightPath}
+use Rattle.solve_def.specs.Push.{pushed}
+use Rattle.solve_def.specs.Sizes.{searchRounds}
+use Rattle.plant_def.specs.Limits.{places}
+use Rattle.plant_def.specs.Plants.{noStream}
 use lib.ListN.{getD, take}
 use borrow.Author.Tests.{not-true, not-false}
 use native.Mathlib.Numerals.{add-one}

@@ -1,11 +1,11 @@
 -- By what was found, in the order of the refusals.
 use denote.Ref.{now}
 use borrow.Author.Tests.{not-true, not-false}
-use Rattle.plants.specs.Within.{Accepted}
-use Rattle.plants.specs.Says.{plantOf}
-use Rattle.plants.proofs.Arrayed.{within-of}
-use Rattle.sheets.proofs.Promise.{plant-accepted}
-use Rattle.sheets.proofs.Opening.{right-found, right-overfull}
+use Rattle.plant_def.specs.Within.{Accepted}
+use Rattle.plant_def.specs.Says.{plantOf}
+use Rattle.plant_def.proofs.Arrayed.{within-of}
+use Rattle.sheet_def.proofs.Promise.{plant-accepted}
+use Rattle.sheet_def.proofs.Opening.{right-found, right-overfull}
 use Rattle.visit_def.specs.Visits.{Feasible}
 use Rattle.visit_def.proofs.Promise.{unread, answered, none-balanced}
 use Rattle.visit_call.proofs.Told.{solved-feasible, told}

@@ -4,9 +4,9 @@ use mathlib.Core.Bool.{Bool, false}
 use Prim.Native.Nat.{_≤_, _-_}
 use native.Mathlib.Omega.{arith}
 use lib.ListN.{getD, length-replicate}
-use Rattle.plants.specs.Limits.{maxStreams}
-use Rattle.flows.specs.declared.Class.the-variants.{Adjusted}
-use Rattle.flows.proofs.Lists.{Written, written-none, written-put}
+use Rattle.plant_def.specs.Limits.{maxStreams}
+use Rattle.flow_def.specs.declared.Class.the-variants.{Adjusted}
+use Rattle.flow_def.proofs.Lists.{Written, written-none, written-put}
 use Rattle.visit_def.specs.Visits.{isAdjusted}
 use borrow.Author.Needs.{needs}
 use Rattle.visit_costs.proofs.adjusted_of.Statement.{statement}

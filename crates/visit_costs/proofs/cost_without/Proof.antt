@@ -1,9 +1,9 @@
 -- By whether it is listed.
 use mathlib.Core.Path.{subst}
 use borrow.Author.Tests.{not-true}
-use Rattle.numbers.proofs.Tests.{clash}
-use Rattle.plants.specs.Plants.{Plant}
-use Rattle.plants.specs.Says.{plantOf}
+use Rattle.num_bytes.proofs.Tests.{clash}
+use Rattle.plant_def.specs.Plants.{Plant}
+use Rattle.plant_def.specs.Says.{plantOf}
 use Rattle.visit_def.specs.Visits.{LeastCost}
 use Rattle.visit_costs.proofs.Gone.{gone-feasible}
 use Rattle.visit_costs.proofs.cost_without.Statement.{statement}

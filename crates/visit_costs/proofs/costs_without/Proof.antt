@@ -4,8 +4,8 @@ use Prim.Native.Nat.{ℕ, _≤_, _-_}
 use native.Mathlib.Omega.{arith}
 use lib.ListN.{length, length-set, length-replicate}
 use borrow.Author.Count.{below-none}
-use Rattle.plants.specs.Limits.{maxStreams}
-use Rattle.plants.specs.Says.{plantOf}
+use Rattle.plant_def.specs.Limits.{maxStreams}
+use Rattle.plant_def.specs.Says.{plantOf}
 use Rattle.visit_costs.proofs.Gone.{SoFar, one-more}
 use borrow.Author.Needs.{needs}
 use Rattle.visit_costs.proofs.costs_without.Statement.{statement}

@@ -2,7 +2,7 @@
 use native.Mathlib.Omega.{arith}
 use denote.Ref.{now}
 use mathlib.Core.Path.{refl}
-use Rattle.listings.proofs.Sizes.{put-counts}
+use Rattle.listing_lines.proofs.Sizes.{put-counts}
 use Rattle.visit_def.proofs.Promise.{visits-fit}
 use Rattle.visit_text.proofs.Promise.{says-nothing, says-refused, says-lines}
 use borrow.Author.Needs.{needs}

@@ -1,6 +1,6 @@
 -- The number, the cost, the line's end.
 use native.Mathlib.Omega.{arith}
-use Rattle.numerals.proofs.Behind.{behind}
+use Rattle.num_text.proofs.Behind.{behind}
 use Rattle.visit_text.proofs.Lined.{line-size}
 use borrow.Author.Needs.{needs}
 use Rattle.visit_text.proofs.put_line.Statement.{statement}

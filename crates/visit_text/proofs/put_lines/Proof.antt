@@ -4,7 +4,7 @@ use Prim.Native.Nat.{_-_}
 use lib.ListN.{getD}
 use mir.Syntax.{w8, w64}
 use mir.Val.{Fits}
-use Rattle.numerals.proofs.Behind.{kept-length}
+use Rattle.num_text.proofs.Behind.{kept-length}
 use Rattle.visit_text.proofs.Lined.{Lined, no-lines, line-room, one-line, all-lines}
 use borrow.Author.Needs.{needs}
 use Rattle.visit_text.proofs.put_lines.Statement.{statement}

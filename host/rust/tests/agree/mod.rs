@@ -7,7 +7,7 @@
 
 use crate::draw::Draw;
 use crate::shrink;
-use std::fmt::Display;
+use std::fmt::{Debug, Display};
 use std::sync::atomic::{AtomicU64, Ordering};
 
 /// From so many inputs on, each outcome must have come up.
@@ -47,6 +47,29 @@ pub struct Subject<T, A> {
     pub places: usize,
     /// One input for so many of WENGELUDO_INPUTS.
     pub one_for: u64,
+}
+
+impl<T: Debug> Subject<T, u8> {
+    /// A subject whose answers are counted by the number returned, up to `last`.
+    pub fn by_number(
+        name: &'static str,
+        drawn: fn(&mut Draw) -> T,
+        difference: fn(&T) -> Result<u8, String>,
+        simpler: fn(&T) -> Vec<T>,
+        last: usize,
+    ) -> Subject<T, u8> {
+        let shown = |input: &T| format!("{input:02X?}");
+        Subject {
+            name,
+            drawn,
+            difference,
+            simpler,
+            shown,
+            note: |counts, number| counts.one(*number),
+            places: last + 1,
+            one_for: 1,
+        }
+    }
 }
 
 /// What came of a run.

@@ -267,17 +267,7 @@ fn simpler(call: &Check) -> Vec<Check> {
 
 #[test]
 fn checks_and_reference_agree() {
-    let tally = Subject {
-        name: "the check",
-        drawn,
-        difference,
-        simpler,
-        shown: |call| format!("{call:02X?}"),
-        note: |counts, returned| counts.one(*returned),
-        places: 27,
-        one_for: 1,
-    }
-    .agree();
+    let tally = Subject::by_number("the check", drawn, difference, simpler, 26).agree();
     println!("passed: {}; refusals {}", tally.count(0), tally.refusals(1, 26));
     tally.all_met(&[0, 3, 4, 5, 6, 7, 8, 9, 10, 11, 12, 13, 14, 15, 18, 26], 0, 26);
 }

@@ -191,17 +191,7 @@ fn simpler(call: &Purchase) -> Vec<Purchase> {
 
 #[test]
 fn purchases_and_reference_agree() {
-    let tally = Subject {
-        name: "meters to buy",
-        drawn,
-        difference,
-        simpler,
-        shown: |call| format!("{call:02X?}"),
-        note: |counts, returned| counts.one(*returned),
-        places: 22,
-        one_for: 1,
-    }
-    .agree();
+    let tally = Subject::by_number("meters to buy", drawn, difference, simpler, 21).agree();
     println!("sets: {}; refusals {}", tally.count(0), tally.refusals(1, 21));
     tally.all_met(&[0, 1, 3, 4, 5, 6, 7, 8, 9, 10, 11, 12, 18, 21], 0, 21);
 }

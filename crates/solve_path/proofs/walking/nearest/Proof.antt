@@ -8,8 +8,8 @@ use native.Mathlib.Omega.{arith}
 use lib.Bits.{and-le-r}
 use lib.Count.{trailingZeros}
 use borrow.Author.Needs.{needs}
-use Rattle.plants.specs.Limits.{places}
-use Rattle.solve_relax.specs.Codes.{shown, Coded}
+use Rattle.plant_def.specs.Limits.{places}
+use Rattle.solve_path.specs.Codes.{shown, Coded}
 use Rattle.solve_path.proofs.Pacing.{Scanned, scanned-none, scanned-in, scanned-nearer, scanned-not, scanned-all}
 use Rattle.solve_path.proofs.walking.nearest.Statement.{statement}
 use Rattle.solve_path.proofs.walking.nearest.Tie as tie

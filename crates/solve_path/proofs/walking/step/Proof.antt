@@ -2,12 +2,12 @@
 use Prim.Native.Nat.{_<_}
 use native.Mathlib.Omega.{arith}
 use lib.ListN.{length-set}
-use Rattle.plants.specs.Limits.{places}
-use Rattle.flows.proofs.Passed.{shifted}
-use Rattle.model.specs.Sizes.{far}
-use Rattle.model.proofs.Stepping.{step-in}
-use Rattle.solve_relax.specs.Codes.{shown}
-use Rattle.solve_relax.proofs.Coding.{shown-long}
+use Rattle.plant_def.specs.Limits.{places}
+use Rattle.flow_def.proofs.Passed.{shifted}
+use Rattle.solve_def.specs.Sizes.{far}
+use Rattle.solve_def.proofs.Stepping.{step-in}
+use Rattle.solve_path.specs.Codes.{shown}
+use Rattle.solve_path.proofs.Coding.{shown-long}
 use Rattle.solve_path.proofs.Pacing.{paced-none, paced-some}
 use borrow.Author.Needs.{needs}
 use Rattle.solve_path.proofs.walking.step.Statement.{statement}

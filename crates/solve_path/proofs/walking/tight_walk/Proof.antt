@@ -2,7 +2,7 @@
 use Prim.Native.Nat.{_<_}
 use native.Mathlib.Omega.{arith}
 use borrow.Author.Needs.{needs}
-use Rattle.plants.specs.Limits.{places}
+use Rattle.plant_def.specs.Limits.{places}
 use Rattle.solve_path.proofs.Tight.{Tight, tight-starts, tight-ends, tight-stops, tight-room, tight-slack, tight-within, tight-hits, tight-goes-on}
 use Rattle.solve_path.proofs.walking.tight_walk.Statement.{statement}
 use Rattle.solve_path.proofs.walking.tight_walk.Tie as tie

@@ -4,8 +4,8 @@ use mathlib.Core.List.{List}
 use Prim.Native.Nat.{ℕ, _<_}
 use native.Mathlib.Omega.{arith}
 use borrow.Author.Needs.{needs}
-use Rattle.plants.specs.Limits.{places}
-use Rattle.model.specs.declared.Spot.{Spot}
+use Rattle.plant_def.specs.Limits.{places}
+use Rattle.solve_def.specs.declared.Spot.{Spot}
 use Rattle.solve_path.specs.Paces.{Paced}
 use Rattle.solve_path.proofs.Going.{Going, starts, ends, stops, room, within, hits, goes-on}
 use Rattle.solve_path.proofs.walking.walk.Statement.{statement}

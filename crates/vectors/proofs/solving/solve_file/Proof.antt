@@ -1,9 +1,9 @@
 -- The solver is called on a plant that the reader accepted.
 use borrow.Author.Needs.{needs}
 use denote.Ref.{now}
-use Rattle.plants.proofs.Arrayed.{within-of}
-use Rattle.sheets.proofs.Promise.{plant-accepted}
-use Rattle.model.proofs.Theorem as Theorem
+use Rattle.plant_def.proofs.Arrayed.{within-of}
+use Rattle.sheet_def.proofs.Promise.{plant-accepted}
+use Rattle.solve_def.proofs.Theorem as Theorem
 use Rattle.vectors.proofs.solving.solve_file.Statement.{statement}
 use Rattle.vectors.proofs.solving.solve_file.Tie as tie
 

@@ -1,2 +1,0 @@
--- Laws of the nearest amount.
-pub mod Quotients

@@ -1,2 +1,0 @@
--- Laws of files read and written anew.
-pub mod Promise

@@ -1,3 +1,0 @@
--- Laws of the count.
-pub mod Paces
-pub mod Counted

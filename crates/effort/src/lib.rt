@@ -1,1 +1,0 @@
-// How many improvements the solver makes. No function stands here.

@@ -1,3 +1,0 @@
--- Laws of entries.
-pub mod Opening
-pub mod Entered

@@ -1,0 +1,69 @@
+-- A flow that passes the test of a certificate is the cheapest flow.
+use mathlib.Core.Path.{_≡_}
+use mathlib.Core.Bool.{Bool, true, not, _&&_, _||_}
+use mathlib.Core.List.{List}
+use lib.IntN.{ℤ}
+use lib.Signed.{leZ}
+use Prim.Native.Nat.{ℕ, zero, suc, _<_}
+use native.Mathlib.Omega.{arith}
+use native.Mathlib.Decide.{ℕ-discrete}
+use borrow.Author.Tests.{eqb-true}
+use lib.Dec.{eqb}
+use Rattle.num_bytes.proofs.Tests.{and-left, and-right}
+use Rattle.plant_def.specs.declared.Stream.{Stream}
+use Rattle.plant_def.specs.Plants.{Plant, plantFault}
+use Rattle.plant_def.proofs.Limited.{within}
+use Rattle.flow_def.specs.Flows.{amountAt, allowed, Cheapest}
+use Rattle.flow_def.specs.Certificate.{climb, leastClimb, mostClimb, rises, falls, priced, stays, every, listedPrice, certified}
+use Rattle.flow_def.proofs.Integers.{leZ-le, ltZ-lt}
+use Rattle.flow_def.proofs.Ranges.{asked}
+use Rattle.flow_def.proofs.Prices.{StepAt}
+use Rattle.flow_def.proofs.Ties.{slack, stays-cheapest}
+use Rattle.flow_def.proofs.Nets.{countOf, streamOf}
+
+pub every-at : (n : ℕ) (test : ℕ → Bool) → every n test ≡ true → (k : ℕ) → k < n → test k ≡ true
+every-at zero test e k l = absurd (omega arith)
+every-at (suc n) test e k l = elim (ℕ-discrete k n) [
+  | yes q ↦ rw q (and-left (test n) (every n test) e)
+  | no q ↦ every-at n test (and-right (test n) (every n test) e) k (omega arith)
+]
+
+-- What the test of prices says.
+priced-says : (π : ℕ → ℤ) (s : Stream) (x : ℤ) → priced π s x ≡ true → StepAt 1 π s x
+priced-says π s x e = record {
+  low = λ t. leZ-le (leastClimb s x) (climb π s) (asked (falls s x) _ (and-left (not (falls s x) || leZ (leastClimb s x) (climb π s)) _ e) t);
+  high = λ t. leZ-le (climb π s) (mostClimb s x) (asked (rises s x) _ (and-right (not (falls s x) || leZ (leastClimb s x) (climb π s)) _ e) t);
+}
+
+-- A flow that passes the test is the cheapest.
+pub certified-cheapest : (p : Plant) (xs prices : List ℤ) → certified p xs prices ≡ true → Cheapest p xs
+certified-cheapest p xs prices e =
+    stays-cheapest p (within p (eqb-true (plantFault p) 0 (and-left (eqb (plantFault p) 0) _ e))) π xs
+    (record {
+      balance = and-left (allowed p xs) _ rest;
+      steps = λ k l. priced-says π (s k) (amountAt xs k) (every-at n bounded (and-left (every n bounded) _ tests) k l);
+    })
+    (λ i l m.
+    let t = asked (s i .metered) _ (every-at n kept (and-right (every n bounded) _ tests) i l) m in
+    slack (λ f. ltZ-lt (leastClimb (s i) (amountAt xs i)) (climb π (s i)) (asked (falls (s i) (amountAt xs i)) _ t f)))
+  where
+    n : ℕ
+    n = countOf p
+
+    s : ℕ → Stream
+    s = streamOf p
+
+    π : ℕ → ℤ
+    π = listedPrice prices
+
+    bounded : ℕ → Bool
+    bounded k = priced π (s k) (amountAt xs k)
+
+    kept : ℕ → Bool
+    kept i = not (s i .metered) || stays π (s i) (amountAt xs i)
+
+    rest : allowed p xs && (every n bounded && every n kept) ≡ true
+    rest = and-right (eqb (plantFault p) 0) _ e
+
+    tests : every n bounded && every n kept ≡ true
+    tests = and-right (allowed p xs) _ rest

@@ -1,0 +1,3 @@
+-- Laws of the summed weights. Laws of the test.
+pub mod Summing
+pub mod Edges

@@ -1,0 +1,81 @@
+-- After u turns the first u numbers are written.
+use mathlib.Core.Path.{_≡_, refl, _∙_}
+use lib.IntN.{ℤ, pos}
+use Prim.Native.Nat.{_+_, _-_, _≤_}
+use native.Mathlib.Omega.{arith}
+use lib.ListN.{length-replicate}
+use mir.Syntax.{w64}
+use mir.Val.{SFits}
+use mir.ValLaws.{toZ-ofZ}
+use Rattle.plant_def.specs.Limits.{places}
+use Rattle.flow_def.proofs.Lists.{Written, written-none, written-put}
+use Rattle.foreign_def.specs.Test.{priceFrom}
+use Rattle.foreign_numbers.proofs.Pricing.{priced-all}
+use borrow.Author.Needs.{needs}
+use Rattle.foreign_numbers.proofs.prices_from.Statement.{statement}
+use Rattle.foreign_numbers.proofs.prices_from.Tie as tie
+
+abbrev Inv-loop : tie.InvT-loop
+Inv-loop units prices n numbers₀ u₀ numbers u = (u ≤ n + 1) × Written (pos 0) places (λ k z. priceFrom prices k) numbers₀ numbers u
+
+abbrev μ-loop : tie.MeasureT-loop
+μ-loop units prices n numbers₀ u₀ numbers u = n + 1 - u
+
+loop-holds : tie.Need-loop-holds Inv-loop μ-loop
+loop-holds c = (omega arith, written-none (length-replicate {A = ℤ} places (pos 0)))
+
+mul-price-from : tie.Need-mul-price-from Inv-loop μ-loop
+mul-price-from c = search needs
+
+array-read-price-from : tie.Need-array-read-price-from Inv-loop μ-loop
+array-read-price-from c = search needs
+
+array-read-price-from-2 : tie.Need-array-read-price-from-2 Inv-loop μ-loop
+array-read-price-from-2 c = search needs
+
+price-from-requires : tie.Need-price-from-requires Inv-loop μ-loop
+price-from-requires c κs =
+    let st = c .before .before in
+    (st .pre .1 _ (omega arith), st .pre .1 _ (omega arith))
+
+mul-numbers : tie.Need-mul-numbers Inv-loop μ-loop
+mul-numbers c = search needs
+
+array-set-from-numbers : tie.Need-array-set-from-numbers Inv-loop μ-loop
+array-set-from-numbers c = search needs
+
+add-u : tie.Need-add-u Inv-loop μ-loop
+add-u c = search needs
+
+loop-less : tie.Need-loop-less Inv-loop μ-loop
+loop-less c = search needs
+
+loop-again : tie.Need-loop-again Inv-loop μ-loop
+loop-again c =
+    let at = c .before .before .loop in
+    let f : SFits w64 (c .price-from .result) = search needs in
+    (omega arith, written-put (at .inv .1) (omega arith) _ (toZ-ofZ w64 _ f ∙ c .price-from .ensures))
+
+returns : tie.Need-returns Inv-loop μ-loop
+returns c =
+    let st = c .before .before in
+    let at = c .before .loop in
+    priced-all (st .args .units) (at .u) (st .args .t2) (at .numbers) (omega arith) (at .inv .1)
+
+pub prices-from-spec : {M : Type 1} → statement M
+prices-from-spec =
+    tie.close
+    (tie.spec
+    Inv-loop
+    μ-loop
+    loop-holds
+    mul-price-from
+    array-read-price-from
+    array-read-price-from-2
+    price-from-requires
+    mul-numbers
+    array-set-from-numbers
+    add-u
+    loop-less
+    loop-again
+    returns)

@@ -1,2 +1,0 @@
--- Laws of numbers by prices.
-pub mod Pricing

@@ -1,2 +1,0 @@
--- Definitions that the contracts of laplacians cite.
-pub mod Cells

@@ -1,2 +1,0 @@
--- Laws of lines put one behind the other.
-pub mod Lined

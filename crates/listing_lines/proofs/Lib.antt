@@ -1,0 +1,3 @@
+-- Laws of the lines of a listing. Laws of lines put one behind the other.
+pub mod Sizes
+pub mod Lined

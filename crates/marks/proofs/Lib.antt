@@ -1,2 +1,0 @@
--- Laws of marked places as bits.
-pub mod Marking

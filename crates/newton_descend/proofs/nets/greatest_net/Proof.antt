@@ -1,0 +1,57 @@
+-- `newton_descend::nets::greatest_net` meets its contract: every net read is that of a place.
+use mathlib.Core.Path.{_≡_, ap, _∙_}
+use mathlib.Core.Logic.{⊎-elim}
+use Prim.Native.Nat.{_≤_, _-_}
+use borrow.Author.Needs.{needs}
+use Rattle.plant_def.specs.Limits.{places}
+use Rattle.newton_descend.specs.Nets.{greatestTo}
+use Rattle.newton_descend.proofs.Steps.{greatest-none, greatest-more, larger-taken, larger-left, all-done}
+use Rattle.newton_descend.proofs.nets.greatest_net.Statement.{statement}
+use Rattle.newton_descend.proofs.nets.greatest_net.Tie as tie
+
+abbrev Inv-loop : tie.InvT-loop
+Inv-loop nets most₀ u₀ most u = (u ≤ places) × (most ≡ greatestTo nets u)
+
+abbrev μ-loop : tie.MeasureT-loop
+μ-loop nets most₀ u₀ most u = places - u
+
+loop-holds : tie.Need-loop-holds Inv-loop μ-loop
+loop-holds c = (search needs, greatest-none _)
+
+mul-z : tie.Need-mul-z Inv-loop μ-loop
+mul-z c = search needs
+
+element-copy-out-z : tie.Need-element-copy-out-z Inv-loop μ-loop
+element-copy-out-z c = search needs
+
+add-u : tie.Need-add-u Inv-loop μ-loop
+add-u c = search needs
+
+loop-less : tie.Need-loop-less Inv-loop μ-loop
+loop-less c = search needs
+
+loop-again : tie.Need-loop-again Inv-loop μ-loop
+loop-again c =
+    let at = c .before .before .before .before in (
+      search needs,
+      greatest-more (at .before .args .nets .now) (at .loop .u) (at .loop .most) (c .before .if1 .most) (c .if2 .most) (at .loop .inv .1)
+          (⊎-elim (λ w. w .1 ∙ larger-taken _ _ (w .0 .taken)) (λ w. w .1 ∙ larger-left _ _ (w .0 .left)) (c .before .if1 .came))
+          (⊎-elim (λ w. w .1 ∙ larger-taken _ _ (w .0 .taken)) (λ w. w .1 ∙ larger-left _ _ (w .0 .left)) (c .if2 .came)),
+    )
+
+returns : tie.Need-returns Inv-loop μ-loop
+returns c = let l = c .before .loop in l .inv .1 ∙ ap (greatestTo _) (all-done (l .u) (l .inv .0) (c .loop-test .left))
+
+pub greatest-net-spec : {M : Type 1} → statement M
+greatest-net-spec =
+    tie.close
+    (tie.spec
+    Inv-loop
+    μ-loop
+    loop-holds
+    mul-z
+    element-copy-out-z
+    add-u
+    loop-less
+    loop-again
+    returns)

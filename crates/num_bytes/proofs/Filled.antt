@@ -1,0 +1,28 @@
+-- A list in an array: always as long as the limit, one element more, and the list again.
+use mathlib.Core.Path.{_≡_, refl, ap}
+use mathlib.Core.List.{List, [], _∷_, _++_}
+use Prim.Native.Nat.{ℕ, zero, suc, _≤_, _<_}
+use native.Mathlib.Omega.{arith}
+use lib.ListN.{length, take, set, replicate}
+use Rattle.num_bytes.specs.Arrays.{filled}
+
+module _ {A : Type 0} (d : A) where
+  pub length-filled : (n : ℕ) (xs : List A) → length (filled d n xs) ≡ n
+  length-filled zero xs = refl
+  length-filled (suc n) [] = ap suc (length-filled n [])
+  length-filled (suc n) (x ∷ xs) = ap suc (length-filled n xs)
+
+  pub filled-none : (n : ℕ) → replicate n d ≡ filled d n []
+  filled-none zero = refl
+  filled-none (suc n) = ap (λ (l : List A). d ∷ l) (filled-none n)
+
+  -- One element more.
+  pub filled-more : (n : ℕ) (xs : List A) (y : A) → length xs < n → set (filled d n xs) (length xs) y ≡ filled d n (xs ++ (y ∷ []))
+  filled-more zero xs y h = absurd (omega arith)
+  filled-more (suc n) [] y h = refl
+  filled-more (suc n) (x ∷ xs) y h = ap (λ (l : List A). x ∷ l) (filled-more n xs y (omega arith))
+
+  pub take-filled : (n : ℕ) (xs : List A) → length xs ≤ n → take (length xs) (filled d n xs) ≡ xs
+  take-filled n [] h = refl
+  take-filled zero (x ∷ xs) h = absurd (omega arith)
+  take-filled (suc n) (x ∷ xs) h = ap (λ (l : List A). x ∷ l) (take-filled n xs (omega arith))

@@ -1,0 +1,25 @@
+-- The bits, then their bytes.
+use borrow.Author.Needs.{needs}
+use denote.Ref.{now}
+use Prim.Native.Nat.{ℕ}
+use mathlib.Core.Path.{ap, _∙_}
+use mir.Facts.{toZ-ofZ}
+use Rattle.num_bytes.specs.Bytes.{putBe, raw, over}
+use Rattle.num_bytes.proofs.put_i32.Statement.{statement}
+use Rattle.num_bytes.proofs.put_i32.Tie as tie
+
+bits-of-requires : tie.Need-bits-of-requires
+bits-of-requires c κs = search needs
+
+put-u32-requires : tie.Need-put-u32-requires
+put-u32-requires c κs = search needs
+
+same-length : tie.Need-same-length
+same-length c = search needs
+
+returns : tie.Need-returns
+returns c = let o = now (c .before .before .before .before .before .before .args .s) in
+    c .before .before .put-u32 .ensures ∙ ap (λ (v : ℕ). over (putBe 4 v) o) (c .before .before .before .before .bits-of .ensures ∙ ap (raw 4) (toZ-ofZ (c .before .before .before .before .before .before .fits .z)))
+
+pub put-i32-spec : {M : Type 1} → statement M
+put-i32-spec = tie.close (tie.spec bits-of-requires put-u32-requires same-length returns)

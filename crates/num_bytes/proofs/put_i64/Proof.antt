@@ -1,0 +1,25 @@
+-- The bits, then their bytes.
+use borrow.Author.Needs.{needs}
+use denote.Ref.{now}
+use Prim.Native.Nat.{ℕ}
+use mathlib.Core.Path.{ap, _∙_}
+use mir.Facts.{toZ-ofZ}
+use Rattle.num_bytes.specs.Bytes.{putBe, raw, over}
+use Rattle.num_bytes.proofs.put_i64.Statement.{statement}
+use Rattle.num_bytes.proofs.put_i64.Tie as tie
+
+bits-of-i64-requires : tie.Need-bits-of-i64-requires
+bits-of-i64-requires c κs = search needs
+
+put-u64-requires : tie.Need-put-u64-requires
+put-u64-requires c κs = search needs
+
+same-length : tie.Need-same-length
+same-length c = search needs
+
+returns : tie.Need-returns
+returns c = let o = now (c .before .before .before .before .before .before .args .s) in
+    c .before .before .put-u64 .ensures ∙ ap (λ (v : ℕ). over (putBe 8 v) o) (c .before .before .before .before .bits-of-i64 .ensures ∙ ap (raw 8) (toZ-ofZ (c .before .before .before .before .before .before .fits .z)))
+
+pub put-i64-spec : {M : Type 1} → statement M
+put-i64-spec = tie.close (tie.spec bits-of-i64-requires put-u64-requires same-length returns)

@@ -1,3 +1,0 @@
--- Laws of elements handed over in a slice.
-pub mod Handing
-pub mod Rooms

@@ -1,0 +1,56 @@
+-- The first stream at fault decides.
+use borrow.Author.Needs.{needs}
+use native.Mathlib.Omega.{arith}
+use Prim.Native.Nat.{_-_}
+use Rattle.plant_check.proofs.Looking.{Looked, look, at-fault, look-on, no-fault}
+use Rattle.plant_check.proofs.streams_fault.Statement.{statement}
+use Rattle.plant_check.proofs.streams_fault.Tie as tie
+
+abbrev Inv-loop : tie.InvT-loop
+Inv-loop units count streams i₀ i = Looked units count streams i
+
+abbrev μ-loop : tie.MeasureT-loop
+μ-loop units count streams i₀ i = count - i
+
+loop-holds : tie.Need-loop-holds Inv-loop μ-loop
+loop-holds c = look (c .args .units) (c .args .count) (c .args .t3) (omega arith)
+
+mul-s : tie.Need-mul-s Inv-loop μ-loop
+mul-s c = search needs
+
+array-copy-out-s : tie.Need-array-copy-out-s Inv-loop μ-loop
+array-copy-out-s c = search needs
+
+stream-fault-requires : tie.Need-stream-fault-requires Inv-loop μ-loop
+stream-fault-requires c κs = search needs
+
+returns : tie.Need-returns Inv-loop μ-loop
+returns c = at-fault (c .before .before .before .before .loop .inv) (c .before .stream-fault .result) (c .before .before .before .before .before .pre) (c .before .before .before .loop-test .taken) (c .before .stream-fault .ensures) (c .if1 .taken)
+
+add-i : tie.Need-add-i Inv-loop μ-loop
+add-i c = search needs
+
+loop-less : tie.Need-loop-less Inv-loop μ-loop
+loop-less c = search needs
+
+loop-again : tie.Need-loop-again Inv-loop μ-loop
+loop-again c = look-on (c .before .before .before .before .loop .inv) (c .before .stream-fault .result) (c .before .before .before .before .before .pre) (c .before .before .before .loop-test .taken) (c .before .stream-fault .ensures) (c .if1 .left)
+
+returns-2 : tie.Need-returns-2 Inv-loop μ-loop
+returns-2 c = no-fault (c .before .loop .inv) (c .loop-test .left)
+
+pub streams-fault-spec : {M : Type 1} → statement M
+streams-fault-spec =
+    tie.close
+    (tie.spec
+    Inv-loop
+    μ-loop
+    loop-holds
+    mul-s
+    array-copy-out-s
+    stream-fault-requires
+    returns
+    add-i
+    loop-less
+    loop-again
+    returns-2)

@@ -1,0 +1,41 @@
+-- The body is there whole, then the stream decides.
+use borrow.Author.Needs.{needs}
+use denote.Ref.{now}
+use mathlib.Core.Path.{sym, _∙_}
+use Rattle.plant_def.specs.Limits.{unmeteredBody}
+use Rattle.plant_def.specs.Files.{unmeteredIn}
+use Rattle.plant_def.proofs.Records.{whole, body-refused, body-read}
+use Rattle.plant_read.proofs.read_unmetered.Statement.{statement}
+use Rattle.plant_read.proofs.read_unmetered.Tie as tie
+
+body-fault-requires : tie.Need-body-fault-requires
+body-fault-requires c κs = search needs
+
+returns : tie.Need-returns
+returns c = let a = c .before .before .before .args in
+    body-refused unmeteredBody (unmeteredIn (now (a .b))) (a .units) (a .count) (now (a .b)) _ (c .before .body-fault .ensures) (c .if1 .taken)
+
+unmetered-in-requires : tie.Need-unmetered-in-requires
+unmetered-in-requires c κs = whole unmeteredBody (c .before .before .before .args .count) (now (c .before .before .before .args .b)) (sym (c .before .body-fault .ensures) ∙ c .if1 .left)
+
+add-checked-stream : tie.Need-add-checked-stream
+add-checked-stream c = search needs
+
+checked-stream-requires : tie.Need-checked-stream-requires
+checked-stream-requires c κs = search needs
+
+returns-2 : tie.Need-returns-2
+returns-2 c = let a = c .before .before .before .before .before .args in
+    body-read unmeteredBody (unmeteredIn (now (a .b))) (a .units) (a .count) (now (a .b)) _ (c .before .before .before .body-fault .ensures) (c .before .before .if1 .left)
+    (c .checked-stream .result) (c .before .unmetered-in .result) (c .checked-stream .ensures) (c .before .unmetered-in .ensures)
+
+pub read-unmetered-spec : {M : Type 1} → statement M
+read-unmetered-spec =
+    tie.close
+    (tie.spec
+    body-fault-requires
+    returns
+    unmetered-in-requires
+    add-checked-stream
+    checked-stream-requires
+    returns-2)

@@ -1,0 +1,66 @@
+-- By whether the stream is metered, and has a range.
+use borrow.Author.Needs.{needs}
+use borrow.Author.Tests.{not-true, not-false}
+use Rattle.num_bytes.proofs.Parts.{put-as}
+use Rattle.plant_def.proofs.Records.{metered-bytes, ranged-bytes, unmetered-bytes}
+use Rattle.plant_write.proofs.put_stream.Statement.{statement}
+use Rattle.plant_write.proofs.put_stream.Tie as tie
+
+put-ends-requires : tie.Need-put-ends-requires
+put-ends-requires c κs = search needs
+
+add-result : tie.Need-add-result
+add-result c = search needs
+
+same-length : tie.Need-same-length
+same-length c = search needs
+
+returns : tie.Need-returns
+returns c =
+    let s = c .before .before .before .before .before .before .args .s in
+    put-as (unmetered-bytes s (not-true (s .metered) (c .before .before .before .before .if1 .taken))) (c .before .before .put-ends .ensures)
+
+put-ranged-requires : tie.Need-put-ranged-requires
+put-ranged-requires c κs = search needs
+
+add-result-2 : tie.Need-add-result-2
+add-result-2 c = search needs
+
+same-length-2 : tie.Need-same-length-2
+same-length-2 c = search needs
+
+returns-2 : tie.Need-returns-2
+returns-2 c =
+    let s = c .before .before .before .before .before .before .before .args .s in
+    put-as (ranged-bytes s (not-false (s .metered) (c .before .before .before .before .before .if1 .left)) (c .before .before .before .before .if2 .taken)) (c .before .before .put-ranged .ensures)
+
+put-meter-requires : tie.Need-put-meter-requires
+put-meter-requires c κs = search needs
+
+add-result-3 : tie.Need-add-result-3
+add-result-3 c = search needs
+
+same-length-3 : tie.Need-same-length-3
+same-length-3 c = search needs
+
+returns-3 : tie.Need-returns-3
+returns-3 c =
+    let s = c .before .before .before .before .before .before .before .args .s in
+    put-as (metered-bytes s (not-false (s .metered) (c .before .before .before .before .before .if1 .left)) (c .before .before .before .before .if2 .left)) (c .before .before .put-meter .ensures)
+
+pub put-stream-spec : {M : Type 1} → statement M
+put-stream-spec =
+    tie.close
+    (tie.spec
+    put-ends-requires
+    add-result
+    same-length
+    returns
+    put-ranged-requires
+    add-result-2
+    same-length-2
+    returns-2
+    put-meter-requires
+    add-result-3
+    same-length-3
+    returns-3)

@@ -1,0 +1,84 @@
+-- Each turn lends the part that starts at the next free byte.
+use borrow.Author.Needs.{needs}
+use denote.Ref.{now}
+use native.Mathlib.Omega.{arith}
+use mathlib.Core.Path.{_≡_}
+use Prim.Native.Nat.{_+_, _-_, _≤_}
+use lib.ListN.{length}
+use Rattle.num_bytes.proofs.Parts.{returned}
+use Rattle.num_bytes.proofs.Rows.{rows-long, rows-lend, rows-room, all-rows}
+use Rattle.plant_def.specs.Limits.{maxStreams}
+use Rattle.plant_write.proofs.Loops.{Streams, no-streams, one-stream}
+use Rattle.plant_write.proofs.put_streams.Statement.{statement}
+use Rattle.plant_write.proofs.put_streams.Tie as tie
+
+abbrev Inv-loop : tie.InvT-loop
+Inv-loop count out₀ streams at₀ i₀ out at i = (length streams ≡ maxStreams) × (count ≤ maxStreams) × Streams streams count out₀ out at i
+
+abbrev μ-loop : tie.MeasureT-loop
+μ-loop count out₀ streams at₀ i₀ out at i = count - i
+
+-- One stream more is written.
+written : (c : tie.After-slice-known2 Inv-loop μ-loop)
+    → Streams (c .before .before .before .before .before .before .before .before .args .t2) (c .before .before .before .before .before .before .before .before .args .count) (now (c .before .before .before .before .before .before .before .before .args .out)) (returned (c .before .before .before .before .before .before .loop .at) (c .before .before .before .before .before .before .loop .out) (c .before .before .put-stream .last .1 .0))
+    (c .before .before .before .before .before .before .loop .at + c .before .before .put-stream .result) (c .before .before .before .before .before .before .loop .i + 1)
+written c = let v = c .before .before .before .before .before .before .loop .inv in one-stream (v .2) (c .before .before .before .before .before .loop-test .taken) (omega arith) (c .before .before .put-stream .ensures)
+
+loop-holds : tie.Need-loop-holds Inv-loop μ-loop
+loop-holds c = (search needs, c .before .pre .0, no-streams (c .before .args .t2) (c .before .args .count) (now (c .before .args .out)) (omega (arith, c .before .pre .0, c .before .pre .1)))
+
+mul-s : tie.Need-mul-s Inv-loop μ-loop
+mul-s c = search needs
+
+array-copy-out-s : tie.Need-array-copy-out-s Inv-loop μ-loop
+array-copy-out-s c = search needs
+
+sub-put-stream : tie.Need-sub-put-stream Inv-loop μ-loop
+sub-put-stream c = rows-lend (c .before .before .loop .inv .2)
+
+part-put-stream-start : tie.Need-part-put-stream-start Inv-loop μ-loop
+part-put-stream-start c = rows-lend (c .before .before .loop .inv .2)
+
+part-put-stream-end : tie.Need-part-put-stream-end Inv-loop μ-loop
+part-put-stream-end c = search needs
+
+put-stream-requires : tie.Need-put-stream-requires Inv-loop μ-loop
+put-stream-requires c κs = rows-room (c .before .before .before .loop .inv .2) (c .before .before .loop-test .taken)
+
+add-at : tie.Need-add-at Inv-loop μ-loop
+add-at c = omega (arith, rows-lend (written c), rows-long (written c), c .before .before .before .before .before .before .before .before .good)
+
+add-i : tie.Need-add-i Inv-loop μ-loop
+add-i c = search needs
+
+loop-less : tie.Need-loop-less Inv-loop μ-loop
+loop-less c = search needs
+
+loop-again : tie.Need-loop-again Inv-loop μ-loop
+loop-again c = (c .before .before .before .before .before .before .loop .inv .0, c .before .before .before .before .before .before .loop .inv .1, written c)
+
+same-length : tie.Need-same-length Inv-loop μ-loop
+same-length c = rows-long (c .before .loop .inv .2)
+
+returns : tie.Need-returns Inv-loop μ-loop
+returns c = all-rows (c .before .loop .inv .2) (c .loop-test .left)
+
+pub put-streams-spec : {M : Type 1} → statement M
+put-streams-spec =
+    tie.close
+    (tie.spec
+    Inv-loop
+    μ-loop
+    loop-holds
+    mul-s
+    array-copy-out-s
+    sub-put-stream
+    part-put-stream-start
+    part-put-stream-end
+    put-stream-requires
+    add-at
+    add-i
+    loop-less
+    loop-again
+    same-length
+    returns)

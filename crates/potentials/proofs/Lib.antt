@@ -1,2 +1,0 @@
--- Laws of the nets.
-pub mod Steps

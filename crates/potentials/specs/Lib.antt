@@ -1,2 +1,0 @@
--- Definitions that the contracts of potentials cite.
-pub mod Nets

@@ -1,2 +1,0 @@
--- Laws of prices.
-pub mod Prices

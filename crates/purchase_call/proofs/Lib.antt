@@ -1,0 +1,3 @@
+-- Laws of prices. Laws of the call.
+pub mod Prices
+pub mod Answering

@@ -1,0 +1,29 @@
+-- There is room for the numbers.
+use denote.Ref.{now}
+use lib.ListN.{length}
+use Rattle.purchase_def.proofs.Promise.{few-lent}
+use borrow.Author.Needs.{needs}
+use Rattle.purchase_call.proofs.lent.buy_into.Statement.{statement}
+use Rattle.purchase_call.proofs.lent.buy_into.Tie as tie
+
+buy-lent-requires : tie.Need-buy-lent-requires
+buy-lent-requires c κs = search needs
+
+cast-count : tie.Need-cast-count
+cast-count c = search needs
+
+put-numbers-requires : tie.Need-put-numbers-requires
+put-numbers-requires c κs =
+    let made = c .before .before .before .buy-lent in
+    let a = c .before .before .before .before .before .before .before .args in
+    few-lent (now (a .file)) (now (a .prices)) (length (now (a .out))) (made .result) (made .ensures)
+
+same-length : tie.Need-same-length
+same-length c = search needs
+
+returns : tie.Need-returns
+returns c = search needs
+
+pub buy-into-spec : {M : Type 1} → statement M
+buy-into-spec =
+    tie.close (tie.spec buy-lent-requires cast-count put-numbers-requires same-length returns)

@@ -1,0 +1,35 @@
+-- By the two tests in their order.
+use mathlib.Core.Path.{sym, _∙_}
+use mathlib.Core.Bool.{true, false}
+use borrow.Author.Needs.{needs}
+use denote.Ref.{now}
+use Rattle.purchase_call.proofs.Prices.{not-one-each, one-each}
+use Rattle.purchase_call.proofs.prices_fault.Statement.{statement}
+use Rattle.purchase_call.proofs.prices_fault.Tie as tie
+
+unmetered-in-requires : tie.Need-unmetered-in-requires
+unmetered-in-requires c κs = search needs
+
+returns : tie.Need-returns
+returns c =
+    let st = c .before .before .before in
+    not-one-each (st .args .p) (st .pre) (now (st .args .prices)) _ (c .before .unmetered-in .ensures) (c .if1 .taken)
+
+some-unfair-requires : tie.Need-some-unfair-requires
+some-unfair-requires c κs = search needs
+
+returns-2 : tie.Need-returns-2
+returns-2 c =
+    let st = c .before .before .before .before .before in
+    one-each (st .args .p) (st .pre) (now (st .args .prices)) _ (c .before .before .before .unmetered-in .ensures) (c .before .before .if1 .left)
+    true (sym (c .if2 .taken) ∙ c .before .some-unfair .ensures)
+
+returns-3 : tie.Need-returns-3
+returns-3 c =
+    let st = c .before .before .before .before .before in
+    one-each (st .args .p) (st .pre) (now (st .args .prices)) _ (c .before .before .before .unmetered-in .ensures) (c .before .before .if1 .left)
+    false (sym (c .if2 .left) ∙ c .before .some-unfair .ensures)
+
+pub prices-fault-spec : {M : Type 1} → statement M
+prices-fault-spec =
+    tie.close (tie.spec unmetered-in-requires returns some-unfair-requires returns-2 returns-3)

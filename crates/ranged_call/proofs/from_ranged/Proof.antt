@@ -1,0 +1,25 @@
+-- What was read and moved is written.
+use borrow.Author.Needs.{needs}
+use denote.Ref.{now}
+use Rattle.plant_def.specs.Files.{readPlant}
+use Rattle.ranged_def.specs.Moves.{fromRanged}
+use Rattle.ranged_def.proofs.Kept.{from-good}
+use Rattle.ranged_call.proofs.from_ranged.Statement.{statement}
+use Rattle.ranged_call.proofs.from_ranged.Tie as tie
+
+read-home-requires : tie.Need-read-home-requires
+read-home-requires c κs = search needs
+
+write-read-requires : tie.Need-write-read-requires
+write-read-requires c κs = search needs
+
+same-length : tie.Need-same-length
+same-length c = search needs
+
+returns : tie.Need-returns
+returns c =
+    let file = now (c .before .before .before .before .before .before .before .args .file) in
+    c .before .before .write-read .ensures (fromRanged (readPlant file)) (from-good file) (c .before .before .before .before .read-home .ensures)
+
+pub from-ranged-spec : {M : Type 1} → statement M
+from-ranged-spec = tie.close (tie.spec read-home-requires write-read-requires same-length returns)

@@ -1,3 +1,0 @@
--- Laws of a balance by its parts.
-pub mod Verdicts
-pub mod Balanced

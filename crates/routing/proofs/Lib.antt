@@ -1,2 +1,0 @@
--- Laws of routed amounts.
-pub mod Routes

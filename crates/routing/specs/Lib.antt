@@ -1,2 +1,0 @@
--- Definitions that the contracts of routing cite.
-pub mod Routes

@@ -1,2 +1,0 @@
--- Laws of settling over arcs and rows.
-pub mod Rowing

@@ -1,0 +1,49 @@
+-- A sheet: the kinds of its records, their lengths, and a cost as it is written.
+use Prim.Native.Nat.{ℕ, _+_, _*_}
+use lib.Dec.{leb}
+use Rattle.num_bytes.specs.Choice.{pick}
+use Rattle.plant_def.specs.Limits.{maxStreams}
+
+-- The kinds of record: A, adjusted; R, as read; G, given; W, withheld (the blank); the total, with the office that drew the sheet;
+-- the plain total of sheets drawn before there were offices.
+abbrev pub adjustedKind : ℕ
+adjustedKind = 17
+
+abbrev pub asReadKind : ℕ
+asReadKind = 18
+
+abbrev pub givenKind : ℕ
+givenKind = 19
+
+abbrev pub withheldKind : ℕ
+withheldKind = 20
+
+abbrev pub totalKind : ℕ
+totalKind = 30
+
+abbrev pub plainKind : ℕ
+plainKind = 31
+
+-- The lengths of a stream record with a number, of what the totals end in, and of the totals.
+abbrev pub streamSize : ℕ
+streamSize = 9
+
+abbrev pub bodySize : ℕ
+bodySize = 14
+
+abbrev pub totalSize : ℕ
+totalSize = 16
+
+abbrev pub plainSize : ℕ
+plainSize = 15
+
+-- The least slice that is taken: as many numbers as there may be, and the total. 880 bytes.
+abbrev pub leastSlice : ℕ
+leastSlice = maxStreams * streamSize + totalSize
+
+-- A cost as it is written: one that 8 bytes do not hold as the greatest that they hold.
+abbrev pub topCost : ℕ
+topCost = 18446744073709551615
+
+abbrev pub capped : ℕ → ℕ
+capped c = pick (leb c topCost) c topCost

@@ -1,0 +1,103 @@
+-- The counters over any sequence of calls by any offices, accepted and refused. `SheetSays file office lasts o o′ r` is what the sheet
+-- call ensures.
+use mathlib.Core.Path.{_≡_}
+use mathlib.Core.Bool.{Bool, _&&_}
+use mathlib.Core.List.{List, [], _∷_, _++_}
+use Prim.Native.Nat.{ℕ, zero, suc, _+_, _≤_}
+use lib.Dec.{eqb}
+use lib.ListN.{length, take}
+use Rattle.num_bytes.specs.Choice.{pick}
+use Rattle.plant_def.specs.Plants.{Plant}
+use Rattle.plant_def.specs.Files.{got, readPlant}
+use Rattle.sheet_def.specs.declared.Sheet.{Sheet}
+use Rattle.sheet_def.specs.Counters.{offices, topSheet, counterOf, nextOf, officesFrom}
+use Rattle.sheet_def.specs.Says.{SheetSays}
+use Rattle.sheet_def.specs.Kept.{Reopened, noSheet, someSheet, readSheet}
+use Rattle.sheet_def.specs.Apart.{plainKind}
+use Rattle.sheet_def.specs.Sheets.{SheetParts}
+use Rattle.sheet_def.specs.Sentences.{Tells, Under}
+use Rattle.sheet_history.specs.Before.{PlainSheet, PlainSays, PlainCall, PlainCalls, lastAfter, plainCount, plainSheets, readBefore}
+
+-- A call: its plant file, the calling office, the slice before it and after it, and what it handed over.
+pub record Call : Type 0 where
+  pub file : List ℕ
+  pub office : ℕ
+  pub before : List ℕ
+  pub after : List ℕ
+  pub answer : Sheet
+
+-- Calls one after the other, each handed the counters that the one before it gave back; the counters after them.
+abbrev pub Calls : List ℕ → List Call → Type 0
+Calls lasts [] = Unit {0}
+Calls lasts (c ∷ cs) = SheetSays (c .file) (c .office) lasts (c .before) (c .after) (c .answer) × Calls (c .answer .lasts) cs
+
+abbrev pub countersAfter : List ℕ → List Call → List ℕ
+countersAfter lasts [] = lasts
+countersAfter lasts (c ∷ cs) = countersAfter (c .answer .lasts) cs
+
+-- How many sheets of office k they drew; the sheets of all offices, in their order.
+abbrev pub drew : ℕ → Call → Bool
+drew k c = eqb (c .answer .number) 0 && eqb (c .office) k
+
+abbrev pub drawnCount : ℕ → List Call → ℕ
+drawnCount k [] = 0
+drawnCount k (c ∷ cs) = pick (drew k c) (suc (drawnCount k cs)) (drawnCount k cs)
+
+abbrev pub drawnSheets : List Call → List (List ℕ)
+drawnSheets [] = []
+drawnSheets (c ∷ cs) = pick (eqb (c .answer .number) 0) (take (c .answer .written) (c .after) ∷ drawnSheets cs) (drawnSheets cs)
+
+-- The numbers of office k's sheets among kept sheets, in their order, as the sheet reader has them.
+abbrev pub numberRead : ℕ → Reopened → List ℕ
+numberRead k (noSheet f) = []
+numberRead k (someSheet s) = pick (eqb (s .total .office) k) (s .total .sheet ∷ []) []
+
+abbrev pub numbersOf : ℕ → List (List ℕ) → List ℕ
+numbersOf k [] = []
+numbersOf k (b ∷ bs) = numberRead k (readSheet b) ++ numbersOf k bs
+
+-- The j numbers from n on, each once.
+abbrev pub upFrom : ℕ → ℕ → List ℕ
+upFrom n zero = []
+upFrom n (suc j) = n ∷ upFrom (suc n) j
+
+-- The counters that a call may be handed: eight, of 32 bits.
+pub record Eight (lasts : List ℕ) : Type 0 where
+  pub long : length lasts ≡ offices
+  pub held : (k : ℕ) → counterOf k lasts ≤ topSheet
+
+-- A call before the change that drew a sheet: it reads back with its kind, as that of office 0, and tells of the plant what a sheet has to.
+pub record ReadsPlain (file : List ℕ) (last : ℕ) (o′ : List ℕ) (r : PlainSheet) : Type 0 where
+  pub plant : Plant
+  pub listed : readPlant file ≡ got plant
+  pub sheet : SheetParts
+  pub read : readSheet (take (r .written) o′) ≡ someSheet sheet
+  pub tells : Tells plant sheet
+  pub under : Under plainKind 0 (suc last) sheet
+
+pub record History : Type 0 where
+  -- No call alters another office's number, nor does what it returns and leaves behind depend on one: its refusal, the bytes written
+  -- and the slice go by the calling office's number alone.
+  pub others : (file : List ℕ) (office : ℕ) (lasts o o′ : List ℕ) (r : Sheet) → SheetSays file office lasts o o′ r
+      → (k : ℕ) → (k ≡ office → ⊥) → counterOf k (r .lasts) ≡ counterOf k lasts
+  pub alone : (file : List ℕ) (office : ℕ) (lasts₁ lasts₂ o o₁ o₂ : List ℕ) (r₁ r₂ : Sheet) → counterOf office lasts₁ ≡ counterOf office lasts₂
+      → SheetSays file office lasts₁ o o₁ r₁ → SheetSays file office lasts₂ o o₂ r₂ → (r₁ .number ≡ r₂ .number) × (r₁ .written ≡ r₂ .written) × (o₁ ≡ o₂)
+  -- An office above 7 has no counter: its calls are refused, and alter none.
+  pub unknown : (file : List ℕ) (office : ℕ) (lasts o o′ : List ℕ) (r : Sheet) → SheetSays file office lasts o o′ r → offices ≤ office
+      → (r .number ≡ 0 → ⊥) × (r .lasts ≡ lasts)
+  -- Any calls by any offices leave eight counters. An office's next number is what it was plus how many of its own sheets were drawn,
+  -- and these have the numbers from there on, each once: none twice and none left out.
+  pub kept : (lasts : List ℕ) (cs : List Call) → Eight lasts → Calls lasts cs → Eight (countersAfter lasts cs)
+  pub next : (lasts : List ℕ) (cs : List Call) → Eight lasts → Calls lasts cs → (k : ℕ)
+      → nextOf k (countersAfter lasts cs) ≡ nextOf k lasts + drawnCount k cs
+  pub numbers : (lasts : List ℕ) (cs : List Call) → Eight lasts → Calls lasts cs → (k : ℕ)
+      → numbersOf k (drawnSheets cs) ≡ upFrom (nextOf k lasts) (drawnCount k cs)
+  -- Kept sheets of before are read as before: the same parts, kind 0x1F, office 0.
+  pub as-before : (b : List ℕ) (s : SheetParts) → readBefore b ≡ someSheet s
+      → (readSheet b ≡ someSheet s) × (s .total .kind ≡ plainKind) × (s .total .office ≡ 0)
+  -- Before the change and after it: the sheets of office 0 follow on in number.
+  pub plain : (file : List ℕ) (last : ℕ) (o o′ : List ℕ) (r : PlainSheet) → last ≤ topSheet → PlainSays file last o o′ r → r .number ≡ 0
+      → ReadsPlain file last o′ r
+  pub change : (first : ℕ) (ps : List PlainCall) → first ≤ topSheet → PlainCalls first ps → Eight (officesFrom (lastAfter first ps))
+  pub follow : (first : ℕ) (ps : List PlainCall) (cs : List Call) → first ≤ topSheet → PlainCalls first ps → Calls (officesFrom (lastAfter first ps)) cs
+      → numbersOf 0 (plainSheets ps ++ drawnSheets cs) ≡ upFrom (suc first) (plainCount ps + drawnCount 0 cs)

@@ -1,0 +1,79 @@
+-- By the class.
+use borrow.Author.Needs.{needs}
+use mathlib.Core.Path.{sym, ap}
+use mir.Facts.{toZ-ofZ}
+use Rattle.num_bytes.proofs.Parts.{put-as}
+use Rattle.flow_def.specs.declared.Class.{Class}
+use Rattle.sheet_def.specs.Sheets.{recordOf}
+use Rattle.sheet_def.proofs.Laying.{record-as}
+use Rattle.sheet_write.proofs.put_record.Statement.{statement}
+use Rattle.sheet_write.proofs.put_record.Tie as tie
+
+enum-told : tie.Need-enum-told
+enum-told c = search needs
+
+put-flow-requires : tie.Need-put-flow-requires
+put-flow-requires c κs = search needs
+
+enum-told-2 : tie.Need-enum-told-2
+enum-told-2 c = search needs
+
+put-flow-requires-2 : tie.Need-put-flow-requires-2
+put-flow-requires-2 c κs = search needs
+
+enum-told-3 : tie.Need-enum-told-3
+enum-told-3 c = search needs
+
+put-flow-requires-3 : tie.Need-put-flow-requires-3
+put-flow-requires-3 c κs = search needs
+
+enum-told-4 : tie.Need-enum-told-4
+enum-told-4 c = search needs
+
+put-u8-requires : tie.Need-put-u8-requires
+put-u8-requires c κs = search needs
+
+same-length : tie.Need-same-length
+same-length c = search needs
+
+returns : tie.Need-returns
+returns c = put-as (record-as (c .before .before .before .before .enum-told .given .1) (toZ-ofZ (c .before .before .before .before .before .before .before .fits .flow))) (c .before .before .put-flow .ensures)
+
+same-length-2 : tie.Need-same-length-2
+same-length-2 c = search needs
+
+returns-2 : tie.Need-returns-2
+returns-2 c = put-as (record-as (c .before .before .before .before .enum-told2 .given .1) (toZ-ofZ (c .before .before .before .before .before .before .before .fits .flow))) (c .before .before .put-flow2 .ensures)
+
+same-length-3 : tie.Need-same-length-3
+same-length-3 c = search needs
+
+returns-3 : tie.Need-returns-3
+returns-3 c = put-as (record-as (c .before .before .before .before .enum-told3 .given .1) (toZ-ofZ (c .before .before .before .before .before .before .before .fits .flow))) (c .before .before .put-flow3 .ensures)
+
+same-length-4 : tie.Need-same-length-4
+same-length-4 c = search needs
+
+returns-4 : tie.Need-returns-4
+returns-4 c = put-as (ap (λ (k : Class). recordOf k (c .before .before .before .before .before .before .before .args .flow)) (sym (c .before .before .before .before .enum-told4 .given .1))) (c .before .before .put-u8 .ensures)
+
+pub put-record-spec : {M : Type 1} → statement M
+put-record-spec =
+    tie.close
+    (tie.spec
+    enum-told
+    put-flow-requires
+    enum-told-2
+    put-flow-requires-2
+    enum-told-3
+    put-flow-requires-3
+    enum-told-4
+    put-u8-requires
+    same-length
+    returns
+    same-length-2
+    returns-2
+    same-length-3
+    returns-3
+    same-length-4
+    returns-4)

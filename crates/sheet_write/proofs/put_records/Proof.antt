@@ -1,0 +1,100 @@
+-- Each turn lends the part that starts at the next free byte.
+use borrow.Author.Needs.{needs}
+use native.Mathlib.Omega.{arith}
+use denote.Ref.{now}
+use mathlib.Core.Path.{_≡_, refl, ap}
+use mathlib.Core.List.{List}
+use lib.IntN.{ℤ}
+use Prim.Native.Nat.{ℕ, _+_, _-_, _≤_}
+use lib.ListN.{length, getD, take}
+use mir.Syntax.{w64}
+use mir.Val.{SFits}
+use mir.Facts.{toZ-ofZ}
+use Rattle.num_bytes.specs.Inner.{Put}
+use Rattle.num_bytes.proofs.Parts.{returned, partFrom}
+use Rattle.num_bytes.proofs.Rows.{Rows, no-rows, one-row, rows-long, rows-lend, rows-room, all-rows}
+use Rattle.plant_def.specs.Limits.{maxStreams}
+use Rattle.sheet_def.specs.Sheets.{recordOf, recordsOf}
+use Rattle.sheet_def.specs.Apart.{streamSize}
+use Rattle.sheet_def.proofs.Entries.{noEntry}
+use Rattle.sheet_def.proofs.Laying.{record-most, records-more}
+use Rattle.sheet_write.proofs.put_records.Statement.{statement}
+use Rattle.sheet_write.proofs.put_records.Tie as tie
+
+abbrev Inv-loop : tie.InvT-loop
+Inv-loop count out₀ streams at₀ i₀ out at i = (count ≤ maxStreams) × (length streams ≡ maxStreams) × Rows (λ k. recordsOf (take k streams)) streamSize count out₀ out at i
+
+abbrev μ-loop : tie.MeasureT-loop
+μ-loop count out₀ streams at₀ i₀ out at i = count - i
+
+-- The record is written.
+written : (c : tie.After-slice-known2 Inv-loop μ-loop) → let a = c .before .before .before .before .before .before .before .before .before .args in
+    let l = c .before .before .before .before .before .before .before .loop in
+    Rows (λ k. recordsOf (take k (a .t2))) streamSize (a .count) (now (a .out)) (returned (l .at) (l .out) (c .before .before .put-record .last .1 .1 .0)) (l .at + c .before .before .put-record .result) (l .i + 1)
+written c =
+    let a = c .before .before .before .before .before .before .before .before .before .args in
+    let l = c .before .before .before .before .before .before .before .loop in
+    let e = getD (a .t2) (l .i) noEntry in
+    let lt = c .before .before .before .before .before .before .loop-test .taken in
+    let f : SFits w64 (e .flow) = search needs in
+    let put : Put (recordOf (e .class) (e .flow)) (partFrom (l .at) (l .out)) (c .before .before .put-record .last .1 .1 .0) (c .before .before .put-record .result) = rw (toZ-ofZ f) at (c .before .before .put-record .ensures) in
+    one-row (l .inv .2) (recordOf (e .class) (e .flow)) {last = c .before .before .put-record .last .1 .1 .0} {m = c .before .before .put-record .result} lt (records-more (a .t2) (l .i) noEntry (omega (arith, l .inv .0, l .inv .1))) (record-most (e .class) (e .flow)) put
+
+loop-holds : tie.Need-loop-holds Inv-loop μ-loop
+loop-holds c = (c .before .pre .0, search needs, no-rows (λ k. recordsOf (take k (c .before .args .t2))) streamSize (c .before .args .count) (now (c .before .args .out)) refl (omega (arith, c .before .pre .0, c .before .pre .1)))
+
+mul-e : tie.Need-mul-e Inv-loop μ-loop
+mul-e c = search needs
+
+array-copy-out-e : tie.Need-array-copy-out-e Inv-loop μ-loop
+array-copy-out-e c = search needs
+
+sub-put-record : tie.Need-sub-put-record Inv-loop μ-loop
+sub-put-record c = rows-lend (c .before .before .loop .inv .2)
+
+part-put-record-start : tie.Need-part-put-record-start Inv-loop μ-loop
+part-put-record-start c = rows-lend (c .before .before .loop .inv .2)
+
+part-put-record-end : tie.Need-part-put-record-end Inv-loop μ-loop
+part-put-record-end c = search needs
+
+put-record-requires : tie.Need-put-record-requires Inv-loop μ-loop
+put-record-requires c κs = rows-room (c .before .before .before .before .loop .inv .2) (c .before .before .before .loop-test .taken)
+
+add-at : tie.Need-add-at Inv-loop μ-loop
+add-at c = omega (arith, rows-lend (written c), rows-long (written c), c .before .before .before .before .before .before .before .before .before .good)
+
+add-i : tie.Need-add-i Inv-loop μ-loop
+add-i c = search needs
+
+loop-less : tie.Need-loop-less Inv-loop μ-loop
+loop-less c = search needs
+
+loop-again : tie.Need-loop-again Inv-loop μ-loop
+loop-again c = (c .before .before .before .before .before .before .before .loop .inv .0, c .before .before .before .before .before .before .before .loop .inv .1, written c)
+
+same-length : tie.Need-same-length Inv-loop μ-loop
+same-length c = rows-long (c .before .loop .inv .2)
+
+returns : tie.Need-returns Inv-loop μ-loop
+returns c = all-rows (c .before .loop .inv .2) (c .loop-test .left)
+
+pub put-records-spec : {M : Type 1} → statement M
+put-records-spec =
+    tie.close
+    (tie.spec
+    Inv-loop
+    μ-loop
+    loop-holds
+    mul-e
+    array-copy-out-e
+    sub-put-record
+    part-put-record-start
+    part-put-record-end
+    put-record-requires
+    add-at
+    add-i
+    loop-less
+    loop-again
+    same-length
+    returns)

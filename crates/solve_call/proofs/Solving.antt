@@ -1,0 +1,58 @@
+-- What the solver hands over is right, where a set is full and where a flow is found.
+use mathlib.Core.Path.{_≡_, sym, subst}
+use mathlib.Core.Bool.{Bool, true, false}
+use mathlib.Core.List.{List}
+use Prim.Native.Nat.{ℕ}
+use Rattle.plant_def.specs.declared.Stream.{Stream}
+use Rattle.plant_def.specs.declared.Plant as Arrays
+use Rattle.plant_def.specs.Within.{Accepted}
+use Rattle.plant_def.specs.Says.{plantOf}
+use Rattle.plant_def.proofs.Arrayed.{all-listed, within-of}
+use Rattle.flow_def.specs.Overfull.{Overfull}
+use Rattle.solve_def.specs.declared.State.{State}
+use Rattle.solve_def.specs.declared.Ended.{Ended}
+use Rattle.solve_def.specs.Model.{finished, masked, tiesTo, solvedFrom}
+use Rattle.solve_def.specs.SolverNeeds.{AtHint}
+use Rattle.solve_def.specs.Promise.{Right}
+use Rattle.solve_def.proofs.Phases.{Finished}
+use Rattle.solve_def.proofs.Ending.{finished-good, finished-even}
+use Rattle.solve_def.proofs.Theorem.{network-of, solvable-in, ended-full, solved-right}
+use Rattle.solve_arcs.specs.Cells.{countOf}
+use Rattle.solve_arcs.specs.ArcNeeds.{Laid, Margined}
+use Rattle.solve_ties.specs.Evens.{Tieable}
+
+module _ (p : Arrays.Plant) (a : Accepted p) (st : State) (s : AtHint (plantOf p .streams) st) (e : Ended) (q : e ≡ finished (plantOf p .streams) st) where
+  abbrev ss : List Stream
+  ss = plantOf p .streams
+
+  pub ends : Finished ss e
+  ends = rw q (finished-good ss (solvable-in (plantOf p) (within-of p a)) st s)
+
+  pub full-right : (own : List Bool) → e .full ≡ true → own ≡ masked (p .units) (e .marked) → Overfull (plantOf p) own
+  full-right own n o = rw o (ended-full (plantOf p) (within-of p a) e ends n)
+
+  module _ (n : e .full ≡ false) where
+    -- What the tie pass begins from.
+    abbrev pub tieable : (ls rs : List ℕ) → Laid (p .streams) (p .count) ls rs → Tieable ls rs (e .state .prices) 0 (e .state .flows)
+    tieable ls rs l = record {
+      streams = p .streams;
+      n = p .count;
+      network = network-of p a;
+      laid = l;
+      prices = ends .underway n .sound .capped;
+      even = finished-even ss (solvable-in (plantOf p) (within-of p a)) e ends n;
+    }
+
+    -- And the margins of all streams in use.
+    pub tie-margined : (ls rs ms : List ℕ) → Laid (p .streams) (p .count) ls rs → Margined (p .count) rs (e .state .flows) 1 0 ms
+        → Margined (countOf ls) rs (e .state .flows) 1 0 ms
+    tie-margined ls rs ms l m = subst (λ (k : ℕ). Margined k rs (e .state .flows) 1 0 ms) (sym (l .along .counted)) m
+
+    found-is : (flows : List ℕ) (own : List Bool) → flows ≡ tiesTo ss (e .state .prices) (p .count) (e .state .flows) → own ≡ masked (p .units) (e .marked)
+        → solvedFrom (p .units) ss st ≡ record { found = true; flows = flows; prices = e .state .prices; marked = own }
+    unfolding solvedFrom
+    found-is flows own f o = rw (← q, n, f, o, all-listed p a)
+
+    pub found-right : (flows : List ℕ) (own : List Bool) → flows ≡ tiesTo ss (e .state .prices) (p .count) (e .state .flows) → own ≡ masked (p .units) (e .marked)
+        → Right p (record { found = true; flows = flows; prices = e .state .prices; marked = own })
+    found-right flows own f o = subst (Right p) (found-is flows own f o) (solved-right p a st s)

@@ -1,0 +1,80 @@
+// The cheapest balanced flow of a plant, with prices that certify it; or a set of places that must take in more than it can let
+// out.
+use plant_def::Plant;
+use plant_def::limits::PLACES;
+use solve_arcs::ARCS;
+use solve_arcs::MARGINS;
+use solve_arcs::NONE;
+use solve_arcs::ROWS;
+use solve_arcs_fill::lay;
+use solve_def::Hint;
+use solve_def::Solved;
+use solve_def::State;
+use solve_phases::finishing::finish;
+use solve_phases::marks::masked;
+use solve_settle::settle;
+use solve_start::start;
+use solve_ties::tie_all;
+ghost use Rattle.plant_def.specs.Within.{Accepted};
+ghost use Rattle.plant_def.specs.Says.{plantOf};
+ghost use Rattle.solve_def.specs.SolverNeeds.{AtHint, Hinted};
+ghost use Rattle.solve_def.specs.Promise.{Right};
+ghost use Rattle.solve_arcs.specs.ArcNeeds.{Laid};
+ghost use Rattle.flow_def.specs.Calls.{Grouped};
+
+// The cheapest balanced flow of a plant, from amounts settled at a hint; or a set of places that must take in more than it can let out.
+pub fn solve_at(p: Plant, arcs: &[u8; ARCS], rows: &[u64; ROWS], start: State) -> Solved
+    requires { ⌜ Accepted p × Laid (p .streams) (p .count) (now arcs) (now rows) × AtHint (plantOf p .streams) start ⌝ }
+    ensures { λ r. ⌜ Right p r ⌝ }
+{
+    let mut margins = [0u64; MARGINS];
+    let e = finish(arcs, rows, &mut margins, start);
+    let marked = e.marked;
+    let own = masked(marked, p.units);
+    let st = e.state;
+    let prices = st.prices;
+    let mut flows = st.flows;
+    if e.full {
+        return Solved {
+            found: false,
+            flows: flows,
+            prices: prices,
+            marked: own,
+        };
+    }
+    tie_all(arcs, rows, &mut margins, &mut flows, &prices);
+    Solved {
+        found: true,
+        flows: flows,
+        prices: prices,
+        marked: own,
+    }
+}
+
+// From any hint.
+pub fn solve_from(p: Plant, h: Hint) -> Solved
+    requires { ⌜ Accepted p × Hinted (plantOf p .streams) h ⌝ }
+    ensures { λ r. ⌜ Right p r ⌝ }
+{
+    let streams = p.streams;
+    let count = p.count as usize;
+    let mut arcs = [NONE as u8; ARCS];
+    let mut rows = [0u64; ROWS];
+    lay(streams, count, &mut arcs, &mut rows);
+    let st = settle(&arcs, &rows, h);
+    solve_at(p, &arcs, &rows, st)
+}
+
+// The same of a plant whose labels by the unmetered streams are handed in.
+pub fn solve(p: Plant, labels: [u8; PLACES]) -> Solved
+    requires { ⌜ Accepted p × Grouped p labels ⌝ }
+    ensures { λ r. ⌜ Right p r ⌝ }
+{
+    let streams = p.streams;
+    let count = p.count as usize;
+    let mut arcs = [NONE as u8; ARCS];
+    let mut rows = [0u64; ROWS];
+    lay(streams, count, &mut arcs, &mut rows);
+    let begun = start(p, labels, &arcs, &rows);
+    solve_at(p, &arcs, &rows, begun)
+}

@@ -1,0 +1,122 @@
+-- What a stream's range leaves: streams that can move, their slacks, and the step condition of one stream.
+use mathlib.Core.Path.{_≡_, _∙_, ap}
+use mathlib.Core.Bool.{Bool, true, false, false≢true}
+use lib.IntN.{ℤ, pos, negsuc, natAbs}
+use lib.Signed.{leZ}
+use Prim.Native.Nat.{ℕ, _+_, _-_, _*_, _≤_, _<_}
+use native.Mathlib.Nat.{mul-le-mul-left}
+use native.Mathlib.Omega.{arith}
+use borrow.Author.Tests.{le-leb, leb-true, leb-false}
+use lib.Dec.{leb}
+use Rattle.num_bytes.proofs.Tests.{by-cases}
+use Rattle.plant_def.specs.declared.Stream.{Stream}
+use Rattle.plant_def.specs.Plants.{limited}
+use Rattle.plant_def.specs.Within.{WithinStream}
+use Rattle.flow_def.specs.Certificate.{weightOf}
+use Rattle.solve_def.specs.Sizes.{flowShift, mostFlow, farthest, mostReading, mostRange}
+use Rattle.solve_def.specs.Held.{shifted, readingOf, lowOf, highOf, Held}
+use Rattle.solve_def.specs.Slack.{gapBy, slackBy}
+use Rattle.solve_def.specs.SearchNeeds.{Close}
+
+-- A stream that carries x can move by d: it is open, forwards or backwards.
+abbrev pub Open : Stream → Bool → ℕ → ℕ → Type 0
+Open s true x d = x + d ≤ highOf s
+Open s false x d = lowOf s + d ≤ x
+
+-- Open or not.
+pub open-or : {A : Type 0} (f : Bool) (s : Stream) (x d : ℕ) → (Open s f x d → A) → ((Open s f x d → ⊥) → A) → A
+open-or true s x d free shut = by-cases (leb (x + d) (highOf s)) (λ e. free (leb-true (x + d) (highOf s) e)) (λ e. shut (λ o. omega (arith, leb-false (x + d) (highOf s) e)))
+open-or false s x d free shut = by-cases (leb (lowOf s + d) x) (λ e. free (leb-true (lowOf s + d) x e)) (λ e. shut (λ o. omega (arith, leb-false (lowOf s + d) x e)))
+
+-- The slack of an open stream, and of one that is not; a slack below farthest is an open stream's.
+pub slack-open : (f : Bool) (s : Stream) (x pu pv d : ℕ) → Open s f x d → slackBy s f x pu pv d ≡ gapBy (weightOf s) (2 * (weightOf s * readingOf s)) f x pu pv d
+slack-open true s x pu pv d o = rw (le-leb (x + d) (highOf s) o)
+slack-open false s x pu pv d o = rw (le-leb (lowOf s + d) x o)
+
+pub slack-shut : (f : Bool) (s : Stream) (x pu pv d : ℕ) → (Open s f x d → ⊥) → slackBy s f x pu pv d ≡ farthest
+slack-shut true s x pu pv d o = by-cases (leb (x + d) (highOf s)) (λ e. absurd (o (leb-true (x + d) (highOf s) e))) (λ e. rw e)
+slack-shut false s x pu pv d o = by-cases (leb (lowOf s + d) x) (λ e. absurd (o (leb-true (lowOf s + d) x e))) (λ e. rw e)
+
+pub open-of : (f : Bool) (s : Stream) (x pu pv d : ℕ) → slackBy s f x pu pv d < farthest → Open s f x d
+open-of f s x pu pv d l = open-or f s x d (λ o. o) (λ o. absurd (omega (arith, slack-shut f s x pu pv d o)))
+
+pub slack-most : (f : Bool) (s : Stream) (x pu pv d : ℕ) → (Open s f x d → slackBy s f x pu pv d ≤ farthest) → slackBy s f x pu pv d ≤ farthest
+slack-most f s x pu pv d h = open-or f s x d h (λ o. omega (arith, slack-shut f s x pu pv d o))
+
+-- An integer as it is held, of size b at most; and two in their order.
+pub shifted-close : (b : ℕ) (z : ℤ) → b ≤ flowShift → natAbs z ≤ b → Close b (shifted z)
+shifted-close b (pos a) l h = (omega arith, omega arith)
+shifted-close b (negsuc a) l h = (omega arith, omega arith)
+
+shifted-order : (y z : ℤ) → natAbs y ≤ flowShift → leZ y z ≡ true → shifted y ≤ shifted z
+shifted-order (pos a) (pos b) h e = omega (arith, leb-true a b e)
+shifted-order (pos a) (negsuc b) h e = absurd (false≢true e)
+shifted-order (negsuc a) (pos b) h e = omega arith
+shifted-order (negsuc a) (negsuc b) h e = omega (arith, leb-true b a e)
+
+pub reading-close : (z : ℤ) → natAbs z ≤ mostReading → Close mostReading (shifted z)
+reading-close z h = shifted-close mostReading z (omega arith) h
+
+-- The range of a stream, with one and without.
+pub unlimited : (s : Stream) → s .metered ≡ false → limited s ≡ false
+unlimited s e = rw e
+
+pub low-is : (s : Stream) → limited s ≡ true → lowOf s ≡ shifted (s .low)
+unfolding lowOf
+low-is s e = rw e
+
+pub high-is : (s : Stream) → limited s ≡ true → highOf s ≡ shifted (s .high)
+unfolding highOf
+high-is s e = rw e
+
+pub low-free : (s : Stream) → limited s ≡ false → lowOf s ≡ 0
+unfolding lowOf
+low-free s e = rw e
+
+pub high-free : (s : Stream) → limited s ≡ false → highOf s ≡ mostFlow
+unfolding highOf
+high-free s e = rw e
+
+-- Its ends are of size mostRange at most; it is not empty, and not above mostFlow.
+module _ {n : ℕ} (s : Stream) (w : WithinStream n s) where
+  pub low-close : limited s ≡ true → Close mostRange (lowOf s)
+  low-close e = rw (low-is s e) (shifted-close mostRange (s .low) (omega arith) (omega (arith, w .low-in e)))
+
+  pub high-close : limited s ≡ true → Close mostRange (highOf s)
+  high-close e = rw (high-is s e) (shifted-close mostRange (s .high) (omega arith) (omega (arith, w .high-in e)))
+
+  pub low-high : lowOf s ≤ highOf s
+  low-high = by-cases (limited s)
+      (λ e. rw (low-is s e, high-is s e) (shifted-order (s .low) (s .high) (omega (arith, w .low-in e)) (w .ordered e)))
+      (λ e. rw (low-free s e) (omega arith))
+
+  pub high-most : highOf s ≤ mostFlow
+  high-most = by-cases (limited s) (λ e. omega (arith, high-close e .0)) (λ e. rw (high-free s e) (omega arith))
+
+-- A stream without a range whose amount is not too large is open.
+pub open-free : (f : Bool) (s : Stream) (x d b : ℕ) → limited s ≡ false → Close b x → b + d ≤ flowShift → Open s f x d
+open-free true s x d b m c l = rw (high-free s m) (omega (arith, c .0))
+open-free false s x d b m c l = rw (low-free s m) (omega (arith, c .1))
+
+-- A stream's weight, where it is metered and where it is not.
+pub weight-none : (s : Stream) → s .metered ≡ false → weightOf s ≡ 0
+weight-none s e = rw e
+
+pub weight-some : (s : Stream) → s .metered ≡ true → weightOf s ≡ s .weight
+weight-some s e = rw e
+
+-- The step condition at a greater step; and at weight 0: the prices of an open stream's ends agree.
+pub held-more : (m w X R u v L H : ℕ) → 1 ≤ m → Held 1 w X R u v L H → Held m w X R u v L H
+held-more m w X R u v L H l h =
+    let k : w * 1 ≤ w * m = mul-le-mul-left w l in
+    record { low = λ o. omega (arith, h .low (omega arith)); high = λ o. omega (arith, h .high (omega arith)) }
+
+module _ (m w X R u v L H : ℕ) (e : w ≡ 0) where
+  none : (x : ℕ) → w * x ≡ 0
+  none x = ap (λ k. k * x) e ∙ omega arith
+
+  pub held-agree : L + m ≤ X → X + m ≤ H → Held m w X R u v L H → u ≡ v
+  held-agree a b h = omega (arith, none X, none R, none m, h .low a, h .high b)
+
+  pub agree-held : u ≡ v → Held m w X R u v L H
+  agree-held q = record { low = λ o. omega (arith, none X, none R, none m); high = λ o. omega (arith, none X, none R, none m) }

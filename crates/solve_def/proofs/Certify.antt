@@ -1,0 +1,181 @@
+-- From held numbers to integers: a level flow in range that meets the step condition is certified by its prices.
+use mathlib.Core.Path.{_≡_, sym, _∙_, ap, ap₂, subst}
+use mathlib.Core.Bool.{true, false}
+use mathlib.Core.List.{List}
+use lib.IntN.{ℤ, pos, negsuc, natAbs, _+ℤ_, _-ℤ_, _*ℤ_, zero-*ℤ}
+use lib.Signed.{ltZ}
+use Prim.Native.Nat.{ℕ, suc, _+_, _-_, _*_, _≤_, _<_}
+use native.Mathlib.Omega.{arith}
+use lib.ListN.{length, getD}
+use Rattle.num_bytes.proofs.Tests.{by-cases}
+use Rattle.plant_def.specs.declared.Stream.{Stream}
+use Rattle.plant_def.specs.Plants.{Plant, limited}
+use Rattle.plant_def.specs.Within.{Within, WithinStream}
+use Rattle.flow_def.specs.Flows.{streamAt, amountAt, inRange}
+use Rattle.flow_def.specs.Certificate.{weightOf, climb, lower, upper, rises, falls}
+use Rattle.flow_def.proofs.Integers.{up, dn, diff, Le, Lt, Z·diff, diff-val, Le-iff, minus-val, same, val, none-minus, ltZ-lt}
+use Rattle.flow_def.proofs.Nets.{level-balanced}
+use Rattle.flow_def.proofs.Ranges.{asked, whole-holds, allowed-of}
+use Rattle.flow_def.proofs.Prices.{StepAt, Certificate}
+use Rattle.flow_def.proofs.Ties.{NoLess, NoMore}
+use Rattle.solve_def.specs.Sizes.{flowShift, priceShift, settledRoom}
+use Rattle.solve_def.specs.Held.{shifted, unshifted, opened, readingOf, lowOf, highOf}
+use Rattle.solve_def.specs.Slack.{slackBy}
+use Rattle.solve_def.specs.SearchNeeds.{Close}
+use Rattle.solve_def.specs.SolverNeeds.{Even}
+use Rattle.solve_def.specs.Promise.{price, priceAt}
+use Rattle.solve_def.proofs.Amounts.{unshifted-val, unshifted-is, opened-size, opened-at, net-opened}
+use Rattle.solve_def.proofs.Bounds.{Open, low-is, high-is, open-free, slack-open}
+
+-- The bounds of the step condition and the difference of prices, as differences of naturals.
+lower-diff : (w X R B : ℕ) → lower 1 w (diff X B -ℤ diff R B) ≡ diff (2 * (w * X)) (2 * (w * R) + w)
+lower-diff w X R B = simp Z·diff (omega arith)
+
+upper-diff : (w X R B : ℕ) → upper 1 w (diff X B -ℤ diff R B) ≡ diff (2 * (w * X) + w) (2 * (w * R))
+upper-diff w X R B = simp Z·diff (omega arith)
+
+climb-diff : (u v P : ℕ) → diff v P -ℤ diff u P ≡ diff v u
+climb-diff u v P = simp Z·diff (omega arith)
+
+lt-diff : (a b c d : ℕ) → a + d < c + b → Lt (diff a b) (diff c d)
+lt-diff a b c d h = omega (arith, diff-val a b, diff-val c d)
+
+-- An integer and a price as they are held.
+pub held-right : (z : ℤ) → natAbs z ≤ flowShift → unshifted (shifted z) ≡ z
+held-right (pos a) h = same (unshifted (flowShift + a)) (pos a) (omega (arith, unshifted-val (flowShift + a)))
+held-right (negsuc a) h = same (unshifted (flowShift - suc a)) (negsuc a) (omega (arith, unshifted-val (flowShift - suc a)))
+
+pub held-val : (z : ℤ) → natAbs z ≤ flowShift → up z + flowShift ≡ shifted z + dn z
+held-val z h = omega (arith, val (unshifted (shifted z)) z (held-right z h), unshifted-val (shifted z))
+
+price-is : (x : ℕ) → price x ≡ diff x priceShift
+unfolding price
+price-is x = same (pos x -ℤ pos priceShift) (diff x priceShift) (omega (arith, minus-val (pos x) (pos priceShift), diff-val x priceShift))
+
+-- The range of a stream that carries X: it is met, and where more or less is in it the stream is open.
+module _ {n : ℕ} (s : Stream) (w : WithinStream n s) (X b : ℕ) where
+  low-val : limited s ≡ true → up (s .low) + flowShift ≡ lowOf s + dn (s .low)
+  low-val m = rw (low-is s m) (held-val (s .low) (omega (arith, w .low-in m)))
+
+  high-val : limited s ≡ true → up (s .high) + flowShift ≡ highOf s + dn (s .high)
+  high-val m = rw (high-is s m) (held-val (s .high) (omega (arith, w .high-in m)))
+
+  pub range-met : (lowOf s ≤ X) × (X ≤ highOf s) → inRange 1 s (unshifted X) ≡ true
+  range-met i = whole-holds s (unshifted X) (λ m. (omega (arith, low-val m, unshifted-val X, i .0), omega (arith, high-val m, unshifted-val X, i .1)))
+
+  module _ (c : Close b X) (fits : b < flowShift) where
+    pub falls-open : falls s (unshifted X) ≡ true → Open s false X 1
+    falls-open e = by-cases (limited s)
+        (λ m. omega (arith, low-val m, unshifted-val X, ltZ-lt (s .low) (unshifted X) (asked (limited s) (ltZ (s .low) (unshifted X)) e m)))
+        (λ m. open-free false s X 1 b m c (omega arith))
+
+    pub rises-open : rises s (unshifted X) ≡ true → Open s true X 1
+    rises-open e = by-cases (limited s)
+        (λ m. omega (arith, high-val m, unshifted-val X, ltZ-lt (unshifted X) (s .high) (asked (limited s) (ltZ (unshifted X) (s .high)) e m)))
+        (λ m. open-free true s X 1 b m c (omega arith))
+
+module _ (p : Plant) (w : Within p) (ps : List ℕ) (i : ℕ) (xs : List ℕ) (h : Even (p .streams) ps i xs) (few : i ≤ length (p .streams)) where
+  abbrev ss : List Stream
+  ss = p .streams
+
+  long : length ss ≤ length xs
+  long = omega (arith, h .long, w .few-streams)
+
+  module _ (k : ℕ) (l : k < length (p .streams)) where
+    abbrev s : Stream
+    s = streamAt (p .streams) k
+
+    abbrev W : ℕ
+    W = weightOf (streamAt (p .streams) k)
+
+    abbrev X : ℕ
+    X = getD xs k 0
+
+    abbrev R : ℕ
+    R = readingOf (streamAt (p .streams) k)
+
+    abbrev pu : ℕ
+    pu = getD ps (streamAt (p .streams) k .from) 0
+
+    abbrev pv : ℕ
+    pv = getD ps (streamAt (p .streams) k .to) 0
+
+    abbrev x : ℤ
+    x = amountAt (opened (length (p .streams)) xs) k
+
+    x-is : x ≡ unshifted X
+    x-is = opened-at (length ss) xs k long l
+
+    less-open : falls s x ≡ true → Open s false X 1
+    less-open e = falls-open s (w .each k l) X (settledRoom + i) (h .close k (omega (arith, w .few-streams))) (omega (arith, w .few-streams)) (rw x-is at e)
+
+    more-open : rises s x ≡ true → Open s true X 1
+    more-open e = rises-open s (w .each k l) X (settledRoom + i) (h .close k (omega (arith, w .few-streams))) (omega (arith, w .few-streams)) (rw x-is at e)
+
+    climb-is : climb (priceAt ps) s ≡ diff pv pu
+    climb-is = ap₂ _-ℤ_ (price-is pv) (price-is pu) ∙ climb-diff pu pv priceShift
+
+    module _ (m : s .metered ≡ true) where
+      deviation : x -ℤ s .reading ≡ diff X flowShift -ℤ diff R flowShift
+      deviation = ap₂ _-ℤ_ (x-is ∙ unshifted-is X) (sym (held-right (s .reading) (omega (arith, w .each k l .in-range m))) ∙ unshifted-is R)
+
+      lower-is : lower 1 W (x -ℤ s .reading) ≡ diff (2 * (W * X)) (2 * (W * R) + W)
+      lower-is = ap (lower 1 W) deviation ∙ lower-diff W X R flowShift
+
+      upper-is : upper 1 W (x -ℤ s .reading) ≡ diff (2 * (W * X) + W) (2 * (W * R))
+      upper-is = ap (upper 1 W) deviation ∙ upper-diff W X R flowShift
+
+      -- With slack the amount cannot be less, or more, at no cost.
+      pub no-less : 0 < slackBy s false X pu pv 1 → NoLess (priceAt ps) s x
+      no-less q e =
+          subst (λ (a : ℤ). Lt a (climb (priceAt ps) s)) (sym lower-is)
+          (subst (λ (b : ℤ). Lt (diff (2 * (W * X)) (2 * (W * R) + W)) b) (sym climb-is)
+          (lt-diff _ _ pv pu (omega (arith, q, slack-open false s X pu pv 1 (less-open e)))))
+
+      pub no-more : 0 < slackBy s true X pu pv 1 → NoMore (priceAt ps) s x
+      no-more q e =
+          subst (λ (a : ℤ). Lt (climb (priceAt ps) s) a) (sym upper-is)
+          (subst (λ (b : ℤ). Lt b (diff (2 * (W * X) + W) (2 * (W * R)))) (sym climb-is)
+          (lt-diff pv pu _ _ (omega (arith, q, slack-open true s X pu pv 1 (more-open e)))))
+
+      step-metered : StepAt 1 (priceAt ps) s x
+      step-metered = record {
+        low = λ e.
+            subst (λ (a : ℤ). Le a (climb (priceAt ps) s)) (sym lower-is)
+            (subst (λ (b : ℤ). Le (diff (2 * (W * X)) (2 * (W * R) + W)) b) (sym climb-is) (Le-iff _ _ pv pu .1 (omega (arith, h .held k l .low (less-open e)))));
+        high = λ e.
+            subst (λ (a : ℤ). Le (climb (priceAt ps) s) a) (sym upper-is)
+            (subst (λ (b : ℤ). Le b (diff (2 * (W * X) + W) (2 * (W * R)))) (sym climb-is) (Le-iff pv pu _ _ .1 (omega (arith, h .held k l .high (more-open e)))));
+      }
+
+    step-free : s .metered ≡ false → StepAt 1 (priceAt ps) s x
+    step-free m = record {
+      low = λ e. subst (λ (a : ℤ). Le a (climb (priceAt ps) s)) (sym (none (pos 2 *ℤ (x -ℤ s .reading) -ℤ pos 1))) (rw level (omega arith));
+      high = λ e. subst (λ (a : ℤ). Le (climb (priceAt ps) s) a) (sym (none (pos 2 *ℤ (x -ℤ s .reading) +ℤ pos 1))) (rw level (omega arith));
+    }
+      where
+        zero-weight : W ≡ 0
+        zero-weight = rw m
+
+        none : (y : ℤ) → pos W *ℤ y ≡ pos 0
+        none y = ap (λ (a : ℕ). pos a *ℤ y) zero-weight ∙ zero-*ℤ y
+
+        level : climb (priceAt ps) s ≡ pos 0
+        level = none-minus (price pv) (price pu) (ap price (sym (h .agreed k l m)))
+
+    held-step : StepAt 1 (priceAt ps) s x
+    held-step = by-cases (s .metered) step-metered step-free
+
+    met : inRange 1 s x ≡ true
+    met = rw x-is (range-met s (w .each k l) X 0 (h .inside k l))
+
+  -- The flow is certified.
+  pub certify : Certificate p (opened (length (p .streams)) xs) (priceAt ps)
+  certify = record {
+    balance =
+        allowed-of 1 p (opened (length ss) xs)
+        (level-balanced p (opened (length ss) xs) (opened-size (length ss) xs long)
+        (λ u l. net-opened u (p .streams) xs long ∙ h .level u (omega (arith, w .few-units))))
+        met;
+    steps = held-step;
+  }

@@ -1,0 +1,77 @@
+-- What the search's loops write, one stream or one place after the other.
+use mathlib.Core.Path.{_≡_, refl, sym, _∙_, ap}
+use mathlib.Core.Bool.{Bool, true, false}
+use mathlib.Core.List.{List, [], _∷_}
+use Prim.Native.Nat.{ℕ, zero, suc, _+_, _-_, _<_}
+use native.Mathlib.Omega.{arith}
+use lib.Dec.{eqb, ltb}
+use lib.ListN.{length, getD, set, length-set}
+use lib.Seq.{ext-getD}
+use Rattle.num_bytes.specs.Choice.{pick}
+use Rattle.num_bytes.proofs.Tests.{picked}
+use Rattle.plant_def.specs.Limits.{places}
+use Rattle.flow_def.proofs.Lists.{Written}
+use Rattle.solve_def.specs.Search.{fallen}
+use Rattle.solve_def.specs.Near.{codeOf, lessened, relaxedAlong, relaxedAt, relaxedTo, reducedBy}
+
+-- The prices of visited places reduced.
+pub reduced-at : (ls : List Bool) (ks : List ℕ) (k : ℕ) (ps : List ℕ) (u : ℕ)
+    → getD (reducedBy ls ks k ps) u 0 ≡ fallen (getD ls u false) (k - getD ks u 0) (getD ps u 0)
+unfolding reducedBy
+reduced-at [] ks k ps u = refl
+reduced-at (l ∷ ls) ks k [] u = sym (none (getD (l ∷ ls) u false))
+  where
+    none : (b : Bool) → fallen b (k - getD ks u 0) 0 ≡ 0
+    none true = omega arith
+    none false = refl
+reduced-at (l ∷ ls) [] k (p ∷ ps) zero = ap (λ (j : ℕ). fallen l j p) (omega arith)
+reduced-at (l ∷ ls) [] k (p ∷ ps) (suc u) = reduced-at ls [] k ps u
+reduced-at (l ∷ ls) (j ∷ ks) k (p ∷ ps) zero = refl
+reduced-at (l ∷ ls) (j ∷ ks) k (p ∷ ps) (suc u) = reduced-at ls ks k ps u
+
+pub reduced-long : (ls : List Bool) (ks : List ℕ) (k : ℕ) (ps : List ℕ) → length (reducedBy ls ks k ps) ≡ length ps
+unfolding reducedBy
+reduced-long [] ks k ps = refl
+reduced-long (l ∷ ls) ks k [] = refl
+reduced-long (l ∷ ls) [] k (p ∷ ps) = rw (reduced-long ls [] k ps)
+reduced-long (l ∷ ls) (j ∷ ks) k (p ∷ ps) = rw (reduced-long ls ks k ps)
+
+pub reduced-none : (ls : List Bool) (ks ps : List ℕ) → reducedBy ls ks 0 ps ≡ ps
+reduced-none ls ks ps = ext-getD 0 (reducedBy ls ks 0 ps) ps (reduced-long ls ks 0 ps) (λ u l. reduced-at ls ks 0 ps u ∙ same (getD ls u false) (getD ks u 0) (getD ps u 0))
+  where
+    same : (b : Bool) (a p : ℕ) → fallen b (0 - a) p ≡ p
+    same true a p = omega arith
+    same false a p = refl
+
+pub reduced-is : (ls : List Bool) (ks : List ℕ) (k : ℕ) (ps now : List ℕ) → length ps ≡ places
+    → Written 0 places (λ u x. fallen (getD ls u false) (k - getD ks u 0) x) ps now places → now ≡ reducedBy ls ks k ps
+reduced-is ls ks k ps now h w =
+    ext-getD 0 now (reducedBy ls ks k ps) (w .long ∙ sym h ∙ sym (reduced-long ls ks k ps))
+    (λ u l. w .done u (rw (w .long) at l) ∙ sym (reduced-at ls ks k ps u))
+
+-- Lengths stay.
+pub along-long : (ls : List Bool) (k v g i : ℕ) (near : List ℕ) → length (relaxedAlong ls k v g i near) ≡ length near
+unfolding relaxedAlong
+along-long ls k v g i near =
+    picked (λ (r : List ℕ). length r ≡ length near) (getD ls v false) near (lessened near v (codeOf (k + g) i)) (λ o. refl)
+    (λ o. picked (λ (r : List ℕ). length r ≡ length near) (ltb (codeOf (k + g) i) (getD near v 0)) (set near v (codeOf (k + g) i)) near (λ q. length-set near v (codeOf (k + g) i)) (λ q. refl))
+
+pub relaxed-long : (fs ts gs bs : List ℕ) (ls : List Bool) (k e i : ℕ) (near : List ℕ) → length (relaxedAt fs ts gs bs ls k e i near) ≡ length near
+unfolding relaxedAt
+relaxed-long fs ts gs bs ls k e i near = go (eqb (getD fs i 0) e) (eqb (getD ts i 0) e)
+  where
+    go : (a b : Bool) → length (pick a (relaxedAlong ls k (getD ts i 0) (getD gs i 0) i near) (pick b (relaxedAlong ls k (getD fs i 0) (getD bs i 0) i near) near)) ≡ length near
+    go true b = along-long ls k (getD ts i 0) (getD gs i 0) i near
+    go false true = along-long ls k (getD fs i 0) (getD bs i 0) i near
+    go false false = refl
+
+pub relaxed-all-long : (fs ts gs bs : List ℕ) (ls : List Bool) (k e i : ℕ) (near : List ℕ) → length (relaxedTo fs ts gs bs ls k e i near) ≡ length near
+unfolding relaxedTo
+relaxed-all-long fs ts gs bs ls k e zero near = refl
+relaxed-all-long fs ts gs bs ls k e (suc i) near = relaxed-all-long fs ts gs bs ls k e i _ ∙ relaxed-long fs ts gs bs ls k e i near
+
+-- What is read past the end does not matter before it.
+pub getD-any : {A : Type 0} (xs : List A) (i : ℕ) (a b : A) → i < length xs → getD xs i a ≡ getD xs i b
+getD-any [] i a b l = absurd (omega arith)
+getD-any (x ∷ xs) zero a b l = refl
+getD-any (x ∷ xs) (suc i) a b l = getD-any xs i a b (omega arith)

@@ -1,0 +1,42 @@
+-- The test of a set of places: it must take in more than it can let out, by the ranges of the streams across its edge.
+use mathlib.Core.Bool.{Bool, true, false, _&&_, not}
+use mathlib.Core.List.{List}
+use Prim.Native.Nat.{ℕ, zero, suc, _+_, _-_, _*_}
+use lib.Dec.{ltb}
+use lib.ListN.{length, getD}
+use Rattle.plant_def.specs.declared.Stream.{Stream}
+use Rattle.flow_def.specs.Flows.{streamAt}
+use Rattle.solve_def.specs.Sizes.{flowShift, mostFlow}
+use Rattle.solve_def.specs.Held.{lowOf, highOf}
+
+-- Whether a stream may stand across the edge of a set: one with a range, whose least amount as held is above 0, or one that does not
+-- cross it. a and b tell whether its start and its end are in the set.
+abbrev pub mayCross : Bool → Bool → ℕ → Bool
+mayCross true true low = true
+mayCross true false low = ltb 0 low
+mayCross false true low = ltb 0 low
+mayCross false false low = true
+
+-- What a stream presses into the set at least, as held: its low where it comes in; less its high where it goes out; else nothing.
+abbrev pub pressed : Bool → Bool → ℕ → ℕ → ℕ
+pressed true true low high = flowShift
+pressed true false low high = mostFlow - high
+pressed false true low high = low
+pressed false false low high = flowShift
+
+-- By the first n streams.
+unfoldable pub boundedTo : List Stream → List Bool → ℕ → Bool
+boundedTo ss ms zero = true
+boundedTo ss ms (suc n) =
+    let s = streamAt ss n in
+    mayCross (getD ms (s .from) false) (getD ms (s .to) false) (lowOf s) && boundedTo ss ms n
+
+unfoldable pub pressedTo : List Stream → List Bool → ℕ → ℕ
+pressedTo ss ms zero = 0
+pressedTo ss ms (suc n) =
+    let s = streamAt ss n in
+    pressed (getD ms (s .from) false) (getD ms (s .to) false) (lowOf s) (highOf s) + pressedTo ss ms n
+
+-- Every stream across has a range, and the lows in sum to more than the highs out.
+abbrev pub overfull : List Stream → List Bool → Bool
+overfull ss ms = boundedTo ss ms (length ss) && ltb (length ss * flowShift) (pressedTo ss ms (length ss))

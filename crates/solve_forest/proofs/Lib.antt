@@ -1,0 +1,3 @@
+-- Laws of spanning forests. Laws of routed amounts.
+pub mod Spanning
+pub mod Routes

@@ -1,0 +1,3 @@
+-- Definitions that the contracts of spanning cite. Definitions that the contracts of routing cite.
+pub mod Forests
+pub mod Routes

@@ -1,0 +1,33 @@
+-- The codes that a walk keeps: those of the definition (relaxedTo in Near), but 0 for a visited place, so that no offer to it is less.
+use mathlib.Core.Path.{_≡_}
+use mathlib.Core.Bool.{Bool, true, false}
+use mathlib.Core.List.{List}
+use Prim.Native.Nat.{ℕ, _<_}
+use lib.ListN.{length, getD}
+use Rattle.num_bytes.specs.Choice.{pick}
+use Rattle.num_bytes.specs.Inner.{values}
+use Rattle.plant_def.specs.Limits.{places}
+use Rattle.flow_def.specs.Sides.{bit}
+use Rattle.solve_def.specs.Sizes.{far}
+use Rattle.solve_def.specs.Near.{relaxedTo}
+use Rattle.solve_def.specs.Fringe.{Open}
+use Rattle.solve_arcs.specs.Cells.{countOf, startsOf, endsOf}
+use Rattle.solve_arcs.specs.Margins.{reducedCosts}
+
+-- The codes of the definition; vs are the visited places.
+unfoldable pub shown : List Bool → List ℕ → List ℕ
+shown vs near = values places (λ v. pick (getD vs v false) far (getD near v 0))
+
+-- Codes, and the fringe m.
+pub record Coded (vs : List Bool) (near : List ℕ) (m : ℕ) : Type 0 where
+  pub zero : (v : ℕ) → v < places → getD vs v false ≡ true → getD near v 0 ≡ 0
+  pub fresh : (v : ℕ) → bit v m ≡ true → getD vs v false ≡ false
+  pub fringe : Open far (shown vs near) m
+
+-- The codes after the streams at place e were looked at, at distance k.
+abbrev pub lookedAt : List ℕ → List ℕ → List ℕ → List Bool → ℕ → ℕ → List ℕ → List ℕ
+lookedAt ls ms ps vs k e near = relaxedTo (startsOf ls) (endsOf ls) (reducedCosts ls ms ps true) (reducedCosts ls ms ps false) vs k e (countOf ls) near
+
+pub record Looked (ls ms ps : List ℕ) (k e : ℕ) (before : List ℕ) (m : ℕ) (after : List ℕ) (r : ℕ) (vs : List Bool) : Type 0 where
+  pub coded : Coded vs after r
+  pub same : shown vs after ≡ lookedAt ls ms ps vs k e (shown vs before)

@@ -1,0 +1,75 @@
+-- `solve_phases::finishing::finish` meets its contract: by how much is over.
+use mathlib.Core.Path.{_≡_, sym, _∙_}
+use mathlib.Core.List.{List}
+use Prim.Native.Nat.{ℕ, _≤_, _<_}
+use native.Mathlib.Omega.{arith}
+use borrow.Author.Tests.{le-leb, lt-leb}
+use lib.ListN.{take}
+use Rattle.plant_def.specs.declared.Stream.{Stream}
+use Rattle.solve_def.specs.Sizes.{mostTried, halvings}
+use Rattle.solve_def.specs.declared.State.{State}
+use Rattle.solve_def.specs.Model.{phase, phases, finished, noHint, overSum}
+use Rattle.solve_def.proofs.Streams.{solvable-of}
+use Rattle.solve_def.proofs.Layouts.{at-hint-around}
+use Rattle.solve_def.proofs.Ending.{hint-underway}
+use Rattle.solve_improve.specs.Improves.{Phasable}
+use Rattle.solve_phases.specs.Finishes.{Finishable}
+use Rattle.solve_phases.proofs.finishing.finish.Statement.{statement}
+use Rattle.solve_phases.proofs.finishing.finish.Tie as tie
+use Rattle.solve_phases.proofs.phase.Reads as phase-reads
+use Rattle.solve_phases.proofs.finishing.phases.Reads as phases-reads
+
+-- Which of the two it is.
+by-hint : (ss : List Stream) (st : State) (over : ℕ) → over ≡ overSum (st .nets) → over ≤ mostTried → phase ss 1 st ≡ finished ss st
+unfolding finished
+by-hint ss st over e l = sym (rw (← e, le-leb over mostTried l))
+
+by-phases : (ss : List Stream) (st : State) (over : ℕ) → over ≡ overSum (st .nets) → mostTried < over → phases halvings ss noHint ≡ finished ss st
+unfolding finished
+by-phases ss st over e l = sym (rw (← e, lt-leb over mostTried l))
+
+over-sum-requires : tie.Need-over-sum-requires
+over-sum-requires c κs =
+    let st = c .before .before in
+    let w = st .pre .0 .laying in
+    at-hint-around (w .streams) (w .n) (w .network) (st .args .st) (st .pre .0 .at-hint)
+
+-- What the phase begins from.
+abbrev able : (c : tie.Then1) → let st = c .before .before .before .before in Finishable (st .args .arcs .now) (st .args .rows .now) (st .args .st)
+    → Phasable (c .before .before .before .before .args .arcs .now) (c .before .before .before .before .args .rows .now) 1 (c .before .before .before .before .args .st)
+able c f =
+    let st = c .before .before .before .before in
+    let w = f .laying in
+    record {
+      streams = w .streams;
+      n = w .n;
+      network = w .network;
+      laid = w .laid;
+      step = (omega arith, omega arith);
+      underway = hint-underway _ (solvable-of (w .streams) (w .n) (w .network)) (st .args .st) (f .at-hint) (omega (arith, c .before .over-sum .ensures, c .if1 .taken));
+    }
+
+phase-requires : tie.Need-phase-requires
+phase-requires c κs = let st = c .before .before .before .before .before in (able (c .before) (st .pre .0), st .pre .1)
+
+returns : tie.Need-returns
+returns c = λ f.
+    let t = c .before .before in
+    let st = t .before .before .before .before in
+    let made = c .phase .ensures (able t f) in
+    (made .0 ∙ by-hint (take (f .laying .n) (f .laying .streams)) (st .args .st) _ (t .before .over-sum .ensures) (t .if1 .taken), λ o. made .1)
+
+phases-requires : tie.Need-phases-requires
+phases-requires c κs =
+    let st = c .before .before .before .before .before in
+    (st .pre .0 .laying, st .pre .1)
+
+returns-2 : tie.Need-returns-2
+returns-2 c = λ f.
+    let t = c .before .before in
+    let st = t .before .before .before .before in
+    let made = c .phases .ensures (f .laying) in
+    (made .0 ∙ by-phases (take (f .laying .n) (f .laying .streams)) (st .args .st) _ (t .before .over-sum .ensures) (t .if1 .left), made .1)
+
+pub finish-spec : {M : Type 1} → statement M
+finish-spec = tie.close (tie.spec over-sum-requires phase-requires returns phases-requires returns-2)

@@ -1,0 +1,129 @@
+// Amounts settled at prices, each the nearest to its reading in its range, and the nets that they leave.
+use plant_def::limits::MAX_STREAMS;
+use plant_def::limits::PLACES;
+use solve_arcs::ARCS;
+use solve_arcs::ROWS;
+use solve_arcs::count_of;
+use solve_arcs::end_at;
+use solve_arcs::minus;
+use solve_def::Hint;
+use solve_def::State;
+use solve_def::sizes::FLOW_SHIFT;
+use solve_def::sizes::NET_SHIFT;
+ghost use mathlib.Core.Path.{_≡_};
+ghost use Prim.Native.Nat.{ℕ, _+_, _*_, _≤_, _<_};
+ghost use lib.ListN.{getD, length, take};
+ghost use Rattle.plant_def.specs.Limits.{maxWeight, places, maxStreams};
+ghost use Rattle.solve_def.specs.Sizes.{mostPull, priceShift, mostFlow, netRoom};
+ghost use Rattle.solve_def.specs.Model.{clamped, nearestAmount, settledTo, left, come, netsTo, settled, overSum};
+ghost use Rattle.solve_arcs.specs.ArcNeeds.{Row, Laying};
+ghost use mathlib.Core.List.{List};
+ghost use Rattle.solve_def.specs.SearchNeeds.{Prices};
+ghost use Rattle.solve_def.specs.SolverNeeds.{Amounts, Around};
+ghost use Rattle.solve_settle.specs.Hints.{Hinting};
+
+// The amount nearest to a reading R, at the prices of a stream's start and its end, by its weight and twice the weight times R. (One
+// quotient, with no branch: on which side of the reading the amount lies cannot be foreseen.)
+fn nearest(w: u64, pull: u64, pu: u64, pv: u64) -> u64
+    requires { ⌜ (1 ≤ w) × (w ≤ maxWeight) × (pull ≤ 2 * mostPull) × (pu ≤ priceShift) × (pv ≤ priceShift) ⌝ }
+    ensures { λ r. ⌜ ((R : ℕ) → pull ≡ 2 * (w * R) → r ≡ nearestAmount w R pu pv) ⌝ }
+{
+    minus(pull + (pv + w), pu) / (2 * w)
+}
+
+// A number brought into a range.
+fn clamp(low: u64, high: u64, x: u64) -> u64
+    ensures { λ r. ⌜ r ≡ clamped low high x ⌝ }
+{
+    if x < low {
+        return low;
+    }
+    if high < x { high } else { x }
+}
+
+// The amount of stream i, which is metered, at the prices of its start and its end: by its row.
+pub fn amount_at(rows: &[u64; ROWS], i: usize, pu: u64, pv: u64) -> u64
+    requires { ⌜ Row (now rows) i × (1 ≤ getD (now rows) (4 * i) 0) × (pu ≤ priceShift) × (pv ≤ priceShift) ⌝ }
+    ensures { λ r. ⌜ ((R : ℕ) → getD (now (rows .entry)) (4 * i + 1) 0 ≡ 2 * (getD (now (rows .entry)) (4 * i) 0 * R) → r ≡ clamped (getD (now (rows .entry)) (4 * i + 2) 0) (getD (now (rows .entry)) (4 * i + 3) 0) (nearestAmount (getD (now (rows .entry)) (4 * i) 0) R pu pv)) ⌝ }
+{
+    let x = nearest(rows[4 * i], rows[4 * i + 1], pu, pv);
+    clamp(rows[4 * i + 2], rows[4 * i + 3], x)
+}
+
+// Each metered stream's amount is settled; the others stay as they are.
+pub fn settle_flows(
+    arcs: &[u8; ARCS],
+    rows: &[u64; ROWS],
+    prices: &[u64; PLACES],
+    flows: &mut [u64; MAX_STREAMS],
+)
+    requires { ⌜ Laying (now arcs) (now rows) × Prices (now prices) × (length (now flows) ≡ maxStreams) ⌝ }
+    ensures { λ _. ⌜ ((w : Laying (now (arcs .entry)) (now (rows .entry))) → now (flows .exit) ≡ settledTo (take (w .n) (w .streams)) (now (prices .entry)) (now (flows .entry)) (w .n)) ⌝ }
+{
+    let n = count_of(arcs);
+    let mut i: usize = 0;
+    while i < n {
+        if 0 < rows[4 * i] {
+            let u = end_at(arcs, 2 * i);
+            let v = end_at(arcs, 2 * i + 1);
+            flows[i] = amount_at(rows, i, prices[u], prices[v]);
+        }
+        i += 1;
+    }
+}
+
+// A stream's amount leaves its start and comes to its end.
+fn book(nets: &mut [u64; PLACES], u: usize, v: usize, x: u64)
+    requires { ⌜ (u < places) × (v < places) × (x ≤ mostFlow) × Around (now nets) netRoom ⌝ }
+    ensures { λ _. ⌜ now (nets .exit) ≡ come (left (now (nets .entry)) u x) v x ⌝ }
+{
+    nets[u] = nets[u] + FLOW_SHIFT - x;
+    nets[v] = nets[v] + x - FLOW_SHIFT;
+}
+
+// The nets of all places.
+pub fn nets_of(arcs: &[u8; ARCS], flows: &[u64; MAX_STREAMS]) -> [u64; PLACES]
+    requires { ⌜ ((rs : List ℕ) × Laying (now arcs) rs) × Amounts (now flows) ⌝ }
+    ensures { λ r. ⌜ ((rs : List ℕ) (w : Laying (now (arcs .entry)) rs) → r ≡ netsTo (take (w .n) (w .streams)) (now (flows .entry)) (w .n)) ⌝ }
+{
+    let n = count_of(arcs);
+    let mut nets = [NET_SHIFT; PLACES];
+    let mut i: usize = 0;
+    while i < n {
+        let u = end_at(arcs, 2 * i);
+        let v = end_at(arcs, 2 * i + 1);
+        book(&mut nets, u, v, flows[i]);
+        i += 1;
+    }
+    nets
+}
+
+// Amounts and nets at the prices of a hint.
+pub fn settle(arcs: &[u8; ARCS], rows: &[u64; ROWS], h: Hint) -> State
+    requires { ⌜ Hinting (now arcs) (now rows) h ⌝ }
+    ensures { λ r. ⌜ ((w : Laying (now (arcs .entry)) (now (rows .entry))) → r ≡ settled (take (w .n) (w .streams)) h) ⌝ }
+{
+    let prices = h.prices;
+    let mut flows = h.flows;
+    settle_flows(arcs, rows, &prices, &mut flows);
+    let nets = nets_of(arcs, &flows);
+    State {
+        flows: flows,
+        prices: prices,
+        nets: nets,
+    }
+}
+
+// The summed positive net.
+pub fn over_sum(nets: &[u64; PLACES]) -> u64
+    requires { ⌜ Around (now nets) netRoom ⌝ }
+    ensures { λ r. ⌜ r ≡ overSum (now (nets .entry)) ⌝ }
+{
+    let mut u: usize = 0;
+    let mut sum: u64 = 0;
+    while u < PLACES {
+        sum += minus(nets[u], NET_SHIFT);
+        u += 1;
+    }
+    sum
+}

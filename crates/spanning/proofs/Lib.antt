@@ -1,2 +1,0 @@
--- Laws of spanning forests.
-pub mod Spanning

@@ -1,2 +1,0 @@
--- Definitions that the contracts of spanning cite.
-pub mod Forests

@@ -1,0 +1,58 @@
+-- The promise of the call that lists a survey, by what was found; no choice is left; the texts of two plants.
+use mathlib.Core.Path.{_≡_, refl, sym, ap, _∙_, subst}
+use mathlib.Core.List.{List}
+use Prim.Native.Nat.{ℕ, suc, _≤_, _<_}
+use native.Mathlib.Omega.{arith}
+use borrow.Author.Tests.{eq-eqb, ne-eqb, ltb-true, ltb-false}
+use lib.Dec.{ltb}
+use lib.ListN.{length, take}
+use Rattle.num_bytes.specs.Bytes.{over}
+use Rattle.num_bytes.specs.Inner.{Put}
+use Rattle.num_bytes.proofs.Tests.{by-cases}
+use Rattle.num_text.specs.Numerals.{decimal}
+use Rattle.listing_lines.specs.Listing.{refusalText}
+use Rattle.survey_def.specs.declared.Layouts.{Layouts}
+use Rattle.survey_def.specs.Says.{SurveySays}
+use Rattle.survey_def.proofs.Promise.{one-survey}
+use Rattle.survey_def.proofs.Samples.{samples}
+use Rattle.survey_answers.specs.Text.{linesFrom, surveyText}
+use Rattle.survey_answers.specs.Says.{leastText, TextSays, Texts}
+
+module _ (file o : List ℕ) where
+  pub says-nothing : length o < leastText → TextSays file o o 0
+  says-nothing h = record { too-short = λ l. (refl, refl); told = λ l. absurd (omega arith) }
+
+  module _ (h : leastText ≤ length o) (o′ : List ℕ) (r : ℕ) (l : Layouts) (s : SurveySays file l) where
+    pub says-refused : (l .number ≡ 0 → ⊥) → Put (refusalText (l .number)) o o′ r → TextSays file o o′ r
+    says-refused n p = record { too-short = λ x. absurd (omega arith); told = λ x. (l, s, rw (ne-eqb (l .number) 0 n) p) }
+
+    -- A line for no stream metered, and one more for each stream.
+    pub says-lines : l .number ≡ 0 → {n : ℕ} → Put (linesFrom 0 (take n (l .counts))) o o′ r → n ≡ suc (l .count) → TextSays file o o′ r
+    says-lines z p e = record {
+      too-short = λ x. absurd (omega arith);
+      told = λ x. (l, s, rw (eq-eqb (l .number) 0 z) (subst (λ (n : ℕ). Put (linesFrom 0 (take n (l .counts))) o o′ r) e p));
+    }
+
+-- Text and length follow from the file and the slice.
+put-one : {x y o o₁ o₂ : List ℕ} {r₁ r₂ : ℕ} → x ≡ y → Put x o o₁ r₁ → Put y o o₂ r₂ → (r₁ ≡ r₂) × (o₁ ≡ o₂)
+put-one {o = o} e p q = (p .size ∙ ap length e ∙ sym (q .size), p .bytes ∙ ap (λ (l : List ℕ). over l o) e ∙ sym (q .bytes))
+
+one : (file o o₁ o₂ : List ℕ) (r₁ r₂ : ℕ) → TextSays file o o₁ r₁ → TextSays file o o₂ r₂ → (r₁ ≡ r₂) × (o₁ ≡ o₂)
+one file o o₁ o₂ r₁ r₂ a b =
+    by-cases (ltb (length o) leastText)
+    (λ t. let h = ltb-true (length o) leastText t in short (a .too-short h) (b .too-short h))
+    (λ t. let h = ltb-false (length o) leastText t in
+    let x = a .told h in
+    let y = b .told h in
+    put-one (ap surveyText (one-survey file (x .0) (y .0) (x .1) (y .1))) (x .2) (y .2))
+  where
+    short : (r₁ ≡ 0) × (o₁ ≡ o) → (r₂ ≡ 0) × (o₂ ≡ o) → (r₁ ≡ r₂) × (o₁ ≡ o₂)
+    short a b = (a .0 ∙ sym (b .0), a .1 ∙ sym (b .1))
+
+pub texts : Texts
+unfolding decimal
+texts = record {
+  one-text = one;
+  listing = λ o o′ r h s. let x = s .told h in subst (λ (l : List ℕ). Put l o o′ r) (ap surveyText (samples .listed (x .0) (x .1))) (x .2);
+  empty = λ o o′ r h s. let x = s .told h in subst (λ (l : List ℕ). Put l o o′ r) (ap surveyText (samples .empty (x .0) (x .1))) (x .2);
+}

@@ -1,0 +1,55 @@
+-- By what was found.
+use native.Mathlib.Omega.{arith}
+use denote.Ref.{now}
+use Rattle.survey_def.proofs.Promise.{survey-fits}
+use Rattle.survey_answers.proofs.Lending.{lends-nothing, lends-refusal, lends-counts}
+use borrow.Author.Needs.{needs}
+use Rattle.survey_answers.proofs.layouts_lent.Statement.{statement}
+use Rattle.survey_answers.proofs.layouts_lent.Tie as tie
+
+returns : tie.Need-returns
+returns c = let a = c .before .before .before .args in lends-nothing (now (a .file)) (now (a .counts)) (c .if1 .taken)
+
+layouts-of-requires : tie.Need-layouts-of-requires
+layouts-of-requires c κs = search needs
+
+cast-count : tie.Need-cast-count
+cast-count c = search needs
+
+returns-2 : tie.Need-returns-2
+returns-2 c =
+    let a = c .before .before .before .before .before .before .args in
+    let l = c .before .before .layouts-of in
+    lends-refusal (now (a .file)) (now (a .counts)) (c .before .before .before .if1 .left) (l .result) (l .ensures) (c .if2 .taken)
+
+add-put-counts : tie.Need-add-put-counts
+add-put-counts c = search needs
+
+put-counts-requires : tie.Need-put-counts-requires
+put-counts-requires c κs =
+    let l = c .before .before .before .before .layouts-of in
+    let f = survey-fits (now (c .before .before .before .before .before .before .before .before .args .file)) (l .result) (l .ensures) in
+    let h = c .before .before .before .before .before .if1 .left in
+    (omega (arith, f .0), omega (arith, f .0, h))
+
+same-length : tie.Need-same-length
+same-length c = search needs
+
+returns-3 : tie.Need-returns-3
+returns-3 c =
+    let a = c .before .before .before .before .before .before .before .before .before .before .before .args in
+    let l = c .before .before .before .before .before .before .before .layouts-of in
+    lends-counts (now (a .file)) (now (a .counts)) (c .before .before .before .before .before .before .before .before .if1 .left) (l .result) (l .ensures) (c .before .before .before .before .before .if2 .left) _ (c .before .before .put-counts .ensures)
+
+pub layouts-lent-spec : {M : Type 1} → statement M
+layouts-lent-spec =
+    tie.close
+    (tie.spec
+    returns
+    layouts-of-requires
+    cast-count
+    returns-2
+    add-put-counts
+    put-counts-requires
+    same-length
+    returns-3)

@@ -1,0 +1,67 @@
+-- By what was found.
+use native.Mathlib.Omega.{arith}
+use native.Mathlib.Numerals.{add-one}
+use denote.Ref.{now}
+use mathlib.Core.Path.{refl}
+use Rattle.listing_lines.proofs.Sizes.{put-counts}
+use Rattle.survey_def.proofs.Promise.{survey-fits}
+use Rattle.survey_answers.proofs.Promise.{says-nothing, says-refused, says-lines}
+use borrow.Author.Needs.{needs}
+use Rattle.survey_answers.proofs.list_layouts.Statement.{statement}
+use Rattle.survey_answers.proofs.list_layouts.Tie as tie
+
+returns : tie.Need-returns
+returns c = let a = c .before .before .before .args in (says-nothing (now (a .file)) (now (a .text)) (c .if1 .taken), (omega arith, refl))
+
+layouts-of-requires : tie.Need-layouts-of-requires
+layouts-of-requires c κs = search needs
+
+put-refusal-requires : tie.Need-put-refusal-requires
+put-refusal-requires c κs = search needs
+
+same-length : tie.Need-same-length
+same-length c = search needs
+
+returns-2 : tie.Need-returns-2
+returns-2 c =
+    let a = c .before .before .before .before .before .before .before .before .before .args in
+    let l = c .before .before .before .before .before .layouts-of in
+    let p = c .before .before .put-refusal .ensures in
+    (says-refused (now (a .file)) (now (a .text)) (c .before .before .before .before .before .before .if1 .left) _ _ (l .result) (l .ensures) (c .before .before .before .before .if2 .taken) p, put-counts p)
+
+cast-put-lines : tie.Need-cast-put-lines
+cast-put-lines c = search needs
+
+add-put-lines : tie.Need-add-put-lines
+add-put-lines c = search needs
+
+put-lines-requires : tie.Need-put-lines-requires
+put-lines-requires c κs =
+    let l = c .before .before .before .before .layouts-of in
+    let f = survey-fits (now (c .before .before .before .before .before .before .before .before .args .file)) (l .result) (l .ensures) in
+    (omega (arith, f .0), c .before .before .before .before .before .if1 .left)
+
+same-length-2 : tie.Need-same-length-2
+same-length-2 c = search needs
+
+returns-3 : tie.Need-returns-3
+returns-3 c =
+    let a = c .before .before .before .before .before .before .before .before .before .before .before .args in
+    let l = c .before .before .before .before .before .before .before .layouts-of in
+    let p = c .before .before .put-lines .ensures in
+    (says-lines (now (a .file)) (now (a .text)) (c .before .before .before .before .before .before .before .before .if1 .left) _ _ (l .result) (l .ensures) (c .before .before .before .before .before .before .if2 .left) p (add-one (l .result .count)), put-counts p)
+
+pub list-layouts-spec : {M : Type 1} → statement M
+list-layouts-spec =
+    tie.close
+    (tie.spec
+    returns
+    layouts-of-requires
+    put-refusal-requires
+    same-length
+    returns-2
+    cast-put-lines
+    add-put-lines
+    put-lines-requires
+    same-length-2
+    returns-3)

@@ -1,2 +1,0 @@
--- Laws of a survey that is handed over.
-pub mod Lending

@@ -1,2 +1,0 @@
--- A survey, handed over in a slice.
-pub mod Lent

@@ -1,3 +1,0 @@
--- Laws of a survey's text: its lines one behind the other, the call's promise, no choice.
-pub mod Lined
-pub mod Promise

@@ -1,3 +1,0 @@
--- A survey as text, what the call that puts it into a slice promises, and the text of the listing's plant.
-pub mod Text
-pub mod Says

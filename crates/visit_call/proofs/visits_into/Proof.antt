@@ -1,0 +1,46 @@
+-- There is room for the numbers and for the costs.
+use denote.Ref.{now}
+use lib.ListN.{length}
+use Rattle.visit_call.proofs.Lending.{room-lent}
+use borrow.Author.Needs.{needs}
+use Rattle.visit_call.proofs.visits_into.Statement.{statement}
+use Rattle.visit_call.proofs.visits_into.Tie as tie
+
+visits-lent-requires : tie.Need-visits-lent-requires
+visits-lent-requires c κs = search needs
+
+cast-count : tie.Need-cast-count
+cast-count c = search needs
+
+put-bytes-requires : tie.Need-put-bytes-requires
+put-bytes-requires c κs =
+    let at = c .before .before .before in
+    let a = at .before .before .before .before .args in
+    let r = room-lent (now (a .file)) (length (now (a .numbers))) (length (now (a .costs))) (at .visits-lent .result) (at .visits-lent .ensures) in (r .0, r .1)
+
+put-words-requires : tie.Need-put-words-requires
+put-words-requires c κs =
+    let at = c .before .before .before .before .before .before .before .before in
+    let a = at .before .before .before .before .args in
+    let r = room-lent (now (a .file)) (length (now (a .numbers))) (length (now (a .costs))) (at .visits-lent .result) (at .visits-lent .ensures) in (r .0, r .2)
+
+same-length : tie.Need-same-length
+same-length c = search needs
+
+same-length-2 : tie.Need-same-length-2
+same-length-2 c = search needs
+
+returns : tie.Need-returns
+returns c = search needs
+
+pub visits-into-spec : {M : Type 1} → statement M
+visits-into-spec =
+    tie.close
+    (tie.spec
+    visits-lent-requires
+    cast-count
+    put-bytes-requires
+    put-words-requires
+    same-length
+    same-length-2
+    returns)

@@ -1,0 +1,71 @@
+-- Where the phases end, a flow of least cost is held: its prices certify it, before any tie is sought.
+use mathlib.Core.Path.{_≡_, _∙_, ap, subst}
+use mathlib.Core.Bool.{true, false}
+use mathlib.Core.List.{List, map}
+use lib.IntN.{ℤ}
+use Prim.Native.Nat.{ℕ}
+use native.Mathlib.Omega.{arith}
+use lib.ListN.{length, take}
+use Rattle.num_bytes.proofs.Tests.{clash}
+use Rattle.plant_def.specs.declared.Stream.{Stream}
+use Rattle.plant_def.specs.declared.Plant as Arrays
+use Rattle.plant_def.specs.Plants.{Plant}
+use Rattle.plant_def.specs.Within.{Accepted}
+use Rattle.plant_def.specs.Says.{plantOf}
+use Rattle.plant_def.proofs.Arrayed.{all-listed, within-of}
+use Rattle.flow_def.specs.Flows.{allowed, cost, OfLeastCost}
+use Rattle.flow_def.proofs.Overfull.{overfull-none}
+use Rattle.flow_def.proofs.Prices.{Certificate, least}
+use Rattle.solve_def.specs.declared.State.{State}
+use Rattle.solve_def.specs.declared.Ended.{Ended}
+use Rattle.solve_def.specs.Held.{unshifted, opened}
+use Rattle.solve_def.specs.Model.{finished, masked}
+use Rattle.solve_def.specs.Promise.{priceAt}
+use Rattle.solve_def.specs.SolverNeeds.{AtHint, Even, Amounts}
+use Rattle.solve_def.proofs.Phases.{Finished}
+use Rattle.solve_def.proofs.Ending.{finished-good, finished-even}
+use Rattle.solve_def.proofs.Certify.{certify}
+use Rattle.solve_def.proofs.Theorem.{solvable-in, ended-full}
+use Rattle.sheet_def.specs.Apart.{capped}
+use Rattle.sheet_def.specs.Calls.{AllSmall}
+use Rattle.sheet_entries.proofs.Balanced.{flows-small, take-opened}
+use Rattle.visit_def.specs.Visits.{LeastCost, Feasible}
+
+module _ (p : Arrays.Plant) (a : Accepted p) (st : State) (s : AtHint (plantOf p .streams) st) (e : Ended) (q : e ≡ finished (plantOf p .streams) st) where
+  abbrev ss : List Stream
+  ss = plantOf p .streams
+
+  ends : Finished ss e
+  ends = rw q (finished-good ss (solvable-in (plantOf p) (within-of p a)) st s)
+
+  -- With a flow in range no set is full.
+  pub never-full : {A : Type 0} → Feasible (plantOf p) → e .full ≡ true → A
+  never-full f n =
+      clash (allowed (plantOf p) (f .0)) (f .1)
+      (overfull-none (plantOf p) (within-of p a) (masked (p .units) (e .marked)) (ended-full (plantOf p) (within-of p a) e ends n) 1 (f .0) (omega arith))
+
+  module _ (n : e .full ≡ false) where
+    even : Even ss (e .state .prices) 0 (e .state .flows)
+    even = finished-even ss (solvable-in (plantOf p) (within-of p a)) e ends n
+
+    pub amounts : Amounts (e .state .flows)
+    amounts = λ k h. omega (arith, even .close k h .0)
+
+    pub all-small : (xs : List ℤ) → xs ≡ map unshifted (e .state .flows) → AllSmall xs
+    all-small xs d = rw d (flows-small (e .state .flows) amounts (even .long))
+
+    sure : Certificate (plantOf p) (opened (length ss) (e .state .flows)) (priceAt (e .state .prices))
+    sure = certify (plantOf p) (within-of p a) (e .state .prices) 0 (e .state .flows) even (omega arith)
+
+    least-flow : OfLeastCost (plantOf p) (opened (p .count) (e .state .flows))
+    least-flow =
+        subst (λ (m : ℕ). OfLeastCost (plantOf p) (opened m (e .state .flows))) (all-listed p a)
+        (record {
+          balance = sure .balance;
+          least = λ ys b. least (plantOf p) (within-of p a) (priceAt (e .state .prices)) (opened (length ss) (e .state .flows)) sure ys b;
+        })
+
+    pub least-found : (xs : List ℤ) → xs ≡ map unshifted (e .state .flows) → (c : ℕ) → c ≡ capped (cost ss (take (p .count) xs)) → LeastCost (plantOf p) c
+    least-found xs d c h =
+        let flow : take (p .count) xs ≡ opened (p .count) (e .state .flows) = ap (take (p .count)) d ∙ take-opened (p .count) (e .state .flows) in
+        (opened (p .count) (e .state .flows), least-flow, h ∙ ap (λ (ys : List ℤ). capped (cost ss ys)) flow)

@@ -1,0 +1,118 @@
+-- What the phases end with is certified by its prices.
+use mathlib.Core.Path.{_≡_, refl}
+use mathlib.Core.List.{List}
+use Prim.Native.Nat.{ℕ, _*_}
+use native.Mathlib.Omega.{arith}
+use borrow.Author.Needs.{needs}
+use lib.ListN.{getD-replicate}
+use Rattle.plant_def.specs.Limits.{maxStreams}
+use Rattle.plant_def.specs.Says.{plantOf}
+use Rattle.solve_def.specs.Model.{finished}
+use Rattle.solve_def.proofs.Theorem.{network-of}
+use Rattle.solve_arcs.specs.Cells.{arcCells}
+use Rattle.solve_arcs.specs.ArcNeeds.{Laid}
+use Rattle.solve_phases.specs.Finishes.{Finishable}
+use Rattle.visit_costs.proofs.Ended.{never-full, amounts, all-small, least-found}
+use Rattle.visit_costs.proofs.least_cost.Statement.{statement}
+use Rattle.visit_costs.proofs.least_cost.Tie as tie
+
+-- The first state, from the end of the phases; arcs and rows, from there; and the start.
+abbrev begun : tie.After-finish → tie.After-start
+begun c = c .before .before .before .before
+
+abbrev laid : tie.After-start → tie.After-lay
+laid c = c .before .before .before
+
+abbrev start : tie.After-lay → tie.Start
+start c = c .before .before .before .before .before .before
+
+group-requires : tie.Need-group-requires
+group-requires c κs = search needs
+
+cast-count : tie.Need-cast-count
+cast-count c = search needs
+
+cast-arcs : tie.Need-cast-arcs
+cast-arcs c = search needs
+
+lay-requires : tie.Need-lay-requires
+lay-requires c κs =
+    let st = c .before .before .before .before .before in
+    (network-of (st .args .p) (st .pre .0), refl, λ u l. getD-replicate arcCells u (2 * maxStreams) 0 (omega arith), refl)
+
+start-requires : tie.Need-start-requires
+start-requires c κs =
+    let f = c .before .before in
+    (start f .pre .0, f .before .before .before .before .before .group .ensures, f .lay .ensures)
+
+-- What the phases begin from.
+abbrev able : (c : tie.After-finish) (ls rs : List ℕ) → let b = begun c in let p = start (laid b) .args .p in
+    Laid (p .streams) (p .count) ls rs → Finishable ls rs (b .start .result)
+able c ls rs l =
+    let b = begun c in
+    let st = start (laid b) in
+    record {
+      laying = record { streams = st .args .p .streams; n = st .args .p .count; network = network-of (st .args .p) (st .pre .0); laid = l };
+      at-hint = b .start .ensures;
+    }
+
+ended : (c : tie.After-finish) → c .finish .result ≡ finished (plantOf (start (laid (begun c)) .args .p) .streams) (begun c .start .result)
+ended c = c .finish .ensures (able c _ _ (laid (begun c) .lay .ensures)) .0
+
+finish-requires : tie.Need-finish-requires
+finish-requires c κs =
+    let b = c .before .before .before in
+    let st = start (laid b) in (
+      record {
+        laying = record { streams = st .args .p .streams; n = st .args .p .count; network = network-of (st .args .p) (st .pre .0); laid = laid b .lay .ensures };
+        at-hint = b .start .ensures;
+      },
+      refl,
+    )
+
+returns : tie.Need-returns
+returns c =
+    let f = c .before in
+    let b = begun f in
+    let st = start (laid b) in
+    never-full (st .args .p) (st .pre .0) (b .start .result) (b .start .ensures) (f .finish .result) (ended f) (st .pre .1) (c .if1 .taken)
+
+opened-flows-requires : tie.Need-opened-flows-requires
+opened-flows-requires c κs =
+    let e = c .before .before in
+    let f = e .before in
+    let b = begun f in
+    let st = start (laid b) in
+    amounts (st .args .p) (st .pre .0) (b .start .result) (b .start .ensures) (f .finish .result) (ended f) (e .if1 .left)
+
+cost-of-requires : tie.Need-cost-of-requires
+cost-of-requires c κs =
+    let e = c .before .before .before in
+    let f = e .before in
+    let b = begun f in
+    let st = start (laid b) in
+    (st .pre .0, all-small (st .args .p) (st .pre .0) (b .start .result) (b .start .ensures) (f .finish .result) (ended f) (e .if1 .left) (c .opened-flows .result) (c .opened-flows .ensures))
+
+returns-2 : tie.Need-returns-2
+returns-2 c =
+    let o = c .before in
+    let e = o .before .before .before in
+    let f = e .before in
+    let b = begun f in
+    let st = start (laid b) in
+    least-found (st .args .p) (st .pre .0) (b .start .result) (b .start .ensures) (f .finish .result) (ended f) (e .if1 .left) (o .opened-flows .result) (o .opened-flows .ensures) (c .cost-of .result) (c .cost-of .ensures)
+
+pub least-cost-spec : {M : Type 1} → statement M
+least-cost-spec =
+    tie.close
+    (tie.spec
+    group-requires
+    cast-count
+    cast-arcs
+    lay-requires
+    start-requires
+    finish-requires
+    returns
+    opened-flows-requires
+    cost-of-requires
+    returns-2)

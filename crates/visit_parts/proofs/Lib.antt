@@ -1,2 +1,0 @@
--- Laws of meters worth a visit in slices.
-pub mod Lending

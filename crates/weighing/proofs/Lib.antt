@@ -1,2 +1,0 @@
--- Laws of the summed weights.
-pub mod Summing

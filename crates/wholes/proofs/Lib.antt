@@ -1,2 +1,0 @@
--- Laws of the prices made whole.
-pub mod Levels

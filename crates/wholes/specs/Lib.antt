@@ -1,2 +1,0 @@
--- Definitions that the contracts of wholes cite.
-pub mod Levels
