@@ -3,10 +3,15 @@
     python3 reference/published_to_try.py    the sheets of these examples, beside the published figures
 """
 
+import sys
+from pathlib import Path
 from typing import NamedTuple
 
-from reference import solver
-from reference.parts import metered, plant_file, ranged, taken, unmetered
+if not __package__:  # run by its path, and not as `python3 -m reference.published_to_try`
+    sys.path[0] = str(Path(__file__).resolve().parent.parent)
+
+from reference import solver  # noqa: E402
+from reference.parts import metered, plant_file, ranged, taken, unmetered  # noqa: E402
 
 
 class Example(NamedTuple):
