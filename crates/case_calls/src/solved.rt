@@ -3,19 +3,19 @@ use plant_def::limits::MAX_STREAMS;
 use plant_def::limits::PLACES;
 use solve_def::Hint;
 use solve_def::sizes::FLOW_SHIFT;
-use solve_def::sizes::PRICE_SHIFT;
+use solve_def::sizes::POTENTIAL_SHIFT;
 ghost use mathlib.Core.Path.{_≡_};
 ghost use Prim.Native.Nat.{_≤_};
 ghost use lib.ListN.{length};
 ghost use Rattle.solve_def.specs.Model.{noHint};
 
-// No hint: amounts and prices 0.
+// No hint: amounts and potentials 0.
 pub fn no_hint() -> Hint
     ensures { λ r. ⌜ r ≡ noHint ⌝ }
 {
     Hint {
         flows: [FLOW_SHIFT; MAX_STREAMS],
-        prices: [PRICE_SHIFT; PLACES],
+        potentials: [POTENTIAL_SHIFT; PLACES],
     }
 }
 

@@ -22,7 +22,7 @@ use Rattle.flow_def.proofs.Reach.{chain-sym}
 use Rattle.flow_def.proofs.Nets.{countOf, streamOf, netOf, listed, listed-at, listed-balanced, balanced-nets}
 use Rattle.flow_def.proofs.Routes.{only, only-at, only-off, brought-ends, net-plus, net-only, Route, route}
 use Rattle.flow_def.proofs.Ranges.{range-says, range-holds, nearest-in, balanced-of, range-of, allowed-of}
-use Rattle.flow_def.proofs.Prices.{shareOver}
+use Rattle.flow_def.proofs.Potentials.{shareOver}
 use Rattle.flow_def.specs.Least.{LeastInFractions}
 use Rattle.flow_def.proofs.Mixing.{times-le, times-range}
 use Rattle.flow_def.proofs.Near.{no-square, cost-sum, gap-at, gap-cost}

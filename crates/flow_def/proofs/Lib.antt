@@ -9,7 +9,7 @@ pub mod Withheld
 pub mod Chained
 pub mod Steps
 pub mod Ranges
-pub mod Prices
+pub mod Potentials
 pub mod Nearness
 pub mod Order
 pub mod Ties

@@ -17,7 +17,7 @@ use Rattle.flow_def.proofs.Integers.{up, dn, Le, val, canon, Z·diff, L
 use Rattle.flow_def.proofs.Sums.{sum, sum-same, sum-none, sum-plus, sum-times, sum-tight}
 use Rattle.flow_def.proofs.Nets.{countOf, streamOf, listed-size, balanced-size}
 use Rattle.flow_def.proofs.Ranges.{balanced-of}
-use Rattle.flow_def.proofs.Prices.{shareOver, weighed, cost-is}
+use Rattle.flow_def.proofs.Potentials.{shareOver, weighed, cost-is}
 use Rattle.flow_def.specs.Least.{LeastInFractions, apart}
 use Rattle.flow_def.proofs.Shares.{mixed-share, gap-share, times-share, times-from, mixed-from, gap-from}
 use Rattle.flow_def.proofs.Distance.{apart-is}

@@ -1,4 +1,4 @@
--- Prices and amounts that meet the rules: the withheld streams can be filled in, and the whole is then a flow of least cost; no
+-- Potentials and amounts that meet the rules: the withheld streams can be filled in, and the whole is then a flow of least cost; no
 -- amount is large.
 use mathlib.Core.Path.{_≡_, refl, sym, _∙_, ap, subst}
 use mathlib.Core.Bool.{Bool, true, false, not, _&&_}
@@ -24,7 +24,7 @@ use Rattle.flow_def.proofs.Sums.{sum-same}
 use Rattle.flow_def.proofs.Nets.{countOf, streamOf, netOf, inside, listed, listed-size, listed-at, balanced-nets}
 use Rattle.flow_def.proofs.Given.{class-means, number-is}
 use Rattle.flow_def.proofs.Ranges.{allowed-of, range-of, balanced-of}
-use Rattle.flow_def.proofs.Prices.{StepAt, Steps, Certificate, share, cost-one, least}
+use Rattle.flow_def.proofs.Potentials.{StepAt, Steps, Certificate, share, cost-one, least}
 use Rattle.solve_def.proofs.Overs.{over, overTo}
 use Rattle.solve_def.proofs.Tall.{tall}
 use Rattle.foreign_def.specs.Passing.{known}

@@ -1,4 +1,4 @@
--- What passes has least cost; and prices that certify a flow pass every sheet that shows a flow of least cost.
+-- What passes has least cost; and potentials that certify a flow pass every sheet that shows a flow of least cost.
 use mathlib.Core.Path.{_≡_, refl, sym, _∙_, ap, ap₂, subst}
 use mathlib.Core.Bool.{Bool, true, false, not}
 use mathlib.Core.List.{List, []}
@@ -30,7 +30,7 @@ use Rattle.flow_def.proofs.Chained.{as-read-of, adjusted-of}
 use Rattle.flow_def.proofs.Counted.{degrees-counted}
 use Rattle.flow_def.proofs.Decided.{decided-shown}
 use Rattle.flow_def.proofs.Ranges.{balanced-of, range-of}
-use Rattle.flow_def.proofs.Prices.{StepAt, Certificate}
+use Rattle.flow_def.proofs.Potentials.{StepAt, Certificate}
 use Rattle.solve_def.proofs.Theorem.{decided}
 use Rattle.sheet_def.specs.Apart.{totalKind, capped}
 use Rattle.sheet_def.specs.Sheets.{SheetParts}
@@ -43,7 +43,7 @@ use Rattle.foreign_def.specs.Numbers.{Serve}
 use Rattle.foreign_def.specs.Test.{withheldOnly, shownAt}
 use Rattle.foreign_def.proofs.Stepping.{step-level, level-step, step-alike, between-step, step-bottom, step-top}
 use Rattle.foreign_def.proofs.Meeting.{known-not, known-shown, Meets, metered-known, filledIn, filled-at, filled-least}
-use Rattle.foreign_def.proofs.Numbers.{same-prices}
+use Rattle.foreign_def.proofs.Numbers.{same-potentials}
 use Rattle.foreign_def.proofs.Sums.{crossing-sums}
 
 -- A sheet that tells of a plant what it has to has the classes, the degrees and the verdict as they are computed.
@@ -226,7 +226,7 @@ module _ (p : Plant) (w : Within p) where
     shows = ours-shows p w xs c office n;
   }
 
-  -- Prices within the limit that certify some flow serve.
+  -- Potentials within the limit that certify some flow serve.
   pub certified-serve : (π : ℕ → ℤ) → ((u : ℕ) → u ≤ p .units → natAbs (π u) ≤ numberLimit) → (xs : List ℤ) → Certificate p xs π
       → Serve p (values (suc (p .units)) π)
-  certified-serve π few xs c sheet f = certified-passes π few (f .flow) (same-prices p w π xs c (f .flow) (f .least)) sheet (f .ours) (f .shows)
+  certified-serve π few xs c sheet f = certified-passes π few (f .flow) (same-potentials p w π xs c (f .flow) (f .least)) sheet (f .ours) (f .shows)

@@ -13,11 +13,11 @@ use Rattle.plant_def.specs.Limits.{maxRange}
 use Rattle.plant_def.specs.Plants.{limited}
 use Rattle.plant_def.specs.Within.{WithinStream}
 use Rattle.flow_def.specs.Flows.{inRange}
-use Rattle.flow_def.specs.Certificate.{weightOf, climb, lower, upper, leastClimb, mostClimb, rises, falls, priced}
+use Rattle.flow_def.specs.Certificate.{weightOf, climb, lower, upper, leastClimb, mostClimb, rises, falls, inKilter}
 use Rattle.flow_def.proofs.Integers.{up, dn, Le, Lt, val, canon, Z·diff, minus-val, size-val, leZ-le, le-leZ, ltZ-lt}
 use Rattle.flow_def.proofs.Ranges.{asked, answered, whole-says, at-low, at-high, unmetered-moves}
 use Rattle.flow_def.proofs.Steps.{Step, Tied, level, above, below, free}
-use Rattle.flow_def.proofs.Prices.{StepAt}
+use Rattle.flow_def.proofs.Potentials.{StepAt}
 use Rattle.solve_def.proofs.Tall.{Slopes}
 use Rattle.foreign_def.specs.Passing.{bottom, top, AtHigh, AtLow}
 
@@ -45,7 +45,7 @@ module _ (π : ℕ → ℤ) (s : Stream) (m : s .metered ≡ false) where
   pub level-step : (x : ℤ) → climb π s ≡ pos 0 → StepAt 1 π s x
   level-step x e = still (weightOf s) (x -ℤ s .reading) (climb π s) (falls s x) (rises s x) (unweighed s m) e
 
--- Prices that climb alike meet it alike.
+-- Potentials that climb alike meet it alike.
 pub step-alike : (π ρ : ℕ → ℤ) (s : Stream) (x : ℤ) → climb π s ≡ climb ρ s → StepAt 1 ρ s x → StepAt 1 π s x
 step-alike π ρ s x e h = subst (λ (c : ℤ). Step 1 (weightOf s) (x -ℤ s .reading) c (falls s x) (rises s x)) (sym e) h
 
@@ -71,14 +71,14 @@ tied-step w d e c a b a′ b′ s (below q m t) f = rw q (record {
 })
 
 -- The condition by its tests.
-pub priced-says : (π : ℕ → ℤ) (s : Stream) (x : ℤ) → priced π s x ≡ true → StepAt 1 π s x
-priced-says π s x e = record {
+pub kilter-says : (π : ℕ → ℤ) (s : Stream) (x : ℤ) → inKilter π s x ≡ true → StepAt 1 π s x
+kilter-says π s x e = record {
   low = λ t. leZ-le (leastClimb s x) (climb π s) (asked (falls s x) _ (and-left (not (falls s x) || leZ (leastClimb s x) (climb π s)) _ e) t);
   high = λ t. leZ-le (climb π s) (mostClimb s x) (asked (rises s x) _ (and-right (not (falls s x) || leZ (leastClimb s x) (climb π s)) _ e) t);
 }
 
-pub says-priced : (π : ℕ → ℤ) (s : Stream) (x : ℤ) → StepAt 1 π s x → priced π s x ≡ true
-says-priced π s x h =
+pub says-kilter : (π : ℕ → ℤ) (s : Stream) (x : ℤ) → StepAt 1 π s x → inKilter π s x ≡ true
+says-kilter π s x h =
     and-both _ _ (answered (falls s x) _ (λ t. le-leZ (leastClimb s x) (climb π s) (h .low t)))
     (answered (rises s x) _ (λ t. le-leZ (climb π s) (mostClimb s x) (h .high t)))
 

@@ -25,7 +25,7 @@ use Rattle.flow_def.specs.Classes.{has, joinedTo, classOf, degrees}
 use Rattle.flow_def.specs.Labels.{labelsOf, oneLabel}
 use Rattle.flow_def.specs.Test.{verdictAt}
 use Rattle.flow_def.specs.Shown.{adjusted}
-use Rattle.flow_def.specs.Certificate.{priced}
+use Rattle.flow_def.specs.Certificate.{inKilter}
 use Rattle.flow_def.proofs.Integers.{size-none, minus-none}
 use Rattle.flow_def.proofs.Certified.{every-at}
 use Rattle.flow_def.proofs.Sums.{sum, sum-same, sum-none}
@@ -43,7 +43,7 @@ use Rattle.foreign_def.specs.Passing.{numberLimit, placeNumber, Ours, kn
 use Rattle.foreign_def.specs.Test.{withheldOnly, shownAt, shownFlows, broughtBy, netBy, numbersFit, recordsFit, flowsFit, netsFit, totalFits, passes}
 use Rattle.foreign_def.proofs.Every.{every-all}
 use Rattle.foreign_def.proofs.Filling.{Closed}
-use Rattle.foreign_def.proofs.Stepping.{priced-says, says-priced, step-level, step-bottom, step-top}
+use Rattle.foreign_def.proofs.Stepping.{kilter-says, says-kilter, step-level, step-bottom, step-top}
 use Rattle.foreign_def.proofs.Meeting.{Meets, metered-known, filledIn, filled-at, filled-allowed, filled-certified, filled-least, filled-cost, known-few}
 use Rattle.foreign_def.proofs.Sums.{crossing-sums}
 use Rattle.foreign_def.proofs.Passing.{told-class, told-degrees, told-verdict, ours-tell, like-long, like-class, like-degrees, like-cost, like-verdict, like-joined, passes-meets}
@@ -249,7 +249,7 @@ module _ (p : Plant) (w : Within p) (sheet : SheetParts) (numbers : List ℤ) wh
     classes = λ k l. same-class (classOn sheet k) (classOf p k)
         (eqb-true (kindOf (classOn sheet k)) (kindOf (classOf p k)) (and-left (eqb (kindOf (classOn sheet k)) (kindOf (classOf p k))) _ (entry k l)));
     meets = record {
-      steps = λ k l. priced-says π (streamOf p k) (x k) (and-right (inRange 1 (streamOf p k) (x k)) _ (flow k l));
+      steps = λ k l. kilter-says π (streamOf p k) (x k) (and-right (inRange 1 (streamOf p k) (x k)) _ (flow k l));
       ranges = λ k l. and-left (inRange 1 (streamOf p k) (x k)) _ (flow k l);
       closed = nets-closed (withheldOnly p) p w x
           (λ v l. size-none _ (eqb-true _ 0 (every-at places (λ v. eqb (natAbs (netBy (labelsOf (withheldOnly p) p) (p .streams) x v)) 0) nets v l)));
@@ -295,7 +295,7 @@ module _ (p : Plant) (w : Within p) (sheet : SheetParts) (numbers : List ℤ) wh
       entry : (k : ℕ) → k < countOf p → eqb (kindOf (classOn sheet k)) (kindOf (classOf p k)) && leb (natAbs (x k)) flowShift ≡ true
       entry k l = every-at (countOf p) _ (and-left (recordsFit (countOf p) (classOn sheet) (classOf p) x) _ records) k l
 
-      flow : (k : ℕ) → k < countOf p → inRange 1 (streamOf p k) (x k) && priced π (streamOf p k) (x k) ≡ true
+      flow : (k : ℕ) → k < countOf p → inRange 1 (streamOf p k) (x k) && inKilter π (streamOf p k) (x k) ≡ true
       flow k l = every-at (countOf p) _ (and-left (flowsFit (p .streams) x numbers) _ flows) k l
 
   kept-test : Kept p sheet numbers → passes p sheet numbers ≡ true
@@ -305,7 +305,7 @@ module _ (p : Plant) (w : Within p) (sheet : SheetParts) (numbers : List ℤ) wh
       (and-both _ _ (eq-eqb _ _ (g .one-each)) (every-all (suc (p .units)) _ (λ u l. le-leb _ numberLimit (g .small u (omega arith)))))
       (and-both _ _ (eq-eqb _ _ (g .long))
       (and-both _ _ (every-all (countOf p) _ (λ k l. and-both _ _ (eq-eqb _ _ (ap kindOf (g .classes k l))) (le-leb _ flowShift (kept-small g k l))))
-      (and-both _ _ (every-all (countOf p) _ (λ k l. and-both _ _ (g .meets .ranges k l) (says-priced π (streamOf p k) (x k) (g .meets .steps k l))))
+      (and-both _ _ (every-all (countOf p) _ (λ k l. and-both _ _ (g .meets .ranges k l) (says-kilter π (streamOf p k) (x k) (g .meets .steps k l))))
       (and-both _ _ (every-all places _ (λ v l. eq-eqb _ 0 (ap natAbs (closed-nets (withheldOnly p) p w x (g .meets .closed) v))))
       (and-both _ _ (eq-eqb _ _ (g .freedom)) (and-both _ _ (eq-eqb _ _ (g .costs)) (eq-eqb _ _ (g .verdict))))))))
 

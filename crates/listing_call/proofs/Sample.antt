@@ -1,4 +1,4 @@
--- The listing of the definition's plant, proved by computing: prices certify the flow.
+-- The listing of the definition's plant, proved by computing: potentials certify the flow.
 use mathlib.Core.Path.{refl}
 use mathlib.Core.List.{List, [], _∷_}
 use mathlib.Core.Bool.{true, false}

@@ -12,7 +12,7 @@ use Rattle.flow_def.specs.Certificate.{weightOf}
 use Rattle.solve_def.specs.Sizes.{mostFlow, mostPull, mostStep}
 use Rattle.solve_def.specs.Held.{readingOf, lowOf, highOf}
 use Rattle.solve_def.specs.Near.{arcAt}
-use Rattle.solve_def.specs.SearchNeeds.{Network, Prices, Walkable}
+use Rattle.solve_def.specs.SearchNeeds.{Network, Potentials, Walkable}
 use Rattle.solve_arcs.specs.Cells.{toCell, nextCell, arcCells, arcOf, countOf, startsOf, endsOf, rowCells, marginCells}
 use Rattle.solve_arcs.specs.Margins.{marginAt, shut, spared, leaves}
 
@@ -77,10 +77,10 @@ pub record Laying (ls rs : List ℕ) : Type 0 where
   pub network : Network streams n
   pub laid : Laid streams n ls rs
 
--- Arcs, margins and prices of which a walk can go along.
+-- Arcs, margins and potentials of which a walk can go along.
 pub record Ways (ls ms ps : List ℕ) : Type 0 where
   pub linked : Linked ls
-  pub prices : Prices ps
+  pub potentials : Potentials ps
   pub small : (k : ℕ) (f : Bool) → k < countOf ls → getD ms (arcOf k f) 0 ≤ shut
 
 -- Streams that arcs are of, and such that a search can go over them.

@@ -1,4 +1,4 @@
--- Margins: for each arc its marginal cost, what one step more along it costs at the present amounts, before prices.
+-- Margins: for each arc its marginal cost, what one step more along it costs at the present amounts, before potentials.
 use mathlib.Core.Bool.{Bool, true, false, _&&_}
 use mathlib.Core.List.{List}
 use Prim.Native.Nat.{ℕ, _+_, _-_, _*_}
@@ -11,7 +11,7 @@ use Rattle.solve_def.specs.Slack.{openBy}
 use Rattle.solve_arcs.specs.Cells.{arcOf, countOf, startsOf, endsOf}
 
 -- A margin z is held as z + lift, which no margin that arises takes below 0; an arc that is shut has the margin shut, 2^62:
--- farthest + priceShift + lift ≤ shut, and in 64 bits shut + priceShift < 2^64.
+-- farthest + potentialShift + lift ≤ shut, and in 64 bits shut + potentialShift < 2^64.
 abbrev pub lift : ℕ
 lift = 2 * mostPull
 
@@ -33,7 +33,7 @@ marginAt rs f k x d = marginBy (getD rs (4 * k) 0) (getD rs (4 * k + 1) 0) (getD
 abbrev pub spared : List ℕ → ℕ → ℕ → Bool
 spared rs skip k = ltb 0 (getD rs (4 * k) 0) && ltb k skip
 
--- The reduced cost of an arc of margin m, from a place of price p to one of price r; at least 0 and at most farthest. It is the slack of
+-- The reduced cost of an arc of margin m, from a place of potential p to one of potential r; at least 0 and at most farthest. It is the slack of
 -- the arc's stream (slackPast in Slack).
 abbrev pub lessOf : ℕ → ℕ → ℕ
 lessOf a b = pick (ltb b a) b a

@@ -3,7 +3,7 @@
 // last stream that starts or ends there; then for each arc the place that it leads to; then for each arc the next one of the place
 // that it leaves; last, how many streams are in use. What is where is known here and nowhere else in code, and in
 // specs/Cells.antt. The margin of an arc is its marginal cost: what one step more along it costs at the present amounts. Its
-// reduced cost is that by the prices of its two ends.
+// reduced cost is that by the potentials of its two ends.
 use plant_def::Stream;
 use plant_def::limits::MAX_STREAMS;
 use plant_def::limits::MAX_WEIGHT;
@@ -15,7 +15,7 @@ ghost use mathlib.Core.Path.{_≡_};
 ghost use Prim.Native.Nat.{_-_, _*_, _≤_, _+_, _<_, ℕ};
 ghost use Rattle.plant_def.specs.Limits.{maxUnits, places, maxStreams, maxWeight};
 ghost use Rattle.plant_def.specs.Within.{WithinStream};
-ghost use Rattle.solve_def.specs.Sizes.{mostFlow, mostPull, farthest, mostStep, priceShift};
+ghost use Rattle.solve_def.specs.Sizes.{mostFlow, mostPull, farthest, mostStep, potentialShift};
 ghost use Rattle.flow_def.specs.Certificate.{weightOf};
 ghost use Rattle.solve_def.specs.Held.{shifted, readingOf, lowOf, highOf};
 ghost use lib.ListN.{getD, length, set};
@@ -151,9 +151,9 @@ pub fn lesser(a: u64, b: u64) -> u64
     if b < a { b } else { a }
 }
 
-// The reduced cost of an arc of margin m, from a place of price p to one of price r; at least 0 and at most FARTHEST.
+// The reduced cost of an arc of margin m, from a place of potential p to one of potential r; at least 0 and at most FARTHEST.
 pub fn reduced_cost(m: u64, p: u64, r: u64) -> u64
-    requires { ⌜ (m ≤ shut) × (p ≤ priceShift) × (r ≤ priceShift) ⌝ }
+    requires { ⌜ (m ≤ shut) × (p ≤ potentialShift) × (r ≤ potentialShift) ⌝ }
     ensures { λ g. ⌜ (g ≡ reducedCost m p r) × (g ≤ farthest) ⌝ }
 {
     lesser(minus(m + p, r + LIFT), FARTHEST)

@@ -105,7 +105,7 @@ weight-none s e = rw e
 pub weight-some : (s : Stream) → s .metered ≡ true → weightOf s ≡ s .weight
 weight-some s e = rw e
 
--- The step condition at a greater step; and at weight 0: the prices of an open stream's ends agree.
+-- The step condition at a greater step; and at weight 0: the potentials of an open stream's ends agree.
 pub held-more : (m w X R u v L H : ℕ) → 1 ≤ m → Held 1 w X R u v L H → Held m w X R u v L H
 held-more m w X R u v L H l h =
     let k : w * 1 ≤ w * m = mul-le-mul-left w l in

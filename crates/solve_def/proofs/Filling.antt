@@ -14,7 +14,7 @@ use Rattle.flow_def.proofs.Lists.{Written}
 use Rattle.solve_def.specs.Search.{fallen}
 use Rattle.solve_def.specs.Near.{codeOf, lessened, relaxedAlong, relaxedAt, relaxedTo, reducedBy}
 
--- The prices of visited places reduced.
+-- The potentials of visited places reduced.
 pub reduced-at : (ls : List Bool) (ks : List ℕ) (k : ℕ) (ps : List ℕ) (u : ℕ)
     → getD (reducedBy ls ks k ps) u 0 ≡ fallen (getD ls u false) (k - getD ks u 0) (getD ps u 0)
 unfolding reducedBy

@@ -19,12 +19,12 @@ use Rattle.plant_def.specs.Plants.{noStream}
 use Rattle.flow_def.specs.Flows.{streamAt}
 use Rattle.solve_def.specs.declared.Tree.{Tree}
 use Rattle.solve_def.specs.declared.Walked.{Walked}
-use Rattle.solve_def.specs.Sizes.{netShift, mostStep, searchRounds, mostMarginal, priceFloor, numbering, farthest, far}
+use Rattle.solve_def.specs.Sizes.{netShift, mostStep, searchRounds, mostMarginal, potentialFloor, numbering, farthest, far}
 use Rattle.solve_def.specs.Held.{AllHeld}
 use Rattle.solve_def.specs.Slack.{Crossing, At, Nothing, leastTo, slackBy, slackAt, slackPast}
 use Rattle.solve_def.specs.Search.{fallen, loweredBy, farEnd, rootAt, addedTo, Grown, grownBy, grow}
 use Rattle.solve_def.specs.Near.{relaxedTo, nearestTo, reducedBy, walked}
-use Rattle.solve_def.specs.SearchNeeds.{Network, Prices, Moderate, Floored}
+use Rattle.solve_def.specs.SearchNeeds.{Network, Potentials, Moderate, Floored}
 use Rattle.solve_def.proofs.Bounds.{Open, slack-open, slack-shut, open-of, open-or, slack-most, reading-close}
 use Rattle.solve_def.proofs.Growing.{slack-rise}
 use Rattle.solve_def.proofs.Weights.{weight-most}
@@ -40,7 +40,7 @@ pub record Slacked (streams : List Stream) (n : ℕ) (xs ps : List ℕ) (d skip 
   pub network : Network streams n
   pub held : AllHeld (take n streams) xs ps d
   pub step : d ≤ mostStep
-  pub prices : Prices ps
+  pub potentials : Potentials ps
   pub moderate : Moderate (take n streams) xs
   pub floor : Floored ps
   pub starts : (k : ℕ) → k < n → getD fs k 0 ≡ streamAt (take n streams) k .from
@@ -63,7 +63,7 @@ module _ (streams : List Stream) (n : ℕ) (xs ps : List ℕ) (d skip : ℕ) (fs
   tails k true l = heads k false l
   tails k false l = heads k true l
 
-  -- The slack of an open stream, by the prices of the ends.
+  -- The slack of an open stream, by the potentials of the ends.
   pub rises : (k : ℕ) (f : Bool) → k < n → Open (streamAt (take n streams) k) f (getD xs k 0) d
       → slackAt (take n streams) xs ps d k f + getD ps (headOf n fs ts gs bs k f) 0 ≤ getD ps (tailOf n fs ts gs bs k f) 0 + mostMarginal
   rises k f l o = go f (slack-rise f s (getD xs k 0) _ _ d (laid .held k (rw in-use l)) (weight-most s (placed k l)) (laid .step)
@@ -84,7 +84,7 @@ module _ (streams : List Stream) (n : ℕ) (xs ps : List ℕ) (d skip : ℕ) (fs
 
   -- An open stream's is below farthest.
   pub open-small : (k : ℕ) (f : Bool) → k < n → Open (streamAt (take n streams) k) f (getD xs k 0) d → slackAt (take n streams) xs ps d k f < farthest
-  open-small k f l o = omega (arith, rises k f l o, laid .floor (headOf n fs ts gs bs k f) (heads k f l), laid .prices (tailOf n fs ts gs bs k f) (tails k f l))
+  open-small k f l o = omega (arith, rises k f l o, laid .floor (headOf n fs ts gs bs k f) (heads k f l), laid .potentials (tailOf n fs ts gs bs k f) (tails k f l))
 
   -- It is farthest where the stream is left alone, and at most that in any case.
   pub slack-small : (k : ℕ) (f : Bool) → k < n → slackOf n fs ts gs bs k f ≤ farthest
@@ -145,16 +145,16 @@ module _ (streams : List Stream) (n : ℕ) (xs ps : List ℕ) (d : ℕ) (fs ts g
     pub close : (u : ℕ) → getD ks u 0 ≤ k
     pub place : e < places
     pub short : t .len + l ≤ searchRounds
-    -- A price and a distance together are above the root's price by at most a marginal for each place visited since.
+    -- A potential and a distance together are above the root's potential by at most a marginal for each place visited since.
     pub tall : (u : ℕ) → u < places → getD (t .visited) u false ≡ true → getD ps u 0 + getD ks u 0 ≤ getD ps root 0 + mostMarginal * t .len
 
-  -- So no price falls below 0.
-  reach-small : (l k e : ℕ) (ks near : List ℕ) (t : Tree) → Going l k e ks near t → k ≤ priceFloor
+  -- So no potential falls below 0.
+  reach-small : (l k e : ℕ) (ks near : List ℕ) (t : Tree) → Going l k e ks near t → k ≤ potentialFloor
   reach-small l k e ks near t g =
-      omega (arith, g .tall e (g .place) (g .marked), g .at, g .short, laid .floor e (g .place), laid .prices root within)
+      omega (arith, g .tall e (g .place) (g .marked), g .at, g .short, laid .floor e (g .place), laid .potentials root within)
 
-  -- The slack at the present prices is what the distance over a stream exceeds the present one.
-  now-slack : (ls : List Bool) (ks : List ℕ) (k i : ℕ) (f : Bool) → i < n → Open (streamAt ss i) f (getD xs i 0) d → k ≤ priceFloor → ((u : ℕ) → getD ks u 0 ≤ k)
+  -- The slack at the present potentials is what the distance over a stream exceeds the present one.
+  now-slack : (ls : List Bool) (ks : List ℕ) (k i : ℕ) (f : Bool) → i < n → Open (streamAt ss i) f (getD xs i 0) d → k ≤ potentialFloor → ((u : ℕ) → getD ks u 0 ≤ k)
       → getD ls (tailOf n fs ts gs bs i f) false ≡ true → getD ls (headOf n fs ts gs bs i f) false ≡ false → k ≤ overOf n fs ts gs bs ks i f
       → slackAt ss xs (reducedBy ls ks k ps) d i f + k ≡ overOf n fs ts gs bs ks i f
   now-slack ls ks k i f l o small close t h m =
@@ -210,7 +210,7 @@ module _ (streams : List Stream) (n : ℕ) (xs ps : List ℕ) (d : ℕ) (fs ts g
 
     over-small : (i : ℕ) (f : Bool) → i < n → Open (streamAt ss i) f (getD xs i 0) d → getD (t .visited) (tailOf n fs ts gs bs i f) false ≡ true → overOf n fs ts gs bs ks i f < farthest
     over-small i f b o y =
-        omega (arith, over-tall i f b o y, g .short, laid .floor (headOf n fs ts gs bs i f) (heads streams n xs ps d 0 fs ts gs bs laid i f b), laid .prices root within)
+        omega (arith, over-tall i f b o y, g .short, laid .floor (headOf n fs ts gs bs i f) (heads streams n xs ps d 0 fs ts gs bs laid i f b), laid .potentials root within)
 
     over-least : (i : ℕ) (f : Bool) → i < n → getD (t .visited) (tailOf n fs ts gs bs i f) false ≡ true
         → getD (t .visited) (headOf n fs ts gs bs i f) false ≡ false → k ≤ overOf n fs ts gs bs ks i f

@@ -1,4 +1,4 @@
--- The search: what holds of its tree and prices, round by round.
+-- The search: what holds of its tree and potentials, round by round.
 use mathlib.Core.Path.{_≡_, refl, sym, _∙_, ap}
 use mathlib.Core.Bool.{Bool, true, false, _||_, not, true≢false, false≢true}
 use mathlib.Core.List.{List}
@@ -40,7 +40,7 @@ pub record Plain (n : ℕ) (ss : List Stream) : Type 0 where
   pub light : (k : ℕ) → k < length ss → weightOf (streamAt ss k) ≤ maxWeight
   pub read : (k : ℕ) → k < length ss → streamAt ss k .metered ≡ true → Close mostReading (readingOf (streamAt ss k))
 
--- One stream keeps the step condition while prices fall by no more than its slack.
+-- One stream keeps the step condition while potentials fall by no more than its slack.
 held-kept : (a b : Bool) (s : Stream) (x pu pv d g : ℕ) → Held d (weightOf s) x (readingOf s) pu pv (lowOf s) (highOf s) → (a ≡ true → g ≤ pu) → (b ≡ true → g ≤ pv)
     → (a ≡ not b → g ≤ slackBy s a x pu pv d) → Held d (weightOf s) x (readingOf s) (fallen a g pu) (fallen b g pv) (lowOf s) (highOf s)
 held-kept true true s x pu pv d g h hu hv c =
@@ -51,7 +51,7 @@ held-kept false true s x pu pv d g h hu hv c =
     record { low = λ o. omega (arith, h .low o, hv refl, c refl, slack-open false s x pu pv d o); high = λ o. omega (arith, h .high o, hv refl) }
 held-kept false false s x pu pv d g h hu hv c = h
 
--- The slack after both prices fell alike, and after the visited end's fell by it.
+-- The slack after both potentials fell alike, and after the visited end's fell by it.
 slack-both : (b : Bool) (s : Stream) (x pu pv d g : ℕ) → g ≤ pu → g ≤ pv → slackBy s b x pu pv d ≡ 0 → slackBy s b x (pu - g) (pv - g) d ≡ 0
 slack-both b s x pu pv d g hu hv e = go b (open-of b s x pu pv d (omega arith)) e
   where
@@ -90,7 +90,7 @@ marginals s x d light step modest = by-cases (s .metered) (λ m. some m (modest 
         let e : weightOf s * d ≤ maxWeight * mostStep = mul-le-mul light step in
         (omega (arith, a, e), omega (arith, b, e))
 
--- How large the slack of an open stream is, by the prices of the ends; and one without slack: its ends' prices are within mostMarginal of
+-- How large the slack of an open stream is, by the potentials of the ends; and one without slack: its ends' potentials are within mostMarginal of
 -- each other.
 pub slack-rise : (f : Bool) (s : Stream) (x pu pv d : ℕ) → Held d (weightOf s) x (readingOf s) pu pv (lowOf s) (highOf s) → weightOf s ≤ maxWeight → d ≤ mostStep → Modest s x
     → Open s f x d → slackBy s f x pu pv d + pick f pv pu ≤ pick f pu pv + mostMarginal
@@ -116,7 +116,7 @@ reached-set : (root : ℕ) (ends : List ℕ) (m e j v : ℕ) → j ≤ m → rea
 reached-set root ends m e zero v l = refl
 reached-set root ends m e (suc j) v l = rw (getD-set-other ends m j e 0 (λ q. omega arith), reached-set root ends m e j v (omega arith))
 
--- What holds of a tree and prices during a search.
+-- What holds of a tree and potentials during a search.
 pub record Growing (n : ℕ) (ss : List Stream) (xs : List ℕ) (d root : ℕ) (ps : List ℕ) (t : Tree) : Type 0 where
   pub held : AllHeld ss xs ps d
   pub visits : length (t .visited) ≡ places
@@ -126,7 +126,7 @@ pub record Growing (n : ℕ) (ss : List Stream) (xs : List ℕ) (d root : ℕ) (
   pub links : (k : ℕ) → k < t .len → Link ss xs ps d root (t .via) (t .ends) k
   pub counted : countTo n (λ v. getD (t .visited) v false) ≡ suc (t .len)
 
--- Any two visited places have prices within mostMarginal of each other for each place visited after the first.
+-- Any two visited places have potentials within mostMarginal of each other for each place visited after the first.
 abbrev pub Level : List ℕ → Tree → Type 0
 Level ps t = (u v : ℕ) → u < places → v < places → getD (t .visited) u false ≡ true → getD (t .visited) v false ≡ true
     → getD ps u 0 ≤ getD ps v 0 + mostMarginal * t .len
@@ -168,7 +168,7 @@ module _ (n : ℕ) (ss : List Stream) (plain : Plain n ss) (xs : List ℕ) (d ro
   pub modest : Moderate ss xs → (k : ℕ) → k < length ss → Modest (streamAt ss k) (getD xs k 0)
   modest moderate k l m = (moderate k l m, plain .read k l m)
 
-  -- The prices are lowered.
+  -- The potentials are lowered.
   pub lower-growing : (ps : List ℕ) (t : Tree) (g : ℕ) → Growing n ss xs d root ps t → ((u : ℕ) → u < places → getD (t .visited) u false ≡ true → g ≤ getD ps u 0)
       → ((k : ℕ) → k < length ss → startIn ss (t .visited) k ≡ not (endIn ss (t .visited) k) → g ≤ slackAt ss xs ps d k (startIn ss (t .visited) k))
       → Growing n ss xs d root (loweredBy (t .visited) g ps) t

@@ -26,11 +26,11 @@ module _ (streams : List Stream) (n : ℕ) (w : Network streams n) where
   ss = take n streams
 
   module _ (h : Hint) (r : Ready ss h) where
-    pub ready-settles : Settles streams n (h .prices)
-    ready-settles = record { network = w; prices = r .start .capped }
+    pub ready-settles : Settles streams n (h .potentials)
+    ready-settles = record { network = w; potentials = r .start .capped }
 
     -- Every amount can be held: in range where the stream is in use, as the hint has it past those.
-    held : (k : ℕ) → k < maxStreams → getD (settledTo ss (h .prices) (h .flows) (length ss)) k 0 ≤ mostFlow
+    held : (k : ℕ) → k < maxStreams → getD (settledTo ss (h .potentials) (h .flows) (length ss)) k 0 ≤ mostFlow
     held k l = elim (decLe (length ss) k) [
       | yes q ↦ omega (arith, settled-free ss (solvable-of streams n w) h (r .size) (r .start) k (past k q), r .start .unmetered k l (past k q) .0, r .start .within)
       | no q ↦ settled-most ss (solvable-of streams n w) h (r .size) (r .start) k (omega arith)
@@ -39,19 +39,19 @@ module _ (streams : List Stream) (n : ℕ) (w : Network streams n) where
         past : (k : ℕ) → length ss ≤ k → streamAt ss k .metered ≡ false
         past k q = ap (λ (s : Stream). s .metered) (List·getD-eq-default ss noStream q)
 
-    pub ready-amounts : Amounts (settledTo ss (h .prices) (h .flows) n)
-    ready-amounts k l = subst (λ (m : ℕ). getD (settledTo ss (h .prices) (h .flows) m) k 0 ≤ mostFlow) (in-use streams n w) (held k l)
+    pub ready-amounts : Amounts (settledTo ss (h .potentials) (h .flows) n)
+    ready-amounts k l = subst (λ (m : ℕ). getD (settledTo ss (h .potentials) (h .flows) m) k 0 ≤ mostFlow) (in-use streams n w) (held k l)
 
     -- The nets of the settled state are in range.
     pub ready-around : Around (settled ss h .nets) netRoom
     ready-around =
         around-more
-        (nets-around ss (settledTo ss (h .prices) (h .flows) (length ss)) (length ss) (solvable-of streams n w .plain .few) (solvable-of streams n w .plain .inside)
+        (nets-around ss (settledTo ss (h .potentials) (h .flows) (length ss)) (length ss) (solvable-of streams n w .plain .few) (solvable-of streams n w .plain .inside)
         (λ k l. held k (omega (arith, solvable-of streams n w .plain .few))))
         netRoom (omega (arith, solvable-of streams n w .plain .few))
 
   pub settled-is : (h : Hint) → settled ss h
-      ≡ record { flows = settledTo ss (h .prices) (h .flows) n; prices = h .prices; nets = netsTo ss (settledTo ss (h .prices) (h .flows) n) n }
+      ≡ record { flows = settledTo ss (h .potentials) (h .flows) n; potentials = h .potentials; nets = netsTo ss (settledTo ss (h .potentials) (h .flows) n) n }
   settled-is h = rw (in-use streams n w)
 
   -- Nets of a state that is settled at a hint are in range.
@@ -67,8 +67,8 @@ module _ (streams : List Stream) (n : ℕ) (w : Network streams n) where
   level-at ps h i l e = record {
     within = p;
     metered = e;
-    price-u = h .prices _ (omega (arith, p .from-in));
-    price-v = h .prices _ (omega (arith, p .to-in));
+    potential-u = h .potentials _ (omega (arith, p .from-in));
+    potential-v = h .potentials _ (omega (arith, p .to-in));
   }
     where
       p : WithinStream maxUnits (getD streams i noStream)

@@ -1,4 +1,4 @@
--- Settled amounts: the step condition holds at 1, whatever the prices, and amounts are in range; what is over rises little.
+-- Settled amounts: the step condition holds at 1, whatever the potentials, and amounts are in range; what is over rises little.
 use mathlib.Core.Path.{_≡_, refl, sym, _∙_, ap, subst}
 use mathlib.Core.Bool.{Bool, true, false}
 use mathlib.Core.List.{List}
@@ -116,7 +116,7 @@ settled-held s pu pv l = record {
         → pv + 2 * weightOf s * readingOf s ≤ 2 * weightOf s * settledOf s pu pv + weightOf s * 1 + pu
     high h = omega (arith, nearest-high w R pu pv l, mul-le-mul-left w h)
 
--- Two amounts in one range, held at d and at 1 by the same prices, differ by at most d.
+-- Two amounts in one range, held at d and at 1 by the same potentials, differ by at most d.
 module _ (d w X Y R u v L H : ℕ) (l : 1 ≤ w) (a : Held d w X R u v L H) (b : Held 1 w Y R u v L H) (i : (L ≤ X) × (X ≤ H)) (j : (L ≤ Y) × (Y ≤ H)) where
   pub near-above : Y ≤ X + d
   near-above = elim (decLe Y (X + d)) [ yes k ↦ k | no k ↦ absurd (far (omega arith)) ]
@@ -189,10 +189,10 @@ sound-over ss d b st h =
 -- The settled state.
 module _ (ss : List Stream) (v : Solvable ss) (h : Hint) (b : ℕ) (s : Start ss b h) where
   abbrev ps : List ℕ
-  ps = h .prices
+  ps = h .potentials
 
   abbrev pub ys : List ℕ
-  ys = settledTo ss (h .prices) (h .flows) (length ss)
+  ys = settledTo ss (h .potentials) (h .flows) (length ss)
 
   at : (k : ℕ) → k < length ss
       → getD ys k 0 ≡ pick (streamAt ss k .metered) (settledOf (streamAt ss k) (getD ps (streamAt ss k .from) 0) (getD ps (streamAt ss k .to) 0)) (getD (h .flows) k 0)
@@ -205,10 +205,10 @@ module _ (ss : List Stream) (v : Solvable ss) (h : Hint) (b : ℕ) (s : Start ss
       t = streamAt ss k
 
       pu : ℕ
-      pu = getD (h .prices) (streamAt ss k .from) 0
+      pu = getD (h .potentials) (streamAt ss k .from) 0
 
       pv : ℕ
-      pv = getD (h .prices) (streamAt ss k .to) 0
+      pv = getD (h .potentials) (streamAt ss k .to) 0
 
       X : ℕ
       X = settledOf (streamAt ss k) pu pv
@@ -243,7 +243,7 @@ module _ (ss : List Stream) (v : Solvable ss) (h : Hint) (b : ℕ) (s : Start ss
     inside = λ k l. settled-one k l .1;
     agreed = s .agree;
     long = settled-long ss ps (h .flows) (length ss) ∙ s .long;
-    priced = s .priced;
+    per-place = s .per-place;
     netted = nets-around ss ys (length ss) (v .plain .few) (v .plain .inside) settled-most .long;
     nets = settled-nets;
     floor = s .floor;
@@ -264,7 +264,7 @@ start-more ss b c h s l m = record {
   agree = s .agree;
   floor = s .floor;
   capped = s .capped;
-  priced = s .priced;
+  per-place = s .per-place;
   long = s .long;
   unmetered = λ k o e. (omega (arith, s .unmetered k o e .0), omega (arith, s .unmetered k o e .1));
   within = m;
@@ -277,7 +277,7 @@ module _ (ss : List Stream) (v : Solvable ss) (d b : ℕ) (st : State) (h : Soun
     agree = h .agreed;
     floor = h .floor;
     capped = h .capped;
-    priced = h .priced;
+    per-place = h .per-place;
     long = h .long;
     unmetered = h .close;
     within = within;

@@ -151,7 +151,7 @@ module _ (ss : List Stream) (v : Solvable ss) where
         none = λ e u m. omega (arith, a .small e u m);
       }
 
--- Amounts and prices before the phase at step 2^n, the unmetered amounts of size t at most.
+-- Amounts and potentials before the phase at step 2^n, the unmetered amounts of size t at most.
 pub record Stage (ss : List Stream) (n t : ℕ) (h : Hint) : Type 0 where
   pub start : Start ss t h
   pub over : overSum (settled ss h .nets) + 2 * maxStreams * 2 ^ n ≤ mostOver

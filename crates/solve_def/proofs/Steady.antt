@@ -141,7 +141,7 @@ module _ (es : List ℕ) (s v d : ℕ) (ls : s < length es) (lv : v < length es)
       kept : getD (shiftedNets es s v d) u 0 + pick (eqb s u) d 0 ≡ getD es u 0 + 0 → getD (shiftedNets es s v d) u 0 ≤ getD es u 0
       kept h = omega (arith, h)
 
--- A state: its nets by value, prices that agree by the step condition, and amounts that have room.
+-- A state: its nets by value, potentials that agree by the step condition, and amounts that have room.
 module _ (ss : List Stream) (v : Solvable ss) (d b : ℕ) (step : Step d) (st : State) (h : Sound ss d b st) (fits : b ≤ settledRoom) where
   pub nets-val : (u : ℕ) → u < places → up (net ss (st .flows) u) + netShift ≡ getD (st .nets) u 0 + dn (net ss (st .flows) u)
   nets-val u l = rw (h .nets u l) (omega (arith, minus-val (pos (getD (st .nets) u 0)) (pos netShift)))
@@ -192,19 +192,19 @@ module _ (ss : List Stream) (v : Solvable ss) (d b : ℕ) (step : Step d) (st : 
   values = nets-val ss v d b step st h (omega arith)
 
   -- The search finds a place with a negative net, or is stuck.
-  pub finds : Hunt maxUnits ss (st .flows) (st .nets) d s (st .prices) (sought ss (st .flows) (st .nets) (st .prices) d s)
+  pub finds : Hunt maxUnits ss (st .flows) (st .nets) d s (st .potentials) (sought ss (st .flows) (st .nets) (st .potentials) d s)
   finds =
       hunt maxUnits ss (v .plain) (st .flows) (st .nets) d (step .1) s (omega arith) (λ k l. sound-room ss v d b step st h (omega arith) k l .0) moderate
-      (st .prices) (h .capped) (h .floor) (h .held) (omega arith)
+      (st .potentials) (h .capped) (h .floor) (h .held) (omega arith)
 
-  pushed-better : (g : Grown) → Found maxUnits ss (st .flows) (st .nets) d s (st .prices) g → Better ss d b s st (pushedOn ss st d s g)
+  pushed-better : (g : Grown) → Found maxUnits ss (st .flows) (st .nets) d s (st .potentials) g → Better ss d b s st (pushedOn ss st d s g)
   pushed-better g r = record {
     sound = record {
       held = floors .held;
       inside = p .inside (h .inside);
       agreed = floors .agreed;
       long = p .long ∙ h .long;
-      priced = floors .priced;
+      per-place = floors .per-place;
       netted = shifted-long es s w d lls llw ne over (r .negative) ∙ h .netted;
       nets = λ u l. net-value (net ss ys u) (getD (shiftedNets es s w d) u 0) (omega (arith, values u l, p .nets u, shifted-at es s w d lls llw ne over (r .negative) u));
       floor = floors .floor;
@@ -246,9 +246,9 @@ module _ (ss : List Stream) (v : Solvable ss) (d b : ℕ) (step : Step d) (st : 
           let q : g .tree .len ≡ suc (g .tree .len - 1) = omega (arith, r .some) in
           subst (λ (j : ℕ). reached s (g .tree .ends) j w ≡ true) (sym q) (reached-new s (g .tree .ends) (g .tree .len - 1))
 
-      p : Pushed ss (st .flows) (pushed ss (g .tree .via) (g .tree .ends) d (g .tree .len) w (st .flows)) (g .prices) d w s (g .tree .via) (g .tree .len)
+      p : Pushed ss (st .flows) (pushed ss (g .tree .via) (g .tree .ends) d (g .tree .len) w (st .flows)) (g .potentials) d w s (g .tree .via) (g .tree .len)
       p =
-          push-good ss (g .prices) d s (g .tree .via) (g .tree .ends) (g .tree .len) w (st .flows) (omega (arith, h .long, v .plain .few)) (r .grown .held)
+          push-good ss (g .potentials) d s (g .tree .via) (g .tree .ends) (g .tree .len) w (st .flows) (omega (arith, h .long, v .plain .few)) (r .grown .held)
           (r .grown .links) reach
 
       -- Amounts move by d at most: they are moderate still, and unmetered ones have room.
@@ -261,15 +261,15 @@ module _ (ss : List Stream) (v : Solvable ss) (d b : ℕ) (step : Step d) (st : 
           let r = h .close k (omega (arith, v .plain .few)) e in
           (omega (arith, r .1, p .least k, step .1, fits), omega (arith, r .0, p .most k, step .1, fits))
 
-      floors : Floors ss ys d (pushedOn ss st d s g .prices)
+      floors : Floors ss ys d (pushedOn ss st d s g .potentials)
       floors =
-          refloored-floors ss v ys (g .prices) d (step .1) still (r .long ∙ h .priced) (λ u l. omega (arith, h .capped u l, r .rise u)) (p .held)
-          (held-agreed ss v ys (g .prices) d roomy (p .held))
+          refloored-floors ss v ys (g .potentials) d (step .1) still (r .long ∙ h .per-place) (λ u l. omega (arith, h .capped u l, r .rise u)) (p .held)
+          (held-agreed ss v ys (g .potentials) d roomy (p .held))
 
   pub improved-good : Outcome ss d b s st (improvedAt ss st d s)
-  improved-good = go (sought ss (st .flows) (st .nets) (st .prices) d s) finds
+  improved-good = go (sought ss (st .flows) (st .nets) (st .potentials) d s) finds
     where
-      go : (g : Grown) → Hunt maxUnits ss (st .flows) (st .nets) d s (st .prices) g
+      go : (g : Grown) → Hunt maxUnits ss (st .flows) (st .nets) d s (st .potentials) g
           → Outcome ss d b s st (improvedBy (g .found) (pick (g .found) (pushedOn ss st d s g) st) (g .tree .visited))
       go g (hit e f) = rw e (better refl (pushed-better g f))
       go g (stuck e f) = rw e (jammed refl refl f)

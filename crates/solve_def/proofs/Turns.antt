@@ -17,7 +17,7 @@ use Rattle.solve_def.specs.declared.Tree.{Tree}
 use Rattle.solve_def.specs.declared.State.{State}
 use Rattle.solve_def.specs.Sizes.{netShift, settledRoom}
 use Rattle.solve_def.specs.Search.{target, Grown, grownBy, sought}
-use Rattle.solve_def.specs.SearchNeeds.{Network, Prices, Close, Trail, Roomy}
+use Rattle.solve_def.specs.SearchNeeds.{Network, Potentials, Close, Trail, Roomy}
 use Rattle.solve_def.specs.Model.{improvedBy, settledOf, settledTo, booked, netsTo, pushedOn, improvedAt, overSum}
 use Rattle.solve_def.specs.SolverNeeds.{Step, Shiftable, Underway}
 use Rattle.solve_def.proofs.Counting.{count-most}
@@ -33,22 +33,22 @@ set-le e s y v b l h k = elim (ℕ-discrete v s) [
 ]
 
 -- An improvement by its parts.
-module _ (ss : List Stream) (st : State) (d s : ℕ) (found : Bool) (t : Tree) (ps : List ℕ) (e : grownBy found t ps ≡ sought ss (st .flows) (st .nets) (st .prices) d s) where
+module _ (ss : List Stream) (st : State) (d s : ℕ) (found : Bool) (t : Tree) (ps : List ℕ) (e : grownBy found t ps ≡ sought ss (st .flows) (st .nets) (st .potentials) d s) where
   pub improved-is : improvedAt ss st d s ≡ improvedBy found (pick found (pushedOn ss st d s (grownBy found t ps)) st) (t .visited)
   improved-is = rw (← e)
 
   pub improved-done : found ≡ true → improvedAt ss st d s ≡ improvedBy found (pushedOn ss st d s (grownBy found t ps)) (t .visited)
   improved-done f = improved-is ∙ ap (λ (b : Bool). improvedBy found (pick b (pushedOn ss st d s (grownBy found t ps)) st) (t .visited)) f
 
-  -- Where none can be made, the prices stay.
-  pub improved-none : found ≡ false → (ps ≡ st .prices) × (improvedAt ss st d s ≡ improvedBy found st (t .visited))
+  -- Where none can be made, the potentials stay.
+  pub improved-none : found ≡ false → (ps ≡ st .potentials) × (improvedAt ss st d s ≡ improvedBy found st (t .visited))
   improved-none f = (
-    kept (sought-stays ss (st .flows) (st .nets) (st .prices) d s),
+    kept (sought-stays ss (st .flows) (st .nets) (st .potentials) d s),
     improved-is ∙ ap (λ (b : Bool). improvedBy found (pick b (pushedOn ss st d s (grownBy found t ps)) st) (t .visited)) f,
   )
     where
-      kept : (sought ss (st .flows) (st .nets) (st .prices) d s .found ≡ false → sought ss (st .flows) (st .nets) (st .prices) d s .prices ≡ st .prices) → ps ≡ st .prices
-      kept h = ap (λ (g : Grown). g .prices) e ∙ h (ap (λ (g : Grown). g .found) (sym e) ∙ f)
+      kept : (sought ss (st .flows) (st .nets) (st .potentials) d s .found ≡ false → sought ss (st .flows) (st .nets) (st .potentials) d s .potentials ≡ st .potentials) → ps ≡ st .potentials
+      kept h = ap (λ (g : Grown). g .potentials) e ∙ h (ap (λ (g : Grown). g .found) (sym e) ∙ f)
 
 -- What is known once the search is done.
 pub record Moving (n : ℕ) (st : State) (s d : ℕ) (t : Tree) : Type 0 where
@@ -66,8 +66,8 @@ module _ (streams : List Stream) (n : ℕ) (w : Network streams n) (st : State) 
   room : h .size + d ≤ settledRoom
   room = underway-room ss d settledRoom st step h s l over
 
-  pub moving : (t : Tree) (ps : List ℕ) → grownBy true t ps ≡ sought (take n streams) (st .flows) (st .nets) (st .prices) d s → Moving n st s d t
-  moving t ps q = go (subst (Hunt maxUnits ss (st .flows) (st .nets) d s (st .prices)) (sym q) (finds ss (solvable-of streams n w) d (h .size) step st (h .sound) room s l over))
+  pub moving : (t : Tree) (ps : List ℕ) → grownBy true t ps ≡ sought (take n streams) (st .flows) (st .nets) (st .potentials) d s → Moving n st s d t
+  moving t ps q = go (subst (Hunt maxUnits ss (st .flows) (st .nets) d s (st .potentials)) (sym q) (finds ss (solvable-of streams n w) d (h .size) step st (h .sound) room s l over))
     where
       size : (u : ℕ) → getD (st .nets) u 0 ≤ 2 * netShift
       size u = omega (arith, over-at (st .nets) u, h .sound .over)
@@ -75,7 +75,7 @@ module _ (streams : List Stream) (n : ℕ) (w : Network streams n) (st : State) 
       close : (k : ℕ) → k < maxStreams → Close settledRoom (getD (st .flows) k 0)
       close = sound-close ss (solvable-of streams n w) d (h .size) step st (h .sound) (omega (arith, room))
 
-      go : Hunt maxUnits ss (st .flows) (st .nets) d s (st .prices) (grownBy true t ps) → Moving n st s d t
+      go : Hunt maxUnits ss (st .flows) (st .nets) d s (st .potentials) (grownBy true t ps) → Moving n st s d t
       go (stuck f m) = clash true refl f
       go (hit f m) = record {
         some = m .some;
@@ -100,13 +100,13 @@ module _ (streams : List Stream) (n : ℕ) (w : Network streams n) (st : State) 
           short : t .len < places
           short = omega (arith, m .grown .counted, count-most maxUnits (λ v. getD (t .visited) v false))
 
-  -- The prices after the search are held, for closing.
-  pub found-prices : (t : Tree) (ps : List ℕ) → grownBy true t ps ≡ sought (take n streams) (st .flows) (st .nets) (st .prices) d s → Prices ps × (length ps ≡ places)
-  found-prices t ps q = go (subst (Hunt maxUnits ss (st .flows) (st .nets) d s (st .prices)) (sym q) (finds ss (solvable-of streams n w) d (h .size) step st (h .sound) room s l over))
+  -- The potentials after the search are held, for closing.
+  pub found-potentials : (t : Tree) (ps : List ℕ) → grownBy true t ps ≡ sought (take n streams) (st .flows) (st .nets) (st .potentials) d s → Potentials ps × (length ps ≡ places)
+  found-potentials t ps q = go (subst (Hunt maxUnits ss (st .flows) (st .nets) d s (st .potentials)) (sym q) (finds ss (solvable-of streams n w) d (h .size) step st (h .sound) room s l over))
     where
-      go : Hunt maxUnits ss (st .flows) (st .nets) d s (st .prices) (grownBy true t ps) → Prices ps × (length ps ≡ places)
+      go : Hunt maxUnits ss (st .flows) (st .nets) d s (st .potentials) (grownBy true t ps) → Potentials ps × (length ps ≡ places)
       go (stuck f m) = clash true refl f
-      go (hit f m) = (λ u o. omega (arith, h .sound .capped u o, m .rise u), m .long ∙ h .sound .priced)
+      go (hit f m) = (λ u o. omega (arith, h .sound .capped u o, m .rise u), m .long ∙ h .sound .per-place)
 
 -- Settling, one stream of the array.
 module _ (streams : List Stream) (n : ℕ) (ps xs : List ℕ) (i : ℕ) (l : i < n) where

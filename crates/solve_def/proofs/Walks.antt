@@ -1,4 +1,4 @@
--- A walk by distances visits the places that the search visits, over the same streams, and leaves the same prices.
+-- A walk by distances visits the places that the search visits, over the same streams, and leaves the same potentials.
 use mathlib.Core.Path.{_≡_, refl, sym, _∙_}
 use mathlib.Core.Bool.{Bool, true, false, not, true≢false, false≢true}
 use mathlib.Core.List.{List}
@@ -26,7 +26,7 @@ code-parts k i l =
     let m : (k * 128 + i) % 128 < 128 = mod-lt (k * 128 + i) (omega arith) in
     (omega (arith, q, m), omega (arith, q, m))
 
--- Prices after the distance grew to j and place r was visited at it.
+-- Potentials after the distance grew to j and place r was visited at it.
 pub reduced-next : (ls : List Bool) (ks ps : List ℕ) (k j r : ℕ) → k ≤ j → ((u : ℕ) → getD ks u 0 ≤ k) → r < length ls → r < length ks → getD ls r false ≡ false
     → loweredBy ls (j - k) (reducedBy ls ks k ps) ≡ reducedBy (set ls r true) (set ks r j) j ps
 reduced-next ls ks ps k j r l close small short off =

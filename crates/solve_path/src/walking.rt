@@ -98,14 +98,14 @@ fn searched_by(found: bool, t: Tree) -> Searched
 fn step(
     arcs: &[u8; ARCS],
     margins: &[u64; MARGINS],
-    prices: &[u64; PLACES],
+    potentials: &[u64; PLACES],
     at: Spot,
     near: &mut [u64; PLACES],
 ) -> Spot
-    requires { ⌜ Ways (now arcs) (now margins) (now prices) × (at .place < places) × (at .distance < farthest) × (length (now near) ≡ places) × ((vs : List Bool) × Coded vs (now near) (at .fringe)) ⌝ }
-    ensures { λ r. ⌜ (length (now (near .exit)) ≡ places) × ((vs : List Bool) → length vs ≡ places → Coded vs (now (near .entry)) (at .fringe) → Paced (now (arcs .entry)) (now (margins .entry)) (now (prices .entry)) (at .distance) (at .place) (now (near .entry)) (now (near .exit)) r vs) ⌝ }
+    requires { ⌜ Ways (now arcs) (now margins) (now potentials) × (at .place < places) × (at .distance < farthest) × (length (now near) ≡ places) × ((vs : List Bool) × Coded vs (now near) (at .fringe)) ⌝ }
+    ensures { λ r. ⌜ (length (now (near .exit)) ≡ places) × ((vs : List Bool) → length vs ≡ places → Coded vs (now (near .entry)) (at .fringe) → Paced (now (arcs .entry)) (now (margins .entry)) (now (potentials .entry)) (at .distance) (at .place) (now (near .entry)) (now (near .exit)) r vs) ⌝ }
 {
-    let fringe = relax(arcs, margins, prices, at, near);
+    let fringe = relax(arcs, margins, potentials, at, near);
     let e = nearest(near, fringe);
     if e == PLACES {
         return Spot {
@@ -129,12 +129,12 @@ fn step(
 pub fn walk(
     arcs: &[u8; ARCS],
     margins: &[u64; MARGINS],
-    prices: &[u64; PLACES],
+    potentials: &[u64; PLACES],
     nets: &[u64; PLACES],
     s: usize,
 ) -> Walked
-    requires { ⌜ Ways (now arcs) (now margins) (now prices) × (s < places) ⌝ }
-    ensures { λ r. ⌜ r ≡ walked (startsOf (now (arcs .entry))) (endsOf (now (arcs .entry))) (reducedCosts (now (arcs .entry)) (now (margins .entry)) (now (prices .entry)) true) (reducedCosts (now (arcs .entry)) (now (margins .entry)) (now (prices .entry)) false) (countOf (now (arcs .entry))) (now (nets .entry)) far searchRounds 0 s (replicate places 0) (replicate places far) (rootAt s) ⌝ }
+    requires { ⌜ Ways (now arcs) (now margins) (now potentials) × (s < places) ⌝ }
+    ensures { λ r. ⌜ r ≡ walked (startsOf (now (arcs .entry))) (endsOf (now (arcs .entry))) (reducedCosts (now (arcs .entry)) (now (margins .entry)) (now (potentials .entry)) true) (reducedCosts (now (arcs .entry)) (now (margins .entry)) (now (potentials .entry)) false) (countOf (now (arcs .entry))) (now (nets .entry)) far searchRounds 0 s (replicate places 0) (replicate places far) (rootAt s) ⌝ }
 {
     let mut at = first(s);
     let mut t = bare();
@@ -144,7 +144,7 @@ pub fn walk(
     t.visited[s] = true;
     near[s] = 0;
     while 0 < left {
-        at = step(arcs, margins, prices, at, &mut near);
+        at = step(arcs, margins, potentials, at, &mut near);
         let e = at.place;
         if e == PLACES {
             return walked_by(false, t, dist, at.distance);
@@ -167,12 +167,12 @@ pub fn walk(
 pub fn tight_walk(
     arcs: &[u8; ARCS],
     margins: &[u64; MARGINS],
-    prices: &[u64; PLACES],
+    potentials: &[u64; PLACES],
     s: usize,
     v: usize,
 ) -> Searched
-    requires { ⌜ Ways (now arcs) (now margins) (now prices) × (s < places) × (v < places) ⌝ }
-    ensures { λ r. ⌜ Tightly (walked (startsOf (now (arcs .entry))) (endsOf (now (arcs .entry))) (reducedCosts (now (arcs .entry)) (now (margins .entry)) (now (prices .entry)) true) (reducedCosts (now (arcs .entry)) (now (margins .entry)) (now (prices .entry)) false) (countOf (now (arcs .entry))) (goalAt v) 0 searchRounds 0 s (replicate places 0) (replicate places far) (rootAt s)) r ⌝ }
+    requires { ⌜ Ways (now arcs) (now margins) (now potentials) × (s < places) × (v < places) ⌝ }
+    ensures { λ r. ⌜ Tightly (walked (startsOf (now (arcs .entry))) (endsOf (now (arcs .entry))) (reducedCosts (now (arcs .entry)) (now (margins .entry)) (now (potentials .entry)) true) (reducedCosts (now (arcs .entry)) (now (margins .entry)) (now (potentials .entry)) false) (countOf (now (arcs .entry))) (goalAt v) 0 searchRounds 0 s (replicate places 0) (replicate places far) (rootAt s)) r ⌝ }
 {
     let mut at = first(s);
     let mut t = bare();
@@ -181,7 +181,7 @@ pub fn tight_walk(
     t.visited[s] = true;
     near[s] = 0;
     while 0 < left {
-        at = step(arcs, margins, prices, at, &mut near);
+        at = step(arcs, margins, potentials, at, &mut near);
         let e = at.place;
         if e == PLACES {
             return searched_by(false, t);

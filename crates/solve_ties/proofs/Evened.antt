@@ -56,7 +56,7 @@ tie-searching ls rs ms ps i skip xs w l m = record {
       network = w .network;
       step = omega arith;
       amounts = λ k b. omega (arith, w .even .close k (omega (arith, w .network .within .few-streams)) .0, w .network .within .few-streams, l);
-      prices = w .prices;
+      potentials = w .potentials;
     };
     held = w .even .held;
     moderate = λ k b e. let o = w .even .moderate k b e in (omega (arith, o .0, w .network .within .few-streams, l), omega (arith, o .1, w .network .within .few-streams, l));

@@ -1,9 +1,9 @@
--- Streams that arcs and rows are of, prices, and a flow before the tie pass comes to stream i.
+-- Streams that arcs and rows are of, potentials, and a flow before the tie pass comes to stream i.
 use mathlib.Core.List.{List}
 use Prim.Native.Nat.{ℕ, _<_}
 use lib.ListN.{take}
 use Rattle.plant_def.specs.declared.Stream.{Stream}
-use Rattle.solve_def.specs.SearchNeeds.{Network, Prices}
+use Rattle.solve_def.specs.SearchNeeds.{Network, Potentials}
 use Rattle.solve_def.specs.SolverNeeds.{Even, Falls}
 use Rattle.solve_arcs.specs.ArcNeeds.{Laid}
 
@@ -12,7 +12,7 @@ pub record Tieable (ls rs ps : List ℕ) (i : ℕ) (xs : List ℕ) : Type 0 wher
   pub n : ℕ
   pub network : Network streams n
   pub laid : Laid streams n ls rs
-  pub prices : Prices ps
+  pub potentials : Potentials ps
   pub even : Even (take n streams) ps i xs
 
 -- Where it can fall at no cost.

@@ -29,16 +29,16 @@ fn can_fall(
     arcs: &[u8; ARCS],
     rows: &[u64; ROWS],
     margins: &[u64; MARGINS],
-    prices: &[u64; PLACES],
+    potentials: &[u64; PLACES],
     i: usize,
 ) -> bool
-    requires { ⌜ Ways (now arcs) (now margins) (now prices) × (i < countOf (now arcs)) ⌝ }
-    ensures { λ r. ⌜ r ≡ (ltb 0 (getD (now (rows .entry)) (4 * i) 0) && eqb (getD (reducedCosts (now (arcs .entry)) (now (margins .entry)) (now (prices .entry)) false) i 0) 0) ⌝ }
+    requires { ⌜ Ways (now arcs) (now margins) (now potentials) × (i < countOf (now arcs)) ⌝ }
+    ensures { λ r. ⌜ r ≡ (ltb 0 (getD (now (rows .entry)) (4 * i) 0) && eqb (getD (reducedCosts (now (arcs .entry)) (now (margins .entry)) (now (potentials .entry)) false) i 0) 0) ⌝ }
 {
     if 0 < rows[4 * i] {
         let u = end_at(arcs, 2 * i);
         let v = end_at(arcs, 2 * i + 1);
-        reduced_cost(margins[2 * i], prices[v], prices[u]) == 0
+        reduced_cost(margins[2 * i], potentials[v], potentials[u]) == 0
     } else {
         false
     }
@@ -60,15 +60,15 @@ fn tie_at(
     rows: &[u64; ROWS],
     margins: &mut [u64; MARGINS],
     flows: &mut [u64; MAX_STREAMS],
-    prices: &[u64; PLACES],
+    potentials: &[u64; PLACES],
     i: usize,
 )
-    requires { ⌜ Tying (now arcs) (now rows) (now prices) i (now flows) × Margined (countOf (now arcs)) (now rows) (now flows) 1 (i + 1) (now margins) ⌝ }
-    ensures { λ _. ⌜ ((w : Tying (now (arcs .entry)) (now (rows .entry)) (now (prices .entry)) i (now (flows .entry))) → now (flows .exit) ≡ tiedAt (take (w .tieable .n) (w .tieable .streams)) (now (prices .entry)) i (now (flows .entry))) × Margined (countOf (now (arcs .entry))) (now (rows .entry)) (now (flows .exit)) 1 (i + 1) (now (margins .exit)) ⌝ }
+    requires { ⌜ Tying (now arcs) (now rows) (now potentials) i (now flows) × Margined (countOf (now arcs)) (now rows) (now flows) 1 (i + 1) (now margins) ⌝ }
+    ensures { λ _. ⌜ ((w : Tying (now (arcs .entry)) (now (rows .entry)) (now (potentials .entry)) i (now (flows .entry))) → now (flows .exit) ≡ tiedAt (take (w .tieable .n) (w .tieable .streams)) (now (potentials .entry)) i (now (flows .entry))) × Margined (countOf (now (arcs .entry))) (now (rows .entry)) (now (flows .exit)) 1 (i + 1) (now (margins .exit)) ⌝ }
 {
     let u = end_at(arcs, 2 * i);
     let v = end_at(arcs, 2 * i + 1);
-    let h = tight_path(arcs, margins, prices, u, v);
+    let h = tight_path(arcs, margins, potentials, u, v);
     if !h.found {
         return;
     }
@@ -99,18 +99,18 @@ pub fn tie_all(
     rows: &[u64; ROWS],
     margins: &mut [u64; MARGINS],
     flows: &mut [u64; MAX_STREAMS],
-    prices: &[u64; PLACES],
+    potentials: &[u64; PLACES],
 )
-    requires { ⌜ Tieable (now arcs) (now rows) (now prices) 0 (now flows) × Margined (countOf (now arcs)) (now rows) (now flows) 1 0 (now margins) ⌝ }
-    ensures { λ _. ⌜ ((w : Tieable (now (arcs .entry)) (now (rows .entry)) (now (prices .entry)) 0 (now (flows .entry))) → now (flows .exit) ≡ tiesTo (take (w .n) (w .streams)) (now (prices .entry)) (w .n) (now (flows .entry))) ⌝ }
+    requires { ⌜ Tieable (now arcs) (now rows) (now potentials) 0 (now flows) × Margined (countOf (now arcs)) (now rows) (now flows) 1 0 (now margins) ⌝ }
+    ensures { λ _. ⌜ ((w : Tieable (now (arcs .entry)) (now (rows .entry)) (now (potentials .entry)) 0 (now (flows .entry))) → now (flows .exit) ≡ tiesTo (take (w .n) (w .streams)) (now (potentials .entry)) (w .n) (now (flows .entry))) ⌝ }
 {
     let n = count_of(arcs);
     let mut i: usize = 0;
     while i < n {
-        let falls = can_fall(arcs, rows, margins, prices, i);
+        let falls = can_fall(arcs, rows, margins, potentials, i);
         spare(rows, margins, i);
         if falls {
-            tie_at(arcs, rows, margins, flows, prices, i);
+            tie_at(arcs, rows, margins, flows, potentials, i);
         }
         i += 1;
     }

@@ -1,4 +1,4 @@
--- `solve_path::lower` meets its contract: the prices of the first u places are reduced.
+-- `solve_path::lower` meets its contract: the potentials of the first u places are reduced.
 use mathlib.Core.Path.{_≡_, refl, _∙_}
 use mathlib.Core.Bool.{Bool, true, false}
 use Prim.Native.Nat.{ℕ, _≤_, _-_}
@@ -14,10 +14,10 @@ use Rattle.solve_path.proofs.lower.Statement.{statement}
 use Rattle.solve_path.proofs.lower.Tie as tie
 
 abbrev Inv-loop : tie.InvT-loop
-Inv-loop prices₀ visited dist reach u₀ prices u = (u ≤ places) × Written 0 places (λ k x. fallen (getD visited k false) (reach - getD dist k 0) x) prices₀ prices u
+Inv-loop potentials₀ visited dist reach u₀ potentials u = (u ≤ places) × Written 0 places (λ k x. fallen (getD visited k false) (reach - getD dist k 0) x) potentials₀ potentials u
 
 abbrev μ-loop : tie.MeasureT-loop
-μ-loop prices₀ visited dist reach u₀ prices u = places - u
+μ-loop potentials₀ visited dist reach u₀ potentials u = places - u
 
 loop-holds : tie.Need-loop-holds Inv-loop μ-loop
 loop-holds c = (omega arith, written-none (c .pre))
@@ -43,11 +43,11 @@ element-copy-out-minus c = search needs
 minus-requires : tie.Need-minus-requires Inv-loop μ-loop
 minus-requires c κs = search needs
 
-mul-prices : tie.Need-mul-prices Inv-loop μ-loop
-mul-prices c = search needs
+mul-potentials : tie.Need-mul-potentials Inv-loop μ-loop
+mul-potentials c = search needs
 
-element-write-prices : tie.Need-element-write-prices Inv-loop μ-loop
-element-write-prices c = search needs
+element-write-potentials : tie.Need-element-write-potentials Inv-loop μ-loop
+element-write-potentials c = search needs
 
 add-u : tie.Need-add-u Inv-loop μ-loop
 add-u c = search needs
@@ -55,7 +55,7 @@ add-u c = search needs
 loop-less : tie.Need-loop-less Inv-loop μ-loop
 loop-less c = search needs
 
--- A price that falls, or not.
+-- A potential that falls, or not.
 fallen-by : (b : Bool) (g p : ℕ) → p - pick b g 0 ≡ fallen b g p
 fallen-by true g p = refl
 fallen-by false g p = omega arith
@@ -88,8 +88,8 @@ lower-spec =
     mul-minus
     element-copy-out-minus
     minus-requires
-    mul-prices
-    element-write-prices
+    mul-potentials
+    element-write-potentials
     add-u
     loop-less
     loop-again

@@ -19,17 +19,17 @@ use Rattle.solve_path.proofs.relax.Statement.{statement}
 use Rattle.solve_path.proofs.relax.Tie as tie
 
 abbrev Inv-loop : tie.InvT-loop
-Inv-loop arcs margins prices at near₀ e p fringe₀ arc₀ near fringe arc = Turn arcs margins prices (at .distance) (at .place) near₀ (at .fringe) near fringe arc
+Inv-loop arcs margins potentials at near₀ e p fringe₀ arc₀ near fringe arc = Turn arcs margins potentials (at .distance) (at .place) near₀ (at .fringe) near fringe arc
 
 abbrev μ-loop : tie.MeasureT-loop
-μ-loop arcs margins prices at near₀ e p fringe₀ arc₀ near fringe arc = leftOf arc
+μ-loop arcs margins potentials at near₀ e p fringe₀ arc₀ near fringe arc = leftOf arc
 
 -- The start, from the turn of the loop.
 abbrev start : tie.In-loop Inv-loop μ-loop → tie.Start Inv-loop μ-loop
 start c = c .before .before .before .before
 
 abbrev inv : (c : tie.In-loop Inv-loop μ-loop)
-    → Turn (start c .args .arcs .now) (start c .args .margins .now) (start c .args .prices .now) (start c .args .at .distance) (start c .args .at .place) (start c .args .near .now) (start c .args .at .fringe) (c .before .loop .near) (c .before .loop .fringe) (c .before .loop .arc)
+    → Turn (start c .args .arcs .now) (start c .args .margins .now) (start c .args .potentials .now) (start c .args .at .distance) (start c .args .at .place) (start c .args .near .now) (start c .args .at .fringe) (c .before .loop .near) (c .before .loop .fringe) (c .before .loop .arc)
 inv c = c .before .loop .inv
 
 mul-p : tie.Need-mul-p Inv-loop μ-loop
@@ -75,9 +75,9 @@ reduced-cost-requires c κs =
     let to = c .before .before in
     let on = to .before in
     let st = start on in (
-      margin-small _ (st .pre .0 .linked) _ (inv on .m) _ (inv on .few) (inv on .at) (on .loop-test .taken) (st .args .margins .now) (st .args .prices .now) (st .pre .0 .small),
-      st .pre .0 .prices _ (st .pre .1),
-      st .pre .0 .prices _ (end-in to),
+      margin-small _ (st .pre .0 .linked) _ (inv on .m) _ (inv on .few) (inv on .at) (on .loop-test .taken) (st .args .margins .now) (st .args .potentials .now) (st .pre .0 .small),
+      st .pre .0 .potentials _ (st .pre .1),
+      st .pre .0 .potentials _ (end-in to),
     )
 
 add-offer : tie.Need-add-offer Inv-loop μ-loop

@@ -16,10 +16,10 @@ use Rattle.solve_settle.proofs.settle_flows.Statement.{statement}
 use Rattle.solve_settle.proofs.settle_flows.Tie as tie
 
 abbrev Inv-loop : tie.InvT-loop
-Inv-loop arcs rows prices flows₀ n i₀ flows i = (i ≤ n) × ((w : Laying arcs rows) → flows ≡ settledTo (take (w .n) (w .streams)) prices flows₀ i)
+Inv-loop arcs rows potentials flows₀ n i₀ flows i = (i ≤ n) × ((w : Laying arcs rows) → flows ≡ settledTo (take (w .n) (w .streams)) potentials flows₀ i)
 
 abbrev μ-loop : tie.MeasureT-loop
-μ-loop arcs rows prices flows₀ n i₀ flows i = n - i
+μ-loop arcs rows potentials flows₀ n i₀ flows i = n - i
 
 -- The start, from a turn of the loop; the stream is in use.
 abbrev begin : tie.In-loop Inv-loop μ-loop → tie.Start Inv-loop μ-loop

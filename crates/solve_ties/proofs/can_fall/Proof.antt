@@ -66,14 +66,14 @@ reduced-cost-requires : tie.Need-reduced-cost-requires
 reduced-cost-requires c κs =
     let v = c .before .before .before in
     let st = v .before .before .before .before in
-    (small-back (st .args .arcs .now) (st .args .margins .now) (st .args .i) (st .pre .0 .small) (st .pre .1), st .pre .0 .prices _ (end-in v), st .pre .0 .prices _ (start-in (v .before)))
+    (small-back (st .args .arcs .now) (st .args .margins .now) (st .args .i) (st .pre .0 .small) (st .pre .1), st .pre .0 .potentials _ (end-in v), st .pre .0 .potentials _ (start-in (v .before)))
 
 returns : tie.Need-returns
 returns c =
     let v = c .before .before .before .before in
     let st = v .before .before .before .before in
     rw (lt-ltb 0 _ (v .before .before .if1 .taken), c .reduced-cost .ensures .0, v .end-at2 .ensures, v .before .end-at .ensures)
-    (sym (ap (λ (x : ℕ). eqb x 0) (slack-back (st .args .arcs .now) (st .args .margins .now) (st .args .prices .now) (st .args .i) (st .pre .1))))
+    (sym (ap (λ (x : ℕ). eqb x 0) (slack-back (st .args .arcs .now) (st .args .margins .now) (st .args .potentials .now) (st .args .i) (st .pre .1))))
 
 returns-2 : tie.Need-returns-2
 returns-2 c = rw (le-ltb 0 _ (c .if1 .left))

@@ -19,18 +19,18 @@ use Rattle.solve_ties.proofs.tie_all.Statement.{statement}
 use Rattle.solve_ties.proofs.tie_all.Tie as tie
 
 abbrev Inv-loop : tie.InvT-loop
-Inv-loop arcs rows margins₀ flows₀ prices n i₀ margins flows i =
-    (i ≤ n) × ((w : Tieable arcs rows prices 0 flows₀) → flows ≡ tiesTo (take (w .n) (w .streams)) prices i flows₀) × Margined (countOf arcs) rows flows 1 i margins
+Inv-loop arcs rows margins₀ flows₀ potentials n i₀ margins flows i =
+    (i ≤ n) × ((w : Tieable arcs rows potentials 0 flows₀) → flows ≡ tiesTo (take (w .n) (w .streams)) potentials i flows₀) × Margined (countOf arcs) rows flows 1 i margins
 
 abbrev μ-loop : tie.MeasureT-loop
-μ-loop arcs rows margins₀ flows₀ prices n i₀ margins flows i = n - i
+μ-loop arcs rows margins₀ flows₀ potentials n i₀ margins flows i = n - i
 
 -- The start; streams that the arcs are of.
 abbrev begin : tie.In-loop Inv-loop μ-loop → tie.Start Inv-loop μ-loop
 begin c = c .before .before .before
 
 abbrev Of : tie.Start Inv-loop μ-loop → Type 0
-Of st = Tieable (st .args .arcs .now) (st .args .rows .now) (st .args .prices .now) 0 (st .args .flows .now)
+Of st = Tieable (st .args .arcs .now) (st .args .rows .now) (st .args .potentials .now) 0 (st .args .flows .now)
 
 counted : (c : tie.In-loop Inv-loop μ-loop) → c .before .loop .i < countOf (begin c .args .arcs .now)
 counted c = rw (← c .before .before .count-of .ensures) (c .loop-test .taken)
@@ -39,15 +39,15 @@ below : (c : tie.In-loop Inv-loop μ-loop) (w : Of (begin c)) → c .before .loo
 below c w = rw (← w .laid .along .counted) (counted c)
 
 -- The flow before stream i is passed.
-abbrev able : (c : tie.In-loop Inv-loop μ-loop) → Of (begin c) → Tieable (begin c .args .arcs .now) (begin c .args .rows .now) (begin c .args .prices .now) (c .before .loop .i) (c .before .loop .flows)
+abbrev able : (c : tie.In-loop Inv-loop μ-loop) → Of (begin c) → Tieable (begin c .args .arcs .now) (begin c .args .rows .now) (begin c .args .potentials .now) (c .before .loop .i) (c .before .loop .flows)
 able c w = record {
   streams = w .streams;
   n = w .n;
   network = w .network;
   laid = w .laid;
-  prices = w .prices;
+  potentials = w .potentials;
   even =
-      subst (λ (xs : List ℕ). Even (take (w .n) (w .streams)) (begin c .args .prices .now) (c .before .loop .i) xs) (sym (c .before .loop .inv .1 w))
+      subst (λ (xs : List ℕ). Even (take (w .n) (w .streams)) (begin c .args .potentials .now) (c .before .loop .i) xs) (sym (c .before .loop .inv .1 w))
       (tying-even (w .streams) (w .n) (w .network) _ _ (w .even) (c .before .loop .i) (omega (arith, below c w)));
 }
 
@@ -72,7 +72,7 @@ spare-requires c κs =
 
 -- Stream i can fall at no cost.
 abbrev tying : (c : tie.After-can-fall Inv-loop μ-loop) → c .can-fall .result ≡ true → Of (begin (c .before .before))
-    → Tying (begin (c .before .before) .args .arcs .now) (begin (c .before .before) .args .rows .now) (begin (c .before .before) .args .prices .now) (c .before .before .before .loop .i) (c .before .before .before .loop .flows)
+    → Tying (begin (c .before .before) .args .arcs .now) (begin (c .before .before) .args .rows .now) (begin (c .before .before) .args .potentials .now) (c .before .before .before .loop .i) (c .before .before .before .loop .flows)
 tying c e w =
     let on = c .before .before in
     let s = tie-searching _ _ _ _ _ _ _ (able on w) (omega (arith, below on w)) (on .before .loop .inv .2) in
@@ -98,13 +98,13 @@ loop-less c = search needs
 
 -- What one stream more comes to.
 after : (c : tie.In-loop Inv-loop μ-loop) (w : Of (begin c))
-    → tiedAt (take (w .n) (w .streams)) (begin c .args .prices .now) (c .before .loop .i) (c .before .loop .flows) ≡ tiesTo (take (w .n) (w .streams)) (begin c .args .prices .now) (c .before .loop .i + 1) (begin c .args .flows .now)
+    → tiedAt (take (w .n) (w .streams)) (begin c .args .potentials .now) (c .before .loop .i) (c .before .loop .flows) ≡ tiesTo (take (w .n) (w .streams)) (begin c .args .potentials .now) (c .before .loop .i + 1) (begin c .args .flows .now)
 after c w =
-    ap (λ (xs : List ℕ). tiedAt (take (w .n) (w .streams)) (begin c .args .prices .now) (c .before .loop .i) xs) (c .before .loop .inv .1 w)
-    ∙ sym (ties-next (take (w .n) (w .streams)) (begin c .args .prices .now) (begin c .args .flows .now) (c .before .loop .i))
+    ap (λ (xs : List ℕ). tiedAt (take (w .n) (w .streams)) (begin c .args .potentials .now) (c .before .loop .i) xs) (c .before .loop .inv .1 w)
+    ∙ sym (ties-next (take (w .n) (w .streams)) (begin c .args .potentials .now) (begin c .args .flows .now) (c .before .loop .i))
 
 unchanged : (c : tie.After-can-fall Inv-loop μ-loop) (w : Of (begin (c .before .before))) → c .can-fall .result ≡ false
-    → tiedAt (take (w .n) (w .streams)) (begin (c .before .before) .args .prices .now) (c .before .before .before .loop .i) (c .before .before .before .loop .flows) ≡ c .before .before .before .loop .flows
+    → tiedAt (take (w .n) (w .streams)) (begin (c .before .before) .args .potentials .now) (c .before .before .before .loop .i) (c .before .before .before .loop .flows) ≡ c .before .before .before .loop .flows
 unchanged c w e =
     let on = c .before .before in
     let s = tie-searching _ _ _ _ _ _ _ (able on w) (omega (arith, below on w)) (on .before .loop .inv .2) in

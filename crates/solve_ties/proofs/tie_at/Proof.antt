@@ -27,7 +27,7 @@ abbrev start : tie.After-tight-path → tie.Start
 start c = c .before .before .before .before
 
 abbrev Of : tie.Start → Type 0
-Of st = Tying (st .args .arcs .now) (st .args .rows .now) (st .args .prices .now) (st .args .i) (st .args .flows .now)
+Of st = Tying (st .args .arcs .now) (st .args .rows .now) (st .args .potentials .now) (st .args .i) (st .args .flows .now)
 
 used : (st : tie.Start) (w : Of st) → st .args .i < countOf (st .args .arcs .now)
 used st w = rw (w .tieable .laid .along .counted) (w .below)
@@ -49,19 +49,19 @@ low st = let w = st .pre .0 in omega (arith, w .below, w .tieable .network .with
 
 -- What the call of tight_path says.
 told : (c : tie.After-tight-path) (w : Of (start c))
-    → grownBy (c .tight-path .result .found) (c .tight-path .result .tree) (start c .args .prices .now)
-    ≡ tightPath (take (w .tieable .n) (w .tieable .streams)) (w .tieable .n) (start c .args .flows .now) (start c .args .prices .now) (getD (w .tieable .streams) (start c .args .i) noStream .to) (suc (start c .args .i)) searchRounds (rootAt (getD (w .tieable .streams) (start c .args .i) noStream .from))
+    → grownBy (c .tight-path .result .found) (c .tight-path .result .tree) (start c .args .potentials .now)
+    ≡ tightPath (take (w .tieable .n) (w .tieable .streams)) (w .tieable .n) (start c .args .flows .now) (start c .args .potentials .now) (getD (w .tieable .streams) (start c .args .i) noStream .to) (suc (start c .args .i)) searchRounds (rootAt (getD (w .tieable .streams) (start c .args .i) noStream .from))
 told c w =
     let st = start c in
     let t = w .tieable in
     c .tight-path .ensures (st .args .i + 1) (tie-searching _ _ _ _ _ _ _ t (omega (arith, w .below)) (st .pre .1))
-    ∙ ap (λ (v : ℕ). tightPath (take (t .n) (t .streams)) (t .n) (st .args .flows .now) (st .args .prices .now) v (st .args .i + 1) searchRounds (rootAt (c .before .before .before .end-at .result))) (to-is (c .before .before) w)
-    ∙ ap (λ (u : ℕ). tightPath (take (t .n) (t .streams)) (t .n) (st .args .flows .now) (st .args .prices .now) (getD (t .streams) (st .args .i) noStream .to) (st .args .i + 1) searchRounds (rootAt u)) (from-is (c .before .before .before) w)
-    ∙ ap (λ (k : ℕ). tightPath (take (t .n) (t .streams)) (t .n) (st .args .flows .now) (st .args .prices .now) (getD (t .streams) (st .args .i) noStream .to) k searchRounds (rootAt (getD (t .streams) (st .args .i) noStream .from))) (add-one (st .args .i))
+    ∙ ap (λ (v : ℕ). tightPath (take (t .n) (t .streams)) (t .n) (st .args .flows .now) (st .args .potentials .now) v (st .args .i + 1) searchRounds (rootAt (c .before .before .before .end-at .result))) (to-is (c .before .before) w)
+    ∙ ap (λ (u : ℕ). tightPath (take (t .n) (t .streams)) (t .n) (st .args .flows .now) (st .args .potentials .now) (getD (t .streams) (st .args .i) noStream .to) (st .args .i + 1) searchRounds (rootAt u)) (from-is (c .before .before .before) w)
+    ∙ ap (λ (k : ℕ). tightPath (take (t .n) (t .streams)) (t .n) (st .args .flows .now) (st .args .potentials .now) (getD (t .streams) (st .args .i) noStream .to) k searchRounds (rootAt (getD (t .streams) (st .args .i) noStream .from))) (add-one (st .args .i))
 
 -- A way round was found: what the push needs.
 ready : (c : tie.Else1) (w : Of (start (c .before .before)))
-    → Pushable (w .tieable .streams) (w .tieable .n) (w .tieable .network) (start (c .before .before) .args .prices .now) (start (c .before .before) .args .i) (w .below) (start (c .before .before) .args .flows .now) (c .before .before .tight-path .result .tree)
+    → Pushable (w .tieable .streams) (w .tieable .n) (w .tieable .network) (start (c .before .before) .args .potentials .now) (start (c .before .before) .args .i) (w .below) (start (c .before .before) .args .flows .now) (c .before .before .tight-path .result .tree)
 ready c w =
     let f = c .before .before in
     pushable (w .tieable .streams) (w .tieable .n) (w .tieable .network) _ _ (w .below) _ (w .tieable .even) _ (w .falls .metered) (w .falls .tight) (told f w) (not-false _ (c .if1 .left))

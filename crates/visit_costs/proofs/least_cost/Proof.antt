@@ -1,4 +1,4 @@
--- What the phases end with is certified by its prices.
+-- What the phases end with is certified by its potentials.
 use mathlib.Core.Path.{_≡_, refl}
 use mathlib.Core.List.{List}
 use Prim.Native.Nat.{ℕ, _*_}

@@ -8,10 +8,10 @@ use Rattle.solve_path.proofs.walking.tight_walk.Statement.{statement}
 use Rattle.solve_path.proofs.walking.tight_walk.Tie as tie
 
 abbrev Inv-loop : tie.InvT-loop
-Inv-loop arcs margins prices s v at₀ t₀ near₀ left₀ at t near left = Tight arcs margins prices s v left at t near
+Inv-loop arcs margins potentials s v at₀ t₀ near₀ left₀ at t near left = Tight arcs margins potentials s v left at t near
 
 abbrev μ-loop : tie.MeasureT-loop
-μ-loop arcs margins prices s v at₀ t₀ near₀ left₀ at t near left = left
+μ-loop arcs margins potentials s v at₀ t₀ near₀ left₀ at t near left = left
 
 -- The turn of the loop, and its test, from the step; and what the step says.
 abbrev turn : tie.After-step Inv-loop μ-loop → tie.At-loop Inv-loop μ-loop

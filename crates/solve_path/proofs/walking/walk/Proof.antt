@@ -12,10 +12,10 @@ use Rattle.solve_path.proofs.walking.walk.Statement.{statement}
 use Rattle.solve_path.proofs.walking.walk.Tie as tie
 
 abbrev Inv-loop : tie.InvT-loop
-Inv-loop arcs margins prices nets s at₀ t₀ dist₀ near₀ left₀ at t dist near left = Going arcs margins prices nets s left at t dist near
+Inv-loop arcs margins potentials nets s at₀ t₀ dist₀ near₀ left₀ at t dist near left = Going arcs margins potentials nets s left at t dist near
 
 abbrev μ-loop : tie.MeasureT-loop
-μ-loop arcs margins prices nets s at₀ t₀ dist₀ near₀ left₀ at t dist near left = left
+μ-loop arcs margins potentials nets s at₀ t₀ dist₀ near₀ left₀ at t dist near left = left
 
 -- The turn of the loop, and its test, from the step.
 abbrev turn : tie.After-step Inv-loop μ-loop → tie.At-loop Inv-loop μ-loop
