@@ -21,6 +21,7 @@ use Rattle.plant_def.specs.Files.{readPlant}
 use Rattle.plant_def.specs.Says as Plants
 use Rattle.plant_def.specs.Says.{plantOf}
 use Rattle.plant_def.proofs.Arrayed.{all-listed, read-held}
+use Rattle.plant_def.proofs.Found.{read-bad, found}
 use Rattle.flow_def.specs.declared.Class.{Class}
 use Rattle.flow_def.specs.declared.Class.the-variants.{Adjusted}
 use Rattle.flow_def.specs.Flows.{streamAt, amountAt, cost}
@@ -42,7 +43,6 @@ use Rattle.sheet_def.specs.Calls.{AllSmall}
 use Rattle.sheet_def.specs.Sheets.{SheetParts, kindOf}
 use Rattle.sheet_def.specs.Kept.{Reopened, noSheet, someSheet, readSheet, readOf, blank}
 use Rattle.sheet_def.specs.Sentences.{classOn}
-use Rattle.sheet_def.proofs.Promise.{read-bad, found}
 use Rattle.sheet_def.proofs.Back.{few-read}
 use Rattle.sheet_def.proofs.Demands.{demands}
 use Rattle.sheet_entries.proofs.Verdicts.{capped-verdict}

@@ -13,7 +13,7 @@ use Rattle.plant_def.specs.Plants.{Plant}
 use Rattle.plant_def.specs.Files.{Got, bad, got, readPlant}
 use Rattle.plant_def.specs.Says.{plantOf, readOf}
 use Rattle.plant_def.proofs.Arrayed.{read-held}
-use Rattle.sheet_def.proofs.Promise.{read-bad, found}
+use Rattle.plant_def.proofs.Found.{read-bad, found}
 use Rattle.sheet_def.proofs.Demands.{demands}
 use Rattle.foreign_def.specs.declared.PlaceNumbers.{PlaceNumbers}
 use Rattle.foreign_def.specs.Numbers.{noNumbers, numbersIn, NumbersOf, NumbersWith, NumbersSay, NumbersLent}

@@ -98,7 +98,8 @@ pub all-gathered : (p : Slices) (n : ℕ) (ms : List Stream) → n ≡ reach p
     → ms ≡ padded maxStreams (listedTo (meterAt (p .from) (p .to) (p .metered) (p .weight) (p .reading)) n)
     → padded maxStreams (listedTo (λ k. rangeAt (p .ranged) (p .low) (p .high) (getD ms k noStream) k) n) ≡ padded maxStreams (listedTo (partsAt p) (reach p))
 all-gathered p n ms e d =
-    ap (padded maxStreams) (listed-same (λ k. range k (getD ms k noStream)) (partsAt p) n (λ k l. ap (range k) (ap (λ (ss : List Stream). getD ss k noStream) d ∙ gathered-at meter n k (reached p n e .room) l)))
+    ap (padded maxStreams)
+    (listed-same (λ k. range k (getD ms k noStream)) (partsAt p) n (λ k l. ap (range k) (ap (λ (ss : List Stream). getD ss k noStream) d ∙ gathered-at meter n k (reached p n e .room) l)))
     ∙ ap (λ (j : ℕ). padded maxStreams (listedTo (partsAt p) j)) e
   where
     meter : ℕ → Stream

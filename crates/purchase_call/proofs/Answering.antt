@@ -13,8 +13,8 @@ use Rattle.plant_def.specs.Files.{Got, got, readPlant}
 use Rattle.plant_def.specs.Within.{Accepted}
 use Rattle.plant_def.specs.Says.{plantOf, readOf}
 use Rattle.plant_def.proofs.Arrayed.{all-listed, within-of, read-held}
+use Rattle.plant_def.proofs.Found.{read-bad, found}
 use Rattle.flow_def.proofs.Lists.{Written}
-use Rattle.sheet_def.proofs.Promise.{read-bad, found}
 use Rattle.purchase_def.specs.declared.Bought.{Bought}
 use Rattle.purchase_def.specs.Purchases.{maxPrice, unmeteredTo, priceIn, pricesFault}
 use Rattle.purchase_def.specs.Says.{noneBought, boughtOf, BuyOf, BuyWith, BuySays}

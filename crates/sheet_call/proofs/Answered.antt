@@ -12,6 +12,7 @@ use Rattle.num_bytes.specs.Inner.{pickT}
 use Rattle.plant_def.specs.declared.Read.{Read}
 use Rattle.plant_def.specs.Files.{Got, got, readPlant}
 use Rattle.plant_def.specs.Says.{plantOf, readOf}
+use Rattle.plant_def.proofs.Found.{read-bad, found, plant-count}
 use Rattle.flow_def.specs.Overfull.{unmarked, Overfull}
 use Rattle.sheet_def.specs.declared.Sheet.{Sheet}
 use Rattle.sheet_def.specs.declared.Balance.{Balance}
@@ -21,7 +22,7 @@ use Rattle.sheet_def.specs.Counters.{nextOf, raised}
 use Rattle.sheet_def.specs.Drawings.{sheetBytes, sheetOf}
 use Rattle.sheet_def.specs.Says.{SheetWith, SheetSays}
 use Rattle.sheet_def.specs.Sentences.{callFault, Refused, RefusedWith}
-use Rattle.sheet_def.proofs.Promise.{read-bad, found, plant-count, plant-balance, plant-overfull}
+use Rattle.sheet_def.proofs.Promise.{plant-balance, plant-overfull}
 use Rattle.sheet_write.specs.Draws.{Filled, DrawnOf}
 
 module _ (file : List ℕ) (office : ℕ) (lasts : List ℕ) (o : List ℕ) where

@@ -1,5 +1,5 @@
 -- What a plant file and an outcome give, by what was found, and a call without fault.
-use mathlib.Core.Path.{_≡_, refl, sym, ap, _∙_, subst}
+use mathlib.Core.Path.{_≡_, subst}
 use mathlib.Core.Bool.{Bool, true, false}
 use mathlib.Core.List.{List}
 use Prim.Native.Nat.{ℕ, _≤_, _<_}
@@ -11,11 +11,9 @@ use Rattle.num_bytes.proofs.Tests.{refuse-none, first-none-left, first-none-rig
 use Rattle.num_bytes.specs.Inner.{pickT}
 use Rattle.plant_def.specs.declared.Read.{Read}
 use Rattle.plant_def.specs.Plants.{Plant}
-use Rattle.plant_def.specs.Files.{Got, bad, got, readPlant}
-use Rattle.plant_def.specs.Within.{Accepted}
-use Rattle.plant_def.specs.Says.{arrayed, plantOf, readOf}
-use Rattle.plant_def.proofs.Accepted.{refused}
-use Rattle.plant_def.proofs.Arrayed.{all-listed, read-accepted, read-held}
+use Rattle.plant_def.specs.Files.{Got, readPlant}
+use Rattle.plant_def.specs.Says.{plantOf, readOf}
+use Rattle.plant_def.proofs.Found.{found, plant-same}
 use Rattle.flow_def.specs.Overfull.{Overfull}
 use Rattle.sheet_def.specs.declared.Sheet.{Sheet}
 use Rattle.sheet_def.specs.declared.Balance.{Balance}
@@ -26,34 +24,13 @@ use Rattle.sheet_def.specs.Says.{SheetWith, SheetSays}
 use Rattle.sheet_def.specs.Counters.{offices, topSheet, counterOf}
 use Rattle.sheet_def.specs.Sentences.{callFault, Refused}
 
--- What the reader handed over, by its number.
-pub read-bad : (g : Got) (y : Read) → y ≡ readOf g → (y .number ≡ 0 → ⊥) → g ≡ bad (y .number)
-read-bad (bad f) y e n = ap (λ (r : Read). bad (r .number)) (sym e)
-read-bad (got p) y e n = absurd (n (ap (λ (r : Read). r .number) e))
-
-read-got : (g : Got) (y : Read) → y ≡ readOf g → y .number ≡ 0 → ((f : ℕ) → g ≡ bad f → f ≡ 0 → ⊥) → (q : Plant) × (g ≡ got q) × (y .plant ≡ arrayed q)
-read-got (bad f) y e n h = absurd (h f refl (sym (ap (λ (r : Read). r .number) e) ∙ n))
-read-got (got p) y e n h = (p, refl, ap (λ (r : Read). r .plant) e)
-
+-- What is said of the plant that was handed over is said of the plant of the file.
 module _ (file : List ℕ) (y : Read) (e : y ≡ readOf (readPlant file)) (n : y .number ≡ 0) where
-  pub found : (q : Plant) × (readPlant file ≡ got q) × (y .plant ≡ arrayed q)
-  found = read-got (readPlant file) y e n (refused file)
+  pub plant-balance : (b : Balance) → BalanceSays (plantOf (y .plant)) b → BalanceSays (found file y e n .0) b
+  plant-balance b t = subst (λ (x : Plant). BalanceSays x b) (plant-same file y e n) t
 
-  pub plant-accepted : Accepted (y .plant)
-  plant-accepted = rw (found .2) (read-accepted file (found .0) (found .1))
-
-  -- The plant as the file has it: its streams and its balance.
-  plant-same : plantOf (y .plant) ≡ found .0
-  plant-same = ap plantOf (found .2) ∙ read-held file (found .0) (found .1)
-
-  pub plant-count : y .plant .count ≡ length (found .0 .streams)
-  plant-count = sym (all-listed (y .plant) plant-accepted) ∙ ap (λ (x : Plant). length (x .streams)) plant-same
-
-  pub plant-balance : (b : Balance) → BalanceSays (plantOf (y .plant)) b → BalanceSays (found .0) b
-  plant-balance b t = subst (λ (x : Plant). BalanceSays x b) plant-same t
-
-  pub plant-overfull : (ms : List Bool) → Overfull (plantOf (y .plant)) ms → Overfull (found .0) ms
-  plant-overfull ms t = subst (λ (x : Plant). Overfull x ms) plant-same t
+  pub plant-overfull : (ms : List Bool) → Overfull (plantOf (y .plant)) ms → Overfull (found file y e n .0) ms
+  plant-overfull ms t = subst (λ (x : Plant). Overfull x ms) (plant-same file y e n) t
 
 -- What is found of a plant, by whether a flow was.
 module _ (p : Plant) (r : Outcome) (h : OutcomeSays p r) where

@@ -4,6 +4,7 @@
 // that it leaves; last, how many streams are in use. What is where is known here and nowhere else in code, and in
 // specs/Cells.antt. The margin of an arc is its marginal cost: what one step more along it costs at the present amounts. Its
 // reduced cost is that by the potentials of its two ends.
+use num_bytes::minus;
 use plant_def::Stream;
 use plant_def::limits::MAX_STREAMS;
 use plant_def::limits::MAX_WEIGHT;
@@ -75,13 +76,6 @@ pub fn pull_of_reading(s: Stream) -> u64
     ensures { λ r. ⌜ (r ≡ weightOf s * readingOf s) × (r ≤ mostPull) ⌝ }
 {
     weight_of(s) * reading_of(s)
-}
-
-// a − b, 0 where b is more.
-pub fn minus(a: u64, b: u64) -> u64
-    ensures { λ r. ⌜ r ≡ a - b ⌝ }
-{
-    if a < b { 0 } else { a - b }
 }
 
 pub const TO: usize = PLACES;

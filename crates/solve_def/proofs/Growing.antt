@@ -27,7 +27,7 @@ use Rattle.solve_def.specs.Push.{otherEnd}
 use Rattle.solve_def.proofs.Amounts.{get-set}
 use Rattle.solve_def.proofs.Elements.{lowered-at}
 use Rattle.solve_def.proofs.Least.{startIn, endIn}
-use Rattle.solve_def.specs.Counts.{countTo}
+use Rattle.solve_def.specs.Counts.{countPlaces}
 use Rattle.solve_def.proofs.Counting.{count-most, count-none, count-more}
 use Rattle.solve_def.proofs.Bounds.{Open, slack-open, open-of}
 use Rattle.solve_def.proofs.Pushing.{reached, Link, both-reached}
@@ -124,7 +124,7 @@ pub record Growing (n : ℕ) (ss : List Stream) (xs : List ℕ) (d root : ℕ) (
   pub endings : length (t .ends) ≡ places
   pub marks : (v : ℕ) → v < places → getD (t .visited) v false ≡ reached root (t .ends) (t .len) v
   pub links : (k : ℕ) → k < t .len → Link ss xs ps d root (t .via) (t .ends) k
-  pub counted : countTo n (λ v. getD (t .visited) v false) ≡ suc (t .len)
+  pub counted : countPlaces n (λ v. getD (t .visited) v false) ≡ suc (t .len)
 
 -- Any two visited places have potentials within mostMarginal of each other for each place visited after the first.
 abbrev pub Level : List ℕ → Tree → Type 0

@@ -10,7 +10,7 @@ use borrow.Author.Count.{below-more}
 use Rattle.plant_def.specs.declared.Stream.{Stream}
 use Rattle.plant_def.specs.Limits.{places, maxUnits}
 use Rattle.solve_forest.specs.Forests.{Spanning, Unmetered, Listed}
-use Rattle.solve_def.specs.Counts.{countTo}
+use Rattle.solve_def.specs.Counts.{countPlaces}
 use Rattle.solve_def.proofs.Counting.{count-most, count-more}
 
 pub spanning-short : {reached : List Bool} {via : List ℕ} {into : List Bool} {len : ℕ} → Spanning reached via into len → len ≤ places
@@ -18,7 +18,7 @@ spanning-short {reached} s = omega (arith, s .few, count-most maxUnits (λ u. ge
 
 -- One place more, e over stream i.
 module _ {reached : List Bool} {via : List ℕ} {into : List Bool} {len : ℕ} (s : Spanning reached via into len) (e : ℕ) (l : e < places) (free : getD reached e false ≡ false) where
-  more : countTo maxUnits (λ u. getD (set reached e true) u false) ≡ suc (countTo maxUnits (λ u. getD reached u false))
+  more : countPlaces maxUnits (λ u. getD (set reached e true) u false) ≡ suc (countPlaces maxUnits (λ u. getD reached u false))
   more =
       count-more maxUnits e (λ u. getD reached u false) (λ u. getD (set reached e true) u false) (omega arith) free
       (getD-set-same reached e true false (rw (s .reaches) l))

@@ -8,14 +8,14 @@ use Rattle.plant_def.specs.declared.Stream.{Stream}
 use Rattle.plant_def.specs.Limits.{places, maxUnits}
 use Rattle.plant_def.specs.Plants.{noStream}
 use Rattle.solve_forest.specs.declared.Forest.{Forest}
-use Rattle.solve_def.specs.Counts.{countTo}
+use Rattle.solve_def.specs.Counts.{countPlaces}
 
 -- A forest of len streams, with as many places reached, at least.
 pub record Spanning (reached : List Bool) (via : List ℕ) (into : List Bool) (len : ℕ) : Type 0 where
   pub reaches : length reached ≡ places
   pub vias : length via ≡ places
   pub intos : length into ≡ places
-  pub few : len ≤ countTo maxUnits (λ u. getD reached u false)
+  pub few : len ≤ countPlaces maxUnits (λ u. getD reached u false)
 
 -- Stream i is among the first n, and unmetered.
 abbrev pub Unmetered : List Stream → ℕ → ℕ → Type 0

@@ -1,4 +1,5 @@
 // Shortest paths: the search over visited places, along the arcs of each by their reduced costs.
+use num_bytes::minus;
 use plant_def::limits::PLACES;
 use solve_arcs::ARCS;
 use solve_arcs::MARGINS;
@@ -6,7 +7,6 @@ use solve_arcs::NONE;
 use solve_arcs::end_at;
 use solve_arcs::first_at;
 use solve_arcs::lesser;
-use solve_arcs::minus;
 use solve_arcs::next_at;
 use solve_arcs::reduced_cost;
 use solve_def::Searched;

@@ -1,4 +1,5 @@
 // Phases: improvements from the places one after the other, at smaller and smaller steps.
+use num_bytes::minus;
 use plant_def::limits::MAX_STREAMS;
 use plant_def::limits::PLACES;
 use solve_arcs::ARCS;
@@ -6,7 +7,6 @@ use solve_arcs::MARGINS;
 use solve_arcs::ROWS;
 use solve_arcs::count_of;
 use solve_arcs::margins_of;
-use solve_arcs::minus;
 use solve_def::Ended;
 use solve_def::Halt;
 use solve_def::Quest;

@@ -1,11 +1,11 @@
 // Amounts settled at potentials, each the nearest to its reading in its range, and the nets that they leave.
+use num_bytes::minus;
 use plant_def::limits::MAX_STREAMS;
 use plant_def::limits::PLACES;
 use solve_arcs::ARCS;
 use solve_arcs::ROWS;
 use solve_arcs::count_of;
 use solve_arcs::end_at;
-use solve_arcs::minus;
 use solve_def::Hint;
 use solve_def::State;
 use solve_def::sizes::FLOW_SHIFT;

@@ -17,7 +17,7 @@ use Rattle.plant_def.specs.Files.{Got, bad, got, readPlant}
 use Rattle.plant_def.specs.Within.{Within, Accepted}
 use Rattle.plant_def.specs.Says.{plantOf, readOf}
 use Rattle.plant_def.proofs.Arrayed.{all-listed, listed-at, within-of, stream-within, read-held}
-use Rattle.sheet_def.proofs.Promise.{read-bad, found, plant-count}
+use Rattle.plant_def.proofs.Found.{read-bad, found, plant-count}
 use Rattle.flow_def.specs.Sides.{bit}
 use Rattle.flow_def.specs.Loops.{countTo}
 use Rattle.flow_def.proofs.Counts.{count-same}

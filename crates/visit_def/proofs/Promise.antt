@@ -17,6 +17,7 @@ use Rattle.plant_def.specs.Says.{plantOf, readOf}
 use Rattle.plant_def.proofs.Limited.{within}
 use Rattle.plant_def.proofs.Accepted.{accepted}
 use Rattle.plant_def.proofs.Arrayed.{read-held}
+use Rattle.plant_def.proofs.Found.{read-bad, found}
 use Rattle.flow_def.specs.declared.Class.{Class}
 use Rattle.flow_def.specs.declared.Class.the-variants.{Adjusted, AsRead, Given, Withheld}
 use Rattle.flow_def.specs.Flows.{streamAt, allowed}
@@ -27,7 +28,6 @@ use Rattle.flow_def.proofs.Chained.{adjusted-of}
 use Rattle.flow_def.proofs.Overfull.{overfull-none}
 use Rattle.solve_def.proofs.Demand.{refusal-19}
 use Rattle.sheet_def.specs.Sentences.{EndsJoined}
-use Rattle.sheet_def.proofs.Promise.{read-bad, found}
 use Rattle.visit_def.specs.declared.Visits.{Visits}
 use Rattle.visit_def.specs.Visits.{without, isAdjusted, isListed, AllLeast, Ordered}
 use Rattle.visit_def.specs.Says.{noVisits, VisitsFor, VisitsWith, VisitsSays, Meters-worth-a-visit}

@@ -1,7 +1,7 @@
 -- By what was read.
 use denote.Ref.{now}
 use Rattle.plant_def.specs.Within.{Accepted}
-use Rattle.sheet_def.proofs.Promise.{plant-accepted}
+use Rattle.plant_def.proofs.Found.{plant-accepted}
 use Rattle.charge_def.proofs.Answering.{small-read, unread, answered}
 use borrow.Author.Needs.{needs}
 use Rattle.charge_call.proofs.charges_of.Statement.{statement}

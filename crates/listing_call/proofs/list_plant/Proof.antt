@@ -5,7 +5,8 @@ use denote.Ref.{now}
 use mathlib.Core.Path.{refl}
 use borrow.Author.Tests.{not-true, not-false}
 use Rattle.plant_def.specs.Says.{plantOf}
-use Rattle.sheet_def.proofs.Promise.{plant-accepted, outcome-balance, outcome-overfull}
+use Rattle.plant_def.proofs.Found.{plant-accepted}
+use Rattle.sheet_def.proofs.Promise.{outcome-balance, outcome-overfull}
 use Rattle.listing_lines.proofs.Sizes.{put-counts}
 use Rattle.listing_call.proofs.Promise.{too-short, file-refused, plant-listed, plant-overfilled}
 use Rattle.listing_call.proofs.list_plant.Statement.{statement}

@@ -25,12 +25,19 @@ returns-3 c = let a = c .before .before .before in
     simp (not-false (a .args .ranged) (c .before .before .if1 .left)) (low-outside (a .args .low) (a .args .high) (below-range w32 (maxRange - 1) (a .args .low) (a .fits .low) (c .if3 .taken)))
 
 returns-4 : tie.Need-returns-4
-returns-4 c = let a = c .before .before .before .before in
-    simp (not-false (a .args .ranged) (c .before .before .before .if1 .left)) (high-outside (a .args .low) (a .args .high) (above-range w32 (maxRange - 1) (a .args .high) (a .fits .high) (c .if4 .taken)))
+returns-4 c =
+    let at-if1 = c .before .before .before in
+    let after-PLACE = at-if1 .before in
+    let a = after-PLACE in
+    simp (not-false (a .args .ranged) (at-if1 .if1 .left)) (high-outside (a .args .low) (a .args .high) (above-range w32 (maxRange - 1) (a .args .high) (a .fits .high) (c .if4 .taken)))
 
 returns-5 : tie.Need-returns-5
-returns-5 c = let a = c .before .before .before .before in
-    simp (not-false (a .args .ranged) (c .before .before .before .if1 .left)) (range-kept (a .args .low) (a .args .high) (rw (toZ-ofZ (a .fits .low), toZ-ofZ (a .fits .high)) at (c .before .before .if2 .left)) (rw (toZ-ofZ (a .fits .low)) at (c .before .if3 .left)) (rw (toZ-ofZ (a .fits .high)) at (c .if4 .left)))
+returns-5 c =
+    let at-if1 = c .before .before .before in
+    let after-PLACE = at-if1 .before in
+    let a = after-PLACE in
+    simp (not-false (a .args .ranged) (at-if1 .if1 .left))
+    (range-kept (a .args .low) (a .args .high) (rw (toZ-ofZ (a .fits .low), toZ-ofZ (a .fits .high)) at (c .before .before .if2 .left)) (rw (toZ-ofZ (a .fits .low)) at (c .before .if3 .left)) (rw (toZ-ofZ (a .fits .high)) at (c .if4 .left)))
 
 pub range-fault-spec : {M : Type 1} → statement M
 range-fault-spec = tie.close (tie.spec returns returns-2 sub-if3 returns-3 returns-4 returns-5)

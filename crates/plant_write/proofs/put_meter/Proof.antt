@@ -46,11 +46,15 @@ same-length c = search needs
 
 returns : tie.Need-returns
 returns c =
-    let a = c .before .before .before .before .before .before .before .before .before .before .before .before .before .before .args in
+    let after-PLACE = c .before .before .before in
+    let after-put-u16 = after-PLACE .before .before .before .before in
+    let after-put-ends = after-put-u16 .before .before .before .before in
+    let start = after-put-ends .before .before .before in
+    let a = start .args in
     let s = a .s in
-    let ends = laid (a .kind ∷ s .from ∷ s .to ∷ []) (now (a .out)) (omega arith) (c .before .before .before .before .before .before .before .before .before .before .before .put-ends .ensures) in
-    let weight = lay ends (putBe 2 (s .weight)) (omega arith) (c .before .before .before .before .before .before .before .put-u16 .ensures) in
-    lay weight (putBe 4 (raw 4 (s .reading))) (omega arith) (rw (toZ-ofZ (reading-fits (c .before .before .before))) at (c .before .before .put-i32 .ensures)) .bytes
+    let ends = laid (a .kind ∷ s .from ∷ s .to ∷ []) (now (a .out)) (omega arith) (after-put-ends .put-ends .ensures) in
+    let weight = lay ends (putBe 2 (s .weight)) (omega arith) (after-put-u16 .put-u16 .ensures) in
+    lay weight (putBe 4 (raw 4 (s .reading))) (omega arith) (rw (toZ-ofZ (reading-fits (after-PLACE))) at (c .before .before .put-i32 .ensures)) .bytes
 
 pub put-meter-spec : {M : Type 1} → statement M
 put-meter-spec =

@@ -51,11 +51,16 @@ same-length c = search needs
 
 returns : tie.Need-returns
 returns c =
-    let a = c .before .before .before .before .before .before .before .before .before .before .before .before .before .before .before .args in
+    let after-PLACE = c .before .before .before in
+    let after-put-i32 = after-PLACE .before .before .before .before in
+    let after-PLACE′ = after-put-i32 .before in
+    let after-put-meter = after-PLACE′ .before .before .before .before in
+    let start = after-put-meter .before .before .before in
+    let a = start .args in
     let s = a .s in
-    let meter = laid (rangedKind ∷ meterBytes s) (now (a .out)) (omega arith) (c .before .before .before .before .before .before .before .before .before .before .before .before .put-meter .ensures) in
-    let low = lay meter (putBe 4 (raw 4 (s .low))) (omega arith) (rw (toZ-ofZ (low-fits (c .before .before .before .before .before .before .before .before))) at (c .before .before .before .before .before .before .before .put-i32 .ensures)) in
-    lay low (putBe 4 (raw 4 (s .high))) (omega arith) (rw (toZ-ofZ (high-fits (c .before .before .before))) at (c .before .before .put-i322 .ensures)) .bytes
+    let meter = laid (rangedKind ∷ meterBytes s) (now (a .out)) (omega arith) (after-put-meter .put-meter .ensures) in
+    let low = lay meter (putBe 4 (raw 4 (s .low))) (omega arith) (rw (toZ-ofZ (low-fits (after-PLACE′))) at (after-put-i32 .put-i32 .ensures)) in
+    lay low (putBe 4 (raw 4 (s .high))) (omega arith) (rw (toZ-ofZ (high-fits (after-PLACE))) at (c .before .before .put-i322 .ensures)) .bytes
 
 pub put-ranged-spec : {M : Type 1} → statement M
 put-ranged-spec =

@@ -31,8 +31,11 @@ same-length-2 c = search needs
 
 returns-2 : tie.Need-returns-2
 returns-2 c =
-    let s = c .before .before .before .before .before .before .before .args .s in
-    put-as (ranged-bytes s (not-false (s .metered) (c .before .before .before .before .before .if1 .left)) (c .before .before .before .before .if2 .taken)) (c .before .before .put-ranged .ensures)
+    let at-if2 = c .before .before .before .before in
+    let at-if1 = at-if2 .before in
+    let start = at-if1 .before .before in
+    let s = start .args .s in
+    put-as (ranged-bytes s (not-false (s .metered) (at-if1 .if1 .left)) (at-if2 .if2 .taken)) (c .before .before .put-ranged .ensures)
 
 put-meter-requires : tie.Need-put-meter-requires
 put-meter-requires c κs = search needs
@@ -45,8 +48,11 @@ same-length-3 c = search needs
 
 returns-3 : tie.Need-returns-3
 returns-3 c =
-    let s = c .before .before .before .before .before .before .before .args .s in
-    put-as (metered-bytes s (not-false (s .metered) (c .before .before .before .before .before .if1 .left)) (c .before .before .before .before .if2 .left)) (c .before .before .put-meter .ensures)
+    let at-if2 = c .before .before .before .before in
+    let at-if1 = at-if2 .before in
+    let start = at-if1 .before .before in
+    let s = start .args .s in
+    put-as (metered-bytes s (not-false (s .metered) (at-if1 .if1 .left)) (at-if2 .if2 .left)) (c .before .before .put-meter .ensures)
 
 pub put-stream-spec : {M : Type 1} → statement M
 put-stream-spec =

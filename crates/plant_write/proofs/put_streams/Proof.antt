@@ -20,9 +20,14 @@ abbrev μ-loop : tie.MeasureT-loop
 
 -- One stream more is written.
 written : (c : tie.After-slice-known2 Inv-loop μ-loop)
-    → Streams (c .before .before .before .before .before .before .before .before .args .t2) (c .before .before .before .before .before .before .before .before .args .count) (now (c .before .before .before .before .before .before .before .before .args .out)) (returned (c .before .before .before .before .before .before .loop .at) (c .before .before .before .before .before .before .loop .out) (c .before .before .put-stream .last .1 .0))
+    → Streams (c .before .before .before .before .before .before .before .before .args .t2) (c .before .before .before .before .before .before .before .before .args .count)
+    (now (c .before .before .before .before .before .before .before .before .args .out))
+    (returned (c .before .before .before .before .before .before .loop .at) (c .before .before .before .before .before .before .loop .out) (c .before .before .put-stream .last .1 .0))
     (c .before .before .before .before .before .before .loop .at + c .before .before .put-stream .result) (c .before .before .before .before .before .before .loop .i + 1)
-written c = let v = c .before .before .before .before .before .before .loop .inv in one-stream (v .2) (c .before .before .before .before .before .loop-test .taken) (omega arith) (c .before .before .put-stream .ensures)
+written c =
+    let tested = c .before .before .before .before .before in
+    let turn = tested .before in
+    let v = turn .loop .inv in one-stream (v .2) (tested .loop-test .taken) (omega arith) (c .before .before .put-stream .ensures)
 
 loop-holds : tie.Need-loop-holds Inv-loop μ-loop
 loop-holds c = (search needs, c .before .pre .0, no-streams (c .before .args .t2) (c .before .args .count) (now (c .before .args .out)) (omega (arith, c .before .pre .0, c .before .pre .1)))
@@ -46,7 +51,9 @@ put-stream-requires : tie.Need-put-stream-requires Inv-loop μ-loop
 put-stream-requires c κs = rows-room (c .before .before .before .loop .inv .2) (c .before .before .loop-test .taken)
 
 add-at : tie.Need-add-at Inv-loop μ-loop
-add-at c = omega (arith, rows-lend (written c), rows-long (written c), c .before .before .before .before .before .before .before .before .good)
+add-at c =
+    let start = c .before .before .before .before .before .before .before .before in
+    omega (arith, rows-lend (written c), rows-long (written c), start .good)
 
 add-i : tie.Need-add-i Inv-loop μ-loop
 add-i c = search needs

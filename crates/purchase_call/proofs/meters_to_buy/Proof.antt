@@ -4,7 +4,7 @@ use borrow.Author.Needs.{needs}
 use denote.Ref.{now}
 use Rattle.plant_def.specs.Within.{Accepted}
 use Rattle.plant_def.specs.Says.{plantOf}
-use Rattle.sheet_def.proofs.Promise.{plant-accepted}
+use Rattle.plant_def.proofs.Found.{plant-accepted}
 use Rattle.purchase_def.specs.Purchases.{pricesFault}
 use Rattle.purchase_call.proofs.Answering.{held-low, best-bought, mispriced, unread, answered}
 use Rattle.purchase_call.proofs.meters_to_buy.Statement.{statement}

@@ -3,7 +3,7 @@ use borrow.Author.Needs.{needs}
 use native.Mathlib.Omega.{arith}
 use denote.Ref.{now}
 use mathlib.Core.Path.{sym, _∙_}
-use Rattle.sheet_def.proofs.Promise.{plant-accepted}
+use Rattle.plant_def.proofs.Found.{plant-accepted}
 use Rattle.sheet_call.proofs.Answered.{call-refused, file-refused, outcome-drawn}
 use Rattle.sheet_call.proofs.balance_plant.Statement.{statement}
 use Rattle.sheet_call.proofs.balance_plant.Tie as tie

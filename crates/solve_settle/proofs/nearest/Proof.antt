@@ -5,7 +5,7 @@ use borrow.Author.Needs.{needs}
 use Rattle.solve_settle.proofs.Quotients.{nearest-is}
 use Rattle.solve_settle.proofs.nearest.Statement.{statement}
 use Rattle.solve_settle.proofs.nearest.Tie as tie
-use Rattle.solve_arcs.proofs.minus.Reads as minus-reads
+use Rattle.num_bytes.proofs.minus.Reads as minus-reads
 
 add-minus : tie.Need-add-minus
 add-minus c = search needs

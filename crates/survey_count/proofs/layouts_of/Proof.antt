@@ -4,7 +4,7 @@ use mathlib.Core.Path.{_≡_}
 use denote.Ref.{now}
 use Rattle.plant_def.specs.Files.{readPlant}
 use Rattle.plant_def.specs.Says.{readOf}
-use Rattle.sheet_def.proofs.Promise.{plant-accepted}
+use Rattle.plant_def.proofs.Found.{plant-accepted}
 use Rattle.survey_def.proofs.Promise.{says-unread, says-many, says-surveyed}
 use borrow.Author.Needs.{needs}
 use Rattle.survey_count.proofs.layouts_of.Statement.{statement}

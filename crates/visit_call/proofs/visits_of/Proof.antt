@@ -4,7 +4,7 @@ use borrow.Author.Tests.{not-true, not-false}
 use Rattle.plant_def.specs.Within.{Accepted}
 use Rattle.plant_def.specs.Says.{plantOf}
 use Rattle.plant_def.proofs.Arrayed.{within-of}
-use Rattle.sheet_def.proofs.Promise.{plant-accepted}
+use Rattle.plant_def.proofs.Found.{plant-accepted}
 use Rattle.sheet_def.proofs.Opening.{right-found, right-overfull}
 use Rattle.visit_def.specs.Visits.{Feasible}
 use Rattle.visit_def.proofs.Promise.{unread, answered, none-balanced}

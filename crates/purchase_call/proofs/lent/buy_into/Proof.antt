@@ -12,8 +12,8 @@ buy-lent-requires c κs = search needs
 cast-count : tie.Need-cast-count
 cast-count c = search needs
 
-put-numbers-requires : tie.Need-put-numbers-requires
-put-numbers-requires c κs =
+put-bytes-requires : tie.Need-put-bytes-requires
+put-bytes-requires c κs =
     let made = c .before .before .before .buy-lent in
     let a = c .before .before .before .before .before .before .before .args in
     few-lent (now (a .file)) (now (a .prices)) (length (now (a .out))) (made .result) (made .ensures)
@@ -26,4 +26,4 @@ returns c = search needs
 
 pub buy-into-spec : {M : Type 1} → statement M
 buy-into-spec =
-    tie.close (tie.spec buy-lent-requires cast-count put-numbers-requires same-length returns)
+    tie.close (tie.spec buy-lent-requires cast-count put-bytes-requires same-length returns)

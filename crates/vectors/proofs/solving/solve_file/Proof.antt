@@ -2,7 +2,7 @@
 use borrow.Author.Needs.{needs}
 use denote.Ref.{now}
 use Rattle.plant_def.proofs.Arrayed.{within-of}
-use Rattle.sheet_def.proofs.Promise.{plant-accepted}
+use Rattle.plant_def.proofs.Found.{plant-accepted}
 use Rattle.solve_def.proofs.Theorem as Theorem
 use Rattle.vectors.proofs.solving.solve_file.Statement.{statement}
 use Rattle.vectors.proofs.solving.solve_file.Tie as tie
