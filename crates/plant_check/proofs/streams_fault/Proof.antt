@@ -26,10 +26,10 @@ stream-fault-requires c κs = search needs
 
 returns : tie.Need-returns Inv-loop μ-loop
 returns c =
-    let tested = c .before .before .before in
-    let turn = tested .before in
-    let start = turn .before in
-    at-fault (turn .loop .inv) (c .before .stream-fault .result) (start .pre) (tested .loop-test .taken) (c .before .stream-fault .ensures) (c .if1 .taken)
+    let in-loop = c .before .before .before in
+    let at-loop = in-loop .before in
+    let start = at-loop .before in
+    at-fault (at-loop .loop .inv) (c .before .stream-fault .result) (start .pre) (in-loop .loop-test .taken) (c .before .stream-fault .ensures) (c .if1 .taken)
 
 add-i : tie.Need-add-i Inv-loop μ-loop
 add-i c = search needs
@@ -39,10 +39,10 @@ loop-less c = search needs
 
 loop-again : tie.Need-loop-again Inv-loop μ-loop
 loop-again c =
-    let tested = c .before .before .before in
-    let turn = tested .before in
-    let start = turn .before in
-    look-on (turn .loop .inv) (c .before .stream-fault .result) (start .pre) (tested .loop-test .taken) (c .before .stream-fault .ensures) (c .if1 .left)
+    let in-loop = c .before .before .before in
+    let at-loop = in-loop .before in
+    let start = at-loop .before in
+    look-on (at-loop .loop .inv) (c .before .stream-fault .result) (start .pre) (in-loop .loop-test .taken) (c .before .stream-fault .ensures) (c .if1 .left)
 
 returns-2 : tie.Need-returns-2 Inv-loop μ-loop
 returns-2 c = no-fault (c .before .loop .inv) (c .loop-test .left)

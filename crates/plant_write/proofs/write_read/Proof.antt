@@ -19,13 +19,13 @@ same-length c = search needs
 
 returns-3 : tie.Need-returns-3
 returns-3 c g d e =
-    let at-if2 = c .before .before .before .before .before in
-    let at-if1 = at-if2 .before in
-    let start = at-if1 .before .before in
+    let else2 = c .before .before .before .before .before in
+    let else1 = else2 .before in
+    let start = else1 .before .before in
     let a = start .args in
     let written = c .before .before .write-plant in
     file-good (now (a .out)) (written .last .1 .0) (a .read) (written .result)
-    (at-if1 .if1 .left) (at-if2 .if2 .left) (written .ensures) g d e
+    (else1 .if1 .left) (else2 .if2 .left) (written .ensures) g d e
 
 pub write-read-spec : {M : Type 1} → statement M
 write-read-spec = tie.close (tie.spec returns returns-2 write-plant-requires same-length returns-3)

@@ -23,23 +23,17 @@ sub-if3 c = search needs
 
 returns-3 : tie.Need-returns-3
 returns-3 c =
-    let at-if2 = c .before .before .before in
-    let at-if1 = at-if2 .before .before in
-    let start = at-if1 .before .before in
-    let s = start .args .s in
+    let s = c .before .before .before .before .before .before .before .args .s in
     let f : SFits w32 (s .low) = search needs in
-    low-above s (at-if1 .if1 .left) (not-false _ (at-if2 .if2 .left)) (rw (toZ-ofZ f) at (c .if3 .taken))
+    low-above s (c .before .before .before .before .before .if1 .left) (not-false _ (c .before .before .before .if2 .left)) (rw (toZ-ofZ f) at (c .if3 .taken))
 
 returns-4 : tie.Need-returns-4
 returns-4 c =
-    let at-if2 = c .before .before .before .before .before in
-    let at-if1 = at-if2 .before .before in
-    let start = at-if1 .before .before in
-    let s = start .args .s in
+    let s = c .before .before .before .before .before .before .before .before .before .args .s in
     let f : SFits w32 (s .low) = search needs in
     let g : SFits w32 (s .high) = search needs in
     ap (λ (x : ℤ). ltZ x widestHigh) (toZ-ofZ g)
-    ∙ by-high s (at-if1 .if1 .left) (not-false _ (at-if2 .if2 .left)) (rw (toZ-ofZ f) at (c .before .before .if3 .left))
+    ∙ by-high s (c .before .before .before .before .before .before .before .if1 .left) (not-false _ (c .before .before .before .before .before .if2 .left)) (rw (toZ-ofZ f) at (c .before .before .if3 .left))
 
 pub narrow-spec : {M : Type 1} → statement M
 narrow-spec = tie.close (tie.spec returns returns-2 sub-if3 returns-3 returns-4)
