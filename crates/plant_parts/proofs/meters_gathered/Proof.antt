@@ -60,7 +60,8 @@ loop-again c =
     let start = after-unmetered-stream .before .before .before .before .before in
     let i = c .before .before .loop .inv in
     let a = start .args in
-    (omega (arith, c .before .loop-test .taken), one-more (meterAt (now (a .from)) (now (a .to)) (now (a .metered)) (now (a .weight)) (now (a .reading))) _ _ _ (room (c .before)) (i .1) (c .meter-at .ensures))
+    let meter : ℕ → Stream = meterAt (now (a .from)) (now (a .to)) (now (a .metered)) (now (a .weight)) (now (a .reading)) in
+    (omega (arith, c .before .loop-test .taken), one-more meter _ _ _ (room (c .before)) (i .1) (c .meter-at .ensures))
 
 returns : tie.Need-returns Inv-loop μ-loop
 returns c =
