@@ -17,9 +17,11 @@ use Rattle.plant_def.proofs.Held.{padded-more, getD-padded}
 use Rattle.plant_parts.specs.Parts.{Slices, partsAt, least, reach, listedTo}
 use Rattle.plant_parts.specs.Inner.{meterAt, rangeAt}
 
+-- The lesser is no more than the first,
 pub least-left : (a b : ℕ) → least a b ≤ a
 least-left a b = picked (λ k. k ≤ a) (ltb a b) a b (λ t. omega arith) (λ f. ltb-false a b f)
 
+-- nor than the second.
 pub least-right : (a b : ℕ) → least a b ≤ b
 least-right a b = picked (λ k. k ≤ b) (ltb a b) a b (λ t. omega (arith, ltb-true a b t)) (λ f. omega arith)
 
@@ -35,6 +37,7 @@ pub record Reached (p : Slices) (n : ℕ) : Type 0 where
   pub low-there : n ≤ length (p .low)
   pub high-there : n ≤ length (p .high)
 
+-- Every slice reaches so many streams.
 pub reached : (p : Slices) (n : ℕ) → n ≡ reach p → Reached p n
 reached p n e =
     let ends = least (length (p .from)) (length (p .to)) in

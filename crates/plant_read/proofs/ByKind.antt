@@ -23,6 +23,7 @@ module _ (n c : ℕ) (s : List ℕ) (h : length s ≡ 0 → ⊥) where
   abbrev unmetered-record : List ℕ → Record
   unmetered-record b = streamRecord unmeteredBody (unmeteredIn b) n c b
 
+  -- A metered stream.
   pub metered-at : getD s 0 0 ≡ meteredKind → streamRecord meteredBody (meteredIn (partFrom 1 s)) n c (partFrom 1 s) ≡ recordAt n c s
   metered-at e =
       ap metered-record (part-is 1 s)
@@ -31,6 +32,7 @@ module _ (n c : ℕ) (s : List ℕ) (h : length s ≡ 0 → ⊥) where
       (metered-record (drop 1 s)) (ranged-record (drop 1 s)) (unmetered-record (drop 1 s)) (endRecord c (drop 1 s)) h e)
 
   module _ (m : getD s 0 0 ≡ meteredKind → ⊥) where
+    -- A metered stream with a range.
     pub ranged-at : getD s 0 0 ≡ rangedKind → streamRecord rangedBody (rangedIn (partFrom 1 s)) n c (partFrom 1 s) ≡ recordAt n c s
     ranged-at e =
         ap ranged-record (part-is 1 s)

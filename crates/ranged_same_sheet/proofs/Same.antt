@@ -164,6 +164,7 @@ never-19 file p e w free office lasts o o′ r =
     (call-faults (ltb (length o) leastSlice) (leb offices office) (eqb (counterOf office lasts) topSheet))
     (λ s. with-sheet p w free office lasts o o′ r (subst (Said office lasts o o′ r) e s))
 
+-- A plant without ranges has the same sheets in the ranged form.
 pub moved-sheets : Moved-sheets
 moved-sheets file p e free = record {
   read = there;

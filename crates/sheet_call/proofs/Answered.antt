@@ -31,6 +31,7 @@ module _ (file : List ℕ) (office : ℕ) (lasts : List ℕ) (o : List ℕ) wher
       → pickT b (SheetWith (readPlant file) office lasts o o′ r) (Refused (callFault office lasts o) lasts o o′ r) → SheetSays file office lasts o o′ r
   by-test b e o′ r w = subst (λ (b : Bool). pickT b (SheetWith (readPlant file) office lasts o o′ r) (Refused (callFault office lasts o) lasts o o′ r)) (sym e) w
 
+  -- A call with a fault.
   pub call-refused : (f : ℕ) (r : Sheet) → f ≡ callFault office lasts o → (f ≡ 0 → ⊥) → r ≡ record { number = f; written = 0; lasts = lasts; marked = unmarked } → SheetSays file office lasts o o r
   call-refused f r e n q =
       by-test false (ne-eqb (callFault office lasts o) 0 (λ d. n (e ∙ d))) o r (q ∙ (λ i. record { number = e i; written = 0; lasts = lasts; marked = unmarked }), refl)

@@ -26,31 +26,38 @@ use Rattle.sheet_def.specs.Sentences.{callFault, Refused}
 
 -- What is said of the plant that was handed over is said of the plant of the file.
 module _ (file : List ℕ) (y : Read) (e : y ≡ readOf (readPlant file)) (n : y .number ≡ 0) where
+  -- Its balance,
   pub plant-balance : (b : Balance) → BalanceSays (plantOf (y .plant)) b → BalanceSays (found file y e n .0) b
   plant-balance b t = subst (λ (x : Plant). BalanceSays x b) (plant-same file y e n) t
 
+  -- or its overfull set.
   pub plant-overfull : (ms : List Bool) → Overfull (plantOf (y .plant)) ms → Overfull (found file y e n .0) ms
   plant-overfull ms t = subst (λ (x : Plant). Overfull x ms) (plant-same file y e n) t
 
 -- What is found of a plant, by whether a flow was.
 module _ (p : Plant) (r : Outcome) (h : OutcomeSays p r) where
+  -- A flow was found: the balance.
   pub outcome-balance : r .found ≡ true → BalanceSays p (r .balance)
   outcome-balance t = subst (λ (b : Bool). pickT b (BalanceSays p (r .balance)) (Overfull p (r .marked))) t h
 
+  -- None was: the overfull set.
   pub outcome-overfull : r .found ≡ false → Overfull p (r .marked)
   outcome-overfull t = subst (λ (b : Bool). pickT b (BalanceSays p (r .balance)) (Overfull p (r .marked))) t h
 
 -- A call without fault: the slice is long enough, the office has a counter, and a sheet number is left of it.
 module _ (office : ℕ) (lasts : List ℕ) (o : List ℕ) (e : callFault office lasts o ≡ 0) where
+  -- The slice is long enough,
   pub long-enough : leastSlice ≤ length o
   long-enough = ltb-false (length o) leastSlice (refuse-none _ 0 (first-none-left (refuseIf (ltb (length o) leastSlice) 1) _ e))
 
   taken : firstOf (refuseIf (leb offices office) 22) (refuseIf (eqb (counterOf office lasts) topSheet) 2) ≡ 0
   taken = first-none-right (refuseIf (ltb (length o) leastSlice) 1) _ e
 
+  -- the office has a counter,
   pub has-counter : office < offices
   has-counter = leb-false offices office (refuse-none _ 21 (first-none-left (refuseIf (leb offices office) 22) _ taken))
 
+  -- and it has a number left.
   pub one-left : counterOf office lasts ≡ topSheet → ⊥
   one-left = eqb-false (counterOf office lasts) topSheet (refuse-none _ 1 (first-none-right (refuseIf (leb offices office) 22) _ taken))
 
@@ -59,11 +66,14 @@ module _ (file : List ℕ) (office : ℕ) (lasts o o′ : List ℕ) (r : Sheet) 
   call-by : (b : Bool) → eqb (callFault office lasts o) 0 ≡ b → pickT b (SheetWith (readPlant file) office lasts o o′ r) (Refused (callFault office lasts o) lasts o o′ r)
   call-by b e = subst (λ (b : Bool). pickT b (SheetWith (readPlant file) office lasts o o′ r) (Refused (callFault office lasts o) lasts o o′ r)) e s
 
+  -- A call with a fault is refused.
   pub call-faulty : (callFault office lasts o ≡ 0 → ⊥) → Refused (callFault office lasts o) lasts o o′ r
   call-faulty n = call-by false (ne-eqb (callFault office lasts o) 0 n)
 
+  -- A call without fault goes by the file,
   pub call-taken : callFault office lasts o ≡ 0 → SheetWith (readPlant file) office lasts o o′ r
   call-taken z = call-by true (eq-eqb (callFault office lasts o) 0 z)
 
+  -- whatever was read of it.
   pub call-read : (g : Got) → callFault office lasts o ≡ 0 → readPlant file ≡ g → SheetWith g office lasts o o′ r
   call-read g z e = subst (λ (g : Got). SheetWith g office lasts o o′ r) e (call-taken z)

@@ -67,5 +67,6 @@ module _ (p : SheetParts) where
   pub read-now : (l : ℕ) (done : List Entry) (b : List ℕ) → recordsBefore l done b ≡ someSheet p → (recordsFrom l done b ≡ someSheet p) × Plain (p .total)
   read-now zero done b e = absurd (not-both 13 p e)
   read-now (suc l) done b e =
-      one-more done (λ x m. recordsBefore l (done ++ (x ∷ [])) (drop m b)) (λ x m. recordsFrom l (done ++ (x ∷ [])) (drop m b)) (eqb (getD b 0 0) totalKind) (recordAt (length done) b) (before-plain (length done) b) e
+      one-more done (λ x m. recordsBefore l (done ++ (x ∷ [])) (drop m b)) (λ x m. recordsFrom l (done ++ (x ∷ [])) (drop m b)) (eqb (getD b 0 0) totalKind)
+      (recordAt (length done) b) (before-plain (length done) b) e
       (λ x m. read-now l (done ++ (x ∷ [])) (drop m b))

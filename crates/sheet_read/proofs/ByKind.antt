@@ -69,10 +69,12 @@ module _ (c : ℕ) (s : List ℕ) (h : length s ≡ 0 → ⊥) where
   abbrev plain : SheetRecord
   plain = totalRecord plainSize (plainIn s) s
 
+  -- An adjusted stream.
   pub adjusted-at : k ≡ adjustedKind → adjusted ≡ recordAt c s
   adjusted-at = first (length s) k adjusted as-read given withheld total plain h
 
   module _ (na : k ≡ adjustedKind → ⊥) where
+    -- A stream as read.
     pub as-read-at : k ≡ asReadKind → as-read ≡ recordAt c s
     as-read-at = second (length s) k adjusted as-read given withheld total plain h na
 
