@@ -50,7 +50,8 @@ module _ (file : List ℕ) (office : ℕ) (lasts : List ℕ) (o : List ℕ) wher
         sheet-drawn : (b : Balance) → BalanceSays (plantOf (y .plant)) b → Filled (y .plant .count) b office lasts o o′ r → SheetSays file office lasts o o′ r
         sheet-drawn b t d =
             let s = plant-balance file y q n b t in
-            let sheet : sheetBytes office (y .plant .count) (nextOf office lasts) b ≡ sheetOf office (found file y q n .0) (s .0) (nextOf office lasts) = λ i. sheetBytes office (plant-count file y q n i) (nextOf office lasts) (s .2 i) in
+            let sheet : sheetBytes office (y .plant .count) (nextOf office lasts) b ≡ sheetOf office (found file y q n .0) (s .0) (nextOf office lasts) = λ i. sheetBytes office
+            (plant-count file y q n i) (nextOf office lasts) (s .2 i) in
             by-file (got (found file y q n .0)) (found file y q n .1) o′ r (inl (
               s .0,
               s .1,

@@ -25,7 +25,7 @@ ghost use Rattle.solve_arcs.specs.ArcNeeds.{Laying, Margined};
 ghost use Rattle.solve_phases.specs.Finishes.{Finishable};
 
 // No hint: amounts and potentials 0.
-fn no_hint() -> Hint
+pub fn no_hint() -> Hint
     ensures { λ r. ⌜ r ≡ noHint ⌝ }
 {
     Hint {

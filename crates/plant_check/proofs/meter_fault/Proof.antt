@@ -32,8 +32,8 @@ returns-5 : tie.Need-returns-5
 returns-5 c =
     let else1 = c .before .before .before in
     let start = else1 .before in
-    simp
-    (ne-eqb _ _ (else1 .if1 .left), le-ltb _ _ (c .before .before .if2 .left), le-ltb _ _ (in-range w32 (maxReading - 1) (start .args .reading) (start .fits .reading) (c .before .if3 .left) (c .if4 .left)))
+    let near = in-range w32 (maxReading - 1) (start .args .reading) (start .fits .reading) (c .before .if3 .left) (c .if4 .left) in
+    simp (ne-eqb _ _ (else1 .if1 .left), le-ltb _ _ (c .before .before .if2 .left), le-ltb _ _ near)
 
 pub meter-fault-spec : {M : Type 1} → statement M
 meter-fault-spec = tie.close (tie.spec returns returns-2 sub-if3 returns-3 returns-4 returns-5)

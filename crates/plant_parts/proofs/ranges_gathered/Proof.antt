@@ -68,7 +68,7 @@ loop-again c =
     let start = at-loop .before .before .before in
     let i = at-loop .loop .inv in
     let a = start .args in
-    (omega (arith, in-loop .loop-test .taken), one-more (within (now (a .ranged)) (now (a .low)) (now (a .high)) (a .t2)) _ _ _ (room (in-loop)) (i .1) (c .range-at .ensures))
+    (omega (arith, in-loop .loop-test .taken), one-more (within (now (a .ranged)) (now (a .low)) (now (a .high)) (a .t2)) _ _ _ (room in-loop) (i .1) (c .range-at .ensures))
 
 returns : tie.Need-returns Inv-loop μ-loop
 returns c =

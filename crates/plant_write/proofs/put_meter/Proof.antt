@@ -60,7 +60,7 @@ returns c =
     let s = a .s in
     let ends = laid (a .kind ∷ s .from ∷ s .to ∷ []) (now (a .out)) (omega arith) (after-put-ends .put-ends .ensures) in
     let weight = lay ends (putBe 2 (s .weight)) (omega arith) (after-put-u16 .put-u16 .ensures) in
-    lay weight (putBe 4 (raw 4 (s .reading))) (omega arith) (rw (toZ-ofZ (reading-fits (after-struct-told))) at (c .before .before .put-i32 .ensures)) .bytes
+    lay weight (putBe 4 (raw 4 (s .reading))) (omega arith) (rw (toZ-ofZ (reading-fits after-struct-told)) at (c .before .before .put-i32 .ensures)) .bytes
 
 pub put-meter-spec : {M : Type 1} → statement M
 put-meter-spec =

@@ -67,8 +67,8 @@ returns c =
     let a = start .args in
     let s = a .s in
     let meter = laid (rangedKind ∷ meterBytes s) (now (a .out)) (omega arith) (after-put-meter .put-meter .ensures) in
-    let low = lay meter (putBe 4 (raw 4 (s .low))) (omega arith) (rw (toZ-ofZ (low-fits (after-struct-told))) at (after-put-i32 .put-i32 .ensures)) in
-    lay low (putBe 4 (raw 4 (s .high))) (omega arith) (rw (toZ-ofZ (high-fits (after-struct-told2))) at (c .before .before .put-i322 .ensures)) .bytes
+    let low = lay meter (putBe 4 (raw 4 (s .low))) (omega arith) (rw (toZ-ofZ (low-fits after-struct-told)) at (after-put-i32 .put-i32 .ensures)) in
+    lay low (putBe 4 (raw 4 (s .high))) (omega arith) (rw (toZ-ofZ (high-fits after-struct-told2)) at (c .before .before .put-i322 .ensures)) .bytes
 
 pub put-ranged-spec : {M : Type 1} → statement M
 put-ranged-spec =

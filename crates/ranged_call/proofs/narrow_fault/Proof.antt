@@ -37,7 +37,7 @@ returns c =
     let in-loop = c .before .before .before in
     let at-loop = in-loop .before in
     let i = at-loop .loop .inv in
-    narrow-found _ _ (within (in-loop)) (i .1) (sym (c .before .narrow .ensures) ∙ c .if1 .taken)
+    narrow-found _ _ (within in-loop) (i .1) (sym (c .before .narrow .ensures) ∙ c .if1 .taken)
 
 add-at : tie.Need-add-at Inv-loop μ-loop
 add-at c = record { fits = omega (arith, c .before .before .before .loop-test .taken) }
@@ -51,7 +51,7 @@ loop-again c =
     let at-loop = in-loop .before in
     let i = at-loop .loop .inv in
     let t = in-loop .loop-test .taken in
-    (omega (arith, t), narrow-more _ _ (within (in-loop)) (i .1) (sym (c .before .narrow .ensures) ∙ c .if1 .left), i .2)
+    (omega (arith, t), narrow-more _ _ (within in-loop) (i .1) (sym (c .before .narrow .ensures) ∙ c .if1 .left), i .2)
 
 returns-2 : tie.Need-returns-2 Inv-loop μ-loop
 returns-2 c =

@@ -32,7 +32,7 @@ returns-2 c =
     let after-read-plant = else1 .before in
     let start = after-read-plant .before .before in
     let read = after-read-plant .read-plant in
-    forward-good (now (start .args .file)) (read .result) (read-in (after-read-plant)) (else1 .if1 .left) (c .move-all .result) (c .move-all .ensures)
+    forward-good (now (start .args .file)) (read .result) (read-in after-read-plant) (else1 .if1 .left) (c .move-all .result) (c .move-all .ensures)
 
 pub read-forward-spec : {M : Type 1} → statement M
 read-forward-spec = tie.close (tie.spec read-plant-requires refusal-requires returns move-all-requires returns-2)

@@ -36,7 +36,7 @@ returns-2 c =
     let start = after-read-plant .before .before in
     let narrow = c .before .before .narrow-fault in
     let read = after-read-plant .read-plant in
-    home-narrow (now (start .args .file)) (read .result) (read-in (after-read-plant)) (else1 .if1 .left)
+    home-narrow (now (start .args .file)) (read .result) (read-in after-read-plant) (else1 .if1 .left)
     (narrow .result) (narrow .ensures) (c .before .if2 .taken) (c .refusal2 .result) (c .refusal2 .ensures)
 
 move-all-requires : tie.Need-move-all-requires
@@ -49,7 +49,7 @@ returns-3 c =
     let start = after-read-plant .before .before in
     let narrow = c .before .before .narrow-fault in
     let read = after-read-plant .read-plant in
-    home-good (now (start .args .file)) (read .result) (read-in (after-read-plant)) (else1 .if1 .left)
+    home-good (now (start .args .file)) (read .result) (read-in after-read-plant) (else1 .if1 .left)
     (narrow .result) (narrow .ensures) (c .before .if2 .left) (c .move-all .result) (c .move-all .ensures)
 
 pub read-home-spec : {M : Type 1} → statement M

@@ -54,8 +54,10 @@ loop-less c = search needs
 
 loop-again : tie.Need-loop-again Inv-loop μ-loop
 loop-again c =
-    let a = c .before .before .before .before .before .args in
-    let at = c .before .before .before .before .loop in
+    let at-loop = c .before .before .before .before in
+    let start = at-loop .before in
+    let a = start .args in
+    let at = at-loop .loop in
     let f : SFits w64 (getD (a .t2) (at .i) (pos 0)) = search needs in
     (omega arith, written-put (at .inv .1) (omega arith) _ (c .entry-of .ensures ∙ ap (entryOf (getD (a .t1) (at .i) Adjusted)) (toZ-ofZ f)))
 

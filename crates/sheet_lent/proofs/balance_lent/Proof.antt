@@ -33,16 +33,17 @@ same-length-2 c = search needs
 
 returns-2 : tie.Need-returns-2
 returns-2 c =
-    let after-put-lasts = c .before .before in
-    let after-balance-marked = after-put-lasts .before .before .before .before .before in
+    let after-put-lasts-arg = c .before .before .before in
+    let after-balance-marked = after-put-lasts-arg .before .before .before .before in
     let after-lasts-in = after-balance-marked .before .before in
     let else1 = after-lasts-in .before .before in
-    let a = else1 .before .before .before .before .args in
+    let start = else1 .before .before .before .before in
+    let a = start .args in
     let drawn = after-balance-marked .balance-marked in
     let y = drawn .result in
     let o = now (a .sheet) in
     let o′ = drawn .last .1 .1 .1 .0 in
-    let put = after-put-lasts .put-lasts in
+    let put = c .before .before .put-lasts in
     let said = subst (λ (ls : List ℕ). SheetSays (now (a .file)) (a .office) ls o o′ (withBits (y .number) (y .written) (y .lasts) (y .bits)))
     (after-lasts-in .lasts-in .ensures) (drawn .ensures .0) in (
       enough (now (a .file)) (a .office) (now (a .lasts)) o o′ (withBits (y .number) (y .written) (put .last .1 .0) (y .bits))

@@ -21,7 +21,8 @@ same-length c = search needs
 returns : tie.Need-returns
 returns c =
     let after-balance-plant = c .before .before .before .before .before in
-    let a = after-balance-plant .before .before .before .before .args in
+    let start = after-balance-plant .before .before .before .before in
+    let a = start .args in
     let drawn = after-balance-plant .balance-plant in
     let y = drawn .result in
     let told : List Bool → Sheet = λ ms. record { number = y .number; written = y .written; lasts = y .lasts; marked = ms } in (

@@ -44,7 +44,7 @@ returns c =
     let after-slice-known2 = after-put-total .before .before in
     let start = after-slice-known2 .before .before .before .before .before .before in
     let a = start .args in
-    sheet-put (a .b) (behind (after-slice-known2)) (a .office) (a .number) (after-put-total .put-total .last .1 .1 .1 .1 .1 .0) (after-put-total .put-total .ensures)
+    sheet-put (a .b) (behind after-slice-known2) (a .office) (a .number) (after-put-total .put-total .last .1 .1 .1 .1 .1 .0) (after-put-total .put-total .ensures)
 
 pub put-sheet-spec : {M : Type 1} → statement M
 put-sheet-spec =
