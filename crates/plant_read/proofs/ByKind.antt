@@ -41,6 +41,7 @@ module _ (n c : ℕ) (s : List ℕ) (h : length s ≡ 0 → ⊥) where
         (metered-record (drop 1 s)) (ranged-record (drop 1 s)) (unmetered-record (drop 1 s)) (endRecord c (drop 1 s)) h m e)
 
     module _ (r : getD s 0 0 ≡ rangedKind → ⊥) where
+      -- An unmetered stream.
       pub unmetered-at : getD s 0 0 ≡ unmeteredKind → streamRecord unmeteredBody (unmeteredIn (partFrom 1 s)) n c (partFrom 1 s) ≡ recordAt n c s
       unmetered-at e =
           ap unmetered-record (part-is 1 s)
@@ -48,6 +49,7 @@ module _ (n c : ℕ) (s : List ℕ) (h : length s ≡ 0 → ⊥) where
           (third (Refused 3) (Refused 4) (length s) kind meteredKind rangedKind unmeteredKind endKind
           (metered-record (drop 1 s)) (ranged-record (drop 1 s)) (unmetered-record (drop 1 s)) (endRecord c (drop 1 s)) h m r e)
 
+      -- The end record.
       pub end-at : (getD s 0 0 ≡ unmeteredKind → ⊥) → getD s 0 0 ≡ endKind → endRecord c (partFrom 1 s) ≡ recordAt n c s
       end-at u e =
           ap (endRecord c) (part-is 1 s)
@@ -55,6 +57,7 @@ module _ (n c : ℕ) (s : List ℕ) (h : length s ≡ 0 → ⊥) where
           (fourth (Refused 3) (Refused 4) (length s) kind meteredKind rangedKind unmeteredKind endKind
           (metered-record (drop 1 s)) (ranged-record (drop 1 s)) (unmetered-record (drop 1 s)) (endRecord c (drop 1 s)) h m r u e)
 
+      -- No kind that is allowed here: 4.
       pub no-kind : (getD s 0 0 ≡ unmeteredKind → ⊥) → (getD s 0 0 ≡ endKind → ⊥) → Refused 4 ≡ recordAt n c s
       no-kind u e =
           sym

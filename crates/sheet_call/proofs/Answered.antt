@@ -42,6 +42,7 @@ module _ (file : List ℕ) (office : ℕ) (lasts : List ℕ) (o : List ℕ) wher
         by-test true (eq-eqb (callFault office lasts o) 0 (sym e ∙ z)) o′ r (subst (λ (g : Got). SheetWith g office lasts o o′ r) (sym q) w)
 
     module _ (y : Read) (q : y ≡ readOf (readPlant file)) where
+      -- A file that is refused.
       pub file-refused : (r : Sheet) → (y .number ≡ 0 → ⊥) → r ≡ record { number = y .number; written = 0; lasts = lasts; marked = unmarked } → SheetSays file office lasts o o r
       file-refused r n w = by-file _ (read-bad (readPlant file) y q n) o r (w, refl)
 
@@ -62,6 +63,7 @@ module _ (file : List ℕ) (office : ℕ) (lasts : List ℕ) (o : List ℕ) wher
         sheet-overfilled : (ms : List Bool) → Overfull (plantOf (y .plant)) ms → RefusedWith ms 19 lasts o o′ r → SheetSays file office lasts o o′ r
         sheet-overfilled ms t w = by-file (got (found file y q n .0)) (found file y q n .1) o′ r (inr (ms, plant-overfull file y q n ms t, w))
 
+        -- A plant whose outcome is drawn.
         pub outcome-drawn : (u : Outcome) → OutcomeSays (plantOf (y .plant)) u → DrawnOf (y .plant .count) u office lasts o o′ r → SheetSays file office lasts o o′ r
         outcome-drawn u = go (u .found) (u .balance) (u .marked)
           where

@@ -64,6 +64,7 @@ module _ (p : SheetParts) where
       let g : record { streams = done; total = t } ≡ p = cc in (e, subst (λ (q : SheetParts). Plain (q .total)) g h)
   one-more done was now false (Refused f) h e rest = absurd (not-both f p e)
 
+  -- What was read before is read now, and its total is plain.
   pub read-now : (l : ℕ) (done : List Entry) (b : List ℕ) → recordsBefore l done b ≡ someSheet p → (recordsFrom l done b ≡ someSheet p) × Plain (p .total)
   read-now zero done b e = absurd (not-both 13 p e)
   read-now (suc l) done b e =
