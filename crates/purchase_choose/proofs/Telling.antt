@@ -5,7 +5,7 @@ use mathlib.Core.List.{List, [], _∷_, _++_, append-nil}
 use Prim.Native.Nat.{ℕ, zero, suc, _+_, _≤_, _<_, _^_}
 use native.Mathlib.Numerals.{add-one}
 use native.Mathlib.Omega.{arith}
-use lib.ListN.{length, getD, set, replicate, length-append}
+use lib.ListN.{length, getD, replicate, length-append}
 use Rattle.num_bytes.specs.Arrays.{filled}
 use Rattle.num_bytes.specs.Choice.{pick}
 use Rattle.num_bytes.specs.Inner.{values}
@@ -23,7 +23,7 @@ use Rattle.flow_def.specs.Metering.{chosen}
 use Rattle.purchase_def.specs.declared.Bought.{Bought}
 use Rattle.purchase_def.specs.Purchases.{maxPrice, pricesTo, priceOf, numbersFrom}
 use Rattle.purchase_def.specs.Says.{noneBought, boughtOf}
-use Rattle.purchase_def.specs.Choosing.{dearer, bought, toBuy}
+use Rattle.purchase_def.specs.Choosing.{dearer, bought, toBuy, withMore}
 use Rattle.purchase_def.proofs.Sets.{bought-by-labels, sum-most, prices-same}
 
 -- A metered stream is not bought; another by the labels of those that go before it.
@@ -79,13 +79,12 @@ module _ (price : ℕ → ℕ) where
   -- One stream more.
   pub next : (f : ℕ → Bool) (n : ℕ) (b : Bought) (taken : Bool) (stream cost : ℕ) (r : Bought) → n < maxStreams → b ≡ soFar f n → taken ≡ f n
       → stream ≡ n + 1 → cost ≡ price n
-      → r ≡ pick taken (record { number = b .number; count = b .count + 1; streams = set (b .streams) (b .count) stream; price = b .price + cost }) b
+      → r ≡ pick taken (withMore b stream cost) b
       → r ≡ soFar f (n + 1)
   next f n b taken stream cost r small e t s c q = q ∙ rw (e, s, c, t, add-one n) (go (f n) refl)
     where
       go : (d : Bool) → f n ≡ d
-          → pick d (record { number = 0; count = length (numbersFrom 1 (values n f)) + 1; streams = set (filled 0 maxStreams (numbersFrom 1 (values n f))) (length (numbersFrom 1 (values n f))) (suc n); price = pricesTo n f price + price n }) (soFar f n)
-          ≡ soFar f (suc n)
+          → pick d (withMore (soFar f n) (suc n) (price n)) (soFar f n) ≡ soFar f (suc n)
       go true y =
           let here : 1 + n ≡ suc n = omega arith in
           let more : numbersFrom 1 (values (suc n) f) ≡ numbersFrom 1 (values n f) ++ (suc n ∷ []) = numbers-next 1 n f ∙ rw (y, here) refl in

@@ -127,7 +127,12 @@ module _ (p : Plant) (w : Within p) (price : ℕ → ℕ) where
           later k h g =
               value-layer n price (price m - 1) k h
               ∙ same-test (leb (suc (price m - 1) * n) (value n price k)) (high k)
-              (λ q. le-leb (suc (value n price m)) (value n price k) (omega (arith, ltb-true (price m - 1) (price k) (value-layer n price (price m - 1) k h ∙ q), over k h g (ltb-true (price m - 1) (price k) (value-layer n price (price m - 1) k h ∙ q)))))
+              (λ q. le-leb (suc (value n price m)) (value n price k)
+              (omega (
+                arith,
+                ltb-true (price m - 1) (price k) (value-layer n price (price m - 1) k h ∙ q),
+                over k h g (ltb-true (price m - 1) (price k) (value-layer n price (price m - 1) k h ∙ q)),
+              )))
               (λ q. le-leb (suc (price m - 1) * n) (value n price k) (omega (arith, leb-true (suc (value n price m)) (value n price k) q, whole)))
             where
               whole : suc (price m - 1) * n ≡ price m * n

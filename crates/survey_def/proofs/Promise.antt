@@ -83,7 +83,8 @@ module _ (p : Arrays.Plant) (a : Accepted p) (few : p .count ≤ maxSurveyed) wh
       → Surveyed (plantOf p) (record { number = 0; count = p .count; counts = counts })
   plant-surveyed ss e counts t =
       surveyed-by (plantOf p) (within-of p a) (record { number = 0; count = p .count; counts = counts }) refl (sym (all-listed p a)) (t .0)
-      (λ k l. t .1 k l ∙ ap (λ (x : List Stream). countBelow x k (2 ^ p .count)) (ap (take (p .count)) e ∙ same-streams) ∙ ap (λ (n : ℕ). countBelow (plantOf p .streams) k (2 ^ n)) (sym (all-listed p a)))
+      (λ k l. t .1 k l ∙ ap (λ (x : List Stream). countBelow x k (2 ^ p .count)) (ap (take (p .count)) e ∙ same-streams)
+      ∙ ap (λ (n : ℕ). countBelow (plantOf p .streams) k (2 ^ n)) (sym (all-listed p a)))
       (rw (all-listed p a) few)
 
 -- What the call answers, by what the reader handed over.

@@ -34,16 +34,19 @@ bottom-of-requires c κs = search needs
 
 returns-2 : tie.Need-returns-2
 returns-2 c =
-    let st = c .before .before .before .before .before .before in
+    let after-weight-of = c .before .before .before in
+    let else1 = after-weight-of .before in
+    let after-may-fall = else1 .before in
+    let start = after-may-fall .before in
     let d = c .before .correction in
-    let w = c .before .before .before .weight-of in
-    let fr : SFits w32 (st .args .s .reading) = search needs in
+    let w = after-weight-of .weight-of in
+    let fr : SFits w32 (start .args .s .reading) = search needs in
     let fd : SFits w64 (d .result) = search needs in
     let fb : SFits w64 (c .bottom-of .result) = search needs in
-    let ed = d .ensures .0 ∙ ap₂ _-ℤ_ (toZ-ofZ w64 (st .args .x) (st .fits .x)) (toZ-ofZ w32 (st .args .s .reading) fr) in
-    rw (toZ-ofZ w64 (c .bottom-of .result) fb, toZ-ofZ w64 (st .args .difference) (st .fits .difference))
-    (F.bottom-asked (st .args .s) (st .args .x) (st .args .difference) (w .result) (d .result) (c .bottom-of .result) (w .ensures .0) ed
-    (sym (asked (c .before .before .before .before .before)) ∙ not-false _ (c .before .before .before .before .if1 .left))
+    let ed = d .ensures .0 ∙ ap₂ _-ℤ_ (toZ-ofZ w64 (start .args .x) (start .fits .x)) (toZ-ofZ w32 (start .args .s .reading) fr) in
+    rw (toZ-ofZ w64 (c .bottom-of .result) fb, toZ-ofZ w64 (start .args .difference) (start .fits .difference))
+    (F.bottom-asked (start .args .s) (start .args .x) (start .args .difference) (w .result) (d .result) (c .bottom-of .result) (w .ensures .0) ed
+    (sym (asked after-may-fall) ∙ not-false _ (else1 .if1 .left))
     (c .bottom-of .ensures ∙ ap (lower 1 _) (toZ-ofZ w64 (d .result) fd)))
 
 pub from-bottom-spec : {M : Type 1} → statement M

@@ -20,22 +20,30 @@ cast-if2 c = let f : SFits w32 (c .before .before .before .before .args .s .low)
 
 returns-2 : tie.Need-returns-2
 returns-2 c =
-    let st = c .before .before .before .before .before in
-    let f : SFits w32 (st .args .s .low) = search needs in
-    F.under-low (st .args .s) (st .args .x) (sym (c .before .before .before .before .has-range .ensures) ∙ not-false _ (c .before .before .before .if1 .left))
-    (rw (toZ-ofZ w64 (st .args .x) (st .fits .x), F.widened (st .args .s .low) f) at (c .if2 .taken))
+    let else1 = c .before .before .before in
+    let after-has-range = else1 .before in
+    let start = after-has-range .before in
+    let f : SFits w32 (start .args .s .low) = search needs in
+    F.under-low (start .args .s) (start .args .x) (sym (after-has-range .has-range .ensures) ∙ not-false _ (else1 .if1 .left))
+    (rw (toZ-ofZ w64 (start .args .x) (start .fits .x), F.widened (start .args .s .low) f) at (c .if2 .taken))
 
 cast-result : tie.Need-cast-result
-cast-result c = let f : SFits w32 (c .before .before .before .before .before .before .before .args .s .high) = search needs in F.widens _ f
+cast-result c =
+    let after-has-range = c .before .before .before .before .before .before in
+    let start = after-has-range .before in
+    let f : SFits w32 (start .args .s .high) = search needs in
+    F.widens _ f
 
 returns-3 : tie.Need-returns-3
 returns-3 c =
-    let st = c .before .before .before .before .before .before .before in
-    let f : SFits w32 (st .args .s .low) = search needs in
-    let g : SFits w32 (st .args .s .high) = search needs in
-    rw (toZ-ofZ w64 (st .args .x) (st .fits .x), F.widened (st .args .s .high) g)
-    (F.from-low (st .args .s) (st .args .x) (sym (c .before .before .before .before .before .before .has-range .ensures) ∙ not-false _ (c .before .before .before .before .before .if1 .left))
-    (rw (toZ-ofZ w64 (st .args .x) (st .fits .x), F.widened (st .args .s .low) f) at (c .before .before .if2 .left)))
+    let else1 = c .before .before .before .before .before in
+    let after-has-range = else1 .before in
+    let start = after-has-range .before in
+    let f : SFits w32 (start .args .s .low) = search needs in
+    let g : SFits w32 (start .args .s .high) = search needs in
+    rw (toZ-ofZ w64 (start .args .x) (start .fits .x), F.widened (start .args .s .high) g)
+    (F.from-low (start .args .s) (start .args .x) (sym (after-has-range .has-range .ensures) ∙ not-false _ (else1 .if1 .left))
+    (rw (toZ-ofZ w64 (start .args .x) (start .fits .x), F.widened (start .args .s .low) f) at (c .before .before .if2 .left)))
 
 pub in-range-spec : {M : Type 1} → statement M
 in-range-spec =

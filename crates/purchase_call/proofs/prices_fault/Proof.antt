@@ -20,14 +20,16 @@ some-unfair-requires c κs = search needs
 
 returns-2 : tie.Need-returns-2
 returns-2 c =
-    let st = c .before .before .before .before .before in
-    one-each (st .args .p) (st .pre) (now (st .args .prices)) _ (c .before .before .before .unmetered-in .ensures) (c .before .before .if1 .left)
+    let after-unmetered-in = c .before .before .before in
+    let start = after-unmetered-in .before .before in
+    one-each (start .args .p) (start .pre) (now (start .args .prices)) _ (after-unmetered-in .unmetered-in .ensures) (c .before .before .if1 .left)
     true (sym (c .if2 .taken) ∙ c .before .some-unfair .ensures)
 
 returns-3 : tie.Need-returns-3
 returns-3 c =
-    let st = c .before .before .before .before .before in
-    one-each (st .args .p) (st .pre) (now (st .args .prices)) _ (c .before .before .before .unmetered-in .ensures) (c .before .before .if1 .left)
+    let after-unmetered-in = c .before .before .before in
+    let start = after-unmetered-in .before .before in
+    one-each (start .args .p) (start .pre) (now (start .args .prices)) _ (after-unmetered-in .unmetered-in .ensures) (c .before .before .if1 .left)
     false (sym (c .if2 .left) ∙ c .before .some-unfair .ensures)
 
 pub prices-fault-spec : {M : Type 1} → statement M

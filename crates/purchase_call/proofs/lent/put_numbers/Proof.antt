@@ -45,13 +45,17 @@ loop-less c = search needs
 
 loop-again : tie.Need-loop-again Inv-loop μ-loop
 loop-again c =
-    let at = c .before .before .before .before .before .loop in
+    let in-loop = c .before .before .before .before in
+    let at-loop = in-loop .before in
+    let start = at-loop .before .before in
+    let at = at-loop .loop in
     let v = at .inv in
-    let xs = c .before .before .before .before .before .before .before .args .t2 in (
+    let xs = start .args .t2 in (
       v .0,
       v .1,
-      one-row (v .2) (getD xs (at .k) 0 ∷ []) (c .before .before .before .before .loop-test .taken)
-          (ap (λ (j : ℕ). take j xs) (add-one (at .k)) ∙ take-suc xs (at .k) 0 (omega arith)) (omega arith) (record { bytes = c .before .before .put-u8 .ensures; size = refl }),
+      one-row (v .2) (getD xs (at .k) 0 ∷ []) (in-loop .loop-test .taken)
+          (ap (λ (j : ℕ). take j xs) (add-one (at .k)) ∙ take-suc xs (at .k) 0 (omega arith)) (omega arith)
+          (record { bytes = c .before .before .put-u8 .ensures; size = refl }),
     )
 
 same-length : tie.Need-same-length Inv-loop μ-loop
