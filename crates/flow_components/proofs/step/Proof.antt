@@ -37,18 +37,26 @@ rename-requires c κs = search needs
 
 returns-3 : tie.Need-returns-3
 returns-3 c =
-    let a = c .before .before .before .before .before .before .before .before .before .args in
-    let counts = not-false (a .counts) (c .before .before .before .before .before .before .before .before .if1 .left) in
-    step-says (a .counts) (a .s) (now (a .labels)) _ (c .rename .ensures ∙ stepped-up (a .counts) (a .s) (now (a .labels)) counts (c .before .before .if3 .taken))
+    let after-label = c .before .before .before .before .before in
+    let else1 = after-label .before .before .before in
+    let start = else1 .before in
+    let a = start .args in
+    let counts = not-false (a .counts) (else1 .if1 .left) in
+    step-says (a .counts) (a .s) (now (a .labels)) _
+    (c .rename .ensures ∙ stepped-up (a .counts) (a .s) (now (a .labels)) counts (c .before .before .if3 .taken))
 
 rename-requires-2 : tie.Need-rename-requires-2
 rename-requires-2 c κs = search needs
 
 returns-4 : tie.Need-returns-4
 returns-4 c =
-    let a = c .before .before .before .before .before .before .before .before .before .args in
-    let counts = not-false (a .counts) (c .before .before .before .before .before .before .before .before .if1 .left) in
-    step-says (a .counts) (a .s) (now (a .labels)) _ (c .rename2 .ensures ∙ stepped-down (a .counts) (a .s) (now (a .labels)) counts (le-of-lt (c .before .before .if3 .left)))
+    let after-label = c .before .before .before .before .before in
+    let else1 = after-label .before .before .before in
+    let start = else1 .before in
+    let a = start .args in
+    let counts = not-false (a .counts) (else1 .if1 .left) in
+    step-says (a .counts) (a .s) (now (a .labels)) _
+    (c .rename2 .ensures ∙ stepped-down (a .counts) (a .s) (now (a .labels)) counts (le-of-lt (c .before .before .if3 .left)))
 
 pub step-spec : {M : Type 1} → statement M
 step-spec =
