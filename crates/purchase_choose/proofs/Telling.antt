@@ -31,6 +31,7 @@ module _ (p : Arrays.Plant) (a : Accepted p) (price : ℕ → ℕ) (i : ℕ) (l 
   pub metered-not : getD (p .streams) i noStream .metered ≡ true → false ≡ bought (plantOf p) price i
   metered-not t = rw (listed-at p a i l, t)
 
+  -- Another is bought where the labels join its ends.
   pub by-label : getD (p .streams) i noStream .metered ≡ false → (labels : List ℕ) → labels ≡ labelsOf (dearer price i) (plantOf p) → (r : Bool)
       → r ≡ oneLabel labels (getD (p .streams) i noStream .from) (getD (p .streams) i noStream .to) → r ≡ bought (plantOf p) price i
   by-label t labels e r q =
@@ -44,6 +45,7 @@ module _ (price : ℕ → ℕ) where
   abbrev pub soFar : (ℕ → Bool) → ℕ → Bought
   soFar f n = record { number = 0; count = length (numbersFrom 1 (values n f)); streams = filled 0 maxStreams (numbersFrom 1 (values n f)); price = pricesTo n f price }
 
+  -- None are bought yet.
   pub none-yet : (f : ℕ → Bool) (b : Bought) → b ≡ noneBought 0 → b ≡ soFar f 0
   none-yet f b e = e ∙ (λ j. record { number = 0; count = 0; streams = filled-none 0 maxStreams j; price = 0 })
 
@@ -57,6 +59,7 @@ module _ (price : ℕ → ℕ) where
       go true r = let e : k + suc n ≡ suc k + n = omega arith in rw e (ap (λ (l : List ℕ). k ∷ l) r)
       go false r = let e : k + suc n ≡ suc k + n = omega arith in rw e r
 
+  -- No more numbers than streams.
   pub numbers-few : (k n : ℕ) (f : ℕ → Bool) → length (numbersFrom k (values n f)) ≤ n
   numbers-few k zero f = omega arith
   numbers-few k (suc n) f = go (f 0) (numbers-few (suc k) n (λ j. f (suc j)))
@@ -115,6 +118,7 @@ module _ (price : ℕ → ℕ) where
           (prices-same (length (plantOf p .streams)) f (chosen (toBuy (plantOf p) price)) price price
           (λ k l. sym (values-at f false (length (plantOf p .streams)) k l)) (λ k l. refl))
 
+  -- All streams: the answer of the plant.
   pub told : (p : Arrays.Plant) → Accepted p → (i : ℕ) (b : Bought) → i ≡ p .count → b ≡ soFar (bought (plantOf p) price) i
       → b ≡ boughtOf price (toBuy (plantOf p) price)
   told p a i b e q = q ∙ ap (λ (m : ℕ). soFar (bought (plantOf p) price) m) e ∙ all-told p a

@@ -42,6 +42,7 @@ module _ (p : Plant) (w : Within p) (price : ℕ → ℕ) where
   bought-unmetered : (k : ℕ) → k < n → chosen (toBuy p price) k ≡ true → streamAt (p .streams) k .metered ≡ false
   bought-unmetered k l e = not-true _ (and-left (not (streamAt (p .streams) k .metered)) _ (sym (bought-at k l) ∙ e))
 
+  -- With it nothing is withheld.
   pub buying-serves : Serves p (toBuy p price)
   buying-serves = record {
     long = values-long (bought p price) n;
@@ -77,6 +78,7 @@ module _ (p : Plant) (w : Within p) (price : ℕ → ℕ) where
     in-layers : (set : List Bool) → length set ≡ n → priceOf price set ≡ sumTo (suc top) (in-layer set)
     in-layers set e = rw e (layers (suc top) n (chosen set) price (λ k l. omega (arith, most-le n price k l)))
 
+    -- No set that serves costs less.
     pub buying-least : priceOf price (toBuy p price) ≤ priceOf price other
     buying-least =
         omega (
@@ -154,6 +156,7 @@ module _ (p : Plant) (w : Within p) (price : ℕ → ℕ) where
                 | no g ↦ rw (later k h (omega arith)) (omega arith)
               ])
 
+      -- Of those that cost as little none has lower numbers.
       pub buying-first : notLater (numbersOf (toBuy p price)) (numbersOf other) ≡ true
       buying-first = leads-first 1 (toBuy p price) other (values-long (bought p price) n ∙ sym (s .long)) size-same leads
 
