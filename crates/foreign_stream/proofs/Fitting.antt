@@ -1,5 +1,5 @@
 -- Tests of one stream, by their branches; and its bounds in 64 bits.
-use mathlib.Core.Path.{_≡_, refl, ap}
+use mathlib.Core.Path.{_≡_, refl, ap, ap₂, _∙_}
 use mathlib.Core.Bool.{Bool, true, false, not, _&&_, _||_}
 use mathlib.Core.Logic.{⊎-elim}
 use lib.IntN.{ℤ, pos, natAbs, _+ℤ_, _-ℤ_, _*ℤ_}
@@ -74,6 +74,22 @@ module _ (s : Stream) (x c : ℤ) (w : ℕ) (d b : ℤ) (ew : w ≡ weightOf s) 
   -- The top, where it is asked.
   pub top-asked : rises s x ≡ true → b ≡ upper 1 w d → leZ c b ≡ (not (rises s x) || leZ c (mostClimb s x))
   top-asked e q = rw (e, q, ew, ed)
+
+-- The same as the code holds them.
+module _ (s : Stream) (x c : ℤ) (w : ℕ) (d b : ℤ) (fx : SFits w64 x) (fr : SFits w32 (s .reading)) (fc : SFits w64 c) (fd : SFits w64 d)
+    (fb : SFits w64 b) (ew : w ≡ weightOf s) (ed : d ≡ toZ w64 (ofZ w64 x) -ℤ toZ w32 (ofZ w32 (s .reading))) where
+  corrected : d ≡ x -ℤ s .reading
+  corrected = ed ∙ ap₂ _-ℤ_ (toZ-ofZ w64 x fx) (toZ-ofZ w32 (s .reading) fr)
+
+  -- The bottom.
+  pub bottom-held : falls s x ≡ true → b ≡ lower 1 w (toZ w64 (ofZ w64 d))
+      → leZ (toZ w64 (ofZ w64 b)) (toZ w64 (ofZ w64 c)) ≡ (not (falls s x) || leZ (leastClimb s x) c)
+  bottom-held e q = rw (toZ-ofZ w64 b fb, toZ-ofZ w64 c fc) (bottom-asked s x c w d b ew corrected e (q ∙ ap (lower 1 w) (toZ-ofZ w64 d fd)))
+
+  -- The top.
+  pub top-held : rises s x ≡ true → b ≡ upper 1 w (toZ w64 (ofZ w64 d))
+      → leZ (toZ w64 (ofZ w64 c)) (toZ w64 (ofZ w64 b)) ≡ (not (rises s x) || leZ c (mostClimb s x))
+  top-held e q = rw (toZ-ofZ w64 b fb, toZ-ofZ w64 c fc) (top-asked s x c w d b ew corrected e (q ∙ ap (upper 1 w) (toZ-ofZ w64 d fd)))
 
 -- The three tests, one after the other.
 module _ (s : Stream) (x c : ℤ) where
