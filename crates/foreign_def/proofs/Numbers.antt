@@ -29,6 +29,7 @@ same-amount : (x y r : ℤ) → y -ℤ r ≡ x -ℤ r → x ≡ y
 same-amount x y r e = same x y (omega (arith, val (y -ℤ r) (x -ℤ r) e, minus-val x r, minus-val y r))
 
 module _ (p : Plant) (w : Within p) where
+  -- Potentials that certify one flow of least cost certify all.
   pub same-potentials : (π : ℕ → ℤ) (xs : List ℤ) → Certificate p xs π → (ys : List ℤ) → OfLeastCost p ys → Certificate p ys π
   same-potentials π xs c ys b = record {
     balance = b .balance;
@@ -65,6 +66,7 @@ module _ (p : Arrays.Plant) (a : Accepted p) (s : Solved) (r : Solution p s) whe
   unfolding potential
   climbs k = same-climb _ _ (getD (s .potentials) 0 0) potentialShift
 
+  -- A solution's potentials, less the outside's, certify its flow.
   pub solution-certifies : Certificate (plantOf p) (flowOf p s) (potentialFrom (s .potentials))
   solution-certifies = record {
     balance = r .cheapest .balance;
@@ -72,6 +74,7 @@ module _ (p : Arrays.Plant) (a : Accepted p) (s : Solved) (r : Solution p s) whe
         (kilter-says (potentialAt (s .potentials)) (streamOf (plantOf p) k) (amountAt (flowOf p s) k) (r .steps k l));
   }
 
+  -- They are within the limit of numbers.
   pub solution-few : (u : ℕ) → u ≤ p .units → natAbs (potentialFrom (s .potentials) u) ≤ numberLimit
   solution-few u l =
       let z = potentialFrom (s .potentials) u in

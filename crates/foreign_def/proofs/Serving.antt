@@ -41,6 +41,7 @@ module _ (n : ℕ) (ps : List ℕ) (few : suc n ≤ places) (numbers : List ℤ)
   long : length (take (suc n) numbers) ≡ suc n
   long = length-take-le (suc n) numbers (omega (arith, b .long))
 
+  -- The numbers are the potentials less the outside's.
   pub numbers-are : take (suc n) numbers ≡ values (suc n) (potentialFrom ps)
   numbers-are =
       ext-getD (pos 0) (take (suc n) numbers) (values (suc n) (potentialFrom ps)) (long ∙ sym (values-long (potentialFrom ps) (suc n)))
@@ -52,6 +53,7 @@ module _ (p : Arrays.Plant) (a : Accepted p) (s : Solved) (r : Solution p s) whe
   serves : Serve (plantOf p) (values (suc (p .units)) (potentialFrom (s .potentials)))
   serves = certified-serve (plantOf p) (within-of p a) (potentialFrom (s .potentials)) (solution-few p a s r) _ (solution-certifies p a s r)
 
+  -- A solution's numbers are numbers of its plant.
   pub solution-numbered : (numbers : List ℤ) → NumberedBy (p .units) (s .potentials) numbers
       → Numbered (plantOf p) (record { number = 0; count = suc (p .units); numbers = numbers })
   solution-numbered numbers b = record {
@@ -68,6 +70,7 @@ module _ (p : Plant) (w : Within p) (r : PlaceNumbers) where
   pub numbers-of : (xs : List ℤ) → allowed p xs ≡ true → Numbered p r → NumbersOf p r
   numbers-of xs h n = record { some = λ ys e. n; none = λ none. clash (allowed p xs) h (none xs) }
 
+  -- An overfull plant has none: 19.
   pub no-numbers-of : (ms : List Bool) → Overfull p ms → r ≡ noNumbers 19 → NumbersOf p r
   no-numbers-of ms o e = record {
     some = λ ys h. clash (allowed p ys) h (overfull-none p w ms o 1 ys (omega arith));
@@ -105,6 +108,7 @@ module _ (p : Plant) (w : Within p) where
       f : ℕ → ℤ
       f u = pick (leb u (p .units)) (potentialFrom (solved .potentials) u) (pos 0)
 
+  -- Every plant has an answer.
   pub some-numbers : (r : PlaceNumbers) × NumbersOf p r
   some-numbers = subst (λ (q : Plant). (r : PlaceNumbers) × NumbersOf q r) (plant-held p (w .few-streams)) (by-cases (solved .found)
       (λ t. let s = right-found array solved right t in (

@@ -114,6 +114,7 @@ module _ (counts : Counting) (p : Plant) (w : Within p) where
         brought-crosses s (x k) (label u)
         ∙ rw (by-label u (s .to) l (w .each k h .to-in), by-label u (s .from) l (w .each k h .from-in)))
 
+    -- Nets that are all 0: the flow is closed.
     pub nets-closed : ((v : ℕ) → v < places → net v ≡ pos 0) → Closed counts p x
     nets-closed h u l =
         let d : label u < places = omega (arith, low u l, label-low counts p (w .few-units) (inside p w) u (low u l)) in
@@ -125,6 +126,7 @@ module _ (counts : Counting) (p : Plant) (w : Within p) where
         let s = streamOf p k in
         rw (ne-eqb (label (s .to)) v (n (s .to) (w .each k h .to-in)), ne-eqb (label (s .from)) v (n (s .from) (w .each k h .from-in))))
 
+    -- A closed flow's nets are 0.
     pub closed-nets : Closed counts p x → (v : ℕ) → net v ≡ pos 0
     closed-nets c v = elim (decLe v (p .units)) [
       | yes h ↦ elim (ℕ-discrete (label v) v) [
@@ -159,6 +161,7 @@ module _ (p : Plant) (w : Within p) (sheet : SheetParts) (numbers : List ℤ) wh
         le-antisymm (c .least (filledIn p w π x passed-met) (zs-least .balance)) (zs-least .least xs (c .balance))
         ∙ filled-cost p w π x passed-met
 
+    -- A sheet that passes keeps each rule.
     pub passes-kept : Kept p sheet numbers
     passes-kept = record {
       one-each = g .one-each;
@@ -217,6 +220,7 @@ module _ (p : Plant) (w : Within p) (sheet : SheetParts) (numbers : List ℤ) wh
           (λ k h. rw (same-set (streamOf p k .to) (w .each k h .to-in), same-set (streamOf p k .from) (w .each k h .from-in)))
           ∙ g .meets .closed u l)
 
+    -- A sheet that keeps each rule passes.
     pub kept-passes : Passes p sheet numbers
     kept-passes = record {
       one-each = g .one-each;

@@ -32,9 +32,11 @@ module _ (a b : ℕ) (h : a ≤ potentialShift) (k : b ≤ potentialShift) where
   coded : toZ w64 a -ℤ toZ w64 b ≡ pos a -ℤ pos b
   coded = ap₂ _-ℤ_ (toZ-pos w64 {n = a} (omega arith)) (toZ-pos w64 {n = b} (omega arith))
 
+  -- The difference fits.
   pub apart-fits : SFits w64 (toZ w64 a -ℤ toZ w64 b)
   apart-fits = rw coded apart
 
+  -- It is the difference, read back from its bits.
   pub apart-is : toZ w64 (ofZ w64 (toZ w64 a -ℤ toZ w64 b)) ≡ pos a -ℤ pos b
   apart-is = rw coded (toZ-ofZ w64 (pos a -ℤ pos b) apart)
 

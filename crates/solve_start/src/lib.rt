@@ -1,5 +1,5 @@
-// The start by factorisation: metered amounts settled at potentials at which the real-number optimum balances, and unmetered amounts
-// routed along a spanning forest.
+// The start by factorisation: metered amounts settled at potentials at which the real-number optimum balances, unmetered ones routed
+// along a spanning forest.
 use newton_descend::potentials_of;
 use plant_def::Plant;
 use plant_def::limits::MAX_STREAMS;

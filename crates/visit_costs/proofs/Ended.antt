@@ -48,9 +48,11 @@ module _ (p : Arrays.Plant) (a : Accepted p) (st : State) (s : AtHint (plantOf p
     even : Even ss (e .state .potentials) 0 (e .state .flows)
     even = finished-even ss (solvable-in (plantOf p) (within-of p a)) e ends n
 
+    -- The amounts are within their bounds.
     pub amounts : Amounts (e .state .flows)
     amounts = λ k h. omega (arith, even .close k h .0)
 
+    -- The flows are small.
     pub all-small : (xs : List ℤ) → xs ≡ map unshifted (e .state .flows) → AllSmall xs
     all-small xs d = rw d (flows-small (e .state .flows) amounts (even .long))
 
@@ -65,6 +67,7 @@ module _ (p : Arrays.Plant) (a : Accepted p) (st : State) (s : AtHint (plantOf p
           least = λ ys b. least (plantOf p) (within-of p a) (potentialAt (e .state .potentials)) (opened (length ss) (e .state .flows)) sure ys b;
         })
 
+    -- Their cost, capped, is the least.
     pub least-found : (xs : List ℤ) → xs ≡ map unshifted (e .state .flows) → (c : ℕ) → c ≡ capped (cost ss (take (p .count) xs)) → LeastCost (plantOf p) c
     least-found xs d c h =
         let flow : take (p .count) xs ≡ opened (p .count) (e .state .flows) = ap (take (p .count)) d ∙ take-opened (p .count) (e .state .flows) in

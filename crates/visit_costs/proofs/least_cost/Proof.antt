@@ -100,7 +100,8 @@ returns-2 c =
     let f = e .before in
     let b = begun f in
     let st = start (laid b) in
-    least-found (st .args .p) (st .pre .0) (b .start .result) (b .start .ensures) (f .finish .result) (ended f) (e .if1 .left) (o .opened-flows .result) (o .opened-flows .ensures) (c .cost-of .result) (c .cost-of .ensures)
+    least-found (st .args .p) (st .pre .0) (b .start .result) (b .start .ensures) (f .finish .result) (ended f) (e .if1 .left)
+    (o .opened-flows .result) (o .opened-flows .ensures) (c .cost-of .result) (c .cost-of .ensures)
 
 pub least-cost-spec : {M : Type 1} → statement M
 least-cost-spec =

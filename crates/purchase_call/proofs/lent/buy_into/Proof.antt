@@ -14,8 +14,10 @@ cast-count c = search needs
 
 put-bytes-requires : tie.Need-put-bytes-requires
 put-bytes-requires c κs =
-    let made = c .before .before .before .buy-lent in
-    let a = c .before .before .before .before .before .before .before .args in
+    let after-buy-lent = c .before .before .before in
+    let start = after-buy-lent .before .before .before .before in
+    let made = after-buy-lent .buy-lent in
+    let a = start .args in
     few-lent (now (a .file)) (now (a .prices)) (length (now (a .out))) (made .result) (made .ensures)
 
 same-length : tie.Need-same-length
