@@ -1,13 +1,12 @@
 -- An arc by its stream and its direction: where it leads, and its reduced cost.
-use mathlib.Core.Path.{_≡_, refl, sym, _∙_, ap}
+use mathlib.Core.Path.{_≡_, sym}
 use mathlib.Core.Bool.{Bool, true, false}
 use mathlib.Core.List.{List}
-use Prim.Native.Nat.{ℕ, zero, suc, _+_, _*_, _/_, _%_, _≤_, _<_}
+use Prim.Native.Nat.{ℕ, zero, suc, _+_, _*_, _/_, _%_, _<_}
 use native.Mathlib.Nat.{div-add-mod', mod-lt}
 use native.Mathlib.Omega.{arith}
 use lib.Dec.{eqb}
 use lib.ListN.{getD}
-use Rattle.num_bytes.specs.Choice.{pick}
 use Rattle.flow_def.proofs.Lists.{values-at}
 use Rattle.solve_arcs.specs.Cells.{toCell, arcOf, countOf, startsOf, endsOf}
 use Rattle.solve_arcs.specs.Margins.{reducedCost, reducedCosts, leaves, reaches}

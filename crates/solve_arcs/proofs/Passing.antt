@@ -11,11 +11,11 @@ use lib.ListN.{getD}
 use Rattle.num_bytes.specs.Choice.{pick}
 use Rattle.num_bytes.proofs.Tests.{picked}
 use Rattle.plant_def.specs.Limits.{places, maxStreams}
-use Rattle.solve_def.specs.Near.{codeOf, lessened, lastAt, arcAt, relaxedAlong, relaxedAt, relaxedTo}
+use Rattle.solve_def.specs.Near.{codeOf, lessened, lastAt, arcAt, relaxedAlong, relaxedTo}
 use Rattle.solve_def.proofs.Listing.{touches, last-good, arc-is, arc-less, relaxed-last, relaxed-none, tail-touching, relaxed-touching}
 use Rattle.solve_arcs.specs.Cells.{toCell, nextCell, arcOf, countOf, startsOf, endsOf}
 use Rattle.solve_arcs.specs.Margins.{shut, reducedCost, reducedCosts, leaves, reaches}
-use Rattle.solve_arcs.specs.ArcNeeds.{Linked, Ways}
+use Rattle.solve_arcs.specs.ArcNeeds.{Linked}
 use Rattle.solve_arcs.proofs.Along.{arc-parts, reach-is, slack-is}
 
 halves : (l i d : ℕ) → l ≡ 2 * i + d → d ≤ 1 → (l / 2 ≡ i) × (l % 2 ≡ d)

@@ -23,13 +23,13 @@ module _ (i a b : ℕ) (ms : List ℕ) (low : i < maxStreams) (long : length ms 
   pub put-long : length put ≡ marginCells
   put-long = length-set (set ms (2 * i + 1) a) (2 * i) b ∙ length-set ms (2 * i + 1) a ∙ long
 
-  pub put-own : (f : Bool) → getD put (arcOf i f) 0 ≡ pick f a b
+  put-own : (f : Bool) → getD put (arcOf i f) 0 ≡ pick f a b
   put-own true = getD-set-other (set ms (2 * i + 1) a) (2 * i) (2 * i + 1) b 0 (λ o. omega arith) ∙ getD-set-same ms (2 * i + 1) a 0 (omega arith)
   put-own false =
       let e : 2 * i + 0 ≡ 2 * i = omega arith in
       rw e (getD-set-same (set ms (2 * i + 1) a) (2 * i) b 0 (omega (arith, length-set ms (2 * i + 1) a)))
 
-  pub put-other : (k : ℕ) (f : Bool) → (k ≡ i → ⊥) → getD put (arcOf k f) 0 ≡ getD ms (arcOf k f) 0
+  put-other : (k : ℕ) (f : Bool) → (k ≡ i → ⊥) → getD put (arcOf k f) 0 ≡ getD ms (arcOf k f) 0
   put-other k true o =
       getD-set-other (set ms (2 * i + 1) a) (2 * i) (2 * k + 1) b 0 (λ q. omega arith) ∙ getD-set-other ms (2 * i + 1) (2 * k + 1) a 0 (λ q. o (omega arith))
   put-other k false o =

@@ -1,5 +1,5 @@
 -- One stream more in the arcs and in the rows.
-use mathlib.Core.Path.{_≡_, refl, sym, _∙_, ap, subst}
+use mathlib.Core.Path.{_≡_, refl, _∙_, ap}
 use mathlib.Core.Bool.{Bool, true, false}
 use mathlib.Core.List.{List}
 use Prim.Native.Nat.{ℕ, suc, _+_, _*_, _≤_, _<_}
@@ -21,9 +21,8 @@ use Rattle.solve_def.specs.Near.{arcAt}
 use Rattle.solve_def.specs.SearchNeeds.{Network}
 use Rattle.solve_def.proofs.Amounts.{get-set}
 use Rattle.solve_arcs.specs.Cells.{toCell, nextCell, countCell, arcCells, arcOf, countOf, startsOf, endsOf, rowCells}
-use Rattle.solve_arcs.specs.ArcNeeds.{Listed, Linked, LaidArcs, Rowed}
-use Rattle.solve_arcs.proofs.Along.{starts-at, ends-at}
-use Rattle.solve_arcs_fill.specs.Puts.{startsIn, endsIn, endsPut, nextPut, firstPut, rowPut}
+use Rattle.solve_arcs.specs.ArcNeeds.{Listed, LaidArcs, Rowed}
+use Rattle.solve_arcs_fill.specs.Puts.{startsIn, endsIn, endsPut, nextPut, firstPut}
 
 pub starts-in : (streams : List Stream) (n k : ℕ) → k < n → getD (startsIn streams n) k 0 ≡ getD streams k noStream .from
 unfolding startsIn
@@ -64,7 +63,7 @@ module _ (i u v x y : ℕ) (ls : List ℕ) (low : i < maxStreams) (lu : u < plac
   long5 : length l5 ≡ arcCells
   long5 = length-set l4 v (2 * i) ∙ long4
 
-  pub all-long : length all ≡ arcCells
+  all-long : length all ≡ arcCells
   all-long = length-set l5 u (2 * i + 1) ∙ long5
 
   -- Past the places; at the places; and where the arcs lead.
@@ -134,7 +133,7 @@ module _ (i u v x y : ℕ) (ls : List ℕ) (low : i < maxStreams) (lu : u < plac
       one false = iy ∙ h .first v lv ∙ ap (λ (w : ℕ). arcAt fs ts w i) iv
 
 -- None yet.
-pub listed-none : (fs ts ls : List ℕ) → length ls ≡ arcCells → ((u : ℕ) → u < places → getD ls u 0 ≡ 2 * maxStreams) → Listed 0 fs ts ls
+listed-none : (fs ts ls : List ℕ) → length ls ≡ arcCells → ((u : ℕ) → u < places → getD ls u 0 ≡ 2 * maxStreams) → Listed 0 fs ts ls
 unfolding arcAt
 listed-none fs ts ls h none = record { long = h; first = none; next = λ k f b. absurd (omega arith); starts = below-none _; ends = below-none _ }
 

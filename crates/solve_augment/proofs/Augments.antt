@@ -1,5 +1,5 @@
 -- The push along arcs: with j streams to go it comes to what it comes to from the start, and the margins are those of the amounts.
-use mathlib.Core.Path.{_≡_, refl, sym, _∙_, ap}
+use mathlib.Core.Path.{_≡_, sym, _∙_}
 use mathlib.Core.Bool.{Bool, true, false}
 use mathlib.Core.List.{List}
 use Prim.Native.Nat.{ℕ, _+_, _-_, _*_, _≤_, _<_}
@@ -9,7 +9,6 @@ use lib.ListN.{length, getD, set, take}
 use Rattle.num_bytes.specs.Choice.{pick}
 use Rattle.num_bytes.proofs.Tests.{picked}
 use Rattle.plant_def.specs.Limits.{places, maxStreams}
-use Rattle.plant_def.specs.Plants.{noStream}
 use Rattle.solve_def.specs.Sizes.{mostFlow, mostStep}
 use Rattle.solve_def.specs.Push.{pushed}
 use Rattle.solve_def.specs.SearchNeeds.{Trail, Roomy}
@@ -30,7 +29,8 @@ pub record Pushing (ls rs via ends : List ℕ) (len target d : ℕ) (xs₀ ms₀
   pub same : (w : Laying ls rs) → pushed (take (w .n) (w .streams)) via ends d j at xs ≡ pushed (take (w .n) (w .streams)) via ends d len target xs₀
 
 pub pushed-all : (ls rs via ends : List ℕ) (len target d : ℕ) (xs₀ ms₀ xs ms : List ℕ) (at : ℕ) → Pushing ls rs via ends len target d xs₀ ms₀ xs ms at 0
-    → ((skip : ℕ) → Margined (countOf ls) rs xs₀ d skip ms₀ → Free rs skip via len → Margined (countOf ls) rs xs d skip ms) × ((w : Laying ls rs) → xs ≡ pushed (take (w .n) (w .streams)) via ends d len target xs₀)
+    → ((skip : ℕ) → Margined (countOf ls) rs xs₀ d skip ms₀ → Free rs skip via len → Margined (countOf ls) rs xs d skip ms)
+    × ((w : Laying ls rs) → xs ≡ pushed (take (w .n) (w .streams)) via ends d len target xs₀)
 unfolding pushed
 pushed-all ls rs via ends len target d xs₀ ms₀ xs ms at p = (p .margined, λ w. p .same w)
 

@@ -15,11 +15,10 @@ use Rattle.flow_def.specs.Flows.{streamAt}
 use Rattle.flow_def.proofs.Integers.{up, dn, same, plus-val, minus-val}
 use Rattle.flow_def.proofs.Sums.{sum}
 use Rattle.flow_def.proofs.Nets.{brought}
-use Rattle.solve_def.specs.Sizes.{flowShift, mostFlow, netShift}
+use Rattle.solve_def.specs.Sizes.{flowShift, mostFlow, netShift, netRoom}
 use Rattle.solve_def.specs.Held.{unshifted}
-use Rattle.solve_def.proofs.Amounts.{unshifted-val, brought-val, get-set, net}
+use Rattle.solve_def.proofs.Amounts.{unshifted-val, brought-val, get-set}
 use Rattle.solve_def.proofs.Elements.{set-each}
-use Rattle.solve_def.specs.Sizes.{netRoom}
 use Rattle.solve_def.specs.Model.{left, come, booked, netsTo}
 use Rattle.solve_def.specs.SolverNeeds.{Around}
 
@@ -28,7 +27,7 @@ abbrev pub Between : Stream → Type 0
 Between s = (s .from ≤ maxUnits) × (s .to ≤ maxUnits)
 
 -- At first, after a store near the old value, and with a wider bound.
-pub around-start : Around (replicate places netShift) 0
+around-start : Around (replicate places netShift) 0
 around-start = record {
   long = refl;
   low = λ k h. omega (arith, getD-replicate {A = ℕ} places k netShift 0 h);

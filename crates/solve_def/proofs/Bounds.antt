@@ -44,7 +44,7 @@ pub slack-most : (f : Bool) (s : Stream) (x pu pv d : ℕ) → (Open s f x d →
 slack-most f s x pu pv d h = open-or f s x d h (λ o. omega (arith, slack-shut f s x pu pv d o))
 
 -- An integer as it is held, of size b at most; and two in their order.
-pub shifted-close : (b : ℕ) (z : ℤ) → b ≤ flowShift → natAbs z ≤ b → Close b (shifted z)
+shifted-close : (b : ℕ) (z : ℤ) → b ≤ flowShift → natAbs z ≤ b → Close b (shifted z)
 shifted-close b (pos a) l h = (omega arith, omega arith)
 shifted-close b (negsuc a) l h = (omega arith, omega arith)
 

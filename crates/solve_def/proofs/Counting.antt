@@ -16,7 +16,7 @@ unfolding countTo
 count-most zero f = bit (f 0)
 count-most (suc n) f = omega (arith, bit (f (suc n)), count-most n f)
 
-pub count-same : (n : ℕ) (f g : ℕ → Bool) → ((v : ℕ) → v ≤ n → f v ≡ g v) → countTo n f ≡ countTo n g
+count-same : (n : ℕ) (f g : ℕ → Bool) → ((v : ℕ) → v ≤ n → f v ≡ g v) → countTo n f ≡ countTo n g
 unfolding countTo
 count-same zero f g h = rw (h 0 (omega arith))
 count-same (suc n) f g h = rw (h (suc n) (omega arith), count-same n f g (λ v l. h v (omega arith)))

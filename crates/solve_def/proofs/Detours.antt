@@ -88,7 +88,8 @@ module _ (ss : List Stream) (v : Solvable ss) (ps : List ℕ) (i : ℕ) (li : i 
       start = root-growing maxUnits ss xs ps 1 (s .from) (omega arith) nf (h .held)
 
   -- A way leads round: 1 is moved along it, and stream i has 1 less.
-  module _ (m : s .metered ≡ true) (none : slackAt ss xs ps 1 i false ≡ 0) (t : Tree) (g : Growing maxUnits ss xs 1 (s .from) ps t) (r : reached (s .from) (t .ends) (t .len) (s .to) ≡ true) (used : Used ss (suc i) t) where
+  module _ (m : s .metered ≡ true) (none : slackAt ss xs ps 1 i false ≡ 0) (t : Tree) (g : Growing maxUnits ss xs 1 (s .from) ps t)
+      (r : reached (s .from) (t .ends) (t .len) (s .to) ≡ true) (used : Used ss (suc i) t) where
     ys : List ℕ
     ys = pushed ss (t .via) (t .ends) 1 (t .len) (s .to) xs
 
@@ -195,7 +196,7 @@ module _ (ss : List Stream) (v : Solvable ss) (ps : List ℕ) (i : ℕ) (li : i 
       (λ m. free m)
 
 -- The flow stays even.
-pub even-more : (ss : List Stream) (ps : List ℕ) (i : ℕ) (xs : List ℕ) → Even ss ps i xs → Even ss ps (suc i) xs
+even-more : (ss : List Stream) (ps : List ℕ) (i : ℕ) (xs : List ℕ) → Even ss ps i xs → Even ss ps (suc i) xs
 even-more ss ps i xs h = record {
   long = h .long;
   held = h .held;

@@ -144,9 +144,13 @@ finished-even ss v r h e = record {
   inside = h .underway e .sound .inside;
   agreed = h .underway e .sound .agreed;
   level = λ u l. level-nets ss (v .plain .inside) (λ k. unshifted (getD (r .state .flows) k 0)) none u (omega arith);
-  moderate = λ k l m. let q = sound-tall ss v 1 (h .underway e .size) (r .state) (omega arith) (h .underway e .sound) k l m in (omega (arith, q .0), omega (arith, q .1));
+  moderate = λ k l m.
+      let q = sound-tall ss v 1 (h .underway e .size) (r .state) (omega arith) (h .underway e .sound) k l m in
+      (omega (arith, q .0), omega (arith, q .1));
   floor = h .underway e .sound .floor;
-  close = λ k l. let q = sound-close ss v 1 (h .underway e .size) (omega arith, omega arith) (r .state) (h .underway e .sound) (omega (arith, h .underway e .fits)) k l in (omega (arith, q .0), omega (arith, q .1));
+  close = λ k l.
+      let q = sound-close ss v 1 (h .underway e .size) (omega arith, omega arith) (r .state) (h .underway e .sound) (omega (arith, h .underway e .fits)) k l in
+      (omega (arith, q .0), omega (arith, q .1));
 }
   where
     none : (u : ℕ) → u ≤ maxUnits → up (net ss (r .state .flows) u) ≡ 0

@@ -50,13 +50,13 @@ reduced-is ls ks k ps now h w =
     (λ u l. w .done u (rw (w .long) at l) ∙ sym (reduced-at ls ks k ps u))
 
 -- Lengths stay.
-pub along-long : (ls : List Bool) (k v g i : ℕ) (near : List ℕ) → length (relaxedAlong ls k v g i near) ≡ length near
+along-long : (ls : List Bool) (k v g i : ℕ) (near : List ℕ) → length (relaxedAlong ls k v g i near) ≡ length near
 unfolding relaxedAlong
 along-long ls k v g i near =
     picked (λ (r : List ℕ). length r ≡ length near) (getD ls v false) near (lessened near v (codeOf (k + g) i)) (λ o. refl)
     (λ o. picked (λ (r : List ℕ). length r ≡ length near) (ltb (codeOf (k + g) i) (getD near v 0)) (set near v (codeOf (k + g) i)) near (λ q. length-set near v (codeOf (k + g) i)) (λ q. refl))
 
-pub relaxed-long : (fs ts gs bs : List ℕ) (ls : List Bool) (k e i : ℕ) (near : List ℕ) → length (relaxedAt fs ts gs bs ls k e i near) ≡ length near
+relaxed-long : (fs ts gs bs : List ℕ) (ls : List Bool) (k e i : ℕ) (near : List ℕ) → length (relaxedAt fs ts gs bs ls k e i near) ≡ length near
 unfolding relaxedAt
 relaxed-long fs ts gs bs ls k e i near = go (eqb (getD fs i 0) e) (eqb (getD ts i 0) e)
   where

@@ -12,7 +12,7 @@ use lib.ListN.{length, getD}
 use Rattle.num_bytes.specs.Choice.{pick}
 use Rattle.num_bytes.proofs.Tests.{by-cases, and-both}
 use Rattle.plant_def.specs.declared.Stream.{Stream}
-use Rattle.plant_def.specs.Limits.{maxUnits, places}
+use Rattle.plant_def.specs.Limits.{maxUnits}
 use Rattle.flow_def.specs.Flows.{streamAt}
 use Rattle.flow_def.proofs.Integers.{up, dn, plus-val, up-neg, dn-neg}
 use Rattle.flow_def.proofs.Sums.{sum}

@@ -99,7 +99,7 @@ slack-rise true s x pu pv d h light step modest o =
 slack-rise false s x pu pv d h light step modest o =
     let m = marginals s x d light step modest in omega (arith, slack-open false s x pu pv d o, h .low o, m .1)
 
-pub slack-none : (f : Bool) (s : Stream) (x pu pv d : ℕ) → Held d (weightOf s) x (readingOf s) pu pv (lowOf s) (highOf s) → weightOf s ≤ maxWeight → d ≤ mostStep → Modest s x
+slack-none : (f : Bool) (s : Stream) (x pu pv d : ℕ) → Held d (weightOf s) x (readingOf s) pu pv (lowOf s) (highOf s) → weightOf s ≤ maxWeight → d ≤ mostStep → Modest s x
     → slackBy s f x pu pv d ≡ 0 → (pu ≤ pv + mostMarginal) × (pv ≤ pu + mostMarginal)
 slack-none f s x pu pv d h light step modest e = go f e (open-of f s x pu pv d (omega arith))
   where
@@ -205,7 +205,8 @@ module _ (n : ℕ) (ss : List Stream) (plain : Plain n ss) (xs : List ℕ) (d ro
 
   -- The ends of a stream that leaves the visited places.
   far-facts : (ls : List Bool) (s : Stream) → getD ls (s .from) false ≡ not (getD ls (s .to) false)
-      → (getD ls (farEnd ls s) false ≡ false) × (eqb (s .to) (farEnd ls s) ≡ getD ls (s .from) false) × (getD ls (otherEnd s (farEnd ls s)) false ≡ true) × (getD ls (s .from) false ≡ false → s .from ≡ farEnd ls s)
+      → (getD ls (farEnd ls s) false ≡ false) × (eqb (s .to) (farEnd ls s) ≡ getD ls (s .from) false) × (getD ls (otherEnd s (farEnd ls s)) false ≡ true)
+      × (getD ls (s .from) false ≡ false → s .from ≡ farEnd ls s)
   far-facts ls s c = by-cases (getD ls (s .from) false)
       (λ t. let q : farEnd ls s ≡ s .to = ap (λ (b : Bool). pick b (s .to) (s .from)) t in
       let o : eqb (s .to) (s .to) ≡ true = eq-eqb (s .to) (s .to) refl in
@@ -221,8 +222,10 @@ module _ (n : ℕ) (ss : List Stream) (plain : Plain n ss) (xs : List ℕ) (d ro
   -- There is a place that is not visited.
   pub some-left : (ps : List ℕ) (t : Tree) (e : ℕ) → Growing n ss xs d root ps t → e ≤ n → getD (t .visited) e false ≡ false → t .len < n
   some-left ps t e h le off =
-      omega
-      (arith, h .counted, count-more n e (λ v. getD (t .visited) v false) (λ v. getD (set (t .visited) e true) v false) le off (getD-set-same (t .visited) e true false (rw (h .visits) (omega (arith, le, plain .small)))) (λ v q. getD-set-other (t .visited) e v true false q), count-most n (λ v. getD (set (t .visited) e true) v false))
+      let marked = getD-set-same (t .visited) e true false (rw (h .visits) (omega (arith, plain .small))) in
+      let more = count-more n e (λ v. getD (t .visited) v false) (λ v. getD (set (t .visited) e true) v false) le off marked
+      (λ v q. getD-set-other (t .visited) e v true false q) in
+      omega (arith, h .counted, more, count-most n (λ v. getD (set (t .visited) e true) v false))
 
   pub far-off : (ls : List Bool) (s : Stream) → getD ls (s .from) false ≡ not (getD ls (s .to) false) → getD ls (farEnd ls s) false ≡ false
   far-off ls s c = far-facts ls s c .0
@@ -286,7 +289,8 @@ module _ (n : ℕ) (ss : List Stream) (plain : Plain n ss) (xs : List ℕ) (d ro
       e : ℕ
       e = farEnd (t .visited) s
 
-      f : (getD (t .visited) e false ≡ false) × (eqb (s .to) e ≡ getD (t .visited) (s .from) false) × (getD (t .visited) (otherEnd s e) false ≡ true) × (getD (t .visited) (s .from) false ≡ false → s .from ≡ e)
+      f : (getD (t .visited) e false ≡ false) × (eqb (s .to) e ≡ getD (t .visited) (s .from) false) × (getD (t .visited) (otherEnd s e) false ≡ true)
+          × (getD (t .visited) (s .from) false ≡ false → s .from ≡ e)
       f = far-facts (t .visited) s c
 
       le : e ≤ n
@@ -296,9 +300,7 @@ module _ (n : ℕ) (ss : List Stream) (plain : Plain n ss) (xs : List ℕ) (d ro
       small-e = rw (h .visits) (omega (arith, le, plain .small))
 
       few : t .len < places
-      few =
-          omega
-          (arith, h .counted, count-more n e (λ v. getD (t .visited) v false) (λ v. getD (set (t .visited) e true) v false) le (f .0) (getD-set-same (t .visited) e true false small-e) (λ v q. getD-set-other (t .visited) e v true false q), count-most n (λ v. getD (set (t .visited) e true) v false), plain .small)
+      few = omega (arith, some-left ps t e h le (f .0), plain .small)
 
       -- The new place and its stream, as they are stored.
       end-new : getD (set (t .ends) (t .len) e) (t .len) 0 ≡ e

@@ -57,8 +57,8 @@ pub record Since (n : ℕ) (es ps₀ ps : List ℕ) (t : Tree) : Type 0 where
   pub rise : (u : ℕ) → getD ps u 0 ≤ getD ps₀ u 0
   pub long : length ps ≡ length ps₀
 
-module _ (n : ℕ) (ss : List Stream) (plain : Plain n ss) (xs es : List ℕ) (d : ℕ) (step : d ≤ mostStep) (root : ℕ) (near : root ≤ n) (room : (k : ℕ) → k < length ss → d ≤ getD xs k 0) (moderate : Moderate ss xs)
-    (ps₀ : List ℕ) (capped : Potentials ps₀) (floor : Floored ps₀) where
+module _ (n : ℕ) (ss : List Stream) (plain : Plain n ss) (xs es : List ℕ) (d : ℕ) (step : d ≤ mostStep) (root : ℕ) (near : root ≤ n)
+    (room : (k : ℕ) → k < length ss → d ≤ getD xs k 0) (moderate : Moderate ss xs) (ps₀ : List ℕ) (capped : Potentials ps₀) (floor : Floored ps₀) where
   root-marked : (ps : List ℕ) (t : Tree) → Growing n ss xs d root ps t → getD (t .visited) root false ≡ true
   root-marked ps t h = h .marks root (omega (arith, plain .small)) ∙ reached-more root (t .ends) 0 (t .len) root (omega arith) (eq-eqb root root refl)
 
@@ -97,7 +97,9 @@ module _ (n : ℕ) (ss : List Stream) (plain : Plain n ss) (xs es : List ℕ) (d
     slack-room : slackAt ss xs ps d k (startIn ss (t .visited) k) < farthest → (u : ℕ) → u < places → getD (t .visited) u false ≡ true
         → slackAt ss xs ps d k (startIn ss (t .visited) k) ≤ getD ps u 0
     slack-room f u lu a =
-        omega (arith, across (open-of (startIn ss (t .visited) k) (streamAt ss k) (getD xs k 0) _ _ d f), head-floor, since .level tail u tail-small lu tail-on a, some-left n ss plain xs d root ps t head h head-near head-off, plain .small)
+        let rise = across (open-of (startIn ss (t .visited) k) (streamAt ss k) (getD xs k 0) _ _ d f) in
+        let few = some-left n ss plain xs d root ps t head h head-near head-off in
+        omega (arith, rise, head-floor, since .level tail u tail-small lu tail-on a, few, plain .small)
 
   grow-good : (l : ℕ) (ps : List ℕ) (t : Tree) → Growing n ss xs d root ps t → n ≤ l + t .len → Since n es ps₀ ps t
       → Hunt n ss xs es d root ps₀ (grow ss (length ss) xs es d l ps t)

@@ -131,9 +131,9 @@ module _ (ss : List Stream) (xs ps : List ℕ) (ls : List Bool) (d skip : ℕ) w
       let le = a .least j (b .below) (b .usable) (b .leaves) in
       let ge = b .least i (a .below) (a .usable) (a .leaves) in
       let same : g ≡ h = omega (arith, le, ge, a .is, b .is) in
-      let one : i ≡ j =
-      omega
-      (arith, le, ge, a .is, b .is, a .first j (b .below) (b .usable) (b .leaves) (omega (arith, le, ge, a .is, b .is)), b .first i (a .below) (a .usable) (a .leaves) (omega (arith, le, ge, a .is, b .is))) in
+      let before = a .first j (b .below) (b .usable) (b .leaves) (omega (arith, a .is, b .is)) in
+      let after = b .first i (a .below) (a .usable) (a .leaves) (omega (arith, a .is, b .is)) in
+      let one : i ≡ j = omega (arith, before, after) in
       rw (same, one)
 
   pub answers-same : (n : ℕ) (f : Crossing) → Answers ss xs ps ls d skip n f → leastTo ss xs ps ls d skip n ≡ f

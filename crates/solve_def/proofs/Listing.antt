@@ -39,7 +39,9 @@ module _ (fs ts : List ℕ) where
   pub arc-less : (u i c n : ℕ) → c < n → 2 * i ≤ c → n ≤ 2 * maxStreams → pick {A = ℕ} (ltb (arcAt fs ts u i) n) (suc (arcAt fs ts u i)) 0 < pick {A = ℕ} (ltb c n) (suc c) 0
   arc-less u i c n l h m =
       rw (lt-ltb c n l)
-      (⊎-elim (λ o. go (ltb (arcAt fs ts u i) n) (omega (arith, o .0, arc-is u i .1, arc-is u i .2))) (λ o. rw (le-ltb (arcAt fs ts u i) n (omega (arith, o, arc-is u i .1))) (omega arith)) (last-good u i))
+      (⊎-elim (λ o. go (ltb (arcAt fs ts u i) n) (omega (arith, o .0, arc-is u i .1, arc-is u i .2)))
+      (λ o. rw (le-ltb (arcAt fs ts u i) n (omega (arith, o, arc-is u i .1))) (omega arith))
+      (last-good u i))
     where
       go : (b : Bool) → arcAt fs ts u i < c → pick {A = ℕ} b (suc (arcAt fs ts u i)) 0 < suc c
       go true h = omega arith

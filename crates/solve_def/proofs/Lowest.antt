@@ -6,7 +6,7 @@ use native.Mathlib.Nat.{pow-suc, pow-succ', div-one, div-div-eq-div-mul, div-lt-
 use native.Mathlib.Omega.{arith}
 use lib.Dec.{eqb}
 use lib.Bits.{bitAnd, and-step, and-self}
-use lib.Count.{trailingZeros, under}
+use lib.Count.{trailingZeros}
 use Rattle.flow_def.specs.Sides.{bit}
 
 -- The bits of a number's half are its own from the second on.

@@ -2,7 +2,7 @@
 use mathlib.Core.Path.{_≡_, refl, sym, _∙_, ap, subst}
 use mathlib.Core.Bool.{Bool, true, false}
 use mathlib.Core.List.{List}
-use lib.IntN.{ℤ, pos, _+ℤ_, _-ℤ_}
+use lib.IntN.{pos, _+ℤ_, _-ℤ_}
 use Prim.Native.Nat.{ℕ, zero, suc, _+_, _-_, _*_, _/_, _≤_, _<_}
 use native.Mathlib.Nat.{mul-le-mul-left, mul-le-mul-right, div-add-mod, mod-lt}
 use native.Mathlib.Omega.{arith}
@@ -32,7 +32,7 @@ use Rattle.solve_def.proofs.Booking.{nets-around, nets-long, nets-right
 
 -- A number brought into a range: it is in it; above its low it was not raised, below its high not lowered.
 module _ (L H x : ℕ) where
-  pub clamped-in : L ≤ H → (L ≤ clamped L H x) × (clamped L H x ≤ H)
+  clamped-in : L ≤ H → (L ≤ clamped L H x) × (clamped L H x ≤ H)
   clamped-in o =
       picked (λ (y : ℕ). (L ≤ y) × (y ≤ H)) (ltb x L) L (pick (ltb H x) H x)
       (λ e. (omega arith, o))
@@ -90,10 +90,10 @@ module _ (w R pu pv : ℕ) (l : 1 ≤ w) where
           more y e = omega (arith, mul-le-mul-left w e)
 
 -- The settled amount is in range and meets the step condition.
-pub settled-in : (s : Stream) (pu pv : ℕ) → lowOf s ≤ highOf s → (lowOf s ≤ settledOf s pu pv) × (settledOf s pu pv ≤ highOf s)
+settled-in : (s : Stream) (pu pv : ℕ) → lowOf s ≤ highOf s → (lowOf s ≤ settledOf s pu pv) × (settledOf s pu pv ≤ highOf s)
 settled-in s pu pv o = clamped-in (lowOf s) (highOf s) (nearestAmount (weightOf s) (readingOf s) pu pv) o
 
-pub settled-held : (s : Stream) (pu pv : ℕ) → 1 ≤ weightOf s → Held 1 (weightOf s) (settledOf s pu pv) (readingOf s) pu pv (lowOf s) (highOf s)
+settled-held : (s : Stream) (pu pv : ℕ) → 1 ≤ weightOf s → Held 1 (weightOf s) (settledOf s pu pv) (readingOf s) pu pv (lowOf s) (highOf s)
 settled-held s pu pv l = record {
   low = λ c. low (clamped-down (lowOf s) (highOf s) (nearestAmount (weightOf s) (readingOf s) pu pv) (omega arith)) c;
   high = λ c. high (clamped-up (lowOf s) (highOf s) (nearestAmount (weightOf s) (readingOf s) pu pv) (omega arith));
@@ -118,13 +118,13 @@ settled-held s pu pv l = record {
 
 -- Two amounts in one range, held at d and at 1 by the same potentials, differ by at most d.
 module _ (d w X Y R u v L H : ℕ) (l : 1 ≤ w) (a : Held d w X R u v L H) (b : Held 1 w Y R u v L H) (i : (L ≤ X) × (X ≤ H)) (j : (L ≤ Y) × (Y ≤ H)) where
-  pub near-above : Y ≤ X + d
+  near-above : Y ≤ X + d
   near-above = elim (decLe Y (X + d)) [ yes k ↦ k | no k ↦ absurd (far (omega arith)) ]
     where
       far : X + d + 1 ≤ Y → ⊥
       far h = omega (arith, mul-le-mul-left w h, a .high (omega (arith, j .1)), b .low (omega (arith, i .0)))
 
-  pub near-below : X ≤ Y + d
+  near-below : X ≤ Y + d
   near-below = elim (decLe X (Y + d)) [ yes k ↦ k | no k ↦ absurd (far (omega arith)) ]
     where
       far : Y + d + 1 ≤ X → ⊥
@@ -144,7 +144,7 @@ module _ (ss : List Stream) (ps xs : List ℕ) where
       go true r = length-set (settledTo ss ps xs n) n _ ∙ r
       go false r = r
 
-  pub settled-past : (n k : ℕ) → n ≤ k → getD (settledTo ss ps xs n) k 0 ≡ getD xs k 0
+  settled-past : (n k : ℕ) → n ≤ k → getD (settledTo ss ps xs n) k 0 ≡ getD xs k 0
   unfolding settledTo
   settled-past zero k l = refl
   settled-past (suc n) k l = go (streamAt ss n .metered) (settled-past n k (omega arith))

@@ -110,7 +110,7 @@ module _ (near : List ℕ) (limit : ℕ) (long : length near ≡ places) where
   past : getD near places far ≡ far
   past = List·getD-eq-default near far {n = places} (omega (arith, long))
 
-  pub within-none : ((v : ℕ) → Within v → ⊥) → places ≡ nearestWithin near limit
+  within-none : ((v : ℕ) → Within v → ⊥) → places ≡ nearestWithin near limit
   within-none none = go (nearestTo near places) good
     where
       go : (s : ℕ) → Nearest near places s → places ≡ pick (ltb limit (getD near s far / numbering)) places s
@@ -118,7 +118,7 @@ module _ (near : List ℕ) (limit : ℕ) (long : length near ≡ places) where
           (λ t. rw t)
           (λ t. rw t (⊎-elim (λ o. absurd (none s (o .0, rw (← any s (o .0)) (o .1), rw (← any s (o .0)) (ltb-false _ _ t)))) (λ o. sym o) (w .one)))
 
-  pub within-one : (r : ℕ) → Within r → ((v : ℕ) → Within v → getD near r 0 ≤ getD near v 0) → ((v : ℕ) → v < r → Within v → getD near r 0 < getD near v 0)
+  within-one : (r : ℕ) → Within r → ((v : ℕ) → Within v → getD near r 0 ≤ getD near v 0) → ((v : ℕ) → v < r → Within v → getD near r 0 < getD near v 0)
       → r ≡ nearestWithin near limit
   within-one r h least first = is ∙ sym (rw (← is, any r (h .0), le-ltb limit _ (h .2)))
     where
@@ -170,7 +170,7 @@ module _ (near : List ℕ) (m left at best : ℕ) (w : Scan near m left at best)
   abbrev rest : ℕ
   rest = bitAnd left (left - 1)
 
-  pub scan-in : (w .u ≤ t) × (t < places)
+  scan-in : (w .u ≤ t) × (t < places)
   scan-in = w .inside t (lowest 64 left some small)
 
   -- No place of the fringe was passed by.
@@ -228,9 +228,6 @@ module _ (limit : ℕ) (near : List ℕ) (m at best : ℕ) (o : Open limit near 
     | yes k ↦ clash (bit v 0) (w .others v k (o .all v (h .0) (h .1) (h .2))) (bit-zero v)
     | no k ↦ w .least v (omega arith) (o .all v (h .0) (h .1) (h .2))
   ]
-
-  pub scan-far : limit < best / numbering → places ≡ nearestWithin near limit
-  scan-far h = within-none near limit long (λ v k. omega (arith, h, no-less v k, k .2))
 
   pub scan-near : best / numbering ≤ limit → at ≡ nearestWithin near limit
   scan-near h = ⊎-elim

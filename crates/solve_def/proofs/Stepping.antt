@@ -48,7 +48,8 @@ module _ (limit : ℕ) (codes : List ℕ) (e f : ℕ) (long : length codes ≡ p
   }
 
 -- The walk by its steps.
-module _ (fs ts gs bs : List ℕ) (n : ℕ) (es : List ℕ) (limit k e : ℕ) (ks near : List ℕ) (t : Tree) (long : length near ≡ places) (next : List ℕ) (r : Spot) (w : Stepped limit (relaxedTo fs ts gs bs (t .visited) k e n near) k next r) where
+module _ (fs ts gs bs : List ℕ) (n : ℕ) (es : List ℕ) (limit k e : ℕ) (ks near : List ℕ) (t : Tree) (long : length near ≡ places) (next : List ℕ)
+    (r : Spot) (w : Stepped limit (relaxedTo fs ts gs bs (t .visited) k e n near) k next r) where
   abbrev codes : List ℕ
   codes = relaxedTo fs ts gs bs (t .visited) k e n near
 

@@ -17,7 +17,8 @@ use Rattle.solve_def.specs.Near.{relaxedTo, nearestTo, nearestWithin, wa
 use Rattle.solve_def.proofs.Filling.{getD-any}
 use Rattle.solve_def.proofs.Nearing.{nearest-is}
 
-module _ (fs ts gs bs : List ℕ) (n : ℕ) (es : List ℕ) (limit k e : ℕ) (ks near : List ℕ) (t : Tree) (codes : List ℕ) (is : codes ≡ relaxedTo fs ts gs bs (t .visited) k e n near) (r : ℕ) (nearest : r ≡ nearestTo codes places) where
+module _ (fs ts gs bs : List ℕ) (n : ℕ) (es : List ℕ) (limit k e : ℕ) (ks near : List ℕ) (t : Tree) (codes : List ℕ) (is : codes ≡ relaxedTo fs ts gs bs (t .visited) k e n near)
+    (r : ℕ) (nearest : r ≡ nearestTo codes places) where
   -- No stream leads on; the nearest place is too far; it has a negative net; or it has not.
   pub walk-none : (l : ℕ) → 0 < l → r ≡ places → walked fs ts gs bs n es limit l k e ks near t ≡ walkedBy false t ks k
   unfolding walked

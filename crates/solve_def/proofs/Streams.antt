@@ -28,7 +28,7 @@ pub record Solvable (ss : List Stream) : Type 0 where
 
 -- Streams within the limits of a plant.
 module _ {n : ℕ} (ss : List Stream) (small : n ≤ maxUnits) (few : length ss ≤ maxStreams) (each : (k : ℕ) → k < length ss → WithinStream n (streamAt ss k)) where
-  pub plain-in : Plain maxUnits ss
+  plain-in : Plain maxUnits ss
   plain-in = record {
     inside = λ k l. (omega (arith, each k l .from-in), omega (arith, each k l .to-in));
     small = omega arith;
@@ -62,9 +62,6 @@ module _ (streams : List Stream) (n : ℕ) (w : Network streams n) where
     where
       at : k < n
       at = rw (in-use streams n w) at l
-
-  pub plain-of : Plain maxUnits (take n streams)
-  plain-of = plain-in (take n streams) (omega arith) few-of each-of
 
   pub solvable-of : Solvable (take n streams)
   solvable-of = solvable-with (take n streams) (omega arith) few-of each-of

@@ -181,7 +181,7 @@ module _ (d : ℕ) (s : Stream) (X pu pv : ℕ) (few : d ≤ mostStep) (r : Rang
       far : 2 * X + d + 1 ≤ 2 * readingOf s
       far = omega (arith, z .1)
 
-  pub slopes : Slopes mostRange (unshifted X) (pos pv -ℤ pos pu)
+  slopes : Slopes mostRange (unshifted X) (pos pv -ℤ pos pu)
   slopes = record {
     runs-up = λ l. omega (arith, high-slope (omega (arith, unshifted-val X)), minus-val (pos pv) (pos pu));
     runs-down = λ l. omega (arith, low-slope (omega (arith, unshifted-val X)), minus-val (pos pv) (pos pu));

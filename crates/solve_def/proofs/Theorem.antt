@@ -67,13 +67,13 @@ module _ (q : Plant) (w : Within q) (e : Ended) (f : Finished (q .streams) e) wh
     even : Even ss ps 0 (e .state .flows)
     even = finished-even ss (solvable-in q w) e f n
 
-    pub ended-cheapest : Cheapest q (opened (length ss) ys)
+    ended-cheapest : Cheapest q (opened (length ss) ys)
     ended-cheapest = tied-cheapest q w (solvable-in q w) ps (e .state .flows) even
 
-    pub ended-sure : Certificate q (opened (length ss) ys) (potentialAt ps)
+    ended-sure : Certificate q (opened (length ss) ys) (potentialAt ps)
     ended-sure = tied-sure q w (solvable-in q w) ps (e .state .flows) even
 
-    pub ended-even : Even ss ps (length ss) ys
+    ended-even : Even ss ps (length ss) ys
     ended-even = ended q w (solvable-in q w) ps (e .state .flows) even
 
   pub ended-full : e .full ≡ true → Overfull q (masked (q .units) (e .marked))

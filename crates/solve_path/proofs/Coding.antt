@@ -1,6 +1,6 @@
 -- The codes that a walk keeps: what an offer changes.
 use mathlib.Core.Path.{_≡_, refl, sym, _∙_, ap}
-use mathlib.Core.Bool.{Bool, true, false, _||_}
+use mathlib.Core.Bool.{Bool, true, false}
 use mathlib.Core.List.{List}
 use Prim.Native.Nat.{ℕ, _+_, _*_, _/_, _%_, _^_, _≤_, _<_}
 use native.Mathlib.Omega.{arith}
@@ -19,7 +19,7 @@ use Rattle.flow_def.proofs.Binary.{bit-or, bit-zero, bit-other}
 use Rattle.flow_def.proofs.Passed.{shifted}
 use Rattle.solve_def.specs.Sizes.{far, farthest}
 use Rattle.solve_def.specs.Near.{codeOf, lessened, arcAt, relaxedAlong, relaxedTo}
-use Rattle.solve_def.specs.Fringe.{Open, openedBy}
+use Rattle.solve_def.specs.Fringe.{openedBy}
 use Rattle.solve_def.proofs.Opening.{open-offered}
 use Rattle.solve_arcs.specs.Cells.{toCell, nextCell, countOf, startsOf, endsOf}
 use Rattle.solve_arcs.specs.Margins.{lessOf, reducedCost, reducedCosts}
@@ -100,10 +100,10 @@ module _ (vs : List Bool) (near : List ℕ) (m v k g i : ℕ) (w : Coded vs near
       fringe = rw (less-shown, ← same-opened) (open-offered far (shown vs near) m v (k + g) i (w .fringe) l (shown-long vs near) (omega arith));
     }
 
-  pub offered-coded : Coded vs offered widened
+  offered-coded : Coded vs offered widened
   offered-coded = by-cases (getD vs v false) (λ o. rw (same-codes o, same-fringe o) w) new
 
-  pub offered-along : shown vs offered ≡ relaxedAlong vs k v g i (shown vs near)
+  offered-along : shown vs offered ≡ relaxedAlong vs k v g i (shown vs near)
   offered-along = by-cases (getD vs v false)
       (λ o. ap (shown vs) (same-codes o) ∙ along-visited vs k v g i (shown vs near) o)
       (λ o. less-shown o ∙ along-open vs k v g i (shown vs near) o)

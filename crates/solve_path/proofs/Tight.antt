@@ -2,7 +2,7 @@
 use mathlib.Core.Path.{_≡_, refl, sym, _∙_, ap}
 use mathlib.Core.Bool.{Bool, true, false}
 use mathlib.Core.List.{List}
-use Prim.Native.Nat.{ℕ, _+_, _-_, _/_, _≤_, _<_}
+use Prim.Native.Nat.{ℕ, _-_, _/_, _≤_, _<_}
 use native.Mathlib.Omega.{arith}
 use borrow.Author.Tests.{lt-ltb, le-ltb, ltb-false}
 use lib.Dec.{ltb}
@@ -13,8 +13,7 @@ use Rattle.plant_def.specs.Limits.{places}
 use Rattle.solve_def.specs.declared.Spot.{Spot}
 use Rattle.solve_def.specs.declared.Tree.{Tree}
 use Rattle.solve_def.specs.declared.Walked.{Walked}
-use Rattle.solve_def.specs.declared.Searched.{Searched}
-use Rattle.solve_def.specs.Sizes.{netShift, searchRounds, far, farthest, numbering}
+use Rattle.solve_def.specs.Sizes.{searchRounds, far, numbering}
 use Rattle.solve_def.specs.Search.{rootAt, addedTo}
 use Rattle.solve_def.specs.Near.{nearestTo, nearestWithin, goalAt, walkedBy, walked}
 use Rattle.solve_def.specs.Fringe.{Open, Stepped}

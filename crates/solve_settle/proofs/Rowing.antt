@@ -21,7 +21,8 @@ module _ (ls rs : List ℕ) (w : Laying ls rs) (i : ℕ) (l : i < countOf ls) wh
 
   module _ (ps xs ys : List ℕ) (e : ys ≡ settledTo (take (w .n) (w .streams)) ps xs i) where
     pub settled-row : (r : ℕ) → 0 < getD rs (4 * i) 0
-        → r ≡ clamped (getD rs (4 * i + 2) 0) (getD rs (4 * i + 3) 0) (nearestAmount (getD rs (4 * i) 0) (readingOf s) (getD ps (getD ls (toCell + 2 * i) 0) 0) (getD ps (getD ls (toCell + (2 * i + 1)) 0) 0))
+        → r ≡ clamped (getD rs (4 * i + 2) 0) (getD rs (4 * i + 3) 0)
+        (nearestAmount (getD rs (4 * i) 0) (readingOf s) (getD ps (getD ls (toCell + 2 * i) 0) 0) (getD ps (getD ls (toCell + (2 * i + 1)) 0) 0))
         → set ys i r ≡ settledTo (take (w .n) (w .streams)) ps xs (i + 1)
     settled-row r h q =
         rw (q, e, w .laid .rowed .lows i (below ls rs w i l), w .laid .rowed .highs i (below ls rs w i l), w .laid .rowed .weights i (below ls rs w i l), from-is ls rs w i l, to-is ls rs w i l)

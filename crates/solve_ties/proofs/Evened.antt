@@ -14,10 +14,6 @@ use Rattle.plant_def.specs.declared.Stream.{Stream}
 use Rattle.plant_def.specs.Limits.{maxUnits}
 use Rattle.plant_def.specs.Plants.{noStream}
 use Rattle.flow_def.specs.Flows.{streamAt}
-use Rattle.flow_def.specs.Certificate.{weightOf}
-use Rattle.solve_def.specs.declared.Tree.{Tree}
-use Rattle.solve_def.specs.Sizes.{farthest}
-use Rattle.solve_def.specs.Slack.{slackAt, slackPast}
 use Rattle.solve_def.specs.Search.{Grown}
 use Rattle.solve_def.specs.SearchNeeds.{Network, Trail, Walkable}
 use Rattle.solve_def.specs.Model.{tiedAt}
@@ -33,7 +29,7 @@ use Rattle.solve_arcs.specs.Margins.{spared, reducedCost, reducedCosts}
 use Rattle.solve_arcs.proofs.Along.{starts-at, ends-at, slack-is}
 use Rattle.solve_arcs.specs.ArcNeeds.{Rowed, Laid, Margined, Free, Laying, Searching}
 use Rattle.solve_arcs.proofs.Finding.{slacked}
-use Rattle.solve_ties.specs.Evens.{Tieable, Tying}
+use Rattle.solve_ties.specs.Evens.{Tieable}
 
 -- The arc of a stream backwards.
 pub small-back : (ls ms : List ℕ) (i : ℕ) → ((k : ℕ) (f : Bool) → k < countOf ls → getD ms (arcOf k f) 0 ≤ Mg.shut) → i < countOf ls → getD ms (2 * i) 0 ≤ Mg.shut

@@ -29,16 +29,10 @@ within c = c .before .before .pre .0 .within .each _ (c .loop-test .taken)
 cast-arcs : tie.Need-cast-arcs Inv-loop μ-loop
 cast-arcs c = omega (arith, c .pre .0 .within .few-streams)
 
-element-write-arcs : tie.Need-element-write-arcs Inv-loop μ-loop
-element-write-arcs c = search needs
-
 loop-holds : tie.Need-loop-holds Inv-loop μ-loop
 loop-holds c =
     let l = listed-counted (startsIn (c .args .t1) (c .args .count)) (endsIn (c .args .t1) (c .args .count)) (c .args .arcs .now) (c .args .count) (c .pre .1) (c .pre .2) in
     (omega arith, l .0, l .1, rowed-none _ _ (c .pre .3))
-
-mul-s : tie.Need-mul-s Inv-loop μ-loop
-mul-s c = search needs
 
 array-copy-out-s : tie.Need-array-copy-out-s Inv-loop μ-loop
 array-copy-out-s c = few c
@@ -52,12 +46,6 @@ put-row-requires : tie.Need-put-row-requires Inv-loop μ-loop
 put-row-requires c κs =
     let on = c .before .before .before .before in
     (on .before .loop .inv .3 .long, few on, within on)
-
-add-i : tie.Need-add-i Inv-loop μ-loop
-add-i c = search needs
-
-loop-less : tie.Need-loop-less Inv-loop μ-loop
-loop-less c = search needs
 
 loop-again : tie.Need-loop-again Inv-loop μ-loop
 loop-again c =
@@ -87,17 +75,5 @@ returns c =
 pub lay-spec : {M : Type 1} → statement M
 lay-spec =
     tie.close
-    (tie.spec
-    Inv-loop
-    μ-loop
-    cast-arcs
-    element-write-arcs
-    loop-holds
-    mul-s
-    array-copy-out-s
-    list-arcs-requires
-    put-row-requires
-    add-i
-    loop-less
-    loop-again
-    returns)
+    (tie.spec Inv-loop μ-loop cast-arcs (λ c. search needs) loop-holds (λ c. search needs) array-copy-out-s
+    list-arcs-requires put-row-requires (λ c. search needs) (λ c. search needs) loop-again returns)

@@ -4,21 +4,6 @@ use borrow.Author.Needs.{needs}
 use Rattle.solve_arcs_fill.proofs.list_arcs.Statement.{statement}
 use Rattle.solve_arcs_fill.proofs.list_arcs.Tie as tie
 
-wide-requires : tie.Need-wide-requires
-wide-requires c κs = search needs
-
-wide-requires-2 : tie.Need-wide-requires-2
-wide-requires-2 c κs = search needs
-
-element-copy-out-x : tie.Need-element-copy-out-x
-element-copy-out-x c = search needs
-
-element-copy-out-y : tie.Need-element-copy-out-y
-element-copy-out-y c = search needs
-
-put-ends-requires : tie.Need-put-ends-requires
-put-ends-requires c κs = search needs
-
 abbrev start-of : tie.After-put-ends → tie.Start
 start-of c = c .before .before .before .before .before .before
 
@@ -41,12 +26,5 @@ returns c =
 pub list-arcs-spec : {M : Type 1} → statement M
 list-arcs-spec =
     tie.close
-    (tie.spec
-    wide-requires
-    wide-requires-2
-    element-copy-out-x
-    element-copy-out-y
-    put-ends-requires
-    put-next-requires
-    put-first-requires
-    returns)
+    (tie.spec (λ c κs. search needs) (λ c κs. search needs) (λ c. search needs) (λ c. search needs)
+    (λ c κs. search needs) put-next-requires put-first-requires returns)

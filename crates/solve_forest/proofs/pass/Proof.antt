@@ -1,10 +1,8 @@
 -- `solve_forest::pass` meets its contract: each stream keeps what is asked of a forest.
-use mathlib.Core.Path.{_≡_}
 use mathlib.Core.Logic.{⊎-elim}
 use Prim.Native.Nat.{_≤_, _<_, _-_}
 use native.Mathlib.Omega.{arith}
 use borrow.Author.Needs.{needs}
-use Rattle.plant_def.specs.Limits.{places}
 use Rattle.solve_arcs.specs.Cells.{countOf}
 use Rattle.solve_arcs.specs.ArcNeeds.{Laying}
 use Rattle.solve_arcs.proofs.Rowing.{below, low-in, start-in, end-in, free-of}
@@ -28,9 +26,6 @@ used c = rw (← c .before .before .count-of .ensures) (c .loop-test .taken)
 
 few : (c : tie.In-loop Inv-loop μ-loop) → c .before .loop .i < 96
 few c = low-in _ _ (begin c .pre .0) _ (used c)
-
-count-of-requires : tie.Need-count-of-requires Inv-loop μ-loop
-count-of-requires c κs = search needs
 
 loop-holds : tie.Need-loop-holds Inv-loop μ-loop
 loop-holds c = (omega arith, c .before .pre .1, c .before .pre .2)
@@ -69,12 +64,6 @@ along-requires c κs =
     let w = begin on .pre .0 in
     (on .before .loop .inv .1, rw (v .before .end-at .ensures) (start-in _ _ w _ (used on)), rw (v .end-at2 .ensures) (end-in _ _ w _ (used on)))
 
-add-i : tie.Need-add-i Inv-loop μ-loop
-add-i c = search needs
-
-loop-less : tie.Need-loop-less Inv-loop μ-loop
-loop-less c = search needs
-
 loop-again : tie.Need-loop-again Inv-loop μ-loop
 loop-again c =
     let on = c .before .before in
@@ -94,22 +83,6 @@ returns c = (c .before .loop .inv .1, c .before .loop .inv .2)
 pub pass-spec : {M : Type 1} → statement M
 pass-spec =
     tie.close
-    (tie.spec
-    Inv-loop
-    μ-loop
-    count-of-requires
-    loop-holds
-    mul-if1
-    mul-if1-2
-    element-copy-out-if1
-    mul-end-at
-    end-at-requires
-    mul-end-at-2
-    add-end-at
-    end-at-requires-2
-    cast-along
-    along-requires
-    add-i
-    loop-less
-    loop-again
-    returns)
+    (tie.spec Inv-loop μ-loop (λ c κs. search needs) loop-holds mul-if1 mul-if1-2 element-copy-out-if1 mul-end-at
+    end-at-requires mul-end-at-2 add-end-at end-at-requires-2 cast-along along-requires (λ c. search needs)
+    (λ c. search needs) loop-again returns)

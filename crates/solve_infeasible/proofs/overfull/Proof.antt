@@ -61,9 +61,6 @@ press-is c =
     let f = c .before .before .before in
     c .pressed .ensures ∙ press-same (begin (inner f) .args .marked .now) _ _ (f .before .before .before .before .before .end-at .ensures) (f .before .before .before .end-at2 .ensures)
 
-count-of-requires : tie.Need-count-of-requires Inv-loop μ-loop
-count-of-requires c κs = search needs
-
 loop-holds : tie.Need-loop-holds Inv-loop μ-loop
 loop-holds c = (omega arith, omega arith, λ w. (bounded-none _ _, sym (pressed-none _ _)))
 
@@ -106,9 +103,6 @@ mul-low-2 c = omega (arith, low-in (c .before .before .before .before))
 element-copy-out-low : tie.Need-element-copy-out-low Inv-loop μ-loop
 element-copy-out-low c = omega (arith, low-in (c .before .before .before .before))
 
-may-cross-requires : tie.Need-may-cross-requires Inv-loop μ-loop
-may-cross-requires c κs = search needs
-
 returns : tie.Need-returns Inv-loop μ-loop
 returns c = λ w. full-stop _ _ w _ _ (below (inner (c .before))) (sym (may-is (c .before)) ∙ not-true _ (c .if1 .taken))
 
@@ -147,12 +141,6 @@ add-sum c =
     let on = inner (c .before .before .before) in
     omega (arith, sum-most c, on .before .loop .inv .1, on .loop-test .taken, few (on .before .before))
 
-add-i : tie.Need-add-i Inv-loop μ-loop
-add-i c = search needs
-
-loop-less : tie.Need-loop-less Inv-loop μ-loop
-loop-less c = search needs
-
 loop-again : tie.Need-loop-again Inv-loop μ-loop
 loop-again c =
     let f = c .before .before .before in
@@ -177,32 +165,7 @@ returns-2 c = λ w.
 pub overfull-spec : {M : Type 1} → statement M
 overfull-spec =
     tie.close
-    (tie.spec
-    Inv-loop
-    μ-loop
-    count-of-requires
-    loop-holds
-    mul-end-at
-    end-at-requires
-    element-copy-out-start
-    mul-end-at-2
-    add-end-at
-    end-at-requires-2
-    element-copy-out-end
-    mul-low
-    add-low
-    mul-low-2
-    element-copy-out-low
-    may-cross-requires
-    returns
-    mul-pressed
-    add-pressed
-    mul-pressed-2
-    element-copy-out-pressed
-    pressed-requires
-    add-sum
-    add-i
-    loop-less
-    loop-again
-    mul-result
-    returns-2)
+    (tie.spec Inv-loop μ-loop (λ c κs. search needs) loop-holds mul-end-at end-at-requires element-copy-out-start
+    mul-end-at-2 add-end-at end-at-requires-2 element-copy-out-end mul-low add-low mul-low-2 element-copy-out-low
+    (λ c κs. search needs) returns mul-pressed add-pressed mul-pressed-2 element-copy-out-pressed pressed-requires
+    add-sum (λ c. search needs) (λ c. search needs) loop-again mul-result returns-2)

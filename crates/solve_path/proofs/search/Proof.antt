@@ -10,9 +10,6 @@ walk-requires c κs =
     let w = st .pre .0 in
     (ways-of _ _ _ _ _ _ _ _ _ (w .laid) (w .margined) (w .walkable), st .pre .1)
 
-lower-requires : tie.Need-lower-requires
-lower-requires c κs = search needs
-
 returns : tie.Need-returns
 returns c = λ w.
     let e = c .before .before .before .before .before .before in
@@ -29,4 +26,4 @@ returns-2 c = λ w.
     (rw (c .if1 .left) at (search-linked (st .args .arcs .now) (st .args .margins .now) (st .args .potentials .now) (st .args .nets .now) (st .args .delta) (st .args .s) (st .pre .1) w (f .walk .result) (f .walk .ensures)))
 
 pub search-spec : {M : Type 1} → statement M
-search-spec = tie.close (tie.spec walk-requires lower-requires returns returns-2)
+search-spec = tie.close (tie.spec walk-requires (λ c κs. search needs) returns returns-2)

@@ -3,8 +3,6 @@ use native.Mathlib.Omega.{arith}
 use borrow.Author.Needs.{needs}
 use Rattle.solve_settle.proofs.amount_at.Statement.{statement}
 use Rattle.solve_settle.proofs.amount_at.Tie as tie
-use Rattle.solve_settle.proofs.clamp.Reads as clamp-reads
-use Rattle.solve_settle.proofs.nearest.Reads as nearest-reads
 
 mul-nearest : tie.Need-mul-nearest
 mul-nearest c = omega (arith, c .pre .0 .low)
@@ -54,31 +52,12 @@ mul-clamp-4 c = omega (arith, c .before .before .before .before .pre .0 .low)
 element-copy-out-clamp-2 : tie.Need-element-copy-out-clamp-2
 element-copy-out-clamp-2 c = omega (arith, c .before .before .before .before .pre .0 .low)
 
-clamp-requires : tie.Need-clamp-requires
-clamp-requires c κs = search needs
-
 returns : tie.Need-returns
 returns c = λ R e. rw (c .clamp .ensures, c .before .before .before .nearest .ensures R e)
 
 pub amount-at-spec : {M : Type 1} → statement M
 amount-at-spec =
     tie.close
-    (tie.spec
-    mul-nearest
-    mul-nearest-2
-    element-copy-out-nearest
-    mul-nearest-3
-    add-nearest
-    mul-nearest-4
-    element-copy-out-nearest-2
-    nearest-requires
-    mul-clamp
-    add-clamp
-    mul-clamp-2
-    element-copy-out-clamp
-    mul-clamp-3
-    add-clamp-2
-    mul-clamp-4
-    element-copy-out-clamp-2
-    clamp-requires
-    returns)
+    (tie.spec mul-nearest mul-nearest-2 element-copy-out-nearest mul-nearest-3 add-nearest mul-nearest-4
+    element-copy-out-nearest-2 nearest-requires mul-clamp add-clamp mul-clamp-2 element-copy-out-clamp mul-clamp-3
+    add-clamp-2 mul-clamp-4 element-copy-out-clamp-2 (λ c κs. search needs) returns)

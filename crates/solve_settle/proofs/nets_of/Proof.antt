@@ -5,7 +5,6 @@ use Prim.Native.Nat.{ℕ, _≤_, _<_, _-_}
 use native.Mathlib.Omega.{arith}
 use borrow.Author.Needs.{needs}
 use lib.ListN.{take}
-use Rattle.plant_def.specs.Limits.{places}
 use Rattle.solve_def.specs.Sizes.{netRoom}
 use Rattle.solve_def.specs.Model.{netsTo}
 use Rattle.solve_def.proofs.Booking.{nets-around, around-more}
@@ -33,9 +32,6 @@ below c = rw (← c .before .before .count-of .ensures) (c .loop-test .taken)
 
 few : (c : tie.In-loop Inv-loop μ-loop) → c .before .loop .i < 96
 few c = low-in _ _ (begin c .pre .0 .1) _ (below c)
-
-count-of-requires : tie.Need-count-of-requires Inv-loop μ-loop
-count-of-requires c κs = search needs
 
 loop-holds : tie.Need-loop-holds Inv-loop μ-loop
 loop-holds c = (omega arith, λ rs w. sym (nets-none _ _))
@@ -80,12 +76,6 @@ book-requires c κs =
           (λ k h. st .pre .1 k (omega (arith, few on)))) netRoom (omega (arith, few on))),
     )
 
-add-i : tie.Need-add-i Inv-loop μ-loop
-add-i c = search needs
-
-loop-less : tie.Need-loop-less Inv-loop μ-loop
-loop-less c = search needs
-
 loop-again : tie.Need-loop-again Inv-loop μ-loop
 loop-again c =
     let v = c .before .before .before in
@@ -101,20 +91,6 @@ returns c = λ rs w.
 pub nets-of-spec : {M : Type 1} → statement M
 nets-of-spec =
     tie.close
-    (tie.spec
-    Inv-loop
-    μ-loop
-    count-of-requires
-    loop-holds
-    mul-end-at
-    end-at-requires
-    mul-end-at-2
-    add-end-at
-    end-at-requires-2
-    mul-book
-    element-copy-out-book
-    book-requires
-    add-i
-    loop-less
-    loop-again
+    (tie.spec Inv-loop μ-loop (λ c κs. search needs) loop-holds mul-end-at end-at-requires mul-end-at-2 add-end-at
+    end-at-requires-2 mul-book element-copy-out-book book-requires (λ c. search needs) (λ c. search needs) loop-again
     returns)

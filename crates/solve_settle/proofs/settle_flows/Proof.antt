@@ -37,9 +37,6 @@ u-in c = let on = c .before .before .before in rw (c .end-at .ensures) (start-in
 v-in : (c : tie.After-end-at2 Inv-loop μ-loop) → c .end-at2 .result < places
 v-in c = let on = c .before .before .before .before in rw (c .end-at2 .ensures) (end-in _ _ (begin on .pre .0) _ (below on))
 
-count-of-requires : tie.Need-count-of-requires Inv-loop μ-loop
-count-of-requires c κs = search needs
-
 loop-holds : tie.Need-loop-holds Inv-loop μ-loop
 loop-holds c = (omega arith, λ w. sym (settle-none _ _ _))
 
@@ -86,18 +83,6 @@ amount-at-requires c κs =
     let st = begin on in
     (row-at _ _ (st .pre .0) _ (below on), omega (arith, v .before .before .if1 .taken), st .pre .1 _ (u-in (v .before)), st .pre .1 _ (v-in v))
 
-mul-flows : tie.Need-mul-flows Inv-loop μ-loop
-mul-flows c = search needs
-
-element-write-flows : tie.Need-element-write-flows Inv-loop μ-loop
-element-write-flows c = search needs
-
-add-i : tie.Need-add-i Inv-loop μ-loop
-add-i c = search needs
-
-loop-less : tie.Need-loop-less Inv-loop μ-loop
-loop-less c = search needs
-
 loop-again : tie.Need-loop-again Inv-loop μ-loop
 loop-again c =
     let on = c .before .before in
@@ -117,27 +102,7 @@ returns c = λ w.
 pub settle-flows-spec : {M : Type 1} → statement M
 settle-flows-spec =
     tie.close
-    (tie.spec
-    Inv-loop
-    μ-loop
-    count-of-requires
-    loop-holds
-    mul-if1
-    mul-if1-2
-    element-copy-out-if1
-    mul-end-at
-    end-at-requires
-    mul-end-at-2
-    add-end-at
-    end-at-requires-2
-    mul-amount-at
-    element-copy-out-amount-at
-    mul-amount-at-2
-    element-copy-out-amount-at-2
-    amount-at-requires
-    mul-flows
-    element-write-flows
-    add-i
-    loop-less
-    loop-again
-    returns)
+    (tie.spec Inv-loop μ-loop (λ c κs. search needs) loop-holds mul-if1 mul-if1-2 element-copy-out-if1 mul-end-at
+    end-at-requires mul-end-at-2 add-end-at end-at-requires-2 mul-amount-at element-copy-out-amount-at mul-amount-at-2
+    element-copy-out-amount-at-2 amount-at-requires (λ c. search needs) (λ c. search needs) (λ c. search needs)
+    (λ c. search needs) loop-again returns)

@@ -51,9 +51,6 @@ able c w = record {
       (tying-even (w .streams) (w .n) (w .network) _ _ (w .even) (c .before .loop .i) (omega (arith, below c w)));
 }
 
-count-of-requires : tie.Need-count-of-requires Inv-loop μ-loop
-count-of-requires c κs = search needs
-
 loop-holds : tie.Need-loop-holds Inv-loop μ-loop
 loop-holds c = (omega arith, λ w. sym (ties-none _ _ _), c .before .pre .1)
 
@@ -90,12 +87,6 @@ tie-at-requires c κs =
     let on = f .before .before in
     (tying f (th .if1 .taken) (begin on .pre .0), sp .spare .ensures _ _ (on .before .loop .inv .2))
 
-add-i : tie.Need-add-i Inv-loop μ-loop
-add-i c = search needs
-
-loop-less : tie.Need-loop-less Inv-loop μ-loop
-loop-less c = search needs
-
 -- What one stream more comes to.
 after : (c : tie.In-loop Inv-loop μ-loop) (w : Of (begin c))
     → tiedAt (take (w .n) (w .streams)) (begin c .args .potentials .now) (c .before .loop .i) (c .before .loop .flows) ≡ tiesTo (take (w .n) (w .streams)) (begin c .args .potentials .now) (c .before .loop .i + 1) (begin c .args .flows .now)
@@ -131,15 +122,5 @@ returns c = λ w.
 pub tie-all-spec : {M : Type 1} → statement M
 tie-all-spec =
     tie.close
-    (tie.spec
-    Inv-loop
-    μ-loop
-    count-of-requires
-    loop-holds
-    can-fall-requires
-    spare-requires
-    tie-at-requires
-    add-i
-    loop-less
-    loop-again
-    returns)
+    (tie.spec Inv-loop μ-loop (λ c κs. search needs) loop-holds can-fall-requires spare-requires tie-at-requires
+    (λ c. search needs) (λ c. search needs) loop-again returns)

@@ -1,8 +1,7 @@
 -- `solve_ties::tie_at` meets its contract: by whether a way leads round; it leaves room for the push.
 use Rattle.solve_def.proofs.TieTurns.{tied-cut, tied-round, Pushable, pushable}
-use Rattle.plant_def.specs.Limits.{maxStreams}
+use Rattle.plant_def.specs.Limits.{maxStreams, places}
 use Rattle.solve_arcs.specs.Cells.{countOf}
-use Rattle.solve_arcs.specs.ArcNeeds.{Margined}
 use Rattle.solve_arcs.proofs.Along.{starts-at, ends-at}
 use Rattle.solve_arcs.proofs.Stores.{margined-own, spare-own}
 use Rattle.solve_ties.proofs.Evened.{tie-searching, tie-laying, tie-trail, way-free, weighs-some}
@@ -10,7 +9,6 @@ use Rattle.solve_ties.specs.Evens.{Tying}
 use Rattle.solve_def.specs.Search.{rootAt, grownBy, tightPath}
 use Rattle.solve_def.specs.Push.{pushed}
 use Rattle.solve_def.specs.Sizes.{searchRounds}
-use Rattle.plant_def.specs.Limits.{places}
 use Rattle.plant_def.specs.Plants.{noStream}
 use lib.ListN.{getD, take}
 use borrow.Author.Tests.{not-true, not-false}
@@ -82,21 +80,6 @@ moved-are c w =
     c .augment .ensures .1 (tie-laying _ _ _ _ _ (w .tieable))
     ∙ ap (λ (v : ℕ). pushed (take (w .tieable .n) (w .tieable .streams)) (t .via) (t .ends) 1 (t .len) v (start f .args .flows .now)) (to-is (f .before .before) w)
 
-mul-end-at : tie.Need-mul-end-at
-mul-end-at c = search needs
-
-mul-end-at-2 : tie.Need-mul-end-at-2
-mul-end-at-2 c = search needs
-
-add-end-at : tie.Need-add-end-at
-add-end-at c = search needs
-
-end-at-requires : tie.Need-end-at-requires
-end-at-requires c κs = search needs
-
-end-at-requires-2 : tie.Need-end-at-requires-2
-end-at-requires-2 c κs = search needs
-
 tight-path-requires : tie.Need-tight-path-requires
 tight-path-requires c κs =
     let st = c .before .before .before in
@@ -154,19 +137,6 @@ returns-2 c =
 pub tie-at-spec : {M : Type 1} → statement M
 tie-at-spec =
     tie.close
-    (tie.spec
-    mul-end-at
-    end-at-requires
-    mul-end-at-2
-    add-end-at
-    end-at-requires-2
-    tight-path-requires
-    returns
-    cast-target
-    augment-requires
-    mul-flows
-    element-copy-out-flows
-    sub-flows
-    mul-flows-2
-    element-write-flows
-    returns-2)
+    (tie.spec (λ c. search needs) (λ c κs. search needs) (λ c. search needs) (λ c. search needs) (λ c κs. search needs)
+    tight-path-requires returns cast-target augment-requires mul-flows element-copy-out-flows sub-flows mul-flows-2
+    element-write-flows returns-2)

@@ -1,15 +1,12 @@
 -- `solve_path::walking::nearest` meets its contract: of the places of the fringe that are looked at the nearest is known, and its code.
-use mathlib.Core.Path.{_≡_, sym, _∙_}
-use mathlib.Core.Bool.{Bool, true}
-use mathlib.Core.List.{List}
+use mathlib.Core.Path.{_≡_}
 use mathlib.Core.Logic.{⊎-elim}
-use Prim.Native.Nat.{ℕ, _-_, _<_, _^_}
+use Prim.Native.Nat.{_-_, _<_}
 use native.Mathlib.Omega.{arith}
 use lib.Bits.{and-le-r}
 use lib.Count.{trailingZeros}
 use borrow.Author.Needs.{needs}
 use Rattle.plant_def.specs.Limits.{places}
-use Rattle.solve_path.specs.Codes.{shown, Coded}
 use Rattle.solve_path.proofs.Pacing.{Scanned, scanned-none, scanned-in, scanned-nearer, scanned-not, scanned-all}
 use Rattle.solve_path.proofs.walking.nearest.Statement.{statement}
 use Rattle.solve_path.proofs.walking.nearest.Tie as tie
@@ -36,9 +33,6 @@ mul-code c = omega (arith, place c)
 element-copy-out-code : tie.Need-element-copy-out-code Inv-loop μ-loop
 element-copy-out-code c = place c
 
-sub-left : tie.Need-sub-left Inv-loop μ-loop
-sub-left c = search needs
-
 loop-less : tie.Need-loop-less Inv-loop μ-loop
 loop-less c =
     let at = c .before .before in
@@ -61,14 +55,5 @@ returns c = λ vs h.
 pub nearest-spec : {M : Type 1} → statement M
 nearest-spec =
     tie.close
-    (tie.spec
-    Inv-loop
-    μ-loop
-    loop-holds
-    cast-u
-    mul-code
-    element-copy-out-code
-    sub-left
-    loop-less
-    loop-again
+    (tie.spec Inv-loop μ-loop loop-holds cast-u mul-code element-copy-out-code (λ c. search needs) loop-less loop-again
     returns)

@@ -13,9 +13,6 @@ use borrow.Author.Needs.{needs}
 use Rattle.solve_path.proofs.walking.step.Statement.{statement}
 use Rattle.solve_path.proofs.walking.step.Tie as tie
 
-relax-requires : tie.Need-relax-requires
-relax-requires c κs = search needs
-
 nearest-requires : tie.Need-nearest-requires
 nearest-requires c κs =
     let f = c .before in
@@ -49,9 +46,6 @@ mul-near c = omega (arith, one (c .before))
 element-write-near : tie.Need-element-write-near
 element-write-near c = one (c .before)
 
-cast-t19 : tie.Need-cast-t19
-cast-t19 c = search needs
-
 shl-t21 : tie.Need-shl-t21
 shl-t21 c = omega (arith, one (c .before))
 
@@ -68,14 +62,5 @@ returns-2 c =
 pub step-spec : {M : Type 1} → statement M
 step-spec =
     tie.close
-    (tie.spec
-    relax-requires
-    nearest-requires
-    returns
-    mul-c
-    element-copy-out-c
-    mul-near
-    element-write-near
-    cast-t19
-    shl-t21
-    returns-2)
+    (tie.spec (λ c κs. search needs) nearest-requires returns mul-c element-copy-out-c mul-near element-write-near
+    (λ c. search needs) shl-t21 returns-2)

@@ -29,17 +29,8 @@ few : (c : tie.Else1 Inv-loop μ-loop) → turn (c .before) .loop .t .len < plac
 few c = let f = c .before in let g = turn f .loop .inv in
     tight-room _ _ _ _ _ _ _ _ _ g (tested f .loop-test .taken) _ _ (f .step .ensures .1 _ (g .visits) (g .coded))
 
-first-requires : tie.Need-first-requires Inv-loop μ-loop
-first-requires c κs = search needs
-
-bare-requires : tie.Need-bare-requires Inv-loop μ-loop
-bare-requires c κs = search needs
-
 element-write-t : tie.Need-element-write-t Inv-loop μ-loop
 element-write-t c = c .before .before .pre .1
-
-mul-near : tie.Need-mul-near Inv-loop μ-loop
-mul-near c = search needs
 
 array-write-near : tie.Need-array-write-near Inv-loop μ-loop
 array-write-near c = c .before .before .pre .1
@@ -53,18 +44,12 @@ step-requires c κs =
     let g = at .loop .inv in
     (at .before .before .before .pre .0, g .walks .place, g .walks .short, g .long, (at .loop .t .visited, g .coded))
 
-searched-by-requires : tie.Need-searched-by-requires Inv-loop μ-loop
-searched-by-requires c κs = search needs
-
 returns : tie.Need-returns Inv-loop μ-loop
 returns c =
     let o = c .before in
     let f = o .before in
     let g = turn f .loop .inv in
     rw (c .searched-by .ensures) (tight-stops _ _ _ _ _ _ _ _ _ g (tested f .loop-test .taken) _ _ (f .step .ensures .1 _ (g .visits) (g .coded)) (o .if1 .taken))
-
-searched-by-requires-2 : tie.Need-searched-by-requires-2 Inv-loop μ-loop
-searched-by-requires-2 c κs = search needs
 
 returns-2 : tie.Need-returns-2 Inv-loop μ-loop
 returns-2 c =
@@ -89,9 +74,6 @@ element-write-t-4 c = few (c .before .before)
 add-t : tie.Need-add-t Inv-loop μ-loop
 add-t c = omega (arith, few (c .before .before))
 
-searched-by-requires-3 : tie.Need-searched-by-requires-3 Inv-loop μ-loop
-searched-by-requires-3 c κs = search needs
-
 returns-3 : tie.Need-returns-3 Inv-loop μ-loop
 returns-3 c =
     let th = c .before in
@@ -102,12 +84,6 @@ returns-3 c =
     rw (c .searched-by3 .ensures)
     (tight-hits _ _ _ _ _ _ _ _ _ g (tested f .loop-test .taken) _ _ (f .step .ensures .1 _ (g .visits) (g .coded)) (o .if1 .left) (b .if2 .left) (turn f .before .before .before .pre .2) (th .if3 .taken))
 
-sub-left : tie.Need-sub-left Inv-loop μ-loop
-sub-left c = search needs
-
-loop-less : tie.Need-loop-less Inv-loop μ-loop
-loop-less c = search needs
-
 loop-again : tie.Need-loop-again Inv-loop μ-loop
 loop-again c =
     let b = c .before in
@@ -116,38 +92,13 @@ loop-again c =
     let g = turn f .loop .inv in
     tight-goes-on _ _ _ _ _ _ _ _ _ g (tested f .loop-test .taken) _ _ (f .step .ensures .1 _ (g .visits) (g .coded)) (o .if1 .left) (b .if2 .left) (f .step .ensures .0) (c .if3 .left)
 
-searched-by-requires-4 : tie.Need-searched-by-requires-4 Inv-loop μ-loop
-searched-by-requires-4 c κs = search needs
-
 returns-4 : tie.Need-returns-4 Inv-loop μ-loop
 returns-4 c = rw (c .searched-by4 .ensures) (tight-ends _ _ _ _ _ _ _ _ _ (c .before .before .loop .inv) (c .before .loop-test .left))
 
 pub tight-walk-spec : {M : Type 1} → statement M
 tight-walk-spec =
     tie.close
-    (tie.spec
-    Inv-loop
-    μ-loop
-    first-requires
-    bare-requires
-    element-write-t
-    mul-near
-    array-write-near
-    loop-holds
-    step-requires
-    searched-by-requires
-    returns
-    searched-by-requires-2
-    returns-2
-    element-write-t-2
-    element-write-t-3
-    cast-t
-    element-write-t-4
-    add-t
-    searched-by-requires-3
-    returns-3
-    sub-left
-    loop-less
-    loop-again
-    searched-by-requires-4
-    returns-4)
+    (tie.spec Inv-loop μ-loop (λ c κs. search needs) (λ c κs. search needs) element-write-t (λ c. search needs)
+    array-write-near loop-holds step-requires (λ c κs. search needs) returns (λ c κs. search needs) returns-2
+    element-write-t-2 element-write-t-3 cast-t element-write-t-4 add-t (λ c κs. search needs) returns-3
+    (λ c. search needs) (λ c. search needs) loop-again (λ c κs. search needs) returns-4)

@@ -1,12 +1,9 @@
 -- `solve_path::walking::walk` meets its contract: with `left` steps to go the walk comes to what it comes to from the start.
-use mathlib.Core.Path.{_≡_, _∙_}
-use mathlib.Core.List.{List}
-use Prim.Native.Nat.{ℕ, _<_}
+use mathlib.Core.Path.{_∙_}
+use Prim.Native.Nat.{_<_}
 use native.Mathlib.Omega.{arith}
 use borrow.Author.Needs.{needs}
 use Rattle.plant_def.specs.Limits.{places}
-use Rattle.solve_def.specs.declared.Spot.{Spot}
-use Rattle.solve_path.specs.Paces.{Paced}
 use Rattle.solve_path.proofs.Going.{Going, starts, ends, stops, room, within, hits, goes-on}
 use Rattle.solve_path.proofs.walking.walk.Statement.{statement}
 use Rattle.solve_path.proofs.walking.walk.Tie as tie
@@ -33,17 +30,8 @@ few : (c : tie.Else1 Inv-loop μ-loop) → turn (c .before) .loop .t .len < plac
 few c = let f = c .before in let g = turn f .loop .inv in
     room _ _ _ _ _ _ _ _ _ _ g (tested f .loop-test .taken) _ _ (f .step .ensures .1 _ (g .visits) (g .coded))
 
-first-requires : tie.Need-first-requires Inv-loop μ-loop
-first-requires c κs = search needs
-
-bare-requires : tie.Need-bare-requires Inv-loop μ-loop
-bare-requires c κs = search needs
-
 element-write-t : tie.Need-element-write-t Inv-loop μ-loop
 element-write-t c = c .before .before .pre .1
-
-mul-near : tie.Need-mul-near Inv-loop μ-loop
-mul-near c = search needs
 
 array-write-near : tie.Need-array-write-near Inv-loop μ-loop
 array-write-near c = c .before .before .pre .1
@@ -56,9 +44,6 @@ step-requires c κs =
     let at = c .before .before in
     let g = at .loop .inv in
     (at .before .before .before .pre .0, g .walks .place, g .walks .short, g .long, (at .loop .t .visited, g .coded))
-
-walked-by-requires : tie.Need-walked-by-requires Inv-loop μ-loop
-walked-by-requires c κs = search needs
 
 returns : tie.Need-returns Inv-loop μ-loop
 returns c =
@@ -94,21 +79,12 @@ mul-if2 c = omega (arith, one c)
 element-copy-out-if2 : tie.Need-element-copy-out-if2 Inv-loop μ-loop
 element-copy-out-if2 c = one c
 
-walked-by-requires-2 : tie.Need-walked-by-requires-2 Inv-loop μ-loop
-walked-by-requires-2 c κs = search needs
-
 returns-2 : tie.Need-returns-2 Inv-loop μ-loop
 returns-2 c =
     let o = c .before .before .before in
     let f = o .before in
     let g = turn f .loop .inv in
     c .walked-by2 .ensures ∙ hits _ _ _ _ _ _ _ _ _ _ g (tested f .loop-test .taken) _ _ (f .step .ensures .1 _ (g .visits) (g .coded)) (o .if1 .left) (c .before .if2 .taken)
-
-sub-left : tie.Need-sub-left Inv-loop μ-loop
-sub-left c = search needs
-
-loop-less : tie.Need-loop-less Inv-loop μ-loop
-loop-less c = search needs
 
 loop-again : tie.Need-loop-again Inv-loop μ-loop
 loop-again c =
@@ -117,40 +93,13 @@ loop-again c =
     let g = turn f .loop .inv in
     goes-on _ _ _ _ _ _ _ _ _ _ g (tested f .loop-test .taken) _ _ (f .step .ensures .1 _ (g .visits) (g .coded)) (o .if1 .left) (f .step .ensures .0) (c .if2 .left)
 
-walked-by-requires-3 : tie.Need-walked-by-requires-3 Inv-loop μ-loop
-walked-by-requires-3 c κs = search needs
-
 returns-3 : tie.Need-returns-3 Inv-loop μ-loop
 returns-3 c = c .walked-by3 .ensures ∙ ends _ _ _ _ _ _ _ _ _ _ (c .before .before .loop .inv) (c .before .loop-test .left)
 
 pub walk-spec : {M : Type 1} → statement M
 walk-spec =
     tie.close
-    (tie.spec
-    Inv-loop
-    μ-loop
-    first-requires
-    bare-requires
-    element-write-t
-    mul-near
-    array-write-near
-    loop-holds
-    step-requires
-    walked-by-requires
-    returns
-    mul-dist
-    array-write-dist
-    element-write-t-2
-    element-write-t-3
-    cast-t
-    element-write-t-4
-    add-t
-    mul-if2
-    element-copy-out-if2
-    walked-by-requires-2
-    returns-2
-    sub-left
-    loop-less
-    loop-again
-    walked-by-requires-3
-    returns-3)
+    (tie.spec Inv-loop μ-loop (λ c κs. search needs) (λ c κs. search needs) element-write-t (λ c. search needs)
+    array-write-near loop-holds step-requires (λ c κs. search needs) returns mul-dist array-write-dist element-write-t-2
+    element-write-t-3 cast-t element-write-t-4 add-t mul-if2 element-copy-out-if2 (λ c κs. search needs) returns-2
+    (λ c. search needs) (λ c. search needs) loop-again (λ c κs. search needs) returns-3)
