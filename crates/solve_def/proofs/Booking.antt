@@ -41,6 +41,7 @@ around-set {e} {b} a u v hu near far = record {
   high = set-each (λ n. n ≤ netShift + (b + mostFlow)) e u v places (rw (a .long) hu) (omega (arith, a .high u hu)) (λ k h. omega (arith, a .high k h));
 }
 
+-- Nets of size b at most are of size c at most, where b ≤ c.
 pub around-more : {e : List ℕ} {b : ℕ} → Around e b → (c : ℕ) → b ≤ c → Around e c
 around-more a c h = record { long = a .long; low = λ k l. omega (arith, a .low k l); high = λ k l. omega (arith, a .high k l) }
 
@@ -66,6 +67,7 @@ module _ (ss : List Stream) (xs : List ℕ) where
       _
       (omega arith)
 
+  -- Each place has a net.
   pub nets-long : (n : ℕ) → length (netsTo ss xs n) ≡ places
   unfolding netsTo
   nets-long zero = refl
@@ -87,6 +89,7 @@ left-val e v x u l h =
 
 -- The nets as booked are those of the flow.
 module _ (ss : List Stream) (xs : List ℕ) where
+  -- The net as booked is the net of the flow.
   pub nets-right : (n : ℕ) → n ≤ maxStreams → ((k : ℕ) → k < n → Between (streamAt ss k)) → ((k : ℕ) → k < n → getD xs k 0 ≤ mostFlow) → (u : ℕ) → u < places
       → up (sum n (λ k. brought u (streamAt ss k) (unshifted (getD xs k 0)))) + netShift
       ≡ getD (netsTo ss xs n) u 0 + dn (sum n (λ k. brought u (streamAt ss k) (unshifted (getD xs k 0))))

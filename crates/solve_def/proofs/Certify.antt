@@ -132,6 +132,7 @@ module _ (p : Plant) (w : Within p) (ps : List ℕ) (i : ℕ) (xs : List ℕ) (h
           (subst (λ (b : ℤ). Lt (diff (2 * (W * X)) (2 * (W * R) + W)) b) (sym climb-is)
           (lt-diff _ _ pv pu (omega (arith, q, slack-open false s X pu pv 1 (less-open e)))))
 
+      -- Where slack is left forwards, a stream gains nothing by more.
       pub no-more : 0 < slackBy s true X pu pv 1 → NoMore (potentialAt ps) s x
       no-more q e =
           subst (λ (a : ℤ). Lt (climb (potentialAt ps) s) a) (sym upper-is)

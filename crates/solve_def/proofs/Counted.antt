@@ -3,7 +3,7 @@ use mathlib.Core.Path.{_≡_, refl, ap, subst}
 use mathlib.Core.Bool.{Bool, true, false}
 use mathlib.Core.List.{List, [], _∷_}
 use mathlib.Core.Logic.{_⊎_, inl, inr}
-use lib.IntN.{pos, _+ℤ_}
+use lib.IntN.{ℤ, pos, _+ℤ_}
 use Prim.Native.Nat.{ℕ, zero, suc, _+_, _-_, _*_, _^_, _≤_, _<_}
 use native.Mathlib.Nat.{mul-le-mul-left, mul-le-mul-right}
 use native.Mathlib.Omega.{arith}
@@ -19,6 +19,7 @@ use Rattle.plant_def.specs.Limits.{maxUnits, places, maxStreams}
 use Rattle.flow_def.specs.Flows.{streamAt}
 use Rattle.flow_def.specs.Certificate.{weightOf}
 use Rattle.flow_def.proofs.Integers.{up, dn, Le, plus-val, minus-val}
+use Rattle.flow_def.proofs.Sums.{sum}
 use Rattle.flow_def.proofs.Nets.{nets-sum}
 use Rattle.solve_def.specs.Sizes.{flowShift, netShift, mostStep, mostOver, mostTried, halvings, settledRoom}
 use Rattle.solve_def.specs.Held.{unshifted, readingOf, lowOf, highOf, Held}

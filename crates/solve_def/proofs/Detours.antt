@@ -214,6 +214,7 @@ even-turn ss ps i xs _ h (slack m q) = even-more ss ps i xs h
 even-turn ss ps i xs _ h (cut m ls a b c) = even-more ss ps i xs h
 even-turn ss ps i xs _ h (round m ws d) = d .even
 
+-- The flow stays level through the tie pass.
 pub ties-even : (ss : List Stream) → Solvable ss → (ps xs : List ℕ) → Even ss ps 0 xs → (i : ℕ) → i ≤ length ss → Even ss ps i (tiesTo ss ps i xs)
 unfolding tiesTo
 ties-even ss v ps xs h zero l = h

@@ -49,16 +49,19 @@ pub record Slacked (streams : List Stream) (n : ℕ) (xs ps : List ℕ) (d skip 
   pub back : (k : ℕ) → k < n → getD bs k 0 ≡ slackPast (take n streams) xs ps d skip false k
 
 module _ (streams : List Stream) (n : ℕ) (xs ps : List ℕ) (d skip : ℕ) (fs ts gs bs : List ℕ) (laid : Slacked streams n xs ps d skip fs ts gs bs) where
+  -- The streams in use are n.
   pub in-use : length (take n streams) ≡ n
   in-use = length-take-le n streams (omega (arith, laid .network .within .few-streams, laid .network .long))
 
   placed : (k : ℕ) → k < n → WithinStream maxUnits (streamAt (take n streams) k)
   placed k l = rw (getD-take n streams k noStream l) (laid .network .within .each k l)
 
+  -- A stream's head is a place.
   pub heads : (k : ℕ) (f : Bool) → k < n → headOf n fs ts gs bs k f < places
   heads k true l = rw (laid .ends k l) (omega (arith, placed k l .to-in))
   heads k false l = rw (laid .starts k l) (omega (arith, placed k l .from-in))
 
+  -- So is its tail.
   pub tails : (k : ℕ) (f : Bool) → k < n → tailOf n fs ts gs bs k f < places
   tails k true l = heads k false l
   tails k false l = heads k true l
@@ -107,6 +110,7 @@ module _ (streams : List Stream) (n : ℕ) (xs ps : List ℕ) (d skip : ℕ) (fs
       go true h = absurd (omega arith)
       go false h = refl
 
+-- A list of zeros.
 pub zeros : (m u : ℕ) → _≡_ {A = ℕ} (getD (replicate m 0) u 0) 0
 zeros zero u = refl
 zeros (suc m) zero = refl
@@ -137,6 +141,7 @@ module _ (streams : List Stream) (n : ℕ) (xs ps : List ℕ) (d : ℕ) (fs ts g
   abbrev ends : (k : ℕ) → k < n → getD ts k 0 ≡ streamAt ss k .to
   ends = laid .ends
 
+  -- What holds of a walk underway, at place e and distance k, with l rounds to go.
   pub record Going (l k e : ℕ) (ks near : List ℕ) (t : Tree) : Type 0 where
     pub nears : Nears n fs ts gs bs (t .visited) ks (k * numbering) e n near
     pub marked : getD (t .visited) e false ≡ true

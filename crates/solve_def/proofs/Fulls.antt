@@ -38,6 +38,7 @@ module _ (ss : List Stream) (v : Solvable ss) (ms : List Bool) where
   abbrev within : ℕ → Bool
   within u = getD ms u false
 
+  -- What the first n streams press into the set, as integers.
   pub pressed-sum : (n : ℕ) → n ≤ length ss
       → up (sum n (λ k. edge within (streamAt ss k))) + n * flowShift ≡ pressedTo ss ms n + dn (sum n (λ k. edge within (streamAt ss k)))
   unfolding pressedTo

@@ -25,7 +25,8 @@ use Rattle.solve_def.proofs.Least.{opposed, all-usable, startIn, endIn,
 use Rattle.solve_def.proofs.Counting.{count-full}
 use Rattle.solve_def.proofs.Bounds.{Open, open-of}
 use Rattle.solve_def.proofs.Pushing.{reached-more}
-use Rattle.solve_def.proofs.Growing.{Plain, Growing, Level, root-growing, from-small, to-small, lower-growing, lower-level, some-left, far-off, far-near, add-level, add-growing, slack-gone, slack-rise, modest}
+use Rattle.solve_def.proofs.Growing.{Plain, Growing, Level, root-growing, from-small, to-small, lower-growing, lower-level, some-left}
+use Rattle.solve_def.proofs.Growing.{far-off, far-near, add-level, add-growing, slack-gone, slack-rise, modest}
 
 -- What a search that found a place comes to, from the potentials ps: the place visited last has a negative net, and no potential rose.
 pub record Found (n : ℕ) (ss : List Stream) (xs es : List ℕ) (d root : ℕ) (ps : List ℕ) (g : Grown) : Type 0 where
@@ -42,10 +43,12 @@ pub record Stuck (n : ℕ) (ss : List Stream) (xs es : List ℕ) (d root : ℕ) 
   pub none-less : (v : ℕ) → v ≤ n → getD ls v false ≡ true → netShift ≤ getD es v 0
   pub shut : (k : ℕ) → k < length ss → startIn ss ls k ≡ not (endIn ss ls k) → Open (streamAt ss k) (startIn ss ls k) (getD xs k 0) d → ⊥
 
+-- A search hits, or is stuck.
 pub data Hunt (n : ℕ) (ss : List Stream) (xs es : List ℕ) (d root : ℕ) (ps : List ℕ) (g : Grown) : Type 0 where
   hit : g .found ≡ true → Found n ss xs es d root ps g → Hunt n ss xs es d root ps g
   stuck : g .found ≡ false → Stuck n ss xs es d root (g .tree .visited) → Hunt n ss xs es d root ps g
 
+-- The place visited last is the target.
 pub new-target : (t : Tree) (i e : ℕ) → t .len < length (t .ends) → target (addedTo t i e) ≡ e
 new-target t i e l = let q : t .len + 1 - 1 ≡ t .len = omega arith in rw q (getD-set-same (t .ends) (t .len) e 0 l)
 

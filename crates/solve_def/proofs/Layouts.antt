@@ -35,6 +35,7 @@ module _ (streams : List Stream) (n : ℕ) (w : Network streams n) where
         past : (k : ℕ) → length ss ≤ k → streamAt ss k .metered ≡ false
         past k q = ap (λ (s : Stream). s .metered) (List·getD-eq-default ss noStream q)
 
+    -- Settled amounts can be held.
     pub ready-amounts : Amounts (settledTo ss (h .potentials) (h .flows) n)
     ready-amounts k l = subst (λ (m : ℕ). getD (settledTo ss (h .potentials) (h .flows) m) k 0 ≤ mostFlow) (in-use streams n w) (held k l)
 
@@ -46,6 +47,7 @@ module _ (streams : List Stream) (n : ℕ) (w : Network streams n) where
         (λ k l. held k (omega (arith, solvable-of streams n w .plain .few))))
         netRoom (omega (arith, solvable-of streams n w .plain .few))
 
+  -- The settled state of the streams in use.
   pub settled-is : (h : Hint) → settled ss h
       ≡ record { flows = settledTo ss (h .potentials) (h .flows) n; potentials = h .potentials; nets = netsTo ss (settledTo ss (h .potentials) (h .flows) n) n }
   settled-is h = rw (in-use streams n w)
@@ -54,5 +56,6 @@ module _ (streams : List Stream) (n : ℕ) (w : Network streams n) where
   pub hinted-ready : (h : Hint) → Hinted ss h → Ready ss h
   hinted-ready h s = record { size = hintRoom; start = s }
 
+  -- Its nets are in range.
   pub at-hint-around : (st : State) → AtHint ss st → Around (st .nets) netRoom
   at-hint-around st a = rw (a .is) (ready-around (a .hint) (hinted-ready (a .hint) (a .hinted)))

@@ -35,6 +35,7 @@ all-usable ss k = go (streamAt ss k .metered)
 abbrev pub startIn : List Stream → List Bool → ℕ → Bool
 startIn ss ls k = getD ls (streamAt ss k .from) false
 
+-- Whether stream k ends at a visited place.
 abbrev pub endIn : List Stream → List Bool → ℕ → Bool
 endIn ss ls k = getD ls (streamAt ss k .to) false
 
@@ -136,5 +137,6 @@ module _ (ss : List Stream) (xs ps : List ℕ) (ls : List Bool) (d skip : ℕ) w
       let one : i ≡ j = omega (arith, before, after) in
       rw (same, one)
 
+  -- So what answers is the stream of least slack.
   pub answers-same : (n : ℕ) (f : Crossing) → Answers ss xs ps ls d skip n f → leastTo ss xs ps ls d skip n ≡ f
   answers-same n f a = answer-one n (leastTo ss xs ps ls d skip n) f (least-good n) a

@@ -135,6 +135,7 @@ module _ (ss : List Stream) (ps xs : List ℕ) where
   abbrev amount : ℕ → ℕ
   amount k = settledOf (streamAt ss k) (getD ps (streamAt ss k .from) 0) (getD ps (streamAt ss k .to) 0)
 
+  -- As many amounts as before.
   pub settled-long : (n : ℕ) → length (settledTo ss ps xs n) ≡ length xs
   unfolding settledTo
   settled-long zero = refl
@@ -153,6 +154,7 @@ module _ (ss : List Stream) (ps xs : List ℕ) where
       go true r = getD-set-other (settledTo ss ps xs n) n k _ 0 (λ q. omega arith) ∙ r
       go false r = r
 
+  -- The amount of a metered stream is settled, another's stays.
   pub settled-at : (n k : ℕ) → n ≤ length xs → k < n → getD (settledTo ss ps xs n) k 0 ≡ pick (streamAt ss k .metered) (amount k) (getD xs k 0)
   unfolding settledTo
   settled-at zero k m l = absurd (omega arith)
@@ -191,6 +193,7 @@ module _ (ss : List Stream) (v : Solvable ss) (h : Hint) (b : ℕ) (s : Start ss
   abbrev ps : List ℕ
   ps = h .potentials
 
+  -- The settled amounts.
   abbrev pub ys : List ℕ
   ys = settledTo ss (h .potentials) (h .flows) (length ss)
 
@@ -198,6 +201,7 @@ module _ (ss : List Stream) (v : Solvable ss) (h : Hint) (b : ℕ) (s : Start ss
       → getD ys k 0 ≡ pick (streamAt ss k .metered) (settledOf (streamAt ss k) (getD ps (streamAt ss k .from) 0) (getD ps (streamAt ss k .to) 0)) (getD (h .flows) k 0)
   at k l = settled-at ss ps (h .flows) (length ss) k (omega (arith, s .long, v .plain .few)) l
 
+  -- Each meets the step condition at 1 and is in range.
   pub settled-one : (k : ℕ) → k < length ss → HeldAt ss ys ps 1 k × ((lowOf (streamAt ss k) ≤ getD ys k 0) × (getD ys k 0 ≤ highOf (streamAt ss k)))
   settled-one k l = rw (at k l) (go (streamAt ss k .metered) refl)
     where
@@ -223,6 +227,7 @@ module _ (ss : List Stream) (v : Solvable ss) (h : Hint) (b : ℕ) (s : Start ss
             (omega (arith, v .ranged k l .free e), omega (arith, v .ranged k l .wide (v .ranged k l .free e), r .0, s .within)),
           )
 
+  -- Each can be held.
   pub settled-most : (k : ℕ) → k < length ss → getD ys k 0 ≤ mostFlow
   settled-most k l = omega (arith, settled-one k l .1 .1, v .ranged k l .most)
 
@@ -237,6 +242,7 @@ module _ (ss : List Stream) (v : Solvable ss) (h : Hint) (b : ℕ) (s : Start ss
   settled-nets u l =
       net-value (net ss ys u) (getD (netsTo ss ys (length ss)) u 0) (nets-right ss ys (length ss) (v .plain .few) (v .plain .inside) settled-most u l)
 
+  -- So the settled state is sound at every step.
   pub settled-sound : (d : ℕ) → 1 ≤ d → overSum (settled ss h .nets) + 2 * maxStreams * d ≤ mostOver → Sound ss d b (settled ss h)
   settled-sound d l1 o = record {
     held = λ k l. held-more d _ _ _ _ _ _ _ l1 (settled-one k l .0);
@@ -272,6 +278,7 @@ start-more ss b c h s l m = record {
 
 -- Settled anew after a phase at step d: what is over rises by at most d for each stream.
 module _ (ss : List Stream) (v : Solvable ss) (d b : ℕ) (st : State) (h : Sound ss d b st) (within : b ≤ flowShift) where
+  -- A sound state's potentials are a hint.
   pub again-start : Start ss b (asHint st)
   again-start = record {
     agree = h .agreed;
@@ -302,6 +309,7 @@ module _ (ss : List Stream) (v : Solvable ss) (d b : ℕ) (st : State) (h : Soun
           )
       go false e = let q = settled-free ss v (asHint st) b again-start k e in (omega (arith, q), omega (arith, q))
 
+  -- Settled there, little more is over than before.
   pub again-over : overSum (settled ss (asHint st) .nets) ≤ overSum (st .nets) + maxStreams * d
   again-over =
       omega (

@@ -25,11 +25,13 @@ abbrev pub reached : ℕ → List ℕ → ℕ → ℕ → Bool
 reached root ends zero v = eqb root v
 reached root ends (suc j) v = eqb (getD ends j 0) v || reached root ends j v
 
+-- What is reached stays reached.
 pub reached-more : (root : ℕ) (ends : List ℕ) (j k v : ℕ) → j ≤ k → reached root ends j v ≡ true → reached root ends k v ≡ true
 reached-more root ends j zero v l h = let e : j ≡ 0 = omega arith in rw e at h
 reached-more root ends j (suc k) v l h =
     elim (ℕ-discrete j (suc k)) [ yes e ↦ rw e at h | no e ↦ or-right (eqb (getD ends k 0) v) (reached root ends k v) (reached-more root ends j k v (omega arith) h) ]
 
+-- The place visited last is reached.
 pub reached-new : (root : ℕ) (ends : List ℕ) (j : ℕ) → reached root ends (suc j) (getD ends j 0) ≡ true
 reached-new root ends j = rw (eq-eqb (getD ends j 0) (getD ends j 0) refl)
 
@@ -213,6 +215,7 @@ module _ (ss : List Stream) (ps : List ℕ) (d root : ℕ) (via ends : List ℕ)
   miss j rec c xs long held links h = let r = rec c xs long held (λ k l. links k (omega arith)) h in
       record { long = r .long; held = r .held; nets = r .nets; most = r .most; least = r .least; off = λ k n. r .off k (λ m l. n m (omega arith)); inside = r .inside }
 
+  -- What the push from c back to the root leaves.
   pub push-good : (j c : ℕ) (xs : List ℕ) → length ss ≤ length xs → AllHeld ss xs ps d → ((k : ℕ) → k < j → Link ss xs ps d root via ends k)
       → reached root ends j c ≡ true → Pushed ss xs (pushed ss via ends d j c xs) ps d c root via j
   unfolding pushed Rec

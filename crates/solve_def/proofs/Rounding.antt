@@ -28,6 +28,7 @@ use Rattle.solve_def.proofs.Finds.{Slacked, heads, tails, usable-slack,
 pub goal-hit : (v : ℕ) → v < places → getD (goalAt v) v 0 < netShift
 goal-hit v l = rw (getD-set-same (replicate places netShift) v 0 0 l) (omega arith)
 
+-- Another place than the goal has no negative net.
 pub goal-miss : (v u : ℕ) → u < places → (u ≡ v → ⊥) → netShift ≤ getD (goalAt v) u 0
 goal-miss v u l q = rw (getD-set-other (replicate places netShift) v u 0 0 q, getD-replicate places u netShift 0 l) (omega arith)
 

@@ -213,5 +213,6 @@ sound-tall ss v d b st few h k l m = (omega (arith, size, unshifted-val X, size-
           h .over,
         )
 
+-- So the metered amounts of a sound state are moderate.
 pub sound-moderate : (ss : List Stream) → Solvable ss → (d b : ℕ) (st : State) → d ≤ mostStep → Sound ss d b st → Moderate ss (st .flows)
 sound-moderate ss v d b st few h k l m = let r = sound-tall ss v d b st few h k l m in (omega (arith, r .0), omega (arith, r .1))

@@ -88,6 +88,7 @@ module _ (ss : List Stream) (n : ℕ) (fs ts gs bs : List ℕ) (starts : (k : �
     least-code k f l t o =
         omega (arith, nearest-least codes r (headOf n fs ts gs bs k f) (h .long) nearest (heads k f l), h .least k f l t (λ y. omega arith) o)
 
+    -- The nearest place tells that.
     pub told : (r ≡ places → ⊥) → Told ls ks codes r
     told q = record {
       within = w .0;

@@ -17,9 +17,9 @@ use Rattle.flow_def.proofs.Binary.{unlike, bit-xor, bit-same, bit-other}
 use Rattle.solve_def.specs.Sizes.{far, numbering}
 use Rattle.solve_def.specs.Near.{nearestWithin}
 use Rattle.solve_def.specs.Fringe.{Stepped}
-use Rattle.solve_def.proofs.Lowest.{lowest, with-others}
+use Rattle.flow_def.proofs.Lowest.{lowest, with-others}
 use Rattle.solve_def.proofs.Opening.{Scan, scan-none, scan-nearer, scan-not, scan-near}
-use Rattle.solve_def.proofs.Stepping.{step-none, step-in, step-some}
+use Rattle.solve_def.proofs.Steps.{step-none, step-in, step-some}
 use Rattle.solve_path.specs.Codes.{shown, Coded, Looked}
 use Rattle.solve_path.proofs.Coding.{shown-at, shown-long, shown-open}
 use Rattle.solve_path.specs.Paces.{Paced}
@@ -30,6 +30,7 @@ pub record Scanned (near : List ℕ) (m left at best : ℕ) : Type 0 where
   pub some : (h : ℕ) → bit h left ≡ true → bit h m ≡ true
   pub scan : (vs : List Bool) → Coded vs near m → Scan (shown vs near) m left at best
 
+-- No place of the fringe is looked at yet.
 pub scanned-none : (near : List ℕ) (m : ℕ) → m < 2 ^ 64 → Scanned near m m places far
 scanned-none near m l = record { small = l; some = λ h b. b; scan = λ vs w. scan-none far (shown vs near) m (w .fringe) }
 
@@ -40,6 +41,7 @@ module _ (near : List ℕ) (m left at best : ℕ) (w : Scanned near m left at be
   own : bit t m ≡ true
   own = w .some t (lowest 64 left more (w .small))
 
+  -- The lowest that is left is a place.
   pub scanned-in : (vs : List Bool) → Coded vs near m → t < places
   scanned-in vs c = c .fringe .inside t own
 
@@ -55,6 +57,7 @@ module _ (near : List ℕ) (m left at best : ℕ) (w : Scanned near m left at be
     | no q ↦ w .some h (sym (with-others 64 left h more (w .small) q) ∙ b)
   ]
 
+  -- It is nearer than those before.
   pub scanned-nearer : getD near t 0 < best → Scanned near m (bitAnd left (left - 1)) t (getD near t 0)
   scanned-nearer h = record {
     small = rest-small;
@@ -62,6 +65,7 @@ module _ (near : List ℕ) (m left at best : ℕ) (w : Scanned near m left at be
     scan = λ vs c. rw (← here vs c) (scan-nearer (shown vs near) m left at best (w .scan vs c) more (w .small) (rw (here vs c) h));
   }
 
+  -- Or it is not.
   pub scanned-not : best ≤ getD near t 0 → Scanned near m (bitAnd left (left - 1)) at best
   scanned-not h = record {
     small = rest-small;
@@ -69,6 +73,7 @@ module _ (near : List ℕ) (m left at best : ℕ) (w : Scanned near m left at be
     scan = λ vs c. scan-not (shown vs near) m left at best (w .scan vs c) more (w .small) (rw (here vs c) h);
   }
 
+-- All are looked at: the nearest is found.
 pub scanned-all : (near : List ℕ) (m at best : ℕ) → Scanned near m 0 at best → (vs : List Bool) → Coded vs near m → at ≡ nearestWithin (shown vs near) far
 scanned-all near m at best w vs c =
     scan-near far (shown vs near) m at best (c .fringe) (shown-long vs near) (w .scan vs c) (⊎-elim (λ k. omega (arith, k .2)) (λ k. omega (arith, k .1)) (w .scan vs c .one))
@@ -122,12 +127,14 @@ module _ (vs : List Bool) (near : List ℕ) (m e : ℕ) (l : length vs ≡ place
 -- One step, after the arcs were gone along.
 module _ (ls ms ps : List ℕ) (k e : ℕ) (before : List ℕ) (m : ℕ) (after : List ℕ) (r : ℕ) (vs : List Bool) (w : Looked ls ms ps k e before m after r vs)
     (u : ℕ) (is : u ≡ nearestWithin (shown vs after) far) where
+  -- A step that takes no place.
   pub paced-none : u ≡ places → Paced ls ms ps k e before after (record { place = places; distance = k; stream = 0; fringe = r }) vs
   paced-none q = record {
     stepped = rw (← w .same) (step-none far (shown vs after) k u r (shown (set vs places true) after) is q);
     coded = λ o. absurd (o refl);
   }
 
+  -- A step that takes the nearest.
   pub paced-some : length vs ≡ places → length after ≡ places → (u ≡ places → ⊥) → (own : ℕ) → own ≡ 2 ^ u
       → Paced ls ms ps k e before (set after u 0) (record { place = u; distance = getD after u 0 / numbering; stream = getD after u 0 % numbering; fringe = bitXor r own }) vs
   paced-some l long q own h = record {

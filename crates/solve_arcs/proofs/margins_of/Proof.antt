@@ -7,9 +7,6 @@ use Rattle.solve_arcs.specs.ArcNeeds.{Margined}
 use Rattle.solve_arcs.proofs.Stores.{margined-none, margined-more}
 use Rattle.solve_arcs.proofs.margins_of.Statement.{statement}
 use Rattle.solve_arcs.proofs.margins_of.Tie as tie
-use Rattle.solve_arcs.proofs.margins_of.Reads as reads
-use Rattle.solve_arcs.proofs.margins_of.Lts as lts
-use Rattle.solve_arcs.proofs.put_margins.Reads as put-margins-reads
 
 abbrev Inv-loop : tie.InvT-loop
 Inv-loop rows margins₀ flows count delta i₀ margins i = (i ≤ count) × Margined i rows flows delta 0 margins

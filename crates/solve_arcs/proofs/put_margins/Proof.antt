@@ -4,10 +4,6 @@ use lib.ListN.{getD}
 use borrow.Author.Needs.{needs}
 use Rattle.solve_arcs.proofs.put_margins.Statement.{statement}
 use Rattle.solve_arcs.proofs.put_margins.Tie as tie
-use Rattle.solve_arcs.proofs.put_margins.Reads as reads
-use Rattle.solve_arcs.proofs.put_margins.Lts as lts
-use Rattle.solve_arcs.proofs.falling.Reads as falling-reads
-use Rattle.solve_arcs.proofs.rising.Reads as rising-reads
 
 returns : tie.Need-returns
 returns c =

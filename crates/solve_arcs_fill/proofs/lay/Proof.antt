@@ -55,13 +55,17 @@ loop-again c =
     let st = on .before .before in
     let w = within on in
     let streams = st .args .t1 in
-    let fu : getD streams (at .i) noStream .from < places = omega (arith, w .from-in) in
-    let fv : getD streams (at .i) noStream .to < places = omega (arith, w .to-in) in
+    let u = getD streams (at .i) noStream .from in
+    let v = getD streams (at .i) noStream .to in
+    let starts = sym (starts-in streams (st .args .count) (at .i) (on .loop-test .taken)) in
+    let ends = sym (ends-in streams (st .args .count) (at .i) (on .loop-test .taken)) in
+    let fu : u < places = omega (arith, w .from-in) in
+    let fv : v < places = omega (arith, w .to-in) in
     let r = c .put-row .ensures in
     rw (k .list-arcs .ensures, r .0) (
       omega arith,
-      arc-step (at .i) (getD streams (at .i) noStream .from) (getD streams (at .i) noStream .to) _ _ (at .arcs) (few on) fu fv (at .inv .1 .long) _ _ (sym (starts-in streams (st .args .count) (at .i) (on .loop-test .taken))) (sym (ends-in streams (st .args .count) (at .i) (on .loop-test .taken))) refl refl (at .inv .1),
-      count-kept (at .i) (getD streams (at .i) noStream .from) (getD streams (at .i) noStream .to) _ _ (at .arcs) (few on) fu fv (at .inv .1 .long) ∙ at .inv .2,
+      arc-step (at .i) u v _ _ (at .arcs) (few on) fu fv (at .inv .1 .long) _ _ starts ends refl refl (at .inv .1),
+      count-kept (at .i) u v _ _ (at .arcs) (few on) fu fv (at .inv .1 .long) ∙ at .inv .2,
       rowed-more (at .i) _ _ _ _ (at .rows) (few on) (at .inv .3 .long) streams refl refl (omega (arith, r .1)) refl refl (at .inv .3),
     )
 

@@ -65,17 +65,25 @@ put-margins-requires c κs =
     let st = at .before in
     let w = st .pre .0 in
     let k = push-index _ _ _ _ _ _ _ _ _ _ _ _ _ (at .loop .inv) (on .loop-test .taken) (st .pre .2) in
-    (row-of _ _ _ (w .network) (w .laid .rowed) _ (rw (w .laid .along .counted) at k), rw (m .moved .ensures) (push-most _ _ _ _ _ _ _ _ _ _ _ _ _ (at .loop .inv) (on .loop-test .taken) (st .pre .1) (index on) (eqb (m .before .before .end-at .result) (at .loop .at))), st .pre .1, at .loop .inv .long)
+    let forwards = eqb (m .before .before .end-at .result) (at .loop .at) in (
+      row-of _ _ _ (w .network) (w .laid .rowed) _ (rw (w .laid .along .counted) at k),
+      rw (m .moved .ensures) (push-most _ _ _ _ _ _ _ _ _ _ _ _ _ (at .loop .inv) (on .loop-test .taken) (st .pre .1) (index on) forwards),
+      st .pre .1,
+      at .loop .inv .long,
+    )
 
 place-at-requires : tie.Need-place-at-requires Inv-loop μ-loop
-place-at-requires c κs = index (c .before .before .before .before .before .before .before .before)
+place-at-requires c κs =
+    let moved = c .before .before in
+    index (moved .before .before .before .before .before .before)
 
 cast-at : tie.Need-cast-at Inv-loop μ-loop
 cast-at c =
     let e = c .before .before .before .before .before in
     let on = e .before .before .before .before in
     let st = on .before .before in
-    rw (c .place-at .ensures) (omega (arith, push-place _ _ _ _ _ _ _ _ _ _ _ _ _ (on .before .loop .inv) (on .loop-test .taken) (st .pre .1) (st .pre .2) (st .pre .0) (eqb (e .end-at .result) (on .before .loop .at))))
+    let place = push-place _ _ _ _ _ _ _ _ _ _ _ _ _ (on .before .loop .inv) (on .loop-test .taken) (st .pre .1) (st .pre .2) (st .pre .0) in
+    rw (c .place-at .ensures) (omega (arith, place (eqb (e .end-at .result) (on .before .loop .at))))
 
 loop-again : tie.Need-loop-again Inv-loop μ-loop
 loop-again c =

@@ -12,8 +12,9 @@ add-nets : tie.Need-add-nets
 add-nets c =
     let st = c .before .before in
     let es = st .args .nets .now in
-    omega
-    (arith, set-le es (st .args .s) (getD es (st .args .s) 0 - st .args .delta) (st .args .v) (2 * netShift) (omega (arith, st .pre .start, st .pre .long)) (omega (arith, st .pre .most-start)) (st .pre .most-end), st .pre .step)
+    let s = st .args .s in
+    let small = set-le es s (getD es s 0 - st .args .delta) (st .args .v) (2 * netShift) (omega (arith, st .pre .start, st .pre .long)) (omega (arith, st .pre .most-start)) (st .pre .most-end) in
+    omega (arith, small, st .pre .step)
 
 pub shift-nets-spec : {M : Type 1} → statement M
 shift-nets-spec =

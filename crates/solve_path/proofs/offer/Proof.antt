@@ -7,7 +7,9 @@ use Rattle.solve_path.proofs.offer.Tie as tie
 returns : tie.Need-returns
 returns c =
     let st = c .before .before .before in
-    (rw (c .before .lesser .ensures) (stored (st .args .near .now) (st .args .v) _), rw (c .digit .ensures) (bit-of (st .args .near .now) (st .args .v) (st .args .d) (st .args .i) (st .pre .1) (st .pre .0)))
+    let near = st .args .near .now in
+    let v = st .args .v in
+    (rw (c .before .lesser .ensures) (stored near v _), rw (c .digit .ensures) (bit-of near v (st .args .d) (st .args .i) (st .pre .1) (st .pre .0)))
 
 pub offer-spec : {M : Type 1} → statement M
 offer-spec =

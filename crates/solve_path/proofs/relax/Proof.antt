@@ -20,7 +20,9 @@ abbrev start : tie.In-loop Inv-loop μ-loop → tie.Start Inv-loop μ-loop
 start c = c .before .before .before .before
 
 abbrev inv : (c : tie.In-loop Inv-loop μ-loop)
-    → Turn (start c .args .arcs .now) (start c .args .margins .now) (start c .args .potentials .now) (start c .args .at .distance) (start c .args .at .place) (start c .args .near .now) (start c .args .at .fringe) (c .before .loop .near) (c .before .loop .fringe) (c .before .loop .arc)
+    → let a = start c .args in
+    let l = c .before .loop in
+    Turn (a .arcs .now) (a .margins .now) (a .potentials .now) (a .at .distance) (a .at .place) (a .near .now) (a .at .fringe) (l .near) (l .fringe) (l .arc)
 inv c = c .before .loop .inv
 
 loop-holds : tie.Need-loop-holds Inv-loop μ-loop
@@ -64,7 +66,8 @@ offer-requires c κs =
 
 loop-less : tie.Need-loop-less Inv-loop μ-loop
 loop-less c =
-    let on = c .before .before .before .before .before .before .before .before in
+    let cost = c .before .before .before .before in
+    let on = cost .before .before .before .before in
     rw (c .next-at .ensures) (next-less _ (start on .pre .0 .linked) _ (inv on .m) _ (inv on .few) (inv on .at) (on .loop-test .taken))
 
 loop-again : tie.Need-loop-again Inv-loop μ-loop

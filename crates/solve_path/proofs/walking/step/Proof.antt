@@ -5,7 +5,7 @@ use lib.ListN.{length-set}
 use Rattle.plant_def.specs.Limits.{places}
 use Rattle.flow_def.proofs.Passed.{shifted}
 use Rattle.solve_def.specs.Sizes.{far}
-use Rattle.solve_def.proofs.Stepping.{step-in}
+use Rattle.solve_def.proofs.Steps.{step-in}
 use Rattle.solve_path.specs.Codes.{shown}
 use Rattle.solve_path.proofs.Coding.{shown-long}
 use Rattle.solve_path.proofs.Pacing.{paced-none, paced-some}

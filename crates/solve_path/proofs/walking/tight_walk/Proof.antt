@@ -82,7 +82,8 @@ returns-3 c =
     let f = o .before in
     let g = turn f .loop .inv in
     rw (c .searched-by3 .ensures)
-    (tight-hits _ _ _ _ _ _ _ _ _ g (tested f .loop-test .taken) _ _ (f .step .ensures .1 _ (g .visits) (g .coded)) (o .if1 .left) (b .if2 .left) (turn f .before .before .before .pre .2) (th .if3 .taken))
+    (tight-hits _ _ _ _ _ _ _ _ _ g (tested f .loop-test .taken) _ _ (f .step .ensures .1 _ (g .visits) (g .coded)) (o .if1 .left) (b .if2 .left)
+    (turn f .before .before .before .pre .2) (th .if3 .taken))
 
 loop-again : tie.Need-loop-again Inv-loop μ-loop
 loop-again c =
