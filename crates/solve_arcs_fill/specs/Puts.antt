@@ -30,9 +30,6 @@ nextPut i x y ls = set (set ls (nextCell + (2 * i + 1)) x) (nextCell + 2 * i) y
 abbrev pub firstPut : ℕ → ℕ → ℕ → List ℕ → List ℕ
 firstPut i u v ls = set (set ls v (2 * i)) u (2 * i + 1)
 
-abbrev pub arcsPut : ℕ → ℕ → ℕ → List ℕ → List ℕ
-arcsPut i u v ls = firstPut i u v (nextPut i (getD ls u 0) (getD ls v 0) (endsPut i u v ls))
-
 -- What laying the first n streams requires: no arc is there yet.
 abbrev pub Layable : List Stream → ℕ → List ℕ → List ℕ → Type 0
 Layable streams n ls rs = Network streams n × (length ls ≡ arcCells) × ((u : ℕ) → u < places → getD ls u 0 ≡ 2 * maxStreams) × (length rs ≡ rowCells)

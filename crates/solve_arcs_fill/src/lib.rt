@@ -13,7 +13,7 @@ use solve_arcs::weight_of;
 use solve_arcs::wide;
 ghost use mathlib.Core.Path.{_≡_};
 ghost use Prim.Native.Nat.{_*_, _≤_, _<_};
-ghost use lib.ListN.{length};
+ghost use lib.ListN.{getD, length};
 ghost use Rattle.plant_def.specs.Limits.{maxUnits, maxStreams, places};
 ghost use Rattle.plant_def.specs.Within.{WithinStream};
 ghost use Rattle.flow_def.specs.Certificate.{weightOf};
@@ -21,7 +21,7 @@ ghost use Rattle.solve_def.specs.Sizes.{mostPull};
 ghost use Rattle.solve_def.specs.Held.{readingOf};
 ghost use Rattle.solve_arcs.specs.Cells.{arcCells, rowCells};
 ghost use Rattle.solve_arcs.specs.ArcNeeds.{Laid};
-ghost use Rattle.solve_arcs_fill.specs.Puts.{endsPut, nextPut, firstPut, arcsPut, rowPut, Layable};
+ghost use Rattle.solve_arcs_fill.specs.Puts.{endsPut, nextPut, firstPut, rowPut, Layable};
 
 // Where the arcs of stream i lead, from place u to place v.
 fn put_ends(arcs: &mut [u8; ARCS], i: usize, u: u8, v: u8)
@@ -53,7 +53,10 @@ fn put_first(arcs: &mut [u8; ARCS], i: usize, u: usize, v: usize)
 // Stream i becomes the last in the lists of its start and of its end.
 fn list_arcs(arcs: &mut [u8; ARCS], i: usize, from: u8, to: u8)
     requires { ⌜ (length (now arcs) ≡ arcCells) × (i < maxStreams) × (from < places) × (to < places) ⌝ }
-    ensures { λ _. ⌜ now (arcs .exit) ≡ arcsPut i from to (now (arcs .entry)) ⌝ }
+    ensures { λ _. ⌜
+        now (arcs .exit)
+        ≡ firstPut i from to (nextPut i (getD (now (arcs .entry)) from 0) (getD (now (arcs .entry)) to 0) (endsPut i from to (now (arcs .entry))))
+        ⌝ }
 {
     let u = wide(from);
     let v = wide(to);

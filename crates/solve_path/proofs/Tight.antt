@@ -110,10 +110,6 @@ module _ (ls ms ps : List ℕ) (s v : ℕ) where
       pub tight-stops : r .place ≡ places → Tightly All (record { found = false; tree = t })
       tight-stops q = told false t (g .ks) _ (W.stops _ _ _ _ _ _ _ s left at t (g .ks) _ (g .walks) p _ _ (none-tight _ coded-long _ _ r (h .stepped) q) refl)
 
-      -- There is room in the tree.
-      pub tight-room : t .len < places
-      tight-room = omega (arith, g .walks .rounds)
-
       module _ (q : r .place ≡ places → ⊥) where
         -- The nearest place lies behind slack.
         pub tight-slack : 0 < r .distance → Tightly All (record { found = false; tree = t })

@@ -2,7 +2,7 @@
 use mathlib.Core.Path.{_≡_}
 use mathlib.Core.Bool.{Bool, true}
 use mathlib.Core.List.{List}
-use Prim.Native.Nat.{ℕ, _<_}
+use Prim.Native.Nat.{ℕ, _≤_, _<_}
 use lib.ListN.{length, set, take}
 use Rattle.plant_def.specs.Limits.{places}
 use Rattle.solve_def.specs.Sizes.{far, farthest, searchRounds}
@@ -26,6 +26,7 @@ Pacing ls ms ps at near =
 abbrev pub PacedAlong : List ℕ → List ℕ → List ℕ → Spot → List ℕ → List ℕ → Spot → Type 0
 PacedAlong ls ms ps at before after r = (length after ≡ places)
     × ((vs : List Bool) → length vs ≡ places → Coded vs before (at .fringe) → Paced ls ms ps (at .distance) (at .place) before after r vs)
+    × (r .place ≤ places)
 
 -- What a walk over arcs without slack hands over of it.
 abbrev pub Tightly : Walked → Searched → Type 0

@@ -13,7 +13,7 @@ use solve_def::sizes::NUMBERING;
 ghost use mathlib.Core.Bool.{Bool, true, false};
 ghost use mathlib.Core.List.{List};
 ghost use mathlib.Core.Path.{_≡_};
-ghost use Prim.Native.Nat.{_<_};
+ghost use Prim.Native.Nat.{_≤_, _<_};
 ghost use lib.ListN.{length, replicate};
 ghost use Rattle.plant_def.specs.Limits.{places};
 ghost use Rattle.solve_def.specs.Sizes.{far};
@@ -28,7 +28,7 @@ const ROUNDS: usize = PLACES - 1;
 // The first place of the fringe with the least code; PLACES where there is none. The lowest place is looked at first.
 fn nearest(near: &[u64; PLACES], fringe: u64) -> usize
     requires { ⌜ (length (now near) ≡ places) × ((vs : List Bool) × Coded vs (now near) fringe) ⌝ }
-    ensures { λ r. ⌜ ((vs : List Bool) → Coded vs (now (near .entry)) fringe → r ≡ nearestWithin (shown vs (now (near .entry))) far) ⌝ }
+    ensures { λ r. ⌜ (r ≤ places) × ((vs : List Bool) → Coded vs (now (near .entry)) fringe → r ≡ nearestWithin (shown vs (now (near .entry))) far) ⌝ }
 {
     let mut best = FAR;
     let mut at: usize = PLACES;

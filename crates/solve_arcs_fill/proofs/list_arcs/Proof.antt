@@ -30,8 +30,13 @@ returns : tie.Need-returns
 returns c =
     let n = c .before .before in
     let e = n .before .before in
-    let v = known e in
-    rw (c .put-first .ensures, n .put-next .ensures, e .put-ends .ensures, v .before .wide .ensures .0, v .wide2 .ensures .0)
+    rw (
+      c .put-first .ensures,
+      n .put-next .ensures,
+      e .put-ends .ensures,
+      e .before .before .before .before .before .wide .ensures .0,
+      e .before .before .before .before .wide2 .ensures .0,
+    )
 
 pub list-arcs-spec : {M : Type 1} → statement M
 list-arcs-spec =
