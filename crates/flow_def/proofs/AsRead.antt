@@ -120,7 +120,8 @@ module _ (p : Plant) (w : Within p) (d : ℕ) (ys : List ℤ) (m : LeastInFracti
   no-dearer : (k : ℕ) → k < countOf p → share moved k ≤ share ys k
   no-dearer k h = by-cases (streamOf p k .metered)
       (λ q. elim (ℕ-discrete i k) [
-        | yes e ↦ subst (λ (j : ℕ). share moved j ≤ share ys j) e (rw at-aim (mul-le-mul-left (weightOf (streamOf p i)) (nearest-least d (streamOf p i) (amountAt ys i) (range-of d p ys (m .allowed) i l))))
+        | yes e ↦ subst (λ (j : ℕ). share moved j ≤ share ys j) e
+            (rw at-aim (mul-le-mul-left (weightOf (streamOf p i)) (nearest-least d (streamOf p i) (amountAt ys i) (range-of d p ys (m .allowed) i l))))
         | no e ↦ rw (elsewhere k h e q) (omega arith)
       ])
       (λ q. rw q (omega arith))

@@ -23,6 +23,7 @@ pub mod Degrees
 pub mod Counted
 pub mod ByLabels
 pub mod Binary
+pub mod Lowest
 pub mod Parted
 pub mod Parting
 pub mod BySides

@@ -216,5 +216,6 @@ module _ (p : Plant) (w : Within p) where
   one-fraction d e ys zs m o k l t =
       let swap : d * e ≡ e * d = omega arith in
       sym (times-at p e ys k l)
-      ∙ sym (one-over (e * d) (times p e ys) (times p d zs) (times-least p w e d ys (o .some) m) (subst (λ (q : ℕ). LeastInFractions p q (times p d zs)) swap (times-least p w d e zs (m .some) o)) k l t)
+      ∙ sym (one-over (e * d) (times p e ys) (times p d zs) (times-least p w e d ys (o .some) m)
+      (subst (λ (q : ℕ). LeastInFractions p q (times p d zs)) swap (times-least p w d e zs (m .some) o)) k l t)
       ∙ times-at p d zs k l

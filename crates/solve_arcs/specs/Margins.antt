@@ -3,7 +3,7 @@ use mathlib.Core.Bool.{Bool, true, false, _&&_}
 use mathlib.Core.List.{List}
 use Prim.Native.Nat.{ℕ, _+_, _-_, _*_}
 use lib.Dec.{ltb}
-use lib.ListN.{getD}
+use lib.ListN.{getD, set}
 use Rattle.num_bytes.specs.Choice.{pick}
 use Rattle.num_bytes.specs.Inner.{values}
 use Rattle.solve_def.specs.Sizes.{mostPull, farthest}
@@ -28,6 +28,10 @@ marginBy w q low high f x d = pick (openBy low high f x d) (costBy w q f x d) sh
 -- Of stream k by its row.
 abbrev pub marginAt : List ℕ → Bool → ℕ → ℕ → ℕ → ℕ
 marginAt rs f k x d = marginBy (getD rs (4 * k) 0) (getD rs (4 * k + 1) 0) (getD rs (4 * k + 2) 0) (getD rs (4 * k + 3) 0) f x d
+
+-- Both margins of stream k are put.
+abbrev pub marginsPut : List ℕ → ℕ → ℕ → ℕ → List ℕ → List ℕ
+marginsPut rs k x d ms = set (set ms (2 * k + 1) (marginAt rs true k x d)) (2 * k) (marginAt rs false k x d)
 
 -- Stream k is left alone: it is metered, and its number below skip. Its arcs are shut.
 abbrev pub spared : List ℕ → ℕ → ℕ → Bool

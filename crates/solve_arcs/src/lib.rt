@@ -22,8 +22,8 @@ ghost use Rattle.solve_def.specs.Held.{shifted, readingOf, lowOf, highOf};
 ghost use lib.ListN.{getD, length, set};
 ghost use Rattle.solve_arcs.specs.Cells.{toCell, nextCell, countOf, marginCells};
 ghost use mathlib.Core.Bool.{true, false};
-ghost use Rattle.solve_arcs.specs.Margins.{lessOf, marginBy, marginAt, shut, reducedCost};
-ghost use Rattle.solve_arcs.specs.ArcNeeds.{Row, Margined};
+ghost use Rattle.solve_arcs.specs.Margins.{lessOf, marginBy, marginsPut, shut, reducedCost};
+ghost use Rattle.solve_arcs.specs.ArcNeeds.{Row, Marginable, Margined};
 
 // A stream's weight; an unmetered stream counts as one of weight 0.
 pub fn weight_of(s: Stream) -> u64
@@ -178,7 +178,7 @@ fn falling(w: u64, q: u64, low: u64, x: u64, delta: u64) -> u64
 // The margins of stream i at the amount x.
 pub fn put_margins(rows: &[u64; ROWS], margins: &mut [u64; MARGINS], i: usize, x: u64, delta: u64)
     requires { ⌜ Row (now rows) i × (x ≤ mostFlow) × (delta ≤ mostStep) × (length (now margins) ≡ marginCells) ⌝ }
-    ensures { λ _. ⌜ now (margins .exit) ≡ set (set (now (margins .entry)) (2 * i + 1) (marginAt (now (rows .entry)) true i x delta)) (2 * i) (marginAt (now (rows .entry)) false i x delta) ⌝ }
+    ensures { λ _. ⌜ now (margins .exit) ≡ marginsPut (now (rows .entry)) i x delta (now (margins .entry)) ⌝ }
 {
     let w = rows[4 * i];
     let q = rows[4 * i + 1];
@@ -205,7 +205,7 @@ pub fn margins_of(
     count: usize,
     delta: u64,
 )
-    requires { ⌜ ((k : ℕ) → k < count → Row (now rows) k) × ((k : ℕ) → k < count → getD (now flows) k 0 ≤ mostFlow) × (count ≤ maxStreams) × (delta ≤ mostStep) × (length (now margins) ≡ marginCells) ⌝ }
+    requires { ⌜ Marginable count (now rows) (now flows) delta (now margins) ⌝ }
     ensures { λ _. ⌜ Margined count (now (rows .entry)) (now (flows .entry)) delta 0 (now (margins .exit)) ⌝ }
 {
     let mut i: usize = 0;

@@ -45,7 +45,7 @@ pub held-right : (z : ℤ) → natAbs z ≤ flowShift → unshifted (shifted z) 
 held-right (pos a) h = same (unshifted (flowShift + a)) (pos a) (omega (arith, unshifted-val (flowShift + a)))
 held-right (negsuc a) h = same (unshifted (flowShift - suc a)) (negsuc a) (omega (arith, unshifted-val (flowShift - suc a)))
 
-pub held-val : (z : ℤ) → natAbs z ≤ flowShift → up z + flowShift ≡ shifted z + dn z
+held-val : (z : ℤ) → natAbs z ≤ flowShift → up z + flowShift ≡ shifted z + dn z
 held-val z h = omega (arith, val (unshifted (shifted z)) z (held-right z h), unshifted-val (shifted z))
 
 potential-is : (x : ℕ) → potential x ≡ diff x potentialShift
@@ -60,16 +60,16 @@ module _ {n : ℕ} (s : Stream) (w : WithinStream n s) (X b : ℕ) where
   high-val : limited s ≡ true → up (s .high) + flowShift ≡ highOf s + dn (s .high)
   high-val m = rw (high-is s m) (held-val (s .high) (omega (arith, w .high-in m)))
 
-  pub range-met : (lowOf s ≤ X) × (X ≤ highOf s) → inRange 1 s (unshifted X) ≡ true
+  range-met : (lowOf s ≤ X) × (X ≤ highOf s) → inRange 1 s (unshifted X) ≡ true
   range-met i = whole-holds s (unshifted X) (λ m. (omega (arith, low-val m, unshifted-val X, i .0), omega (arith, high-val m, unshifted-val X, i .1)))
 
   module _ (c : Close b X) (fits : b < flowShift) where
-    pub falls-open : falls s (unshifted X) ≡ true → Open s false X 1
+    falls-open : falls s (unshifted X) ≡ true → Open s false X 1
     falls-open e = by-cases (limited s)
         (λ m. omega (arith, low-val m, unshifted-val X, ltZ-lt (s .low) (unshifted X) (asked (limited s) (ltZ (s .low) (unshifted X)) e m)))
         (λ m. open-free false s X 1 b m c (omega arith))
 
-    pub rises-open : rises s (unshifted X) ≡ true → Open s true X 1
+    rises-open : rises s (unshifted X) ≡ true → Open s true X 1
     rises-open e = by-cases (limited s)
         (λ m. omega (arith, high-val m, unshifted-val X, ltZ-lt (unshifted X) (s .high) (asked (limited s) (ltZ (unshifted X) (s .high)) e m)))
         (λ m. open-free true s X 1 b m c (omega arith))
@@ -132,6 +132,7 @@ module _ (p : Plant) (w : Within p) (ps : List ℕ) (i : ℕ) (xs : List ℕ) (h
           (subst (λ (b : ℤ). Lt (diff (2 * (W * X)) (2 * (W * R) + W)) b) (sym climb-is)
           (lt-diff _ _ pv pu (omega (arith, q, slack-open false s X pu pv 1 (less-open e)))))
 
+      -- Where slack is left forwards, a stream gains nothing by more.
       pub no-more : 0 < slackBy s true X pu pv 1 → NoMore (potentialAt ps) s x
       no-more q e =
           subst (λ (a : ℤ). Lt (climb (potentialAt ps) s) a) (sym upper-is)

@@ -24,6 +24,7 @@ lowered-at (l ∷ ls) g [] k = sym (go (getD (l ∷ ls) k false))
 lowered-at (l ∷ ls) g (p ∷ ps) zero = refl
 lowered-at (l ∷ ls) g (p ∷ ps) (suc k) = lowered-at ls g ps k
 
+-- As many potentials as before.
 pub lowered-long : (ls : List Bool) (g : ℕ) (ps : List ℕ) → length (loweredBy ls g ps) ≡ length ps
 unfolding loweredBy
 lowered-long [] g ps = refl
@@ -46,6 +47,7 @@ set-each P xs i v n l p all k m = elim (ℕ-discrete k i) [
 pub roomy-less : {xs : List ℕ} {j : ℕ} → Roomy xs j → Roomy xs (j - 1)
 roomy-less {xs} {j} r = record { long = r .long; low = λ k l. omega (arith, r .low k l); high = λ k l. omega (arith, r .high k l) }
 
+-- A store leaves room for one step less.
 pub roomy-set : {xs : List ℕ} {j : ℕ} → Roomy xs j → (i v : ℕ) → i < maxStreams → (mostStep * (j - 1) ≤ v) × (v + mostStep * (j - 1) ≤ mostFlow)
     → Roomy (set xs i v) (j - 1)
 roomy-set {xs} {j} r i v l h =

@@ -62,6 +62,7 @@ module _ (ss : List Stream) (v : Solvable ss) where
   potential : (u : ℕ) → u < places → getD (noHint .potentials) u 0 ≡ potentialShift
   potential u l = getD-replicate {A = ℕ} places u potentialShift 0 l
 
+  -- Without a hint the start is one.
   pub none-start : Start ss 0 noHint
   none-start = record {
     agree = λ k l e. potential (streamAt ss k .from) (omega (arith, v .plain .inside k l .0)) ∙ sym (potential (streamAt ss k .to) (omega (arith, v .plain .inside k l .1)));
@@ -73,6 +74,7 @@ module _ (ss : List Stream) (v : Solvable ss) where
     within = omega arith;
   }
 
+  -- And it is as a hint must be.
   pub none-hinted : Hinted ss noHint
   none-hinted = start-more ss 0 hintRoom noHint none-start (omega arith) (omega arith)
 
@@ -99,6 +101,7 @@ module _ (ss : List Stream) (v : Solvable ss) where
           let f = settled-free ss v noHint 0 none-start k e in
           size (omega (arith, f, q), omega (arith, f, q))
 
+  -- What is over at that start.
   pub none-over : overSum (settled ss noHint .nets) ≤ maxStreams * mostRange
   none-over =
       omega (
@@ -108,11 +111,13 @@ module _ (ss : List Stream) (v : Solvable ss) where
         mul-le-mul-right mostRange (v .plain .few),
       )
 
+  -- So the first phase can begin there.
   pub none-stage : Stage ss halvings 0 noHint
   none-stage = record { start = none-start; over = omega (arith, none-over) }
 
 -- Settled at a hint with little over.
 module _ (ss : List Stream) (v : Solvable ss) (st : State) (s : AtHint ss st) where
+  -- A hint that leaves little over can go straight to step 1.
   pub hint-underway : overSum (st .nets) ≤ mostTried → Underway ss 1 settledRoom st
   hint-underway o = subst (Underway ss 1 settledRoom) (sym (s .is)) (record {
     size = hintRoom;
@@ -123,6 +128,7 @@ module _ (ss : List Stream) (v : Solvable ss) (st : State) (s : AtHint ss st) wh
       little : overSum (settled ss (s .hint) .nets) ≤ mostTried
       little = subst (λ (r : State). overSum (r .nets) ≤ mostTried) (s .is) o
 
+  -- From there the flow is finished.
   pub finished-good : Finished ss (finished ss st)
   unfolding finished
   finished-good = picked (Finished ss) (leb (overSum (st .nets)) mostTried) (phase ss 1 st) (phases halvings ss noHint)
@@ -144,9 +150,13 @@ finished-even ss v r h e = record {
   inside = h .underway e .sound .inside;
   agreed = h .underway e .sound .agreed;
   level = λ u l. level-nets ss (v .plain .inside) (λ k. unshifted (getD (r .state .flows) k 0)) none u (omega arith);
-  moderate = λ k l m. let q = sound-tall ss v 1 (h .underway e .size) (r .state) (omega arith) (h .underway e .sound) k l m in (omega (arith, q .0), omega (arith, q .1));
+  moderate = λ k l m.
+      let q = sound-tall ss v 1 (h .underway e .size) (r .state) (omega arith) (h .underway e .sound) k l m in
+      (omega (arith, q .0), omega (arith, q .1));
   floor = h .underway e .sound .floor;
-  close = λ k l. let q = sound-close ss v 1 (h .underway e .size) (omega arith, omega arith) (r .state) (h .underway e .sound) (omega (arith, h .underway e .fits)) k l in (omega (arith, q .0), omega (arith, q .1));
+  close = λ k l.
+      let q = sound-close ss v 1 (h .underway e .size) (omega arith, omega arith) (r .state) (h .underway e .sound) (omega (arith, h .underway e .fits)) k l in
+      (omega (arith, q .0), omega (arith, q .1));
 }
   where
     none : (u : ℕ) → u ≤ maxUnits → up (net ss (r .state .flows) u) ≡ 0

@@ -25,7 +25,8 @@ use Rattle.solve_def.proofs.Least.{opposed, all-usable, startIn, endIn,
 use Rattle.solve_def.proofs.Counting.{count-full}
 use Rattle.solve_def.proofs.Bounds.{Open, open-of}
 use Rattle.solve_def.proofs.Pushing.{reached-more}
-use Rattle.solve_def.proofs.Growing.{Plain, Growing, Level, root-growing, from-small, to-small, lower-growing, lower-level, some-left, far-off, far-near, add-level, add-growing, slack-gone, slack-rise, modest}
+use Rattle.solve_def.proofs.Growing.{Plain, Growing, Level, root-growing, from-small, to-small, lower-growing, lower-level, some-left}
+use Rattle.solve_def.proofs.Growing.{far-off, far-near, add-level, add-growing, slack-gone, slack-rise, modest}
 
 -- What a search that found a place comes to, from the potentials ps: the place visited last has a negative net, and no potential rose.
 pub record Found (n : ℕ) (ss : List Stream) (xs es : List ℕ) (d root : ℕ) (ps : List ℕ) (g : Grown) : Type 0 where
@@ -42,10 +43,12 @@ pub record Stuck (n : ℕ) (ss : List Stream) (xs es : List ℕ) (d root : ℕ) 
   pub none-less : (v : ℕ) → v ≤ n → getD ls v false ≡ true → netShift ≤ getD es v 0
   pub shut : (k : ℕ) → k < length ss → startIn ss ls k ≡ not (endIn ss ls k) → Open (streamAt ss k) (startIn ss ls k) (getD xs k 0) d → ⊥
 
+-- A search hits, or is stuck.
 pub data Hunt (n : ℕ) (ss : List Stream) (xs es : List ℕ) (d root : ℕ) (ps : List ℕ) (g : Grown) : Type 0 where
   hit : g .found ≡ true → Found n ss xs es d root ps g → Hunt n ss xs es d root ps g
   stuck : g .found ≡ false → Stuck n ss xs es d root (g .tree .visited) → Hunt n ss xs es d root ps g
 
+-- The place visited last is the target.
 pub new-target : (t : Tree) (i e : ℕ) → t .len < length (t .ends) → target (addedTo t i e) ≡ e
 new-target t i e l = let q : t .len + 1 - 1 ≡ t .len = omega arith in rw q (getD-set-same (t .ends) (t .len) e 0 l)
 
@@ -57,8 +60,8 @@ pub record Since (n : ℕ) (es ps₀ ps : List ℕ) (t : Tree) : Type 0 where
   pub rise : (u : ℕ) → getD ps u 0 ≤ getD ps₀ u 0
   pub long : length ps ≡ length ps₀
 
-module _ (n : ℕ) (ss : List Stream) (plain : Plain n ss) (xs es : List ℕ) (d : ℕ) (step : d ≤ mostStep) (root : ℕ) (near : root ≤ n) (room : (k : ℕ) → k < length ss → d ≤ getD xs k 0) (moderate : Moderate ss xs)
-    (ps₀ : List ℕ) (capped : Potentials ps₀) (floor : Floored ps₀) where
+module _ (n : ℕ) (ss : List Stream) (plain : Plain n ss) (xs es : List ℕ) (d : ℕ) (step : d ≤ mostStep) (root : ℕ) (near : root ≤ n)
+    (room : (k : ℕ) → k < length ss → d ≤ getD xs k 0) (moderate : Moderate ss xs) (ps₀ : List ℕ) (capped : Potentials ps₀) (floor : Floored ps₀) where
   root-marked : (ps : List ℕ) (t : Tree) → Growing n ss xs d root ps t → getD (t .visited) root false ≡ true
   root-marked ps t h = h .marks root (omega (arith, plain .small)) ∙ reached-more root (t .ends) 0 (t .len) root (omega arith) (eq-eqb root root refl)
 
@@ -97,7 +100,9 @@ module _ (n : ℕ) (ss : List Stream) (plain : Plain n ss) (xs es : List ℕ) (d
     slack-room : slackAt ss xs ps d k (startIn ss (t .visited) k) < farthest → (u : ℕ) → u < places → getD (t .visited) u false ≡ true
         → slackAt ss xs ps d k (startIn ss (t .visited) k) ≤ getD ps u 0
     slack-room f u lu a =
-        omega (arith, across (open-of (startIn ss (t .visited) k) (streamAt ss k) (getD xs k 0) _ _ d f), head-floor, since .level tail u tail-small lu tail-on a, some-left n ss plain xs d root ps t head h head-near head-off, plain .small)
+        let rise = across (open-of (startIn ss (t .visited) k) (streamAt ss k) (getD xs k 0) _ _ d f) in
+        let few = some-left n ss plain xs d root ps t head h head-near head-off in
+        omega (arith, rise, head-floor, since .level tail u tail-small lu tail-on a, few, plain .small)
 
   grow-good : (l : ℕ) (ps : List ℕ) (t : Tree) → Growing n ss xs d root ps t → n ≤ l + t .len → Since n es ps₀ ps t
       → Hunt n ss xs es d root ps₀ (grow ss (length ss) xs es d l ps t)

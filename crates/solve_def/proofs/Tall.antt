@@ -181,7 +181,7 @@ module _ (d : ℕ) (s : Stream) (X pu pv : ℕ) (few : d ≤ mostStep) (r : Rang
       far : 2 * X + d + 1 ≤ 2 * readingOf s
       far = omega (arith, z .1)
 
-  pub slopes : Slopes mostRange (unshifted X) (pos pv -ℤ pos pu)
+  slopes : Slopes mostRange (unshifted X) (pos pv -ℤ pos pu)
   slopes = record {
     runs-up = λ l. omega (arith, high-slope (omega (arith, unshifted-val X)), minus-val (pos pv) (pos pu));
     runs-down = λ l. omega (arith, low-slope (omega (arith, unshifted-val X)), minus-val (pos pv) (pos pu));
@@ -213,5 +213,6 @@ sound-tall ss v d b st few h k l m = (omega (arith, size, unshifted-val X, size-
           h .over,
         )
 
+-- So the metered amounts of a sound state are moderate.
 pub sound-moderate : (ss : List Stream) → Solvable ss → (d b : ℕ) (st : State) → d ≤ mostStep → Sound ss d b st → Moderate ss (st .flows)
 sound-moderate ss v d b st few h k l m = let r = sound-tall ss v d b st few h k l m in (omega (arith, r .0), omega (arith, r .1))

@@ -49,6 +49,7 @@ solvable-in q w = solvable-with (q .streams) (w .few-units) (w .few-streams) (w 
 pub unhinted : (q : Plant) → Within q → Hinted (q .streams) noHint
 unhinted q w = none-hinted (q .streams) (solvable-in q w)
 
+-- The start without a hint is one.
 pub from-none : (q : Plant) → Within q → AtHint (q .streams) (settled (q .streams) noHint)
 from-none q w = record { hint = noHint; hinted = unhinted q w; is = refl }
 
@@ -67,15 +68,16 @@ module _ (q : Plant) (w : Within q) (e : Ended) (f : Finished (q .streams) e) wh
     even : Even ss ps 0 (e .state .flows)
     even = finished-even ss (solvable-in q w) e f n
 
-    pub ended-cheapest : Cheapest q (opened (length ss) ys)
+    ended-cheapest : Cheapest q (opened (length ss) ys)
     ended-cheapest = tied-cheapest q w (solvable-in q w) ps (e .state .flows) even
 
-    pub ended-sure : Certificate q (opened (length ss) ys) (potentialAt ps)
+    ended-sure : Certificate q (opened (length ss) ys) (potentialAt ps)
     ended-sure = tied-sure q w (solvable-in q w) ps (e .state .flows) even
 
-    pub ended-even : Even ss ps (length ss) ys
+    ended-even : Even ss ps (length ss) ys
     ended-even = ended q w (solvable-in q w) ps (e .state .flows) even
 
+  -- A full set at the end is overfull.
   pub ended-full : e .full ≡ true → Overfull q (masked (q .units) (e .marked))
   ended-full n = overfull-says q w (solvable-in q w) (e .marked) (f .found n)
 
@@ -107,6 +109,7 @@ module _ (p : Arrays.Plant) (a : Accepted p) (st : State) (s : AtHint (plantOf p
   abbrev q : Plant
   q = plantOf p
 
+  -- What is solved from a hint is right.
   pub solved-right : Right p (solvedFrom (p .units) (plantOf p .streams) st)
   unfolding solvedFrom
   solved-right = go (finished (q .streams) st) (finished-good (q .streams) (solvable-in q w) st s)

@@ -34,9 +34,11 @@ set-le e s y v b l h k = elim (ℕ-discrete v s) [
 
 -- An improvement by its parts.
 module _ (ss : List Stream) (st : State) (d s : ℕ) (found : Bool) (t : Tree) (ps : List ℕ) (e : grownBy found t ps ≡ sought ss (st .flows) (st .nets) (st .potentials) d s) where
+  -- An improvement by what its search found.
   pub improved-is : improvedAt ss st d s ≡ improvedBy found (pick found (pushedOn ss st d s (grownBy found t ps)) st) (t .visited)
   improved-is = rw (← e)
 
+  -- The search found a place.
   pub improved-done : found ≡ true → improvedAt ss st d s ≡ improvedBy found (pushedOn ss st d s (grownBy found t ps)) (t .visited)
   improved-done f = improved-is ∙ ap (λ (b : Bool). improvedBy found (pick b (pushedOn ss st d s (grownBy found t ps)) st) (t .visited)) f
 
@@ -66,6 +68,7 @@ module _ (streams : List Stream) (n : ℕ) (w : Network streams n) (st : State) 
   room : h .size + d ≤ settledRoom
   room = underway-room ss d settledRoom st step h s l over
 
+  -- What the push then needs.
   pub moving : (t : Tree) (ps : List ℕ) → grownBy true t ps ≡ sought (take n streams) (st .flows) (st .nets) (st .potentials) d s → Moving n st s d t
   moving t ps q = go (subst (Hunt maxUnits ss (st .flows) (st .nets) d s (st .potentials)) (sym q) (finds ss (solvable-of streams n w) d (h .size) step st (h .sound) room s l over))
     where
@@ -120,9 +123,11 @@ module _ (streams : List Stream) (n : ℕ) (ps xs : List ℕ) (i : ℕ) (l : i <
   unfolding settledTo
   settle-next = rw (add-one, getD-take n streams i noStream l)
 
+  -- One stream more is settled.
   pub settle-hit : s .metered ≡ true → settledTo (take n streams) ps xs (i + 1) ≡ set ys i (settledOf s (getD ps (s .from) 0) (getD ps (s .to) 0))
   settle-hit e = settle-next ∙ ap (λ (b : Bool). pick b (set ys i (settledOf s (getD ps (s .from) 0) (getD ps (s .to) 0))) ys) e
 
+  -- Or is unmetered, and stays.
   pub settle-miss : s .metered ≡ false → settledTo (take n streams) ps xs (i + 1) ≡ ys
   settle-miss e = settle-next ∙ ap (λ (b : Bool). pick b (set ys i (settledOf s (getD ps (s .from) 0) (getD ps (s .to) 0))) ys) e
 
@@ -131,10 +136,12 @@ module _ (streams : List Stream) (n : ℕ) (ps xs : List ℕ) (i : ℕ) (l : i <
   unfolding netsTo
   nets-next = rw (add-one, getD-take n streams i noStream l)
 
+-- No stream yet.
 pub settle-none : (ss : List Stream) (ps xs : List ℕ) → settledTo ss ps xs 0 ≡ xs
 unfolding settledTo
 settle-none ss ps xs = refl
 
+-- No stream is booked yet.
 pub nets-none : (ss : List Stream) (xs : List ℕ) → netsTo ss xs 0 ≡ replicate places netShift
 unfolding netsTo
 nets-none ss xs = refl
@@ -144,10 +151,12 @@ unfoldable pub overTo : List ℕ → ℕ → ℕ
 overTo es zero = 0
 overTo es (suc n) = (getD es n 0 - netShift) + overTo es n
 
+-- One place more is summed.
 pub over-next : (es : List ℕ) (n : ℕ) → overTo es (n + 1) ≡ overTo es n + (getD es n 0 - netShift)
 unfolding overTo
 over-next es n = rw add-one (omega arith)
 
+-- No place yet.
 pub over-none : (es : List ℕ) → overTo es 0 ≡ 0
 unfolding overTo
 over-none es = refl
@@ -157,11 +166,13 @@ unfolding overTo
 over-front e es zero = refl
 over-front e es (suc n) = omega (arith, over-front e es n)
 
+-- All places.
 pub over-all : (es : List ℕ) → overTo es (length es) ≡ overSum es
 unfolding overSum
 over-all [] = over-none []
 over-all (e ∷ es) = over-front e es (length es) ∙ ap (λ (k : ℕ). (e - netShift) + k) (over-all es)
 
+-- The sum over n places fits.
 pub over-to-most : (es : List ℕ) (b n : ℕ) → ((u : ℕ) → u < n → getD es u 0 ≤ netShift + b) → overTo es n ≤ b * n
 unfolding overTo
 over-to-most es b zero h = omega arith

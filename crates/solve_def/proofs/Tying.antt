@@ -168,6 +168,7 @@ module _ (p : Plant) (w : Within p) (v : Solvable (p .streams)) (ps xs : List â„
   abbrev ys : List â„•
   ys = tiesTo (p .streams) ps (length (p .streams)) xs
 
+  -- After the last stream the flow is level.
   pub ended : Even (p .streams) ps (length (p .streams)) ys
   ended = ties-even (p .streams) v ps xs h (length (p .streams)) (omega arith)
 
@@ -175,6 +176,7 @@ module _ (p : Plant) (w : Within p) (v : Solvable (p .streams)) (ps xs : List â„
   pub tied-sure : Certificate p (opened (length (p .streams)) ys) (potentialAt ps)
   tied-sure = certify p w ps (length (p .streams)) ys ended (omega arith)
 
+  -- And it is the cheapest, ties by the lowest first metered stream.
   pub tied-cheapest : Cheapest p (opened (length (p .streams)) ys)
   tied-cheapest =
       first-cheapest p w (potentialAt ps) (opened (length (p .streams)) ys) tied-sure

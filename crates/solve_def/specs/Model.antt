@@ -11,7 +11,7 @@ use Rattle.plant_def.specs.declared.Stream.{Stream}
 use Rattle.plant_def.specs.Limits.{places, maxStreams}
 use Rattle.flow_def.specs.Flows.{streamAt}
 use Rattle.flow_def.specs.Overfull.{unmarked}
-use Rattle.solve_def.specs.Sizes.{flowShift, potentialShift, netShift, searchRounds}
+use Rattle.solve_def.specs.Sizes.{flowShift, potentialShift, netShift, searchRounds, mostTried, halvings}
 use Rattle.flow_def.specs.Certificate.{weightOf}
 use Rattle.solve_def.specs.Held.{readingOf, lowOf, highOf}
 use Rattle.solve_def.specs.Slack.{slackBy}
@@ -23,7 +23,6 @@ use Rattle.solve_def.specs.declared.Hint.{Hint}
 use Rattle.solve_def.specs.declared.State.{State}
 use Rattle.solve_def.specs.declared.Ended.{Ended}
 use Rattle.solve_def.specs.declared.Solved.{Solved}
-use Rattle.solve_def.specs.Sizes.{mostTried, halvings}
 
 -- A number brought into a range.
 abbrev pub clamped : ℕ → ℕ → ℕ → ℕ

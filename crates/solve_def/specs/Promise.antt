@@ -12,10 +12,9 @@ use Rattle.plant_def.specs.Says.{plantOf}
 use Rattle.flow_def.specs.Flows.{streamAt, amountAt, Cheapest}
 use Rattle.flow_def.specs.Certificate.{inKilter}
 use Rattle.flow_def.specs.Overfull.{unmarked, Overfull}
-use Rattle.solve_def.specs.Sizes.{potentialShift}
+use Rattle.solve_def.specs.Sizes.{potentialShift, settledRoom}
 use Rattle.solve_def.specs.Held.{opened}
 use Rattle.solve_def.specs.declared.Solved.{Solved}
-use Rattle.solve_def.specs.Sizes.{settledRoom}
 use Rattle.solve_def.specs.SearchNeeds.{Close}
 
 -- The potential that is held as x; the potential of each place.
@@ -34,7 +33,8 @@ pub record Solution (p : Arrays.Plant) (r : Solved) : Type 0 where
   -- It is the cheapest, the amounts of unmetered streams being such that all balances.
   pub cheapest : Cheapest (plantOf p) (flowOf p r)
   -- The potentials certify it: they are within the bounds of every stream, and agree across unmetered streams.
-  pub steps : (k : ℕ) → k < length (plantOf p .streams) → inKilter (potentialAt (r .potentials)) (streamAt (plantOf p .streams) k) (amountAt (flowOf p r) k) ≡ true
+  pub steps : (k : ℕ) → k < length (plantOf p .streams)
+      → inKilter (potentialAt (r .potentials)) (streamAt (plantOf p .streams) k) (amountAt (flowOf p r) k) ≡ true
   pub agree : (k : ℕ) → k < length (plantOf p .streams) → streamAt (plantOf p .streams) k .metered ≡ false
       → potentialAt (r .potentials) (streamAt (plantOf p .streams) k .from) ≡ potentialAt (r .potentials) (streamAt (plantOf p .streams) k .to)
   -- A potential is from −potentialShift to 0, and an amount is of size settledRoom + maxStreams at most.

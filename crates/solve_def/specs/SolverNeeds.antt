@@ -6,35 +6,21 @@ use lib.IntN.{pos, _-ℤ_}
 use Prim.Native.Nat.{ℕ, _+_, _*_, _≤_, _<_}
 use lib.ListN.{length, getD}
 use Rattle.plant_def.specs.declared.Stream.{Stream}
-use Rattle.plant_def.specs.Limits.{places, maxUnits, maxStreams}
+use Rattle.plant_def.specs.Limits.{places, maxStreams}
 use Rattle.plant_def.specs.Plants.{noStream}
-use Rattle.plant_def.specs.Within.{WithinStream}
 use Rattle.flow_def.specs.Flows.{streamAt}
 use Rattle.flow_def.specs.Nets.{netOf}
-use Rattle.solve_def.specs.Sizes.{flowShift, mostFlow, potentialShift, netShift, mostStep}
+use Rattle.solve_def.specs.Sizes.{flowShift, mostFlow, netShift, mostStep, mostOver, meteredRoom, hintRoom, settledRoom}
 use Rattle.solve_def.specs.Held.{unshifted, AllHeld, AllInside}
 use Rattle.solve_def.specs.Slack.{slackBy}
-use Rattle.solve_def.specs.SearchNeeds.{Network, Potentials, Floored, Close}
+use Rattle.solve_def.specs.SearchNeeds.{Potentials, Floored, Close}
 use Rattle.solve_def.specs.declared.Hint.{Hint}
 use Rattle.solve_def.specs.declared.State.{State}
 use Rattle.solve_def.specs.Model.{settled, overSum, stepsOver}
-use Rattle.solve_def.specs.Sizes.{mostOver, meteredRoom, hintRoom, settledRoom}
 
 -- A step: at least 1.
 abbrev pub Step : ℕ → Type 0
 Step d = (1 ≤ d) × (d ≤ mostStep)
-
--- A metered stream, and the potentials of its start and its end, at which its amount can be settled.
-pub record Settleable (s : Stream) (pu pv : ℕ) : Type 0 where
-  pub within : WithinStream maxUnits s
-  pub metered : s .metered ≡ true
-  pub potential-u : pu ≤ potentialShift
-  pub potential-v : pv ≤ potentialShift
-
--- An array of streams, and potentials at which their amounts can be settled.
-pub record Settles (streams : List Stream) (n : ℕ) (ps : List ℕ) : Type 0 where
-  pub network : Network streams n
-  pub potentials : Potentials ps
 
 -- Held amounts, each at most mostFlow.
 abbrev pub Amounts : List ℕ → Type 0

@@ -17,19 +17,17 @@ use walking::walk;
 
 pub mod walking;
 
-ghost use mathlib.Core.Bool.{Bool};
-ghost use mathlib.Core.List.{List};
 ghost use mathlib.Core.Path.{_≡_};
 ghost use Prim.Native.Nat.{_+_, _*_, _<_, ℕ, _-_};
-ghost use lib.ListN.{length, take};
+ghost use lib.ListN.{length};
 ghost use Rattle.plant_def.specs.Limits.{places, maxStreams};
-ghost use Rattle.solve_def.specs.Sizes.{farthest, far, searchRounds};
+ghost use Rattle.solve_def.specs.Sizes.{farthest, far};
 ghost use Rattle.num_bytes.specs.Choice.{pick};
 ghost use Rattle.solve_def.specs.Near.{codeOf, lessened, reducedBy};
 ghost use Rattle.solve_def.specs.Fringe.{openedBy};
-ghost use Rattle.solve_arcs.specs.ArcNeeds.{Ways, Searching};
-ghost use Rattle.solve_path.specs.Codes.{Coded, Looked};
-ghost use Rattle.solve_def.specs.Search.{rootAt, grownBy, sought, tightPath};
+ghost use Rattle.solve_arcs.specs.ArcNeeds.{Searching};
+ghost use Rattle.solve_path.specs.Codes.{Standing, LookedAlong};
+ghost use Rattle.solve_path.specs.Paces.{Sought, SoughtTightly};
 
 fn digit(b: bool) -> u64
     ensures { λ r. ⌜ r ≡ pick b 1 0 ⌝ }
@@ -57,8 +55,8 @@ pub fn relax(
     at: Spot,
     near: &mut [u64; PLACES],
 ) -> u64
-    requires { ⌜ Ways (now arcs) (now margins) (now potentials) × (at .place < places) × (at .distance < farthest) × (length (now near) ≡ places) ⌝ }
-    ensures { λ r. ⌜ (length (now (near .exit)) ≡ places) × ((vs : List Bool) → Coded vs (now (near .entry)) (at .fringe) → Looked (now (arcs .entry)) (now (margins .entry)) (now (potentials .entry)) (at .distance) (at .place) (now (near .entry)) (at .fringe) (now (near .exit)) r vs) ⌝ }
+    requires { ⌜ Standing (now arcs) (now margins) (now potentials) at (now near) ⌝ }
+    ensures { λ r. ⌜ LookedAlong (now (arcs .entry)) (now (margins .entry)) (now (potentials .entry)) at (now (near .entry)) (now (near .exit)) r ⌝ }
 {
     let e = at.place;
     let p = potentials[e];
@@ -105,7 +103,7 @@ pub fn search(
     delta: u64,
 ) -> Searched
     requires { ⌜ Searching (now arcs) (now margins) (now potentials) delta 0 × (s < places) × (length (now potentials) ≡ places) ⌝ }
-    ensures { λ r. ⌜ ((w : Searching (now (arcs .entry)) (now (margins .entry)) (now (potentials .entry)) delta 0) → grownBy (r .found) (r .tree) (now (potentials .exit)) ≡ sought (take (w .n) (w .streams)) (w .amounts) (now (nets .entry)) (now (potentials .entry)) delta s) ⌝ }
+    ensures { λ r. ⌜ Sought (now (arcs .entry)) (now (margins .entry)) (now (potentials .entry)) (now (nets .entry)) delta s r (now (potentials .exit)) ⌝ }
 {
     let w = walk(arcs, margins, potentials, nets, s);
     let t = w.tree;
@@ -127,7 +125,7 @@ pub fn tight_path(
     v: usize,
 ) -> Searched
     requires { ⌜ ((skip : ℕ) × Searching (now arcs) (now margins) (now potentials) 1 skip) × (s < places) × (v < places) ⌝ }
-    ensures { λ r. ⌜ ((skip : ℕ) (w : Searching (now (arcs .entry)) (now (margins .entry)) (now (potentials .entry)) 1 skip) → grownBy (r .found) (r .tree) (now (potentials .entry)) ≡ tightPath (take (w .n) (w .streams)) (w .n) (w .amounts) (now (potentials .entry)) v skip searchRounds (rootAt s)) ⌝ }
+    ensures { λ r. ⌜ SoughtTightly (now (arcs .entry)) (now (margins .entry)) (now (potentials .entry)) s v r ⌝ }
 {
     tight_walk(arcs, margins, potentials, s, v)
 }

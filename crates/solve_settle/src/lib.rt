@@ -16,11 +16,12 @@ ghost use lib.ListN.{getD, length, take};
 ghost use Rattle.plant_def.specs.Limits.{maxWeight, places, maxStreams};
 ghost use Rattle.solve_def.specs.Sizes.{mostPull, potentialShift, mostFlow, netRoom};
 ghost use Rattle.solve_def.specs.Model.{clamped, nearestAmount, settledTo, left, come, netsTo, settled, overSum};
-ghost use Rattle.solve_arcs.specs.ArcNeeds.{Row, Laying};
+ghost use Rattle.solve_arcs.specs.ArcNeeds.{Row, Laying, OfStreams};
 ghost use mathlib.Core.List.{List};
 ghost use Rattle.solve_def.specs.SearchNeeds.{Potentials};
 ghost use Rattle.solve_def.specs.SolverNeeds.{Amounts, Around};
 ghost use Rattle.solve_settle.specs.Hints.{Hinting};
+ghost use Rattle.solve_settle.specs.Settled.{RowReads, settledRow};
 
 // The amount nearest to a reading R, at the potentials of a stream's start and its end, by its weight and twice the weight times R. (One
 // quotient, with no branch: on which side of the reading the amount lies cannot be foreseen.)
@@ -44,7 +45,7 @@ fn clamp(low: u64, high: u64, x: u64) -> u64
 // The amount of stream i, which is metered, at the potentials of its start and its end: by its row.
 pub fn amount_at(rows: &[u64; ROWS], i: usize, pu: u64, pv: u64) -> u64
     requires { ⌜ Row (now rows) i × (1 ≤ getD (now rows) (4 * i) 0) × (pu ≤ potentialShift) × (pv ≤ potentialShift) ⌝ }
-    ensures { λ r. ⌜ ((R : ℕ) → getD (now (rows .entry)) (4 * i + 1) 0 ≡ 2 * (getD (now (rows .entry)) (4 * i) 0 * R) → r ≡ clamped (getD (now (rows .entry)) (4 * i + 2) 0) (getD (now (rows .entry)) (4 * i + 3) 0) (nearestAmount (getD (now (rows .entry)) (4 * i) 0) R pu pv)) ⌝ }
+    ensures { λ r. ⌜ ((R : ℕ) → RowReads (now (rows .entry)) i R → r ≡ settledRow (now (rows .entry)) i R pu pv) ⌝ }
 {
     let x = nearest(rows[4 * i], rows[4 * i + 1], pu, pv);
     clamp(rows[4 * i + 2], rows[4 * i + 3], x)
@@ -58,7 +59,10 @@ pub fn settle_flows(
     flows: &mut [u64; MAX_STREAMS],
 )
     requires { ⌜ Laying (now arcs) (now rows) × Potentials (now potentials) × (length (now flows) ≡ maxStreams) ⌝ }
-    ensures { λ _. ⌜ ((w : Laying (now (arcs .entry)) (now (rows .entry))) → now (flows .exit) ≡ settledTo (take (w .n) (w .streams)) (now (potentials .entry)) (now (flows .entry)) (w .n)) ⌝ }
+    ensures { λ _. ⌜
+        OfStreams (now (arcs .entry)) (now (rows .entry))
+        (λ ss n. now (flows .exit) ≡ settledTo ss (now (potentials .entry)) (now (flows .entry)) n)
+        ⌝ }
 {
     let n = count_of(arcs);
     let mut i: usize = 0;
@@ -101,7 +105,7 @@ pub fn nets_of(arcs: &[u8; ARCS], flows: &[u64; MAX_STREAMS]) -> [u64; PLACES]
 // Amounts and nets at the potentials of a hint.
 pub fn settle(arcs: &[u8; ARCS], rows: &[u64; ROWS], h: Hint) -> State
     requires { ⌜ Hinting (now arcs) (now rows) h ⌝ }
-    ensures { λ r. ⌜ ((w : Laying (now (arcs .entry)) (now (rows .entry))) → r ≡ settled (take (w .n) (w .streams)) h) ⌝ }
+    ensures { λ r. ⌜ OfStreams (now (arcs .entry)) (now (rows .entry)) (λ ss n. r ≡ settled ss h) ⌝ }
 {
     let potentials = h.potentials;
     let mut flows = h.flows;

@@ -11,18 +11,14 @@ use solve_arcs::shut_margins;
 use solve_augment::augment;
 use solve_def::Route;
 use solve_path::tight_path;
-ghost use mathlib.Core.Bool.{false, _&&_};
-ghost use mathlib.Core.List.{List};
+ghost use mathlib.Core.Bool.{false};
 ghost use mathlib.Core.Path.{_≡_};
-ghost use Prim.Native.Nat.{ℕ, _+_, _*_, _<_};
-ghost use lib.Dec.{eqb, ltb};
-ghost use lib.ListN.{getD, length, take};
+ghost use Prim.Native.Nat.{_+_, _*_, _<_};
+ghost use lib.ListN.{length};
 ghost use Rattle.plant_def.specs.Limits.{maxStreams};
-ghost use Rattle.solve_def.specs.Model.{tiedAt, tiesTo};
 ghost use Rattle.solve_arcs.specs.Cells.{countOf, marginCells};
-ghost use Rattle.solve_arcs.specs.Margins.{reducedCosts};
 ghost use Rattle.solve_arcs.specs.ArcNeeds.{Ways, Margined};
-ghost use Rattle.solve_ties.specs.Evens.{Tieable, Tying};
+ghost use Rattle.solve_ties.specs.Evens.{Tieable, Tying, canFall, Spared, TiedAt, TiedAll};
 
 // Whether stream i is metered and its amount can fall at no cost.
 fn can_fall(
@@ -33,7 +29,7 @@ fn can_fall(
     i: usize,
 ) -> bool
     requires { ⌜ Ways (now arcs) (now margins) (now potentials) × (i < countOf (now arcs)) ⌝ }
-    ensures { λ r. ⌜ r ≡ (ltb 0 (getD (now (rows .entry)) (4 * i) 0) && eqb (getD (reducedCosts (now (arcs .entry)) (now (margins .entry)) (now (potentials .entry)) false) i 0) 0) ⌝ }
+    ensures { λ r. ⌜ r ≡ canFall (now (arcs .entry)) (now (rows .entry)) (now (margins .entry)) (now (potentials .entry)) i ⌝ }
 {
     if 0 < rows[4 * i] {
         let u = end_at(arcs, 2 * i);
@@ -47,7 +43,7 @@ fn can_fall(
 // Stream i is left alone from now on, if it is metered.
 fn spare(rows: &[u64; ROWS], margins: &mut [u64; MARGINS], i: usize)
     requires { ⌜ (i < maxStreams) × (length (now margins) ≡ marginCells) ⌝ }
-    ensures { λ _. ⌜ ((n : ℕ) (xs : List ℕ) → Margined n (now (rows .entry)) xs 1 i (now (margins .entry)) → Margined n (now (rows .entry)) xs 1 (i + 1) (now (margins .exit))) ⌝ }
+    ensures { λ _. ⌜ Spared (now (rows .entry)) i (now (margins .entry)) (now (margins .exit)) ⌝ }
 {
     if 0 < rows[4 * i] {
         shut_margins(margins, i);
@@ -63,8 +59,14 @@ fn tie_at(
     potentials: &[u64; PLACES],
     i: usize,
 )
-    requires { ⌜ Tying (now arcs) (now rows) (now potentials) i (now flows) × Margined (countOf (now arcs)) (now rows) (now flows) 1 (i + 1) (now margins) ⌝ }
-    ensures { λ _. ⌜ ((w : Tying (now (arcs .entry)) (now (rows .entry)) (now (potentials .entry)) i (now (flows .entry))) → now (flows .exit) ≡ tiedAt (take (w .tieable .n) (w .tieable .streams)) (now (potentials .entry)) i (now (flows .entry))) × Margined (countOf (now (arcs .entry))) (now (rows .entry)) (now (flows .exit)) 1 (i + 1) (now (margins .exit)) ⌝ }
+    requires { ⌜
+        Tying (now arcs) (now rows) (now potentials) i (now flows)
+        × Margined (countOf (now arcs)) (now rows) (now flows) 1 (i + 1) (now margins)
+        ⌝ }
+    ensures { λ _. ⌜
+        TiedAt (now (arcs .entry)) (now (rows .entry)) (now (potentials .entry)) i (now (flows .entry)) (now (flows .exit))
+        × Margined (countOf (now (arcs .entry))) (now (rows .entry)) (now (flows .exit)) 1 (i + 1) (now (margins .exit))
+        ⌝ }
 {
     let u = end_at(arcs, 2 * i);
     let v = end_at(arcs, 2 * i + 1);
@@ -102,7 +104,7 @@ pub fn tie_all(
     potentials: &[u64; PLACES],
 )
     requires { ⌜ Tieable (now arcs) (now rows) (now potentials) 0 (now flows) × Margined (countOf (now arcs)) (now rows) (now flows) 1 0 (now margins) ⌝ }
-    ensures { λ _. ⌜ ((w : Tieable (now (arcs .entry)) (now (rows .entry)) (now (potentials .entry)) 0 (now (flows .entry))) → now (flows .exit) ≡ tiesTo (take (w .n) (w .streams)) (now (potentials .entry)) (w .n) (now (flows .entry))) ⌝ }
+    ensures { λ _. ⌜ TiedAll (now (arcs .entry)) (now (rows .entry)) (now (potentials .entry)) (now (flows .entry)) (now (flows .exit)) ⌝ }
 {
     let n = count_of(arcs);
     let mut i: usize = 0;

@@ -22,39 +22,6 @@ abbrev μ-loop : tie.MeasureT-loop
 loop-holds : tie.Need-loop-holds Inv-loop μ-loop
 loop-holds c = (omega arith, written-none (c .pre))
 
-element-copy-out-fall : tie.Need-element-copy-out-fall Inv-loop μ-loop
-element-copy-out-fall c = search needs
-
-mul-fall : tie.Need-mul-fall Inv-loop μ-loop
-mul-fall c = search needs
-
-element-copy-out-fall-2 : tie.Need-element-copy-out-fall-2 Inv-loop μ-loop
-element-copy-out-fall-2 c = search needs
-
-fall-requires : tie.Need-fall-requires Inv-loop μ-loop
-fall-requires c κs = search needs
-
-mul-minus : tie.Need-mul-minus Inv-loop μ-loop
-mul-minus c = search needs
-
-element-copy-out-minus : tie.Need-element-copy-out-minus Inv-loop μ-loop
-element-copy-out-minus c = search needs
-
-minus-requires : tie.Need-minus-requires Inv-loop μ-loop
-minus-requires c κs = search needs
-
-mul-potentials : tie.Need-mul-potentials Inv-loop μ-loop
-mul-potentials c = search needs
-
-element-write-potentials : tie.Need-element-write-potentials Inv-loop μ-loop
-element-write-potentials c = search needs
-
-add-u : tie.Need-add-u Inv-loop μ-loop
-add-u c = search needs
-
-loop-less : tie.Need-loop-less Inv-loop μ-loop
-loop-less c = search needs
-
 -- A potential that falls, or not.
 fallen-by : (b : Bool) (g p : ℕ) → p - pick b g 0 ≡ fallen b g p
 fallen-by true g p = refl
@@ -77,20 +44,6 @@ returns c =
 pub lower-spec : {M : Type 1} → statement M
 lower-spec =
     tie.close
-    (tie.spec
-    Inv-loop
-    μ-loop
-    loop-holds
-    element-copy-out-fall
-    mul-fall
-    element-copy-out-fall-2
-    fall-requires
-    mul-minus
-    element-copy-out-minus
-    minus-requires
-    mul-potentials
-    element-write-potentials
-    add-u
-    loop-less
-    loop-again
-    returns)
+    (tie.spec Inv-loop μ-loop loop-holds (λ c. search needs) (λ c. search needs) (λ c. search needs)
+    (λ c κs. search needs) (λ c. search needs) (λ c. search needs) (λ c κs. search needs) (λ c. search needs)
+    (λ c. search needs) (λ c. search needs) (λ c. search needs) loop-again returns)
