@@ -26,7 +26,7 @@ then the bytes handed in, then those of the slice as they must be after the call
     6 KEPT      handed in: sheet; back: how many streams, the sheet's number, and at the front of a slice of 876 bytes the kind
                 of the total, the office, the cost (8), degrees, verdict and an entry for each stream
     7 TRANSLATOR  handed in: transmitter file; back: `written`, the plant file in the slice
-    8 CLOSING   handed in: the 33 prices of the places as the solver holds them, 8 bytes each; back: the same after they
+    8 CLOSING   handed in: the 33 potentials of the places as the solver holds them, 8 bytes each; back: the same after they
                 were closed up where one was below the floor, in a slice of 264 bytes
     9 FORTH     handed in: plant file; back: `written`, the plant file in the ranged form in the slice
     10 HOME     handed in: plant file; back: `written`, the plant file moved home in the slice

@@ -5,7 +5,7 @@
 
 Unmetered streams cost nothing and have no range, so the places that they join are one group, and only metered streams
 between groups are moved. From a flow in range the least cost is sought with the streams at an end of their range held
-there; a stream that reaches an end on the way is held too. Then prices of the groups are sought that show the flow to be
+there; a stream that reaches an end on the way is held too. Then potentials of the groups are sought that show the flow to be
 of least cost (Bellman and Ford); a cycle that improves is gone round as far as it pays, and all begins again from there.
 Each time the cost has fallen below the least with those streams held, and there are finitely many choices of them.
 """
@@ -75,7 +75,7 @@ def solved(rows):
 
 
 def face_minimum(count, meters, amounts, held):
-    """Prices at which the cost is least with the held meters as they are: each other amount is reading + climb / 2 weights."""
+    """Potentials at which the cost is least with the held meters as they are: each other amount is reading + climb / 2 weights."""
     rows = [[Fraction(0)] * (count + 1) for _ in range(count)]
     for k, m in enumerate(meters):
         for end, sign in ((m.source, -1), (m.target, 1)):
@@ -90,12 +90,12 @@ def face_minimum(count, meters, amounts, held):
 
 
 def settled(count, meters, amounts):
-    """Amounts moved to the least cost with those at an end of their range held there, and its prices."""
+    """Amounts moved to the least cost with those at an end of their range held there, and its potentials."""
     held = {k for k, m in enumerate(meters) if not (m.moves(amounts[k], 1) and m.moves(amounts[k], -1))}
     while True:
-        prices = face_minimum(count, meters, amounts, held)
+        potentials = face_minimum(count, meters, amounts, held)
         aims = [
-            amounts[k] if k in held else m.stream.reading + (prices[m.target] - prices[m.source]) / (2 * m.stream.weight)
+            amounts[k] if k in held else m.stream.reading + (potentials[m.target] - potentials[m.source]) / (2 * m.stream.weight)
             for k, m in enumerate(meters)
         ]
         part, stopped = Fraction(1), None
@@ -105,12 +105,12 @@ def settled(count, meters, amounts):
                 part, stopped = (end - amounts[k]) / (aims[k] - amounts[k]), k
         amounts = [x + part * (y - x) for x, y in zip(amounts, aims)]
         if stopped is None:
-            return amounts, prices
+            return amounts, potentials
         held.add(stopped)
 
 
-def better(count, meters, amounts, prices):
-    """A cycle that improves, a list of (meter, sign), or None; and prices at which there is none."""
+def better(count, meters, amounts, potentials):
+    """A cycle that improves, a list of (meter, sign), or None; and potentials at which there is none."""
     arcs = []
     for k, m in enumerate(meters):
         slope = m.marginal(amounts[k])
@@ -118,16 +118,16 @@ def better(count, meters, amounts, prices):
             arcs.append((m.source, m.target, slope, k, 1))
         if m.moves(amounts[k], -1):
             arcs.append((m.target, m.source, -slope, k, -1))
-    prices, came = list(prices), [None] * count
+    potentials, came = list(potentials), [None] * count
     for _ in range(count + 1):
         last = None
         for source, target, length, k, sign in arcs:
-            if prices[source] + length < prices[target]:
-                prices[target] = prices[source] + length
+            if potentials[source] + length < potentials[target]:
+                potentials[target] = potentials[source] + length
                 came[target] = (source, k, sign)
                 last = target
         if last is None:
-            return None, prices
+            return None, potentials
     for _ in range(count):
         last = came[last][0]
     cycle, at = [], last
@@ -151,29 +151,29 @@ def gone_round(meters, amounts, cycle):
 
 
 def least_in_fractions(plant):
-    """The metered amounts of least cost in fractions (None for the other streams), and prices of the places; or Overfull."""
+    """The metered amounts of least cost in fractions (None for the other streams), and potentials of the places; or Overfull."""
     group, meters = network(plant)
     count = max(group) + 1
     start = solver.flow_in_range(plant)
     amounts = [Fraction(start[m.index]) for m in meters]
     while True:
-        amounts, prices = settled(count, meters, amounts)
-        cycle, prices = better(count, meters, amounts, prices)
+        amounts, potentials = settled(count, meters, amounts)
+        cycle, potentials = better(count, meters, amounts, potentials)
         if cycle is None:
             break
         amounts = gone_round(meters, amounts, cycle)
     flow = [Fraction(solver.nearest(s, s.reading)) if s.metered else None for s in plant.streams]
     for m, x in zip(meters, amounts):
         flow[m.index] = x
-    return flow, [prices[g] for g in group]
+    return flow, [potentials[g] for g in group]
 
 
-def fault(plant, flow, prices):
-    """What is wrong with a flow and prices that are to show it of least cost; None where nothing is. Nothing is searched."""
+def fault(plant, flow, potentials):
+    """What is wrong with a flow and potentials that are to show it of least cost; None where nothing is. Nothing is searched."""
     over = {}
     group, _ = network(plant)
     for s, x in zip(plant.streams, flow):
-        climb = prices[s.target] - prices[s.source]
+        climb = potentials[s.target] - potentials[s.source]
         if not s.metered:
             if climb:
                 return "prices of one group differ"
@@ -197,8 +197,8 @@ class Beside(NamedTuple):
 
 
 def beside(plant, classes, numbers):
-    flow, prices = least_in_fractions(plant)
-    wrong = fault(plant, flow, prices)
+    flow, potentials = least_in_fractions(plant)
+    wrong = fault(plant, flow, potentials)
     if wrong:
         raise AssertionError(f"{plant}: the flow in fractions: {wrong}")
     apart = sum(s.weight * (x - y) ** 2 for s, x, y in zip(plant.streams, numbers, flow) if s.metered)

@@ -88,7 +88,7 @@ def rules():
     yield dead.passes()
     for x, found in ((-151, {"bottom"}), (-150, set()), (-130, set()), (-129, {"top"})):
         yield dead.breaks(found, numbers=(0, x)) if found else dead.passes(numbers=(0, x))
-    # Out of range, and nothing else: the cost told is ours, and the flow's price is within the bounds.
+    # Out of range, and nothing else: the cost told is ours, and the numbers are within the bounds of the flow.
     tight = Sheets(1, [ranged(0, 1, 103, 0, 100), metered(1, 0, 103)])
     yield tight.breaks({"range"}, numbers=(0, 0), flows=(103, 103))
     yield tight.breaks({"range"}, numbers=(0, -5), flows=(103, 103))
@@ -118,7 +118,7 @@ def ends():
             other = Sheets(1, [stream if ends_of[0] is None else within(stream, *ends_of), *HIGH[1:]])
             yield other.passes()
             yield other.breaks({rule, "cost"}, sheet=sheet, numbers=(0, 0))
-    # Low = high excuses both; beyond an end no price excuses.
+    # Low = high excuses both; beyond an end no number excuses.
     point = Sheets(1, [ranged(0, 1, 7, 100, 100), metered(1, 0, 60), metered(1, 0, 40)])
     for x in (-10, 0, 10):
         yield point.passes(numbers=(0, x))

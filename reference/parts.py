@@ -192,14 +192,14 @@ class Move(NamedTuple):
 
 
 class Closing(NamedTuple):
-    """The closing of prices: before, and after."""
+    """The closing of potentials: before, and after."""
 
     before: tuple
     after: tuple
     expected: int | None = None
 
     def record(self):
-        given, answer = (b"".join(cases.number(price, 8) for price in prices) for prices in (self.before, self.after))
+        given, answer = (b"".join(cases.number(potential, 8) for potential in potentials) for potentials in (self.before, self.after))
         return meant(self, cases.Record(cases.CLOSING, given, len(answer), answer))
 
 

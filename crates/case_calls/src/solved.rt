@@ -1,23 +1,9 @@
-// What the solver without a hint is handed, and its flows.
+// The flows of the solver, where they are asked for.
 use plant_def::limits::MAX_STREAMS;
-use plant_def::limits::PLACES;
-use solve_def::Hint;
 use solve_def::sizes::FLOW_SHIFT;
-use solve_def::sizes::PRICE_SHIFT;
 ghost use mathlib.Core.Path.{_≡_};
 ghost use Prim.Native.Nat.{_≤_};
 ghost use lib.ListN.{length};
-ghost use Rattle.solve_def.specs.Model.{noHint};
-
-// No hint: amounts and prices 0.
-pub fn no_hint() -> Hint
-    ensures { λ r. ⌜ r ≡ noHint ⌝ }
-{
-    Hint {
-        flows: [FLOW_SHIFT; MAX_STREAMS],
-        prices: [PRICE_SHIFT; PLACES],
-    }
-}
 
 // The flow that an amount stands for, in two's complement, where it is asked for.
 fn flow_asked(asked: u8, amount: u64) -> u64 {

@@ -18,9 +18,11 @@ module _ {file rates : List ℕ} {m n : ℕ} {r : Charges} where
   pub numbers-short : m < maxStreams → r ≡ noCharges 1 → LentSays file rates m n r
   numbers-short h e = record { short = λ s. e; enough = λ a b. absurd (omega arith) }
 
+  -- A slice for the cents that is too short.
   pub cents-short : n < maxStreams → r ≡ noCharges 1 → LentSays file rates m n r
   cents-short h e = record { short = λ s. e; enough = λ a b. absurd (omega arith) }
 
+  -- Both slices are long enough: as the call.
   pub both-long : maxStreams ≤ m → maxStreams ≤ n → ChargesSays file rates r → LentSays file rates m n r
   both-long h l v = record { short = ⊎-elim (λ (s : m < maxStreams). absurd (omega arith)) (λ (s : n < maxStreams). absurd (omega arith)); enough = λ a b. v }
 
@@ -35,6 +37,7 @@ same-lent : (file rates : List ℕ) (m n : ℕ) (r r′ : Charges) → LentSays 
 same-lent file rates m n r r′ s t =
     by-room m n (λ h. s .short h ∙ sym (t .short h)) (λ h l. steam-charges .only file rates r r′ (s .enough h l) (t .enough h l))
 
+-- No choice is left.
 pub one-hand-over : One-hand-over
 one-hand-over file rates ns ns₁ ns₂ cs cs₁ cs₂ n₁ n₂ c₁ c₂ b₁ b₂ x y =
     let e = same-lent file rates (length ns) (length cs) (x .made) (y .made) (x .said) (y .said) in (

@@ -7,7 +7,7 @@ use num_lent::put_signed;
 use plant_def::limits::MAX_STREAMS;
 use sheet_call::balance_of;
 ghost use Rattle.charge_def.specs.Says.{ChargesSays};
-ghost use Rattle.charge_call.specs.Lent.{LentSays, ChargesHandOver};
+ghost use Rattle.charge_call.specs.Lent.{LentSays, ChargesLent};
 
 // What each stream to the outside is charged for one hour by the sheet of a plant, in cents, and the bill; rates are one for each of
 // them, in stream order, in ten-thousandths of a cent per kg. No sheet number is drawn, and no verdict is looked at.
@@ -47,7 +47,7 @@ fn charges_lent(file: &[u8], rates: &[u16], numbers: usize, cents: usize) -> Cha
 // The call with lent slices: the numbers of the charged streams and their cents at the front, the rest as it was; or a refusal, and
 // the slices as they were.
 pub fn charges_into(file: &[u8], rates: &[u16], numbers: &mut [u8], cents: &mut [i64]) -> Handed
-    ensures { λ r. ⌜ ChargesHandOver (now (file .entry)) (now (rates .entry)) (now (numbers .entry)) (now (numbers .exit)) (now (cents .entry)) (now (cents .exit)) (r .number) (r .count) (r .bill) ⌝ }
+    ensures { λ r. ⌜ ChargesLent (now (file .entry)) (now (rates .entry)) numbers cents (r .number) (r .count) (r .bill) ⌝ }
 {
     let charges = charges_lent(file, rates, numbers.len(), cents.len());
     let count = charges.count as usize;

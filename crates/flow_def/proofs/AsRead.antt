@@ -22,7 +22,7 @@ use Rattle.flow_def.proofs.Reach.{chain-sym}
 use Rattle.flow_def.proofs.Nets.{countOf, streamOf, netOf, listed, listed-at, listed-balanced, balanced-nets}
 use Rattle.flow_def.proofs.Routes.{only, only-at, only-off, brought-ends, net-plus, net-only, Route, route}
 use Rattle.flow_def.proofs.Ranges.{range-says, range-holds, nearest-in, balanced-of, range-of, allowed-of}
-use Rattle.flow_def.proofs.Prices.{shareOver}
+use Rattle.flow_def.proofs.Potentials.{shareOver}
 use Rattle.flow_def.specs.Least.{LeastInFractions}
 use Rattle.flow_def.proofs.Mixing.{times-le, times-range}
 use Rattle.flow_def.proofs.Near.{no-square, cost-sum, gap-at, gap-cost}
@@ -120,7 +120,8 @@ module _ (p : Plant) (w : Within p) (d : ℕ) (ys : List ℤ) (m : LeastInFracti
   no-dearer : (k : ℕ) → k < countOf p → share moved k ≤ share ys k
   no-dearer k h = by-cases (streamOf p k .metered)
       (λ q. elim (ℕ-discrete i k) [
-        | yes e ↦ subst (λ (j : ℕ). share moved j ≤ share ys j) e (rw at-aim (mul-le-mul-left (weightOf (streamOf p i)) (nearest-least d (streamOf p i) (amountAt ys i) (range-of d p ys (m .allowed) i l))))
+        | yes e ↦ subst (λ (j : ℕ). share moved j ≤ share ys j) e
+            (rw at-aim (mul-le-mul-left (weightOf (streamOf p i)) (nearest-least d (streamOf p i) (amountAt ys i) (range-of d p ys (m .allowed) i l))))
         | no e ↦ rw (elsewhere k h e q) (omega arith)
       ])
       (λ q. rw q (omega arith))

@@ -14,10 +14,10 @@ use Rattle.plant_def.specs.declared.Stream.{Stream}
 use Rattle.plant_def.specs.Plants.{Plant, plantFault}
 use Rattle.plant_def.proofs.Limited.{within}
 use Rattle.flow_def.specs.Flows.{amountAt, allowed, Cheapest}
-use Rattle.flow_def.specs.Certificate.{climb, leastClimb, mostClimb, rises, falls, priced, stays, every, listedPrice, certified}
+use Rattle.flow_def.specs.Certificate.{climb, leastClimb, mostClimb, rises, falls, inKilter, stays, every, listedPotential, certified}
 use Rattle.flow_def.proofs.Integers.{leZ-le, ltZ-lt}
 use Rattle.flow_def.proofs.Ranges.{asked}
-use Rattle.flow_def.proofs.Prices.{StepAt}
+use Rattle.flow_def.proofs.Potentials.{StepAt}
 use Rattle.flow_def.proofs.Ties.{slack, stays-cheapest}
 use Rattle.flow_def.proofs.Nets.{countOf, streamOf}
 
@@ -28,20 +28,20 @@ every-at (suc n) test e k l = elim (ℕ-discrete k n) [
   | no q ↦ every-at n test (and-right (test n) (every n test) e) k (omega arith)
 ]
 
--- What the test of prices says.
-priced-says : (π : ℕ → ℤ) (s : Stream) (x : ℤ) → priced π s x ≡ true → StepAt 1 π s x
-priced-says π s x e = record {
+-- What the test of potentials says.
+kilter-says : (π : ℕ → ℤ) (s : Stream) (x : ℤ) → inKilter π s x ≡ true → StepAt 1 π s x
+kilter-says π s x e = record {
   low = λ t. leZ-le (leastClimb s x) (climb π s) (asked (falls s x) _ (and-left (not (falls s x) || leZ (leastClimb s x) (climb π s)) _ e) t);
   high = λ t. leZ-le (climb π s) (mostClimb s x) (asked (rises s x) _ (and-right (not (falls s x) || leZ (leastClimb s x) (climb π s)) _ e) t);
 }
 
 -- A flow that passes the test is the cheapest.
-pub certified-cheapest : (p : Plant) (xs prices : List ℤ) → certified p xs prices ≡ true → Cheapest p xs
-certified-cheapest p xs prices e =
+pub certified-cheapest : (p : Plant) (xs potentials : List ℤ) → certified p xs potentials ≡ true → Cheapest p xs
+certified-cheapest p xs potentials e =
     stays-cheapest p (within p (eqb-true (plantFault p) 0 (and-left (eqb (plantFault p) 0) _ e))) π xs
     (record {
       balance = and-left (allowed p xs) _ rest;
-      steps = λ k l. priced-says π (s k) (amountAt xs k) (every-at n bounded (and-left (every n bounded) _ tests) k l);
+      steps = λ k l. kilter-says π (s k) (amountAt xs k) (every-at n bounded (and-left (every n bounded) _ tests) k l);
     })
     (λ i l m.
     let t = asked (s i .metered) _ (every-at n kept (and-right (every n bounded) _ tests) i l) m in
@@ -54,10 +54,10 @@ certified-cheapest p xs prices e =
     s = streamOf p
 
     π : ℕ → ℤ
-    π = listedPrice prices
+    π = listedPotential potentials
 
     bounded : ℕ → Bool
-    bounded k = priced π (s k) (amountAt xs k)
+    bounded k = inKilter π (s k) (amountAt xs k)
 
     kept : ℕ → Bool
     kept i = not (s i .metered) || stays π (s i) (amountAt xs i)

@@ -1,4 +1,4 @@
--- A plant is decided by a cheapest flow with prices that certify it, or by an overfull set. Demand 3 and refusal 19 follow.
+-- A plant is decided by a cheapest flow with potentials that certify it, or by an overfull set. Demand 3 and refusal 19 follow.
 use mathlib.Core.Path.{_≡_}
 use mathlib.Core.Bool.{Bool, true}
 use mathlib.Core.Logic.{_⊎_, inl, inr}
@@ -17,7 +17,7 @@ use Rattle.flow_def.specs.Shown.{Shown, Demand-3}
 use Rattle.flow_def.specs.Overfull.{Overfull, Refusal-19}
 use Rattle.flow_def.proofs.Given.{its-number-of}
 use Rattle.flow_def.proofs.Withheld.{number-of, blank-of}
-use Rattle.flow_def.proofs.Prices.{Certificate}
+use Rattle.flow_def.proofs.Potentials.{Certificate}
 use Rattle.flow_def.proofs.Nearness.{as-read, near}
 use Rattle.flow_def.proofs.Order.{one}
 use Rattle.flow_def.proofs.Overfull.{overfull-none}
@@ -26,7 +26,7 @@ pub data Decided (p : Plant) : Type 0 where
   solved : (xs : List ℤ) (π : ℕ → ℤ) → Cheapest p xs → Certificate p xs π → Decided p
   full : (ms : List Bool) → Overfull p ms → Decided p
 
--- The prices that certify one cheapest flow speak for every cheapest flow.
+-- The potentials that certify one cheapest flow speak for every cheapest flow.
 pub shown : (p : Plant) → Within p → (xs : List ℤ) (π : ℕ → ℤ) → Cheapest p xs → Certificate p xs π → Shown p
 shown p w xs π h c = record {
   some = (xs, h);

@@ -11,7 +11,7 @@ use Rattle.plant_def.specs.declared.Stream.{Stream}
 use Rattle.flow_def.specs.Flows.{streamAt, amountAt, square}
 use Rattle.flow_def.specs.Certificate.{weightOf}
 use Rattle.flow_def.proofs.Sums.{sum}
-use Rattle.flow_def.proofs.Prices.{weighed}
+use Rattle.flow_def.proofs.Potentials.{weighed}
 use Rattle.flow_def.specs.Least.{apartTo}
 
 module _ (d : ℕ) (ss : List Stream) (ys : List ℤ) where

@@ -1,4 +1,4 @@
--- A flow in fractions is of least cost where prices differ at each stream's ends by its marginal cost, or by as much as the end
+-- A flow in fractions is of least cost where potentials differ at each stream's ends by its marginal cost, or by as much as the end
 -- of a range allows.
 use mathlib.Core.Path.{_≡_, sym, _∙_, ap, ap₂}
 use mathlib.Core.Bool.{Bool, true, not, _&&_, _||_}
@@ -16,19 +16,19 @@ use Rattle.plant_def.specs.Plants.{Plant, limited, plantFault}
 use Rattle.plant_def.specs.Within.{Within}
 use Rattle.plant_def.proofs.Limited.{within}
 use Rattle.flow_def.specs.Flows.{amountAt, inRange, allowedOver, square, costOver}
-use Rattle.flow_def.specs.Certificate.{weightOf, climb, every, listedPrice}
+use Rattle.flow_def.specs.Certificate.{weightOf, climb, every, listedPotential}
 use Rattle.flow_def.proofs.Integers.{up, dn, Le, Lt, val, canon, Z·diff, plus-val, minus-val, up-times, dn-times, product, leZ-le, lt-ltZ}
 use Rattle.flow_def.proofs.Sums.{sum, sum-same, sum-plus, sum-times, sum-le}
 use Rattle.flow_def.proofs.Nets.{countOf, streamOf, balanced-size, no-gain}
 use Rattle.flow_def.proofs.Ranges.{asked, answered, range-says, balanced-of, range-of}
-use Rattle.flow_def.proofs.Prices.{shareOver, cost-is}
+use Rattle.flow_def.proofs.Potentials.{shareOver, cost-is}
 use Rattle.flow_def.proofs.Certified.{every-at}
 use Rattle.flow_def.specs.Least.{LeastInFractions}
-use Rattle.flow_def.specs.Exact.{risesOver, fallsOver, marginal, exact, exactPrices}
+use Rattle.flow_def.specs.Exact.{risesOver, fallsOver, marginal, exact, exactPotentials}
 use Rattle.flow_def.proofs.Shares.{mixed-share, times-share, cross-from}
 use Rattle.flow_def.proofs.Mixing.{times-le}
 
--- A price difference c and a marginal cost m, times a change g of an amount: c may be less than m where the amount grows, and
+-- A potential difference c and a marginal cost m, times a change g of an amount: c may be less than m where the amount grows, and
 -- more where it falls.
 against : (c m g : ℤ) → (Lt (pos 0) g → Le c m) → (Lt g (pos 0) → Le m c) → Le (c *ℤ g) (m *ℤ g)
 against c m (pos zero) f h = omega (arith, up-times c (pos 0), dn-times c (pos 0), up-times m (pos 0), dn-times m (pos 0))
@@ -39,8 +39,8 @@ against c m (negsuc t) f h =
     let l : Le m c = h (omega arith) in
     omega (arith, up-times c (negsuc t), dn-times c (negsuc t), up-times m (negsuc t), dn-times m (negsuc t), mul-le-mul-left (suc t) l)
 
-price-term : (e w : ℕ) (a g : ℤ) → pos e *ℤ ((pos (2 * w) *ℤ a) *ℤ g) ≡ pos (2 * e) *ℤ (pos w *ℤ (a *ℤ g))
-price-term e w a g = rw (← canon a, ← canon g) (simp Z·diff (omega arith))
+climb-term : (e w : ℕ) (a g : ℤ) → pos e *ℤ ((pos (2 * w) *ℤ a) *ℤ g) ≡ pos (2 * e) *ℤ (pos w *ℤ (a *ℤ g))
+climb-term e w a g = rw (← canon a, ← canon g) (simp Z·diff (omega arith))
 
 gain-term : (d e : ℕ) (c y z : ℤ) → c *ℤ (pos d *ℤ z -ℤ pos e *ℤ y) ≡ pos d *ℤ (c *ℤ z) +ℤ negℤ (pos e) *ℤ (c *ℤ y)
 gain-term d e c y z = rw (← canon c, ← canon y, ← canon z) (simp Z·diff (omega arith))
@@ -68,9 +68,9 @@ module _ (s : Stream) (d e : ℕ) (y z : ℤ) (i : inRange e s z ≡ true) where
   shrinks h = answered (limited s) _ (λ q. lt-ltZ (pos d *ℤ s .low) y (lt-of-mul-lt-mul-left e
       (omega (arith, minus-val (pos d *ℤ z) (pos e *ℤ y), product e y, times-le d (pos e *ℤ s .low) z (range-says e s z i q .0), ends (s .low)))))
 
-  -- With exact prices a change brings no more from the prices than its marginal cost.
-  priced-change : (π : ℕ → ℤ) → exact d π s y ≡ true → Le (climb π s *ℤ gap) (marginal d s y *ℤ gap)
-  priced-change π x =
+  -- With exact potentials a change brings no more from the potentials than its marginal cost.
+  kilter-change : (π : ℕ → ℤ) → exact d π s y ≡ true → Le (climb π s *ℤ gap) (marginal d s y *ℤ gap)
+  kilter-change π x =
       let low = not (fallsOver d s y) || leZ (marginal d s y) (climb π s) in
       against (climb π s) (marginal d s y) gap
       (λ h. leZ-le (climb π s) (marginal d s y) (asked (risesOver d s y) _ (and-right low _ x) (grows h)))
@@ -85,18 +85,18 @@ module _ (p : Plant) (w : Within p) (d : ℕ) (ys : List ℤ) (b : allowedOver d
     abbrev below : ℕ → ℤ
     below k = amountAt ys k -ℤ pos d *ℤ streamOf p k .reading
 
-    -- The cost of the one flow, what a change brings at first, and what it brings from the prices.
+    -- The cost of the one flow, what a change brings at first, and what it brings from the potentials.
     abbrev kept : ℕ → ℤ
     kept k = pos (e * e) *ℤ pos (shareOver d (streamOf p k) (amountAt ys k))
 
     abbrev turned : ℕ → ℤ
     turned k = pos (2 * e) *ℤ (pos (weightOf (streamOf p k)) *ℤ (below k *ℤ gap-at k))
 
-    abbrev priced : ℕ → ℤ
-    priced k = pos e *ℤ (climb π (streamOf p k) *ℤ gap-at k)
+    abbrev climbed : ℕ → ℤ
+    climbed k = pos e *ℤ (climb π (streamOf p k) *ℤ gap-at k)
 
     abbrev left : ℕ → ℤ
-    left k = kept k +ℤ priced k
+    left k = kept k +ℤ climbed k
 
     abbrev right : ℕ → ℤ
     right k = pos (d * d) *ℤ pos (shareOver e (streamOf p k) (amountAt zs k))
@@ -114,21 +114,21 @@ module _ (p : Plant) (w : Within p) (d : ℕ) (ys : List ℤ) (b : allowedOver d
             ∙ mixed-share e (weightOf s) (below k) (gap-at k)
 
         turned-is : pos e *ℤ (marginal d (streamOf p k) (amountAt ys k) *ℤ gap-at k) ≡ turned k
-        turned-is = price-term e (weightOf s) (below k) (gap-at k)
+        turned-is = climb-term e (weightOf s) (below k) (gap-at k)
 
-        left-most : Le (kept k +ℤ priced k) (kept k +ℤ turned k)
+        left-most : Le (kept k +ℤ climbed k) (kept k +ℤ turned k)
         left-most =
             omega (
               arith,
               times-le e (climb π (streamOf p k) *ℤ gap-at k) (marginal d (streamOf p k) (amountAt ys k) *ℤ gap-at k)
-                  (priced-change (streamOf p k) d e (amountAt ys k) (amountAt zs k) (range-of e p zs z k l) π (x k l)),
+                  (kilter-change (streamOf p k) d e (amountAt ys k) (amountAt zs k) (range-of e p zs z k l) π (x k l)),
               val (pos e *ℤ (marginal d (streamOf p k) (amountAt ys k) *ℤ gap-at k)) (turned k) turned-is,
-              plus-val (kept k) (priced k),
+              plus-val (kept k) (climbed k),
               plus-val (kept k) (turned k),
             )
 
-    no-price : sum (countOf p) priced ≡ pos 0
-    no-price =
+    no-climb : sum (countOf p) climbed ≡ pos 0
+    no-climb =
         sym (sum-times (countOf p) (pos e) _)
         ∙ ap (λ (q : ℤ). pos e *ℤ q)
         (sum-same (countOf p) _ (λ k. pos d *ℤ (climb π (streamOf p k) *ℤ amountAt zs k) +ℤ negℤ (pos e) *ℤ (climb π (streamOf p k) *ℤ amountAt ys k))
@@ -142,10 +142,10 @@ module _ (p : Plant) (w : Within p) (d : ℕ) (ys : List ℤ) (b : allowedOver d
 
     left-sum : sum (countOf p) left ≡ pos (e * e * costOver d (p .streams) ys)
     left-sum =
-        sum-plus (countOf p) kept priced
+        sum-plus (countOf p) kept climbed
         ∙ ap₂ _+ℤ_
         (sym (sum-times (countOf p) (pos (e * e)) _) ∙ ap (λ (q : ℤ). pos (e * e) *ℤ q) (sym (cost-is d (p .streams) ys (balanced-size p ys (balanced-of d p ys b)))))
-        no-price
+        no-climb
         ∙ +ℤ-idr _
 
     right-sum : sum (countOf p) right ≡ pos (d * d * costOver e (p .streams) zs)
@@ -156,18 +156,18 @@ module _ (p : Plant) (w : Within p) (d : ℕ) (ys : List ℤ) (b : allowedOver d
     no-cheaper : e * e * costOver d (p .streams) ys ≤ d * d * costOver e (p .streams) zs
     no-cheaper = omega (arith, rw (left-sum, right-sum) at (sum-le (countOf p) left right each))
 
--- A flow with exact prices is of least cost.
-pub exact-least : (d : ℕ) (p : Plant) (ys prices : List ℤ) → exactPrices d p ys prices ≡ true → LeastInFractions p d ys
-exact-least d p ys prices t = record {
+-- A flow with exact potentials is of least cost.
+pub exact-least : (d : ℕ) (p : Plant) (ys potentials : List ℤ) → exactPotentials d p ys potentials ≡ true → LeastInFractions p d ys
+exact-least d p ys potentials t = record {
   some = leb-true 1 d (and-left (leb 1 d) _ rest);
   allowed = and-left (allowedOver d p ys) _ tests;
   least = λ e zs l z.
       no-cheaper p (within p (eqb-true (plantFault p) 0 (and-left (eqb (plantFault p) 0) _ t))) d ys (and-left (allowedOver d p ys) _ tests)
-      (listedPrice prices) (λ k h. every-at (countOf p) at (and-right (allowedOver d p ys) _ tests) k h) e zs z;
+      (listedPotential potentials) (λ k h. every-at (countOf p) at (and-right (allowedOver d p ys) _ tests) k h) e zs z;
 }
   where
     at : ℕ → Bool
-    at k = exact d (listedPrice prices) (streamOf p k) (amountAt ys k)
+    at k = exact d (listedPotential potentials) (streamOf p k) (amountAt ys k)
 
     rest : leb 1 d && (allowedOver d p ys && every (countOf p) at) ≡ true
     rest = and-right (eqb (plantFault p) 0) _ t

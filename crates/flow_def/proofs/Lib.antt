@@ -9,7 +9,7 @@ pub mod Withheld
 pub mod Chained
 pub mod Steps
 pub mod Ranges
-pub mod Prices
+pub mod Potentials
 pub mod Nearness
 pub mod Order
 pub mod Ties
@@ -23,6 +23,7 @@ pub mod Degrees
 pub mod Counted
 pub mod ByLabels
 pub mod Binary
+pub mod Lowest
 pub mod Parted
 pub mod Parting
 pub mod BySides

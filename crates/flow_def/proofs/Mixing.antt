@@ -42,9 +42,11 @@ module _ (s : Stream) (d : ℕ) (x : ℤ) (e : inRange d s x ≡ true) where
   mixed-range : (n : ℕ) (y : ℤ) → inRange d s y ≡ true → inRange (suc n * d) s (pos n *ℤ x +ℤ y) ≡ true
   mixed-range n y f = range-holds (suc n * d) s (pos n *ℤ x +ℤ y) (λ q.
       let t = range-says d s x e q in
-      let u = range-says d s y f q in (
-        omega (arith, mixed-le n (pos d *ℤ s .low) x (pos d *ℤ s .low) y (t .0) (u .0), times-end (suc n) d (s .low), product n (pos d *ℤ s .low), plus-val (pos n *ℤ (pos d *ℤ s .low)) (pos d *ℤ s .low)),
-        omega (arith, mixed-le n x (pos d *ℤ s .high) y (pos d *ℤ s .high) (t .1) (u .1), times-end (suc n) d (s .high), product n (pos d *ℤ s .high), plus-val (pos n *ℤ (pos d *ℤ s .high)) (pos d *ℤ s .high)),
+      let u = range-says d s y f q in
+      let a = pos d *ℤ s .low in
+      let b = pos d *ℤ s .high in (
+        omega (arith, mixed-le n a x a y (t .0) (u .0), times-end (suc n) d (s .low), product n a, plus-val (pos n *ℤ a) a),
+        omega (arith, mixed-le n x b y b (t .1) (u .1), times-end (suc n) d (s .high), product n b, plus-val (pos n *ℤ b) b),
       ))
 
 -- Two balanced flows added.

@@ -17,7 +17,7 @@ use Rattle.flow_def.proofs.Integers.{up, dn, Le, val, canon, Z·diff, L
 use Rattle.flow_def.proofs.Sums.{sum, sum-same, sum-none, sum-plus, sum-times, sum-tight}
 use Rattle.flow_def.proofs.Nets.{countOf, streamOf, listed-size, balanced-size}
 use Rattle.flow_def.proofs.Ranges.{balanced-of}
-use Rattle.flow_def.proofs.Prices.{shareOver, weighed, cost-is}
+use Rattle.flow_def.proofs.Potentials.{shareOver, weighed, cost-is}
 use Rattle.flow_def.specs.Least.{LeastInFractions, apart}
 use Rattle.flow_def.proofs.Shares.{mixed-share, gap-share, times-share, times-from, mixed-from, gap-from}
 use Rattle.flow_def.proofs.Distance.{apart-is}
@@ -216,5 +216,6 @@ module _ (p : Plant) (w : Within p) where
   one-fraction d e ys zs m o k l t =
       let swap : d * e ≡ e * d = omega arith in
       sym (times-at p e ys k l)
-      ∙ sym (one-over (e * d) (times p e ys) (times p d zs) (times-least p w e d ys (o .some) m) (subst (λ (q : ℕ). LeastInFractions p q (times p d zs)) swap (times-least p w d e zs (m .some) o)) k l t)
+      ∙ sym (one-over (e * d) (times p e ys) (times p d zs) (times-least p w e d ys (o .some) m)
+      (subst (λ (q : ℕ). LeastInFractions p q (times p d zs)) swap (times-least p w d e zs (m .some) o)) k l t)
       ∙ times-at p d zs k l

@@ -1,4 +1,4 @@
--- Groups have one price, meters in a group show the value in range nearest to their readings, and no flow in fractions undercuts a
+-- Groups have one potential, meters in a group show the value in range nearest to their readings, and no flow in fractions undercuts a
 -- certified flow by much.
 use mathlib.Core.Path.{_≡_, refl, sym, _∙_, ap, ap₂}
 use mathlib.Core.Bool.{Bool, true, false}
@@ -25,18 +25,18 @@ use Rattle.flow_def.proofs.Nets.{countOf, streamOf, balanced-size}
 use Rattle.flow_def.proofs.Given.{class-means}
 use Rattle.flow_def.proofs.Steps.{Step, Free, Tied, level, above, below, fraction, flat-high, flat-low, flat, free}
 use Rattle.flow_def.proofs.Ranges.{balanced-of, range-of, unmetered-moves, free-over, nearest-is}
-use Rattle.flow_def.proofs.Prices.{StepAt, Steps, Certificate, share, shareOver, cost-is, cost-one, gain-is, gain-one, least, ties}
+use Rattle.flow_def.proofs.Potentials.{StepAt, Steps, Certificate, share, shareOver, cost-is, cost-one, gain-is, gain-one, least, ties}
 
--- An unmetered stream has one price at both ends; so has a group.
-one-price : (Δ : ℕ) (π : ℕ → ℤ) (s : Stream) (x : ℤ) → unmeteredOnly 0 s ≡ true → StepAt Δ π s x → π (s .to) ≡ π (s .from)
-one-price Δ π s x t h =
+-- An unmetered stream has one potential at both ends; so has a group.
+one-potential : (Δ : ℕ) (π : ℕ → ℤ) (s : Stream) (x : ℤ) → unmeteredOnly 0 s ≡ true → StepAt Δ π s x → π (s .to) ≡ π (s .from)
+one-potential Δ π s x t h =
     let m = not-true (s .metered) t in
     minus-none (π (s .to)) (π (s .from)) (free Δ (weightOf s) (x -ℤ s .reading) (climb π s) _ _ (rw m) (unmetered-moves s x m) h)
 
-pub group-price : (Δ : ℕ) (π : ℕ → ℤ) (ss : List Stream) (x : ℕ → ℤ) {u v : ℕ} → Steps Δ π ss x → Chain unmeteredOnly ss u v → π v ≡ π u
-group-price Δ π ss x h stop = refl
-group-price Δ π ss x h (along k l t c) = one-price Δ π (streamAt ss k) (x k) t (h k l) ∙ group-price Δ π ss x h c
-group-price Δ π ss x h (back k l t c) = sym (one-price Δ π (streamAt ss k) (x k) t (h k l)) ∙ group-price Δ π ss x h c
+pub group-potential : (Δ : ℕ) (π : ℕ → ℤ) (ss : List Stream) (x : ℕ → ℤ) {u v : ℕ} → Steps Δ π ss x → Chain unmeteredOnly ss u v → π v ≡ π u
+group-potential Δ π ss x h stop = refl
+group-potential Δ π ss x h (along k l t c) = one-potential Δ π (streamAt ss k) (x k) t (h k l) ∙ group-potential Δ π ss x h c
+group-potential Δ π ss x h (back k l t c) = sym (one-potential Δ π (streamAt ss k) (x k) t (h k l)) ∙ group-potential Δ π ss x h c
 
 -- One stream against a flow in fractions. m: it is metered, g: its ends are in one group, o: it lies on a loop.
 still : (a b m n : ℕ) (c d e : ℤ) → c ≡ pos 0 → a ≤ b → Le (pos a +ℤ pos m *ℤ (c *ℤ e)) (pos b +ℤ pos n *ℤ (c *ℤ d))
@@ -53,7 +53,7 @@ stream-fraction D s true true o d e c a b v u z h f =
     still _ _ (4 * D) (4 * (D * D)) c d e (z refl) (omega (arith, flat D (s .weight) d e c a b (v refl) (z refl) h f))
 stream-fraction D s false g o d e c a b v u z h f = still _ _ (4 * D) (4 * (D * D)) c d e (free 1 0 d c a b refl (u refl) h) (omega arith)
 
--- A metered stream with one price at both ends: no flow of equal cost moves it.
+-- A metered stream with one potential at both ends: no flow of equal cost moves it.
 unmoved : (w : ℕ) (d e c : ℤ) (a b : Bool) → 1 ≤ w → c ≡ pos 0 → Step 1 w d c a b → Tied w d e c a b → e ≡ d
 unmoved w d e c a b l z s (level q) = q
 unmoved w d e c a b l z s (above q t h) =
@@ -61,7 +61,7 @@ unmoved w d e c a b l z s (above q t h) =
 unmoved w d e c a b l z s (below q t h) =
     absurd (omega (arith, val c (pos 0) z, mul-le-mul-left w (flat-low w d c a b l z s t), simp Z·diff at (rw (← canon d, ← canon c) at h)))
 
--- The adjusted weights as a sum, and what the prices bring in over D.
+-- The adjusted weights as a sum, and what the potentials bring in over D.
 adjusted-is : (p : Plant) (m : ℕ) → pos (adjustedTo p m) ≡ sum m (λ k. pos (adjustedWeight (classOf p k) (streamOf p k)))
 adjusted-is p zero = refl
 adjusted-is p (suc m) = ap (λ (z : ℤ). pos (adjustedWeight (classOf p m) (streamOf p m)) +ℤ z) (adjusted-is p m)
@@ -70,8 +70,8 @@ same-gain : (one D : ℕ) (R : ℤ) → one ≡ 1 → pos (4 * (D * D)) *ℤ (ne
 same-gain one D R e = rw (← canon R) (simp Z·diff (rw e (omega arith)))
 
 module _ (p : Plant) (w : Within p) (π : ℕ → ℤ) (xs : List ℤ) (c : Certificate p xs π) where
-  level-price : (u v : ℕ) → oneGroup p u v ≡ true → π v -ℤ π u ≡ pos 0
-  level-price u v e = none-minus (π v) (π u) (group-price 1 π (p .streams) (amountAt xs) (c .steps) (joined→chain unmeteredOnly p u v e))
+  level-potential : (u v : ℕ) → oneGroup p u v ≡ true → π v -ℤ π u ≡ pos 0
+  level-potential u v e = none-minus (π v) (π u) (group-potential 1 π (p .streams) (amountAt xs) (c .steps) (joined→chain unmeteredOnly p u v e))
 
   -- No flow in fractions, within all ranges, undercuts a certified flow by more than a quarter of the adjusted streams' weights.
   pub near-certified : (ys : List ℤ) (D : ℕ) → allowedOver D p ys ≡ true
@@ -109,7 +109,7 @@ module _ (p : Plant) (w : Within p) (π : ℕ → ℤ) (xs : List ℤ) (c : Cert
       each : (k : ℕ) → k < n → Le (left k) (right k)
       each k l =
           stream-fraction D (s k) (s k .metered) (oneGroup p (s k .from) (s k .to)) (onLoop p k) _ _ (climb π (s k)) _ _
-          (w .each k l .weighed) (unmetered-moves (s k) (amountAt xs k)) (level-price (s k .from) (s k .to)) (c .steps k l)
+          (w .each k l .weighed) (unmetered-moves (s k) (amountAt xs k)) (level-potential (s k .from) (s k .to)) (c .steps k l)
           (free-over D (s k) (amountAt xs k) (amountAt ys k) (range-of D p ys b k l))
 
       R : ℤ
@@ -164,7 +164,7 @@ module _ (p : Plant) (w : Within p) (π : ℕ → ℤ) (xs : List ℤ) (c : Cert
       heavy = rw (known .0) (w .each i l .weighed (known .0))
 
       flat-here : climb π s ≡ pos 0
-      flat-here = level-price (s .from) (s .to) (known .1)
+      flat-here = level-potential (s .from) (s .to) (known .1)
 
       still-here : amountAt zs i -ℤ s .reading ≡ x -ℤ s .reading
       still-here =

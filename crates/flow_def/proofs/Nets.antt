@@ -1,4 +1,4 @@
--- Nets and prices: summation by parts (Tellegen's theorem), cuts, and the balance of the outside.
+-- Nets and potentials: summation by parts (Tellegen's theorem), cuts, and the balance of the outside.
 use mathlib.Core.Path.{_≡_, refl, sym, _∙_, ap, ap₂}
 use mathlib.Core.Bool.{Bool, true, false, _&&_}
 use mathlib.Core.List.{List, [], _∷_}
@@ -59,7 +59,7 @@ inside-of p a = inside (plantOf p) (within-of p a)
 two-ends : (a b x : ℤ) → a *ℤ x +ℤ b *ℤ negℤ x ≡ (a -ℤ b) *ℤ x
 two-ends a b x = rw (← canon a, ← canon b, ← canon x) (simp Z·diff (omega arith))
 
--- One stream: prices times what it brings to each place.
+-- One stream: potentials times what it brings to each place.
 stream-parts : (n : ℕ) (π : ℕ → ℤ) (s : Stream) (x : ℤ) → s .from ≤ n → s .to ≤ n → sum (suc n) (λ u. π u *ℤ brought u s x) ≡ climb π s *ℤ x
 stream-parts n π s x f t =
     sum-same (suc n) _ (λ u. π u *ℤ end (s .to) x u +ℤ π u *ℤ end (s .from) (negℤ x) u)
@@ -76,7 +76,7 @@ stream-parts n π s x f t =
         sum-only (suc n) v (λ u. π u *ℤ pick (eqb v u) z (pos 0)) (omega arith) (λ u m q. rw (ne-eqb v u (λ e. q (sym e))) (*ℤ-zero (π u)))
         ∙ rw (eq-eqb v v refl)
 
--- Summation by parts: prices times nets, over the places, are price differences times amounts, over the streams.
+-- Summation by parts: potentials times nets, over the places, are potential differences times amounts, over the streams.
 pub by-parts : (n : ℕ) (π : ℕ → ℤ) (ss : List Stream) (x : ℕ → ℤ) → Inside n ss
     → sum (suc n) (λ u. π u *ℤ netOf ss x u) ≡ sum (length ss) (λ k. climb π (streamAt ss k) *ℤ x k)
 by-parts n π ss x w =
@@ -97,7 +97,7 @@ nets-sum n ss x w =
     ∙ by-parts n (λ u. pos 1) ss x w
     ∙ sum-none (length ss) (λ k. (pos 1 -ℤ pos 1) *ℤ x k) (λ k l. zero-*ℤ (x k))
 
--- A set of places as prices: 1 on the set, 0 elsewhere.
+-- A set of places as potentials: 1 on the set, 0 elsewhere.
 abbrev pub indicator : (ℕ → Bool) → ℕ → ℤ
 indicator c u = pick (c u) (pos 1) (pos 0)
 
@@ -185,7 +185,7 @@ listed-balanced p x h =
     level-balanced p (listed p x) (listed-size p x)
     (λ u l. sum-same (countOf p) _ (λ k. brought u (streamOf p k) (x k)) (λ k m. ap (brought u (streamOf p k)) (listed-at p x k m)) ∙ h u l)
 
--- A balanced flow gains nothing from any prices.
+-- A balanced flow gains nothing from any potentials.
 pub no-gain : (p : Plant) → Within p → (xs : List ℤ) → balanced p xs ≡ true → (π : ℕ → ℤ)
     → sum (countOf p) (λ k. climb π (streamOf p k) *ℤ amountAt xs k) ≡ pos 0
 no-gain p w xs b π =

@@ -152,7 +152,8 @@ module _ (p : Plant) (small : p .units ≤ maxUnits) (w : Inside (p .units) (p .
     all-join-groups : AllJoin counts (p .streams) → tally counts + groups counts ≡ places
     all-join-groups a =
         let n = length (p .streams) in
-        omega (arith, joined-groups n (omega arith), count-same n (joins counts (p .streams)) (λ k. counts k (streamAt (p .streams) k)) (λ k l. whole (counts k (streamAt (p .streams) k)) (met k) (a k l)))
+        let each = count-same n (joins counts (p .streams)) (λ k. counts k (streamAt (p .streams) k)) (λ k l. whole (counts k (streamAt (p .streams) k)) (met k) (a k l)) in
+        omega (arith, joined-groups n (omega arith), each)
       where
         whole : (c o : Bool) → (c ≡ true → o ≡ false) → c && not o ≡ c
         whole true o f = rw (f refl)

@@ -1,4 +1,4 @@
--- The step condition of one stream: what prices at its ends say of its amount.
+-- The step condition of one stream: what potentials at its ends say of its amount.
 use mathlib.Core.Path.{_≡_, refl, _∙_, ap}
 use mathlib.Core.Bool.{Bool, true}
 use mathlib.Core.Logic.{_⊎_, inl, inr, ⊎-elim}
@@ -11,7 +11,7 @@ use Rattle.flow_def.specs.Flows.{square}
 use Rattle.flow_def.specs.Certificate.{lower, upper}
 use Rattle.flow_def.proofs.Integers.{up, dn, diff, Le, Lt, canon, Z·diff, diff-val, diff-iff, plus-val, same, val, square-diff, between}
 
--- The condition, at step Δ: the price difference c of a stream of weight w whose amount is d above its reading is within bounds,
+-- The condition, at step Δ: the potential difference c of a stream of weight w whose amount is d above its reading is within bounds,
 -- the lower where the amount may be less (a), the upper where it may be more (b).
 pub record Step (Δ w : ℕ) (d c : ℤ) (a b : Bool) : Type 0 where
   pub low : a ≡ true → Le (lower Δ w d) c
@@ -49,7 +49,7 @@ le-square : (t : ℕ) → t ≤ t * t
 le-square zero = omega arith
 le-square (suc t) = omega arith
 
--- Over naturals: d is A less B, the price difference p less q, another deviation C less D is t above d. The case below d is
+-- Over naturals: d is A less B, the potential difference p less q, another deviation C less D is t above d. The case below d is
 -- this one with each pair turned round.
 rise : (w A B C D p q t : ℕ) → (1 ≤ t → p + w * (2 * B) ≤ w * (2 * A + 1) + q) → C + B ≡ A + t + D
     → w * square (diff A B) + p * t ≤ w * square (diff C D) + q * t
@@ -64,7 +64,7 @@ rise w A B C D p q (suc t) h e =
       mul-le-mul-left w (le-square (suc t)),
     ))
 
--- Whole numbers: at a deviation e in place of d the cost rises by at least the price difference times the change.
+-- Whole numbers: at a deviation e in place of d the cost rises by at least the potential difference times the change.
 pub whole : (w : ℕ) (d e c : ℤ) (a b : Bool) → Step 1 w d c a b → Free a b d e → Le (pos (w * square d) +ℤ c *ℤ e) (pos (w * square e) +ℤ c *ℤ d)
 whole w d e c a b s g = ⊎-elim
     (λ h. rw (h .1, ← canon d, ← canon c) (simp Z·diff
@@ -126,7 +126,7 @@ fraction D w d e c a b s g = ⊎-elim
         → 4 * (D * D) * (w * square (diff A B)) + 4 * D * (q * t) ≤ 4 * (w * square (diff C E)) + D * D * w + 4 * D * (p * t)
     fall A B C E p q t h k = rw (square-swap w A B, square-swap w C E) (rise-fraction D w B A E C q p t h k)
 
--- Equal prices at both ends: the amount is at least the reading where it may be more, and at most that where it may be less.
+-- Equal potentials at both ends: the amount is at least the reading where it may be more, and at most that where it may be less.
 flat-parts : (w A B : ℕ) → 1 ≤ w → w * (2 * A) ≤ w * (2 * B + 1) → A ≤ B
 flat-parts w A B l h = elim (decLe A B) [ yes k ↦ k | no k ↦ absurd (clash (omega arith)) ]
   where
@@ -173,7 +173,7 @@ flat D w d e c a b l z s g = ⊎-elim
     flat-fall : (A B C E t : ℕ) → (1 ≤ t → A ≤ B) → E + D * A ≡ D * B + t + C → 4 * (D * D) * (w * square (diff A B)) ≤ 4 * (w * square (diff C E))
     flat-fall A B C E t h k = rw (square-swap w A B, square-swap w C E) (flat-rise D w B A E C t h k)
 
--- No weight: equal prices at both ends, where the amount may be less and more.
+-- No weight: equal potentials at both ends, where the amount may be less and more.
 pub free : (Δ w : ℕ) (d c : ℤ) (a b : Bool) → w ≡ 0 → (a ≡ true) × (b ≡ true) → Step Δ w d c a b → c ≡ pos 0
 free Δ w d c a b z m s = same c (pos 0) (omega (arith, rw z at (low-parts Δ w d c (s .low (m .0))), rw z at (high-parts Δ w d c (s .high (m .1)))))
 

@@ -21,7 +21,7 @@ use Rattle.flow_def.proofs.Sums.{sum-tight}
 use Rattle.flow_def.proofs.Nets.{countOf, streamOf, crossing, no-crossing, balanced-size}
 use Rattle.flow_def.proofs.Steps.{Step, Tied, level, above, below, free}
 use Rattle.flow_def.proofs.Ranges.{balanced-of, unmetered-moves}
-use Rattle.flow_def.proofs.Prices.{Certificate, least, ties}
+use Rattle.flow_def.proofs.Potentials.{Certificate, least, ties}
 use Rattle.flow_def.proofs.Order.{AgreeTo, LeadsTo, in-order}
 
 -- A stream that cannot carry less, or more, at no cost: that would cost, or leave its range.

@@ -1,4 +1,4 @@
--- Certificates: prices of places by which a flow is seen to be the cheapest without a search.
+-- Certificates: potentials of places by which a flow is seen to be the cheapest without a search.
 use mathlib.Core.Bool.{Bool, true, not, _&&_, _||_}
 use mathlib.Core.List.{List}
 use lib.IntN.{ℤ, pos, _+ℤ_, _-ℤ_, _*ℤ_}
@@ -15,7 +15,7 @@ use Rattle.flow_def.specs.Flows.{streamAt, amountAt, allowed}
 abbrev pub weightOf : Stream → ℕ
 weightOf s = pick (s .metered) (s .weight) 0
 
--- The difference of the prices (node potentials) at a stream's ends.
+-- The difference of the potentials (node potentials) at a stream's ends.
 abbrev pub climb : (ℕ → ℤ) → Stream → ℤ
 climb π s = π (s .to) -ℤ π (s .from)
 
@@ -40,10 +40,10 @@ rises s x = not (limited s) || ltZ x (s .high)
 abbrev pub falls : Stream → ℤ → Bool
 falls s x = not (limited s) || ltZ (s .low) x
 
--- The prices at a stream's ends are within its bounds: neither less nor more on it would lower the cost. At an end of the
+-- The potentials at a stream's ends are within its bounds: neither less nor more on it would lower the cost. At an end of the
 -- range the bound that asks for more, or less, is waived.
-abbrev pub priced : (ℕ → ℤ) → Stream → ℤ → Bool
-priced π s x = (not (falls s x) || leZ (leastClimb s x) (climb π s)) && (not (rises s x) || leZ (climb π s) (mostClimb s x))
+abbrev pub inKilter : (ℕ → ℤ) → Stream → ℤ → Bool
+inKilter π s x = (not (falls s x) || leZ (leastClimb s x) (climb π s)) && (not (rises s x) || leZ (climb π s) (mostClimb s x))
 
 -- Less on it would raise the cost, or is not in its range.
 abbrev pub stays : (ℕ → ℤ) → Stream → ℤ → Bool
@@ -54,16 +54,16 @@ abbrev pub every : ℕ → (ℕ → Bool) → Bool
 every zero test = true
 every (suc n) test = test n && every n test
 
--- Prices listed for the places 0 to n.
-abbrev pub listedPrice : List ℤ → ℕ → ℤ
-listedPrice prices u = getD prices u (pos 0)
+-- Potentials listed for the places 0 to n.
+abbrev pub listedPotential : List ℤ → ℕ → ℤ
+listedPotential potentials u = getD potentials u (pos 0)
 
--- A plant without fault, a balanced flow in range, prices within the bounds of each stream, and each metered stream stays.
+-- A plant without fault, a balanced flow in range, potentials within the bounds of each stream, and each metered stream stays.
 abbrev pub certified : Plant → List ℤ → List ℤ → Bool
-certified p xs prices =
-    let π = listedPrice prices in
+certified p xs potentials =
+    let π = listedPotential potentials in
     let m = length (p .streams) in
     eqb (plantFault p) 0
     && (allowed p xs
-    && (every m (λ k. priced π (streamAt (p .streams) k) (amountAt xs k))
+    && (every m (λ k. inKilter π (streamAt (p .streams) k) (amountAt xs k))
     && every m (λ k. let s = streamAt (p .streams) k in not (s .metered) || stays π s (amountAt xs k))))

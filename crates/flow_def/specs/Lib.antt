@@ -1,5 +1,5 @@
 -- Flows, the cheapest of them, groups and classes, the test, what a sheet shows, refusal 19, certificates of a flow, and what calls
--- need. Flows in fractions of least cost, how far a sheet is from them, and prices by which one is known. Plants where nothing is
+-- need. Flows in fractions of least cost, how far a sheet is from them, and potentials by which one is known. Plants where nothing is
 -- withheld, plants with more streams metered, and streams without loops.
 pub mod Flows
 pub mod Chains

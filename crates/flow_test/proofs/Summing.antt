@@ -30,6 +30,7 @@ pub record Weighed (p : Arrays.Plant) (sum i : ℕ) : Type 0 where
   pub is : sum ≡ adjustedTo (plantOf p) i
   pub most : sum ≤ 65535 * i
 
+-- No stream yet.
 pub weighed-none : (p : Arrays.Plant) → Weighed p 0 0
 weighed-none p = record { within = omega arith; is = refl; most = omega arith }
 
@@ -39,6 +40,7 @@ module _ {p : Arrays.Plant} {cs : List Class} {sum i : ℕ} (d : Classed p cs) (
       ap (λ (l : List Class). getD l i Adjusted) (d .classes)
       ∙ values-at (classOf (plantOf p)) Adjusted maxStreams i (omega (arith, d .accepted .within .few-streams))
 
+  -- One stream more.
   pub weighed-more : i < p .count → (k : ℕ) → k ≡ adjustedWeight (getD cs i Adjusted) (getD (p .streams) i noStream) → k ≤ 65535 → Weighed p (sum + k) (i + 1)
   weighed-more h k f l = record {
     within = omega arith;
@@ -52,5 +54,6 @@ module _ {p : Arrays.Plant} {cs : List Class} {sum i : ℕ} (d : Classed p cs) (
       sum-is : sum + k ≡ adjustedWeight (classOf (plantOf p) i) (getD (p .streams) i noStream) + adjustedTo (plantOf p) i
       sum-is = omega (arith, k-is, w .is)
 
+  -- All streams.
   pub weighed-all : p .count ≤ i → sum ≡ adjusted (plantOf p)
   weighed-all h = let e : i ≡ length (plantOf p .streams) = omega (arith, all-listed p (d .accepted), w .within) in w .is ∙ ap (adjustedTo (plantOf p)) e

@@ -21,6 +21,7 @@ use Rattle.plant_def.specs.Files.{readPlant}
 use Rattle.plant_def.specs.Says as Plants
 use Rattle.plant_def.specs.Says.{plantOf}
 use Rattle.plant_def.proofs.Arrayed.{all-listed, read-held}
+use Rattle.plant_def.proofs.Found.{read-bad, found}
 use Rattle.flow_def.specs.declared.Class.{Class}
 use Rattle.flow_def.specs.declared.Class.the-variants.{Adjusted}
 use Rattle.flow_def.specs.Flows.{streamAt, amountAt, cost}
@@ -42,7 +43,6 @@ use Rattle.sheet_def.specs.Calls.{AllSmall}
 use Rattle.sheet_def.specs.Sheets.{SheetParts, kindOf}
 use Rattle.sheet_def.specs.Kept.{Reopened, noSheet, someSheet, readSheet, readOf, blank}
 use Rattle.sheet_def.specs.Sentences.{classOn}
-use Rattle.sheet_def.proofs.Promise.{read-bad, found}
 use Rattle.sheet_def.proofs.Back.{few-read}
 use Rattle.sheet_def.proofs.Demands.{demands}
 use Rattle.sheet_entries.proofs.Verdicts.{capped-verdict}
@@ -59,9 +59,11 @@ module _ (p : Plant) (c : ℕ) (t : Total) where
   other-degrees d e n = rw (ne-eqb (t .degrees) (degrees p) (λ q. n (q ∙ sym e)))
 
   module _ (d : ℕ) (e : d ≡ degrees p) (q : t .degrees ≡ d) (s : ℕ) (es : s ≡ capped c) where
+    -- Another cost: the total does not fit.
     pub other-cost : (t .cost ≡ s → ⊥) → false ≡ totalFits p c t
     other-cost n = rw (eq-eqb (t .degrees) (degrees p) (q ∙ e), ne-eqb (t .cost) (capped c) (λ r. n (r ∙ sym es)))
 
+    -- The same cost: it fits where the verdict does.
     pub by-verdict : t .cost ≡ s → (w v : ℕ) → w ≡ adjusted p → w ≤ topCost → v ≡ verdictAt d s w → eqb (t .verdict) v ≡ totalFits p c t
     by-verdict r w v ew h ev =
         let same : v ≡ verdictAt (degrees p) c (adjusted p) = ev ∙ (λ i. verdictAt (e i) (es i) (ew i)) ∙ capped-verdict (degrees p) c (adjusted p) (rw (← ew) h) in
@@ -73,21 +75,27 @@ none true b e = e
 none false b e = refl
 
 module _ (a b c d e f : Bool) where
+  -- The first fails.
   pub off-1 : a ≡ false → false ≡ (a && (b && (c && (d && (e && f)))))
   off-1 h = rw h
 
+  -- The second fails.
   pub off-2 : b ≡ false → false ≡ (a && (b && (c && (d && (e && f)))))
   off-2 h = sym (none a _ (rw h))
 
+  -- The third fails.
   pub off-3 : c ≡ false → false ≡ (a && (b && (c && (d && (e && f)))))
   off-3 h = sym (none a _ (none b _ (rw h)))
 
+  -- The fourth fails.
   pub off-4 : d ≡ false → false ≡ (a && (b && (c && (d && (e && f)))))
   off-4 h = sym (none a _ (none b _ (none c _ (rw h))))
 
+  -- The fifth fails.
   pub off-5 : e ≡ false → false ≡ (a && (b && (c && (d && (e && f)))))
   off-5 h = sym (none a _ (none b _ (none c _ (none d _ (rw h)))))
 
+  -- The first five hold: the last decides.
   pub last : a ≡ true → b ≡ true → c ≡ true → d ≡ true → e ≡ true → f ≡ (a && (b && (c && (d && (e && f)))))
   last ha hb hc hd he = rw (ha, hb, hc, hd, he)
 
@@ -132,10 +140,12 @@ module _ (p : Arrays.Plant) (kept : SheetRead) (numbers : List ℤ) where
   counted : kept .count ≤ maxStreams → length (kept .streams) ≡ maxStreams → length (S .streams) ≡ kept .count
   counted few long = length-take-le (kept .count) (kept .streams) (omega arith)
 
+  -- The numbers do not fit: the sheet does not pass.
   pub wrong-numbers : numbersFit (p .units) numbers ≡ false → false ≡ passes P S numbers
   unfolding passes
   wrong-numbers h = off-1 numbered same-count recorded flowing level totalled h
 
+  -- Not as many records as streams: it does not pass.
   pub wrong-count : Accepted p → kept .count ≤ maxStreams → length (kept .streams) ≡ maxStreams → (kept .count ≡ p .count → ⊥) → false ≡ passes P S numbers
   unfolding passes
   wrong-count a few long n = off-2 numbered same-count recorded flowing level totalled
@@ -219,18 +229,22 @@ module _ (p : Arrays.Plant) (kept : SheetRead) (numbers : List ℤ) where
         (and-right (eqb (kindOf (getD (kept .streams) k noEntry .class)) (kindOf (getD classes k Adjusted))) _ (every-at (p .count) _ h k (ltb-true k (p .count) t))))
         (λ t. rw (shown-in k l, class-past P k (omega (arith, all-of, ltb-false k (p .count) t))) (omega arith))
 
+    -- A record does not fit: it does not pass.
     pub wrong-record : recordsIn p kept classes flows ≡ false → false ≡ passes P S numbers
     unfolding passes
     wrong-record h = off-3 numbered same-count recorded flowing level totalled (sym records-same ∙ h)
 
+    -- A flow does not fit: it does not pass.
     pub wrong-flow : flowsFit (P .streams) (amountAt flows) numbers ≡ false → false ≡ passes P S numbers
     unfolding passes
     wrong-flow h = off-4 numbered same-count recorded flowing level totalled (sym flows-same ∙ h)
 
+    -- A net is not 0: it does not pass.
     pub wrong-net : netsFit (labelsOf (withheldOnly P) P) (P .streams) (amountAt flows) ≡ false → false ≡ passes P S numbers
     unfolding passes
     wrong-net h = off-5 numbered same-count recorded flowing level totalled (sym nets-same ∙ h)
 
+    -- All but the total fits: the sheet passes where the total does.
     pub by-total : numbersFit (p .units) numbers ≡ true → recordsIn p kept classes flows ≡ true → flowsFit (P .streams) (amountAt flows) numbers ≡ true
         → netsFit (labelsOf (withheldOnly P) P) (P .streams) (amountAt flows) ≡ true
         → totalFits P (cost (P .streams) (take (p .count) flows)) (kept .total) ≡ passes P S numbers
@@ -249,6 +263,7 @@ pub record SheetGot (bytes : List ℕ) (kept : SheetRead) : Type 0 where
   pub few : kept .count ≤ maxStreams
   pub long : length (kept .streams) ≡ maxStreams
 
+-- What is known of a sheet that is read.
 pub sheet-got : (bytes : List ℕ) (kept : SheetRead) → kept ≡ readOf (readSheet bytes) → kept .number ≡ 0 → SheetGot bytes kept
 sheet-got bytes kept e n = go (readSheet bytes) refl e
   where
@@ -274,13 +289,16 @@ module _ (file bytes : List ℕ) (numbers : List ℤ) (y : Read) (e : y ≡ Plan
   says : (r : ℕ) → r ≡ checkWith (readPlant file) (readSheet bytes) numbers → CheckSays file bytes numbers r
   says r q = subst (CheckSays file bytes numbers) (sym q) (check-says file bytes numbers)
 
+  -- The plant reader's refusal.
   pub no-plant : (y .number ≡ 0 → ⊥) → CheckSays file bytes numbers (y .number)
   no-plant n = says (y .number) (rw (read-bad (readPlant file) y e n))
 
   module _ (n : y .number ≡ 0) (kept : SheetRead) (q : kept ≡ readOf (readSheet bytes)) where
+    -- The sheet reader's refusal.
     pub no-sheet : (kept .number ≡ 0 → ⊥) → CheckSays file bytes numbers (kept .number)
     no-sheet m = says (kept .number) (rw (found file y e n .1, refused-sheet (readSheet bytes) kept q m))
 
+    -- Both are read: 26 unless the sheet passes.
     pub by-rules : kept .number ≡ 0 → (b : Bool) → b ≡ passes (plantOf (y .plant)) (partsIn kept) numbers → CheckSays file bytes numbers (pick b 0 26)
     by-rules m b h =
         let f = found file y e n in

@@ -1,4 +1,4 @@
--- Prices and amounts that meet the rules: the withheld streams can be filled in, and the whole is then a flow of least cost; no
+-- Potentials and amounts that meet the rules: the withheld streams can be filled in, and the whole is then a flow of least cost; no
 -- amount is large.
 use mathlib.Core.Path.{_≡_, refl, sym, _∙_, ap, subst}
 use mathlib.Core.Bool.{Bool, true, false, not, _&&_}
@@ -24,7 +24,7 @@ use Rattle.flow_def.proofs.Sums.{sum-same}
 use Rattle.flow_def.proofs.Nets.{countOf, streamOf, netOf, inside, listed, listed-size, listed-at, balanced-nets}
 use Rattle.flow_def.proofs.Given.{class-means, number-is}
 use Rattle.flow_def.proofs.Ranges.{allowed-of, range-of, balanced-of}
-use Rattle.flow_def.proofs.Prices.{StepAt, Steps, Certificate, share, cost-one, least}
+use Rattle.flow_def.proofs.Potentials.{StepAt, Steps, Certificate, share, cost-one, least}
 use Rattle.solve_def.proofs.Overs.{over, overTo}
 use Rattle.solve_def.proofs.Tall.{tall}
 use Rattle.foreign_def.specs.Passing.{known}
@@ -39,9 +39,11 @@ unknown-withheld AsRead e = cc
 unknown-withheld Given e = cc
 unknown-withheld Withheld e = refl
 
+-- A class that is not withheld is known.
 pub known-not : (c : Class) → (c ≡ Withheld → ⊥) → known c ≡ true
 known-not c n = by-cases (known c) (λ t. t) (λ t. absurd (n (unknown-withheld c t)))
 
+-- A class that is known is not withheld.
 pub known-shown : (c : Class) → known c ≡ true → c ≡ Withheld → ⊥
 known-shown c t e = let z : _≡_ {A = ℕ} 0 1 = absurd (go (sym t ∙ ap known e)) in omega arith
   where
@@ -59,6 +61,7 @@ module _ (p : Plant) (w : Within p) where
   pub withheld-unmetered : (k : ℕ) → known (classOf p k) ≡ false → streamOf p k .metered ≡ false
   withheld-unmetered k e = class-means p k Withheld (unknown-withheld (classOf p k) e) .0
 
+  -- A metered stream is known.
   pub metered-known : (k : ℕ) → streamOf p k .metered ≡ true → known (classOf p k) ≡ true
   metered-known k m = by-cases (known (classOf p k)) (λ t. t) (λ t. absurd (clash-of (withheld-unmetered k t)))
     where
@@ -73,10 +76,12 @@ module _ (p : Plant) (w : Within p) where
     pub filledIn : List ℤ
     filledIn = listed p (whole .0)
 
+    -- On a known stream it has the flow that is shown.
     pub filled-at : (k : ℕ) → k < countOf p → known (classOf p k) ≡ true → amountAt filledIn k ≡ x k
     unfolding filledIn
     filled-at k l n = listed-at p (whole .0) k l ∙ whole .2 k (rw n)
 
+    -- It balances.
     pub filled-balanced : balanced p filledIn ≡ true
     unfolding filledIn
     filled-balanced = whole .1
@@ -85,11 +90,13 @@ module _ (p : Plant) (w : Within p) where
     unfolding filledIn
     filled-size = listed-size p (whole .0)
 
+    -- It is in range.
     pub filled-allowed : allowed p filledIn ≡ true
     filled-allowed = allowed-of 1 p filledIn filled-balanced (λ k l. by-cases (known (classOf p k))
         (λ t. subst (λ (z : ℤ). inRange 1 (streamOf p k) z ≡ true) (sym (filled-at k l t)) (g .ranges k l))
         (λ t. rw (withheld-unmetered k t)))
 
+    -- The numbers certify it.
     pub filled-certified : Certificate p filledIn π
     filled-certified = record {
       balance = filled-allowed;
@@ -98,6 +105,7 @@ module _ (p : Plant) (w : Within p) where
           (λ t. let m = withheld-unmetered k t in level-step π (streamOf p k) m _ (step-level π (streamOf p k) m (x k) (g .steps k l)));
     }
 
+    -- So it is of least cost.
     pub filled-least : OfLeastCost p filledIn
     filled-least = record { balance = filled-allowed; least = least p w π filledIn filled-certified }
 
@@ -122,9 +130,11 @@ unfolding overTo
 over-none zero z h = refl
 over-none (suc n) z h = rw (h n (omega arith)) (omega (arith, over-none n z (λ u l. h u (omega arith))))
 
+-- The most that a metered stream carries.
 abbrev pub meteredMost : ℕ
 meteredMost = maxStreams * maxRange
 
+-- The most that a known stream carries.
 abbrev pub knownMost : ℕ
 knownMost = maxStreams * meteredMost
 

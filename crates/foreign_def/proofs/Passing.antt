@@ -1,4 +1,4 @@
--- What passes has least cost; and prices that certify a flow pass every sheet that shows a flow of least cost.
+-- What passes has least cost; and potentials that certify a flow pass every sheet that shows a flow of least cost.
 use mathlib.Core.Path.{_≡_, refl, sym, _∙_, ap, ap₂, subst}
 use mathlib.Core.Bool.{Bool, true, false, not}
 use mathlib.Core.List.{List, []}
@@ -30,7 +30,7 @@ use Rattle.flow_def.proofs.Chained.{as-read-of, adjusted-of}
 use Rattle.flow_def.proofs.Counted.{degrees-counted}
 use Rattle.flow_def.proofs.Decided.{decided-shown}
 use Rattle.flow_def.proofs.Ranges.{balanced-of, range-of}
-use Rattle.flow_def.proofs.Prices.{StepAt, Certificate}
+use Rattle.flow_def.proofs.Potentials.{StepAt, Certificate}
 use Rattle.solve_def.proofs.Theorem.{decided}
 use Rattle.sheet_def.specs.Apart.{totalKind, capped}
 use Rattle.sheet_def.specs.Sheets.{SheetParts}
@@ -43,7 +43,7 @@ use Rattle.foreign_def.specs.Numbers.{Serve}
 use Rattle.foreign_def.specs.Test.{withheldOnly, shownAt}
 use Rattle.foreign_def.proofs.Stepping.{step-level, level-step, step-alike, between-step, step-bottom, step-top}
 use Rattle.foreign_def.proofs.Meeting.{known-not, known-shown, Meets, metered-known, filledIn, filled-at, filled-least}
-use Rattle.foreign_def.proofs.Numbers.{same-prices}
+use Rattle.foreign_def.proofs.Numbers.{same-potentials}
 use Rattle.foreign_def.proofs.Sums.{crossing-sums}
 
 -- A sheet that tells of a plant what it has to has the classes, the degrees and the verdict as they are computed.
@@ -57,12 +57,14 @@ module _ (p : Plant) (w : Within p) (s : SheetParts) (t : Tells p s) where
       go Given e = let m = class-means p k Given e .0 in t .given k (l, m) .1 (number-of p w k (record { listed = l; unmetered = m }) .0 e)
       go Withheld e = let m = class-means p k Withheld e .0 in t .withheld k (l, m) .1 (blank-of p w k (record { listed = l; unmetered = m }) .0 e)
 
+  -- The degrees that it tells.
   pub told-degrees : s .total .degrees ≡ degrees p
   told-degrees =
       let g = t .groups in
       let c = t .pieces in
       omega (arith, t .degrees (g .0) (c .0) (g .1) (c .1), degrees-counted p w (g .0) (c .0) (g .1) (c .1))
 
+  -- The verdict that it tells.
   pub told-verdict : (xs : List ℤ) → Cheapest p xs → s .total .verdict ≡ verdictAt (degrees p) (cost (p .streams) xs) (adjusted p)
   told-verdict xs c = t .verdict xs c ∙ (λ i. verdictAt (told-degrees i) (cost (p .streams) xs) (sym (weights-told p s told-class (countOf p) (omega arith)) i))
 
@@ -71,6 +73,7 @@ module _ (p : Plant) (w : Within p) (xs : List ℤ) (c : Cheapest p xs) (office 
   pub ours-tell : Tells p (plantParts office p xs n)
   ours-tell = tells p w (decided-shown p w xs (c .balance) (decided p w)) xs c (plantParts office p xs n) (told p w xs c totalKind office n)
 
+  -- Our own sheet shows the flow.
   pub ours-shows : ShowsFlow p (plantParts office p xs n) xs
   ours-shows k l o = let t = told p w xs c totalKind office n in t .numbers k l (λ e. o (t .classes k l ∙ e))
 
@@ -80,15 +83,19 @@ module _ (p : Plant) (w : Within p) where
     pub like-long : length (sheet .streams) ≡ countOf p
     like-long = o .2 .count ∙ o .1 .listed
 
+    -- The same classes.
     pub like-class : (k : ℕ) → k < countOf p → classOn sheet k ≡ classOf p k
     like-class k l = o .2 .classes k (rw (o .1 .listed) l) ∙ told-class p w (o .0) (o .1) k l
 
+    -- The same degrees.
     pub like-degrees : sheet .total .degrees ≡ degrees p
     like-degrees = o .2 .degrees ∙ told-degrees p w (o .0) (o .1)
 
+    -- The cost of the cheapest flow.
     pub like-cost : (xs : List ℤ) → Cheapest p xs → sheet .total .cost ≡ capped (cost (p .streams) xs)
     like-cost xs c = o .2 .cost ∙ o .1 .costs xs c
 
+    -- Its verdict.
     pub like-verdict : (xs : List ℤ) → Cheapest p xs → sheet .total .verdict ≡ verdictAt (degrees p) (cost (p .streams) xs) (adjusted p)
     like-verdict xs c = o .2 .verdict ∙ told-verdict p w (o .0) (o .1) xs c
 
@@ -154,6 +161,7 @@ module _ (p : Plant) (w : Within p) where
         let c = g .ours .1 .some .1 in
         like-cost sheet (g .ours) xs c ∙ ap capped (le-antisymm (c .least zs (zs-least .balance)) (zs-least .least xs (c .balance)))
 
+    -- What passes shows a flow of least cost, and tells its cost.
     pub passed-least : (xs : List ℤ) × OfLeastCost p xs × ShowsFlow p sheet xs × (sheet .total .cost ≡ capped (cost (p .streams) xs))
     passed-least = (zs, zs-least, zs-shown, zs-cost)
 
@@ -204,6 +212,7 @@ module _ (p : Plant) (w : Within p) where
             ∙ sum-same (countOf p) _ (λ k. crossing d (streamOf p k) (amountAt ys k)) each
             ∙ no-crossing p w ys (balanced-of 1 p ys (c .balance)) d)
 
+      -- Numbers that certify the flow let the sheet pass.
       pub certified-passes : Passes p sheet (values (suc (p .units)) π)
       certified-passes = record {
         one-each = values-long π (suc (p .units));
@@ -226,7 +235,7 @@ module _ (p : Plant) (w : Within p) where
     shows = ours-shows p w xs c office n;
   }
 
-  -- Prices within the limit that certify some flow serve.
+  -- Potentials within the limit that certify some flow serve.
   pub certified-serve : (π : ℕ → ℤ) → ((u : ℕ) → u ≤ p .units → natAbs (π u) ≤ numberLimit) → (xs : List ℤ) → Certificate p xs π
       → Serve p (values (suc (p .units)) π)
-  certified-serve π few xs c sheet f = certified-passes π few (f .flow) (same-prices p w π xs c (f .flow) (f .least)) sheet (f .ours) (f .shows)
+  certified-serve π few xs c sheet f = certified-passes π few (f .flow) (same-potentials p w π xs c (f .flow) (f .least)) sheet (f .ours) (f .shows)

@@ -37,6 +37,7 @@ use Rattle.foreign_def.proofs.Passing.{joined-set, passed-least, our-fl
 use Rattle.foreign_def.proofs.Tested.{test-is}
 use Rattle.foreign_def.proofs.Serving.{some-numbers}
 
+-- A plant that is read is within the limits.
 pub read-within : (file : List ℕ) (p : Plant) → readPlant file ≡ got p → Within p
 read-within file p e = within p (accepted file p e .0)
 
@@ -115,6 +116,7 @@ some-pass file p ys e a =
     let n = some-numbers p (read-within file p e) in
     (numbersIn (n .0), pass-all file p e (numbersIn (n .0)) (n .1 .some ys a .serve))
 
+-- The record of what is promised of the check.
 pub foreign-sheets : Foreign-sheets
 foreign-sheets = record {
   sets = λ file p sheet u e l.
@@ -162,6 +164,7 @@ numbered file p r e n z = ⊎-elim
     (λ o. absurd (omega (arith, z, ap (λ (x : PlaceNumbers). x .number) (n .none (λ ys. demands .nineteen .none file p (o .0) e (o .1) 1 ys (omega arith))))))
     (demands .nineteen .either file p e)
 
+-- The record of what is promised of our own numbers.
 pub own-numbers : Own-numbers
 own-numbers = record {
   some = some-answer;

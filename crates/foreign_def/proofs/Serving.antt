@@ -1,4 +1,4 @@
--- Numbers of our own: the solver's prices serve, so every plant that is read has numbers, or an overfull set.
+-- Numbers of our own: the solver's potentials serve, so every plant that is read has numbers, or an overfull set.
 use mathlib.Core.Path.{_≡_, refl, sym, _∙_, ap, subst}
 use mathlib.Core.Bool.{Bool, true, false}
 use mathlib.Core.List.{List}
@@ -32,33 +32,35 @@ use Rattle.sheet_def.proofs.Opening.{right-found, right-overfull}
 use Rattle.foreign_def.specs.declared.PlaceNumbers.{PlaceNumbers}
 use Rattle.foreign_def.specs.Passing.{placeNumber}
 use Rattle.foreign_def.specs.Numbers.{noNumbers, numbersIn, Serve, Numbered, NumbersOf}
-use Rattle.foreign_def.specs.Test.{priceFrom, PricedBy}
+use Rattle.foreign_def.specs.Test.{potentialFrom, NumberedBy}
 use Rattle.foreign_def.proofs.Numbers.{solution-certifies, solution-few}
 use Rattle.foreign_def.proofs.Passing.{certified-serve}
 
--- The first numbers are the prices'.
-module _ (n : ℕ) (ps : List ℕ) (few : suc n ≤ places) (numbers : List ℤ) (b : PricedBy n ps numbers) where
+-- The first numbers are the potentials'.
+module _ (n : ℕ) (ps : List ℕ) (few : suc n ≤ places) (numbers : List ℤ) (b : NumberedBy n ps numbers) where
   long : length (take (suc n) numbers) ≡ suc n
   long = length-take-le (suc n) numbers (omega (arith, b .long))
 
-  pub numbers-are : take (suc n) numbers ≡ values (suc n) (priceFrom ps)
+  -- The numbers are the potentials less the outside's.
+  pub numbers-are : take (suc n) numbers ≡ values (suc n) (potentialFrom ps)
   numbers-are =
-      ext-getD (pos 0) (take (suc n) numbers) (values (suc n) (priceFrom ps)) (long ∙ sym (values-long (priceFrom ps) (suc n)))
+      ext-getD (pos 0) (take (suc n) numbers) (values (suc n) (potentialFrom ps)) (long ∙ sym (values-long (potentialFrom ps) (suc n)))
       (λ u l. let h : u < suc n = rw long at l in
-      getD-take (suc n) numbers u (pos 0) h ∙ b .each u (omega arith) ∙ sym (values-at (priceFrom ps) (pos 0) (suc n) u h))
+      getD-take (suc n) numbers u (pos 0) h ∙ b .each u (omega arith) ∙ sym (values-at (potentialFrom ps) (pos 0) (suc n) u h))
 
--- Numbers by the prices of a solution.
+-- Numbers by the potentials of a solution.
 module _ (p : Arrays.Plant) (a : Accepted p) (s : Solved) (r : Solution p s) where
-  serves : Serve (plantOf p) (values (suc (p .units)) (priceFrom (s .prices)))
-  serves = certified-serve (plantOf p) (within-of p a) (priceFrom (s .prices)) (solution-few p a s r) _ (solution-certifies p a s r)
+  serves : Serve (plantOf p) (values (suc (p .units)) (potentialFrom (s .potentials)))
+  serves = certified-serve (plantOf p) (within-of p a) (potentialFrom (s .potentials)) (solution-few p a s r) _ (solution-certifies p a s r)
 
-  pub solution-numbered : (numbers : List ℤ) → PricedBy (p .units) (s .prices) numbers
+  -- A solution's numbers are numbers of its plant.
+  pub solution-numbered : (numbers : List ℤ) → NumberedBy (p .units) (s .potentials) numbers
       → Numbered (plantOf p) (record { number = 0; count = suc (p .units); numbers = numbers })
   solution-numbered numbers b = record {
     number = refl;
     count = refl;
-    serve = subst (Serve (plantOf p)) (sym (numbers-are (p .units) (s .prices) (omega (arith, a .within .few-units)) numbers b)) serves;
-    outside = b .each 0 (omega arith) ∙ +ℤ-invr (pos (getD (s .prices) 0 0));
+    serve = subst (Serve (plantOf p)) (sym (numbers-are (p .units) (s .potentials) (omega (arith, a .within .few-units)) numbers b)) serves;
+    outside = b .each 0 (omega arith) ∙ +ℤ-invr (pos (getD (s .potentials) 0 0));
     past = b .past;
     long = b .long;
   }
@@ -68,6 +70,7 @@ module _ (p : Plant) (w : Within p) (r : PlaceNumbers) where
   pub numbers-of : (xs : List ℤ) → allowed p xs ≡ true → Numbered p r → NumbersOf p r
   numbers-of xs h n = record { some = λ ys e. n; none = λ none. clash (allowed p xs) h (none xs) }
 
+  -- An overfull plant has none: 19.
   pub no-numbers-of : (ms : List Bool) → Overfull p ms → r ≡ noNumbers 19 → NumbersOf p r
   no-numbers-of ms o e = record {
     some = λ ys h. clash (allowed p ys) h (overfull-none p w ms o 1 ys (omega arith));
@@ -90,11 +93,11 @@ module _ (p : Plant) (w : Within p) where
   right = solved-right array held _ (from-none (plantOf array) (within-of array held))
 
   listed : List ℤ
-  listed = values places (λ u. pick (leb u (p .units)) (priceFrom (solved .prices) u) (pos 0))
+  listed = values places (λ u. pick (leb u (p .units)) (potentialFrom (solved .potentials) u) (pos 0))
 
-  priced : PricedBy (p .units) (solved .prices) listed
+  numbered : NumberedBy (p .units) (solved .potentials) listed
   unfolding listed
-  priced = record {
+  numbered = record {
     long = values-long f places;
     each = λ u l. values-at f (pos 0) places u (omega (arith, w .few-units)) ∙ rw (le-leb u (p .units) l) refl;
     past = λ u l. by-cases (ltb u places)
@@ -103,12 +106,13 @@ module _ (p : Plant) (w : Within p) where
   }
     where
       f : ℕ → ℤ
-      f u = pick (leb u (p .units)) (priceFrom (solved .prices) u) (pos 0)
+      f u = pick (leb u (p .units)) (potentialFrom (solved .potentials) u) (pos 0)
 
+  -- Every plant has an answer.
   pub some-numbers : (r : PlaceNumbers) × NumbersOf p r
   some-numbers = subst (λ (q : Plant). (r : PlaceNumbers) × NumbersOf q r) (plant-held p (w .few-streams)) (by-cases (solved .found)
       (λ t. let s = right-found array solved right t in (
         record { number = 0; count = suc (p .units); numbers = listed },
-        numbers-of (plantOf array) (within-of array held) _ (flowOf array solved) (s .cheapest .balance) (solution-numbered array held solved s listed priced),
+        numbers-of (plantOf array) (within-of array held) _ (flowOf array solved) (s .cheapest .balance) (solution-numbered array held solved s listed numbered),
       ))
       (λ t. (noNumbers 19, no-numbers-of (plantOf array) (within-of array held) _ _ (right-overfull array solved right t) refl)))

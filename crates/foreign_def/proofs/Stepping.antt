@@ -13,11 +13,11 @@ use Rattle.plant_def.specs.Limits.{maxRange}
 use Rattle.plant_def.specs.Plants.{limited}
 use Rattle.plant_def.specs.Within.{WithinStream}
 use Rattle.flow_def.specs.Flows.{inRange}
-use Rattle.flow_def.specs.Certificate.{weightOf, climb, lower, upper, leastClimb, mostClimb, rises, falls, priced}
+use Rattle.flow_def.specs.Certificate.{weightOf, climb, lower, upper, leastClimb, mostClimb, rises, falls, inKilter}
 use Rattle.flow_def.proofs.Integers.{up, dn, Le, Lt, val, canon, Z·diff, minus-val, size-val, leZ-le, le-leZ, ltZ-lt}
 use Rattle.flow_def.proofs.Ranges.{asked, answered, whole-says, at-low, at-high, unmetered-moves}
 use Rattle.flow_def.proofs.Steps.{Step, Tied, level, above, below, free}
-use Rattle.flow_def.proofs.Prices.{StepAt}
+use Rattle.flow_def.proofs.Potentials.{StepAt}
 use Rattle.solve_def.proofs.Tall.{Slopes}
 use Rattle.foreign_def.specs.Passing.{bottom, top, AtHigh, AtLow}
 
@@ -39,13 +39,15 @@ unweighed : (s : Stream) → s .metered ≡ false → weightOf s ≡ 0
 unweighed s m = rw m
 
 module _ (π : ℕ → ℤ) (s : Stream) (m : s .metered ≡ false) where
+  -- A stream without a meter has equal numbers at its ends.
   pub step-level : (x : ℤ) → StepAt 1 π s x → climb π s ≡ pos 0
   step-level x h = free 1 (weightOf s) (x -ℤ s .reading) (climb π s) (falls s x) (rises s x) (unweighed s m) (unmetered-moves s x m) h
 
+  -- Equal numbers meet the step condition of such a stream.
   pub level-step : (x : ℤ) → climb π s ≡ pos 0 → StepAt 1 π s x
   level-step x e = still (weightOf s) (x -ℤ s .reading) (climb π s) (falls s x) (rises s x) (unweighed s m) e
 
--- Prices that climb alike meet it alike.
+-- Potentials that climb alike meet it alike.
 pub step-alike : (π ρ : ℕ → ℤ) (s : Stream) (x : ℤ) → climb π s ≡ climb ρ s → StepAt 1 ρ s x → StepAt 1 π s x
 step-alike π ρ s x e h = subst (λ (c : ℤ). Step 1 (weightOf s) (x -ℤ s .reading) c (falls s x) (rises s x)) (sym e) h
 
@@ -59,6 +61,7 @@ down-one w d = rw (← canon d) (simp Z·diff (omega arith))
 in-order : (w : ℕ) (d : ℤ) → Le (lower 1 w d) (upper 1 w d)
 in-order w d = rw (← canon d) (simp Z·diff (omega arith))
 
+-- A tie keeps the step condition.
 pub tied-step : (w : ℕ) (d e c : ℤ) (a b a′ b′ : Bool) → Step 1 w d c a b → Tied w d e c a b → (e ≡ d → Step 1 w e c a′ b′) → Step 1 w e c a′ b′
 tied-step w d e c a b a′ b′ s (level q) f = f q
 tied-step w d e c a b a′ b′ s (above q m t) f = rw q (record {
@@ -71,14 +74,15 @@ tied-step w d e c a b a′ b′ s (below q m t) f = rw q (record {
 })
 
 -- The condition by its tests.
-pub priced-says : (π : ℕ → ℤ) (s : Stream) (x : ℤ) → priced π s x ≡ true → StepAt 1 π s x
-priced-says π s x e = record {
+pub kilter-says : (π : ℕ → ℤ) (s : Stream) (x : ℤ) → inKilter π s x ≡ true → StepAt 1 π s x
+kilter-says π s x e = record {
   low = λ t. leZ-le (leastClimb s x) (climb π s) (asked (falls s x) _ (and-left (not (falls s x) || leZ (leastClimb s x) (climb π s)) _ e) t);
   high = λ t. leZ-le (climb π s) (mostClimb s x) (asked (rises s x) _ (and-right (not (falls s x) || leZ (leastClimb s x) (climb π s)) _ e) t);
 }
 
-pub says-priced : (π : ℕ → ℤ) (s : Stream) (x : ℤ) → StepAt 1 π s x → priced π s x ≡ true
-says-priced π s x h =
+-- The step condition says that the stream is in kilter.
+pub says-kilter : (π : ℕ → ℤ) (s : Stream) (x : ℤ) → StepAt 1 π s x → inKilter π s x ≡ true
+says-kilter π s x h =
     and-both _ _ (answered (falls s x) _ (λ t. le-leZ (leastClimb s x) (climb π s) (h .low t)))
     (answered (rises s x) _ (λ t. le-leZ (climb π s) (mostClimb s x) (h .high t)))
 
@@ -99,6 +103,7 @@ module _ (π : ℕ → ℤ) (s : Stream) (x : ℤ) (m : s .metered ≡ true) whe
   high-end : AtHigh s x → rises s x ≡ true → ⊥
   high-end e t = omega (arith, ltZ-lt x (s .high) (asked (limited s) _ t (e .0)), val x (s .high) (e .1))
 
+  -- A climb between bottom and top, but where it is excused, meets the step condition.
   pub between-step : AtLow s x ⊎ (leZ (bottom s x) (climb π s) ≡ true) → AtHigh s x ⊎ (leZ (climb π s) (top s x) ≡ true) → StepAt 1 π s x
   between-step lo hi = record {
     low = λ t. ⊎-elim (λ e. absurd (low-end e t)) (λ (e : leZ (bottom s x) (climb π s) ≡ true). rw bottom-is (leZ-le (bottom s x) (climb π s) e)) lo;
@@ -106,9 +111,11 @@ module _ (π : ℕ → ℤ) (s : Stream) (x : ℤ) (m : s .metered ≡ true) whe
   }
 
   module _ (i : inRange 1 s x ≡ true) (h : StepAt 1 π s x) where
+    -- The step condition gives the bottom, unless the flow is at its low end.
     pub step-bottom : AtLow s x ⊎ (leZ (bottom s x) (climb π s) ≡ true)
     step-bottom = by-cases (falls s x) (λ t. inr (rw (← bottom-is) (le-leZ (leastClimb s x) (climb π s) (h .low t)))) (λ t. inl (at-low s x i t))
 
+    -- It gives the top, unless the flow is at its high end.
     pub step-top : AtHigh s x ⊎ (leZ (climb π s) (top s x) ≡ true)
     step-top = by-cases (rises s x) (λ t. inr (rw (← top-is) (le-leZ (climb π s) (mostClimb s x) (h .high t)))) (λ t. inl (at-high s x i t))
 
@@ -142,5 +149,6 @@ module _ (n : ℕ) (π : ℕ → ℤ) (s : Stream) (x : ℤ) (r : WithinStream n
             (omega (arith, minus-val x (s .reading), r .in-range m, size-val (s .reading))) k,
       ))
 
+  -- How a stream far from its range runs.
   pub step-slopes : Slopes maxRange x (climb π s)
   step-slopes = record { runs-up = uphill; runs-down = downhill }

@@ -25,7 +25,7 @@ use Rattle.flow_def.specs.Classes.{has, joinedTo, classOf, degrees}
 use Rattle.flow_def.specs.Labels.{labelsOf, oneLabel}
 use Rattle.flow_def.specs.Test.{verdictAt}
 use Rattle.flow_def.specs.Shown.{adjusted}
-use Rattle.flow_def.specs.Certificate.{priced}
+use Rattle.flow_def.specs.Certificate.{inKilter}
 use Rattle.flow_def.proofs.Integers.{size-none, minus-none}
 use Rattle.flow_def.proofs.Certified.{every-at}
 use Rattle.flow_def.proofs.Sums.{sum, sum-same, sum-none}
@@ -43,7 +43,7 @@ use Rattle.foreign_def.specs.Passing.{numberLimit, placeNumber, Ours, kn
 use Rattle.foreign_def.specs.Test.{withheldOnly, shownAt, shownFlows, broughtBy, netBy, numbersFit, recordsFit, flowsFit, netsFit, totalFits, passes}
 use Rattle.foreign_def.proofs.Every.{every-all}
 use Rattle.foreign_def.proofs.Filling.{Closed}
-use Rattle.foreign_def.proofs.Stepping.{priced-says, says-priced, step-level, step-bottom, step-top}
+use Rattle.foreign_def.proofs.Stepping.{kilter-says, says-kilter, step-level, step-bottom, step-top}
 use Rattle.foreign_def.proofs.Meeting.{Meets, metered-known, filledIn, filled-at, filled-allowed, filled-certified, filled-least, filled-cost, known-few}
 use Rattle.foreign_def.proofs.Sums.{crossing-sums}
 use Rattle.foreign_def.proofs.Passing.{told-class, told-degrees, told-verdict, ours-tell, like-long, like-class, like-degrees, like-cost, like-verdict, like-joined, passes-meets}
@@ -114,6 +114,7 @@ module _ (counts : Counting) (p : Plant) (w : Within p) where
         brought-crosses s (x k) (label u)
         ∙ rw (by-label u (s .to) l (w .each k h .to-in), by-label u (s .from) l (w .each k h .from-in)))
 
+    -- Nets that are all 0: the flow is closed.
     pub nets-closed : ((v : ℕ) → v < places → net v ≡ pos 0) → Closed counts p x
     nets-closed h u l =
         let d : label u < places = omega (arith, low u l, label-low counts p (w .few-units) (inside p w) u (low u l)) in
@@ -125,6 +126,7 @@ module _ (counts : Counting) (p : Plant) (w : Within p) where
         let s = streamOf p k in
         rw (ne-eqb (label (s .to)) v (n (s .to) (w .each k h .to-in)), ne-eqb (label (s .from)) v (n (s .from) (w .each k h .from-in))))
 
+    -- A closed flow's nets are 0.
     pub closed-nets : Closed counts p x → (v : ℕ) → net v ≡ pos 0
     closed-nets c v = elim (decLe v (p .units)) [
       | yes h ↦ elim (ℕ-discrete (label v) v) [
@@ -159,6 +161,7 @@ module _ (p : Plant) (w : Within p) (sheet : SheetParts) (numbers : List ℤ) wh
         le-antisymm (c .least (filledIn p w π x passed-met) (zs-least .balance)) (zs-least .least xs (c .balance))
         ∙ filled-cost p w π x passed-met
 
+    -- A sheet that passes keeps each rule.
     pub passes-kept : Kept p sheet numbers
     passes-kept = record {
       one-each = g .one-each;
@@ -217,6 +220,7 @@ module _ (p : Plant) (w : Within p) (sheet : SheetParts) (numbers : List ℤ) wh
           (λ k h. rw (same-set (streamOf p k .to) (w .each k h .to-in), same-set (streamOf p k .from) (w .each k h .from-in)))
           ∙ g .meets .closed u l)
 
+    -- A sheet that keeps each rule passes.
     pub kept-passes : Passes p sheet numbers
     kept-passes = record {
       one-each = g .one-each;
@@ -249,7 +253,7 @@ module _ (p : Plant) (w : Within p) (sheet : SheetParts) (numbers : List ℤ) wh
     classes = λ k l. same-class (classOn sheet k) (classOf p k)
         (eqb-true (kindOf (classOn sheet k)) (kindOf (classOf p k)) (and-left (eqb (kindOf (classOn sheet k)) (kindOf (classOf p k))) _ (entry k l)));
     meets = record {
-      steps = λ k l. priced-says π (streamOf p k) (x k) (and-right (inRange 1 (streamOf p k) (x k)) _ (flow k l));
+      steps = λ k l. kilter-says π (streamOf p k) (x k) (and-right (inRange 1 (streamOf p k) (x k)) _ (flow k l));
       ranges = λ k l. and-left (inRange 1 (streamOf p k) (x k)) _ (flow k l);
       closed = nets-closed (withheldOnly p) p w x
           (λ v l. size-none _ (eqb-true _ 0 (every-at places (λ v. eqb (natAbs (netBy (labelsOf (withheldOnly p) p) (p .streams) x v)) 0) nets v l)));
@@ -295,7 +299,7 @@ module _ (p : Plant) (w : Within p) (sheet : SheetParts) (numbers : List ℤ) wh
       entry : (k : ℕ) → k < countOf p → eqb (kindOf (classOn sheet k)) (kindOf (classOf p k)) && leb (natAbs (x k)) flowShift ≡ true
       entry k l = every-at (countOf p) _ (and-left (recordsFit (countOf p) (classOn sheet) (classOf p) x) _ records) k l
 
-      flow : (k : ℕ) → k < countOf p → inRange 1 (streamOf p k) (x k) && priced π (streamOf p k) (x k) ≡ true
+      flow : (k : ℕ) → k < countOf p → inRange 1 (streamOf p k) (x k) && inKilter π (streamOf p k) (x k) ≡ true
       flow k l = every-at (countOf p) _ (and-left (flowsFit (p .streams) x numbers) _ flows) k l
 
   kept-test : Kept p sheet numbers → passes p sheet numbers ≡ true
@@ -305,7 +309,7 @@ module _ (p : Plant) (w : Within p) (sheet : SheetParts) (numbers : List ℤ) wh
       (and-both _ _ (eq-eqb _ _ (g .one-each)) (every-all (suc (p .units)) _ (λ u l. le-leb _ numberLimit (g .small u (omega arith)))))
       (and-both _ _ (eq-eqb _ _ (g .long))
       (and-both _ _ (every-all (countOf p) _ (λ k l. and-both _ _ (eq-eqb _ _ (ap kindOf (g .classes k l))) (le-leb _ flowShift (kept-small g k l))))
-      (and-both _ _ (every-all (countOf p) _ (λ k l. and-both _ _ (g .meets .ranges k l) (says-priced π (streamOf p k) (x k) (g .meets .steps k l))))
+      (and-both _ _ (every-all (countOf p) _ (λ k l. and-both _ _ (g .meets .ranges k l) (says-kilter π (streamOf p k) (x k) (g .meets .steps k l))))
       (and-both _ _ (every-all places _ (λ v l. eq-eqb _ 0 (ap natAbs (closed-nets (withheldOnly p) p w x (g .meets .closed) v))))
       (and-both _ _ (eq-eqb _ _ (g .freedom)) (and-both _ _ (eq-eqb _ _ (g .costs)) (eq-eqb _ _ (g .verdict))))))))
 

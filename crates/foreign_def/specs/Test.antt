@@ -101,13 +101,13 @@ passes p sheet numbers =
     && (flowsFit (p .streams) x numbers
     && (netsFit (labelsOf (withheldOnly p) p) (p .streams) x && totalFits p (cost (p .streams) (shownFlows p sheet)) (sheet .total)))))
 
--- Numbers by the solver's prices: each less that of the outside, 0 past the last place.
-abbrev pub priceFrom : List ℕ → ℕ → ℤ
-priceFrom ps u = pos (getD ps u 0) -ℤ pos (getD ps 0 0)
+-- Numbers by the solver's potentials: each less that of the outside, 0 past the last place.
+abbrev pub potentialFrom : List ℕ → ℕ → ℤ
+potentialFrom ps u = pos (getD ps u 0) -ℤ pos (getD ps 0 0)
 
-pub record PricedBy (n : ℕ) (ps : List ℕ) (numbers : List ℤ) : Type 0 where
+pub record NumberedBy (n : ℕ) (ps : List ℕ) (numbers : List ℤ) : Type 0 where
   pub long : length numbers ≡ places
-  pub each : (u : ℕ) → u ≤ n → placeNumber numbers u ≡ priceFrom ps u
+  pub each : (u : ℕ) → u ≤ n → placeNumber numbers u ≡ potentialFrom ps u
   pub past : (u : ℕ) → n < u → placeNumber numbers u ≡ pos 0
 
 -- The flows of a sheet's entries in an array, by classes in an array: 0 where a stream is withheld.

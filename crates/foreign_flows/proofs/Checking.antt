@@ -39,6 +39,7 @@ module _ (n : ℕ) (test : ℕ → Bool) where
   pub one-fails : (k : ℕ) (b : Bool) → k < n → b ≡ test k → b ≡ false → false ≡ every n test
   one-fails k b l e f = sym (every-off n test k l (sym e ∙ f))
 
+  -- No test fails.
   pub none-fails : (m : ℕ) → n ≤ m → ((k : ℕ) → k < m → test k ≡ true) → true ≡ every n test
   none-fails m h all = sym (every-all n test (λ k l. all k (omega arith)))
 
@@ -47,12 +48,15 @@ module _ (n : ℕ) (numbers : List ℤ) where
   abbrev small : ℕ → Bool
   small u = leb (natAbs (placeNumber numbers u)) numberLimit
 
+  -- The numbers are not one for each place.
   pub not-one-each : (length numbers ≡ n + 1 → ⊥) → false ≡ numbersFit n numbers
   not-one-each h = rw (ne-eqb (length numbers) (suc n) (λ e. h (omega arith)))
 
+  -- One number is too large.
   pub one-large : length numbers ≡ n + 1 → (u : ℕ) (b : Bool) → u < length numbers → b ≡ small u → b ≡ false → false ≡ numbersFit n numbers
   one-large h u b l e f = rw (eq-eqb (length numbers) (suc n) (omega arith)) (one-fails (suc n) small u b (omega arith) e f)
 
+  -- None is.
   pub all-small : length numbers ≡ n + 1 → (m : ℕ) → length numbers ≤ m → ((k : ℕ) → k < m → small k ≡ true) → true ≡ numbersFit n numbers
   all-small h m l all = rw (eq-eqb (length numbers) (suc n) (omega arith)) (none-fails (suc n) small m (omega arith) all)
 
@@ -61,6 +65,7 @@ module _ (n : ℕ) (numbers : List ℤ) where
     pub fit-long : length numbers ≡ suc n
     fit-long = eqb-true (length numbers) (suc n) (and-left (eqb (length numbers) (suc n)) _ e)
 
+    -- Numbers that fit are small.
     pub fit-small : (u : ℕ) → u ≤ n → natAbs (placeNumber numbers u) ≤ numberLimit
     fit-small u l = leb-true _ numberLimit (every-at (suc n) small (and-right (eqb (length numbers) (suc n)) _ e) u (omega arith))
 
@@ -69,9 +74,11 @@ module _ (x y : ℤ) (f : SFits w64 x) (g : SFits w64 y) (h : natAbs x ≤ numbe
   apart : SFits w64 (x -ℤ y)
   apart = size-fits (x -ℤ y) (omega (arith, minus-size x y))
 
+  -- The difference fits.
   pub difference-fits : SFits w64 (toZ w64 (ofZ w64 x) -ℤ toZ w64 (ofZ w64 y))
   difference-fits = coded-fits x y f g apart
 
+  -- It is the difference, read back from its bits.
   pub difference-is : toZ w64 (ofZ w64 (toZ w64 (ofZ w64 x) -ℤ toZ w64 (ofZ w64 y))) ≡ x -ℤ y
   difference-is = coded-is x y f g apart
 
@@ -80,6 +87,7 @@ module _ (a b : ℕ) (t : Bool) where
   pub other-kind : (a ≡ b → ⊥) → false ≡ (eqb a b && t)
   other-kind n = rw (ne-eqb a b n)
 
+  -- The kinds are the same: what is left to test decides.
   pub same-kind : a ≡ b → t ≡ (eqb a b && t)
   same-kind e = rw (eq-eqb a b e)
 
@@ -87,6 +95,7 @@ module _ (a b : ℕ) (t : Bool) where
 pub shown-as : (c d : Class) (x y : ℤ) → c ≡ d → known d ≡ true → x ≡ y → x ≡ pick (known c) y (pos 0)
 shown-as c d x y e k q = q ∙ rw (e, k)
 
+-- A flow that is not known is shown as 0.
 pub shown-not : (c d : Class) (y : ℤ) → c ≡ d → known d ≡ false → pos 0 ≡ pick (known c) y (pos 0)
 shown-not c d y e k = rw (e, k)
 
@@ -104,13 +113,16 @@ module _ (p : Arrays.Plant) (a : Accepted p) (flows numbers : List ℤ) where
   abbrev test : ℕ → Bool
   test k = flowFits (streamAt (plantOf p .streams) k) (amountAt flows k) (difference numbers (streamAt (plantOf p .streams) k))
 
+  -- The test of one stream, by the array.
   pub test-at : (k : ℕ) → k < p .count
       → let s = getD (p .streams) k noStream in flowFits s (amountAt flows k) (difference numbers s) ≡ test k
   test-at k l = rw (listed-at p a k l)
 
+  -- One flow does not fit.
   pub flow-fails : (k : ℕ) (b : Bool) → k < p .count → b ≡ test k → b ≡ false → false ≡ flowsFit (plantOf p .streams) (amountAt flows) numbers
   flow-fails k b l e f = one-fails (length (plantOf p .streams)) test k b (rw (all-listed p a) l) e f
 
+  -- All flows fit.
   pub no-flow-fails : (m : ℕ) → p .count ≤ m → ((k : ℕ) → k < m → test k ≡ true) → true ≡ flowsFit (plantOf p .streams) (amountAt flows) numbers
   no-flow-fails m h all = none-fails (length (plantOf p .streams)) test m (rw (all-listed p a) h) all
 

@@ -2,7 +2,7 @@
 use flow_def::Class;
 use foreign_def::NUMBER_LIMIT;
 use foreign_stream::flow_fits;
-use num_text::size_of;
+use num_bytes::size_of;
 use plant_def::Plant;
 use plant_def::Stream;
 use plant_def::limits::MAX_STREAMS;

@@ -1,3 +1,3 @@
--- Laws of numbers by prices. Laws of the call over numbers of the places.
-pub mod Pricing
+-- Laws of numbers by potentials. Laws of the call over numbers of the places.
 pub mod Numbering
+pub mod Potentials

@@ -13,16 +13,18 @@ use Rattle.plant_def.specs.Plants.{Plant}
 use Rattle.plant_def.specs.Files.{Got, bad, got, readPlant}
 use Rattle.plant_def.specs.Says.{plantOf, readOf}
 use Rattle.plant_def.proofs.Arrayed.{read-held}
-use Rattle.sheet_def.proofs.Promise.{read-bad, found}
+use Rattle.plant_def.proofs.Found.{read-bad, found}
 use Rattle.sheet_def.proofs.Demands.{demands}
 use Rattle.foreign_def.specs.declared.PlaceNumbers.{PlaceNumbers}
 use Rattle.foreign_def.specs.Numbers.{noNumbers, numbersIn, NumbersOf, NumbersWith, NumbersSay, NumbersLent}
 use Rattle.foreign_def.proofs.Promise.{read-within}
 
 module _ (file : List ℕ) (y : Read) (e : y ≡ readOf (readPlant file)) (r : PlaceNumbers) where
+  -- A file that is not read.
   pub says-unread : (y .number ≡ 0 → ⊥) → r ≡ noNumbers (y .number) → NumbersSay file r
   says-unread n q = subst (λ (g : Got). NumbersWith g r) (sym (read-bad (readPlant file) y e n)) q
 
+  -- A file that is read: the answer of its plant.
   pub says-numbers : y .number ≡ 0 → NumbersOf (plantOf (y .plant)) r → NumbersSay file r
   says-numbers n h =
       let f = found file y e n in
@@ -47,6 +49,7 @@ module _ (file : List ℕ) (o : List ℤ) where
   pub lends-nothing : length o < places → NumbersLent file o o 1 0
   lends-nothing h = record { short = λ l. (refl, refl, refl); told = λ l. absurd (omega arith) }
 
+  -- A slice that is long enough gets the numbers at its front.
   pub lends-numbers : places ≤ length o → (r : PlaceNumbers) → NumbersSay file r → (o′ : List ℤ) → o′ ≡ over (numbersIn r) o
       → NumbersLent file o o′ (r .number) (r .count)
   lends-numbers h r n o′ e = record { short = λ l. absurd (omega arith); told = λ l. (r, n, refl, refl, e) }

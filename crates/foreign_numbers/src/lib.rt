@@ -10,11 +10,11 @@ ghost use Prim.Native.Nat.{_≤_};
 ghost use Rattle.plant_def.specs.Limits.{maxUnits, places};
 ghost use Rattle.plant_def.specs.Within.{Accepted};
 ghost use Rattle.plant_def.specs.Says.{plantOf};
-ghost use Rattle.solve_def.specs.Sizes.{priceShift};
-ghost use Rattle.solve_def.specs.SearchNeeds.{Prices};
+ghost use Rattle.solve_def.specs.Sizes.{potentialShift};
+ghost use Rattle.solve_def.specs.SearchNeeds.{Potentials};
 ghost use Rattle.solve_def.specs.Promise.{Right};
 ghost use Rattle.foreign_def.specs.Numbers.{noNumbers, NumbersOf, NumbersSay, NumbersLent};
-ghost use Rattle.foreign_def.specs.Test.{PricedBy};
+ghost use Rattle.foreign_def.specs.Test.{NumberedBy};
 ghost use lib.ListN.{length, take};
 ghost use Rattle.num_bytes.specs.Bytes.{over};
 
@@ -29,24 +29,24 @@ pub fn no_numbers(number: u8) -> PlaceNumbers
     }
 }
 
-// A price less that of the outside.
-fn price_from(price: u64, outside: u64) -> i64
-    requires { ⌜ (price ≤ priceShift) × (outside ≤ priceShift) ⌝ }
-    ensures { λ r. ⌜ r ≡ pos price -ℤ pos outside ⌝ }
+// A potential less that of the outside.
+fn potential_from(potential: u64, outside: u64) -> i64
+    requires { ⌜ (potential ≤ potentialShift) × (outside ≤ potentialShift) ⌝ }
+    ensures { λ r. ⌜ r ≡ pos potential -ℤ pos outside ⌝ }
 {
-    price as i64 - outside as i64
+    potential as i64 - outside as i64
 }
 
-// The prices of the places 0 to n, each less that of the outside; 0 past them.
-fn prices_from(units: u8, prices: [u64; PLACES]) -> [i64; PLACES]
-    requires { ⌜ (units ≤ maxUnits) × Prices prices ⌝ }
-    ensures { λ r. ⌜ PricedBy units prices r ⌝ }
+// The potentials of the places 0 to n, each less that of the outside; 0 past them.
+fn potentials_from(units: u8, potentials: [u64; PLACES]) -> [i64; PLACES]
+    requires { ⌜ (units ≤ maxUnits) × Potentials potentials ⌝ }
+    ensures { λ r. ⌜ NumberedBy units potentials r ⌝ }
 {
     let n = units as usize;
     let mut numbers = [0i64; PLACES];
     let mut u: usize = 0;
     while u <= n {
-        let z = price_from(prices[u], prices[0]);
+        let z = potential_from(potentials[u], potentials[0]);
         numbers[u] = z;
         u += 1;
     }
@@ -61,8 +61,8 @@ pub fn numbers_by(p: Plant, solved: Solved) -> PlaceNumbers
     if !solved.found {
         return no_numbers(19);
     }
-    let prices = solved.prices;
-    let numbers = prices_from(p.units, prices);
+    let potentials = solved.potentials;
+    let numbers = potentials_from(p.units, potentials);
     PlaceNumbers {
         number: 0,
         count: p.units + 1,
@@ -76,7 +76,7 @@ pub struct Lent {
     pub count: usize,
 }
 
-// A number for each place: the prices by which the solver's flow is seen to have least cost, each less that of the outside; or a
+// A number for each place: the potentials by which the solver's flow is seen to have least cost, each less that of the outside; or a
 // refusal and zeros.
 pub fn place_numbers(file: &[u8]) -> PlaceNumbers
     ensures { λ r. ⌜ NumbersSay (now (file .entry)) r ⌝ }

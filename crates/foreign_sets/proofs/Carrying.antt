@@ -64,6 +64,7 @@ module _ (nets : List ℤ) (t f : ℕ) (x : ℤ) (long : length nets ≡ places)
   whole : SFits w64 (getD nets t (pos 0) +ℤ x)
   whole = size-fits (getD nets t (pos 0) +ℤ x) (omega (arith, plus-size (getD nets t (pos 0)) x, room t lt))
 
+  -- The sum at the far end fits.
   pub add-fits : SFits w64 (toZ w64 (ofZ w64 (getD nets t (pos 0))) +ℤ toZ w64 (ofZ w64 x))
   add-fits = rw (toZ-ofZ w64 (getD nets t (pos 0)) (element t lt), toZ-ofZ w64 x fx) whole
 
@@ -91,6 +92,7 @@ module _ (nets : List ℤ) (t f : ℕ) (x : ℤ) (long : length nets ≡ places)
   element-2 : SFits w64 (getD once f (pos 0))
   element-2 = size-fits (getD once f (pos 0)) (omega (arith, once-size f lf, room f lf))
 
+  -- The difference at the near end fits.
   pub sub-fits : SFits w64 (toZ w64 (ofZ w64 (getD once f (pos 0))) -ℤ toZ w64 (ofZ w64 x))
   sub-fits = coded-fits (getD once f (pos 0)) x element-2 fx again
 
@@ -100,6 +102,7 @@ module _ (nets : List ℤ) (t f : ℕ) (x : ℤ) (long : length nets ≡ places)
   once-long : length once ≡ places
   once-long = length-set nets t _ ∙ long
 
+  -- What comes of both.
   pub carried : Moved t f x nets (set once f (toZ w64 (ofZ w64 (toZ w64 (ofZ w64 (getD once f (pos 0))) -ℤ toZ w64 (ofZ w64 x)))))
   carried = record {
     long = length-set once f _ ∙ length-set nets t _;
@@ -118,13 +121,16 @@ swap x y = rw (← canon x, ← canon y) (simp Z·diff (omega arith))
 
 -- The nets by the first i streams.
 module _ (p : Arrays.Plant) (a : Accepted p) (labels : List ℕ) (flows : List ℤ) where
+  -- What a stream brings to a label, less what it takes from it.
   abbrev pub broughtAt : ℕ → ℕ → ℤ
   broughtAt v k = broughtBy labels v (streamAt (plantOf p .streams) k) (amountAt flows k)
 
+  -- The nets of the first i streams, label by label.
   pub record Tallied (nets : List ℤ) (i : ℕ) : Type 0 where
     pub long : length nets ≡ places
     pub each : (v : ℕ) → v < places → getD nets v (pos 0) ≡ sum i (broughtAt v)
 
+  -- None yet.
   pub tallied-none : (nets : List ℤ) → length nets ≡ places → ((v : ℕ) → v < places → getD nets v (pos 0) ≡ pos 0) → Tallied nets 0
   tallied-none nets l h = record { long = l; each = h }
 
@@ -144,6 +150,7 @@ module _ (p : Arrays.Plant) (a : Accepted p) (labels : List ℕ) (flows : List �
           small k b,
         )
 
+    -- There is room for one more.
     pub roomy : Roomy (amountAt flows i) nets
     roomy v b =
         rw (t .each v b)
@@ -157,6 +164,7 @@ module _ (p : Arrays.Plant) (a : Accepted p) (labels : List ℕ) (flows : List �
         under : i ≤ maxStreams
         under = omega (arith, low)
 
+    -- One stream more.
     pub tallied-more : (nets′ : List ℤ) (x : ℤ) → x ≡ amountAt flows i → let s = getD (p .streams) i noStream in
         Moved (getD labels (s .to) 0) (getD labels (s .from) 0) x nets nets′ → Tallied nets′ (i + 1)
     tallied-more nets′ x e m = record {
@@ -167,6 +175,7 @@ module _ (p : Arrays.Plant) (a : Accepted p) (labels : List ℕ) (flows : List �
           ∙ swap (sum i (broughtAt v)) (broughtAt v i));
     }
 
+  -- All streams.
   pub tallied-all : (nets : List ℤ) (i : ℕ) → i ≡ p .count → Tallied nets i → Nets labels (plantOf p .streams) (amountAt flows) nets
   tallied-all nets i e t v b = t .each v b ∙ ap (λ (n : ℕ). sum n (broughtAt v)) (e ∙ sym (all-listed p a))
 
@@ -181,6 +190,7 @@ withheld-at p a classes e k l =
 pub no-bits : (z : ℤ) → SFits w64 z → ofZ w64 z ≡ 0 → z ≡ pos 0
 no-bits z f e = sym (toZ-ofZ w64 z f) ∙ ap (toZ w64) e
 
+-- The bits of 0.
 pub bits-none : (z : ℤ) → z ≡ pos 0 → ofZ w64 z ≡ 0
 bits-none z e = ap (ofZ w64) e
 
@@ -194,12 +204,14 @@ module _ (ss : List Stream) (x : ℕ → ℤ) (labels given : List ℕ) (e : lab
   at : (v : ℕ) → v < places → getD nets v (pos 0) ≡ netBy given ss x v
   at v l = h v l ∙ ap (λ (ls : List ℕ). netBy ls ss x v) e
 
+  -- One net is not 0.
   pub net-off : (v : ℕ) → v < places → (getD nets v (pos 0) ≡ pos 0 → ⊥) → false ≡ netsFit given ss x
   unfolding netsFit
   net-off v l n =
       sym (every-off places (λ v. eqb (natAbs (netBy given ss x v)) 0) v l
       (ne-eqb (natAbs (netBy given ss x v)) 0 (λ q. n (at v l ∙ size-none (netBy given ss x v) q))))
 
+  -- All nets are 0.
   pub nets-none : (m : ℕ) → places ≤ m → ((v : ℕ) → v < m → getD nets v (pos 0) ≡ pos 0) → true ≡ netsFit given ss x
   unfolding netsFit
   nets-none m b all = sym (every-all places (λ v. eqb (natAbs (netBy given ss x v)) 0) (λ v l. eq-eqb (natAbs (netBy given ss x v)) 0 (ap natAbs (sym (at v l) ∙ all v (omega arith)))))

@@ -4,22 +4,15 @@
 use plant_def::Plant;
 use sheet_lent::balance_lent;
 ghost use mathlib.Core.Path.{_≡_};
-ghost use Prim.Native.Nat.{_<_, _^_};
-ghost use Rattle.sheet_lent.specs.Lent.{LentSays};
-ghost use Rattle.plant_def.specs.Limits.{places};
-ghost use Rattle.plant_def.specs.Says.{WriteSays};
 ghost use Rattle.transmitter_def.specs.Says.{TranslateSays};
 ghost use Rattle.ranged_def.specs.Moves.{ToSays, FromSays};
-ghost use Rattle.purchase_def.specs.Lent.{BuyHandsOver};
-ghost use Rattle.plant_parts.specs.Parts.{handed};
-ghost use Rattle.sheet_parts.specs.Kept.{HandsOver};
-ghost use Rattle.num_lent.specs.Marks.{marksIn};
 ghost use Rattle.survey_answers.specs.Lent.{LendSays};
 ghost use Rattle.foreign_def.specs.Says.{CheckSays};
 ghost use Rattle.foreign_def.specs.Numbers.{NumbersLent};
-ghost use Rattle.visit_call.specs.Lent.{VisitsHandOver};
-ghost use Rattle.charge_call.specs.Lent.{ChargesHandOver};
+ghost use Rattle.visit_call.specs.Lent.{VisitsLent};
+ghost use Rattle.charge_call.specs.Lent.{ChargesLent};
 ghost use Rattle.version.specs.Version.{version};
+ghost use Rattle.linked.specs.Calls.{SheetCall, WriteCall, ReadCall, BuyCall};
 
 // The version as one number: 10,000 is 1.0.0.
 #[no_mangle]
@@ -41,7 +34,7 @@ pub extern "C" fn wengeludo_balance_plant(
     written: &mut usize,
     marked: &mut u64,
 ) -> u8
-    ensures { λ r. ⌜ LentSays (now (file .entry)) office (now (lasts .entry)) (now (sheet .entry)) (now (sheet .exit)) (record { number = r; written = now (written .exit); lasts = now (lasts .exit); marked = marksIn (now (marked .exit)) }) × (now (marked .exit) < 2 ^ places) ⌝ }
+    ensures { λ r. ⌜ SheetCall file office lasts sheet written marked r ⌝ }
 {
     let drawn = balance_lent(file, office, lasts, sheet);
     *written = drawn.written;
@@ -67,7 +60,7 @@ pub extern "C" fn wengeludo_write_plant(
     file: &mut [u8],
     written: &mut usize,
 ) -> u8
-    ensures { λ r. ⌜ WriteSays (handed units count (record { from = now (from .entry); to = now (to .entry); metered = now (metered .entry); weight = now (weight .entry); reading = now (reading .entry); ranged = now (ranged .entry); low = now (low .entry); high = now (high .entry) })) (now (file .entry)) (now (file .exit)) (record { number = r; written = now (written .exit) }) ⌝ }
+    ensures { λ r. ⌜ WriteCall units count from to metered weight reading ranged low high file written r ⌝ }
 {
     let n = plant_parts::reached(
         plant_parts::meters_reach(from, to, metered, weight, reading),
@@ -101,7 +94,7 @@ pub extern "C" fn wengeludo_read_sheet(
     degrees: &mut u8,
     verdict: &mut u8,
 ) -> u8
-    ensures { λ r. ⌜ HandsOver (now (bytes .entry)) (now (kinds .entry)) (now (kinds .exit)) (now (flows .entry)) (now (flows .exit)) r (now (count .exit)) (now (kind .exit)) (now (office .exit)) (now (sheet .exit)) (now (cost .exit)) (now (degrees .exit)) (now (verdict .exit)) ⌝ }
+    ensures { λ r. ⌜ ReadCall bytes kinds flows count kind office sheet cost degrees verdict r ⌝ }
 {
     let read = sheet_parts::read_lent(bytes, kinds.len(), flows.len());
     let listed = read.count as usize;
@@ -166,7 +159,7 @@ pub extern "C" fn wengeludo_meters_to_buy(
     count: &mut usize,
     price: &mut u32,
 ) -> u8
-    ensures { λ r. ⌜ BuyHandsOver (now (file .entry)) (now (prices .entry)) (now (streams .entry)) (now (streams .exit)) (record { number = r; count = now (count .exit); price = now (price .exit) }) ⌝ }
+    ensures { λ r. ⌜ BuyCall file prices streams count price r ⌝ }
 {
     let handed = purchase_call::lent::buy_into(file, prices, streams);
     *count = handed.count;
@@ -196,7 +189,7 @@ pub extern "C" fn wengeludo_visits(
     costs: &mut [u64],
     count: &mut usize,
 ) -> u8
-    ensures { λ r. ⌜ VisitsHandOver (now (file .entry)) (now (streams .entry)) (now (streams .exit)) (now (costs .entry)) (now (costs .exit)) r (now (count .exit)) ⌝ }
+    ensures { λ r. ⌜ VisitsLent (now (file .entry)) streams costs r (now (count .exit)) ⌝ }
 {
     let handed = visit_call::visits_into(file, streams, costs);
     *count = handed.count;
@@ -215,7 +208,7 @@ pub extern "C" fn wengeludo_charges(
     count: &mut usize,
     bill: &mut i64,
 ) -> u8
-    ensures { λ r. ⌜ ChargesHandOver (now (file .entry)) (now (rates .entry)) (now (streams .entry)) (now (streams .exit)) (now (charges .entry)) (now (charges .exit)) r (now (count .exit)) (now (bill .exit)) ⌝ }
+    ensures { λ r. ⌜ ChargesLent (now (file .entry)) (now (rates .entry)) streams charges r (now (count .exit)) (now (bill .exit)) ⌝ }
 {
     let handed = charge_call::charges_into(file, rates, streams, charges);
     let total = handed.bill;

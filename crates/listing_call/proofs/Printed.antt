@@ -79,6 +79,7 @@ drawn file b b′ o o′ q s r says n read h list =
     let e : plantParts 0 p xs 1 ≡ s = same-parts (plantParts 0 p xs 1) s (sym (back .read) ∙ read) in
     subst (λ (t : SheetParts). Put (sheetText t) o o′ r) e (listed file o o′ r h list p (back .listed) xs (back .cheapest))
 
+-- What is printed is the listing of the sheet that a call draws.
 pub printed : Printed
 printed = record {
   short = short;

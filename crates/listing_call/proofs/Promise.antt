@@ -16,10 +16,11 @@ use Rattle.plant_def.specs.Says.{plantOf, readOf}
 use Rattle.plant_def.specs.Within.{Within}
 use Rattle.plant_def.proofs.Limited.{within}
 use Rattle.plant_def.proofs.Accepted.{accepted}
+use Rattle.plant_def.proofs.Found.{read-bad, found, plant-count}
 use Rattle.flow_def.specs.Overfull.{Overfull}
 use Rattle.sheet_def.specs.declared.Balance.{Balance}
 use Rattle.sheet_def.specs.Balances.{balanceOf, BalanceSays}
-use Rattle.sheet_def.proofs.Promise.{read-bad, found, plant-count, plant-balance, plant-overfull}
+use Rattle.sheet_def.proofs.Promise.{plant-balance, plant-overfull}
 use Rattle.sheet_def.proofs.Unique.{one-balance, never-both}
 use Rattle.listing_lines.specs.Listing.{listingOf, refusalText}
 use Rattle.listing_lines.specs.Room.{leastText}
@@ -31,6 +32,7 @@ module _ (file o : List ℕ) where
       → ListSays file o o′ r
   by-length b t o′ r w = subst (λ (b : Bool). pickT b ((r ≡ 0) × (o′ ≡ o)) (ListWith (readPlant file) o o′ r)) (sym t) w
 
+  -- A slice that is too short: nothing.
   pub too-short : length o < leastText → ListSays file o o 0
   too-short h = by-length true (lt-ltb (length o) leastText h) o 0 (refl, refl)
 
@@ -38,15 +40,18 @@ module _ (file o : List ℕ) where
     by-file : (g : Got) → readPlant file ≡ g → ListWith g o o′ r → ListSays file o o′ r
     by-file g e w = by-length false (le-ltb (length o) leastText h) o′ r (subst (λ (g : Got). ListWith g o o′ r) (sym e) w)
 
+    -- A file that is refused: its number.
     pub file-refused : (y : Read) → y ≡ readOf (readPlant file) → (y .number ≡ 0 → ⊥) → Put (refusalText (y .number)) o o′ r → ListSays file o o′ r
     file-refused y e n p = by-file (bad (y .number)) (read-bad (readPlant file) y e n) p
 
+    -- A plant with a balance: its listing.
     pub plant-listed : (y : Read) (b : Balance) → y ≡ readOf (readPlant file) → y .number ≡ 0 → BalanceSays (plantOf (y .plant)) b
         → Put (listingOf (y .plant .count) 1 b) o o′ r → ListSays file o o′ r
     plant-listed y b e n t p =
         let s = plant-balance file y e n b t in
         by-file (got (found file y e n .0)) (found file y e n .1) (inl (s .0, s .1, subst (λ (l : List ℕ). Put l o o′ r) (λ i. listingOf (plant-count file y e n i) 1 (s .2 i)) p))
 
+    -- A plant without one: 19.
     pub plant-overfilled : (y : Read) (ms : List Bool) → y ≡ readOf (readPlant file) → y .number ≡ 0 → Overfull (plantOf (y .plant)) ms
         → Put (refusalText 19) o o′ r → ListSays file o o′ r
     plant-overfilled y ms e n t p = by-file (got (found file y e n .0)) (found file y e n .1) (inr (ms, plant-overfull file y e n ms t, p))
@@ -68,5 +73,6 @@ text-same : (b : Bool) (file o o₁ o₂ : List ℕ) (r₁ r₂ : ℕ) → pickT
 text-same true file o o₁ o₂ r₁ r₂ a b = (a .0 ∙ sym (b .0), a .1 ∙ sym (b .1))
 text-same false file o o₁ o₂ r₁ r₂ a b = with-one o o₁ o₂ r₁ r₂ (readPlant file) (λ p e. within p (accepted file p e .0)) a b
 
+-- Two answers to one file are the same text.
 pub one-text : One-text
 one-text file o o₁ o₂ r₁ r₂ a b = text-same (ltb (length o) leastText) file o o₁ o₂ r₁ r₂ a b

@@ -1,4 +1,4 @@
--- The listing of the definition's plant, proved by computing: prices certify the flow.
+-- The listing of the definition's plant, proved by computing: potentials certify the flow.
 use mathlib.Core.Path.{refl}
 use mathlib.Core.List.{List, [], _∷_}
 use mathlib.Core.Bool.{true, false}
@@ -24,6 +24,7 @@ plant =
 flow : List ℤ
 flow = pos 99 ∷ pos 99 ∷ pos 0 ∷ pos 99 ∷ []
 
+-- The listing of the definition's plant.
 pub sample : Sample
 unfolding plant flow balanceOf decimal
 sample = (plant, flow, refl, certified-cheapest plant flow (pos 0 ∷ negsuc 19 ∷ negsuc 19 ∷ []) refl, refl)

@@ -34,6 +34,7 @@ pub record Lined (es : List Entry) (k : ℕ) (o o₁ : List ℕ) (at i : ℕ) : 
   pub so-far : Added (linesFrom 1 (take i es)) 0 o o₁ at
   pub bound : at ≤ lineSize * i
 
+-- Before the first line.
 pub no-lines : (es : List Entry) (k : ℕ) (o : List ℕ) → k ≤ maxStreams → length es ≡ maxStreams → maxStreams * lineSize ≤ length o → Lined es k o o 0 0
 no-lines es k o f l w = record { few = f; long = l; wide = w; within = omega arith; so-far = nothing 0 o (omega arith); bound = omega arith }
 
@@ -41,9 +42,11 @@ module _ {es : List Entry} {k : ℕ} {o o₁ : List ℕ} {at i : ℕ} (w : Lined
   small : length (lineOf (i + 1) (getD es i d)) ≤ lineSize
   small = let a = w .few in line-most (i + 1) (getD es i d .class) (getD es i d .flow) (omega arith) f
 
+  -- There is room for one more line.
   pub line-room : at + length (lineOf (i + 1) (getD es i d)) ≤ length o₁
   line-room = let a = w .few in let b = w .bound in let c = w .wide in omega (arith, small, kept-length (w .so-far))
 
+  -- One more line.
   pub one-line : {o₂ : List ℕ} {a : ℕ} → Added (lineOf (i + 1) (getD es i d)) at o₁ o₂ a → Lined es k o o₂ a (i + 1)
   one-line {o₂} {a} p =
       let l = w .long in
@@ -60,8 +63,10 @@ module _ {es : List Entry} {k : ℕ} {o o₁ : List ℕ} {at i : ℕ} (w : Lined
         bound = omega (arith, small, p .place);
       }
 
+-- Behind the last line.
 pub all-lines : {es : List Entry} {k : ℕ} {o o₁ : List ℕ} {at i : ℕ} → Lined es k o o₁ at i → k ≤ i → Added (linesFrom 1 (take k es)) 0 o o₁ at
 all-lines {es} {k} {o} {o₁} {at} {i} w h = let a = w .within in let e : k ≡ i = omega arith in rw e (w .so-far)
 
+-- No more than so many lines take.
 pub lines-most : {es : List Entry} {k : ℕ} {o o₁ : List ℕ} {at i : ℕ} → Lined es k o o₁ at i → at ≤ maxStreams * lineSize
 lines-most w = let a = w .within in let b = w .bound in let c = w .few in omega arith

@@ -39,6 +39,7 @@ flow-fits : (x : ℤ) → SFits w64 x → natAbs x < 10 ^ 19
 flow-fits (pos n) f = let b = f .sfits in omega arith
 flow-fits (negsuc n) f = let b = f .sfits in omega arith
 
+-- A line is no longer than the longest.
 pub line-most : (n : ℕ) (c : Class) (x : ℤ) → n < 100 → SFits w64 x → length (field n ++ entryText c x ++ text "\n") ≤ lineSize
 line-most n c x h f = omega (arith, line-size n c x, field-size n, decimal-most 1 n h, entry-most c x (flow-fits x f))
 
@@ -50,12 +51,15 @@ entry-as {c} {d} {x} {y} e f = ap (λ (k : Class). entryText k x) (sym e) ∙ ap
 pub word-pass : (v : ℕ) → v ≡ 0 → text "pass" ≡ wordOf v
 word-pass v e = simp (eq-eqb v 0 e)
 
+-- The word of verdict 1.
 pub word-fail : (v : ℕ) → (v ≡ 0 → ⊥) → v ≡ 1 → text "fail" ≡ wordOf v
 word-fail v n e = simp (ne-eqb v 0 n, eq-eqb v 1 e)
 
+-- The word of verdict 3.
 pub word-close : (v : ℕ) → (v ≡ 0 → ⊥) → (v ≡ 1 → ⊥) → v ≡ 3 → text "close" ≡ wordOf v
 word-close v n m e = simp (ne-eqb v 0 n, ne-eqb v 1 m, eq-eqb v 3 e)
 
+-- The word of every other verdict.
 pub word-none : (v : ℕ) → (v ≡ 0 → ⊥) → (v ≡ 1 → ⊥) → (v ≡ 3 → ⊥) → text "none" ≡ wordOf v
 word-none v n m o = simp (ne-eqb v 0 n, ne-eqb v 1 m, ne-eqb v 3 o)
 
@@ -68,6 +72,7 @@ word-most v = go (eqb v 0) (eqb v 1) (eqb v 3)
     go false false true = omega arith
     go false false false = omega arith
 
+-- How long the line of the total is.
 pub total-size : (n c d v : ℕ) → length (totalLine n c d v) ≡ 6 + length (field n) + length (field c) + length (field d) + length (wordOf v) + 1
 total-size n c d v =
     let a = text "total " in
@@ -80,6 +85,7 @@ total-size n c d v =
       length-append a (field n),
     )
 
+-- No longer than the longest.
 pub total-most : (n c d v : ℕ) → n < 10 ^ 10 → c < 10 ^ 20 → d < 10 ^ 3 → length (totalLine n c d v) ≤ totalSize
 total-most n c d v h k l =
     omega (arith, total-size n c d v, word-most v, field-size n, field-size c, field-size d, decimal-most 9 n h, decimal-most 19 c k, decimal-most 2 d l)
@@ -90,6 +96,7 @@ refusal-size f =
     let a = text "refused " in
     omega (arith, length-append (a ++ decimal f) (text "\n"), length-append a (decimal f))
 
+-- Nor is the text of a refusal.
 pub refusal-most : (f : ℕ) → f < 10 ^ 3 → length (refusalText f) ≤ refusalSize
 refusal-most f h = omega (arith, refusal-size f, decimal-most 2 f h)
 

@@ -1,4 +1,4 @@
--- Laws of prices within bounds, and of prices by label.
+-- Laws of potentials within bounds, and of potentials by label.
 use mathlib.Core.Path.{_≡_, sym, _∙_, ap}
 use mathlib.Core.List.{List}
 use Prim.Native.Nat.{ℕ, _+_, _≤_, _<_}
@@ -10,7 +10,7 @@ use Rattle.newton_laplacian.specs.Ends.{Labels}
 use Rattle.newton_descend.specs.Levels.{Banded, atLabels, Level}
 
 module _ {top band : ℕ} where
-  -- All prices top.
+  -- All potentials top.
   pub bounded-all : Banded top band (replicate places top)
   bounded-all = record {
     long = length-replicate places top;
@@ -26,7 +26,7 @@ module _ {top band : ℕ} where
     high = set-each (λ (y : ℕ). y ≤ top) 0 ps u x places (rw (b .long) l) (h .0) (b .high);
   }
 
-  -- The prices of labels: within the same bounds, and one for each label.
+  -- The potentials of labels: within the same bounds, and one for each label.
   pub level-labels : {ps ls : List ℕ} → Banded top band ps → Labels ls → Level ls top band (atLabels ps ls)
   level-labels {ps} {ls} b w = record {
     bounded = record {
@@ -40,7 +40,7 @@ module _ {top band : ℕ} where
       at : (u : ℕ) → u < places → getD (atLabels ps ls) u 0 ≡ getD ps (getD ls u 0) 0
       at u l = map-at (λ k. getD ps k 0) ls u 0 0 (omega (arith, w .long))
 
--- A loop has written the price of each place's label.
+-- A loop has written the potential of each place's label.
 pub labels-all : (ps ls : List ℕ) {before now : List ℕ} → Labels ls → Written 0 places (λ k x. getD ps (getD ls k 0) 0) before now places → now ≡ atLabels ps ls
 labels-all ps ls w h =
     written-all h (atLabels ps ls) (length-map ls _ ∙ w .long)

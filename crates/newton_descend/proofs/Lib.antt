@@ -1,3 +1,3 @@
--- Laws of the prices made whole. Laws of the nets.
+-- Laws of the potentials made whole. Laws of the nets.
 pub mod Levels
 pub mod Steps

@@ -1,21 +1,21 @@
--- Prices of places, one for each label, within bounds.
+-- Potentials of places, one for each label, within bounds.
 use mathlib.Core.Path.{_≡_}
 use mathlib.Core.List.{List, map}
 use Prim.Native.Nat.{ℕ, _+_, _≤_, _<_}
 use lib.ListN.{length, getD}
 use Rattle.plant_def.specs.Limits.{places}
 
--- Prices in a band, from top − band to top.
+-- Potentials in a band, from top − band to top.
 pub record Banded (top band : ℕ) (ps : List ℕ) : Type 0 where
   pub long : length ps ≡ places
   pub low : (u : ℕ) → u < places → top ≤ getD ps u 0 + band
   pub high : (u : ℕ) → u < places → getD ps u 0 ≤ top
 
--- The price of each place's label.
+-- The potential of each place's label.
 abbrev pub atLabels : List ℕ → List ℕ → List ℕ
 atLabels ps ls = map (λ l. getD ps l 0) ls
 
--- Such prices, and places of one label have one price.
+-- Such potentials, and places of one label have one potential.
 pub record Level (ls : List ℕ) (top band : ℕ) (ps : List ℕ) : Type 0 where
   pub bounded : Banded top band ps
   pub level : (u v : ℕ) → u < places → v < places → getD ls u 0 ≡ getD ls v 0 → getD ps u 0 ≡ getD ps v 0

@@ -1,4 +1,4 @@
-// Newton's method on the dual of the real-number problem: prices whose clamped amounts balance. What they cost is convex and its slope
+// Newton's method on the dual of the real-number problem: potentials whose clamped amounts balance. What they cost is convex and its slope
 // along a direction is the sum of nets times changes, which rises; so a step is as long as the slope is not above 0.
 use crate::nets::greatest_net;
 use crate::nets::moved;
@@ -34,13 +34,13 @@ fn slope(
     ends: &[u8; ENDS],
     meters: &[f64; METERS],
     count: usize,
-    prices: &[f64; PLACES],
+    potentials: &[f64; PLACES],
     way: &[f64; PLACES],
     t: f64,
 ) -> f64
-    requires { ⌜ Ends (now ends) × (length (now meters) ≡ meterCells) × (count ≤ maxStreams) × (length (now prices) ≡ places) × (length (now way) ≡ places) ⌝ }
+    requires { ⌜ Ends (now ends) × (length (now meters) ≡ meterCells) × (count ≤ maxStreams) × (length (now potentials) ≡ places) × (length (now way) ≡ places) ⌝ }
 {
-    let there = moved(prices, way, t);
+    let there = moved(potentials, way, t);
     let nets = nets_at(ends, meters, count, &there);
     product(&nets, way)
 }
@@ -76,13 +76,13 @@ fn step_length(
     ends: &[u8; ENDS],
     meters: &[f64; METERS],
     count: usize,
-    prices: &[f64; PLACES],
+    potentials: &[f64; PLACES],
     way: &[f64; PLACES],
     first: f64,
 ) -> f64
-    requires { ⌜ Ends (now ends) × (length (now meters) ≡ meterCells) × (count ≤ maxStreams) × (length (now prices) ≡ places) × (length (now way) ≡ places) ⌝ }
+    requires { ⌜ Ends (now ends) × (length (now meters) ≡ meterCells) × (count ≤ maxStreams) × (length (now potentials) ≡ places) × (length (now way) ≡ places) ⌝ }
 {
-    let whole = slope(ends, meters, count, prices, way, 1.0);
+    let whole = slope(ends, meters, count, potentials, way, 1.0);
     if !(whole > 0.0) {
         return 1.0;
     }
@@ -95,7 +95,7 @@ fn step_length(
     let mut trial: usize = 0;
     while trial < TRIALS {
         let t = between(b, trial);
-        b = narrowed(b, t, slope(ends, meters, count, prices, way, t));
+        b = narrowed(b, t, slope(ends, meters, count, potentials, way, t));
         if b.falling > 0.1 * first {
             return b.short;
         }
@@ -104,7 +104,7 @@ fn step_length(
     b.short
 }
 
-// Real prices of n places, one for each label: at first without ranges, then, where some stream has one, step by step with them.
+// Real potentials of n places, one for each label: at first without ranges, then, where some stream has one, step by step with them.
 pub fn descend(
     ends: &[u8; ENDS],
     meters: &[f64; METERS],
@@ -116,25 +116,25 @@ pub fn descend(
     ensures { λ r. ⌜ length r ≡ places ⌝ }
 {
     let none = [0.0f64; PLACES];
-    let mut prices = direction(ends, meters, count, n, &none, true);
+    let mut potentials = direction(ends, meters, count, n, &none, true);
     if !ranged {
-        return prices;
+        return potentials;
     }
     let mut left = STEPS;
     while 0 < left {
-        let nets = nets_at(ends, meters, count, &prices);
+        let nets = nets_at(ends, meters, count, &potentials);
         if greatest_net(&nets) < NEAR {
-            return prices;
+            return potentials;
         }
-        let way = direction(ends, meters, count, n, &prices, false);
+        let way = direction(ends, meters, count, n, &potentials, false);
         let first = product(&nets, &way);
         if !(first < 0.0) {
-            return prices;
+            return potentials;
         }
-        let t = step_length(ends, meters, count, &prices, &way, first);
-        let next = moved(&prices, &way, t);
-        prices = next;
+        let t = step_length(ends, meters, count, &potentials, &way, first);
+        let next = moved(&potentials, &way, t);
+        potentials = next;
         left -= 1;
     }
-    prices
+    potentials
 }

@@ -1,4 +1,4 @@
-// Prices of places (node potentials) at which the real-number optimum of a plant balances, made whole.
+// Potentials of places (node potentials) at which the real-number optimum of a plant balances, made whole.
 use descents::descend;
 use newton_laplacian::ENDS;
 use newton_laplacian::METERS;
@@ -16,7 +16,7 @@ ghost use Rattle.newton_laplacian.specs.Ends.{Labels};
 ghost use Rattle.newton_descend.specs.Levels.{Banded, atLabels, Level};
 ghost use Rattle.plant_def.specs.Within.{Accepted};
 
-// The greatest price, 0 at least.
+// The greatest potential, 0 at least.
 fn greatest(x: [f64; PLACES]) -> f64 {
     let mut most = 0.0f64;
     let mut u: usize = 0;
@@ -49,7 +49,7 @@ fn below(top: u64, band: u64, fall: u64) -> u64
     if band < fall { top - band } else { top - fall }
 }
 
-// The greatest price becomes top, the others as much lower as they are, by band at most.
+// The greatest potential becomes top, the others as much lower as they are, by band at most.
 pub fn lowered(x: [f64; PLACES], top: u64, band: u64) -> [u64; PLACES]
     requires { ⌜ band ≤ top ⌝ }
     ensures { λ r. ⌜ Banded top band r ⌝ }
@@ -64,22 +64,22 @@ pub fn lowered(x: [f64; PLACES], top: u64, band: u64) -> [u64; PLACES]
     r
 }
 
-// The price of each place's label.
-pub fn by_label(prices: [u64; PLACES], labels: [u8; PLACES]) -> [u64; PLACES]
+// The potential of each place's label.
+pub fn by_label(potentials: [u64; PLACES], labels: [u8; PLACES]) -> [u64; PLACES]
     requires { ⌜ Labels labels ⌝ }
-    ensures { λ r. ⌜ r ≡ atLabels prices labels ⌝ }
+    ensures { λ r. ⌜ r ≡ atLabels potentials labels ⌝ }
 {
-    let mut r = prices;
+    let mut r = potentials;
     let mut u: usize = 0;
     while u < PLACES {
         let g = labels[u] as usize;
-        r[u] = prices[g];
+        r[u] = potentials[g];
         u += 1;
     }
     r
 }
 
-// Prices from top − band to top, one for each label.
+// Potentials from top − band to top, one for each label.
 pub fn potentials_of(p: Plant, labels: [u8; PLACES], top: u64, band: u64) -> [u64; PLACES]
     requires { ⌜ Accepted p × Labels labels × (band ≤ top) ⌝ }
     ensures { λ r. ⌜ Level labels top band r ⌝ }
@@ -88,6 +88,6 @@ pub fn potentials_of(p: Plant, labels: [u8; PLACES], top: u64, band: u64) -> [u6
     let mut meters = [0.0f64; METERS];
     let got = gather(p, &labels, &mut ends, &mut meters);
     let n = p.units as usize + 1;
-    let prices = descend(&ends, &meters, got.count, n, got.ranged);
-    by_label(lowered(prices, top, band), labels)
+    let potentials = descend(&ends, &meters, got.count, n, got.ranged);
+    by_label(lowered(potentials, top, band), labels)
 }

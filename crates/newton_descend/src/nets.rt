@@ -1,4 +1,4 @@
-// What the groups' nets come to at real prices, each amount brought into its range.
+// What the groups' nets come to at real potentials, each amount brought into its range.
 use newton_laplacian::ENDS;
 use newton_laplacian::METERS;
 use newton_laplacian::amount_at;
@@ -19,14 +19,18 @@ fn bring(
     ends: &[u8; ENDS],
     meters: &[f64; METERS],
     k: usize,
-    prices: &[f64; PLACES],
+    potentials: &[f64; PLACES],
 )
-    requires { ⌜ (length (now nets) ≡ places) × Ends (now ends) × (length (now meters) ≡ meterCells) × (k < maxStreams) × (length (now prices) ≡ places) ⌝ }
+    requires { ⌜ (length (now nets) ≡ places) × Ends (now ends) × (length (now meters) ≡ meterCells) × (k < maxStreams) × (length (now potentials) ≡ places) ⌝ }
     ensures { λ _. ⌜ length (now (nets .exit)) ≡ places ⌝ }
 {
     let g = start_at(ends, k);
     let h = end_at(ends, k);
-    let x = in_range(meters, k, amount_at(meters, k, prices[h] - prices[g]));
+    let x = in_range(
+        meters,
+        k,
+        amount_at(meters, k, potentials[h] - potentials[g]),
+    );
     nets[g] = nets[g] - x;
     nets[h] = nets[h] + x;
 }
@@ -36,15 +40,15 @@ pub fn nets_at(
     ends: &[u8; ENDS],
     meters: &[f64; METERS],
     count: usize,
-    prices: &[f64; PLACES],
+    potentials: &[f64; PLACES],
 ) -> [f64; PLACES]
-    requires { ⌜ Ends (now ends) × (length (now meters) ≡ meterCells) × (count ≤ maxStreams) × (length (now prices) ≡ places) ⌝ }
+    requires { ⌜ Ends (now ends) × (length (now meters) ≡ meterCells) × (count ≤ maxStreams) × (length (now potentials) ≡ places) ⌝ }
     ensures { λ r. ⌜ length r ≡ places ⌝ }
 {
     let mut nets = [0.0f64; PLACES];
     let mut k: usize = 0;
     while k < count {
-        bring(&mut nets, ends, meters, k, prices);
+        bring(&mut nets, ends, meters, k, potentials);
         k += 1;
     }
     nets
@@ -84,15 +88,15 @@ pub fn product(x: &[f64; PLACES], y: &[f64; PLACES]) -> f64
     sum
 }
 
-// Prices moved along a direction by the factor t.
-pub fn moved(prices: &[f64; PLACES], direction: &[f64; PLACES], t: f64) -> [f64; PLACES]
-    requires { ⌜ (length (now prices) ≡ places) × (length (now direction) ≡ places) ⌝ }
+// Potentials moved along a direction by the factor t.
+pub fn moved(potentials: &[f64; PLACES], direction: &[f64; PLACES], t: f64) -> [f64; PLACES]
+    requires { ⌜ (length (now potentials) ≡ places) × (length (now direction) ≡ places) ⌝ }
     ensures { λ r. ⌜ length r ≡ places ⌝ }
 {
     let mut r = [0.0f64; PLACES];
     let mut u: usize = 0;
     while u < PLACES {
-        r[u] = prices[u] + t * direction[u];
+        r[u] = potentials[u] + t * direction[u];
         u += 1;
     }
     r

@@ -10,7 +10,7 @@ use Rattle.plant_def.specs.declared.Stream.{Stream}
 abbrev pub conductance : List Float → ℕ → Float
 conductance ms k = getD ms (4 * k + 1) nan
 
--- Its amount between prices that differ by climb: the reading, and climb times the conductance.
+-- Its amount between potentials that differ by climb: the reading, and climb times the conductance.
 abbrev pub amountBy : List Float → ℕ → Float → Float
 amountBy ms k climb = add binary64 (getD ms (4 * k) nan) (mul binary64 climb (conductance ms k))
 

@@ -53,7 +53,7 @@ pub fn conductance_at(meters: &[f64; METERS], k: usize) -> f64
     meters[4 * k + 1]
 }
 
-// Its amount between prices that differ by climb.
+// Its amount between potentials that differ by climb.
 pub fn amount_at(meters: &[f64; METERS], k: usize, climb: f64) -> f64
     requires { ⌜ (length (now meters) ≡ meterCells) × (k < maxStreams) ⌝ }
     ensures { λ r. ⌜ r ≡ amountBy (now (meters .entry)) k climb ⌝ }
@@ -199,22 +199,22 @@ fn between(a: &mut [f64; CELLS], g: usize, h: usize, x: f64, c: f64)
     }
 }
 
-// Stream k. (At first, with no prices yet, ranges are left out of account.)
+// Stream k. (At first, with no potentials yet, ranges are left out of account.)
 fn join(
     a: &mut [f64; CELLS],
     ends: &[u8; ENDS],
     meters: &[f64; METERS],
     k: usize,
-    prices: &[f64; PLACES],
+    potentials: &[f64; PLACES],
     first: bool,
 )
-    requires { ⌜ (length (now a) ≡ cells) × Ends (now ends) × (length (now meters) ≡ meterCells) × (k < maxStreams) × (length (now prices) ≡ places) ⌝ }
+    requires { ⌜ (length (now a) ≡ cells) × Ends (now ends) × (length (now meters) ≡ meterCells) × (k < maxStreams) × (length (now potentials) ≡ places) ⌝ }
     ensures { λ _. ⌜ length (now (a .exit)) ≡ cells ⌝ }
 {
     let g = start_at(ends, k);
     let h = end_at(ends, k);
     let c = conductance_at(meters, k);
-    let x = amount_at(meters, k, prices[h] - prices[g]);
+    let x = amount_at(meters, k, potentials[h] - potentials[g]);
     if first {
         between(a, g, h, x, c);
         return;
@@ -232,34 +232,34 @@ fn laplacian(
     ends: &[u8; ENDS],
     meters: &[f64; METERS],
     count: usize,
-    prices: &[f64; PLACES],
+    potentials: &[f64; PLACES],
     first: bool,
 ) -> [f64; CELLS]
-    requires { ⌜ Ends (now ends) × (length (now meters) ≡ meterCells) × (count ≤ maxStreams) × (length (now prices) ≡ places) ⌝ }
+    requires { ⌜ Ends (now ends) × (length (now meters) ≡ meterCells) × (count ≤ maxStreams) × (length (now potentials) ≡ places) ⌝ }
     ensures { λ r. ⌜ length r ≡ cells ⌝ }
 {
     let mut a = [0.0f64; CELLS];
     let mut k: usize = 0;
     while k < count {
-        join(&mut a, ends, meters, k, prices, first);
+        join(&mut a, ends, meters, k, potentials, first);
         k += 1;
     }
     a
 }
 
-// By how much each of n prices has to change, as far as the equations at these prices tell.
+// By how much each of n potentials has to change, as far as the equations at these potentials tell.
 pub fn direction(
     ends: &[u8; ENDS],
     meters: &[f64; METERS],
     count: usize,
     n: usize,
-    prices: &[f64; PLACES],
+    potentials: &[f64; PLACES],
     first: bool,
 ) -> [f64; PLACES]
-    requires { ⌜ Ends (now ends) × (length (now meters) ≡ meterCells) × (count ≤ maxStreams) × (n ≤ places) × (length (now prices) ≡ places) ⌝ }
+    requires { ⌜ Ends (now ends) × (length (now meters) ≡ meterCells) × (count ≤ maxStreams) × (n ≤ places) × (length (now potentials) ≡ places) ⌝ }
     ensures { λ r. ⌜ length r ≡ places ⌝ }
 {
-    let mut a = laplacian(ends, meters, count, prices, first);
+    let mut a = laplacian(ends, meters, count, potentials, first);
     eliminate(&mut a, n);
     substitute(&a, n)
 }

@@ -20,6 +20,7 @@ module _ (n : ℕ) where
   signed-high : (v : ℕ) → 256 ^ n ≤ 2 * v → signed n v ≡ negsuc (256 ^ n - suc v)
   signed-high v h = simp (le-ltb (2 * v) (256 ^ n) h)
 
+  -- Bits read as a signed number and held again.
   pub raw-signed : (v : ℕ) → v < 256 ^ n → raw n (signed n v) ≡ v
   raw-signed v h = go (ltb (2 * v) (256 ^ n)) refl
     where
@@ -35,10 +36,12 @@ module _ (n : ℕ) where
       let e : 256 ^ n - suc (256 ^ n - suc a) ≡ a = omega arith in
       signed-high (256 ^ n - suc a) (omega arith) ∙ ap negsuc e
 
+  -- What n bytes hold of a number fits them.
   pub held-fits : (z : ℤ) → holds n z ≡ true → raw n z < 256 ^ n
   held-fits (pos a) h = let l = ltb-true (2 * a) (256 ^ n) h in omega arith
   held-fits (negsuc a) h = let l = leb-true (2 * suc a) (256 ^ n) h in omega arith
 
+  -- What n bytes stand for is held by n bytes.
   pub signed-held : (v : ℕ) → v < 256 ^ n → holds n (signed n v) ≡ true
   signed-held v h =
       picked (λ (z : ℤ). holds n z ≡ true) (ltb (2 * v) (256 ^ n)) (pos v) (negsuc (256 ^ n - suc v)) (λ t. t)
@@ -49,14 +52,17 @@ module _ (n : ℕ) where
   small-held (pos a) h = lt-ltb (2 * a) (256 ^ n) h
   small-held (negsuc a) h = le-leb (2 * suc a) (256 ^ n) (omega arith)
 
+  -- A number far from the edges, held and read again.
   pub signed-raw : (z : ℤ) → 2 * natAbs z < 256 ^ n → signed n (raw n z) ≡ z
   signed-raw z h = held-back z (small-held z h)
 
+  -- It fits n bytes.
   pub raw-fits : (z : ℤ) → 2 * natAbs z < 256 ^ n → raw n z < 256 ^ n
   raw-fits z h = held-fits z (small-held z h)
 
 -- A signed word w of n bytes.
 module _ (w : Width) (n : ℕ) (whole : 2 ^ bits w ≡ 256 ^ n) (half : 2 * 2 ^ hbits w ≡ 256 ^ n) where
+  -- A word read as signed is what its bytes stand for.
   pub word-signed : (v : ℕ) → toZ w v ≡ signed n v
   word-signed v = go (ltb v (2 ^ hbits w)) refl
     where
@@ -73,9 +79,11 @@ module _ (w : Width) (n : ℕ) (whole : 2 ^ bits w ≡ 256 ^ n) (half : 2 * 2 ^ 
     low : k < 2 ^ hbits w
     low = omega arith
 
+    -- It fits the word,
     pub high-fits : SFits w (negsuc 0 -ℤ toZ w k)
     high-fits = rw (toZ-pos w low, below-zero k) (record { sfits = low })
 
+    -- and is what the bytes stand for.
     pub high-is : toZ w (ofZ w (negsuc 0 -ℤ toZ w k)) ≡ signed n v
     high-is =
         let e : k ≡ 256 ^ n - suc v = omega arith in
@@ -83,6 +91,7 @@ module _ (w : Width) (n : ℕ) (whole : 2 ^ bits w ≡ 256 ^ n) (half : 2 * 2 ^ 
 
 -- A signed word that is at or above zero, or below it, and the number that is left.
 module _ (w : Width) where
+  -- At or above zero the word is a natural number.
   pub at-zero : (z : ℤ) → SFits w z → leZ (pos 0) (toZ w (ofZ w z)) ≡ true
       → (k : ℕ) × (z ≡ pos k) × (k < 2 ^ hbits w) × (toZ w (ofZ w z) ≡ pos k)
   at-zero z f t = go z f (rw (toZ-ofZ f) at t)
@@ -91,6 +100,7 @@ module _ (w : Width) where
       go (pos k) g t = (k, refl, g .sfits, toZ-ofZ {z = pos k} g)
       go (negsuc k) g t = absurd (false≢true t)
 
+  -- Below zero it is −1 less the number that is left.
   pub under-zero : (z : ℤ) → SFits w z → leZ (pos 0) (toZ w (ofZ w z)) ≡ false
       → (k : ℕ) × (z ≡ negsuc k) × (k < 2 ^ hbits w) × (negsuc 0 -ℤ toZ w (ofZ w z) ≡ pos k)
   under-zero z f t = go z f (rw (toZ-ofZ f) at t)
@@ -101,6 +111,7 @@ module _ (w : Width) where
 
 -- A signed word held against a range by two tests, from −(m + 1) to m + 1.
 module _ (w : Width) (m : ℕ) (z : ℤ) (f : SFits w z) where
+  -- Below the range.
   pub below-range : ltZ (toZ w (ofZ w z)) (negsuc m) ≡ true → suc m < natAbs z
   below-range t = go z (rw (toZ-ofZ f) at t)
     where
@@ -108,6 +119,7 @@ module _ (w : Width) (m : ℕ) (z : ℤ) (f : SFits w z) where
       go (pos a) t = absurd (false≢true t)
       go (negsuc a) t = omega (arith, ltb-true m a t)
 
+  -- Above it.
   pub above-range : ltZ (pos (suc m)) (toZ w (ofZ w z)) ≡ true → suc m < natAbs z
   above-range t = go z (rw (toZ-ofZ f) at t)
     where
@@ -115,6 +127,7 @@ module _ (w : Width) (m : ℕ) (z : ℤ) (f : SFits w z) where
       go (pos a) t = ltb-true (suc m) a t
       go (negsuc a) t = absurd (false≢true t)
 
+  -- Neither below nor above.
   pub in-range : ltZ (toZ w (ofZ w z)) (negsuc m) ≡ false → ltZ (pos (suc m)) (toZ w (ofZ w z)) ≡ false → natAbs z ≤ suc m
   in-range t u = go z (rw (toZ-ofZ f) at t) (rw (toZ-ofZ f) at u)
     where

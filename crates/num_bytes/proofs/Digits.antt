@@ -22,6 +22,7 @@ power-pos : (n : ℕ) → 0 < 256 ^ n
 power-pos zero = omega arith
 power-pos (suc n) = rw (power-suc n) (omega (arith, power-pos n))
 
+-- n bytes are n long.
 pub length-put : (n v : ℕ) → length (putBe n v) ≡ n
 length-put zero v = refl
 length-put (suc n) v = simp (length-append, length-put n (v / 256)) (omega arith)
@@ -64,6 +65,7 @@ beFrom-put (suc n) v h =
     let q : v / 256 < 256 ^ n = div-lt-iff-lt-mul (lit< tt) .1 (rw (power-suc n) at h) in
     simp (beFrom-append, beFrom-put n (v / 256)) (omega arith)
 
+-- A number that fits n bytes, written and read.
 pub be-put : (n v : ℕ) (r : List ℕ) → v < 256 ^ n → be 0 n (putBe n v ++ r) ≡ v
 be-put n v r h = ap (beFrom 0) (take-at (putBe n v) r n (length-put n v)) ∙ beFrom-put n v h
 
@@ -81,6 +83,7 @@ put-from k v (b ∷ bs) e =
     rw z
     (put-from (suc k) (256 * v + b) bs (f .1) ∙ rw (d, m) (append-assoc (putBe k v) (b ∷ []) bs))
 
+-- What is left of bytes is bytes.
 pub bytes-drop : (i : ℕ) (s : List ℕ) → allBytes s ≡ true → allBytes (drop i s) ≡ true
 bytes-drop zero s e = e
 bytes-drop (suc i) [] e = e
@@ -95,6 +98,7 @@ bytes-take (suc n) (b ∷ s) e =
 bytes-field : (i n : ℕ) (s : List ℕ) → allBytes s ≡ true → allBytes (take n (drop i s)) ≡ true
 bytes-field i n s e = bytes-take n (drop i s) (bytes-drop i s e)
 
+-- Bytes read as a number and written again.
 pub put-be : (i n : ℕ) (s : List ℕ) → allBytes s ≡ true → i + n ≤ length s → putBe n (be i n s) ≡ take n (drop i s)
 put-be i n s e h =
     let l = length-field i n s h in
@@ -110,6 +114,7 @@ beFrom-fits (b ∷ bs) e =
     let g : suc b * m ≤ 256 * m = mul-le-mul-right m (f .0) in
     rw (power-suc (length bs)) (omega (arith, beFrom-high (256 * 0 + b) bs, beFrom-fits bs (f .1)))
 
+-- What n bytes hold fits them.
 pub be-fits : (i n : ℕ) (s : List ℕ) → allBytes s ≡ true → i + n ≤ length s → be i n s < 256 ^ n
 be-fits i n s e h =
     rw (length-field i n s h) at (beFrom-fits (take n (drop i s)) (bytes-field i n s e))

@@ -7,11 +7,13 @@ use lib.ListN.{length, take, set, replicate}
 use Rattle.num_bytes.specs.Arrays.{filled}
 
 module _ {A : Type 0} (d : A) where
+  -- As long as the array.
   pub length-filled : (n : ℕ) (xs : List A) → length (filled d n xs) ≡ n
   length-filled zero xs = refl
   length-filled (suc n) [] = ap suc (length-filled n [])
   length-filled (suc n) (x ∷ xs) = ap suc (length-filled n xs)
 
+  -- An array of d holds no list.
   pub filled-none : (n : ℕ) → replicate n d ≡ filled d n []
   filled-none zero = refl
   filled-none (suc n) = ap (λ (l : List A). d ∷ l) (filled-none n)
@@ -22,6 +24,7 @@ module _ {A : Type 0} (d : A) where
   filled-more (suc n) [] y h = refl
   filled-more (suc n) (x ∷ xs) y h = ap (λ (l : List A). x ∷ l) (filled-more n xs y (omega arith))
 
+  -- The list stands at the front.
   pub take-filled : (n : ℕ) (xs : List A) → length xs ≤ n → take (length xs) (filled d n xs) ≡ xs
   take-filled n [] h = refl
   take-filled zero (x ∷ xs) h = absurd (omega arith)

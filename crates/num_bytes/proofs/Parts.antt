@@ -13,9 +13,11 @@ use Rattle.num_bytes.specs.Inner.{Put}
 abbrev pub partFrom : ℕ → List ℕ → List ℕ
 partFrom a s = take (length s - a) (drop a s)
 
+-- A part up to the end is the rest.
 pub part-is : (a : ℕ) (s : List ℕ) → partFrom a s ≡ drop a s
 part-is a s = take-all (length s - a) (drop a s) (simp length-drop (omega arith))
 
+-- How long it is.
 pub length-part : (a : ℕ) (s : List ℕ) → length (partFrom a s) ≡ length s - a
 length-part a s = ap length (part-is a s) ∙ length-drop a s
 
@@ -42,16 +44,20 @@ pub record Laid (x o o₁ : List ℕ) (a : ℕ) : Type 0 where
   pub size : length x ≡ a
   pub fits : a ≤ length o
 
+-- Bytes laid over the front.
 pub laid : (x o : List ℕ) {o₁ : List ℕ} → length x ≤ length o → o₁ ≡ over x o → Laid x o o₁ (length x)
 laid x o h e = record { bytes = e; size = refl; fits = h }
 
 module _ {x o o₁ : List ℕ} {a : ℕ} (l : Laid x o o₁ a) where
+  -- The slice is as long as it was.
   pub same-length : length o₁ ≡ length o
   same-length = let z = l .size in let f = l .fits in ap length (l .bytes) ∙ length-over x o (omega arith)
 
+  -- The part behind the bytes may be lent.
   pub may-lend : a ≤ length o₁
   may-lend = let s = same-length in let f = l .fits in omega arith
 
+  -- What has room in the slice has room in the part.
   pub room : (k : ℕ) → a + k ≤ length o → k ≤ length (partFrom a o₁)
   room k h = let s = same-length in let p = length-part a o₁ in omega arith
 

@@ -17,6 +17,7 @@ pub record Rows (f : ℕ → List ℕ) (most k : ℕ) (o o₁ : List ℕ) (at i 
   pub so-far : Laid (f i) o o₁ at
   pub bound : at ≤ most * i
 
+-- Before the first record.
 pub no-rows : (f : ℕ → List ℕ) (most k : ℕ) (o : List ℕ) → f 0 ≡ [] → most * k ≤ length o → Rows f most k o o 0 0
 no-rows f most k o e h =
     record {
@@ -27,15 +28,18 @@ no-rows f most k o e h =
     }
 
 module _ {f : ℕ → List ℕ} {most k : ℕ} {o o₁ : List ℕ} {at i : ℕ} (w : Rows f most k o o₁ at i) where
+  -- The slice is as long as it was.
   pub rows-long : length o₁ ≡ length o
   rows-long = same-length (w .so-far)
 
+  -- The part at the next free byte may be lent.
   pub rows-lend : at ≤ length o₁
   rows-lend = may-lend (w .so-far)
 
   enough : i < k → at + most ≤ length o
   enough h = let b = w .bound in let q = w .wide in omega (arith, mul-le-mul-left most h)
 
+  -- There is room in it for one more record.
   pub rows-room : i < k → most ≤ length (partFrom at o₁)
   rows-room h = room (w .so-far) most (enough h)
 
@@ -58,6 +62,7 @@ module _ {f : ℕ → List ℕ} {most k : ℕ} {o o₁ : List ℕ} {at i : ℕ} 
         bound = omega arith;
       }
 
+  -- Behind the last record.
   pub all-rows : k ≤ i → Put (f k) o o₁ at
   all-rows h =
       let a = w .within in

@@ -1,6 +1,7 @@
-// Numbers at the front of a slice, high byte first, read and written; refusals in their order.
+// Numbers at the front of a slice, high byte first, read and written; differences and sizes; refusals in their order.
 ghost use mathlib.Core.Path.{_≡_};
-ghost use Prim.Native.Nat.{_≤_, _<_};
+ghost use lib.IntN.{natAbs};
+ghost use Prim.Native.Nat.{_-_, _≤_, _<_};
 ghost use lib.ListN.{length};
 ghost use mathlib.Core.List.{[], _∷_};
 ghost use Rattle.num_bytes.specs.Choice.{firstOf};
@@ -14,6 +15,24 @@ pub fn first_of(first: u8, second: u8) -> u8
         return first;
     }
     second
+}
+
+// a − b, 0 where b is more.
+pub fn minus(a: u64, b: u64) -> u64
+    ensures { λ r. ⌜ r ≡ a - b ⌝ }
+{
+    if a < b { 0 } else { a - b }
+}
+
+// The size of a signed number.
+pub fn size_of(z: i64) -> u64
+    ensures { λ r. ⌜ r ≡ natAbs z ⌝ }
+{
+    if 0 <= z {
+        return z as u64;
+    }
+    let below = (-1 - z) as u64;
+    below + 1
 }
 
 // A byte, wider.

@@ -29,16 +29,20 @@ module _ {A B : Type 0} (f : A → B) where
   length-laid (x ∷ xs) [] (suc k) h = absurd (omega arith)
   length-laid (x ∷ xs) (y ∷ o) (suc k) h = ap suc (length-laid xs o k (omega arith))
 
+  -- Before the first element.
   pub none-handed : (xs : List A) (c : ℕ) (o : List B) → c ≤ length xs → c ≤ length o → Handing f xs c o o 0
   none-handed xs c o h l = record { long = h; wide = l; within = omega arith; so-far = refl }
 
   module _ {xs : List A} {c : ℕ} {o n : List B} {k : ℕ} (h : Handing f xs c o n k) where
+    -- The slice is as long as it was.
     pub slice-long : length n ≡ length o
     slice-long = let a = h .wide in let b = h .within in ap length (h .so-far) ∙ length-laid xs o k (omega arith)
 
+    -- There is room for one more element.
     pub room-there : k < c → k < length n
     room-there l = let a = h .wide in let b = slice-long in omega arith
 
+    -- One more element.
     pub one-handed : (d : A) (v : B) → k < c → v ≡ f (getD xs k d) → Handing f xs c o (set n k v) (k + 1)
     one-handed d v l e =
         let a = h .long in
@@ -50,6 +54,7 @@ module _ {A B : Type 0} (f : A → B) where
           so-far = rw (add-one k) (ap (λ (t : List B). set t k v) (h .so-far) ∙ ap (set (over (map f (take k xs)) o) k) e ∙ over-more xs o k d (omega arith) (omega arith));
         }
 
+    -- Behind the last element.
     pub all-handed : c ≤ k → n ≡ over (map f (take c xs)) o
     all-handed l = let a = h .within in let e : k ≡ c = omega arith in h .so-far ∙ ap (λ (j : ℕ). over (map f (take j xs)) o) e
 
@@ -57,6 +62,7 @@ module _ {A B : Type 0} (f : A → B) where
 abbrev pub itself : {A : Type 0} → A → A
 itself x = x
 
+-- Elements handed over as they are.
 pub map-itself : {A : Type 0} (xs : List A) → map itself xs ≡ xs
 map-itself [] = refl
 map-itself {A = A} (x ∷ xs) = ap (λ (l : List A). x ∷ l) (map-itself xs)

@@ -65,10 +65,12 @@ pub record Bits (ms : List Bool) (bits k : ℕ) : Type 0 where
   pub within : k ≤ places
   pub so-far : bits ≡ bitsOf (drop k ms)
 
+-- Before the last mark.
 pub bits-none : (ms : List Bool) → length ms ≡ places → Bits ms 0 places
 bits-none ms l = record { long = l; within = omega arith; so-far = sym (ap bitsOf (drop-of-length-le ms {i = places} (omega arith))) }
 
 module _ {ms : List Bool} {bits k : ℕ} (b : Bits ms bits k) where
+  -- Behind the first mark: the bits are the marks.
   pub bits-all : k ≡ 0 → (marksIn bits ≡ ms) × (bits < 2 ^ places)
   bits-all e =
       let whole : bits ≡ bitsOf ms = b .so-far ∙ ap (λ (i : ℕ). bitsOf (drop i ms)) e in
@@ -84,6 +86,7 @@ module _ {ms : List Bool} {bits k : ℕ} (b : Bits ms bits k) where
         ∙ ap (λ (i : ℕ). pick {A = ℕ} (getD ms (k - 1) false) 1 0 + 2 * bitsOf (drop i ms)) e
         ∙ ap (λ (n : ℕ). pick {A = ℕ} (getD ms (k - 1) false) 1 0 + 2 * n) (sym (b .so-far))
 
+    -- One mark more fits.
     pub next-small : pick {A = ℕ} (getD ms (k - 1) false) 1 0 + 2 * bits < 2 ^ places
     next-small = omega (arith, more, bits-fewer ms (k - 1), rw (b .long) at (bits-most ms))
 

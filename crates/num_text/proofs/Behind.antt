@@ -48,19 +48,23 @@ behind {x} {y} {o} {o₁} {o₂} {at} {a} {b} f g =
           g .bytes
           ∙ (λ i. kept i ++ (y ++ drop (length y) (free i)))
           ∙ append-assoc (take at o) x (y ++ drop (length y) rest)
-          ∙ ap (λ (l : List ℕ). take at o ++ l) (sym (append-assoc x y (drop (length y) rest)) ∙ ap (λ (l : List ℕ). (x ++ y) ++ l) (drop-drop (length y) (length x) (drop at o) ∙ ap (λ (k : ℕ). drop k (drop at o)) (sym size)));
+          ∙ ap (λ (l : List ℕ). take at o ++ l)
+          (sym (append-assoc x y (drop (length y) rest)) ∙ ap (λ (l : List ℕ). (x ++ y) ++ l) (drop-drop (length y) (length x) (drop at o) ∙ ap (λ (k : ℕ). drop k (drop at o)) (sym size)));
       place = omega arith;
       room = omega (arith, g .room);
     }
 
 -- A text put character by character: i of them are put, the next place is a.
 module _ (text : List ℕ) (i : ℕ) {o o₁ : List ℕ} {at a : ℕ} (f : Added (take i text) at o o₁ a) where
+  -- There is room for one more character.
   pub text-room : at + length text ≤ length o → i < length text → a + 1 ≤ length o₁
   text-room h l = let p = f .place in omega (arith, kept-length f, length-take-le i text (omega arith))
 
+  -- One more character of the text.
   pub text-more : {o₂ : List ℕ} {b : ℕ} → i < length text → Added (getD text i 0 ∷ []) a o₁ o₂ b → Added (take (i + 1) text) at o o₂ b
   text-more l g = rw (add-one i, take-suc text i 0 l) (behind f g)
 
+  -- Behind the last one.
   pub text-all : length text ≤ i → Added text at o o₁ a
   text-all h = rw (take-all i text h) at f
 

@@ -29,16 +29,19 @@ enough (suc f) (suc g) n h k =
     (λ t. let l = ltb-false n 10 t in
     more f n l ∙ ap (λ (d : List ℕ). d ++ (digit (n % 10) ∷ [])) (enough f g (n / 10) (omega arith) (omega arith)) ∙ sym (more g n l))
 
+-- A number of one digit.
 pub decimal-one : (n : ℕ) → n < 10 → decimal n ≡ digit n ∷ []
 unfolding decimal
 decimal-one n h = few n n h
 
+-- A longer one: the digits of its tenth, then its last digit.
 pub decimal-more : (n : ℕ) → 10 ≤ n → decimal n ≡ decimal (n / 10) ++ (digit (n % 10) ∷ [])
 unfolding decimal
 decimal-more zero h = absurd (omega arith)
 decimal-more (suc m) h =
     more m (suc m) h ∙ ap (λ (d : List ℕ). d ++ (digit (suc m % 10) ∷ [])) (enough m (suc m / 10) (suc m / 10) (omega arith) (omega arith))
 
+-- It is one longer than its tenth.
 pub more-size : (n : ℕ) → 10 ≤ n → length (decimal n) ≡ length (decimal (n / 10)) + 1
 more-size n h = ap length (decimal-more n h) ∙ length-append (decimal (n / 10)) (digit (n % 10) ∷ [])
 
@@ -57,6 +60,7 @@ most (suc f) (suc k) n h =
     go : length (digitsOf f (n / 10)) ≤ suc k → length (digitsOf f (n / 10) ++ (digit (n % 10) ∷ [])) ≤ suc (suc k)
     go i = omega (arith, length-append (digitsOf f (n / 10)) (digit (n % 10) ∷ []))
 
+-- A number below 10 to the k + 1 has at most k + 1 digits.
 pub decimal-most : (k n : ℕ) → n < 10 ^ suc k → length (decimal n) ≤ suc k
 unfolding decimal
 decimal-most k n h = most n k n h

@@ -1,6 +1,6 @@
 // Numbers as text, put into a slice at a place. Each function that puts answers the place behind its text.
+use num_bytes::size_of;
 ghost use mathlib.Core.Path.{_≡_};
-ghost use lib.IntN.{natAbs};
 ghost use Prim.Native.Nat.{_+_, _≤_};
 ghost use mathlib.Core.List.{[], _∷_};
 ghost use lib.ListN.{length};
@@ -38,17 +38,6 @@ pub fn put_decimal(n: u64, at: usize, out: &mut [u8]) -> usize
     }
     let last = put_decimal(n / 10, at, out);
     put_byte(b'0' + (n % 10) as u8, last, out)
-}
-
-// The size of a signed number.
-pub fn size_of(z: i64) -> u64
-    ensures { λ r. ⌜ r ≡ natAbs z ⌝ }
-{
-    if 0 <= z {
-        return z as u64;
-    }
-    let below = (-1 - z) as u64;
-    below + 1
 }
 
 // A signed number in decimal.

@@ -18,6 +18,7 @@ pub record Looked (n k : ℕ) (ss : List Stream) (i : ℕ) : Type 0 where
   pub held : length ss ≡ maxStreams
   pub rest : firstFault n (take k ss) ≡ firstFault n (take (k - i) (drop i ss))
 
+-- Before the first stream.
 pub look : (n k : ℕ) (ss : List Stream) → length ss ≡ maxStreams → Looked n k ss 0
 look n k ss h = let e : k ≡ k - 0 = omega arith in record { within = omega arith; held = h; rest = ap (λ (j : ℕ). firstFault n (take j ss)) e }
 
@@ -35,13 +36,16 @@ module _ {n k : ℕ} {ss : List Stream} {i : ℕ} (l : Looked n k ss i) (f : ℕ
       ∙ ap (λ (j : ℕ). firstFault n (take j (getD ss i noStream ∷ drop (suc i) ss))) z
       ∙ (λ j. firstOf (sym e j) (firstFault n (take (k - (i + 1)) (drop (sym (add-one i) j) ss))))
 
+  -- A fault of the next stream is the first one.
   pub at-fault : (f ≡ 0 → ⊥) → f ≡ firstFault n (take k ss)
   at-fault z = first-some f f after refl z ∙ sym whole
 
+  -- Without a fault the next stream is looked at.
   pub look-on : f ≡ 0 → Looked n k ss (i + 1)
   unfolding after
   look-on z = record { within = omega arith; held = l .held; rest = whole ∙ ap (λ (g : ℕ). firstOf g after) z }
 
+-- Behind the last stream there was none.
 pub no-fault : {n k : ℕ} {ss : List Stream} {i : ℕ} → Looked n k ss i → k ≤ i → 0 ≡ firstFault n (take k ss)
 no-fault {n} {k} {ss} {i} l h =
     let z : k - i ≡ 0 = omega arith in

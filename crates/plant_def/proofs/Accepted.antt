@@ -89,5 +89,6 @@ module _ (at : ℕ → ℕ → List ℕ → Record) (means : (n c : ℕ) (s : Li
 pub accepted : (s : List ℕ) (p : Plant) → readPlant s ≡ got p → (plantFault p ≡ 0) × (plain (p .streams) ≡ true)
 accepted = file-accepted recordAt record-taken
 
+-- A refusal is never 0.
 pub refused : (s : List ℕ) (f : ℕ) → readPlant s ≡ bad f → f ≡ 0 → ⊥
 refused = file-refused recordAt record-taken

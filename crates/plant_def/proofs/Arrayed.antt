@@ -35,9 +35,11 @@ module _ (p : Arrays.Plant) (a : Accepted p) where
   pub all-listed : length (plantOf p .streams) ≡ p .count
   all-listed = length-take-le (p .count) (p .streams) (omega (arith, a .long, a .within .few-streams))
 
+  -- A stream of the list is that of the array.
   pub listed-at : (k : ℕ) → k < p .count → getD (plantOf p .streams) k noStream ≡ getD (p .streams) k noStream
   listed-at k l = getD-take (p .count) (p .streams) k noStream l
 
+  -- The plant that the array holds is within its limits.
   pub within-of : Within (plantOf p)
   within-of = record {
     some-units = a .within .some-units;
@@ -64,8 +66,10 @@ array-accepted q w = record {
 
 -- A plant that is read is accepted, as the reader hands it over, and stands for the plant of the file.
 module _ (file : List ℕ) (q : Plant) (e : readPlant file ≡ got q) where
+  -- It is accepted,
   pub read-accepted : Accepted (arrayed q)
   read-accepted = array-accepted q (within q (accepted file q e .0))
 
+  -- and is the plant of the file.
   pub read-held : plantOf (arrayed q) ≡ q
   read-held = plant-held q (within q (accepted file q e .0) .few-streams)

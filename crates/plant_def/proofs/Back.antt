@@ -76,6 +76,7 @@ all-back l s p a e = go (siteAt s) refl e
         let r = rest-back l (record { units = n; streams = [] }) (drop (suc siteBody) s) p (bytes-drop (suc siteBody) s a) e in
         ap plantBytes (r .plant) ∙ ap (λ (t : List ℕ). siteKind ∷ n ∷ t) (sym (r .bytes)) ∙ sym (site-back s n h)
 
+-- A file that is read is the file of its plant.
 pub back : (s : List ℕ) (p : Plant) → allBytes s ≡ true → readPlant s ≡ got p → plantBytes p ≡ s
 back s p a e = all-back mostRecords s p a e
 

@@ -10,9 +10,11 @@ use Rattle.plant_def.specs.Limits.{maxStreams}
 use Rattle.plant_def.specs.Plants.{Plant, noStream}
 use Rattle.plant_def.specs.Says.{padded, arrayed, plantOf}
 
+-- As long as its limit.
 pub length-padded : (n : ℕ) (ss : List Stream) → length (padded n ss) ≡ n
 length-padded = length-filled noStream
 
+-- An array of empty records holds no stream.
 pub padded-none : (n : ℕ) → replicate n noStream ≡ padded n []
 padded-none = filled-none noStream
 

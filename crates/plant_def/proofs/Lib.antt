@@ -6,6 +6,7 @@ pub mod Accepted
 pub mod Held
 pub mod Loop
 pub mod Arrayed
+pub mod Found
 pub mod There
 pub mod Back
 pub mod Refusals

@@ -42,7 +42,8 @@ within-stream n s e = record {
   apart = eqb-false (s .from) (s .to) (refuse-none (eqb (s .from) (s .to)) 7 (first-none-left (refuseIf (eqb (s .from) (s .to)) 8) _ rest));
   weighed = λ m. let z = eqb-false (s .weight) 0 (or-none-left (eqb (s .weight) 0) (ltb maxWeight (s .weight)) (weight m)) in omega arith;
   light = λ m. ltb-false maxWeight (s .weight) (or-none-right (eqb (s .weight) 0) (ltb maxWeight (s .weight)) (weight m));
-  in-range = λ m. ltb-false maxReading (natAbs (s .reading)) (refuse-none _ 9 (first-none-right (refuseIf (eqb (s .weight) 0 || ltb maxWeight (s .weight)) 9) _ (first-none-left (meterFault (s .weight) (s .reading)) _ (meter m))));
+  in-range = λ m. ltb-false maxReading (natAbs (s .reading))
+      (refuse-none _ 9 (first-none-right (refuseIf (eqb (s .weight) 0 || ltb maxWeight (s .weight)) 9) _ (first-none-left (meterFault (s .weight) (s .reading)) _ (meter m))));
   ordered = λ r. not-above (s .low) (s .high) (or-none-left (ltZ (s .high) (s .low)) beyond (range r));
   low-in = λ r. ltb-false maxRange (natAbs (s .low)) (or-none-left (ltb maxRange (natAbs (s .low))) (ltb maxRange (natAbs (s .high))) (ends-in r));
   high-in = λ r. ltb-false maxRange (natAbs (s .high)) (or-none-right (ltb maxRange (natAbs (s .low))) (ltb maxRange (natAbs (s .high))) (ends-in r));
@@ -78,18 +79,22 @@ within-each n (s ∷ ss) e (suc k) l = within-each n ss (first-none-right (strea
 
 -- Parts without fault.
 module _ (n c : ℕ) (ss : List Stream) (e : partsFault n c ss ≡ 0) where
+  -- The units have none,
   pub units-good : unitsFault n ≡ 0
   units-good = first-none-left (unitsFault n) _ e
 
   rest : firstOf (refuseIf (ltb maxStreams c) 5) (firstFault n ss) ≡ 0
   rest = first-none-right (unitsFault n) _ e
 
+  -- the streams are no more than there may be,
   pub few-parts : c ≤ maxStreams
   few-parts = ltb-false maxStreams c (refuse-none _ 4 (first-none-left (refuseIf (ltb maxStreams c) 5) _ rest))
 
+  -- and no stream has one.
   pub streams-good : firstFault n ss ≡ 0
   streams-good = first-none-right (refuseIf (ltb maxStreams c) 5) _ rest
 
+-- A plant without fault is within its limits.
 pub within : (p : Plant) → plantFault p ≡ 0 → Within p
 within p e =
     let n = p .units in

@@ -13,7 +13,8 @@ use Rattle.plant_def.specs.declared.Record.{Record}
 use Rattle.plant_def.specs.declared.Record.the-variants.{Listed, End, Refused}
 use Rattle.plant_def.specs.Limits.{maxStreams, meteredKind, unmeteredKind, endKind, rangedKind, siteBody, meteredBody, rangedBody, unmeteredBody, endBody, longestFile}
 use Rattle.plant_def.specs.Plants.{Plant, streamFault}
-use Rattle.plant_def.specs.Files.{Got, bad, got, siteAt, onSite, meteredIn, rangedIn, unmeteredIn, bodyFault, checked, streamRecord, endFault, kindRecord, recordAt, onRecord, withStream, recordsBy, mostRecords}
+use Rattle.plant_def.specs.Files.{Got, bad, got, siteAt, onSite, meteredIn, rangedIn, unmeteredIn, bodyFault}
+use Rattle.plant_def.specs.Files.{checked, streamRecord, endFault, kindRecord, recordAt, onRecord, withStream, recordsBy, mostRecords}
 use Rattle.plant_def.specs.Says.{Longest-file}
 use Rattle.plant_def.proofs.Records.{Meaning, record-means}
 
@@ -84,5 +85,6 @@ file-whole l s = go (siteAt s)
         whole-file s (recordsBy recordAt l none (drop (suc siteBody) s)) (short-records l none (drop (suc siteBody) s) (omega arith))
     go (Missing f) = tt
 
+-- No file that is read is longer than the longest file, and one is as long.
 pub longest-file : Longest-file
 longest-file s p e = subst (Whole s) e (file-whole mostRecords s)

@@ -29,9 +29,11 @@ module _ (g : Got) (o : List ℕ) where
   refuse : (f : ℕ) → convertFault g o ≡ f → (f ≡ 0 → ⊥) → Converts g o o (record { number = f; written = 0 })
   refuse f e z = simp (e, ne-eqb f 0 z) (refl, refl)
 
+  -- A slice that is too short: 1.
   pub too-short : length o < longestFile → Converts g o o (record { number = 1; written = 0 })
   too-short h = refuse 1 (simp (lt-ltb (length o) longestFile h)) (λ (e : _≡_ {A = ℕ} 1 0). omega arith)
 
+  -- A file that is refused: its number.
   pub file-bad : longestFile ≤ length o → (y : Read) → y ≡ readOf g → (y .number ≡ 0 → ⊥) → Converts g o o (record { number = y .number; written = 0 })
   file-bad h y e z = refuse (y .number) (by-file h ∙ number-is g ∙ sym (ap (λ (t : Read). t .number) e)) z
 
@@ -46,6 +48,7 @@ written p o o′ r e h w =
 
 -- A file without refusal.
 module _ (o o′ : List ℕ) (y : Read) (r : Done) (h : longestFile ≤ length o) (z : y .number ≡ 0) (w : WriteSays (y .plant) o o′ r) where
+  -- What was read is written.
   pub file-good : (g : Got) → Faultless g → y ≡ readOf g → Converts g o o′ r
   file-good (bad f) d q = absurd (d (sym (ap (λ (t : Read). t .number) q) ∙ z))
   file-good (got p) d q = written p o o′ r d h (subst (λ (t : Arrays.Plant). WriteSays t o o′ r) (ap (λ (t : Read). t .plant) q) w)

@@ -29,14 +29,18 @@ module _ (l h : ℤ) where
   abbrev above : Bool
   above = ltb maxRange (natAbs h)
 
+  -- High below low: 18.
   pub out-of-order : ltZ h l ≡ true → 18 ≡ rangeFault true l h
   out-of-order e = refused (ltZ h l || (below || above)) (or-left (ltZ h l) (below || above) e)
 
+  -- Low outside its limit: 18.
   pub low-outside : maxRange < natAbs l → 18 ≡ rangeFault true l h
   low-outside k = refused (ltZ h l || (below || above)) (or-right (ltZ h l) (below || above) (or-left below above (lt-ltb maxRange (natAbs l) k)))
 
+  -- High outside its limit: 18.
   pub high-outside : maxRange < natAbs h → 18 ≡ rangeFault true l h
   high-outside k = refused (ltZ h l || (below || above)) (or-right (ltZ h l) (below || above) (or-right below above (lt-ltb maxRange (natAbs h) k)))
 
+  -- None of these: no fault.
   pub range-kept : ltZ h l ≡ false → ltZ l (negsuc (maxRange - 1)) ≡ false → ltZ (pos maxRange) h ≡ false → 0 ≡ rangeFault true l h
   range-kept e t u = let k = between (maxRange - 1) l h e t u in simp (e, le-ltb maxRange (natAbs l) (k .0), le-ltb maxRange (natAbs h) (k .1))

@@ -19,9 +19,11 @@ use Rattle.plant_def.specs.declared.Record.{Record}
 use Rattle.plant_def.specs.declared.Record.the-variants.{Listed, End, Refused}
 use Rattle.plant_def.specs.declared.Plant as Arrays
 use Rattle.plant_def.specs.declared.Done.{Done}
-use Rattle.plant_def.specs.Limits.{maxUnits, maxStreams, maxWeight, maxReading, maxRange, siteKind, meteredKind, unmeteredKind, endKind, rangedKind, siteBody, meteredBody, rangedBody, unmeteredBody, endBody, longestFile}
+use Rattle.plant_def.specs.Limits.{maxUnits, maxStreams, maxWeight, maxReading, maxRange, siteKind, meteredKind, unmeteredKind}
+use Rattle.plant_def.specs.Limits.{endKind, rangedKind, siteBody, meteredBody, rangedBody, unmeteredBody, endBody, longestFile}
 use Rattle.plant_def.specs.Plants.{Plant, unitsFault, meterFault, rangeFault, streamFault, firstFault, partsFault}
-use Rattle.plant_def.specs.Files.{Got, bad, got, siteFault, siteAt, onSite, meteredIn, rangedIn, unmeteredIn, bodyFault, checked, streamRecord, endFault, endRecord, kindRecord, recordAt, onRecord, withStream, recordsBy, mostRecords}
+use Rattle.plant_def.specs.Files.{Got, bad, got, siteFault, siteAt, onSite, meteredIn, rangedIn, unmeteredIn, bodyFault}
+use Rattle.plant_def.specs.Files.{checked, streamRecord, endFault, endRecord, kindRecord, recordAt, onRecord, withStream, recordsBy, mostRecords}
 use Rattle.plant_def.specs.Says.{plantOf, writeFault, fileNumber, File-refusals, WriteSays}
 use Rattle.plant_def.proofs.Accepted.{refused}
 
@@ -155,6 +157,7 @@ not-19 f h e = true-false (subst Known e h)
     true-false : false ≡ true → ⊥
     true-false q = let z : _≡_ {A = ℕ} 0 1 = ap (λ (b : Bool). pick b 1 0) q in omega arith
 
+-- A file is refused with one of these numbers alone.
 pub file-refusals : File-refusals
 file-refusals s f e = or-cases (eqb f 0) (fileNumber f) (subst Tells e (file-known mostRecords s)) (λ z. absurd (refused s f e (eqb-true f 0 z))) (λ k. k)
 

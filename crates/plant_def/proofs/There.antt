@@ -20,7 +20,8 @@ use Rattle.plant_def.specs.declared.Site.{Site}
 use Rattle.plant_def.specs.declared.Site.the-variants.{Units}
 use Rattle.plant_def.specs.Limits.{maxStreams, siteKind, meteredKind, unmeteredKind, endKind, rangedKind, siteBody, meteredBody, rangedBody, unmeteredBody}
 use Rattle.plant_def.specs.Plants.{Plant, limited, unitsFault, streamFault, firstFault, plantFault, plainOne, plain}
-use Rattle.plant_def.specs.Files.{bad, got, siteAt, onSite, meteredIn, rangedIn, unmeteredIn, checked, streamRecord, kindRecord, recordAt, onRecord, withStream, recordsBy, mostRecords, readPlant, meterBytes, rangeBytes, streamBytes, streamsBytes, plantBytes}
+use Rattle.plant_def.specs.Files.{bad, got, siteAt, onSite, meteredIn, rangedIn, unmeteredIn, checked, streamRecord, kindRecord, recordAt}
+use Rattle.plant_def.specs.Files.{onRecord, withStream, recordsBy, mostRecords, readPlant, meterBytes, rangeBytes, streamBytes, streamsBytes, plantBytes}
 use Rattle.plant_def.proofs.Records.{metered-bytes, ranged-bytes, unmetered-bytes}
 use Rattle.plant_def.proofs.Limited.{within-stream, units-good, few-parts, streams-good}
 
@@ -139,7 +140,8 @@ rest-there n ss done zero h g f p = absurd (omega arith)
 rest-there n [] done (suc l) h g f p =
     let d = append-nil done in
     let q : Plant = record { units = n; streams = done } in
-    ap (λ (r : Record). onRecord r (λ x m. recordsBy recordAt l (withStream q x) (drop m (endKind ∷ length (done ++ []) ∷ []))) (got q) bad) (end-there n (length done) (length (done ++ [])) (ap length d))
+    ap (λ (r : Record). onRecord r (λ x m. recordsBy recordAt l (withStream q x) (drop m (endKind ∷ length (done ++ []) ∷ []))) (got q) bad)
+    (end-there n (length done) (length (done ++ [])) (ap length d))
     ∙ ap (λ (x : List Stream). got (record { units = n; streams = x })) (sym d)
 rest-there n (x ∷ ss) done (suc l) h g f p =
     let q : Plant = record { units = n; streams = done } in
@@ -166,6 +168,7 @@ all-there l n ss h g f p = rest-there n ss [] l (omega arith) g f p
 site-there : (n : ℕ) (r : List ℕ) → unitsFault n ≡ 0 → siteAt (siteKind ∷ n ∷ r) ≡ Units n
 site-there n r e = simp (e, ne-eqb (suc (suc (length r))) 0 (omega arith), le-ltb (suc (suc (length r))) (suc siteBody) (omega arith))
 
+-- The file of a plant without fault is read as that plant.
 pub there : (p : Plant) → plantFault p ≡ 0 → plain (p .streams) ≡ true → readPlant (plantBytes p) ≡ got p
 there p f q =
     let n = p .units in

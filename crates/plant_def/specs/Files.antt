@@ -13,7 +13,8 @@ use Rattle.plant_def.specs.declared.Site.{Site}
 use Rattle.plant_def.specs.declared.Site.the-variants.{Units, Missing}
 use Rattle.plant_def.specs.declared.Record.{Record}
 use Rattle.plant_def.specs.declared.Record.the-variants.{Listed, End, Refused}
-use Rattle.plant_def.specs.Limits.{maxStreams, siteKind, meteredKind, unmeteredKind, endKind, rangedKind, siteBody, meteredBody, rangedBody, unmeteredBody, endBody}
+use Rattle.plant_def.specs.Limits.{maxStreams, siteKind, meteredKind, unmeteredKind, endKind, rangedKind}
+use Rattle.plant_def.specs.Limits.{siteBody, meteredBody, rangedBody, unmeteredBody, endBody}
 use Rattle.plant_def.specs.Plants.{Plant, unmetered, unitsFault, streamFault, plantFault, plain}
 
 -- A reading of a file: a refusal number, or a plant.

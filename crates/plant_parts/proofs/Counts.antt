@@ -38,6 +38,7 @@ module _ (n : ℕ) (ss : List Stream) (o o′ : List ℕ) (r : Done) where
   says-over : (c : ℕ) → maxStreams < c → (r ≡ record { number = over-fault; written = 0 }) × (o′ ≡ o) → WriteSays (counting c) o o′ r
   says-over c h w = simp (fault-over c h, ne-eqb over-fault 0 over-refused) w
 
+  -- What is promised of the count in a byte is promised of every count.
   pub any-count : (c : ℕ) → WriteSays (counting (heldCount c)) o o′ r → WriteSays (counting c) o o′ r
   any-count c = by-cases (ltb c (suc maxStreams))
       (λ t. let e : heldCount c ≡ c = rw t in subst (λ (k : ℕ). WriteSays (counting k) o o′ r) e)

@@ -17,9 +17,11 @@ use Rattle.plant_def.proofs.Held.{padded-more, getD-padded}
 use Rattle.plant_parts.specs.Parts.{Slices, partsAt, least, reach, listedTo}
 use Rattle.plant_parts.specs.Inner.{meterAt, rangeAt}
 
+-- The lesser is no more than the first,
 pub least-left : (a b : ℕ) → least a b ≤ a
 least-left a b = picked (λ k. k ≤ a) (ltb a b) a b (λ t. omega arith) (λ f. ltb-false a b f)
 
+-- nor than the second.
 pub least-right : (a b : ℕ) → least a b ≤ b
 least-right a b = picked (λ k. k ≤ b) (ltb a b) a b (λ t. omega (arith, ltb-true a b t)) (λ f. omega arith)
 
@@ -35,6 +37,7 @@ pub record Reached (p : Slices) (n : ℕ) : Type 0 where
   pub low-there : n ≤ length (p .low)
   pub high-there : n ≤ length (p .high)
 
+-- Every slice reaches so many streams.
 pub reached : (p : Slices) (n : ℕ) → n ≡ reach p → Reached p n
 reached p n e =
     let ends = least (length (p .from)) (length (p .to)) in
@@ -98,7 +101,8 @@ pub all-gathered : (p : Slices) (n : ℕ) (ms : List Stream) → n ≡ reach p
     → ms ≡ padded maxStreams (listedTo (meterAt (p .from) (p .to) (p .metered) (p .weight) (p .reading)) n)
     → padded maxStreams (listedTo (λ k. rangeAt (p .ranged) (p .low) (p .high) (getD ms k noStream) k) n) ≡ padded maxStreams (listedTo (partsAt p) (reach p))
 all-gathered p n ms e d =
-    ap (padded maxStreams) (listed-same (λ k. range k (getD ms k noStream)) (partsAt p) n (λ k l. ap (range k) (ap (λ (ss : List Stream). getD ss k noStream) d ∙ gathered-at meter n k (reached p n e .room) l)))
+    ap (padded maxStreams)
+    (listed-same (λ k. range k (getD ms k noStream)) (partsAt p) n (λ k l. ap (range k) (ap (λ (ss : List Stream). getD ss k noStream) d ∙ gathered-at meter n k (reached p n e .room) l)))
     ∙ ap (λ (j : ℕ). padded maxStreams (listedTo (partsAt p) j)) e
   where
     meter : ℕ → Stream

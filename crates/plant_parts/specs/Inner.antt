@@ -4,7 +4,7 @@ use mathlib.Core.List.{List}
 use lib.IntN.{ℤ, pos}
 use Prim.Native.Nat.{ℕ, suc}
 use lib.Dec.{eqb}
-use lib.ListN.{getD}
+use lib.ListN.{length, getD}
 use Rattle.plant_def.specs.declared.Stream.{Stream}
 use Rattle.plant_def.specs.Limits.{maxStreams}
 use Rattle.plant_parts.specs.Parts.{least}
@@ -38,3 +38,7 @@ rangeAt qs ls hs s k = record {
 -- A count in a byte: one over the limit stays over it.
 abbrev pub heldCount : ℕ → ℕ
 heldCount c = least c (suc maxStreams)
+
+-- How many streams the slices of ends and meters reach.
+abbrev pub metersReach : List ℕ → List ℕ → List ℕ → List ℕ → List ℤ → ℕ
+metersReach fs ts ms ws rs = least (least (length fs) (length ts)) (least (length ms) (least (length ws) (length rs)))

@@ -6,7 +6,7 @@ ghost use mathlib.Core.Path.{_≡_};
 ghost use Prim.Native.Nat.{_<_, _≤_};
 ghost use lib.ListN.{length, getD};
 ghost use Rattle.plant_parts.specs.Parts.{listedTo, least};
-ghost use Rattle.plant_parts.specs.Inner.{meterAt, rangeAt, heldCount};
+ghost use Rattle.plant_parts.specs.Inner.{meterAt, rangeAt, heldCount, metersReach};
 ghost use Rattle.plant_def.specs.Plants.{noStream};
 ghost use Rattle.plant_def.specs.Says.{padded};
 ghost use Rattle.plant_def.specs.Limits.{maxStreams};
@@ -44,8 +44,10 @@ pub fn meters_gathered(
     weight: &[u16],
     reading: &[i32],
 ) -> [Stream; MAX_STREAMS]
-    requires { ⌜ (n ≤ maxStreams) × (n ≤ length (now from)) × (n ≤ length (now to)) × (n ≤ length (now metered)) × (n ≤ length (now weight)) × (n ≤ length (now reading)) ⌝ }
-    ensures { λ r. ⌜ r ≡ padded maxStreams (listedTo (meterAt (now (from .entry)) (now (to .entry)) (now (metered .entry)) (now (weight .entry)) (now (reading .entry))) n) ⌝ }
+    requires { ⌜ (n ≤ maxStreams) × (n ≤ length (now from)) × (n ≤ length (now to)) × (n ≤ length (now metered))
+        × (n ≤ length (now weight)) × (n ≤ length (now reading)) ⌝ }
+    ensures { λ r. ⌜ r ≡ padded maxStreams
+        (listedTo (meterAt (now (from .entry)) (now (to .entry)) (now (metered .entry)) (now (weight .entry)) (now (reading .entry))) n) ⌝ }
 {
     let none = unmetered_stream(0, 0);
     let mut streams = [none; MAX_STREAMS];
@@ -84,7 +86,8 @@ pub fn ranges_gathered(
     high: &[i32],
 ) -> [Stream; MAX_STREAMS]
     requires { ⌜ (n ≤ maxStreams) × (n ≤ length (now ranged)) × (n ≤ length (now low)) × (n ≤ length (now high)) ⌝ }
-    ensures { λ r. ⌜ r ≡ padded maxStreams (listedTo (λ k. rangeAt (now (ranged .entry)) (now (low .entry)) (now (high .entry)) (getD meters k noStream) k) n) ⌝ }
+    ensures { λ r. ⌜ r ≡ padded maxStreams
+        (listedTo (λ k. rangeAt (now (ranged .entry)) (now (low .entry)) (now (high .entry)) (getD meters k noStream) k) n) ⌝ }
 {
     let none = unmetered_stream(0, 0);
     let mut streams = [none; MAX_STREAMS];
@@ -122,7 +125,7 @@ pub fn meters_reach(
     weight: &[u16],
     reading: &[i32],
 ) -> usize
-    ensures { λ r. ⌜ r ≡ least (least (length (now (from .entry))) (length (now (to .entry)))) (least (length (now (metered .entry))) (least (length (now (weight .entry))) (length (now (reading .entry))))) ⌝ }
+    ensures { λ r. ⌜ r ≡ metersReach (now (from .entry)) (now (to .entry)) (now (metered .entry)) (now (weight .entry)) (now (reading .entry)) ⌝ }
 {
     let ends = lesser(from.len(), to.len());
     let meters = lesser(weight.len(), reading.len());

@@ -23,27 +23,43 @@ module _ (n c : ℕ) (s : List ℕ) (h : length s ≡ 0 → ⊥) where
   abbrev unmetered-record : List ℕ → Record
   unmetered-record b = streamRecord unmeteredBody (unmeteredIn b) n c b
 
+  -- A metered stream.
   pub metered-at : getD s 0 0 ≡ meteredKind → streamRecord meteredBody (meteredIn (partFrom 1 s)) n c (partFrom 1 s) ≡ recordAt n c s
   metered-at e =
       ap metered-record (part-is 1 s)
-      ∙ sym (first (Refused 3) (Refused 4) (length s) kind meteredKind rangedKind unmeteredKind endKind (metered-record (drop 1 s)) (ranged-record (drop 1 s)) (unmetered-record (drop 1 s)) (endRecord c (drop 1 s)) h e)
+      ∙ sym
+      (first (Refused 3) (Refused 4) (length s) kind meteredKind rangedKind unmeteredKind endKind
+      (metered-record (drop 1 s)) (ranged-record (drop 1 s)) (unmetered-record (drop 1 s)) (endRecord c (drop 1 s)) h e)
 
   module _ (m : getD s 0 0 ≡ meteredKind → ⊥) where
+    -- A metered stream with a range.
     pub ranged-at : getD s 0 0 ≡ rangedKind → streamRecord rangedBody (rangedIn (partFrom 1 s)) n c (partFrom 1 s) ≡ recordAt n c s
     ranged-at e =
         ap ranged-record (part-is 1 s)
-        ∙ sym (second (Refused 3) (Refused 4) (length s) kind meteredKind rangedKind unmeteredKind endKind (metered-record (drop 1 s)) (ranged-record (drop 1 s)) (unmetered-record (drop 1 s)) (endRecord c (drop 1 s)) h m e)
+        ∙ sym
+        (second (Refused 3) (Refused 4) (length s) kind meteredKind rangedKind unmeteredKind endKind
+        (metered-record (drop 1 s)) (ranged-record (drop 1 s)) (unmetered-record (drop 1 s)) (endRecord c (drop 1 s)) h m e)
 
     module _ (r : getD s 0 0 ≡ rangedKind → ⊥) where
+      -- An unmetered stream.
       pub unmetered-at : getD s 0 0 ≡ unmeteredKind → streamRecord unmeteredBody (unmeteredIn (partFrom 1 s)) n c (partFrom 1 s) ≡ recordAt n c s
       unmetered-at e =
           ap unmetered-record (part-is 1 s)
-          ∙ sym (third (Refused 3) (Refused 4) (length s) kind meteredKind rangedKind unmeteredKind endKind (metered-record (drop 1 s)) (ranged-record (drop 1 s)) (unmetered-record (drop 1 s)) (endRecord c (drop 1 s)) h m r e)
+          ∙ sym
+          (third (Refused 3) (Refused 4) (length s) kind meteredKind rangedKind unmeteredKind endKind
+          (metered-record (drop 1 s)) (ranged-record (drop 1 s)) (unmetered-record (drop 1 s)) (endRecord c (drop 1 s)) h m r e)
 
+      -- The end record.
       pub end-at : (getD s 0 0 ≡ unmeteredKind → ⊥) → getD s 0 0 ≡ endKind → endRecord c (partFrom 1 s) ≡ recordAt n c s
       end-at u e =
           ap (endRecord c) (part-is 1 s)
-          ∙ sym (fourth (Refused 3) (Refused 4) (length s) kind meteredKind rangedKind unmeteredKind endKind (metered-record (drop 1 s)) (ranged-record (drop 1 s)) (unmetered-record (drop 1 s)) (endRecord c (drop 1 s)) h m r u e)
+          ∙ sym
+          (fourth (Refused 3) (Refused 4) (length s) kind meteredKind rangedKind unmeteredKind endKind
+          (metered-record (drop 1 s)) (ranged-record (drop 1 s)) (unmetered-record (drop 1 s)) (endRecord c (drop 1 s)) h m r u e)
 
+      -- No kind that is allowed here: 4.
       pub no-kind : (getD s 0 0 ≡ unmeteredKind → ⊥) → (getD s 0 0 ≡ endKind → ⊥) → Refused 4 ≡ recordAt n c s
-      no-kind u e = sym (none (Refused 3) (Refused 4) (length s) kind meteredKind rangedKind unmeteredKind endKind (metered-record (drop 1 s)) (ranged-record (drop 1 s)) (unmetered-record (drop 1 s)) (endRecord c (drop 1 s)) h m r u e)
+      no-kind u e =
+          sym
+          (none (Refused 3) (Refused 4) (length s) kind meteredKind rangedKind unmeteredKind endKind
+          (metered-record (drop 1 s)) (ranged-record (drop 1 s)) (unmetered-record (drop 1 s)) (endRecord c (drop 1 s)) h m r u e)

@@ -47,9 +47,11 @@ bytes-more i ss h =
 abbrev pub Streams : List Stream → ℕ → List ℕ → List ℕ → ℕ → ℕ → Type 0
 Streams ss k o o₁ at i = Rows (λ (j : ℕ). streamsBytes (take j ss)) (suc rangedBody) k o o₁ at i
 
+-- Before the first stream.
 pub no-streams : (ss : List Stream) (k : ℕ) (o : List ℕ) → suc rangedBody * k ≤ length o → Streams ss k o o 0 0
 no-streams ss k o h = no-rows (λ (j : ℕ). streamsBytes (take j ss)) (suc rangedBody) k o refl h
 
+-- One stream more.
 pub one-stream : {ss : List Stream} {k : ℕ} {o o₁ : List ℕ} {at i : ℕ} → Streams ss k o o₁ at i → {last : List ℕ} {m : ℕ} → i < k → k ≤ length ss
     → Put (streamBytes (getD ss i noStream)) (partFrom at o₁) last m → Streams ss k o (returned at o₁ last) (at + m) (i + 1)
 one-stream {ss} {k} {o} {o₁} {at} {i} w h long p =
@@ -72,9 +74,11 @@ streamed n k ss o {m = m} few held wide site p =
     record { listed = l; wide = wide; most = b; so-far = record { bytes = q .bytes; size = q .size ∙ ap (λ (j : ℕ). 2 + j) (sym (p .size)); fits = omega arith } }
 
 module _ {n k : ℕ} {ss : List Stream} {o o₁ : List ℕ} {m : ℕ} (w : Streamed n k ss o o₁ m) where
+  -- The part behind the streams may be lent.
   pub end-lend : 2 + m ≤ length o₁
   end-lend = may-lend (w .so-far)
 
+  -- There is room in it for the end record.
   pub end-room : 2 ≤ length (partFrom (2 + m) o₁)
   end-room = let b = w .most in let l = w .wide in room (w .so-far) 2 (omega arith)
 

@@ -1,7 +1,8 @@
-// The plant writer: the record of a stream, and the whole file.
+// The plant writer: the record of a stream, the whole file, and a reading written anew.
 use plant_check::parts_fault;
 use plant_def::Done;
 use plant_def::Plant;
+use plant_def::Read;
 use plant_def::Stream;
 use plant_def::limits::END;
 use plant_def::limits::LONGEST_FILE;
@@ -22,6 +23,7 @@ ghost use Rattle.num_bytes.specs.Inner.{Put};
 ghost use Rattle.plant_def.specs.Limits.{rangedKind, meteredBody, rangedBody, maxStreams, longestFile};
 ghost use Rattle.plant_def.specs.Files.{meterBytes, rangeBytes, streamBytes, streamsBytes, plantBytes};
 ghost use Rattle.plant_def.specs.Says.{listing, WriteSays};
+ghost use Rattle.plant_def.specs.Needs.{WritesRead};
 
 // A kind and two places: the start of a stream record.
 fn put_ends(kind: u8, from: u8, to: u8, out: &mut [u8])
@@ -134,4 +136,25 @@ pub fn write_plant(p: Plant, file: &mut [u8]) -> Done
         number: 0,
         written: written,
     }
+}
+
+// What was read, written as the plant writer writes it; or 1 for a slice that is too short, or the reading's refusal.
+pub fn write_read(read: Read, out: &mut [u8]) -> Done
+    ensures { λ r. ⌜ WritesRead read (now (out .entry)) (now (out .exit)) r ⌝ }
+{
+    if out.len() < LONGEST_FILE {
+        return Done {
+            number: 1,
+            written: 0,
+        };
+    }
+    let number = read.number;
+    if number != 0 {
+        return Done {
+            number: number,
+            written: 0,
+        };
+    }
+    let p = read.plant;
+    write_plant(p, out)
 }

@@ -92,6 +92,7 @@ survey-not file r s (got p) e n = elim (decLe (length (p .streams)) maxSurveyed)
   | no h ↦ let q : _≡_ {A = ℕ} 23 19 = sym (ap (λ (y : Layouts). y .number) (s .too-many p e (omega arith))) ∙ n in omega arith
 ]
 
+-- The calls that never give 19.
 pub without-19 : Without-19
 without-19 = record {
   writer = write-not-19;
@@ -139,6 +140,7 @@ one-lent file o o₁ o₂ n₁ n₂ c₁ c₂ a b = elim (decLe surveySize (leng
   | no h ↦ one-over (refusedWith 1) (refusedWith 1) o o₁ o₂ n₁ n₂ c₁ c₂ refl (a .too-short (omega arith)) (b .too-short (omega arith))
 ]
 
+-- The record of bounds.
 pub bounds : Bounds
 bounds = record {
   translated = written-short;

@@ -22,6 +22,7 @@ use Rattle.foreign_def.proofs.Promise.{foreign-sheets, own-numbers}
 use Rattle.promises.specs.Promises.{Promises}
 use Rattle.promises.proofs.Bounds.{without-19, bounds}
 
+-- The record of all promises.
 pub promises : Promises
 promises = record {
   longest-file = longest-file;

@@ -13,8 +13,8 @@ use Rattle.plant_def.specs.Files.{Got, got, readPlant}
 use Rattle.plant_def.specs.Within.{Accepted}
 use Rattle.plant_def.specs.Says.{plantOf, readOf}
 use Rattle.plant_def.proofs.Arrayed.{all-listed, within-of, read-held}
+use Rattle.plant_def.proofs.Found.{read-bad, found}
 use Rattle.flow_def.proofs.Lists.{Written}
-use Rattle.sheet_def.proofs.Promise.{read-bad, found}
 use Rattle.purchase_def.specs.declared.Bought.{Bought}
 use Rattle.purchase_def.specs.Purchases.{maxPrice, unmeteredTo, priceIn, pricesFault}
 use Rattle.purchase_def.specs.Says.{noneBought, boughtOf, BuyOf, BuyWith, BuySays}
@@ -30,6 +30,7 @@ none-past (suc n) (suc k) = none-past n k
 -- The price of each stream of a plant, held in an array.
 module _ (p : Arrays.Plant) (a : Accepted p) (prices each : List ℕ) (z : pricesFault (plantOf p) prices ≡ 0)
     (w : Written 0 maxStreams (λ k x. priceIn (plantOf p .streams) prices k) (replicate maxStreams 0) each (p .count)) where
+  -- Every price by stream number is low.
   pub held-low : (k : ℕ) → getD each k 0 ≤ maxPrice
   held-low k = elim (decLe (p .count) k) [
     | yes h ↦ omega (arith, w .rest k h, none-past maxStreams k)
@@ -48,6 +49,7 @@ module _ (p : Arrays.Plant) (a : Accepted p) (prices each : List ℕ) (z : price
     );
   }
 
+-- Prices with a fault: the fault is the answer.
 pub mispriced : (p : Plant) (prices : List ℕ) (f : ℕ) → f ≡ pricesFault p prices → (f ≡ 0 → ⊥) → (r : Bought) → r ≡ noneBought f → BuyOf p prices r
 mispriced p prices f e n r q = record { unpriced = λ m. q ∙ ap noneBought e; bought = λ z. absurd (n (e ∙ z)) }
 
@@ -56,6 +58,7 @@ module _ (file prices : List ℕ) (y : Read) (e : y ≡ readOf (readPlant file))
   pub unread : (y .number ≡ 0 → ⊥) → r ≡ noneBought (y .number) → BuySays file prices r
   unread n q = subst (λ (g : Got). BuyWith g prices r) (sym (read-bad (readPlant file) y e n)) q
 
+  -- A file that is read: the answer of its plant.
   pub answered : y .number ≡ 0 → BuyOf (plantOf (y .plant)) prices r → BuySays file prices r
   answered n b =
       let q = found file y e n in

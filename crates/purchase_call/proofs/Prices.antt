@@ -22,11 +22,13 @@ use Rattle.purchase_def.specs.Purchases.{maxPrice, unmeteredTo, someUnfair, pri
 abbrev pub off : ℕ → Bool
 off c = eqb c 0 || ltb maxPrice c
 
+-- One price is unfair.
 pub one-off : (cs : List ℕ) (k : ℕ) → k < length cs → off (getD cs k 0) ≡ true → true ≡ someUnfair cs
 one-off [] k l e = absurd (omega arith)
 one-off (c ∷ cs) zero l e = sym (or-left (off c) (someUnfair cs) e)
 one-off (c ∷ cs) (suc k) l e = sym (or-right (off c) (someUnfair cs) (sym (one-off cs k (omega arith) e)))
 
+-- None is.
 pub none-off : (cs : List ℕ) → ((k : ℕ) → k < length cs → off (getD cs k 0) ≡ false) → false ≡ someUnfair cs
 none-off [] h = refl
 none-off (c ∷ cs) h = none-off cs (λ k l. h (suc k) (omega arith)) ∙ sym (ap (λ (b : Bool). b || someUnfair cs) (h 0 (omega arith)))
@@ -59,9 +61,11 @@ module _ (p : Arrays.Plant) (a : Accepted p) (prices : List ℕ) (n : ℕ) (e : 
   all-unmetered : unmeteredTo (plantOf p .streams) (length (plantOf p .streams)) ≡ n
   all-unmetered = rw (all-listed p a) (sym e)
 
+  -- The prices are not one for each unmetered stream.
   pub not-one-each : (length prices ≡ n → ⊥) → 21 ≡ pricesFault (plantOf p) prices
   not-one-each h = rw (all-unmetered, ne-eqb (length prices) n h) refl
 
+  -- They are: 21 where one is unfair.
   pub one-each : length prices ≡ n → (b : Bool) → b ≡ someUnfair prices → pick b 21 0 ≡ pricesFault (plantOf p) prices
   one-each h b q = rw (all-unmetered, eq-eqb (length prices) n h, ← q) (told b)
     where
@@ -69,6 +73,7 @@ module _ (p : Arrays.Plant) (a : Accepted p) (prices : List ℕ) (n : ℕ) (e : 
       told true = refl
       told false = refl
 
+-- Without fault no price is unfair.
 pub fair-all : (p : Plant) (prices : List ℕ) → pricesFault p prices ≡ 0 → someUnfair prices ≡ false
 fair-all p prices e =
     let short = not (eqb (length prices) (unmeteredTo (p .streams) (length (p .streams)))) in

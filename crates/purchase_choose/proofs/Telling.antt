@@ -5,7 +5,7 @@ use mathlib.Core.List.{List, [], _∷_, _++_, append-nil}
 use Prim.Native.Nat.{ℕ, zero, suc, _+_, _≤_, _<_, _^_}
 use native.Mathlib.Numerals.{add-one}
 use native.Mathlib.Omega.{arith}
-use lib.ListN.{length, getD, set, replicate, length-append}
+use lib.ListN.{length, getD, replicate, length-append}
 use Rattle.num_bytes.specs.Arrays.{filled}
 use Rattle.num_bytes.specs.Choice.{pick}
 use Rattle.num_bytes.specs.Inner.{values}
@@ -23,7 +23,7 @@ use Rattle.flow_def.specs.Metering.{chosen}
 use Rattle.purchase_def.specs.declared.Bought.{Bought}
 use Rattle.purchase_def.specs.Purchases.{maxPrice, pricesTo, priceOf, numbersFrom}
 use Rattle.purchase_def.specs.Says.{noneBought, boughtOf}
-use Rattle.purchase_def.specs.Choosing.{dearer, bought, toBuy}
+use Rattle.purchase_def.specs.Choosing.{dearer, bought, toBuy, withMore}
 use Rattle.purchase_def.proofs.Sets.{bought-by-labels, sum-most, prices-same}
 
 -- A metered stream is not bought; another by the labels of those that go before it.
@@ -31,6 +31,7 @@ module _ (p : Arrays.Plant) (a : Accepted p) (price : ℕ → ℕ) (i : ℕ) (l 
   pub metered-not : getD (p .streams) i noStream .metered ≡ true → false ≡ bought (plantOf p) price i
   metered-not t = rw (listed-at p a i l, t)
 
+  -- Another is bought where the labels join its ends.
   pub by-label : getD (p .streams) i noStream .metered ≡ false → (labels : List ℕ) → labels ≡ labelsOf (dearer price i) (plantOf p) → (r : Bool)
       → r ≡ oneLabel labels (getD (p .streams) i noStream .from) (getD (p .streams) i noStream .to) → r ≡ bought (plantOf p) price i
   by-label t labels e r q =
@@ -44,6 +45,7 @@ module _ (price : ℕ → ℕ) where
   abbrev pub soFar : (ℕ → Bool) → ℕ → Bought
   soFar f n = record { number = 0; count = length (numbersFrom 1 (values n f)); streams = filled 0 maxStreams (numbersFrom 1 (values n f)); price = pricesTo n f price }
 
+  -- None are bought yet.
   pub none-yet : (f : ℕ → Bool) (b : Bought) → b ≡ noneBought 0 → b ≡ soFar f 0
   none-yet f b e = e ∙ (λ j. record { number = 0; count = 0; streams = filled-none 0 maxStreams j; price = 0 })
 
@@ -57,6 +59,7 @@ module _ (price : ℕ → ℕ) where
       go true r = let e : k + suc n ≡ suc k + n = omega arith in rw e (ap (λ (l : List ℕ). k ∷ l) r)
       go false r = let e : k + suc n ≡ suc k + n = omega arith in rw e r
 
+  -- No more numbers than streams.
   pub numbers-few : (k n : ℕ) (f : ℕ → Bool) → length (numbersFrom k (values n f)) ≤ n
   numbers-few k zero f = omega arith
   numbers-few k (suc n) f = go (f 0) (numbers-few (suc k) n (λ j. f (suc j)))
@@ -79,13 +82,12 @@ module _ (price : ℕ → ℕ) where
   -- One stream more.
   pub next : (f : ℕ → Bool) (n : ℕ) (b : Bought) (taken : Bool) (stream cost : ℕ) (r : Bought) → n < maxStreams → b ≡ soFar f n → taken ≡ f n
       → stream ≡ n + 1 → cost ≡ price n
-      → r ≡ pick taken (record { number = b .number; count = b .count + 1; streams = set (b .streams) (b .count) stream; price = b .price + cost }) b
+      → r ≡ pick taken (withMore b stream cost) b
       → r ≡ soFar f (n + 1)
   next f n b taken stream cost r small e t s c q = q ∙ rw (e, s, c, t, add-one n) (go (f n) refl)
     where
       go : (d : Bool) → f n ≡ d
-          → pick d (record { number = 0; count = length (numbersFrom 1 (values n f)) + 1; streams = set (filled 0 maxStreams (numbersFrom 1 (values n f))) (length (numbersFrom 1 (values n f))) (suc n); price = pricesTo n f price + price n }) (soFar f n)
-          ≡ soFar f (suc n)
+          → pick d (withMore (soFar f n) (suc n) (price n)) (soFar f n) ≡ soFar f (suc n)
       go true y =
           let here : 1 + n ≡ suc n = omega arith in
           let more : numbersFrom 1 (values (suc n) f) ≡ numbersFrom 1 (values n f) ++ (suc n ∷ []) = numbers-next 1 n f ∙ rw (y, here) refl in
@@ -116,6 +118,7 @@ module _ (price : ℕ → ℕ) where
           (prices-same (length (plantOf p .streams)) f (chosen (toBuy (plantOf p) price)) price price
           (λ k l. sym (values-at f false (length (plantOf p .streams)) k l)) (λ k l. refl))
 
+  -- All streams: the answer of the plant.
   pub told : (p : Arrays.Plant) → Accepted p → (i : ℕ) (b : Bought) → i ≡ p .count → b ≡ soFar (bought (plantOf p) price) i
       → b ≡ boughtOf price (toBuy (plantOf p) price)
   told p a i b e q = q ∙ ap (λ (m : ℕ). soFar (bought (plantOf p) price) m) e ∙ all-told p a

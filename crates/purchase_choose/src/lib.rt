@@ -11,7 +11,7 @@ ghost use mathlib.Core.Path.{_≡_};
 ghost use mathlib.Core.Bool.{not, _&&_, _||_};
 ghost use lib.Dec.{eqb, ltb};
 ghost use Prim.Native.Nat.{ℕ, _+_, _<_, _≤_, _^_};
-ghost use lib.ListN.{length, getD, set};
+ghost use lib.ListN.{length, getD};
 ghost use Rattle.num_bytes.specs.Choice.{pick};
 ghost use Rattle.plant_def.specs.Limits.{maxStreams};
 ghost use Rattle.plant_def.specs.Within.{Accepted};
@@ -19,7 +19,7 @@ ghost use Rattle.plant_def.specs.Says.{plantOf};
 ghost use Rattle.flow_def.specs.Labels.{labelsOf};
 ghost use Rattle.purchase_def.specs.Purchases.{maxPrice};
 ghost use Rattle.purchase_def.specs.Says.{noneBought, boughtOf};
-ghost use Rattle.purchase_def.specs.Choosing.{dearer, bought, toBuy};
+ghost use Rattle.purchase_def.specs.Choosing.{dearer, bought, toBuy, withMore};
 
 // Whether stream j, at price b, goes before stream i, at price a.
 fn goes(a: u32, b: u32, i: usize, j: usize) -> bool
@@ -91,7 +91,7 @@ fn is_bought(p: Plant, prices: [u32; MAX_STREAMS], i: usize) -> bool
 // One stream more is bought.
 fn with_more(b: Bought, stream: u8, price: u32) -> Bought
     requires { ⌜ (b .count < maxStreams) × (length (b .streams) ≡ maxStreams) × (b .price + price < 2 ^ 32) ⌝ }
-    ensures { λ r. ⌜ r ≡ record { number = b .number; count = b .count + 1; streams = set (b .streams) (b .count) stream; price = b .price + price } ⌝ }
+    ensures { λ r. ⌜ r ≡ withMore b stream price ⌝ }
 {
     let at = b.count as usize;
     let mut streams = b.streams;
@@ -107,7 +107,7 @@ fn with_more(b: Bought, stream: u8, price: u32) -> Bought
 // One stream more, where it is bought.
 fn with_stream(b: Bought, taken: bool, stream: u8, price: u32) -> Bought
     requires { ⌜ (b .count < maxStreams) × (length (b .streams) ≡ maxStreams) × (b .price + price < 2 ^ 32) ⌝ }
-    ensures { λ r. ⌜ r ≡ pick taken (record { number = b .number; count = b .count + 1; streams = set (b .streams) (b .count) stream; price = b .price + price }) b ⌝ }
+    ensures { λ r. ⌜ r ≡ pick taken (withMore b stream price) b ⌝ }
 {
     if taken {
         return with_more(b, stream, price);

@@ -42,6 +42,7 @@ module _ (p : Plant) (w : Within p) (price : ℕ → ℕ) where
   bought-unmetered : (k : ℕ) → k < n → chosen (toBuy p price) k ≡ true → streamAt (p .streams) k .metered ≡ false
   bought-unmetered k l e = not-true _ (and-left (not (streamAt (p .streams) k .metered)) _ (sym (bought-at k l) ∙ e))
 
+  -- With it nothing is withheld.
   pub buying-serves : Serves p (toBuy p price)
   buying-serves = record {
     long = values-long (bought p price) n;
@@ -77,6 +78,7 @@ module _ (p : Plant) (w : Within p) (price : ℕ → ℕ) where
     in-layers : (set : List Bool) → length set ≡ n → priceOf price set ≡ sumTo (suc top) (in-layer set)
     in-layers set e = rw e (layers (suc top) n (chosen set) price (λ k l. omega (arith, most-le n price k l)))
 
+    -- No set that serves costs less.
     pub buying-least : priceOf price (toBuy p price) ≤ priceOf price other
     buying-least =
         omega (
@@ -127,7 +129,12 @@ module _ (p : Plant) (w : Within p) (price : ℕ → ℕ) where
           later k h g =
               value-layer n price (price m - 1) k h
               ∙ same-test (leb (suc (price m - 1) * n) (value n price k)) (high k)
-              (λ q. le-leb (suc (value n price m)) (value n price k) (omega (arith, ltb-true (price m - 1) (price k) (value-layer n price (price m - 1) k h ∙ q), over k h g (ltb-true (price m - 1) (price k) (value-layer n price (price m - 1) k h ∙ q)))))
+              (λ q. le-leb (suc (value n price m)) (value n price k)
+              (omega (
+                arith,
+                ltb-true (price m - 1) (price k) (value-layer n price (price m - 1) k h ∙ q),
+                over k h g (ltb-true (price m - 1) (price k) (value-layer n price (price m - 1) k h ∙ q)),
+              )))
               (λ q. le-leb (suc (price m - 1) * n) (value n price k) (omega (arith, leb-true (suc (value n price m)) (value n price k) q, whole)))
             where
               whole : suc (price m - 1) * n ≡ price m * n
@@ -149,6 +156,7 @@ module _ (p : Plant) (w : Within p) (price : ℕ → ℕ) where
                 | no g ↦ rw (later k h (omega arith)) (omega arith)
               ])
 
+      -- Of those that cost as little none has lower numbers.
       pub buying-first : notLater (numbersOf (toBuy p price)) (numbersOf other) ≡ true
       buying-first = leads-first 1 (toBuy p price) other (values-long (bought p price) n ∙ sym (s .long)) size-same leads
 

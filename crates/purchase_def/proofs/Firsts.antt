@@ -13,6 +13,7 @@ use Rattle.flow_def.specs.Metering.{chosen}
 use Rattle.flow_def.proofs.Counts.{count-front}
 use Rattle.purchase_def.specs.Purchases.{numbersFrom, notLater}
 
+-- As many numbers as streams are chosen.
 pub numbers-long : (i : ℕ) (set : List Bool) → length (numbersFrom i set) ≡ countTo (length set) (chosen set)
 numbers-long i [] = refl
 numbers-long i (true ∷ set) = omega (arith, count-front (length set) (chosen (true ∷ set)), numbers-long (suc i) set)
@@ -34,6 +35,7 @@ leads-on b bs cs h m l same = h (suc m) (omega arith) all
     all zero g = refl
     all (suc k) g = same k (omega arith)
 
+-- Of two sets of one size, the one that leads comes first.
 pub leads-first : (i : ℕ) (bs cs : List Bool) → length bs ≡ length cs → length (numbersFrom i bs) ≡ length (numbersFrom i cs) → Leads bs cs
     → notLater (numbersFrom i bs) (numbersFrom i cs) ≡ true
 leads-first i [] cs e s h = refl

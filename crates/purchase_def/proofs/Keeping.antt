@@ -46,6 +46,7 @@ module _ (p : Plant) (small : p .units ≤ maxUnits) (w : Inside (p .units) (p .
   abbrev buys : ℕ → Bool
   buys i = not (streamAt (p .streams) i .metered) && has (streamAt (p .streams) i .to) (joinedTo (going i) p (streamAt (p .streams) i .from))
 
+  -- The streams that are kept unmetered.
   abbrev pub kept : Counting
   kept j s = not (s .metered) && not (buys j)
 
@@ -159,6 +160,7 @@ module _ (p : Plant) (small : p .units ≤ maxUnits) (w : Inside (p .units) (p .
         go (Through.returns m b e q a z) less = at-least m t b e q c
             (λ h. chain-trans (go-before m (suc t) b (omega arith) z) (chain-trans (chain-sym (itself m b h)) (go-before m (suc t) b (omega arith) a)))
 
+  -- They have no loop.
   pub kept-free : Free kept (p .streams)
   kept-free i l e c =
       no-loop i l e top 0 (omega arith)
@@ -202,6 +204,7 @@ module _ (p : Plant) (small : p .units ≤ maxUnits) (w : Inside (p .units) (p .
   pub kept-before : ℕ → Counting
   kept-before i j s = kept j s && goes i j
 
+  -- What goes before a stream joins its ends where what is kept of it does.
   pub joined-kept : (i : ℕ) → i < length (p .streams) → has (to i) (joinedTo (going i) p (from i)) ≡ has (to i) (joinedTo (kept-before i) p (from i))
   unfolding kept-before
   joined-kept i l =

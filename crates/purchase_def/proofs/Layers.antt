@@ -20,10 +20,12 @@ abbrev pub sumTo : ℕ → (ℕ → ℕ) → ℕ
 sumTo zero f = 0
 sumTo (suc n) f = f n + sumTo n f
 
+-- Sums of parts, none of which is above the other.
 pub sum-le : (n : ℕ) (f g : ℕ → ℕ) → ((k : ℕ) → k < n → f k ≤ g k) → sumTo n f ≤ sumTo n g
 sum-le zero f g h = omega arith
 sum-le (suc n) f g h = omega (arith, h n (omega arith), sum-le n f g (λ k l. h k (omega arith)))
 
+-- Of equal sums the parts are equal.
 pub sum-tight : (n : ℕ) (f g : ℕ → ℕ) → ((k : ℕ) → k < n → f k ≤ g k) → sumTo n f ≡ sumTo n g → (k : ℕ) → k < n → f k ≡ g k
 sum-tight zero f g h e k l = absurd (omega arith)
 sum-tight (suc n) f g h e k l = elim (ℕ-discrete k n) [
@@ -54,6 +56,7 @@ layer-if : (m q : ℕ) (b : Bool) → q ≤ m → sumTo m (λ t. one (b && ltb t
 layer-if m q true h = layer m q .0 h
 layer-if m q false h = sum-none m
 
+-- A sum of prices, layer by layer.
 pub layers : (m n : ℕ) (test : ℕ → Bool) (price : ℕ → ℕ) → ((k : ℕ) → k < n → price k ≤ m)
     → pricesTo n test price ≡ sumTo m (λ t. countTo n (λ k. test k && ltb t (price k)))
 layers m zero test price h = sym (sum-none m)
@@ -67,6 +70,7 @@ layers m (suc n) test price h =
 
 -- Prices, equal ones by number, as one value: n streams.
 module _ (n : ℕ) (price : ℕ → ℕ) where
+  -- Price and number in one value.
   abbrev pub value : ℕ → ℕ
   value k = price k * n + k
 
@@ -74,6 +78,7 @@ module _ (n : ℕ) (price : ℕ → ℕ) where
   dear : (i j : ℕ) → i < n → price i < price j → value i < value j
   dear i j l h = omega (arith, mul-le-mul-right n h)
 
+  -- A price above t, by the values.
   pub value-layer : (t k : ℕ) → k < n → ltb t (price k) ≡ leb (suc t * n) (value k)
   value-layer t k l =
       same-test (ltb t (price k)) (leb (suc t * n) (value k))
@@ -85,6 +90,7 @@ module _ (n : ℕ) (price : ℕ → ℕ) where
             absurd (omega (arith, leb-true (suc t * n) (value k) e, mul-le-mul-right n low))
       ])
 
+  -- The values are in the order of the streams.
   pub ordered : Ordered n (before price) value (suc (most n price) * n)
   ordered = record {
     under = λ k l. omega (arith, mul-le-mul-right n (most-le n price k l));

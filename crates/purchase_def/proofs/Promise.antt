@@ -57,12 +57,14 @@ few-with : (file prices : List ℕ) (r : Bought) (g : Got) → readPlant file �
 few-with file prices r (bad f) e b = rw b (omega arith)
 few-with file prices r (got p) e b = few-of p (read-within file p e) prices r b
 
+-- No more numbers than there may be, and than the slice holds.
 pub few-lent : (file prices : List ℕ) (room : ℕ) (r : Bought) → LentSays file prices room r → (r .count ≤ maxStreams) × (r .count ≤ room)
 few-lent file prices room r b = elim (decLe maxStreams room) [
   | yes h ↦ let few = few-with file prices r (readPlant file) refl (b .enough h) in (few, omega (arith, few))
   | no h ↦ let z : r .count ≡ 0 = rw (b .short (omega arith)) in (omega arith, omega arith)
 ]
 
+-- The record of what is promised of meters to buy.
 pub meters-to-buy : Meters-to-buy
 meters-to-buy = record {
   some = λ file prices p e z. (toBuy p (priceIn (p .streams) prices), to-buy p (read-within file p e) prices z);

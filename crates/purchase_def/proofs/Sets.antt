@@ -64,10 +64,12 @@ module _ (p : Plant) (prices : List ℕ) (e : pricesFault p prices ≡ 0) where
           let q : suc k + (length (p .streams) - suc k) ≡ length (p .streams) = omega arith in
           rw q at (unmetered-more (p .streams) (suc k) (length (p .streams) - suc k))
 
+  -- The price of an unmetered stream is fair.
   pub fair-at : (k : ℕ) → k < length (p .streams) → streamAt (p .streams) k .metered ≡ false
       → (1 ≤ priceIn (p .streams) prices k) × (priceIn (p .streams) prices k ≤ maxPrice)
   fair-at k l m = fair prices (unmeteredTo (p .streams) k) (or-none-right (not (eqb (length prices) all)) (someUnfair prices) tests) (listed k l m)
 
+  -- Every price by stream number is fair.
   pub fair-prices : Priced p (priceIn (p .streams) prices)
   fair-prices k l m = fair-at k l m .0
 
@@ -104,6 +106,7 @@ module _ (p : Plant) (w : Within p) (f g : ℕ → ℕ) (e : (k : ℕ) → k < l
       each : (j : ℕ) → j < length (p .streams) → dearer f i j (streamAt (p .streams) j) ≡ dearer g i j (streamAt (p .streams) j)
       each j b = rw (e i l, e j b)
 
+  -- The answer is the same.
   pub same-bought : boughtOf f (toBuy p f) ≡ boughtOf g (toBuy p g)
   same-bought =
       let n = length (p .streams) in
@@ -138,6 +141,7 @@ none-numbers i [] h = refl
 none-numbers i (true ∷ set) h = clash true refl (h 0 (omega arith))
 none-numbers i (false ∷ set) h = none-numbers (suc i) set (λ k l. h (suc k) (omega arith))
 
+-- Where nothing is withheld, nothing is bought.
 pub nothing-to-buy : (p : Plant) → Within p → (price : ℕ → ℕ) → NoneWithheld p → numbersOf (toBuy p price) ≡ []
 nothing-to-buy p w price none = none-numbers 1 (toBuy p price) (λ k l.
     let b : k < length (p .streams) = rw (values-long (bought p price) (length (p .streams))) at l in
@@ -157,9 +161,11 @@ first-one (x ∷ xs) (y ∷ ys) e f =
     (λ u. let q : x ≡ y = eqb-true x y (and-left (eqb x y) _ t) in
     let r = first-one xs ys (and-right (eqb x y) _ t) (and-right (eqb y x) _ u) in rw (q, r)))
 
+-- Two best sets cost the same.
 pub same-price : (p : Plant) (price : ℕ → ℕ) (a b : List Bool) → Best p price a → Best p price b → priceOf price a ≡ priceOf price b
 same-price p price a b x y = le-antisymm (x .least b (y .serves)) (y .least a (x .serves))
 
+-- They have the same numbers.
 pub one-best : (p : Plant) (price : ℕ → ℕ) (a b : List Bool) → Best p price a → Best p price b → numbersOf a ≡ numbersOf b
 one-best p price a b x y =
     let same = same-price p price a b x y in

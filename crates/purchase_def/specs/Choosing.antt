@@ -1,14 +1,15 @@
 -- How the set to buy is chosen, without a search through all sets. For inner promises and proofs: no public promise cites it.
 use mathlib.Core.Bool.{Bool, not, _&&_, _||_}
 use mathlib.Core.List.{List}
-use Prim.Native.Nat.{ℕ}
+use Prim.Native.Nat.{ℕ, _+_}
 use lib.Dec.{eqb, ltb}
-use lib.ListN.{length}
+use lib.ListN.{length, set}
 use Rattle.num_bytes.specs.Inner.{values}
 use Rattle.plant_def.specs.Plants.{Plant}
 use Rattle.flow_def.specs.Flows.{streamAt}
 use Rattle.flow_def.specs.Chains.{Counting}
 use Rattle.flow_def.specs.Classes.{has, joinedTo}
+use Rattle.purchase_def.specs.declared.Bought.{Bought}
 
 -- Stream j goes before stream i where streams are left unmetered: it is dearer, or as dear and of a higher number.
 abbrev pub before : (ℕ → ℕ) → ℕ → ℕ → Bool
@@ -26,3 +27,8 @@ bought p price i =
 
 abbrev pub toBuy : Plant → (ℕ → ℕ) → List Bool
 toBuy p price = values (length (p .streams)) (bought p price)
+
+-- One stream more on the list, at its price.
+abbrev pub withMore : Bought → ℕ → ℕ → Bought
+withMore b stream price =
+    record { number = b .number; count = b .count + 1; streams = set (b .streams) (b .count) stream; price = b .price + price }

@@ -3,15 +3,14 @@ use plant_def::Done;
 use plant_def::Plant;
 use plant_def::Read;
 use plant_def::Stream;
-use plant_def::limits::LONGEST_FILE;
 use plant_def::limits::MAX_RANGE;
 use plant_def::limits::MAX_STREAMS;
 use plant_frame::refusal;
 use plant_read::read_plant;
-use plant_write::write_plant;
+use plant_write::write_read;
 ghost use mathlib.Core.Path.{_≡_};
 ghost use Rattle.ranged_def.specs.Moves.{widened, bared, narrower, narrowFault, toRanged, fromRanged, ToSays, FromSays};
-ghost use Rattle.ranged_def.specs.Inner.{moving, WritesRead};
+ghost use Rattle.ranged_def.specs.Inner.{moving};
 ghost use mathlib.Core.List.{map};
 ghost use Rattle.plant_def.specs.Files.{readPlant};
 ghost use Rattle.plant_def.specs.Says.{readOf};
@@ -163,27 +162,6 @@ fn read_home(file: &[u8]) -> Read
             streams: all,
         },
     }
-}
-
-// What was read, written as the plant writer writes it; or 1 for a slice that is too short, or the reading's refusal.
-fn write_read(read: Read, out: &mut [u8]) -> Done
-    ensures { λ r. ⌜ WritesRead read (now (out .entry)) (now (out .exit)) r ⌝ }
-{
-    if out.len() < LONGEST_FILE {
-        return Done {
-            number: 1,
-            written: 0,
-        };
-    }
-    let number = read.number;
-    if number != 0 {
-        return Done {
-            number: number,
-            written: 0,
-        };
-    }
-    let p = read.plant;
-    write_plant(p, out)
 }
 
 // The plant file in the ranged form, at the front of the slice; or a refusal that leaves the slice as it was.

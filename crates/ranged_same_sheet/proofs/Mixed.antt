@@ -1,4 +1,4 @@
--- The examples of mixed plants, by computed tests: prices certify each flow.
+-- The examples of mixed plants, by computed tests: potentials certify each flow.
 use mathlib.Core.Path.{_≡_, refl, ap}
 use mathlib.Core.Bool.{true}
 use mathlib.Core.List.{List, [], _∷_}

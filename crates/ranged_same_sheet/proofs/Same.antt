@@ -160,9 +160,11 @@ Said office lasts o o′ r g = SheetWith g office lasts o o′ r
 never-19 : (file : List ℕ) (p : Plant) → readPlant file ≡ got p → Within p → rangeless (p .streams) ≡ true
     → (office : ℕ) (lasts o o′ : List ℕ) (r : Sheet) → SheetSays file office lasts o o′ r → r .number ≡ 19 → ⊥
 never-19 file p e w free office lasts o o′ r =
-    never (eqb (callFault office lasts o) 0) (SheetWith (readPlant file) office lasts o o′ r) (callFault office lasts o) lasts o o′ r (call-faults (ltb (length o) leastSlice) (leb offices office) (eqb (counterOf office lasts) topSheet))
+    never (eqb (callFault office lasts o) 0) (SheetWith (readPlant file) office lasts o o′ r) (callFault office lasts o) lasts o o′ r
+    (call-faults (ltb (length o) leastSlice) (leb offices office) (eqb (counterOf office lasts) topSheet))
     (λ s. with-sheet p w free office lasts o o′ r (subst (Said office lasts o o′ r) e s))
 
+-- A plant without ranges has the same sheets in the ranged form.
 pub moved-sheets : Moved-sheets
 moved-sheets file p e free = record {
   read = there;

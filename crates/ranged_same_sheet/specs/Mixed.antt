@@ -36,7 +36,8 @@ mixed =
 abbrev pub mixedMoved : Example
 mixedMoved =
     record {
-      file = site 1 ++ ranged 0 1 1 (pos 0) (pos 2000000000) (pos 2000000000) ++ ranged 0 1 1000 (pos 3001000) widestLow widestHigh ++ ranged 1 0 1 (pos 0) widestLow widestHigh ++ end 3;
+      file = site 1 ++ ranged 0 1 1 (pos 0) (pos 2000000000) (pos 2000000000) ++ ranged 0 1 1000 (pos 3001000) widestLow widestHigh
+          ++ ranged 1 0 1 (pos 0) widestLow widestHigh ++ end 3;
       flow = pos 2000000000 ∷ pos 0 ∷ pos 2000000000 ∷ [];
       sheet = adjusted (pos 2000000000) ++ adjusted (pos 0) ++ adjusted (pos 2000000000) ++ failing 8009006001000000000;
     }
@@ -45,13 +46,16 @@ mixedMoved =
 abbrev pub filling : Example
 filling =
     record {
-      file = site 1 ++ ranged 0 1 1 (pos 0) (pos 1200000000) (pos 2000000000) ++ ranged 0 1 1 (pos 0) (pos 1200000000) (pos 2000000000) ++ metered 1 0 1 (pos 0) ++ end 3;
+      file = site 1 ++ ranged 0 1 1 (pos 0) (pos 1200000000) (pos 2000000000) ++ ranged 0 1 1 (pos 0) (pos 1200000000) (pos 2000000000)
+          ++ metered 1 0 1 (pos 0) ++ end 3;
       flow = pos 1200000000 ∷ pos 1200000000 ∷ pos 2400000000 ∷ [];
       sheet = adjusted (pos 1200000000) ++ adjusted (pos 1200000000) ++ adjusted (pos 2400000000) ++ failing 8640000000000000000;
     }
 
 abbrev pub fillingMoved : List ℕ
-fillingMoved = site 1 ++ ranged 0 1 1 (pos 0) (pos 1200000000) (pos 2000000000) ++ ranged 0 1 1 (pos 0) (pos 1200000000) (pos 2000000000) ++ ranged 1 0 1 (pos 0) widestLow widestHigh ++ end 3
+fillingMoved =
+    site 1 ++ ranged 0 1 1 (pos 0) (pos 1200000000) (pos 2000000000) ++ ranged 0 1 1 (pos 0) (pos 1200000000) (pos 2000000000)
+    ++ ranged 1 0 1 (pos 0) widestLow widestHigh ++ end 3
 
 -- What the one file becomes is the other.
 abbrev pub Becomes : List ℕ → List ℕ → Type 0

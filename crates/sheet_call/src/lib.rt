@@ -1,12 +1,11 @@
 // The sheet call, and the balance of a plant that it draws.
-use flow_def::Class;
 use plant_def::Plant;
 use plant_def::limits::MAX_STREAMS;
 use plant_def::limits::PLACES;
 use sheet_def::Balance;
-use sheet_def::Entry;
 use sheet_def::Outcome;
 use sheet_def::Sheet;
+use sheet_def::blanks::blank_entry;
 use sheet_def::kinds::OFFICES;
 use sheet_entries::balance_by;
 use sheet_write::call_fault;
@@ -23,10 +22,7 @@ ghost use Rattle.sheet_def.specs.Says.{SheetSays};
 fn overfilled(marked: [bool; PLACES]) -> Outcome
     ensures { λ r. ⌜ (r .found ≡ false) × (r .marked ≡ marked) ⌝ }
 {
-    let none = Entry {
-        class: Class::Withheld,
-        flow: 0,
-    };
+    let none = blank_entry();
     Outcome {
         found: false,
         balance: Balance {

@@ -1,5 +1,5 @@
 // What a flow costs, as it is written: stream by stream, and summed up.
-use num_text::size_of;
+use num_bytes::size_of;
 use plant_def::Plant;
 use plant_def::Stream;
 use plant_def::limits::MAX_STREAMS;

@@ -64,6 +64,7 @@ module _ (file : List ℕ) (p : Plant) (e : readPlant file ≡ got p) (s : Solve
   solution xs c = by-cases (s .found) (λ t. right-found (arrayed p) s r t)
       (λ t. never-both p within-limits xs c (s .marked) (subst (λ (q : Plant). Overfull q (s .marked)) (read-held file p e) (right-overfull (arrayed p) s r t)))
 
+  -- A cheapest flow carries amounts that a sheet holds.
   pub sized : (xs : List ℤ) → Cheapest p xs → Sized p xs
   sized xs c k h n =
       let q = solution xs c in
@@ -133,6 +134,7 @@ module _ (file : List ℕ) (office : ℕ) (lasts o o′ : List ℕ) (r : Sheet) 
     read = parts-read p (within p (accepted file p e .0)) office lasts o o′ r d (sized-of p e (d .0) (d .1)) top f;
   }
 
+  -- A drawn sheet is read back.
   pub read-kept : SheetSays file office lasts o o′ r → r .number ≡ 0 → ReadsBack file office lasts o′ r
   read-kept s n = by-cases (eqb (callFault office lasts o) 0)
       (λ t. let f = eqb-true (callFault office lasts o) 0 t in go (readPlant file) refl f (call-taken file office lasts o o′ r s f))
@@ -145,6 +147,7 @@ module _ (file : List ℕ) (office : ℕ) (lasts o o′ : List ℕ) (r : Sheet) 
 
 -- Of every call, where the solver is right of every plant.
 module _ (third : Demand-3) (nineteen : Refusal-19) (solve : (p : Arrays.Plant) → Accepted p → (s : Solved) × Right p s) where
+  -- The same of the plant of a file.
   pub sized-here : (file : List ℕ) (p : Plant) → readPlant file ≡ got p → (xs : List ℤ) → Cheapest p xs → Sized p xs
   sized-here file p e = let h = solve (arrayed p) (read-accepted file p e) in sized file p e (h .0) (h .1)
 

@@ -60,6 +60,7 @@ module _ (nineteen : Refusal-19)
   some-cheapest file p d ys e m =
       ⊎-elim (λ x. x) (λ f. clash (allowedOver d p ys) (m .allowed) (nineteen .none file p (f .0) e (f .1) d ys (m .some))) (nineteen .either file p e)
 
+  -- A drawn sheet beside the flow in fractions of least cost.
   pub desk-tool : Desk-tool
   desk-tool = record {
     near = λ file office lasts o o′ r top s n p d ys e m sheet read.

@@ -1,5 +1,5 @@
 -- What a plant file and an outcome give, by what was found, and a call without fault.
-use mathlib.Core.Path.{_≡_, refl, sym, ap, _∙_, subst}
+use mathlib.Core.Path.{_≡_, subst}
 use mathlib.Core.Bool.{Bool, true, false}
 use mathlib.Core.List.{List}
 use Prim.Native.Nat.{ℕ, _≤_, _<_}
@@ -11,11 +11,9 @@ use Rattle.num_bytes.proofs.Tests.{refuse-none, first-none-left, first-none-rig
 use Rattle.num_bytes.specs.Inner.{pickT}
 use Rattle.plant_def.specs.declared.Read.{Read}
 use Rattle.plant_def.specs.Plants.{Plant}
-use Rattle.plant_def.specs.Files.{Got, bad, got, readPlant}
-use Rattle.plant_def.specs.Within.{Accepted}
-use Rattle.plant_def.specs.Says.{arrayed, plantOf, readOf}
-use Rattle.plant_def.proofs.Accepted.{refused}
-use Rattle.plant_def.proofs.Arrayed.{all-listed, read-accepted, read-held}
+use Rattle.plant_def.specs.Files.{Got, readPlant}
+use Rattle.plant_def.specs.Says.{plantOf, readOf}
+use Rattle.plant_def.proofs.Found.{found, plant-same}
 use Rattle.flow_def.specs.Overfull.{Overfull}
 use Rattle.sheet_def.specs.declared.Sheet.{Sheet}
 use Rattle.sheet_def.specs.declared.Balance.{Balance}
@@ -26,54 +24,40 @@ use Rattle.sheet_def.specs.Says.{SheetWith, SheetSays}
 use Rattle.sheet_def.specs.Counters.{offices, topSheet, counterOf}
 use Rattle.sheet_def.specs.Sentences.{callFault, Refused}
 
--- What the reader handed over, by its number.
-pub read-bad : (g : Got) (y : Read) → y ≡ readOf g → (y .number ≡ 0 → ⊥) → g ≡ bad (y .number)
-read-bad (bad f) y e n = ap (λ (r : Read). bad (r .number)) (sym e)
-read-bad (got p) y e n = absurd (n (ap (λ (r : Read). r .number) e))
-
-read-got : (g : Got) (y : Read) → y ≡ readOf g → y .number ≡ 0 → ((f : ℕ) → g ≡ bad f → f ≡ 0 → ⊥) → (q : Plant) × (g ≡ got q) × (y .plant ≡ arrayed q)
-read-got (bad f) y e n h = absurd (h f refl (sym (ap (λ (r : Read). r .number) e) ∙ n))
-read-got (got p) y e n h = (p, refl, ap (λ (r : Read). r .plant) e)
-
+-- What is said of the plant that was handed over is said of the plant of the file.
 module _ (file : List ℕ) (y : Read) (e : y ≡ readOf (readPlant file)) (n : y .number ≡ 0) where
-  pub found : (q : Plant) × (readPlant file ≡ got q) × (y .plant ≡ arrayed q)
-  found = read-got (readPlant file) y e n (refused file)
+  -- Its balance,
+  pub plant-balance : (b : Balance) → BalanceSays (plantOf (y .plant)) b → BalanceSays (found file y e n .0) b
+  plant-balance b t = subst (λ (x : Plant). BalanceSays x b) (plant-same file y e n) t
 
-  pub plant-accepted : Accepted (y .plant)
-  plant-accepted = rw (found .2) (read-accepted file (found .0) (found .1))
-
-  -- The plant as the file has it: its streams and its balance.
-  plant-same : plantOf (y .plant) ≡ found .0
-  plant-same = ap plantOf (found .2) ∙ read-held file (found .0) (found .1)
-
-  pub plant-count : y .plant .count ≡ length (found .0 .streams)
-  plant-count = sym (all-listed (y .plant) plant-accepted) ∙ ap (λ (x : Plant). length (x .streams)) plant-same
-
-  pub plant-balance : (b : Balance) → BalanceSays (plantOf (y .plant)) b → BalanceSays (found .0) b
-  plant-balance b t = subst (λ (x : Plant). BalanceSays x b) plant-same t
-
-  pub plant-overfull : (ms : List Bool) → Overfull (plantOf (y .plant)) ms → Overfull (found .0) ms
-  plant-overfull ms t = subst (λ (x : Plant). Overfull x ms) plant-same t
+  -- or its overfull set.
+  pub plant-overfull : (ms : List Bool) → Overfull (plantOf (y .plant)) ms → Overfull (found file y e n .0) ms
+  plant-overfull ms t = subst (λ (x : Plant). Overfull x ms) (plant-same file y e n) t
 
 -- What is found of a plant, by whether a flow was.
 module _ (p : Plant) (r : Outcome) (h : OutcomeSays p r) where
+  -- A flow was found: the balance.
   pub outcome-balance : r .found ≡ true → BalanceSays p (r .balance)
   outcome-balance t = subst (λ (b : Bool). pickT b (BalanceSays p (r .balance)) (Overfull p (r .marked))) t h
 
+  -- None was: the overfull set.
   pub outcome-overfull : r .found ≡ false → Overfull p (r .marked)
   outcome-overfull t = subst (λ (b : Bool). pickT b (BalanceSays p (r .balance)) (Overfull p (r .marked))) t h
 
 -- A call without fault: the slice is long enough, the office has a counter, and a sheet number is left of it.
 module _ (office : ℕ) (lasts : List ℕ) (o : List ℕ) (e : callFault office lasts o ≡ 0) where
+  -- The slice is long enough,
   pub long-enough : leastSlice ≤ length o
   long-enough = ltb-false (length o) leastSlice (refuse-none _ 0 (first-none-left (refuseIf (ltb (length o) leastSlice) 1) _ e))
 
   taken : firstOf (refuseIf (leb offices office) 22) (refuseIf (eqb (counterOf office lasts) topSheet) 2) ≡ 0
   taken = first-none-right (refuseIf (ltb (length o) leastSlice) 1) _ e
 
+  -- the office has a counter,
   pub has-counter : office < offices
   has-counter = leb-false offices office (refuse-none _ 21 (first-none-left (refuseIf (leb offices office) 22) _ taken))
 
+  -- and it has a number left.
   pub one-left : counterOf office lasts ≡ topSheet → ⊥
   one-left = eqb-false (counterOf office lasts) topSheet (refuse-none _ 1 (first-none-right (refuseIf (leb offices office) 22) _ taken))
 
@@ -82,11 +66,14 @@ module _ (file : List ℕ) (office : ℕ) (lasts o o′ : List ℕ) (r : Sheet) 
   call-by : (b : Bool) → eqb (callFault office lasts o) 0 ≡ b → pickT b (SheetWith (readPlant file) office lasts o o′ r) (Refused (callFault office lasts o) lasts o o′ r)
   call-by b e = subst (λ (b : Bool). pickT b (SheetWith (readPlant file) office lasts o o′ r) (Refused (callFault office lasts o) lasts o o′ r)) e s
 
+  -- A call with a fault is refused.
   pub call-faulty : (callFault office lasts o ≡ 0 → ⊥) → Refused (callFault office lasts o) lasts o o′ r
   call-faulty n = call-by false (ne-eqb (callFault office lasts o) 0 n)
 
+  -- A call without fault goes by the file,
   pub call-taken : callFault office lasts o ≡ 0 → SheetWith (readPlant file) office lasts o o′ r
   call-taken z = call-by true (eq-eqb (callFault office lasts o) 0 z)
 
+  -- whatever was read of it.
   pub call-read : (g : Got) → callFault office lasts o ≡ 0 → readPlant file ≡ g → SheetWith g office lasts o o′ r
   call-read g z e = subst (λ (g : Got). SheetWith g office lasts o o′ r) e (call-taken z)

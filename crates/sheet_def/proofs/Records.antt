@@ -39,6 +39,7 @@ pub record EndedAs (s : List ℕ) (t : Total) : Type 0 where
   pub number : allBytes s ≡ true → t .sheet < 256 ^ 4
   pub cost : allBytes s ≡ true → t .cost < 256 ^ 8
 
+-- What each record says: the stream that it lists, the total, or a number that is a refusal.
 abbrev pub Meaning : ℕ → List ℕ → SheetRecord → Type 0
 Meaning c s (Listed e m) = ListedAs c s e m
 Meaning c s (Ended t) = EndedAs s t
@@ -60,12 +61,15 @@ stream-means c size s e h =
 
 -- A stream record read: refused for its place or its size, else its entry.
 module _ (size : ℕ) (e : Entry) (c : ℕ) (s : List ℕ) (b : Bool) (q : b ≡ (leb maxStreams c || ltb (length s) size)) where
+  -- A record that does not fit: 13.
   pub unfit-refused : b ≡ true → Refused 13 ≡ streamRecord size e c s
   unfit-refused t = let u : (leb maxStreams c || ltb (length s) size) ≡ true = sym q ∙ t in rw u
 
+  -- One that fits is listed.
   pub fit-listed : b ≡ false → Listed e size ≡ streamRecord size e c s
   fit-listed t = let u : (leb maxStreams c || ltb (length s) size) ≡ false = sym q ∙ t in rw u
 
+-- It is whole.
 pub fit-whole : (size c : ℕ) (s : List ℕ) (b : Bool) → b ≡ (leb maxStreams c || ltb (length s) size) → b ≡ false → size ≤ length s
 fit-whole size c s b q t = ltb-false (length s) size (or-none-right (leb maxStreams c) (ltb (length s) size) (sym q ∙ t))
 
@@ -174,7 +178,8 @@ pub record-means : (c : ℕ) (s : List ℕ) → Meaning c s (recordAt c s)
 record-means c [] = (omega arith, omega arith)
 record-means c (k ∷ b) =
     picked M (eqb (suc (length b)) 0) (Refused 13) (kindRecord c k (k ∷ b)) (λ t. refused)
-    (λ t. picked M (eqb k adjustedKind) _ _ (λ u. rw (eqb-true k adjustedKind u) (stream-means c streamSize (adjustedKind ∷ b) (shownIn Adjusted (adjustedKind ∷ b)) (shown-again adjustedKind Adjusted b refl refl)))
+    (λ t. picked M (eqb k adjustedKind) _ _ (λ u. rw (eqb-true k adjustedKind u)
+    (stream-means c streamSize (adjustedKind ∷ b) (shownIn Adjusted (adjustedKind ∷ b)) (shown-again adjustedKind Adjusted b refl refl)))
     (λ t. picked M (eqb k asReadKind) _ _ (λ u. rw (eqb-true k asReadKind u) (stream-means c streamSize (asReadKind ∷ b) (shownIn AsRead (asReadKind ∷ b)) (shown-again asReadKind AsRead b refl refl)))
     (λ t. picked M (eqb k givenKind) _ _ (λ u. rw (eqb-true k givenKind u) (stream-means c streamSize (givenKind ∷ b) (shownIn Given (givenKind ∷ b)) (shown-again givenKind Given b refl refl)))
     (λ t. picked M (eqb k withheldKind) _ _ (λ u. rw (eqb-true k withheldKind u) (stream-means c 1 (withheldKind ∷ b) blank (λ l a. (refl, refl))))

@@ -1,4 +1,4 @@
--- The table of plants, proved by one computed test: prices certify each flow.
+-- The table of plants, proved by one computed test: potentials certify each flow.
 use mathlib.Core.Path.{_≡_, refl, ap, _∙_}
 use mathlib.Core.Bool.{Bool, true, false, _&&_, false≢true}
 use mathlib.Core.Logic.{_⊎_, ⊎-elim}
@@ -57,17 +57,17 @@ calls-leave e p q c b o o′ r z s =
     ⊎-elim (λ d. d .3 ∙ ap (λ (l : List ℕ). over l o) (one-sheet p w (d .0) (e .flow) (d .1) c 0 1 ∙ b))
     (λ m. never-both p w (e .flow) c (m .0) (m .1)) given
 
--- The test of one example, with prices for the places.
+-- The test of one example, with potentials for the places.
 abbrev pub shows : Example → List ℤ → Got → Bool
-shows e prices (bad f) = false
-shows e prices (got p) = certified p (e .flow) prices && sameBytes (sheetOf 0 p (e .flow) 1) (e .sheet)
+shows e potentials (bad f) = false
+shows e potentials (got p) = certified p (e .flow) potentials && sameBytes (sheetOf 0 p (e .flow) 1) (e .sheet)
 
-pub shows-right : (e : Example) (prices : List ℤ) (g : Got) → readPlant (e .file) ≡ g → shows e prices g ≡ true → Shows e
-shows-right e prices (bad f) r t = absurd (false≢true t)
-shows-right e prices (got p) r t =
-    let c = certified p (e .flow) prices in
+pub shows-right : (e : Example) (potentials : List ℤ) (g : Got) → readPlant (e .file) ≡ g → shows e potentials g ≡ true → Shows e
+shows-right e potentials (bad f) r t = absurd (false≢true t)
+shows-right e potentials (got p) r t =
+    let c = certified p (e .flow) potentials in
     let s = sameBytes (sheetOf 0 p (e .flow) 1) (e .sheet) in
-    let cheapest = certified-cheapest p (e .flow) prices (and-left c s t) in
+    let cheapest = certified-cheapest p (e .flow) potentials (and-left c s t) in
     (p, r, cheapest, calls-leave e p r cheapest (same-bytes (sheetOf 0 p (e .flow) 1) (e .sheet) (and-right c s t)))
 
 -- The test of the whole table.
@@ -83,9 +83,9 @@ all-right (e ∷ es) (p ∷ ps) t =
     let a = shows e p (readPlant (e .file)) in
     (shows-right e p (readPlant (e .file)) refl (and-left a (allShow es ps) t), all-right es ps (and-right a (allShow es ps) t))
 
--- The prices of the places 0, 1 and so on, for each plant of the table.
-prices : List (List ℤ)
-prices =
+-- The potentials of the places 0, 1 and so on, for each plant of the table.
+potentials : List (List ℤ)
+potentials =
     (pos 0 ∷ negsuc 19 ∷ [])
     ∷ (pos 0 ∷ negsuc 9 ∷ [])
     ∷ (pos 0 ∷ pos 30 ∷ [])
@@ -104,8 +104,8 @@ prices =
     ∷ []
 
 pub table : AllShow examples
-unfolding prices balanceOf
-table = all-right examples prices refl
+unfolding potentials balanceOf
+table = all-right examples potentials refl
 
 -- The plant without a flow in range.
 fullPlant : Plant

@@ -25,7 +25,8 @@ use Rattle.sheet_def.specs.declared.SheetRecord.{SheetRecord}
 use Rattle.sheet_def.specs.declared.SheetRecord.the-variants.{Listed, Ended, Refused}
 use Rattle.sheet_def.specs.Apart.{totalKind, plainKind, streamSize}
 use Rattle.sheet_def.specs.Sheets.{kindOf, recordOf, recordsOf, bodyOf, totalBytes, SheetParts, partsBytes}
-use Rattle.sheet_def.specs.Kept.{noSheet, someSheet, streamRecord, bodyIn, fieldsFit, totalFault, kindRecord, recordAt, onRecord, sheetWith, recordsFrom, readSheet, fits, allFit, kindFits, WithinSheet}
+use Rattle.sheet_def.specs.Kept.{noSheet, someSheet, streamRecord, bodyIn, fieldsFit, totalFault, kindRecord, recordAt}
+use Rattle.sheet_def.specs.Kept.{onRecord, sheetWith, recordsFrom, readSheet, fits, allFit, kindFits, WithinSheet}
 
 -- A record is there: it goes by its kind.
 due : (c k : ℕ) (b : List ℕ) → recordAt c (k ∷ b) ≡ kindRecord c k (k ∷ b)
@@ -120,5 +121,6 @@ module _ (t : Total) (fit : fieldsFit t ≡ true) (kind : kindFits (t .kind) (t 
 all-there : (l : ℕ) (s : SheetParts) → WithinSheet s → length (s .streams) < l → recordsFrom l [] (partsBytes s) ≡ someSheet s
 all-there l s w g = let f = w .few in rest-there (s .total) (w .allowed) (w .kind) (w .number) (w .cost) (s .streams) [] l (omega arith) g (w .flows)
 
+-- The bytes of a sheet are read as that sheet.
 pub there : (s : SheetParts) → WithinSheet s → readSheet (partsBytes s) ≡ someSheet s
 there s w = let f = w .few in all-there mostRecords s w (omega arith)

@@ -68,7 +68,12 @@ total high low degrees verdict = 30 ∷ 0 ∷ 0 ∷ 0 ∷ 0 ∷ 1 ∷ 0 ∷ 0 �
 
 -- In 100, out 103: 101, 101, cost 50.
 abbrev pub tie : Example
-tie = record { file = site 1 ++ meter 0 1 10 100 ++ meter 1 0 10 103 ++ end 2; flow = pos 101 ∷ pos 101 ∷ []; sheet = shown 17 101 ++ shown 17 101 ++ total 0 50 1 0 }
+tie =
+    record {
+      file = site 1 ++ meter 0 1 10 100 ++ meter 1 0 10 103 ++ end 2;
+      flow = pos 101 ∷ pos 101 ∷ [];
+      sheet = shown 17 101 ++ shown 17 101 ++ total 0 50 1 0;
+    }
 
 -- In 103, out 60 and 40: 102, 61, 41, cost 30.
 -- In 101, out 60 and 40: 100, 60, 40, cost 10.
@@ -86,21 +91,57 @@ tie = record { file = site 1 ++ meter 0 1 10 100 ++ meter 1 0 10 103 ++ end 2; f
 -- In 100 within 0 to 90, out unmetered: R 90, G 90, cost 1,000, degrees 0, none.
 abbrev pub examples : List Example
 examples =
-    record { file = site 1 ++ meter 0 1 10 103 ++ meter 1 0 10 60 ++ meter 1 0 10 40 ++ end 3; flow = pos 102 ∷ pos 61 ∷ pos 41 ∷ []; sheet = shown 17 102 ++ shown 17 61 ++ shown 17 41 ++ total 0 30 1 0 }
-    ∷ record { file = site 1 ++ meter 0 1 10 101 ++ meter 1 0 10 60 ++ meter 1 0 10 40 ++ end 3; flow = pos 100 ∷ pos 60 ∷ pos 40 ∷ []; sheet = shown 17 100 ++ shown 17 60 ++ shown 17 40 ++ total 0 10 1 0 }
+    record {
+      file = site 1 ++ meter 0 1 10 103 ++ meter 1 0 10 60 ++ meter 1 0 10 40 ++ end 3;
+      flow = pos 102 ∷ pos 61 ∷ pos 41 ∷ [];
+      sheet = shown 17 102 ++ shown 17 61 ++ shown 17 41 ++ total 0 30 1 0;
+    }
+    ∷ record {
+      file = site 1 ++ meter 0 1 10 101 ++ meter 1 0 10 60 ++ meter 1 0 10 40 ++ end 3;
+      flow = pos 100 ∷ pos 60 ∷ pos 40 ∷ [];
+      sheet = shown 17 100 ++ shown 17 60 ++ shown 17 40 ++ total 0 10 1 0;
+    }
     ∷ tie
-    ∷ record { file = site 1 ++ meter 0 1 30 100 ++ meter 1 0 10 104 ++ end 2; flow = pos 101 ∷ pos 101 ∷ []; sheet = shown 17 101 ++ shown 17 101 ++ total 0 120 1 0 }
+    ∷ record {
+      file = site 1 ++ meter 0 1 30 100 ++ meter 1 0 10 104 ++ end 2;
+      flow = pos 101 ∷ pos 101 ∷ [];
+      sheet = shown 17 101 ++ shown 17 101 ++ total 0 120 1 0;
+    }
     ∷ record { file = site 1 ++ meter 0 1 10 100 ++ pipe 1 0 ++ end 2; flow = pos 100 ∷ pos 100 ∷ []; sheet = shown 18 100 ++ shown 19 100 ++ total 0 0 0 2 }
     ∷ record { file = site 1 ++ meter 0 1 10 7 ++ end 1; flow = pos 0 ∷ []; sheet = shown 17 0 ++ total 1 234 1 0 }
     ∷ record { file = site 1 ++ meter 0 1 1 61 ++ end 1; flow = pos 0 ∷ []; sheet = shown 17 0 ++ total 14 137 1 0 }
     ∷ record { file = site 1 ++ meter 0 1 1 62 ++ end 1; flow = pos 0 ∷ []; sheet = shown 17 0 ++ total 15 4 1 1 }
-    ∷ record { file = site 1 ++ meter 0 1 155 100 ++ meter 1 0 155 107 ++ end 2; flow = pos 103 ∷ pos 103 ∷ []; sheet = shown 17 103 ++ shown 17 103 ++ total 15 35 1 3 }
-    ∷ record { file = site 1 ++ meter 0 1 157 100 ++ meter 1 0 157 107 ++ end 2; flow = pos 103 ∷ pos 103 ∷ []; sheet = shown 17 103 ++ shown 17 103 ++ total 15 85 1 1 }
-    ∷ record { file = site 2 ++ meter 0 1 10 100 ++ pipe 1 2 ++ pipe 1 2 ++ meter 2 0 10 98 ++ end 4; flow = pos 99 ∷ pos 99 ∷ pos 0 ∷ pos 99 ∷ []; sheet = shown 17 99 ++ (20 ∷ 20 ∷ []) ++ shown 17 99 ++ total 0 20 1 0 }
+    ∷ record {
+      file = site 1 ++ meter 0 1 155 100 ++ meter 1 0 155 107 ++ end 2;
+      flow = pos 103 ∷ pos 103 ∷ [];
+      sheet = shown 17 103 ++ shown 17 103 ++ total 15 35 1 3;
+    }
+    ∷ record {
+      file = site 1 ++ meter 0 1 157 100 ++ meter 1 0 157 107 ++ end 2;
+      flow = pos 103 ∷ pos 103 ∷ [];
+      sheet = shown 17 103 ++ shown 17 103 ++ total 15 85 1 1;
+    }
+    ∷ record {
+      file = site 2 ++ meter 0 1 10 100 ++ pipe 1 2 ++ pipe 1 2 ++ meter 2 0 10 98 ++ end 4;
+      flow = pos 99 ∷ pos 99 ∷ pos 0 ∷ pos 99 ∷ [];
+      sheet = shown 17 99 ++ (20 ∷ 20 ∷ []) ++ shown 17 99 ++ total 0 20 1 0;
+    }
     ∷ record { file = site 1 ++ end 0; flow = []; sheet = total 0 0 0 2 }
-    ∷ record { file = site 1 ++ within 0 1 10 103 0 100 ++ meter 1 0 10 60 ++ meter 1 0 10 40 ++ end 3; flow = pos 100 ∷ pos 60 ∷ pos 40 ∷ []; sheet = shown 17 100 ++ shown 17 60 ++ shown 17 40 ++ total 0 90 1 0 }
-    ∷ record { file = site 1 ++ meter 0 1 10 100 ++ within 1 0 10 103 102 200 ++ end 2; flow = pos 102 ∷ pos 102 ∷ []; sheet = shown 17 102 ++ shown 17 102 ++ total 0 50 1 0 }
-    ∷ record { file = site 1 ++ within 0 1 10 100 0 90 ++ pipe 1 0 ++ end 2; flow = pos 90 ∷ pos 90 ∷ []; sheet = shown 18 90 ++ shown 19 90 ++ total 3 232 0 2 }
+    ∷ record {
+      file = site 1 ++ within 0 1 10 103 0 100 ++ meter 1 0 10 60 ++ meter 1 0 10 40 ++ end 3;
+      flow = pos 100 ∷ pos 60 ∷ pos 40 ∷ [];
+      sheet = shown 17 100 ++ shown 17 60 ++ shown 17 40 ++ total 0 90 1 0;
+    }
+    ∷ record {
+      file = site 1 ++ meter 0 1 10 100 ++ within 1 0 10 103 102 200 ++ end 2;
+      flow = pos 102 ∷ pos 102 ∷ [];
+      sheet = shown 17 102 ++ shown 17 102 ++ total 0 50 1 0;
+    }
+    ∷ record {
+      file = site 1 ++ within 0 1 10 100 0 90 ++ pipe 1 0 ++ end 2;
+      flow = pos 90 ∷ pos 90 ∷ [];
+      sheet = shown 18 90 ++ shown 19 90 ++ total 3 232 0 2;
+    }
     ∷ []
 
 -- A flow over d is of least cost in fractions, and the sheet, which every first call leaves, is as far from it as a sheet can be: the

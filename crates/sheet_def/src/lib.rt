@@ -1,9 +1,10 @@
-// Sheets: the balance of a plant, its bytes and what the sheet call promises, as definitions with their laws. No function stands here.
+// Sheets: the balance of a plant, its bytes and what the sheet call promises, as definitions with their laws.
 use crate::kinds::OFFICES;
 use flow_def::Class;
 use plant_def::limits::MAX_STREAMS;
 use plant_def::limits::PLACES;
 
+pub mod blanks;
 pub mod kinds;
 
 // A stream on a balance: its class and its flow, 0 where it is withheld.

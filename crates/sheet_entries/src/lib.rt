@@ -7,6 +7,7 @@ use plant_def::limits::MAX_STREAMS;
 use sheet_cost::cost_of;
 use sheet_def::Balance;
 use sheet_def::Entry;
+use sheet_def::blanks::blank_entry;
 use solve_def::Solved;
 use solve_def::sizes::FLOW_SHIFT;
 ghost use mathlib.Core.Path.{_≡_};
@@ -92,10 +93,7 @@ fn entry_of(class: Class, flow: i64) -> Entry
 pub fn entries_of(classes: [Class; MAX_STREAMS], flows: [i64; MAX_STREAMS]) -> [Entry; MAX_STREAMS]
     ensures { λ r. ⌜ r ≡ entriesOf classes flows ⌝ }
 {
-    let none = Entry {
-        class: Class::Withheld,
-        flow: 0,
-    };
+    let none = blank_entry();
     let mut streams = [none; MAX_STREAMS];
     let mut i: usize = 0;
     while i < MAX_STREAMS {

@@ -64,8 +64,10 @@ module _ (p : SheetParts) where
       let g : record { streams = done; total = t } ≡ p = cc in (e, subst (λ (q : SheetParts). Plain (q .total)) g h)
   one-more done was now false (Refused f) h e rest = absurd (not-both f p e)
 
+  -- What was read before is read now, and its total is plain.
   pub read-now : (l : ℕ) (done : List Entry) (b : List ℕ) → recordsBefore l done b ≡ someSheet p → (recordsFrom l done b ≡ someSheet p) × Plain (p .total)
   read-now zero done b e = absurd (not-both 13 p e)
   read-now (suc l) done b e =
-      one-more done (λ x m. recordsBefore l (done ++ (x ∷ [])) (drop m b)) (λ x m. recordsFrom l (done ++ (x ∷ [])) (drop m b)) (eqb (getD b 0 0) totalKind) (recordAt (length done) b) (before-plain (length done) b) e
+      one-more done (λ x m. recordsBefore l (done ++ (x ∷ [])) (drop m b)) (λ x m. recordsFrom l (done ++ (x ∷ [])) (drop m b)) (eqb (getD b 0 0) totalKind)
+      (recordAt (length done) b) (before-plain (length done) b) e
       (λ x m. read-now l (done ++ (x ∷ [])) (drop m b))

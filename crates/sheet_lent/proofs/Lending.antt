@@ -36,6 +36,7 @@ module _ (file : List ℕ) (office : ℕ) (ls o o′ : List ℕ) (r : Sheet) whe
   by-length b e w =
       subst (λ (b : Bool). pickT b (Refused 1 ls o o′ r) (SheetSays file office (take offices ls) o o′ (fronted r) × (drop offices (r .lasts) ≡ drop offices ls))) (sym e) w
 
+  -- Fewer than eight: 1.
   pub too-few : length ls < offices → Refused 1 ls o o′ r → LentSays file office ls o o′ r
   too-few h w = by-length true (lt-ltb (length ls) offices h) w
 

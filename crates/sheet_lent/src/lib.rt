@@ -9,7 +9,7 @@ ghost use Rattle.num_bytes.specs.Bytes.{over};
 ghost use Rattle.plant_def.specs.Limits.{places};
 ghost use Rattle.sheet_def.specs.Counters.{offices};
 ghost use Rattle.sheet_def.specs.Says.{SheetSays};
-ghost use Rattle.num_lent.specs.Marks.{marksIn};
+ghost use Rattle.sheet_lent.specs.Bits.{withBits};
 ghost use Rattle.sheet_lent.specs.Lent.{LentSays};
 
 // What the sheet call hands over, the marks as bits.
@@ -29,7 +29,8 @@ pub struct Handed {
 
 // The sheet call.
 fn balance_marked(file: &[u8], office: u8, lasts: [u32; OFFICES], sheet: &mut [u8]) -> Drawn
-    ensures { λ r. ⌜ SheetSays (now (file .entry)) office lasts (now (sheet .entry)) (now (sheet .exit)) (record { number = r .number; written = r .written; lasts = r .lasts; marked = marksIn (r .bits) }) × (r .bits < 2 ^ places) ⌝ }
+    ensures { λ r. ⌜ SheetSays (now (file .entry)) office lasts (now (sheet .entry)) (now (sheet .exit))
+        (withBits (r .number) (r .written) (r .lasts) (r .bits)) × (r .bits < 2 ^ places) ⌝ }
 {
     let drawn = balance_plant(file, office, lasts, sheet);
     let marked = drawn.marked;
@@ -75,7 +76,8 @@ fn put_lasts(after: [u32; OFFICES], lasts: &mut [u32])
 // The sheet call over lent last numbers: the sheet in the slice, the calling office's number one higher; or a refusal, slice and
 // numbers as they were. Fewer than eight numbers are refused as 1; those past the eighth stay as they are.
 pub fn balance_lent(file: &[u8], office: u8, lasts: &mut [u32], sheet: &mut [u8]) -> Handed
-    ensures { λ r. ⌜ LentSays (now (file .entry)) office (now (lasts .entry)) (now (sheet .entry)) (now (sheet .exit)) (record { number = r .number; written = r .written; lasts = now (lasts .exit); marked = marksIn (r .bits) }) × (r .bits < 2 ^ places) ⌝ }
+    ensures { λ r. ⌜ LentSays (now (file .entry)) office (now (lasts .entry)) (now (sheet .entry)) (now (sheet .exit))
+        (withBits (r .number) (r .written) (now (lasts .exit)) (r .bits)) × (r .bits < 2 ^ places) ⌝ }
 {
     if lasts.len() < OFFICES {
         return Handed {

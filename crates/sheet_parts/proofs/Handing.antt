@@ -32,13 +32,16 @@ module _ (b : Bool) (g h : Reopened) where
 
 -- The reading, by the two lengths.
 module _ (bytes : List ℕ) (k f : ℕ) where
+  -- The slice of kinds is too short: 1.
   pub kinds-short : k < maxStreams → readOf (noSheet 1) ≡ readOf (readLent bytes k f)
   kinds-short h = first-read (ltb k maxStreams || ltb f maxStreams) (noSheet 1) (readSheet bytes) (rw (lt-ltb k maxStreams h) refl)
 
   module _ (h : maxStreams ≤ k) where
+    -- The slice of flows is: 1.
     pub flows-short : f < maxStreams → readOf (noSheet 1) ≡ readOf (readLent bytes k f)
     flows-short l = first-read (ltb k maxStreams || ltb f maxStreams) (noSheet 1) (readSheet bytes) (rw (le-ltb k maxStreams h, lt-ltb f maxStreams l) refl)
 
+    -- Neither is: the sheet's own reading.
     pub both-long : maxStreams ≤ f → readOf (readSheet bytes) ≡ readOf (readLent bytes k f)
     both-long l = second-read (ltb k maxStreams || ltb f maxStreams) (noSheet 1) (readSheet bytes) (rw (le-ltb k maxStreams h, le-ltb f maxStreams l) refl)
 
@@ -59,6 +62,7 @@ room-by false g k f r few t e =
     let b = ltb-false f maxStreams (or-none-right (ltb k maxStreams) (ltb f maxStreams) t) in
     record { few = omega arith; in-kinds = omega arith; in-flows = omega arith }
 
+-- What was read has room in both slices.
 pub room-lent : (bytes : List ℕ) (k f : ℕ) (r : SheetRead) → r ≡ readOf (readLent bytes k f) → Room (r .count) k f
 room-lent bytes k f r e =
     room-by (ltb k maxStreams || ltb f maxStreams) (readSheet bytes) k f r (few-streams bytes (readSheet bytes) refl) refl e

@@ -69,28 +69,35 @@ module _ (c : ℕ) (s : List ℕ) (h : length s ≡ 0 → ⊥) where
   abbrev plain : SheetRecord
   plain = totalRecord plainSize (plainIn s) s
 
+  -- An adjusted stream.
   pub adjusted-at : k ≡ adjustedKind → adjusted ≡ recordAt c s
   adjusted-at = first (length s) k adjusted as-read given withheld total plain h
 
   module _ (na : k ≡ adjustedKind → ⊥) where
+    -- A stream as read.
     pub as-read-at : k ≡ asReadKind → as-read ≡ recordAt c s
     as-read-at = second (length s) k adjusted as-read given withheld total plain h na
 
     module _ (nr : k ≡ asReadKind → ⊥) where
+      -- A given stream.
       pub given-at : k ≡ givenKind → given ≡ recordAt c s
       given-at = third (length s) k adjusted as-read given withheld total plain h na nr
 
       module _ (ng : k ≡ givenKind → ⊥) where
+        -- A withheld stream.
         pub withheld-at : k ≡ withheldKind → withheld ≡ recordAt c s
         withheld-at = fourth (length s) k adjusted as-read given withheld total plain h na nr ng
 
         module _ (nw : k ≡ withheldKind → ⊥) where
+          -- The total.
           pub total-at : k ≡ totalKind → total ≡ recordAt c s
           total-at = fifth (length s) k adjusted as-read given withheld total plain h na nr ng nw
 
           module _ (nt : k ≡ totalKind → ⊥) where
+            -- The plain total.
             pub plain-at : k ≡ plainKind → plain ≡ recordAt c s
             plain-at = sixth (length s) k adjusted as-read given withheld total plain h na nr ng nw nt
 
+            -- No kind of a sheet: 13.
             pub no-kind : (k ≡ plainKind → ⊥) → Refused 13 ≡ recordAt c s
             no-kind = none (length s) k adjusted as-read given withheld total plain h na nr ng nw nt

@@ -58,9 +58,11 @@ module _ {bytes : List ℕ} {es : List Entry} {c at : ℕ} (r : Reading bytes es
     listed : ListedAs c (drop at bytes) x m
     listed = subst (Meaning c (drop at bytes)) (ap (recordAt c) (sym (part-is at bytes)) ∙ sym e) (record-means c (drop at bytes))
 
+    -- There is room for it in the array.
     pub room-left : c < maxStreams
     room-left = listed .room
 
+    -- The next turn.
     pub turn : Reading bytes (set es c x) (c + 1) (at + m)
     turn =
         let l = length-drop at bytes in
@@ -79,6 +81,7 @@ module _ {bytes : List ℕ} {es : List Entry} {c at : ℕ} (r : Reading bytes es
               ∙ ap (recordsFrom (mostRecords - (c + 1)) (r .done ++ (x ∷ []))) (drop-drop m at bytes);
         }
 
+  -- The total ends the reading, with the sheet.
   pub ended-here : {t : Total} → Ended t ≡ recordAt c (partFrom at bytes) → ReadSays bytes (record { number = 0; count = c; streams = es; total = t })
   ended-here {t} e = (λ i. record { number = 0; count = r .counted i; streams = r .held i; total = t }) ∙ ap readOf (sym (next e))
 

@@ -14,11 +14,13 @@ use Rattle.sheet_def.specs.declared.SheetRecord.the-variants.{Ended, Refused}
 use Rattle.sheet_def.specs.Kept.{bodyIn, totalFault, afterFault, endFault, totalRecord}
 
 module _ (size : ℕ) (s : List ℕ) (f : ℕ) (e : f ≡ refuseIf (ltb (length s) size) 13) where
+  -- A total that is cut: 13.
   pub cut-refused : (t : Total) → (f ≡ 0 → ⊥) → Refused f ≡ totalRecord size t s
   cut-refused t n =
       let rest = firstOf (totalFault t) (afterFault size s) in
       refused-by f (endFault size t s) (Ended t) Refused (first-is f rest n ∙ ap (λ (g : ℕ). firstOf g rest) e) n
 
+  -- One that is not is whole.
   pub whole : f ≡ 0 → size ≤ length s
   whole z = ltb-false (length s) size (refuse-none _ 12 (sym e ∙ z))
 

@@ -7,6 +7,7 @@ use sheet_def::Entry;
 use sheet_def::SheetRead;
 use sheet_def::SheetRecord;
 use sheet_def::Total;
+use sheet_def::blanks::blank_entry;
 use sheet_def::kinds::ADJUSTED;
 use sheet_def::kinds::AS_READ;
 use sheet_def::kinds::GIVEN;
@@ -23,7 +24,8 @@ ghost use lib.Dec.{leb, ltb};
 ghost use lib.ListN.{length};
 ghost use Rattle.num_bytes.specs.Choice.{refuseIf, firstOf};
 ghost use Rattle.plant_def.specs.Limits.{maxStreams};
-ghost use Rattle.sheet_def.specs.Kept.{blank, verdictFits, totalFault, afterFault, shownIn, streamRecord, bodyIn, totalIn, plainIn, totalRecord, recordAt, recordNumber, noSheet, readOf, ReadSays};
+ghost use Rattle.sheet_def.specs.Kept.{blank, verdictFits, totalFault, afterFault, shownIn, streamRecord, bodyIn, totalIn};
+ghost use Rattle.sheet_def.specs.Kept.{plainIn, totalRecord, recordAt, recordNumber, noSheet, readOf, ReadSays};
 ghost use Prim.Native.Nat.{_≤_};
 ghost use Rattle.sheet_def.specs.Apart.{streamSize, bodySize, totalSize, plainSize};
 ghost use Rattle.sheet_def.specs.Sheets.{kindOf};
@@ -36,16 +38,6 @@ pub fn unfit(size: usize, count: u8, s: &[u8]) -> bool
         return true;
     }
     s.len() < size
-}
-
-// A withheld stream shows none.
-pub fn blank_entry() -> Entry
-    ensures { λ r. ⌜ r ≡ blank ⌝ }
-{
-    Entry {
-        class: Class::Withheld,
-        flow: 0,
-    }
 }
 
 // Verdict 2 exactly at degrees 0, else 0, 1 or 3.

@@ -20,6 +20,7 @@ module _ (count office : ℕ) (lasts : List ℕ) (u : Outcome) (o o′ : List �
       → DrawnOf count u office lasts o o′ r
   by-found b t r d = subst (λ (b : Bool). pickT b (Filled count (u .balance) office lasts o o′ r) (RefusedWith (u .marked) 19 lasts o o′ r)) (sym t) d
 
+  -- No flow was found: 19, and the slice as it was.
   pub drawn-none : (r : Sheet) → u .found ≡ false → r ≡ record { number = 19; written = 0; lasts = lasts; marked = u .marked } → o′ ≡ o
       → DrawnOf count u office lasts o o′ r
   drawn-none r t e s = by-found false t r (e, s)

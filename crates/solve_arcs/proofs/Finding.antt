@@ -7,7 +7,7 @@ use native.Mathlib.Nat.{mul-le-mul}
 use native.Mathlib.Omega.{arith}
 use borrow.Author.Tests.{lt-ltb, le-ltb}
 use lib.Dec.{ltb}
-use lib.ListN.{length, getD, take, replicate}
+use lib.ListN.{getD, take, replicate}
 use lib.Seq.{getD-take}
 use Rattle.num_bytes.specs.Choice.{pick}
 use Rattle.num_bytes.specs.Inner.{values}
@@ -21,7 +21,7 @@ use Rattle.flow_def.specs.Certificate.{weightOf}
 use Rattle.flow_def.proofs.Lists.{values-at}
 use Rattle.solve_def.specs.declared.Walked.{Walked}
 use Rattle.solve_def.specs.declared.Tree.{Tree}
-use Rattle.solve_def.specs.Sizes.{mostFlow, mostPull, mostStep, priceShift, farthest, far, searchRounds}
+use Rattle.solve_def.specs.Sizes.{mostFlow, mostPull, mostStep, potentialShift, farthest, far, searchRounds}
 use Rattle.solve_def.specs.Held.{readingOf, lowOf, highOf}
 use Rattle.solve_def.specs.Slack.{gapBy, openBy, slackBy, slackAt, slackPast}
 use Rattle.solve_def.specs.Search.{rootAt, Grown, grownBy, sought, tightPath}
@@ -29,15 +29,14 @@ use Rattle.solve_def.specs.Near.{goalAt, reducedBy, walked}
 use Rattle.solve_def.specs.SearchNeeds.{Walkable}
 use Rattle.solve_def.proofs.Weights.{weight-most, pull-most}
 use Rattle.solve_def.proofs.Least.{Usable}
-use Rattle.solve_def.proofs.Nearing.{slackOf}
 use Rattle.solve_def.proofs.Finds.{Slacked, in-use, slack-small, usable-slack, search-walk}
 use Rattle.solve_def.proofs.Rounding.{path-walk}
-use Rattle.solve_arcs.specs.Cells.{arcOf, countOf, startsOf, endsOf}
+use Rattle.solve_arcs.specs.Cells.{startsOf, endsOf}
 use Rattle.solve_arcs.specs.Margins.{lift, shut, costBy, marginBy, marginAt, spared, lessOf, reducedCost, reducedCosts, leaves, reaches}
-use Rattle.solve_arcs.specs.ArcNeeds.{Laid, Margined, Ways, Searching}
+use Rattle.solve_arcs.specs.ArcNeeds.{Laid, Margined, Ways, Searching, walkedFrom}
 use Rattle.solve_arcs.proofs.Along.{slack-is}
 
--- A margin and two prices make a slack.
+-- A margin and two potentials make a slack.
 module _ (w q low high x pu pv d : ℕ) (light : w ≤ maxWeight) (pulled : q ≤ 2 * mostPull) (amount : x ≤ mostFlow) where
   own : w * x ≤ mostPull
   own = pull-most w x light amount
@@ -46,19 +45,19 @@ module _ (w q low high x pu pv d : ℕ) (light : w ≤ maxWeight) (pulled : q �
   raw true = omega (arith, own)
   raw false = omega (arith, own)
 
-  far-off : (p r : ℕ) → r ≤ priceShift → lessOf ((shut + p) - (r + lift)) farthest ≡ farthest
+  far-off : (p r : ℕ) → r ≤ potentialShift → lessOf ((shut + p) - (r + lift)) farthest ≡ farthest
   far-off p r h = rw (lt-ltb farthest ((shut + p) - (r + lift)) (omega arith))
 
   near-by : (a b : ℕ) → a ≡ b → b ≤ farthest → lessOf a farthest ≡ b
   near-by a b e h = rw (e, le-ltb farthest b h)
 
-  pub over-by : (f : Bool) → pu ≤ priceShift → pv ≤ priceShift → pick (openBy low high f x d) (gapBy w q f x pu pv d) farthest ≤ farthest
+  over-by : (f : Bool) → pu ≤ potentialShift → pv ≤ potentialShift → pick (openBy low high f x d) (gapBy w q f x pu pv d) farthest ≤ farthest
       → reducedCost (marginBy w q low high f x d) (pick f pu pv) (pick f pv pu) ≡ pick (openBy low high f x d) (gapBy w q f x pu pv d) farthest
   over-by f hu hv = by-cases (openBy low high f x d)
       (λ o. rw o (λ m. near-by _ _ (raw f) m))
-      (λ o. rw o (λ m. far-off (pick f pu pv) (pick f pv pu) (picked (λ (r : ℕ). r ≤ priceShift) f pv pu (λ t. hv) (λ t. hu))))
+      (λ o. rw o (λ m. far-off (pick f pu pv) (pick f pv pu) (picked (λ (r : ℕ). r ≤ potentialShift) f pv pu (λ t. hv) (λ t. hu))))
 
-  pub margin-most : (f : Bool) → d ≤ mostStep → marginBy w q low high f x d ≤ shut
+  margin-most : (f : Bool) → d ≤ mostStep → marginBy w q low high f x d ≤ shut
   margin-most f h =
       let s : w * d ≤ maxWeight * mostStep = mul-le-mul light h in
       picked (λ (m : ℕ). m ≤ shut) (openBy low high f x d) (costBy w q f x d) shut (λ o. cost f s) (λ o. omega arith)
@@ -78,7 +77,7 @@ module _ (streams : List Stream) (n : ℕ) (xs ps : List ℕ) (d skip : ℕ) (ls
     network = w .searchable .network;
     held = w .held;
     step = w .searchable .step;
-    prices = w .searchable .prices;
+    potentials = w .searchable .potentials;
     moderate = w .moderate;
     floor = w .floored;
     starts = λ k l. laid .along .starts k l ∙ sym (rw (getD-take n streams k noStream l));
@@ -98,7 +97,7 @@ module _ (streams : List Stream) (n : ℕ) (xs ps : List ℕ) (d skip : ℕ) (ls
   gap-is f k l =
       slack-is ls ms ps f k (rw (laid .along .counted) l) ∙ by-cases (spared rs skip k)
       (λ o. ap (λ (m : ℕ). reducedCost m (getD ps (leaves ls f k) 0) (getD ps (reaches ls f k) 0)) (mg .closed k f l o)
-      ∙ far-off 0 0 0 0 0 0 0 0 (omega arith) (omega arith) (omega arith) (getD ps (leaves ls f k) 0) (getD ps (reaches ls f k) 0) (price-in f) ∙ sym (rw (sym metered ∙ o)))
+      ∙ far-off 0 0 0 0 0 0 0 0 (omega arith) (omega arith) (omega arith) (getD ps (leaves ls f k) 0) (getD ps (reaches ls f k) 0) (potential-in f) ∙ sym (rw (sym metered ∙ o)))
       (λ o. ap (λ (m : ℕ). reducedCost m (getD ps (leaves ls f k) 0) (getD ps (reaches ls f k) 0)) (mg .are k f l o) ∙ over (sym metered ∙ o) ∙ sym (past (sym metered ∙ o)))
     where
       s : Stream
@@ -119,54 +118,71 @@ module _ (streams : List Stream) (n : ℕ) (xs ps : List ℕ) (d skip : ℕ) (ls
           go true h = lt-ltb 0 (s .weight) (omega (arith, h refl))
           go false h = le-ltb 0 0 (omega arith)
 
-      price-in : (f : Bool) → getD ps (reaches ls f k) 0 ≤ priceShift
-      price-in true = w .searchable .prices _ (laid .along .linked .to-in k (rw (laid .along .counted) l))
-      price-in false = w .searchable .prices _ (laid .along .linked .from-in k (rw (laid .along .counted) l))
+      potential-in : (f : Bool) → getD ps (reaches ls f k) 0 ≤ potentialShift
+      potential-in true = w .searchable .potentials _ (laid .along .linked .to-in k (rw (laid .along .counted) l))
+      potential-in false = w .searchable .potentials _ (laid .along .linked .from-in k (rw (laid .along .counted) l))
 
       past : Usable ss skip k → slackPast ss xs ps d skip f k ≡ slackBy s f (getD xs k 0) (getD ps (s .from) 0) (getD ps (s .to) 0) d
       past u = rw (u, getD-take n streams k noStream l)
 
-      over : Usable ss skip k → reducedCost (marginAt rs f k (getD xs k 0) d) (getD ps (leaves ls f k) 0) (getD ps (reaches ls f k) 0) ≡ slackBy s f (getD xs k 0) (getD ps (s .from) 0) (getD ps (s .to) 0) d
+      over : Usable ss skip k → reducedCost (marginAt rs f k (getD xs k 0) d) (getD ps (leaves ls f k) 0) (getD ps (reaches ls f k) 0)
+          ≡ slackBy s f (getD xs k 0) (getD ps (s .from) 0) (getD ps (s .to) 0) d
       over u =
-          rw (laid .rowed .weights k l, laid .rowed .pulls k l, laid .rowed .lows k l, laid .rowed .highs k l, laid .along .starts k l, laid .along .ends k l, turned f (s .from) (s .to), turned f (s .to) (s .from))
-          (over-by (weightOf s) (2 * (weightOf s * readingOf s)) (lowOf s) (highOf s) (getD xs k 0) (getD ps (s .from) 0) (getD ps (s .to) 0) d (weight-most s each) (rw (laid .rowed .pulls k l) at (laid .rowed .pulled k l)) (w .searchable .amounts k l) f
-          (w .searchable .prices (s .from) (omega (arith, each .from-in))) (w .searchable .prices (s .to) (omega (arith, each .to-in)))
+          let row = laid .rowed in
+          let along = laid .along in
+          rw (row .weights k l, row .pulls k l, row .lows k l, row .highs k l, along .starts k l, along .ends k l, turned f (s .from) (s .to), turned f (s .to) (s .from))
+          (over-by (weightOf s) (2 * (weightOf s * readingOf s)) (lowOf s) (highOf s) (getD xs k 0) (getD ps (s .from) 0) (getD ps (s .to) 0) d
+          (weight-most s each) (rw (laid .rowed .pulls k l) at (laid .rowed .pulled k l)) (w .searchable .amounts k l) f
+          (w .searchable .potentials (s .from) (omega (arith, each .from-in))) (w .searchable .potentials (s .to) (omega (arith, each .to-in)))
           (rw (getD-take n streams k noStream l) at (small k f l u)))
 
+  -- The reduced costs of the arcs are slacks as a walk needs them.
   pub slacked : Slacked streams n xs ps d skip (startsOf ls) (endsOf ls) (reducedCosts ls ms ps true) (reducedCosts ls ms ps false)
   slacked = defined _ _ (gap-is true) (gap-is false)
 
+  -- And the arcs can be gone along.
   pub ways-of : Ways ls ms ps
   ways-of = record {
     linked = laid .along .linked;
-    prices = w .searchable .prices;
-    small = λ k f b. let l : k < n = rw (laid .along .counted) at b in by-cases (spared rs skip k) (λ o. rw (mg .closed k f l o) (omega arith)) (λ o. rw (mg .are k f l o, laid .rowed .weights k l, laid .rowed .pulls k l)
-        (margin-most (weightOf (getD streams k noStream)) (2 * (weightOf (getD streams k noStream) * readingOf (getD streams k noStream))) _ _ (getD xs k 0) 0 0 d
-        (weight-most (getD streams k noStream) (w .searchable .network .within .each k l)) (rw (laid .rowed .pulls k l) at (laid .rowed .pulled k l)) (w .searchable .amounts k l) f (w .searchable .step)));
+    potentials = w .searchable .potentials;
+    small = λ k f b.
+        let l : k < n = rw (laid .along .counted) at b in
+        let s = getD streams k noStream in
+        by-cases (spared rs skip k)
+        (λ o. rw (mg .closed k f l o) (omega arith))
+        (λ o. rw (mg .are k f l o, laid .rowed .weights k l, laid .rowed .pulls k l)
+        (margin-most (weightOf s) (2 * (weightOf s * readingOf s)) _ _ (getD xs k 0) 0 0 d (weight-most s (w .searchable .network .within .each k l))
+        (rw (laid .rowed .pulls k l) at (laid .rowed .pulled k l)) (w .searchable .amounts k l) f (w .searchable .step)));
   }
 
+-- A walk over the first m streams of the arcs.
+abbrev walkOver : List ℕ → List ℕ → List ℕ → List ℕ → ℕ → ℕ → ℕ → Walked
+walkOver ls ms ps es limit s m =
+    walked (startsOf ls) (endsOf ls) (reducedCosts ls ms ps true) (reducedCosts ls ms ps false) m es limit searchRounds 0 s
+    (replicate places 0) (replicate places far) (rootAt s)
+
+-- A walk over arcs comes to what the search over their streams comes to.
 pub search-linked : (ls ms ps es : List ℕ) (d s : ℕ) → s < places → (w : Searching ls ms ps d 0) (r : Walked)
-    → r ≡ walked (startsOf ls) (endsOf ls) (reducedCosts ls ms ps true) (reducedCosts ls ms ps false) (countOf ls) es far searchRounds 0 s (replicate places 0) (replicate places far) (rootAt s)
+    → r ≡ walkedFrom ls ms ps es far s
     → grownBy (r .found) (r .tree) (pick (r .found) (reducedBy (r .tree .visited) (r .dist) (r .reach) ps) ps) ≡ sought (take (w .n) (w .streams)) (w .amounts) es ps d s
 unfolding sought
 search-linked ls ms ps es d s l w r e =
     rw (in-use (w .streams) (w .n) (w .amounts) ps d 0 (startsOf ls) (endsOf ls) _ _ all)
-    (ap (λ (g : Grown). grownBy (g .found) (g .tree) (pick (g .found) (g .prices) ps))
+    (ap (λ (g : Grown). grownBy (g .found) (g .tree) (pick (g .found) (g .potentials) ps))
     (ap (λ (v : Walked). grownBy (v .found) (v .tree) (reducedBy (v .tree .visited) (v .dist) (v .reach) ps))
-    (e ∙ ap (λ (m : ℕ). walked (startsOf ls) (endsOf ls) (reducedCosts ls ms ps true) (reducedCosts ls ms ps false) m es far searchRounds 0 s (replicate places 0) (replicate places far) (rootAt s)) (w .laid .along .counted))
+    (e ∙ ap (λ (m : ℕ). walkOver ls ms ps es far s m) (w .laid .along .counted))
     ∙ sym (search-walk (w .streams) (w .n) (w .amounts) ps d (startsOf ls) (endsOf ls) _ _ all es s l)))
   where
     all : Slacked (w .streams) (w .n) (w .amounts) ps d 0 (startsOf ls) (endsOf ls) (reducedCosts ls ms ps true) (reducedCosts ls ms ps false)
     all = slacked (w .streams) (w .n) (w .amounts) ps d 0 ls (w .rows) ms (w .laid) (w .margined) (w .walkable)
 
--- Over arcs without slack.
+-- And a walk over arcs without slack to what the search over streams without slack comes to.
 pub path-linked : (ls ms ps : List ℕ) (v skip s : ℕ) → v < places → s < places → (w : Searching ls ms ps 1 skip) (b : Bool) (t : Tree)
-    → (b ≡ walked (startsOf ls) (endsOf ls) (reducedCosts ls ms ps true) (reducedCosts ls ms ps false) (countOf ls) (goalAt v) 0 searchRounds 0 s (replicate places 0) (replicate places far) (rootAt s) .found)
-    × (t ≡ walked (startsOf ls) (endsOf ls) (reducedCosts ls ms ps true) (reducedCosts ls ms ps false) (countOf ls) (goalAt v) 0 searchRounds 0 s (replicate places 0) (replicate places far) (rootAt s) .tree)
+    → (b ≡ walkedFrom ls ms ps (goalAt v) 0 s .found) × (t ≡ walkedFrom ls ms ps (goalAt v) 0 s .tree)
     → grownBy b t ps ≡ tightPath (take (w .n) (w .streams)) (w .n) (w .amounts) ps v skip searchRounds (rootAt s)
 path-linked ls ms ps v skip s lv l w b t e =
     rw (e .0, e .1)
-    (ap (λ (m : ℕ). grownOf (walked (startsOf ls) (endsOf ls) (reducedCosts ls ms ps true) (reducedCosts ls ms ps false) m (goalAt v) 0 searchRounds 0 s (replicate places 0) (replicate places far) (rootAt s))) (w .laid .along .counted)
+    (ap (λ (m : ℕ). grownOf (walkOver ls ms ps (goalAt v) 0 s m)) (w .laid .along .counted)
     ∙ sym (path-walk (w .streams) (w .n) (w .amounts) ps skip (startsOf ls) (endsOf ls) _ _ all v lv s l))
   where
     grownOf : Walked → Grown

@@ -11,11 +11,11 @@ use lib.ListN.{getD}
 use Rattle.num_bytes.specs.Choice.{pick}
 use Rattle.num_bytes.proofs.Tests.{picked}
 use Rattle.plant_def.specs.Limits.{places, maxStreams}
-use Rattle.solve_def.specs.Near.{codeOf, lessened, lastAt, arcAt, relaxedAlong, relaxedAt, relaxedTo}
+use Rattle.solve_def.specs.Near.{codeOf, lessened, lastAt, arcAt, relaxedAlong, relaxedTo}
 use Rattle.solve_def.proofs.Listing.{touches, last-good, arc-is, arc-less, relaxed-last, relaxed-none, tail-touching, relaxed-touching}
 use Rattle.solve_arcs.specs.Cells.{toCell, nextCell, arcOf, countOf, startsOf, endsOf}
 use Rattle.solve_arcs.specs.Margins.{shut, reducedCost, reducedCosts, leaves, reaches}
-use Rattle.solve_arcs.specs.ArcNeeds.{Linked, Ways}
+use Rattle.solve_arcs.specs.ArcNeeds.{Linked}
 use Rattle.solve_arcs.proofs.Along.{arc-parts, reach-is, slack-is}
 
 halves : (l i d : ℕ) → l ≡ 2 * i + d → d ≤ 1 → (l / 2 ≡ i) × (l % 2 ≡ d)
@@ -54,9 +54,11 @@ module _ (ls : List ℕ) (w : Linked ls) (e m l : ℕ) (few : m ≤ countOf ls) 
     at-place =
         ⊎-elim (λ o. subst (λ (j : ℕ). (j < m) × (touches fs ts e j ≡ true)) (sym is-last) o) (λ o. absurd (omega (arith, o, is-last, some))) (last-good fs ts e m)
 
+    -- The arc's stream is in use.
     pub low : i < countOf ls
     low = omega (arith, at-place .0, few)
 
+    -- So its number is below the limit.
     pub low-all : i < maxStreams
     low-all = omega (arith, low, w .few)
 
@@ -73,6 +75,7 @@ module _ (ls : List ℕ) (w : Linked ls) (e m l : ℕ) (few : m ≤ countOf ls) 
     head : getD ls (toCell + l) 0 ≡ reaches ls f i
     head = ap (λ (c : ℕ). getD ls (toCell + c) 0) (arc-parts l) ∙ reach-is ls i f low
 
+    -- The arc leads to a place.
     pub head-in : getD ls (toCell + l) 0 < places
     head-in = rw head (picked (λ (p : ℕ). p < places) f _ _ (λ o. w .to-in i low) (λ o. w .from-in i low))
 
@@ -81,10 +84,12 @@ module _ (ls : List ℕ) (w : Linked ls) (e m l : ℕ) (few : m ≤ countOf ls) 
     next-is =
         ap (λ (c : ℕ). getD ls (nextCell + c) 0) (arc-parts l) ∙ w .next i f low ∙ ap (λ (u : ℕ). arcAt fs ts u i) tail
 
+    -- The next arc of the list is an earlier one.
     pub next-less : leftOf (getD ls (nextCell + l) 0) < leftOf l
     next-less = rw next-is (arc-less fs ts e i l (2 * maxStreams) some (omega (arith, div-add-mod' l 2)) (omega arith))
 
     module _ (ms ps : List ℕ) where
+      -- The arc's margin is one.
       pub margin-small : ((k : ℕ) (f : Bool) → k < countOf ls → getD ms (arcOf k f) 0 ≤ shut) → getD ms l 0 ≤ shut
       margin-small h = subst (λ (c : ℕ). getD ms c 0 ≤ shut) (sym (arc-parts l)) (h i f low)
 
@@ -114,6 +119,7 @@ pub along-visited : (vs : List Bool) (k v g i : ℕ) (near : List ℕ) → getD 
 unfolding relaxedAlong
 along-visited vs k v g i near h = rw h
 
+-- An offer to a place that is not visited.
 pub along-open : (vs : List Bool) (k v g i : ℕ) (near : List ℕ) → getD vs v false ≡ false → lessened near v (codeOf (k + g) i) ≡ relaxedAlong vs k v g i near
 unfolding relaxedAlong
 along-open vs k v g i near h = rw h

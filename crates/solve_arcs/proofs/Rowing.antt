@@ -16,6 +16,7 @@ use Rattle.solve_arcs.specs.Cells.{toCell, countOf}
 use Rattle.solve_arcs.specs.ArcNeeds.{Rowed, Row, Laying}
 use Rattle.solve_arcs.proofs.Along.{starts-at, ends-at}
 
+-- A stream of a network has a row that can have margins.
 pub row-of : (streams : List Stream) (n : ℕ) (rs : List ℕ) → Network streams n → Rowed streams n rs → (k : ℕ) → k < n → Row rs k
 row-of streams n rs w r k l = record {
   low = omega (arith, w .within .few-streams);
@@ -25,12 +26,15 @@ row-of streams n rs w r k l = record {
 }
 
 module _ (ls rs : List ℕ) (w : Laying ls rs) (i : ℕ) (l : i < countOf ls) where
+  -- Stream i is one of the n.
   pub below : i < w .n
   below = rw (w .laid .along .counted) at l
 
+  -- Its number is below the limit.
   pub low-in : i < maxStreams
   low-in = omega (arith, below, w .network .within .few-streams)
 
+  -- Its row can have margins.
   pub row-at : Row rs i
   row-at = row-of (w .streams) (w .n) rs (w .network) (w .laid .rowed) i below
 
@@ -38,15 +42,19 @@ module _ (ls rs : List ℕ) (w : Laying ls rs) (i : ℕ) (l : i < countOf ls) wh
   pub from-is : getD ls (toCell + 2 * i) 0 ≡ getD (w .streams) i noStream .from
   from-is = sym (starts-at ls i l) ∙ w .laid .along .starts i below
 
+  -- The cell of its end.
   pub to-is : getD ls (toCell + (2 * i + 1)) 0 ≡ getD (w .streams) i noStream .to
   to-is = sym (ends-at ls i l) ∙ w .laid .along .ends i below
 
+  -- Its start is a place.
   pub start-in : getD ls (toCell + 2 * i) 0 < places
   start-in = rw from-is (omega (arith, w .network .within .each i below .from-in))
 
+  -- So is its end.
   pub end-in : getD ls (toCell + (2 * i + 1)) 0 < places
   end-in = rw to-is (omega (arith, w .network .within .each i below .to-in))
 
+  -- It is metered where its weight is not 0.
   pub metered-of : 0 < getD rs (4 * i) 0 → getD (w .streams) i noStream .metered ≡ true
   metered-of h = go (getD (w .streams) i noStream .metered) (rw (w .laid .rowed .weights i below) at h)
     where
@@ -54,6 +62,7 @@ module _ (ls rs : List ℕ) (w : Laying ls rs) (i : ℕ) (l : i < countOf ls) wh
       go true o = refl
       go false o = absurd (omega arith)
 
+  -- And unmetered where it is.
   pub free-of : getD rs (4 * i) 0 ≤ 0 → getD (w .streams) i noStream .metered ≡ false
   free-of h = go (getD (w .streams) i noStream .metered) (w .network .within .each i below .weighed) (rw (w .laid .rowed .weights i below) at h)
     where

@@ -17,19 +17,21 @@ use Rattle.solve_arcs.specs.Margins.{marginAt, shut, spared}
 use Rattle.solve_arcs.specs.ArcNeeds.{Margined}
 
 module _ (i a b : ℕ) (ms : List ℕ) (low : i < maxStreams) (long : length ms ≡ marginCells) where
+  -- Both margins of stream i stored.
   abbrev pub put : List ℕ
   put = set (set ms (2 * i + 1) a) (2 * i) b
 
+  -- As many margins as before.
   pub put-long : length put ≡ marginCells
   put-long = length-set (set ms (2 * i + 1) a) (2 * i) b ∙ length-set ms (2 * i + 1) a ∙ long
 
-  pub put-own : (f : Bool) → getD put (arcOf i f) 0 ≡ pick f a b
+  put-own : (f : Bool) → getD put (arcOf i f) 0 ≡ pick f a b
   put-own true = getD-set-other (set ms (2 * i + 1) a) (2 * i) (2 * i + 1) b 0 (λ o. omega arith) ∙ getD-set-same ms (2 * i + 1) a 0 (omega arith)
   put-own false =
       let e : 2 * i + 0 ≡ 2 * i = omega arith in
       rw e (getD-set-same (set ms (2 * i + 1) a) (2 * i) b 0 (omega (arith, length-set ms (2 * i + 1) a)))
 
-  pub put-other : (k : ℕ) (f : Bool) → (k ≡ i → ⊥) → getD put (arcOf k f) 0 ≡ getD ms (arcOf k f) 0
+  put-other : (k : ℕ) (f : Bool) → (k ≡ i → ⊥) → getD put (arcOf k f) 0 ≡ getD ms (arcOf k f) 0
   put-other k true o =
       getD-set-other (set ms (2 * i + 1) a) (2 * i) (2 * k + 1) b 0 (λ q. omega arith) ∙ getD-set-other ms (2 * i + 1) (2 * k + 1) a 0 (λ q. o (omega arith))
   put-other k false o =
@@ -52,6 +54,7 @@ spare-other rs i k q = ap (λ (b : Bool). ltb 0 (getD rs (4 * k) 0) && b) (elim 
     less : k ≤ i → k < i
     less l = elim (decLe i k) [ yes m ↦ absurd (q (omega arith)) | no m ↦ omega arith ]
 
+-- A metered stream is among those left alone before the next one.
 pub spare-own : (rs : List ℕ) (i : ℕ) → 0 < getD rs (4 * i) 0 → spared rs (i + 1) i ≡ true
 spare-own rs i l = rw (lt-ltb 0 (getD rs (4 * i) 0) l, lt-ltb i (i + 1) (omega arith))
 
@@ -68,9 +71,11 @@ module _ (rs : List ℕ) (d i : ℕ) (ms : List ℕ) (low : i < maxStreams) wher
   both true x = refl
   both false x = refl
 
+  -- No stream has its margins yet.
   pub margined-none : (xs : List ℕ) → length ms ≡ marginCells → Margined 0 rs xs d 0 ms
   margined-none xs h = record { long = h; are = λ k f l. absurd (omega arith); closed = λ k f l. absurd (omega arith) }
 
+  -- One stream more has them.
   pub margined-more : (xs : List ℕ) → Margined i rs xs d 0 ms
       → Margined (i + 1) rs xs d 0 (set (set ms (2 * i + 1) (marginAt rs true i (getD xs i 0) d)) (2 * i) (marginAt rs false i (getD xs i 0) d))
   margined-more xs m = record {
@@ -82,6 +87,7 @@ module _ (rs : List ℕ) (d i : ℕ) (ms : List ℕ) (low : i < maxStreams) wher
     closed = λ k f l o. clash _ o (spare-none rs k);
   }
 
+  -- One amount moves, and its margins with it.
   pub margined-moved : (n skip : ℕ) (xs : List ℕ) (x : ℕ) → i < length xs → spared rs skip i ≡ false → Margined n rs xs d skip ms
       → Margined n rs (set xs i x) d skip (set (set ms (2 * i + 1) (marginAt rs true i x d)) (2 * i) (marginAt rs false i x d))
   margined-moved n skip xs x l free m = record {
@@ -107,6 +113,7 @@ module _ (rs : List ℕ) (d i : ℕ) (ms : List ℕ) (low : i < maxStreams) wher
     closed = m .closed;
   }
 
+  -- A metered stream is left alone.
   pub margined-shut : (n : ℕ) (xs : List ℕ) → 0 < getD rs (4 * i) 0 → Margined n rs xs d i ms → Margined n rs xs d (i + 1) (set (set ms (2 * i + 1) shut) (2 * i) shut)
   margined-shut n xs l m = record {
     long = put-long i _ _ ms low (m .long);
@@ -120,6 +127,7 @@ module _ (rs : List ℕ) (d i : ℕ) (ms : List ℕ) (low : i < maxStreams) wher
     ];
   }
 
+  -- An unmetered one never is.
   pub margined-free : (n : ℕ) (xs : List ℕ) → getD rs (4 * i) 0 ≤ 0 → Margined n rs xs d i ms → Margined n rs xs d (i + 1) ms
   margined-free n xs l m = record {
     long = m .long;

@@ -3,18 +3,20 @@ use mathlib.Core.Path.{_≡_}
 use mathlib.Core.Bool.{Bool, true, false}
 use mathlib.Core.List.{List}
 use Prim.Native.Nat.{ℕ, _+_, _*_, _≤_, _<_}
-use lib.ListN.{length, getD}
+use lib.ListN.{length, getD, take, replicate}
 use Rattle.num_bytes.specs.Choice.{pick}
 use Rattle.plant_def.specs.declared.Stream.{Stream}
 use Rattle.plant_def.specs.Limits.{places, maxStreams, maxWeight}
 use Rattle.plant_def.specs.Plants.{noStream}
 use Rattle.flow_def.specs.Certificate.{weightOf}
-use Rattle.solve_def.specs.Sizes.{mostFlow, mostPull, mostStep}
+use Rattle.solve_def.specs.Sizes.{mostFlow, mostPull, mostStep, searchRounds, far}
 use Rattle.solve_def.specs.Held.{readingOf, lowOf, highOf}
-use Rattle.solve_def.specs.Near.{arcAt}
-use Rattle.solve_def.specs.SearchNeeds.{Network, Prices, Walkable}
+use Rattle.solve_def.specs.declared.Walked.{Walked}
+use Rattle.solve_def.specs.Search.{rootAt}
+use Rattle.solve_def.specs.Near.{arcAt, walked}
+use Rattle.solve_def.specs.SearchNeeds.{Network, Potentials, Walkable}
 use Rattle.solve_arcs.specs.Cells.{toCell, nextCell, arcCells, arcOf, countOf, startsOf, endsOf, rowCells, marginCells}
-use Rattle.solve_arcs.specs.Margins.{marginAt, shut, spared, leaves}
+use Rattle.solve_arcs.specs.Margins.{marginAt, shut, spared, leaves, reducedCosts}
 
 -- The first i streams are in the lists; fs are all starts, ts all ends.
 pub record Listed (i : ℕ) (fs ts ls : List ℕ) : Type 0 where
@@ -60,6 +62,11 @@ pub record Row (rs : List ℕ) (k : ℕ) : Type 0 where
   pub pulled : getD rs (4 * k + 1) 0 ≤ 2 * mostPull
   pub low-in : getD rs (4 * k + 2) 0 ≤ mostFlow
 
+-- What margins of the first n streams at the amounts xs and step d require.
+abbrev pub Marginable : ℕ → List ℕ → List ℕ → ℕ → List ℕ → Type 0
+Marginable n rs xs d ms =
+    ((k : ℕ) → k < n → Row rs k) × ((k : ℕ) → k < n → getD xs k 0 ≤ mostFlow) × (n ≤ maxStreams) × (d ≤ mostStep) × (length ms ≡ marginCells)
+
 -- Margins of the first n streams at the amounts xs and step d, metered streams before number skip left alone.
 pub record Margined (n : ℕ) (rs xs : List ℕ) (d skip : ℕ) (ms : List ℕ) : Type 0 where
   pub long : length ms ≡ marginCells
@@ -77,11 +84,21 @@ pub record Laying (ls rs : List ℕ) : Type 0 where
   pub network : Network streams n
   pub laid : Laid streams n ls rs
 
--- Arcs, margins and prices of which a walk can go along.
+-- What holds of the streams that arcs and rows are of, whichever they are.
+abbrev pub OfStreams : List ℕ → List ℕ → (List Stream → ℕ → Type 0) → Type 0
+OfStreams ls rs P = (w : Laying ls rs) → P (take (w .n) (w .streams)) (w .n)
+
+-- Arcs, margins and potentials of which a walk can go along.
 pub record Ways (ls ms ps : List ℕ) : Type 0 where
   pub linked : Linked ls
-  pub prices : Prices ps
+  pub potentials : Potentials ps
   pub small : (k : ℕ) (f : Bool) → k < countOf ls → getD ms (arcOf k f) 0 ≤ shut
+
+-- A walk from place s along arcs by their reduced costs, until a place with a negative net of es is visited, at most limit away.
+abbrev pub walkedFrom : List ℕ → List ℕ → List ℕ → List ℕ → ℕ → ℕ → Walked
+walkedFrom ls ms ps es limit s =
+    walked (startsOf ls) (endsOf ls) (reducedCosts ls ms ps true) (reducedCosts ls ms ps false) (countOf ls) es limit searchRounds 0 s
+    (replicate places 0) (replicate places far) (rootAt s)
 
 -- Streams that arcs are of, and such that a search can go over them.
 pub record Searching (ls ms ps : List ℕ) (d skip : ℕ) : Type 0 where

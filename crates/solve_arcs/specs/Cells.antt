@@ -2,7 +2,7 @@
 -- backwards. First, for each place, the arc of the last stream that starts or ends there (arcAt in Near); then for each arc the place
 -- that it leads to; then for each arc the next one of the place that it leaves; last, how many streams are in use.
 -- The rows: four numbers for each stream, its weight, twice its weight times its reading, and the ends of its range.
-use mathlib.Core.Bool.{Bool, true, false}
+use mathlib.Core.Bool.{Bool}
 use mathlib.Core.List.{List}
 use Prim.Native.Nat.{ℕ, _+_, _*_}
 use lib.ListN.{getD}

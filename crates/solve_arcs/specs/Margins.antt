@@ -1,9 +1,9 @@
--- Margins: for each arc its marginal cost, what one step more along it costs at the present amounts, before prices.
+-- Margins: for each arc its marginal cost, what one step more along it costs at the present amounts, before potentials.
 use mathlib.Core.Bool.{Bool, true, false, _&&_}
 use mathlib.Core.List.{List}
 use Prim.Native.Nat.{ℕ, _+_, _-_, _*_}
 use lib.Dec.{ltb}
-use lib.ListN.{getD}
+use lib.ListN.{getD, set}
 use Rattle.num_bytes.specs.Choice.{pick}
 use Rattle.num_bytes.specs.Inner.{values}
 use Rattle.solve_def.specs.Sizes.{mostPull, farthest}
@@ -11,7 +11,7 @@ use Rattle.solve_def.specs.Slack.{openBy}
 use Rattle.solve_arcs.specs.Cells.{arcOf, countOf, startsOf, endsOf}
 
 -- A margin z is held as z + lift, which no margin that arises takes below 0; an arc that is shut has the margin shut, 2^62:
--- farthest + priceShift + lift ≤ shut, and in 64 bits shut + priceShift < 2^64.
+-- farthest + potentialShift + lift ≤ shut, and in 64 bits shut + potentialShift < 2^64.
 abbrev pub lift : ℕ
 lift = 2 * mostPull
 
@@ -29,11 +29,15 @@ marginBy w q low high f x d = pick (openBy low high f x d) (costBy w q f x d) sh
 abbrev pub marginAt : List ℕ → Bool → ℕ → ℕ → ℕ → ℕ
 marginAt rs f k x d = marginBy (getD rs (4 * k) 0) (getD rs (4 * k + 1) 0) (getD rs (4 * k + 2) 0) (getD rs (4 * k + 3) 0) f x d
 
+-- Both margins of stream k are put.
+abbrev pub marginsPut : List ℕ → ℕ → ℕ → ℕ → List ℕ → List ℕ
+marginsPut rs k x d ms = set (set ms (2 * k + 1) (marginAt rs true k x d)) (2 * k) (marginAt rs false k x d)
+
 -- Stream k is left alone: it is metered, and its number below skip. Its arcs are shut.
 abbrev pub spared : List ℕ → ℕ → ℕ → Bool
 spared rs skip k = ltb 0 (getD rs (4 * k) 0) && ltb k skip
 
--- The reduced cost of an arc of margin m, from a place of price p to one of price r; at least 0 and at most farthest. It is the slack of
+-- The reduced cost of an arc of margin m, from a place of potential p to one of potential r; at least 0 and at most farthest. It is the slack of
 -- the arc's stream (slackPast in Slack).
 abbrev pub lessOf : ℕ → ℕ → ℕ
 lessOf a b = pick (ltb b a) b a

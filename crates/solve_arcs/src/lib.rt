@@ -3,7 +3,8 @@
 // last stream that starts or ends there; then for each arc the place that it leads to; then for each arc the next one of the place
 // that it leaves; last, how many streams are in use. What is where is known here and nowhere else in code, and in
 // specs/Cells.antt. The margin of an arc is its marginal cost: what one step more along it costs at the present amounts. Its
-// reduced cost is that by the prices of its two ends.
+// reduced cost is that by the potentials of its two ends.
+use num_bytes::minus;
 use plant_def::Stream;
 use plant_def::limits::MAX_STREAMS;
 use plant_def::limits::MAX_WEIGHT;
@@ -15,14 +16,14 @@ ghost use mathlib.Core.Path.{_≡_};
 ghost use Prim.Native.Nat.{_-_, _*_, _≤_, _+_, _<_, ℕ};
 ghost use Rattle.plant_def.specs.Limits.{maxUnits, places, maxStreams, maxWeight};
 ghost use Rattle.plant_def.specs.Within.{WithinStream};
-ghost use Rattle.solve_def.specs.Sizes.{mostFlow, mostPull, farthest, mostStep, priceShift};
+ghost use Rattle.solve_def.specs.Sizes.{mostFlow, mostPull, farthest, mostStep, potentialShift};
 ghost use Rattle.flow_def.specs.Certificate.{weightOf};
 ghost use Rattle.solve_def.specs.Held.{shifted, readingOf, lowOf, highOf};
 ghost use lib.ListN.{getD, length, set};
 ghost use Rattle.solve_arcs.specs.Cells.{toCell, nextCell, countOf, marginCells};
 ghost use mathlib.Core.Bool.{true, false};
-ghost use Rattle.solve_arcs.specs.Margins.{lessOf, marginBy, marginAt, shut, reducedCost};
-ghost use Rattle.solve_arcs.specs.ArcNeeds.{Row, Margined};
+ghost use Rattle.solve_arcs.specs.Margins.{lessOf, marginBy, marginsPut, shut, reducedCost};
+ghost use Rattle.solve_arcs.specs.ArcNeeds.{Row, Marginable, Margined};
 
 // A stream's weight; an unmetered stream counts as one of weight 0.
 pub fn weight_of(s: Stream) -> u64
@@ -75,13 +76,6 @@ pub fn pull_of_reading(s: Stream) -> u64
     ensures { λ r. ⌜ (r ≡ weightOf s * readingOf s) × (r ≤ mostPull) ⌝ }
 {
     weight_of(s) * reading_of(s)
-}
-
-// a − b, 0 where b is more.
-pub fn minus(a: u64, b: u64) -> u64
-    ensures { λ r. ⌜ r ≡ a - b ⌝ }
-{
-    if a < b { 0 } else { a - b }
 }
 
 pub const TO: usize = PLACES;
@@ -151,9 +145,9 @@ pub fn lesser(a: u64, b: u64) -> u64
     if b < a { b } else { a }
 }
 
-// The reduced cost of an arc of margin m, from a place of price p to one of price r; at least 0 and at most FARTHEST.
+// The reduced cost of an arc of margin m, from a place of potential p to one of potential r; at least 0 and at most FARTHEST.
 pub fn reduced_cost(m: u64, p: u64, r: u64) -> u64
-    requires { ⌜ (m ≤ shut) × (p ≤ priceShift) × (r ≤ priceShift) ⌝ }
+    requires { ⌜ (m ≤ shut) × (p ≤ potentialShift) × (r ≤ potentialShift) ⌝ }
     ensures { λ g. ⌜ (g ≡ reducedCost m p r) × (g ≤ farthest) ⌝ }
 {
     lesser(minus(m + p, r + LIFT), FARTHEST)
@@ -184,7 +178,7 @@ fn falling(w: u64, q: u64, low: u64, x: u64, delta: u64) -> u64
 // The margins of stream i at the amount x.
 pub fn put_margins(rows: &[u64; ROWS], margins: &mut [u64; MARGINS], i: usize, x: u64, delta: u64)
     requires { ⌜ Row (now rows) i × (x ≤ mostFlow) × (delta ≤ mostStep) × (length (now margins) ≡ marginCells) ⌝ }
-    ensures { λ _. ⌜ now (margins .exit) ≡ set (set (now (margins .entry)) (2 * i + 1) (marginAt (now (rows .entry)) true i x delta)) (2 * i) (marginAt (now (rows .entry)) false i x delta) ⌝ }
+    ensures { λ _. ⌜ now (margins .exit) ≡ marginsPut (now (rows .entry)) i x delta (now (margins .entry)) ⌝ }
 {
     let w = rows[4 * i];
     let q = rows[4 * i + 1];
@@ -211,7 +205,7 @@ pub fn margins_of(
     count: usize,
     delta: u64,
 )
-    requires { ⌜ ((k : ℕ) → k < count → Row (now rows) k) × ((k : ℕ) → k < count → getD (now flows) k 0 ≤ mostFlow) × (count ≤ maxStreams) × (delta ≤ mostStep) × (length (now margins) ≡ marginCells) ⌝ }
+    requires { ⌜ Marginable count (now rows) (now flows) delta (now margins) ⌝ }
     ensures { λ _. ⌜ Margined count (now (rows .entry)) (now (flows .entry)) delta 0 (now (margins .exit)) ⌝ }
 {
     let mut i: usize = 0;

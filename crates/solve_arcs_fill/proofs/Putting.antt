@@ -1,5 +1,5 @@
 -- One stream more in the arcs and in the rows.
-use mathlib.Core.Path.{_≡_, refl, sym, _∙_, ap, subst}
+use mathlib.Core.Path.{_≡_, refl, _∙_, ap}
 use mathlib.Core.Bool.{Bool, true, false}
 use mathlib.Core.List.{List}
 use Prim.Native.Nat.{ℕ, suc, _+_, _*_, _≤_, _<_}
@@ -21,14 +21,15 @@ use Rattle.solve_def.specs.Near.{arcAt}
 use Rattle.solve_def.specs.SearchNeeds.{Network}
 use Rattle.solve_def.proofs.Amounts.{get-set}
 use Rattle.solve_arcs.specs.Cells.{toCell, nextCell, countCell, arcCells, arcOf, countOf, startsOf, endsOf, rowCells}
-use Rattle.solve_arcs.specs.ArcNeeds.{Listed, Linked, LaidArcs, Rowed}
-use Rattle.solve_arcs.proofs.Along.{starts-at, ends-at}
-use Rattle.solve_arcs_fill.specs.Puts.{startsIn, endsIn, endsPut, nextPut, firstPut, rowPut}
+use Rattle.solve_arcs.specs.ArcNeeds.{Listed, LaidArcs, Rowed}
+use Rattle.solve_arcs_fill.specs.Puts.{startsIn, endsIn, endsPut, nextPut, firstPut}
 
+-- Where stream k starts.
 pub starts-in : (streams : List Stream) (n k : ℕ) → k < n → getD (startsIn streams n) k 0 ≡ getD streams k noStream .from
 unfolding startsIn
 starts-in streams n k l = values-at (λ k. getD streams k noStream .from) 0 n k l
 
+-- Where it ends.
 pub ends-in : (streams : List Stream) (n k : ℕ) → k < n → getD (endsIn streams n) k 0 ≡ getD streams k noStream .to
 unfolding endsIn
 ends-in streams n k l = values-at (λ k. getD streams k noStream .to) 0 n k l
@@ -64,7 +65,7 @@ module _ (i u v x y : ℕ) (ls : List ℕ) (low : i < maxStreams) (lu : u < plac
   long5 : length l5 ≡ arcCells
   long5 = length-set l4 v (2 * i) ∙ long4
 
-  pub all-long : length all ≡ arcCells
+  all-long : length all ≡ arcCells
   all-long = length-set l5 u (2 * i + 1) ∙ long5
 
   -- Past the places; at the places; and where the arcs lead.
@@ -74,6 +75,7 @@ module _ (i u v x y : ℕ) (ls : List ℕ) (low : i < maxStreams) (lu : u < plac
   ends : (c : ℕ) → places ≤ c → c < nextCell → getD all c 0 ≡ getD l2 c 0
   ends c b l = high c b ∙ getD-set-other l3 (nextCell + 2 * i) c y 0 (λ o. omega arith) ∙ getD-set-other l2 (nextCell + (2 * i + 1)) c x 0 (λ o. omega arith)
 
+  -- The count stays.
   pub count-kept : countOf all ≡ countOf ls
   count-kept =
       high countCell (omega arith) ∙ getD-set-other l3 (nextCell + 2 * i) countCell y 0 (λ o. omega arith) ∙ getD-set-other l2 (nextCell + (2 * i + 1)) countCell x 0 (λ o. omega arith)
@@ -107,6 +109,7 @@ module _ (i u v x y : ℕ) (ls : List ℕ) (low : i < maxStreams) (lu : u < plac
       ∙ getD-set-other l2 (nextCell + (2 * i + 1)) (nextCell + (2 * k + 0)) x 0 (λ o. omega arith)
       ∙ getD-set-other l1 (toCell + (2 * i + 1)) (nextCell + (2 * k + 0)) v 0 (λ o. omega arith) ∙ getD-set-other ls (toCell + 2 * i) (nextCell + (2 * k + 0)) u 0 (λ o. omega arith)
 
+  -- One stream more is in the lists.
   pub arc-step : (fs ts : List ℕ) → u ≡ getD fs i 0 → v ≡ getD ts i 0 → x ≡ getD ls u 0 → y ≡ getD ls v 0 → Listed i fs ts ls → Listed (i + 1) fs ts all
   unfolding arcAt
   arc-step fs ts iu iv ix iy h = record {
@@ -134,7 +137,7 @@ module _ (i u v x y : ℕ) (ls : List ℕ) (low : i < maxStreams) (lu : u < plac
       one false = iy ∙ h .first v lv ∙ ap (λ (w : ℕ). arcAt fs ts w i) iv
 
 -- None yet.
-pub listed-none : (fs ts ls : List ℕ) → length ls ≡ arcCells → ((u : ℕ) → u < places → getD ls u 0 ≡ 2 * maxStreams) → Listed 0 fs ts ls
+listed-none : (fs ts ls : List ℕ) → length ls ≡ arcCells → ((u : ℕ) → u < places → getD ls u 0 ≡ 2 * maxStreams) → Listed 0 fs ts ls
 unfolding arcAt
 listed-none fs ts ls h none = record { long = h; first = none; next = λ k f b. absurd (omega arith); starts = below-none _; ends = below-none _ }
 
@@ -156,6 +159,7 @@ module _ (streams : List Stream) (n : ℕ) (w : Network streams n) (ls : List �
   unfolding endsOf endsIn
   same-ends = rw c (values-same n (λ k. getD ls (toCell + (2 * k + 1)) 0) (λ k. getD streams k noStream .to) (λ k l. h .ends k l ∙ ends-in streams n k l))
 
+  -- Arcs with all streams in the lists are laid.
   pub laid-arcs : LaidArcs streams n ls
   laid-arcs = record {
     counted = c;
@@ -221,6 +225,7 @@ module _ (i a b c d : ℕ) (rs : List ℕ) (low : i < maxStreams) (long : length
   at3 : getD row (4 * i + 3) 0 ≡ d
   at3 = getD-set-same r3 (4 * i + 3) d 0 (omega (arith, len3))
 
+  -- One stream more has its row.
   pub rowed-more : (streams : List Stream) → a ≡ weightOf (getD streams i noStream) → b ≡ 2 * (weightOf (getD streams i noStream) * readingOf (getD streams i noStream)) → b ≤ 2 * mostPull
       → c ≡ lowOf (getD streams i noStream) → d ≡ highOf (getD streams i noStream) → Rowed streams i rs → Rowed streams (i + 1) row
   rowed-more streams ea eb pulled ec ed h = record {

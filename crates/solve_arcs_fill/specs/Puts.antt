@@ -1,13 +1,16 @@
 -- What is stored of one stream in the arcs and in the rows.
+use mathlib.Core.Path.{_≡_}
 use mathlib.Core.List.{List}
-use Prim.Native.Nat.{ℕ, _+_, _*_}
-use lib.ListN.{getD, set}
+use Prim.Native.Nat.{ℕ, _+_, _*_, _<_}
+use lib.ListN.{getD, length, set}
 use Rattle.num_bytes.specs.Inner.{values}
 use Rattle.plant_def.specs.declared.Stream.{Stream}
+use Rattle.plant_def.specs.Limits.{places, maxStreams}
 use Rattle.plant_def.specs.Plants.{noStream}
 use Rattle.flow_def.specs.Certificate.{weightOf}
 use Rattle.solve_def.specs.Held.{readingOf, lowOf, highOf}
-use Rattle.solve_arcs.specs.Cells.{toCell, nextCell}
+use Rattle.solve_def.specs.SearchNeeds.{Network}
+use Rattle.solve_arcs.specs.Cells.{toCell, nextCell, arcCells, rowCells}
 
 -- Where the first n streams start, and where they end.
 unfoldable pub startsIn : List Stream → ℕ → List ℕ
@@ -26,6 +29,10 @@ nextPut i x y ls = set (set ls (nextCell + (2 * i + 1)) x) (nextCell + 2 * i) y
 
 abbrev pub firstPut : ℕ → ℕ → ℕ → List ℕ → List ℕ
 firstPut i u v ls = set (set ls v (2 * i)) u (2 * i + 1)
+
+-- What laying the first n streams requires: no arc is there yet.
+abbrev pub Layable : List Stream → ℕ → List ℕ → List ℕ → Type 0
+Layable streams n ls rs = Network streams n × (length ls ≡ arcCells) × ((u : ℕ) → u < places → getD ls u 0 ≡ 2 * maxStreams) × (length rs ≡ rowCells)
 
 -- The row of stream i.
 abbrev pub rowPut : ℕ → Stream → List ℕ → List ℕ

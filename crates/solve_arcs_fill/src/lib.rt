@@ -12,17 +12,16 @@ use solve_arcs::pull_of_reading;
 use solve_arcs::weight_of;
 use solve_arcs::wide;
 ghost use mathlib.Core.Path.{_≡_};
-ghost use Prim.Native.Nat.{ℕ, _*_, _≤_, _<_};
+ghost use Prim.Native.Nat.{_*_, _≤_, _<_};
 ghost use lib.ListN.{getD, length};
 ghost use Rattle.plant_def.specs.Limits.{maxUnits, maxStreams, places};
 ghost use Rattle.plant_def.specs.Within.{WithinStream};
 ghost use Rattle.flow_def.specs.Certificate.{weightOf};
 ghost use Rattle.solve_def.specs.Sizes.{mostPull};
 ghost use Rattle.solve_def.specs.Held.{readingOf};
-ghost use Rattle.solve_def.specs.SearchNeeds.{Network};
 ghost use Rattle.solve_arcs.specs.Cells.{arcCells, rowCells};
 ghost use Rattle.solve_arcs.specs.ArcNeeds.{Laid};
-ghost use Rattle.solve_arcs_fill.specs.Puts.{endsPut, nextPut, firstPut, rowPut};
+ghost use Rattle.solve_arcs_fill.specs.Puts.{endsPut, nextPut, firstPut, rowPut, Layable};
 
 // Where the arcs of stream i lead, from place u to place v.
 fn put_ends(arcs: &mut [u8; ARCS], i: usize, u: u8, v: u8)
@@ -54,7 +53,10 @@ fn put_first(arcs: &mut [u8; ARCS], i: usize, u: usize, v: usize)
 // Stream i becomes the last in the lists of its start and of its end.
 fn list_arcs(arcs: &mut [u8; ARCS], i: usize, from: u8, to: u8)
     requires { ⌜ (length (now arcs) ≡ arcCells) × (i < maxStreams) × (from < places) × (to < places) ⌝ }
-    ensures { λ _. ⌜ now (arcs .exit) ≡ firstPut i from to (nextPut i (getD (now (arcs .entry)) from 0) (getD (now (arcs .entry)) to 0) (endsPut i from to (now (arcs .entry)))) ⌝ }
+    ensures { λ _. ⌜
+        now (arcs .exit)
+        ≡ firstPut i from to (nextPut i (getD (now (arcs .entry)) from 0) (getD (now (arcs .entry)) to 0) (endsPut i from to (now (arcs .entry))))
+        ⌝ }
 {
     let u = wide(from);
     let v = wide(to);
@@ -83,7 +85,7 @@ pub fn lay(
     arcs: &mut [u8; ARCS],
     rows: &mut [u64; ROWS],
 )
-    requires { ⌜ Network streams count × (length (now arcs) ≡ arcCells) × ((u : ℕ) → u < places → getD (now arcs) u 0 ≡ 2 * maxStreams) × (length (now rows) ≡ rowCells) ⌝ }
+    requires { ⌜ Layable streams count (now arcs) (now rows) ⌝ }
     ensures { λ _. ⌜ Laid streams count (now (arcs .exit)) (now (rows .exit)) ⌝ }
 {
     arcs[COUNT] = count as u8;

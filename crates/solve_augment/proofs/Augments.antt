@@ -1,5 +1,5 @@
 -- The push along arcs: with j streams to go it comes to what it comes to from the start, and the margins are those of the amounts.
-use mathlib.Core.Path.{_≡_, refl, sym, _∙_, ap}
+use mathlib.Core.Path.{_≡_, sym, _∙_}
 use mathlib.Core.Bool.{Bool, true, false}
 use mathlib.Core.List.{List}
 use Prim.Native.Nat.{ℕ, _+_, _-_, _*_, _≤_, _<_}
@@ -9,18 +9,20 @@ use lib.ListN.{length, getD, set, take}
 use Rattle.num_bytes.specs.Choice.{pick}
 use Rattle.num_bytes.proofs.Tests.{picked}
 use Rattle.plant_def.specs.Limits.{places, maxStreams}
-use Rattle.plant_def.specs.Plants.{noStream}
 use Rattle.solve_def.specs.Sizes.{mostFlow, mostStep}
 use Rattle.solve_def.specs.Push.{pushed}
 use Rattle.solve_def.specs.SearchNeeds.{Trail, Roomy}
 use Rattle.solve_def.proofs.Rounds.{push-hit, push-miss}
 use Rattle.solve_def.proofs.Elements.{roomy-less, roomy-set}
 use Rattle.solve_arcs.specs.Cells.{toCell, countOf, marginCells}
-use Rattle.solve_arcs.specs.Margins.{marginAt}
+use Rattle.solve_arcs.specs.Margins.{marginsPut}
 use Rattle.solve_arcs.specs.ArcNeeds.{Laying, Margined, Free}
+use Rattle.solve_def.specs.declared.Route.{Route}
+use Rattle.solve_augment.specs.Augmented.{MarginsMoved, FlowsMoved}
 use Rattle.solve_arcs.proofs.Along.{starts-at, ends-at}
 use Rattle.solve_arcs.proofs.Stores.{put-long, margined-moved}
 
+-- What holds with j remembered streams to go.
 pub record Pushing (ls rs via ends : List ℕ) (len target d : ℕ) (xs₀ ms₀ xs ms : List ℕ) (at j : ℕ) : Type 0 where
   pub short : j ≤ len
   pub byte : at < 256
@@ -29,8 +31,10 @@ pub record Pushing (ls rs via ends : List ℕ) (len target d : ℕ) (xs₀ ms₀
   pub margined : (skip : ℕ) → Margined (countOf ls) rs xs₀ d skip ms₀ → Free rs skip via len → Margined (countOf ls) rs xs d skip ms
   pub same : (w : Laying ls rs) → pushed (take (w .n) (w .streams)) via ends d j at xs ≡ pushed (take (w .n) (w .streams)) via ends d len target xs₀
 
+-- None is left.
 pub pushed-all : (ls rs via ends : List ℕ) (len target d : ℕ) (xs₀ ms₀ xs ms : List ℕ) (at : ℕ) → Pushing ls rs via ends len target d xs₀ ms₀ xs ms at 0
-    → ((skip : ℕ) → Margined (countOf ls) rs xs₀ d skip ms₀ → Free rs skip via len → Margined (countOf ls) rs xs d skip ms) × ((w : Laying ls rs) → xs ≡ pushed (take (w .n) (w .streams)) via ends d len target xs₀)
+    → let way : Route = record { len = len; target = target; delta = d } in
+    MarginsMoved ls rs via way ms₀ xs₀ ms xs × FlowsMoved ls rs via ends way xs₀ xs
 unfolding pushed
 pushed-all ls rs via ends len target d xs₀ ms₀ xs ms at p = (p .margined, λ w. p .same w)
 
@@ -50,6 +54,7 @@ module _ (ls rs via ends : List ℕ) (len target d : ℕ) (xs₀ ms₀ xs ms : L
   abbrev x : ℕ
   x = pick f (getD xs i 0 + d) (getD xs i 0 - d)
 
+  -- The stream is in use.
   pub push-index : Trail via (countOf ls) len → i < countOf ls
   push-index t = t .within (j - 1) (omega (arith, p .short))
 
@@ -58,6 +63,7 @@ module _ (ls rs via ends : List ℕ) (len target d : ℕ) (xs₀ ms₀ xs ms : L
     near true = (omega (arith, p .roomy .low i low, p .roomy .high i low), omega (arith, p .roomy .low i low, p .roomy .high i low))
     near false = (omega (arith, p .roomy .low i low, p .roomy .high i low), omega (arith, p .roomy .low i low, p .roomy .high i low))
 
+    -- Its amount can be held after the move.
     pub push-most : (b : Bool) → pick b (getD xs i 0 + d) (getD xs i 0 - d) ≤ mostFlow
     push-most b = omega (arith, near b .1)
 
@@ -74,11 +80,13 @@ module _ (ls rs via ends : List ℕ) (len target d : ℕ) (xs₀ ms₀ xs ms : L
     ends-there : v < places
     ends-there = rw (← ends-at ls i in-use) (w .laid .along .linked .to-in i in-use)
 
+    -- The next place is a place.
     pub push-place : (b : Bool) → pick b u v < places
     push-place b = picked (λ (q : ℕ). q < places) b u v (λ o. starts) (λ o. ends-there)
 
+    -- The stream leads to the place, and is moved along.
     pub push-hits : getD ends (j - 1) 0 ≡ at
-        → Pushing ls rs via ends len target d xs₀ ms₀ (set xs i x) (set (set ms (2 * i + 1) (marginAt rs true i x d)) (2 * i) (marginAt rs false i x d)) (pick f u v) (j - 1)
+        → Pushing ls rs via ends len target d xs₀ ms₀ (set xs i x) (marginsPut rs i x d ms) (pick f u v) (j - 1)
     push-hits h = record {
       short = omega (arith, p .short);
       byte = omega (arith, push-place f);
@@ -94,6 +102,7 @@ module _ (ls rs via ends : List ℕ) (len target d : ℕ) (xs₀ ms₀ xs ms : L
             rw (sym (starts-at ls i in-use) ∙ z .laid .along .starts i l, sym (ends-at ls i in-use) ∙ z .laid .along .ends i l)
             (sym (push-hit (z .streams) (z .n) via ends d j at xs some l h))
 
+    -- It leads elsewhere.
     pub push-misses : (getD ends (j - 1) 0 ≡ at → ⊥) → Pushing ls rs via ends len target d xs₀ ms₀ xs ms at (j - 1)
     push-misses h = record {
       short = omega (arith, p .short);

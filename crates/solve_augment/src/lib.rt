@@ -8,17 +8,15 @@ use solve_arcs::end_at;
 use solve_arcs::put_margins;
 use solve_def::Route;
 ghost use mathlib.Core.Path.{_≡_};
-ghost use Prim.Native.Nat.{ℕ, _+_, _-_, _*_, _≤_, _<_};
-ghost use lib.ListN.{getD, length, take};
+ghost use Prim.Native.Nat.{_+_, _-_, _*_, _≤_, _<_};
+ghost use lib.ListN.{getD};
 ghost use Rattle.num_bytes.specs.Choice.{pick};
 ghost use Rattle.plant_def.specs.Limits.{maxStreams};
-ghost use Rattle.solve_def.specs.Sizes.{mostFlow, mostStep};
-ghost use Rattle.solve_def.specs.Push.{pushed};
+ghost use Rattle.solve_def.specs.Sizes.{mostFlow};
 ghost use Rattle.solve_def.specs.Model.{shiftedNets};
-ghost use Rattle.solve_def.specs.SearchNeeds.{Trail, Roomy};
 ghost use Rattle.solve_def.specs.SolverNeeds.{Shiftable};
-ghost use Rattle.solve_arcs.specs.Cells.{toCell, countOf, marginCells};
-ghost use Rattle.solve_arcs.specs.ArcNeeds.{Laying, Margined, Free};
+ghost use Rattle.solve_arcs.specs.Cells.{toCell};
+ghost use Rattle.solve_augment.specs.Augmented.{Augmentable, MarginsMoved, FlowsMoved};
 
 // The amount of a stream after delta moves along it, to its end or to its start.
 fn moved(x: u64, forwards: bool, delta: u64) -> u64
@@ -50,8 +48,12 @@ pub fn augment(
     ends: &[u8; PLACES],
     way: Route,
 )
-    requires { ⌜ Laying (now arcs) (now rows) × (way .delta ≤ mostStep) × Trail (now via) (countOf (now arcs)) (way .len) × Roomy (now flows) (way .len) × (length (now margins) ≡ marginCells) ⌝ }
-    ensures { λ _. ⌜ ((skip : ℕ) → Margined (countOf (now (arcs .entry))) (now (rows .entry)) (now (flows .entry)) (way .delta) skip (now (margins .entry)) → Free (now (rows .entry)) skip (now (via .entry)) (way .len) → Margined (countOf (now (arcs .entry))) (now (rows .entry)) (now (flows .exit)) (way .delta) skip (now (margins .exit))) × ((w : Laying (now (arcs .entry)) (now (rows .entry))) → now (flows .exit) ≡ pushed (take (w .n) (w .streams)) (now (via .entry)) (now (ends .entry)) (way .delta) (way .len) (way .target) (now (flows .entry))) ⌝ }
+    requires { ⌜ Augmentable (now arcs) (now rows) (now margins) (now flows) (now via) way ⌝ }
+    ensures { λ _. ⌜
+        MarginsMoved (now (arcs .entry)) (now (rows .entry)) (now (via .entry)) way
+        (now (margins .entry)) (now (flows .entry)) (now (margins .exit)) (now (flows .exit))
+        × FlowsMoved (now (arcs .entry)) (now (rows .entry)) (now (via .entry)) (now (ends .entry)) way (now (flows .entry)) (now (flows .exit))
+        ⌝ }
 {
     let delta = way.delta;
     let mut at = way.target;

@@ -33,13 +33,13 @@ module _ (p : Arrays.Plant) (a : Accepted p) (st : State) (s : AtHint (plantOf p
 
   module _ (n : e .full ≡ false) where
     -- What the tie pass begins from.
-    abbrev pub tieable : (ls rs : List ℕ) → Laid (p .streams) (p .count) ls rs → Tieable ls rs (e .state .prices) 0 (e .state .flows)
+    abbrev pub tieable : (ls rs : List ℕ) → Laid (p .streams) (p .count) ls rs → Tieable ls rs (e .state .potentials) 0 (e .state .flows)
     tieable ls rs l = record {
       streams = p .streams;
       n = p .count;
       network = network-of p a;
       laid = l;
-      prices = ends .underway n .sound .capped;
+      potentials = ends .underway n .sound .capped;
       even = finished-even ss (solvable-in (plantOf p) (within-of p a)) e ends n;
     }
 
@@ -48,11 +48,11 @@ module _ (p : Arrays.Plant) (a : Accepted p) (st : State) (s : AtHint (plantOf p
         → Margined (countOf ls) rs (e .state .flows) 1 0 ms
     tie-margined ls rs ms l m = subst (λ (k : ℕ). Margined k rs (e .state .flows) 1 0 ms) (sym (l .along .counted)) m
 
-    found-is : (flows : List ℕ) (own : List Bool) → flows ≡ tiesTo ss (e .state .prices) (p .count) (e .state .flows) → own ≡ masked (p .units) (e .marked)
-        → solvedFrom (p .units) ss st ≡ record { found = true; flows = flows; prices = e .state .prices; marked = own }
+    found-is : (flows : List ℕ) (own : List Bool) → flows ≡ tiesTo ss (e .state .potentials) (p .count) (e .state .flows) → own ≡ masked (p .units) (e .marked)
+        → solvedFrom (p .units) ss st ≡ record { found = true; flows = flows; potentials = e .state .potentials; marked = own }
     unfolding solvedFrom
     found-is flows own f o = rw (← q, n, f, o, all-listed p a)
 
-    pub found-right : (flows : List ℕ) (own : List Bool) → flows ≡ tiesTo ss (e .state .prices) (p .count) (e .state .flows) → own ≡ masked (p .units) (e .marked)
-        → Right p (record { found = true; flows = flows; prices = e .state .prices; marked = own })
+    pub found-right : (flows : List ℕ) (own : List Bool) → flows ≡ tiesTo ss (e .state .potentials) (p .count) (e .state .flows) → own ≡ masked (p .units) (e .marked)
+        → Right p (record { found = true; flows = flows; potentials = e .state .potentials; marked = own })
     found-right flows own f o = subst (Right p) (found-is flows own f o) (solved-right p a st s)

@@ -1,4 +1,4 @@
-// The cheapest balanced flow of a plant, with prices that certify it; or a set of places that must take in more than it can let
+// The cheapest balanced flow of a plant, with potentials that certify it; or a set of places that must take in more than it can let
 // out.
 use plant_def::Plant;
 use plant_def::limits::PLACES;
@@ -32,21 +32,21 @@ pub fn solve_at(p: Plant, arcs: &[u8; ARCS], rows: &[u64; ROWS], start: State) -
     let marked = e.marked;
     let own = masked(marked, p.units);
     let st = e.state;
-    let prices = st.prices;
+    let potentials = st.potentials;
     let mut flows = st.flows;
     if e.full {
         return Solved {
             found: false,
             flows: flows,
-            prices: prices,
+            potentials: potentials,
             marked: own,
         };
     }
-    tie_all(arcs, rows, &mut margins, &mut flows, &prices);
+    tie_all(arcs, rows, &mut margins, &mut flows, &potentials);
     Solved {
         found: true,
         flows: flows,
-        prices: prices,
+        potentials: potentials,
         marked: own,
     }
 }

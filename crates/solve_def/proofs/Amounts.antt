@@ -26,6 +26,7 @@ pub unshifted-val : (x : ℕ) → up (unshifted x) + flowShift ≡ x + dn (unshi
 unfolding unshifted
 unshifted-val x = omega (arith, minus-val (pos x) (pos flowShift))
 
+-- A held amount as a difference of naturals.
 pub unshifted-is : (x : ℕ) → unshifted x ≡ diff x flowShift
 unshifted-is x = same (unshifted x) (diff x flowShift) (omega (arith, unshifted-val x, diff-val x flowShift))
 
@@ -33,6 +34,7 @@ unshifted-is x = same (unshifted x) (diff x flowShift) (omega (arith, unshifted-
 pub opened-size : (n : ℕ) (xs : List ℕ) → n ≤ length xs → length (opened n xs) ≡ n
 opened-size n xs l = length-map (take n xs) unshifted ∙ length-take-le n xs l
 
+-- An amount of the flow that held amounts stand for.
 pub opened-at : (n : ℕ) (xs : List ℕ) (k : ℕ) → n ≤ length xs → k < n → amountAt (opened n xs) k ≡ unshifted (getD xs k 0)
 opened-at n xs k l h = map-at unshifted (take n xs) k (pos 0) 0 (rw (length-take-le n xs l) h) ∙ ap unshifted (getD-take n xs k 0 h)
 
@@ -40,6 +42,7 @@ opened-at n xs k l h = map-at unshifted (take n xs) k (pos 0) 0 (rw (length-take
 abbrev pub net : List Stream → List ℕ → ℕ → ℤ
 net ss xs u = netOf ss (λ k. unshifted (getD xs k 0)) u
 
+-- And its nets.
 pub net-opened : (u : ℕ) (ss : List Stream) (xs : List ℕ) → length ss ≤ length xs → netOf ss (amountAt (opened (length ss) xs)) u ≡ net ss xs u
 net-opened u ss xs l =
     sum-same (length ss) _ (λ k. brought u (streamAt ss k) (unshifted (getD xs k 0)))
@@ -69,6 +72,7 @@ brought-val B true false x z h = omega (arith, plus-val z (pos 0))
 brought-val B false true x z h = omega (arith, plus-val (pos 0) (negℤ z), up-neg z, dn-neg z)
 brought-val B false false x z h = omega arith
 
+-- What a store of one amount does to the net of a place.
 pub net-set : (u : ℕ) (ss : List Stream) (xs : List ℕ) (i y : ℕ) → i < length ss → i < length xs
     → up (net ss (set xs i y) u) + dn (net ss xs u) + (pick (eqb (streamAt ss i .to) u) (getD xs i 0) 0 + pick (eqb (streamAt ss i .from) u) y 0)
     ≡ up (net ss xs u) + dn (net ss (set xs i y) u) + (pick (eqb (streamAt ss i .to) u) y 0 + pick (eqb (streamAt ss i .from) u) (getD xs i 0) 0)

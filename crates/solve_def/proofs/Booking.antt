@@ -15,11 +15,10 @@ use Rattle.flow_def.specs.Flows.{streamAt}
 use Rattle.flow_def.proofs.Integers.{up, dn, same, plus-val, minus-val}
 use Rattle.flow_def.proofs.Sums.{sum}
 use Rattle.flow_def.proofs.Nets.{brought}
-use Rattle.solve_def.specs.Sizes.{flowShift, mostFlow, netShift}
+use Rattle.solve_def.specs.Sizes.{flowShift, mostFlow, netShift, netRoom}
 use Rattle.solve_def.specs.Held.{unshifted}
-use Rattle.solve_def.proofs.Amounts.{unshifted-val, brought-val, get-set, net}
+use Rattle.solve_def.proofs.Amounts.{unshifted-val, brought-val, get-set}
 use Rattle.solve_def.proofs.Elements.{set-each}
-use Rattle.solve_def.specs.Sizes.{netRoom}
 use Rattle.solve_def.specs.Model.{left, come, booked, netsTo}
 use Rattle.solve_def.specs.SolverNeeds.{Around}
 
@@ -28,7 +27,7 @@ abbrev pub Between : Stream → Type 0
 Between s = (s .from ≤ maxUnits) × (s .to ≤ maxUnits)
 
 -- At first, after a store near the old value, and with a wider bound.
-pub around-start : Around (replicate places netShift) 0
+around-start : Around (replicate places netShift) 0
 around-start = record {
   long = refl;
   low = λ k h. omega (arith, getD-replicate {A = ℕ} places k netShift 0 h);
@@ -42,6 +41,7 @@ around-set {e} {b} a u v hu near far = record {
   high = set-each (λ n. n ≤ netShift + (b + mostFlow)) e u v places (rw (a .long) hu) (omega (arith, a .high u hu)) (λ k h. omega (arith, a .high k h));
 }
 
+-- Nets of size b at most are of size c at most, where b ≤ c.
 pub around-more : {e : List ℕ} {b : ℕ} → Around e b → (c : ℕ) → b ≤ c → Around e c
 around-more a c h = record { long = a .long; low = λ k l. omega (arith, a .low k l); high = λ k l. omega (arith, a .high k l) }
 
@@ -67,6 +67,7 @@ module _ (ss : List Stream) (xs : List ℕ) where
       _
       (omega arith)
 
+  -- Each place has a net.
   pub nets-long : (n : ℕ) → length (netsTo ss xs n) ≡ places
   unfolding netsTo
   nets-long zero = refl
@@ -88,6 +89,7 @@ left-val e v x u l h =
 
 -- The nets as booked are those of the flow.
 module _ (ss : List Stream) (xs : List ℕ) where
+  -- The net as booked is the net of the flow.
   pub nets-right : (n : ℕ) → n ≤ maxStreams → ((k : ℕ) → k < n → Between (streamAt ss k)) → ((k : ℕ) → k < n → getD xs k 0 ≤ mostFlow) → (u : ℕ) → u < places
       → up (sum n (λ k. brought u (streamAt ss k) (unshifted (getD xs k 0)))) + netShift
       ≡ getD (netsTo ss xs n) u 0 + dn (sum n (λ k. brought u (streamAt ss k) (unshifted (getD xs k 0))))

@@ -33,18 +33,21 @@ pub slack-open : (f : Bool) (s : Stream) (x pu pv d : ℕ) → Open s f x d → 
 slack-open true s x pu pv d o = rw (le-leb (x + d) (highOf s) o)
 slack-open false s x pu pv d o = rw (le-leb (lowOf s + d) x o)
 
+-- A stream that cannot move has the greatest slack.
 pub slack-shut : (f : Bool) (s : Stream) (x pu pv d : ℕ) → (Open s f x d → ⊥) → slackBy s f x pu pv d ≡ farthest
 slack-shut true s x pu pv d o = by-cases (leb (x + d) (highOf s)) (λ e. absurd (o (leb-true (x + d) (highOf s) e))) (λ e. rw e)
 slack-shut false s x pu pv d o = by-cases (leb (lowOf s + d) x) (λ e. absurd (o (leb-true (lowOf s + d) x e))) (λ e. rw e)
 
+-- One with less can move.
 pub open-of : (f : Bool) (s : Stream) (x pu pv d : ℕ) → slackBy s f x pu pv d < farthest → Open s f x d
 open-of f s x pu pv d l = open-or f s x d (λ o. o) (λ o. absurd (omega (arith, slack-shut f s x pu pv d o)))
 
+-- No slack is above the greatest, if that of a stream that can move is not.
 pub slack-most : (f : Bool) (s : Stream) (x pu pv d : ℕ) → (Open s f x d → slackBy s f x pu pv d ≤ farthest) → slackBy s f x pu pv d ≤ farthest
 slack-most f s x pu pv d h = open-or f s x d h (λ o. omega (arith, slack-shut f s x pu pv d o))
 
 -- An integer as it is held, of size b at most; and two in their order.
-pub shifted-close : (b : ℕ) (z : ℤ) → b ≤ flowShift → natAbs z ≤ b → Close b (shifted z)
+shifted-close : (b : ℕ) (z : ℤ) → b ≤ flowShift → natAbs z ≤ b → Close b (shifted z)
 shifted-close b (pos a) l h = (omega arith, omega arith)
 shifted-close b (negsuc a) l h = (omega arith, omega arith)
 
@@ -54,6 +57,7 @@ shifted-order (pos a) (negsuc b) h e = absurd (false≢true e)
 shifted-order (negsuc a) (pos b) h e = omega arith
 shifted-order (negsuc a) (negsuc b) h e = omega (arith, leb-true b a e)
 
+-- A reading as it is held.
 pub reading-close : (z : ℤ) → natAbs z ≤ mostReading → Close mostReading (shifted z)
 reading-close z h = shifted-close mostReading z (omega arith) h
 
@@ -61,35 +65,43 @@ reading-close z h = shifted-close mostReading z (omega arith) h
 pub unlimited : (s : Stream) → s .metered ≡ false → limited s ≡ false
 unlimited s e = rw e
 
+-- The low of a stream with a range, as it is held.
 pub low-is : (s : Stream) → limited s ≡ true → lowOf s ≡ shifted (s .low)
 unfolding lowOf
 low-is s e = rw e
 
+-- And its high.
 pub high-is : (s : Stream) → limited s ≡ true → highOf s ≡ shifted (s .high)
 unfolding highOf
 high-is s e = rw e
 
+-- The low of a stream without a range.
 pub low-free : (s : Stream) → limited s ≡ false → lowOf s ≡ 0
 unfolding lowOf
 low-free s e = rw e
 
+-- And its high.
 pub high-free : (s : Stream) → limited s ≡ false → highOf s ≡ mostFlow
 unfolding highOf
 high-free s e = rw e
 
 -- Its ends are of size mostRange at most; it is not empty, and not above mostFlow.
 module _ {n : ℕ} (s : Stream) (w : WithinStream n s) where
+  -- A low is of size mostRange at most.
   pub low-close : limited s ≡ true → Close mostRange (lowOf s)
   low-close e = rw (low-is s e) (shifted-close mostRange (s .low) (omega arith) (omega (arith, w .low-in e)))
 
+  -- So is a high.
   pub high-close : limited s ≡ true → Close mostRange (highOf s)
   high-close e = rw (high-is s e) (shifted-close mostRange (s .high) (omega arith) (omega (arith, w .high-in e)))
 
+  -- The low is not above the high.
   pub low-high : lowOf s ≤ highOf s
   low-high = by-cases (limited s)
       (λ e. rw (low-is s e, high-is s e) (shifted-order (s .low) (s .high) (omega (arith, w .low-in e)) (w .ordered e)))
       (λ e. rw (low-free s e) (omega arith))
 
+  -- A high can be held.
   pub high-most : highOf s ≤ mostFlow
   high-most = by-cases (limited s) (λ e. omega (arith, high-close e .0)) (λ e. rw (high-free s e) (omega arith))
 
@@ -102,10 +114,11 @@ open-free false s x d b m c l = rw (low-free s m) (omega (arith, c .1))
 pub weight-none : (s : Stream) → s .metered ≡ false → weightOf s ≡ 0
 weight-none s e = rw e
 
+-- The weight of a metered stream.
 pub weight-some : (s : Stream) → s .metered ≡ true → weightOf s ≡ s .weight
 weight-some s e = rw e
 
--- The step condition at a greater step; and at weight 0: the prices of an open stream's ends agree.
+-- The step condition at a greater step; and at weight 0: the potentials of an open stream's ends agree.
 pub held-more : (m w X R u v L H : ℕ) → 1 ≤ m → Held 1 w X R u v L H → Held m w X R u v L H
 held-more m w X R u v L H l h =
     let k : w * 1 ≤ w * m = mul-le-mul-left w l in
@@ -115,8 +128,10 @@ module _ (m w X R u v L H : ℕ) (e : w ≡ 0) where
   none : (x : ℕ) → w * x ≡ 0
   none x = ap (λ k. k * x) e ∙ omega arith
 
+  -- A stream of weight 0 with room both ways has equal potentials at its ends.
   pub held-agree : L + m ≤ X → X + m ≤ H → Held m w X R u v L H → u ≡ v
   held-agree a b h = omega (arith, none X, none R, none m, h .low a, h .high b)
 
+  -- With equal potentials it meets the step condition.
   pub agree-held : u ≡ v → Held m w X R u v L H
   agree-held q = record { low = λ o. omega (arith, none X, none R, none m); high = λ o. omega (arith, none X, none R, none m) }

@@ -1,4 +1,4 @@
--- From held numbers to integers: a level flow in range that meets the step condition is certified by its prices.
+-- From held numbers to integers: a level flow in range that meets the step condition is certified by its potentials.
 use mathlib.Core.Path.{_≡_, sym, _∙_, ap, ap₂, subst}
 use mathlib.Core.Bool.{true, false}
 use mathlib.Core.List.{List}
@@ -16,18 +16,18 @@ use Rattle.flow_def.specs.Certificate.{weightOf, climb, lower, upper, rises, fa
 use Rattle.flow_def.proofs.Integers.{up, dn, diff, Le, Lt, Z·diff, diff-val, Le-iff, minus-val, same, val, none-minus, ltZ-lt}
 use Rattle.flow_def.proofs.Nets.{level-balanced}
 use Rattle.flow_def.proofs.Ranges.{asked, whole-holds, allowed-of}
-use Rattle.flow_def.proofs.Prices.{StepAt, Certificate}
+use Rattle.flow_def.proofs.Potentials.{StepAt, Certificate}
 use Rattle.flow_def.proofs.Ties.{NoLess, NoMore}
-use Rattle.solve_def.specs.Sizes.{flowShift, priceShift, settledRoom}
+use Rattle.solve_def.specs.Sizes.{flowShift, potentialShift, settledRoom}
 use Rattle.solve_def.specs.Held.{shifted, unshifted, opened, readingOf, lowOf, highOf}
 use Rattle.solve_def.specs.Slack.{slackBy}
 use Rattle.solve_def.specs.SearchNeeds.{Close}
 use Rattle.solve_def.specs.SolverNeeds.{Even}
-use Rattle.solve_def.specs.Promise.{price, priceAt}
+use Rattle.solve_def.specs.Promise.{potential, potentialAt}
 use Rattle.solve_def.proofs.Amounts.{unshifted-val, unshifted-is, opened-size, opened-at, net-opened}
 use Rattle.solve_def.proofs.Bounds.{Open, low-is, high-is, open-free, slack-open}
 
--- The bounds of the step condition and the difference of prices, as differences of naturals.
+-- The bounds of the step condition and the difference of potentials, as differences of naturals.
 lower-diff : (w X R B : ℕ) → lower 1 w (diff X B -ℤ diff R B) ≡ diff (2 * (w * X)) (2 * (w * R) + w)
 lower-diff w X R B = simp Z·diff (omega arith)
 
@@ -40,17 +40,17 @@ climb-diff u v P = simp Z·diff (omega arith)
 lt-diff : (a b c d : ℕ) → a + d < c + b → Lt (diff a b) (diff c d)
 lt-diff a b c d h = omega (arith, diff-val a b, diff-val c d)
 
--- An integer and a price as they are held.
+-- An integer and a potential as they are held.
 pub held-right : (z : ℤ) → natAbs z ≤ flowShift → unshifted (shifted z) ≡ z
 held-right (pos a) h = same (unshifted (flowShift + a)) (pos a) (omega (arith, unshifted-val (flowShift + a)))
 held-right (negsuc a) h = same (unshifted (flowShift - suc a)) (negsuc a) (omega (arith, unshifted-val (flowShift - suc a)))
 
-pub held-val : (z : ℤ) → natAbs z ≤ flowShift → up z + flowShift ≡ shifted z + dn z
+held-val : (z : ℤ) → natAbs z ≤ flowShift → up z + flowShift ≡ shifted z + dn z
 held-val z h = omega (arith, val (unshifted (shifted z)) z (held-right z h), unshifted-val (shifted z))
 
-price-is : (x : ℕ) → price x ≡ diff x priceShift
-unfolding price
-price-is x = same (pos x -ℤ pos priceShift) (diff x priceShift) (omega (arith, minus-val (pos x) (pos priceShift), diff-val x priceShift))
+potential-is : (x : ℕ) → potential x ≡ diff x potentialShift
+unfolding potential
+potential-is x = same (pos x -ℤ pos potentialShift) (diff x potentialShift) (omega (arith, minus-val (pos x) (pos potentialShift), diff-val x potentialShift))
 
 -- The range of a stream that carries X: it is met, and where more or less is in it the stream is open.
 module _ {n : ℕ} (s : Stream) (w : WithinStream n s) (X b : ℕ) where
@@ -60,16 +60,16 @@ module _ {n : ℕ} (s : Stream) (w : WithinStream n s) (X b : ℕ) where
   high-val : limited s ≡ true → up (s .high) + flowShift ≡ highOf s + dn (s .high)
   high-val m = rw (high-is s m) (held-val (s .high) (omega (arith, w .high-in m)))
 
-  pub range-met : (lowOf s ≤ X) × (X ≤ highOf s) → inRange 1 s (unshifted X) ≡ true
+  range-met : (lowOf s ≤ X) × (X ≤ highOf s) → inRange 1 s (unshifted X) ≡ true
   range-met i = whole-holds s (unshifted X) (λ m. (omega (arith, low-val m, unshifted-val X, i .0), omega (arith, high-val m, unshifted-val X, i .1)))
 
   module _ (c : Close b X) (fits : b < flowShift) where
-    pub falls-open : falls s (unshifted X) ≡ true → Open s false X 1
+    falls-open : falls s (unshifted X) ≡ true → Open s false X 1
     falls-open e = by-cases (limited s)
         (λ m. omega (arith, low-val m, unshifted-val X, ltZ-lt (s .low) (unshifted X) (asked (limited s) (ltZ (s .low) (unshifted X)) e m)))
         (λ m. open-free false s X 1 b m c (omega arith))
 
-    pub rises-open : rises s (unshifted X) ≡ true → Open s true X 1
+    rises-open : rises s (unshifted X) ≡ true → Open s true X 1
     rises-open e = by-cases (limited s)
         (λ m. omega (arith, high-val m, unshifted-val X, ltZ-lt (unshifted X) (s .high) (asked (limited s) (ltZ (unshifted X) (s .high)) e m)))
         (λ m. open-free true s X 1 b m c (omega arith))
@@ -112,8 +112,8 @@ module _ (p : Plant) (w : Within p) (ps : List ℕ) (i : ℕ) (xs : List ℕ) (h
     more-open : rises s x ≡ true → Open s true X 1
     more-open e = rises-open s (w .each k l) X (settledRoom + i) (h .close k (omega (arith, w .few-streams))) (omega (arith, w .few-streams)) (rw x-is at e)
 
-    climb-is : climb (priceAt ps) s ≡ diff pv pu
-    climb-is = ap₂ _-ℤ_ (price-is pv) (price-is pu) ∙ climb-diff pu pv priceShift
+    climb-is : climb (potentialAt ps) s ≡ diff pv pu
+    climb-is = ap₂ _-ℤ_ (potential-is pv) (potential-is pu) ∙ climb-diff pu pv potentialShift
 
     module _ (m : s .metered ≡ true) where
       deviation : x -ℤ s .reading ≡ diff X flowShift -ℤ diff R flowShift
@@ -126,32 +126,33 @@ module _ (p : Plant) (w : Within p) (ps : List ℕ) (i : ℕ) (xs : List ℕ) (h
       upper-is = ap (upper 1 W) deviation ∙ upper-diff W X R flowShift
 
       -- With slack the amount cannot be less, or more, at no cost.
-      pub no-less : 0 < slackBy s false X pu pv 1 → NoLess (priceAt ps) s x
+      pub no-less : 0 < slackBy s false X pu pv 1 → NoLess (potentialAt ps) s x
       no-less q e =
-          subst (λ (a : ℤ). Lt a (climb (priceAt ps) s)) (sym lower-is)
+          subst (λ (a : ℤ). Lt a (climb (potentialAt ps) s)) (sym lower-is)
           (subst (λ (b : ℤ). Lt (diff (2 * (W * X)) (2 * (W * R) + W)) b) (sym climb-is)
           (lt-diff _ _ pv pu (omega (arith, q, slack-open false s X pu pv 1 (less-open e)))))
 
-      pub no-more : 0 < slackBy s true X pu pv 1 → NoMore (priceAt ps) s x
+      -- Where slack is left forwards, a stream gains nothing by more.
+      pub no-more : 0 < slackBy s true X pu pv 1 → NoMore (potentialAt ps) s x
       no-more q e =
-          subst (λ (a : ℤ). Lt (climb (priceAt ps) s) a) (sym upper-is)
+          subst (λ (a : ℤ). Lt (climb (potentialAt ps) s) a) (sym upper-is)
           (subst (λ (b : ℤ). Lt b (diff (2 * (W * X) + W) (2 * (W * R)))) (sym climb-is)
           (lt-diff pv pu _ _ (omega (arith, q, slack-open true s X pu pv 1 (more-open e)))))
 
-      step-metered : StepAt 1 (priceAt ps) s x
+      step-metered : StepAt 1 (potentialAt ps) s x
       step-metered = record {
         low = λ e.
-            subst (λ (a : ℤ). Le a (climb (priceAt ps) s)) (sym lower-is)
+            subst (λ (a : ℤ). Le a (climb (potentialAt ps) s)) (sym lower-is)
             (subst (λ (b : ℤ). Le (diff (2 * (W * X)) (2 * (W * R) + W)) b) (sym climb-is) (Le-iff _ _ pv pu .1 (omega (arith, h .held k l .low (less-open e)))));
         high = λ e.
-            subst (λ (a : ℤ). Le (climb (priceAt ps) s) a) (sym upper-is)
+            subst (λ (a : ℤ). Le (climb (potentialAt ps) s) a) (sym upper-is)
             (subst (λ (b : ℤ). Le b (diff (2 * (W * X) + W) (2 * (W * R)))) (sym climb-is) (Le-iff pv pu _ _ .1 (omega (arith, h .held k l .high (more-open e)))));
       }
 
-    step-free : s .metered ≡ false → StepAt 1 (priceAt ps) s x
+    step-free : s .metered ≡ false → StepAt 1 (potentialAt ps) s x
     step-free m = record {
-      low = λ e. subst (λ (a : ℤ). Le a (climb (priceAt ps) s)) (sym (none (pos 2 *ℤ (x -ℤ s .reading) -ℤ pos 1))) (rw level (omega arith));
-      high = λ e. subst (λ (a : ℤ). Le (climb (priceAt ps) s) a) (sym (none (pos 2 *ℤ (x -ℤ s .reading) +ℤ pos 1))) (rw level (omega arith));
+      low = λ e. subst (λ (a : ℤ). Le a (climb (potentialAt ps) s)) (sym (none (pos 2 *ℤ (x -ℤ s .reading) -ℤ pos 1))) (rw level (omega arith));
+      high = λ e. subst (λ (a : ℤ). Le (climb (potentialAt ps) s) a) (sym (none (pos 2 *ℤ (x -ℤ s .reading) +ℤ pos 1))) (rw level (omega arith));
     }
       where
         zero-weight : W ≡ 0
@@ -160,17 +161,17 @@ module _ (p : Plant) (w : Within p) (ps : List ℕ) (i : ℕ) (xs : List ℕ) (h
         none : (y : ℤ) → pos W *ℤ y ≡ pos 0
         none y = ap (λ (a : ℕ). pos a *ℤ y) zero-weight ∙ zero-*ℤ y
 
-        level : climb (priceAt ps) s ≡ pos 0
-        level = none-minus (price pv) (price pu) (ap price (sym (h .agreed k l m)))
+        level : climb (potentialAt ps) s ≡ pos 0
+        level = none-minus (potential pv) (potential pu) (ap potential (sym (h .agreed k l m)))
 
-    held-step : StepAt 1 (priceAt ps) s x
+    held-step : StepAt 1 (potentialAt ps) s x
     held-step = by-cases (s .metered) step-metered step-free
 
     met : inRange 1 s x ≡ true
     met = rw x-is (range-met s (w .each k l) X 0 (h .inside k l))
 
   -- The flow is certified.
-  pub certify : Certificate p (opened (length (p .streams)) xs) (priceAt ps)
+  pub certify : Certificate p (opened (length (p .streams)) xs) (potentialAt ps)
   certify = record {
     balance =
         allowed-of 1 p (opened (length ss) xs)

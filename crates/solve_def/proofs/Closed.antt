@@ -23,7 +23,7 @@ use Rattle.solve_def.proofs.Least.{startIn, endIn}
 use Rattle.solve_def.proofs.Hunting.{Stuck, stuck-edge}
 
 -- A sum of which each part is at most another's and c.
-pub sum-within : (m c : ℕ) (f g : ℕ → ℤ) → ((k : ℕ) → k < m → up (f k) + dn (g k) ≤ up (g k) + dn (f k) + c) → up (sum m f) + dn (sum m g) ≤ up (sum m g) + dn (sum m f) + c * m
+sum-within : (m c : ℕ) (f g : ℕ → ℤ) → ((k : ℕ) → k < m → up (f k) + dn (g k) ≤ up (g k) + dn (f k) + c) → up (sum m f) + dn (sum m g) ≤ up (sum m g) + dn (sum m f) + c * m
 sum-within zero c f g h = omega arith
 sum-within (suc m) c f g h =
     omega (arith, h m (omega arith), sum-within m c f g (λ k l. h k (omega arith)), plus-val (f m) (sum m f), plus-val (g m) (sum m g))
@@ -32,7 +32,8 @@ sum-within (suc m) c f g h =
 abbrev pub edge : (ℕ → Bool) → Stream → ℤ
 edge c s = pick (c (s .to)) (pick (c (s .from)) (pos 0) (unshifted (lowOf s))) (pick (c (s .from)) (negℤ (unshifted (highOf s))) (pos 0))
 
-module _ (n : ℕ) (ss : List Stream) (xs es : List ℕ) (d root : ℕ) (ls : List Bool) (one : 1 ≤ d) (inside : Inside n ss) (near : root ≤ n) (nets : (u : ℕ) → u ≤ n → up (net ss xs u) + netShift ≡ getD es u 0 + dn (net ss xs u)) (h : Stuck n ss xs es d root ls) where
+module _ (n : ℕ) (ss : List Stream) (xs es : List ℕ) (d root : ℕ) (ls : List Bool) (one : 1 ≤ d) (inside : Inside n ss) (near : root ≤ n)
+    (nets : (u : ℕ) → u ≤ n → up (net ss xs u) + netShift ≡ getD es u 0 + dn (net ss xs u)) (h : Stuck n ss xs es d root ls) where
   abbrev c : ℕ → Bool
   c v = getD ls v false
 
@@ -54,12 +55,15 @@ module _ (n : ℕ) (ss : List Stream) (xs es : List ℕ) (d root : ℕ) (ls : Li
 
       go : (a b : Bool) → endIn ss ls k ≡ a → startIn ss ls k ≡ b
           → up (pick a (pick b (pos 0) (unshifted x)) (pick b (negℤ (unshifted x)) (pos 0))) + dn (pick a (pick b (pos 0) (unshifted (lowOf s))) (pick b (negℤ (unshifted (highOf s))) (pos 0)))
-          ≤ up (pick a (pick b (pos 0) (unshifted (lowOf s))) (pick b (negℤ (unshifted (highOf s))) (pos 0))) + dn (pick a (pick b (pos 0) (unshifted x)) (pick b (negℤ (unshifted x)) (pos 0))) + (d - 1)
+          ≤ up (pick a (pick b (pos 0) (unshifted (lowOf s))) (pick b (negℤ (unshifted (highOf s))) (pos 0)))
+          + dn (pick a (pick b (pos 0) (unshifted x)) (pick b (negℤ (unshifted x)) (pos 0))) + (d - 1)
       go true true p q = omega arith
       go false false p q = omega arith
       go true false p q = omega (arith, stuck-edge n ss xs es d root ls h k l .1 q p, unshifted-val x, unshifted-val (lowOf s))
       go false true p q =
-          omega (arith, stuck-edge n ss xs es d root ls h k l .0 q p, unshifted-val x, unshifted-val (highOf s), up-neg (unshifted x), dn-neg (unshifted x), up-neg (unshifted (highOf s)), dn-neg (unshifted (highOf s)))
+          let y = unshifted x in
+          let z = unshifted (highOf s) in
+          omega (arith, stuck-edge n ss xs es d root ls h k l .0 q p, unshifted-val x, unshifted-val (highOf s), up-neg y, dn-neg y, up-neg z, dn-neg z)
 
   least : (v : ℕ) → v < suc n → dn (part v) ≡ 0
   least v l = by-cases (c v)
@@ -67,7 +71,7 @@ module _ (n : ℕ) (ss : List Stream) (xs es : List ℕ) (d root : ℕ) (ls : Li
       (λ a. rw a refl)
 
   -- So the nets of the visited places are at most d − 1 for each stream above what they must take in less what they can let out.
-  pub stuck-sum : up (sum (suc n) part) + dn (sum (length ss) (λ k. edge c (streamAt ss k))) ≤ up (sum (length ss) (λ k. edge c (streamAt ss k))) + dn (sum (suc n) part) + (d - 1) * length ss
+  stuck-sum : up (sum (suc n) part) + dn (sum (length ss) (λ k. edge c (streamAt ss k))) ≤ up (sum (length ss) (λ k. edge c (streamAt ss k))) + dn (sum (suc n) part) + (d - 1) * length ss
   stuck-sum =
       let e = cut n c ss (λ k. unshifted (getD xs k 0)) inside in
       omega (arith, sum-within (length ss) (d - 1) across (λ k. edge c (streamAt ss k)) each, ap up e, ap dn e)

@@ -88,7 +88,8 @@ module _ (ss : List Stream) (v : Solvable ss) (ps : List ℕ) (i : ℕ) (li : i 
       start = root-growing maxUnits ss xs ps 1 (s .from) (omega arith) nf (h .held)
 
   -- A way leads round: 1 is moved along it, and stream i has 1 less.
-  module _ (m : s .metered ≡ true) (none : slackAt ss xs ps 1 i false ≡ 0) (t : Tree) (g : Growing maxUnits ss xs 1 (s .from) ps t) (r : reached (s .from) (t .ends) (t .len) (s .to) ≡ true) (used : Used ss (suc i) t) where
+  module _ (m : s .metered ≡ true) (none : slackAt ss xs ps 1 i false ≡ 0) (t : Tree) (g : Growing maxUnits ss xs 1 (s .from) ps t)
+      (r : reached (s .from) (t .ends) (t .len) (s .to) ≡ true) (used : Used ss (suc i) t) where
     ys : List ℕ
     ys = pushed ss (t .via) (t .ends) 1 (t .len) (s .to) xs
 
@@ -195,7 +196,7 @@ module _ (ss : List Stream) (v : Solvable ss) (ps : List ℕ) (i : ℕ) (li : i 
       (λ m. free m)
 
 -- The flow stays even.
-pub even-more : (ss : List Stream) (ps : List ℕ) (i : ℕ) (xs : List ℕ) → Even ss ps i xs → Even ss ps (suc i) xs
+even-more : (ss : List Stream) (ps : List ℕ) (i : ℕ) (xs : List ℕ) → Even ss ps i xs → Even ss ps (suc i) xs
 even-more ss ps i xs h = record {
   long = h .long;
   held = h .held;
@@ -213,6 +214,7 @@ even-turn ss ps i xs _ h (slack m q) = even-more ss ps i xs h
 even-turn ss ps i xs _ h (cut m ls a b c) = even-more ss ps i xs h
 even-turn ss ps i xs _ h (round m ws d) = d .even
 
+-- The flow stays level through the tie pass.
 pub ties-even : (ss : List Stream) → Solvable ss → (ps xs : List ℕ) → Even ss ps 0 xs → (i : ℕ) → i ≤ length ss → Even ss ps i (tiesTo ss ps i xs)
 unfolding tiesTo
 ties-even ss v ps xs h zero l = h

@@ -1,4 +1,4 @@
--- Prices lowered and amounts moved, place by place and stream by stream: elements, lengths and ranges.
+-- Potentials lowered and amounts moved, place by place and stream by stream: elements, lengths and ranges.
 use mathlib.Core.Path.{_≡_, refl, sym, _∙_, ap}
 use mathlib.Core.Bool.{Bool, true, false}
 use mathlib.Core.List.{List, [], _∷_}
@@ -12,7 +12,7 @@ use Rattle.solve_def.specs.Sizes.{mostFlow, mostStep}
 use Rattle.solve_def.specs.Search.{fallen, loweredBy}
 use Rattle.solve_def.specs.SearchNeeds.{Roomy}
 
--- The prices of visited places lowered.
+-- The potentials of visited places lowered.
 pub lowered-at : (ls : List Bool) (g : ℕ) (ps : List ℕ) (k : ℕ) → getD (loweredBy ls g ps) k 0 ≡ fallen (getD ls k false) g (getD ps k 0)
 unfolding loweredBy
 lowered-at [] g ps k = refl
@@ -24,13 +24,14 @@ lowered-at (l ∷ ls) g [] k = sym (go (getD (l ∷ ls) k false))
 lowered-at (l ∷ ls) g (p ∷ ps) zero = refl
 lowered-at (l ∷ ls) g (p ∷ ps) (suc k) = lowered-at ls g ps k
 
+-- As many potentials as before.
 pub lowered-long : (ls : List Bool) (g : ℕ) (ps : List ℕ) → length (loweredBy ls g ps) ≡ length ps
 unfolding loweredBy
 lowered-long [] g ps = refl
 lowered-long (l ∷ ls) g [] = refl
 lowered-long (l ∷ ls) g (p ∷ ps) = ap suc (lowered-long ls g ps)
 
--- A price falls by g at most.
+-- A potential falls by g at most.
 pub fallen-least : (b : Bool) (g p : ℕ) → (fallen b g p ≤ p) × (p ≤ fallen b g p + g)
 fallen-least true g p = (omega arith, omega arith)
 fallen-least false g p = (omega arith, omega arith)
@@ -46,6 +47,7 @@ set-each P xs i v n l p all k m = elim (ℕ-discrete k i) [
 pub roomy-less : {xs : List ℕ} {j : ℕ} → Roomy xs j → Roomy xs (j - 1)
 roomy-less {xs} {j} r = record { long = r .long; low = λ k l. omega (arith, r .low k l); high = λ k l. omega (arith, r .high k l) }
 
+-- A store leaves room for one step less.
 pub roomy-set : {xs : List ℕ} {j : ℕ} → Roomy xs j → (i v : ℕ) → i < maxStreams → (mostStep * (j - 1) ≤ v) × (v + mostStep * (j - 1) ≤ mostFlow)
     → Roomy (set xs i v) (j - 1)
 roomy-set {xs} {j} r i v l h =

@@ -20,7 +20,7 @@ use Rattle.flow_def.proofs.Integers.{up, dn, Le, parts, size-val}
 use Rattle.flow_def.proofs.Reach.{Inside}
 use Rattle.flow_def.proofs.Sums.{sum, sum-none, sum-tight}
 use Rattle.flow_def.proofs.Nets.{netOf, nets-sum}
-use Rattle.solve_def.specs.Sizes.{flowShift, priceShift, mostReading, mostRange, mostTried, halvings, hintRoom, settledRoom}
+use Rattle.solve_def.specs.Sizes.{flowShift, potentialShift, mostReading, mostRange, mostTried, halvings, hintRoom, settledRoom}
 use Rattle.solve_def.specs.Held.{unshifted, readingOf, lowOf, highOf, Held}
 use Rattle.solve_def.specs.SearchNeeds.{Close}
 use Rattle.solve_def.specs.declared.State.{State}
@@ -37,7 +37,7 @@ use Rattle.solve_def.proofs.Tall.{sound-tall}
 use Rattle.solve_def.proofs.Steady.{steps-over, nets-val, sound-close}
 use Rattle.solve_def.proofs.Phases.{Finished, Stage, last-phase, phases-good}
 
--- At equal prices an amount is the nearest in range to its reading: of size mostRange at most.
+-- At equal potentials an amount is the nearest in range to its reading: of size mostRange at most.
 level-close : (s : Stream) (X p : ℕ) → Ranged s → Close mostReading (readingOf s) → 1 ≤ weightOf s → Held 1 (weightOf s) X (readingOf s) p p (lowOf s) (highOf s)
     → (lowOf s ≤ X) × (X ≤ highOf s) → Close mostRange X
 level-close s X p r z w h i = elim (ℕ-discrete (lowOf s) 0) [
@@ -57,22 +57,24 @@ level-close s X p r z w h i = elim (ℕ-discrete (lowOf s) 0) [
         below : X + 1 ≤ readingOf s → ⊥
         below k = omega (arith, mul-le-mul-left (weightOf s) k, h .high (omega (arith, r .wide e, z .0)), w)
 
--- No hint: all prices are 0, and so are the amounts of the unmetered streams.
+-- No hint: all potentials are 0, and so are the amounts of the unmetered streams.
 module _ (ss : List Stream) (v : Solvable ss) where
-  price : (u : ℕ) → u < places → getD (noHint .prices) u 0 ≡ priceShift
-  price u l = getD-replicate {A = ℕ} places u priceShift 0 l
+  potential : (u : ℕ) → u < places → getD (noHint .potentials) u 0 ≡ potentialShift
+  potential u l = getD-replicate {A = ℕ} places u potentialShift 0 l
 
+  -- Without a hint the start is one.
   pub none-start : Start ss 0 noHint
   none-start = record {
-    agree = λ k l e. price (streamAt ss k .from) (omega (arith, v .plain .inside k l .0)) ∙ sym (price (streamAt ss k .to) (omega (arith, v .plain .inside k l .1)));
-    floor = λ u l. omega (arith, price u l);
-    capped = λ u l. omega (arith, price u l);
-    priced = length-replicate {A = ℕ} places priceShift;
+    agree = λ k l e. potential (streamAt ss k .from) (omega (arith, v .plain .inside k l .0)) ∙ sym (potential (streamAt ss k .to) (omega (arith, v .plain .inside k l .1)));
+    floor = λ u l. omega (arith, potential u l);
+    capped = λ u l. omega (arith, potential u l);
+    per-place = length-replicate {A = ℕ} places potentialShift;
     long = length-replicate {A = ℕ} maxStreams flowShift;
     unmetered = λ k l e. let q : getD (noHint .flows) k 0 ≡ flowShift = getD-replicate {A = ℕ} maxStreams k flowShift 0 l in (omega (arith, q), omega (arith, q));
     within = omega arith;
   }
 
+  -- And it is as a hint must be.
   pub none-hinted : Hinted ss noHint
   none-hinted = start-more ss 0 hintRoom noHint none-start (omega arith) (omega arith)
 
@@ -91,14 +93,15 @@ module _ (ss : List Stream) (v : Solvable ss) where
       go : (m : Bool) → streamAt ss k .metered ≡ m → natAbs (unshifted (getD (ys ss v noHint 0 none-start) k 0)) ≤ mostRange
       go true e =
           let o = settled-one ss v noHint 0 none-start k l in
-          let a : getD (noHint .prices) (streamAt ss k .from) 0 ≡ priceShift = price (streamAt ss k .from) (omega (arith, v .plain .inside k l .0)) in
-          let c : getD (noHint .prices) (streamAt ss k .to) 0 ≡ priceShift = price (streamAt ss k .to) (omega (arith, v .plain .inside k l .1)) in
-          size (level-close (streamAt ss k) X priceShift (v .ranged k l) (v .plain .read k l e) (rw (weight-some (streamAt ss k) e) (v .weighed k l e)) (rw (a, c) at (o .0)) (o .1))
+          let a : getD (noHint .potentials) (streamAt ss k .from) 0 ≡ potentialShift = potential (streamAt ss k .from) (omega (arith, v .plain .inside k l .0)) in
+          let c : getD (noHint .potentials) (streamAt ss k .to) 0 ≡ potentialShift = potential (streamAt ss k .to) (omega (arith, v .plain .inside k l .1)) in
+          size (level-close (streamAt ss k) X potentialShift (v .ranged k l) (v .plain .read k l e) (rw (weight-some (streamAt ss k) e) (v .weighed k l e)) (rw (a, c) at (o .0)) (o .1))
       go false e =
           let q : getD (noHint .flows) k 0 ≡ flowShift = getD-replicate {A = ℕ} maxStreams k flowShift 0 (omega (arith, v .plain .few)) in
           let f = settled-free ss v noHint 0 none-start k e in
           size (omega (arith, f, q), omega (arith, f, q))
 
+  -- What is over at that start.
   pub none-over : overSum (settled ss noHint .nets) ≤ maxStreams * mostRange
   none-over =
       omega (
@@ -108,11 +111,13 @@ module _ (ss : List Stream) (v : Solvable ss) where
         mul-le-mul-right mostRange (v .plain .few),
       )
 
+  -- So the first phase can begin there.
   pub none-stage : Stage ss halvings 0 noHint
   none-stage = record { start = none-start; over = omega (arith, none-over) }
 
 -- Settled at a hint with little over.
 module _ (ss : List Stream) (v : Solvable ss) (st : State) (s : AtHint ss st) where
+  -- A hint that leaves little over can go straight to step 1.
   pub hint-underway : overSum (st .nets) ≤ mostTried → Underway ss 1 settledRoom st
   hint-underway o = subst (Underway ss 1 settledRoom) (sym (s .is)) (record {
     size = hintRoom;
@@ -123,6 +128,7 @@ module _ (ss : List Stream) (v : Solvable ss) (st : State) (s : AtHint ss st) wh
       little : overSum (settled ss (s .hint) .nets) ≤ mostTried
       little = subst (λ (r : State). overSum (r .nets) ≤ mostTried) (s .is) o
 
+  -- From there the flow is finished.
   pub finished-good : Finished ss (finished ss st)
   unfolding finished
   finished-good = picked (Finished ss) (leb (overSum (st .nets)) mostTried) (phase ss 1 st) (phases halvings ss noHint)
@@ -137,16 +143,20 @@ level-nets ss w x h u l = sum-tight places (netOf ss x) (λ v. pos 0) (λ k m. o
     total = omega (arith, ap up (sum-none places (λ v. pos 0) (λ v m. refl)), ap dn (nets-sum maxUnits ss x w))
 
 -- Where no set is full, the flow is level.
-pub finished-even : (ss : List Stream) → Solvable ss → (r : Ended) → Finished ss r → r .full ≡ false → Even ss (r .state .prices) 0 (r .state .flows)
+pub finished-even : (ss : List Stream) → Solvable ss → (r : Ended) → Finished ss r → r .full ≡ false → Even ss (r .state .potentials) 0 (r .state .flows)
 finished-even ss v r h e = record {
   long = h .underway e .sound .long;
   held = h .underway e .sound .held;
   inside = h .underway e .sound .inside;
   agreed = h .underway e .sound .agreed;
   level = λ u l. level-nets ss (v .plain .inside) (λ k. unshifted (getD (r .state .flows) k 0)) none u (omega arith);
-  moderate = λ k l m. let q = sound-tall ss v 1 (h .underway e .size) (r .state) (omega arith) (h .underway e .sound) k l m in (omega (arith, q .0), omega (arith, q .1));
+  moderate = λ k l m.
+      let q = sound-tall ss v 1 (h .underway e .size) (r .state) (omega arith) (h .underway e .sound) k l m in
+      (omega (arith, q .0), omega (arith, q .1));
   floor = h .underway e .sound .floor;
-  close = λ k l. let q = sound-close ss v 1 (h .underway e .size) (omega arith, omega arith) (r .state) (h .underway e .sound) (omega (arith, h .underway e .fits)) k l in (omega (arith, q .0), omega (arith, q .1));
+  close = λ k l.
+      let q = sound-close ss v 1 (h .underway e .size) (omega arith, omega arith) (r .state) (h .underway e .sound) (omega (arith, h .underway e .fits)) k l in
+      (omega (arith, q .0), omega (arith, q .1));
 }
   where
     none : (u : ℕ) → u ≤ maxUnits → up (net ss (r .state .flows) u) ≡ 0

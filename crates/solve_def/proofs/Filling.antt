@@ -14,7 +14,7 @@ use Rattle.flow_def.proofs.Lists.{Written}
 use Rattle.solve_def.specs.Search.{fallen}
 use Rattle.solve_def.specs.Near.{codeOf, lessened, relaxedAlong, relaxedAt, relaxedTo, reducedBy}
 
--- The prices of visited places reduced.
+-- The potentials of visited places reduced.
 pub reduced-at : (ls : List Bool) (ks : List ℕ) (k : ℕ) (ps : List ℕ) (u : ℕ)
     → getD (reducedBy ls ks k ps) u 0 ≡ fallen (getD ls u false) (k - getD ks u 0) (getD ps u 0)
 unfolding reducedBy
@@ -29,6 +29,7 @@ reduced-at (l ∷ ls) [] k (p ∷ ps) (suc u) = reduced-at ls [] k ps u
 reduced-at (l ∷ ls) (j ∷ ks) k (p ∷ ps) zero = refl
 reduced-at (l ∷ ls) (j ∷ ks) k (p ∷ ps) (suc u) = reduced-at ls ks k ps u
 
+-- As many potentials as before.
 pub reduced-long : (ls : List Bool) (ks : List ℕ) (k : ℕ) (ps : List ℕ) → length (reducedBy ls ks k ps) ≡ length ps
 unfolding reducedBy
 reduced-long [] ks k ps = refl
@@ -36,6 +37,7 @@ reduced-long (l ∷ ls) ks k [] = refl
 reduced-long (l ∷ ls) [] k (p ∷ ps) = rw (reduced-long ls [] k ps)
 reduced-long (l ∷ ls) (j ∷ ks) k (p ∷ ps) = rw (reduced-long ls ks k ps)
 
+-- At distance 0 no potential falls.
 pub reduced-none : (ls : List Bool) (ks ps : List ℕ) → reducedBy ls ks 0 ps ≡ ps
 reduced-none ls ks ps = ext-getD 0 (reducedBy ls ks 0 ps) ps (reduced-long ls ks 0 ps) (λ u l. reduced-at ls ks 0 ps u ∙ same (getD ls u false) (getD ks u 0) (getD ps u 0))
   where
@@ -43,6 +45,7 @@ reduced-none ls ks ps = ext-getD 0 (reducedBy ls ks 0 ps) ps (reduced-long ls ks
     same true a p = omega arith
     same false a p = refl
 
+-- What a loop over the places writes.
 pub reduced-is : (ls : List Bool) (ks : List ℕ) (k : ℕ) (ps now : List ℕ) → length ps ≡ places
     → Written 0 places (λ u x. fallen (getD ls u false) (k - getD ks u 0) x) ps now places → now ≡ reducedBy ls ks k ps
 reduced-is ls ks k ps now h w =
@@ -50,13 +53,13 @@ reduced-is ls ks k ps now h w =
     (λ u l. w .done u (rw (w .long) at l) ∙ sym (reduced-at ls ks k ps u))
 
 -- Lengths stay.
-pub along-long : (ls : List Bool) (k v g i : ℕ) (near : List ℕ) → length (relaxedAlong ls k v g i near) ≡ length near
+along-long : (ls : List Bool) (k v g i : ℕ) (near : List ℕ) → length (relaxedAlong ls k v g i near) ≡ length near
 unfolding relaxedAlong
 along-long ls k v g i near =
     picked (λ (r : List ℕ). length r ≡ length near) (getD ls v false) near (lessened near v (codeOf (k + g) i)) (λ o. refl)
     (λ o. picked (λ (r : List ℕ). length r ≡ length near) (ltb (codeOf (k + g) i) (getD near v 0)) (set near v (codeOf (k + g) i)) near (λ q. length-set near v (codeOf (k + g) i)) (λ q. refl))
 
-pub relaxed-long : (fs ts gs bs : List ℕ) (ls : List Bool) (k e i : ℕ) (near : List ℕ) → length (relaxedAt fs ts gs bs ls k e i near) ≡ length near
+relaxed-long : (fs ts gs bs : List ℕ) (ls : List Bool) (k e i : ℕ) (near : List ℕ) → length (relaxedAt fs ts gs bs ls k e i near) ≡ length near
 unfolding relaxedAt
 relaxed-long fs ts gs bs ls k e i near = go (eqb (getD fs i 0) e) (eqb (getD ts i 0) e)
   where
@@ -65,6 +68,7 @@ relaxed-long fs ts gs bs ls k e i near = go (eqb (getD fs i 0) e) (eqb (getD ts 
     go false true = along-long ls k (getD fs i 0) (getD bs i 0) i near
     go false false = refl
 
+-- As many codes as before.
 pub relaxed-all-long : (fs ts gs bs : List ℕ) (ls : List Bool) (k e i : ℕ) (near : List ℕ) → length (relaxedTo fs ts gs bs ls k e i near) ≡ length near
 unfolding relaxedTo
 relaxed-all-long fs ts gs bs ls k e zero near = refl

@@ -19,12 +19,12 @@ use Rattle.plant_def.specs.Plants.{noStream}
 use Rattle.flow_def.specs.Flows.{streamAt}
 use Rattle.solve_def.specs.declared.Tree.{Tree}
 use Rattle.solve_def.specs.declared.Walked.{Walked}
-use Rattle.solve_def.specs.Sizes.{netShift, mostStep, searchRounds, mostMarginal, priceFloor, numbering, farthest, far}
+use Rattle.solve_def.specs.Sizes.{netShift, mostStep, searchRounds, mostMarginal, potentialFloor, numbering, farthest, far}
 use Rattle.solve_def.specs.Held.{AllHeld}
 use Rattle.solve_def.specs.Slack.{Crossing, At, Nothing, leastTo, slackBy, slackAt, slackPast}
 use Rattle.solve_def.specs.Search.{fallen, loweredBy, farEnd, rootAt, addedTo, Grown, grownBy, grow}
 use Rattle.solve_def.specs.Near.{relaxedTo, nearestTo, reducedBy, walked}
-use Rattle.solve_def.specs.SearchNeeds.{Network, Prices, Moderate, Floored}
+use Rattle.solve_def.specs.SearchNeeds.{Network, Potentials, Moderate, Floored}
 use Rattle.solve_def.proofs.Bounds.{Open, slack-open, slack-shut, open-of, open-or, slack-most, reading-close}
 use Rattle.solve_def.proofs.Growing.{slack-rise}
 use Rattle.solve_def.proofs.Weights.{weight-most}
@@ -40,7 +40,7 @@ pub record Slacked (streams : List Stream) (n : ℕ) (xs ps : List ℕ) (d skip 
   pub network : Network streams n
   pub held : AllHeld (take n streams) xs ps d
   pub step : d ≤ mostStep
-  pub prices : Prices ps
+  pub potentials : Potentials ps
   pub moderate : Moderate (take n streams) xs
   pub floor : Floored ps
   pub starts : (k : ℕ) → k < n → getD fs k 0 ≡ streamAt (take n streams) k .from
@@ -49,22 +49,25 @@ pub record Slacked (streams : List Stream) (n : ℕ) (xs ps : List ℕ) (d skip 
   pub back : (k : ℕ) → k < n → getD bs k 0 ≡ slackPast (take n streams) xs ps d skip false k
 
 module _ (streams : List Stream) (n : ℕ) (xs ps : List ℕ) (d skip : ℕ) (fs ts gs bs : List ℕ) (laid : Slacked streams n xs ps d skip fs ts gs bs) where
+  -- The streams in use are n.
   pub in-use : length (take n streams) ≡ n
   in-use = length-take-le n streams (omega (arith, laid .network .within .few-streams, laid .network .long))
 
   placed : (k : ℕ) → k < n → WithinStream maxUnits (streamAt (take n streams) k)
   placed k l = rw (getD-take n streams k noStream l) (laid .network .within .each k l)
 
+  -- A stream's head is a place.
   pub heads : (k : ℕ) (f : Bool) → k < n → headOf n fs ts gs bs k f < places
   heads k true l = rw (laid .ends k l) (omega (arith, placed k l .to-in))
   heads k false l = rw (laid .starts k l) (omega (arith, placed k l .from-in))
 
+  -- So is its tail.
   pub tails : (k : ℕ) (f : Bool) → k < n → tailOf n fs ts gs bs k f < places
   tails k true l = heads k false l
   tails k false l = heads k true l
 
-  -- The slack of an open stream, by the prices of the ends.
-  pub rises : (k : ℕ) (f : Bool) → k < n → Open (streamAt (take n streams) k) f (getD xs k 0) d
+  -- The slack of an open stream, by the potentials of the ends.
+  rises : (k : ℕ) (f : Bool) → k < n → Open (streamAt (take n streams) k) f (getD xs k 0) d
       → slackAt (take n streams) xs ps d k f + getD ps (headOf n fs ts gs bs k f) 0 ≤ getD ps (tailOf n fs ts gs bs k f) 0 + mostMarginal
   rises k f l o = go f (slack-rise f s (getD xs k 0) _ _ d (laid .held k (rw in-use l)) (weight-most s (placed k l)) (laid .step)
       (λ m. (laid .moderate k (rw in-use l) m, reading-close (s .reading) (omega (arith, placed k l .in-range m)))) o)
@@ -73,7 +76,8 @@ module _ (streams : List Stream) (n : ℕ) (xs ps : List ℕ) (d skip : ℕ) (fs
       s = streamAt (take n streams) k
 
       go : (f : Bool)
-          → slackAt (take n streams) xs ps d k f + pick f (getD ps (streamAt (take n streams) k .to) 0) (getD ps (streamAt (take n streams) k .from) 0) ≤ pick f (getD ps (streamAt (take n streams) k .from) 0) (getD ps (streamAt (take n streams) k .to) 0) + mostMarginal
+          → slackAt (take n streams) xs ps d k f + pick f (getD ps (streamAt (take n streams) k .to) 0) (getD ps (streamAt (take n streams) k .from) 0)
+          ≤ pick f (getD ps (streamAt (take n streams) k .from) 0) (getD ps (streamAt (take n streams) k .to) 0) + mostMarginal
           → slackAt (take n streams) xs ps d k f + getD ps (headOf n fs ts gs bs k f) 0 ≤ getD ps (tailOf n fs ts gs bs k f) 0 + mostMarginal
       go true h = rw (laid .starts k l, laid .ends k l) h
       go false h = rw (laid .starts k l, laid .ends k l) h
@@ -83,8 +87,8 @@ module _ (streams : List Stream) (n : ℕ) (xs ps : List ℕ) (d skip : ℕ) (fs
   past k false l = laid .back k l
 
   -- An open stream's is below farthest.
-  pub open-small : (k : ℕ) (f : Bool) → k < n → Open (streamAt (take n streams) k) f (getD xs k 0) d → slackAt (take n streams) xs ps d k f < farthest
-  open-small k f l o = omega (arith, rises k f l o, laid .floor (headOf n fs ts gs bs k f) (heads k f l), laid .prices (tailOf n fs ts gs bs k f) (tails k f l))
+  open-small : (k : ℕ) (f : Bool) → k < n → Open (streamAt (take n streams) k) f (getD xs k 0) d → slackAt (take n streams) xs ps d k f < farthest
+  open-small k f l o = omega (arith, rises k f l o, laid .floor (headOf n fs ts gs bs k f) (heads k f l), laid .potentials (tailOf n fs ts gs bs k f) (tails k f l))
 
   -- It is farthest where the stream is left alone, and at most that in any case.
   pub slack-small : (k : ℕ) (f : Bool) → k < n → slackOf n fs ts gs bs k f ≤ farthest
@@ -106,6 +110,7 @@ module _ (streams : List Stream) (n : ℕ) (xs ps : List ℕ) (d skip : ℕ) (fs
       go true h = absurd (omega arith)
       go false h = refl
 
+-- A list of zeros.
 pub zeros : (m u : ℕ) → _≡_ {A = ℕ} (getD (replicate m 0) u 0) 0
 zeros zero u = refl
 zeros (suc m) zero = refl
@@ -136,6 +141,7 @@ module _ (streams : List Stream) (n : ℕ) (xs ps : List ℕ) (d : ℕ) (fs ts g
   abbrev ends : (k : ℕ) → k < n → getD ts k 0 ≡ streamAt ss k .to
   ends = laid .ends
 
+  -- What holds of a walk underway, at place e and distance k, with l rounds to go.
   pub record Going (l k e : ℕ) (ks near : List ℕ) (t : Tree) : Type 0 where
     pub nears : Nears n fs ts gs bs (t .visited) ks (k * numbering) e n near
     pub marked : getD (t .visited) e false ≡ true
@@ -145,16 +151,16 @@ module _ (streams : List Stream) (n : ℕ) (xs ps : List ℕ) (d : ℕ) (fs ts g
     pub close : (u : ℕ) → getD ks u 0 ≤ k
     pub place : e < places
     pub short : t .len + l ≤ searchRounds
-    -- A price and a distance together are above the root's price by at most a marginal for each place visited since.
+    -- A potential and a distance together are above the root's potential by at most a marginal for each place visited since.
     pub tall : (u : ℕ) → u < places → getD (t .visited) u false ≡ true → getD ps u 0 + getD ks u 0 ≤ getD ps root 0 + mostMarginal * t .len
 
-  -- So no price falls below 0.
-  reach-small : (l k e : ℕ) (ks near : List ℕ) (t : Tree) → Going l k e ks near t → k ≤ priceFloor
+  -- So no potential falls below 0.
+  reach-small : (l k e : ℕ) (ks near : List ℕ) (t : Tree) → Going l k e ks near t → k ≤ potentialFloor
   reach-small l k e ks near t g =
-      omega (arith, g .tall e (g .place) (g .marked), g .at, g .short, laid .floor e (g .place), laid .prices root within)
+      omega (arith, g .tall e (g .place) (g .marked), g .at, g .short, laid .floor e (g .place), laid .potentials root within)
 
-  -- The slack at the present prices is what the distance over a stream exceeds the present one.
-  now-slack : (ls : List Bool) (ks : List ℕ) (k i : ℕ) (f : Bool) → i < n → Open (streamAt ss i) f (getD xs i 0) d → k ≤ priceFloor → ((u : ℕ) → getD ks u 0 ≤ k)
+  -- The slack at the present potentials is what the distance over a stream exceeds the present one.
+  now-slack : (ls : List Bool) (ks : List ℕ) (k i : ℕ) (f : Bool) → i < n → Open (streamAt ss i) f (getD xs i 0) d → k ≤ potentialFloor → ((u : ℕ) → getD ks u 0 ≤ k)
       → getD ls (tailOf n fs ts gs bs i f) false ≡ true → getD ls (headOf n fs ts gs bs i f) false ≡ false → k ≤ overOf n fs ts gs bs ks i f
       → slackAt ss xs (reducedBy ls ks k ps) d i f + k ≡ overOf n fs ts gs bs ks i f
   now-slack ls ks k i f l o small close t h m =
@@ -174,11 +180,19 @@ module _ (streams : List Stream) (n : ℕ) (xs ps : List ℕ) (d : ℕ) (fs ts g
       go true o e t h m =
           let a : getD ls (streamAt ss i .from) false ≡ true = rw (starts i l) at t in
           let b : getD ls (streamAt ss i .to) false ≡ false = rw (ends i l) at h in
-          rw (a, b, starts i l) (omega (arith, e, slack-open true (streamAt ss i) (getD xs i 0) (getD ps (streamAt ss i .from) 0) (getD ps (streamAt ss i .to) 0) d o, slack-open true (streamAt ss i) (getD xs i 0) (getD ps (streamAt ss i .from) 0 - (k - getD ks (streamAt ss i .from) 0)) (getD ps (streamAt ss i .to) 0) d o, laid .floor (streamAt ss i .from) fu, close (streamAt ss i .from), rw (starts i l) at m))
+          let u = streamAt ss i .from in
+          let q = getD ps (streamAt ss i .to) 0 in
+          let was = slack-open true (streamAt ss i) (getD xs i 0) (getD ps u 0) q d o in
+          let is = slack-open true (streamAt ss i) (getD xs i 0) (getD ps u 0 - (k - getD ks u 0)) q d o in
+          rw (a, b, starts i l) (omega (arith, was, is, laid .floor u fu, close u, rw (starts i l) at m))
       go false o e t h m =
           let a : getD ls (streamAt ss i .to) false ≡ true = rw (ends i l) at t in
           let b : getD ls (streamAt ss i .from) false ≡ false = rw (starts i l) at h in
-          rw (a, b, ends i l) (omega (arith, e, slack-open false (streamAt ss i) (getD xs i 0) (getD ps (streamAt ss i .from) 0) (getD ps (streamAt ss i .to) 0) d o, slack-open false (streamAt ss i) (getD xs i 0) (getD ps (streamAt ss i .from) 0) (getD ps (streamAt ss i .to) 0 - (k - getD ks (streamAt ss i .to) 0)) d o, laid .floor (streamAt ss i .to) tu, close (streamAt ss i .to), rw (ends i l) at m))
+          let v = streamAt ss i .to in
+          let q = getD ps (streamAt ss i .from) 0 in
+          let was = slack-open false (streamAt ss i) (getD xs i 0) q (getD ps v 0) d o in
+          let is = slack-open false (streamAt ss i) (getD xs i 0) q (getD ps v 0 - (k - getD ks v 0)) d o in
+          rw (a, b, ends i l) (omega (arith, was, is, laid .floor v tu, close v, rw (ends i l) at m))
 
   -- One round.
   module _ (l k e : ℕ) (ks near : List ℕ) (t : Tree) (g : Going (suc l) k e ks near t) where
@@ -210,7 +224,7 @@ module _ (streams : List Stream) (n : ℕ) (xs ps : List ℕ) (d : ℕ) (fs ts g
 
     over-small : (i : ℕ) (f : Bool) → i < n → Open (streamAt ss i) f (getD xs i 0) d → getD (t .visited) (tailOf n fs ts gs bs i f) false ≡ true → overOf n fs ts gs bs ks i f < farthest
     over-small i f b o y =
-        omega (arith, over-tall i f b o y, g .short, laid .floor (headOf n fs ts gs bs i f) (heads streams n xs ps d 0 fs ts gs bs laid i f b), laid .prices root within)
+        omega (arith, over-tall i f b o y, g .short, laid .floor (headOf n fs ts gs bs i f) (heads streams n xs ps d 0 fs ts gs bs laid i f b), laid .potentials root within)
 
     over-least : (i : ℕ) (f : Bool) → i < n → getD (t .visited) (tailOf n fs ts gs bs i f) false ≡ true
         → getD (t .visited) (headOf n fs ts gs bs i f) false ≡ false → k ≤ overOf n fs ts gs bs ks i f
@@ -220,6 +234,10 @@ module _ (streams : List Stream) (n : ℕ) (xs ps : List ℕ) (d : ℕ) (fs ts g
     slack-is : (i : ℕ) (f : Bool) → i < n → Open (streamAt ss i) f (getD xs i 0) d → getD (t .visited) (tailOf n fs ts gs bs i f) false ≡ true
         → getD (t .visited) (headOf n fs ts gs bs i f) false ≡ false → slackAt ss xs qs d i f + k ≡ overOf n fs ts gs bs ks i f
     slack-is i f b o y z = now-slack (t .visited) ks k i f b o (reach-small (suc l) k e ks near t g) (g .close) y z (over-least i f b y z)
+
+    -- A stream that leads nowhere has the greatest slack.
+    shut-far : (i : ℕ) → (Open (streamAt ss i) (startIn ss (t .visited) i) (getD xs i 0) d → ⊥) → slackAt ss xs qs d i (startIn ss (t .visited) i) ≡ farthest
+    shut-far i o = slack-shut (startIn ss (t .visited) i) (streamAt ss i) (getD xs i 0) _ _ d o
 
     -- No open stream leaves the visited places.
     none : r ≡ places → grow ss n xs es d (suc l) qs t ≡ grownBy false t qs
@@ -235,7 +253,7 @@ module _ (streams : List Stream) (n : ℕ) (xs ps : List ℕ) (d : ℕ) (fs ts g
         go : (f : Crossing) → leastTo ss xs qs (t .visited) d 0 n ≡ f → Answers ss xs qs (t .visited) d 0 n f → grow ss n xs es d (suc l) qs t ≡ grownBy false t qs
         go Nothing e m = grow-none streams n xs es d qs t (suc l) (omega arith) e
         go (At i g) e m = grow-stop streams n xs es d qs t (suc l) i g (omega arith) e
-            (omega (arith, m .is, slack-shut (startIn ss (t .visited) i) (streamAt ss i) (getD xs i 0) (getD qs (streamAt ss i .from) 0) (getD qs (streamAt ss i .to) 0) d (shut i (m .below) (m .leaves))))
+            (omega (arith, m .is, shut-far i (shut i (m .below) (m .leaves))))
 
     -- The nearest place is at the end of the stream of least slack.
     module _ (q : r ≡ places → ⊥) where
@@ -259,7 +277,8 @@ module _ (streams : List Stream) (n : ℕ) (xs ps : List ℕ) (d : ℕ) (fs ts g
 
       -- It is open.
       free : Open (streamAt ss i) f (getD xs i 0) d
-      free = open-of f (streamAt ss i) (getD xs i 0) (getD ps (streamAt ss i .from) 0) (getD ps (streamAt ss i .to) 0) d (omega (arith, usable-slack streams n xs ps d 0 fs ts gs bs laid i f (tells .lead .below) (all-usable ss i), tells .distance, small))
+      free = open-of f (streamAt ss i) (getD xs i 0) (getD ps (streamAt ss i .from) 0) (getD ps (streamAt ss i .to) 0) d
+          (omega (arith, usable-slack streams n xs ps d 0 fs ts gs bs laid i f (tells .lead .below) (all-usable ss i), tells .distance, small))
 
       further : k ≤ j
       further = omega (arith, over-least i f (tells .lead .below) (tells .lead .tail) off, tells .distance)
@@ -279,7 +298,7 @@ module _ (streams : List Stream) (n : ℕ) (xs ps : List ℕ) (d : ℕ) (fs ts g
             let o = leaving ss n fs ts gs bs starts ends (laid .network .within .few-streams) (t .visited) m b c in
             open-or (startIn ss (t .visited) m) (streamAt ss m) (getD xs m 0) d
             (λ y. tells .nearer m (startIn ss (t .visited) m) b (o .0) (o .1) .1 (omega (arith, slack-is m (startIn ss (t .visited) m) b y (o .0) (o .1), h, further)))
-            (λ y. absurd (omega (arith, small, h, slack-shut (startIn ss (t .visited) m) (streamAt ss m) (getD xs m 0) (getD qs (streamAt ss m .from) 0) (getD qs (streamAt ss m .to) 0) d y)));
+            (λ y. absurd (omega (arith, small, h, shut-far m y)));
       })
 
       far-end : farEnd (t .visited) (getD streams i noStream) ≡ r
@@ -319,7 +338,7 @@ module _ (streams : List Stream) (n : ℕ) (xs ps : List ℕ) (d : ℕ) (fs ts g
   abbrev grownOf : Walked → Grown
   grownOf w = grownBy (w .found) (w .tree) (reducedBy (w .tree .visited) (w .dist) (w .reach) ps)
 
-  pub walk-grow : (l k e : ℕ) (ks near : List ℕ) (t : Tree) → Going l k e ks near t
+  walk-grow : (l k e : ℕ) (ks near : List ℕ) (t : Tree) → Going l k e ks near t
       → grow ss n xs es d l (reducedBy (t .visited) ks k ps) t ≡ grownOf (walked fs ts gs bs n es far l k e ks near t)
   walk-grow zero k e ks near t g = grow-end streams n xs es d _ t ∙ ap grownOf (sym (walk-end fs ts gs bs n es far k e ks near t))
   walk-grow (suc l) k e ks near t g = elim (ℕ-discrete (r l k e ks near t g) places) [
@@ -342,7 +361,8 @@ module _ (streams : List Stream) (n : ℕ) (xs ps : List ℕ) (d : ℕ) (fs ts g
       hit : (q : place ≡ places → ⊥) → getD es place 0 < netShift
           → grow ss n xs es d (suc l) (reducedBy (t .visited) ks k ps) t ≡ grownOf (walked fs ts gs bs n es far (suc l) k e ks near t)
       hit q h =
-          grow-hit streams n xs es d _ t (suc l) _ _ (omega arith) (tells l k e ks near t g q .lead .below) (some l k e ks near t g q) (omega (arith, small l k e ks near t g q)) (rw (far-end l k e ks near t g q) h)
+          grow-hit streams n xs es d _ t (suc l) _ _ (omega arith) (tells l k e ks near t g q .lead .below) (some l k e ks near t g q)
+          (omega (arith, small l k e ks near t g q)) (rw (far-end l k e ks near t g q) h)
           ∙ rw (far-end l k e ks near t g q, lowered l k e ks near t g q, numbered q)
           (ap grownOf (sym (walk-hit fs ts gs bs n es far k e ks near t _ refl _ refl (suc l) (omega arith) q (limited q) h)))
 
@@ -352,7 +372,8 @@ module _ (streams : List Stream) (n : ℕ) (xs ps : List ℕ) (d : ℕ) (fs ts g
           → grow ss n xs es d (suc l) (reducedBy (t .visited) ks k ps) t ≡ grownOf (walked fs ts gs bs n es far (suc l) k e ks near t)
       more q h rest =
           let z : suc l - 1 ≡ l = omega arith in
-          grow-more streams n xs es d _ t (suc l) _ _ (omega arith) (tells l k e ks near t g q .lead .below) (some l k e ks near t g q) (omega (arith, small l k e ks near t g q)) (rw (far-end l k e ks near t g q) h)
+          grow-more streams n xs es d _ t (suc l) _ _ (omega arith) (tells l k e ks near t g q .lead .below) (some l k e ks near t g q)
+          (omega (arith, small l k e ks near t g q)) (rw (far-end l k e ks near t g q) h)
           ∙ rw (z, far-end l k e ks near t g q, lowered l k e ks near t g q, numbered q)
           (rest
           ∙ ap grownOf (sym (walk-more fs ts gs bs n es far k e ks near t _ refl _ refl (suc l) (omega arith) q (limited q) h ∙ rw z)))

@@ -12,7 +12,7 @@ use lib.ListN.{length, getD}
 use Rattle.num_bytes.specs.Choice.{pick}
 use Rattle.num_bytes.proofs.Tests.{by-cases, and-both}
 use Rattle.plant_def.specs.declared.Stream.{Stream}
-use Rattle.plant_def.specs.Limits.{maxUnits, places}
+use Rattle.plant_def.specs.Limits.{maxUnits}
 use Rattle.flow_def.specs.Flows.{streamAt}
 use Rattle.flow_def.proofs.Integers.{up, dn, plus-val, up-neg, dn-neg}
 use Rattle.flow_def.proofs.Sums.{sum}
@@ -38,6 +38,7 @@ module _ (ss : List Stream) (v : Solvable ss) (ms : List Bool) where
   abbrev within : ℕ → Bool
   within u = getD ms u false
 
+  -- What the first n streams press into the set, as integers.
   pub pressed-sum : (n : ℕ) → n ≤ length ss
       → up (sum n (λ k. edge within (streamAt ss k))) + n * flowShift ≡ pressedTo ss ms n + dn (sum n (λ k. edge within (streamAt ss k)))
   unfolding pressedTo

@@ -1,4 +1,4 @@
--- The search: what holds of its tree and prices, round by round.
+-- The search: what holds of its tree and potentials, round by round.
 use mathlib.Core.Path.{_≡_, refl, sym, _∙_, ap}
 use mathlib.Core.Bool.{Bool, true, false, _||_, not, true≢false, false≢true}
 use mathlib.Core.List.{List}
@@ -27,7 +27,7 @@ use Rattle.solve_def.specs.Push.{otherEnd}
 use Rattle.solve_def.proofs.Amounts.{get-set}
 use Rattle.solve_def.proofs.Elements.{lowered-at}
 use Rattle.solve_def.proofs.Least.{startIn, endIn}
-use Rattle.solve_def.specs.Counts.{countTo}
+use Rattle.solve_def.specs.Counts.{countPlaces}
 use Rattle.solve_def.proofs.Counting.{count-most, count-none, count-more}
 use Rattle.solve_def.proofs.Bounds.{Open, slack-open, open-of}
 use Rattle.solve_def.proofs.Pushing.{reached, Link, both-reached}
@@ -40,7 +40,7 @@ pub record Plain (n : ℕ) (ss : List Stream) : Type 0 where
   pub light : (k : ℕ) → k < length ss → weightOf (streamAt ss k) ≤ maxWeight
   pub read : (k : ℕ) → k < length ss → streamAt ss k .metered ≡ true → Close mostReading (readingOf (streamAt ss k))
 
--- One stream keeps the step condition while prices fall by no more than its slack.
+-- One stream keeps the step condition while potentials fall by no more than its slack.
 held-kept : (a b : Bool) (s : Stream) (x pu pv d g : ℕ) → Held d (weightOf s) x (readingOf s) pu pv (lowOf s) (highOf s) → (a ≡ true → g ≤ pu) → (b ≡ true → g ≤ pv)
     → (a ≡ not b → g ≤ slackBy s a x pu pv d) → Held d (weightOf s) x (readingOf s) (fallen a g pu) (fallen b g pv) (lowOf s) (highOf s)
 held-kept true true s x pu pv d g h hu hv c =
@@ -51,7 +51,7 @@ held-kept false true s x pu pv d g h hu hv c =
     record { low = λ o. omega (arith, h .low o, hv refl, c refl, slack-open false s x pu pv d o); high = λ o. omega (arith, h .high o, hv refl) }
 held-kept false false s x pu pv d g h hu hv c = h
 
--- The slack after both prices fell alike, and after the visited end's fell by it.
+-- The slack after both potentials fell alike, and after the visited end's fell by it.
 slack-both : (b : Bool) (s : Stream) (x pu pv d g : ℕ) → g ≤ pu → g ≤ pv → slackBy s b x pu pv d ≡ 0 → slackBy s b x (pu - g) (pv - g) d ≡ 0
 slack-both b s x pu pv d g hu hv e = go b (open-of b s x pu pv d (omega arith)) e
   where
@@ -59,6 +59,7 @@ slack-both b s x pu pv d g hu hv e = go b (open-of b s x pu pv d (omega arith)) 
     go true o e = slack-open true s x (pu - g) (pv - g) d o ∙ omega (arith, slack-open true s x pu pv d o, e)
     go false o e = slack-open false s x (pu - g) (pv - g) d o ∙ omega (arith, slack-open false s x pu pv d o, e)
 
+-- Potentials that fall by the slack leave none.
 pub slack-gone : (a b : Bool) (s : Stream) (x pu pv d g : ℕ) → a ≡ not b → (a ≡ true → g ≤ pu) → (b ≡ true → g ≤ pv) → g ≡ slackBy s a x pu pv d → g < farthest
     → slackBy s a x (fallen a g pu) (fallen b g pv) d ≡ 0
 slack-gone true true s x pu pv d g c hu hv e f = absurd (true≢false c)
@@ -90,7 +91,7 @@ marginals s x d light step modest = by-cases (s .metered) (λ m. some m (modest 
         let e : weightOf s * d ≤ maxWeight * mostStep = mul-le-mul light step in
         (omega (arith, a, e), omega (arith, b, e))
 
--- How large the slack of an open stream is, by the prices of the ends; and one without slack: its ends' prices are within mostMarginal of
+-- How large the slack of an open stream is, by the potentials of the ends; and one without slack: its ends' potentials are within mostMarginal of
 -- each other.
 pub slack-rise : (f : Bool) (s : Stream) (x pu pv d : ℕ) → Held d (weightOf s) x (readingOf s) pu pv (lowOf s) (highOf s) → weightOf s ≤ maxWeight → d ≤ mostStep → Modest s x
     → Open s f x d → slackBy s f x pu pv d + pick f pv pu ≤ pick f pu pv + mostMarginal
@@ -99,7 +100,7 @@ slack-rise true s x pu pv d h light step modest o =
 slack-rise false s x pu pv d h light step modest o =
     let m = marginals s x d light step modest in omega (arith, slack-open false s x pu pv d o, h .low o, m .1)
 
-pub slack-none : (f : Bool) (s : Stream) (x pu pv d : ℕ) → Held d (weightOf s) x (readingOf s) pu pv (lowOf s) (highOf s) → weightOf s ≤ maxWeight → d ≤ mostStep → Modest s x
+slack-none : (f : Bool) (s : Stream) (x pu pv d : ℕ) → Held d (weightOf s) x (readingOf s) pu pv (lowOf s) (highOf s) → weightOf s ≤ maxWeight → d ≤ mostStep → Modest s x
     → slackBy s f x pu pv d ≡ 0 → (pu ≤ pv + mostMarginal) × (pv ≤ pu + mostMarginal)
 slack-none f s x pu pv d h light step modest e = go f e (open-of f s x pu pv d (omega arith))
   where
@@ -116,7 +117,7 @@ reached-set : (root : ℕ) (ends : List ℕ) (m e j v : ℕ) → j ≤ m → rea
 reached-set root ends m e zero v l = refl
 reached-set root ends m e (suc j) v l = rw (getD-set-other ends m j e 0 (λ q. omega arith), reached-set root ends m e j v (omega arith))
 
--- What holds of a tree and prices during a search.
+-- What holds of a tree and potentials during a search.
 pub record Growing (n : ℕ) (ss : List Stream) (xs : List ℕ) (d root : ℕ) (ps : List ℕ) (t : Tree) : Type 0 where
   pub held : AllHeld ss xs ps d
   pub visits : length (t .visited) ≡ places
@@ -124,9 +125,9 @@ pub record Growing (n : ℕ) (ss : List Stream) (xs : List ℕ) (d root : ℕ) (
   pub endings : length (t .ends) ≡ places
   pub marks : (v : ℕ) → v < places → getD (t .visited) v false ≡ reached root (t .ends) (t .len) v
   pub links : (k : ℕ) → k < t .len → Link ss xs ps d root (t .via) (t .ends) k
-  pub counted : countTo n (λ v. getD (t .visited) v false) ≡ suc (t .len)
+  pub counted : countPlaces n (λ v. getD (t .visited) v false) ≡ suc (t .len)
 
--- Any two visited places have prices within mostMarginal of each other for each place visited after the first.
+-- Any two visited places have potentials within mostMarginal of each other for each place visited after the first.
 abbrev pub Level : List ℕ → Tree → Type 0
 Level ps t = (u v : ℕ) → u < places → v < places → getD (t .visited) u false ≡ true → getD (t .visited) v false ≡ true
     → getD ps u 0 ≤ getD ps v 0 + mostMarginal * t .len
@@ -159,16 +160,19 @@ root-growing n ss xs ps d root small l h = record {
     go v m false = none v
 
 module _ (n : ℕ) (ss : List Stream) (plain : Plain n ss) (xs : List ℕ) (d root : ℕ) where
+  -- The start of a stream is a place.
   pub from-small : (k : ℕ) → k < length ss → streamAt ss k .from < places
   from-small k l = omega (arith, plain .inside k l .0, plain .small)
 
+  -- So is its end.
   pub to-small : (k : ℕ) → k < length ss → streamAt ss k .to < places
   to-small k l = omega (arith, plain .inside k l .1, plain .small)
 
+  -- Moderate amounts are modest, stream by stream.
   pub modest : Moderate ss xs → (k : ℕ) → k < length ss → Modest (streamAt ss k) (getD xs k 0)
   modest moderate k l m = (moderate k l m, plain .read k l m)
 
-  -- The prices are lowered.
+  -- The potentials are lowered.
   pub lower-growing : (ps : List ℕ) (t : Tree) (g : ℕ) → Growing n ss xs d root ps t → ((u : ℕ) → u < places → getD (t .visited) u false ≡ true → g ≤ getD ps u 0)
       → ((k : ℕ) → k < length ss → startIn ss (t .visited) k ≡ not (endIn ss (t .visited) k) → g ≤ slackAt ss xs ps d k (startIn ss (t .visited) k))
       → Growing n ss xs d root (loweredBy (t .visited) g ps) t
@@ -199,13 +203,15 @@ module _ (n : ℕ) (ss : List Stream) (plain : Plain n ss) (xs : List ℕ) (d ro
             room = m .room;
           }
 
+  -- Visited potentials that fall together stay as near to one another.
   pub lower-level : (ps : List ℕ) (t : Tree) (g : ℕ) → Level ps t → ((u : ℕ) → u < places → getD (t .visited) u false ≡ true → g ≤ getD ps u 0)
       → Level (loweredBy (t .visited) g ps) t
   lower-level ps t g h room u v lu lv a b = rw (lowered-at (t .visited) g ps u, lowered-at (t .visited) g ps v, a, b) (omega (arith, h u v lu lv a b, room u lu a, room v lv b))
 
   -- The ends of a stream that leaves the visited places.
   far-facts : (ls : List Bool) (s : Stream) → getD ls (s .from) false ≡ not (getD ls (s .to) false)
-      → (getD ls (farEnd ls s) false ≡ false) × (eqb (s .to) (farEnd ls s) ≡ getD ls (s .from) false) × (getD ls (otherEnd s (farEnd ls s)) false ≡ true) × (getD ls (s .from) false ≡ false → s .from ≡ farEnd ls s)
+      → (getD ls (farEnd ls s) false ≡ false) × (eqb (s .to) (farEnd ls s) ≡ getD ls (s .from) false) × (getD ls (otherEnd s (farEnd ls s)) false ≡ true)
+      × (getD ls (s .from) false ≡ false → s .from ≡ farEnd ls s)
   far-facts ls s c = by-cases (getD ls (s .from) false)
       (λ t. let q : farEnd ls s ≡ s .to = ap (λ (b : Bool). pick b (s .to) (s .from)) t in
       let o : eqb (s .to) (s .to) ≡ true = eq-eqb (s .to) (s .to) refl in
@@ -215,15 +221,19 @@ module _ (n : ℕ) (ss : List Stream) (plain : Plain n ss) (xs : List ℕ) (d ro
       let o : eqb (s .to) (s .from) ≡ false = ne-eqb (s .to) (s .from) (λ z. true≢false (sym u ∙ ap (λ (v : ℕ). getD ls v false) z ∙ t)) in
       rw q (t, o ∙ sym t, rw o u, λ z. refl))
 
+  -- The far end is a place of the plant.
   pub far-near : (ls : List Bool) (k : ℕ) → k < length ss → farEnd ls (streamAt ss k) ≤ n
   far-near ls k l = by-cases (getD ls (streamAt ss k .from) false) (λ t. rw t (plain .inside k l .1)) (λ t. rw t (plain .inside k l .0))
 
   -- There is a place that is not visited.
   pub some-left : (ps : List ℕ) (t : Tree) (e : ℕ) → Growing n ss xs d root ps t → e ≤ n → getD (t .visited) e false ≡ false → t .len < n
   some-left ps t e h le off =
-      omega
-      (arith, h .counted, count-more n e (λ v. getD (t .visited) v false) (λ v. getD (set (t .visited) e true) v false) le off (getD-set-same (t .visited) e true false (rw (h .visits) (omega (arith, le, plain .small)))) (λ v q. getD-set-other (t .visited) e v true false q), count-most n (λ v. getD (set (t .visited) e true) v false))
+      let marked = getD-set-same (t .visited) e true false (rw (h .visits) (omega (arith, plain .small))) in
+      let more = count-more n e (λ v. getD (t .visited) v false) (λ v. getD (set (t .visited) e true) v false) le off marked
+      (λ v q. getD-set-other (t .visited) e v true false q) in
+      omega (arith, h .counted, more, count-most n (λ v. getD (set (t .visited) e true) v false))
 
+  -- It is not visited.
   pub far-off : (ls : List Bool) (s : Stream) → getD ls (s .from) false ≡ not (getD ls (s .to) false) → getD ls (farEnd ls s) false ≡ false
   far-off ls s c = far-facts ls s c .0
 
@@ -286,7 +296,8 @@ module _ (n : ℕ) (ss : List Stream) (plain : Plain n ss) (xs : List ℕ) (d ro
       e : ℕ
       e = farEnd (t .visited) s
 
-      f : (getD (t .visited) e false ≡ false) × (eqb (s .to) e ≡ getD (t .visited) (s .from) false) × (getD (t .visited) (otherEnd s e) false ≡ true) × (getD (t .visited) (s .from) false ≡ false → s .from ≡ e)
+      f : (getD (t .visited) e false ≡ false) × (eqb (s .to) e ≡ getD (t .visited) (s .from) false) × (getD (t .visited) (otherEnd s e) false ≡ true)
+          × (getD (t .visited) (s .from) false ≡ false → s .from ≡ e)
       f = far-facts (t .visited) s c
 
       le : e ≤ n
@@ -296,9 +307,7 @@ module _ (n : ℕ) (ss : List Stream) (plain : Plain n ss) (xs : List ℕ) (d ro
       small-e = rw (h .visits) (omega (arith, le, plain .small))
 
       few : t .len < places
-      few =
-          omega
-          (arith, h .counted, count-more n e (λ v. getD (t .visited) v false) (λ v. getD (set (t .visited) e true) v false) le (f .0) (getD-set-same (t .visited) e true false small-e) (λ v q. getD-set-other (t .visited) e v true false q), count-most n (λ v. getD (set (t .visited) e true) v false), plain .small)
+      few = omega (arith, some-left ps t e h le (f .0), plain .small)
 
       -- The new place and its stream, as they are stored.
       end-new : getD (set (t .ends) (t .len) e) (t .len) 0 ≡ e

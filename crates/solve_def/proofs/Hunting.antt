@@ -15,26 +15,27 @@ use Rattle.plant_def.specs.declared.Stream.{Stream}
 use Rattle.plant_def.specs.Limits.{places}
 use Rattle.flow_def.specs.Flows.{streamAt}
 use Rattle.solve_def.specs.declared.Tree.{Tree}
-use Rattle.solve_def.specs.Sizes.{netShift, searchRounds, mostStep, mostMarginal, priceFloor, farthest}
+use Rattle.solve_def.specs.Sizes.{netShift, searchRounds, mostStep, mostMarginal, potentialFloor, farthest}
 use Rattle.solve_def.specs.Held.{lowOf, highOf, AllHeld}
 use Rattle.solve_def.specs.Slack.{Crossing, At, Nothing, leastTo, slackAt}
 use Rattle.solve_def.specs.Search.{loweredBy, farEnd, onCrossing, rootAt, addedTo, target, Grown, grownBy, grow, sought}
-use Rattle.solve_def.specs.SearchNeeds.{Prices, Moderate, Floored}
+use Rattle.solve_def.specs.SearchNeeds.{Potentials, Moderate, Floored}
 use Rattle.solve_def.proofs.Elements.{lowered-at, lowered-long, fallen-least}
 use Rattle.solve_def.proofs.Least.{opposed, all-usable, startIn, endIn, Answers, least-good}
 use Rattle.solve_def.proofs.Counting.{count-full}
 use Rattle.solve_def.proofs.Bounds.{Open, open-of}
 use Rattle.solve_def.proofs.Pushing.{reached-more}
-use Rattle.solve_def.proofs.Growing.{Plain, Growing, Level, root-growing, from-small, to-small, lower-growing, lower-level, some-left, far-off, far-near, add-level, add-growing, slack-gone, slack-rise, modest}
+use Rattle.solve_def.proofs.Growing.{Plain, Growing, Level, root-growing, from-small, to-small, lower-growing, lower-level, some-left}
+use Rattle.solve_def.proofs.Growing.{far-off, far-near, add-level, add-growing, slack-gone, slack-rise, modest}
 
--- What a search that found a place comes to, from the prices ps: the place visited last has a negative net, and no price rose.
+-- What a search that found a place comes to, from the potentials ps: the place visited last has a negative net, and no potential rose.
 pub record Found (n : ℕ) (ss : List Stream) (xs es : List ℕ) (d root : ℕ) (ps : List ℕ) (g : Grown) : Type 0 where
-  pub grown : Growing n ss xs d root (g .prices) (g .tree)
+  pub grown : Growing n ss xs d root (g .potentials) (g .tree)
   pub some : 1 ≤ g .tree .len
   pub near : target (g .tree) ≤ n
   pub negative : getD es (target (g .tree)) 0 < netShift
-  pub rise : (u : ℕ) → getD (g .prices) u 0 ≤ getD ps u 0
-  pub long : length (g .prices) ≡ length ps
+  pub rise : (u : ℕ) → getD (g .potentials) u 0 ≤ getD ps u 0
+  pub long : length (g .potentials) ≡ length ps
 
 -- What a search that is stuck comes to: the visited places, none with a negative net, and no open stream leaves them.
 pub record Stuck (n : ℕ) (ss : List Stream) (xs es : List ℕ) (d root : ℕ) (ls : List Bool) : Type 0 where
@@ -42,14 +43,16 @@ pub record Stuck (n : ℕ) (ss : List Stream) (xs es : List ℕ) (d root : ℕ) 
   pub none-less : (v : ℕ) → v ≤ n → getD ls v false ≡ true → netShift ≤ getD es v 0
   pub shut : (k : ℕ) → k < length ss → startIn ss ls k ≡ not (endIn ss ls k) → Open (streamAt ss k) (startIn ss ls k) (getD xs k 0) d → ⊥
 
+-- A search hits, or is stuck.
 pub data Hunt (n : ℕ) (ss : List Stream) (xs es : List ℕ) (d root : ℕ) (ps : List ℕ) (g : Grown) : Type 0 where
   hit : g .found ≡ true → Found n ss xs es d root ps g → Hunt n ss xs es d root ps g
   stuck : g .found ≡ false → Stuck n ss xs es d root (g .tree .visited) → Hunt n ss xs es d root ps g
 
+-- The place visited last is the target.
 pub new-target : (t : Tree) (i e : ℕ) → t .len < length (t .ends) → target (addedTo t i e) ≡ e
 new-target t i e l = let q : t .len + 1 - 1 ≡ t .len = omega arith in rw q (getD-set-same (t .ends) (t .len) e 0 l)
 
--- During a search from the prices ps₀: what is known of the visited places and the prices, beside Growing.
+-- During a search from the potentials ps₀: what is known of the visited places and the potentials, beside Growing.
 pub record Since (n : ℕ) (es ps₀ ps : List ℕ) (t : Tree) : Type 0 where
   pub level : Level ps t
   pub none : (v : ℕ) → v ≤ n → getD (t .visited) v false ≡ true → netShift ≤ getD es v 0
@@ -57,12 +60,12 @@ pub record Since (n : ℕ) (es ps₀ ps : List ℕ) (t : Tree) : Type 0 where
   pub rise : (u : ℕ) → getD ps u 0 ≤ getD ps₀ u 0
   pub long : length ps ≡ length ps₀
 
-module _ (n : ℕ) (ss : List Stream) (plain : Plain n ss) (xs es : List ℕ) (d : ℕ) (step : d ≤ mostStep) (root : ℕ) (near : root ≤ n) (room : (k : ℕ) → k < length ss → d ≤ getD xs k 0) (moderate : Moderate ss xs)
-    (ps₀ : List ℕ) (capped : Prices ps₀) (floor : Floored ps₀) where
+module _ (n : ℕ) (ss : List Stream) (plain : Plain n ss) (xs es : List ℕ) (d : ℕ) (step : d ≤ mostStep) (root : ℕ) (near : root ≤ n)
+    (room : (k : ℕ) → k < length ss → d ≤ getD xs k 0) (moderate : Moderate ss xs) (ps₀ : List ℕ) (capped : Potentials ps₀) (floor : Floored ps₀) where
   root-marked : (ps : List ℕ) (t : Tree) → Growing n ss xs d root ps t → getD (t .visited) root false ≡ true
   root-marked ps t h = h .marks root (omega (arith, plain .small)) ∙ reached-more root (t .ends) 0 (t .len) root (omega arith) (eq-eqb root root refl)
 
-  -- A stream that leaves the visited places: its slack by the prices of the two ends, the end that is visited, and how large the slack is.
+  -- A stream that leaves the visited places: its slack by the potentials of the two ends, the end that is visited, and how large the slack is.
   module _ (ps : List ℕ) (t : Tree) (h : Growing n ss xs d root ps t) (since : Since n es ps₀ ps t) (k : ℕ) (l : k < length ss) (c : startIn ss (t .visited) k ≡ not (endIn ss (t .visited) k)) where
     abbrev head : ℕ
     head = farEnd (t .visited) (streamAt ss k)
@@ -87,17 +90,19 @@ module _ (n : ℕ) (ss : List Stream) (plain : Plain n ss) (xs es : List ℕ) (d
     head-off : getD (t .visited) head false ≡ false
     head-off = far-off n ss plain xs d root (t .visited) (streamAt ss k) c
 
-    head-floor : priceFloor ≤ getD ps head 0
+    head-floor : potentialFloor ≤ getD ps head 0
     head-floor = rw (since .same head head-off) (floor head (omega (arith, head-near, plain .small)))
 
     slack-low : Open (streamAt ss k) (startIn ss (t .visited) k) (getD xs k 0) d → slackAt ss xs ps d k (startIn ss (t .visited) k) < farthest
     slack-low o = omega (arith, across o, head-floor, since .rise tail, capped tail tail-small)
 
-    -- No visited price falls below 0.
+    -- No visited potential falls below 0.
     slack-room : slackAt ss xs ps d k (startIn ss (t .visited) k) < farthest → (u : ℕ) → u < places → getD (t .visited) u false ≡ true
         → slackAt ss xs ps d k (startIn ss (t .visited) k) ≤ getD ps u 0
     slack-room f u lu a =
-        omega (arith, across (open-of (startIn ss (t .visited) k) (streamAt ss k) (getD xs k 0) _ _ d f), head-floor, since .level tail u tail-small lu tail-on a, some-left n ss plain xs d root ps t head h head-near head-off, plain .small)
+        let rise = across (open-of (startIn ss (t .visited) k) (streamAt ss k) (getD xs k 0) _ _ d f) in
+        let few = some-left n ss plain xs d root ps t head h head-near head-off in
+        omega (arith, rise, head-floor, since .level tail u tail-small lu tail-on a, few, plain .small)
 
   grow-good : (l : ℕ) (ps : List ℕ) (t : Tree) → Growing n ss xs d root ps t → n ≤ l + t .len → Since n es ps₀ ps t
       → Hunt n ss xs es d root ps₀ (grow ss (length ss) xs es d l ps t)
@@ -175,7 +180,7 @@ module _ (n : ℕ) (ss : List Stream) (plain : Plain n ss) (xs es : List ℕ) (d
               last : target r ≡ e
               last = new-target t i e few
 
-              -- A place that is not visited now was not before, and kept its price.
+              -- A place that is not visited now was not before, and kept its potential.
               off : (u : ℕ) → getD (r .visited) u false ≡ false → getD (t .visited) u false ≡ false
               off u q = by-cases (eqb e u)
                   (λ z. let o : e ≡ u = eqb-true e u z in
@@ -226,8 +231,8 @@ module _ (n : ℕ) (ss : List Stream) (plain : Plain n ss) (xs es : List ℕ) (d
       only : (v : ℕ) → v < places → getD (rootAt root .visited) v false ≡ true → root ≡ v
       only v k c = eqb-true root v (sym (start .marks v k) ∙ c)
 
-      -- The prices are the search's where it found a place, and as they were where it did not.
-      back : (g : Grown) → Hunt n ss xs es d root ps₀ g → Hunt n ss xs es d root ps₀ (grownBy (g .found) (g .tree) (pick (g .found) (g .prices) ps₀))
+      -- The potentials are the search's where it found a place, and as they were where it did not.
+      back : (g : Grown) → Hunt n ss xs es d root ps₀ g → Hunt n ss xs es d root ps₀ (grownBy (g .found) (g .tree) (pick (g .found) (g .potentials) ps₀))
       back g (hit q f) = hit q (rw q (record { grown = f .grown; some = f .some; near = f .near; negative = f .negative; rise = f .rise; long = f .long }))
       back g (stuck q f) = stuck q f
 
@@ -239,7 +244,7 @@ stuck-edge n ss xs es d root ls h k l = (
   λ a b. elim (decLe (lowOf (streamAt ss k) + d) (getD xs k 0)) [ yes z ↦ absurd (h .shut k l (rw (a, b)) (rw a z)) | no z ↦ omega arith ],
 )
 
--- Where nothing is found, the prices are as they were.
-pub sought-stays : (ss : List Stream) (xs es ps : List ℕ) (d s : ℕ) → sought ss xs es ps d s .found ≡ false → sought ss xs es ps d s .prices ≡ ps
+-- Where nothing is found, the potentials are as they were.
+pub sought-stays : (ss : List Stream) (xs es ps : List ℕ) (d s : ℕ) → sought ss xs es ps d s .found ≡ false → sought ss xs es ps d s .potentials ≡ ps
 unfolding sought
-sought-stays ss xs es ps d s e = ap (λ (b : Bool). pick b (grow ss (length ss) xs es d searchRounds ps (rootAt s) .prices) ps) e
+sought-stays ss xs es ps d s e = ap (λ (b : Bool). pick b (grow ss (length ss) xs es d searchRounds ps (rootAt s) .potentials) ps) e

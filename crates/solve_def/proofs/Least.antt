@@ -35,6 +35,7 @@ all-usable ss k = go (streamAt ss k .metered)
 abbrev pub startIn : List Stream → List Bool → ℕ → Bool
 startIn ss ls k = getD ls (streamAt ss k .from) false
 
+-- Whether stream k ends at a visited place.
 abbrev pub endIn : List Stream → List Bool → ℕ → Bool
 endIn ss ls k = getD ls (streamAt ss k .to) false
 
@@ -131,10 +132,11 @@ module _ (ss : List Stream) (xs ps : List ℕ) (ls : List Bool) (d skip : ℕ) w
       let le = a .least j (b .below) (b .usable) (b .leaves) in
       let ge = b .least i (a .below) (a .usable) (a .leaves) in
       let same : g ≡ h = omega (arith, le, ge, a .is, b .is) in
-      let one : i ≡ j =
-      omega
-      (arith, le, ge, a .is, b .is, a .first j (b .below) (b .usable) (b .leaves) (omega (arith, le, ge, a .is, b .is)), b .first i (a .below) (a .usable) (a .leaves) (omega (arith, le, ge, a .is, b .is))) in
+      let before = a .first j (b .below) (b .usable) (b .leaves) (omega (arith, a .is, b .is)) in
+      let after = b .first i (a .below) (a .usable) (a .leaves) (omega (arith, a .is, b .is)) in
+      let one : i ≡ j = omega (arith, before, after) in
       rw (same, one)
 
+  -- So what answers is the stream of least slack.
   pub answers-same : (n : ℕ) (f : Crossing) → Answers ss xs ps ls d skip n f → leastTo ss xs ps ls d skip n ≡ f
   answers-same n f a = answer-one n (leastTo ss xs ps ls d skip n) f (least-good n) a

@@ -6,10 +6,8 @@ pub mod Elements
 pub mod Filling
 pub mod Listing
 pub mod Nearing
-pub mod Steps
-pub mod Lowest
 pub mod Opening
-pub mod Stepping
+pub mod Steps
 pub mod Walks
 pub mod Bounds
 pub mod Finds
@@ -30,7 +28,6 @@ pub mod Nearest
 pub mod Tall
 pub mod Raised
 pub mod Closings
-pub mod Closers
 pub mod Fulls
 pub mod Steady
 pub mod Phases

@@ -14,6 +14,7 @@ use Rattle.plant_def.specs.Limits.{maxStreams}
 use Rattle.solve_def.specs.Near.{lastAt, arcAt, relaxedAlong, relaxedAt, relaxedTo}
 
 module _ (fs ts : List ℕ) where
+  -- Whether stream i starts or ends at place u.
   abbrev pub touches : ℕ → ℕ → Bool
   touches u k = eqb (getD fs k 0) u || eqb (getD ts k 0) u
 
@@ -39,7 +40,9 @@ module _ (fs ts : List ℕ) where
   pub arc-less : (u i c n : ℕ) → c < n → 2 * i ≤ c → n ≤ 2 * maxStreams → pick {A = ℕ} (ltb (arcAt fs ts u i) n) (suc (arcAt fs ts u i)) 0 < pick {A = ℕ} (ltb c n) (suc c) 0
   arc-less u i c n l h m =
       rw (lt-ltb c n l)
-      (⊎-elim (λ o. go (ltb (arcAt fs ts u i) n) (omega (arith, o .0, arc-is u i .1, arc-is u i .2))) (λ o. rw (le-ltb (arcAt fs ts u i) n (omega (arith, o, arc-is u i .1))) (omega arith)) (last-good u i))
+      (⊎-elim (λ o. go (ltb (arcAt fs ts u i) n) (omega (arith, o .0, arc-is u i .1, arc-is u i .2)))
+      (λ o. rw (le-ltb (arcAt fs ts u i) n (omega (arith, o, arc-is u i .1))) (omega arith))
+      (last-good u i))
     where
       go : (b : Bool) → arcAt fs ts u i < c → pick {A = ℕ} b (suc (arcAt fs ts u i)) 0 < suc c
       go true h = omega arith
@@ -56,6 +59,7 @@ module _ (fs ts : List ℕ) where
         go false true x y h = clash true refl h
         go false false x y h = refl
 
+    -- The streams of a place are looked at from the last one on.
     pub relaxed-last : (n i : ℕ) (near : List ℕ) → n ≤ maxStreams → i ≡ lastAt fs ts e n → i < n
         → relaxedTo fs ts gs bs ls k e n near ≡ relaxedTo fs ts gs bs ls k e i (relaxedAt fs ts gs bs ls k e i near)
     unfolding relaxedTo lastAt
@@ -66,6 +70,7 @@ module _ (fs ts : List ℕ) where
         let q : i ≡ lastAt fs ts e n = rw t at h in
         rw (untouched n near t) (relaxed-last n i near (omega arith) q (⊎-elim (λ o. rw q (o .0)) (λ o. absurd (omega (arith, o, q, few))) (last-good e n))))
 
+    -- Without one nothing changes.
     pub relaxed-none : (n : ℕ) (near : List ℕ) → n ≤ lastAt fs ts e n → relaxedTo fs ts gs bs ls k e n near ≡ near
     unfolding relaxedTo lastAt
     relaxed-none zero near l = refl
@@ -78,10 +83,12 @@ module _ (fs ts : List ℕ) where
     other : eqb (getD fs i 0) e ≡ false → eqb (getD ts i 0) e ≡ true
     other h = rw h at t
 
+    -- The place is the tail of the arc that is gone along.
     pub tail-touching : (f : Bool) → f ≡ eqb (getD fs i 0) e → pick f (getD fs i 0) (getD ts i 0) ≡ e
     tail-touching true h = eqb-true (getD fs i 0) e (sym h)
     tail-touching false h = eqb-true (getD ts i 0) e (other (sym h))
 
+    -- What one stream of the place changes.
     pub relaxed-touching : (G : Bool → List ℕ) (ls : List Bool) (k : ℕ) (near : List ℕ) (f : Bool) → f ≡ eqb (getD fs i 0) e
         → relaxedAlong ls k (pick (not f) (getD fs i 0) (getD ts i 0)) (getD (G f) i 0) i near ≡ relaxedAt fs ts (G true) (G false) ls k e i near
     unfolding relaxedAt

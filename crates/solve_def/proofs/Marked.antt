@@ -66,6 +66,7 @@ pressed-parts low high l h false true e = sym (e refl .0) ∙ sym (+ℤ-idr l)
 pressed-parts low high l h true false e =
     same (pos 0) (negℤ h +ℤ high) (omega (arith, plus-val (negℤ h) high, up-neg h, dn-neg h, ap up (e refl .1), ap dn (e refl .1)))
 
+-- As many marks as places.
 pub masked-long : (n : ℕ) (ms : List Bool) → length (masked n ms) ≡ places
 unfolding masked
 masked-long n ms = values-long (λ u. getD ms u false && leb u n) places
@@ -136,6 +137,7 @@ module _ (q : Plant) (w : Within q) (v : Solvable (q .streams)) (ms : List Bool)
   highs-sum =
       sum-listed (λ s x. pick (leaves c s) (s .high) (pos 0)) (λ ss xs. highsOut c ss) (λ xs. refl) (λ s ss x xs. refl) ss (listed q (λ k. pos 0)) (listed-size q (λ k. pos 0))
 
+  -- The marked places are overfull.
   pub overfull-says : Overfull q (masked (q .units) ms)
   overfull-says = record {
     long = masked-long (q .units) ms;

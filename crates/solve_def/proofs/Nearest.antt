@@ -1,8 +1,8 @@
--- Settled amounts: the step condition holds at 1, whatever the prices, and amounts are in range; what is over rises little.
+-- Settled amounts: the step condition holds at 1, whatever the potentials, and amounts are in range; what is over rises little.
 use mathlib.Core.Path.{_≡_, refl, sym, _∙_, ap, subst}
 use mathlib.Core.Bool.{Bool, true, false}
 use mathlib.Core.List.{List}
-use lib.IntN.{ℤ, pos, _+ℤ_, _-ℤ_}
+use lib.IntN.{pos, _+ℤ_, _-ℤ_}
 use Prim.Native.Nat.{ℕ, zero, suc, _+_, _-_, _*_, _/_, _≤_, _<_}
 use native.Mathlib.Nat.{mul-le-mul-left, mul-le-mul-right, div-add-mod, mod-lt}
 use native.Mathlib.Omega.{arith}
@@ -32,7 +32,7 @@ use Rattle.solve_def.proofs.Booking.{nets-around, nets-long, nets-right
 
 -- A number brought into a range: it is in it; above its low it was not raised, below its high not lowered.
 module _ (L H x : ℕ) where
-  pub clamped-in : L ≤ H → (L ≤ clamped L H x) × (clamped L H x ≤ H)
+  clamped-in : L ≤ H → (L ≤ clamped L H x) × (clamped L H x ≤ H)
   clamped-in o =
       picked (λ (y : ℕ). (L ≤ y) × (y ≤ H)) (ltb x L) L (pick (ltb H x) H x)
       (λ e. (omega arith, o))
@@ -90,10 +90,10 @@ module _ (w R pu pv : ℕ) (l : 1 ≤ w) where
           more y e = omega (arith, mul-le-mul-left w e)
 
 -- The settled amount is in range and meets the step condition.
-pub settled-in : (s : Stream) (pu pv : ℕ) → lowOf s ≤ highOf s → (lowOf s ≤ settledOf s pu pv) × (settledOf s pu pv ≤ highOf s)
+settled-in : (s : Stream) (pu pv : ℕ) → lowOf s ≤ highOf s → (lowOf s ≤ settledOf s pu pv) × (settledOf s pu pv ≤ highOf s)
 settled-in s pu pv o = clamped-in (lowOf s) (highOf s) (nearestAmount (weightOf s) (readingOf s) pu pv) o
 
-pub settled-held : (s : Stream) (pu pv : ℕ) → 1 ≤ weightOf s → Held 1 (weightOf s) (settledOf s pu pv) (readingOf s) pu pv (lowOf s) (highOf s)
+settled-held : (s : Stream) (pu pv : ℕ) → 1 ≤ weightOf s → Held 1 (weightOf s) (settledOf s pu pv) (readingOf s) pu pv (lowOf s) (highOf s)
 settled-held s pu pv l = record {
   low = λ c. low (clamped-down (lowOf s) (highOf s) (nearestAmount (weightOf s) (readingOf s) pu pv) (omega arith)) c;
   high = λ c. high (clamped-up (lowOf s) (highOf s) (nearestAmount (weightOf s) (readingOf s) pu pv) (omega arith));
@@ -116,15 +116,15 @@ settled-held s pu pv l = record {
         → pv + 2 * weightOf s * readingOf s ≤ 2 * weightOf s * settledOf s pu pv + weightOf s * 1 + pu
     high h = omega (arith, nearest-high w R pu pv l, mul-le-mul-left w h)
 
--- Two amounts in one range, held at d and at 1 by the same prices, differ by at most d.
+-- Two amounts in one range, held at d and at 1 by the same potentials, differ by at most d.
 module _ (d w X Y R u v L H : ℕ) (l : 1 ≤ w) (a : Held d w X R u v L H) (b : Held 1 w Y R u v L H) (i : (L ≤ X) × (X ≤ H)) (j : (L ≤ Y) × (Y ≤ H)) where
-  pub near-above : Y ≤ X + d
+  near-above : Y ≤ X + d
   near-above = elim (decLe Y (X + d)) [ yes k ↦ k | no k ↦ absurd (far (omega arith)) ]
     where
       far : X + d + 1 ≤ Y → ⊥
       far h = omega (arith, mul-le-mul-left w h, a .high (omega (arith, j .1)), b .low (omega (arith, i .0)))
 
-  pub near-below : X ≤ Y + d
+  near-below : X ≤ Y + d
   near-below = elim (decLe X (Y + d)) [ yes k ↦ k | no k ↦ absurd (far (omega arith)) ]
     where
       far : Y + d + 1 ≤ X → ⊥
@@ -135,6 +135,7 @@ module _ (ss : List Stream) (ps xs : List ℕ) where
   abbrev amount : ℕ → ℕ
   amount k = settledOf (streamAt ss k) (getD ps (streamAt ss k .from) 0) (getD ps (streamAt ss k .to) 0)
 
+  -- As many amounts as before.
   pub settled-long : (n : ℕ) → length (settledTo ss ps xs n) ≡ length xs
   unfolding settledTo
   settled-long zero = refl
@@ -144,7 +145,7 @@ module _ (ss : List Stream) (ps xs : List ℕ) where
       go true r = length-set (settledTo ss ps xs n) n _ ∙ r
       go false r = r
 
-  pub settled-past : (n k : ℕ) → n ≤ k → getD (settledTo ss ps xs n) k 0 ≡ getD xs k 0
+  settled-past : (n k : ℕ) → n ≤ k → getD (settledTo ss ps xs n) k 0 ≡ getD xs k 0
   unfolding settledTo
   settled-past zero k l = refl
   settled-past (suc n) k l = go (streamAt ss n .metered) (settled-past n k (omega arith))
@@ -153,6 +154,7 @@ module _ (ss : List Stream) (ps xs : List ℕ) where
       go true r = getD-set-other (settledTo ss ps xs n) n k _ 0 (λ q. omega arith) ∙ r
       go false r = r
 
+  -- The amount of a metered stream is settled, another's stays.
   pub settled-at : (n k : ℕ) → n ≤ length xs → k < n → getD (settledTo ss ps xs n) k 0 ≡ pick (streamAt ss k .metered) (amount k) (getD xs k 0)
   unfolding settledTo
   settled-at zero k m l = absurd (omega arith)
@@ -189,15 +191,17 @@ sound-over ss d b st h =
 -- The settled state.
 module _ (ss : List Stream) (v : Solvable ss) (h : Hint) (b : ℕ) (s : Start ss b h) where
   abbrev ps : List ℕ
-  ps = h .prices
+  ps = h .potentials
 
+  -- The settled amounts.
   abbrev pub ys : List ℕ
-  ys = settledTo ss (h .prices) (h .flows) (length ss)
+  ys = settledTo ss (h .potentials) (h .flows) (length ss)
 
   at : (k : ℕ) → k < length ss
       → getD ys k 0 ≡ pick (streamAt ss k .metered) (settledOf (streamAt ss k) (getD ps (streamAt ss k .from) 0) (getD ps (streamAt ss k .to) 0)) (getD (h .flows) k 0)
   at k l = settled-at ss ps (h .flows) (length ss) k (omega (arith, s .long, v .plain .few)) l
 
+  -- Each meets the step condition at 1 and is in range.
   pub settled-one : (k : ℕ) → k < length ss → HeldAt ss ys ps 1 k × ((lowOf (streamAt ss k) ≤ getD ys k 0) × (getD ys k 0 ≤ highOf (streamAt ss k)))
   settled-one k l = rw (at k l) (go (streamAt ss k .metered) refl)
     where
@@ -205,10 +209,10 @@ module _ (ss : List Stream) (v : Solvable ss) (h : Hint) (b : ℕ) (s : Start ss
       t = streamAt ss k
 
       pu : ℕ
-      pu = getD (h .prices) (streamAt ss k .from) 0
+      pu = getD (h .potentials) (streamAt ss k .from) 0
 
       pv : ℕ
-      pv = getD (h .prices) (streamAt ss k .to) 0
+      pv = getD (h .potentials) (streamAt ss k .to) 0
 
       X : ℕ
       X = settledOf (streamAt ss k) pu pv
@@ -223,6 +227,7 @@ module _ (ss : List Stream) (v : Solvable ss) (h : Hint) (b : ℕ) (s : Start ss
             (omega (arith, v .ranged k l .free e), omega (arith, v .ranged k l .wide (v .ranged k l .free e), r .0, s .within)),
           )
 
+  -- Each can be held.
   pub settled-most : (k : ℕ) → k < length ss → getD ys k 0 ≤ mostFlow
   settled-most k l = omega (arith, settled-one k l .1 .1, v .ranged k l .most)
 
@@ -237,13 +242,14 @@ module _ (ss : List Stream) (v : Solvable ss) (h : Hint) (b : ℕ) (s : Start ss
   settled-nets u l =
       net-value (net ss ys u) (getD (netsTo ss ys (length ss)) u 0) (nets-right ss ys (length ss) (v .plain .few) (v .plain .inside) settled-most u l)
 
+  -- So the settled state is sound at every step.
   pub settled-sound : (d : ℕ) → 1 ≤ d → overSum (settled ss h .nets) + 2 * maxStreams * d ≤ mostOver → Sound ss d b (settled ss h)
   settled-sound d l1 o = record {
     held = λ k l. held-more d _ _ _ _ _ _ _ l1 (settled-one k l .0);
     inside = λ k l. settled-one k l .1;
     agreed = s .agree;
     long = settled-long ss ps (h .flows) (length ss) ∙ s .long;
-    priced = s .priced;
+    per-place = s .per-place;
     netted = nets-around ss ys (length ss) (v .plain .few) (v .plain .inside) settled-most .long;
     nets = settled-nets;
     floor = s .floor;
@@ -264,7 +270,7 @@ start-more ss b c h s l m = record {
   agree = s .agree;
   floor = s .floor;
   capped = s .capped;
-  priced = s .priced;
+  per-place = s .per-place;
   long = s .long;
   unmetered = λ k o e. (omega (arith, s .unmetered k o e .0), omega (arith, s .unmetered k o e .1));
   within = m;
@@ -272,12 +278,13 @@ start-more ss b c h s l m = record {
 
 -- Settled anew after a phase at step d: what is over rises by at most d for each stream.
 module _ (ss : List Stream) (v : Solvable ss) (d b : ℕ) (st : State) (h : Sound ss d b st) (within : b ≤ flowShift) where
+  -- A sound state's potentials are a hint.
   pub again-start : Start ss b (asHint st)
   again-start = record {
     agree = h .agreed;
     floor = h .floor;
     capped = h .capped;
-    priced = h .priced;
+    per-place = h .per-place;
     long = h .long;
     unmetered = h .close;
     within = within;
@@ -302,6 +309,7 @@ module _ (ss : List Stream) (v : Solvable ss) (d b : ℕ) (st : State) (h : Soun
           )
       go false e = let q = settled-free ss v (asHint st) b again-start k e in (omega (arith, q), omega (arith, q))
 
+  -- Settled there, little more is over than before.
   pub again-over : overSum (settled ss (asHint st) .nets) ≤ overSum (st .nets) + maxStreams * d
   again-over =
       omega (

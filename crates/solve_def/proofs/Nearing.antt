@@ -22,6 +22,7 @@ pub record Nearest (near : List ℕ) (n r : ℕ) : Type 0 where
   pub one : ((r < n) × (getD near r far < far)) ⊎ (r ≡ places)
   pub least : (v : ℕ) → v < n → getD near r far ≤ getD near v far
 
+-- The nearest of the first n places has the least code.
 pub nearest-good : (near : List ℕ) (n : ℕ) → length near ≡ places → n ≤ places → Nearest near n (nearestTo near n)
 unfolding nearestTo
 nearest-good near zero h l = record { one = inr refl; least = λ v m. absurd (omega arith) }
@@ -49,17 +50,21 @@ nearest-is near r h e q =
     let w = nearest-good near places h (omega arith) in
     ⊎-elim (λ o. (rw e (o .0), rw (getD-any near r 0 far (rw (h, e) (o .0)), e) (o .1))) (λ o. absurd (q (e ∙ o))) (w .one)
 
+-- No code is less than that of the nearest place.
 pub nearest-least : (near : List ℕ) (r v : ℕ) → length near ≡ places → r ≡ nearestTo near places → v < places → getD near r far ≤ getD near v 0
 nearest-least near r v h e l = rw (e, getD-any near v 0 far (rw h l)) (nearest-good near places h (omega arith) .least v l)
 
 -- n streams: their starts, their ends, and their slacks forwards and backwards.
 module _ (n : ℕ) (fs ts gs bs : List ℕ) where
+  -- The place that stream k leaves in direction f.
   abbrev pub tailOf : ℕ → Bool → ℕ
   tailOf k f = pick f (getD fs k 0) (getD ts k 0)
 
+  -- The place that it leads to.
   abbrev pub headOf : ℕ → Bool → ℕ
   headOf k f = pick f (getD ts k 0) (getD fs k 0)
 
+  -- Its slack in that direction.
   abbrev pub slackOf : ℕ → Bool → ℕ
   slackOf k f = pick f (getD gs k 0) (getD bs k 0)
 
@@ -166,6 +171,7 @@ module _ (n : ℕ) (fs ts gs bs : List ℕ) where
           neither p q true y z = absurd (p y)
           neither p q false y z = absurd (q y)
 
+      -- Once all streams are looked at, the codes are the least.
       pub relaxed-good : (i : ℕ) (near : List ℕ) → i ≤ n → Nears ls ks low e i near → Nears ls ks low e 0 (relaxedTo fs ts gs bs ls j e i near)
       unfolding relaxedTo
       relaxed-good zero near l h = h

@@ -22,7 +22,7 @@ use Rattle.solve_def.specs.Near.{codeOf, lessened, nearestTo, nearestWit
 use Rattle.solve_def.proofs.Filling.{getD-any}
 use Rattle.solve_def.proofs.Nearing.{Nearest, nearest-good}
 use Rattle.solve_def.specs.Fringe.{Open, openedBy}
-use Rattle.solve_def.proofs.Lowest.{lowest, below-lowest, without-lowest, with-others}
+use Rattle.flow_def.proofs.Lowest.{lowest, below-lowest, without-lowest, with-others}
 
 -- Before the walk there is none.
 pub open-none : (limit : ℕ) → Open limit (replicate places far) 0
@@ -53,6 +53,7 @@ module _ (limit : ℕ) (near : List ℕ) (m v d i : ℕ) (w : Open limit near m)
       within : codeOf d i / numbering ≤ limit → d ≤ limit
       within e = omega (arith, e, few)
 
+  -- The fringe after an offer.
   pub open-offered : Offered (lessened near v (codeOf d i)) (openedBy limit near v d i)
   open-offered = by-cases (ltb (codeOf d i) (getD near v 0))
       (λ t. rw t (by-cases (ltb limit d)
@@ -98,6 +99,7 @@ nearest-first near (suc n) h l k v m =
 
 -- A place whose code is the least within the limit, and less than those before it, is the nearest; and where there is none, there is none.
 module _ (near : List ℕ) (limit : ℕ) (long : length near ≡ places) where
+  -- A place with a code within the limit.
   abbrev pub Within : ℕ → Type 0
   Within v = (v < places) × (getD near v 0 < far) × (getD near v 0 / numbering ≤ limit)
 
@@ -110,7 +112,7 @@ module _ (near : List ℕ) (limit : ℕ) (long : length near ≡ places) where
   past : getD near places far ≡ far
   past = List·getD-eq-default near far {n = places} (omega (arith, long))
 
-  pub within-none : ((v : ℕ) → Within v → ⊥) → places ≡ nearestWithin near limit
+  within-none : ((v : ℕ) → Within v → ⊥) → places ≡ nearestWithin near limit
   within-none none = go (nearestTo near places) good
     where
       go : (s : ℕ) → Nearest near places s → places ≡ pick (ltb limit (getD near s far / numbering)) places s
@@ -118,7 +120,7 @@ module _ (near : List ℕ) (limit : ℕ) (long : length near ≡ places) where
           (λ t. rw t)
           (λ t. rw t (⊎-elim (λ o. absurd (none s (o .0, rw (← any s (o .0)) (o .1), rw (← any s (o .0)) (ltb-false _ _ t)))) (λ o. sym o) (w .one)))
 
-  pub within-one : (r : ℕ) → Within r → ((v : ℕ) → Within v → getD near r 0 ≤ getD near v 0) → ((v : ℕ) → v < r → Within v → getD near r 0 < getD near v 0)
+  within-one : (r : ℕ) → Within r → ((v : ℕ) → Within v → getD near r 0 ≤ getD near v 0) → ((v : ℕ) → v < r → Within v → getD near r 0 < getD near v 0)
       → r ≡ nearestWithin near limit
   within-one r h least first = is ∙ sym (rw (← is, any r (h .0), le-ltb limit _ (h .2)))
     where
@@ -152,6 +154,7 @@ pub record Scan (near : List ℕ) (m left at best : ℕ) : Type 0 where
   pub inside : (h : ℕ) → bit h left ≡ true → (u ≤ h) × (h < places)
   pub others : (v : ℕ) → u ≤ v → bit v m ≡ true → bit v left ≡ true
 
+-- None is looked at yet.
 pub scan-none : (limit : ℕ) (near : List ℕ) (m : ℕ) → Open limit near m → Scan near m m places far
 scan-none limit near m w = record {
   u = 0;
@@ -170,7 +173,7 @@ module _ (near : List ℕ) (m left at best : ℕ) (w : Scan near m left at best)
   abbrev rest : ℕ
   rest = bitAnd left (left - 1)
 
-  pub scan-in : (w .u ≤ t) × (t < places)
+  scan-in : (w .u ≤ t) × (t < places)
   scan-in = w .inside t (lowest 64 left some small)
 
   -- No place of the fringe was passed by.
@@ -197,6 +200,7 @@ module _ (near : List ℕ) (m left at best : ℕ) (w : Scan near m left at best)
     | no q ↦ elim (decLe (w .u) v) [ yes o ↦ absurd (between v o (omega arith) b) | no o ↦ omega (arith, k, w .least v (omega arith) b) ]
   ]
 
+  -- One more is looked at, and is nearer.
   pub scan-nearer : getD near t 0 < best → Scan near m rest t (getD near t 0)
   scan-nearer h = record {
     u = t + 1;
@@ -210,6 +214,7 @@ module _ (near : List ℕ) (m left at best : ℕ) (w : Scan near m left at best)
       before : (v : ℕ) → v < t → bit v m ≡ true → getD near t 0 < getD near v 0
       before v l b = elim (decLe (w .u) v) [ yes o ↦ absurd (between v o l b) | no o ↦ omega (arith, h, w .least v (omega arith) b) ]
 
+  -- Or is not.
   pub scan-not : best ≤ getD near t 0 → Scan near m rest at best
   scan-not h = record {
     u = t + 1;
@@ -229,9 +234,7 @@ module _ (limit : ℕ) (near : List ℕ) (m at best : ℕ) (o : Open limit near 
     | no k ↦ w .least v (omega arith) (o .all v (h .0) (h .1) (h .2))
   ]
 
-  pub scan-far : limit < best / numbering → places ≡ nearestWithin near limit
-  scan-far h = within-none near limit long (λ v k. omega (arith, h, no-less v k, k .2))
-
+  -- The first with the least code within the limit is the nearest.
   pub scan-near : best / numbering ≤ limit → at ≡ nearestWithin near limit
   scan-near h = ⊎-elim
       (λ (k : (at < w .u) × (best ≡ getD near at 0) × (best < far) × ((v : ℕ) → v < at → bit v m ≡ true → best < getD near v 0)).

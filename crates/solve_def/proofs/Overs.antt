@@ -23,6 +23,7 @@ abbrev pub over : ℤ → ℕ
 over (pos a) = a
 over (negsuc a) = 0
 
+-- What is over at the first n places.
 unfoldable pub overTo : ℕ → (ℕ → ℤ) → ℕ
 overTo zero z = 0
 overTo (suc n) z = over (z n) + overTo n z
@@ -43,6 +44,7 @@ over-one z e h = ⊎-elim
     (λ (p : dn z ≡ 0). omega (arith, p, over-up z, ap up h, ap dn h, minus-val (pos e) (pos netShift)))
     (parts z)
 
+-- By nets as they are held.
 pub over-held : (es : List ℕ) (z : ℕ → ℤ) → ((u : ℕ) → u < length es → z u ≡ pos (getD es u 0) -ℤ pos netShift) → overTo (length es) z ≡ overSum es
 unfolding overSum overTo
 over-held [] z h = refl

@@ -32,6 +32,7 @@ pub record Running (ss : List Stream) (d s left : ℕ) (st : State) : Type 0 whe
   pub enough : 1 ≤ left → netShift + left * d ≤ getD (st .nets) s 0
   pub most : getD (st .nets) s 0 < netShift + suc left * d
 
+-- Before the first improvement from a place.
 pub running-start : (ss : List Stream) (d s : ℕ) (st : State) → Step d → Underway ss d settledRoom st → Running ss d s ((getD (st .nets) s 0 - netShift) / d) st
 running-start ss d s st step h = record {
   underway = h;
@@ -39,6 +40,7 @@ running-start ss d s st step h = record {
   most = omega (arith, lt-mul-div-succ (getD (st .nets) s 0 - netShift) {b = d} (step .0));
 }
 
+-- With none left to make.
 pub from-none : (ss : List Stream) (d s : ℕ) (st : State) → going st ≡ fromPlace 0 ss d s st
 unfolding fromPlace
 from-none ss d s st = refl
@@ -54,9 +56,11 @@ module _ (ss : List Stream) (d s left : ℕ) (st : State) (found : Bool) (next :
   less : left ≡ suc (left - 1)
   less = omega arith
 
+  -- One is made.
   pub from-next : found ≡ true → fromPlace (left - 1) ss d s next ≡ fromPlace left ss d s st
   from-next f = sym (turn (left - 1) less ∙ rw f)
 
+  -- None can be made.
   pub from-stuck : found ≡ false → pick (overfull ss visited) (endedBy true st visited) (going st) ≡ fromPlace left ss d s st
   from-stuck f = sym (turn (left - 1) less ∙ rw f)
 
@@ -67,6 +71,7 @@ module _ (ss : List Stream) (d s left : ℕ) (st : State) (found : Bool) (next :
     good : Outcome ss d (h .underway .size) s st (improvedBy found next visited)
     good = rw e (improved-good ss v d (h .underway .size) step st (h .underway .sound) (underway-room ss d settledRoom st step (h .underway) s l over) s l over)
 
+    -- After one is made.
     pub running-next : found ≡ true → Running ss d s (left - 1) next
     running-next f = go good
       where
@@ -81,6 +86,7 @@ module _ (ss : List Stream) (d s left : ℕ) (st : State) (found : Bool) (next :
             fewer : left * d ≡ (left - 1) * d + d
             fewer = ap (λ (n : ℕ). n * d) less ∙ omega arith
 
+    -- Where none can be made, the state stays.
     pub stuck-same : found ≡ false → next ≡ st
     stuck-same f = go good
       where
@@ -131,6 +137,7 @@ double n = omega arith
 
 module _ (ss : List Stream) (v : Solvable ss) (d : ℕ) (step : Step d) (st : State) (h : Underway ss d settledRoom st) (n : ℕ) (l : n < places) (now : State)
     (e : phaseTo n ss d st ≡ going now) where
+  -- What holds in a phase after n places.
   pub phase-underway : Underway ss d settledRoom now
   phase-underway = go (phaseTo n ss d st) (phased ss v d settledRoom step (omega arith) n (omega arith) st h) e
     where
@@ -142,6 +149,7 @@ module _ (ss : List Stream) (v : Solvable ss) (d : ℕ) (step : Step d) (st : St
     unfolding phaseTo
     after = rw (add-one, e) (sym q)
 
+    -- One place more.
     pub phase-next : full ≡ false → phaseTo (n + 1) ss d st ≡ going next
     phase-next f = after ∙ ap₂ (λ (b : Bool) (ms : List Bool). endedBy b next ms) f bare
       where
@@ -159,9 +167,11 @@ module _ (ss : List Stream) (v : Solvable ss) (d : ℕ) (step : Step d) (st : St
             go : (r : Ended) → Left ss d settledRoom n now r → endedBy full next marked ≡ r → marked ≡ unmarked
             go r a z = ap (λ (x : Ended). x .marked) z ∙ a .bare (ap (λ (x : Ended). x .full) (sym z) ∙ f)
 
+    -- A set is full.
     pub phase-full : full ≡ true → endedBy full next marked ≡ phase ss d st
     phase-full f = sym after ∙ sym (phase-stays ss d st (n + 1) places (omega arith) (ap (λ (x : Ended). x .full) after ∙ f))
 
+-- All places are done.
 pub phase-end : (ss : List Stream) (d n : ℕ) (st now : State) → n ≡ places → phaseTo n ss d st ≡ going now → going now ≡ phase ss d st
 phase-end ss d n st now e q = sym q ∙ ap (λ (k : ℕ). phaseTo k ss d st) e
 
@@ -176,16 +186,20 @@ pub record Staged (ss : List Stream) (step : ℕ) (h : Hint) : Type 0 where
   pub rest : phases n ss h ≡ phases halvings ss noHint
 
 module _ (ss : List Stream) (v : Solvable ss) where
+  -- Before the first phase.
   pub staged-start : Staged ss mostStep noHint
   staged-start = record { n = halvings; size = 0; is = refl; small = omega arith; fits = omega arith; stage = none-stage ss v; rest = refl }
 
   module _ (step : ℕ) (h : Hint) (s : Staged ss step h) where
+    -- The step of a phase is one.
     pub staged-step : Step step
     staged-step = (rw (s .is) (pow-pos (s .n)), s .small)
 
+    -- Its hint can be settled at.
     pub staged-ready : Ready ss h
     staged-ready = record { size = s .size; start = s .stage .start }
 
+    -- And the state settled there is underway.
     pub staged-underway : Underway ss step settledRoom (settled ss h)
     staged-underway =
         subst (λ (d : ℕ). Underway ss d settledRoom (settled ss h)) (sym (s .is))
@@ -212,6 +226,7 @@ module _ (ss : List Stream) (v : Solvable ss) where
             rest = sym (phases-more n ss h e (rw (← i) q) f) ∙ r;
           }
 
+      -- A set is full in a phase.
       pub staged-full : e .full ≡ true → e ≡ phases halvings ss noHint
       staged-full f = go (s .n) (s .is) (s .rest)
         where

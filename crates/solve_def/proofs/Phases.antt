@@ -49,6 +49,7 @@ module _ (ss : List Stream) (v : Solvable ss) (d t : ℕ) (step : Step d) (fits 
   same-left : (s : ℕ) (st : State) → Underway ss d t st → Small d (getD (st .nets) s 0) → Left ss d t s st (going st)
   same-left s st h l = record { underway = h; found = λ e. absurd (true≢false (sym e)); bare = λ e. refl; small = λ e. l; others = λ u. inl (omega arith) }
 
+  -- Improvements from one place leave less than a step there.
   pub from-left : (k s : ℕ) (st : State) → s < places → Underway ss d t st → (1 ≤ k → netShift + k * d ≤ getD (st .nets) s 0)
       → getD (st .nets) s 0 < netShift + suc k * d → Left ss d t s st (fromPlace k ss d s st)
   unfolding fromPlace
@@ -94,6 +95,7 @@ module _ (ss : List Stream) (v : Solvable ss) (d t : ℕ) (step : Step d) (fits 
             mul-le-mul-right (d - 1) (v .plain .few),
           )))))
 
+  -- The first n places of a phase.
   pub phased : (n : ℕ) → n ≤ places → (st : State) → Underway ss d t st → Phased ss d t n (phaseTo n ss d st)
   unfolding phaseTo
   phased zero l st h = record { underway = h; found = λ e. absurd (true≢false (sym e)); bare = λ e. refl; small = λ e u m. absurd (omega arith) }
@@ -136,10 +138,12 @@ pub record Finished (ss : List Stream) (r : Ended) : Type 0 where
   pub bare : r .full ≡ false → r .marked ≡ unmarked
   pub none : r .full ≡ false → (u : ℕ) → u < places → getD (r .state .nets) u 0 ≤ netShift
 
+-- A wider range of unmetered amounts.
 pub underway-more : (ss : List Stream) (d t u : ℕ) (st : State) → t ≤ u → Underway ss d t st → Underway ss d u st
 underway-more ss d t u st l h = record { size = h .size; sound = h .sound; fits = omega (arith, h .fits) }
 
 module _ (ss : List Stream) (v : Solvable ss) where
+  -- The phase at step 1 finishes the flow.
   pub last-phase : (t : ℕ) (st : State) → t ≤ settledRoom → Underway ss 1 t st → Finished ss (phase ss 1 st)
   last-phase t st l h = go (phase ss 1 st) (phased ss v 1 t (omega arith, omega arith) l places (omega arith) st h)
     where
@@ -151,7 +155,7 @@ module _ (ss : List Stream) (v : Solvable ss) where
         none = λ e u m. omega (arith, a .small e u m);
       }
 
--- Amounts and prices before the phase at step 2^n, the unmetered amounts of size t at most.
+-- Amounts and potentials before the phase at step 2^n, the unmetered amounts of size t at most.
 pub record Stage (ss : List Stream) (n t : ℕ) (h : Hint) : Type 0 where
   pub start : Start ss t h
   pub over : overSum (settled ss h .nets) + 2 * maxStreams * 2 ^ n ≤ mostOver
@@ -165,6 +169,7 @@ module _ (ss : List Stream) (v : Solvable ss) where
     fits = omega (arith, steps-over (2 ^ n) (settled ss h .nets), s .over);
   }
 
+  -- A phase at step 2^n.
   pub stage-phased : (n t : ℕ) (h : Hint) → Stage ss n t h → 2 ^ n ≤ mostStep → t + mostOver ≤ settledRoom
       → Phased ss (2 ^ n) (t + mostOver) places (phase ss (2 ^ n) (settled ss h))
   stage-phased n t h s l m = phased ss v (2 ^ n) (t + mostOver) (pow-pos n, l) m places (omega arith) (settled ss h) (stage-underway n t h s)
@@ -182,6 +187,7 @@ module _ (ss : List Stream) (v : Solvable ss) where
       again : Start ss (r .underway .size) (asHint (e .state))
       again = again-start ss v (2 ^ suc n) (r .underway .size) (e .state) (r .underway .sound) small
 
+  -- All phases, down to step 1.
   pub phases-good : (n t : ℕ) (h : Hint) → 2 ^ n ≤ mostStep → t + suc n * mostOver ≤ settledRoom → Stage ss n t h → Finished ss (phases n ss h)
   unfolding phases
   phases-good zero t h l m s = last-phase ss v (t + mostOver) (settled ss h) (omega arith) (stage-underway 0 t h s)

@@ -25,11 +25,13 @@ abbrev pub reached : ℕ → List ℕ → ℕ → ℕ → Bool
 reached root ends zero v = eqb root v
 reached root ends (suc j) v = eqb (getD ends j 0) v || reached root ends j v
 
+-- What is reached stays reached.
 pub reached-more : (root : ℕ) (ends : List ℕ) (j k v : ℕ) → j ≤ k → reached root ends j v ≡ true → reached root ends k v ≡ true
 reached-more root ends j zero v l h = let e : j ≡ 0 = omega arith in rw e at h
 reached-more root ends j (suc k) v l h =
     elim (ℕ-discrete j (suc k)) [ yes e ↦ rw e at h | no e ↦ or-right (eqb (getD ends k 0) v) (reached root ends k v) (reached-more root ends j k v (omega arith) h) ]
 
+-- The place visited last is reached.
 pub reached-new : (root : ℕ) (ends : List ℕ) (j : ℕ) → reached root ends (suc j) (getD ends j 0) ≡ true
 reached-new root ends j = rw (eq-eqb (getD ends j 0) (getD ends j 0) refl)
 
@@ -39,7 +41,8 @@ pub record Link (ss : List Stream) (xs ps : List ℕ) (d root : ℕ) (via ends :
   pub fresh : reached root ends k (getD ends k 0) ≡ false
   pub joins : reached root ends k (otherEnd (streamAt ss (getD via k 0)) (getD ends k 0)) ≡ true
   pub touch : eqb (streamAt ss (getD via k 0) .to) (getD ends k 0) ≡ false → streamAt ss (getD via k 0) .from ≡ getD ends k 0
-  pub tight : slackBy (streamAt ss (getD via k 0)) (eqb (streamAt ss (getD via k 0) .to) (getD ends k 0)) (getD xs (getD via k 0) 0) (getD ps (streamAt ss (getD via k 0) .from) 0) (getD ps (streamAt ss (getD via k 0) .to) 0) d
+  pub tight : slackBy (streamAt ss (getD via k 0)) (eqb (streamAt ss (getD via k 0) .to) (getD ends k 0)) (getD xs (getD via k 0) 0)
+      (getD ps (streamAt ss (getD via k 0) .from) 0) (getD ps (streamAt ss (getD via k 0) .to) 0) d
       ≡ 0
   pub room : d ≤ getD xs (getD via k 0) 0
 
@@ -67,7 +70,7 @@ moved-held s x pu pv d c h t r = go (eqb (s .to) c) t (open-of (eqb (s .to) c) s
         let f : weightOf s * (y + d) ≡ weightOf s * x = ap (λ k. weightOf s * k) e in
         record { low = λ q. omega (arith, slack-open false s x pu pv d o, t, h .low o, f); high = λ q. omega (arith, slack-open false s x pu pv d o, t, h .low o, f) }
 
-pub moved-inside : (s : Stream) (x pu pv d c : ℕ) → slackBy s (eqb (s .to) c) x pu pv d ≡ 0 → (lowOf s ≤ x) × (x ≤ highOf s)
+moved-inside : (s : Stream) (x pu pv d c : ℕ) → slackBy s (eqb (s .to) c) x pu pv d ≡ 0 → (lowOf s ≤ x) × (x ≤ highOf s)
     → (lowOf s ≤ movedOf s x c d) × (movedOf s x c d ≤ highOf s)
 moved-inside s x pu pv d c t r = go (eqb (s .to) c) (open-of (eqb (s .to) c) s x pu pv d (omega arith))
   where
@@ -113,7 +116,7 @@ module _ (ss : List Stream) (ps : List ℕ) (d root : ℕ) (via ends : List ℕ)
       (λ t. (rw (h .touch t) (reached-more root ends (suc k) j (getD ends k 0) l (reached-new root ends k)), reached-more root ends k j _ (omega arith) (rw t at (h .joins))))
 
   -- so that it is not one of the later ones.
-  pub apart : (xs : List ℕ) (k j : ℕ) → k < j → Link ss xs ps d root via ends k → Link ss xs ps d root via ends j → getD via k 0 ≡ getD via j 0 → ⊥
+  apart : (xs : List ℕ) (k j : ℕ) → k < j → Link ss xs ps d root via ends k → Link ss xs ps d root via ends j → getD via k 0 ≡ getD via j 0 → ⊥
   apart xs k j l h g e = by-cases (eqb (streamAt ss (getD via j 0) .to) (getD ends j 0))
       (λ t. let q : streamAt ss (getD via j 0) .to ≡ getD ends j 0 = eqb-true (streamAt ss (getD via j 0) .to) (getD ends j 0) t in
       clash _ (rw (e, q) at (both-reached xs k j l h .1)) (g .fresh))
@@ -129,7 +132,8 @@ module _ (ss : List Stream) (ps : List ℕ) (d root : ℕ) (via ends : List ℕ)
 
   -- The last of them leads to the place, or it does not.
   hit : (j : ℕ) → Rec j → (xs : List ℕ) → length ss ≤ length xs → AllHeld ss xs ps d → ((k : ℕ) → k < suc j → Link ss xs ps d root via ends k)
-      → Pushed ss xs (pushed ss via ends d j (otherEnd (streamAt ss (getD via j 0)) (getD ends j 0)) (set xs (getD via j 0) (movedOf (streamAt ss (getD via j 0)) (getD xs (getD via j 0) 0) (getD ends j 0) d))) ps d (getD ends j 0) root via (suc j)
+      → Pushed ss xs (pushed ss via ends d j (otherEnd (streamAt ss (getD via j 0)) (getD ends j 0))
+      (set xs (getD via j 0) (movedOf (streamAt ss (getD via j 0)) (getD xs (getD via j 0) 0) (getD ends j 0) d))) ps d (getD ends j 0) root via (suc j)
   unfolding Rec
   hit j rec xs long held links = record {
     long = r .long ∙ length-set xs i y;
@@ -175,7 +179,8 @@ module _ (ss : List Stream) (ps : List ℕ) (d root : ℕ) (via ends : List ℕ)
 
       held′ : AllHeld ss zs ps d
       held′ k l = by-cases (eqb i k)
-          (λ t. let q : i ≡ k = eqb-true i k t in subst (λ (m : ℕ). HeldAt ss zs ps d m) q (rw (here i (eq-eqb i i refl)) (moved-held s x (getD ps (s .from) 0) (getD ps (s .to) 0) d e (held i (g .inside)) (g .tight) (g .room))))
+          (λ t. let q : i ≡ k = eqb-true i k t in subst (λ (m : ℕ). HeldAt ss zs ps d m) q
+          (rw (here i (eq-eqb i i refl)) (moved-held s x (getD ps (s .from) 0) (getD ps (s .to) 0) d e (held i (g .inside)) (g .tight) (g .room))))
           (λ t. rw (else k t) (held k l))
 
       links′ : (k : ℕ) → k < j → Link ss zs ps d root via ends k
@@ -198,7 +203,8 @@ module _ (ss : List Stream) (ps : List ℕ) (d root : ℕ) (via ends : List ℕ)
 
       step : (u : ℕ) → up (net ss zs u) + dn (net ss xs u) + pick (eqb (otherEnd s e) u) d 0 ≡ up (net ss xs u) + dn (net ss zs u) + pick (eqb e u) d 0
       step u = step-net (eqb (s .to) e) (eqb (s .to) u) (eqb (s .from) u) (eqb e u) (eqb (otherEnd s e) u) x d _ _ (g .room)
-          (λ t. ap (λ (v : ℕ). eqb v u) (sym (eqb-true (s .to) e t))) (λ t. ap (λ (v : ℕ). eqb v u) (sym (g .touch t))) (eqb-pick (eqb (s .to) e) (s .from) (s .to) u) (net-set u ss xs i y (g .inside) li)
+          (λ t. ap (λ (v : ℕ). eqb v u) (sym (eqb-true (s .to) e t))) (λ t. ap (λ (v : ℕ). eqb v u) (sym (g .touch t))) (eqb-pick (eqb (s .to) e) (s .from) (s .to) u)
+          (net-set u ss xs i y (g .inside) li)
 
       nets : (u : ℕ) → up (net ss ys u) + dn (net ss xs u) + pick (eqb root u) d 0 ≡ up (net ss xs u) + dn (net ss ys u) + pick (eqb e u) d 0
       nets u = omega (arith, r .nets u, step u)
@@ -209,6 +215,7 @@ module _ (ss : List Stream) (ps : List ℕ) (d root : ℕ) (via ends : List ℕ)
   miss j rec c xs long held links h = let r = rec c xs long held (λ k l. links k (omega arith)) h in
       record { long = r .long; held = r .held; nets = r .nets; most = r .most; least = r .least; off = λ k n. r .off k (λ m l. n m (omega arith)); inside = r .inside }
 
+  -- What the push from c back to the root leaves.
   pub push-good : (j c : ℕ) (xs : List ℕ) → length ss ≤ length xs → AllHeld ss xs ps d → ((k : ℕ) → k < j → Link ss xs ps d root via ends k)
       → reached root ends j c ≡ true → Pushed ss xs (pushed ss via ends d j c xs) ps d c root via j
   unfolding pushed Rec
@@ -217,6 +224,7 @@ module _ (ss : List Stream) (ps : List ℕ) (d root : ℕ) (via ends : List ℕ)
   push-good (suc j) c xs long held links h = go (eqb (getD ends j 0) c) refl (push-good j) h
     where
       go : (b : Bool) → eqb (getD ends j 0) c ≡ b → Rec j → b || reached root ends j c ≡ true
-          → Pushed ss xs (pick b (pushed ss via ends d j (otherEnd (streamAt ss (getD via j 0)) c) (set xs (getD via j 0) (movedOf (streamAt ss (getD via j 0)) (getD xs (getD via j 0) 0) c d))) (pushed ss via ends d j c xs)) ps d c root via (suc j)
+          → Pushed ss xs (pick b (pushed ss via ends d j (otherEnd (streamAt ss (getD via j 0)) c)
+          (set xs (getD via j 0) (movedOf (streamAt ss (getD via j 0)) (getD xs (getD via j 0) 0) c d))) (pushed ss via ends d j c xs)) ps d c root via (suc j)
       go true e rec h = let q : getD ends j 0 ≡ c = eqb-true (getD ends j 0) c e in rw (← q) (hit j rec xs long held links)
       go false e rec h = miss j rec c xs long held links h

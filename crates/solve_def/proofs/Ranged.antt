@@ -19,6 +19,7 @@ pub record Ranged (s : Stream) : Type 0 where
   pub wide : lowOf s ≡ 0 → highOf s ≡ mostFlow
   pub free : s .metered ≡ false → lowOf s ≡ 0
 
+-- The range of a stream that is read is such.
 pub ranged : {n : ℕ} (s : Stream) → WithinStream n s → Ranged s
 ranged s w = record {
   ordered = low-high s w;

@@ -28,6 +28,7 @@ use Rattle.solve_def.proofs.Finds.{Slacked, heads, tails, usable-slack,
 pub goal-hit : (v : ℕ) → v < places → getD (goalAt v) v 0 < netShift
 goal-hit v l = rw (getD-set-same (replicate places netShift) v 0 0 l) (omega arith)
 
+-- Another place than the goal has no negative net.
 pub goal-miss : (v u : ℕ) → u < places → (u ≡ v → ⊥) → netShift ≤ getD (goalAt v) u 0
 goal-miss v u l q = rw (getD-set-other (replicate places netShift) v u 0 0 q, getD-replicate places u netShift 0 l) (omega arith)
 
@@ -154,7 +155,7 @@ module _ (streams : List Stream) (n : ℕ) (xs ps : List ℕ) (skip : ℕ) (fs t
   abbrev grownOf : Walked → Grown
   grownOf w = grownBy (w .found) (w .tree) ps
 
-  pub walk-tight : (l e : ℕ) (ks near : List ℕ) (t : Tree) → Tight e ks near t
+  walk-tight : (l e : ℕ) (ks near : List ℕ) (t : Tree) → Tight e ks near t
       → tightPath ss n xs ps v skip l t ≡ grownOf (walked fs ts gs bs n (goalAt v) 0 l 0 e ks near t)
   walk-tight zero e ks near t g = path-end streams n xs ps v skip t ∙ ap grownOf (sym (walk-end fs ts gs bs n (goalAt v) 0 0 e ks near t))
   walk-tight (suc l) e ks near t g = elim (ℕ-discrete (r l e ks near t g) places) [

@@ -22,12 +22,14 @@ module _ (streams : List Stream) (n : ℕ) (xs es : List ℕ) (d : ℕ) (ps : Li
   grow-none zero p e = absurd (omega arith)
   grow-none (suc l) p e = simp e
 
+  -- No open stream leaves the visited places.
   pub grow-stop : (l i g : ℕ) → 0 < l → leastTo (take n streams) xs ps (t .visited) d 0 n ≡ At i g → farthest ≤ g
       → grow (take n streams) n xs es d l ps t ≡ grownBy false t ps
   unfolding grow
   grow-stop zero i g p e h = absurd (omega arith)
   grow-stop (suc l) i g p e h = simp (e, le-leb farthest g h)
 
+  -- The place over the stream of least slack has a negative net.
   pub grow-hit : (l i g : ℕ) → 0 < l → i < n → leastTo (take n streams) xs ps (t .visited) d 0 n ≡ At i g → g < farthest
       → getD es (farEnd (t .visited) (getD streams i noStream)) 0 < netShift
       → grow (take n streams) n xs es d l ps t ≡ grownBy true (addedTo t i (farEnd (t .visited) (getD streams i noStream))) (loweredBy (t .visited) g ps)
@@ -35,6 +37,7 @@ module _ (streams : List Stream) (n : ℕ) (xs es : List ℕ) (d : ℕ) (ps : Li
   grow-hit zero i g p k e m h = absurd (omega arith)
   grow-hit (suc l) i g p k e m h = simp (e, lt-leb farthest g m, getD-take n streams i noStream k, lt-ltb _ _ h)
 
+  -- It has none, and the search goes on.
   pub grow-more : (l i g : ℕ) → 0 < l → i < n → leastTo (take n streams) xs ps (t .visited) d 0 n ≡ At i g → g < farthest
       → netShift ≤ getD es (farEnd (t .visited) (getD streams i noStream)) 0
       → grow (take n streams) n xs es d l ps t
@@ -43,23 +46,27 @@ module _ (streams : List Stream) (n : ℕ) (xs es : List ℕ) (d : ℕ) (ps : Li
   grow-more zero i g p k e m h = absurd (omega arith)
   grow-more (suc l) i g p k e m h = let z : suc l - 1 ≡ l = omega arith in rw z (simp (e, lt-leb farthest g m, getD-take n streams i noStream k, le-ltb _ _ h))
 
+  -- No rounds are left.
   pub grow-end : grow (take n streams) n xs es d 0 ps t ≡ grownBy false t ps
   unfolding grow
   grow-end = refl
 
 -- The search over streams without slack: none leaves; the least has slack; the new place is v; or it is not.
 module _ (streams : List Stream) (n : ℕ) (xs ps : List ℕ) (v skip : ℕ) (t : Tree) where
+  -- The same of the search over streams without slack: no stream leaves.
   pub path-none : (l : ℕ) → 0 < l → leastTo (take n streams) xs ps (t .visited) 1 skip n ≡ Nothing → tightPath (take n streams) n xs ps v skip l t ≡ grownBy false t ps
   unfolding tightPath
   path-none zero p e = absurd (omega arith)
   path-none (suc l) p e = simp e
 
+  -- The stream of least slack has some.
   pub path-stop : (l i g : ℕ) → 0 < l → leastTo (take n streams) xs ps (t .visited) 1 skip n ≡ At i g → 0 < g
       → tightPath (take n streams) n xs ps v skip l t ≡ grownBy false t ps
   unfolding tightPath
   path-stop zero i g p e h = absurd (omega arith)
   path-stop (suc l) i g p e h = simp (e, lt-ltb 0 g h)
 
+  -- The place over it is the goal.
   pub path-hit : (l i g : ℕ) → 0 < l → i < n → leastTo (take n streams) xs ps (t .visited) 1 skip n ≡ At i g → g ≤ 0
       → farEnd (t .visited) (getD streams i noStream) ≡ v
       → tightPath (take n streams) n xs ps v skip l t ≡ grownBy true (addedTo t i (farEnd (t .visited) (getD streams i noStream))) ps
@@ -68,6 +75,7 @@ module _ (streams : List Stream) (n : ℕ) (xs ps : List ℕ) (v skip : ℕ) (t 
   path-hit (suc l) i g p k e h q =
       simp (e, le-ltb 0 g h, getD-take n streams i noStream k, eq-eqb (farEnd (t .visited) (getD streams i noStream)) v q)
 
+  -- It is not, and the search goes on.
   pub path-more : (l i g : ℕ) → 0 < l → i < n → leastTo (take n streams) xs ps (t .visited) 1 skip n ≡ At i g → g ≤ 0
       → (farEnd (t .visited) (getD streams i noStream) ≡ v → ⊥)
       → tightPath (take n streams) n xs ps v skip l t
@@ -78,12 +86,14 @@ module _ (streams : List Stream) (n : ℕ) (xs ps : List ℕ) (v skip : ℕ) (t 
       let z : suc l - 1 ≡ l = omega arith in
       rw z (simp (e, le-ltb 0 g h, getD-take n streams i noStream k, ne-eqb (farEnd (t .visited) (getD streams i noStream)) v q))
 
+  -- No rounds are left.
   pub path-end : tightPath (take n streams) n xs ps v skip 0 t ≡ grownBy false t ps
   unfolding tightPath
   path-end = refl
 
 -- The push: the remembered stream led to the place, or it did not.
 module _ (streams : List Stream) (n : ℕ) (via ends : List ℕ) (d : ℕ) where
+  -- The last remembered stream leads to the place.
   pub push-hit : (j c : ℕ) (xs : List ℕ) → 0 < j → getD via (j - 1) 0 < n → getD ends (j - 1) 0 ≡ c
       → pushed (take n streams) via ends d j c xs
       ≡ pushed (take n streams) via ends d (j - 1) (otherEnd (getD streams (getD via (j - 1) 0) noStream) c)
@@ -94,6 +104,7 @@ module _ (streams : List Stream) (n : ℕ) (via ends : List ℕ) (d : ℕ) where
       let e : suc j - 1 ≡ j = omega arith in
       rw e (simp (eq-eqb (getD ends j 0) c (rw e at h), getD-take n streams (getD via j 0) noStream (rw e at k)))
 
+  -- It does not.
   pub push-miss : (j c : ℕ) (xs : List ℕ) → 0 < j → (getD ends (j - 1) 0 ≡ c → ⊥)
       → pushed (take n streams) via ends d j c xs ≡ pushed (take n streams) via ends d (j - 1) c xs
   unfolding pushed

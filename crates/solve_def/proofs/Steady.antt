@@ -43,18 +43,21 @@ over-set [] i y l = absurd (omega arith)
 over-set (e ∷ es) zero y l = omega arith
 over-set (e ∷ es) (suc i) y l = omega (arith, over-set es i y (omega arith))
 
+-- What is over at one place is no more than at all.
 pub over-at : (es : List ℕ) (u : ℕ) → getD es u 0 ≤ netShift + overSum es
 unfolding overSum
 over-at [] u = omega arith
 over-at (e ∷ es) zero = omega arith
 over-at (e ∷ es) (suc u) = omega (arith, over-at es u)
 
+-- What a store of one net does to the steps that are over.
 pub steps-set : (d : ℕ) (es : List ℕ) (i y : ℕ) → i < length es → stepsOver d (set es i y) + (getD es i 0 - netShift) / d ≡ stepsOver d es + (y - netShift) / d
 unfolding stepsOver
 steps-set d [] i y l = absurd (omega arith)
 steps-set d (e ∷ es) zero y l = omega arith
 steps-set d (e ∷ es) (suc i) y l = omega (arith, steps-set d es i y (omega arith))
 
+-- So many steps are over.
 pub steps-over : (d : ℕ) (es : List ℕ) → d * stepsOver d es ≤ overSum es
 unfolding stepsOver overSum
 steps-over d [] = omega arith
@@ -91,10 +94,12 @@ module _ (es : List ℕ) (s v d : ℕ) (ls : s < length es) (lv : v < length es)
   unfolding fs
   fs-long = length-set es s (getD es s 0 - d)
 
+  -- As many nets as before.
   pub shifted-long : length (shiftedNets es s v d) ≡ length es
   unfolding fs
   shifted-long = length-set fs v (getD fs v 0 + d) ∙ fs-long
 
+  -- Each net after a shift.
   pub shifted-at : (u : ℕ) → getD (shiftedNets es s v d) u 0 + pick (eqb s u) d 0 ≡ getD es u 0 + pick (eqb v u) d 0
   unfolding fs
   shifted-at u = rw (get-set fs v u (getD fs v 0 + d) 0 (rw fs-long lv), get-set es s u (getD es s 0 - d) 0 ls) (by-cases (eqb v u)
@@ -102,10 +107,12 @@ module _ (es : List ℕ) (s v d : ℕ) (ls : s < length es) (lv : v < length es)
       let b : eqb s u ≡ false = ne-eqb s u (λ o. ne (o ∙ sym q)) in rw (a, b) (omega (arith, fs-v, ap (λ (k : ℕ). getD es k 0) q)))
       (λ a. by-cases (eqb s u) (λ b. let q : s ≡ u = eqb-true s u b in rw (a, b) (omega (arith, ap (λ (k : ℕ). getD es k 0) q))) (λ b. rw (a, b))))
 
+  -- Less is over after it.
   pub shifted-less : 1 ≤ d → overSum (shiftedNets es s v d) < overSum es
   unfolding fs
   shifted-less l = omega (arith, over-set fs v (getD fs v 0 + d) (rw fs-long lv), over-set es s (getD es s 0 - d) ls, fs-v)
 
+  -- Namely one step.
   pub shifted-step : 1 ≤ d → stepsOver d (shiftedNets es s v d) + 1 ≡ stepsOver d es
   unfolding fs
   shifted-step l =
@@ -141,11 +148,13 @@ module _ (es : List ℕ) (s v d : ℕ) (ls : s < length es) (lv : v < length es)
       kept : getD (shiftedNets es s v d) u 0 + pick (eqb s u) d 0 ≡ getD es u 0 + 0 → getD (shiftedNets es s v d) u 0 ≤ getD es u 0
       kept h = omega (arith, h)
 
--- A state: its nets by value, prices that agree by the step condition, and amounts that have room.
+-- A state: its nets by value, potentials that agree by the step condition, and amounts that have room.
 module _ (ss : List Stream) (v : Solvable ss) (d b : ℕ) (step : Step d) (st : State) (h : Sound ss d b st) (fits : b ≤ settledRoom) where
+  -- The nets of a sound state are those of its flow.
   pub nets-val : (u : ℕ) → u < places → up (net ss (st .flows) u) + netShift ≡ getD (st .nets) u 0 + dn (net ss (st .flows) u)
   nets-val u l = rw (h .nets u l) (omega (arith, minus-val (pos (getD (st .nets) u 0)) (pos netShift)))
 
+  -- Its amounts are in the room of the solver.
   pub sound-close : (k : ℕ) → k < maxStreams → Close settledRoom (getD (st .flows) k 0)
   sound-close k l = go (streamAt ss k .metered) refl
     where
@@ -159,9 +168,11 @@ module _ (ss : List Stream) (v : Solvable ss) (d b : ℕ) (step : Step d) (st : 
       ]
       go false e = free e
 
+  -- And each has room for a step.
   pub sound-room : (k : ℕ) → k < length ss → (d ≤ getD (st .flows) k 0) × (getD (st .flows) k 0 + d ≤ mostFlow)
   sound-room k l = let r = sound-close k (omega (arith, v .plain .few)) in (omega (arith, r .1, step .1), omega (arith, r .0, step .1))
 
+-- The step condition makes the ends of unmetered streams agree.
 pub held-agreed : (ss : List Stream) → Solvable ss → (xs ps : List ℕ) (d : ℕ)
     → ((k : ℕ) → k < length ss → streamAt ss k .metered ≡ false → (d ≤ getD xs k 0) × (getD xs k 0 + d ≤ mostFlow))
     → AllHeld ss xs ps d → Agreed ss ps
@@ -179,6 +190,7 @@ pub record Better (ss : List Stream) (d b s : ℕ) (st r : State) : Type 0 where
   pub source : getD (r .nets) s 0 + d ≡ getD (st .nets) s 0
   pub others : (u : ℕ) → (getD (r .nets) u 0 ≤ getD (st .nets) u 0) ⊎ (getD (r .nets) u 0 < netShift + d)
 
+-- What an improvement comes to.
 pub data Outcome (ss : List Stream) (d b s : ℕ) (st : State) (r : Improved) : Type 0 where
   better : r .done ≡ true → Better ss d b s st (r .state) → Outcome ss d b s st r
   jammed : r .done ≡ false → r .state ≡ st → Stuck maxUnits ss (st .flows) (st .nets) d s (r .visited) → Outcome ss d b s st r
@@ -192,19 +204,19 @@ module _ (ss : List Stream) (v : Solvable ss) (d b : ℕ) (step : Step d) (st : 
   values = nets-val ss v d b step st h (omega arith)
 
   -- The search finds a place with a negative net, or is stuck.
-  pub finds : Hunt maxUnits ss (st .flows) (st .nets) d s (st .prices) (sought ss (st .flows) (st .nets) (st .prices) d s)
+  pub finds : Hunt maxUnits ss (st .flows) (st .nets) d s (st .potentials) (sought ss (st .flows) (st .nets) (st .potentials) d s)
   finds =
       hunt maxUnits ss (v .plain) (st .flows) (st .nets) d (step .1) s (omega arith) (λ k l. sound-room ss v d b step st h (omega arith) k l .0) moderate
-      (st .prices) (h .capped) (h .floor) (h .held) (omega arith)
+      (st .potentials) (h .capped) (h .floor) (h .held) (omega arith)
 
-  pushed-better : (g : Grown) → Found maxUnits ss (st .flows) (st .nets) d s (st .prices) g → Better ss d b s st (pushedOn ss st d s g)
+  pushed-better : (g : Grown) → Found maxUnits ss (st .flows) (st .nets) d s (st .potentials) g → Better ss d b s st (pushedOn ss st d s g)
   pushed-better g r = record {
     sound = record {
       held = floors .held;
       inside = p .inside (h .inside);
       agreed = floors .agreed;
       long = p .long ∙ h .long;
-      priced = floors .priced;
+      per-place = floors .per-place;
       netted = shifted-long es s w d lls llw ne over (r .negative) ∙ h .netted;
       nets = λ u l. net-value (net ss ys u) (getD (shiftedNets es s w d) u 0) (omega (arith, values u l, p .nets u, shifted-at es s w d lls llw ne over (r .negative) u));
       floor = floors .floor;
@@ -246,9 +258,9 @@ module _ (ss : List Stream) (v : Solvable ss) (d b : ℕ) (step : Step d) (st : 
           let q : g .tree .len ≡ suc (g .tree .len - 1) = omega (arith, r .some) in
           subst (λ (j : ℕ). reached s (g .tree .ends) j w ≡ true) (sym q) (reached-new s (g .tree .ends) (g .tree .len - 1))
 
-      p : Pushed ss (st .flows) (pushed ss (g .tree .via) (g .tree .ends) d (g .tree .len) w (st .flows)) (g .prices) d w s (g .tree .via) (g .tree .len)
+      p : Pushed ss (st .flows) (pushed ss (g .tree .via) (g .tree .ends) d (g .tree .len) w (st .flows)) (g .potentials) d w s (g .tree .via) (g .tree .len)
       p =
-          push-good ss (g .prices) d s (g .tree .via) (g .tree .ends) (g .tree .len) w (st .flows) (omega (arith, h .long, v .plain .few)) (r .grown .held)
+          push-good ss (g .potentials) d s (g .tree .via) (g .tree .ends) (g .tree .len) w (st .flows) (omega (arith, h .long, v .plain .few)) (r .grown .held)
           (r .grown .links) reach
 
       -- Amounts move by d at most: they are moderate still, and unmetered ones have room.
@@ -261,15 +273,16 @@ module _ (ss : List Stream) (v : Solvable ss) (d b : ℕ) (step : Step d) (st : 
           let r = h .close k (omega (arith, v .plain .few)) e in
           (omega (arith, r .1, p .least k, step .1, fits), omega (arith, r .0, p .most k, step .1, fits))
 
-      floors : Floors ss ys d (pushedOn ss st d s g .prices)
+      floors : Floors ss ys d (pushedOn ss st d s g .potentials)
       floors =
-          refloored-floors ss v ys (g .prices) d (step .1) still (r .long ∙ h .priced) (λ u l. omega (arith, h .capped u l, r .rise u)) (p .held)
-          (held-agreed ss v ys (g .prices) d roomy (p .held))
+          refloored-floors ss v ys (g .potentials) d (step .1) still (r .long ∙ h .per-place) (λ u l. omega (arith, h .capped u l, r .rise u)) (p .held)
+          (held-agreed ss v ys (g .potentials) d roomy (p .held))
 
+  -- Every improvement comes to one of these.
   pub improved-good : Outcome ss d b s st (improvedAt ss st d s)
-  improved-good = go (sought ss (st .flows) (st .nets) (st .prices) d s) finds
+  improved-good = go (sought ss (st .flows) (st .nets) (st .potentials) d s) finds
     where
-      go : (g : Grown) → Hunt maxUnits ss (st .flows) (st .nets) d s (st .prices) g
+      go : (g : Grown) → Hunt maxUnits ss (st .flows) (st .nets) d s (st .potentials) g
           → Outcome ss d b s st (improvedBy (g .found) (pick (g .found) (pushedOn ss st d s g) st) (g .tree .visited))
       go g (hit e f) = rw e (better refl (pushed-better g f))
       go g (stuck e f) = rw e (jammed refl refl f)

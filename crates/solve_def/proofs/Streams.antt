@@ -19,6 +19,7 @@ use Rattle.solve_def.proofs.Bounds.{reading-close}
 use Rattle.solve_def.proofs.Ranged.{Ranged, ranged}
 use Rattle.solve_def.proofs.Growing.{Plain}
 
+-- Streams of a network that can be solved.
 pub record Solvable (ss : List Stream) : Type 0 where
   pub plain : Plain maxUnits ss
   pub weighed : (k : ℕ) → k < length ss → streamAt ss k .metered ≡ true → 1 ≤ streamAt ss k .weight
@@ -28,7 +29,7 @@ pub record Solvable (ss : List Stream) : Type 0 where
 
 -- Streams within the limits of a plant.
 module _ {n : ℕ} (ss : List Stream) (small : n ≤ maxUnits) (few : length ss ≤ maxStreams) (each : (k : ℕ) → k < length ss → WithinStream n (streamAt ss k)) where
-  pub plain-in : Plain maxUnits ss
+  plain-in : Plain maxUnits ss
   plain-in = record {
     inside = λ k l. (omega (arith, each k l .from-in), omega (arith, each k l .to-in));
     small = omega arith;
@@ -37,6 +38,7 @@ module _ {n : ℕ} (ss : List Stream) (small : n ≤ maxUnits) (few : length ss 
     read = λ k l m. reading-close (streamAt ss k .reading) (omega (arith, each k l .in-range m));
   }
 
+  -- Streams within the limits are such.
   pub solvable-with : Solvable ss
   solvable-with = record {
     plain = plain-in;
@@ -50,6 +52,7 @@ module _ {n : ℕ} (ss : List Stream) (small : n ≤ maxUnits) (few : length ss 
 pub stream-is : (streams : List Stream) (n k : ℕ) → k < n → streamAt (take n streams) k ≡ getD streams k noStream
 stream-is streams n k l = getD-take n streams k noStream l
 
+-- The streams in use are n.
 pub in-use : (streams : List Stream) (n : ℕ) → Network streams n → length (take n streams) ≡ n
 in-use streams n w = length-take-le n streams (omega (arith, w .long, w .within .few-streams))
 
@@ -63,8 +66,6 @@ module _ (streams : List Stream) (n : ℕ) (w : Network streams n) where
       at : k < n
       at = rw (in-use streams n w) at l
 
-  pub plain-of : Plain maxUnits (take n streams)
-  plain-of = plain-in (take n streams) (omega arith) few-of each-of
-
+  -- The streams in use of an array are such.
   pub solvable-of : Solvable (take n streams)
   solvable-of = solvable-with (take n streams) (omega arith) few-of each-of

@@ -13,10 +13,11 @@ sum-const zero a = ap pos (omega arith)
 sum-const (suc n) a = ap (λ (z : ℤ). pos a +ℤ z) (sum-const n a) ∙ ap pos (omega arith)
 
 -- Where no part is below 0, the sum is not, and no part is above it.
-pub sum-least : (n : ℕ) (f : ℕ → ℤ) → ((k : ℕ) → k < n → Le (pos 0) (f k)) → Le (pos 0) (sum n f)
+sum-least : (n : ℕ) (f : ℕ → ℤ) → ((k : ℕ) → k < n → Le (pos 0) (f k)) → Le (pos 0) (sum n f)
 sum-least zero f h = omega arith
 sum-least (suc n) f h = omega (arith, h n (omega arith), sum-least n f (λ k l. h k (omega arith)), plus-val (f n) (sum n f))
 
+-- Each part of a sum of which none is below 0 is at most the sum.
 pub sum-holds : (n : ℕ) (f : ℕ → ℤ) → ((k : ℕ) → k < n → Le (pos 0) (f k)) → (k : ℕ) → k < n → Le (f k) (sum n f)
 sum-holds zero f h k l = absurd (omega arith)
 sum-holds (suc n) f h k l = elim (ℕ-discrete k n) [

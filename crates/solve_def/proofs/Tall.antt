@@ -1,4 +1,4 @@
--- Law T: prices that hold a flow bound its metered amounts by what is over at the places.
+-- Law T: potentials that hold a flow bound its metered amounts by what is over at the places.
 use mathlib.Core.Path.{_≡_, refl, sym, _∙_, ap}
 use mathlib.Core.Bool.{Bool, true, false, false≢true}
 use mathlib.Core.List.{List}
@@ -33,7 +33,7 @@ use Rattle.solve_def.proofs.Nearest.{sound-over}
 use Rattle.solve_def.proofs.Sums.{sum-const, sum-holds}
 use Rattle.solve_def.proofs.Overs.{overTo, over-set-most}
 
--- The places whose price is at least P.
+-- The places whose potential is at least P.
 abbrev above : (ℕ → ℤ) → ℤ → ℕ → Bool
 above π P u = leZ P (π u)
 
@@ -67,7 +67,7 @@ downhill t x c s h = elim (decLe (up x) (t + dn x)) [ yes k ↦ k | no k ↦ abs
 module _ (n t : ℕ) (π : ℕ → ℤ) (ss : List Stream) (x : ℕ → ℤ) (w : Inside n ss)
     (agreed : (k : ℕ) → k < length ss → streamAt ss k .metered ≡ false → π (streamAt ss k .from) ≡ π (streamAt ss k .to))
     (sloped : (k : ℕ) → k < length ss → streamAt ss k .metered ≡ true → Slopes t (x k) (climb π (streamAt ss k))) where
-  -- Into the places from a price up no stream brings less than −t.
+  -- Into the places from a potential up no stream brings less than −t.
   crosses : (P : ℤ) (j : ℕ) → j < length ss → Le (pos 0) (crossing (above π P) (streamAt ss j) (x j) +ℤ pos t)
   crosses P j l = omega (arith, go (streamAt ss j .metered) refl, plus-val (crossing (above π P) (streamAt ss j) (x j)) (pos t))
     where
@@ -181,7 +181,7 @@ module _ (d : ℕ) (s : Stream) (X pu pv : ℕ) (few : d ≤ mostStep) (r : Rang
       far : 2 * X + d + 1 ≤ 2 * readingOf s
       far = omega (arith, z .1)
 
-  pub slopes : Slopes mostRange (unshifted X) (pos pv -ℤ pos pu)
+  slopes : Slopes mostRange (unshifted X) (pos pv -ℤ pos pu)
   slopes = record {
     runs-up = λ l. omega (arith, high-slope (omega (arith, unshifted-val X)), minus-val (pos pv) (pos pu));
     runs-down = λ l. omega (arith, low-slope (omega (arith, unshifted-val X)), minus-val (pos pv) (pos pu));
@@ -196,11 +196,11 @@ sound-tall ss v d b st few h k l m = (omega (arith, size, unshifted-val X, size-
     X = getD (st .flows) k 0
 
     π : ℕ → ℤ
-    π u = pos (getD (st .prices) u 0)
+    π u = pos (getD (st .potentials) u 0)
 
     sloped : (j : ℕ) → j < length ss → streamAt ss j .metered ≡ true → Slopes mostRange (unshifted (getD (st .flows) j 0)) (climb π (streamAt ss j))
     sloped j o e =
-        slopes d (streamAt ss j) (getD (st .flows) j 0) (getD (st .prices) (streamAt ss j .from) 0) (getD (st .prices) (streamAt ss j .to) 0) few (v .ranged j o)
+        slopes d (streamAt ss j) (getD (st .flows) j 0) (getD (st .potentials) (streamAt ss j .from) 0) (getD (st .potentials) (streamAt ss j .to) 0) few (v .ranged j o)
         (v .plain .read j o e) (rw (weight-some (streamAt ss j) e) (v .weighed j o e)) (h .held j o) (h .inside j o)
 
     size : natAbs (unshifted X) ≤ meteredRoom
@@ -213,5 +213,6 @@ sound-tall ss v d b st few h k l m = (omega (arith, size, unshifted-val X, size-
           h .over,
         )
 
+-- So the metered amounts of a sound state are moderate.
 pub sound-moderate : (ss : List Stream) → Solvable ss → (d b : ℕ) (st : State) → d ≤ mostStep → Sound ss d b st → Moderate ss (st .flows)
 sound-moderate ss v d b st few h k l m = let r = sound-tall ss v d b st few h k l m in (omega (arith, r .0), omega (arith, r .1))

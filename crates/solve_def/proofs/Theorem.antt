@@ -1,4 +1,4 @@
--- The solver is right: of every plant that is read, from any hint, the flow is the cheapest and its prices certify it, or the places
+-- The solver is right: of every plant that is read, from any hint, the flow is the cheapest and its potentials certify it, or the places
 -- that are marked must take in more than they can let out.
 use mathlib.Core.Path.{_≡_, refl, _∙_, ap, subst}
 use mathlib.Core.Bool.{Bool, true, false, not, _||_}
@@ -16,10 +16,10 @@ use Rattle.plant_def.specs.Says.{plantOf}
 use Rattle.plant_def.specs.Within.{Within, Accepted}
 use Rattle.plant_def.proofs.Arrayed.{all-listed, within-of, stream-within}
 use Rattle.flow_def.specs.Flows.{streamAt, amountAt, Cheapest}
-use Rattle.flow_def.specs.Certificate.{climb, leastClimb, mostClimb, priced, rises, falls}
+use Rattle.flow_def.specs.Certificate.{climb, leastClimb, mostClimb, inKilter, rises, falls}
 use Rattle.flow_def.specs.Overfull.{unmarked, Overfull}
 use Rattle.flow_def.proofs.Integers.{le-leZ}
-use Rattle.flow_def.proofs.Prices.{StepAt, Steps, Certificate}
+use Rattle.flow_def.proofs.Potentials.{StepAt, Steps, Certificate}
 use Rattle.flow_def.proofs.Decided.{Decided, solved, full}
 use Rattle.solve_def.specs.Held.{opened}
 use Rattle.solve_def.specs.SearchNeeds.{Network}
@@ -27,7 +27,7 @@ use Rattle.solve_def.specs.declared.State.{State}
 use Rattle.solve_def.specs.declared.Ended.{Ended}
 use Rattle.solve_def.specs.Model.{noHint, tiesTo, finished, masked, solvedFrom, settled}
 use Rattle.solve_def.specs.SolverNeeds.{Hinted, AtHint, Even}
-use Rattle.solve_def.specs.Promise.{price, priceAt, Solution, Right}
+use Rattle.solve_def.specs.Promise.{potential, potentialAt, Solution, Right}
 use Rattle.solve_def.proofs.Streams.{Solvable, solvable-with}
 use Rattle.solve_def.proofs.Phases.{Finished}
 use Rattle.solve_def.proofs.Ending.{none-hinted, finished-good, finished-even}
@@ -49,6 +49,7 @@ solvable-in q w = solvable-with (q .streams) (w .few-units) (w .few-streams) (w 
 pub unhinted : (q : Plant) → Within q → Hinted (q .streams) noHint
 unhinted q w = none-hinted (q .streams) (solvable-in q w)
 
+-- The start without a hint is one.
 pub from-none : (q : Plant) → Within q → AtHint (q .streams) (settled (q .streams) noHint)
 from-none q w = record { hint = noHint; hinted = unhinted q w; is = refl }
 
@@ -58,24 +59,25 @@ module _ (q : Plant) (w : Within q) (e : Ended) (f : Finished (q .streams) e) wh
   ss = q .streams
 
   abbrev ps : List ℕ
-  ps = e .state .prices
+  ps = e .state .potentials
 
   abbrev ys : List ℕ
-  ys = tiesTo (q .streams) (e .state .prices) (length (q .streams)) (e .state .flows)
+  ys = tiesTo (q .streams) (e .state .potentials) (length (q .streams)) (e .state .flows)
 
   module _ (n : e .full ≡ false) where
     even : Even ss ps 0 (e .state .flows)
     even = finished-even ss (solvable-in q w) e f n
 
-    pub ended-cheapest : Cheapest q (opened (length ss) ys)
+    ended-cheapest : Cheapest q (opened (length ss) ys)
     ended-cheapest = tied-cheapest q w (solvable-in q w) ps (e .state .flows) even
 
-    pub ended-sure : Certificate q (opened (length ss) ys) (priceAt ps)
+    ended-sure : Certificate q (opened (length ss) ys) (potentialAt ps)
     ended-sure = tied-sure q w (solvable-in q w) ps (e .state .flows) even
 
-    pub ended-even : Even ss ps (length ss) ys
+    ended-even : Even ss ps (length ss) ys
     ended-even = ended q w (solvable-in q w) ps (e .state .flows) even
 
+  -- A full set at the end is overfull.
   pub ended-full : e .full ≡ true → Overfull q (masked (q .units) (e .marked))
   ended-full n = overfull-says q w (solvable-in q w) (e .marked) (f .found n)
 
@@ -89,7 +91,7 @@ decided q w = go (finished (q .streams) (settled (q .streams) noHint)) (finished
         (λ n. solved _ _ (ended-cheapest q w e f n) (ended-sure q w e f n))
 
 -- The step condition by its tests.
-within-bounds : (π : ℕ → ℤ) (s : Stream) (x : ℤ) → StepAt 1 π s x → priced π s x ≡ true
+within-bounds : (π : ℕ → ℤ) (s : Stream) (x : ℤ) → StepAt 1 π s x → inKilter π s x ≡ true
 within-bounds π s x o =
     and-both _ _ (waived (falls s x) (λ t. le-leZ (leastClimb s x) (climb π s) (o .low t))) (waived (rises s x) (λ t. le-leZ (climb π s) (mostClimb s x) (o .high t)))
   where
@@ -107,6 +109,7 @@ module _ (p : Arrays.Plant) (a : Accepted p) (st : State) (s : AtHint (plantOf p
   abbrev q : Plant
   q = plantOf p
 
+  -- What is solved from a hint is right.
   pub solved-right : Right p (solvedFrom (p .units) (plantOf p .streams) st)
   unfolding solvedFrom
   solved-right = go (finished (q .streams) st) (finished-good (q .streams) (solvable-in q w) st s)
@@ -117,22 +120,22 @@ module _ (p : Arrays.Plant) (a : Accepted p) (st : State) (s : AtHint (plantOf p
       go : (e : Ended) → Finished (q .streams) e
           → Right p (record {
             found = not (e .full);
-            flows = pick (e .full) (e .state .flows) (tiesTo (q .streams) (e .state .prices) (length (q .streams)) (e .state .flows));
-            prices = e .state .prices;
+            flows = pick (e .full) (e .state .flows) (tiesTo (q .streams) (e .state .potentials) (length (q .streams)) (e .state .flows));
+            potentials = e .state .potentials;
             marked = masked (p .units) (e .marked);
           })
       go e f = by-cases (e .full) (λ n. rw n (ended-full q w e f n)) (λ n. rw n (found n))
         where
           found : e .full ≡ false
-              → Solution p (record { found = true; flows = ys q w e f; prices = e .state .prices; marked = masked (p .units) (e .marked) })
+              → Solution p (record { found = true; flows = ys q w e f; potentials = e .state .potentials; marked = masked (p .units) (e .marked) })
           found n = record {
             cheapest = subst (λ (m : ℕ). Cheapest q (opened m (ys q w e f))) (all-listed p a) (ended-cheapest q w e f n);
-            steps = λ k l. within-bounds (priceAt (ps q w e f)) (streamAt (q .streams) k) _
-                (subst (λ (m : ℕ). Steps 1 (priceAt (ps q w e f)) (q .streams) (amountAt (opened m (ys q w e f)))) (all-listed p a) (ended-sure q w e f n .steps) k l);
-            agree = λ k l m. ap price (ended-even q w e f n .agreed k l m);
+            steps = λ k l. within-bounds (potentialAt (ps q w e f)) (streamAt (q .streams) k) _
+                (subst (λ (m : ℕ). Steps 1 (potentialAt (ps q w e f)) (q .streams) (amountAt (opened m (ys q w e f)))) (all-listed p a) (ended-sure q w e f n .steps) k l);
+            agree = λ k l m. ap potential (ended-even q w e f n .agreed k l m);
             bound = f .underway n .sound .capped;
             close = λ k l. (omega (arith, ended-even q w e f n .close k l .0, w .few-streams), omega (arith, ended-even q w e f n .close k l .1, w .few-streams));
             long = ended-even q w e f n .long;
-            priced-all = f .underway n .sound .priced;
+            per-place = f .underway n .sound .per-place;
             bare = ap (masked (p .units)) (f .bare n) ∙ masked-none (p .units);
           }

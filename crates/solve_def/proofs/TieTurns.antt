@@ -38,6 +38,7 @@ module _ (streams : List Stream) (n : ℕ) (w : Network streams n) (ps : List �
   abbrev pub lack : ℕ
   lack = slackBy (getD streams i noStream) false (getD xs i 0) (getD ps (getD streams i noStream .from) 0) (getD ps (getD streams i noStream .to) 0) 1
 
+  -- The search round stream i.
   abbrev pub searched : Grown
   searched = tightPath (take n streams) n xs ps (getD streams i noStream .to) (suc i) searchRounds (rootAt (getD streams i noStream .from))
 
@@ -45,21 +46,25 @@ module _ (streams : List Stream) (n : ℕ) (w : Network streams n) (ps : List �
   unfolding tiedAt
   parts = rw (stream-is streams n i l, in-use streams n w)
 
+  -- An unmetered stream stays.
   pub tied-free : s .metered ≡ false → tiedAt ss ps i xs ≡ xs
   tied-free e = parts ∙ ap (λ (b : Bool). pick b (pick (ltb 0 lack) xs (tiedBy ss xs (s .to) i searched)) xs) e
 
   metered-parts : s .metered ≡ true → tiedAt ss ps i xs ≡ pick (ltb 0 lack) xs (tiedBy ss xs (s .to) i searched)
   metered-parts e = parts ∙ ap (λ (b : Bool). pick b (pick (ltb 0 lack) xs (tiedBy ss xs (s .to) i searched)) xs) e
 
+  -- So does one that cannot fall at no cost.
   pub tied-slack : s .metered ≡ true → 0 < lack → tiedAt ss ps i xs ≡ xs
   tied-slack e h = metered-parts e ∙ ap (λ (b : Bool). pick b xs (tiedBy ss xs (s .to) i searched)) (lt-ltb 0 lack h)
 
   tied-search : s .metered ≡ true → lack ≤ 0 → tiedAt ss ps i xs ≡ tiedBy ss xs (s .to) i searched
   tied-search e h = metered-parts e ∙ ap (λ (b : Bool). pick b xs (tiedBy ss xs (s .to) i searched)) (le-ltb 0 lack h)
 
+  -- And one round which no way leads.
   pub tied-cut : (g : Grown) → s .metered ≡ true → lack ≤ 0 → g ≡ searched → g .found ≡ false → tiedAt ss ps i xs ≡ xs
   tied-cut g e h q f = tied-search e h ∙ rw (← q, f)
 
+  -- Another has 1 less, and the way round it has 1 more.
   pub tied-round : (g : Grown) → s .metered ≡ true → lack ≤ 0 → g ≡ searched → g .found ≡ true
       → tiedAt ss ps i xs
       ≡ set (pushed ss (g .tree .via) (g .tree .ends) 1 (g .tree .len) (s .to) xs) i (getD (pushed ss (g .tree .via) (g .tree .ends) 1 (g .tree .len) (s .to) xs) i 0 - 1)
@@ -71,6 +76,7 @@ module _ (streams : List Stream) (n : ℕ) (w : Network streams n) (ps : List �
     pub roomy : Roomy xs (t .len)
     pub some : 1 ≤ getD (pushed ss (t .via) (t .ends) 1 (t .len) (s .to) xs) i 0
 
+  -- What the push round it needs.
   pub pushable : Even ss ps i xs → (g : Grown) → s .metered ≡ true → lack ≤ 0 → g ≡ searched → g .found ≡ true → Pushable (g .tree)
   pushable h g e z q f = go (subst (λ (o : Grown). Path maxUnits ss xs ps (s .from) (s .to) (suc i) o) (sym q) path)
     where
@@ -102,10 +108,12 @@ pub tying-even : (streams : List Stream) (n : ℕ) (w : Network streams n) (ps x
     → Even (take n streams) ps i (tiesTo (take n streams) ps i xs)
 tying-even streams n w ps xs h i l = ties-even (take n streams) (solvable-of streams n w) ps xs h i (rw (in-use streams n w) l)
 
+-- One stream more.
 pub ties-next : (ss : List Stream) (ps xs : List ℕ) (i : ℕ) → tiesTo ss ps (i + 1) xs ≡ tiedAt ss ps i (tiesTo ss ps i xs)
 unfolding tiesTo
 ties-next ss ps xs i = rw add-one
 
+-- No stream yet.
 pub ties-none : (ss : List Stream) (ps xs : List ℕ) → tiesTo ss ps 0 xs ≡ xs
 unfolding tiesTo
 ties-none ss ps xs = refl

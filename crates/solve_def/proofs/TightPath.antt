@@ -30,6 +30,7 @@ not-usable ss skip k m l u = clash _ (rw (m, lt-ltb k skip l)) u
 abbrev pub Used : List Stream → ℕ → Tree → Type 0
 Used ss skip t = (k : ℕ) → k < t .len → Usable ss skip (getD (t .via) k 0)
 
+-- The search leads to the place, or is cut off.
 pub data Path (n : ℕ) (ss : List Stream) (xs ps : List ℕ) (root v skip : ℕ) (g : Grown) : Type 0 where
   way : g .found ≡ true → Growing n ss xs 1 root ps (g .tree) → reached root (g .tree .ends) (g .tree .len) v ≡ true → Used ss skip (g .tree)
       → Path n ss xs ps root v skip g
@@ -37,6 +38,7 @@ pub data Path (n : ℕ) (ss : List Stream) (xs ps : List ℕ) (root v skip : ℕ
       → ((k : ℕ) → k < length ss → Usable ss skip k → startIn ss ls k ≡ not (endIn ss ls k) → 0 < slackAt ss xs ps 1 k (startIn ss ls k)) → Path n ss xs ps root v skip g
 
 module _ (n : ℕ) (ss : List Stream) (plain : Plain n ss) (xs ps : List ℕ) (root v skip : ℕ) (near : root ≤ n) (vnear : v ≤ n) (room : (k : ℕ) → k < length ss → 1 ≤ getD xs k 0) where
+  -- It comes to one of these.
   pub path-good : (l : ℕ) (t : Tree) → Growing n ss xs 1 root ps t → n ≤ l + t .len → getD (t .visited) v false ≡ false → Used ss skip t
       → Path n ss xs ps root v skip (tightPath ss (length ss) xs ps v skip l t)
   unfolding tightPath

@@ -17,7 +17,7 @@ use Rattle.solve_def.specs.declared.Tree.{Tree}
 use Rattle.solve_def.specs.declared.State.{State}
 use Rattle.solve_def.specs.Sizes.{netShift, settledRoom}
 use Rattle.solve_def.specs.Search.{target, Grown, grownBy, sought}
-use Rattle.solve_def.specs.SearchNeeds.{Network, Prices, Close, Trail, Roomy}
+use Rattle.solve_def.specs.SearchNeeds.{Network, Potentials, Close, Trail, Roomy}
 use Rattle.solve_def.specs.Model.{improvedBy, settledOf, settledTo, booked, netsTo, pushedOn, improvedAt, overSum}
 use Rattle.solve_def.specs.SolverNeeds.{Step, Shiftable, Underway}
 use Rattle.solve_def.proofs.Counting.{count-most}
@@ -33,22 +33,24 @@ set-le e s y v b l h k = elim (ℕ-discrete v s) [
 ]
 
 -- An improvement by its parts.
-module _ (ss : List Stream) (st : State) (d s : ℕ) (found : Bool) (t : Tree) (ps : List ℕ) (e : grownBy found t ps ≡ sought ss (st .flows) (st .nets) (st .prices) d s) where
+module _ (ss : List Stream) (st : State) (d s : ℕ) (found : Bool) (t : Tree) (ps : List ℕ) (e : grownBy found t ps ≡ sought ss (st .flows) (st .nets) (st .potentials) d s) where
+  -- An improvement by what its search found.
   pub improved-is : improvedAt ss st d s ≡ improvedBy found (pick found (pushedOn ss st d s (grownBy found t ps)) st) (t .visited)
   improved-is = rw (← e)
 
+  -- The search found a place.
   pub improved-done : found ≡ true → improvedAt ss st d s ≡ improvedBy found (pushedOn ss st d s (grownBy found t ps)) (t .visited)
   improved-done f = improved-is ∙ ap (λ (b : Bool). improvedBy found (pick b (pushedOn ss st d s (grownBy found t ps)) st) (t .visited)) f
 
-  -- Where none can be made, the prices stay.
-  pub improved-none : found ≡ false → (ps ≡ st .prices) × (improvedAt ss st d s ≡ improvedBy found st (t .visited))
+  -- Where none can be made, the potentials stay.
+  pub improved-none : found ≡ false → (ps ≡ st .potentials) × (improvedAt ss st d s ≡ improvedBy found st (t .visited))
   improved-none f = (
-    kept (sought-stays ss (st .flows) (st .nets) (st .prices) d s),
+    kept (sought-stays ss (st .flows) (st .nets) (st .potentials) d s),
     improved-is ∙ ap (λ (b : Bool). improvedBy found (pick b (pushedOn ss st d s (grownBy found t ps)) st) (t .visited)) f,
   )
     where
-      kept : (sought ss (st .flows) (st .nets) (st .prices) d s .found ≡ false → sought ss (st .flows) (st .nets) (st .prices) d s .prices ≡ st .prices) → ps ≡ st .prices
-      kept h = ap (λ (g : Grown). g .prices) e ∙ h (ap (λ (g : Grown). g .found) (sym e) ∙ f)
+      kept : (sought ss (st .flows) (st .nets) (st .potentials) d s .found ≡ false → sought ss (st .flows) (st .nets) (st .potentials) d s .potentials ≡ st .potentials) → ps ≡ st .potentials
+      kept h = ap (λ (g : Grown). g .potentials) e ∙ h (ap (λ (g : Grown). g .found) (sym e) ∙ f)
 
 -- What is known once the search is done.
 pub record Moving (n : ℕ) (st : State) (s d : ℕ) (t : Tree) : Type 0 where
@@ -66,8 +68,9 @@ module _ (streams : List Stream) (n : ℕ) (w : Network streams n) (st : State) 
   room : h .size + d ≤ settledRoom
   room = underway-room ss d settledRoom st step h s l over
 
-  pub moving : (t : Tree) (ps : List ℕ) → grownBy true t ps ≡ sought (take n streams) (st .flows) (st .nets) (st .prices) d s → Moving n st s d t
-  moving t ps q = go (subst (Hunt maxUnits ss (st .flows) (st .nets) d s (st .prices)) (sym q) (finds ss (solvable-of streams n w) d (h .size) step st (h .sound) room s l over))
+  -- What the push then needs.
+  pub moving : (t : Tree) (ps : List ℕ) → grownBy true t ps ≡ sought (take n streams) (st .flows) (st .nets) (st .potentials) d s → Moving n st s d t
+  moving t ps q = go (subst (Hunt maxUnits ss (st .flows) (st .nets) d s (st .potentials)) (sym q) (finds ss (solvable-of streams n w) d (h .size) step st (h .sound) room s l over))
     where
       size : (u : ℕ) → getD (st .nets) u 0 ≤ 2 * netShift
       size u = omega (arith, over-at (st .nets) u, h .sound .over)
@@ -75,7 +78,7 @@ module _ (streams : List Stream) (n : ℕ) (w : Network streams n) (st : State) 
       close : (k : ℕ) → k < maxStreams → Close settledRoom (getD (st .flows) k 0)
       close = sound-close ss (solvable-of streams n w) d (h .size) step st (h .sound) (omega (arith, room))
 
-      go : Hunt maxUnits ss (st .flows) (st .nets) d s (st .prices) (grownBy true t ps) → Moving n st s d t
+      go : Hunt maxUnits ss (st .flows) (st .nets) d s (st .potentials) (grownBy true t ps) → Moving n st s d t
       go (stuck f m) = clash true refl f
       go (hit f m) = record {
         some = m .some;
@@ -100,13 +103,13 @@ module _ (streams : List Stream) (n : ℕ) (w : Network streams n) (st : State) 
           short : t .len < places
           short = omega (arith, m .grown .counted, count-most maxUnits (λ v. getD (t .visited) v false))
 
-  -- The prices after the search are held, for closing.
-  pub found-prices : (t : Tree) (ps : List ℕ) → grownBy true t ps ≡ sought (take n streams) (st .flows) (st .nets) (st .prices) d s → Prices ps × (length ps ≡ places)
-  found-prices t ps q = go (subst (Hunt maxUnits ss (st .flows) (st .nets) d s (st .prices)) (sym q) (finds ss (solvable-of streams n w) d (h .size) step st (h .sound) room s l over))
+  -- The potentials after the search are held, for closing.
+  pub found-potentials : (t : Tree) (ps : List ℕ) → grownBy true t ps ≡ sought (take n streams) (st .flows) (st .nets) (st .potentials) d s → Potentials ps × (length ps ≡ places)
+  found-potentials t ps q = go (subst (Hunt maxUnits ss (st .flows) (st .nets) d s (st .potentials)) (sym q) (finds ss (solvable-of streams n w) d (h .size) step st (h .sound) room s l over))
     where
-      go : Hunt maxUnits ss (st .flows) (st .nets) d s (st .prices) (grownBy true t ps) → Prices ps × (length ps ≡ places)
+      go : Hunt maxUnits ss (st .flows) (st .nets) d s (st .potentials) (grownBy true t ps) → Potentials ps × (length ps ≡ places)
       go (stuck f m) = clash true refl f
-      go (hit f m) = (λ u o. omega (arith, h .sound .capped u o, m .rise u), m .long ∙ h .sound .priced)
+      go (hit f m) = (λ u o. omega (arith, h .sound .capped u o, m .rise u), m .long ∙ h .sound .per-place)
 
 -- Settling, one stream of the array.
 module _ (streams : List Stream) (n : ℕ) (ps xs : List ℕ) (i : ℕ) (l : i < n) where
@@ -120,9 +123,11 @@ module _ (streams : List Stream) (n : ℕ) (ps xs : List ℕ) (i : ℕ) (l : i <
   unfolding settledTo
   settle-next = rw (add-one, getD-take n streams i noStream l)
 
+  -- One stream more is settled.
   pub settle-hit : s .metered ≡ true → settledTo (take n streams) ps xs (i + 1) ≡ set ys i (settledOf s (getD ps (s .from) 0) (getD ps (s .to) 0))
   settle-hit e = settle-next ∙ ap (λ (b : Bool). pick b (set ys i (settledOf s (getD ps (s .from) 0) (getD ps (s .to) 0))) ys) e
 
+  -- Or is unmetered, and stays.
   pub settle-miss : s .metered ≡ false → settledTo (take n streams) ps xs (i + 1) ≡ ys
   settle-miss e = settle-next ∙ ap (λ (b : Bool). pick b (set ys i (settledOf s (getD ps (s .from) 0) (getD ps (s .to) 0))) ys) e
 
@@ -131,10 +136,12 @@ module _ (streams : List Stream) (n : ℕ) (ps xs : List ℕ) (i : ℕ) (l : i <
   unfolding netsTo
   nets-next = rw (add-one, getD-take n streams i noStream l)
 
+-- No stream yet.
 pub settle-none : (ss : List Stream) (ps xs : List ℕ) → settledTo ss ps xs 0 ≡ xs
 unfolding settledTo
 settle-none ss ps xs = refl
 
+-- No stream is booked yet.
 pub nets-none : (ss : List Stream) (xs : List ℕ) → netsTo ss xs 0 ≡ replicate places netShift
 unfolding netsTo
 nets-none ss xs = refl
@@ -144,10 +151,12 @@ unfoldable pub overTo : List ℕ → ℕ → ℕ
 overTo es zero = 0
 overTo es (suc n) = (getD es n 0 - netShift) + overTo es n
 
+-- One place more is summed.
 pub over-next : (es : List ℕ) (n : ℕ) → overTo es (n + 1) ≡ overTo es n + (getD es n 0 - netShift)
 unfolding overTo
 over-next es n = rw add-one (omega arith)
 
+-- No place yet.
 pub over-none : (es : List ℕ) → overTo es 0 ≡ 0
 unfolding overTo
 over-none es = refl
@@ -157,11 +166,13 @@ unfolding overTo
 over-front e es zero = refl
 over-front e es (suc n) = omega (arith, over-front e es n)
 
+-- All places.
 pub over-all : (es : List ℕ) → overTo es (length es) ≡ overSum es
 unfolding overSum
 over-all [] = over-none []
 over-all (e ∷ es) = over-front e es (length es) ∙ ap (λ (k : ℕ). (e - netShift) + k) (over-all es)
 
+-- The sum over n places fits.
 pub over-to-most : (es : List ℕ) (b n : ℕ) → ((u : ℕ) → u < n → getD es u 0 ≤ netShift + b) → overTo es n ≤ b * n
 unfolding overTo
 over-to-most es b zero h = omega arith

@@ -18,7 +18,7 @@ use Rattle.plant_def.specs.Within.{Within}
 use Rattle.flow_def.specs.Flows.{streamAt, amountAt, allowed, cost, Cheapest}
 use Rattle.flow_def.specs.Certificate.{weightOf}
 use Rattle.flow_def.proofs.Integers.{Le}
-use Rattle.flow_def.proofs.Prices.{Certificate, least}
+use Rattle.flow_def.proofs.Potentials.{Certificate, least}
 use Rattle.flow_def.proofs.Order.{AgreeTo}
 use Rattle.flow_def.proofs.Ties as Ties
 use Rattle.flow_def.proofs.Ties.{Stays, stays-least, first-cheapest}
@@ -28,7 +28,7 @@ use Rattle.solve_def.specs.Slack.{slackBy, slackAt}
 use Rattle.solve_def.proofs.Amounts.{opened-at}
 use Rattle.solve_def.proofs.Least.{Usable, startIn, endIn}
 use Rattle.solve_def.specs.Model.{tiedAt, tiesTo}
-use Rattle.solve_def.specs.Promise.{priceAt}
+use Rattle.solve_def.specs.Promise.{potentialAt}
 use Rattle.solve_def.specs.SolverNeeds.{Even}
 use Rattle.solve_def.proofs.Bounds.{Open, open-or, unlimited, open-free, slack-open, slack-shut, weight-some}
 use Rattle.solve_def.proofs.Streams.{Solvable}
@@ -72,11 +72,11 @@ module _ (p : Plant) (w : Within p) (v : Solvable (p .streams)) (ps : List ℕ) 
     long : length ss ≤ length xs
     long = omega (arith, h .long, v .plain .few)
 
-    sure : Certificate p (opened (length ss) xs) (priceAt ps)
+    sure : Certificate p (opened (length ss) xs) (potentialAt ps)
     sure = certify p w ps i xs h (omega arith)
 
-    stays-tied : Stays ss (priceAt ps) (amountAt (opened (length ss) xs)) i → Tied p (opened (length ss) xs) i
-    stays-tied t e ys b c a = stays-least p w (priceAt ps) (opened (length ss) xs) sure ys b (omega arith) i li a t
+    stays-tied : Stays ss (potentialAt ps) (amountAt (opened (length ss) xs)) i → Tied p (opened (length ss) xs) i
+    stays-tied t e ys b c a = stays-least p w (potentialAt ps) (opened (length ss) xs) sure ys b (omega arith) i li a t
 
     -- No way leads round: the visited places are a cut.
     blocked : (ls : List Bool) → getD ls (s .from) false ≡ true → getD ls (s .to) false ≡ false
@@ -119,13 +119,13 @@ module _ (p : Plant) (w : Within p) (v : Solvable (p .streams)) (ps : List ℕ) 
     long′ : length ss ≤ length ws
     long′ = omega (arith, d .even .long, v .plain .few)
 
-    sure′ : Certificate p (opened (length ss) ws) (priceAt ps)
+    sure′ : Certificate p (opened (length ss) ws) (potentialAt ps)
     sure′ = certify p w ps (suc i) ws (d .even) (omega arith)
 
     cost-same : cost ss (opened (length ss) ws) ≡ cost ss (opened (length ss) xs)
     cost-same =
-        le-antisymm (least p w (priceAt ps) (opened (length ss) ws) sure′ (opened (length ss) xs) (sure xs h .balance))
-        (least p w (priceAt ps) (opened (length ss) xs) (sure xs h) (opened (length ss) ws) (sure′ .balance))
+        le-antisymm (least p w (potentialAt ps) (opened (length ss) ws) sure′ (opened (length ss) xs) (sure xs h .balance))
+        (least p w (potentialAt ps) (opened (length ss) xs) (sure xs h) (opened (length ss) ws) (sure′ .balance))
 
     kept : (k : ℕ) → k < i → streamAt ss k .metered ≡ true → amountAt (opened (length ss) ws) k ≡ amountAt (opened (length ss) xs) k
     kept k l e =
@@ -138,7 +138,7 @@ module _ (p : Plant) (w : Within p) (v : Solvable (p .streams)) (ps : List ℕ) 
 
     at-i : Tied p (opened (length ss) ws) i
     at-i e os b c a =
-        stays-least p w (priceAt ps) (opened (length ss) ws) sure′ os b (omega arith) i li a
+        stays-least p w (potentialAt ps) (opened (length ss) ws) sure′ os b (omega arith) i li a
         (Ties.slack (no-less p w ps (suc i) ws (d .even) (omega arith) i li m now))
       where
         weighed : 1 ≤ weightOf s
@@ -168,14 +168,16 @@ module _ (p : Plant) (w : Within p) (v : Solvable (p .streams)) (ps xs : List �
   abbrev ys : List ℕ
   ys = tiesTo (p .streams) ps (length (p .streams)) xs
 
+  -- After the last stream the flow is level.
   pub ended : Even (p .streams) ps (length (p .streams)) ys
   ended = ties-even (p .streams) v ps xs h (length (p .streams)) (omega arith)
 
   -- After all streams the flow is certified, and the cheapest.
-  pub tied-sure : Certificate p (opened (length (p .streams)) ys) (priceAt ps)
+  pub tied-sure : Certificate p (opened (length (p .streams)) ys) (potentialAt ps)
   tied-sure = certify p w ps (length (p .streams)) ys ended (omega arith)
 
+  -- And it is the cheapest, ties by the lowest first metered stream.
   pub tied-cheapest : Cheapest p (opened (length (p .streams)) ys)
   tied-cheapest =
-      first-cheapest p w (priceAt ps) (opened (length (p .streams)) ys) tied-sure
+      first-cheapest p w (potentialAt ps) (opened (length (p .streams)) ys) tied-sure
       (λ zs b e i l m a. ties-tied (length (p .streams)) (omega arith) i l m zs b e a)

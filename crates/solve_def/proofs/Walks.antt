@@ -1,4 +1,4 @@
--- A walk by distances visits the places that the search visits, over the same streams, and leaves the same prices.
+-- A walk by distances visits the places that the search visits, over the same streams, and leaves the same potentials.
 use mathlib.Core.Path.{_≡_, refl, sym, _∙_}
 use mathlib.Core.Bool.{Bool, true, false, not, true≢false, false≢true}
 use mathlib.Core.List.{List}
@@ -20,13 +20,13 @@ use Rattle.solve_def.proofs.Least.{startIn, endIn}
 use Rattle.solve_def.proofs.Nearing.{nearest-is, nearest-least, tailOf, headOf, overOf, Leads, Nears}
 
 -- A code's two parts.
-pub code-parts : (k i : ℕ) → i < numbering → (codeOf k i / numbering ≡ k) × (codeOf k i % numbering ≡ i)
+code-parts : (k i : ℕ) → i < numbering → (codeOf k i / numbering ≡ k) × (codeOf k i % numbering ≡ i)
 code-parts k i l =
     let q = div-add-mod (k * 128 + i) 128 in
     let m : (k * 128 + i) % 128 < 128 = mod-lt (k * 128 + i) (omega arith) in
     (omega (arith, q, m), omega (arith, q, m))
 
--- Prices after the distance grew to j and place r was visited at it.
+-- Potentials after the distance grew to j and place r was visited at it.
 pub reduced-next : (ls : List Bool) (ks ps : List ℕ) (k j r : ℕ) → k ≤ j → ((u : ℕ) → getD ks u 0 ≤ k) → r < length ls → r < length ks → getD ls r false ≡ false
     → loweredBy ls (j - k) (reducedBy ls ks k ps) ≡ reducedBy (set ls r true) (set ks r j) j ps
 reduced-next ls ks ps k j r l close small short off =
@@ -46,7 +46,8 @@ reduced-next ls ks ps k j r l close small short off =
       | no q ↦ rw (getD-set-other ls r u true false q, getD-set-other ks r u j 0 q) (twice (getD ls u false) (getD ks u 0) (getD ps u 0) (close u))
     ]
 
-module _ (ss : List Stream) (n : ℕ) (fs ts gs bs : List ℕ) (starts : (k : ℕ) → k < n → getD fs k 0 ≡ streamAt ss k .from) (ends : (k : ℕ) → k < n → getD ts k 0 ≡ streamAt ss k .to) (few : n ≤ maxStreams) where
+module _ (ss : List Stream) (n : ℕ) (fs ts gs bs : List ℕ) (starts : (k : ℕ) → k < n → getD fs k 0 ≡ streamAt ss k .from)
+    (ends : (k : ℕ) → k < n → getD ts k 0 ≡ streamAt ss k .to) (few : n ≤ maxStreams) where
   -- The direction in which a stream leaves the visited places.
   pub leaving : (ls : List Bool) (k : ℕ) → k < n → startIn ss ls k ≡ not (endIn ss ls k)
       → (getD ls (tailOf n fs ts gs bs k (startIn ss ls k)) false ≡ true) × (getD ls (headOf n fs ts gs bs k (startIn ss ls k)) false ≡ false)
@@ -80,12 +81,14 @@ module _ (ss : List Stream) (n : ℕ) (fs ts gs bs : List ℕ) (starts : (k : �
     pub nearer : (k : ℕ) (f : Bool) → k < n → getD ls (tailOf n fs ts gs bs k f) false ≡ true → getD ls (headOf n fs ts gs bs k f) false ≡ false
         → (getD codes r 0 / numbering ≤ overOf n fs ts gs bs ks k f) × (overOf n fs ts gs bs ks k f ≤ getD codes r 0 / numbering → lead .stream ≤ k)
 
-  module _ (heads : (k : ℕ) (f : Bool) → k < n → headOf n fs ts gs bs k f < places) (ls : List Bool) (ks codes : List ℕ) (low e r : ℕ) (h : Nears n fs ts gs bs ls ks low e 0 codes) (nearest : r ≡ nearestTo codes places) where
+  module _ (heads : (k : ℕ) (f : Bool) → k < n → headOf n fs ts gs bs k f < places) (ls : List Bool) (ks codes : List ℕ) (low e r : ℕ)
+      (h : Nears n fs ts gs bs ls ks low e 0 codes) (nearest : r ≡ nearestTo codes places) where
     least-code : (k : ℕ) (f : Bool) → k < n → getD ls (tailOf n fs ts gs bs k f) false ≡ true → getD ls (headOf n fs ts gs bs k f) false ≡ false
         → getD codes r far ≤ codeOf (overOf n fs ts gs bs ks k f) k
     least-code k f l t o =
         omega (arith, nearest-least codes r (headOf n fs ts gs bs k f) (h .long) nearest (heads k f l), h .least k f l t (λ y. omega arith) o)
 
+    -- The nearest place tells that.
     pub told : (r ≡ places → ⊥) → Told ls ks codes r
     told q = record {
       within = w .0;

@@ -21,6 +21,7 @@ use Rattle.solve_def.specs.Held.{shifted}
 pub weight-most : {n : ℕ} (s : Stream) → WithinStream n s → weightOf s ≤ maxWeight
 weight-most s w = picked (λ (x : ℕ). x ≤ maxWeight) (s .metered) (s .weight) 0 (w .light) (λ m. omega arith)
 
+-- A metered stream weighs something.
 pub weight-least : {n : ℕ} (s : Stream) → WithinStream n s → s .metered ≡ true → 1 ≤ weightOf s
 weight-least s w m = rw m (w .weighed m)
 
@@ -28,14 +29,17 @@ weight-least s w m = rw m (w .weighed m)
 pub wide : (z : ℤ) → SFits w32 z → SFits w64 z
 wide z f = sfits-of (omega (arith, f .sfits))
 
+-- A reading and the shift sum to the held reading.
 pub shift-sum : (z : ℤ) → SFits w32 z → z +ℤ pos flowShift ≡ pos (shifted z)
 shift-sum (pos a) f = ap pos (omega arith)
 shift-sum (negsuc a) f = rw (le-ltb flowShift (suc a) (omega (arith, f .sfits)))
 
+-- A held reading can be held.
 pub shifted-most : (z : ℤ) → SFits w32 z → shifted z ≤ mostFlow
 shifted-most (pos a) f = omega (arith, f .sfits)
 shifted-most (negsuc a) f = omega arith
 
+-- And fits 64 bits.
 pub shifted-fits : (z : ℤ) → SFits w32 z → SFits w64 (pos (shifted z))
 shifted-fits z f = let b : shifted z ≤ mostFlow = shifted-most z f in sfits-of (omega arith)
 

@@ -1,11 +1,14 @@
 -- The test of a set of places: it must take in more than it can let out, by the ranges of the streams across its edge.
-use mathlib.Core.Bool.{Bool, true, false, _&&_, not}
+use mathlib.Core.Bool.{Bool, true, false, _&&_}
 use mathlib.Core.List.{List}
 use Prim.Native.Nat.{ℕ, zero, suc, _+_, _-_, _*_}
 use lib.Dec.{ltb}
 use lib.ListN.{length, getD}
 use Rattle.plant_def.specs.declared.Stream.{Stream}
+use Rattle.num_bytes.specs.Choice.{pick}
 use Rattle.flow_def.specs.Flows.{streamAt}
+use Rattle.flow_def.specs.Overfull.{unmarked}
+use Rattle.solve_def.specs.declared.Halt.{Halt}
 use Rattle.solve_def.specs.Sizes.{flowShift, mostFlow}
 use Rattle.solve_def.specs.Held.{lowOf, highOf}
 
@@ -40,3 +43,7 @@ pressedTo ss ms (suc n) =
 -- Every stream across has a range, and the lows in sum to more than the highs out.
 abbrev pub overfull : List Stream → List Bool → Bool
 overfull ss ms = boundedTo ss ms (length ss) && ltb (length ss * flowShift) (pressedTo ss ms (length ss))
+
+-- Where no improvement can be made: the visited places, if they are such a set.
+abbrev pub haltAt : List Stream → List Bool → Halt
+haltAt ss ms = pick (overfull ss ms) (record { full = true; marked = ms }) (record { full = false; marked = unmarked })

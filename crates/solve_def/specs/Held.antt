@@ -32,14 +32,14 @@ lowOf s = pick (limited s) (shifted (s .low)) 0
 unfoldable pub highOf : Stream → ℕ
 highOf s = pick (limited s) (shifted (s .high)) mostFlow
 
--- The step condition at step m, of a stream of weight w with amount X and reading R, from L to H in range, between the prices u and v
+-- The step condition at step m, of a stream of weight w with amount X and reading R, from L to H in range, between the potentials u and v
 -- of its start and its end, all as held: w (2 (X − R) − m) ≤ v − u where the amount can fall by m, and v − u ≤ w (2 (X − R) + m)
 -- where it can rise by m.
 pub record Held (m w X R u v L H : ℕ) : Type 0 where
   pub low : L + m ≤ X → 2 * w * X + u ≤ v + 2 * w * R + w * m
   pub high : X + m ≤ H → v + 2 * w * R ≤ 2 * w * X + w * m + u
 
--- Of stream k, with the amounts xs and the prices ps; and of every stream.
+-- Of stream k, with the amounts xs and the potentials ps; and of every stream.
 abbrev pub HeldAt : List Stream → List ℕ → List ℕ → ℕ → ℕ → Type 0
 HeldAt ss xs ps m k =
     let s = streamAt ss k in

@@ -1,4 +1,4 @@
--- The solver as definitions, over held amounts, prices and nets: settle, improve, phases, ties. (Of a hint only ranges are asked, in
+-- The solver as definitions, over held amounts, potentials and nets: settle, improve, phases, ties. (Of a hint only ranges are asked, in
 -- SolverNeeds.)
 use mathlib.Core.Bool.{Bool, true, false, not, _&&_}
 use mathlib.Core.List.{List, [], _∷_}
@@ -11,7 +11,7 @@ use Rattle.plant_def.specs.declared.Stream.{Stream}
 use Rattle.plant_def.specs.Limits.{places, maxStreams}
 use Rattle.flow_def.specs.Flows.{streamAt}
 use Rattle.flow_def.specs.Overfull.{unmarked}
-use Rattle.solve_def.specs.Sizes.{flowShift, priceShift, netShift, searchRounds}
+use Rattle.solve_def.specs.Sizes.{flowShift, potentialShift, netShift, searchRounds, mostTried, halvings}
 use Rattle.flow_def.specs.Certificate.{weightOf}
 use Rattle.solve_def.specs.Held.{readingOf, lowOf, highOf}
 use Rattle.solve_def.specs.Slack.{slackBy}
@@ -23,13 +23,12 @@ use Rattle.solve_def.specs.declared.Hint.{Hint}
 use Rattle.solve_def.specs.declared.State.{State}
 use Rattle.solve_def.specs.declared.Ended.{Ended}
 use Rattle.solve_def.specs.declared.Solved.{Solved}
-use Rattle.solve_def.specs.Sizes.{mostTried, halvings}
 
 -- A number brought into a range.
 abbrev pub clamped : ℕ → ℕ → ℕ → ℕ
 clamped low high x = pick (ltb x low) low (pick (ltb high x) high x)
 
--- Settle. The amount nearest to a reading R at the prices pu and pv of a stream's start and its end, w being its weight: the reading
+-- Settle. The amount nearest to a reading R at the potentials pu and pv of a stream's start and its end, w being its weight: the reading
 -- plus (pv − pu) / 2w, rounded to the nearest, a half up.
 abbrev pub nearestAmount : ℕ → ℕ → ℕ → ℕ → ℕ
 nearestAmount w R pu pv = pick (leb pu (pv + w)) (R + (pv + w - pu) / (2 * w)) (R - (pu - pv + w - 1) / (2 * w))
@@ -38,7 +37,7 @@ nearestAmount w R pu pv = pick (leb pu (pv + w)) (R + (pv + w - pu) / (2 * w)) (
 abbrev pub settledOf : Stream → ℕ → ℕ → ℕ
 settledOf s pu pv = clamped (lowOf s) (highOf s) (nearestAmount (weightOf s) (readingOf s) pu pv)
 
--- The amounts xs with those of the metered streams among the first n settled at the prices ps.
+-- The amounts xs with those of the metered streams among the first n settled at the potentials ps.
 unfoldable pub settledTo : List Stream → List ℕ → List ℕ → ℕ → List ℕ
 settledTo ss ps xs zero = xs
 settledTo ss ps xs (suc n) =
@@ -61,11 +60,11 @@ unfoldable pub netsTo : List Stream → List ℕ → ℕ → List ℕ
 netsTo ss xs zero = replicate places netShift
 netsTo ss xs (suc n) = booked (netsTo ss xs n) (streamAt ss n) (getD xs n 0)
 
--- The amounts settled at the prices of a hint, which has the amounts of the unmetered streams; and the nets.
+-- The amounts settled at the potentials of a hint, which has the amounts of the unmetered streams; and the nets.
 abbrev pub settled : List Stream → Hint → State
 settled ss h =
-    let ys = settledTo ss (h .prices) (h .flows) (length ss) in
-    record { flows = ys; prices = h .prices; nets = netsTo ss ys (length ss) }
+    let ys = settledTo ss (h .potentials) (h .flows) (length ss) in
+    record { flows = ys; potentials = h .potentials; nets = netsTo ss ys (length ss) }
 
 -- Improve. The nets after d moves from place s to place v.
 abbrev pub shiftedNets : List ℕ → ℕ → ℕ → ℕ → List ℕ
@@ -73,7 +72,7 @@ shiftedNets es s v d = let fs = set es s (getD es s 0 - d) in set fs v (getD fs 
 
 -- A state by its parts.
 abbrev pub stateOf : List ℕ → List ℕ → List ℕ → State
-stateOf xs ps es = record { flows = xs; prices = ps; nets = es }
+stateOf xs ps es = record { flows = xs; potentials = ps; nets = es }
 
 -- A state after an attempt to improve it: done is false where no place with a negative net could be reached; and the places visited.
 pub record Improved : Type 0 where
@@ -89,14 +88,14 @@ abbrev pub pushedOn : List Stream → State → ℕ → ℕ → Grown → State
 pushedOn ss st d s g =
     record {
       flows = pushed ss (g .tree .via) (g .tree .ends) d (g .tree .len) (target (g .tree)) (st .flows);
-      prices = refloored (g .prices);
+      potentials = refloored (g .potentials);
       nets = shiftedNets (st .nets) s (target (g .tree)) d;
     }
 
--- Where prices have fallen too far they are closed up.
+-- Where potentials have fallen too far they are closed up.
 abbrev pub improvedAt : List Stream → State → ℕ → ℕ → Improved
 improvedAt ss st d s =
-    let g = sought ss (st .flows) (st .nets) (st .prices) d s in
+    let g = sought ss (st .flows) (st .nets) (st .potentials) d s in
     improvedBy (g .found) (pick (g .found) (pushedOn ss st d s g) st) (g .tree .visited)
 
 -- The summed positive net.
@@ -109,13 +108,13 @@ unfoldable pub stepsOver : ℕ → List ℕ → ℕ
 stepsOver d [] = 0
 stepsOver d (e ∷ es) = (e - netShift) / d + stepsOver d es
 
--- No hint: amounts and prices 0.
+-- No hint: amounts and potentials 0.
 abbrev pub noHint : Hint
-noHint = record { flows = replicate maxStreams flowShift; prices = replicate places priceShift }
+noHint = record { flows = replicate maxStreams flowShift; potentials = replicate places potentialShift }
 
--- The amounts and the prices of a state, as a hint.
+-- The amounts and the potentials of a state, as a hint.
 abbrev pub asHint : State → Hint
-asHint st = record { flows = st .flows; prices = st .prices }
+asHint st = record { flows = st .flows; potentials = st .potentials }
 
 -- What a phase comes to: a state; or, where it is full, a set of places that must take in more than it can let out.
 abbrev pub endedBy : Bool → State → List Bool → Ended
@@ -177,14 +176,14 @@ tiesTo ss ps (suc i) xs = tiedAt ss ps i (tiesTo ss ps i xs)
 unfoldable pub masked : ℕ → List Bool → List Bool
 masked n ms = values places (λ u. getD ms u false && leb u n)
 
--- The whole for a plant of n units, from amounts settled at a hint: a flow with prices, or a set of places.
+-- The whole for a plant of n units, from amounts settled at a hint: a flow with potentials, or a set of places.
 unfoldable pub solvedFrom : ℕ → List Stream → State → Solved
 solvedFrom n ss start =
     let e = finished ss start in
     let st = e .state in
     record {
       found = not (e .full);
-      flows = pick (e .full) (st .flows) (tiesTo ss (st .prices) (length ss) (st .flows));
-      prices = st .prices;
+      flows = pick (e .full) (st .flows) (tiesTo ss (st .potentials) (length ss) (st .flows));
+      potentials = st .potentials;
       marked = masked n (e .marked);
     }

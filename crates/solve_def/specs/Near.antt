@@ -55,7 +55,7 @@ nearestTo near (suc n) = let r = nearestTo near n in pick (ltb (getD near n far)
 abbrev pub nearestWithin : List ℕ → ℕ → ℕ
 nearestWithin near limit = pick (ltb limit (getD near (nearestTo near places) far / numbering)) places (nearestTo near places)
 
--- The prices when the search is at the distance k: a visited place's has fallen by what k exceeds its own distance.
+-- The potentials when the search is at the distance k: a visited place's has fallen by what k exceeds its own distance.
 unfoldable pub reducedBy : List Bool → List ℕ → ℕ → List ℕ → List ℕ
 reducedBy [] ks k ps = ps
 reducedBy (l ∷ ls) ks k [] = []

@@ -10,20 +10,19 @@ use Rattle.plant_def.specs.declared.Plant as Arrays
 use Rattle.plant_def.specs.Limits.{places, maxStreams}
 use Rattle.plant_def.specs.Says.{plantOf}
 use Rattle.flow_def.specs.Flows.{streamAt, amountAt, Cheapest}
-use Rattle.flow_def.specs.Certificate.{priced}
+use Rattle.flow_def.specs.Certificate.{inKilter}
 use Rattle.flow_def.specs.Overfull.{unmarked, Overfull}
-use Rattle.solve_def.specs.Sizes.{priceShift}
+use Rattle.solve_def.specs.Sizes.{potentialShift, settledRoom}
 use Rattle.solve_def.specs.Held.{opened}
 use Rattle.solve_def.specs.declared.Solved.{Solved}
-use Rattle.solve_def.specs.Sizes.{settledRoom}
 use Rattle.solve_def.specs.SearchNeeds.{Close}
 
--- The price that is held as x; the price of each place.
-unfoldable pub price : ℕ → ℤ
-price x = pos x -ℤ pos priceShift
+-- The potential that is held as x; the potential of each place.
+unfoldable pub potential : ℕ → ℤ
+potential x = pos x -ℤ pos potentialShift
 
-abbrev pub priceAt : List ℕ → ℕ → ℤ
-priceAt ps u = price (getD ps u 0)
+abbrev pub potentialAt : List ℕ → ℕ → ℤ
+potentialAt ps u = potential (getD ps u 0)
 
 -- The flow that a solution holds.
 abbrev pub flowOf : Arrays.Plant → Solved → List ℤ
@@ -33,15 +32,16 @@ flowOf p r = opened (p .count) (r .flows)
 pub record Solution (p : Arrays.Plant) (r : Solved) : Type 0 where
   -- It is the cheapest, the amounts of unmetered streams being such that all balances.
   pub cheapest : Cheapest (plantOf p) (flowOf p r)
-  -- The prices certify it: they are within the bounds of every stream, and agree across unmetered streams.
-  pub steps : (k : ℕ) → k < length (plantOf p .streams) → priced (priceAt (r .prices)) (streamAt (plantOf p .streams) k) (amountAt (flowOf p r) k) ≡ true
+  -- The potentials certify it: they are within the bounds of every stream, and agree across unmetered streams.
+  pub steps : (k : ℕ) → k < length (plantOf p .streams)
+      → inKilter (potentialAt (r .potentials)) (streamAt (plantOf p .streams) k) (amountAt (flowOf p r) k) ≡ true
   pub agree : (k : ℕ) → k < length (plantOf p .streams) → streamAt (plantOf p .streams) k .metered ≡ false
-      → priceAt (r .prices) (streamAt (plantOf p .streams) k .from) ≡ priceAt (r .prices) (streamAt (plantOf p .streams) k .to)
-  -- A price is from −priceShift to 0, and an amount is of size settledRoom + maxStreams at most.
-  pub bound : (u : ℕ) → u < places → getD (r .prices) u 0 ≤ priceShift
+      → potentialAt (r .potentials) (streamAt (plantOf p .streams) k .from) ≡ potentialAt (r .potentials) (streamAt (plantOf p .streams) k .to)
+  -- A potential is from −potentialShift to 0, and an amount is of size settledRoom + maxStreams at most.
+  pub bound : (u : ℕ) → u < places → getD (r .potentials) u 0 ≤ potentialShift
   pub close : (k : ℕ) → k < maxStreams → Close (settledRoom + maxStreams) (getD (r .flows) k 0)
   pub long : length (r .flows) ≡ maxStreams
-  pub priced-all : length (r .prices) ≡ places
+  pub per-place : length (r .potentials) ≡ places
   -- No place is marked.
   pub bare : r .marked ≡ unmarked
 

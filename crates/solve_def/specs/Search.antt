@@ -12,7 +12,7 @@ use Rattle.plant_def.specs.Limits.{places}
 use Rattle.solve_def.specs.Sizes.{netShift, farthest, searchRounds}
 use Rattle.solve_def.specs.Slack.{Crossing, At, Nothing, leastTo}
 
--- The prices, those of visited places lowered by g.
+-- The potentials, those of visited places lowered by g.
 abbrev pub fallen : Bool → ℕ → ℕ → ℕ
 fallen true g p = p - g
 fallen false g p = p
@@ -43,16 +43,16 @@ addedTo t i e =
 abbrev pub target : Tree → ℕ
 target t = getD (t .ends) (t .len - 1) 0
 
--- What a search comes to: whether it visited a place that is looked for, its tree, and the prices.
+-- What a search comes to: whether it visited a place that is looked for, its tree, and the potentials.
 pub record Grown : Type 0 where
   pub found : Bool
   pub tree : Tree
-  pub prices : List ℕ
+  pub potentials : List ℕ
 
 abbrev pub grownBy : Bool → Tree → List ℕ → Grown
-grownBy b t ps = record { found = b; tree = t; prices = ps }
+grownBy b t ps = record { found = b; tree = t; potentials = ps }
 
--- At step d, over the first n streams: the visited places' prices fall by the least slack, and its stream's far end is visited,
+-- At step d, over the first n streams: the visited places' potentials fall by the least slack, and its stream's far end is visited,
 -- at most `fuel` times, until a place with a negative net is, or no stream that can move leaves the visited places. xs are the
 -- amounts and es the nets.
 unfoldable pub grow : List Stream → ℕ → List ℕ → List ℕ → ℕ → ℕ → List ℕ → Tree → Grown
@@ -65,11 +65,11 @@ grow ss n xs es d (suc fuel) ps t =
     (grownBy true (addedTo t i (farEnd (t .visited) (streamAt ss i))) (loweredBy (t .visited) g ps))
     (grow ss n xs es d fuel (loweredBy (t .visited) g ps) (addedTo t i (farEnd (t .visited) (streamAt ss i))))))
 
--- The same from place s, with the prices as they were where no such place was found.
+-- The same from place s, with the potentials as they were where no such place was found.
 unfoldable pub sought : List Stream → List ℕ → List ℕ → List ℕ → ℕ → ℕ → Grown
 sought ss xs es ps d s =
     let g = grow ss (length ss) xs es d searchRounds ps (rootAt s) in
-    grownBy (g .found) (g .tree) (pick (g .found) (g .prices) ps)
+    grownBy (g .found) (g .tree) (pick (g .found) (g .potentials) ps)
 
 -- At step 1, over streams without slack only, metered ones before number skip left alone, until the place v is visited.
 unfoldable pub tightPath : List Stream → ℕ → List ℕ → List ℕ → ℕ → ℕ → ℕ → Tree → Grown

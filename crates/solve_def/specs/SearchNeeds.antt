@@ -7,7 +7,7 @@ use lib.ListN.{length, getD, take}
 use Rattle.plant_def.specs.declared.Stream.{Stream}
 use Rattle.plant_def.specs.Limits.{places, maxUnits, maxStreams}
 use Rattle.plant_def.specs.Within.{Accepted}
-use Rattle.solve_def.specs.Sizes.{flowShift, mostFlow, priceShift, priceFloor, mostStep, mostAmount}
+use Rattle.solve_def.specs.Sizes.{flowShift, mostFlow, potentialShift, potentialFloor, mostStep, mostAmount}
 use Rattle.flow_def.specs.Flows.{streamAt}
 use Rattle.solve_def.specs.Held.{AllHeld}
 
@@ -15,8 +15,8 @@ use Rattle.solve_def.specs.Held.{AllHeld}
 abbrev pub Network : List Stream → ℕ → Type 0
 Network streams n = Accepted (record { units = maxUnits; count = n; streams = streams })
 
-abbrev pub Prices : List ℕ → Type 0
-Prices ps = (u : ℕ) → u < places → getD ps u 0 ≤ priceShift
+abbrev pub Potentials : List ℕ → Type 0
+Potentials ps = (u : ℕ) → u < places → getD ps u 0 ≤ potentialShift
 
 -- A held amount of size b at most.
 abbrev pub Close : ℕ → ℕ → Type 0
@@ -26,18 +26,18 @@ Close b x = (x ≤ flowShift + b) × (flowShift ≤ x + b)
 abbrev pub Moderate : List Stream → List ℕ → Type 0
 Moderate ss xs = (k : ℕ) → k < length ss → streamAt ss k .metered ≡ true → Close mostAmount (getD xs k 0)
 
--- Prices from priceFloor up.
+-- Potentials from potentialFloor up.
 abbrev pub Floored : List ℕ → Type 0
-Floored ps = (u : ℕ) → u < places → priceFloor ≤ getD ps u 0
+Floored ps = (u : ℕ) → u < places → potentialFloor ≤ getD ps u 0
 
 -- What a search works on.
 pub record Searchable (streams : List Stream) (n : ℕ) (xs ps : List ℕ) (d : ℕ) : Type 0 where
   pub network : Network streams n
   pub step : d ≤ mostStep
   pub amounts : (k : ℕ) → k < n → getD xs k 0 ≤ mostFlow
-  pub prices : Prices ps
+  pub potentials : Potentials ps
 
--- And where the step condition holds, of amounts that are not too large and prices that are not too low.
+-- And where the step condition holds, of amounts that are not too large and potentials that are not too low.
 pub record Walkable (streams : List Stream) (n : ℕ) (xs ps : List ℕ) (d : ℕ) : Type 0 where
   pub searchable : Searchable streams n xs ps d
   pub held : AllHeld (take n streams) xs ps d

@@ -18,7 +18,7 @@ flowShift = 70368744177664
 abbrev pub mostFlow : ℕ
 mostFlow = 2 * flowShift
 
--- Weight times a held amount. In 64 bits: 2 * mostPull + maxWeight * mostStep + priceShift < 2^64.
+-- Weight times a held amount. In 64 bits: 2 * mostPull + maxWeight * mostStep + potentialShift < 2^64.
 abbrev pub mostPull : ℕ
 mostPull = maxWeight * mostFlow
 
@@ -43,18 +43,18 @@ meteredRoom = maxStreams * mostRange + mostOver
 abbrev pub mostAmount : ℕ
 mostAmount = 549755813888
 
--- The greatest marginal cost of a step on a metered stream: the prices at the ends of a stream that can move differ by no more.
+-- The greatest marginal cost of a step on a metered stream: the potentials at the ends of a stream that can move differ by no more.
 abbrev pub mostMarginal : ℕ
 mostMarginal = maxWeight * (2 * (mostAmount + mostReading) + mostStep)
 
--- A price p is held as p + priceShift, 2^57: prices are at most 0, so a held price is at most priceShift.
--- (2 * places + searchRounds) * mostMarginal ≤ priceShift: a search lowers none below 0.
-abbrev pub priceShift : ℕ
-priceShift = 144115188075855872
+-- A potential p is held as p + potentialShift, 2^57: potentials are at most 0, so a held potential is at most potentialShift.
+-- (2 * places + searchRounds) * mostMarginal ≤ potentialShift: a search lowers none below 0.
+abbrev pub potentialShift : ℕ
+potentialShift = 144115188075855872
 
--- Prices below this are closed up again after an improvement.
-abbrev pub priceFloor : ℕ
-priceFloor = priceShift - places * mostMarginal
+-- Potentials below this are closed up again after an improvement.
+abbrev pub potentialFloor : ℕ
+potentialFloor = potentialShift - places * mostMarginal
 
 -- The places that a search may visit after the first.
 abbrev pub searchRounds : ℕ
@@ -82,9 +82,9 @@ farthest = 72057594037927936
 abbrev pub far : ℕ
 far = farthest * numbering
 
--- Prices of a hint are at most this, 2^54, below priceShift: priceSpread ≤ places * mostMarginal.
-abbrev pub priceSpread : ℕ
-priceSpread = 18014398509481984
+-- Potentials of a hint are at most this, 2^54, below potentialShift: potentialSpread ≤ places * mostMarginal.
+abbrev pub potentialSpread : ℕ
+potentialSpread = 18014398509481984
 
 -- The greatest size of an unmetered amount of a hint, 2^45: (halvings + 1) * mostOver ≤ hintRoom.
 abbrev pub hintRoom : ℕ

@@ -11,7 +11,7 @@ use Rattle.flow_def.specs.Certificate.{weightOf}
 use Rattle.solve_def.specs.Held.{readingOf, lowOf, highOf}
 use Rattle.solve_def.specs.Sizes.{farthest}
 
--- The slack of a stream: what the price of its visited end has to fall before d moved along it, forwards or backwards, keeps the
+-- The slack of a stream: what the potential of its visited end has to fall before d moved along it, forwards or backwards, keeps the
 -- step condition. In numbers: w is its weight, and q twice the weight times its reading.
 abbrev pub gapBy : ℕ → ℕ → Bool → ℕ → ℕ → ℕ → ℕ → ℕ
 gapBy w q forwards x pu pv d = pick forwards ((2 * (w * x) + w * d + pu) - (pv + q)) ((pv + q + w * d) - (2 * (w * x) + pu))
@@ -25,7 +25,7 @@ abbrev pub slackBy : Stream → Bool → ℕ → ℕ → ℕ → ℕ → ℕ
 slackBy s forwards x pu pv d =
     pick (openBy (lowOf s) (highOf s) forwards x d) (gapBy (weightOf s) (2 * (weightOf s * readingOf s)) forwards x pu pv d) farthest
 
--- The slack of stream k, with the amounts xs and the prices ps.
+-- The slack of stream k, with the amounts xs and the potentials ps.
 abbrev pub slackAt : List Stream → List ℕ → List ℕ → ℕ → ℕ → Bool → ℕ
 slackAt ss xs ps d k b = slackBy (streamAt ss k) b (getD xs k 0) (getD ps (streamAt ss k .from) 0) (getD ps (streamAt ss k .to) 0) d
 
@@ -50,7 +50,7 @@ byEnds true false within forwards backwards = forwards
 byEnds false true within forwards backwards = backwards
 byEnds false false within forwards backwards = within
 
--- Stream i, with the amount x, weighed against what was found; ls tells which places are visited and ps the prices.
+-- Stream i, with the amount x, weighed against what was found; ls tells which places are visited and ps the potentials.
 abbrev pub weighed : List ℕ → List Bool → ℕ → Crossing → ℕ → Stream → ℕ → Crossing
 weighed ps ls d f i s x =
     byEnds (getD ls (s .from) false) (getD ls (s .to) false) f

@@ -1,4 +1,4 @@
--- What the solver's parts require of streams, amounts, prices and nets.
+-- What the solver's parts require of streams, amounts, potentials and nets.
 use mathlib.Core.Path.{_≡_}
 use mathlib.Core.Bool.{true, false}
 use mathlib.Core.List.{List}
@@ -6,35 +6,21 @@ use lib.IntN.{pos, _-ℤ_}
 use Prim.Native.Nat.{ℕ, _+_, _*_, _≤_, _<_}
 use lib.ListN.{length, getD}
 use Rattle.plant_def.specs.declared.Stream.{Stream}
-use Rattle.plant_def.specs.Limits.{places, maxUnits, maxStreams}
+use Rattle.plant_def.specs.Limits.{places, maxStreams}
 use Rattle.plant_def.specs.Plants.{noStream}
-use Rattle.plant_def.specs.Within.{WithinStream}
 use Rattle.flow_def.specs.Flows.{streamAt}
 use Rattle.flow_def.specs.Nets.{netOf}
-use Rattle.solve_def.specs.Sizes.{flowShift, mostFlow, priceShift, netShift, mostStep}
+use Rattle.solve_def.specs.Sizes.{flowShift, mostFlow, netShift, mostStep, mostOver, meteredRoom, hintRoom, settledRoom}
 use Rattle.solve_def.specs.Held.{unshifted, AllHeld, AllInside}
 use Rattle.solve_def.specs.Slack.{slackBy}
-use Rattle.solve_def.specs.SearchNeeds.{Network, Prices, Floored, Close}
+use Rattle.solve_def.specs.SearchNeeds.{Potentials, Floored, Close}
 use Rattle.solve_def.specs.declared.Hint.{Hint}
 use Rattle.solve_def.specs.declared.State.{State}
 use Rattle.solve_def.specs.Model.{settled, overSum, stepsOver}
-use Rattle.solve_def.specs.Sizes.{mostOver, meteredRoom, hintRoom, settledRoom}
 
 -- A step: at least 1.
 abbrev pub Step : ℕ → Type 0
 Step d = (1 ≤ d) × (d ≤ mostStep)
-
--- A metered stream, and the prices of its start and its end, at which its amount can be settled.
-pub record Settleable (s : Stream) (pu pv : ℕ) : Type 0 where
-  pub within : WithinStream maxUnits s
-  pub metered : s .metered ≡ true
-  pub price-u : pu ≤ priceShift
-  pub price-v : pv ≤ priceShift
-
--- An array of streams, and prices at which their amounts can be settled.
-pub record Settles (streams : List Stream) (n : ℕ) (ps : List ℕ) : Type 0 where
-  pub network : Network streams n
-  pub prices : Prices ps
 
 -- Held amounts, each at most mostFlow.
 abbrev pub Amounts : List ℕ → Type 0
@@ -56,21 +42,21 @@ pub record Shiftable (es : List ℕ) (s v d : ℕ) : Type 0 where
   pub most-start : getD es s 0 ≤ 2 * netShift
   pub most-end : getD es v 0 ≤ 2 * netShift
 
--- Prices that agree across unmetered streams.
+-- Potentials that agree across unmetered streams.
 abbrev pub Agreed : List Stream → List ℕ → Type 0
 Agreed ss ps = (k : ℕ) → k < length ss → streamAt ss k .metered ≡ false → getD ps (streamAt ss k .from) 0 ≡ getD ps (streamAt ss k .to) 0
 
--- Prices to settle at, from priceFloor up, that agree across unmetered streams; and amounts for these, of size b at most.
+-- Potentials to settle at, from potentialFloor up, that agree across unmetered streams; and amounts for these, of size b at most.
 pub record Start (ss : List Stream) (b : ℕ) (h : Hint) : Type 0 where
-  pub agree : Agreed ss (h .prices)
-  pub floor : Floored (h .prices)
-  pub capped : Prices (h .prices)
-  pub priced : length (h .prices) ≡ places
+  pub agree : Agreed ss (h .potentials)
+  pub floor : Floored (h .potentials)
+  pub capped : Potentials (h .potentials)
+  pub per-place : length (h .potentials) ≡ places
   pub long : length (h .flows) ≡ maxStreams
   pub unmetered : (k : ℕ) → k < maxStreams → streamAt ss k .metered ≡ false → Close b (getD (h .flows) k 0)
   pub within : b ≤ flowShift
 
--- Some prices and amounts to settle at.
+-- Some potentials and amounts to settle at.
 pub record Ready (ss : List Stream) (h : Hint) : Type 0 where
   pub size : ℕ
   pub start : Start ss size h
@@ -85,19 +71,19 @@ pub record AtHint (ss : List Stream) (st : State) : Type 0 where
   pub hinted : Hinted ss hint
   pub is : st ≡ settled ss hint
 
--- A state at step d: the step condition, amounts in range, prices that agree across unmetered streams, nets that are the amounts',
--- prices from priceFloor up, no more over than there may be, and unmetered amounts of size b at most. (How large metered amounts
+-- A state at step d: the step condition, amounts in range, potentials that agree across unmetered streams, nets that are the amounts',
+-- potentials from potentialFloor up, no more over than there may be, and unmetered amounts of size b at most. (How large metered amounts
 -- are follows.)
 pub record Sound (ss : List Stream) (d b : ℕ) (st : State) : Type 0 where
-  pub held : AllHeld ss (st .flows) (st .prices) d
+  pub held : AllHeld ss (st .flows) (st .potentials) d
   pub inside : AllInside ss (st .flows)
-  pub agreed : Agreed ss (st .prices)
+  pub agreed : Agreed ss (st .potentials)
   pub long : length (st .flows) ≡ maxStreams
-  pub priced : length (st .prices) ≡ places
+  pub per-place : length (st .potentials) ≡ places
   pub netted : length (st .nets) ≡ places
   pub nets : (u : ℕ) → u < places → netOf ss (λ k. unshifted (getD (st .flows) k 0)) u ≡ pos (getD (st .nets) u 0) -ℤ pos netShift
-  pub floor : Floored (st .prices)
-  pub capped : Prices (st .prices)
+  pub floor : Floored (st .potentials)
+  pub capped : Potentials (st .potentials)
   pub over : overSum (st .nets) + 2 * maxStreams * d ≤ mostOver
   pub close : (k : ℕ) → k < maxStreams → streamAt ss k .metered ≡ false → Close b (getD (st .flows) k 0)
 

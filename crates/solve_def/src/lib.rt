@@ -50,16 +50,16 @@ pub struct Searched {
     pub tree: Tree,
 }
 
-// Prices to begin with, and amounts for the unmetered streams; held shifted, as below.
+// Potentials to begin with, and amounts for the unmetered streams; held shifted, as below.
 pub struct Hint {
     pub flows: [u64; MAX_STREAMS],
-    pub prices: [u64; PLACES],
+    pub potentials: [u64; PLACES],
 }
 
-// The amount of each stream, and the price and the net of each place.
+// The amount of each stream, and the potential and the net of each place.
 pub struct State {
     pub flows: [u64; MAX_STREAMS],
-    pub prices: [u64; PLACES],
+    pub potentials: [u64; PLACES],
     pub nets: [u64; PLACES],
 }
 
@@ -76,10 +76,10 @@ pub struct Ended {
     pub marked: [bool; PLACES],
 }
 
-// The flow and the prices that certify it; or, where none is found, a set of places that must take in more than it can let out.
+// The flow and the potentials that certify it; or, where none is found, a set of places that must take in more than it can let out.
 pub struct Solved {
     pub found: bool,
     pub flows: [u64; MAX_STREAMS],
-    pub prices: [u64; PLACES],
+    pub potentials: [u64; PLACES],
     pub marked: [bool; PLACES],
 }

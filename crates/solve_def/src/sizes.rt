@@ -30,13 +30,13 @@ pub const MOST_AMOUNT: u64 = 549_755_813_888;
 // The greatest marginal cost of a step on a metered stream.
 pub const MOST_MARGINAL: u64 = MAX_WEIGHT as u64 * (2 * (MOST_AMOUNT + MOST_READING) + MOST_STEP);
 
-// A price p is held as p + PRICE_SHIFT; below PRICE_FLOOR prices are closed up.
-pub const PRICE_SHIFT: u64 = 144_115_188_075_855_872;
+// A potential p is held as p + POTENTIAL_SHIFT; below POTENTIAL_FLOOR potentials are closed up.
+pub const POTENTIAL_SHIFT: u64 = 144_115_188_075_855_872;
 
-pub const PRICE_FLOOR: u64 = PRICE_SHIFT - PLACES as u64 * MOST_MARGINAL;
+pub const POTENTIAL_FLOOR: u64 = POTENTIAL_SHIFT - PLACES as u64 * MOST_MARGINAL;
 
-// Prices of a hint are at most this below PRICE_SHIFT, and its unmetered amounts at most HINT_ROOM in size.
-pub const PRICE_SPREAD: u64 = 18_014_398_509_481_984;
+// Potentials of a hint are at most this below POTENTIAL_SHIFT, and its unmetered amounts at most HINT_ROOM in size.
+pub const POTENTIAL_SPREAD: u64 = 18_014_398_509_481_984;
 
 pub const HINT_ROOM: u64 = 35_184_372_088_832;
 

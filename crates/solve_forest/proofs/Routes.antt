@@ -25,6 +25,7 @@ routes-none = record {
   close = λ k l m. let e = getD-replicate {A = ℕ} maxStreams k flowShift 0 l in (omega arith, omega arith);
 }
 
+-- A store of an amount within the hint's room.
 pub routes-set : {ss : List Stream} {xs : List ℕ} → Routes ss xs → (i x : ℕ) → i < maxStreams → Close hintRoom x → Routes ss (set xs i x)
 routes-set {ss} {xs} r i x l h = record {
   long = length-set xs i x ∙ r .long;
@@ -41,5 +42,6 @@ kept-set {streams} {n} {xs} {ys} h i x u = record {
   each = λ k l m. getD-set-other ys i k x 0 (λ q. clash _ m (ap (λ (j : ℕ). getD streams j noStream .metered) q ∙ u .1)) ∙ h .each k l m;
 }
 
+-- All amounts can be held.
 pub routes-amounts : {ss : List Stream} {xs : List ℕ} → Routes ss xs → Amounts xs
 routes-amounts r = r .most

@@ -10,23 +10,26 @@ use borrow.Author.Count.{below-more}
 use Rattle.plant_def.specs.declared.Stream.{Stream}
 use Rattle.plant_def.specs.Limits.{places, maxUnits}
 use Rattle.solve_forest.specs.Forests.{Spanning, Unmetered, Listed}
-use Rattle.solve_def.specs.Counts.{countTo}
+use Rattle.solve_def.specs.Counts.{countPlaces}
 use Rattle.solve_def.proofs.Counting.{count-most, count-more}
 
+-- A forest has no more streams than there are places.
 pub spanning-short : {reached : List Bool} {via : List ℕ} {into : List Bool} {len : ℕ} → Spanning reached via into len → len ≤ places
 spanning-short {reached} s = omega (arith, s .few, count-most maxUnits (λ u. getD reached u false))
 
 -- One place more, e over stream i.
 module _ {reached : List Bool} {via : List ℕ} {into : List Bool} {len : ℕ} (s : Spanning reached via into len) (e : ℕ) (l : e < places) (free : getD reached e false ≡ false) where
-  more : countTo maxUnits (λ u. getD (set reached e true) u false) ≡ suc (countTo maxUnits (λ u. getD reached u false))
+  more : countPlaces maxUnits (λ u. getD (set reached e true) u false) ≡ suc (countPlaces maxUnits (λ u. getD reached u false))
   more =
       count-more maxUnits e (λ u. getD reached u false) (λ u. getD (set reached e true) u false) (omega arith) free
       (getD-set-same reached e true false (rw (s .reaches) l))
       (λ u q. getD-set-other reached e u true false q)
 
+  -- There is room for one stream more.
   pub spanning-room : len < places
   spanning-room = omega (arith, s .few, more, count-most maxUnits (λ u. getD (set reached e true) u false))
 
+  -- One place more is reached.
   pub spanning-grown : (i : ℕ) (b : Bool) → Spanning (set reached e true) (set via len i) (set into len b) (len + 1)
   spanning-grown i b = record {
     reaches = length-set reached e true ∙ s .reaches;
@@ -35,6 +38,7 @@ module _ {reached : List Bool} {via : List ℕ} {into : List Bool} {len : ℕ} (
     few = omega (arith, s .few, more);
   }
 
+  -- Over an unmetered stream.
   pub listed-grown : (i : ℕ) (ss : List Stream) (n : ℕ) → Unmetered ss n i → Listed ss n via len → Listed ss n (set via len i) (len + 1)
   listed-grown i ss n m h =
       below-more (λ k. Unmetered ss n (getD (set via len i) k 0)) len

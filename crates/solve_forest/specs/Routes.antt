@@ -30,3 +30,8 @@ pub record Routing (ls : List ℕ) (f : Forest) (xs : List ℕ) : Type 0 where
   pub laying : Laying ls rows
   pub forest : Routable (laying .streams) (laying .n) f
   pub routes : Routes (take (laying .n) (laying .streams)) xs
+
+-- What routing comes to.
+abbrev pub Routed : List ℕ → Forest → List ℕ → List ℕ → Type 0
+Routed ls f xs ys =
+    (w : Routing ls f xs) → Routes (take (w .laying .n) (w .laying .streams)) ys × Kept (w .laying .streams) (w .laying .n) xs ys

@@ -11,16 +11,14 @@ use solve_def::sizes::NET_SHIFT;
 use std::num::wrapping_add_u64;
 use std::num::wrapping_sub_u64;
 ghost use mathlib.Core.Path.{_≡_};
-ghost use mathlib.Core.List.{List};
-ghost use Prim.Native.Nat.{ℕ, _<_};
-ghost use lib.ListN.{length, take};
-ghost use Rattle.plant_def.specs.declared.Stream.{Stream};
+ghost use Prim.Native.Nat.{_<_};
+ghost use lib.ListN.{length};
 ghost use Rattle.plant_def.specs.Limits.{places};
 ghost use Rattle.solve_arcs.specs.ArcNeeds.{Laying};
-ghost use Rattle.solve_forest.specs.Forests.{Spanning, Unmetered, Listed, Routable};
+ghost use Rattle.solve_forest.specs.Forests.{Spanning, ListedMore, ListedOf, Routable};
 ghost use Rattle.solve_def.specs.SearchNeeds.{Close};
 ghost use Rattle.solve_def.specs.Sizes.{hintRoom};
-ghost use Rattle.solve_forest.specs.Routes.{Routes, Kept, Routing};
+ghost use Rattle.solve_forest.specs.Routes.{Routing, Routed};
 
 // A spanning forest of unmetered streams: in the order in which places were reached, the stream that leads to each, and whether
 // it leads into it.
@@ -54,7 +52,10 @@ fn reach(
     inwards: bool,
 ) -> usize
     requires { ⌜ Spanning (now reached) (now via) (now into) len × (e < places) ⌝ }
-    ensures { λ r. ⌜ Spanning (now (reached .exit)) (now (via .exit)) (now (into .exit)) r × ((ss : List Stream) (n : ℕ) → Unmetered ss n i → Listed ss n (now (via .entry)) len → Listed ss n (now (via .exit)) r) ⌝ }
+    ensures { λ r. ⌜
+        Spanning (now (reached .exit)) (now (via .exit)) (now (into .exit)) r
+        × ListedMore i (now (via .entry)) len (now (via .exit)) r
+        ⌝ }
 {
     if reached[e] {
         return len;
@@ -76,7 +77,10 @@ fn along(
     v: usize,
 ) -> usize
     requires { ⌜ Spanning (now reached) (now via) (now into) len × (u < places) × (v < places) ⌝ }
-    ensures { λ r. ⌜ Spanning (now (reached .exit)) (now (via .exit)) (now (into .exit)) r × ((ss : List Stream) (n : ℕ) → Unmetered ss n i → Listed ss n (now (via .entry)) len → Listed ss n (now (via .exit)) r) ⌝ }
+    ensures { λ r. ⌜
+        Spanning (now (reached .exit)) (now (via .exit)) (now (into .exit)) r
+        × ListedMore i (now (via .entry)) len (now (via .exit)) r
+        ⌝ }
 {
     if reached[u] {
         return reach(reached, via, into, len, i, v, true);
@@ -96,8 +100,14 @@ fn pass(
     into: &mut [bool; PLACES],
     start: usize,
 ) -> usize
-    requires { ⌜ Laying (now arcs) (now rows) × Spanning (now reached) (now via) (now into) start × ((w : Laying (now arcs) (now rows)) → Listed (w .streams) (w .n) (now via) start) ⌝ }
-    ensures { λ r. ⌜ Spanning (now (reached .exit)) (now (via .exit)) (now (into .exit)) r × ((w : Laying (now (arcs .entry)) (now (rows .entry))) → Listed (w .streams) (w .n) (now (via .exit)) r) ⌝ }
+    requires { ⌜
+        Laying (now arcs) (now rows) × Spanning (now reached) (now via) (now into) start
+        × ListedOf (now arcs) (now rows) (now via) start
+        ⌝ }
+    ensures { λ r. ⌜
+        Spanning (now (reached .exit)) (now (via .exit)) (now (into .exit)) r
+        × ListedOf (now (arcs .entry)) (now (rows .entry)) (now (via .exit)) r
+        ⌝ }
 {
     let n = count_of(arcs);
     let mut len = start;
@@ -200,7 +210,7 @@ fn routed(nets: &mut [u64; PLACES], u: usize, v: usize, into: bool) -> u64
 // The place reached last first, so that only labels keep a net.
 pub fn route(arcs: &[u8; ARCS], f: Forest, nets: &mut [u64; PLACES], flows: &mut [u64; MAX_STREAMS])
     requires { ⌜ Routing (now arcs) f (now flows) × (length (now nets) ≡ places) ⌝ }
-    ensures { λ _. ⌜ ((w : Routing (now (arcs .entry)) f (now (flows .entry))) → Routes (take (w .laying .n) (w .laying .streams)) (now (flows .exit)) × Kept (w .laying .streams) (w .laying .n) (now (flows .entry)) (now (flows .exit))) ⌝ }
+    ensures { λ _. ⌜ Routed (now (arcs .entry)) f (now (flows .entry)) (now (flows .exit)) ⌝ }
 {
     let mut k = f.len;
     while 0 < k {

@@ -31,7 +31,7 @@ module _ (ls rs : List ℕ) (d : ℕ) (st : State) (w : Phasable ls rs d st) whe
   pub phase-margined : (xs ms : List ℕ) → Margined (countOf ls) rs xs d 0 ms → Margined (w .n) rs xs d 0 ms
   phase-margined xs ms m = subst (λ (k : ℕ). Margined k rs xs d 0 ms) (w .laid .along .counted) m
 
-abbrev pub improve-searching : (ls rs ms : List ℕ) (d : ℕ) (st : State) → Improvable ls rs ms d st → Searching ls ms (st .prices) d 0
+abbrev pub improve-searching : (ls rs ms : List ℕ) (d : ℕ) (st : State) → Improvable ls rs ms d st → Searching ls ms (st .potentials) d 0
 improve-searching ls rs ms d st w = record {
   streams = w .streams;
   n = w .n;
@@ -42,7 +42,7 @@ improve-searching ls rs ms d st w = record {
       network = w .network;
       step = w .step .1;
       amounts = λ k l. omega (arith, sound-close _ v d (w .underway .size) (w .step) st (w .underway .sound) (omega (arith, w .underway .fits)) k (omega (arith, w .network .within .few-streams)) .0);
-      prices = w .underway .sound .capped;
+      potentials = w .underway .sound .capped;
     };
     held = w .underway .sound .held;
     moderate = sound-moderate _ v d (w .underway .size) st (w .step .1) (w .underway .sound);

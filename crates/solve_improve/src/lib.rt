@@ -27,16 +27,16 @@ pub fn improve_from(
     rows: &[u64; ROWS],
     margins: &mut [u64; MARGINS],
     flows: &mut [u64; MAX_STREAMS],
-    prices: &mut [u64; PLACES],
+    potentials: &mut [u64; PLACES],
     nets: &mut [u64; PLACES],
     q: Quest,
 ) -> Searched
-    requires { ⌜ Improvable (now arcs) (now rows) (now margins) (q .delta) (stateOf (now flows) (now prices) (now nets)) × (q .start < places) × (netShift + q .delta ≤ getD (now nets) (q .start) 0) ⌝ }
-    ensures { λ r. ⌜ ((w : Improvable (now (arcs .entry)) (now (rows .entry)) (now (margins .entry)) (q .delta) (stateOf (now (flows .entry)) (now (prices .entry)) (now (nets .entry)))) → (improvedBy (r .found) (stateOf (now (flows .exit)) (now (prices .exit)) (now (nets .exit))) (r .tree .visited) ≡ improvedAt (take (w .n) (w .streams)) (stateOf (now (flows .entry)) (now (prices .entry)) (now (nets .entry))) (q .delta) (q .start)) × Margined (w .n) (now (rows .entry)) (now (flows .exit)) (q .delta) 0 (now (margins .exit))) ⌝ }
+    requires { ⌜ Improvable (now arcs) (now rows) (now margins) (q .delta) (stateOf (now flows) (now potentials) (now nets)) × (q .start < places) × (netShift + q .delta ≤ getD (now nets) (q .start) 0) ⌝ }
+    ensures { λ r. ⌜ ((w : Improvable (now (arcs .entry)) (now (rows .entry)) (now (margins .entry)) (q .delta) (stateOf (now (flows .entry)) (now (potentials .entry)) (now (nets .entry)))) → (improvedBy (r .found) (stateOf (now (flows .exit)) (now (potentials .exit)) (now (nets .exit))) (r .tree .visited) ≡ improvedAt (take (w .n) (w .streams)) (stateOf (now (flows .entry)) (now (potentials .entry)) (now (nets .entry))) (q .delta) (q .start)) × Margined (w .n) (now (rows .entry)) (now (flows .exit)) (q .delta) 0 (now (margins .exit))) ⌝ }
 {
     let s = q.start;
     let delta = q.delta;
-    let h = search(arcs, margins, prices, nets, s, delta);
+    let h = search(arcs, margins, potentials, nets, s, delta);
     let t = h.tree;
     if !h.found {
         return Searched {
@@ -62,7 +62,7 @@ pub fn improve_from(
         },
     );
     shift_nets(nets, s, target as usize, delta);
-    refloor(prices);
+    refloor(potentials);
     Searched {
         found: true,
         tree: t,

@@ -21,10 +21,12 @@ use Rattle.solve_arcs.specs.Cells.{toCell, countOf}
 use Rattle.solve_arcs.specs.ArcNeeds.{Laying}
 use Rattle.solve_arcs.proofs.Rowing.{below, from-is, to-is}
 
+-- No stream yet.
 pub bounded-none : (ss : List Stream) (ms : List Bool) → boundedTo ss ms 0 ≡ true
 unfolding boundedTo
 bounded-none ss ms = refl
 
+-- Nothing is pressed in yet.
 pub pressed-none : (ss : List Stream) (ms : List Bool) → pressedTo ss ms 0 ≡ 0
 unfolding pressedTo
 pressed-none ss ms = refl
@@ -72,6 +74,7 @@ module _ (ls rs : List ℕ) (w : Laying ls rs) (ms : List Bool) (i : ℕ) (l : i
   abbrev push : ℕ
   push = pressed (getD ms from false) (getD ms to false) low high
 
+  -- The range of a row can be held.
   pub row-range : (low ≤ mostFlow) × (high ≤ mostFlow)
   row-range =
       let s = getD (w .streams) i noStream in
@@ -84,14 +87,17 @@ module _ (ls rs : List ℕ) (w : Laying ls rs) (ms : List Bool) (i : ℕ) (l : i
   push-is : push ≡ pressed (getD ms (streamAt ss i .from) false) (getD ms (streamAt ss i .to) false) (lowOf (streamAt ss i)) (highOf (streamAt ss i))
   push-is = rw (from-is ls rs w i l, to-is ls rs w i l, w .laid .rowed .lows i (below ls rs w i l), w .laid .rowed .highs i (below ls rs w i l), stream-is (w .streams) (w .n) i (below ls rs w i l))
 
+  -- One stream more may stand where it stands.
   pub bounded-next : may ≡ true → boundedTo ss ms i ≡ true → boundedTo ss ms (i + 1) ≡ true
   unfolding boundedTo
   bounded-next e r = rw add-one (and-both _ _ (sym may-is ∙ e) r)
 
+  -- One stream more is summed.
   pub pressed-next : pressedTo ss ms (i + 1) ≡ push + pressedTo ss ms i
   unfolding pressedTo
   pressed-next = rw add-one (ap (λ (k : ℕ). k + pressedTo ss ms i) (sym push-is))
 
+  -- One may not: the set is not full.
   pub full-stop : may ≡ false → false ≡ overfull ss ms
   full-stop e = sym (rw (bounded-stop ss ms i (length ss) (rw (in-use (w .streams) (w .n) (w .network)) (below ls rs w i l)) (sym may-is ∙ e)))
 

@@ -9,14 +9,11 @@ use solve_def::sizes::FLOW_SHIFT;
 use solve_def::sizes::MOST_FLOW;
 ghost use mathlib.Core.Path.{_≡_};
 ghost use Prim.Native.Nat.{_≤_};
-ghost use lib.ListN.{take};
 ghost use mathlib.Core.Bool.{true, false};
-ghost use Rattle.num_bytes.specs.Choice.{pick};
 ghost use Rattle.solve_def.specs.Sizes.{mostFlow};
 ghost use Rattle.solve_def.specs.Full as F;
-ghost use Rattle.solve_def.specs.Full.{mayCross};
-ghost use Rattle.flow_def.specs.Overfull.{unmarked};
-ghost use Rattle.solve_arcs.specs.ArcNeeds.{Laying};
+ghost use Rattle.solve_def.specs.Full.{mayCross, haltAt};
+ghost use Rattle.solve_arcs.specs.ArcNeeds.{Laying, OfStreams};
 
 // Whether a stream may stand across the edge of a set, by whether its start and its end are in the set, and its low.
 fn may_cross(start: bool, end: bool, low: u64) -> bool
@@ -48,7 +45,7 @@ fn pressed(start: bool, end: bool, low: u64, high: u64) -> u64
 // Every stream across has a range, and the lows in sum to more than the highs out.
 fn overfull(arcs: &[u8; ARCS], rows: &[u64; ROWS], marked: &[bool; PLACES]) -> bool
     requires { ⌜ Laying (now arcs) (now rows) ⌝ }
-    ensures { λ r. ⌜ ((w : Laying (now (arcs .entry)) (now (rows .entry))) → r ≡ F.overfull (take (w .n) (w .streams)) (now (marked .entry))) ⌝ }
+    ensures { λ r. ⌜ OfStreams (now (arcs .entry)) (now (rows .entry)) (λ ss n. r ≡ F.overfull ss (now (marked .entry))) ⌝ }
 {
     let n = count_of(arcs);
     let mut sum: u64 = 0;
@@ -69,7 +66,7 @@ fn overfull(arcs: &[u8; ARCS], rows: &[u64; ROWS], marked: &[bool; PLACES]) -> b
 // Where no improvement can be made: the visited places, if they are such a set.
 pub fn tested(arcs: &[u8; ARCS], rows: &[u64; ROWS], visited: [bool; PLACES]) -> Halt
     requires { ⌜ Laying (now arcs) (now rows) ⌝ }
-    ensures { λ r. ⌜ ((w : Laying (now (arcs .entry)) (now (rows .entry))) → r ≡ pick (F.overfull (take (w .n) (w .streams)) visited) (record { full = true; marked = visited }) (record { full = false; marked = unmarked })) ⌝ }
+    ensures { λ r. ⌜ OfStreams (now (arcs .entry)) (now (rows .entry)) (λ ss n. r ≡ haltAt ss visited) ⌝ }
 {
     if overfull(arcs, rows, &visited) {
         return Halt {

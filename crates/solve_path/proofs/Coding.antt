@@ -1,6 +1,6 @@
 -- The codes that a walk keeps: what an offer changes.
 use mathlib.Core.Path.{_≡_, refl, sym, _∙_, ap}
-use mathlib.Core.Bool.{Bool, true, false, _||_}
+use mathlib.Core.Bool.{Bool, true, false}
 use mathlib.Core.List.{List}
 use Prim.Native.Nat.{ℕ, _+_, _*_, _/_, _%_, _^_, _≤_, _<_}
 use native.Mathlib.Omega.{arith}
@@ -19,7 +19,7 @@ use Rattle.flow_def.proofs.Binary.{bit-or, bit-zero, bit-other}
 use Rattle.flow_def.proofs.Passed.{shifted}
 use Rattle.solve_def.specs.Sizes.{far, farthest}
 use Rattle.solve_def.specs.Near.{codeOf, lessened, arcAt, relaxedAlong, relaxedTo}
-use Rattle.solve_def.specs.Fringe.{Open, openedBy}
+use Rattle.solve_def.specs.Fringe.{openedBy}
 use Rattle.solve_def.proofs.Opening.{open-offered}
 use Rattle.solve_arcs.specs.Cells.{toCell, nextCell, countOf, startsOf, endsOf}
 use Rattle.solve_arcs.specs.Margins.{lessOf, reducedCost, reducedCosts}
@@ -27,14 +27,17 @@ use Rattle.solve_arcs.specs.ArcNeeds.{Linked}
 use Rattle.solve_arcs.proofs.Passing.{along-visited, along-open, all-passed, low, low-all, head-in, next-is, passed}
 use Rattle.solve_path.specs.Codes.{shown, Coded, Looked}
 
+-- The code of a place as the definition has it.
 pub shown-at : (vs : List Bool) (near : List ℕ) (v : ℕ) → v < places → getD (shown vs near) v 0 ≡ pick (getD vs v false) far (getD near v 0)
 unfolding shown
 shown-at vs near v l = values-at (λ v. pick (getD vs v false) far (getD near v 0)) 0 places v l
 
+-- As many codes as places.
 pub shown-long : (vs : List Bool) (near : List ℕ) → length (shown vs near) ≡ places
 unfolding shown
 shown-long vs near = values-long (λ v. pick (getD vs v false) far (getD near v 0)) places
 
+-- That of a place that is not visited is the one that is kept.
 pub shown-open : (vs : List Bool) (near : List ℕ) (v : ℕ) → v < places → getD vs v false ≡ false → getD (shown vs near) v 0 ≡ getD near v 0
 shown-open vs near v l o = shown-at vs near v l ∙ rw o
 
@@ -54,9 +57,11 @@ shown-set vs near v c l long o =
     ]
 
 module _ (vs : List Bool) (near : List ℕ) (m v k g i : ℕ) (w : Coded vs near m) (l : v < places) (long : length near ≡ places) (few : i < maxStreams) where
+  -- The codes after an offer.
   abbrev pub offered : List ℕ
   offered = lessened near v (codeOf (k + g) i)
 
+  -- The fringe after it.
   abbrev pub widened : ℕ
   widened = bitOr m (openedBy far near v (k + g) i)
 
@@ -100,10 +105,10 @@ module _ (vs : List Bool) (near : List ℕ) (m v k g i : ℕ) (w : Coded vs near
       fringe = rw (less-shown, ← same-opened) (open-offered far (shown vs near) m v (k + g) i (w .fringe) l (shown-long vs near) (omega arith));
     }
 
-  pub offered-coded : Coded vs offered widened
+  offered-coded : Coded vs offered widened
   offered-coded = by-cases (getD vs v false) (λ o. rw (same-codes o, same-fringe o) w) new
 
-  pub offered-along : shown vs offered ≡ relaxedAlong vs k v g i (shown vs near)
+  offered-along : shown vs offered ≡ relaxedAlong vs k v g i (shown vs near)
   offered-along = by-cases (getD vs v false)
       (λ o. ap (shown vs) (same-codes o) ∙ along-visited vs k v g i (shown vs near) o)
       (λ o. less-shown o ∙ along-open vs k v g i (shown vs near) o)
@@ -112,6 +117,7 @@ module _ (vs : List Bool) (near : List ℕ) (m v k g i : ℕ) (w : Coded vs near
 pub stored : (near : List ℕ) (v c : ℕ) → set near v (lessOf (getD near v 0) c) ≡ lessened near v c
 stored near v c = by-cases (ltb c (getD near v 0)) (λ t. rw t) (λ t. rw t (set-getD near v 0))
 
+-- What the code computes is the place's bit, or 0.
 pub bit-of : (near : List ℕ) (v d i : ℕ) → v < places → d < 2 * farthest
     → pick {A = ℕ} (ltb (codeOf d i) (getD near v 0)) 1 0 * 2 ^ v % 2 ^ 64 ≡ openedBy far near v d i
 bit-of near v d i l m = by-cases (ltb (codeOf d i) (getD near v 0)) (λ t. rw (t, within) (shifted v l)) (λ t. rw t (nothing (2 ^ v)))
@@ -134,16 +140,19 @@ pub record Turn (ls ms ps : List ℕ) (k e : ℕ) (near₀ : List ℕ) (fringe�
       ≡ relaxedTo (startsOf ls) (endsOf ls) (reducedCosts ls ms ps true) (reducedCosts ls ms ps false) vs k e (countOf ls) (shown vs near₀)
 
 module _ (ls ms ps : List ℕ) (k e : ℕ) (near₀ : List ℕ) (fringe₀ : ℕ) where
+  -- No arc is gone along yet.
   pub turn-none : length near₀ ≡ places → (arc : ℕ) → arc ≡ arcAt (startsOf ls) (endsOf ls) e (countOf ls) → Turn ls ms ps k e near₀ fringe₀ near₀ fringe₀ arc
   turn-none long arc h = record { long = long; m = countOf ls; few = omega arith; at = h; coded = λ vs c. c; same = λ vs c. refl }
 
   module _ (near : List ℕ) (fringe arc : ℕ) (t : Turn ls ms ps k e near₀ fringe₀ near fringe arc) (w : Linked ls) where
+    -- All arcs of the place are gone along.
     pub turn-all : 2 * maxStreams ≤ arc → (vs : List Bool) → Coded vs near₀ fringe₀ → Looked ls ms ps k e near₀ fringe₀ near fringe vs
     turn-all l vs c = record {
       coded = t .coded vs c;
       same = sym (all-passed ls w e (t .m) arc (t .few) (t .at) l _ _ vs k (shown vs near)) ∙ t .same vs c;
     }
 
+    -- One more is.
     pub turn-more : arc < 2 * maxStreams
         → Turn ls ms ps k e near₀ fringe₀
         (lessened near (getD ls (toCell + arc) 0) (codeOf (k + reducedCost (getD ms arc 0) (getD ps e 0) (getD ps (getD ls (toCell + arc) 0) 0)) (arc / 2)))

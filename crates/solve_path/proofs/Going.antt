@@ -1,9 +1,8 @@
 -- The walk's loop over arcs, by the codes that are kept.
-use mathlib.Core.Path.{_≡_, refl, sym, _∙_, ap}
-use mathlib.Core.Bool.{Bool, true, false}
+use mathlib.Core.Path.{_≡_, sym, _∙_}
+use mathlib.Core.Bool.{true, false}
 use mathlib.Core.List.{List}
-use Prim.Native.Nat.{ℕ, _+_, _-_, _≤_, _<_}
-use native.Mathlib.Omega.{arith}
+use Prim.Native.Nat.{ℕ, _-_, _≤_, _<_}
 use native.Mathlib.Decide.{ℕ-discrete}
 use lib.ListN.{length, getD, set, replicate, length-set, length-replicate, getD-replicate}
 use lib.Seq.{ext-getD, getD-set-same, getD-set-other}
@@ -15,9 +14,10 @@ use Rattle.solve_def.specs.declared.Spot.{Spot}
 use Rattle.solve_def.specs.declared.Tree.{Tree}
 use Rattle.solve_def.specs.Sizes.{netShift, searchRounds, far}
 use Rattle.solve_def.specs.Search.{rootAt, addedTo}
-use Rattle.solve_def.specs.Near.{walkedBy, walked}
+use Rattle.solve_def.specs.Near.{walkedBy}
 use Rattle.solve_def.proofs.Opening.{open-none}
 use Rattle.solve_arcs.specs.Cells.{countOf, startsOf, endsOf}
+use Rattle.solve_arcs.specs.ArcNeeds.{walkedFrom}
 use Rattle.solve_arcs.specs.Margins.{reducedCosts}
 use Rattle.solve_path.specs.Codes.{shown, Coded}
 use Rattle.solve_path.proofs.Coding.{shown-at, shown-long}
@@ -29,6 +29,7 @@ module _ (s : ℕ) (l : s < places) where
   abbrev codes : List ℕ
   codes = set (replicate places far) s 0
 
+  -- Before the first step no place has a code.
   pub first-shown : shown (rootAt s .visited) codes ≡ replicate places far
   first-shown = ext-getD 0 (shown (rootAt s .visited) codes) (replicate places far) (shown-long (rootAt s .visited) codes) (λ u b. each u (rw (shown-long (rootAt s .visited) codes) at b))
     where
@@ -38,6 +39,7 @@ module _ (s : ℕ) (l : s < places) where
         | no q ↦ rw (getD-set-other (replicate places false) s u true false q, getD-replicate places u false false b) (getD-set-other (replicate places far) s u 0 0 q)
       ])
 
+  -- And the fringe is empty.
   pub first-coded : Coded (rootAt s .visited) codes 0
   first-coded = record {
     zero = λ v b o. elim (ℕ-discrete v s) [
@@ -52,12 +54,14 @@ module _ (ls ms ps es : List ℕ) (s : ℕ) where
   abbrev Walks : ℕ → Spot → Tree → List ℕ → List ℕ → Type 0
   Walks left at t ks near = W.Walking (startsOf ls) (endsOf ls) (reducedCosts ls ms ps true) (reducedCosts ls ms ps false) (countOf ls) es far s left at t ks near
 
+  -- What holds of the walk with `left` steps to go.
   pub record Going (left : ℕ) (at : Spot) (t : Tree) (ks near : List ℕ) : Type 0 where
     pub walks : Walks left at t ks (shown (t .visited) near)
     pub long : length near ≡ places
     pub visits : length (t .visited) ≡ places
     pub coded : Coded (t .visited) near (at .fringe)
 
+  -- Before the first step.
   pub starts : s < places → Going searchRounds (record { place = s; distance = 0; stream = 0; fringe = 0 }) (rootAt s) (replicate places 0) (set (replicate places far) s 0)
   starts l = record {
     walks = rw (first-shown s l) (W.starts _ _ _ _ _ _ _ s l);
@@ -67,27 +71,33 @@ module _ (ls ms ps es : List ℕ) (s : ℕ) where
   }
 
   module _ (left : ℕ) (at : Spot) (t : Tree) (ks near : List ℕ) (g : Going left at t ks near) where
+    -- No steps are left.
     pub ends : left ≤ 0 → walkedBy false t ks (at .distance)
-        ≡ walked (startsOf ls) (endsOf ls) (reducedCosts ls ms ps true) (reducedCosts ls ms ps false) (countOf ls) es far searchRounds 0 s (replicate places 0) (replicate places far) (rootAt s)
+        ≡ walkedFrom ls ms ps es far s
     ends l = W.ends _ _ _ _ _ _ _ s left at t ks (shown (t .visited) near) (g .walks) l
 
     module _ (p : 0 < left) (next : List ℕ) (r : Spot) (h : Paced ls ms ps (at .distance) (at .place) near next r (t .visited)) where
+      -- No place is taken.
       pub stops : r .place ≡ places → walkedBy false t ks (r .distance)
-          ≡ walked (startsOf ls) (endsOf ls) (reducedCosts ls ms ps true) (reducedCosts ls ms ps false) (countOf ls) es far searchRounds 0 s (replicate places 0) (replicate places far) (rootAt s)
+          ≡ walkedFrom ls ms ps es far s
       stops q = W.stops _ _ _ _ _ _ _ s left at t ks _ (g .walks) p _ r (h .stepped) q
 
+      -- There is room in the tree.
       pub room : t .len < places
       room = W.room _ _ _ _ _ _ _ s left at t ks _ (g .walks) p _ r (h .stepped)
 
       module _ (q : r .place ≡ places → ⊥) where
+        -- The place that is taken is a place.
         pub within : r .place < places
         within = W.within _ _ _ _ _ _ _ s left at t ks _ (g .walks) p _ r (h .stepped) q
 
+        -- It has a negative net.
         pub hits : getD es (r .place) 0 < netShift
             → walkedBy true (addedTo t (r .stream) (r .place)) (set ks (r .place) (r .distance)) (r .distance)
-            ≡ walked (startsOf ls) (endsOf ls) (reducedCosts ls ms ps true) (reducedCosts ls ms ps false) (countOf ls) es far searchRounds 0 s (replicate places 0) (replicate places far) (rootAt s)
+            ≡ walkedFrom ls ms ps es far s
         hits m = W.hits _ _ _ _ _ _ _ s left at t ks _ (g .walks) p _ r (h .stepped) q m
 
+        -- It has none, and the walk goes on.
         pub goes-on : length next ≡ places → netShift ≤ getD es (r .place) 0
             → Going (left - 1) r (addedTo t (r .stream) (r .place)) (set ks (r .place) (r .distance)) next
         goes-on long m = record {

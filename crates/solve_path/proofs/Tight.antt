@@ -2,7 +2,7 @@
 use mathlib.Core.Path.{_≡_, refl, sym, _∙_, ap}
 use mathlib.Core.Bool.{Bool, true, false}
 use mathlib.Core.List.{List}
-use Prim.Native.Nat.{ℕ, _+_, _-_, _/_, _≤_, _<_}
+use Prim.Native.Nat.{ℕ, _-_, _/_, _≤_, _<_}
 use native.Mathlib.Omega.{arith}
 use borrow.Author.Tests.{lt-ltb, le-ltb, ltb-false}
 use lib.Dec.{ltb}
@@ -13,17 +13,16 @@ use Rattle.plant_def.specs.Limits.{places}
 use Rattle.solve_def.specs.declared.Spot.{Spot}
 use Rattle.solve_def.specs.declared.Tree.{Tree}
 use Rattle.solve_def.specs.declared.Walked.{Walked}
-use Rattle.solve_def.specs.declared.Searched.{Searched}
-use Rattle.solve_def.specs.Sizes.{netShift, searchRounds, far, farthest, numbering}
+use Rattle.solve_def.specs.Sizes.{searchRounds, far, numbering}
 use Rattle.solve_def.specs.Search.{rootAt, addedTo}
-use Rattle.solve_def.specs.Near.{nearestTo, nearestWithin, goalAt, walkedBy, walked}
+use Rattle.solve_def.specs.Near.{nearestTo, nearestWithin, goalAt, walkedBy}
 use Rattle.solve_def.specs.Fringe.{Open, Stepped}
 use Rattle.solve_def.proofs.Filling.{getD-any, relaxed-all-long}
 use Rattle.solve_def.proofs.Nearing.{nearest-is}
-use Rattle.solve_def.proofs.Steps.{within-is}
-use Rattle.solve_def.proofs.Stepping.{step-none}
+use Rattle.solve_def.proofs.Steps.{within-is, step-none}
 use Rattle.solve_def.proofs.Rounding.{goal-hit, goal-miss}
 use Rattle.solve_arcs.specs.Cells.{countOf, startsOf, endsOf}
+use Rattle.solve_arcs.specs.ArcNeeds.{walkedFrom}
 use Rattle.solve_arcs.specs.Margins.{reducedCosts}
 use Rattle.solve_path.specs.Codes.{shown, Coded, lookedAt}
 use Rattle.solve_path.proofs.Coding.{shown-long}
@@ -75,8 +74,9 @@ module _ (ls ms ps : List ℕ) (s v : ℕ) where
   Walks left at t ks near = W.Walking (startsOf ls) (endsOf ls) (reducedCosts ls ms ps true) (reducedCosts ls ms ps false) (countOf ls) (goalAt v) 0 s left at t ks near
 
   abbrev All : Walked
-  All = walked (startsOf ls) (endsOf ls) (reducedCosts ls ms ps true) (reducedCosts ls ms ps false) (countOf ls) (goalAt v) 0 searchRounds 0 s (replicate places 0) (replicate places far) (rootAt s)
+  All = walkedFrom ls ms ps (goalAt v) 0 s
 
+  -- What holds of the walk without slack with `left` steps to go.
   pub record Tight (left : ℕ) (at : Spot) (t : Tree) (near : List ℕ) : Type 0 where
     pub ks : List ℕ
     pub walks : Walks left at t ks (shown (t .visited) near)
@@ -84,6 +84,7 @@ module _ (ls ms ps : List ℕ) (s v : ℕ) where
     pub visits : length (t .visited) ≡ places
     pub coded : Coded (t .visited) near (at .fringe)
 
+  -- Before the first step.
   pub tight-starts : s < places → Tight searchRounds (record { place = s; distance = 0; stream = 0; fringe = 0 }) (rootAt s) (set (replicate places far) s 0)
   tight-starts l = record {
     ks = replicate places 0;
@@ -97,6 +98,7 @@ module _ (ls ms ps : List ℕ) (s v : ℕ) where
   told b t ks k e = (ap (λ (w : Walked). w .found) e, ap (λ (w : Walked). w .tree) e)
 
   module _ (left : ℕ) (at : Spot) (t : Tree) (near : List ℕ) (g : Tight left at t near) where
+    -- No steps are left.
     pub tight-ends : left ≤ 0 → Tightly All (record { found = false; tree = t })
     tight-ends l = told false t (g .ks) (at .distance) (W.ends _ _ _ _ _ _ _ s left at t (g .ks) (shown (t .visited) near) (g .walks) l)
 
@@ -104,25 +106,27 @@ module _ (ls ms ps : List ℕ) (s v : ℕ) where
       coded-long : length (lookedAt ls ms ps (t .visited) (at .distance) (at .place) (shown (t .visited) near)) ≡ places
       coded-long = relaxed-all-long (startsOf ls) (endsOf ls) _ _ (t .visited) (at .distance) (at .place) (countOf ls) (shown (t .visited) near) ∙ shown-long (t .visited) near
 
+      -- No place is taken.
       pub tight-stops : r .place ≡ places → Tightly All (record { found = false; tree = t })
       tight-stops q = told false t (g .ks) _ (W.stops _ _ _ _ _ _ _ s left at t (g .ks) _ (g .walks) p _ _ (none-tight _ coded-long _ _ r (h .stepped) q) refl)
 
-      pub tight-room : t .len < places
-      tight-room = omega (arith, g .walks .rounds)
-
       module _ (q : r .place ≡ places → ⊥) where
+        -- The nearest place lies behind slack.
         pub tight-slack : 0 < r .distance → Tightly All (record { found = false; tree = t })
         tight-slack l = told false t (g .ks) _ (W.stops _ _ _ _ _ _ _ s left at t (g .ks) _ (g .walks) p _ _ (slack-tight _ coded-long _ _ r (h .stepped) q l) refl)
 
+        -- The place that is taken is a place.
         pub tight-within : r .place < places
         tight-within = nearest-is _ (r .place) coded-long (is _ coded-long _ _ r (h .stepped) q .0) q .0
 
         module _ (z : r .distance ≤ 0) where
+          -- It is the goal.
           pub tight-hits : v < places → r .place ≡ v → Tightly All (record { found = true; tree = addedTo t (r .stream) (r .place) })
           tight-hits lv e =
               told true (addedTo t (r .stream) (r .place)) _ _
               (W.hits _ _ _ _ _ _ _ s left at t (g .ks) _ (g .walks) p _ r (low-tight _ coded-long _ _ r (h .stepped) q z) q (rw e (goal-hit v lv)))
 
+          -- It is not, and the walk goes on.
           pub tight-goes-on : length next ≡ places → (r .place ≡ v → ⊥) → Tight (left - 1) r (addedTo t (r .stream) (r .place)) next
           tight-goes-on long e = record {
             ks = set (g .ks) (r .place) (r .distance);

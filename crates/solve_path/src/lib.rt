@@ -1,4 +1,5 @@
 // Shortest paths: the search over visited places, along the arcs of each by their reduced costs.
+use num_bytes::minus;
 use plant_def::limits::PLACES;
 use solve_arcs::ARCS;
 use solve_arcs::MARGINS;
@@ -6,7 +7,6 @@ use solve_arcs::NONE;
 use solve_arcs::end_at;
 use solve_arcs::first_at;
 use solve_arcs::lesser;
-use solve_arcs::minus;
 use solve_arcs::next_at;
 use solve_arcs::reduced_cost;
 use solve_def::Searched;
@@ -17,19 +17,17 @@ use walking::walk;
 
 pub mod walking;
 
-ghost use mathlib.Core.Bool.{Bool};
-ghost use mathlib.Core.List.{List};
 ghost use mathlib.Core.Path.{_≡_};
 ghost use Prim.Native.Nat.{_+_, _*_, _<_, ℕ, _-_};
-ghost use lib.ListN.{length, take};
+ghost use lib.ListN.{length};
 ghost use Rattle.plant_def.specs.Limits.{places, maxStreams};
-ghost use Rattle.solve_def.specs.Sizes.{farthest, far, searchRounds};
+ghost use Rattle.solve_def.specs.Sizes.{farthest, far};
 ghost use Rattle.num_bytes.specs.Choice.{pick};
 ghost use Rattle.solve_def.specs.Near.{codeOf, lessened, reducedBy};
 ghost use Rattle.solve_def.specs.Fringe.{openedBy};
-ghost use Rattle.solve_arcs.specs.ArcNeeds.{Ways, Searching};
-ghost use Rattle.solve_path.specs.Codes.{Coded, Looked};
-ghost use Rattle.solve_def.specs.Search.{rootAt, grownBy, sought, tightPath};
+ghost use Rattle.solve_arcs.specs.ArcNeeds.{Searching};
+ghost use Rattle.solve_path.specs.Codes.{Standing, LookedAlong};
+ghost use Rattle.solve_path.specs.Paces.{Sought, SoughtTightly};
 
 fn digit(b: bool) -> u64
     ensures { λ r. ⌜ r ≡ pick b 1 0 ⌝ }
@@ -53,20 +51,20 @@ fn offer(near: &mut [u64; PLACES], v: usize, d: u64, i: usize) -> u64
 pub fn relax(
     arcs: &[u8; ARCS],
     margins: &[u64; MARGINS],
-    prices: &[u64; PLACES],
+    potentials: &[u64; PLACES],
     at: Spot,
     near: &mut [u64; PLACES],
 ) -> u64
-    requires { ⌜ Ways (now arcs) (now margins) (now prices) × (at .place < places) × (at .distance < farthest) × (length (now near) ≡ places) ⌝ }
-    ensures { λ r. ⌜ (length (now (near .exit)) ≡ places) × ((vs : List Bool) → Coded vs (now (near .entry)) (at .fringe) → Looked (now (arcs .entry)) (now (margins .entry)) (now (prices .entry)) (at .distance) (at .place) (now (near .entry)) (at .fringe) (now (near .exit)) r vs) ⌝ }
+    requires { ⌜ Standing (now arcs) (now margins) (now potentials) at (now near) ⌝ }
+    ensures { λ r. ⌜ LookedAlong (now (arcs .entry)) (now (margins .entry)) (now (potentials .entry)) at (now (near .entry)) (now (near .exit)) r ⌝ }
 {
     let e = at.place;
-    let p = prices[e];
+    let p = potentials[e];
     let mut fringe = at.fringe;
     let mut arc = first_at(arcs, e);
     while arc < NONE {
         let v = end_at(arcs, arc);
-        let g = reduced_cost(margins[arc], p, prices[v]);
+        let g = reduced_cost(margins[arc], p, potentials[v]);
         let bit = offer(near, v, at.distance + g, arc / 2);
         fringe = fringe | bit;
         arc = next_at(arcs, arc);
@@ -74,43 +72,43 @@ pub fn relax(
     fringe
 }
 
-// The price of a visited place falls by what the search's distance exceeds its own; another's stays.
+// The potential of a visited place falls by what the search's distance exceeds its own; another's stays.
 fn fall(visited: bool, reach: u64, dist: u64) -> u64
     ensures { λ r. ⌜ r ≡ pick visited (reach - dist) 0 ⌝ }
 {
     if visited { minus(reach, dist) } else { 0 }
 }
 
-// The prices of all places. (A place's is written whether it falls or not: which places are visited cannot be foreseen.)
-fn lower(prices: &mut [u64; PLACES], visited: &[bool; PLACES], dist: &[u64; PLACES], reach: u64)
-    requires { ⌜ length (now prices) ≡ places ⌝ }
-    ensures { λ _. ⌜ now (prices .exit) ≡ reducedBy (now (visited .entry)) (now (dist .entry)) reach (now (prices .entry)) ⌝ }
+// The potentials of all places. (A place's is written whether it falls or not: which places are visited cannot be foreseen.)
+fn lower(potentials: &mut [u64; PLACES], visited: &[bool; PLACES], dist: &[u64; PLACES], reach: u64)
+    requires { ⌜ length (now potentials) ≡ places ⌝ }
+    ensures { λ _. ⌜ now (potentials .exit) ≡ reducedBy (now (visited .entry)) (now (dist .entry)) reach (now (potentials .entry)) ⌝ }
 {
     let mut u: usize = 0;
     while u < PLACES {
         let by = fall(visited[u], reach, dist[u]);
-        prices[u] = minus(prices[u], by);
+        potentials[u] = minus(potentials[u], by);
         u += 1;
     }
 }
 
-// Places are visited, each over the stream of least slack and with the prices lowered by it, until one with a negative net is; where
-// none can be reached, the prices stay. (The walk goes along arcs by distances, and the prices fall once, at its end.)
+// Places are visited, each over the stream of least slack and with the potentials lowered by it, until one with a negative net is; where
+// none can be reached, the potentials stay. (The walk goes along arcs by distances, and the potentials fall once, at its end.)
 pub fn search(
     arcs: &[u8; ARCS],
     margins: &[u64; MARGINS],
-    prices: &mut [u64; PLACES],
+    potentials: &mut [u64; PLACES],
     nets: &[u64; PLACES],
     s: usize,
     delta: u64,
 ) -> Searched
-    requires { ⌜ Searching (now arcs) (now margins) (now prices) delta 0 × (s < places) × (length (now prices) ≡ places) ⌝ }
-    ensures { λ r. ⌜ ((w : Searching (now (arcs .entry)) (now (margins .entry)) (now (prices .entry)) delta 0) → grownBy (r .found) (r .tree) (now (prices .exit)) ≡ sought (take (w .n) (w .streams)) (w .amounts) (now (nets .entry)) (now (prices .entry)) delta s) ⌝ }
+    requires { ⌜ Searching (now arcs) (now margins) (now potentials) delta 0 × (s < places) × (length (now potentials) ≡ places) ⌝ }
+    ensures { λ r. ⌜ Sought (now (arcs .entry)) (now (margins .entry)) (now (potentials .entry)) (now (nets .entry)) delta s r (now (potentials .exit)) ⌝ }
 {
-    let w = walk(arcs, margins, prices, nets, s);
+    let w = walk(arcs, margins, potentials, nets, s);
     let t = w.tree;
     if w.found {
-        lower(prices, &t.visited, &w.dist, w.reach);
+        lower(potentials, &t.visited, &w.dist, w.reach);
     }
     Searched {
         found: w.found,
@@ -122,12 +120,12 @@ pub fn search(
 pub fn tight_path(
     arcs: &[u8; ARCS],
     margins: &[u64; MARGINS],
-    prices: &[u64; PLACES],
+    potentials: &[u64; PLACES],
     s: usize,
     v: usize,
 ) -> Searched
-    requires { ⌜ ((skip : ℕ) × Searching (now arcs) (now margins) (now prices) 1 skip) × (s < places) × (v < places) ⌝ }
-    ensures { λ r. ⌜ ((skip : ℕ) (w : Searching (now (arcs .entry)) (now (margins .entry)) (now (prices .entry)) 1 skip) → grownBy (r .found) (r .tree) (now (prices .entry)) ≡ tightPath (take (w .n) (w .streams)) (w .n) (w .amounts) (now (prices .entry)) v skip searchRounds (rootAt s)) ⌝ }
+    requires { ⌜ ((skip : ℕ) × Searching (now arcs) (now margins) (now potentials) 1 skip) × (s < places) × (v < places) ⌝ }
+    ensures { λ r. ⌜ SoughtTightly (now (arcs .entry)) (now (margins .entry)) (now (potentials .entry)) s v r ⌝ }
 {
-    tight_walk(arcs, margins, prices, s, v)
+    tight_walk(arcs, margins, potentials, s, v)
 }

@@ -13,17 +13,14 @@ use solve_def::sizes::NUMBERING;
 ghost use mathlib.Core.Bool.{Bool, true, false};
 ghost use mathlib.Core.List.{List};
 ghost use mathlib.Core.Path.{_≡_};
-ghost use Prim.Native.Nat.{_<_};
+ghost use Prim.Native.Nat.{_≤_, _<_};
 ghost use lib.ListN.{length, replicate};
 ghost use Rattle.plant_def.specs.Limits.{places};
-ghost use Rattle.solve_def.specs.Sizes.{searchRounds, farthest, far};
-ghost use Rattle.solve_def.specs.Search.{rootAt};
-ghost use Rattle.solve_def.specs.Near.{nearestWithin, goalAt, walkedBy, walked};
-ghost use Rattle.solve_arcs.specs.Cells.{countOf, startsOf, endsOf};
-ghost use Rattle.solve_arcs.specs.Margins.{reducedCosts};
-ghost use Rattle.solve_arcs.specs.ArcNeeds.{Ways};
+ghost use Rattle.solve_def.specs.Sizes.{far};
+ghost use Rattle.solve_def.specs.Near.{nearestWithin, goalAt, walkedBy};
+ghost use Rattle.solve_arcs.specs.ArcNeeds.{Ways, walkedFrom};
 ghost use Rattle.solve_path.specs.Codes.{shown, Coded};
-ghost use Rattle.solve_path.specs.Paces.{Paced, Tightly};
+ghost use Rattle.solve_path.specs.Paces.{Pacing, PacedAlong, Tightly};
 
 // The most places that a walk visits after the first.
 const ROUNDS: usize = PLACES - 1;
@@ -31,7 +28,7 @@ const ROUNDS: usize = PLACES - 1;
 // The first place of the fringe with the least code; PLACES where there is none. The lowest place is looked at first.
 fn nearest(near: &[u64; PLACES], fringe: u64) -> usize
     requires { ⌜ (length (now near) ≡ places) × ((vs : List Bool) × Coded vs (now near) fringe) ⌝ }
-    ensures { λ r. ⌜ ((vs : List Bool) → Coded vs (now (near .entry)) fringe → r ≡ nearestWithin (shown vs (now (near .entry))) far) ⌝ }
+    ensures { λ r. ⌜ (r ≤ places) × ((vs : List Bool) → Coded vs (now (near .entry)) fringe → r ≡ nearestWithin (shown vs (now (near .entry))) far) ⌝ }
 {
     let mut best = FAR;
     let mut at: usize = PLACES;
@@ -98,14 +95,14 @@ fn searched_by(found: bool, t: Tree) -> Searched
 fn step(
     arcs: &[u8; ARCS],
     margins: &[u64; MARGINS],
-    prices: &[u64; PLACES],
+    potentials: &[u64; PLACES],
     at: Spot,
     near: &mut [u64; PLACES],
 ) -> Spot
-    requires { ⌜ Ways (now arcs) (now margins) (now prices) × (at .place < places) × (at .distance < farthest) × (length (now near) ≡ places) × ((vs : List Bool) × Coded vs (now near) (at .fringe)) ⌝ }
-    ensures { λ r. ⌜ (length (now (near .exit)) ≡ places) × ((vs : List Bool) → length vs ≡ places → Coded vs (now (near .entry)) (at .fringe) → Paced (now (arcs .entry)) (now (margins .entry)) (now (prices .entry)) (at .distance) (at .place) (now (near .entry)) (now (near .exit)) r vs) ⌝ }
+    requires { ⌜ Pacing (now arcs) (now margins) (now potentials) at (now near) ⌝ }
+    ensures { λ r. ⌜ PacedAlong (now (arcs .entry)) (now (margins .entry)) (now (potentials .entry)) at (now (near .entry)) (now (near .exit)) r ⌝ }
 {
-    let fringe = relax(arcs, margins, prices, at, near);
+    let fringe = relax(arcs, margins, potentials, at, near);
     let e = nearest(near, fringe);
     if e == PLACES {
         return Spot {
@@ -129,12 +126,12 @@ fn step(
 pub fn walk(
     arcs: &[u8; ARCS],
     margins: &[u64; MARGINS],
-    prices: &[u64; PLACES],
+    potentials: &[u64; PLACES],
     nets: &[u64; PLACES],
     s: usize,
 ) -> Walked
-    requires { ⌜ Ways (now arcs) (now margins) (now prices) × (s < places) ⌝ }
-    ensures { λ r. ⌜ r ≡ walked (startsOf (now (arcs .entry))) (endsOf (now (arcs .entry))) (reducedCosts (now (arcs .entry)) (now (margins .entry)) (now (prices .entry)) true) (reducedCosts (now (arcs .entry)) (now (margins .entry)) (now (prices .entry)) false) (countOf (now (arcs .entry))) (now (nets .entry)) far searchRounds 0 s (replicate places 0) (replicate places far) (rootAt s) ⌝ }
+    requires { ⌜ Ways (now arcs) (now margins) (now potentials) × (s < places) ⌝ }
+    ensures { λ r. ⌜ r ≡ walkedFrom (now (arcs .entry)) (now (margins .entry)) (now (potentials .entry)) (now (nets .entry)) far s ⌝ }
 {
     let mut at = first(s);
     let mut t = bare();
@@ -144,7 +141,7 @@ pub fn walk(
     t.visited[s] = true;
     near[s] = 0;
     while 0 < left {
-        at = step(arcs, margins, prices, at, &mut near);
+        at = step(arcs, margins, potentials, at, &mut near);
         let e = at.place;
         if e == PLACES {
             return walked_by(false, t, dist, at.distance);
@@ -167,12 +164,12 @@ pub fn walk(
 pub fn tight_walk(
     arcs: &[u8; ARCS],
     margins: &[u64; MARGINS],
-    prices: &[u64; PLACES],
+    potentials: &[u64; PLACES],
     s: usize,
     v: usize,
 ) -> Searched
-    requires { ⌜ Ways (now arcs) (now margins) (now prices) × (s < places) × (v < places) ⌝ }
-    ensures { λ r. ⌜ Tightly (walked (startsOf (now (arcs .entry))) (endsOf (now (arcs .entry))) (reducedCosts (now (arcs .entry)) (now (margins .entry)) (now (prices .entry)) true) (reducedCosts (now (arcs .entry)) (now (margins .entry)) (now (prices .entry)) false) (countOf (now (arcs .entry))) (goalAt v) 0 searchRounds 0 s (replicate places 0) (replicate places far) (rootAt s)) r ⌝ }
+    requires { ⌜ Ways (now arcs) (now margins) (now potentials) × (s < places) × (v < places) ⌝ }
+    ensures { λ r. ⌜ Tightly (walkedFrom (now (arcs .entry)) (now (margins .entry)) (now (potentials .entry)) (goalAt v) 0 s) r ⌝ }
 {
     let mut at = first(s);
     let mut t = bare();
@@ -181,7 +178,7 @@ pub fn tight_walk(
     t.visited[s] = true;
     near[s] = 0;
     while 0 < left {
-        at = step(arcs, margins, prices, at, &mut near);
+        at = step(arcs, margins, potentials, at, &mut near);
         let e = at.place;
         if e == PLACES {
             return searched_by(false, t);

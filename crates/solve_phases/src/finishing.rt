@@ -11,7 +11,7 @@ use solve_def::State;
 use solve_def::sizes::FLOW_SHIFT;
 use solve_def::sizes::MOST_STEP;
 use solve_def::sizes::MOST_TRIED;
-use solve_def::sizes::PRICE_SHIFT;
+use solve_def::sizes::POTENTIAL_SHIFT;
 use solve_settle::over_sum;
 use solve_settle::settle;
 ghost use mathlib.Core.Path.{_≡_};
@@ -24,25 +24,25 @@ ghost use Rattle.solve_arcs.specs.Cells.{marginCells};
 ghost use Rattle.solve_arcs.specs.ArcNeeds.{Laying, Margined};
 ghost use Rattle.solve_phases.specs.Finishes.{Finishable};
 
-// No hint: amounts and prices 0.
-fn no_hint() -> Hint
+// No hint: amounts and potentials 0.
+pub fn no_hint() -> Hint
     ensures { λ r. ⌜ r ≡ noHint ⌝ }
 {
     Hint {
         flows: [FLOW_SHIFT; MAX_STREAMS],
-        prices: [PRICE_SHIFT; PLACES],
+        potentials: [POTENTIAL_SHIFT; PLACES],
     }
 }
 
-// The amounts and the prices of a state.
+// The amounts and the potentials of a state.
 fn hint_of(st: State) -> Hint
     ensures { λ r. ⌜ r ≡ asHint st ⌝ }
 {
     let flows = st.flows;
-    let prices = st.prices;
+    let potentials = st.potentials;
     Hint {
         flows: flows,
-        prices: prices,
+        potentials: potentials,
     }
 }
 

@@ -1,4 +1,5 @@
 // Phases: improvements from the places one after the other, at smaller and smaller steps.
+use num_bytes::minus;
 use plant_def::limits::MAX_STREAMS;
 use plant_def::limits::PLACES;
 use solve_arcs::ARCS;
@@ -6,7 +7,6 @@ use solve_arcs::MARGINS;
 use solve_arcs::ROWS;
 use solve_arcs::count_of;
 use solve_arcs::margins_of;
-use solve_arcs::minus;
 use solve_def::Ended;
 use solve_def::Halt;
 use solve_def::Quest;
@@ -35,18 +35,18 @@ fn from_place(
     rows: &[u64; ROWS],
     margins: &mut [u64; MARGINS],
     flows: &mut [u64; MAX_STREAMS],
-    prices: &mut [u64; PLACES],
+    potentials: &mut [u64; PLACES],
     nets: &mut [u64; PLACES],
     q: Quest,
 ) -> Halt
-    requires { ⌜ Improvable (now arcs) (now rows) (now margins) (q .delta) (stateOf (now flows) (now prices) (now nets)) × (q .start < places) ⌝ }
-    ensures { λ r. ⌜ ((w : Improvable (now (arcs .entry)) (now (rows .entry)) (now (margins .entry)) (q .delta) (stateOf (now (flows .entry)) (now (prices .entry)) (now (nets .entry)))) → (endedBy (r .full) (stateOf (now (flows .exit)) (now (prices .exit)) (now (nets .exit))) (r .marked) ≡ fromPlace ((getD (now (nets .entry)) (q .start) 0 - netShift) / q .delta) (take (w .n) (w .streams)) (q .delta) (q .start) (stateOf (now (flows .entry)) (now (prices .entry)) (now (nets .entry)))) × Margined (w .n) (now (rows .entry)) (now (flows .exit)) (q .delta) 0 (now (margins .exit))) ⌝ }
+    requires { ⌜ Improvable (now arcs) (now rows) (now margins) (q .delta) (stateOf (now flows) (now potentials) (now nets)) × (q .start < places) ⌝ }
+    ensures { λ r. ⌜ ((w : Improvable (now (arcs .entry)) (now (rows .entry)) (now (margins .entry)) (q .delta) (stateOf (now (flows .entry)) (now (potentials .entry)) (now (nets .entry)))) → (endedBy (r .full) (stateOf (now (flows .exit)) (now (potentials .exit)) (now (nets .exit))) (r .marked) ≡ fromPlace ((getD (now (nets .entry)) (q .start) 0 - netShift) / q .delta) (take (w .n) (w .streams)) (q .delta) (q .start) (stateOf (now (flows .entry)) (now (potentials .entry)) (now (nets .entry)))) × Margined (w .n) (now (rows .entry)) (now (flows .exit)) (q .delta) 0 (now (margins .exit))) ⌝ }
 {
     let s = q.start;
     let delta = q.delta;
     let mut over = minus(nets[s], NET_SHIFT);
     while delta <= over {
-        let h = improve_from(arcs, rows, margins, flows, prices, nets, q);
+        let h = improve_from(arcs, rows, margins, flows, potentials, nets, q);
         if !h.found {
             let t = h.tree;
             let visited = t.visited;
@@ -72,7 +72,7 @@ pub fn phase(
     ensures { λ r. ⌜ ((w : Phasable (now (arcs .entry)) (now (rows .entry)) delta start) → (r ≡ M.phase (take (w .n) (w .streams)) delta start) × Margined (w .n) (now (rows .entry)) (r .state .flows) delta 0 (now (margins .exit))) ⌝ }
 {
     let mut flows = start.flows;
-    let mut prices = start.prices;
+    let mut potentials = start.potentials;
     let mut nets = start.nets;
     let count = count_of(arcs);
     margins_of(rows, margins, &flows, count, delta);
@@ -83,7 +83,7 @@ pub fn phase(
             rows,
             margins,
             &mut flows,
-            &mut prices,
+            &mut potentials,
             &mut nets,
             Quest {
                 start: s,
@@ -96,7 +96,7 @@ pub fn phase(
                 full: true,
                 state: State {
                     flows: flows,
-                    prices: prices,
+                    potentials: potentials,
                     nets: nets,
                 },
                 marked: marked,
@@ -108,7 +108,7 @@ pub fn phase(
         full: false,
         state: State {
             flows: flows,
-            prices: prices,
+            potentials: potentials,
             nets: nets,
         },
         marked: [false; PLACES],

@@ -21,7 +21,7 @@ module _ (m R a : ℕ) (some : 0 < m) (one : 1 ≤ a) where
       let z : R - q ≡ 0 = omega arith in
       rw (n, z) (zero-div m)
 
-  pub below : (R * m - a) / m ≡ R - (a + m - 1) / m
+  below : (R * m - a) / m ≡ R - (a + m - 1) / m
   below = elim (decLe ((a + m - 1) / m) R) [
     | yes l ↦ within ((a + m - 1) / m) (R - (a + m - 1) / m) (omega arith) (div-mul-le-self (a + m - 1) m) (lt-div-mul-add some)
     | no l ↦ past ((a + m - 1) / m) (omega arith) (div-mul-le-self (a + m - 1) m)

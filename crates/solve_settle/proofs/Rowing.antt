@@ -16,20 +16,25 @@ module _ (ls rs : List ℕ) (w : Laying ls rs) (i : ℕ) (l : i < countOf ls) wh
   abbrev s : Stream
   s = getD (w .streams) i noStream
 
+  -- The row has the stream's reading.
   pub pull-is : getD rs (4 * i + 1) 0 ≡ 2 * (getD rs (4 * i) 0 * readingOf s)
   pull-is = w .laid .rowed .pulls i (below ls rs w i l) ∙ sym (rw (w .laid .rowed .weights i (below ls rs w i l)))
 
   module _ (ps xs ys : List ℕ) (e : ys ≡ settledTo (take (w .n) (w .streams)) ps xs i) where
+    -- A metered stream is settled.
     pub settled-row : (r : ℕ) → 0 < getD rs (4 * i) 0
-        → r ≡ clamped (getD rs (4 * i + 2) 0) (getD rs (4 * i + 3) 0) (nearestAmount (getD rs (4 * i) 0) (readingOf s) (getD ps (getD ls (toCell + 2 * i) 0) 0) (getD ps (getD ls (toCell + (2 * i + 1)) 0) 0))
+        → r ≡ clamped (getD rs (4 * i + 2) 0) (getD rs (4 * i + 3) 0)
+        (nearestAmount (getD rs (4 * i) 0) (readingOf s) (getD ps (getD ls (toCell + 2 * i) 0) 0) (getD ps (getD ls (toCell + (2 * i + 1)) 0) 0))
         → set ys i r ≡ settledTo (take (w .n) (w .streams)) ps xs (i + 1)
     settled-row r h q =
         rw (q, e, w .laid .rowed .lows i (below ls rs w i l), w .laid .rowed .highs i (below ls rs w i l), w .laid .rowed .weights i (below ls rs w i l), from-is ls rs w i l, to-is ls rs w i l)
         (sym (settle-hit (w .streams) (w .n) ps xs i (below ls rs w i l) (metered-of ls rs w i l h)))
 
+    -- An unmetered one stays.
     pub passed-row : getD rs (4 * i) 0 ≤ 0 → ys ≡ settledTo (take (w .n) (w .streams)) ps xs (i + 1)
     passed-row h = e ∙ sym (settle-miss (w .streams) (w .n) ps xs i (below ls rs w i l) (free-of ls rs w i l h))
 
+  -- The amount of a stream is booked.
   pub booked-row : (xs ys : List ℕ) → ys ≡ netsTo (take (w .n) (w .streams)) xs i
       → come (left ys (getD ls (toCell + 2 * i) 0) (getD xs i 0)) (getD ls (toCell + (2 * i + 1)) 0) (getD xs i 0) ≡ netsTo (take (w .n) (w .streams)) xs (i + 1)
   booked-row xs ys e = rw (e, from-is ls rs w i l, to-is ls rs w i l) (sym (nets-next (w .streams) (w .n) [] xs i (below ls rs w i l)))

@@ -1,2 +1,3 @@
 -- What settling requires.
 pub mod Hints
+pub mod Settled

@@ -1,11 +1,11 @@
-// Amounts settled at prices, each the nearest to its reading in its range, and the nets that they leave.
+// Amounts settled at potentials, each the nearest to its reading in its range, and the nets that they leave.
+use num_bytes::minus;
 use plant_def::limits::MAX_STREAMS;
 use plant_def::limits::PLACES;
 use solve_arcs::ARCS;
 use solve_arcs::ROWS;
 use solve_arcs::count_of;
 use solve_arcs::end_at;
-use solve_arcs::minus;
 use solve_def::Hint;
 use solve_def::State;
 use solve_def::sizes::FLOW_SHIFT;
@@ -14,18 +14,19 @@ ghost use mathlib.Core.Path.{_≡_};
 ghost use Prim.Native.Nat.{ℕ, _+_, _*_, _≤_, _<_};
 ghost use lib.ListN.{getD, length, take};
 ghost use Rattle.plant_def.specs.Limits.{maxWeight, places, maxStreams};
-ghost use Rattle.solve_def.specs.Sizes.{mostPull, priceShift, mostFlow, netRoom};
+ghost use Rattle.solve_def.specs.Sizes.{mostPull, potentialShift, mostFlow, netRoom};
 ghost use Rattle.solve_def.specs.Model.{clamped, nearestAmount, settledTo, left, come, netsTo, settled, overSum};
-ghost use Rattle.solve_arcs.specs.ArcNeeds.{Row, Laying};
+ghost use Rattle.solve_arcs.specs.ArcNeeds.{Row, Laying, OfStreams};
 ghost use mathlib.Core.List.{List};
-ghost use Rattle.solve_def.specs.SearchNeeds.{Prices};
+ghost use Rattle.solve_def.specs.SearchNeeds.{Potentials};
 ghost use Rattle.solve_def.specs.SolverNeeds.{Amounts, Around};
 ghost use Rattle.solve_settle.specs.Hints.{Hinting};
+ghost use Rattle.solve_settle.specs.Settled.{RowReads, settledRow};
 
-// The amount nearest to a reading R, at the prices of a stream's start and its end, by its weight and twice the weight times R. (One
+// The amount nearest to a reading R, at the potentials of a stream's start and its end, by its weight and twice the weight times R. (One
 // quotient, with no branch: on which side of the reading the amount lies cannot be foreseen.)
 fn nearest(w: u64, pull: u64, pu: u64, pv: u64) -> u64
-    requires { ⌜ (1 ≤ w) × (w ≤ maxWeight) × (pull ≤ 2 * mostPull) × (pu ≤ priceShift) × (pv ≤ priceShift) ⌝ }
+    requires { ⌜ (1 ≤ w) × (w ≤ maxWeight) × (pull ≤ 2 * mostPull) × (pu ≤ potentialShift) × (pv ≤ potentialShift) ⌝ }
     ensures { λ r. ⌜ ((R : ℕ) → pull ≡ 2 * (w * R) → r ≡ nearestAmount w R pu pv) ⌝ }
 {
     minus(pull + (pv + w), pu) / (2 * w)
@@ -41,10 +42,10 @@ fn clamp(low: u64, high: u64, x: u64) -> u64
     if high < x { high } else { x }
 }
 
-// The amount of stream i, which is metered, at the prices of its start and its end: by its row.
+// The amount of stream i, which is metered, at the potentials of its start and its end: by its row.
 pub fn amount_at(rows: &[u64; ROWS], i: usize, pu: u64, pv: u64) -> u64
-    requires { ⌜ Row (now rows) i × (1 ≤ getD (now rows) (4 * i) 0) × (pu ≤ priceShift) × (pv ≤ priceShift) ⌝ }
-    ensures { λ r. ⌜ ((R : ℕ) → getD (now (rows .entry)) (4 * i + 1) 0 ≡ 2 * (getD (now (rows .entry)) (4 * i) 0 * R) → r ≡ clamped (getD (now (rows .entry)) (4 * i + 2) 0) (getD (now (rows .entry)) (4 * i + 3) 0) (nearestAmount (getD (now (rows .entry)) (4 * i) 0) R pu pv)) ⌝ }
+    requires { ⌜ Row (now rows) i × (1 ≤ getD (now rows) (4 * i) 0) × (pu ≤ potentialShift) × (pv ≤ potentialShift) ⌝ }
+    ensures { λ r. ⌜ ((R : ℕ) → RowReads (now (rows .entry)) i R → r ≡ settledRow (now (rows .entry)) i R pu pv) ⌝ }
 {
     let x = nearest(rows[4 * i], rows[4 * i + 1], pu, pv);
     clamp(rows[4 * i + 2], rows[4 * i + 3], x)
@@ -54,11 +55,14 @@ pub fn amount_at(rows: &[u64; ROWS], i: usize, pu: u64, pv: u64) -> u64
 pub fn settle_flows(
     arcs: &[u8; ARCS],
     rows: &[u64; ROWS],
-    prices: &[u64; PLACES],
+    potentials: &[u64; PLACES],
     flows: &mut [u64; MAX_STREAMS],
 )
-    requires { ⌜ Laying (now arcs) (now rows) × Prices (now prices) × (length (now flows) ≡ maxStreams) ⌝ }
-    ensures { λ _. ⌜ ((w : Laying (now (arcs .entry)) (now (rows .entry))) → now (flows .exit) ≡ settledTo (take (w .n) (w .streams)) (now (prices .entry)) (now (flows .entry)) (w .n)) ⌝ }
+    requires { ⌜ Laying (now arcs) (now rows) × Potentials (now potentials) × (length (now flows) ≡ maxStreams) ⌝ }
+    ensures { λ _. ⌜
+        OfStreams (now (arcs .entry)) (now (rows .entry))
+        (λ ss n. now (flows .exit) ≡ settledTo ss (now (potentials .entry)) (now (flows .entry)) n)
+        ⌝ }
 {
     let n = count_of(arcs);
     let mut i: usize = 0;
@@ -66,7 +70,7 @@ pub fn settle_flows(
         if 0 < rows[4 * i] {
             let u = end_at(arcs, 2 * i);
             let v = end_at(arcs, 2 * i + 1);
-            flows[i] = amount_at(rows, i, prices[u], prices[v]);
+            flows[i] = amount_at(rows, i, potentials[u], potentials[v]);
         }
         i += 1;
     }
@@ -98,18 +102,18 @@ pub fn nets_of(arcs: &[u8; ARCS], flows: &[u64; MAX_STREAMS]) -> [u64; PLACES]
     nets
 }
 
-// Amounts and nets at the prices of a hint.
+// Amounts and nets at the potentials of a hint.
 pub fn settle(arcs: &[u8; ARCS], rows: &[u64; ROWS], h: Hint) -> State
     requires { ⌜ Hinting (now arcs) (now rows) h ⌝ }
-    ensures { λ r. ⌜ ((w : Laying (now (arcs .entry)) (now (rows .entry))) → r ≡ settled (take (w .n) (w .streams)) h) ⌝ }
+    ensures { λ r. ⌜ OfStreams (now (arcs .entry)) (now (rows .entry)) (λ ss n. r ≡ settled ss h) ⌝ }
 {
-    let prices = h.prices;
+    let potentials = h.potentials;
     let mut flows = h.flows;
-    settle_flows(arcs, rows, &prices, &mut flows);
+    settle_flows(arcs, rows, &potentials, &mut flows);
     let nets = nets_of(arcs, &flows);
     State {
         flows: flows,
-        prices: prices,
+        potentials: potentials,
         nets: nets,
     }
 }

@@ -1,4 +1,4 @@
--- Prices by label and routed amounts are a hint, and the state that they give is settled at it.
+-- Potentials by label and routed amounts are a hint, and the state that they give is settled at it.
 use mathlib.Core.Path.{_≡_, sym, _∙_, ap, subst}
 use mathlib.Core.Bool.{true, false}
 use mathlib.Core.List.{List}
@@ -16,7 +16,7 @@ use Rattle.flow_def.specs.Chains.{unmeteredOnly}
 use Rattle.flow_def.specs.Labels.{labelsOf}
 use Rattle.newton_laplacian.specs.Ends.{Labels}
 use Rattle.newton_descend.specs.Levels.{Level}
-use Rattle.solve_def.specs.Sizes.{flowShift, priceShift, priceSpread, hintRoom}
+use Rattle.solve_def.specs.Sizes.{flowShift, potentialShift, potentialSpread, hintRoom}
 use Rattle.solve_def.specs.declared.Hint.{Hint}
 use Rattle.solve_def.specs.Model.{settledTo, netsTo, stateOf}
 use Rattle.solve_def.specs.SolverNeeds.{Hinted, Ready, AtHint}
@@ -35,22 +35,22 @@ module _ (p : Arrays.Plant) (a : Accepted p) where
     within = λ u l. omega (arith, label-low unmeteredOnly (plantOf p) (a .within .few-units) (inside-of p a) u l);
   }
 
-  module _ {ps xs : List ℕ} (v : Level (labelsOf unmeteredOnly (plantOf p)) priceShift priceSpread ps) (r : Routes (plantOf p .streams) xs) where
-    pub level-hinted : Hinted (plantOf p .streams) (record { flows = xs; prices = ps })
+  module _ {ps xs : List ℕ} (v : Level (labelsOf unmeteredOnly (plantOf p)) potentialShift potentialSpread ps) (r : Routes (plantOf p .streams) xs) where
+    pub level-hinted : Hinted (plantOf p .streams) (record { flows = xs; potentials = ps })
     level-hinted = record {
       agree = λ k l e. v .level _ _ (omega (arith, within-of p a .each k l .from-in, a .within .few-units)) (omega (arith, within-of p a .each k l .to-in, a .within .few-units))
           (label-level unmeteredOnly (plantOf p) (a .within .few-units) (inside-of p a) k l (rw e));
       floor = λ u l. omega (arith, v .bounded .low u l);
       capped = v .bounded .high;
-      priced = v .bounded .long;
+      per-place = v .bounded .long;
       long = r .long;
       unmetered = r .close;
       within = omega arith;
     }
 
-  module _ {ps : List ℕ} (v : Level (labelsOf unmeteredOnly (plantOf p)) priceShift priceSpread ps) where
+  module _ {ps : List ℕ} (v : Level (labelsOf unmeteredOnly (plantOf p)) potentialShift potentialSpread ps) where
     abbrev none : Hint
-    none = record { flows = replicate maxStreams flowShift; prices = ps }
+    none = record { flows = replicate maxStreams flowShift; potentials = ps }
 
     pub level-ready : Ready (plantOf p .streams) none
     level-ready = hinted-ready (p .streams) (p .count) (network-of p a) none (level-hinted v routes-none)
@@ -80,10 +80,10 @@ module _ (p : Arrays.Plant) (a : Accepted p) where
           ∙ settled-at (plantOf p .streams) ps (replicate maxStreams flowShift) (p .count) k (omega (arith, routes-none {ss = plantOf p .streams} .long, a .within .few-streams)) l
           ∙ rw m)
 
-      pub routed-start : AtHint (plantOf p .streams) (record { flows = ys; prices = ps; nets = netsTo (plantOf p .streams) ys (p .count) })
+      pub routed-start : AtHint (plantOf p .streams) (record { flows = ys; potentials = ps; nets = netsTo (plantOf p .streams) ys (p .count) })
       routed-start = record {
-        hint = record { flows = ys; prices = ps };
+        hint = record { flows = ys; potentials = ps };
         hinted = level-hinted v r;
         is = ap (λ (zs : List ℕ). stateOf zs ps (netsTo (plantOf p .streams) zs (p .count))) (sym routed-again)
-            ∙ sym (settled-is (p .streams) (p .count) (network-of p a) (record { flows = ys; prices = ps }));
+            ∙ sym (settled-is (p .streams) (p .count) (network-of p a) (record { flows = ys; potentials = ps }));
       }

@@ -1,5 +1,5 @@
-// The start by factorisation: metered amounts settled at prices at which the real-number optimum balances, and unmetered amounts
-// routed along a spanning forest.
+// The start by factorisation: metered amounts settled at potentials at which the real-number optimum balances, unmetered ones routed
+// along a spanning forest.
 use newton_descend::potentials_of;
 use plant_def::Plant;
 use plant_def::limits::MAX_STREAMS;
@@ -8,8 +8,8 @@ use solve_arcs::ARCS;
 use solve_arcs::ROWS;
 use solve_def::State;
 use solve_def::sizes::FLOW_SHIFT;
-use solve_def::sizes::PRICE_SHIFT;
-use solve_def::sizes::PRICE_SPREAD;
+use solve_def::sizes::POTENTIAL_SHIFT;
+use solve_def::sizes::POTENTIAL_SPREAD;
 use solve_forest::route;
 use solve_forest::span;
 use solve_settle::nets_of;
@@ -20,20 +20,20 @@ ghost use Rattle.flow_def.specs.Calls.{Grouped};
 ghost use Rattle.solve_def.specs.SolverNeeds.{AtHint};
 ghost use Rattle.solve_arcs.specs.ArcNeeds.{Laid};
 
-// Prices from the labels by the unmetered streams, and amounts at these. Routing leaves metered amounts as they are.
+// Potentials from the labels by the unmetered streams, and amounts at these. Routing leaves metered amounts as they are.
 pub fn start(p: Plant, labels: [u8; PLACES], arcs: &[u8; ARCS], rows: &[u64; ROWS]) -> State
     requires { ⌜ Accepted p × Grouped p labels × Laid (p .streams) (p .count) (now arcs) (now rows) ⌝ }
     ensures { λ r. ⌜ AtHint (plantOf p .streams) r ⌝ }
 {
-    let prices = potentials_of(p, labels, PRICE_SHIFT, PRICE_SPREAD);
+    let potentials = potentials_of(p, labels, POTENTIAL_SHIFT, POTENTIAL_SPREAD);
     let mut flows = [FLOW_SHIFT; MAX_STREAMS];
-    settle_flows(arcs, rows, &prices, &mut flows);
+    settle_flows(arcs, rows, &potentials, &mut flows);
     let mut given = nets_of(arcs, &flows);
     route(arcs, span(arcs, rows, labels), &mut given, &mut flows);
     let nets = nets_of(arcs, &flows);
     State {
         flows: flows,
-        prices: prices,
+        potentials: potentials,
         nets: nets,
     }
 }

@@ -14,10 +14,6 @@ use Rattle.plant_def.specs.declared.Stream.{Stream}
 use Rattle.plant_def.specs.Limits.{maxUnits}
 use Rattle.plant_def.specs.Plants.{noStream}
 use Rattle.flow_def.specs.Flows.{streamAt}
-use Rattle.flow_def.specs.Certificate.{weightOf}
-use Rattle.solve_def.specs.declared.Tree.{Tree}
-use Rattle.solve_def.specs.Sizes.{farthest}
-use Rattle.solve_def.specs.Slack.{slackAt, slackPast}
 use Rattle.solve_def.specs.Search.{Grown}
 use Rattle.solve_def.specs.SearchNeeds.{Network, Trail, Walkable}
 use Rattle.solve_def.specs.Model.{tiedAt}
@@ -33,18 +29,20 @@ use Rattle.solve_arcs.specs.Margins.{spared, reducedCost, reducedCosts}
 use Rattle.solve_arcs.proofs.Along.{starts-at, ends-at, slack-is}
 use Rattle.solve_arcs.specs.ArcNeeds.{Rowed, Laid, Margined, Free, Laying, Searching}
 use Rattle.solve_arcs.proofs.Finding.{slacked}
-use Rattle.solve_ties.specs.Evens.{Tieable, Tying}
+use Rattle.solve_ties.specs.Evens.{Tieable}
 
 -- The arc of a stream backwards.
 pub small-back : (ls ms : List ℕ) (i : ℕ) → ((k : ℕ) (f : Bool) → k < countOf ls → getD ms (arcOf k f) 0 ≤ Mg.shut) → i < countOf ls → getD ms (2 * i) 0 ≤ Mg.shut
 small-back ls ms i h l = let e : 2 * i + 0 ≡ 2 * i = omega arith in rw e at (h i false l)
 
+-- The reduced cost of the arc backwards.
 pub slack-back : (ls ms ps : List ℕ) (i : ℕ) → i < countOf ls
     → getD (reducedCosts ls ms ps false) i 0 ≡ reducedCost (getD ms (2 * i) 0) (getD ps (getD ls (toCell + (2 * i + 1)) 0) 0) (getD ps (getD ls (toCell + 2 * i) 0) 0)
 slack-back ls ms ps i l =
     let e : 2 * i + 0 ≡ 2 * i = omega arith in
     rw (← starts-at ls i l, ← ends-at ls i l) (rw e at (slack-is ls ms ps false i l))
 
+-- The search round a stream can go over the arcs.
 abbrev pub tie-searching : (ls rs ms ps : List ℕ) (i skip : ℕ) (xs : List ℕ) (w : Tieable ls rs ps i xs) → i ≤ w .n → Margined (countOf ls) rs xs 1 skip ms → Searching ls ms ps 1 skip
 tie-searching ls rs ms ps i skip xs w l m = record {
   streams = w .streams;
@@ -56,7 +54,7 @@ tie-searching ls rs ms ps i skip xs w l m = record {
       network = w .network;
       step = omega arith;
       amounts = λ k b. omega (arith, w .even .close k (omega (arith, w .network .within .few-streams)) .0, w .network .within .few-streams, l);
-      prices = w .prices;
+      potentials = w .potentials;
     };
     held = w .even .held;
     moderate = λ k b e. let o = w .even .moderate k b e in (omega (arith, o .0, w .network .within .few-streams, l), omega (arith, o .1, w .network .within .few-streams, l));
@@ -66,9 +64,11 @@ tie-searching ls rs ms ps i skip xs w l m = record {
   margined = subst (λ (k : ℕ). Margined k rs xs 1 skip ms) (w .laid .along .counted) m;
 }
 
+-- The arcs and rows are of these streams.
 abbrev pub tie-laying : (ls rs ps : List ℕ) (i : ℕ) (xs : List ℕ) → Tieable ls rs ps i xs → Laying ls rs
 tie-laying ls rs ps i xs w = record { streams = w .streams; n = w .n; network = w .network; laid = w .laid }
 
+-- What the search remembers are arcs' streams.
 pub tie-trail : (ls rs ps : List ℕ) (i : ℕ) (xs : List ℕ) (w : Tieable ls rs ps i xs) (via : List ℕ) (len : ℕ) → Trail via (w .n) len → Trail via (countOf ls) len
 tie-trail ls rs ps i xs w via len t = subst (λ (m : ℕ). Trail via m len) (sym (w .laid .along .counted)) t
 
@@ -81,6 +81,7 @@ module _ (streams : List Stream) (n : ℕ) (w : Network streams n) (rs : List �
       go true h = lt-ltb 0 (getD streams k noStream .weight) (omega (arith, h refl))
       go false h = le-ltb 0 0 (omega arith)
 
+  -- A metered stream's row has a weight.
   pub weighs-some : (k : ℕ) → k < n → getD streams k noStream .metered ≡ true → 0 < getD rs (4 * k) 0
   weighs-some k l m = rw (r .weights k l) (omega (arith, weight-least (getD streams k noStream) (w .within .each k l) m))
 
@@ -123,6 +124,7 @@ module _ (streams : List Stream) (n : ℕ) (w : Network streams n) (rs : List �
       test-is : test ≡ (getD streams i noStream .metered && eqb (lack streams n w ps i l xs) 0)
       test-is = rw (gap-is, weighs i l)
 
+      -- Where the test holds, the stream can fall at no cost.
       pub falls : test ≡ true → Falls streams ps i xs
       falls e = go (getD streams i noStream .metered) refl (sym test-is ∙ e)
         where
@@ -130,6 +132,7 @@ module _ (streams : List Stream) (n : ℕ) (w : Network streams n) (rs : List �
           go true m h = record { metered = m; tight = omega (arith, eqb-true (lack streams n w ps i l xs) 0 h) }
           go false m h = clash false h refl
 
+      -- Where it does not, the stream stays as it is.
       pub stays : test ≡ false → tiedAt (take n streams) ps i xs ≡ xs
       stays e = go (getD streams i noStream .metered) refl (sym test-is ∙ e)
         where

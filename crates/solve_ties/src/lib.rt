@@ -11,34 +11,30 @@ use solve_arcs::shut_margins;
 use solve_augment::augment;
 use solve_def::Route;
 use solve_path::tight_path;
-ghost use mathlib.Core.Bool.{false, _&&_};
-ghost use mathlib.Core.List.{List};
+ghost use mathlib.Core.Bool.{false};
 ghost use mathlib.Core.Path.{_≡_};
-ghost use Prim.Native.Nat.{ℕ, _+_, _*_, _<_};
-ghost use lib.Dec.{eqb, ltb};
-ghost use lib.ListN.{getD, length, take};
+ghost use Prim.Native.Nat.{_+_, _*_, _<_};
+ghost use lib.ListN.{length};
 ghost use Rattle.plant_def.specs.Limits.{maxStreams};
-ghost use Rattle.solve_def.specs.Model.{tiedAt, tiesTo};
 ghost use Rattle.solve_arcs.specs.Cells.{countOf, marginCells};
-ghost use Rattle.solve_arcs.specs.Margins.{reducedCosts};
 ghost use Rattle.solve_arcs.specs.ArcNeeds.{Ways, Margined};
-ghost use Rattle.solve_ties.specs.Evens.{Tieable, Tying};
+ghost use Rattle.solve_ties.specs.Evens.{Tieable, Tying, canFall, Spared, TiedAt, TiedAll};
 
 // Whether stream i is metered and its amount can fall at no cost.
 fn can_fall(
     arcs: &[u8; ARCS],
     rows: &[u64; ROWS],
     margins: &[u64; MARGINS],
-    prices: &[u64; PLACES],
+    potentials: &[u64; PLACES],
     i: usize,
 ) -> bool
-    requires { ⌜ Ways (now arcs) (now margins) (now prices) × (i < countOf (now arcs)) ⌝ }
-    ensures { λ r. ⌜ r ≡ (ltb 0 (getD (now (rows .entry)) (4 * i) 0) && eqb (getD (reducedCosts (now (arcs .entry)) (now (margins .entry)) (now (prices .entry)) false) i 0) 0) ⌝ }
+    requires { ⌜ Ways (now arcs) (now margins) (now potentials) × (i < countOf (now arcs)) ⌝ }
+    ensures { λ r. ⌜ r ≡ canFall (now (arcs .entry)) (now (rows .entry)) (now (margins .entry)) (now (potentials .entry)) i ⌝ }
 {
     if 0 < rows[4 * i] {
         let u = end_at(arcs, 2 * i);
         let v = end_at(arcs, 2 * i + 1);
-        reduced_cost(margins[2 * i], prices[v], prices[u]) == 0
+        reduced_cost(margins[2 * i], potentials[v], potentials[u]) == 0
     } else {
         false
     }
@@ -47,7 +43,7 @@ fn can_fall(
 // Stream i is left alone from now on, if it is metered.
 fn spare(rows: &[u64; ROWS], margins: &mut [u64; MARGINS], i: usize)
     requires { ⌜ (i < maxStreams) × (length (now margins) ≡ marginCells) ⌝ }
-    ensures { λ _. ⌜ ((n : ℕ) (xs : List ℕ) → Margined n (now (rows .entry)) xs 1 i (now (margins .entry)) → Margined n (now (rows .entry)) xs 1 (i + 1) (now (margins .exit))) ⌝ }
+    ensures { λ _. ⌜ Spared (now (rows .entry)) i (now (margins .entry)) (now (margins .exit)) ⌝ }
 {
     if 0 < rows[4 * i] {
         shut_margins(margins, i);
@@ -60,15 +56,21 @@ fn tie_at(
     rows: &[u64; ROWS],
     margins: &mut [u64; MARGINS],
     flows: &mut [u64; MAX_STREAMS],
-    prices: &[u64; PLACES],
+    potentials: &[u64; PLACES],
     i: usize,
 )
-    requires { ⌜ Tying (now arcs) (now rows) (now prices) i (now flows) × Margined (countOf (now arcs)) (now rows) (now flows) 1 (i + 1) (now margins) ⌝ }
-    ensures { λ _. ⌜ ((w : Tying (now (arcs .entry)) (now (rows .entry)) (now (prices .entry)) i (now (flows .entry))) → now (flows .exit) ≡ tiedAt (take (w .tieable .n) (w .tieable .streams)) (now (prices .entry)) i (now (flows .entry))) × Margined (countOf (now (arcs .entry))) (now (rows .entry)) (now (flows .exit)) 1 (i + 1) (now (margins .exit)) ⌝ }
+    requires { ⌜
+        Tying (now arcs) (now rows) (now potentials) i (now flows)
+        × Margined (countOf (now arcs)) (now rows) (now flows) 1 (i + 1) (now margins)
+        ⌝ }
+    ensures { λ _. ⌜
+        TiedAt (now (arcs .entry)) (now (rows .entry)) (now (potentials .entry)) i (now (flows .entry)) (now (flows .exit))
+        × Margined (countOf (now (arcs .entry))) (now (rows .entry)) (now (flows .exit)) 1 (i + 1) (now (margins .exit))
+        ⌝ }
 {
     let u = end_at(arcs, 2 * i);
     let v = end_at(arcs, 2 * i + 1);
-    let h = tight_path(arcs, margins, prices, u, v);
+    let h = tight_path(arcs, margins, potentials, u, v);
     if !h.found {
         return;
     }
@@ -99,18 +101,18 @@ pub fn tie_all(
     rows: &[u64; ROWS],
     margins: &mut [u64; MARGINS],
     flows: &mut [u64; MAX_STREAMS],
-    prices: &[u64; PLACES],
+    potentials: &[u64; PLACES],
 )
-    requires { ⌜ Tieable (now arcs) (now rows) (now prices) 0 (now flows) × Margined (countOf (now arcs)) (now rows) (now flows) 1 0 (now margins) ⌝ }
-    ensures { λ _. ⌜ ((w : Tieable (now (arcs .entry)) (now (rows .entry)) (now (prices .entry)) 0 (now (flows .entry))) → now (flows .exit) ≡ tiesTo (take (w .n) (w .streams)) (now (prices .entry)) (w .n) (now (flows .entry))) ⌝ }
+    requires { ⌜ Tieable (now arcs) (now rows) (now potentials) 0 (now flows) × Margined (countOf (now arcs)) (now rows) (now flows) 1 0 (now margins) ⌝ }
+    ensures { λ _. ⌜ TiedAll (now (arcs .entry)) (now (rows .entry)) (now (potentials .entry)) (now (flows .entry)) (now (flows .exit)) ⌝ }
 {
     let n = count_of(arcs);
     let mut i: usize = 0;
     while i < n {
-        let falls = can_fall(arcs, rows, margins, prices, i);
+        let falls = can_fall(arcs, rows, margins, potentials, i);
         spare(rows, margins, i);
         if falls {
-            tie_at(arcs, rows, margins, flows, prices, i);
+            tie_at(arcs, rows, margins, flows, potentials, i);
         }
         i += 1;
     }

@@ -12,16 +12,19 @@ use Rattle.survey_def.specs.Says.{surveySize, SurveySays}
 use Rattle.survey_answers.specs.Lent.{HandedOver, LendSays}
 
 module _ (file cs : List ℕ) where
+  -- A slice that is too short.
   pub lends-nothing : length cs < surveySize → LendSays file cs cs 1 0
   lends-nothing h = record { too-short = λ l. record { numbered = refl; counted = refl; counts = refl }; told = λ l. absurd (omega arith) }
 
   module _ (h : surveySize ≤ length cs) (l : Layouts) (s : SurveySays file l) where
+    -- A refusal leaves the slice as it was.
     pub lends-refusal : (l .number ≡ 0 → ⊥) → LendSays file cs cs (l .number) (l .count)
     lends-refusal n = record {
       too-short = λ x. absurd (omega arith);
       told = λ x. (l, s, record { numbered = refl; counted = refl; counts = rw (ne-eqb (l .number) 0 n) refl });
     }
 
+    -- The counts are at the front of the slice.
     pub lends-counts : l .number ≡ 0 → (cs′ : List ℕ) → cs′ ≡ over (take (l .count + 1) (l .counts)) cs → LendSays file cs cs′ 0 (l .count)
     lends-counts n cs′ e = record {
       too-short = λ x. absurd (omega arith);

@@ -14,6 +14,7 @@ use Rattle.survey_def.specs.Says.{surveySize}
 use Rattle.survey_answers.specs.Text.{linesFrom}
 use Rattle.survey_answers.specs.Says.{lineSize, leastText}
 
+-- How long a line is.
 pub line-size : (k c : ℕ) → length (pairLine k c) ≡ length (field k) + length (decimal c) + 1
 line-size k c = length-append (field k ++ decimal c) (text "\n") ∙ ap (λ (n : ℕ). n + 1) (length-append (field k) (decimal c))
 
@@ -38,6 +39,7 @@ pub record Lined (cs : List ℕ) (n : ℕ) (o o₁ : List ℕ) (at i : ℕ) : Ty
   pub so-far : Added (linesFrom 0 (take i cs)) 0 o o₁ at
   pub bound : at ≤ lineSize * i
 
+-- No line yet.
 pub no-lines : (cs : List ℕ) (n : ℕ) (o : List ℕ) → n ≤ surveySize → length cs ≡ surveySize → leastText ≤ length o → Lined cs n o o 0 0
 no-lines cs n o f l w = record { few = f; long = l; wide = w; within = omega arith; so-far = nothing 0 o (omega arith); bound = omega arith }
 
@@ -45,9 +47,11 @@ module _ {cs : List ℕ} {n : ℕ} {o o₁ : List ℕ} {at i : ℕ} (w : Lined c
   small : length (pairLine i (getD cs i 0)) ≤ lineSize
   small = let a = w .few in line-most i (getD cs i 0) (omega arith) (omega arith)
 
+  -- There is room for the next line.
   pub line-room : at + length (pairLine i (getD cs i 0)) ≤ length o₁
   line-room = let a = w .few in let b = w .bound in let c = w .wide in omega (arith, small, kept-length (w .so-far))
 
+  -- One line more.
   pub one-line : {o₂ : List ℕ} {a : ℕ} → Added (pairLine i (getD cs i 0)) at o₁ o₂ a → Lined cs n o o₂ a (i + 1)
   one-line {o₂} {a} p =
       let l = w .long in
@@ -65,5 +69,6 @@ module _ {cs : List ℕ} {n : ℕ} {o o₁ : List ℕ} {at i : ℕ} (w : Lined c
         bound = omega (arith, small, p .place);
       }
 
+-- All lines.
 pub all-lines : {cs : List ℕ} {n : ℕ} {o o₁ : List ℕ} {at i : ℕ} → Lined cs n o o₁ at i → n ≤ i → Put (linesFrom 0 (take n cs)) o o₁ at
 all-lines {cs} {n} {o} {o₁} {at} {i} w h = let a = w .within in let e : n ≡ i = omega arith in rw e (put-front (w .so-far))

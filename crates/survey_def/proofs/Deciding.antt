@@ -30,9 +30,11 @@ use Rattle.survey_def.specs.Layouts.{bare, laidOut}
 abbrev pub leftOut : List Bool → Counting
 leftOut set k s = not (chosen set k)
 
+-- A stream that has no meter joins two groups of those before it.
 abbrev pub joinsAt : List Bool → List Stream → ℕ → Bool
 joinsAt set ss k = chosen set k || not (oneLabel (labelsAfter (leftOut set) ss k) (streamAt ss k .from) (streamAt ss k .to))
 
+-- Each of them does.
 abbrev pub eachJoins : List Bool → List Stream → Bool
 eachJoins set ss = every (length ss) (joinsAt set ss)
 

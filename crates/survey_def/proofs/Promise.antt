@@ -17,17 +17,17 @@ use Rattle.plant_def.specs.Files.{Got, bad, got, readPlant}
 use Rattle.plant_def.specs.Within.{Within, Accepted}
 use Rattle.plant_def.specs.Says.{plantOf, readOf}
 use Rattle.plant_def.proofs.Arrayed.{all-listed, listed-at, within-of, stream-within, read-held}
-use Rattle.sheet_def.proofs.Promise.{read-bad, found, plant-count}
+use Rattle.plant_def.proofs.Found.{read-bad, found, plant-count}
 use Rattle.flow_def.specs.Sides.{bit}
 use Rattle.flow_def.specs.Loops.{countTo}
-use Rattle.flow_def.proofs.Counts.{count-same}
+use Rattle.flow_def.proofs.Counts.{count-few, count-same}
 use Rattle.survey_def.specs.declared.Layouts.{Layouts}
 use Rattle.survey_def.specs.Layouts.{laidOut, size, setsOf, Counted}
 use Rattle.survey_def.specs.Says.{maxSurveyed, surveySize, refusedWith, Surveyed, SurveySays, One-survey}
 use Rattle.survey_def.specs.Inner.{eachMeets, ones, countBelow, Few}
 use Rattle.survey_def.proofs.Deciding.{eachJoins, decides}
 use Rattle.survey_def.proofs.Masks.{sets-below}
-use Rattle.survey_def.proofs.Turns.{count-most, few-long, few-at}
+use Rattle.survey_def.proofs.Turns.{few-long, few-at}
 
 -- The count of the sets, from the count of the numbers.
 pub counted : (p : Plant) → Within p → (k c : ℕ) → c ≡ countBelow (p .streams) k (2 ^ length (p .streams)) → Counted p k c
@@ -45,7 +45,7 @@ count-none (suc n) f e = rw (e n) (omega (arith, count-none n f e))
 below-none : (ss : List Stream) (k top : ℕ) → length ss < k → countBelow ss k top ≡ 0
 below-none ss k top h =
     count-none top (λ m. eqb (ones (length ss) m) k && eachMeets m ss)
-    (λ m. rw (ne-eqb (ones (length ss) m) k (λ e. omega (arith, count-most (length ss) (λ j. bit j m)))) refl)
+    (λ m. rw (ne-eqb (ones (length ss) m) k (λ e. omega (arith, count-few (length ss) (λ j. bit j m)))) refl)
 
 -- A survey with these counts.
 pub surveyed-by : (p : Plant) → Within p → (r : Layouts) → r .number ≡ 0 → r .count ≡ length (p .streams) → length (r .counts) ≡ surveySize
@@ -78,18 +78,21 @@ module _ (p : Arrays.Plant) (a : Accepted p) (few : p .count ≤ maxSurveyed) wh
       let h : k < p .count = rw (few-long (p .count) (take maxSurveyed (p .streams)) few-of) at l in
       few-at (p .count) (take maxSurveyed (p .streams)) few-of k h ∙ getD-take maxSurveyed (p .streams) k noStream (omega arith) ∙ sym (listed-at p a k h))
 
+  -- Counts that are right for each k are the survey.
   pub plant-surveyed : (ss : List Stream) → ss ≡ take maxSurveyed (p .streams) → (counts : List ℕ)
       → (length counts ≡ surveySize) × ((k : ℕ) → k < surveySize → getD counts k 0 ≡ countBelow (take (p .count) ss) k (2 ^ p .count))
       → Surveyed (plantOf p) (record { number = 0; count = p .count; counts = counts })
   plant-surveyed ss e counts t =
       surveyed-by (plantOf p) (within-of p a) (record { number = 0; count = p .count; counts = counts }) refl (sym (all-listed p a)) (t .0)
-      (λ k l. t .1 k l ∙ ap (λ (x : List Stream). countBelow x k (2 ^ p .count)) (ap (take (p .count)) e ∙ same-streams) ∙ ap (λ (n : ℕ). countBelow (plantOf p .streams) k (2 ^ n)) (sym (all-listed p a)))
+      (λ k l. t .1 k l ∙ ap (λ (x : List Stream). countBelow x k (2 ^ p .count)) (ap (take (p .count)) e ∙ same-streams)
+      ∙ ap (λ (n : ℕ). countBelow (plantOf p .streams) k (2 ^ n)) (sym (all-listed p a)))
       (rw (all-listed p a) few)
 
 -- What the call answers, by what the reader handed over.
 got-bad : {p : Plant} {f : ℕ} {A : Type 0} → got p ≡ bad f → A
 got-bad e = let z : _≡_ {A = ℕ} 0 1 = cc in absurd (omega arith)
 
+-- A file that is not read.
 pub says-unread : (file : List ℕ) (y : Read) → y ≡ readOf (readPlant file) → (y .number ≡ 0 → ⊥) → SurveySays file (refusedWith (y .number))
 says-unread file y e n =
     let b = read-bad (readPlant file) y e n in
@@ -112,6 +115,7 @@ module _ (file : List ℕ) (y : Read) (e : y ≡ readOf (readPlant file)) (n : y
   the-count : (p : Plant) → readPlant file ≡ got p → length (p .streams) ≡ y .plant .count
   the-count p q = ap (λ (x : Plant). length (x .streams)) (the-plant p q) ∙ sym (plant-count file y e n)
 
+  -- Too many streams: 23.
   pub says-many : maxSurveyed < y .plant .count → SurveySays file (refusedWith 23)
   says-many m = record {
     unread = λ f q. got-bad (sym (found file y e n .1) ∙ q);
@@ -119,6 +123,7 @@ module _ (file : List ℕ) (y : Read) (e : y ≡ readOf (readPlant file)) (n : y
     surveyed = λ p q h. absurd (omega (arith, the-count p q));
   }
 
+  -- The survey of a plant that is read.
   pub says-surveyed : y .plant .count ≤ maxSurveyed → (r : Layouts) → Surveyed (plantOf (y .plant)) r → SurveySays file r
   says-surveyed m r s = record {
     unread = λ f q. got-bad (sym (found file y e n .1) ∙ q);
@@ -135,6 +140,7 @@ sets-same (suc n) f g e =
       sets-same n (λ set. f (false ∷ set)) (λ set. g (false ∷ set)) (λ set. e (false ∷ set)),
     )
 
+-- No two counts are right.
 pub one-count : (p : Plant) (k c d : ℕ) → Counted p k c → Counted p k d → c ≡ d
 one-count p k c d x y =
     x .counts
@@ -142,6 +148,7 @@ one-count p k c d x y =
     (λ set. ap (λ (b : Bool). eqb (size set) k && b) (same-test (x .test set) (y .test set) (λ e. y .tells set .1 (x .tells set .0 e)) (λ e. x .tells set .1 (y .tells set .0 e))))
     ∙ sym (y .counts)
 
+-- No two surveys are.
 pub one-plant : (p : Plant) (r s : Layouts) → Surveyed p r → Surveyed p s → r ≡ s
 one-plant p r s x y = λ i. record { number = (x .number ∙ sym (y .number)) i; count = (x .count ∙ sym (y .count)) i; counts = counts i }
   where
@@ -153,6 +160,7 @@ one-plant p r s x y = λ i. record { number = (x .number ∙ sym (y .number)) i;
     counts : r .counts ≡ s .counts
     counts = ext-getD 0 (r .counts) (s .counts) (x .long ∙ sym (y .long)) (λ k l. at k)
 
+-- No choice is left.
 pub one-survey : One-survey
 one-survey file r s x y = go (readPlant file) refl
   where

@@ -51,6 +51,7 @@ plant =
 nothing : Plant
 nothing = record { units = 1; streams = [] }
 
+-- The worked examples.
 pub samples : Samples
 unfolding plant nothing labelsAfter
 samples = record {

@@ -26,7 +26,7 @@ use Rattle.flow_def.proofs.Certified.{every-at}
 use Rattle.flow_def.proofs.Labels.{step-none, labels-long}
 use Rattle.flow_def.proofs.Grouping.{step-said}
 use Rattle.flow_def.specs.Loops.{countTo}
-use Rattle.flow_def.proofs.Counts.{one}
+use Rattle.flow_def.proofs.Counts.{one, count-few}
 use Rattle.survey_def.specs.Says.{maxSurveyed, surveySize}
 use Rattle.survey_def.specs.Inner.{bitOff, meets, eachMeets, ones, countBelow, Few}
 
@@ -34,6 +34,7 @@ use Rattle.survey_def.specs.Inner.{bitOff, meets, eachMeets, ones, count
 pub none-taken : (m : ℕ) → m ≡ m / 2 ^ 0
 none-taken m = sym (div-one m)
 
+-- What is left of a number, halved once more.
 pub half-left : (m j : ℕ) → m / 2 ^ j / 2 ≡ m / 2 ^ (j + 1)
 half-left m j = div-div-eq-div-mul m (2 ^ j) 2 ∙ ap (λ (x : ℕ). m / x) (sym (pow-suc 2 j)) ∙ ap (λ (x : ℕ). m / 2 ^ x) (sym (add-one j))
 
@@ -53,21 +54,15 @@ bit-one m j = go (m / 2 ^ j % 2) (omega arith)
     go (suc zero) h = refl
     go (suc (suc x)) h = absurd (omega arith)
 
+-- The ones of a number, one bit more.
 pub ones-more : (n m : ℕ) → ones n m + m / 2 ^ n % 2 ≡ ones (n + 1) m
 ones-more n m = rw (add-one n) (omega (arith, bit-one m n))
-
-pub count-most : (n : ℕ) (f : ℕ → Bool) → countTo n f ≤ n
-count-most zero f = omega arith
-count-most (suc n) f = omega (arith, at-most (f n), count-most n f)
-  where
-    at-most : (b : Bool) → one b ≤ 1
-    at-most true = omega arith
-    at-most false = omega arith
 
 -- A test of each number below n, one more.
 pub every-more : (n : ℕ) (test : ℕ → Bool) → every n test ≡ true → test n ≡ true → every (n + 1) test ≡ true
 every-more n test e t = rw (add-one n) (rw (t, e) refl)
 
+-- A test that fails of one.
 pub every-not : (n : ℕ) (test : ℕ → Bool) (k : ℕ) → k < n → test k ≡ false → every n test ≡ false
 every-not n test k l t = by-cases (every n test) (λ e. absurd (clash (test k) (every-at n test e k l) t)) (λ e. e)
 
@@ -89,9 +84,11 @@ pub record Passed (n : ℕ) (streams : List Stream) (m : ℕ) (labels : List ℕ
   pub joined : every j (meets m (take n streams)) ≡ true
 
 module _ (n : ℕ) (streams : List Stream) (f : Few n streams) where
+  -- As many as they are.
   pub few-long : length (take n streams) ≡ n
   few-long = length-take-le n streams (omega (arith, f .few, f .long))
 
+  -- The stream at a place.
   pub few-at : (k : ℕ) → k < n → streamAt (take n streams) k ≡ getD streams k noStream
   few-at k l = getD-take n streams k noStream l
 
@@ -102,10 +99,12 @@ module _ (n : ℕ) (streams : List Stream) (f : Few n streams) where
       rw (few-at k h) (omega (arith, w .from-in), omega (arith, w .to-in))
 
   module _ (m : ℕ) where
+    -- None is looked at yet.
     pub passed-none : (labels : List ℕ) → labels ≡ ownNumbers → Passed n streams m labels m 0
     passed-none labels e = record { within = omega arith; grouped = step-none (bitOff m) (take n streams) labels e; bits = none-taken m; joined = refl }
 
     module _ (labels : List ℕ) (rest j : ℕ) (g : Passed n streams m labels rest j) where
+      -- There is a label for each place.
       pub passed-long : length labels ≡ places
       passed-long = rw (g .grouped) (labels-long (bitOff m) (take n streams) j)
 
@@ -122,9 +121,11 @@ module _ (n : ℕ) (streams : List Stream) (f : Few n streams) where
           go true o = refl
           go false o = refl
 
+      -- A stream closes a loop: the choice does not serve.
       pub passed-closed : j < n → closes ≡ true → false ≡ eachMeets m (take n streams)
       passed-closed h t = sym (every-not (length (take n streams)) (meets m (take n streams)) j (rw few-long h) (meets-so h ∙ ap not t))
 
+      -- One stream more, and no loop.
       pub passed-more : j < n → closes ≡ false → (next : List ℕ) → StepSays (eqb (rest % 2) 0) (getD streams j noStream) labels next
           → Passed n streams m next (rest / 2) (j + 1)
       passed-more h t next says = record {
@@ -135,6 +136,7 @@ module _ (n : ℕ) (streams : List Stream) (f : Few n streams) where
         joined = every-more j (meets m (take n streams)) (g .joined) (meets-so h ∙ ap not t);
       }
 
+      -- All streams: the choice serves.
       pub passed-all : n ≤ j → true ≡ eachMeets m (take n streams)
       passed-all h =
           let e : j ≡ length (take n streams) = omega (arith, few-long, g .within) in
@@ -145,13 +147,16 @@ pub record Tallied (ss : List Stream) (counts : List ℕ) (m : ℕ) : Type 0 whe
   pub long : length counts ≡ surveySize
   pub each : (k : ℕ) → k < surveySize → getD counts k 0 ≡ countBelow ss k m
 
+-- No number yet.
 pub tallied-none : (ss : List Stream) → Tallied ss (replicate surveySize 0) 0
 tallied-none ss = record { long = length-replicate {A = ℕ} surveySize 0; each = λ k l. getD-replicate surveySize k 0 0 l }
 
 module _ (ss : List Stream) (counts : List ℕ) (m : ℕ) (t : Tallied ss counts m) where
+  -- No count is above the numbers tried.
   pub tally-most : (k : ℕ) → k < surveySize → getD counts k 0 ≤ m
-  tally-most k l = omega (arith, t .each k l, count-most m (λ m. eqb (ones (length ss) m) k && eachMeets m ss))
+  tally-most k l = omega (arith, t .each k l, count-few m (λ m. eqb (ones (length ss) m) k && eachMeets m ss))
 
+  -- A number whose choice does not serve.
   pub tallied-not : eachMeets m ss ≡ false → Tallied ss counts (m + 1)
   tallied-not e = record { long = t .long; each = λ k l. t .each k l ∙ sym (rw (add-one m) (same k)) }
     where

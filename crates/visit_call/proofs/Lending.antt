@@ -18,9 +18,11 @@ module _ {file : List ℕ} {m n : ℕ} {r : Visits} where
   pub numbers-short : m < maxStreams → r ≡ noVisits 1 → LentSays file m n r
   numbers-short h e = record { short = λ s. e; enough = λ a b. absurd (omega arith) }
 
+  -- A slice for the costs that is too short.
   pub costs-short : n < maxStreams → r ≡ noVisits 1 → LentSays file m n r
   costs-short h e = record { short = λ s. e; enough = λ a b. absurd (omega arith) }
 
+  -- Both slices are long enough: as the call.
   pub both-long : maxStreams ≤ m → maxStreams ≤ n → VisitsSays file r → LentSays file m n r
   both-long h l v = record { short = ⊎-elim (λ (s : m < maxStreams). absurd (omega arith)) (λ (s : n < maxStreams). absurd (omega arith)); enough = λ a b. v }
 
@@ -35,6 +37,7 @@ same-lent : (file : List ℕ) (m n : ℕ) (r r′ : Visits) → LentSays file m 
 same-lent file m n r r′ s t =
     by-room m n (λ h. s .short h ∙ sym (t .short h)) (λ h l. meters-worth-a-visit .only file r r′ (s .enough h l) (t .enough h l))
 
+-- No choice is left.
 pub one-hand-over : One-hand-over
 one-hand-over file ns ns₁ ns₂ cs cs₁ cs₂ n₁ n₂ c₁ c₂ x y =
     let e = same-lent file (length ns) (length cs) (x .made) (y .made) (x .said) (y .said) in (

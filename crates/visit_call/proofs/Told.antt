@@ -43,6 +43,7 @@ module _ (a : Arrays.Plant) (acc : Accepted a) (f : Feasible (plantOf a)) (class
     least : AllLeast p (costIn costs)
     least k l t = let m : k < a .count = rw (all-listed a acc) at l in h k m (listed-is k m ∙ t)
 
+    -- The list, by the costs that were found.
     pub told : (r : Visits) → PlacedTo (a .count) (among listed) (costIn costs) r (a .count) → VisitsFor p r
     told r v =
         Promise.all-listed p (within-of a acc) r (f .0) (f .1) (costIn costs) least

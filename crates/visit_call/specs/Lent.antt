@@ -4,6 +4,8 @@ use mathlib.Core.Logic.{_⊎_}
 use mathlib.Core.List.{List}
 use Prim.Native.Nat.{ℕ, _≤_, _<_}
 use lib.ListN.{length, take}
+use denote.Ref.{RefT}
+use denote.Triple.Both.{Both}
 use Rattle.num_bytes.specs.Bytes.{over}
 use Rattle.plant_def.specs.Limits.{maxStreams}
 use Rattle.visit_def.specs.declared.Visits.{Visits}
@@ -23,6 +25,10 @@ pub record VisitsHandOver (file ns ns′ cs cs′ : List ℕ) (number count : �
   pub counted : count ≡ made .count
   pub numbers : ns′ ≡ over (take (made .count) (made .streams)) ns
   pub costs : cs′ ≡ over (take (made .count) (made .costs)) cs
+
+-- The same of two lent slices, each at the call's entry and at its exit.
+abbrev pub VisitsLent : (file : List ℕ) (ns cs : Both (RefT (List ℕ)) (RefT (List ℕ))) (number count : ℕ) → Type 0
+VisitsLent file ns cs number count = VisitsHandOver file (ns .entry .now) (ns .exit .now) (cs .entry .now) (cs .exit .now) number count
 
 -- No choice is left.
 abbrev pub One-hand-over : Type 0

@@ -8,7 +8,7 @@ use visit_def::Visits;
 use visit_order::list_by;
 use visit_order::refused;
 ghost use Rattle.visit_def.specs.Says.{VisitsSays};
-ghost use Rattle.visit_call.specs.Lent.{LentSays, VisitsHandOver};
+ghost use Rattle.visit_call.specs.Lent.{LentSays, VisitsLent};
 
 // For every A stream of a plant file the least cost with that stream, and its range, made unmetered; listed by cost, equals by number.
 pub fn visits_of(file: &[u8]) -> Visits
@@ -54,7 +54,7 @@ fn visits_lent(file: &[u8], numbers: usize, costs: usize) -> Visits
 // The call with lent slices: the streams' numbers and their costs at the front, the rest as it was; or a refusal, and the slices as
 // they were.
 pub fn visits_into(file: &[u8], numbers: &mut [u8], costs: &mut [u64]) -> Handed
-    ensures { λ r. ⌜ VisitsHandOver (now (file .entry)) (now (numbers .entry)) (now (numbers .exit)) (now (costs .entry)) (now (costs .exit)) (r .number) (r .count) ⌝ }
+    ensures { λ r. ⌜ VisitsLent (now (file .entry)) numbers costs (r .number) (r .count) ⌝ }
 {
     let visits = visits_lent(file, numbers.len(), costs.len());
     let count = visits.count as usize;

@@ -1,4 +1,4 @@
--- Where the phases end, a flow of least cost is held: its prices certify it, before any tie is sought.
+-- Where the phases end, a flow of least cost is held: its potentials certify it, before any tie is sought.
 use mathlib.Core.Path.{_≡_, _∙_, ap, subst}
 use mathlib.Core.Bool.{true, false}
 use mathlib.Core.List.{List, map}
@@ -15,12 +15,12 @@ use Rattle.plant_def.specs.Says.{plantOf}
 use Rattle.plant_def.proofs.Arrayed.{all-listed, within-of}
 use Rattle.flow_def.specs.Flows.{allowed, cost, OfLeastCost}
 use Rattle.flow_def.proofs.Overfull.{overfull-none}
-use Rattle.flow_def.proofs.Prices.{Certificate, least}
+use Rattle.flow_def.proofs.Potentials.{Certificate, least}
 use Rattle.solve_def.specs.declared.State.{State}
 use Rattle.solve_def.specs.declared.Ended.{Ended}
 use Rattle.solve_def.specs.Held.{unshifted, opened}
 use Rattle.solve_def.specs.Model.{finished, masked}
-use Rattle.solve_def.specs.Promise.{priceAt}
+use Rattle.solve_def.specs.Promise.{potentialAt}
 use Rattle.solve_def.specs.SolverNeeds.{AtHint, Even, Amounts}
 use Rattle.solve_def.proofs.Phases.{Finished}
 use Rattle.solve_def.proofs.Ending.{finished-good, finished-even}
@@ -45,26 +45,29 @@ module _ (p : Arrays.Plant) (a : Accepted p) (st : State) (s : AtHint (plantOf p
       (overfull-none (plantOf p) (within-of p a) (masked (p .units) (e .marked)) (ended-full (plantOf p) (within-of p a) e ends n) 1 (f .0) (omega arith))
 
   module _ (n : e .full ≡ false) where
-    even : Even ss (e .state .prices) 0 (e .state .flows)
+    even : Even ss (e .state .potentials) 0 (e .state .flows)
     even = finished-even ss (solvable-in (plantOf p) (within-of p a)) e ends n
 
+    -- The amounts are within their bounds.
     pub amounts : Amounts (e .state .flows)
     amounts = λ k h. omega (arith, even .close k h .0)
 
+    -- The flows are small.
     pub all-small : (xs : List ℤ) → xs ≡ map unshifted (e .state .flows) → AllSmall xs
     all-small xs d = rw d (flows-small (e .state .flows) amounts (even .long))
 
-    sure : Certificate (plantOf p) (opened (length ss) (e .state .flows)) (priceAt (e .state .prices))
-    sure = certify (plantOf p) (within-of p a) (e .state .prices) 0 (e .state .flows) even (omega arith)
+    sure : Certificate (plantOf p) (opened (length ss) (e .state .flows)) (potentialAt (e .state .potentials))
+    sure = certify (plantOf p) (within-of p a) (e .state .potentials) 0 (e .state .flows) even (omega arith)
 
     least-flow : OfLeastCost (plantOf p) (opened (p .count) (e .state .flows))
     least-flow =
         subst (λ (m : ℕ). OfLeastCost (plantOf p) (opened m (e .state .flows))) (all-listed p a)
         (record {
           balance = sure .balance;
-          least = λ ys b. least (plantOf p) (within-of p a) (priceAt (e .state .prices)) (opened (length ss) (e .state .flows)) sure ys b;
+          least = λ ys b. least (plantOf p) (within-of p a) (potentialAt (e .state .potentials)) (opened (length ss) (e .state .flows)) sure ys b;
         })
 
+    -- Their cost, capped, is the least.
     pub least-found : (xs : List ℤ) → xs ≡ map unshifted (e .state .flows) → (c : ℕ) → c ≡ capped (cost ss (take (p .count) xs)) → LeastCost (plantOf p) c
     least-found xs d c h =
         let flow : take (p .count) xs ≡ opened (p .count) (e .state .flows) = ap (take (p .count)) d ∙ take-opened (p .count) (e .state .flows) in

@@ -24,15 +24,18 @@ take-set (suc n) (x ∷ xs) zero v = refl
 take-set {A} (suc n) (x ∷ xs) (suc k) v = ap (λ (l : List A). x ∷ l) (take-set n xs k v)
 
 module _ (a : Arrays.Plant) (acc : Accepted a) (k : ℕ) (l : k < a .count) where
+  -- The plant with the stream put in unmetered.
   abbrev pub gone : Arrays.Plant
   gone = record { units = a .units; count = a .count; streams = set (a .streams) k (unmeter (getD (a .streams) k noStream)) }
 
+  -- It is accepted.
   pub gone-accepted : Accepted gone
   gone-accepted = record {
     long = length-set (a .streams) k (unmeter (getD (a .streams) k noStream)) ∙ acc .long;
     within = parts-gone (acc .within) k l (omega (arith, acc .long, acc .within .few-streams));
   }
 
+  -- It is the plant without that meter.
   pub gone-is : plantOf gone ≡ without (plantOf a) k
   gone-is =
       let e : take (a .count) (set (a .streams) k (unmeter (getD (a .streams) k noStream))) ≡ set (take (a .count) (a .streams)) k (unmeter (streamAt (take (a .count) (a .streams)) k)) =
@@ -40,6 +43,7 @@ module _ (a : Arrays.Plant) (acc : Accepted a) (k : ℕ) (l : k < a .count) wher
       ∙ ap (λ (s : Stream). set (take (a .count) (a .streams)) k (unmeter s)) (sym (listed-at a acc k l)) in
       λ i. record { units = a .units; streams = e i }
 
+  -- The same of the stream that the code puts in.
   pub gone-right : (v : Stream) → v ≡ unmeter (getD (a .streams) k noStream)
       → Accepted (record { units = a .units; count = a .count; streams = set (a .streams) k v })
       × (plantOf (record { units = a .units; count = a .count; streams = set (a .streams) k v }) ≡ without (plantOf a) k)
@@ -53,6 +57,7 @@ gone-feasible p q k e f = rw e (f .0, feasible p k (f .0) (f .1))
 abbrev pub SoFar : Plant → List Bool → List ℕ → ℕ → Type 0
 SoFar p listed costs n = (j : ℕ) → j < n → getD listed j false ≡ true → LeastCost (without p j) (getD costs j 0)
 
+-- One cost more.
 pub one-more : (p : Plant) (listed : List Bool) (costs : List ℕ) (k c : ℕ) → k < length costs → SoFar p listed costs k
     → (getD listed k false ≡ true → LeastCost (without p k) c) → SoFar p listed (set costs k c) (k + 1)
 one-more p listed costs k c l s h j m t = elim (ℕ-discrete j k) [

@@ -29,12 +29,15 @@ module _ (p : Plant) (few : length (p .streams) ≤ maxStreams) (costs : ℕ →
   different : Different n (keyOf costs)
   different i j l m e = omega arith
 
+  -- A place is below the count of the listed.
   pub place-low : (k : ℕ) → k < n → isListed p k ≡ true → placeOf p costs k < countTo n (isListed p)
   place-low k l t = rw (place-is k l) (below-few (isListed p) (keyOf costs) n k l t)
 
+  -- No two listed streams have one place.
   pub place-apart : (j k : ℕ) → j < n → k < n → isListed p j ≡ true → isListed p k ≡ true → placeOf p costs j ≡ placeOf p costs k → j ≡ k
   place-apart j k l m s t e = apart (isListed p) (keyOf costs) n j k different l m s t (sym (place-is j l) ∙ e ∙ place-is k m)
 
+  -- Every place is some listed stream's.
   pub place-taken : (i : ℕ) → i < countTo n (isListed p) → (k : ℕ) × (k < n) × (isListed p k ≡ true) × (placeOf p costs k ≡ i)
   place-taken i h = let f = taken (isListed p) (keyOf costs) n different i h in (f .0, f .1, f .2, place-is (f .0) (f .1) ∙ f .3)
 
@@ -98,6 +101,7 @@ module _ (p : Plant) (a b : ℕ → ℕ) (same : (k : ℕ) → k < length (p .st
       (λ s. rw s (ap (λ (x : ℕ). ltb x (a k) || (eqb x (a k) && ltb j k)) (same j m s) ∙ ap (λ (x : ℕ). ltb (b j) x || (eqb (b j) x && ltb j k)) (same k l t)))
       (λ s. rw s))
 
+  -- The order is the same by costs that agree.
   pub ordered-by : (r : Visits) → Ordered p a r → Ordered p b r
   ordered-by r o = record {
     number = o .number;

@@ -17,6 +17,7 @@ use Rattle.plant_def.specs.Says.{plantOf, readOf}
 use Rattle.plant_def.proofs.Limited.{within}
 use Rattle.plant_def.proofs.Accepted.{accepted}
 use Rattle.plant_def.proofs.Arrayed.{read-held}
+use Rattle.plant_def.proofs.Found.{read-bad, found}
 use Rattle.flow_def.specs.declared.Class.{Class}
 use Rattle.flow_def.specs.declared.Class.the-variants.{Adjusted, AsRead, Given, Withheld}
 use Rattle.flow_def.specs.Flows.{streamAt, allowed}
@@ -27,7 +28,6 @@ use Rattle.flow_def.proofs.Chained.{adjusted-of}
 use Rattle.flow_def.proofs.Overfull.{overfull-none}
 use Rattle.solve_def.proofs.Demand.{refusal-19}
 use Rattle.sheet_def.specs.Sentences.{EndsJoined}
-use Rattle.sheet_def.proofs.Promise.{read-bad, found}
 use Rattle.visit_def.specs.declared.Visits.{Visits}
 use Rattle.visit_def.specs.Visits.{without, isAdjusted, isListed, AllLeast, Ordered}
 use Rattle.visit_def.specs.Says.{noVisits, VisitsFor, VisitsWith, VisitsSays, Meters-worth-a-visit}
@@ -67,6 +67,7 @@ which file p e k l =
       λ h. ap isAdjusted (adjusted-of p w k (h .0) .1 (h .1)),
     )
 
+-- The record of what is promised of meters worth a visit.
 pub meters-worth-a-visit : Meters-worth-a-visit
 meters-worth-a-visit = record {
   feasible = feasible;
@@ -87,6 +88,7 @@ module _ (p : Plant) (w : Within p) (r : Visits) where
     listed = λ ys t. clash (allowed p ys) t (overfull-none p w ms m 1 ys (omega arith));
   }
 
+  -- The list of a plant that has a flow in range.
   pub all-listed : (xs : List ℤ) → allowed p xs ≡ true → (costs : ℕ → ℕ) → AllLeast p costs → Ordered p costs r → VisitsFor p r
   all-listed xs t costs l o = record {
     unbalanced = λ none. clash (allowed p xs) t (none xs);
@@ -98,6 +100,7 @@ module _ (file : List ℕ) (y : Read) (e : y ≡ readOf (readPlant file)) (r : V
   pub unread : (y .number ≡ 0 → ⊥) → r ≡ noVisits (y .number) → VisitsSays file r
   unread n q = subst (λ (g : Got). VisitsWith g r) (sym (read-bad (readPlant file) y e n)) q
 
+  -- A file that is read: the answer of its plant.
   pub answered : y .number ≡ 0 → VisitsFor (plantOf (y .plant)) r → VisitsSays file r
   answered n b =
       let q = found file y e n in

@@ -5,7 +5,7 @@ use mathlib.Core.List.{List, [], _∷_}
 use lib.IntN.{ℤ, pos}
 use Prim.Native.Nat.{ℕ, zero, suc, _≤_, _<_}
 use native.Mathlib.Omega.{arith}
-use lib.ListN.{length, getD, replicate}
+use lib.ListN.{length, getD}
 use Rattle.plant_def.specs.Plants.{Plant, unmetered}
 use Rattle.plant_def.proofs.Limited.{within}
 use Rattle.plant_def.proofs.Accepted.{accepted}
@@ -13,6 +13,7 @@ use Rattle.flow_def.specs.Flows.{allowed, cost}
 use Rattle.visit_def.specs.Visits.{without, LeastCost, isListed, AllLeast, placeOf, Ordered}
 use Rattle.visit_def.specs.Says.{VisitsSays}
 use Rattle.visit_def.specs.Sample.{sampleFile, sampleVisits, Sample}
+use Rattle.visit_def.proofs.Placing.{zero-at}
 use Rattle.visit_def.proofs.Promise.{meters-worth-a-visit, all-listed}
 
 abbrev plant : Plant
@@ -38,11 +39,6 @@ least (suc (suc zero)) l t = absurd (false≢true t)
 least (suc (suc (suc zero))) l t = free (without plant 3) (pos 100 ∷ pos 100 ∷ pos 0 ∷ pos 100 ∷ []) refl refl
 least (suc (suc (suc (suc k)))) l t = absurd (omega arith)
 
-zero-at : (n k : ℕ) → getD {A = ℕ} (replicate n 0) k 0 ≡ 0
-zero-at zero k = refl
-zero-at (suc n) zero = refl
-zero-at (suc n) (suc k) = zero-at n k
-
 each : (k : ℕ) → k < length (plant .streams) → isListed plant k ≡ true
     → (getD (sampleVisits .streams) (placeOf plant (λ k. 0) k) 0 ≡ suc k) × (getD (sampleVisits .costs) (placeOf plant (λ k. 0) k) 0 ≡ 0)
 each zero l t = (refl, refl)
@@ -62,5 +58,6 @@ ordered = record { number = refl; count = refl; long = (refl, refl); each = each
 says : VisitsSays sampleFile sampleVisits
 says = all-listed plant (within plant (accepted sampleFile plant refl .0)) sampleVisits (pos 98 ∷ pos 98 ∷ pos 0 ∷ pos 98 ∷ []) refl (λ k. 0) least ordered
 
+-- The worked example.
 pub sample : Sample
 sample r s = meters-worth-a-visit .only sampleFile r sampleVisits s says

@@ -42,6 +42,7 @@ within-gone n s w = record {
   high-in = λ e. absurd (false≢true e);
 }
 
+-- Its parts are within the limits.
 pub parts-gone : {n c : ℕ} {ss : List Stream} → WithinParts n c ss → (k : ℕ) → k < c → c ≤ length ss → WithinParts n c (gone ss k)
 parts-gone {n} {c} {ss} w k l h = record { some-units = w .some-units; few-units = w .few-units; few-streams = w .few-streams; each = each }
   where
@@ -91,6 +92,7 @@ feasible-over d p k xs e =
     (rw (length-set (p .streams) k (unmeter (streamAt (p .streams) k)), balanced-same (p .units) (p .streams) k xs) b)
     (ranges-kept d (p .streams) k xs (and-right (balanced p xs) (inRanges d (p .streams) xs) e))
 
+-- A flow in range stays in range.
 pub feasible : (p : Plant) (k : ℕ) (xs : List ℤ) → allowed p xs ≡ true → allowed (without p k) xs ≡ true
 feasible p k xs e = feasible-over 1 p k xs e
 
@@ -116,12 +118,14 @@ capped-le a b h = elim (decLe b topCost) [
   ]
 ]
 
+-- Without a meter the least cost is not above the sheet's.
 pub not-above : (p : Plant) (k : ℕ) (xs : List ℤ) (c : ℕ) → Cheapest p xs → LeastCost (without p k) c → c ≤ capped (cost (p .streams) xs)
 not-above p k xs c h l =
     rw (l .2)
     (capped-le (cost (gone (p .streams) k) (l .0)) (cost (p .streams) xs)
     (omega (arith, l .1 .least xs (feasible p k xs (h .balance)), cost-less 1 (p .streams) k xs)))
 
+-- No two costs are the least.
 pub one-cost : (p : Plant) (c d : ℕ) → LeastCost p c → LeastCost p d → c ≡ d
 one-cost p c d x y =
     let a = x .1 .least (y .0) (y .1 .balance) in

@@ -14,6 +14,7 @@ use Rattle.plant_def.specs.Limits.{maxStreams}
 use Rattle.visit_text.specs.Text.{linesFor}
 use Rattle.visit_text.specs.Says.{lineSize, leastText}
 
+-- How long a line is.
 pub line-size : (n c : ℕ) → length (pairLine n c) ≡ length (field n) + length (decimal c) + 1
 line-size n c = length-append (field n ++ decimal c) (text "\n") ∙ ap (λ (m : ℕ). m + 1) (length-append (field n) (decimal c))
 
@@ -39,6 +40,7 @@ pub record Lined (ns cs : List ℕ) (m : ℕ) (o o₁ : List ℕ) (at i : ℕ) :
   pub so-far : Added (linesFor (take i ns) (take i cs)) 0 o o₁ at
   pub bound : at ≤ lineSize * i
 
+-- No line yet.
 pub no-lines : (ns cs : List ℕ) (m : ℕ) (o : List ℕ) → m ≤ maxStreams → (length ns ≡ maxStreams) × (length cs ≡ maxStreams) → leastText ≤ length o → Lined ns cs m o o 0 0
 no-lines ns cs m o f l w = record { few = f; long = l; wide = w; within = omega arith; so-far = nothing 0 o (omega arith); bound = omega arith }
 
@@ -46,9 +48,11 @@ module _ {ns cs : List ℕ} {m : ℕ} {o o₁ : List ℕ} {at i : ℕ} (w : Line
   small : length (pairLine (getD ns i 0) (getD cs i 0)) ≤ lineSize
   small = line-most (getD ns i 0) (getD cs i 0) (omega arith) (omega arith)
 
+  -- There is room for the next line.
   pub line-room : at + length (pairLine (getD ns i 0) (getD cs i 0)) ≤ length o₁
   line-room = let a = w .few in let b = w .bound in let c = w .wide in omega (arith, small, kept-length (w .so-far))
 
+  -- One line more.
   pub one-line : {o₂ : List ℕ} {a : ℕ} → Added (pairLine (getD ns i 0) (getD cs i 0)) at o₁ o₂ a → Lined ns cs m o o₂ a (i + 1)
   one-line {o₂} {a} p =
       let l = w .long in
@@ -65,5 +69,6 @@ module _ {ns cs : List ℕ} {m : ℕ} {o o₁ : List ℕ} {at i : ℕ} (w : Line
         bound = omega (arith, small, p .place);
       }
 
+-- All lines.
 pub all-lines : {ns cs : List ℕ} {m : ℕ} {o o₁ : List ℕ} {at i : ℕ} → Lined ns cs m o o₁ at i → m ≤ i → Put (linesFor (take m ns) (take m cs)) o o₁ at
 all-lines {ns} {cs} {m} {o} {o₁} {at} {i} w h = let a = w .within in let e : m ≡ i = omega arith in rw e (put-front (w .so-far))

@@ -19,13 +19,16 @@ use Rattle.visit_text.specs.Text.{linesFor, visitsText}
 use Rattle.visit_text.specs.Says.{leastText, TextSays, Texts}
 
 module _ (file o : List ℕ) where
+  -- A slice that is too short.
   pub says-nothing : length o < leastText → TextSays file o o 0
   says-nothing h = record { too-short = λ l. (refl, refl); told = λ l. absurd (omega arith) }
 
   module _ (h : leastText ≤ length o) (o′ : List ℕ) (r : ℕ) (l : Visits) (s : VisitsSays file l) where
+    -- The text of a refusal.
     pub says-refused : (l .number ≡ 0 → ⊥) → Put (refusalText (l .number)) o o′ r → TextSays file o o′ r
     says-refused n p = record { too-short = λ x. absurd (omega arith); told = λ x. (l, s, rw (ne-eqb (l .number) 0 n) p) }
 
+    -- The lines of the list.
     pub says-lines : l .number ≡ 0 → Put (linesFor (take (l .count) (l .streams)) (take (l .count) (l .costs))) o o′ r → TextSays file o o′ r
     says-lines z p = record { too-short = λ x. absurd (omega arith); told = λ x. (l, s, rw (eq-eqb (l .number) 0 z) p) }
 
@@ -45,6 +48,7 @@ one file o o₁ o₂ r₁ r₂ a b =
     short : (r₁ ≡ 0) × (o₁ ≡ o) → (r₂ ≡ 0) × (o₂ ≡ o) → (r₁ ≡ r₂) × (o₁ ≡ o₂)
     short a b = (a .0 ∙ sym (b .0), a .1 ∙ sym (b .1))
 
+-- The texts of the examples.
 pub texts : Texts
 unfolding decimal
 texts = record {

@@ -40,12 +40,12 @@ struct Labels {
     void join(int a, int b) { std::replace(of, of + peer::PLACES, std::max(a, b), std::min(a, b)); }
 };
 
-// The real-number optimum without ranges: prices by elimination in the weighted Laplacian of the groups, the outside's price 0.
-struct Prices {
+// The real-number optimum without ranges: potentials by elimination in the weighted Laplacian of the groups, the outside's 0.
+struct Potentials {
     double of[peer::PLACES] = {}, rows[peer::PLACES][peer::PLACES] = {};
     Labels labels;
 
-    explicit Prices(const peer::Plant &plant) : labels(plant) {
+    explicit Potentials(const peer::Plant &plant) : labels(plant) {
         for (int i = 0; i < plant.count; i++)
             if (plant.streams[i].metered) add(plant.streams[i]);
         for (int k = 1; k <= plant.units; k++) eliminate(k, plant.units);
@@ -165,11 +165,11 @@ bool used_up(const peer::Plant &plant, const std::int64_t *before, const std::in
 std::uint8_t solve_plant(const std::uint8_t *file, std::size_t length, std::uint8_t *kinds, double *flows) {
     peer::Plant plant;
     if (!peer::read(file, length, plant)) return peer::BAD_FILE;
-    const Prices prices(plant);
+    const Potentials potentials(plant);
     std::int64_t now[peer::MAX_STREAMS] = {}, before[peer::MAX_STREAMS];
     for (int i = 0; i < plant.count; i++) {
         const peer::Stream &s = plant.streams[i];
-        if (s.metered) now[i] = std::clamp(prices.flow(s), low(s), high(s));
+        if (s.metered) now[i] = std::clamp(potentials.flow(s), low(s), high(s));
     }
     bool balanced = false;
     for (std::int64_t width = plant.ranged ? WIDEST : 1; width > 0;) {

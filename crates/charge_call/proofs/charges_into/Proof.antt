@@ -8,8 +8,15 @@ use borrow.Author.Needs.{needs}
 use Rattle.charge_call.proofs.charges_into.Statement.{statement}
 use Rattle.charge_call.proofs.charges_into.Tie as tie
 
-room : (c : tie.After-charges-lent) → (c .charges-lent .result .count ≤ maxStreams) × (c .charges-lent .result .count ≤ length (now (c .before .before .before .before .args .numbers))) × (c .charges-lent .result .count ≤ length (now (c .before .before .before .before .args .cents)))
-room c = room-lent (now (c .before .before .before .before .args .file)) (now (c .before .before .before .before .args .rates)) (length (now (c .before .before .before .before .args .numbers))) (length (now (c .before .before .before .before .args .cents))) (c .charges-lent .result) (c .charges-lent .ensures)
+-- As many as are charged fit both slices.
+room : (c : tie.After-charges-lent)
+    → let start = c .before .before .before .before in
+    let count = c .charges-lent .result .count in
+    (count ≤ maxStreams) × (count ≤ length (now (start .args .numbers))) × (count ≤ length (now (start .args .cents)))
+room c =
+    let start = c .before .before .before .before in
+    room-lent (now (start .args .file)) (now (start .args .rates)) (length (now (start .args .numbers))) (length (now (start .args .cents)))
+    (c .charges-lent .result) (c .charges-lent .ensures)
 
 charges-lent-requires : tie.Need-charges-lent-requires
 charges-lent-requires c κs = search needs
@@ -18,10 +25,15 @@ cast-count : tie.Need-cast-count
 cast-count c = search needs
 
 put-bytes-requires : tie.Need-put-bytes-requires
-put-bytes-requires c κs = (room (c .before .before .before) .0, room (c .before .before .before) .1)
+put-bytes-requires c κs =
+    let after-charges-lent = c .before .before .before in
+    (room after-charges-lent .0, room after-charges-lent .1)
 
 put-signed-requires : tie.Need-put-signed-requires
-put-signed-requires c κs = (room (c .before .before .before .before .before .before .before .before) .0, room (c .before .before .before .before .before .before .before .before) .2)
+put-signed-requires c κs =
+    let after-streams = c .before .before .before .before .before .before in
+    let after-charges-lent = after-streams .before .before in
+    (room after-charges-lent .0, room after-charges-lent .2)
 
 same-length : tie.Need-same-length
 same-length c = search needs

@@ -39,10 +39,16 @@ array-write-taken c = search needs
 
 pass-requires : tie.Need-pass-requires Inv-loop μ-loop
 pass-requires c κs =
-    let st = c .before .before .before .before .before .before .before .before in
-    let inv = c .before .before .before .before .before .before .loop .inv in
-    let lt = c .before .before .before .before .before .loop-test .taken in
-    (stream-within (st .args .t1) (st .pre) _ lt, labels-all (st .pre) inv, sides-all (st .pre) inv, taken-in (st .pre) inv lt _ (c .before .before .taken-by .ensures))
+    let in-loop = c .before .before .before .before .before in
+    let at-loop = in-loop .before in
+    let start = at-loop .before .before in
+    let inv = at-loop .loop .inv in
+    let lt = in-loop .loop-test .taken in (
+      stream-within (start .args .t1) (start .pre) _ lt,
+      labels-all (start .pre) inv,
+      sides-all (start .pre) inv,
+      taken-in (start .pre) inv lt _ (c .before .before .taken-by .ensures),
+    )
 
 add-i : tie.Need-add-i Inv-loop μ-loop
 add-i c = search needs
@@ -52,8 +58,11 @@ loop-less c = search needs
 
 loop-again : tie.Need-loop-again Inv-loop μ-loop
 loop-again c =
-    let turn = c .before .before .before .before .before .before in
-    passed-more (c .before .before .before .before .before .before .before .before .before .pre) (turn .before .loop .inv) (turn .loop-test .taken) _ _ _ _ (c .before .before .before .taken-by .ensures) (c .pass .ensures .0) (c .pass .ensures .1 .0) (c .pass .ensures .1 .1)
+    let after-taken-by = c .before .before .before in
+    let in-loop = after-taken-by .before .before .before in
+    let start = in-loop .before .before .before in
+    passed-more (start .pre) (in-loop .before .loop .inv) (in-loop .loop-test .taken) _ _ _ _ (after-taken-by .taken-by .ensures)
+    (c .pass .ensures .0) (c .pass .ensures .1 .0) (c .pass .ensures .1 .1)
 
 returns : tie.Need-returns Inv-loop μ-loop
 returns c =

@@ -21,9 +21,11 @@ turn-requires c κs = search needs
 
 returns-2 : tie.Need-returns-2
 returns-2 c =
-    let st = c .before .before .before .before .before in
-    let a = st .args in
-    c .turn .ensures ∙ part-by (now (a .labels)) (now (a .sides)) (a .s) (a .h) _ _ (c .before .before .before .before .if1 .left) (c .before .before .way-between .ensures) (shifted (a .h) (st .pre .3))
+    let else1 = c .before .before .before .before in
+    let start = else1 .before in
+    let a = start .args in
+    c .turn .ensures ∙ part-by (now (a .labels)) (now (a .sides)) (a .s) (a .h) _ _ (else1 .if1 .left) (c .before .before .way-between .ensures)
+    (shifted (a .h) (start .pre .3))
 
 pub part-spec : {M : Type 1} → statement M
 part-spec = tie.close (tie.spec returns way-between-requires shl-turn turn-requires returns-2)

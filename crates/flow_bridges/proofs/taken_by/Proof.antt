@@ -30,13 +30,17 @@ returns-2 c =
 
 returns-3 : tie.Need-returns-3
 returns-3 c =
-    let a = c .before .before .before .before .before .before .before .args in
-    sym (max-eq-right (c .if3 .taken)) ∙ taken-joins (now (a .labels)) (a .s) (c .before .before .before .before .before .before .if1 .left) (ne-eqb _ _ (c .before .if2 .left))
+    let else1 = c .before .before .before .before .before .before in
+    let start = else1 .before in
+    let a = start .args in
+    sym (max-eq-right (c .if3 .taken)) ∙ taken-joins (now (a .labels)) (a .s) (else1 .if1 .left) (ne-eqb _ _ (c .before .if2 .left))
 
 returns-4 : tie.Need-returns-4
 returns-4 c =
-    let a = c .before .before .before .before .before .before .before .args in
-    sym (max-eq-left (le-of-lt (c .if3 .left))) ∙ taken-joins (now (a .labels)) (a .s) (c .before .before .before .before .before .before .if1 .left) (ne-eqb _ _ (c .before .if2 .left))
+    let else1 = c .before .before .before .before .before .before in
+    let start = else1 .before in
+    let a = start .args in
+    sym (max-eq-left (le-of-lt (c .if3 .left))) ∙ taken-joins (now (a .labels)) (a .s) (else1 .if1 .left) (ne-eqb _ _ (c .before .if2 .left))
 
 pub taken-by-spec : {M : Type 1} → statement M
 taken-by-spec =

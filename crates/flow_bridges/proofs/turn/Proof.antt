@@ -49,9 +49,11 @@ loop-less c = search needs
 
 loop-again : tie.Need-loop-again Inv-loop μ-loop
 loop-again c =
-    let a = c .before .before .before .before .before .args in
-    let w = c .before .before .before .before .loop .inv .1 in
-    let u = c .before .before .before .before .loop .u in
+    let at-loop = c .before .before .before .before in
+    let start = at-loop .before in
+    let a = start .args in
+    let w = at-loop .loop .inv .1 in
+    let u = at-loop .loop .u in
     let kept = ap (λ (x : ℕ). pick (eqb (getD (now (a .labels)) u 0) (a .h)) (bitXor x (a .by)) x) (w .rest u (omega arith)) in
     (omega arith, written-put w (omega arith) _ (c .turned-sides .ensures ∙ kept))
 

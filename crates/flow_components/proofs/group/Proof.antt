@@ -39,8 +39,10 @@ counts-requires c κs = search needs
 
 step-requires : tie.Need-step-requires Inv-loop μ-loop
 step-requires c κs =
-    let st = c .before .before .before .before .before .before in
-    (stream-within (st .args .t1) (st .pre) _ (c .before .before .before .loop-test .taken), c .before .before .before .before .loop .inv .1 .long)
+    let in-loop = c .before .before .before in
+    let at-loop = in-loop .before in
+    let start = at-loop .before .before in
+    (stream-within (start .args .t1) (start .pre) _ (in-loop .loop-test .taken), at-loop .loop .inv .1 .long)
 
 add-i : tie.Need-add-i Inv-loop μ-loop
 add-i c = search needs
@@ -50,13 +52,18 @@ loop-less c = search needs
 
 loop-again : tie.Need-loop-again Inv-loop μ-loop
 loop-again c =
-    let st = c .before .before .before .before .before .before .before in
-    let at = c .before .before .before .before .before .loop in
-    let taken = c .before .before .before .before .loop-test .taken in
-    let p = st .args .t1 in
+    let in-loop = c .before .before .before .before in
+    let at-loop = in-loop .before in
+    let start = at-loop .before .before in
+    let at = at-loop .loop in
+    let taken = in-loop .loop-test .taken in
+    let p = start .args .t1 in
     let counts = c .before .before .counts .ensures (at .i) in
-    let listed : at .i < length (plantOf p .streams) = rw (all-listed p (st .pre)) taken in
-    (omega arith, rw (add-one (at .i)) (c .step .ensures .next _ _ (at .i) (ends-in p (st .pre)) listed (listed-at p (st .pre) (at .i) taken) (sym counts) (at .inv .1)))
+    let listed : at .i < length (plantOf p .streams) = rw (all-listed p (start .pre)) taken in (
+      omega arith,
+      rw (add-one (at .i))
+          (c .step .ensures .next _ _ (at .i) (ends-in p (start .pre)) listed (listed-at p (start .pre) (at .i) taken) (sym counts) (at .inv .1)),
+    )
 
 returns : tie.Need-returns Inv-loop μ-loop
 returns c =

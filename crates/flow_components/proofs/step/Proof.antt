@@ -1,5 +1,6 @@
 -- `flow_components::step` meets its contract: it leaves the labels as they are, or gives both ends' groups the lower label.
-use mathlib.Core.Path.{_∙_}
+use mathlib.Core.Path.{_≡_, _∙_}
+use mathlib.Core.Bool.{true}
 use native.Mathlib.Nat.{le-of-lt}
 use denote.Ref.{now}
 use borrow.Author.Tests.{not-true, not-false}
@@ -8,6 +9,10 @@ use Rattle.flow_def.proofs.Grouping.{step-says}
 use borrow.Author.Needs.{needs}
 use Rattle.flow_components.proofs.step.Statement.{statement}
 use Rattle.flow_components.proofs.step.Tie as tie
+
+-- The stream counts.
+counted : (c : tie.Else1) → c .before .args .counts ≡ true
+counted c = not-false (c .before .args .counts) (c .if1 .left)
 
 returns : tie.Need-returns
 returns c =
@@ -28,27 +33,31 @@ element-copy-out-b c = search needs
 
 returns-2 : tie.Need-returns-2
 returns-2 c =
-    let a = c .before .before .before .before .before .before .args in
-    let counts = not-false (a .counts) (c .before .before .before .before .before .if1 .left) in
-    step-says (a .counts) (a .s) (now (a .labels)) _ (stepped-one (a .counts) (a .s) (now (a .labels)) counts (c .if2 .taken))
+    let else1 = c .before .before .before .before .before in
+    let a = else1 .before .args in
+    step-says (a .counts) (a .s) (now (a .labels)) _ (stepped-one (a .counts) (a .s) (now (a .labels)) (counted else1) (c .if2 .taken))
 
 rename-requires : tie.Need-rename-requires
 rename-requires c κs = search needs
 
 returns-3 : tie.Need-returns-3
 returns-3 c =
-    let a = c .before .before .before .before .before .before .before .before .before .args in
-    let counts = not-false (a .counts) (c .before .before .before .before .before .before .before .before .if1 .left) in
-    step-says (a .counts) (a .s) (now (a .labels)) _ (c .rename .ensures ∙ stepped-up (a .counts) (a .s) (now (a .labels)) counts (c .before .before .if3 .taken))
+    let after-label = c .before .before .before .before .before in
+    let else1 = after-label .before .before .before in
+    let a = else1 .before .args in
+    step-says (a .counts) (a .s) (now (a .labels)) _
+    (c .rename .ensures ∙ stepped-up (a .counts) (a .s) (now (a .labels)) (counted else1) (c .before .before .if3 .taken))
 
 rename-requires-2 : tie.Need-rename-requires-2
 rename-requires-2 c κs = search needs
 
 returns-4 : tie.Need-returns-4
 returns-4 c =
-    let a = c .before .before .before .before .before .before .before .before .before .args in
-    let counts = not-false (a .counts) (c .before .before .before .before .before .before .before .before .if1 .left) in
-    step-says (a .counts) (a .s) (now (a .labels)) _ (c .rename2 .ensures ∙ stepped-down (a .counts) (a .s) (now (a .labels)) counts (le-of-lt (c .before .before .if3 .left)))
+    let after-label = c .before .before .before .before .before in
+    let else1 = after-label .before .before .before in
+    let a = else1 .before .args in
+    step-says (a .counts) (a .s) (now (a .labels)) _
+    (c .rename2 .ensures ∙ stepped-down (a .counts) (a .s) (now (a .labels)) (counted else1) (le-of-lt (c .before .before .if3 .left)))
 
 pub step-spec : {M : Type 1} → statement M
 step-spec =

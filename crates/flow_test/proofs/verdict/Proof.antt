@@ -28,7 +28,10 @@ sub-if3 : tie.Need-sub-if3
 sub-if3 c = search needs
 
 returns-3 : tie.Need-returns-3
-returns-3 c = let a = c .before .before .before .args in close-is (a .degrees) (a .cost) (a .weights) (c .before .before .if1 .left) (omega (arith, c .before .if2 .left)) (omega (arith, c .if3 .taken))
+returns-3 c =
+    let start = c .before .before .before in
+    let a = start .args in
+    close-is (a .degrees) (a .cost) (a .weights) (c .before .before .if1 .left) (omega (arith, c .before .if2 .left)) (omega (arith, c .if3 .taken))
 
 returns-4 : tie.Need-returns-4
 returns-4 c = let a = c .before .before .before .args in fail-is (a .degrees) (a .cost) (a .weights) (c .before .before .if1 .left) (omega (arith, c .before .if2 .left)) (omega (arith, c .if3 .left))

@@ -4,7 +4,7 @@ use mathlib.Core.Bool.{Bool, true, false}
 use denote.Ref.{now}
 use borrow.Author.Needs.{needs}
 use Rattle.num_bytes.specs.Choice.{pick}
-use Rattle.sheet_def.proofs.Promise.{plant-accepted}
+use Rattle.plant_def.proofs.Found.{plant-accepted}
 use Rattle.foreign_def.specs.Says.{CheckSays}
 use Rattle.foreign_call.proofs.Ruling as R
 use Rattle.foreign_call.proofs.check_sheet.Statement.{statement}
@@ -24,28 +24,36 @@ read-sheet-requires c κs = search needs
 
 returns-2 : tie.Need-returns-2
 returns-2 c =
-    let st = c .before .before .before .before .before .before in
-    let read = c .before .before .before .read-plant in
+    let after-read-plant = c .before .before .before in
+    let start = after-read-plant .before .before .before in
+    let read = after-read-plant .read-plant in
     let kept = c .before .read-sheet in
-    R.no-sheet (now (st .args .plant)) (now (st .args .sheet)) (now (st .args .numbers)) (read .result) (read .ensures) (c .before .before .if1 .left) (kept .result) (kept .ensures) (c .if2 .taken)
+    R.no-sheet (now (start .args .plant)) (now (start .args .sheet)) (now (start .args .numbers)) (read .result) (read .ensures)
+    (c .before .before .if1 .left) (kept .result) (kept .ensures) (c .if2 .taken)
 
 rules-hold-requires : tie.Need-rules-hold-requires
 rules-hold-requires c κs =
-    let st = c .before .before .before .before .before .before .before in
-    let read = c .before .before .before .before .read-plant in
+    let else1 = c .before .before .before in
+    let after-read-plant = else1 .before in
+    let start = after-read-plant .before .before .before in
+    let read = after-read-plant .read-plant in
     let kept = c .before .before .read-sheet in
-    let g = R.sheet-got (now (st .args .sheet)) (kept .result) (kept .ensures) (c .before .if2 .left) in
-    (plant-accepted (now (st .args .plant)) (read .result) (read .ensures) (c .before .before .before .if1 .left), g .few, g .long)
+    let g = R.sheet-got (now (start .args .sheet)) (kept .result) (kept .ensures) (c .before .if2 .left) in
+    (plant-accepted (now (start .args .plant)) (read .result) (read .ensures) (else1 .if1 .left), g .few, g .long)
 
 -- By what the rules say.
 ruled : (c : tie.After-rules-hold) (b : Bool) → c .rules-hold .result ≡ b
-    → let a = c .before .before .before .before .before .before .before .before .args in
+    → let after-read-sheet = c .before .before .before in
+    let a = after-read-sheet .before .before .before .before .before .args in
     CheckSays (now (a .plant)) (now (a .sheet)) (now (a .numbers)) (pick b 0 26)
 ruled c b e =
-    let st = c .before .before .before .before .before .before .before .before in
-    let read = c .before .before .before .before .before .read-plant in
-    let kept = c .before .before .before .read-sheet in
-    R.by-rules (now (st .args .plant)) (now (st .args .sheet)) (now (st .args .numbers)) (read .result) (read .ensures) (c .before .before .before .before .if1 .left)
+    let after-read-sheet = c .before .before .before in
+    let else1 = after-read-sheet .before in
+    let after-read-plant = else1 .before in
+    let start = after-read-plant .before .before .before in
+    let read = after-read-plant .read-plant in
+    let kept = after-read-sheet .read-sheet in
+    R.by-rules (now (start .args .plant)) (now (start .args .sheet)) (now (start .args .numbers)) (read .result) (read .ensures) (else1 .if1 .left)
     (kept .result) (kept .ensures) (c .before .before .if2 .left) b (sym e ∙ c .rules-hold .ensures)
 
 returns-3 : tie.Need-returns-3

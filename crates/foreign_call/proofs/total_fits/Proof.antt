@@ -27,10 +27,12 @@ cost-of-requires c κs = search needs
 
 returns-2 : tie.Need-returns-2
 returns-2 c =
-    let st = c .before .before .before .before .before .before in
-    let d = c .before .before .before .before .before .degrees-of in
+    let else1 = c .before .before .before in
+    let after-degrees-of = else1 .before .before in
+    let start = after-degrees-of .before in
+    let d = after-degrees-of .degrees-of in
     let s = c .before .before .cost-of in
-    R.other-cost (plantOf (st .args .p)) (costing st) (st .args .total) (d .result) (d .ensures .0) (c .before .before .before .if1 .left)
+    R.other-cost (plantOf (start .args .p)) (costing start) (start .args .total) (d .result) (d .ensures .0) (else1 .if1 .left)
     (s .result) (s .ensures) (c .if2 .taken)
 
 adjusted-weights-requires : tie.Need-adjusted-weights-requires
@@ -41,12 +43,16 @@ verdict-requires c κs = search needs
 
 returns-3 : tie.Need-returns-3
 returns-3 c =
-    let st = c .before .before .before .before .before .before .before .before .before in
-    let d = c .before .before .before .before .before .before .before .before .degrees-of in
-    let s = c .before .before .before .before .before .cost-of in
+    let else2 = c .before .before .before in
+    let after-cost-of = else2 .before .before in
+    let else1 = after-cost-of .before in
+    let after-degrees-of = else1 .before .before in
+    let start = after-degrees-of .before in
+    let d = after-degrees-of .degrees-of in
+    let s = after-cost-of .cost-of in
     let w = c .before .before .adjusted-weights in
-    R.by-verdict (plantOf (st .args .p)) (costing st) (st .args .total) (d .result) (d .ensures .0) (c .before .before .before .before .before .before .if1 .left)
-    (s .result) (s .ensures) (c .before .before .before .if2 .left)
+    R.by-verdict (plantOf (start .args .p)) (costing start) (start .args .total) (d .result) (d .ensures .0) (else1 .if1 .left)
+    (s .result) (s .ensures) (else2 .if2 .left)
     (w .result) (c .before .verdict .result) (w .ensures) (omega arith) (c .before .verdict .ensures)
 
 pub total-fits-spec : {M : Type 1} → statement M

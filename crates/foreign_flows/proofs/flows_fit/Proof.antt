@@ -57,11 +57,13 @@ array-copy-out-flow-fits c = search needs
 
 flow-fits-requires : tie.Need-flow-fits-requires Inv-loop μ-loop
 flow-fits-requires c κs =
-    let st = c .before .before .before .before .before in
-    let i = c .before .before .before .before .loop .i in
-    let f : SFits w64 (getD (c .before .before .before .before .before .args .t2) (c .before .before .before .before .loop .i) (pos 0)) = search needs in
-    let l = listed (c .before .before .before) in
-    (stream-within (st .args .t1) (st .pre .0) i l, rw (toZ-ofZ w64 _ f) (st .pre .1 i (omega (arith, l, st .pre .0 .within .few-streams))))
+    let in-loop = c .before .before .before in
+    let at-loop = in-loop .before in
+    let start = at-loop .before in
+    let i = at-loop .loop .i in
+    let f : SFits w64 (getD (start .args .t2) (at-loop .loop .i) (pos 0)) = search needs in
+    let l = listed in-loop in
+    (stream-within (start .args .t1) (start .pre .0) i l, rw (toZ-ofZ w64 _ f) (start .pre .1 i (omega (arith, l, start .pre .0 .within .few-streams))))
 
 -- What the test says of the stream.
 tested : (c : tie.After-flow-fits Inv-loop μ-loop)
@@ -70,20 +72,25 @@ tested : (c : tie.After-flow-fits Inv-loop μ-loop)
     let s = streamAt (plantOf (a .t1) .streams) i in
     c .flow-fits .result ≡ flowFits s (amountAt (a .t2) i) (difference (now (a .numbers)) s)
 tested c =
-    let st = c .before .before .before .before .before .before in
-    let i = c .before .before .before .before .before .loop .i in
-    let s = getD (c .before .before .before .before .before .before .args .t1 .streams) (c .before .before .before .before .before .loop .i) noStream in
-    let f : SFits w64 (getD (c .before .before .before .before .before .before .args .t2) (c .before .before .before .before .before .loop .i) (pos 0)) = search needs in
-    let g : SFits w64 (c .before .before .difference-at .result) = search needs in
+    let after-difference-at = c .before .before in
+    let in-loop = after-difference-at .before .before in
+    let at-loop = in-loop .before in
+    let start = at-loop .before in
+    let i = at-loop .loop .i in
+    let s = getD (start .args .t1 .streams) (at-loop .loop .i) noStream in
+    let f : SFits w64 (getD (start .args .t2) (at-loop .loop .i) (pos 0)) = search needs in
+    let g : SFits w64 (after-difference-at .difference-at .result) = search needs in
     c .flow-fits .ensures
-    ∙ ap₂ (flowFits s) (toZ-ofZ w64 _ f) (toZ-ofZ w64 _ g ∙ c .before .before .difference-at .ensures)
-    ∙ C.test-at (st .args .t1) (st .pre .0) (st .args .t2) (now (st .args .numbers)) i (listed (c .before .before .before .before))
+    ∙ ap₂ (flowFits s) (toZ-ofZ w64 _ f) (toZ-ofZ w64 _ g ∙ after-difference-at .difference-at .ensures)
+    ∙ C.test-at (start .args .t1) (start .pre .0) (start .args .t2) (now (start .args .numbers)) i (listed in-loop)
 
 returns : tie.Need-returns Inv-loop μ-loop
 returns c =
-    let st = c .before .before .before .before .before .before .before in
-    C.flow-fails (st .args .t1) (st .pre .0) (st .args .t2) (now (st .args .numbers)) (c .before .before .before .before .before .before .loop .i) (c .before .flow-fits .result)
-    (listed (c .before .before .before .before .before)) (tested (c .before)) (not-true _ (c .if1 .taken))
+    let in-loop = c .before .before .before .before .before in
+    let at-loop = in-loop .before in
+    let start = at-loop .before in
+    C.flow-fails (start .args .t1) (start .pre .0) (start .args .t2) (now (start .args .numbers)) (at-loop .loop .i) (c .before .flow-fits .result)
+    (listed in-loop) (tested (c .before)) (not-true _ (c .if1 .taken))
 
 add-i : tie.Need-add-i Inv-loop μ-loop
 add-i c = search needs

@@ -45,15 +45,20 @@ is-small-requires c κs = search needs
 tested : (c : tie.After-is-small Inv-loop μ-loop)
     → c .is-small .result ≡ leb (natAbs (placeNumber (now (c .before .before .before .before .before .args .numbers)) (c .before .before .before .loop .u))) numberLimit
 tested c =
-    let z = getD (now (c .before .before .before .before .before .args .numbers)) (c .before .before .before .loop .u) (pos 0) in
-    let f : SFits w64 (getD (now (c .before .before .before .before .before .args .numbers)) (c .before .before .before .loop .u) (pos 0)) = search needs in
+    let at-loop = c .before .before .before in
+    let start = at-loop .before .before in
+    let z = getD (now (start .args .numbers)) (at-loop .loop .u) (pos 0) in
+    let f : SFits w64 (getD (now (start .args .numbers)) (at-loop .loop .u) (pos 0)) = search needs in
     c .is-small .ensures ∙ ap (λ (y : ℤ). leb (natAbs y) numberLimit) (toZ-ofZ w64 z f)
 
 returns-2 : tie.Need-returns-2 Inv-loop μ-loop
 returns-2 c =
-    let st = c .before .before .before .before .before .before in
-    C.one-large (st .args .units) (now (st .args .numbers)) (c .before .before .before .before .before .if1 .left) (c .before .before .before .before .loop .u) (c .before .is-small .result)
-    (c .before .before .before .loop-test .taken) (tested (c .before)) (not-true _ (c .if2 .taken))
+    let in-loop = c .before .before .before in
+    let at-loop = in-loop .before in
+    let else1 = at-loop .before in
+    let start = else1 .before in
+    C.one-large (start .args .units) (now (start .args .numbers)) (else1 .if1 .left) (at-loop .loop .u) (c .before .is-small .result)
+    (in-loop .loop-test .taken) (tested (c .before)) (not-true _ (c .if2 .taken))
 
 add-u : tie.Need-add-u Inv-loop μ-loop
 add-u c = search needs

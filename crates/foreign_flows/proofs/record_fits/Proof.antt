@@ -26,9 +26,10 @@ size-of-requires c κs = search needs
 
 returns-2 : tie.Need-returns-2
 returns-2 c =
-    let st = c .before .before .before .before in
-    ap (λ (k : ℕ). leb k _) (c .size-of .ensures ∙ ap natAbs (toZ-ofZ w64 (st .args .x) (st .fits .x)))
-    ∙ C.same-kind _ _ _ (sym (c .before .before .before .kind-of .ensures) ∙ c .before .if1 .left ∙ c .before .before .kind-of2 .ensures)
+    let after-kind-of = c .before .before .before in
+    let start = after-kind-of .before in
+    ap (λ (k : ℕ). leb k _) (c .size-of .ensures ∙ ap natAbs (toZ-ofZ w64 (start .args .x) (start .fits .x)))
+    ∙ C.same-kind _ _ _ (sym (after-kind-of .kind-of .ensures) ∙ c .before .if1 .left ∙ c .before .before .kind-of2 .ensures)
 
 pub record-fits-spec : {M : Type 1} → statement M
 record-fits-spec =

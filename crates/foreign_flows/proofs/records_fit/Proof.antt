@@ -53,16 +53,21 @@ tested : (c : tie.After-record-fits Inv-loop μ-loop)
     let i = c .before .before .before .before .before .loop .i in
     c .record-fits .result ≡ (eqb (kindOf (getD (a .t2) i noEntry .class)) (kindOf (getD (a .t3) i Adjusted)) && leb (natAbs (amountAt (a .t4) i)) flowShift)
 tested c =
-    let a = c .before .before .before .before .before .before .args in
-    let i = c .before .before .before .before .before .loop .i in
-    let f : SFits w64 (getD (c .before .before .before .before .before .before .args .t4) (c .before .before .before .before .before .loop .i) (pos 0)) = search needs in
-    c .record-fits .ensures ∙ ap (λ (y : ℤ). eqb (kindOf (getD (a .t2) i noEntry .class)) (kindOf (getD (a .t3) i Adjusted)) && leb (natAbs y) flowShift) (toZ-ofZ w64 _ f)
+    let at-loop = c .before .before .before .before .before in
+    let start = at-loop .before in
+    let a = start .args in
+    let i = at-loop .loop .i in
+    let f : SFits w64 (getD (start .args .t4) (at-loop .loop .i) (pos 0)) = search needs in
+    c .record-fits .ensures ∙ ap
+    (λ (y : ℤ). eqb (kindOf (getD (a .t2) i noEntry .class)) (kindOf (getD (a .t3) i Adjusted)) && leb (natAbs y) flowShift) (toZ-ofZ w64 _ f)
 
 returns : tie.Need-returns Inv-loop μ-loop
 returns c =
-    let st = c .before .before .before .before .before .before .before in
-    C.one-fails (st .args .count) _ (c .before .before .before .before .before .before .loop .i) (c .before .record-fits .result)
-    (c .before .before .before .before .before .loop-test .taken) (tested (c .before)) (not-true _ (c .if1 .taken))
+    let in-loop = c .before .before .before .before .before in
+    let at-loop = in-loop .before in
+    let start = at-loop .before in
+    C.one-fails (start .args .count) _ (at-loop .loop .i) (c .before .record-fits .result)
+    (in-loop .loop-test .taken) (tested (c .before)) (not-true _ (c .if1 .taken))
 
 add-i : tie.Need-add-i Inv-loop μ-loop
 add-i c = search needs

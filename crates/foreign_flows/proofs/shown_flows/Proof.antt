@@ -53,12 +53,17 @@ loop-less c = search needs
 
 loop-again : tie.Need-loop-again Inv-loop μ-loop
 loop-again c =
-    let a = c .before .before .before .before .before .before .args in
-    let at = c .before .before .before .before .before .loop in
-    let e = getD (c .before .before .before .before .before .before .args .t2) (c .before .before .before .before .before .loop .i) noEntry in
-    let f : SFits w64 (getD (c .before .before .before .before .before .before .args .t2) (c .before .before .before .before .before .loop .i) noEntry .flow) = search needs in
-    let g : SFits w64 (c .shown-flow .result) = search needs in
-    (omega arith, written-put (at .inv .1) (omega arith) _ (toZ-ofZ w64 _ g ∙ c .shown-flow .ensures ∙ ap (λ (y : ℤ). pick (known (getD (a .t1) (at .i) Adjusted)) y (pos 0)) (toZ-ofZ w64 _ f)))
+    let at-loop = c .before .before .before .before .before in
+    let start = at-loop .before in
+    let a = start .args in
+    let at = at-loop .loop in
+    let e = getD (start .args .t2) (at-loop .loop .i) noEntry in
+    let f : SFits w64 (getD (start .args .t2) (at-loop .loop .i) noEntry .flow) = search needs in
+    let g : SFits w64 (c .shown-flow .result) = search needs in (
+      omega arith,
+      written-put (at .inv .1) (omega arith) _
+          (toZ-ofZ w64 _ g ∙ c .shown-flow .ensures ∙ ap (λ (y : ℤ). pick (known (getD (a .t1) (at .i) Adjusted)) y (pos 0)) (toZ-ofZ w64 _ f)),
+    )
 
 returns : tie.Need-returns Inv-loop μ-loop
 returns c =

@@ -6,7 +6,7 @@ use Rattle.plant_def.proofs.Arrayed.{within-of}
 use Rattle.sheet_def.proofs.Opening.{right-found, right-overfull}
 use Rattle.solve_def.specs.Promise.{Solution}
 use Rattle.foreign_def.proofs.Serving.{no-numbers-of}
-use Rattle.foreign_numbers.proofs.Pricing.{found-numbers}
+use Rattle.foreign_numbers.proofs.Potentials.{found-numbers}
 use Rattle.foreign_numbers.proofs.numbers_by.Statement.{statement}
 use Rattle.foreign_numbers.proofs.numbers_by.Tie as tie
 
@@ -25,8 +25,8 @@ solution c =
     let st = c .before .before in
     right-found (st .args .p) (st .args .solved) (st .pre .1) (not-false (st .args .solved .found) (c .if1 .left))
 
-prices-from-requires : tie.Need-prices-from-requires
-prices-from-requires c κs = (c .before .before .before .pre .0 .within .few-units, solution (c .before) .bound)
+potentials-from-requires : tie.Need-potentials-from-requires
+potentials-from-requires c κs = (c .before .before .before .pre .0 .within .few-units, solution (c .before) .bound)
 
 add-t6 : tie.Need-add-t6
 add-t6 c = search needs
@@ -35,8 +35,8 @@ returns-2 : tie.Need-returns-2
 returns-2 c =
     let e = c .before .before .before in
     let st = e .before .before in
-    found-numbers (st .args .p) (st .pre .0) (st .args .solved) (solution e) (c .before .prices-from .result) (c .before .prices-from .ensures)
+    found-numbers (st .args .p) (st .pre .0) (st .args .solved) (solution e) (c .before .potentials-from .result) (c .before .potentials-from .ensures)
 
 pub numbers-by-spec : {M : Type 1} → statement M
 numbers-by-spec =
-    tie.close (tie.spec no-numbers-requires returns prices-from-requires add-t6 returns-2)
+    tie.close (tie.spec no-numbers-requires returns potentials-from-requires add-t6 returns-2)

@@ -4,7 +4,7 @@ use denote.Ref.{now}
 use Rattle.plant_def.specs.Files.{readPlant}
 use Rattle.plant_def.specs.Says.{readOf}
 use Rattle.plant_def.specs.Within.{Accepted}
-use Rattle.sheet_def.proofs.Promise.{plant-accepted}
+use Rattle.plant_def.proofs.Found.{plant-accepted}
 use Rattle.foreign_numbers.proofs.Numbering.{says-unread, says-numbers}
 use borrow.Author.Needs.{needs}
 use Rattle.foreign_numbers.proofs.place_numbers.Statement.{statement}

@@ -43,8 +43,10 @@ is-withheld-requires c κs = search needs
 
 step-requires : tie.Need-step-requires Inv-loop μ-loop
 step-requires c κs =
-    let st = c .before .before .before .before .before .before .before in
-    (stream-within (st .args .t1) (st .pre .0) _ (c .before .before .before .before .loop-test .taken), ap length (c .before .before .before .before .before .loop .inv .1) ∙ labels-long _ _ _)
+    let in-loop = c .before .before .before .before in
+    let at-loop = in-loop .before in
+    let start = at-loop .before .before in
+    (stream-within (start .args .t1) (start .pre .0) _ (in-loop .loop-test .taken), ap length (at-loop .loop .inv .1) ∙ labels-long _ _ _)
 
 add-j : tie.Need-add-j Inv-loop μ-loop
 add-j c = search needs
@@ -54,15 +56,17 @@ loop-less c = search needs
 
 loop-again : tie.Need-loop-again Inv-loop μ-loop
 loop-again c =
-    let st = c .before .before .before .before .before .before .before .before in
-    let at = c .before .before .before .before .before .before .loop in
-    let p = st .args .t1 in
-    let taken = c .before .before .before .before .before .loop-test .taken in
-    let listed : at .j < length (plantOf p .streams) = rw (all-listed p (st .pre .0)) taken in (
+    let in-loop = c .before .before .before .before .before in
+    let at-loop = in-loop .before in
+    let start = at-loop .before .before in
+    let at = at-loop .loop in
+    let p = start .args .t1 in
+    let taken = in-loop .loop-test .taken in
+    let listed : at .j < length (plantOf p .streams) = rw (all-listed p (start .pre .0)) taken in (
       omega arith,
-      step-said (withheldOnly (plantOf p)) (plantOf p .streams) (ends-in p (st .pre .0)) (at .j) _ _ _ _ listed (at .inv .1)
-          (listed-at p (st .pre .0) (at .j) taken)
-          (c .before .before .is-withheld .ensures ∙ C.withheld-at p (st .pre .0) (st .args .t2) (st .pre .1) (at .j) taken) (c .step .ensures),
+      step-said (withheldOnly (plantOf p)) (plantOf p .streams) (ends-in p (start .pre .0)) (at .j) _ _ _ _ listed (at .inv .1)
+          (listed-at p (start .pre .0) (at .j) taken)
+          (c .before .before .is-withheld .ensures ∙ C.withheld-at p (start .pre .0) (start .args .t2) (start .pre .1) (at .j) taken) (c .step .ensures),
     )
 
 returns : tie.Need-returns Inv-loop μ-loop

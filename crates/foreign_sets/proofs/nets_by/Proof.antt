@@ -63,15 +63,17 @@ array-copy-out-carry c = search needs
 
 carry-requires : tie.Need-carry-requires Inv-loop μ-loop
 carry-requires c κs =
-    let st = c .before .before .before .before .before .before .before in
-    let at = c .before .before .before .before .before .before .loop in
-    let here = c .before .before .before .before .before in
-    let f : SFits w64 (getD (c .before .before .before .before .before .before .before .args .t3) (c .before .before .before .before .before .before .loop .i) (pos 0)) = search needs in
-    let t = at .inv .2 (st .pre .0) in (
+    let in-loop = c .before .before .before .before .before in
+    let at-loop = in-loop .before in
+    let start = at-loop .before in
+    let at = at-loop .loop in
+    let f : SFits w64 (getD (start .args .t3) (at-loop .loop .i) (pos 0)) = search needs in
+    let t = at .inv .2 (start .pre .0) in (
       t .long,
-      st .pre .2 _ (omega (arith, within-here here .to-in)),
-      st .pre .2 _ (omega (arith, within-here here .from-in)),
-      subst (λ (z : ℤ). Roomy z (at .nets)) (sym (toZ-ofZ w64 _ f)) (C.roomy (st .args .t1) (st .pre .0) (st .args .t2) (st .args .t3) (st .pre .1) (at .nets) (at .i) (listed here) t),
+      start .pre .2 _ (omega (arith, within-here in-loop .to-in)),
+      start .pre .2 _ (omega (arith, within-here in-loop .from-in)),
+      subst (λ (z : ℤ). Roomy z (at .nets)) (sym (toZ-ofZ w64 _ f))
+          (C.roomy (start .args .t1) (start .pre .0) (start .args .t2) (start .args .t3) (start .pre .1) (at .nets) (at .i) (listed in-loop) t),
     )
 
 add-i : tie.Need-add-i Inv-loop μ-loop
@@ -82,14 +84,16 @@ loop-less c = search needs
 
 loop-again : tie.Need-loop-again Inv-loop μ-loop
 loop-again c =
-    let st = c .before .before .before .before .before .before .before .before in
-    let at = c .before .before .before .before .before .before .before .loop in
-    let here = c .before .before .before .before .before .before in
-    let f : SFits w64 (getD (c .before .before .before .before .before .before .before .before .args .t3) (c .before .before .before .before .before .before .before .loop .i) (pos 0)) =
+    let in-loop = c .before .before .before .before .before .before in
+    let at-loop = in-loop .before in
+    let start = at-loop .before in
+    let at = at-loop .loop in
+    let f : SFits w64 (getD (start .args .t3) (at-loop .loop .i) (pos 0)) =
     search needs in (
       at .inv .0,
-      omega (arith, listed here),
-      λ a. C.tallied-more (st .args .t1) a (st .args .t2) (st .args .t3) (st .pre .1) (at .nets) (at .i) (listed here) (at .inv .2 a) _ _ (toZ-ofZ w64 _ f) (c .carry .ensures),
+      omega (arith, listed in-loop),
+      λ a. C.tallied-more (start .args .t1) a (start .args .t2) (start .args .t3) (start .pre .1) (at .nets) (at .i) (listed in-loop) (at .inv .2 a) _
+          _ (toZ-ofZ w64 _ f) (c .carry .ensures),
     )
 
 returns : tie.Need-returns Inv-loop μ-loop

@@ -38,10 +38,13 @@ array-copy-out-if1 c = search needs
 
 returns : tie.Need-returns Inv-loop μ-loop
 returns c =
-    let st = c .before .before .before .before .before .before in
-    let nets = c .before .before .before .before .nets-by in
-    C.net-off (plantOf (st .args .p) .streams) (amountAt (st .args .flows)) _ _ (c .before .before .before .before .before .labels-by .ensures) (nets .result) (nets .ensures)
-    (c .before .before .before .loop .v) (omega arith) (λ e. c .if1 .taken (C.bits-none _ e))
+    let at-loop = c .before .before .before in
+    let after-nets-by = at-loop .before in
+    let after-labels-by = after-nets-by .before in
+    let start = after-labels-by .before in
+    let nets = after-nets-by .nets-by in
+    C.net-off (plantOf (start .args .p) .streams) (amountAt (start .args .flows)) _ _ (after-labels-by .labels-by .ensures) (nets .result) (nets .ensures)
+    (at-loop .loop .v) (omega arith) (λ e. c .if1 .taken (C.bits-none _ e))
 
 add-v : tie.Need-add-v Inv-loop μ-loop
 add-v c = search needs
@@ -51,14 +54,17 @@ loop-less c = search needs
 
 loop-again : tie.Need-loop-again Inv-loop μ-loop
 loop-again c =
-    let f : SFits w64 (getD (c .before .before .before .before .nets-by .result) (c .before .before .before .loop .v) (pos 0)) = search needs in
-    below-more _ _ (c .before .before .before .loop .inv) (C.no-bits _ f (c .if1 .left))
+    let at-loop = c .before .before .before in
+    let after-nets-by = at-loop .before in
+    let f : SFits w64 (getD (after-nets-by .nets-by .result) (at-loop .loop .v) (pos 0)) = search needs in
+    below-more _ _ (at-loop .loop .inv) (C.no-bits _ f (c .if1 .left))
 
 returns-2 : tie.Need-returns-2 Inv-loop μ-loop
 returns-2 c =
-    let st = c .before .before .before .before in
+    let after-labels-by = c .before .before .before in
+    let start = after-labels-by .before in
     let nets = c .before .before .nets-by in
-    C.nets-none (plantOf (st .args .p) .streams) (amountAt (st .args .flows)) _ _ (c .before .before .before .labels-by .ensures) (nets .result) (nets .ensures)
+    C.nets-none (plantOf (start .args .p) .streams) (amountAt (start .args .flows)) _ _ (after-labels-by .labels-by .ensures) (nets .result) (nets .ensures)
     (c .before .loop .v) (c .loop-test .left) (c .before .loop .inv)
 
 pub nets-fit-spec : {M : Type 1} → statement M

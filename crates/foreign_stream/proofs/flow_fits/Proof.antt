@@ -39,21 +39,24 @@ from-bottom-requires c κs = search needs
 
 returns-2 : tie.Need-returns-2
 returns-2 c =
-    let st = c .before .before .before .before in
-    F.under-bottom (st .args .s) (st .args .x) (st .args .difference)
-    (sym (ranged (c .before .before .before)) ∙ not-false _ (c .before .before .if1 .left)) (sym (kept-low (c .before)) ∙ not-true _ (c .if2 .taken))
+    let after-in-range = c .before .before .before in
+    let start = after-in-range .before in
+    F.under-bottom (start .args .s) (start .args .x) (start .args .difference)
+    (sym (ranged after-in-range) ∙ not-false _ (c .before .before .if1 .left)) (sym (kept-low (c .before)) ∙ not-true _ (c .if2 .taken))
 
 to-top-requires : tie.Need-to-top-requires
 to-top-requires c κs = search needs
 
 returns-3 : tie.Need-returns-3
 returns-3 c =
-    let st = c .before .before .before .before .before in
+    let else1 = c .before .before .before in
+    let after-in-range = else1 .before in
+    let start = after-in-range .before in
     c .to-top .ensures
-    ∙ ap₂ (λ (x y : ℤ). not (rises (st .args .s) x) || leZ y (mostClimb (st .args .s) x)) (toZ-ofZ w64 (st .args .x) (st .fits .x))
-    (toZ-ofZ w64 (st .args .difference) (st .fits .difference))
-    ∙ F.by-top (st .args .s) (st .args .x) (st .args .difference)
-    (sym (ranged (c .before .before .before .before)) ∙ not-false _ (c .before .before .before .if1 .left)) (sym (kept-low (c .before .before)) ∙ not-false _ (c .before .if2 .left))
+    ∙ ap₂ (λ (x y : ℤ). not (rises (start .args .s) x) || leZ y (mostClimb (start .args .s) x)) (toZ-ofZ w64 (start .args .x) (start .fits .x))
+    (toZ-ofZ w64 (start .args .difference) (start .fits .difference))
+    ∙ F.by-top (start .args .s) (start .args .x) (start .args .difference)
+    (sym (ranged after-in-range) ∙ not-false _ (else1 .if1 .left)) (sym (kept-low (c .before .before)) ∙ not-false _ (c .before .if2 .left))
 
 pub flow-fits-spec : {M : Type 1} → statement M
 flow-fits-spec =

@@ -20,10 +20,11 @@ cast-result c = let f : SFits w32 (c .before .before .before .before .args .s .l
 
 returns-2 : tie.Need-returns-2
 returns-2 c =
-    let st = c .before .before .before .before in
-    let f : SFits w32 (st .args .s .low) = search needs in
-    rw (toZ-ofZ w64 (st .args .x) (st .fits .x), F.widened (st .args .s .low) f)
-    (F.limited-falls (st .args .s) (st .args .x) (sym (c .before .before .before .has-range .ensures) ∙ not-false _ (c .before .before .if1 .left)))
+    let after-has-range = c .before .before .before in
+    let start = after-has-range .before in
+    let f : SFits w32 (start .args .s .low) = search needs in
+    rw (toZ-ofZ w64 (start .args .x) (start .fits .x), F.widened (start .args .s .low) f)
+    (F.limited-falls (start .args .s) (start .args .x) (sym (after-has-range .has-range .ensures) ∙ not-false _ (c .before .before .if1 .left)))
 
 pub may-fall-spec : {M : Type 1} → statement M
 may-fall-spec = tie.close (tie.spec has-range-requires returns cast-result returns-2)

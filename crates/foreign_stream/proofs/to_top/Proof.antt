@@ -1,11 +1,10 @@
 -- Waived at high, asked elsewhere.
-use lib.IntN.{_-ℤ_}
-use mathlib.Core.Path.{_≡_, sym, _∙_, ap, ap₂}
+use mathlib.Core.Path.{_≡_, sym, _∙_, ap}
 use mir.Syntax.{w32, w64}
 use mir.Val.{SFits}
 use mir.ValLaws.{toZ-ofZ}
 use borrow.Author.Tests.{not-true, not-false}
-use Rattle.flow_def.specs.Certificate.{upper, rises}
+use Rattle.flow_def.specs.Certificate.{rises}
 use Rattle.foreign_stream.proofs.Fitting as F
 use borrow.Author.Needs.{needs}
 use Rattle.foreign_stream.proofs.to_top.Statement.{statement}
@@ -32,19 +31,25 @@ correction-requires c κs = search needs
 top-of-requires : tie.Need-top-of-requires
 top-of-requires c κs = search needs
 
+-- What the code holds is of so many bits.
+reading-fits : (c : tie.Start) → SFits w32 (c .args .s .reading)
+reading-fits c = search needs
+
+bound-fits : (c : tie.After-top-of) → SFits w64 (c .top-of .result)
+bound-fits c = search needs
+
 returns-2 : tie.Need-returns-2
 returns-2 c =
-    let st = c .before .before .before .before .before .before in
     let d = c .before .correction in
-    let w = c .before .before .before .weight-of in
-    let fr : SFits w32 (st .args .s .reading) = search needs in
     let fd : SFits w64 (d .result) = search needs in
-    let fb : SFits w64 (c .top-of .result) = search needs in
-    let ed = d .ensures .0 ∙ ap₂ _-ℤ_ (toZ-ofZ w64 (st .args .x) (st .fits .x)) (toZ-ofZ w32 (st .args .s .reading) fr) in
-    rw (toZ-ofZ w64 (c .top-of .result) fb, toZ-ofZ w64 (st .args .difference) (st .fits .difference))
-    (F.top-asked (st .args .s) (st .args .x) (st .args .difference) (w .result) (d .result) (c .top-of .result) (w .ensures .0) ed
-    (sym (asked (c .before .before .before .before .before)) ∙ not-false _ (c .before .before .before .before .if1 .left))
-    (c .top-of .ensures ∙ ap (upper 1 _) (toZ-ofZ w64 (d .result) fd)))
+    let after-weight-of = c .before .before .before in
+    let else1 = after-weight-of .before in
+    let after-may-rise = else1 .before in
+    let start = after-may-rise .before in
+    let w = after-weight-of .weight-of in
+    F.top-held (start .args .s) (start .args .x) (start .args .difference) (w .result) (d .result) (c .top-of .result) (start .fits .x)
+    (reading-fits start) (start .fits .difference) fd (bound-fits c) (w .ensures .0) (d .ensures .0)
+    (sym (asked after-may-rise) ∙ not-false _ (else1 .if1 .left)) (c .top-of .ensures)
 
 pub to-top-spec : {M : Type 1} → statement M
 to-top-spec =

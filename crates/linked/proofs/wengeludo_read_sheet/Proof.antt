@@ -20,7 +20,10 @@ put-kinds-requires : tie.Need-put-kinds-requires
 put-kinds-requires c κs = let q = room (c .before .before .before) in (q .few, q .in-kinds)
 
 put-flows-requires : tie.Need-put-flows-requires
-put-flows-requires c κs = let q = room (c .before .before .before .before .before .before .before) in (q .few, q .in-flows)
+put-flows-requires c κs =
+    let after-put-kinds = c .before .before .before in
+    let q = room (after-put-kinds .before .before .before .before) in
+    (q .few, q .in-flows)
 
 same-length : tie.Need-same-length
 same-length c = search needs
@@ -29,7 +32,10 @@ same-length-2 : tie.Need-same-length-2
 same-length-2 c = search needs
 
 returns : tie.Need-returns
-returns c = handed-over (c .before .before .before .before .before .before .before .before .before .before .read-lent .ensures) (c .before .before .before .before .before .before .put-kinds .ensures) (c .before .before .put-flows .ensures)
+returns c =
+    let after-put-kinds = c .before .before .before .before .before .before in
+    let after-read-lent = after-put-kinds .before .before .before .before in
+    handed-over (after-read-lent .read-lent .ensures) (after-put-kinds .put-kinds .ensures) (c .before .before .put-flows .ensures)
 
 pub wengeludo-read-sheet-spec : {M : Type 1} → statement M
 wengeludo-read-sheet-spec =

@@ -13,7 +13,10 @@ use Rattle.linked.proofs.wengeludo_write_plant.Tie as tie
 
 abbrev slices : tie.After-reached → Slices
 slices c =
-    let a = c .before .before .before .before .before .before .before .before .before .args in
+    let after-meters-reach = c .before .before in
+    let slices-known = after-meters-reach .before .before .before in
+    let start = slices-known .before .before .before .before in
+    let a = start .args in
     record {
       from = now (a .from);
       to = now (a .to);
@@ -61,12 +64,19 @@ streams-are c = c .ranges-gathered .ensures ∙ all-gathered (slices (c .before 
 
 returns : tie.Need-returns
 returns c =
-    let a = c .before .before .before .before .before .before .before .before .before .before .before .before .before .before .before .before .args in
-    let p = slices (c .before .before .before .before .before .before .before) in
+    let after-write-plant = c .before .before in
+    let after-count-byte = after-write-plant .before .before in
+    let after-ranges-gathered = after-count-byte .before in
+    let after-reached = after-ranges-gathered .before .before in
+    let after-meters-reach = after-reached .before .before in
+    let slices-known = after-meters-reach .before .before .before in
+    let start = slices-known .before .before .before .before in
+    let a = start .args in
+    let p = slices after-reached in
     any-count (a .units) (padded maxStreams (listedTo (partsAt p) (reach p))) (now (a .file)) _ _ (a .count)
-    (subst (λ (q : Arrays.Plant). WriteSays q (now (a .file)) (c .before .before .write-plant .last .1 .0) (c .before .before .write-plant .result))
-    (λ i. record { units = a .units; count = c .before .before .before .before .count-byte .ensures i; streams = streams-are (c .before .before .before .before .before) i })
-    (c .before .before .write-plant .ensures))
+    (subst (λ (q : Arrays.Plant). WriteSays q (now (a .file)) (after-write-plant .write-plant .last .1 .0) (after-write-plant .write-plant .result))
+    (λ i. record { units = a .units; count = after-count-byte .count-byte .ensures i; streams = streams-are after-ranges-gathered i })
+    (after-write-plant .write-plant .ensures))
 
 pub wengeludo-write-plant-spec : {M : Type 1} → statement M
 wengeludo-write-plant-spec =

@@ -5,14 +5,17 @@ use denote.Ref.{now}
 use mathlib.Core.Path.{refl}
 use borrow.Author.Tests.{not-true, not-false}
 use Rattle.plant_def.specs.Says.{plantOf}
-use Rattle.sheet_def.proofs.Promise.{plant-accepted, outcome-balance, outcome-overfull}
+use Rattle.plant_def.proofs.Found.{plant-accepted}
+use Rattle.sheet_def.proofs.Promise.{outcome-balance, outcome-overfull}
 use Rattle.listing_lines.proofs.Sizes.{put-counts}
 use Rattle.listing_call.proofs.Promise.{too-short, file-refused, plant-listed, plant-overfilled}
 use Rattle.listing_call.proofs.list_plant.Statement.{statement}
 use Rattle.listing_call.proofs.list_plant.Tie as tie
 
 returns : tie.Need-returns
-returns c = (too-short (now (c .before .before .before .args .file)) (now (c .before .before .before .args .text)) (c .if1 .taken), (omega arith, refl))
+returns c =
+    let start = c .before .before .before in
+    (too-short (now (start .args .file)) (now (start .args .text)) (c .if1 .taken), (omega arith, refl))
 
 read-plant-requires : tie.Need-read-plant-requires
 read-plant-requires c κs = search needs
@@ -25,13 +28,20 @@ same-length c = search needs
 
 returns-2 : tie.Need-returns-2
 returns-2 c =
-    let a = c .before .before .before .before .before .before .before .before .before .args in
-    let y = c .before .before .before .before .before .read-plant in
+    let then2 = c .before .before .before .before in
+    let after-read-plant = then2 .before in
+    let else1 = after-read-plant .before in
+    let start = else1 .before .before .before in
+    let a = start .args in
+    let y = after-read-plant .read-plant in
     let p = c .before .before .put-refusal in
-    (file-refused (now (a .file)) (now (a .text)) (c .before .before .before .before .before .before .if1 .left) _ _ (y .result) (y .ensures) (c .before .before .before .before .if2 .taken) (p .ensures), put-counts (p .ensures))
+    (file-refused (now (a .file)) (now (a .text)) (else1 .if1 .left) _ _ (y .result) (y .ensures) (then2 .if2 .taken) (p .ensures), put-counts (p .ensures))
 
 balance-of-requires : tie.Need-balance-of-requires
-balance-of-requires c κs = plant-accepted (now (c .before .before .before .before .before .before .args .file)) (c .before .before .read-plant .result) (c .before .before .read-plant .ensures) (c .before .if2 .left)
+balance-of-requires c κs =
+    let after-read-plant = c .before .before in
+    let start = after-read-plant .before .before .before .before in
+    plant-accepted (now (start .args .file)) (after-read-plant .read-plant .result) (after-read-plant .read-plant .ensures) (c .before .if2 .left)
 
 put-refusal-requires-2 : tie.Need-put-refusal-requires-2
 put-refusal-requires-2 c κs = search needs
@@ -41,32 +51,49 @@ same-length-2 c = search needs
 
 returns-3 : tie.Need-returns-3
 returns-3 c =
-    let a = c .before .before .before .before .before .before .before .before .before .before .before .before .before .args in
-    let y = c .before .before .before .before .before .before .before .before .before .read-plant in
-    let b = c .before .before .before .before .before .before .balance-of in
+    let then3 = c .before .before .before .before in
+    let after-balance-of = then3 .before .before in
+    let else2 = after-balance-of .before .before in
+    let after-read-plant = else2 .before in
+    let else1 = after-read-plant .before in
+    let start = else1 .before .before .before in
+    let a = start .args in
+    let y = after-read-plant .read-plant in
+    let b = after-balance-of .balance-of in
     let p = c .before .before .put-refusal2 in
-    let none = not-true (b .result .found) (c .before .before .before .before .if3 .taken) in
-    (plant-overfilled (now (a .file)) (now (a .text)) (c .before .before .before .before .before .before .before .before .before .before .if1 .left) _ _ (y .result) (b .result .marked) (y .ensures) (c .before .before .before .before .before .before .before .before .if2 .left) (outcome-overfull (plantOf (y .result .plant)) (b .result) (b .ensures) none) (p .ensures), put-counts (p .ensures))
+    let none = outcome-overfull (plantOf (y .result .plant)) (b .result) (b .ensures) (not-true (b .result .found) (then3 .if3 .taken)) in
+    (plant-overfilled (now (a .file)) (now (a .text)) (else1 .if1 .left) _ _ (y .result) (b .result .marked) (y .ensures) (else2 .if2 .left) none (p .ensures), put-counts (p .ensures))
 
 cast-put-listing : tie.Need-cast-put-listing
 cast-put-listing c = search needs
 
 put-listing-requires : tie.Need-put-listing-requires
 put-listing-requires c κs =
-    let y = c .before .before .before .before .before .before .before .before .read-plant in
-    (plant-accepted (now (c .before .before .before .before .before .before .before .before .before .before .before .before .args .file)) (y .result) (y .ensures) (c .before .before .before .before .before .before .before .if2 .left) .within .few-streams, c .before .before .before .before .before .before .before .before .before .if1 .left)
+    let else3 = c .before .before .before in
+    let else2 = else3 .before .before .before .before in
+    let after-read-plant = else2 .before in
+    let else1 = after-read-plant .before in
+    let start = else1 .before .before .before in
+    let y = after-read-plant .read-plant in
+    (plant-accepted (now (start .args .file)) (y .result) (y .ensures) (else2 .if2 .left) .within .few-streams, else1 .if1 .left)
 
 same-length-3 : tie.Need-same-length-3
 same-length-3 c = search needs
 
 returns-4 : tie.Need-returns-4
 returns-4 c =
-    let a = c .before .before .before .before .before .before .before .before .before .before .before .before .before .before .before .args in
-    let y = c .before .before .before .before .before .before .before .before .before .before .before .read-plant in
-    let b = c .before .before .before .before .before .before .before .before .balance-of in
+    let else3 = c .before .before .before .before .before .before in
+    let after-balance-of = else3 .before .before in
+    let else2 = after-balance-of .before .before in
+    let after-read-plant = else2 .before in
+    let else1 = after-read-plant .before in
+    let start = else1 .before .before .before in
+    let a = start .args in
+    let y = after-read-plant .read-plant in
+    let b = after-balance-of .balance-of in
     let p = c .before .before .put-listing in
-    let some = not-false (b .result .found) (c .before .before .before .before .before .before .if3 .left) in
-    (plant-listed (now (a .file)) (now (a .text)) (c .before .before .before .before .before .before .before .before .before .before .before .before .if1 .left) _ _ (y .result) (b .result .balance) (y .ensures) (c .before .before .before .before .before .before .before .before .before .before .if2 .left) (outcome-balance (plantOf (y .result .plant)) (b .result) (b .ensures) some) (p .ensures), put-counts (p .ensures))
+    let some = outcome-balance (plantOf (y .result .plant)) (b .result) (b .ensures) (not-false (b .result .found) (else3 .if3 .left)) in
+    (plant-listed (now (a .file)) (now (a .text)) (else1 .if1 .left) _ _ (y .result) (b .result .balance) (y .ensures) (else2 .if2 .left) some (p .ensures), put-counts (p .ensures))
 
 pub list-plant-spec : {M : Type 1} → statement M
 list-plant-spec =

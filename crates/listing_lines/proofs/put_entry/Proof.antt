@@ -40,25 +40,37 @@ same-length : tie.Need-same-length
 same-length c = search needs
 
 returns : tie.Need-returns
-returns c = added-as (entry-as (c .before .before .before .before .enum-told .given .1) (toZ-ofZ (c .before .before .before .before .before .before .before .fits .flow))) (c .before .before .put-flow .ensures)
+returns c =
+    let after-enum-told = c .before .before .before .before in
+    let start = after-enum-told .before .before .before in
+    added-as (entry-as (after-enum-told .enum-told .given .1) (toZ-ofZ (start .fits .flow))) (c .before .before .put-flow .ensures)
 
 same-length-2 : tie.Need-same-length-2
 same-length-2 c = search needs
 
 returns-2 : tie.Need-returns-2
-returns-2 c = added-as (entry-as (c .before .before .before .before .enum-told2 .given .1) (toZ-ofZ (c .before .before .before .before .before .before .before .fits .flow))) (c .before .before .put-flow2 .ensures)
+returns-2 c =
+    let after-enum-told2 = c .before .before .before .before in
+    let start = after-enum-told2 .before .before .before in
+    added-as (entry-as (after-enum-told2 .enum-told2 .given .1) (toZ-ofZ (start .fits .flow))) (c .before .before .put-flow2 .ensures)
 
 same-length-3 : tie.Need-same-length-3
 same-length-3 c = search needs
 
 returns-3 : tie.Need-returns-3
-returns-3 c = added-as (entry-as (c .before .before .before .before .enum-told3 .given .1) (toZ-ofZ (c .before .before .before .before .before .before .before .fits .flow))) (c .before .before .put-flow3 .ensures)
+returns-3 c =
+    let after-enum-told3 = c .before .before .before .before in
+    let start = after-enum-told3 .before .before .before in
+    added-as (entry-as (after-enum-told3 .enum-told3 .given .1) (toZ-ofZ (start .fits .flow))) (c .before .before .put-flow3 .ensures)
 
 same-length-4 : tie.Need-same-length-4
 same-length-4 c = search needs
 
 returns-4 : tie.Need-returns-4
-returns-4 c = added-as (entry-as (c .before .before .before .before .before .enum-told4 .given .1) (toZ-ofZ (c .before .before .before .before .before .before .before .before .fits .flow))) (c .before .before .put-text .ensures)
+returns-4 c =
+    let after-enum-told4 = c .before .before .before .before .before in
+    let start = after-enum-told4 .before .before .before in
+    added-as (entry-as (after-enum-told4 .enum-told4 .given .1) (toZ-ofZ (start .fits .flow))) (c .before .before .put-text .ensures)
 
 pub put-entry-spec : {M : Type 1} → statement M
 put-entry-spec =

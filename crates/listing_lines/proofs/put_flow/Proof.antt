@@ -13,13 +13,23 @@ put-byte-requires-2 : tie.Need-put-byte-requires-2
 put-byte-requires-2 c κs = search needs
 
 put-signed-requires : tie.Need-put-signed-requires
-put-signed-requires c κs = let p = c .before .before .before .before .before .before .before .put-byte .ensures .place in let q = c .before .before .before .put-byte2 .ensures .place in rw (toZ-ofZ (c .before .before .before .before .before .before .before .before .before .before .fits .flow)) (omega arith)
+put-signed-requires c κs =
+    let after-put-byte2 = c .before .before .before in
+    let after-put-byte = after-put-byte2 .before .before .before .before in
+    let start = after-put-byte .before .before .before in
+    let p = after-put-byte .put-byte .ensures .place in
+    let q = after-put-byte2 .put-byte2 .ensures .place in
+    rw (toZ-ofZ (start .fits .flow)) (omega arith)
 
 same-length : tie.Need-same-length
 same-length c = search needs
 
 returns : tie.Need-returns
-returns c = behind (behind (c .before .before .before .before .before .before .before .before .before .before .put-byte .ensures) (c .before .before .before .before .before .before .put-byte2 .ensures)) (rw (toZ-ofZ (c .before .before .before .before .before .before .before .before .before .before .before .before .before .fits .flow)) at (c .before .before .put-signed .ensures))
+returns c =
+    let after-put-byte2 = c .before .before .before .before .before .before in
+    let after-put-byte = after-put-byte2 .before .before .before .before in
+    let start = after-put-byte .before .before .before in
+    behind (behind (after-put-byte .put-byte .ensures) (after-put-byte2 .put-byte2 .ensures)) (rw (toZ-ofZ (start .fits .flow)) at (c .before .before .put-signed .ensures))
 
 pub put-flow-spec : {M : Type 1} → statement M
 put-flow-spec =

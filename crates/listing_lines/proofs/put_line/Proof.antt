@@ -15,16 +15,34 @@ put-field-requires : tie.Need-put-field-requires
 put-field-requires c κs = let a = c .before .before .args in let s = line-size (a .number) (a .class) (a .flow) in omega arith
 
 put-entry-requires : tie.Need-put-entry-requires
-put-entry-requires c κs = let a = c .before .before .before .before .before .before .args in let s = line-size (a .number) (a .class) (a .flow) in let p = c .before .before .before .put-field .ensures .place in rw (toZ-ofZ (c .before .before .before .before .before .before .fits .flow)) (omega arith)
+put-entry-requires c κs =
+    let after-put-field = c .before .before .before in
+    let start = after-put-field .before .before .before in
+    let a = start .args in
+    let s = line-size (a .number) (a .class) (a .flow) in
+    let p = after-put-field .put-field .ensures .place in
+    rw (toZ-ofZ (start .fits .flow)) (omega arith)
 
 put-byte-requires : tie.Need-put-byte-requires
-put-byte-requires c κs = let a = c .before .before .before .before .before .before .before .before .before .before .args in let s = line-size (a .number) (a .class) (a .flow) in let p = c .before .before .before .before .before .before .before .put-field .ensures .place in let q = c .before .before .before .put-entry .ensures .place in omega (arith, ap (λ (z : ℤ). length (entryText (a .class) z)) (toZ-ofZ (c .before .before .before .before .before .before .before .before .before .before .fits .flow)))
+put-byte-requires c κs =
+    let after-put-entry = c .before .before .before in
+    let after-put-field = after-put-entry .before .before .before .before in
+    let start = after-put-field .before .before .before in
+    let a = start .args in
+    let s = line-size (a .number) (a .class) (a .flow) in
+    let p = after-put-field .put-field .ensures .place in
+    let q = after-put-entry .put-entry .ensures .place in
+    omega (arith, ap (λ (z : ℤ). length (entryText (a .class) z)) (toZ-ofZ (start .fits .flow)))
 
 same-length : tie.Need-same-length
 same-length c = search needs
 
 returns : tie.Need-returns
-returns c = behind (behind (c .before .before .before .before .before .before .before .before .before .before .put-field .ensures) (rw (toZ-ofZ (c .before .before .before .before .before .before .before .before .before .before .before .before .before .fits .flow)) at (c .before .before .before .before .before .before .put-entry .ensures))) (c .before .before .put-byte .ensures)
+returns c =
+    let after-put-entry = c .before .before .before .before .before .before in
+    let after-put-field = after-put-entry .before .before .before .before in
+    let start = after-put-field .before .before .before in
+    behind (behind (after-put-field .put-field .ensures) (rw (toZ-ofZ (start .fits .flow)) at (after-put-entry .put-entry .ensures))) (c .before .before .put-byte .ensures)
 
 pub put-line-spec : {M : Type 1} → statement M
 put-line-spec =

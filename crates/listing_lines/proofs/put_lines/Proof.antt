@@ -32,15 +32,25 @@ add-i : tie.Need-add-i Inv-loop μ-loop
 add-i c = search needs
 
 put-line-requires : tie.Need-put-line-requires Inv-loop μ-loop
-put-line-requires c κs = let l = c .before .before .before .before .loop in let f : SFits w64 (getD (c .before .before .before .before .before .before .args .t2) (l .i) noEntry .flow) = search needs in
-    rw (toZ-ofZ f) (line-room (l .inv) (c .before .before .before .loop-test .taken) noEntry f)
+put-line-requires c κs =
+    let in-loop = c .before .before .before in
+    let at-loop = in-loop .before in
+    let start = at-loop .before .before in
+    let l = at-loop .loop in
+    let f : SFits w64 (getD (start .args .t2) (l .i) noEntry .flow) = search needs in
+    rw (toZ-ofZ f) (line-room (l .inv) (in-loop .loop-test .taken) noEntry f)
 
 loop-less : tie.Need-loop-less Inv-loop μ-loop
 loop-less c = search needs
 
 loop-again : tie.Need-loop-again Inv-loop μ-loop
-loop-again c = let l = c .before .before .before .before .before .before .before .loop in let f : SFits w64 (getD (c .before .before .before .before .before .before .before .before .before .args .t2) (l .i) noEntry .flow) = search needs in
-    one-line (l .inv) (c .before .before .before .before .before .before .loop-test .taken) noEntry f (rw (toZ-ofZ f) at (c .before .before .put-line .ensures))
+loop-again c =
+    let in-loop = c .before .before .before .before .before .before in
+    let at-loop = in-loop .before in
+    let start = at-loop .before .before in
+    let l = at-loop .loop in
+    let f : SFits w64 (getD (start .args .t2) (l .i) noEntry .flow) = search needs in
+    one-line (l .inv) (in-loop .loop-test .taken) noEntry f (rw (toZ-ofZ f) at (c .before .before .put-line .ensures))
 
 same-length : tie.Need-same-length Inv-loop μ-loop
 same-length c = kept-length (c .before .loop .inv .so-far)

@@ -10,7 +10,12 @@ put-lines-requires : tie.Need-put-lines-requires
 put-lines-requires c κs = search needs
 
 put-total-requires : tie.Need-put-total-requires
-put-total-requires c κs = let a = c .before .before .before .before .before .before .before .args in let l = c .before .before .before .put-lines .ensures .1 in omega (arith, total-most (a .number) (a .b .cost) (a .b .degrees) (a .b .verdict) (omega arith) (omega arith) (omega arith))
+put-total-requires c κs =
+    let after-put-lines = c .before .before .before in
+    let start = after-put-lines .before .before .before .before in
+    let a = start .args in
+    let l = after-put-lines .put-lines .ensures .1 in
+    omega (arith, total-most (a .number) (a .b .cost) (a .b .degrees) (a .b .verdict) (omega arith) (omega arith) (omega arith))
 
 same-length : tie.Need-same-length
 same-length c = search needs

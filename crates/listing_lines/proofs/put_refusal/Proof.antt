@@ -13,16 +13,31 @@ put-text-requires : tie.Need-put-text-requires
 put-text-requires c κs = search needs
 
 put-decimal-requires : tie.Need-put-decimal-requires
-put-decimal-requires c κs = let n = c .before .before .before .before .before .before .before .args .number in let p = c .before .before .before .put-text .ensures .place in omega (arith, refusal-size n, refusal-most n (omega arith))
+put-decimal-requires c κs =
+    let after-put-text = c .before .before .before in
+    let start = after-put-text .before .before .before .before in
+    let n = start .args .number in
+    let p = after-put-text .put-text .ensures .place in
+    omega (arith, refusal-size n, refusal-most n (omega arith))
 
 put-byte-requires : tie.Need-put-byte-requires
-put-byte-requires c κs = let n = c .before .before .before .before .before .before .before .before .before .before .before .args .number in let p = c .before .before .before .before .before .before .before .put-text .ensures .place in let q = c .before .before .before .put-decimal .ensures .place in omega (arith, refusal-size n, refusal-most n (omega arith))
+put-byte-requires c κs =
+    let after-put-decimal = c .before .before .before in
+    let after-put-text = after-put-decimal .before .before .before .before in
+    let start = after-put-text .before .before .before .before in
+    let n = start .args .number in
+    let p = after-put-text .put-text .ensures .place in
+    let q = after-put-decimal .put-decimal .ensures .place in
+    omega (arith, refusal-size n, refusal-most n (omega arith))
 
 same-length : tie.Need-same-length
 same-length c = search needs
 
 returns : tie.Need-returns
-returns c = put-front (behind (behind (c .before .before .before .before .before .before .before .before .before .before .put-text .ensures) (c .before .before .before .before .before .before .put-decimal .ensures)) (c .before .before .put-byte .ensures))
+returns c =
+    let after-put-decimal = c .before .before .before .before .before .before in
+    let after-put-text = after-put-decimal .before .before .before .before in
+    put-front (behind (behind (after-put-text .put-text .ensures) (after-put-decimal .put-decimal .ensures)) (c .before .before .put-byte .ensures))
 
 pub put-refusal-spec : {M : Type 1} → statement M
 put-refusal-spec =

@@ -1,4 +1,4 @@
--- `newton_descend::by_label` meets its contract: the places passed have the prices of their labels.
+-- `newton_descend::by_label` meets its contract: the places passed have the potentials of their labels.
 use mathlib.Core.Path.{_≡_, refl}
 use Prim.Native.Nat.{_≤_, _-_}
 use native.Mathlib.Omega.{arith}
@@ -11,10 +11,10 @@ use Rattle.newton_descend.proofs.by_label.Statement.{statement}
 use Rattle.newton_descend.proofs.by_label.Tie as tie
 
 abbrev Inv-loop : tie.InvT-loop
-Inv-loop prices labels r₀ u₀ r u = (u ≤ places) × Written 0 places (λ k x. getD prices (getD labels k 0) 0) r₀ r u
+Inv-loop potentials labels r₀ u₀ r u = (u ≤ places) × Written 0 places (λ k x. getD potentials (getD labels k 0) 0) r₀ r u
 
 abbrev μ-loop : tie.MeasureT-loop
-μ-loop prices labels r₀ u₀ r u = places - u
+μ-loop potentials labels r₀ u₀ r u = places - u
 
 loop-holds : tie.Need-loop-holds Inv-loop μ-loop
 loop-holds c = (omega arith, written-none (omega arith))

@@ -1,4 +1,4 @@
--- `newton_descend::greatest` meets its contract: every price read is one of the array.
+-- `newton_descend::greatest` meets its contract: every potential read is one of the array.
 use Prim.Native.Nat.{_≤_, _-_}
 use borrow.Author.Needs.{needs}
 use Rattle.plant_def.specs.Limits.{places}

@@ -8,10 +8,10 @@ use Rattle.newton_laplacian.proofs.laplacian.Statement.{statement}
 use Rattle.newton_laplacian.proofs.laplacian.Tie as tie
 
 abbrev Inv-loop : tie.InvT-loop
-Inv-loop ends meters count prices first a₀ k₀ a k = (k ≤ count) × (length a ≡ cells)
+Inv-loop ends meters count potentials first a₀ k₀ a k = (k ≤ count) × (length a ≡ cells)
 
 abbrev μ-loop : tie.MeasureT-loop
-μ-loop ends meters count prices first a₀ k₀ a k = count - k
+μ-loop ends meters count potentials first a₀ k₀ a k = count - k
 
 loop-holds : tie.Need-loop-holds Inv-loop μ-loop
 loop-holds c = search needs

@@ -18,8 +18,11 @@ same-length : tie.Need-same-length
 same-length c = search needs
 
 returns : tie.Need-returns
-returns c = let o = now (c .before .before .before .before .before .before .args .s) in
-    c .before .before .put-u32 .ensures ∙ ap (λ (v : ℕ). over (putBe 4 v) o) (c .before .before .before .before .bits-of .ensures ∙ ap (raw 4) (toZ-ofZ (c .before .before .before .before .before .before .fits .z)))
+returns c =
+    let after-bits-of = c .before .before .before .before in
+    let start = after-bits-of .before .before in
+    let o = now (start .args .s) in
+    c .before .before .put-u32 .ensures ∙ ap (λ (v : ℕ). over (putBe 4 v) o) (after-bits-of .bits-of .ensures ∙ ap (raw 4) (toZ-ofZ (start .fits .z)))
 
 pub put-i32-spec : {M : Type 1} → statement M
 put-i32-spec = tie.close (tie.spec bits-of-requires put-u32-requires same-length returns)

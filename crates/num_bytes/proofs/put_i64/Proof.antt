@@ -18,8 +18,11 @@ same-length : tie.Need-same-length
 same-length c = search needs
 
 returns : tie.Need-returns
-returns c = let o = now (c .before .before .before .before .before .before .args .s) in
-    c .before .before .put-u64 .ensures ∙ ap (λ (v : ℕ). over (putBe 8 v) o) (c .before .before .before .before .bits-of-i64 .ensures ∙ ap (raw 8) (toZ-ofZ (c .before .before .before .before .before .before .fits .z)))
+returns c =
+    let after-bits-of-i64 = c .before .before .before .before in
+    let start = after-bits-of-i64 .before .before in
+    let o = now (start .args .s) in
+    c .before .before .put-u64 .ensures ∙ ap (λ (v : ℕ). over (putBe 8 v) o) (after-bits-of-i64 .bits-of-i64 .ensures ∙ ap (raw 8) (toZ-ofZ (start .fits .z)))
 
 pub put-i64-spec : {M : Type 1} → statement M
 put-i64-spec = tie.close (tie.spec bits-of-i64-requires put-u64-requires same-length returns)

@@ -31,7 +31,10 @@ same-length : tie.Need-same-length
 same-length c = search needs
 
 returns : tie.Need-returns
-returns c = put-halves 2 2 (c .before .before .before .before .before .before .before .before .before .args .v) (now (c .before .before .before .before .before .before .before .before .before .args .s)) (omega arith) (c .before .before .before .before .before .before .put-u16 .ensures) (c .before .before .put-u162 .ensures)
+returns c =
+    let after-put-u16 = c .before .before .before .before .before .before in
+    let start = after-put-u16 .before .before .before in
+    put-halves 2 2 (start .args .v) (now (start .args .s)) (omega arith) (after-put-u16 .put-u16 .ensures) (c .before .before .put-u162 .ensures)
 
 pub put-u32-spec : {M : Type 1} → statement M
 put-u32-spec =

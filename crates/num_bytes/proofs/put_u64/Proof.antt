@@ -31,7 +31,10 @@ same-length : tie.Need-same-length
 same-length c = search needs
 
 returns : tie.Need-returns
-returns c = put-halves 4 4 (c .before .before .before .before .before .before .before .before .before .args .v) (now (c .before .before .before .before .before .before .before .before .before .args .s)) (omega arith) (c .before .before .before .before .before .before .put-u32 .ensures) (c .before .before .put-u322 .ensures)
+returns c =
+    let after-put-u32 = c .before .before .before .before .before .before in
+    let start = after-put-u32 .before .before .before in
+    put-halves 4 4 (start .args .v) (now (start .args .s)) (omega arith) (after-put-u32 .put-u32 .ensures) (c .before .before .put-u322 .ensures)
 
 pub put-u64-spec : {M : Type 1} → statement M
 put-u64-spec =

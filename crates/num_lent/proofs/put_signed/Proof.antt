@@ -51,7 +51,9 @@ same-length : tie.Need-same-length Inv-loop μ-loop
 same-length c = slice-long itself (c .before .loop .inv)
 
 returns : tie.Need-returns Inv-loop μ-loop
-returns c = all-handed itself (c .before .loop .inv) (c .loop-test .left) ∙ ap (λ (l : List ℤ). over l (now (c .before .before .args .out))) (map-itself (take (c .before .before .args .count) (c .before .before .args .t2)))
+returns c =
+    let start = c .before .before in
+    all-handed itself (c .before .loop .inv) (c .loop-test .left) ∙ ap (λ (l : List ℤ). over l (now (start .args .out))) (map-itself (take (start .args .count) (start .args .t2)))
 
 pub put-signed-spec : {M : Type 1} → statement M
 put-signed-spec = tie.close (tie.spec Inv-loop μ-loop loop-holds mul-x array-copy-out-x mul-x-2 slice-set-from-x add-k loop-less loop-again same-length returns)

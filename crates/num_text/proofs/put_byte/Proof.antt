@@ -8,19 +8,15 @@ use Rattle.num_text.proofs.put_byte.Tie as tie
 use Rattle.num_text.proofs.put_byte.Reads as reads
 use Rattle.num_text.proofs.put_byte.Lts as lts
 
--- src/lib.rt:13:5
 slice-write-out : tie.Need-slice-write-out
 slice-write-out c = search needs
 
--- src/lib.rt:14:5
 add-result : tie.Need-add-result
 add-result c = search needs
 
--- src/lib.rt:9:1
 same-length : tie.Need-same-length
 same-length c = search needs
 
--- src/lib.rt:9:1
 returns : tie.Need-returns
 returns c = one (c .args .byte) (c .args .at) (now (c .args .out)) (omega arith)
 

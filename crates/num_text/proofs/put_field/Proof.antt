@@ -10,19 +10,15 @@ use Rattle.num_text.proofs.put_field.Lts as lts
 use Rattle.num_text.proofs.put_byte.Reads as put-byte-reads
 use Rattle.num_text.proofs.put_decimal.Reads as put-decimal-reads
 
--- src/lib.rt:60:9
 put-decimal-requires : tie.Need-put-decimal-requires
 put-decimal-requires c κs = omega (arith, field-size (c .before .before .args .n))
 
--- src/lib.rt:61:5
 put-byte-requires : tie.Need-put-byte-requires
 put-byte-requires c κs = let p = c .before .before .before .put-decimal .ensures .place in omega (arith, field-size (c .before .before .before .before .before .before .args .n))
 
--- src/lib.rt:56:1
 same-length : tie.Need-same-length
 same-length c = search needs
 
--- src/lib.rt:56:1
 returns : tie.Need-returns
 returns c = behind (c .before .before .before .before .before .before .put-decimal .ensures) (c .before .before .put-byte .ensures)
 

@@ -18,37 +18,35 @@ Inv-loop text at out₀ next₀ i₀ out next i = (i ≤ length text) × (at + l
 abbrev μ-loop : tie.MeasureT-loop
 μ-loop text at out₀ next₀ i₀ out next i = length text - i
 
--- src/lib.rt:23:5
 loop-holds : tie.Need-loop-holds Inv-loop μ-loop
 loop-holds c = (omega arith, c .before .before .pre, nothing (c .before .before .args .at) (now (c .before .before .args .out)) (omega arith))
 
--- src/lib.rt:24:25
 shared-slice-read-put-byte : tie.Need-shared-slice-read-put-byte Inv-loop μ-loop
 shared-slice-read-put-byte c = search needs
 
--- src/lib.rt:24:9
 put-byte-requires : tie.Need-put-byte-requires Inv-loop μ-loop
-put-byte-requires c κs = text-room (now (c .before .before .before .before .before .before .args .text)) (c .before .before .before .loop .i) (c .before .before .before .loop .inv .2) (c .before .before .before .loop .inv .1) (c .before .before .loop-test .taken)
+put-byte-requires c κs =
+    let turn = c .before .before .before in
+    let start = turn .before .before .before in
+    text-room (now (start .args .text)) (turn .loop .i) (turn .loop .inv .2) (turn .loop .inv .1) (c .before .before .loop-test .taken)
 
--- src/lib.rt:25:9
 add-i : tie.Need-add-i Inv-loop μ-loop
 add-i c = search needs
 
--- src/lib.rt:23:5
 loop-less : tie.Need-loop-less Inv-loop μ-loop
 loop-less c = search needs
 
--- src/lib.rt:23:5
 loop-again : tie.Need-loop-again Inv-loop μ-loop
 loop-again c =
-    let l = c .before .before .before .before .before .before .loop in
-    (search needs, l .inv .1, text-more (now (c .before .before .before .before .before .before .before .before .before .args .text)) (l .i) (l .inv .2) (c .before .before .before .before .before .loop-test .taken) (c .before .before .put-byte .ensures))
+    let tested = c .before .before .before .before .before in
+    let turn = tested .before in
+    let start = turn .before .before .before in
+    let l = turn .loop in
+    (search needs, l .inv .1, text-more (now (start .args .text)) (l .i) (l .inv .2) (tested .loop-test .taken) (c .before .before .put-byte .ensures))
 
--- src/lib.rt:17:1
 same-length : tie.Need-same-length Inv-loop μ-loop
 same-length c = kept-length (c .before .loop .inv .2)
 
--- src/lib.rt:17:1
 returns : tie.Need-returns Inv-loop μ-loop
 returns c = text-all (now (c .before .before .before .before .args .text)) (c .before .loop .i) (c .before .loop .inv .2) (c .loop-test .left)
 

@@ -18,16 +18,22 @@ sub-if3 : tie.Need-sub-if3
 sub-if3 c = search needs
 
 returns-3 : tie.Need-returns-3
-returns-3 c = let a = c .before .before .before in
-    simp (ne-eqb _ _ (c .before .before .if1 .left), le-ltb _ _ (c .before .if2 .left), lt-ltb _ _ (below-range w32 (maxReading - 1) (a .args .reading) (a .fits .reading) (c .if3 .taken)))
+returns-3 c =
+    let start = c .before .before .before in
+    simp (ne-eqb _ _ (c .before .before .if1 .left), le-ltb _ _ (c .before .if2 .left), lt-ltb _ _ (below-range w32 (maxReading - 1) (start .args .reading) (start .fits .reading) (c .if3 .taken)))
 
 returns-4 : tie.Need-returns-4
-returns-4 c = let a = c .before .before .before .before in
-    simp (ne-eqb _ _ (c .before .before .before .if1 .left), le-ltb _ _ (c .before .before .if2 .left), lt-ltb _ _ (above-range w32 (maxReading - 1) (a .args .reading) (a .fits .reading) (c .if4 .taken)))
+returns-4 c =
+    let else1 = c .before .before .before in
+    let start = else1 .before in
+    simp (ne-eqb _ _ (else1 .if1 .left), le-ltb _ _ (c .before .before .if2 .left), lt-ltb _ _ (above-range w32 (maxReading - 1) (start .args .reading) (start .fits .reading) (c .if4 .taken)))
 
 returns-5 : tie.Need-returns-5
-returns-5 c = let a = c .before .before .before .before in
-    simp (ne-eqb _ _ (c .before .before .before .if1 .left), le-ltb _ _ (c .before .before .if2 .left), le-ltb _ _ (in-range w32 (maxReading - 1) (a .args .reading) (a .fits .reading) (c .before .if3 .left) (c .if4 .left)))
+returns-5 c =
+    let else1 = c .before .before .before in
+    let start = else1 .before in
+    let near = in-range w32 (maxReading - 1) (start .args .reading) (start .fits .reading) (c .before .if3 .left) (c .if4 .left) in
+    simp (ne-eqb _ _ (else1 .if1 .left), le-ltb _ _ (c .before .before .if2 .left), le-ltb _ _ near)
 
 pub meter-fault-spec : {M : Type 1} → statement M
 meter-fault-spec = tie.close (tie.spec returns returns-2 sub-if3 returns-3 returns-4 returns-5)

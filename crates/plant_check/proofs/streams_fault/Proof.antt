@@ -25,7 +25,11 @@ stream-fault-requires : tie.Need-stream-fault-requires Inv-loop μ-loop
 stream-fault-requires c κs = search needs
 
 returns : tie.Need-returns Inv-loop μ-loop
-returns c = at-fault (c .before .before .before .before .loop .inv) (c .before .stream-fault .result) (c .before .before .before .before .before .pre) (c .before .before .before .loop-test .taken) (c .before .stream-fault .ensures) (c .if1 .taken)
+returns c =
+    let in-loop = c .before .before .before in
+    let at-loop = in-loop .before in
+    let start = at-loop .before in
+    at-fault (at-loop .loop .inv) (c .before .stream-fault .result) (start .pre) (in-loop .loop-test .taken) (c .before .stream-fault .ensures) (c .if1 .taken)
 
 add-i : tie.Need-add-i Inv-loop μ-loop
 add-i c = search needs
@@ -34,7 +38,11 @@ loop-less : tie.Need-loop-less Inv-loop μ-loop
 loop-less c = search needs
 
 loop-again : tie.Need-loop-again Inv-loop μ-loop
-loop-again c = look-on (c .before .before .before .before .loop .inv) (c .before .stream-fault .result) (c .before .before .before .before .before .pre) (c .before .before .before .loop-test .taken) (c .before .stream-fault .ensures) (c .if1 .left)
+loop-again c =
+    let in-loop = c .before .before .before in
+    let at-loop = in-loop .before in
+    let start = at-loop .before in
+    look-on (at-loop .loop .inv) (c .before .stream-fault .result) (start .pre) (in-loop .loop-test .taken) (c .before .stream-fault .ensures) (c .if1 .left)
 
 returns-2 : tie.Need-returns-2 Inv-loop μ-loop
 returns-2 c = no-fault (c .before .loop .inv) (c .loop-test .left)

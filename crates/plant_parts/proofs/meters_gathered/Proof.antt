@@ -23,7 +23,10 @@ abbrev μ-loop : tie.MeasureT-loop
 μ-loop n from to metered weight reading streams₀ k₀ streams k = n - k
 
 room : (c : tie.In-loop Inv-loop μ-loop) → c .before .loop .k < maxStreams
-room c = omega (arith, c .before .before .before .before .before .before .before .pre .0, c .loop-test .taken)
+room c =
+    let after-unmetered-stream = c .before .before in
+    let start = after-unmetered-stream .before .before .before .before .before in
+    omega (arith, start .pre .0, c .loop-test .taken)
 
 unmetered-stream-requires : tie.Need-unmetered-stream-requires Inv-loop μ-loop
 unmetered-stream-requires c κs = search needs
@@ -33,7 +36,9 @@ loop-holds c = (omega arith, ap (λ (s : Stream). replicate maxStreams s) (c .un
 
 meter-at-requires : tie.Need-meter-at-requires Inv-loop μ-loop
 meter-at-requires c κs =
-    let p = c .before .before .before .before .before .before .before .pre in
+    let after-unmetered-stream = c .before .before in
+    let start = after-unmetered-stream .before .before .before .before .before in
+    let p = start .pre in
     let t = c .loop-test .taken in
     (omega (arith, t, p .1), omega (arith, t, p .2), omega (arith, t, p .3), omega (arith, t, p .4), omega (arith, t, p .5))
 
@@ -51,14 +56,19 @@ loop-less c = omega (arith, c .before .loop-test .taken)
 
 loop-again : tie.Need-loop-again Inv-loop μ-loop
 loop-again c =
+    let after-unmetered-stream = c .before .before .before in
+    let start = after-unmetered-stream .before .before .before .before .before in
     let i = c .before .before .loop .inv in
-    let a = c .before .before .before .before .before .before .before .before .args in
-    (omega (arith, c .before .loop-test .taken), one-more (meterAt (now (a .from)) (now (a .to)) (now (a .metered)) (now (a .weight)) (now (a .reading))) _ _ _ (room (c .before)) (i .1) (c .meter-at .ensures))
+    let a = start .args in
+    let meter : ℕ → Stream = meterAt (now (a .from)) (now (a .to)) (now (a .metered)) (now (a .weight)) (now (a .reading)) in
+    (omega (arith, c .before .loop-test .taken), one-more meter _ _ _ (room (c .before)) (i .1) (c .meter-at .ensures))
 
 returns : tie.Need-returns Inv-loop μ-loop
 returns c =
+    let after-unmetered-stream = c .before .before in
+    let start = after-unmetered-stream .before .before .before .before .before in
     let i = c .before .loop .inv in
-    let a = c .before .before .before .before .before .before .before .args in
+    let a = start .args in
     let e : c .before .loop .k ≡ a .n = omega (arith, i .0, c .loop-test .left) in
     i .1 ∙ ap (λ (k : ℕ). padded maxStreams (listedTo (meterAt (now (a .from)) (now (a .to)) (now (a .metered)) (now (a .weight)) (now (a .reading))) k)) e
 

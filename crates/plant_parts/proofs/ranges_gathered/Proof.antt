@@ -63,9 +63,12 @@ loop-less c = omega (arith, c .before .before .loop-test .taken)
 
 loop-again : tie.Need-loop-again Inv-loop μ-loop
 loop-again c =
-    let i = c .before .before .before .loop .inv in
-    let a = c .before .before .before .before .before .before .args in
-    (omega (arith, c .before .before .loop-test .taken), one-more (within (now (a .ranged)) (now (a .low)) (now (a .high)) (a .t2)) _ _ _ (room (c .before .before)) (i .1) (c .range-at .ensures))
+    let in-loop = c .before .before in
+    let at-loop = in-loop .before in
+    let start = at-loop .before .before .before in
+    let i = at-loop .loop .inv in
+    let a = start .args in
+    (omega (arith, in-loop .loop-test .taken), one-more (within (now (a .ranged)) (now (a .low)) (now (a .high)) (a .t2)) _ _ _ (room in-loop) (i .1) (c .range-at .ensures))
 
 returns : tie.Need-returns Inv-loop μ-loop
 returns c =

@@ -46,10 +46,14 @@ shared-slice-read-t14 : tie.Need-shared-slice-read-t14
 shared-slice-read-t14 c = search needs
 
 returns : tie.Need-returns
-returns c = let b = now (c .before .before .before .before .before .before .before .args .b) in
-    let w = c .before .before .before .before .get-u16 .ensures ∙ ap (be 0 2) (part-is 2 b) in
-    let f : SFits w32 (c .before .before .get-i32 .result) = record { sfits = c .before .before .get-i32 .ok } in
-    let r = toZ-ofZ f ∙ c .before .before .get-i32 .ensures ∙ ap (λ (s : List ℕ). signed 4 (be 0 4 s)) (part-is 4 b) in
+returns c =
+    let after-get-i32 = c .before .before in
+    let after-get-u16 = after-get-i32 .before .before in
+    let start = after-get-u16 .before .before .before in
+    let b = now (start .args .b) in
+    let w = after-get-u16 .get-u16 .ensures ∙ ap (be 0 2) (part-is 2 b) in
+    let f : SFits w32 (after-get-i32 .get-i32 .result) = record { sfits = after-get-i32 .get-i32 .ok } in
+    let r = toZ-ofZ f ∙ after-get-i32 .get-i32 .ensures ∙ ap (λ (s : List ℕ). signed 4 (be 0 4 s)) (part-is 4 b) in
     λ i. record { from = getD b 0 0; to = getD b 1 0; metered = true; weight = w i; reading = r i; ranged = false; low = pos 0; high = pos 0 }
 
 pub metered-in-spec : {M : Type 1} → statement M

@@ -43,13 +43,16 @@ get-i32-requires-2 c κs = search needs
 
 returns : tie.Need-returns
 returns c =
-    let b = now (c .before .before .before .before .before .before .before .args .b) in
-    let s = c .before .before .before .before .before .metered-in .ensures in
-    let rf : SFits w32 (c .before .before .before .before .before .metered-in .result .reading) = search needs in
-    let lf : SFits w32 (c .before .before .before .get-i32 .result) = record { sfits = c .before .before .before .get-i32 .ok } in
+    let after-get-i32 = c .before .before .before in
+    let after-metered-in = after-get-i32 .before .before in
+    let start = after-metered-in .before .before in
+    let b = now (start .args .b) in
+    let s = after-metered-in .metered-in .ensures in
+    let rf : SFits w32 (after-metered-in .metered-in .result .reading) = search needs in
+    let lf : SFits w32 (after-get-i32 .get-i32 .result) = record { sfits = after-get-i32 .get-i32 .ok } in
     let hf : SFits w32 (c .before .get-i322 .result) = record { sfits = c .before .get-i322 .ok } in
     let r = toZ-ofZ rf ∙ ap (λ (x : Stream). x .reading) s in
-    let l = toZ-ofZ lf ∙ c .before .before .before .get-i32 .ensures ∙ ap (λ (t : List ℕ). signed 4 (be 0 4 t)) (part-is 8 b) in
+    let l = toZ-ofZ lf ∙ after-get-i32 .get-i32 .ensures ∙ ap (λ (t : List ℕ). signed 4 (be 0 4 t)) (part-is 8 b) in
     let h = toZ-ofZ hf ∙ c .before .get-i322 .ensures ∙ ap (λ (t : List ℕ). signed 4 (be 0 4 t)) (part-is 12 b) in
     λ i. record { from = s i .from; to = s i .to; metered = true; weight = s i .weight; reading = r i; ranged = true; low = l i; high = h i }
 

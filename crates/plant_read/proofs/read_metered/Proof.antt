@@ -16,7 +16,9 @@ returns c = let a = c .before .before .before .args in
     body-refused meteredBody (meteredIn (now (a .b))) (a .units) (a .count) (now (a .b)) _ (c .before .body-fault .ensures) (c .if1 .taken)
 
 metered-in-requires : tie.Need-metered-in-requires
-metered-in-requires c κs = whole meteredBody (c .before .before .before .args .count) (now (c .before .before .before .args .b)) (sym (c .before .body-fault .ensures) ∙ c .if1 .left)
+metered-in-requires c κs =
+    let start = c .before .before .before in
+    whole meteredBody (start .args .count) (now (start .args .b)) (sym (c .before .body-fault .ensures) ∙ c .if1 .left)
 
 add-checked-stream : tie.Need-add-checked-stream
 add-checked-stream c = search needs
@@ -25,8 +27,11 @@ checked-stream-requires : tie.Need-checked-stream-requires
 checked-stream-requires c κs = search needs
 
 returns-2 : tie.Need-returns-2
-returns-2 c = let a = c .before .before .before .before .before .args in
-    body-read meteredBody (meteredIn (now (a .b))) (a .units) (a .count) (now (a .b)) _ (c .before .before .before .body-fault .ensures) (c .before .before .if1 .left)
+returns-2 c =
+    let after-body-fault = c .before .before .before in
+    let start = after-body-fault .before .before in
+    let a = start .args in
+    body-read meteredBody (meteredIn (now (a .b))) (a .units) (a .count) (now (a .b)) _ (after-body-fault .body-fault .ensures) (c .before .before .if1 .left)
     (c .checked-stream .result) (c .before .metered-in .result) (c .checked-stream .ensures) (c .before .metered-in .ensures)
 
 pub read-metered-spec : {M : Type 1} → statement M

@@ -19,10 +19,25 @@ Inv-loop file units streams₀ count₀ at₀ streams count at = Reading recordA
 abbrev μ-loop : tie.MeasureT-loop
 μ-loop file units streams₀ count₀ at₀ streams count at = mostRecords - count
 
+-- The turn of the loop, from where a record is read; the site record, and the start.
+abbrev looped : tie.After-read-record Inv-loop μ-loop → tie.At-loop Inv-loop μ-loop
+looped c = c .before .before
+
+abbrev sited : tie.At-loop Inv-loop μ-loop → tie.After-site Inv-loop μ-loop
+sited c = c .before .before .before
+
+abbrev began : tie.After-site Inv-loop μ-loop → tie.Start Inv-loop μ-loop
+began c = c .before .before .before .before
+
 -- A stream was found.
-listed-here : (c : tie.After-known-told2 Inv-loop μ-loop)
-    → Listed (c .before .found .given .0 .0) (c .before .found .given .0 .1 .0)
-    ≡ recordAt (c .before .before .before .before .before .before .before .before .site .given .0 .0) (c .before .before .before .before .before .loop .count) (partFrom (c .before .before .before .before .before .loop .at) (now (c .before .before .before .before .before .before .before .before .before .before .before .before .args .file)))
+abbrev Found : tie.After-found Inv-loop μ-loop → Type 0
+Found c =
+    let stream = c .found .given .0 in
+    let turn = looped (c .before .before) in
+    let site = sited turn in
+    Listed (stream .0) (stream .1 .0) ≡ recordAt (site .site .given .0 .0) (turn .loop .count) (partFrom (turn .loop .at) (now (began site .args .file)))
+
+listed-here : (c : tie.After-known-told2 Inv-loop μ-loop) → Found (c .before)
 listed-here c = sym (c .before .found .given .1) ∙ c .before .before .before .read-record .ensures
 
 read-site-requires : tie.Need-read-site-requires Inv-loop μ-loop
@@ -41,8 +56,12 @@ refusal-requires : tie.Need-refusal-requires Inv-loop μ-loop
 refusal-requires c κs = search needs
 
 returns : tie.Need-returns Inv-loop μ-loop
-returns c = let file = now (c .before .before .before .before .before .before .args .file) in
-    missing-here recordAt file _ (c .before .before .before .before .read-site .ensures) (c .before .before .before .match .keys2) (c .refusal .result)
+returns c =
+    let at-match-keys2 = c .before .before .before in
+    let after-read-site = at-match-keys2 .before in
+    let start = after-read-site .before .before in
+    let file = now (start .args .file) in
+    missing-here recordAt file _ (after-read-site .read-site .ensures) (at-match-keys2 .match .keys2) (c .refusal .result)
     (c .refusal .ensures ∙ ap (λ (f : ℕ). readOf (bad f)) (c .before .site-number .ensures))
 
 unmetered-stream-requires : tie.Need-unmetered-stream-requires Inv-loop μ-loop
@@ -52,9 +71,13 @@ add-at : tie.Need-add-at Inv-loop μ-loop
 add-at c = search needs
 
 loop-holds : tie.Need-loop-holds Inv-loop μ-loop
-loop-holds c = let file = now (c .before .before .before .before .before .before .args .file) in
-    begin recordAt file (c .before .before .site .given .0 .0) (c .unmetered-stream .result) (sym (c .before .before .site .given .1) ∙ c .before .before .before .before .read-site .ensures)
-    (site-whole file (units-there file _ (sym (c .before .before .site .given .1) ∙ c .before .before .before .before .read-site .ensures) .0)) (c .unmetered-stream .ensures)
+loop-holds c =
+    let after-site = c .before .before in
+    let after-read-site = after-site .before .before in
+    let start = after-read-site .before .before in
+    let file = now (start .args .file) in
+    begin recordAt file (after-site .site .given .0 .0) (c .unmetered-stream .result) (sym (after-site .site .given .1) ∙ after-read-site .read-site .ensures)
+    (site-whole file (units-there file _ (sym (after-site .site .given .1) ∙ after-read-site .read-site .ensures) .0)) (c .unmetered-stream .ensures)
 
 sub-read-record : tie.Need-sub-read-record Inv-loop μ-loop
 sub-read-record c = search needs
@@ -81,7 +104,10 @@ refusal-requires-2 : tie.Need-refusal-requires-2 Inv-loop μ-loop
 refusal-requires-2 c κs = search needs
 
 returns-3 : tie.Need-returns-3 Inv-loop μ-loop
-returns-3 c = refused-here (c .before .before .before .before .before .before .before .loop .inv) (c .refusal2 .result) (sym (c .before .before .found2 .given .1) ∙ c .before .before .before .before .before .read-record .ensures) (c .refusal2 .ensures)
+returns-3 c =
+    let after-read-record = c .before .before .before .before .before in
+    let at-loop = after-read-record .before .before in
+    refused-here (at-loop .loop .inv) (c .refusal2 .result) (sym (c .before .before .found2 .given .1) ∙ after-read-record .read-record .ensures) (c .refusal2 .ensures)
 
 cast-next : tie.Need-cast-next Inv-loop μ-loop
 cast-next c = search needs
@@ -96,7 +122,12 @@ add-count : tie.Need-add-count Inv-loop μ-loop
 add-count c = search needs
 
 add-at-2 : tie.Need-add-at-2 Inv-loop μ-loop
-add-at-2 c = let n = turn (c .before .before .before .before .before .loop .inv) record-taken (listed-here c) in omega (arith, n .within, c .before .before .before .before .before .before .before .before .before .before .before .before .good)
+add-at-2 c =
+    let at-loop = c .before .before .before .before .before in
+    let after-site = at-loop .before .before .before in
+    let start = after-site .before .before .before .before in
+    let n = turn (at-loop .loop .inv) record-taken (listed-here c) in
+    omega (arith, n .within, start .good)
 
 loop-less : tie.Need-loop-less Inv-loop μ-loop
 loop-less c = search needs

@@ -8,10 +8,19 @@ use Rattle.plant_write.proofs.put_plant.Statement.{statement}
 use Rattle.plant_write.proofs.put_plant.Tie as tie
 
 -- The site record and the streams are written.
-behind : (c : tie.After-slice-known3)
-    → Streamed (c .before .before .before .before .before .before .before .before .before .args .units) (c .before .before .before .before .before .before .before .before .before .args .count) (c .before .before .before .before .before .before .before .before .before .args .streams) (now (c .before .before .before .before .before .before .before .before .before .args .out))
-    (returned 2 (c .before .before .before .before .before .before .put-pair .last .1 .1 .0) (c .before .before .put-streams .last .1 .1 .0)) (c .before .before .put-streams .result)
-behind c = streamed (c .before .before .before .before .before .before .before .before .before .args .units) (c .before .before .before .before .before .before .before .before .before .args .count) (c .before .before .before .before .before .before .before .before .before .args .streams) (now (c .before .before .before .before .before .before .before .before .before .args .out)) (c .before .before .before .before .before .before .before .before .before .pre .0) (omega arith) (c .before .before .before .before .before .before .before .before .before .pre .1) (c .before .before .before .before .before .before .put-pair .ensures) (c .before .before .put-streams .ensures)
+abbrev Behind : tie.After-put-streams → Type 0
+Behind c =
+    let after-put-pair = c .before .before .before .before in
+    let a = after-put-pair .before .before .before .args in
+    let done = c .put-streams in
+    Streamed (a .units) (a .count) (a .streams) (now (a .out)) (returned 2 (after-put-pair .put-pair .last .1 .1 .0) (done .last .1 .1 .0)) (done .result)
+
+behind : (c : tie.After-slice-known3) → Behind (c .before .before)
+behind c =
+    let after-put-pair = c .before .before .before .before .before .before in
+    let start = after-put-pair .before .before .before in
+    streamed (start .args .units) (start .args .count) (start .args .streams) (now (start .args .out)) (start .pre .0) (omega arith) (start .pre .1) (after-put-pair .put-pair .ensures)
+    (c .before .before .put-streams .ensures)
 
 put-pair-requires : tie.Need-put-pair-requires
 put-pair-requires c κs = search needs

@@ -13,10 +13,18 @@ use Rattle.plant_def.specs.Files.{meterBytes}
 use Rattle.plant_write.proofs.put_ranged.Statement.{statement}
 use Rattle.plant_write.proofs.put_ranged.Tie as tie
 
-low-fits : (c : tie.After-struct-told) → SFits w32 (c .before .before .before .before .before .before .before .args .s .low)
+-- The start, from the meter's bytes on.
+abbrev began : tie.After-put-meter → tie.Start
+began c = c .before .before .before
+
+low-fits : (c : tie.After-struct-told) → SFits w32 (began (c .before .before .before .before) .args .s .low)
 low-fits c = search needs
 
-high-fits : (c : tie.After-struct-told2) → SFits w32 (c .before .before .before .before .before .before .before .before .before .before .before .before .args .s .high)
+-- The place behind the meter's bytes, from those of low on.
+abbrev metered : tie.After-put-i32 → tie.After-put-meter
+metered c = c .before .before .before .before .before
+
+high-fits : (c : tie.After-struct-told2) → SFits w32 (began (metered (c .before .before .before .before)) .args .s .high)
 high-fits c = search needs
 
 put-meter-requires : tie.Need-put-meter-requires
@@ -51,11 +59,16 @@ same-length c = search needs
 
 returns : tie.Need-returns
 returns c =
-    let a = c .before .before .before .before .before .before .before .before .before .before .before .before .before .before .before .args in
+    let after-struct-told2 = c .before .before .before in
+    let after-put-i32 = after-struct-told2 .before .before .before .before in
+    let after-struct-told = after-put-i32 .before in
+    let after-put-meter = after-struct-told .before .before .before .before in
+    let start = after-put-meter .before .before .before in
+    let a = start .args in
     let s = a .s in
-    let meter = laid (rangedKind ∷ meterBytes s) (now (a .out)) (omega arith) (c .before .before .before .before .before .before .before .before .before .before .before .before .put-meter .ensures) in
-    let low = lay meter (putBe 4 (raw 4 (s .low))) (omega arith) (rw (toZ-ofZ (low-fits (c .before .before .before .before .before .before .before .before))) at (c .before .before .before .before .before .before .before .put-i32 .ensures)) in
-    lay low (putBe 4 (raw 4 (s .high))) (omega arith) (rw (toZ-ofZ (high-fits (c .before .before .before))) at (c .before .before .put-i322 .ensures)) .bytes
+    let meter = laid (rangedKind ∷ meterBytes s) (now (a .out)) (omega arith) (after-put-meter .put-meter .ensures) in
+    let low = lay meter (putBe 4 (raw 4 (s .low))) (omega arith) (rw (toZ-ofZ (low-fits after-struct-told)) at (after-put-i32 .put-i32 .ensures)) in
+    lay low (putBe 4 (raw 4 (s .high))) (omega arith) (rw (toZ-ofZ (high-fits after-struct-told2)) at (c .before .before .put-i322 .ensures)) .bytes
 
 pub put-ranged-spec : {M : Type 1} → statement M
 put-ranged-spec =

@@ -17,8 +17,10 @@ same-length c = search needs
 
 returns : tie.Need-returns
 returns c =
-    let s = c .before .before .before .before .before .before .args .s in
-    put-as (unmetered-bytes s (not-true (s .metered) (c .before .before .before .before .if1 .taken))) (c .before .before .put-ends .ensures)
+    let then1 = c .before .before .before .before in
+    let start = then1 .before .before in
+    let s = start .args .s in
+    put-as (unmetered-bytes s (not-true (s .metered) (then1 .if1 .taken))) (c .before .before .put-ends .ensures)
 
 put-ranged-requires : tie.Need-put-ranged-requires
 put-ranged-requires c κs = search needs
@@ -31,8 +33,11 @@ same-length-2 c = search needs
 
 returns-2 : tie.Need-returns-2
 returns-2 c =
-    let s = c .before .before .before .before .before .before .before .args .s in
-    put-as (ranged-bytes s (not-false (s .metered) (c .before .before .before .before .before .if1 .left)) (c .before .before .before .before .if2 .taken)) (c .before .before .put-ranged .ensures)
+    let then2 = c .before .before .before .before in
+    let else1 = then2 .before in
+    let start = else1 .before .before in
+    let s = start .args .s in
+    put-as (ranged-bytes s (not-false (s .metered) (else1 .if1 .left)) (then2 .if2 .taken)) (c .before .before .put-ranged .ensures)
 
 put-meter-requires : tie.Need-put-meter-requires
 put-meter-requires c κs = search needs
@@ -45,8 +50,11 @@ same-length-3 c = search needs
 
 returns-3 : tie.Need-returns-3
 returns-3 c =
-    let s = c .before .before .before .before .before .before .before .args .s in
-    put-as (metered-bytes s (not-false (s .metered) (c .before .before .before .before .before .if1 .left)) (c .before .before .before .before .if2 .left)) (c .before .before .put-meter .ensures)
+    let else2 = c .before .before .before .before in
+    let else1 = else2 .before in
+    let start = else1 .before .before in
+    let s = start .args .s in
+    put-as (metered-bytes s (not-false (s .metered) (else1 .if1 .left)) (else2 .if2 .left)) (c .before .before .put-meter .ensures)
 
 pub put-stream-spec : {M : Type 1} → statement M
 put-stream-spec =

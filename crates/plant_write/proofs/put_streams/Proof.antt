@@ -18,11 +18,26 @@ Inv-loop count out₀ streams at₀ i₀ out at i = (length streams ≡ maxStrea
 abbrev μ-loop : tie.MeasureT-loop
 μ-loop count out₀ streams at₀ i₀ out at i = count - i
 
+-- The turn of the loop, and the start, from where the stream is written.
+abbrev turn : tie.After-put-stream Inv-loop μ-loop → tie.At-loop Inv-loop μ-loop
+turn c = c .before .before .before .before
+
+abbrev began : tie.At-loop Inv-loop μ-loop → tie.Start Inv-loop μ-loop
+began c = c .before .before
+
 -- One stream more is written.
-written : (c : tie.After-slice-known2 Inv-loop μ-loop)
-    → Streams (c .before .before .before .before .before .before .before .before .args .t2) (c .before .before .before .before .before .before .before .before .args .count) (now (c .before .before .before .before .before .before .before .before .args .out)) (returned (c .before .before .before .before .before .before .loop .at) (c .before .before .before .before .before .before .loop .out) (c .before .before .put-stream .last .1 .0))
-    (c .before .before .before .before .before .before .loop .at + c .before .before .put-stream .result) (c .before .before .before .before .before .before .loop .i + 1)
-written c = let v = c .before .before .before .before .before .before .loop .inv in one-stream (v .2) (c .before .before .before .before .before .loop-test .taken) (omega arith) (c .before .before .put-stream .ensures)
+abbrev Written : tie.After-put-stream Inv-loop μ-loop → Type 0
+Written c =
+    let at = turn c .loop in
+    let a = began (turn c) .args in
+    Streams (a .t2) (a .count) (now (a .out)) (returned (at .at) (at .out) (c .put-stream .last .1 .0)) (at .at + c .put-stream .result) (at .i + 1)
+
+written : (c : tie.After-slice-known2 Inv-loop μ-loop) → Written (c .before .before)
+written c =
+    let in-loop = c .before .before .before .before .before in
+    let at-loop = in-loop .before in
+    let v = at-loop .loop .inv in
+    one-stream (v .2) (in-loop .loop-test .taken) (omega arith) (c .before .before .put-stream .ensures)
 
 loop-holds : tie.Need-loop-holds Inv-loop μ-loop
 loop-holds c = (search needs, c .before .pre .0, no-streams (c .before .args .t2) (c .before .args .count) (now (c .before .args .out)) (omega (arith, c .before .pre .0, c .before .pre .1)))
@@ -46,7 +61,10 @@ put-stream-requires : tie.Need-put-stream-requires Inv-loop μ-loop
 put-stream-requires c κs = rows-room (c .before .before .before .loop .inv .2) (c .before .before .loop-test .taken)
 
 add-at : tie.Need-add-at Inv-loop μ-loop
-add-at c = omega (arith, rows-lend (written c), rows-long (written c), c .before .before .before .before .before .before .before .before .good)
+add-at c =
+    let after-s = c .before .before .before .before in
+    let start = after-s .before .before .before .before in
+    omega (arith, rows-lend (written c), rows-long (written c), start .good)
 
 add-i : tie.Need-add-i Inv-loop μ-loop
 add-i c = search needs
@@ -55,7 +73,9 @@ loop-less : tie.Need-loop-less Inv-loop μ-loop
 loop-less c = search needs
 
 loop-again : tie.Need-loop-again Inv-loop μ-loop
-loop-again c = (c .before .before .before .before .before .before .loop .inv .0, c .before .before .before .before .before .before .loop .inv .1, written c)
+loop-again c =
+    let at-loop = c .before .before .before .before .before .before in
+    (at-loop .loop .inv .0, at-loop .loop .inv .1, written c)
 
 same-length : tie.Need-same-length Inv-loop μ-loop
 same-length c = rows-long (c .before .loop .inv .2)

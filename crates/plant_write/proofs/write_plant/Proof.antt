@@ -17,8 +17,11 @@ parts-fault-requires : tie.Need-parts-fault-requires
 parts-fault-requires c κs = search needs
 
 returns-2 : tie.Need-returns-2
-returns-2 c = let a = c .before .before .before .before .before .args in
-    refuse (a .p) (now (a .file)) (c .before .parts-fault .result) (by-parts (a .p) (now (a .file)) (c .before .before .before .if1 .left) ∙ sym (c .before .parts-fault .ensures)) (c .if2 .taken)
+returns-2 c =
+    let else1 = c .before .before .before in
+    let start = else1 .before .before in
+    let a = start .args in
+    refuse (a .p) (now (a .file)) (c .before .parts-fault .result) (by-parts (a .p) (now (a .file)) (else1 .if1 .left) ∙ sym (c .before .parts-fault .ensures)) (c .if2 .taken)
 
 put-plant-requires : tie.Need-put-plant-requires
 put-plant-requires c κs = let a = c .before .before .before .before .before .before .args in
@@ -28,9 +31,15 @@ same-length : tie.Need-same-length
 same-length c = search needs
 
 returns-3 : tie.Need-returns-3
-returns-3 c = let a = c .before .before .before .before .before .before .before .before .before .args in
-    accept (a .p) (now (a .file)) (c .before .before .put-plant .last .1 .1 .1 .0) (c .before .before .put-plant .result)
-    (by-parts (a .p) (now (a .file)) (c .before .before .before .before .before .before .before .if1 .left) ∙ sym (c .before .before .before .before .before .parts-fault .ensures) ∙ c .before .before .before .before .if2 .left) (c .before .before .put-plant .ensures)
+returns-3 c =
+    let after-put-plant = c .before .before in
+    let else2 = after-put-plant .before .before in
+    let after-parts-fault = else2 .before in
+    let else1 = after-parts-fault .before .before in
+    let start = else1 .before .before in
+    let a = start .args in
+    accept (a .p) (now (a .file)) (after-put-plant .put-plant .last .1 .1 .1 .0) (after-put-plant .put-plant .result)
+    (by-parts (a .p) (now (a .file)) (else1 .if1 .left) ∙ sym (after-parts-fault .parts-fault .ensures) ∙ else2 .if2 .left) (after-put-plant .put-plant .ensures)
 
 pub write-plant-spec : {M : Type 1} → statement M
 write-plant-spec =

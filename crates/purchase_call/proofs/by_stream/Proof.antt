@@ -14,7 +14,9 @@ use Rattle.purchase_call.proofs.by_stream.Statement.{statement}
 use Rattle.purchase_call.proofs.by_stream.Tie as tie
 
 abbrev Inv-loop : tie.InvT-loop
-Inv-loop prices p n each₀ k₀ i₀ each k i = (i ≤ p .count) × (k ≡ unmeteredTo (plantOf p .streams) i) × Written 0 maxStreams (λ k x. priceIn (plantOf p .streams) prices k) (replicate maxStreams 0) each i
+Inv-loop prices p n each₀ k₀ i₀ each k i =
+    (i ≤ p .count) × (k ≡ unmeteredTo (plantOf p .streams) i)
+    × Written 0 maxStreams (λ k x. priceIn (plantOf p .streams) prices k) (replicate maxStreams 0) each i
 
 abbrev μ-loop : tie.MeasureT-loop
 μ-loop prices p n each₀ k₀ i₀ each k i = n - i
@@ -42,9 +44,10 @@ array-write-each c = search needs
 
 more-requires : tie.Need-more-requires Inv-loop μ-loop
 more-requires c κs =
-    let at = c .before .before .before .loop in
-    let st = c .before .before .before .before .before in
-    omega (arith, at .inv .1, unmetered-few (plantOf (st .args .t1) .streams) (at .i), c .before .before .loop-test .taken, st .pre .within .few-streams)
+    let at-loop = c .before .before .before in
+    let start = at-loop .before .before in
+    let at = at-loop .loop in
+    omega (arith, at .inv .1, unmetered-few (plantOf (start .args .t1) .streams) (at .i), c .before .before .loop-test .taken, start .pre .within .few-streams)
 
 add-i : tie.Need-add-i Inv-loop μ-loop
 add-i c = search needs
@@ -54,13 +57,16 @@ loop-less c = search needs
 
 loop-again : tie.Need-loop-again Inv-loop μ-loop
 loop-again c =
-    let at = c .before .before .before .before .loop in
-    let st = c .before .before .before .before .before .before in
-    let taken = c .before .before .before .loop-test .taken in
+    let in-loop = c .before .before .before in
+    let at-loop = in-loop .before in
+    let start = at-loop .before .before in
+    let at = at-loop .loop in
+    let taken = in-loop .loop-test .taken in
     let v = at .inv in (
       omega arith,
-      unmetered-next (st .args .t1) (st .pre) (at .i) (at .k) _ taken (v .1) (c .more .ensures),
-      written-put (v .2) (omega (arith, st .pre .within .few-streams)) _ (c .before .price-at .ensures ∙ ap (λ (j : ℕ). getD (now (st .args .prices)) j 0) (v .1)),
+      unmetered-next (start .args .t1) (start .pre) (at .i) (at .k) _ taken (v .1) (c .more .ensures),
+      written-put (v .2) (omega (arith, start .pre .within .few-streams)) _
+          (c .before .price-at .ensures ∙ ap (λ (j : ℕ). getD (now (start .args .prices)) j 0) (v .1)),
     )
 
 returns : tie.Need-returns Inv-loop μ-loop

@@ -30,7 +30,10 @@ unfair-requires : tie.Need-unfair-requires Inv-loop μ-loop
 unfair-requires c κs = search needs
 
 returns : tie.Need-returns Inv-loop μ-loop
-returns c = one-off (now (c .before .before .before .before .before .before .args .prices)) _ (c .before .before .before .loop-test .taken) (sym (c .before .unfair .ensures) ∙ c .if1 .taken)
+returns c =
+    let in-loop = c .before .before .before in
+    let start = in-loop .before .before .before in
+    one-off (now (start .args .prices)) _ (in-loop .loop-test .taken) (sym (c .before .unfair .ensures) ∙ c .if1 .taken)
 
 add-k : tie.Need-add-k Inv-loop μ-loop
 add-k c = search needs

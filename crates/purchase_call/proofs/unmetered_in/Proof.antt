@@ -41,9 +41,10 @@ loop-less c = search needs
 
 loop-again : tie.Need-loop-again Inv-loop μ-loop
 loop-again c =
-    let at = c .before .before .before .loop in
-    let st = c .before .before .before .before in
-    (omega arith, unmetered-next (st .args .t1) (st .pre) (at .i) (at .k) _ (c .before .before .loop-test .taken) (at .inv .1) (c .more .ensures))
+    let at-loop = c .before .before .before in
+    let start = at-loop .before in
+    let at = at-loop .loop in
+    (omega arith, unmetered-next (start .args .t1) (start .pre) (at .i) (at .k) _ (c .before .before .loop-test .taken) (at .inv .1) (c .more .ensures))
 
 returns : tie.Need-returns Inv-loop μ-loop
 returns c =

@@ -23,7 +23,9 @@ refused-requires : tie.Need-refused-requires Inv-loop μ-loop
 refused-requires c κs = search needs
 
 loop-holds : tie.Need-loop-holds Inv-loop μ-loop
-loop-holds c = (omega arith, none-yet (λ k. getD (c .before .before .args .t2) k 0) (bought (plantOf (c .before .before .args .p)) (λ k. getD (c .before .before .args .t2) k 0)) _ (c .refused .ensures))
+loop-holds c =
+    let start = c .before .before in
+    (omega arith, none-yet (λ k. getD (start .args .t2) k 0) (bought (plantOf (start .args .p)) (λ k. getD (start .args .t2) k 0)) _ (c .refused .ensures))
 
 is-bought-requires : tie.Need-is-bought-requires Inv-loop μ-loop
 is-bought-requires c κs = let st = c .before .before .before .before in (st .pre .0, c .loop-test .taken)
@@ -42,8 +44,10 @@ array-read-with-stream c = search needs
 
 with-stream-requires : tie.Need-with-stream-requires Inv-loop μ-loop
 with-stream-requires c κs =
-    let st = c .before .before .before .before .before in
-    with-room (λ k. getD (st .args .t2) k 0) (st .pre .1) (bought (plantOf (st .args .p)) (λ k. getD (st .args .t2) k 0)) (c .before .before .loop .i) (c .before .before .loop .b) (omega (arith, c .before .loop-test .taken, st .pre .0 .within .few-streams)) (c .before .before .loop .inv .1)
+    let at-loop = c .before .before in
+    let start = at-loop .before .before .before in
+    with-room (λ k. getD (start .args .t2) k 0) (start .pre .1) (bought (plantOf (start .args .p)) (λ k. getD (start .args .t2) k 0))
+    (at-loop .loop .i) (at-loop .loop .b) (omega (arith, c .before .loop-test .taken, start .pre .0 .within .few-streams)) (at-loop .loop .inv .1)
 
 add-i : tie.Need-add-i Inv-loop μ-loop
 add-i c = search needs
@@ -53,9 +57,14 @@ loop-less c = search needs
 
 loop-again : tie.Need-loop-again Inv-loop μ-loop
 loop-again c =
-    let st = c .before .before .before .before .before .before in
-    let at = c .before .before .before .loop in
-    (omega arith, next (λ k. getD (st .args .t2) k 0) (bought (plantOf (st .args .p)) (λ k. getD (st .args .t2) k 0)) (at .i) (at .b) _ _ _ _ (omega (arith, c .before .before .loop-test .taken, st .pre .0 .within .few-streams)) (at .inv .1) (c .before .is-bought .ensures) refl refl (c .with-stream .ensures))
+    let at-loop = c .before .before .before in
+    let start = at-loop .before .before .before in
+    let at = at-loop .loop in (
+      omega arith,
+      next (λ k. getD (start .args .t2) k 0) (bought (plantOf (start .args .p)) (λ k. getD (start .args .t2) k 0)) (at .i) (at .b) _ _ _ _
+          (omega (arith, c .before .before .loop-test .taken, start .pre .0 .within .few-streams)) (at .inv .1) (c .before .is-bought .ensures)
+          refl refl (c .with-stream .ensures),
+    )
 
 returns : tie.Need-returns Inv-loop μ-loop
 returns c =

@@ -27,8 +27,9 @@ one-label-requires c κs =
 
 returns-2 : tie.Need-returns-2
 returns-2 c =
-    let st = c .before .before .before .before .before in
-    by-label (st .args .t1) (st .pre .0) (λ k. getD (st .args .prices) k 0) (st .args .i) (st .pre .1) (c .before .before .before .if1 .left) _
+    let else1 = c .before .before .before in
+    let start = else1 .before .before in
+    by-label (start .args .t1) (start .pre .0) (λ k. getD (start .args .prices) k 0) (start .args .i) (start .pre .1) (else1 .if1 .left) _
     (c .before .before .labels-before .ensures) _ (c .one-label .ensures)
 
 pub is-bought-spec : {M : Type 1} → statement M

@@ -19,10 +19,12 @@ returns-2 c = bared-before _ (c .before .before .if1 .left) (not-true _ (c .if2 
 
 returns-3 : tie.Need-returns-3
 returns-3 c =
-    let s = c .before .before .before .before .before .args .s in
+    let else1 = c .before .before .before in
+    let start = else1 .before .before in
+    let s = start .args .s in
     let f : SFits w32 (s .reading) = search needs in
     (λ i. record { from = s .from; to = s .to; metered = true; weight = s .weight; reading = toZ-ofZ f i; ranged = false; low = pos 0; high = pos 0 })
-    ∙ bared-now s (c .before .before .before .if1 .left) (not-false _ (c .before .if2 .left))
+    ∙ bared-now s (else1 .if1 .left) (not-false _ (c .before .if2 .left))
 
 pub bare-spec : {M : Type 1} → statement M
 bare-spec = tie.close (tie.spec returns returns-2 returns-3)

@@ -18,8 +18,10 @@ same-length c = search needs
 
 returns : tie.Need-returns
 returns c =
-    let file = now (c .before .before .before .before .before .before .before .args .file) in
-    c .before .before .write-read .ensures (fromRanged (readPlant file)) (from-good file) (c .before .before .before .before .read-home .ensures)
+    let after-read-home = c .before .before .before .before in
+    let start = after-read-home .before .before .before in
+    let file = now (start .args .file) in
+    c .before .before .write-read .ensures (fromRanged (readPlant file)) (from-good file) (after-read-home .read-home .ensures)
 
 pub from-ranged-spec : {M : Type 1} → statement M
 from-ranged-spec = tie.close (tie.spec read-home-requires write-read-requires same-length returns)

@@ -34,8 +34,10 @@ narrow-requires c κs = search needs
 
 returns : tie.Need-returns Inv-loop μ-loop
 returns c =
-    let i = c .before .before .before .before .loop .inv in
-    narrow-found _ _ (within (c .before .before .before)) (i .1) (sym (c .before .narrow .ensures) ∙ c .if1 .taken)
+    let in-loop = c .before .before .before in
+    let at-loop = in-loop .before in
+    let i = at-loop .loop .inv in
+    narrow-found _ _ (within in-loop) (i .1) (sym (c .before .narrow .ensures) ∙ c .if1 .taken)
 
 add-at : tie.Need-add-at Inv-loop μ-loop
 add-at c = record { fits = omega (arith, c .before .before .before .loop-test .taken) }
@@ -45,9 +47,11 @@ loop-less c = omega (arith, c .before .before .before .loop-test .taken)
 
 loop-again : tie.Need-loop-again Inv-loop μ-loop
 loop-again c =
-    let i = c .before .before .before .before .loop .inv in
-    let t = c .before .before .before .loop-test .taken in
-    (omega (arith, t), narrow-more _ _ (within (c .before .before .before)) (i .1) (sym (c .before .narrow .ensures) ∙ c .if1 .left), i .2)
+    let in-loop = c .before .before .before in
+    let at-loop = in-loop .before in
+    let i = at-loop .loop .inv in
+    let t = in-loop .loop-test .taken in
+    (omega (arith, t), narrow-more _ _ (within in-loop) (i .1) (sym (c .before .narrow .ensures) ∙ c .if1 .left), i .2)
 
 returns-2 : tie.Need-returns-2 Inv-loop μ-loop
 returns-2 c =

@@ -28,8 +28,11 @@ move-all-requires c κs = search needs
 
 returns-2 : tie.Need-returns-2
 returns-2 c =
-    let read = c .before .before .before .before .read-plant in
-    forward-good (now (c .before .before .before .before .before .before .args .file)) (read .result) (read-in (c .before .before .before .before)) (c .before .before .before .if1 .left) (c .move-all .result) (c .move-all .ensures)
+    let else1 = c .before .before .before in
+    let after-read-plant = else1 .before in
+    let start = after-read-plant .before .before in
+    let read = after-read-plant .read-plant in
+    forward-good (now (start .args .file)) (read .result) (read-in after-read-plant) (else1 .if1 .left) (c .move-all .result) (c .move-all .ensures)
 
 pub read-forward-spec : {M : Type 1} → statement M
 read-forward-spec = tie.close (tie.spec read-plant-requires refusal-requires returns move-all-requires returns-2)

@@ -31,9 +31,12 @@ refusal-requires-2 c κs = search needs
 
 returns-2 : tie.Need-returns-2
 returns-2 c =
+    let else1 = c .before .before .before .before .before in
+    let after-read-plant = else1 .before in
+    let start = after-read-plant .before .before in
     let narrow = c .before .before .narrow-fault in
-    let read = c .before .before .before .before .before .before .read-plant in
-    home-narrow (now (c .before .before .before .before .before .before .before .before .args .file)) (read .result) (read-in (c .before .before .before .before .before .before)) (c .before .before .before .before .before .if1 .left)
+    let read = after-read-plant .read-plant in
+    home-narrow (now (start .args .file)) (read .result) (read-in after-read-plant) (else1 .if1 .left)
     (narrow .result) (narrow .ensures) (c .before .if2 .taken) (c .refusal2 .result) (c .refusal2 .ensures)
 
 move-all-requires : tie.Need-move-all-requires
@@ -41,9 +44,12 @@ move-all-requires c κs = search needs
 
 returns-3 : tie.Need-returns-3
 returns-3 c =
+    let else1 = c .before .before .before .before .before in
+    let after-read-plant = else1 .before in
+    let start = after-read-plant .before .before in
     let narrow = c .before .before .narrow-fault in
-    let read = c .before .before .before .before .before .before .read-plant in
-    home-good (now (c .before .before .before .before .before .before .before .before .args .file)) (read .result) (read-in (c .before .before .before .before .before .before)) (c .before .before .before .before .before .if1 .left)
+    let read = after-read-plant .read-plant in
+    home-good (now (start .args .file)) (read .result) (read-in after-read-plant) (else1 .if1 .left)
     (narrow .result) (narrow .ensures) (c .before .if2 .left) (c .move-all .result) (c .move-all .ensures)
 
 pub read-home-spec : {M : Type 1} → statement M

@@ -18,8 +18,10 @@ same-length c = search needs
 
 returns : tie.Need-returns
 returns c =
-    let file = now (c .before .before .before .before .before .before .before .args .file) in
-    c .before .before .write-read .ensures (toRanged (readPlant file)) (to-good file) (c .before .before .before .before .read-forward .ensures)
+    let after-read-forward = c .before .before .before .before in
+    let start = after-read-forward .before .before .before in
+    let file = now (start .args .file) in
+    c .before .before .write-read .ensures (toRanged (readPlant file)) (to-good file) (after-read-forward .read-forward .ensures)
 
 pub to-ranged-spec : {M : Type 1} → statement M
 to-ranged-spec = tie.close (tie.spec read-forward-requires write-read-requires same-length returns)

@@ -29,17 +29,21 @@ overfilled-requires c κs = search needs
 
 returns : tie.Need-returns
 returns c =
-    let p = c .before .before .before .before .before .before .before .args .p in
-    let solved = c .before .before .before .before .solve in
+    let after-solve = c .before .before .before .before in
+    let start = after-solve .before .before .before in
+    let p = start .args .p in
+    let solved = after-solve .solve in
     says-overfull (plantOf p) (c .overfilled .result) (solved .result .marked) (c .overfilled .ensures)
     (right-overfull p (solved .result) (solved .ensures) (not-true (solved .result .found) (c .before .if1 .taken)))
 
 balance-by-requires : tie.Need-balance-by-requires
 balance-by-requires c κs =
-    let start = c .before .before .before .before .before .before in
-    let solved = c .before .before .before .solve in (
+    let after-solve = c .before .before .before in
+    let after-cuts-of = after-solve .before .before in
+    let start = after-cuts-of .before in
+    let solved = after-solve .solve in (
       start .pre,
-      c .before .before .before .before .before .cuts-of .ensures,
+      after-cuts-of .cuts-of .ensures,
       right-found (start .args .p) (solved .result) (solved .ensures) (not-false (solved .result .found) (c .if1 .left)),
     )
 

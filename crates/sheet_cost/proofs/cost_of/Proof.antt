@@ -45,7 +45,9 @@ flow-is : (c : tie.After-stream-cost-arg Inv-loop μ-loop) → let xs = c .befor
     let i = c .before .before .before .loop .i in
     toZ w64 (ofZ w64 (amountAt xs i)) ≡ amountAt xs i
 flow-is c =
-    let f : SFits w64 (getD (c .before .before .before .before .args .t2) (c .before .before .before .loop .i) (pos 0)) = search needs in
+    let at-loop = c .before .before .before in
+    let start = at-loop .before in
+    let f : SFits w64 (getD (start .args .t2) (at-loop .loop .i) (pos 0)) = search needs in
     toZ-ofZ f
 
 stream-cost-requires : tie.Need-stream-cost-requires Inv-loop μ-loop
@@ -55,8 +57,13 @@ stream-cost-requires c κs =
 
 -- What it costs.
 costs : (c : tie.After-stream-cost Inv-loop μ-loop)
-    → c .stream-cost .result ≡ capped (streamCost (getD (c .before .before .before .before .before .args .t1 .streams) (c .before .before .before .before .loop .i) noStream) (amountAt (c .before .before .before .before .before .args .t2) (c .before .before .before .before .loop .i)))
-costs c = c .stream-cost .ensures ∙ ap (λ (x : ℤ). capped (streamCost (getD (c .before .before .before .before .before .args .t1 .streams) (c .before .before .before .before .loop .i) noStream) x)) (flow-is (c .before))
+    → let at-loop = c .before .before .before .before in
+    let start = at-loop .before in
+    c .stream-cost .result ≡ capped (streamCost (getD (start .args .t1 .streams) (at-loop .loop .i) noStream) (amountAt (start .args .t2) (at-loop .loop .i)))
+costs c =
+    let at-loop = c .before .before .before .before in
+    let start = at-loop .before in
+    c .stream-cost .ensures ∙ ap (λ (x : ℤ). capped (streamCost (getD (start .args .t1 .streams) (at-loop .loop .i) noStream) x)) (flow-is (c .before))
 
 capped-sum-requires : tie.Need-capped-sum-requires Inv-loop μ-loop
 capped-sum-requires c κs = search needs

@@ -20,16 +20,18 @@ returns c = unmetered-cost (c .before .before .args .s) (c .before .before .args
 
 cast-size-of : tie.Need-cast-size-of
 cast-size-of c =
-    let z = c .before .before .before .before .args .s .reading in
-    let f = reads (c .before .before .before .before) in
+    let start = c .before .before .before .before in
+    let z = start .args .s .reading in
+    let f = reads start in
     rw (toZ-ofZ w32 z f) (wide z f)
 
 sub-size-of : tie.Need-sub-size-of
 sub-size-of c =
-    let s = c .before .before .before .before .args .s in
-    let x = c .before .before .before .before .args .flow in
-    let f = reads (c .before .before .before .before) in
-    rw (correction-is x (s .reading) (c .before .before .before .before .fits .flow) f) (correction-fits x (s .reading) (c .before .before .before .before .pre .1) f)
+    let start = c .before .before .before .before in
+    let s = start .args .s in
+    let x = start .args .flow in
+    let f = reads start in
+    rw (correction-is x (s .reading) (start .fits .flow) f) (correction-fits x (s .reading) (start .pre .1) f)
 
 size-of-requires : tie.Need-size-of-requires
 size-of-requires c κs = search needs
@@ -39,15 +41,17 @@ cast-weighed-square c = search needs
 
 weighed-square-requires : tie.Need-weighed-square-requires
 weighed-square-requires c κs =
-    let start = c .before .before .before .before .before .before in
-    start .pre .0 .weighed (not-false (start .args .s .metered) (c .before .before .before .before .if1 .left))
+    let else1 = c .before .before .before .before in
+    let start = else1 .before .before in
+    start .pre .0 .weighed (not-false (start .args .s .metered) (else1 .if1 .left))
 
 returns-2 : tie.Need-returns-2
 returns-2 c =
-    let start = c .before .before .before .before .before .before .before in
+    let else1 = c .before .before .before .before .before in
+    let start = else1 .before .before in
     let s = start .args .s in
     let x = start .args .flow in
-    let m = not-false (s .metered) (c .before .before .before .before .before .if1 .left) in
+    let m = not-false (s .metered) (else1 .if1 .left) in
     let d = c .before .before .size-of in
     let q = correction-is x (s .reading) (start .fits .flow) (reads start) in
     let f = correction-fits x (s .reading) (start .pre .1) (reads start) in

@@ -24,7 +24,10 @@ degrees-of-requires : tie.Need-degrees-of-requires
 degrees-of-requires c κs = search needs
 
 adjusted-weights-requires : tie.Need-adjusted-weights-requires
-adjusted-weights-requires c κs = (c .before .before .before .before .before .before .pre .0, c .before .before .before .before .before .classes-of .ensures)
+adjusted-weights-requires c κs =
+    let after-classes-of = c .before .before .before .before .before in
+    let start = after-classes-of .before in
+    (start .pre .0, after-classes-of .classes-of .ensures)
 
 verdict-requires : tie.Need-verdict-requires
 verdict-requires c κs = search needs
@@ -34,14 +37,19 @@ entries-of-requires c κs = search needs
 
 returns : tie.Need-returns
 returns c =
-    let start = c .before .before .before .before .before .before .before .before .before in
-    let opened = c .before .before .before .before .before .opened-flows in
-    let classes = c .before .before .before .before .before .before .before .before .classes-of in
-    let cost = c .before .before .before .before .cost-of in
-    let degrees = c .before .before .before .degrees-of in
+    let after-degrees-of = c .before .before .before in
+    let after-cost-of = after-degrees-of .before in
+    let after-opened-flows = after-cost-of .before in
+    let after-classes-of = after-opened-flows .before .before .before in
+    let start = after-classes-of .before in
+    let opened = after-opened-flows .opened-flows in
+    let classes = after-classes-of .classes-of in
+    let cost = after-cost-of .cost-of in
+    let degrees = after-degrees-of .degrees-of in
     let weights = c .before .before .adjusted-weights in
     let verdict = c .before .verdict in
-    balanced-so (start .args .p) (start .pre .0) (start .args .solved) (start .pre .2) (opened .result) (opened .ensures) (classes .result) (c .entries-of .result) (cost .result) (degrees .result) (weights .result) (verdict .result)
+    balanced-so (start .args .p) (start .pre .0) (start .args .solved) (start .pre .2) (opened .result) (opened .ensures) (classes .result) (c .entries-of .result) (cost .result)
+    (degrees .result) (weights .result) (verdict .result)
     (classes .ensures) (c .entries-of .ensures) (cost .ensures) (degrees .ensures .0) (weights .ensures) (omega arith) (verdict .ensures)
 
 pub balance-by-spec : {M : Type 1} → statement M

@@ -38,9 +38,9 @@ array-read-class-of c = search needs
 
 class-of-requires : tie.Need-class-of-requires Inv-loop μ-loop
 class-of-requires c κs =
-    let st = c .before .before .before .before .before .before in
+    let start = c .before .before .before .before .before .before in
     let lt = c .before .before .loop-test .taken in
-    (stream-within (st .args .t1) (st .pre .0) _ lt, st .pre .1 .grouped .long, st .pre .1 .low _ lt)
+    (stream-within (start .args .t1) (start .pre .0) _ lt, start .pre .1 .grouped .long, start .pre .1 .low _ lt)
 
 array-set-from-r : tie.Need-array-set-from-r Inv-loop μ-loop
 array-set-from-r c = search needs
@@ -53,17 +53,19 @@ loop-less c = search needs
 
 loop-again : tie.Need-loop-again Inv-loop μ-loop
 loop-again c =
-    let st = c .before .before .before .before .before .before .before in
-    let at = c .before .before .before .before .loop in
-    let class = class-in (st .pre .0) (st .pre .1) (at .i) (c .before .before .before .loop-test .taken) in
-    (omega arith, written-put (at .inv .1) (omega (arith, st .pre .0 .within .few-streams)) _ (c .class-of .ensures ∙ class))
+    let in-loop = c .before .before .before in
+    let at-loop = in-loop .before in
+    let start = at-loop .before .before .before in
+    let at = at-loop .loop in
+    let class = class-in (start .pre .0) (start .pre .1) (at .i) (in-loop .loop-test .taken) in
+    (omega arith, written-put (at .inv .1) (omega (arith, start .pre .0 .within .few-streams)) _ (c .class-of .ensures ∙ class))
 
 returns : tie.Need-returns Inv-loop μ-loop
 returns c =
-    let st = c .before .before .before .before in
+    let start = c .before .before .before .before in
     let at = c .before .loop in
-    let e : at .i ≡ st .args .t1 .count = omega arith in
-    classes-all (plantOf (st .args .t1)) (at .i) maxStreams _ (all-listed (st .args .t1) (st .pre .0) ∙ sym e) (at .inv .1)
+    let e : at .i ≡ start .args .t1 .count = omega arith in
+    classes-all (plantOf (start .args .t1)) (at .i) maxStreams _ (all-listed (start .args .t1) (start .pre .0) ∙ sym e) (at .inv .1)
 
 pub classes-of-spec : {M : Type 1} → statement M
 classes-of-spec =

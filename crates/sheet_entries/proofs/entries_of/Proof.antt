@@ -9,7 +9,7 @@ use mir.Syntax.{w64}
 use mir.Val.{SFits}
 use mir.Facts.{toZ-ofZ}
 use Rattle.plant_def.specs.Limits.{maxStreams}
-use Rattle.flow_def.specs.declared.Class.the-variants.{Adjusted, Withheld}
+use Rattle.flow_def.specs.declared.Class.the-variants.{Adjusted}
 use Rattle.flow_def.specs.Flows.{amountAt}
 use Rattle.flow_def.proofs.Lists.{Written, written-none, written-put}
 use Rattle.sheet_def.specs.declared.Entry.{Entry}
@@ -25,8 +25,11 @@ Inv-loop classes flows streams₀ i₀ streams i = (i ≤ maxStreams) × Written
 abbrev μ-loop : tie.MeasureT-loop
 μ-loop classes flows streams₀ i₀ streams i = maxStreams - i
 
+blank-entry-requires : tie.Need-blank-entry-requires Inv-loop μ-loop
+blank-entry-requires c κs = search needs
+
 loop-holds : tie.Need-loop-holds Inv-loop μ-loop
-loop-holds c = (omega arith, written-none (length-replicate {A = Entry} maxStreams (entryOf Withheld (pos 0))))
+loop-holds c = (omega arith, written-none (length-replicate {A = Entry} maxStreams (c .blank-entry .result)))
 
 array-copy-out-c : tie.Need-array-copy-out-c Inv-loop μ-loop
 array-copy-out-c c = search needs
@@ -54,15 +57,17 @@ loop-less c = search needs
 
 loop-again : tie.Need-loop-again Inv-loop μ-loop
 loop-again c =
-    let a = c .before .before .before .before .before .args in
-    let at = c .before .before .before .before .loop in
+    let at-loop = c .before .before .before .before in
+    let start = at-loop .before .before in
+    let a = start .args in
+    let at = at-loop .loop in
     let f : SFits w64 (getD (a .t2) (at .i) (pos 0)) = search needs in
     (omega arith, written-put (at .inv .1) (omega arith) _ (c .entry-of .ensures ∙ ap (entryOf (getD (a .t1) (at .i) Adjusted)) (toZ-ofZ f)))
 
 returns : tie.Need-returns Inv-loop μ-loop
 returns c =
     let e : c .before .loop .i ≡ maxStreams = omega arith in
-    let a = c .before .before .args in
+    let a = c .before .before .before .args in
     entries-all (a .t1) (a .t2) noEntry _ _ (rw e at (c .before .loop .inv .1))
 
 pub entries-of-spec : {M : Type 1} → statement M
@@ -71,6 +76,7 @@ entries-of-spec =
     (tie.spec
     Inv-loop
     μ-loop
+    blank-entry-requires
     loop-holds
     array-copy-out-c
     mul-entry-of

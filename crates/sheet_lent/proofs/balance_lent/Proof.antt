@@ -6,7 +6,7 @@ use mathlib.Core.Path.{refl, subst}
 use mathlib.Core.List.{List}
 use Prim.Native.Nat.{ℕ}
 use Rattle.sheet_def.specs.Says.{SheetSays}
-use Rattle.num_lent.specs.Marks.{marksIn}
+use Rattle.sheet_lent.specs.Bits.{withBits}
 use Rattle.sheet_lent.proofs.Lending.{too-few, enough}
 use Rattle.sheet_lent.proofs.balance_lent.Statement.{statement}
 use Rattle.sheet_lent.proofs.balance_lent.Tie as tie
@@ -33,14 +33,21 @@ same-length-2 c = search needs
 
 returns-2 : tie.Need-returns-2
 returns-2 c =
-    let a = c .before .before .before .before .before .before .before .before .before .before .before .before .before .before .before .args in
-    let drawn = c .before .before .before .before .before .before .before .balance-marked in
-    let put = c .before .before .put-lasts in (
-      enough (now (a .file)) (a .office) (now (a .lasts)) (now (a .sheet)) (drawn .last .1 .1 .1 .0)
-          (record { number = drawn .result .number; written = drawn .result .written; lasts = put .last .1 .0; marked = marksIn (drawn .result .bits) })
-          (c .before .before .before .before .before .before .before .before .before .before .before .if1 .left) (drawn .result .lasts) (put .ensures .1) (put .ensures .0)
-          (subst (λ (ls : List ℕ). SheetSays (now (a .file)) (a .office) ls (now (a .sheet)) (drawn .last .1 .1 .1 .0)
-          (record { number = drawn .result .number; written = drawn .result .written; lasts = drawn .result .lasts; marked = marksIn (drawn .result .bits) })) (c .before .before .before .before .before .before .before .before .before .lasts-in .ensures) (drawn .ensures .0)),
+    let after-put-lasts-arg = c .before .before .before in
+    let after-balance-marked = after-put-lasts-arg .before .before .before .before in
+    let after-lasts-in = after-balance-marked .before .before in
+    let else1 = after-lasts-in .before .before in
+    let start = else1 .before .before .before .before in
+    let a = start .args in
+    let drawn = after-balance-marked .balance-marked in
+    let y = drawn .result in
+    let o = now (a .sheet) in
+    let o′ = drawn .last .1 .1 .1 .0 in
+    let put = c .before .before .put-lasts in
+    let said = subst (λ (ls : List ℕ). SheetSays (now (a .file)) (a .office) ls o o′ (withBits (y .number) (y .written) (y .lasts) (y .bits)))
+    (after-lasts-in .lasts-in .ensures) (drawn .ensures .0) in (
+      enough (now (a .file)) (a .office) (now (a .lasts)) o o′ (withBits (y .number) (y .written) (put .last .1 .0) (y .bits))
+          (else1 .if1 .left) (y .lasts) (put .ensures .1) (put .ensures .0) said,
       drawn .ensures .1,
     )
 

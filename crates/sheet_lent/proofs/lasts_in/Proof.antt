@@ -30,7 +30,10 @@ shared-slice-read-t17 : tie.Need-shared-slice-read-t17
 shared-slice-read-t17 c = search needs
 
 returns : tie.Need-returns
-returns c = let start = c .before .before .before .before .before .before .before .before in eight (now (start .args .lasts)) (start .pre)
+returns c =
+    let after-shared-slice-known4 = c .before .before .before .before in
+    let start = after-shared-slice-known4 .before .before .before .before in
+    eight (now (start .args .lasts)) (start .pre)
 
 pub lasts-in-spec : {M : Type 1} → statement M
 lasts-in-spec =

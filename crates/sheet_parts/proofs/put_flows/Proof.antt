@@ -46,9 +46,11 @@ loop-less c = omega (arith, c .before .before .loop-test .taken)
 
 loop-again : tie.Need-loop-again Inv-loop μ-loop
 loop-again c =
-    let e = getD (c .before .before .before .before .args .t2) (c .before .before .before .loop .k) noEntry in
+    let at-loop = c .before .before .before in
+    let start = at-loop .before in
+    let e = getD (start .args .t2) (at-loop .loop .k) noEntry in
     let f : SFits w64 (e .flow) = search needs in
-    one-handed shown (c .before .before .before .loop .inv) noEntry (toZ w64 (ofZ w64 (e .flow))) (c .before .before .loop-test .taken) (toZ-ofZ f)
+    one-handed shown (at-loop .loop .inv) noEntry (toZ w64 (ofZ w64 (e .flow))) (c .before .before .loop-test .taken) (toZ-ofZ f)
 
 same-length : tie.Need-same-length Inv-loop μ-loop
 same-length c = slice-long shown (c .before .loop .inv)

@@ -30,9 +30,12 @@ shared-slice-read-t13 : tie.Need-shared-slice-read-t13
 shared-slice-read-t13 c = search needs
 
 returns : tie.Need-returns
-returns c = let a = c .before .before .before .before .before .before .args in
+returns c =
+    let after-get-u32 = c .before .before .before .before in
+    let start = after-get-u32 .before .before in
+    let a = start .args in
     let b = now (a .body) in
-    let n = c .before .before .before .before .get-u32 .ensures in
+    let n = after-get-u32 .get-u32 .ensures in
     let k = c .before .before .get-u64 .ensures ∙ ap (be 0 8) (part-is 4 b) in
     λ i. record { kind = a .kind; office = a .office; sheet = n i; cost = k i; degrees = getD b 12 0; verdict = getD b 13 0 }
 

@@ -28,11 +28,15 @@ verdict-fits-requires c κs = search needs
 
 returns-4 : tie.Need-returns-4
 returns-4 c =
-    by-verdict _ _ _ _ true (lt-ltb _ _ (c .before .before .before .before .before .before .if1 .left)) (ne-eqb _ 0 (c .before .before .before .before .if2 .left)) (le-leb _ _ (c .before .before .if3 .left)) (sym (c .if4 .taken) ∙ c .before .verdict-fits .ensures)
+    let else2 = c .before .before .before .before in
+    let else1 = else2 .before .before in
+    by-verdict _ _ _ _ true (lt-ltb _ _ (else1 .if1 .left)) (ne-eqb _ 0 (else2 .if2 .left)) (le-leb _ _ (c .before .before .if3 .left)) (sym (c .if4 .taken) ∙ c .before .verdict-fits .ensures)
 
 returns-5 : tie.Need-returns-5
 returns-5 c =
-    by-verdict _ _ _ _ false (lt-ltb _ _ (c .before .before .before .before .before .before .if1 .left)) (ne-eqb _ 0 (c .before .before .before .before .if2 .left)) (le-leb _ _ (c .before .before .if3 .left)) (sym (c .if4 .left) ∙ c .before .verdict-fits .ensures)
+    let else2 = c .before .before .before .before in
+    let else1 = else2 .before .before in
+    by-verdict _ _ _ _ false (lt-ltb _ _ (else1 .if1 .left)) (ne-eqb _ 0 (else2 .if2 .left)) (le-leb _ _ (c .before .before .if3 .left)) (sym (c .if4 .left) ∙ c .before .verdict-fits .ensures)
 
 pub fields-fault-spec : {M : Type 1} → statement M
 fields-fault-spec = tie.close (tie.spec cast-if1 returns returns-2 returns-3 verdict-fits-requires returns-4 returns-5)

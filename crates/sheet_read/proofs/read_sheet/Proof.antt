@@ -20,8 +20,10 @@ abbrev μ-loop : tie.MeasureT-loop
 
 -- A stream was found.
 listed-here : (c : tie.After-known-told Inv-loop μ-loop)
-    → Listed (c .before .found .given .0 .0) (c .before .found .given .0 .1 .0)
-    ≡ recordAt (c .before .before .before .before .before .loop .count) (partFrom (c .before .before .before .before .before .loop .at) (now (c .before .before .before .before .before .before .before .before .args .bytes)))
+    → let at-loop = c .before .before .before .before .before in
+    let start = at-loop .before .before .before in
+    Listed (c .before .found .given .0 .0) (c .before .found .given .0 .1 .0)
+    ≡ recordAt (at-loop .loop .count) (partFrom (at-loop .loop .at) (now (start .args .bytes)))
 listed-here c = sym (c .before .found .given .1) ∙ c .before .before .before .read-record .ensures
 
 blank-entry-requires : tie.Need-blank-entry-requires Inv-loop μ-loop
@@ -55,11 +57,18 @@ refusal-requires : tie.Need-refusal-requires Inv-loop μ-loop
 refusal-requires c κs = search needs
 
 returns : tie.Need-returns Inv-loop μ-loop
-returns c = refused-here (c .before .before .before .before .before .before .loop .inv) _ (c .before .before .before .before .read-record .ensures) (c .before .before .before .match .keys2) (c .before .before .match2 .keys2) (c .refusal .result)
+returns c =
+    let at-match-keys2 = c .before .before .before in
+    let after-read-record = at-match-keys2 .before in
+    let at-loop = after-read-record .before .before in
+    refused-here (at-loop .loop .inv) _ (after-read-record .read-record .ensures) (at-match-keys2 .match .keys2) (c .before .before .match2 .keys2) (c .refusal .result)
     (c .refusal .ensures ∙ ap (λ (f : ℕ). readOf (noSheet f)) (c .before .record-number .ensures))
 
 returns-2 : tie.Need-returns-2 Inv-loop μ-loop
-returns-2 c = ended-here (c .before .before .before .before .before .before .loop .inv) (sym (c .before .found2 .given .1) ∙ c .before .before .before .before .read-record .ensures)
+returns-2 c =
+    let after-read-record = c .before .before .before .before in
+    let at-loop = after-read-record .before .before in
+    ended-here (at-loop .loop .inv) (sym (c .before .found2 .given .1) ∙ after-read-record .read-record .ensures)
 
 cast-next : tie.Need-cast-next Inv-loop μ-loop
 cast-next c = search needs
@@ -74,7 +83,11 @@ add-count : tie.Need-add-count Inv-loop μ-loop
 add-count c = search needs
 
 add-at : tie.Need-add-at Inv-loop μ-loop
-add-at c = let n = turn (c .before .before .before .before .before .loop .inv) (listed-here c) in omega (arith, n .within, c .before .before .before .before .before .before .before .before .good)
+add-at c =
+    let at-loop = c .before .before .before .before .before in
+    let start = at-loop .before .before .before in
+    let n = turn (at-loop .loop .inv) (listed-here c) in
+    omega (arith, n .within, start .good)
 
 loop-less : tie.Need-loop-less Inv-loop μ-loop
 loop-less c = search needs

@@ -41,11 +41,14 @@ get-i64-requires : tie.Need-get-i64-requires
 get-i64-requires c κs = omega (arith, whole (c .before), length-part 1 (now (c .before .before .before .before .args .s)))
 
 returns-2 : tie.Need-returns-2
-returns-2 c = let a = c .before .before .before .before .before .args in
+returns-2 c =
+    let after-unfit = c .before .before .before in
+    let start = after-unfit .before .before in
+    let a = start .args in
     let f : SFits w64 (c .get-i64 .result) = record { sfits = c .get-i64 .ok } in
     let x = toZ-ofZ f ∙ c .get-i64 .ensures ∙ ap (λ (s : List ℕ). signed 8 (be 0 8 s)) (part-is 1 (now (a .s))) in
     (λ i. Listed (record { class = a .class; flow = x i }) streamSize)
-    ∙ fit-listed streamSize (shownIn (a .class) (now (a .s))) (a .count) (now (a .s)) _ (c .before .before .before .unfit .ensures) (c .before .before .if1 .left)
+    ∙ fit-listed streamSize (shownIn (a .class) (now (a .s))) (a .count) (now (a .s)) _ (after-unfit .unfit .ensures) (c .before .before .if1 .left)
 
 pub read-shown-spec : {M : Type 1} → statement M
 read-shown-spec =

@@ -39,7 +39,11 @@ end-with-requires : tie.Need-end-with-requires
 end-with-requires c κs = there (c .before .before .before)
 
 returns-2 : tie.Need-returns-2
-returns-2 c = let s = now (c .before .before .before .before .before .before .before .args .s) in total-behind totalSize 2 totalKind (getD s 1 0) s (c .before .body-in .ensures) (c .end-with .ensures)
+returns-2 c =
+    let else1 = c .before .before .before .before in
+    let start = else1 .before .before .before in
+    let s = now (start .args .s) in
+    total-behind totalSize 2 totalKind (getD s 1 0) s (c .before .body-in .ensures) (c .end-with .ensures)
 
 pub read-total-spec : {M : Type 1} → statement M
 read-total-spec =

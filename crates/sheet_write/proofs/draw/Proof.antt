@@ -31,13 +31,15 @@ add-next c =
 
 put-sheet-requires : tie.Need-put-sheet-requires
 put-sheet-requires c κs =
-    let start = c .before .before .before .before .before .before .before in
+    let else1 = c .before .before .before in
+    let start = else1 .before .before .before .before in
     (start .pre .0, long-enough (start .args .office) (start .args .lasts) (now (start .args .sheet)) (start .pre .1))
 
 raise-requires : tie.Need-raise-requires
 raise-requires c κs =
-    let start = c .before .before .before .before .before .before .before .before .before .before in
-    let last = c .before .before .before .before .last-of in
+    let after-last-of = c .before .before .before .before in
+    let start = after-last-of .before .before .before .before .before .before in
+    let last = after-last-of .last-of in
     let f : Fits w32 (last .result) = search needs in (
       has-counter (start .args .office) (start .args .lasts) (now (start .args .sheet)) (start .pre .1),
       omega (arith, one-left (start .args .office) (start .args .lasts) (now (start .args .sheet)) (start .pre .1), last .ensures, f .fits),
@@ -48,11 +50,15 @@ same-length c = search needs
 
 returns-2 : tie.Need-returns-2
 returns-2 c =
-    let a = c .before .before .before .before .before .before .before .before .before .before .before .args in
-    let put = c .before .before .before .put-sheet in
-    let last = c .before .before .before .before .before .last-of in
+    let after-put-sheet = c .before .before .before in
+    let after-last-of = after-put-sheet .before .before in
+    let else1 = after-last-of .before .before in
+    let start = else1 .before .before .before .before in
+    let a = start .args in
+    let put = after-put-sheet .put-sheet in
+    let last = after-last-of .last-of in
     drawn-sheet (a .count) (a .office) (a .lasts) (a .outcome) (now (a .sheet)) (put .last .1 .1 .1 .1 .0) (put .result) (last .result) (c .raise .result)
-    (not-false (a .outcome .found) (c .before .before .before .before .before .before .before .if1 .left)) (last .ensures) (c .raise .ensures) (put .ensures)
+    (not-false (a .outcome .found) (else1 .if1 .left)) (last .ensures) (c .raise .ensures) (put .ensures)
 
 pub draw-spec : {M : Type 1} → statement M
 draw-spec =

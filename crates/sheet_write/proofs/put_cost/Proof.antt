@@ -42,9 +42,12 @@ same-length c = search needs
 
 returns : tie.Need-returns
 returns c =
-    let a = c .before .before .before .before .before .before .before .before .before .before .before .before .before .args in
-    let cost = laid (putBe 8 (a .cost)) (now (a .out)) (omega arith) (c .before .before .before .before .before .before .before .before .before .before .put-u64 .ensures) in
-    let degrees = lay cost (a .degrees ∷ []) (omega arith) (c .before .before .before .before .before .before .put-u8 .ensures) in
+    let after-put-u8 = c .before .before .before .before .before .before in
+    let after-put-u64 = after-put-u8 .before .before .before .before in
+    let start = after-put-u64 .before .before .before in
+    let a = start .args in
+    let cost = laid (putBe 8 (a .cost)) (now (a .out)) (omega arith) (after-put-u64 .put-u64 .ensures) in
+    let degrees = lay cost (a .degrees ∷ []) (omega arith) (after-put-u8 .put-u8 .ensures) in
     lay degrees (a .verdict ∷ []) (omega arith) (c .before .before .put-u82 .ensures) .bytes
     ∙ ap (λ (l : List ℕ). over l (now (a .out))) (append-assoc (putBe 8 (a .cost)) (a .degrees ∷ []) (a .verdict ∷ []))
 

@@ -33,11 +33,13 @@ same-length c = search needs
 
 returns : tie.Need-returns
 returns c =
-    let a = c .before .before .before .before .before .before .before .before .before .args in
+    let after-put-u8 = c .before .before .before .before .before .before in
+    let start = after-put-u8 .before .before .before in
+    let a = start .args in
     let o = now (a .out) in
-    let kind = laid (a .kind ∷ []) o (omega arith) (c .before .before .before .before .before .before .put-u8 .ensures) in
+    let kind = laid (a .kind ∷ []) o (omega arith) (after-put-u8 .put-u8 .ensures) in
     let all = lay kind (putBe 8 (raw 8 (toZ w64 (ofZ w64 (a .flow))))) (omega arith) (c .before .before .put-i64 .ensures) in
-    all .bytes ∙ ap (λ (z : ℤ). over (a .kind ∷ putBe 8 (raw 8 z)) o) (toZ-ofZ (c .before .before .before .before .before .before .before .before .before .fits .flow))
+    all .bytes ∙ ap (λ (z : ℤ). over (a .kind ∷ putBe 8 (raw 8 z)) o) (toZ-ofZ (start .fits .flow))
 
 pub put-flow-spec : {M : Type 1} → statement M
 put-flow-spec =

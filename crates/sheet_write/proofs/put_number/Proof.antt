@@ -41,9 +41,12 @@ same-length c = search needs
 
 returns : tie.Need-returns
 returns c =
-    let a = c .before .before .before .before .before .before .before .before .before .before .before .before .before .args in
-    let kind = laid (totalKind ∷ []) (now (a .out)) (omega arith) (c .before .before .before .before .before .before .before .before .before .before .put-u8 .ensures) in
-    let office = lay kind (a .office ∷ []) (omega arith) (c .before .before .before .before .before .before .put-u82 .ensures) in
+    let after-put-u82 = c .before .before .before .before .before .before in
+    let after-put-u8 = after-put-u82 .before .before .before .before in
+    let start = after-put-u8 .before .before .before in
+    let a = start .args in
+    let kind = laid (totalKind ∷ []) (now (a .out)) (omega arith) (after-put-u8 .put-u8 .ensures) in
+    let office = lay kind (a .office ∷ []) (omega arith) (after-put-u82 .put-u82 .ensures) in
     lay office (putBe 4 (a .number)) (omega arith) (c .before .before .put-u32 .ensures) .bytes
 
 pub put-number-spec : {M : Type 1} → statement M

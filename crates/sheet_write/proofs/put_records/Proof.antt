@@ -28,20 +28,34 @@ abbrev μ-loop : tie.MeasureT-loop
 μ-loop count out₀ streams at₀ i₀ out at i = count - i
 
 -- The record is written.
-written : (c : tie.After-slice-known2 Inv-loop μ-loop) → let a = c .before .before .before .before .before .before .before .before .before .args in
-    let l = c .before .before .before .before .before .before .before .loop in
-    Rows (λ k. recordsOf (take k (a .t2))) streamSize (a .count) (now (a .out)) (returned (l .at) (l .out) (c .before .before .put-record .last .1 .1 .0)) (l .at + c .before .before .put-record .result) (l .i + 1)
+written : (c : tie.After-slice-known2 Inv-loop μ-loop)
+    → let after-put-record = c .before .before in
+    let at-loop = after-put-record .before .before .before .before .before in
+    let start = at-loop .before .before in
+    let a = start .args in
+    let l = at-loop .loop in
+    Rows (λ k. recordsOf (take k (a .t2))) streamSize (a .count) (now (a .out)) (returned (l .at) (l .out) (after-put-record .put-record .last .1 .1 .0))
+    (l .at + after-put-record .put-record .result) (l .i + 1)
 written c =
-    let a = c .before .before .before .before .before .before .before .before .before .args in
-    let l = c .before .before .before .before .before .before .before .loop in
+    let after-put-record = c .before .before in
+    let in-loop = after-put-record .before .before .before .before in
+    let at-loop = in-loop .before in
+    let start = at-loop .before .before in
+    let a = start .args in
+    let l = at-loop .loop in
     let e = getD (a .t2) (l .i) noEntry in
-    let lt = c .before .before .before .before .before .before .loop-test .taken in
+    let lt = in-loop .loop-test .taken in
     let f : SFits w64 (e .flow) = search needs in
-    let put : Put (recordOf (e .class) (e .flow)) (partFrom (l .at) (l .out)) (c .before .before .put-record .last .1 .1 .0) (c .before .before .put-record .result) = rw (toZ-ofZ f) at (c .before .before .put-record .ensures) in
-    one-row (l .inv .2) (recordOf (e .class) (e .flow)) {last = c .before .before .put-record .last .1 .1 .0} {m = c .before .before .put-record .result} lt (records-more (a .t2) (l .i) noEntry (omega (arith, l .inv .0, l .inv .1))) (record-most (e .class) (e .flow)) put
+    let put : Put (recordOf (e .class) (e .flow)) (partFrom (l .at) (l .out)) (after-put-record .put-record .last .1 .1 .0) (after-put-record .put-record .result) = rw (toZ-ofZ f) at
+    (after-put-record .put-record .ensures) in
+    one-row (l .inv .2) (recordOf (e .class) (e .flow)) {last = after-put-record .put-record .last .1 .1 .0} {m = after-put-record .put-record .result} lt
+    (records-more (a .t2) (l .i) noEntry (omega (arith, l .inv .0, l .inv .1))) (record-most (e .class) (e .flow)) put
 
 loop-holds : tie.Need-loop-holds Inv-loop μ-loop
-loop-holds c = (c .before .pre .0, search needs, no-rows (λ k. recordsOf (take k (c .before .args .t2))) streamSize (c .before .args .count) (now (c .before .args .out)) refl (omega (arith, c .before .pre .0, c .before .pre .1)))
+loop-holds c =
+    let a = c .before .args in
+    let p = c .before .pre in
+    (p .0, search needs, no-rows (λ k. recordsOf (take k (a .t2))) streamSize (a .count) (now (a .out)) refl (omega (arith, p .0, p .1)))
 
 mul-e : tie.Need-mul-e Inv-loop μ-loop
 mul-e c = search needs
@@ -59,10 +73,16 @@ part-put-record-end : tie.Need-part-put-record-end Inv-loop μ-loop
 part-put-record-end c = search needs
 
 put-record-requires : tie.Need-put-record-requires Inv-loop μ-loop
-put-record-requires c κs = rows-room (c .before .before .before .before .loop .inv .2) (c .before .before .before .loop-test .taken)
+put-record-requires c κs =
+    let in-loop = c .before .before .before in
+    let at-loop = in-loop .before in
+    rows-room (at-loop .loop .inv .2) (in-loop .loop-test .taken)
 
 add-at : tie.Need-add-at Inv-loop μ-loop
-add-at c = omega (arith, rows-lend (written c), rows-long (written c), c .before .before .before .before .before .before .before .before .before .good)
+add-at c =
+    let after-put-record-arg = c .before .before .before .before in
+    let start = after-put-record-arg .before .before .before .before .before in
+    omega (arith, rows-lend (written c), rows-long (written c), start .good)
 
 add-i : tie.Need-add-i Inv-loop μ-loop
 add-i c = search needs
@@ -71,7 +91,10 @@ loop-less : tie.Need-loop-less Inv-loop μ-loop
 loop-less c = search needs
 
 loop-again : tie.Need-loop-again Inv-loop μ-loop
-loop-again c = (c .before .before .before .before .before .before .before .loop .inv .0, c .before .before .before .before .before .before .before .loop .inv .1, written c)
+loop-again c =
+    let after-put-record-arg = c .before .before .before .before in
+    let at-loop = after-put-record-arg .before .before .before in
+    (at-loop .loop .inv .0, at-loop .loop .inv .1, written c)
 
 same-length : tie.Need-same-length Inv-loop μ-loop
 same-length c = rows-long (c .before .loop .inv .2)

@@ -10,8 +10,9 @@ use Rattle.sheet_write.proofs.put_sheet.Tie as tie
 behind : (c : tie.After-slice-known2) → let a = c .before .before .before .before .before .before .args in
     Recorded (a .count) (a .b .streams) (now (a .out)) (c .before .before .put-records .last .1 .1 .0) (c .before .before .put-records .result)
 behind c =
-    let a = c .before .before .before .before .before .before .args in
-    recorded (a .count) (a .b .streams) (now (a .out)) (c .before .before .before .before .before .before .pre .0) (c .before .before .before .before .before .before .pre .1) (c .before .before .put-records .ensures)
+    let start = c .before .before .before .before .before .before in
+    let a = start .args in
+    recorded (a .count) (a .b .streams) (now (a .out)) (start .pre .0) (start .pre .1) (c .before .before .put-records .ensures)
 
 put-records-requires : tie.Need-put-records-requires
 put-records-requires c κs = search needs
@@ -26,7 +27,10 @@ part-put-total-end : tie.Need-part-put-total-end
 part-put-total-end c = search needs
 
 put-total-requires : tie.Need-put-total-requires
-put-total-requires c κs = total-room (c .before .before .before .before .before .before .before .args .b) (behind (c .before))
+put-total-requires c κs =
+    let after-put-records = c .before .before .before in
+    let start = after-put-records .before .before .before .before in
+    total-room (start .args .b) (behind (c .before))
 
 add-result : tie.Need-add-result
 add-result c = omega (arith, behind (c .before .before .before .before) .most)
@@ -36,8 +40,11 @@ same-length c = search needs
 
 returns : tie.Need-returns
 returns c =
-    let a = c .before .before .before .before .before .before .before .before .before .before .args in
-    sheet-put (a .b) (behind (c .before .before .before .before)) (a .office) (a .number) (c .before .before .put-total .last .1 .1 .1 .1 .1 .0) (c .before .before .put-total .ensures)
+    let after-put-total = c .before .before in
+    let after-slice-known2 = after-put-total .before .before in
+    let start = after-slice-known2 .before .before .before .before .before .before in
+    let a = start .args in
+    sheet-put (a .b) (behind after-slice-known2) (a .office) (a .number) (after-put-total .put-total .last .1 .1 .1 .1 .1 .0) (after-put-total .put-total .ensures)
 
 pub put-sheet-spec : {M : Type 1} → statement M
 put-sheet-spec =

@@ -29,8 +29,10 @@ same-length c = search needs
 
 returns : tie.Need-returns
 returns c =
-    let a = c .before .before .before .before .before .before .before .before .before .args in
-    let numbered = laid (totalKind ∷ a .office ∷ putBe 4 (a .number)) (now (a .out)) (omega arith) (c .before .before .before .before .before .before .put-number .ensures) in
+    let after-put-number = c .before .before .before .before .before .before in
+    let start = after-put-number .before .before .before in
+    let a = start .args in
+    let numbered = laid (totalKind ∷ a .office ∷ putBe 4 (a .number)) (now (a .out)) (omega arith) (after-put-number .put-number .ensures) in
     lay numbered (putBe 8 (a .cost) ++ (a .degrees ∷ a .verdict ∷ [])) (omega arith) (c .before .before .put-cost .ensures) .bytes
 
 pub put-total-spec : {M : Type 1} → statement M

@@ -16,9 +16,6 @@ pulled c = pull-most _ _ (c .pre .0) (c .pre .2)
 stepped : (c : tie.Start) → c .args .w * c .args .delta ≤ maxWeight * mostStep
 stepped c = mul-le-mul (c .pre .0) (c .pre .3)
 
-add-if1 : tie.Need-add-if1
-add-if1 c = search needs
-
 mul-result : tie.Need-mul-result
 mul-result c = omega (arith, stepped (c .before))
 
@@ -46,13 +43,5 @@ returns-2 c = λ high. rw (lt-leb _ _ (c .if1 .left))
 pub falling-spec : {M : Type 1} → statement M
 falling-spec =
     tie.close
-    (tie.spec
-    add-if1
-    mul-result
-    add-result
-    add-result-2
-    mul-result-2
-    mul-result-3
-    sub-result
-    returns
+    (tie.spec (λ c. search needs) mul-result add-result add-result-2 mul-result-2 mul-result-3 sub-result returns
     returns-2)

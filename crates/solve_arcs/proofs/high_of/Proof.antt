@@ -10,9 +10,6 @@ use Rattle.solve_def.proofs.Bounds.{high-is, high-free}
 use Rattle.solve_arcs.proofs.high_of.Statement.{statement}
 use Rattle.solve_arcs.proofs.high_of.Tie as tie
 
-hold-requires : tie.Need-hold-requires
-hold-requires c κs = search needs
-
 returns : tie.Need-returns
 returns c =
     let on = c .before .before in
@@ -27,4 +24,4 @@ returns-3 : tie.Need-returns-3
 returns-3 c = (sym (high-free (c .before .args .s) (rw (c .if1 .left))), omega arith)
 
 pub high-of-spec : {M : Type 1} → statement M
-high-of-spec = tie.close (tie.spec hold-requires returns returns-2 returns-3)
+high-of-spec = tie.close (tie.spec (λ c κs. search needs) returns returns-2 returns-3)

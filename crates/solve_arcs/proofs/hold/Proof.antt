@@ -16,9 +16,6 @@ fits c = search needs
 cast-result : tie.Need-cast-result
 cast-result c = let z = c .args .z in let f = fits c in rw (toZ-ofZ w32 z f) (wide z f)
 
-cast-result-2 : tie.Need-cast-result-2
-cast-result-2 c = search needs
-
 add-result : tie.Need-add-result
 add-result c =
     let z = c .args .z in
@@ -40,4 +37,4 @@ returns c =
     (refl, shifted-most z f)
 
 pub hold-spec : {M : Type 1} → statement M
-hold-spec = tie.close (tie.spec cast-result cast-result-2 add-result cast-result-3 returns)
+hold-spec = tie.close (tie.spec cast-result (λ c. search needs) add-result cast-result-3 returns)

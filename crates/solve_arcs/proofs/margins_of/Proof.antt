@@ -1,15 +1,12 @@
 -- `solve_arcs::margins_of` meets its contract: the first i streams have their margins.
 use mathlib.Core.Path.{_≡_}
-use Prim.Native.Nat.{_≤_, _-_, _+_}
+use Prim.Native.Nat.{_≤_, _-_}
 use native.Mathlib.Omega.{arith}
 use borrow.Author.Needs.{needs}
 use Rattle.solve_arcs.specs.ArcNeeds.{Margined}
 use Rattle.solve_arcs.proofs.Stores.{margined-none, margined-more}
 use Rattle.solve_arcs.proofs.margins_of.Statement.{statement}
 use Rattle.solve_arcs.proofs.margins_of.Tie as tie
-use Rattle.solve_arcs.proofs.margins_of.Reads as reads
-use Rattle.solve_arcs.proofs.margins_of.Lts as lts
-use Rattle.solve_arcs.proofs.put_margins.Reads as put-margins-reads
 
 abbrev Inv-loop : tie.InvT-loop
 Inv-loop rows margins₀ flows count delta i₀ margins i = (i ≤ count) × Margined i rows flows delta 0 margins
@@ -20,24 +17,12 @@ abbrev μ-loop : tie.MeasureT-loop
 loop-holds : tie.Need-loop-holds Inv-loop μ-loop
 loop-holds c = (omega arith, margined-none _ _ 0 _ (omega arith) _ (c .pre .4))
 
-mul-put-margins : tie.Need-mul-put-margins Inv-loop μ-loop
-mul-put-margins c = search needs
-
-element-copy-out-put-margins : tie.Need-element-copy-out-put-margins Inv-loop μ-loop
-element-copy-out-put-margins c = search needs
-
 put-margins-requires : tie.Need-put-margins-requires Inv-loop μ-loop
 put-margins-requires c κs =
     let on = c .before .before in
     let st = on .before .before in
     let l = on .loop-test .taken in
     (st .pre .0 _ l, st .pre .1 _ l, st .pre .3, on .before .loop .inv .1 .long)
-
-add-i : tie.Need-add-i Inv-loop μ-loop
-add-i c = search needs
-
-loop-less : tie.Need-loop-less Inv-loop μ-loop
-loop-less c = search needs
 
 loop-again : tie.Need-loop-again Inv-loop μ-loop
 loop-again c =
@@ -53,14 +38,5 @@ returns c =
 pub margins-of-spec : {M : Type 1} → statement M
 margins-of-spec =
     tie.close
-    (tie.spec
-    Inv-loop
-    μ-loop
-    loop-holds
-    mul-put-margins
-    element-copy-out-put-margins
-    put-margins-requires
-    add-i
-    loop-less
-    loop-again
-    returns)
+    (tie.spec Inv-loop μ-loop loop-holds (λ c. search needs) (λ c. search needs) put-margins-requires
+    (λ c. search needs) (λ c. search needs) loop-again returns)

@@ -10,12 +10,6 @@ use Rattle.solve_arcs.proofs.pull_of_reading.Tie as tie
 bound : (c : tie.After-reading-of) → c .before .weight-of .result * c .reading-of .result ≤ mostPull
 bound c = pull-most _ _ (rw (c .before .weight-of .ensures) (weight-most (c .before .before .args .s) (c .before .before .pre))) (c .reading-of .ensures .1)
 
-weight-of-requires : tie.Need-weight-of-requires
-weight-of-requires c κs = search needs
-
-reading-of-requires : tie.Need-reading-of-requires
-reading-of-requires c κs = search needs
-
 mul-result : tie.Need-mul-result
 mul-result c = omega (arith, bound c)
 
@@ -23,5 +17,4 @@ returns : tie.Need-returns
 returns c = (rw (c .before .weight-of .ensures, c .reading-of .ensures .0), bound c)
 
 pub pull-of-reading-spec : {M : Type 1} → statement M
-pull-of-reading-spec =
-    tie.close (tie.spec weight-of-requires reading-of-requires mul-result returns)
+pull-of-reading-spec = tie.close (tie.spec (λ c κs. search needs) (λ c κs. search needs) mul-result returns)

@@ -8,13 +8,10 @@ use Rattle.solve_def.specs.Held.{shifted}
 use Rattle.solve_arcs.proofs.reading_of.Statement.{statement}
 use Rattle.solve_arcs.proofs.reading_of.Tie as tie
 
-hold-requires : tie.Need-hold-requires
-hold-requires c κs = search needs
-
 returns : tie.Need-returns
 returns c =
     let fits : SFits w32 (c .before .before .args .s .reading) = search needs in
     (c .hold .ensures .0 ∙ ap shifted (toZ-ofZ fits), c .hold .ensures .1)
 
 pub reading-of-spec : {M : Type 1} → statement M
-reading-of-spec = tie.close (tie.spec hold-requires returns)
+reading-of-spec = tie.close (tie.spec (λ c κs. search needs) returns)

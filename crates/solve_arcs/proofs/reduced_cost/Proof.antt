@@ -14,20 +14,10 @@ use Rattle.solve_arcs.proofs.reduced_cost.Tie as tie
 less-most : (a b : ℕ) → lessOf a b ≤ b
 less-most a b = picked (λ (x : ℕ). x ≤ b) (ltb b a) b a (λ o. omega arith) (λ o. ltb-false b a o)
 
-add-minus : tie.Need-add-minus
-add-minus c = search needs
-
-add-minus-2 : tie.Need-add-minus-2
-add-minus-2 c = search needs
-
-minus-requires : tie.Need-minus-requires
-minus-requires c κs = search needs
-
-lesser-requires : tie.Need-lesser-requires
-lesser-requires c κs = search needs
-
 returns : tie.Need-returns
 returns c = (c .lesser .ensures ∙ ap (λ (x : ℕ). lessOf x farthest) (c .before .minus .ensures), rw (c .lesser .ensures) (less-most (c .before .minus .result) farthest))
 
 pub reduced-cost-spec : {M : Type 1} → statement M
-reduced-cost-spec = tie.close (tie.spec add-minus add-minus-2 minus-requires lesser-requires returns)
+reduced-cost-spec =
+    tie.close
+    (tie.spec (λ c. search needs) (λ c. search needs) (λ c κs. search needs) (λ c κs. search needs) returns)

@@ -16,9 +16,6 @@ pulled c = pull-most _ _ (c .pre .0) (c .pre .2)
 stepped : (c : tie.Start) → c .args .w * c .args .delta ≤ maxWeight * mostStep
 stepped c = mul-le-mul (c .pre .0) (c .pre .3)
 
-add-if1 : tie.Need-add-if1
-add-if1 c = search needs
-
 mul-result : tie.Need-mul-result
 mul-result c = omega (arith, pulled (c .before))
 
@@ -34,9 +31,6 @@ add-result c = omega (arith, stepped (c .before))
 add-result-2 : tie.Need-add-result-2
 add-result-2 c = omega (arith, stepped (c .before), pulled (c .before))
 
-sub-result : tie.Need-sub-result
-sub-result c = search needs
-
 returns : tie.Need-returns
 returns c = λ low. rw (le-leb _ _ (c .if1 .taken))
 
@@ -46,13 +40,5 @@ returns-2 c = λ low. rw (lt-leb _ _ (c .if1 .left))
 pub rising-spec : {M : Type 1} → statement M
 rising-spec =
     tie.close
-    (tie.spec
-    add-if1
-    mul-result
-    mul-result-2
-    mul-result-3
-    add-result
-    add-result-2
-    sub-result
-    returns
-    returns-2)
+    (tie.spec (λ c. search needs) mul-result mul-result-2 mul-result-3 add-result add-result-2 (λ c. search needs)
+    returns returns-2)

@@ -29,16 +29,10 @@ within c = c .before .before .pre .0 .within .each _ (c .loop-test .taken)
 cast-arcs : tie.Need-cast-arcs Inv-loop μ-loop
 cast-arcs c = omega (arith, c .pre .0 .within .few-streams)
 
-element-write-arcs : tie.Need-element-write-arcs Inv-loop μ-loop
-element-write-arcs c = search needs
-
 loop-holds : tie.Need-loop-holds Inv-loop μ-loop
 loop-holds c =
     let l = listed-counted (startsIn (c .args .t1) (c .args .count)) (endsIn (c .args .t1) (c .args .count)) (c .args .arcs .now) (c .args .count) (c .pre .1) (c .pre .2) in
     (omega arith, l .0, l .1, rowed-none _ _ (c .pre .3))
-
-mul-s : tie.Need-mul-s Inv-loop μ-loop
-mul-s c = search needs
 
 array-copy-out-s : tie.Need-array-copy-out-s Inv-loop μ-loop
 array-copy-out-s c = few c
@@ -53,12 +47,6 @@ put-row-requires c κs =
     let on = c .before .before .before .before in
     (on .before .loop .inv .3 .long, few on, within on)
 
-add-i : tie.Need-add-i Inv-loop μ-loop
-add-i c = search needs
-
-loop-less : tie.Need-loop-less Inv-loop μ-loop
-loop-less c = search needs
-
 loop-again : tie.Need-loop-again Inv-loop μ-loop
 loop-again c =
     let k = c .before .before in
@@ -67,13 +55,17 @@ loop-again c =
     let st = on .before .before in
     let w = within on in
     let streams = st .args .t1 in
-    let fu : getD streams (at .i) noStream .from < places = omega (arith, w .from-in) in
-    let fv : getD streams (at .i) noStream .to < places = omega (arith, w .to-in) in
+    let u = getD streams (at .i) noStream .from in
+    let v = getD streams (at .i) noStream .to in
+    let starts = sym (starts-in streams (st .args .count) (at .i) (on .loop-test .taken)) in
+    let ends = sym (ends-in streams (st .args .count) (at .i) (on .loop-test .taken)) in
+    let fu : u < places = omega (arith, w .from-in) in
+    let fv : v < places = omega (arith, w .to-in) in
     let r = c .put-row .ensures in
     rw (k .list-arcs .ensures, r .0) (
       omega arith,
-      arc-step (at .i) (getD streams (at .i) noStream .from) (getD streams (at .i) noStream .to) _ _ (at .arcs) (few on) fu fv (at .inv .1 .long) _ _ (sym (starts-in streams (st .args .count) (at .i) (on .loop-test .taken))) (sym (ends-in streams (st .args .count) (at .i) (on .loop-test .taken))) refl refl (at .inv .1),
-      count-kept (at .i) (getD streams (at .i) noStream .from) (getD streams (at .i) noStream .to) _ _ (at .arcs) (few on) fu fv (at .inv .1 .long) ∙ at .inv .2,
+      arc-step (at .i) u v _ _ (at .arcs) (few on) fu fv (at .inv .1 .long) _ _ starts ends refl refl (at .inv .1),
+      count-kept (at .i) u v _ _ (at .arcs) (few on) fu fv (at .inv .1 .long) ∙ at .inv .2,
       rowed-more (at .i) _ _ _ _ (at .rows) (few on) (at .inv .3 .long) streams refl refl (omega (arith, r .1)) refl refl (at .inv .3),
     )
 
@@ -87,17 +79,5 @@ returns c =
 pub lay-spec : {M : Type 1} → statement M
 lay-spec =
     tie.close
-    (tie.spec
-    Inv-loop
-    μ-loop
-    cast-arcs
-    element-write-arcs
-    loop-holds
-    mul-s
-    array-copy-out-s
-    list-arcs-requires
-    put-row-requires
-    add-i
-    loop-less
-    loop-again
-    returns)
+    (tie.spec Inv-loop μ-loop cast-arcs (λ c. search needs) loop-holds (λ c. search needs) array-copy-out-s
+    list-arcs-requires put-row-requires (λ c. search needs) (λ c. search needs) loop-again returns)

@@ -4,23 +4,12 @@ use borrow.Author.Needs.{needs}
 use Rattle.solve_arcs_fill.proofs.list_arcs.Statement.{statement}
 use Rattle.solve_arcs_fill.proofs.list_arcs.Tie as tie
 
-wide-requires : tie.Need-wide-requires
-wide-requires c κs = search needs
-
-wide-requires-2 : tie.Need-wide-requires-2
-wide-requires-2 c κs = search needs
-
-element-copy-out-x : tie.Need-element-copy-out-x
-element-copy-out-x c = search needs
-
-element-copy-out-y : tie.Need-element-copy-out-y
-element-copy-out-y c = search needs
-
-put-ends-requires : tie.Need-put-ends-requires
-put-ends-requires c κs = search needs
+-- From where the ends are put: where both places are known, and the start.
+abbrev known : tie.After-put-ends → tie.After-wide2
+known c = c .before .before .before .before
 
 abbrev start-of : tie.After-put-ends → tie.Start
-start-of c = c .before .before .before .before .before .before
+start-of c = known c .before .before
 
 put-next-requires : tie.Need-put-next-requires
 put-next-requires c κs = (rw (c .before .put-ends .ensures) (simp length-set (start-of (c .before) .pre .0)), start-of (c .before) .pre .1)
@@ -29,24 +18,28 @@ put-first-requires : tie.Need-put-first-requires
 put-first-requires c κs =
     let n = c .before in
     let e = n .before .before in
-    let st = start-of e in
-    (rw (n .put-next .ensures) (simp length-set (rw (e .put-ends .ensures) (simp length-set (st .pre .0)))), st .pre .1, rw (e .before .before .before .before .before .wide .ensures .0) (st .pre .2), rw (e .before .before .before .before .wide2 .ensures .0) (st .pre .3))
+    let v = known e in
+    let st = start-of e in (
+      rw (n .put-next .ensures) (simp length-set (rw (e .put-ends .ensures) (simp length-set (st .pre .0)))),
+      st .pre .1,
+      rw (v .before .wide .ensures .0) (st .pre .2),
+      rw (v .wide2 .ensures .0) (st .pre .3),
+    )
 
 returns : tie.Need-returns
 returns c =
     let n = c .before .before in
     let e = n .before .before in
-    rw (c .put-first .ensures, n .put-next .ensures, e .put-ends .ensures, e .before .before .before .before .before .wide .ensures .0, e .before .before .before .before .wide2 .ensures .0)
+    rw (
+      c .put-first .ensures,
+      n .put-next .ensures,
+      e .put-ends .ensures,
+      e .before .before .before .before .before .wide .ensures .0,
+      e .before .before .before .before .wide2 .ensures .0,
+    )
 
 pub list-arcs-spec : {M : Type 1} → statement M
 list-arcs-spec =
     tie.close
-    (tie.spec
-    wide-requires
-    wide-requires-2
-    element-copy-out-x
-    element-copy-out-y
-    put-ends-requires
-    put-next-requires
-    put-first-requires
-    returns)
+    (tie.spec (λ c κs. search needs) (λ c κs. search needs) (λ c. search needs) (λ c. search needs)
+    (λ c κs. search needs) put-next-requires put-first-requires returns)

@@ -1,11 +1,11 @@
 -- `solve_augment::augment` meets its contract: with j streams to go the push comes to what it comes to from the start.
-use mathlib.Core.Path.{_≡_, refl, sym, _∙_}
-use Prim.Native.Nat.{_≤_, _<_, _-_}
+use mathlib.Core.Path.{_≡_, refl}
+use Prim.Native.Nat.{_<_, _-_}
 use native.Mathlib.Omega.{arith}
 use borrow.Author.Needs.{needs}
 use lib.Dec.{eqb}
 use lib.ListN.{getD}
-use Rattle.plant_def.specs.Limits.{places, maxStreams}
+use Rattle.plant_def.specs.Limits.{maxStreams}
 use Rattle.solve_arcs.proofs.Rowing.{row-of}
 use Rattle.solve_augment.proofs.Augments.{Pushing, push-index, push-most, push-place, push-hits, push-misses, pushed-all}
 use Rattle.solve_augment.proofs.augment.Statement.{statement}
@@ -23,15 +23,6 @@ index c = let st = c .before .before in omega (arith, push-index _ _ _ _ _ _ _ _
 
 loop-holds : tie.Need-loop-holds Inv-loop μ-loop
 loop-holds c = record { short = omega arith; byte = omega arith; roomy = c .pre .3; long = c .pre .4; margined = λ skip m o. m; same = λ w. refl }
-
-sub-j : tie.Need-sub-j Inv-loop μ-loop
-sub-j c = search needs
-
-element-copy-out-if1 : tie.Need-element-copy-out-if1 Inv-loop μ-loop
-element-copy-out-if1 c = search needs
-
-element-copy-out-i : tie.Need-element-copy-out-i Inv-loop μ-loop
-element-copy-out-i c = search needs
 
 cast-i : tie.Need-cast-i Inv-loop μ-loop
 cast-i c = omega (arith, index (c .before .before .before))
@@ -74,20 +65,25 @@ put-margins-requires c κs =
     let st = at .before in
     let w = st .pre .0 in
     let k = push-index _ _ _ _ _ _ _ _ _ _ _ _ _ (at .loop .inv) (on .loop-test .taken) (st .pre .2) in
-    (row-of _ _ _ (w .network) (w .laid .rowed) _ (rw (w .laid .along .counted) at k), rw (m .moved .ensures) (push-most _ _ _ _ _ _ _ _ _ _ _ _ _ (at .loop .inv) (on .loop-test .taken) (st .pre .1) (index on) (eqb (m .before .before .end-at .result) (at .loop .at))), st .pre .1, at .loop .inv .long)
+    let forwards = eqb (m .before .before .end-at .result) (at .loop .at) in (
+      row-of _ _ _ (w .network) (w .laid .rowed) _ (rw (w .laid .along .counted) at k),
+      rw (m .moved .ensures) (push-most _ _ _ _ _ _ _ _ _ _ _ _ _ (at .loop .inv) (on .loop-test .taken) (st .pre .1) (index on) forwards),
+      st .pre .1,
+      at .loop .inv .long,
+    )
 
 place-at-requires : tie.Need-place-at-requires Inv-loop μ-loop
-place-at-requires c κs = index (c .before .before .before .before .before .before .before .before)
+place-at-requires c κs =
+    let moved = c .before .before in
+    index (moved .before .before .before .before .before .before)
 
 cast-at : tie.Need-cast-at Inv-loop μ-loop
 cast-at c =
     let e = c .before .before .before .before .before in
     let on = e .before .before .before .before in
     let st = on .before .before in
-    rw (c .place-at .ensures) (omega (arith, push-place _ _ _ _ _ _ _ _ _ _ _ _ _ (on .before .loop .inv) (on .loop-test .taken) (st .pre .1) (st .pre .2) (st .pre .0) (eqb (e .end-at .result) (on .before .loop .at))))
-
-loop-less : tie.Need-loop-less Inv-loop μ-loop
-loop-less c = search needs
+    let place = push-place _ _ _ _ _ _ _ _ _ _ _ _ _ (on .before .loop .inv) (on .loop-test .taken) (st .pre .1) (st .pre .2) (st .pre .0) in
+    rw (c .place-at .ensures) (omega (arith, place (eqb (e .end-at .result) (on .before .loop .at))))
 
 loop-again : tie.Need-loop-again Inv-loop μ-loop
 loop-again c =
@@ -99,9 +95,6 @@ loop-again c =
     let st = on .before .before in
     rw (c .place-at .ensures, m .put-margins .ensures, x .moved .ensures, e .end-at .ensures)
     (push-hits _ _ _ _ _ _ _ _ _ _ _ _ _ (on .before .loop .inv) (on .loop-test .taken) (st .pre .1) (st .pre .2) (st .pre .0) (th .if1 .taken))
-
-loop-less-2 : tie.Need-loop-less-2 Inv-loop μ-loop
-loop-less-2 c = search needs
 
 loop-again-2 : tie.Need-loop-again-2 Inv-loop μ-loop
 loop-again-2 c =
@@ -115,28 +108,7 @@ returns c = let z : c .before .loop .j ≡ 0 = omega arith in pushed-all _ _ _ _
 pub augment-spec : {M : Type 1} → statement M
 augment-spec =
     tie.close
-    (tie.spec
-    Inv-loop
-    μ-loop
-    loop-holds
-    sub-j
-    element-copy-out-if1
-    element-copy-out-i
-    cast-i
-    mul-end-at
-    add-end-at
-    end-at-requires
-    cast-forwards
-    mul-moved
-    element-copy-out-moved
-    moved-requires
-    mul-flows
-    element-write-flows
-    put-margins-requires
-    place-at-requires
-    cast-at
-    loop-less
-    loop-again
-    loop-less-2
-    loop-again-2
-    returns)
+    (tie.spec Inv-loop μ-loop loop-holds (λ c. search needs) (λ c. search needs) (λ c. search needs) cast-i mul-end-at
+    add-end-at end-at-requires cast-forwards mul-moved element-copy-out-moved moved-requires mul-flows
+    element-write-flows put-margins-requires place-at-requires cast-at (λ c. search needs) loop-again
+    (λ c. search needs) loop-again-2 returns)

@@ -3,12 +3,6 @@ use borrow.Author.Needs.{needs}
 use Rattle.solve_augment.proofs.moved.Statement.{statement}
 use Rattle.solve_augment.proofs.moved.Tie as tie
 
-add-result : tie.Need-add-result
-add-result c = search needs
-
-sub-result : tie.Need-sub-result
-sub-result c = search needs
-
 returns : tie.Need-returns
 returns c = rw (c .if1 .taken)
 
@@ -16,4 +10,4 @@ returns-2 : tie.Need-returns-2
 returns-2 c = rw (c .if1 .left)
 
 pub moved-spec : {M : Type 1} → statement M
-moved-spec = tie.close (tie.spec add-result sub-result returns returns-2)
+moved-spec = tie.close (tie.spec (λ c. search needs) (λ c. search needs) returns returns-2)

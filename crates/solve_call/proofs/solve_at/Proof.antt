@@ -37,7 +37,7 @@ returns c =
 
 -- What the tie pass begins from.
 abbrev able : (c : tie.Else1) → let f = ended (c .before) in let st = start f in
-    Tieable (st .args .arcs .now) (st .args .rows .now) (f .finish .result .state .prices) 0 (f .finish .result .state .flows)
+    Tieable (st .args .arcs .now) (st .args .rows .now) (f .finish .result .state .potentials) 0 (f .finish .result .state .flows)
 able c =
     let f = ended (c .before) in
     let st = start f in

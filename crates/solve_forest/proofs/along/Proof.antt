@@ -3,20 +3,8 @@ use borrow.Author.Needs.{needs}
 use Rattle.solve_forest.proofs.along.Statement.{statement}
 use Rattle.solve_forest.proofs.along.Tie as tie
 
-element-copy-out-if1 : tie.Need-element-copy-out-if1
-element-copy-out-if1 c = search needs
-
-reach-requires : tie.Need-reach-requires
-reach-requires c κs = search needs
-
 returns : tie.Need-returns
 returns c = c .reach .ensures
-
-element-copy-out-if2 : tie.Need-element-copy-out-if2
-element-copy-out-if2 c = search needs
-
-reach-requires-2 : tie.Need-reach-requires-2
-reach-requires-2 c κs = search needs
 
 returns-2 : tie.Need-returns-2
 returns-2 c = c .reach2 .ensures
@@ -27,11 +15,5 @@ returns-3 c = (c .before .before .before .before .pre .0, λ ss n u h. h)
 pub along-spec : {M : Type 1} → statement M
 along-spec =
     tie.close
-    (tie.spec
-    element-copy-out-if1
-    reach-requires
-    returns
-    element-copy-out-if2
-    reach-requires-2
-    returns-2
+    (tie.spec (λ c. search needs) (λ c κs. search needs) returns (λ c. search needs) (λ c κs. search needs) returns-2
     returns-3)

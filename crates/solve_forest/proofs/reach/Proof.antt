@@ -4,15 +4,6 @@ use Rattle.solve_forest.proofs.Spanning.{spanning-room, spanning-grown,
 use Rattle.solve_forest.proofs.reach.Statement.{statement}
 use Rattle.solve_forest.proofs.reach.Tie as tie
 
-element-copy-out-if1 : tie.Need-element-copy-out-if1
-element-copy-out-if1 c = search needs
-
-returns : tie.Need-returns
-returns c = search needs
-
-element-write-reached : tie.Need-element-write-reached
-element-write-reached c = search needs
-
 element-write-via : tie.Need-element-write-via
 element-write-via c = let h = spanning-room (c .before .before .pre .0) (c .before .before .args .e) (c .before .before .pre .1) (c .if1 .left) in search needs
 
@@ -32,11 +23,5 @@ returns-2 c =
 pub reach-spec : {M : Type 1} → statement M
 reach-spec =
     tie.close
-    (tie.spec
-    element-copy-out-if1
-    returns
-    element-write-reached
-    element-write-via
-    element-write-into
-    add-result
-    returns-2)
+    (tie.spec (λ c. search needs) (λ c. search needs) (λ c. search needs) element-write-via element-write-into
+    add-result returns-2)

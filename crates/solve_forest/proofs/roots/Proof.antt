@@ -13,41 +13,11 @@ Inv-loop labels reached₀ u₀ reached u = (u ≤ places) × (length reached �
 abbrev μ-loop : tie.MeasureT-loop
 μ-loop labels reached₀ u₀ reached u = places - u
 
-loop-holds : tie.Need-loop-holds Inv-loop μ-loop
-loop-holds c = search needs
-
-array-read-reached : tie.Need-array-read-reached Inv-loop μ-loop
-array-read-reached c = search needs
-
-cast-reached : tie.Need-cast-reached Inv-loop μ-loop
-cast-reached c = search needs
-
-array-write-reached : tie.Need-array-write-reached Inv-loop μ-loop
-array-write-reached c = search needs
-
-add-u : tie.Need-add-u Inv-loop μ-loop
-add-u c = search needs
-
-loop-less : tie.Need-loop-less Inv-loop μ-loop
-loop-less c = search needs
-
-loop-again : tie.Need-loop-again Inv-loop μ-loop
-loop-again c = search needs
-
 returns : tie.Need-returns Inv-loop μ-loop
 returns c = c .before .loop .inv .1
 
 pub roots-spec : {M : Type 1} → statement M
 roots-spec =
     tie.close
-    (tie.spec
-    Inv-loop
-    μ-loop
-    loop-holds
-    array-read-reached
-    cast-reached
-    array-write-reached
-    add-u
-    loop-less
-    loop-again
-    returns)
+    (tie.spec Inv-loop μ-loop (λ c. search needs) (λ c. search needs) (λ c. search needs) (λ c. search needs)
+    (λ c. search needs) (λ c. search needs) (λ c. search needs) returns)

@@ -39,9 +39,6 @@ used c = let w = c .before .before .pre .0 in rw (w .laying .laid .along .counte
 index : (c : tie.In-loop Inv-loop μ-loop) → getD (c .before .before .args .t2 .via) (c .before .loop .k - 1) 0 < maxStreams
 index c = low-in _ _ (c .before .before .pre .0 .laying) _ (used c)
 
-sub-k : tie.Need-sub-k Inv-loop μ-loop
-sub-k c = search needs
-
 element-copy-out-i : tie.Need-element-copy-out-i Inv-loop μ-loop
 element-copy-out-i c = short c
 
@@ -79,9 +76,6 @@ mul-flows c = omega (arith, index (c .before .before .before .before .before .be
 element-write-flows : tie.Need-element-write-flows Inv-loop μ-loop
 element-write-flows c = index (c .before .before .before .before .before .before)
 
-loop-less : tie.Need-loop-less Inv-loop μ-loop
-loop-less c = search needs
-
 loop-again : tie.Need-loop-again Inv-loop μ-loop
 loop-again c =
     let on = c .before .before .before .before .before .before in
@@ -97,22 +91,6 @@ returns c = λ w. c .before .loop .inv .2 w
 pub route-spec : {M : Type 1} → statement M
 route-spec =
     tie.close
-    (tie.spec
-    Inv-loop
-    μ-loop
-    loop-holds
-    sub-k
-    element-copy-out-i
-    cast-i
-    element-copy-out-into
-    mul-end-at
-    end-at-requires
-    mul-end-at-2
-    add-end-at
-    end-at-requires-2
-    routed-requires
-    mul-flows
-    element-write-flows
-    loop-less
-    loop-again
-    returns)
+    (tie.spec Inv-loop μ-loop loop-holds (λ c. search needs) element-copy-out-i cast-i element-copy-out-into mul-end-at
+    end-at-requires mul-end-at-2 add-end-at end-at-requires-2 routed-requires mul-flows element-write-flows
+    (λ c. search needs) loop-again returns)

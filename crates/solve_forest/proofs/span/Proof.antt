@@ -14,29 +14,8 @@ Inv-loop arcs rows reached₀ all via₀ into₀ len₀ left₀ reached via into
 abbrev μ-loop : tie.MeasureT-loop
 μ-loop arcs rows reached₀ all via₀ into₀ len₀ left₀ reached via into len left = left
 
-roots-requires : tie.Need-roots-requires Inv-loop μ-loop
-roots-requires c κs = search needs
-
-unreached-requires : tie.Need-unreached-requires Inv-loop μ-loop
-unreached-requires c κs = search needs
-
-passes-left-requires : tie.Need-passes-left-requires Inv-loop μ-loop
-passes-left-requires c κs = search needs
-
 loop-holds : tie.Need-loop-holds Inv-loop μ-loop
 loop-holds c = (search needs, λ w k l. absurd (omega arith))
-
-pass-requires : tie.Need-pass-requires Inv-loop μ-loop
-pass-requires c κs = search needs
-
-passes-left-requires-2 : tie.Need-passes-left-requires-2 Inv-loop μ-loop
-passes-left-requires-2 c κs = search needs
-
-loop-less : tie.Need-loop-less Inv-loop μ-loop
-loop-less c = search needs
-
-loop-again : tie.Need-loop-again Inv-loop μ-loop
-loop-again c = search needs
 
 returns : tie.Need-returns Inv-loop μ-loop
 returns c = λ w.
@@ -46,15 +25,5 @@ returns c = λ w.
 pub span-spec : {M : Type 1} → statement M
 span-spec =
     tie.close
-    (tie.spec
-    Inv-loop
-    μ-loop
-    roots-requires
-    unreached-requires
-    passes-left-requires
-    loop-holds
-    pass-requires
-    passes-left-requires-2
-    loop-less
-    loop-again
-    returns)
+    (tie.spec Inv-loop μ-loop (λ c κs. search needs) (λ c κs. search needs) (λ c κs. search needs) loop-holds
+    (λ c κs. search needs) (λ c κs. search needs) (λ c. search needs) (λ c. search needs) returns)

@@ -1,5 +1,5 @@
 -- `solve_improve::improve_from` meets its contract: where the search finds a place, the push and the nets have room.
-use Rattle.solve_def.proofs.Turns.{Moving, moving, found-prices, improved-none, improved-done}
+use Rattle.solve_def.proofs.Turns.{Moving, moving, found-potentials, improved-none, improved-done}
 use Rattle.solve_arcs.proofs.Stores.{spare-none}
 use Rattle.solve_improve.proofs.Improved.{improve-searching, improve-laying, improve-trail, improve-margined, improved-margined}
 use Rattle.solve_def.specs.declared.Tree.{Tree}
@@ -25,7 +25,7 @@ hunt c = c .before .before .before
 
 -- Streams that the arcs are of.
 abbrev Of : tie.Start → Type 0
-Of st = Improvable (st .args .arcs .now) (st .args .rows .now) (st .args .margins .now) (st .args .q .delta) (stateOf (st .args .flows .now) (st .args .prices .now) (st .args .nets .now))
+Of st = Improvable (st .args .arcs .now) (st .args .rows .now) (st .args .margins .now) (st .args .q .delta) (stateOf (st .args .flows .now) (st .args .potentials .now) (st .args .nets .now))
 
 -- What the search came to, where it found a place.
 told : {ps : List ℕ} {g : Grown} (b : Bool) (t : Tree) → b ≡ true → grownBy b t ps ≡ g → grownBy true t ps ≡ g
@@ -33,22 +33,22 @@ told true t e q = q
 told false t e q = absurd (false≢true e)
 
 key : (c : tie.Else1) (w : Of (start (hunt c))) → let st = start (hunt c) in
-    Moving (w .n) (stateOf (st .args .flows .now) (st .args .prices .now) (st .args .nets .now)) (st .args .q .start) (st .args .q .delta) (hunt c .search .result .tree)
+    Moving (w .n) (stateOf (st .args .flows .now) (st .args .potentials .now) (st .args .nets .now)) (st .args .q .start) (st .args .q .delta) (hunt c .search .result .tree)
 key c w = let st = start (hunt c) in moving (w .streams) (w .n) (w .network) _ (st .args .q .start) (st .args .q .delta) (w .step) (w .underway) (st .pre .1) (st .pre .2) _ _
     (told _ _ (not-false _ (c .if1 .left)) (hunt c .search .ensures (improve-searching _ _ _ _ _ w)))
 
 search-requires : tie.Need-search-requires
 search-requires c κs =
     let st = c .before .before .before in
-    (improve-searching _ _ _ _ _ (st .pre .0), st .pre .1, st .pre .0 .underway .sound .priced)
+    (improve-searching _ _ _ _ _ (st .pre .0), st .pre .1, st .pre .0 .underway .sound .per-place)
 
 returns : tie.Need-returns
 returns c = λ w.
     let h = c .before .before .before in
     let st = start h in
     let f = not-true _ (c .if1 .taken) in
-    let q = improved-none (take (w .n) (w .streams)) (stateOf (st .args .flows .now) (st .args .prices .now) (st .args .nets .now)) (st .args .q .delta) (st .args .q .start) _ _ _ (h .search .ensures (improve-searching _ _ _ _ _ w)) f in
-    (rw (q .0) (sym (q .1 ∙ ap (λ (b : Bool). improvedBy b (stateOf (st .args .flows .now) (st .args .prices .now) (st .args .nets .now)) (h .search .result .tree .visited)) f)), w .margined)
+    let q = improved-none (take (w .n) (w .streams)) (stateOf (st .args .flows .now) (st .args .potentials .now) (st .args .nets .now)) (st .args .q .delta) (st .args .q .start) _ _ _ (h .search .ensures (improve-searching _ _ _ _ _ w)) f in
+    (rw (q .0) (sym (q .1 ∙ ap (λ (b : Bool). improvedBy b (stateOf (st .args .flows .now) (st .args .potentials .now) (st .args .nets .now)) (h .search .result .tree .visited)) f)), w .margined)
 
 sub-target : tie.Need-sub-target
 sub-target c = let e = c .before .before in key e (start (hunt e) .pre .0) .some
@@ -77,7 +77,7 @@ refloor-requires c κs =
     let e = c .before .before .before .before .before .before .before .before .before .before in
     let st = start (hunt e) in
     let w = st .pre .0 in
-    let r = found-prices (w .streams) (w .n) (w .network) _ (st .args .q .start) (st .args .q .delta) (w .step) (w .underway) (st .pre .1) (st .pre .2) _ _
+    let r = found-potentials (w .streams) (w .n) (w .network) _ (st .args .q .start) (st .args .q .delta) (w .step) (w .underway) (st .pre .1) (st .pre .2) _ _
     (told _ _ (not-false _ (e .if1 .left)) (hunt e .search .ensures (improve-searching _ _ _ _ _ w))) in
     (r .1, r .0)
 
@@ -86,7 +86,7 @@ returns-2 c = λ w.
     let e = c .before .before .before .before .before .before .before .before .before .before .before in
     let st = start (hunt e) in (
       rw (c .refloor .ensures, c .before .before .shift-nets .ensures, c .before .before .before .before .augment .ensures .1 (improve-laying _ _ _ _ _ w))
-          (sym (improved-done (take (w .n) (w .streams)) (stateOf (st .args .flows .now) (st .args .prices .now) (st .args .nets .now)) (st .args .q .delta) (st .args .q .start) true _ _
+          (sym (improved-done (take (w .n) (w .streams)) (stateOf (st .args .flows .now) (st .args .potentials .now) (st .args .nets .now)) (st .args .q .delta) (st .args .q .start) true _ _
           (told _ _ (not-false _ (e .if1 .left)) (hunt e .search .ensures (improve-searching _ _ _ _ _ w))) refl)),
       improved-margined _ _ _ _ _ w _ _ (c .before .before .before .before .augment .ensures .0 0 (improve-margined _ _ _ _ _ w) (λ j l. spare-none (st .args .rows .now) (getD (hunt e .search .result .tree .via) j 0))),
     )

@@ -6,12 +6,12 @@ use Prim.Native.Nat.{ℕ, _+_, _≤_, _<_, _-_, _*_}
 use native.Mathlib.Omega.{arith}
 use borrow.Author.Needs.{needs}
 use borrow.Author.Tests.{not-true, not-false}
-use lib.ListN.{getD, take}
+use lib.ListN.{getD}
 use Rattle.plant_def.specs.Limits.{maxStreams}
 use Rattle.solve_def.specs.Sizes.{mostFlow}
 use Rattle.solve_def.specs.Full.{mayCross, pressed, boundedTo, pressedTo}
 use Rattle.solve_arcs.specs.Cells.{toCell, countOf}
-use Rattle.solve_arcs.specs.ArcNeeds.{Laying}
+use Rattle.solve_arcs.specs.ArcNeeds.{OfStreams}
 use Rattle.solve_arcs.proofs.Rowing.{start-in, end-in}
 use Rattle.solve_infeasible.proofs.Edges.{bounded-none, pressed-none, pressed-most, row-range, bounded-next, pressed-next, full-stop, full-end}
 use Rattle.solve_infeasible.proofs.overfull.Statement.{statement}
@@ -21,13 +21,11 @@ abbrev Inv-loop : tie.InvT-loop
 Inv-loop arcs rows marked n sum₀ i₀ sum i =
     (i ≤ n)
     × (sum ≤ i * mostFlow)
-    × ((w : Laying arcs rows) → (boundedTo (take (w .n) (w .streams)) marked i ≡ true) × (sum ≡ pressedTo (take (w .n) (w .streams)) marked i))
+    × OfStreams arcs rows (λ ss m. (boundedTo ss marked i ≡ true) × (sum ≡ pressedTo ss marked i))
+    × (n ≤ maxStreams)
 
 abbrev μ-loop : tie.MeasureT-loop
 μ-loop arcs rows marked n sum₀ i₀ sum i = n - i
-
-few : (c : tie.After-count-of Inv-loop μ-loop) → c .count-of .result ≤ maxStreams
-few c = let w = c .before .pre in omega (arith, c .count-of .ensures, w .laid .along .counted, w .network .within .few-streams)
 
 -- The start, from a turn of the loop; the stream is in use.
 abbrev begin : tie.In-loop Inv-loop μ-loop → tie.Start Inv-loop μ-loop
@@ -35,9 +33,6 @@ begin c = c .before .before .before
 
 below : (c : tie.In-loop Inv-loop μ-loop) → c .before .loop .i < countOf (begin c .args .arcs .now)
 below c = omega (arith, c .loop-test .taken, c .before .before .count-of .ensures)
-
-low-in : (c : tie.In-loop Inv-loop μ-loop) → c .before .loop .i < maxStreams
-low-in c = omega (arith, c .loop-test .taken, few (c .before .before))
 
 -- The same by the cells.
 may-same : (ms : List Bool) {u u′ v v′ : ℕ} (l : ℕ) → u ≡ u′ → v ≡ v′ → mayCross (getD ms u false) (getD ms v false) l ≡ mayCross (getD ms u′ false) (getD ms v′ false) l
@@ -51,27 +46,29 @@ press-same ms l h a b = rw (a, b)
 abbrev inner : tie.After-may-cross Inv-loop μ-loop → tie.In-loop Inv-loop μ-loop
 inner c = c .before .before .before .before .before .before
 
-may-is : (c : tie.After-may-cross Inv-loop μ-loop) → let st = begin (inner c) in let ls = st .args .arcs .now in let ms = st .args .marked .now in let i = inner c .before .loop .i in
+may-is : (c : tie.After-may-cross Inv-loop μ-loop)
+    → let st = begin (inner c) in
+    let ls = st .args .arcs .now in
+    let ms = st .args .marked .now in
+    let i = inner c .before .loop .i in
     c .may-cross .result ≡ mayCross (getD ms (getD ls (toCell + 2 * i) 0) false) (getD ms (getD ls (toCell + (2 * i + 1)) 0) false) (getD (st .args .rows .now) (4 * i + 2) 0)
 may-is c = c .may-cross .ensures ∙ may-same (begin (inner c) .args .marked .now) _ (c .before .before .before .before .before .end-at .ensures) (c .before .before .before .end-at2 .ensures)
 
-press-is : (c : tie.After-pressed Inv-loop μ-loop) → let f = c .before .before .before in let st = begin (inner f) in let ls = st .args .arcs .now in let rs = st .args .rows .now in let ms = st .args .marked .now in let i = inner f .before .loop .i in
+press-is : (c : tie.After-pressed Inv-loop μ-loop)
+    → let on = inner (c .before .before .before) in
+    let st = begin on in
+    let ls = st .args .arcs .now in
+    let rs = st .args .rows .now in
+    let ms = st .args .marked .now in
+    let i = on .before .loop .i in
     c .pressed .result ≡ pressed (getD ms (getD ls (toCell + 2 * i) 0) false) (getD ms (getD ls (toCell + (2 * i + 1)) 0) false) (getD rs (4 * i + 2) 0) (getD rs (4 * i + 3) 0)
 press-is c =
     let f = c .before .before .before in
     c .pressed .ensures ∙ press-same (begin (inner f) .args .marked .now) _ _ (f .before .before .before .before .before .end-at .ensures) (f .before .before .before .end-at2 .ensures)
 
-count-of-requires : tie.Need-count-of-requires Inv-loop μ-loop
-count-of-requires c κs = search needs
-
 loop-holds : tie.Need-loop-holds Inv-loop μ-loop
-loop-holds c = (omega arith, omega arith, λ w. (bounded-none _ _, sym (pressed-none _ _)))
-
-mul-end-at : tie.Need-mul-end-at Inv-loop μ-loop
-mul-end-at c = omega (arith, low-in c)
-
-end-at-requires : tie.Need-end-at-requires Inv-loop μ-loop
-end-at-requires c κs = omega (arith, low-in c)
+loop-holds c =
+    (omega arith, omega arith, λ w. (bounded-none _ _, sym (pressed-none _ _)), omega (arith, c .count-of .ensures, c .before .pre .laid .along .linked .few))
 
 element-copy-out-start : tie.Need-element-copy-out-start Inv-loop μ-loop
 element-copy-out-start c =
@@ -79,50 +76,14 @@ element-copy-out-start c =
     let st = begin on in
     rw (c .end-at .ensures) (start-in _ _ (st .pre) _ (below on))
 
-mul-end-at-2 : tie.Need-mul-end-at-2 Inv-loop μ-loop
-mul-end-at-2 c = omega (arith, low-in (c .before .before))
-
-add-end-at : tie.Need-add-end-at Inv-loop μ-loop
-add-end-at c = omega (arith, low-in (c .before .before))
-
-end-at-requires-2 : tie.Need-end-at-requires-2 Inv-loop μ-loop
-end-at-requires-2 c κs = omega (arith, low-in (c .before .before))
-
 element-copy-out-end : tie.Need-element-copy-out-end Inv-loop μ-loop
 element-copy-out-end c =
     let on = c .before .before .before in
     let st = begin on in
     rw (c .end-at2 .ensures) (end-in _ _ (st .pre) _ (below on))
 
-mul-low : tie.Need-mul-low Inv-loop μ-loop
-mul-low c = omega (arith, low-in (c .before .before .before .before))
-
-add-low : tie.Need-add-low Inv-loop μ-loop
-add-low c = omega (arith, low-in (c .before .before .before .before))
-
-mul-low-2 : tie.Need-mul-low-2 Inv-loop μ-loop
-mul-low-2 c = omega (arith, low-in (c .before .before .before .before))
-
-element-copy-out-low : tie.Need-element-copy-out-low Inv-loop μ-loop
-element-copy-out-low c = omega (arith, low-in (c .before .before .before .before))
-
-may-cross-requires : tie.Need-may-cross-requires Inv-loop μ-loop
-may-cross-requires c κs = search needs
-
 returns : tie.Need-returns Inv-loop μ-loop
 returns c = λ w. full-stop _ _ w _ _ (below (inner (c .before))) (sym (may-is (c .before)) ∙ not-true _ (c .if1 .taken))
-
-mul-pressed : tie.Need-mul-pressed Inv-loop μ-loop
-mul-pressed c = omega (arith, low-in (inner (c .before)))
-
-add-pressed : tie.Need-add-pressed Inv-loop μ-loop
-add-pressed c = omega (arith, low-in (inner (c .before)))
-
-mul-pressed-2 : tie.Need-mul-pressed-2 Inv-loop μ-loop
-mul-pressed-2 c = omega (arith, low-in (inner (c .before)))
-
-element-copy-out-pressed : tie.Need-element-copy-out-pressed Inv-loop μ-loop
-element-copy-out-pressed c = omega (arith, low-in (inner (c .before)))
 
 pressed-requires : tie.Need-pressed-requires Inv-loop μ-loop
 pressed-requires c κs =
@@ -138,20 +99,16 @@ sum-most c =
     let ls = st .args .arcs .now in
     let ms = st .args .marked .now in
     let i = on .before .loop .i in
-    let m = pressed-most (getD ms (getD ls (toCell + 2 * i) 0) false) (getD ms (getD ls (toCell + (2 * i + 1)) 0) false) (getD (st .args .rows .now) (4 * i + 2) 0) (getD (st .args .rows .now) (4 * i + 3) 0)
-    (row-range _ _ (st .pre) ms i (below on) .0) in
+    let rs = st .args .rows .now in
+    let start = getD ms (getD ls (toCell + 2 * i) 0) false in
+    let end = getD ms (getD ls (toCell + (2 * i + 1)) 0) false in
+    let m = pressed-most start end (getD rs (4 * i + 2) 0) (getD rs (4 * i + 3) 0) (row-range _ _ (st .pre) ms i (below on) .0) in
     omega (arith, press-is c, m)
 
 add-sum : tie.Need-add-sum Inv-loop μ-loop
 add-sum c =
     let on = inner (c .before .before .before) in
-    omega (arith, sum-most c, on .before .loop .inv .1, on .loop-test .taken, few (on .before .before))
-
-add-i : tie.Need-add-i Inv-loop μ-loop
-add-i c = search needs
-
-loop-less : tie.Need-loop-less Inv-loop μ-loop
-loop-less c = search needs
+    omega (arith, sum-most c, on .before .loop .inv .1)
 
 loop-again : tie.Need-loop-again Inv-loop μ-loop
 loop-again c =
@@ -163,10 +120,8 @@ loop-again c =
         bounded-next _ _ w _ _ (below on) (sym (may-is f) ∙ not-false _ (c .before .before .if1 .left)) (on .before .loop .inv .2 w .0),
         omega (arith, pressed-next _ _ w (begin on .args .marked .now) _ (below on), press-is c, on .before .loop .inv .2 w .1),
       ),
+      on .before .loop .inv .3,
     )
-
-mul-result : tie.Need-mul-result Inv-loop μ-loop
-mul-result c = let r = few (c .before .before) in search needs
 
 returns-2 : tie.Need-returns-2 Inv-loop μ-loop
 returns-2 c = λ w.
@@ -177,32 +132,8 @@ returns-2 c = λ w.
 pub overfull-spec : {M : Type 1} → statement M
 overfull-spec =
     tie.close
-    (tie.spec
-    Inv-loop
-    μ-loop
-    count-of-requires
-    loop-holds
-    mul-end-at
-    end-at-requires
-    element-copy-out-start
-    mul-end-at-2
-    add-end-at
-    end-at-requires-2
-    element-copy-out-end
-    mul-low
-    add-low
-    mul-low-2
-    element-copy-out-low
-    may-cross-requires
-    returns
-    mul-pressed
-    add-pressed
-    mul-pressed-2
-    element-copy-out-pressed
-    pressed-requires
-    add-sum
-    add-i
-    loop-less
-    loop-again
-    mul-result
-    returns-2)
+    (tie.spec Inv-loop μ-loop (λ c κs. search needs) loop-holds (λ c. search needs) (λ c κs. search needs)
+    element-copy-out-start (λ c. search needs) (λ c. search needs) (λ c κs. search needs) element-copy-out-end
+    (λ c. search needs) (λ c. search needs) (λ c. search needs) (λ c. search needs) (λ c κs. search needs) returns
+    (λ c. search needs) (λ c. search needs) (λ c. search needs) (λ c. search needs) pressed-requires add-sum
+    (λ c. search needs) (λ c. search needs) loop-again (λ c. search needs) returns-2)

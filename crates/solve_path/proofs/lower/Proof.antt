@@ -1,4 +1,4 @@
--- `solve_path::lower` meets its contract: the prices of the first u places are reduced.
+-- `solve_path::lower` meets its contract: the potentials of the first u places are reduced.
 use mathlib.Core.Path.{_≡_, refl, _∙_}
 use mathlib.Core.Bool.{Bool, true, false}
 use Prim.Native.Nat.{ℕ, _≤_, _-_}
@@ -14,48 +14,15 @@ use Rattle.solve_path.proofs.lower.Statement.{statement}
 use Rattle.solve_path.proofs.lower.Tie as tie
 
 abbrev Inv-loop : tie.InvT-loop
-Inv-loop prices₀ visited dist reach u₀ prices u = (u ≤ places) × Written 0 places (λ k x. fallen (getD visited k false) (reach - getD dist k 0) x) prices₀ prices u
+Inv-loop potentials₀ visited dist reach u₀ potentials u = (u ≤ places) × Written 0 places (λ k x. fallen (getD visited k false) (reach - getD dist k 0) x) potentials₀ potentials u
 
 abbrev μ-loop : tie.MeasureT-loop
-μ-loop prices₀ visited dist reach u₀ prices u = places - u
+μ-loop potentials₀ visited dist reach u₀ potentials u = places - u
 
 loop-holds : tie.Need-loop-holds Inv-loop μ-loop
 loop-holds c = (omega arith, written-none (c .pre))
 
-element-copy-out-fall : tie.Need-element-copy-out-fall Inv-loop μ-loop
-element-copy-out-fall c = search needs
-
-mul-fall : tie.Need-mul-fall Inv-loop μ-loop
-mul-fall c = search needs
-
-element-copy-out-fall-2 : tie.Need-element-copy-out-fall-2 Inv-loop μ-loop
-element-copy-out-fall-2 c = search needs
-
-fall-requires : tie.Need-fall-requires Inv-loop μ-loop
-fall-requires c κs = search needs
-
-mul-minus : tie.Need-mul-minus Inv-loop μ-loop
-mul-minus c = search needs
-
-element-copy-out-minus : tie.Need-element-copy-out-minus Inv-loop μ-loop
-element-copy-out-minus c = search needs
-
-minus-requires : tie.Need-minus-requires Inv-loop μ-loop
-minus-requires c κs = search needs
-
-mul-prices : tie.Need-mul-prices Inv-loop μ-loop
-mul-prices c = search needs
-
-element-write-prices : tie.Need-element-write-prices Inv-loop μ-loop
-element-write-prices c = search needs
-
-add-u : tie.Need-add-u Inv-loop μ-loop
-add-u c = search needs
-
-loop-less : tie.Need-loop-less Inv-loop μ-loop
-loop-less c = search needs
-
--- A price that falls, or not.
+-- A potential that falls, or not.
 fallen-by : (b : Bool) (g p : ℕ) → p - pick b g 0 ≡ fallen b g p
 fallen-by true g p = refl
 fallen-by false g p = omega arith
@@ -77,20 +44,6 @@ returns c =
 pub lower-spec : {M : Type 1} → statement M
 lower-spec =
     tie.close
-    (tie.spec
-    Inv-loop
-    μ-loop
-    loop-holds
-    element-copy-out-fall
-    mul-fall
-    element-copy-out-fall-2
-    fall-requires
-    mul-minus
-    element-copy-out-minus
-    minus-requires
-    mul-prices
-    element-write-prices
-    add-u
-    loop-less
-    loop-again
-    returns)
+    (tie.spec Inv-loop μ-loop loop-holds (λ c. search needs) (λ c. search needs) (λ c. search needs)
+    (λ c κs. search needs) (λ c. search needs) (λ c. search needs) (λ c κs. search needs) (λ c. search needs)
+    (λ c. search needs) (λ c. search needs) (λ c. search needs) loop-again returns)

@@ -10,23 +10,19 @@ walk-requires c κs =
     let w = st .pre .0 in
     (ways-of _ _ _ _ _ _ _ _ _ (w .laid) (w .margined) (w .walkable), st .pre .1)
 
-lower-requires : tie.Need-lower-requires
-lower-requires c κs = search needs
-
 returns : tie.Need-returns
 returns c = λ w.
     let e = c .before .before .before .before .before .before in
     let f = e .before .before in
     let st = f .before .before in
     rw (c .lower .ensures, e .if1 .taken)
-    (rw (e .if1 .taken) at (search-linked (st .args .arcs .now) (st .args .margins .now) (st .args .prices .now) (st .args .nets .now) (st .args .delta) (st .args .s) (st .pre .1) w (f .walk .result) (f .walk .ensures)))
+    (rw (e .if1 .taken) at (search-linked _ _ _ (st .args .nets .now) _ _ (st .pre .1) w _ (f .walk .ensures)))
 
 returns-2 : tie.Need-returns-2
 returns-2 c = λ w.
     let f = c .before .before in
     let st = f .before .before in
-    rw (c .if1 .left)
-    (rw (c .if1 .left) at (search-linked (st .args .arcs .now) (st .args .margins .now) (st .args .prices .now) (st .args .nets .now) (st .args .delta) (st .args .s) (st .pre .1) w (f .walk .result) (f .walk .ensures)))
+    rw (c .if1 .left) (rw (c .if1 .left) at (search-linked _ _ _ (st .args .nets .now) _ _ (st .pre .1) w _ (f .walk .ensures)))
 
 pub search-spec : {M : Type 1} → statement M
-search-spec = tie.close (tie.spec walk-requires lower-requires returns returns-2)
+search-spec = tie.close (tie.spec walk-requires (λ c κs. search needs) returns returns-2)

@@ -1,6 +1,5 @@
 -- `solve_path::tight_path` meets its contract: the walk comes to what the search comes to.
 use Rattle.solve_arcs.proofs.Finding.{ways-of, path-linked}
-use borrow.Author.Needs.{needs}
 use Rattle.solve_path.proofs.tight_path.Statement.{statement}
 use Rattle.solve_path.proofs.tight_path.Tie as tie
 
@@ -12,7 +11,7 @@ tight-walk-requires c κs =
 returns : tie.Need-returns
 returns c = λ skip w.
     let st = c .before in
-    path-linked (st .args .arcs .now) (st .args .margins .now) (st .args .prices .now) (st .args .v) skip (st .args .s) (st .pre .2) (st .pre .1) w (c .tight-walk .result .found) (c .tight-walk .result .tree) (c .tight-walk .ensures)
+    path-linked _ _ _ (st .args .v) skip _ (st .pre .2) (st .pre .1) w _ _ (c .tight-walk .ensures)
 
 pub tight-path-spec : {M : Type 1} → statement M
 tight-path-spec = tie.close (tie.spec tight-walk-requires returns)

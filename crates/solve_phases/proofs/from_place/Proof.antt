@@ -27,26 +27,26 @@ use Rattle.solve_phases.proofs.from_place.Tie as tie
 use Rattle.solve_infeasible.proofs.tested.Reads as tested-reads
 
 abbrev Inv-loop : tie.InvT-loop
-Inv-loop arcs rows margins₀ flows₀ prices₀ nets₀ q s delta over₀ margins flows prices nets over =
-    (w : Improvable arcs rows margins₀ (q .delta) (stateOf flows₀ prices₀ nets₀))
-    → Running (take (w .n) (w .streams)) (q .delta) (q .start) (over / q .delta) (stateOf flows prices nets)
-    × (fromPlace (over / q .delta) (take (w .n) (w .streams)) (q .delta) (q .start) (stateOf flows prices nets)
-    ≡ fromPlace ((getD nets₀ (q .start) 0 - netShift) / q .delta) (take (w .n) (w .streams)) (q .delta) (q .start) (stateOf flows₀ prices₀ nets₀))
+Inv-loop arcs rows margins₀ flows₀ potentials₀ nets₀ q s delta over₀ margins flows potentials nets over =
+    (w : Improvable arcs rows margins₀ (q .delta) (stateOf flows₀ potentials₀ nets₀))
+    → Running (take (w .n) (w .streams)) (q .delta) (q .start) (over / q .delta) (stateOf flows potentials nets)
+    × (fromPlace (over / q .delta) (take (w .n) (w .streams)) (q .delta) (q .start) (stateOf flows potentials nets)
+    ≡ fromPlace ((getD nets₀ (q .start) 0 - netShift) / q .delta) (take (w .n) (w .streams)) (q .delta) (q .start) (stateOf flows₀ potentials₀ nets₀))
     × Margined (w .n) rows flows (q .delta) 0 margins
 
 abbrev μ-loop : tie.MeasureT-loop
-μ-loop arcs rows margins₀ flows₀ prices₀ nets₀ q s delta over₀ margins flows prices nets over = over
+μ-loop arcs rows margins₀ flows₀ potentials₀ nets₀ q s delta over₀ margins flows potentials nets over = over
 
 -- The start; streams that the arcs are of.
 abbrev begin : tie.In-loop Inv-loop μ-loop → tie.Start Inv-loop μ-loop
 begin c = c .before .before .before .before
 
 abbrev Of : tie.Start Inv-loop μ-loop → Type 0
-Of st = Improvable (st .args .arcs .now) (st .args .rows .now) (st .args .margins .now) (st .args .q .delta) (stateOf (st .args .flows .now) (st .args .prices .now) (st .args .nets .now))
+Of st = Improvable (st .args .arcs .now) (st .args .rows .now) (st .args .margins .now) (st .args .q .delta) (stateOf (st .args .flows .now) (st .args .potentials .now) (st .args .nets .now))
 
 -- One improvement more can be made.
 abbrev able : (c : tie.In-loop Inv-loop μ-loop) → Of (begin c)
-    → Improvable (begin c .args .arcs .now) (begin c .args .rows .now) (c .before .loop .margins) (begin c .args .q .delta) (stateOf (c .before .loop .flows) (c .before .loop .prices) (c .before .loop .nets))
+    → Improvable (begin c .args .arcs .now) (begin c .args .rows .now) (c .before .loop .margins) (begin c .args .q .delta) (stateOf (c .before .loop .flows) (c .before .loop .potentials) (c .before .loop .nets))
 able c w =
     let at = c .before .loop .inv w in
     record { streams = w .streams; n = w .n; network = w .network; laid = w .laid; step = w .step; underway = at .0 .underway; margined = at .2 }

@@ -20,13 +20,13 @@ use Rattle.solve_phases.proofs.phase.Tie as tie
 use Rattle.solve_phases.proofs.from_place.Reads as from-place-reads
 
 abbrev Inv-loop : tie.InvT-loop
-Inv-loop arcs rows margins₀ delta flows₀ prices₀ nets₀ count s₀ margins flows prices nets s =
+Inv-loop arcs rows margins₀ delta flows₀ potentials₀ nets₀ count s₀ margins flows potentials nets s =
     (s ≤ places)
-    × ((w : Phasable arcs rows delta (stateOf flows₀ prices₀ nets₀))
-    → (phaseTo s (take (w .n) (w .streams)) delta (stateOf flows₀ prices₀ nets₀) ≡ going (stateOf flows prices nets)) × Margined (w .n) rows flows delta 0 margins)
+    × ((w : Phasable arcs rows delta (stateOf flows₀ potentials₀ nets₀))
+    → (phaseTo s (take (w .n) (w .streams)) delta (stateOf flows₀ potentials₀ nets₀) ≡ going (stateOf flows potentials nets)) × Margined (w .n) rows flows delta 0 margins)
 
 abbrev μ-loop : tie.MeasureT-loop
-μ-loop arcs rows margins₀ delta flows₀ prices₀ nets₀ count s₀ margins flows prices nets s = places - s
+μ-loop arcs rows margins₀ delta flows₀ potentials₀ nets₀ count s₀ margins flows potentials nets s = places - s
 
 -- The start; streams that the arcs are of.
 abbrev begin : tie.In-loop Inv-loop μ-loop → tie.Start Inv-loop μ-loop
@@ -37,7 +37,7 @@ Of st = Phasable (st .args .arcs .now) (st .args .rows .now) (st .args .delta) (
 
 -- Improvements can be made from one place more.
 abbrev able : (c : tie.In-loop Inv-loop μ-loop) → Of (begin c)
-    → Improvable (begin c .args .arcs .now) (begin c .args .rows .now) (c .before .loop .margins) (begin c .args .delta) (stateOf (c .before .loop .flows) (c .before .loop .prices) (c .before .loop .nets))
+    → Improvable (begin c .args .arcs .now) (begin c .args .rows .now) (c .before .loop .margins) (begin c .args .delta) (stateOf (c .before .loop .flows) (c .before .loop .potentials) (c .before .loop .nets))
 able c w = record {
   streams = w .streams;
   n = w .n;

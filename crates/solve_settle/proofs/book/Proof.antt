@@ -2,8 +2,7 @@
 use Prim.Native.Nat.{_+_}
 use native.Mathlib.Omega.{arith}
 use borrow.Author.Needs.{needs}
-use Rattle.solve_def.specs.Sizes.{mostFlow}
-use Rattle.solve_def.specs.Sizes.{netRoom}
+use Rattle.solve_def.specs.Sizes.{mostFlow, netRoom}
 use Rattle.solve_def.specs.Model.{left}
 use Rattle.solve_def.specs.SolverNeeds.{Around}
 use Rattle.solve_def.proofs.Booking.{left-around}
@@ -14,12 +13,6 @@ use Rattle.solve_settle.proofs.book.Tie as tie
 once : (st : tie.Start) → Around (left (st .args .nets .now) (st .args .u) (st .args .x)) (netRoom + mostFlow)
 once st = left-around (st .pre .3) (omega arith) (st .args .u) (st .args .x) (st .pre .0) (st .pre .2)
 
-mul-nets : tie.Need-mul-nets
-mul-nets c = search needs
-
-element-copy-out-nets : tie.Need-element-copy-out-nets
-element-copy-out-nets c = search needs
-
 add-nets : tie.Need-add-nets
 add-nets c =
     let st = c .before in omega (arith, st .pre .3 .high (st .args .u) (st .pre .0))
@@ -27,18 +20,6 @@ add-nets c =
 sub-nets : tie.Need-sub-nets
 sub-nets c =
     let st = c .before in omega (arith, st .pre .3 .low (st .args .u) (st .pre .0))
-
-mul-nets-2 : tie.Need-mul-nets-2
-mul-nets-2 c = search needs
-
-element-write-nets : tie.Need-element-write-nets
-element-write-nets c = search needs
-
-mul-nets-3 : tie.Need-mul-nets-3
-mul-nets-3 c = search needs
-
-element-copy-out-nets-2 : tie.Need-element-copy-out-nets-2
-element-copy-out-nets-2 c = search needs
 
 add-nets-2 : tie.Need-add-nets-2
 add-nets-2 c =
@@ -50,29 +31,9 @@ sub-nets-2 c =
     let st = c .before .before in
     omega (arith, once st .low (st .args .v) (st .pre .1))
 
-mul-nets-4 : tie.Need-mul-nets-4
-mul-nets-4 c = search needs
-
-element-write-nets-2 : tie.Need-element-write-nets-2
-element-write-nets-2 c = search needs
-
-returns : tie.Need-returns
-returns c = search needs
-
 pub book-spec : {M : Type 1} → statement M
 book-spec =
     tie.close
-    (tie.spec
-    mul-nets
-    element-copy-out-nets
-    add-nets
-    sub-nets
-    mul-nets-2
-    element-write-nets
-    mul-nets-3
-    element-copy-out-nets-2
-    add-nets-2
-    sub-nets-2
-    mul-nets-4
-    element-write-nets-2
-    returns)
+    (tie.spec (λ c. search needs) (λ c. search needs) add-nets sub-nets (λ c. search needs) (λ c. search needs)
+    (λ c. search needs) (λ c. search needs) add-nets-2 sub-nets-2 (λ c. search needs) (λ c. search needs)
+    (λ c. search needs))

@@ -18,15 +18,6 @@ abbrev μ-loop : tie.MeasureT-loop
 loop-holds : tie.Need-loop-holds Inv-loop μ-loop
 loop-holds c = (omega arith, sym (over-none _))
 
-mul-minus : tie.Need-mul-minus Inv-loop μ-loop
-mul-minus c = search needs
-
-element-copy-out-minus : tie.Need-element-copy-out-minus Inv-loop μ-loop
-element-copy-out-minus c = search needs
-
-minus-requires : tie.Need-minus-requires Inv-loop μ-loop
-minus-requires c κs = search needs
-
 add-sum : tie.Need-add-sum Inv-loop μ-loop
 add-sum c =
     let at = c .before .before .before in
@@ -38,12 +29,6 @@ add-sum c =
       at .loop .inv .1,
       over-to-most (at .before .args .nets .now) netRoom (at .loop .u) (λ v l. high v (omega arith)),
     )
-
-add-u : tie.Need-add-u Inv-loop μ-loop
-add-u c = search needs
-
-loop-less : tie.Need-loop-less Inv-loop μ-loop
-loop-less c = search needs
 
 loop-again : tie.Need-loop-again Inv-loop μ-loop
 loop-again c =
@@ -59,15 +44,5 @@ returns c =
 pub over-sum-spec : {M : Type 1} → statement M
 over-sum-spec =
     tie.close
-    (tie.spec
-    Inv-loop
-    μ-loop
-    loop-holds
-    mul-minus
-    element-copy-out-minus
-    minus-requires
-    add-sum
-    add-u
-    loop-less
-    loop-again
-    returns)
+    (tie.spec Inv-loop μ-loop loop-holds (λ c. search needs) (λ c. search needs) (λ c κs. search needs) add-sum
+    (λ c. search needs) (λ c. search needs) loop-again returns)

@@ -1,4 +1,4 @@
--- `solve_start::start` meets its contract: the prices are by label, and what is routed leaves the metered amounts settled.
+-- `solve_start::start` meets its contract: the potentials are by label, and what is routed leaves the metered amounts settled.
 use mathlib.Core.Path.{_≡_, subst}
 use mathlib.Core.List.{List}
 use Prim.Native.Nat.{ℕ}
@@ -10,7 +10,7 @@ use Rattle.flow_def.specs.Chains.{unmeteredOnly}
 use Rattle.flow_def.specs.Labels.{labelsOf}
 use Rattle.flow_def.proofs.Grouping.{labels-are}
 use Rattle.newton_descend.specs.Levels.{Level}
-use Rattle.solve_def.specs.Sizes.{flowShift, priceShift, priceSpread}
+use Rattle.solve_def.specs.Sizes.{flowShift, potentialShift, potentialSpread}
 use Rattle.solve_def.specs.Model.{settledTo}
 use Rattle.solve_def.proofs.Booking.{nets-long}
 use Rattle.solve_def.proofs.Theorem.{network-of}
@@ -21,8 +21,8 @@ use Rattle.solve_start.proofs.Factored.{labels-of, level-ready, level-r
 use Rattle.solve_start.proofs.start.Statement.{statement}
 use Rattle.solve_start.proofs.start.Tie as tie
 
-levels : (c : tie.After-potentials-of) → Level (labelsOf unmeteredOnly (plantOf (c .before .args .p))) priceShift priceSpread (c .potentials-of .result)
-levels c = subst (λ (ls : List ℕ). Level ls priceShift priceSpread (c .potentials-of .result)) (labels-are (c .before .args .p) (c .before .pre .0) unmeteredOnly _ (c .before .pre .1)) (c .potentials-of .ensures)
+levels : (c : tie.After-potentials-of) → Level (labelsOf unmeteredOnly (plantOf (c .before .args .p))) potentialShift potentialSpread (c .potentials-of .result)
+levels c = subst (λ (ls : List ℕ). Level ls potentialShift potentialSpread (c .potentials-of .result)) (labels-are (c .before .args .p) (c .before .pre .0) unmeteredOnly _ (c .before .pre .1)) (c .potentials-of .ensures)
 
 potentials-of-requires : tie.Need-potentials-of-requires
 potentials-of-requires c κs = (c .pre .0, rw (labels-are (c .args .p) (c .pre .0) unmeteredOnly _ (c .pre .1)) (labels-of (c .args .p) (c .pre .0)), omega arith)

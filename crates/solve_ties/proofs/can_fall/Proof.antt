@@ -11,39 +11,6 @@ use borrow.Author.Needs.{needs}
 use Rattle.solve_ties.proofs.can_fall.Statement.{statement}
 use Rattle.solve_ties.proofs.can_fall.Tie as tie
 
-mul-if1 : tie.Need-mul-if1
-mul-if1 c = search needs
-
-mul-if1-2 : tie.Need-mul-if1-2
-mul-if1-2 c = search needs
-
-element-copy-out-if1 : tie.Need-element-copy-out-if1
-element-copy-out-if1 c = search needs
-
-mul-end-at : tie.Need-mul-end-at
-mul-end-at c = search needs
-
-end-at-requires : tie.Need-end-at-requires
-end-at-requires c κs = search needs
-
-mul-end-at-2 : tie.Need-mul-end-at-2
-mul-end-at-2 c = search needs
-
-add-end-at : tie.Need-add-end-at
-add-end-at c = search needs
-
-end-at-requires-2 : tie.Need-end-at-requires-2
-end-at-requires-2 c κs = search needs
-
-mul-reduced-cost : tie.Need-mul-reduced-cost
-mul-reduced-cost c = search needs
-
-mul-reduced-cost-2 : tie.Need-mul-reduced-cost-2
-mul-reduced-cost-2 c = search needs
-
-element-copy-out-reduced-cost : tie.Need-element-copy-out-reduced-cost
-element-copy-out-reduced-cost c = search needs
-
 start-in : (c : tie.After-end-at) → c .end-at .result < places
 start-in c = let st = c .before .before .before in rw (c .end-at .ensures, ← starts-at (st .args .arcs .now) (st .args .i) (st .pre .1)) (st .pre .0 .linked .from-in _ (st .pre .1))
 
@@ -66,14 +33,14 @@ reduced-cost-requires : tie.Need-reduced-cost-requires
 reduced-cost-requires c κs =
     let v = c .before .before .before in
     let st = v .before .before .before .before in
-    (small-back (st .args .arcs .now) (st .args .margins .now) (st .args .i) (st .pre .0 .small) (st .pre .1), st .pre .0 .prices _ (end-in v), st .pre .0 .prices _ (start-in (v .before)))
+    (small-back (st .args .arcs .now) (st .args .margins .now) (st .args .i) (st .pre .0 .small) (st .pre .1), st .pre .0 .potentials _ (end-in v), st .pre .0 .potentials _ (start-in (v .before)))
 
 returns : tie.Need-returns
 returns c =
     let v = c .before .before .before .before in
     let st = v .before .before .before .before in
     rw (lt-ltb 0 _ (v .before .before .if1 .taken), c .reduced-cost .ensures .0, v .end-at2 .ensures, v .before .end-at .ensures)
-    (sym (ap (λ (x : ℕ). eqb x 0) (slack-back (st .args .arcs .now) (st .args .margins .now) (st .args .prices .now) (st .args .i) (st .pre .1))))
+    (sym (ap (λ (x : ℕ). eqb x 0) (slack-back (st .args .arcs .now) (st .args .margins .now) (st .args .potentials .now) (st .args .i) (st .pre .1))))
 
 returns-2 : tie.Need-returns-2
 returns-2 c = rw (le-ltb 0 _ (c .if1 .left))
@@ -81,22 +48,7 @@ returns-2 c = rw (le-ltb 0 _ (c .if1 .left))
 pub can-fall-spec : {M : Type 1} → statement M
 can-fall-spec =
     tie.close
-    (tie.spec
-    mul-if1
-    mul-if1-2
-    element-copy-out-if1
-    mul-end-at
-    end-at-requires
-    mul-end-at-2
-    add-end-at
-    end-at-requires-2
-    mul-reduced-cost
-    mul-reduced-cost-2
-    element-copy-out-reduced-cost
-    mul-reduced-cost-3
-    element-copy-out-reduced-cost-2
-    mul-reduced-cost-4
-    element-copy-out-reduced-cost-3
-    reduced-cost-requires
-    returns
-    returns-2)
+    (tie.spec (λ c. search needs) (λ c. search needs) (λ c. search needs) (λ c. search needs) (λ c κs. search needs)
+    (λ c. search needs) (λ c. search needs) (λ c κs. search needs) (λ c. search needs) (λ c. search needs)
+    (λ c. search needs) mul-reduced-cost-3 element-copy-out-reduced-cost-2 mul-reduced-cost-4
+    element-copy-out-reduced-cost-3 reduced-cost-requires returns returns-2)

@@ -4,25 +4,17 @@ use borrow.Author.Needs.{needs}
 use Rattle.solve_ties.proofs.spare.Statement.{statement}
 use Rattle.solve_ties.proofs.spare.Tie as tie
 
-mul-if1 : tie.Need-mul-if1
-mul-if1 c = search needs
-
-mul-if1-2 : tie.Need-mul-if1-2
-mul-if1-2 c = search needs
-
-element-copy-out-if1 : tie.Need-element-copy-out-if1
-element-copy-out-if1 c = search needs
-
-shut-margins-requires : tie.Need-shut-margins-requires
-shut-margins-requires c κs = search needs
-
 returns : tie.Need-returns
-returns c = λ n xs m. let st = c .before .before .before .before in rw (c .shut-margins .ensures) (margined-shut (st .args .rows .now) 1 (st .args .i) _ (st .pre .0) n xs (c .before .before .if1 .taken) m)
+returns c = λ n xs m.
+    let st = c .before .before .before .before in
+    rw (c .shut-margins .ensures) (margined-shut (st .args .rows .now) 1 (st .args .i) _ (st .pre .0) n xs (c .before .before .if1 .taken) m)
 
 returns-2 : tie.Need-returns-2
-returns-2 c = λ n xs m. let st = c .before .before in margined-free (st .args .rows .now) 1 (st .args .i) _ (st .pre .0) n xs (c .if1 .left) m
+returns-2 c = λ n xs m.
+    let st = c .before .before in
+    margined-free (st .args .rows .now) 1 (st .args .i) _ (st .pre .0) n xs (c .if1 .left) m
 
 pub spare-spec : {M : Type 1} → statement M
 spare-spec =
     tie.close
-    (tie.spec mul-if1 mul-if1-2 element-copy-out-if1 shut-margins-requires returns returns-2)
+    (tie.spec (λ c. search needs) (λ c. search needs) (λ c. search needs) (λ c κs. search needs) returns returns-2)

@@ -19,18 +19,18 @@ use Rattle.solve_ties.proofs.tie_all.Statement.{statement}
 use Rattle.solve_ties.proofs.tie_all.Tie as tie
 
 abbrev Inv-loop : tie.InvT-loop
-Inv-loop arcs rows margins₀ flows₀ prices n i₀ margins flows i =
-    (i ≤ n) × ((w : Tieable arcs rows prices 0 flows₀) → flows ≡ tiesTo (take (w .n) (w .streams)) prices i flows₀) × Margined (countOf arcs) rows flows 1 i margins
+Inv-loop arcs rows margins₀ flows₀ potentials n i₀ margins flows i =
+    (i ≤ n) × ((w : Tieable arcs rows potentials 0 flows₀) → flows ≡ tiesTo (take (w .n) (w .streams)) potentials i flows₀) × Margined (countOf arcs) rows flows 1 i margins
 
 abbrev μ-loop : tie.MeasureT-loop
-μ-loop arcs rows margins₀ flows₀ prices n i₀ margins flows i = n - i
+μ-loop arcs rows margins₀ flows₀ potentials n i₀ margins flows i = n - i
 
 -- The start; streams that the arcs are of.
 abbrev begin : tie.In-loop Inv-loop μ-loop → tie.Start Inv-loop μ-loop
 begin c = c .before .before .before
 
 abbrev Of : tie.Start Inv-loop μ-loop → Type 0
-Of st = Tieable (st .args .arcs .now) (st .args .rows .now) (st .args .prices .now) 0 (st .args .flows .now)
+Of st = Tieable (st .args .arcs .now) (st .args .rows .now) (st .args .potentials .now) 0 (st .args .flows .now)
 
 counted : (c : tie.In-loop Inv-loop μ-loop) → c .before .loop .i < countOf (begin c .args .arcs .now)
 counted c = rw (← c .before .before .count-of .ensures) (c .loop-test .taken)
@@ -39,20 +39,20 @@ below : (c : tie.In-loop Inv-loop μ-loop) (w : Of (begin c)) → c .before .loo
 below c w = rw (← w .laid .along .counted) (counted c)
 
 -- The flow before stream i is passed.
-abbrev able : (c : tie.In-loop Inv-loop μ-loop) → Of (begin c) → Tieable (begin c .args .arcs .now) (begin c .args .rows .now) (begin c .args .prices .now) (c .before .loop .i) (c .before .loop .flows)
+abbrev able : (c : tie.In-loop Inv-loop μ-loop) → Of (begin c)
+    → let a = begin c .args in
+    let l = c .before .loop in
+    Tieable (a .arcs .now) (a .rows .now) (a .potentials .now) (l .i) (l .flows)
 able c w = record {
   streams = w .streams;
   n = w .n;
   network = w .network;
   laid = w .laid;
-  prices = w .prices;
+  potentials = w .potentials;
   even =
-      subst (λ (xs : List ℕ). Even (take (w .n) (w .streams)) (begin c .args .prices .now) (c .before .loop .i) xs) (sym (c .before .loop .inv .1 w))
+      subst (λ (xs : List ℕ). Even (take (w .n) (w .streams)) (begin c .args .potentials .now) (c .before .loop .i) xs) (sym (c .before .loop .inv .1 w))
       (tying-even (w .streams) (w .n) (w .network) _ _ (w .even) (c .before .loop .i) (omega (arith, below c w)));
 }
-
-count-of-requires : tie.Need-count-of-requires Inv-loop μ-loop
-count-of-requires c κs = search needs
 
 loop-holds : tie.Need-loop-holds Inv-loop μ-loop
 loop-holds c = (omega arith, λ w. sym (ties-none _ _ _), c .before .pre .1)
@@ -72,7 +72,9 @@ spare-requires c κs =
 
 -- Stream i can fall at no cost.
 abbrev tying : (c : tie.After-can-fall Inv-loop μ-loop) → c .can-fall .result ≡ true → Of (begin (c .before .before))
-    → Tying (begin (c .before .before) .args .arcs .now) (begin (c .before .before) .args .rows .now) (begin (c .before .before) .args .prices .now) (c .before .before .before .loop .i) (c .before .before .before .loop .flows)
+    → let a = begin (c .before .before) .args in
+    let l = c .before .before .before .loop in
+    Tying (a .arcs .now) (a .rows .now) (a .potentials .now) (l .i) (l .flows)
 tying c e w =
     let on = c .before .before in
     let s = tie-searching _ _ _ _ _ _ _ (able on w) (omega (arith, below on w)) (on .before .loop .inv .2) in
@@ -90,21 +92,21 @@ tie-at-requires c κs =
     let on = f .before .before in
     (tying f (th .if1 .taken) (begin on .pre .0), sp .spare .ensures _ _ (on .before .loop .inv .2))
 
-add-i : tie.Need-add-i Inv-loop μ-loop
-add-i c = search needs
-
-loop-less : tie.Need-loop-less Inv-loop μ-loop
-loop-less c = search needs
-
 -- What one stream more comes to.
 after : (c : tie.In-loop Inv-loop μ-loop) (w : Of (begin c))
-    → tiedAt (take (w .n) (w .streams)) (begin c .args .prices .now) (c .before .loop .i) (c .before .loop .flows) ≡ tiesTo (take (w .n) (w .streams)) (begin c .args .prices .now) (c .before .loop .i + 1) (begin c .args .flows .now)
+    → let ss = take (w .n) (w .streams) in
+    let a = begin c .args in
+    let l = c .before .loop in
+    tiedAt ss (a .potentials .now) (l .i) (l .flows) ≡ tiesTo ss (a .potentials .now) (l .i + 1) (a .flows .now)
 after c w =
-    ap (λ (xs : List ℕ). tiedAt (take (w .n) (w .streams)) (begin c .args .prices .now) (c .before .loop .i) xs) (c .before .loop .inv .1 w)
-    ∙ sym (ties-next (take (w .n) (w .streams)) (begin c .args .prices .now) (begin c .args .flows .now) (c .before .loop .i))
+    let ss = take (w .n) (w .streams) in
+    let ps = begin c .args .potentials .now in
+    let i = c .before .loop .i in
+    ap (λ (xs : List ℕ). tiedAt ss ps i xs) (c .before .loop .inv .1 w) ∙ sym (ties-next ss ps (begin c .args .flows .now) i)
 
 unchanged : (c : tie.After-can-fall Inv-loop μ-loop) (w : Of (begin (c .before .before))) → c .can-fall .result ≡ false
-    → tiedAt (take (w .n) (w .streams)) (begin (c .before .before) .args .prices .now) (c .before .before .before .loop .i) (c .before .before .before .loop .flows) ≡ c .before .before .before .loop .flows
+    → let l = c .before .before .before .loop in
+    tiedAt (take (w .n) (w .streams)) (begin (c .before .before) .args .potentials .now) (l .i) (l .flows) ≡ l .flows
 unchanged c w e =
     let on = c .before .before in
     let s = tie-searching _ _ _ _ _ _ _ (able on w) (omega (arith, below on w)) (on .before .loop .inv .2) in
@@ -131,15 +133,5 @@ returns c = λ w.
 pub tie-all-spec : {M : Type 1} → statement M
 tie-all-spec =
     tie.close
-    (tie.spec
-    Inv-loop
-    μ-loop
-    count-of-requires
-    loop-holds
-    can-fall-requires
-    spare-requires
-    tie-at-requires
-    add-i
-    loop-less
-    loop-again
-    returns)
+    (tie.spec Inv-loop μ-loop (λ c κs. search needs) loop-holds can-fall-requires spare-requires tie-at-requires
+    (λ c. search needs) (λ c. search needs) loop-again returns)

@@ -1,16 +1,15 @@
 -- `solve_ties::tie_at` meets its contract: by whether a way leads round; it leaves room for the push.
 use Rattle.solve_def.proofs.TieTurns.{tied-cut, tied-round, Pushable, pushable}
-use Rattle.plant_def.specs.Limits.{maxStreams}
+use Rattle.plant_def.specs.Limits.{maxStreams, places}
 use Rattle.solve_arcs.specs.Cells.{countOf}
-use Rattle.solve_arcs.specs.ArcNeeds.{Margined}
 use Rattle.solve_arcs.proofs.Along.{starts-at, ends-at}
 use Rattle.solve_arcs.proofs.Stores.{margined-own, spare-own}
 use Rattle.solve_ties.proofs.Evened.{tie-searching, tie-laying, tie-trail, way-free, weighs-some}
 use Rattle.solve_ties.specs.Evens.{Tying}
-use Rattle.solve_def.specs.Search.{rootAt, grownBy, tightPath}
+use Rattle.plant_def.specs.declared.Stream.{Stream}
+use Rattle.solve_def.specs.Search.{Grown, rootAt, grownBy, tightPath}
 use Rattle.solve_def.specs.Push.{pushed}
 use Rattle.solve_def.specs.Sizes.{searchRounds}
-use Rattle.plant_def.specs.Limits.{places}
 use Rattle.plant_def.specs.Plants.{noStream}
 use lib.ListN.{getD, take}
 use borrow.Author.Tests.{not-true, not-false}
@@ -27,7 +26,7 @@ abbrev start : tie.After-tight-path → tie.Start
 start c = c .before .before .before .before
 
 abbrev Of : tie.Start → Type 0
-Of st = Tying (st .args .arcs .now) (st .args .rows .now) (st .args .prices .now) (st .args .i) (st .args .flows .now)
+Of st = Tying (st .args .arcs .now) (st .args .rows .now) (st .args .potentials .now) (st .args .i) (st .args .flows .now)
 
 used : (st : tie.Start) (w : Of st) → st .args .i < countOf (st .args .arcs .now)
 used st w = rw (w .tieable .laid .along .counted) (w .below)
@@ -47,55 +46,56 @@ end-in c = let w = c .before .before .pre .0 in rw (to-is c w) (omega (arith, w 
 low : (st : tie.Start) → st .args .i < maxStreams
 low st = let w = st .pre .0 in omega (arith, w .below, w .tieable .network .within .few-streams)
 
+-- The search round stream i, from place u to place v past the streams before number k.
+abbrev round : (st : tie.Start) → Of st → ℕ → ℕ → ℕ → Grown
+round st w u v k =
+    tightPath (take (w .tieable .n) (w .tieable .streams)) (w .tieable .n) (st .args .flows .now) (st .args .potentials .now) v k searchRounds (rootAt u)
+
+-- Stream i.
+abbrev own : (st : tie.Start) → Of st → Stream
+own st w = getD (w .tieable .streams) (st .args .i) noStream
+
 -- What the call of tight_path says.
 told : (c : tie.After-tight-path) (w : Of (start c))
-    → grownBy (c .tight-path .result .found) (c .tight-path .result .tree) (start c .args .prices .now)
-    ≡ tightPath (take (w .tieable .n) (w .tieable .streams)) (w .tieable .n) (start c .args .flows .now) (start c .args .prices .now) (getD (w .tieable .streams) (start c .args .i) noStream .to) (suc (start c .args .i)) searchRounds (rootAt (getD (w .tieable .streams) (start c .args .i) noStream .from))
+    → grownBy (c .tight-path .result .found) (c .tight-path .result .tree) (start c .args .potentials .now)
+    ≡ round (start c) w (own (start c) w .from) (own (start c) w .to) (suc (start c .args .i))
 told c w =
     let st = start c in
-    let t = w .tieable in
-    c .tight-path .ensures (st .args .i + 1) (tie-searching _ _ _ _ _ _ _ t (omega (arith, w .below)) (st .pre .1))
-    ∙ ap (λ (v : ℕ). tightPath (take (t .n) (t .streams)) (t .n) (st .args .flows .now) (st .args .prices .now) v (st .args .i + 1) searchRounds (rootAt (c .before .before .before .end-at .result))) (to-is (c .before .before) w)
-    ∙ ap (λ (u : ℕ). tightPath (take (t .n) (t .streams)) (t .n) (st .args .flows .now) (st .args .prices .now) (getD (t .streams) (st .args .i) noStream .to) (st .args .i + 1) searchRounds (rootAt u)) (from-is (c .before .before .before) w)
-    ∙ ap (λ (k : ℕ). tightPath (take (t .n) (t .streams)) (t .n) (st .args .flows .now) (st .args .prices .now) (getD (t .streams) (st .args .i) noStream .to) k searchRounds (rootAt (getD (t .streams) (st .args .i) noStream .from))) (add-one (st .args .i))
+    let v = c .before .before in
+    c .tight-path .ensures (st .args .i + 1) (tie-searching _ _ _ _ _ _ _ (w .tieable) (omega (arith, w .below)) (st .pre .1))
+    ∙ ap (λ (y : ℕ). round st w (v .before .end-at .result) y (st .args .i + 1)) (to-is v w)
+    ∙ ap (λ (x : ℕ). round st w x (own st w .to) (st .args .i + 1)) (from-is (v .before) w)
+    ∙ ap (λ (k : ℕ). round st w (own st w .from) (own st w .to) k) (add-one (st .args .i))
 
 -- A way round was found: what the push needs.
 ready : (c : tie.Else1) (w : Of (start (c .before .before)))
-    → Pushable (w .tieable .streams) (w .tieable .n) (w .tieable .network) (start (c .before .before) .args .prices .now) (start (c .before .before) .args .i) (w .below) (start (c .before .before) .args .flows .now) (c .before .before .tight-path .result .tree)
+    → let a = start (c .before .before) .args in
+    let t = w .tieable in
+    Pushable (t .streams) (t .n) (t .network) (a .potentials .now) (a .i) (w .below) (a .flows .now) (c .before .before .tight-path .result .tree)
 ready c w =
     let f = c .before .before in
     pushable (w .tieable .streams) (w .tieable .n) (w .tieable .network) _ _ (w .below) _ (w .tieable .even) _ (w .falls .metered) (w .falls .tight) (told f w) (not-false _ (c .if1 .left))
 
--- The search, and the start, from where the push is done.
-abbrev hunt : tie.After-augment → tie.After-tight-path
-hunt c = c .before .before .before .before .before .before .before .before .before .before
+-- From where the push is done: where its way is known, where one was found, and the search.
+abbrev way-known : tie.After-augment → tie.After-augment-arg
+way-known c = c .before .before .before .before
 
 abbrev found : tie.After-augment → tie.Else1
-found c = c .before .before .before .before .before .before .before .before
+found c = way-known c .before .before .before .before
+
+abbrev hunt : tie.After-augment → tie.After-tight-path
+hunt c = found c .before .before
 
 -- The amounts after the push.
 moved-are : (c : tie.After-augment) (w : Of (start (hunt c)))
-    → c .augment .last .1 .1 .1 .0 ≡ pushed (take (w .tieable .n) (w .tieable .streams)) (hunt c .tight-path .result .tree .via) (hunt c .tight-path .result .tree .ends) 1 (hunt c .tight-path .result .tree .len) (getD (w .tieable .streams) (start (hunt c) .args .i) noStream .to) (start (hunt c) .args .flows .now)
+    → let st = start (hunt c) in
+    let t = hunt c .tight-path .result .tree in
+    c .augment .last .1 .1 .1 .0 ≡ pushed (take (w .tieable .n) (w .tieable .streams)) (t .via) (t .ends) 1 (t .len) (own st w .to) (st .args .flows .now)
 moved-are c w =
     let f = hunt c in
     let t = f .tight-path .result .tree in
     c .augment .ensures .1 (tie-laying _ _ _ _ _ (w .tieable))
     ∙ ap (λ (v : ℕ). pushed (take (w .tieable .n) (w .tieable .streams)) (t .via) (t .ends) 1 (t .len) v (start f .args .flows .now)) (to-is (f .before .before) w)
-
-mul-end-at : tie.Need-mul-end-at
-mul-end-at c = search needs
-
-mul-end-at-2 : tie.Need-mul-end-at-2
-mul-end-at-2 c = search needs
-
-add-end-at : tie.Need-add-end-at
-add-end-at c = search needs
-
-end-at-requires : tie.Need-end-at-requires
-end-at-requires c κs = search needs
-
-end-at-requires-2 : tie.Need-end-at-requires-2
-end-at-requires-2 c κs = search needs
 
 tight-path-requires : tie.Need-tight-path-requires
 tight-path-requires c κs =
@@ -109,14 +109,17 @@ returns c =
     (λ w. sym (tied-cut (w .tieable .streams) (w .tieable .n) (w .tieable .network) _ _ (w .below) _ _ (w .falls .metered) (w .falls .tight) (told f w) (not-true _ (c .if1 .taken))), start f .pre .1)
 
 cast-target : tie.Need-cast-target
-cast-target c = omega (arith, end-in (c .before .before .before .before .before .before .before))
+cast-target c =
+    let searched = c .before .before .before .before in
+    omega (arith, end-in (searched .before .before .before))
 
 augment-requires : tie.Need-augment-requires
 augment-requires c κs =
-    let e = c .before .before .before .before .before .before .before in
-    let st = start (e .before .before) in
+    let known = c .before .before .before in
+    let hit = known .before .before .before .before in
+    let st = start (hit .before .before) in
     let w = st .pre .0 in
-    let r = ready e w in
+    let r = ready hit w in
     (tie-laying _ _ _ _ _ (w .tieable), omega arith, tie-trail _ _ _ _ _ (w .tieable) _ _ (r .trail), r .roomy, st .pre .1 .long)
 
 mul-flows : tie.Need-mul-flows
@@ -143,30 +146,21 @@ returns-2 c =
     let f = hunt p in
     let st = start f in
     let v = st .pre .0 in
-    let n = v .tieable in (
+    let n = v .tieable in
+    let rs = st .args .rows .now in
+    let i = st .args .i in
+    let hit = not-false _ (found p .if1 .left) in
+    let free = way-free (n .streams) (n .n) (n .network) rs (n .laid .rowed) _ i (v .below) _ (n .even) _ (told f v) hit in (
       λ w. rw (moved-are p w)
-          (sym (tied-round (w .tieable .streams) (w .tieable .n) (w .tieable .network) _ _ (w .below) _ _ (w .falls .metered) (w .falls .tight) (told f w) (not-false _ (found p .if1 .left)))),
-      margined-own (st .args .rows .now) 1 (st .args .i) _ (low st) _ (st .args .i + 1) _ _
-          (spare-own (st .args .rows .now) (st .args .i) (weighs-some (n .streams) (n .n) (n .network) (st .args .rows .now) (n .laid .rowed) (st .args .i) (v .below) (v .falls .metered)))
-          (p .augment .ensures .0 (st .args .i + 1) (st .pre .1) (way-free (n .streams) (n .n) (n .network) (st .args .rows .now) (n .laid .rowed) _ (st .args .i) (v .below) _ (n .even) _ (told f v) (not-false _ (found p .if1 .left)))),
+          (sym (tied-round (w .tieable .streams) (w .tieable .n) (w .tieable .network) _ _ (w .below) _ _ (w .falls .metered) (w .falls .tight) (told f w) hit)),
+      margined-own rs 1 i _ (low st) _ (i + 1) _ _
+          (spare-own rs i (weighs-some (n .streams) (n .n) (n .network) rs (n .laid .rowed) i (v .below) (v .falls .metered)))
+          (p .augment .ensures .0 (i + 1) (st .pre .1) free),
     )
 
 pub tie-at-spec : {M : Type 1} → statement M
 tie-at-spec =
     tie.close
-    (tie.spec
-    mul-end-at
-    end-at-requires
-    mul-end-at-2
-    add-end-at
-    end-at-requires-2
-    tight-path-requires
-    returns
-    cast-target
-    augment-requires
-    mul-flows
-    element-copy-out-flows
-    sub-flows
-    mul-flows-2
-    element-write-flows
-    returns-2)
+    (tie.spec (λ c. search needs) (λ c κs. search needs) (λ c. search needs) (λ c. search needs) (λ c κs. search needs)
+    tight-path-requires returns cast-target augment-requires mul-flows element-copy-out-flows sub-flows mul-flows-2
+    element-write-flows returns-2)

@@ -18,18 +18,23 @@ cast-count c = search needs
 
 returns-2 : tie.Need-returns-2
 returns-2 c =
-    let a = c .before .before .before .before .before .before .args in
+    let else1 = c .before .before .before in
+    let start = else1 .before .before .before in
+    let a = start .args in
     let l = c .before .before .layouts-of in
-    lends-refusal (now (a .file)) (now (a .counts)) (c .before .before .before .if1 .left) (l .result) (l .ensures) (c .if2 .taken)
+    lends-refusal (now (a .file)) (now (a .counts)) (else1 .if1 .left) (l .result) (l .ensures) (c .if2 .taken)
 
 add-put-counts : tie.Need-add-put-counts
 add-put-counts c = search needs
 
 put-counts-requires : tie.Need-put-counts-requires
 put-counts-requires c κs =
-    let l = c .before .before .before .before .layouts-of in
-    let f = survey-fits (now (c .before .before .before .before .before .before .before .before .args .file)) (l .result) (l .ensures) in
-    let h = c .before .before .before .before .before .if1 .left in
+    let after-layouts-of = c .before .before .before .before in
+    let else1 = after-layouts-of .before in
+    let start = else1 .before .before .before in
+    let l = after-layouts-of .layouts-of in
+    let f = survey-fits (now (start .args .file)) (l .result) (l .ensures) in
+    let h = else1 .if1 .left in
     (omega (arith, f .0), omega (arith, f .0, h))
 
 same-length : tie.Need-same-length
@@ -37,9 +42,13 @@ same-length c = search needs
 
 returns-3 : tie.Need-returns-3
 returns-3 c =
-    let a = c .before .before .before .before .before .before .before .before .before .before .before .args in
-    let l = c .before .before .before .before .before .before .before .layouts-of in
-    lends-counts (now (a .file)) (now (a .counts)) (c .before .before .before .before .before .before .before .before .if1 .left) (l .result) (l .ensures) (c .before .before .before .before .before .if2 .left) _ (c .before .before .put-counts .ensures)
+    let else2 = c .before .before .before .before .before in
+    let after-layouts-of = else2 .before .before in
+    let else1 = after-layouts-of .before in
+    let start = else1 .before .before .before in
+    let a = start .args in
+    let l = after-layouts-of .layouts-of in
+    lends-counts (now (a .file)) (now (a .counts)) (else1 .if1 .left) (l .result) (l .ensures) (else2 .if2 .left) _ (c .before .before .put-counts .ensures)
 
 pub layouts-lent-spec : {M : Type 1} → statement M
 layouts-lent-spec =

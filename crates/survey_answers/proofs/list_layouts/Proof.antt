@@ -24,10 +24,14 @@ same-length c = search needs
 
 returns-2 : tie.Need-returns-2
 returns-2 c =
-    let a = c .before .before .before .before .before .before .before .before .before .args in
-    let l = c .before .before .before .before .before .layouts-of in
+    let then2 = c .before .before .before .before in
+    let after-layouts-of = then2 .before in
+    let else1 = after-layouts-of .before in
+    let start = else1 .before .before .before in
+    let a = start .args in
+    let l = after-layouts-of .layouts-of in
     let p = c .before .before .put-refusal .ensures in
-    (says-refused (now (a .file)) (now (a .text)) (c .before .before .before .before .before .before .if1 .left) _ _ (l .result) (l .ensures) (c .before .before .before .before .if2 .taken) p, put-counts p)
+    (says-refused (now (a .file)) (now (a .text)) (else1 .if1 .left) _ _ (l .result) (l .ensures) (then2 .if2 .taken) p, put-counts p)
 
 cast-put-lines : tie.Need-cast-put-lines
 cast-put-lines c = search needs
@@ -37,19 +41,26 @@ add-put-lines c = search needs
 
 put-lines-requires : tie.Need-put-lines-requires
 put-lines-requires c κs =
-    let l = c .before .before .before .before .layouts-of in
-    let f = survey-fits (now (c .before .before .before .before .before .before .before .before .args .file)) (l .result) (l .ensures) in
-    (omega (arith, f .0), c .before .before .before .before .before .if1 .left)
+    let after-layouts-of = c .before .before .before .before in
+    let else1 = after-layouts-of .before in
+    let start = else1 .before .before .before in
+    let l = after-layouts-of .layouts-of in
+    let f = survey-fits (now (start .args .file)) (l .result) (l .ensures) in
+    (omega (arith, f .0), else1 .if1 .left)
 
 same-length-2 : tie.Need-same-length-2
 same-length-2 c = search needs
 
 returns-3 : tie.Need-returns-3
 returns-3 c =
-    let a = c .before .before .before .before .before .before .before .before .before .before .before .args in
-    let l = c .before .before .before .before .before .before .before .layouts-of in
+    let else2 = c .before .before .before .before .before .before in
+    let after-layouts-of = else2 .before in
+    let else1 = after-layouts-of .before in
+    let start = else1 .before .before .before in
+    let a = start .args in
+    let l = after-layouts-of .layouts-of in
     let p = c .before .before .put-lines .ensures in
-    (says-lines (now (a .file)) (now (a .text)) (c .before .before .before .before .before .before .before .before .if1 .left) _ _ (l .result) (l .ensures) (c .before .before .before .before .before .before .if2 .left) p (add-one (l .result .count)), put-counts p)
+    (says-lines (now (a .file)) (now (a .text)) (else1 .if1 .left) _ _ (l .result) (l .ensures) (else2 .if2 .left) p (add-one (l .result .count)), put-counts p)
 
 pub list-layouts-spec : {M : Type 1} → statement M
 list-layouts-spec =

@@ -11,24 +11,32 @@ put-field-requires c κs = let a = c .before .before .args in let s = line-size 
 
 put-decimal-requires : tie.Need-put-decimal-requires
 put-decimal-requires c κs =
-    let a = c .before .before .before .before .before .before .args in
+    let after-put-field = c .before .before .before in
+    let start = after-put-field .before .before .before in
+    let a = start .args in
     let s = line-size (a .k) (a .count) in
-    let p = c .before .before .before .put-field .ensures .place in
+    let p = after-put-field .put-field .ensures .place in
     omega arith
 
 put-byte-requires : tie.Need-put-byte-requires
 put-byte-requires c κs =
-    let a = c .before .before .before .before .before .before .before .before .before .before .args in
+    let after-put-decimal = c .before .before .before in
+    let after-put-field = after-put-decimal .before .before .before .before in
+    let start = after-put-field .before .before .before in
+    let a = start .args in
     let s = line-size (a .k) (a .count) in
-    let p = c .before .before .before .before .before .before .before .put-field .ensures .place in
-    let q = c .before .before .before .put-decimal .ensures .place in
+    let p = after-put-field .put-field .ensures .place in
+    let q = after-put-decimal .put-decimal .ensures .place in
     omega arith
 
 same-length : tie.Need-same-length
 same-length c = search needs
 
 returns : tie.Need-returns
-returns c = behind (behind (c .before .before .before .before .before .before .before .before .before .before .put-field .ensures) (c .before .before .before .before .before .before .put-decimal .ensures)) (c .before .before .put-byte .ensures)
+returns c =
+    let after-put-decimal = c .before .before .before .before .before .before in
+    let after-put-field = after-put-decimal .before .before .before .before in
+    behind (behind (after-put-field .put-field .ensures) (after-put-decimal .put-decimal .ensures)) (c .before .before .put-byte .ensures)
 
 pub put-line-spec : {M : Type 1} → statement M
 put-line-spec =

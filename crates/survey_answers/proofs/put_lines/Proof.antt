@@ -40,9 +40,12 @@ loop-less c = search needs
 
 loop-again : tie.Need-loop-again Inv-loop μ-loop
 loop-again c =
-    let l = c .before .before .before .before .before .loop in
-    let f : Fits w16 (getD (c .before .before .before .before .before .before .before .args .t2) (l .k) 0) = search needs in
-    one-line (l .inv) (c .before .before .before .before .loop-test .taken) (f .fits) (c .before .before .put-line .ensures)
+    let in-loop = c .before .before .before .before in
+    let at-loop = in-loop .before in
+    let start = at-loop .before .before in
+    let l = at-loop .loop in
+    let f : Fits w16 (getD (start .args .t2) (l .k) 0) = search needs in
+    one-line (l .inv) (in-loop .loop-test .taken) (f .fits) (c .before .before .put-line .ensures)
 
 same-length : tie.Need-same-length Inv-loop μ-loop
 same-length c = kept-length (c .before .loop .inv .so-far)

@@ -55,13 +55,15 @@ loop-less c = search needs
 
 loop-again : tie.Need-loop-again Inv-loop μ-loop
 loop-again c =
-    let st = c .before .before .before .before in
-    let at = c .before .before .before .loop in
+    let at-loop = c .before .before .before in
+    let start = at-loop .before in
+    let at = at-loop .loop in
     let e = c .before .leaves-none .ensures in
-    let long = few-long _ _ (st .pre) in (
+    let long = few-long _ _ (start .pre) in (
       omega arith,
       ⊎-elim
-          (λ w. rw (w .2) (tallied-one _ _ _ (at .inv .1) _ (w .1 .ensures .1) (w .1 .ensures .0 ∙ ap (λ (n : ℕ). ones n (at .m)) (sym long)) (sym e ∙ w .0 .taken)))
+          (λ w. rw (w .2) (tallied-one _ _ _ (at .inv .1) _ (w .1 .ensures .1) (w .1 .ensures .0 ∙ ap (λ (n : ℕ). ones n (at .m)) (sym long))
+          (sym e ∙ w .0 .taken)))
           (λ w. rw (w .1) (tallied-not _ _ _ (at .inv .1) (sym e ∙ w .0 .left)))
           (c .if1 .came),
     )

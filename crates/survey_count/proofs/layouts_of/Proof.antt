@@ -4,7 +4,7 @@ use mathlib.Core.Path.{_≡_}
 use denote.Ref.{now}
 use Rattle.plant_def.specs.Files.{readPlant}
 use Rattle.plant_def.specs.Says.{readOf}
-use Rattle.sheet_def.proofs.Promise.{plant-accepted}
+use Rattle.plant_def.proofs.Found.{plant-accepted}
 use Rattle.survey_def.proofs.Promise.{says-unread, says-many, says-surveyed}
 use borrow.Author.Needs.{needs}
 use Rattle.survey_count.proofs.layouts_of.Statement.{statement}
@@ -31,18 +31,25 @@ refusal-requires-2 c κs = search needs
 
 returns-2 : tie.Need-returns-2
 returns-2 c =
-    let read = c .before .before .before .before .before .read-plant in
-    rw (c .refusal2 .ensures) (says-many _ (read .result) (read-in (c .before .before .before .before .before)) (c .before .before .before .before .if1 .left) (c .before .if2 .taken))
+    let else1 = c .before .before .before .before in
+    let after-read-plant = else1 .before in
+    let read = after-read-plant .read-plant in
+    rw (c .refusal2 .ensures) (says-many _ (read .result) (read-in after-read-plant) (else1 .if1 .left) (c .before .if2 .taken))
 
 survey-requires : tie.Need-survey-requires
 survey-requires c κs =
-    let read = c .before .before .before .before .read-plant in
-    (plant-accepted (now (c .before .before .before .before .before .before .args .file)) (read .result) (read-in (c .before .before .before .before)) (c .before .before .before .if1 .left), omega arith)
+    let else1 = c .before .before .before in
+    let after-read-plant = else1 .before in
+    let start = after-read-plant .before .before in
+    let read = after-read-plant .read-plant in
+    (plant-accepted (now (start .args .file)) (read .result) (read-in after-read-plant) (else1 .if1 .left), omega arith)
 
 returns-3 : tie.Need-returns-3
 returns-3 c =
-    let read = c .before .before .before .before .before .read-plant in
-    says-surveyed _ (read .result) (read-in (c .before .before .before .before .before)) (c .before .before .before .before .if1 .left) (omega arith) _ (c .survey .ensures)
+    let else1 = c .before .before .before .before in
+    let after-read-plant = else1 .before in
+    let read = after-read-plant .read-plant in
+    says-surveyed _ (read .result) (read-in after-read-plant) (else1 .if1 .left) (omega arith) _ (c .survey .ensures)
 
 pub layouts-of-spec : {M : Type 1} → statement M
 layouts-of-spec =

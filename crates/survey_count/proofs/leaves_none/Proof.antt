@@ -29,20 +29,25 @@ array-copy-out-s c = search needs
 
 one-label-requires : tie.Need-one-label-requires Inv-loop μ-loop
 one-label-requires c κs =
-    let st = c .before .before .before .before .before in
-    (st .pre .each _ (c .before .before .loop-test .taken), passed-long _ _ (st .pre) _ _ _ _ (c .before .before .before .loop .inv))
+    let at-loop = c .before .before .before in
+    let start = at-loop .before .before in
+    (start .pre .each _ (c .before .before .loop-test .taken), passed-long _ _ (start .pre) _ _ _ _ (at-loop .loop .inv))
 
 returns : tie.Need-returns Inv-loop μ-loop
 returns c =
-    let st = c .before .before .before .before .before .before .before in
-    let at = c .before .before .before .before .before .loop in
+    let in-loop = c .before .before .before .before in
+    let at-loop = in-loop .before in
+    let start = at-loop .before .before in
+    let at = at-loop .loop in
     let closed = ap (λ (b : Bool). eqb (at .left % 2) 0 && b) (sym (c .before .one-label .ensures)) ∙ c .if1 .taken in
-    passed-closed _ _ (st .pre) _ _ _ _ (at .inv) (c .before .before .before .before .loop-test .taken) closed
+    passed-closed _ _ (start .pre) _ _ _ _ (at .inv) (in-loop .loop-test .taken) closed
 
 step-requires : tie.Need-step-requires Inv-loop μ-loop
 step-requires c κs =
-    let st = c .before .before .before .before .before .before .before .before in
-    (st .pre .each _ (c .before .before .before .before .before .loop-test .taken), passed-long _ _ (st .pre) _ _ _ _ (c .before .before .before .before .before .before .loop .inv))
+    let in-loop = c .before .before .before .before .before in
+    let at-loop = in-loop .before in
+    let start = at-loop .before .before in
+    (start .pre .each _ (in-loop .loop-test .taken), passed-long _ _ (start .pre) _ _ _ _ (at-loop .loop .inv))
 
 add-j : tie.Need-add-j Inv-loop μ-loop
 add-j c = search needs
@@ -52,11 +57,14 @@ loop-less c = search needs
 
 loop-again : tie.Need-loop-again Inv-loop μ-loop
 loop-again c =
-    let st = c .before .before .before .before .before .before .before .before .before in
-    let at = c .before .before .before .before .before .before .before .loop in
-    let taken = c .before .before .before .before .before .before .loop-test .taken in
-    let apart = ap (λ (b : Bool). eqb (at .left % 2) 0 && b) (sym (c .before .before .before .one-label .ensures)) ∙ c .before .before .if1 .left in
-    passed-more _ _ (st .pre) _ _ _ _ (at .inv) taken apart _ (c .step .ensures)
+    let after-one-label = c .before .before .before in
+    let in-loop = after-one-label .before .before .before in
+    let at-loop = in-loop .before in
+    let start = at-loop .before .before in
+    let at = at-loop .loop in
+    let taken = in-loop .loop-test .taken in
+    let apart = ap (λ (b : Bool). eqb (at .left % 2) 0 && b) (sym (after-one-label .one-label .ensures)) ∙ c .before .before .if1 .left in
+    passed-more _ _ (start .pre) _ _ _ _ (at .inv) taken apart _ (c .step .ensures)
 
 returns-2 : tie.Need-returns-2 Inv-loop μ-loop
 returns-2 c = passed-all _ _ (c .before .before .before .pre) _ _ _ _ (c .before .loop .inv) (omega arith)

@@ -4,7 +4,8 @@ use Prim.Native.Nat.{ℕ, _+_, _≤_, _-_, _/_, _%_, _^_}
 use native.Mathlib.Omega.{arith}
 use Rattle.flow_def.specs.Sides.{bit}
 use Rattle.survey_def.specs.Inner.{ones}
-use Rattle.survey_def.proofs.Turns.{none-taken, half-left, ones-more, count-most}
+use Rattle.flow_def.proofs.Counts.{count-few}
+use Rattle.survey_def.proofs.Turns.{none-taken, half-left, ones-more}
 use borrow.Author.Needs.{needs}
 use Rattle.survey_count.proofs.ones_of.Statement.{statement}
 use Rattle.survey_count.proofs.ones_of.Tie as tie
@@ -22,7 +23,7 @@ cast-size : tie.Need-cast-size Inv-loop μ-loop
 cast-size c = search needs
 
 add-size : tie.Need-add-size Inv-loop μ-loop
-add-size c = omega (arith, count-most (c .before .loop .j) (λ j. bit j (c .before .before .args .m)))
+add-size c = omega (arith, count-few (c .before .loop .j) (λ j. bit j (c .before .before .args .m)))
 
 add-j : tie.Need-add-j Inv-loop μ-loop
 add-j c = search needs
@@ -42,7 +43,7 @@ returns c =
     let at = c .before .loop in
     let a = c .before .before .args in
     let e : at .j ≡ a .n = omega arith in
-    (rw e at (at .inv .1), omega (arith, count-most (at .j) (λ j. bit j (a .m))))
+    (rw e at (at .inv .1), omega (arith, count-few (at .j) (λ j. bit j (a .m))))
 
 pub ones-of-spec : {M : Type 1} → statement M
 ones-of-spec =

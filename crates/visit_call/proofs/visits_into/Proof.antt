@@ -20,9 +20,12 @@ put-bytes-requires c κs =
 
 put-words-requires : tie.Need-put-words-requires
 put-words-requires c κs =
-    let at = c .before .before .before .before .before .before .before .before in
-    let a = at .before .before .before .before .args in
-    let r = room-lent (now (a .file)) (length (now (a .numbers))) (length (now (a .costs))) (at .visits-lent .result) (at .visits-lent .ensures) in (r .0, r .2)
+    let after-streams = c .before .before .before .before .before .before in
+    let after-visits-lent = after-streams .before .before in
+    let a = after-visits-lent .before .before .before .before .args in
+    let r = room-lent (now (a .file)) (length (now (a .numbers))) (length (now (a .costs))) (after-visits-lent .visits-lent .result)
+    (after-visits-lent .visits-lent .ensures) in
+    (r .0, r .2)
 
 same-length : tie.Need-same-length
 same-length c = search needs

@@ -43,10 +43,13 @@ loop-less c = search needs
 
 loop-again : tie.Need-loop-again Inv-loop μ-loop
 loop-again c =
-    let at = c .before .before .loop in (
+    let at-loop = c .before .before in
+    let start = at-loop .before .before in
+    let at = at-loop .loop in (
       omega arith,
       length-set (at .costs) (at .k) (c .cost-without .result) ∙ at .inv .1,
-      one-more (plantOf (c .before .before .before .before .args .p)) (c .before .before .before .before .args .t2) (at .costs) (at .k) (c .cost-without .result) (omega (arith, c .before .loop-test .taken, c .before .before .before .before .pre .0 .within .few-streams, at .inv .1)) (at .inv .2) (c .cost-without .ensures),
+      one-more (plantOf (start .args .p)) (start .args .t2) (at .costs) (at .k) (c .cost-without .result)
+          (omega (arith, c .before .loop-test .taken, start .pre .0 .within .few-streams, at .inv .1)) (at .inv .2) (c .cost-without .ensures),
     )
 
 returns : tie.Need-returns Inv-loop μ-loop

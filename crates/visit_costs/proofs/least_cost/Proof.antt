@@ -1,4 +1,4 @@
--- What the phases end with is certified by its prices.
+-- What the phases end with is certified by its potentials.
 use mathlib.Core.Path.{_≡_, refl}
 use mathlib.Core.List.{List}
 use Prim.Native.Nat.{ℕ, _*_}
@@ -100,7 +100,8 @@ returns-2 c =
     let f = e .before in
     let b = begun f in
     let st = start (laid b) in
-    least-found (st .args .p) (st .pre .0) (b .start .result) (b .start .ensures) (f .finish .result) (ended f) (e .if1 .left) (o .opened-flows .result) (o .opened-flows .ensures) (c .cost-of .result) (c .cost-of .ensures)
+    least-found (st .args .p) (st .pre .0) (b .start .result) (b .start .ensures) (f .finish .result) (ended f) (e .if1 .left)
+    (o .opened-flows .result) (o .opened-flows .ensures) (c .cost-of .result) (c .cost-of .ensures)
 
 pub least-cost-spec : {M : Type 1} → statement M
 least-cost-spec =

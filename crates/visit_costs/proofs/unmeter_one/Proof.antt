@@ -20,7 +20,9 @@ array-set-from-streams : tie.Need-array-set-from-streams
 array-set-from-streams c = search needs
 
 returns : tie.Need-returns
-returns c = gone-right (c .before .before .before .args .t1) (c .before .before .before .pre .0) (c .before .before .before .args .k) (c .before .before .before .pre .1) (c .unmetered-stream .result) (c .unmetered-stream .ensures)
+returns c =
+    let start = c .before .before .before in
+    gone-right (start .args .t1) (start .pre .0) (start .args .k) (start .pre .1) (c .unmetered-stream .result) (c .unmetered-stream .ensures)
 
 pub unmeter-one-spec : {M : Type 1} → statement M
 unmeter-one-spec =

@@ -10,7 +10,9 @@ use Rattle.visit_text.proofs.list_visits.Statement.{statement}
 use Rattle.visit_text.proofs.list_visits.Tie as tie
 
 returns : tie.Need-returns
-returns c = (says-nothing (now (c .before .before .before .args .file)) (now (c .before .before .before .args .text)) (c .if1 .taken), (omega arith, refl))
+returns c =
+    let start = c .before .before .before in
+    (says-nothing (now (start .args .file)) (now (start .args .text)) (c .if1 .taken), (omega arith, refl))
 
 visits-of-requires : tie.Need-visits-of-requires
 visits-of-requires c κs = search needs
@@ -22,19 +24,42 @@ same-length : tie.Need-same-length
 same-length c = search needs
 
 returns-2 : tie.Need-returns-2
-returns-2 c = let p = c .before .before .put-refusal .ensures in (says-refused (now (c .before .before .before .before .before .before .before .before .before .args .file)) (now (c .before .before .before .before .before .before .before .before .before .args .text)) (c .before .before .before .before .before .before .if1 .left) _ _ (c .before .before .before .before .before .visits-of .result) (c .before .before .before .before .before .visits-of .ensures) (c .before .before .before .before .if2 .taken) p, put-counts p)
+returns-2 c =
+    let then2 = c .before .before .before .before in
+    let after-visits-of = then2 .before in
+    let else1 = after-visits-of .before in
+    let start = else1 .before .before .before in
+    let p = c .before .before .put-refusal .ensures in (
+      says-refused (now (start .args .file)) (now (start .args .text)) (else1 .if1 .left) _ _ (after-visits-of .visits-of .result)
+          (after-visits-of .visits-of .ensures) (then2 .if2 .taken) p,
+      put-counts p,
+    )
 
 cast-put-lines : tie.Need-cast-put-lines
 cast-put-lines c = search needs
 
 put-lines-requires : tie.Need-put-lines-requires
-put-lines-requires c κs = (visits-fit (now (c .before .before .before .before .before .before .before .before .before .args .file)) (c .before .before .before .before .before .visits-of .result) (c .before .before .before .before .before .visits-of .ensures), c .before .before .before .before .before .before .if1 .left)
+put-lines-requires c κs =
+    let after-visits-of = c .before .before .before .before .before in
+    let else1 = after-visits-of .before in
+    let start = else1 .before .before .before in
+    (visits-fit (now (start .args .file)) (after-visits-of .visits-of .result) (after-visits-of .visits-of .ensures), else1 .if1 .left)
 
 same-length-2 : tie.Need-same-length-2
 same-length-2 c = search needs
 
 returns-3 : tie.Need-returns-3
-returns-3 c = let p = c .before .before .put-lines .ensures in (says-lines (now (c .before .before .before .before .before .before .before .before .before .before .before .before .args .file)) (now (c .before .before .before .before .before .before .before .before .before .before .before .before .args .text)) (c .before .before .before .before .before .before .before .before .before .if1 .left) _ _ (c .before .before .before .before .before .before .before .before .visits-of .result) (c .before .before .before .before .before .before .before .before .visits-of .ensures) (c .before .before .before .before .before .before .before .if2 .left) p, put-counts p)
+returns-3 c =
+    let after-streams = c .before .before .before .before .before .before in
+    let else2 = after-streams .before in
+    let after-visits-of = else2 .before in
+    let else1 = after-visits-of .before in
+    let start = else1 .before .before .before in
+    let p = c .before .before .put-lines .ensures in (
+      says-lines (now (start .args .file)) (now (start .args .text)) (else1 .if1 .left) _ _ (after-visits-of .visits-of .result)
+          (after-visits-of .visits-of .ensures) (else2 .if2 .left) p,
+      put-counts p,
+    )
 
 pub list-visits-spec : {M : Type 1} → statement M
 list-visits-spec =

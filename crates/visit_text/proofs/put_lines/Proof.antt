@@ -30,9 +30,11 @@ array-read-put-line-2 c = search needs
 
 put-line-requires : tie.Need-put-line-requires Inv-loop μ-loop
 put-line-requires c κs =
-    let f : Fits w8 (getD (c .before .before .before .before .args .t2) (c .before .before .loop .k) 0) = search needs in
-    let g : Fits w64 (getD (c .before .before .before .before .args .t3) (c .before .before .loop .k) 0) = search needs in
-    line-room (c .before .before .loop .inv) (c .before .loop-test .taken) (f .fits) (g .fits)
+    let at-loop = c .before .before in
+    let start = at-loop .before .before in
+    let f : Fits w8 (getD (start .args .t2) (at-loop .loop .k) 0) = search needs in
+    let g : Fits w64 (getD (start .args .t3) (at-loop .loop .k) 0) = search needs in
+    line-room (at-loop .loop .inv) (c .before .loop-test .taken) (f .fits) (g .fits)
 
 add-k : tie.Need-add-k Inv-loop μ-loop
 add-k c = search needs
@@ -42,9 +44,12 @@ loop-less c = search needs
 
 loop-again : tie.Need-loop-again Inv-loop μ-loop
 loop-again c =
-    let f : Fits w8 (getD (c .before .before .before .before .before .before .before .args .t2) (c .before .before .before .before .before .loop .k) 0) = search needs in
-    let g : Fits w64 (getD (c .before .before .before .before .before .before .before .args .t3) (c .before .before .before .before .before .loop .k) 0) = search needs in
-    one-line (c .before .before .before .before .before .loop .inv) (c .before .before .before .before .loop-test .taken) (f .fits) (g .fits) (c .before .before .put-line .ensures)
+    let in-loop = c .before .before .before .before in
+    let at-loop = in-loop .before in
+    let start = at-loop .before .before in
+    let f : Fits w8 (getD (start .args .t2) (at-loop .loop .k) 0) = search needs in
+    let g : Fits w64 (getD (start .args .t3) (at-loop .loop .k) 0) = search needs in
+    one-line (at-loop .loop .inv) (in-loop .loop-test .taken) (f .fits) (g .fits) (c .before .before .put-line .ensures)
 
 same-length : tie.Need-same-length Inv-loop μ-loop
 same-length c = kept-length (c .before .loop .inv .so-far)

@@ -1,4 +1,4 @@
-//! The search by distances: a distance per place, each labelled place looks at its own streams alone, prices fall once.
+//! The search by distances: a distance per place, each labelled place looks at its own streams alone, potentials fall once.
 
 use super::incidence::Incidence;
 use super::state::{State, SHUT};
@@ -93,7 +93,7 @@ pub fn improve_from<W: Watch>(
         return Err(reach.labelled);
     };
     for u in bits(reach.labelled) {
-        state.prices[u] -= reach.distance[target] - reach.distance[u];
+        state.potentials[u] -= reach.distance[target] - reach.distance[u];
     }
     state.push_back(streams, &reach.via, start, target, delta, watch);
     state.nets[start] -= delta;

@@ -1,4 +1,4 @@
-//! The hint: prices of the groups from the real-number optimum in range, by Newton's method, rounded; unmetered flows by a
+//! The hint: potentials of the groups from the real-number optimum in range, by Newton's method, rounded; unmetered flows by a
 //! forest.
 //!
 //! The first round leaves the ranges out, so a plant without ranges needs one. In each later one a stream at an end of its
@@ -8,10 +8,10 @@ use super::forest::Forest;
 use super::state::State;
 use crate::plants::{Stream, PLACES};
 
-/// A pivot below this belongs to a piece without the outside, and its price is 0.
+/// A pivot below this belongs to a piece without the outside, and its potential is 0.
 const LEAST_PIVOT: f64 = 1e-13;
 
-/// Prices farther from the highest are as far.
+/// Potentials farther from the highest are as far.
 const SPREAD: f64 = (1u64 << 54) as f64;
 
 /// Unmetered amounts beyond this are no hint.
@@ -32,7 +32,7 @@ const NEAR_ENOUGH: f64 = 4.0;
 /// A number for each group, that of the outside first.
 type Row = [f64; PLACES];
 
-/// A metered stream between two groups; `give` is what its amount gains by a difference of prices, 1 / 2w.
+/// A metered stream between two groups; `give` is what its amount gains by a difference of potentials, 1 / 2w.
 struct Arc {
     from: usize,
     to: usize,
@@ -43,12 +43,12 @@ struct Arc {
 }
 
 impl Arc {
-    fn wanted(&self, prices: &Row) -> f64 {
-        self.reading + (prices[self.to] - prices[self.from]) * self.give
+    fn wanted(&self, potentials: &Row) -> f64 {
+        self.reading + (potentials[self.to] - potentials[self.from]) * self.give
     }
 
-    fn amount(&self, prices: &Row) -> f64 {
-        self.wanted(prices).clamp(self.low, self.high)
+    fn amount(&self, potentials: &Row) -> f64 {
+        self.wanted(potentials).clamp(self.low, self.high)
     }
 }
 
@@ -77,22 +77,22 @@ impl Groups {
         groups
     }
 
-    /// The nets of the amounts in range at these prices.
-    fn nets(&self, prices: &Row) -> Row {
+    /// The nets of the amounts in range at these potentials.
+    fn nets(&self, potentials: &Row) -> Row {
         let mut nets = [0.0; PLACES];
         for arc in &self.arcs {
-            let x = arc.amount(prices);
+            let x = arc.amount(potentials);
             nets[arc.from] -= x;
             nets[arc.to] += x;
         }
         nets
     }
 
-    /// Where the prices should go: all the way without ranges in the first round.
-    fn direction(&self, prices: &Row, first: bool) -> Row {
+    /// Where the potentials should go: all the way without ranges in the first round.
+    fn direction(&self, potentials: &Row, first: bool) -> Row {
         let mut system = System { size: self.size, rows: [[0.0; PLACES]; PLACES], right: [0.0; PLACES] };
         for arc in &self.arcs {
-            let wanted = arc.wanted(prices);
+            let wanted = arc.wanted(potentials);
             let x = if first { wanted } else { wanted.clamp(arc.low, arc.high) };
             system.add(arc, x, if x == wanted { arc.give } else { arc.give * AT_AN_END });
         }
@@ -102,7 +102,7 @@ impl Groups {
     }
 }
 
-/// The groups' Laplacian, its upper triangle; and the right side. The outside's group is left out: its price is 0.
+/// The groups' Laplacian, its upper triangle; and the right side. The outside's group is left out: its potential is 0.
 struct System {
     size: usize,
     rows: [Row; PLACES],
@@ -155,13 +155,13 @@ fn dot(a: &Row, b: &Row) -> f64 {
     a.iter().zip(b).map(|(x, y)| x * y).sum()
 }
 
-fn along(prices: &Row, direction: &Row, length: f64) -> Row {
-    std::array::from_fn(|u| prices[u] + length * direction[u])
+fn along(potentials: &Row, direction: &Row, length: f64) -> Row {
+    std::array::from_fn(|u| potentials[u] + length * direction[u])
 }
 
 /// How far to go: all the way if the slope is not yet up there, else to where it is a tenth of the first or less.
-fn step_length(groups: &Groups, prices: &Row, direction: &Row, first_slope: f64) -> f64 {
-    let slope = |length: f64| dot(&groups.nets(&along(prices, direction, length)), direction);
+fn step_length(groups: &Groups, potentials: &Row, direction: &Row, first_slope: f64) -> f64 {
+    let slope = |length: f64| dot(&groups.nets(&along(potentials, direction, length)), direction);
     let (mut near, mut far) = ((0.0, first_slope), (1.0, slope(1.0)));
     if far.1 <= 0.0 {
         return 1.0;
@@ -181,48 +181,48 @@ fn step_length(groups: &Groups, prices: &Row, direction: &Row, first_slope: f64)
     near.0
 }
 
-/// Prices of the groups at which the nets are near enough to 0, or as near as they got in so many rounds.
-fn prices_of(groups: &Groups, rounds: usize) -> Row {
-    let mut prices = groups.direction(&[0.0; PLACES], true);
+/// Potentials of the groups at which the nets are near enough to 0, or as near as they got in so many rounds.
+fn potentials_of(groups: &Groups, rounds: usize) -> Row {
+    let mut potentials = groups.direction(&[0.0; PLACES], true);
     for _ in 1..rounds {
-        let nets = groups.nets(&prices);
+        let nets = groups.nets(&potentials);
         if nets[..groups.size].iter().all(|net| net.abs() < NEAR_ENOUGH) {
             break;
         }
-        let direction = groups.direction(&prices, false);
+        let direction = groups.direction(&potentials, false);
         let slope = dot(&nets, &direction);
         if slope.partial_cmp(&0.0) != Some(std::cmp::Ordering::Less) {
             break;
         }
-        prices = along(&prices, &direction, step_length(groups, &prices, &direction, slope));
+        potentials = along(&potentials, &direction, step_length(groups, &potentials, &direction, slope));
     }
-    prices
+    potentials
 }
 
-/// Whole prices from the highest down, one per group.
-fn whole_prices(groups: &Groups, rounds: usize, units: usize) -> [i64; PLACES] {
-    let prices = prices_of(groups, rounds);
-    let highest = prices[..groups.size].iter().fold(0.0, |a: f64, b| a.max(*b));
+/// Whole potentials from the highest down, one per group.
+fn whole_potentials(groups: &Groups, rounds: usize, units: usize) -> [i64; PLACES] {
+    let potentials = potentials_of(groups, rounds);
+    let highest = potentials[..groups.size].iter().fold(0.0, |a: f64, b| a.max(*b));
     let mut whole = [0; PLACES];
-    for (price, &group) in whole[..=units].iter_mut().zip(&groups.number) {
-        *price = -((highest - prices[group] + 0.5).clamp(0.0, SPREAD) as i64);
+    for (potential, &group) in whole[..=units].iter_mut().zip(&groups.number) {
+        *potential = -((highest - potentials[group] + 0.5).clamp(0.0, SPREAD) as i64);
     }
     whole
 }
 
-/// The prices of the places as they are found, before they are rounded.
-pub fn real_prices(streams: &[Stream], units: usize) -> [f64; PLACES] {
+/// The potentials of the places as they are found, before they are rounded.
+pub fn real_potentials(streams: &[Stream], units: usize) -> [f64; PLACES] {
     let groups = Groups::new(streams, &Forest::new(streams), units);
-    let prices = prices_of(&groups, ROUNDS);
-    groups.number.map(|group| prices[group])
+    let potentials = potentials_of(&groups, ROUNDS);
+    groups.number.map(|group| potentials[group])
 }
 
-/// The state settled at the rounded prices; false where they are of no use.
+/// The state settled at the rounded potentials; false where they are of no use.
 pub fn hint(streams: &[Stream], units: usize, state: &mut State) -> bool {
     let forest = Forest::new(streams);
     let groups = Groups::new(streams, &forest, units);
     let rounds = if streams.iter().any(|s| s.ranged) { ROUNDS } else { 1 };
-    state.prices = whole_prices(&groups, rounds, units);
+    state.potentials = whole_potentials(&groups, rounds, units);
     state.settle(streams);
     forest.hand_on(streams, state);
     let fits = streams.iter().zip(&state.flows).all(|(s, x)| s.metered || x.abs() <= HINT_ROOM);

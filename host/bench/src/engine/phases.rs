@@ -12,28 +12,28 @@ pub const FIRST_STEP: i64 = 1 << 29;
 /// No amount of a metered stream goes farther.
 const MOST_AMOUNT: i64 = 1 << 39;
 
-/// No stream calls for a greater difference of prices.
+/// No stream calls for a greater difference of potentials.
 const MOST_MARGINAL: i64 = MAX_WEIGHT * (2 * (MOST_AMOUNT + MAX_READING) + FIRST_STEP);
 
-/// Prices are kept from here up to 0.
-const PRICE_FLOOR: i64 = -(PLACES as i64) * MOST_MARGINAL;
+/// Potentials are kept from here up to 0.
+const POTENTIAL_FLOOR: i64 = -(PLACES as i64) * MOST_MARGINAL;
 
-/// The prices from the top: every gap above `most` becomes `most`, the highest comes within it of 0.
-fn close(prices: &mut [i64; PLACES], most: i64) {
+/// The potentials from the top: every gap above `most` becomes `most`, the highest comes within it of 0.
+fn close(potentials: &mut [i64; PLACES], most: i64) {
     let mut order: [usize; PLACES] = std::array::from_fn(|u| u);
-    order.sort_by_key(|&u| std::cmp::Reverse(prices[u]));
+    order.sort_by_key(|&u| std::cmp::Reverse(potentials[u]));
     let (mut last, mut raised) = (0, 0);
     for u in order {
-        let gap = last - (prices[u] + raised);
+        let gap = last - (potentials[u] + raised);
         raised += (gap - most).max(0);
-        prices[u] += raised;
-        last = prices[u];
+        potentials[u] += raised;
+        last = potentials[u];
     }
 }
 
-/// Whether some price is below the floor.
-fn sunk(prices: &[i64; PLACES]) -> bool {
-    prices.iter().any(|&p| p < PRICE_FLOOR)
+/// Whether some potential is below the floor.
+fn sunk(potentials: &[i64; PLACES]) -> bool {
+    potentials.iter().any(|&p| p < POTENTIAL_FLOOR)
 }
 
 /// Whether places must take in more than they can let out: only ranged streams cross their edge, and the lows in sum to
@@ -68,8 +68,8 @@ pub fn phase<W: Watch>(
                 }
                 break;
             }
-            if sunk(&state.prices) {
-                close(&mut state.prices, MOST_MARGINAL);
+            if sunk(&state.potentials) {
+                close(&mut state.potentials, MOST_MARGINAL);
                 watch.closed();
             }
         }
@@ -95,32 +95,32 @@ mod tests {
     use crate::draws::Draws;
 
     /// The definition, word for word: of the places not done the highest; all not done are raised.
-    fn closed(mut prices: [i64; PLACES], most: i64) -> [i64; PLACES] {
+    fn closed(mut potentials: [i64; PLACES], most: i64) -> [i64; PLACES] {
         let mut done = [false; PLACES];
         let mut last = 0;
         for _ in 0..PLACES {
-            let v = (0..PLACES).filter(|&u| !done[u]).max_by_key(|&u| prices[u]).expect("a place not done");
-            if prices[v] + most < last {
-                let by = last - most - prices[v];
-                (0..PLACES).filter(|&u| !done[u]).for_each(|u| prices[u] += by);
+            let v = (0..PLACES).filter(|&u| !done[u]).max_by_key(|&u| potentials[u]).expect("a place not done");
+            if potentials[v] + most < last {
+                let by = last - most - potentials[v];
+                (0..PLACES).filter(|&u| !done[u]).for_each(|u| potentials[u] += by);
             }
             done[v] = true;
-            last = prices[v];
+            last = potentials[v];
         }
-        prices
+        potentials
     }
 
-    /// The committed cases of the closing: prices as the library holds them, 2^57 above what they are, 8 bytes each.
+    /// The committed cases of the closing: potentials as the library holds them, 2^57 above what they are, 8 bytes each.
     #[test]
     fn committed_closings() {
         const HELD: u64 = 1 << 57;
         const SIZE: usize = 20 + 2 * 8 * PLACES;
         let cases = include_bytes!("../../../../crates/vectors/data/closings.bin");
-        let price = |bytes: &[u8]| u64::from_be_bytes(bytes.try_into().expect("8 bytes")).wrapping_sub(HELD) as i64;
-        let prices = |bytes: &[u8]| -> [i64; PLACES] { std::array::from_fn(|u| price(&bytes[8 * u..8 * u + 8])) };
+        let potential = |bytes: &[u8]| u64::from_be_bytes(bytes.try_into().expect("8 bytes")).wrapping_sub(HELD) as i64;
+        let potentials = |bytes: &[u8]| -> [i64; PLACES] { std::array::from_fn(|u| potential(&bytes[8 * u..8 * u + 8])) };
         assert!(cases.len() / SIZE > 50 && cases.len() % SIZE == 0, "cases are missing");
         for case in cases.chunks(SIZE) {
-            let (mut found, after) = (prices(&case[20..]), prices(&case[20 + 8 * PLACES..]));
+            let (mut found, after) = (potentials(&case[20..]), potentials(&case[20 + 8 * PLACES..]));
             if sunk(&found) {
                 close(&mut found, MOST_MARGINAL);
             }
@@ -133,10 +133,10 @@ mod tests {
         let mut draws = Draws::new(7);
         for _ in 0..10_000 {
             let most = draws.pick(&[1, 9, 1_000, MOST_MARGINAL]);
-            let prices: [i64; PLACES] = std::array::from_fn(|_| -draws.between(0, 40 * most) * draws.between(0, 2));
-            let mut found = prices;
+            let potentials: [i64; PLACES] = std::array::from_fn(|_| -draws.between(0, 40 * most) * draws.between(0, 2));
+            let mut found = potentials;
             close(&mut found, most);
-            assert_eq!(found, closed(prices, most));
+            assert_eq!(found, closed(potentials, most));
             assert!(found.iter().all(|p| (-(PLACES as i64) * most..=0).contains(p)));
         }
     }

@@ -1,4 +1,4 @@
-//! Amounts, prices and nets; amounts settled at prices and moved along a way; the slack of a stream.
+//! Amounts, potentials and nets; amounts settled at potentials and moved along a way; the slack of a stream.
 
 use super::watch::Watch;
 use crate::plants::{Stream, MAX_STREAMS, PLACES};
@@ -6,26 +6,26 @@ use crate::plants::{Stream, MAX_STREAMS, PLACES};
 /// The slack of a stream that has no room.
 pub const SHUT: i64 = i64::MAX;
 
-/// The amount of each stream, and the price and the net of each place.
+/// The amount of each stream, and the potential and the net of each place.
 pub struct State {
     pub flows: [i64; MAX_STREAMS],
-    pub prices: [i64; PLACES],
+    pub potentials: [i64; PLACES],
     pub nets: [i64; PLACES],
 }
 
 impl State {
-    /// Amounts and prices 0, nets not yet booked.
+    /// Amounts and potentials 0, nets not yet booked.
     pub fn zero() -> State {
-        State { flows: [0; MAX_STREAMS], prices: [0; PLACES], nets: [0; PLACES] }
+        State { flows: [0; MAX_STREAMS], potentials: [0; PLACES], nets: [0; PLACES] }
     }
 
-    /// Each metered stream's amount in range at the prices of its ends, the others as they are; and the nets.
+    /// Each metered stream's amount in range at the potentials of its ends, the others as they are; and the nets.
     pub fn settle(&mut self, streams: &[Stream]) {
         self.nets = [0; PLACES];
         for (s, x) in streams.iter().zip(&mut self.flows) {
             let (u, v) = (usize::from(s.from), usize::from(s.to));
             if s.metered {
-                let wanted = s.reading + (self.prices[v] - self.prices[u] + s.weight).div_euclid(2 * s.weight);
+                let wanted = s.reading + (self.potentials[v] - self.potentials[u] + s.weight).div_euclid(2 * s.weight);
                 *x = wanted.clamp(s.low, s.high);
             }
             self.nets[u] -= *x;
@@ -64,7 +64,7 @@ impl State {
         if if forwards { x + delta > s.high } else { x - delta < s.low } {
             return SHUT;
         }
-        let marginal = 2 * s.weight * (x - s.reading) + self.prices[usize::from(s.from)] - self.prices[usize::from(s.to)];
+        let marginal = 2 * s.weight * (x - s.reading) + self.potentials[usize::from(s.from)] - self.potentials[usize::from(s.to)];
         let signed = if forwards { marginal } else { -marginal };
         (signed + s.weight * delta).max(0)
     }

@@ -25,7 +25,7 @@ pub trait Watch {
     fn improvement(&mut self) {}
     /// A search found no way.
     fn stuck(&mut self) {}
-    /// Gaps between prices were closed.
+    /// Gaps between potentials were closed.
     fn closed(&mut self) {}
     /// The hint was left, for the phases.
     fn fell_back(&mut self) {}

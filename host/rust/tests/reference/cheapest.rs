@@ -180,9 +180,11 @@ fn overfull(arcs: &[Arc], x: &[i64], places: usize) -> Vec<bool> {
 
 /// A balanced flow near the cheapest: the real-number optimum, rounded, with the balance kept by a forest of arcs.
 fn first_flow(arcs: &[Arc], places: usize) -> Vec<i64> {
-    let price = real_prices(arcs, places);
-    let mut x: Vec<i64> =
-        arcs.iter().map(|a| (a.reading as f64 + (price[a.to] - price[a.from]) / a.weight as f64).round() as i64).collect();
+    let potential = real_potentials(arcs, places);
+    let mut x: Vec<i64> = arcs
+        .iter()
+        .map(|a| (a.reading as f64 + (potential[a.to] - potential[a.from]) / a.weight as f64).round() as i64)
+        .collect();
     let mut net = vec![0i64; places];
     for (a, x) in arcs.iter().zip(&x) {
         net[a.from] -= x;
@@ -224,8 +226,8 @@ fn first_flow(arcs: &[Arc], places: usize) -> Vec<i64> {
     x
 }
 
-/// Prices that balance the real-number flow reading + (price to - price from) / weight, by elimination.
-fn real_prices(arcs: &[Arc], places: usize) -> Vec<f64> {
+/// Potentials that balance the real-number flow reading + (potential to - potential from) / weight, by elimination.
+fn real_potentials(arcs: &[Arc], places: usize) -> Vec<f64> {
     let mut m = vec![vec![0.0; places + 1]; places];
     for a in arcs {
         let g = 1.0 / a.weight as f64;
@@ -236,10 +238,10 @@ fn real_prices(arcs: &[Arc], places: usize) -> Vec<f64> {
         m[a.to][places] -= a.reading as f64;
         m[a.from][places] += a.reading as f64;
     }
-    let mut price = vec![0.0; places];
+    let mut potential = vec![0.0; places];
     let mut fixed = vec![false; places];
     for i in 0..places {
-        // A place whose row is spent is a piece's last: its price is 0.
+        // A place whose row is spent is a piece's last: its potential is 0.
         if m[i][i] < 1e-9 {
             fixed[i] = true;
             continue;
@@ -256,8 +258,8 @@ fn real_prices(arcs: &[Arc], places: usize) -> Vec<f64> {
     }
     for i in 0..places {
         if !fixed[i] {
-            price[i] = m[i][places] / m[i][i];
+            potential[i] = m[i][places] / m[i][i];
         }
     }
-    price
+    potential
 }

@@ -55,4 +55,22 @@ returns : tie.Need-returns Inv-loop μ-loop
 returns c = search needs
 
 pub put-charges-spec : {M : Type 1} → statement M
-put-charges-spec = tie.close (tie.spec Inv-loop μ-loop loop-holds array-read-put-charge mul-put-charge array-copy-out-put-charge mul-put-charge-2 sub-put-charge part-put-charge-start part-put-charge-end put-charge-requires add-k loop-less loop-again same-length returns)
+put-charges-spec =
+    tie.close
+    (tie.spec
+    Inv-loop
+    μ-loop
+    loop-holds
+    array-read-put-charge
+    mul-put-charge
+    array-copy-out-put-charge
+    mul-put-charge-2
+    sub-put-charge
+    part-put-charge-start
+    part-put-charge-end
+    put-charge-requires
+    add-k
+    loop-less
+    loop-again
+    same-length
+    returns)

@@ -47,4 +47,20 @@ returns : tie.Need-returns Inv-loop μ-loop
 returns c = search needs
 
 pub rates-in-spec : {M : Type 1} → statement M
-rates-in-spec = tie.close (tie.spec Inv-loop μ-loop loop-holds mul-get-u16 sub-get-u16 part-get-u16-start part-get-u16-end get-u16-requires mul-rates array-write-rates add-k loop-less loop-again returns)
+rates-in-spec =
+    tie.close
+    (tie.spec
+    Inv-loop
+    μ-loop
+    loop-holds
+    mul-get-u16
+    sub-get-u16
+    part-get-u16-start
+    part-get-u16-end
+    get-u16-requires
+    mul-rates
+    array-write-rates
+    add-k
+    loop-less
+    loop-again
+    returns)

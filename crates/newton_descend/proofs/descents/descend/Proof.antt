@@ -7,10 +7,10 @@ use Rattle.newton_descend.proofs.descents.descend.Statement.{statement}
 use Rattle.newton_descend.proofs.descents.descend.Tie as tie
 
 abbrev Inv-loop : tie.InvT-loop
-Inv-loop ends meters count n ranged prices₀ left₀ prices left = length prices ≡ places
+Inv-loop ends meters count n ranged potentials₀ left₀ potentials left = length potentials ≡ places
 
 abbrev μ-loop : tie.MeasureT-loop
-μ-loop ends meters count n ranged prices₀ left₀ prices left = left
+μ-loop ends meters count n ranged potentials₀ left₀ potentials left = left
 
 direction-requires : tie.Need-direction-requires Inv-loop μ-loop
 direction-requires c κs = search needs

@@ -5,10 +5,10 @@ use Rattle.newton_descend.proofs.descents.step_length.Statement.{statem
 use Rattle.newton_descend.proofs.descents.step_length.Tie as tie
 
 abbrev Inv-loop : tie.InvT-loop
-Inv-loop ends meters count prices way first whole b₀ trial₀ b trial = trial ≤ 12
+Inv-loop ends meters count potentials way first whole b₀ trial₀ b trial = trial ≤ 12
 
 abbrev μ-loop : tie.MeasureT-loop
-μ-loop ends meters count prices way first whole b₀ trial₀ b trial = 12 - trial
+μ-loop ends meters count potentials way first whole b₀ trial₀ b trial = 12 - trial
 
 slope-requires : tie.Need-slope-requires Inv-loop μ-loop
 slope-requires c κs = search needs

@@ -8,10 +8,10 @@ use Rattle.newton_descend.proofs.nets.moved.Statement.{statement}
 use Rattle.newton_descend.proofs.nets.moved.Tie as tie
 
 abbrev Inv-loop : tie.InvT-loop
-Inv-loop prices direction t r₀ u₀ r u = (u ≤ places) × (length r ≡ places)
+Inv-loop potentials direction t r₀ u₀ r u = (u ≤ places) × (length r ≡ places)
 
 abbrev μ-loop : tie.MeasureT-loop
-μ-loop prices direction t r₀ u₀ r u = places - u
+μ-loop potentials direction t r₀ u₀ r u = places - u
 
 loop-holds : tie.Need-loop-holds Inv-loop μ-loop
 loop-holds c = search needs

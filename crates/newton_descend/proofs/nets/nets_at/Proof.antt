@@ -8,10 +8,10 @@ use Rattle.newton_descend.proofs.nets.nets_at.Statement.{statement}
 use Rattle.newton_descend.proofs.nets.nets_at.Tie as tie
 
 abbrev Inv-loop : tie.InvT-loop
-Inv-loop ends meters count prices nets₀ k₀ nets k = (k ≤ count) × (length nets ≡ places)
+Inv-loop ends meters count potentials nets₀ k₀ nets k = (k ≤ count) × (length nets ≡ places)
 
 abbrev μ-loop : tie.MeasureT-loop
-μ-loop ends meters count prices nets₀ k₀ nets k = count - k
+μ-loop ends meters count potentials nets₀ k₀ nets k = count - k
 
 loop-holds : tie.Need-loop-holds Inv-loop μ-loop
 loop-holds c = search needs

@@ -12,10 +12,12 @@ buy-lent-requires c κs = search needs
 cast-count : tie.Need-cast-count
 cast-count c = search needs
 
-put-numbers-requires : tie.Need-put-numbers-requires
-put-numbers-requires c κs =
-    let made = c .before .before .before .buy-lent in
-    let a = c .before .before .before .before .before .before .before .args in
+put-bytes-requires : tie.Need-put-bytes-requires
+put-bytes-requires c κs =
+    let after-buy-lent = c .before .before .before in
+    let start = after-buy-lent .before .before .before .before in
+    let made = after-buy-lent .buy-lent in
+    let a = start .args in
     few-lent (now (a .file)) (now (a .prices)) (length (now (a .out))) (made .result) (made .ensures)
 
 same-length : tie.Need-same-length
@@ -26,4 +28,4 @@ returns c = search needs
 
 pub buy-into-spec : {M : Type 1} → statement M
 buy-into-spec =
-    tie.close (tie.spec buy-lent-requires cast-count put-numbers-requires same-length returns)
+    tie.close (tie.spec buy-lent-requires cast-count put-bytes-requires same-length returns)

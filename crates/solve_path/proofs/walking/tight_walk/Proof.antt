@@ -1,17 +1,14 @@
 -- `solve_path::walking::tight_walk` meets its contract: with `left` steps to go the walk comes to what it comes to from the start.
-use Prim.Native.Nat.{_<_}
-use native.Mathlib.Omega.{arith}
 use borrow.Author.Needs.{needs}
-use Rattle.plant_def.specs.Limits.{places}
-use Rattle.solve_path.proofs.Tight.{Tight, tight-starts, tight-ends, tight-stops, tight-room, tight-slack, tight-within, tight-hits, tight-goes-on}
+use Rattle.solve_path.proofs.Tight.{Tight, tight-starts, tight-ends, tight-stops, tight-slack, tight-hits, tight-goes-on}
 use Rattle.solve_path.proofs.walking.tight_walk.Statement.{statement}
 use Rattle.solve_path.proofs.walking.tight_walk.Tie as tie
 
 abbrev Inv-loop : tie.InvT-loop
-Inv-loop arcs margins prices s v at₀ t₀ near₀ left₀ at t near left = Tight arcs margins prices s v left at t near
+Inv-loop arcs margins potentials s v at₀ t₀ near₀ left₀ at t near left = Tight arcs margins potentials s v left at t near
 
 abbrev μ-loop : tie.MeasureT-loop
-μ-loop arcs margins prices s v at₀ t₀ near₀ left₀ at t near left = left
+μ-loop arcs margins potentials s v at₀ t₀ near₀ left₀ at t near left = left
 
 -- The turn of the loop, and its test, from the step; and what the step says.
 abbrev turn : tie.After-step Inv-loop μ-loop → tie.At-loop Inv-loop μ-loop
@@ -19,30 +16,6 @@ turn c = c .before .before .before
 
 abbrev tested : tie.After-step Inv-loop μ-loop → tie.In-loop Inv-loop μ-loop
 tested c = c .before .before
-
--- A place is taken, and there is room for it in the tree.
-one : (c : tie.Else1 Inv-loop μ-loop) → c .before .step .result .place < places
-one c = let f = c .before in let g = turn f .loop .inv in
-    tight-within _ _ _ _ _ _ _ _ _ g (tested f .loop-test .taken) _ _ (f .step .ensures .1 _ (g .visits) (g .coded)) (c .if1 .left)
-
-few : (c : tie.Else1 Inv-loop μ-loop) → turn (c .before) .loop .t .len < places
-few c = let f = c .before in let g = turn f .loop .inv in
-    tight-room _ _ _ _ _ _ _ _ _ g (tested f .loop-test .taken) _ _ (f .step .ensures .1 _ (g .visits) (g .coded))
-
-first-requires : tie.Need-first-requires Inv-loop μ-loop
-first-requires c κs = search needs
-
-bare-requires : tie.Need-bare-requires Inv-loop μ-loop
-bare-requires c κs = search needs
-
-element-write-t : tie.Need-element-write-t Inv-loop μ-loop
-element-write-t c = c .before .before .pre .1
-
-mul-near : tie.Need-mul-near Inv-loop μ-loop
-mul-near c = search needs
-
-array-write-near : tie.Need-array-write-near Inv-loop μ-loop
-array-write-near c = c .before .before .pre .1
 
 loop-holds : tie.Need-loop-holds Inv-loop μ-loop
 loop-holds c = rw (c .before .first .ensures, c .bare .ensures) (tight-starts _ _ _ _ _ (c .before .before .pre .1))
@@ -53,18 +26,12 @@ step-requires c κs =
     let g = at .loop .inv in
     (at .before .before .before .pre .0, g .walks .place, g .walks .short, g .long, (at .loop .t .visited, g .coded))
 
-searched-by-requires : tie.Need-searched-by-requires Inv-loop μ-loop
-searched-by-requires c κs = search needs
-
 returns : tie.Need-returns Inv-loop μ-loop
 returns c =
     let o = c .before in
     let f = o .before in
     let g = turn f .loop .inv in
     rw (c .searched-by .ensures) (tight-stops _ _ _ _ _ _ _ _ _ g (tested f .loop-test .taken) _ _ (f .step .ensures .1 _ (g .visits) (g .coded)) (o .if1 .taken))
-
-searched-by-requires-2 : tie.Need-searched-by-requires-2 Inv-loop μ-loop
-searched-by-requires-2 c κs = search needs
 
 returns-2 : tie.Need-returns-2 Inv-loop μ-loop
 returns-2 c =
@@ -74,24 +41,6 @@ returns-2 c =
     let g = turn f .loop .inv in
     rw (c .searched-by2 .ensures) (tight-slack _ _ _ _ _ _ _ _ _ g (tested f .loop-test .taken) _ _ (f .step .ensures .1 _ (g .visits) (g .coded)) (o .if1 .left) (b .if2 .taken))
 
-element-write-t-2 : tie.Need-element-write-t-2 Inv-loop μ-loop
-element-write-t-2 c = one (c .before .before)
-
-element-write-t-3 : tie.Need-element-write-t-3 Inv-loop μ-loop
-element-write-t-3 c = few (c .before .before)
-
-cast-t : tie.Need-cast-t Inv-loop μ-loop
-cast-t c = omega (arith, one (c .before .before))
-
-element-write-t-4 : tie.Need-element-write-t-4 Inv-loop μ-loop
-element-write-t-4 c = few (c .before .before)
-
-add-t : tie.Need-add-t Inv-loop μ-loop
-add-t c = omega (arith, few (c .before .before))
-
-searched-by-requires-3 : tie.Need-searched-by-requires-3 Inv-loop μ-loop
-searched-by-requires-3 c κs = search needs
-
 returns-3 : tie.Need-returns-3 Inv-loop μ-loop
 returns-3 c =
     let th = c .before in
@@ -100,13 +49,8 @@ returns-3 c =
     let f = o .before in
     let g = turn f .loop .inv in
     rw (c .searched-by3 .ensures)
-    (tight-hits _ _ _ _ _ _ _ _ _ g (tested f .loop-test .taken) _ _ (f .step .ensures .1 _ (g .visits) (g .coded)) (o .if1 .left) (b .if2 .left) (turn f .before .before .before .pre .2) (th .if3 .taken))
-
-sub-left : tie.Need-sub-left Inv-loop μ-loop
-sub-left c = search needs
-
-loop-less : tie.Need-loop-less Inv-loop μ-loop
-loop-less c = search needs
+    (tight-hits _ _ _ _ _ _ _ _ _ g (tested f .loop-test .taken) _ _ (f .step .ensures .1 _ (g .visits) (g .coded)) (o .if1 .left) (b .if2 .left)
+    (turn f .before .before .before .pre .2) (th .if3 .taken))
 
 loop-again : tie.Need-loop-again Inv-loop μ-loop
 loop-again c =
@@ -116,38 +60,14 @@ loop-again c =
     let g = turn f .loop .inv in
     tight-goes-on _ _ _ _ _ _ _ _ _ g (tested f .loop-test .taken) _ _ (f .step .ensures .1 _ (g .visits) (g .coded)) (o .if1 .left) (b .if2 .left) (f .step .ensures .0) (c .if3 .left)
 
-searched-by-requires-4 : tie.Need-searched-by-requires-4 Inv-loop μ-loop
-searched-by-requires-4 c κs = search needs
-
 returns-4 : tie.Need-returns-4 Inv-loop μ-loop
 returns-4 c = rw (c .searched-by4 .ensures) (tight-ends _ _ _ _ _ _ _ _ _ (c .before .before .loop .inv) (c .before .loop-test .left))
 
 pub tight-walk-spec : {M : Type 1} → statement M
 tight-walk-spec =
     tie.close
-    (tie.spec
-    Inv-loop
-    μ-loop
-    first-requires
-    bare-requires
-    element-write-t
-    mul-near
-    array-write-near
-    loop-holds
-    step-requires
-    searched-by-requires
-    returns
-    searched-by-requires-2
-    returns-2
-    element-write-t-2
-    element-write-t-3
-    cast-t
-    element-write-t-4
-    add-t
-    searched-by-requires-3
-    returns-3
-    sub-left
-    loop-less
-    loop-again
-    searched-by-requires-4
+    (tie.spec Inv-loop μ-loop (λ c κs. search needs) (λ c κs. search needs) (λ c. search needs) (λ c. search needs)
+    (λ c. search needs) loop-holds step-requires (λ c κs. search needs) returns (λ c κs. search needs) returns-2
+    (λ c. search needs) (λ c. search needs) (λ c. search needs) (λ c. search needs) (λ c. search needs)
+    (λ c κs. search needs) returns-3 (λ c. search needs) (λ c. search needs) loop-again (λ c κs. search needs)
     returns-4)

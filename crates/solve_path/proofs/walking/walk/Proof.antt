@@ -1,21 +1,15 @@
 -- `solve_path::walking::walk` meets its contract: with `left` steps to go the walk comes to what it comes to from the start.
-use mathlib.Core.Path.{_≡_, _∙_}
-use mathlib.Core.List.{List}
-use Prim.Native.Nat.{ℕ, _<_}
-use native.Mathlib.Omega.{arith}
+use mathlib.Core.Path.{_∙_}
 use borrow.Author.Needs.{needs}
-use Rattle.plant_def.specs.Limits.{places}
-use Rattle.solve_def.specs.declared.Spot.{Spot}
-use Rattle.solve_path.specs.Paces.{Paced}
-use Rattle.solve_path.proofs.Going.{Going, starts, ends, stops, room, within, hits, goes-on}
+use Rattle.solve_path.proofs.Going.{Going, starts, ends, stops, hits, goes-on}
 use Rattle.solve_path.proofs.walking.walk.Statement.{statement}
 use Rattle.solve_path.proofs.walking.walk.Tie as tie
 
 abbrev Inv-loop : tie.InvT-loop
-Inv-loop arcs margins prices nets s at₀ t₀ dist₀ near₀ left₀ at t dist near left = Going arcs margins prices nets s left at t dist near
+Inv-loop arcs margins potentials nets s at₀ t₀ dist₀ near₀ left₀ at t dist near left = Going arcs margins potentials nets s left at t dist near
 
 abbrev μ-loop : tie.MeasureT-loop
-μ-loop arcs margins prices nets s at₀ t₀ dist₀ near₀ left₀ at t dist near left = left
+μ-loop arcs margins potentials nets s at₀ t₀ dist₀ near₀ left₀ at t dist near left = left
 
 -- The turn of the loop, and its test, from the step.
 abbrev turn : tie.After-step Inv-loop μ-loop → tie.At-loop Inv-loop μ-loop
@@ -23,30 +17,6 @@ turn c = c .before .before .before
 
 abbrev tested : tie.After-step Inv-loop μ-loop → tie.In-loop Inv-loop μ-loop
 tested c = c .before .before
-
--- A place is taken, and there is room for it in the tree.
-one : (c : tie.Else1 Inv-loop μ-loop) → c .before .step .result .place < places
-one c = let f = c .before in let g = turn f .loop .inv in
-    within _ _ _ _ _ _ _ _ _ _ g (tested f .loop-test .taken) _ _ (f .step .ensures .1 _ (g .visits) (g .coded)) (c .if1 .left)
-
-few : (c : tie.Else1 Inv-loop μ-loop) → turn (c .before) .loop .t .len < places
-few c = let f = c .before in let g = turn f .loop .inv in
-    room _ _ _ _ _ _ _ _ _ _ g (tested f .loop-test .taken) _ _ (f .step .ensures .1 _ (g .visits) (g .coded))
-
-first-requires : tie.Need-first-requires Inv-loop μ-loop
-first-requires c κs = search needs
-
-bare-requires : tie.Need-bare-requires Inv-loop μ-loop
-bare-requires c κs = search needs
-
-element-write-t : tie.Need-element-write-t Inv-loop μ-loop
-element-write-t c = c .before .before .pre .1
-
-mul-near : tie.Need-mul-near Inv-loop μ-loop
-mul-near c = search needs
-
-array-write-near : tie.Need-array-write-near Inv-loop μ-loop
-array-write-near c = c .before .before .pre .1
 
 loop-holds : tie.Need-loop-holds Inv-loop μ-loop
 loop-holds c = rw (c .before .first .ensures, c .bare .ensures) (starts _ _ _ _ _ (c .before .before .pre .1))
@@ -57,45 +27,12 @@ step-requires c κs =
     let g = at .loop .inv in
     (at .before .before .before .pre .0, g .walks .place, g .walks .short, g .long, (at .loop .t .visited, g .coded))
 
-walked-by-requires : tie.Need-walked-by-requires Inv-loop μ-loop
-walked-by-requires c κs = search needs
-
 returns : tie.Need-returns Inv-loop μ-loop
 returns c =
     let o = c .before in
     let f = o .before in
     let g = turn f .loop .inv in
     c .walked-by .ensures ∙ stops _ _ _ _ _ _ _ _ _ _ g (tested f .loop-test .taken) _ _ (f .step .ensures .1 _ (g .visits) (g .coded)) (o .if1 .taken)
-
-mul-dist : tie.Need-mul-dist Inv-loop μ-loop
-mul-dist c = omega (arith, one c)
-
-array-write-dist : tie.Need-array-write-dist Inv-loop μ-loop
-array-write-dist c = one c
-
-element-write-t-2 : tie.Need-element-write-t-2 Inv-loop μ-loop
-element-write-t-2 c = one c
-
-element-write-t-3 : tie.Need-element-write-t-3 Inv-loop μ-loop
-element-write-t-3 c = few c
-
-cast-t : tie.Need-cast-t Inv-loop μ-loop
-cast-t c = omega (arith, one c)
-
-element-write-t-4 : tie.Need-element-write-t-4 Inv-loop μ-loop
-element-write-t-4 c = few c
-
-add-t : tie.Need-add-t Inv-loop μ-loop
-add-t c = omega (arith, few c)
-
-mul-if2 : tie.Need-mul-if2 Inv-loop μ-loop
-mul-if2 c = omega (arith, one c)
-
-element-copy-out-if2 : tie.Need-element-copy-out-if2 Inv-loop μ-loop
-element-copy-out-if2 c = one c
-
-walked-by-requires-2 : tie.Need-walked-by-requires-2 Inv-loop μ-loop
-walked-by-requires-2 c κs = search needs
 
 returns-2 : tie.Need-returns-2 Inv-loop μ-loop
 returns-2 c =
@@ -104,12 +41,6 @@ returns-2 c =
     let g = turn f .loop .inv in
     c .walked-by2 .ensures ∙ hits _ _ _ _ _ _ _ _ _ _ g (tested f .loop-test .taken) _ _ (f .step .ensures .1 _ (g .visits) (g .coded)) (o .if1 .left) (c .before .if2 .taken)
 
-sub-left : tie.Need-sub-left Inv-loop μ-loop
-sub-left c = search needs
-
-loop-less : tie.Need-loop-less Inv-loop μ-loop
-loop-less c = search needs
-
 loop-again : tie.Need-loop-again Inv-loop μ-loop
 loop-again c =
     let o = c .before .before in
@@ -117,40 +48,14 @@ loop-again c =
     let g = turn f .loop .inv in
     goes-on _ _ _ _ _ _ _ _ _ _ g (tested f .loop-test .taken) _ _ (f .step .ensures .1 _ (g .visits) (g .coded)) (o .if1 .left) (f .step .ensures .0) (c .if2 .left)
 
-walked-by-requires-3 : tie.Need-walked-by-requires-3 Inv-loop μ-loop
-walked-by-requires-3 c κs = search needs
-
 returns-3 : tie.Need-returns-3 Inv-loop μ-loop
 returns-3 c = c .walked-by3 .ensures ∙ ends _ _ _ _ _ _ _ _ _ _ (c .before .before .loop .inv) (c .before .loop-test .left)
 
 pub walk-spec : {M : Type 1} → statement M
 walk-spec =
     tie.close
-    (tie.spec
-    Inv-loop
-    μ-loop
-    first-requires
-    bare-requires
-    element-write-t
-    mul-near
-    array-write-near
-    loop-holds
-    step-requires
-    walked-by-requires
-    returns
-    mul-dist
-    array-write-dist
-    element-write-t-2
-    element-write-t-3
-    cast-t
-    element-write-t-4
-    add-t
-    mul-if2
-    element-copy-out-if2
-    walked-by-requires-2
-    returns-2
-    sub-left
-    loop-less
-    loop-again
-    walked-by-requires-3
-    returns-3)
+    (tie.spec Inv-loop μ-loop (λ c κs. search needs) (λ c κs. search needs) (λ c. search needs) (λ c. search needs)
+    (λ c. search needs) loop-holds step-requires (λ c κs. search needs) returns (λ c. search needs) (λ c. search needs)
+    (λ c. search needs) (λ c. search needs) (λ c. search needs) (λ c. search needs) (λ c. search needs)
+    (λ c. search needs) (λ c. search needs) (λ c κs. search needs) returns-2 (λ c. search needs) (λ c. search needs)
+    loop-again (λ c κs. search needs) returns-3)

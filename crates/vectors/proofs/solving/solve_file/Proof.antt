@@ -2,7 +2,7 @@
 use borrow.Author.Needs.{needs}
 use denote.Ref.{now}
 use Rattle.plant_def.proofs.Arrayed.{within-of}
-use Rattle.sheet_def.proofs.Promise.{plant-accepted}
+use Rattle.plant_def.proofs.Found.{plant-accepted}
 use Rattle.solve_def.proofs.Theorem as Theorem
 use Rattle.vectors.proofs.solving.solve_file.Statement.{statement}
 use Rattle.vectors.proofs.solving.solve_file.Tie as tie
@@ -21,8 +21,10 @@ no-hint-requires c κs = search needs
 
 solve-from-requires : tie.Need-solve-from-requires
 solve-from-requires c κs =
-    let read = c .before .before .before .read-plant in
-    let a = plant-accepted (now (c .before .before .before .before .before .before .before .args .file)) (read .result) (read .ensures) (c .before .before .if1 .left) in
+    let after-read-plant = c .before .before .before in
+    let start = after-read-plant .before .before .before .before in
+    let read = after-read-plant .read-plant in
+    let a = plant-accepted (now (start .args .file)) (read .result) (read .ensures) (c .before .before .if1 .left) in
     (a, rw (c .no-hint .ensures) (Theorem.unhinted _ (within-of _ a)))
 
 told-requires-2 : tie.Need-told-requires-2

@@ -6,9 +6,9 @@ use mir.Val.{toZ, ofZ, hbits}
 use mir.Facts.{toZ-pos}
 use lib.IntN.{ℤ, pos, negsuc, natAbs, _-ℤ_}
 use Prim.Native.Nat.{ℕ, _+_, _<_, _^_}
 use Rattle.num_bytes.proofs.Complement.{at-zero, under-zero}
-use Rattle.num_text.proofs.size_of.Statement.{statement}
-use Rattle.num_text.proofs.size_of.Tie as tie
+use Rattle.num_bytes.proofs.size_of.Statement.{statement}
+use Rattle.num_bytes.proofs.size_of.Tie as tie
 
 -- The number below zero.
 below : (c : tie.Else1) → (k : ℕ) × (c .before .args .z ≡ negsuc k) × (k < 2 ^ hbits w64) × (negsuc 0 -ℤ toZ w64 (ofZ w64 (c .before .args .z)) ≡ pos k)

@@ -1,17 +1,17 @@
--- Each turn lends the rest from its price on.
+-- Each turn lends the rest from its potential on.
 use borrow.Author.Needs.{needs}
 use mathlib.Core.Path.{_≡_}
 use Prim.Native.Nat.{_≤_, _-_}
 use lib.ListN.{length}
 use Rattle.plant_def.specs.Limits.{places}
-use Rattle.case_calls.proofs.closed.put_prices.Statement.{statement}
-use Rattle.case_calls.proofs.closed.put_prices.Tie as tie
+use Rattle.case_calls.proofs.closed.put_potentials.Statement.{statement}
+use Rattle.case_calls.proofs.closed.put_potentials.Tie as tie
 
 abbrev Inv-loop : tie.InvT-loop
-Inv-loop out₀ prices u₀ out u = (u ≤ places) × (length out ≡ 264)
+Inv-loop out₀ potentials u₀ out u = (u ≤ places) × (length out ≡ 264)
 
 abbrev μ-loop : tie.MeasureT-loop
-μ-loop out₀ prices u₀ out u = places - u
+μ-loop out₀ potentials u₀ out u = places - u
 
 loop-holds : tie.Need-loop-holds Inv-loop μ-loop
 loop-holds c = search needs
@@ -52,8 +52,8 @@ same-length c = search needs
 returns : tie.Need-returns Inv-loop μ-loop
 returns c = search needs
 
-pub put-prices-spec : {M : Type 1} → statement M
-put-prices-spec =
+pub put-potentials-spec : {M : Type 1} → statement M
+put-potentials-spec =
     tie.close
     (tie.spec
     Inv-loop

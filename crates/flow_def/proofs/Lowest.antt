@@ -6,8 +6,8 @@ use native.Mathlib.Nat.{pow-suc, pow-succ', div-one, div-div-eq-div-mul, div-lt-
 use native.Mathlib.Omega.{arith}
 use lib.Dec.{eqb}
 use lib.Bits.{bitAnd, and-step, and-self}
-use lib.Count.{trailingZeros, under}
+use lib.Count.{trailingZeros}
 use Rattle.flow_def.specs.Sides.{bit}
 
 -- The bits of a number's half are its own from the second on.
 half-bit : (h m : ℕ) → bit (suc h) m ≡ bit h (m / 2)
@@ -36,6 +36,7 @@ lowest (suc k) m p l = parity m
     (λ e. rw e (half-bit (trailingZeros k (m / 2)) m ∙ lowest k (m / 2) (omega arith) (half-small k m l)))
     (λ e. rw e (first-bit m ∙ rw e))
 
+-- No bit below it is set.
 pub below-lowest : (k m h : ℕ) → h < trailingZeros k m → bit h m ≡ false
 unfolding trailingZeros
 below-lowest zero m h l = absurd (omega arith)
@@ -73,6 +74,7 @@ double-first x = first-bit (x * 2) ∙ rw (mul-mod-left x 2)
 double-next : (h x : ℕ) → bit (suc h) (x * 2) ≡ bit h x
 double-next h x = half-bit h (x * 2) ∙ rw (double-half x)
 
+-- It is gone from the number without it.
 pub without-lowest : (k m : ℕ) → 0 < m → m < 2 ^ k → bit (trailingZeros k m) (bitAnd m (m - 1)) ≡ false
 unfolding trailingZeros
 without-lowest zero m p l = absurd (omega arith)
@@ -80,6 +82,7 @@ without-lowest (suc k) m p l = parity m
     (λ e. rw (even-and m p e, e) (double-next (trailingZeros k (m / 2)) (bitAnd (m / 2) (m / 2 - 1)) ∙ without-lowest k (m / 2) (omega arith) (half-small k m l)))
     (λ e. rw (odd-and m e, e) (double-first (m / 2)))
 
+-- And all others are there.
 pub with-others : (k m h : ℕ) → 0 < m → m < 2 ^ k → (h ≡ trailingZeros k m → ⊥) → bit h (bitAnd m (m - 1)) ≡ bit h m
 unfolding trailingZeros
 with-others zero m h p l q = absurd (omega arith)

@@ -1,4 +1,4 @@
--- Prices certify a flow: it has least cost, and flows of equal cost differ little from it.
+-- Potentials certify a flow: it has least cost, and flows of equal cost differ little from it.
 use mathlib.Core.Path.{_≡_, refl, sym, _∙_, ap, ap₂}
 use mathlib.Core.Bool.{Bool, true, false}
 use mathlib.Core.List.{List}
@@ -25,7 +25,7 @@ StepAt Δ π s x = Step Δ (weightOf s) (x -ℤ s .reading) (climb π s) (falls 
 abbrev pub Steps : ℕ → (ℕ → ℤ) → List Stream → (ℕ → ℤ) → Type 0
 Steps Δ π ss x = (k : ℕ) → k < length ss → StepAt Δ π (streamAt ss k) (x k)
 
--- Prices that certify a flow of a plant.
+-- Potentials that certify a flow of a plant.
 pub record Certificate (p : Plant) (xs : List ℤ) (π : ℕ → ℤ) : Type 0 where
   pub balance : allowed p xs ≡ true
   pub steps : Steps 1 π (p .streams) (amountAt xs)
@@ -53,7 +53,7 @@ cost-one ss xs e = cost-is 1 ss xs e ∙ sum-same (length ss) _ _ (λ k l. of (s
     of : (s : Stream) (x : ℤ) → pos (shareOver 1 s x) ≡ pos (share s x)
     of s x = ap (λ (r : ℤ). pos (weightOf s * square (x -ℤ r))) (one-times (s .reading))
 
--- Price differences times deviations from the readings: the same sum for every balanced flow over D.
+-- Potential differences times deviations from the readings: the same sum for every balanced flow over D.
 term : (c y D r : ℤ) → c *ℤ (y -ℤ D *ℤ r) ≡ c *ℤ y +ℤ negℤ D *ℤ (c *ℤ r)
 term c y D r = rw (← canon c, ← canon y, ← canon D, ← canon r) (simp Z·diff (omega arith))
 
@@ -82,7 +82,7 @@ module _ (p : Plant) (w : Within p) (π : ℕ → ℤ) (ys : List ℤ) (b : bala
       ∙ gain-is (pos 1)
 
 module _ (p : Plant) (w : Within p) (π : ℕ → ℤ) where
-  -- One side of the comparison: the cost of xs, and what ys gains from the prices.
+  -- One side of the comparison: the cost of xs, and what ys gains from the potentials.
   abbrev mixed : List ℤ → List ℤ → ℕ → ℤ
   mixed xs ys k =
       let s = streamOf p k in

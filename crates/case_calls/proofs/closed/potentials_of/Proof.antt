@@ -6,22 +6,22 @@ use native.Mathlib.Omega.{arith}
 use lib.ListN.{length, length-set, length-replicate, getD-replicate}
 use Rattle.plant_def.specs.Limits.{places}
 use Rattle.flow_def.proofs.Lists.{set-each}
-use Rattle.solve_def.specs.Sizes.{priceShift}
-use Rattle.solve_def.specs.SearchNeeds.{Prices}
-use Rattle.case_calls.proofs.closed.prices_of.Statement.{statement}
-use Rattle.case_calls.proofs.closed.prices_of.Tie as tie
+use Rattle.solve_def.specs.Sizes.{potentialShift}
+use Rattle.solve_def.specs.SearchNeeds.{Potentials}
+use Rattle.case_calls.proofs.closed.potentials_of.Statement.{statement}
+use Rattle.case_calls.proofs.closed.potentials_of.Tie as tie
 
-below : (x : ℕ) → x % suc priceShift ≤ priceShift
+below : (x : ℕ) → x % suc potentialShift ≤ potentialShift
 below x = omega arith
 
 abbrev Inv-loop : tie.InvT-loop
-Inv-loop given prices₀ u₀ prices u = (u ≤ places) × (length prices ≡ places) × Prices prices
+Inv-loop given potentials₀ u₀ potentials u = (u ≤ places) × (length potentials ≡ places) × Potentials potentials
 
 abbrev μ-loop : tie.MeasureT-loop
-μ-loop given prices₀ u₀ prices u = places - u
+μ-loop given potentials₀ u₀ potentials u = places - u
 
 loop-holds : tie.Need-loop-holds Inv-loop μ-loop
-loop-holds c = (omega arith, length-replicate places priceShift, λ u l. omega (arith, getD-replicate {A = ℕ} places u priceShift 0 l))
+loop-holds c = (omega arith, length-replicate places potentialShift, λ u l. omega (arith, getD-replicate {A = ℕ} places u potentialShift 0 l))
 
 mul-get-u64 : tie.Need-mul-get-u64 Inv-loop μ-loop
 mul-get-u64 c = search needs
@@ -38,11 +38,11 @@ part-get-u64-end c = search needs
 get-u64-requires : tie.Need-get-u64-requires Inv-loop μ-loop
 get-u64-requires c κs = search needs
 
-mul-prices : tie.Need-mul-prices Inv-loop μ-loop
-mul-prices c = search needs
+mul-potentials : tie.Need-mul-potentials Inv-loop μ-loop
+mul-potentials c = search needs
 
-array-write-prices : tie.Need-array-write-prices Inv-loop μ-loop
-array-write-prices c = search needs
+array-write-potentials : tie.Need-array-write-potentials Inv-loop μ-loop
+array-write-potentials c = search needs
 
 add-u : tie.Need-add-u Inv-loop μ-loop
 add-u c = search needs
@@ -53,17 +53,17 @@ loop-less c = search needs
 loop-again : tie.Need-loop-again Inv-loop μ-loop
 loop-again c =
     let at = c .before .before .before in
-    let ps = at .loop .prices in (
+    let ps = at .loop .potentials in (
       omega arith,
       length-set ps _ _ ∙ at .loop .inv .1,
-      set-each (λ (x : ℕ). x ≤ priceShift) 0 ps _ _ places (rw (at .loop .inv .1) (c .before .before .loop-test .taken)) (below _) (at .loop .inv .2),
+      set-each (λ (x : ℕ). x ≤ potentialShift) 0 ps _ _ places (rw (at .loop .inv .1) (c .before .before .loop-test .taken)) (below _) (at .loop .inv .2),
     )
 
 returns : tie.Need-returns Inv-loop μ-loop
 returns c = search needs
 
-pub prices-of-spec : {M : Type 1} → statement M
-prices-of-spec =
+pub potentials-of-spec : {M : Type 1} → statement M
+potentials-of-spec =
     tie.close
     (tie.spec
     Inv-loop
@@ -74,8 +74,8 @@ prices-of-spec =
     part-get-u64-start
     part-get-u64-end
     get-u64-requires
-    mul-prices
-    array-write-prices
+    mul-potentials
+    array-write-potentials
     add-u
     loop-less
     loop-again

@@ -1,0 +1,53 @@
+-- What the exported calls of many slices and numbers promise, by what is lent to them: each at the call's entry and at its exit.
+use mathlib.Core.List.{List}
+use lib.IntN.{ℤ}
+use Prim.Native.Nat.{ℕ, _<_, _^_}
+use denote.Ref.{RefT}
+use denote.Triple.Both.{Both}
+use Rattle.num_lent.specs.Marks.{marksIn}
+use Rattle.plant_def.specs.Limits.{places}
+use Rattle.plant_def.specs.Says.{WriteSays}
+use Rattle.plant_parts.specs.Parts.{handed}
+use Rattle.sheet_lent.specs.Lent.{LentSays}
+use Rattle.sheet_parts.specs.Kept.{HandsOver}
+use Rattle.purchase_def.specs.Lent.{BuyHandsOver}
+
+-- What is lent: a slice, or a number.
+abbrev pub Lent : Type 0 → Type 0
+Lent A = Both (RefT A) (RefT A)
+
+-- The sheet call; no bit past the places is set.
+abbrev pub SheetCall : Lent (List ℕ) → ℕ → Lent (List ℕ) → Lent (List ℕ) → Lent ℕ → Lent ℕ → ℕ → Type 0
+SheetCall file office lasts sheet written marked number =
+    let bits = marked .exit .now in
+    let drawn = record { number = number; written = written .exit .now; lasts = lasts .exit .now; marked = marksIn bits } in
+    LentSays (file .entry .now) office (lasts .entry .now) (sheet .entry .now) (sheet .exit .now) drawn × (bits < 2 ^ places)
+
+-- The plant writer, of the plant whose streams' parts are handed over in eight slices.
+abbrev pub WriteCall : (units count : ℕ) (from to metered weight : Lent (List ℕ)) (reading : Lent (List ℤ)) (ranged : Lent (List ℕ))
+    (low high : Lent (List ℤ)) (file : Lent (List ℕ)) (written : Lent ℕ) (number : ℕ) → Type 0
+WriteCall units count from to metered weight reading ranged low high file written number =
+    let plant = handed units count (record {
+      from = from .entry .now;
+      to = to .entry .now;
+      metered = metered .entry .now;
+      weight = weight .entry .now;
+      reading = reading .entry .now;
+      ranged = ranged .entry .now;
+      low = low .entry .now;
+      high = high .entry .now;
+    }) in
+    WriteSays plant (file .entry .now) (file .exit .now) (record { number = number; written = written .exit .now })
+
+-- The sheet reader.
+abbrev pub ReadCall : (bytes kinds : Lent (List ℕ)) (flows : Lent (List ℤ)) (count kind office sheet cost degrees verdict : Lent ℕ)
+    (number : ℕ) → Type 0
+ReadCall bytes kinds flows count kind office sheet cost degrees verdict number =
+    HandsOver (bytes .entry .now) (kinds .entry .now) (kinds .exit .now) (flows .entry .now) (flows .exit .now) number (count .exit .now)
+    (kind .exit .now) (office .exit .now) (sheet .exit .now) (cost .exit .now) (degrees .exit .now) (verdict .exit .now)
+
+-- Meters to buy.
+abbrev pub BuyCall : (file prices streams : Lent (List ℕ)) (count price : Lent ℕ) (number : ℕ) → Type 0
+BuyCall file prices streams count price number =
+    BuyHandsOver (file .entry .now) (prices .entry .now) (streams .entry .now) (streams .exit .now)
+    (record { number = number; count = count .exit .now; price = price .exit .now })

@@ -1,0 +1,2 @@
+-- What augmenting requires, and what it comes to.
+pub mod Augmented
