@@ -8,6 +8,7 @@ pub mod Loop
 pub mod Arrayed
 pub mod There
 pub mod Back
+pub mod Amiss
 pub mod Refusals
 pub mod Longest
 pub mod Promise
