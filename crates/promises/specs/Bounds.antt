@@ -1,10 +1,10 @@
 -- What the calls give at most: numbers, lengths, prices; and that the exported purchase and survey leave no choice.
 use mathlib.Core.Path.{_≡_}
 use mathlib.Core.List.{List}
-use Prim.Native.Nat.{ℕ, suc, _+_, _*_, _-_, _≤_}
+use Prim.Native.Nat.{ℕ, _+_, _*_, _-_, _≤_}
 use Rattle.plant_def.specs.declared.Done.{Done}
 use Rattle.plant_def.specs.declared.Plant as Arrays
-use Rattle.plant_def.specs.Limits.{maxStreams, siteBody, meteredBody, endBody}
+use Rattle.plant_def.specs.Limits.{maxStreams}
 use Rattle.plant_def.specs.Says.{WriteSays}
 use Rattle.ranged_def.specs.Moves.{ToSays, FromSays}
 use Rattle.transmitter_def.specs.Says.{TranslateSays}
@@ -26,9 +26,9 @@ pub record Without-19 : Type 0 where
   pub purchase : (file prices : List ℕ) (r : Bought) → BuySays file prices r → r .number ≡ 19 → ⊥
   pub survey : (file : List ℕ) (r : Layouts) → SurveySays file r → r .number ≡ 19 → ⊥
 
--- The longest file without ranges: a site, as many metered streams as there may be, an end. 868 bytes.
+-- The longest file without ranges: a metered stream's record is 9 bytes long. 868 bytes.
 abbrev pub longestPlain : ℕ
-longestPlain = suc siteBody + maxStreams * suc meteredBody + suc endBody
+longestPlain = 2 + maxStreams * 9 + 2
 
 pub record Bounds : Type 0 where
   -- The translator writes no ranges: 868 bytes at most.
