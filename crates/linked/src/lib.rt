@@ -7,11 +7,10 @@ ghost use mathlib.Core.Path.{_≡_};
 ghost use Prim.Native.Nat.{_<_, _^_};
 ghost use Rattle.sheet_lent.specs.Lent.{LentSays};
 ghost use Rattle.plant_def.specs.Limits.{places};
-ghost use Rattle.plant_def.specs.Says.{WriteSays};
 ghost use Rattle.transmitter_def.specs.Says.{TranslateSays};
 ghost use Rattle.ranged_def.specs.Moves.{ToSays, FromSays};
 ghost use Rattle.purchase_def.specs.Lent.{BuyHandsOver};
-ghost use Rattle.plant_parts.specs.Parts.{handed};
+ghost use Rattle.plant_parts.specs.Parts.{HandedWritten};
 ghost use Rattle.sheet_parts.specs.Kept.{HandsOver};
 ghost use Rattle.num_lent.specs.Marks.{marksIn};
 ghost use Rattle.survey_answers.specs.Lent.{LendSays};
@@ -67,7 +66,7 @@ pub extern "C" fn wengeludo_write_plant(
     file: &mut [u8],
     written: &mut usize,
 ) -> u8
-    ensures { λ r. ⌜ WriteSays (handed units count (record { from = now (from .entry); to = now (to .entry); metered = now (metered .entry); weight = now (weight .entry); reading = now (reading .entry); ranged = now (ranged .entry); low = now (low .entry); high = now (high .entry) })) (now (file .entry)) (now (file .exit)) (record { number = r; written = now (written .exit) }) ⌝ }
+    ensures { λ r. ⌜ HandedWritten units count (record { from = now (from .entry); to = now (to .entry); metered = now (metered .entry); weight = now (weight .entry); reading = now (reading .entry); ranged = now (ranged .entry); low = now (low .entry); high = now (high .entry) }) (now (file .entry)) (now (file .exit)) (record { number = r; written = now (written .exit) }) ⌝ }
 {
     let n = plant_parts::reached(
         plant_parts::meters_reach(from, to, metered, weight, reading),

@@ -214,7 +214,8 @@ run-all : (l n : ℕ) (ss : List Stream) (b : List ℕ) → l ≡ mostRecords �
 run-all l n ss b e h f p =
     run n ss [] b l (suc (maxStreams - length ss)) (omega arith) (omega arith) f p
 
-site-there : (n : ℕ) (r : List ℕ) → unitsFault n ≡ 0 → siteAt (siteKind ∷ n ∷ r) ≡ Units n
+-- A site record is read.
+pub site-there : (n : ℕ) (r : List ℕ) → unitsFault n ≡ 0 → siteAt (siteKind ∷ n ∷ r) ≡ Units n
 site-there n r e = simp (e, ne-eqb (suc (suc (length r))) 0 (omega arith), le-ltb (suc (suc (length r))) (suc siteBody) (omega arith))
 
 -- What stands behind the records of a plant without fault decides.

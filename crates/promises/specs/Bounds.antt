@@ -3,9 +3,9 @@ use mathlib.Core.Path.{_≡_}
 use mathlib.Core.List.{List}
 use Prim.Native.Nat.{ℕ, _+_, _*_, _-_, _≤_}
 use Rattle.plant_def.specs.declared.Done.{Done}
-use Rattle.plant_def.specs.declared.Plant as Arrays
+use Rattle.plant_def.specs.declared.Stream.{Stream}
 use Rattle.plant_def.specs.Limits.{maxStreams}
-use Rattle.plant_def.specs.Says.{WriteSays}
+use Rattle.plant_def.specs.Says.{PartsWritten}
 use Rattle.ranged_def.specs.Moves.{ToSays, FromSays}
 use Rattle.transmitter_def.specs.Says.{TranslateSays}
 use Rattle.purchase_def.specs.declared.Bought.{Bought}
@@ -20,7 +20,7 @@ use Rattle.survey_answers.specs.Lent.{LendSays}
 -- No writer, move, purchase or survey gives 19: that number is of a plant that has no flow in range, and these look for none. (Nor does
 -- a reader: `File-refusals` and `Reopening.refused` have the numbers that readers give.)
 pub record Without-19 : Type 0 where
-  pub writer : (p : Arrays.Plant) (o o′ : List ℕ) (r : Done) → WriteSays p o o′ r → r .number ≡ 19 → ⊥
+  pub writer : (n c : ℕ) (ss : List Stream) (o o′ : List ℕ) (r : Done) → PartsWritten n c ss o o′ r → r .number ≡ 19 → ⊥
   pub forth : (file o o′ : List ℕ) (r : Done) → ToSays file o o′ r → r .number ≡ 19 → ⊥
   pub home : (file o o′ : List ℕ) (r : Done) → FromSays file o o′ r → r .number ≡ 19 → ⊥
   pub purchase : (file prices : List ℕ) (r : Bought) → BuySays file prices r → r .number ≡ 19 → ⊥

@@ -19,9 +19,9 @@ use Rattle.sheet_def.specs.declared.Total.{Total}
 use Rattle.sheet_def.specs.declared.SheetRead.{SheetRead}
 use Rattle.sheet_def.specs.declared.SheetRecord.{SheetRecord}
 use Rattle.sheet_def.specs.declared.SheetRecord.the-variants.{Listed, Ended, Refused}
-use Rattle.sheet_def.specs.Apart.{adjustedKind, asReadKind, givenKind, withheldKind, totalKind, plainKind, streamSize, totalSize, plainSize}
+use Rattle.sheet_def.specs.Apart.{totalKind, plainKind, streamSize, totalSize, plainSize}
+use Rattle.sheet_def.specs.Sheets.{adjustedKind, asReadKind, givenKind, withheldKind, SheetParts, partsBytes}
 use Rattle.sheet_def.specs.Counters.{offices}
-use Rattle.sheet_def.specs.Sheets.{SheetParts, partsBytes}
 
 -- A reading of a sheet: a refusal number, or its parts.
 pub data Reopened : Type 0 where

@@ -9,14 +9,26 @@ use Rattle.flow_def.specs.declared.Class.{Class}
 use Rattle.flow_def.specs.declared.Class.the-variants.{Adjusted, AsRead, Given, Withheld}
 use Rattle.sheet_def.specs.declared.Entry.{Entry}
 use Rattle.sheet_def.specs.declared.Total.{Total}
-use Rattle.sheet_def.specs.Apart.{adjustedKind, asReadKind, givenKind, withheldKind, totalKind}
+use Rattle.sheet_def.specs.Apart.{totalKind}
 
--- The kinds of a stream's record: 0x11 A, 0x12 R, 0x13 G, 0x14 W.
+-- The kinds of a stream's record: 0x11 A, adjusted; 0x12 R, as read; 0x13 G, given; 0x14 W, withheld (the blank).
 abbrev pub kindOf : Class → ℕ
-kindOf Adjusted = adjustedKind
-kindOf AsRead = asReadKind
-kindOf Given = givenKind
-kindOf Withheld = withheldKind
+kindOf Adjusted = 17
+kindOf AsRead = 18
+kindOf Given = 19
+kindOf Withheld = 20
+
+abbrev pub adjustedKind : ℕ
+adjustedKind = kindOf Adjusted
+
+abbrev pub asReadKind : ℕ
+asReadKind = kindOf AsRead
+
+abbrev pub givenKind : ℕ
+givenKind = kindOf Given
+
+abbrev pub withheldKind : ℕ
+withheldKind = kindOf Withheld
 
 -- A stream's record: the flow in 8 bytes, two's complement; the blank has no body.
 abbrev pub recordOf : Class → ℤ → List ℕ

@@ -14,8 +14,8 @@ use Rattle.sheet_def.specs.declared.Entry.{Entry}
 use Rattle.sheet_def.specs.declared.Total.{Total}
 use Rattle.sheet_def.specs.declared.SheetRecord.{SheetRecord}
 use Rattle.sheet_def.specs.declared.SheetRecord.the-variants.{Listed, Ended, Refused}
-use Rattle.sheet_def.specs.Apart.{adjustedKind, asReadKind, givenKind, withheldKind, totalKind, plainKind, streamSize, plainSize}
-use Rattle.sheet_def.specs.Sheets.{SheetParts}
+use Rattle.sheet_def.specs.Apart.{totalKind, plainKind, streamSize, plainSize}
+use Rattle.sheet_def.specs.Sheets.{adjustedKind, asReadKind, givenKind, withheldKind, SheetParts}
 use Rattle.sheet_def.specs.Kept.{Reopened, noSheet, someSheet, shownIn, blank, streamRecord, plainIn, endFault, totalRecord, kindRecord, recordAt, onRecord, sheetWith, recordsFrom}
 use Rattle.sheet_def.proofs.Back.{not-both}
 use Rattle.sheet_history.specs.Before.{recordBefore, recordsBefore}

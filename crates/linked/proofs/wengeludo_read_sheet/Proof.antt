@@ -2,6 +2,7 @@
 use borrow.Author.Needs.{needs}
 use denote.Ref.{now}
 use lib.ListN.{length}
+use Rattle.sheet_parts.specs.Kept.{readLent}
 use Rattle.sheet_parts.proofs.Handing.{Room, room-lent, handed-over}
 use Rattle.linked.proofs.wengeludo_read_sheet.Statement.{statement}
 use Rattle.linked.proofs.wengeludo_read_sheet.Tie as tie
@@ -29,7 +30,11 @@ same-length-2 : tie.Need-same-length-2
 same-length-2 c = search needs
 
 returns : tie.Need-returns
-returns c = handed-over (c .before .before .before .before .before .before .before .before .before .before .read-lent .ensures) (c .before .before .before .before .before .before .put-kinds .ensures) (c .before .before .put-flows .ensures)
+returns c =
+    let read = c .before .before .before .before .before .before .before .before .before .before in
+    let a = read .before .before .before .args in
+    handed-over (readLent (now (a .bytes)) (length (now (a .kinds))) (length (now (a .flows)))) (read .read-lent .ensures) (room read .few)
+    (c .before .before .before .before .before .before .put-kinds .ensures) (c .before .before .put-flows .ensures)
 
 pub wengeludo-read-sheet-spec : {M : Type 1} → statement M
 wengeludo-read-sheet-spec =

@@ -63,7 +63,7 @@ returns : tie.Need-returns
 returns c =
     let a = c .before .before .before .before .before .before .before .before .before .before .before .before .before .before .before .before .args in
     let p = slices (c .before .before .before .before .before .before .before) in
-    any-count (a .units) (padded maxStreams (listedTo (partsAt p) (reach p))) (now (a .file)) _ _ (a .count)
+    any-count (a .units) (now (a .file)) _ _ p (a .count)
     (subst (λ (q : Arrays.Plant). WriteSays q (now (a .file)) (c .before .before .write-plant .last .1 .0) (c .before .before .write-plant .result))
     (λ i. record { units = a .units; count = c .before .before .before .before .count-byte .ensures i; streams = streams-are (c .before .before .before .before .before) i })
     (c .before .before .write-plant .ensures))
