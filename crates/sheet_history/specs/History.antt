@@ -1,20 +1,22 @@
 -- The counters over any sequence of calls by any offices, accepted and refused. `SheetSays file office lasts o o′ r` is what the sheet
 -- call ensures.
 use mathlib.Core.Path.{_≡_}
-use mathlib.Core.Bool.{Bool, _&&_}
+use mathlib.Core.Logic.{_↔_}
+use mathlib.Core.Bool.{Bool, true, _&&_}
 use mathlib.Core.List.{List, [], _∷_, _++_}
 use Prim.Native.Nat.{ℕ, zero, suc, _+_, _≤_}
 use lib.Dec.{eqb}
 use lib.ListN.{length, take}
 use Rattle.num_bytes.specs.Choice.{pick}
+use Rattle.num_bytes.specs.Bytes.{allBytes}
 use Rattle.plant_def.specs.Plants.{Plant}
 use Rattle.plant_def.specs.Files.{got, readPlant}
 use Rattle.sheet_def.specs.declared.Sheet.{Sheet}
 use Rattle.sheet_def.specs.Counters.{offices, topSheet, counterOf, nextOf, officesFrom}
 use Rattle.sheet_def.specs.Says.{SheetSays}
-use Rattle.sheet_def.specs.Kept.{Reopened, noSheet, someSheet, readSheet}
+use Rattle.sheet_def.specs.Kept.{Reopened, noSheet, someSheet, readSheet, WithinSheet}
 use Rattle.sheet_def.specs.Apart.{plainKind}
-use Rattle.sheet_def.specs.Sheets.{SheetParts}
+use Rattle.sheet_def.specs.Sheets.{SheetParts, partsBytes}
 use Rattle.sheet_def.specs.Sentences.{Tells, Under}
 use Rattle.sheet_history.specs.Before.{PlainSheet, PlainSays, PlainCall, PlainCalls, lastAfter, plainCount, plainSheets, readBefore}
 
@@ -92,7 +94,10 @@ pub record History : Type 0 where
       → nextOf k (countersAfter lasts cs) ≡ nextOf k lasts + drawnCount k cs
   pub numbers : (lasts : List ℕ) (cs : List Call) → Eight lasts → Calls lasts cs → (k : ℕ)
       → numbersOf k (drawnSheets cs) ≡ upFrom (nextOf k lasts) (drawnCount k cs)
-  -- Kept sheets of before are read as before: the same parts, kind 0x1F, office 0.
+  -- The sheet reader of before read exactly the sheets under a plain total (kind 0x1F), and they are read as before: the same parts,
+  -- office 0.
+  pub read-before : (b : List ℕ) (s : SheetParts) → allBytes b ≡ true
+      → (readBefore b ≡ someSheet s) ↔ ((partsBytes s ≡ b) × WithinSheet s × (s .total .kind ≡ plainKind))
   pub as-before : (b : List ℕ) (s : SheetParts) → readBefore b ≡ someSheet s
       → (readSheet b ≡ someSheet s) × (s .total .kind ≡ plainKind) × (s .total .office ≡ 0)
   -- Before the change and after it: the sheets of office 0 follow on in number.
