@@ -20,7 +20,7 @@ use Rattle.sheet_def.specs.declared.SheetRead.{SheetRead}
 use Rattle.sheet_def.specs.declared.SheetRecord.{SheetRecord}
 use Rattle.sheet_def.specs.declared.SheetRecord.the-variants.{Listed, Ended, Refused}
 use Rattle.sheet_def.specs.Apart.{totalKind, plainKind, streamSize, totalSize, plainSize}
-use Rattle.sheet_def.specs.Sheets.{adjustedKind, asReadKind, givenKind, withheldKind, SheetParts, partsBytes}
+use Rattle.sheet_def.specs.Sheets.{known, adjustedKind, asReadKind, givenKind, withheldKind, SheetParts, partsBytes}
 use Rattle.sheet_def.specs.Counters.{offices}
 
 -- A reading of a sheet: a refusal number, or its parts.
@@ -128,10 +128,7 @@ ReadSays bytes r = r ≡ readOf (readSheet bytes)
 
 -- An entry that a record can hold: a number of 8 bytes, or the blank, with 0.
 abbrev pub fits : Class → ℤ → Bool
-fits Adjusted x = holds 8 x
-fits AsRead x = holds 8 x
-fits Given x = holds 8 x
-fits Withheld x = eqb (natAbs x) 0
+fits c x = pick (known c) (holds 8 x) (eqb (natAbs x) 0)
 
 abbrev pub allFit : List Entry → Bool
 allFit [] = true

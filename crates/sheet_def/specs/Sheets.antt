@@ -1,4 +1,5 @@
 -- A sheet: one record per stream in stream order, then the total, with no gap.
+use mathlib.Core.Bool.{Bool, true, false}
 use mathlib.Core.List.{List, [], _∷_, _++_}
 use lib.IntN.{ℤ}
 use Prim.Native.Nat.{ℕ}
@@ -30,12 +31,16 @@ givenKind = kindOf Given
 abbrev pub withheldKind : ℕ
 withheldKind = kindOf Withheld
 
+-- A flow is known where its record has a number: all but W.
+abbrev pub known : Class → Bool
+known Adjusted = true
+known AsRead = true
+known Given = true
+known Withheld = false
+
 -- A stream's record: the flow in 8 bytes, two's complement; the blank has no body.
 abbrev pub recordOf : Class → ℤ → List ℕ
-recordOf Adjusted x = kindOf Adjusted ∷ putBe 8 (raw 8 x)
-recordOf AsRead x = kindOf AsRead ∷ putBe 8 (raw 8 x)
-recordOf Given x = kindOf Given ∷ putBe 8 (raw 8 x)
-recordOf Withheld x = kindOf Withheld ∷ []
+recordOf c x = kindOf c ∷ pick (known c) (putBe 8 (raw 8 x)) []
 
 -- The records of streams.
 abbrev pub recordsOf : List Entry → List ℕ

@@ -92,7 +92,7 @@ module _ (p : SheetParts) (kind : p .total .kind ≡ plainKind) where
   one-then done was now true (Ended t) h e rest =
       let g : record { streams = done; total = t } ≡ p = cc in
       let z : _≡_ {A = ℕ} 30 31 = sym (h refl) ∙ ap (λ (q : SheetParts). q .total .kind) g ∙ kind in
-      omega arith
+      absurd (omega arith)
   one-then done was now true (Refused f) h e rest = absurd (not-both f p e)
   one-then done was now false (Listed x m) h e rest = rest x m e
   one-then done was now false (Ended t) h e rest = e
