@@ -6,8 +6,8 @@
 
 It begins at the contracts of the exported calls (crates/linked/src) and of the calls that the programs print by, and at the theorems of
 the record `Promises`, reads the names in each, finds the definition of each name in specs/ or in a declared struct or enum,
-and goes on from there. A name of the kit ends the way. Names that need not be read are those below: what a call ensures, where a theorem
-says what follows from it.
+and goes on from there. A name of the kit ends the way. Names that need not be read are those below: what a call ensures and how files are
+read, where a theorem begins with it and its sentences leave nothing open.
 """
 
 import re

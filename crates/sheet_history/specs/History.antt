@@ -109,5 +109,5 @@ pub record History : Type 0 where
   pub plain : (file : List ℕ) (last : ℕ) (o o′ : List ℕ) (r : Sheet) → last ≤ topSheet → PlainSays file last o o′ r → r .number ≡ 0
       → ReadsPlain file last o′ r
   pub change : (first : ℕ) (ps : List Call) → first ≤ topSheet → PlainCalls first ps → Eight (officesFrom (counterOf 0 (countersAfter (first ∷ []) ps)))
-  pub follow : (first : ℕ) (ps cs : List Call) → first ≤ topSheet → PlainCalls first ps
-      → Calls (officesFrom (counterOf 0 (countersAfter (first ∷ []) ps))) cs → numbersOf 0 (drawnSheets (ps ++ cs)) ≡ upFrom (suc first) (drawnCount 0 (ps ++ cs))
+  pub follow : (first : ℕ) (ps cs : List Call) → first ≤ topSheet → PlainCalls first ps → Calls (officesFrom (counterOf 0 (countersAfter (first ∷ []) ps))) cs
+      → numbersOf 0 (drawnSheets (ps ++ cs)) ≡ upFrom (suc first) (drawnCount 0 (ps ++ cs))
