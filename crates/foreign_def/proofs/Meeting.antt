@@ -27,7 +27,7 @@ use Rattle.flow_def.proofs.Ranges.{allowed-of, range-of, balanced-of}
 use Rattle.flow_def.proofs.Potentials.{StepAt, Steps, Certificate, share, cost-one, least}
 use Rattle.solve_def.proofs.Overs.{over, overTo}
 use Rattle.solve_def.proofs.Tall.{tall}
-use Rattle.foreign_def.specs.Passing.{known}
+use Rattle.sheet_def.specs.Sheets.{known}
 use Rattle.foreign_def.specs.Test.{withheldOnly}
 use Rattle.foreign_def.proofs.Filling.{Closed, fill}
 use Rattle.foreign_def.proofs.Stepping.{step-level, level-step, step-slopes}

@@ -33,11 +33,11 @@ use Rattle.flow_def.proofs.Ranges.{balanced-of, range-of}
 use Rattle.flow_def.proofs.Potentials.{StepAt, Certificate}
 use Rattle.solve_def.proofs.Theorem.{decided}
 use Rattle.sheet_def.specs.Apart.{totalKind, capped}
-use Rattle.sheet_def.specs.Sheets.{SheetParts}
+use Rattle.sheet_def.specs.Sheets.{SheetParts, known}
 use Rattle.sheet_def.specs.Drawings.{plantParts}
 use Rattle.sheet_def.specs.Sentences.{classOn, numberOn, Tells}
 use Rattle.sheet_def.proofs.Telling.{told, weights-told, tells}
-use Rattle.foreign_def.specs.Passing.{numberLimit, placeNumber, Ours, known, withheldOn, JoinedByW, sumIn, sumOut, Passes}
+use Rattle.foreign_def.specs.Passing.{numberLimit, placeNumber, Ours, withheldOn, JoinedByW, sumIn, sumOut, Passes}
 use Rattle.foreign_def.specs.Says.{ShowsFlow, OtherFlow}
 use Rattle.foreign_def.specs.Numbers.{Serve}
 use Rattle.foreign_def.specs.Test.{withheldOnly, shownAt}

@@ -90,7 +90,15 @@ vouched file bytes numbers = go (readPlant file) refl (readSheet bytes) refl
         let w = read-within file p e in
         let g = check-passed p w s numbers c in
         let h = passed-least p w s numbers g in
-        record { plant = p; listed = e; sheet = s; read = q; passes = g; flow = h .0; least = h .1; shows = h .2; costs = h .3 }
+        record {
+          plant = p;
+          listed = e;
+          sheet = s;
+          read = q;
+          passes = g;
+          shown = record { ours = g .ours; flow = h .0; least = h .1; shows = h .2 };
+          costs = h .3;
+        }
 
 same-plant : (file : List ℕ) (p q : Plant) → readPlant file ≡ got p → readPlant file ≡ got q → q ≡ p
 same-plant file p q e f = cc

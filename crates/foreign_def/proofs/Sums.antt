@@ -14,10 +14,10 @@ use Rattle.flow_def.specs.Classes.{classOf}
 use Rattle.flow_def.proofs.Sums.{sum, sum-same, sum-plus, sum-front}
 use Rattle.flow_def.proofs.Nets.{countOf, streamOf, crossing}
 use Rattle.sheet_def.specs.declared.Entry.{Entry}
-use Rattle.sheet_def.specs.Sheets.{SheetParts}
+use Rattle.sheet_def.specs.Sheets.{SheetParts, known}
 use Rattle.sheet_def.specs.Kept.{blank}
 use Rattle.sheet_def.specs.Sentences.{classOn, numberOn}
-use Rattle.foreign_def.specs.Passing.{known, knownSum, sumIn, sumOut}
+use Rattle.foreign_def.specs.Passing.{knownSum, sumIn, sumOut}
 use Rattle.foreign_def.specs.Test.{shownAt}
 
 -- What is read past the end makes no difference before it.

@@ -36,10 +36,10 @@ use Rattle.flow_def.proofs.Overfull.{overfull-none}
 use Rattle.solve_def.specs.Sizes.{flowShift}
 use Rattle.solve_def.proofs.Theorem.{decided}
 use Rattle.sheet_def.specs.Apart.{capped}
-use Rattle.sheet_def.specs.Sheets.{SheetParts, kindOf}
+use Rattle.sheet_def.specs.Sheets.{SheetParts, kindOf, known}
 use Rattle.sheet_def.specs.Drawings.{plantParts}
 use Rattle.sheet_def.specs.Sentences.{classOn, numberOn}
-use Rattle.foreign_def.specs.Passing.{numberLimit, placeNumber, Ours, known, JoinedByW, sumIn, sumOut, Passes}
+use Rattle.foreign_def.specs.Passing.{numberLimit, placeNumber, Ours, JoinedByW, sumIn, sumOut, Passes}
 use Rattle.foreign_def.specs.Test.{withheldOnly, shownAt, shownFlows, broughtBy, netBy, numbersFit, recordsFit, flowsFit, netsFit, totalFits, passes}
 use Rattle.foreign_def.proofs.Every.{every-all}
 use Rattle.foreign_def.proofs.Filling.{Closed}

@@ -5,6 +5,7 @@ use mathlib.Core.List.{List}
 use lib.IntN.{ℤ, pos}
 use Prim.Native.Nat.{ℕ, suc, _≤_, _<_}
 use lib.ListN.{length, take, replicate}
+use Rattle.plant_def.specs.Converts.{ReadAs}
 use Rattle.num_bytes.specs.Bytes.{over}
 use Rattle.plant_def.specs.Limits.{places}
 use Rattle.plant_def.specs.Plants.{Plant}
@@ -46,13 +47,13 @@ pub record NumbersOf (p : Plant) (r : PlaceNumbers) : Type 0 where
   pub some : (ys : List ℤ) → allowed p ys ≡ true → Numbered p r
   pub none : ((ys : List ℤ) → allowed p ys ≡ false) → r ≡ noNumbers 19
 
-abbrev pub NumbersWith : Got → PlaceNumbers → Type 0
-NumbersWith (bad f) r = r ≡ noNumbers f
-NumbersWith (got p) r = NumbersOf p r
-
 -- The call: the plant reader's refusals, then 19, else numbers.
 abbrev pub NumbersSay : List ℕ → PlaceNumbers → Type 0
-NumbersSay file r = NumbersWith (readPlant file) r
+NumbersSay file = ReadAs noNumbers NumbersOf (readPlant file)
+
+-- The same of what was read.
+abbrev pub NumbersWith : Got → PlaceNumbers → Type 0
+NumbersWith = ReadAs noNumbers NumbersOf
 
 -- In a lent slice: 1 where it does not hold as many as there may be, before the file is read; else number and count of the call, the
 -- numbers at the front of the slice, the rest as it was. (A refusal has no numbers: the slice is as it was.)

@@ -1,7 +1,7 @@
 -- Sheets drawn up elsewhere: when a sheet passes as a sheet of a plant, with one number for each place.
 use mathlib.Core.Path.{_≡_}
 use mathlib.Core.Logic.{_↔_, _⊎_}
-use mathlib.Core.Bool.{Bool, true, false, not, _&&_}
+use mathlib.Core.Bool.{Bool, true, not, _&&_}
 use mathlib.Core.List.{List, [], _∷_}
 use lib.IntN.{ℤ, pos, natAbs, _+ℤ_, _-ℤ_, _*ℤ_}
 use lib.Signed.{leZ}
@@ -10,12 +10,10 @@ use lib.ListN.{length, getD}
 use Rattle.num_bytes.specs.Choice.{pick}
 use Rattle.plant_def.specs.declared.Stream.{Stream}
 use Rattle.plant_def.specs.Plants.{Plant, limited}
-use Rattle.flow_def.specs.declared.Class.{Class}
-use Rattle.flow_def.specs.declared.Class.the-variants.{Adjusted, AsRead, Given, Withheld}
 use Rattle.flow_def.specs.Flows.{streamAt, inRange}
 use Rattle.flow_def.specs.Chains.{Counting, Chain}
 use Rattle.sheet_def.specs.declared.Entry.{Entry}
-use Rattle.sheet_def.specs.Sheets.{SheetParts}
+use Rattle.sheet_def.specs.Sheets.{SheetParts, known}
 use Rattle.sheet_def.specs.Sentences.{MeteredAt, UnmeteredAt, classOn, numberOn, Tells}
 
 -- The limit of a place's number.
@@ -55,13 +53,6 @@ pub record Matches (a b : SheetParts) : Type 0 where
 -- Classes, degrees, cost and verdict are ours: those of a sheet that tells of the plant what a sheet has to. So the plant has a sheet.
 abbrev pub Ours : Plant → SheetParts → Type 0
 Ours p sheet = (s : SheetParts) × Tells p s × Matches s sheet
-
--- A flow is known where its record has a number: all but W.
-abbrev pub known : Class → Bool
-known Adjusted = true
-known AsRead = true
-known Given = true
-known Withheld = false
 
 -- The W streams of a sheet.
 abbrev pub withheldOn : SheetParts → Counting

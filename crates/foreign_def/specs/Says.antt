@@ -44,17 +44,16 @@ pub record OtherFlow (p : Plant) (sheet : SheetParts) : Type 0 where
   pub least : OfLeastCost p flow
   pub shows : ShowsFlow p sheet flow
 
--- What an answer 0 vouches for: both files are read and the sheet passes; so a flow of least cost shows its numbers and its cost.
+-- What an answer 0 vouches for: both files are read and the sheet passes; so it is a sheet that shows a flow of least cost, and its cost
+-- is that flow's.
 pub record Vouched (file bytes : List ℕ) (numbers : List ℤ) : Type 0 where
   pub plant : Plant
   pub listed : readPlant file ≡ got plant
   pub sheet : SheetParts
   pub read : readSheet bytes ≡ someSheet sheet
   pub passes : Passes plant sheet numbers
-  pub flow : List ℤ
-  pub least : OfLeastCost plant flow
-  pub shows : ShowsFlow plant sheet flow
-  pub costs : sheet .total .cost ≡ capped (cost (plant .streams) flow)
+  pub shown : OtherFlow plant sheet
+  pub costs : sheet .total .cost ≡ capped (cost (plant .streams) (shown .flow))
 
 -- Numbers with which the answer is 0 for each sheet that the sheet call draws of the file, and for each sheet that differs from it
 -- only in showing another balanced flow in range of the same cost.

@@ -28,10 +28,10 @@ use Rattle.sheet_def.specs.Apart.{capped}
 use Rattle.sheet_def.specs.declared.Entry.{Entry}
 use Rattle.sheet_def.specs.declared.Total.{Total}
 use Rattle.sheet_def.specs.declared.SheetRead.{SheetRead}
-use Rattle.sheet_def.specs.Sheets.{SheetParts, kindOf}
+use Rattle.sheet_def.specs.Sheets.{SheetParts, kindOf, known}
 use Rattle.sheet_def.specs.Kept.{Reopened, noSheet, someSheet}
 use Rattle.sheet_def.specs.Sentences.{classOn, numberOn}
-use Rattle.foreign_def.specs.Passing.{numberLimit, placeNumber, difference, known}
+use Rattle.foreign_def.specs.Passing.{numberLimit, placeNumber, difference}
 
 -- The streams that are withheld by their class as it is computed.
 abbrev pub withheldOnly : Plant → Counting

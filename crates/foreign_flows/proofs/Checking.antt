@@ -28,7 +28,8 @@ use Rattle.flow_def.specs.Certificate.{every}
 use Rattle.flow_def.proofs.Certified.{every-at}
 use Rattle.flow_def.proofs.Lists.{values-long, values-at}
 use Rattle.sheet_def.specs.declared.Entry.{Entry}
-use Rattle.foreign_def.specs.Passing.{numberLimit, placeNumber, difference, known}
+use Rattle.sheet_def.specs.Sheets.{known}
+use Rattle.foreign_def.specs.Passing.{numberLimit, placeNumber, difference}
 use Rattle.foreign_def.specs.Test.{noEntry, numbersFit, flowFits, flowsFit, flowsShown}
 use Rattle.foreign_def.proofs.Every.{every-all, every-off}
 use Rattle.sheet_cost.proofs.Costing.{size-fits, minus-size}

@@ -22,9 +22,9 @@ ghost use Rattle.plant_def.specs.Says.{plantOf};
 ghost use Rattle.flow_def.specs.declared.Class.the-variants.{Adjusted};
 ghost use Rattle.flow_def.specs.Flows.{amountAt};
 ghost use Rattle.solve_def.specs.Sizes.{flowShift};
-ghost use Rattle.sheet_def.specs.Sheets.{kindOf};
+ghost use Rattle.sheet_def.specs.Sheets.{kindOf, known};
 ghost use Rattle.sheet_def.specs.Calls.{AllSmall};
-ghost use Rattle.foreign_def.specs.Passing.{numberLimit, placeNumber, difference, known};
+ghost use Rattle.foreign_def.specs.Passing.{numberLimit, placeNumber, difference};
 ghost use Rattle.foreign_def.specs.Test.{noEntry, numbersFit, recordsFit, flowsFit, flowsShown};
 
 // A number within the limit.

@@ -37,7 +37,7 @@ use Rattle.flow_def.proofs.Lists.{values-at}
 use Rattle.flow_def.proofs.Integers.{up-neg, dn-neg, size-val, size-none, canon, Z·diff}
 use Rattle.solve_def.specs.Sizes.{flowShift}
 use Rattle.sheet_def.specs.Calls.{AllSmall}
-use Rattle.foreign_def.specs.Passing.{known}
+use Rattle.sheet_def.specs.Sheets.{known}
 use Rattle.foreign_def.specs.Test.{broughtBy, netBy, ArePlaces, Nets, Moved, Roomy, netsFit}
 use Rattle.foreign_def.proofs.Every.{every-all, every-off}
 use Rattle.sheet_cost.proofs.Costing.{size-fits}

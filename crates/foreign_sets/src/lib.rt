@@ -16,7 +16,7 @@ ghost use Rattle.flow_def.specs.Flows.{amountAt};
 ghost use Rattle.flow_def.specs.Labels.{labelsOf};
 ghost use Rattle.flow_def.specs.Calls.{classesOf};
 ghost use Rattle.sheet_def.specs.Calls.{AllSmall};
-ghost use Rattle.foreign_def.specs.Passing.{known};
+ghost use Rattle.sheet_def.specs.Sheets.{known};
 ghost use Rattle.foreign_def.specs.Test.{withheldOnly, ArePlaces, Nets, Moved, Roomy, netsFit};
 
 fn is_withheld(class: Class) -> bool

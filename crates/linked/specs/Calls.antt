@@ -6,8 +6,7 @@ use denote.Ref.{RefT}
 use denote.Triple.Both.{Both}
 use Rattle.num_lent.specs.Marks.{marksIn}
 use Rattle.plant_def.specs.Limits.{places}
-use Rattle.plant_def.specs.Says.{WriteSays}
-use Rattle.plant_parts.specs.Parts.{handed}
+use Rattle.plant_parts.specs.Parts.{HandedWritten}
 use Rattle.sheet_lent.specs.Lent.{LentSays}
 use Rattle.sheet_parts.specs.Kept.{HandsOver}
 use Rattle.purchase_def.specs.Lent.{BuyHandsOver}
@@ -27,7 +26,7 @@ SheetCall file office lasts sheet written marked number =
 abbrev pub WriteCall : (units count : ℕ) (from to metered weight : Lent (List ℕ)) (reading : Lent (List ℤ)) (ranged : Lent (List ℕ))
     (low high : Lent (List ℤ)) (file : Lent (List ℕ)) (written : Lent ℕ) (number : ℕ) → Type 0
 WriteCall units count from to metered weight reading ranged low high file written number =
-    let plant = handed units count (record {
+    let parts = record {
       from = from .entry .now;
       to = to .entry .now;
       metered = metered .entry .now;
@@ -36,8 +35,8 @@ WriteCall units count from to metered weight reading ranged low high file writte
       ranged = ranged .entry .now;
       low = low .entry .now;
       high = high .entry .now;
-    }) in
-    WriteSays plant (file .entry .now) (file .exit .now) (record { number = number; written = written .exit .now })
+    } in
+    HandedWritten units count parts (file .entry .now) (file .exit .now) (record { number = number; written = written .exit .now })
 
 -- The sheet reader.
 abbrev pub ReadCall : (bytes kinds : Lent (List ℕ)) (flows : Lent (List ℤ)) (count kind office sheet cost degrees verdict : Lent ℕ)

@@ -32,7 +32,7 @@ use Rattle.listing_lines.specs.Listing.{listingOf, refusalText}
 use Rattle.listing_lines.specs.Room.{leastText}
 use Rattle.listing_call.specs.Says.{Listed, Overfilled, ListWith, ListSays}
 use Rattle.listing_call.specs.Sample.{sampleFile}
-use Rattle.listing_call.specs.Printed.{sheetText, Printed}
+use Rattle.listing_call.specs.Printed.{sheetText, Printed, Own-listing}
 use Rattle.listing_call.proofs.Sample.{sample}
 
 module _ (file o o′ : List ℕ) (r : ℕ) where
@@ -86,6 +86,8 @@ printed = record {
   sheet = drawn;
   refused = λ file b b′ o o′ q r says z n h list.
       told file o o′ r h list q b b′ n (readPlant file) refl (call-taken file 0 (officesFrom 0) b b′ q says z);
-  sample = λ o o′ r h list.
-      subst (λ (t : List ℕ). Put t o o′ r) (sample .4) (listed sampleFile o o′ r h list (sample .0) (sample .2) (sample .1) (sample .3));
 }
+
+-- The definition's own listing.
+pub own-listing : Own-listing
+own-listing o o′ r h list = subst (λ (t : List ℕ). Put t o o′ r) (sample .4) (listed sampleFile o o′ r h list (sample .0) (sample .2) (sample .1) (sample .3))

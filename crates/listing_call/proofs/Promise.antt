@@ -23,8 +23,8 @@ use Rattle.sheet_def.specs.Balances.{balanceOf, BalanceSays}
 use Rattle.sheet_def.proofs.Promise.{plant-balance, plant-overfull}
 use Rattle.sheet_def.proofs.Unique.{one-balance, never-both}
 use Rattle.listing_lines.specs.Listing.{listingOf, refusalText}
-use Rattle.listing_lines.specs.Room.{leastText}
-use Rattle.listing_call.specs.Says.{ListWith, ListSays, One-text}
+use Rattle.listing_lines.specs.Room.{leastText, OneText}
+use Rattle.listing_call.specs.Says.{ListWith, ListSays}
 
 module _ (file o : List ℕ) where
   -- By the length of the slice.
@@ -74,5 +74,5 @@ text-same true file o o₁ o₂ r₁ r₂ a b = (a .0 ∙ sym (b .0), a .1 ∙ s
 text-same false file o o₁ o₂ r₁ r₂ a b = with-one o o₁ o₂ r₁ r₂ (readPlant file) (λ p e. within p (accepted file p e .0)) a b
 
 -- Two answers to one file are the same text.
-pub one-text : One-text
+pub one-text : OneText ListSays
 one-text file o o₁ o₂ r₁ r₂ a b = text-same (ltb (length o) leastText) file o o₁ o₂ r₁ r₂ a b

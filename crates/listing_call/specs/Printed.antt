@@ -30,6 +30,8 @@ pub record Printed : Type 0 where
   -- The number with which the file, or its plant, is refused.
   pub refused : (file b b′ o o′ : List ℕ) (q : Sheet) (r : ℕ) → SheetSays file 0 (officesFrom 0) b b′ q → callFault 0 (officesFrom 0) b ≡ 0
       → (q .number ≡ 0 → ⊥) → leastText ≤ length o → ListSays file o o′ r → Put (refusalText (q .number)) o o′ r
-  -- The definition's own listing, character for character.
-  pub sample : (o o′ : List ℕ) (r : ℕ) → leastText ≤ length o → ListSays sampleFile o o′ r
-      → Put (text "1 A 99\n2 W -\n3 W -\n4 A 99\ntotal 1 20 1 pass\n") o o′ r
+
+-- A worked example: the definition's own listing, character for character.
+abbrev pub Own-listing : Type 0
+Own-listing =
+    (o o′ : List ℕ) (r : ℕ) → leastText ≤ length o → ListSays sampleFile o o′ r → Put (text "1 A 99\n2 W -\n3 W -\n4 A 99\ntotal 1 20 1 pass\n") o o′ r

@@ -31,8 +31,3 @@ ListWith (got p) o o′ r = Listed p o o′ r ⊎ Overfilled p o o′ r
 -- A slice that is too short: nothing, and the slice as it was.
 abbrev pub ListSays : List ℕ → List ℕ → List ℕ → ℕ → Type 0
 ListSays file o o′ r = pickT (ltb (length o) leastText) ((r ≡ 0) × (o′ ≡ o)) (ListWith (readPlant file) o o′ r)
-
--- No choice is left: text and length follow from the file and the slice.
-abbrev pub One-text : Type 0
-One-text =
-    (file o o₁ o₂ : List ℕ) (r₁ r₂ : ℕ) → ListSays file o o₁ r₁ → ListSays file o o₂ r₂ → (r₁ ≡ r₂) × (o₁ ≡ o₂)

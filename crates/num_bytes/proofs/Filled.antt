@@ -3,7 +3,7 @@ use mathlib.Core.Path.{_≡_, refl, ap}
 use mathlib.Core.List.{List, [], _∷_, _++_}
 use Prim.Native.Nat.{ℕ, zero, suc, _≤_, _<_}
 use native.Mathlib.Omega.{arith}
-use lib.ListN.{length, take, set, replicate}
+use lib.ListN.{length, getD, take, set, replicate}
 use Rattle.num_bytes.specs.Arrays.{filled}
 
 module _ {A : Type 0} (d : A) where
@@ -29,3 +29,12 @@ module _ {A : Type 0} (d : A) where
   take-filled n [] h = refl
   take-filled zero (x ∷ xs) h = absurd (omega arith)
   take-filled (suc n) (x ∷ xs) h = ap (λ (l : List A). x ∷ l) (take-filled n xs (omega arith))
+
+  -- Its elements.
+  pub filled-at : (n : ℕ) (xs : List A) (j : ℕ) → length xs ≤ n → getD (filled d n xs) j d ≡ getD xs j d
+  filled-at zero [] j h = refl
+  filled-at zero (x ∷ xs) j h = absurd (omega arith)
+  filled-at (suc n) [] zero h = refl
+  filled-at (suc n) [] (suc j) h = filled-at n [] j (omega arith)
+  filled-at (suc n) (x ∷ xs) zero h = refl
+  filled-at (suc n) (x ∷ xs) (suc j) h = filled-at n xs j (omega arith)

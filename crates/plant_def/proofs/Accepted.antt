@@ -18,11 +18,15 @@ use Rattle.plant_def.specs.Files.{Got, bad, got, siteAt, onSite, recordA
 use Rattle.plant_def.proofs.Records.{Taken, Means, record-taken, units-there, missing-there, site-units}
 
 -- What is known of the plant while a file is read.
-record Sound (p : Plant) : Type 0 where
-  units-fit : unitsFault (p .units) ≡ 0
-  few : length (p .streams) ≤ maxStreams
-  no-fault : firstFault (p .units) (p .streams) ≡ 0
-  all-plain : plain (p .streams) ≡ true
+pub record Sound (p : Plant) : Type 0 where
+  pub units-fit : unitsFault (p .units) ≡ 0
+  pub few : length (p .streams) ≤ maxStreams
+  pub no-fault : firstFault (p .units) (p .streams) ≡ 0
+  pub all-plain : plain (p .streams) ≡ true
+
+-- It is without fault.
+pub sound-faultless : (p : Plant) → Sound p → (plantFault p ≡ 0) × (plain (p .streams) ≡ true)
+sound-faultless p h = (rw (h .units-fit, le-ltb maxStreams (length (p .streams)) (h .few)) (h .no-fault), h .all-plain)
 
 -- One stream without fault more.
 fault-more : (n : ℕ) (ss : List Stream) (s : Stream) → firstFault n ss ≡ 0 → streamFault n s ≡ 0 → firstFault n (ss ++ (s ∷ [])) ≡ 0
@@ -35,7 +39,8 @@ plain-more [] s e f = f
 plain-more (t ∷ ss) s e f =
     and-both (plainOne t) (plain (ss ++ (s ∷ []))) (and-left (plainOne t) (plain ss) e) (plain-more ss s (and-right (plainOne t) (plain ss) e) f)
 
-sound-more : (p : Plant) (s : Stream) {b : List ℕ} {m : ℕ} → Sound p → Taken (p .units) (length (p .streams)) b s m → Sound (withStream p s)
+-- One more is listed.
+pub sound-more : (p : Plant) (s : Stream) {b : List ℕ} {m : ℕ} → Sound p → Taken (p .units) (length (p .streams)) b s m → Sound (withStream p s)
 sound-more p s h f =
     let l = length-append (p .streams) (s ∷ []) in
     let r = f .room in
@@ -76,10 +81,7 @@ module _ (at : ℕ → ℕ → List ℕ → Record) (means : (n c : ℕ) (s : Li
 
   -- A plant that is read has no fault, and nothing is said that its kinds of record do not say.
   pub file-accepted : (s : List ℕ) (p : Plant) → fileBy at s ≡ got p → (plantFault p ≡ 0) × (plain (p .streams) ≡ true)
-  file-accepted s p e = faultless (subst Good e (good-file mostRecords s))
-    where
-      faultless : Sound p → (plantFault p ≡ 0) × (plain (p .streams) ≡ true)
-      faultless h = (rw (h .units-fit, le-ltb maxStreams (length (p .streams)) (h .few)) (h .no-fault), h .all-plain)
+  file-accepted s p e = sound-faultless p (subst Good e (good-file mostRecords s))
 
   -- A file that is refused has a number.
   pub file-refused : (s : List ℕ) (f : ℕ) → fileBy at s ≡ bad f → f ≡ 0 → ⊥

@@ -57,7 +57,8 @@ rest-back (suc l) q s p a e =
               ∙ sym (append-assoc (streamBytes x) (streamsBytes ss) (endKind ∷ length (q .streams ++ x ∷ ss) ∷ []));
         }
 
-site-back : (s : List ℕ) (n : ℕ) → Units n ≡ siteAt s → s ≡ siteKind ∷ n ∷ drop (suc siteBody) s
+-- A site record, written again.
+pub site-back : (s : List ℕ) (n : ℕ) → Units n ≡ siteAt s → s ≡ siteKind ∷ n ∷ drop (suc siteBody) s
 site-back s n e = let u = units-there s n e in go s (site-whole s (u .0)) (site-kind s (u .0)) (u .1)
   where
     go : (s : List ℕ) → suc siteBody ≤ length s → getD s 0 0 ≡ siteKind → n ≡ getD s 1 0 → s ≡ siteKind ∷ n ∷ drop (suc siteBody) s

@@ -9,6 +9,7 @@ pub mod Arrayed
 pub mod Found
 pub mod There
 pub mod Back
+pub mod Amiss
 pub mod Refusals
 pub mod Longest
 pub mod Promise

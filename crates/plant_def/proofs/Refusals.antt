@@ -17,14 +17,13 @@ use Rattle.plant_def.specs.declared.Site.{Site}
 use Rattle.plant_def.specs.declared.Site.the-variants.{Units, Missing}
 use Rattle.plant_def.specs.declared.Record.{Record}
 use Rattle.plant_def.specs.declared.Record.the-variants.{Listed, End, Refused}
-use Rattle.plant_def.specs.declared.Plant as Arrays
 use Rattle.plant_def.specs.declared.Done.{Done}
 use Rattle.plant_def.specs.Limits.{maxUnits, maxStreams, maxWeight, maxReading, maxRange, siteKind, meteredKind, unmeteredKind}
 use Rattle.plant_def.specs.Limits.{endKind, rangedKind, siteBody, meteredBody, rangedBody, unmeteredBody, endBody, longestFile}
 use Rattle.plant_def.specs.Plants.{Plant, unitsFault, meterFault, rangeFault, streamFault, firstFault, partsFault}
 use Rattle.plant_def.specs.Files.{Got, bad, got, siteFault, siteAt, onSite, meteredIn, rangedIn, unmeteredIn, bodyFault}
 use Rattle.plant_def.specs.Files.{checked, streamRecord, endFault, endRecord, kindRecord, recordAt, onRecord, withStream, recordsBy, mostRecords}
-use Rattle.plant_def.specs.Says.{plantOf, writeFault, fileNumber, File-refusals, WriteSays}
+use Rattle.plant_def.specs.Says.{fileNumber, File-refusals, PartsWritten}
 use Rattle.plant_def.proofs.Accepted.{refused}
 
 -- None, or one of the numbers of a file.
@@ -140,15 +139,12 @@ file-known l s =
     (λ t. records-known l (record { units = getD s 1 0; streams = [] }) (drop (suc siteBody) s))
     (λ t. site-known s)
 
-write-known : (p : Arrays.Plant) (o : List ℕ) → (writeFault p o ≡ 1) ⊎ Known (writeFault p o)
-write-known p o = go (ltb (length o) longestFile)
+write-known : (n c : ℕ) (ss : List Stream) (o : List ℕ) → let f = firstOf (refuseIf (ltb (length o) longestFile) 1) (partsFault n c ss) in (f ≡ 1) ⊎ Known f
+write-known n c ss o = go (ltb (length o) longestFile)
   where
-    parts : ℕ
-    parts = partsFault (p .units) (p .count) (plantOf p .streams)
-
-    go : (b : Bool) → (firstOf (refuseIf b 1) parts ≡ 1) ⊎ Known (firstOf (refuseIf b 1) parts)
+    go : (b : Bool) → (firstOf (refuseIf b 1) (partsFault n c ss) ≡ 1) ⊎ Known (firstOf (refuseIf b 1) (partsFault n c ss))
     go true = inl refl
-    go false = inr (parts-known (p .units) (p .count) (plantOf p .streams))
+    go false = inr (parts-known n c ss)
 
 -- 19 is none of them.
 not-19 : (f : ℕ) → Known f → f ≡ 19 → ⊥
@@ -162,7 +158,7 @@ pub file-refusals : File-refusals
 file-refusals s f e = or-cases (eqb f 0) (fileNumber f) (subst Tells e (file-known mostRecords s)) (λ z. absurd (refused s f e (eqb-true f 0 z))) (λ k. k)
 
 -- So the writer never gives 19, the refusal of a plant that has no flow in range.
-pub write-not-19 : (p : Arrays.Plant) (o o′ : List ℕ) (r : Done) → WriteSays p o o′ r → r .number ≡ 19 → ⊥
-write-not-19 p o o′ r h e =
-    let n = ap (λ (y : Done). y .number) (h .0) in
-    ⊎-elim (λ one. let z : _≡_ {A = ℕ} 1 19 = sym one ∙ sym n ∙ e in omega arith) (λ k. not-19 (r .number) (subst Known (sym n) k) e) (write-known p o)
+pub write-not-19 : (n c : ℕ) (ss : List Stream) (o o′ : List ℕ) (r : Done) → PartsWritten n c ss o o′ r → r .number ≡ 19 → ⊥
+write-not-19 n c ss o o′ r h e =
+    let is = ap (λ (y : Done). y .number) (h .0) in
+    ⊎-elim (λ one. let z : _≡_ {A = ℕ} 1 19 = sym one ∙ sym is ∙ e in omega arith) (λ k. not-19 (r .number) (subst Known (sym is) k) e) (write-known n c ss o)

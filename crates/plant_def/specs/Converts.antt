@@ -1,4 +1,5 @@
 -- What a call promises that reads a file and writes a plant file from it: each result is one definition's value.
+use mathlib.Core.Path.{_≡_}
 use mathlib.Core.List.{List, []}
 use Prim.Native.Nat.{ℕ}
 use lib.Dec.{ltb}
@@ -6,8 +7,14 @@ use lib.ListN.{length}
 use Rattle.num_bytes.specs.Choice.{refuseIf, firstOf}
 use Rattle.plant_def.specs.declared.Done.{Done}
 use Rattle.plant_def.specs.Limits.{longestFile}
+use Rattle.plant_def.specs.Plants.{Plant}
 use Rattle.plant_def.specs.Files.{Got, bad, got, plantBytes}
 use Rattle.plant_def.specs.Says.{Written}
+
+-- What a call hands over of a file that it reads: a refusal by its number, else what is said of the plant.
+abbrev pub ReadAs : {R : Type 0} → (ℕ → R) → (Plant → R → Type 0) → Got → R → Type 0
+ReadAs none Of (bad f) r = r ≡ none f
+ReadAs none Of (got p) r = Of p r
 
 -- A reading's refusal number, 0 where it is none, and the bytes of its plant as the plant writer writes them.
 abbrev pub faultOf : Got → ℕ

@@ -4,6 +4,7 @@ pub mod Limits
 pub mod Plants
 pub mod Within
 pub mod Files
+pub mod Refusals
 pub mod Says
 pub mod Converts
 pub mod Needs

@@ -47,6 +47,12 @@ writeFault p o = firstOf (refuseIf (ltb (length o) longestFile) 1) (partsFault (
 abbrev pub Written : ℕ → List ℕ → List ℕ → List ℕ → Done → Type 0
 Written f b o o′ r = (r ≡ record { number = f; written = pick (eqb f 0) (length b) 0 }) × (o′ ≡ pick (eqb f 0) (over b o) o)
 
+-- The plant writer, of a plant's parts, c being the number of streams announced: a slice too short for the longest file 1, then the
+-- parts' faults.
+abbrev pub PartsWritten : ℕ → ℕ → List Stream → List ℕ → List ℕ → Done → Type 0
+PartsWritten n c ss o =
+    Written (firstOf (refuseIf (ltb (length o) longestFile) 1) (partsFault n c ss)) (plantBytes (record { units = n; streams = ss })) o
+
 abbrev pub WriteSays : Arrays.Plant → List ℕ → List ℕ → Done → Type 0
 WriteSays p o = Written (writeFault p o) (plantBytes (plantOf p)) o
 

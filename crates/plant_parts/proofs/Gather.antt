@@ -1,20 +1,24 @@
 -- Gathering streams from their parts: how far every slice reaches, and one stream more in the array.
 use mathlib.Core.Path.{_≡_, refl, sym, ap, ap₂, _∙_, subst}
+use mathlib.Core.Bool.{Bool, true, false, _&&_}
 use mathlib.Core.List.{List, [], _∷_, _++_}
 use Prim.Native.Nat.{ℕ, zero, suc, _+_, _<_, _≤_}
 use native.Mathlib.Omega.{arith}
 use native.Mathlib.Numerals.{add-one}
 use lib.Dec.{ltb}
-use lib.ListN.{length, getD, set, length-append, List·getD-append}
-use lib.Seq.{getD-at}
-use borrow.Author.Tests.{ltb-true, ltb-false}
-use Rattle.num_bytes.proofs.Tests.{by-cases, picked}
+use lib.ListN.{length, getD, take, set, length-append, List·getD-append, List·getD-eq-default}
+use lib.Seq.{getD-at, getD-take, length-take-le, ext-getD}
+use borrow.Author.Tests.{lt-ltb, ltb-true, ltb-false}
+use Rattle.num_bytes.proofs.Tests.{by-cases, clash, picked, same-test, and-left, and-right, and-both}
+use Rattle.num_bytes.specs.Inner.{values}
+use Rattle.num_bytes.proofs.Filled.{filled-at}
 use Rattle.plant_def.specs.declared.Stream.{Stream}
 use Rattle.plant_def.specs.Limits.{maxStreams}
 use Rattle.plant_def.specs.Plants.{noStream}
 use Rattle.plant_def.specs.Says.{padded}
-use Rattle.plant_def.proofs.Held.{padded-more, getD-padded}
-use Rattle.plant_parts.specs.Parts.{Slices, partsAt, least, reach, listedTo}
+use Rattle.plant_def.proofs.Held.{length-padded, padded-more, getD-padded}
+use Rattle.flow_def.proofs.Lists.{values-long, values-at}
+use Rattle.plant_parts.specs.Parts.{Slices, partsAt, reaches, handed, least, reach, listedTo}
 use Rattle.plant_parts.specs.Inner.{meterAt, rangeAt}
 
 -- The lesser is no more than the first,
@@ -110,3 +114,56 @@ all-gathered p n ms e d =
 
     range : ℕ → Stream → Stream
     range k s = rangeAt (p .ranged) (p .low) (p .high) s k
+
+-- Every slice reaches the streams gathered, and no other.
+reaches-is : (p : Slices) (k : ℕ) → k < maxStreams → ltb k (reach p) ≡ reaches p k
+reaches-is p k h =
+    let ends = least (length (p .from)) (length (p .to)) in
+    let meter = least (length (p .weight)) (length (p .reading)) in
+    let meters = least ends (least (length (p .metered)) meter) in
+    let range = least (length (p .low)) (length (p .high)) in
+    let ranges = least (length (p .ranged)) range in
+    least-test k maxStreams (least meters ranges)
+    ∙ ap (λ (b : Bool). b && ltb k (least meters ranges)) (lt-ltb k maxStreams h)
+    ∙ least-test k meters ranges
+    ∙ ap₂ _&&_
+    (least-test k ends (least (length (p .metered)) meter)
+    ∙ ap₂ _&&_ (least-test k (length (p .from)) (length (p .to)))
+    (least-test k (length (p .metered)) meter ∙ ap (λ (b : Bool). ltb k (length (p .metered)) && b) (least-test k (length (p .weight)) (length (p .reading))))
+    ∙ and-assoc (ltb k (length (p .from))) (ltb k (length (p .to))) _)
+    (least-test k (length (p .ranged)) range ∙ ap (λ (b : Bool). ltb k (length (p .ranged)) && b) (least-test k (length (p .low)) (length (p .high))))
+  where
+    least-test : (k a b : ℕ) → ltb k (least a b) ≡ ltb k a && ltb k b
+    least-test k a b =
+        same-test (ltb k (least a b)) (ltb k a && ltb k b)
+        (λ t. let l = ltb-true k (least a b) t in
+        and-both (ltb k a) (ltb k b) (lt-ltb k a (omega (arith, least-left a b))) (lt-ltb k b (omega (arith, least-right a b))))
+        (λ t. let l = ltb-true k a (and-left (ltb k a) (ltb k b) t) in
+        let m = ltb-true k b (and-right (ltb k a) (ltb k b) t) in
+        lt-ltb k (least a b) (picked (λ j. k < j) (ltb a b) a b (λ u. l) (λ u. m)))
+
+    and-assoc : (a b c : Bool) → (a && b) && c ≡ a && (b && c)
+    and-assoc true b c = refl
+    and-assoc false b c = refl
+
+-- The streams of the array, up to a count within its limit, are those handed over.
+pub handed-all : (p : Slices) (c : ℕ) → c ≤ maxStreams → take c (padded maxStreams (listedTo (partsAt p) (reach p))) ≡ values c (handed p)
+handed-all p c h =
+    let ss = listedTo (partsAt p) (reach p) in
+    let long = length-padded maxStreams ss in
+    let size : length (take c (padded maxStreams ss)) ≡ c = length-take-le c (padded maxStreams ss) (omega arith) in
+    ext-getD noStream (take c (padded maxStreams ss)) (values c (handed p)) (size ∙ sym (values-long (handed p) c))
+    (λ k l. let m : k < c = omega arith in getD-take c (padded maxStreams ss) k noStream m ∙ at k (omega arith) ∙ sym (values-at (handed p) noStream c k m))
+  where
+    at : (k : ℕ) → k < maxStreams → getD (padded maxStreams (listedTo (partsAt p) (reach p))) k noStream ≡ handed p k
+    at k l =
+        let n = reach p in
+        let r = reached p n refl in
+        by-cases (ltb k n)
+        (λ t. gathered-at (partsAt p) n k (r .room) (ltb-true k n t) ∙ picked (λ (s : Stream). partsAt p k ≡ s) (reaches p k) (partsAt p k) noStream (λ u. refl)
+        (λ u. clash (ltb k n) t (reaches-is p k l ∙ u)))
+        (λ t. let long = length-listed (partsAt p) n in
+        let room = r .room in
+        filled-at noStream maxStreams (listedTo (partsAt p) n) k (omega arith)
+        ∙ List·getD-eq-default (listedTo (partsAt p) n) noStream (omega (arith, ltb-false k n t))
+        ∙ picked (λ (s : Stream). noStream ≡ s) (reaches p k) (partsAt p k) noStream (λ u. clash (reaches p k) u (sym (reaches-is p k l) ∙ t)) (λ u. refl))

@@ -1,5 +1,5 @@
 -- The plant whose streams' parts are handed over in one slice each.
-use mathlib.Core.Bool.{not}
+use mathlib.Core.Bool.{Bool, not, _&&_}
 use mathlib.Core.List.{List, [], _∷_, _++_}
 use lib.IntN.{ℤ, pos}
 use Prim.Native.Nat.{ℕ, zero, suc}
@@ -7,9 +7,11 @@ use lib.Dec.{eqb, ltb}
 use lib.ListN.{length, getD}
 use Rattle.num_bytes.specs.Choice.{pick}
 use Rattle.plant_def.specs.declared.Stream.{Stream}
-use Rattle.plant_def.specs.declared.Plant as Arrays
+use Rattle.plant_def.specs.declared.Done.{Done}
 use Rattle.plant_def.specs.Limits.{maxStreams}
-use Rattle.plant_def.specs.Says.{padded}
+use Rattle.plant_def.specs.Plants.{noStream}
+use Rattle.plant_def.specs.Says.{PartsWritten}
+use Rattle.num_bytes.specs.Inner.{values}
 
 -- The slices.
 pub record Slices : Type 0 where
@@ -36,21 +38,30 @@ partsAt p k = record {
   high = getD (p .high) k (pos 0);
 }
 
+-- Whether every slice reaches place k.
+abbrev pub reaches : Slices → ℕ → Bool
+reaches p k =
+    (ltb k (length (p .from)) && (ltb k (length (p .to)) && (ltb k (length (p .metered)) && (ltb k (length (p .weight)) && ltb k (length (p .reading))))))
+    && (ltb k (length (p .ranged)) && (ltb k (length (p .low)) && ltb k (length (p .high))))
+
+-- The stream that is handed over at place k: an empty record, from 0 to 0, where some slice does not reach it.
+abbrev pub handed : Slices → ℕ → Stream
+handed p k = pick (reaches p k) (partsAt p k) noStream
+
+-- The exported plant writer, of so many streams.
+abbrev pub HandedWritten : ℕ → ℕ → Slices → List ℕ → List ℕ → Done → Type 0
+HandedWritten n c p = PartsWritten n c (values c (handed p))
+
+-- As the code has it: how many streams every slice reaches, up to the limit, and the first n of the streams that f gives.
 abbrev pub least : ℕ → ℕ → ℕ
 least a b = pick (ltb a b) a b
 
--- How many streams every slice reaches, up to the limit.
 abbrev pub reach : Slices → ℕ
 reach p =
     least maxStreams
     (least (least (least (length (p .from)) (length (p .to))) (least (length (p .metered)) (least (length (p .weight)) (length (p .reading)))))
     (least (length (p .ranged)) (least (length (p .low)) (length (p .high)))))
 
--- The first n of the streams that f gives.
 abbrev pub listedTo : (ℕ → Stream) → ℕ → List Stream
 listedTo f zero = []
 listedTo f (suc n) = listedTo f n ++ (f n ∷ [])
-
--- The plant of so many streams: those that every slice reaches, and empty records, from 0 to 0, after them.
-abbrev pub handed : ℕ → ℕ → Slices → Arrays.Plant
-handed n c p = record { units = n; count = c; streams = padded maxStreams (listedTo (partsAt p) (reach p)) }

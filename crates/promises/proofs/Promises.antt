@@ -1,5 +1,6 @@
 -- Every promise is kept.
 use Rattle.plant_def.proofs.Refusals.{file-refusals}
+use Rattle.plant_def.proofs.Amiss.{refused-files}
 use Rattle.plant_def.proofs.Longest.{longest-file}
 use Rattle.sheet_def.proofs.Demands.{demands}
 use Rattle.sheet_history.proofs.History.{history}
@@ -8,6 +9,7 @@ use Rattle.listing_call.proofs.Printed.{printed}
 use Rattle.transmitter_def.proofs.Rules.{rounding}
 use Rattle.transmitter_def.proofs.Numbers.{numbered}
 use Rattle.transmitter_def.proofs.Promise.{translated}
+use Rattle.transmitter_def.proofs.Amiss.{sent-files}
 use Rattle.ranged_def.proofs.Trip.{moving}
 use Rattle.ranged_same_sheet.proofs.Same.{moved-sheets}
 use Rattle.purchase_def.proofs.Promise.{meters-to-buy}
@@ -27,10 +29,12 @@ pub promises : Promises
 promises = record {
   longest-file = longest-file;
   file-refusals = file-refusals;
+  refused-files = refused-files;
   demands = demands;
   history = history;
   one-text = one-text;
   printed = printed;
+  sent-files = sent-files;
   rounding = rounding;
   numbered = numbered;
   translated = translated;
@@ -38,9 +42,9 @@ promises = record {
   moved-sheets = moved-sheets;
   meters-to-buy = meters-to-buy;
   one-survey = one-survey;
-  layouts = Survey-texts.texts;
+  layouts = Survey-texts.one-text;
   meters-worth-a-visit = meters-worth-a-visit;
-  visits = Visit-texts.texts;
+  visits = Visit-texts.one-text;
   one-list = Visit-parts.one-hand-over;
   steam-charges = steam-charges;
   one-bill = Charge-parts.one-hand-over;

@@ -1,11 +1,11 @@
 -- What the calls give at most: numbers, lengths, prices; and that the exported purchase and survey leave no choice.
 use mathlib.Core.Path.{_≡_}
 use mathlib.Core.List.{List}
-use Prim.Native.Nat.{ℕ, suc, _+_, _*_, _-_, _≤_}
+use Prim.Native.Nat.{ℕ, _+_, _*_, _-_, _≤_}
 use Rattle.plant_def.specs.declared.Done.{Done}
-use Rattle.plant_def.specs.declared.Plant as Arrays
-use Rattle.plant_def.specs.Limits.{maxStreams, siteBody, meteredBody, endBody}
-use Rattle.plant_def.specs.Says.{WriteSays}
+use Rattle.plant_def.specs.declared.Stream.{Stream}
+use Rattle.plant_def.specs.Limits.{maxStreams}
+use Rattle.plant_def.specs.Says.{PartsWritten}
 use Rattle.ranged_def.specs.Moves.{ToSays, FromSays}
 use Rattle.transmitter_def.specs.Says.{TranslateSays}
 use Rattle.purchase_def.specs.declared.Bought.{Bought}
@@ -20,15 +20,15 @@ use Rattle.survey_answers.specs.Lent.{LendSays}
 -- No writer, move, purchase or survey gives 19: that number is of a plant that has no flow in range, and these look for none. (Nor does
 -- a reader: `File-refusals` and `Reopening.refused` have the numbers that readers give.)
 pub record Without-19 : Type 0 where
-  pub writer : (p : Arrays.Plant) (o o′ : List ℕ) (r : Done) → WriteSays p o o′ r → r .number ≡ 19 → ⊥
+  pub writer : (n c : ℕ) (ss : List Stream) (o o′ : List ℕ) (r : Done) → PartsWritten n c ss o o′ r → r .number ≡ 19 → ⊥
   pub forth : (file o o′ : List ℕ) (r : Done) → ToSays file o o′ r → r .number ≡ 19 → ⊥
   pub home : (file o o′ : List ℕ) (r : Done) → FromSays file o o′ r → r .number ≡ 19 → ⊥
   pub purchase : (file prices : List ℕ) (r : Bought) → BuySays file prices r → r .number ≡ 19 → ⊥
   pub survey : (file : List ℕ) (r : Layouts) → SurveySays file r → r .number ≡ 19 → ⊥
 
--- The longest file without ranges: a site, as many metered streams as there may be, an end. 868 bytes.
+-- The longest file without ranges: a metered stream's record is 9 bytes long. 868 bytes.
 abbrev pub longestPlain : ℕ
-longestPlain = suc siteBody + maxStreams * suc meteredBody + suc endBody
+longestPlain = 2 + maxStreams * 9 + 2
 
 pub record Bounds : Type 0 where
   -- The translator writes no ranges: 868 bytes at most.

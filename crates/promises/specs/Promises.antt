@@ -1,12 +1,15 @@
 -- Every public theorem, in one record. docs/PROMISES.md follows it field by field.
 use Rattle.plant_def.specs.Says.{Longest-file, File-refusals}
+use Rattle.plant_def.specs.Refusals.{Refused-files}
 use Rattle.sheet_def.specs.Demands.{Demands}
 use Rattle.sheet_history.specs.History.{History}
-use Rattle.listing_call.specs.Says.{One-text}
+use Rattle.listing_lines.specs.Room.{OneText}
+use Rattle.listing_call.specs.Says.{ListSays}
 use Rattle.listing_call.specs.Printed.{Printed}
 use Rattle.transmitter_def.specs.Answers.{Numbered}
 use Rattle.transmitter_def.specs.Rounding.{Rounding}
 use Rattle.transmitter_def.specs.Says.{Translated}
+use Rattle.transmitter_def.specs.Sendings.{Sent-files}
 use Rattle.ranged_def.specs.Trip.{Moving}
 use Rattle.ranged_same_sheet.specs.Same.{Moved-sheets}
 use Rattle.purchase_def.specs.Says.{Meters-to-buy}
@@ -22,15 +25,18 @@ use Rattle.foreign_def.specs.Numbers.{Own-numbers}
 use Rattle.promises.specs.Bounds.{Without-19, Bounds}
 
 pub record Promises : Type 0 where
-  -- Plant files: how long one is at most, and with which numbers it is refused.
+  -- Plant files: how long one is at most, and with which numbers it is refused: with which at all, and with which one. (Which are read, and
+  -- as what, is a demand.)
   pub longest-file : Longest-file
   pub file-refusals : File-refusals
+  pub refused-files : Refused-files
   -- Sheets: the demands; the sheet numbers of the offices, over any calls; what `balance` prints.
   pub demands : Demands
   pub history : History
-  pub one-text : One-text
+  pub one-text : OneText ListSays
   pub printed : Printed
-  -- Transmitter files: rounding, the numbers of the two answers, and what comes out.
+  -- Transmitter files: which are read, as what, and how the others are refused; rounding, the numbers of the two answers, and what comes out.
+  pub sent-files : Sent-files
   pub rounding : Rounding
   pub numbered : Numbered
   pub translated : Translated
@@ -40,9 +46,9 @@ pub record Promises : Type 0 where
   -- Meters to buy; layouts of meters, and their text; meters worth a visit, and their text.
   pub meters-to-buy : Meters-to-buy
   pub one-survey : One-survey
-  pub layouts : Survey-texts.Texts
+  pub layouts : OneText Survey-texts.TextSays
   pub meters-worth-a-visit : Meters-worth-a-visit
-  pub visits : Visit-texts.Texts
+  pub visits : OneText Visit-texts.TextSays
   pub one-list : Visit-parts.One-hand-over
   -- Steam charges.
   pub steam-charges : Steam-charges

@@ -4,6 +4,7 @@ use mathlib.Core.Bool.{Bool}
 use mathlib.Core.List.{List, []}
 use Prim.Native.Nat.{ℕ}
 use lib.ListN.{length, replicate}
+use Rattle.plant_def.specs.Converts.{ReadAs}
 use Rattle.num_bytes.specs.Arrays.{filled}
 use Rattle.plant_def.specs.Limits.{maxStreams}
 use Rattle.plant_def.specs.Plants.{Plant}
@@ -28,12 +29,12 @@ pub record BuyOf (p : Plant) (prices : List ℕ) (r : Bought) : Type 0 where
       → let price = priceIn (p .streams) prices in (set : List Bool) × Best p price set × (r ≡ boughtOf price set)
 
 -- The call: the file's refusals, 3 to 12 and 18, come first.
-abbrev pub BuyWith : Got → List ℕ → Bought → Type 0
-BuyWith (bad f) prices r = r ≡ noneBought f
-BuyWith (got p) prices r = BuyOf p prices r
-
 abbrev pub BuySays : List ℕ → List ℕ → Bought → Type 0
-BuySays file prices r = BuyWith (readPlant file) prices r
+BuySays file prices = ReadAs noneBought (λ p. BuyOf p prices) (readPlant file)
+
+-- The same of what was read.
+abbrev pub BuyWith : Got → List ℕ → Bought → Type 0
+BuyWith g prices = ReadAs noneBought (λ p. BuyOf p prices) g
 
 -- Of all plants that are read and prices without fault: some set is best, the answer is the same whichever is taken, and it is
 -- empty where nothing is withheld.

@@ -43,7 +43,7 @@ use Rattle.sheet_def.proofs.Opening.{right-found, right-overfull, held-
 use Rattle.sheet_def.proofs.Laying.{sheet-most}
 use Rattle.sheet_def.proofs.Promise.{long-enough, has-counter, one-left, call-faulty, call-taken, call-read}
 use Rattle.sheet_def.proofs.Unique.{amount-same, never-both, no-choice}
-use Rattle.sheet_def.proofs.Back.{reopening}
+use Rattle.sheet_def.proofs.Unfit.{reopening}
 use Rattle.sheet_def.proofs.ReadAgain.{read-back}
 use Rattle.sheet_def.proofs.DeskTool.{desk-tool}
 use Rattle.sheet_def.proofs.Telling.{Sized, told, tells}

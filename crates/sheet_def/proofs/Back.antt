@@ -14,9 +14,8 @@ use Rattle.sheet_def.specs.declared.Entry.{Entry}
 use Rattle.sheet_def.specs.declared.SheetRecord.{SheetRecord}
 use Rattle.sheet_def.specs.declared.SheetRecord.the-variants.{Listed, Ended, Refused}
 use Rattle.sheet_def.specs.Sheets.{recordOf, recordsOf, totalBytes, SheetParts, partsBytes}
-use Rattle.sheet_def.specs.Kept.{noSheet, someSheet, fieldsFit, recordAt, onRecord, sheetWith, recordsFrom, readSheet, fits, allFit, kindFits, WithinSheet, Reopening}
+use Rattle.sheet_def.specs.Kept.{noSheet, someSheet, fieldsFit, recordAt, onRecord, sheetWith, recordsFrom, readSheet, fits, allFit, kindFits, WithinSheet}
 use Rattle.sheet_def.proofs.Records.{EndedAs, Meaning, record-means}
-use Rattle.sheet_def.proofs.There.{there}
 
 pub not-both : (f : ℕ) (p : SheetParts) → noSheet f ≡ someSheet p → ⊥
 not-both f p e = let z : _≡_ {A = ℕ} 0 1 = cc in omega arith
@@ -90,22 +89,25 @@ pub few-read : (b : List ℕ) (s : SheetParts) → readSheet b ≡ someSheet s �
 few-read b s e = rest-few mostRecords [] b s (omega arith) e
 
 -- (At any fuel: a numeral here would be unfolded.)
-all-back : (l : ℕ) (b : List ℕ) (s : SheetParts) → allBytes b ≡ true → recordsFrom l [] b ≡ someSheet s → (partsBytes s ≡ b) × WithinSheet s
+pub all-back : (l : ℕ) (b : List ℕ) (s : SheetParts) → allBytes b ≡ true → recordsFrom l [] b ≡ someSheet s → (partsBytes s ≡ b) × WithinSheet s
 all-back l b s a e =
     let r = rest-back l [] b s a e in
     let same = r .streams in (
       ap (λ (es : List Entry). recordsOf es ++ totalBytes (s .total)) same ∙ sym (r .bytes),
       record {
-        few = rest-few l [] b s (omega arith) e;
-        flows = rw same (r .flows);
-        kind = r .kind;
-        number = r .number;
-        cost = r .cost;
+        recorded = record {
+          few = rest-few l [] b s (omega arith) e;
+          flows = rw same (r .flows);
+          kind = r .kind;
+          number = r .number;
+          cost = r .cost;
+        };
         allowed = r .allowed;
       },
     )
 
-rest-refused : (l : ℕ) (done : List Entry) (s : List ℕ) (f : ℕ) → recordsFrom l done s ≡ noSheet f → (13 ≤ f) × (f ≤ 15)
+-- What is refused, at any fuel.
+pub rest-refused : (l : ℕ) (done : List Entry) (s : List ℕ) (f : ℕ) → recordsFrom l done s ≡ noSheet f → (13 ≤ f) × (f ≤ 15)
 rest-refused zero done s f e = let g : 13 ≡ f = cc in (omega arith, omega arith)
 rest-refused (suc l) done s f e =
     go (recordAt (length done) s) (record-means (length done) s) e (λ x m. rest-refused l (done ++ (x ∷ [])) (drop m s) f)
@@ -115,7 +117,3 @@ rest-refused (suc l) done s f e =
     go (Refused g) h e ih = let d : g ≡ f = cc in (omega (arith, h .0), omega (arith, h .1))
     go (Ended t) h e ih = absurd (not-both f (record { streams = done; total = t }) (sym e))
     go (Listed x m) h e ih = ih x m e
-
--- Writing and reading undo each other.
-pub reopening : Reopening
-reopening = record { there = there; back = all-back mostRecords; refused = rest-refused mostRecords [] }

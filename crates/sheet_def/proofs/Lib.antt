@@ -6,6 +6,7 @@ pub mod Laying
 pub mod Records
 pub mod There
 pub mod Back
+pub mod Unfit
 pub mod Promise
 pub mod Unique
 pub mod Judged

@@ -78,11 +78,13 @@ module _ (p : Plant) (w : Within p) (xs : List ℤ) (c : Cheapest p xs) (sized :
     within-sheet =
         let f = w .few-streams in
         record {
-          few = omega (arith, es-long p w xs c);
-          flows = all-fit listed each;
-          kind = fit;
-          number = small;
-          cost = omega (arith, cost-is p w xs c, capped-most (cost (p .streams) xs));
+          recorded = record {
+            few = omega (arith, es-long p w xs c);
+            flows = all-fit listed each;
+            kind = fit;
+            number = small;
+            cost = omega (arith, cost-is p w xs c, capped-most (cost (p .streams) xs));
+          };
           allowed = total-fits;
         }
 

@@ -1,11 +1,11 @@
 -- The records of a kept sheet: what is known of the bytes where one is read.
 use mathlib.Core.Path.{_≡_, refl, sym, ap, _∙_}
 use mathlib.Core.Bool.{Bool, true, false, not, _||_}
-use mathlib.Core.List.{List, [], _∷_, _++_}
+use mathlib.Core.List.{List, [], _∷_, _++_, append-nil}
 use Prim.Native.Nat.{ℕ, suc, _<_, _≤_, _^_}
 use native.Mathlib.Omega.{arith}
 use lib.Dec.{eqb, ltb, leb}
-use lib.ListN.{length, getD, take, drop, take-append-drop, length-drop}
+use lib.ListN.{length, getD, take, drop, take-append-drop, length-drop, drop-of-length-le}
 use lib.Seq.{drop-drop, getD-drop}
 use borrow.Author.Tests.{le-ltb, ltb-false, leb-false, eqb-true, eqb-false, not-false}
 use Rattle.num_bytes.specs.Choice.{refuseIf, firstOf}
@@ -20,8 +20,8 @@ use Rattle.sheet_def.specs.declared.Entry.{Entry}
 use Rattle.sheet_def.specs.declared.Total.{Total}
 use Rattle.sheet_def.specs.declared.SheetRecord.{SheetRecord}
 use Rattle.sheet_def.specs.declared.SheetRecord.the-variants.{Listed, Ended, Refused}
-use Rattle.sheet_def.specs.Apart.{adjustedKind, asReadKind, givenKind, withheldKind, totalKind, plainKind, streamSize, bodySize, totalSize, plainSize}
-use Rattle.sheet_def.specs.Sheets.{recordOf, bodyOf, totalBytes}
+use Rattle.sheet_def.specs.Apart.{totalKind, plainKind, streamSize, bodySize, totalSize, plainSize}
+use Rattle.sheet_def.specs.Sheets.{adjustedKind, asReadKind, givenKind, withheldKind, recordOf, bodyOf, totalBytes}
 use Rattle.sheet_def.specs.Kept.{shownIn, blank, streamRecord, totalIn, plainIn, fieldsFit, totalFault, afterFault, endFault, totalRecord, kindRecord, recordAt, fits, kindFits}
 
 -- An entry listed by a record of m bytes at the front of s, after c streams.
@@ -97,18 +97,17 @@ shown-again x k b e f h a =
     (f ∙ number-held b bytes (omega arith), ap (λ (l : List ℕ). x ∷ l) (number-again b bytes (omega arith)) ∙ ap (λ (l : List ℕ). l ++ drop 8 b) (sym e))
 
 -- What a total ends in, written again.
-last-two : (r : List ℕ) → length r ≡ 2 → r ≡ getD r 0 0 ∷ getD r 1 0 ∷ []
-last-two [] h = absurd (omega arith)
-last-two (x ∷ []) h = absurd (omega arith)
-last-two (x ∷ y ∷ []) h = refl
-last-two (x ∷ y ∷ z ∷ r) h = absurd (omega arith)
+two-first : (r : List ℕ) → 2 ≤ length r → r ≡ getD r 0 0 ∷ getD r 1 0 ∷ drop 2 r
+two-first [] h = absurd (omega arith)
+two-first (x ∷ []) h = absurd (omega arith)
+two-first (x ∷ y ∷ r) h = refl
 
-body-again : (b : List ℕ) → allBytes b ≡ true → length b ≡ bodySize → b ≡ bodyOf (be 0 4 b) (be 4 8 b) (getD b 12 0) (getD b 13 0)
+body-again : (b : List ℕ) → allBytes b ≡ true → bodySize ≤ length b → b ≡ bodyOf (be 0 4 b) (be 4 8 b) (getD b 12 0) (getD b 13 0) ++ drop bodySize b
 body-again b a h =
     let n : putBe 4 (be 0 4 b) ≡ take 4 b = put-be 0 4 b a (omega arith) in
     let c : putBe 8 (be 4 8 b) ≡ take 8 (drop 4 b) = put-be 4 8 b a (omega arith) in
-    let size : length (drop 12 b) ≡ 2 = omega (arith, length-drop 12 b) in
-    let two : drop 12 b ≡ getD b 12 0 ∷ getD b 13 0 ∷ [] = last-two (drop 12 b) size ∙ (λ i. getD-drop 12 b 0 0 i ∷ getD-drop 12 b 1 0 i ∷ []) in
+    let two : drop 12 b ≡ getD b 12 0 ∷ getD b 13 0 ∷ drop bodySize b =
+    two-first (drop 12 b) (omega (arith, length-drop 12 b)) ∙ (λ i. getD-drop 12 b 0 0 i ∷ getD-drop 12 b 1 0 i ∷ drop-drop 2 12 b i) in
     let joined : take 4 b ++ (take 8 (drop 4 b) ++ drop 12 b) ≡ b =
     ap (λ (l : List ℕ). take 4 b ++ (take 8 (drop 4 b) ++ l)) (sym (drop-drop 8 4 b))
     ∙ ap (λ (l : List ℕ). take 4 b ++ l) (take-append-drop 8 (drop 4 b))
@@ -123,23 +122,26 @@ three false true c h = (omega arith, omega arith)
 three false false true h = (omega arith, omega arith)
 three false false false h = absurd (h refl)
 
--- What is known of the bytes of a total, where they are whole and no more.
-record Again (s : List ℕ) (t : Total) : Type 0 where
-  bytes : s ≡ totalBytes t
-  number : t .sheet < 256 ^ 4
-  cost : t .cost < 256 ^ 8
+-- What is known of the bytes of a total of this size, where they are whole.
+pub record Again (size : ℕ) (s : List ℕ) (t : Total) : Type 0 where
+  pub bytes : s ≡ totalBytes t ++ drop size s
+  pub number : t .sheet < 256 ^ 4
+  pub cost : t .cost < 256 ^ 8
 
-plain-again : (b : List ℕ) → allBytes b ≡ true → length b ≡ bodySize → Again (plainKind ∷ b) (plainIn (plainKind ∷ b))
-plain-again b a l = record {
-  bytes = ap (λ (r : List ℕ). plainKind ∷ r) (body-again b a l);
-  number = be-fits 0 4 b a (omega arith);
-  cost = be-fits 4 8 b a (omega arith);
-}
+-- The two kinds of total, written again.
+pub plain-again : (b : List ℕ) → allBytes (plainKind ∷ b) ≡ true → plainSize ≤ length (plainKind ∷ b) → Again plainSize (plainKind ∷ b) (plainIn (plainKind ∷ b))
+plain-again b a l =
+    let bytes = byte-first plainKind b a .1 in
+    record {
+      bytes = ap (λ (r : List ℕ). plainKind ∷ r) (body-again b bytes (omega arith));
+      number = be-fits 0 4 b bytes (omega arith);
+      cost = be-fits 4 8 b bytes (omega arith);
+    }
 
-total-again : (b : List ℕ) → allBytes b ≡ true → length b ≡ suc bodySize → Again (totalKind ∷ b) (totalIn (totalKind ∷ b))
+pub total-again : (b : List ℕ) → allBytes (totalKind ∷ b) ≡ true → totalSize ≤ length (totalKind ∷ b) → Again totalSize (totalKind ∷ b) (totalIn (totalKind ∷ b))
 total-again [] a l = absurd (omega arith)
 total-again (k ∷ b) a l =
-    let bytes = byte-first k b a .1 in
+    let bytes = byte-first k b (byte-first totalKind (k ∷ b) a .1) .1 in
     record {
       bytes = ap (λ (r : List ℕ). totalKind ∷ k ∷ r) (body-again b bytes (omega arith));
       number = be-fits 0 4 b bytes (omega arith);
@@ -147,7 +149,7 @@ total-again (k ∷ b) a l =
     }
 
 -- A total that is there whole, or its refusal.
-module _ (size : ℕ) (t : Total) (s : List ℕ) (fit : kindFits (t .kind) (t .office) ≡ true) (again : allBytes s ≡ true → length s ≡ size → Again s t) where
+module _ (size : ℕ) (t : Total) (s : List ℕ) (fit : kindFits (t .kind) (t .office) ≡ true) (again : allBytes s ≡ true → size ≤ length s → Again size s t) where
   ended-means : endFault size t s ≡ 0 → EndedAs s t
   ended-means e =
       let after = first-none-right (refuseIf (ltb (length s) size) 13) _ e in
@@ -156,10 +158,13 @@ module _ (size : ℕ) (t : Total) (s : List ℕ) (fit : kindFits (t .kind) (t .o
       record {
         allowed = not-false (fieldsFit t) (refuse-none _ 13 (first-none-left (totalFault t) (afterFault size s) after));
         kind = fit;
-        bytes = λ a. again a l .bytes;
-        number = λ a. again a l .number;
-        cost = λ a. again a l .cost;
+        bytes = λ a. again a (omega arith) .bytes ∙ ap (λ (r : List ℕ). totalBytes t ++ r) (none-after s l) ∙ append-nil (totalBytes t);
+        number = λ a. again a (omega arith) .number;
+        cost = λ a. again a (omega arith) .cost;
       }
+    where
+      none-after : (r : List ℕ) → length r ≡ size → drop size r ≡ []
+      none-after r l = drop-of-length-le r {i = size} (omega arith)
 
   end-means : (c : ℕ) → Meaning c s (totalRecord size t s)
   end-means c =
@@ -168,10 +173,10 @@ module _ (size : ℕ) (t : Total) (s : List ℕ) (fit : kindFits (t .kind) (t .o
       (λ z. three (ltb (length s) size) (not (fieldsFit t)) (not (eqb (length s) size)) (eqb-false (endFault size t s) 0 z))
 
 total-means : (c : ℕ) (b : List ℕ) → Meaning c (totalKind ∷ b) (totalRecord totalSize (totalIn (totalKind ∷ b)) (totalKind ∷ b))
-total-means c b = end-means totalSize (totalIn (totalKind ∷ b)) (totalKind ∷ b) refl (λ a l. total-again b (byte-first totalKind b a .1) (omega arith)) c
+total-means c b = end-means totalSize (totalIn (totalKind ∷ b)) (totalKind ∷ b) refl (total-again b) c
 
 plain-means : (c : ℕ) (b : List ℕ) → Meaning c (plainKind ∷ b) (totalRecord plainSize (plainIn (plainKind ∷ b)) (plainKind ∷ b))
-plain-means c b = end-means plainSize (plainIn (plainKind ∷ b)) (plainKind ∷ b) refl (λ a l. plain-again b (byte-first plainKind b a .1) (omega arith)) c
+plain-means c b = end-means plainSize (plainIn (plainKind ∷ b)) (plainKind ∷ b) refl (plain-again b) c
 
 -- What is known of the record that stands where one is due.
 pub record-means : (c : ℕ) (s : List ℕ) → Meaning c s (recordAt c s)

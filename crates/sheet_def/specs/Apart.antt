@@ -4,20 +4,7 @@ use lib.Dec.{leb}
 use Rattle.num_bytes.specs.Choice.{pick}
 use Rattle.plant_def.specs.Limits.{maxStreams}
 
--- The kinds of record: A, adjusted; R, as read; G, given; W, withheld (the blank); the total, with the office that drew the sheet;
--- the plain total of sheets drawn before there were offices.
-abbrev pub adjustedKind : ℕ
-adjustedKind = 17
-
-abbrev pub asReadKind : ℕ
-asReadKind = 18
-
-abbrev pub givenKind : ℕ
-givenKind = 19
-
-abbrev pub withheldKind : ℕ
-withheldKind = 20
-
+-- The kinds of a total: with the office that drew the sheet, and the plain one of sheets drawn before there were offices.
 abbrev pub totalKind : ℕ
 totalKind = 30
 
@@ -37,9 +24,9 @@ totalSize = 16
 abbrev pub plainSize : ℕ
 plainSize = 15
 
--- The least slice that is taken: as many numbers as there may be, and the total. 880 bytes.
+-- The least slice that is taken: as many numbers as there may be, 9 bytes each, and the total, 16. 880 bytes.
 abbrev pub leastSlice : ℕ
-leastSlice = maxStreams * streamSize + totalSize
+leastSlice = maxStreams * 9 + 16
 
 -- A cost as it is written: one that 8 bytes do not hold as the greatest that they hold.
 abbrev pub topCost : ℕ

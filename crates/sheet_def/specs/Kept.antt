@@ -1,6 +1,7 @@
 -- Kept sheets: reading them back in, with refusals 13 to 15; writing and reading undo each other.
 use mathlib.Core.Path.{_≡_}
-use mathlib.Core.Bool.{Bool, true, _&&_, _||_, not}
+use mathlib.Core.Logic.{_⊎_}
+use mathlib.Core.Bool.{Bool, true, false, _&&_, _||_, not}
 use mathlib.Core.List.{List, [], _∷_, _++_}
 use lib.IntN.{ℤ, pos, natAbs}
 use Prim.Native.Nat.{ℕ, zero, suc, _<_, _≤_, _^_}
@@ -18,9 +19,9 @@ use Rattle.sheet_def.specs.declared.Total.{Total}
 use Rattle.sheet_def.specs.declared.SheetRead.{SheetRead}
 use Rattle.sheet_def.specs.declared.SheetRecord.{SheetRecord}
 use Rattle.sheet_def.specs.declared.SheetRecord.the-variants.{Listed, Ended, Refused}
-use Rattle.sheet_def.specs.Apart.{adjustedKind, asReadKind, givenKind, withheldKind, totalKind, plainKind, streamSize, totalSize, plainSize}
+use Rattle.sheet_def.specs.Apart.{totalKind, plainKind, streamSize, totalSize, plainSize}
+use Rattle.sheet_def.specs.Sheets.{known, adjustedKind, asReadKind, givenKind, withheldKind, SheetParts, partsBytes}
 use Rattle.sheet_def.specs.Counters.{offices}
-use Rattle.sheet_def.specs.Sheets.{SheetParts, partsBytes}
 
 -- A reading of a sheet: a refusal number, or its parts.
 pub data Reopened : Type 0 where
@@ -127,10 +128,7 @@ ReadSays bytes r = r ≡ readOf (readSheet bytes)
 
 -- An entry that a record can hold: a number of 8 bytes, or the blank, with 0.
 abbrev pub fits : Class → ℤ → Bool
-fits Adjusted x = holds 8 x
-fits AsRead x = holds 8 x
-fits Given x = holds 8 x
-fits Withheld x = eqb (natAbs x) 0
+fits c x = pick (known c) (holds 8 x) (eqb (natAbs x) 0)
 
 abbrev pub allFit : List Entry → Bool
 allFit [] = true
@@ -140,19 +138,30 @@ allFit (e ∷ es) = fits (e .class) (e .flow) && allFit es
 abbrev pub kindFits : ℕ → ℕ → Bool
 kindFits kind office = eqb kind totalKind || (eqb kind plainKind && eqb office 0)
 
--- A sheet's parts within their limits.
-pub record WithinSheet (s : SheetParts) : Type 0 where
+-- A sheet's parts that records can hold.
+pub record Recorded (s : SheetParts) : Type 0 where
   pub few : length (s .streams) ≤ maxStreams
   pub flows : allFit (s .streams) ≡ true
   pub kind : kindFits (s .total .kind) (s .total .office) ≡ true
   pub number : s .total .sheet < 256 ^ 4
   pub cost : s .total .cost < 256 ^ 8
+
+-- A sheet's parts within their limits.
+pub record WithinSheet (s : SheetParts) : Type 0 where
+  pub recorded : Recorded s
   pub allowed : fieldsFit (s .total) ≡ true
+
+-- A sheet that is refused: a field of its total is not allowed, 14, or bytes stand after it, 15.
+pub data Unfit : List ℕ → ℕ → Type 0 where
+  field : (s : SheetParts) (b : List ℕ) → Recorded s → fieldsFit (s .total) ≡ false → Unfit (partsBytes s ++ b) 14
+  after : (s : SheetParts) (x : ℕ) (b : List ℕ) → WithinSheet s → Unfit (partsBytes s ++ (x ∷ b)) 15
 
 -- Writing and reading undo each other: parts within their limits, written and read again, come back the same; bytes that are read,
 -- written again from what was read, are the same bytes (and within their limits, so that exactly such sheets are read). What is
--- not read is refused with 13, 14 or 15.
+-- not read is refused with 13, 14 or 15: with 13 all but those that are refused as above.
 pub record Reopening : Type 0 where
   pub there : (s : SheetParts) → WithinSheet s → readSheet (partsBytes s) ≡ someSheet s
   pub back : (b : List ℕ) (s : SheetParts) → allBytes b ≡ true → readSheet b ≡ someSheet s → (partsBytes s ≡ b) × WithinSheet s
   pub refused : (b : List ℕ) (f : ℕ) → readSheet b ≡ noSheet f → (13 ≤ f) × (f ≤ 15)
+  pub unfit : (b : List ℕ) (f : ℕ) → Unfit b f → readSheet b ≡ noSheet f
+  pub others : (b : List ℕ) (f : ℕ) → allBytes b ≡ true → readSheet b ≡ noSheet f → (f ≡ 13) ⊎ Unfit b f

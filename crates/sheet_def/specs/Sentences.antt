@@ -19,7 +19,7 @@ use Rattle.flow_def.specs.Overfull.{unmarked, Overfull}
 use Rattle.flow_def.specs.declared.Class.{Class}
 use Rattle.flow_def.specs.declared.Class.the-variants.{Adjusted, AsRead, Given, Withheld}
 use Rattle.sheet_def.specs.declared.Sheet.{Sheet}
-use Rattle.sheet_def.specs.Apart.{adjustedKind, totalKind, leastSlice, capped}
+use Rattle.sheet_def.specs.Apart.{totalKind, leastSlice, capped}
 use Rattle.sheet_def.specs.Sheets.{kindOf, SheetParts}
 use Rattle.sheet_def.specs.Kept.{blank, someSheet, readSheet}
 use Rattle.sheet_def.specs.Counters.{offices, topSheet, counterOf, nextOf, raised}
@@ -56,7 +56,7 @@ MetersAs p s d ys = (k : ℕ) → MeteredAt p k → amountAt ys k ≡ pos d *ℤ
 -- The summed weights of the A streams among the first k.
 abbrev pub weightsTo : Plant → SheetParts → ℕ → ℕ
 weightsTo p s zero = 0
-weightsTo p s (suc k) = pick (eqb (kindOf (classOn s k)) adjustedKind) (streamAt (p .streams) k .weight) 0 + weightsTo p s k
+weightsTo p s (suc k) = pick (eqb (kindOf (classOn s k)) (kindOf Adjusted)) (streamAt (p .streams) k .weight) 0 + weightsTo p s k
 
 abbrev pub adjustedWeights : Plant → SheetParts → ℕ
 adjustedWeights p s = weightsTo p s (length (p .streams))

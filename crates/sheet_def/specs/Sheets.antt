@@ -1,4 +1,5 @@
 -- A sheet: one record per stream in stream order, then the total, with no gap.
+use mathlib.Core.Bool.{Bool, true, false}
 use mathlib.Core.List.{List, [], _∷_, _++_}
 use lib.IntN.{ℤ}
 use Prim.Native.Nat.{ℕ}
@@ -9,21 +10,37 @@ use Rattle.flow_def.specs.declared.Class.{Class}
 use Rattle.flow_def.specs.declared.Class.the-variants.{Adjusted, AsRead, Given, Withheld}
 use Rattle.sheet_def.specs.declared.Entry.{Entry}
 use Rattle.sheet_def.specs.declared.Total.{Total}
-use Rattle.sheet_def.specs.Apart.{adjustedKind, asReadKind, givenKind, withheldKind, totalKind}
+use Rattle.sheet_def.specs.Apart.{totalKind}
 
--- The kinds of a stream's record: 0x11 A, 0x12 R, 0x13 G, 0x14 W.
+-- The kinds of a stream's record: 0x11 A, adjusted; 0x12 R, as read; 0x13 G, given; 0x14 W, withheld (the blank).
 abbrev pub kindOf : Class → ℕ
-kindOf Adjusted = adjustedKind
-kindOf AsRead = asReadKind
-kindOf Given = givenKind
-kindOf Withheld = withheldKind
+kindOf Adjusted = 17
+kindOf AsRead = 18
+kindOf Given = 19
+kindOf Withheld = 20
+
+abbrev pub adjustedKind : ℕ
+adjustedKind = kindOf Adjusted
+
+abbrev pub asReadKind : ℕ
+asReadKind = kindOf AsRead
+
+abbrev pub givenKind : ℕ
+givenKind = kindOf Given
+
+abbrev pub withheldKind : ℕ
+withheldKind = kindOf Withheld
+
+-- A flow is known where its record has a number: all but W.
+abbrev pub known : Class → Bool
+known Adjusted = true
+known AsRead = true
+known Given = true
+known Withheld = false
 
 -- A stream's record: the flow in 8 bytes, two's complement; the blank has no body.
 abbrev pub recordOf : Class → ℤ → List ℕ
-recordOf Adjusted x = kindOf Adjusted ∷ putBe 8 (raw 8 x)
-recordOf AsRead x = kindOf AsRead ∷ putBe 8 (raw 8 x)
-recordOf Given x = kindOf Given ∷ putBe 8 (raw 8 x)
-recordOf Withheld x = kindOf Withheld ∷ []
+recordOf c x = kindOf c ∷ pick (known c) (putBe 8 (raw 8 x)) []
 
 -- The records of streams.
 abbrev pub recordsOf : List Entry → List ℕ

@@ -1,7 +1,7 @@
 -- The counters over any sequence of calls: all that is promised.
 use mathlib.Core.Path.{_≡_, refl, ap, _∙_, subst}
 use mathlib.Core.Bool.{Bool, true, false}
-use mathlib.Core.Logic.{inl, inr, ⊎-elim}
+use mathlib.Core.Logic.{_↔_, inl, inr, ⊎-elim}
 use mathlib.Core.List.{List, []}
 use Prim.Native.Nat.{ℕ, suc}
 use native.Mathlib.Omega.{arith}
@@ -9,23 +9,27 @@ use borrow.Author.Tests.{ne-eqb, eqb-false}
 use lib.Dec.{eqb, ltb, leb}
 use lib.ListN.{length}
 use Rattle.num_bytes.specs.Choice.{pick, refuseIf, firstOf}
-use Rattle.num_bytes.specs.Bytes.{over}
+use Rattle.num_bytes.specs.Bytes.{allBytes, over}
 use Rattle.num_bytes.specs.Inner.{pickT}
 use Rattle.plant_def.specs.Files.{Got, bad, got, readPlant, mostRecords}
 use Rattle.plant_def.proofs.Accepted.{refused}
 use Rattle.flow_def.specs.Overfull.{unmarked}
 use Rattle.sheet_def.specs.declared.Sheet.{Sheet}
-use Rattle.sheet_def.specs.Apart.{leastSlice}
+use Rattle.sheet_def.specs.Apart.{plainKind, leastSlice}
+use Rattle.sheet_def.specs.Sheets.{SheetParts, partsBytes}
+use Rattle.sheet_def.specs.Kept.{someSheet, WithinSheet}
 use Rattle.sheet_def.specs.Counters.{offices, topSheet, counterOf, nextOf, raised}
 use Rattle.sheet_def.specs.Drawings.{sheetOf}
 use Rattle.sheet_def.specs.Sentences.{callFault, RefusedWith, Refused}
 use Rattle.sheet_def.specs.Says.{SheetWith, SheetSays}
 use Rattle.sheet_def.proofs.Unique.{no-choice}
+use Rattle.sheet_def.proofs.Unfit.{reopening}
+use Rattle.sheet_history.specs.Before.{readBefore}
 use Rattle.sheet_history.specs.History.{History}
 use Rattle.sheet_history.proofs.Steps.{step, other-same}
 use Rattle.sheet_history.proofs.Sequences.{kept, next, numbers}
 use Rattle.sheet_history.proofs.Plain.{plain, change, follow}
-use Rattle.sheet_history.proofs.Reading.{read-now}
+use Rattle.sheet_history.proofs.Reading.{read-now, read-then}
 
 -- A call with other counters, where the calling office's is the same: the same answer, with what becomes of those.
 module _ (file : List ℕ) (office : ℕ) (ls ms o o′ : List ℕ) (e : counterOf office ls ≡ counterOf office ms) where
@@ -71,6 +75,13 @@ alone file office ls ms o o₁ o₂ r₁ r₂ e a b =
     let same = no-choice file office ms o o₁ o₂ (among file office ls ms o o₁ e r₁) r₂ (says-among file office ls ms o o₁ e r₁ a) b in
     (ap (λ (y : Sheet). y .number) (same .0 .0), ap (λ (y : Sheet). y .written) (same .0 .0), same .1)
 
+-- Exactly the sheets under a plain total were read.
+read-before : (b : List ℕ) (s : SheetParts) → allBytes b ≡ true → (readBefore b ≡ someSheet s) ↔ ((partsBytes s ≡ b) × WithinSheet s × (s .total .kind ≡ plainKind))
+read-before b s a = (
+  λ e. let r = read-now s mostRecords [] b e in let k = reopening .back b s a (r .0) in (k .0, k .1, r .1 .0),
+  λ h. subst (λ (y : List ℕ). readBefore y ≡ someSheet s) (h .0) (read-then s (h .2) mostRecords [] (partsBytes s) (reopening .there s (h .1))),
+)
+
 pub history : History
 history = record {
   others = λ file office lasts o o′ r s k n. ⊎-elim (λ d. other-same office lasts r d k n) (λ d. ap (counterOf k) (d .same)) (step file office lasts o o′ r s);
@@ -79,6 +90,7 @@ history = record {
   kept = kept;
   next = next;
   numbers = numbers;
+  read-before = read-before;
   as-before = λ b s e. let r = read-now s mostRecords [] b e in (r .0, r .1 .0, r .1 .1);
   plain = plain;
   change = change;

@@ -1,8 +1,9 @@
 -- What the sheet reader of before reads, the sheet reader reads alike.
-use mathlib.Core.Path.{_≡_, refl, subst}
+use mathlib.Core.Path.{_≡_, refl, sym, ap, _∙_, subst}
 use mathlib.Core.Bool.{Bool, true, false, _||_}
 use mathlib.Core.List.{List, [], _∷_, _++_}
 use Prim.Native.Nat.{ℕ, zero, suc}
+use native.Mathlib.Omega.{arith}
 use borrow.Author.Tests.{eqb-true, eqb-false}
 use lib.Dec.{eqb, ltb, leb}
 use lib.ListN.{length, getD, drop}
@@ -14,9 +15,9 @@ use Rattle.sheet_def.specs.declared.Entry.{Entry}
 use Rattle.sheet_def.specs.declared.Total.{Total}
 use Rattle.sheet_def.specs.declared.SheetRecord.{SheetRecord}
 use Rattle.sheet_def.specs.declared.SheetRecord.the-variants.{Listed, Ended, Refused}
-use Rattle.sheet_def.specs.Apart.{adjustedKind, asReadKind, givenKind, withheldKind, totalKind, plainKind, streamSize, plainSize}
-use Rattle.sheet_def.specs.Sheets.{SheetParts}
-use Rattle.sheet_def.specs.Kept.{Reopened, noSheet, someSheet, shownIn, blank, streamRecord, plainIn, endFault, totalRecord, kindRecord, recordAt, onRecord, sheetWith, recordsFrom}
+use Rattle.sheet_def.specs.Apart.{totalKind, plainKind, streamSize, totalSize, plainSize}
+use Rattle.sheet_def.specs.Sheets.{adjustedKind, asReadKind, givenKind, withheldKind, SheetParts}
+use Rattle.sheet_def.specs.Kept.{Reopened, noSheet, someSheet, shownIn, blank, streamRecord, totalIn, plainIn, endFault, totalRecord, kindRecord, recordAt, onRecord, sheetWith, recordsFrom}
 use Rattle.sheet_def.proofs.Back.{not-both}
 use Rattle.sheet_history.specs.Before.{recordBefore, recordsBefore}
 
@@ -71,3 +72,37 @@ module _ (p : SheetParts) where
       one-more done (λ x m. recordsBefore l (done ++ (x ∷ [])) (drop m b)) (λ x m. recordsFrom l (done ++ (x ∷ [])) (drop m b)) (eqb (getD b 0 0) totalKind)
       (recordAt (length done) b) (before-plain (length done) b) e
       (λ x m. read-now l (done ++ (x ∷ [])) (drop m b))
+
+-- A record of kind 0x1E lists no stream, and the total that it is has this kind.
+abbrev EndsOffice : SheetRecord → Type 0
+EndsOffice (Listed e m) = ⊥
+EndsOffice (Ended t) = t .kind ≡ totalKind
+EndsOffice (Refused f) = Unit {0}
+
+total-office : (c : ℕ) (s : List ℕ) → eqb (getD s 0 0) totalKind ≡ true → EndsOffice (recordAt c s)
+total-office c s t =
+    picked EndsOffice (eqb (length s) 0) (Refused 13) (kindRecord c (getD s 0 0) s) (λ u. tt)
+    (λ u. rw (eqb-true (getD s 0 0) totalKind t)
+    (picked EndsOffice (eqb (endFault totalSize (totalIn s) s) 0) (Ended (totalIn s)) (Refused (endFault totalSize (totalIn s) s)) (λ v. refl) (λ v. tt)))
+
+module _ (p : SheetParts) (kind : p .total .kind ≡ plainKind) where
+  -- One record more.
+  one-then : (done : List Entry) (was now : Entry → ℕ → Reopened) (t : Bool) (x : SheetRecord) → (t ≡ true → EndsOffice x)
+      → onRecord x now (sheetWith done) noSheet ≡ someSheet p → ((e : Entry) (m : ℕ) → now e m ≡ someSheet p → was e m ≡ someSheet p)
+      → onRecord (pick t (Refused 13) x) was (sheetWith done) noSheet ≡ someSheet p
+  one-then done was now true (Listed x m) h e rest = absurd (h refl)
+  one-then done was now true (Ended t) h e rest =
+      let g : record { streams = done; total = t } ≡ p = cc in
+      let z : _≡_ {A = ℕ} 30 31 = sym (h refl) ∙ ap (λ (q : SheetParts). q .total .kind) g ∙ kind in
+      absurd (omega arith)
+  one-then done was now true (Refused f) h e rest = absurd (not-both f p e)
+  one-then done was now false (Listed x m) h e rest = rest x m e
+  one-then done was now false (Ended t) h e rest = e
+  one-then done was now false (Refused f) h e rest = absurd (not-both f p e)
+
+  -- What is read now under a plain total was read then.
+  pub read-then : (l : ℕ) (done : List Entry) (b : List ℕ) → recordsFrom l done b ≡ someSheet p → recordsBefore l done b ≡ someSheet p
+  read-then zero done b e = absurd (not-both 13 p e)
+  read-then (suc l) done b e =
+      one-then done (λ x m. recordsBefore l (done ++ (x ∷ [])) (drop m b)) (λ x m. recordsFrom l (done ++ (x ∷ [])) (drop m b)) (eqb (getD b 0 0) totalKind)
+      (recordAt (length done) b) (total-office (length done) b) e (λ x m. read-then l (done ++ (x ∷ [])) (drop m b))

@@ -7,7 +7,7 @@ use mathlib.Core.List.{List, [], _∷_, _++_}
 use lib.IntN.{ℤ}
 use Prim.Native.Nat.{ℕ, zero, suc, _+_, _*_}
 use lib.Dec.{eqb, ltb}
-use lib.ListN.{length, getD, take, drop}
+use lib.ListN.{length, getD, drop}
 use Rattle.num_bytes.specs.Choice.{pick, refuseIf, firstOf}
 use Rattle.num_bytes.specs.Inner.{pickT}
 use Rattle.num_bytes.specs.Bytes.{over}
@@ -17,6 +17,7 @@ use Rattle.plant_def.specs.Files.{Got, bad, got, readPlant, mostRecords}
 use Rattle.flow_def.specs.Flows.{Cheapest}
 use Rattle.flow_def.specs.Overfull.{unmarked, Overfull}
 use Rattle.sheet_def.specs.declared.Entry.{Entry}
+use Rattle.sheet_def.specs.declared.Sheet.{Sheet}
 use Rattle.sheet_def.specs.declared.SheetRecord.{SheetRecord}
 use Rattle.sheet_def.specs.declared.SheetRecord.the-variants.{Refused}
 use Rattle.sheet_def.specs.Apart.{totalKind, plainKind, streamSize, plainSize}
@@ -26,13 +27,7 @@ use Rattle.sheet_def.specs.Sheets.{SheetParts, partsBytes}
 use Rattle.sheet_def.specs.Drawings.{partsOf}
 use Rattle.sheet_def.specs.Kept.{Reopened, noSheet, recordAt, onRecord, sheetWith}
 
--- What it handed over.
-pub record PlainSheet : Type 0 where
-  pub number : ℕ
-  pub written : ℕ
-  pub last : ℕ
-  pub marked : List Bool
-
+-- What it handed over is an answer with one last sheet number.
 -- Sheet n of a plant with a flow: its parts, and its bytes.
 abbrev pub plainParts : Plant → List ℤ → ℕ → SheetParts
 plainParts p xs n = partsOf plainKind 0 (length (p .streams)) n (balanceOf p xs)
@@ -44,47 +39,23 @@ plainOf p xs n = partsBytes (plainParts p xs n)
 abbrev pub plainFault : ℕ → List ℕ → ℕ
 plainFault last o = firstOf (refuseIf (ltb (length o) (maxStreams * streamSize + plainSize)) 1) (refuseIf (eqb last topSheet) 2)
 
-abbrev pub PlainRefused : List Bool → ℕ → ℕ → List ℕ → List ℕ → PlainSheet → Type 0
-PlainRefused ms f last o o′ r = (r ≡ record { number = f; written = 0; last = last; marked = ms }) × (o′ ≡ o)
+abbrev pub PlainRefused : List Bool → ℕ → ℕ → List ℕ → List ℕ → Sheet → Type 0
+PlainRefused ms f last o o′ r = (r ≡ record { number = f; written = 0; lasts = last ∷ []; marked = ms }) × (o′ ≡ o)
 
-abbrev pub PlainDrawn : Plant → ℕ → List ℕ → List ℕ → PlainSheet → Type 0
+abbrev pub PlainDrawn : Plant → ℕ → List ℕ → List ℕ → Sheet → Type 0
 PlainDrawn p last o o′ r =
     (xs : List ℤ)
     × Cheapest p xs
-    × (r ≡ record { number = 0; written = length (plainOf p xs (suc last)); last = suc last; marked = unmarked })
+    × (r ≡ record { number = 0; written = length (plainOf p xs (suc last)); lasts = suc last ∷ []; marked = unmarked })
     × (o′ ≡ over (plainOf p xs (suc last)) o)
 
-abbrev pub PlainWith : Got → ℕ → List ℕ → List ℕ → PlainSheet → Type 0
+abbrev pub PlainWith : Got → ℕ → List ℕ → List ℕ → Sheet → Type 0
 PlainWith (bad f) last o o′ r = PlainRefused unmarked f last o o′ r
 PlainWith (got p) last o o′ r = PlainDrawn p last o o′ r ⊎ ((ms : List Bool) × Overfull p ms × PlainRefused ms 19 last o o′ r)
 
-abbrev pub PlainSays : List ℕ → ℕ → List ℕ → List ℕ → PlainSheet → Type 0
+abbrev pub PlainSays : List ℕ → ℕ → List ℕ → List ℕ → Sheet → Type 0
 PlainSays file last o o′ r =
     pickT (eqb (plainFault last o) 0) (PlainWith (readPlant file) last o o′ r) (PlainRefused unmarked (plainFault last o) last o o′ r)
-
--- Calls one after the other, each handed the number that the one before it gave back; the number after them, how many drew a sheet,
--- and the sheets.
-pub record PlainCall : Type 0 where
-  pub file : List ℕ
-  pub before : List ℕ
-  pub after : List ℕ
-  pub answer : PlainSheet
-
-abbrev pub PlainCalls : ℕ → List PlainCall → Type 0
-PlainCalls last [] = Unit {0}
-PlainCalls last (c ∷ cs) = PlainSays (c .file) last (c .before) (c .after) (c .answer) × PlainCalls (c .answer .last) cs
-
-abbrev pub lastAfter : ℕ → List PlainCall → ℕ
-lastAfter last [] = last
-lastAfter last (c ∷ cs) = lastAfter (c .answer .last) cs
-
-abbrev pub plainCount : List PlainCall → ℕ
-plainCount [] = 0
-plainCount (c ∷ cs) = pick (eqb (c .answer .number) 0) (suc (plainCount cs)) (plainCount cs)
-
-abbrev pub plainSheets : List PlainCall → List (List ℕ)
-plainSheets [] = []
-plainSheets (c ∷ cs) = pick (eqb (c .answer .number) 0) (take (c .answer .written) (c .after) ∷ plainSheets cs) (plainSheets cs)
 
 -- The sheet reader: a record of kind 0x1E was of a wrong kind, 13; all else as now.
 abbrev pub recordBefore : ℕ → List ℕ → SheetRecord

@@ -1,22 +1,24 @@
 -- The counters over any sequence of calls by any offices, accepted and refused. `SheetSays file office lasts o o′ r` is what the sheet
 -- call ensures.
 use mathlib.Core.Path.{_≡_}
-use mathlib.Core.Bool.{Bool, _&&_}
+use mathlib.Core.Logic.{_↔_}
+use mathlib.Core.Bool.{Bool, true, _&&_}
 use mathlib.Core.List.{List, [], _∷_, _++_}
 use Prim.Native.Nat.{ℕ, zero, suc, _+_, _≤_}
 use lib.Dec.{eqb}
 use lib.ListN.{length, take}
 use Rattle.num_bytes.specs.Choice.{pick}
+use Rattle.num_bytes.specs.Bytes.{allBytes}
 use Rattle.plant_def.specs.Plants.{Plant}
 use Rattle.plant_def.specs.Files.{got, readPlant}
 use Rattle.sheet_def.specs.declared.Sheet.{Sheet}
 use Rattle.sheet_def.specs.Counters.{offices, topSheet, counterOf, nextOf, officesFrom}
 use Rattle.sheet_def.specs.Says.{SheetSays}
-use Rattle.sheet_def.specs.Kept.{Reopened, noSheet, someSheet, readSheet}
+use Rattle.sheet_def.specs.Kept.{Reopened, noSheet, someSheet, readSheet, WithinSheet}
 use Rattle.sheet_def.specs.Apart.{plainKind}
-use Rattle.sheet_def.specs.Sheets.{SheetParts}
+use Rattle.sheet_def.specs.Sheets.{SheetParts, partsBytes}
 use Rattle.sheet_def.specs.Sentences.{Tells, Under}
-use Rattle.sheet_history.specs.Before.{PlainSheet, PlainSays, PlainCall, PlainCalls, lastAfter, plainCount, plainSheets, readBefore}
+use Rattle.sheet_history.specs.Before.{PlainSays, readBefore}
 
 -- A call: its plant file, the calling office, the slice before it and after it, and what it handed over.
 pub record Call : Type 0 where
@@ -34,6 +36,11 @@ Calls lasts (c ∷ cs) = SheetSays (c .file) (c .office) lasts (c .before) (c .a
 abbrev pub countersAfter : List ℕ → List Call → List ℕ
 countersAfter lasts [] = lasts
 countersAfter lasts (c ∷ cs) = countersAfter (c .answer .lasts) cs
+
+-- Calls before there were offices, all by office 0, each handed the one number that the one before it gave back.
+abbrev pub PlainCalls : ℕ → List Call → Type 0
+PlainCalls last [] = Unit {0}
+PlainCalls last (c ∷ cs) = (c .office ≡ 0) × PlainSays (c .file) last (c .before) (c .after) (c .answer) × PlainCalls (counterOf 0 (c .answer .lasts)) cs
 
 -- How many sheets of office k they drew; the sheets of all offices, in their order.
 abbrev pub drew : ℕ → Call → Bool
@@ -67,7 +74,7 @@ pub record Eight (lasts : List ℕ) : Type 0 where
   pub held : (k : ℕ) → counterOf k lasts ≤ topSheet
 
 -- A call before the change that drew a sheet: it reads back with its kind, as that of office 0, and tells of the plant what a sheet has to.
-pub record ReadsPlain (file : List ℕ) (last : ℕ) (o′ : List ℕ) (r : PlainSheet) : Type 0 where
+pub record ReadsPlain (file : List ℕ) (last : ℕ) (o′ : List ℕ) (r : Sheet) : Type 0 where
   pub plant : Plant
   pub listed : readPlant file ≡ got plant
   pub sheet : SheetParts
@@ -92,12 +99,15 @@ pub record History : Type 0 where
       → nextOf k (countersAfter lasts cs) ≡ nextOf k lasts + drawnCount k cs
   pub numbers : (lasts : List ℕ) (cs : List Call) → Eight lasts → Calls lasts cs → (k : ℕ)
       → numbersOf k (drawnSheets cs) ≡ upFrom (nextOf k lasts) (drawnCount k cs)
-  -- Kept sheets of before are read as before: the same parts, kind 0x1F, office 0.
+  -- The sheet reader of before read exactly the sheets under a plain total (kind 0x1F), and they are read as before: the same parts,
+  -- office 0.
+  pub read-before : (b : List ℕ) (s : SheetParts) → allBytes b ≡ true
+      → (readBefore b ≡ someSheet s) ↔ ((partsBytes s ≡ b) × WithinSheet s × (s .total .kind ≡ plainKind))
   pub as-before : (b : List ℕ) (s : SheetParts) → readBefore b ≡ someSheet s
       → (readSheet b ≡ someSheet s) × (s .total .kind ≡ plainKind) × (s .total .office ≡ 0)
   -- Before the change and after it: the sheets of office 0 follow on in number.
-  pub plain : (file : List ℕ) (last : ℕ) (o o′ : List ℕ) (r : PlainSheet) → last ≤ topSheet → PlainSays file last o o′ r → r .number ≡ 0
+  pub plain : (file : List ℕ) (last : ℕ) (o o′ : List ℕ) (r : Sheet) → last ≤ topSheet → PlainSays file last o o′ r → r .number ≡ 0
       → ReadsPlain file last o′ r
-  pub change : (first : ℕ) (ps : List PlainCall) → first ≤ topSheet → PlainCalls first ps → Eight (officesFrom (lastAfter first ps))
-  pub follow : (first : ℕ) (ps : List PlainCall) (cs : List Call) → first ≤ topSheet → PlainCalls first ps → Calls (officesFrom (lastAfter first ps)) cs
-      → numbersOf 0 (plainSheets ps ++ drawnSheets cs) ≡ upFrom (suc first) (plainCount ps + drawnCount 0 cs)
+  pub change : (first : ℕ) (ps : List Call) → first ≤ topSheet → PlainCalls first ps → Eight (officesFrom (counterOf 0 (countersAfter (first ∷ []) ps)))
+  pub follow : (first : ℕ) (ps cs : List Call) → first ≤ topSheet → PlainCalls first ps → Calls (officesFrom (counterOf 0 (countersAfter (first ∷ []) ps))) cs
+      → numbersOf 0 (drawnSheets (ps ++ cs)) ≡ upFrom (suc first) (drawnCount 0 (ps ++ cs))

@@ -1,21 +1,23 @@
 -- Handing a kept sheet over: there is room in the slices.
-use mathlib.Core.Path.{_≡_, refl, sym, ap, _∙_}
+use mathlib.Core.Path.{_≡_, refl, sym, ap, _∙_, subst}
 use mathlib.Core.Bool.{Bool, true, false, _||_}
 use mathlib.Core.List.{List}
 use lib.IntN.{ℤ}
 use Prim.Native.Nat.{ℕ, _≤_, _<_}
 use native.Mathlib.Omega.{arith}
 use lib.Dec.{ltb}
-use lib.ListN.{take}
+use lib.ListN.{length, take}
 use borrow.Author.Tests.{lt-ltb, le-ltb, ltb-false}
 use Rattle.num_bytes.specs.Choice.{pick}
 use Rattle.num_bytes.specs.Bytes.{over}
 use Rattle.num_bytes.proofs.Tests.{or-none-left, or-none-right}
 use Rattle.plant_def.specs.Limits.{maxStreams}
+use Rattle.num_bytes.proofs.Filled.{take-filled}
+use Rattle.sheet_def.specs.declared.Entry.{Entry}
 use Rattle.sheet_def.specs.declared.SheetRead.{SheetRead}
-use Rattle.sheet_def.specs.Kept.{Reopened, noSheet, someSheet, readSheet, readOf}
+use Rattle.sheet_def.specs.Kept.{Reopened, noSheet, someSheet, blank, readSheet, readOf}
 use Rattle.sheet_def.proofs.Back.{few-read}
-use Rattle.sheet_parts.specs.Kept.{readLent, kindsOf, flowsOf, HandedOver}
+use Rattle.sheet_parts.specs.Kept.{readLent, kindsOf, flowsOf, numberOf, partsOf, HandedOver}
 
 -- A sheet has no more streams than there may be.
 few-streams : (bytes : List ℕ) (g : Reopened) → readSheet bytes ≡ g → readOf g .count ≤ maxStreams
@@ -67,14 +69,34 @@ pub room-lent : (bytes : List ℕ) (k f : ℕ) (r : SheetRead) → r ≡ readOf 
 room-lent bytes k f r e =
     room-by (ltb k maxStreams || ltb f maxStreams) (readSheet bytes) k f r (few-streams bytes (readSheet bytes) refl) refl e
 
+-- The streams of a reading, from the array that they are handed over in.
+streams-back : (q : Reopened) → readOf q .count ≤ maxStreams → take (readOf q .count) (readOf q .streams) ≡ partsOf q .streams
+streams-back (noSheet f) h = refl
+streams-back (someSheet s) h = take-filled blank maxStreams (s .streams) h
+
+number-is : (q : Reopened) → readOf q .number ≡ numberOf q
+number-is (noSheet f) = refl
+number-is (someSheet s) = refl
+
+count-is : (q : Reopened) → readOf q .count ≡ length (partsOf q .streams)
+count-is (noSheet f) = refl
+count-is (someSheet s) = refl
+
+total-is : (q : Reopened) → readOf q .total ≡ partsOf q .total
+total-is (noSheet f) = refl
+total-is (someSheet s) = refl
+
 -- A reading, in the caller's slices and numbers.
-pub handed-over : {r y : SheetRead} {ks ks′ : List ℕ} {fs fs′ : List ℤ} → y ≡ r
+pub handed-over : (q : Reopened) {y : SheetRead} {ks ks′ : List ℕ} {fs fs′ : List ℤ} → y ≡ readOf q → y .count ≤ maxStreams
     → ks′ ≡ over (kindsOf (take (y .count) (y .streams))) ks → fs′ ≡ over (flowsOf (take (y .count) (y .streams))) fs
-    → HandedOver r ks ks′ fs fs′ (y .number) (y .count) (y .total .kind) (y .total .office) (y .total .sheet) (y .total .cost) (y .total .degrees) (y .total .verdict)
-handed-over {ks = ks} {fs = fs} e a b = record {
-  numbered = ap (λ (x : SheetRead). x .number) e;
-  counted = ap (λ (x : SheetRead). x .count) e;
-  totalled = ap (λ (x : SheetRead). x .total) e;
-  kinds = a ∙ ap (λ (x : SheetRead). over (kindsOf (take (x .count) (x .streams))) ks) e;
-  flows = b ∙ ap (λ (x : SheetRead). over (flowsOf (take (x .count) (x .streams))) fs) e;
-}
+    → HandedOver q ks ks′ fs fs′ (y .number) (y .count) (y .total .kind) (y .total .office) (y .total .sheet) (y .total .cost) (y .total .degrees) (y .total .verdict)
+handed-over q {y} {ks = ks} {fs = fs} e h a b =
+    let streams : take (y .count) (y .streams) ≡ partsOf q .streams =
+    ap (λ (x : SheetRead). take (x .count) (x .streams)) e ∙ streams-back q (subst (λ (x : SheetRead). x .count ≤ maxStreams) e h) in
+    record {
+      numbered = ap (λ (x : SheetRead). x .number) e ∙ number-is q;
+      counted = ap (λ (x : SheetRead). x .count) e ∙ count-is q;
+      totalled = ap (λ (x : SheetRead). x .total) e ∙ total-is q;
+      kinds = a ∙ ap (λ (es : List Entry). over (kindsOf es) ks) streams;
+      flows = b ∙ ap (λ (es : List Entry). over (flowsOf es) fs) streams;
+    }

@@ -14,18 +14,16 @@ use Rattle.survey_answers.specs.Text.{surveyText}
 abbrev pub lineSize : ℕ
 lineSize = 9
 
--- The least slice that is taken: as many lines as there may be. 117 characters.
+-- The least slice that is taken: as many lines as there may be, 9 characters each. 117 characters.
 abbrev pub leastText : ℕ
-leastText = surveySize * lineSize
+leastText = surveySize * 9
 
 -- A slice that is too short: nothing, and the slice as it was. Else the text of the survey, and the slice past it as it was.
 pub record TextSays (file o o′ : List ℕ) (r : ℕ) : Type 0 where
   pub too-short : length o < leastText → (r ≡ 0) × (o′ ≡ o)
   pub told : leastText ≤ length o → (l : Layouts) × SurveySays file l × Put (surveyText l) o o′ r
 
--- No choice is left: text and length follow from the file and the slice. The definition's plant, and one without streams,
--- character for character.
+-- Worked examples: the definition's plant, and one without streams, character for character.
 pub record Texts : Type 0 where
-  pub one-text : (file o o₁ o₂ : List ℕ) (r₁ r₂ : ℕ) → TextSays file o o₁ r₁ → TextSays file o o₂ r₂ → (r₁ ≡ r₂) × (o₁ ≡ o₂)
   pub listing : (o o′ : List ℕ) (r : ℕ) → leastText ≤ length o → TextSays sampleFile o o′ r → Put (text "0 0\n1 0\n2 5\n3 4\n4 1\n") o o′ r
   pub empty : (o o′ : List ℕ) (r : ℕ) → leastText ≤ length o → TextSays emptyFile o o′ r → Put (text "0 1\n") o o′ r

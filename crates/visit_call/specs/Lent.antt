@@ -1,26 +1,24 @@
 -- Meters worth a visit, handed over in two lent slices: the streams' numbers and the costs.
 use mathlib.Core.Path.{_≡_}
-use mathlib.Core.Logic.{_⊎_}
 use mathlib.Core.List.{List}
-use Prim.Native.Nat.{ℕ, _≤_, _<_}
+use Prim.Native.Nat.{ℕ}
 use lib.ListN.{length, take}
 use denote.Ref.{RefT}
 use denote.Triple.Both.{Both}
+use Rattle.num_lent.specs.Lending.{Lending}
 use Rattle.num_bytes.specs.Bytes.{over}
-use Rattle.plant_def.specs.Limits.{maxStreams}
 use Rattle.visit_def.specs.declared.Visits.{Visits}
 use Rattle.visit_def.specs.Says.{noVisits, VisitsSays}
 
 -- A slice that does not hold as many as there may be: 1. Then as the call.
-pub record LentSays (file : List ℕ) (numbers costs : ℕ) (r : Visits) : Type 0 where
-  pub short : (numbers < maxStreams) ⊎ (costs < maxStreams) → r ≡ noVisits 1
-  pub enough : maxStreams ≤ numbers → maxStreams ≤ costs → VisitsSays file r
+abbrev pub LentSays : List ℕ → ℕ → ℕ → Visits → Type 0
+LentSays file = Lending (noVisits 1) (VisitsSays file)
 
 -- The exported call: number and count are those of the call; the streams' numbers are at the front of the one slice, their costs at
 -- the front of the other, the rest of both as it was. (A refusal lists none: the slices are as they were.)
 pub record VisitsHandOver (file ns ns′ cs cs′ : List ℕ) (number count : ℕ) : Type 0 where
   pub made : Visits
-  pub said : LentSays file (length ns) (length cs) made
+  pub said : Lending (noVisits 1) (VisitsSays file) (length ns) (length cs) made
   pub numbered : number ≡ made .number
   pub counted : count ≡ made .count
   pub numbers : ns′ ≡ over (take (made .count) (made .streams)) ns

@@ -6,6 +6,7 @@ use mathlib.Core.List.{List}
 use lib.IntN.{ℤ}
 use Prim.Native.Nat.{ℕ, suc, _≤_, _<_}
 use lib.ListN.{length, getD, replicate}
+use Rattle.plant_def.specs.Converts.{ReadAs}
 use Rattle.plant_def.specs.Limits.{maxStreams}
 use Rattle.plant_def.specs.Plants.{Plant}
 use Rattle.plant_def.specs.Files.{Got, bad, got, readPlant}
@@ -25,12 +26,12 @@ pub record VisitsFor (p : Plant) (r : Visits) : Type 0 where
   pub listed : (ys : List ℤ) → allowed p ys ≡ true → (costs : ℕ → ℕ) × AllLeast p costs × Ordered p costs r
 
 -- The call: the file's refusals, 3 to 12 and 18, come first.
-abbrev pub VisitsWith : Got → Visits → Type 0
-VisitsWith (bad f) r = r ≡ noVisits f
-VisitsWith (got p) r = VisitsFor p r
-
 abbrev pub VisitsSays : List ℕ → Visits → Type 0
-VisitsSays file r = VisitsWith (readPlant file) r
+VisitsSays file = ReadAs noVisits VisitsFor (readPlant file)
+
+-- The same of what was read.
+abbrev pub VisitsWith : Got → Visits → Type 0
+VisitsWith = ReadAs noVisits VisitsFor
 
 pub record Meters-worth-a-visit : Type 0 where
   -- A plant that has a sheet has one without any of its meters, so that no entry is refused; and no entry is above the sheet's cost.

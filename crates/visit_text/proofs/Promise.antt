@@ -16,6 +16,7 @@ use Rattle.visit_def.specs.Says.{VisitsSays}
 use Rattle.visit_def.proofs.Promise.{meters-worth-a-visit}
 use Rattle.visit_def.proofs.Samples.{sample}
 use Rattle.visit_text.specs.Text.{linesFor, visitsText}
+use Rattle.listing_lines.specs.Room.{OneText}
 use Rattle.visit_text.specs.Says.{leastText, TextSays, Texts}
 
 module _ (file o : List ℕ) where
@@ -36,8 +37,9 @@ module _ (file o : List ℕ) where
 put-one : {x y o o₁ o₂ : List ℕ} {r₁ r₂ : ℕ} → x ≡ y → Put x o o₁ r₁ → Put y o o₂ r₂ → (r₁ ≡ r₂) × (o₁ ≡ o₂)
 put-one {o = o} e p q = (p .size ∙ ap length e ∙ sym (q .size), p .bytes ∙ ap (λ (l : List ℕ). over l o) e ∙ sym (q .bytes))
 
-one : (file o o₁ o₂ : List ℕ) (r₁ r₂ : ℕ) → TextSays file o o₁ r₁ → TextSays file o o₂ r₂ → (r₁ ≡ r₂) × (o₁ ≡ o₂)
-one file o o₁ o₂ r₁ r₂ a b =
+-- No choice is left.
+pub one-text : OneText TextSays
+one-text file o o₁ o₂ r₁ r₂ a b =
     by-cases (ltb (length o) leastText)
     (λ t. let h = ltb-true (length o) leastText t in short (a .too-short h) (b .too-short h))
     (λ t. let h = ltb-false (length o) leastText t in
@@ -52,6 +54,5 @@ one file o o₁ o₂ r₁ r₂ a b =
 pub texts : Texts
 unfolding decimal
 texts = record {
-  one-text = one;
   listing = λ o o′ r h s. let x = s .told h in subst (λ (l : List ℕ). Put l o o′ r) (ap visitsText (sample (x .0) (x .1))) (x .2);
 }

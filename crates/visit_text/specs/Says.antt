@@ -15,16 +15,15 @@ use Rattle.visit_text.specs.Text.{visitsText}
 abbrev pub lineSize : ℕ
 lineSize = 25
 
--- The least slice that is taken: as many lines as there may be. 2,400 characters.
+-- The least slice that is taken: as many lines as there may be, 25 characters each. 2,400 characters.
 abbrev pub leastText : ℕ
-leastText = maxStreams * lineSize
+leastText = maxStreams * 25
 
 -- A slice that is too short: nothing, and the slice as it was. Else the text of the list, and the slice past it as it was.
 pub record TextSays (file o o′ : List ℕ) (r : ℕ) : Type 0 where
   pub too-short : length o < leastText → (r ≡ 0) × (o′ ≡ o)
   pub told : leastText ≤ length o → (l : Visits) × VisitsSays file l × Put (visitsText l) o o′ r
 
--- No choice is left: text and length follow from the file and the slice. The definition's plant, character for character.
+-- A worked example: the definition's plant, character for character.
 pub record Texts : Type 0 where
-  pub one-text : (file o o₁ o₂ : List ℕ) (r₁ r₂ : ℕ) → TextSays file o o₁ r₁ → TextSays file o o₂ r₂ → (r₁ ≡ r₂) × (o₁ ≡ o₂)
   pub listing : (o o′ : List ℕ) (r : ℕ) → leastText ≤ length o → TextSays sampleFile o o′ r → Put (text "1 0\n4 0\n") o o′ r

@@ -2,6 +2,7 @@
 use borrow.Author.Needs.{needs}
 use denote.Ref.{now}
 use lib.ListN.{length}
+use Rattle.sheet_parts.specs.Kept.{readLent}
 use Rattle.sheet_parts.proofs.Handing.{Room, room-lent, handed-over}
 use Rattle.linked.proofs.wengeludo_read_sheet.Statement.{statement}
 use Rattle.linked.proofs.wengeludo_read_sheet.Tie as tie
@@ -35,7 +36,9 @@ returns : tie.Need-returns
 returns c =
     let after-put-kinds = c .before .before .before .before .before .before in
     let after-read-lent = after-put-kinds .before .before .before .before in
-    handed-over (after-read-lent .read-lent .ensures) (after-put-kinds .put-kinds .ensures) (c .before .before .put-flows .ensures)
+    let a = after-read-lent .before .before .before .args in
+    handed-over (readLent (now (a .bytes)) (length (now (a .kinds))) (length (now (a .flows)))) (after-read-lent .read-lent .ensures)
+    (room after-read-lent .few) (after-put-kinds .put-kinds .ensures) (c .before .before .put-flows .ensures)
 
 pub wengeludo-read-sheet-spec : {M : Type 1} → statement M
 wengeludo-read-sheet-spec =

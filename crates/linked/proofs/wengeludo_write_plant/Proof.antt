@@ -73,7 +73,7 @@ returns c =
     let start = slices-known .before .before .before .before in
     let a = start .args in
     let p = slices after-reached in
-    any-count (a .units) (padded maxStreams (listedTo (partsAt p) (reach p))) (now (a .file)) _ _ (a .count)
+    any-count (a .units) (now (a .file)) _ _ p (a .count)
     (subst (λ (q : Arrays.Plant). WriteSays q (now (a .file)) (after-write-plant .write-plant .last .1 .0) (after-write-plant .write-plant .result))
     (λ i. record { units = a .units; count = after-count-byte .count-byte .ensures i; streams = streams-are after-ranges-gathered i })
     (after-write-plant .write-plant .ensures))
