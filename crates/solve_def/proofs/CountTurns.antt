@@ -59,17 +59,27 @@ pub phase-made-next : (ss : List Stream) (d n : ℕ) (st now : State) → phaseT
 unfolding madeTo
 phase-made-next ss d n st now e = rw (add-one, e)
 
--- After a set that is full none is made.
-pub phase-made-full : (ss : List Stream) (d m k : ℕ) (st : State) → m ≤ k → phaseTo m ss d st .full ≡ true → madeTo k ss d st ≡ madeTo m ss d st
+-- A phase that is full makes no more.
+full-same : (ss : List Stream) (d m k : ℕ) (st : State) → m ≤ k → phaseTo m ss d st .full ≡ true → madeTo k ss d st ≡ madeTo m ss d st
 unfolding madeTo
-phase-made-full ss d m zero st o t = let q : m ≡ 0 = omega arith in rw q
-phase-made-full ss d m (suc k) st o t = elim (ℕ-discrete m (suc k)) [
+full-same ss d m zero st o t = let q : m ≡ 0 = omega arith in rw q
+full-same ss d m (suc k) st o t = elim (ℕ-discrete m (suc k)) [
   | yes q ↦ rw q
-  | no q ↦
-      let f : phaseTo k ss d st .full ≡ true = ap (λ (x : Ended). x .full) (phase-stays ss d st m k (omega arith) t) ∙ t in
-      let none : pick {A = ℕ} (phaseTo k ss d st .full) 0 (madeFrom ((getD (phaseTo k ss d st .state .nets) k 0 - netShift) / d) ss d k (phaseTo k ss d st .state)) ≡ 0 = rw f in
-      omega (arith, none, phase-made-full ss d m k st (omega arith) t)
+  | no q ↦ omega (arith, idle (phaseTo k ss d st) (ap (λ (x : Ended). x .full) (phase-stays ss d st m k (omega arith) t) ∙ t), full-same ss d m k st (omega arith) t)
 ]
+  where
+    idle : (e : Ended) → e .full ≡ true → pick {A = ℕ} (e .full) 0 (madeFrom ((getD (e .state .nets) k 0 - netShift) / d) ss d k (e .state)) ≡ 0
+    idle e f = rw f
+
+module _ (ss : List Stream) (d n : ℕ) (st now : State) (l : n < places) (e : phaseTo n ss d st ≡ going now) (full : Bool) (next : State) (marked : List Bool)
+    (q : endedBy full next marked ≡ fromPlace ((getD (now .nets) n 0 - netShift) / d) ss d n now) (f : full ≡ true) where
+  after-full : phaseTo (n + 1) ss d st .full ≡ true
+  unfolding phaseTo
+  after-full = rw (add-one, e) (ap (λ (x : Ended). x .full) (sym q) ∙ f)
+
+  -- After a place at which a set is full, none is made.
+  pub phase-made-last : madeTo places ss d st ≡ madeTo (n + 1) ss d st
+  phase-made-last = full-same ss d (n + 1) places st (omega arith) after-full
 
 -- A phase makes no more than may be over.
 module _ (ss : List Stream) (v : Solvable ss) (d : ℕ) (step : Step d) (st : State) (h : Underway ss d settledRoom st) where

@@ -21,7 +21,7 @@ taken c = plant-accepted (now (c .before .before .before .before .args .file)) (
 solved : (c : tie.Else2) → Feasible (plantOf (c .before .before .before .before .before .before .before .read-plant .result .plant))
 solved c =
     let s = c .before .before .solve in
-    solved-feasible _ (s .result) (right-found _ (s .result) (s .ensures) (not-false (s .result .found) (c .if2 .left)))
+    solved-feasible _ (s .result) (right-found _ (s .result) (s .ensures .0) (not-false (s .result .found) (c .if2 .left)))
 
 read-plant-requires : tie.Need-read-plant-requires
 read-plant-requires c κs = search needs
@@ -45,7 +45,7 @@ returns-2 : tie.Need-returns-2
 returns-2 c =
     answered (now (c .before .before .before .before .before .before .before .before .before .before .args .file)) (c .before .before .before .before .before .before .before .before .read-plant .result) (c .before .before .before .before .before .before .before .before .read-plant .ensures) (c .refused2 .result) (c .before .before .before .before .before .before .before .if1 .left)
     (none-balanced _ (within-of (c .before .before .before .before .before .before .before .before .read-plant .result .plant) (taken (c .before .before .before .before .before .before))) (c .refused2 .result) (c .before .before .before .solve .result .marked)
-    (right-overfull _ (c .before .before .before .solve .result) (c .before .before .before .solve .ensures) (not-true (c .before .before .before .solve .result .found) (c .before .if2 .taken))) (c .refused2 .ensures))
+    (right-overfull _ (c .before .before .before .solve .result) (c .before .before .before .solve .ensures .0) (not-true (c .before .before .before .solve .result .found) (c .before .if2 .taken))) (c .refused2 .ensures))
 
 classes-of-requires : tie.Need-classes-of-requires
 classes-of-requires c κs = ((taken (c .before .before .before .before .before)), c .before .before .before .before .cuts-of .ensures)
