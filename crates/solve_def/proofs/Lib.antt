@@ -43,4 +43,5 @@ pub mod TieTurns
 pub mod Theorem
 pub mod Demand
 pub mod Paces
+pub mod CountTurns
 pub mod Counted

@@ -15,4 +15,5 @@ pub mod Model
 pub mod SolverNeeds
 pub mod Promise
 pub mod Made
+pub mod Whole
 pub mod Few

@@ -1,6 +1,6 @@
 -- The solver as definitions, over held amounts, potentials and nets: settle, improve, phases, ties. (Of a hint only ranges are asked, in
 -- SolverNeeds.)
-use mathlib.Core.Bool.{Bool, true, false, not, _&&_}
+use mathlib.Core.Bool.{Bool, true, false, _&&_}
 use mathlib.Core.List.{List, [], _∷_}
 use Prim.Native.Nat.{ℕ, zero, suc, _+_, _-_, _*_, _/_, _^_}
 use lib.Dec.{ltb, leb}
@@ -22,7 +22,6 @@ use Rattle.solve_def.specs.Push.{pushed}
 use Rattle.solve_def.specs.declared.Hint.{Hint}
 use Rattle.solve_def.specs.declared.State.{State}
 use Rattle.solve_def.specs.declared.Ended.{Ended}
-use Rattle.solve_def.specs.declared.Solved.{Solved}
 
 -- A number brought into a range.
 abbrev pub clamped : ℕ → ℕ → ℕ → ℕ
@@ -175,15 +174,3 @@ tiesTo ss ps (suc i) xs = tiedAt ss ps i (tiesTo ss ps i xs)
 -- The marks of the places 0 to n alone.
 unfoldable pub masked : ℕ → List Bool → List Bool
 masked n ms = values places (λ u. getD ms u false && leb u n)
-
--- The whole for a plant of n units, from amounts settled at a hint: a flow with potentials, or a set of places.
-unfoldable pub solvedFrom : ℕ → List Stream → State → Solved
-solvedFrom n ss start =
-    let e = finished ss start in
-    let st = e .state in
-    record {
-      found = not (e .full);
-      flows = pick (e .full) (st .flows) (tiesTo ss (st .potentials) (length ss) (st .flows));
-      potentials = st .potentials;
-      marked = masked n (e .marked);
-    }

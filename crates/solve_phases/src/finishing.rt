@@ -15,14 +15,12 @@ use solve_def::sizes::POTENTIAL_SHIFT;
 use solve_settle::over_sum;
 use solve_settle::settle;
 ghost use mathlib.Core.Path.{_≡_};
-ghost use mathlib.Core.Bool.{false};
-ghost use lib.ListN.{length, take};
-ghost use Rattle.solve_def.specs.Sizes.{halvings};
-ghost use Rattle.solve_def.specs.Model as M;
-ghost use Rattle.solve_def.specs.Model.{noHint, asHint, finished};
+ghost use lib.ListN.{length};
+ghost use Rattle.solve_def.specs.Model.{noHint, asHint};
 ghost use Rattle.solve_arcs.specs.Cells.{marginCells};
-ghost use Rattle.solve_arcs.specs.ArcNeeds.{Laying, Margined};
+ghost use Rattle.solve_arcs.specs.ArcNeeds.{Laying};
 ghost use Rattle.solve_phases.specs.Finishes.{Finishable};
+ghost use Rattle.solve_phases.specs.Phases.{AllPhases, Finishing};
 
 // No hint: amounts and potentials 0.
 pub fn no_hint() -> Hint
@@ -46,16 +44,22 @@ fn hint_of(st: State) -> Hint
     }
 }
 
-// From no hint: at each step from MOST_STEP down to 1 amounts are settled anew, and a phase is gone through.
-fn phases(arcs: &[u8; ARCS], rows: &[u64; ROWS], margins: &mut [u64; MARGINS]) -> Ended
-    requires { ⌜ Laying (now arcs) (now rows) × (length (now margins) ≡ marginCells) ⌝ }
-    ensures { λ r. ⌜ ((w : Laying (now (arcs .entry)) (now (rows .entry))) → (r ≡ M.phases halvings (take (w .n) (w .streams)) noHint) × (r .full ≡ false → Margined (w .n) (now (rows .entry)) (r .state .flows) 1 0 (now (margins .exit)))) ⌝ }
+// From no hint: at each step from MOST_STEP down to 1 amounts are settled anew, and a phase is gone through. The improvements are
+// counted from 0.
+fn phases(
+    arcs: &[u8; ARCS],
+    rows: &[u64; ROWS],
+    margins: &mut [u64; MARGINS],
+    made: &mut u64,
+) -> Ended
+    requires { ⌜ Laying (now arcs) (now rows) × (length (now margins) ≡ marginCells) × (now made ≡ 0) ⌝ }
+    ensures { λ r. ⌜ AllPhases (now (arcs .entry)) (now (rows .entry)) r (now (made .exit)) (now (margins .exit)) ⌝ }
 {
     let mut h = no_hint();
     let mut step = MOST_STEP;
     while 1 < step {
         let st = settle(arcs, rows, h);
-        let e = phase(arcs, rows, margins, st, step);
+        let e = phase(arcs, rows, margins, st, step, made);
         if e.full {
             return e;
         }
@@ -63,22 +67,24 @@ fn phases(arcs: &[u8; ARCS], rows: &[u64; ROWS], margins: &mut [u64; MARGINS]) -
         step = step / 2;
     }
     let st = settle(arcs, rows, h);
-    phase(arcs, rows, margins, st, 1)
+    phase(arcs, rows, margins, st, 1, made)
 }
 
 // One phase at step 1; where too much is over, all phases from no hint. Where no set is full, the margins are those of the amounts.
+// The improvements are counted from 0.
 pub fn finish(
     arcs: &[u8; ARCS],
     rows: &[u64; ROWS],
     margins: &mut [u64; MARGINS],
     st: State,
+    made: &mut u64,
 ) -> Ended
-    requires { ⌜ Finishable (now arcs) (now rows) st × (length (now margins) ≡ marginCells) ⌝ }
-    ensures { λ r. ⌜ ((w : Finishable (now (arcs .entry)) (now (rows .entry)) st) → (r ≡ finished (take (w .laying .n) (w .laying .streams)) st) × (r .full ≡ false → Margined (w .laying .n) (now (rows .entry)) (r .state .flows) 1 0 (now (margins .exit)))) ⌝ }
+    requires { ⌜ Finishable (now arcs) (now rows) st × (length (now margins) ≡ marginCells) × (now made ≡ 0) ⌝ }
+    ensures { λ r. ⌜ Finishing (now (arcs .entry)) (now (rows .entry)) st r (now (made .exit)) (now (margins .exit)) ⌝ }
 {
     let nets = st.nets;
     if over_sum(&nets) <= MOST_TRIED {
-        return phase(arcs, rows, margins, st, 1);
+        return phase(arcs, rows, margins, st, 1, made);
     }
-    phases(arcs, rows, margins)
+    phases(arcs, rows, margins, made)
 }

@@ -38,7 +38,8 @@ pub fn least_cost(p: Plant) -> u64
     let mut margins = [0u64; MARGINS];
     lay(streams, count, &mut arcs, &mut rows);
     let begun = start(p, labels, &arcs, &rows);
-    let e = finish(&arcs, &rows, &mut margins, begun);
+    let mut made: u64 = 0;
+    let e = finish(&arcs, &rows, &mut margins, begun, &mut made);
     if e.full {
         return 0;
     }

@@ -35,7 +35,7 @@ solve-requires : tie.Need-solve-requires
 solve-requires c κs = (able (c .before .before), c .group .ensures)
 
 numbers-by-requires : tie.Need-numbers-by-requires
-numbers-by-requires c κs = (able (c .before .before .before), c .solve .ensures)
+numbers-by-requires c κs = (able (c .before .before .before), c .solve .ensures .0)
 
 returns-2 : tie.Need-returns-2
 returns-2 c =

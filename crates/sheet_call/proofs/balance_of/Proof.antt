@@ -34,7 +34,7 @@ returns c =
     let p = start .args .p in
     let solved = after-solve .solve in
     says-overfull (plantOf p) (c .overfilled .result) (solved .result .marked) (c .overfilled .ensures)
-    (right-overfull p (solved .result) (solved .ensures) (not-true (solved .result .found) (c .before .if1 .taken)))
+    (right-overfull p (solved .result) (solved .ensures .0) (not-true (solved .result .found) (c .before .if1 .taken)))
 
 balance-by-requires : tie.Need-balance-by-requires
 balance-by-requires c κs =
@@ -44,7 +44,7 @@ balance-by-requires c κs =
     let solved = after-solve .solve in (
       start .pre,
       after-cuts-of .cuts-of .ensures,
-      right-found (start .args .p) (solved .result) (solved .ensures) (not-false (solved .result .found) (c .if1 .left)),
+      right-found (start .args .p) (solved .result) (solved .ensures .0) (not-false (solved .result .found) (c .if1 .left)),
     )
 
 returns-2 : tie.Need-returns-2

@@ -4,7 +4,7 @@ use borrow.Author.Needs.{needs}
 use Rattle.solve_def.proofs.Theorem.{network-of}
 use Rattle.solve_ties.specs.Evens.{Tieable}
 use Rattle.solve_phases.specs.Finishes.{Finishable}
-use Rattle.solve_call.proofs.Solving.{full-right, tieable, tie-margined, found-right}
+use Rattle.solve_call.proofs.Solving.{full-right, counted, tieable, tie-margined, found-right}
 use Rattle.solve_call.proofs.solve_at.Statement.{statement}
 use Rattle.solve_call.proofs.solve_at.Tie as tie
 
@@ -13,7 +13,7 @@ abbrev ended : tie.After-flows → tie.After-finish
 ended c = c .before .before .before .before .before
 
 abbrev start : tie.After-finish → tie.Start
-start c = c .before .before
+start c = c .before .before .before
 
 -- What the phases begin from.
 abbrev begun : (st : tie.Start) → Finishable (st .args .arcs .now) (st .args .rows .now) (st .args .start)
@@ -23,17 +23,20 @@ begun st = record {
 }
 
 finish-requires : tie.Need-finish-requires
-finish-requires c κs = (begun (c .before), refl)
+finish-requires c κs = (begun (c .before .before), refl, refl)
 
 masked-requires : tie.Need-masked-requires
 masked-requires c κs = search needs
 
 returns : tie.Need-returns
 returns c =
+    let m = c .before .before .before .before in
     let f = ended (c .before) in
     let st = start f in
-    full-right (st .args .p) (st .pre .0) (st .args .start) (st .pre .2) (f .finish .result) (f .finish .ensures (begun st) .0) _ (c .if1 .taken)
-    (c .before .before .before .before .masked .ensures)
+    let got = f .finish .ensures (begun st) in (
+      full-right (st .args .p) (st .pre .0) (st .args .start) (st .pre .2) (f .finish .result) (got .0) _ (c .if1 .taken) (m .masked .ensures),
+      counted (st .args .p) (st .pre .0) (st .args .start) (st .pre .2) (f .finish .result) (got .0) _ (got .1),
+    )
 
 -- What the tie pass begins from.
 abbrev able : (c : tie.Else1) → let f = ended (c .before) in let st = start f in
@@ -48,17 +51,21 @@ tie-all-requires c κs =
     let e = c .before .before .before in
     let f = ended (e .before) in
     let st = start f in
-    let made = f .finish .ensures (begun st) in
-    (able e, tie-margined (st .args .p) (st .pre .0) (st .args .start) (st .pre .2) (f .finish .result) (made .0) (e .if1 .left) _ _ _ (st .pre .1) (made .1 (e .if1 .left)))
+    let got = f .finish .ensures (begun st) in
+    let n = e .if1 .left in
+    (able e, tie-margined (st .args .p) (st .pre .0) (st .args .start) (st .pre .2) (f .finish .result) (got .0) n _ _ _ (st .pre .1) (got .2 n))
 
 returns-2 : tie.Need-returns-2
 returns-2 c =
     let e = c .before .before .before .before in
     let f = ended (e .before) in
+    let m = e .before .before .before .before in
     let st = start f in
-    found-right (st .args .p) (st .pre .0) (st .args .start) (st .pre .2) (f .finish .result) (f .finish .ensures (begun st) .0) (e .if1 .left) _ _
-    (c .tie-all .ensures (able e))
-    (e .before .before .before .before .masked .ensures)
+    let got = f .finish .ensures (begun st) in (
+      found-right (st .args .p) (st .pre .0) (st .args .start) (st .pre .2) (f .finish .result) (got .0) (e .if1 .left) _ _ _
+          (c .tie-all .ensures (able e)) (m .masked .ensures) (got .1),
+      counted (st .args .p) (st .pre .0) (st .args .start) (st .pre .2) (f .finish .result) (got .0) _ (got .1),
+    )
 
 pub solve-at-spec : {M : Type 1} → statement M
 solve-at-spec = tie.close (tie.spec finish-requires masked-requires returns tie-all-requires returns-2)

@@ -27,7 +27,7 @@ solved : (c : tie.Else2)
     Feasible (plantOf (after-read-plant .read-plant .result .plant))
 solved c =
     let s = c .before .before .solve in
-    solved-feasible _ (s .result) (right-found _ (s .result) (s .ensures) (not-false (s .result .found) (c .if2 .left)))
+    solved-feasible _ (s .result) (right-found _ (s .result) (s .ensures .0) (not-false (s .result .found) (c .if2 .left)))
 
 read-plant-requires : tie.Need-read-plant-requires
 read-plant-requires c κs = search needs
@@ -60,7 +60,7 @@ returns-2 c =
     let start = after-read-plant .before .before in
     answered (now (start .args .file)) (after-read-plant .read-plant .result) (after-read-plant .read-plant .ensures) (c .refused2 .result) (else1 .if1 .left)
     (none-balanced _ (within-of (after-read-plant .read-plant .result .plant) (taken after-plant)) (c .refused2 .result) (after-solve .solve .result .marked)
-    (right-overfull _ (after-solve .solve .result) (after-solve .solve .ensures)
+    (right-overfull _ (after-solve .solve .result) (after-solve .solve .ensures .0)
     (not-true (after-solve .solve .result .found) (c .before .if2 .taken))) (c .refused2 .ensures))
 
 classes-of-requires : tie.Need-classes-of-requires

@@ -18,7 +18,7 @@ use Rattle.visit_costs.proofs.least_cost.Tie as tie
 
 -- The first state, from the end of the phases; arcs and rows, from there; and the start.
 abbrev begun : tie.After-finish → tie.After-start
-begun c = c .before .before .before .before
+begun c = c .before .before .before .before .before
 
 abbrev laid : tie.After-start → tie.After-lay
 laid c = c .before .before .before
@@ -61,12 +61,13 @@ ended c = c .finish .ensures (able c _ _ (laid (begun c) .lay .ensures)) .0
 
 finish-requires : tie.Need-finish-requires
 finish-requires c κs =
-    let b = c .before .before .before in
+    let b = c .before .before .before .before in
     let st = start (laid b) in (
       record {
         laying = record { streams = st .args .p .streams; n = st .args .p .count; network = network-of (st .args .p) (st .pre .0); laid = laid b .lay .ensures };
         at-hint = b .start .ensures;
       },
+      refl,
       refl,
     )
 

@@ -12,6 +12,7 @@ use Rattle.solve_def.specs.Model.{phase, phases, finished, noHint, overSum}
 use Rattle.solve_def.proofs.Streams.{solvable-of}
 use Rattle.solve_def.proofs.Layouts.{at-hint-around}
 use Rattle.solve_def.proofs.Ending.{hint-underway}
+use Rattle.solve_def.proofs.CountTurns.{made-by-hint, made-by-phases}
 use Rattle.solve_improve.specs.Improves.{Phasable}
 use Rattle.solve_phases.specs.Finishes.{Finishable}
 use Rattle.solve_phases.proofs.finishing.finish.Statement.{statement}
@@ -36,40 +37,54 @@ over-sum-requires c κs =
 
 -- What the phase begins from.
 abbrev able : (c : tie.Then1) → let st = c .before .before .before .before in Finishable (st .args .arcs .now) (st .args .rows .now) (st .args .st)
-    → Phasable (c .before .before .before .before .args .arcs .now) (c .before .before .before .before .args .rows .now) 1 (c .before .before .before .before .args .st)
+    → Phasable (st .args .arcs .now) (st .args .rows .now) 1 (st .args .st)
 able c f =
     let st = c .before .before .before .before in
     let w = f .laying in
+    let v = solvable-of (w .streams) (w .n) (w .network) in
     record {
       streams = w .streams;
       n = w .n;
       network = w .network;
       laid = w .laid;
       step = (omega arith, omega arith);
-      underway = hint-underway _ (solvable-of (w .streams) (w .n) (w .network)) (st .args .st) (f .at-hint) (omega (arith, c .before .over-sum .ensures, c .if1 .taken));
+      underway = hint-underway _ v (st .args .st) (f .at-hint) (omega (arith, c .before .over-sum .ensures, c .if1 .taken));
     }
 
 phase-requires : tie.Need-phase-requires
-phase-requires c κs = let st = c .before .before .before .before .before in (able (c .before) (st .pre .0), st .pre .1)
+phase-requires c κs =
+    let t = c .before .before in
+    let st = t .before .before .before .before in
+    (able t (st .pre .0), st .pre .1, omega (arith, st .pre .2))
 
 returns : tie.Need-returns
 returns c = λ f.
-    let t = c .before .before in
-    let st = t .before .before .before .before in
-    let made = c .phase .ensures (able t f) in
-    (made .0 ∙ by-hint (take (f .laying .n) (f .laying .streams)) (st .args .st) _ (t .before .over-sum .ensures) (t .if1 .taken), λ o. made .1)
+    let t = c .before .before .before in
+    let o = t .before in
+    let st = o .before .before .before in
+    let ss = take (f .laying .n) (f .laying .streams) in
+    let got = c .phase .ensures (able t f) in (
+      got .0 ∙ by-hint ss (st .args .st) _ (o .over-sum .ensures) (t .if1 .taken),
+      omega (arith, got .1, st .pre .2, made-by-hint ss (st .args .st) (o .over-sum .result) (o .over-sum .ensures) (t .if1 .taken)),
+      λ n. got .2,
+    )
 
 phases-requires : tie.Need-phases-requires
 phases-requires c κs =
-    let st = c .before .before .before .before .before in
-    (st .pre .0 .laying, st .pre .1)
+    let st = c .before .before .before .before .before .before in
+    (st .pre .0 .laying, st .pre .1, st .pre .2)
 
 returns-2 : tie.Need-returns-2
 returns-2 c = λ f.
-    let t = c .before .before in
-    let st = t .before .before .before .before in
-    let made = c .phases .ensures (f .laying) in
-    (made .0 ∙ by-phases (take (f .laying .n) (f .laying .streams)) (st .args .st) _ (t .before .over-sum .ensures) (t .if1 .left), made .1)
+    let t = c .before .before .before in
+    let o = t .before in
+    let st = o .before .before .before in
+    let ss = take (f .laying .n) (f .laying .streams) in
+    let got = c .phases .ensures (f .laying) in (
+      got .0 ∙ by-phases ss (st .args .st) _ (o .over-sum .ensures) (t .if1 .left),
+      got .1 ∙ made-by-phases ss (st .args .st) _ (o .over-sum .ensures) (t .if1 .left),
+      got .2,
+    )
 
 pub finish-spec : {M : Type 1} → statement M
 finish-spec = tie.close (tie.spec over-sum-requires phase-requires returns phases-requires returns-2)
