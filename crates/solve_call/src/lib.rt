@@ -34,7 +34,14 @@ pub fn solve_at(p: Plant, arcs: &[u8; ARCS], rows: &[u64; ROWS], start: State) -
     let mut potentials = start.potentials;
     let mut nets = start.nets;
     let mut margins = [0u64; MARGINS];
-    let e = finish(arcs, rows, &mut margins, &mut flows, &mut potentials, &mut nets);
+    let e = finish(
+        arcs,
+        rows,
+        &mut margins,
+        &mut flows,
+        &mut potentials,
+        &mut nets,
+    );
     let marked = e.marked;
     let own = masked(marked, p.units);
     if e.full {
