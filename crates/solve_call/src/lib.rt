@@ -30,21 +30,27 @@ pub fn solve_at(p: Plant, arcs: &[u8; ARCS], rows: &[u64; ROWS], start: State) -
     requires { ⌜ Accepted p × Laid (p .streams) (p .count) (now arcs) (now rows) × AtHint (plantOf p .streams) start ⌝ }
     ensures { λ r. ⌜ Right p r × Effort (plantOf p .streams) start (r .made) ⌝ }
 {
+    let mut flows = start.flows;
+    let mut potentials = start.potentials;
+    let mut nets = start.nets;
     let mut margins = [0u64; MARGINS];
-    let mut made: u64 = 0;
-    let e = finish(arcs, rows, &mut margins, start, &mut made);
+    let e = finish(
+        arcs,
+        rows,
+        &mut margins,
+        &mut flows,
+        &mut potentials,
+        &mut nets,
+    );
     let marked = e.marked;
     let own = masked(marked, p.units);
-    let st = e.state;
-    let potentials = st.potentials;
-    let mut flows = st.flows;
     if e.full {
         return Solved {
             found: false,
             flows: flows,
             potentials: potentials,
             marked: own,
-            made: made,
+            made: e.made,
         };
     }
     tie_all(arcs, rows, &mut margins, &mut flows, &potentials);
@@ -53,7 +59,7 @@ pub fn solve_at(p: Plant, arcs: &[u8; ARCS], rows: &[u64; ROWS], start: State) -
         flows: flows,
         potentials: potentials,
         marked: own,
-        made: made,
+        made: e.made,
     }
 }
 

@@ -2,14 +2,13 @@
 use mathlib.Core.Path.{_≡_}
 use mathlib.Core.Bool.{false}
 use mathlib.Core.List.{List}
-use Prim.Native.Nat.{ℕ, _+_, _-_, _/_}
+use Prim.Native.Nat.{ℕ, _-_, _/_}
 use lib.ListN.{getD, take}
 use Rattle.plant_def.specs.Limits.{places}
 use Rattle.solve_def.specs.Sizes.{netShift, halvings}
 use Rattle.solve_def.specs.declared.Quest.{Quest}
 use Rattle.solve_def.specs.declared.State.{State}
 use Rattle.solve_def.specs.declared.Tried.{Tried}
-use Rattle.solve_def.specs.declared.Ended.{Ended}
 use Rattle.solve_def.specs.Model.{endedBy, fromPlace, phase, phases, finished, noHint}
 use Rattle.solve_def.specs.Made.{madeFrom, madeTo, madeBy, made}
 use Rattle.solve_arcs.specs.ArcNeeds.{Laying, Margined}
@@ -28,26 +27,26 @@ Trying ls rs ms q st r after margins =
     × (r .made ≡ madeFrom (stepsAt q st) (take (w .n) (w .streams)) (q .delta) (q .start) st)
     × Margined (w .n) rs (after .flows) (q .delta) 0 margins
 
--- A phase at step d, before and after which so many improvements are counted.
-abbrev pub Phasing : List ℕ → List ℕ → ℕ → State → ℕ → Ended → ℕ → List ℕ → Type 0
-Phasing ls rs d st before r after margins =
+-- A phase at step d: how it ends, how many improvements it makes, and the margins of the amounts.
+abbrev pub Phasing : List ℕ → List ℕ → ℕ → State → Tried → State → List ℕ → Type 0
+Phasing ls rs d st r after margins =
     (w : Phasable ls rs d st)
-    → (r ≡ phase (take (w .n) (w .streams)) d st)
-    × (after ≡ before + madeTo places (take (w .n) (w .streams)) d st)
-    × Margined (w .n) rs (r .state .flows) d 0 margins
+    → (endedBy (r .full) after (r .marked) ≡ phase (take (w .n) (w .streams)) d st)
+    × (r .made ≡ madeTo places (take (w .n) (w .streams)) d st)
+    × Margined (w .n) rs (after .flows) d 0 margins
 
 -- The phases from no hint, and how many improvements they make. Where no set is full, the margins are those of the amounts.
-abbrev pub AllPhases : List ℕ → List ℕ → Ended → ℕ → List ℕ → Type 0
-AllPhases ls rs r count margins =
+abbrev pub AllPhases : List ℕ → List ℕ → Tried → State → List ℕ → Type 0
+AllPhases ls rs r after margins =
     (w : Laying ls rs)
-    → (r ≡ phases halvings (take (w .n) (w .streams)) noHint)
-    × (count ≡ madeBy halvings (take (w .n) (w .streams)) noHint)
-    × (r .full ≡ false → Margined (w .n) rs (r .state .flows) 1 0 margins)
+    → (endedBy (r .full) after (r .marked) ≡ phases halvings (take (w .n) (w .streams)) noHint)
+    × (r .made ≡ madeBy halvings (take (w .n) (w .streams)) noHint)
+    × (r .full ≡ false → Margined (w .n) rs (after .flows) 1 0 margins)
 
 -- The same from a state that is settled at a hint.
-abbrev pub Finishing : List ℕ → List ℕ → State → Ended → ℕ → List ℕ → Type 0
-Finishing ls rs st r count margins =
+abbrev pub Finishing : List ℕ → List ℕ → State → Tried → State → List ℕ → Type 0
+Finishing ls rs st r after margins =
     (w : Finishable ls rs st)
-    → (r ≡ finished (take (w .laying .n) (w .laying .streams)) st)
-    × (count ≡ made (take (w .laying .n) (w .laying .streams)) st)
-    × (r .full ≡ false → Margined (w .laying .n) rs (r .state .flows) 1 0 margins)
+    → (endedBy (r .full) after (r .marked) ≡ finished (take (w .laying .n) (w .laying .streams)) st)
+    × (r .made ≡ made (take (w .laying .n) (w .laying .streams)) st)
+    × (r .full ≡ false → Margined (w .laying .n) rs (after .flows) 1 0 margins)

@@ -7,18 +7,15 @@ use solve_arcs::MARGINS;
 use solve_arcs::ROWS;
 use solve_arcs::count_of;
 use solve_arcs::margins_of;
-use solve_def::Ended;
 use solve_def::Quest;
-use solve_def::State;
 use solve_def::Tried;
 use solve_def::sizes::NET_SHIFT;
 use solve_improve::improve_from;
 use solve_infeasible::tested;
 ghost use mathlib.Core.Path.{_≡_};
-ghost use Prim.Native.Nat.{_≤_, _<_};
+ghost use Prim.Native.Nat.{_<_};
 ghost use lib.ListN.{length};
 ghost use Rattle.plant_def.specs.Limits.{places};
-ghost use Rattle.solve_def.specs.Sizes.{settledRoom};
 ghost use Rattle.solve_def.specs.Model.{stateOf};
 ghost use Rattle.solve_arcs.specs.Cells.{marginCells};
 ghost use Rattle.solve_improve.specs.Improves.{Phasable, Improvable};
@@ -71,61 +68,54 @@ fn from_place(
     }
 }
 
-// A phase at step delta: from the places one after the other. The margins become those of the amounts, and the improvements that are
-// made are added to the count.
+// A phase at step delta: from the places one after the other. The margins become those of the amounts, and the improvements are
+// counted.
 pub fn phase(
     arcs: &[u8; ARCS],
     rows: &[u64; ROWS],
     margins: &mut [u64; MARGINS],
-    start: State,
+    flows: &mut [u64; MAX_STREAMS],
+    potentials: &mut [u64; PLACES],
+    nets: &mut [u64; PLACES],
     delta: u64,
-    made: &mut u64,
-) -> Ended
-    requires { ⌜ Phasable (now arcs) (now rows) delta start × (length (now margins) ≡ marginCells) × (now made ≤ settledRoom) ⌝ }
-    ensures { λ r. ⌜ Phasing (now (arcs .entry)) (now (rows .entry)) delta start (now (made .entry)) r (now (made .exit))
-        (now (margins .exit)) ⌝ }
+) -> Tried
+    requires { ⌜ Phasable (now arcs) (now rows) delta (stateOf (now flows) (now potentials) (now nets))
+        × (length (now margins) ≡ marginCells) ⌝ }
+    ensures { λ r. ⌜ Phasing (now (arcs .entry)) (now (rows .entry)) delta
+        (stateOf (now (flows .entry)) (now (potentials .entry)) (now (nets .entry))) r
+        (stateOf (now (flows .exit)) (now (potentials .exit)) (now (nets .exit))) (now (margins .exit)) ⌝ }
 {
-    let mut flows = start.flows;
-    let mut potentials = start.potentials;
-    let mut nets = start.nets;
     let count = count_of(arcs);
-    margins_of(rows, margins, &flows, count, delta);
+    margins_of(rows, margins, flows, count, delta);
+    let mut made: u64 = 0;
     let mut s: usize = 0;
     while s < PLACES {
         let h = from_place(
             arcs,
             rows,
             margins,
-            &mut flows,
-            &mut potentials,
-            &mut nets,
+            flows,
+            potentials,
+            nets,
             Quest {
                 start: s,
                 delta: delta,
             },
         );
-        *made += h.made;
+        made += h.made;
         if h.full {
             let marked = h.marked;
-            return Ended {
-                full: true,
-                state: State {
-                    flows: flows,
-                    potentials: potentials,
-                    nets: nets,
-                },
+            return Tried {
+                full: h.full,
                 marked: marked,
+                made: made,
             };
         }
         s += 1;
     }
-    Ended {
+    Tried {
         full: false,
-        state: State {
-            flows: flows,
-            potentials: potentials,
-            nets: nets,
-        },
         marked: [false; PLACES],
+        made: made,
     }
 }

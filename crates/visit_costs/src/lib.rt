@@ -38,13 +38,20 @@ pub fn least_cost(p: Plant) -> u64
     let mut margins = [0u64; MARGINS];
     lay(streams, count, &mut arcs, &mut rows);
     let begun = start(p, labels, &arcs, &rows);
-    let mut made: u64 = 0;
-    let e = finish(&arcs, &rows, &mut margins, begun, &mut made);
+    let mut held = begun.flows;
+    let mut potentials = begun.potentials;
+    let mut nets = begun.nets;
+    let e = finish(
+        &arcs,
+        &rows,
+        &mut margins,
+        &mut held,
+        &mut potentials,
+        &mut nets,
+    );
     if e.full {
         return 0;
     }
-    let st = e.state;
-    let held = st.flows;
     let flows = opened_flows(held);
     cost_of(p, flows)
 }

@@ -18,7 +18,9 @@ use Rattle.visit_costs.proofs.least_cost.Tie as tie
 
 -- The first state, from the end of the phases; arcs and rows, from there; and the start.
 abbrev begun : tie.After-finish → tie.After-start
-begun c = c .before .before .before .before .before
+begun c =
+    let m = c .before .before .before .before .before .before in
+    m .before .before .before .before
 
 abbrev laid : tie.After-start → tie.After-lay
 laid c = c .before .before .before
@@ -56,18 +58,15 @@ able c ls rs l =
       at-hint = b .start .ensures;
     }
 
-ended : (c : tie.After-finish) → c .finish .result ≡ finished (plantOf (start (laid (begun c)) .args .p) .streams) (begun c .start .result)
-ended c = c .finish .ensures (able c _ _ (laid (begun c) .lay .ensures)) .0
-
 finish-requires : tie.Need-finish-requires
 finish-requires c κs =
-    let b = c .before .before .before .before in
+    let m = c .before .before .before .before .before in
+    let b = m .before .before .before .before in
     let st = start (laid b) in (
       record {
         laying = record { streams = st .args .p .streams; n = st .args .p .count; network = network-of (st .args .p) (st .pre .0); laid = laid b .lay .ensures };
         at-hint = b .start .ensures;
       },
-      refl,
       refl,
     )
 
@@ -76,33 +75,39 @@ returns c =
     let f = c .before in
     let b = begun f in
     let st = start (laid b) in
-    never-full (st .args .p) (st .pre .0) (b .start .result) (b .start .ensures) (f .finish .result) (ended f) (st .pre .1) (c .if1 .taken)
+    let got = f .finish .ensures (able f _ _ (laid b .lay .ensures)) in
+    never-full (st .args .p) (st .pre .0) (b .start .result) (b .start .ensures) _ (got .0) (st .pre .1) (c .if1 .taken)
 
 opened-flows-requires : tie.Need-opened-flows-requires
 opened-flows-requires c κs =
-    let e = c .before .before in
-    let f = e .before in
+    let f = c .before in
     let b = begun f in
     let st = start (laid b) in
-    amounts (st .args .p) (st .pre .0) (b .start .result) (b .start .ensures) (f .finish .result) (ended f) (e .if1 .left)
+    let got = f .finish .ensures (able f _ _ (laid b .lay .ensures)) in
+    amounts (st .args .p) (st .pre .0) (b .start .result) (b .start .ensures) _ (got .0) (c .if1 .left)
 
 cost-of-requires : tie.Need-cost-of-requires
 cost-of-requires c κs =
-    let e = c .before .before .before in
+    let e = c .before in
     let f = e .before in
     let b = begun f in
     let st = start (laid b) in
-    (st .pre .0, all-small (st .args .p) (st .pre .0) (b .start .result) (b .start .ensures) (f .finish .result) (ended f) (e .if1 .left) (c .opened-flows .result) (c .opened-flows .ensures))
+    let got = f .finish .ensures (able f _ _ (laid b .lay .ensures)) in (
+      st .pre .0,
+      all-small (st .args .p) (st .pre .0) (b .start .result) (b .start .ensures) _ (got .0) (e .if1 .left) (c .opened-flows .result)
+          (c .opened-flows .ensures),
+    )
 
 returns-2 : tie.Need-returns-2
 returns-2 c =
     let o = c .before in
-    let e = o .before .before .before in
+    let e = o .before in
     let f = e .before in
     let b = begun f in
     let st = start (laid b) in
-    least-found (st .args .p) (st .pre .0) (b .start .result) (b .start .ensures) (f .finish .result) (ended f) (e .if1 .left)
-    (o .opened-flows .result) (o .opened-flows .ensures) (c .cost-of .result) (c .cost-of .ensures)
+    let got = f .finish .ensures (able f _ _ (laid b .lay .ensures)) in
+    least-found (st .args .p) (st .pre .0) (b .start .result) (b .start .ensures) _ (got .0) (e .if1 .left) (o .opened-flows .result)
+    (o .opened-flows .ensures) (c .cost-of .result) (c .cost-of .ensures)
 
 pub least-cost-spec : {M : Type 1} → statement M
 least-cost-spec =

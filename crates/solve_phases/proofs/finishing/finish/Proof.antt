@@ -8,7 +8,7 @@ use lib.ListN.{take}
 use Rattle.plant_def.specs.declared.Stream.{Stream}
 use Rattle.solve_def.specs.Sizes.{mostTried, halvings}
 use Rattle.solve_def.specs.declared.State.{State}
-use Rattle.solve_def.specs.Model.{phase, phases, finished, noHint, overSum}
+use Rattle.solve_def.specs.Model.{stateOf, phase, phases, finished, noHint, overSum}
 use Rattle.solve_def.proofs.Streams.{solvable-of}
 use Rattle.solve_def.proofs.Layouts.{at-hint-around}
 use Rattle.solve_def.proofs.Ending.{hint-underway}
@@ -29,17 +29,23 @@ by-phases : (ss : List Stream) (st : State) (over : ℕ) → over ≡ overSum (s
 unfolding finished
 by-phases ss st over e l = sym (rw (← e, lt-leb over mostTried l))
 
+-- The state at the start.
+abbrev begun : tie.Start → State
+begun st = stateOf (st .args .flows .now) (st .args .potentials .now) (st .args .nets .now)
+
+abbrev Able : tie.Start → Type 0
+Able st = Finishable (st .args .arcs .now) (st .args .rows .now) (begun st)
+
 over-sum-requires : tie.Need-over-sum-requires
 over-sum-requires c κs =
-    let st = c .before .before in
+    let st = c .before in
     let w = st .pre .0 .laying in
-    at-hint-around (w .streams) (w .n) (w .network) (st .args .st) (st .pre .0 .at-hint)
+    at-hint-around (w .streams) (w .n) (w .network) (begun st) (st .pre .0 .at-hint)
 
 -- What the phase begins from.
-abbrev able : (c : tie.Then1) → let st = c .before .before .before .before in Finishable (st .args .arcs .now) (st .args .rows .now) (st .args .st)
-    → Phasable (st .args .arcs .now) (st .args .rows .now) 1 (st .args .st)
-able c f =
-    let st = c .before .before .before .before in
+abbrev able : (st : tie.Start) (over : ℕ) → over ≡ overSum (begun st .nets) → over ≤ mostTried → Able st
+    → Phasable (st .args .arcs .now) (st .args .rows .now) 1 (begun st)
+able st over e l f =
     let w = f .laying in
     let v = solvable-of (w .streams) (w .n) (w .network) in
     record {
@@ -48,41 +54,42 @@ able c f =
       network = w .network;
       laid = w .laid;
       step = (omega arith, omega arith);
-      underway = hint-underway _ v (st .args .st) (f .at-hint) (omega (arith, c .before .over-sum .ensures, c .if1 .taken));
+      underway = hint-underway _ v (begun st) (f .at-hint) (omega (arith, e, l));
     }
 
 phase-requires : tie.Need-phase-requires
 phase-requires c κs =
-    let t = c .before .before in
-    let st = t .before .before .before .before in
-    (able t (st .pre .0), st .pre .1, omega (arith, st .pre .2))
+    let t = c .before .before .before .before in
+    let o = t .before in
+    let st = o .before .before in
+    (able st _ (o .over-sum .ensures) (t .if1 .taken) (st .pre .0), st .pre .1)
 
 returns : tie.Need-returns
 returns c = λ f.
-    let t = c .before .before .before in
+    let t = c .before .before .before .before .before in
     let o = t .before in
-    let st = o .before .before .before in
+    let st = o .before .before in
     let ss = take (f .laying .n) (f .laying .streams) in
-    let got = c .phase .ensures (able t f) in (
-      got .0 ∙ by-hint ss (st .args .st) _ (o .over-sum .ensures) (t .if1 .taken),
-      omega (arith, got .1, st .pre .2, made-by-hint ss (st .args .st) (o .over-sum .result) (o .over-sum .ensures) (t .if1 .taken)),
+    let got = c .phase .ensures (able st _ (o .over-sum .ensures) (t .if1 .taken) f) in (
+      got .0 ∙ by-hint ss (begun st) _ (o .over-sum .ensures) (t .if1 .taken),
+      omega (arith, got .1, made-by-hint ss (begun st) (o .over-sum .result) (o .over-sum .ensures) (t .if1 .taken)),
       λ n. got .2,
     )
 
 phases-requires : tie.Need-phases-requires
 phases-requires c κs =
-    let st = c .before .before .before .before .before .before in
-    (st .pre .0 .laying, st .pre .1, st .pre .2)
+    let st = c .before .before .before .before .before .before .before in
+    (st .pre .0 .laying, st .pre .1)
 
 returns-2 : tie.Need-returns-2
 returns-2 c = λ f.
-    let t = c .before .before .before in
+    let t = c .before .before .before .before .before in
     let o = t .before in
-    let st = o .before .before .before in
+    let st = o .before .before in
     let ss = take (f .laying .n) (f .laying .streams) in
     let got = c .phases .ensures (f .laying) in (
-      got .0 ∙ by-phases ss (st .args .st) _ (o .over-sum .ensures) (t .if1 .left),
-      got .1 ∙ made-by-phases ss (st .args .st) _ (o .over-sum .ensures) (t .if1 .left),
+      got .0 ∙ by-phases ss (begun st) _ (o .over-sum .ensures) (t .if1 .left),
+      got .1 ∙ made-by-phases ss (begun st) _ (o .over-sum .ensures) (t .if1 .left),
       got .2,
     )
 
