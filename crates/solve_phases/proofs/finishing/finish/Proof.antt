@@ -78,7 +78,8 @@ returns c = λ f.
 
 phases-requires : tie.Need-phases-requires
 phases-requires c κs =
-    let st = c .before .before .before .before .before .before .before in
+    let o = c .before .before .before .before .before in
+    let st = o .before .before in
     (st .pre .0 .laying, st .pre .1)
 
 returns-2 : tie.Need-returns-2
