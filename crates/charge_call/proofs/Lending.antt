@@ -8,7 +8,6 @@ use Rattle.num_bytes.specs.Bytes.{over}
 use Rattle.plant_def.specs.Limits.{maxStreams}
 use Rattle.num_lent.proofs.Rooms.{by-room}
 use Rattle.charge_def.specs.declared.Charges.{Charges}
-use Rattle.charge_def.specs.Says.{noCharges, ChargesSays}
 use Rattle.charge_def.proofs.Promise.{steam-charges, charges-few}
 use Rattle.charge_call.specs.Lent.{LentSays, One-hand-over}
 

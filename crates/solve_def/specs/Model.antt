@@ -18,7 +18,7 @@ use Rattle.solve_def.specs.Slack.{slackBy}
 use Rattle.solve_def.specs.Search.{rootAt, target, Grown, sought, tightPath}
 use Rattle.solve_def.specs.Closing.{refloored}
 use Rattle.solve_def.specs.Full.{overfull}
-use Rattle.solve_def.specs.Push.{pushed}
+use Rattle.solve_def.specs.Augment.{augmented}
 use Rattle.solve_def.specs.declared.Hint.{Hint}
 use Rattle.solve_def.specs.declared.State.{State}
 use Rattle.solve_def.specs.declared.Ended.{Ended}
@@ -82,11 +82,11 @@ pub record Improved : Type 0 where
 abbrev pub improvedBy : Bool → State → List Bool → Improved
 improvedBy b st ls = record { done = b; state = st; visited = ls }
 
--- From place s: a search to a place with a negative net, and d pushed along the way to it.
-abbrev pub pushedOn : List Stream → State → ℕ → ℕ → Grown → State
-pushedOn ss st d s g =
+-- From place s: a search to a place with a negative net, and d augmented along the way to it.
+abbrev pub augmentedOn : List Stream → State → ℕ → ℕ → Grown → State
+augmentedOn ss st d s g =
     record {
-      flows = pushed ss (g .tree .via) (g .tree .ends) d (g .tree .len) (target (g .tree)) (st .flows);
+      flows = augmented ss (g .tree .via) (g .tree .ends) d (g .tree .len) (target (g .tree)) (st .flows);
       potentials = refloored (g .potentials);
       nets = shiftedNets (st .nets) s (target (g .tree)) d;
     }
@@ -95,7 +95,7 @@ pushedOn ss st d s g =
 abbrev pub improvedAt : List Stream → State → ℕ → ℕ → Improved
 improvedAt ss st d s =
     let g = sought ss (st .flows) (st .nets) (st .potentials) d s in
-    improvedBy (g .found) (pick (g .found) (pushedOn ss st d s g) st) (g .tree .visited)
+    improvedBy (g .found) (pick (g .found) (augmentedOn ss st d s g) st) (g .tree .visited)
 
 -- The summed positive net.
 unfoldable pub overSum : List ℕ → ℕ
@@ -155,7 +155,7 @@ finished ss st = pick (leb (overSum (st .nets)) mostTried) (phase ss 1 st) (phas
 -- streams up to it alone.
 abbrev pub tiedBy : List Stream → List ℕ → ℕ → ℕ → Grown → List ℕ
 tiedBy ss xs v i g =
-    let ys = pushed ss (g .tree .via) (g .tree .ends) 1 (g .tree .len) v xs in
+    let ys = augmented ss (g .tree .via) (g .tree .ends) 1 (g .tree .len) v xs in
     pick (g .found) (set ys i (getD ys i 0 - 1)) xs
 
 unfoldable pub tiedAt : List Stream → List ℕ → ℕ → List ℕ → List ℕ

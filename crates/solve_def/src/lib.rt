@@ -1,4 +1,4 @@
-// The cheapest balanced flow, computed: search, push and solver as definitions with their laws, and how many improvements it
+// The cheapest balanced flow, computed: search, augmentation and solver as definitions with their laws, and how many improvements it
 // makes.
 use plant_def::limits::MAX_STREAMS;
 use plant_def::limits::PLACES;
@@ -11,7 +11,7 @@ pub struct Quest {
     pub delta: u64,
 }
 
-// A way to push along: how many streams are remembered, the place that the way ends at, and the step.
+// A way to augment along: how many streams are remembered, the place that the way ends at, and the step.
 pub struct Route {
     pub len: usize,
     pub target: u8,

@@ -14,7 +14,7 @@ use solve_path::search;
 ghost use Rattle.solve_def.specs.Model.{stateOf};
 ghost use Rattle.solve_improve.specs.Improves.{Improves, Improving};
 
-// One improvement at step delta from place s: a search to a place with a negative net, and delta pushed along the way to it. Where no
+// One improvement at step delta from place s: a search to a place with a negative net, and delta augmented along the way to it. Where no
 // such place can be reached, nothing changes. The margins stay those of the amounts.
 pub fn improve_from(
     arcs: &[u8; ARCS],

@@ -8,9 +8,8 @@ use Rattle.num_bytes.specs.Bytes.{over}
 use Rattle.plant_def.specs.Limits.{maxStreams}
 use Rattle.num_lent.proofs.Rooms.{by-room}
 use Rattle.visit_def.specs.declared.Visits.{Visits}
-use Rattle.visit_def.specs.Says.{noVisits, VisitsSays}
 use Rattle.visit_def.proofs.Promise.{meters-worth-a-visit, visits-fit}
-use Rattle.visit_call.specs.Lent.{LentSays, VisitsHandOver, One-hand-over}
+use Rattle.visit_call.specs.Lent.{LentSays, One-hand-over}
 
 -- There is room: no more are listed than there may be, nor than either slice holds.
 pub room-lent : (file : List ℕ) (m n : ℕ) (r : Visits) → LentSays file m n r → (r .count ≤ maxStreams) × (r .count ≤ m) × (r .count ≤ n)

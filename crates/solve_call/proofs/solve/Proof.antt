@@ -14,12 +14,6 @@ use Rattle.solve_call.proofs.solve.Tie as tie
 abbrev begin : tie.After-lay → tie.Start
 begin c = c .before .before .before .before .before
 
-cast-count : tie.Need-cast-count
-cast-count c = search needs
-
-cast-arcs : tie.Need-cast-arcs
-cast-arcs c = search needs
-
 lay-requires : tie.Need-lay-requires
 lay-requires c κs =
     let st = c .before .before .before .before in
@@ -36,8 +30,7 @@ solve-at-requires c κs =
     let f = s .before .before .before in
     (begin f .pre .0, f .lay .ensures, s .start .ensures)
 
-returns : tie.Need-returns
-returns c = search needs
-
 pub solve-spec : {M : Type 1} → statement M
-solve-spec = tie.close (tie.spec cast-count cast-arcs lay-requires start-requires solve-at-requires returns)
+solve-spec =
+    tie.close
+    (tie.spec (λ c. search needs) (λ c. search needs) lay-requires start-requires solve-at-requires (λ c. search needs))

@@ -28,9 +28,6 @@ finish-requires c κs =
     let m = c .before .before .before in
     (begun (m .before .before .before .before), refl)
 
-masked-requires : tie.Need-masked-requires
-masked-requires c κs = search needs
-
 returns : tie.Need-returns
 returns c =
     let m = c .before in
@@ -66,4 +63,4 @@ returns-2 c =
     )
 
 pub solve-at-spec : {M : Type 1} → statement M
-solve-at-spec = tie.close (tie.spec finish-requires masked-requires returns tie-all-requires returns-2)
+solve-at-spec = tie.close (tie.spec finish-requires (λ c κs. search needs) returns tie-all-requires returns-2)

@@ -1,4 +1,4 @@
--- `solve_improve::improve_from` meets its contract: where the search finds a place, the push and the nets have room.
+-- `solve_improve::improve_from` meets its contract: where the search finds a place, the augmentation and the nets have room.
 use Rattle.solve_def.proofs.Turns.{Moving, moving, found-potentials, improved-none, improved-done}
 use Rattle.solve_arcs.proofs.Stores.{spare-none}
 use Rattle.solve_improve.proofs.Improved.{improve-searching, improve-laying, improve-trail, improve-margined, improved-margined}
@@ -18,7 +18,7 @@ use Rattle.solve_improve.proofs.improve_from.Statement.{statement}
 use Rattle.solve_improve.proofs.improve_from.Tie as tie
 
 -- The start, from where the search is done; the search, from where a place is found; and that place, from where the way is read and from
--- where it is pushed along.
+-- where it is augmented along.
 abbrev start : tie.After-search → tie.Start
 start c = c .before .before .before .before
 
@@ -28,8 +28,8 @@ hunt c = c .before .before .before
 abbrev read : tie.After-augment-arg2 → tie.Else1
 read c = c .before .before .before .before
 
-abbrev pushed : tie.After-augment → tie.Else1
-pushed c = read (c .before .before .before)
+abbrev augmented : tie.After-augment → tie.Else1
+augmented c = read (c .before .before .before)
 
 -- The state at the start, and streams that the arcs are of.
 abbrev held : tie.Start → State
@@ -78,17 +78,17 @@ augment-requires c κs =
 
 cast-shift-nets : tie.Need-cast-shift-nets
 cast-shift-nets c =
-    let e = pushed (c .before) in
+    let e = augmented (c .before) in
     omega (arith, key e (start (hunt e) .pre .0) .shiftable .end)
 
 shift-nets-requires : tie.Need-shift-nets-requires
 shift-nets-requires c κs =
-    let e = pushed (c .before) in
+    let e = augmented (c .before) in
     key e (start (hunt e) .pre .0) .shiftable
 
 refloor-requires : tie.Need-refloor-requires
 refloor-requires c κs =
-    let e = pushed (c .before .before .before) in
+    let e = augmented (c .before .before .before) in
     let st = start (hunt e) in
     let w = st .pre .0 in
     let r =
@@ -100,7 +100,7 @@ returns-2 : tie.Need-returns-2
 returns-2 c = λ w.
     let nets = c .before .before in
     let way = nets .before .before in
-    let e = pushed way in
+    let e = augmented way in
     let st = start (hunt e) in
     let done =
     improved-done (take (w .n) (w .streams)) (held st) (st .args .q .delta) (st .args .q .start) true _ _
@@ -114,13 +114,5 @@ returns-2 c = λ w.
 pub improve-from-spec : {M : Type 1} → statement M
 improve-from-spec =
     tie.close
-    (tie.spec
-    search-requires
-    returns
-    sub-target
-    array-read-target
-    augment-requires
-    cast-shift-nets
-    shift-nets-requires
-    refloor-requires
-    returns-2)
+    (tie.spec search-requires returns sub-target array-read-target augment-requires cast-shift-nets shift-nets-requires
+    refloor-requires returns-2)

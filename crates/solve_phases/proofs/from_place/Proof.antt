@@ -24,11 +24,9 @@ use Rattle.solve_def.proofs.CountTurns.{made-none, made-next, made-stuck}
 use Rattle.solve_arcs.specs.ArcNeeds.{Margined}
 use Rattle.solve_improve.specs.Improves.{Improvable}
 use Rattle.solve_improve.proofs.Improved.{improve-laying}
-use Rattle.solve_improve.proofs.improve_from.Reads as improve-from-reads
 use Rattle.solve_phases.specs.Phases.{stepsAt}
 use Rattle.solve_phases.proofs.from_place.Statement.{statement}
 use Rattle.solve_phases.proofs.from_place.Tie as tie
-use Rattle.solve_infeasible.proofs.tested.Reads as tested-reads
 
 -- What is made and what is over come to no more than was over; what is made and what is to be made, to all that is made.
 abbrev Inv-loop : tie.InvT-loop
@@ -71,15 +69,6 @@ halted : (b : Bool) (st now : State) (ms : List Bool) (r : Halt) → now ≡ st
     → endedBy (r .full) now (r .marked) ≡ pick b (endedBy true st ms) (going st)
 halted true st now ms r e q = rw (q, e)
 halted false st now ms r e q = rw (q, e)
-
-mul-minus : tie.Need-mul-minus Inv-loop μ-loop
-mul-minus c = search needs
-
-element-copy-out-minus : tie.Need-element-copy-out-minus Inv-loop μ-loop
-element-copy-out-minus c = search needs
-
-minus-requires : tie.Need-minus-requires Inv-loop μ-loop
-minus-requires c κs = search needs
 
 -- There is a step to be made; and what is left after it.
 some : (c : tie.In-loop Inv-loop μ-loop) → 0 < c .before .loop .over / begin c .args .q .delta
@@ -129,9 +118,6 @@ add-made c =
     let f : Fits w64 (on .before .before .minus .result) = search needs in
     omega (arith, f .fits, on .before .loop .inv .0, on .loop-test .taken, begin on .pre .0 .step .0)
 
-loop-less : tie.Need-loop-less Inv-loop μ-loop
-loop-less c = search needs
-
 loop-again : tie.Need-loop-again Inv-loop μ-loop
 loop-again c =
     let f = c .before .before in
@@ -161,17 +147,5 @@ returns-2 c = λ w.
 pub from-place-spec : {M : Type 1} → statement M
 from-place-spec =
     tie.close
-    (tie.spec
-    Inv-loop
-    μ-loop
-    mul-minus
-    element-copy-out-minus
-    minus-requires
-    loop-holds
-    improve-from-requires
-    tested-requires
-    returns
-    add-made
-    loop-less
-    loop-again
-    returns-2)
+    (tie.spec Inv-loop μ-loop (λ c. search needs) (λ c. search needs) (λ c κs. search needs) loop-holds
+    improve-from-requires tested-requires returns add-made (λ c. search needs) loop-again returns-2)

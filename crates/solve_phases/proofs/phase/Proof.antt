@@ -16,7 +16,6 @@ use Rattle.solve_improve.specs.Improves.{Phasable, Improvable}
 use Rattle.solve_improve.proofs.Improved.{phase-row, phase-few, phase-amounts, phase-margined}
 use Rattle.solve_phases.proofs.phase.Statement.{statement}
 use Rattle.solve_phases.proofs.phase.Tie as tie
-use Rattle.solve_phases.proofs.from_place.Reads as from-place-reads
 
 abbrev Inv-loop : tie.InvT-loop
 Inv-loop arcs rows margins₀ flows₀ potentials₀ nets₀ delta count made₀ s₀ margins flows potentials nets made s =
@@ -74,9 +73,6 @@ counted c w =
       phase-made-next (take (w .n) (w .streams)) (st .args .delta) (at .s) (at-first st) (stateOf (at .flows) (at .potentials) (at .nets)) (at .inv .1 w .0),
     )
 
-count-of-requires : tie.Need-count-of-requires Inv-loop μ-loop
-count-of-requires c κs = search needs
-
 margins-of-requires : tie.Need-margins-of-requires Inv-loop μ-loop
 margins-of-requires c κs =
     let n = c .before .before in
@@ -128,12 +124,6 @@ returns c = λ w.
       got .2,
     )
 
-add-s : tie.Need-add-s Inv-loop μ-loop
-add-s c = search needs
-
-loop-less : tie.Need-loop-less Inv-loop μ-loop
-loop-less c = search needs
-
 loop-again : tie.Need-loop-again Inv-loop μ-loop
 loop-again c =
     let f = c .before .before in
@@ -157,16 +147,5 @@ returns-2 c = λ w.
 pub phase-spec : {M : Type 1} → statement M
 phase-spec =
     tie.close
-    (tie.spec
-    Inv-loop
-    μ-loop
-    count-of-requires
-    margins-of-requires
-    loop-holds
-    from-place-requires
-    add-made
-    returns
-    add-s
-    loop-less
-    loop-again
-    returns-2)
+    (tie.spec Inv-loop μ-loop (λ c κs. search needs) margins-of-requires loop-holds from-place-requires add-made returns
+    (λ c. search needs) (λ c. search needs) loop-again returns-2)

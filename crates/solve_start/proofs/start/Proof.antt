@@ -92,11 +92,5 @@ returns c =
 pub start-spec : {M : Type 1} → statement M
 start-spec =
     tie.close
-    (tie.spec
-    potentials-of-requires
-    settle-flows-requires
-    nets-of-requires
-    span-requires
-    route-requires
-    nets-of-requires-2
-    returns)
+    (tie.spec potentials-of-requires settle-flows-requires nets-of-requires span-requires route-requires
+    nets-of-requires-2 returns)

@@ -1,13 +1,11 @@
 -- What the phases end with is certified by its potentials.
-use mathlib.Core.Path.{_≡_, refl}
+use mathlib.Core.Path.{refl}
 use mathlib.Core.List.{List}
 use Prim.Native.Nat.{ℕ, _*_}
 use native.Mathlib.Omega.{arith}
 use borrow.Author.Needs.{needs}
 use lib.ListN.{getD-replicate}
 use Rattle.plant_def.specs.Limits.{maxStreams}
-use Rattle.plant_def.specs.Says.{plantOf}
-use Rattle.solve_def.specs.Model.{finished}
 use Rattle.solve_def.proofs.Theorem.{network-of}
 use Rattle.solve_arcs.specs.Cells.{arcCells}
 use Rattle.solve_arcs.specs.ArcNeeds.{Laid}

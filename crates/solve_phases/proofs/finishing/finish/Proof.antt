@@ -17,8 +17,6 @@ use Rattle.solve_improve.specs.Improves.{Phasable}
 use Rattle.solve_phases.specs.Finishes.{Finishable}
 use Rattle.solve_phases.proofs.finishing.finish.Statement.{statement}
 use Rattle.solve_phases.proofs.finishing.finish.Tie as tie
-use Rattle.solve_phases.proofs.phase.Reads as phase-reads
-use Rattle.solve_phases.proofs.finishing.phases.Reads as phases-reads
 
 -- Which of the two it is.
 by-hint : (ss : List Stream) (st : State) (over : ℕ) → over ≡ overSum (st .nets) → over ≤ mostTried → phase ss 1 st ≡ finished ss st

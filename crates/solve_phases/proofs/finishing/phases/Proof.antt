@@ -23,7 +23,6 @@ use Rattle.solve_arcs.specs.ArcNeeds.{Laying}
 use Rattle.solve_improve.specs.Improves.{Phasable}
 use Rattle.solve_phases.proofs.finishing.phases.Statement.{statement}
 use Rattle.solve_phases.proofs.finishing.phases.Tie as tie
-use Rattle.solve_phases.proofs.phase.Reads as phase-reads
 
 abbrev Inv-loop : tie.InvT-loop
 Inv-loop arcs rows margins₀ flows₀ potentials₀ nets₀ made₀ step₀ margins flows potentials nets made step =
@@ -53,9 +52,6 @@ settles : (c : tie.At-loop Inv-loop μ-loop) → Hinting (begin c .args .arcs .n
 settles c =
     let w = begin c .pre .0 in
     record { laying = w; ready = staged-ready _ (solvable-of (w .streams) (w .n) (w .network)) _ _ (staged c w) }
-
-forget-requires : tie.Need-forget-requires Inv-loop μ-loop
-forget-requires c κs = search needs
 
 loop-holds : tie.Need-loop-holds Inv-loop μ-loop
 loop-holds c =
@@ -219,18 +215,5 @@ returns-2 c = λ w.
 pub phases-spec : {M : Type 1} → statement M
 phases-spec =
     tie.close
-    (tie.spec
-    Inv-loop
-    μ-loop
-    forget-requires
-    loop-holds
-    resettle-requires
-    phase-requires
-    add-made
-    returns
-    loop-less
-    loop-again
-    resettle-requires-2
-    phase-requires-2
-    add-made-2
-    returns-2)
+    (tie.spec Inv-loop μ-loop (λ c κs. search needs) loop-holds resettle-requires phase-requires add-made returns
+    loop-less loop-again resettle-requires-2 phase-requires-2 add-made-2 returns-2)

@@ -1,4 +1,4 @@
--- The push: d is moved along the streams that a search remembers, from the last place back to the first.
+-- The augmentation: d is moved along the streams that a search remembers, from the last place back to the first.
 use mathlib.Core.List.{List}
 use Prim.Native.Nat.{ℕ, zero, suc, _+_, _-_}
 use lib.Dec.{eqb}
@@ -15,10 +15,10 @@ abbrev pub otherEnd : Stream → ℕ → ℕ
 otherEnd s c = pick (eqb (s .to) c) (s .from) (s .to)
 
 -- Of the first j remembered streams, from the last: where it led to the place c, d is moved along it, and c is its other end.
-unfoldable pub pushed : List Stream → List ℕ → List ℕ → ℕ → ℕ → ℕ → List ℕ → List ℕ
-pushed ss via ends d zero c xs = xs
-pushed ss via ends d (suc j) c xs =
+unfoldable pub augmented : List Stream → List ℕ → List ℕ → ℕ → ℕ → ℕ → List ℕ → List ℕ
+augmented ss via ends d zero c xs = xs
+augmented ss via ends d (suc j) c xs =
     pick (eqb (getD ends j 0) c)
-    (pushed ss via ends d j (otherEnd (streamAt ss (getD via j 0)) c)
+    (augmented ss via ends d j (otherEnd (streamAt ss (getD via j 0)) c)
     (set xs (getD via j 0) (movedOf (streamAt ss (getD via j 0)) (getD xs (getD via j 0) 0) c d)))
-    (pushed ss via ends d j c xs)
+    (augmented ss via ends d j c xs)

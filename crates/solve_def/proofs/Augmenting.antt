@@ -1,4 +1,4 @@
--- The push keeps the step condition and moves d of net from the first place to the last.
+-- The augmentation keeps the step condition and moves d of net from the first place to the last.
 use mathlib.Core.Path.{_≡_, refl, sym, _∙_, ap, subst}
 use mathlib.Core.Bool.{Bool, true, false, _||_}
 use mathlib.Core.List.{List}
@@ -16,7 +16,7 @@ use Rattle.flow_def.proofs.Integers.{up, dn}
 use Rattle.flow_def.specs.Certificate.{weightOf}
 use Rattle.solve_def.specs.Held.{readingOf, lowOf, highOf, Held, HeldAt, AllHeld, AllInside}
 use Rattle.solve_def.specs.Slack.{slackBy}
-use Rattle.solve_def.specs.Push.{movedOf, otherEnd, pushed}
+use Rattle.solve_def.specs.Augment.{movedOf, otherEnd, augmented}
 use Rattle.solve_def.proofs.Amounts.{net, net-set, get-set}
 use Rattle.solve_def.proofs.Bounds.{Open, slack-open, open-of}
 
@@ -46,8 +46,8 @@ pub record Link (ss : List Stream) (xs ps : List ℕ) (d root : ℕ) (via ends :
       ≡ 0
   pub room : d ≤ getD xs (getD via k 0) 0
 
--- What the push of d from c back to the root leaves.
-pub record Pushed (ss : List Stream) (xs ys ps : List ℕ) (d c root : ℕ) (via : List ℕ) (j : ℕ) : Type 0 where
+-- What the augmentation of d from c back to the root leaves.
+pub record Augmented (ss : List Stream) (xs ys ps : List ℕ) (d c root : ℕ) (via : List ℕ) (j : ℕ) : Type 0 where
   pub long : length ys ≡ length xs
   pub held : AllHeld ss ys ps d
   pub nets : (u : ℕ) → up (net ss ys u) + dn (net ss xs u) + pick (eqb root u) d 0 ≡ up (net ss xs u) + dn (net ss ys u) + pick (eqb c u) d 0
@@ -128,11 +128,11 @@ module _ (ss : List Stream) (ps : List ℕ) (d root : ℕ) (via ends : List ℕ)
   -- The law for the first j remembered streams.
   Rec : ℕ → Type 0
   Rec j = (c : ℕ) (xs : List ℕ) → length ss ≤ length xs → AllHeld ss xs ps d → ((k : ℕ) → k < j → Link ss xs ps d root via ends k)
-      → reached root ends j c ≡ true → Pushed ss xs (pushed ss via ends d j c xs) ps d c root via j
+      → reached root ends j c ≡ true → Augmented ss xs (augmented ss via ends d j c xs) ps d c root via j
 
   -- The last of them leads to the place, or it does not.
   hit : (j : ℕ) → Rec j → (xs : List ℕ) → length ss ≤ length xs → AllHeld ss xs ps d → ((k : ℕ) → k < suc j → Link ss xs ps d root via ends k)
-      → Pushed ss xs (pushed ss via ends d j (otherEnd (streamAt ss (getD via j 0)) (getD ends j 0))
+      → Augmented ss xs (augmented ss via ends d j (otherEnd (streamAt ss (getD via j 0)) (getD ends j 0))
       (set xs (getD via j 0) (movedOf (streamAt ss (getD via j 0)) (getD xs (getD via j 0) 0) (getD ends j 0) d))) ps d (getD ends j 0) root via (suc j)
   unfolding Rec
   hit j rec xs long held links = record {
@@ -186,11 +186,11 @@ module _ (ss : List Stream) (ps : List ℕ) (d root : ℕ) (via ends : List ℕ)
       links′ : (k : ℕ) → k < j → Link ss zs ps d root via ends k
       links′ k l = link-kept xs zs k (else (getD via k 0) (ne-eqb i (getD via k 0) (λ q. apart xs k j l (links k (omega arith)) g (sym q)))) (links k (omega arith))
 
-      r : Pushed ss zs (pushed ss via ends d j (otherEnd s e) zs) ps d (otherEnd s e) root via j
+      r : Augmented ss zs (augmented ss via ends d j (otherEnd s e) zs) ps d (otherEnd s e) root via j
       r = rec (otherEnd s e) zs (rw (length-set xs i y) long) held′ links′ (g .joins)
 
       ys : List ℕ
-      ys = pushed ss via ends d j (otherEnd s e) zs
+      ys = augmented ss via ends d j (otherEnd s e) zs
 
       kept : (k : ℕ) → eqb i k ≡ true → getD ys k 0 ≡ y
       kept k t = let q : i ≡ k = eqb-true i k t in r .off k (λ m l o. apart xs m j l (links m (omega arith)) g (o ∙ sym q)) ∙ here k t
@@ -210,21 +210,21 @@ module _ (ss : List Stream) (ps : List ℕ) (d root : ℕ) (via ends : List ℕ)
       nets u = omega (arith, r .nets u, step u)
 
   miss : (j : ℕ) → Rec j → (c : ℕ) (xs : List ℕ) → length ss ≤ length xs → AllHeld ss xs ps d → ((k : ℕ) → k < suc j → Link ss xs ps d root via ends k)
-      → reached root ends j c ≡ true → Pushed ss xs (pushed ss via ends d j c xs) ps d c root via (suc j)
+      → reached root ends j c ≡ true → Augmented ss xs (augmented ss via ends d j c xs) ps d c root via (suc j)
   unfolding Rec
   miss j rec c xs long held links h = let r = rec c xs long held (λ k l. links k (omega arith)) h in
       record { long = r .long; held = r .held; nets = r .nets; most = r .most; least = r .least; off = λ k n. r .off k (λ m l. n m (omega arith)); inside = r .inside }
 
-  -- What the push from c back to the root leaves.
-  pub push-good : (j c : ℕ) (xs : List ℕ) → length ss ≤ length xs → AllHeld ss xs ps d → ((k : ℕ) → k < j → Link ss xs ps d root via ends k)
-      → reached root ends j c ≡ true → Pushed ss xs (pushed ss via ends d j c xs) ps d c root via j
-  unfolding pushed Rec
-  push-good zero c xs long held links h =
+  -- What the augmentation from c back to the root leaves.
+  pub augment-good : (j c : ℕ) (xs : List ℕ) → length ss ≤ length xs → AllHeld ss xs ps d → ((k : ℕ) → k < j → Link ss xs ps d root via ends k)
+      → reached root ends j c ≡ true → Augmented ss xs (augmented ss via ends d j c xs) ps d c root via j
+  unfolding augmented Rec
+  augment-good zero c xs long held links h =
       record { long = refl; held = held; nets = λ u. let q : root ≡ c = eqb-true root c h in rw q; most = λ k. omega arith; least = λ k. omega arith; off = λ k n. refl; inside = λ r. r }
-  push-good (suc j) c xs long held links h = go (eqb (getD ends j 0) c) refl (push-good j) h
+  augment-good (suc j) c xs long held links h = go (eqb (getD ends j 0) c) refl (augment-good j) h
     where
       go : (b : Bool) → eqb (getD ends j 0) c ≡ b → Rec j → b || reached root ends j c ≡ true
-          → Pushed ss xs (pick b (pushed ss via ends d j (otherEnd (streamAt ss (getD via j 0)) c)
-          (set xs (getD via j 0) (movedOf (streamAt ss (getD via j 0)) (getD xs (getD via j 0) 0) c d))) (pushed ss via ends d j c xs)) ps d c root via (suc j)
+          → Augmented ss xs (pick b (augmented ss via ends d j (otherEnd (streamAt ss (getD via j 0)) c)
+          (set xs (getD via j 0) (movedOf (streamAt ss (getD via j 0)) (getD xs (getD via j 0) 0) c d))) (augmented ss via ends d j c xs)) ps d c root via (suc j)
       go true e rec h = let q : getD ends j 0 ≡ c = eqb-true (getD ends j 0) c e in rw (← q) (hit j rec xs long held links)
       go false e rec h = miss j rec c xs long held links h
