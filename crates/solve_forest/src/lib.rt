@@ -11,13 +11,15 @@ use solve_def::sizes::NET_SHIFT;
 use std::num::wrapping_add_u64;
 use std::num::wrapping_sub_u64;
 ghost use mathlib.Core.Path.{_≡_};
+ghost use mathlib.Core.Bool.{false, not};
 ghost use mathlib.Core.List.{List};
 ghost use Prim.Native.Nat.{ℕ, _<_};
-ghost use lib.ListN.{length, take};
+ghost use lib.ListN.{length, getD, take};
 ghost use Rattle.plant_def.specs.declared.Stream.{Stream};
-ghost use Rattle.plant_def.specs.Limits.{places};
+ghost use Rattle.plant_def.specs.Limits.{maxUnits, places};
 ghost use Rattle.solve_arcs.specs.ArcNeeds.{Laying};
 ghost use Rattle.solve_forest.specs.Forests.{Spanning, Unmetered, Listed, Routable};
+ghost use Rattle.solve_def.specs.Counts.{countTo};
 ghost use Rattle.solve_def.specs.SearchNeeds.{Close};
 ghost use Rattle.solve_def.specs.Sizes.{hintRoom};
 ghost use Rattle.solve_forest.specs.Routes.{Routes, Kept, Routing};
@@ -116,6 +118,7 @@ fn pass(
 // How many places are not reached.
 fn unreached(reached: &[bool; PLACES]) -> usize
     requires { ⌜ length (now reached) ≡ places ⌝ }
+    ensures { λ r. ⌜ r ≡ countTo maxUnits (λ u. not (getD (now (reached .entry)) u false)) ⌝ }
 {
     let mut c: usize = 0;
     let mut u: usize = 0;

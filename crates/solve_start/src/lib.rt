@@ -1,5 +1,5 @@
-// The start by factorisation: metered amounts settled at potentials at which the real-number optimum balances, and unmetered amounts
-// routed along a spanning forest.
+// The start by factorisation: metered amounts settled at potentials at which the real-number optimum balances, unmetered ones routed
+// along a spanning forest.
 use newton_descend::potentials_of;
 use plant_def::Plant;
 use plant_def::limits::MAX_STREAMS;
@@ -25,7 +25,14 @@ pub fn start(p: Plant, labels: [u8; PLACES], arcs: &[u8; ARCS], rows: &[u64; ROW
     requires { ⌜ Accepted p × Grouped p labels × Laid (p .streams) (p .count) (now arcs) (now rows) ⌝ }
     ensures { λ r. ⌜ AtHint (plantOf p .streams) r ⌝ }
 {
-    let potentials = potentials_of(p, labels, POTENTIAL_SHIFT, POTENTIAL_SPREAD);
+    let potentials = potentials_of(
+        p.units,
+        labels,
+        arcs,
+        rows,
+        POTENTIAL_SHIFT,
+        POTENTIAL_SPREAD,
+    );
     let mut flows = [FLOW_SHIFT; MAX_STREAMS];
     settle_flows(arcs, rows, &potentials, &mut flows);
     let mut given = nets_of(arcs, &flows);
