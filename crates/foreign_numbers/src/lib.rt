@@ -97,7 +97,7 @@ pub fn place_numbers(file: &[u8]) -> PlaceNumbers
     let mut rows = [0u64; ROWS];
     lay(streams, count, &mut arcs, &mut rows);
     let labels = flow_components::group(&arcs, &rows, Which::Unmetered);
-    let solved = solve_call::solve(plant, labels);
+    let solved = solve_call::solve(plant, labels, &arcs, &rows);
     numbers_by(plant, solved)
 }
 

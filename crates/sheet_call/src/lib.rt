@@ -55,7 +55,7 @@ pub fn balance_of(p: Plant) -> Outcome
     lay(streams, count, &mut arcs, &mut rows);
     let cuts = flow_bridges::cuts_of(&arcs, &rows);
     let labels = cuts.labels;
-    let solved = solve_call::solve(p, labels);
+    let solved = solve_call::solve(p, labels, &arcs, &rows);
     let marked = solved.marked;
     if !solved.found {
         return overfilled(marked);

@@ -31,7 +31,7 @@ pub fn visits_of(file: &[u8]) -> Visits
     lay(streams, count, &mut arcs, &mut rows);
     let cuts = flow_bridges::cuts_of(&arcs, &rows);
     let labels = cuts.labels;
-    let solved = solve_call::solve(plant, labels);
+    let solved = solve_call::solve(plant, labels, &arcs, &rows);
     if !solved.found {
         return refused(19);
     }

@@ -53,16 +53,17 @@ group-requires c κs =
 
 solve-requires : tie.Need-solve-requires
 solve-requires c κs =
-    let f = laid c in
+    let g = c .before .before in
+    let f = laid g in
     let e = read (f .before) in
-    (able e, c .group .ensures (e .before .read-plant .result .plant) (record { accepted = able e; laid = f .lay .ensures }))
+    (able e, g .group .ensures (e .before .read-plant .result .plant) (record { accepted = able e; laid = f .lay .ensures }), f .lay .ensures)
 
 numbers-by-requires : tie.Need-numbers-by-requires
-numbers-by-requires c κs = (able (read (laid (c .before) .before)), c .solve .ensures)
+numbers-by-requires c κs = (able (read (laid (c .before .before .before) .before)), c .solve .ensures)
 
 returns-2 : tie.Need-returns-2
 returns-2 c =
-    let e = read (laid (c .before .before) .before) in
+    let e = read (laid (c .before .before .before .before) .before) in
     let y = e .before in
     says-numbers (now (y .before .before .args .file)) (y .read-plant .result) (read-in y) (c .numbers-by .result) (e .if1 .left) (c .numbers-by .ensures)
 

@@ -28,7 +28,7 @@ abbrev laid : tie.After-cuts-of → tie.After-lay
 laid c = c .before .before .before
 
 abbrev cut : tie.After-solve → tie.After-cuts-of
-cut c = c .before .before
+cut c = c .before .before .before .before
 
 cast-count : tie.Need-cast-count
 cast-count c = search needs
@@ -48,9 +48,9 @@ cuts-of-requires c κs =
 
 solve-requires : tie.Need-solve-requires
 solve-requires c κs =
-    let k = c .before in
+    let k = c .before .before .before in
     let f = laid k in
-    (begin f .pre, k .cuts-of .ensures (begin f .args .p) (record { accepted = begin f .pre; laid = f .lay .ensures }) .grouped)
+    (begin f .pre, k .cuts-of .ensures (begin f .args .p) (record { accepted = begin f .pre; laid = f .lay .ensures }) .grouped, f .lay .ensures)
 
 overfilled-requires : tie.Need-overfilled-requires
 overfilled-requires c κs = search needs

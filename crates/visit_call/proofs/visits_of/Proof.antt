@@ -28,7 +28,7 @@ abbrev laid : tie.After-cuts-of → tie.After-lay
 laid c = c .before .before .before
 
 abbrev cut : tie.After-solve → tie.After-cuts-of
-cut c = c .before .before
+cut c = c .before .before .before .before
 
 abbrev begun : tie.After-solve → tie.After-plant
 begun c = at-plant (laid (cut c))
@@ -64,10 +64,10 @@ cuts-of-requires c κs =
 
 solve-requires : tie.Need-solve-requires
 solve-requires c κs =
-    let k = c .before in
+    let k = c .before .before .before in
     let f = laid k in
     let a = at-plant f in
-    (taken a, k .cuts-of .ensures (a .before .before .read-plant .result .plant) (record { accepted = taken a; laid = f .lay .ensures }) .grouped)
+    (taken a, k .cuts-of .ensures (a .before .before .read-plant .result .plant) (record { accepted = taken a; laid = f .lay .ensures }) .grouped, f .lay .ensures)
 
 refused-requires-2 : tie.Need-refused-requires-2
 refused-requires-2 c κs = search needs
