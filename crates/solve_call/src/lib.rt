@@ -77,16 +77,11 @@ pub fn solve_from(p: Plant, h: Hint) -> Solved
     solve_at(p, &arcs, &rows, st)
 }
 
-// The same of a plant whose labels by the unmetered streams are handed in.
-pub fn solve(p: Plant, labels: [u8; PLACES]) -> Solved
-    requires { ⌜ Accepted p × Grouped p labels ⌝ }
+// The same of a plant whose arcs and rows are laid, and whose labels by the unmetered streams are handed in.
+pub fn solve(p: Plant, labels: [u8; PLACES], arcs: &[u8; ARCS], rows: &[u64; ROWS]) -> Solved
+    requires { ⌜ Accepted p × Grouped p labels × Laid (p .streams) (p .count) (now arcs) (now rows) ⌝ }
     ensures { λ r. ⌜ Right p r × (r .made ≤ mostMade) ⌝ }
 {
-    let streams = p.streams;
-    let count = p.count as usize;
-    let mut arcs = [NONE as u8; ARCS];
-    let mut rows = [0u64; ROWS];
-    lay(streams, count, &mut arcs, &mut rows);
-    let begun = start(p, labels, &arcs, &rows);
-    solve_at(p, &arcs, &rows, begun)
+    let begun = start(p, labels, arcs, rows);
+    solve_at(p, arcs, rows, begun)
 }
