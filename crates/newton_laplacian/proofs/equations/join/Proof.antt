@@ -49,10 +49,10 @@ in-range-requires : tie.Need-in-range-requires
 in-range-requires c κs = search needs
 
 between-requires : tie.Need-between-requires
-between-requires c κs = both (c .before .before .before .before .before .before .before)
+between-requires c κs = let x = c .before .before .before in both (x .before .before .before .before)
 
 between-requires-2 : tie.Need-between-requires-2
-between-requires-2 c κs = both (c .before .before .before .before .before .before .before)
+between-requires-2 c κs = let x = c .before .before .before in both (x .before .before .before .before)
 
 same-length : tie.Need-same-length
 same-length c = search needs

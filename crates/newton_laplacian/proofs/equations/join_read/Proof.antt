@@ -58,7 +58,8 @@ wide-requires-2 c κs = search needs
 
 between-requires : tie.Need-between-requires
 between-requires c κs =
-    let two = c .before .before .before .before .before .before .before .before in
+    let on = c .before .before .before .before .before in
+    let two = on .before .before .before in
     let st = two .before .before .before in
     let p = st .pre .0 .1 in
     let fits = st .pre .0 .2 in
