@@ -44,7 +44,8 @@ pub fn class_of(
 // The number of groups of a plant with so many units less the number of connected pieces.
 pub fn degrees_of(arcs: &[u8; ARCS], rows: &[u64; ROWS], units: u8, labels: [u8; PLACES]) -> u8
     requires { ⌜ ((p : Plant) × LaidOf p (now arcs) (now rows) × (p .units ≡ units) × Grouped p labels) ⌝ }
-    ensures { λ r. ⌜ ((p : Plant) → LaidOf p (now (arcs .entry)) (now (rows .entry)) → p .units ≡ units → Grouped p labels → r ≡ degrees (plantOf p)) × (r ≤ maxUnits) ⌝ }
+    ensures { λ r. ⌜ ((p : Plant) → LaidOf p (now (arcs .entry)) (now (rows .entry)) → p .units ≡ units → Grouped p labels
+        → r ≡ degrees (plantOf p)) × (r ≤ maxUnits) ⌝ }
 {
     let count = flow_components::own_labels(labels, units);
     let all = flow_components::group(arcs, rows, Which::Every);

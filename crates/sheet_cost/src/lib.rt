@@ -101,7 +101,8 @@ fn row_cost(w: u64, pull: u64, x: u64) -> u64
 // The cost of amounts that the solver holds, as it is written.
 pub fn cost_held(arcs: &[u8; ARCS], rows: &[u64; ROWS], flows: &[u64; MAX_STREAMS]) -> u64
     requires { ⌜ ((p : Plant) × LaidOf p (now arcs) (now rows)) × Amounts (now flows) × (length (now flows) ≡ maxStreams) ⌝ }
-    ensures { λ r. ⌜ ((p : Plant) → LaidOf p (now (arcs .entry)) (now (rows .entry)) → r ≡ capped (cost (plantOf p .streams) (opened (p .count) (now (flows .entry))))) ⌝ }
+    ensures { λ r. ⌜ ((p : Plant) → LaidOf p (now (arcs .entry)) (now (rows .entry))
+        → r ≡ capped (cost (plantOf p .streams) (opened (p .count) (now (flows .entry))))) ⌝ }
 {
     let n = count_of(arcs);
     let mut sum: u64 = 0;

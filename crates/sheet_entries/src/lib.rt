@@ -103,7 +103,9 @@ pub struct Entered {
 // The entries of all streams with the amounts that the solver holds; past the last one, where the class is Withheld, empty ones.
 fn enter(arcs: &[u8; ARCS], rows: &[u64; ROWS], cuts: Cuts, held: &[u64; MAX_STREAMS]) -> Entered
     requires { ⌜ ((p : Plant) × LaidOf p (now arcs) (now rows) × Cutting p cuts) × Amounts (now held) × (length (now held) ≡ maxStreams) ⌝ }
-    ensures { λ r. ⌜ ((p : Plant) → LaidOf p (now (arcs .entry)) (now (rows .entry)) → Cutting p cuts → (r .streams ≡ entriesOf (classesOf (plantOf p)) (map unshifted (now (held .entry)))) × (r .weights ≡ adjusted (plantOf p))) × (r .weights ≤ topCost) ⌝ }
+    ensures { λ r. ⌜ ((p : Plant) → LaidOf p (now (arcs .entry)) (now (rows .entry)) → Cutting p cuts
+        → (r .streams ≡ entriesOf (classesOf (plantOf p)) (map unshifted (now (held .entry)))) × (r .weights ≡ adjusted (plantOf p)))
+        × (r .weights ≤ topCost) ⌝ }
 {
     let n = count_of(arcs);
     let labels = cuts.labels;

@@ -23,7 +23,8 @@ returns-2 : tie.Need-returns-2
 returns-2 c = λ s r.
     let st = c .before .before .before .before .before in
     let a = st .args in
-    c .turn .ensures ∙ part-by (now (a .labels)) (now (a .sides)) s (a .h) _ _ (c .before .before .before .before .if1 .left) (c .before .before .way-between .ensures s r) (shifted (a .h) (st .pre .4))
+    c .turn .ensures ∙ part-by (now (a .labels)) (now (a .sides)) s (a .h) _ _ (c .before .before .before .before .if1 .left)
+    (c .before .before .way-between .ensures s r) (shifted (a .h) (st .pre .4))
 
 pub part-spec : {M : Type 1} → statement M
 part-spec = tie.close (tie.spec returns way-between-requires shl-turn turn-requires returns-2)

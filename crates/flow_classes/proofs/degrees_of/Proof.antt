@@ -26,7 +26,8 @@ own-labels-requires-2 : tie.Need-own-labels-requires-2
 own-labels-requires-2 c κs = let o = c .before .before .pre in rw (← o .2) (o .1 .accepted .within .few-units)
 
 -- The groups and the pieces of a plant that was laid, by the labels of each.
-module _ (c : tie.After-own-labels2) (p : Plant) (w : LaidOf p (c .before .before .before .args .arcs .now) (c .before .before .before .args .rows .now)) (e : p .units ≡ c .before .before .before .args .units) where
+module _ (c : tie.After-own-labels2) (p : Plant) (w : LaidOf p (c .before .before .before .args .arcs .now) (c .before .before .before .args .rows .now))
+    (e : p .units ≡ c .before .before .before .args .units) where
   groups-are : Grouped p (c .before .before .before .args .labels) → c .before .before .own-labels .result ≡ ownLabels (labelsOf unmeteredOnly (plantOf p)) (p .units)
   groups-are g = c .before .before .own-labels .ensures ∙ (λ i. ownLabels (labels-are p (w .accepted) unmeteredOnly _ g i) (sym e i))
 

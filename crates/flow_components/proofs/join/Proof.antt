@@ -32,7 +32,8 @@ rename-requires c κs = search needs
 
 returns-3 : tie.Need-returns-3
 returns-3 c = λ s e f.
-    let a = c .before .before .before .before .before .before .before .args in
+    let m = c .before .before .before in
+    let a = m .before .before .before .before .args in
     let counts = not-false (a .counts) (c .before .before .before .before .before .before .if1 .left) in
     step-says (a .counts) s (now (a .labels)) _
     (rw (e, f) (c .rename .ensures ∙ stepped-up (a .counts) (unmetered (a .u) (a .v)) (now (a .labels)) counts (c .before .before .if3 .taken)))
@@ -42,7 +43,8 @@ rename-requires-2 c κs = search needs
 
 returns-4 : tie.Need-returns-4
 returns-4 c = λ s e f.
-    let a = c .before .before .before .before .before .before .before .args in
+    let m = c .before .before .before in
+    let a = m .before .before .before .before .args in
     let counts = not-false (a .counts) (c .before .before .before .before .before .before .if1 .left) in
     step-says (a .counts) s (now (a .labels)) _
     (rw (e, f) (c .rename2 .ensures ∙ stepped-down (a .counts) (unmetered (a .u) (a .v)) (now (a .labels)) counts (le-of-lt (c .before .before .if3 .left))))

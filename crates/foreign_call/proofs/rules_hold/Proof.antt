@@ -115,7 +115,8 @@ returns-5 c =
 
 total-fits-requires : tie.Need-total-fits-requires
 total-fits-requires c κs =
-    let recorded-here = c .before .before .before .before .before .before .before .before in
+    let half = c .before .before .before .before in
+    let recorded-here = half .before .before .before .before in
     let s = recorded-here .before .before in
     let k = cut s in
     let f = laid k in

@@ -42,11 +42,13 @@ verdict-requires c κs = search needs
 
 returns-3 : tie.Need-returns-3
 returns-3 c =
-    let st = c .before .before .before .before .before .before .before .before .before in
-    let d = c .before .before .before .before .before .before .before .before .degrees-of in
+    let tested = c .before .before .before .before .before .before in
+    let st = tested .before .before .before in
+    let d = tested .before .before .degrees-of in
     let s = c .before .before .before .before .before .cost-of in
     let w = c .before .before .adjusted-weights in
-    R.by-verdict (plantOf (st .args .p)) (costing st) (st .args .total) (d .result) (d .ensures .0 (st .args .p) (st .pre .0) refl (st .pre .1)) (c .before .before .before .before .before .before .if1 .left)
+    R.by-verdict (plantOf (st .args .p)) (costing st) (st .args .total) (d .result) (d .ensures .0 (st .args .p) (st .pre .0) refl (st .pre .1))
+    (tested .if1 .left)
     (s .result) (s .ensures) (c .before .before .before .if2 .left)
     (w .result) (c .before .verdict .result) (w .ensures) (omega arith) (c .before .verdict .ensures)
 

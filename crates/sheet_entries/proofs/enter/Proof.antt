@@ -123,7 +123,10 @@ element-copy-out-opened-flow : tie.Need-element-copy-out-opened-flow Inv-loop μ
 element-copy-out-opened-flow c = low (c .before .before .before .before .before .before)
 
 opened-flow-requires : tie.Need-opened-flow-requires Inv-loop μ-loop
-opened-flow-requires c κs = let on = c .before .before .before .before .before .before .before in begin on .pre .1 _ (low on)
+opened-flow-requires c κs =
+    let weighed = c .before .before .before in
+    let on = weighed .before .before .before .before in
+    begin on .pre .1 _ (low on)
 
 entry-of-requires : tie.Need-entry-of-requires Inv-loop μ-loop
 entry-of-requires c κs = search needs
@@ -150,7 +153,8 @@ module _ (c : tie.After-class-of Inv-loop μ-loop) where
 
   module _ (p : Plant) (w : Of turn p) (q : Cutting p (begin turn .args .cuts)) where
     in-class : c .class-of .result
-        ≡ classIn (begin turn .args .cuts .labels) (getD (p .streams) (turn .before .loop .i) noStream) (getD (begin turn .args .cuts .taken) (turn .before .loop .i) 0) (begin turn .args .cuts .looped)
+        ≡ classIn (begin turn .args .cuts .labels) (getD (p .streams) (turn .before .loop .i) noStream)
+    (getD (begin turn .args .cuts .taken) (turn .before .loop .i) 0) (begin turn .args .cuts .looped)
     in-class =
         let l = used turn p w in
         c .class-of .ensures (getD (p .streams) (turn .before .loop .i) noStream) (metered-at w _ l) (sym (ends .before .end-at .ensures ∙ from-at w _ l)) (sym (ends .end-at2 .ensures ∙ to-at w _ l))
@@ -172,7 +176,8 @@ loop-again c =
           let l = used on p w in
           let s = getD (p .streams) (at .i) noStream in
           let class = is-class classed p w q in
-          let weight = weight-by (st .args .cuts .labels) s (getD (st .args .cuts .taken) (at .i) 0) (st .args .cuts .looped) _ _ _ (in-class classed p w q) (weight-at w _ l) (weighed .adjusted-weight .ensures .0)
+          let weight = weight-by (st .args .cuts .labels) s (getD (st .args .cuts .taken) (at .i) 0) (st .args .cuts .looped) _ _ _ (in-class classed p w q)
+          (weight-at w _ l) (weighed .adjusted-weight .ensures .0)
           ∙ ap (λ (k : Class). adjustedWeight k s) class in (
             written-put (at .inv .1 p w q .0) (low on) _ (c .entry-of .ensures ∙ (λ i. entryOf (class i) (flow i))),
             weighed-more (w .accepted) (at .inv .1 p w q .1) l _ weight (omega (arith, weighed .adjusted-weight .ensures .1, light on)),
