@@ -154,7 +154,7 @@ module _ (c : tie.After-class-of Inv-loop μ-loop) where
   module _ (p : Plant) (w : Of turn p) (q : Cutting p (begin turn .args .cuts)) where
     in-class : c .class-of .result
         ≡ classIn (begin turn .args .cuts .labels) (getD (p .streams) (turn .before .loop .i) noStream)
-    (getD (begin turn .args .cuts .taken) (turn .before .loop .i) 0) (begin turn .args .cuts .looped)
+        (getD (begin turn .args .cuts .taken) (turn .before .loop .i) 0) (begin turn .args .cuts .looped)
     in-class =
         let l = used turn p w in
         c .class-of .ensures (getD (p .streams) (turn .before .loop .i) noStream) (metered-at w _ l) (sym (ends .before .end-at .ensures ∙ from-at w _ l)) (sym (ends .end-at2 .ensures ∙ to-at w _ l))
