@@ -108,8 +108,8 @@ pub fn cost_held(arcs: &[u8; ARCS], rows: &[u64; ROWS], flows: &[u64; MAX_STREAM
     let mut sum: u64 = 0;
     let mut i: usize = 0;
     while i < n {
-        let more = row_cost(rows[4 * i], rows[4 * i + 1], flows[i]);
-        sum = capped_sum(sum, more);
+        let cost = row_cost(rows[4 * i], rows[4 * i + 1], flows[i]);
+        sum = capped_sum(sum, cost);
         i += 1;
     }
     sum

@@ -18,7 +18,6 @@ use solve_arcs::end_at;
 use solve_def::Solved;
 use solve_def::sizes::FLOW_SHIFT;
 ghost use mathlib.Core.Path.{_≡_};
-ghost use mathlib.Core.List.{map};
 ghost use Prim.Native.Nat.{_≤_};
 ghost use lib.ListN.{length};
 ghost use Rattle.plant_def.specs.declared.Plant.{Plant};
@@ -26,7 +25,6 @@ ghost use Rattle.plant_def.specs.Limits.{maxStreams};
 ghost use Rattle.plant_def.specs.Within.{Accepted};
 ghost use Rattle.plant_def.specs.Says.{plantOf};
 ghost use Rattle.flow_def.specs.Calls.{Cutting, classesOf};
-ghost use Rattle.flow_def.specs.Shown.{adjusted};
 ghost use Rattle.solve_def.specs.Sizes.{mostFlow};
 ghost use Rattle.solve_def.specs.Held.{unshifted};
 ghost use Rattle.solve_def.specs.SolverNeeds.{Amounts};
@@ -34,7 +32,7 @@ ghost use Rattle.solve_def.specs.Promise.{Solution};
 ghost use Rattle.solve_arcs_fill.specs.Plants.{LaidOf};
 ghost use Rattle.sheet_def.specs.Apart.{topCost};
 ghost use Rattle.sheet_def.specs.Balances.{entryOf, BalanceSays};
-ghost use Rattle.sheet_def.specs.Calls.{entriesOf};
+ghost use Rattle.sheet_entries.specs.Entries.{EntersAs};
 
 // The flow that the solver holds as x.
 fn opened_flow(x: u64) -> i64
@@ -104,8 +102,7 @@ pub struct Entered {
 fn enter(arcs: &[u8; ARCS], rows: &[u64; ROWS], cuts: Cuts, held: &[u64; MAX_STREAMS]) -> Entered
     requires { ⌜ ((p : Plant) × LaidOf p (now arcs) (now rows) × Cutting p cuts) × Amounts (now held) × (length (now held) ≡ maxStreams) ⌝ }
     ensures { λ r. ⌜ ((p : Plant) → LaidOf p (now (arcs .entry)) (now (rows .entry)) → Cutting p cuts
-        → (r .streams ≡ entriesOf (classesOf (plantOf p)) (map unshifted (now (held .entry)))) × (r .weights ≡ adjusted (plantOf p)))
-        × (r .weights ≤ topCost) ⌝ }
+        → EntersAs p (now (held .entry)) (r .streams) (r .weights)) × (r .weights ≤ topCost) ⌝ }
 {
     let n = count_of(arcs);
     let labels = cuts.labels;
