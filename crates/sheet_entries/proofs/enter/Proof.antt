@@ -1,10 +1,10 @@
 -- After i turns the first i entries are written, and the weights of the first i streams summed up.
 use borrow.Author.Needs.{needs}
 use native.Mathlib.Omega.{arith}
-use mathlib.Core.Path.{_≡_, refl, sym, ap, _∙_}
+use mathlib.Core.Path.{_≡_, refl, sym, ap, subst, _∙_}
 use lib.IntN.{ℤ, pos}
-use Prim.Native.Nat.{_≤_, _<_, _-_, _*_}
-use lib.ListN.{getD, length-replicate}
+use Prim.Native.Nat.{ℕ, _≤_, _<_, _-_, _*_}
+use lib.ListN.{getD, replicate, length-replicate}
 use mir.Syntax.{w64}
 use mir.Val.{toZ, ofZ}
 use mir.Facts.{toZ-ofZ}
@@ -43,13 +43,13 @@ abbrev μ-loop : tie.MeasureT-loop
 
 -- The start, from a turn of the loop; the stream is in use, by any plant that was laid.
 abbrev begin : tie.In-loop Inv-loop μ-loop → tie.Start Inv-loop μ-loop
-begin c = c .before .before .before .before .before
+begin c = c .before .before .before .before .before .before
 
 abbrev Of : tie.In-loop Inv-loop μ-loop → Plant → Type 0
 Of c p = LaidOf p (begin c .args .arcs .now) (begin c .args .rows .now)
 
 used : (c : tie.In-loop Inv-loop μ-loop) (p : Plant) → Of c p → c .before .loop .i < p .count
-used c p w = rw (← counted w, ← c .before .before .before .before .count-of .ensures) (c .loop-test .taken)
+used c p w = rw (← counted w, ← c .before .before .before .before .before .count-of .ensures) (c .loop-test .taken)
 
 low : (c : tie.In-loop Inv-loop μ-loop) → c .before .loop .i < 96
 low c = let w = begin c .pre .0 in few (w .1) _ (used c (w .0) (w .1))
@@ -66,7 +66,7 @@ count-of-requires : tie.Need-count-of-requires Inv-loop μ-loop
 count-of-requires c κs = search needs
 
 loop-holds : tie.Need-loop-holds Inv-loop μ-loop
-loop-holds c = (omega arith, λ p w q. (written-none (length-replicate {A = Entry} maxStreams (entryOf Withheld (pos 0))), weighed-none p))
+loop-holds c = (omega arith, λ p w q. (written-none (length-replicate {A = Entry} maxStreams (c .blank-entry .result)), weighed-none p))
 
 mul-w : tie.Need-mul-w Inv-loop μ-loop
 mul-w c = omega (arith, low c)
@@ -187,13 +187,18 @@ loop-again c =
 returns : tie.Need-returns Inv-loop μ-loop
 returns c =
     let at = c .before .loop in
-    let st = c .before .before .before .before .before in
+    let none = c .before .before in
+    let counting = none .before .before .before in
+    let st = counting .before in
     let o = st .pre .0 in
     let most = at .inv .1 (o .0) (o .1) (o .2) .1 in (
       λ p w q.
-          let e : at .i ≡ p .count = omega (arith, counted w, c .before .before .before .before .count-of .ensures, c .loop-test .left) in
-          let v = at .inv .1 p w q in (
-            entries-all (plantOf p) (at .i) (st .args .held .now) _ (all-listed p (w .accepted) ∙ sym e) (omega (arith, w .accepted .within .few-streams)) (st .pre .2) (v .0),
+          let e : at .i ≡ p .count = omega (arith, counted w, counting .count-of .ensures, c .loop-test .left) in
+          let v = at .inv .1 p w q in
+          let put : ℕ → Entry → Entry = λ k e. entryOf (classOf (plantOf p) k) (unshifted (getD (st .args .held .now) k 0)) in
+          let blank-past =
+          subst (λ (x : Entry). Written noEntry maxStreams put (replicate maxStreams x) (at .streams) (at .i)) (none .blank-entry .ensures) (v .0) in (
+            entries-all (plantOf p) (at .i) (st .args .held .now) _ (all-listed p (w .accepted) ∙ sym e) (omega (arith, w .accepted .within .few-streams)) (st .pre .2) blank-past,
             weighed-all (w .accepted) (v .1) (omega arith),
           ),
       omega (arith, most .most, most .within, o .1 .accepted .within .few-streams),
@@ -206,6 +211,7 @@ enter-spec =
     Inv-loop
     μ-loop
     count-of-requires
+    (λ c κs. search needs)
     loop-holds
     mul-w
     mul-w-2
