@@ -7,21 +7,21 @@ use native.Mathlib.Omega.{arith}
 use lib.ListN.{length, take}
 use Rattle.num_bytes.specs.Bytes.{over}
 use Rattle.plant_def.specs.Limits.{maxStreams}
+use Rattle.num_lent.specs.Lending.{Lending}
 use Rattle.num_lent.proofs.Rooms.{by-room}
 use Rattle.charge_def.specs.declared.Charges.{Charges}
-use Rattle.charge_def.specs.Says.{noCharges, ChargesSays}
 use Rattle.charge_def.proofs.Promise.{steam-charges, charges-few}
 use Rattle.charge_call.specs.Lent.{LentSays, One-hand-over}
 
 -- What the call says, by the two lengths.
-module _ {file rates : List ℕ} {m n : ℕ} {r : Charges} where
-  pub numbers-short : m < maxStreams → r ≡ noCharges 1 → LentSays file rates m n r
+module _ {R : Type 0} {one : R} {Says : R → Type 0} {m n : ℕ} {r : R} where
+  pub numbers-short : m < maxStreams → r ≡ one → Lending one Says m n r
   numbers-short h e = record { short = λ s. e; enough = λ a b. absurd (omega arith) }
 
-  pub cents-short : n < maxStreams → r ≡ noCharges 1 → LentSays file rates m n r
+  pub cents-short : n < maxStreams → r ≡ one → Lending one Says m n r
   cents-short h e = record { short = λ s. e; enough = λ a b. absurd (omega arith) }
 
-  pub both-long : maxStreams ≤ m → maxStreams ≤ n → ChargesSays file rates r → LentSays file rates m n r
+  pub both-long : maxStreams ≤ m → maxStreams ≤ n → Says r → Lending one Says m n r
   both-long h l v = record { short = ⊎-elim (λ (s : m < maxStreams). absurd (omega arith)) (λ (s : n < maxStreams). absurd (omega arith)); enough = λ a b. v }
 
 -- There is room: no more are charged than there may be, nor than either slice holds.

@@ -7,21 +7,21 @@ use native.Mathlib.Omega.{arith}
 use lib.ListN.{length, take}
 use Rattle.num_bytes.specs.Bytes.{over}
 use Rattle.plant_def.specs.Limits.{maxStreams}
+use Rattle.num_lent.specs.Lending.{Lending}
 use Rattle.num_lent.proofs.Rooms.{by-room}
 use Rattle.visit_def.specs.declared.Visits.{Visits}
-use Rattle.visit_def.specs.Says.{noVisits, VisitsSays}
 use Rattle.visit_def.proofs.Promise.{meters-worth-a-visit, visits-fit}
 use Rattle.visit_call.specs.Lent.{LentSays, VisitsHandOver, One-hand-over}
 
 -- What the call says, by the two lengths.
-module _ {file : List ℕ} {m n : ℕ} {r : Visits} where
-  pub numbers-short : m < maxStreams → r ≡ noVisits 1 → LentSays file m n r
+module _ {R : Type 0} {one : R} {Says : R → Type 0} {m n : ℕ} {r : R} where
+  pub numbers-short : m < maxStreams → r ≡ one → Lending one Says m n r
   numbers-short h e = record { short = λ s. e; enough = λ a b. absurd (omega arith) }
 
-  pub costs-short : n < maxStreams → r ≡ noVisits 1 → LentSays file m n r
+  pub costs-short : n < maxStreams → r ≡ one → Lending one Says m n r
   costs-short h e = record { short = λ s. e; enough = λ a b. absurd (omega arith) }
 
-  pub both-long : maxStreams ≤ m → maxStreams ≤ n → VisitsSays file r → LentSays file m n r
+  pub both-long : maxStreams ≤ m → maxStreams ≤ n → Says r → Lending one Says m n r
   both-long h l v = record { short = ⊎-elim (λ (s : m < maxStreams). absurd (omega arith)) (λ (s : n < maxStreams). absurd (omega arith)); enough = λ a b. v }
 
 -- There is room: no more are listed than there may be, nor than either slice holds.
