@@ -2,6 +2,7 @@
 use mathlib.Core.Path.{_≡_, sym, ap, _∙_}
 use mathlib.Core.List.{List}
 use Prim.Native.Nat.{ℕ, _-_}
+use native.Mathlib.Omega.{arith}
 use Rattle.plant_def.specs.declared.Plant.{Plant}
 use Rattle.plant_def.specs.Says.{plantOf}
 use Rattle.flow_def.specs.Classes.{degrees}
@@ -17,13 +18,13 @@ use Rattle.flow_classes.proofs.degrees_of.Statement.{statement}
 use Rattle.flow_classes.proofs.degrees_of.Tie as tie
 
 own-labels-requires : tie.Need-own-labels-requires
-own-labels-requires c κs = let o = c .pre in rw (← o .2) (o .1 .accepted .within .few-units)
+own-labels-requires c κs = let o = c .pre in omega (arith, o .2, o .1 .accepted .within .few-units)
 
 group-requires : tie.Need-group-requires
 group-requires c κs = let o = c .before .pre in (o .0, o .1)
 
 own-labels-requires-2 : tie.Need-own-labels-requires-2
-own-labels-requires-2 c κs = let o = c .before .before .pre in rw (← o .2) (o .1 .accepted .within .few-units)
+own-labels-requires-2 c κs = let o = c .before .before .pre in omega (arith, o .2, o .1 .accepted .within .few-units)
 
 -- The groups and the pieces of a plant that was laid, by the labels of each.
 module _ (c : tie.After-own-labels2) (p : Plant) (w : LaidOf p (c .before .before .before .args .arcs .now) (c .before .before .before .args .rows .now))
