@@ -1,30 +1,15 @@
 -- What is handed over has room in the slices, and no choice is left.
 use mathlib.Core.Path.{_≡_, sym, _∙_, ap}
-use mathlib.Core.Logic.{⊎-elim}
 use mathlib.Core.List.{List}
-use Prim.Native.Nat.{ℕ, _≤_, _<_}
+use Prim.Native.Nat.{ℕ, _≤_}
 use native.Mathlib.Omega.{arith}
 use lib.ListN.{length, take}
 use Rattle.num_bytes.specs.Bytes.{over}
 use Rattle.plant_def.specs.Limits.{maxStreams}
 use Rattle.num_lent.proofs.Rooms.{by-room}
 use Rattle.charge_def.specs.declared.Charges.{Charges}
-use Rattle.charge_def.specs.Says.{noCharges, ChargesSays}
 use Rattle.charge_def.proofs.Promise.{steam-charges, charges-few}
 use Rattle.charge_call.specs.Lent.{LentSays, One-hand-over}
-
--- What the call says, by the two lengths.
-module _ {file rates : List ℕ} {m n : ℕ} {r : Charges} where
-  pub numbers-short : m < maxStreams → r ≡ noCharges 1 → LentSays file rates m n r
-  numbers-short h e = record { short = λ s. e; enough = λ a b. absurd (omega arith) }
-
-  -- A slice for the cents that is too short.
-  pub cents-short : n < maxStreams → r ≡ noCharges 1 → LentSays file rates m n r
-  cents-short h e = record { short = λ s. e; enough = λ a b. absurd (omega arith) }
-
-  -- Both slices are long enough: as the call.
-  pub both-long : maxStreams ≤ m → maxStreams ≤ n → ChargesSays file rates r → LentSays file rates m n r
-  both-long h l v = record { short = ⊎-elim (λ (s : m < maxStreams). absurd (omega arith)) (λ (s : n < maxStreams). absurd (omega arith)); enough = λ a b. v }
 
 -- There is room: no more are charged than there may be, nor than either slice holds.
 pub room-lent : (file rates : List ℕ) (m n : ℕ) (r : Charges) → LentSays file rates m n r → (r .count ≤ maxStreams) × (r .count ≤ m) × (r .count ≤ n)

@@ -1,33 +1,36 @@
 // The streams that join two groups, in one pass, and on which side of each a place lies.
 use flow_components;
 use flow_def::Cuts;
-use plant_def::Plant;
-use plant_def::Stream;
 use plant_def::limits::MAX_STREAMS;
 use plant_def::limits::PLACES;
+use solve_arcs::ARCS;
+use solve_arcs::ROWS;
+use solve_arcs::count_of;
+use solve_arcs::end_at;
 ghost use mathlib.Core.Path.{_≡_};
 ghost use Prim.Native.Nat.{_<_};
 ghost use lib.ListN.{length};
 ghost use lib.Bits.{bitXor};
 ghost use Rattle.num_bytes.specs.Choice.{pick};
 ghost use lib.Dec.{eqb};
-ghost use Rattle.plant_def.specs.Limits.{maxUnits, places};
-ghost use Rattle.plant_def.specs.Within.{WithinStream, Accepted};
+ghost use Rattle.plant_def.specs.declared.Plant.{Plant};
+ghost use Rattle.plant_def.specs.declared.Stream.{Stream};
+ghost use Rattle.plant_def.specs.Limits.{places};
 ghost use Rattle.flow_def.specs.Sides.{takenBy, apart, loopedBy, turned, parted};
 ghost use mathlib.Core.Bool.{not};
 ghost use Rattle.flow_def.specs.Groups.{StepSays};
 ghost use Rattle.flow_def.specs.Calls.{Cutting};
+ghost use Rattle.solve_arcs_fill.specs.Plants.{LaidOf};
+ghost use Rattle.flow_bridges.specs.Runs.{Runs};
 
-// The label that a stream takes away.
-pub fn taken_by(labels: &[u8; PLACES], s: Stream) -> u8
-    requires { ⌜ WithinStream maxUnits s × (length (now labels) ≡ places) ⌝ }
-    ensures { λ r. ⌜ r ≡ takenBy (now (labels .entry)) s ⌝ }
+// The label that a stream from place u to place v takes away.
+fn taken_by(labels: &[u8; PLACES], u: usize, v: usize, metered: bool) -> u8
+    requires { ⌜ (u < places) × (v < places) × (length (now labels) ≡ places) ⌝ }
+    ensures { λ r. ⌜ ((s : Stream) → Runs s u v → s .metered ≡ metered → r ≡ takenBy (now (labels .entry)) s) ⌝ }
 {
-    if s.metered {
+    if metered {
         return 0;
     }
-    let u = s.from as usize;
-    let v = s.to as usize;
     let a = labels[u];
     let b = labels[v];
     if a == b {
@@ -39,26 +42,24 @@ pub fn taken_by(labels: &[u8; PLACES], s: Stream) -> u8
     a
 }
 
-// The streams on the way between a stream's ends, by their bits.
-fn way_between(sides: &[u64; PLACES], s: Stream) -> u64
-    requires { ⌜ WithinStream maxUnits s × (length (now sides) ≡ places) ⌝ }
-    ensures { λ r. ⌜ r ≡ apart (now (sides .entry)) s ⌝ }
+// The streams on the way between two places, by their bits.
+fn way_between(sides: &[u64; PLACES], u: usize, v: usize) -> u64
+    requires { ⌜ (u < places) × (v < places) × (length (now sides) ≡ places) ⌝ }
+    ensures { λ r. ⌜ ((s : Stream) → Runs s u v → r ≡ apart (now (sides .entry)) s) ⌝ }
 {
-    let u = s.from as usize;
-    let v = s.to as usize;
     sides[u] ^ sides[v]
 }
 
 // The streams that lie on a loop with a stream, where it is unmetered and earlier ones join its ends.
-pub fn looped_by(labels: &[u8; PLACES], sides: &[u64; PLACES], s: Stream) -> u64
-    requires { ⌜ WithinStream maxUnits s × (length (now labels) ≡ places) × (length (now sides) ≡ places) ⌝ }
-    ensures { λ r. ⌜ r ≡ loopedBy (now (labels .entry)) (now (sides .entry)) s ⌝ }
+fn looped_by(labels: &[u8; PLACES], sides: &[u64; PLACES], u: usize, v: usize, metered: bool) -> u64
+    requires { ⌜ (u < places) × (v < places) × (length (now labels) ≡ places) × (length (now sides) ≡ places) ⌝ }
+    ensures { λ r. ⌜ ((s : Stream) → Runs s u v → s .metered ≡ metered → r ≡ loopedBy (now (labels .entry)) (now (sides .entry)) s) ⌝ }
 {
-    if s.metered {
+    if metered {
         return 0;
     }
-    if flow_components::one_label(labels, s) {
-        return way_between(sides, s);
+    if labels[u] == labels[v] {
+        return way_between(sides, u, v);
     }
     0
 }
@@ -87,46 +88,55 @@ fn turn(sides: &mut [u64; PLACES], labels: &[u8; PLACES], h: u8, by: u64)
 }
 
 // A stream takes label h away.
-pub fn part(sides: &mut [u64; PLACES], labels: &[u8; PLACES], s: Stream, h: u8)
-    requires { ⌜ WithinStream maxUnits s × (length (now sides) ≡ places) × (length (now labels) ≡ places) × (h < places) ⌝ }
-    ensures { λ _. ⌜ now (sides .exit) ≡ parted h (now (labels .entry)) s (now (sides .entry)) ⌝ }
+fn part(sides: &mut [u64; PLACES], labels: &[u8; PLACES], u: usize, v: usize, h: u8)
+    requires { ⌜ (u < places) × (v < places) × (length (now sides) ≡ places) × (length (now labels) ≡ places) × (h < places) ⌝ }
+    ensures { λ _. ⌜ ((s : Stream) → Runs s u v → now (sides .exit) ≡ parted h (now (labels .entry)) s (now (sides .entry))) ⌝ }
 {
     if h == 0 {
         return;
     }
-    let way = way_between(sides, s);
+    let way = way_between(sides, u, v);
     turn(sides, labels, h, way ^ (1u64 << h));
 }
 
 // One stream more, which takes label h away: labels and sides after it, and the bits of the streams that lie on a loop with it.
-fn pass(labels: &mut [u8; PLACES], sides: &mut [u64; PLACES], s: Stream, h: u8) -> u64
-    requires { ⌜ WithinStream maxUnits s × (length (now labels) ≡ places) × (length (now sides) ≡ places) × (h < places) ⌝ }
-    ensures { λ r. ⌜ r ≡ loopedBy (now (labels .entry)) (now (sides .entry)) s ⌝ }
-    ensures { λ r. ⌜ now (sides .exit) ≡ parted h (now (labels .entry)) s (now (sides .entry)) ⌝ }
-    ensures { λ r. ⌜ StepSays (not (s .metered)) s (now (labels .entry)) (now (labels .exit)) ⌝ }
+fn pass(
+    labels: &mut [u8; PLACES],
+    sides: &mut [u64; PLACES],
+    u: usize,
+    v: usize,
+    metered: bool,
+    h: u8,
+) -> u64
+    requires { ⌜ (u < places) × (v < places) × (length (now labels) ≡ places) × (length (now sides) ≡ places) × (h < places) ⌝ }
+    ensures { λ r. ⌜ ((s : Stream) → Runs s u v → s .metered ≡ metered → r ≡ loopedBy (now (labels .entry)) (now (sides .entry)) s) ⌝ }
+    ensures { λ r. ⌜ ((s : Stream) → Runs s u v → now (sides .exit) ≡ parted h (now (labels .entry)) s (now (sides .entry))) ⌝ }
+    ensures { λ r. ⌜ ((s : Stream) → Runs s u v → StepSays (not metered) s (now (labels .entry)) (now (labels .exit))) ⌝ }
 {
-    let looped = looped_by(labels, sides, s);
-    part(sides, labels, s, h);
-    flow_components::step(labels, s, !s.metered);
+    let looped = looped_by(labels, sides, u, v, metered);
+    part(sides, labels, u, v, h);
+    flow_components::join(labels, u, v, !metered);
     looped
 }
 
 // The labels by the unmetered streams, those that the streams take away, and the loops.
-pub fn cuts_of(p: Plant) -> Cuts
-    requires { ⌜ Accepted p ⌝ }
-    ensures { λ r. ⌜ Cutting p r ⌝ }
+pub fn cuts_of(arcs: &[u8; ARCS], rows: &[u64; ROWS]) -> Cuts
+    requires { ⌜ ((p : Plant) × LaidOf p (now arcs) (now rows)) ⌝ }
+    ensures { λ r. ⌜ ((p : Plant) → LaidOf p (now (arcs .entry)) (now (rows .entry)) → Cutting p r) ⌝ }
 {
-    let n = p.count as usize;
+    let n = count_of(arcs);
     let mut labels = flow_components::own_numbers();
     let mut sides = [0u64; PLACES];
     let mut taken = [0u8; MAX_STREAMS];
     let mut looped: u64 = 1;
     let mut i: usize = 0;
     while i < n {
-        let s = p.streams[i];
-        let h = taken_by(&labels, s);
+        let u = end_at(arcs, 2 * i);
+        let v = end_at(arcs, 2 * i + 1);
+        let metered = 0 < rows[4 * i];
+        let h = taken_by(&labels, u, v, metered);
         taken[i] = h;
-        looped |= pass(&mut labels, &mut sides, s, h);
+        looped |= pass(&mut labels, &mut sides, u, v, metered, h);
         i += 1;
     }
     Cuts {

@@ -1,17 +1,23 @@
 // Groups of places, formed in one pass over the streams: each place has a label, the lowest place of its group.
 use flow_def::Which;
-use plant_def::Plant;
 use plant_def::Stream;
 use plant_def::limits::PLACES;
+use solve_arcs::ARCS;
+use solve_arcs::ROWS;
+use solve_arcs::count_of;
+use solve_arcs::end_at;
 ghost use mathlib.Core.Path.{_≡_};
-ghost use Prim.Native.Nat.{_≤_, ℕ};
+ghost use Prim.Native.Nat.{_≤_, _<_, ℕ};
 ghost use lib.ListN.{length};
 ghost use Rattle.plant_def.specs.Limits.{maxUnits, places};
-ghost use Rattle.plant_def.specs.Within.{WithinStream, Accepted};
+ghost use Rattle.plant_def.specs.Within.{WithinStream};
+ghost use Rattle.plant_def.specs.declared.Plant.{Plant};
+ghost use Rattle.plant_def.specs.declared.Stream.{Stream};
 ghost use Rattle.flow_def.specs.Groups.{StepSays, Groups};
 ghost use Rattle.flow_def.specs.Labels.{ownNumbers, renamed, relabelled, oneLabel, ownLabels};
 ghost use Rattle.plant_def.specs.Says.{plantOf};
 ghost use Rattle.flow_def.specs.Calls.{counting};
+ghost use Rattle.solve_arcs_fill.specs.Plants.{LaidOf};
 
 // Before the first step each place has its own number.
 pub fn own_numbers() -> [u8; PLACES]
@@ -49,16 +55,14 @@ pub fn rename(labels: &mut [u8; PLACES], lo: u8, hi: u8)
     }
 }
 
-// A step takes the labels of the groups and the next stream, which counts or not.
-pub fn step(labels: &mut [u8; PLACES], s: Stream, counts: bool)
-    requires { ⌜ WithinStream maxUnits s × (length (now labels) ≡ places) ⌝ }
-    ensures { λ _. ⌜ StepSays counts s (now (labels .entry)) (now (labels .exit)) ⌝ }
+// A step over a stream from place u to place v, which counts or not: the labels of the groups by it and those before it.
+pub fn join(labels: &mut [u8; PLACES], u: usize, v: usize, counts: bool)
+    requires { ⌜ (u < places) × (v < places) × (length (now labels) ≡ places) ⌝ }
+    ensures { λ _. ⌜ ((s : Stream) → s .from ≡ u → s .to ≡ v → StepSays counts s (now (labels .entry)) (now (labels .exit))) ⌝ }
 {
     if !counts {
         return;
     }
-    let u = s.from as usize;
-    let v = s.to as usize;
     let a = labels[u];
     let b = labels[v];
     if a == b {
@@ -69,6 +73,14 @@ pub fn step(labels: &mut [u8; PLACES], s: Stream, counts: bool)
         return;
     }
     rename(labels, b, a);
+}
+
+// A step takes the labels of the groups and the next stream, which counts or not.
+pub fn step(labels: &mut [u8; PLACES], s: Stream, counts: bool)
+    requires { ⌜ WithinStream maxUnits s × (length (now labels) ≡ places) ⌝ }
+    ensures { λ _. ⌜ StepSays counts s (now (labels .entry)) (now (labels .exit)) ⌝ }
+{
+    join(labels, s.from as usize, s.to as usize, counts);
 }
 
 // Whether a stream's ends have one label.
@@ -99,27 +111,28 @@ pub fn own_labels(labels: [u8; PLACES], n: u8) -> u8
 }
 
 // Whether a stream counts, whatever its number.
-fn counts(which: Which, s: Stream) -> bool
-    ensures { λ r. ⌜ ((i : ℕ) → r ≡ counting which i s) ⌝ }
+fn counts(which: Which, metered: bool) -> bool
+    ensures { λ r. ⌜ ((i : ℕ) (s : Stream) → s .metered ≡ metered → r ≡ counting which i s) ⌝ }
 {
     match which {
         Which::Every => true,
-        Which::Unmetered => !s.metered,
+        Which::Unmetered => !metered,
     }
 }
 
 // The labels of the groups by all streams that count: a step for each stream, in one pass.
-pub fn group(p: Plant, which: Which) -> [u8; PLACES]
-    requires { ⌜ Accepted p ⌝ }
-    ensures { λ r. ⌜ Groups (counting which) (plantOf p .streams) (p .count) r ⌝ }
+pub fn group(arcs: &[u8; ARCS], rows: &[u64; ROWS], which: Which) -> [u8; PLACES]
+    requires { ⌜ ((p : Plant) × LaidOf p (now arcs) (now rows)) ⌝ }
+    ensures { λ r. ⌜ ((p : Plant) → LaidOf p (now (arcs .entry)) (now (rows .entry)) → Groups (counting which) (plantOf p .streams) (p .count) r) ⌝ }
 {
-    let n = p.count as usize;
+    let n = count_of(arcs);
     let mut labels = own_numbers();
     let mut i: usize = 0;
     while i < n {
-        let s = p.streams[i];
-        let c = counts(which, s);
-        step(&mut labels, s, c);
+        let u = end_at(arcs, 2 * i);
+        let v = end_at(arcs, 2 * i + 1);
+        let c = counts(which, 0 < rows[4 * i]);
+        join(&mut labels, u, v, c);
         i += 1;
     }
     labels

@@ -34,26 +34,23 @@ pub record Weighed (p : Arrays.Plant) (sum i : ℕ) : Type 0 where
 pub weighed-none : (p : Arrays.Plant) → Weighed p 0 0
 weighed-none p = record { within = omega arith; is = refl; most = omega arith }
 
-module _ {p : Arrays.Plant} {cs : List Class} {sum i : ℕ} (d : Classed p cs) (w : Weighed p sum i) where
-  class-is : i < p .count → getD cs i Adjusted ≡ classOf (plantOf p) i
-  class-is h =
-      ap (λ (l : List Class). getD l i Adjusted) (d .classes)
-      ∙ values-at (classOf (plantOf p)) Adjusted maxStreams i (omega (arith, d .accepted .within .few-streams))
+pub class-is : {p : Arrays.Plant} {cs : List Class} → Classed p cs → (i : ℕ) → i < p .count → getD cs i Adjusted ≡ classOf (plantOf p) i
+class-is {p} d i h =
+    ap (λ (l : List Class). getD l i Adjusted) (d .classes)
+    ∙ values-at (classOf (plantOf p)) Adjusted maxStreams i (omega (arith, d .accepted .within .few-streams))
 
+module _ {p : Arrays.Plant} {sum i : ℕ} (a : Accepted p) (w : Weighed p sum i) where
   -- One stream more.
-  pub weighed-more : i < p .count → (k : ℕ) → k ≡ adjustedWeight (getD cs i Adjusted) (getD (p .streams) i noStream) → k ≤ 65535 → Weighed p (sum + k) (i + 1)
+  pub weighed-more : i < p .count → (k : ℕ) → k ≡ adjustedWeight (classOf (plantOf p) i) (getD (p .streams) i noStream) → k ≤ 65535 → Weighed p (sum + k) (i + 1)
   weighed-more h k f l = record {
     within = omega arith;
-    is = rw add-one (sum-is ∙ ap (λ (s : Stream). adjustedWeight (classOf (plantOf p) i) s + adjustedTo (plantOf p) i) (sym (listed-at p (d .accepted) i h)));
+    is = rw add-one (sum-is ∙ ap (λ (s : Stream). adjustedWeight (classOf (plantOf p) i) s + adjustedTo (plantOf p) i) (sym (listed-at p a i h)));
     most = omega (arith, w .most);
   }
     where
-      k-is : k ≡ adjustedWeight (classOf (plantOf p) i) (getD (p .streams) i noStream)
-      k-is = f ∙ ap (λ (c : Class). adjustedWeight c (getD (p .streams) i noStream)) (class-is h)
-
       sum-is : sum + k ≡ adjustedWeight (classOf (plantOf p) i) (getD (p .streams) i noStream) + adjustedTo (plantOf p) i
-      sum-is = omega (arith, k-is, w .is)
+      sum-is = omega (arith, f, w .is)
 
   -- All streams.
   pub weighed-all : p .count ≤ i → sum ≡ adjusted (plantOf p)
-  weighed-all h = let e : i ≡ length (plantOf p .streams) = omega (arith, all-listed p (d .accepted), w .within) in w .is ∙ ap (adjustedTo (plantOf p)) e
+  weighed-all h = let e : i ≡ length (plantOf p .streams) = omega (arith, all-listed p a, w .within) in w .is ∙ ap (adjustedTo (plantOf p)) e

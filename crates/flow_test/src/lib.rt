@@ -1,11 +1,11 @@
 // The test of the whole: the weights of the adjusted streams, and the cost against a critical value.
 use flow_def::Class;
 use plant_def::Plant;
-use plant_def::Stream;
 use plant_def::limits::MAX_STREAMS;
 use plant_def::limits::MAX_UNITS;
 ghost use mathlib.Core.Path.{_≡_};
 ghost use Prim.Native.Nat.{_≤_};
+ghost use Rattle.plant_def.specs.declared.Stream.{Stream};
 ghost use Rattle.plant_def.specs.Within.{Accepted};
 ghost use Rattle.plant_def.specs.Says.{plantOf};
 ghost use Rattle.flow_def.specs.Shown.{adjustedWeight, adjusted};
@@ -13,12 +13,12 @@ ghost use Rattle.flow_def.specs.Calls.{classesOf};
 ghost use Rattle.plant_def.specs.Limits.{maxUnits};
 ghost use Rattle.flow_def.specs.Test.{verdictAt};
 
-// A stream's weight where it is adjusted.
-fn adjusted_weight(class: Class, s: Stream) -> u64
-    ensures { λ r. ⌜ (r ≡ adjustedWeight class s) × (r ≤ 65535) ⌝ }
+// The weight of a stream of a class, where it is adjusted.
+pub fn adjusted_weight(class: Class, weight: u64) -> u64
+    ensures { λ r. ⌜ ((s : Stream) → s .weight ≡ weight → r ≡ adjustedWeight class s) × (r ≤ weight) ⌝ }
 {
     match class {
-        Class::Adjusted => s.weight as u64,
+        Class::Adjusted => weight,
         Class::AsRead => 0,
         Class::Given => 0,
         Class::Withheld => 0,
@@ -36,7 +36,7 @@ pub fn adjusted_weights(p: Plant, classes: [Class; MAX_STREAMS]) -> u64
     while i < n {
         let s = p.streams[i];
         let c = classes[i];
-        let more = adjusted_weight(c, s);
+        let more = adjusted_weight(c, s.weight as u64);
         sum += more;
         i += 1;
     }

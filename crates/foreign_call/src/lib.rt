@@ -13,6 +13,10 @@ use sheet_cost::cost_of;
 use sheet_def::SheetRead;
 use sheet_def::Total;
 use sheet_entries::classes_of;
+use solve_arcs::ARCS;
+use solve_arcs::NONE;
+use solve_arcs::ROWS;
+use solve_arcs_fill::lay;
 ghost use mathlib.Core.Path.{_≡_};
 ghost use Prim.Native.Nat.{_≤_};
 ghost use lib.ListN.{length, take};
@@ -21,6 +25,7 @@ ghost use Rattle.plant_def.specs.Within.{Accepted};
 ghost use Rattle.plant_def.specs.Says.{plantOf};
 ghost use Rattle.flow_def.specs.Flows.{cost};
 ghost use Rattle.flow_def.specs.Calls.{Grouped, classesOf};
+ghost use Rattle.solve_arcs_fill.specs.Plants.{LaidOf};
 ghost use Rattle.sheet_def.specs.Calls.{AllSmall};
 ghost use Rattle.foreign_def.specs.Test.{totalFits, partsIn, passes};
 ghost use Rattle.foreign_def.specs.Says.{CheckSays};
@@ -28,15 +33,17 @@ ghost use Rattle.foreign_def.specs.Says.{CheckSays};
 // Degrees are ours, cost and verdict those of the flows shown.
 fn total_fits(
     p: Plant,
+    arcs: &[u8; ARCS],
+    rows: &[u64; ROWS],
     labels: [u8; PLACES],
     classes: [Class; MAX_STREAMS],
     flows: [i64; MAX_STREAMS],
     total: Total,
 ) -> bool
-    requires { ⌜ Accepted p × Grouped p labels × (classes ≡ classesOf (plantOf p)) × AllSmall flows ⌝ }
+    requires { ⌜ LaidOf p (now arcs) (now rows) × Grouped p labels × (classes ≡ classesOf (plantOf p)) × AllSmall flows ⌝ }
     ensures { λ r. ⌜ r ≡ totalFits (plantOf p) (cost (plantOf p .streams) (take (p .count) flows)) total ⌝ }
 {
-    let degrees = flow_classes::degrees_of(p, labels);
+    let degrees = flow_classes::degrees_of(arcs, rows, p.units, labels);
     if total.degrees != degrees {
         return false;
     }
@@ -61,7 +68,12 @@ fn rules_hold(p: Plant, kept: SheetRead, numbers: &[i64]) -> bool
         return false;
     }
     let entries = kept.streams;
-    let cuts = cuts_of(p);
+    let streams = p.streams;
+    let count = p.count as usize;
+    let mut arcs = [NONE as u8; ARCS];
+    let mut rows = [0u64; ROWS];
+    lay(streams, count, &mut arcs, &mut rows);
+    let cuts = cuts_of(&arcs, &rows);
     let classes = classes_of(p, cuts);
     let flows = shown_flows(classes, entries);
     if !records_fit(p.count, entries, classes, flows) {
@@ -75,7 +87,7 @@ fn rules_hold(p: Plant, kept: SheetRead, numbers: &[i64]) -> bool
     }
     let labels = cuts.labels;
     let total = kept.total;
-    total_fits(p, labels, classes, flows, total)
+    total_fits(p, &arcs, &rows, labels, classes, flows, total)
 }
 
 // The plant reader's refusals, then the sheet reader's, then 26 where a rule is broken; 0 where the sheet passes.

@@ -25,7 +25,8 @@ use Rattle.flow_def.specs.Overfull.{Overfull}
 use Rattle.flow_def.proofs.Lists.{values-long, values-at}
 use Rattle.flow_def.proofs.Overfull.{overfull-none}
 use Rattle.solve_def.specs.declared.Solved.{Solved}
-use Rattle.solve_def.specs.Model.{noHint, settled, solvedFrom}
+use Rattle.solve_def.specs.Model.{noHint, settled}
+use Rattle.solve_def.specs.Whole.{solvedFrom}
 use Rattle.solve_def.specs.Promise.{flowOf, Solution, Right}
 use Rattle.solve_def.proofs.Theorem.{from-none, solved-right}
 use Rattle.sheet_def.proofs.Opening.{right-found, right-overfull}

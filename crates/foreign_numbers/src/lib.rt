@@ -3,6 +3,10 @@ use flow_def::Which;
 use foreign_def::PlaceNumbers;
 use plant_def::Plant;
 use plant_def::limits::PLACES;
+use solve_arcs::ARCS;
+use solve_arcs::NONE;
+use solve_arcs::ROWS;
+use solve_arcs_fill::lay;
 use solve_def::Solved;
 ghost use mathlib.Core.Path.{_≡_};
 ghost use lib.IntN.{pos, _-ℤ_};
@@ -87,8 +91,13 @@ pub fn place_numbers(file: &[u8]) -> PlaceNumbers
         return no_numbers(number);
     }
     let plant = read.plant;
-    let labels = flow_components::group(plant, Which::Unmetered);
-    let solved = solve_call::solve(plant, labels);
+    let streams = plant.streams;
+    let count = plant.count as usize;
+    let mut arcs = [NONE as u8; ARCS];
+    let mut rows = [0u64; ROWS];
+    lay(streams, count, &mut arcs, &mut rows);
+    let labels = flow_components::group(&arcs, &rows, Which::Unmetered);
+    let solved = solve_call::solve(plant, labels, &arcs, &rows);
     numbers_by(plant, solved)
 }
 

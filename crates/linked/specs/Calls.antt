@@ -6,7 +6,8 @@ use denote.Ref.{RefT}
 use denote.Triple.Both.{Both}
 use Rattle.num_lent.specs.Marks.{marksIn}
 use Rattle.plant_def.specs.Limits.{places}
-use Rattle.plant_parts.specs.Parts.{HandedWritten}
+use Rattle.plant_parts.specs.Parts.{Slices, HandedWritten}
+use Rattle.sheet_def.specs.declared.Sheet.{Sheet}
 use Rattle.sheet_lent.specs.Lent.{LentSays}
 use Rattle.sheet_parts.specs.Kept.{HandsOver}
 use Rattle.purchase_def.specs.Lent.{BuyHandsOver}
@@ -19,14 +20,14 @@ Lent A = Both (RefT A) (RefT A)
 abbrev pub SheetCall : Lent (List ℕ) → ℕ → Lent (List ℕ) → Lent (List ℕ) → Lent ℕ → Lent ℕ → ℕ → Type 0
 SheetCall file office lasts sheet written marked number =
     let bits = marked .exit .now in
-    let drawn = record { number = number; written = written .exit .now; lasts = lasts .exit .now; marked = marksIn bits } in
+    let drawn : Sheet = record { number = number; written = written .exit .now; lasts = lasts .exit .now; marked = marksIn bits } in
     LentSays (file .entry .now) office (lasts .entry .now) (sheet .entry .now) (sheet .exit .now) drawn × (bits < 2 ^ places)
 
 -- The plant writer, of the plant whose streams' parts are handed over in eight slices.
 abbrev pub WriteCall : (units count : ℕ) (from to metered weight : Lent (List ℕ)) (reading : Lent (List ℤ)) (ranged : Lent (List ℕ))
     (low high : Lent (List ℤ)) (file : Lent (List ℕ)) (written : Lent ℕ) (number : ℕ) → Type 0
 WriteCall units count from to metered weight reading ranged low high file written number =
-    let parts = record {
+    let parts : Slices = record {
       from = from .entry .now;
       to = to .entry .now;
       metered = metered .entry .now;

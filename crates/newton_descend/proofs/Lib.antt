@@ -1,3 +1,4 @@
--- Laws of the potentials made whole. Laws of the nets.
+-- Laws of the potentials made whole, of nets, and of the length of a step.
 pub mod Levels
 pub mod Steps
+pub mod Trials

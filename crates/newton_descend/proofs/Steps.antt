@@ -1,14 +1,30 @@
--- One place more: the greatest size, and the sum of products.
+-- One place or one stream more: the greatest, the sum of products, potentials moved, and nets.
 use mathlib.Core.Path.{_≡_, refl, ap, _∙_}
 use mathlib.Core.Bool.{true, false}
 use mathlib.Core.List.{List}
-use Prim.Native.Nat.{ℕ, _+_, _≤_, _<_}
+use Prim.Native.Nat.{ℕ, zero, suc, _+_, _*_, _≤_}
 use native.Mathlib.Omega.{arith}
 use native.Mathlib.Numerals.{add-one}
-use lib.ListN.{getD}
-use lib.Ieee.{Float, nan, binary64, neg, add, mul, lt}
+use lib.ListN.{length, getD, set, replicate, length-set, length-replicate, getD-replicate}
+use lib.Ieee.{Float, nan, binary64, neg, add, sub, mul, lt}
 use Rattle.plant_def.specs.Limits.{places}
-use Rattle.newton_descend.specs.Nets.{none, larger, greatestTo, productTo}
+use Rattle.flow_def.proofs.Lists.{Written, written-all}
+use Rattle.newton_laplacian.specs.Amounts.{amountBy, broughtIn}
+use Rattle.newton_descend.specs.Nets.{none, larger, highestTo, greatestTo, productTo, movedTo, advancedTo, broughtTo, brought, netsTo}
+
+pub larger-taken : (a b : Float) → lt a b ≡ true → b ≡ larger a b
+larger-taken a b t = rw t
+
+pub larger-left : (a b : Float) → lt a b ≡ false → a ≡ larger a b
+larger-left a b t = rw t
+
+pub highest-none : (xs : List Float) → none ≡ highestTo xs 0
+unfolding highestTo
+highest-none xs = refl
+
+pub highest-more : (xs : List Float) (n : ℕ) (a b : Float) → a ≡ highestTo xs n → b ≡ larger a (getD xs n nan) → b ≡ highestTo xs (n + 1)
+unfolding highestTo
+highest-more xs n a b e f = rw (add-one n) (f ∙ ap (λ (x : Float). larger x (getD xs n nan)) e)
 
 pub greatest-none : (zs : List Float) → none ≡ greatestTo zs 0
 unfolding greatestTo
@@ -20,12 +36,6 @@ pub greatest-more : (zs : List Float) (n : ℕ) (a b c : Float) → a ≡ greate
 unfolding greatestTo
 greatest-more zs n a b c e f g = rw (add-one n) (g ∙ ap (λ (x : Float). larger x (neg (getD zs n nan))) (f ∙ ap (λ (x : Float). larger x (getD zs n nan)) e))
 
-pub larger-taken : (a b : Float) → lt a b ≡ true → b ≡ larger a b
-larger-taken a b t = rw t
-
-pub larger-left : (a b : Float) → lt a b ≡ false → a ≡ larger a b
-larger-left a b t = rw t
-
 pub product-none : (xs ys : List Float) → none ≡ productTo xs ys 0
 unfolding productTo
 product-none xs ys = refl
@@ -35,6 +45,55 @@ pub product-more : (xs ys : List Float) (n : ℕ) (a : Float) → a ≡ productT
 unfolding productTo
 product-more xs ys n a e = rw (add-one n) (ap (λ (x : Float). add binary64 x (mul binary64 (getD xs n nan) (getD ys n nan))) e)
 
--- All places are done.
-pub all-done : (u : ℕ) → u ≤ places → places ≤ u → u ≡ places
-all-done u h n = omega arith
+module _ (ps ws : List Float) (t : Float) where
+  pub moved-none : (rs : List Float) → rs ≡ movedTo ps ws t rs 0
+  unfolding movedTo
+  moved-none rs = refl
+
+  pub moved-more : (rs : List Float) (n : ℕ) (r : List Float) → r ≡ movedTo ps ws t rs n
+      → set r n (add binary64 (getD ps n nan) (mul binary64 t (getD ws n nan))) ≡ movedTo ps ws t rs (n + 1)
+  unfolding movedTo
+  moved-more rs n r e = rw (add-one n) (ap (λ (x : List Float). set x n (add binary64 (getD ps n nan) (mul binary64 t (getD ws n nan)))) e)
+
+  pub advanced-none : ps ≡ advancedTo ps ws t 0
+  unfolding advancedTo
+  advanced-none = refl
+
+  pub advanced-more : (n : ℕ) (r : List Float) → r ≡ advancedTo ps ws t n
+      → set r n (add binary64 (getD r n nan) (mul binary64 t (getD ws n nan))) ≡ advancedTo ps ws t (n + 1)
+  unfolding advancedTo
+  advanced-more n r e = rw (add-one n) (ap (λ (x : List Float). set x n (add binary64 (getD x n nan) (mul binary64 t (getD ws n nan)))) e)
+
+  pub advanced-long : (n : ℕ) → length (advancedTo ps ws t n) ≡ length ps
+  unfolding advancedTo
+  advanced-long zero = refl
+  advanced-long (suc n) = length-set (advancedTo ps ws t n) n _ ∙ advanced-long n
+
+-- All nets are written over.
+pub level-all : {before now : List Float} → Written nan places (λ k x. none) before now places → now ≡ replicate places none
+level-all w = written-all w (replicate places none) (length-replicate places none) (λ k l. getD-replicate places k none nan l)
+
+module _ (es : List ℕ) (ms ps : List Float) where
+  pub nets-none : replicate places none ≡ netsTo es ms ps 0
+  unfolding netsTo
+  nets-none = refl
+
+  pub nets-more : (k : ℕ) (zs : List Float) → zs ≡ netsTo es ms ps k
+      → brought es ms ps k zs ≡ netsTo es ms ps (k + 1)
+  unfolding netsTo
+  nets-more k zs e = rw (add-one k) (ap (brought es ms ps k) e)
+
+  pub nets-long : (k : ℕ) → length (netsTo es ms ps k) ≡ places
+  unfolding netsTo
+  nets-long zero = length-replicate places none
+  nets-long (suc k) = simp length-set (nets-long k)
+
+-- All n are done.
+pub all-done : (n u : ℕ) → u ≤ n → n ≤ u → u ≡ n
+all-done n u h l = omega arith
+
+-- What a stream carries is brought from group to group.
+pub brought-is : (es : List ℕ) (ms ps zs : List Float) (k g h : ℕ) (x y : Float) → g ≡ getD es (2 * k) 0 → h ≡ getD es (2 * k + 1) 0
+    → y ≡ amountBy ms k (sub binary64 (getD ps h nan) (getD ps g nan)) → x ≡ broughtIn ms k y
+    → broughtTo zs g h x ≡ brought es ms ps k zs
+brought-is es ms ps zs k g h x y a b c d = rw (d, c, a, b)

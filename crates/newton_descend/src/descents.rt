@@ -1,18 +1,21 @@
 // Newton's method on the dual of the real-number problem: potentials whose clamped amounts balance. What they cost is convex and its slope
 // along a direction is the sum of nets times changes, which rises; so a step is as long as the slope is not above 0.
+use crate::nets::advance;
 use crate::nets::greatest_net;
 use crate::nets::moved;
 use crate::nets::nets_at;
 use crate::nets::product;
 use newton_laplacian::ENDS;
 use newton_laplacian::METERS;
-use newton_laplacian::direction;
+use newton_laplacian::equations::direction;
+use newton_laplacian::equations::first_gathered;
 use plant_def::limits::PLACES;
 ghost use mathlib.Core.Path.{_≡_};
-ghost use Prim.Native.Nat.{_≤_};
 ghost use lib.ListN.{length};
-ghost use Rattle.plant_def.specs.Limits.{maxStreams, places};
-ghost use Rattle.newton_laplacian.specs.Ends.{Ends, meterCells};
+ghost use Rattle.plant_def.specs.Limits.{places};
+ghost use Rattle.newton_laplacian.specs.Ends.{Gathered};
+ghost use Rattle.newton_laplacian.specs.Cells.{Fits};
+ghost use Rattle.newton_descend.specs.Descents.{slopeAt, lengthBetween, narrowedBy, stepLength};
 
 // How many steps there are at most, how near to 0 the nets have to come, and how often the length of a step is sought.
 const STEPS: usize = 23;
@@ -36,17 +39,23 @@ fn slope(
     count: usize,
     potentials: &[f64; PLACES],
     way: &[f64; PLACES],
+    n: usize,
     t: f64,
 ) -> f64
-    requires { ⌜ Ends (now ends) × (length (now meters) ≡ meterCells) × (count ≤ maxStreams) × (length (now potentials) ≡ places) × (length (now way) ≡ places) ⌝ }
+    requires { ⌜ Gathered n (now ends) (now meters) count ⌝ }
+    ensures { λ r. ⌜ r ≡ slopeAt (now (ends .entry)) (now (meters .entry)) count (now (potentials .entry)) (now (way .entry)) n t ⌝ }
 {
-    let there = moved(potentials, way, t);
-    let nets = nets_at(ends, meters, count, &there);
-    product(&nets, way)
+    let mut there = [0.0f64; PLACES];
+    moved(potentials, way, t, n, &mut there);
+    let mut nets = [0.0f64; PLACES];
+    nets_at(ends, meters, count, &there, &mut nets);
+    product(&nets, way, n)
 }
 
 // A length between two: halfway each third time, else where a straight line has the slope 0.
-fn between(b: Bracket, trial: usize) -> f64 {
+fn between(b: Bracket, trial: usize) -> f64
+    ensures { λ r. ⌜ r ≡ lengthBetween b trial ⌝ }
+{
     if trial % 3 == 2 {
         return (b.short + b.long) / 2.0;
     }
@@ -54,7 +63,9 @@ fn between(b: Bracket, trial: usize) -> f64 {
 }
 
 // The bracket with the slope at t known.
-fn narrowed(b: Bracket, t: f64, at: f64) -> Bracket {
+fn narrowed(b: Bracket, t: f64, at: f64) -> Bracket
+    ensures { λ r. ⌜ r ≡ narrowedBy b t at ⌝ }
+{
     if at > 0.0 {
         return Bracket {
             short: b.short,
@@ -78,11 +89,13 @@ fn step_length(
     count: usize,
     potentials: &[f64; PLACES],
     way: &[f64; PLACES],
+    n: usize,
     first: f64,
 ) -> f64
-    requires { ⌜ Ends (now ends) × (length (now meters) ≡ meterCells) × (count ≤ maxStreams) × (length (now potentials) ≡ places) × (length (now way) ≡ places) ⌝ }
+    requires { ⌜ Gathered n (now ends) (now meters) count ⌝ }
+    ensures { λ r. ⌜ r ≡ stepLength (slopeAt (now (ends .entry)) (now (meters .entry)) count (now (potentials .entry)) (now (way .entry)) n) first ⌝ }
 {
-    let whole = slope(ends, meters, count, potentials, way, 1.0);
+    let whole = slope(ends, meters, count, potentials, way, n, 1.0);
     if !(whole > 0.0) {
         return 1.0;
     }
@@ -95,7 +108,7 @@ fn step_length(
     let mut trial: usize = 0;
     while trial < TRIALS {
         let t = between(b, trial);
-        b = narrowed(b, t, slope(ends, meters, count, potentials, way, t));
+        b = narrowed(b, t, slope(ends, meters, count, potentials, way, n, t));
         if b.falling > 0.1 * first {
             return b.short;
         }
@@ -104,37 +117,34 @@ fn step_length(
     b.short
 }
 
-// Real potentials of n places, one for each label: at first without ranges, then, where some stream has one, step by step with them.
+// Real potentials of n places, one for each label: at first without ranges, by equations that are empty, then step by step with them.
 pub fn descend(
+    a: &mut [f64],
     ends: &[u8; ENDS],
     meters: &[f64; METERS],
     count: usize,
     n: usize,
-    ranged: bool,
-) -> [f64; PLACES]
-    requires { ⌜ Ends (now ends) × (length (now meters) ≡ meterCells) × (count ≤ maxStreams) × (n ≤ places) ⌝ }
-    ensures { λ r. ⌜ length r ≡ places ⌝ }
+    potentials: &mut [f64; PLACES],
+)
+    requires { ⌜ Gathered n (now ends) (now meters) count × Fits n (now a) × (length (now potentials) ≡ places) ⌝ }
+    ensures { λ _. ⌜ length (now (potentials .exit)) ≡ places ⌝ }
 {
-    let none = [0.0f64; PLACES];
-    let mut potentials = direction(ends, meters, count, n, &none, true);
-    if !ranged {
-        return potentials;
-    }
+    first_gathered(a, ends, meters, count, n, potentials);
+    let mut nets = [0.0f64; PLACES];
+    let mut way = [0.0f64; PLACES];
     let mut left = STEPS;
     while 0 < left {
-        let nets = nets_at(ends, meters, count, &potentials);
-        if greatest_net(&nets) < NEAR {
-            return potentials;
+        nets_at(ends, meters, count, potentials, &mut nets);
+        if greatest_net(&nets, n) < NEAR {
+            return;
         }
-        let way = direction(ends, meters, count, n, &potentials, false);
-        let first = product(&nets, &way);
+        direction(a, ends, meters, count, n, potentials, &mut way);
+        let first = product(&nets, &way, n);
         if !(first < 0.0) {
-            return potentials;
+            return;
         }
-        let t = step_length(ends, meters, count, &potentials, &way, first);
-        let next = moved(&potentials, &way, t);
-        potentials = next;
+        let t = step_length(ends, meters, count, potentials, &way, n, first);
+        advance(potentials, &way, t, n);
         left -= 1;
     }
-    potentials
 }

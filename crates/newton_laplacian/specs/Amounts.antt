@@ -2,9 +2,8 @@
 use mathlib.Core.List.{List}
 use Prim.Native.Nat.{ℕ, _+_, _*_}
 use lib.ListN.{getD}
-use lib.Ieee.{Float, nan, binary64, neg, add, mul, lt, ofInt}
+use lib.Ieee.{Float, nan, binary64, add, mul, lt}
 use Rattle.num_bytes.specs.Choice.{pick}
-use Rattle.plant_def.specs.declared.Stream.{Stream}
 
 -- Of the four numbers of stream k: its conductance.
 abbrev pub conductance : List Float → ℕ → Float
@@ -20,10 +19,3 @@ broughtIn ms k x =
     let low = getD ms (4 * k + 2) nan in
     let high = getD ms (4 * k + 3) nan in
     pick (lt x low) low (pick (lt high x) high x)
-
--- The ends of a stream's range, where no amount comes where it has none.
-abbrev pub lowEnd : Float → Stream → Float
-lowEnd far s = pick (s .ranged) (ofInt binary64 (s .low)) (neg far)
-
-abbrev pub highEnd : Float → Stream → Float
-highEnd far s = pick (s .ranged) (ofInt binary64 (s .high)) far

@@ -1,48 +1,45 @@
 // The metered streams between groups as real numbers, and the equations of one step towards the real-number optimum.
-use elimination::eliminate;
-use elimination::substitute;
-use plant_def::Plant;
-use plant_def::Stream;
 use plant_def::limits::MAX_STREAMS;
 use plant_def::limits::PLACES;
+use readings::conductance_of;
+use readings::high_of;
+use readings::low_of;
+use readings::reading_of;
+use solve_arcs::ARCS;
+use solve_arcs::ROWS;
+use solve_arcs::count_of;
+use solve_arcs::wide;
 
 mod elimination;
+pub mod equations;
+pub mod readings;
 
 ghost use mathlib.Core.Path.{_≡_};
-ghost use Prim.Native.Nat.{suc, _<_, _≤_};
-ghost use lib.ListN.{length};
-ghost use Rattle.plant_def.specs.Limits.{maxUnits, maxStreams, places};
-ghost use Rattle.plant_def.specs.Within.{WithinStream, Accepted};
-ghost use Rattle.newton_laplacian.specs.Ends.{Labels, Ends, meterCells};
-ghost use Rattle.newton_laplacian.specs.Amounts.{conductance, amountBy, broughtIn, lowEnd, highEnd};
-ghost use Rattle.newton_laplacian.specs.Cells.{cells};
+ghost use Prim.Native.Nat.{suc, _+_, _*_, _<_, _≤_};
+ghost use lib.ListN.{length, getD, set};
+ghost use Rattle.plant_def.specs.Limits.{maxStreams, places};
+ghost use Rattle.solve_arcs.specs.Cells.{toCell, countOf};
+ghost use Rattle.newton_laplacian.specs.Readings.{Read};
+ghost use Rattle.newton_laplacian.specs.Ends.{Placing, StillEnds, meterCells, Long};
+ghost use Rattle.newton_laplacian.specs.Amounts.{conductance, amountBy, broughtIn};
 
 pub const ENDS: usize = 2 * MAX_STREAMS;
 
 pub const METERS: usize = 4 * MAX_STREAMS;
 
-// Where a stream has no range: no amount comes so far.
-const FAR: f64 = 1000000000000000000000000.0;
-
-// How many streams were gathered, and whether some stream has a range.
-pub struct Gathered {
-    pub count: usize,
-    pub ranged: bool,
-}
-
 // The group of the start of stream k, and of its end.
 pub fn start_at(ends: &[u8; ENDS], k: usize) -> usize
-    requires { ⌜ Ends (now ends) × (k < maxStreams) ⌝ }
-    ensures { λ r. ⌜ r < places ⌝ }
+    requires { ⌜ k < maxStreams ⌝ }
+    ensures { λ r. ⌜ r ≡ getD (now (ends .entry)) (2 * k) 0 ⌝ }
 {
-    ends[2 * k] as usize
+    wide(ends[2 * k])
 }
 
 pub fn end_at(ends: &[u8; ENDS], k: usize) -> usize
-    requires { ⌜ Ends (now ends) × (k < maxStreams) ⌝ }
-    ensures { λ r. ⌜ r < places ⌝ }
+    requires { ⌜ k < maxStreams ⌝ }
+    ensures { λ r. ⌜ r ≡ getD (now (ends .entry)) (2 * k + 1) 0 ⌝ }
 {
-    ends[2 * k + 1] as usize
+    wide(ends[2 * k + 1])
 }
 
 // Its conductance.
@@ -78,46 +75,39 @@ pub fn in_range(meters: &[f64; METERS], k: usize, x: f64) -> f64
     x
 }
 
-// The ends of a stream's range.
-fn low_of(s: Stream) -> f64
-    ensures { λ r. do far ← ⟦FAR⟧ .entry; ⌜ r ≡ lowEnd far s ⌝ }
+// Stream i, which leads from group g to group h, becomes stream k.
+fn put(
+    ends: &mut [u8; ENDS],
+    meters: &mut [f64; METERS],
+    k: usize,
+    rows: &[u64; ROWS],
+    i: usize,
+    g: u8,
+    h: u8,
+)
+    requires { ⌜ Long (now ends) (now meters) × (k < maxStreams) × Read (now rows) i ⌝ }
+    ensures { λ _. ⌜ (now (ends .exit) ≡ set (set (now (ends .entry)) (2 * k) g) (2 * k + 1) h) × (length (now (meters .exit)) ≡ meterCells) ⌝ }
 {
-    if s.ranged {
-        return s.low as f64;
-    }
-    -FAR
-}
-
-fn high_of(s: Stream) -> f64
-    ensures { λ r. do far ← ⟦FAR⟧ .entry; ⌜ r ≡ highEnd far s ⌝ }
-{
-    if s.ranged {
-        return s.high as f64;
-    }
-    FAR
-}
-
-// A metered stream from group g to group h becomes stream k.
-fn put(ends: &mut [u8; ENDS], meters: &mut [f64; METERS], k: usize, s: Stream, g: u8, h: u8)
-    requires { ⌜ Ends (now ends) × (length (now meters) ≡ meterCells) × (k < maxStreams) × (g < places) × (h < places) ⌝ }
-    ensures { λ _. ⌜ Ends (now (ends .exit)) × (length (now (meters .exit)) ≡ meterCells) ⌝ }
-{
+    let c = conductance_of(rows, i);
+    let reading = reading_of(rows, i, c);
+    let low = low_of(rows, i);
+    let high = high_of(rows, i);
     let end = 2 * k;
     ends[end] = g;
     ends[end + 1] = h;
     let meter = 4 * k;
-    meters[meter] = s.reading as f64;
-    meters[meter + 1] = 0.5 / s.weight as f64;
-    meters[meter + 2] = low_of(s);
-    meters[meter + 3] = high_of(s);
+    meters[meter] = reading;
+    meters[meter + 1] = c;
+    meters[meter + 2] = low;
+    meters[meter + 3] = high;
 }
 
-// The label of a place.
-fn group_of(labels: &[u8; PLACES], u: u8) -> u8
-    requires { ⌜ Labels (now labels) × (u < places) ⌝ }
-    ensures { λ r. ⌜ r < places ⌝ }
+// The label of the place that an arc leads to.
+fn group_at(labels: &[u8; PLACES], arcs: &[u8; ARCS], arc: usize) -> u8
+    requires { ⌜ (arc < 2 * maxStreams) × (getD (now arcs) (toCell + arc) 0 < places) ⌝ }
+    ensures { λ r. ⌜ r ≡ getD (now (labels .entry)) (getD (now (arcs .entry)) (toCell + arc) 0) 0 ⌝ }
 {
-    labels[u as usize]
+    labels[solve_arcs::end_at(arcs, arc)]
 }
 
 // A stream, where it is metered and leads from one group to another. How many streams there are now.
@@ -125,141 +115,42 @@ fn take_in(
     ends: &mut [u8; ENDS],
     meters: &mut [f64; METERS],
     k: usize,
-    s: Stream,
     labels: &[u8; PLACES],
+    arcs: &[u8; ARCS],
+    rows: &[u64; ROWS],
+    i: usize,
 ) -> usize
-    requires { ⌜ Ends (now ends) × (length (now meters) ≡ meterCells) × (k < maxStreams) × WithinStream maxUnits s × Labels (now labels) ⌝ }
-    ensures { λ r. ⌜ Ends (now (ends .exit)) × (length (now (meters .exit)) ≡ meterCells) × (r ≤ suc k) ⌝ }
+    requires { ⌜ Long (now ends) (now meters) × (k < maxStreams) × Placing (now labels) (now arcs) (now rows) × (i < countOf (now arcs)) ⌝ }
+    ensures { λ r. ⌜ Long (now (ends .exit)) (now (meters .exit)) × (r ≤ suc k) ⌝ }
+    ensures { λ _. ⌜ StillEnds (now (labels .entry)) (now (arcs .entry)) (now (rows .entry)) (now (ends .entry)) (now (ends .exit)) ⌝ }
 {
-    let g = group_of(labels, s.from);
-    let h = group_of(labels, s.to);
-    if g == h || !s.metered {
+    let g = group_at(labels, arcs, 2 * i);
+    let h = group_at(labels, arcs, 2 * i + 1);
+    if g == h || rows[4 * i] == 0 {
         return k;
     }
-    put(ends, meters, k, s, g, h);
+    put(ends, meters, k, rows, i, g, h);
     k + 1
 }
 
 // All such streams of a plant.
 pub fn gather(
-    p: Plant,
     labels: &[u8; PLACES],
+    arcs: &[u8; ARCS],
+    rows: &[u64; ROWS],
     ends: &mut [u8; ENDS],
     meters: &mut [f64; METERS],
-) -> Gathered
-    requires { ⌜ Accepted p × Labels (now labels) × Ends (now ends) × (length (now meters) ≡ meterCells) ⌝ }
-    ensures { λ r. ⌜ Ends (now (ends .exit)) × (length (now (meters .exit)) ≡ meterCells) × (r .count ≤ maxStreams) ⌝ }
+) -> usize
+    requires { ⌜ Placing (now labels) (now arcs) (now rows) × Long (now ends) (now meters) ⌝ }
+    ensures { λ r. ⌜ (length (now (meters .exit)) ≡ meterCells) × (r ≤ maxStreams) ⌝ }
+    ensures { λ _. ⌜ StillEnds (now (labels .entry)) (now (arcs .entry)) (now (rows .entry)) (now (ends .entry)) (now (ends .exit)) ⌝ }
 {
-    let n = p.count as usize;
-    let mut ranged = false;
+    let n = count_of(arcs);
     let mut k: usize = 0;
     let mut i: usize = 0;
     while i < n {
-        let s = p.streams[i];
-        k = take_in(ends, meters, k, s, labels);
-        ranged = ranged || s.ranged;
+        k = take_in(ends, meters, k, labels, arcs, rows, i);
         i += 1;
     }
-    Gathered {
-        count: k,
-        ranged: ranged,
-    }
-}
-
-// Each row of the equations: its right-hand side, then a coefficient for each place.
-const WIDTH: usize = PLACES + 1;
-
-const CELLS: usize = PLACES * WIDTH;
-
-// What is left of the conductance of a stream whose amount is at an end of its range.
-const SHUT: f64 = 0.0001;
-
-// One coefficient, or right-hand side, is x more.
-fn add(a: &mut [f64; CELLS], row: usize, column: usize, x: f64)
-    requires { ⌜ (length (now a) ≡ cells) × (row < places) × (column ≤ places) ⌝ }
-    ensures { λ _. ⌜ length (now (a .exit)) ≡ cells ⌝ }
-{
-    let at = row * WIDTH + column;
-    a[at] = a[at] + x;
-}
-
-// A stream of conductance c from group g to group h, which carries x.
-fn between(a: &mut [f64; CELLS], g: usize, h: usize, x: f64, c: f64)
-    requires { ⌜ (length (now a) ≡ cells) × (g < places) × (h < places) ⌝ }
-    ensures { λ _. ⌜ length (now (a .exit)) ≡ cells ⌝ }
-{
-    add(a, g, 0, x);
-    add(a, h, 0, -x);
-    add(a, g, g + 1, c);
-    add(a, h, h + 1, c);
-    if g < h {
-        add(a, h, g + 1, -c);
-    } else {
-        add(a, g, h + 1, -c);
-    }
-}
-
-// Stream k. (At first, with no potentials yet, ranges are left out of account.)
-fn join(
-    a: &mut [f64; CELLS],
-    ends: &[u8; ENDS],
-    meters: &[f64; METERS],
-    k: usize,
-    potentials: &[f64; PLACES],
-    first: bool,
-)
-    requires { ⌜ (length (now a) ≡ cells) × Ends (now ends) × (length (now meters) ≡ meterCells) × (k < maxStreams) × (length (now potentials) ≡ places) ⌝ }
-    ensures { λ _. ⌜ length (now (a .exit)) ≡ cells ⌝ }
-{
-    let g = start_at(ends, k);
-    let h = end_at(ends, k);
-    let c = conductance_at(meters, k);
-    let x = amount_at(meters, k, potentials[h] - potentials[g]);
-    if first {
-        between(a, g, h, x, c);
-        return;
-    }
-    let y = in_range(meters, k, x);
-    if x == y {
-        between(a, g, h, x, c);
-    } else {
-        between(a, g, h, y, c * SHUT);
-    }
-}
-
-// The first count streams.
-fn laplacian(
-    ends: &[u8; ENDS],
-    meters: &[f64; METERS],
-    count: usize,
-    potentials: &[f64; PLACES],
-    first: bool,
-) -> [f64; CELLS]
-    requires { ⌜ Ends (now ends) × (length (now meters) ≡ meterCells) × (count ≤ maxStreams) × (length (now potentials) ≡ places) ⌝ }
-    ensures { λ r. ⌜ length r ≡ cells ⌝ }
-{
-    let mut a = [0.0f64; CELLS];
-    let mut k: usize = 0;
-    while k < count {
-        join(&mut a, ends, meters, k, potentials, first);
-        k += 1;
-    }
-    a
-}
-
-// By how much each of n potentials has to change, as far as the equations at these potentials tell.
-pub fn direction(
-    ends: &[u8; ENDS],
-    meters: &[f64; METERS],
-    count: usize,
-    n: usize,
-    potentials: &[f64; PLACES],
-    first: bool,
-) -> [f64; PLACES]
-    requires { ⌜ Ends (now ends) × (length (now meters) ≡ meterCells) × (count ≤ maxStreams) × (n ≤ places) × (length (now potentials) ≡ places) ⌝ }
-    ensures { λ r. ⌜ length r ≡ places ⌝ }
-{
-    let mut a = laplacian(ends, meters, count, potentials, first);
-    eliminate(&mut a, n);
-    substitute(&a, n)
+    k
 }

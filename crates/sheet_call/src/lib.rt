@@ -11,6 +11,10 @@ use sheet_entries::balance_by;
 use sheet_write::call_fault;
 use sheet_write::draw;
 use sheet_write::refused;
+use solve_arcs::ARCS;
+use solve_arcs::NONE;
+use solve_arcs::ROWS;
+use solve_arcs_fill::lay;
 ghost use mathlib.Core.Path.{_≡_};
 ghost use mathlib.Core.Bool.{false};
 ghost use Rattle.plant_def.specs.Within.{Accepted};
@@ -40,14 +44,19 @@ pub fn balance_of(p: Plant) -> Outcome
     requires { ⌜ Accepted p ⌝ }
     ensures { λ r. ⌜ OutcomeSays (plantOf p) r ⌝ }
 {
-    let cuts = flow_bridges::cuts_of(p);
+    let streams = p.streams;
+    let count = p.count as usize;
+    let mut arcs = [NONE as u8; ARCS];
+    let mut rows = [0u64; ROWS];
+    lay(streams, count, &mut arcs, &mut rows);
+    let cuts = flow_bridges::cuts_of(&arcs, &rows);
     let labels = cuts.labels;
-    let solved = solve_call::solve(p, labels);
+    let solved = solve_call::solve(p, labels, &arcs, &rows);
     let marked = solved.marked;
     if !solved.found {
         return overfilled(marked);
     }
-    let balance = balance_by(p, cuts, solved);
+    let balance = balance_by(p, &arcs, &rows, cuts, solved);
     Outcome {
         found: true,
         balance: balance,

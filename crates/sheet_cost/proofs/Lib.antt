@@ -1,2 +1,3 @@
 -- Laws of costs.
 pub mod Costing
+pub mod Rows

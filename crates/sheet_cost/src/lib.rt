@@ -5,15 +5,24 @@ use plant_def::Stream;
 use plant_def::limits::MAX_STREAMS;
 use sheet_def::kinds::TOP_COST;
 use sheet_def::kinds::TOP_ROOT;
+use solve_arcs::ARCS;
+use solve_arcs::ROWS;
+use solve_arcs::count_of;
 ghost use mathlib.Core.Path.{_≡_};
-ghost use Prim.Native.Nat.{_+_, _*_, _≤_};
-ghost use lib.ListN.{take};
-ghost use Rattle.plant_def.specs.Limits.{maxUnits};
+ghost use Prim.Native.Nat.{ℕ, _+_, _-_, _*_, _≤_};
+ghost use lib.ListN.{length, take};
+ghost use Rattle.plant_def.specs.declared.Plant.{Plant};
+ghost use Rattle.plant_def.specs.Limits.{maxUnits, maxStreams, maxWeight};
 ghost use Rattle.plant_def.specs.Within.{WithinStream, Accepted};
 ghost use Rattle.plant_def.specs.Says.{plantOf};
 ghost use Rattle.flow_def.specs.Flows.{cost};
+ghost use Rattle.solve_def.specs.Sizes.{mostFlow};
+ghost use Rattle.solve_def.specs.Held.{opened};
+ghost use Rattle.solve_def.specs.SolverNeeds.{Amounts};
+ghost use Rattle.solve_arcs_fill.specs.Plants.{LaidOf};
 ghost use Rattle.sheet_def.specs.Apart.{capped};
 ghost use Rattle.sheet_def.specs.Calls.{Small, AllSmall, streamCost};
+ghost use Rattle.sheet_cost.specs.Rows.{apartSquared};
 
 // Weight times a square, as it is written.
 fn weighed_square(weight: u64, d: u64) -> u64
@@ -65,6 +74,42 @@ pub fn cost_of(p: Plant, flows: [i64; MAX_STREAMS]) -> u64
         let s = p.streams[i];
         let more = stream_cost(s, flows[i]);
         sum = capped_sum(sum, more);
+        i += 1;
+    }
+    sum
+}
+
+// How far two numbers are apart.
+fn gap(a: u64, b: u64) -> u64
+    ensures { λ r. ⌜ r ≡ (a - b) + (b - a) ⌝ }
+{
+    if a < b { b - a } else { a - b }
+}
+
+// What a stream costs at the held amount x, as it is written: by its weight, and twice the weight times its reading.
+fn row_cost(w: u64, pull: u64, x: u64) -> u64
+    requires { ⌜ (w ≤ maxWeight) × (x ≤ mostFlow) ⌝ }
+    ensures { λ r. ⌜ ((R : ℕ) → pull ≡ 2 * (w * R) → r ≡ capped (w * apartSquared x R)) ⌝ }
+{
+    if w == 0 {
+        return 0;
+    }
+    let d = gap(2 * (w * x), pull) / (2 * w);
+    weighed_square(w, d)
+}
+
+// The cost of amounts that the solver holds, as it is written.
+pub fn cost_held(arcs: &[u8; ARCS], rows: &[u64; ROWS], flows: &[u64; MAX_STREAMS]) -> u64
+    requires { ⌜ ((p : Plant) × LaidOf p (now arcs) (now rows)) × Amounts (now flows) × (length (now flows) ≡ maxStreams) ⌝ }
+    ensures { λ r. ⌜ ((p : Plant) → LaidOf p (now (arcs .entry)) (now (rows .entry))
+        → r ≡ capped (cost (plantOf p .streams) (opened (p .count) (now (flows .entry))))) ⌝ }
+{
+    let n = count_of(arcs);
+    let mut sum: u64 = 0;
+    let mut i: usize = 0;
+    while i < n {
+        let cost = row_cost(rows[4 * i], rows[4 * i + 1], flows[i]);
+        sum = capped_sum(sum, cost);
         i += 1;
     }
     sum

@@ -14,7 +14,8 @@ use Rattle.plant_def.proofs.Accepted.{accepted}
 use Rattle.plant_def.proofs.Arrayed.{within-of}
 use Rattle.flow_def.specs.Flows.{Cheapest}
 use Rattle.solve_def.specs.declared.Solved.{Solved}
-use Rattle.solve_def.specs.Model.{noHint, settled, solvedFrom}
+use Rattle.solve_def.specs.Model.{noHint, settled}
+use Rattle.solve_def.specs.Whole.{solvedFrom}
 use Rattle.solve_def.specs.Promise.{Right}
 use Rattle.solve_def.proofs.Theorem.{from-none, solved-right}
 use Rattle.solve_def.proofs.Demand.{demand-3, refusal-19}

@@ -20,7 +20,8 @@ use Rattle.sheet_def.specs.declared.SheetRecord.{SheetRecord}
 use Rattle.sheet_def.specs.declared.SheetRecord.the-variants.{Listed, Ended, Refused}
 use Rattle.sheet_def.specs.Apart.{totalKind, plainKind, streamSize, totalSize, plainSize}
 use Rattle.sheet_def.specs.Sheets.{adjustedKind, asReadKind, givenKind, withheldKind, recordOf, recordsOf, totalBytes, SheetParts, partsBytes}
-use Rattle.sheet_def.specs.Kept.{noSheet, someSheet, shownIn, blank, streamRecord, totalIn, plainIn, fieldsFit, totalRecord, kindRecord, recordAt, onRecord, sheetWith, recordsFrom, fits, allFit, kindFits, Recorded, WithinSheet, Unfit, Reopening}
+use Rattle.sheet_def.specs.Kept.{noSheet, someSheet, shownIn, blank, streamRecord, totalIn, plainIn, fieldsFit, totalRecord, kindRecord, recordAt}
+use Rattle.sheet_def.specs.Kept.{onRecord, sheetWith, recordsFrom, fits, allFit, kindFits, Recorded, WithinSheet, Unfit, Reopening}
 use Rattle.sheet_def.proofs.Records.{Meaning, record-means, Again, plain-again, total-again}
 use Rattle.sheet_def.proofs.There.{there, unfit-there}
 use Rattle.sheet_def.proofs.Back.{not-both, all-back, rest-refused}

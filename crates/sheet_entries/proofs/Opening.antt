@@ -1,17 +1,13 @@
 -- The flows that the solver holds, opened.
-use mathlib.Core.Path.{_≡_, _∙_}
-use mathlib.Core.List.{List, map}
+use mathlib.Core.Path.{_≡_}
 use lib.IntN.{ℤ, pos, negsuc, _-ℤ_}
 use Prim.Native.Nat.{ℕ, _+_, _^_, _≤_, _<_}
 use native.Mathlib.Omega.{arith}
-use lib.ListN.{length, getD, length-map}
 use mir.Syntax.{w64}
 use mir.Val.{SFits, toZ, hbits}
 use mir.Facts.{toZ-pos}
 use borrow.Author.Needs.{sfits-of}
-use Rattle.plant_def.specs.Limits.{maxStreams}
 use Rattle.flow_def.proofs.Integers.{up, dn}
-use Rattle.flow_def.proofs.Lists.{map-at, Written, written-all}
 use Rattle.solve_def.specs.Sizes.{flowShift, mostFlow}
 use Rattle.solve_def.specs.Held.{unshifted}
 use Rattle.solve_def.proofs.Amounts.{unshifted-val}
@@ -27,9 +23,3 @@ opened-fits x h = go (unshifted x) (unshifted-val x)
     go : (z : ℤ) → up z + flowShift ≡ x + dn z → SFits w64 z
     go (pos a) v = sfits-of (omega arith)
     go (negsuc a) v = sfits-of (omega arith)
-
--- All flows are opened.
-pub opened-all : (held : List ℕ) (before now : List ℤ) → length held ≡ maxStreams
-    → Written (pos 0) maxStreams (λ k z. unshifted (getD held k 0)) before now maxStreams → now ≡ map unshifted held
-opened-all held before now l w =
-    written-all w (map unshifted held) (length-map held unshifted ∙ l) (λ k h. map-at unshifted held k (pos 0) 0 (omega arith))

@@ -1,27 +1,38 @@
 // Class and flow of each stream, and the balance by a given solution; it stands below the solver.
-use flow_classes;
+use flow_classes::class_of;
+use flow_classes::degrees_of;
 use flow_def::Class;
 use flow_def::Cuts;
+use flow_test::adjusted_weight;
+use flow_test::verdict;
 use plant_def::Plant;
 use plant_def::limits::MAX_STREAMS;
-use sheet_cost::cost_of;
+use sheet_cost::cost_held;
 use sheet_def::Balance;
 use sheet_def::Entry;
 use sheet_def::blanks::blank_entry;
+use solve_arcs::ARCS;
+use solve_arcs::ROWS;
+use solve_arcs::count_of;
+use solve_arcs::end_at;
 use solve_def::Solved;
 use solve_def::sizes::FLOW_SHIFT;
 ghost use mathlib.Core.Path.{_≡_};
-ghost use mathlib.Core.List.{map};
 ghost use Prim.Native.Nat.{_≤_};
+ghost use lib.ListN.{length};
+ghost use Rattle.plant_def.specs.declared.Plant.{Plant};
+ghost use Rattle.plant_def.specs.Limits.{maxStreams};
 ghost use Rattle.plant_def.specs.Within.{Accepted};
 ghost use Rattle.plant_def.specs.Says.{plantOf};
 ghost use Rattle.flow_def.specs.Calls.{Cutting, classesOf};
 ghost use Rattle.solve_def.specs.Sizes.{mostFlow};
 ghost use Rattle.solve_def.specs.Held.{unshifted};
 ghost use Rattle.solve_def.specs.SolverNeeds.{Amounts};
-ghost use Rattle.sheet_def.specs.Balances.{entryOf, BalanceSays};
-ghost use Rattle.sheet_def.specs.Calls.{entriesOf};
 ghost use Rattle.solve_def.specs.Promise.{Solution};
+ghost use Rattle.solve_arcs_fill.specs.Plants.{LaidOf};
+ghost use Rattle.sheet_def.specs.Apart.{topCost};
+ghost use Rattle.sheet_def.specs.Balances.{entryOf, BalanceSays};
+ghost use Rattle.sheet_entries.specs.Entries.{EntersAs};
 
 // The flow that the solver holds as x.
 fn opened_flow(x: u64) -> i64
@@ -29,21 +40,6 @@ fn opened_flow(x: u64) -> i64
     ensures { λ r. ⌜ r ≡ unshifted x ⌝ }
 {
     x as i64 - FLOW_SHIFT as i64
-}
-
-// All flows that the solver holds.
-pub fn opened_flows(held: [u64; MAX_STREAMS]) -> [i64; MAX_STREAMS]
-    requires { ⌜ Amounts held ⌝ }
-    ensures { λ r. ⌜ r ≡ map unshifted held ⌝ }
-{
-    let mut flows = [0i64; MAX_STREAMS];
-    let mut i: usize = 0;
-    while i < MAX_STREAMS {
-        let x = opened_flow(held[i]);
-        flows[i] = x;
-        i += 1;
-    }
-    flows
 }
 
 // The classes of all streams; past the last one, Withheld.
@@ -58,7 +54,14 @@ pub fn classes_of(p: Plant, cuts: Cuts) -> [Class; MAX_STREAMS]
     let mut i: usize = 0;
     while i < n {
         let s = p.streams[i];
-        let c = flow_classes::class_of(&labels, s, taken[i], cuts.looped);
+        let c = class_of(
+            &labels,
+            s.metered,
+            s.from as usize,
+            s.to as usize,
+            taken[i],
+            cuts.looped,
+        );
         r[i] = c;
         i += 1;
     }
@@ -89,36 +92,61 @@ fn entry_of(class: Class, flow: i64) -> Entry
     }
 }
 
-// The entries of all streams; past the last one, where the class is Withheld, empty ones.
-pub fn entries_of(classes: [Class; MAX_STREAMS], flows: [i64; MAX_STREAMS]) -> [Entry; MAX_STREAMS]
-    ensures { λ r. ⌜ r ≡ entriesOf classes flows ⌝ }
+// What one pass over the streams finds: their entries, and the summed weights of the adjusted ones.
+pub struct Entered {
+    pub streams: [Entry; MAX_STREAMS],
+    pub weights: u64,
+}
+
+// The entries of all streams with the amounts that the solver holds; past the last one, where the class is Withheld, empty ones.
+fn enter(arcs: &[u8; ARCS], rows: &[u64; ROWS], cuts: Cuts, held: &[u64; MAX_STREAMS]) -> Entered
+    requires { ⌜ ((p : Plant) × LaidOf p (now arcs) (now rows) × Cutting p cuts) × Amounts (now held) × (length (now held) ≡ maxStreams) ⌝ }
+    ensures { λ r. ⌜ ((p : Plant) → LaidOf p (now (arcs .entry)) (now (rows .entry)) → Cutting p cuts
+        → EntersAs p (now (held .entry)) (r .streams) (r .weights)) × (r .weights ≤ topCost) ⌝ }
 {
+    let n = count_of(arcs);
+    let labels = cuts.labels;
+    let taken = cuts.taken;
     let none = blank_entry();
     let mut streams = [none; MAX_STREAMS];
+    let mut weights: u64 = 0;
     let mut i: usize = 0;
-    while i < MAX_STREAMS {
-        let c = classes[i];
-        let e = entry_of(c, flows[i]);
+    while i < n {
+        let w = rows[4 * i];
+        let u = end_at(arcs, 2 * i);
+        let v = end_at(arcs, 2 * i + 1);
+        let c = class_of(&labels, 0 < w, u, v, taken[i], cuts.looped);
+        let more = adjusted_weight(c, w);
+        weights += more;
+        let x = opened_flow(held[i]);
+        let e = entry_of(c, x);
         streams[i] = e;
         i += 1;
     }
-    streams
+    Entered {
+        streams: streams,
+        weights: weights,
+    }
 }
 
 // The balance by the cheapest flow. The plant as read stands unchanged beside the corrected flows.
-pub fn balance_by(p: Plant, cuts: Cuts, solved: Solved) -> Balance
-    requires { ⌜ Accepted p × Cutting p cuts × Solution p solved ⌝ }
+pub fn balance_by(
+    p: Plant,
+    arcs: &[u8; ARCS],
+    rows: &[u64; ROWS],
+    cuts: Cuts,
+    solved: Solved,
+) -> Balance
+    requires { ⌜ LaidOf p (now arcs) (now rows) × Cutting p cuts × Solution p solved ⌝ }
     ensures { λ r. ⌜ BalanceSays (plantOf p) r ⌝ }
 {
-    let classes = classes_of(p, cuts);
     let labels = cuts.labels;
     let held = solved.flows;
-    let corrected = opened_flows(held);
-    let cost = cost_of(p, corrected);
-    let degrees = flow_classes::degrees_of(p, labels);
-    let weights = flow_test::adjusted_weights(p, classes);
-    let verdict = flow_test::verdict(degrees, cost, weights);
-    let streams = entries_of(classes, corrected);
+    let cost = cost_held(arcs, rows, &held);
+    let degrees = degrees_of(arcs, rows, p.units, labels);
+    let entered = enter(arcs, rows, cuts, &held);
+    let streams = entered.streams;
+    let verdict = verdict(degrees, cost, entered.weights);
     Balance {
         streams: streams,
         cost: cost,

@@ -1,2 +1,2 @@
--- Laws of the push along arcs.
+-- Laws of the augmentation along arcs.
 pub mod Augments

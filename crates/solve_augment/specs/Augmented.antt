@@ -5,7 +5,7 @@ use Prim.Native.Nat.{ℕ, _≤_}
 use lib.ListN.{length, take}
 use Rattle.solve_def.specs.declared.Route.{Route}
 use Rattle.solve_def.specs.Sizes.{mostStep}
-use Rattle.solve_def.specs.Push.{pushed}
+use Rattle.solve_def.specs.Augment.{augmented}
 use Rattle.solve_def.specs.SearchNeeds.{Trail, Roomy}
 use Rattle.solve_arcs.specs.Cells.{countOf, marginCells}
 use Rattle.solve_arcs.specs.ArcNeeds.{Laying, Margined, Free}
@@ -23,4 +23,4 @@ MarginsMoved ls rs via way ms xs ms′ xs′ =
 -- And the amounts are those of the definition, whichever streams the arcs are of.
 abbrev pub FlowsMoved : List ℕ → List ℕ → List ℕ → List ℕ → Route → List ℕ → List ℕ → Type 0
 FlowsMoved ls rs via ends way xs xs′ =
-    (w : Laying ls rs) → xs′ ≡ pushed (take (w .n) (w .streams)) via ends (way .delta) (way .len) (way .target) xs
+    (w : Laying ls rs) → xs′ ≡ augmented (take (w .n) (w .streams)) via ends (way .delta) (way .len) (way .target) xs

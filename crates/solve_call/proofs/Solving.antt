@@ -11,11 +11,15 @@ use Rattle.plant_def.proofs.Arrayed.{all-listed, within-of}
 use Rattle.flow_def.specs.Overfull.{Overfull}
 use Rattle.solve_def.specs.declared.State.{State}
 use Rattle.solve_def.specs.declared.Ended.{Ended}
-use Rattle.solve_def.specs.Model.{finished, masked, tiesTo, solvedFrom}
+use Rattle.solve_def.specs.Model.{finished, masked, tiesTo}
+use Rattle.solve_def.specs.Made.{made}
+use Rattle.solve_def.specs.Whole.{solvedFrom}
+use Rattle.solve_def.specs.Few.{Effort}
 use Rattle.solve_def.specs.SolverNeeds.{AtHint}
 use Rattle.solve_def.specs.Promise.{Right}
 use Rattle.solve_def.proofs.Phases.{Finished}
 use Rattle.solve_def.proofs.Ending.{finished-good, finished-even}
+use Rattle.solve_def.proofs.Counted.{effort}
 use Rattle.solve_def.proofs.Theorem.{network-of, solvable-in, ended-full, solved-right}
 use Rattle.solve_arcs.specs.Cells.{countOf}
 use Rattle.solve_arcs.specs.ArcNeeds.{Laid, Margined}
@@ -25,11 +29,17 @@ module _ (p : Arrays.Plant) (a : Accepted p) (st : State) (s : AtHint (plantOf p
   abbrev ss : List Stream
   ss = plantOf p .streams
 
+  -- How the phases end.
   pub ends : Finished ss e
   ends = rw q (finished-good ss (solvable-in (plantOf p) (within-of p a)) st s)
 
+  -- What is handed over where a set is full.
   pub full-right : (own : List Bool) → e .full ≡ true → own ≡ masked (p .units) (e .marked) → Overfull (plantOf p) own
   full-right own n o = rw o (ended-full (plantOf p) (within-of p a) e ends n)
+
+  -- The count is the definition's, and so it is small.
+  pub counted : (count : ℕ) → count ≡ made ss st → Effort ss st count
+  counted = effort ss (solvable-in (plantOf p) (within-of p a)) st s
 
   module _ (n : e .full ≡ false) where
     -- What the tie pass begins from.
@@ -48,11 +58,12 @@ module _ (p : Arrays.Plant) (a : Accepted p) (st : State) (s : AtHint (plantOf p
         → Margined (countOf ls) rs (e .state .flows) 1 0 ms
     tie-margined ls rs ms l m = subst (λ (k : ℕ). Margined k rs (e .state .flows) 1 0 ms) (sym (l .along .counted)) m
 
-    found-is : (flows : List ℕ) (own : List Bool) → flows ≡ tiesTo ss (e .state .potentials) (p .count) (e .state .flows) → own ≡ masked (p .units) (e .marked)
-        → solvedFrom (p .units) ss st ≡ record { found = true; flows = flows; potentials = e .state .potentials; marked = own }
-    unfolding solvedFrom
-    found-is flows own f o = rw (← q, n, f, o, all-listed p a)
+    module _ (flows : List ℕ) (own : List Bool) (count : ℕ) (f : flows ≡ tiesTo ss (e .state .potentials) (p .count) (e .state .flows))
+        (o : own ≡ masked (p .units) (e .marked)) (c : count ≡ made ss st) where
+      found-is : solvedFrom (p .units) ss st ≡ record { found = true; flows = flows; potentials = e .state .potentials; marked = own; made = count }
+      unfolding solvedFrom
+      found-is = rw (← q, n, f, o, c, all-listed p a)
 
-    pub found-right : (flows : List ℕ) (own : List Bool) → flows ≡ tiesTo ss (e .state .potentials) (p .count) (e .state .flows) → own ≡ masked (p .units) (e .marked)
-        → Right p (record { found = true; flows = flows; potentials = e .state .potentials; marked = own })
-    found-right flows own f o = subst (Right p) (found-is flows own f o) (solved-right p a st s)
+      -- What is handed over where a flow is found.
+      pub found-right : Right p (record { found = true; flows = flows; potentials = e .state .potentials; marked = own; made = count })
+      found-right = subst (Right p) found-is (solved-right p a st s)

@@ -15,31 +15,42 @@ use solve_phases::marks::masked;
 use solve_settle::settle;
 use solve_start::start;
 use solve_ties::tie_all;
+ghost use Prim.Native.Nat.{_≤_};
 ghost use Rattle.plant_def.specs.Within.{Accepted};
 ghost use Rattle.plant_def.specs.Says.{plantOf};
 ghost use Rattle.solve_def.specs.SolverNeeds.{AtHint, Hinted};
 ghost use Rattle.solve_def.specs.Promise.{Right};
+ghost use Rattle.solve_def.specs.Few.{mostMade, Effort};
 ghost use Rattle.solve_arcs.specs.ArcNeeds.{Laid};
 ghost use Rattle.flow_def.specs.Calls.{Grouped};
 
-// The cheapest balanced flow of a plant, from amounts settled at a hint; or a set of places that must take in more than it can let out.
+// The cheapest balanced flow of a plant, from amounts settled at a hint; or a set of places that must take in more than it can let
+// out. The improvements are counted.
 pub fn solve_at(p: Plant, arcs: &[u8; ARCS], rows: &[u64; ROWS], start: State) -> Solved
     requires { ⌜ Accepted p × Laid (p .streams) (p .count) (now arcs) (now rows) × AtHint (plantOf p .streams) start ⌝ }
-    ensures { λ r. ⌜ Right p r ⌝ }
+    ensures { λ r. ⌜ Right p r × Effort (plantOf p .streams) start (r .made) ⌝ }
 {
+    let mut flows = start.flows;
+    let mut potentials = start.potentials;
+    let mut nets = start.nets;
     let mut margins = [0u64; MARGINS];
-    let e = finish(arcs, rows, &mut margins, start);
+    let e = finish(
+        arcs,
+        rows,
+        &mut margins,
+        &mut flows,
+        &mut potentials,
+        &mut nets,
+    );
     let marked = e.marked;
     let own = masked(marked, p.units);
-    let st = e.state;
-    let potentials = st.potentials;
-    let mut flows = st.flows;
     if e.full {
         return Solved {
             found: false,
             flows: flows,
             potentials: potentials,
             marked: own,
+            made: e.made,
         };
     }
     tie_all(arcs, rows, &mut margins, &mut flows, &potentials);
@@ -48,13 +59,14 @@ pub fn solve_at(p: Plant, arcs: &[u8; ARCS], rows: &[u64; ROWS], start: State) -
         flows: flows,
         potentials: potentials,
         marked: own,
+        made: e.made,
     }
 }
 
-// From any hint.
+// From any hint. Few improvements are made.
 pub fn solve_from(p: Plant, h: Hint) -> Solved
     requires { ⌜ Accepted p × Hinted (plantOf p .streams) h ⌝ }
-    ensures { λ r. ⌜ Right p r ⌝ }
+    ensures { λ r. ⌜ Right p r × (r .made ≤ mostMade) ⌝ }
 {
     let streams = p.streams;
     let count = p.count as usize;
@@ -65,16 +77,11 @@ pub fn solve_from(p: Plant, h: Hint) -> Solved
     solve_at(p, &arcs, &rows, st)
 }
 
-// The same of a plant whose labels by the unmetered streams are handed in.
-pub fn solve(p: Plant, labels: [u8; PLACES]) -> Solved
-    requires { ⌜ Accepted p × Grouped p labels ⌝ }
-    ensures { λ r. ⌜ Right p r ⌝ }
+// The same of a plant whose arcs and rows are laid, and whose labels by the unmetered streams are handed in.
+pub fn solve(p: Plant, labels: [u8; PLACES], arcs: &[u8; ARCS], rows: &[u64; ROWS]) -> Solved
+    requires { ⌜ Accepted p × Grouped p labels × Laid (p .streams) (p .count) (now arcs) (now rows) ⌝ }
+    ensures { λ r. ⌜ Right p r × (r .made ≤ mostMade) ⌝ }
 {
-    let streams = p.streams;
-    let count = p.count as usize;
-    let mut arcs = [NONE as u8; ARCS];
-    let mut rows = [0u64; ROWS];
-    lay(streams, count, &mut arcs, &mut rows);
-    let begun = start(p, labels, &arcs, &rows);
-    solve_at(p, &arcs, &rows, begun)
+    let begun = start(p, labels, arcs, rows);
+    solve_at(p, arcs, rows, begun)
 }

@@ -38,7 +38,7 @@ use Rattle.solve_def.proofs.Steady.{steps-over}
 use Rattle.solve_def.proofs.Phases.{Phased, Stage, stage-underway, stage-phased, stage-next}
 use Rattle.solve_def.proofs.Ending.{none-stage, none-over, hint-underway}
 use Rattle.solve_def.specs.Made.{madeTo, stuckTo, madeBy, stuckBy, made, stuck}
-use Rattle.solve_def.specs.Few.{Few}
+use Rattle.solve_def.specs.Few.{Few, Effort}
 use Rattle.solve_def.proofs.Paces.{phase-made, phase-stuck}
 
 -- What the other phases make at most.
@@ -226,3 +226,7 @@ few ss v st s = by-cases (leb (overSum (st .nets)) mostTried)
       searches = rw e (omega (arith, r .1));
       hinted = λ o. absurd (omega (arith, o, leb-false (overSum (st .nets)) mostTried e));
     })
+
+-- So is a count that is the definition's.
+pub effort : (ss : List Stream) → Solvable ss → (st : State) → AtHint ss st → (m : ℕ) → m ≡ made ss st → Effort ss st m
+effort ss v st s m e = let f = few ss v st s in record { counted = e; few = rw e (f .improvements); hinted = λ o. rw e (f .hinted o) }

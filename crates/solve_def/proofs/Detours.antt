@@ -21,12 +21,12 @@ use Rattle.solve_def.specs.declared.Tree.{Tree}
 use Rattle.solve_def.specs.Sizes.{searchRounds}
 use Rattle.solve_def.specs.Held.{readingOf, lowOf, highOf, Held, AllHeld}
 use Rattle.solve_def.specs.Search.{rootAt, Grown, tightPath}
-use Rattle.solve_def.specs.Push.{pushed}
+use Rattle.solve_def.specs.Augment.{augmented}
 use Rattle.solve_def.proofs.Amounts.{net, net-set}
 use Rattle.solve_def.specs.Slack.{slackAt}
 use Rattle.solve_def.proofs.Least.{Usable, startIn, endIn}
 use Rattle.solve_def.proofs.Bounds.{Open, slack-open, open-of}
-use Rattle.solve_def.proofs.Pushing.{reached, Pushed, push-good}
+use Rattle.solve_def.proofs.Augmenting.{reached, Augmented, augment-good}
 use Rattle.solve_def.proofs.Growing.{Growing, root-growing}
 use Rattle.solve_def.proofs.TightPath.{Used, Path, way, shut, path-good, not-usable}
 use Rattle.solve_def.specs.Model.{tiedBy, tiedAt, tiesTo}
@@ -91,11 +91,11 @@ module _ (ss : List Stream) (v : Solvable ss) (ps : List ℕ) (i : ℕ) (li : i 
   module _ (m : s .metered ≡ true) (none : slackAt ss xs ps 1 i false ≡ 0) (t : Tree) (g : Growing maxUnits ss xs 1 (s .from) ps t)
       (r : reached (s .from) (t .ends) (t .len) (s .to) ≡ true) (used : Used ss (suc i) t) where
     ys : List ℕ
-    ys = pushed ss (t .via) (t .ends) 1 (t .len) (s .to) xs
+    ys = augmented ss (t .via) (t .ends) 1 (t .len) (s .to) xs
 
-    q : Pushed ss xs ys ps 1 (s .to) (s .from) (t .via) (t .len)
+    q : Augmented ss xs ys ps 1 (s .to) (s .from) (t .via) (t .len)
     unfolding ys
-    q = push-good ss ps 1 (s .from) (t .via) (t .ends) (t .len) (s .to) xs (omega (arith, h .long, v .plain .few)) (g .held) (g .links) r
+    q = augment-good ss ps 1 (s .from) (t .via) (t .ends) (t .len) (s .to) xs (omega (arith, h .long, v .plain .few)) (g .held) (g .links) r
 
     ws : List ℕ
     ws = set ys i (getD ys i 0 - 1)
@@ -174,8 +174,8 @@ module _ (ss : List Stream) (v : Solvable ss) (ps : List ℕ) (i : ℕ) (li : i 
       tight = tight;
     }
 
-    -- What the push leaves of stream i.
-    pub left-some : 1 ≤ getD (pushed ss (t .via) (t .ends) 1 (t .len) (s .to) xs) i 0
+    -- What the augmentation leaves of stream i.
+    pub left-some : 1 ≤ getD (augmented ss (t .via) (t .ends) 1 (t .len) (s .to) xs) i 0
     unfolding ys
     left-some = rw here (some i li)
 

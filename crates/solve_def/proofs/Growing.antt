@@ -23,14 +23,14 @@ use Rattle.solve_def.specs.Held.{readingOf, lowOf, highOf, Held, AllHeld
 use Rattle.solve_def.specs.SearchNeeds.{Close, Moderate}
 use Rattle.solve_def.specs.Slack.{slackBy, slackAt}
 use Rattle.solve_def.specs.Search.{fallen, loweredBy, farEnd, rootAt, addedTo}
-use Rattle.solve_def.specs.Push.{otherEnd}
+use Rattle.solve_def.specs.Augment.{otherEnd}
 use Rattle.solve_def.proofs.Amounts.{get-set}
 use Rattle.solve_def.proofs.Elements.{lowered-at}
 use Rattle.solve_def.proofs.Least.{startIn, endIn}
 use Rattle.solve_def.specs.Counts.{countPlaces}
 use Rattle.solve_def.proofs.Counting.{count-most, count-none, count-more}
 use Rattle.solve_def.proofs.Bounds.{Open, slack-open, open-of}
-use Rattle.solve_def.proofs.Pushing.{reached, Link, both-reached}
+use Rattle.solve_def.proofs.Augmenting.{reached, Link, both-reached}
 
 -- Streams among places 0 to n, as far as the search needs them.
 pub record Plain (n : ℕ) (ss : List Stream) : Type 0 where

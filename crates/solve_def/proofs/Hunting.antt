@@ -24,7 +24,7 @@ use Rattle.solve_def.proofs.Elements.{lowered-at, lowered-long, fallen-
 use Rattle.solve_def.proofs.Least.{opposed, all-usable, startIn, endIn, Answers, least-good}
 use Rattle.solve_def.proofs.Counting.{count-full}
 use Rattle.solve_def.proofs.Bounds.{Open, open-of}
-use Rattle.solve_def.proofs.Pushing.{reached-more}
+use Rattle.solve_def.proofs.Augmenting.{reached-more}
 use Rattle.solve_def.proofs.Growing.{Plain, Growing, Level, root-growing, from-small, to-small, lower-growing, lower-level, some-left}
 use Rattle.solve_def.proofs.Growing.{far-off, far-near, add-level, add-growing, slack-gone, slack-rise, modest}
 

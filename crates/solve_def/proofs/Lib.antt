@@ -1,4 +1,4 @@
--- Laws of the search, of the push and of the solver. Laws of the count.
+-- Laws of the search, of the augmentation and of the solver. Laws of the count.
 pub mod Weights
 pub mod Least
 pub mod Rounds
@@ -13,7 +13,7 @@ pub mod Bounds
 pub mod Finds
 pub mod Rounding
 pub mod Amounts
-pub mod Pushing
+pub mod Augmenting
 pub mod Counting
 pub mod Growing
 pub mod Hunting
@@ -43,4 +43,5 @@ pub mod TieTurns
 pub mod Theorem
 pub mod Demand
 pub mod Paces
+pub mod CountTurns
 pub mod Counted

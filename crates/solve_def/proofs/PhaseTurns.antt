@@ -104,7 +104,7 @@ unfolding phaseTo
 phase-none ss d st = refl
 
 -- A phase that is full stays so.
-phase-stays : (ss : List Stream) (d : ℕ) (st : State) (m k : ℕ) → m ≤ k → phaseTo m ss d st .full ≡ true → phaseTo k ss d st ≡ phaseTo m ss d st
+pub phase-stays : (ss : List Stream) (d : ℕ) (st : State) (m k : ℕ) → m ≤ k → phaseTo m ss d st .full ≡ true → phaseTo k ss d st ≡ phaseTo m ss d st
 unfolding phaseTo
 phase-stays ss d st m zero o t = let q : m ≡ 0 = omega arith in rw q
 phase-stays ss d st m (suc k) o t = elim (ℕ-discrete m (suc k)) [
@@ -129,7 +129,8 @@ module _ (n : ℕ) (ss : List Stream) (h : Hint) (e : Ended) (q : e ≡ phase ss
   unfolding phases
   phases-stop f = sym (rw (← q) (ap (λ (b : Bool). pick b e (phases n ss (asHint (e .state)))) f))
 
-half : (n : ℕ) → 2 ^ suc n / 2 ≡ 2 ^ n
+-- A step that is a power of two, halved.
+pub half : (n : ℕ) → 2 ^ suc n / 2 ≡ 2 ^ n
 half n = let q : 2 ^ suc n ≡ 2 * 2 ^ n = omega arith in rw q (mul-div-cancel-left (2 ^ n) (omega arith))
 
 double : (n : ℕ) → 2 ^ n ≤ 2 ^ suc n

@@ -13,7 +13,7 @@ use Rattle.solve_def.specs.declared.Tree.{Tree}
 use Rattle.solve_def.specs.Sizes.{netShift, farthest}
 use Rattle.solve_def.specs.Slack.{At, Nothing, leastTo}
 use Rattle.solve_def.specs.Search.{loweredBy, farEnd, addedTo, grownBy, grow, tightPath}
-use Rattle.solve_def.specs.Push.{movedOf, otherEnd, pushed}
+use Rattle.solve_def.specs.Augment.{movedOf, otherEnd, augmented}
 
 module _ (streams : List Stream) (n : ℕ) (xs es : List ℕ) (d : ℕ) (ps : List ℕ) (t : Tree) where
   -- The search: no stream leaves the visited places; none that is open; the new place has a negative net; or it has not.
@@ -91,22 +91,22 @@ module _ (streams : List Stream) (n : ℕ) (xs ps : List ℕ) (v skip : ℕ) (t 
   unfolding tightPath
   path-end = refl
 
--- The push: the remembered stream led to the place, or it did not.
+-- The augmentation: the remembered stream led to the place, or it did not.
 module _ (streams : List Stream) (n : ℕ) (via ends : List ℕ) (d : ℕ) where
   -- The last remembered stream leads to the place.
-  pub push-hit : (j c : ℕ) (xs : List ℕ) → 0 < j → getD via (j - 1) 0 < n → getD ends (j - 1) 0 ≡ c
-      → pushed (take n streams) via ends d j c xs
-      ≡ pushed (take n streams) via ends d (j - 1) (otherEnd (getD streams (getD via (j - 1) 0) noStream) c)
+  pub augment-hit : (j c : ℕ) (xs : List ℕ) → 0 < j → getD via (j - 1) 0 < n → getD ends (j - 1) 0 ≡ c
+      → augmented (take n streams) via ends d j c xs
+      ≡ augmented (take n streams) via ends d (j - 1) (otherEnd (getD streams (getD via (j - 1) 0) noStream) c)
       (set xs (getD via (j - 1) 0) (movedOf (getD streams (getD via (j - 1) 0) noStream) (getD xs (getD via (j - 1) 0) 0) c d))
-  unfolding pushed
-  push-hit zero c xs p k h = absurd (omega arith)
-  push-hit (suc j) c xs p k h =
+  unfolding augmented
+  augment-hit zero c xs p k h = absurd (omega arith)
+  augment-hit (suc j) c xs p k h =
       let e : suc j - 1 ≡ j = omega arith in
       rw e (simp (eq-eqb (getD ends j 0) c (rw e at h), getD-take n streams (getD via j 0) noStream (rw e at k)))
 
   -- It does not.
-  pub push-miss : (j c : ℕ) (xs : List ℕ) → 0 < j → (getD ends (j - 1) 0 ≡ c → ⊥)
-      → pushed (take n streams) via ends d j c xs ≡ pushed (take n streams) via ends d (j - 1) c xs
-  unfolding pushed
-  push-miss zero c xs p h = absurd (omega arith)
-  push-miss (suc j) c xs p h = let e : suc j - 1 ≡ j = omega arith in rw e (simp (ne-eqb (getD ends j 0) c (rw e at h)))
+  pub augment-miss : (j c : ℕ) (xs : List ℕ) → 0 < j → (getD ends (j - 1) 0 ≡ c → ⊥)
+      → augmented (take n streams) via ends d j c xs ≡ augmented (take n streams) via ends d (j - 1) c xs
+  unfolding augmented
+  augment-miss zero c xs p h = absurd (omega arith)
+  augment-miss (suc j) c xs p h = let e : suc j - 1 ≡ j = omega arith in rw e (simp (ne-eqb (getD ends j 0) c (rw e at h)))

@@ -23,13 +23,13 @@ use Rattle.solve_def.specs.Sizes.{mostFlow, netShift, settledRoom}
 use Rattle.solve_def.specs.Held.{lowOf, AllHeld}
 use Rattle.solve_def.specs.Search.{target, Grown, sought}
 use Rattle.solve_def.specs.SearchNeeds.{Close, Moderate}
-use Rattle.solve_def.specs.Push.{pushed}
+use Rattle.solve_def.specs.Augment.{augmented}
 use Rattle.solve_def.specs.declared.State.{State}
-use Rattle.solve_def.specs.Model.{Improved, shiftedNets, pushedOn, improvedAt, improvedBy, overSum, stepsOver}
+use Rattle.solve_def.specs.Model.{Improved, shiftedNets, augmentedOn, improvedAt, improvedBy, overSum, stepsOver}
 use Rattle.solve_def.specs.SolverNeeds.{Step, Agreed, Sound, Underway}
 use Rattle.solve_def.proofs.Amounts.{get-set, net}
 use Rattle.solve_def.proofs.Bounds.{weight-none, held-agree}
-use Rattle.solve_def.proofs.Pushing.{reached, reached-new, Pushed, push-good}
+use Rattle.solve_def.proofs.Augmenting.{reached, reached-new, Augmented, augment-good}
 use Rattle.solve_def.proofs.Hunting.{Hunt, hit, stuck, Found, Stuck, hunt}
 use Rattle.solve_def.proofs.Streams.{Solvable}
 use Rattle.solve_def.proofs.Booking.{net-value}
@@ -209,8 +209,8 @@ module _ (ss : List Stream) (v : Solvable ss) (d b : ℕ) (step : Step d) (st : 
       hunt maxUnits ss (v .plain) (st .flows) (st .nets) d (step .1) s (omega arith) (λ k l. sound-room ss v d b step st h (omega arith) k l .0) moderate
       (st .potentials) (h .capped) (h .floor) (h .held) (omega arith)
 
-  pushed-better : (g : Grown) → Found maxUnits ss (st .flows) (st .nets) d s (st .potentials) g → Better ss d b s st (pushedOn ss st d s g)
-  pushed-better g r = record {
+  augmented-better : (g : Grown) → Found maxUnits ss (st .flows) (st .nets) d s (st .potentials) g → Better ss d b s st (augmentedOn ss st d s g)
+  augmented-better g r = record {
     sound = record {
       held = floors .held;
       inside = p .inside (h .inside);
@@ -236,7 +236,7 @@ module _ (ss : List Stream) (v : Solvable ss) (d b : ℕ) (step : Step d) (st : 
       w = target (g .tree)
 
       ys : List ℕ
-      ys = pushed ss (g .tree .via) (g .tree .ends) d (g .tree .len) (target (g .tree)) (st .flows)
+      ys = augmented ss (g .tree .via) (g .tree .ends) d (g .tree .len) (target (g .tree)) (st .flows)
 
       ne : s ≡ w → ⊥
       ne q = omega (arith, r .negative, ap (λ (k : ℕ). getD (st .nets) k 0) q)
@@ -258,9 +258,9 @@ module _ (ss : List Stream) (v : Solvable ss) (d b : ℕ) (step : Step d) (st : 
           let q : g .tree .len ≡ suc (g .tree .len - 1) = omega (arith, r .some) in
           subst (λ (j : ℕ). reached s (g .tree .ends) j w ≡ true) (sym q) (reached-new s (g .tree .ends) (g .tree .len - 1))
 
-      p : Pushed ss (st .flows) (pushed ss (g .tree .via) (g .tree .ends) d (g .tree .len) w (st .flows)) (g .potentials) d w s (g .tree .via) (g .tree .len)
+      p : Augmented ss (st .flows) (augmented ss (g .tree .via) (g .tree .ends) d (g .tree .len) w (st .flows)) (g .potentials) d w s (g .tree .via) (g .tree .len)
       p =
-          push-good ss (g .potentials) d s (g .tree .via) (g .tree .ends) (g .tree .len) w (st .flows) (omega (arith, h .long, v .plain .few)) (r .grown .held)
+          augment-good ss (g .potentials) d s (g .tree .via) (g .tree .ends) (g .tree .len) w (st .flows) (omega (arith, h .long, v .plain .few)) (r .grown .held)
           (r .grown .links) reach
 
       -- Amounts move by d at most: they are moderate still, and unmetered ones have room.
@@ -273,7 +273,7 @@ module _ (ss : List Stream) (v : Solvable ss) (d b : ℕ) (step : Step d) (st : 
           let r = h .close k (omega (arith, v .plain .few)) e in
           (omega (arith, r .1, p .least k, step .1, fits), omega (arith, r .0, p .most k, step .1, fits))
 
-      floors : Floors ss ys d (pushedOn ss st d s g .potentials)
+      floors : Floors ss ys d (augmentedOn ss st d s g .potentials)
       floors =
           refloored-floors ss v ys (g .potentials) d (step .1) still (r .long ∙ h .per-place) (λ u l. omega (arith, h .capped u l, r .rise u)) (p .held)
           (held-agreed ss v ys (g .potentials) d roomy (p .held))
@@ -283,6 +283,6 @@ module _ (ss : List Stream) (v : Solvable ss) (d b : ℕ) (step : Step d) (st : 
   improved-good = go (sought ss (st .flows) (st .nets) (st .potentials) d s) finds
     where
       go : (g : Grown) → Hunt maxUnits ss (st .flows) (st .nets) d s (st .potentials) g
-          → Outcome ss d b s st (improvedBy (g .found) (pick (g .found) (pushedOn ss st d s g) st) (g .tree .visited))
-      go g (hit e f) = rw e (better refl (pushed-better g f))
+          → Outcome ss d b s st (improvedBy (g .found) (pick (g .found) (augmentedOn ss st d s g) st) (g .tree .visited))
+      go g (hit e f) = rw e (better refl (augmented-better g f))
       go g (stuck e f) = rw e (jammed refl refl f)

@@ -25,7 +25,9 @@ use Rattle.solve_def.specs.Held.{opened}
 use Rattle.solve_def.specs.SearchNeeds.{Network}
 use Rattle.solve_def.specs.declared.State.{State}
 use Rattle.solve_def.specs.declared.Ended.{Ended}
-use Rattle.solve_def.specs.Model.{noHint, tiesTo, finished, masked, solvedFrom, settled}
+use Rattle.solve_def.specs.Model.{noHint, tiesTo, finished, masked, settled}
+use Rattle.solve_def.specs.Made.{made}
+use Rattle.solve_def.specs.Whole.{solvedFrom}
 use Rattle.solve_def.specs.SolverNeeds.{Hinted, AtHint, Even}
 use Rattle.solve_def.specs.Promise.{potential, potentialAt, Solution, Right}
 use Rattle.solve_def.proofs.Streams.{Solvable, solvable-with}
@@ -123,11 +125,18 @@ module _ (p : Arrays.Plant) (a : Accepted p) (st : State) (s : AtHint (plantOf p
             flows = pick (e .full) (e .state .flows) (tiesTo (q .streams) (e .state .potentials) (length (q .streams)) (e .state .flows));
             potentials = e .state .potentials;
             marked = masked (p .units) (e .marked);
+            made = made (q .streams) st;
           })
       go e f = by-cases (e .full) (λ n. rw n (ended-full q w e f n)) (λ n. rw n (found n))
         where
           found : e .full ≡ false
-              → Solution p (record { found = true; flows = ys q w e f; potentials = e .state .potentials; marked = masked (p .units) (e .marked) })
+              → Solution p (record {
+                found = true;
+                flows = ys q w e f;
+                potentials = e .state .potentials;
+                marked = masked (p .units) (e .marked);
+                made = made (q .streams) st;
+              })
           found n = record {
             cheapest = subst (λ (m : ℕ). Cheapest q (opened m (ys q w e f))) (all-listed p a) (ended-cheapest q w e f n);
             steps = λ k l. within-bounds (potentialAt (ps q w e f)) (streamAt (q .streams) k) _

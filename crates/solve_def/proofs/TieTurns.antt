@@ -1,4 +1,4 @@
--- The tie pass over the array: one stream by its parts, and what the push round it needs.
+-- The tie pass over the array: one stream by its parts, and what the augmentation round it needs.
 use mathlib.Core.Path.{_≡_, refl, sym, _∙_, ap, subst}
 use mathlib.Core.Bool.{Bool, true, false}
 use mathlib.Core.List.{List}
@@ -18,7 +18,7 @@ use Rattle.solve_def.specs.declared.Tree.{Tree}
 use Rattle.solve_def.specs.Sizes.{searchRounds}
 use Rattle.solve_def.specs.Slack.{slackBy}
 use Rattle.solve_def.specs.Search.{rootAt, Grown, tightPath}
-use Rattle.solve_def.specs.Push.{pushed}
+use Rattle.solve_def.specs.Augment.{augmented}
 use Rattle.solve_def.specs.SearchNeeds.{Network, Trail, Roomy}
 use Rattle.solve_def.proofs.Counting.{count-most}
 use Rattle.solve_def.proofs.TightPath.{Path, way, shut}
@@ -67,18 +67,18 @@ module _ (streams : List Stream) (n : ℕ) (w : Network streams n) (ps : List �
   -- Another has 1 less, and the way round it has 1 more.
   pub tied-round : (g : Grown) → s .metered ≡ true → lack ≤ 0 → g ≡ searched → g .found ≡ true
       → tiedAt ss ps i xs
-      ≡ set (pushed ss (g .tree .via) (g .tree .ends) 1 (g .tree .len) (s .to) xs) i (getD (pushed ss (g .tree .via) (g .tree .ends) 1 (g .tree .len) (s .to) xs) i 0 - 1)
+      ≡ set (augmented ss (g .tree .via) (g .tree .ends) 1 (g .tree .len) (s .to) xs) i (getD (augmented ss (g .tree .via) (g .tree .ends) 1 (g .tree .len) (s .to) xs) i 0 - 1)
   tied-round g e h q f = tied-search e h ∙ rw (← q, f)
 
-  -- What the push needs, and what it leaves of stream i.
-  pub record Pushable (t : Tree) : Type 0 where
+  -- What the augmentation needs, and what it leaves of stream i.
+  pub record RoundAugmentable (t : Tree) : Type 0 where
     pub trail : Trail (t .via) n (t .len)
     pub roomy : Roomy xs (t .len)
-    pub some : 1 ≤ getD (pushed ss (t .via) (t .ends) 1 (t .len) (s .to) xs) i 0
+    pub some : 1 ≤ getD (augmented ss (t .via) (t .ends) 1 (t .len) (s .to) xs) i 0
 
-  -- What the push round it needs.
-  pub pushable : Even ss ps i xs → (g : Grown) → s .metered ≡ true → lack ≤ 0 → g ≡ searched → g .found ≡ true → Pushable (g .tree)
-  pushable h g e z q f = go (subst (λ (o : Grown). Path maxUnits ss xs ps (s .from) (s .to) (suc i) o) (sym q) path)
+  -- What the augmentation round it needs.
+  pub round-augmentable : Even ss ps i xs → (g : Grown) → s .metered ≡ true → lack ≤ 0 → g ≡ searched → g .found ≡ true → RoundAugmentable (g .tree)
+  round-augmentable h g e z q f = go (subst (λ (o : Grown). Path maxUnits ss xs ps (s .from) (s .to) (suc i) o) (sym q) path)
     where
       li : i < length (take n streams)
       li = rw (in-use streams n w) l
@@ -89,7 +89,7 @@ module _ (streams : List Stream) (n : ℕ) (w : Network streams n) (ps : List �
       path : Path maxUnits ss xs ps (s .from) (s .to) (suc i) searched
       path = rw (at, in-use streams n w) at (round-path ss (solvable-of streams n w) ps i li xs h)
 
-      go : Path maxUnits ss xs ps (s .from) (s .to) (suc i) g → Pushable (g .tree)
+      go : Path maxUnits ss xs ps (s .from) (s .to) (suc i) g → RoundAugmentable (g .tree)
       go (shut o ls a b d) = clash _ f o
       go (way o a r u) =
           let m = count-most maxUnits (λ v. getD (g .tree .visited) v false) in

@@ -18,7 +18,7 @@ use Rattle.solve_def.specs.Slack.{Crossing, At, Nothing, leastTo, slackA
 use Rattle.solve_def.specs.Search.{farEnd, onCrossing, addedTo, target, Grown, grownBy, tightPath}
 use Rattle.solve_def.proofs.Least.{opposed, Usable, startIn, endIn, Answers, least-good}
 use Rattle.solve_def.proofs.Counting.{count-most, count-full}
-use Rattle.solve_def.proofs.Pushing.{reached, reached-more, reached-new}
+use Rattle.solve_def.proofs.Augmenting.{reached, reached-more, reached-new}
 use Rattle.solve_def.proofs.Growing.{Plain, Growing, add-growing}
 use Rattle.solve_def.proofs.Hunting.{new-target}
 

@@ -18,7 +18,7 @@ use Rattle.solve_def.specs.declared.State.{State}
 use Rattle.solve_def.specs.Sizes.{netShift, settledRoom}
 use Rattle.solve_def.specs.Search.{target, Grown, grownBy, sought}
 use Rattle.solve_def.specs.SearchNeeds.{Network, Potentials, Close, Trail, Roomy}
-use Rattle.solve_def.specs.Model.{improvedBy, settledOf, settledTo, booked, netsTo, pushedOn, improvedAt, overSum}
+use Rattle.solve_def.specs.Model.{improvedBy, settledOf, settledTo, booked, netsTo, augmentedOn, improvedAt, overSum}
 use Rattle.solve_def.specs.SolverNeeds.{Step, Shiftable, Underway}
 use Rattle.solve_def.proofs.Counting.{count-most}
 use Rattle.solve_def.proofs.Hunting.{Hunt, hit, stuck, sought-stays}
@@ -35,18 +35,18 @@ set-le e s y v b l h k = elim (ℕ-discrete v s) [
 -- An improvement by its parts.
 module _ (ss : List Stream) (st : State) (d s : ℕ) (found : Bool) (t : Tree) (ps : List ℕ) (e : grownBy found t ps ≡ sought ss (st .flows) (st .nets) (st .potentials) d s) where
   -- An improvement by what its search found.
-  pub improved-is : improvedAt ss st d s ≡ improvedBy found (pick found (pushedOn ss st d s (grownBy found t ps)) st) (t .visited)
+  pub improved-is : improvedAt ss st d s ≡ improvedBy found (pick found (augmentedOn ss st d s (grownBy found t ps)) st) (t .visited)
   improved-is = rw (← e)
 
   -- The search found a place.
-  pub improved-done : found ≡ true → improvedAt ss st d s ≡ improvedBy found (pushedOn ss st d s (grownBy found t ps)) (t .visited)
-  improved-done f = improved-is ∙ ap (λ (b : Bool). improvedBy found (pick b (pushedOn ss st d s (grownBy found t ps)) st) (t .visited)) f
+  pub improved-done : found ≡ true → improvedAt ss st d s ≡ improvedBy found (augmentedOn ss st d s (grownBy found t ps)) (t .visited)
+  improved-done f = improved-is ∙ ap (λ (b : Bool). improvedBy found (pick b (augmentedOn ss st d s (grownBy found t ps)) st) (t .visited)) f
 
   -- Where none can be made, the potentials stay.
   pub improved-none : found ≡ false → (ps ≡ st .potentials) × (improvedAt ss st d s ≡ improvedBy found st (t .visited))
   improved-none f = (
     kept (sought-stays ss (st .flows) (st .nets) (st .potentials) d s),
-    improved-is ∙ ap (λ (b : Bool). improvedBy found (pick b (pushedOn ss st d s (grownBy found t ps)) st) (t .visited)) f,
+    improved-is ∙ ap (λ (b : Bool). improvedBy found (pick b (augmentedOn ss st d s (grownBy found t ps)) st) (t .visited)) f,
   )
     where
       kept : (sought ss (st .flows) (st .nets) (st .potentials) d s .found ≡ false → sought ss (st .flows) (st .nets) (st .potentials) d s .potentials ≡ st .potentials) → ps ≡ st .potentials
@@ -68,7 +68,7 @@ module _ (streams : List Stream) (n : ℕ) (w : Network streams n) (st : State) 
   room : h .size + d ≤ settledRoom
   room = underway-room ss d settledRoom st step h s l over
 
-  -- What the push then needs.
+  -- What the augmentation then needs.
   pub moving : (t : Tree) (ps : List ℕ) → grownBy true t ps ≡ sought (take n streams) (st .flows) (st .nets) (st .potentials) d s → Moving n st s d t
   moving t ps q = go (subst (Hunt maxUnits ss (st .flows) (st .nets) d s (st .potentials)) (sym q) (finds ss (solvable-of streams n w) d (h .size) step st (h .sound) room s l over))
     where

@@ -1,4 +1,5 @@
--- How few they are.
+-- How few improvements and stuck searches there are; and what is said of a count of the improvements.
+use mathlib.Core.Path.{_≡_}
 use mathlib.Core.List.{List}
 use Prim.Native.Nat.{ℕ, _≤_}
 use Rattle.plant_def.specs.declared.Stream.{Stream}
@@ -19,3 +20,9 @@ pub record Few (ss : List Stream) (st : State) : Type 0 where
   pub improvements : made ss st ≤ mostMade
   pub searches : stuck ss st ≤ mostStuck
   pub hinted : overSum (st .nets) ≤ mostTried → made ss st ≤ mostTried
+
+-- A count m of the improvements of such a call: it is what the definition counts, and so it is small.
+pub record Effort (ss : List Stream) (st : State) (m : ℕ) : Type 0 where
+  pub counted : m ≡ made ss st
+  pub few : m ≤ mostMade
+  pub hinted : overSum (st .nets) ≤ mostTried → m ≤ mostTried

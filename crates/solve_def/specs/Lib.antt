@@ -1,4 +1,4 @@
--- The search for a way of no slack, the push along it and the solver over them, as definitions; what their parts require, and what
+-- The search for a way of no slack, the augmentation along it and the solver over them, as definitions; what their parts require, and what
 -- the solver promises. How many improvements the solver makes, and what is said of it.
 pub mod Sizes
 pub mod Counts
@@ -7,7 +7,7 @@ pub mod Slack
 pub mod Search
 pub mod Near
 pub mod Fringe
-pub mod Push
+pub mod Augment
 pub mod SearchNeeds
 pub mod Closing
 pub mod Full
@@ -15,4 +15,5 @@ pub mod Model
 pub mod SolverNeeds
 pub mod Promise
 pub mod Made
+pub mod Whole
 pub mod Few

@@ -1,6 +1,6 @@
 -- The solver as definitions, over held amounts, potentials and nets: settle, improve, phases, ties. (Of a hint only ranges are asked, in
 -- SolverNeeds.)
-use mathlib.Core.Bool.{Bool, true, false, not, _&&_}
+use mathlib.Core.Bool.{Bool, true, false, _&&_}
 use mathlib.Core.List.{List, [], _∷_}
 use Prim.Native.Nat.{ℕ, zero, suc, _+_, _-_, _*_, _/_, _^_}
 use lib.Dec.{ltb, leb}
@@ -18,11 +18,10 @@ use Rattle.solve_def.specs.Slack.{slackBy}
 use Rattle.solve_def.specs.Search.{rootAt, target, Grown, sought, tightPath}
 use Rattle.solve_def.specs.Closing.{refloored}
 use Rattle.solve_def.specs.Full.{overfull}
-use Rattle.solve_def.specs.Push.{pushed}
+use Rattle.solve_def.specs.Augment.{augmented}
 use Rattle.solve_def.specs.declared.Hint.{Hint}
 use Rattle.solve_def.specs.declared.State.{State}
 use Rattle.solve_def.specs.declared.Ended.{Ended}
-use Rattle.solve_def.specs.declared.Solved.{Solved}
 
 -- A number brought into a range.
 abbrev pub clamped : ℕ → ℕ → ℕ → ℕ
@@ -83,11 +82,11 @@ pub record Improved : Type 0 where
 abbrev pub improvedBy : Bool → State → List Bool → Improved
 improvedBy b st ls = record { done = b; state = st; visited = ls }
 
--- From place s: a search to a place with a negative net, and d pushed along the way to it.
-abbrev pub pushedOn : List Stream → State → ℕ → ℕ → Grown → State
-pushedOn ss st d s g =
+-- From place s: a search to a place with a negative net, and d augmented along the way to it.
+abbrev pub augmentedOn : List Stream → State → ℕ → ℕ → Grown → State
+augmentedOn ss st d s g =
     record {
-      flows = pushed ss (g .tree .via) (g .tree .ends) d (g .tree .len) (target (g .tree)) (st .flows);
+      flows = augmented ss (g .tree .via) (g .tree .ends) d (g .tree .len) (target (g .tree)) (st .flows);
       potentials = refloored (g .potentials);
       nets = shiftedNets (st .nets) s (target (g .tree)) d;
     }
@@ -96,7 +95,7 @@ pushedOn ss st d s g =
 abbrev pub improvedAt : List Stream → State → ℕ → ℕ → Improved
 improvedAt ss st d s =
     let g = sought ss (st .flows) (st .nets) (st .potentials) d s in
-    improvedBy (g .found) (pick (g .found) (pushedOn ss st d s g) st) (g .tree .visited)
+    improvedBy (g .found) (pick (g .found) (augmentedOn ss st d s g) st) (g .tree .visited)
 
 -- The summed positive net.
 unfoldable pub overSum : List ℕ → ℕ
@@ -156,7 +155,7 @@ finished ss st = pick (leb (overSum (st .nets)) mostTried) (phase ss 1 st) (phas
 -- streams up to it alone.
 abbrev pub tiedBy : List Stream → List ℕ → ℕ → ℕ → Grown → List ℕ
 tiedBy ss xs v i g =
-    let ys = pushed ss (g .tree .via) (g .tree .ends) 1 (g .tree .len) v xs in
+    let ys = augmented ss (g .tree .via) (g .tree .ends) 1 (g .tree .len) v xs in
     pick (g .found) (set ys i (getD ys i 0 - 1)) xs
 
 unfoldable pub tiedAt : List Stream → List ℕ → ℕ → List ℕ → List ℕ
@@ -175,15 +174,3 @@ tiesTo ss ps (suc i) xs = tiedAt ss ps i (tiesTo ss ps i xs)
 -- The marks of the places 0 to n alone.
 unfoldable pub masked : ℕ → List Bool → List Bool
 masked n ms = values places (λ u. getD ms u false && leb u n)
-
--- The whole for a plant of n units, from amounts settled at a hint: a flow with potentials, or a set of places.
-unfoldable pub solvedFrom : ℕ → List Stream → State → Solved
-solvedFrom n ss start =
-    let e = finished ss start in
-    let st = e .state in
-    record {
-      found = not (e .full);
-      flows = pick (e .full) (st .flows) (tiesTo ss (st .potentials) (length ss) (st .flows));
-      potentials = st .potentials;
-      marked = masked n (e .marked);
-    }

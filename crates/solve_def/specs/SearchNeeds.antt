@@ -1,4 +1,4 @@
--- What the parts of the search and of the push require: ranges only.
+-- What the parts of the search and of the augmentation require: ranges only.
 use mathlib.Core.Path.{_≡_}
 use mathlib.Core.Bool.{true}
 use mathlib.Core.List.{List}

@@ -94,7 +94,7 @@ hintRoom = 35184372088832
 abbrev pub mostTried : ℕ
 mostTried = 512
 
--- The greatest size of an amount at the end: settledRoom + maxStreams + places * mostStep ≤ flowShift, for a push may
+-- The greatest size of an amount at the end: settledRoom + maxStreams + places * mostStep ≤ flowShift, for an augmentation may
 -- take a step from a stream at each place, and the ties still take 1 for each stream.
 abbrev pub settledRoom : ℕ
 settledRoom = hintRoom + mostOver

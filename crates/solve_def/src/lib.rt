@@ -1,4 +1,4 @@
-// The cheapest balanced flow, computed: search, push and solver as definitions with their laws, and how many improvements it
+// The cheapest balanced flow, computed: search, augmentation and solver as definitions with their laws, and how many improvements it
 // makes.
 use plant_def::limits::MAX_STREAMS;
 use plant_def::limits::PLACES;
@@ -11,7 +11,7 @@ pub struct Quest {
     pub delta: u64,
 }
 
-// A way to push along: how many streams are remembered, the place that the way ends at, and the step.
+// A way to augment along: how many streams are remembered, the place that the way ends at, and the step.
 pub struct Route {
     pub len: usize,
     pub target: u8,
@@ -69,7 +69,14 @@ pub struct Halt {
     pub marked: [bool; PLACES],
 }
 
-// How a phase ends: the same, with the state.
+// What the improvements from a place come to: how they end, and how many are made.
+pub struct Tried {
+    pub full: bool,
+    pub marked: [bool; PLACES],
+    pub made: u64,
+}
+
+// How a phase ends: whether such a set was found, with the state.
 pub struct Ended {
     pub full: bool,
     pub state: State,
@@ -77,9 +84,11 @@ pub struct Ended {
 }
 
 // The flow and the potentials that certify it; or, where none is found, a set of places that must take in more than it can let out.
+// And how many improvements were made.
 pub struct Solved {
     pub found: bool,
     pub flows: [u64; MAX_STREAMS],
     pub potentials: [u64; PLACES],
     pub marked: [bool; PLACES],
+    pub made: u64,
 }

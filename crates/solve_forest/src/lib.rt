@@ -11,9 +11,11 @@ use solve_def::sizes::NET_SHIFT;
 use std::num::wrapping_add_u64;
 use std::num::wrapping_sub_u64;
 ghost use mathlib.Core.Path.{_≡_};
+ghost use mathlib.Core.Bool.{false, not};
 ghost use Prim.Native.Nat.{_<_};
-ghost use lib.ListN.{length};
+ghost use lib.ListN.{length, getD};
 ghost use Rattle.plant_def.specs.Limits.{places};
+ghost use Rattle.flow_def.specs.Loops.{countTo};
 ghost use Rattle.solve_arcs.specs.ArcNeeds.{Laying};
 ghost use Rattle.solve_forest.specs.Forests.{Spanning, ListedMore, ListedOf, Routable};
 ghost use Rattle.solve_def.specs.SearchNeeds.{Close};
@@ -126,6 +128,7 @@ fn pass(
 // How many places are not reached.
 fn unreached(reached: &[bool; PLACES]) -> usize
     requires { ⌜ length (now reached) ≡ places ⌝ }
+    ensures { λ r. ⌜ r ≡ countTo places (λ u. not (getD (now (reached .entry)) u false)) ⌝ }
 {
     let mut c: usize = 0;
     let mut u: usize = 0;

@@ -5,7 +5,7 @@ use Prim.Native.Nat.{ℕ, _≤_, _<_}
 use native.Mathlib.Omega.{arith}
 use lib.ListN.{getD, take}
 use Rattle.plant_def.specs.Limits.{maxStreams}
-use Rattle.solve_def.specs.Sizes.{mostFlow}
+use Rattle.solve_def.specs.Sizes.{mostFlow, settledRoom}
 use Rattle.solve_def.specs.declared.State.{State}
 use Rattle.solve_def.specs.SearchNeeds.{Trail}
 use Rattle.solve_def.proofs.Streams.{Solvable, solvable-of}
@@ -26,7 +26,9 @@ module _ (ls rs : List ℕ) (d : ℕ) (st : State) (w : Phasable ls rs d st) whe
 
   pub phase-amounts : (k : ℕ) → k < countOf ls → getD (st .flows) k 0 ≤ mostFlow
   phase-amounts k l =
-      omega (arith, sound-close _ (solvable-of (w .streams) (w .n) (w .network)) d (w .underway .size) (w .step) st (w .underway .sound) (omega (arith, w .underway .fits)) k (omega (arith, phase-few)) .0)
+      let v = solvable-of (w .streams) (w .n) (w .network) in
+      let room : w .underway .size ≤ settledRoom = omega (arith, w .underway .fits) in
+      omega (arith, sound-close _ v d (w .underway .size) (w .step) st (w .underway .sound) room k (omega (arith, phase-few)) .0)
 
   pub phase-margined : (xs ms : List ℕ) → Margined (countOf ls) rs xs d 0 ms → Margined (w .n) rs xs d 0 ms
   phase-margined xs ms m = subst (λ (k : ℕ). Margined k rs xs d 0 ms) (w .laid .along .counted) m

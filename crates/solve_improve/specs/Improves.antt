@@ -1,10 +1,15 @@
--- What a phase begins from, and what an improvement requires.
+-- What a phase begins from; what an improvement requires, and what it comes to.
+use mathlib.Core.Path.{_≡_}
 use mathlib.Core.List.{List}
-use Prim.Native.Nat.{ℕ}
-use lib.ListN.{take}
+use Prim.Native.Nat.{ℕ, _+_, _≤_, _<_}
+use lib.ListN.{getD, take}
 use Rattle.plant_def.specs.declared.Stream.{Stream}
+use Rattle.plant_def.specs.Limits.{places}
+use Rattle.solve_def.specs.declared.Quest.{Quest}
+use Rattle.solve_def.specs.declared.Searched.{Searched}
 use Rattle.solve_def.specs.declared.State.{State}
-use Rattle.solve_def.specs.Sizes.{settledRoom}
+use Rattle.solve_def.specs.Sizes.{netShift, settledRoom}
+use Rattle.solve_def.specs.Model.{improvedBy, improvedAt}
 use Rattle.solve_def.specs.SearchNeeds.{Network}
 use Rattle.solve_def.specs.SolverNeeds.{Step, Underway}
 use Rattle.solve_arcs.specs.ArcNeeds.{Laid, Margined}
@@ -27,3 +32,14 @@ pub record Improvable (ls rs ms : List ℕ) (d : ℕ) (st : State) : Type 0 wher
   pub step : Step d
   pub underway : Underway (take n streams) d settledRoom st
   pub margined : Margined n rs (st .flows) d 0 ms
+
+-- An improvement can be tried: the place has a step over.
+abbrev pub Improves : List ℕ → List ℕ → List ℕ → Quest → State → Type 0
+Improves ls rs ms q st = Improvable ls rs ms (q .delta) st × (q .start < places) × (netShift + q .delta ≤ getD (st .nets) (q .start) 0)
+
+-- What it comes to, of any streams that arcs and rows are of: what the definition gives, the margins being those of the amounts again.
+abbrev pub Improving : List ℕ → List ℕ → List ℕ → Quest → State → Searched → State → List ℕ → Type 0
+Improving ls rs ms q st r after margins =
+    (w : Improvable ls rs ms (q .delta) st)
+    → (improvedBy (r .found) after (r .tree .visited) ≡ improvedAt (take (w .n) (w .streams)) st (q .delta) (q .start))
+    × Margined (w .n) rs (after .flows) (q .delta) 0 margins

@@ -11,16 +11,10 @@ use solve_def::Quest;
 use solve_def::Route;
 use solve_def::Searched;
 use solve_path::search;
-ghost use mathlib.Core.Path.{_≡_};
-ghost use Prim.Native.Nat.{_+_, _≤_, _<_};
-ghost use lib.ListN.{getD, take};
-ghost use Rattle.plant_def.specs.Limits.{places};
-ghost use Rattle.solve_def.specs.Sizes.{netShift};
-ghost use Rattle.solve_def.specs.Model.{stateOf, improvedBy, improvedAt};
-ghost use Rattle.solve_arcs.specs.ArcNeeds.{Margined};
-ghost use Rattle.solve_improve.specs.Improves.{Improvable};
+ghost use Rattle.solve_def.specs.Model.{stateOf};
+ghost use Rattle.solve_improve.specs.Improves.{Improves, Improving};
 
-// One improvement at step delta from place s: a search to a place with a negative net, and delta pushed along the way to it. Where no
+// One improvement at step delta from place s: a search to a place with a negative net, and delta augmented along the way to it. Where no
 // such place can be reached, nothing changes. The margins stay those of the amounts.
 pub fn improve_from(
     arcs: &[u8; ARCS],
@@ -31,8 +25,10 @@ pub fn improve_from(
     nets: &mut [u64; PLACES],
     q: Quest,
 ) -> Searched
-    requires { ⌜ Improvable (now arcs) (now rows) (now margins) (q .delta) (stateOf (now flows) (now potentials) (now nets)) × (q .start < places) × (netShift + q .delta ≤ getD (now nets) (q .start) 0) ⌝ }
-    ensures { λ r. ⌜ ((w : Improvable (now (arcs .entry)) (now (rows .entry)) (now (margins .entry)) (q .delta) (stateOf (now (flows .entry)) (now (potentials .entry)) (now (nets .entry)))) → (improvedBy (r .found) (stateOf (now (flows .exit)) (now (potentials .exit)) (now (nets .exit))) (r .tree .visited) ≡ improvedAt (take (w .n) (w .streams)) (stateOf (now (flows .entry)) (now (potentials .entry)) (now (nets .entry))) (q .delta) (q .start)) × Margined (w .n) (now (rows .entry)) (now (flows .exit)) (q .delta) 0 (now (margins .exit))) ⌝ }
+    requires { ⌜ Improves (now arcs) (now rows) (now margins) q (stateOf (now flows) (now potentials) (now nets)) ⌝ }
+    ensures { λ r. ⌜ Improving (now (arcs .entry)) (now (rows .entry)) (now (margins .entry)) q
+        (stateOf (now (flows .entry)) (now (potentials .entry)) (now (nets .entry))) r
+        (stateOf (now (flows .exit)) (now (potentials .exit)) (now (nets .exit))) (now (margins .exit)) ⌝ }
 {
     let s = q.start;
     let delta = q.delta;

@@ -1,2 +1,3 @@
--- What the phases require.
+-- What the phases require, and what they come to.
 pub mod Finishes
+pub mod Phases

@@ -5,65 +5,59 @@ use plant_def::limits::PLACES;
 use solve_arcs::ARCS;
 use solve_arcs::MARGINS;
 use solve_arcs::ROWS;
-use solve_def::Ended;
-use solve_def::Hint;
-use solve_def::State;
-use solve_def::sizes::FLOW_SHIFT;
+use solve_def::Tried;
 use solve_def::sizes::MOST_STEP;
 use solve_def::sizes::MOST_TRIED;
-use solve_def::sizes::POTENTIAL_SHIFT;
+use solve_settle::forget;
 use solve_settle::over_sum;
-use solve_settle::settle;
+use solve_settle::resettle;
 ghost use mathlib.Core.Path.{_≡_};
-ghost use mathlib.Core.Bool.{false};
-ghost use lib.ListN.{length, take};
-ghost use Rattle.solve_def.specs.Sizes.{halvings};
-ghost use Rattle.solve_def.specs.Model as M;
-ghost use Rattle.solve_def.specs.Model.{noHint, asHint, finished};
+ghost use lib.ListN.{length};
+ghost use Rattle.solve_def.specs.Model.{stateOf};
 ghost use Rattle.solve_arcs.specs.Cells.{marginCells};
-ghost use Rattle.solve_arcs.specs.ArcNeeds.{Laying, Margined};
+ghost use Rattle.solve_arcs.specs.ArcNeeds.{Laying};
 ghost use Rattle.solve_phases.specs.Finishes.{Finishable};
-
-// No hint: amounts and potentials 0.
-pub fn no_hint() -> Hint
-    ensures { λ r. ⌜ r ≡ noHint ⌝ }
-{
-    Hint {
-        flows: [FLOW_SHIFT; MAX_STREAMS],
-        potentials: [POTENTIAL_SHIFT; PLACES],
-    }
-}
-
-// The amounts and the potentials of a state.
-fn hint_of(st: State) -> Hint
-    ensures { λ r. ⌜ r ≡ asHint st ⌝ }
-{
-    let flows = st.flows;
-    let potentials = st.potentials;
-    Hint {
-        flows: flows,
-        potentials: potentials,
-    }
-}
+ghost use Rattle.solve_phases.specs.Phases.{AllPhases, Finishing};
 
 // From no hint: at each step from MOST_STEP down to 1 amounts are settled anew, and a phase is gone through.
-fn phases(arcs: &[u8; ARCS], rows: &[u64; ROWS], margins: &mut [u64; MARGINS]) -> Ended
+fn phases(
+    arcs: &[u8; ARCS],
+    rows: &[u64; ROWS],
+    margins: &mut [u64; MARGINS],
+    flows: &mut [u64; MAX_STREAMS],
+    potentials: &mut [u64; PLACES],
+    nets: &mut [u64; PLACES],
+) -> Tried
     requires { ⌜ Laying (now arcs) (now rows) × (length (now margins) ≡ marginCells) ⌝ }
-    ensures { λ r. ⌜ ((w : Laying (now (arcs .entry)) (now (rows .entry))) → (r ≡ M.phases halvings (take (w .n) (w .streams)) noHint) × (r .full ≡ false → Margined (w .n) (now (rows .entry)) (r .state .flows) 1 0 (now (margins .exit)))) ⌝ }
+    ensures { λ r. ⌜ AllPhases (now (arcs .entry)) (now (rows .entry)) r
+        (stateOf (now (flows .exit)) (now (potentials .exit)) (now (nets .exit))) (now (margins .exit)) ⌝ }
 {
-    let mut h = no_hint();
+    forget(flows, potentials);
+    let mut made: u64 = 0;
     let mut step = MOST_STEP;
     while 1 < step {
-        let st = settle(arcs, rows, h);
-        let e = phase(arcs, rows, margins, st, step);
+        resettle(arcs, rows, potentials, flows, nets);
+        let e = phase(arcs, rows, margins, flows, potentials, nets, step);
+        made += e.made;
         if e.full {
-            return e;
+            let marked = e.marked;
+            return Tried {
+                full: e.full,
+                marked: marked,
+                made: made,
+            };
         }
-        h = hint_of(e.state);
         step = step / 2;
     }
-    let st = settle(arcs, rows, h);
-    phase(arcs, rows, margins, st, 1)
+    resettle(arcs, rows, potentials, flows, nets);
+    let e = phase(arcs, rows, margins, flows, potentials, nets, 1);
+    made += e.made;
+    let marked = e.marked;
+    Tried {
+        full: e.full,
+        marked: marked,
+        made: made,
+    }
 }
 
 // One phase at step 1; where too much is over, all phases from no hint. Where no set is full, the margins are those of the amounts.
@@ -71,14 +65,18 @@ pub fn finish(
     arcs: &[u8; ARCS],
     rows: &[u64; ROWS],
     margins: &mut [u64; MARGINS],
-    st: State,
-) -> Ended
-    requires { ⌜ Finishable (now arcs) (now rows) st × (length (now margins) ≡ marginCells) ⌝ }
-    ensures { λ r. ⌜ ((w : Finishable (now (arcs .entry)) (now (rows .entry)) st) → (r ≡ finished (take (w .laying .n) (w .laying .streams)) st) × (r .full ≡ false → Margined (w .laying .n) (now (rows .entry)) (r .state .flows) 1 0 (now (margins .exit)))) ⌝ }
+    flows: &mut [u64; MAX_STREAMS],
+    potentials: &mut [u64; PLACES],
+    nets: &mut [u64; PLACES],
+) -> Tried
+    requires { ⌜ Finishable (now arcs) (now rows) (stateOf (now flows) (now potentials) (now nets))
+        × (length (now margins) ≡ marginCells) ⌝ }
+    ensures { λ r. ⌜ Finishing (now (arcs .entry)) (now (rows .entry))
+        (stateOf (now (flows .entry)) (now (potentials .entry)) (now (nets .entry))) r
+        (stateOf (now (flows .exit)) (now (potentials .exit)) (now (nets .exit))) (now (margins .exit)) ⌝ }
 {
-    let nets = st.nets;
-    if over_sum(&nets) <= MOST_TRIED {
-        return phase(arcs, rows, margins, st, 1);
+    if over_sum(nets) <= MOST_TRIED {
+        return phase(arcs, rows, margins, flows, potentials, nets, 1);
     }
-    phases(arcs, rows, margins)
+    phases(arcs, rows, margins, flows, potentials, nets)
 }

@@ -10,17 +10,18 @@ use solve_def::Hint;
 use solve_def::State;
 use solve_def::sizes::FLOW_SHIFT;
 use solve_def::sizes::NET_SHIFT;
+use solve_def::sizes::POTENTIAL_SHIFT;
 ghost use mathlib.Core.Path.{_≡_};
 ghost use Prim.Native.Nat.{ℕ, _+_, _*_, _≤_, _<_};
 ghost use lib.ListN.{getD, length, take};
 ghost use Rattle.plant_def.specs.Limits.{maxWeight, places, maxStreams};
 ghost use Rattle.solve_def.specs.Sizes.{mostPull, potentialShift, mostFlow, netRoom};
-ghost use Rattle.solve_def.specs.Model.{clamped, nearestAmount, settledTo, left, come, netsTo, settled, overSum};
+ghost use Rattle.solve_def.specs.Model.{clamped, nearestAmount, settledTo, left, come, netsTo, settled, overSum, stateOf, noHint};
 ghost use Rattle.solve_arcs.specs.ArcNeeds.{Row, Laying, OfStreams};
 ghost use mathlib.Core.List.{List};
 ghost use Rattle.solve_def.specs.SearchNeeds.{Potentials};
 ghost use Rattle.solve_def.specs.SolverNeeds.{Amounts, Around};
-ghost use Rattle.solve_settle.specs.Hints.{Hinting};
+ghost use Rattle.solve_settle.specs.Hints.{hintOf, Hinting, Settling};
 ghost use Rattle.solve_settle.specs.Settled.{RowReads, settledRow};
 
 // The amount nearest to a reading R, at the potentials of a stream's start and its end, by its weight and twice the weight times R. (One
@@ -116,6 +117,44 @@ pub fn settle(arcs: &[u8; ARCS], rows: &[u64; ROWS], h: Hint) -> State
         potentials: potentials,
         nets: nets,
     }
+}
+
+// Amounts and nets are settled anew at the potentials.
+pub fn resettle(
+    arcs: &[u8; ARCS],
+    rows: &[u64; ROWS],
+    potentials: &[u64; PLACES],
+    flows: &mut [u64; MAX_STREAMS],
+    nets: &mut [u64; PLACES],
+)
+    requires { ⌜ Hinting (now arcs) (now rows) (hintOf (now flows) (now potentials)) ⌝ }
+    ensures { λ _. ⌜ Settling (now (arcs .entry)) (now (rows .entry)) (hintOf (now (flows .entry)) (now (potentials .entry)))
+        (stateOf (now (flows .exit)) (now (potentials .entry)) (now (nets .exit))) ⌝ }
+{
+    settle_flows(arcs, rows, potentials, flows);
+    let anew = nets_of(arcs, flows);
+    *nets = anew;
+}
+
+// No hint: amounts and potentials 0.
+pub fn no_hint() -> Hint
+    ensures { λ r. ⌜ r ≡ noHint ⌝ }
+{
+    Hint {
+        flows: [FLOW_SHIFT; MAX_STREAMS],
+        potentials: [POTENTIAL_SHIFT; PLACES],
+    }
+}
+
+// Amounts and potentials become those of no hint.
+pub fn forget(flows: &mut [u64; MAX_STREAMS], potentials: &mut [u64; PLACES])
+    ensures { λ _. ⌜ hintOf (now (flows .exit)) (now (potentials .exit)) ≡ noHint ⌝ }
+{
+    let none = no_hint();
+    let amounts = none.flows;
+    let levels = none.potentials;
+    *flows = amounts;
+    *potentials = levels;
 }
 
 // The summed positive net.

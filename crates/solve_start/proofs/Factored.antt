@@ -2,24 +2,27 @@
 use mathlib.Core.Path.{_≡_, sym, _∙_, ap, subst}
 use mathlib.Core.Bool.{true, false}
 use mathlib.Core.List.{List}
-use Prim.Native.Nat.{ℕ}
+use Prim.Native.Nat.{ℕ, _+_, _≤_, _<_}
 use native.Mathlib.Omega.{arith}
 use lib.ListN.{getD, replicate}
 use Rattle.plant_def.specs.declared.Stream.{Stream}
 use Rattle.plant_def.specs.declared.Plant as Arrays
 use Rattle.flow_def.specs.Flows.{streamAt}
 use Rattle.plant_def.specs.Limits.{maxStreams}
+use Rattle.plant_def.specs.Plants.{noStream}
 use Rattle.plant_def.specs.Within.{Accepted}
 use Rattle.plant_def.specs.Says.{plantOf}
 use Rattle.plant_def.proofs.Arrayed.{all-listed, listed-at, within-of}
 use Rattle.flow_def.specs.Chains.{unmeteredOnly}
 use Rattle.flow_def.specs.Labels.{labelsOf}
-use Rattle.newton_laplacian.specs.Ends.{Labels}
+use Rattle.newton_laplacian.specs.Ends.{Labels, Placed}
 use Rattle.newton_descend.specs.Levels.{Level}
 use Rattle.solve_def.specs.Sizes.{flowShift, potentialShift, potentialSpread, hintRoom}
 use Rattle.solve_def.specs.declared.Hint.{Hint}
 use Rattle.solve_def.specs.Model.{settledTo, netsTo, stateOf}
 use Rattle.solve_def.specs.SolverNeeds.{Hinted, Ready, AtHint}
+use Rattle.solve_arcs.specs.ArcNeeds.{Laid, Laying}
+use Rattle.solve_arcs.proofs.Rowing.{below, from-is, to-is}
 use Rattle.solve_forest.specs.Routes.{Routes, Kept}
 use Rattle.flow_def.proofs.Nets.{inside-of}
 use Rattle.flow_def.proofs.Labels.{label-long, label-low, label-level}
@@ -34,6 +37,21 @@ module _ (p : Arrays.Plant) (a : Accepted p) where
     long = label-long unmeteredOnly (plantOf p) (a .within .few-units) (inside-of p a);
     within = λ u l. omega (arith, label-low unmeteredOnly (plantOf p) (a .within .few-units) (inside-of p a) u l);
   }
+
+  -- The label of each end of a stream is a unit of the plant, or the outside.
+  pub placed-of : {ls rs : List ℕ} → Laid (p .streams) (p .count) ls rs → Placed (p .units + 1) (labelsOf unmeteredOnly (plantOf p)) ls rs
+  placed-of {ls} {rs} d = record {
+    few = omega (arith, a .within .few-units);
+    laying = w;
+    starts = λ k l. rw (from-is ls rs w k l) (low (getD (p .streams) k noStream .from) (a .within .each k (below ls rs w k l) .from-in));
+    ends = λ k l. rw (to-is ls rs w k l) (low (getD (p .streams) k noStream .to) (a .within .each k (below ls rs w k l) .to-in));
+  }
+    where
+      w : Laying ls rs
+      w = record { streams = p .streams; n = p .count; network = network-of p a; laid = d }
+
+      low : (u : ℕ) → u ≤ p .units → getD (labelsOf unmeteredOnly (plantOf p)) u 0 < p .units + 1
+      low u h = omega (arith, label-low unmeteredOnly (plantOf p) (a .within .few-units) (inside-of p a) u (omega (arith, a .within .few-units)))
 
   module _ {ps xs : List ℕ} (v : Level (labelsOf unmeteredOnly (plantOf p)) potentialShift potentialSpread ps) (r : Routes (plantOf p .streams) xs) where
     pub level-hinted : Hinted (plantOf p .streams) (record { flows = xs; potentials = ps })

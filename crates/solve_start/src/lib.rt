@@ -25,7 +25,14 @@ pub fn start(p: Plant, labels: [u8; PLACES], arcs: &[u8; ARCS], rows: &[u64; ROW
     requires { ⌜ Accepted p × Grouped p labels × Laid (p .streams) (p .count) (now arcs) (now rows) ⌝ }
     ensures { λ r. ⌜ AtHint (plantOf p .streams) r ⌝ }
 {
-    let potentials = potentials_of(p, labels, POTENTIAL_SHIFT, POTENTIAL_SPREAD);
+    let potentials = potentials_of(
+        p.units,
+        labels,
+        arcs,
+        rows,
+        POTENTIAL_SHIFT,
+        POTENTIAL_SPREAD,
+    );
     let mut flows = [FLOW_SHIFT; MAX_STREAMS];
     settle_flows(arcs, rows, &potentials, &mut flows);
     let mut given = nets_of(arcs, &flows);

@@ -4,7 +4,7 @@ use case_calls::solved::put_flows;
 use case_files::cases::NO_CASE;
 use case_files::cases::told;
 use plant_def::limits::MAX_STREAMS;
-use solve_phases::finishing::no_hint;
+use solve_settle::no_hint;
 ghost use mathlib.Core.Path.{_≡_};
 ghost use Prim.Native.Nat.{_≤_};
 ghost use lib.ListN.{length};

@@ -1,30 +1,15 @@
 -- What is handed over has room in the slices, and no choice is left.
 use mathlib.Core.Path.{_≡_, sym, _∙_, ap}
-use mathlib.Core.Logic.{⊎-elim}
 use mathlib.Core.List.{List}
-use Prim.Native.Nat.{ℕ, _≤_, _<_}
+use Prim.Native.Nat.{ℕ, _≤_}
 use native.Mathlib.Omega.{arith}
 use lib.ListN.{length, take}
 use Rattle.num_bytes.specs.Bytes.{over}
 use Rattle.plant_def.specs.Limits.{maxStreams}
 use Rattle.num_lent.proofs.Rooms.{by-room}
 use Rattle.visit_def.specs.declared.Visits.{Visits}
-use Rattle.visit_def.specs.Says.{noVisits, VisitsSays}
 use Rattle.visit_def.proofs.Promise.{meters-worth-a-visit, visits-fit}
-use Rattle.visit_call.specs.Lent.{LentSays, VisitsHandOver, One-hand-over}
-
--- What the call says, by the two lengths.
-module _ {file : List ℕ} {m n : ℕ} {r : Visits} where
-  pub numbers-short : m < maxStreams → r ≡ noVisits 1 → LentSays file m n r
-  numbers-short h e = record { short = λ s. e; enough = λ a b. absurd (omega arith) }
-
-  -- A slice for the costs that is too short.
-  pub costs-short : n < maxStreams → r ≡ noVisits 1 → LentSays file m n r
-  costs-short h e = record { short = λ s. e; enough = λ a b. absurd (omega arith) }
-
-  -- Both slices are long enough: as the call.
-  pub both-long : maxStreams ≤ m → maxStreams ≤ n → VisitsSays file r → LentSays file m n r
-  both-long h l v = record { short = ⊎-elim (λ (s : m < maxStreams). absurd (omega arith)) (λ (s : n < maxStreams). absurd (omega arith)); enough = λ a b. v }
+use Rattle.visit_call.specs.Lent.{LentSays, One-hand-over}
 
 -- There is room: no more are listed than there may be, nor than either slice holds.
 pub room-lent : (file : List ℕ) (m n : ℕ) (r : Visits) → LentSays file m n r → (r .count ≤ maxStreams) × (r .count ≤ m) × (r .count ≤ n)

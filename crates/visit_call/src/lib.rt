@@ -2,6 +2,10 @@
 use num_lent::put_bytes;
 use num_lent::put_words;
 use plant_def::limits::MAX_STREAMS;
+use solve_arcs::ARCS;
+use solve_arcs::NONE;
+use solve_arcs::ROWS;
+use solve_arcs_fill::lay;
 use visit_costs::adjusted_of;
 use visit_costs::costs_without;
 use visit_def::Visits;
@@ -20,9 +24,14 @@ pub fn visits_of(file: &[u8]) -> Visits
         return refused(number);
     }
     let plant = read.plant;
-    let cuts = flow_bridges::cuts_of(plant);
+    let streams = plant.streams;
+    let count = plant.count as usize;
+    let mut arcs = [NONE as u8; ARCS];
+    let mut rows = [0u64; ROWS];
+    lay(streams, count, &mut arcs, &mut rows);
+    let cuts = flow_bridges::cuts_of(&arcs, &rows);
     let labels = cuts.labels;
-    let solved = solve_call::solve(plant, labels);
+    let solved = solve_call::solve(plant, labels, &arcs, &rows);
     if !solved.found {
         return refused(19);
     }

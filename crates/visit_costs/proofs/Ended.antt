@@ -1,14 +1,14 @@
 -- Where the phases end, a flow of least cost is held: its potentials certify it, before any tie is sought.
-use mathlib.Core.Path.{_≡_, _∙_, ap, subst}
+use mathlib.Core.Path.{_≡_, subst}
 use mathlib.Core.Bool.{true, false}
-use mathlib.Core.List.{List, map}
-use lib.IntN.{ℤ}
+use mathlib.Core.List.{List}
 use Prim.Native.Nat.{ℕ}
 use native.Mathlib.Omega.{arith}
-use lib.ListN.{length, take}
+use lib.ListN.{length}
 use Rattle.num_bytes.proofs.Tests.{clash}
 use Rattle.plant_def.specs.declared.Stream.{Stream}
 use Rattle.plant_def.specs.declared.Plant as Arrays
+use Rattle.plant_def.specs.Limits.{maxStreams}
 use Rattle.plant_def.specs.Plants.{Plant}
 use Rattle.plant_def.specs.Within.{Accepted}
 use Rattle.plant_def.specs.Says.{plantOf}
@@ -18,7 +18,7 @@ use Rattle.flow_def.proofs.Overfull.{overfull-none}
 use Rattle.flow_def.proofs.Potentials.{Certificate, least}
 use Rattle.solve_def.specs.declared.State.{State}
 use Rattle.solve_def.specs.declared.Ended.{Ended}
-use Rattle.solve_def.specs.Held.{unshifted, opened}
+use Rattle.solve_def.specs.Held.{opened}
 use Rattle.solve_def.specs.Model.{finished, masked}
 use Rattle.solve_def.specs.Promise.{potentialAt}
 use Rattle.solve_def.specs.SolverNeeds.{AtHint, Even, Amounts}
@@ -27,8 +27,6 @@ use Rattle.solve_def.proofs.Ending.{finished-good, finished-even}
 use Rattle.solve_def.proofs.Certify.{certify}
 use Rattle.solve_def.proofs.Theorem.{solvable-in, ended-full}
 use Rattle.sheet_def.specs.Apart.{capped}
-use Rattle.sheet_def.specs.Calls.{AllSmall}
-use Rattle.sheet_entries.proofs.Balanced.{flows-small, take-opened}
 use Rattle.visit_def.specs.Visits.{LeastCost, Feasible}
 
 module _ (p : Arrays.Plant) (a : Accepted p) (st : State) (s : AtHint (plantOf p .streams) st) (e : Ended) (q : e ≡ finished (plantOf p .streams) st) where
@@ -52,9 +50,9 @@ module _ (p : Arrays.Plant) (a : Accepted p) (st : State) (s : AtHint (plantOf p
     pub amounts : Amounts (e .state .flows)
     amounts = λ k h. omega (arith, even .close k h .0)
 
-    -- The flows are small.
-    pub all-small : (xs : List ℤ) → xs ≡ map unshifted (e .state .flows) → AllSmall xs
-    all-small xs d = rw d (flows-small (e .state .flows) amounts (even .long))
+    -- As many amounts as there may be streams.
+    pub all-held : length (e .state .flows) ≡ maxStreams
+    all-held = even .long
 
     sure : Certificate (plantOf p) (opened (length ss) (e .state .flows)) (potentialAt (e .state .potentials))
     sure = certify (plantOf p) (within-of p a) (e .state .potentials) 0 (e .state .flows) even (omega arith)
@@ -68,7 +66,5 @@ module _ (p : Arrays.Plant) (a : Accepted p) (st : State) (s : AtHint (plantOf p
         })
 
     -- Their cost, capped, is the least.
-    pub least-found : (xs : List ℤ) → xs ≡ map unshifted (e .state .flows) → (c : ℕ) → c ≡ capped (cost ss (take (p .count) xs)) → LeastCost (plantOf p) c
-    least-found xs d c h =
-        let flow : take (p .count) xs ≡ opened (p .count) (e .state .flows) = ap (take (p .count)) d ∙ take-opened (p .count) (e .state .flows) in
-        (opened (p .count) (e .state .flows), least-flow, h ∙ ap (λ (ys : List ℤ). capped (cost ss ys)) flow)
+    pub least-found : (c : ℕ) → c ≡ capped (cost ss (opened (p .count) (e .state .flows))) → LeastCost (plantOf p) c
+    least-found c h = (opened (p .count) (e .state .flows), least-flow, h)

@@ -5,8 +5,7 @@ use flow_def::Which;
 use plant_def::Plant;
 use plant_def::limits::MAX_STREAMS;
 use plant_def::streams::unmetered_stream;
-use sheet_cost::cost_of;
-use sheet_entries::opened_flows;
+use sheet_cost::cost_held;
 use solve_arcs::ARCS;
 use solve_arcs::MARGINS;
 use solve_arcs::NONE;
@@ -30,22 +29,29 @@ pub fn least_cost(p: Plant) -> u64
     requires { ⌜ Accepted p × Feasible (plantOf p) ⌝ }
     ensures { λ r. ⌜ LeastCost (plantOf p) r ⌝ }
 {
-    let labels = group(p, Which::Unmetered);
     let streams = p.streams;
     let count = p.count as usize;
     let mut arcs = [NONE as u8; ARCS];
     let mut rows = [0u64; ROWS];
     let mut margins = [0u64; MARGINS];
     lay(streams, count, &mut arcs, &mut rows);
+    let labels = group(&arcs, &rows, Which::Unmetered);
     let begun = start(p, labels, &arcs, &rows);
-    let e = finish(&arcs, &rows, &mut margins, begun);
+    let mut held = begun.flows;
+    let mut potentials = begun.potentials;
+    let mut nets = begun.nets;
+    let e = finish(
+        &arcs,
+        &rows,
+        &mut margins,
+        &mut held,
+        &mut potentials,
+        &mut nets,
+    );
     if e.full {
         return 0;
     }
-    let st = e.state;
-    let held = st.flows;
-    let flows = opened_flows(held);
-    cost_of(p, flows)
+    cost_held(&arcs, &rows, &held)
 }
 
 // The plant with stream k unmetered, and its range gone.

@@ -1,5 +1,5 @@
 -- By the two tests in their order.
-use Rattle.charge_call.proofs.Lending.{numbers-short, cents-short, both-long}
+use Rattle.num_lent.proofs.Rooms.{first-short, second-short, both-long}
 use borrow.Author.Needs.{needs}
 use Rattle.charge_call.proofs.charges_lent.Statement.{statement}
 use Rattle.charge_call.proofs.charges_lent.Tie as tie
@@ -8,19 +8,19 @@ refused-requires : tie.Need-refused-requires
 refused-requires c κs = search needs
 
 returns : tie.Need-returns
-returns c = numbers-short (c .before .if1 .taken) (c .refused .ensures)
+returns c = first-short _ _ _ _ _ (c .before .if1 .taken) (c .refused .ensures)
 
 refused-requires-2 : tie.Need-refused-requires-2
 refused-requires-2 c κs = search needs
 
 returns-2 : tie.Need-returns-2
-returns-2 c = cents-short (c .before .if2 .taken) (c .refused2 .ensures)
+returns-2 c = second-short _ _ _ _ _ (c .before .if2 .taken) (c .refused2 .ensures)
 
 charges-of-requires : tie.Need-charges-of-requires
 charges-of-requires c κs = search needs
 
 returns-3 : tie.Need-returns-3
-returns-3 c = both-long (c .before .before .if1 .left) (c .before .if2 .left) (c .charges-of .ensures)
+returns-3 c = both-long _ _ _ _ _ (c .before .before .if1 .left) (c .before .if2 .left) (c .charges-of .ensures)
 
 pub charges-lent-spec : {M : Type 1} → statement M
 charges-lent-spec = tie.close (tie.spec refused-requires returns refused-requires-2 returns-2 charges-of-requires returns-3)

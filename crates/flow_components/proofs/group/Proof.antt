@@ -1,48 +1,80 @@
 -- `flow_components::group` meets its contract: after i turns the labels are those of the groups by the first i streams.
-use mathlib.Core.Path.{_≡_, sym}
+use mathlib.Core.Path.{_≡_, sym, _∙_}
 use Prim.Native.Nat.{_≤_, _<_, _-_}
 use lib.ListN.{length}
 use native.Mathlib.Omega.{arith}
-use Rattle.plant_def.specs.Says.{plantOf}
 use native.Mathlib.Numerals.{add-one}
+use Rattle.plant_def.specs.declared.Plant.{Plant}
+use Rattle.plant_def.specs.Says.{plantOf}
+use Rattle.plant_def.proofs.Arrayed.{all-listed, listed-at}
 use Rattle.flow_def.specs.Groups.{Groups}
 use Rattle.flow_def.specs.Calls.{counting}
 use Rattle.flow_def.proofs.Grouping.{groups-none, ends-in}
-use Rattle.plant_def.proofs.Arrayed.{all-listed, listed-at, stream-within}
+use Rattle.solve_arcs_fill.specs.Plants.{LaidOf}
+use Rattle.solve_arcs_fill.proofs.Plants.{counted, few, from-at, to-at, from-low, to-low, metered-at}
 use borrow.Author.Needs.{needs}
 use Rattle.flow_components.proofs.group.Statement.{statement}
 use Rattle.flow_components.proofs.group.Tie as tie
 
 abbrev Inv-loop : tie.InvT-loop
-Inv-loop which p n labels₀ i₀ labels i = (i ≤ p .count) × Groups (counting which) (plantOf p .streams) i labels
+Inv-loop arcs rows which n labels₀ i₀ labels i = (i ≤ n) × ((p : Plant) → LaidOf p arcs rows → Groups (counting which) (plantOf p .streams) i labels)
 
 abbrev μ-loop : tie.MeasureT-loop
-μ-loop which p n labels₀ i₀ labels i = n - i
+μ-loop arcs rows which n labels₀ i₀ labels i = n - i
 
-cast-n : tie.Need-cast-n Inv-loop μ-loop
-cast-n c = search needs
+-- The start, from a turn of the loop; the stream is in use, by any plant that was laid.
+abbrev begin : tie.In-loop Inv-loop μ-loop → tie.Start Inv-loop μ-loop
+begin c = c .before .before .before .before
+
+used : (c : tie.In-loop Inv-loop μ-loop) (p : Plant) → LaidOf p (begin c .args .arcs .now) (begin c .args .rows .now) → c .before .loop .i < p .count
+used c p w = rw (← counted w, ← c .before .before .before .count-of .ensures) (c .loop-test .taken)
+
+low : (c : tie.In-loop Inv-loop μ-loop) → c .before .loop .i < 96
+low c = let w = begin c .pre in few (w .1) _ (used c (w .0) (w .1))
+
+count-of-requires : tie.Need-count-of-requires Inv-loop μ-loop
+count-of-requires c κs = search needs
 
 own-numbers-requires : tie.Need-own-numbers-requires Inv-loop μ-loop
 own-numbers-requires c κs = search needs
 
 loop-holds : tie.Need-loop-holds Inv-loop μ-loop
-loop-holds c = (omega arith, groups-none _ _ _ (c .own-numbers .ensures))
+loop-holds c = (omega arith, λ p w. groups-none _ _ _ (c .own-numbers .ensures))
 
-mul-s : tie.Need-mul-s Inv-loop μ-loop
-mul-s c = search needs
+mul-end-at : tie.Need-mul-end-at Inv-loop μ-loop
+mul-end-at c = omega (arith, low c)
 
-element-copy-out-s : tie.Need-element-copy-out-s Inv-loop μ-loop
-element-copy-out-s c = search needs
+end-at-requires : tie.Need-end-at-requires Inv-loop μ-loop
+end-at-requires c κs = omega (arith, low c)
+
+mul-end-at-2 : tie.Need-mul-end-at-2 Inv-loop μ-loop
+mul-end-at-2 c = omega (arith, low (c .before))
+
+add-end-at : tie.Need-add-end-at Inv-loop μ-loop
+add-end-at c = omega (arith, low (c .before))
+
+end-at-requires-2 : tie.Need-end-at-requires-2 Inv-loop μ-loop
+end-at-requires-2 c κs = omega (arith, low (c .before))
+
+mul-counts : tie.Need-mul-counts Inv-loop μ-loop
+mul-counts c = omega (arith, low (c .before .before))
+
+mul-counts-2 : tie.Need-mul-counts-2 Inv-loop μ-loop
+mul-counts-2 c = omega (arith, low (c .before .before))
+
+element-copy-out-counts : tie.Need-element-copy-out-counts Inv-loop μ-loop
+element-copy-out-counts c = omega (arith, low (c .before .before))
 
 counts-requires : tie.Need-counts-requires Inv-loop μ-loop
 counts-requires c κs = search needs
 
-step-requires : tie.Need-step-requires Inv-loop μ-loop
-step-requires c κs =
-    let in-loop = c .before .before .before in
-    let at-loop = in-loop .before in
-    let start = at-loop .before .before in
-    (stream-within (start .args .t1) (start .pre) _ (in-loop .loop-test .taken), at-loop .loop .inv .1 .long)
+join-requires : tie.Need-join-requires Inv-loop μ-loop
+join-requires c κs =
+    let v = c .before .before .before in
+    let on = v .before .before in
+    let w = begin on .pre in
+    let l = used on (w .0) (w .1) in
+    (rw (v .before .end-at .ensures) (from-low (w .1) _ l), rw (v .end-at2 .ensures) (to-low (w .1) _ l), on .before .loop .inv .1 (w .0) (w .1) .long)
 
 add-i : tie.Need-add-i Inv-loop μ-loop
 add-i c = search needs
@@ -52,24 +84,24 @@ loop-less c = search needs
 
 loop-again : tie.Need-loop-again Inv-loop μ-loop
 loop-again c =
-    let in-loop = c .before .before .before .before in
-    let at-loop = in-loop .before in
-    let start = at-loop .before .before in
-    let at = at-loop .loop in
-    let taken = in-loop .loop-test .taken in
-    let p = start .args .t1 in
-    let counts = c .before .before .counts .ensures (at .i) in
-    let listed : at .i < length (plantOf p .streams) = rw (all-listed p (start .pre)) taken in (
+    let v = c .before .before .before .before in
+    let on = v .before .before in
+    let at = on .before .loop in (
       omega arith,
-      rw (add-one (at .i))
-          (c .step .ensures .next _ _ (at .i) (ends-in p (start .pre)) listed (listed-at p (start .pre) (at .i) taken) (sym counts) (at .inv .1)),
+      λ p w.
+          let l = used on p w in
+          let listed : at .i < length (plantOf p .streams) = rw (all-listed p (w .accepted)) l in
+          let from = sym (v .before .end-at .ensures ∙ from-at w (at .i) l) in
+          let to = sym (v .end-at2 .ensures ∙ to-at w (at .i) l) in
+          let counts = c .before .before .counts .ensures (at .i) _ (metered-at w (at .i) l) in
+          rw (add-one (at .i)) (c .join .ensures _ from to .next _ _ (at .i) (ends-in p (w .accepted)) listed (listed-at p (w .accepted) (at .i) l) (sym counts) (at .inv .1 p w)),
     )
 
 returns : tie.Need-returns Inv-loop μ-loop
-returns c =
+returns c = λ p w.
     let at = c .before .loop in
-    let e : at .i ≡ c .before .before .before .args .t1 .count = omega arith in
-    rw e at (at .inv .1)
+    let e : at .i ≡ p .count = omega (arith, counted w, c .before .before .before .count-of .ensures, c .loop-test .left) in
+    rw e at (at .inv .1 p w)
 
 pub group-spec : {M : Type 1} → statement M
 group-spec =
@@ -77,13 +109,19 @@ group-spec =
     (tie.spec
     Inv-loop
     μ-loop
-    cast-n
+    count-of-requires
     own-numbers-requires
     loop-holds
-    mul-s
-    element-copy-out-s
+    mul-end-at
+    end-at-requires
+    mul-end-at-2
+    add-end-at
+    end-at-requires-2
+    mul-counts
+    mul-counts-2
+    element-copy-out-counts
     counts-requires
-    step-requires
+    join-requires
     add-i
     loop-less
     loop-again

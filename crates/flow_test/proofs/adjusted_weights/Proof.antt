@@ -1,9 +1,13 @@
 -- Each turn adds one stream.
 use borrow.Author.Needs.{needs}
 use native.Mathlib.Omega.{arith}
-use mathlib.Core.Path.{_≡_, refl}
-use Prim.Native.Nat.{_-_}
-use Rattle.flow_test.proofs.Summing.{Classed, Weighed, weighed-none, weighed-more, weighed-all}
+use mathlib.Core.Path.{_≡_, refl, ap, _∙_}
+use Prim.Native.Nat.{_-_, _<_}
+use lib.ListN.{getD}
+use Rattle.plant_def.specs.Plants.{noStream}
+use Rattle.flow_def.specs.declared.Class.{Class}
+use Rattle.flow_def.specs.Shown.{adjustedWeight}
+use Rattle.flow_test.proofs.Summing.{Classed, Weighed, class-is, weighed-none, weighed-more, weighed-all}
 use Rattle.flow_test.proofs.adjusted_weights.Statement.{statement}
 use Rattle.flow_test.proofs.adjusted_weights.Tie as tie
 
@@ -28,6 +32,9 @@ element-copy-out-s c = search needs
 array-copy-out-c : tie.Need-array-copy-out-c Inv-loop μ-loop
 array-copy-out-c c = search needs
 
+cast-adjusted-weight : tie.Need-cast-adjusted-weight Inv-loop μ-loop
+cast-adjusted-weight c = search needs
+
 adjusted-weight-requires : tie.Need-adjusted-weight-requires Inv-loop μ-loop
 adjusted-weight-requires c κs = search needs
 
@@ -42,12 +49,16 @@ loop-less c = search needs
 
 loop-again : tie.Need-loop-again Inv-loop μ-loop
 loop-again c =
-    let v = c .before .before .before .before .loop .inv in
+    let at = c .before .before .before .before .before .loop in
+    let v = at .inv in
     let e = c .adjusted-weight .ensures in
-    (v .0, v .1, weighed-more (v .0) (v .2) (omega arith) _ (e .0) (e .1))
+    let s = getD (c .before .before .before .before .before .before .args .t1 .streams) (at .i) noStream in
+    let small : s .weight < 65536 = search needs in
+    let class = ap (λ (k : Class). adjustedWeight k s) (class-is (v .0) (at .i) (omega arith)) in
+    (v .0, v .1, weighed-more (v .0 .accepted) (v .2) (omega arith) _ (e .0 s refl ∙ class) (omega (arith, e .1)))
 
 returns : tie.Need-returns Inv-loop μ-loop
-returns c = let v = c .before .loop .inv in weighed-all (v .0) (v .2) (omega arith)
+returns c = let v = c .before .loop .inv in weighed-all (v .0 .accepted) (v .2) (omega arith)
 
 pub adjusted-weights-spec : {M : Type 1} → statement M
 adjusted-weights-spec =
@@ -60,6 +71,7 @@ adjusted-weights-spec =
     mul-s
     element-copy-out-s
     array-copy-out-c
+    cast-adjusted-weight
     adjusted-weight-requires
     add-sum
     add-i

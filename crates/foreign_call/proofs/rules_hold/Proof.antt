@@ -1,9 +1,11 @@
 -- Rule after rule; what the tests before it say is what the next one needs.
-use mathlib.Core.Path.{_≡_, sym, _∙_}
+use mathlib.Core.Path.{_≡_, refl, sym, _∙_}
 use mathlib.Core.Bool.{true}
 use denote.Ref.{now}
 use borrow.Author.Needs.{needs}
 use borrow.Author.Tests.{not-true, not-false}
+use Rattle.solve_def.proofs.Theorem.{network-of}
+use Rattle.solve_arcs_fill.proofs.Plants.{no-arc}
 use Rattle.sheet_def.specs.Calls.{AllSmall}
 use Rattle.foreign_def.specs.Test.{numbersFit}
 use Rattle.foreign_call.proofs.Ruling as R
@@ -11,8 +13,14 @@ use Rattle.foreign_call.proofs.rules_hold.Statement.{statement}
 use Rattle.foreign_call.proofs.rules_hold.Tie as tie
 
 -- What is known once the flows are shown, and what each test passed says.
+abbrev cut : tie.After-shown-flows → tie.After-cuts-of
+cut c = c .before .before
+
+abbrev laid : tie.After-cuts-of → tie.After-lay
+laid c = c .before .before .before
+
 abbrev counted : tie.After-shown-flows → tie.Else2
-counted c = c .before .before .before .before
+counted c = laid (cut c) .before .before .before .before .before .before
 
 abbrev first : tie.Else2 → tie.Else1
 first c = c .before .before .before
@@ -53,11 +61,30 @@ returns-2 c =
     let st = c .before .before .before .before .before in
     R.wrong-count (st .args .p) (st .args .kept) (now (st .args .numbers)) (st .pre .0) (st .pre .1) (st .pre .2) (c .if2 .taken)
 
+cast-count : tie.Need-cast-count
+cast-count c = search needs
+
+cast-arcs : tie.Need-cast-arcs
+cast-arcs c = search needs
+
+-- The start, from where arcs and rows are to be laid.
+abbrev begin : tie.After-rows → tie.Start
+begin c = first (c .before .before .before .before .before) .before .before
+
+lay-requires : tie.Need-lay-requires
+lay-requires c κs = let st = begin c in (network-of (st .args .p) (st .pre .0), refl, no-arc, refl)
+
 cuts-of-requires : tie.Need-cuts-of-requires
-cuts-of-requires c κs = search needs
+cuts-of-requires c κs =
+    let f = c .before .before in
+    let st = begin (f .before) in
+    (st .args .p, record { accepted = st .pre .0; laid = f .lay .ensures })
 
 classes-of-requires : tie.Need-classes-of-requires
-classes-of-requires c κs = search needs
+classes-of-requires c κs =
+    let f = laid c in
+    let st = begin (f .before) in
+    (st .pre .0, c .cuts-of .ensures (st .args .p) (record { accepted = st .pre .0; laid = f .lay .ensures }))
 
 shown-flows-requires : tie.Need-shown-flows-requires
 shown-flows-requires c κs = search needs
@@ -88,13 +115,17 @@ returns-5 c =
 
 total-fits-requires : tie.Need-total-fits-requires
 total-fits-requires c κs =
-    let recorded-here = c .before .before .before .before .before .before in
+    let half = c .before .before .before .before in
+    let recorded-here = half .before .before .before .before in
     let s = recorded-here .before .before in
-    (start s .pre .0, s .before .before .cuts-of .ensures .grouped, s .before .classes-of .ensures, small recorded-here)
+    let k = cut s in
+    let f = laid k in
+    let grouped = k .cuts-of .ensures (start s .args .p) (record { accepted = start s .pre .0; laid = f .lay .ensures }) .grouped in
+    (record { accepted = start s .pre .0; laid = f .lay .ensures }, grouped, s .before .classes-of .ensures, small recorded-here)
 
 returns-6 : tie.Need-returns-6
 returns-6 c =
-    let nets = c .before .before .before in
+    let nets = c .before .before .before .before .before in
     let flows = nets .before .before in
     let records = flows .before .before in
     let s = records .before .before in
@@ -109,6 +140,9 @@ rules-hold-spec =
     numbers-fit-requires
     returns
     returns-2
+    cast-count
+    cast-arcs
+    lay-requires
     cuts-of-requires
     classes-of-requires
     shown-flows-requires

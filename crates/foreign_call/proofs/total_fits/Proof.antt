@@ -1,4 +1,5 @@
 -- Degrees, then the cost, then the verdict by the cost as it is written.
+use mathlib.Core.Path.{refl}
 use Prim.Native.Nat.{ℕ}
 use native.Mathlib.Omega.{arith}
 use lib.ListN.{take}
@@ -14,45 +15,41 @@ abbrev costing : tie.Start → ℕ
 costing st = cost (plantOf (st .args .p) .streams) (take (st .args .p .count) (st .args .flows))
 
 degrees-of-requires : tie.Need-degrees-of-requires
-degrees-of-requires c κs = search needs
+degrees-of-requires c κs = (c .args .p, c .pre .0, refl, c .pre .1)
 
 returns : tie.Need-returns
 returns c =
     let st = c .before .before .before in
     let d = c .before .before .degrees-of in
-    R.other-degrees (plantOf (st .args .p)) (costing st) (st .args .total) (d .result) (d .ensures .0) (c .if1 .taken)
+    R.other-degrees (plantOf (st .args .p)) (costing st) (st .args .total) (d .result) (d .ensures .0 (st .args .p) (st .pre .0) refl (st .pre .1)) (c .if1 .taken)
 
 cost-of-requires : tie.Need-cost-of-requires
-cost-of-requires c κs = search needs
+cost-of-requires c κs = let st = c .before .before .before in (st .pre .0 .accepted, st .pre .3)
 
 returns-2 : tie.Need-returns-2
 returns-2 c =
-    let else1 = c .before .before .before in
-    let after-degrees-of = else1 .before .before in
-    let start = after-degrees-of .before in
-    let d = after-degrees-of .degrees-of in
+    let st = c .before .before .before .before .before .before in
+    let d = c .before .before .before .before .before .degrees-of in
     let s = c .before .before .cost-of in
-    R.other-cost (plantOf (start .args .p)) (costing start) (start .args .total) (d .result) (d .ensures .0) (else1 .if1 .left)
+    R.other-cost (plantOf (st .args .p)) (costing st) (st .args .total) (d .result) (d .ensures .0 (st .args .p) (st .pre .0) refl (st .pre .1)) (c .before .before .before .if1 .left)
     (s .result) (s .ensures) (c .if2 .taken)
 
 adjusted-weights-requires : tie.Need-adjusted-weights-requires
-adjusted-weights-requires c κs = search needs
+adjusted-weights-requires c κs = let st = c .before .before .before .before .before .before in (st .pre .0 .accepted, st .pre .2)
 
 verdict-requires : tie.Need-verdict-requires
 verdict-requires c κs = search needs
 
 returns-3 : tie.Need-returns-3
 returns-3 c =
-    let else2 = c .before .before .before in
-    let after-cost-of = else2 .before .before in
-    let else1 = after-cost-of .before in
-    let after-degrees-of = else1 .before .before in
-    let start = after-degrees-of .before in
-    let d = after-degrees-of .degrees-of in
-    let s = after-cost-of .cost-of in
+    let tested = c .before .before .before .before .before .before in
+    let st = tested .before .before .before in
+    let d = tested .before .before .degrees-of in
+    let s = c .before .before .before .before .before .cost-of in
     let w = c .before .before .adjusted-weights in
-    R.by-verdict (plantOf (start .args .p)) (costing start) (start .args .total) (d .result) (d .ensures .0) (else1 .if1 .left)
-    (s .result) (s .ensures) (else2 .if2 .left)
+    R.by-verdict (plantOf (st .args .p)) (costing st) (st .args .total) (d .result) (d .ensures .0 (st .args .p) (st .pre .0) refl (st .pre .1))
+    (tested .if1 .left)
+    (s .result) (s .ensures) (c .before .before .before .if2 .left)
     (w .result) (c .before .verdict .result) (w .ensures) (omega arith) (c .before .verdict .ensures)
 
 pub total-fits-spec : {M : Type 1} → statement M

@@ -1,10 +1,12 @@
 -- By what was read, then by what the solver found.
-use mathlib.Core.Path.{_≡_}
+use mathlib.Core.Path.{_≡_, refl}
 use denote.Ref.{now}
 use Rattle.plant_def.specs.Files.{readPlant}
 use Rattle.plant_def.specs.Says.{readOf}
 use Rattle.plant_def.specs.Within.{Accepted}
 use Rattle.plant_def.proofs.Found.{plant-accepted}
+use Rattle.solve_def.proofs.Theorem.{network-of}
+use Rattle.solve_arcs_fill.proofs.Plants.{no-arc}
 use Rattle.foreign_numbers.proofs.Numbering.{says-unread, says-numbers}
 use borrow.Author.Needs.{needs}
 use Rattle.foreign_numbers.proofs.place_numbers.Statement.{statement}
@@ -28,18 +30,40 @@ returns c =
     let y = c .before .before in
     says-unread (now (y .before .before .args .file)) (y .read-plant .result) (read-in y) (c .no-numbers .result) (c .before .if1 .taken) (c .no-numbers .ensures)
 
+cast-count : tie.Need-cast-count
+cast-count c = search needs
+
+cast-arcs : tie.Need-cast-arcs
+cast-arcs c = search needs
+
+-- The plant is at hand, from where arcs and rows are to be laid; they are laid, from where the labels are known.
+abbrev read : tie.After-rows → tie.Else1
+read c = c .before .before .before .before .before
+
+abbrev laid : tie.After-group → tie.After-lay
+laid c = c .before .before .before
+
+lay-requires : tie.Need-lay-requires
+lay-requires c κs = (network-of _ (able (read c)), refl, no-arc, refl)
+
 group-requires : tie.Need-group-requires
-group-requires c κs = able (c .before)
+group-requires c κs =
+    let f = c .before .before in
+    (read (f .before) .before .read-plant .result .plant, record { accepted = able (read (f .before)); laid = f .lay .ensures })
 
 solve-requires : tie.Need-solve-requires
-solve-requires c κs = (able (c .before .before), c .group .ensures)
+solve-requires c κs =
+    let g = c .before .before in
+    let f = laid g in
+    let e = read (f .before) in
+    (able e, g .group .ensures (e .before .read-plant .result .plant) (record { accepted = able e; laid = f .lay .ensures }), f .lay .ensures)
 
 numbers-by-requires : tie.Need-numbers-by-requires
-numbers-by-requires c κs = (able (c .before .before .before), c .solve .ensures)
+numbers-by-requires c κs = (able (read (laid (c .before .before .before) .before)), c .solve .ensures .0)
 
 returns-2 : tie.Need-returns-2
 returns-2 c =
-    let e = c .before .before .before .before in
+    let e = read (laid (c .before .before .before .before) .before) in
     let y = e .before in
     says-numbers (now (y .before .before .args .file)) (y .read-plant .result) (read-in y) (c .numbers-by .result) (e .if1 .left) (c .numbers-by .ensures)
 
@@ -50,6 +74,9 @@ place-numbers-spec =
     read-plant-requires
     no-numbers-requires
     returns
+    cast-count
+    cast-arcs
+    lay-requires
     group-requires
     solve-requires
     numbers-by-requires

@@ -2,17 +2,16 @@
 use Prim.Native.Nat.{_≤_, _-_}
 use native.Mathlib.Omega.{arith}
 use borrow.Author.Needs.{needs}
-use Rattle.plant_def.specs.Limits.{places}
 use Rattle.newton_descend.specs.Levels.{Banded}
 use Rattle.newton_descend.proofs.Levels.{bounded-all, bounded-set}
 use Rattle.newton_descend.proofs.lowered.Statement.{statement}
 use Rattle.newton_descend.proofs.lowered.Tie as tie
 
 abbrev Inv-loop : tie.InvT-loop
-Inv-loop top band x most r₀ u₀ r u = (u ≤ places) × Banded top band r
+Inv-loop x n top band most r₀ u₀ r u = (u ≤ n) × Banded top band r
 
 abbrev μ-loop : tie.MeasureT-loop
-μ-loop top band x most r₀ u₀ r u = places - u
+μ-loop x n top band most r₀ u₀ r u = n - u
 
 greatest-requires : tie.Need-greatest-requires Inv-loop μ-loop
 greatest-requires c κs = search needs
@@ -23,8 +22,8 @@ loop-holds c = (omega arith, bounded-all)
 mul-whole : tie.Need-mul-whole Inv-loop μ-loop
 mul-whole c = search needs
 
-array-read-whole : tie.Need-array-read-whole Inv-loop μ-loop
-array-read-whole c = search needs
+element-copy-out-whole : tie.Need-element-copy-out-whole Inv-loop μ-loop
+element-copy-out-whole c = search needs
 
 whole-requires : tie.Need-whole-requires Inv-loop μ-loop
 whole-requires c κs = search needs
@@ -45,7 +44,7 @@ loop-less : tie.Need-loop-less Inv-loop μ-loop
 loop-less c = search needs
 
 loop-again : tie.Need-loop-again Inv-loop μ-loop
-loop-again c = (omega arith, bounded-set (c .before .before .before .loop .inv .1) _ _ (omega arith) (c .below .ensures))
+loop-again c = let at = c .before .before .before .before in (omega arith, bounded-set (at .loop .inv .1) _ _ (omega (arith, at .before .before .pre .0)) (c .below .ensures))
 
 returns : tie.Need-returns Inv-loop μ-loop
 returns c = search needs
@@ -59,7 +58,7 @@ lowered-spec =
     greatest-requires
     loop-holds
     mul-whole
-    array-read-whole
+    element-copy-out-whole
     whole-requires
     below-requires
     mul-r

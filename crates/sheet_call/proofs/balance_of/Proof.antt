@@ -1,13 +1,15 @@
 -- By whether the solver found a flow.
 use borrow.Author.Needs.{needs}
 use borrow.Author.Tests.{not-true, not-false}
-use mathlib.Core.Path.{_≡_, sym, subst}
+use mathlib.Core.Path.{_≡_, refl, sym, subst}
 use mathlib.Core.Bool.{Bool, false}
 use mathlib.Core.List.{List}
 use Rattle.num_bytes.specs.Inner.{pickT}
 use Rattle.plant_def.specs.Plants.{Plant}
 use Rattle.plant_def.specs.Says.{plantOf}
 use Rattle.flow_def.specs.Overfull.{Overfull}
+use Rattle.solve_def.proofs.Theorem.{network-of}
+use Rattle.solve_arcs_fill.proofs.Plants.{no-arc}
 use Rattle.sheet_def.specs.declared.Outcome.{Outcome}
 use Rattle.sheet_def.specs.Balances.{BalanceSays, OutcomeSays}
 use Rattle.sheet_def.proofs.Opening.{right-found, right-overfull}
@@ -18,33 +20,59 @@ use Rattle.sheet_call.proofs.balance_of.Tie as tie
 says-overfull : (p : Plant) (r : Outcome) (ms : List Bool) → (r .found ≡ false) × (r .marked ≡ ms) → Overfull p ms → OutcomeSays p r
 says-overfull p r ms e o = subst (λ (b : Bool). pickT b (BalanceSays p (r .balance)) (Overfull p (r .marked))) (sym (e .0)) (rw (e .1) o)
 
+-- The start, from where arcs and rows are laid; and that, from where the solver has ended.
+abbrev begin : tie.After-lay → tie.Start
+begin c = c .before .before .before .before .before
+
+abbrev laid : tie.After-cuts-of → tie.After-lay
+laid c = c .before .before .before
+
+abbrev cut : tie.After-solve → tie.After-cuts-of
+cut c = c .before .before .before .before
+
+cast-count : tie.Need-cast-count
+cast-count c = search needs
+
+cast-arcs : tie.Need-cast-arcs
+cast-arcs c = search needs
+
+lay-requires : tie.Need-lay-requires
+lay-requires c κs =
+    let st = c .before .before .before .before in
+    (network-of (st .args .p) (st .pre), refl, no-arc, refl)
+
 cuts-of-requires : tie.Need-cuts-of-requires
-cuts-of-requires c κs = search needs
+cuts-of-requires c κs =
+    let f = c .before .before in
+    (begin f .args .p, record { accepted = begin f .pre; laid = f .lay .ensures })
 
 solve-requires : tie.Need-solve-requires
-solve-requires c κs = search needs
+solve-requires c κs =
+    let k = c .before .before .before in
+    let f = laid k in
+    (begin f .pre, k .cuts-of .ensures (begin f .args .p) (record { accepted = begin f .pre; laid = f .lay .ensures }) .grouped, f .lay .ensures)
 
 overfilled-requires : tie.Need-overfilled-requires
 overfilled-requires c κs = search needs
 
 returns : tie.Need-returns
 returns c =
-    let after-solve = c .before .before .before .before in
-    let start = after-solve .before .before .before in
-    let p = start .args .p in
-    let solved = after-solve .solve in
-    says-overfull (plantOf p) (c .overfilled .result) (solved .result .marked) (c .overfilled .ensures)
-    (right-overfull p (solved .result) (solved .ensures) (not-true (solved .result .found) (c .before .if1 .taken)))
+    let s = c .before .before .before .before in
+    let p = begin (laid (cut s)) .args .p in
+    says-overfull (plantOf p) (c .overfilled .result) (s .solve .result .marked) (c .overfilled .ensures)
+    (right-overfull p (s .solve .result) (s .solve .ensures .0) (not-true (s .solve .result .found) (c .before .if1 .taken)))
 
 balance-by-requires : tie.Need-balance-by-requires
 balance-by-requires c κs =
-    let after-solve = c .before .before .before in
-    let after-cuts-of = after-solve .before .before in
-    let start = after-cuts-of .before in
-    let solved = after-solve .solve in (
-      start .pre,
-      after-cuts-of .cuts-of .ensures,
-      right-found (start .args .p) (solved .result) (solved .ensures) (not-false (solved .result .found) (c .if1 .left)),
+    let e = c .before .before in
+    let s = e .before .before .before in
+    let k = cut s in
+    let f = laid k in
+    let p = begin f .args .p in
+    let solution = right-found p (s .solve .result) (s .solve .ensures .0) (not-false (s .solve .result .found) (e .if1 .left)) in (
+      record { accepted = begin f .pre; laid = f .lay .ensures },
+      k .cuts-of .ensures p (record { accepted = begin f .pre; laid = f .lay .ensures }),
+      solution,
     )
 
 returns-2 : tie.Need-returns-2
@@ -54,6 +82,9 @@ pub balance-of-spec : {M : Type 1} → statement M
 balance-of-spec =
     tie.close
     (tie.spec
+    cast-count
+    cast-arcs
+    lay-requires
     cuts-of-requires
     solve-requires
     overfilled-requires

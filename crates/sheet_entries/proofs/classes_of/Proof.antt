@@ -1,9 +1,10 @@
 -- `sheet_entries::classes_of` meets its contract: after i turns the first i classes are written.
-use mathlib.Core.Path.{_≡_, sym, _∙_}
+use mathlib.Core.Path.{_≡_, refl, sym, _∙_}
 use Prim.Native.Nat.{_≤_, _-_}
 use native.Mathlib.Omega.{arith}
-use lib.ListN.{length-replicate}
+use lib.ListN.{getD, length-replicate}
 use Rattle.plant_def.specs.Limits.{maxStreams}
+use Rattle.plant_def.specs.Plants.{noStream}
 use Rattle.plant_def.specs.Says.{plantOf}
 use Rattle.flow_def.specs.declared.Class.the-variants.{Withheld}
 use Rattle.flow_def.specs.Classes.{classOf}
@@ -36,11 +37,19 @@ element-copy-out-s c = search needs
 array-read-class-of : tie.Need-array-read-class-of Inv-loop μ-loop
 array-read-class-of c = search needs
 
+cast-class-of : tie.Need-cast-class-of Inv-loop μ-loop
+cast-class-of c = search needs
+
+cast-class-of-2 : tie.Need-cast-class-of-2 Inv-loop μ-loop
+cast-class-of-2 c = search needs
+
 class-of-requires : tie.Need-class-of-requires Inv-loop μ-loop
 class-of-requires c κs =
-    let start = c .before .before .before .before .before .before in
-    let lt = c .before .before .loop-test .taken in
-    (stream-within (start .args .t1) (start .pre .0) _ lt, start .pre .1 .grouped .long, start .pre .1 .low _ lt)
+    let on = c .before .before .before .before in
+    let st = on .before .before .before .before in
+    let lt = on .loop-test .taken in
+    let s = stream-within (st .args .t1) (st .pre .0) _ lt in
+    (omega (arith, s .from-in), omega (arith, s .to-in), st .pre .1 .grouped .long, st .pre .1 .low _ lt)
 
 array-set-from-r : tie.Need-array-set-from-r Inv-loop μ-loop
 array-set-from-r c = search needs
@@ -53,19 +62,18 @@ loop-less c = search needs
 
 loop-again : tie.Need-loop-again Inv-loop μ-loop
 loop-again c =
-    let in-loop = c .before .before .before in
-    let at-loop = in-loop .before in
-    let start = at-loop .before .before .before in
-    let at = at-loop .loop in
-    let class = class-in (start .pre .0) (start .pre .1) (at .i) (in-loop .loop-test .taken) in
-    (omega arith, written-put (at .inv .1) (omega (arith, start .pre .0 .within .few-streams)) _ (c .class-of .ensures ∙ class))
+    let on = c .before .before .before .before .before in
+    let st = on .before .before .before .before in
+    let at = on .before .loop in
+    let class = class-in (st .pre .0) (st .pre .1) (at .i) (on .loop-test .taken) in
+    (omega arith, written-put (at .inv .1) (omega (arith, st .pre .0 .within .few-streams)) _ (c .class-of .ensures (getD (st .args .t1 .streams) (at .i) noStream) refl refl refl ∙ class))
 
 returns : tie.Need-returns Inv-loop μ-loop
 returns c =
-    let start = c .before .before .before .before in
+    let st = c .before .before .before .before in
     let at = c .before .loop in
-    let e : at .i ≡ start .args .t1 .count = omega arith in
-    classes-all (plantOf (start .args .t1)) (at .i) maxStreams _ (all-listed (start .args .t1) (start .pre .0) ∙ sym e) (at .inv .1)
+    let e : at .i ≡ st .args .t1 .count = omega arith in
+    classes-all (plantOf (st .args .t1)) (at .i) maxStreams _ (all-listed (st .args .t1) (st .pre .0) ∙ sym e) (at .inv .1)
 
 pub classes-of-spec : {M : Type 1} → statement M
 classes-of-spec =
@@ -77,6 +85,8 @@ classes-of-spec =
     loop-holds
     mul-s
     element-copy-out-s
+    cast-class-of
+    cast-class-of-2
     array-read-class-of
     class-of-requires
     array-set-from-r

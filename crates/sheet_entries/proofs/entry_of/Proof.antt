@@ -5,7 +5,7 @@ use mir.Facts.{toZ-ofZ}
 use Rattle.flow_def.specs.declared.Class.{Class}
 use Rattle.flow_def.specs.declared.Class.the-variants.{Adjusted, AsRead, Given}
 use Rattle.sheet_def.specs.Balances.{entryOf}
-use Rattle.sheet_entries.proofs.Entered.{entry-as}
+use Rattle.sheet_entries.proofs.Entering.{entry-as}
 use Rattle.sheet_entries.proofs.entry_of.Statement.{statement}
 use Rattle.sheet_entries.proofs.entry_of.Tie as tie
 

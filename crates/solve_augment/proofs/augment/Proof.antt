@@ -1,4 +1,4 @@
--- `solve_augment::augment` meets its contract: with j streams to go the push comes to what it comes to from the start.
+-- `solve_augment::augment` meets its contract: with j streams to go the augmentation comes to what it comes to from the start.
 use mathlib.Core.Path.{_≡_, refl}
 use Prim.Native.Nat.{_<_, _-_}
 use native.Mathlib.Omega.{arith}
@@ -7,19 +7,19 @@ use lib.Dec.{eqb}
 use lib.ListN.{getD}
 use Rattle.plant_def.specs.Limits.{maxStreams}
 use Rattle.solve_arcs.proofs.Rowing.{row-of}
-use Rattle.solve_augment.proofs.Augments.{Pushing, push-index, push-most, push-place, push-hits, push-misses, pushed-all}
+use Rattle.solve_augment.proofs.Augments.{Augmenting, augment-index, augment-most, augment-place, augment-hits, augment-misses, augmented-all}
 use Rattle.solve_augment.proofs.augment.Statement.{statement}
 use Rattle.solve_augment.proofs.augment.Tie as tie
 
 abbrev Inv-loop : tie.InvT-loop
-Inv-loop arcs rows margins₀ flows₀ via ends delta at₀ j₀ margins flows at j = Pushing arcs rows via ends j₀ at₀ delta flows₀ margins₀ flows margins at j
+Inv-loop arcs rows margins₀ flows₀ via ends delta at₀ j₀ margins flows at j = Augmenting arcs rows via ends j₀ at₀ delta flows₀ margins₀ flows margins at j
 
 abbrev μ-loop : tie.MeasureT-loop
 μ-loop arcs rows margins₀ flows₀ via ends delta at₀ j₀ margins flows at j = j
 
 -- The remembered stream is in use.
 index : (c : tie.In-loop Inv-loop μ-loop) → getD (c .before .before .args .via .now) (c .before .loop .j - 1) 0 < maxStreams
-index c = let st = c .before .before in omega (arith, push-index _ _ _ _ _ _ _ _ _ _ _ _ _ (c .before .loop .inv) (c .loop-test .taken) (st .pre .2), st .pre .0 .laid .along .linked .few)
+index c = let st = c .before .before in omega (arith, augment-index _ _ _ _ _ _ _ _ _ _ _ _ _ (c .before .loop .inv) (c .loop-test .taken) (st .pre .2), st .pre .0 .laid .along .linked .few)
 
 loop-holds : tie.Need-loop-holds Inv-loop μ-loop
 loop-holds c = record { short = omega arith; byte = omega arith; roomy = c .pre .3; long = c .pre .4; margined = λ skip m o. m; same = λ w. refl }
@@ -64,10 +64,10 @@ put-margins-requires c κs =
     let at = on .before in
     let st = at .before in
     let w = st .pre .0 in
-    let k = push-index _ _ _ _ _ _ _ _ _ _ _ _ _ (at .loop .inv) (on .loop-test .taken) (st .pre .2) in
+    let k = augment-index _ _ _ _ _ _ _ _ _ _ _ _ _ (at .loop .inv) (on .loop-test .taken) (st .pre .2) in
     let forwards = eqb (m .before .before .end-at .result) (at .loop .at) in (
       row-of _ _ _ (w .network) (w .laid .rowed) _ (rw (w .laid .along .counted) at k),
-      rw (m .moved .ensures) (push-most _ _ _ _ _ _ _ _ _ _ _ _ _ (at .loop .inv) (on .loop-test .taken) (st .pre .1) (index on) forwards),
+      rw (m .moved .ensures) (augment-most _ _ _ _ _ _ _ _ _ _ _ _ _ (at .loop .inv) (on .loop-test .taken) (st .pre .1) (index on) forwards),
       st .pre .1,
       at .loop .inv .long,
     )
@@ -82,7 +82,7 @@ cast-at c =
     let e = c .before .before .before .before .before in
     let on = e .before .before .before .before in
     let st = on .before .before in
-    let place = push-place _ _ _ _ _ _ _ _ _ _ _ _ _ (on .before .loop .inv) (on .loop-test .taken) (st .pre .1) (st .pre .2) (st .pre .0) in
+    let place = augment-place _ _ _ _ _ _ _ _ _ _ _ _ _ (on .before .loop .inv) (on .loop-test .taken) (st .pre .1) (st .pre .2) (st .pre .0) in
     rw (c .place-at .ensures) (omega (arith, place (eqb (e .end-at .result) (on .before .loop .at))))
 
 loop-again : tie.Need-loop-again Inv-loop μ-loop
@@ -94,16 +94,16 @@ loop-again c =
     let on = th .before .before in
     let st = on .before .before in
     rw (c .place-at .ensures, m .put-margins .ensures, x .moved .ensures, e .end-at .ensures)
-    (push-hits _ _ _ _ _ _ _ _ _ _ _ _ _ (on .before .loop .inv) (on .loop-test .taken) (st .pre .1) (st .pre .2) (st .pre .0) (th .if1 .taken))
+    (augment-hits _ _ _ _ _ _ _ _ _ _ _ _ _ (on .before .loop .inv) (on .loop-test .taken) (st .pre .1) (st .pre .2) (st .pre .0) (th .if1 .taken))
 
 loop-again-2 : tie.Need-loop-again-2 Inv-loop μ-loop
 loop-again-2 c =
     let on = c .before .before in
     let st = on .before .before in
-    push-misses _ _ _ _ _ _ _ _ _ _ _ _ _ (on .before .loop .inv) (on .loop-test .taken) (st .pre .1) (st .pre .2) (st .pre .0) (c .if1 .left)
+    augment-misses _ _ _ _ _ _ _ _ _ _ _ _ _ (on .before .loop .inv) (on .loop-test .taken) (st .pre .1) (st .pre .2) (st .pre .0) (c .if1 .left)
 
 returns : tie.Need-returns Inv-loop μ-loop
-returns c = let z : c .before .loop .j ≡ 0 = omega arith in pushed-all _ _ _ _ _ _ _ _ _ _ _ _ (rw z at (c .before .loop .inv))
+returns c = let z : c .before .loop .j ≡ 0 = omega arith in augmented-all _ _ _ _ _ _ _ _ _ _ _ _ (rw z at (c .before .loop .inv))
 
 pub augment-spec : {M : Type 1} → statement M
 augment-spec =

@@ -2,18 +2,19 @@
 use mathlib.Core.Path.{refl}
 use borrow.Author.Needs.{needs}
 use Rattle.solve_def.proofs.Theorem.{network-of}
-use Rattle.solve_ties.specs.Evens.{Tieable}
 use Rattle.solve_phases.specs.Finishes.{Finishable}
-use Rattle.solve_call.proofs.Solving.{full-right, tieable, tie-margined, found-right}
+use Rattle.solve_call.proofs.Solving.{full-right, counted, tieable, tie-margined, found-right}
 use Rattle.solve_call.proofs.solve_at.Statement.{statement}
 use Rattle.solve_call.proofs.solve_at.Tie as tie
 
 -- The end of the phases, from where its outcome is known; and the start.
-abbrev ended : tie.After-flows → tie.After-finish
-ended c = c .before .before .before .before .before
+abbrev ended : tie.After-masked → tie.After-finish
+ended c = c .before .before
 
 abbrev start : tie.After-finish → tie.Start
-start c = c .before .before
+start c =
+    let m = c .before .before .before .before in
+    m .before .before .before .before
 
 -- What the phases begin from.
 abbrev begun : (st : tie.Start) → Finishable (st .args .arcs .now) (st .args .rows .now) (st .args .start)
@@ -23,42 +24,43 @@ begun st = record {
 }
 
 finish-requires : tie.Need-finish-requires
-finish-requires c κs = (begun (c .before), refl)
-
-masked-requires : tie.Need-masked-requires
-masked-requires c κs = search needs
+finish-requires c κs =
+    let m = c .before .before .before in
+    (begun (m .before .before .before .before), refl)
 
 returns : tie.Need-returns
 returns c =
-    let f = ended (c .before) in
+    let m = c .before in
+    let f = ended m in
     let st = start f in
-    full-right (st .args .p) (st .pre .0) (st .args .start) (st .pre .2) (f .finish .result) (f .finish .ensures (begun st) .0) _ (c .if1 .taken)
-    (c .before .before .before .before .masked .ensures)
-
--- What the tie pass begins from.
-abbrev able : (c : tie.Else1) → let f = ended (c .before) in let st = start f in
-    Tieable (st .args .arcs .now) (st .args .rows .now) (f .finish .result .state .potentials) 0 (f .finish .result .state .flows)
-able c =
-    let f = ended (c .before) in
-    let st = start f in
-    tieable (st .args .p) (st .pre .0) (st .args .start) (st .pre .2) (f .finish .result) (f .finish .ensures (begun st) .0) (c .if1 .left) _ _ (st .pre .1)
+    let got = f .finish .ensures (begun st) in (
+      full-right (st .args .p) (st .pre .0) (st .args .start) (st .pre .2) _ (got .0) _ (c .if1 .taken) (m .masked .ensures),
+      counted (st .args .p) (st .pre .0) (st .args .start) (st .pre .2) _ (got .0) _ (got .1),
+    )
 
 tie-all-requires : tie.Need-tie-all-requires
 tie-all-requires c κs =
     let e = c .before .before .before in
     let f = ended (e .before) in
     let st = start f in
-    let made = f .finish .ensures (begun st) in
-    (able e, tie-margined (st .args .p) (st .pre .0) (st .args .start) (st .pre .2) (f .finish .result) (made .0) (e .if1 .left) _ _ _ (st .pre .1) (made .1 (e .if1 .left)))
+    let got = f .finish .ensures (begun st) in
+    let n = e .if1 .left in (
+      tieable (st .args .p) (st .pre .0) (st .args .start) (st .pre .2) _ (got .0) n _ _ (st .pre .1),
+      tie-margined (st .args .p) (st .pre .0) (st .args .start) (st .pre .2) _ (got .0) n _ _ _ (st .pre .1) (got .2 n),
+    )
 
 returns-2 : tie.Need-returns-2
 returns-2 c =
     let e = c .before .before .before .before in
-    let f = ended (e .before) in
+    let m = e .before in
+    let f = ended m in
     let st = start f in
-    found-right (st .args .p) (st .pre .0) (st .args .start) (st .pre .2) (f .finish .result) (f .finish .ensures (begun st) .0) (e .if1 .left) _ _
-    (c .tie-all .ensures (able e))
-    (e .before .before .before .before .masked .ensures)
+    let n = e .if1 .left in
+    let got = f .finish .ensures (begun st) in
+    let ties = c .tie-all .ensures (tieable (st .args .p) (st .pre .0) (st .args .start) (st .pre .2) _ (got .0) n _ _ (st .pre .1)) in (
+      found-right (st .args .p) (st .pre .0) (st .args .start) (st .pre .2) _ (got .0) n _ _ _ ties (m .masked .ensures) (got .1),
+      counted (st .args .p) (st .pre .0) (st .args .start) (st .pre .2) _ (got .0) _ (got .1),
+    )
 
 pub solve-at-spec : {M : Type 1} → statement M
-solve-at-spec = tie.close (tie.spec finish-requires masked-requires returns tie-all-requires returns-2)
+solve-at-spec = tie.close (tie.spec finish-requires (λ c κs. search needs) returns tie-all-requires returns-2)

@@ -15,12 +15,6 @@ use Rattle.solve_call.proofs.solve_from.Tie as tie
 abbrev begin : tie.After-lay → tie.Start
 begin c = c .before .before .before .before .before
 
-cast-count : tie.Need-cast-count
-cast-count c = search needs
-
-cast-arcs : tie.Need-cast-arcs
-cast-arcs c = search needs
-
 lay-requires : tie.Need-lay-requires
 lay-requires c κs =
     let st = c .before .before .before .before in
@@ -52,8 +46,8 @@ solve-at-requires c κs =
       },
     )
 
-returns : tie.Need-returns
-returns c = search needs
-
 pub solve-from-spec : {M : Type 1} → statement M
-solve-from-spec = tie.close (tie.spec cast-count cast-arcs lay-requires settle-requires solve-at-requires returns)
+solve-from-spec =
+    tie.close
+    (tie.spec (λ c. search needs) (λ c. search needs) lay-requires settle-requires solve-at-requires
+    (λ c. search needs))

@@ -17,15 +17,22 @@ use Rattle.solve_def.proofs.Theorem.{network-of}
 use Rattle.solve_arcs.specs.ArcNeeds.{Laying}
 use Rattle.solve_forest.specs.Routes.{Routing}
 use Rattle.solve_forest.proofs.Routes.{routes-none, routes-amounts}
-use Rattle.solve_start.proofs.Factored.{labels-of, level-ready, level-routes, routed-start}
+use Rattle.solve_start.proofs.Factored.{labels-of, placed-of, level-ready, level-routes, routed-start}
 use Rattle.solve_start.proofs.start.Statement.{statement}
 use Rattle.solve_start.proofs.start.Tie as tie
 
 levels : (c : tie.After-potentials-of) → Level (labelsOf unmeteredOnly (plantOf (c .before .args .p))) potentialShift potentialSpread (c .potentials-of .result)
-levels c = subst (λ (ls : List ℕ). Level ls potentialShift potentialSpread (c .potentials-of .result)) (labels-are (c .before .args .p) (c .before .pre .0) unmeteredOnly _ (c .before .pre .1)) (c .potentials-of .ensures)
+levels c =
+    let st = c .before in
+    let e = labels-are (st .args .p) (st .pre .0) unmeteredOnly _ (st .pre .1) in
+    subst (λ (ls : List ℕ). Level ls potentialShift potentialSpread (c .potentials-of .result)) e (c .potentials-of .ensures)
 
 potentials-of-requires : tie.Need-potentials-of-requires
-potentials-of-requires c κs = (c .pre .0, rw (labels-are (c .args .p) (c .pre .0) unmeteredOnly _ (c .pre .1)) (labels-of (c .args .p) (c .pre .0)), omega arith)
+potentials-of-requires c κs =
+    let p = c .args .p in
+    let a = c .pre .0 in
+    let e = labels-are p a unmeteredOnly _ (c .pre .1) in
+    (rw e (labels-of p a), rw e (placed-of p a (c .pre .2)), omega arith)
 
 -- Streams that the arcs and the rows are of.
 abbrev laying : (st : tie.Start) → Laying (st .args .arcs .now) (st .args .rows .now)
@@ -92,11 +99,5 @@ returns c =
 pub start-spec : {M : Type 1} → statement M
 start-spec =
     tie.close
-    (tie.spec
-    potentials-of-requires
-    settle-flows-requires
-    nets-of-requires
-    span-requires
-    route-requires
-    nets-of-requires-2
-    returns)
+    (tie.spec potentials-of-requires settle-flows-requires nets-of-requires span-requires route-requires
+    nets-of-requires-2 returns)

@@ -1,5 +1,5 @@
--- `solve_ties::tie_at` meets its contract: by whether a way leads round; it leaves room for the push.
-use Rattle.solve_def.proofs.TieTurns.{tied-cut, tied-round, Pushable, pushable}
+-- `solve_ties::tie_at` meets its contract: by whether a way leads round; it leaves room for the augmentation.
+use Rattle.solve_def.proofs.TieTurns.{tied-cut, tied-round, RoundAugmentable, round-augmentable}
 use Rattle.plant_def.specs.Limits.{maxStreams, places}
 use Rattle.solve_arcs.specs.Cells.{countOf}
 use Rattle.solve_arcs.proofs.Along.{starts-at, ends-at}
@@ -8,7 +8,7 @@ use Rattle.solve_ties.proofs.Evened.{tie-searching, tie-laying, tie-tra
 use Rattle.solve_ties.specs.Evens.{Tying}
 use Rattle.plant_def.specs.declared.Stream.{Stream}
 use Rattle.solve_def.specs.Search.{Grown, rootAt, grownBy, tightPath}
-use Rattle.solve_def.specs.Push.{pushed}
+use Rattle.solve_def.specs.Augment.{augmented}
 use Rattle.solve_def.specs.Sizes.{searchRounds}
 use Rattle.plant_def.specs.Plants.{noStream}
 use lib.ListN.{getD, take}
@@ -67,16 +67,16 @@ told c w =
     ∙ ap (λ (x : ℕ). round st w x (own st w .to) (st .args .i + 1)) (from-is (v .before) w)
     ∙ ap (λ (k : ℕ). round st w (own st w .from) (own st w .to) k) (add-one (st .args .i))
 
--- A way round was found: what the push needs.
+-- A way round was found: what the augmentation needs.
 ready : (c : tie.Else1) (w : Of (start (c .before .before)))
     → let a = start (c .before .before) .args in
     let t = w .tieable in
-    Pushable (t .streams) (t .n) (t .network) (a .potentials .now) (a .i) (w .below) (a .flows .now) (c .before .before .tight-path .result .tree)
+    RoundAugmentable (t .streams) (t .n) (t .network) (a .potentials .now) (a .i) (w .below) (a .flows .now) (c .before .before .tight-path .result .tree)
 ready c w =
     let f = c .before .before in
-    pushable (w .tieable .streams) (w .tieable .n) (w .tieable .network) _ _ (w .below) _ (w .tieable .even) _ (w .falls .metered) (w .falls .tight) (told f w) (not-false _ (c .if1 .left))
+    round-augmentable (w .tieable .streams) (w .tieable .n) (w .tieable .network) _ _ (w .below) _ (w .tieable .even) _ (w .falls .metered) (w .falls .tight) (told f w) (not-false _ (c .if1 .left))
 
--- From where the push is done: where its way is known, where one was found, and the search.
+-- From where the augmentation is done: where its way is known, where one was found, and the search.
 abbrev way-known : tie.After-augment → tie.After-augment-arg
 way-known c = c .before .before .before .before
 
@@ -86,16 +86,16 @@ found c = way-known c .before .before .before .before
 abbrev hunt : tie.After-augment → tie.After-tight-path
 hunt c = found c .before .before
 
--- The amounts after the push.
+-- The amounts after the augmentation.
 moved-are : (c : tie.After-augment) (w : Of (start (hunt c)))
     → let st = start (hunt c) in
     let t = hunt c .tight-path .result .tree in
-    c .augment .last .1 .1 .1 .0 ≡ pushed (take (w .tieable .n) (w .tieable .streams)) (t .via) (t .ends) 1 (t .len) (own st w .to) (st .args .flows .now)
+    c .augment .last .1 .1 .1 .0 ≡ augmented (take (w .tieable .n) (w .tieable .streams)) (t .via) (t .ends) 1 (t .len) (own st w .to) (st .args .flows .now)
 moved-are c w =
     let f = hunt c in
     let t = f .tight-path .result .tree in
     c .augment .ensures .1 (tie-laying _ _ _ _ _ (w .tieable))
-    ∙ ap (λ (v : ℕ). pushed (take (w .tieable .n) (w .tieable .streams)) (t .via) (t .ends) 1 (t .len) v (start f .args .flows .now)) (to-is (f .before .before) w)
+    ∙ ap (λ (v : ℕ). augmented (take (w .tieable .n) (w .tieable .streams)) (t .via) (t .ends) 1 (t .len) v (start f .args .flows .now)) (to-is (f .before .before) w)
 
 tight-path-requires : tie.Need-tight-path-requires
 tight-path-requires c κs =

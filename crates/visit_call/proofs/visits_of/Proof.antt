@@ -1,10 +1,13 @@
 -- By what was found, in the order of the refusals.
+use mathlib.Core.Path.{refl}
 use denote.Ref.{now}
 use borrow.Author.Tests.{not-true, not-false}
 use Rattle.plant_def.specs.Within.{Accepted}
 use Rattle.plant_def.specs.Says.{plantOf}
 use Rattle.plant_def.proofs.Arrayed.{within-of}
 use Rattle.plant_def.proofs.Found.{plant-accepted}
+use Rattle.solve_def.proofs.Theorem.{network-of}
+use Rattle.solve_arcs_fill.proofs.Plants.{no-arc}
 use Rattle.sheet_def.proofs.Opening.{right-found, right-overfull}
 use Rattle.visit_def.specs.Visits.{Feasible}
 use Rattle.visit_def.proofs.Promise.{unread, answered, none-balanced}
@@ -16,18 +19,27 @@ use Rattle.visit_call.proofs.visits_of.Tie as tie
 -- The plant that was read is accepted.
 taken : (c : tie.After-plant) → Accepted (c .before .before .read-plant .result .plant)
 taken c =
-    let after-read-plant = c .before .before in
-    let start = after-read-plant .before .before in
-    plant-accepted (now (start .args .file)) (after-read-plant .read-plant .result) (after-read-plant .read-plant .ensures) (c .before .if1 .left)
+    let y = c .before .before in
+    plant-accepted (now (y .before .before .args .file)) (y .read-plant .result) (y .read-plant .ensures) (c .before .if1 .left)
+
+-- The plant is at hand, from where arcs and rows are laid; that, from where the labels are known; and these, from the solver's end.
+abbrev at-plant : tie.After-lay → tie.After-plant
+at-plant c = c .before .before .before .before .before
+
+abbrev laid : tie.After-cuts-of → tie.After-lay
+laid c = c .before .before .before
+
+abbrev cut : tie.After-solve → tie.After-cuts-of
+cut c = c .before .before .before .before
+
+abbrev begun : tie.After-solve → tie.After-plant
+begun c = at-plant (laid (cut c))
 
 -- It has a flow in range.
-solved : (c : tie.Else2)
-    → let after-cuts-of = c .before .before .before .before in
-    let after-read-plant = after-cuts-of .before .before .before in
-    Feasible (plantOf (after-read-plant .read-plant .result .plant))
+solved : (c : tie.Else2) → Feasible (plantOf (begun (c .before .before) .before .before .read-plant .result .plant))
 solved c =
     let s = c .before .before .solve in
-    solved-feasible _ (s .result) (right-found _ (s .result) (s .ensures) (not-false (s .result .found) (c .if2 .left)))
+    solved-feasible _ (s .result) (right-found _ (s .result) (s .ensures .0) (not-false (s .result .found) (c .if2 .left)))
 
 read-plant-requires : tie.Need-read-plant-requires
 read-plant-requires c κs = search needs
@@ -37,70 +49,74 @@ refused-requires c κs = search needs
 
 returns : tie.Need-returns
 returns c =
-    let after-read-plant = c .before .before in
-    let start = after-read-plant .before .before in
-    unread (now (start .args .file)) (after-read-plant .read-plant .result) (after-read-plant .read-plant .ensures) (c .refused .result)
-    (c .before .if1 .taken) (c .refused .ensures)
+    let y = c .before .before in
+    unread (now (y .before .before .args .file)) (y .read-plant .result) (y .read-plant .ensures) (c .refused .result) (c .before .if1 .taken) (c .refused .ensures)
+
+cast-count : tie.Need-cast-count
+cast-count c = search needs
+
+cast-arcs : tie.Need-cast-arcs
+cast-arcs c = search needs
+
+lay-requires : tie.Need-lay-requires
+lay-requires c κs = (network-of _ (taken (c .before .before .before .before)), refl, no-arc, refl)
 
 cuts-of-requires : tie.Need-cuts-of-requires
-cuts-of-requires c κs = taken c
+cuts-of-requires c κs =
+    let f = c .before .before in
+    (at-plant f .before .before .read-plant .result .plant, record { accepted = taken (at-plant f); laid = f .lay .ensures })
 
 solve-requires : tie.Need-solve-requires
-solve-requires c κs = (taken (c .before .before), c .before .cuts-of .ensures .grouped)
+solve-requires c κs =
+    let k = c .before .before .before in
+    let f = laid k in
+    let a = at-plant f in
+    (taken a, k .cuts-of .ensures (a .before .before .read-plant .result .plant) (record { accepted = taken a; laid = f .lay .ensures }) .grouped, f .lay .ensures)
 
 refused-requires-2 : tie.Need-refused-requires-2
 refused-requires-2 c κs = search needs
 
 returns-2 : tie.Need-returns-2
 returns-2 c =
-    let after-solve = c .before .before .before in
-    let after-plant = after-solve .before .before .before in
-    let else1 = after-plant .before in
-    let after-read-plant = else1 .before in
-    let start = after-read-plant .before .before in
-    answered (now (start .args .file)) (after-read-plant .read-plant .result) (after-read-plant .read-plant .ensures) (c .refused2 .result) (else1 .if1 .left)
-    (none-balanced _ (within-of (after-read-plant .read-plant .result .plant) (taken after-plant)) (c .refused2 .result) (after-solve .solve .result .marked)
-    (right-overfull _ (after-solve .solve .result) (after-solve .solve .ensures)
-    (not-true (after-solve .solve .result .found) (c .before .if2 .taken))) (c .refused2 .ensures))
+    let s = c .before .before .before in
+    let a = begun s in
+    let e = a .before in
+    let y = e .before in
+    answered (now (y .before .before .args .file)) (y .read-plant .result) (y .read-plant .ensures) (c .refused2 .result) (e .if1 .left)
+    (none-balanced _ (within-of (y .read-plant .result .plant) (taken a)) (c .refused2 .result) (s .solve .result .marked)
+    (right-overfull _ (s .solve .result) (s .solve .ensures .0) (not-true (s .solve .result .found) (c .before .if2 .taken))) (c .refused2 .ensures))
 
 classes-of-requires : tie.Need-classes-of-requires
 classes-of-requires c κs =
-    let after-cuts-of = c .before .before .before .before in
-    let after-plant = after-cuts-of .before in
-    (taken after-plant, after-cuts-of .cuts-of .ensures)
+    let k = cut (c .before .before) in
+    let f = laid k in
+    let a = at-plant f in
+    (taken a, k .cuts-of .ensures (a .before .before .read-plant .result .plant) (record { accepted = taken a; laid = f .lay .ensures }))
 
 adjusted-of-requires : tie.Need-adjusted-of-requires
 adjusted-of-requires c κs = search needs
 
 costs-without-requires : tie.Need-costs-without-requires
-costs-without-requires c κs =
-    let after-cuts-of = c .before .before .before .before .before .before in
-    let after-plant = after-cuts-of .before in
-    (taken after-plant, solved (c .before .before))
+costs-without-requires c κs = let o = c .before .before in (taken (begun (o .before .before)), solved o)
 
 cast-list-by : tie.Need-cast-list-by
 cast-list-by c = search needs
 
 list-by-requires : tie.Need-list-by-requires
-list-by-requires c κs =
-    let after-solve = c .before .before .before .before .before .before in
-    let after-plant = after-solve .before .before .before in
-    taken after-plant .within .few-streams
+list-by-requires c κs = taken (begun (c .before .before .before .before .before .before)) .within .few-streams
 
 returns-3 : tie.Need-returns-3
 returns-3 c =
-    let after-costs-without = c .before .before in
-    let after-adjusted-of = after-costs-without .before in
-    let after-classes-of = after-adjusted-of .before in
-    let else2 = after-classes-of .before in
-    let after-plant = else2 .before .before .before .before .before in
-    let else1 = after-plant .before in
-    let after-read-plant = else1 .before in
-    let start = after-read-plant .before .before in
-    answered (now (start .args .file)) (after-read-plant .read-plant .result) (after-read-plant .read-plant .ensures) (c .list-by .result) (else1 .if1 .left)
-    (told (after-read-plant .read-plant .result .plant) (taken after-plant) (solved else2) (after-classes-of .classes-of .result)
-    (after-classes-of .classes-of .ensures) (after-adjusted-of .adjusted-of .result) (after-adjusted-of .adjusted-of .ensures)
-    (after-costs-without .costs-without .result) (after-costs-without .costs-without .ensures) (c .list-by .result) (c .list-by .ensures))
+    let costs = c .before .before in
+    let listed = costs .before in
+    let classes = listed .before in
+    let o = classes .before in
+    let a = begun (o .before .before) in
+    let e = a .before in
+    let y = e .before in
+    answered (now (y .before .before .args .file)) (y .read-plant .result) (y .read-plant .ensures) (c .list-by .result) (e .if1 .left)
+    (told (y .read-plant .result .plant) (taken a) (solved o) (classes .classes-of .result) (classes .classes-of .ensures)
+    (listed .adjusted-of .result) (listed .adjusted-of .ensures) (costs .costs-without .result) (costs .costs-without .ensures) (c .list-by .result) (c .list-by .ensures))
 
 pub visits-of-spec : {M : Type 1} → statement M
 visits-of-spec =
@@ -109,6 +125,9 @@ visits-of-spec =
     read-plant-requires
     refused-requires
     returns
+    cast-count
+    cast-arcs
+    lay-requires
     cuts-of-requires
     solve-requires
     refused-requires-2

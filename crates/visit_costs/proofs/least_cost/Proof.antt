@@ -1,33 +1,30 @@
 -- What the phases end with is certified by its potentials.
-use mathlib.Core.Path.{_≡_, refl}
+use mathlib.Core.Path.{refl}
 use mathlib.Core.List.{List}
-use Prim.Native.Nat.{ℕ, _*_}
-use native.Mathlib.Omega.{arith}
+use Prim.Native.Nat.{ℕ}
 use borrow.Author.Needs.{needs}
-use lib.ListN.{getD-replicate}
-use Rattle.plant_def.specs.Limits.{maxStreams}
-use Rattle.plant_def.specs.Says.{plantOf}
-use Rattle.solve_def.specs.Model.{finished}
 use Rattle.solve_def.proofs.Theorem.{network-of}
-use Rattle.solve_arcs.specs.Cells.{arcCells}
 use Rattle.solve_arcs.specs.ArcNeeds.{Laid}
+use Rattle.solve_arcs_fill.proofs.Plants.{no-arc}
 use Rattle.solve_phases.specs.Finishes.{Finishable}
-use Rattle.visit_costs.proofs.Ended.{never-full, amounts, all-small, least-found}
+use Rattle.visit_costs.proofs.Ended.{never-full, amounts, all-held, least-found}
 use Rattle.visit_costs.proofs.least_cost.Statement.{statement}
 use Rattle.visit_costs.proofs.least_cost.Tie as tie
 
 -- The first state, from the end of the phases; arcs and rows, from there; and the start.
 abbrev begun : tie.After-finish → tie.After-start
-begun c = c .before .before .before .before
+begun c =
+    let m = c .before .before .before .before .before .before in
+    m .before .before .before .before
+
+abbrev grouped : tie.After-start → tie.After-group
+grouped c = c .before .before .before
 
 abbrev laid : tie.After-start → tie.After-lay
-laid c = c .before .before .before
+laid c = grouped c .before .before .before
 
 abbrev start : tie.After-lay → tie.Start
-start c = c .before .before .before .before .before .before
-
-group-requires : tie.Need-group-requires
-group-requires c κs = search needs
+start c = c .before .before .before .before .before
 
 cast-count : tie.Need-cast-count
 cast-count c = search needs
@@ -37,13 +34,19 @@ cast-arcs c = search needs
 
 lay-requires : tie.Need-lay-requires
 lay-requires c κs =
-    let st = c .before .before .before .before .before in
-    (network-of (st .args .p) (st .pre .0), refl, λ u l. getD-replicate arcCells u (2 * maxStreams) 0 (omega arith), refl)
+    let st = c .before .before .before .before in
+    (network-of (st .args .p) (st .pre .0), refl, no-arc, refl)
+
+group-requires : tie.Need-group-requires
+group-requires c κs =
+    let f = c .before .before in
+    (start f .args .p, record { accepted = start f .pre .0; laid = f .lay .ensures })
 
 start-requires : tie.Need-start-requires
 start-requires c κs =
-    let f = c .before .before in
-    (start f .pre .0, f .before .before .before .before .before .group .ensures, f .lay .ensures)
+    let g = c .before .before in
+    let f = g .before .before .before in
+    (start f .pre .0, g .group .ensures (start f .args .p) (record { accepted = start f .pre .0; laid = f .lay .ensures }), f .lay .ensures)
 
 -- What the phases begin from.
 abbrev able : (c : tie.After-finish) (ls rs : List ℕ) → let b = begun c in let p = start (laid b) .args .p in
@@ -56,12 +59,10 @@ able c ls rs l =
       at-hint = b .start .ensures;
     }
 
-ended : (c : tie.After-finish) → c .finish .result ≡ finished (plantOf (start (laid (begun c)) .args .p) .streams) (begun c .start .result)
-ended c = c .finish .ensures (able c _ _ (laid (begun c) .lay .ensures)) .0
-
 finish-requires : tie.Need-finish-requires
 finish-requires c κs =
-    let b = c .before .before .before in
+    let m = c .before .before .before .before .before in
+    let b = m .before .before .before .before in
     let st = start (laid b) in (
       record {
         laying = record { streams = st .args .p .streams; n = st .args .p .count; network = network-of (st .args .p) (st .pre .0); laid = laid b .lay .ensures };
@@ -75,45 +76,43 @@ returns c =
     let f = c .before in
     let b = begun f in
     let st = start (laid b) in
-    never-full (st .args .p) (st .pre .0) (b .start .result) (b .start .ensures) (f .finish .result) (ended f) (st .pre .1) (c .if1 .taken)
+    let got = f .finish .ensures (able f _ _ (laid b .lay .ensures)) in
+    never-full (st .args .p) (st .pre .0) (b .start .result) (b .start .ensures) _ (got .0) (st .pre .1) (c .if1 .taken)
 
-opened-flows-requires : tie.Need-opened-flows-requires
-opened-flows-requires c κs =
-    let e = c .before .before in
-    let f = e .before in
-    let b = begun f in
-    let st = start (laid b) in
-    amounts (st .args .p) (st .pre .0) (b .start .result) (b .start .ensures) (f .finish .result) (ended f) (e .if1 .left)
-
-cost-of-requires : tie.Need-cost-of-requires
-cost-of-requires c κs =
+cost-held-requires : tie.Need-cost-held-requires
+cost-held-requires c κs =
     let e = c .before .before .before in
     let f = e .before in
     let b = begun f in
-    let st = start (laid b) in
-    (st .pre .0, all-small (st .args .p) (st .pre .0) (b .start .result) (b .start .ensures) (f .finish .result) (ended f) (e .if1 .left) (c .opened-flows .result) (c .opened-flows .ensures))
+    let l = laid b in
+    let st = start l in
+    let got = f .finish .ensures (able f _ _ (l .lay .ensures)) in (
+      (st .args .p, record { accepted = st .pre .0; laid = l .lay .ensures }),
+      amounts (st .args .p) (st .pre .0) (b .start .result) (b .start .ensures) _ (got .0) (e .if1 .left),
+      all-held (st .args .p) (st .pre .0) (b .start .result) (b .start .ensures) _ (got .0) (e .if1 .left),
+    )
 
 returns-2 : tie.Need-returns-2
 returns-2 c =
-    let o = c .before in
-    let e = o .before .before .before in
+    let e = c .before .before .before .before in
     let f = e .before in
     let b = begun f in
-    let st = start (laid b) in
-    least-found (st .args .p) (st .pre .0) (b .start .result) (b .start .ensures) (f .finish .result) (ended f) (e .if1 .left)
-    (o .opened-flows .result) (o .opened-flows .ensures) (c .cost-of .result) (c .cost-of .ensures)
+    let l = laid b in
+    let st = start l in
+    let got = f .finish .ensures (able f _ _ (l .lay .ensures)) in
+    least-found (st .args .p) (st .pre .0) (b .start .result) (b .start .ensures) _ (got .0) (e .if1 .left) (c .cost-held .result)
+    (c .cost-held .ensures (st .args .p) (record { accepted = st .pre .0; laid = l .lay .ensures }))
 
 pub least-cost-spec : {M : Type 1} → statement M
 least-cost-spec =
     tie.close
     (tie.spec
-    group-requires
     cast-count
     cast-arcs
     lay-requires
+    group-requires
     start-requires
     finish-requires
     returns
-    opened-flows-requires
-    cost-of-requires
+    cost-held-requires
     returns-2)

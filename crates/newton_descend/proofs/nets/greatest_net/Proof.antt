@@ -1,22 +1,22 @@
 -- `newton_descend::nets::greatest_net` meets its contract: every net read is that of a place.
-use mathlib.Core.Path.{_≡_, ap, _∙_}
+use mathlib.Core.Path.{_≡_, _∙_, ap}
 use mathlib.Core.Logic.{⊎-elim}
 use Prim.Native.Nat.{_≤_, _-_}
+use native.Mathlib.Omega.{arith}
 use borrow.Author.Needs.{needs}
-use Rattle.plant_def.specs.Limits.{places}
 use Rattle.newton_descend.specs.Nets.{greatestTo}
 use Rattle.newton_descend.proofs.Steps.{greatest-none, greatest-more, larger-taken, larger-left, all-done}
 use Rattle.newton_descend.proofs.nets.greatest_net.Statement.{statement}
 use Rattle.newton_descend.proofs.nets.greatest_net.Tie as tie
 
 abbrev Inv-loop : tie.InvT-loop
-Inv-loop nets most₀ u₀ most u = (u ≤ places) × (most ≡ greatestTo nets u)
+Inv-loop nets n most₀ u₀ most u = (u ≤ n) × (most ≡ greatestTo nets u)
 
 abbrev μ-loop : tie.MeasureT-loop
-μ-loop nets most₀ u₀ most u = places - u
+μ-loop nets n most₀ u₀ most u = n - u
 
 loop-holds : tie.Need-loop-holds Inv-loop μ-loop
-loop-holds c = (search needs, greatest-none _)
+loop-holds c = (omega arith, greatest-none _)
 
 mul-z : tie.Need-mul-z Inv-loop μ-loop
 mul-z c = search needs
@@ -40,7 +40,7 @@ loop-again c =
     )
 
 returns : tie.Need-returns Inv-loop μ-loop
-returns c = let l = c .before .loop in l .inv .1 ∙ ap (greatestTo _) (all-done (l .u) (l .inv .0) (c .loop-test .left))
+returns c = let l = c .before .loop in l .inv .1 ∙ ap (greatestTo _) (all-done _ (l .u) (l .inv .0) (c .loop-test .left))
 
 pub greatest-net-spec : {M : Type 1} → statement M
 greatest-net-spec =

@@ -1,20 +1,23 @@
--- `newton_descend::nets::moved` meets its contract: each store keeps the length.
-use mathlib.Core.Path.{_≡_}
+-- `newton_descend::nets::moved` meets its contract: the potentials of the places passed are moved.
+use mathlib.Core.Path.{_≡_, _∙_, ap}
 use Prim.Native.Nat.{_≤_, _-_}
-use lib.ListN.{length}
+use native.Mathlib.Omega.{arith}
+use lib.ListN.{length, length-set}
 use borrow.Author.Needs.{needs}
 use Rattle.plant_def.specs.Limits.{places}
+use Rattle.newton_descend.specs.Nets.{movedTo}
+use Rattle.newton_descend.proofs.Steps.{moved-none, moved-more, all-done}
 use Rattle.newton_descend.proofs.nets.moved.Statement.{statement}
 use Rattle.newton_descend.proofs.nets.moved.Tie as tie
 
 abbrev Inv-loop : tie.InvT-loop
-Inv-loop potentials direction t r₀ u₀ r u = (u ≤ places) × (length r ≡ places)
+Inv-loop potentials direction t n r₀ u₀ r u = (u ≤ n) × (length r ≡ places) × (r ≡ movedTo potentials direction t r₀ u)
 
 abbrev μ-loop : tie.MeasureT-loop
-μ-loop potentials direction t r₀ u₀ r u = places - u
+μ-loop potentials direction t n r₀ u₀ r u = n - u
 
 loop-holds : tie.Need-loop-holds Inv-loop μ-loop
-loop-holds c = search needs
+loop-holds c = (omega arith, c .pre .1, moved-none _ _ _ _)
 
 mul-r : tie.Need-mul-r Inv-loop μ-loop
 mul-r c = search needs
@@ -31,8 +34,8 @@ element-copy-out-r-2 c = search needs
 mul-r-3 : tie.Need-mul-r-3 Inv-loop μ-loop
 mul-r-3 c = search needs
 
-array-write-r : tie.Need-array-write-r Inv-loop μ-loop
-array-write-r c = search needs
+element-write-r : tie.Need-element-write-r Inv-loop μ-loop
+element-write-r c = search needs
 
 add-u : tie.Need-add-u Inv-loop μ-loop
 add-u c = search needs
@@ -41,10 +44,10 @@ loop-less : tie.Need-loop-less Inv-loop μ-loop
 loop-less c = search needs
 
 loop-again : tie.Need-loop-again Inv-loop μ-loop
-loop-again c = search needs
+loop-again c = let at = c .before .before .before in (omega arith, simp length-set (at .loop .inv .1), moved-more _ _ _ _ (at .loop .u) (at .loop .r) (at .loop .inv .2))
 
 returns : tie.Need-returns Inv-loop μ-loop
-returns c = search needs
+returns c = let l = c .before .loop in l .inv .2 ∙ ap (movedTo _ _ _ _) (all-done _ (l .u) (l .inv .0) (c .loop-test .left))
 
 pub moved-spec : {M : Type 1} → statement M
 moved-spec =
@@ -58,7 +61,7 @@ moved-spec =
     mul-r-2
     element-copy-out-r-2
     mul-r-3
-    array-write-r
+    element-write-r
     add-u
     loop-less
     loop-again

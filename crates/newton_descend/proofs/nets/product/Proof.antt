@@ -1,21 +1,21 @@
 -- `newton_descend::nets::product` meets its contract: every number read is that of a place.
-use mathlib.Core.Path.{_≡_, ap, _∙_}
+use mathlib.Core.Path.{_≡_, _∙_, ap}
 use Prim.Native.Nat.{_≤_, _-_}
+use native.Mathlib.Omega.{arith}
 use borrow.Author.Needs.{needs}
-use Rattle.plant_def.specs.Limits.{places}
 use Rattle.newton_descend.specs.Nets.{productTo}
 use Rattle.newton_descend.proofs.Steps.{product-none, product-more, all-done}
 use Rattle.newton_descend.proofs.nets.product.Statement.{statement}
 use Rattle.newton_descend.proofs.nets.product.Tie as tie
 
 abbrev Inv-loop : tie.InvT-loop
-Inv-loop x y sum₀ u₀ sum u = (u ≤ places) × (sum ≡ productTo x y u)
+Inv-loop x y n sum₀ u₀ sum u = (u ≤ n) × (sum ≡ productTo x y u)
 
 abbrev μ-loop : tie.MeasureT-loop
-μ-loop x y sum₀ u₀ sum u = places - u
+μ-loop x y n sum₀ u₀ sum u = n - u
 
 loop-holds : tie.Need-loop-holds Inv-loop μ-loop
-loop-holds c = (search needs, product-none _ _)
+loop-holds c = (omega arith, product-none _ _)
 
 mul-sum : tie.Need-mul-sum Inv-loop μ-loop
 mul-sum c = search needs
@@ -39,7 +39,7 @@ loop-again : tie.Need-loop-again Inv-loop μ-loop
 loop-again c = let b = c .before .before .before in (search needs, product-more _ _ (b .loop .u) (b .loop .sum) (b .loop .inv .1))
 
 returns : tie.Need-returns Inv-loop μ-loop
-returns c = let l = c .before .loop in l .inv .1 ∙ ap (productTo _ _) (all-done (l .u) (l .inv .0) (c .loop-test .left))
+returns c = let l = c .before .loop in l .inv .1 ∙ ap (productTo _ _) (all-done _ (l .u) (l .inv .0) (c .loop-test .left))
 
 pub product-spec : {M : Type 1} → statement M
 product-spec =

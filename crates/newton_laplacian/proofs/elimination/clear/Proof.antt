@@ -3,12 +3,11 @@ use mathlib.Core.Path.{_≡_}
 use Prim.Native.Nat.{_≤_, _-_}
 use lib.ListN.{length}
 use borrow.Author.Needs.{needs}
-use Rattle.newton_laplacian.specs.Cells.{cells}
 use Rattle.newton_laplacian.proofs.elimination.clear.Statement.{statement}
 use Rattle.newton_laplacian.proofs.elimination.clear.Tie as tie
 
 abbrev Inv-loop : tie.InvT-loop
-Inv-loop a₀ k row pivot inverse i₀ a i = (i ≤ k) × (length a ≡ cells)
+Inv-loop a₀ k row pivot inverse i₀ a i = (i ≤ k) × (length a ≡ length a₀)
 
 abbrev μ-loop : tie.MeasureT-loop
 μ-loop a₀ k row pivot inverse i₀ a i = k - i
@@ -25,8 +24,8 @@ add-pivot c = search needs
 mul-pivot : tie.Need-mul-pivot Inv-loop μ-loop
 mul-pivot c = search needs
 
-element-copy-out-pivot : tie.Need-element-copy-out-pivot Inv-loop μ-loop
-element-copy-out-pivot c = search needs
+slice-read-pivot : tie.Need-slice-read-pivot Inv-loop μ-loop
+slice-read-pivot c = search needs
 
 returns : tie.Need-returns Inv-loop μ-loop
 returns c = search needs
@@ -40,8 +39,8 @@ add-f c = search needs
 mul-f : tie.Need-mul-f Inv-loop μ-loop
 mul-f c = search needs
 
-element-copy-out-f : tie.Need-element-copy-out-f Inv-loop μ-loop
-element-copy-out-f c = search needs
+slice-read-f : tie.Need-slice-read-f Inv-loop μ-loop
+slice-read-f c = search needs
 
 take-row-requires : tie.Need-take-row-requires Inv-loop μ-loop
 take-row-requires c κs = search needs
@@ -54,6 +53,9 @@ loop-less c = search needs
 
 loop-again : tie.Need-loop-again Inv-loop μ-loop
 loop-again c = search needs
+
+same-length : tie.Need-same-length Inv-loop μ-loop
+same-length c = search needs
 
 returns-2 : tie.Need-returns-2 Inv-loop μ-loop
 returns-2 c = search needs
@@ -68,14 +70,15 @@ clear-spec =
     add-row
     add-pivot
     mul-pivot
-    element-copy-out-pivot
+    slice-read-pivot
     returns
     loop-holds
     add-f
     mul-f
-    element-copy-out-f
+    slice-read-f
     take-row-requires
     add-i
     loop-less
     loop-again
+    same-length
     returns-2)

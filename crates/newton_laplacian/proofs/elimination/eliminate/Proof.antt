@@ -3,12 +3,11 @@ use mathlib.Core.Path.{_≡_}
 use Prim.Native.Nat.{_≤_}
 use lib.ListN.{length}
 use borrow.Author.Needs.{needs}
-use Rattle.newton_laplacian.specs.Cells.{cells}
 use Rattle.newton_laplacian.proofs.elimination.eliminate.Statement.{statement}
 use Rattle.newton_laplacian.proofs.elimination.eliminate.Tie as tie
 
 abbrev Inv-loop : tie.InvT-loop
-Inv-loop a₀ n k₀ a k = (k ≤ n) × (length a ≡ cells)
+Inv-loop a₀ n k₀ a k = (k ≤ n) × (length a ≡ length a₀)
 
 abbrev μ-loop : tie.MeasureT-loop
 μ-loop a₀ n k₀ a k = k
@@ -28,10 +27,22 @@ loop-less c = search needs
 loop-again : tie.Need-loop-again Inv-loop μ-loop
 loop-again c = search needs
 
+same-length : tie.Need-same-length Inv-loop μ-loop
+same-length c = search needs
+
 returns : tie.Need-returns Inv-loop μ-loop
 returns c = search needs
 
 pub eliminate-spec : {M : Type 1} → statement M
 eliminate-spec =
     tie.close
-    (tie.spec Inv-loop μ-loop loop-holds sub-k clear-requires loop-less loop-again returns)
+    (tie.spec
+    Inv-loop
+    μ-loop
+    loop-holds
+    sub-k
+    clear-requires
+    loop-less
+    loop-again
+    same-length
+    returns)

@@ -22,8 +22,8 @@ change-at-requires c κs = search needs
 mul-x : tie.Need-mul-x Inv-loop μ-loop
 mul-x c = search needs
 
-array-write-x : tie.Need-array-write-x Inv-loop μ-loop
-array-write-x c = search needs
+element-write-x : tie.Need-element-write-x Inv-loop μ-loop
+element-write-x c = search needs
 
 add-k : tie.Need-add-k Inv-loop μ-loop
 add-k c = search needs
@@ -46,7 +46,7 @@ substitute-spec =
     loop-holds
     change-at-requires
     mul-x
-    array-write-x
+    element-write-x
     add-k
     loop-less
     loop-again

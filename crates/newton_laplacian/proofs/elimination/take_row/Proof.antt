@@ -3,12 +3,11 @@ use mathlib.Core.Path.{_≡_}
 use Prim.Native.Nat.{_≤_, _-_, _+_}
 use lib.ListN.{length}
 use borrow.Author.Needs.{needs}
-use Rattle.newton_laplacian.specs.Cells.{cells}
 use Rattle.newton_laplacian.proofs.elimination.take_row.Statement.{statement}
 use Rattle.newton_laplacian.proofs.elimination.take_row.Tie as tie
 
 abbrev Inv-loop : tie.InvT-loop
-Inv-loop a₀ k i f from to j₀ a j = (j ≤ i + 2) × (length a ≡ cells)
+Inv-loop a₀ k i f from to j₀ a j = (j ≤ i + 2) × (length a ≡ length a₀)
 
 abbrev μ-loop : tie.MeasureT-loop
 μ-loop a₀ k i f from to j₀ a j = i + 2 - j
@@ -34,8 +33,8 @@ add-at c = search needs
 mul-a : tie.Need-mul-a Inv-loop μ-loop
 mul-a c = search needs
 
-element-copy-out-a : tie.Need-element-copy-out-a Inv-loop μ-loop
-element-copy-out-a c = search needs
+slice-read-a : tie.Need-slice-read-a Inv-loop μ-loop
+slice-read-a c = search needs
 
 add-a : tie.Need-add-a Inv-loop μ-loop
 add-a c = search needs
@@ -43,14 +42,14 @@ add-a c = search needs
 mul-a-2 : tie.Need-mul-a-2 Inv-loop μ-loop
 mul-a-2 c = search needs
 
-element-copy-out-a-2 : tie.Need-element-copy-out-a-2 Inv-loop μ-loop
-element-copy-out-a-2 c = search needs
+slice-read-a-2 : tie.Need-slice-read-a-2 Inv-loop μ-loop
+slice-read-a-2 c = search needs
 
 mul-a-3 : tie.Need-mul-a-3 Inv-loop μ-loop
 mul-a-3 c = search needs
 
-element-write-a : tie.Need-element-write-a Inv-loop μ-loop
-element-write-a c = search needs
+slice-write-a : tie.Need-slice-write-a Inv-loop μ-loop
+slice-write-a c = search needs
 
 add-j : tie.Need-add-j Inv-loop μ-loop
 add-j c = search needs
@@ -60,6 +59,9 @@ loop-less c = search needs
 
 loop-again : tie.Need-loop-again Inv-loop μ-loop
 loop-again c = search needs
+
+same-length : tie.Need-same-length Inv-loop μ-loop
+same-length c = search needs
 
 returns-2 : tie.Need-returns-2 Inv-loop μ-loop
 returns-2 c = search needs
@@ -77,13 +79,14 @@ take-row-spec =
     add-loop
     add-at
     mul-a
-    element-copy-out-a
+    slice-read-a
     add-a
     mul-a-2
-    element-copy-out-a-2
+    slice-read-a-2
     mul-a-3
-    element-write-a
+    slice-write-a
     add-j
     loop-less
     loop-again
+    same-length
     returns-2)

@@ -8,16 +8,15 @@ use lib.ListN.{take}
 use Rattle.plant_def.specs.declared.Stream.{Stream}
 use Rattle.solve_def.specs.Sizes.{mostTried, halvings}
 use Rattle.solve_def.specs.declared.State.{State}
-use Rattle.solve_def.specs.Model.{phase, phases, finished, noHint, overSum}
+use Rattle.solve_def.specs.Model.{stateOf, phase, phases, finished, noHint, overSum}
 use Rattle.solve_def.proofs.Streams.{solvable-of}
 use Rattle.solve_def.proofs.Layouts.{at-hint-around}
 use Rattle.solve_def.proofs.Ending.{hint-underway}
+use Rattle.solve_def.proofs.CountTurns.{made-by-hint, made-by-phases}
 use Rattle.solve_improve.specs.Improves.{Phasable}
 use Rattle.solve_phases.specs.Finishes.{Finishable}
 use Rattle.solve_phases.proofs.finishing.finish.Statement.{statement}
 use Rattle.solve_phases.proofs.finishing.finish.Tie as tie
-use Rattle.solve_phases.proofs.phase.Reads as phase-reads
-use Rattle.solve_phases.proofs.finishing.phases.Reads as phases-reads
 
 -- Which of the two it is.
 by-hint : (ss : List Stream) (st : State) (over : ℕ) → over ≡ overSum (st .nets) → over ≤ mostTried → phase ss 1 st ≡ finished ss st
@@ -28,48 +27,70 @@ by-phases : (ss : List Stream) (st : State) (over : ℕ) → over ≡ overSum (s
 unfolding finished
 by-phases ss st over e l = sym (rw (← e, lt-leb over mostTried l))
 
+-- The state at the start.
+abbrev begun : tie.Start → State
+begun st = stateOf (st .args .flows .now) (st .args .potentials .now) (st .args .nets .now)
+
+abbrev Able : tie.Start → Type 0
+Able st = Finishable (st .args .arcs .now) (st .args .rows .now) (begun st)
+
 over-sum-requires : tie.Need-over-sum-requires
 over-sum-requires c κs =
-    let st = c .before .before in
+    let st = c .before in
     let w = st .pre .0 .laying in
-    at-hint-around (w .streams) (w .n) (w .network) (st .args .st) (st .pre .0 .at-hint)
+    at-hint-around (w .streams) (w .n) (w .network) (begun st) (st .pre .0 .at-hint)
 
 -- What the phase begins from.
-abbrev able : (c : tie.Then1) → let st = c .before .before .before .before in Finishable (st .args .arcs .now) (st .args .rows .now) (st .args .st)
-    → Phasable (c .before .before .before .before .args .arcs .now) (c .before .before .before .before .args .rows .now) 1 (c .before .before .before .before .args .st)
-able c f =
-    let st = c .before .before .before .before in
+abbrev able : (st : tie.Start) (over : ℕ) → over ≡ overSum (begun st .nets) → over ≤ mostTried → Able st
+    → Phasable (st .args .arcs .now) (st .args .rows .now) 1 (begun st)
+able st over e l f =
     let w = f .laying in
+    let v = solvable-of (w .streams) (w .n) (w .network) in
     record {
       streams = w .streams;
       n = w .n;
       network = w .network;
       laid = w .laid;
       step = (omega arith, omega arith);
-      underway = hint-underway _ (solvable-of (w .streams) (w .n) (w .network)) (st .args .st) (f .at-hint) (omega (arith, c .before .over-sum .ensures, c .if1 .taken));
+      underway = hint-underway _ v (begun st) (f .at-hint) (omega (arith, e, l));
     }
 
 phase-requires : tie.Need-phase-requires
-phase-requires c κs = let st = c .before .before .before .before .before in (able (c .before) (st .pre .0), st .pre .1)
+phase-requires c κs =
+    let t = c .before .before .before .before in
+    let o = t .before in
+    let st = o .before .before in
+    (able st _ (o .over-sum .ensures) (t .if1 .taken) (st .pre .0), st .pre .1)
 
 returns : tie.Need-returns
 returns c = λ f.
-    let t = c .before .before in
-    let st = t .before .before .before .before in
-    let made = c .phase .ensures (able t f) in
-    (made .0 ∙ by-hint (take (f .laying .n) (f .laying .streams)) (st .args .st) _ (t .before .over-sum .ensures) (t .if1 .taken), λ o. made .1)
+    let t = c .before .before .before .before .before in
+    let o = t .before in
+    let st = o .before .before in
+    let ss = take (f .laying .n) (f .laying .streams) in
+    let got = c .phase .ensures (able st _ (o .over-sum .ensures) (t .if1 .taken) f) in (
+      got .0 ∙ by-hint ss (begun st) _ (o .over-sum .ensures) (t .if1 .taken),
+      omega (arith, got .1, made-by-hint ss (begun st) (o .over-sum .result) (o .over-sum .ensures) (t .if1 .taken)),
+      λ n. got .2,
+    )
 
 phases-requires : tie.Need-phases-requires
 phases-requires c κs =
-    let st = c .before .before .before .before .before in
+    let o = c .before .before .before .before .before in
+    let st = o .before .before in
     (st .pre .0 .laying, st .pre .1)
 
 returns-2 : tie.Need-returns-2
 returns-2 c = λ f.
-    let t = c .before .before in
-    let st = t .before .before .before .before in
-    let made = c .phases .ensures (f .laying) in
-    (made .0 ∙ by-phases (take (f .laying .n) (f .laying .streams)) (st .args .st) _ (t .before .over-sum .ensures) (t .if1 .left), made .1)
+    let t = c .before .before .before .before .before in
+    let o = t .before in
+    let st = o .before .before in
+    let ss = take (f .laying .n) (f .laying .streams) in
+    let got = c .phases .ensures (f .laying) in (
+      got .0 ∙ by-phases ss (begun st) _ (o .over-sum .ensures) (t .if1 .left),
+      got .1 ∙ made-by-phases ss (begun st) _ (o .over-sum .ensures) (t .if1 .left),
+      got .2,
+    )
 
 pub finish-spec : {M : Type 1} → statement M
 finish-spec = tie.close (tie.spec over-sum-requires phase-requires returns phases-requires returns-2)

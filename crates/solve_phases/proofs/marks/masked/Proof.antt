@@ -27,21 +27,6 @@ masked-at n ms k l = values-at (λ u. getD ms u false && leb u n) false places k
 loop-holds : tie.Need-loop-holds Inv-loop μ-loop
 loop-holds c = (omega arith, written-none (length-replicate places false))
 
-array-read-own-mark : tie.Need-array-read-own-mark Inv-loop μ-loop
-array-read-own-mark c = search needs
-
-own-mark-requires : tie.Need-own-mark-requires Inv-loop μ-loop
-own-mark-requires c κs = search needs
-
-array-write-own : tie.Need-array-write-own Inv-loop μ-loop
-array-write-own c = search needs
-
-add-u : tie.Need-add-u Inv-loop μ-loop
-add-u c = search needs
-
-loop-less : tie.Need-loop-less Inv-loop μ-loop
-loop-less c = search needs
-
 loop-again : tie.Need-loop-again Inv-loop μ-loop
 loop-again c = let at = c .before .before in (omega arith, written-put (at .loop .inv .1) (omega (arith, c .before .loop-test .taken)) _ (c .own-mark .ensures))
 
@@ -54,14 +39,5 @@ returns c =
 pub masked-spec : {M : Type 1} → statement M
 masked-spec =
     tie.close
-    (tie.spec
-    Inv-loop
-    μ-loop
-    loop-holds
-    array-read-own-mark
-    own-mark-requires
-    array-write-own
-    add-u
-    loop-less
-    loop-again
-    returns)
+    (tie.spec Inv-loop μ-loop loop-holds (λ c. search needs) (λ c κs. search needs) (λ c. search needs)
+    (λ c. search needs) (λ c. search needs) loop-again returns)

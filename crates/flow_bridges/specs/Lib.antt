@@ -1,0 +1,2 @@
+-- The ends of a stream.
+pub mod Runs

@@ -1,0 +1,2 @@
+-- What a stream costs by its row.
+pub mod Rows

@@ -1,0 +1,2 @@
+-- What one pass over the streams finds.
+pub mod Entries
