@@ -38,9 +38,11 @@ bit-by op digit on halved stepped right h a b =
     ∙ ap (λ (x : ℕ). eqb x 1) (mul-add-mod-self-right (op (a / 2 ^ h / 2) (b / 2 ^ h / 2)) 2 (digit (a / 2 ^ h % 2) (b / 2 ^ h % 2)))
     ∙ right (a / 2 ^ h % 2) (b / 2 ^ h % 2) (two (a / 2 ^ h)) (two (b / 2 ^ h))
 
+-- A bit of an exclusive or: where the two bits differ.
 pub bit-xor : (h a b : ℕ) → bit h (bitXor a b) ≡ unlike (bit h a) (bit h b)
 bit-xor = bit-by bitXor differ unlike xor-shr xor-step (digits (λ x y. eqb (differ x y % 2) 1 ≡ unlike (eqb x 1) (eqb y 1)) refl refl refl refl)
 
+-- A bit of an or: where one of the two bits is set.
 pub bit-or : (h a b : ℕ) → bit h (bitOr a b) ≡ bit h a || bit h b
 bit-or = bit-by bitOr max _||_ or-shr or-step (digits (λ x y. eqb (max x y % 2) 1 ≡ eqb x 1 || eqb y 1) refl refl refl refl)
 
@@ -51,15 +53,18 @@ low-none h x l = ap (λ (q : ℕ). eqb (q % 2) 1) (div-eq-of-lt l)
 pub bit-zero : (h : ℕ) → bit h 0 ≡ false
 bit-zero h = low-none h 0 (pow-pos h)
 
+-- The number 1 has no bit but bit 0.
 pub bit-one : (h : ℕ) → 1 ≤ h → bit h 1 ≡ false
 bit-one h l = low-none h 1 (pow-lt {i = 0} {j = h} l)
 
+-- A power of two has its own bit,
 pub bit-same : (h : ℕ) → bit h (2 ^ h) ≡ true
 bit-same h = ap (λ (q : ℕ). eqb (q % 2) 1) (ap (λ (x : ℕ). x / 2 ^ h) (sym (mul-one' (2 ^ h))) ∙ shl-shr 1 h)
   where
     mul-one' : (x : ℕ) → 1 * x ≡ x
     mul-one' x = omega arith
 
+-- and no other.
 pub bit-other : (h g : ℕ) → (h ≡ g → ⊥) → bit h (2 ^ g) ≡ false
 bit-other h g e = elim (decLe (suc g) h) [
   | yes l ↦ low-none h (2 ^ g) (pow-lt l)
@@ -78,6 +83,7 @@ alike true true e = refl
 alike true false e = e
 alike false y e = sym e
 
+-- Two equal answers are not unlike.
 pub unalike : (x y : Bool) → x ≡ y → unlike x y ≡ false
 unalike true y e = rw (← e) refl
 unalike false y e = rw (← e) refl

@@ -39,12 +39,15 @@ use Rattle.flow_def.proofs.Parting.{part-joining}
 
 -- What a stream does, by whether it is metered and whether its ends have one label.
 module _ (ls : List ℕ) (s : Stream) where
+  -- A metered stream takes no label away,
   pub taken-metered : s .metered ≡ true → 0 ≡ takenBy ls s
   taken-metered m = rw m refl
 
+  -- nor does one whose ends have one label;
   pub taken-one : s .metered ≡ false → oneLabel ls (s .from) (s .to) ≡ true → 0 ≡ takenBy ls s
   taken-one m o = rw (m, o) refl
 
+  -- one that joins two groups takes the higher label away.
   pub taken-joins : s .metered ≡ false → oneLabel ls (s .from) (s .to) ≡ false → max (label ls (s .from)) (label ls (s .to)) ≡ takenBy ls s
   taken-joins m o = rw (m, o) refl
 
@@ -56,18 +59,23 @@ module _ (ls : List ℕ) (s : Stream) where
       (omega (arith, le-max-left (label ls (s .from)) (label ls (s .to)), le-max-right (label ls (s .from)) (label ls (s .to))))
 
 module _ (ls sides : List ℕ) (s : Stream) where
+  -- A metered stream meets no loop;
   pub looped-metered : s .metered ≡ true → 0 ≡ loopedBy ls sides s
   looped-metered m = rw m refl
 
+  -- one whose ends have one label meets the loop of the streams that its ends lie apart by;
   pub looped-one : s .metered ≡ false → oneLabel ls (s .from) (s .to) ≡ true → apart sides s ≡ loopedBy ls sides s
   looped-one m o = rw (m, o) refl
 
+  -- one that joins two groups meets none.
   pub looped-joins : s .metered ≡ false → oneLabel ls (s .from) (s .to) ≡ false → 0 ≡ loopedBy ls sides s
   looped-joins m o = rw (m, o) refl
 
+  -- Where no label is taken away the sides stay;
   pub parted-none : (h : ℕ) → h ≡ 0 → sides ≡ parted h ls s sides
   parted-none h e = rw e refl
 
+  -- where one is, the places of that label are turned.
   pub parted-some : (h : ℕ) → (h ≡ 0 → ⊥) → turned h (bitXor (apart sides s) (2 ^ h)) ls sides ≡ parted h ls s sides
   parted-some h e = rw (ne-eqb h 0 e) refl
 
@@ -76,6 +84,7 @@ pub in-metered : (ls : List ℕ) (s : Stream) (h looped : ℕ) → s .metered �
     → pick b AsRead Adjusted ≡ classIn ls s h looped
 in-metered ls s h looped m b e = rw (m, e) refl
 
+-- The class of an unmetered stream, by whether its bit is among those of the loops.
 pub in-unmetered : (ls : List ℕ) (s : Stream) (h looped : ℕ) → s .metered ≡ false → (b : Bool) → bit h looped ≡ b
     → pick b Withheld Given ≡ classIn ls s h looped
 in-unmetered ls s h looped m b e = rw (m, e) refl
@@ -228,6 +237,7 @@ parted-long h ls s sides l =
     by-cases (eqb h 0) (λ e. rw e l)
     (λ e. rw e (values-long {A = ℕ} (λ u. pick (eqb (getD ls u 0) h) (bitXor (getD sides u 0) (bitXor (apart sides s) (2 ^ h))) (getD sides u 0)) places))
 
+-- There is one side for each place.
 pub sides-long : (ss : List Stream) (k : ℕ) → length (sidesAfter ss k) ≡ places
 unfolding sidesAfter
 sides-long ss zero = length-replicate {A = ℕ} places 0
@@ -235,6 +245,7 @@ sides-long ss (suc k) = parted-long (takenAt ss k) (labelsAfter unmeteredOnly ss
 
 -- The same of the streams of an array.
 module _ {p : Arrays.Plant} {cuts : Cuts} (a : Accepted p) (c : Cutting p cuts) where
+  -- The class found by labels and sides is the class of the definition.
   pub class-in : (i : ℕ) → i < p .count
       → classIn (cuts .labels) (getD (p .streams) i noStream) (getD (cuts .taken) i 0) (cuts .looped) ≡ classOf (plantOf p) i
   class-in i l =

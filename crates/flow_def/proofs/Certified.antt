@@ -21,6 +21,7 @@ use Rattle.flow_def.proofs.Potentials.{StepAt}
 use Rattle.flow_def.proofs.Ties.{slack, stays-cheapest}
 use Rattle.flow_def.proofs.Nets.{countOf, streamOf}
 
+-- What holds of all numbers below n holds of each.
 pub every-at : (n : ℕ) (test : ℕ → Bool) → every n test ≡ true → (k : ℕ) → k < n → test k ≡ true
 every-at zero test e k l = absurd (omega arith)
 every-at (suc n) test e k l = elim (ℕ-discrete k n) [

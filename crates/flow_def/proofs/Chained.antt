@@ -35,6 +35,7 @@ module _ (p : Plant) (w : Within p) (i : ℕ) (m : streamAt (p .streams) i .mete
   pub as-read-of : (classOf p i ≡ AsRead) ↔ Chain unmeteredOnly (p .streams) u v
   as-read-of = (λ e. joined→chain unmeteredOnly p u v (class-means p i AsRead e .1), λ c. rw (m, chain→joined unmeteredOnly p (inside p w) c))
 
+  -- A metered stream is adjusted exactly when no chain of unmetered streams joins its ends.
   pub adjusted-of : (classOf p i ≡ Adjusted) ↔ (Chain unmeteredOnly (p .streams) u v → ⊥)
   adjusted-of = (
     λ e c. clash (oneGroup p u v) (chain→joined unmeteredOnly p (inside p w) c) (class-means p i Adjusted e .1),
@@ -51,6 +52,7 @@ brought-times u s d x = go (eqb (s .to) u) (eqb (s .from) u)
     go false true = rw (← canon d, ← canon x) (simp Z·diff (omega arith))
     go false false = sym (*ℤ-zero d)
 
+-- A balanced flow times d is balanced.
 pub times-balanced : (p : Plant) → Within p → (xs : List ℤ) → balanced p xs ≡ true → (d : ℤ) → balanced p (listed p (λ k. d *ℤ amountAt xs k)) ≡ true
 times-balanced p w xs b d =
     listed-balanced p (λ k. d *ℤ amountAt xs k)

@@ -13,10 +13,12 @@ use Rattle.flow_def.specs.Loops.{countTo}
 abbrev pub one : Bool → ℕ
 one b = pick b 1 0
 
+-- A test counts once at most.
 pub one-most : (b : Bool) → one b ≤ 1
 one-most true = omega arith
 one-most false = omega arith
 
+-- At most n of the numbers below n pass.
 pub count-few : (n : ℕ) (f : ℕ → Bool) → countTo n f ≤ n
 count-few zero f = omega arith
 count-few (suc n) f = omega (arith, one-most (f n), count-few n f)
@@ -40,18 +42,22 @@ count-gap (suc n) m f g h i l s e = elim (ℕ-discrete n m) [
     here : n ≡ m → one (f n) + one (g n) < one (h n) + one (i n)
     here q = rw q s
 
+-- Tests that agree below n have one count.
 pub count-same : (n : ℕ) (f g : ℕ → Bool) → ((k : ℕ) → k < n → f k ≡ g k) → countTo n f ≡ countTo n g
 count-same zero f g e = refl
 count-same (suc n) f g e = rw (e n (omega arith), count-same n f g (λ k l. e k (omega arith)))
 
+-- A test that holds wherever another does has at least its count.
 pub count-le : (n : ℕ) (f g : ℕ → Bool) → ((k : ℕ) → k < n → one (f k) ≤ one (g k)) → countTo n f ≤ countTo n g
 count-le zero f g e = omega arith
 count-le (suc n) f g e = omega (arith, e n (omega arith), count-le n f g (λ k l. e k (omega arith)))
 
+-- A test that no number passes has count 0.
 pub count-none : (n : ℕ) (f : ℕ → Bool) → ((k : ℕ) → k < n → f k ≡ false) → countTo n f ≡ 0
 count-none zero f e = refl
 count-none (suc n) f e = rw (e n (omega arith)) (omega (arith, count-none n f (λ k l. e k (omega arith))))
 
+-- A test that all numbers pass has count n.
 pub count-all : (n : ℕ) → countTo n (λ k. true) ≡ n
 count-all zero = refl
 count-all (suc n) = omega (arith, count-all n)
@@ -94,6 +100,7 @@ abbrev pub most : ℕ → (ℕ → ℕ) → ℕ
 most zero f = 0
 most (suc n) f = max (f n) (most n f)
 
+-- Each value is at most the most of them.
 pub most-le : (n : ℕ) (f : ℕ → ℕ) (k : ℕ) → k < n → f k ≤ most n f
 most-le zero f k l = absurd (omega arith)
 most-le (suc n) f k l = elim (ℕ-discrete k n) [

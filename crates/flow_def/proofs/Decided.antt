@@ -22,6 +22,7 @@ use Rattle.flow_def.proofs.Nearness.{as-read, near}
 use Rattle.flow_def.proofs.Order.{one}
 use Rattle.flow_def.proofs.Overfull.{overfull-none}
 
+-- Either the cheapest flow with its certificate, or a set that shows that there is no flow in range.
 pub data Decided (p : Plant) : Type 0 where
   solved : (xs : List ℤ) (π : ℕ → ℤ) → Cheapest p xs → Certificate p xs π → Decided p
   full : (ms : List Bool) → Overfull p ms → Decided p
@@ -52,9 +53,11 @@ module _ (decided : (p : Plant) → Within p → Decided p) where
   read-within : (file : List ℕ) (p : Plant) → readPlant file ≡ got p → Within p
   read-within file p e = within p (accepted file p e .0)
 
+  -- The customer's third demand holds,
   pub demand-3 : Demand-3
   demand-3 file p ys e a = let w = read-within file p e in decided-shown p w ys a (decided p w)
 
+  -- and refusal 19 is given exactly where there is no balanced flow in range.
   pub refusal-19 : Refusal-19
   refusal-19 = record {
     either = λ file p e. decided-either p (decided p (read-within file p e));

@@ -19,12 +19,14 @@ module _ (d : ℕ) (ss : List Stream) (ys : List ℤ) where
   abbrev pub part : ℕ → ℤ → ℕ
   part k x = streamAt ss k .weight * square (pos d *ℤ x -ℤ amountAt ys k)
 
+  -- The distance is a sum over the streams.
   pub apart-is : (x : ℕ → ℤ) (n : ℕ)
       → pos (apartTo d ss x ys n) ≡ sum n (λ k. pos (weightOf (streamAt ss k) * square (pos d *ℤ x k -ℤ amountAt ys k)))
   apart-is x zero = refl
   apart-is x (suc n) =
       ap₂ _+ℤ_ (ap pos (weighed (streamAt ss n .metered) (streamAt ss n .weight) (square (pos d *ℤ x n -ℤ amountAt ys n)))) (apart-is x n)
 
+  -- Numbers that agree on the metered streams are at one distance.
   pub apart-same : (x z : ℕ → ℤ) (n : ℕ) → ((k : ℕ) → k < n → streamAt ss k .metered ≡ true → x k ≡ z k) → apartTo d ss x ys n ≡ apartTo d ss z ys n
   apart-same x z zero h = refl
   apart-same x z (suc n) h = ap₂ _+_ (here (streamAt ss n .metered) (h n (omega arith))) (apart-same x z n (λ k l. h k (omega arith)))
@@ -33,6 +35,7 @@ module _ (d : ℕ) (ss : List Stream) (ys : List ℤ) where
       here true e = ap (part n) (e refl)
       here false e = refl
 
+  -- One metered stream's part is at most the whole.
   pub apart-part : (x : ℕ → ℤ) (n k : ℕ) → k < n → streamAt ss k .metered ≡ true → part k (x k) ≤ apartTo d ss x ys n
   apart-part x zero k l t = absurd (omega arith)
   apart-part x (suc n) k l t = elim (ℕ-discrete n k) [

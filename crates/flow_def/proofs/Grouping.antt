@@ -65,9 +65,11 @@ groups-none counts ss ls e = rw e (groups-of (start counts ss))
 
 -- The labels after k steps.
 module _ (counts : Counting) (ss : List Stream) (w : AmongPlaces ss) where
+  -- They are the labels of the groups of the first k streams.
   pub groups-after : (k : ℕ) → k ≤ length ss → Groups counts ss k (labelsAfter counts ss k)
   groups-after k h = groups-of (after counts ss w k h)
 
+  -- What a step is to leave is the next list.
   pub step-said : (i : ℕ) (s : Stream) (ls next : List ℕ) (c : Bool) → i < length ss → ls ≡ labelsAfter counts ss i → streamAt ss i ≡ s → c ≡ counts i s
       → StepSays c s ls next → next ≡ labelsAfter counts ss (i + 1)
   step-said i s ls next c l e at q says =
@@ -89,6 +91,7 @@ module _ (counts : Counting) (ss : List Stream) (w : AmongPlaces ss) where
 pub ends-of : (p : Plant) → Within p → AmongPlaces (p .streams)
 ends-of p w = among (p .units) (p .streams) (w .few-units) (inside p w)
 
+-- The ends of an accepted plant's streams are places.
 pub ends-in : (p : Arrays.Plant) → Accepted p → AmongPlaces (plantOf p .streams)
 ends-in p a = ends-of (plantOf p) (within-of p a)
 

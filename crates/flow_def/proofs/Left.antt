@@ -26,6 +26,7 @@ pub record Same (f g : Counting) (ss ts : List Stream) : Type 0 where
   pub from-same : (k : ℕ) → k < length ss → streamAt ss k .from ≡ streamAt ts k .from
   pub to-same : (k : ℕ) → k < length ss → streamAt ss k .to ≡ streamAt ts k .to
 
+-- Two lists of streams that are the same one way are the same the other way.
 pub same-sym : {f g : Counting} {ss ts : List Stream} → Same f g ss ts → Same g f ts ss
 same-sym e = record {
   long = sym (e .long);
@@ -34,6 +35,7 @@ same-sym e = record {
   to-same = λ k l. sym (e .to-same k (rw (e .long) l));
 }
 
+-- Where one list of streams has no loop, a list that is the same has none.
 pub free-same : {f g : Counting} {ss ts : List Stream} → Same f g ss ts → Free f ss → Free g ts
 free-same {f} {g} {ss} {ts} e free i l t c =
     let b : i < length ss = rw (e .long) l in
@@ -59,6 +61,7 @@ meter-at (b ∷ set) [] k l = absurd (omega arith)
 meter-at (b ∷ set) (s ∷ ss) zero l = refl
 meter-at (b ∷ set) (s ∷ ss) (suc k) l = meter-at set ss k (omega arith)
 
+-- Metering the streams of a set leaves as many streams.
 pub meter-long : (set : List Bool) (ss : List Stream) → length (meterAll set ss) ≡ length ss
 meter-long [] ss = refl
 meter-long (b ∷ set) [] = refl
@@ -99,6 +102,7 @@ meter-within n true s w = record {
 meter-within n false s w = w
 
 module _ (set : List Bool) (p : Plant) where
+  -- The streams left are the unmetered ones of the plant with the set metered.
   pub metering-same : Same (left set) unmeteredOnly (p .streams) (metering set p .streams)
   metering-same = record {
     long = sym (meter-long set (p .streams));
@@ -108,6 +112,7 @@ module _ (set : List Bool) (p : Plant) where
   }
 
   module _ (w : Within p) where
+    -- That plant is within its limits.
     pub metering-within : Within (metering set p)
     metering-within = record {
       some-units = w .some-units;
@@ -118,8 +123,10 @@ module _ (set : List Bool) (p : Plant) where
           rw (meter-at set (p .streams) k b) (meter-within (p .units) (chosen set k) (streamAt (p .streams) k) (w .each k b));
     }
 
+    -- Nothing withheld in it: the streams left have no loop,
     pub none→left : NoneWithheld (metering set p) → Free (left set) (p .streams)
     none→left n = free-same (same-sym metering-same) (none→free (metering set p) metering-within n)
 
+    -- and the other way.
     pub left→none : Free (left set) (p .streams) → NoneWithheld (metering set p)
     left→none f = free→none (metering set p) metering-within (free-same metering-same f)

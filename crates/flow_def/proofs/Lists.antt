@@ -10,20 +10,24 @@ use lib.Seq.{ext-getD, getD-set-same, getD-set-other}
 use Rattle.num_bytes.specs.Inner.{values}
 pub use Rattle.flow_def.specs.Written.{Written}
 
+-- Element i of a mapped list.
 pub map-at : {A B : Type 0} (f : A → B) (xs : List A) (i : ℕ) (d : B) (e : A) → i < length xs → getD (map f xs) i d ≡ f (getD xs i e)
 map-at f [] i d e h = absurd (omega arith)
 map-at f (x ∷ xs) zero d e h = refl
 map-at f (x ∷ xs) (suc i) d e h = map-at f xs i d e (omega arith)
 
+-- The values of 0 to n − 1 are n,
 pub values-long : {A : Type 0} (f : ℕ → A) (n : ℕ) → length (values n f) ≡ n
 values-long f zero = refl
 values-long f (suc n) = ap suc (values-long (λ k. f (suc k)) n)
 
+-- value k is the function's of k,
 pub values-at : {A : Type 0} (f : ℕ → A) (d : A) (n k : ℕ) → k < n → getD (values n f) k d ≡ f k
 values-at f d zero k l = absurd (omega arith)
 values-at f d (suc n) zero l = refl
 values-at f d (suc n) (suc k) l = values-at (λ k. f (suc k)) d n k (omega arith)
 
+-- and functions that agree below n have the same values.
 pub values-same : {A : Type 0} (n : ℕ) (f g : ℕ → A) → ((k : ℕ) → k < n → f k ≡ g k) → values n f ≡ values n g
 values-same zero f g h = refl
 values-same (suc n) f g h =
@@ -40,6 +44,7 @@ set-each P d xs i v n l p all k m = elim (ℕ-discrete k i) [
 ]
 
 module _ {A : Type 0} {d : A} {n : ℕ} {f : ℕ → A → A} where
+  -- Before the first step nothing is written.
   pub written-none : {xs : List A} → length xs ≡ n → Written d n f xs xs 0
   written-none h = record { long = h; done = below-none _; rest = λ k h. refl }
 

@@ -32,6 +32,7 @@ times-end c d l = (
 
 -- So many times an amount in range, and a mixture of two.
 module _ (s : Stream) (d : ℕ) (x : ℤ) (e : inRange d s x ≡ true) where
+  -- c times an amount in range, over c times its denominator, is in range.
   pub times-range : (c : ℕ) → inRange (c * d) s (pos c *ℤ x) ≡ true
   times-range c = range-holds (c * d) s (pos c *ℤ x) (λ q.
       let t = range-says d s x e q in (
@@ -60,23 +61,28 @@ added-balanced p w xs ys a b =
 abbrev pub times : Plant → ℕ → List ℤ → List ℤ
 times p c xs = listed p (λ k. pos c *ℤ amountAt xs k)
 
+-- So many times a flow, stream by stream.
 pub times-at : (p : Plant) (c : ℕ) (xs : List ℤ) (k : ℕ) → k < countOf p → amountAt (times p c xs) k ≡ pos c *ℤ amountAt xs k
 times-at p c xs k l = listed-at p (λ k. pos c *ℤ amountAt xs k) k l
 
+-- n times one flow and once another.
 abbrev pub mixture : Plant → ℕ → List ℤ → List ℤ → List ℤ
 mixture p n xs ys = listed p (λ k. amountAt (times p n xs) k +ℤ amountAt ys k)
 
+-- A mixture, stream by stream.
 pub mixture-at : (p : Plant) (n : ℕ) (xs ys : List ℤ) (k : ℕ) → k < countOf p → amountAt (mixture p n xs ys) k ≡ pos n *ℤ amountAt xs k +ℤ amountAt ys k
 mixture-at p n xs ys k l =
     listed-at p (λ k. amountAt (times p n xs) k +ℤ amountAt ys k) k l ∙ ap (λ (z : ℤ). z +ℤ amountAt ys k) (times-at p n xs k l)
 
 module _ (p : Plant) (w : Within p) (d : ℕ) (xs : List ℤ) (a : allowedOver d p xs ≡ true) where
+  -- c times a flow in range is one over c times the denominator,
   pub times-allowed : (c : ℕ) → allowedOver (c * d) p (times p c xs) ≡ true
   times-allowed c =
       allowed-of (c * d) p (times p c xs) (times-balanced p w xs (balanced-of d p xs a) (pos c))
       (λ k l. subst (λ (z : ℤ). inRange (c * d) (streamOf p k) z ≡ true) (sym (times-at p c xs k l))
       (times-range (streamOf p k) d (amountAt xs k) (range-of d p xs a k l) c))
 
+  -- and so is a mixture of two flows in range, over the sum of its parts.
   pub mixture-allowed : (n : ℕ) (ys : List ℤ) → allowedOver d p ys ≡ true → allowedOver (suc n * d) p (mixture p n xs ys) ≡ true
   mixture-allowed n ys b =
       allowed-of (suc n * d) p (mixture p n xs ys)

@@ -63,6 +63,7 @@ module _ (counts : Counting) (ss : List Stream) (i : ℕ) where
   to-itself : (k : ℕ) → k ≡ i → Touch (streamAt ss k .to)
   to-itself k e = rw e (inr Chain.stop)
 
+  -- By induction over the chain.
   pub chain-parts : {u v : ℕ} → Chain counts ss u v → Parts u v
   chain-parts Chain.stop = inl Chain.stop
   chain-parts (Chain.along k l h c) = elim (ℕ-discrete k i) [
@@ -82,6 +83,7 @@ Loose ss j = streamAt ss j .metered ≡ false
 abbrev pub label : List ℕ → ℕ → ℕ
 label ls u = getD ls u 0
 
+-- Bit h of what a place has gathered: the side of stream h that it lies on.
 abbrev pub side : List ℕ → ℕ → ℕ → Bool
 side sides h u = bit h (getD sides u 0)
 
@@ -115,6 +117,7 @@ module _ (ss : List Stream) (k : ℕ) (ls sides : List ℕ) (met : ℕ) (a : Par
   earlier : (i : ℕ) → i < suc k → (takenAt ss i ≡ 0 → ⊥) → i < k
   earlier i l t = lower i k l (λ m. m) (λ e. absurd (t (rw e none)))
 
+  -- A metered stream leaves the sides as they are.
   pub part-metered : streamAt ss k .metered ≡ true → Parted ss (suc k) ls sides met
   part-metered m = record { fresh = a .fresh; idle = a .idle; cut = λ i l t. more i t (a .cut i (earlier i l t) t) }
     where
@@ -187,6 +190,7 @@ module _ (ss : List Stream) (k : ℕ) (ls sides : List ℕ) (met : ℕ) (a : Par
         loop = on-loop;
       }
 
+    -- One whose ends have one label closes a loop: the streams that its ends lie apart by are on it.
     pub part-joined : Parted ss (suc k) ls sides now
     part-joined = record {
       fresh = a .fresh;

@@ -157,6 +157,7 @@ module _ (ss : List Stream) (k : ℕ) (ls sides : List ℕ) (met lo hi : ℕ) (a
       loop = c .loop;
     }
 
+  -- The sides with the joined group turned are those of one stream more.
   pub part-joining : Parted ss (suc k) (relabelled lo hi ls) next met
   part-joining = record {
     fresh = fresh-next;

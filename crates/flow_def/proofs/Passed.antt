@@ -66,6 +66,7 @@ pub record Passed (p : Arrays.Plant) (i : ℕ) (none labels sides taken : List �
   pub met : looped ≡ loopedAfter (plantOf p .streams) i
   pub written : Written 0 maxStreams (λ k x. takenAt (plantOf p .streams) k) none taken i
 
+-- Before the first stream: every place bears its own number, and no loop is met.
 pub passed-none : (p : Arrays.Plant) (labels : List ℕ) → labels ≡ ownNumbers
     → Passed p 0 (replicate maxStreams 0) labels (replicate places 0) (replicate maxStreams 0) 1
 passed-none p labels e = record {
@@ -77,9 +78,11 @@ passed-none p labels e = record {
 }
 
 module _ {p : Arrays.Plant} (w : Accepted p) {i : ℕ} {none labels sides taken : List ℕ} {looped : ℕ} (a : Passed p i none labels sides taken looped) where
+  -- Every place has a label,
   pub labels-all : length labels ≡ places
   labels-all = ap length (a .labelled) ∙ labels-long _ _ _
 
+  -- and its sides.
   pub sides-all : length sides ≡ places
   sides-all = ap length (a .sided) ∙ sides-long _ _
 
@@ -90,10 +93,12 @@ module _ {p : Arrays.Plant} (w : Accepted p) {i : ℕ} {none labels sides taken 
     is-taken : (h : ℕ) → h ≡ takenBy labels (getD (p .streams) i noStream) → h ≡ takenAt (plantOf p .streams) i
     is-taken h q = rw (at, ← a .labelled) q
 
+    -- The label taken away is a place's number.
     pub taken-in : (h : ℕ) → h ≡ takenBy labels (getD (p .streams) i noStream) → h < places
     taken-in h q =
         rw (is-taken h q) (taken-low (plantOf p) (w .within .few-units) (inside-of p w) i (omega (arith, all-listed p w)))
 
+    -- One stream more.
     pub passed-more : (h add : ℕ) (sides-next labels-next : List ℕ) → h ≡ takenBy labels (getD (p .streams) i noStream)
         → add ≡ loopedBy labels sides (getD (p .streams) i noStream) → sides-next ≡ parted h labels (getD (p .streams) i noStream) sides
         → StepSays (not (getD (p .streams) i noStream .metered)) (getD (p .streams) i noStream) labels labels-next
@@ -106,6 +111,7 @@ module _ {p : Arrays.Plant} (w : Accepted p) {i : ℕ} {none labels sides taken 
       written = written-put (a .written) (omega (arith, w .within .few-streams)) h (is-taken h q);
     }
 
+  -- After the last stream the cuts are those of the plant.
   pub passed-all : i ≡ p .count → Cutting p (record { labels = labels; taken = taken; looped = looped })
   passed-all e = record {
     grouped = rw (a .labelled, e) (groups-after unmeteredOnly (plantOf p .streams) (ends-in p w) (p .count) (omega (arith, all-listed p w)));

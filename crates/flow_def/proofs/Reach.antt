@@ -29,14 +29,17 @@ abbrev pub held : ℕ → List ℕ → ℕ
 held zero seen = 0
 held (suc n) seen = pick (has n seen) 1 0 + held n seen
 
+-- An answer counts once at most.
 pub bit-most : (b : Bool) → pick {A = ℕ} b 1 0 ≤ 1
 bit-most true = omega arith
 bit-most false = omega arith
 
+-- An answer that follows from another counts at least as much.
 pub bit-mono : (a b : Bool) → (a ≡ true → b ≡ true) → pick {A = ℕ} a 1 0 ≤ pick b 1 0
 bit-mono true b f = rw (f refl) (omega arith)
 bit-mono false b f = omega arith
 
+-- A list holds at most n of the numbers below n.
 pub held-most : (n : ℕ) (seen : List ℕ) → held n seen ≤ n
 held-most zero seen = omega arith
 held-most (suc n) seen = omega (arith, bit-most (has n seen), held-most n seen)
@@ -45,6 +48,7 @@ held-mono : (n : ℕ) (a b : List ℕ) → Subset a b → held n a ≤ held n b
 held-mono zero a b w = omega arith
 held-mono (suc n) a b w = omega (arith, bit-mono (has n a) (has n b) (w n), held-mono n a b w)
 
+-- A list that holds all that another holds, and v besides, holds more.
 pub held-more : (n v : ℕ) (a b : List ℕ) → Subset a b → v < n → has v a ≡ false → has v b ≡ true → held n a < held n b
 held-more zero v a b w l e f = absurd (omega arith)
 held-more (suc n) v a b w l e f =
@@ -155,6 +159,7 @@ module _ (counts : Counting) where
       → has (streamAt (p .streams) k .from) (joinedTo counts p u) ≡ has (streamAt (p .streams) k .to) (joinedTo counts p u)
   joined-closed p w u k l c = rounds-closed (p .units) (suc (p .units)) (p .streams) (u ∷ []) w (omega arith) k l (rw (from-first k) c)
 
+  -- A place is joined to itself.
   pub joined-self : (p : Plant) (u : ℕ) → has u (joinedTo counts p u) ≡ true
   joined-self p u = rounds-keep (suc (p .units)) (p .streams) (u ∷ []) u (has-first u [])
 
@@ -164,6 +169,7 @@ chain-trans c stop = c
 chain-trans c (along k l h d) = along k l h (chain-trans c d)
 chain-trans c (back k l h d) = back k l h (chain-trans c d)
 
+-- A chain leads both ways.
 pub chain-sym : {counts : Counting} {ss : List Stream} {u v : ℕ} → Chain counts ss u v → Chain counts ss v u
 chain-sym stop = stop
 chain-sym (along k l h c) = chain-trans (back k l h stop) (chain-sym c)
@@ -219,6 +225,7 @@ joined→chain counts p u v e =
     (holds-cons (Chain counts (p .streams) u) counts u [] stop (λ w z. absurd (false≢true z))) v e
 
 module _ (counts : Counting) (p : Plant) (w : Inside (p .units) (p .streams)) where
+  -- A place that a chain leads to is in the set.
   pub chain→joined : {u v : ℕ} → Chain counts (p .streams) u v → has v (joinedTo counts p u) ≡ true
   chain→joined {u} stop = joined-self counts p u
   chain→joined {u} (along k l h c) = sym (joined-closed counts p w u k l h) ∙ chain→joined c

@@ -43,9 +43,11 @@ times-share c w y = weighed-square w (pos c *ℤ y) ∙ ring ∙ ap (λ (z : ℤ
 pub times-from : (c d : ℕ) (x r : ℤ) → pos c *ℤ x -ℤ pos (c * d) *ℤ r ≡ pos c *ℤ (x -ℤ pos d *ℤ r)
 times-from c d x r = rw (← canon x, ← canon r) (simp Z·diff (omega arith))
 
+-- A mixture's deviation from the reading is the mixture of the deviations.
 pub mixed-from : (n d : ℕ) (y z r : ℤ) → (pos n *ℤ y +ℤ z) -ℤ pos (suc n * d) *ℤ r ≡ pos n *ℤ (y -ℤ pos d *ℤ r) +ℤ (z -ℤ pos d *ℤ r)
 mixed-from n d y z r = rw (← canon y, ← canon z, ← canon r) (simp Z·diff (omega arith))
 
+-- Two amounts differ as their deviations do.
 pub gap-from : (d : ℕ) (y z r : ℤ) → z -ℤ y ≡ (z -ℤ pos d *ℤ r) -ℤ (y -ℤ pos d *ℤ r)
 gap-from d y z r = rw (← canon y, ← canon z, ← canon r) (simp Z·diff (omega arith))
 

@@ -7,18 +7,22 @@ use native.Mathlib.Decide.{ℕ-discrete}
 pub use Rattle.flow_def.specs.Nets.{sum}
 use Rattle.flow_def.proofs.Integers.{Le, same, plus-val, plus-left-comm, plus-four, times-plus}
 
+-- Terms that agree have one sum.
 pub sum-same : (n : ℕ) (f g : ℕ → ℤ) → ((k : ℕ) → k < n → f k ≡ g k) → sum n f ≡ sum n g
 sum-same zero f g h = refl
 sum-same (suc n) f g h = ap₂ _+ℤ_ (h n (omega arith)) (sum-same n f g (λ k l. h k (omega arith)))
 
+-- Terms that are all 0 have sum 0.
 pub sum-none : (n : ℕ) (f : ℕ → ℤ) → ((k : ℕ) → k < n → f k ≡ pos 0) → sum n f ≡ pos 0
 sum-none zero f h = refl
 sum-none (suc n) f h = ap₂ _+ℤ_ (h n (omega arith)) (sum-none n f (λ k l. h k (omega arith)))
 
+-- The sum of sums, term by term.
 pub sum-plus : (n : ℕ) (f g : ℕ → ℤ) → sum n (λ k. f k +ℤ g k) ≡ sum n f +ℤ sum n g
 sum-plus zero f g = refl
 sum-plus (suc n) f g = ap (λ (z : ℤ). f n +ℤ g n +ℤ z) (sum-plus n f g) ∙ plus-four (f n) (g n) (sum n f) (sum n g)
 
+-- A factor goes into the sum.
 pub sum-times : (n : ℕ) (c : ℤ) (f : ℕ → ℤ) → c *ℤ sum n f ≡ sum n (λ k. c *ℤ f k)
 sum-times zero c f = *ℤ-zero c
 sum-times (suc n) c f = times-plus c (f n) (sum n f) ∙ ap (λ (z : ℤ). c *ℤ f n +ℤ z) (sum-times n c f)
@@ -46,6 +50,7 @@ pub sum-le : (n : ℕ) (f g : ℕ → ℤ) → ((k : ℕ) → k < n → Le (f k)
 sum-le zero f g h = omega arith
 sum-le (suc n) f g h = omega (arith, h n (omega arith), sum-le n f g (λ k l. h k (omega arith)), plus-val (f n) (sum n f), plus-val (g n) (sum n g))
 
+-- Terms that are at most others, and whose sum is not less, are equal to them.
 pub sum-tight : (n : ℕ) (f g : ℕ → ℤ) → ((k : ℕ) → k < n → Le (f k) (g k)) → Le (sum n g) (sum n f) → (k : ℕ) → k < n → f k ≡ g k
 sum-tight zero f g h e k l = absurd (omega arith)
 sum-tight (suc n) f g h e k l = elim (ℕ-discrete k n) [

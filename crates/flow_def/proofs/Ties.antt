@@ -28,6 +28,7 @@ use Rattle.flow_def.proofs.Order.{AgreeTo, LeadsTo, in-order}
 abbrev pub NoLess : (ℕ → ℤ) → Stream → ℤ → Type 0
 NoLess π s x = falls s x ≡ true → Lt (leastClimb s x) (climb π s)
 
+-- The stream's amount cannot fall at no cost, against the potentials.
 abbrev pub NoMore : (ℕ → ℤ) → Stream → ℤ → Type 0
 NoMore π s x = rises s x ≡ true → Lt (climb π s) (mostClimb s x)
 

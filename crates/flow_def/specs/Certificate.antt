@@ -23,6 +23,7 @@ climb π s = π (s .to) -ℤ π (s .from)
 abbrev pub lower : ℕ → ℕ → ℤ → ℤ
 lower Δ w d = pos w *ℤ (pos 2 *ℤ d -ℤ pos Δ)
 
+-- The upper of the two: the marginal cost of more.
 abbrev pub upper : ℕ → ℕ → ℤ → ℤ
 upper Δ w d = pos w *ℤ (pos 2 *ℤ d +ℤ pos Δ)
 
@@ -30,6 +31,7 @@ upper Δ w d = pos w *ℤ (pos 2 *ℤ d +ℤ pos Δ)
 abbrev pub leastClimb : Stream → ℤ → ℤ
 leastClimb s x = lower 1 (weightOf s) (x -ℤ s .reading)
 
+-- The most that the potentials may climb along it.
 abbrev pub mostClimb : Stream → ℤ → ℤ
 mostClimb s x = upper 1 (weightOf s) (x -ℤ s .reading)
 
@@ -37,6 +39,7 @@ mostClimb s x = upper 1 (weightOf s) (x -ℤ s .reading)
 abbrev pub rises : Stream → ℤ → Bool
 rises s x = not (limited s) || ltZ x (s .high)
 
+-- Less than x is in the stream's range.
 abbrev pub falls : Stream → ℤ → Bool
 falls s x = not (limited s) || ltZ (s .low) x
 

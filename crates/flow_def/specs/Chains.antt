@@ -12,9 +12,11 @@ use Rattle.flow_def.specs.Flows.{streamAt}
 abbrev pub Counting : Type 0
 Counting = ℕ → Stream → Bool
 
+-- Every stream counts,
 abbrev pub everyStream : Counting
 everyStream i s = true
 
+-- or the unmetered ones alone.
 abbrev pub unmeteredOnly : Counting
 unmeteredOnly i s = not (s .metered)
 

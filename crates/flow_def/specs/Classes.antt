@@ -17,6 +17,7 @@ abbrev pub has : ℕ → List ℕ → Bool
 has u [] = false
 has u (v ∷ vs) = eqb u v || has u vs
 
+-- The set with place u in it.
 abbrev pub including : ℕ → List ℕ → List ℕ
 including u vs = pick (has u vs) vs (u ∷ vs)
 
@@ -27,6 +28,7 @@ spread counts i (s ∷ ss) seen =
     spread counts (suc i) ss
     (pick (counts i s && (has (s .from) seen || has (s .to) seen)) (including (s .from) (including (s .to) seen)) seen)
 
+-- So many rounds, one after the other.
 abbrev pub rounds : ℕ → Counting → List Stream → List ℕ → List ℕ
 rounds zero counts ss seen = seen
 rounds (suc l) counts ss seen = rounds l counts ss (spread counts 0 ss seen)
@@ -77,6 +79,7 @@ abbrev pub lowest : ℕ → List ℕ → Bool
 lowest u [] = true
 lowest u (v ∷ vs) = leb u v && lowest u vs
 
+-- How many of the places 0 to n are the lowest of their set.
 abbrev pub leadersTo : Counting → Plant → ℕ → ℕ
 leadersTo counts p zero = 1
 leadersTo counts p (suc u) = pick (lowest (suc u) (joinedTo counts p (suc u))) 1 0 + leadersTo counts p u

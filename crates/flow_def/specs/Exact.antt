@@ -15,6 +15,7 @@ use Rattle.flow_def.specs.Certificate.{weightOf, climb, every, listedPot
 abbrev pub risesOver : ℕ → Stream → ℤ → Bool
 risesOver d s y = not (limited s) || ltZ y (pos d *ℤ s .high)
 
+-- Less is in range: the amount is above d × low.
 abbrev pub fallsOver : ℕ → Stream → ℤ → Bool
 fallsOver d s y = not (limited s) || ltZ (pos d *ℤ s .low) y
 

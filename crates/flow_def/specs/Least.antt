@@ -26,5 +26,6 @@ apartTo d ss x ys (suc k) =
     let s = streamAt ss k in
     pick (s .metered) (s .weight * square (pos d *ℤ x k -ℤ amountAt ys k)) 0 + apartTo d ss x ys k
 
+-- The same over all metered streams.
 abbrev pub apart : ℕ → List Stream → (ℕ → ℤ) → List ℤ → ℕ
 apart d ss x ys = apartTo d ss x ys (length ss)

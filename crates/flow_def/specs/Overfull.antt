@@ -26,6 +26,7 @@ unmarked = replicate places false
 abbrev pub enters : (ℕ → Bool) → Stream → Bool
 enters c s = c (s .to) && not (c (s .from))
 
+-- A stream out of the set.
 abbrev pub leaves : (ℕ → Bool) → Stream → Bool
 leaves c s = c (s .from) && not (c (s .to))
 
@@ -34,6 +35,7 @@ abbrev pub lowsIn : (ℕ → Bool) → List Stream → ℤ
 lowsIn c [] = pos 0
 lowsIn c (s ∷ ss) = pick (enters c s) (s .low) (pos 0) +ℤ lowsIn c ss
 
+-- The highs of the streams out of the set.
 abbrev pub highsOut : (ℕ → Bool) → List Stream → ℤ
 highsOut c [] = pos 0
 highsOut c (s ∷ ss) = pick (leaves c s) (s .high) (pos 0) +ℤ highsOut c ss

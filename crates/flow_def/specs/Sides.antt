@@ -42,10 +42,12 @@ parted h ls s sides = pick (eqb h 0) sides (turned h (bitXor (apart sides s) (2 
 abbrev pub takenAt : List Stream → ℕ → ℕ
 takenAt ss k = takenBy (labelsAfter unmeteredOnly ss k) (streamAt ss k)
 
+-- The sides of the places after k streams,
 unfoldable pub sidesAfter : List Stream → ℕ → List ℕ
 sidesAfter ss zero = replicate places 0
 sidesAfter ss (suc k) = parted (takenAt ss k) (labelsAfter unmeteredOnly ss k) (streamAt ss k) (sidesAfter ss k)
 
+-- and the loops met, bit 0 set from the start.
 unfoldable pub loopedAfter : List Stream → ℕ → ℕ
 loopedAfter ss zero = 1
 loopedAfter ss (suc k) = bitOr (loopedAfter ss k) (loopedBy (labelsAfter unmeteredOnly ss k) (sidesAfter ss k) (streamAt ss k))

@@ -34,6 +34,7 @@ pub record Weighed (p : Arrays.Plant) (sum i : ℕ) : Type 0 where
 pub weighed-none : (p : Arrays.Plant) → Weighed p 0 0
 weighed-none p = record { within = omega arith; is = refl; most = omega arith }
 
+-- The class that the array has of stream i is the stream's.
 pub class-is : {p : Arrays.Plant} {cs : List Class} → Classed p cs → (i : ℕ) → i < p .count → getD cs i Adjusted ≡ classOf (plantOf p) i
 class-is {p} d i h =
     ap (λ (l : List Class). getD l i Adjusted) (d .classes)

@@ -55,6 +55,7 @@ use Rattle.foreign_def.proofs.Promise.{check-says}
 
 -- The total.
 module _ (p : Plant) (c : ℕ) (t : Total) where
+  -- Other degrees do not fit.
   pub other-degrees : (d : ℕ) → d ≡ degrees p → (t .degrees ≡ d → ⊥) → false ≡ totalFits p c t
   other-degrees d e n = rw (ne-eqb (t .degrees) (degrees p) (λ q. n (q ∙ sym e)))
 

@@ -43,6 +43,7 @@ read-within file p e = within p (accepted file p e .0)
 
 -- Of a plant and a sheet that are read.
 module _ (p : Plant) (w : Within p) (sheet : SheetParts) (numbers : List ℤ) where
+  -- The computed test answers as the rules do.
   pub check-of : CheckOf p sheet numbers (pick (passes p sheet numbers) 0 26)
   check-of = record {
     passed = λ g. rw (test-is p w sheet numbers .1 g);
@@ -105,6 +106,7 @@ same-plant file p q e f = cc
 
 -- Numbers that serve pass all that must pass.
 module _ (file : List ℕ) (p : Plant) (e : readPlant file ≡ got p) (numbers : List ℤ) (serve : Serve p numbers) where
+  -- Every sheet that shows a flow of least cost passes.
   pub pass-all : PassAll file p numbers
   pass-all = record {
     ours = λ office lasts o o′ s r top says z c.

@@ -32,6 +32,7 @@ difference numbers s = placeNumber numbers (s .to) -ℤ placeNumber numbers (s .
 abbrev pub bottom : Stream → ℤ → ℤ
 bottom s flow = pos (s .weight) *ℤ (pos 2 *ℤ (flow -ℤ s .reading) -ℤ pos 1)
 
+-- The upper of the two.
 abbrev pub top : Stream → ℤ → ℤ
 top s flow = pos (s .weight) *ℤ (pos 2 *ℤ (flow -ℤ s .reading) +ℤ pos 1)
 
@@ -39,6 +40,7 @@ top s flow = pos (s .weight) *ℤ (pos 2 *ℤ (flow -ℤ s .reading) +ℤ pos 1)
 abbrev pub AtHigh : Stream → ℤ → Type 0
 AtHigh s flow = (limited s ≡ true) × (flow ≡ s .high)
 
+-- At the low end.
 abbrev pub AtLow : Stream → ℤ → Type 0
 AtLow s flow = (limited s ≡ true) × (flow ≡ s .low)
 
@@ -68,9 +70,11 @@ knownSum takes [] es = pos 0
 knownSum takes (s ∷ ss) [] = pos 0
 knownSum takes (s ∷ ss) (e ∷ es) = pick (known (e .class) && takes s) (e .flow) (pos 0) +ℤ knownSum takes ss es
 
+-- The sum of those into a set of places,
 abbrev pub sumIn : (ℕ → Bool) → List Stream → List Entry → ℤ
 sumIn c = knownSum (λ s. c (s .to))
 
+-- and of those out of it.
 abbrev pub sumOut : (ℕ → Bool) → List Stream → List Entry → ℤ
 sumOut c = knownSum (λ s. c (s .from))
 

@@ -23,6 +23,7 @@ pub record CheckOf (p : Plant) (sheet : SheetParts) (numbers : List ℤ) (r : �
   pub passed : Passes p sheet numbers → r ≡ 0
   pub broken : (Passes p sheet numbers → ⊥) → r ≡ 26
 
+-- By what was read: the plant file's refusal, then the sheet's, then the check.
 abbrev pub CheckWith : Got → Reopened → List ℤ → ℕ → Type 0
 CheckWith (bad f) sheet numbers r = r ≡ f
 CheckWith (got p) (noSheet f) numbers r = r ≡ f

@@ -41,6 +41,7 @@ withheldOnly p k s = not (known (classOf p k))
 abbrev pub shownAt : Plant → SheetParts → ℕ → ℤ
 shownAt p sheet k = pick (known (classOf p k)) (numberOn sheet k) (pos 0)
 
+-- All flows of a sheet.
 abbrev pub shownFlows : Plant → SheetParts → List ℤ
 shownFlows p sheet = values (length (p .streams)) (shownAt p sheet)
 
@@ -64,6 +65,7 @@ flowsFit ss x numbers = every (length ss) (λ k. flowFits (streamAt ss k) (x k) 
 abbrev pub broughtBy : List ℕ → ℕ → Stream → ℤ → ℤ
 broughtBy labels v s x = pick (eqb (getD labels (s .to) 0) v) x (pos 0) +ℤ pick (eqb (getD labels (s .from) 0) v) (negℤ x) (pos 0)
 
+-- The net of the places that have label v.
 abbrev pub netBy : List ℕ → List Stream → (ℕ → ℤ) → ℕ → ℤ
 netBy labels ss x v = sum (length ss) (λ k. broughtBy labels v (streamAt ss k) (x k))
 
@@ -71,6 +73,7 @@ netBy labels ss x v = sum (length ss) (λ k. broughtBy labels v (streamAt ss k) 
 abbrev pub Nets : List ℕ → List Stream → (ℕ → ℤ) → List ℤ → Type 0
 Nets labels ss x nets = (v : ℕ) → v < places → getD nets v (pos 0) ≡ netBy labels ss x v
 
+-- Every label is a place's number.
 abbrev pub ArePlaces : List ℕ → Type 0
 ArePlaces labels = (u : ℕ) → u < places → getD labels u 0 < places
 
@@ -79,6 +82,7 @@ pub record Moved (to from : ℕ) (x : ℤ) (before after : List ℤ) : Type 0 wh
   pub long : length after ≡ length before
   pub each : (v : ℕ) → v < places → getD after v (pos 0) ≡ getD before v (pos 0) +ℤ (pick (eqb to v) x (pos 0) +ℤ pick (eqb from v) (negℤ x) (pos 0))
 
+-- Nets with room for a stream that carries x.
 abbrev pub Roomy : ℤ → List ℤ → Type 0
 Roomy x nets = (v : ℕ) → v < places → natAbs (getD nets v (pos 0)) + 2 * natAbs x < 2 ^ 62
 
@@ -105,6 +109,7 @@ passes p sheet numbers =
 abbrev pub potentialFrom : List ℕ → ℕ → ℤ
 potentialFrom ps u = pos (getD ps u 0) -ℤ pos (getD ps 0 0)
 
+-- One number for each place, by its potential.
 pub record NumberedBy (n : ℕ) (ps : List ℕ) (numbers : List ℤ) : Type 0 where
   pub long : length numbers ≡ places
   pub each : (u : ℕ) → u ≤ n → placeNumber numbers u ≡ potentialFrom ps u
@@ -114,6 +119,7 @@ pub record NumberedBy (n : ℕ) (ps : List ℕ) (numbers : List ℤ) : Type 0 wh
 abbrev pub noEntry : Entry
 noEntry = record { class = Adjusted; flow = pos 0 }
 
+-- A flow of each entry, by the classes.
 unfoldable pub flowsShown : List Class → List Entry → List ℤ
 flowsShown classes entries = values maxStreams (λ k. pick (known (getD classes k Adjusted)) (getD entries k noEntry .flow) (pos 0))
 

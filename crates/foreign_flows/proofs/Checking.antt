@@ -37,6 +37,7 @@ use Rattle.foreign_stream.proofs.Fitting.{coded-fits, coded-is}
 
 -- A test of elements of an array: one that fails, and none.
 module _ (n : ℕ) (test : ℕ → Bool) where
+  -- One that fails: not all hold.
   pub one-fails : (k : ℕ) (b : Bool) → k < n → b ≡ test k → b ≡ false → false ≡ every n test
   one-fails k b l e f = sym (every-off n test k l (sym e ∙ f))
 
@@ -63,6 +64,7 @@ module _ (n : ℕ) (numbers : List ℤ) where
 
   -- What fits.
   module _ (e : numbersFit n numbers ≡ true) where
+    -- There is one number for each place.
     pub fit-long : length numbers ≡ suc n
     fit-long = eqb-true (length numbers) (suc n) (and-left (eqb (length numbers) (suc n)) _ e)
 
@@ -85,6 +87,7 @@ module _ (x y : ℤ) (f : SFits w64 x) (g : SFits w64 y) (h : natAbs x ≤ numbe
 
 -- A record: its kind, then its flow.
 module _ (a b : ℕ) (t : Bool) where
+  -- Another kind fails, whatever the flow is.
   pub other-kind : (a ≡ b → ⊥) → false ≡ (eqb a b && t)
   other-kind n = rw (ne-eqb a b n)
 

@@ -46,6 +46,7 @@ numbers-few file r = go (readPlant file) refl
 
 -- In a slice.
 module _ (file : List ℕ) (o : List ℤ) where
+  -- A slice that is too short: 1, and the slice as it was.
   pub lends-nothing : length o < places → NumbersLent file o o 1 0
   lends-nothing h = record { short = λ l. (refl, refl, refl); told = λ l. absurd (omega arith) }
 

@@ -33,6 +33,7 @@ widens z f = rw (toZ-ofZ w32 z f) (wide z f)
 
 -- In range, by the branches.
 module _ (s : Stream) (x : ℤ) where
+  -- Without limits any flow is in range, and may be less or more.
   pub unlimited : limited s ≡ false → (true ≡ inRange 1 s x) × (true ≡ falls s x) × (true ≡ rises s x)
   unlimited e = (rw e, rw e, rw e)
 
@@ -195,6 +196,7 @@ module _ (w : ℕ) (d : ℤ) (f : SFits w64 d) (light : w ≤ maxWeight) (near :
 
 -- A difference of two numbers that came through 64 bits.
 module _ (x y : ℤ) (fx : SFits w64 x) (fy : SFits w64 y) (fd : SFits w64 (x -ℤ y)) where
+  -- It fits 64 bits, taken through them.
   pub coded-fits : SFits w64 (toZ w64 (ofZ w64 x) -ℤ toZ w64 (ofZ w64 y))
   coded-fits = rw (toZ-ofZ w64 x fx, toZ-ofZ w64 y fy) fd
 

@@ -10,6 +10,7 @@ use Rattle.plant_def.specs.Limits.{maxStreams}
 abbrev pub lineSize : ℕ
 lineSize = 26
 
+-- The total's line.
 abbrev pub totalSize : ℕ
 totalSize = 48
 

@@ -51,6 +51,7 @@ read-of ls rs w i l =
       most = rw (w .laid .rowed .weights i b, w .laid .rowed .pulls i b) (h .1);
     }
 
+-- Before the first stream none has a range.
 pub ranged-none : (rs : List ℕ) → rangedTo rs 0 ≡ false
 unfolding rangedTo
 ranged-none rs = refl

@@ -14,6 +14,7 @@ use Rattle.solve_arcs.specs.ArcNeeds.{Row}
 abbrev pub leastRead : ℕ
 leastRead = 2 * (flowShift - mostReading)
 
+-- Twice the greatest.
 abbrev pub mostRead : ℕ
 mostRead = 2 * (flowShift + mostReading)
 
@@ -23,9 +24,11 @@ pub record Read (rs : List ℕ) (k : ℕ) : Type 0 where
   pub least : getD rs (4 * k) 0 * leastRead ≤ getD rs (4 * k + 1) 0
   pub most : getD rs (4 * k + 1) 0 ≤ getD rs (4 * k) 0 * mostRead
 
+-- A whole number as a double,
 abbrev pub real : ℕ → Float
 real n = ofInt binary64 (pos n)
 
+-- and a half.
 abbrev pub half : Float
 half = ofBits binary64 4602678819172646912
 
@@ -45,6 +48,7 @@ ranged rs k = ltb (getD rs (4 * k + 3) 0) mostFlow
 abbrev pub lowEnd : Float → List ℕ → ℕ → Float
 lowEnd far rs k = pick (ranged rs k) (sub binary64 (real (getD rs (4 * k + 2) 0)) (real flowShift)) (neg far)
 
+-- Its high end.
 abbrev pub highEnd : Float → List ℕ → ℕ → Float
 highEnd far rs k = pick (ranged rs k) (sub binary64 (real (getD rs (4 * k + 3) 0)) (real flowShift)) far
 

@@ -6,5 +6,6 @@ use Rattle.num_bytes.specs.Inner.{values}
 use Rattle.plant_def.specs.Limits.{places}
 use Rattle.flow_def.specs.Sides.{bit}
 
+-- The places that the bits of m mark.
 abbrev pub marksIn : ℕ → List Bool
 marksIn m = values places (λ u. bit u m)

@@ -21,6 +21,7 @@ abbrev pub faultOf : Got → ℕ
 faultOf (bad f) = f
 faultOf (got p) = 0
 
+-- The bytes of its plant, none where it is a refusal.
 abbrev pub bytesOf : Got → List ℕ
 bytesOf (bad f) = []
 bytesOf (got p) = plantBytes p

@@ -55,6 +55,7 @@ mispriced p prices f e n r q = record { unpriced = λ m. q ∙ ap noneBought e; 
 
 -- By the reading.
 module _ (file prices : List ℕ) (y : Read) (e : y ≡ readOf (readPlant file)) (r : Bought) where
+  -- A file that is refused: its number, and nothing to buy.
   pub unread : (y .number ≡ 0 → ⊥) → r ≡ noneBought (y .number) → BuySays file prices r
   unread n q = subst (λ (g : Got). BuyWith g prices r) (sym (read-bad (readPlant file) y e n)) q
 

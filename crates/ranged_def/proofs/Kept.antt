@@ -30,6 +30,7 @@ module _ (n : ℕ) (s : Stream) where
   same-fault : ℕ
   same-fault = refuseIf (eqb (s .from) (s .to)) 8
 
+  -- A stream without fault has none in the ranged form,
   pub widened-good : streamFault n s ≡ 0 → streamFault n (widened s) ≡ 0
   unfolding ends-fault same-fault
   widened-good e =
@@ -37,6 +38,7 @@ module _ (n : ℕ) (s : Stream) where
       (λ q. metered-good ends-fault same-fault (meterFault (s .weight) (s .reading)) (rangeFault (s .ranged) (s .low) (s .high)) (rw (and-left (s .metered) (not (s .ranged)) q) at e))
       (λ q. e)
 
+  -- and none moved home.
   pub bared-good : streamFault n s ≡ 0 → streamFault n (bared s) ≡ 0
   unfolding ends-fault same-fault
   bared-good e =
@@ -44,9 +46,11 @@ module _ (n : ℕ) (s : Stream) where
       (λ q. metered-good ends-fault same-fault (meterFault (s .weight) (s .reading)) (rangeFault (s .ranged) (s .low) (s .high)) (rw (and-left (s .metered) (s .ranged) q) at e))
       (λ q. e)
 
+-- A plain stream is plain in the ranged form,
 pub widened-plain : (s : Stream) → plainOne s ≡ true → plainOne (widened s) ≡ true
 widened-plain s e = picked (λ (t : Stream). plainOne t ≡ true) (s .metered && not (s .ranged)) _ s (λ q. refl) (λ q. e)
 
+-- and moved home.
 pub bared-plain : (s : Stream) → plainOne s ≡ true → plainOne (bared s) ≡ true
 bared-plain s e = picked (λ (t : Stream). plainOne t ≡ true) (limited s) _ s (λ q. refl) (λ q. e)
 
@@ -65,16 +69,20 @@ module _ (f : Stream → Stream) where
         rw (first-none-left (unitsFault n) (firstOf many (firstFault n ss)) e, first-none-left many (firstFault n ss) r)
         (streams-good ss (first-none-right many (firstFault n ss) r))
 
+  -- Then so does the plant,
   pub moved-good : (p : Plant) → ((s : Stream) → streamFault (p .units) s ≡ 0 → streamFault (p .units) (f s) ≡ 0) → plantFault p ≡ 0 → plantFault (moved f p) ≡ 0
   moved-good p good e = rw (length-map (p .streams) f) (parts-good (p .units) good (length (p .streams)) (p .streams) e)
 
+  -- and its streams stay plain.
   pub moved-plain : ((s : Stream) → plainOne s ≡ true → plainOne (f s) ≡ true) → (ss : List Stream) → plain ss ≡ true → plain (map f ss) ≡ true
   moved-plain h [] e = refl
   moved-plain h (s ∷ ss) e = and-both (plainOne (f s)) _ (h s (and-left (plainOne s) (plain ss) e)) (moved-plain h ss (and-right (plainOne s) (plain ss) e))
 
+-- A plant without fault has none in the ranged form,
 pub forward-good : (p : Plant) → plantFault p ≡ 0 → plantFault (moved widened p) ≡ 0
 forward-good p = moved-good widened p (widened-good (p .units))
 
+-- and none moved home.
 pub home-good : (p : Plant) → plantFault p ≡ 0 → plantFault (moved bared p) ≡ 0
 home-good p = moved-good bared p (bared-good (p .units))
 
@@ -86,6 +94,7 @@ read-good file = go (readPlant file) refl
     go (bad f) e = refused file f e
     go (got p) e = accepted file p e .0
 
+-- What a file becomes in the ranged form has no fault,
 pub to-good : (file : List ℕ) → Faultless (toRanged (readPlant file))
 to-good file = go (readPlant file) (read-good file)
   where
@@ -93,6 +102,7 @@ to-good file = go (readPlant file) (read-good file)
     go (bad f) h = h
     go (got p) h = forward-good p h
 
+-- nor has what it becomes moved home.
 pub from-good : (file : List ℕ) → Faultless (fromRanged (readPlant file))
 from-good file = go (readPlant file) (read-good file)
   where

@@ -27,9 +27,11 @@ use Rattle.ranged_def.proofs.Kept.{forward-good, home-good, widened-pla
 
 -- What is moved is read as it was written.
 module _ (file : List ℕ) (p : Plant) (e : readPlant file ≡ got p) where
+  -- In the ranged form,
   pub forward-read : readPlant (plantBytes (forward p)) ≡ got (forward p)
   forward-read = let a = accepted file p e in there (forward p) (forward-good p (a .0)) (moved-plain widened widened-plain (p .streams) (a .1))
 
+  -- and moved home.
   pub home-read : readPlant (plantBytes (home p)) ≡ got (home p)
   home-read = let a = accepted file p e in there (home p) (home-good p (a .0)) (moved-plain bared bared-plain (p .streams) (a .1))
 
@@ -89,6 +91,7 @@ trip file p a e h o o′ u u′ r q l m s t =
       again .1 ∙ ap (λ (x : List ℕ). over x u) same,
     )
 
+-- All of it.
 pub moving : Moving
 moving = record {
   forth = λ file p. forth-read file (readPlant file) refl p;

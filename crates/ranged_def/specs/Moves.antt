@@ -17,6 +17,7 @@ use Rattle.plant_def.specs.Converts.{Converts}
 abbrev pub widestLow : ℤ
 widestLow = negℤ (pos maxRange)
 
+-- Its high end.
 abbrev pub widestHigh : ℤ
 widestHigh = pos maxRange
 
@@ -47,9 +48,11 @@ narrowFault (s ∷ ss) = firstOf (refuseIf (narrower s) 20) (narrowFault ss)
 abbrev pub moved : (Stream → Stream) → Plant → Plant
 moved move p = record { units = p .units; streams = map move (p .streams) }
 
+-- To the ranged form,
 abbrev pub forward : Plant → Plant
 forward = moved widened
 
+-- and home again.
 abbrev pub home : Plant → Plant
 home = moved bared
 
@@ -58,6 +61,7 @@ abbrev pub toRanged : Got → Got
 toRanged (bad f) = bad f
 toRanged (got p) = got (forward p)
 
+-- Home: the reader's refusals, then 20.
 abbrev pub fromRanged : Got → Got
 fromRanged (bad f) = bad f
 fromRanged (got p) = pick (eqb (narrowFault (p .streams)) 0) (got (home p)) (bad (narrowFault (p .streams)))
@@ -67,5 +71,6 @@ fromRanged (got p) = pick (eqb (narrowFault (p .streams)) 0) (got (home p)) (bad
 abbrev pub ToSays : List ℕ → List ℕ → List ℕ → Done → Type 0
 ToSays file = Converts (toRanged (readPlant file))
 
+-- The call that moves home.
 abbrev pub FromSays : List ℕ → List ℕ → List ℕ → Done → Type 0
 FromSays file = Converts (fromRanged (readPlant file))

@@ -27,6 +27,7 @@ full-streams =
 apart : mixed .sheet ≡ mixedMoved .sheet → ⊥
 apart e = let z : _≡_ {A = ℕ} 64 0 = ap (λ (l : List ℕ). getD l 17 0) e in omega arith
 
+-- Both examples.
 pub examples : Mixed
 unfolding balanceOf full-streams
 examples = record {

@@ -29,6 +29,7 @@ use Rattle.ranged_def.specs.Trip.{rangeless}
 mostEach : ℕ
 mostEach = maxWeight * (maxReading * maxReading)
 
+-- The most that the zero flow may cost: 96 streams of weight 1,000 that read 4,000,000.
 pub mostCost : ℕ
 mostCost = maxStreams * mostEach
 
@@ -57,13 +58,16 @@ zero-costs : (n : ℕ) (ss : List Stream) → ((k : ℕ) → k < length ss → W
 zero-costs n [] h = omega arith
 zero-costs n (s ∷ ss) h = omega (arith, zero-cost n s (h 0 (omega arith)), zero-costs n ss (λ k l. h (suc k) (omega arith)))
 
+-- The flow of nothing.
 abbrev pub zeroFlow : Plant → List ℤ
 zeroFlow p = listed p (λ k. pos 0)
 
+-- It costs no more than that,
 pub zero-most : (p : Plant) → Within p → cost (p .streams) (zeroFlow p) ≤ mostCost
 unfolding mostCost
 zero-most p w = omega (arith, zero-costs (p .units) (p .streams) (w .each), mul-le-mul-right mostEach (w .few-streams))
 
+-- and balances.
 pub zero-balanced : (p : Plant) → balanced p (zeroFlow p) ≡ true
 zero-balanced p = listed-balanced p (λ k. pos 0) (λ u l. sum-none (length (p .streams)) _ (λ k m. none u (streamAt (p .streams) k)))
   where
@@ -82,6 +86,7 @@ rangeless-at [] e k l = absurd (omega arith)
 rangeless-at (s ∷ ss) e zero l = and-left (not (limited s)) (rangeless ss) e
 rangeless-at (s ∷ ss) e (suc k) l = rangeless-at ss (and-right (not (limited s)) (rangeless ss) e) k (omega arith)
 
+-- Without limits any amount is in range.
 pub any-amount : (s : Stream) (x : ℤ) → not (limited s) ≡ true → inRange 1 s x ≡ true
 any-amount s x n = whole-holds s x (λ q. clash (limited s) q (not-true (limited s) n))
 

@@ -40,6 +40,7 @@ apart-halved w x y t o e =
     let f : 2 * (w * y) - 2 * (w * x) ≡ t * (2 * w) = rw e (omega arith) in
     rw f (mul-div-cancel t (omega arith))
 
+-- Twice the weight goes out of a difference of products.
 pub apart-is : (w x y : ℕ) → 1 ≤ w → ((2 * (w * x) - 2 * (w * y)) + (2 * (w * y) - 2 * (w * x))) / (2 * w) ≡ (x - y) + (y - x)
 apart-is w x y o = elim (decLe x y) [
   | yes l ↦
@@ -82,6 +83,7 @@ take-opened (suc n) (x ∷ xs) = ap (λ (l : List ℤ). unshifted x ∷ l) (take
 
 -- A plant and all its amounts, as they are held.
 module _ (p : Plant) {ls rs : List ℕ} (w : LaidOf p ls rs) (xs : List ℕ) (a : Amounts xs) (l : length xs ≡ maxStreams) where
+  -- The plant is accepted, and its amounts are small.
   pub costed : Costed p (map unshifted xs)
   costed = record {
     accepted = w .accepted;
@@ -97,6 +99,7 @@ module _ (p : Plant) {ls rs : List ℕ} (w : LaidOf p ls rs) (xs : List ℕ) (a 
     amount : amountAt (map unshifted xs) i ≡ unshifted (getD xs i 0)
     amount = map-at unshifted xs i (pos 0) 0 (omega (arith, w .accepted .within .few-streams))
 
+    -- One stream more, by its row.
     pub held-more : (k new : ℕ)
         → ((R : ℕ) → getD rs (4 * i + 1) 0 ≡ 2 * (getD rs (4 * i) 0 * R) → k ≡ capped (getD rs (4 * i) 0 * apartSquared (getD xs i 0) R))
         → new ≡ capped (sum + k) → Summed p (map unshifted xs) new (i + 1)
@@ -108,5 +111,6 @@ module _ (p : Plant) {ls rs : List ℕ} (w : LaidOf p ls rs) (xs : List ℕ) (a 
             ∙ ap (λ (v : ℕ). capped (v * apartSquared (getD xs i 0) (readingOf s))) (weight-at w i h)
             ∙ row-cost-is s (stream-within p (w .accepted) i h) (getD xs i 0)
 
+  -- After the last the sum is the cost of the flow that is held, as it is written.
   pub held-all : {sum i : ℕ} → Summed p (map unshifted xs) sum i → p .count ≤ i → sum ≡ capped (cost (plantOf p .streams) (opened (p .count) xs))
   held-all r h = summed-all costed r h ∙ ap (λ (ys : List ℤ). capped (cost (plantOf p .streams) ys)) (take-opened (p .count) xs)

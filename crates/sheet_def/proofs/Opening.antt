@@ -19,9 +19,11 @@ use Rattle.sheet_def.specs.Calls.{Small}
 
 -- What the solver promises, by whether it found a flow.
 module _ (p : Arrays.Plant) (s : Solved) (r : Right p s) where
+  -- A flow: the cheapest, with its certificate.
   pub right-found : s .found ≡ true → Solution p s
   right-found t = subst (λ (b : Bool). pickT b (Solution p s) (Overfull (plantOf p) (s .marked))) t r
 
+  -- None: an overfull set.
   pub right-overfull : s .found ≡ false → Overfull (plantOf p) (s .marked)
   right-overfull t = subst (λ (b : Bool). pickT b (Solution p s) (Overfull (plantOf p) (s .marked))) t r
 
@@ -29,6 +31,7 @@ module _ (p : Arrays.Plant) (s : Solved) (r : Right p s) where
 pub held-amounts : (p : Arrays.Plant) (s : Solved) → Solution p s → Amounts (s .flows)
 held-amounts p s r = λ k h. omega (arith, r .close k h .0)
 
+-- An amount that the solver may hold, opened, is small.
 pub opened-small : (x : ℕ) → x ≤ mostFlow → Small (unshifted x)
 opened-small x h =
     let z = unshifted x in

@@ -138,6 +138,7 @@ plain-again b a l =
       cost = be-fits 4 8 b bytes (omega arith);
     }
 
+-- A total that is read and written again is the same bytes.
 pub total-again : (b : List ℕ) → allBytes (totalKind ∷ b) ≡ true → totalSize ≤ length (totalKind ∷ b) → Again totalSize (totalKind ∷ b) (totalIn (totalKind ∷ b))
 total-again [] a l = absurd (omega arith)
 total-again (k ∷ b) a l =

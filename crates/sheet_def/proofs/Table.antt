@@ -62,6 +62,7 @@ abbrev pub shows : Example → List ℤ → Got → Bool
 shows e potentials (bad f) = false
 shows e potentials (got p) = certified p (e .flow) potentials && sameBytes (sheetOf 0 p (e .flow) 1) (e .sheet)
 
+-- Where the computed test passes, the example shows what it says.
 pub shows-right : (e : Example) (potentials : List ℤ) (g : Got) → readPlant (e .file) ≡ g → shows e potentials g ≡ true → Shows e
 shows-right e potentials (bad f) r t = absurd (false≢true t)
 shows-right e potentials (got p) r t =
@@ -103,6 +104,7 @@ potentials =
     ∷ (pos 0 ∷ pos 0 ∷ [])
     ∷ []
 
+-- All examples of the table.
 pub table : AllShow examples
 unfolding potentials balanceOf
 table = all-right examples potentials refl
@@ -152,6 +154,7 @@ refuses-right file p ms e m = (p, e, m, calls)
         let given : Drawn p 0 (officesFrom 0) o o′ r ⊎ Overfilled p (officesFrom 0) o o′ r = call-read file 0 (officesFrom 0) o o′ r s (got p) z e in
         ⊎-elim (λ d. never-both p (within p (accepted file p e .0)) (d .0) (d .1) ms m) (λ m. ap (λ (q : Sheet). q .number) (m .2 .0)) given
 
+-- And the plant of the table that has no flow in range.
 pub refuses : Refuses fullFile fullUnit
 unfolding fullPlant
 refuses = refuses-right fullFile fullPlant fullUnit refl (unit-full (fullPlant .streams) refl refl)

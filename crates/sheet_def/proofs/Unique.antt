@@ -90,15 +90,18 @@ module _ (p : Plant) (w : Within p) (xs ys : List ℤ) (c : Cheapest p xs) (d : 
       past : (classOf p k ≡ Withheld → ⊥) → ltb k (length (p .streams)) ≡ false → numberOf p xs k ≡ numberOf p ys k
       past n t = absurd (n (class-past p k (ltb-false k (length (p .streams)) t)))
 
+  -- Two cheapest flows have one cost,
   pub cost-same : cost (p .streams) xs ≡ cost (p .streams) ys
   cost-same = let a = c .least ys (d .balance) in let b = d .least xs (c .balance) in omega arith
 
+  -- one balance,
   pub one-balance : balanceOf p xs ≡ balanceOf p ys
   unfolding balanceOf
   one-balance =
       let e = values-same maxStreams (λ k. entryOf (classOf p k) (numberOf p xs k)) (λ k. entryOf (classOf p k) (numberOf p ys k)) (λ k l. entries-same k) in
       λ i. record { streams = e i; cost = capped (cost-same i); degrees = degrees p; verdict = verdictAt (degrees p) (cost-same i) (adjusted p) }
 
+  -- and one sheet, whichever its number.
   pub one-sheet : (office n : ℕ) → sheetOf office p xs n ≡ sheetOf office p ys n
   one-sheet office n = ap (sheetBytes office (length (p .streams)) n) one-balance
 
@@ -142,5 +145,6 @@ call-same : (b : Bool) (file : List ℕ) (office : ℕ) (lasts : List ℕ) (o o�
 call-same true file office lasts o o₁ o₂ r₁ r₂ a b = read-same office lasts o o₁ o₂ r₁ r₂ (readPlant file) (λ p e. within p (accepted file p e .0)) a b
 call-same false file office lasts o o₁ o₂ r₁ r₂ a b = refused-same office lasts o o₁ o₂ r₁ r₂ (callFault office lasts o) a b
 
+-- So no call has a choice.
 pub no-choice : No-choice
 no-choice file office lasts o o₁ o₂ r₁ r₂ a b = call-same (eqb (callFault office lasts o) 0) file office lasts o o₁ o₂ r₁ r₂ a b

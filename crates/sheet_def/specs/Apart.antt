@@ -8,6 +8,7 @@ use Rattle.plant_def.specs.Limits.{maxStreams}
 abbrev pub totalKind : ℕ
 totalKind = 30
 
+-- The plain one: 0x1F.
 abbrev pub plainKind : ℕ
 plainKind = 31
 
@@ -15,12 +16,15 @@ plainKind = 31
 abbrev pub streamSize : ℕ
 streamSize = 9
 
+-- What both totals end in: sheet number (4), cost (8), degrees, verdict.
 abbrev pub bodySize : ℕ
 bodySize = 14
 
+-- A total with its office,
 abbrev pub totalSize : ℕ
 totalSize = 16
 
+-- and a plain one.
 abbrev pub plainSize : ℕ
 plainSize = 15
 
@@ -32,5 +36,6 @@ leastSlice = maxStreams * 9 + 16
 abbrev pub topCost : ℕ
 topCost = 18446744073709551615
 
+-- The cost, or the greatest that 8 bytes hold.
 abbrev pub capped : ℕ → ℕ
 capped c = pick (leb c topCost) c topCost

@@ -22,6 +22,7 @@ entriesOf cs xs = values maxStreams (λ k. entryOf (getD cs k Adjusted) (amountA
 abbrev pub Small : ℤ → Type 0
 Small x = natAbs x ≤ flowShift
 
+-- All flows of a list are.
 abbrev pub AllSmall : List ℤ → Type 0
 AllSmall xs = (k : ℕ) → k < maxStreams → Small (amountAt xs k)
 

@@ -15,9 +15,11 @@ topSheet = 4294967295
 abbrev pub counterOf : ℕ → List ℕ → ℕ
 counterOf office lasts = getD lasts office 0
 
+-- The number of its next sheet.
 abbrev pub nextOf : ℕ → List ℕ → ℕ
 nextOf office lasts = suc (counterOf office lasts)
 
+-- The counters when that sheet is drawn.
 abbrev pub raised : ℕ → List ℕ → List ℕ
 raised office lasts = set lasts office (nextOf office lasts)
 

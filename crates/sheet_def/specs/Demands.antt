@@ -17,6 +17,7 @@ use Rattle.sheet_def.specs.Kept.{Reopening}
 abbrev pub bare : Sheet → Sheet
 bare r = record { number = r .number; written = r .written; lasts = r .lasts; marked = unmarked }
 
+-- Two answers that a caller cannot tell apart but by the set that a 19 marks.
 abbrev pub Alike : Sheet → Sheet → Type 0
 Alike r₁ r₂ = (bare r₁ ≡ bare r₂) × ((r₁ .number ≡ 19 → ⊥) → r₁ ≡ r₂)
 
@@ -26,6 +27,7 @@ No-choice =
     (file : List ℕ) (office : ℕ) (lasts : List ℕ) (o o₁ o₂ : List ℕ) (r₁ r₂ : Sheet)
     → SheetSays file office lasts o o₁ r₁ → SheetSays file office lasts o o₂ r₂ → Alike r₁ r₂ × (o₁ ≡ o₂)
 
+-- The customer's demands, of every call.
 pub record Demands : Type 0 where
   -- Of every call, the office's counter being of 32 bits: the refusal, or a sheet that tells what it has to.
   pub sentences : (file : List ℕ) (office : ℕ) (lasts o o′ : List ℕ) (r : Sheet) → counterOf office lasts ≤ topSheet → SheetSays file office lasts o o′ r

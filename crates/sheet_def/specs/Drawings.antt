@@ -25,5 +25,6 @@ sheetBytes office count n b = partsBytes (partsOf totalKind office count n b)
 abbrev pub plantParts : ℕ → Plant → List ℤ → ℕ → SheetParts
 plantParts office p xs n = partsOf totalKind office (length (p .streams)) n (balanceOf p xs)
 
+-- Its bytes.
 abbrev pub sheetOf : ℕ → Plant → List ℤ → ℕ → List ℕ
 sheetOf office p xs n = partsBytes (plantParts office p xs n)

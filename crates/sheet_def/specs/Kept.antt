@@ -49,6 +49,7 @@ bodyIn kind office b =
 abbrev pub totalIn : List ℕ → Total
 totalIn s = bodyIn totalKind (getD s 1 0) (drop 2 s)
 
+-- The plain total: that of office 0.
 abbrev pub plainIn : List ℕ → Total
 plainIn s = bodyIn plainKind 0 (drop 1 s)
 
@@ -73,6 +74,7 @@ afterFault size s = refuseIf (not (eqb (length s) size)) 15
 abbrev pub endFault : ℕ → Total → List ℕ → ℕ
 endFault size t s = firstOf (refuseIf (ltb (length s) size) 13) (firstOf (totalFault t) (afterFault size s))
 
+-- The total, or what is first amiss with it.
 abbrev pub totalRecord : ℕ → Total → List ℕ → SheetRecord
 totalRecord size t s = pick (eqb (endFault size t s) 0) (Ended t) (Refused (endFault size t s))
 
@@ -97,11 +99,13 @@ recordNumber (Listed e m) = 0
 recordNumber (Ended t) = 0
 recordNumber (Refused f) = f
 
+-- What follows from a record, by its case.
 abbrev pub onRecord : {A : Type 0} → SheetRecord → (Entry → ℕ → A) → (Total → A) → (ℕ → A) → A
 onRecord (Listed e m) listed ended refused = listed e m
 onRecord (Ended t) listed ended refused = ended t
 onRecord (Refused f) listed ended refused = refused f
 
+-- A sheet of these entries and this total.
 abbrev pub sheetWith : List Entry → Total → Reopened
 sheetWith es t = someSheet (record { streams = es; total = t })
 
@@ -123,6 +127,7 @@ abbrev pub readOf : Reopened → SheetRead
 readOf (noSheet f) = handedOver f [] (record { kind = 0; office = 0; sheet = 0; cost = 0; degrees = 0; verdict = 0 })
 readOf (someSheet s) = handedOver 0 (s .streams) (s .total)
 
+-- What the reader ensures.
 abbrev pub ReadSays : List ℕ → SheetRead → Type 0
 ReadSays bytes r = r ≡ readOf (readSheet bytes)
 
@@ -130,6 +135,7 @@ ReadSays bytes r = r ≡ readOf (readSheet bytes)
 abbrev pub fits : Class → ℤ → Bool
 fits c x = pick (known c) (holds 8 x) (eqb (natAbs x) 0)
 
+-- Every entry of a list fits.
 abbrev pub allFit : List Entry → Bool
 allFit [] = true
 allFit (e ∷ es) = fits (e .class) (e .flow) && allFit es

@@ -28,6 +28,7 @@ use Rattle.sheet_def.specs.Counters.{offices, topSheet, counterOf, nextO
 abbrev pub MeteredAt : Plant → ℕ → Type 0
 MeteredAt p i = (i < length (p .streams)) × (streamAt (p .streams) i .metered ≡ true)
 
+-- Stream i is listed, and unmetered.
 abbrev pub UnmeteredAt : Plant → ℕ → Type 0
 UnmeteredAt p i = (i < length (p .streams)) × (streamAt (p .streams) i .metered ≡ false)
 
@@ -39,6 +40,7 @@ EndsJoined p i = Chain unmeteredOnly (p .streams) (streamAt (p .streams) i .from
 abbrev pub Forced : Plant → ℕ → Type 0
 Forced p i = (ys zs : List ℤ) → Agree p ys zs → amountAt ys i ≡ amountAt zs i
 
+-- Some two balanced flows that agree on all metered streams differ on stream i.
 abbrev pub Free : Plant → ℕ → Type 0
 Free p i = (ys : List ℤ) × (zs : List ℤ) × Agree p ys zs × (amountAt ys i ≡ amountAt zs i → ⊥)
 
@@ -46,6 +48,7 @@ Free p i = (ys : List ℤ) × (zs : List ℤ) × Agree p ys zs × (amountAt ys i
 abbrev pub classOn : SheetParts → ℕ → Class
 classOn s i = getD (s .streams) i blank .class
 
+-- The number beside it.
 abbrev pub numberOn : SheetParts → ℕ → ℤ
 numberOn s i = getD (s .streams) i blank .flow
 
@@ -58,6 +61,7 @@ abbrev pub weightsTo : Plant → SheetParts → ℕ → ℕ
 weightsTo p s zero = 0
 weightsTo p s (suc k) = pick (eqb (kindOf (classOn s k)) (kindOf Adjusted)) (streamAt (p .streams) k .weight) 0 + weightsTo p s k
 
+-- The summed weights of all A streams.
 abbrev pub adjustedWeights : Plant → SheetParts → ℕ
 adjustedWeights p s = weightsTo p s (length (p .streams))
 

@@ -19,15 +19,19 @@ kindOf AsRead = 18
 kindOf Given = 19
 kindOf Withheld = 20
 
+-- 0x11, A.
 abbrev pub adjustedKind : ℕ
 adjustedKind = kindOf Adjusted
 
+-- 0x12, R.
 abbrev pub asReadKind : ℕ
 asReadKind = kindOf AsRead
 
+-- 0x13, G.
 abbrev pub givenKind : ℕ
 givenKind = kindOf Given
 
+-- 0x14, W.
 abbrev pub withheldKind : ℕ
 withheldKind = kindOf Withheld
 

@@ -19,6 +19,7 @@ use Rattle.sheet_def.specs.Kept.{someSheet, readSheet}
 use Rattle.sheet_def.specs.Counters.{officesFrom}
 use Rattle.sheet_def.specs.Says.{SheetSays}
 
+-- A plant file, its cheapest flow, and the sheet.
 pub record Example : Type 0 where
   pub file : List ℕ
   pub flow : List ℤ
@@ -32,6 +33,7 @@ Shows e =
     × Cheapest p (e .flow)
     × ((o o′ : List ℕ) (r : Sheet) → callFault 0 (officesFrom 0) o ≡ 0 → SheetSays (e .file) 0 (officesFrom 0) o o′ r → o′ ≡ over (e .sheet) o)
 
+-- The same of every example of a list.
 abbrev pub AllShow : List Example → Type 0
 AllShow [] = Unit {0}
 AllShow (e ∷ es) = Shows e × AllShow es
@@ -48,21 +50,27 @@ Refuses file ms =
 abbrev pub site : ℕ → List ℕ
 site n = 1 ∷ n ∷ []
 
+-- A metered stream,
 abbrev pub meter : ℕ → ℕ → ℕ → ℕ → List ℕ
 meter u v w r = 2 ∷ u ∷ v ∷ 0 ∷ w ∷ 0 ∷ 0 ∷ 0 ∷ r ∷ []
 
+-- one with a range,
 abbrev pub within : ℕ → ℕ → ℕ → ℕ → ℕ → ℕ → List ℕ
 within u v w r low high = 6 ∷ u ∷ v ∷ 0 ∷ w ∷ 0 ∷ 0 ∷ 0 ∷ r ∷ 0 ∷ 0 ∷ 0 ∷ low ∷ 0 ∷ 0 ∷ 0 ∷ high ∷ []
 
+-- an unmetered one,
 abbrev pub pipe : ℕ → ℕ → List ℕ
 pipe u v = 3 ∷ u ∷ v ∷ []
 
+-- and the end of a file.
 abbrev pub end : ℕ → List ℕ
 end c = 4 ∷ c ∷ []
 
+-- A stream's record on a sheet,
 abbrev pub shown : ℕ → ℕ → List ℕ
 shown kind x = kind ∷ 0 ∷ 0 ∷ 0 ∷ 0 ∷ 0 ∷ 0 ∷ 0 ∷ x ∷ []
 
+-- and its total, of sheet 1.
 abbrev pub total : ℕ → ℕ → ℕ → ℕ → List ℕ
 total high low degrees verdict = 30 ∷ 0 ∷ 0 ∷ 0 ∷ 0 ∷ 1 ∷ 0 ∷ 0 ∷ 0 ∷ 0 ∷ 0 ∷ 0 ∷ high ∷ low ∷ degrees ∷ verdict ∷ []
 
@@ -158,5 +166,6 @@ pub record Farthest (e : Example) (d : ℕ) (ys : List ℤ) : Type 0 where
 abbrev pub fullFile : List ℕ
 fullFile = site 1 ++ within 0 1 10 15 10 20 ++ within 1 0 10 15 0 5 ++ end 2
 
+-- The set that shows it: unit 1 alone.
 abbrev pub fullUnit : List Bool
 fullUnit = false ∷ true ∷ replicate (places - 2) false

@@ -59,6 +59,7 @@ module _ (p : Arrays.Plant) (xs : List ℤ) (a : Accepted p) (b : balanced (plan
       sym (getD-take (p .count) xs k (pos 0) l) ∙ sym (number-is (plantOf p) (within-of p a) (take (p .count) xs) b k (omega arith) n))
       (λ t. let l = ltb-false k (p .count) t in absurd (n (class-past (plantOf p) k (omega arith))))
 
+  -- Each stream has its class and the number that the balance forces.
   pub entries-shown : entriesOf (classesOf (plantOf p)) xs ≡ values maxStreams (λ k. entryOf (classOf (plantOf p) k) (numberOf (plantOf p) (take (p .count) xs) k))
   unfolding entriesOf
   entries-shown =
@@ -77,6 +78,7 @@ module _ (p : Arrays.Plant) (a : Accepted p) (s : Solved) (r : Solution p s) whe
   flow-cheapest : Cheapest (plantOf p) (take (p .count) xs)
   flow-cheapest = rw flow-is (r .cheapest)
 
+  -- Entries, cost, degrees and verdict together are a balance of the plant.
   pub balanced-so : (es : List Entry) (c d q v : ℕ) → es ≡ entriesOf (classesOf (plantOf p)) (map unshifted (s .flows))
       → c ≡ capped (cost (plantOf p .streams) (opened (p .count) (s .flows))) → d ≡ degrees (plantOf p) → q ≡ adjusted (plantOf p) → q ≤ topCost
       → v ≡ verdictAt d c q

@@ -17,6 +17,7 @@ pub opened-here : (x : ℕ) → x ≤ mostFlow → toZ w64 x -ℤ toZ w64 flowSh
 unfolding unshifted
 opened-here x h = let l : x < 2 ^ hbits w64 = omega arith in rw (toZ-pos w64 l)
 
+-- An amount that may be held, opened, fits 64 bits.
 pub opened-fits : (x : ℕ) → x ≤ mostFlow → SFits w64 (unshifted x)
 opened-fits x h = go (unshifted x) (unshifted-val x)
   where

@@ -41,6 +41,7 @@ below-test n c v h = elim (decLe c topCost) [
 critical-low : (d : ℕ) → criticalAt d < 65536
 critical-low d = below-at 65536 critical (omega arith) refl (d - 1)
 
+-- The verdict by the cost as it is written is the verdict by the cost itself.
 pub capped-verdict : (d c q : ℕ) → q ≤ topCost → verdictAt d (capped c) q ≡ verdictAt d c q
 capped-verdict d c q h =
     let v = criticalAt d in

@@ -81,6 +81,7 @@ module _ (file : List ℕ) (last : ℕ) (o o′ : List ℕ) (r : Sheet) (top : l
   step : PlainSays file last o o′ r → Drew file last o′ r ⊎ Idle last r
   step s = by-test (eqb (plainFault last o) 0) refl s
 
+  -- A sheet drawn before the change reads back as it was promised.
   pub plain : PlainSays file last o o′ r → r .number ≡ 0 → ReadsPlain file last o′ r
   plain s n = ⊎-elim (λ d. d .read) (λ d. absurd (d .not-done n)) (step s)
 
@@ -175,6 +176,7 @@ from-eight last h = record { long = refl; held = held }
 abbrev passed : ℕ → List Call → ℕ
 passed first ps = counterOf 0 (countersAfter (first ∷ []) ps)
 
+-- The counters at the change are eight, each of 32 bits.
 pub change : (first : ℕ) (ps : List Call) → first ≤ topSheet → PlainCalls first ps → Eight (officesFrom (passed first ps))
 change first ps top s = from-eight (passed first ps) (let h = came first ps top s .held in let e = last-is (first ∷ []) ps in omega arith)
 
@@ -185,6 +187,7 @@ up-more n (suc i) j =
     let f : suc (i + j) ≡ suc i + j = omega arith in
     ap (λ (l : List ℕ). n ∷ l) (ap (λ (m : ℕ). upFrom (suc n) i ++ upFrom m j) e ∙ up-more (suc n) i j) ∙ ap (upFrom n) f
 
+-- The numbers of office 0's sheets, before the change and after it, are consecutive.
 pub follow : (first : ℕ) (ps cs : List Call) → first ≤ topSheet → PlainCalls first ps → Calls (officesFrom (passed first ps)) cs
     → numbersOf 0 (drawnSheets (ps ++ cs)) ≡ upFrom (suc first) (drawnCount 0 (ps ++ cs))
 follow first ps cs top s t =

@@ -33,6 +33,7 @@ abbrev pub Calls : List ℕ → List Call → Type 0
 Calls lasts [] = Unit {0}
 Calls lasts (c ∷ cs) = SheetSays (c .file) (c .office) lasts (c .before) (c .after) (c .answer) × Calls (c .answer .lasts) cs
 
+-- The counters after the last of them.
 abbrev pub countersAfter : List ℕ → List Call → List ℕ
 countersAfter lasts [] = lasts
 countersAfter lasts (c ∷ cs) = countersAfter (c .answer .lasts) cs
@@ -46,10 +47,12 @@ PlainCalls last (c ∷ cs) = (c .office ≡ 0) × PlainSays (c .file) last (c .b
 abbrev pub drew : ℕ → Call → Bool
 drew k c = eqb (c .answer .number) 0 && eqb (c .office) k
 
+-- How many sheets of office k they drew.
 abbrev pub drawnCount : ℕ → List Call → ℕ
 drawnCount k [] = 0
 drawnCount k (c ∷ cs) = pick (drew k c) (suc (drawnCount k cs)) (drawnCount k cs)
 
+-- The sheets of all offices, in their order.
 abbrev pub drawnSheets : List Call → List (List ℕ)
 drawnSheets [] = []
 drawnSheets (c ∷ cs) = pick (eqb (c .answer .number) 0) (take (c .answer .written) (c .after) ∷ drawnSheets cs) (drawnSheets cs)
@@ -59,6 +62,7 @@ abbrev pub numberRead : ℕ → Reopened → List ℕ
 numberRead k (noSheet f) = []
 numberRead k (someSheet s) = pick (eqb (s .total .office) k) (s .total .sheet ∷ []) []
 
+-- The same of kept sheets, one after the other.
 abbrev pub numbersOf : ℕ → List (List ℕ) → List ℕ
 numbersOf k [] = []
 numbersOf k (b ∷ bs) = numberRead k (readSheet b) ++ numbersOf k bs
@@ -82,6 +86,7 @@ pub record ReadsPlain (file : List ℕ) (last : ℕ) (o′ : List ℕ) (r : Shee
   pub tells : Tells plant sheet
   pub under : Under plainKind 0 (suc last) sheet
 
+-- What is promised of any sequence of calls.
 pub record History : Type 0 where
   -- No call alters another office's number, nor does what it returns and leaves behind depend on one: its refusal, the bytes written
   -- and the slice go by the calling office's number alone.

@@ -10,15 +10,19 @@ use Rattle.num_bytes.specs.Choice.{pick}
 use Rattle.num_bytes.specs.Inner.{values}
 use Rattle.plant_def.specs.Limits.{places, maxStreams}
 
+-- Where the places begin that arcs lead to,
 abbrev pub toCell : ℕ
 toCell = places
 
+-- where the next arcs from their starts begin,
 abbrev pub nextCell : ℕ
 nextCell = places + 2 * maxStreams
 
+-- and where the number of streams stands.
 abbrev pub countCell : ℕ
 countCell = places + 4 * maxStreams
 
+-- The bytes of all.
 abbrev pub arcCells : ℕ
 arcCells = countCell + 1
 
@@ -26,6 +30,7 @@ arcCells = countCell + 1
 abbrev pub arcOf : ℕ → Bool → ℕ
 arcOf k f = 2 * k + pick f 1 0
 
+-- How many streams are in use.
 abbrev pub countOf : List ℕ → ℕ
 countOf ls = getD ls countCell 0
 
@@ -33,11 +38,14 @@ countOf ls = getD ls countCell 0
 unfoldable pub startsOf : List ℕ → List ℕ
 startsOf ls = values (countOf ls) (λ k. getD ls (toCell + 2 * k) 0)
 
+-- Where they end.
 unfoldable pub endsOf : List ℕ → List ℕ
 endsOf ls = values (countOf ls) (λ k. getD ls (toCell + (2 * k + 1)) 0)
 
+-- The numbers of all rows,
 abbrev pub rowCells : ℕ
 rowCells = 4 * maxStreams
 
+-- and of all margins.
 abbrev pub marginCells : ℕ
 marginCells = 2 * maxStreams

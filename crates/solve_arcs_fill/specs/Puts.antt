@@ -16,6 +16,7 @@ use Rattle.solve_arcs.specs.Cells.{toCell, nextCell, arcCells, rowCells}
 unfoldable pub startsIn : List Stream → ℕ → List ℕ
 startsIn streams n = values n (λ k. getD streams k noStream .from)
 
+-- Where they end.
 unfoldable pub endsIn : List Stream → ℕ → List ℕ
 endsIn streams n = values n (λ k. getD streams k noStream .to)
 
@@ -24,9 +25,11 @@ endsIn streams n = values n (λ k. getD streams k noStream .to)
 abbrev pub endsPut : ℕ → ℕ → ℕ → List ℕ → List ℕ
 endsPut i u v ls = set (set ls (toCell + 2 * i) u) (toCell + (2 * i + 1)) v
 
+-- The arcs x and y come next after those of stream i.
 abbrev pub nextPut : ℕ → ℕ → ℕ → List ℕ → List ℕ
 nextPut i x y ls = set (set ls (nextCell + (2 * i + 1)) x) (nextCell + 2 * i) y
 
+-- The arcs of stream i become the first at the places u and v.
 abbrev pub firstPut : ℕ → ℕ → ℕ → List ℕ → List ℕ
 firstPut i u v ls = set (set ls v (2 * i)) u (2 * i + 1)
 

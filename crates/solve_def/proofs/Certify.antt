@@ -45,6 +45,7 @@ pub held-right : (z : ℤ) → natAbs z ≤ flowShift → unshifted (shifted z) 
 held-right (pos a) h = same (unshifted (flowShift + a)) (pos a) (omega (arith, unshifted-val (flowShift + a)))
 held-right (negsuc a) h = same (unshifted (flowShift - suc a)) (negsuc a) (omega (arith, unshifted-val (flowShift - suc a)))
 
+-- A signed number and the number that it is held as differ by the shift.
 pub held-val : (z : ℤ) → natAbs z ≤ flowShift → up z + flowShift ≡ shifted z + dn z
 held-val z h = omega (arith, val (unshifted (shifted z)) z (held-right z h), unshifted-val (shifted z))
 

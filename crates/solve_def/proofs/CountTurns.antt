@@ -83,6 +83,7 @@ module _ (ss : List Stream) (d n : ℕ) (st now : State) (l : n < places) (e : p
 
 -- A phase makes no more than may be over.
 module _ (ss : List Stream) (v : Solvable ss) (d : ℕ) (step : Step d) (st : State) (h : Underway ss d settledRoom st) where
+  -- From the first n places.
   pub phase-made-room : (n : ℕ) → n ≤ places → madeTo n ss d st ≤ mostOver
   phase-made-room n l =
       omega (
@@ -156,10 +157,12 @@ module _ (ss : List Stream) (step : ℕ) (h : Hint) (count : ℕ) (t : Tallied s
 
 -- In a call: by how much is over.
 module _ (ss : List Stream) (st : State) (over : ℕ) (e : over ≡ overSum (st .nets)) where
+  -- Little is over: the improvements at step 1 are all.
   pub made-by-hint : over ≤ mostTried → madeTo places ss 1 st ≡ made ss st
   unfolding made
   made-by-hint l = sym (rw (← e, le-leb over mostTried l))
 
+  -- Much is over: those of the phases, from no hint, are.
   pub made-by-phases : mostTried < over → madeBy halvings ss noHint ≡ made ss st
   unfolding made
   made-by-phases l = sym (rw (← e, lt-leb over mostTried l))

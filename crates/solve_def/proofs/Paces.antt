@@ -68,6 +68,7 @@ module _ (ss : List Stream) (v : Solvable ss) (d t : ℕ) (step : Step d) (fits 
     at : (n : ℕ) → n ≤ places → Phased ss d t n (phaseTo n ss d st)
     at n l = phased ss v d t step fits n l st h
 
+    -- What is made and the steps still over are the steps over at the start.
     pub phase-made : (n : ℕ) → n ≤ places → madeTo n ss d st + stepsOver d (phaseTo n ss d st .state .nets) ≡ stepsOver d (st .nets)
     unfolding madeTo phaseTo
     phase-made zero l = omega arith
@@ -111,6 +112,7 @@ module _ (ss : List Stream) (v : Solvable ss) (d t : ℕ) (step : Step d) (fits 
               on (inl x) = omega (arith, x, q)
               on (inr x) = x
 
+      -- At most one search from each place is stuck, and none from place u, where less than a step is over.
       pub phase-stuck : (n : ℕ) → n ≤ places → (stuckTo n ss d st ≤ n) × (u < n → stuckTo n ss d st + 1 ≤ n)
       unfolding stuckTo
       phase-stuck zero l = (omega arith, λ o. absurd (omega arith))

@@ -11,6 +11,7 @@ use Rattle.flow_def.specs.Flows.{streamAt}
 abbrev pub movedOf : Stream → ℕ → ℕ → ℕ → ℕ
 movedOf s x c d = pick (eqb (s .to) c) (x + d) (x - d)
 
+-- The other end of a stream.
 abbrev pub otherEnd : Stream → ℕ → ℕ
 otherEnd s c = pick (eqb (s .to) c) (s .from) (s .to)
 

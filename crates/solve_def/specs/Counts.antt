@@ -3,5 +3,6 @@ use mathlib.Core.Bool.{Bool}
 use Prim.Native.Nat.{ℕ, suc}
 use Rattle.flow_def.specs.Loops.{countTo}
 
+-- The places 0 to n are the numbers below n + 1.
 unfoldable pub countPlaces : ℕ → (ℕ → Bool) → ℕ
 countPlaces n f = countTo (suc n) f

@@ -12,6 +12,7 @@ use Rattle.solve_def.specs.Made.{made, stuck}
 abbrev pub mostMade : ℕ
 mostMade = 184072
 
+-- The most stuck searches.
 abbrev pub mostStuck : ℕ
 mostStuck = 960
 

@@ -34,6 +34,7 @@ boundedTo ss ms (suc n) =
     let s = streamAt ss n in
     mayCross (getD ms (s .from) false) (getD ms (s .to) false) (lowOf s) && boundedTo ss ms n
 
+-- What they press on the set, summed.
 unfoldable pub pressedTo : List Stream → List Bool → ℕ → ℕ
 pressedTo ss ms zero = 0
 pressedTo ss ms (suc n) =

@@ -19,9 +19,11 @@ shifted (negsuc a) = flowShift - suc a
 unfoldable pub unshifted : ℕ → ℤ
 unshifted x = pos x -ℤ pos flowShift
 
+-- The flow that the first n of a list of held amounts are.
 abbrev pub opened : ℕ → List ℕ → List ℤ
 opened n xs = map unshifted (take n xs)
 
+-- A stream's reading as it is held.
 abbrev pub readingOf : Stream → ℕ
 readingOf s = shifted (s .reading)
 
@@ -29,6 +31,7 @@ readingOf s = shifted (s .reading)
 unfoldable pub lowOf : Stream → ℕ
 lowOf s = pick (limited s) (shifted (s .low)) 0
 
+-- The high end of its range.
 unfoldable pub highOf : Stream → ℕ
 highOf s = pick (limited s) (shifted (s .high)) mostFlow
 
@@ -45,6 +48,7 @@ HeldAt ss xs ps m k =
     let s = streamAt ss k in
     Held m (weightOf s) (getD xs k 0) (readingOf s) (getD ps (s .from) 0) (getD ps (s .to) 0) (lowOf s) (highOf s)
 
+-- Every stream is so.
 abbrev pub AllHeld : List Stream → List ℕ → List ℕ → ℕ → Type 0
 AllHeld ss xs ps m = (k : ℕ) → k < length ss → HeldAt ss xs ps m k
 

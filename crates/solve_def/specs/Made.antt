@@ -16,6 +16,7 @@ unfoldable pub madeFrom : ℕ → List Stream → ℕ → ℕ → State → ℕ
 madeFrom zero ss d s st = 0
 madeFrom (suc k) ss d s st = let r = improvedAt ss st d s in pick (r .done) (suc (madeFrom k ss d s (r .state))) 0
 
+-- The stuck ones from a place,
 unfoldable pub stuckFrom : ℕ → List Stream → ℕ → ℕ → State → ℕ
 stuckFrom zero ss d s st = 0
 stuckFrom (suc k) ss d s st = let r = improvedAt ss st d s in pick (r .done) (stuckFrom k ss d s (r .state)) 1
@@ -27,6 +28,7 @@ madeTo (suc n) ss d st =
     let e = phaseTo n ss d st in
     madeTo n ss d st + pick (e .full) 0 (madeFrom ((getD (e .state .nets) n 0 - netShift) / d) ss d n (e .state))
 
+-- from the first n places of a phase,
 unfoldable pub stuckTo : ℕ → List Stream → ℕ → State → ℕ
 stuckTo zero ss d st = 0
 stuckTo (suc n) ss d st =
@@ -40,6 +42,7 @@ madeBy (suc n) ss h =
     let e = phase ss (2 ^ suc n) (settled ss h) in
     madeTo places ss (2 ^ suc n) (settled ss h) + pick (e .full) 0 (madeBy n ss (asHint (e .state)))
 
+-- of the phases,
 unfoldable pub stuckBy : ℕ → List Stream → Hint → ℕ
 stuckBy zero ss h = stuckTo places ss 1 (settled ss h)
 stuckBy (suc n) ss h =
@@ -50,5 +53,6 @@ stuckBy (suc n) ss h =
 unfoldable pub made : List Stream → State → ℕ
 made ss st = pick (leb (overSum (st .nets)) mostTried) (madeTo places ss 1 st) (madeBy halvings ss noHint)
 
+-- and of a call.
 unfoldable pub stuck : List Stream → State → ℕ
 stuck ss st = pick (leb (overSum (st .nets)) mostTried) (stuckTo places ss 1 st) (stuckBy halvings ss noHint)

@@ -48,9 +48,11 @@ settledTo ss ps xs (suc n) =
 abbrev pub left : List ℕ → ℕ → ℕ → List ℕ
 left es u x = set es u (getD es u 0 + flowShift - x)
 
+-- The amount x comes to place u.
 abbrev pub come : List ℕ → ℕ → ℕ → List ℕ
 come es u x = set es u (getD es u 0 + x - flowShift)
 
+-- A stream's amount x in the nets: it leaves one end and comes to the other.
 abbrev pub booked : List ℕ → Stream → ℕ → List ℕ
 booked es s x = come (left es (s .from) x) (s .to) x
 
@@ -79,6 +81,7 @@ pub record Improved : Type 0 where
   pub state : State
   pub visited : List Bool
 
+-- A state after an attempt, by its parts.
 abbrev pub improvedBy : Bool → State → List Bool → Improved
 improvedBy b st ls = record { done = b; state = st; visited = ls }
 
@@ -119,6 +122,7 @@ asHint st = record { flows = st .flows; potentials = st .potentials }
 abbrev pub endedBy : Bool → State → List Bool → Ended
 endedBy b st ls = record { full = b; state = st; marked = ls }
 
+-- No set is full so far.
 abbrev pub going : State → Ended
 going st = endedBy false st unmarked
 
@@ -137,6 +141,7 @@ phaseTo (suc n) ss d st =
     let e = phaseTo n ss d st in
     pick (e .full) e (fromPlace ((getD (e .state .nets) n 0 - netShift) / d) ss d n (e .state))
 
+-- From all places.
 abbrev pub phase : List Stream → ℕ → State → Ended
 phase ss d st = phaseTo places ss d st
 
@@ -158,6 +163,7 @@ tiedBy ss xs v i g =
     let ys = augmented ss (g .tree .via) (g .tree .ends) 1 (g .tree .len) v xs in
     pick (g .found) (set ys i (getD ys i 0 - 1)) xs
 
+-- At stream i: as it is, where it is unmetered or cannot carry less at no cost.
 unfoldable pub tiedAt : List Stream → List ℕ → ℕ → List ℕ → List ℕ
 tiedAt ss ps i xs =
     let s = streamAt ss i in

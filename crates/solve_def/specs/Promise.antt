@@ -21,6 +21,7 @@ use Rattle.solve_def.specs.SearchNeeds.{Close}
 unfoldable pub potential : ℕ → ℤ
 potential x = pos x -ℤ pos potentialShift
 
+-- The potential of place u.
 abbrev pub potentialAt : List ℕ → ℕ → ℤ
 potentialAt ps u = potential (getD ps u 0)
 

@@ -17,6 +17,7 @@ abbrev pub fallen : Bool → ℕ → ℕ → ℕ
 fallen true g p = p - g
 fallen false g p = p
 
+-- The same of every place.
 unfoldable pub loweredBy : List Bool → ℕ → List ℕ → List ℕ
 loweredBy [] g ps = ps
 loweredBy (l ∷ ls) g [] = []
@@ -35,6 +36,7 @@ onCrossing (At i g) none at = at i g
 abbrev pub rootAt : ℕ → Tree
 rootAt s = record { visited = set (replicate places false) s true; via = replicate places 0; ends = replicate places 0; len = 0 }
 
+-- One place more: e, over stream i.
 abbrev pub addedTo : Tree → ℕ → ℕ → Tree
 addedTo t i e =
     record { visited = set (t .visited) e true; via = set (t .via) (t .len) i; ends = set (t .ends) (t .len) e; len = t .len + 1 }
@@ -49,6 +51,7 @@ pub record Grown : Type 0 where
   pub tree : Tree
   pub potentials : List ℕ
 
+-- A search by its parts.
 abbrev pub grownBy : Bool → Tree → List ℕ → Grown
 grownBy b t ps = record { found = b; tree = t; potentials = ps }
 

@@ -15,6 +15,7 @@ use Rattle.solve_def.specs.Held.{AllHeld}
 abbrev pub Network : List Stream → ℕ → Type 0
 Network streams n = Accepted (record { units = maxUnits; count = n; streams = streams })
 
+-- Potentials that may be held.
 abbrev pub Potentials : List ℕ → Type 0
 Potentials ps = (u : ℕ) → u < places → getD ps u 0 ≤ potentialShift
 

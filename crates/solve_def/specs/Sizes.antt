@@ -7,6 +7,7 @@ use Rattle.plant_def.specs.Limits.{maxUnits, places, maxWeight, maxStreams}
 abbrev pub mostReading : ℕ
 mostReading = 4000000
 
+-- The greatest size of a range's ends provided for.
 abbrev pub mostRange : ℕ
 mostRange = 2000000000
 

@@ -39,6 +39,7 @@ pub record Looked (ls ms ps : List ℕ) (k e : ℕ) (before : List ℕ) (m : ℕ
   pub coded : Coded vs after r
   pub same : shown vs after ≡ lookedAt ls ms ps vs k e (shown vs before)
 
+-- And whichever places are visited.
 abbrev pub LookedAlong : List ℕ → List ℕ → List ℕ → Spot → List ℕ → List ℕ → ℕ → Type 0
 LookedAlong ls ms ps at before after r = (length after ≡ places)
     × ((vs : List Bool) → Coded vs before (at .fringe) → Looked ls ms ps (at .distance) (at .place) before (at .fringe) after r vs)

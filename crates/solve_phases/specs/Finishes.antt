@@ -6,6 +6,7 @@ use Rattle.solve_def.specs.declared.State.{State}
 use Rattle.solve_def.specs.SolverNeeds.{AtHint}
 use Rattle.solve_arcs.specs.ArcNeeds.{Laying}
 
+-- What the phases from a hint need.
 pub record Finishable (ls rs : List ℕ) (st : State) : Type 0 where
   pub laying : Laying ls rs
   pub at-hint : AtHint (take (laying .n) (laying .streams)) st

@@ -32,6 +32,7 @@ use Rattle.solve_def.proofs.Theorem.{network-of, solvable-in}
 use Rattle.solve_forest.proofs.Routes.{routes-none}
 
 module _ (p : Arrays.Plant) (a : Accepted p) where
+  -- The labels of the groups.
   pub labels-of : Labels (labelsOf unmeteredOnly (plantOf p))
   labels-of = record {
     long = label-long unmeteredOnly (plantOf p) (a .within .few-units) (inside-of p a);
@@ -54,6 +55,7 @@ module _ (p : Arrays.Plant) (a : Accepted p) where
       low u h = omega (arith, label-low unmeteredOnly (plantOf p) (a .within .few-units) (inside-of p a) u (omega (arith, a .within .few-units)))
 
   module _ {ps xs : List ℕ} (v : Level (labelsOf unmeteredOnly (plantOf p)) potentialShift potentialSpread ps) (r : Routes (plantOf p .streams) xs) where
+    -- Potentials by label, with the routed amounts, are a hint,
     pub level-hinted : Hinted (plantOf p .streams) (record { flows = xs; potentials = ps })
     level-hinted = record {
       agree = λ k l e. v .level _ _ (omega (arith, within-of p a .each k l .from-in, a .within .few-units)) (omega (arith, within-of p a .each k l .to-in, a .within .few-units))
@@ -70,6 +72,7 @@ module _ (p : Arrays.Plant) (a : Accepted p) where
     abbrev none : Hint
     none = record { flows = replicate maxStreams flowShift; potentials = ps }
 
+    -- one from which amounts can be settled,
     pub level-ready : Ready (plantOf p .streams) none
     level-ready = hinted-ready (p .streams) (p .count) (network-of p a) none (level-hinted v routes-none)
 
@@ -77,6 +80,7 @@ module _ (p : Arrays.Plant) (a : Accepted p) where
     abbrev xs : List ℕ
     xs = settledTo (plantOf p .streams) ps (replicate maxStreams flowShift) (p .count)
 
+    -- and the amounts are those routed along the forest.
     pub level-routes : Routes (plantOf p .streams) xs
     level-routes = record {
       long = settled-long (plantOf p .streams) ps (replicate maxStreams flowShift) (p .count) ∙ routes-none {ss = plantOf p .streams} .long;
@@ -91,6 +95,7 @@ module _ (p : Arrays.Plant) (a : Accepted p) where
 
     -- What is routed leaves the metered amounts settled.
     module _ {zs ys : List ℕ} (e : zs ≡ xs) (r : Routes (plantOf p .streams) ys) (kept : Kept (p .streams) (p .count) zs ys) where
+      -- Settled once more at these potentials the amounts stay,
       pub routed-again : settledTo (plantOf p .streams) ps ys (p .count) ≡ ys
       routed-again = settled-again (plantOf p .streams) ps ys (p .count) (λ k l m.
           kept .each k l (subst (λ (s : Stream). s .metered ≡ true) (listed-at p a k l) m)
@@ -98,6 +103,7 @@ module _ (p : Arrays.Plant) (a : Accepted p) where
           ∙ settled-at (plantOf p .streams) ps (replicate maxStreams flowShift) (p .count) k (omega (arith, routes-none {ss = plantOf p .streams} .long, a .within .few-streams)) l
           ∙ rw m)
 
+      -- so they are settled at a hint.
       pub routed-start : AtHint (plantOf p .streams) (record { flows = ys; potentials = ps; nets = netsTo (plantOf p .streams) ys (p .count) })
       routed-start = record {
         hint = record { flows = ys; potentials = ps };

@@ -63,6 +63,7 @@ surveyed-by p w r n c l h few = record {
 
 -- A plant in its array: its first streams, and its survey by their counts.
 module _ (p : Arrays.Plant) (a : Accepted p) (few : p .count ≤ maxSurveyed) where
+  -- Its first streams are few enough to be surveyed.
   pub few-of : Few (p .count) (take maxSurveyed (p .streams))
   few-of = record {
     few = few;

@@ -16,6 +16,7 @@ use Rattle.flow_def.specs.Metering.{metering}
 abbrev pub bare : Plant → Plant
 bare p = record { units = p .units; streams = map (λ (s : Stream). unmetered (s .from) (s .to)) (p .streams) }
 
+-- With the streams of a set metered, and no others.
 abbrev pub laidOut : List Bool → Plant → Plant
 laidOut set p = metering set (bare p)
 

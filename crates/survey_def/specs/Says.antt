@@ -14,6 +14,7 @@ use Rattle.survey_def.specs.Layouts.{Counted}
 abbrev pub maxSurveyed : ℕ
 maxSurveyed = 12
 
+-- A count for each number of metered streams, 0 among them.
 abbrev pub surveySize : ℕ
 surveySize = suc maxSurveyed
 

@@ -82,6 +82,7 @@ meters-worth-a-visit = record {
 
 -- By the plant: no flow in range, or the list.
 module _ (p : Plant) (w : Within p) (r : Visits) where
+  -- No flow in range: 19.
   pub none-balanced : (ms : List Bool) → Overfull p ms → r ≡ noVisits 19 → VisitsFor p r
   none-balanced ms m e = record {
     unbalanced = λ n. e;
@@ -97,6 +98,7 @@ module _ (p : Plant) (w : Within p) (r : Visits) where
 
 -- By the reading.
 module _ (file : List ℕ) (y : Read) (e : y ≡ readOf (readPlant file)) (r : Visits) where
+  -- A file that is refused: its number, and no list.
   pub unread : (y .number ≡ 0 → ⊥) → r ≡ noVisits (y .number) → VisitsSays file r
   unread n q = subst (λ (g : Got). VisitsWith g r) (sym (read-bad (readPlant file) y e n)) q
 

@@ -33,6 +33,7 @@ VisitsSays file = ReadAs noVisits VisitsFor (readPlant file)
 abbrev pub VisitsWith : Got → Visits → Type 0
 VisitsWith = ReadAs noVisits VisitsFor
 
+-- What is promised of every list.
 pub record Meters-worth-a-visit : Type 0 where
   -- A plant that has a sheet has one without any of its meters, so that no entry is refused; and no entry is above the sheet's cost.
   pub feasible : (p : Plant) (k : ℕ) (xs : List ℤ) → allowed p xs ≡ true → allowed (without p k) xs ≡ true
