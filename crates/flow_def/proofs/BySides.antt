@@ -79,7 +79,7 @@ module _ (ls sides : List ℕ) (s : Stream) where
   pub parted-some : (h : ℕ) → (h ≡ 0 → ⊥) → turned h (bitXor (apart sides s) (2 ^ h)) ls sides ≡ parted h ls s sides
   parted-some h e = rw (ne-eqb h 0 e) refl
 
--- A class by its cases.
+-- The class of a metered stream, by whether its ends have one label.
 pub in-metered : (ls : List ℕ) (s : Stream) (h looped : ℕ) → s .metered ≡ true → (b : Bool) → b ≡ oneLabel ls (s .from) (s .to)
     → pick b AsRead Adjusted ≡ classIn ls s h looped
 in-metered ls s h looped m b e = rw (m, e) refl
@@ -237,7 +237,7 @@ parted-long h ls s sides l =
     by-cases (eqb h 0) (λ e. rw e l)
     (λ e. rw e (values-long {A = ℕ} (λ u. pick (eqb (getD ls u 0) h) (bitXor (getD sides u 0) (bitXor (apart sides s) (2 ^ h))) (getD sides u 0)) places))
 
--- There is one side for each place.
+-- The list of sides has one entry for each place.
 pub sides-long : (ss : List Stream) (k : ℕ) → length (sidesAfter ss k) ≡ places
 unfolding sidesAfter
 sides-long ss zero = length-replicate {A = ℕ} places 0

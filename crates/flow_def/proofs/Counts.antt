@@ -74,7 +74,7 @@ count-one (suc n) i f g l s t e = elim (ℕ-discrete n i) [
     last : n ≡ i → (h : ℕ → Bool) {b : Bool} → h i ≡ b → h n ≡ b
     last q h t = rw q t
 
--- All but number i, which passes: one less.
+-- All but number i, which passes: at least one less.
 pub count-but : (n i : ℕ) (f : ℕ → Bool) → i < n → f i ≡ true → suc (countTo n (λ k. f k && not (eqb k i))) ≤ countTo n f
 count-but zero i f l t = absurd (omega arith)
 count-but (suc n) i f l t = elim (ℕ-discrete n i) [

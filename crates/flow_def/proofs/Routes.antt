@@ -68,7 +68,7 @@ brought-back u s x =
     ∙ ap₂ _-ℤ_ (only-neg (s .to) x u) (only-neg (s .from) x u)
     ∙ turned (only (s .from) x u) (only (s .to) x u)
 
--- Nets: of no flow, of two flows together, of one stream alone.
+-- With nothing on any stream the net of a place is 0.
 pub net-none : (ss : List Stream) (u : ℕ) → netOf ss (λ k. pos 0) u ≡ pos 0
 net-none ss u = sum-none (length ss) _ (λ k l. brought-none u (streamAt ss k))
 

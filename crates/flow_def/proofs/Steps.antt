@@ -201,7 +201,7 @@ rise-tied w A B C D p q (suc (suc t)) l h e k =
       mul-le-mul-right (suc (suc t)) (h (omega arith)),
     ))
 
--- Where another amount in range costs the same, against the potentials, the two are tied.
+-- Where another amount in range costs no more, against the potentials, the two are tied.
 pub tied : (w : ℕ) (d e c : ℤ) (a b : Bool) → 1 ≤ w → Step 1 w d c a b → Free a b d e
     → Le (pos (w * square e) +ℤ c *ℤ d) (pos (w * square d) +ℤ c *ℤ e) → Tied w d e c a b
 tied w d e c a b l s g k = ⊎-elim

@@ -24,11 +24,11 @@ use Rattle.flow_def.proofs.Ranges.{balanced-of, unmetered-moves}
 use Rattle.flow_def.proofs.Potentials.{Certificate, least, ties}
 use Rattle.flow_def.proofs.Order.{AgreeTo, LeadsTo, in-order}
 
--- A stream that cannot carry less, or more, at no cost: that would cost, or leave its range.
+-- A stream that cannot carry less at no cost: less would cost, or leave its range.
 abbrev pub NoLess : (ℕ → ℤ) → Stream → ℤ → Type 0
 NoLess π s x = falls s x ≡ true → Lt (leastClimb s x) (climb π s)
 
--- The stream's amount cannot fall at no cost, against the potentials.
+-- The stream's amount cannot rise at no cost, against the potentials.
 abbrev pub NoMore : (ℕ → ℤ) → Stream → ℤ → Type 0
 NoMore π s x = rises s x ≡ true → Lt (climb π s) (mostClimb s x)
 

@@ -38,16 +38,16 @@ turned h by ls sides = values places (λ u. pick (eqb (getD ls u 0) h) (bitXor (
 abbrev pub parted : ℕ → List ℕ → Stream → List ℕ → List ℕ
 parted h ls s sides = pick (eqb h 0) sides (turned h (bitXor (apart sides s) (2 ^ h)) ls sides)
 
--- After k steps.
+-- The label that stream k takes away, 0 where it takes none.
 abbrev pub takenAt : List Stream → ℕ → ℕ
 takenAt ss k = takenBy (labelsAfter unmeteredOnly ss k) (streamAt ss k)
 
--- The sides of the places after k streams,
+-- The sides of the places after k streams.
 unfoldable pub sidesAfter : List Stream → ℕ → List ℕ
 sidesAfter ss zero = replicate places 0
 sidesAfter ss (suc k) = parted (takenAt ss k) (labelsAfter unmeteredOnly ss k) (streamAt ss k) (sidesAfter ss k)
 
--- and the loops met, bit 0 set from the start.
+-- The streams found on a loop after k streams: bit h for the one that took label h away; bit 0 is set from the start.
 unfoldable pub loopedAfter : List Stream → ℕ → ℕ
 loopedAfter ss zero = 1
 loopedAfter ss (suc k) = bitOr (loopedAfter ss k) (loopedBy (labelsAfter unmeteredOnly ss k) (sidesAfter ss k) (streamAt ss k))

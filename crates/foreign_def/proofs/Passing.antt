@@ -48,7 +48,7 @@ use Rattle.foreign_def.proofs.Sums.{crossing-sums}
 
 -- A sheet that tells of a plant what it has to has the classes, the degrees and the verdict as they are computed.
 module _ (p : Plant) (w : Within p) (s : SheetParts) (t : Tells p s) where
-  -- The class of stream k.
+  -- The class that it tells of stream k is the computed one.
   pub told-class : (k : ℕ) → k < countOf p → classOn s k ≡ classOf p k
   told-class k l = go (classOf p k) refl
     where
@@ -71,7 +71,7 @@ module _ (p : Plant) (w : Within p) (s : SheetParts) (t : Tells p s) where
 
 -- Our sheet of a cheapest flow: it tells what it has to, and shows the flow.
 module _ (p : Plant) (w : Within p) (xs : List ℤ) (c : Cheapest p xs) (office n : ℕ) where
-  -- It tells what it has to.
+  -- Our own sheet tells what it has to.
   pub ours-tell : Tells p (plantParts office p xs n)
   ours-tell = tells p w (decided-shown p w xs (c .balance) (decided p w)) xs c (plantParts office p xs n) (told p w xs c totalKind office n)
 
@@ -82,7 +82,7 @@ module _ (p : Plant) (w : Within p) (xs : List ℤ) (c : Cheapest p xs) (office 
 module _ (p : Plant) (w : Within p) where
   -- A sheet like ours.
   module _ (sheet : SheetParts) (o : Ours p sheet) where
-    -- The same number of entries.
+    -- It has as many entries as the plant has streams.
     pub like-long : length (sheet .streams) ≡ countOf p
     like-long = o .2 .count ∙ o .1 .listed
 

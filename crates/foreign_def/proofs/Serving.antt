@@ -68,7 +68,7 @@ module _ (p : Arrays.Plant) (a : Accepted p) (s : Solved) (r : Solution p s) whe
 
 -- Where some flow is in range there are numbers; where a set is overfull there is none.
 module _ (p : Plant) (w : Within p) (r : PlaceNumbers) where
-  -- The solver's potentials are such numbers.
+  -- Where some flow is in range, numbers of the places are the plant's answer.
   pub numbers-of : (xs : List ℤ) → allowed p xs ≡ true → Numbered p r → NumbersOf p r
   numbers-of xs h n = record { some = λ ys e. n; none = λ none. clash (allowed p xs) h (none xs) }
 

@@ -33,7 +33,7 @@ widens z f = rw (toZ-ofZ w32 z f) (wide z f)
 
 -- In range, by the branches.
 module _ (s : Stream) (x : ℤ) where
-  -- Without limits any flow is in range, and may be less or more.
+  -- Without a range any amount is in range, and may fall or rise.
   pub unlimited : limited s ≡ false → (true ≡ inRange 1 s x) × (true ≡ falls s x) × (true ≡ rises s x)
   unlimited e = (rw e, rw e, rw e)
 
@@ -196,7 +196,7 @@ module _ (w : ℕ) (d : ℤ) (f : SFits w64 d) (light : w ≤ maxWeight) (near :
 
 -- A difference of two numbers that came through 64 bits.
 module _ (x y : ℤ) (fx : SFits w64 x) (fy : SFits w64 y) (fd : SFits w64 (x -ℤ y)) where
-  -- It fits 64 bits, taken through them.
+  -- The difference fits 64 bits.
   pub coded-fits : SFits w64 (toZ w64 (ofZ w64 x) -ℤ toZ w64 (ofZ w64 y))
   coded-fits = rw (toZ-ofZ w64 x fx, toZ-ofZ w64 y fy) fd
 

@@ -28,7 +28,7 @@ use Rattle.purchase_def.proofs.Sets.{bought-by-labels, sum-most, prices-same}
 
 -- A metered stream is not bought; another by the labels of those that go before it.
 module _ (p : Arrays.Plant) (a : Accepted p) (price : ℕ → ℕ) (i : ℕ) (l : i < p .count) where
-  -- A metered stream is not.
+  -- A metered stream is not bought.
   pub metered-not : getD (p .streams) i noStream .metered ≡ true → false ≡ bought (plantOf p) price i
   metered-not t = rw (listed-at p a i l, t)
 

@@ -53,7 +53,7 @@ weight-alone Given s t e = refl
 weight-alone Withheld s t e = refl
 
 module _ (f : Stream → Stream) (keep : Keeps f) where
-  -- Stream k, moved.
+  -- Stream k of the streams moved is stream k, moved.
   pub moved-at : (ss : List Stream) (k : ℕ) → streamAt (map f ss) k ≡ f (streamAt ss k)
   moved-at ss k = ap (λ (d : Stream). streamFrom d) (sym (keep .empty)) ∙ List·getD-map f ss k noStream
     where

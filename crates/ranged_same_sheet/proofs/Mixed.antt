@@ -27,7 +27,7 @@ full-streams =
 apart : mixed .sheet ≡ mixedMoved .sheet → ⊥
 apart e = let z : _≡_ {A = ℕ} 64 0 = ap (λ (l : List ℕ). getD l 17 0) e in omega arith
 
--- Both examples.
+-- Both examples hold: another sheet in the ranged form, and refusal 19.
 pub examples : Mixed
 unfolding balanceOf full-streams
 examples = record {

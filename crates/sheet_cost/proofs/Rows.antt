@@ -40,7 +40,7 @@ apart-halved w x y t o e =
     let f : 2 * (w * y) - 2 * (w * x) ≡ t * (2 * w) = rw e (omega arith) in
     rw f (mul-div-cancel t (omega arith))
 
--- Twice the weight goes out of a difference of products.
+-- How far twice the weight times two numbers are apart, over twice the weight, is how far the numbers are apart.
 pub apart-is : (w x y : ℕ) → 1 ≤ w → ((2 * (w * x) - 2 * (w * y)) + (2 * (w * y) - 2 * (w * x))) / (2 * w) ≡ (x - y) + (y - x)
 apart-is w x y o = elim (decLe x y) [
   | yes l ↦
@@ -99,7 +99,7 @@ module _ (p : Plant) {ls rs : List ℕ} (w : LaidOf p ls rs) (xs : List ℕ) (a 
     amount : amountAt (map unshifted xs) i ≡ unshifted (getD xs i 0)
     amount = map-at unshifted xs i (pos 0) 0 (omega (arith, w .accepted .within .few-streams))
 
-    -- One stream more, by its row.
+    -- With the next stream's cost added, as its row gives it, one stream more is summed up.
     pub held-more : (k new : ℕ)
         → ((R : ℕ) → getD rs (4 * i + 1) 0 ≡ 2 * (getD rs (4 * i) 0 * R) → k ≡ capped (getD rs (4 * i) 0 * apartSquared (getD xs i 0) R))
         → new ≡ capped (sum + k) → Summed p (map unshifted xs) new (i + 1)

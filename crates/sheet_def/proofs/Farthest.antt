@@ -27,7 +27,7 @@ tieSheet =
       total = record { kind = totalKind; office = 0; sheet = 1; cost = 50; degrees = 1; verdict = 0 };
     }
 
--- The two differ by as much as the bound allows.
+-- The tie's sheet and its flow in fractions differ by as much as the bound allows.
 pub tie-farthest : Farthest tie 2 (pos 203 ∷ pos 203 ∷ [])
 unfolding tiePlant tieSheet
 tie-farthest = record {

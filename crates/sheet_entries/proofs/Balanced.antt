@@ -59,7 +59,7 @@ module _ (p : Arrays.Plant) (xs : List ℤ) (a : Accepted p) (b : balanced (plan
       sym (getD-take (p .count) xs k (pos 0) l) ∙ sym (number-is (plantOf p) (within-of p a) (take (p .count) xs) b k (omega arith) n))
       (λ t. let l = ltb-false k (p .count) t in absurd (n (class-past (plantOf p) k (omega arith))))
 
-  -- Each stream has its class and the number that the balance forces.
+  -- Entries by the amounts of a balanced flow are entries by the streams' numbers.
   pub entries-shown : entriesOf (classesOf (plantOf p)) xs ≡ values maxStreams (λ k. entryOf (classOf (plantOf p) k) (numberOf (plantOf p) (take (p .count) xs) k))
   unfolding entriesOf
   entries-shown =

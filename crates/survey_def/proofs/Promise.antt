@@ -63,7 +63,7 @@ surveyed-by p w r n c l h few = record {
 
 -- A plant in its array: its first streams, and its survey by their counts.
 module _ (p : Arrays.Plant) (a : Accepted p) (few : p .count ≤ maxSurveyed) where
-  -- Its first streams are few enough to be surveyed.
+  -- Its first streams, as many as are surveyed, are within the limits of a plant.
   pub few-of : Few (p .count) (take maxSurveyed (p .streams))
   few-of = record {
     few = few;
