@@ -24,16 +24,17 @@ use Rattle.flow_def.specs.Flows.{streamAt}
 use Rattle.flow_def.specs.Classes.{has, joinedTo, unmeteredBut, classOf}
 use Rattle.flow_def.specs.Chains.{unmeteredOnly, Chain}
 use Rattle.flow_def.specs.Labels.{relabelled, stepped, labelsAfter, oneLabel}
-use Rattle.flow_def.specs.Sides.{bit, apart, takenBy, loopedBy, turned, parted, takenAt, sidesAfter, loopedAfter}
+use Rattle.num_bytes.specs.Sums.{bit}
+use Rattle.flow_def.specs.Sides.{apart, takenBy, loopedBy, turned, parted, takenAt, sidesAfter, loopedAfter}
 use Rattle.flow_def.specs.declared.Cuts.{Cuts}
 use Rattle.flow_def.specs.Calls.{Cutting, classIn}
 use Rattle.flow_def.proofs.Reach.{Inside, joined→chain, chain→joined}
 use Rattle.flow_def.proofs.Labels.{min-max, stepped-none, stepped-one, labelling, label→chain}
 use Rattle.flow_def.proofs.Grouping.{labels-are}
-use Rattle.flow_def.proofs.Lists.{values-long, values-at, Written, written-all}
+use Rattle.num_bytes.proofs.Lists.{values-long, values-at, Written, written-all}
 use Rattle.flow_def.proofs.Nets.{inside-of}
 use Rattle.flow_def.proofs.ByLabels.{class-metered, class-joined, same-before}
-use Rattle.flow_def.proofs.Binary.{bit-zero, bit-one, bit-or}
+use Rattle.num_bytes.proofs.Binary.{bit-zero, bit-one, bit-or}
 use Rattle.flow_def.proofs.Parted.{chain-level, Loose, label, side, Cut, Parted, part-metered, part-joined}
 use Rattle.flow_def.proofs.Parting.{part-joining}
 

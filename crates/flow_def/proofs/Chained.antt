@@ -17,8 +17,8 @@ use Rattle.flow_def.specs.declared.Class.the-variants.{Adjusted, AsRead,
 use Rattle.flow_def.specs.Flows.{streamAt, amountAt, balanced}
 use Rattle.flow_def.specs.Chains.{unmeteredOnly, Chain}
 use Rattle.flow_def.specs.Classes.{oneGroup, classOf}
-use Rattle.flow_def.proofs.Integers.{canon, Z·diff}
-use Rattle.flow_def.proofs.Sums.{sum-same, sum-times}
+use Rattle.num_bytes.proofs.Integers.{canon, Z·diff}
+use Rattle.num_bytes.proofs.Sums.{sum-same, sum-times}
 use Rattle.flow_def.proofs.Reach.{joined→chain, chain→joined}
 use Rattle.flow_def.proofs.Nets.{brought, inside, balanced-size, balanced-nets, listed, listed-size, listed-at, listed-balanced}
 use Rattle.flow_def.proofs.Given.{class-means, given-agree}

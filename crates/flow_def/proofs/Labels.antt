@@ -19,7 +19,7 @@ use Rattle.flow_def.specs.Classes.{has, joinedTo}
 use Rattle.flow_def.specs.Chains.{Counting, Chain}
 use Rattle.flow_def.specs.Labels.{ownNumbers, renamed, relabelled, united, stepped, labelsAfter, labelsOf, oneLabel}
 use Rattle.flow_def.specs.Groups.{firstOnly, AmongPlaces}
-use Rattle.flow_def.proofs.Lists.{map-at, values-long, values-at, Written, written-all}
+use Rattle.num_bytes.proofs.Lists.{map-at, values-long, values-at, Written, written-all}
 use Rattle.flow_def.proofs.Reach.{Inside, chain-trans, chain-sym, chain-map, joined→chain, chain→joined}
 
 -- A choice of one value.

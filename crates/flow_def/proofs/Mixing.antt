@@ -10,7 +10,7 @@ use Rattle.plant_def.specs.declared.Stream.{Stream}
 use Rattle.plant_def.specs.Plants.{Plant}
 use Rattle.plant_def.specs.Within.{Within}
 use Rattle.flow_def.specs.Flows.{amountAt, balanced, inRange, allowedOver}
-use Rattle.flow_def.proofs.Integers.{up, dn, Le, plus-val, product}
+use Rattle.num_bytes.proofs.Integers.{up, dn, Le, plus-val, product}
 use Rattle.flow_def.proofs.Nets.{countOf, streamOf, listed, listed-at, listed-balanced, balanced-nets}
 use Rattle.flow_def.proofs.Routes.{net-plus}
 use Rattle.flow_def.proofs.Chained.{times-balanced}

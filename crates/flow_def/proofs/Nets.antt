@@ -22,10 +22,10 @@ use Rattle.num_bytes.specs.Inner.{values}
 use Rattle.flow_def.specs.Classes.{has, sideOut}
 pub use Rattle.flow_def.specs.Nets.{brought, netOf}
 use Rattle.flow_def.specs.Certificate.{climb}
-use Rattle.flow_def.proofs.Lists.{values-long, values-at}
-use Rattle.flow_def.proofs.Integers.{canon, Z·diff, times-plus, one-times, neg-times, size-none}
+use Rattle.num_bytes.proofs.Lists.{values-long, values-at}
+use Rattle.num_bytes.proofs.Integers.{canon, Z·diff, times-plus, one-times, neg-times, size-none}
 use Rattle.flow_def.proofs.Reach.{Inside}
-use Rattle.flow_def.proofs.Sums.{sum, sum-same, sum-none, sum-plus, sum-times, sum-swap, sum-only, sum-front}
+use Rattle.num_bytes.proofs.Sums.{sum, sum-same, sum-none, sum-plus, sum-times, sum-swap, sum-only, sum-front}
 
 -- The number of a plant's streams.
 abbrev pub countOf : Plant → ℕ

@@ -21,7 +21,7 @@ use Rattle.flow_def.specs.Labels.{ownNumbers, labelsAfter}
 use Rattle.flow_def.specs.Groups.{StepSays}
 use Rattle.flow_def.specs.Sides.{apart, takenBy, loopedBy, turned, parted, takenAt, sidesAfter, loopedAfter}
 use Rattle.flow_def.specs.Calls.{Cutting}
-use Rattle.flow_def.proofs.Lists.{Written, written-none, written-put}
+use Rattle.num_bytes.proofs.Lists.{Written, written-none, written-put}
 use Rattle.flow_def.proofs.Labels.{step-none, labels-long}
 use Rattle.flow_def.proofs.Grouping.{groups-after, step-said, ends-in}
 use Rattle.flow_def.proofs.Nets.{inside-of}

@@ -12,8 +12,8 @@ use Rattle.plant_def.specs.Plants.{Plant}
 use Rattle.plant_def.specs.Within.{Within}
 use Rattle.flow_def.specs.Flows.{streamAt, amountAt, balanced, allowed, square, cost, costOver}
 use Rattle.flow_def.specs.Certificate.{weightOf, climb, rises, falls}
-use Rattle.flow_def.proofs.Integers.{Le, canon, Z·diff, plus-val, one-times}
-use Rattle.flow_def.proofs.Sums.{sum, sum-same, sum-plus, sum-times, sum-le, sum-tight}
+use Rattle.num_bytes.proofs.Integers.{Le, canon, Z·diff, plus-val, one-times}
+use Rattle.num_bytes.proofs.Sums.{sum, sum-same, sum-plus, sum-times, sum-le, sum-tight}
 use Rattle.flow_def.proofs.Nets.{countOf, streamOf, sum-listed, balanced-size, no-gain}
 use Rattle.flow_def.proofs.Steps.{Step, Tied, whole, tied}
 use Rattle.flow_def.proofs.Ranges.{balanced-of, range-of, free-whole}

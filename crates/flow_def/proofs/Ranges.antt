@@ -14,7 +14,7 @@ use Rattle.plant_def.specs.declared.Stream.{Stream}
 use Rattle.plant_def.specs.Plants.{Plant, limited}
 use Rattle.flow_def.specs.Flows.{streamAt, amountAt, balanced, inRange, inRanges, allowedOver, nearest}
 use Rattle.flow_def.specs.Certificate.{rises, falls}
-use Rattle.flow_def.proofs.Integers.{up, dn, Le, Lt, leZ-le, le-leZ, ltZ-lt, lt-ltZ, Le-unless, Le-antisym, minus-val, product, one-times, val}
+use Rattle.num_bytes.proofs.Integers.{up, dn, Le, Lt, leZ-le, le-leZ, ltZ-lt, lt-ltZ, Le-unless, Le-antisym, minus-val, product, one-times, val}
 use Rattle.flow_def.proofs.Nets.{countOf, streamOf, balanced-size}
 use Rattle.flow_def.proofs.Steps.{Free}
 

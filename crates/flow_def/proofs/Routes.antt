@@ -13,8 +13,8 @@ use Rattle.num_bytes.proofs.Tests.{clash}
 use Rattle.plant_def.specs.declared.Stream.{Stream}
 use Rattle.flow_def.specs.Flows.{streamAt}
 use Rattle.flow_def.specs.Chains.{Counting, Chain}
-use Rattle.flow_def.proofs.Integers.{canon, Z·diff, plus-four}
-use Rattle.flow_def.proofs.Sums.{sum-same, sum-none, sum-plus, sum-only}
+use Rattle.num_bytes.proofs.Integers.{canon, Z·diff, plus-four}
+use Rattle.num_bytes.proofs.Sums.{sum-same, sum-none, sum-plus, sum-only}
 use Rattle.flow_def.proofs.Nets.{brought, netOf}
 
 -- The amount t at one number, of a place or a stream, and nothing at any other.

@@ -4,7 +4,8 @@ use lib.IntN.{ℤ, pos, _+ℤ_, _-ℤ_, _*ℤ_}
 use Prim.Native.Nat.{ℕ, suc, _*_}
 use native.Mathlib.Omega.{arith}
 use Rattle.flow_def.specs.Flows.{square}
-use Rattle.flow_def.proofs.Integers.{canon, Z·diff, square-is}
+use Rattle.num_bytes.proofs.Integers.{canon, Z·diff}
+use Rattle.flow_def.proofs.Squares.{square-is}
 
 weighed-square : (w : ℕ) (x : ℤ) → pos (w * square x) ≡ pos w *ℤ (x *ℤ x)
 weighed-square w x = ap (λ (z : ℤ). pos w *ℤ z) (square-is x)

@@ -9,7 +9,8 @@ use native.Mathlib.Omega.{arith}
 use native.Mathlib.Decide.{decLe}
 use Rattle.flow_def.specs.Flows.{square}
 use Rattle.flow_def.specs.Certificate.{lower, upper}
-use Rattle.flow_def.proofs.Integers.{up, dn, diff, Le, Lt, canon, Z·diff, diff-val, diff-iff, plus-val, same, val, square-diff, between}
+use Rattle.num_bytes.proofs.Integers.{up, dn, diff, Le, Lt, canon, Z·diff, diff-val, diff-iff, plus-val, same, val, between}
+use Rattle.flow_def.proofs.Squares.{square-diff}
 
 -- The condition, at step Δ: the potential difference c of a stream of weight w whose amount is d above its reading is within bounds,
 -- the lower where the amount may be less (a), the upper where it may be more (b).

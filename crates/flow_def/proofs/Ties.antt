@@ -16,8 +16,8 @@ use Rattle.plant_def.specs.Plants.{Plant}
 use Rattle.plant_def.specs.Within.{Within}
 use Rattle.flow_def.specs.Flows.{streamAt, amountAt, allowed, cost, Cheapest}
 use Rattle.flow_def.specs.Certificate.{weightOf, climb, lower, upper, leastClimb, mostClimb, rises, falls}
-use Rattle.flow_def.proofs.Integers.{Le, Lt, Le-unless, val, plus-val, minus-val, up-neg, dn-neg}
-use Rattle.flow_def.proofs.Sums.{sum-tight}
+use Rattle.num_bytes.proofs.Integers.{Le, Lt, Le-unless, val, plus-val, minus-val, up-neg, dn-neg}
+use Rattle.num_bytes.proofs.Sums.{sum-tight}
 use Rattle.flow_def.proofs.Nets.{countOf, streamOf, crossing, no-crossing, balanced-size}
 use Rattle.flow_def.proofs.Steps.{Step, Tied, level, above, below, free}
 use Rattle.flow_def.proofs.Ranges.{balanced-of, unmetered-moves}

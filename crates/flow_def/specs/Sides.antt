@@ -1,8 +1,7 @@
 -- The streams that join two groups, in one pass over the streams. Each takes a label away, the higher one of its ends, and bit h
 -- of a place's sides tells on which side of the stream that took label h away the place lies.
 use mathlib.Core.List.{List}
-use Prim.Native.Nat.{ℕ, zero, suc, _/_, _%_, _^_, max}
-use mathlib.Core.Bool.{Bool}
+use Prim.Native.Nat.{ℕ, zero, suc, _^_, max}
 use lib.Dec.{eqb}
 use lib.ListN.{getD, replicate}
 use lib.Bits.{bitOr, bitXor}
@@ -13,10 +12,6 @@ use Rattle.flow_def.specs.Flows.{streamAt}
 use Rattle.num_bytes.specs.Inner.{values}
 use Rattle.flow_def.specs.Chains.{unmeteredOnly}
 use Rattle.flow_def.specs.Labels.{labelsAfter, oneLabel}
-
--- Bit h of a number.
-abbrev pub bit : ℕ → ℕ → Bool
-bit h x = eqb (x / 2 ^ h % 2) 1
 
 -- The label that a stream takes away, 0 where it takes none.
 abbrev pub takenBy : List ℕ → Stream → ℕ

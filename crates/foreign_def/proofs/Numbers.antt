@@ -4,7 +4,7 @@ use mathlib.Core.Bool.{true}
 use mathlib.Core.List.{List}
 use mathlib.Core.Logic.{⊎-elim}
 use lib.IntN.{ℤ, pos, _-ℤ_, natAbs}
-use Prim.Native.Nat.{ℕ, _+_, _≤_, _<_}
+use Prim.Native.Nat.{ℕ, _≤_, _<_}
 use native.Mathlib.Omega.{arith}
 use lib.ListN.{getD}
 use Rattle.num_bytes.proofs.Tests.{by-cases}
@@ -14,7 +14,7 @@ use Rattle.plant_def.specs.Says.{plantOf}
 use Rattle.plant_def.specs.Within.{Within, Accepted}
 use Rattle.flow_def.specs.Flows.{amountAt, OfLeastCost}
 use Rattle.flow_def.specs.Certificate.{weightOf, climb, rises, falls}
-use Rattle.flow_def.proofs.Integers.{same, val, minus-val, size-val, parts}
+use Rattle.num_bytes.proofs.Integers.{same, val, minus-val, size-val, parts}
 use Rattle.flow_def.proofs.Nets.{countOf, streamOf}
 use Rattle.flow_def.proofs.Potentials.{StepAt, Certificate, ties}
 use Rattle.solve_def.specs.Sizes.{potentialShift}

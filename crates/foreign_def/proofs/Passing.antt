@@ -1,7 +1,7 @@
 -- What passes has least cost; and potentials that certify a flow pass every sheet that shows a flow of least cost.
 use mathlib.Core.Path.{_≡_, refl, sym, _∙_, ap, ap₂, subst}
 use mathlib.Core.Bool.{Bool, true, false, not}
-use mathlib.Core.List.{List, []}
+use mathlib.Core.List.{List}
 use lib.IntN.{ℤ, pos, _-ℤ_, natAbs}
 use Prim.Native.Nat.{ℕ, suc, _≤_, _<_}
 use native.Mathlib.Nat.{le-antisymm}
@@ -19,9 +19,9 @@ use Rattle.flow_def.specs.Classes.{has, joinedTo, classOf, degrees}
 use Rattle.flow_def.specs.Test.{verdictAt}
 use Rattle.flow_def.specs.Shown.{adjusted}
 use Rattle.flow_def.specs.Certificate.{climb}
-use Rattle.flow_def.proofs.Integers.{minus-none, none-minus}
-use Rattle.flow_def.proofs.Lists.{values-long, values-at}
-use Rattle.flow_def.proofs.Sums.{sum-same}
+use Rattle.num_bytes.proofs.Integers.{minus-none, none-minus}
+use Rattle.num_bytes.proofs.Lists.{values-long, values-at}
+use Rattle.num_bytes.proofs.Sums.{sum-same}
 use Rattle.flow_def.proofs.Nets.{countOf, streamOf, inside, crossing, crossing-level, no-crossing}
 use Rattle.flow_def.proofs.Reach.{chain-map, joined→chain, chain→joined}
 use Rattle.flow_def.proofs.Given.{class-means}

@@ -2,7 +2,7 @@
 use mathlib.Core.Path.{_≡_, refl, sym, _∙_, ap}
 use mathlib.Core.Logic.{_↔_}
 use mathlib.Core.Bool.{Bool, true, false, _&&_}
-use mathlib.Core.List.{List, []}
+use mathlib.Core.List.{List}
 use lib.IntN.{ℤ, pos, negℤ, natAbs, _+ℤ_, +ℤ-idl, +ℤ-idr, +ℤ-invr}
 use Prim.Native.Nat.{ℕ, suc, _≤_, _<_}
 use native.Mathlib.Nat.{le-antisymm}
@@ -26,9 +26,9 @@ use Rattle.flow_def.specs.Labels.{labelsOf, oneLabel}
 use Rattle.flow_def.specs.Test.{verdictAt}
 use Rattle.flow_def.specs.Shown.{adjusted}
 use Rattle.flow_def.specs.Certificate.{inKilter}
-use Rattle.flow_def.proofs.Integers.{size-none, minus-none}
+use Rattle.num_bytes.proofs.Integers.{size-none, minus-none}
 use Rattle.flow_def.proofs.Certified.{every-at}
-use Rattle.flow_def.proofs.Sums.{sum, sum-same, sum-none}
+use Rattle.num_bytes.proofs.Sums.{sum, sum-same, sum-none}
 use Rattle.flow_def.proofs.Nets.{countOf, streamOf, inside, crossing}
 use Rattle.flow_def.proofs.Labels.{label-joined, label-member, label-low}
 use Rattle.flow_def.proofs.Decided.{Decided, solved, full}

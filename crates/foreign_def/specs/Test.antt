@@ -22,7 +22,7 @@ use Rattle.flow_def.specs.Labels.{labelsOf}
 use Rattle.flow_def.specs.Test.{verdictAt}
 use Rattle.flow_def.specs.Shown.{adjusted}
 use Rattle.flow_def.specs.Certificate.{leastClimb, mostClimb, rises, falls, every}
-use Rattle.flow_def.specs.Nets.{sum}
+use Rattle.num_bytes.specs.Sums.{sum}
 use Rattle.solve_def.specs.Sizes.{flowShift}
 use Rattle.sheet_def.specs.Apart.{capped}
 use Rattle.sheet_def.specs.declared.Entry.{Entry}

@@ -10,7 +10,6 @@ use lib.ListN.{length, getD}
 use lib.Seq.{ext-getD}
 use mir.Syntax.{w64}
 use mir.Val.{SFits, toZ, ofZ}
-use mir.ValLaws.{toZ-ofZ}
 use borrow.Author.Tests.{eq-eqb, ne-eqb, eqb-true, leb-true}
 use Rattle.num_bytes.specs.Choice.{pick}
 use Rattle.num_bytes.specs.Inner.{values}
@@ -26,7 +25,7 @@ use Rattle.flow_def.specs.declared.Class.the-variants.{Adjusted}
 use Rattle.flow_def.specs.Flows.{streamAt, amountAt}
 use Rattle.flow_def.specs.Certificate.{every}
 use Rattle.flow_def.proofs.Certified.{every-at}
-use Rattle.flow_def.proofs.Lists.{values-long, values-at}
+use Rattle.num_bytes.proofs.Lists.{values-long, values-at}
 use Rattle.sheet_def.specs.declared.Entry.{Entry}
 use Rattle.sheet_def.specs.Sheets.{known}
 use Rattle.foreign_def.specs.Passing.{numberLimit, placeNumber, difference}

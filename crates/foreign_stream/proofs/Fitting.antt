@@ -4,7 +4,7 @@ use mathlib.Core.Bool.{Bool, true, false, not, _&&_, _||_}
 use mathlib.Core.Logic.{⊎-elim}
 use lib.IntN.{ℤ, pos, natAbs, _+ℤ_, _-ℤ_, _*ℤ_}
 use lib.Signed.{ltZ, leZ}
-use Prim.Native.Nat.{ℕ, _+_, _*_, _^_, _≤_, _<_}
+use Prim.Native.Nat.{ℕ, _+_, _*_, _^_, _≤_}
 use native.Mathlib.Nat.{mul-le-mul}
 use native.Mathlib.Omega.{arith}
 use mir.Syntax.{w32, w64}
@@ -17,7 +17,7 @@ use Rattle.plant_def.specs.Limits.{maxWeight}
 use Rattle.plant_def.specs.Plants.{limited}
 use Rattle.flow_def.specs.Flows.{inRange}
 use Rattle.flow_def.specs.Certificate.{weightOf, lower, upper, rises, falls, leastClimb, mostClimb}
-use Rattle.flow_def.proofs.Integers.{plus-val, size-val, parts, product, one-times, ltZ-lt, le-leZ, leZ-le, lt-ltZ, Le-unless}
+use Rattle.num_bytes.proofs.Integers.{plus-val, size-val, parts, product, one-times, ltZ-lt, le-leZ, leZ-le, lt-ltZ, Le-unless}
 use Rattle.solve_def.proofs.Weights.{wide}
 use Rattle.sheet_def.specs.Calls.{Small}
 use Rattle.sheet_cost.proofs.Costing.{size-fits, reading-size, minus-size}

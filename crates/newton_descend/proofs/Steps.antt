@@ -8,7 +8,7 @@ use native.Mathlib.Numerals.{add-one}
 use lib.ListN.{length, getD, set, replicate, length-set, length-replicate, getD-replicate}
 use lib.Ieee.{Float, nan, binary64, neg, add, sub, mul, lt}
 use Rattle.plant_def.specs.Limits.{places}
-use Rattle.flow_def.proofs.Lists.{Written, written-all}
+use Rattle.num_bytes.proofs.Lists.{Written, written-all}
 use Rattle.newton_laplacian.specs.Amounts.{amountBy, broughtIn}
 use Rattle.newton_descend.specs.Nets.{none, larger, highestTo, greatestTo, productTo, movedTo, advancedTo, broughtTo, brought, netsTo}
 

@@ -4,17 +4,17 @@ use mathlib.Core.List.{List}
 use Prim.Native.Nat.{ℕ, zero, suc, _≤_, _<_}
 use native.Mathlib.Omega.{arith}
 use native.Mathlib.Decide.{decLe}
-use lib.ListN.{length, getD, replicate}
+use lib.ListN.{getD, replicate}
 use Rattle.plant_def.specs.declared.Plant as Arrays
 use Rattle.plant_def.specs.declared.Read.{Read}
 use Rattle.plant_def.specs.Limits.{maxStreams}
 use Rattle.plant_def.specs.Plants.{Plant}
-use Rattle.plant_def.specs.Files.{Got, got, readPlant}
+use Rattle.plant_def.specs.Files.{Got, readPlant}
 use Rattle.plant_def.specs.Within.{Accepted}
 use Rattle.plant_def.specs.Says.{plantOf, readOf}
 use Rattle.plant_def.proofs.Arrayed.{all-listed, within-of, read-held}
 use Rattle.plant_def.proofs.Found.{read-bad, found}
-use Rattle.flow_def.proofs.Lists.{Written}
+use Rattle.num_bytes.proofs.Lists.{Written}
 use Rattle.purchase_def.specs.declared.Bought.{Bought}
 use Rattle.purchase_def.specs.Purchases.{maxPrice, unmeteredTo, priceIn, pricesFault}
 use Rattle.purchase_def.specs.Says.{noneBought, boughtOf, BuyOf, BuyWith, BuySays}

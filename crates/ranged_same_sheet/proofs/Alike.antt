@@ -19,7 +19,7 @@ use Rattle.flow_def.specs.Chains.{Counting, everyStream, unmeteredOnly}
 use Rattle.flow_def.specs.Classes.{has, including, spread, rounds, joinedTo, unmeteredBut, oneGroup, onLoop, classOf, sideOut, givenOf, numberOf, lowest, leadersTo, degrees}
 use Rattle.flow_def.specs.Test.{verdictAt}
 use Rattle.flow_def.specs.Shown.{adjustedWeight, adjustedTo, adjusted}
-use Rattle.flow_def.proofs.Lists.{values-same}
+use Rattle.num_bytes.proofs.Lists.{values-same}
 use Rattle.sheet_def.specs.Apart.{capped}
 use Rattle.sheet_def.specs.Balances.{entryOf, balanceOf}
 use Rattle.sheet_def.specs.Drawings.{sheetBytes, sheetOf}

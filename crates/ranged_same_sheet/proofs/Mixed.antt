@@ -7,7 +7,6 @@ use Prim.Native.Nat.{ℕ}
 use native.Mathlib.Omega.{arith}
 use lib.ListN.{getD}
 use Rattle.plant_def.specs.declared.Stream.{Stream}
-use Rattle.plant_def.specs.Plants.{Plant}
 use Rattle.plant_def.specs.Files.{readPlant}
 use Rattle.sheet_def.specs.Table.{fullUnit}
 use Rattle.sheet_def.specs.Balances.{balanceOf}

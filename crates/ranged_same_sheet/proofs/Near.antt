@@ -18,8 +18,8 @@ use Rattle.plant_def.specs.Limits.{maxStreams, maxWeight, maxReading, maxRange}
 use Rattle.plant_def.specs.Plants.{Plant, noStream, limited}
 use Rattle.plant_def.specs.Within.{Within, WithinStream}
 use Rattle.flow_def.specs.Flows.{streamAt, amountAt, balanced, inRange, square, cost}
-use Rattle.flow_def.proofs.Integers.{size-val, minus-val, parts, one-times}
-use Rattle.flow_def.proofs.Sums.{sum-none}
+use Rattle.num_bytes.proofs.Integers.{size-val, minus-val, parts, one-times}
+use Rattle.num_bytes.proofs.Sums.{sum-none}
 use Rattle.flow_def.proofs.Nets.{countOf, streamOf, brought, listed, listed-balanced}
 use Rattle.flow_def.proofs.Ranges.{whole-holds}
 use Rattle.ranged_def.specs.Moves.{widestLow, widestHigh, widened}

@@ -1,6 +1,5 @@
 -- What streams cost by their rows.
 use mathlib.Core.Path.{_≡_, refl, sym, ap, _∙_}
-use mathlib.Core.Bool.{Bool, true, false}
 use mathlib.Core.Logic.{⊎-elim}
 use mathlib.Core.List.{List, [], _∷_, map}
 use lib.IntN.{ℤ, pos, natAbs, _-ℤ_}
@@ -19,9 +18,9 @@ use Rattle.plant_def.specs.Within.{WithinStream}
 use Rattle.plant_def.proofs.Arrayed.{stream-within}
 use Rattle.flow_def.specs.Certificate.{weightOf}
 use Rattle.flow_def.specs.Flows.{amountAt, cost}
-use Rattle.flow_def.proofs.Integers.{size-val, minus-val, parts}
-use Rattle.flow_def.proofs.Lists.{map-at}
-use Rattle.solve_def.specs.Sizes.{flowShift, mostFlow}
+use Rattle.num_bytes.proofs.Integers.{size-val, minus-val, parts}
+use Rattle.num_bytes.proofs.Lists.{map-at}
+use Rattle.solve_def.specs.Sizes.{flowShift}
 use Rattle.solve_def.specs.Held.{shifted, unshifted, opened, readingOf}
 use Rattle.solve_def.specs.SolverNeeds.{Amounts}
 use Rattle.solve_def.proofs.Amounts.{unshifted-val}
@@ -29,7 +28,7 @@ use Rattle.solve_def.proofs.Certify.{held-val}
 use Rattle.solve_arcs_fill.specs.Plants.{LaidOf}
 use Rattle.solve_arcs_fill.proofs.Plants.{weight-at, pull-at}
 use Rattle.sheet_def.specs.Apart.{capped}
-use Rattle.sheet_def.specs.Calls.{AllSmall, streamCost}
+use Rattle.sheet_def.specs.Calls.{streamCost}
 use Rattle.sheet_def.proofs.Opening.{opened-small}
 use Rattle.sheet_cost.specs.Rows.{apartSquared}
 use Rattle.sheet_cost.proofs.Costing.{Costed, Summed, unmetered-cost, metered-cost, summed-more, summed-all}

@@ -1,5 +1,5 @@
 -- The bound of the desk tool is sharp, by computing: in 100, out 103. In fractions 101 1/2 each; the sheet has 101 and 101.
-use mathlib.Core.Path.{_≡_, refl}
+use mathlib.Core.Path.{refl}
 use mathlib.Core.Bool.{true, false}
 use mathlib.Core.List.{[], _∷_}
 use lib.IntN.{pos}

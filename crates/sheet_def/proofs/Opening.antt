@@ -8,7 +8,7 @@ use Rattle.plant_def.specs.declared.Plant as Arrays
 use Rattle.num_bytes.specs.Inner.{pickT}
 use Rattle.plant_def.specs.Says.{plantOf}
 use Rattle.flow_def.specs.Overfull.{Overfull}
-use Rattle.flow_def.proofs.Integers.{size-val, parts}
+use Rattle.num_bytes.proofs.Integers.{size-val, parts}
 use Rattle.solve_def.specs.Sizes.{mostFlow}
 use Rattle.solve_def.specs.Held.{unshifted}
 use Rattle.solve_def.proofs.Amounts.{unshifted-val}

@@ -31,7 +31,7 @@ use Rattle.flow_def.specs.Overfull.{unmarked, Overfull}
 use Rattle.flow_def.proofs.Nets.{balanced-size}
 use Rattle.flow_def.proofs.Ranges.{balanced-of}
 use Rattle.flow_def.proofs.Overfull.{overfull-none}
-use Rattle.flow_def.proofs.Lists.{values-same}
+use Rattle.num_bytes.proofs.Lists.{values-same}
 use Rattle.flow_def.proofs.Order.{one}
 use Rattle.flow_def.proofs.ByLabels.{class-past}
 use Rattle.flow_def.proofs.Given.{class-means, number-is, given-agree}

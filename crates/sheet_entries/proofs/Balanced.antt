@@ -7,7 +7,7 @@ use Prim.Native.Nat.{ℕ, _≤_}
 use native.Mathlib.Omega.{arith}
 use borrow.Author.Tests.{ltb-true, ltb-false}
 use lib.Dec.{ltb}
-use lib.ListN.{length, getD, take}
+use lib.ListN.{getD, take}
 use lib.Seq.{getD-take}
 use Rattle.num_bytes.proofs.Tests.{by-cases}
 use Rattle.plant_def.specs.declared.Plant as Arrays
@@ -24,7 +24,7 @@ use Rattle.flow_def.specs.Classes.{classOf, numberOf, degrees}
 use Rattle.flow_def.specs.Test.{verdictAt}
 use Rattle.flow_def.specs.Shown.{adjusted}
 use Rattle.flow_def.specs.Calls.{classesOf}
-use Rattle.flow_def.proofs.Lists.{values-same, values-at}
+use Rattle.num_bytes.proofs.Lists.{values-same, values-at}
 use Rattle.flow_def.proofs.Given.{number-is}
 use Rattle.flow_def.proofs.Ranges.{balanced-of}
 use Rattle.flow_def.proofs.ByLabels.{class-past}

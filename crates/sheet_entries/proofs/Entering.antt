@@ -22,10 +22,10 @@ use Rattle.flow_def.specs.Certificate.{weightOf}
 use Rattle.flow_def.specs.Classes.{classOf}
 use Rattle.flow_def.specs.Flows.{amountAt}
 use Rattle.flow_def.specs.Shown.{adjustedWeight}
-use Rattle.flow_def.specs.Sides.{bit}
+use Rattle.num_bytes.specs.Sums.{bit}
 use Rattle.flow_def.proofs.ByLabels.{class-past}
 use Rattle.flow_def.proofs.BySides.{in-unmetered}
-use Rattle.flow_def.proofs.Lists.{map-at, values-long, values-at, Written}
+use Rattle.num_bytes.proofs.Lists.{map-at, values-long, values-at, Written}
 use Rattle.solve_def.specs.Held.{unshifted}
 use Rattle.sheet_def.specs.declared.Entry.{Entry}
 use Rattle.sheet_def.specs.Balances.{entryOf}

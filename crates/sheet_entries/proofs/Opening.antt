@@ -7,7 +7,7 @@ use mir.Syntax.{w64}
 use mir.Val.{SFits, toZ, hbits}
 use mir.Facts.{toZ-pos}
 use borrow.Author.Needs.{sfits-of}
-use Rattle.flow_def.proofs.Integers.{up, dn}
+use Rattle.num_bytes.proofs.Integers.{up, dn}
 use Rattle.solve_def.specs.Sizes.{flowShift, mostFlow}
 use Rattle.solve_def.specs.Held.{unshifted}
 use Rattle.solve_def.proofs.Amounts.{unshifted-val}

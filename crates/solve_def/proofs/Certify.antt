@@ -13,7 +13,7 @@ use Rattle.plant_def.specs.Plants.{Plant, limited}
 use Rattle.plant_def.specs.Within.{Within, WithinStream}
 use Rattle.flow_def.specs.Flows.{streamAt, amountAt, inRange}
 use Rattle.flow_def.specs.Certificate.{weightOf, climb, lower, upper, rises, falls}
-use Rattle.flow_def.proofs.Integers.{up, dn, diff, Le, Lt, Z·diff, diff-val, Le-iff, minus-val, same, val, none-minus, ltZ-lt}
+use Rattle.num_bytes.proofs.Integers.{up, dn, diff, Le, Lt, Z·diff, diff-val, Le-iff, minus-val, same, val, none-minus, ltZ-lt}
 use Rattle.flow_def.proofs.Nets.{level-balanced}
 use Rattle.flow_def.proofs.Ranges.{asked, whole-holds, allowed-of}
 use Rattle.flow_def.proofs.Potentials.{StepAt, Certificate}

@@ -18,7 +18,7 @@ use Rattle.plant_def.proofs.Arrayed.{all-listed, within-of, stream-within}
 use Rattle.flow_def.specs.Flows.{streamAt, amountAt, Cheapest}
 use Rattle.flow_def.specs.Certificate.{climb, leastClimb, mostClimb, inKilter, rises, falls}
 use Rattle.flow_def.specs.Overfull.{unmarked, Overfull}
-use Rattle.flow_def.proofs.Integers.{le-leZ}
+use Rattle.num_bytes.proofs.Integers.{le-leZ}
 use Rattle.flow_def.proofs.Potentials.{StepAt, Steps, Certificate}
 use Rattle.flow_def.proofs.Decided.{Decided, solved, full}
 use Rattle.solve_def.specs.Held.{opened}

@@ -7,7 +7,7 @@ use lib.ListN.{getD, length}
 use Rattle.num_bytes.specs.Choice.{pick}
 use Rattle.num_bytes.specs.Inner.{values}
 use Rattle.plant_def.specs.Limits.{places}
-use Rattle.flow_def.specs.Sides.{bit}
+use Rattle.num_bytes.specs.Sums.{bit}
 use Rattle.solve_def.specs.Sizes.{far, farthest}
 use Rattle.solve_def.specs.declared.Spot.{Spot}
 use Rattle.solve_def.specs.Near.{relaxedTo}

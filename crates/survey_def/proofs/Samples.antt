@@ -9,11 +9,10 @@ use lib.ListN.{length, getD}
 use Rattle.num_bytes.specs.Inner.{values}
 use Rattle.plant_def.specs.Plants.{Plant, unmetered}
 use Rattle.plant_def.specs.Files.{got, readPlant}
-use Rattle.plant_def.specs.Within.{Within}
 use Rattle.plant_def.proofs.Limited.{within}
 use Rattle.plant_def.proofs.Accepted.{accepted}
 use Rattle.flow_def.specs.Labels.{labelsAfter}
-use Rattle.flow_def.proofs.Lists.{values-at}
+use Rattle.num_bytes.proofs.Lists.{values-at}
 use Rattle.survey_def.specs.declared.Layouts.{Layouts}
 use Rattle.survey_def.specs.Says.{maxSurveyed, surveySize, SurveySays}
 use Rattle.survey_def.specs.Inner.{countBelow}

@@ -6,27 +6,25 @@ use Prim.Native.Nat.{ℕ, zero, suc, _+_, _*_, _/_, _%_, _^_, _≤_, _<_}
 use native.Mathlib.Nat.{div-div-eq-div-mul, pow-suc, div-one}
 use native.Mathlib.Numerals.{add-one}
 use native.Mathlib.Omega.{arith}
-use borrow.Author.Tests.{eq-eqb, ne-eqb, eqb-true}
+use borrow.Author.Tests.{eq-eqb, ne-eqb}
 use lib.Dec.{eqb}
 use lib.Pow.{shl-exact}
 use lib.ListN.{length, getD, take, set, length-set, replicate, length-replicate, getD-replicate}
-use lib.Seq.{length-take-le, getD-take, getD-set-same, getD-set-other, ext-getD}
+use lib.Seq.{length-take-le, getD-take, getD-set-same, getD-set-other}
 use native.Mathlib.Decide.{ℕ-discrete}
-use Rattle.num_bytes.specs.Choice.{pick}
 use Rattle.num_bytes.proofs.Tests.{by-cases, clash}
 use Rattle.plant_def.specs.declared.Stream.{Stream}
-use Rattle.plant_def.specs.Limits.{maxUnits, places}
+use Rattle.plant_def.specs.Limits.{places}
 use Rattle.plant_def.specs.Plants.{noStream}
 use Rattle.flow_def.specs.Flows.{streamAt}
 use Rattle.flow_def.specs.Groups.{AmongPlaces, StepSays}
 use Rattle.flow_def.specs.Labels.{ownNumbers, labelsAfter, oneLabel}
-use Rattle.flow_def.specs.Sides.{bit}
+use Rattle.num_bytes.specs.Sums.{bit}
 use Rattle.flow_def.specs.Certificate.{every}
 use Rattle.flow_def.proofs.Certified.{every-at}
 use Rattle.flow_def.proofs.Labels.{step-none, labels-long}
 use Rattle.flow_def.proofs.Grouping.{step-said}
-use Rattle.flow_def.specs.Loops.{countTo}
-use Rattle.flow_def.proofs.Counts.{one, count-few}
+use Rattle.num_bytes.proofs.Counts.{one, count-few}
 use Rattle.survey_def.specs.Says.{maxSurveyed, surveySize}
 use Rattle.survey_def.specs.Inner.{bitOff, meets, eachMeets, ones, countBelow, Few}
 

@@ -1,5 +1,4 @@
 -- Line by line.
-use native.Mathlib.Omega.{arith}
 use denote.Ref.{now}
 use Prim.Native.Nat.{_-_}
 use lib.ListN.{getD}

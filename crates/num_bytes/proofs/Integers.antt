@@ -1,5 +1,5 @@
 -- Integers as differences of naturals: one rewriting takes every expression of sums, products and orders to naturals.
-use mathlib.Core.Path.{_≡_, refl, sym, _∙_, ap}
+use mathlib.Core.Path.{_≡_, refl, _∙_, ap}
 use mathlib.Core.Bool.{true, false≢true}
 use mathlib.Core.Logic.{_↔_, _⊎_, inl, inr, ⊎-elim}
 use lib.IntN.{ℤ, pos, negsuc, negℤ, subℕ, natAbs, _+ℤ_, _-ℤ_, _*ℤ_}
@@ -8,7 +8,6 @@ use Prim.Native.Nat.{ℕ, zero, suc, _+_, _-_, _*_, _≤_, _<_}
 use native.Mathlib.Omega.{arith}
 use native.Mathlib.Decide.{decLe}
 use borrow.Author.Tests.{lt-ltb, le-ltb, leb-true, le-leb, ltb-true}
-use Rattle.flow_def.specs.Flows.{square}
 
 -- How far an integer is above 0, or 0: z is up z less dn z, and one of them is 0.
 abbrev pub up : ℤ → ℕ
@@ -231,15 +230,6 @@ Le-unless x y f = elim (decLe (up x + dn y) (up y + dn x)) [ yes h ↦ h | no h 
 -- Two integers, each at most the other, are equal.
 pub Le-antisym : (x y : ℤ) → Le x y → Le y x → x ≡ y
 Le-antisym x y h k = same x y (omega arith)
-
--- The square of an integer is its product with itself.
-pub square-is : (x : ℤ) → pos (square x) ≡ x *ℤ x
-square-is (pos a) = refl
-square-is (negsuc a) = refl
-
--- The square of a difference, with the double product on the other side.
-pub square-diff : (a b : ℕ) → square (diff a b) + 2 * (a * b) ≡ a * a + b * b
-square-diff a b = omega (arith, diff-iff _ _ _ _ .0 (sym (pos-diff (square (diff a b))) ∙ square-is (diff a b) ∙ times-diff a b a b))
 
 -- Of two integers one is the other and a natural more, or less.
 pub between : (x y : ℤ) → ((t : ℕ) × (y ≡ x +ℤ diff t 0)) ⊎ ((t : ℕ) × (y ≡ x +ℤ diff 0 t))
