@@ -38,7 +38,7 @@ use Rattle.solve_def.specs.Sizes.{flowShift}
 use Rattle.sheet_def.specs.declared.Entry.{Entry}
 use Rattle.sheet_def.specs.declared.Total.{Total}
 use Rattle.sheet_def.specs.declared.SheetRead.{SheetRead}
-use Rattle.sheet_def.specs.Apart.{topCost, capped}
+use Rattle.sheet_def.specs.Totals.{topCost, capped}
 use Rattle.sheet_def.specs.Calls.{AllSmall}
 use Rattle.sheet_def.specs.Sheets.{SheetParts, kindOf, known}
 use Rattle.sheet_def.specs.Kept.{Reopened, noSheet, someSheet, readSheet, readOf, blank}

@@ -24,7 +24,7 @@ use Rattle.flow_def.specs.Shown.{adjusted}
 use Rattle.flow_def.specs.Certificate.{leastClimb, mostClimb, rises, falls, every}
 use Rattle.num_bytes.specs.Sums.{sum}
 use Rattle.solve_def.specs.Sizes.{flowShift}
-use Rattle.sheet_def.specs.Apart.{capped}
+use Rattle.sheet_def.specs.Totals.{capped}
 use Rattle.sheet_def.specs.declared.Entry.{Entry}
 use Rattle.sheet_def.specs.declared.Total.{Total}
 use Rattle.sheet_def.specs.declared.SheetRead.{SheetRead}

@@ -21,12 +21,12 @@ use Rattle.solve_def.specs.Sizes.{far, numbering}
 use Rattle.solve_def.specs.Near.{codeOf, lessened, nearestTo, nearestWithin}
 use Rattle.solve_def.proofs.Filling.{getD-any}
 use Rattle.solve_def.proofs.Nearing.{Nearest, nearest-good}
-use Rattle.solve_def.specs.Fringe.{Open, openedBy}
+use Rattle.solve_def.specs.Fringe.{Fringe, fringeBit}
 use Rattle.flow_def.proofs.Lowest.{lowest, below-lowest, without-lowest, with-others}
 
 -- Before the walk there is none.
-pub open-none : (limit : ℕ) → Open limit (replicate places far) 0
-open-none limit = record {
+pub fringe-none : (limit : ℕ) → Fringe limit (replicate places far) 0
+fringe-none limit = record {
   inside = λ h b. clash (bit h 0) b (bit-zero h);
   all = λ v l c w. absurd (omega (arith, c, all-far places v l));
 }
@@ -37,9 +37,9 @@ open-none limit = record {
     all-far (suc n) (suc v) l = all-far n v (omega arith)
 
 -- A place is offered a distance.
-module _ (limit : ℕ) (near : List ℕ) (m v d i : ℕ) (w : Open limit near m) (l : v < places) (long : length near ≡ places) (few : i < numbering) where
+module _ (limit : ℕ) (near : List ℕ) (m v d i : ℕ) (w : Fringe limit near m) (l : v < places) (long : length near ≡ places) (few : i < numbering) where
   abbrev Offered : List ℕ → ℕ → Type 0
-  Offered codes x = Open limit codes (bitOr m x)
+  Offered codes x = Fringe limit codes (bitOr m x)
 
   set-in : (x : ℕ) → ((h : ℕ) → bit h x ≡ true → h ≡ v) → (d ≤ limit → bit v x ≡ true) → Offered (set near v (codeOf d i)) x
   set-in x own here = record {
@@ -54,8 +54,8 @@ module _ (limit : ℕ) (near : List ℕ) (m v d i : ℕ) (w : Open limit near m)
       within e = omega (arith, e, few)
 
   -- The fringe after an offer.
-  pub open-offered : Offered (lessened near v (codeOf d i)) (openedBy limit near v d i)
-  open-offered = by-cases (ltb (codeOf d i) (getD near v 0))
+  pub fringe-offered : Offered (lessened near v (codeOf d i)) (fringeBit limit near v d i)
+  fringe-offered = by-cases (ltb (codeOf d i) (getD near v 0))
       (λ t. rw t (by-cases (ltb limit d)
       (λ s. rw s (set-in 0 (λ h b. clash (bit h 0) b (bit-zero h)) (λ o. absurd (omega (arith, ltb-true limit d s)))))
       (λ s. rw s (set-in (2 ^ v) own (λ o. bit-same v)))))
@@ -65,9 +65,9 @@ module _ (limit : ℕ) (near : List ℕ) (m v d i : ℕ) (w : Open limit near m)
       own h b = elim (ℕ-discrete h v) [ yes q ↦ q | no q ↦ clash (bit h (2 ^ v)) b (bit-other h v q) ]
 
 -- A place is visited.
-pub open-visited : (limit : ℕ) (near : List ℕ) (m r : ℕ) → Open limit near m → r < places → length near ≡ places → bit r m ≡ true
-    → Open limit (set near r far) (bitXor m (2 ^ r))
-open-visited limit near m r w l long on = record {
+pub fringe-visited : (limit : ℕ) (near : List ℕ) (m r : ℕ) → Fringe limit near m → r < places → length near ≡ places → bit r m ≡ true
+    → Fringe limit (set near r far) (bitXor m (2 ^ r))
+fringe-visited limit near m r w l long on = record {
   inside = λ h b. elim (ℕ-discrete h r) [ yes q ↦ rw q l | no q ↦ w .inside h (sym (other h q) ∙ b) ];
   all = λ v k c e. elim (ℕ-discrete v r) [
     | yes q ↦ absurd (omega (arith, rw (q, getD-set-same near r far 0 (rw long l)) at c))
@@ -155,7 +155,7 @@ pub record Scan (near : List ℕ) (m left at best : ℕ) : Type 0 where
   pub others : (v : ℕ) → u ≤ v → bit v m ≡ true → bit v left ≡ true
 
 -- None is looked at yet.
-pub scan-none : (limit : ℕ) (near : List ℕ) (m : ℕ) → Open limit near m → Scan near m m places far
+pub scan-none : (limit : ℕ) (near : List ℕ) (m : ℕ) → Fringe limit near m → Scan near m m places far
 scan-none limit near m w = record {
   u = 0;
   in-range = omega arith;
@@ -226,7 +226,7 @@ module _ (near : List ℕ) (m left at best : ℕ) (w : Scan near m left at best)
   }
 
 -- All are looked at.
-module _ (limit : ℕ) (near : List ℕ) (m at best : ℕ) (o : Open limit near m) (long : length near ≡ places) (w : Scan near m 0 at best) where
+module _ (limit : ℕ) (near : List ℕ) (m at best : ℕ) (o : Fringe limit near m) (long : length near ≡ places) (w : Scan near m 0 at best) where
   -- No code within the limit is less.
   no-less : (v : ℕ) → Within near limit long v → best ≤ getD near v 0
   no-less v h = elim (decLe (w .u) v) [

@@ -4,8 +4,8 @@ use mathlib.Core.Path.{_≡_}
 use Prim.Native.Nat.{_≤_, _-_}
 use lib.ListN.{length}
 use Rattle.plant_def.specs.Limits.{places}
-use Rattle.case_calls.proofs.closed.put_potentials.Statement.{statement}
-use Rattle.case_calls.proofs.closed.put_potentials.Tie as tie
+use Rattle.case_calls.proofs.compressed.put_potentials.Statement.{statement}
+use Rattle.case_calls.proofs.compressed.put_potentials.Tie as tie
 
 abbrev Inv-loop : tie.InvT-loop
 Inv-loop out₀ potentials u₀ out u = (u ≤ places) × (length out ≡ 264)

@@ -1,4 +1,4 @@
--- A set of places that no open stream leaves: its nets in sum, by what must come into it and what can leave it.
+-- A set of places that no stream with room leaves: its nets in sum, by what must come into it and what can leave it.
 use mathlib.Core.Path.{_≡_, refl, ap}
 use mathlib.Core.Bool.{Bool, true, false}
 use mathlib.Core.List.{List}

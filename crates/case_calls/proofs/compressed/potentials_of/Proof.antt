@@ -8,8 +8,8 @@ use Rattle.plant_def.specs.Limits.{places}
 use Rattle.num_bytes.proofs.Lists.{set-each}
 use Rattle.solve_def.specs.Sizes.{potentialShift}
 use Rattle.solve_def.specs.SearchNeeds.{Potentials}
-use Rattle.case_calls.proofs.closed.potentials_of.Statement.{statement}
-use Rattle.case_calls.proofs.closed.potentials_of.Tie as tie
+use Rattle.case_calls.proofs.compressed.potentials_of.Statement.{statement}
+use Rattle.case_calls.proofs.compressed.potentials_of.Tie as tie
 
 below : (x : ℕ) → x % suc potentialShift ≤ potentialShift
 below x = omega arith

@@ -35,7 +35,7 @@ fn put_potentials(potentials: [u64; PLACES], out: &mut [u8])
 
 // The closing: handed in the 33 potentials of the places as they are held, 8 bytes each; the slice, of 264 bytes, gets them after it; no
 // count, no number.
-pub fn close_up(given: &[u8], out: &mut [u8]) -> u64 {
+pub fn compress_up(given: &[u8], out: &mut [u8]) -> u64 {
     if given.len() != 264 {
         return NO_CASE;
     }

@@ -1,4 +1,4 @@
--- `solve_settle::over_sum` meets its contract: the sum of the first u places.
+-- `solve_settle::excess_sum` meets its contract: the sum of the first u places.
 use mathlib.Core.Path.{_≡_, sym, _∙_}
 use Prim.Native.Nat.{_≤_, _-_}
 use native.Mathlib.Omega.{arith}
@@ -6,8 +6,8 @@ use borrow.Author.Needs.{needs}
 use Rattle.plant_def.specs.Limits.{places}
 use Rattle.solve_def.specs.Sizes.{netRoom}
 use Rattle.solve_def.proofs.Turns.{overTo, over-next, over-none, over-all, over-to-most}
-use Rattle.solve_settle.proofs.over_sum.Statement.{statement}
-use Rattle.solve_settle.proofs.over_sum.Tie as tie
+use Rattle.solve_settle.proofs.excess_sum.Statement.{statement}
+use Rattle.solve_settle.proofs.excess_sum.Tie as tie
 
 abbrev Inv-loop : tie.InvT-loop
 Inv-loop nets u₀ sum₀ u sum = (u ≤ places) × (sum ≡ overTo nets u)
@@ -41,8 +41,8 @@ returns c =
     let st = c .before .before in
     (rw e at (c .before .loop .inv .1)) ∙ (rw (st .pre .long) at (over-all (st .args .nets .now)))
 
-pub over-sum-spec : {M : Type 1} → statement M
-over-sum-spec =
+pub excess-sum-spec : {M : Type 1} → statement M
+excess-sum-spec =
     tie.close
     (tie.spec Inv-loop μ-loop loop-holds (λ c. search needs) (λ c. search needs) (λ c κs. search needs) add-sum
     (λ c. search needs) (λ c. search needs) loop-again returns)

@@ -1,4 +1,4 @@
--- `flow_bridges::cuts_of` meets its contract: after i turns, what holds after i steps.
+-- `flow_bridges::bridges_of` meets its contract: after i turns, what holds after i steps.
 use mathlib.Core.Path.{_≡_, sym, subst, _∙_}
 use mathlib.Core.Bool.{Bool, not}
 use mathlib.Core.List.{List}
@@ -15,8 +15,8 @@ use Rattle.solve_arcs_fill.specs.Plants.{LaidOf}
 use Rattle.solve_arcs_fill.proofs.Plants.{counted, few, from-at, to-at, from-low, to-low, metered-at}
 use borrow.Author.Needs.{needs}
 use Rattle.flow_bridges.specs.Runs.{Runs}
-use Rattle.flow_bridges.proofs.cuts_of.Statement.{statement}
-use Rattle.flow_bridges.proofs.cuts_of.Tie as tie
+use Rattle.flow_bridges.proofs.bridges_of.Statement.{statement}
+use Rattle.flow_bridges.proofs.bridges_of.Tie as tie
 
 -- A step over a stream that counts where it is unmetered.
 steps-as : {s : Stream} {b d : Bool} {ls ms : List ℕ} → b ≡ d → StepSays (not d) s ls ms → StepSays (not b) s ls ms
@@ -139,8 +139,8 @@ returns c = λ p w.
     let e : at .i ≡ p .count = omega (arith, counted w, c .before .before .before .count-of .ensures, c .loop-test .left) in
     passed-all (w .accepted) (at .inv .1 p w) e
 
-pub cuts-of-spec : {M : Type 1} → statement M
-cuts-of-spec =
+pub bridges-of-spec : {M : Type 1} → statement M
+bridges-of-spec =
     tie.close
     (tie.spec
     Inv-loop
