@@ -26,7 +26,7 @@ use Rattle.solve_arcs_fill.specs.Plants.{LaidOf}
 use Rattle.solve_arcs_fill.proofs.Plants.{counted, few, from-at, to-at, from-low, to-low, weight-at, metered-at}
 use Rattle.sheet_def.specs.declared.Entry.{Entry}
 use Rattle.sheet_def.specs.Balances.{entryOf}
-use Rattle.sheet_def.proofs.Entries.{noEntry}
+use Rattle.sheet_def.specs.Calls.{noEntry}
 use Rattle.sheet_entries.proofs.Opening.{opened-fits}
 use Rattle.sheet_entries.proofs.Entering.{entries-all, weight-by}
 use Rattle.sheet_entries.proofs.enter.Statement.{statement}
