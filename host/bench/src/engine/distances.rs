@@ -36,7 +36,7 @@ impl Reach {
         Reach { labelled: 0, fringe: 1 << start, distance, via: [0; PLACES], delta }
     }
 
-    /// The open place of least distance.
+    /// The place of the fringe at least distance.
     fn nearest(&self) -> Option<usize> {
         bits(self.fringe).min_by_key(|&u| self.distance[u])
     }
