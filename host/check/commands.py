@@ -67,7 +67,6 @@ RULES = [
     Rule(r'(?:WENGELUDO_\w+=\d+ )*(cargo test .*)', 'run', r'WENGELUDO_INPUTS=2000 WENGELUDO_SURVEYS=100 \1'),
     Rule(r'bash host/bench/run\.sh --before LIBRARY.*', 'run', f'bash host/bench/run.sh --before {ARCHIVE} 2 0'),
     Rule(r'bash host/bench/(run|visits|checks)\.sh.*', 'run', r'bash host/bench/\1.sh 2 1'),
-    Rule(r'bash host/bench/groups\.sh', 'long', r'\g<0>'),
     Rule(r'bash host/fuzz/run\.sh \S+', 'run', 'bash host/fuzz/run.sh 1'),
     Rule(r'python3 reference/desk_tool\.py --hold', 'long', r'\g<0>'),
     Rule(r'python3 reference/(brute|certify)\.py', 'long', r'\g<0>'),
