@@ -64,7 +64,7 @@ RULES = [
     Rule(r'(/usr/bin/python3 -m venv|target/python/bin/pip install) .*', 'run', r'cd "$COPY" && \g<0>', DESK),
     Rule(r'python3 -m pytest', 'not', 'desk/test.sh runs it, in an environment of its own'),
     Rule(r'cargo doc --open', 'run', 'cargo doc --offline --no-deps'),
-    Rule(r'(?:WENGELUDO_\w+=\d+ )*(cargo test .*)', 'run', r'WENGELUDO_INPUTS=2000 WENGELUDO_SURVEYS=100 \1'),
+    Rule(r'(?:WENGELUDO_\w+=\d+ )*(cargo test .*)', 'run', r'WENGELUDO_INPUTS=2000 \1'),
     Rule(r'bash host/bench/run\.sh --before LIBRARY.*', 'run', f'bash host/bench/run.sh --before {ARCHIVE} 2 0'),
     Rule(r'bash host/bench/(run|visits|checks)\.sh.*', 'run', r'bash host/bench/\1.sh 2 1'),
     Rule(r'bash host/fuzz/run\.sh \S+', 'run', 'bash host/fuzz/run.sh 1'),
