@@ -1,4 +1,4 @@
-// The closing.
+// The compression.
 use case_files::cases::NO_CASE;
 use plant_def::limits::PLACES;
 use solve_compress::refloor;
@@ -33,7 +33,7 @@ fn put_potentials(potentials: [u64; PLACES], out: &mut [u8])
     }
 }
 
-// The closing: handed in the 33 potentials of the places as they are held, 8 bytes each; the slice, of 264 bytes, gets them after it; no
+// The compression: handed in the 33 potentials of the places as they are held, 8 bytes each; the slice, of 264 bytes, gets them after it; no
 // count, no number.
 pub fn compress_up(given: &[u8], out: &mut [u8]) -> u64 {
     if given.len() != 264 {

@@ -111,7 +111,7 @@ module _ {p : Arrays.Plant} (w : Accepted p) {i : ℕ} {none labels sides taken 
       written = written-put (a .written) (omega (arith, w .within .few-streams)) h (is-taken h q);
     }
 
-  -- After the last stream the cuts are those of the plant.
+  -- After the last stream the bridges are those of the plant.
   pub passed-all : i ≡ p .count → Bridging p (record { labels = labels; taken = taken; looped = looped })
   passed-all e = record {
     grouped = rw (a .labelled, e) (groups-after unmeteredOnly (plantOf p .streams) (ends-in p w) (p .count) (omega (arith, all-listed p w)));

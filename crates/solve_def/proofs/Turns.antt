@@ -103,7 +103,7 @@ module _ (streams : List Stream) (n : ℕ) (w : Network streams n) (st : State) 
           short : t .len < places
           short = omega (arith, m .grown .counted, count-most maxUnits (λ v. getD (t .visited) v false))
 
-  -- The potentials after the search are held, for closing.
+  -- The potentials after the search are held, for compression.
   pub found-potentials : (t : Tree) (ps : List ℕ) → grownBy true t ps ≡ sought (take n streams) (st .flows) (st .nets) (st .potentials) d s → Potentials ps × (length ps ≡ places)
   found-potentials t ps q = go (subst (Hunt maxUnits ss (st .flows) (st .nets) d s (st .potentials)) (sym q) (finds ss (solvable-of streams n w) d (h .size) step st (h .sound) room s l over))
     where

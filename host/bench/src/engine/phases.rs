@@ -110,12 +110,12 @@ mod tests {
         potentials
     }
 
-    /// The committed cases of the closing: potentials as the library holds them, 2^57 above what they are, 8 bytes each.
+    /// The committed cases of the compression: potentials as the library holds them, 2^57 above what they are, 8 bytes each.
     #[test]
-    fn committed_closings() {
+    fn committed_compressions() {
         const HELD: u64 = 1 << 57;
         const SIZE: usize = 20 + 2 * 8 * PLACES;
-        let cases = include_bytes!("../../../../crates/vectors/data/closings.bin");
+        let cases = include_bytes!("../../../../crates/vectors/data/compressions.bin");
         let potential = |bytes: &[u8]| u64::from_be_bytes(bytes.try_into().expect("8 bytes")).wrapping_sub(HELD) as i64;
         let potentials = |bytes: &[u8]| -> [i64; PLACES] { std::array::from_fn(|u| potential(&bytes[8 * u..8 * u + 8])) };
         assert!(cases.len() / SIZE > 50 && cases.len() % SIZE == 0, "cases are missing");

@@ -1,10 +1,10 @@
-"""Potentials to try with the closing, which hardly a plant calls for: made up, from all equal to all as far apart as can be.
+"""Potentials to try with the compression, which hardly a plant calls for: made up, from all equal to all as far apart as can be.
 
 A gap is what a potential lies below the next higher one, or the highest below POTENTIAL_SHIFT. Where some potential is below the
 floor, every gap above MARGINAL becomes MARGINAL.
 """
 
-from reference.parts import Closing, Draws
+from reference.parts import Compression, Draws
 
 PLACES = 33
 POTENTIAL_SHIFT = 2**57
@@ -13,8 +13,8 @@ MARGINAL = 1_000 * (2 * (2**39 + 4_000_000) + 2**29)
 POTENTIAL_FLOOR = POTENTIAL_SHIFT - PLACES * MARGINAL
 
 
-def closed(potentials):
-    """The potentials after the closing, from the gaps in falling order."""
+def compressed(potentials):
+    """The potentials after the compression, from the gaps in falling order."""
     if min(potentials) >= POTENTIAL_FLOOR:
         return list(potentials)
     found = {}
@@ -35,7 +35,7 @@ def stairs(step, first=0):
     return below(*(first + k * step for k in range(PLACES)))
 
 
-def closings():
+def compressions():
     draws = Draws(118)
     lists = [
         below(0), below(POTENTIAL_SHIFT), below(0, POTENTIAL_SHIFT), below(POTENTIAL_SHIFT, 0), below(MARGINAL), below(1, 2, 3),
@@ -52,4 +52,4 @@ def closings():
         potentials = below(*(draws.pick(some) for _ in range(PLACES)))
         lists.append(potentials)
     for potentials in lists:
-        yield Closing(tuple(potentials), tuple(closed(potentials)))
+        yield Compression(tuple(potentials), tuple(compressed(potentials)))
