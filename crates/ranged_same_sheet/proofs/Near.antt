@@ -108,13 +108,17 @@ cost-part (s ∷ ss) [] n k l m = absurd (omega arith)
 cost-part (s ∷ ss) (x ∷ xs) n zero l m = rw m (omega arith)
 cost-part (s ∷ ss) (x ∷ xs) n (suc k) l m = omega (arith, cost-part ss xs (omega arith) k (omega arith) m)
 
+-- Above the root of mostCost.
+abbrev rootMost : ℕ
+rootMost = 1240000000
+
 -- A root that is no more than so much.
-root-near : (d : ℕ) → d * d ≤ mostCost → d < 1240000000
+root-near : (d : ℕ) → d * d ≤ mostCost → d < rootMost
 unfolding mostCost mostEach
-root-near d h = by-cases (ltb d 1240000000) (λ t. ltb-true d 1240000000 t) (λ t. absurd (far (ltb-false d 1240000000 t)))
+root-near d h = by-cases (ltb d rootMost) (λ t. ltb-true d rootMost t) (λ t. absurd (far (ltb-false d rootMost t)))
   where
-    far : 1240000000 ≤ d → ⊥
-    far l = let q : 1240000000 * 1240000000 ≤ d * d = mul-le-mul l l in omega (arith, q, h)
+    far : rootMost ≤ d → ⊥
+    far l = let q : rootMost * rootMost ≤ d * d = mul-le-mul l l in omega (arith, q, h)
 
 amount-size : (x r : ℤ) → natAbs x ≤ natAbs (x -ℤ pos 1 *ℤ r) + natAbs r
 amount-size x r = rw (one-times r)
