@@ -10,7 +10,6 @@ use lib.ListN.{length, getD}
 use lib.Seq.{ext-getD}
 use mir.Syntax.{w64}
 use mir.Val.{SFits, toZ, ofZ}
-use mir.ValLaws.{toZ-ofZ}
 use borrow.Author.Tests.{eq-eqb, ne-eqb, eqb-true, leb-true}
 use Rattle.num_bytes.specs.Choice.{pick}
 use Rattle.num_bytes.specs.Inner.{values}
@@ -25,13 +24,12 @@ use Rattle.flow_def.specs.declared.Class.{Class}
 use Rattle.flow_def.specs.declared.Class.the-variants.{Adjusted}
 use Rattle.flow_def.specs.Flows.{streamAt, amountAt}
 use Rattle.flow_def.specs.Certificate.{every}
-use Rattle.flow_def.proofs.Certified.{every-at}
+use Rattle.flow_def.proofs.Certified.{every-at, every-all, every-off}
 use Rattle.flow_def.proofs.Lists.{values-long, values-at}
 use Rattle.sheet_def.specs.declared.Entry.{Entry}
 use Rattle.sheet_def.specs.Sheets.{known}
 use Rattle.foreign_def.specs.Passing.{numberLimit, placeNumber, difference}
 use Rattle.foreign_def.specs.Test.{noEntry, numbersFit, flowFits, flowsFit, flowsShown}
-use Rattle.foreign_def.proofs.Every.{every-all, every-off}
 use Rattle.sheet_cost.proofs.Costing.{size-fits, minus-size}
 use Rattle.foreign_stream.proofs.Fitting.{coded-fits, coded-is}
 
