@@ -16,8 +16,8 @@ use Rattle.plant_def.specs.Within.{Within}
 use Rattle.flow_def.specs.Flows.{amountAt, balanced, inRange, allowedOver, square, nearest}
 use Rattle.flow_def.specs.Chains.{unmeteredOnly, Chain}
 use Rattle.flow_def.specs.Certificate.{weightOf}
-use Rattle.flow_def.proofs.Integers.{Le, val, parts, canon, Z·diff, minus-val, size-val, size-none, minus-none, none-minus, ltZ-lt}
-use Rattle.flow_def.proofs.Sums.{sum-plus, sum-tight}
+use Rattle.num_bytes.proofs.Integers.{Le, val, parts, canon, Z·diff, minus-val, size-val, size-none, minus-none, none-minus, ltZ-lt}
+use Rattle.num_bytes.proofs.Sums.{sum-plus, sum-tight}
 use Rattle.flow_def.proofs.Reach.{chain-sym}
 use Rattle.flow_def.proofs.Nets.{countOf, streamOf, netOf, listed, listed-at, listed-balanced, balanced-nets}
 use Rattle.flow_def.proofs.Routes.{only, only-at, only-off, brought-ends, net-plus, net-only, Route, route}

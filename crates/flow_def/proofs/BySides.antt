@@ -24,16 +24,17 @@ use Rattle.flow_def.specs.Flows.{streamAt}
 use Rattle.flow_def.specs.Classes.{has, joinedTo, unmeteredBut, classOf}
 use Rattle.flow_def.specs.Chains.{unmeteredOnly, Chain}
 use Rattle.flow_def.specs.Labels.{relabelled, stepped, labelsAfter, oneLabel}
-use Rattle.flow_def.specs.Sides.{bit, apart, takenBy, loopedBy, turned, parted, takenAt, sidesAfter, loopedAfter}
+use Rattle.num_bytes.specs.Sums.{bit}
+use Rattle.flow_def.specs.Sides.{apart, takenBy, loopedBy, turned, parted, takenAt, sidesAfter, loopedAfter}
 use Rattle.flow_def.specs.declared.Cuts.{Cuts}
 use Rattle.flow_def.specs.Calls.{Cutting, classIn}
 use Rattle.flow_def.proofs.Reach.{Inside, joined→chain, chain→joined}
 use Rattle.flow_def.proofs.Labels.{min-max, stepped-none, stepped-one, labelling, label→chain}
 use Rattle.flow_def.proofs.Grouping.{labels-are}
-use Rattle.flow_def.proofs.Lists.{values-long, values-at, Written, written-all}
+use Rattle.num_bytes.proofs.Lists.{values-long, values-at, Written, written-all}
 use Rattle.flow_def.proofs.Nets.{inside-of}
 use Rattle.flow_def.proofs.ByLabels.{class-metered, class-joined, same-before}
-use Rattle.flow_def.proofs.Binary.{bit-zero, bit-one, bit-or}
+use Rattle.num_bytes.proofs.Binary.{bit-zero, bit-one, bit-or}
 use Rattle.flow_def.proofs.Parted.{chain-level, Loose, label, side, Cut, Parted, part-metered, part-joined}
 use Rattle.flow_def.proofs.Parting.{part-joining}
 
@@ -79,7 +80,7 @@ module _ (ls sides : List ℕ) (s : Stream) where
   pub parted-some : (h : ℕ) → (h ≡ 0 → ⊥) → turned h (bitXor (apart sides s) (2 ^ h)) ls sides ≡ parted h ls s sides
   parted-some h e = rw (ne-eqb h 0 e) refl
 
--- A class by its cases.
+-- The class of a metered stream, by whether its ends have one label.
 pub in-metered : (ls : List ℕ) (s : Stream) (h looped : ℕ) → s .metered ≡ true → (b : Bool) → b ≡ oneLabel ls (s .from) (s .to)
     → pick b AsRead Adjusted ≡ classIn ls s h looped
 in-metered ls s h looped m b e = rw (m, e) refl
@@ -237,7 +238,7 @@ parted-long h ls s sides l =
     by-cases (eqb h 0) (λ e. rw e l)
     (λ e. rw e (values-long {A = ℕ} (λ u. pick (eqb (getD ls u 0) h) (bitXor (getD sides u 0) (bitXor (apart sides s) (2 ^ h))) (getD sides u 0)) places))
 
--- There is one side for each place.
+-- The list of sides has one entry for each place.
 pub sides-long : (ss : List Stream) (k : ℕ) → length (sidesAfter ss k) ≡ places
 unfolding sidesAfter
 sides-long ss zero = length-replicate {A = ℕ} places 0

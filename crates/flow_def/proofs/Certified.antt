@@ -15,7 +15,7 @@ use Rattle.plant_def.specs.Plants.{Plant, plantFault}
 use Rattle.plant_def.proofs.Limited.{within}
 use Rattle.flow_def.specs.Flows.{amountAt, allowed, Cheapest}
 use Rattle.flow_def.specs.Certificate.{climb, leastClimb, mostClimb, rises, falls, inKilter, stays, every, listedPotential, certified}
-use Rattle.flow_def.proofs.Integers.{leZ-le, ltZ-lt, le-leZ}
+use Rattle.num_bytes.proofs.Integers.{leZ-le, ltZ-lt, le-leZ}
 use Rattle.flow_def.proofs.Ranges.{asked, answered}
 use Rattle.flow_def.proofs.Potentials.{StepAt}
 use Rattle.flow_def.proofs.Ties.{slack, stays-cheapest}

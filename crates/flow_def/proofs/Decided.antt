@@ -52,7 +52,7 @@ module _ (decided : (p : Plant) → Within p → Decided p) where
   pub demand-3 : Demand-3
   demand-3 file p ys e a = let w = read-within file p e in decided-shown p w ys a (decided p w)
 
-  -- and refusal 19 is given exactly where there is no balanced flow in range.
+  -- and a plant that is read has a cheapest flow or an overfull set, never both.
   pub refusal-19 : Refusal-19
   refusal-19 = record {
     either = λ file p e. decided-either p (decided p (read-within file p e));

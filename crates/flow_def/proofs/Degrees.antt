@@ -44,7 +44,7 @@ module _ (counts : Counting) (p : Plant) (small : p .units ≤ maxUnits) (w : In
   leaders-own zero h = refl
   leaders-own (suc n) h = rw (lowest-own (suc n) h, leaders-own n (omega arith))
 
--- How many places bear their own label: counted on, and bounded.
+-- A place that bears its own label adds one to the count of own labels.
 pub own-more : (ls : List ℕ) (u : ℕ) → getD ls (u + 1) 0 ≡ u + 1 → ownLabels ls u + 1 ≡ ownLabels ls (u + 1)
 own-more ls u e = rw (add-one u) (rw (eq-eqb (getD ls (suc u) 0) (suc u) (rw (add-one u) at e)) (omega arith))
 

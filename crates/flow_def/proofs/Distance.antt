@@ -10,7 +10,7 @@ use Rattle.num_bytes.specs.Choice.{pick}
 use Rattle.plant_def.specs.declared.Stream.{Stream}
 use Rattle.flow_def.specs.Flows.{streamAt, amountAt, square}
 use Rattle.flow_def.specs.Certificate.{weightOf}
-use Rattle.flow_def.proofs.Sums.{sum}
+use Rattle.num_bytes.proofs.Sums.{sum}
 use Rattle.flow_def.proofs.Potentials.{weighed}
 use Rattle.flow_def.specs.Least.{apartTo}
 

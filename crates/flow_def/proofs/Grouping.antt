@@ -69,7 +69,7 @@ module _ (counts : Counting) (ss : List Stream) (w : AmongPlaces ss) where
   pub groups-after : (k : ℕ) → k ≤ length ss → Groups counts ss k (labelsAfter counts ss k)
   groups-after k h = groups-of (after counts ss w k h)
 
-  -- What a step is to leave is the next list.
+  -- What a step promises of the labels after i streams allows one list alone: the labels after i + 1.
   pub step-said : (i : ℕ) (s : Stream) (ls next : List ℕ) (c : Bool) → i < length ss → ls ≡ labelsAfter counts ss i → streamAt ss i ≡ s → c ≡ counts i s
       → StepSays c s ls next → next ≡ labelsAfter counts ss (i + 1)
   step-said i s ls next c l e at q says =
@@ -87,7 +87,7 @@ module _ (counts : Counting) (ss : List Stream) (w : AmongPlaces ss) where
   passed labels g zero h = g .begins
   passed labels g (suc k) h = g .steps k (omega arith) .next counts ss k w (omega arith) refl refl (passed labels g k (omega arith))
 
--- Of a plant within its limits, and of one in an array.
+-- The ends of the streams of a plant within its limits are places.
 pub ends-of : (p : Plant) → Within p → AmongPlaces (p .streams)
 ends-of p w = among (p .units) (p .streams) (w .few-units) (inside p w)
 

@@ -18,7 +18,7 @@ use Rattle.flow_def.specs.Classes.{has, joinedTo}
 use Rattle.flow_def.specs.Chains.{Counting, Chain}
 use Rattle.flow_def.specs.Labels.{ownNumbers, renamed, relabelled, united, stepped, labelsAfter, labelsOf, oneLabel}
 use Rattle.flow_def.specs.Groups.{firstOnly, AmongPlaces}
-use Rattle.flow_def.proofs.Lists.{map-at, values-long, values-at, Written, written-all}
+use Rattle.num_bytes.proofs.Lists.{map-at, values-long, values-at, Written, written-all}
 use Rattle.flow_def.proofs.Reach.{Inside, chain-trans, chain-sym, chain-map, joined→chain, chain→joined}
 
 -- What holds of two numbers in either order holds of the lower and the higher.
@@ -38,7 +38,7 @@ renamed-both a b = min-max (λ lo hi. renamed lo hi a ≡ renamed lo hi b) a b (
 renamed-low : (lo hi x : ℕ) → lo ≤ hi → renamed lo hi x ≤ x
 renamed-low lo hi x h = by-cases (eqb x hi) (λ t. rw t (omega (arith, eqb-true x hi t))) (λ t. rw t (omega arith))
 
--- A label that is renamed, one that is not, and all of them.
+-- The label that is taken away becomes the lower one.
 pub renamed-hit : (lo hi x : ℕ) → x ≡ hi → lo ≡ renamed lo hi x
 renamed-hit lo hi x e = rw (eq-eqb x hi e)
 
@@ -71,7 +71,7 @@ stepped-one c s ls t e = rw t (sym (united-one (getD ls (s .from) 0) (getD ls (s
 pub stepped-none : (c : Bool) (s : Stream) (ls : List ℕ) → c ≡ false → ls ≡ stepped c s ls
 stepped-none c s ls t = rw t
 
--- A stream that counts, by the order of its ends' labels.
+-- A stream that counts, with the lower label at its start: the label of its end is taken away.
 pub stepped-up : (c : Bool) (s : Stream) (ls : List ℕ) → c ≡ true → getD ls (s .from) 0 ≤ getD ls (s .to) 0
     → relabelled (getD ls (s .from) 0) (getD ls (s .to) 0) ls ≡ stepped c s ls
 stepped-up c s ls t le = rw (t, min-eq-left le, max-eq-right le)
@@ -203,7 +203,7 @@ module _ (counts : Counting) (ss : List Stream) where
     step-on k ls l g =
         by-cases (counts k (streamAt ss k)) (λ t. rw t (joined k ls l g t)) (λ t. rw t (passed k ls g t))
 
-    -- And after k streams the labels are those of the first k.
+    -- After k streams the labels are those of the groups by the first k.
     pub after : (k : ℕ) → k ≤ length ss → Labelling counts ss k (labelsAfter counts ss k)
     unfolding labelsAfter
     after zero h = start
@@ -242,7 +242,7 @@ module _ (counts : Counting) (p : Plant) (small : p .units ≤ maxUnits) (w : In
   abbrev label : ℕ → ℕ
   label u = getD (labelsOf counts p) u 0
 
-  -- The labels of a plant's first k streams.
+  -- The labels of a plant after k of its streams are those of the groups by the first k.
   pub labelling : (k : ℕ) → k ≤ length (p .streams) → Labelling counts (p .streams) k (labelsAfter counts (p .streams) k)
   labelling = after counts (p .streams) (among (p .units) (p .streams) small w)
 
@@ -254,7 +254,7 @@ module _ (counts : Counting) (p : Plant) (small : p .units ≤ maxUnits) (w : In
   joined→label : (u v : ℕ) → has v (joinedTo counts p u) ≡ true → label u ≡ label v
   joined→label u v e = chain→one (labelling all (omega arith)) (all→first (joined→chain counts p u v e))
 
-  -- The labels of all streams that count: one label is being joined, and a label is the lowest place of its group.
+  -- After all streams two places are joined by those that count exactly where they have one label.
   pub label-joined : (u v : ℕ) → u < places → v < places → has v (joinedTo counts p u) ≡ oneLabel (labelsOf counts p) u v
   label-joined u v hu hv =
       same-test (has v (joinedTo counts p u)) (oneLabel (labelsOf counts p) u v)

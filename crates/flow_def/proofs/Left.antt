@@ -44,7 +44,7 @@ free-same {f} {g} {ss} {ts} e free i l t c =
     (subst (λ (x : ℕ). Chain (but i f) ss x (streamAt ss i .to)) (sym (e .from-same i b))
     (subst (Chain (but i f) ss (streamAt ts i .from)) (sym (e .to-same i b)) (chain-alike alike c)))
   where
-    alike : (k : ℕ) → k < length ts → but i g k (streamAt ts k) ≡ true → Alike (but i g) (but i f) ts ss k
+    alike : (k : ℕ) → k < length ts → but i g k (streamAt ts k) ≡ true → Alike (but i f) ts ss k
     alike k m h =
         let b : k < length ss = rw (e .long) m in
         record {

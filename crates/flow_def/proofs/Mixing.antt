@@ -10,7 +10,7 @@ use Rattle.plant_def.specs.declared.Stream.{Stream}
 use Rattle.plant_def.specs.Plants.{Plant}
 use Rattle.plant_def.specs.Within.{Within}
 use Rattle.flow_def.specs.Flows.{amountAt, balanced, inRange, allowedOver}
-use Rattle.flow_def.proofs.Integers.{up, dn, Le, plus-val, product}
+use Rattle.num_bytes.proofs.Integers.{up, dn, Le, plus-val, product}
 use Rattle.flow_def.proofs.Nets.{countOf, streamOf, listed, listed-at, listed-balanced, balanced-nets}
 use Rattle.flow_def.proofs.Routes.{net-plus}
 use Rattle.flow_def.proofs.Chained.{times-balanced}
@@ -57,7 +57,7 @@ added-balanced p w xs ys a b =
     listed-balanced p (λ k. amountAt xs k +ℤ amountAt ys k)
     (λ u l. net-plus (p .streams) (amountAt xs) (amountAt ys) u ∙ ap₂ _+ℤ_ (balanced-nets p w xs a u l) (balanced-nets p w ys b u l))
 
--- c times a flow; n parts of a flow and one of another.
+-- c times a flow.
 abbrev pub times : Plant → ℕ → List ℤ → List ℤ
 times p c xs = listed p (λ k. pos c *ℤ amountAt xs k)
 
@@ -82,7 +82,7 @@ module _ (p : Plant) (w : Within p) (d : ℕ) (xs : List ℤ) (a : allowedOver d
       (λ k l. subst (λ (z : ℤ). inRange (c * d) (streamOf p k) z ≡ true) (sym (times-at p c xs k l))
       (times-range (streamOf p k) d (amountAt xs k) (range-of d p xs a k l) c))
 
-  -- and so is a mixture of two flows in range, over the sum of its parts.
+  -- and a mixture of n parts of one flow in range and one part of another is one over n + 1 times the denominator.
   pub mixture-allowed : (n : ℕ) (ys : List ℤ) → allowedOver d p ys ≡ true → allowedOver (suc n * d) p (mixture p n xs ys) ≡ true
   mixture-allowed n ys b =
       allowed-of (suc n * d) p (mixture p n xs ys)

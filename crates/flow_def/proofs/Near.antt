@@ -13,8 +13,8 @@ use Rattle.plant_def.specs.Plants.{Plant}
 use Rattle.plant_def.specs.Within.{Within}
 use Rattle.flow_def.specs.Flows.{amountAt, allowedOver, allowed, square, cost, costOver}
 use Rattle.flow_def.specs.Certificate.{weightOf}
-use Rattle.flow_def.proofs.Integers.{up, dn, Le, val, canon, Z·diff, Le-unless, size-none, minus-none, plus-val, pos-inj}
-use Rattle.flow_def.proofs.Sums.{sum, sum-same, sum-none, sum-plus, sum-times, sum-tight}
+use Rattle.num_bytes.proofs.Integers.{up, dn, Le, val, canon, Z·diff, Le-unless, size-none, minus-none, plus-val, pos-inj}
+use Rattle.num_bytes.proofs.Sums.{sum, sum-same, sum-none, sum-plus, sum-times, sum-tight}
 use Rattle.flow_def.proofs.Nets.{countOf, streamOf, listed-size, balanced-size}
 use Rattle.flow_def.proofs.Ranges.{balanced-of}
 use Rattle.flow_def.proofs.Potentials.{shareOver, weighed, cost-is}

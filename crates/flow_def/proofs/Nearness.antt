@@ -18,8 +18,8 @@ use Rattle.flow_def.specs.Classes.{oneGroup, onLoop, classOf}
 use Rattle.flow_def.specs.Chains.{unmeteredOnly, Chain, stop, along, back}
 use Rattle.flow_def.specs.Shown.{adjustedWeight, adjustedTo, adjusted}
 use Rattle.flow_def.specs.Certificate.{weightOf, climb}
-use Rattle.flow_def.proofs.Integers.{Le, val, same, canon, Z·diff, plus-val, minus-val, minus-none, none-minus}
-use Rattle.flow_def.proofs.Sums.{sum, sum-plus, sum-times, sum-le}
+use Rattle.num_bytes.proofs.Integers.{Le, val, same, canon, Z·diff, plus-val, minus-val, minus-none, none-minus}
+use Rattle.num_bytes.proofs.Sums.{sum, sum-plus, sum-times, sum-le}
 use Rattle.flow_def.proofs.Reach.{joined→chain}
 use Rattle.flow_def.proofs.Nets.{countOf, streamOf, balanced-size}
 use Rattle.flow_def.proofs.Given.{class-means}

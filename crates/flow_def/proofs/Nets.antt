@@ -22,12 +22,12 @@ use Rattle.num_bytes.specs.Inner.{values}
 use Rattle.flow_def.specs.Classes.{has, sideOut}
 pub use Rattle.flow_def.specs.Nets.{brought, netOf}
 use Rattle.flow_def.specs.Certificate.{climb}
-use Rattle.flow_def.proofs.Lists.{values-long, values-at}
-use Rattle.flow_def.proofs.Integers.{canon, Z·diff, times-plus, one-times, neg-times, size-none}
+use Rattle.num_bytes.proofs.Lists.{values-long, values-at}
+use Rattle.num_bytes.proofs.Integers.{canon, Z·diff, times-plus, one-times, neg-times, size-none}
 use Rattle.flow_def.proofs.Reach.{Inside}
-use Rattle.flow_def.proofs.Sums.{sum, sum-same, sum-none, sum-plus, sum-times, sum-swap, sum-only, sum-front}
+use Rattle.num_bytes.proofs.Sums.{sum, sum-same, sum-none, sum-plus, sum-times, sum-swap, sum-only, sum-front}
 
--- Short for the number of a plant's streams and for its stream k.
+-- The number of a plant's streams.
 abbrev pub countOf : Plant → ℕ
 countOf p = length (p .streams)
 
@@ -51,7 +51,7 @@ pub net-is : (u : ℕ) (ss : List Stream) (xs : List ℤ) → length xs ≡ leng
 net-is u = sum-listed (brought u) (netAt u) (λ xs. refl)
     (λ s ss x xs. sym (+ℤ-assoc (pick (eqb (s .to) u) x (pos 0)) (pick (eqb (s .from) u) (negℤ x) (pos 0)) (netAt u ss xs)))
 
--- The ends of a plant's streams within limits are its units or the outside.
+-- The ends of the streams of a plant within limits are its units or the outside.
 pub inside : (p : Plant) → Within p → Inside (p .units) (p .streams)
 inside p w k l = (w .each k l .from-in, w .each k l .to-in)
 
@@ -108,7 +108,7 @@ indicator c u = pick (c u) (pos 1) (pos 0)
 abbrev pub crossing : (ℕ → Bool) → Stream → ℤ → ℤ
 crossing c s x = pick (c (s .to)) (pick (c (s .from)) (pos 0) x) (pick (c (s .from)) (negℤ x) (pos 0))
 
--- A potential that is 1 in a set and 0 beyond climbs along a stream exactly where the stream crosses the border.
+-- With potentials of 1 in a set and 0 beyond, climb times amount is what a stream brings into the set less what it takes out.
 pub crossing-is : (c : ℕ → Bool) (s : Stream) (x : ℤ) → climb (indicator c) s *ℤ x ≡ crossing c s x
 crossing-is c s x = go (c (s .to)) (c (s .from))
   where

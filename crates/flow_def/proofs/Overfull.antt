@@ -3,7 +3,7 @@ use mathlib.Core.Path.{_≡_, refl, _∙_, ap}
 use mathlib.Core.Bool.{Bool, true, false, not, _&&_, _||_}
 use mathlib.Core.List.{List, [], _∷_}
 use lib.IntN.{ℤ, pos, negℤ, _+ℤ_, _*ℤ_, *ℤ-zero}
-use Prim.Native.Nat.{ℕ, _+_, _*_, _≤_, _<_}
+use Prim.Native.Nat.{ℕ, _≤_, _<_}
 use native.Mathlib.Nat.{le-of-mul-le-mul-left}
 use native.Mathlib.Omega.{arith}
 use lib.ListN.{length}
@@ -14,8 +14,8 @@ use Rattle.plant_def.specs.Plants.{Plant}
 use Rattle.plant_def.specs.Within.{Within}
 use Rattle.flow_def.specs.Flows.{amountAt, allowedOver}
 use Rattle.flow_def.specs.Overfull.{marks, enters, leaves, lowsIn, highsOut, Overfull}
-use Rattle.flow_def.proofs.Integers.{Le, ltZ-lt, plus-val, up-neg, dn-neg, up-times, dn-times}
-use Rattle.flow_def.proofs.Sums.{sum, sum-same, sum-plus, sum-times, sum-le}
+use Rattle.num_bytes.proofs.Integers.{Le, ltZ-lt, plus-val, up-neg, dn-neg, up-times, dn-times}
+use Rattle.num_bytes.proofs.Sums.{sum, sum-same, sum-plus, sum-times, sum-le}
 use Rattle.flow_def.proofs.Nets.{countOf, streamOf, crossing, no-crossing, sum-listed, balanced-size}
 use Rattle.flow_def.proofs.Ranges.{balanced-of, range-of, range-says}
 

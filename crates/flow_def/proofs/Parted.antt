@@ -18,8 +18,9 @@ use Rattle.flow_def.specs.Classes.{unmeteredBut}
 use Rattle.flow_def.specs.Chains.{Counting, unmeteredOnly, Chain}
 use Rattle.flow_def.specs.Groups.{firstOnly}
 use Rattle.flow_def.proofs.Reach.{chain-trans, chain-sym, chain-map}
-use Rattle.flow_def.specs.Sides.{bit, apart, takenAt}
-use Rattle.flow_def.proofs.Binary.{unlike, alike, unalike, bit-xor, bit-or}
+use Rattle.num_bytes.specs.Sums.{bit}
+use Rattle.flow_def.specs.Sides.{apart, takenAt}
+use Rattle.num_bytes.proofs.Binary.{unlike, alike, unalike, bit-xor, bit-or}
 
 -- What the ends of each stream that counts have in common, the ends of a chain have.
 pub chain-level : {counts : Counting} {ss : List Stream} {u v : ℕ} (f : ℕ → Bool)
@@ -63,7 +64,7 @@ module _ (counts : Counting) (ss : List Stream) (i : ℕ) where
   to-itself : (k : ℕ) → k ≡ i → Touch (streamAt ss k .to)
   to-itself k e = rw e (inr Chain.stop)
 
-  -- By induction over the chain.
+  -- Without stream i the ends of any chain are joined to each other, or both are joined to ends of stream i.
   pub chain-parts : {u v : ℕ} → Chain counts ss u v → Parts u v
   chain-parts Chain.stop = inl Chain.stop
   chain-parts (Chain.along k l h c) = elim (ℕ-discrete k i) [
@@ -79,11 +80,11 @@ module _ (counts : Counting) (ss : List Stream) (i : ℕ) where
 abbrev pub Loose : List Stream → ℕ → Type 0
 Loose ss j = streamAt ss j .metered ≡ false
 
--- The label and the sides of a place.
+-- The label of a place.
 abbrev pub label : List ℕ → ℕ → ℕ
 label ls u = getD ls u 0
 
--- Bit h of what a place has gathered: the side of stream h that it lies on.
+-- Bit h of a place's sides: on which side of the stream that took label h away it lies.
 abbrev pub side : List ℕ → ℕ → ℕ → Bool
 side sides h u = bit h (getD sides u 0)
 
@@ -190,7 +191,7 @@ module _ (ss : List Stream) (k : ℕ) (ls sides : List ℕ) (met : ℕ) (a : Par
         loop = on-loop;
       }
 
-    -- One whose ends have one label closes a loop: the streams that its ends lie apart by are on it.
+    -- An unmetered stream whose ends earlier ones join closes a loop: the streams that its ends lie apart by are on it.
     pub part-joined : Parted ss (suc k) ls sides now
     part-joined = record {
       fresh = a .fresh;

@@ -15,9 +15,10 @@ use Rattle.plant_def.specs.declared.Stream.{Stream}
 use Rattle.plant_def.specs.Limits.{places}
 use Rattle.flow_def.specs.Flows.{streamAt}
 use Rattle.flow_def.specs.Labels.{renamed, relabelled}
-use Rattle.flow_def.specs.Sides.{bit, apart, turned, takenAt}
-use Rattle.flow_def.proofs.Lists.{map-at, values-at}
-use Rattle.flow_def.proofs.Binary.{unlike, bit-xor, bit-same, bit-other}
+use Rattle.num_bytes.specs.Sums.{bit}
+use Rattle.flow_def.specs.Sides.{apart, turned, takenAt}
+use Rattle.num_bytes.proofs.Lists.{map-at, values-at}
+use Rattle.num_bytes.proofs.Binary.{unlike, bit-xor, bit-same, bit-other}
 use Rattle.flow_def.proofs.Parted.{Loose, label, side, Cut, Parted, taken-loose, lower}
 
 -- A bit that changes where a place changes sides.

@@ -21,7 +21,7 @@ use Rattle.flow_def.specs.Labels.{ownNumbers, labelsAfter}
 use Rattle.flow_def.specs.Groups.{StepSays}
 use Rattle.flow_def.specs.Sides.{apart, takenBy, loopedBy, turned, parted, takenAt, sidesAfter, loopedAfter}
 use Rattle.flow_def.specs.Calls.{Cutting}
-use Rattle.flow_def.proofs.Lists.{Written, written-none, written-put}
+use Rattle.num_bytes.proofs.Lists.{Written, written-none, written-put}
 use Rattle.flow_def.proofs.Labels.{step-none, labels-long}
 use Rattle.flow_def.proofs.Grouping.{groups-after, step-said, ends-in}
 use Rattle.flow_def.proofs.Nets.{inside-of}
@@ -98,7 +98,7 @@ module _ {p : Arrays.Plant} (w : Accepted p) {i : ℕ} {none labels sides taken 
     taken-in h q =
         rw (is-taken h q) (taken-low (plantOf p) (w .within .few-units) (inside-of p w) i (omega (arith, all-listed p w)))
 
-    -- One stream more.
+    -- One stream more: the label that it takes away is written, and labels, sides and loops are those after i + 1.
     pub passed-more : (h add : ℕ) (sides-next labels-next : List ℕ) → h ≡ takenBy labels (getD (p .streams) i noStream)
         → add ≡ loopedBy labels sides (getD (p .streams) i noStream) → sides-next ≡ parted h labels (getD (p .streams) i noStream) sides
         → StepSays (not (getD (p .streams) i noStream .metered)) (getD (p .streams) i noStream) labels labels-next

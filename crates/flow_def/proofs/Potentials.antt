@@ -12,13 +12,13 @@ use Rattle.plant_def.specs.Plants.{Plant}
 use Rattle.plant_def.specs.Within.{Within}
 use Rattle.flow_def.specs.Flows.{streamAt, amountAt, balanced, allowed, square, cost, costOver}
 use Rattle.flow_def.specs.Certificate.{weightOf, climb, rises, falls}
-use Rattle.flow_def.proofs.Integers.{Le, canon, Z·diff, plus-val, one-times}
-use Rattle.flow_def.proofs.Sums.{sum, sum-same, sum-plus, sum-times, sum-le, sum-tight}
+use Rattle.num_bytes.proofs.Integers.{Le, canon, Z·diff, plus-val, one-times}
+use Rattle.num_bytes.proofs.Sums.{sum, sum-same, sum-plus, sum-times, sum-le, sum-tight}
 use Rattle.flow_def.proofs.Nets.{countOf, streamOf, sum-listed, balanced-size, no-gain}
 use Rattle.flow_def.proofs.Steps.{Step, Tied, whole, tied}
 use Rattle.flow_def.proofs.Ranges.{balanced-of, range-of, free-whole}
 
--- The step condition of a stream with amount x, and of all streams of a flow.
+-- The step condition of a stream with amount x.
 abbrev pub StepAt : ℕ → (ℕ → ℤ) → Stream → ℤ → Type 0
 StepAt Δ π s x = Step Δ (weightOf s) (x -ℤ s .reading) (climb π s) (falls s x) (rises s x)
 
@@ -31,11 +31,11 @@ pub record Certificate (p : Plant) (xs : List ℤ) (π : ℕ → ℤ) : Type 0 w
   pub balance : allowed p xs ≡ true
   pub steps : Steps 1 π (p .streams) (amountAt xs)
 
--- A stream's part in the cost of a whole flow and of one over D, and the cost as their sum.
+-- A stream's part in the cost of a whole flow.
 abbrev pub share : Stream → ℤ → ℕ
 share s x = weightOf s * square (x -ℤ s .reading)
 
--- What a stream's amount in D-ths costs.
+-- D squared times what a stream's amount in D-ths costs.
 abbrev pub shareOver : ℕ → Stream → ℤ → ℕ
 shareOver D s x = weightOf s * square (x -ℤ pos D *ℤ s .reading)
 

@@ -14,7 +14,7 @@ use Rattle.plant_def.specs.declared.Stream.{Stream}
 use Rattle.plant_def.specs.Plants.{Plant, limited}
 use Rattle.flow_def.specs.Flows.{streamAt, amountAt, balanced, inRange, inRanges, allowedOver, nearest}
 use Rattle.flow_def.specs.Certificate.{rises, falls}
-use Rattle.flow_def.proofs.Integers.{up, dn, Le, Lt, leZ-le, le-leZ, ltZ-lt, lt-ltZ, Le-unless, Le-antisym, minus-val, product, one-times, val}
+use Rattle.num_bytes.proofs.Integers.{up, dn, Le, Lt, leZ-le, le-leZ, ltZ-lt, lt-ltZ, Le-unless, Le-antisym, minus-val, product, one-times, val}
 use Rattle.flow_def.proofs.Nets.{countOf, streamOf, balanced-size}
 use Rattle.flow_def.proofs.Steps.{Free}
 
@@ -50,7 +50,7 @@ pub whole-holds : (s : Stream) (x : ℤ) → (limited s ≡ true → Le (s .low)
 whole-holds s x f = range-holds 1 s x (λ h.
     (omega (arith, f h .0, val _ _ (one-times (s .low))), omega (arith, f h .1, val _ _ (one-times (s .high)))))
 
--- The ranges of all streams.
+-- Amounts that are in range together are in range one by one.
 pub ranges-at : (d : ℕ) (ss : List Stream) (xs : List ℤ) → length xs ≡ length ss → inRanges d ss xs ≡ true
     → (k : ℕ) → k < length ss → inRange d (streamAt ss k) (amountAt xs k) ≡ true
 ranges-at d [] xs n e k l = absurd (omega arith)
@@ -104,7 +104,7 @@ module _ (D : ℕ) (s : Stream) (x y : ℤ) (e : inRange D s y ≡ true) where
       scaled : D * (up (x -ℤ s .reading) + (dn x + up (s .reading))) ≡ D * (up x + dn (s .reading) + dn (x -ℤ s .reading))
       scaled = ap (λ k. D * k) (minus-val x (s .reading))
 
--- An amount in range lies on a side to which another in range may move.
+-- Where an amount in range is above x, x may rise; where it is below x, x may fall.
 pub free-whole : (s : Stream) (x y : ℤ) → inRange 1 s y ≡ true → Free (falls s x) (rises s x) (x -ℤ s .reading) (y -ℤ s .reading)
 free-whole s x y e =
     rw (one-times (x -ℤ s .reading), one-times (s .reading)) at (free-over 1 s x y e)

@@ -163,7 +163,7 @@ module _ (counts : Counting) where
   pub joined-self : (p : Plant) (u : ℕ) → has u (joinedTo counts p u) ≡ true
   joined-self p u = rounds-keep (suc (p .units)) (p .streams) (u ∷ []) u (has-first u [])
 
--- Chains one after the other, and followed back.
+-- Two chains, one after the other, are a chain.
 pub chain-trans : {counts : Counting} {ss : List Stream} {u v w : ℕ} → Chain counts ss u v → Chain counts ss v w → Chain counts ss u w
 chain-trans c stop = c
 chain-trans c (along k l h d) = along k l h (chain-trans c d)
@@ -217,7 +217,7 @@ module _ (P : ℕ → Type 0) (counts : Counting) where
   holds-rounds zero ss seen c h = h
   holds-rounds (suc l) ss seen c h = holds-rounds l ss (spread counts 0 ss seen) c (holds-spread 0 ss seen c h)
 
--- Membership is exactly a chain of streams that count.
+-- A chain of streams that count leads to each place of the set.
 pub joined→chain : (counts : Counting) (p : Plant) (u v : ℕ) → has v (joinedTo counts p u) ≡ true → Chain counts (p .streams) u v
 joined→chain counts p u v e =
     holds-rounds (Chain counts (p .streams) u) counts (suc (p .units)) (p .streams) (u ∷ [])

@@ -13,8 +13,8 @@ use Rattle.num_bytes.proofs.Tests.{clash}
 use Rattle.plant_def.specs.declared.Stream.{Stream}
 use Rattle.flow_def.specs.Flows.{streamAt}
 use Rattle.flow_def.specs.Chains.{Counting, Chain}
-use Rattle.flow_def.proofs.Integers.{canon, Z·diff, plus-four}
-use Rattle.flow_def.proofs.Sums.{sum-same, sum-none, sum-plus, sum-only}
+use Rattle.num_bytes.proofs.Integers.{canon, Z·diff, plus-four}
+use Rattle.num_bytes.proofs.Sums.{sum-same, sum-none, sum-plus, sum-only}
 use Rattle.flow_def.proofs.Nets.{brought, netOf}
 
 -- The amount t at one number, of a place or a stream, and nothing at any other.
@@ -69,7 +69,7 @@ brought-back u s x =
     ∙ ap₂ _-ℤ_ (only-neg (s .to) x u) (only-neg (s .from) x u)
     ∙ turned (only (s .from) x u) (only (s .to) x u)
 
--- Nets: of no flow, of two flows together, of one stream alone.
+-- With nothing on any stream the net of a place is 0.
 pub net-none : (ss : List Stream) (u : ℕ) → netOf ss (λ k. pos 0) u ≡ pos 0
 net-none ss u = sum-none (length ss) _ (λ k l. brought-none u (streamAt ss k))
 

@@ -4,7 +4,8 @@ use lib.IntN.{ℤ, pos, _+ℤ_, _-ℤ_, _*ℤ_}
 use Prim.Native.Nat.{ℕ, suc, _*_}
 use native.Mathlib.Omega.{arith}
 use Rattle.flow_def.specs.Flows.{square}
-use Rattle.flow_def.proofs.Integers.{canon, Z·diff, square-is}
+use Rattle.num_bytes.proofs.Integers.{canon, Z·diff}
+use Rattle.flow_def.proofs.Squares.{square-is}
 
 weighed-square : (w : ℕ) (x : ℤ) → pos (w * square x) ≡ pos w *ℤ (x *ℤ x)
 weighed-square w x = ap (λ (z : ℤ). pos w *ℤ z) (square-is x)
@@ -39,7 +40,7 @@ times-share c w y = weighed-square w (pos c *ℤ y) ∙ ring ∙ ap (λ (z : ℤ
     ring : pos w *ℤ ((pos c *ℤ y) *ℤ (pos c *ℤ y)) ≡ pos (c * c) *ℤ (pos w *ℤ (y *ℤ y))
     ring = rw (← canon y) (simp Z·diff (omega arith))
 
--- Deviations from a reading r over d: of so many times an amount, of a mixture, of a difference.
+-- The deviation of c times an amount, over c times the denominator, is c times its deviation.
 pub times-from : (c d : ℕ) (x r : ℤ) → pos c *ℤ x -ℤ pos (c * d) *ℤ r ≡ pos c *ℤ (x -ℤ pos d *ℤ r)
 times-from c d x r = rw (← canon x, ← canon r) (simp Z·diff (omega arith))
 

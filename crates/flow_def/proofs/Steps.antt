@@ -9,7 +9,8 @@ use native.Mathlib.Omega.{arith}
 use native.Mathlib.Decide.{decLe}
 use Rattle.flow_def.specs.Flows.{square}
 use Rattle.flow_def.specs.Certificate.{lower, upper}
-use Rattle.flow_def.proofs.Integers.{up, dn, diff, Le, Lt, canon, Z·diff, diff-val, diff-iff, plus-val, same, val, square-diff, between}
+use Rattle.num_bytes.proofs.Integers.{up, dn, diff, Le, Lt, canon, Z·diff, diff-val, diff-iff, plus-val, same, val, between}
+use Rattle.flow_def.proofs.Squares.{square-diff}
 
 -- The condition, at step Δ: the potential difference c of a stream of weight w whose amount is d above its reading is within bounds,
 -- the lower where the amount may be less (a), the upper where it may be more (b).
@@ -201,7 +202,7 @@ rise-tied w A B C D p q (suc (suc t)) l h e k =
       mul-le-mul-right (suc (suc t)) (h (omega arith)),
     ))
 
--- Where another amount in range costs the same, against the potentials, the two are tied.
+-- Where another amount in range costs no more, against the potentials, the two are tied.
 pub tied : (w : ℕ) (d e c : ℤ) (a b : Bool) → 1 ≤ w → Step 1 w d c a b → Free a b d e
     → Le (pos (w * square e) +ℤ c *ℤ d) (pos (w * square d) +ℤ c *ℤ e) → Tied w d e c a b
 tied w d e c a b l s g k = ⊎-elim

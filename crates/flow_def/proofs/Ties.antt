@@ -16,19 +16,19 @@ use Rattle.plant_def.specs.Plants.{Plant}
 use Rattle.plant_def.specs.Within.{Within}
 use Rattle.flow_def.specs.Flows.{streamAt, amountAt, allowed, cost, Cheapest}
 use Rattle.flow_def.specs.Certificate.{weightOf, climb, lower, upper, leastClimb, mostClimb, rises, falls}
-use Rattle.flow_def.proofs.Integers.{Le, Lt, Le-unless, val, plus-val, minus-val, up-neg, dn-neg}
-use Rattle.flow_def.proofs.Sums.{sum-tight}
+use Rattle.num_bytes.proofs.Integers.{Le, Lt, Le-unless, val, plus-val, minus-val, up-neg, dn-neg}
+use Rattle.num_bytes.proofs.Sums.{sum-tight}
 use Rattle.flow_def.proofs.Nets.{countOf, streamOf, crossing, no-crossing, balanced-size}
 use Rattle.flow_def.proofs.Steps.{Step, Tied, level, above, below, free}
 use Rattle.flow_def.proofs.Ranges.{balanced-of, unmetered-moves}
 use Rattle.flow_def.proofs.Potentials.{Certificate, least, ties}
 use Rattle.flow_def.proofs.Order.{AgreeTo, LeadsTo, in-order}
 
--- A stream that cannot carry less, or more, at no cost: that would cost, or leave its range.
+-- A stream that cannot carry less at no cost: less would cost, or leave its range.
 abbrev pub NoLess : (ℕ → ℤ) → Stream → ℤ → Type 0
 NoLess π s x = falls s x ≡ true → Lt (leastClimb s x) (climb π s)
 
--- The stream's amount cannot fall at no cost, against the potentials.
+-- The stream's amount cannot rise at no cost, against the potentials.
 abbrev pub NoMore : (ℕ → ℤ) → Stream → ℤ → Type 0
 NoMore π s x = rises s x ≡ true → Lt (climb π s) (mostClimb s x)
 

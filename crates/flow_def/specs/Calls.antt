@@ -19,7 +19,8 @@ use Rattle.flow_def.specs.Classes.{classOf}
 use Rattle.flow_def.specs.Chains.{Counting, everyStream, unmeteredOnly}
 use Rattle.flow_def.specs.Groups.{Groups}
 use Rattle.flow_def.specs.Labels.{oneLabel}
-use Rattle.flow_def.specs.Sides.{bit, takenAt, loopedAfter}
+use Rattle.num_bytes.specs.Sums.{bit}
+use Rattle.flow_def.specs.Sides.{takenAt, loopedAfter}
 
 -- Which streams count, by the cases of Which.
 abbrev pub counting : Which → Counting

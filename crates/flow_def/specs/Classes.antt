@@ -12,7 +12,7 @@ use Rattle.flow_def.specs.declared.Class.the-variants.{Adjusted, AsRead,
 use Rattle.flow_def.specs.Flows.{streamAt, amountAt}
 use Rattle.flow_def.specs.Chains.{Counting, everyStream, unmeteredOnly}
 
--- Sets of places as lists.
+-- Place u is in a set of places, held as a list.
 abbrev pub has : ℕ → List ℕ → Bool
 has u [] = false
 has u (v ∷ vs) = eqb u v || has u vs
@@ -74,7 +74,7 @@ givenOf p i xs = sideOut (joinedTo (unmeteredBut i) p (streamAt (p .streams) i .
 abbrev pub numberOf : Plant → List ℤ → ℕ → ℤ
 numberOf p xs i = pick (streamAt (p .streams) i .metered) (amountAt xs i) (givenOf p i xs)
 
--- The sets of joined places, counted by their lowest members, places 0 to n.
+-- Place u is not above any place of a list.
 abbrev pub lowest : ℕ → List ℕ → Bool
 lowest u [] = true
 lowest u (v ∷ vs) = leb u v && lowest u vs

@@ -11,7 +11,7 @@ use Rattle.plant_def.specs.Plants.{Plant, limited, plantFault}
 use Rattle.flow_def.specs.Flows.{streamAt, amountAt, allowedOver}
 use Rattle.flow_def.specs.Certificate.{weightOf, climb, every, listedPotential}
 
--- More, or less, than an amount over d is in the stream's range.
+-- More than an amount over d is in the stream's range.
 abbrev pub risesOver : ℕ → Stream → ℤ → Bool
 risesOver d s y = not (limited s) || ltZ y (pos d *ℤ s .high)
 

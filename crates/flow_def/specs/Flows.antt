@@ -11,7 +11,7 @@ use Rattle.num_bytes.specs.Choice.{pick}
 use Rattle.plant_def.specs.declared.Stream.{Stream}
 use Rattle.plant_def.specs.Plants.{Plant, noStream, limited}
 
--- Stream k of a list, and its amount in a flow, counted from 0.
+-- Stream k of a list, counted from 0.
 abbrev pub streamAt : List Stream → ℕ → Stream
 streamAt ss k = getD ss k noStream
 
@@ -54,7 +54,7 @@ allowedOver d p xs = balanced p xs && inRanges d (p .streams) xs
 abbrev pub allowed : Plant → List ℤ → Bool
 allowed p xs = allowedOver 1 p xs
 
--- The square of a correction.
+-- The square of a signed number, as an unsigned one.
 abbrev pub square : ℤ → ℕ
 square z = natAbs z * natAbs z
 

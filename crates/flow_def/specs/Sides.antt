@@ -1,8 +1,7 @@
 -- The streams that join two groups, in one pass over the streams. Each takes a label away, the higher one of its ends, and bit h
 -- of a place's sides tells on which side of the stream that took label h away the place lies.
 use mathlib.Core.List.{List}
-use Prim.Native.Nat.{ℕ, zero, suc, _/_, _%_, _^_, max}
-use mathlib.Core.Bool.{Bool}
+use Prim.Native.Nat.{ℕ, zero, suc, _^_, max}
 use lib.Dec.{eqb}
 use lib.ListN.{getD, replicate}
 use lib.Bits.{bitOr, bitXor}
@@ -13,10 +12,6 @@ use Rattle.flow_def.specs.Flows.{streamAt}
 use Rattle.num_bytes.specs.Inner.{values}
 use Rattle.flow_def.specs.Chains.{unmeteredOnly}
 use Rattle.flow_def.specs.Labels.{labelsAfter, oneLabel}
-
--- Bit h of a number.
-abbrev pub bit : ℕ → ℕ → Bool
-bit h x = eqb (x / 2 ^ h % 2) 1
 
 -- The label that a stream takes away, 0 where it takes none.
 abbrev pub takenBy : List ℕ → Stream → ℕ
@@ -38,16 +33,16 @@ turned h by ls sides = values places (λ u. pick (eqb (getD ls u 0) h) (bitXor (
 abbrev pub parted : ℕ → List ℕ → Stream → List ℕ → List ℕ
 parted h ls s sides = pick (eqb h 0) sides (turned h (bitXor (apart sides s) (2 ^ h)) ls sides)
 
--- After k steps.
+-- The label that stream k takes away, 0 where it takes none.
 abbrev pub takenAt : List Stream → ℕ → ℕ
 takenAt ss k = takenBy (labelsAfter unmeteredOnly ss k) (streamAt ss k)
 
--- The sides of the places after k streams,
+-- The sides of the places after k streams.
 unfoldable pub sidesAfter : List Stream → ℕ → List ℕ
 sidesAfter ss zero = replicate places 0
 sidesAfter ss (suc k) = parted (takenAt ss k) (labelsAfter unmeteredOnly ss k) (streamAt ss k) (sidesAfter ss k)
 
--- and the loops met, bit 0 set from the start.
+-- The streams found on a loop after k streams: bit h for the one that took label h away; bit 0 is set from the start.
 unfoldable pub loopedAfter : List Stream → ℕ → ℕ
 loopedAfter ss zero = 1
 loopedAfter ss (suc k) = bitOr (loopedAfter ss k) (loopedBy (labelsAfter unmeteredOnly ss k) (sidesAfter ss k) (streamAt ss k))

@@ -17,7 +17,7 @@ use Rattle.flow_def.specs.declared.Class.the-variants.{Adjusted}
 use Rattle.flow_def.specs.Classes.{classOf}
 use Rattle.flow_def.specs.Calls.{classesOf}
 use Rattle.flow_def.specs.Shown.{adjustedWeight, adjustedTo, adjusted}
-use Rattle.flow_def.proofs.Lists.{values-at}
+use Rattle.num_bytes.proofs.Lists.{values-at}
 
 -- A plant and the classes of its streams.
 pub record Classed (p : Arrays.Plant) (cs : List Class) : Type 0 where

@@ -19,8 +19,8 @@ use Rattle.flow_def.specs.declared.Class.{Class}
 use Rattle.flow_def.specs.declared.Class.the-variants.{Adjusted, AsRead, Given, Withheld}
 use Rattle.flow_def.specs.Flows.{streamAt, amountAt, balanced, inRange, allowed, cost, OfLeastCost}
 use Rattle.flow_def.specs.Classes.{has, joinedTo, unmeteredBut, classOf, sideOut}
-use Rattle.flow_def.proofs.Integers.{up, dn, plus-val, up-neg, dn-neg, size-val, parts, minus-none, pos-inj}
-use Rattle.flow_def.proofs.Sums.{sum-same}
+use Rattle.num_bytes.proofs.Integers.{up, dn, plus-val, up-neg, dn-neg, size-val, parts, minus-none, pos-inj}
+use Rattle.num_bytes.proofs.Sums.{sum-same}
 use Rattle.flow_def.proofs.Nets.{countOf, streamOf, netOf, inside, listed, listed-size, listed-at, balanced-nets}
 use Rattle.flow_def.proofs.Given.{class-means, number-is}
 use Rattle.flow_def.proofs.Ranges.{allowed-of, range-of, balanced-of}

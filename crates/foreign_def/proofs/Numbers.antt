@@ -14,7 +14,7 @@ use Rattle.plant_def.specs.Says.{plantOf}
 use Rattle.plant_def.specs.Within.{Within, Accepted}
 use Rattle.flow_def.specs.Flows.{amountAt, OfLeastCost}
 use Rattle.flow_def.specs.Certificate.{weightOf, climb, rises, falls}
-use Rattle.flow_def.proofs.Integers.{same, val, minus-val, size-val, parts}
+use Rattle.num_bytes.proofs.Integers.{same, val, minus-val, size-val, parts}
 use Rattle.flow_def.proofs.Nets.{countOf, streamOf}
 use Rattle.flow_def.proofs.Potentials.{StepAt, Certificate, ties}
 use Rattle.flow_def.proofs.Certified.{kilter-says}

@@ -101,7 +101,7 @@ same-plant file p q e f = cc
 
 -- Numbers that serve pass all that must pass.
 module _ (file : List ℕ) (p : Plant) (e : readPlant file ≡ got p) (numbers : List ℤ) (serve : Serve p numbers) where
-  -- Every sheet that shows a flow of least cost passes.
+  -- The check answers 0 for our own sheets, and for each that differs only in showing another flow of least cost.
   pub pass-all : PassAll file p numbers
   pass-all = record {
     ours = λ office lasts o o′ s r top says z c.

@@ -14,7 +14,7 @@ use Rattle.plant_def.specs.Plants.{limited}
 use Rattle.plant_def.specs.Within.{WithinStream}
 use Rattle.flow_def.specs.Flows.{inRange}
 use Rattle.flow_def.specs.Certificate.{weightOf, climb, lower, upper, leastClimb, mostClimb, rises, falls}
-use Rattle.flow_def.proofs.Integers.{up, dn, Le, Lt, val, canon, Z·diff, minus-val, size-val, leZ-le, le-leZ, ltZ-lt}
+use Rattle.num_bytes.proofs.Integers.{up, dn, Le, Lt, val, canon, Z·diff, minus-val, size-val, leZ-le, le-leZ, ltZ-lt}
 use Rattle.flow_def.proofs.Ranges.{asked, whole-says, at-low, at-high, unmetered-moves}
 use Rattle.flow_def.proofs.Steps.{Step, Tied, level, above, below, free}
 use Rattle.flow_def.proofs.Potentials.{StepAt}

@@ -11,7 +11,7 @@ use Rattle.plant_def.specs.declared.Stream.{Stream}
 use Rattle.plant_def.specs.Plants.{Plant}
 use Rattle.flow_def.specs.Flows.{streamAt}
 use Rattle.flow_def.specs.Classes.{classOf}
-use Rattle.flow_def.proofs.Sums.{sum, sum-same, sum-plus, sum-front}
+use Rattle.num_bytes.proofs.Sums.{sum, sum-same, sum-plus, sum-front}
 use Rattle.flow_def.proofs.Nets.{countOf, streamOf, crossing}
 use Rattle.sheet_def.specs.declared.Entry.{Entry}
 use Rattle.sheet_def.specs.Sheets.{SheetParts, known}

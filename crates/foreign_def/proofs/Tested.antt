@@ -26,9 +26,9 @@ use Rattle.flow_def.specs.Labels.{labelsOf, oneLabel}
 use Rattle.flow_def.specs.Test.{verdictAt}
 use Rattle.flow_def.specs.Shown.{adjusted}
 use Rattle.flow_def.specs.Certificate.{inKilter}
-use Rattle.flow_def.proofs.Integers.{size-none, minus-none}
+use Rattle.num_bytes.proofs.Integers.{size-none, minus-none}
 use Rattle.flow_def.proofs.Certified.{every-at, every-all, kilter-says, says-kilter}
-use Rattle.flow_def.proofs.Sums.{sum, sum-same, sum-none}
+use Rattle.num_bytes.proofs.Sums.{sum, sum-same, sum-none}
 use Rattle.flow_def.proofs.Nets.{countOf, streamOf, inside, crossing}
 use Rattle.flow_def.proofs.Labels.{label-joined, label-member, label-low}
 use Rattle.flow_def.proofs.Decided.{Decided, solved, full}

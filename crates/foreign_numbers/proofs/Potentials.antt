@@ -16,7 +16,7 @@ use Rattle.plant_def.specs.Limits.{places}
 use Rattle.plant_def.specs.Within.{Accepted}
 use Rattle.plant_def.specs.Says.{plantOf}
 use Rattle.plant_def.proofs.Arrayed.{within-of}
-use Rattle.flow_def.proofs.Lists.{Written}
+use Rattle.num_bytes.proofs.Lists.{Written}
 use Rattle.solve_def.specs.Sizes.{potentialShift}
 use Rattle.solve_def.specs.declared.Solved.{Solved}
 use Rattle.solve_def.specs.Promise.{flowOf, Solution}

@@ -28,13 +28,13 @@ use Rattle.flow_def.specs.declared.Class.the-variants.{Adjusted}
 use Rattle.flow_def.specs.Classes.{classOf}
 use Rattle.flow_def.specs.Calls.{classesOf}
 use Rattle.flow_def.specs.Flows.{streamAt, amountAt}
-use Rattle.flow_def.specs.Nets.{sum}
+use Rattle.num_bytes.specs.Sums.{sum}
 use Rattle.flow_def.specs.Chains.{Counting}
 use Rattle.flow_def.specs.Labels.{labelsOf}
 use Rattle.flow_def.proofs.Labels.{label-low}
 use Rattle.flow_def.proofs.Nets.{inside}
-use Rattle.flow_def.proofs.Lists.{values-at}
-use Rattle.flow_def.proofs.Integers.{up-neg, dn-neg, size-val, size-none, canon, Z·diff, plus-size}
+use Rattle.num_bytes.proofs.Lists.{values-at}
+use Rattle.num_bytes.proofs.Integers.{up-neg, dn-neg, size-val, size-none, canon, Z·diff, plus-size}
 use Rattle.flow_def.proofs.Certified.{every-all, every-off}
 use Rattle.solve_def.specs.Sizes.{flowShift}
 use Rattle.sheet_def.specs.Calls.{AllSmall}

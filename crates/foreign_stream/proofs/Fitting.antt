@@ -17,7 +17,7 @@ use Rattle.plant_def.specs.Limits.{maxWeight}
 use Rattle.plant_def.specs.Plants.{limited}
 use Rattle.flow_def.specs.Flows.{inRange}
 use Rattle.flow_def.specs.Certificate.{weightOf, rises, falls, leastClimb, mostClimb}
-use Rattle.flow_def.proofs.Integers.{size-val, product, one-times, ltZ-lt, le-leZ, leZ-le, lt-ltZ, Le-unless}
+use Rattle.num_bytes.proofs.Integers.{size-val, product, one-times, ltZ-lt, le-leZ, leZ-le, lt-ltZ, Le-unless}
 use Rattle.solve_def.proofs.Weights.{wide}
 use Rattle.sheet_def.specs.Calls.{Small}
 use Rattle.sheet_cost.proofs.Costing.{size-fits, reading-size, minus-size}
@@ -33,7 +33,7 @@ widens z f = rw (toZ-ofZ w32 z f) (wide z f)
 
 -- In range, by the branches.
 module _ (s : Stream) (x : ℤ) where
-  -- Without limits any flow is in range.
+  -- Without a range any amount is in range.
   pub unlimited : limited s ≡ false → true ≡ inRange 1 s x
   unlimited e = rw e
 
@@ -140,7 +140,7 @@ module _ (beside : ℤ → ℤ) (close : (y : ℤ) → natAbs (beside y) ≤ nat
 
 -- A difference of two numbers that came through 64 bits.
 module _ (x y : ℤ) (fx : SFits w64 x) (fy : SFits w64 y) (fd : SFits w64 (x -ℤ y)) where
-  -- It fits 64 bits, taken through them.
+  -- The difference fits 64 bits.
   pub coded-fits : SFits w64 (toZ w64 (ofZ w64 x) -ℤ toZ w64 (ofZ w64 y))
   coded-fits = rw (toZ-ofZ w64 x fx, toZ-ofZ w64 y fy) fd
 

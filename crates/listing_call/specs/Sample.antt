@@ -16,7 +16,7 @@ use Rattle.listing_lines.specs.Listing.{listingOf}
 abbrev pub sampleFile : List ℕ
 sampleFile = site 2 ++ meter 0 1 10 100 ++ pipe 1 2 ++ pipe 1 2 ++ meter 2 0 10 98 ++ end 4
 
--- It reads to a plant that has a cheapest flow, and its listing is that of the definition.
+-- It reads as a plant that has a cheapest flow, and its listing is that of the definition.
 abbrev pub Sample : Type 0
 Sample =
     (p : Plant)

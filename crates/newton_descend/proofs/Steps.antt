@@ -8,7 +8,7 @@ use native.Mathlib.Numerals.{add-one}
 use lib.ListN.{length, getD, set, replicate, length-set, length-replicate, getD-replicate}
 use lib.Ieee.{Float, nan, binary64, neg, add, sub, mul, lt}
 use Rattle.plant_def.specs.Limits.{places}
-use Rattle.flow_def.proofs.Lists.{Written, written-all}
+use Rattle.num_bytes.proofs.Lists.{Written, written-all}
 use Rattle.newton_laplacian.specs.Amounts.{amountBy, broughtIn}
 use Rattle.newton_descend.specs.Nets.{none, larger, highestTo, greatestTo, productTo, movedTo, advancedTo, broughtTo, brought, netsTo}
 
@@ -25,17 +25,17 @@ pub highest-none : (xs : List Float) → none ≡ highestTo xs 0
 unfolding highestTo
 highest-none xs = refl
 
--- with one place more, the larger of the two.
+-- with one place more, the larger of that and its number.
 pub highest-more : (xs : List Float) (n : ℕ) (a b : Float) → a ≡ highestTo xs n → b ≡ larger a (getD xs n nan) → b ≡ highestTo xs (n + 1)
 unfolding highestTo
 highest-more xs n a b e f = rw (add-one n) (f ∙ ap (λ (x : Float). larger x (getD xs n nan)) e)
 
--- The greatest size likewise.
+-- Before the first place the greatest size is 0.
 pub greatest-none : (zs : List Float) → none ≡ greatestTo zs 0
 unfolding greatestTo
 greatest-none zs = refl
 
--- By the two tests.
+-- With one place more, the largest of that, its number and its number negated.
 pub greatest-more : (zs : List Float) (n : ℕ) (a b c : Float) → a ≡ greatestTo zs n → b ≡ larger a (getD zs n nan) → c ≡ larger b (neg (getD zs n nan))
     → c ≡ greatestTo zs (n + 1)
 unfolding greatestTo
@@ -58,24 +58,24 @@ module _ (ps ws : List Float) (t : Float) where
   unfolding movedTo
   moved-none rs = refl
 
-  -- and then one more.
+  -- and one place more has its own moved.
   pub moved-more : (rs : List Float) (n : ℕ) (r : List Float) → r ≡ movedTo ps ws t rs n
       → set r n (add binary64 (getD ps n nan) (mul binary64 t (getD ws n nan))) ≡ movedTo ps ws t rs (n + 1)
   unfolding movedTo
   moved-more rs n r e = rw (add-one n) (ap (λ (x : List Float). set x n (add binary64 (getD ps n nan) (mul binary64 t (getD ws n nan)))) e)
 
-  -- The same where the potentials are moved in place: before the first,
+  -- Potentials moved in place: before the first place none is moved,
   pub advanced-none : ps ≡ advancedTo ps ws t 0
   unfolding advancedTo
   advanced-none = refl
 
-  -- and one more;
+  -- one place more has its own moved,
   pub advanced-more : (n : ℕ) (r : List Float) → r ≡ advancedTo ps ws t n
       → set r n (add binary64 (getD r n nan) (mul binary64 t (getD ws n nan))) ≡ advancedTo ps ws t (n + 1)
   unfolding advancedTo
   advanced-more n r e = rw (add-one n) (ap (λ (x : List Float). set x n (add binary64 (getD x n nan) (mul binary64 t (getD ws n nan)))) e)
 
-  -- as many as before.
+  -- and there are as many as before.
   pub advanced-long : (n : ℕ) → length (advancedTo ps ws t n) ≡ length ps
   unfolding advancedTo
   advanced-long zero = refl
@@ -91,7 +91,7 @@ module _ (es : List ℕ) (ms ps : List Float) where
   unfolding netsTo
   nets-none = refl
 
-  -- one stream more takes its amount from its start and brings it to its end;
+  -- one stream more takes its amount from the group of its start and brings it to that of its end;
   pub nets-more : (k : ℕ) (zs : List Float) → zs ≡ netsTo es ms ps k
       → brought es ms ps k zs ≡ netsTo es ms ps (k + 1)
   unfolding netsTo

@@ -18,7 +18,7 @@ one = ofBits binary64 4607182418800017408
 abbrev pub two : Float
 two = ofBits binary64 4611686018427387904
 
--- and the double nearest to a tenth.
+-- and the float of 64 bits nearest to a tenth.
 abbrev pub tenth : Float
 tenth = ofBits binary64 4591870180066957722
 

@@ -1,5 +1,5 @@
 -- A stream in use, by its row: its reading is within its limits; and whether some stream has a range.
-use mathlib.Core.Path.{_≡_, refl, sym, _∙_}
+use mathlib.Core.Path.{_≡_, refl}
 use mathlib.Core.Bool.{Bool, true, false, _||_}
 use mathlib.Core.List.{List}
 use Prim.Native.Nat.{ℕ, zero, suc, _+_, _*_, _≤_, _<_}
@@ -15,7 +15,7 @@ use Rattle.plant_def.specs.Limits.{maxReading}
 use Rattle.plant_def.specs.Plants.{noStream}
 use Rattle.flow_def.specs.Certificate.{weightOf}
 use Rattle.solve_def.specs.Sizes.{mostReading}
-use Rattle.solve_def.specs.Held.{shifted, readingOf}
+use Rattle.solve_def.specs.Held.{readingOf}
 use Rattle.solve_def.specs.SearchNeeds.{Close}
 use Rattle.solve_def.proofs.Bounds.{reading-close}
 use Rattle.solve_arcs.specs.Cells.{countOf}

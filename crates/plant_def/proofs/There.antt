@@ -137,7 +137,7 @@ module _ (n c : ℕ) (x : Stream) (r : List ℕ) (more : c < maxStreams) where
       ∙ ap (λ (z : Stream). checked n z (suc size)) same
       ∙ ap (checked n x) size-is
 
-  -- It is read as that stream, or refused with its fault.
+  -- The record of a stream is read as that stream, or refused with its fault.
   pub stream-due : recorded x ≡ true → recordAt n c (streamBytes x ++ r) ≡ checked n x (length (streamBytes x))
   stream-due h =
       let p : plainOne x ≡ true = and-left (plainOne x) _ h in

@@ -33,7 +33,7 @@ siteFault s =
 abbrev pub siteAt : List ℕ → Site
 siteAt s = pick (eqb (siteFault s) 0) (Units (getD s 1 0)) (Missing (siteFault s))
 
--- What each case of Site means: its number, 0 where it is no refusal, and its value.
+-- The refusal number of what stands there, 0 where it is a site record.
 abbrev pub siteNumber : Site → ℕ
 siteNumber (Units n) = 0
 siteNumber (Missing f) = f
@@ -122,7 +122,7 @@ fileBy at s = onSite (siteAt s) (λ n. recordsBy at mostRecords (record { units 
 abbrev pub readPlant : List ℕ → Got
 readPlant = fileBy recordAt
 
--- Writing. What both kinds of metered stream have; low and high.
+-- Writing. What both kinds of metered stream have: from, to, weight, reading.
 abbrev pub meterBytes : Stream → List ℕ
 meterBytes s = s .from ∷ s .to ∷ putBe 2 (s .weight) ++ putBe 4 (raw 4 (s .reading))
 

@@ -20,7 +20,7 @@ use Rattle.plant_def.specs.Files.{Got, bad, got, readPlant, plantBytes}
 abbrev pub padded : ℕ → List Stream → List Stream
 padded = filled noStream
 
--- A plant as the code holds it, and back: the array's records up to the count.
+-- A plant as the code holds it: its streams in an array, empty records after them.
 abbrev pub arrayed : Plant → Arrays.Plant
 arrayed p = record { units = p .units; count = length (p .streams); streams = padded maxStreams (p .streams) }
 

@@ -17,7 +17,7 @@ use Rattle.plant_def.specs.Limits.{maxStreams}
 use Rattle.plant_def.specs.Plants.{noStream}
 use Rattle.plant_def.specs.Says.{padded}
 use Rattle.plant_def.proofs.Held.{length-padded, padded-more, getD-padded}
-use Rattle.flow_def.proofs.Lists.{values-long, values-at}
+use Rattle.num_bytes.proofs.Lists.{values-long, values-at}
 use Rattle.plant_parts.specs.Parts.{Slices, partsAt, reaches, handed, least, reach, listedTo}
 use Rattle.plant_parts.specs.Inner.{meterAt, rangeAt}
 

@@ -52,7 +52,7 @@ handed p k = pick (reaches p k) (partsAt p k) noStream
 abbrev pub HandedWritten : ℕ → ℕ → Slices → List ℕ → List ℕ → Done → Type 0
 HandedWritten n c p = PartsWritten n c (values c (handed p))
 
--- As the code has it: how many streams every slice reaches, up to the limit, and the first n of the streams that f gives.
+-- The lower of two numbers.
 abbrev pub least : ℕ → ℕ → ℕ
 least a b = pick (ltb a b) a b
 

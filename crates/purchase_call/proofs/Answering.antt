@@ -15,7 +15,7 @@ use Rattle.plant_def.specs.Within.{Accepted}
 use Rattle.plant_def.specs.Says.{plantOf, readOf}
 use Rattle.plant_def.proofs.Arrayed.{all-listed, within-of}
 use Rattle.plant_def.proofs.Found.{says-bad, says-got}
-use Rattle.flow_def.proofs.Lists.{Written}
+use Rattle.num_bytes.proofs.Lists.{Written}
 use Rattle.purchase_def.specs.declared.Bought.{Bought}
 use Rattle.purchase_def.specs.Purchases.{maxPrice, unmeteredTo, priceIn, pricesFault}
 use Rattle.purchase_def.specs.Says.{noneBought, boughtOf, BuyOf, BuyWith, BuySays}

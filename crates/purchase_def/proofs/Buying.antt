@@ -13,11 +13,12 @@ use Rattle.num_bytes.proofs.Tests.{by-cases, and-left, same-test}
 use Rattle.plant_def.specs.Plants.{Plant}
 use Rattle.plant_def.specs.Within.{Within}
 use Rattle.flow_def.specs.Flows.{streamAt}
-use Rattle.flow_def.proofs.Lists.{values-long, values-at}
+use Rattle.num_bytes.proofs.Lists.{values-long, values-at}
 use Rattle.flow_def.proofs.Nets.{inside}
-use Rattle.flow_def.specs.Loops.{countTo, left}
+use Rattle.num_bytes.specs.Sums.{countTo}
+use Rattle.flow_def.specs.Loops.{left}
 use Rattle.flow_def.specs.Metering.{chosen}
-use Rattle.flow_def.proofs.Counts.{one, count-same, count-gap, most, most-le}
+use Rattle.num_bytes.proofs.Counts.{one, count-same, count-gap, most, most-le}
 use Rattle.flow_def.proofs.Left.{none→left, left→none}
 use Rattle.purchase_def.specs.Purchases.{priceOf, numbersOf, notLater, Serves, Best}
 use Rattle.purchase_def.specs.Choosing.{before, bought, toBuy}

@@ -16,8 +16,9 @@ use Rattle.flow_def.specs.Flows.{streamAt}
 use Rattle.flow_def.specs.Chains.{Counting, Chain}
 use Rattle.flow_def.specs.Classes.{has, joinedTo}
 use Rattle.flow_def.proofs.Reach.{Inside, chain-trans, chain-sym, chain-map, joined→chain, chain→joined}
-use Rattle.flow_def.specs.Loops.{countTo, but}
-use Rattle.flow_def.proofs.Counts.{one, count-four}
+use Rattle.num_bytes.specs.Sums.{countTo}
+use Rattle.flow_def.specs.Loops.{but}
+use Rattle.num_bytes.proofs.Counts.{one, count-four}
 use Rattle.flow_def.proofs.Chains.{Spans, chain-bind}
 use Rattle.flow_def.proofs.Ranks.{Free, free-few}
 

@@ -15,7 +15,7 @@ use Rattle.plant_def.specs.Plants.{Plant}
 use Rattle.plant_def.specs.Within.{Within}
 use Rattle.flow_def.specs.Flows.{streamAt}
 use Rattle.flow_def.specs.Chains.{Chain}
-use Rattle.flow_def.proofs.Lists.{values-long, values-at}
+use Rattle.num_bytes.proofs.Lists.{values-long, values-at}
 use Rattle.flow_def.specs.Loops.{but, left}
 use Rattle.flow_def.specs.Metering.{chosen}
 use Rattle.flow_def.proofs.Left.{left→none}

@@ -69,11 +69,11 @@ module _ (f : Stream → Stream) where
         rw (first-none-left (unitsFault n) (firstOf many (firstFault n ss)) e, first-none-left many (firstFault n ss) r)
         (streams-good ss (first-none-right many (firstFault n ss) r))
 
-  -- Then so does the plant,
+  -- A move that keeps each stream without fault keeps the plant without fault,
   pub moved-good : (p : Plant) → ((s : Stream) → streamFault (p .units) s ≡ 0 → streamFault (p .units) (f s) ≡ 0) → plantFault p ≡ 0 → plantFault (moved f p) ≡ 0
   moved-good p good e = rw (length-map (p .streams) f) (parts-good (p .units) good (length (p .streams)) (p .streams) e)
 
-  -- and its streams stay plain.
+  -- and one that keeps each stream plain keeps a list of them plain.
   pub moved-plain : ((s : Stream) → plainOne s ≡ true → plainOne (f s) ≡ true) → (ss : List Stream) → plain ss ≡ true → plain (map f ss) ≡ true
   moved-plain h [] e = refl
   moved-plain h (s ∷ ss) e = and-both (plainOne (f s)) _ (h s (and-left (plainOne s) (plain ss) e)) (moved-plain h ss (and-right (plainOne s) (plain ss) e))

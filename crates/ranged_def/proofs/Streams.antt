@@ -39,7 +39,7 @@ module _ (s : Stream) where
 
   -- With a meter and a range.
   module _ (m : not (s .metered) ≡ false) (r : s .ranged ≡ true) where
-    -- One with a range stays as it is,
+    -- One with a range stays as it is in the ranged form,
     pub widened-before : s ≡ widened s
     widened-before = rw (not-false (s .metered) m, r)
 

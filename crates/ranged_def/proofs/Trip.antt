@@ -91,7 +91,7 @@ trip file p a e h o o′ u u′ r q l m s t =
       again .1 ∙ ap (λ (x : List ℕ). over x u) same,
     )
 
--- All of it.
+-- Both moves write plant files, and a file without ranges comes home byte for byte.
 pub moving : Moving
 moving = record {
   forth = λ file p. forth-read file (readPlant file) refl p;

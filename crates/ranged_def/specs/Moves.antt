@@ -13,7 +13,7 @@ use Rattle.plant_def.specs.Plants.{Plant, limited}
 use Rattle.plant_def.specs.Files.{Got, bad, got, readPlant}
 use Rattle.plant_def.specs.Converts.{Converts}
 
--- The widest range that there is.
+-- The low end of the widest range that there is.
 abbrev pub widestLow : ℤ
 widestLow = negℤ (pos maxRange)
 
@@ -56,7 +56,7 @@ forward = moved widened
 abbrev pub home : Plant → Plant
 home = moved bared
 
--- The same of what was read: the reader's refusals first; backward, then 20.
+-- The same of what was read, to the ranged form: the reader's refusals.
 abbrev pub toRanged : Got → Got
 toRanged (bad f) = bad f
 toRanged (got p) = got (forward p)

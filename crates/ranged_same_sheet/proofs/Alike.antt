@@ -19,7 +19,7 @@ use Rattle.flow_def.specs.Chains.{Counting, everyStream, unmeteredOnly}
 use Rattle.flow_def.specs.Classes.{has, including, spread, rounds, joinedTo, unmeteredBut, oneGroup, onLoop, classOf, sideOut, givenOf, numberOf, lowest, leadersTo, degrees}
 use Rattle.flow_def.specs.Test.{verdictAt}
 use Rattle.flow_def.specs.Shown.{adjustedWeight, adjustedTo, adjusted}
-use Rattle.flow_def.proofs.Lists.{values-same}
+use Rattle.num_bytes.proofs.Lists.{values-same}
 use Rattle.sheet_def.specs.Apart.{capped}
 use Rattle.sheet_def.specs.Balances.{entryOf, balanceOf}
 use Rattle.sheet_def.specs.Drawings.{sheetBytes, sheetOf}
@@ -53,7 +53,7 @@ weight-alone Given s t e = refl
 weight-alone Withheld s t e = refl
 
 module _ (f : Stream → Stream) (keep : Keeps f) where
-  -- Stream k, moved.
+  -- Stream k of the streams moved is stream k, moved.
   pub moved-at : (ss : List Stream) (k : ℕ) → streamAt (map f ss) k ≡ f (streamAt ss k)
   moved-at ss k = ap (λ (d : Stream). streamFrom d) (sym (keep .empty)) ∙ List·getD-map f ss k noStream
     where

@@ -18,15 +18,15 @@ use Rattle.plant_def.specs.Limits.{maxStreams, maxWeight, maxReading, maxRange}
 use Rattle.plant_def.specs.Plants.{Plant, noStream, limited}
 use Rattle.plant_def.specs.Within.{Within, WithinStream}
 use Rattle.flow_def.specs.Flows.{streamAt, amountAt, balanced, inRange, square, cost}
-use Rattle.flow_def.proofs.Integers.{size-val, minus-val, parts, one-times}
-use Rattle.flow_def.proofs.Sums.{sum-none}
+use Rattle.num_bytes.proofs.Integers.{size-val, minus-val, parts, one-times}
+use Rattle.num_bytes.proofs.Sums.{sum-none}
 use Rattle.flow_def.proofs.Nets.{countOf, streamOf, listed, listed-balanced}
 use Rattle.flow_def.proofs.Ranges.{whole-holds}
 use Rattle.flow_def.proofs.Routes.{brought-none}
 use Rattle.ranged_def.specs.Moves.{widestLow, widestHigh, widened}
 use Rattle.ranged_def.specs.Trip.{rangeless}
 
--- What the zero flow costs at most: one stream, and all of them.
+-- The most that one stream of the zero flow may cost.
 mostEach : ℕ
 mostEach = maxWeight * (maxReading * maxReading)
 
@@ -59,11 +59,11 @@ zero-costs : (n : ℕ) (ss : List Stream) → ((k : ℕ) → k < length ss → W
 zero-costs n [] h = omega arith
 zero-costs n (s ∷ ss) h = omega (arith, zero-cost n s (h 0 (omega arith)), zero-costs n ss (λ k l. h (suc k) (omega arith)))
 
--- The flow of nothing.
+-- The zero flow: nothing on any stream.
 abbrev pub zeroFlow : Plant → List ℤ
 zeroFlow p = listed p (λ k. pos 0)
 
--- It costs no more than that,
+-- It costs no more than the most stated above,
 pub zero-most : (p : Plant) → Within p → cost (p .streams) (zeroFlow p) ≤ mostCost
 unfolding mostCost
 zero-most p w = omega (arith, zero-costs (p .units) (p .streams) (w .each), mul-le-mul-right mostEach (w .few-streams))
@@ -78,7 +78,7 @@ rangeless-at [] e k l = absurd (omega arith)
 rangeless-at (s ∷ ss) e zero l = and-left (not (limited s)) (rangeless ss) e
 rangeless-at (s ∷ ss) e (suc k) l = rangeless-at ss (and-right (not (limited s)) (rangeless ss) e) k (omega arith)
 
--- Without limits any amount is in range.
+-- On a stream without a range any amount is in range.
 pub any-amount : (s : Stream) (x : ℤ) → not (limited s) ≡ true → inRange 1 s x ≡ true
 any-amount s x n = whole-holds s x (λ q. clash (limited s) q (not-true (limited s) n))
 

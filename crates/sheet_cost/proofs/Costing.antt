@@ -23,13 +23,13 @@ use Rattle.plant_def.specs.Limits.{maxUnits, maxStreams}
 use Rattle.plant_def.specs.Within.{WithinStream, Accepted}
 use Rattle.plant_def.proofs.Arrayed.{all-listed, listed-at, stream-within}
 use Rattle.flow_def.specs.Flows.{streamAt, amountAt, cost}
-use Rattle.flow_def.proofs.Integers.{size-val, minus-val, parts, one-times}
+use Rattle.num_bytes.proofs.Integers.{size-val, minus-val, parts, one-times}
 use Rattle.solve_def.proofs.Weights.{wide}
 use Rattle.sheet_def.specs.Apart.{topCost, capped}
 use Rattle.sheet_def.specs.Calls.{Small, AllSmall, streamCost}
 use Rattle.sheet_def.proofs.Capped.{capped-below, capped-above, capped-most}
 
--- A reading taken away from a small flow fits.
+-- A number of size below 2^63 fits 64 bits.
 pub size-fits : (z : ℤ) → 2 * natAbs z < 2 ^ 64 → SFits w64 z
 size-fits (pos a) h = sfits-of (omega arith)
 size-fits (negsuc a) h = sfits-of (omega arith)
@@ -39,7 +39,7 @@ pub reading-size : (z : ℤ) → SFits w32 z → natAbs z ≤ 2 ^ 31
 reading-size (pos a) f = omega (arith, f .sfits)
 reading-size (negsuc a) f = omega (arith, f .sfits)
 
--- A difference is at most the sum of the sizes.
+-- The size of a difference is at most the sum of the sizes.
 pub minus-size : (x z : ℤ) → natAbs (x -ℤ z) ≤ natAbs x + natAbs z
 minus-size x z =
     let d = x -ℤ z in
@@ -84,7 +84,7 @@ capped-add a c = elim (decLe a topCost) [
   | no h ↦ capped-above (capped a + c) (omega (arith, capped-above a (omega arith))) ∙ sym (capped-above (a + c) (omega arith))
 ]
 
--- Sums of costs as they are written, written, are the sum as it is written.
+-- A stream's cost, and the sum up to it, may be capped before the rest is added.
 pub capped-sum : (a b c : ℕ) → capped (capped (a + capped b) + c) ≡ capped (a + (b + c))
 capped-sum a b c =
     let e : a + capped b + c ≡ capped b + (a + c) = omega arith in
@@ -142,11 +142,11 @@ module _ {p : Arrays.Plant} {xs : List ℤ} {sum i : ℕ} (c : Costed p xs) (r :
         one : cost (streamAt (plantOf p .streams) i ∷ []) (amountAt (take (p .count) xs) i ∷ []) ≡ streamCost (getD (p .streams) i noStream) (amountAt xs i)
         one = rw (listed-at p (c .accepted) i more, getD-take (p .count) xs i (pos 0) more) (omega arith)
 
-    -- The next stream is within its limits, and its flow small.
+    -- The next stream is within its limits, and its amount is small.
     pub next-fits : WithinStream maxUnits (getD (p .streams) i noStream) × Small (amountAt xs i)
     next-fits = (stream-within p (c .accepted) i more, c .small i (omega (arith, c .accepted .within .few-streams)))
 
-    -- One stream more.
+    -- With the next stream's cost added, one stream more is summed up.
     pub summed-more : (k new : ℕ) → k ≡ capped (streamCost (getD (p .streams) i noStream) (amountAt xs i)) → new ≡ capped (sum + k) → Summed p xs new (i + 1)
     summed-more k new e f = record {
       within = omega arith;

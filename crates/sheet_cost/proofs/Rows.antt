@@ -1,6 +1,5 @@
 -- What streams cost by their rows.
 use mathlib.Core.Path.{_≡_, refl, sym, ap, _∙_}
-use mathlib.Core.Bool.{Bool, true, false}
 use mathlib.Core.Logic.{⊎-elim}
 use mathlib.Core.List.{List, [], _∷_, map}
 use lib.IntN.{ℤ, pos, natAbs, _-ℤ_}
@@ -19,9 +18,9 @@ use Rattle.plant_def.specs.Within.{WithinStream}
 use Rattle.plant_def.proofs.Arrayed.{stream-within}
 use Rattle.flow_def.specs.Certificate.{weightOf}
 use Rattle.flow_def.specs.Flows.{amountAt, cost}
-use Rattle.flow_def.proofs.Integers.{size-val, minus-val, parts}
-use Rattle.flow_def.proofs.Lists.{map-at}
-use Rattle.solve_def.specs.Sizes.{flowShift, mostFlow}
+use Rattle.num_bytes.proofs.Integers.{size-val, minus-val, parts}
+use Rattle.num_bytes.proofs.Lists.{map-at}
+use Rattle.solve_def.specs.Sizes.{flowShift}
 use Rattle.solve_def.specs.Held.{shifted, unshifted, opened, readingOf}
 use Rattle.solve_def.specs.SolverNeeds.{Amounts}
 use Rattle.solve_def.proofs.Amounts.{unshifted-val}
@@ -29,7 +28,7 @@ use Rattle.solve_def.proofs.Certify.{held-val}
 use Rattle.solve_arcs_fill.specs.Plants.{LaidOf}
 use Rattle.solve_arcs_fill.proofs.Plants.{weight-at, pull-at}
 use Rattle.sheet_def.specs.Apart.{capped}
-use Rattle.sheet_def.specs.Calls.{AllSmall, streamCost}
+use Rattle.sheet_def.specs.Calls.{streamCost}
 use Rattle.sheet_def.proofs.Opening.{opened-small}
 use Rattle.sheet_cost.specs.Rows.{apartSquared}
 use Rattle.sheet_cost.proofs.Costing.{Costed, Summed, unmetered-cost, metered-cost, summed-more, summed-all}
@@ -40,7 +39,7 @@ apart-halved w x y t o e =
     let f : 2 * (w * y) - 2 * (w * x) ≡ t * (2 * w) = rw e (omega arith) in
     rw f (mul-div-cancel t (omega arith))
 
--- Twice the weight goes out of a difference of products.
+-- How far twice the weight times two numbers are apart, over twice the weight, is how far the numbers are apart.
 pub apart-is : (w x y : ℕ) → 1 ≤ w → ((2 * (w * x) - 2 * (w * y)) + (2 * (w * y) - 2 * (w * x))) / (2 * w) ≡ (x - y) + (y - x)
 apart-is w x y o = elim (decLe x y) [
   | yes l ↦
@@ -99,7 +98,7 @@ module _ (p : Plant) {ls rs : List ℕ} (w : LaidOf p ls rs) (xs : List ℕ) (a 
     amount : amountAt (map unshifted xs) i ≡ unshifted (getD xs i 0)
     amount = map-at unshifted xs i (pos 0) 0 (omega (arith, w .accepted .within .few-streams))
 
-    -- One stream more, by its row.
+    -- With the next stream's cost added, as its row gives it, one stream more is summed up.
     pub held-more : (k new : ℕ)
         → ((R : ℕ) → getD rs (4 * i + 1) 0 ≡ 2 * (getD rs (4 * i) 0 * R) → k ≡ capped (getD rs (4 * i) 0 * apartSquared (getD xs i 0) R))
         → new ≡ capped (sum + k) → Summed p (map unshifted xs) new (i + 1)

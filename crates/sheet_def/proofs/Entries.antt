@@ -10,7 +10,7 @@ use Rattle.plant_def.specs.Plants.{Plant}
 use Rattle.flow_def.specs.declared.Class.{Class}
 use Rattle.flow_def.specs.declared.Class.the-variants.{Adjusted, AsRead, Given, Withheld}
 use Rattle.flow_def.specs.Classes.{classOf, numberOf}
-use Rattle.flow_def.proofs.Lists.{values-long}
+use Rattle.num_bytes.proofs.Lists.{values-long}
 use Rattle.sheet_def.specs.declared.Entry.{Entry}
 use Rattle.sheet_def.specs.Balances.{entryOf, balanceOf}
 

@@ -1,5 +1,5 @@
 -- The bound of the desk tool is sharp, by computing: in 100, out 103. In fractions 101 1/2 each; the sheet has 101 and 101.
-use mathlib.Core.Path.{_≡_, refl}
+use mathlib.Core.Path.{refl}
 use mathlib.Core.Bool.{true, false}
 use mathlib.Core.List.{[], _∷_}
 use lib.IntN.{pos}
@@ -27,7 +27,7 @@ tieSheet =
       total = record { kind = totalKind; office = 0; sheet = 1; cost = 50; degrees = 1; verdict = 0 };
     }
 
--- The two differ by as much as the bound allows.
+-- The tie's sheet and its flow in fractions differ by as much as the bound allows.
 pub tie-farthest : Farthest tie 2 (pos 203 ∷ pos 203 ∷ [])
 unfolding tiePlant tieSheet
 tie-farthest = record {

@@ -8,7 +8,7 @@ use Rattle.plant_def.specs.declared.Plant as Arrays
 use Rattle.num_bytes.specs.Inner.{pickT}
 use Rattle.plant_def.specs.Says.{plantOf}
 use Rattle.flow_def.specs.Overfull.{Overfull}
-use Rattle.flow_def.proofs.Integers.{size-val, parts}
+use Rattle.num_bytes.proofs.Integers.{size-val, parts}
 use Rattle.solve_def.specs.Sizes.{mostFlow}
 use Rattle.solve_def.specs.Held.{unshifted}
 use Rattle.solve_def.proofs.Amounts.{unshifted-val}
@@ -27,7 +27,7 @@ module _ (p : Arrays.Plant) (s : Solved) (r : Right p s) where
   pub right-overfull : s .found ≡ false → Overfull (plantOf p) (s .marked)
   right-overfull t = subst (λ (b : Bool). pickT b (Solution p s) (Overfull (plantOf p) (s .marked))) t r
 
--- The solver's amounts can be opened, and are small then.
+-- The solver's amounts may be held: each is at most mostFlow.
 pub held-amounts : (p : Arrays.Plant) (s : Solved) → Solution p s → Amounts (s .flows)
 held-amounts p s r = λ k h. omega (arith, r .close k h .0)
 

@@ -74,7 +74,7 @@ module _ (p : Plant) (w : Within p) (xs : List ℤ) (c : Cheapest p xs) (sized :
         rw (lt-ltb office offices known, degrees-is p w xs c, verdict-is p w xs c, ne-eqb (suc last) 0 (omega arith), le-leb (degrees p) maxUnits few)
         (verdict-fits (degrees p) (cost (p .streams) xs) (adjusted p))
 
-    -- Its parts are within the limits of sheets,
+    -- The parts of a cheapest flow's sheet are within the limits of sheets,
     pub within-sheet : WithinSheet parts
     within-sheet =
         let f = w .few-streams in

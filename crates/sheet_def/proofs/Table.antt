@@ -105,7 +105,7 @@ potentials =
     ∷ (pos 0 ∷ pos 0 ∷ [])
     ∷ []
 
--- All examples of the table.
+-- All examples of the table show what they say.
 pub table : AllShow examples
 unfolding potentials balanceOf
 table = all-right examples potentials refl
@@ -150,7 +150,7 @@ refuses-right file p ms e m = (p, e, m, calls)
         let given : Drawn p 0 (officesFrom 0) o o′ r ⊎ Overfilled p (officesFrom 0) o o′ r = call-read file 0 (officesFrom 0) o o′ r s (got p) z e in
         ⊎-elim (λ d. never-both p (within p (accepted file p e .0)) (d .0) (d .1) ms m) (λ m. ap (λ (q : Sheet). q .number) (m .2 .0)) given
 
--- And the plant of the table that has no flow in range.
+-- The plant of the table that has no flow in range is refused with 19: its unit is overfull.
 pub refuses : Refuses fullFile fullUnit
 unfolding fullPlant
 refuses = refuses-right fullFile fullPlant fullUnit refl (unit-full (fullPlant .streams) refl refl)

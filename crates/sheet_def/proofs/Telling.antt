@@ -2,9 +2,9 @@
 use mathlib.Core.Path.{_≡_, refl, sym, ap, ap₂, _∙_}
 use mathlib.Core.Bool.{true}
 use mathlib.Core.Logic.{_↔_}
-use mathlib.Core.List.{List, _++_}
+use mathlib.Core.List.{List}
 use lib.IntN.{ℤ, pos, _*ℤ_}
-use Prim.Native.Nat.{ℕ, zero, suc, _+_, _*_, _^_, _≤_, _<_}
+use Prim.Native.Nat.{ℕ, zero, suc, _+_, _*_, _≤_, _<_}
 use native.Mathlib.Omega.{arith}
 use lib.Dec.{eqb}
 use lib.ListN.{length, getD, take}
@@ -23,7 +23,7 @@ use Rattle.flow_def.specs.Classes.{classOf, numberOf, degrees}
 use Rattle.flow_def.specs.Test.{verdictAt}
 use Rattle.flow_def.specs.Shown.{adjustedWeight, adjustedTo, adjusted, Shown}
 use Rattle.flow_def.proofs.Nets.{inside}
-use Rattle.flow_def.proofs.Lists.{values-at}
+use Rattle.num_bytes.proofs.Lists.{values-at}
 use Rattle.flow_def.proofs.Ranges.{balanced-of}
 use Rattle.flow_def.proofs.Given.{class-means, number-is}
 use Rattle.flow_def.proofs.Degrees.{degrees-most}
@@ -50,7 +50,7 @@ pub record Told (p : Plant) (xs : List ℤ) (s : SheetParts) : Type 0 where
   pub freedom : s .total .degrees ≡ degrees p
   pub verdict : s .total .verdict ≡ verdictAt (degrees p) (cost (p .streams) xs) (adjusted p)
 
--- An entry's class and its flow.
+-- An entry has the class that it is made of.
 pub entry-class : (c : Class) (x : ℤ) → entryOf c x .class ≡ c
 entry-class Adjusted x = refl
 entry-class AsRead x = refl
@@ -168,7 +168,7 @@ module _ (p : Plant) (w : Within p) (shown : Shown p) (xs : List ℤ) (c : Cheap
   judged : (zs : List ℤ) → Cheapest p zs → s .total .verdict ≡ verdictAt (s .total .degrees) (cost (p .streams) zs) (adjustedWeights p s)
   judged zs z = t .verdict ∙ (λ i. verdictAt (sym (t .freedom) i) (cost-same p w xs zs c z i) (weights (length (p .streams)) (omega arith) i))
 
-  -- All sentences together.
+  -- So the sheet tells of the plant all that it has to.
   pub tells : Tells p s
   tells = record {
     listed = t .long;

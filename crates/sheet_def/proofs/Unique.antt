@@ -31,7 +31,7 @@ use Rattle.flow_def.specs.Overfull.{unmarked, Overfull}
 use Rattle.flow_def.proofs.Nets.{balanced-size}
 use Rattle.flow_def.proofs.Ranges.{balanced-of}
 use Rattle.flow_def.proofs.Overfull.{overfull-none}
-use Rattle.flow_def.proofs.Lists.{values-same}
+use Rattle.num_bytes.proofs.Lists.{values-same}
 use Rattle.flow_def.proofs.Order.{one}
 use Rattle.flow_def.proofs.ByLabels.{class-past}
 use Rattle.flow_def.proofs.Given.{class-means, number-is, given-agree}
@@ -109,7 +109,7 @@ module _ (p : Plant) (w : Within p) (xs ys : List ℤ) (c : Cheapest p xs) (d : 
 pub never-both : {A : Type 0} (p : Plant) → Within p → (xs : List ℤ) → Cheapest p xs → (ms : List Bool) → Overfull p ms → A
 never-both p w xs c ms m = clash (allowed p xs) (c .balance) (overfull-none p w ms m 1 xs (omega arith))
 
--- What a call returns and leaves behind follows from what it was handed, but for the set that a 19 marks.
+-- Equal answers are alike.
 pub alike-same : (r₁ r₂ : Sheet) → r₁ ≡ r₂ → Alike r₁ r₂
 alike-same r₁ r₂ e = (ap bare e, λ n. e)
 
@@ -145,6 +145,6 @@ call-same : (b : Bool) (file : List ℕ) (office : ℕ) (lasts : List ℕ) (o o�
 call-same true file office lasts o o₁ o₂ r₁ r₂ a b = read-same office lasts o o₁ o₂ r₁ r₂ (readPlant file) (λ p e. within p (accepted file p e .0)) a b
 call-same false file office lasts o o₁ o₂ r₁ r₂ a b = refused-same office lasts o o₁ o₂ r₁ r₂ (callFault office lasts o) a b
 
--- So no call has a choice.
+-- So no call has a choice, but that of the set that a 19 marks.
 pub no-choice : No-choice
 no-choice file office lasts o o₁ o₂ r₁ r₂ a b = call-same (eqb (callFault office lasts o) 0) file office lasts o o₁ o₂ r₁ r₂ a b

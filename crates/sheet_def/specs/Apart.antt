@@ -4,27 +4,27 @@ use lib.Dec.{leb}
 use Rattle.num_bytes.specs.Choice.{pick}
 use Rattle.plant_def.specs.Limits.{maxStreams}
 
--- The kinds of a total: with the office that drew the sheet, and the plain one of sheets drawn before there were offices.
+-- The kind of a total with the office that drew the sheet: 0x1E.
 abbrev pub totalKind : ℕ
 totalKind = 30
 
--- The plain one: 0x1F.
+-- The kind of a plain total, of sheets drawn before there were offices: 0x1F.
 abbrev pub plainKind : ℕ
 plainKind = 31
 
--- The lengths of a stream record with a number, of what the totals end in, and of the totals.
+-- The length of a stream record with a number.
 abbrev pub streamSize : ℕ
 streamSize = 9
 
--- What both totals end in: sheet number (4), cost (8), degrees, verdict.
+-- The length of what both totals end in: sheet number (4), cost (8), degrees, verdict.
 abbrev pub bodySize : ℕ
 bodySize = 14
 
--- A total with its office,
+-- The length of a total with its office,
 abbrev pub totalSize : ℕ
 totalSize = 16
 
--- and a plain one.
+-- and of a plain one.
 abbrev pub plainSize : ℕ
 plainSize = 15
 
@@ -32,10 +32,10 @@ plainSize = 15
 abbrev pub leastSlice : ℕ
 leastSlice = maxStreams * 9 + 16
 
--- A cost as it is written: one that 8 bytes do not hold as the greatest that they hold.
+-- The greatest cost that 8 bytes hold.
 abbrev pub topCost : ℕ
 topCost = 18446744073709551615
 
--- The cost, or the greatest that 8 bytes hold.
+-- A cost as it is written: one that 8 bytes do not hold as the greatest that they hold.
 abbrev pub capped : ℕ → ℕ
 capped c = pick (leb c topCost) c topCost

@@ -18,11 +18,11 @@ use Rattle.sheet_def.specs.Balances.{entryOf}
 unfoldable pub entriesOf : List Class → List ℤ → List Entry
 entriesOf cs xs = values maxStreams (λ k. entryOf (getD cs k Adjusted) (amountAt xs k))
 
--- Flows that the solver may hold, opened: each of size flowShift at most.
+-- An amount that the solver may hold, opened: of size flowShift at most.
 abbrev pub Small : ℤ → Type 0
 Small x = natAbs x ≤ flowShift
 
--- All flows of a list are.
+-- Every amount of a list is small.
 abbrev pub AllSmall : List ℤ → Type 0
 AllSmall xs = (k : ℕ) → k < maxStreams → Small (amountAt xs k)
 

@@ -11,7 +11,7 @@ offices = 8
 abbrev pub topSheet : ℕ
 topSheet = 4294967295
 
--- An office's last sheet number, the number of its next sheet, and the counters when it is drawn.
+-- An office's last sheet number.
 abbrev pub counterOf : ℕ → List ℕ → ℕ
 counterOf office lasts = getD lasts office 0
 

@@ -26,7 +26,7 @@ pub record Beside (p : Plant) (s : SheetParts) (d : ℕ) (ys : List ℤ) : Type 
   -- An R stream's number is the amount itself.
   pub as-read : (k : ℕ) → MeteredAt p k → classOn s k ≡ AsRead → amountAt ys k ≡ pos d *ℤ numberOn s k
 
--- How far a desk tool's flow is from the sheet.
+-- How far a desk tool's flow is from the sheet at most, and that there is only one on the metered streams.
 pub record Desk-tool : Type 0 where
   -- Of every call that drew a sheet, and every flow in fractions of least cost.
   pub near : (file : List ℕ) (office : ℕ) (lasts o o′ : List ℕ) (r : Sheet) → counterOf office lasts ≤ topSheet → SheetSays file office lasts o o′ r

@@ -45,7 +45,7 @@ abbrev pub bodyIn : ℕ → ℕ → List ℕ → Total
 bodyIn kind office b =
     record { kind = kind; office = office; sheet = be 0 4 b; cost = be 4 8 b; degrees = getD b 12 0; verdict = getD b 13 0 }
 
--- The total, behind its office; and the plain total, which is that of office 0.
+-- The total, behind its office.
 abbrev pub totalIn : List ℕ → Total
 totalIn s = bodyIn totalKind (getD s 1 0) (drop 2 s)
 
@@ -92,14 +92,13 @@ kindRecord c k s =
 abbrev pub recordAt : ℕ → List ℕ → SheetRecord
 recordAt c s = pick (eqb (length s) 0) (Refused 13) (kindRecord c (getD s 0 0) s)
 
--- What each case of SheetRecord means: its number, 0 where it is no refusal; the entry and the record's size, the total, or the
--- refusal.
+-- The number of a record: 0 where it is no refusal.
 abbrev pub recordNumber : SheetRecord → ℕ
 recordNumber (Listed e m) = 0
 recordNumber (Ended t) = 0
 recordNumber (Refused f) = f
 
--- What follows from a record, by its case.
+-- What follows from a record, by its case: the entry and the record's size, the total, or the refusal.
 abbrev pub onRecord : {A : Type 0} → SheetRecord → (Entry → ℕ → A) → (Total → A) → (ℕ → A) → A
 onRecord (Listed e m) listed ended refused = listed e m
 onRecord (Ended t) listed ended refused = ended t

@@ -24,7 +24,7 @@ use Rattle.sheet_def.specs.Sheets.{kindOf, SheetParts}
 use Rattle.sheet_def.specs.Kept.{blank, someSheet, readSheet}
 use Rattle.sheet_def.specs.Counters.{offices, topSheet, counterOf, nextOf, raised}
 
--- Stream i, from 0, is listed, and metered or not.
+-- Stream i, from 0, is listed, and metered.
 abbrev pub MeteredAt : Plant → ℕ → Type 0
 MeteredAt p i = (i < length (p .streams)) × (streamAt (p .streams) i .metered ≡ true)
 
@@ -36,7 +36,7 @@ UnmeteredAt p i = (i < length (p .streams)) × (streamAt (p .streams) i .metered
 abbrev pub EndsJoined : Plant → ℕ → Type 0
 EndsJoined p i = Chain unmeteredOnly (p .streams) (streamAt (p .streams) i .from) (streamAt (p .streams) i .to)
 
--- Every two balanced flows that agree on all metered streams agree on stream i; some two differ on it.
+-- Every two balanced flows that agree on all metered streams agree on stream i.
 abbrev pub Forced : Plant → ℕ → Type 0
 Forced p i = (ys zs : List ℤ) → Agree p ys zs → amountAt ys i ≡ amountAt zs i
 
@@ -44,11 +44,11 @@ Forced p i = (ys zs : List ℤ) → Agree p ys zs → amountAt ys i ≡ amountAt
 abbrev pub Free : Plant → ℕ → Type 0
 Free p i = (ys : List ℤ) × (zs : List ℤ) × Agree p ys zs × (amountAt ys i ≡ amountAt zs i → ⊥)
 
--- Stream i of a sheet, from 0: its class, and the number beside it.
+-- The class of stream i of a sheet, from 0.
 abbrev pub classOn : SheetParts → ℕ → Class
 classOn s i = getD (s .streams) i blank .class
 
--- The number beside it.
+-- The number beside stream i of a sheet, from 0; 0 where it is blank.
 abbrev pub numberOn : SheetParts → ℕ → ℤ
 numberOn s i = getD (s .streams) i blank .flow
 

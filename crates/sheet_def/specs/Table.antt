@@ -46,7 +46,7 @@ Refuses file ms =
     × Overfull p ms
     × ((o o′ : List ℕ) (r : Sheet) → callFault 0 (officesFrom 0) o ≡ 0 → SheetSays file 0 (officesFrom 0) o o′ r → r .number ≡ 19)
 
--- Records of a file, with a weight, a reading and a range below 256; of a sheet, with an amount below 256 and a cost of two bytes.
+-- Records of a file, with a weight, a reading and a range below 256; of a sheet, with an amount below 256 and a cost of two bytes. A site of n units:
 abbrev pub site : ℕ → List ℕ
 site n = 1 ∷ n ∷ []
 

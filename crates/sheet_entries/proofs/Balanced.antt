@@ -7,7 +7,7 @@ use Prim.Native.Nat.{ℕ, _≤_}
 use native.Mathlib.Omega.{arith}
 use borrow.Author.Tests.{ltb-true, ltb-false}
 use lib.Dec.{ltb}
-use lib.ListN.{length, getD, take}
+use lib.ListN.{getD, take}
 use lib.Seq.{getD-take}
 use Rattle.num_bytes.proofs.Tests.{by-cases}
 use Rattle.plant_def.specs.declared.Plant as Arrays
@@ -24,7 +24,7 @@ use Rattle.flow_def.specs.Classes.{classOf, numberOf, degrees}
 use Rattle.flow_def.specs.Test.{verdictAt}
 use Rattle.flow_def.specs.Shown.{adjusted}
 use Rattle.flow_def.specs.Calls.{classesOf}
-use Rattle.flow_def.proofs.Lists.{values-same, values-at}
+use Rattle.num_bytes.proofs.Lists.{values-same, values-at}
 use Rattle.flow_def.proofs.Given.{number-is}
 use Rattle.flow_def.proofs.Ranges.{balanced-of}
 use Rattle.flow_def.proofs.ByLabels.{class-past}
@@ -59,7 +59,7 @@ module _ (p : Arrays.Plant) (xs : List ℤ) (a : Accepted p) (b : balanced (plan
       sym (getD-take (p .count) xs k (pos 0) l) ∙ sym (number-is (plantOf p) (within-of p a) (take (p .count) xs) b k (omega arith) n))
       (λ t. let l = ltb-false k (p .count) t in absurd (n (class-past (plantOf p) k (omega arith))))
 
-  -- Each stream has its class and the number that the balance forces.
+  -- Entries by the amounts of a balanced flow are entries by the streams' numbers.
   pub entries-shown : entriesOf (classesOf (plantOf p)) xs ≡ values maxStreams (λ k. entryOf (classOf (plantOf p) k) (numberOf (plantOf p) (take (p .count) xs) k))
   unfolding entriesOf
   entries-shown =

@@ -22,10 +22,10 @@ use Rattle.flow_def.specs.Certificate.{weightOf}
 use Rattle.flow_def.specs.Classes.{classOf}
 use Rattle.flow_def.specs.Flows.{amountAt}
 use Rattle.flow_def.specs.Shown.{adjustedWeight}
-use Rattle.flow_def.specs.Sides.{bit}
+use Rattle.num_bytes.specs.Sums.{bit}
 use Rattle.flow_def.proofs.ByLabels.{class-past}
 use Rattle.flow_def.proofs.BySides.{in-unmetered}
-use Rattle.flow_def.proofs.Lists.{map-at, values-long, values-at, Written}
+use Rattle.num_bytes.proofs.Lists.{map-at, values-long, values-at, Written}
 use Rattle.solve_def.specs.Held.{unshifted}
 use Rattle.sheet_def.specs.declared.Entry.{Entry}
 use Rattle.sheet_def.specs.Balances.{entryOf}
@@ -45,7 +45,7 @@ module _ (p : Plant) (n : ℕ) (xs : List ℕ) (now : List Entry) (l : length (p
       (λ t. w .rest k (ltb-false k n t) ∙ getD-replicate maxStreams k (entryOf Withheld (pos 0)) noEntry h
       ∙ ap (λ (c : Class). entryOf c (amountAt (map unshifted xs) k)) (sym (class-past p k (omega (arith, ltb-false k n t)))))
 
-  -- All entries of the array.
+  -- The array so written holds the entries by the plant's classes and the amounts.
   pub entries-all : now ≡ entriesOf (classesOf p) (map unshifted xs)
   unfolding entriesOf
   entries-all =
@@ -74,7 +74,7 @@ module _ (ls : List ℕ) (s : Stream) (h looped : ℕ) where
       go true = refl
       go false = refl
 
-  -- By the class, whichever stream of that weight it is.
+  -- What a class and a row's weight give of any stream with that weight, they give of the stream itself.
   pub weight-by : (c : Class) (w k : ℕ) → c ≡ classIn ls s h looped → w ≡ weightOf s → ((t : Stream) → t .weight ≡ w → k ≡ adjustedWeight c t) → k ≡ adjustedWeight c s
   weight-by c w k e q f = by-cases (s .metered)
       (λ m. f s (rw (q, m) refl))

@@ -82,7 +82,7 @@ read-before b s a = (
   λ h. subst (λ (y : List ℕ). readBefore y ≡ someSheet s) (h .0) (read-then s (h .2) mostRecords [] (partsBytes s) (reopening .there s (h .1))),
 )
 
--- All sentences together.
+-- All that is promised of any sequence of calls holds.
 pub history : History
 history = record {
   others = λ file office lasts o o′ r s k n. ⊎-elim (λ d. other-same office lasts r d k n) (λ d. ap (counterOf k) (d .same)) (step file office lasts o o′ r s);

@@ -81,7 +81,7 @@ module _ (file : List ℕ) (last : ℕ) (o o′ : List ℕ) (r : Sheet) (top : l
   step : PlainSays file last o o′ r → Drew file last o′ r ⊎ Idle last r
   step s = by-test (eqb (plainFault last o) 0) refl s
 
-  -- A sheet drawn before the change reads back as it was promised.
+  -- A sheet drawn before the change reads back as that of office 0, and tells of the plant what it has to.
   pub plain : PlainSays file last o o′ r → r .number ≡ 0 → ReadsPlain file last o′ r
   plain s n = ⊎-elim (λ d. d .read) (λ d. absurd (d .not-done n)) (step s)
 

@@ -55,7 +55,7 @@ module _ (lasts : List ℕ) (c : Call) (cs : List Call) (w : Eight lasts) (s : S
   next-more : nextOf k (countersAfter lasts (c ∷ cs)) ≡ nextOf k lasts + drawnCount k (c ∷ cs)
   next-more = ⊎-elim drawn idle (step (c .file) (c .office) lasts (c .before) (c .after) (c .answer) s)
 
--- An office's next number is raised by as many as it drew.
+-- An office's next number is raised by as many sheets as it drew.
 pub next : (lasts : List ℕ) (cs : List Call) → Eight lasts → Calls lasts cs → (k : ℕ)
     → nextOf k (countersAfter lasts cs) ≡ nextOf k lasts + drawnCount k cs
 next lasts [] w s k = omega arith

@@ -73,7 +73,7 @@ module _ (office : ℕ) (lasts : List ℕ) (r : Sheet) (d : Drew office lasts r)
         (λ t. omega (arith, other-same k (eqb-false k office t), w .held k));
   }
 
--- Without a sheet they are eight, as before.
+-- Where no sheet is drawn, the counters are eight, as before.
 pub idle-eight : (lasts : List ℕ) (r : Sheet) → Idle lasts r → Eight lasts → Eight (r .lasts)
 idle-eight lasts r d w = subst Eight (sym (d .same)) w
 

@@ -27,12 +27,11 @@ use Rattle.sheet_def.specs.Sheets.{SheetParts, partsBytes}
 use Rattle.sheet_def.specs.Drawings.{partsOf}
 use Rattle.sheet_def.specs.Kept.{Reopened, noSheet, recordAt, onRecord, sheetWith}
 
--- What it handed over is an answer with one last sheet number.
--- Sheet n of a plant with a flow: its parts, and its bytes.
+-- Sheet n of a plant with a flow, by its parts. (What a call handed over is an answer with one last sheet number.)
 abbrev pub plainParts : Plant → List ℤ → ℕ → SheetParts
 plainParts p xs n = partsOf plainKind 0 (length (p .streams)) n (balanceOf p xs)
 
--- Its bytes.
+-- The bytes of sheet n of a plant with a flow.
 abbrev pub plainOf : Plant → List ℤ → ℕ → List ℕ
 plainOf p xs n = partsBytes (plainParts p xs n)
 
@@ -66,12 +65,12 @@ PlainSays file last o o′ r =
 abbrev pub recordBefore : ℕ → List ℕ → SheetRecord
 recordBefore c s = pick (eqb (getD s 0 0) totalKind) (Refused 13) (recordAt c s)
 
--- The records, one after the other.
+-- At most `fuel` records, read one after the other, behind the entries es.
 abbrev pub recordsBefore : ℕ → List Entry → List ℕ → Reopened
 recordsBefore zero es s = noSheet 13
 recordsBefore (suc fuel) es s =
     onRecord (recordBefore (length es) s) (λ e m. recordsBefore fuel (es ++ (e ∷ [])) (drop m s)) (sheetWith es) noSheet
 
--- The whole sheet.
+-- A sheet, as the reader of that time read it.
 abbrev pub readBefore : List ℕ → Reopened
 readBefore s = recordsBefore mostRecords [] s

@@ -28,7 +28,7 @@ pub record Call : Type 0 where
   pub after : List ℕ
   pub answer : Sheet
 
--- Calls one after the other, each handed the counters that the one before it gave back; the counters after them.
+-- Calls one after the other, each handed the counters that the one before it gave back.
 abbrev pub Calls : List ℕ → List Call → Type 0
 Calls lasts [] = Unit {0}
 Calls lasts (c ∷ cs) = SheetSays (c .file) (c .office) lasts (c .before) (c .after) (c .answer) × Calls (c .answer .lasts) cs
@@ -43,26 +43,26 @@ abbrev pub PlainCalls : ℕ → List Call → Type 0
 PlainCalls last [] = Unit {0}
 PlainCalls last (c ∷ cs) = (c .office ≡ 0) × PlainSays (c .file) last (c .before) (c .after) (c .answer) × PlainCalls (counterOf 0 (c .answer .lasts)) cs
 
--- How many sheets of office k they drew; the sheets of all offices, in their order.
+-- A call drew a sheet, and for office k.
 abbrev pub drew : ℕ → Call → Bool
 drew k c = eqb (c .answer .number) 0 && eqb (c .office) k
 
--- How many sheets of office k they drew.
+-- How many sheets of office k the calls drew.
 abbrev pub drawnCount : ℕ → List Call → ℕ
 drawnCount k [] = 0
 drawnCount k (c ∷ cs) = pick (drew k c) (suc (drawnCount k cs)) (drawnCount k cs)
 
--- The sheets of all offices, in their order.
+-- The sheets that the calls drew, of all offices, in their order.
 abbrev pub drawnSheets : List Call → List (List ℕ)
 drawnSheets [] = []
 drawnSheets (c ∷ cs) = pick (eqb (c .answer .number) 0) (take (c .answer .written) (c .after) ∷ drawnSheets cs) (drawnSheets cs)
 
--- The numbers of office k's sheets among kept sheets, in their order, as the sheet reader has them.
+-- The number of a sheet that was read, where it is of office k; else none.
 abbrev pub numberRead : ℕ → Reopened → List ℕ
 numberRead k (noSheet f) = []
 numberRead k (someSheet s) = pick (eqb (s .total .office) k) (s .total .sheet ∷ []) []
 
--- The same of kept sheets, one after the other.
+-- The numbers of office k's sheets among kept sheets, in their order, as the sheet reader has them.
 abbrev pub numbersOf : ℕ → List (List ℕ) → List ℕ
 numbersOf k [] = []
 numbersOf k (b ∷ bs) = numberRead k (readSheet b) ++ numbersOf k bs

@@ -7,7 +7,7 @@ use native.Mathlib.Nat.{div-add-mod', mod-lt}
 use native.Mathlib.Omega.{arith}
 use lib.Dec.{eqb}
 use lib.ListN.{getD}
-use Rattle.flow_def.proofs.Lists.{values-at}
+use Rattle.num_bytes.proofs.Lists.{values-at}
 use Rattle.solve_arcs.specs.Cells.{toCell, arcOf, countOf, startsOf, endsOf}
 use Rattle.solve_arcs.specs.Margins.{reducedCost, reducedCosts, leaves, reaches}
 

@@ -18,7 +18,7 @@ use Rattle.plant_def.specs.Within.{WithinStream}
 use Rattle.plant_def.specs.Plants.{noStream}
 use Rattle.flow_def.specs.Flows.{streamAt}
 use Rattle.flow_def.specs.Certificate.{weightOf}
-use Rattle.flow_def.proofs.Lists.{values-at}
+use Rattle.num_bytes.proofs.Lists.{values-at}
 use Rattle.solve_def.specs.declared.Walked.{Walked}
 use Rattle.solve_def.specs.declared.Tree.{Tree}
 use Rattle.solve_def.specs.Sizes.{mostFlow, mostPull, mostStep, potentialShift, farthest, far, searchRounds}

@@ -22,7 +22,7 @@ nextCell = places + 2 * maxStreams
 abbrev pub countCell : ℕ
 countCell = places + 4 * maxStreams
 
--- The bytes of all.
+-- How many bytes the arcs take in all.
 abbrev pub arcCells : ℕ
 arcCells = countCell + 1
 
@@ -34,18 +34,18 @@ arcOf k f = 2 * k + pick f 1 0
 abbrev pub countOf : List ℕ → ℕ
 countOf ls = getD ls countCell 0
 
--- Where the streams in use start, and where they end: where their arcs lead backwards, and forwards.
+-- Where the streams in use start: where their arcs lead backwards.
 unfoldable pub startsOf : List ℕ → List ℕ
 startsOf ls = values (countOf ls) (λ k. getD ls (toCell + 2 * k) 0)
 
--- Where they end.
+-- Where the streams in use end: where their arcs lead forwards.
 unfoldable pub endsOf : List ℕ → List ℕ
 endsOf ls = values (countOf ls) (λ k. getD ls (toCell + (2 * k + 1)) 0)
 
--- The numbers of all rows,
+-- How many numbers the rows take,
 abbrev pub rowCells : ℕ
 rowCells = 4 * maxStreams
 
--- and of all margins.
+-- and how many the margins take.
 abbrev pub marginCells : ℕ
 marginCells = 2 * maxStreams

@@ -15,7 +15,7 @@ use Rattle.solve_arcs.specs.Cells.{arcOf, countOf, startsOf, endsOf}
 abbrev pub lift : ℕ
 lift = 2 * mostPull
 
--- The margin of an arc without room.
+-- The margin of an arc that is shut: one without room for the step, or of a stream that is left alone.
 abbrev pub shut : ℕ
 shut = 4611686018427387904
 
@@ -39,7 +39,7 @@ marginsPut rs k x d ms = set (set ms (2 * k + 1) (marginAt rs true k x d)) (2 * 
 abbrev pub spared : List ℕ → ℕ → ℕ → Bool
 spared rs skip k = ltb 0 (getD rs (4 * k) 0) && ltb k skip
 
--- The less of two numbers.
+-- The smaller of two numbers.
 abbrev pub lessOf : ℕ → ℕ → ℕ
 lessOf a b = pick (ltb b a) b a
 
@@ -48,7 +48,7 @@ lessOf a b = pick (ltb b a) b a
 abbrev pub reducedCost : ℕ → ℕ → ℕ → ℕ
 reducedCost m p r = lessOf ((m + p) - (r + lift)) farthest
 
--- The reduced costs of the streams in use in one direction.
+-- Where stream k is left in one direction: its start forwards, its end backwards.
 abbrev pub leaves : List ℕ → Bool → ℕ → ℕ
 leaves ls f k = pick f (getD (startsOf ls) k 0) (getD (endsOf ls) k 0)
 
@@ -56,6 +56,6 @@ leaves ls f k = pick f (getD (startsOf ls) k 0) (getD (endsOf ls) k 0)
 abbrev pub reaches : List ℕ → Bool → ℕ → ℕ
 reaches ls f k = pick f (getD (endsOf ls) k 0) (getD (startsOf ls) k 0)
 
--- The reduced cost of each.
+-- The reduced costs of the streams in use in one direction.
 unfoldable pub reducedCosts : List ℕ → List ℕ → List ℕ → Bool → List ℕ
 reducedCosts ls ms ps f = values (countOf ls) (λ k. reducedCost (getD ms (arcOf k f) 0) (getD ps (leaves ls f k) 0) (getD ps (reaches ls f k) 0))

@@ -26,7 +26,7 @@ module _ {p : Plant} {ls rs : List ℕ} (w : LaidOf p ls rs) where
   abbrev laying : Laying ls rs
   laying = record { streams = p .streams; n = p .count; network = network-of p (w .accepted); laid = w .laid }
 
-  -- The arcs are of all its streams.
+  -- The arcs are of all streams of the plant.
   pub counted : countOf ls ≡ p .count
   counted = w .laid .along .counted
 

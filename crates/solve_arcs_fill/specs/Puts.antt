@@ -12,16 +12,15 @@ use Rattle.solve_def.specs.Held.{readingOf, lowOf, highOf}
 use Rattle.solve_def.specs.SearchNeeds.{Network}
 use Rattle.solve_arcs.specs.Cells.{toCell, nextCell, arcCells, rowCells}
 
--- Where the first n streams start, and where they end.
+-- Where the first n streams start.
 unfoldable pub startsIn : List Stream → ℕ → List ℕ
 startsIn streams n = values n (λ k. getD streams k noStream .from)
 
--- Where they end.
+-- Where the first n streams end.
 unfoldable pub endsIn : List Stream → ℕ → List ℕ
 endsIn streams n = values n (λ k. getD streams k noStream .to)
 
--- Stream i, from place u to place v: where its arcs lead, then the arcs that were first at the places that they leave; and its
--- arcs become the first there.
+-- Stream i, from place u to place v: where its arcs lead.
 abbrev pub endsPut : ℕ → ℕ → ℕ → List ℕ → List ℕ
 endsPut i u v ls = set (set ls (toCell + 2 * i) u) (toCell + (2 * i + 1)) v
 

@@ -26,7 +26,7 @@ abbrev pub FlowsMoved : List ℕ → List ℕ → List ℕ → List ℕ → Rout
 FlowsMoved ls rs via ends way xs xs′ =
     (w : Laying ls rs) → xs′ ≡ augmented (take (w .n) (w .streams)) via ends (way .delta) (way .len) (way .target) xs
 
--- What moving along them comes to: both.
+-- What augmenting comes to, of what is lent to it: margins stay those of the amounts, and the amounts are the definition's.
 abbrev pub AugmentCall : (arcs rows margins flows via ends : Lent (List ℕ)) → Route → Type 0
 AugmentCall arcs rows margins flows via ends way =
     let ls = arcs .entry .now in

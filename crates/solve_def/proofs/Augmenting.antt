@@ -12,7 +12,7 @@ use Rattle.num_bytes.specs.Choice.{pick}
 use Rattle.num_bytes.proofs.Tests.{by-cases, clash, or-right}
 use Rattle.plant_def.specs.declared.Stream.{Stream}
 use Rattle.flow_def.specs.Flows.{streamAt}
-use Rattle.flow_def.proofs.Integers.{up, dn}
+use Rattle.num_bytes.proofs.Integers.{up, dn}
 use Rattle.flow_def.specs.Certificate.{weightOf}
 use Rattle.solve_def.specs.Held.{readingOf, lowOf, highOf, Held, HeldAt, AllHeld, AllInside}
 use Rattle.solve_def.specs.Slack.{slackBy}

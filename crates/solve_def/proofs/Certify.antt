@@ -13,7 +13,7 @@ use Rattle.plant_def.specs.Plants.{Plant, limited}
 use Rattle.plant_def.specs.Within.{Within, WithinStream}
 use Rattle.flow_def.specs.Flows.{streamAt, amountAt, inRange}
 use Rattle.flow_def.specs.Certificate.{weightOf, climb, lower, upper, rises, falls}
-use Rattle.flow_def.proofs.Integers.{up, dn, diff, Le, Lt, Z·diff, diff-val, Le-iff, minus-val, same, val, none-minus, ltZ-lt}
+use Rattle.num_bytes.proofs.Integers.{up, dn, diff, Le, Lt, Z·diff, diff-val, Le-iff, minus-val, same, val, none-minus, ltZ-lt}
 use Rattle.flow_def.proofs.Nets.{level-balanced}
 use Rattle.flow_def.proofs.Ranges.{asked, whole-holds, allowed-of}
 use Rattle.flow_def.proofs.Potentials.{StepAt, Certificate}
@@ -40,7 +40,7 @@ climb-diff u v P = simp Z·diff (omega arith)
 lt-diff : (a b c d : ℕ) → a + d < c + b → Lt (diff a b) (diff c d)
 lt-diff a b c d h = omega (arith, diff-val a b, diff-val c d)
 
--- An integer and a potential as they are held.
+-- A signed number that may be held, held and opened again, is the same.
 pub held-right : (z : ℤ) → natAbs z ≤ flowShift → unshifted (shifted z) ≡ z
 held-right (pos a) h = same (unshifted (flowShift + a)) (pos a) (omega (arith, unshifted-val (flowShift + a)))
 held-right (negsuc a) h = same (unshifted (flowShift - suc a)) (negsuc a) (omega (arith, unshifted-val (flowShift - suc a)))
@@ -126,14 +126,14 @@ module _ (p : Plant) (w : Within p) (ps : List ℕ) (i : ℕ) (xs : List ℕ) (h
       upper-is : upper 1 W (x -ℤ s .reading) ≡ diff (2 * (W * X) + W) (2 * (W * R))
       upper-is = ap (upper 1 W) deviation ∙ upper-diff W X R flowShift
 
-      -- With slack the amount cannot be less, or more, at no cost.
+      -- Where slack is left backwards, the amount cannot be less at no cost.
       pub no-less : 0 < slackBy s false X pu pv 1 → NoLess (potentialAt ps) s x
       no-less q e =
           subst (λ (a : ℤ). Lt a (climb (potentialAt ps) s)) (sym lower-is)
           (subst (λ (b : ℤ). Lt (diff (2 * (W * X)) (2 * (W * R) + W)) b) (sym climb-is)
           (lt-diff _ _ pv pu (omega (arith, q, slack-open false s X pu pv 1 (less-open e)))))
 
-      -- Where slack is left forwards, a stream gains nothing by more.
+      -- Where slack is left forwards, the amount cannot be more at no cost.
       pub no-more : 0 < slackBy s true X pu pv 1 → NoMore (potentialAt ps) s x
       no-more q e =
           subst (λ (a : ℤ). Lt (climb (potentialAt ps) s) a) (sym upper-is)

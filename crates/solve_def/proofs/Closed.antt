@@ -11,8 +11,8 @@ use Rattle.num_bytes.specs.Choice.{pick}
 use Rattle.num_bytes.proofs.Tests.{by-cases}
 use Rattle.plant_def.specs.declared.Stream.{Stream}
 use Rattle.flow_def.specs.Flows.{streamAt}
-use Rattle.flow_def.proofs.Integers.{up, dn, parts, plus-val, up-neg, dn-neg}
-use Rattle.flow_def.proofs.Sums.{sum}
+use Rattle.num_bytes.proofs.Integers.{up, dn, parts, plus-val, up-neg, dn-neg}
+use Rattle.num_bytes.proofs.Sums.{sum}
 use Rattle.flow_def.proofs.Reach.{Inside}
 use Rattle.flow_def.proofs.Nets.{crossing, cut}
 use Rattle.solve_def.specs.Sizes.{netShift}

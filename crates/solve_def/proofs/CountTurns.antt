@@ -83,7 +83,7 @@ module _ (ss : List Stream) (d n : ℕ) (st now : State) (l : n < places) (e : p
 
 -- A phase makes no more than may be over.
 module _ (ss : List Stream) (v : Solvable ss) (d : ℕ) (step : Step d) (st : State) (h : Underway ss d settledRoom st) where
-  -- From the first n places.
+  -- From the first n places a phase makes no more improvements than may be over.
   pub phase-made-room : (n : ℕ) → n ≤ places → madeTo n ss d st ≤ mostOver
   phase-made-room n l =
       omega (
@@ -162,7 +162,7 @@ module _ (ss : List Stream) (st : State) (over : ℕ) (e : over ≡ overSum (st 
   unfolding made
   made-by-hint l = sym (rw (← e, le-leb over mostTried l))
 
-  -- Much is over: those of the phases, from no hint, are.
+  -- Much is over: the improvements of the phases from no hint are all.
   pub made-by-phases : mostTried < over → madeBy halvings ss noHint ≡ made ss st
   unfolding made
   made-by-phases l = sym (rw (← e, lt-leb over mostTried l))

@@ -18,8 +18,8 @@ use Rattle.plant_def.specs.declared.Stream.{Stream}
 use Rattle.plant_def.specs.Limits.{maxUnits, places, maxStreams}
 use Rattle.flow_def.specs.Flows.{streamAt}
 use Rattle.flow_def.specs.Certificate.{weightOf}
-use Rattle.flow_def.proofs.Integers.{up, dn, Le, plus-val, minus-val}
-use Rattle.flow_def.proofs.Sums.{sum}
+use Rattle.num_bytes.proofs.Integers.{up, dn, Le, plus-val, minus-val}
+use Rattle.num_bytes.proofs.Sums.{sum}
 use Rattle.flow_def.proofs.Nets.{nets-sum}
 use Rattle.solve_def.specs.Sizes.{flowShift, netShift, mostStep, mostOver, mostTried, halvings, settledRoom}
 use Rattle.solve_def.specs.Held.{unshifted, readingOf, lowOf, highOf, Held}

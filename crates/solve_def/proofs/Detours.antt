@@ -15,7 +15,7 @@ use Rattle.num_bytes.proofs.Tests.{picked}
 use Rattle.plant_def.specs.declared.Stream.{Stream}
 use Rattle.plant_def.specs.Limits.{maxUnits, places, maxStreams}
 use Rattle.flow_def.specs.Flows.{streamAt}
-use Rattle.flow_def.proofs.Integers.{up, dn, same}
+use Rattle.num_bytes.proofs.Integers.{up, dn, same}
 use Rattle.flow_def.specs.Certificate.{weightOf}
 use Rattle.solve_def.specs.declared.Tree.{Tree}
 use Rattle.solve_def.specs.Sizes.{searchRounds}

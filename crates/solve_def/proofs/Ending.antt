@@ -4,7 +4,7 @@ use mathlib.Core.Bool.{Bool, true, false}
 use mathlib.Core.List.{List}
 use mathlib.Core.Logic.{⊎-elim}
 use lib.IntN.{ℤ, pos, natAbs}
-use Prim.Native.Nat.{ℕ, _+_, _-_, _*_, _≤_, _<_}
+use Prim.Native.Nat.{ℕ, _+_, _*_, _≤_, _<_}
 use native.Mathlib.Nat.{mul-le-mul-left, mul-le-mul-right}
 use native.Mathlib.Omega.{arith}
 use native.Mathlib.Decide.{decLe, ℕ-discrete}
@@ -16,9 +16,9 @@ use Rattle.plant_def.specs.declared.Stream.{Stream}
 use Rattle.plant_def.specs.Limits.{maxUnits, places, maxStreams}
 use Rattle.flow_def.specs.Flows.{streamAt}
 use Rattle.flow_def.specs.Certificate.{weightOf}
-use Rattle.flow_def.proofs.Integers.{up, dn, Le, parts, size-val}
+use Rattle.num_bytes.proofs.Integers.{up, dn, Le, parts, size-val}
 use Rattle.flow_def.proofs.Reach.{Inside}
-use Rattle.flow_def.proofs.Sums.{sum, sum-none, sum-tight}
+use Rattle.num_bytes.proofs.Sums.{sum, sum-none, sum-tight}
 use Rattle.flow_def.proofs.Nets.{netOf, nets-sum}
 use Rattle.solve_def.specs.Sizes.{flowShift, potentialShift, mostReading, mostRange, mostTried, halvings, hintRoom, settledRoom}
 use Rattle.solve_def.specs.Held.{unshifted, readingOf, lowOf, highOf, Held}

@@ -10,7 +10,7 @@ use lib.Seq.{ext-getD}
 use Rattle.num_bytes.specs.Choice.{pick}
 use Rattle.num_bytes.proofs.Tests.{picked}
 use Rattle.plant_def.specs.Limits.{places}
-use Rattle.flow_def.proofs.Lists.{Written}
+use Rattle.num_bytes.proofs.Lists.{Written}
 use Rattle.solve_def.specs.Search.{fallen}
 use Rattle.solve_def.specs.Near.{codeOf, lessened, relaxedAlong, relaxedAt, relaxedTo, reducedBy}
 

@@ -17,7 +17,7 @@ use Rattle.plant_def.specs.declared.Stream.{Stream}
 use Rattle.plant_def.specs.Limits.{maxUnits, places, maxStreams}
 use Rattle.flow_def.specs.Flows.{streamAt}
 use Rattle.flow_def.specs.Certificate.{weightOf}
-use Rattle.flow_def.proofs.Integers.{Le, plus-val}
+use Rattle.num_bytes.proofs.Integers.{Le, plus-val}
 use Rattle.solve_def.specs.Sizes.{flowShift, mostFlow, netShift, mostOver}
 use Rattle.solve_def.specs.Held.{unshifted, readingOf, lowOf, highOf, Held, HeldAt}
 use Rattle.solve_def.specs.declared.Hint.{Hint}

@@ -16,8 +16,8 @@ use Rattle.num_bytes.specs.Choice.{pick}
 use Rattle.num_bytes.proofs.Tests.{by-cases, clash, or-left, or-right, or-cases}
 use Rattle.num_bytes.proofs.Filled.{getD-any}
 use Rattle.plant_def.specs.Limits.{places}
-use Rattle.flow_def.specs.Sides.{bit}
-use Rattle.flow_def.proofs.Binary.{unlike, bit-or, bit-xor, bit-zero, bit-same, bit-other}
+use Rattle.num_bytes.specs.Sums.{bit}
+use Rattle.num_bytes.proofs.Binary.{unlike, bit-or, bit-xor, bit-zero, bit-same, bit-other}
 use Rattle.solve_def.specs.Sizes.{far, numbering}
 use Rattle.solve_def.specs.Near.{codeOf, lessened, nearestTo, nearestWithin}
 use Rattle.solve_def.proofs.Nearing.{Nearest, nearest-good}

@@ -10,8 +10,8 @@ use lib.ListN.{length, getD}
 use Rattle.num_bytes.specs.Choice.{pick}
 use Rattle.plant_def.specs.declared.Stream.{Stream}
 use Rattle.flow_def.specs.Flows.{streamAt}
-use Rattle.flow_def.proofs.Integers.{up, dn, Le, plus-val, minus-val, up-neg, dn-neg, size-val, parts}
-use Rattle.flow_def.proofs.Sums.{sum, sum-plus, sum-le}
+use Rattle.num_bytes.proofs.Integers.{up, dn, Le, plus-val, minus-val, up-neg, dn-neg, size-val, parts}
+use Rattle.num_bytes.proofs.Sums.{sum, sum-plus, sum-le}
 use Rattle.flow_def.proofs.Reach.{Inside}
 use Rattle.flow_def.proofs.Nets.{netOf, crossing, cut}
 use Rattle.solve_def.specs.Sizes.{netShift}

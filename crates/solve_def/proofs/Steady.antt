@@ -18,7 +18,7 @@ use Rattle.plant_def.specs.declared.Stream.{Stream}
 use Rattle.plant_def.specs.Limits.{maxUnits, places, maxStreams}
 use Rattle.plant_def.specs.Plants.{noStream}
 use Rattle.flow_def.specs.Flows.{streamAt}
-use Rattle.flow_def.proofs.Integers.{up, dn, minus-val}
+use Rattle.num_bytes.proofs.Integers.{up, dn, minus-val}
 use Rattle.solve_def.specs.Sizes.{mostFlow, netShift, settledRoom}
 use Rattle.solve_def.specs.Held.{lowOf, AllHeld}
 use Rattle.solve_def.specs.Search.{target, Grown, sought}

@@ -2,7 +2,7 @@
 use mathlib.Core.Path.{_≡_, refl, sym, _∙_, ap}
 use mathlib.Core.Bool.{Bool, true, false, false≢true}
 use mathlib.Core.List.{List}
-use mathlib.Core.Logic.{_⊎_, ⊎-elim}
+use mathlib.Core.Logic.{⊎-elim}
 use lib.IntN.{ℤ, pos, negℤ, natAbs, _+ℤ_, _-ℤ_}
 use lib.Signed.{leZ}
 use Prim.Native.Nat.{ℕ, suc, _+_, _*_, _≤_, _<_}
@@ -16,8 +16,8 @@ use Rattle.plant_def.specs.declared.Stream.{Stream}
 use Rattle.plant_def.specs.Limits.{maxUnits}
 use Rattle.flow_def.specs.Flows.{streamAt}
 use Rattle.flow_def.specs.Certificate.{climb, weightOf}
-use Rattle.flow_def.proofs.Integers.{up, dn, Le, Lt, plus-val, minus-val, up-neg, dn-neg, size-val, parts, leZ-le, le-leZ}
-use Rattle.flow_def.proofs.Sums.{sum, sum-plus}
+use Rattle.num_bytes.proofs.Integers.{up, dn, Le, Lt, plus-val, minus-val, up-neg, dn-neg, size-val, parts, leZ-le, le-leZ}
+use Rattle.num_bytes.proofs.Sums.{sum, sum-plus}
 use Rattle.flow_def.proofs.Reach.{Inside}
 use Rattle.flow_def.proofs.Nets.{netOf, crossing, crossing-level, cut}
 use Rattle.solve_def.specs.Sizes.{flowShift, mostReading, mostRange, mostStep, meteredRoom}

@@ -17,7 +17,7 @@ use Rattle.plant_def.specs.Plants.{Plant}
 use Rattle.plant_def.specs.Within.{Within}
 use Rattle.flow_def.specs.Flows.{streamAt, amountAt, allowed, cost, Cheapest}
 use Rattle.flow_def.specs.Certificate.{weightOf}
-use Rattle.flow_def.proofs.Integers.{Le}
+use Rattle.num_bytes.proofs.Integers.{Le}
 use Rattle.flow_def.proofs.Potentials.{Certificate, least}
 use Rattle.flow_def.proofs.Order.{AgreeTo}
 use Rattle.flow_def.proofs.Ties as Ties

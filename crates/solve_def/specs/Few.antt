@@ -8,11 +8,11 @@ use Rattle.solve_def.specs.declared.State.{State}
 use Rattle.solve_def.specs.Model.{overSum}
 use Rattle.solve_def.specs.Made.{made, stuck}
 
--- The first phase makes 357 improvements at most, each of the 29 others 6,335; in each at most 32 searches are stuck.
+-- The most improvements: the first phase makes 357 at most, each of the 29 others 6,335.
 abbrev pub mostMade : ℕ
 mostMade = 184072
 
--- The most stuck searches.
+-- The most stuck searches: 32 at most in each of the 30 phases.
 abbrev pub mostStuck : ℕ
 mostStuck = 960
 

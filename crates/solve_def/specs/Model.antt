@@ -44,15 +44,15 @@ settledTo ss ps xs (suc n) =
     let s = streamAt ss n in
     pick (s .metered) (set ys n (settledOf s (getD ps (s .from) 0) (getD ps (s .to) 0))) ys
 
--- The nets of the places: the amount x leaves one place and comes to another.
+-- The nets after the amount x leaves place u.
 abbrev pub left : List ℕ → ℕ → ℕ → List ℕ
 left es u x = set es u (getD es u 0 + flowShift - x)
 
--- The amount x comes to place u.
+-- The nets after the amount x comes to place u.
 abbrev pub come : List ℕ → ℕ → ℕ → List ℕ
 come es u x = set es u (getD es u 0 + x - flowShift)
 
--- A stream's amount x in the nets: it leaves one end and comes to the other.
+-- The nets with a stream's amount x in them: it leaves the start and comes to the end.
 abbrev pub booked : List ℕ → Stream → ℕ → List ℕ
 booked es s x = come (left es (s .from) x) (s .to) x
 
@@ -85,7 +85,7 @@ pub record Improved : Type 0 where
 abbrev pub improvedBy : Bool → State → List Bool → Improved
 improvedBy b st ls = record { done = b; state = st; visited = ls }
 
--- From place s: a search to a place with a negative net, and d augmented along the way to it.
+-- The state after d is augmented along the way that a search found; where potentials have fallen too far they are closed up.
 abbrev pub augmentedOn : List Stream → State → ℕ → ℕ → Grown → State
 augmentedOn ss st d s g =
     record {
@@ -94,7 +94,7 @@ augmentedOn ss st d s g =
       nets = shiftedNets (st .nets) s (target (g .tree)) d;
     }
 
--- Where potentials have fallen too far they are closed up.
+-- From place s: a search to a place with a negative net, and d augmented along the way to it.
 abbrev pub improvedAt : List Stream → State → ℕ → ℕ → Improved
 improvedAt ss st d s =
     let g = sought ss (st .flows) (st .nets) (st .potentials) d s in
@@ -141,7 +141,7 @@ phaseTo (suc n) ss d st =
     let e = phaseTo n ss d st in
     pick (e .full) e (fromPlace ((getD (e .state .nets) n 0 - netShift) / d) ss d n (e .state))
 
--- From all places.
+-- A phase at step d, from all places.
 abbrev pub phase : List Stream → ℕ → State → Ended
 phase ss d st = phaseTo places ss d st
 
@@ -156,14 +156,13 @@ phases (suc n) ss h =
 unfoldable pub finished : List Stream → State → Ended
 finished ss st = pick (leb (overSum (st .nets)) mostTried) (phase ss 1 st) (phases halvings ss noHint)
 
--- Ties. Stream i less by 1 where its amount can fall at no cost and a way of no slack leads round it, which leaves the metered
--- streams up to it alone.
+-- Ties. Where a way round stream i was found, from its start to its end v, 1 is moved along it and stream i carries 1 less.
 abbrev pub tiedBy : List Stream → List ℕ → ℕ → ℕ → Grown → List ℕ
 tiedBy ss xs v i g =
     let ys = augmented ss (g .tree .via) (g .tree .ends) 1 (g .tree .len) v xs in
     pick (g .found) (set ys i (getD ys i 0 - 1)) xs
 
--- At stream i: as it is, where it is unmetered or cannot carry less at no cost.
+-- The tie pass at stream i: the flow stays as it is where the stream is unmetered, cannot fall at no cost, or has no way without slack round it.
 unfoldable pub tiedAt : List Stream → List ℕ → ℕ → List ℕ → List ℕ
 tiedAt ss ps i xs =
     let s = streamAt ss i in

@@ -17,7 +17,7 @@ use Rattle.solve_def.specs.Held.{opened}
 use Rattle.solve_def.specs.declared.Solved.{Solved}
 use Rattle.solve_def.specs.SearchNeeds.{Close}
 
--- The potential that is held as x; the potential of each place.
+-- The potential that is held as x.
 unfoldable pub potential : ℕ → ℤ
 potential x = pos x -ℤ pos potentialShift
 

@@ -12,12 +12,12 @@ use Rattle.plant_def.specs.Limits.{places}
 use Rattle.solve_def.specs.Sizes.{netShift, farthest, searchRounds}
 use Rattle.solve_def.specs.Slack.{Crossing, At, Nothing, leastTo}
 
--- The potentials, those of visited places lowered by g.
+-- A potential p, lowered by g where its place is visited.
 abbrev pub fallen : Bool → ℕ → ℕ → ℕ
 fallen true g p = p - g
 fallen false g p = p
 
--- The same of every place.
+-- The potentials, those of visited places lowered by g.
 unfoldable pub loweredBy : List Bool → ℕ → List ℕ → List ℕ
 loweredBy [] g ps = ps
 loweredBy (l ∷ ls) g [] = []
@@ -32,7 +32,7 @@ abbrev pub onCrossing : {A : Type 0} → Crossing → A → (ℕ → ℕ → A) 
 onCrossing Nothing none at = none
 onCrossing (At i g) none at = at i g
 
--- The tree of one place; and one place more, e over stream i.
+-- The tree of one place.
 abbrev pub rootAt : ℕ → Tree
 rootAt s = record { visited = set (replicate places false) s true; via = replicate places 0; ends = replicate places 0; len = 0 }
 

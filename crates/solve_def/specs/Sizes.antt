@@ -3,11 +3,11 @@
 use Prim.Native.Nat.{ℕ, _*_, _+_, _-_}
 use Rattle.plant_def.specs.Limits.{maxUnits, places, maxWeight, maxStreams}
 
--- The greatest reading, and the greatest size of a range's ends, provided for: maxReading ≤ mostReading, maxRange ≤ mostRange.
+-- The greatest reading provided for: maxReading ≤ mostReading.
 abbrev pub mostReading : ℕ
 mostReading = 4000000
 
--- The greatest size of a range's ends provided for.
+-- The greatest size of a range's ends provided for: maxRange ≤ mostRange.
 abbrev pub mostRange : ℕ
 mostRange = 2000000000
 

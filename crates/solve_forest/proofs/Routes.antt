@@ -15,7 +15,7 @@ use Rattle.solve_def.specs.SearchNeeds.{Close}
 use Rattle.solve_def.specs.SolverNeeds.{Amounts}
 use Rattle.solve_forest.specs.Forests.{Unmetered}
 use Rattle.solve_forest.specs.Routes.{Routes, Kept}
-use Rattle.flow_def.proofs.Lists.{set-each}
+use Rattle.num_bytes.proofs.Lists.{set-each}
 
 -- Amounts 0, and one of them another.
 pub routes-none : {ss : List Stream} → Routes ss (replicate maxStreams flowShift)

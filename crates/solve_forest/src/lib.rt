@@ -15,7 +15,7 @@ ghost use mathlib.Core.Bool.{false, not};
 ghost use Prim.Native.Nat.{_<_};
 ghost use lib.ListN.{length, getD};
 ghost use Rattle.plant_def.specs.Limits.{places};
-ghost use Rattle.flow_def.specs.Loops.{countTo};
+ghost use Rattle.num_bytes.specs.Sums.{countTo};
 ghost use Rattle.solve_arcs.specs.ArcNeeds.{Laying};
 ghost use Rattle.solve_forest.specs.Forests.{Spanning, ListedMore, ListedOf, Routable};
 ghost use Rattle.solve_def.specs.SearchNeeds.{Close};

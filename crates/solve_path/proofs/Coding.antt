@@ -13,9 +13,9 @@ use lib.Seq.{ext-getD, getD-set-same, getD-set-other, set-getD}
 use Rattle.num_bytes.specs.Choice.{pick}
 use Rattle.num_bytes.proofs.Tests.{by-cases, clash, or-cases, picked}
 use Rattle.plant_def.specs.Limits.{places, maxStreams}
-use Rattle.flow_def.specs.Sides.{bit}
-use Rattle.flow_def.proofs.Lists.{values-at, values-long}
-use Rattle.flow_def.proofs.Binary.{bit-or, bit-zero, bit-other}
+use Rattle.num_bytes.specs.Sums.{bit}
+use Rattle.num_bytes.proofs.Lists.{values-at, values-long}
+use Rattle.num_bytes.proofs.Binary.{bit-or, bit-zero, bit-other}
 use Rattle.flow_def.proofs.Passed.{shifted}
 use Rattle.solve_def.specs.Sizes.{far, farthest}
 use Rattle.solve_def.specs.Near.{codeOf, lessened, arcAt, relaxedAlong, relaxedTo}

@@ -8,8 +8,8 @@ use lib.ListN.{length, getD, set, replicate, length-set, length-replicate, getD-
 use lib.Seq.{ext-getD, getD-set-same, getD-set-other}
 use Rattle.num_bytes.proofs.Tests.{clash}
 use Rattle.plant_def.specs.Limits.{places}
-use Rattle.flow_def.specs.Sides.{bit}
-use Rattle.flow_def.proofs.Binary.{bit-zero}
+use Rattle.num_bytes.specs.Sums.{bit}
+use Rattle.num_bytes.proofs.Binary.{bit-zero}
 use Rattle.solve_def.specs.declared.Spot.{Spot}
 use Rattle.solve_def.specs.declared.Tree.{Tree}
 use Rattle.solve_def.specs.Sizes.{netShift, searchRounds, far}

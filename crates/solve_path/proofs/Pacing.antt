@@ -12,8 +12,8 @@ use lib.ListN.{length, getD, set, length-set}
 use lib.Seq.{ext-getD, getD-set-same, getD-set-other}
 use Rattle.num_bytes.proofs.Tests.{clash}
 use Rattle.plant_def.specs.Limits.{places}
-use Rattle.flow_def.specs.Sides.{bit}
-use Rattle.flow_def.proofs.Binary.{unlike, bit-xor, bit-same, bit-other}
+use Rattle.num_bytes.specs.Sums.{bit}
+use Rattle.num_bytes.proofs.Binary.{unlike, bit-xor, bit-same, bit-other}
 use Rattle.solve_def.specs.Sizes.{far, numbering}
 use Rattle.solve_def.specs.Near.{nearestWithin}
 use Rattle.solve_def.specs.Fringe.{Stepped}

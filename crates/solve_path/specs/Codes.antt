@@ -7,7 +7,7 @@ use lib.ListN.{getD, length}
 use Rattle.num_bytes.specs.Choice.{pick}
 use Rattle.num_bytes.specs.Inner.{values}
 use Rattle.plant_def.specs.Limits.{places}
-use Rattle.flow_def.specs.Sides.{bit}
+use Rattle.num_bytes.specs.Sums.{bit}
 use Rattle.solve_def.specs.Sizes.{far, farthest}
 use Rattle.solve_def.specs.declared.Spot.{Spot}
 use Rattle.solve_def.specs.Near.{relaxedTo}
@@ -34,12 +34,12 @@ lookedAt ls ms ps vs k e near = relaxedTo (startsOf ls) (endsOf ls) (reducedCost
 abbrev pub Standing : List ℕ → List ℕ → List ℕ → Spot → List ℕ → Type 0
 Standing ls ms ps at near = Ways ls ms ps × (at .place < places) × (at .distance < farthest) × (length near ≡ places)
 
--- What it comes to where the places vs are visited, and whichever are.
+-- What it comes to where the places vs are visited.
 pub record Looked (ls ms ps : List ℕ) (k e : ℕ) (before : List ℕ) (m : ℕ) (after : List ℕ) (r : ℕ) (vs : List Bool) : Type 0 where
   pub coded : Coded vs after r
   pub same : shown vs after ≡ lookedAt ls ms ps vs k e (shown vs before)
 
--- And whichever places are visited.
+-- What a look along the arcs of a place comes to, whichever places are visited.
 abbrev pub LookedAlong : List ℕ → List ℕ → List ℕ → Spot → List ℕ → List ℕ → ℕ → Type 0
 LookedAlong ls ms ps at before after r = (length after ≡ places)
     × ((vs : List Bool) → Coded vs before (at .fringe) → Looked ls ms ps (at .distance) (at .place) before (at .fringe) after r vs)

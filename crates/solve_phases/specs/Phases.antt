@@ -52,23 +52,23 @@ Finishing ls rs st r after margins =
     × (r .made ≡ made (take (w .laying .n) (w .laying .streams)) st)
     × (r .full ≡ false → Margined (w .laying .n) rs (after .flows) 1 0 margins)
 
--- The four of what is lent to the calls: from a place,
+-- What improvements from a place come to, of what is lent to the call,
 abbrev pub TryCall : (arcs rows margins flows potentials nets : Lent (List ℕ)) → Quest → Tried → Type 0
 TryCall arcs rows margins flows potentials nets q r =
     Trying (arcs .entry .now) (rows .entry .now) (margins .entry .now) q (stateBefore flows potentials nets) r
     (stateAfter flows potentials nets) (margins .exit .now)
 
--- a phase,
+-- what a phase comes to,
 abbrev pub PhaseCall : (arcs rows margins flows potentials nets : Lent (List ℕ)) → ℕ → Tried → Type 0
 PhaseCall arcs rows margins flows potentials nets d r =
     Phasing (arcs .entry .now) (rows .entry .now) d (stateBefore flows potentials nets) r (stateAfter flows potentials nets) (margins .exit .now)
 
--- the phases from no hint,
+-- what the phases from no hint come to,
 abbrev pub PhasesCall : (arcs rows margins flows potentials nets : Lent (List ℕ)) → Tried → Type 0
 PhasesCall arcs rows margins flows potentials nets r =
     AllPhases (arcs .entry .now) (rows .entry .now) r (stateAfter flows potentials nets) (margins .exit .now)
 
--- and from a hint.
+-- and what finishing from a state that is settled at a hint comes to.
 abbrev pub FinishCall : (arcs rows margins flows potentials nets : Lent (List ℕ)) → Tried → Type 0
 FinishCall arcs rows margins flows potentials nets r =
     Finishing (arcs .entry .now) (rows .entry .now) (stateBefore flows potentials nets) r (stateAfter flows potentials nets) (margins .exit .now)

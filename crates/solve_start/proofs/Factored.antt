@@ -32,7 +32,7 @@ use Rattle.solve_def.proofs.Theorem.{network-of, solvable-in}
 use Rattle.solve_forest.proofs.Routes.{routes-none}
 
 module _ (p : Arrays.Plant) (a : Accepted p) where
-  -- The labels of the groups.
+  -- The labels of the groups are places, one for each place.
   pub labels-of : Labels (labelsOf unmeteredOnly (plantOf p))
   labels-of = record {
     long = label-long unmeteredOnly (plantOf p) (a .within .few-units) (inside-of p a);
@@ -55,7 +55,7 @@ module _ (p : Arrays.Plant) (a : Accepted p) where
       low u h = omega (arith, label-low unmeteredOnly (plantOf p) (a .within .few-units) (inside-of p a) u (omega (arith, a .within .few-units)))
 
   module _ {ps xs : List ℕ} (v : Level (labelsOf unmeteredOnly (plantOf p)) potentialShift potentialSpread ps) (r : Routes (plantOf p .streams) xs) where
-    -- Potentials by label, with the routed amounts, are a hint,
+    -- Potentials by label, with routed amounts, are a hint.
     pub level-hinted : Hinted (plantOf p .streams) (record { flows = xs; potentials = ps })
     level-hinted = record {
       agree = λ k l e. v .level _ _ (omega (arith, within-of p a .each k l .from-in, a .within .few-units)) (omega (arith, within-of p a .each k l .to-in, a .within .few-units))
@@ -72,7 +72,7 @@ module _ (p : Arrays.Plant) (a : Accepted p) where
     abbrev none : Hint
     none = record { flows = replicate maxStreams flowShift; potentials = ps }
 
-    -- one from which amounts can be settled,
+    -- At potentials by label, with all amounts 0, amounts can be settled.
     pub level-ready : Ready (plantOf p .streams) none
     level-ready = hinted-ready (p .streams) (p .count) (network-of p a) none (level-hinted v routes-none)
 
@@ -80,7 +80,7 @@ module _ (p : Arrays.Plant) (a : Accepted p) where
     abbrev xs : List ℕ
     xs = settledTo (plantOf p .streams) ps (replicate maxStreams flowShift) (p .count)
 
-    -- and the amounts are those routed along the forest.
+    -- So settled, the amounts can be routed: those of unmetered streams, still 0, are within the hint's room.
     pub level-routes : Routes (plantOf p .streams) xs
     level-routes = record {
       long = settled-long (plantOf p .streams) ps (replicate maxStreams flowShift) (p .count) ∙ routes-none {ss = plantOf p .streams} .long;

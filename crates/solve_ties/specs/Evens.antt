@@ -37,15 +37,15 @@ canFall ls rs ms ps i = ltb 0 (getD rs (4 * i) 0) && eqb (getD (reducedCosts ls 
 abbrev pub Spared : List ℕ → ℕ → List ℕ → List ℕ → Type 0
 Spared rs i ms ms′ = (n : ℕ) (xs : List ℕ) → Margined n rs xs 1 i ms → Margined n rs xs 1 (i + 1) ms′
 
--- What the tie pass comes to at stream i, and in all, whichever streams the arcs are of.
+-- What the tie pass comes to at stream i, whichever streams the arcs are of.
 abbrev pub TiedAt : List ℕ → List ℕ → List ℕ → ℕ → List ℕ → List ℕ → Type 0
 TiedAt ls rs ps i xs xs′ = (w : Tying ls rs ps i xs) → xs′ ≡ tiedAt (take (w .tieable .n) (w .tieable .streams)) ps i xs
 
--- And in all.
+-- What the tie pass comes to in all, whichever streams the arcs are of.
 abbrev pub TiedAll : List ℕ → List ℕ → List ℕ → List ℕ → List ℕ → Type 0
 TiedAll ls rs ps xs xs′ = (w : Tieable ls rs ps 0 xs) → xs′ ≡ tiesTo (take (w .n) (w .streams)) ps (w .n) xs
 
--- At stream i, of what is lent to the call: the margins, too, are those of the amounts, with stream i left alone.
+-- What the tie pass comes to at stream i, of what is lent to it; the margins are those of the amounts, metered streams up to i left alone.
 abbrev pub TieCall : (arcs rows margins flows potentials : Lent (List ℕ)) → ℕ → Type 0
 TieCall arcs rows margins flows potentials i =
     TiedAt (arcs .entry .now) (rows .entry .now) (potentials .entry .now) i (flows .entry .now) (flows .exit .now)

@@ -16,7 +16,7 @@ use Rattle.flow_def.specs.Chains.{Counting}
 use Rattle.flow_def.specs.Labels.{labelsAfter, oneLabel}
 use Rattle.flow_def.specs.Certificate.{every}
 use Rattle.flow_def.proofs.Certified.{every-at, every-all}
-use Rattle.flow_def.proofs.Lists.{map-at}
+use Rattle.num_bytes.proofs.Lists.{map-at}
 use Rattle.flow_def.proofs.Nets.{inside}
 use Rattle.flow_def.specs.Withheld.{NoneWithheld}
 use Rattle.flow_def.specs.Metering.{chosen}

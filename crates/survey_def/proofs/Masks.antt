@@ -10,12 +10,11 @@ use lib.ListN.{length}
 use Rattle.num_bytes.specs.Choice.{pick}
 use Rattle.num_bytes.specs.Inner.{values}
 use Rattle.plant_def.specs.declared.Stream.{Stream}
-use Rattle.flow_def.specs.Sides.{bit}
-use Rattle.flow_def.proofs.Lists.{values-at, values-same}
+use Rattle.num_bytes.specs.Sums.{bit, countTo}
+use Rattle.num_bytes.proofs.Lists.{values-at, values-same}
 use Rattle.flow_def.proofs.Labels.{labels-same}
 use Rattle.flow_def.specs.Metering.{chosen}
-use Rattle.flow_def.specs.Loops.{countTo}
-use Rattle.flow_def.proofs.Counts.{count-same, count-front}
+use Rattle.num_bytes.proofs.Counts.{count-same, count-front}
 use Rattle.flow_def.proofs.Certified.{every-same}
 use Rattle.survey_def.specs.Layouts.{size, setsOf}
 use Rattle.survey_def.specs.Inner.{bitOff, eachMeets, countBelow}

@@ -11,7 +11,7 @@ use Rattle.plant_def.proofs.Limited.{within}
 use Rattle.plant_def.proofs.Accepted.{accepted}
 use Rattle.plant_def.proofs.Sample.{samplePlant}
 use Rattle.flow_def.specs.Labels.{labelsAfter}
-use Rattle.flow_def.proofs.Lists.{values-at}
+use Rattle.num_bytes.proofs.Lists.{values-at}
 use Rattle.survey_def.specs.declared.Layouts.{Layouts}
 use Rattle.survey_def.specs.Says.{maxSurveyed, surveySize, SurveySays}
 use Rattle.survey_def.specs.Inner.{countBelow}

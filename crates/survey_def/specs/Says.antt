@@ -10,7 +10,7 @@ use Rattle.plant_def.specs.Files.{bad, got, readPlant}
 use Rattle.survey_def.specs.declared.Layouts.{Layouts}
 use Rattle.survey_def.specs.Layouts.{Counted}
 
--- The most streams of a plant that is surveyed, and how many counts there are.
+-- The most streams of a plant that is surveyed.
 abbrev pub maxSurveyed : ℕ
 maxSurveyed = 12
 

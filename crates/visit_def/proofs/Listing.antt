@@ -11,8 +11,8 @@ use lib.Seq.{ext-getD}
 use Rattle.num_bytes.proofs.Tests.{by-cases}
 use Rattle.plant_def.specs.Limits.{maxStreams}
 use Rattle.plant_def.specs.Plants.{Plant}
-use Rattle.flow_def.specs.Loops.{countTo}
-use Rattle.flow_def.proofs.Counts.{count-same}
+use Rattle.num_bytes.specs.Sums.{countTo}
+use Rattle.num_bytes.proofs.Counts.{count-same}
 use Rattle.visit_def.specs.declared.Visits.{Visits}
 use Rattle.visit_def.specs.Visits.{isListed, comesFirst, placeOf, Ordered}
 use Rattle.flow_def.proofs.Places.{keyOf, by-key, belowTo, Different, below-few, apart, rises, taken}

@@ -32,7 +32,7 @@ use Rattle.visit_def.specs.Visits.{without, isAdjusted, isListed, AllLea
 use Rattle.visit_def.specs.Says.{noVisits, VisitsFor, VisitsWith, VisitsSays, Meters-worth-a-visit}
 use Rattle.visit_def.proofs.Unmetered.{feasible, sheet-without, not-above, one-cost}
 use Rattle.visit_def.proofs.Listing.{stands, in-order, one-list, ordered-by}
-use Rattle.flow_def.proofs.Counts.{count-few}
+use Rattle.num_bytes.proofs.Counts.{count-few}
 
 -- One answer of a plant.
 same-for : (file : List ℕ) (p : Plant) → readPlant file ≡ got p → (r r′ : Visits) → VisitsFor p r → VisitsFor p r′ → r ≡ r′

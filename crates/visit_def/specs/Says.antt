@@ -9,7 +9,7 @@ use lib.ListN.{length, getD, replicate}
 use Rattle.plant_def.specs.Converts.{ReadAs}
 use Rattle.plant_def.specs.Limits.{maxStreams}
 use Rattle.plant_def.specs.Plants.{Plant}
-use Rattle.plant_def.specs.Files.{Got, bad, got, readPlant}
+use Rattle.plant_def.specs.Files.{Got, got, readPlant}
 use Rattle.flow_def.specs.Flows.{streamAt, allowed, cost, Cheapest}
 use Rattle.sheet_def.specs.Apart.{capped}
 use Rattle.sheet_def.specs.Sentences.{EndsJoined}

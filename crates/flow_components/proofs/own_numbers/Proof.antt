@@ -5,7 +5,7 @@ use native.Mathlib.Omega.{arith}
 use lib.ListN.{length-replicate}
 use Rattle.plant_def.specs.Limits.{places}
 use Rattle.flow_def.specs.Labels.{ownNumbers}
-use Rattle.flow_def.proofs.Lists.{values-long, values-at, Written, written-none, written-put, written-all}
+use Rattle.num_bytes.proofs.Lists.{values-long, values-at, Written, written-none, written-put, written-all}
 use borrow.Author.Needs.{needs}
 use Rattle.flow_components.proofs.own_numbers.Statement.{statement}
 use Rattle.flow_components.proofs.own_numbers.Tie as tie

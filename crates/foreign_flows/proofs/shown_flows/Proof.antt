@@ -11,7 +11,7 @@ use Rattle.foreign_flows.proofs.Checking as C
 use Rattle.num_bytes.specs.Choice.{pick}
 use Rattle.plant_def.specs.Limits.{maxStreams}
 use Rattle.flow_def.specs.declared.Class.the-variants.{Adjusted}
-use Rattle.flow_def.proofs.Lists.{Written, written-none, written-put}
+use Rattle.num_bytes.proofs.Lists.{Written, written-none, written-put}
 use Rattle.sheet_def.specs.Sheets.{known}
 use Rattle.foreign_def.specs.Test.{noEntry}
 use borrow.Author.Needs.{needs}

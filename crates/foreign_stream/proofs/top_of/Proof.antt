@@ -1,6 +1,6 @@
 -- Twice the correction and 1, times the weight, fits 64 bits.
 use lib.IntN.{pos, _+ℤ_}
-use Rattle.flow_def.proofs.Integers.{plus-size}
+use Rattle.num_bytes.proofs.Integers.{plus-size}
 use Rattle.foreign_stream.proofs.Fitting.{Bounded, bounded}
 use borrow.Author.Needs.{needs}
 use Rattle.foreign_stream.proofs.top_of.Statement.{statement}

@@ -5,7 +5,7 @@ use native.Mathlib.Omega.{arith}
 use lib.ListN.{getD}
 use borrow.Author.Needs.{needs}
 use Rattle.plant_def.specs.Limits.{places}
-use Rattle.flow_def.proofs.Lists.{Written, written-none, written-put}
+use Rattle.num_bytes.proofs.Lists.{Written, written-none, written-put}
 use Rattle.newton_descend.proofs.Levels.{labels-all}
 use Rattle.newton_descend.proofs.by_label.Statement.{statement}
 use Rattle.newton_descend.proofs.by_label.Tie as tie

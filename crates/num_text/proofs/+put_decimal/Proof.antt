@@ -1,10 +1,7 @@
 -- The measure is the number: its tenth is less.
 use borrow.Author.Needs.{needs}
-use denote.Ref.{now}
 use native.Mathlib.Omega.{arith}
-use mathlib.Core.List.{[], _∷_}
-use Prim.Native.Nat.{_/_}
-use lib.ListN.{length, length-append}
+use lib.ListN.{length}
 use Rattle.num_text.specs.Numerals.{decimal}
 use Rattle.num_text.proofs.Behind.{behind, kept-length}
 use Rattle.num_text.proofs.Decimals.{decimal-one, decimal-more, more-size}

@@ -3,7 +3,6 @@ use borrow.Author.Needs.{needs}
 use native.Mathlib.Omega.{arith}
 use mathlib.Core.Path.{_≡_, ap}
 use mathlib.Core.List.{_++_}
-use Prim.Native.Nat.{ℕ}
 use lib.ListN.{length}
 use Rattle.num_text.specs.Numerals.{text, decimal, signedDecimal}
 use Rattle.num_text.proofs.Behind.{behind}

@@ -3,7 +3,6 @@ use borrow.Author.Needs.{needs}
 use native.Mathlib.Omega.{arith}
 use mathlib.Core.Path.{_≡_, ap, _∙_}
 use Prim.Native.Nat.{ℕ, _+_, _-_, _*_, _/_, _≤_}
-use Rattle.plant_def.specs.Limits.{maxWeight}
 use Rattle.solve_def.specs.Sizes.{mostPull}
 use Rattle.solve_def.proofs.Weights.{pull-most}
 use Rattle.sheet_def.specs.Apart.{capped}

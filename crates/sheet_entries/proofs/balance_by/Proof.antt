@@ -1,5 +1,4 @@
 -- The parts make up the balance of the cheapest flow.
-use borrow.Author.Needs.{needs}
 use mathlib.Core.Path.{refl}
 use Rattle.sheet_def.proofs.Opening.{held-amounts}
 use Rattle.sheet_entries.proofs.Balanced.{balanced-so}

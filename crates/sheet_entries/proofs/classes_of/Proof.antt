@@ -8,7 +8,7 @@ use Rattle.plant_def.specs.Plants.{noStream}
 use Rattle.plant_def.specs.Says.{plantOf}
 use Rattle.flow_def.specs.declared.Class.the-variants.{Withheld}
 use Rattle.flow_def.specs.Classes.{classOf}
-use Rattle.flow_def.proofs.Lists.{Written, written-none, written-put}
+use Rattle.num_bytes.proofs.Lists.{Written, written-none, written-put}
 use Rattle.plant_def.proofs.Arrayed.{all-listed, stream-within}
 use Rattle.flow_def.proofs.ByLabels.{classes-all}
 use Rattle.flow_def.proofs.BySides.{class-in}

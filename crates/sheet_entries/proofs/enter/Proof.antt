@@ -1,8 +1,8 @@
 -- After i turns the first i entries are written, and the weights of the first i streams summed up.
 use borrow.Author.Needs.{needs}
 use native.Mathlib.Omega.{arith}
-use mathlib.Core.Path.{_≡_, refl, sym, ap, subst, _∙_}
-use lib.IntN.{ℤ, pos}
+use mathlib.Core.Path.{_≡_, sym, ap, subst, _∙_}
+use lib.IntN.{ℤ}
 use Prim.Native.Nat.{ℕ, _≤_, _<_, _-_, _*_}
 use lib.ListN.{getD, replicate, length-replicate}
 use mir.Syntax.{w64}
@@ -14,12 +14,11 @@ use Rattle.plant_def.specs.Plants.{noStream}
 use Rattle.plant_def.specs.Says.{plantOf}
 use Rattle.plant_def.proofs.Arrayed.{all-listed, stream-within}
 use Rattle.flow_def.specs.declared.Class.{Class}
-use Rattle.flow_def.specs.declared.Class.the-variants.{Withheld}
 use Rattle.flow_def.specs.Calls.{Cutting, classIn}
 use Rattle.flow_def.specs.Classes.{classOf}
 use Rattle.flow_def.specs.Shown.{adjustedWeight}
 use Rattle.flow_def.proofs.BySides.{class-in}
-use Rattle.flow_def.proofs.Lists.{Written, written-none, written-put}
+use Rattle.num_bytes.proofs.Lists.{Written, written-none, written-put}
 use Rattle.flow_test.proofs.Summing.{Weighed, weighed-none, weighed-more, weighed-all}
 use Rattle.solve_def.specs.Held.{unshifted}
 use Rattle.solve_def.proofs.Weights.{weight-most}

@@ -7,7 +7,7 @@ use lib.ListN.{getD}
 use Rattle.num_bytes.specs.Choice.{pick}
 use Rattle.plant_def.specs.Limits.{places}
 use Rattle.solve_def.specs.Search.{fallen}
-use Rattle.flow_def.proofs.Lists.{Written, written-none, written-put}
+use Rattle.num_bytes.proofs.Lists.{Written, written-none, written-put}
 use Rattle.solve_def.proofs.Filling.{reduced-is}
 use borrow.Author.Needs.{needs}
 use Rattle.solve_path.proofs.lower.Statement.{statement}

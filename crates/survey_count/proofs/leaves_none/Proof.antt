@@ -1,5 +1,5 @@
 -- `leaves_none` meets its contract: each stream passed has a meter or joined two groups.
-use mathlib.Core.Path.{_≡_, sym, ap, _∙_}
+use mathlib.Core.Path.{sym, ap, _∙_}
 use mathlib.Core.Bool.{Bool, _&&_}
 use Prim.Native.Nat.{_-_, _%_}
 use lib.Dec.{eqb}

@@ -1,5 +1,4 @@
 -- By the two tests in their order.
-use denote.Ref.{now}
 use Rattle.num_lent.proofs.Rooms.{first-short, second-short, both-long}
 use borrow.Author.Needs.{needs}
 use Rattle.visit_call.proofs.visits_lent.Statement.{statement}

@@ -5,7 +5,7 @@ use Prim.Native.Nat.{ℕ, suc, _%_, _≤_, _-_}
 use native.Mathlib.Omega.{arith}
 use lib.ListN.{length, length-set, length-replicate, getD-replicate}
 use Rattle.plant_def.specs.Limits.{places}
-use Rattle.flow_def.proofs.Lists.{set-each}
+use Rattle.num_bytes.proofs.Lists.{set-each}
 use Rattle.solve_def.specs.Sizes.{potentialShift}
 use Rattle.solve_def.specs.SearchNeeds.{Potentials}
 use Rattle.case_calls.proofs.closed.potentials_of.Statement.{statement}

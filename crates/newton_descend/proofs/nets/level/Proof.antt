@@ -5,7 +5,7 @@ use native.Mathlib.Omega.{arith}
 use lib.Ieee.{nan}
 use borrow.Author.Needs.{needs}
 use Rattle.plant_def.specs.Limits.{places}
-use Rattle.flow_def.proofs.Lists.{Written, written-none, written-put}
+use Rattle.num_bytes.proofs.Lists.{Written, written-none, written-put}
 use Rattle.newton_descend.specs.Nets.{none}
 use Rattle.newton_descend.proofs.Steps.{level-all}
 use Rattle.newton_descend.proofs.nets.level.Statement.{statement}

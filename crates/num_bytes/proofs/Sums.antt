@@ -4,8 +4,8 @@ use lib.IntN.{ℤ, pos, _+ℤ_, _*ℤ_, +ℤ-idl, +ℤ-idr, *ℤ-zero}
 use Prim.Native.Nat.{ℕ, zero, suc, _<_}
 use native.Mathlib.Omega.{arith}
 use native.Mathlib.Decide.{ℕ-discrete}
-pub use Rattle.flow_def.specs.Nets.{sum}
-use Rattle.flow_def.proofs.Integers.{Le, same, plus-val, plus-left-comm, plus-four, times-plus}
+pub use Rattle.num_bytes.specs.Sums.{sum}
+use Rattle.num_bytes.proofs.Integers.{Le, same, plus-val, plus-left-comm, plus-four, times-plus}
 
 -- Terms that agree have one sum.
 pub sum-same : (n : ℕ) (f g : ℕ → ℤ) → ((k : ℕ) → k < n → f k ≡ g k) → sum n f ≡ sum n g
@@ -45,7 +45,7 @@ pub sum-front : (n : ℕ) (f : ℕ → ℤ) → sum (suc n) f ≡ f 0 +ℤ sum n
 sum-front zero f = refl
 sum-front (suc n) f = ap (λ (z : ℤ). f (suc n) +ℤ z) (sum-front n f) ∙ plus-left-comm (f (suc n)) (f 0) (sum n (λ k. f (suc k)))
 
--- Sums keep an order; where the order of the sums is turned, no part differs.
+-- Terms that are at most others have a sum that is at most theirs.
 pub sum-le : (n : ℕ) (f g : ℕ → ℤ) → ((k : ℕ) → k < n → Le (f k) (g k)) → Le (sum n f) (sum n g)
 sum-le zero f g h = omega arith
 sum-le (suc n) f g h = omega (arith, h n (omega arith), sum-le n f g (λ k l. h k (omega arith)), plus-val (f n) (sum n f), plus-val (g n) (sum n g))

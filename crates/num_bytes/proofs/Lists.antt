@@ -7,16 +7,16 @@ use native.Mathlib.Decide.{ℕ-discrete}
 use borrow.Author.Count.{below-none, below-more}
 use lib.ListN.{length, getD, set, length-set}
 use lib.Seq.{ext-getD, getD-set-same, getD-set-other}
 use Rattle.num_bytes.specs.Inner.{values}
-pub use Rattle.flow_def.specs.Written.{Written}
+pub use Rattle.num_bytes.specs.Written.{Written}
 
--- Element i of a mapped list.
+-- Element i of a mapped list is the function's value of element i.
 pub map-at : {A B : Type 0} (f : A → B) (xs : List A) (i : ℕ) (d : B) (e : A) → i < length xs → getD (map f xs) i d ≡ f (getD xs i e)
 map-at f [] i d e h = absurd (omega arith)
 map-at f (x ∷ xs) zero d e h = refl
 map-at f (x ∷ xs) (suc i) d e h = map-at f xs i d e (omega arith)
 
--- The values of 0 to n − 1 are n,
+-- There are n values of the numbers 0 to n − 1,
 pub values-long : {A : Type 0} (f : ℕ → A) (n : ℕ) → length (values n f) ≡ n
 values-long f zero = refl
 values-long f (suc n) = ap suc (values-long (λ k. f (suc k)) n)

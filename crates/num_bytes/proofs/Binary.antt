@@ -8,7 +8,7 @@ use native.Mathlib.Decide.{decLe}
 use lib.Dec.{eqb}
 use lib.Bits.{bitOr, bitXor, differ, xor-step, or-step, xor-shr, or-shr}
 use lib.Pow.{pow-pos, pow-add, pow-lt, shl-shr}
-use Rattle.flow_def.specs.Sides.{bit}
+use Rattle.num_bytes.specs.Sums.{bit}
 
 -- One of two, not both.
 abbrev pub unlike : Bool → Bool → Bool
@@ -49,7 +49,7 @@ bit-or = bit-by bitOr max _||_ or-shr or-step (digits (λ x y. eqb (max x y % 2)
 low-none : (h x : ℕ) → x < 2 ^ h → bit h x ≡ false
 low-none h x l = ap (λ (q : ℕ). eqb (q % 2) 1) (div-eq-of-lt l)
 
--- The bits of 0, of 1 and of a power.
+-- The number 0 has no bit.
 pub bit-zero : (h : ℕ) → bit h 0 ≡ false
 bit-zero h = low-none h 0 (pow-pos h)
 
@@ -77,7 +77,7 @@ bit-other h g e = elim (decLe (suc g) h) [
         ∙ ap (λ (x : ℕ). eqb (x % 2) 1) (shl-shr (2 ^ suc d) h)
         ∙ ap (λ (x : ℕ). eqb (x % 2) 1) (pow-suc 2 d) ∙ ap (λ (x : ℕ). eqb x 1) (mul-mod-left (2 ^ d) 2)
 
--- Laws of `unlike`.
+-- Two answers that are not unlike are equal.
 pub alike : (x y : Bool) → unlike x y ≡ false → x ≡ y
 alike true true e = refl
 alike true false e = e

@@ -6,8 +6,8 @@ use native.Mathlib.Omega.{arith}
 use native.Mathlib.Decide.{ℕ-discrete}
 use borrow.Author.Tests.{eq-eqb}
 use lib.Dec.{eqb}
 use Rattle.num_bytes.specs.Choice.{pick}
-use Rattle.flow_def.specs.Loops.{countTo}
+use Rattle.num_bytes.specs.Sums.{countTo}
 
 -- A test as a number.
 abbrev pub one : Bool → ℕ
@@ -80,7 +80,7 @@ one-and true true = omega arith
 one-and true false = omega arith
 one-and false b = omega arith
 
--- All but number i, which passes: one less.
+-- All but number i, which passes: at least one less.
 pub count-but : (n i : ℕ) (f : ℕ → Bool) → i < n → f i ≡ true → suc (countTo n (λ k. f k && not (eqb k i))) ≤ countTo n f
 count-but zero i f l t = absurd (omega arith)
 count-but (suc n) i f l t = elim (ℕ-discrete n i) [

@@ -1,5 +1,5 @@
 -- Integers as differences of naturals: one rewriting takes every expression of sums, products and orders to naturals.
-use mathlib.Core.Path.{_≡_, refl, sym, _∙_, ap}
+use mathlib.Core.Path.{_≡_, refl, _∙_, ap}
 use mathlib.Core.Bool.{true, false≢true}
 use mathlib.Core.Logic.{_↔_, _⊎_, inl, inr, ⊎-elim}
 use lib.IntN.{ℤ, pos, negsuc, negℤ, subℕ, natAbs, _+ℤ_, _-ℤ_, _*ℤ_}
@@ -8,9 +8,8 @@ use Prim.Native.Nat.{ℕ, zero, suc, _+_, _-_, _*_, _≤_, _<_}
 use native.Mathlib.Omega.{arith}
 use native.Mathlib.Decide.{decLe}
 use borrow.Author.Tests.{lt-ltb, le-ltb, leb-true, le-leb, ltb-true}
-use Rattle.flow_def.specs.Flows.{square}
 
--- The two parts of an integer: z is up z less dn z, and one of them is 0.
+-- How far an integer is above 0, or 0: z is up z less dn z, and one of them is 0.
 abbrev pub up : ℤ → ℕ
 up (pos a) = a
 up (negsuc a) = 0
@@ -44,7 +43,7 @@ sub-diff : (a b : ℕ) → subℕ a b ≡ diff a b
 unfolding diff
 sub-diff a b = refl
 
--- A difference of naturals is above 0 and below 0 by as much as they differ.
+-- The two parts of a difference of naturals differ by as much as the naturals.
 pub diff-val : (a b : ℕ) → up (diff a b) + b ≡ a + dn (diff a b)
 unfolding diff
 diff-val a b = elim (decLe b a) [ yes h ↦ rw (le-ltb a b h) (omega arith) | no h ↦ rw (lt-ltb a b (omega arith)) (omega arith) ]
@@ -53,7 +52,7 @@ diff-val a b = elim (decLe b a) [ yes h ↦ rw (le-ltb a b h) (omega arith) | no
 pub canon : (z : ℤ) → diff (up z) (dn z) ≡ z
 canon z = same (diff (up z) (dn z)) z (omega (arith, diff-val (up z) (dn z)))
 
--- The parts of a sum, a negative, a product, a size: linear facts for omega.
+-- A sum of integers, as an equation of naturals: a linear fact for omega.
 pub plus-val : (x y : ℤ) → up (x +ℤ y) + (dn x + dn y) ≡ up x + up y + dn (x +ℤ y)
 plus-val (pos a) (pos b) = omega arith
 plus-val (pos a) (negsuc b) = rw (sub-diff a (suc b)) (omega (arith, diff-val a (suc b)))
@@ -90,7 +89,7 @@ dn-times (pos a) (negsuc b) = dn-neg (pos (a * suc b)) ∙ omega arith
 dn-times (negsuc a) (pos b) = dn-neg (pos (suc a * b)) ∙ omega arith
 dn-times (negsuc a) (negsuc b) = omega arith
 
--- So many times an integer.
+-- The parts of c times an integer, as a product with c written out has them.
 pub product : (c : ℕ) (z : ℤ) → (up (pos c *ℤ z) ≡ c * up z + 0 * dn z) × (dn (pos c *ℤ z) ≡ c * dn z + 0 * up z)
 product c z = (up-times (pos c) z, dn-times (pos c) z)
 
@@ -99,13 +98,13 @@ pub size-val : (x : ℤ) → natAbs x ≡ up x + dn x
 size-val (pos a) = omega arith
 size-val (negsuc a) = omega arith
 
--- The operations on differences: rewriting by these takes an expression to one difference.
+-- A sum of differences is a difference. (Rewriting by these laws takes an expression to one difference.)
 pub plus-diff : (a b c d : ℕ) → diff a b +ℤ diff c d ≡ diff (a + c) (b + d)
 plus-diff a b c d =
     same (diff a b +ℤ diff c d) (diff (a + c) (b + d))
     (omega (arith, plus-val (diff a b) (diff c d), diff-val a b, diff-val c d, diff-val (a + c) (b + d)))
 
--- The opposite of a difference.
+-- The negative of a difference is the difference the other way round.
 pub neg-diff : (a b : ℕ) → negℤ (diff a b) ≡ diff b a
 neg-diff a b = same (negℤ (diff a b)) (diff b a) (omega (arith, up-neg (diff a b), dn-neg (diff a b), diff-val a b, diff-val b a))
 
@@ -134,14 +133,14 @@ pos-diff a = same (pos a) (diff a 0) (omega (arith, diff-val a 0))
 pub negsuc-diff : (a : ℕ) → negsuc a ≡ diff 0 (suc a)
 negsuc-diff a = same (negsuc a) (diff 0 (suc a)) (omega (arith, diff-val 0 (suc a)))
 
--- An equation or an order of differences is one of naturals.
+-- An equation of differences is one of naturals.
 pub diff-iff : (a b c d : ℕ) → (diff a b ≡ diff c d) ↔ (a + d ≡ c + b)
 diff-iff a b c d = (
   λ e. omega (arith, diff-val a b, diff-val c d, val (diff a b) (diff c d) e),
   λ h. same (diff a b) (diff c d) (omega (arith, diff-val a b, diff-val c d)),
 )
 
--- At most, of integers as equations of naturals.
+-- At most, of integers: an order of naturals.
 abbrev pub Le : ℤ → ℤ → Type 0
 Le x y = up x + dn y ≤ up y + dn x
 
@@ -160,7 +159,7 @@ neg-pos-diff a = same (negℤ (pos a)) (diff 0 a) (omega (arith, up-neg (pos a),
 -- The whole rewriting. A law over integers x, y is `rw (← canon x, ← canon y) (simp Z·diff (omega arith))`.
 pub ruleset Z·diff = (plus-diff, neg-diff, times-diff, neg-pos-diff, pos-diff, negsuc-diff, diff-iff, Le-iff)
 
--- Laws of sums and products that the library lacks.
+-- Three terms, the first two exchanged. (The library lacks this law and the four below.)
 pub plus-left-comm : (x y z : ℤ) → x +ℤ (y +ℤ z) ≡ y +ℤ (x +ℤ z)
 plus-left-comm x y z = rw (← canon x, ← canon y, ← canon z) (simp Z·diff (omega arith))
 
@@ -180,7 +179,7 @@ neg-times x y = rw (← canon x, ← canon y) (simp Z·diff (omega arith))
 pub one-times : (x : ℤ) → pos 1 *ℤ x ≡ x
 one-times x = rw (← canon x) (simp Z·diff (omega arith))
 
--- Of a difference that is 0.
+-- Integers that differ by 0 are equal.
 pub minus-none : (x y : ℤ) → x -ℤ y ≡ pos 0 → x ≡ y
 minus-none x y e = same x y (omega (arith, minus-val x y, val (x -ℤ y) (pos 0) e))
 
@@ -206,28 +205,28 @@ plus-size x y =
 pub pos-inj : {a b : ℕ} → pos a ≡ pos b → a ≡ b
 pos-inj e = cc
 
--- The order and its tests.
+-- Where the test of at most answers true, one integer is at most the other.
 pub leZ-le : (x y : ℤ) → leZ x y ≡ true → Le x y
 leZ-le (pos a) (pos b) e = omega (arith, leb-true a b e)
 leZ-le (pos a) (negsuc b) e = absurd (false≢true e)
 leZ-le (negsuc a) (pos b) e = omega arith
 leZ-le (negsuc a) (negsuc b) e = omega (arith, leb-true b a e)
 
--- The order answers true of the test,
+-- Where one integer is at most another, the test of at most answers true.
 pub le-leZ : (x y : ℤ) → Le x y → leZ x y ≡ true
 le-leZ (pos a) (pos b) h = le-leb a b (omega arith)
 le-leZ (pos a) (negsuc b) h = absurd (omega arith)
 le-leZ (negsuc a) (pos b) h = refl
 le-leZ (negsuc a) (negsuc b) h = le-leb b a (omega arith)
 
--- the test below says the order,
+-- Where the test of less than answers true, one integer is less than the other,
 pub ltZ-lt : (x y : ℤ) → ltZ x y ≡ true → Lt x y
 ltZ-lt (pos a) (pos b) e = omega (arith, ltb-true a b e)
 ltZ-lt (pos a) (negsuc b) e = absurd (false≢true e)
 ltZ-lt (negsuc a) (pos b) e = omega arith
 ltZ-lt (negsuc a) (negsuc b) e = omega (arith, ltb-true b a e)
 
--- and the order answers true of the test below.
+-- and where it is less, the test answers true.
 pub lt-ltZ : (x y : ℤ) → Lt x y → ltZ x y ≡ true
 lt-ltZ (pos a) (pos b) h = lt-ltb a b (omega arith)
 lt-ltZ (pos a) (negsuc b) h = absurd (omega arith)
@@ -245,15 +244,6 @@ Le-unless x y f = elim (decLe (up x + dn y) (up y + dn x)) [ yes h ↦ h | no h 
 -- Two integers, each at most the other, are equal.
 pub Le-antisym : (x y : ℤ) → Le x y → Le y x → x ≡ y
 Le-antisym x y h k = same x y (omega arith)
-
--- Squares.
-pub square-is : (x : ℤ) → pos (square x) ≡ x *ℤ x
-square-is (pos a) = refl
-square-is (negsuc a) = refl
-
--- The square of a difference, with the double product on the other side.
-pub square-diff : (a b : ℕ) → square (diff a b) + 2 * (a * b) ≡ a * a + b * b
-square-diff a b = omega (arith, diff-iff _ _ _ _ .0 (sym (pos-diff (square (diff a b))) ∙ square-is (diff a b) ∙ times-diff a b a b))
 
 -- Of two integers one is the other and a natural more, or less.
 pub between : (x y : ℤ) → ((t : ℕ) × (y ≡ x +ℤ diff t 0)) ⊎ ((t : ℕ) × (y ≡ x +ℤ diff 0 t))
