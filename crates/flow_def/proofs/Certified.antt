@@ -18,7 +18,7 @@ use Rattle.flow_def.specs.Certificate.{climb, leastClimb, mostClimb, ris
 use Rattle.num_bytes.proofs.Integers.{leZ-le, ltZ-lt, le-leZ}
 use Rattle.flow_def.proofs.Ranges.{asked, answered}
 use Rattle.flow_def.proofs.Potentials.{StepAt}
-use Rattle.flow_def.proofs.Ties.{slack, stays-cheapest}
+use Rattle.flow_def.proofs.Ties.{strict, stays-cheapest}
 use Rattle.flow_def.proofs.Nets.{countOf, streamOf}
 
 -- What holds of all numbers below n holds of each.
@@ -66,7 +66,7 @@ certified-cheapest p xs potentials e =
     })
     (λ i l m.
     let t = asked (s i .metered) _ (every-at n kept (and-right (every n bounded) _ tests) i l) m in
-    slack (λ f. ltZ-lt (leastClimb (s i) (amountAt xs i)) (climb π (s i)) (asked (falls (s i) (amountAt xs i)) _ t f)))
+    strict (λ f. ltZ-lt (leastClimb (s i) (amountAt xs i)) (climb π (s i)) (asked (falls (s i) (amountAt xs i)) _ t f)))
   where
     n : ℕ
     n = countOf p

@@ -58,7 +58,7 @@ module _ (counts : Counting) (p : Plant) where
     no-longer : length us ≤ length vs
     no-longer =
         pigeons (length us) (length vs) (λ k. to k .0) (λ k l. to k .1 l .0)
-        (λ j k l h e. a .apart j k l h
+        (λ j k l h e. a .distinct j k l h
         (chain-trans (subst (λ (v : ℕ). Chain counts (p .streams) (getD us j 0) (getD vs v 0)) e (to j .1 l .1)) (chain-sym (to k .1 h .1))))
 
   -- Each has a place for every place of the other, so neither is longer.
@@ -158,7 +158,7 @@ module _ (counts : Counting) (p : Plant) (small : p .units ≤ maxUnits) (w : In
         let low : label u ≤ u = label-low counts p small w u (omega arith) in
         let a = owned .all (label u) (omega arith) (sym (one-label h (omega arith) (reach u h))) in
         (a .0, a .1, subst (Chain counts (p .streams) u) (sym (a .2)) (reach u h));
-    apart = λ j k l h c. owned .once j k l h (sym (owned .own j l) ∙ one-label (owned .low j l) (owned .low k h) c ∙ owned .own k h);
+    distinct = λ j k l h c. owned .once j k l h (sym (owned .own j l) ∙ one-label (owned .low j l) (owned .low k h) c ∙ owned .own k h);
   }
 
   -- Any list with one place of each set is as long as the count of own labels.

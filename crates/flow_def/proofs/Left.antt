@@ -88,7 +88,7 @@ meter-within : (n : ℕ) (b : Bool) (s : Stream) → WithinStream n s → Within
 meter-within n true s w = record {
   from-in = w .from-in;
   to-in = w .to-in;
-  apart = w .apart;
+  distinct = w .distinct;
   weighed = λ e. omega arith;
   light = λ e. omega arith;
   in-range = λ e. omega arith;

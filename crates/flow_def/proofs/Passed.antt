@@ -19,8 +19,8 @@ use Rattle.flow_def.specs.Flows.{streamAt}
 use Rattle.flow_def.specs.Chains.{unmeteredOnly}
 use Rattle.flow_def.specs.Labels.{ownNumbers, labelsAfter}
 use Rattle.flow_def.specs.Groups.{StepSays}
-use Rattle.flow_def.specs.Sides.{apart, takenBy, loopedBy, turned, parted, takenAt, sidesAfter, loopedAfter}
-use Rattle.flow_def.specs.Calls.{Cutting}
+use Rattle.flow_def.specs.Sides.{wayBetween, takenBy, loopedBy, turned, parted, takenAt, sidesAfter, loopedAfter}
+use Rattle.flow_def.specs.Calls.{Bridging}
 use Rattle.num_bytes.proofs.Lists.{Written, written-none, written-put}
 use Rattle.flow_def.proofs.Labels.{step-none, labels-long}
 use Rattle.flow_def.proofs.Grouping.{groups-after, step-said, ends-in}
@@ -35,7 +35,7 @@ shifted h l = shl-exact 1 h 64 (omega arith) (omega arith) ∙ one (2 ^ h)
     one x = omega arith
 
 -- A stream that takes label h away, by the streams between its ends and its own bit.
-pub part-by : (ls sides : List ℕ) (s : Stream) (h way own : ℕ) → (h ≡ 0 → ⊥) → way ≡ apart sides s → own ≡ 2 ^ h
+pub part-by : (ls sides : List ℕ) (s : Stream) (h way own : ℕ) → (h ≡ 0 → ⊥) → way ≡ wayBetween sides s → own ≡ 2 ^ h
     → turned h (bitXor way own) ls sides ≡ parted h ls s sides
 part-by ls sides s h way own e w o = rw (w, o) (parted-some ls sides s h e)
 
@@ -112,7 +112,7 @@ module _ {p : Arrays.Plant} (w : Accepted p) {i : ℕ} {none labels sides taken 
     }
 
   -- After the last stream the cuts are those of the plant.
-  pub passed-all : i ≡ p .count → Cutting p (record { labels = labels; taken = taken; looped = looped })
+  pub passed-all : i ≡ p .count → Bridging p (record { labels = labels; taken = taken; looped = looped })
   passed-all e = record {
     grouped = rw (a .labelled, e) (groups-after unmeteredOnly (plantOf p .streams) (ends-in p w) (p .count) (omega (arith, all-listed p w)));
     long = a .written .long;

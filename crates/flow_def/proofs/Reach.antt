@@ -25,9 +25,9 @@ abbrev pub Subset : List ℕ → List ℕ → Type 0
 Subset a b = (v : ℕ) → has v a ≡ true → has v b ≡ true
 
 -- How many of the places below n a list holds.
-abbrev pub held : ℕ → List ℕ → ℕ
-held zero seen = 0
-held (suc n) seen = pick (has n seen) 1 0 + held n seen
+abbrev pub members : ℕ → List ℕ → ℕ
+members zero seen = 0
+members (suc n) seen = pick (has n seen) 1 0 + members n seen
 
 -- An answer counts once at most.
 pub bit-most : (b : Bool) → pick {A = ℕ} b 1 0 ≤ 1
@@ -40,23 +40,23 @@ bit-mono true b f = rw (f refl) (omega arith)
 bit-mono false b f = omega arith
 
 -- A list holds at most n of the numbers below n.
-pub held-most : (n : ℕ) (seen : List ℕ) → held n seen ≤ n
-held-most zero seen = omega arith
-held-most (suc n) seen = omega (arith, bit-most (has n seen), held-most n seen)
+pub members-most : (n : ℕ) (seen : List ℕ) → members n seen ≤ n
+members-most zero seen = omega arith
+members-most (suc n) seen = omega (arith, bit-most (has n seen), members-most n seen)
 
-held-mono : (n : ℕ) (a b : List ℕ) → Subset a b → held n a ≤ held n b
-held-mono zero a b w = omega arith
-held-mono (suc n) a b w = omega (arith, bit-mono (has n a) (has n b) (w n), held-mono n a b w)
+members-mono : (n : ℕ) (a b : List ℕ) → Subset a b → members n a ≤ members n b
+members-mono zero a b w = omega arith
+members-mono (suc n) a b w = omega (arith, bit-mono (has n a) (has n b) (w n), members-mono n a b w)
 
 -- A list that holds all that another holds, and v besides, holds more.
-pub held-more : (n v : ℕ) (a b : List ℕ) → Subset a b → v < n → has v a ≡ false → has v b ≡ true → held n a < held n b
-held-more zero v a b w l e f = absurd (omega arith)
-held-more (suc n) v a b w l e f =
+pub members-more : (n v : ℕ) (a b : List ℕ) → Subset a b → v < n → has v a ≡ false → has v b ≡ true → members n a < members n b
+members-more zero v a b w l e f = absurd (omega arith)
+members-more (suc n) v a b w l e f =
     by-cases (eqb v n) (λ t. here (eqb-true v n t))
-    (λ t. omega (arith, bit-mono (has n a) (has n b) (w n), held-more n v a b w (below t) e f))
+    (λ t. omega (arith, bit-mono (has n a) (has n b) (w n), members-more n v a b w (below t) e f))
   where
-    here : v ≡ n → held (suc n) a < held (suc n) b
-    here q = rw (rw q at e, rw q at f) (omega (arith, held-mono n a b w))
+    here : v ≡ n → members (suc n) a < members (suc n) b
+    here q = rw (rw q at e, rw q at f) (omega (arith, members-mono n a b w))
 
     below : eqb v n ≡ false → v < n
     below t = let z : v ≡ n → ⊥ = eqb-false v n t in omega arith
@@ -105,19 +105,19 @@ module _ (counts : Counting) where
 
   -- A stream changes nothing and is level, or the list holds more places.
   turn-cases : (n i : ℕ) (s : Stream) (seen : List ℕ) → (s .from ≤ n) × (s .to ≤ n)
-      → ((turn i s seen ≡ seen) × Level seen i s) ⊎ (held (suc n) seen < held (suc n) (turn i s seen))
+      → ((turn i s seen ≡ seen) × Level seen i s) ⊎ (members (suc n) seen < members (suc n) (turn i s seen))
   turn-cases n i s seen w = go (counts i s) (has (s .from) seen) (has (s .to) seen) refl refl refl
     where
       go : (b f t : Bool) → counts i s ≡ b → has (s .from) seen ≡ f → has (s .to) seen ≡ t
-          → ((turn i s seen ≡ seen) × Level seen i s) ⊎ (held (suc n) seen < held (suc n) (turn i s seen))
+          → ((turn i s seen ≡ seen) × Level seen i s) ⊎ (members (suc n) seen < members (suc n) (turn i s seen))
       go false f t b-is f-is t-is = inl (simp b-is, λ c. clash (counts i s) c b-is)
       go true true true b-is f-is t-is = inl (simp (b-is, f-is, t-is), λ c. f-is ∙ sym t-is)
       go true false false b-is f-is t-is = inl (simp (b-is, f-is, t-is), λ c. f-is ∙ sym t-is)
       go true true false b-is f-is t-is =
-          inr (held-more (suc n) (s .to) seen (turn i s seen) (turn-keeps i s seen) (omega arith) t-is
+          inr (members-more (suc n) (s .to) seen (turn i s seen) (turn-keeps i s seen) (omega arith) t-is
           (simp (b-is, f-is) (including-keeps (s .from) (including (s .to) seen) (s .to) (including-has (s .to) seen))))
       go true false true b-is f-is t-is =
-          inr (held-more (suc n) (s .from) seen (turn i s seen) (turn-keeps i s seen) (omega arith) f-is
+          inr (members-more (suc n) (s .from) seen (turn i s seen) (turn-keeps i s seen) (omega arith) f-is
           (simp (b-is, f-is, t-is) (has-first (s .from) [])))
 
   -- So does a round.
@@ -125,7 +125,7 @@ module _ (counts : Counting) where
   AllLevel seen i ss = (k : ℕ) → k < length ss → Level seen (i + k) (streamAt ss k)
 
   round-cases : (n i : ℕ) (ss : List Stream) (seen : List ℕ) → Inside n ss
-      → ((spread counts i ss seen ≡ seen) × AllLevel seen i ss) ⊎ (held (suc n) seen < held (suc n) (spread counts i ss seen))
+      → ((spread counts i ss seen ≡ seen) × AllLevel seen i ss) ⊎ (members (suc n) seen < members (suc n) (spread counts i ss seen))
   round-cases n i [] seen w = inl (refl, λ k l. absurd (omega arith))
   round-cases n i (s ∷ ss) seen w = go (turn-cases n i s seen (w 0 (omega arith))) (round-cases n (suc i) ss seen (λ k l. w (suc k) (omega arith)))
     where
@@ -133,25 +133,25 @@ module _ (counts : Counting) where
       both a b zero l = rw (from-here i) a
       both a b (suc k) l = rw (from-next i k) (b k (omega arith))
 
-      go : ((turn i s seen ≡ seen) × Level seen i s) ⊎ (held (suc n) seen < held (suc n) (turn i s seen))
-          → ((spread counts (suc i) ss seen ≡ seen) × AllLevel seen (suc i) ss) ⊎ (held (suc n) seen < held (suc n) (spread counts (suc i) ss seen))
-          → ((spread counts i (s ∷ ss) seen ≡ seen) × AllLevel seen i (s ∷ ss)) ⊎ (held (suc n) seen < held (suc n) (spread counts i (s ∷ ss) seen))
+      go : ((turn i s seen ≡ seen) × Level seen i s) ⊎ (members (suc n) seen < members (suc n) (turn i s seen))
+          → ((spread counts (suc i) ss seen ≡ seen) × AllLevel seen (suc i) ss) ⊎ (members (suc n) seen < members (suc n) (spread counts (suc i) ss seen))
+          → ((spread counts i (s ∷ ss) seen ≡ seen) × AllLevel seen i (s ∷ ss)) ⊎ (members (suc n) seen < members (suc n) (spread counts i (s ∷ ss) seen))
       go (inl a) (inl b) = inl (rw (a .0) (b .0), both (a .1) (b .1))
       go (inl a) (inr b) = inr (rw (a .0) b)
-      go (inr a) b = inr (omega (arith, held-mono (suc n) (turn i s seen) (spread counts (suc i) ss (turn i s seen)) (spread-keeps (suc i) ss (turn i s seen))))
+      go (inr a) b = inr (omega (arith, members-mono (suc n) (turn i s seen) (spread counts (suc i) ss (turn i s seen)) (spread-keeps (suc i) ss (turn i s seen))))
 
   rounds-still : (l : ℕ) (ss : List Stream) (seen : List ℕ) → spread counts 0 ss seen ≡ seen → rounds l counts ss seen ≡ seen
   rounds-still zero ss seen e = refl
   rounds-still (suc l) ss seen e = ap (rounds l counts ss) e ∙ rounds-still l ss seen e
 
   -- There are n + 1 places and each round that changes anything brings in one: as many rounds are enough.
-  rounds-closed : (n l : ℕ) (ss : List Stream) (seen : List ℕ) → Inside n ss → suc n ≤ l + held (suc n) seen
+  rounds-closed : (n l : ℕ) (ss : List Stream) (seen : List ℕ) → Inside n ss → suc n ≤ l + members (suc n) seen
       → AllLevel (rounds l counts ss seen) 0 ss
   rounds-closed n zero ss seen w h =
-      ⊎-elim (λ a. a .1) (λ a. absurd (omega (arith, a, held-most (suc n) (spread counts 0 ss seen)))) (round-cases n 0 ss seen w)
+      ⊎-elim (λ a. a .1) (λ a. absurd (omega (arith, a, members-most (suc n) (spread counts 0 ss seen)))) (round-cases n 0 ss seen w)
   rounds-closed n (suc l) ss seen w h =
       ⊎-elim (λ a. subst (λ (z : List ℕ). AllLevel z 0 ss) (sym (rounds-still (suc l) ss seen (a .0))) (a .1))
-      (λ (a : held (suc n) seen < held (suc n) (spread counts 0 ss seen)). rounds-closed n l ss (spread counts 0 ss seen) w (omega arith))
+      (λ (a : members (suc n) seen < members (suc n) (spread counts 0 ss seen)). rounds-closed n l ss (spread counts 0 ss seen) w (omega arith))
       (round-cases n 0 ss seen w)
 
   -- `joinedTo` is closed under the streams that count.

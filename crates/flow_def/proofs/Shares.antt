@@ -26,8 +26,8 @@ mixed-share n w a e =
     ∙ ap₂ _+ℤ_ (ap (λ (z : ℤ). pos (n * n) *ℤ z) (sym (weighed-square w a))) (ap (λ (z : ℤ). pos (2 * n) *ℤ (pos w *ℤ (a *ℤ e)) +ℤ z) (sym (weighed-square w e)))
 
 -- Their difference.
-pub gap-share : (w : ℕ) (a e : ℤ) → pos (w * square (e -ℤ a)) +ℤ pos 2 *ℤ (pos w *ℤ (a *ℤ e)) ≡ pos (w * square a) +ℤ pos (w * square e)
-gap-share w a e =
+pub difference-share : (w : ℕ) (a e : ℤ) → pos (w * square (e -ℤ a)) +ℤ pos 2 *ℤ (pos w *ℤ (a *ℤ e)) ≡ pos (w * square a) +ℤ pos (w * square e)
+difference-share w a e =
     ap (λ (z : ℤ). z +ℤ pos 2 *ℤ (pos w *ℤ (a *ℤ e))) (weighed-square w (e -ℤ a)) ∙ ring ∙ ap₂ _+ℤ_ (sym (weighed-square w a)) (sym (weighed-square w e))
   where
     ring : pos w *ℤ ((e -ℤ a) *ℤ (e -ℤ a)) +ℤ pos 2 *ℤ (pos w *ℤ (a *ℤ e)) ≡ pos w *ℤ (a *ℤ a) +ℤ pos w *ℤ (e *ℤ e)
@@ -49,8 +49,8 @@ pub mixed-from : (n d : ℕ) (y z r : ℤ) → (pos n *ℤ y +ℤ z) -ℤ pos (s
 mixed-from n d y z r = rw (← canon y, ← canon z, ← canon r) (simp Z·diff (omega arith))
 
 -- Two amounts differ as their deviations do.
-pub gap-from : (d : ℕ) (y z r : ℤ) → z -ℤ y ≡ (z -ℤ pos d *ℤ r) -ℤ (y -ℤ pos d *ℤ r)
-gap-from d y z r = rw (← canon y, ← canon z, ← canon r) (simp Z·diff (omega arith))
+pub difference-from : (d : ℕ) (y z r : ℤ) → z -ℤ y ≡ (z -ℤ pos d *ℤ r) -ℤ (y -ℤ pos d *ℤ r)
+difference-from d y z r = rw (← canon y, ← canon z, ← canon r) (simp Z·diff (omega arith))
 
 -- The difference of two flows over d and e, stated over d times e, from the deviations.
 pub cross-from : (d e : ℕ) (y z r : ℤ) → pos d *ℤ (z -ℤ pos e *ℤ r) ≡ pos e *ℤ (y -ℤ pos d *ℤ r) +ℤ (pos d *ℤ z -ℤ pos e *ℤ y)

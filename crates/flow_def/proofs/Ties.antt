@@ -44,7 +44,7 @@ meteredTo i k s = s .metered && leb k i
 -- Why the amount of metered stream i cannot fall at no cost while the earlier ones stay: its lower bound is not tight, or there
 -- is a cut, a set of places with its first end and without its second, that nothing leaves at no cost by the other streams.
 pub data Stays (ss : List Stream) (π x : ℕ → ℤ) (i : ℕ) : Type 0 where
-  slack : NoLess π (streamAt ss i) (x i) → Stays ss π x i
+  strict : NoLess π (streamAt ss i) (x i) → Stays ss π x i
   cut : (c : ℕ → Bool) → c (streamAt ss i .from) ≡ true → c (streamAt ss i .to) ≡ false
       → ((k : ℕ) → k < length ss → meteredTo i k (streamAt ss k) ≡ false → Shut c π (streamAt ss k) (x k)) → Stays ss π x i
 
@@ -139,7 +139,7 @@ module _ (p : Plant) (w : Within p) (π : ℕ → ℤ) (xs : List ℤ) (c : Cert
 
     -- No flow of equal cost and the same earlier metered amounts has less on stream i.
     pub stays-least : Stays (p .streams) π (amountAt xs) i → Le (amountAt xs i) (amountAt ys i)
-    stays-least (slack e) = no-less-at i l e
+    stays-least (strict e) = no-less-at i l e
     stays-least (cut side f t shut) = Le-unless (x i) (y i) (cut-keeps side f t shut)
 
 -- A certified flow that is least on each metered stream among flows of equal cost is the cheapest flow.

@@ -18,12 +18,12 @@ abbrev pub takenBy : List ℕ → Stream → ℕ
 takenBy ls s = pick (s .metered) 0 (pick (oneLabel ls (s .from) (s .to)) 0 (max (getD ls (s .from) 0) (getD ls (s .to) 0)))
 
 -- How the sides of two places differ: by the streams on the way between them.
-abbrev pub apart : List ℕ → Stream → ℕ
-apart sides s = bitXor (getD sides (s .from) 0) (getD sides (s .to) 0)
+abbrev pub wayBetween : List ℕ → Stream → ℕ
+wayBetween sides s = bitXor (getD sides (s .from) 0) (getD sides (s .to) 0)
 
 -- The streams that lie on a loop with an unmetered stream whose ends earlier ones join.
 abbrev pub loopedBy : List ℕ → List ℕ → Stream → ℕ
-loopedBy ls sides s = pick (s .metered) 0 (pick (oneLabel ls (s .from) (s .to)) (apart sides s) 0)
+loopedBy ls sides s = pick (s .metered) 0 (pick (oneLabel ls (s .from) (s .to)) (wayBetween sides s) 0)
 
 -- The places labelled h change sides.
 abbrev pub turned : ℕ → ℕ → List ℕ → List ℕ → List ℕ
@@ -31,7 +31,7 @@ turned h by ls sides = values places (λ u. pick (eqb (getD ls u 0) h) (bitXor (
 
 -- A stream that takes label h away.
 abbrev pub parted : ℕ → List ℕ → Stream → List ℕ → List ℕ
-parted h ls s sides = pick (eqb h 0) sides (turned h (bitXor (apart sides s) (2 ^ h)) ls sides)
+parted h ls s sides = pick (eqb h 0) sides (turned h (bitXor (wayBetween sides s) (2 ^ h)) ls sides)
 
 -- The label that stream k takes away, 0 where it takes none.
 abbrev pub takenAt : List Stream → ℕ → ℕ

@@ -38,8 +38,8 @@ use Rattle.solve_def.specs.Sizes.{flowShift}
 use Rattle.sheet_def.specs.declared.Entry.{Entry}
 use Rattle.sheet_def.specs.declared.Total.{Total}
 use Rattle.sheet_def.specs.declared.SheetRead.{SheetRead}
-use Rattle.sheet_def.specs.Apart.{topCost, capped}
-use Rattle.sheet_def.specs.Calls.{AllSmall}
+use Rattle.sheet_def.specs.Totals.{topCost, capped}
+use Rattle.sheet_def.specs.Calls.{AllSmall, noEntry}
 use Rattle.sheet_def.specs.Sheets.{SheetParts, kindOf, known}
 use Rattle.sheet_def.specs.Kept.{Reopened, noSheet, someSheet, readSheet, readOf, blank}
 use Rattle.sheet_def.specs.Sentences.{classOn}
@@ -48,7 +48,7 @@ use Rattle.sheet_def.proofs.Demands.{demands}
 use Rattle.sheet_entries.proofs.Verdicts.{capped-verdict}
 use Rattle.foreign_def.specs.Passing.{difference}
 use Rattle.foreign_def.specs.Says.{CheckSays}
-use Rattle.foreign_def.specs.Test.{withheldOnly, shownAt, shownFlows, noEntry, flowsShown, numbersFit, recordsFit, flowFits, flowsFit, broughtBy, netsFit, totalFits, partsIn, passes, checkWith}
+use Rattle.foreign_def.specs.Test.{withheldOnly, shownAt, shownFlows, flowsShown, numbersFit, recordsFit, flowFits, flowsFit, broughtBy, netsFit, totalFits, partsIn, passes, checkWith}
 use Rattle.foreign_def.proofs.Promise.{check-says}
 
 -- The total.

@@ -29,7 +29,7 @@ use Rattle.solve_def.proofs.Overs.{overTo}
 use Rattle.solve_def.proofs.Tall.{tall}
 use Rattle.sheet_def.specs.Sheets.{known}
 use Rattle.foreign_def.specs.Test.{withheldOnly}
-use Rattle.foreign_def.proofs.Filling.{Closed, fill}
+use Rattle.foreign_def.proofs.Filling.{Uncrossed, fill}
 use Rattle.foreign_def.proofs.Stepping.{step-level, level-step, step-slopes}
 
 -- A class that is not known is Withheld.
@@ -54,7 +54,7 @@ known-shown c t e = let z : _≡_ {A = ℕ} 0 1 = absurd (go (sym t ∙ ap known
 pub record Meets (p : Plant) (π : ℕ → ℤ) (x : ℕ → ℤ) : Type 0 where
   pub steps : Steps 1 π (p .streams) x
   pub ranges : (k : ℕ) → k < length (p .streams) → inRange 1 (streamAt (p .streams) k) (x k) ≡ true
-  pub closed : Closed (withheldOnly p) p x
+  pub uncrossed : Uncrossed (withheldOnly p) p x
 
 module _ (p : Plant) (w : Within p) where
   -- A withheld stream has no meter; so it is in range, and without weight.
@@ -70,7 +70,7 @@ module _ (p : Plant) (w : Within p) where
 
   module _ (π x : ℕ → ℤ) (g : Meets p π x) where
     whole : (y : ℕ → ℤ) × (balanced p (listed p y) ≡ true) × ((k : ℕ) → withheldOnly p k (streamOf p k) ≡ false → y k ≡ x k)
-    whole = fill (withheldOnly p) p w x (g .closed)
+    whole = fill (withheldOnly p) p w x (g .uncrossed)
 
     -- The withheld streams filled in.
     pub filledIn : List ℤ

@@ -32,7 +32,7 @@ use Rattle.flow_def.proofs.Decided.{decided-shown}
 use Rattle.flow_def.proofs.Ranges.{balanced-of, range-of}
 use Rattle.flow_def.proofs.Potentials.{StepAt, Certificate}
 use Rattle.solve_def.proofs.Theorem.{decided}
-use Rattle.sheet_def.specs.Apart.{totalKind, capped}
+use Rattle.sheet_def.specs.Totals.{totalKind, capped}
 use Rattle.sheet_def.specs.Sheets.{SheetParts, known}
 use Rattle.sheet_def.specs.Drawings.{plantParts}
 use Rattle.sheet_def.specs.Sentences.{classOn, numberOn, Tells}
@@ -140,7 +140,7 @@ module _ (p : Plant) (w : Within p) where
     passes-meets = record {
       steps = step;
       ranges = in-range;
-      closed = λ u l.
+      uncrossed = λ u l.
           let c : ℕ → Bool = λ v. has v (joinedTo (withheldOnly p) p u) in
           crossing-sums p sheet (like-long sheet (g .ours)) (like-class sheet (g .ours)) c
           ∙ none-minus _ _ (g .sums u c l (like-joined sheet (g .ours) u));

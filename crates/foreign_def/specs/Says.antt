@@ -9,7 +9,7 @@ use Rattle.plant_def.specs.Plants.{Plant}
 use Rattle.plant_def.specs.Files.{Got, bad, got, readPlant}
 use Rattle.flow_def.specs.declared.Class.the-variants.{Withheld}
 use Rattle.flow_def.specs.Flows.{amountAt, allowed, cost, OfLeastCost}
-use Rattle.sheet_def.specs.Apart.{capped}
+use Rattle.sheet_def.specs.Totals.{capped}
 use Rattle.sheet_def.specs.Counters.{topSheet, counterOf}
 use Rattle.sheet_def.specs.declared.Sheet.{Sheet}
 use Rattle.sheet_def.specs.Sheets.{SheetParts}

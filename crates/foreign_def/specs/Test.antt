@@ -24,7 +24,8 @@ use Rattle.flow_def.specs.Shown.{adjusted}
 use Rattle.flow_def.specs.Certificate.{leastClimb, mostClimb, rises, falls, every}
 use Rattle.num_bytes.specs.Sums.{sum}
 use Rattle.solve_def.specs.Sizes.{flowShift}
-use Rattle.sheet_def.specs.Apart.{capped}
+use Rattle.sheet_def.specs.Calls.{noEntry}
+use Rattle.sheet_def.specs.Totals.{capped}
 use Rattle.sheet_def.specs.declared.Entry.{Entry}
 use Rattle.sheet_def.specs.declared.Total.{Total}
 use Rattle.sheet_def.specs.declared.SheetRead.{SheetRead}
@@ -114,10 +115,6 @@ pub record NumberedBy (n : ℕ) (ps : List ℕ) (numbers : List ℤ) : Type 0 wh
   pub long : length numbers ≡ places
   pub each : (u : ℕ) → u ≤ n → placeNumber numbers u ≡ potentialFrom ps u
   pub past : (u : ℕ) → n < u → placeNumber numbers u ≡ pos 0
-
--- What stands for an entry past the end of an array.
-abbrev pub noEntry : Entry
-noEntry = record { class = Adjusted; flow = pos 0 }
 
 -- The flows of a sheet's entries in an array, by classes in an array: 0 where a stream is withheld.
 unfoldable pub flowsShown : List Class → List Entry → List ℤ

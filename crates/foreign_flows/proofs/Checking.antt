@@ -29,7 +29,8 @@ use Rattle.num_bytes.proofs.Lists.{values-long, values-at}
 use Rattle.sheet_def.specs.declared.Entry.{Entry}
 use Rattle.sheet_def.specs.Sheets.{known}
 use Rattle.foreign_def.specs.Passing.{numberLimit, placeNumber, difference}
-use Rattle.foreign_def.specs.Test.{noEntry, numbersFit, flowFits, flowsFit, flowsShown}
+use Rattle.foreign_def.specs.Test.{numbersFit, flowFits, flowsFit, flowsShown}
+use Rattle.sheet_def.specs.Calls.{noEntry}
 use Rattle.sheet_cost.proofs.Costing.{size-fits, minus-size}
 use Rattle.foreign_stream.proofs.Fitting.{coded-fits, coded-is}
 

@@ -30,13 +30,13 @@ count-four zero f g h i e = omega arith
 count-four (suc n) f g h i e = omega (arith, e n (omega arith), count-four n f g h i (λ k l. e k (omega arith)))
 
 -- The same where one number m makes up for one more.
-pub count-gap : (n m : ℕ) (f g h i : ℕ → Bool) → m < n → one (f m) + one (g m) < one (h m) + one (i m)
+pub count-strict : (n m : ℕ) (f g h i : ℕ → Bool) → m < n → one (f m) + one (g m) < one (h m) + one (i m)
     → ((k : ℕ) → k < n → (k ≡ m → ⊥) → one (f k) + one (g k) ≤ one (h k) + one (i k))
     → countTo n f + countTo n g < countTo n h + countTo n i
-count-gap zero m f g h i l s e = absurd (omega arith)
-count-gap (suc n) m f g h i l s e = elim (ℕ-discrete n m) [
+count-strict zero m f g h i l s e = absurd (omega arith)
+count-strict (suc n) m f g h i l s e = elim (ℕ-discrete n m) [
   | yes q ↦ omega (arith, here q, count-four n f g h i (λ k b. e k (omega arith) (λ z. omega arith)))
-  | no q ↦ omega (arith, e n (omega arith) q, count-gap n m f g h i (omega arith) s (λ k b. e k (omega arith)))
+  | no q ↦ omega (arith, e n (omega arith) q, count-strict n m f g h i (omega arith) s (λ k b. e k (omega arith)))
 ]
   where
     here : n ≡ m → one (f n) + one (g n) < one (h n) + one (i n)

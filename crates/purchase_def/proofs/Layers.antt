@@ -94,7 +94,7 @@ module _ (n : ℕ) (price : ℕ → ℕ) where
   pub ordered : Ordered n (before price) value (suc (most n price) * n)
   ordered = record {
     under = λ k l. omega (arith, mul-le-mul-right n (most-le n price k l));
-    apart = λ i j l b e. elim (decLe (suc (price i)) (price j)) [
+    distinct = λ i j l b e. elim (decLe (suc (price i)) (price j)) [
       | yes h ↦ absurd (omega (arith, dear i j l h))
       | no h ↦ elim (decLe (suc (price j)) (price i)) [
         | yes g ↦ absurd (omega (arith, dear j i b g))

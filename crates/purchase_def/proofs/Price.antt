@@ -84,7 +84,7 @@ module _ (p : Plant) (w : Within p) (m : ℕ) (many : length (p .streams) ≡ su
   others-serve bare = record {
     long = others-long ∙ sym many;
     unmetered = λ k l e. bare k l;
-    none = left→none others p w (λ i l e c. w .each i l .apart (no-chain i (alone i l e) c));
+    none = left→none others p w (λ i l e c. w .each i l .distinct (no-chain i (alone i l e) c));
   }
 
   -- They cost less by the last stream's price.

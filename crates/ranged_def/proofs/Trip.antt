@@ -23,7 +23,7 @@ use Rattle.plant_def.specs.Converts.{Converts}
 use Rattle.plant_def.proofs.Promise.{converted}
 use Rattle.ranged_def.specs.Moves.{widened, bared, narrower, narrowFault, moved, forward, home, toRanged, fromRanged, ToSays, FromSays}
 use Rattle.ranged_def.specs.Trip.{rangeless, Moving}
-use Rattle.ranged_def.proofs.Kept.{forward-good, home-good, widened-plain, bared-plain, moved-plain}
+use Rattle.ranged_def.proofs.Faultless.{forward-good, home-good, widened-plain, bared-plain, moved-plain}
 
 -- What is moved is read as it was written.
 module _ (file : List ℕ) (p : Plant) (e : readPlant file ≡ got p) where

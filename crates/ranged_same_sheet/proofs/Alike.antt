@@ -20,7 +20,7 @@ use Rattle.flow_def.specs.Classes.{has, including, spread, rounds, joinedTo, un
 use Rattle.flow_def.specs.Test.{verdictAt}
 use Rattle.flow_def.specs.Shown.{adjustedWeight, adjustedTo, adjusted}
 use Rattle.num_bytes.proofs.Lists.{values-same}
-use Rattle.sheet_def.specs.Apart.{capped}
+use Rattle.sheet_def.specs.Totals.{capped}
 use Rattle.sheet_def.specs.Balances.{entryOf, balanceOf}
 use Rattle.sheet_def.specs.Drawings.{sheetBytes, sheetOf}
 use Rattle.ranged_def.specs.Moves.{widened, moved}

@@ -6,7 +6,7 @@ use native.Mathlib.Nat.{le-antisymm}
 use borrow.Author.Tests.{le-leb, leb-true}
 use lib.Dec.{leb}
 use Rattle.num_bytes.proofs.Tests.{by-cases}
-use Rattle.sheet_def.specs.Apart.{topCost, capped}
+use Rattle.sheet_def.specs.Totals.{topCost, capped}
 
 -- A cost that 8 bytes hold is written as it is,
 pub capped-below : (c : ℕ) → c ≤ topCost → capped c ≡ c

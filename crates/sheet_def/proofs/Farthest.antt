@@ -6,7 +6,7 @@ use lib.IntN.{pos}
 use Rattle.plant_def.specs.Plants.{Plant}
 use Rattle.flow_def.proofs.Known.{exact-least}
 use Rattle.flow_def.specs.declared.Class.the-variants.{Adjusted}
-use Rattle.sheet_def.specs.Apart.{totalKind}
+use Rattle.sheet_def.specs.Totals.{totalKind}
 use Rattle.sheet_def.specs.Sheets.{SheetParts}
 use Rattle.sheet_def.specs.Table.{tie, Farthest}
 

@@ -18,7 +18,7 @@ use Rattle.sheet_def.specs.declared.Balance.{Balance}
 use Rattle.sheet_def.specs.Balances.{balanceOf}
 use Rattle.sheet_def.specs.Sheets.{recordOf, recordsOf, totalOf}
 use Rattle.sheet_def.specs.Drawings.{sheetBytes, sheetOf}
-use Rattle.sheet_def.specs.Apart.{streamSize, totalSize, leastSlice}
+use Rattle.sheet_def.specs.Totals.{streamSize, totalSize, leastSlice}
 
 -- No stream record is longer than a number's.
 pub record-most : (c : Class) (x : ℤ) → length (recordOf c x) ≤ streamSize

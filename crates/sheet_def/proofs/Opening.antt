@@ -29,7 +29,7 @@ module _ (p : Arrays.Plant) (s : Solved) (r : Right p s) where
 
 -- The solver's amounts may be held: each is at most mostFlow.
 pub held-amounts : (p : Arrays.Plant) (s : Solved) → Solution p s → Amounts (s .flows)
-held-amounts p s r = λ k h. omega (arith, r .close k h .0)
+held-amounts p s r = λ k h. omega (arith, r .sized k h .0)
 
 -- An amount that the solver may hold, opened, is small.
 pub opened-small : (x : ℕ) → x ≤ mostFlow → Small (unshifted x)

@@ -30,7 +30,7 @@ use Rattle.sheet_def.specs.Counters.{offices}
 use Rattle.sheet_def.specs.Kept.{someSheet, readSheet, verdictFits, fieldsFit, fits, allFit, kindFits, WithinSheet}
 use Rattle.flow_def.proofs.Ranges.{balanced-of}
 use Rattle.sheet_def.proofs.Capped.{capped-most}
-use Rattle.sheet_def.proofs.Entries.{noEntry}
+use Rattle.sheet_def.specs.Calls.{noEntry}
 use Rattle.sheet_def.proofs.Telling.{Sized, es-long, entry-at, cost-is, degrees-is, verdict-is}
 use Rattle.sheet_def.proofs.There.{there}
 

@@ -20,7 +20,7 @@ use Rattle.sheet_def.specs.declared.Entry.{Entry}
 use Rattle.sheet_def.specs.declared.Total.{Total}
 use Rattle.sheet_def.specs.declared.SheetRecord.{SheetRecord}
 use Rattle.sheet_def.specs.declared.SheetRecord.the-variants.{Listed, Ended, Refused}
-use Rattle.sheet_def.specs.Apart.{totalKind, plainKind, streamSize, bodySize, totalSize, plainSize}
+use Rattle.sheet_def.specs.Totals.{totalKind, plainKind, streamSize, bodySize, totalSize, plainSize}
 use Rattle.sheet_def.specs.Sheets.{adjustedKind, asReadKind, givenKind, withheldKind, recordOf, bodyOf, totalBytes}
 use Rattle.sheet_def.specs.Kept.{shownIn, blank, streamRecord, totalIn, plainIn, fieldsFit, totalFault, afterFault, endFault, totalRecord, kindRecord, recordAt, fits, kindFits}
 

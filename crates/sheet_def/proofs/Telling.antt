@@ -30,7 +30,7 @@ use Rattle.flow_def.proofs.Degrees.{degrees-most}
 use Rattle.flow_def.proofs.Counted.{some-each, degrees-counted}
 use Rattle.flow_def.proofs.Chained.{as-read-of, adjusted-of, given-times}
 use Rattle.sheet_def.specs.declared.Entry.{Entry}
-use Rattle.sheet_def.specs.Apart.{capped}
+use Rattle.sheet_def.specs.Totals.{capped}
 use Rattle.sheet_def.specs.Sheets.{adjustedKind, kindOf, SheetParts}
 use Rattle.sheet_def.specs.Sentences.{MeteredAt, UnmeteredAt, classOn, numberOn, MetersAs, weightsTo, adjustedWeights, Tells}
 use Rattle.sheet_def.specs.Balances.{entryOf, balanceOf}

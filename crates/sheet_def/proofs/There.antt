@@ -23,7 +23,7 @@ use Rattle.sheet_def.specs.declared.Entry.{Entry}
 use Rattle.sheet_def.specs.declared.Total.{Total}
 use Rattle.sheet_def.specs.declared.SheetRecord.{SheetRecord}
 use Rattle.sheet_def.specs.declared.SheetRecord.the-variants.{Listed, Ended, Refused}
-use Rattle.sheet_def.specs.Apart.{totalKind, plainKind, streamSize, totalSize, plainSize}
+use Rattle.sheet_def.specs.Totals.{totalKind, plainKind, streamSize, totalSize, plainSize}
 use Rattle.sheet_def.specs.Sheets.{kindOf, recordOf, recordsOf, bodyOf, totalBytes, SheetParts, partsBytes}
 use Rattle.sheet_def.specs.Kept.{Reopened, noSheet, someSheet, streamRecord, bodyIn, totalIn, plainIn, totalFault, totalRecord, kindRecord}
 use Rattle.sheet_def.specs.Kept.{recordAt, onRecord, sheetWith, recordsFrom, readSheet, fits, allFit, kindFits, Recorded, WithinSheet, Unfit}

@@ -18,7 +18,7 @@ use Rattle.sheet_def.specs.declared.Entry.{Entry}
 use Rattle.sheet_def.specs.declared.Total.{Total}
 use Rattle.sheet_def.specs.declared.SheetRecord.{SheetRecord}
 use Rattle.sheet_def.specs.declared.SheetRecord.the-variants.{Listed, Ended, Refused}
-use Rattle.sheet_def.specs.Apart.{totalKind, plainKind, streamSize, totalSize, plainSize}
+use Rattle.sheet_def.specs.Totals.{totalKind, plainKind, streamSize, totalSize, plainSize}
 use Rattle.sheet_def.specs.Sheets.{adjustedKind, asReadKind, givenKind, withheldKind, recordOf, recordsOf, totalBytes, partsBytes}
 use Rattle.sheet_def.specs.Kept.{noSheet, shownIn, blank, streamRecord, totalIn, plainIn, fieldsFit, totalRecord, kindRecord, recordAt}
 use Rattle.sheet_def.specs.Kept.{onRecord, sheetWith, recordsFrom, fits, allFit, kindFits, Recorded, Unfit, Reopening}

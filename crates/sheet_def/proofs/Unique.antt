@@ -36,7 +36,7 @@ use Rattle.flow_def.proofs.Order.{one}
 use Rattle.flow_def.proofs.ByLabels.{class-past}
 use Rattle.flow_def.proofs.Given.{class-means, number-is, given-agree}
 use Rattle.sheet_def.specs.declared.Sheet.{Sheet}
-use Rattle.sheet_def.specs.Apart.{capped}
+use Rattle.sheet_def.specs.Totals.{capped}
 use Rattle.sheet_def.specs.Counters.{nextOf, raised}
 use Rattle.sheet_def.specs.Balances.{entryOf, balanceOf}
 use Rattle.sheet_def.specs.Drawings.{sheetBytes, sheetOf}

@@ -14,6 +14,10 @@ use Rattle.solve_def.specs.Sizes.{flowShift}
 use Rattle.sheet_def.specs.declared.Entry.{Entry}
 use Rattle.sheet_def.specs.Balances.{entryOf}
 
+-- What stands past an array of entries.
+abbrev pub noEntry : Entry
+noEntry = record { class = Adjusted; flow = pos 0 }
+
 -- The entries of streams, by their classes and their flows.
 unfoldable pub entriesOf : List Class → List ℤ → List Entry
 entriesOf cs xs = values maxStreams (λ k. entryOf (getD cs k Adjusted) (amountAt xs k))

@@ -7,7 +7,7 @@ use lib.ListN.{take}
 use Rattle.plant_def.specs.Plants.{Plant}
 use Rattle.plant_def.specs.Files.{got, readPlant}
 use Rattle.flow_def.specs.Flows.{streamAt, amountAt, square}
-use Rattle.flow_def.specs.Least.{LeastInFractions, apart}
+use Rattle.flow_def.specs.Least.{LeastInFractions, distance}
 use Rattle.flow_def.specs.declared.Class.the-variants.{AsRead}
 use Rattle.sheet_def.specs.declared.Sheet.{Sheet}
 use Rattle.sheet_def.specs.Sheets.{SheetParts}
@@ -19,7 +19,7 @@ use Rattle.sheet_def.specs.Says.{SheetSays}
 -- The metered numbers of a sheet beside a flow over d, its amounts ys.
 pub record Beside (p : Plant) (s : SheetParts) (d : ℕ) (ys : List ℤ) : Type 0 where
   -- The sum of weight times (number − amount / d) squared is at most a quarter of the summed weights of the A streams.
-  pub all : 4 * apart d (p .streams) (numberOn s) ys ≤ d * d * adjustedWeights p s
+  pub all : 4 * distance d (p .streams) (numberOn s) ys ≤ d * d * adjustedWeights p s
   -- So is each metered stream's part by itself.
   pub each : (k : ℕ) → MeteredAt p k
       → 4 * (streamAt (p .streams) k .weight * square (pos d *ℤ numberOn s k -ℤ amountAt ys k)) ≤ d * d * adjustedWeights p s

@@ -5,7 +5,7 @@ use Prim.Native.Nat.{ℕ}
 use lib.ListN.{length, take}
 use Rattle.plant_def.specs.Plants.{Plant}
 use Rattle.sheet_def.specs.declared.Balance.{Balance}
-use Rattle.sheet_def.specs.Apart.{totalKind}
+use Rattle.sheet_def.specs.Totals.{totalKind}
 use Rattle.sheet_def.specs.Balances.{balanceOf}
 use Rattle.sheet_def.specs.Sheets.{SheetParts, partsBytes}
 

@@ -19,7 +19,7 @@ use Rattle.sheet_def.specs.declared.Total.{Total}
 use Rattle.sheet_def.specs.declared.SheetRead.{SheetRead}
 use Rattle.sheet_def.specs.declared.SheetRecord.{SheetRecord}
 use Rattle.sheet_def.specs.declared.SheetRecord.the-variants.{Listed, Ended, Refused}
-use Rattle.sheet_def.specs.Apart.{totalKind, plainKind, streamSize, totalSize, plainSize}
+use Rattle.sheet_def.specs.Totals.{totalKind, plainKind, streamSize, totalSize, plainSize}
 use Rattle.sheet_def.specs.Sheets.{known, adjustedKind, asReadKind, givenKind, withheldKind, SheetParts, partsBytes}
 use Rattle.sheet_def.specs.Counters.{offices}
 

@@ -19,7 +19,7 @@ use Rattle.flow_def.specs.Overfull.{unmarked, Overfull}
 use Rattle.flow_def.specs.declared.Class.{Class}
 use Rattle.flow_def.specs.declared.Class.the-variants.{Adjusted, AsRead, Given, Withheld}
 use Rattle.sheet_def.specs.declared.Sheet.{Sheet}
-use Rattle.sheet_def.specs.Apart.{totalKind, leastSlice, capped}
+use Rattle.sheet_def.specs.Totals.{totalKind, leastSlice, capped}
 use Rattle.sheet_def.specs.Sheets.{kindOf, SheetParts}
 use Rattle.sheet_def.specs.Kept.{blank, someSheet, readSheet}
 use Rattle.sheet_def.specs.Counters.{offices, topSheet, counterOf, nextOf, raised}

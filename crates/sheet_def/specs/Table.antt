@@ -11,7 +11,7 @@ use Rattle.plant_def.specs.Plants.{Plant}
 use Rattle.plant_def.specs.Files.{got, readPlant}
 use Rattle.flow_def.specs.Flows.{Cheapest}
 use Rattle.flow_def.specs.Overfull.{Overfull}
-use Rattle.flow_def.specs.Least.{LeastInFractions, apart}
+use Rattle.flow_def.specs.Least.{LeastInFractions, distance}
 use Rattle.sheet_def.specs.declared.Sheet.{Sheet}
 use Rattle.sheet_def.specs.Sentences.{numberOn, adjustedWeights, callFault}
 use Rattle.sheet_def.specs.Sheets.{SheetParts}
@@ -160,7 +160,7 @@ pub record Farthest (e : Example) (d : ℕ) (ys : List ℤ) : Type 0 where
   pub least : LeastInFractions plant d ys
   pub sheet : SheetParts
   pub read : readSheet (e .sheet) ≡ someSheet sheet
-  pub met : 4 * apart d (plant .streams) (numberOn sheet) ys ≡ d * d * adjustedWeights plant sheet
+  pub met : 4 * distance d (plant .streams) (numberOn sheet) ys ≡ d * d * adjustedWeights plant sheet
 
 -- In within 10 to 20, out within 0 to 5: the unit must take in more than it can let out.
 abbrev pub fullFile : List ℕ

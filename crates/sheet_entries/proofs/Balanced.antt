@@ -33,7 +33,7 @@ use Rattle.solve_def.specs.declared.Solved.{Solved}
 use Rattle.solve_def.specs.Promise.{Solution}
 use Rattle.sheet_def.specs.declared.Entry.{Entry}
 use Rattle.sheet_def.specs.Balances.{entryOf, balanceOf, BalanceSays}
-use Rattle.sheet_def.specs.Apart.{topCost, capped}
+use Rattle.sheet_def.specs.Totals.{topCost, capped}
 use Rattle.sheet_def.specs.Calls.{entriesOf}
 use Rattle.sheet_def.proofs.Entries.{entry-same}
 use Rattle.sheet_cost.proofs.Rows.{take-opened}

@@ -29,8 +29,7 @@ use Rattle.num_bytes.proofs.Lists.{map-at, values-long, values-at, Written}
 use Rattle.solve_def.specs.Held.{unshifted}
 use Rattle.sheet_def.specs.declared.Entry.{Entry}
 use Rattle.sheet_def.specs.Balances.{entryOf}
-use Rattle.sheet_def.specs.Calls.{entriesOf}
-use Rattle.sheet_def.proofs.Entries.{noEntry}
+use Rattle.sheet_def.specs.Calls.{entriesOf, noEntry}
 
 -- An entry under its class and with its flow.
 pub entry-as : (c : Class) {d : Class} {x y : ℤ} → d ≡ c → x ≡ y → entryOf c x ≡ entryOf d y

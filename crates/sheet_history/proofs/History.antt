@@ -15,7 +15,7 @@ use Rattle.plant_def.specs.Files.{Got, bad, got, readPlant, mostRecords}
 use Rattle.plant_def.proofs.Accepted.{refused}
 use Rattle.flow_def.specs.Overfull.{unmarked}
 use Rattle.sheet_def.specs.declared.Sheet.{Sheet}
-use Rattle.sheet_def.specs.Apart.{plainKind, leastSlice}
+use Rattle.sheet_def.specs.Totals.{plainKind, leastSlice}
 use Rattle.sheet_def.specs.Sheets.{SheetParts, partsBytes}
 use Rattle.sheet_def.specs.Kept.{someSheet, WithinSheet}
 use Rattle.sheet_def.specs.Counters.{offices, topSheet, counterOf, nextOf, raised}

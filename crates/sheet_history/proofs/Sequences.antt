@@ -84,7 +84,7 @@ module _ (lasts : List ℕ) (c : Call) (cs : List Call) (w : Eight lasts) (s : S
   drawn-numbers d =
       let done : eqb (c .answer .number) 0 ≡ true = eq-eqb (c .answer .number) 0 (d .done) in
       let back : ReadsBack (c .file) (c .office) lasts (c .after) (c .answer) =
-      drawn-kept (c .file) (c .office) lasts (c .before) (c .after) (c .answer) (w .held (c .office)) s (d .done) in
+      drawn-kept (c .file) (c .office) lasts (c .before) (c .after) (c .answer) (w .fit (c .office)) s (d .done) in
       let parts : SheetParts = plantParts (c .office) (back .plant) (back .flow) (nextOf (c .office) lasts) in
       let listed : numbersOf k (drawnSheets (c ∷ cs)) ≡ numbersOf k (take (c .answer .written) (c .after) ∷ drawnSheets cs) = rw done refl in
       by-cases (eqb (c .office) k)

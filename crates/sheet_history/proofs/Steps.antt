@@ -67,10 +67,10 @@ module _ (office : ℕ) (lasts : List ℕ) (r : Sheet) (d : Drew office lasts r)
   pub drew-eight : Eight lasts → Eight (r .lasts)
   drew-eight w = record {
     long = ap length (d .after) ∙ length-set lasts office (nextOf office lasts) ∙ w .long;
-    held = λ k. by-cases (eqb k office)
+    fit = λ k. by-cases (eqb k office)
         (λ t. let e = eqb-true k office t in let n = d .left in
-        subst (λ (j : ℕ). counterOf j (r .lasts) ≤ topSheet) (sym e) (omega (arith, own-raised (w .long), w .held office, n)))
-        (λ t. omega (arith, other-same k (eqb-false k office t), w .held k));
+        subst (λ (j : ℕ). counterOf j (r .lasts) ≤ topSheet) (sym e) (omega (arith, own-raised (w .long), w .fit office, n)))
+        (λ t. omega (arith, other-same k (eqb-false k office t), w .fit k));
   }
 
 -- Where no sheet is drawn, the counters are eight, as before.

@@ -20,7 +20,7 @@ use Rattle.sheet_def.specs.declared.Entry.{Entry}
 use Rattle.sheet_def.specs.declared.Sheet.{Sheet}
 use Rattle.sheet_def.specs.declared.SheetRecord.{SheetRecord}
 use Rattle.sheet_def.specs.declared.SheetRecord.the-variants.{Refused}
-use Rattle.sheet_def.specs.Apart.{totalKind, plainKind, streamSize, plainSize}
+use Rattle.sheet_def.specs.Totals.{totalKind, plainKind, streamSize, plainSize}
 use Rattle.sheet_def.specs.Balances.{balanceOf}
 use Rattle.sheet_def.specs.Counters.{topSheet}
 use Rattle.sheet_def.specs.Sheets.{SheetParts, partsBytes}

@@ -15,7 +15,7 @@ use Rattle.sheet_def.specs.declared.Sheet.{Sheet}
 use Rattle.sheet_def.specs.Counters.{offices, topSheet, counterOf, nextOf, officesFrom}
 use Rattle.sheet_def.specs.Says.{SheetSays}
 use Rattle.sheet_def.specs.Kept.{Reopened, noSheet, someSheet, readSheet, WithinSheet}
-use Rattle.sheet_def.specs.Apart.{plainKind}
+use Rattle.sheet_def.specs.Totals.{plainKind}
 use Rattle.sheet_def.specs.Sheets.{SheetParts, partsBytes}
 use Rattle.sheet_def.specs.Sentences.{Tells, Under}
 use Rattle.sheet_history.specs.Before.{PlainSays, readBefore}
@@ -75,7 +75,7 @@ upFrom n (suc j) = n ∷ upFrom (suc n) j
 -- The counters that a call may be handed: eight, of 32 bits.
 pub record Eight (lasts : List ℕ) : Type 0 where
   pub long : length lasts ≡ offices
-  pub held : (k : ℕ) → counterOf k lasts ≤ topSheet
+  pub fit : (k : ℕ) → counterOf k lasts ≤ topSheet
 
 -- A call before the change that drew a sheet: it reads back with its kind, as that of office 0, and tells of the plant what a sheet has to.
 pub record ReadsPlain (file : List ℕ) (last : ℕ) (o′ : List ℕ) (r : Sheet) : Type 0 where

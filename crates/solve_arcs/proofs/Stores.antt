@@ -65,7 +65,7 @@ module _ (rs : List ℕ) (d i : ℕ) (ms : List ℕ) (low : i < maxStreams) wher
 
   -- No stream has its margins yet.
   pub margined-none : (xs : List ℕ) → length ms ≡ marginCells → Margined 0 rs xs d 0 ms
-  margined-none xs h = record { long = h; are = λ k f l. absurd (omega arith); closed = λ k f l. absurd (omega arith) }
+  margined-none xs h = record { long = h; are = λ k f l. absurd (omega arith); alone = λ k f l. absurd (omega arith) }
 
   -- One stream more has them.
   pub margined-more : (xs : List ℕ) → Margined i rs xs d 0 ms
@@ -76,7 +76,7 @@ module _ (rs : List ℕ) (d i : ℕ) (ms : List ℕ) (low : i < maxStreams) wher
       | yes q ↦ rw q (put-own i _ _ ms low (m .long) f ∙ own (getD xs i 0) f)
       | no q ↦ put-other i _ _ ms low (m .long) k f q ∙ m .are k f (omega arith) o
     ];
-    closed = λ k f l o. clash _ o (spare-none rs k);
+    alone = λ k f l o. clash _ o (spare-none rs k);
   }
 
   -- One amount moves, and its margins with it.
@@ -88,9 +88,9 @@ module _ (rs : List ℕ) (d i : ℕ) (ms : List ℕ) (low : i < maxStreams) wher
       | yes q ↦ rw (q, getD-set-same xs i x 0 l) (put-own i _ _ ms low (m .long) f ∙ own x f)
       | no q ↦ rw (getD-set-other xs i k x 0 q) (put-other i _ _ ms low (m .long) k f q ∙ m .are k f b o)
     ];
-    closed = λ k f b o. elim (ℕ-discrete k i) [
+    alone = λ k f b o. elim (ℕ-discrete k i) [
       | yes q ↦ clash _ o (rw q free)
-      | no q ↦ put-other i _ _ ms low (m .long) k f q ∙ m .closed k f b o
+      | no q ↦ put-other i _ _ ms low (m .long) k f q ∙ m .alone k f b o
     ];
   }
 
@@ -102,7 +102,7 @@ module _ (rs : List ℕ) (d i : ℕ) (ms : List ℕ) (low : i < maxStreams) wher
       | yes q ↦ clash _ (rw q on) o
       | no q ↦ rw (getD-set-other xs i k x 0 q) (m .are k f b o)
     ];
-    closed = m .closed;
+    alone = m .alone;
   }
 
   -- A metered stream is left alone.
@@ -113,9 +113,9 @@ module _ (rs : List ℕ) (d i : ℕ) (ms : List ℕ) (low : i < maxStreams) wher
       | yes q ↦ clash _ (rw q (spare-own rs i l)) o
       | no q ↦ put-other i _ _ ms low (m .long) k f q ∙ m .are k f b (sym (spare-other rs i k q) ∙ o)
     ];
-    closed = λ k f b o. elim (ℕ-discrete k i) [
+    alone = λ k f b o. elim (ℕ-discrete k i) [
       | yes q ↦ rw q (put-own i _ _ ms low (m .long) f ∙ pick-same f shut)
-      | no q ↦ put-other i _ _ ms low (m .long) k f q ∙ m .closed k f b (sym (spare-other rs i k q) ∙ o)
+      | no q ↦ put-other i _ _ ms low (m .long) k f q ∙ m .alone k f b (sym (spare-other rs i k q) ∙ o)
     ];
   }
 
@@ -124,7 +124,7 @@ module _ (rs : List ℕ) (d i : ℕ) (ms : List ℕ) (low : i < maxStreams) wher
   margined-free n xs l m = record {
     long = m .long;
     are = λ k f b o. m .are k f b (sym (same k) ∙ o);
-    closed = λ k f b o. m .closed k f b (sym (same k) ∙ o);
+    alone = λ k f b o. m .alone k f b (sym (same k) ∙ o);
   }
     where
       same : (k : ℕ) → spared rs (i + 1) k ≡ spared rs i k

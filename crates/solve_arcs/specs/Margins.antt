@@ -7,7 +7,7 @@ use lib.ListN.{getD, set}
 use Rattle.num_bytes.specs.Choice.{pick}
 use Rattle.num_bytes.specs.Inner.{values}
 use Rattle.solve_def.specs.Sizes.{mostPull, farthest}
-use Rattle.solve_def.specs.Slack.{openBy}
+use Rattle.solve_def.specs.ReducedCosts.{roomBy}
 use Rattle.solve_arcs.specs.Cells.{arcOf, countOf, startsOf, endsOf}
 
 -- A margin z is held as z + lift, which no margin that arises takes below 0; an arc that is shut has the margin shut, 2^62:
@@ -25,7 +25,7 @@ costBy w q f x d = pick f ((2 * (w * x) + (w * d + lift)) - q) ((q + (w * d + li
 
 -- The margin: the marginal cost where there is room for the step, else shut.
 abbrev pub marginBy : ℕ → ℕ → ℕ → ℕ → Bool → ℕ → ℕ → ℕ
-marginBy w q low high f x d = pick (openBy low high f x d) (costBy w q f x d) shut
+marginBy w q low high f x d = pick (roomBy low high f x d) (costBy w q f x d) shut
 
 -- Of stream k by its row.
 abbrev pub marginAt : List ℕ → Bool → ℕ → ℕ → ℕ → ℕ
@@ -44,7 +44,7 @@ abbrev pub lessOf : ℕ → ℕ → ℕ
 lessOf a b = pick (ltb b a) b a
 
 -- The reduced cost of an arc of margin m, from a place of potential p to one of potential r; at least 0 and at most farthest. It is the
--- slack of the arc's stream (slackPast in Slack).
+-- reduced cost of the arc's stream (reducedCostPast in Reduced cost).
 abbrev pub reducedCost : ℕ → ℕ → ℕ → ℕ
 reducedCost m p r = lessOf ((m + p) - (r + lift)) farthest
 

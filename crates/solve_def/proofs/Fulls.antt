@@ -23,7 +23,7 @@ use Rattle.solve_def.proofs.Amounts.{net, unshifted-val}
 use Rattle.solve_def.proofs.Least.{startIn, endIn}
 use Rattle.solve_def.proofs.Hunting.{Stuck, stuck-edge}
 use Rattle.solve_def.proofs.Streams.{Solvable}
-use Rattle.solve_def.proofs.Closed.{edge, stuck-over}
+use Rattle.solve_def.proofs.Edges.{edge, stuck-over}
 
 -- What is pressed into a set, by value.
 pressed-val : (s : Stream) (a b : Bool) → highOf s ≤ mostFlow

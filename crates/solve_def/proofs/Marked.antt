@@ -27,7 +27,7 @@ use Rattle.solve_def.specs.Full.{mayCross, boundedTo, pressedTo, overful
 use Rattle.solve_def.specs.Model.{masked}
 use Rattle.solve_def.proofs.Bounds.{low-is, high-is, low-free}
 use Rattle.solve_def.proofs.Streams.{Solvable}
-use Rattle.solve_def.proofs.Closed.{edge}
+use Rattle.solve_def.proofs.Edges.{edge}
 use Rattle.solve_def.proofs.Fulls.{pressed-sum}
 use Rattle.solve_def.proofs.Certify.{held-right}
 

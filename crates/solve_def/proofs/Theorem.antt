@@ -132,7 +132,7 @@ module _ (p : Arrays.Plant) (a : Accepted p) (st : State) (s : AtHint (plantOf p
                 (subst (λ (m : ℕ). Steps 1 (potentialAt (ps q w e f)) (q .streams) (amountAt (opened m (ys q w e f)))) (all-listed p a) (ended-sure q w e f n .steps) k l);
             agree = λ k l m. ap potential (ended-even q w e f n .agreed k l m);
             bound = f .underway n .sound .capped;
-            close = λ k l. (omega (arith, ended-even q w e f n .close k l .0, w .few-streams), omega (arith, ended-even q w e f n .close k l .1, w .few-streams));
+            sized = λ k l. (omega (arith, ended-even q w e f n .sized k l .0, w .few-streams), omega (arith, ended-even q w e f n .sized k l .1, w .few-streams));
             long = ended-even q w e f n .long;
             per-place = f .underway n .sound .per-place;
             bare = ap (masked (p .units)) (f .bare n) ∙ masked-none (p .units);

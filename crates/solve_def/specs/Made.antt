@@ -9,7 +9,7 @@ use Rattle.plant_def.specs.Limits.{places}
 use Rattle.solve_def.specs.Sizes.{netShift, mostTried, halvings}
 use Rattle.solve_def.specs.declared.Hint.{Hint}
 use Rattle.solve_def.specs.declared.State.{State}
-use Rattle.solve_def.specs.Model.{improvedAt, phaseTo, phase, settled, asHint, noHint, overSum}
+use Rattle.solve_def.specs.Model.{improvedAt, phaseTo, phase, settled, asHint, noHint, excessSum}
 
 -- From place s, of k attempts at step d at most: those that succeed; one that does not ends them.
 unfoldable pub madeFrom : ℕ → List Stream → ℕ → ℕ → State → ℕ
@@ -51,8 +51,8 @@ stuckBy (suc n) ss h =
 
 -- The improvements that are made in a call, from amounts settled at a hint.
 unfoldable pub made : List Stream → State → ℕ
-made ss st = pick (leb (overSum (st .nets)) mostTried) (madeTo places ss 1 st) (madeBy halvings ss noHint)
+made ss st = pick (leb (excessSum (st .nets)) mostTried) (madeTo places ss 1 st) (madeBy halvings ss noHint)
 
 -- The searches that are stuck in a call, from amounts settled at a hint.
 unfoldable pub stuck : List Stream → State → ℕ
-stuck ss st = pick (leb (overSum (st .nets)) mostTried) (stuckTo places ss 1 st) (stuckBy halvings ss noHint)
+stuck ss st = pick (leb (excessSum (st .nets)) mostTried) (stuckTo places ss 1 st) (stuckBy halvings ss noHint)

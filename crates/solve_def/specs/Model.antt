@@ -14,9 +14,9 @@ use Rattle.flow_def.specs.Overfull.{unmarked}
 use Rattle.solve_def.specs.Sizes.{flowShift, potentialShift, netShift, searchRounds, mostTried, halvings}
 use Rattle.flow_def.specs.Certificate.{weightOf}
 use Rattle.solve_def.specs.Held.{readingOf, lowOf, highOf}
-use Rattle.solve_def.specs.Slack.{slackBy}
+use Rattle.solve_def.specs.ReducedCosts.{reducedCostBy}
 use Rattle.solve_def.specs.Search.{rootAt, target, Grown, sought, tightPath}
-use Rattle.solve_def.specs.Closing.{refloored}
+use Rattle.solve_def.specs.Compression.{refloored}
 use Rattle.solve_def.specs.Full.{overfull}
 use Rattle.solve_def.specs.Augment.{augmented}
 use Rattle.solve_def.specs.declared.Hint.{Hint}
@@ -85,7 +85,7 @@ pub record Improved : Type 0 where
 abbrev pub improvedBy : Bool → State → List Bool → Improved
 improvedBy b st ls = record { done = b; state = st; visited = ls }
 
--- The state after d is augmented along the way that a search found; where potentials have fallen too far they are closed up.
+-- The state after d is augmented along the way that a search found; where potentials have fallen too far they are compressed.
 abbrev pub augmentedOn : List Stream → State → ℕ → ℕ → Grown → State
 augmentedOn ss st d s g =
     record {
@@ -101,14 +101,14 @@ improvedAt ss st d s =
     improvedBy (g .found) (pick (g .found) (augmentedOn ss st d s g) st) (g .tree .visited)
 
 -- The summed positive net.
-unfoldable pub overSum : List ℕ → ℕ
-overSum [] = 0
-overSum (e ∷ es) = (e - netShift) + overSum es
+unfoldable pub excessSum : List ℕ → ℕ
+excessSum [] = 0
+excessSum (e ∷ es) = (e - netShift) + excessSum es
 
 -- How many steps of d the positive nets have, place by place.
-unfoldable pub stepsOver : ℕ → List ℕ → ℕ
-stepsOver d [] = 0
-stepsOver d (e ∷ es) = (e - netShift) / d + stepsOver d es
+unfoldable pub excessSteps : ℕ → List ℕ → ℕ
+excessSteps d [] = 0
+excessSteps d (e ∷ es) = (e - netShift) / d + excessSteps d es
 
 -- No hint: amounts and potentials 0.
 abbrev pub noHint : Hint
@@ -154,7 +154,7 @@ phases (suc n) ss h =
 
 -- From amounts settled at a hint: one phase at step 1; where too much is over, all phases from no hint.
 unfoldable pub finished : List Stream → State → Ended
-finished ss st = pick (leb (overSum (st .nets)) mostTried) (phase ss 1 st) (phases halvings ss noHint)
+finished ss st = pick (leb (excessSum (st .nets)) mostTried) (phase ss 1 st) (phases halvings ss noHint)
 
 -- Ties. Where a way round stream i was found, from its start to its end v, 1 is moved along it and stream i carries 1 less.
 abbrev pub tiedBy : List Stream → List ℕ → ℕ → ℕ → Grown → List ℕ
@@ -162,12 +162,12 @@ tiedBy ss xs v i g =
     let ys = augmented ss (g .tree .via) (g .tree .ends) 1 (g .tree .len) v xs in
     pick (g .found) (set ys i (getD ys i 0 - 1)) xs
 
--- The tie pass at stream i: the flow stays as it is where the stream is unmetered, cannot fall at no cost, or has no way without slack round it.
+-- The tie pass at stream i: the flow stays as it is where the stream is unmetered, cannot fall at no cost, or has no way without reduced cost round it.
 unfoldable pub tiedAt : List Stream → List ℕ → ℕ → List ℕ → List ℕ
 tiedAt ss ps i xs =
     let s = streamAt ss i in
     pick (s .metered)
-    (pick (ltb 0 (slackBy s false (getD xs i 0) (getD ps (s .from) 0) (getD ps (s .to) 0) 1)) xs
+    (pick (ltb 0 (reducedCostBy s false (getD xs i 0) (getD ps (s .from) 0) (getD ps (s .to) 0) 1)) xs
     (tiedBy ss xs (s .to) i (tightPath ss (length ss) xs ps (s .to) (suc i) searchRounds (rootAt (s .from)))))
     xs
 

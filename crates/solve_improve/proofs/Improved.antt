@@ -10,7 +10,7 @@ use Rattle.solve_def.specs.declared.State.{State}
 use Rattle.solve_def.specs.SearchNeeds.{Trail}
 use Rattle.solve_def.proofs.Streams.{Solvable, solvable-of}
 use Rattle.solve_def.proofs.Tall.{sound-moderate}
-use Rattle.solve_def.proofs.Steady.{sound-close}
+use Rattle.solve_def.proofs.Steady.{sound-within}
 use Rattle.solve_arcs.specs.Cells.{countOf}
 use Rattle.solve_arcs.specs.ArcNeeds.{Row, Laying, Searching, Margined}
 use Rattle.solve_arcs.proofs.Rowing.{row-of}
@@ -31,7 +31,7 @@ module _ (ls rs : List ℕ) (d : ℕ) (st : State) (w : Phasable ls rs d st) whe
   phase-amounts k l =
       let v = solvable-of (w .streams) (w .n) (w .network) in
       let room : w .underway .size ≤ settledRoom = omega (arith, w .underway .fits) in
-      omega (arith, sound-close _ v d (w .underway .size) (w .step) st (w .underway .sound) room k (omega (arith, phase-few)) .0)
+      omega (arith, sound-within _ v d (w .underway .size) (w .step) st (w .underway .sound) room k (omega (arith, phase-few)) .0)
 
   -- Margins of as many streams as the arcs count are margins of the streams that the arcs are of.
   pub phase-margined : (xs ms : List ℕ) → Margined (countOf ls) rs xs d 0 ms → Margined (w .n) rs xs d 0 ms
@@ -48,10 +48,10 @@ improve-searching ls rs ms d st w = record {
     searchable = record {
       network = w .network;
       step = w .step .1;
-      amounts = λ k l. omega (arith, sound-close _ v d (w .underway .size) (w .step) st (w .underway .sound) (omega (arith, w .underway .fits)) k (omega (arith, w .network .within .few-streams)) .0);
+      amounts = λ k l. omega (arith, sound-within _ v d (w .underway .size) (w .step) st (w .underway .sound) (omega (arith, w .underway .fits)) k (omega (arith, w .network .within .few-streams)) .0);
       potentials = w .underway .sound .capped;
     };
-    held = w .underway .sound .held;
+    met = w .underway .sound .met;
     moderate = sound-moderate _ v d (w .underway .size) st (w .step .1) (w .underway .sound);
     floored = w .underway .sound .floor;
   };

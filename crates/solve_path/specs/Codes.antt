@@ -11,7 +11,7 @@ use Rattle.num_bytes.specs.Sums.{bit}
 use Rattle.solve_def.specs.Sizes.{far, farthest}
 use Rattle.solve_def.specs.declared.Spot.{Spot}
 use Rattle.solve_def.specs.Near.{relaxedTo}
-use Rattle.solve_def.specs.Fringe.{Open}
+use Rattle.solve_def.specs.Fringe.{Fringe}
 use Rattle.solve_arcs.specs.Cells.{countOf, startsOf, endsOf}
 use Rattle.solve_arcs.specs.Margins.{reducedCosts}
 use Rattle.solve_arcs.specs.ArcNeeds.{Ways}
@@ -24,7 +24,7 @@ shown vs near = values places (λ v. pick (getD vs v false) far (getD near v 0))
 pub record Coded (vs : List Bool) (near : List ℕ) (m : ℕ) : Type 0 where
   pub zero : (v : ℕ) → v < places → getD vs v false ≡ true → getD near v 0 ≡ 0
   pub fresh : (v : ℕ) → bit v m ≡ true → getD vs v false ≡ false
-  pub fringe : Open far (shown vs near) m
+  pub fringe : Fringe far (shown vs near) m
 
 -- The codes after the streams at place e were looked at, at distance k.
 abbrev pub lookedAt : List ℕ → List ℕ → List ℕ → List Bool → ℕ → ℕ → List ℕ → List ℕ

@@ -30,7 +30,7 @@ PacedAlong ls ms ps at before after r = (length after ≡ places)
     × ((vs : List Bool) → length vs ≡ places → Coded vs before (at .fringe) → Paced ls ms ps (at .distance) (at .place) before after r vs)
     × (r .place ≤ places)
 
--- What a walk over arcs without slack hands over of it.
+-- What a walk over arcs without reduced cost hands over of it.
 abbrev pub Tightly : Walked → Searched → Type 0
 Tightly w r = (r .found ≡ w .found) × (r .tree ≡ w .tree)
 

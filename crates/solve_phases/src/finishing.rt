@@ -8,8 +8,8 @@ use solve_arcs::ROWS;
 use solve_def::Tried;
 use solve_def::sizes::MOST_STEP;
 use solve_def::sizes::MOST_TRIED;
+use solve_settle::excess_sum;
 use solve_settle::forget;
-use solve_settle::over_sum;
 use solve_settle::resettle;
 ghost use mathlib.Core.Path.{_≡_};
 ghost use lib.ListN.{length};
@@ -72,7 +72,7 @@ pub fn finish(
         × (length (now margins) ≡ marginCells) ⌝ }
     ensures { λ r. ⌜ FinishCall arcs rows margins flows potentials nets r ⌝ }
 {
-    if over_sum(nets) <= MOST_TRIED {
+    if excess_sum(nets) <= MOST_TRIED {
         return phase(arcs, rows, margins, flows, potentials, nets, 1);
     }
     phases(arcs, rows, margins, flows, potentials, nets)

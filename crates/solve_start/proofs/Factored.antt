@@ -23,7 +23,7 @@ use Rattle.solve_def.specs.Model.{settledTo, netsTo, stateOf}
 use Rattle.solve_def.specs.SolverNeeds.{Hinted, Ready, AtHint}
 use Rattle.solve_arcs.specs.ArcNeeds.{Laid, Laying}
 use Rattle.solve_arcs.proofs.Rowing.{below, from-is, to-is}
-use Rattle.solve_forest.specs.Routes.{Routes, Kept}
+use Rattle.solve_forest.specs.Routes.{Routes, Unchanged}
 use Rattle.flow_def.proofs.Nets.{inside-of}
 use Rattle.flow_def.proofs.Labels.{label-long, label-low, label-level}
 use Rattle.solve_def.proofs.Nearest.{settled-long, settled-at, settled-again, settled-free}
@@ -64,7 +64,7 @@ module _ (p : Arrays.Plant) (a : Accepted p) where
       capped = v .bounded .high;
       per-place = v .bounded .long;
       long = r .long;
-      unmetered = r .close;
+      unmetered = r .sized;
       within = omega arith;
     }
 
@@ -85,7 +85,7 @@ module _ (p : Arrays.Plant) (a : Accepted p) where
     level-routes = record {
       long = settled-long (plantOf p .streams) ps (replicate maxStreams flowShift) (p .count) ∙ routes-none {ss = plantOf p .streams} .long;
       most = λ k l. ready-amounts (p .streams) (p .count) (network-of p a) none level-ready k l;
-      close = λ k l m. rw (settled-free-at k m) (routes-none {ss = plantOf p .streams} .close k l m);
+      sized = λ k l m. rw (settled-free-at k m) (routes-none {ss = plantOf p .streams} .sized k l m);
     }
       where
         settled-free-at : (k : ℕ) → streamAt (plantOf p .streams) k .metered ≡ false → getD xs k 0 ≡ getD (replicate maxStreams flowShift) k 0
@@ -94,7 +94,7 @@ module _ (p : Arrays.Plant) (a : Accepted p) where
             (settled-free (plantOf p .streams) (solvable-in (plantOf p) (within-of p a)) none hintRoom (level-hinted v routes-none) k m)
 
     -- What is routed leaves the metered amounts settled.
-    module _ {zs ys : List ℕ} (e : zs ≡ xs) (r : Routes (plantOf p .streams) ys) (kept : Kept (p .streams) (p .count) zs ys) where
+    module _ {zs ys : List ℕ} (e : zs ≡ xs) (r : Routes (plantOf p .streams) ys) (kept : Unchanged (p .streams) (p .count) zs ys) where
       -- Settled once more at these potentials the amounts stay,
       pub routed-again : settledTo (plantOf p .streams) ps ys (p .count) ≡ ys
       routed-again = settled-again (plantOf p .streams) ps ys (p .count) (λ k l m.

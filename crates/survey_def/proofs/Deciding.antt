@@ -41,7 +41,7 @@ plain-within : (n : ℕ) (s : Stream) → WithinStream n s → WithinStream n (u
 plain-within n s w = record {
   from-in = w .from-in;
   to-in = w .to-in;
-  apart = w .apart;
+  distinct = w .distinct;
   weighed = λ e. clash false e refl;
   light = λ e. clash false e refl;
   in-range = λ e. clash false e refl;

@@ -18,8 +18,7 @@ use Rattle.plant_def.specs.Within.{Within, Accepted}
 use Rattle.plant_def.specs.Says.{plantOf, readOf}
 use Rattle.plant_def.proofs.Arrayed.{all-listed, listed-at, within-of, stream-within, read-held}
 use Rattle.plant_def.proofs.Found.{read-bad, found, plant-count}
-use Rattle.num_bytes.specs.Sums.{bit}
-use Rattle.num_bytes.specs.Sums.{countTo}
+use Rattle.num_bytes.specs.Sums.{bit, countTo}
 use Rattle.num_bytes.proofs.Counts.{count-few}
 use Rattle.survey_def.specs.declared.Layouts.{Layouts}
 use Rattle.survey_def.specs.Layouts.{size, setsOf, Counted}

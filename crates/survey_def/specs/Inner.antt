@@ -12,9 +12,8 @@ use Rattle.plant_def.specs.Within.{WithinStream}
 use Rattle.flow_def.specs.Flows.{streamAt}
 use Rattle.flow_def.specs.Chains.{Counting}
 use Rattle.flow_def.specs.Labels.{labelsAfter, oneLabel}
-use Rattle.num_bytes.specs.Sums.{bit}
+use Rattle.num_bytes.specs.Sums.{bit, countTo}
 use Rattle.flow_def.specs.Certificate.{every}
-use Rattle.num_bytes.specs.Sums.{countTo}
 use Rattle.survey_def.specs.Says.{maxSurveyed}
 
 -- The streams that are left without a meter by the number m: those whose bit is 0.

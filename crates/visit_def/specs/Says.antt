@@ -11,7 +11,7 @@ use Rattle.plant_def.specs.Limits.{maxStreams}
 use Rattle.plant_def.specs.Plants.{Plant}
 use Rattle.plant_def.specs.Files.{Got, got, readPlant}
 use Rattle.flow_def.specs.Flows.{streamAt, allowed, cost, Cheapest}
-use Rattle.sheet_def.specs.Apart.{capped}
+use Rattle.sheet_def.specs.Totals.{capped}
 use Rattle.sheet_def.specs.Sentences.{EndsJoined}
 use Rattle.visit_def.specs.declared.Visits.{Visits}
 use Rattle.visit_def.specs.Visits.{without, isListed, LeastCost, Ordered, AllLeast}

@@ -6,7 +6,7 @@ use lib.ListN.{getD}
 use mir.Syntax.{w64}
 use mir.Val.{SFits}
 use mir.Facts.{toZ-ofZ}
-use Rattle.sheet_def.proofs.Entries.{noEntry}
+use Rattle.sheet_def.specs.Calls.{noEntry}
 use Rattle.num_text.proofs.Lines.{lines-long, all-lines}
 use Rattle.listing_lines.proofs.Lined.{Lined, no-lines, line-room, one-line, lines-most}
 use Rattle.listing_lines.proofs.put_lines.Statement.{statement}

@@ -10,9 +10,10 @@ use Rattle.num_bytes.proofs.get_u32.Statement.{statement}
 use Rattle.num_bytes.proofs.get_u32.Tie as tie
 
 returns : tie.Need-returns
-returns c = let s = now (c .before .before .before .before .args .s) in
+returns c = let start = c .before .before .before .before in
+    let s = now (start .args .s) in
     let low : c .get-u162 .result ≡ be 2 2 s = c .get-u162 .ensures ∙ ap (be 0 2) (part-is 2 s) in
-    omega (arith, be-split 2 2 s (c .before .before .before .before .pre), c .before .before .get-u16 .ensures)
+    omega (arith, be-split 2 2 s (start .pre), c .before .before .get-u16 .ensures)
 
 pub get-u32-spec : {M : Type 1} → statement M
 get-u32-spec =

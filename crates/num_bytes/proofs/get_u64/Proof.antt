@@ -10,9 +10,10 @@ use Rattle.num_bytes.proofs.get_u64.Statement.{statement}
 use Rattle.num_bytes.proofs.get_u64.Tie as tie
 
 returns : tie.Need-returns
-returns c = let s = now (c .before .before .before .before .args .s) in
+returns c = let start = c .before .before .before .before in
+    let s = now (start .args .s) in
     let low : c .get-u322 .result ≡ be 4 4 s = c .get-u322 .ensures ∙ ap (be 0 4) (part-is 4 s) in
-    omega (arith, be-split 4 4 s (c .before .before .before .before .pre), c .before .before .get-u32 .ensures)
+    omega (arith, be-split 4 4 s (start .pre), c .before .before .get-u32 .ensures)
 
 pub get-u64-spec : {M : Type 1} → statement M
 get-u64-spec =

@@ -48,7 +48,7 @@ put-decimal-put-byte-requires : (t : ℕ) → put-decimal-lts.Need-put-byte-requ
   put-decimal-below t,
   put-decimal.Post,
 ) (put-decimal-at t) put-decimal.Post
-put-decimal-put-byte-requires t c κs = rw (decimal-one (c .before .before .before .args .n) (c .before .if1 .taken)) at (c .before .before .before .pre .1)
+put-decimal-put-byte-requires t c κs = let start = c .before .before .before in rw (decimal-one (start .args .n) (c .before .if1 .taken)) at (start .pre .1)
 
 put-decimal-same-length : (t : ℕ) → put-decimal-lts.Need-same-length (
   put-byte-reads.Asked,

@@ -3,7 +3,7 @@ use borrow.Author.Needs.{needs}
 use denote.Ref.{now}
 use Rattle.plant_def.specs.Files.{readPlant}
 use Rattle.ranged_def.specs.Moves.{toRanged}
-use Rattle.ranged_def.proofs.Kept.{to-good}
+use Rattle.ranged_def.proofs.Faultless.{to-good}
 use Rattle.ranged_call.proofs.to_ranged.Statement.{statement}
 use Rattle.ranged_call.proofs.to_ranged.Tie as tie
 

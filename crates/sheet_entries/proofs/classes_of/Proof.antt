@@ -17,10 +17,10 @@ use Rattle.sheet_entries.proofs.classes_of.Statement.{statement}
 use Rattle.sheet_entries.proofs.classes_of.Tie as tie
 
 abbrev Inv-loop : tie.InvT-loop
-Inv-loop cuts p n labels taken r₀ i₀ r i = (i ≤ p .count) × Written Withheld maxStreams (λ k x. classOf (plantOf p) k) r₀ r i
+Inv-loop bridges p n labels taken r₀ i₀ r i = (i ≤ p .count) × Written Withheld maxStreams (λ k x. classOf (plantOf p) k) r₀ r i
 
 abbrev μ-loop : tie.MeasureT-loop
-μ-loop cuts p n labels taken r₀ i₀ r i = n - i
+μ-loop bridges p n labels taken r₀ i₀ r i = n - i
 
 cast-n : tie.Need-cast-n Inv-loop μ-loop
 cast-n c = search needs

@@ -14,7 +14,7 @@ use Rattle.plant_def.specs.Plants.{noStream}
 use Rattle.plant_def.specs.Says.{plantOf}
 use Rattle.plant_def.proofs.Arrayed.{all-listed, stream-within}
 use Rattle.flow_def.specs.declared.Class.{Class}
-use Rattle.flow_def.specs.Calls.{Cutting, classIn}
+use Rattle.flow_def.specs.Calls.{Bridging, classIn}
 use Rattle.flow_def.specs.Classes.{classOf}
 use Rattle.flow_def.specs.Shown.{adjustedWeight}
 use Rattle.flow_def.proofs.BySides.{class-in}
@@ -26,19 +26,19 @@ use Rattle.solve_arcs_fill.specs.Plants.{LaidOf}
 use Rattle.solve_arcs_fill.proofs.Plants.{counted, few, from-at, to-at, from-low, to-low, weight-at, metered-at}
 use Rattle.sheet_def.specs.declared.Entry.{Entry}
 use Rattle.sheet_def.specs.Balances.{entryOf}
-use Rattle.sheet_def.proofs.Entries.{noEntry}
+use Rattle.sheet_def.specs.Calls.{noEntry}
 use Rattle.sheet_entries.proofs.Opening.{opened-fits}
 use Rattle.sheet_entries.proofs.Entering.{entries-all, weight-by}
 use Rattle.sheet_entries.proofs.enter.Statement.{statement}
 use Rattle.sheet_entries.proofs.enter.Tie as tie
 
 abbrev Inv-loop : tie.InvT-loop
-Inv-loop arcs rows cuts held n labels taken streams₀ weights₀ i₀ streams weights i =
-    (i ≤ n) × ((p : Plant) → LaidOf p arcs rows → Cutting p cuts
+Inv-loop arcs rows bridges held n labels taken streams₀ weights₀ i₀ streams weights i =
+    (i ≤ n) × ((p : Plant) → LaidOf p arcs rows → Bridging p bridges
     → Written noEntry maxStreams (λ k e. entryOf (classOf (plantOf p) k) (unshifted (getD held k 0))) streams₀ streams i × Weighed p weights i)
 
 abbrev μ-loop : tie.MeasureT-loop
-μ-loop arcs rows cuts held n labels taken streams₀ weights₀ i₀ streams weights i = n - i
+μ-loop arcs rows bridges held n labels taken streams₀ weights₀ i₀ streams weights i = n - i
 
 -- The start, from a turn of the loop; the stream is in use, by any plant that was laid.
 abbrev begin : tie.In-loop Inv-loop μ-loop → tie.Start Inv-loop μ-loop
@@ -129,10 +129,10 @@ module _ (c : tie.After-class-of Inv-loop μ-loop) where
   abbrev turn : tie.In-loop Inv-loop μ-loop
   turn = ends .before .before .before
 
-  module _ (p : Plant) (w : Of turn p) (q : Cutting p (begin turn .args .cuts)) where
+  module _ (p : Plant) (w : Of turn p) (q : Bridging p (begin turn .args .bridges)) where
     in-class : c .class-of .result
-        ≡ classIn (begin turn .args .cuts .labels) (getD (p .streams) (turn .before .loop .i) noStream)
-        (getD (begin turn .args .cuts .taken) (turn .before .loop .i) 0) (begin turn .args .cuts .looped)
+        ≡ classIn (begin turn .args .bridges .labels) (getD (p .streams) (turn .before .loop .i) noStream)
+        (getD (begin turn .args .bridges .taken) (turn .before .loop .i) 0) (begin turn .args .bridges .looped)
     in-class =
         let l = used turn p w in
         c .class-of .ensures (getD (p .streams) (turn .before .loop .i) noStream) (metered-at w _ l) (sym (ends .before .end-at .ensures ∙ from-at w _ l)) (sym (ends .end-at2 .ensures ∙ to-at w _ l))
@@ -154,7 +154,7 @@ loop-again c =
           let l = used on p w in
           let s = getD (p .streams) (at .i) noStream in
           let class = is-class classed p w q in
-          let weight = weight-by (st .args .cuts .labels) s (getD (st .args .cuts .taken) (at .i) 0) (st .args .cuts .looped) _ _ _ (in-class classed p w q)
+          let weight = weight-by (st .args .bridges .labels) s (getD (st .args .bridges .taken) (at .i) 0) (st .args .bridges .looped) _ _ _ (in-class classed p w q)
           (weight-at w _ l) (weighed .adjusted-weight .ensures .0)
           ∙ ap (λ (k : Class). adjustedWeight k s) class in (
             written-put (at .inv .1 p w q .0) (low on) _ (c .entry-of .ensures ∙ (λ i. entryOf (class i) (flow i))),

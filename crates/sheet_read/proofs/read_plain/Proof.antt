@@ -5,7 +5,7 @@ use denote.Ref.{now}
 use Prim.Native.Nat.{_≤_}
 use lib.ListN.{length}
 use Rattle.num_bytes.proofs.Parts.{length-part}
-use Rattle.sheet_def.specs.Apart.{plainKind, plainSize}
+use Rattle.sheet_def.specs.Totals.{plainKind, plainSize}
 use Rattle.sheet_def.specs.Kept.{plainIn}
 use Rattle.sheet_read.proofs.Totals.{cut-refused, whole, total-behind}
 use Rattle.sheet_read.proofs.read_plain.Statement.{statement}

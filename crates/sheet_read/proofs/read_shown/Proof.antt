@@ -12,7 +12,7 @@ use mir.Facts.{toZ-ofZ}
 use Rattle.num_bytes.specs.Bytes.{be, signed}
 use Rattle.num_bytes.proofs.Parts.{part-is, length-part}
 use Rattle.sheet_def.specs.declared.SheetRecord.the-variants.{Listed}
-use Rattle.sheet_def.specs.Apart.{streamSize}
+use Rattle.sheet_def.specs.Totals.{streamSize}
 use Rattle.sheet_def.specs.Kept.{shownIn}
 use Rattle.sheet_def.proofs.Records.{unfit-refused, fit-listed, fit-whole}
 use Rattle.sheet_read.proofs.read_shown.Statement.{statement}

@@ -5,7 +5,7 @@ use denote.Ref.{now}
 use Prim.Native.Nat.{_≤_}
 use lib.ListN.{length, getD}
 use Rattle.num_bytes.proofs.Parts.{length-part}
-use Rattle.sheet_def.specs.Apart.{totalKind, totalSize}
+use Rattle.sheet_def.specs.Totals.{totalKind, totalSize}
 use Rattle.sheet_def.specs.Kept.{totalIn}
 use Rattle.sheet_read.proofs.Totals.{cut-refused, whole, total-behind}
 use Rattle.sheet_read.proofs.read_total.Statement.{statement}

@@ -13,8 +13,8 @@ use Rattle.num_bytes.proofs.Parts.{returned, partFrom}
 use Rattle.num_bytes.proofs.Rows.{Rows, no-rows, one-row, rows-long, rows-lend, rows-room, all-rows}
 use Rattle.plant_def.specs.Limits.{maxStreams}
 use Rattle.sheet_def.specs.Sheets.{recordOf, recordsOf}
-use Rattle.sheet_def.specs.Apart.{streamSize}
-use Rattle.sheet_def.proofs.Entries.{noEntry}
+use Rattle.sheet_def.specs.Totals.{streamSize}
+use Rattle.sheet_def.specs.Calls.{noEntry}
 use Rattle.sheet_def.proofs.Laying.{record-most, records-more}
 use Rattle.sheet_write.proofs.put_records.Statement.{statement}
 use Rattle.sheet_write.proofs.put_records.Tie as tie

@@ -63,8 +63,8 @@ loop-again c =
     let start = at-loop .before .before in
     let at = at-loop .loop in
     let taken = in-loop .loop-test .taken in
-    let apart = ap (λ (b : Bool). eqb (at .left % 2) 0 && b) (sym (after-one-label .one-label .ensures)) ∙ c .before .before .if1 .left in
-    passed-more _ _ (start .pre) _ _ _ _ (at .inv) taken apart _ (c .step .ensures)
+    let distinct = ap (λ (b : Bool). eqb (at .left % 2) 0 && b) (sym (after-one-label .one-label .ensures)) ∙ c .before .before .if1 .left in
+    passed-more _ _ (start .pre) _ _ _ _ (at .inv) taken distinct _ (c .step .ensures)
 
 returns-2 : tie.Need-returns-2 Inv-loop μ-loop
 returns-2 c = passed-all _ _ (c .before .before .before .pre) _ _ _ _ (c .before .loop .inv) (omega arith)
