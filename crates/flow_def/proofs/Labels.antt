@@ -9,8 +9,7 @@ use native.Mathlib.Decide.{decLe}
 use borrow.Author.Tests.{eqb-true, eq-eqb, ne-eqb, ltb-true, ltb-false, lt-ltb}
 use lib.Dec.{eqb, ltb}
 use lib.ListN.{length, getD, length-map}
-use Rattle.num_bytes.specs.Choice.{pick}
-use Rattle.num_bytes.proofs.Tests.{by-cases, clash, and-left, and-right, and-both, same-test}
+use Rattle.num_bytes.proofs.Tests.{by-cases, clash, and-left, and-right, and-both, same-test, pick-same}
 use Rattle.plant_def.specs.declared.Stream.{Stream}
 use Rattle.plant_def.specs.Limits.{maxUnits, places}
 use Rattle.plant_def.specs.Plants.{Plant}
@@ -21,11 +20,6 @@ use Rattle.flow_def.specs.Labels.{ownNumbers, renamed, relabelled, unite
 use Rattle.flow_def.specs.Groups.{firstOnly, AmongPlaces}
 use Rattle.num_bytes.proofs.Lists.{map-at, values-long, values-at, Written, written-all}
 use Rattle.flow_def.proofs.Reach.{Inside, chain-trans, chain-sym, chain-map, joined→chain, chain→joined}
-
--- A choice of one value.
-same-either : (b : Bool) (x : ℕ) → pick b x x ≡ x
-same-either true x = refl
-same-either false x = refl
 
 -- What holds of two numbers in either order holds of the lower and the higher.
 pub min-max : (P : ℕ → ℕ → Type 0) (a b : ℕ) → P a b → P b a → P (min a b) (max a b)
@@ -39,7 +33,7 @@ renamed-both : (a b : ℕ) → renamed (min a b) (max a b) a ≡ renamed (min a 
 renamed-both a b = min-max (λ lo hi. renamed lo hi a ≡ renamed lo hi b) a b (meet a b) (sym (meet b a))
   where
     meet : (lo hi : ℕ) → renamed lo hi lo ≡ renamed lo hi hi
-    meet lo hi = same-either (eqb lo hi) lo ∙ rw (eq-eqb hi hi refl)
+    meet lo hi = pick-same (eqb lo hi) lo ∙ rw (eq-eqb hi hi refl)
 
 renamed-low : (lo hi x : ℕ) → lo ≤ hi → renamed lo hi x ≤ x
 renamed-low lo hi x h = by-cases (eqb x hi) (λ t. rw t (omega (arith, eqb-true x hi t))) (λ t. rw t (omega arith))

@@ -7,6 +7,7 @@ use native.Mathlib.Omega.{arith}
 use lib.Dec.{eqb}
 use lib.ListN.{length}
 use Rattle.num_bytes.specs.Choice.{pick}
+use Rattle.num_bytes.proofs.Tests.{and-none}
 use Rattle.plant_def.specs.declared.Stream.{Stream}
 use Rattle.plant_def.specs.Plants.{Plant}
 use Rattle.plant_def.specs.Within.{WithinStream, Within}
@@ -69,10 +70,6 @@ meter-long (b ∷ set) (s ∷ ss) = ap suc (meter-long set ss)
 
 meter-counts : (b : Bool) (s : Stream) → not (s .metered) && not b ≡ not (pick b (meter s) s .metered)
 meter-counts true s = and-none (not (s .metered))
-  where
-    and-none : (a : Bool) → a && false ≡ false
-    and-none true = refl
-    and-none false = refl
 meter-counts false s = and-all (not (s .metered))
   where
     and-all : (a : Bool) → a && true ≡ a

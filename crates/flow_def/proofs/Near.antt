@@ -13,7 +13,7 @@ use Rattle.plant_def.specs.Plants.{Plant}
 use Rattle.plant_def.specs.Within.{Within}
 use Rattle.flow_def.specs.Flows.{amountAt, allowedOver, allowed, square, cost, costOver}
 use Rattle.flow_def.specs.Certificate.{weightOf}
-use Rattle.num_bytes.proofs.Integers.{up, dn, Le, val, canon, Z·diff, Le-unless, size-none, minus-none, plus-val}
+use Rattle.num_bytes.proofs.Integers.{up, dn, Le, val, canon, Z·diff, Le-unless, size-none, minus-none, plus-val, pos-inj}
 use Rattle.num_bytes.proofs.Sums.{sum, sum-same, sum-none, sum-plus, sum-times, sum-tight}
 use Rattle.flow_def.proofs.Nets.{countOf, streamOf, listed-size, balanced-size}
 use Rattle.flow_def.proofs.Ranges.{balanced-of}
@@ -140,9 +140,6 @@ module _ (p : Plant) (w : Within p) where
       ∙ sym (sum-times (countOf p) (pos (c * c)) _)
       ∙ ap (λ (x : ℤ). pos (c * c) *ℤ x) (cost-sum p d xs a))
     where
-      pos-inj : {a b : ℕ} → pos a ≡ pos b → a ≡ b
-      pos-inj e = cc
-
       each : (k : ℕ) → k < countOf p → pos (shareOver (c * d) (streamOf p k) (amountAt (times p c xs) k)) ≡ pos (c * c) *ℤ pos (shareOver d (streamOf p k) (amountAt xs k))
       each k l =
           ap (λ (x : ℤ). pos (weightOf (streamOf p k) * square x))

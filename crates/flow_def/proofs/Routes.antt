@@ -44,10 +44,11 @@ only-neg v t u = go (eqb v u)
     go true = refl
     go false = refl
 
--- What a stream brings: of nothing nothing, of a sum the sum, and at its two ends its amount.
-brought-none : (u : ℕ) (s : Stream) → brought u s (pos 0) ≡ pos 0
+-- What a stream brings: of nothing nothing.
+pub brought-none : (u : ℕ) (s : Stream) → brought u s (pos 0) ≡ pos 0
 brought-none u s = ap₂ _+ℤ_ (pick-none (eqb (s .to) u)) (pick-none (eqb (s .from) u))
 
+-- Of a sum the sum, and at its two ends its amount.
 brought-plus : (u : ℕ) (s : Stream) (x y : ℤ) → brought u s (x +ℤ y) ≡ brought u s x +ℤ brought u s y
 brought-plus u s x y =
     ap₂ _+ℤ_ (pick-plus (eqb (s .to) u) x y)

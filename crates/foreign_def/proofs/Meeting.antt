@@ -1,7 +1,7 @@
 -- Potentials and amounts that meet the rules: the withheld streams can be filled in, and the whole is then a flow of least cost; no
 -- amount is large.
 use mathlib.Core.Path.{_≡_, refl, sym, _∙_, ap, subst}
-use mathlib.Core.Bool.{Bool, true, false, not, _&&_}
+use mathlib.Core.Bool.{Bool, true, false, _&&_}
 use mathlib.Core.List.{List, [], _∷_}
 use mathlib.Core.Logic.{⊎-elim}
 use lib.IntN.{ℤ, pos, negℤ, natAbs, _+ℤ_, +ℤ-idl, +ℤ-idr, +ℤ-invr}
@@ -19,13 +19,13 @@ use Rattle.flow_def.specs.declared.Class.{Class}
 use Rattle.flow_def.specs.declared.Class.the-variants.{Adjusted, AsRead, Given, Withheld}
 use Rattle.flow_def.specs.Flows.{streamAt, amountAt, balanced, inRange, allowed, cost, OfLeastCost}
 use Rattle.flow_def.specs.Classes.{has, joinedTo, unmeteredBut, classOf, sideOut}
-use Rattle.num_bytes.proofs.Integers.{up, dn, plus-val, up-neg, dn-neg, size-val, parts, minus-none}
+use Rattle.num_bytes.proofs.Integers.{up, dn, plus-val, up-neg, dn-neg, size-val, parts, minus-none, pos-inj}
 use Rattle.num_bytes.proofs.Sums.{sum-same}
 use Rattle.flow_def.proofs.Nets.{countOf, streamOf, netOf, inside, listed, listed-size, listed-at, balanced-nets}
 use Rattle.flow_def.proofs.Given.{class-means, number-is}
 use Rattle.flow_def.proofs.Ranges.{allowed-of, range-of, balanced-of}
 use Rattle.flow_def.proofs.Potentials.{StepAt, Steps, Certificate, share, cost-one, least}
-use Rattle.solve_def.proofs.Overs.{over, overTo}
+use Rattle.solve_def.proofs.Overs.{overTo}
 use Rattle.solve_def.proofs.Tall.{tall}
 use Rattle.sheet_def.specs.Sheets.{known}
 use Rattle.foreign_def.specs.Test.{withheldOnly}
@@ -108,9 +108,6 @@ module _ (p : Plant) (w : Within p) where
     -- So it is of least cost.
     pub filled-least : OfLeastCost p filledIn
     filled-least = record { balance = filled-allowed; least = least p w π filledIn filled-certified }
-
-    pos-inj : {a b : ℕ} → pos a ≡ pos b → a ≡ b
-    pos-inj q = cc
 
     -- It costs what the amounts cost.
     pub filled-cost : cost (p .streams) filledIn ≡ cost (p .streams) (listed p x)

@@ -15,8 +15,7 @@ use Rattle.num_bytes.proofs.Tests.{by-cases, clash}
 use Rattle.plant_def.specs.Plants.{Plant}
 use Rattle.plant_def.specs.Files.{Got, bad, got, readPlant}
 use Rattle.plant_def.specs.Within.{Within}
-use Rattle.plant_def.proofs.Limited.{within}
-use Rattle.plant_def.proofs.Accepted.{accepted, refused}
+use Rattle.plant_def.proofs.Accepted.{refused, read-within}
 use Rattle.flow_def.specs.Flows.{allowed, Cheapest}
 use Rattle.flow_def.specs.Classes.{has, joinedTo}
 use Rattle.flow_def.proofs.Reach.{joined-self}
@@ -36,10 +35,6 @@ use Rattle.foreign_def.specs.Test.{passes, checkWith}
 use Rattle.foreign_def.proofs.Passing.{joined-set, passed-least, our-flow}
 use Rattle.foreign_def.proofs.Tested.{test-is}
 use Rattle.foreign_def.proofs.Serving.{some-numbers}
-
--- A plant that is read is within the limits.
-pub read-within : (file : List ℕ) (p : Plant) → readPlant file ≡ got p → Within p
-read-within file p e = within p (accepted file p e .0)
 
 -- Of a plant and a sheet that are read.
 module _ (p : Plant) (w : Within p) (sheet : SheetParts) (numbers : List ℤ) where

@@ -27,7 +27,7 @@ use Rattle.flow_def.specs.Test.{verdictAt}
 use Rattle.flow_def.specs.Shown.{adjusted}
 use Rattle.flow_def.specs.Certificate.{inKilter}
 use Rattle.num_bytes.proofs.Integers.{size-none, minus-none}
-use Rattle.flow_def.proofs.Certified.{every-at}
+use Rattle.flow_def.proofs.Certified.{every-at, every-all, kilter-says, says-kilter}
 use Rattle.num_bytes.proofs.Sums.{sum, sum-same, sum-none}
 use Rattle.flow_def.proofs.Nets.{countOf, streamOf, inside, crossing}
 use Rattle.flow_def.proofs.Labels.{label-joined, label-member, label-low}
@@ -41,9 +41,8 @@ use Rattle.sheet_def.specs.Drawings.{plantParts}
 use Rattle.sheet_def.specs.Sentences.{classOn, numberOn}
 use Rattle.foreign_def.specs.Passing.{numberLimit, placeNumber, Ours, JoinedByW, sumIn, sumOut, Passes}
 use Rattle.foreign_def.specs.Test.{withheldOnly, shownAt, shownFlows, broughtBy, netBy, numbersFit, recordsFit, flowsFit, netsFit, totalFits, passes}
-use Rattle.foreign_def.proofs.Every.{every-all}
 use Rattle.foreign_def.proofs.Filling.{Uncrossed}
-use Rattle.foreign_def.proofs.Stepping.{kilter-says, says-kilter, step-level, step-bottom, step-top}
+use Rattle.foreign_def.proofs.Stepping.{step-level, step-bottom, step-top}
 use Rattle.foreign_def.proofs.Meeting.{Meets, metered-known, filledIn, filled-at, filled-allowed, filled-certified, filled-least, filled-cost, known-few}
 use Rattle.foreign_def.proofs.Sums.{crossing-sums}
 use Rattle.foreign_def.proofs.Passing.{told-class, told-degrees, told-verdict, ours-tell, like-long, like-class, like-degrees, like-cost, like-verdict, like-joined, passes-meets}

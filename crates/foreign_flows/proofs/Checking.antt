@@ -24,14 +24,13 @@ use Rattle.flow_def.specs.declared.Class.{Class}
 use Rattle.flow_def.specs.declared.Class.the-variants.{Adjusted}
 use Rattle.flow_def.specs.Flows.{streamAt, amountAt}
 use Rattle.flow_def.specs.Certificate.{every}
-use Rattle.flow_def.proofs.Certified.{every-at}
+use Rattle.flow_def.proofs.Certified.{every-at, every-all, every-off}
 use Rattle.num_bytes.proofs.Lists.{values-long, values-at}
 use Rattle.sheet_def.specs.declared.Entry.{Entry}
 use Rattle.sheet_def.specs.Sheets.{known}
 use Rattle.foreign_def.specs.Passing.{numberLimit, placeNumber, difference}
 use Rattle.foreign_def.specs.Test.{numbersFit, flowFits, flowsFit, flowsShown}
 use Rattle.sheet_def.specs.Calls.{noEntry}
-use Rattle.foreign_def.proofs.Every.{every-all, every-off}
 use Rattle.sheet_cost.proofs.Costing.{size-fits, minus-size}
 use Rattle.foreign_stream.proofs.Fitting.{coded-fits, coded-is}
 

@@ -74,21 +74,22 @@ count-one (suc n) i f g l s t e = elim (ℕ-discrete n i) [
     last : n ≡ i → (h : ℕ → Bool) {b : Bool} → h i ≡ b → h n ≡ b
     last q h t = rw q t
 
+-- What passes two tests passes the first.
+pub one-and : (a b : Bool) → one (a && b) ≤ one a
+one-and true true = omega arith
+one-and true false = omega arith
+one-and false b = omega arith
+
 -- All but number i, which passes: at least one less.
 pub count-but : (n i : ℕ) (f : ℕ → Bool) → i < n → f i ≡ true → suc (countTo n (λ k. f k && not (eqb k i))) ≤ countTo n f
 count-but zero i f l t = absurd (omega arith)
 count-but (suc n) i f l t = elim (ℕ-discrete n i) [
-  | yes q ↦ rw (eq-eqb n i q, mine q) (omega (arith, count-le n (λ k. f k && not (eqb k i)) f (λ k b. less (f k) (not (eqb k i)))))
-  | no q ↦ omega (arith, less (f n) (not (eqb n i)), count-but n i f (omega arith) t)
+  | yes q ↦ rw (eq-eqb n i q, mine q) (omega (arith, count-le n (λ k. f k && not (eqb k i)) f (λ k b. one-and (f k) (not (eqb k i)))))
+  | no q ↦ omega (arith, one-and (f n) (not (eqb n i)), count-but n i f (omega arith) t)
 ]
   where
     mine : n ≡ i → f n ≡ true
     mine q = rw q t
-
-    less : (a b : Bool) → one (a && b) ≤ one a
-    less true true = omega arith
-    less true false = omega arith
-    less false b = omega arith
 
 -- The first number apart.
 pub count-front : (n : ℕ) (f : ℕ → Bool) → countTo (suc n) f ≡ one (f 0) + countTo n (λ k. f (suc k))

@@ -191,6 +191,20 @@ none-minus x y e = same (x -ℤ y) (pos 0) (omega (arith, minus-val x y, val x y
 pub size-none : (x : ℤ) → natAbs x ≡ 0 → x ≡ pos 0
 size-none x e = same x (pos 0) (omega (arith, size-val x))
 
+-- A sum is no larger than its parts together.
+pub plus-size : (x y : ℤ) → natAbs (x +ℤ y) ≤ natAbs x + natAbs y
+plus-size x y =
+    let z = x +ℤ y in
+    let v = plus-val x y in
+    let l = size-val x in
+    let m = size-val y in
+    let n = size-val z in
+    ⊎-elim (λ k. omega arith) (λ k. omega arith) (parts z)
+
+-- Naturals that are equal as integers are equal.
+pub pos-inj : {a b : ℕ} → pos a ≡ pos b → a ≡ b
+pos-inj e = cc
+
 -- Where the test of at most answers true, one integer is at most the other.
 pub leZ-le : (x y : ℤ) → leZ x y ≡ true → Le x y
 leZ-le (pos a) (pos b) e = omega (arith, leb-true a b e)

@@ -2,7 +2,7 @@
 use mathlib.Core.Path.{_≡_, refl, sym, ap, _∙_, subst}
 use mathlib.Core.List.{List, [], _∷_, _++_, append-assoc, append-nil}
 use mathlib.Core.Bool.{true, false, not, _&&_, _||_}
-use lib.IntN.{ℤ, pos, negsuc, natAbs}
+use lib.IntN.{ℤ, pos, natAbs}
 use Prim.Native.Nat.{ℕ, zero, suc, _+_, _-_, _^_, _<_, _≤_}
 use native.Mathlib.Omega.{arith}
 use lib.Dec.{eqb, ltb}
@@ -12,7 +12,7 @@ use borrow.Author.Tests.{lt-ltb, le-ltb, lt-leb, eq-eqb, ne-eqb, eqb-true, ltb-t
 use Rattle.num_bytes.specs.Bytes.{be, putBe, signed, raw, holds}
 use Rattle.num_bytes.proofs.Tests.{by-cases, and-left, and-right, and-both, first-none-left, first-none-right}
 use Rattle.num_bytes.proofs.Digits.{be-put}
-use Rattle.num_bytes.proofs.Complement.{held-back, held-fits, small-held}
+use Rattle.num_bytes.proofs.Complement.{held-back, held-fits, small-held, zero-size}
 use Rattle.plant_def.specs.declared.Stream.{Stream}
 use Rattle.plant_def.specs.declared.Record.{Record}
 use Rattle.plant_def.specs.declared.Record.the-variants.{Listed, End}
@@ -30,10 +30,6 @@ use Rattle.plant_def.proofs.Limited.{within-stream, units-good, few-par
 -- A signed field written and read again, whatever follows it.
 signed-there : (z : ℤ) (r : List ℕ) → holds 4 z ≡ true → signed 4 (be 0 4 (putBe 4 (raw 4 z) ++ r)) ≡ z
 signed-there z r h = ap (signed 4) (be-put 4 (raw 4 z) r (held-fits 4 z h)) ∙ held-back 4 z h
-
-zero-size : (z : ℤ) → natAbs z ≡ 0 → pos 0 ≡ z
-zero-size (pos a) e = ap pos (sym e)
-zero-size (negsuc a) e = absurd (omega arith)
 
 -- What an unmetered stream has not, and a stream without a range.
 bare : (x : Stream) → x .metered ≡ false → plainOne x ≡ true → (0 ≡ x .weight) × (pos 0 ≡ x .reading) × (x .ranged ≡ false)

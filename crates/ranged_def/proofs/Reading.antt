@@ -12,6 +12,7 @@ use Rattle.plant_def.specs.Files.{Got, bad, got, readPlant}
 use Rattle.plant_def.specs.Says.{arrayed, readOf}
 use Rattle.plant_def.proofs.Accepted.{accepted, refused}
 use Rattle.plant_def.proofs.Limited.{few-parts}
+use Rattle.plant_def.proofs.Found.{read-bad}
 use Rattle.ranged_def.specs.Moves.{widened, bared, narrowFault, moved, toRanged, fromRanged}
 use Rattle.ranged_def.proofs.Mapped.{map-padded, narrow-padded}
 
@@ -28,19 +29,11 @@ module _ (file : List ℕ) (y : Read) (e : y ≡ readOf (readPlant file)) where
   module _ (n : y .number ≡ 0 → ⊥) (r : Read) (d : r ≡ readOf (bad (y .number))) where
     -- A refusal stays one on the way to the ranged form,
     pub forward-bad : r ≡ readOf (toRanged (readPlant file))
-    forward-bad = d ∙ go (readPlant file) e
-      where
-        go : (g : Got) → y ≡ readOf g → readOf (bad (y .number)) ≡ readOf (toRanged g)
-        go (bad f) q = ap (λ (t : Read). readOf (bad (t .number))) q
-        go (got p) q = absurd (n (ap (λ (t : Read). t .number) q))
+    forward-bad = d ∙ ap (λ (g : Got). readOf (toRanged g)) (sym (read-bad (readPlant file) y e n))
 
     -- and on the way home.
     pub home-bad : r ≡ readOf (fromRanged (readPlant file))
-    home-bad = d ∙ go (readPlant file) e
-      where
-        go : (g : Got) → y ≡ readOf g → readOf (bad (y .number)) ≡ readOf (fromRanged g)
-        go (bad f) q = ap (λ (t : Read). readOf (bad (t .number))) q
-        go (got p) q = absurd (n (ap (λ (t : Read). t .number) q))
+    home-bad = d ∙ ap (λ (g : Got). readOf (fromRanged g)) (sym (read-bad (readPlant file) y e n))
 
   -- A plant is moved.
   module _ (z : y .number ≡ 0) where

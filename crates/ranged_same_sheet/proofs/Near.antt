@@ -1,13 +1,13 @@
 -- A plant without ranges: the zero flow costs so little that no flow that costs no more comes near the widest range.
-use mathlib.Core.Path.{_≡_, refl}
-use mathlib.Core.Bool.{Bool, true, false, not, _&&_}
+use mathlib.Core.Path.{_≡_}
+use mathlib.Core.Bool.{true, not, _&&_}
 use mathlib.Core.Logic.{⊎-elim}
 use mathlib.Core.List.{List, [], _∷_}
-use lib.IntN.{ℤ, pos, natAbs, _+ℤ_, _-ℤ_, _*ℤ_}
+use lib.IntN.{ℤ, pos, natAbs, _-ℤ_, _*ℤ_}
 use Prim.Native.Nat.{ℕ, zero, suc, _+_, _*_, _≤_, _<_}
 use native.Mathlib.Omega.{arith}
 use native.Mathlib.Nat.{mul-le-mul, mul-le-mul-right}
-use lib.Dec.{eqb, ltb}
+use lib.Dec.{ltb}
 use lib.ListN.{length, getD}
 use borrow.Author.Tests.{ltb-true, ltb-false, not-true}
 use Rattle.num_bytes.specs.Choice.{pick}
@@ -20,8 +20,9 @@ use Rattle.plant_def.specs.Within.{Within, WithinStream}
 use Rattle.flow_def.specs.Flows.{streamAt, amountAt, balanced, inRange, square, cost}
 use Rattle.num_bytes.proofs.Integers.{size-val, minus-val, parts, one-times}
 use Rattle.num_bytes.proofs.Sums.{sum-none}
-use Rattle.flow_def.proofs.Nets.{countOf, streamOf, brought, listed, listed-balanced}
+use Rattle.flow_def.proofs.Nets.{countOf, streamOf, listed, listed-balanced}
 use Rattle.flow_def.proofs.Ranges.{whole-holds}
+use Rattle.flow_def.proofs.Routes.{brought-none}
 use Rattle.ranged_def.specs.Moves.{widestLow, widestHigh, widened}
 use Rattle.ranged_def.specs.Trip.{rangeless}
 
@@ -69,16 +70,7 @@ zero-most p w = omega (arith, zero-costs (p .units) (p .streams) (w .each), mul-
 
 -- and balances.
 pub zero-balanced : (p : Plant) → balanced p (zeroFlow p) ≡ true
-zero-balanced p = listed-balanced p (λ k. pos 0) (λ u l. sum-none (length (p .streams)) _ (λ k m. none u (streamAt (p .streams) k)))
-  where
-    none : (u : ℕ) (s : Stream) → brought u s (pos 0) ≡ pos 0
-    none u s = go (eqb (s .to) u) (eqb (s .from) u)
-      where
-        go : (a b : Bool) → pick a (pos 0) (pos 0) +ℤ pick b (pos 0) (pos 0) ≡ pos 0
-        go true true = refl
-        go true false = refl
-        go false true = refl
-        go false false = refl
+zero-balanced p = listed-balanced p (λ k. pos 0) (λ u l. sum-none (length (p .streams)) _ (λ k m. brought-none u (streamAt (p .streams) k)))
 
 -- Streams without a range.
 pub rangeless-at : (ss : List Stream) → rangeless ss ≡ true → (k : ℕ) → k < length ss → not (limited (streamAt ss k)) ≡ true

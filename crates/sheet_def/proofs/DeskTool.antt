@@ -50,7 +50,7 @@ beside p w s t d ys m = record {
     all = rw shown (near-fractions p w xs ys d (adjustedWeights p s) (c .balance) m (t .near xs c d ys (m .some) (m .allowed)))
 
 -- A reading of bytes has one result.
-same-parts : (s t : SheetParts) → someSheet s ≡ someSheet t → s ≡ t
+pub same-parts : (s t : SheetParts) → someSheet s ≡ someSheet t → s ≡ t
 same-parts s t e = cc
 
 module _ (nineteen : Refusal-19)

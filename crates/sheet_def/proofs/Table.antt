@@ -8,10 +8,11 @@ use lib.Signed.{ltZ}
 use Prim.Native.Nat.{ℕ, zero, suc, _-_, _<_}
 use native.Mathlib.Omega.{arith}
 use lib.Dec.{eqb}
-use lib.ListN.{length, getD, replicate}
+use lib.ListN.{length}
 use borrow.Author.Tests.{eqb-true}
 use Rattle.num_bytes.proofs.Tests.{and-left, and-right}
 use Rattle.num_bytes.specs.Bytes.{over}
+use Rattle.num_bytes.proofs.Filled.{blank-at}
 use Rattle.plant_def.specs.declared.Stream.{Stream}
 use Rattle.plant_def.specs.Limits.{places}
 use Rattle.plant_def.specs.Plants.{Plant, limited}
@@ -120,11 +121,6 @@ fullPlant =
           ∷ [];
     }
 
-none-there : (n k : ℕ) → getD (replicate n false) k false ≡ false
-none-there zero k = refl
-none-there (suc n) zero = refl
-none-there (suc n) (suc k) = none-there n k
-
 -- Each stream has a range.
 abbrev pub allLimited : List Stream → Bool
 allLimited [] = true
@@ -143,7 +139,7 @@ unit-full ss e m = record { long = refl; placed = past; bounded = λ k l t. limi
     past : (u : ℕ) → 1 < u → marks fullUnit u ≡ false
     past zero l = absurd (omega arith)
     past (suc zero) l = absurd (omega arith)
-    past (suc (suc u)) l = none-there (places - 2) u
+    past (suc (suc u)) l = blank-at false (places - 2) u
 
 -- A call that drew a sheet would have a flow in range.
 pub refuses-right : (file : List ℕ) (p : Plant) (ms : List Bool) → readPlant file ≡ got p → Overfull p ms → Refuses file ms

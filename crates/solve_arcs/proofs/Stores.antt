@@ -10,7 +10,7 @@ use lib.Dec.{ltb}
 use lib.ListN.{length, getD, set, length-set}
 use lib.Seq.{getD-set-same, getD-set-other}
 use Rattle.num_bytes.specs.Choice.{pick}
-use Rattle.num_bytes.proofs.Tests.{clash}
+use Rattle.num_bytes.proofs.Tests.{clash, and-none, pick-same}
 use Rattle.plant_def.specs.Limits.{maxStreams}
 use Rattle.solve_arcs.specs.Cells.{arcOf, marginCells}
 use Rattle.solve_arcs.specs.Margins.{marginAt, shut, spared}
@@ -39,11 +39,7 @@ module _ (i a b : ℕ) (ms : List ℕ) (low : i < maxStreams) (long : length ms 
 
 -- None is left alone before number 0; and one more before the next number.
 pub spare-none : (rs : List ℕ) (k : ℕ) → spared rs 0 k ≡ false
-spare-none rs k = rw (le-ltb k 0 (omega arith)) (go (ltb 0 (getD rs (4 * k) 0)))
-  where
-    go : (b : Bool) → b && false ≡ false
-    go true = refl
-    go false = refl
+spare-none rs k = rw (le-ltb k 0 (omega arith)) (and-none (ltb 0 (getD rs (4 * k) 0)))
 
 spare-other : (rs : List ℕ) (i k : ℕ) → (k ≡ i → ⊥) → spared rs (i + 1) k ≡ spared rs i k
 spare-other rs i k q = ap (λ (b : Bool). ltb 0 (getD rs (4 * k) 0) && b) (elim (decLe k i) [
@@ -66,10 +62,6 @@ module _ (rs : List ℕ) (d i : ℕ) (ms : List ℕ) (low : i < maxStreams) wher
   own : (x : ℕ) (f : Bool) → pick f (marginAt rs true i x d) (marginAt rs false i x d) ≡ marginAt rs f i x d
   own x true = refl
   own x false = refl
-
-  both : (f : Bool) (x : ℕ) → pick f x x ≡ x
-  both true x = refl
-  both false x = refl
 
   -- No stream has its margins yet.
   pub margined-none : (xs : List ℕ) → length ms ≡ marginCells → Margined 0 rs xs d 0 ms
@@ -122,7 +114,7 @@ module _ (rs : List ℕ) (d i : ℕ) (ms : List ℕ) (low : i < maxStreams) wher
       | no q ↦ put-other i _ _ ms low (m .long) k f q ∙ m .are k f b (sym (spare-other rs i k q) ∙ o)
     ];
     alone = λ k f b o. elim (ℕ-discrete k i) [
-      | yes q ↦ rw q (put-own i _ _ ms low (m .long) f ∙ both f shut)
+      | yes q ↦ rw q (put-own i _ _ ms low (m .long) f ∙ pick-same f shut)
       | no q ↦ put-other i _ _ ms low (m .long) k f q ∙ m .alone k f b (sym (spare-other rs i k q) ∙ o)
     ];
   }

@@ -2,7 +2,7 @@
 use mathlib.Core.Path.{_≡_, refl, sym, _∙_, ap}
 use mathlib.Core.Bool.{Bool, true, false}
 use mathlib.Core.List.{List, [], _∷_}
-use Prim.Native.Nat.{ℕ, zero, suc, _+_, _-_, _<_}
+use Prim.Native.Nat.{ℕ, zero, suc, _+_, _-_}
 use native.Mathlib.Omega.{arith}
 use lib.Dec.{eqb, ltb}
 use lib.ListN.{length, getD, set, length-set}
@@ -73,9 +73,3 @@ pub relaxed-all-long : (fs ts gs bs : List ℕ) (ls : List Bool) (k e i : ℕ) (
 unfolding relaxedTo
 relaxed-all-long fs ts gs bs ls k e zero near = refl
 relaxed-all-long fs ts gs bs ls k e (suc i) near = relaxed-all-long fs ts gs bs ls k e i _ ∙ relaxed-long fs ts gs bs ls k e i near
-
--- What is read past the end does not matter before it.
-pub getD-any : {A : Type 0} (xs : List A) (i : ℕ) (a b : A) → i < length xs → getD xs i a ≡ getD xs i b
-getD-any [] i a b l = absurd (omega arith)
-getD-any (x ∷ xs) zero a b l = refl
-getD-any (x ∷ xs) (suc i) a b l = getD-any xs i a b (omega arith)

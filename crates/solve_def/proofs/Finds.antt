@@ -12,6 +12,7 @@ use lib.ListN.{length, getD, set, take, replicate, length-set, getD-replicate}
 use lib.Seq.{getD-take, length-take-le, getD-set-same, getD-set-other}
 use Rattle.num_bytes.specs.Choice.{pick}
 use Rattle.num_bytes.proofs.Tests.{by-cases, clash}
+use Rattle.num_bytes.proofs.Filled.{blank-at, getD-any}
 use Rattle.plant_def.specs.declared.Stream.{Stream}
 use Rattle.plant_def.specs.Limits.{maxUnits, places}
 use Rattle.plant_def.specs.Within.{WithinStream}
@@ -28,7 +29,7 @@ use Rattle.solve_def.specs.SearchNeeds.{Network, Potentials, Moderate, F
 use Rattle.solve_def.proofs.Bounds.{HasRoom, reduced-with-room, reduced-shut, room-of, room-or, reduced-most, reading-within}
 use Rattle.solve_def.proofs.Growing.{reduced-rise}
 use Rattle.solve_def.proofs.Weights.{weight-most}
-use Rattle.solve_def.proofs.Filling.{getD-any, fallen-at, fallen-none}
+use Rattle.solve_def.proofs.Filling.{fallen-at, fallen-none}
 use Rattle.solve_def.proofs.Least.{Usable, all-usable, startIn, endIn, Answers, least-good, answers-same}
 use Rattle.solve_def.proofs.Rounds.{grow-none, grow-stop, grow-hit, grow-more, grow-end}
 use Rattle.solve_def.proofs.Steps.{walk-none, walk-hit, walk-more, walk-end}
@@ -109,12 +110,6 @@ module _ (streams : List Stream) (n : ℕ) (xs ps : List ℕ) (d skip : ℕ) (fs
       go : (b : Bool) → pick b farthest (reducedCostAt (take n streams) xs ps d k f) ≡ 0 → b ≡ false
       go true h = absurd (omega arith)
       go false h = refl
-
--- A list of zeros.
-pub zeros : (m u : ℕ) → _≡_ {A = ℕ} (getD (replicate m 0) u 0) 0
-zeros zero u = refl
-zeros (suc m) zero = refl
-zeros (suc m) (suc u) = zeros m u
 
 -- The first place is the only one visited.
 only-root : (s v : ℕ) → s < places → v < places → getD (set (replicate places false) s true) v false ≡ true → v ≡ s
@@ -385,11 +380,11 @@ module _ (streams : List Stream) (n : ℕ) (xs ps : List ℕ) (d : ℕ) (fs ts g
       ∙ walk-grow searchRounds 0 root (replicate places 0) (replicate places far) (rootAt root) (record {
         nears = root-nears n fs ts gs bs root within (tails streams n xs ps d 0 fs ts gs bs laid);
         marked = getD-set-same (replicate places false) root true false within;
-        at = zeros places root;
+        at = blank-at {A = ℕ} 0 places root;
         visits = length-set (replicate places false) root true;
         dists = refl;
-        sized = λ u. omega (arith, zeros places u);
+        sized = λ u. omega (arith, blank-at {A = ℕ} 0 places u);
         place = within;
         short = omega arith;
-        tall = λ u b y. omega (arith, zeros places u, ap (λ (v : ℕ). getD ps v 0) (only-root root u within b y));
+        tall = λ u b y. omega (arith, blank-at {A = ℕ} 0 places u, ap (λ (v : ℕ). getD ps v 0) (only-root root u within b y));
       })

@@ -10,16 +10,16 @@ use borrow.Author.Tests.{ltb-true, ltb-false, le-ltb}
 use lib.Bits.{bitAnd, bitOr, bitXor, or-zero-r}
 use lib.Count.{trailingZeros}
 use lib.Dec.{ltb}
-use lib.ListN.{length, getD, set, replicate, List·getD-eq-default}
+use lib.ListN.{length, getD, set, replicate, List·getD-eq-default, getD-replicate}
 use lib.Seq.{getD-set-same, getD-set-other}
 use Rattle.num_bytes.specs.Choice.{pick}
 use Rattle.num_bytes.proofs.Tests.{by-cases, clash, or-left, or-right, or-cases}
+use Rattle.num_bytes.proofs.Filled.{getD-any}
 use Rattle.plant_def.specs.Limits.{places}
 use Rattle.num_bytes.specs.Sums.{bit}
 use Rattle.num_bytes.proofs.Binary.{unlike, bit-or, bit-xor, bit-zero, bit-same, bit-other}
 use Rattle.solve_def.specs.Sizes.{far, numbering}
 use Rattle.solve_def.specs.Near.{codeOf, lessened, nearestTo, nearestWithin}
-use Rattle.solve_def.proofs.Filling.{getD-any}
 use Rattle.solve_def.proofs.Nearing.{Nearest, nearest-good}
 use Rattle.solve_def.specs.Fringe.{Fringe, fringeBit}
 use Rattle.flow_def.proofs.Lowest.{lowest, below-lowest, without-lowest, with-others}
@@ -28,13 +28,8 @@ use Rattle.flow_def.proofs.Lowest.{lowest, below-lowest, without-lowest, with-o
 pub fringe-none : (limit : ℕ) → Fringe limit (replicate places far) 0
 fringe-none limit = record {
   inside = λ h b. clash (bit h 0) b (bit-zero h);
-  all = λ v l c w. absurd (omega (arith, c, all-far places v l));
+  all = λ v l c w. absurd (omega (arith, c, getD-replicate {A = ℕ} places v far 0 l));
 }
-  where
-    all-far : (n v : ℕ) → v < n → getD (replicate n far) v 0 ≡ far
-    all-far zero v l = absurd (omega arith)
-    all-far (suc n) zero l = refl
-    all-far (suc n) (suc v) l = all-far n v (omega arith)
 
 -- A place is offered a distance.
 module _ (limit : ℕ) (near : List ℕ) (m v d i : ℕ) (w : Fringe limit near m) (l : v < places) (long : length near ≡ places) (few : i < numbering) where

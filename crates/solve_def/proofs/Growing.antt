@@ -12,6 +12,7 @@ use lib.ListN.{length, getD, set, replicate, length-set}
 use lib.Seq.{getD-set-same, getD-set-other}
 use Rattle.num_bytes.specs.Choice.{pick}
 use Rattle.num_bytes.proofs.Tests.{by-cases}
+use Rattle.num_bytes.proofs.Filled.{blank-at}
 use Rattle.plant_def.specs.declared.Stream.{Stream}
 use Rattle.plant_def.specs.Limits.{places, maxUnits, maxStreams, maxWeight}
 use Rattle.flow_def.specs.Flows.{streamAt}
@@ -147,13 +148,8 @@ root-growing n ss xs ps d root small l h = record {
       ∙ ap suc (count-none n (λ v. false) (λ v m. refl));
 }
   where
-    none-at : (k v : ℕ) → getD (replicate k false) v false ≡ false
-    none-at zero v = refl
-    none-at (suc k) zero = refl
-    none-at (suc k) (suc v) = none-at k v
-
     none : (v : ℕ) → getD (replicate places false) v false ≡ false
-    none v = none-at 33 v
+    none v = blank-at false places v
 
     go : (v : ℕ) → v < places → (b : Bool) → pick b true (getD (replicate places false) v false) ≡ b
     go v m true = refl

@@ -7,6 +7,7 @@ use native.Mathlib.Omega.{arith}
 use native.Mathlib.Decide.{decLe, ℕ-discrete}
 use lib.ListN.{length, getD, set, take, replicate, length-set, getD-replicate}
 use lib.Seq.{getD-take, getD-set-same, getD-set-other}
+use Rattle.num_bytes.proofs.Filled.{blank-at}
 use Rattle.plant_def.specs.declared.Stream.{Stream}
 use Rattle.plant_def.specs.Limits.{places}
 use Rattle.plant_def.specs.Plants.{noStream}
@@ -22,7 +23,7 @@ use Rattle.solve_def.proofs.Rounds.{path-none, path-stop, path-hit, pat
 use Rattle.solve_def.proofs.Steps.{walk-none, walk-far, walk-hit, walk-more, walk-end}
 use Rattle.solve_def.proofs.Nearing.{tailOf, headOf, reducedCostOf, overOf, Nears, relaxed-good, next-good}
 use Rattle.solve_def.proofs.Walks.{leaving, leads-on, Told, told, none-leads}
-use Rattle.solve_def.proofs.Finds.{Reduced, heads, tails, usable-reduced, left-alone, zeros, root-nears}
+use Rattle.solve_def.proofs.Finds.{Reduced, heads, tails, usable-reduced, left-alone, root-nears}
 
 -- Only place v has a negative net.
 pub goal-hit : (v : ℕ) → v < places → getD (goalAt v) v 0 < netShift
@@ -208,5 +209,5 @@ module _ (streams : List Stream) (n : ℕ) (xs ps : List ℕ) (skip : ℕ) (fs t
     marked = getD-set-same (replicate places false) s true false l;
     visits = length-set (replicate places false) s true;
     dists = refl;
-    none = zeros places;
+    none = blank-at {A = ℕ} 0 places;
   })

@@ -9,12 +9,13 @@ use borrow.Author.Tests.{ltb-true, ltb-false, lt-ltb, le-ltb, eq-eqb, ne-eqb}
 use lib.Dec.{ltb}
 use lib.ListN.{length, getD, set, length-set}
 use Rattle.num_bytes.proofs.Tests.{by-cases}
+use Rattle.num_bytes.proofs.Filled.{getD-any}
 use Rattle.plant_def.specs.Limits.{places}
 use Rattle.solve_def.specs.declared.Tree.{Tree}
 use Rattle.solve_def.specs.Sizes.{netShift, numbering, far, farthest}
 use Rattle.solve_def.specs.Search.{addedTo}
 use Rattle.solve_def.specs.Near.{relaxedTo, nearestTo, nearestWithin, walkedBy, walked}
-use Rattle.solve_def.proofs.Filling.{getD-any, relaxed-all-long}
+use Rattle.solve_def.proofs.Filling.{relaxed-all-long}
 use Rattle.solve_def.proofs.Nearing.{nearest-is}
 use native.Mathlib.Nat.{div-add-mod}
 use lib.Bits.{bitXor}

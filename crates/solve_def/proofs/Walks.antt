@@ -8,6 +8,7 @@ use native.Mathlib.Omega.{arith}
 use native.Mathlib.Decide.{ℕ-discrete}
 use lib.ListN.{length, getD, set, List·getD-eq-default}
 use lib.Seq.{ext-getD, getD-set-same, getD-set-other}
+use Rattle.num_bytes.proofs.Filled.{getD-any}
 use Rattle.plant_def.specs.declared.Stream.{Stream}
 use Rattle.plant_def.specs.Limits.{places, maxStreams}
 use Rattle.flow_def.specs.Flows.{streamAt}
@@ -15,7 +16,7 @@ use Rattle.solve_def.specs.Sizes.{numbering, farthest, far}
 use Rattle.solve_def.specs.Search.{fallen, loweredBy, farEnd}
 use Rattle.solve_def.specs.Near.{codeOf, nearestTo, fallenBy}
 use Rattle.solve_def.proofs.Elements.{lowered-at, lowered-long}
-use Rattle.solve_def.proofs.Filling.{getD-any, fallen-at, fallen-long}
+use Rattle.solve_def.proofs.Filling.{fallen-at, fallen-long}
 use Rattle.solve_def.proofs.Least.{startIn, endIn}
 use Rattle.solve_def.proofs.Nearing.{nearest-is, nearest-least, tailOf, headOf, overOf, Leads, Nears}
 

@@ -9,6 +9,7 @@ use lib.Dec.{ltb}
 use lib.ListN.{length, getD, set, replicate, length-set, length-replicate}
 use Rattle.num_bytes.specs.Choice.{pick}
 use Rattle.num_bytes.proofs.Tests.{by-cases}
+use Rattle.num_bytes.proofs.Filled.{getD-any}
 use Rattle.plant_def.specs.Limits.{places}
 use Rattle.solve_def.specs.declared.Spot.{Spot}
 use Rattle.solve_def.specs.declared.Tree.{Tree}
@@ -17,7 +18,7 @@ use Rattle.solve_def.specs.Sizes.{searchRounds, far, numbering}
 use Rattle.solve_def.specs.Search.{rootAt, addedTo}
 use Rattle.solve_def.specs.Near.{nearestTo, nearestWithin, goalAt, walkedBy}
 use Rattle.solve_def.specs.Fringe.{Fringe, Stepped}
-use Rattle.solve_def.proofs.Filling.{getD-any, relaxed-all-long}
+use Rattle.solve_def.proofs.Filling.{relaxed-all-long}
 use Rattle.solve_def.proofs.Nearing.{nearest-is}
 use Rattle.solve_def.proofs.Steps.{within-is, step-none}
 use Rattle.solve_def.proofs.Rounding.{goal-hit, goal-miss}

@@ -9,7 +9,7 @@ use lib.Dec.{eqb, ltb}
 use lib.ListN.{length, getD, take}
 use lib.Seq.{getD-take}
 use Rattle.num_bytes.specs.Choice.{pick}
-use Rattle.num_bytes.proofs.Tests.{clash}
+use Rattle.num_bytes.proofs.Tests.{clash, and-none}
 use Rattle.plant_def.specs.declared.Stream.{Stream}
 use Rattle.plant_def.specs.Limits.{maxUnits}
 use Rattle.plant_def.specs.Plants.{noStream}
@@ -111,12 +111,8 @@ module _ (streams : List Stream) (n : ℕ) (w : Network streams n) (rs : List �
       abbrev test : Bool
       test = ltb 0 (getD rs (4 * i) 0) && eqb (getD (reducedCosts ls ms ps false) i 0) 0
 
-      none : (b : Bool) → b && false ≡ false
-      none true = refl
-      none false = refl
-
       free : streamAt (take n streams) i .metered && ltb i i ≡ false
-      free = rw (le-ltb i i (omega arith)) (none (streamAt (take n streams) i .metered))
+      free = rw (le-ltb i i (omega arith)) (and-none (streamAt (take n streams) i .metered))
 
       margin-reduced : getD (reducedCosts ls ms ps false) i 0 ≡ lack streams n w ps i l xs
       margin-reduced = reduced streams n xs ps 1 i ls rs ms laid mg wk .back i l ∙ rw (free, stream-is streams n i l)

@@ -11,11 +11,11 @@ use Rattle.num_bytes.specs.Choice.{pick}
 use Rattle.num_bytes.specs.Inner.{values}
 use Rattle.plant_def.specs.declared.Stream.{Stream}
 use Rattle.num_bytes.specs.Sums.{bit, countTo}
-use Rattle.flow_def.specs.Certificate.{every}
 use Rattle.num_bytes.proofs.Lists.{values-at, values-same}
 use Rattle.flow_def.proofs.Labels.{labels-same}
 use Rattle.flow_def.specs.Metering.{chosen}
 use Rattle.num_bytes.proofs.Counts.{count-same, count-front}
+use Rattle.flow_def.proofs.Certified.{every-same}
 use Rattle.survey_def.specs.Layouts.{size, setsOf}
 use Rattle.survey_def.specs.Inner.{bitOff, eachMeets, countBelow}
 use Rattle.survey_def.proofs.Deciding.{leftOut, eachJoins}
@@ -61,10 +61,6 @@ sets-by-number (suc n) test =
 size-values : (n : ℕ) (f : ℕ → Bool) → size (values n f) ≡ countTo n f
 size-values zero f = refl
 size-values (suc n) f = omega (arith, size-values n (λ k. f (suc k)), count-front n f)
-
-every-same : (n : ℕ) (f g : ℕ → Bool) → ((k : ℕ) → k < n → f k ≡ g k) → every n f ≡ every n g
-every-same zero f g e = refl
-every-same (suc n) f g e = rw (e n (omega arith), every-same n f g (λ k l. e k (omega arith)))
 
 bits-join : (ss : List Stream) (m : ℕ) → eachJoins (setAt (length ss) m) ss ≡ eachMeets m ss
 bits-join ss m =

@@ -41,12 +41,6 @@ used c p w = rw (← counted w, ← c .before .before .before .count-of .ensures
 low : (c : tie.In-loop Inv-loop μ-loop) → c .before .loop .i < 96
 low c = let w = begin c .pre in few (w .1) _ (used c (w .0) (w .1))
 
-count-of-requires : tie.Need-count-of-requires Inv-loop μ-loop
-count-of-requires c κs = search needs
-
-own-numbers-requires : tie.Need-own-numbers-requires Inv-loop μ-loop
-own-numbers-requires c κs = search needs
-
 loop-holds : tie.Need-loop-holds Inv-loop μ-loop
 loop-holds c = (omega arith, λ p w. passed-none _ _ (c .own-numbers .ensures))
 
@@ -112,12 +106,6 @@ pass-requires c κs =
     let h = took .taken-by .ensures _ (runs ends p w) (metered-at w _ l) in
     (u-in ends, v-in ends, labels-all (w .accepted) inv, sides-all (w .accepted) inv, taken-in (w .accepted) inv l _ h)
 
-add-i : tie.Need-add-i Inv-loop μ-loop
-add-i c = search needs
-
-loop-less : tie.Need-loop-less Inv-loop μ-loop
-loop-less c = search needs
-
 loop-again : tie.Need-loop-again Inv-loop μ-loop
 loop-again c =
     let took = c .before .before .before in
@@ -142,24 +130,6 @@ returns c = λ p w.
 pub bridges-of-spec : {M : Type 1} → statement M
 bridges-of-spec =
     tie.close
-    (tie.spec
-    Inv-loop
-    μ-loop
-    count-of-requires
-    own-numbers-requires
-    loop-holds
-    mul-end-at
-    end-at-requires
-    mul-end-at-2
-    add-end-at
-    end-at-requires-2
-    mul-metered
-    mul-metered-2
-    element-copy-out-metered
-    taken-by-requires
-    array-write-taken
-    pass-requires
-    add-i
-    loop-less
-    loop-again
-    returns)
+    (tie.spec Inv-loop μ-loop (λ c κs. search needs) (λ c κs. search needs) loop-holds mul-end-at end-at-requires
+    mul-end-at-2 add-end-at end-at-requires-2 mul-metered mul-metered-2 element-copy-out-metered taken-by-requires
+    array-write-taken pass-requires (λ c. search needs) (λ c. search needs) loop-again returns)

@@ -61,9 +61,6 @@ light c =
     let l = used c p w in
     rw (weight-at w _ l) (weight-most _ (stream-within p (w .accepted) _ l))
 
-count-of-requires : tie.Need-count-of-requires Inv-loop μ-loop
-count-of-requires c κs = search needs
-
 loop-holds : tie.Need-loop-holds Inv-loop μ-loop
 loop-holds c = (omega arith, λ p w q. (written-none (length-replicate {A = Entry} maxStreams (c .blank-entry .result)), weighed-none p))
 
@@ -105,9 +102,6 @@ class-of-requires c κs =
     let l = used on p w in
     (rw (v .before .end-at .ensures) (from-low w _ l), rw (v .end-at2 .ensures) (to-low w _ l), q .grouped .long, q .low _ l)
 
-adjusted-weight-requires : tie.Need-adjusted-weight-requires Inv-loop μ-loop
-adjusted-weight-requires c κs = search needs
-
 add-weights : tie.Need-add-weights Inv-loop μ-loop
 add-weights c =
     let on = c .before .before .before .before .before .before in
@@ -126,21 +120,6 @@ opened-flow-requires c κs =
     let weighed = c .before .before .before in
     let on = weighed .before .before .before .before in
     begin on .pre .1 _ (low on)
-
-entry-of-requires : tie.Need-entry-of-requires Inv-loop μ-loop
-entry-of-requires c κs = search needs
-
-mul-streams : tie.Need-mul-streams Inv-loop μ-loop
-mul-streams c = search needs
-
-array-set-from-streams : tie.Need-array-set-from-streams Inv-loop μ-loop
-array-set-from-streams c = search needs
-
-add-i : tie.Need-add-i Inv-loop μ-loop
-add-i c = search needs
-
-loop-less : tie.Need-loop-less Inv-loop μ-loop
-loop-less c = search needs
 
 -- A turn, for a plant that was laid.
 module _ (c : tie.After-class-of Inv-loop μ-loop) where
@@ -206,31 +185,8 @@ returns c =
 pub enter-spec : {M : Type 1} → statement M
 enter-spec =
     tie.close
-    (tie.spec
-    Inv-loop
-    μ-loop
-    count-of-requires
-    (λ c κs. search needs)
-    loop-holds
-    mul-w
-    mul-w-2
-    element-copy-out-w
-    mul-end-at
-    end-at-requires
-    mul-end-at-2
-    add-end-at
-    end-at-requires-2
-    array-read-class-of
-    class-of-requires
-    adjusted-weight-requires
-    add-weights
-    mul-opened-flow
-    element-copy-out-opened-flow
-    opened-flow-requires
-    entry-of-requires
-    mul-streams
-    array-set-from-streams
-    add-i
-    loop-less
-    loop-again
+    (tie.spec Inv-loop μ-loop (λ c κs. search needs) (λ c κs. search needs) loop-holds mul-w mul-w-2 element-copy-out-w
+    mul-end-at end-at-requires mul-end-at-2 add-end-at end-at-requires-2 array-read-class-of class-of-requires
+    (λ c κs. search needs) add-weights mul-opened-flow element-copy-out-opened-flow opened-flow-requires
+    (λ c κs. search needs) (λ c. search needs) (λ c. search needs) (λ c. search needs) (λ c. search needs) loop-again
     returns)
