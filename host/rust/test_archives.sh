@@ -9,7 +9,7 @@ archive=target/staticlib/liblinked.a
 work=$PWD/target/host/archives
 rm -rf "$work"
 mkdir -p "$work"
-part() { sed -n "s/^#define WENGELUDO_VERSION_$1 //p" host/include/wengeludo.h; }
+part() { sed -n "s/^#define WENGELUDO_VERSION_$1 //p" host/include/wengeludo_balance.h; }
 major=$(part MAJOR) minor=$(part MINOR)
 calls=$(nm -g --defined-only "$archive" | awk '$2 == "T" { print $3 }' | grep -v '^wengeludo_version$')
 
