@@ -87,6 +87,7 @@ if part "texts that are made from lists and samples, and what is to be believed"
     python3 host/check/crate_list.py --check
     python3 host/check/edits.py --check
     python3 host/check/glossary.py
+    python3 host/check/legible.py
     python3 host/check/picture.py
     python3 host/check/believe.py | tail -1
     python3 host/check/names.py

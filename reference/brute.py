@@ -15,10 +15,9 @@ import sys
 import time
 from fractions import Fraction
 from itertools import combinations, product
-from pathlib import Path
 
-if not __package__:  # run by its path, and not as `python3 -m reference.brute`
-    sys.path[0] = str(Path(__file__).resolve().parent.parent)
+if not __package__:
+    import by_path  # started by its path
 
 from reference import charges, foreign, purchases, solver, visits
 from reference.solver import Plant, Stream

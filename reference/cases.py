@@ -26,8 +26,8 @@ then the bytes handed in, then those of the slice as they must be after the call
     6 KEPT      handed in: sheet; back: how many streams, the sheet's number, and at the front of a slice of 876 bytes the kind
                 of the total, the office, the cost (8), degrees, verdict and an entry for each stream
     7 TRANSLATOR  handed in: transmitter file; back: `written`, the plant file in the slice
-    8 CLOSING   handed in: the 33 potentials of the places as the solver holds them, 8 bytes each; back: the same after they
-                were closed up where one was below the floor, in a slice of 264 bytes
+    8 COMPRESSION  handed in: the 33 potentials of the places as the solver holds them, 8 bytes each; back: the same after they
+                were compressed where one was below the floor, in a slice of 264 bytes
     9 FORTH     handed in: plant file; back: `written`, the plant file in the ranged form in the slice
     10 HOME     handed in: plant file; back: `written`, the plant file moved home in the slice
     11 BUYING   handed in: how many prices (2), the prices (4 each), then the plant file; back: how many streams are to be
@@ -60,7 +60,7 @@ is another, no place may be marked. So no case tells a set.
 
 from typing import NamedTuple
 
-SHEET, READER, WRITER, UNHINTED, LISTING, KEPT, TRANSLATOR, CLOSING, FORTH, HOME = 1, 2, 3, 4, 5, 6, 7, 8, 9, 10
+SHEET, READER, WRITER, UNHINTED, LISTING, KEPT, TRANSLATOR, COMPRESSION, FORTH, HOME = 1, 2, 3, 4, 5, 6, 7, 8, 9, 10
 BUYING = 11
 SURVEY, LAYOUTS = 12, 13
 VISITS, VISIT_TEXT = 14, 15

@@ -17,8 +17,8 @@ import time
 from fractions import Fraction
 from typing import NamedTuple
 
-if not __package__:  # run by its path, and not as `python3 -m reference.desk_tool`
-    sys.path[0] = str(pathlib.Path(__file__).resolve().parent.parent)
+if not __package__:
+    import by_path  # started by its path
 
 from reference import brute, cases, solver
 

@@ -10,8 +10,8 @@ import sys
 import time
 from pathlib import Path
 
-if not __package__:  # run by its path, and not as `python3 -m reference.make_cases`
-    sys.path[0] = str(Path(__file__).resolve().parent.parent)
+if not __package__:
+    import by_path  # started by its path
 
 from reference import cases, samples, subjects
 

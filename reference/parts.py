@@ -191,8 +191,8 @@ class Move(NamedTuple):
         return meant(self, cases.Record(call, self.file, self.slice_length, file, self.filling, returned=number, count=written))
 
 
-class Closing(NamedTuple):
-    """The closing of potentials: before, and after."""
+class Compression(NamedTuple):
+    """The compression of potentials: before, and after."""
 
     before: tuple
     after: tuple
@@ -200,7 +200,7 @@ class Closing(NamedTuple):
 
     def record(self):
         given, answer = (b"".join(cases.number(potential, 8) for potential in potentials) for potentials in (self.before, self.after))
-        return meant(self, cases.Record(cases.CLOSING, given, len(answer), answer))
+        return meant(self, cases.Record(cases.COMPRESSION, given, len(answer), answer))
 
 
 class Buying(NamedTuple):

@@ -3,15 +3,13 @@
     python3 reference/published_to_try.py    the sheets of these examples, beside the published figures
 """
 
-import sys
-from pathlib import Path
 from typing import NamedTuple
 
-if not __package__:  # run by its path, and not as `python3 -m reference.published_to_try`
-    sys.path[0] = str(Path(__file__).resolve().parent.parent)
+if not __package__:
+    import by_path  # started by its path
 
-from reference import solver  # noqa: E402
-from reference.parts import metered, plant_file, ranged, taken, unmetered  # noqa: E402
+from reference import solver
+from reference.parts import metered, plant_file, ranged, taken, unmetered
 
 
 class Example(NamedTuple):

@@ -3,7 +3,7 @@
 import math
 
 from reference import (
-    charges_to_try, close_to_try, closings_to_try, files_to_try, foreign, foreign_to_try, layouts_to_try, moves_to_try,
+    charges_to_try, close_to_try, compressions_to_try, files_to_try, foreign, foreign_to_try, layouts_to_try, moves_to_try,
     offices_to_try, plants_to_try, published_to_try, purchases_to_try, ranges_to_try, refusals, samples, shapes, sheets_to_try, signals_to_try,
     solver, visits_to_try
 )
@@ -333,7 +333,7 @@ SUBJECTS = (
     ("range_limits", ranges_to_try.range_limits),
     ("range_files", ranges_to_try.range_files),
     ("range_phases", ranges_to_try.unhinted_ranges),
-    ("closings", closings_to_try.closings),
+    ("compressions", compressions_to_try.compressions),
     ("moves", moves_to_try.moves_made),
     ("moved_sheets", moves_to_try.moved_sheets),
     ("close", close_to_try.close),

@@ -7,10 +7,9 @@ cycle of ones improves it (README.md says why it then costs the least). No tie i
 """
 
 import sys
-from pathlib import Path
 
-if not __package__:  # run by its path, and not as `python3 -m reference.visits`
-    sys.path[0] = str(Path(__file__).resolve().parent.parent)
+if not __package__:
+    import by_path  # started by its path
 
 from reference import solver
 from reference.solver import FILE_LENGTH, MOST_COST, Stream

@@ -16,8 +16,8 @@ import re
 import sys
 
 ROOT = os.path.abspath(os.path.join(os.path.dirname(__file__), '..', '..'))
-TEXTS = ['README.md', 'docs/*.md', 'samples/README.md', 'reference/README.md', 'desk/README.md', 'bindings/python/README.md',
-         'host/include/*.h', 'test_all.sh', '.ci/run']
+TEXTS = ['README.md', 'CONTRIBUTING.md', 'docs/*.md', 'samples/README.md', 'reference/README.md', 'desk/README.md',
+         'bindings/python/README.md', 'host/include/*.h', 'test_all.sh', '.ci/run']
 FOLDERS = r'(?:crates|docs|host|reference|samples|desk|bindings|\.ci)'
 PATH = re.compile(r'(?<![\w/.$-])' + FOLDERS + r'/[\w./{},*-]*[\w}*]')
 CODE = re.compile(r'`([^`\n]+)`')

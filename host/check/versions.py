@@ -18,6 +18,7 @@ PLACES = [
 ]
 # These are made elsewhere in the repository, and looked at where they are.
 PYTHON = [(f'{folder}/pyproject.toml', r'^version = "(\d+)\.(\d+)\.(\d+)"') for folder in ('bindings/python', 'desk')]
+PYTHON.append(('desk/src/wengeludo/__init__.py', r'^__version__ = "(\d+)\.(\d+)\.(\d+)"'))
 
 
 def numbers(told):

@@ -9,6 +9,8 @@ archive=target/staticlib/liblinked.a
 work=$PWD/target/host/archives
 rm -rf "$work"
 mkdir -p "$work"
+part() { sed -n "s/^#define WENGELUDO_VERSION_$1 //p" host/include/wengeludo_balance.h; }
+major=$(part MAJOR) minor=$(part MINOR)
 calls=$(nm -g --defined-only "$archive" | awk '$2 == "T" { print $3 }' | grep -v '^wengeludo_version$')
 
 made() { # folder, version or none: an archive whose calls return 99
@@ -31,15 +33,15 @@ refused() { # folder, what must be said
     grep -qF "$2" "$work/log" || { echo "test_archives: the build with $1 does not say '$2':" >&2; cat "$work/log" >&2; exit 1; }
 }
 
-made returns_99 10000
+made returns_99 $((10000 * major + 100 * minor))
 crate returns_99 test --test unknown_number -- --ignored 2>"$work/log" >&2 || { cat "$work/log" >&2; exit 1; }
 grep -q '1 passed' "$work/log" || { cat "$work/log" >&2; exit 1; }
-made later_minor 10100
+made later_minor $((10000 * major + 100 * minor + 100))
 crate later_minor build
-made another_major 20000
-refused another_major "liblinked.a is version 2.0.0; this crate needs 1.0 or a later 1"
+made another_major $((10000 * major + 10000))
+refused another_major "liblinked.a is version $((major + 1)).0.0; this crate needs $major.$minor or a later $major"
 made no_version none
 refused no_version "liblinked.a is older than 1.0.0"
 mkdir "$work/none"
 refused none "neither liblinked.a nor libwengeludo.a in"
-echo "rust crate: fails closed at 99; takes 1.1.0; refuses 2.0.0, an archive without a version, and none"
+echo "rust crate: fails closed at 99; takes $major.$((minor + 1)).0; refuses $((major + 1)).0.0, an archive without a version, and none"

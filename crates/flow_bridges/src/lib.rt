@@ -1,6 +1,6 @@
 // The streams that join two groups, in one pass, and on which side of each a place lies.
 use flow_components;
-use flow_def::Cuts;
+use flow_def::Bridges;
 use plant_def::limits::MAX_STREAMS;
 use plant_def::limits::PLACES;
 use solve_arcs::ARCS;
@@ -16,10 +16,10 @@ ghost use lib.Dec.{eqb};
 ghost use Rattle.plant_def.specs.declared.Plant.{Plant};
 ghost use Rattle.plant_def.specs.declared.Stream.{Stream};
 ghost use Rattle.plant_def.specs.Limits.{places};
-ghost use Rattle.flow_def.specs.Sides.{takenBy, apart, loopedBy, turned, parted};
+ghost use Rattle.flow_def.specs.Sides.{takenBy, wayBetween, loopedBy, turned, parted};
 ghost use mathlib.Core.Bool.{not};
 ghost use Rattle.flow_def.specs.Groups.{StepSays};
-ghost use Rattle.flow_def.specs.Calls.{Cutting};
+ghost use Rattle.flow_def.specs.Calls.{Bridging};
 ghost use Rattle.solve_arcs_fill.specs.Plants.{LaidOf};
 ghost use Rattle.flow_bridges.specs.Runs.{Runs};
 
@@ -45,7 +45,7 @@ fn taken_by(labels: &[u8; PLACES], u: usize, v: usize, metered: bool) -> u8
 // The streams on the way between two places, by their bits.
 fn way_between(sides: &[u64; PLACES], u: usize, v: usize) -> u64
     requires { ⌜ (u < places) × (v < places) × (length (now sides) ≡ places) ⌝ }
-    ensures { λ r. ⌜ ((s : Stream) → Runs s u v → r ≡ apart (now (sides .entry)) s) ⌝ }
+    ensures { λ r. ⌜ ((s : Stream) → Runs s u v → r ≡ wayBetween (now (sides .entry)) s) ⌝ }
 {
     sides[u] ^ sides[v]
 }
@@ -120,9 +120,9 @@ fn pass(
 }
 
 // The labels by the unmetered streams, those that the streams take away, and the loops.
-pub fn cuts_of(arcs: &[u8; ARCS], rows: &[u64; ROWS]) -> Cuts
+pub fn bridges_of(arcs: &[u8; ARCS], rows: &[u64; ROWS]) -> Bridges
     requires { ⌜ ((p : Plant) × LaidOf p (now arcs) (now rows)) ⌝ }
-    ensures { λ r. ⌜ ((p : Plant) → LaidOf p (now (arcs .entry)) (now (rows .entry)) → Cutting p r) ⌝ }
+    ensures { λ r. ⌜ ((p : Plant) → LaidOf p (now (arcs .entry)) (now (rows .entry)) → Bridging p r) ⌝ }
 {
     let n = count_of(arcs);
     let mut labels = flow_components::own_numbers();
@@ -139,7 +139,7 @@ pub fn cuts_of(arcs: &[u8; ARCS], rows: &[u64; ROWS]) -> Cuts
         looped |= pass(&mut labels, &mut sides, u, v, metered, h);
         i += 1;
     }
-    Cuts {
+    Bridges {
         labels: labels,
         taken: taken,
         looped: looped,

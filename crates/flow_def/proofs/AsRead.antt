@@ -16,8 +16,8 @@ use Rattle.plant_def.specs.Within.{Within}
 use Rattle.flow_def.specs.Flows.{amountAt, balanced, inRange, allowedOver, square, nearest}
 use Rattle.flow_def.specs.Chains.{unmeteredOnly, Chain}
 use Rattle.flow_def.specs.Certificate.{weightOf}
-use Rattle.flow_def.proofs.Integers.{Le, val, parts, canon, Z·diff, minus-val, size-val, size-none, minus-none, none-minus, ltZ-lt}
-use Rattle.flow_def.proofs.Sums.{sum-plus, sum-tight}
+use Rattle.num_bytes.proofs.Integers.{Le, val, parts, canon, Z·diff, minus-val, size-val, size-none, minus-none, none-minus, ltZ-lt}
+use Rattle.num_bytes.proofs.Sums.{sum-plus, sum-tight}
 use Rattle.flow_def.proofs.Reach.{chain-sym}
 use Rattle.flow_def.proofs.Nets.{countOf, streamOf, netOf, listed, listed-at, listed-balanced, balanced-nets}
 use Rattle.flow_def.proofs.Routes.{only, only-at, only-off, brought-ends, net-plus, net-only, Route, route}
@@ -25,7 +25,7 @@ use Rattle.flow_def.proofs.Ranges.{range-says, range-holds, nearest-in,
 use Rattle.flow_def.proofs.Potentials.{shareOver}
 use Rattle.flow_def.specs.Least.{LeastInFractions}
 use Rattle.flow_def.proofs.Mixing.{times-le, times-range}
-use Rattle.flow_def.proofs.Near.{no-square, cost-sum, gap-at, gap-cost}
+use Rattle.flow_def.proofs.Near.{no-square, cost-sum, difference-at, difference-cost}
 
 -- Of amounts on one side of b, the nearer one is nearer.
 nearer-above : (a b y : ℤ) → Le b a → Le a y → natAbs (a -ℤ b) ≤ natAbs (y -ℤ b)
@@ -127,13 +127,13 @@ module _ (p : Plant) (w : Within p) (d : ℕ) (ys : List ℤ) (m : LeastInFracti
       (λ q. rw q (omega arith))
 
   abbrev gap : ℕ → ℤ
-  gap = gap-at p w d ys m moved moved-allowed
+  gap = difference-at p w d ys m moved moved-allowed
 
   none : pos (share moved i) ≡ gap i +ℤ pos (share ys i)
   none =
       sum-tight (countOf p) (λ k. pos (share moved k)) (λ k. gap k +ℤ pos (share ys k)) (λ k h. omega (arith, no-dearer k h))
       (rw (sum-plus (countOf p) gap (λ k. pos (share ys k)), cost-sum p d ys (m .allowed), cost-sum p d moved moved-allowed)
-      (gap-cost p w d ys m moved moved-allowed)) i l
+      (difference-cost p w d ys m moved moved-allowed)) i l
 
   -- So it was there.
   pub as-read : amountAt ys i ≡ pos d *ℤ nearest (streamOf p i)

@@ -26,21 +26,25 @@ abbrev pub NoneOfClass : Plant → Type 0
 NoneOfClass p = (i : ℕ) → i < length (p .streams) → classOf p i ≡ Withheld → ⊥
 
 module _ (p : Plant) (w : Within p) where
+  -- Nothing withheld, said of flows: no stream has the class,
   pub none→classes : NoneWithheld p → NoneOfClass p
   none→classes n i l e =
       let u : Unmetered p i = record { listed = l; unmetered = class-means p i Withheld e .0 } in
       let d = blank-of p w i u .0 e in
       d .3 (n i u (d .0) (d .1) (d .2))
 
+  -- and the other way.
   pub classes→none : NoneOfClass p → NoneWithheld p
   classes→none n i u =
       number-of p w i u .0
       (by-cases (onLoop p i) (λ o. absurd (n i (u .listed) (rw (u .unmetered, o)))) (λ o. rw (u .unmetered, o)))
 
+  -- Nothing withheld: the unmetered streams have no loop,
   pub none→free : NoneWithheld p → Free unmeteredOnly (p .streams)
   none→free n i l t c =
       none→classes n i l (rw (not-true (streamAt (p .streams) i .metered) t, chain→joined (unmeteredBut i) p (inside p w) c))
 
+  -- and the other way.
   pub free→none : Free unmeteredOnly (p .streams) → NoneWithheld p
   free→none f = classes→none (λ i l e.
       let c = class-means p i Withheld e in

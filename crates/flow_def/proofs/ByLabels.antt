@@ -22,7 +22,7 @@ use Rattle.flow_def.specs.Chains.{unmeteredOnly}
 use Rattle.flow_def.specs.Labels.{labelsAfter, labelsOf, oneLabel}
 use Rattle.flow_def.proofs.Reach.{Inside, chain-map, chain→joined, joined-self}
 use Rattle.flow_def.proofs.Labels.{label→chain, label-joined, labels-same}
-use Rattle.flow_def.proofs.Lists.{values-long, values-at, Written}
+use Rattle.num_bytes.proofs.Lists.{values-long, values-at, Written}
 
 module _ (p : Plant) (small : p .units ≤ maxUnits) (w : Inside (p .units) (p .streams)) (i : ℕ) (l : i < length (p .streams)) where
   -- A metered stream, by whether its ends have one label.

@@ -24,27 +24,31 @@ use Rattle.flow_def.specs.Flows.{streamAt}
 use Rattle.flow_def.specs.Classes.{has, joinedTo, unmeteredBut, classOf}
 use Rattle.flow_def.specs.Chains.{unmeteredOnly, Chain}
 use Rattle.flow_def.specs.Labels.{relabelled, stepped, labelsAfter, oneLabel}
-use Rattle.flow_def.specs.Sides.{bit, apart, takenBy, loopedBy, turned, parted, takenAt, sidesAfter, loopedAfter}
-use Rattle.flow_def.specs.declared.Cuts.{Cuts}
-use Rattle.flow_def.specs.Calls.{Cutting, classIn}
+use Rattle.num_bytes.specs.Sums.{bit}
+use Rattle.flow_def.specs.Sides.{wayBetween, takenBy, loopedBy, turned, parted, takenAt, sidesAfter, loopedAfter}
+use Rattle.flow_def.specs.declared.Bridges.{Bridges}
+use Rattle.flow_def.specs.Calls.{Bridging, classIn}
 use Rattle.flow_def.proofs.Reach.{Inside, joined→chain, chain→joined}
 use Rattle.flow_def.proofs.Labels.{min-max, stepped-none, stepped-one, labelling, label→chain}
 use Rattle.flow_def.proofs.Grouping.{labels-are}
-use Rattle.flow_def.proofs.Lists.{values-long, values-at, Written, written-all}
+use Rattle.num_bytes.proofs.Lists.{values-long, values-at, Written, written-all}
 use Rattle.flow_def.proofs.Nets.{inside-of}
 use Rattle.flow_def.proofs.ByLabels.{class-metered, class-joined, same-before}
-use Rattle.flow_def.proofs.Binary.{bit-zero, bit-one, bit-or}
-use Rattle.flow_def.proofs.Parted.{chain-level, Loose, label, side, Cut, Parted, part-metered, part-joined}
+use Rattle.num_bytes.proofs.Binary.{bit-zero, bit-one, bit-or}
+use Rattle.flow_def.proofs.Parted.{chain-level, Loose, label, side, Bridge, Parted, part-metered, part-joined}
 use Rattle.flow_def.proofs.Parting.{part-joining}
 
 -- What a stream does, by whether it is metered and whether its ends have one label.
 module _ (ls : List ℕ) (s : Stream) where
+  -- A metered stream takes no label away,
   pub taken-metered : s .metered ≡ true → 0 ≡ takenBy ls s
   taken-metered m = rw m refl
 
+  -- nor does one whose ends have one label;
   pub taken-one : s .metered ≡ false → oneLabel ls (s .from) (s .to) ≡ true → 0 ≡ takenBy ls s
   taken-one m o = rw (m, o) refl
 
+  -- one that joins two groups takes the higher label away.
   pub taken-joins : s .metered ≡ false → oneLabel ls (s .from) (s .to) ≡ false → max (label ls (s .from)) (label ls (s .to)) ≡ takenBy ls s
   taken-joins m o = rw (m, o) refl
 
@@ -56,26 +60,32 @@ module _ (ls : List ℕ) (s : Stream) where
       (omega (arith, le-max-left (label ls (s .from)) (label ls (s .to)), le-max-right (label ls (s .from)) (label ls (s .to))))
 
 module _ (ls sides : List ℕ) (s : Stream) where
+  -- A metered stream meets no loop;
   pub looped-metered : s .metered ≡ true → 0 ≡ loopedBy ls sides s
   looped-metered m = rw m refl
 
-  pub looped-one : s .metered ≡ false → oneLabel ls (s .from) (s .to) ≡ true → apart sides s ≡ loopedBy ls sides s
+  -- one whose ends have one label meets the loop of the streams that its ends lie apart by;
+  pub looped-one : s .metered ≡ false → oneLabel ls (s .from) (s .to) ≡ true → wayBetween sides s ≡ loopedBy ls sides s
   looped-one m o = rw (m, o) refl
 
+  -- one that joins two groups meets none.
   pub looped-joins : s .metered ≡ false → oneLabel ls (s .from) (s .to) ≡ false → 0 ≡ loopedBy ls sides s
   looped-joins m o = rw (m, o) refl
 
+  -- Where no label is taken away the sides stay;
   pub parted-none : (h : ℕ) → h ≡ 0 → sides ≡ parted h ls s sides
   parted-none h e = rw e refl
 
-  pub parted-some : (h : ℕ) → (h ≡ 0 → ⊥) → turned h (bitXor (apart sides s) (2 ^ h)) ls sides ≡ parted h ls s sides
+  -- where one is, the places of that label are turned.
+  pub parted-some : (h : ℕ) → (h ≡ 0 → ⊥) → turned h (bitXor (wayBetween sides s) (2 ^ h)) ls sides ≡ parted h ls s sides
   parted-some h e = rw (ne-eqb h 0 e) refl
 
--- A class by its cases.
+-- The class of a metered stream, by whether its ends have one label.
 pub in-metered : (ls : List ℕ) (s : Stream) (h looped : ℕ) → s .metered ≡ true → (b : Bool) → b ≡ oneLabel ls (s .from) (s .to)
     → pick b AsRead Adjusted ≡ classIn ls s h looped
 in-metered ls s h looped m b e = rw (m, e) refl
 
+-- The class of an unmetered stream, by whether its bit is among those of the loops.
 pub in-unmetered : (ls : List ℕ) (s : Stream) (h looped : ℕ) → s .metered ≡ false → (b : Bool) → bit h looped ≡ b
     → pick b Withheld Given ≡ classIn ls s h looped
 in-unmetered ls s h looped m b e = rw (m, e) refl
@@ -103,7 +113,7 @@ module _ (p : Plant) (small : p .units ≤ maxUnits) (w : Inside (p .units) (p .
   start = record {
     fresh = λ h u v p l e m. ap (bit h) (getD-replicate places v 0 0 m) ∙ bit-zero h;
     idle = λ h u p l e. bit-one h p;
-    cut = λ i l t. absurd (omega arith);
+    bridge = λ i l t. absurd (omega arith);
   }
 
   -- One step more.
@@ -142,7 +152,7 @@ module _ (p : Plant) (small : p .units ≤ maxUnits) (w : Inside (p .units) (p .
     abbrev Joined : ℕ → ℕ → Type 0
     Joined lo hi =
         lo ≤ hi → takenAt (p .streams) k ≡ hi
-        → Parted (p .streams) (suc k) (relabelled lo hi (labels k)) (turned hi (bitXor (apart sides s) (2 ^ hi)) (labels k) sides) met
+        → Parted (p .streams) (suc k) (relabelled lo hi (labels k)) (turned hi (bitXor (wayBetween sides s) (2 ^ hi)) (labels k) sides) met
 
     level : (j : ℕ) → j < k → Loose ss j
         → (streamAt ss j .from < places) × (streamAt ss j .to < places) × (label (labels k) (streamAt ss j .from) ≡ label (labels k) (streamAt ss j .to))
@@ -167,7 +177,7 @@ module _ (p : Plant) (small : p .units ≤ maxUnits) (w : Inside (p .units) (p .
         let taken : max x y ≡ takenAt (p .streams) k = taken-joins (labels k) s m o in
         let part = joined (eqb-false x y o) (le-trans (min-le-left x y) (le-max-left x y)) (sym taken) in
         let some = parted-some (labels k) sides s (takenAt (p .streams) k) (taken-some (labels k) s m o) in
-        let sides-next = ap (λ (h : ℕ). turned h (bitXor (apart sides s) (2 ^ h)) (labels k) sides) taken ∙ some in
+        let sides-next = ap (λ (h : ℕ). turned h (bitXor (wayBetween sides s) (2 ^ h)) (labels k) sides) taken ∙ some in
         moved (rw m refl) sides-next (met-none (looped-joins (labels k) sides s m o)) part
 
     next : Next
@@ -188,7 +198,7 @@ module _ (p : Plant) (small : p .units ≤ maxUnits) (w : Inside (p .units) (p .
     on-loop : Chain (unmeteredBut i) ss (streamAt ss i .from) (streamAt ss i .to) → Withheld ≡ classOf p i
     on-loop c = rw (loose, chain→joined (unmeteredBut i) p w c) refl
 
-    off-loop : (h : ℕ) → Cut ss (length ss) (labels (length ss)) (sidesAfter ss (length ss)) (loopedAfter ss (length ss)) i h
+    off-loop : (h : ℕ) → Bridge ss (length ss) (labels (length ss)) (sidesAfter ss (length ss)) (loopedAfter ss (length ss)) i h
         → bit h (loopedAfter ss (length ss)) ≡ false → Given ≡ classOf p i
     off-loop h c q =
         by-cases (has (streamAt ss i .to) (joinedTo (unmeteredBut i) p (streamAt ss i .from)))
@@ -210,7 +220,7 @@ module _ (p : Plant) (small : p .units ≤ maxUnits) (w : Inside (p .units) (p .
         by-cases (oneLabel (labels i) (streamAt ss i .from) (streamAt ss i .to))
         (λ o. rw (sym (taken-one (labels i) (streamAt ss i) loose o), none-met (length ss))
         (sym (class-joined p small w i l i (omega arith) loose (rw (← same-before ss i) o))))
-        (λ o. let c = after (length ss) (omega arith) .cut i l (taken-some (labels i) (streamAt ss i) loose o) in
+        (λ o. let c = after (length ss) (omega arith) .bridge i l (taken-some (labels i) (streamAt ss i) loose o) in
         by-cases (bit (takenAt ss i) (loopedAfter ss (length ss))) (λ b. rw b (on-loop (c .loop b))) (λ b. rw b (off-loop (takenAt ss i) c b)))
 
   -- A stream takes a place's number away.
@@ -226,22 +236,24 @@ module _ (p : Plant) (small : p .units ≤ maxUnits) (w : Inside (p .units) (p .
 parted-long : (h : ℕ) (ls : List ℕ) (s : Stream) (sides : List ℕ) → length sides ≡ places → length (parted h ls s sides) ≡ places
 parted-long h ls s sides l =
     by-cases (eqb h 0) (λ e. rw e l)
-    (λ e. rw e (values-long {A = ℕ} (λ u. pick (eqb (getD ls u 0) h) (bitXor (getD sides u 0) (bitXor (apart sides s) (2 ^ h))) (getD sides u 0)) places))
+    (λ e. rw e (values-long {A = ℕ} (λ u. pick (eqb (getD ls u 0) h) (bitXor (getD sides u 0) (bitXor (wayBetween sides s) (2 ^ h))) (getD sides u 0)) places))
 
+-- The list of sides has one entry for each place.
 pub sides-long : (ss : List Stream) (k : ℕ) → length (sidesAfter ss k) ≡ places
 unfolding sidesAfter
 sides-long ss zero = length-replicate {A = ℕ} places 0
 sides-long ss (suc k) = parted-long (takenAt ss k) (labelsAfter unmeteredOnly ss k) (streamAt ss k) (sidesAfter ss k) (sides-long ss k)
 
 -- The same of the streams of an array.
-module _ {p : Arrays.Plant} {cuts : Cuts} (a : Accepted p) (c : Cutting p cuts) where
+module _ {p : Arrays.Plant} {bridges : Bridges} (a : Accepted p) (c : Bridging p bridges) where
+  -- The class found by labels and sides is the class of the definition.
   pub class-in : (i : ℕ) → i < p .count
-      → classIn (cuts .labels) (getD (p .streams) i noStream) (getD (cuts .taken) i 0) (cuts .looped) ≡ classOf (plantOf p) i
+      → classIn (bridges .labels) (getD (p .streams) i noStream) (getD (bridges .taken) i 0) (bridges .looped) ≡ classOf (plantOf p) i
   class-in i l =
       by-cases (getD (p .streams) i noStream .metered)
-      (λ t. sym (in-metered (cuts .labels) (getD (p .streams) i noStream) (getD (cuts .taken) i 0) (cuts .looped) t _ refl)
+      (λ t. sym (in-metered (bridges .labels) (getD (p .streams) i noStream) (getD (bridges .taken) i 0) (bridges .looped) t _ refl)
       ∙ rw (← at, labels-are p a unmeteredOnly _ (c .grouped)) (class-metered (plantOf p) (a .within .few-units) (inside-of p a) i listed (rw at t)))
-      (λ t. sym (in-unmetered (cuts .labels) (getD (p .streams) i noStream) (getD (cuts .taken) i 0) (cuts .looped) t _ refl)
+      (λ t. sym (in-unmetered (bridges .labels) (getD (p .streams) i noStream) (getD (bridges .taken) i 0) (bridges .looped) t _ refl)
       ∙ rw (c .each i l, all) (class-sides (plantOf p) (a .within .few-units) (inside-of p a) i listed (rw at t)))
     where
       at : streamAt (plantOf p .streams) i ≡ getD (p .streams) i noStream
@@ -250,7 +262,7 @@ module _ {p : Arrays.Plant} {cuts : Cuts} (a : Accepted p) (c : Cutting p cuts) 
       listed : i < length (plantOf p .streams)
       listed = omega (arith, all-listed p a)
 
-      all : cuts .looped ≡ loopedAfter (plantOf p .streams) (length (plantOf p .streams))
+      all : bridges .looped ≡ loopedAfter (plantOf p .streams) (length (plantOf p .streams))
       all = c .met ∙ ap (loopedAfter (plantOf p .streams)) (sym (all-listed p a))
 
 -- All places are turned.

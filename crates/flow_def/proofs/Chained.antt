@@ -17,8 +17,8 @@ use Rattle.flow_def.specs.declared.Class.the-variants.{Adjusted, AsRead,
 use Rattle.flow_def.specs.Flows.{streamAt, amountAt, balanced}
 use Rattle.flow_def.specs.Chains.{unmeteredOnly, Chain}
 use Rattle.flow_def.specs.Classes.{oneGroup, classOf}
-use Rattle.flow_def.proofs.Integers.{canon, Z·diff}
-use Rattle.flow_def.proofs.Sums.{sum-same, sum-times}
+use Rattle.num_bytes.proofs.Integers.{canon, Z·diff}
+use Rattle.num_bytes.proofs.Sums.{sum-same, sum-times}
 use Rattle.flow_def.proofs.Reach.{joined→chain, chain→joined}
 use Rattle.flow_def.proofs.Nets.{brought, inside, balanced-size, balanced-nets, listed, listed-size, listed-at, listed-balanced}
 use Rattle.flow_def.proofs.Given.{class-means, given-agree}
@@ -31,17 +31,18 @@ module _ (p : Plant) (w : Within p) (i : ℕ) (m : streamAt (p .streams) i .mete
   abbrev v : ℕ
   v = streamAt (p .streams) i .to
 
-  -- R exactly when a chain of unmetered streams joins its ends, A exactly when none does.
+  -- A metered stream is as read exactly when a chain of unmetered streams joins its ends.
   pub as-read-of : (classOf p i ≡ AsRead) ↔ Chain unmeteredOnly (p .streams) u v
   as-read-of = (λ e. joined→chain unmeteredOnly p u v (class-means p i AsRead e .1), λ c. rw (m, chain→joined unmeteredOnly p (inside p w) c))
 
+  -- A metered stream is adjusted exactly when no chain of unmetered streams joins its ends.
   pub adjusted-of : (classOf p i ≡ Adjusted) ↔ (Chain unmeteredOnly (p .streams) u v → ⊥)
   adjusted-of = (
     λ e c. clash (oneGroup p u v) (chain→joined unmeteredOnly p (inside p w) c) (class-means p i Adjusted e .1),
     λ f. by-cases (oneGroup p u v) (λ t. absurd (f (joined→chain unmeteredOnly p u v t))) (λ t. rw (m, t)),
   )
 
--- So many times a balanced flow is a balanced flow.
+-- What d times an amount brings a place is d times what the amount brings it.
 brought-times : (u : ℕ) (s : Stream) (d x : ℤ) → brought u s (d *ℤ x) ≡ d *ℤ brought u s x
 brought-times u s d x = go (eqb (s .to) u) (eqb (s .from) u)
   where
@@ -51,6 +52,7 @@ brought-times u s d x = go (eqb (s .to) u) (eqb (s .from) u)
     go false true = rw (← canon d, ← canon x) (simp Z·diff (omega arith))
     go false false = sym (*ℤ-zero d)
 
+-- A balanced flow times d is balanced.
 pub times-balanced : (p : Plant) → Within p → (xs : List ℤ) → balanced p xs ≡ true → (d : ℤ) → balanced p (listed p (λ k. d *ℤ amountAt xs k)) ≡ true
 times-balanced p w xs b d =
     listed-balanced p (λ k. d *ℤ amountAt xs k)

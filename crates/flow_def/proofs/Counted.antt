@@ -58,9 +58,10 @@ module _ (counts : Counting) (p : Plant) where
     no-longer : length us ≤ length vs
     no-longer =
         pigeons (length us) (length vs) (λ k. to k .0) (λ k l. to k .1 l .0)
-        (λ j k l h e. a .apart j k l h
+        (λ j k l h e. a .distinct j k l h
         (chain-trans (subst (λ (v : ℕ). Chain counts (p .streams) (getD us j 0) (getD vs v 0)) e (to j .1 l .1)) (chain-sym (to k .1 h .1))))
 
+  -- Each has a place for every place of the other, so neither is longer.
   pub one-length : (us vs : List ℕ) → OneEach counts p us → OneEach counts p vs → length us ≡ length vs
   one-length us vs a b = le-antisymm (no-longer us vs a b) (no-longer vs us b a)
 
@@ -149,6 +150,7 @@ module _ (counts : Counting) (p : Plant) (small : p .units ≤ maxUnits) (w : In
   owned : Owning (labelsOf counts p) (p .units) (owners (labelsOf counts p) (p .units))
   owned = owning (labelsOf counts p) (omega (arith, label-low counts p small w 0 (omega arith))) (p .units)
 
+  -- Each set has one such place, and different ones have different sets.
   pub one-each : OneEach counts p (owners (labelsOf counts p) (p .units))
   one-each = record {
     place = owned .low;
@@ -156,17 +158,20 @@ module _ (counts : Counting) (p : Plant) (small : p .units ≤ maxUnits) (w : In
         let low : label u ≤ u = label-low counts p small w u (omega arith) in
         let a = owned .all (label u) (omega arith) (sym (one-label h (omega arith) (reach u h))) in
         (a .0, a .1, subst (Chain counts (p .streams) u) (sym (a .2)) (reach u h));
-    apart = λ j k l h c. owned .once j k l h (sym (owned .own j l) ∙ one-label (owned .low j l) (owned .low k h) c ∙ owned .own k h);
+    distinct = λ j k l h c. owned .once j k l h (sym (owned .own j l) ∙ one-label (owned .low j l) (owned .low k h) c ∙ owned .own k h);
   }
 
+  -- Any list with one place of each set is as long as the count of own labels.
   pub each-long : (us : List ℕ) → OneEach counts p us → length us ≡ ownLabels (labelsOf counts p) (p .units)
   each-long us a = one-length counts p us (owners (labelsOf counts p) (p .units)) a one-each ∙ owners-long (labelsOf counts p) (p .units)
 
 -- Of every plant within its limits: one place of each set, and degrees as groups less pieces.
 module _ (p : Plant) (w : Within p) where
+  -- There is such a list, for any streams that count.
   pub some-each : (counts : Counting) → (us : List ℕ) × OneEach counts p us
   some-each counts = (owners (labelsOf counts p) (p .units), one-each counts p (w .few-units) (inside p w))
 
+  -- Degrees, pieces added, are the groups.
   pub degrees-counted : (gs cs : List ℕ) → OneEach unmeteredOnly p gs → OneEach everyStream p cs → degrees p + length cs ≡ length gs
   degrees-counted gs cs a b =
       let g = each-long unmeteredOnly p (w .few-units) (inside p w) gs a in

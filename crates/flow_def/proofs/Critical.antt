@@ -21,5 +21,6 @@ rising-at x (y ∷ []) k e h = absurd (omega arith)
 rising-at x (y ∷ z ∷ zs) zero e h = ltb-true y z (and-left (ltb y z) (rising z zs) (and-right (ltb x y) (rising y (z ∷ zs)) e))
 rising-at x (y ∷ z ∷ zs) (suc k) e h = rising-at y (z ∷ zs) k (and-right (ltb x y) (rising y (z ∷ zs)) e) (omega arith)
 
+-- Each critical value is above the one before it.
 pub critical-rises : (k : ℕ) → suc k < length critical → getD critical k 0 < getD critical (suc k) 0
 critical-rises k h = rising-at 0 critical k refl h

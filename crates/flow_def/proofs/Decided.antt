@@ -8,10 +8,8 @@ use Prim.Native.Nat.{ℕ}
 use native.Mathlib.Omega.{arith}
 use Rattle.num_bytes.proofs.Tests.{clash}
 use Rattle.plant_def.specs.Plants.{Plant}
-use Rattle.plant_def.specs.Files.{got, readPlant}
 use Rattle.plant_def.specs.Within.{Within}
-use Rattle.plant_def.proofs.Limited.{within}
-use Rattle.plant_def.proofs.Accepted.{accepted}
+use Rattle.plant_def.proofs.Accepted.{read-within}
 use Rattle.flow_def.specs.Flows.{allowed, Cheapest}
 use Rattle.flow_def.specs.Shown.{Shown, Demand-3}
 use Rattle.flow_def.specs.Overfull.{Overfull, Refusal-19}
@@ -22,6 +20,7 @@ use Rattle.flow_def.proofs.Nearness.{as-read, near}
 use Rattle.flow_def.proofs.Order.{one}
 use Rattle.flow_def.proofs.Overfull.{overfull-none}
 
+-- Either the cheapest flow with its certificate, or a set that shows that there is no flow in range.
 pub data Decided (p : Plant) : Type 0 where
   solved : (xs : List ℤ) (π : ℕ → ℤ) → Cheapest p xs → Certificate p xs π → Decided p
   full : (ms : List Bool) → Overfull p ms → Decided p
@@ -49,12 +48,11 @@ decided-either p (full ms o) = inr (ms, o)
 
 -- Where every plant within its limits is decided.
 module _ (decided : (p : Plant) → Within p → Decided p) where
-  read-within : (file : List ℕ) (p : Plant) → readPlant file ≡ got p → Within p
-  read-within file p e = within p (accepted file p e .0)
-
+  -- The customer's third demand holds,
   pub demand-3 : Demand-3
   demand-3 file p ys e a = let w = read-within file p e in decided-shown p w ys a (decided p w)
 
+  -- and a plant that is read has a cheapest flow or an overfull set, never both.
   pub refusal-19 : Refusal-19
   refusal-19 = record {
     either = λ file p e. decided-either p (decided p (read-within file p e));

@@ -44,13 +44,15 @@ module _ (counts : Counting) (p : Plant) (small : p .units ≤ maxUnits) (w : In
   leaders-own zero h = refl
   leaders-own (suc n) h = rw (lowest-own (suc n) h, leaders-own n (omega arith))
 
--- How many places bear their own label: counted on, and bounded.
+-- A place that bears its own label adds one to the count of own labels.
 pub own-more : (ls : List ℕ) (u : ℕ) → getD ls (u + 1) 0 ≡ u + 1 → ownLabels ls u + 1 ≡ ownLabels ls (u + 1)
 own-more ls u e = rw (add-one u) (rw (eq-eqb (getD ls (suc u) 0) (suc u) (rw (add-one u) at e)) (omega arith))
 
+-- A place that bears another label adds nothing to the count of own labels.
 pub own-stay : (ls : List ℕ) (u : ℕ) → (getD ls (u + 1) 0 ≡ u + 1 → ⊥) → ownLabels ls u ≡ ownLabels ls (u + 1)
 own-stay ls u e = rw (add-one u) (rw (ne-eqb (getD ls (suc u) 0) (suc u) (rw (add-one u) at e)) (omega arith))
 
+-- At most n + 1 of the places 0 to n bear their own label.
 pub own-most : (ls : List ℕ) (n : ℕ) → ownLabels ls n ≤ n + 1
 own-most ls zero = omega arith
 own-most ls (suc n) = omega (arith, own-most ls n, bit-most (eqb (getD ls (suc n) 0) (suc n)))
@@ -76,11 +78,14 @@ module _ (p : Plant) (small : p .units ≤ maxUnits) (w : Inside (p .units) (p .
       let own : eqb piece (suc n) ≡ true → eqb group (suc n) ≡ true = λ e. eq-eqb group (suc n) (own-every (suc n) h (eqb-true piece (suc n) e)) in
       omega (arith, bit-mono (eqb piece (suc n)) (eqb group (suc n)) own, pieces-few n (omega arith))
 
+  -- Pieces are not more than groups,
   pub pieces-le : ownLabels (labelsOf everyStream p) (p .units) ≤ ownLabels (labelsOf unmeteredOnly p) (p .units)
   pieces-le = pieces-few (p .units) (omega arith)
 
+  -- degrees are the groups less the pieces, both counted by own labels,
   pub degrees-own : degrees p ≡ ownLabels (labelsOf unmeteredOnly p) (p .units) - ownLabels (labelsOf everyStream p) (p .units)
   degrees-own = rw (leaders-own unmeteredOnly p small w (p .units) (omega arith), leaders-own everyStream p small w (p .units) (omega arith))
 
+  -- and at most as many as units may be.
   pub degrees-most : degrees p ≤ maxUnits
   degrees-most = omega (arith, degrees-own, own-most (labelsOf unmeteredOnly p) (p .units), own-least (labelsOf everyStream p) (p .units))

@@ -27,6 +27,7 @@ Means AsRead m g o = (m ≡ true) × (g ≡ true)
 Means Given m g o = (m ≡ false) × (o ≡ false)
 Means Withheld m g o = (m ≡ false) × (o ≡ true)
 
+-- Each class means what its definition says: metered or not, its ends in one group or not, on a loop or not.
 pub class-means : (p : Plant) (i : ℕ) (c : Class) → classOf p i ≡ c
     → let s = streamAt (p .streams) i in Means c (s .metered) (oneGroup p (s .from) (s .to)) (onLoop p i)
 class-means p i c e = let s = streamAt (p .streams) i in rw e at (go (s .metered) (oneGroup p (s .from) (s .to)) (onLoop p i))

@@ -1,5 +1,5 @@
 -- Groups in one pass: a step leads from the labels of groups to the labels of groups, and these are one list alone.
-use mathlib.Core.Path.{_≡_, refl, sym, _∙_}
+use mathlib.Core.Path.{_≡_, refl, sym, _∙_, ap}
 use mathlib.Core.Bool.{Bool}
 use mathlib.Core.List.{List}
 use Prim.Native.Nat.{ℕ, zero, suc, _+_, _≤_, _<_}
@@ -11,18 +11,18 @@ use lib.Seq.{ext-getD}
 use Rattle.plant_def.specs.declared.Stream.{Stream}
 use Rattle.plant_def.specs.declared.Plant as Arrays
 use Rattle.plant_def.specs.Limits.{places}
-use Rattle.plant_def.specs.Plants.{Plant}
+use Rattle.plant_def.specs.Plants.{Plant, noStream}
 use Rattle.plant_def.specs.Files.{got, readPlant}
 use Rattle.plant_def.specs.Within.{Within, Accepted}
 use Rattle.plant_def.specs.Says.{plantOf}
 use Rattle.plant_def.proofs.Limited.{within}
 use Rattle.plant_def.proofs.Accepted.{accepted}
-use Rattle.plant_def.proofs.Arrayed.{within-of, all-listed}
+use Rattle.plant_def.proofs.Arrayed.{within-of, all-listed, listed-at}
 use Rattle.flow_def.specs.Flows.{streamAt}
 use Rattle.flow_def.specs.Chains.{Counting, Chain}
 use Rattle.flow_def.specs.Groups.{Groups, AmongPlaces, StepSays, Pass, One-pass}
 use Rattle.flow_def.specs.Labels.{ownNumbers, stepped, labelsAfter, labelsOf}
-use Rattle.flow_def.proofs.Labels.{Labelling, start, step-on, after, chain→one, one→chain, first→all, all→first, among, stepped-none}
+use Rattle.flow_def.proofs.Labels.{Labelling, start, step-on, after, chain→one, one→chain, first→all, all→first, among, stepped-none, step-none, labels-long}
 use Rattle.flow_def.proofs.Nets.{inside}
 
 module _ {counts : Counting} {ss : List Stream} {k : ℕ} {ls : List ℕ} where
@@ -65,9 +65,11 @@ groups-none counts ss ls e = rw e (groups-of (start counts ss))
 
 -- The labels after k steps.
 module _ (counts : Counting) (ss : List Stream) (w : AmongPlaces ss) where
+  -- They are the labels of the groups of the first k streams.
   pub groups-after : (k : ℕ) → k ≤ length ss → Groups counts ss k (labelsAfter counts ss k)
   groups-after k h = groups-of (after counts ss w k h)
 
+  -- What a step promises of the labels after i streams allows one list alone: the labels after i + 1.
   pub step-said : (i : ℕ) (s : Stream) (ls next : List ℕ) (c : Bool) → i < length ss → ls ≡ labelsAfter counts ss i → streamAt ss i ≡ s → c ≡ counts i s
       → StepSays c s ls next → next ≡ labelsAfter counts ss (i + 1)
   step-said i s ls next c l e at q says =
@@ -85,12 +87,43 @@ module _ (counts : Counting) (ss : List Stream) (w : AmongPlaces ss) where
   passed labels g zero h = g .begins
   passed labels g (suc k) h = g .steps k (omega arith) .next counts ss k w (omega arith) refl refl (passed labels g k (omega arith))
 
--- Of a plant within its limits, and of one in an array.
+-- The ends of the streams of a plant within its limits are places.
 pub ends-of : (p : Plant) → Within p → AmongPlaces (p .streams)
 ends-of p w = among (p .units) (p .streams) (w .few-units) (inside p w)
 
+-- The ends of an accepted plant's streams are places.
 pub ends-in : (p : Arrays.Plant) → Accepted p → AmongPlaces (plantOf p .streams)
 ends-in p a = ends-of (plantOf p) (within-of p a)
+
+-- The labels after j steps over the streams of a plant in an array.
+pub record Labelled (counts : Counting) (p : Arrays.Plant) (ls : List ℕ) (j : ℕ) : Type 0 where
+  pub within : j ≤ p .count
+  pub are : ls ≡ labelsAfter counts (plantOf p .streams) j
+
+-- Before the first step.
+pub labelled-none : (counts : Counting) (p : Arrays.Plant) (ls : List ℕ) → ls ≡ ownNumbers → Labelled counts p ls 0
+labelled-none counts p ls e = record { within = omega arith; are = step-none counts (plantOf p .streams) ls e }
+
+module _ {counts : Counting} {p : Arrays.Plant} {ls : List ℕ} {j : ℕ} (g : Labelled counts p ls j) where
+  -- There are as many labels as places.
+  pub labelled-long : length ls ≡ places
+  labelled-long = ap length (g .are) ∙ labels-long counts (plantOf p .streams) j
+
+  module _ (a : Accepted p) where
+    -- One step more.
+    pub labelled-more : {c : Bool} {next : List ℕ} → j < p .count → c ≡ counts j (getD (p .streams) j noStream)
+        → StepSays c (getD (p .streams) j noStream) ls next → Labelled counts p next (j + 1)
+    labelled-more {c} {next} l q says = record {
+      within = omega arith;
+      are = step-said counts (plantOf p .streams) (ends-in p a) j (getD (p .streams) j noStream) ls next c (rw (all-listed p a) l) (g .are) (listed-at p a j l) q says;
+    }
+
+    -- After the last step.
+    pub labelled-all : p .count ≤ j → ls ≡ labelsAfter counts (plantOf p .streams) (length (plantOf p .streams))
+    labelled-all h =
+        let w = g .within in
+        let e : j ≡ p .count = omega arith in
+        g .are ∙ ap (labelsAfter counts (plantOf p .streams)) (e ∙ sym (all-listed p a))
 
 -- The labels after all steps, from those of the groups.
 pub labels-are : (p : Arrays.Plant) → Accepted p → (counts : Counting) (ls : List ℕ) → Groups counts (plantOf p .streams) (p .count) ls → ls ≡ labelsOf counts (plantOf p)

@@ -17,8 +17,8 @@ use Rattle.plant_def.specs.Within.{Within}
 use Rattle.plant_def.proofs.Limited.{within}
 use Rattle.flow_def.specs.Flows.{amountAt, inRange, allowedOver, square, costOver}
 use Rattle.flow_def.specs.Certificate.{weightOf, climb, every, listedPotential}
-use Rattle.flow_def.proofs.Integers.{up, dn, Le, Lt, val, canon, Z·diff, plus-val, minus-val, up-times, dn-times, product, leZ-le, lt-ltZ}
-use Rattle.flow_def.proofs.Sums.{sum, sum-same, sum-plus, sum-times, sum-le}
+use Rattle.num_bytes.proofs.Integers.{up, dn, Le, Lt, val, canon, Z·diff, plus-val, minus-val, up-times, dn-times, product, leZ-le, lt-ltZ}
+use Rattle.num_bytes.proofs.Sums.{sum, sum-same, sum-plus, sum-times, sum-le}
 use Rattle.flow_def.proofs.Nets.{countOf, streamOf, balanced-size, no-gain}
 use Rattle.flow_def.proofs.Ranges.{asked, answered, range-says, balanced-of, range-of}
 use Rattle.flow_def.proofs.Potentials.{shareOver, cost-is}
@@ -79,8 +79,8 @@ module _ (s : Stream) (d e : ℕ) (y z : ℤ) (i : inRange e s z ≡ true) where
 module _ (p : Plant) (w : Within p) (d : ℕ) (ys : List ℤ) (b : allowedOver d p ys ≡ true) (π : ℕ → ℤ)
     (x : (k : ℕ) → k < countOf p → exact d π (streamOf p k) (amountAt ys k) ≡ true) where
   module _ (e : ℕ) (zs : List ℤ) (z : allowedOver e p zs ≡ true) where
-    abbrev gap-at : ℕ → ℤ
-    gap-at k = pos d *ℤ amountAt zs k -ℤ pos e *ℤ amountAt ys k
+    abbrev difference-at : ℕ → ℤ
+    difference-at k = pos d *ℤ amountAt zs k -ℤ pos e *ℤ amountAt ys k
 
     abbrev below : ℕ → ℤ
     below k = amountAt ys k -ℤ pos d *ℤ streamOf p k .reading
@@ -90,10 +90,10 @@ module _ (p : Plant) (w : Within p) (d : ℕ) (ys : List ℤ) (b : allowedOver d
     kept k = pos (e * e) *ℤ pos (shareOver d (streamOf p k) (amountAt ys k))
 
     abbrev turned : ℕ → ℤ
-    turned k = pos (2 * e) *ℤ (pos (weightOf (streamOf p k)) *ℤ (below k *ℤ gap-at k))
+    turned k = pos (2 * e) *ℤ (pos (weightOf (streamOf p k)) *ℤ (below k *ℤ difference-at k))
 
     abbrev climbed : ℕ → ℤ
-    climbed k = pos e *ℤ (climb π (streamOf p k) *ℤ gap-at k)
+    climbed k = pos e *ℤ (climb π (streamOf p k) *ℤ difference-at k)
 
     abbrev left : ℕ → ℤ
     left k = kept k +ℤ climbed k
@@ -102,27 +102,27 @@ module _ (p : Plant) (w : Within p) (d : ℕ) (ys : List ℤ) (b : allowedOver d
     right k = pos (d * d) *ℤ pos (shareOver e (streamOf p k) (amountAt zs k))
 
     each : (k : ℕ) → k < countOf p → Le (left k) (right k)
-    each k l = more (left k) (right k) (kept k) (turned k) (weightOf s * square (gap-at k)) left-most right-is
+    each k l = more (left k) (right k) (kept k) (turned k) (weightOf s * square (difference-at k)) left-most right-is
       where
         s : Stream
         s = streamOf p k
 
-        right-is : right k ≡ kept k +ℤ (turned k +ℤ pos (weightOf (streamOf p k) * square (gap-at k)))
+        right-is : right k ≡ kept k +ℤ (turned k +ℤ pos (weightOf (streamOf p k) * square (difference-at k)))
         right-is =
             sym (times-share d (weightOf s) (amountAt zs k -ℤ pos e *ℤ s .reading))
             ∙ ap (λ (q : ℤ). pos (weightOf s * square q)) (cross-from d e (amountAt ys k) (amountAt zs k) (s .reading))
-            ∙ mixed-share e (weightOf s) (below k) (gap-at k)
+            ∙ mixed-share e (weightOf s) (below k) (difference-at k)
 
-        turned-is : pos e *ℤ (marginal d (streamOf p k) (amountAt ys k) *ℤ gap-at k) ≡ turned k
-        turned-is = climb-term e (weightOf s) (below k) (gap-at k)
+        turned-is : pos e *ℤ (marginal d (streamOf p k) (amountAt ys k) *ℤ difference-at k) ≡ turned k
+        turned-is = climb-term e (weightOf s) (below k) (difference-at k)
 
         left-most : Le (kept k +ℤ climbed k) (kept k +ℤ turned k)
         left-most =
             omega (
               arith,
-              times-le e (climb π (streamOf p k) *ℤ gap-at k) (marginal d (streamOf p k) (amountAt ys k) *ℤ gap-at k)
+              times-le e (climb π (streamOf p k) *ℤ difference-at k) (marginal d (streamOf p k) (amountAt ys k) *ℤ difference-at k)
                   (kilter-change (streamOf p k) d e (amountAt ys k) (amountAt zs k) (range-of e p zs z k l) π (x k l)),
-              val (pos e *ℤ (marginal d (streamOf p k) (amountAt ys k) *ℤ gap-at k)) (turned k) turned-is,
+              val (pos e *ℤ (marginal d (streamOf p k) (amountAt ys k) *ℤ difference-at k)) (turned k) turned-is,
               plus-val (kept k) (climbed k),
               plus-val (kept k) (turned k),
             )

@@ -9,8 +9,7 @@ use native.Mathlib.Decide.{decLe}
 use borrow.Author.Tests.{eqb-true, eq-eqb, ne-eqb, ltb-true, ltb-false, lt-ltb}
 use lib.Dec.{eqb, ltb}
 use lib.ListN.{length, getD, length-map}
-use Rattle.num_bytes.specs.Choice.{pick}
-use Rattle.num_bytes.proofs.Tests.{by-cases, clash, and-left, and-right, and-both, same-test}
+use Rattle.num_bytes.proofs.Tests.{by-cases, clash, and-left, and-right, and-both, same-test, pick-same}
 use Rattle.plant_def.specs.declared.Stream.{Stream}
 use Rattle.plant_def.specs.Limits.{maxUnits, places}
 use Rattle.plant_def.specs.Plants.{Plant}
@@ -19,13 +18,8 @@ use Rattle.flow_def.specs.Classes.{has, joinedTo}
 use Rattle.flow_def.specs.Chains.{Counting, Chain}
 use Rattle.flow_def.specs.Labels.{ownNumbers, renamed, relabelled, united, stepped, labelsAfter, labelsOf, oneLabel}
 use Rattle.flow_def.specs.Groups.{firstOnly, AmongPlaces}
-use Rattle.flow_def.proofs.Lists.{map-at, values-long, values-at, Written, written-all}
+use Rattle.num_bytes.proofs.Lists.{map-at, values-long, values-at, Written, written-all}
 use Rattle.flow_def.proofs.Reach.{Inside, chain-trans, chain-sym, chain-map, joined→chain, chain→joined}
-
--- A choice of one value.
-same-either : (b : Bool) (x : ℕ) → pick b x x ≡ x
-same-either true x = refl
-same-either false x = refl
 
 -- What holds of two numbers in either order holds of the lower and the higher.
 pub min-max : (P : ℕ → ℕ → Type 0) (a b : ℕ) → P a b → P b a → P (min a b) (max a b)
@@ -39,18 +33,20 @@ renamed-both : (a b : ℕ) → renamed (min a b) (max a b) a ≡ renamed (min a 
 renamed-both a b = min-max (λ lo hi. renamed lo hi a ≡ renamed lo hi b) a b (meet a b) (sym (meet b a))
   where
     meet : (lo hi : ℕ) → renamed lo hi lo ≡ renamed lo hi hi
-    meet lo hi = same-either (eqb lo hi) lo ∙ rw (eq-eqb hi hi refl)
+    meet lo hi = pick-same (eqb lo hi) lo ∙ rw (eq-eqb hi hi refl)
 
 renamed-low : (lo hi x : ℕ) → lo ≤ hi → renamed lo hi x ≤ x
 renamed-low lo hi x h = by-cases (eqb x hi) (λ t. rw t (omega (arith, eqb-true x hi t))) (λ t. rw t (omega arith))
 
--- A label that is renamed, one that is not, and all of them.
+-- The label that is taken away becomes the lower one.
 pub renamed-hit : (lo hi x : ℕ) → x ≡ hi → lo ≡ renamed lo hi x
 renamed-hit lo hi x e = rw (eq-eqb x hi e)
 
+-- Any label but the one taken away stays.
 pub renamed-miss : (lo hi x : ℕ) → (x ≡ hi → ⊥) → renamed lo hi x ≡ x
 renamed-miss lo hi x e = rw (ne-eqb x hi e)
 
+-- A loop that renames every place's label leaves the relabelled list.
 pub renamed-all : (lo hi : ℕ) (before now : List ℕ) → length before ≡ places → Written 0 places (λ k x. renamed lo hi x) before now places
     → now ≡ relabelled lo hi before
 renamed-all lo hi before now h w =
@@ -67,17 +63,20 @@ relabelled-self x (y ∷ ls) = rw (renamed-self x y, relabelled-self x ls)
 united-one : (a b : ℕ) (ls : List ℕ) → a ≡ b → united a b ls ≡ ls
 united-one a b ls e = min-max (λ lo hi. relabelled lo hi ls ≡ ls) a b (rw e (relabelled-self b ls)) (rw e (relabelled-self b ls))
 
+-- A stream whose ends have one label already changes nothing,
 pub stepped-one : (c : Bool) (s : Stream) (ls : List ℕ) → c ≡ true → getD ls (s .from) 0 ≡ getD ls (s .to) 0 → ls ≡ stepped c s ls
 stepped-one c s ls t e = rw t (sym (united-one (getD ls (s .from) 0) (getD ls (s .to) 0) ls e))
 
+-- nor does one that does not count.
 pub stepped-none : (c : Bool) (s : Stream) (ls : List ℕ) → c ≡ false → ls ≡ stepped c s ls
 stepped-none c s ls t = rw t
 
--- A stream that counts, by the order of its ends' labels.
+-- A stream that counts, with the lower label at its start: the label of its end is taken away.
 pub stepped-up : (c : Bool) (s : Stream) (ls : List ℕ) → c ≡ true → getD ls (s .from) 0 ≤ getD ls (s .to) 0
     → relabelled (getD ls (s .from) 0) (getD ls (s .to) 0) ls ≡ stepped c s ls
 stepped-up c s ls t le = rw (t, min-eq-left le, max-eq-right le)
 
+-- A stream that counts, with the lower label at its end: the label of its start is taken away.
 pub stepped-down : (c : Bool) (s : Stream) (ls : List ℕ) → c ≡ true → getD ls (s .to) 0 ≤ getD ls (s .from) 0
     → relabelled (getD ls (s .to) 0) (getD ls (s .from) 0) ls ≡ stepped c s ls
 stepped-down c s ls t le = rw (t, min-eq-right le, max-eq-left le)
@@ -87,6 +86,7 @@ pub stepped-long : (c : Bool) (s : Stream) (ls : List ℕ) → length (stepped c
 stepped-long true s ls = length-map ls _
 stepped-long false s ls = refl
 
+-- There is one label for each place.
 pub labels-long : (counts : Counting) (ss : List Stream) (k : ℕ) → length (labelsAfter counts ss k) ≡ places
 unfolding labelsAfter
 labels-long counts ss zero = values-long (λ u. u) places
@@ -122,6 +122,7 @@ module _ (counts : Counting) (ss : List Stream) where
       by-cases (ltb j k) (λ t. f (and-both (ltb j k) (counts j s) t (and-right (ltb j (suc k)) (counts j s) e)))
       (λ t. g (omega (arith, ltb-false j k t, ltb-true j (suc k) (and-left (ltb j (suc k)) (counts j s) e))) (and-right (ltb j (suc k)) (counts j s) e))
 
+  -- Before the first stream every place has its own number.
   pub start : Labelling counts ss 0 ownNumbers
   start = record {
     long = values-long (λ u. u) places;
@@ -202,6 +203,7 @@ module _ (counts : Counting) (ss : List Stream) where
     step-on k ls l g =
         by-cases (counts k (streamAt ss k)) (λ t. rw t (joined k ls l g t)) (λ t. rw t (passed k ls g t))
 
+    -- After k streams the labels are those of the groups by the first k.
     pub after : (k : ℕ) → k ≤ length ss → Labelling counts ss k (labelsAfter counts ss k)
     unfolding labelsAfter
     after zero h = start
@@ -209,22 +211,27 @@ module _ (counts : Counting) (ss : List Stream) where
 
 -- Labelled so, two places have one label exactly when a chain joins them.
 module _ {counts : Counting} {ss : List Stream} {k : ℕ} {ls : List ℕ} (g : Labelling counts ss k ls) where
+  -- Joined by a chain: one label.
   pub chain→one : {u v : ℕ} → Chain (firstOnly k counts) ss u v → getD ls u 0 ≡ getD ls v 0
   chain→one Chain.stop = refl
   chain→one (Chain.along j l e c) = chain→one c ∙ g .level j l e
   chain→one (Chain.back j l e c) = chain→one c ∙ sym (g .level j l e)
 
+  -- One label: joined by a chain.
   pub one→chain : (u v : ℕ) → u < places → v < places → getD ls u 0 ≡ getD ls v 0 → Chain (firstOnly k counts) ss u v
   one→chain u v hu hv e = chain-trans (subst (Chain (firstOnly k counts) ss u) e (g .chain u hu)) (chain-sym (g .chain v hv))
 
 -- All streams are the first of them.
 module _ {counts : Counting} {ss : List Stream} {u v : ℕ} where
+  -- A chain of the first so many is a chain of all,
   pub first→all : Chain (firstOnly (length ss) counts) ss u v → Chain counts ss u v
   first→all = chain-map (λ j l c. and-right (ltb j (length ss)) _ c)
 
+  -- and the other way.
   pub all→first : Chain counts ss u v → Chain (firstOnly (length ss) counts) ss u v
   all→first = chain-map (λ j l c. and-both (ltb j (length ss)) _ (lt-ltb j (length ss) l) c)
 
+-- The ends of streams inside a plant within limits are places.
 pub among : (n : ℕ) (ss : List Stream) → n ≤ maxUnits → Inside n ss → AmongPlaces ss
 among n ss small w j l = (omega (arith, w j l), omega (arith, w j l))
 
@@ -235,9 +242,11 @@ module _ (counts : Counting) (p : Plant) (small : p .units ≤ maxUnits) (w : In
   abbrev label : ℕ → ℕ
   label u = getD (labelsOf counts p) u 0
 
+  -- The labels of a plant after k of its streams are those of the groups by the first k.
   pub labelling : (k : ℕ) → k ≤ length (p .streams) → Labelling counts (p .streams) k (labelsAfter counts (p .streams) k)
   labelling = after counts (p .streams) (among (p .units) (p .streams) small w)
 
+  -- Places of one label are joined by a chain of the first k streams.
   pub label→chain : (k u v : ℕ) → k ≤ length (p .streams) → u < places → v < places
       → getD (labelsAfter counts (p .streams) k) u 0 ≡ getD (labelsAfter counts (p .streams) k) v 0 → Chain (firstOnly k counts) (p .streams) u v
   label→chain k u v h = one→chain (labelling k h) u v
@@ -245,25 +254,29 @@ module _ (counts : Counting) (p : Plant) (small : p .units ≤ maxUnits) (w : In
   joined→label : (u v : ℕ) → has v (joinedTo counts p u) ≡ true → label u ≡ label v
   joined→label u v e = chain→one (labelling all (omega arith)) (all→first (joined→chain counts p u v e))
 
-  -- The labels of all streams that count: one label is being joined, and a label is the lowest place of its group.
+  -- After all streams two places are joined by those that count exactly where they have one label.
   pub label-joined : (u v : ℕ) → u < places → v < places → has v (joinedTo counts p u) ≡ oneLabel (labelsOf counts p) u v
   label-joined u v hu hv =
       same-test (has v (joinedTo counts p u)) (oneLabel (labelsOf counts p) u v)
       (λ e. eq-eqb (label u) (label v) (joined→label u v e))
       (λ e. chain→joined counts p w (first→all (label→chain all u v (omega arith) hu hv (eqb-true (label u) (label v) e))))
 
+  -- A place is joined to the place that its label names,
   pub label-member : (u : ℕ) → u < places → has (getD (labelsOf counts p) u 0) (joinedTo counts p u) ≡ true
   label-member u h = chain→joined counts p w (first→all (labelling all (omega arith) .chain u h))
 
+  -- which is not above it,
   pub label-low : (u : ℕ) → u < places → getD (labelsOf counts p) u 0 ≤ u
   label-low = labelling (length (p .streams)) (omega arith) .low
 
+  -- and not above any place that it is joined to.
   pub label-lowest : (u v : ℕ) → u < places → has v (joinedTo counts p u) ≡ true → getD (labelsOf counts p) u 0 ≤ v
   label-lowest u v h e =
       by-cases (ltb v places)
       (λ t. omega (arith, joined→label u v e, label-low v (ltb-true v places t)))
       (λ t. omega (arith, label-low u h, ltb-false v places t))
 
+  -- Every place has a label.
   pub label-long : length (labelsOf counts p) ≡ places
   label-long = labelling (length (p .streams)) (omega arith) .long
 

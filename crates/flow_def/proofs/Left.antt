@@ -7,6 +7,7 @@ use native.Mathlib.Omega.{arith}
 use lib.Dec.{eqb}
 use lib.ListN.{length}
 use Rattle.num_bytes.specs.Choice.{pick}
+use Rattle.num_bytes.proofs.Tests.{and-none}
 use Rattle.plant_def.specs.declared.Stream.{Stream}
 use Rattle.plant_def.specs.Plants.{Plant}
 use Rattle.plant_def.specs.Within.{WithinStream, Within}
@@ -26,6 +27,7 @@ pub record Same (f g : Counting) (ss ts : List Stream) : Type 0 where
   pub from-same : (k : ℕ) → k < length ss → streamAt ss k .from ≡ streamAt ts k .from
   pub to-same : (k : ℕ) → k < length ss → streamAt ss k .to ≡ streamAt ts k .to
 
+-- Two lists of streams that are the same one way are the same the other way.
 pub same-sym : {f g : Counting} {ss ts : List Stream} → Same f g ss ts → Same g f ts ss
 same-sym e = record {
   long = sym (e .long);
@@ -34,6 +36,7 @@ same-sym e = record {
   to-same = λ k l. sym (e .to-same k (rw (e .long) l));
 }
 
+-- Where one list of streams has no loop, a list that is the same has none.
 pub free-same : {f g : Counting} {ss ts : List Stream} → Same f g ss ts → Free f ss → Free g ts
 free-same {f} {g} {ss} {ts} e free i l t c =
     let b : i < length ss = rw (e .long) l in
@@ -41,7 +44,7 @@ free-same {f} {g} {ss} {ts} e free i l t c =
     (subst (λ (x : ℕ). Chain (but i f) ss x (streamAt ss i .to)) (sym (e .from-same i b))
     (subst (Chain (but i f) ss (streamAt ts i .from)) (sym (e .to-same i b)) (chain-alike alike c)))
   where
-    alike : (k : ℕ) → k < length ts → but i g k (streamAt ts k) ≡ true → Alike (but i g) (but i f) ts ss k
+    alike : (k : ℕ) → k < length ts → but i g k (streamAt ts k) ≡ true → Alike (but i f) ts ss k
     alike k m h =
         let b : k < length ss = rw (e .long) m in
         record {
@@ -59,6 +62,7 @@ meter-at (b ∷ set) [] k l = absurd (omega arith)
 meter-at (b ∷ set) (s ∷ ss) zero l = refl
 meter-at (b ∷ set) (s ∷ ss) (suc k) l = meter-at set ss k (omega arith)
 
+-- Metering the streams of a set leaves as many streams.
 pub meter-long : (set : List Bool) (ss : List Stream) → length (meterAll set ss) ≡ length ss
 meter-long [] ss = refl
 meter-long (b ∷ set) [] = refl
@@ -66,10 +70,6 @@ meter-long (b ∷ set) (s ∷ ss) = ap suc (meter-long set ss)
 
 meter-counts : (b : Bool) (s : Stream) → not (s .metered) && not b ≡ not (pick b (meter s) s .metered)
 meter-counts true s = and-none (not (s .metered))
-  where
-    and-none : (a : Bool) → a && false ≡ false
-    and-none true = refl
-    and-none false = refl
 meter-counts false s = and-all (not (s .metered))
   where
     and-all : (a : Bool) → a && true ≡ a
@@ -88,7 +88,7 @@ meter-within : (n : ℕ) (b : Bool) (s : Stream) → WithinStream n s → Within
 meter-within n true s w = record {
   from-in = w .from-in;
   to-in = w .to-in;
-  apart = w .apart;
+  distinct = w .distinct;
   weighed = λ e. omega arith;
   light = λ e. omega arith;
   in-range = λ e. omega arith;
@@ -99,6 +99,7 @@ meter-within n true s w = record {
 meter-within n false s w = w
 
 module _ (set : List Bool) (p : Plant) where
+  -- The streams left are the unmetered ones of the plant with the set metered.
   pub metering-same : Same (left set) unmeteredOnly (p .streams) (metering set p .streams)
   metering-same = record {
     long = sym (meter-long set (p .streams));
@@ -108,6 +109,7 @@ module _ (set : List Bool) (p : Plant) where
   }
 
   module _ (w : Within p) where
+    -- That plant is within its limits.
     pub metering-within : Within (metering set p)
     metering-within = record {
       some-units = w .some-units;
@@ -118,8 +120,10 @@ module _ (set : List Bool) (p : Plant) where
           rw (meter-at set (p .streams) k b) (meter-within (p .units) (chosen set k) (streamAt (p .streams) k) (w .each k b));
     }
 
+    -- Nothing withheld in it: the streams left have no loop,
     pub none→left : NoneWithheld (metering set p) → Free (left set) (p .streams)
     none→left n = free-same (same-sym metering-same) (none→free (metering set p) metering-within n)
 
+    -- and the other way.
     pub left→none : Free (left set) (p .streams) → NoneWithheld (metering set p)
     left→none f = free→none (metering set p) metering-within (free-same metering-same f)

@@ -1,6 +1,5 @@
 -- Laws of flows. Laws of flows in fractions. Laws of streams without loops.
-pub mod Integers
-pub mod Sums
+pub mod Squares
 pub mod Reach
 pub mod Nets
 pub mod Routes
@@ -16,13 +15,11 @@ pub mod Ties
 pub mod Certified
 pub mod Overfull
 pub mod Decided
-pub mod Lists
 pub mod Labels
 pub mod Grouping
 pub mod Degrees
 pub mod Counted
 pub mod ByLabels
-pub mod Binary
 pub mod Lowest
 pub mod Parted
 pub mod Parting
@@ -35,7 +32,6 @@ pub mod Distance
 pub mod Near
 pub mod AsRead
 pub mod Known
-pub mod Counts
 pub mod Places
 pub mod Chains
 pub mod Ranks

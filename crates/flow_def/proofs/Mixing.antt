@@ -10,7 +10,7 @@ use Rattle.plant_def.specs.declared.Stream.{Stream}
 use Rattle.plant_def.specs.Plants.{Plant}
 use Rattle.plant_def.specs.Within.{Within}
 use Rattle.flow_def.specs.Flows.{amountAt, balanced, inRange, allowedOver}
-use Rattle.flow_def.proofs.Integers.{up, dn, Le, plus-val, product}
+use Rattle.num_bytes.proofs.Integers.{up, dn, Le, plus-val, product}
 use Rattle.flow_def.proofs.Nets.{countOf, streamOf, listed, listed-at, listed-balanced, balanced-nets}
 use Rattle.flow_def.proofs.Routes.{net-plus}
 use Rattle.flow_def.proofs.Chained.{times-balanced}
@@ -32,6 +32,7 @@ times-end c d l = (
 
 -- So many times an amount in range, and a mixture of two.
 module _ (s : Stream) (d : ℕ) (x : ℤ) (e : inRange d s x ≡ true) where
+  -- c times an amount in range, over c times its denominator, is in range.
   pub times-range : (c : ℕ) → inRange (c * d) s (pos c *ℤ x) ≡ true
   times-range c = range-holds (c * d) s (pos c *ℤ x) (λ q.
       let t = range-says d s x e q in (
@@ -56,27 +57,32 @@ added-balanced p w xs ys a b =
     listed-balanced p (λ k. amountAt xs k +ℤ amountAt ys k)
     (λ u l. net-plus (p .streams) (amountAt xs) (amountAt ys) u ∙ ap₂ _+ℤ_ (balanced-nets p w xs a u l) (balanced-nets p w ys b u l))
 
--- c times a flow; n parts of a flow and one of another.
+-- c times a flow.
 abbrev pub times : Plant → ℕ → List ℤ → List ℤ
 times p c xs = listed p (λ k. pos c *ℤ amountAt xs k)
 
+-- So many times a flow, stream by stream.
 pub times-at : (p : Plant) (c : ℕ) (xs : List ℤ) (k : ℕ) → k < countOf p → amountAt (times p c xs) k ≡ pos c *ℤ amountAt xs k
 times-at p c xs k l = listed-at p (λ k. pos c *ℤ amountAt xs k) k l
 
+-- n times one flow and once another.
 abbrev pub mixture : Plant → ℕ → List ℤ → List ℤ → List ℤ
 mixture p n xs ys = listed p (λ k. amountAt (times p n xs) k +ℤ amountAt ys k)
 
+-- A mixture, stream by stream.
 pub mixture-at : (p : Plant) (n : ℕ) (xs ys : List ℤ) (k : ℕ) → k < countOf p → amountAt (mixture p n xs ys) k ≡ pos n *ℤ amountAt xs k +ℤ amountAt ys k
 mixture-at p n xs ys k l =
     listed-at p (λ k. amountAt (times p n xs) k +ℤ amountAt ys k) k l ∙ ap (λ (z : ℤ). z +ℤ amountAt ys k) (times-at p n xs k l)
 
 module _ (p : Plant) (w : Within p) (d : ℕ) (xs : List ℤ) (a : allowedOver d p xs ≡ true) where
+  -- c times a flow in range is one over c times the denominator,
   pub times-allowed : (c : ℕ) → allowedOver (c * d) p (times p c xs) ≡ true
   times-allowed c =
       allowed-of (c * d) p (times p c xs) (times-balanced p w xs (balanced-of d p xs a) (pos c))
       (λ k l. subst (λ (z : ℤ). inRange (c * d) (streamOf p k) z ≡ true) (sym (times-at p c xs k l))
       (times-range (streamOf p k) d (amountAt xs k) (range-of d p xs a k l) c))
 
+  -- and a mixture of n parts of one flow in range and one part of another is one over n + 1 times the denominator.
   pub mixture-allowed : (n : ℕ) (ys : List ℤ) → allowedOver d p ys ≡ true → allowedOver (suc n * d) p (mixture p n xs ys) ≡ true
   mixture-allowed n ys b =
       allowed-of (suc n * d) p (mixture p n xs ys)

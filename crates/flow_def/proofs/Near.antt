@@ -13,14 +13,14 @@ use Rattle.plant_def.specs.Plants.{Plant}
 use Rattle.plant_def.specs.Within.{Within}
 use Rattle.flow_def.specs.Flows.{amountAt, allowedOver, allowed, square, cost, costOver}
 use Rattle.flow_def.specs.Certificate.{weightOf}
-use Rattle.flow_def.proofs.Integers.{up, dn, Le, val, canon, Z·diff, Le-unless, size-none, minus-none, plus-val}
-use Rattle.flow_def.proofs.Sums.{sum, sum-same, sum-none, sum-plus, sum-times, sum-tight}
+use Rattle.num_bytes.proofs.Integers.{up, dn, Le, val, canon, Z·diff, Le-unless, size-none, minus-none, plus-val, pos-inj}
+use Rattle.num_bytes.proofs.Sums.{sum, sum-same, sum-none, sum-plus, sum-times, sum-tight}
 use Rattle.flow_def.proofs.Nets.{countOf, streamOf, listed-size, balanced-size}
 use Rattle.flow_def.proofs.Ranges.{balanced-of}
 use Rattle.flow_def.proofs.Potentials.{shareOver, weighed, cost-is}
-use Rattle.flow_def.specs.Least.{LeastInFractions, apart}
-use Rattle.flow_def.proofs.Shares.{mixed-share, gap-share, times-share, times-from, mixed-from, gap-from}
-use Rattle.flow_def.proofs.Distance.{apart-is}
+use Rattle.flow_def.specs.Least.{LeastInFractions, distance}
+use Rattle.flow_def.proofs.Shares.{mixed-share, difference-share, times-share, times-from, mixed-from, difference-from}
+use Rattle.flow_def.proofs.Distance.{distance-is}
 use Rattle.flow_def.proofs.Mixing.{times, times-at, mixture, mixture-at, times-allowed, mixture-allowed}
 
 -- Naturals.
@@ -35,8 +35,8 @@ cancel d a b l h = elim (decLe a b) [
 mixed-parts : (c k l a e : ℕ) (x : ℤ) → pos c ≡ pos k *ℤ pos a +ℤ (pos l *ℤ x +ℤ pos e) → c + l * dn x ≡ k * a + l * up x + e
 mixed-parts c k l a e x h = omega (arith, simp Z·diff at (rw (← canon x) at h))
 
-gap-parts : (g x : ℤ) (a e : ℕ) → g +ℤ pos 2 *ℤ x ≡ pos a +ℤ pos e → up g + 2 * up x ≡ dn g + a + e + 2 * dn x
-gap-parts g x a e h = omega (arith, simp Z·diff at (rw (← canon g, ← canon x) at h))
+difference-parts : (g x : ℤ) (a e : ℕ) → g +ℤ pos 2 *ℤ x ≡ pos a +ℤ pos e → up g + 2 * up x ≡ dn g + a + e + 2 * dn x
+difference-parts g x a e h = omega (arith, simp Z·diff at (rw (← canon g, ← canon x) at h))
 
 -- No number of parts of the cheaper flow undercuts it: then the product of the deviations is no less than its cost.
 too-many : (a e c n u v : ℕ) → n ≡ suc e → suc n * suc n * a ≤ c → c + 2 * n * v ≡ n * n * a + 2 * n * u + e → u < a + v → ⊥
@@ -104,31 +104,31 @@ module _ (p : Plant) (w : Within p) (d : ℕ) (ys : List ℤ) (m : LeastInFracti
       (mixed-parts _ (n * n) (2 * n) its-cost other-cost (sum (countOf p) cross-at) (mixed-cost n)) (omega arith))
 
   -- The square of the distance.
-  abbrev pub gap-at : ℕ → ℤ
-  gap-at k = pos (weightOf (s k) * square (amountAt zs k -ℤ amountAt ys k))
+  abbrev pub difference-at : ℕ → ℤ
+  difference-at k = pos (weightOf (s k) * square (amountAt zs k -ℤ amountAt ys k))
 
-  gap-sum : sum (countOf p) gap-at +ℤ pos 2 *ℤ sum (countOf p) cross-at ≡ pos its-cost +ℤ pos other-cost
-  gap-sum =
-      ap (λ (x : ℤ). sum (countOf p) gap-at +ℤ x) (sum-times (countOf p) (pos 2) cross-at)
-      ∙ sym (sum-plus (countOf p) gap-at _)
+  difference-sum : sum (countOf p) difference-at +ℤ pos 2 *ℤ sum (countOf p) cross-at ≡ pos its-cost +ℤ pos other-cost
+  difference-sum =
+      ap (λ (x : ℤ). sum (countOf p) difference-at +ℤ x) (sum-times (countOf p) (pos 2) cross-at)
+      ∙ sym (sum-plus (countOf p) difference-at _)
       ∙ sum-same (countOf p) _ (λ k. pos (shareOver d (s k) (amountAt ys k)) +ℤ pos (shareOver d (s k) (amountAt zs k))) each
       ∙ sum-plus (countOf p) _ _
       ∙ ap₂ _+ℤ_ (cost-sum p d ys (m .allowed)) (cost-sum p d zs b)
     where
-      each : (k : ℕ) → k < countOf p → gap-at k +ℤ pos 2 *ℤ cross-at k
+      each : (k : ℕ) → k < countOf p → difference-at k +ℤ pos 2 *ℤ cross-at k
           ≡ pos (shareOver d (s k) (amountAt ys k)) +ℤ pos (shareOver d (s k) (amountAt zs k))
       each k l =
-          ap (λ (x : ℤ). pos (weightOf (s k) * square x) +ℤ pos 2 *ℤ cross-at k) (gap-from d (amountAt ys k) (amountAt zs k) (s k .reading))
-          ∙ gap-share (weightOf (s k)) (below k) (other k)
+          ap (λ (x : ℤ). pos (weightOf (s k) * square x) +ℤ pos 2 *ℤ cross-at k) (difference-from d (amountAt ys k) (amountAt zs k) (s k .reading))
+          ∙ difference-share (weightOf (s k)) (below k) (other k)
 
   -- The other flow costs more by at least that.
-  pub gap-cost : Le (sum (countOf p) gap-at +ℤ pos its-cost) (pos other-cost)
-  gap-cost =
+  pub difference-cost : Le (sum (countOf p) difference-at +ℤ pos its-cost) (pos other-cost)
+  difference-cost =
       omega (
         arith,
         cross-most,
-        gap-parts (sum (countOf p) gap-at) (sum (countOf p) cross-at) its-cost other-cost gap-sum,
-        plus-val (sum (countOf p) gap-at) (pos its-cost),
+        difference-parts (sum (countOf p) difference-at) (sum (countOf p) cross-at) its-cost other-cost difference-sum,
+        plus-val (sum (countOf p) difference-at) (pos its-cost),
       )
 
 module _ (p : Plant) (w : Within p) where
@@ -140,9 +140,6 @@ module _ (p : Plant) (w : Within p) where
       ∙ sym (sum-times (countOf p) (pos (c * c)) _)
       ∙ ap (λ (x : ℤ). pos (c * c) *ℤ x) (cost-sum p d xs a))
     where
-      pos-inj : {a b : ℕ} → pos a ≡ pos b → a ≡ b
-      pos-inj e = cc
-
       each : (k : ℕ) → k < countOf p → pos (shareOver (c * d) (streamOf p k) (amountAt (times p c xs) k)) ≡ pos (c * c) *ℤ pos (shareOver d (streamOf p k) (amountAt xs k))
       each k l =
           ap (λ (x : ℤ). pos (weightOf (streamOf p k) * square x))
@@ -159,13 +156,13 @@ module _ (p : Plant) (w : Within p) where
   -- A whole-number flow that costs more by a quarter of q at most is as near.
   pub near-fractions : (xs ys : List ℤ) (d q : ℕ) → allowed p xs ≡ true → LeastInFractions p d ys
       → 4 * (d * d) * cost (p .streams) xs ≤ 4 * costOver d (p .streams) ys + d * d * q
-      → 4 * apart d (p .streams) (amountAt xs) ys ≤ d * d * q
+      → 4 * distance d (p .streams) (amountAt xs) ys ≤ d * d * q
   near-fractions xs ys d q a m h =
       omega (
         arith,
-        gap-cost p w d ys m (times p d xs) whole,
-        plus-val (sum (countOf p) (gap-at p w d ys m (times p d xs) whole)) (pos (costOver d (p .streams) ys)),
-        val _ _ distance,
+        difference-cost p w d ys m (times p d xs) whole,
+        plus-val (sum (countOf p) (difference-at p w d ys m (times p d xs) whole)) (pos (costOver d (p .streams) ys)),
+        val _ _ distance-sum,
         whole-cost,
       )
     where
@@ -178,9 +175,9 @@ module _ (p : Plant) (w : Within p) where
       whole-cost : costOver d (p .streams) (times p d xs) ≡ d * d * cost (p .streams) xs
       whole-cost = rw one at (times-cost d 1 xs a)
 
-      distance : pos (apart d (p .streams) (amountAt xs) ys) ≡ sum (countOf p) (gap-at p w d ys m (times p d xs) whole)
-      distance =
-          apart-is d (p .streams) ys (amountAt xs) (countOf p)
+      distance-sum : pos (distance d (p .streams) (amountAt xs) ys) ≡ sum (countOf p) (difference-at p w d ys m (times p d xs) whole)
+      distance-sum =
+          distance-is d (p .streams) ys (amountAt xs) (countOf p)
           ∙ sum-same (countOf p) _ _ (λ k l. ap (λ (x : ℤ). pos (weightOf (streamOf p k) * square (x -ℤ amountAt ys k))) (sym (times-at p d xs k l)))
 
 -- No weighted square is 0 but that of 0.
@@ -199,13 +196,13 @@ module _ (p : Plant) (w : Within p) where
       as-cheap = cancel d (costOver d (p .streams) zs) (costOver d (p .streams) ys) (m .some) (o .least d ys (m .some) (m .allowed))
 
       gap : ℕ → ℤ
-      gap = gap-at p w d ys m zs (o .allowed)
+      gap = difference-at p w d ys m zs (o .allowed)
 
       none : pos 0 ≡ gap k
       none =
           sum-tight (countOf p) (λ j. pos 0) gap (λ j h. omega arith)
           (rw (sum-none (countOf p) (λ j. pos 0) (λ j h. refl))
-          (omega (arith, as-cheap, gap-cost p w d ys m zs (o .allowed), plus-val (sum (countOf p) gap) (pos (costOver d (p .streams) ys))))) k l
+          (omega (arith, as-cheap, difference-cost p w d ys m zs (o .allowed), plus-val (sum (countOf p) gap) (pos (costOver d (p .streams) ys))))) k l
 
       none-here : weightOf (streamOf p k) * square (amountAt zs k -ℤ amountAt ys k) ≡ 0
       none-here = omega (arith, val (pos 0) (pos (weightOf (streamOf p k) * square (amountAt zs k -ℤ amountAt ys k))) none)

@@ -18,8 +18,8 @@ use Rattle.flow_def.specs.Classes.{oneGroup, onLoop, classOf}
 use Rattle.flow_def.specs.Chains.{unmeteredOnly, Chain, stop, along, back}
 use Rattle.flow_def.specs.Shown.{adjustedWeight, adjustedTo, adjusted}
 use Rattle.flow_def.specs.Certificate.{weightOf, climb}
-use Rattle.flow_def.proofs.Integers.{Le, val, same, canon, Z·diff, plus-val, minus-val, minus-none, none-minus}
-use Rattle.flow_def.proofs.Sums.{sum, sum-plus, sum-times, sum-le}
+use Rattle.num_bytes.proofs.Integers.{Le, val, same, canon, Z·diff, plus-val, minus-val, minus-none, none-minus}
+use Rattle.num_bytes.proofs.Sums.{sum, sum-plus, sum-times, sum-le}
 use Rattle.flow_def.proofs.Reach.{joined→chain}
 use Rattle.flow_def.proofs.Nets.{countOf, streamOf, balanced-size}
 use Rattle.flow_def.proofs.Given.{class-means}
@@ -33,6 +33,7 @@ one-potential Δ π s x t h =
     let m = not-true (s .metered) t in
     minus-none (π (s .to)) (π (s .from)) (free Δ (weightOf s) (x -ℤ s .reading) (climb π s) _ _ (rw m) (unmetered-moves s x m) h)
 
+-- Places that a chain of unmetered streams joins have one potential.
 pub group-potential : (Δ : ℕ) (π : ℕ → ℤ) (ss : List Stream) (x : ℕ → ℤ) {u v : ℕ} → Steps Δ π ss x → Chain unmeteredOnly ss u v → π v ≡ π u
 group-potential Δ π ss x h stop = refl
 group-potential Δ π ss x h (along k l t c) = one-potential Δ π (streamAt ss k) (x k) t (h k l) ∙ group-potential Δ π ss x h c
@@ -139,6 +140,7 @@ module _ (p : Plant) (w : Within p) (π : ℕ → ℤ) (xs : List ℤ) (c : Cert
   pub same-cost : (zs : List ℤ) → Cheapest p zs → cost (p .streams) zs ≡ cost (p .streams) xs
   same-cost zs z = le-antisymm (z .least xs (c .balance)) (least p w π xs c zs (z .balance))
 
+  -- No flow in range, in fractions of any denominator, undercuts a cheapest flow by more than a quarter of the adjusted streams' weights.
   pub near : (zs ys : List ℤ) (D : ℕ) → Cheapest p zs → 1 ≤ D → allowedOver D p ys ≡ true
       → 4 * (D * D) * cost (p .streams) zs ≤ 4 * costOver D (p .streams) ys + D * D * adjusted p
   near zs ys D z l b = rw (same-cost zs z) (near-certified ys D b)

@@ -22,15 +22,16 @@ use Rattle.num_bytes.specs.Inner.{values}
 use Rattle.flow_def.specs.Classes.{has, sideOut}
 pub use Rattle.flow_def.specs.Nets.{brought, netOf}
 use Rattle.flow_def.specs.Certificate.{climb}
-use Rattle.flow_def.proofs.Lists.{values-long, values-at}
-use Rattle.flow_def.proofs.Integers.{canon, Z·diff, times-plus, one-times, neg-times, size-none}
+use Rattle.num_bytes.proofs.Lists.{values-long, values-at}
+use Rattle.num_bytes.proofs.Integers.{canon, Z·diff, times-plus, one-times, neg-times, size-none}
 use Rattle.flow_def.proofs.Reach.{Inside}
-use Rattle.flow_def.proofs.Sums.{sum, sum-same, sum-none, sum-plus, sum-times, sum-swap, sum-only, sum-front}
+use Rattle.num_bytes.proofs.Sums.{sum, sum-same, sum-none, sum-plus, sum-times, sum-swap, sum-only, sum-front}
 
--- Short for the number of a plant's streams and for its stream k.
+-- The number of a plant's streams.
 abbrev pub countOf : Plant → ℕ
 countOf p = length (p .streams)
 
+-- Stream k of a plant.
 abbrev pub streamOf : Plant → ℕ → Stream
 streamOf p k = streamAt (p .streams) k
 
@@ -45,10 +46,12 @@ sum-listed f F none more (s ∷ ss) (x ∷ xs) e =
     ∙ ap (λ (z : ℤ). f s x +ℤ z) (sum-listed f F none more ss xs (omega arith))
     ∙ sym (sum-front (length ss) (λ k. f (streamAt (s ∷ ss) k) (amountAt (x ∷ xs) k)))
 
+-- What a list of amounts brings a place is the sum over the streams.
 pub net-is : (u : ℕ) (ss : List Stream) (xs : List ℤ) → length xs ≡ length ss → netAt u ss xs ≡ netOf ss (amountAt xs) u
 net-is u = sum-listed (brought u) (netAt u) (λ xs. refl)
     (λ s ss x xs. sym (+ℤ-assoc (pick (eqb (s .to) u) x (pos 0)) (pick (eqb (s .from) u) (negℤ x) (pos 0)) (netAt u ss xs)))
 
+-- The ends of the streams of a plant within limits are its units or the outside.
 pub inside : (p : Plant) → Within p → Inside (p .units) (p .streams)
 inside p w k l = (w .each k l .from-in, w .each k l .to-in)
 
@@ -105,6 +108,7 @@ indicator c u = pick (c u) (pos 1) (pos 0)
 abbrev pub crossing : (ℕ → Bool) → Stream → ℤ → ℤ
 crossing c s x = pick (c (s .to)) (pick (c (s .from)) (pos 0) x) (pick (c (s .from)) (negℤ x) (pos 0))
 
+-- With potentials of 1 in a set and 0 beyond, climb times amount is what a stream brings into the set less what it takes out.
 pub crossing-is : (c : ℕ → Bool) (s : Stream) (x : ℤ) → climb (indicator c) s *ℤ x ≡ crossing c s x
 crossing-is c s x = go (c (s .to)) (c (s .from))
   where
@@ -158,10 +162,12 @@ module _ (p : Plant) (w : Within p) (xs : List ℤ) (b : balanced p xs ≡ true)
   others zero l q = absurd (q refl)
   others (suc u) l q = inner u (omega arith)
 
+  -- A balanced flow leaves nothing over at any unit, nor at the outside.
   pub balanced-nets : (u : ℕ) → u ≤ p .units → netOf (p .streams) (amountAt xs) u ≡ pos 0
   balanced-nets zero l = sym (sum-only (suc (p .units)) 0 net (omega arith) others) ∙ nets-sum (p .units) (p .streams) (amountAt xs) (inside p w)
   balanced-nets (suc u) l = inner u l
 
+-- Nothing left over at any place: the flow balances.
 pub level-balanced : (p : Plant) (xs : List ℤ) → length xs ≡ countOf p
     → ((u : ℕ) → u ≤ p .units → netOf (p .streams) (amountAt xs) u ≡ pos 0) → balanced p xs ≡ true
 level-balanced p xs e h = and-both _ _ (eq-eqb _ _ e) (to (p .units) (λ u l. net-is u (p .streams) xs e ∙ h u l))
@@ -174,12 +180,15 @@ level-balanced p xs e h = and-both _ _ (eq-eqb _ _ e) (to (p .units) (λ u l. ne
 abbrev pub listed : Plant → (ℕ → ℤ) → List ℤ
 listed p x = values (countOf p) x
 
+-- A flow written as a list has an amount for each stream,
 pub listed-size : (p : Plant) (x : ℕ → ℤ) → length (listed p x) ≡ countOf p
 listed-size p x = values-long x (countOf p)
 
+-- the amount that it was written from,
 pub listed-at : (p : Plant) (x : ℕ → ℤ) (k : ℕ) → k < countOf p → amountAt (listed p x) k ≡ x k
 listed-at p x = values-at x (pos 0) (countOf p)
 
+-- and balances where nothing is left over at any place.
 pub listed-balanced : (p : Plant) (x : ℕ → ℤ) → ((u : ℕ) → u ≤ p .units → netOf (p .streams) x u ≡ pos 0) → balanced p (listed p x) ≡ true
 listed-balanced p x h =
     level-balanced p (listed p x) (listed-size p x)

@@ -14,7 +14,7 @@ use Rattle.num_bytes.proofs.Tests.{and-left, and-right, and-both, or-left, or-r
 use Rattle.plant_def.specs.declared.Stream.{Stream}
 use Rattle.plant_def.specs.Plants.{Plant}
 use Rattle.flow_def.specs.Flows.{streamAt, amountAt, cost, meteredOf, notAfter, Cheapest}
-use Rattle.flow_def.proofs.Integers.{up, dn, Le, val, leZ-le, le-leZ, ltZ-lt, lt-ltZ, Le-antisym}
+use Rattle.num_bytes.proofs.Integers.{up, dn, Le, val, leZ-le, le-leZ, ltZ-lt, lt-ltZ, Le-antisym}
 
 -- The first amounts of two lists in order, and what follows equal first amounts.
 after-le : (x y : ℤ) (xs ys : List ℤ) → notAfter (x ∷ xs) (y ∷ ys) ≡ true → Le x y

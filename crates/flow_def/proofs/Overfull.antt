@@ -1,9 +1,9 @@
 -- Where a set of places must take in more than it can let out, no balanced flow over any denominator is in range.
 use mathlib.Core.Path.{_≡_, refl, _∙_, ap}
 use mathlib.Core.Bool.{Bool, true, false, not, _&&_, _||_}
-use mathlib.Core.List.{List}
+use mathlib.Core.List.{List, [], _∷_}
 use lib.IntN.{ℤ, pos, negℤ, _+ℤ_, _*ℤ_, *ℤ-zero}
-use Prim.Native.Nat.{ℕ, _+_, _*_, _≤_, _<_}
+use Prim.Native.Nat.{ℕ, _≤_, _<_}
 use native.Mathlib.Nat.{le-of-mul-le-mul-left}
 use native.Mathlib.Omega.{arith}
 use lib.ListN.{length}
@@ -14,8 +14,8 @@ use Rattle.plant_def.specs.Plants.{Plant}
 use Rattle.plant_def.specs.Within.{Within}
 use Rattle.flow_def.specs.Flows.{amountAt, allowedOver}
 use Rattle.flow_def.specs.Overfull.{marks, enters, leaves, lowsIn, highsOut, Overfull}
-use Rattle.flow_def.proofs.Integers.{Le, ltZ-lt, plus-val, up-neg, dn-neg, up-times, dn-times}
-use Rattle.flow_def.proofs.Sums.{sum, sum-same, sum-plus, sum-times, sum-le}
+use Rattle.num_bytes.proofs.Integers.{Le, ltZ-lt, plus-val, up-neg, dn-neg, up-times, dn-times}
+use Rattle.num_bytes.proofs.Sums.{sum, sum-same, sum-plus, sum-times, sum-le}
 use Rattle.flow_def.proofs.Nets.{countOf, streamOf, crossing, no-crossing, sum-listed, balanced-size}
 use Rattle.flow_def.proofs.Ranges.{balanced-of, range-of, range-says}
 
@@ -65,20 +65,22 @@ module _ (p : Plant) (w : Within p) (ms : List Bool) (o : Overfull p ms) (d : �
   abbrev across : ℕ → ℤ
   across k = crossing c (s k) (y k)
 
+  -- One end of the range of each stream that passes a test, summed up.
+  ends-sum : (test : Stream → Bool) (end : Stream → ℤ) (ends : List Stream → ℤ) → ends [] ≡ pos 0
+      → ((s : Stream) (ss : List Stream) → ends (s ∷ ss) ≡ pick (test s) (end s) (pos 0) +ℤ ends ss)
+      → pos d *ℤ ends (p .streams) ≡ sum n (λ k. pick (test (s k)) (pos d *ℤ end (s k)) (pos 0))
+  ends-sum test end ends none more =
+      ap (λ (z : ℤ). pos d *ℤ z)
+      (sum-listed (λ s x. pick (test s) (end s) (pos 0)) (λ ss xs. ends ss) (λ xs. none) (λ s ss x xs. more s ss) (p .streams) ys size)
+      ∙ sum-times n (pos d) (λ k. pick (test (s k)) (end (s k)) (pos 0))
+      ∙ sum-same n _ _ (λ k l. pick-times d (test (s k)) (end (s k)))
+
   -- Their sums are d times the lows in and the highs out.
   lows-sum : pos d *ℤ lowsIn c (p .streams) ≡ sum n inward
-  lows-sum =
-      ap (λ (z : ℤ). pos d *ℤ z)
-      (sum-listed (λ s x. pick (enters c s) (s .low) (pos 0)) (λ ss xs. lowsIn c ss) (λ xs. refl) (λ s ss x xs. refl) (p .streams) ys size)
-      ∙ sum-times n (pos d) (λ k. pick (enters c (s k)) (s k .low) (pos 0))
-      ∙ sum-same n _ inward (λ k l. pick-times d (enters c (s k)) (s k .low))
+  lows-sum = ends-sum (enters c) (λ s. s .low) (lowsIn c) refl (λ s ss. refl)
 
   highs-sum : pos d *ℤ highsOut c (p .streams) ≡ sum n outward
-  highs-sum =
-      ap (λ (z : ℤ). pos d *ℤ z)
-      (sum-listed (λ s x. pick (leaves c s) (s .high) (pos 0)) (λ ss xs. highsOut c ss) (λ xs. refl) (λ s ss x xs. refl) (p .streams) ys size)
-      ∙ sum-times n (pos d) (λ k. pick (leaves c (s k)) (s k .high) (pos 0))
-      ∙ sum-same n _ outward (λ k l. pick-times d (leaves c (s k)) (s k .high))
+  highs-sum = ends-sum (leaves c) (λ s. s .high) (highsOut c) refl (λ s ss. refl)
 
   each : (k : ℕ) → k < n → Le (inward k) (across k +ℤ outward k)
   each k l = edge c (s k) (pos d *ℤ s k .low) (pos d *ℤ s k .high) (y k) (λ t. range-says d (s k) (y k) (range-of d p ys a k l) (o .bounded k l t))

@@ -18,8 +18,9 @@ use Rattle.flow_def.specs.Classes.{unmeteredBut}
 use Rattle.flow_def.specs.Chains.{Counting, unmeteredOnly, Chain}
 use Rattle.flow_def.specs.Groups.{firstOnly}
 use Rattle.flow_def.proofs.Reach.{chain-trans, chain-sym, chain-map}
-use Rattle.flow_def.specs.Sides.{bit, apart, takenAt}
-use Rattle.flow_def.proofs.Binary.{unlike, alike, unalike, bit-xor, bit-or}
+use Rattle.num_bytes.specs.Sums.{bit}
+use Rattle.flow_def.specs.Sides.{wayBetween, takenAt}
+use Rattle.num_bytes.proofs.Binary.{unlike, alike, unalike, bit-xor, bit-or}
 
 -- What the ends of each stream that counts have in common, the ends of a chain have.
 pub chain-level : {counts : Counting} {ss : List Stream} {u v : ℕ} (f : ℕ → Bool)
@@ -63,6 +64,7 @@ module _ (counts : Counting) (ss : List Stream) (i : ℕ) where
   to-itself : (k : ℕ) → k ≡ i → Touch (streamAt ss k .to)
   to-itself k e = rw e (inr Chain.stop)
 
+  -- Without stream i the ends of any chain are joined to each other, or both are joined to ends of stream i.
   pub chain-parts : {u v : ℕ} → Chain counts ss u v → Parts u v
   chain-parts Chain.stop = inl Chain.stop
   chain-parts (Chain.along k l h c) = elim (ℕ-discrete k i) [
@@ -78,15 +80,16 @@ module _ (counts : Counting) (ss : List Stream) (i : ℕ) where
 abbrev pub Loose : List Stream → ℕ → Type 0
 Loose ss j = streamAt ss j .metered ≡ false
 
--- The label and the sides of a place.
+-- The label of a place.
 abbrev pub label : List ℕ → ℕ → ℕ
 label ls u = getD ls u 0
 
+-- Bit h of a place's sides: on which side of the stream that took label h away it lies.
 abbrev pub side : List ℕ → ℕ → ℕ → Bool
 side sides h u = bit h (getD sides u 0)
 
 -- Stream i took label h away: its ends are on different sides, those of every other stream passed on one side; or it lies on a loop.
-pub record Cut (ss : List Stream) (k : ℕ) (ls sides : List ℕ) (met i h : ℕ) : Type 0 where
+pub record Bridge (ss : List Stream) (k : ℕ) (ls sides : List ℕ) (met i h : ℕ) : Type 0 where
   pub gone : (u : ℕ) → u < places → label ls u ≡ h → ⊥
   pub split : side sides h (streamAt ss i .from) ≡ not (side sides h (streamAt ss i .to))
   pub level : bit h met ≡ false → (j : ℕ) → j < k → Loose ss j → (j ≡ i → ⊥)
@@ -97,7 +100,7 @@ pub record Cut (ss : List Stream) (k : ℕ) (ls sides : List ℕ) (met i h : ℕ
 pub record Parted (ss : List Stream) (k : ℕ) (ls sides : List ℕ) (met : ℕ) : Type 0 where
   pub fresh : (h u v : ℕ) → 1 ≤ h → u < places → label ls u ≡ h → v < places → side sides h v ≡ false
   pub idle : (h u : ℕ) → 1 ≤ h → u < places → label ls u ≡ h → bit h met ≡ false
-  pub cut : (i : ℕ) → i < k → (takenAt ss i ≡ 0 → ⊥) → Cut ss k ls sides met i (takenAt ss i)
+  pub bridge : (i : ℕ) → i < k → (takenAt ss i ≡ 0 → ⊥) → Bridge ss k ls sides met i (takenAt ss i)
 
 -- A stream that takes a label away is unmetered.
 pub taken-loose : (ss : List Stream) (i : ℕ) → (takenAt ss i ≡ 0 → ⊥) → Loose ss i
@@ -115,10 +118,11 @@ module _ (ss : List Stream) (k : ℕ) (ls sides : List ℕ) (met : ℕ) (a : Par
   earlier : (i : ℕ) → i < suc k → (takenAt ss i ≡ 0 → ⊥) → i < k
   earlier i l t = lower i k l (λ m. m) (λ e. absurd (t (rw e none)))
 
+  -- A metered stream leaves the sides as they are.
   pub part-metered : streamAt ss k .metered ≡ true → Parted ss (suc k) ls sides met
-  part-metered m = record { fresh = a .fresh; idle = a .idle; cut = λ i l t. more i t (a .cut i (earlier i l t) t) }
+  part-metered m = record { fresh = a .fresh; idle = a .idle; bridge = λ i l t. more i t (a .bridge i (earlier i l t) t) }
     where
-      more : (i : ℕ) → (takenAt ss i ≡ 0 → ⊥) → Cut ss k ls sides met i (takenAt ss i) → Cut ss (suc k) ls sides met i (takenAt ss i)
+      more : (i : ℕ) → (takenAt ss i ≡ 0 → ⊥) → Bridge ss k ls sides met i (takenAt ss i) → Bridge ss (suc k) ls sides met i (takenAt ss i)
       more i t c = record {
         gone = c .gone;
         split = c .split;
@@ -136,15 +140,15 @@ module _ (ss : List Stream) (k : ℕ) (ls sides : List ℕ) (met : ℕ) (a : Par
     t = streamAt ss k .to
 
     abbrev now : ℕ
-    now = bitOr met (apart sides (streamAt ss k))
+    now = bitOr met (wayBetween sides (streamAt ss k))
 
-    apart-bit : (h : ℕ) → bit h (apart sides (streamAt ss k)) ≡ unlike (side sides h f) (side sides h t)
-    apart-bit h = bit-xor h (getD sides f 0) (getD sides t 0)
+    way-bit : (h : ℕ) → bit h (wayBetween sides (streamAt ss k)) ≡ unlike (side sides h f) (side sides h t)
+    way-bit h = bit-xor h (getD sides f 0) (getD sides t 0)
 
     now-bit : (h : ℕ) → bit h now ≡ bit h met || unlike (side sides h f) (side sides h t)
-    now-bit h = bit-or h met (apart sides (streamAt ss k)) ∙ ap (λ (b : Bool). bit h met || b) (apart-bit h)
+    now-bit h = bit-or h met (wayBetween sides (streamAt ss k)) ∙ ap (λ (b : Bool). bit h met || b) (way-bit h)
 
-    module _ (i : ℕ) (before : i < k) (h : ℕ) (c : Cut ss k ls sides met i h) where
+    module _ (i : ℕ) (before : i < k) (h : ℕ) (c : Bridge ss k ls sides met i h) where
       -- The way between its ends leads through stream i.
       module _ (q : bit h met ≡ false) (d : side sides h f ≡ side sides h t → ⊥) where
         one-side : {u v : ℕ} → Chain (but i (firstOnly k unmeteredOnly)) ss u v → side sides h u ≡ side sides h v
@@ -176,7 +180,7 @@ module _ (ss : List Stream) (k : ℕ) (ls sides : List ℕ) (met : ℕ) (a : Par
           by-cases (bit h met) (c .loop)
           (λ q. through q (λ same. clash (bit h now) e (now-bit h ∙ rw q (unalike _ _ same))) (chain-parts (firstOnly k unmeteredOnly) ss i way))
 
-      more-level : Cut ss (suc k) ls sides now i h
+      more-level : Bridge ss (suc k) ls sides now i h
       more-level = record {
         gone = c .gone;
         split = c .split;
@@ -187,9 +191,10 @@ module _ (ss : List Stream) (k : ℕ) (ls sides : List ℕ) (met : ℕ) (a : Par
         loop = on-loop;
       }
 
+    -- An unmetered stream whose ends earlier ones join closes a loop: the streams that its ends lie apart by are on it.
     pub part-joined : Parted ss (suc k) ls sides now
     part-joined = record {
       fresh = a .fresh;
       idle = λ h u p l e. now-bit h ∙ rw (a .idle h u p l e, a .fresh h u f p l e f-in, a .fresh h u t p l e t-in);
-      cut = λ i l e. more-level i (earlier i l e) (takenAt ss i) (a .cut i (earlier i l e) e);
+      bridge = λ i l e. more-level i (earlier i l e) (takenAt ss i) (a .bridge i (earlier i l e) e);
     }

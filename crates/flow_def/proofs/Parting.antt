@@ -15,10 +15,11 @@ use Rattle.plant_def.specs.declared.Stream.{Stream}
 use Rattle.plant_def.specs.Limits.{places}
 use Rattle.flow_def.specs.Flows.{streamAt}
 use Rattle.flow_def.specs.Labels.{renamed, relabelled}
-use Rattle.flow_def.specs.Sides.{bit, apart, turned, takenAt}
-use Rattle.flow_def.proofs.Lists.{map-at, values-at}
-use Rattle.flow_def.proofs.Binary.{unlike, bit-xor, bit-same, bit-other}
-use Rattle.flow_def.proofs.Parted.{Loose, label, side, Cut, Parted, taken-loose, lower}
+use Rattle.num_bytes.specs.Sums.{bit}
+use Rattle.flow_def.specs.Sides.{wayBetween, turned, takenAt}
+use Rattle.num_bytes.proofs.Lists.{map-at, values-at}
+use Rattle.num_bytes.proofs.Binary.{unlike, bit-xor, bit-same, bit-other}
+use Rattle.flow_def.proofs.Parted.{Loose, label, side, Bridge, Parted, taken-loose, lower}
 
 -- A bit that changes where a place changes sides.
 abbrev flipped : Bool → Bool → Bool → Bool
@@ -67,13 +68,13 @@ module _ (ss : List Stream) (k : ℕ) (ls sides : List ℕ) (met lo hi : ℕ) (a
   t = streamAt ss k .to
 
   abbrev by : ℕ
-  by = bitXor (apart sides (streamAt ss k)) (2 ^ hi)
+  by = bitXor (wayBetween sides (streamAt ss k)) (2 ^ hi)
 
   abbrev next : List ℕ
   next = turned hi by ls sides
 
   by-bit : (h : ℕ) → bit h by ≡ unlike (unlike (side sides h f) (side sides h t)) (bit h (2 ^ hi))
-  by-bit h = bit-xor h (apart sides (streamAt ss k)) (2 ^ hi) ∙ ap (λ (x : Bool). unlike x (bit h (2 ^ hi))) (bit-xor h (getD sides f 0) (getD sides t 0))
+  by-bit h = bit-xor h (wayBetween sides (streamAt ss k)) (2 ^ hi) ∙ ap (λ (x : Bool). unlike x (bit h (2 ^ hi))) (bit-xor h (getD sides f 0) (getD sides t 0))
 
   side-next : (h u : ℕ) → u < places → side next h u ≡ flipped (eqb (label ls u) hi) (side sides h u) (bit h by)
   side-next h u l =
@@ -113,8 +114,8 @@ module _ (ss : List Stream) (k : ℕ) (ls sides : List ℕ) (met lo hi : ℕ) (a
       side-next h v m ∙ rw (none v m, unset) (flipped-none (eqb (label ls v) hi)))
 
   -- The stream itself.
-  cut-new : Cut ss (suc k) (relabelled lo hi ls) next met k hi
-  cut-new = record {
+  bridge-new : Bridge ss (suc k) (relabelled lo hi ls) next met k hi
+  bridge-new = record {
     gone = λ u l e. left hi u l e (λ v m z o. o refl);
     split = new-side f f-in ∙ ⊎-elim (λ e. rw (e .0, e .1, ne-eqb lo hi (λ x. omega arith), eq-eqb hi hi refl))
         (λ e. rw (e .0, e .1, ne-eqb lo hi (λ x. omega arith), eq-eqb hi hi refl)) ends ∙ ap not (sym (new-side t t-in));
@@ -125,7 +126,7 @@ module _ (ss : List Stream) (k : ℕ) (ls sides : List ℕ) (met lo hi : ℕ) (a
   }
 
   -- The streams before it.
-  module _ (i : ℕ) (b : i < k) (loose : Loose ss i) (h : ℕ) (c : Cut ss k ls sides met i h) where
+  module _ (i : ℕ) (b : i < k) (loose : Loose ss i) (h : ℕ) (c : Bridge ss k ls sides met i h) where
     not-hi : h ≡ hi → ⊥
     not-hi e = high-end (λ u l z. c .gone u l (z ∙ sym e))
 
@@ -145,8 +146,8 @@ module _ (ss : List Stream) (k : ℕ) (ls sides : List ℕ) (met lo hi : ℕ) (a
         (λ e. rw (e .0, e .1, ne, eq, o) (flipped-first (side sides h f) (side sides h t))) ends
         ∙ sym (side-next h t t-in)
 
-    cut-kept : Cut ss (suc k) (relabelled lo hi ls) next met i h
-    cut-kept = record {
+    bridge-kept : Bridge ss (suc k) (relabelled lo hi ls) next met i h
+    bridge-kept = record {
       gone = λ u l e. left h u l e (λ v m z o. c .gone v m z);
       split =
           let w = one i b loose in
@@ -157,10 +158,11 @@ module _ (ss : List Stream) (k : ℕ) (ls sides : List ℕ) (met lo hi : ℕ) (a
       loop = c .loop;
     }
 
+  -- The sides with the joined group turned are those of one stream more.
   pub part-joining : Parted ss (suc k) (relabelled lo hi ls) next met
   part-joining = record {
     fresh = fresh-next;
     idle = λ h u p l e. left h u l e (λ v m z o. a .idle h v p m z);
-    cut = λ i l e. lower i k l (λ b. cut-kept i b (taken-loose ss i e) (takenAt ss i) (a .cut i b e))
-        (λ q. subst (λ (x : ℕ). Cut ss (suc k) (relabelled lo hi ls) next met x (takenAt ss x)) (sym q) (rw taken cut-new));
+    bridge = λ i l e. lower i k l (λ b. bridge-kept i b (taken-loose ss i e) (takenAt ss i) (a .bridge i b e))
+        (λ q. subst (λ (x : ℕ). Bridge ss (suc k) (relabelled lo hi ls) next met x (takenAt ss x)) (sym q) (rw taken bridge-new));
   }

@@ -12,16 +12,17 @@ use Rattle.plant_def.specs.Plants.{Plant}
 use Rattle.plant_def.specs.Within.{Within}
 use Rattle.flow_def.specs.Flows.{streamAt, amountAt, balanced, allowed, square, cost, costOver}
 use Rattle.flow_def.specs.Certificate.{weightOf, climb, rises, falls}
-use Rattle.flow_def.proofs.Integers.{Le, canon, Z·diff, plus-val, one-times}
-use Rattle.flow_def.proofs.Sums.{sum, sum-same, sum-plus, sum-times, sum-le, sum-tight}
+use Rattle.num_bytes.proofs.Integers.{Le, canon, Z·diff, plus-val, one-times}
+use Rattle.num_bytes.proofs.Sums.{sum, sum-same, sum-plus, sum-times, sum-le, sum-tight}
 use Rattle.flow_def.proofs.Nets.{countOf, streamOf, sum-listed, balanced-size, no-gain}
 use Rattle.flow_def.proofs.Steps.{Step, Tied, whole, tied}
 use Rattle.flow_def.proofs.Ranges.{balanced-of, range-of, free-whole}
 
--- The step condition of a stream with amount x, and of all streams of a flow.
+-- The step condition of a stream with amount x.
 abbrev pub StepAt : ℕ → (ℕ → ℤ) → Stream → ℤ → Type 0
 StepAt Δ π s x = Step Δ (weightOf s) (x -ℤ s .reading) (climb π s) (falls s x) (rises s x)
 
+-- Every stream meets the step condition at the climb of the potentials along it.
 abbrev pub Steps : ℕ → (ℕ → ℤ) → List Stream → (ℕ → ℤ) → Type 0
 Steps Δ π ss x = (k : ℕ) → k < length ss → StepAt Δ π (streamAt ss k) (x k)
 
@@ -30,22 +31,26 @@ pub record Certificate (p : Plant) (xs : List ℤ) (π : ℕ → ℤ) : Type 0 w
   pub balance : allowed p xs ≡ true
   pub steps : Steps 1 π (p .streams) (amountAt xs)
 
--- A stream's part in the cost of a whole flow and of one over D, and the cost as their sum.
+-- A stream's part in the cost of a whole flow.
 abbrev pub share : Stream → ℤ → ℕ
 share s x = weightOf s * square (x -ℤ s .reading)
 
+-- D squared times what a stream's amount in D-ths costs.
 abbrev pub shareOver : ℕ → Stream → ℤ → ℕ
 shareOver D s x = weightOf s * square (x -ℤ pos D *ℤ s .reading)
 
+-- A weight that a test gives or takes away, times q.
 pub weighed : (b : Bool) (w q : ℕ) → pick b (w * q) 0 ≡ pick b w 0 * q
 weighed true w q = refl
 weighed false w q = omega arith
 
+-- The cost of a flow in D-ths is the sum over its streams,
 pub cost-is : (D : ℕ) (ss : List Stream) (xs : List ℤ) → length xs ≡ length ss
     → pos (costOver D ss xs) ≡ sum (length ss) (λ k. pos (shareOver D (streamAt ss k) (amountAt xs k)))
 cost-is D = sum-listed (λ s x. pos (shareOver D s x)) (λ ss xs. pos (costOver D ss xs)) (λ xs. refl)
     (λ s ss x xs. ap (λ a. pos (a + costOver D ss xs)) (weighed (s .metered) (s .weight) (square (x -ℤ pos D *ℤ s .reading))))
 
+-- and so is that of a whole flow.
 pub cost-one : (ss : List Stream) (xs : List ℤ) → length xs ≡ length ss
     → pos (cost ss xs) ≡ sum (length ss) (λ k. pos (share (streamAt ss k) (amountAt xs k)))
 cost-one ss xs e = cost-is 1 ss xs e ∙ sum-same (length ss) _ _ (λ k l. of (streamAt ss k) (amountAt xs k))
@@ -58,6 +63,7 @@ term : (c y D r : ℤ) → c *ℤ (y -ℤ D *ℤ r) ≡ c *ℤ y +ℤ negℤ D *
 term c y D r = rw (← canon c, ← canon y, ← canon D, ← canon r) (simp Z·diff (omega arith))
 
 module _ (p : Plant) (w : Within p) (π : ℕ → ℤ) (ys : List ℤ) (b : balanced p ys ≡ true) where
+  -- What potentials gain along the deviations of a balanced flow in D-ths depends on the readings alone,
   pub gain-is : (D : ℤ) → sum (countOf p) (λ k. climb π (streamOf p k) *ℤ (amountAt ys k -ℤ D *ℤ streamOf p k .reading))
       ≡ negℤ D *ℤ sum (countOf p) (λ k. climb π (streamOf p k) *ℤ streamOf p k .reading)
   gain-is D =
@@ -75,6 +81,7 @@ module _ (p : Plant) (w : Within p) (π : ℕ → ℤ) (ys : List ℤ) (b : bala
       r : ℕ → ℤ
       r k = streamOf p k .reading
 
+  -- and likewise of a whole flow.
   pub gain-one : sum (countOf p) (λ k. climb π (streamOf p k) *ℤ (amountAt ys k -ℤ streamOf p k .reading))
       ≡ negℤ (pos 1) *ℤ sum (countOf p) (λ k. climb π (streamOf p k) *ℤ streamOf p k .reading)
   gain-one =

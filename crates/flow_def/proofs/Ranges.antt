@@ -14,7 +14,7 @@ use Rattle.plant_def.specs.declared.Stream.{Stream}
 use Rattle.plant_def.specs.Plants.{Plant, limited}
 use Rattle.flow_def.specs.Flows.{streamAt, amountAt, balanced, inRange, inRanges, allowedOver, nearest}
 use Rattle.flow_def.specs.Certificate.{rises, falls}
-use Rattle.flow_def.proofs.Integers.{up, dn, Le, Lt, leZ-le, le-leZ, ltZ-lt, lt-ltZ, Le-unless, Le-antisym, minus-val, product, one-times, val}
+use Rattle.num_bytes.proofs.Integers.{up, dn, Le, Lt, leZ-le, le-leZ, ltZ-lt, lt-ltZ, Le-unless, Le-antisym, minus-val, product, one-times, val}
 use Rattle.flow_def.proofs.Nets.{countOf, streamOf, balanced-size}
 use Rattle.flow_def.proofs.Steps.{Free}
 
@@ -22,6 +22,7 @@ use Rattle.flow_def.proofs.Steps.{Free}
 pub asked : (b t : Bool) → not b || t ≡ true → b ≡ true → t ≡ true
 asked b t e h = or-cases (not b) t e (λ z. clash b h (not-true b z)) (λ z. z)
 
+-- Where b implies t, "not b, or t" is answered with true.
 pub answered : (b t : Bool) → (b ≡ true → t ≡ true) → not b || t ≡ true
 answered b t f = by-cases b (λ h. or-right (not b) t (f h)) (λ h. or-left (not b) t (ap not h))
 
@@ -34,19 +35,22 @@ range-says d s x e h =
     let t = asked (limited s) _ e h in
     (leZ-le (pos d *ℤ s .low) x (and-left _ (leZ x (pos d *ℤ s .high)) t), leZ-le x (pos d *ℤ s .high) (and-right (leZ (pos d *ℤ s .low) x) _ t))
 
+-- Between the ends of its range, where it has one, an amount is in range.
 pub range-holds : (d : ℕ) (s : Stream) (x : ℤ) → (limited s ≡ true → Le (pos d *ℤ s .low) x × Le x (pos d *ℤ s .high)) → inRange d s x ≡ true
 range-holds d s x f = answered (limited s) _ (λ h. and-both _ _ (le-leZ (pos d *ℤ s .low) x (f h .0)) (le-leZ x (pos d *ℤ s .high) (f h .1)))
 
+-- A whole amount in range lies between the ends of the range,
 pub whole-says : (s : Stream) (x : ℤ) → inRange 1 s x ≡ true → limited s ≡ true → Le (s .low) x × Le x (s .high)
 whole-says s x e h =
     let t = range-says 1 s x e h in
     (omega (arith, t .0, val _ _ (one-times (s .low))), omega (arith, t .1, val _ _ (one-times (s .high))))
 
+-- and one that lies between them is in range.
 pub whole-holds : (s : Stream) (x : ℤ) → (limited s ≡ true → Le (s .low) x × Le x (s .high)) → inRange 1 s x ≡ true
 whole-holds s x f = range-holds 1 s x (λ h.
     (omega (arith, f h .0, val _ _ (one-times (s .low))), omega (arith, f h .1, val _ _ (one-times (s .high)))))
 
--- The ranges of all streams.
+-- Amounts that are in range together are in range one by one.
 pub ranges-at : (d : ℕ) (ss : List Stream) (xs : List ℤ) → length xs ≡ length ss → inRanges d ss xs ≡ true
     → (k : ℕ) → k < length ss → inRange d (streamAt ss k) (amountAt xs k) ≡ true
 ranges-at d [] xs n e k l = absurd (omega arith)
@@ -54,6 +58,7 @@ ranges-at d (s ∷ ss) [] n e k l = absurd (omega arith)
 ranges-at d (s ∷ ss) (x ∷ xs) n e zero l = and-left (inRange d s x) (inRanges d ss xs) e
 ranges-at d (s ∷ ss) (x ∷ xs) n e (suc k) l = ranges-at d ss xs (omega arith) (and-right (inRange d s x) (inRanges d ss xs) e) k (omega arith)
 
+-- Amounts that are in range one by one are in range together.
 pub ranges-all : (d : ℕ) (ss : List Stream) (xs : List ℤ) → length xs ≡ length ss
     → ((k : ℕ) → k < length ss → inRange d (streamAt ss k) (amountAt xs k) ≡ true) → inRanges d ss xs ≡ true
 ranges-all d [] xs n h = refl
@@ -63,12 +68,15 @@ ranges-all d (s ∷ ss) (x ∷ xs) n h =
 
 -- A flow in range balances, and each of its amounts is in range.
 module _ (d : ℕ) (p : Plant) (xs : List ℤ) where
+  -- It balances,
   pub balanced-of : allowedOver d p xs ≡ true → balanced p xs ≡ true
   balanced-of e = and-left (balanced p xs) _ e
 
+  -- and each amount is in range;
   pub range-of : allowedOver d p xs ≡ true → (k : ℕ) → k < countOf p → inRange d (streamOf p k) (amountAt xs k) ≡ true
   range-of e = ranges-at d (p .streams) xs (balanced-size p xs (balanced-of e)) (and-right (balanced p xs) _ e)
 
+  -- and the other way.
   pub allowed-of : balanced p xs ≡ true → ((k : ℕ) → k < countOf p → inRange d (streamOf p k) (amountAt xs k) ≡ true) → allowedOver d p xs ≡ true
   allowed-of b h = and-both (balanced p xs) _ b (ranges-all d (p .streams) xs (balanced-size p xs b) h)
 
@@ -96,17 +104,20 @@ module _ (D : ℕ) (s : Stream) (x y : ℤ) (e : inRange D s y ≡ true) where
       scaled : D * (up (x -ℤ s .reading) + (dn x + up (s .reading))) ≡ D * (up x + dn (s .reading) + dn (x -ℤ s .reading))
       scaled = ap (λ k. D * k) (minus-val x (s .reading))
 
+-- Where an amount in range is above x, x may rise; where it is below x, x may fall.
 pub free-whole : (s : Stream) (x y : ℤ) → inRange 1 s y ≡ true → Free (falls s x) (rises s x) (x -ℤ s .reading) (y -ℤ s .reading)
 free-whole s x y e =
     rw (one-times (x -ℤ s .reading), one-times (s .reading)) at (free-over 1 s x y e)
 
 -- At an end of the range.
 module _ (s : Stream) (x : ℤ) (e : inRange 1 s x ≡ true) where
+  -- An amount in range that cannot rise is at the upper end,
   pub at-high : rises s x ≡ false → (limited s ≡ true) × (x ≡ s .high)
   at-high r =
       let q = not-false (limited s) (or-none-left (not (limited s)) _ r) in
       (q, Le-antisym x (s .high) (whole-says s x e q .1) (not-below x (s .high) (or-none-right (not (limited s)) _ r)))
 
+  -- and one that cannot fall at the lower end.
   pub at-low : falls s x ≡ false → (limited s ≡ true) × (x ≡ s .low)
   at-low r =
       let q = not-false (limited s) (or-none-left (not (limited s)) _ r) in

@@ -17,11 +17,12 @@ use Rattle.flow_def.specs.Flows.{streamAt}
 use Rattle.flow_def.specs.Chains.{Counting, Chain}
 use Rattle.flow_def.specs.Labels.{renamed, relabelled, united, stepped, labelsAfter, labelsOf, oneLabel, ownLabels}
 use Rattle.flow_def.specs.Groups.{firstOnly}
-use Rattle.flow_def.proofs.Lists.{map-at}
+use Rattle.num_bytes.proofs.Lists.{map-at}
 use Rattle.flow_def.proofs.Reach.{Inside, bit-mono, chain-map, joined→chain, chain→joined}
 use Rattle.flow_def.proofs.Labels.{Labelling, labelling, label→chain, label-member, label-low, label-lowest, stepped-one}
-use Rattle.flow_def.specs.Loops.{countTo, but, joins, AllJoin}
-use Rattle.flow_def.proofs.Counts.{one, count-le, count-same, count-but}
+use Rattle.num_bytes.specs.Sums.{countTo}
+use Rattle.flow_def.specs.Loops.{but, joins, AllJoin}
+use Rattle.num_bytes.proofs.Counts.{one, count-le, count-same, count-but}
 use Rattle.flow_def.proofs.Chains.{Spans, chain-bind}
 
 -- The label hi becomes lo: one place less bears its own number.

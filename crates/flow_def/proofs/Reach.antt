@@ -25,34 +25,38 @@ abbrev pub Subset : List ℕ → List ℕ → Type 0
 Subset a b = (v : ℕ) → has v a ≡ true → has v b ≡ true
 
 -- How many of the places below n a list holds.
-abbrev pub held : ℕ → List ℕ → ℕ
-held zero seen = 0
-held (suc n) seen = pick (has n seen) 1 0 + held n seen
+abbrev pub members : ℕ → List ℕ → ℕ
+members zero seen = 0
+members (suc n) seen = pick (has n seen) 1 0 + members n seen
 
+-- An answer counts once at most.
 pub bit-most : (b : Bool) → pick {A = ℕ} b 1 0 ≤ 1
 bit-most true = omega arith
 bit-most false = omega arith
 
+-- An answer that follows from another counts at least as much.
 pub bit-mono : (a b : Bool) → (a ≡ true → b ≡ true) → pick {A = ℕ} a 1 0 ≤ pick b 1 0
 bit-mono true b f = rw (f refl) (omega arith)
 bit-mono false b f = omega arith
 
-pub held-most : (n : ℕ) (seen : List ℕ) → held n seen ≤ n
-held-most zero seen = omega arith
-held-most (suc n) seen = omega (arith, bit-most (has n seen), held-most n seen)
+-- A list holds at most n of the numbers below n.
+pub members-most : (n : ℕ) (seen : List ℕ) → members n seen ≤ n
+members-most zero seen = omega arith
+members-most (suc n) seen = omega (arith, bit-most (has n seen), members-most n seen)
 
-held-mono : (n : ℕ) (a b : List ℕ) → Subset a b → held n a ≤ held n b
-held-mono zero a b w = omega arith
-held-mono (suc n) a b w = omega (arith, bit-mono (has n a) (has n b) (w n), held-mono n a b w)
+members-mono : (n : ℕ) (a b : List ℕ) → Subset a b → members n a ≤ members n b
+members-mono zero a b w = omega arith
+members-mono (suc n) a b w = omega (arith, bit-mono (has n a) (has n b) (w n), members-mono n a b w)
 
-pub held-more : (n v : ℕ) (a b : List ℕ) → Subset a b → v < n → has v a ≡ false → has v b ≡ true → held n a < held n b
-held-more zero v a b w l e f = absurd (omega arith)
-held-more (suc n) v a b w l e f =
+-- A list that holds all that another holds, and v besides, holds more.
+pub members-more : (n v : ℕ) (a b : List ℕ) → Subset a b → v < n → has v a ≡ false → has v b ≡ true → members n a < members n b
+members-more zero v a b w l e f = absurd (omega arith)
+members-more (suc n) v a b w l e f =
     by-cases (eqb v n) (λ t. here (eqb-true v n t))
-    (λ t. omega (arith, bit-mono (has n a) (has n b) (w n), held-more n v a b w (below t) e f))
+    (λ t. omega (arith, bit-mono (has n a) (has n b) (w n), members-more n v a b w (below t) e f))
   where
-    here : v ≡ n → held (suc n) a < held (suc n) b
-    here q = rw (rw q at e, rw q at f) (omega (arith, held-mono n a b w))
+    here : v ≡ n → members (suc n) a < members (suc n) b
+    here q = rw (rw q at e, rw q at f) (omega (arith, members-mono n a b w))
 
     below : eqb v n ≡ false → v < n
     below t = let z : v ≡ n → ⊥ = eqb-false v n t in omega arith
@@ -101,19 +105,19 @@ module _ (counts : Counting) where
 
   -- A stream changes nothing and is level, or the list holds more places.
   turn-cases : (n i : ℕ) (s : Stream) (seen : List ℕ) → (s .from ≤ n) × (s .to ≤ n)
-      → ((turn i s seen ≡ seen) × Level seen i s) ⊎ (held (suc n) seen < held (suc n) (turn i s seen))
+      → ((turn i s seen ≡ seen) × Level seen i s) ⊎ (members (suc n) seen < members (suc n) (turn i s seen))
   turn-cases n i s seen w = go (counts i s) (has (s .from) seen) (has (s .to) seen) refl refl refl
     where
       go : (b f t : Bool) → counts i s ≡ b → has (s .from) seen ≡ f → has (s .to) seen ≡ t
-          → ((turn i s seen ≡ seen) × Level seen i s) ⊎ (held (suc n) seen < held (suc n) (turn i s seen))
+          → ((turn i s seen ≡ seen) × Level seen i s) ⊎ (members (suc n) seen < members (suc n) (turn i s seen))
       go false f t b-is f-is t-is = inl (simp b-is, λ c. clash (counts i s) c b-is)
       go true true true b-is f-is t-is = inl (simp (b-is, f-is, t-is), λ c. f-is ∙ sym t-is)
       go true false false b-is f-is t-is = inl (simp (b-is, f-is, t-is), λ c. f-is ∙ sym t-is)
       go true true false b-is f-is t-is =
-          inr (held-more (suc n) (s .to) seen (turn i s seen) (turn-keeps i s seen) (omega arith) t-is
+          inr (members-more (suc n) (s .to) seen (turn i s seen) (turn-keeps i s seen) (omega arith) t-is
           (simp (b-is, f-is) (including-keeps (s .from) (including (s .to) seen) (s .to) (including-has (s .to) seen))))
       go true false true b-is f-is t-is =
-          inr (held-more (suc n) (s .from) seen (turn i s seen) (turn-keeps i s seen) (omega arith) f-is
+          inr (members-more (suc n) (s .from) seen (turn i s seen) (turn-keeps i s seen) (omega arith) f-is
           (simp (b-is, f-is, t-is) (has-first (s .from) [])))
 
   -- So does a round.
@@ -121,7 +125,7 @@ module _ (counts : Counting) where
   AllLevel seen i ss = (k : ℕ) → k < length ss → Level seen (i + k) (streamAt ss k)
 
   round-cases : (n i : ℕ) (ss : List Stream) (seen : List ℕ) → Inside n ss
-      → ((spread counts i ss seen ≡ seen) × AllLevel seen i ss) ⊎ (held (suc n) seen < held (suc n) (spread counts i ss seen))
+      → ((spread counts i ss seen ≡ seen) × AllLevel seen i ss) ⊎ (members (suc n) seen < members (suc n) (spread counts i ss seen))
   round-cases n i [] seen w = inl (refl, λ k l. absurd (omega arith))
   round-cases n i (s ∷ ss) seen w = go (turn-cases n i s seen (w 0 (omega arith))) (round-cases n (suc i) ss seen (λ k l. w (suc k) (omega arith)))
     where
@@ -129,25 +133,25 @@ module _ (counts : Counting) where
       both a b zero l = rw (from-here i) a
       both a b (suc k) l = rw (from-next i k) (b k (omega arith))
 
-      go : ((turn i s seen ≡ seen) × Level seen i s) ⊎ (held (suc n) seen < held (suc n) (turn i s seen))
-          → ((spread counts (suc i) ss seen ≡ seen) × AllLevel seen (suc i) ss) ⊎ (held (suc n) seen < held (suc n) (spread counts (suc i) ss seen))
-          → ((spread counts i (s ∷ ss) seen ≡ seen) × AllLevel seen i (s ∷ ss)) ⊎ (held (suc n) seen < held (suc n) (spread counts i (s ∷ ss) seen))
+      go : ((turn i s seen ≡ seen) × Level seen i s) ⊎ (members (suc n) seen < members (suc n) (turn i s seen))
+          → ((spread counts (suc i) ss seen ≡ seen) × AllLevel seen (suc i) ss) ⊎ (members (suc n) seen < members (suc n) (spread counts (suc i) ss seen))
+          → ((spread counts i (s ∷ ss) seen ≡ seen) × AllLevel seen i (s ∷ ss)) ⊎ (members (suc n) seen < members (suc n) (spread counts i (s ∷ ss) seen))
       go (inl a) (inl b) = inl (rw (a .0) (b .0), both (a .1) (b .1))
       go (inl a) (inr b) = inr (rw (a .0) b)
-      go (inr a) b = inr (omega (arith, held-mono (suc n) (turn i s seen) (spread counts (suc i) ss (turn i s seen)) (spread-keeps (suc i) ss (turn i s seen))))
+      go (inr a) b = inr (omega (arith, members-mono (suc n) (turn i s seen) (spread counts (suc i) ss (turn i s seen)) (spread-keeps (suc i) ss (turn i s seen))))
 
   rounds-still : (l : ℕ) (ss : List Stream) (seen : List ℕ) → spread counts 0 ss seen ≡ seen → rounds l counts ss seen ≡ seen
   rounds-still zero ss seen e = refl
   rounds-still (suc l) ss seen e = ap (rounds l counts ss) e ∙ rounds-still l ss seen e
 
   -- There are n + 1 places and each round that changes anything brings in one: as many rounds are enough.
-  rounds-closed : (n l : ℕ) (ss : List Stream) (seen : List ℕ) → Inside n ss → suc n ≤ l + held (suc n) seen
+  rounds-closed : (n l : ℕ) (ss : List Stream) (seen : List ℕ) → Inside n ss → suc n ≤ l + members (suc n) seen
       → AllLevel (rounds l counts ss seen) 0 ss
   rounds-closed n zero ss seen w h =
-      ⊎-elim (λ a. a .1) (λ a. absurd (omega (arith, a, held-most (suc n) (spread counts 0 ss seen)))) (round-cases n 0 ss seen w)
+      ⊎-elim (λ a. a .1) (λ a. absurd (omega (arith, a, members-most (suc n) (spread counts 0 ss seen)))) (round-cases n 0 ss seen w)
   rounds-closed n (suc l) ss seen w h =
       ⊎-elim (λ a. subst (λ (z : List ℕ). AllLevel z 0 ss) (sym (rounds-still (suc l) ss seen (a .0))) (a .1))
-      (λ (a : held (suc n) seen < held (suc n) (spread counts 0 ss seen)). rounds-closed n l ss (spread counts 0 ss seen) w (omega arith))
+      (λ (a : members (suc n) seen < members (suc n) (spread counts 0 ss seen)). rounds-closed n l ss (spread counts 0 ss seen) w (omega arith))
       (round-cases n 0 ss seen w)
 
   -- `joinedTo` is closed under the streams that count.
@@ -155,15 +159,17 @@ module _ (counts : Counting) where
       → has (streamAt (p .streams) k .from) (joinedTo counts p u) ≡ has (streamAt (p .streams) k .to) (joinedTo counts p u)
   joined-closed p w u k l c = rounds-closed (p .units) (suc (p .units)) (p .streams) (u ∷ []) w (omega arith) k l (rw (from-first k) c)
 
+  -- A place is joined to itself.
   pub joined-self : (p : Plant) (u : ℕ) → has u (joinedTo counts p u) ≡ true
   joined-self p u = rounds-keep (suc (p .units)) (p .streams) (u ∷ []) u (has-first u [])
 
--- Chains one after the other, and followed back.
+-- Two chains, one after the other, are a chain.
 pub chain-trans : {counts : Counting} {ss : List Stream} {u v w : ℕ} → Chain counts ss u v → Chain counts ss v w → Chain counts ss u w
 chain-trans c stop = c
 chain-trans c (along k l h d) = along k l h (chain-trans c d)
 chain-trans c (back k l h d) = back k l h (chain-trans c d)
 
+-- A chain leads both ways.
 pub chain-sym : {counts : Counting} {ss : List Stream} {u v : ℕ} → Chain counts ss u v → Chain counts ss v u
 chain-sym stop = stop
 chain-sym (along k l h c) = chain-trans (back k l h stop) (chain-sym c)
@@ -211,7 +217,7 @@ module _ (P : ℕ → Type 0) (counts : Counting) where
   holds-rounds zero ss seen c h = h
   holds-rounds (suc l) ss seen c h = holds-rounds l ss (spread counts 0 ss seen) c (holds-spread 0 ss seen c h)
 
--- Membership is exactly a chain of streams that count.
+-- A chain of streams that count leads to each place of the set.
 pub joined→chain : (counts : Counting) (p : Plant) (u v : ℕ) → has v (joinedTo counts p u) ≡ true → Chain counts (p .streams) u v
 joined→chain counts p u v e =
     holds-rounds (Chain counts (p .streams) u) counts (suc (p .units)) (p .streams) (u ∷ [])
@@ -219,6 +225,7 @@ joined→chain counts p u v e =
     (holds-cons (Chain counts (p .streams) u) counts u [] stop (λ w z. absurd (false≢true z))) v e
 
 module _ (counts : Counting) (p : Plant) (w : Inside (p .units) (p .streams)) where
+  -- A place that a chain leads to is in the set.
   pub chain→joined : {u v : ℕ} → Chain counts (p .streams) u v → has v (joinedTo counts p u) ≡ true
   chain→joined {u} stop = joined-self counts p u
   chain→joined {u} (along k l h c) = sym (joined-closed counts p w u k l h) ∙ chain→joined c

@@ -13,17 +13,19 @@ use Rattle.num_bytes.proofs.Tests.{clash}
 use Rattle.plant_def.specs.declared.Stream.{Stream}
 use Rattle.flow_def.specs.Flows.{streamAt}
 use Rattle.flow_def.specs.Chains.{Counting, Chain}
-use Rattle.flow_def.proofs.Integers.{canon, Z·diff, plus-four}
-use Rattle.flow_def.proofs.Sums.{sum-same, sum-none, sum-plus, sum-only}
+use Rattle.num_bytes.proofs.Integers.{canon, Z·diff, plus-four}
+use Rattle.num_bytes.proofs.Sums.{sum-same, sum-none, sum-plus, sum-only}
 use Rattle.flow_def.proofs.Nets.{brought, netOf}
 
 -- The amount t at one number, of a place or a stream, and nothing at any other.
 abbrev pub only : ℕ → ℤ → ℕ → ℤ
 only v t u = pick (eqb v u) t (pos 0)
 
+-- The amount at the one number that has it,
 pub only-at : (v : ℕ) (t : ℤ) → only v t v ≡ t
 only-at v t = rw (eq-eqb v v refl)
 
+-- and 0 at every other.
 pub only-off : (v u : ℕ) (t : ℤ) → (v ≡ u → ⊥) → only v t u ≡ pos 0
 only-off v u t n = rw (ne-eqb v u n)
 
@@ -42,16 +44,18 @@ only-neg v t u = go (eqb v u)
     go true = refl
     go false = refl
 
--- What a stream brings: of nothing nothing, of a sum the sum, and at its two ends its amount.
-brought-none : (u : ℕ) (s : Stream) → brought u s (pos 0) ≡ pos 0
+-- What a stream brings: of nothing nothing.
+pub brought-none : (u : ℕ) (s : Stream) → brought u s (pos 0) ≡ pos 0
 brought-none u s = ap₂ _+ℤ_ (pick-none (eqb (s .to) u)) (pick-none (eqb (s .from) u))
 
+-- Of a sum the sum, and at its two ends its amount.
 brought-plus : (u : ℕ) (s : Stream) (x y : ℤ) → brought u s (x +ℤ y) ≡ brought u s x +ℤ brought u s y
 brought-plus u s x y =
     ap₂ _+ℤ_ (pick-plus (eqb (s .to) u) x y)
     (ap (λ (z : ℤ). pick (eqb (s .from) u) z (pos 0)) (negℤ-+ℤ x y) ∙ pick-plus (eqb (s .from) u) (negℤ x) (negℤ y))
     ∙ plus-four (only (s .to) x u) (only (s .to) y u) (only (s .from) (negℤ x) u) (only (s .from) (negℤ y) u)
 
+-- What a stream brings a place: its amount at the end, less its amount at the start.
 pub brought-ends : (u : ℕ) (s : Stream) (x : ℤ) → brought u s x ≡ only (s .to) x u -ℤ only (s .from) x u
 brought-ends u s x = ap (λ (z : ℤ). only (s .to) x u +ℤ z) (only-neg (s .from) x u)
 
@@ -65,15 +69,17 @@ brought-back u s x =
     ∙ ap₂ _-ℤ_ (only-neg (s .to) x u) (only-neg (s .from) x u)
     ∙ turned (only (s .from) x u) (only (s .to) x u)
 
--- Nets: of no flow, of two flows together, of one stream alone.
+-- With nothing on any stream the net of a place is 0.
 pub net-none : (ss : List Stream) (u : ℕ) → netOf ss (λ k. pos 0) u ≡ pos 0
 net-none ss u = sum-none (length ss) _ (λ k l. brought-none u (streamAt ss k))
 
+-- What two flows together bring a place is the sum.
 pub net-plus : (ss : List Stream) (x y : ℕ → ℤ) (u : ℕ) → netOf ss (λ k. x k +ℤ y k) u ≡ netOf ss x u +ℤ netOf ss y u
 net-plus ss x y u =
     sum-same (length ss) _ _ (λ k l. brought-plus u (streamAt ss k) (x k) (y k))
     ∙ sum-plus (length ss) (λ k. brought u (streamAt ss k) (x k)) (λ k. brought u (streamAt ss k) (y k))
 
+-- A flow on stream j alone brings a place what that stream brings it.
 pub net-only : (ss : List Stream) (j : ℕ) (t : ℤ) (u : ℕ) → j < length ss → netOf ss (only j t) u ≡ brought u (streamAt ss j) t
 net-only ss j t u l =
     sum-only (length ss) j (λ k. brought u (streamAt ss k) (only j t k)) l

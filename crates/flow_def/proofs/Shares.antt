@@ -4,7 +4,8 @@ use lib.IntN.{ℤ, pos, _+ℤ_, _-ℤ_, _*ℤ_}
 use Prim.Native.Nat.{ℕ, suc, _*_}
 use native.Mathlib.Omega.{arith}
 use Rattle.flow_def.specs.Flows.{square}
-use Rattle.flow_def.proofs.Integers.{canon, Z·diff, square-is}
+use Rattle.num_bytes.proofs.Integers.{canon, Z·diff}
+use Rattle.flow_def.proofs.Squares.{square-is}
 
 weighed-square : (w : ℕ) (x : ℤ) → pos (w * square x) ≡ pos w *ℤ (x *ℤ x)
 weighed-square w x = ap (λ (z : ℤ). pos w *ℤ z) (square-is x)
@@ -25,8 +26,8 @@ mixed-share n w a e =
     ∙ ap₂ _+ℤ_ (ap (λ (z : ℤ). pos (n * n) *ℤ z) (sym (weighed-square w a))) (ap (λ (z : ℤ). pos (2 * n) *ℤ (pos w *ℤ (a *ℤ e)) +ℤ z) (sym (weighed-square w e)))
 
 -- Their difference.
-pub gap-share : (w : ℕ) (a e : ℤ) → pos (w * square (e -ℤ a)) +ℤ pos 2 *ℤ (pos w *ℤ (a *ℤ e)) ≡ pos (w * square a) +ℤ pos (w * square e)
-gap-share w a e =
+pub difference-share : (w : ℕ) (a e : ℤ) → pos (w * square (e -ℤ a)) +ℤ pos 2 *ℤ (pos w *ℤ (a *ℤ e)) ≡ pos (w * square a) +ℤ pos (w * square e)
+difference-share w a e =
     ap (λ (z : ℤ). z +ℤ pos 2 *ℤ (pos w *ℤ (a *ℤ e))) (weighed-square w (e -ℤ a)) ∙ ring ∙ ap₂ _+ℤ_ (sym (weighed-square w a)) (sym (weighed-square w e))
   where
     ring : pos w *ℤ ((e -ℤ a) *ℤ (e -ℤ a)) +ℤ pos 2 *ℤ (pos w *ℤ (a *ℤ e)) ≡ pos w *ℤ (a *ℤ a) +ℤ pos w *ℤ (e *ℤ e)
@@ -39,15 +40,17 @@ times-share c w y = weighed-square w (pos c *ℤ y) ∙ ring ∙ ap (λ (z : ℤ
     ring : pos w *ℤ ((pos c *ℤ y) *ℤ (pos c *ℤ y)) ≡ pos (c * c) *ℤ (pos w *ℤ (y *ℤ y))
     ring = rw (← canon y) (simp Z·diff (omega arith))
 
--- Deviations from a reading r over d: of so many times an amount, of a mixture, of a difference.
+-- The deviation of c times an amount, over c times the denominator, is c times its deviation.
 pub times-from : (c d : ℕ) (x r : ℤ) → pos c *ℤ x -ℤ pos (c * d) *ℤ r ≡ pos c *ℤ (x -ℤ pos d *ℤ r)
 times-from c d x r = rw (← canon x, ← canon r) (simp Z·diff (omega arith))
 
+-- A mixture's deviation from the reading is the mixture of the deviations.
 pub mixed-from : (n d : ℕ) (y z r : ℤ) → (pos n *ℤ y +ℤ z) -ℤ pos (suc n * d) *ℤ r ≡ pos n *ℤ (y -ℤ pos d *ℤ r) +ℤ (z -ℤ pos d *ℤ r)
 mixed-from n d y z r = rw (← canon y, ← canon z, ← canon r) (simp Z·diff (omega arith))
 
-pub gap-from : (d : ℕ) (y z r : ℤ) → z -ℤ y ≡ (z -ℤ pos d *ℤ r) -ℤ (y -ℤ pos d *ℤ r)
-gap-from d y z r = rw (← canon y, ← canon z, ← canon r) (simp Z·diff (omega arith))
+-- Two amounts differ as their deviations do.
+pub difference-from : (d : ℕ) (y z r : ℤ) → z -ℤ y ≡ (z -ℤ pos d *ℤ r) -ℤ (y -ℤ pos d *ℤ r)
+difference-from d y z r = rw (← canon y, ← canon z, ← canon r) (simp Z·diff (omega arith))
 
 -- The difference of two flows over d and e, stated over d times e, from the deviations.
 pub cross-from : (d e : ℕ) (y z r : ℤ) → pos d *ℤ (z -ℤ pos e *ℤ r) ≡ pos e *ℤ (y -ℤ pos d *ℤ r) +ℤ (pos d *ℤ z -ℤ pos e *ℤ y)

@@ -9,7 +9,8 @@ use native.Mathlib.Omega.{arith}
 use native.Mathlib.Decide.{decLe}
 use Rattle.flow_def.specs.Flows.{square}
 use Rattle.flow_def.specs.Certificate.{lower, upper}
-use Rattle.flow_def.proofs.Integers.{up, dn, diff, Le, Lt, canon, Z·diff, diff-val, diff-iff, plus-val, same, val, square-diff, between}
+use Rattle.num_bytes.proofs.Integers.{up, dn, diff, Le, Lt, canon, Z·diff, diff-val, diff-iff, plus-val, same, val, between}
+use Rattle.flow_def.proofs.Squares.{square-diff}
 
 -- The condition, at step Δ: the potential difference c of a stream of weight w whose amount is d above its reading is within bounds,
 -- the lower where the amount may be less (a), the upper where it may be more (b).
@@ -105,6 +106,7 @@ rise-fraction D w A B C E p q (suc t) h e =
           mul-le-mul-left w (four-products D (suc t)),
         )
 
+-- A stream's cost at a whole amount is undercut in D-ths by at most a quarter of its weight, the potentials set against it.
 pub fraction : (D w : ℕ) (d e c : ℤ) (a b : Bool) → Step 1 w d c a b → Free a b (pos D *ℤ d) e
     → Le (pos (4 * (D * D) * (w * square d)) +ℤ pos (4 * D) *ℤ (c *ℤ e)) (pos (4 * (w * square e) + D * D * w) +ℤ pos (4 * (D * D)) *ℤ (c *ℤ d))
 fraction D w d e c a b s g = ⊎-elim
@@ -134,9 +136,11 @@ flat-parts w A B l h = elim (decLe A B) [ yes k ↦ k | no k ↦ absurd (clash (
     clash k = omega (arith, mul-le-mul-left w k)
 
 module _ (w : ℕ) (d c : ℤ) (a b : Bool) (l : 1 ≤ w) (z : c ≡ pos 0) (s : Step 1 w d c a b) where
+  -- Where the amount may rise, it is not below the reading,
   pub flat-high : b ≡ true → dn d ≤ up d
   flat-high t = flat-parts w (dn d) (up d) l (omega (arith, val c (pos 0) z, high-parts 1 w d c (s .high t)))
 
+  -- and where it may fall, not above.
   pub flat-low : a ≡ true → up d ≤ dn d
   flat-low t = flat-parts w (up d) (dn d) l (omega (arith, val c (pos 0) z, low-parts 1 w d c (s .low t)))
 
@@ -153,6 +157,7 @@ flat-rise D w A B C E (suc t) h e = rw (diff-same C E (D * A + suc t) (D * B) e)
       mul-le-mul-left w (mul-le-mul-left (suc t) (mul-le-mul-left D (h (omega arith)))),
     ))
 
+-- Between places of one potential, a stream of weight at least 1 is not undercut at all.
 pub flat : (D w : ℕ) (d e c : ℤ) (a b : Bool) → 1 ≤ w → c ≡ pos 0 → Step 1 w d c a b → Free a b (pos D *ℤ d) e
     → 4 * (D * D) * (w * square d) ≤ 4 * (w * square e)
 flat D w d e c a b l z s g = ⊎-elim
@@ -197,6 +202,7 @@ rise-tied w A B C D p q (suc (suc t)) l h e k =
       mul-le-mul-right (suc (suc t)) (h (omega arith)),
     ))
 
+-- Where another amount in range costs no more, against the potentials, the two are tied.
 pub tied : (w : ℕ) (d e c : ℤ) (a b : Bool) → 1 ≤ w → Step 1 w d c a b → Free a b d e
     → Le (pos (w * square e) +ℤ c *ℤ d) (pos (w * square d) +ℤ c *ℤ e) → Tied w d e c a b
 tied w d e c a b l s g k = ⊎-elim

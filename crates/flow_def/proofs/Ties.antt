@@ -16,18 +16,19 @@ use Rattle.plant_def.specs.Plants.{Plant}
 use Rattle.plant_def.specs.Within.{Within}
 use Rattle.flow_def.specs.Flows.{streamAt, amountAt, allowed, cost, Cheapest}
 use Rattle.flow_def.specs.Certificate.{weightOf, climb, lower, upper, leastClimb, mostClimb, rises, falls}
-use Rattle.flow_def.proofs.Integers.{Le, Lt, Le-unless, val, plus-val, minus-val, up-neg, dn-neg}
-use Rattle.flow_def.proofs.Sums.{sum-tight}
+use Rattle.num_bytes.proofs.Integers.{Le, Lt, Le-unless, val, plus-val, minus-val, up-neg, dn-neg}
+use Rattle.num_bytes.proofs.Sums.{sum-tight}
 use Rattle.flow_def.proofs.Nets.{countOf, streamOf, crossing, no-crossing, balanced-size}
 use Rattle.flow_def.proofs.Steps.{Step, Tied, level, above, below, free}
 use Rattle.flow_def.proofs.Ranges.{balanced-of, unmetered-moves}
 use Rattle.flow_def.proofs.Potentials.{Certificate, least, ties}
 use Rattle.flow_def.proofs.Order.{AgreeTo, LeadsTo, in-order}
 
--- A stream that cannot carry less, or more, at no cost: that would cost, or leave its range.
+-- A stream that cannot carry less at no cost: less would cost, or leave its range.
 abbrev pub NoLess : (ℕ → ℤ) → Stream → ℤ → Type 0
 NoLess π s x = falls s x ≡ true → Lt (leastClimb s x) (climb π s)
 
+-- The stream's amount cannot rise at no cost, against the potentials.
 abbrev pub NoMore : (ℕ → ℤ) → Stream → ℤ → Type 0
 NoMore π s x = rises s x ≡ true → Lt (climb π s) (mostClimb s x)
 
@@ -43,7 +44,7 @@ meteredTo i k s = s .metered && leb k i
 -- Why the amount of metered stream i cannot fall at no cost while the earlier ones stay: its lower bound is not tight, or there
 -- is a cut, a set of places with its first end and without its second, that nothing leaves at no cost by the other streams.
 pub data Stays (ss : List Stream) (π x : ℕ → ℤ) (i : ℕ) : Type 0 where
-  slack : NoLess π (streamAt ss i) (x i) → Stays ss π x i
+  strict : NoLess π (streamAt ss i) (x i) → Stays ss π x i
   cut : (c : ℕ → Bool) → c (streamAt ss i .from) ≡ true → c (streamAt ss i .to) ≡ false
       → ((k : ℕ) → k < length ss → meteredTo i k (streamAt ss k) ≡ false → Shut c π (streamAt ss k) (x k)) → Stays ss π x i
 
@@ -138,7 +139,7 @@ module _ (p : Plant) (w : Within p) (π : ℕ → ℤ) (xs : List ℤ) (c : Cert
 
     -- No flow of equal cost and the same earlier metered amounts has less on stream i.
     pub stays-least : Stays (p .streams) π (amountAt xs) i → Le (amountAt xs i) (amountAt ys i)
-    stays-least (slack e) = no-less-at i l e
+    stays-least (strict e) = no-less-at i l e
     stays-least (cut side f t shut) = Le-unless (x i) (y i) (cut-keeps side f t shut)
 
 -- A certified flow that is least on each metered stream among flows of equal cost is the cheapest flow.

@@ -17,7 +17,7 @@ use Rattle.flow_def.specs.declared.Class.the-variants.{Given, Withheld}
 use Rattle.flow_def.specs.Flows.{streamAt, amountAt, meteredOf, Agree}
 use Rattle.flow_def.specs.Classes.{unmeteredBut, onLoop, classOf}
 use Rattle.flow_def.specs.Shown.{Unmetered}
-use Rattle.flow_def.proofs.Integers.{canon, Z·diff}
+use Rattle.num_bytes.proofs.Integers.{canon, Z·diff}
 use Rattle.flow_def.proofs.Nets.{netOf, listed, listed-size, listed-at, listed-balanced}
 use Rattle.flow_def.proofs.Reach.{chain-sym, joined→chain}
 use Rattle.flow_def.proofs.Routes.{only, only-at, only-off, brought-ends, net-none, net-plus, net-only, Route, route}

@@ -11,7 +11,7 @@ use Rattle.plant_def.specs.Plants.{Plant}
 use Rattle.plant_def.specs.Says.{plantOf}
 use Rattle.flow_def.specs.declared.Class.{Class}
 use Rattle.flow_def.specs.declared.Class.the-variants.{AsRead, Adjusted, Given, Withheld}
-use Rattle.flow_def.specs.declared.Cuts.{Cuts}
+use Rattle.flow_def.specs.declared.Bridges.{Bridges}
 use Rattle.flow_def.specs.declared.Which.{Which}
 use Rattle.flow_def.specs.declared.Which.the-variants.{Every, Unmetered}
 use Rattle.num_bytes.specs.Inner.{values}
@@ -19,7 +19,8 @@ use Rattle.flow_def.specs.Classes.{classOf}
 use Rattle.flow_def.specs.Chains.{Counting, everyStream, unmeteredOnly}
 use Rattle.flow_def.specs.Groups.{Groups}
 use Rattle.flow_def.specs.Labels.{oneLabel}
-use Rattle.flow_def.specs.Sides.{bit, takenAt, loopedAfter}
+use Rattle.num_bytes.specs.Sums.{bit}
+use Rattle.flow_def.specs.Sides.{takenAt, loopedAfter}
 
 -- Which streams count, by the cases of Which.
 abbrev pub counting : Which → Counting
@@ -35,7 +36,7 @@ abbrev pub Grouped : Arrays.Plant → List ℕ → Type 0
 Grouped p labels = Groups unmeteredOnly (plantOf p .streams) (p .count) labels
 
 -- A plant's labels by the unmetered streams, the labels that its streams take away, and the bits of those that lie on a loop.
-pub record Cutting (p : Arrays.Plant) (c : Cuts) : Type 0 where
+pub record Bridging (p : Arrays.Plant) (c : Bridges) : Type 0 where
   pub grouped : Grouped p (c .labels)
   pub long : length (c .taken) ≡ maxStreams
   pub each : (i : ℕ) → i < p .count → getD (c .taken) i 0 ≡ takenAt (plantOf p .streams) i

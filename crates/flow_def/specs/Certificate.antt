@@ -19,24 +19,27 @@ weightOf s = pick (s .metered) (s .weight) 0
 abbrev pub climb : (ℕ → ℤ) → Stream → ℤ
 climb π s = π (s .to) -ℤ π (s .from)
 
--- The bounds on it, at step Δ, of a stream of weight w whose amount is d above its reading: the marginal costs of less and of more.
+-- The lower bound on it, at step Δ, of a stream of weight w whose amount is d above its reading: the marginal cost of less.
 abbrev pub lower : ℕ → ℕ → ℤ → ℤ
 lower Δ w d = pos w *ℤ (pos 2 *ℤ d -ℤ pos Δ)
 
+-- The upper of the two: the marginal cost of more.
 abbrev pub upper : ℕ → ℕ → ℤ → ℤ
 upper Δ w d = pos w *ℤ (pos 2 *ℤ d +ℤ pos Δ)
 
--- The same of a stream that carries x, at step 1.
+-- The least that the potentials may climb along a stream that carries x: the lower bound at step 1.
 abbrev pub leastClimb : Stream → ℤ → ℤ
 leastClimb s x = lower 1 (weightOf s) (x -ℤ s .reading)
 
+-- The most that the potentials may climb along it.
 abbrev pub mostClimb : Stream → ℤ → ℤ
 mostClimb s x = upper 1 (weightOf s) (x -ℤ s .reading)
 
--- More, or less, than x is in the stream's range: x is below its high end, or above its low end.
+-- More than x is in the stream's range: it has none, or x is below its high end.
 abbrev pub rises : Stream → ℤ → Bool
 rises s x = not (limited s) || ltZ x (s .high)
 
+-- Less than x is in the stream's range.
 abbrev pub falls : Stream → ℤ → Bool
 falls s x = not (limited s) || ltZ (s .low) x
 

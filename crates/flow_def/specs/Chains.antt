@@ -12,9 +12,11 @@ use Rattle.flow_def.specs.Flows.{streamAt}
 abbrev pub Counting : Type 0
 Counting = ℕ → Stream → Bool
 
+-- Every stream counts,
 abbrev pub everyStream : Counting
 everyStream i s = true
 
+-- or the unmetered ones alone.
 abbrev pub unmeteredOnly : Counting
 unmeteredOnly i s = not (s .metered)
 
@@ -29,4 +31,4 @@ pub data Chain (counts : Counting) (ss : List Stream) (u : ℕ) : ℕ → Type 0
 pub record OneEach (counts : Counting) (p : Plant) (us : List ℕ) : Type 0 where
   pub place : (k : ℕ) → k < length us → getD us k 0 ≤ p .units
   pub joined : (u : ℕ) → u ≤ p .units → (k : ℕ) × (k < length us) × Chain counts (p .streams) u (getD us k 0)
-  pub apart : (j k : ℕ) → j < length us → k < length us → Chain counts (p .streams) (getD us j 0) (getD us k 0) → j ≡ k
+  pub distinct : (j k : ℕ) → j < length us → k < length us → Chain counts (p .streams) (getD us j 0) (getD us k 0) → j ≡ k

@@ -12,11 +12,12 @@ use Rattle.flow_def.specs.declared.Class.the-variants.{Adjusted, AsRead,
 use Rattle.flow_def.specs.Flows.{streamAt, amountAt}
 use Rattle.flow_def.specs.Chains.{Counting, everyStream, unmeteredOnly}
 
--- Sets of places as lists.
+-- Place u is in a set of places, held as a list.
 abbrev pub has : ℕ → List ℕ → Bool
 has u [] = false
 has u (v ∷ vs) = eqb u v || has u vs
 
+-- The set with place u in it.
 abbrev pub including : ℕ → List ℕ → List ℕ
 including u vs = pick (has u vs) vs (u ∷ vs)
 
@@ -27,6 +28,7 @@ spread counts i (s ∷ ss) seen =
     spread counts (suc i) ss
     (pick (counts i s && (has (s .from) seen || has (s .to) seen)) (including (s .from) (including (s .to) seen)) seen)
 
+-- So many rounds, one after the other.
 abbrev pub rounds : ℕ → Counting → List Stream → List ℕ → List ℕ
 rounds zero counts ss seen = seen
 rounds (suc l) counts ss seen = rounds l counts ss (spread counts 0 ss seen)
@@ -72,11 +74,12 @@ givenOf p i xs = sideOut (joinedTo (unmeteredBut i) p (streamAt (p .streams) i .
 abbrev pub numberOf : Plant → List ℤ → ℕ → ℤ
 numberOf p xs i = pick (streamAt (p .streams) i .metered) (amountAt xs i) (givenOf p i xs)
 
--- The sets of joined places, counted by their lowest members, places 0 to n.
+-- Place u is not above any place of a list.
 abbrev pub lowest : ℕ → List ℕ → Bool
 lowest u [] = true
 lowest u (v ∷ vs) = leb u v && lowest u vs
 
+-- How many of the places 0 to n are the lowest of their set.
 abbrev pub leadersTo : Counting → Plant → ℕ → ℕ
 leadersTo counts p zero = 1
 leadersTo counts p (suc u) = pick (lowest (suc u) (joinedTo counts p (suc u))) 1 0 + leadersTo counts p u

@@ -11,10 +11,11 @@ use Rattle.plant_def.specs.Plants.{Plant, limited, plantFault}
 use Rattle.flow_def.specs.Flows.{streamAt, amountAt, allowedOver}
 use Rattle.flow_def.specs.Certificate.{weightOf, climb, every, listedPotential}
 
--- More, or less, than an amount over d is in the stream's range.
+-- More than an amount over d is in the stream's range.
 abbrev pub risesOver : ℕ → Stream → ℤ → Bool
 risesOver d s y = not (limited s) || ltZ y (pos d *ℤ s .high)
 
+-- Less is in range: the amount is above d × low.
 abbrev pub fallsOver : ℕ → Stream → ℤ → Bool
 fallsOver d s y = not (limited s) || ltZ (pos d *ℤ s .low) y
 

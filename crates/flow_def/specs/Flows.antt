@@ -11,10 +11,11 @@ use Rattle.num_bytes.specs.Choice.{pick}
 use Rattle.plant_def.specs.declared.Stream.{Stream}
 use Rattle.plant_def.specs.Plants.{Plant, noStream, limited}
 
--- Stream k of a list, and its amount in a flow, counted from 0.
+-- Stream k of a list, counted from 0.
 abbrev pub streamAt : List Stream → ℕ → Stream
 streamAt ss k = getD ss k noStream
 
+-- The amount of stream k, counted from 0.
 abbrev pub amountAt : List ℤ → ℕ → ℤ
 amountAt xs k = getD xs k (pos 0)
 
@@ -39,6 +40,7 @@ balanced p xs = eqb (length xs) (length (p .streams)) && balancedTo (p .units) (
 abbrev pub inRange : ℕ → Stream → ℤ → Bool
 inRange d s x = not (limited s) || (leZ (pos d *ℤ s .low) x && leZ x (pos d *ℤ s .high))
 
+-- Every amount over d is in the range of its stream.
 abbrev pub inRanges : ℕ → List Stream → List ℤ → Bool
 inRanges d [] xs = true
 inRanges d (s ∷ ss) [] = true
@@ -52,6 +54,7 @@ allowedOver d p xs = balanced p xs && inRanges d (p .streams) xs
 abbrev pub allowed : Plant → List ℤ → Bool
 allowed p xs = allowedOver 1 p xs
 
+-- The square of a signed number, as an unsigned one.
 abbrev pub square : ℤ → ℕ
 square z = natAbs z * natAbs z
 

@@ -21,6 +21,7 @@ ownNumbers = values places (λ u. u)
 abbrev pub renamed : ℕ → ℕ → ℕ → ℕ
 renamed lo hi x = pick (eqb x hi) lo x
 
+-- The same at every place of a list.
 abbrev pub relabelled : ℕ → ℕ → List ℕ → List ℕ
 relabelled lo hi ls = map (renamed lo hi) ls
 
@@ -37,9 +38,11 @@ unfoldable pub labelsAfter : Counting → List Stream → ℕ → List ℕ
 labelsAfter counts ss zero = ownNumbers
 labelsAfter counts ss (suc k) = stepped (counts k (streamAt ss k)) (streamAt ss k) (labelsAfter counts ss k)
 
+-- The labels after all streams of a plant.
 abbrev pub labelsOf : Counting → Plant → List ℕ
 labelsOf counts p = labelsAfter counts (p .streams) (length (p .streams))
 
+-- Two places have one label.
 abbrev pub oneLabel : List ℕ → ℕ → ℕ → Bool
 oneLabel ls u v = eqb (getD ls u 0) (getD ls v 0)
 

@@ -20,11 +20,12 @@ pub record LeastInFractions (p : Plant) (d : ℕ) (ys : List ℤ) : Type 0 where
 
 -- How far whole numbers, stream k having x k, are from a flow over d: the sum over the metered streams, of the first k, of weight
 -- times (d × number − amount) squared. That is d squared times the sum of weight times (number − amount / d) squared.
-abbrev pub apartTo : ℕ → List Stream → (ℕ → ℤ) → List ℤ → ℕ → ℕ
-apartTo d ss x ys zero = 0
-apartTo d ss x ys (suc k) =
+abbrev pub distanceTo : ℕ → List Stream → (ℕ → ℤ) → List ℤ → ℕ → ℕ
+distanceTo d ss x ys zero = 0
+distanceTo d ss x ys (suc k) =
     let s = streamAt ss k in
-    pick (s .metered) (s .weight * square (pos d *ℤ x k -ℤ amountAt ys k)) 0 + apartTo d ss x ys k
+    pick (s .metered) (s .weight * square (pos d *ℤ x k -ℤ amountAt ys k)) 0 + distanceTo d ss x ys k
 
-abbrev pub apart : ℕ → List Stream → (ℕ → ℤ) → List ℤ → ℕ
-apart d ss x ys = apartTo d ss x ys (length ss)
+-- The same over all metered streams.
+abbrev pub distance : ℕ → List Stream → (ℕ → ℤ) → List ℤ → ℕ
+distance d ss x ys = distanceTo d ss x ys (length ss)

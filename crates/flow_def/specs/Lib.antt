@@ -13,7 +13,6 @@ pub mod Overfull
 pub mod Certificate
 pub mod Nets
 pub mod Calls
-pub mod Written
 pub mod Least
 pub mod Exact
 pub mod Withheld

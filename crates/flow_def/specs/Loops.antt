@@ -1,21 +1,15 @@
--- Sets of streams without loops. (Of these only `countTo`, how many pass a test, stands in a public promise.)
+-- Sets of streams without loops. For proofs and for what inner calls require: no public promise cites it.
 use mathlib.Core.Path.{_≡_}
 use mathlib.Core.Bool.{Bool, true, false, not, _&&_}
 use mathlib.Core.List.{List}
-use Prim.Native.Nat.{ℕ, zero, suc, _+_, _<_}
+use Prim.Native.Nat.{ℕ, _<_}
 use lib.Dec.{eqb}
 use lib.ListN.{length}
-use Rattle.num_bytes.specs.Choice.{pick}
 use Rattle.plant_def.specs.declared.Stream.{Stream}
 use Rattle.flow_def.specs.Flows.{streamAt}
 use Rattle.flow_def.specs.Chains.{Counting}
 use Rattle.flow_def.specs.Labels.{labelsAfter, oneLabel}
 use Rattle.flow_def.specs.Metering.{chosen}
-
--- How many of the numbers below n pass a test.
-abbrev pub countTo : ℕ → (ℕ → Bool) → ℕ
-countTo zero test = 0
-countTo (suc n) test = pick (test n) 1 0 + countTo n test
 
 -- The streams that count, but one.
 abbrev pub but : ℕ → Counting → Counting

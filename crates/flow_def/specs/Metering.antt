@@ -17,6 +17,7 @@ chosen set k = getD set k false
 abbrev pub meter : Stream → Stream
 meter s = record { from = s .from; to = s .to; metered = true; weight = 1; reading = pos 0; ranged = false; low = pos 0; high = pos 0 }
 
+-- The streams of a list, those of a set metered.
 abbrev pub meterAll : List Bool → List Stream → List Stream
 meterAll [] ss = ss
 meterAll (b ∷ set) [] = []

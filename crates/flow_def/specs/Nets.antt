@@ -1,17 +1,13 @@
 -- The net of a place as a sum over the streams' numbers. For proofs and for what inner calls require: no public promise cites it.
 use mathlib.Core.List.{List}
 use lib.IntN.{ℤ, pos, negℤ, _+ℤ_}
-use Prim.Native.Nat.{ℕ, zero, suc}
+use Prim.Native.Nat.{ℕ}
 use lib.Dec.{eqb}
 use lib.ListN.{length}
 use Rattle.num_bytes.specs.Choice.{pick}
+use Rattle.num_bytes.specs.Sums.{sum}
 use Rattle.plant_def.specs.declared.Stream.{Stream}
 use Rattle.flow_def.specs.Flows.{streamAt}
-
--- f 0 + .. + f (n - 1)
-abbrev pub sum : ℕ → (ℕ → ℤ) → ℤ
-sum zero f = pos 0
-sum (suc n) f = f n +ℤ sum n f
 
 -- What stream s, carrying x, brings to place u less what it takes from it: its entry in the incidence matrix times x.
 abbrev pub brought : ℕ → Stream → ℤ → ℤ

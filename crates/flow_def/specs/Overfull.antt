@@ -22,18 +22,20 @@ marks ms u = getD ms u false
 abbrev pub unmarked : List Bool
 unmarked = replicate places false
 
--- The streams across its edge: into the set and out of it.
+-- A stream across its edge, into the set.
 abbrev pub enters : (ℕ → Bool) → Stream → Bool
 enters c s = c (s .to) && not (c (s .from))
 
+-- A stream out of the set.
 abbrev pub leaves : (ℕ → Bool) → Stream → Bool
 leaves c s = c (s .from) && not (c (s .to))
 
--- The lows in and the highs out, summed.
+-- The lows of the streams into the set, summed.
 abbrev pub lowsIn : (ℕ → Bool) → List Stream → ℤ
 lowsIn c [] = pos 0
 lowsIn c (s ∷ ss) = pick (enters c s) (s .low) (pos 0) +ℤ lowsIn c ss
 
+-- The highs of the streams out of the set, summed.
 abbrev pub highsOut : (ℕ → Bool) → List Stream → ℤ
 highsOut c [] = pos 0
 highsOut c (s ∷ ss) = pick (leaves c s) (s .high) (pos 0) +ℤ highsOut c ss

@@ -26,6 +26,7 @@ abbrev pub adjustedTo : Plant → ℕ → ℕ
 adjustedTo p zero = 0
 adjustedTo p (suc k) = adjustedWeight (classOf p k) (streamAt (p .streams) k) + adjustedTo p k
 
+-- The summed weights of all adjusted streams.
 abbrev pub adjusted : Plant → ℕ
 adjusted p = adjustedTo p (length (p .streams))
 
@@ -34,6 +35,7 @@ pub record Unmetered (p : Plant) (i : ℕ) : Type 0 where
   pub listed : i < length (p .streams)
   pub unmetered : streamAt (p .streams) i .metered ≡ false
 
+-- What the sheet of an accepted plant shows, over all its balanced flows.
 pub record Shown (p : Plant) : Type 0 where
   -- There is a cheapest flow, and on the metered streams only one.
   pub some : (xs : List ℤ) × Cheapest p xs

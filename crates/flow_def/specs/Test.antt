@@ -13,6 +13,7 @@ critical =
     ∷ 27587 ∷ 28869 ∷ 30144 ∷ 31410 ∷ 32671 ∷ 33924 ∷ 35172 ∷ 36415
     ∷ 37652 ∷ 38885 ∷ 40113 ∷ 41337 ∷ 42557 ∷ 43773 ∷ 44985 ∷ 46194 ∷ []
 
+-- The critical value at so many degrees.
 abbrev pub criticalAt : ℕ → ℕ
 criticalAt d = getD critical (d - 1) 0
 

@@ -19,7 +19,7 @@ pub enum Which {
 
 // The labels by the unmetered streams; the label that each stream takes away, 0 where it takes none; and the bits of those
 // that lie on a loop, bit 0 being set.
-pub struct Cuts {
+pub struct Bridges {
     pub labels: [u8; PLACES],
     pub taken: [u8; MAX_STREAMS],
     pub looped: u64,

@@ -17,7 +17,7 @@ use Rattle.flow_def.specs.declared.Class.the-variants.{Adjusted}
 use Rattle.flow_def.specs.Classes.{classOf}
 use Rattle.flow_def.specs.Calls.{classesOf}
 use Rattle.flow_def.specs.Shown.{adjustedWeight, adjustedTo, adjusted}
-use Rattle.flow_def.proofs.Lists.{values-at}
+use Rattle.num_bytes.proofs.Lists.{values-at}
 
 -- A plant and the classes of its streams.
 pub record Classed (p : Arrays.Plant) (cs : List Class) : Type 0 where
@@ -34,6 +34,7 @@ pub record Weighed (p : Arrays.Plant) (sum i : ℕ) : Type 0 where
 pub weighed-none : (p : Arrays.Plant) → Weighed p 0 0
 weighed-none p = record { within = omega arith; is = refl; most = omega arith }
 
+-- The class that the array has of stream i is the stream's.
 pub class-is : {p : Arrays.Plant} {cs : List Class} → Classed p cs → (i : ℕ) → i < p .count → getD cs i Adjusted ≡ classOf (plantOf p) i
 class-is {p} d i h =
     ap (λ (l : List Class). getD l i Adjusted) (d .classes)

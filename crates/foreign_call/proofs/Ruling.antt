@@ -11,7 +11,7 @@ use lib.Seq.{ext-getD, getD-take, length-take-le}
 use borrow.Author.Tests.{eq-eqb, ne-eqb, ltb-true, ltb-false, leb-true}
 use Rattle.num_bytes.specs.Choice.{pick}
 use Rattle.num_bytes.proofs.Tests.{by-cases, and-right}
-use Rattle.num_bytes.proofs.Filled.{length-filled, take-filled}
+use Rattle.num_bytes.proofs.Filled.{length-filled, take-filled, getD-any}
 use Rattle.plant_def.specs.declared.Plant as Arrays
 use Rattle.plant_def.specs.declared.Read.{Read}
 use Rattle.plant_def.specs.Limits.{maxStreams, places}
@@ -30,16 +30,16 @@ use Rattle.flow_def.specs.Classes.{classOf, degrees}
 use Rattle.flow_def.specs.Calls.{classesOf}
 use Rattle.flow_def.specs.Shown.{adjusted}
 use Rattle.flow_def.specs.Test.{verdictAt}
-use Rattle.flow_def.proofs.Certified.{every-at}
+use Rattle.flow_def.proofs.Certified.{every-at, every-same}
 use Rattle.flow_def.proofs.ByLabels.{class-past}
-use Rattle.flow_def.proofs.Lists.{values-long, values-at}
-use Rattle.flow_def.proofs.Sums.{sum-same}
+use Rattle.num_bytes.proofs.Lists.{values-long, values-at}
+use Rattle.num_bytes.proofs.Sums.{sum-same}
 use Rattle.solve_def.specs.Sizes.{flowShift}
 use Rattle.sheet_def.specs.declared.Entry.{Entry}
 use Rattle.sheet_def.specs.declared.Total.{Total}
 use Rattle.sheet_def.specs.declared.SheetRead.{SheetRead}
-use Rattle.sheet_def.specs.Apart.{topCost, capped}
-use Rattle.sheet_def.specs.Calls.{AllSmall}
+use Rattle.sheet_def.specs.Totals.{topCost, capped}
+use Rattle.sheet_def.specs.Calls.{AllSmall, noEntry}
 use Rattle.sheet_def.specs.Sheets.{SheetParts, kindOf, known}
 use Rattle.sheet_def.specs.Kept.{Reopened, noSheet, someSheet, readSheet, readOf, blank}
 use Rattle.sheet_def.specs.Sentences.{classOn}
@@ -48,13 +48,12 @@ use Rattle.sheet_def.proofs.Demands.{demands}
 use Rattle.sheet_entries.proofs.Verdicts.{capped-verdict}
 use Rattle.foreign_def.specs.Passing.{difference}
 use Rattle.foreign_def.specs.Says.{CheckSays}
-use Rattle.foreign_def.specs.Test.{withheldOnly, shownAt, shownFlows, noEntry, flowsShown, numbersFit, recordsFit, flowFits, flowsFit, broughtBy, netsFit, totalFits, partsIn, passes, checkWith}
-use Rattle.foreign_def.proofs.Every.{every-same}
-use Rattle.foreign_def.proofs.Sums.{same-default}
+use Rattle.foreign_def.specs.Test.{withheldOnly, shownAt, shownFlows, flowsShown, numbersFit, recordsFit, flowFits, flowsFit, broughtBy, netsFit, totalFits, partsIn, passes, checkWith}
 use Rattle.foreign_def.proofs.Promise.{check-says}
 
 -- The total.
 module _ (p : Plant) (c : ℕ) (t : Total) where
+  -- Other degrees do not fit.
   pub other-degrees : (d : ℕ) → d ≡ degrees p → (t .degrees ≡ d → ⊥) → false ≡ totalFits p c t
   other-degrees d e n = rw (ne-eqb (t .degrees) (degrees p) (λ q. n (q ∙ sym e)))
 
@@ -160,7 +159,7 @@ module _ (p : Arrays.Plant) (kept : SheetRead) (numbers : List ℤ) where
 
     entry-same : (k : ℕ) → k < p .count → getD (kept .streams) k noEntry ≡ getD (S .streams) k blank
     entry-same k l =
-        same-default (kept .streams) k noEntry blank (omega (arith, small-count, s .long))
+        getD-any (kept .streams) k noEntry blank (omega (arith, small-count, s .long))
         ∙ sym (getD-take (kept .count) (kept .streams) k blank (omega (arith, s .same)))
 
     class-same : (k : ℕ) → k < maxStreams → getD classes k Adjusted ≡ classOf P k

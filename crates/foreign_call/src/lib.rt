@@ -1,5 +1,5 @@
 // The check of a plant, a sheet drawn up elsewhere and one number for each place.
-use flow_bridges::cuts_of;
+use flow_bridges::bridges_of;
 use flow_def::Class;
 use foreign_flows::flows_fit;
 use foreign_flows::numbers_fit;
@@ -73,8 +73,8 @@ fn rules_hold(p: Plant, kept: SheetRead, numbers: &[i64]) -> bool
     let mut arcs = [NONE as u8; ARCS];
     let mut rows = [0u64; ROWS];
     lay(streams, count, &mut arcs, &mut rows);
-    let cuts = cuts_of(&arcs, &rows);
-    let classes = classes_of(p, cuts);
+    let bridges = bridges_of(&arcs, &rows);
+    let classes = classes_of(p, bridges);
     let flows = shown_flows(classes, entries);
     if !records_fit(p.count, entries, classes, flows) {
         return false;
@@ -85,7 +85,7 @@ fn rules_hold(p: Plant, kept: SheetRead, numbers: &[i64]) -> bool
     if !nets_fit(p, classes, flows) {
         return false;
     }
-    let labels = cuts.labels;
+    let labels = bridges.labels;
     let total = kept.total;
     total_fits(p, &arcs, &rows, labels, classes, flows, total)
 }

@@ -1,5 +1,4 @@
 -- Laws of sheets drawn up elsewhere.
-pub mod Every
 pub mod Filling
 pub mod Stepping
 pub mod Meeting

@@ -1,7 +1,7 @@
 -- Potentials and amounts that meet the rules: the withheld streams can be filled in, and the whole is then a flow of least cost; no
 -- amount is large.
 use mathlib.Core.Path.{_≡_, refl, sym, _∙_, ap, subst}
-use mathlib.Core.Bool.{Bool, true, false, not, _&&_}
+use mathlib.Core.Bool.{Bool, true, false, _&&_}
 use mathlib.Core.List.{List, [], _∷_}
 use mathlib.Core.Logic.{⊎-elim}
 use lib.IntN.{ℤ, pos, negℤ, natAbs, _+ℤ_, +ℤ-idl, +ℤ-idr, +ℤ-invr}
@@ -19,17 +19,17 @@ use Rattle.flow_def.specs.declared.Class.{Class}
 use Rattle.flow_def.specs.declared.Class.the-variants.{Adjusted, AsRead, Given, Withheld}
 use Rattle.flow_def.specs.Flows.{streamAt, amountAt, balanced, inRange, allowed, cost, OfLeastCost}
 use Rattle.flow_def.specs.Classes.{has, joinedTo, unmeteredBut, classOf, sideOut}
-use Rattle.flow_def.proofs.Integers.{up, dn, plus-val, up-neg, dn-neg, size-val, parts, minus-none}
-use Rattle.flow_def.proofs.Sums.{sum-same}
+use Rattle.num_bytes.proofs.Integers.{up, dn, plus-val, up-neg, dn-neg, size-val, parts, minus-none, pos-inj}
+use Rattle.num_bytes.proofs.Sums.{sum-same}
 use Rattle.flow_def.proofs.Nets.{countOf, streamOf, netOf, inside, listed, listed-size, listed-at, balanced-nets}
 use Rattle.flow_def.proofs.Given.{class-means, number-is}
 use Rattle.flow_def.proofs.Ranges.{allowed-of, range-of, balanced-of}
 use Rattle.flow_def.proofs.Potentials.{StepAt, Steps, Certificate, share, cost-one, least}
-use Rattle.solve_def.proofs.Overs.{over, overTo}
+use Rattle.solve_def.proofs.Overs.{overTo}
 use Rattle.solve_def.proofs.Tall.{tall}
 use Rattle.sheet_def.specs.Sheets.{known}
 use Rattle.foreign_def.specs.Test.{withheldOnly}
-use Rattle.foreign_def.proofs.Filling.{Closed, fill}
+use Rattle.foreign_def.proofs.Filling.{Uncrossed, fill}
 use Rattle.foreign_def.proofs.Stepping.{step-level, level-step, step-slopes}
 
 -- A class that is not known is Withheld.
@@ -54,7 +54,7 @@ known-shown c t e = let z : _≡_ {A = ℕ} 0 1 = absurd (go (sym t ∙ ap known
 pub record Meets (p : Plant) (π : ℕ → ℤ) (x : ℕ → ℤ) : Type 0 where
   pub steps : Steps 1 π (p .streams) x
   pub ranges : (k : ℕ) → k < length (p .streams) → inRange 1 (streamAt (p .streams) k) (x k) ≡ true
-  pub closed : Closed (withheldOnly p) p x
+  pub uncrossed : Uncrossed (withheldOnly p) p x
 
 module _ (p : Plant) (w : Within p) where
   -- A withheld stream has no meter; so it is in range, and without weight.
@@ -70,7 +70,7 @@ module _ (p : Plant) (w : Within p) where
 
   module _ (π x : ℕ → ℤ) (g : Meets p π x) where
     whole : (y : ℕ → ℤ) × (balanced p (listed p y) ≡ true) × ((k : ℕ) → withheldOnly p k (streamOf p k) ≡ false → y k ≡ x k)
-    whole = fill (withheldOnly p) p w x (g .closed)
+    whole = fill (withheldOnly p) p w x (g .uncrossed)
 
     -- The withheld streams filled in.
     pub filledIn : List ℤ
@@ -108,9 +108,6 @@ module _ (p : Plant) (w : Within p) where
     -- So it is of least cost.
     pub filled-least : OfLeastCost p filledIn
     filled-least = record { balance = filled-allowed; least = least p w π filledIn filled-certified }
-
-    pos-inj : {a b : ℕ} → pos a ≡ pos b → a ≡ b
-    pos-inj q = cc
 
     -- It costs what the amounts cost.
     pub filled-cost : cost (p .streams) filledIn ≡ cost (p .streams) (listed p x)

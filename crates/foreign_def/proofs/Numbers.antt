@@ -4,7 +4,7 @@ use mathlib.Core.Bool.{true}
 use mathlib.Core.List.{List}
 use mathlib.Core.Logic.{⊎-elim}
 use lib.IntN.{ℤ, pos, _-ℤ_, natAbs}
-use Prim.Native.Nat.{ℕ, _+_, _≤_, _<_}
+use Prim.Native.Nat.{ℕ, _≤_, _<_}
 use native.Mathlib.Omega.{arith}
 use lib.ListN.{getD}
 use Rattle.num_bytes.proofs.Tests.{by-cases}
@@ -14,15 +14,16 @@ use Rattle.plant_def.specs.Says.{plantOf}
 use Rattle.plant_def.specs.Within.{Within, Accepted}
 use Rattle.flow_def.specs.Flows.{amountAt, OfLeastCost}
 use Rattle.flow_def.specs.Certificate.{weightOf, climb, rises, falls}
-use Rattle.flow_def.proofs.Integers.{same, val, minus-val, size-val, parts}
+use Rattle.num_bytes.proofs.Integers.{same, val, minus-val, size-val, parts}
 use Rattle.flow_def.proofs.Nets.{countOf, streamOf}
 use Rattle.flow_def.proofs.Potentials.{StepAt, Certificate, ties}
+use Rattle.flow_def.proofs.Certified.{kilter-says}
 use Rattle.solve_def.specs.Sizes.{potentialShift}
 use Rattle.solve_def.specs.declared.Solved.{Solved}
 use Rattle.solve_def.specs.Promise.{potential, potentialAt, flowOf, Solution}
 use Rattle.foreign_def.specs.Passing.{numberLimit}
 use Rattle.foreign_def.specs.Test.{potentialFrom}
-use Rattle.foreign_def.proofs.Stepping.{step-level, level-step, step-alike, tied-step, kilter-says}
+use Rattle.foreign_def.proofs.Stepping.{step-level, level-step, step-alike, tied-step}
 
 -- Potentials that certify one flow certify every flow of least cost.
 same-amount : (x y r : ℤ) → y -ℤ r ≡ x -ℤ r → x ≡ y

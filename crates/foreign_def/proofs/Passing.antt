@@ -1,7 +1,7 @@
 -- What passes has least cost; and potentials that certify a flow pass every sheet that shows a flow of least cost.
 use mathlib.Core.Path.{_≡_, refl, sym, _∙_, ap, ap₂, subst}
 use mathlib.Core.Bool.{Bool, true, false, not}
-use mathlib.Core.List.{List, []}
+use mathlib.Core.List.{List}
 use lib.IntN.{ℤ, pos, _-ℤ_, natAbs}
 use Prim.Native.Nat.{ℕ, suc, _≤_, _<_}
 use native.Mathlib.Nat.{le-antisymm}
@@ -19,9 +19,9 @@ use Rattle.flow_def.specs.Classes.{has, joinedTo, classOf, degrees}
 use Rattle.flow_def.specs.Test.{verdictAt}
 use Rattle.flow_def.specs.Shown.{adjusted}
 use Rattle.flow_def.specs.Certificate.{climb}
-use Rattle.flow_def.proofs.Integers.{minus-none, none-minus}
-use Rattle.flow_def.proofs.Lists.{values-long, values-at}
-use Rattle.flow_def.proofs.Sums.{sum-same}
+use Rattle.num_bytes.proofs.Integers.{minus-none, none-minus}
+use Rattle.num_bytes.proofs.Lists.{values-long, values-at}
+use Rattle.num_bytes.proofs.Sums.{sum-same}
 use Rattle.flow_def.proofs.Nets.{countOf, streamOf, inside, crossing, crossing-level, no-crossing}
 use Rattle.flow_def.proofs.Reach.{chain-map, joined→chain, chain→joined}
 use Rattle.flow_def.proofs.Given.{class-means}
@@ -32,7 +32,7 @@ use Rattle.flow_def.proofs.Decided.{decided-shown}
 use Rattle.flow_def.proofs.Ranges.{balanced-of, range-of}
 use Rattle.flow_def.proofs.Potentials.{StepAt, Certificate}
 use Rattle.solve_def.proofs.Theorem.{decided}
-use Rattle.sheet_def.specs.Apart.{totalKind, capped}
+use Rattle.sheet_def.specs.Totals.{totalKind, capped}
 use Rattle.sheet_def.specs.Sheets.{SheetParts, known}
 use Rattle.sheet_def.specs.Drawings.{plantParts}
 use Rattle.sheet_def.specs.Sentences.{classOn, numberOn, Tells}
@@ -48,6 +48,7 @@ use Rattle.foreign_def.proofs.Sums.{crossing-sums}
 
 -- A sheet that tells of a plant what it has to has the classes, the degrees and the verdict as they are computed.
 module _ (p : Plant) (w : Within p) (s : SheetParts) (t : Tells p s) where
+  -- The class that it tells of stream k is the computed one.
   pub told-class : (k : ℕ) → k < countOf p → classOn s k ≡ classOf p k
   told-class k l = go (classOf p k) refl
     where
@@ -70,6 +71,7 @@ module _ (p : Plant) (w : Within p) (s : SheetParts) (t : Tells p s) where
 
 -- Our sheet of a cheapest flow: it tells what it has to, and shows the flow.
 module _ (p : Plant) (w : Within p) (xs : List ℤ) (c : Cheapest p xs) (office n : ℕ) where
+  -- Our own sheet tells what it has to.
   pub ours-tell : Tells p (plantParts office p xs n)
   ours-tell = tells p w (decided-shown p w xs (c .balance) (decided p w)) xs c (plantParts office p xs n) (told p w xs c totalKind office n)
 
@@ -80,6 +82,7 @@ module _ (p : Plant) (w : Within p) (xs : List ℤ) (c : Cheapest p xs) (office 
 module _ (p : Plant) (w : Within p) where
   -- A sheet like ours.
   module _ (sheet : SheetParts) (o : Ours p sheet) where
+    -- It has as many entries as the plant has streams.
     pub like-long : length (sheet .streams) ≡ countOf p
     like-long = o .2 .count ∙ o .1 .listed
 
@@ -137,7 +140,7 @@ module _ (p : Plant) (w : Within p) where
     passes-meets = record {
       steps = step;
       ranges = in-range;
-      closed = λ u l.
+      uncrossed = λ u l.
           let c : ℕ → Bool = λ v. has v (joinedTo (withheldOnly p) p u) in
           crossing-sums p sheet (like-long sheet (g .ours)) (like-class sheet (g .ours)) c
           ∙ none-minus _ _ (g .sums u c l (like-joined sheet (g .ours) u));

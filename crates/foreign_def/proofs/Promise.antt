@@ -15,8 +15,7 @@ use Rattle.num_bytes.proofs.Tests.{by-cases, clash}
 use Rattle.plant_def.specs.Plants.{Plant}
 use Rattle.plant_def.specs.Files.{Got, bad, got, readPlant}
 use Rattle.plant_def.specs.Within.{Within}
-use Rattle.plant_def.proofs.Limited.{within}
-use Rattle.plant_def.proofs.Accepted.{accepted, refused}
+use Rattle.plant_def.proofs.Accepted.{refused, read-within}
 use Rattle.flow_def.specs.Flows.{allowed, Cheapest}
 use Rattle.flow_def.specs.Classes.{has, joinedTo}
 use Rattle.flow_def.proofs.Reach.{joined-self}
@@ -37,12 +36,9 @@ use Rattle.foreign_def.proofs.Passing.{joined-set, passed-least, our-fl
 use Rattle.foreign_def.proofs.Tested.{test-is}
 use Rattle.foreign_def.proofs.Serving.{some-numbers}
 
--- A plant that is read is within the limits.
-pub read-within : (file : List ℕ) (p : Plant) → readPlant file ≡ got p → Within p
-read-within file p e = within p (accepted file p e .0)
-
 -- Of a plant and a sheet that are read.
 module _ (p : Plant) (w : Within p) (sheet : SheetParts) (numbers : List ℤ) where
+  -- The computed test answers as the rules do.
   pub check-of : CheckOf p sheet numbers (pick (passes p sheet numbers) 0 26)
   check-of = record {
     passed = λ g. rw (test-is p w sheet numbers .1 g);
@@ -105,6 +101,7 @@ same-plant file p q e f = cc
 
 -- Numbers that serve pass all that must pass.
 module _ (file : List ℕ) (p : Plant) (e : readPlant file ≡ got p) (numbers : List ℤ) (serve : Serve p numbers) where
+  -- The check answers 0 for our own sheets, and for each that differs only in showing another flow of least cost.
   pub pass-all : PassAll file p numbers
   pass-all = record {
     ours = λ office lasts o o′ s r top says z c.

@@ -1,9 +1,8 @@
 -- Numbers of our own: the solver's potentials serve, so every plant that is read has numbers, or an overfull set.
-use mathlib.Core.Path.{_≡_, refl, sym, _∙_, ap, subst}
+use mathlib.Core.Path.{_≡_, refl, sym, _∙_, subst}
 use mathlib.Core.Bool.{Bool, true, false}
 use mathlib.Core.List.{List}
-use mathlib.Core.Logic.{⊎-elim}
-use lib.IntN.{ℤ, pos, _-ℤ_, +ℤ-invr}
+use lib.IntN.{ℤ, pos, +ℤ-invr}
 use Prim.Native.Nat.{ℕ, suc, _≤_, _<_}
 use native.Mathlib.Omega.{arith}
 use borrow.Author.Tests.{le-leb, lt-leb, ltb-true, ltb-false}
@@ -22,7 +21,7 @@ use Rattle.plant_def.proofs.Arrayed.{within-of, array-accepted}
 use Rattle.plant_def.proofs.Held.{plant-held}
 use Rattle.flow_def.specs.Flows.{allowed}
 use Rattle.flow_def.specs.Overfull.{Overfull}
-use Rattle.flow_def.proofs.Lists.{values-long, values-at}
+use Rattle.num_bytes.proofs.Lists.{values-long, values-at}
 use Rattle.flow_def.proofs.Overfull.{overfull-none}
 use Rattle.solve_def.specs.declared.Solved.{Solved}
 use Rattle.solve_def.specs.Model.{noHint, settled}
@@ -31,8 +30,7 @@ use Rattle.solve_def.specs.Promise.{flowOf, Solution, Right}
 use Rattle.solve_def.proofs.Theorem.{from-none, solved-right}
 use Rattle.sheet_def.proofs.Opening.{right-found, right-overfull}
 use Rattle.foreign_def.specs.declared.PlaceNumbers.{PlaceNumbers}
-use Rattle.foreign_def.specs.Passing.{placeNumber}
-use Rattle.foreign_def.specs.Numbers.{noNumbers, numbersIn, Serve, Numbered, NumbersOf}
+use Rattle.foreign_def.specs.Numbers.{noNumbers, Serve, Numbered, NumbersOf}
 use Rattle.foreign_def.specs.Test.{potentialFrom, NumberedBy}
 use Rattle.foreign_def.proofs.Numbers.{solution-certifies, solution-few}
 use Rattle.foreign_def.proofs.Passing.{certified-serve}
@@ -68,6 +66,7 @@ module _ (p : Arrays.Plant) (a : Accepted p) (s : Solved) (r : Solution p s) whe
 
 -- Where some flow is in range there are numbers; where a set is overfull there is none.
 module _ (p : Plant) (w : Within p) (r : PlaceNumbers) where
+  -- Where some flow is in range, numbers of the places are the plant's answer.
   pub numbers-of : (xs : List ℤ) → allowed p xs ≡ true → Numbered p r → NumbersOf p r
   numbers-of xs h n = record { some = λ ys e. n; none = λ none. clash (allowed p xs) h (none xs) }
 

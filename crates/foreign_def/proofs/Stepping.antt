@@ -1,24 +1,25 @@
 -- The step condition of one stream: what it says without a meter, at a tie, of the size of its amount, and of the request's bounds.
 use mathlib.Core.Path.{_≡_, sym, ap, subst}
 use mathlib.Core.Logic.{_⊎_, inl, inr, ⊎-elim}
-use mathlib.Core.Bool.{Bool, true, false, not, _||_}
+use mathlib.Core.Bool.{Bool, true, false}
 use lib.IntN.{ℤ, pos, _+ℤ_, _-ℤ_, _*ℤ_, zero-*ℤ}
 use lib.Signed.{leZ}
 use Prim.Native.Nat.{ℕ, suc, _+_, _*_, _≤_, _<_}
 use native.Mathlib.Nat.{mul-le-mul-left}
 use native.Mathlib.Omega.{arith}
-use Rattle.num_bytes.proofs.Tests.{by-cases, and-left, and-right, and-both}
+use Rattle.num_bytes.proofs.Tests.{by-cases}
 use Rattle.plant_def.specs.declared.Stream.{Stream}
 use Rattle.plant_def.specs.Limits.{maxRange}
 use Rattle.plant_def.specs.Plants.{limited}
 use Rattle.plant_def.specs.Within.{WithinStream}
 use Rattle.flow_def.specs.Flows.{inRange}
-use Rattle.flow_def.specs.Certificate.{weightOf, climb, lower, upper, leastClimb, mostClimb, rises, falls, inKilter}
-use Rattle.flow_def.proofs.Integers.{up, dn, Le, Lt, val, canon, Z·diff, minus-val, size-val, leZ-le, le-leZ, ltZ-lt}
-use Rattle.flow_def.proofs.Ranges.{asked, answered, whole-says, at-low, at-high, unmetered-moves}
+use Rattle.flow_def.specs.Certificate.{weightOf, climb, lower, upper, leastClimb, mostClimb, rises, falls}
+use Rattle.num_bytes.proofs.Integers.{up, dn, Le, Lt, val, canon, Z·diff, minus-val, size-val, leZ-le, le-leZ, ltZ-lt}
+use Rattle.flow_def.proofs.Ranges.{asked, whole-says, at-low, at-high, unmetered-moves}
 use Rattle.flow_def.proofs.Steps.{Step, Tied, level, above, below, free}
 use Rattle.flow_def.proofs.Potentials.{StepAt}
 use Rattle.solve_def.proofs.Tall.{Slopes}
+use Rattle.solve_def.proofs.Bounds.{weight-none}
 use Rattle.foreign_def.specs.Passing.{bottom, top, AtHigh, AtLow}
 
 -- The bounds over naturals.
@@ -35,17 +36,14 @@ still w d c a b z e = record {
   high = λ t. rw (z, e, zero-*ℤ (pos 2 *ℤ d +ℤ pos 1)) (omega arith);
 }
 
-unweighed : (s : Stream) → s .metered ≡ false → weightOf s ≡ 0
-unweighed s m = rw m
-
 module _ (π : ℕ → ℤ) (s : Stream) (m : s .metered ≡ false) where
   -- A stream without a meter has equal numbers at its ends.
   pub step-level : (x : ℤ) → StepAt 1 π s x → climb π s ≡ pos 0
-  step-level x h = free 1 (weightOf s) (x -ℤ s .reading) (climb π s) (falls s x) (rises s x) (unweighed s m) (unmetered-moves s x m) h
+  step-level x h = free 1 (weightOf s) (x -ℤ s .reading) (climb π s) (falls s x) (rises s x) (weight-none s m) (unmetered-moves s x m) h
 
   -- Equal numbers meet the step condition of such a stream.
   pub level-step : (x : ℤ) → climb π s ≡ pos 0 → StepAt 1 π s x
-  level-step x e = still (weightOf s) (x -ℤ s .reading) (climb π s) (falls s x) (rises s x) (unweighed s m) e
+  level-step x e = still (weightOf s) (x -ℤ s .reading) (climb π s) (falls s x) (rises s x) (weight-none s m) e
 
 -- Potentials that climb alike meet it alike.
 pub step-alike : (π ρ : ℕ → ℤ) (s : Stream) (x : ℤ) → climb π s ≡ climb ρ s → StepAt 1 ρ s x → StepAt 1 π s x
@@ -72,19 +70,6 @@ tied-step w d e c a b a′ b′ s (below q m t) f = rw q (record {
   low = λ k. omega (arith, s .low m, val _ _ (down-one w d), in-order w (d -ℤ pos 1));
   high = λ k. omega (arith, s .low m, val _ _ (down-one w d));
 })
-
--- The condition by its tests.
-pub kilter-says : (π : ℕ → ℤ) (s : Stream) (x : ℤ) → inKilter π s x ≡ true → StepAt 1 π s x
-kilter-says π s x e = record {
-  low = λ t. leZ-le (leastClimb s x) (climb π s) (asked (falls s x) _ (and-left (not (falls s x) || leZ (leastClimb s x) (climb π s)) _ e) t);
-  high = λ t. leZ-le (climb π s) (mostClimb s x) (asked (rises s x) _ (and-right (not (falls s x) || leZ (leastClimb s x) (climb π s)) _ e) t);
-}
-
--- The step condition says that the stream is in kilter.
-pub says-kilter : (π : ℕ → ℤ) (s : Stream) (x : ℤ) → StepAt 1 π s x → inKilter π s x ≡ true
-says-kilter π s x h =
-    and-both _ _ (answered (falls s x) _ (λ t. le-leZ (leastClimb s x) (climb π s) (h .low t)))
-    (answered (rises s x) _ (λ t. le-leZ (climb π s) (mostClimb s x) (h .high t)))
 
 -- The request's words for a metered stream.
 module _ (π : ℕ → ℤ) (s : Stream) (x : ℤ) (m : s .metered ≡ true) where

@@ -11,7 +11,7 @@ use Rattle.plant_def.specs.declared.Stream.{Stream}
 use Rattle.plant_def.specs.Plants.{Plant}
 use Rattle.flow_def.specs.Flows.{streamAt}
 use Rattle.flow_def.specs.Classes.{classOf}
-use Rattle.flow_def.proofs.Sums.{sum, sum-same, sum-plus, sum-front}
+use Rattle.num_bytes.proofs.Sums.{sum, sum-same, sum-plus, sum-front}
 use Rattle.flow_def.proofs.Nets.{countOf, streamOf, crossing}
 use Rattle.sheet_def.specs.declared.Entry.{Entry}
 use Rattle.sheet_def.specs.Sheets.{SheetParts, known}
@@ -19,12 +19,6 @@ use Rattle.sheet_def.specs.Kept.{blank}
 use Rattle.sheet_def.specs.Sentences.{classOn, numberOn}
 use Rattle.foreign_def.specs.Passing.{knownSum, sumIn, sumOut}
 use Rattle.foreign_def.specs.Test.{shownAt}
-
--- What is read past the end makes no difference before it.
-pub same-default : {A : Type 0} (es : List A) (k : ℕ) (d e : A) → k < length es → getD es k d ≡ getD es k e
-same-default [] k d e l = absurd (omega arith)
-same-default (x ∷ es) zero d e l = refl
-same-default (x ∷ es) (suc k) d e l = same-default es k d e (omega arith)
 
 -- A sum by recursion over streams and entries is a sum over the streams' numbers.
 known-is : (takes : Stream → Bool) (ss : List Stream) (es : List Entry) → length es ≡ length ss

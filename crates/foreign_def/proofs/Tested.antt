@@ -2,7 +2,7 @@
 use mathlib.Core.Path.{_≡_, refl, sym, _∙_, ap}
 use mathlib.Core.Logic.{_↔_}
 use mathlib.Core.Bool.{Bool, true, false, _&&_}
-use mathlib.Core.List.{List, []}
+use mathlib.Core.List.{List}
 use lib.IntN.{ℤ, pos, negℤ, natAbs, _+ℤ_, +ℤ-idl, +ℤ-idr, +ℤ-invr}
 use Prim.Native.Nat.{ℕ, suc, _≤_, _<_}
 use native.Mathlib.Nat.{le-antisymm}
@@ -26,24 +26,23 @@ use Rattle.flow_def.specs.Labels.{labelsOf, oneLabel}
 use Rattle.flow_def.specs.Test.{verdictAt}
 use Rattle.flow_def.specs.Shown.{adjusted}
 use Rattle.flow_def.specs.Certificate.{inKilter}
-use Rattle.flow_def.proofs.Integers.{size-none, minus-none}
-use Rattle.flow_def.proofs.Certified.{every-at}
-use Rattle.flow_def.proofs.Sums.{sum, sum-same, sum-none}
+use Rattle.num_bytes.proofs.Integers.{size-none, minus-none}
+use Rattle.flow_def.proofs.Certified.{every-at, every-all, kilter-says, says-kilter}
+use Rattle.num_bytes.proofs.Sums.{sum, sum-same, sum-none}
 use Rattle.flow_def.proofs.Nets.{countOf, streamOf, inside, crossing}
 use Rattle.flow_def.proofs.Labels.{label-joined, label-member, label-low}
 use Rattle.flow_def.proofs.Decided.{Decided, solved, full}
 use Rattle.flow_def.proofs.Overfull.{overfull-none}
 use Rattle.solve_def.specs.Sizes.{flowShift}
 use Rattle.solve_def.proofs.Theorem.{decided}
-use Rattle.sheet_def.specs.Apart.{capped}
+use Rattle.sheet_def.specs.Totals.{capped}
 use Rattle.sheet_def.specs.Sheets.{SheetParts, kindOf, known}
 use Rattle.sheet_def.specs.Drawings.{plantParts}
 use Rattle.sheet_def.specs.Sentences.{classOn, numberOn}
 use Rattle.foreign_def.specs.Passing.{numberLimit, placeNumber, Ours, JoinedByW, sumIn, sumOut, Passes}
 use Rattle.foreign_def.specs.Test.{withheldOnly, shownAt, shownFlows, broughtBy, netBy, numbersFit, recordsFit, flowsFit, netsFit, totalFits, passes}
-use Rattle.foreign_def.proofs.Every.{every-all}
-use Rattle.foreign_def.proofs.Filling.{Closed}
-use Rattle.foreign_def.proofs.Stepping.{kilter-says, says-kilter, step-level, step-bottom, step-top}
+use Rattle.foreign_def.proofs.Filling.{Uncrossed}
+use Rattle.foreign_def.proofs.Stepping.{step-level, step-bottom, step-top}
 use Rattle.foreign_def.proofs.Meeting.{Meets, metered-known, filledIn, filled-at, filled-allowed, filled-certified, filled-least, filled-cost, known-few}
 use Rattle.foreign_def.proofs.Sums.{crossing-sums}
 use Rattle.foreign_def.proofs.Passing.{told-class, told-degrees, told-verdict, ours-tell, like-long, like-class, like-degrees, like-cost, like-verdict, like-joined, passes-meets}
@@ -63,7 +62,7 @@ same-class : (a b : Class) → kindOf a ≡ kindOf b → a ≡ b
 same-class a b e = sym (of-kind a) ∙ ap class-of e ∙ of-kind b
 
 -- The rules as the test has them: what a total says is said of the flows shown.
-pub record Kept (p : Plant) (sheet : SheetParts) (numbers : List ℤ) : Type 0 where
+pub record Holds (p : Plant) (sheet : SheetParts) (numbers : List ℤ) : Type 0 where
   pub one-each : length numbers ≡ suc (p .units)
   pub small : (u : ℕ) → u ≤ p .units → natAbs (placeNumber numbers u) ≤ numberLimit
   pub long : length (sheet .streams) ≡ length (p .streams)
@@ -115,8 +114,8 @@ module _ (counts : Counting) (p : Plant) (w : Within p) where
         ∙ rw (by-label u (s .to) l (w .each k h .to-in), by-label u (s .from) l (w .each k h .from-in)))
 
     -- Nets that are all 0: the flow is closed.
-    pub nets-closed : ((v : ℕ) → v < places → net v ≡ pos 0) → Closed counts p x
-    nets-closed h u l =
+    pub nets-uncrossed : ((v : ℕ) → v < places → net v ≡ pos 0) → Uncrossed counts p x
+    nets-uncrossed h u l =
         let d : label u < places = omega (arith, low u l, label-low counts p (w .few-units) (inside p w) u (low u l)) in
         sym (net-crosses u l) ∙ h (label u) d
 
@@ -127,8 +126,8 @@ module _ (counts : Counting) (p : Plant) (w : Within p) where
         rw (ne-eqb (label (s .to)) v (n (s .to) (w .each k h .to-in)), ne-eqb (label (s .from)) v (n (s .from) (w .each k h .from-in))))
 
     -- A closed flow's nets are 0.
-    pub closed-nets : Closed counts p x → (v : ℕ) → net v ≡ pos 0
-    closed-nets c v = elim (decLe v (p .units)) [
+    pub uncrossed-nets : Uncrossed counts p x → (v : ℕ) → net v ≡ pos 0
+    uncrossed-nets c v = elim (decLe v (p .units)) [
       | yes h ↦ elim (ℕ-discrete (label v) v) [
         | yes e ↦ ap net (sym e) ∙ net-crosses v h ∙ c v h
         | no e ↦ nobody v (λ u l q. e (ap label (sym q) ∙ own u l ∙ q))
@@ -162,8 +161,8 @@ module _ (p : Plant) (w : Within p) (sheet : SheetParts) (numbers : List ℤ) wh
         ∙ filled-cost p w π x passed-met
 
     -- A sheet that passes keeps each rule.
-    pub passes-kept : Kept p sheet numbers
-    passes-kept = record {
+    pub passes-holds : Holds p sheet numbers
+    passes-holds = record {
       one-each = g .one-each;
       small = g .small;
       long = like-long p w sheet (g .ours);
@@ -175,7 +174,7 @@ module _ (p : Plant) (w : Within p) (sheet : SheetParts) (numbers : List ℤ) wh
     }
 
   -- What keeps the rules passes.
-  module _ (g : Kept p sheet numbers) where
+  module _ (g : Holds p sheet numbers) where
     abbrev met : Meets p π x
     met = g .meets
 
@@ -213,16 +212,16 @@ module _ (p : Plant) (w : Within p) (sheet : SheetParts) (numbers : List ℤ) wh
           let e = j v b in
           same-test (has v (joinedTo (withheldOnly p) p u)) (c v) (λ t. e .1 (d .0 t)) (λ t. d .1 (e .0 t))
 
-      kept-sums : sumIn c (p .streams) (sheet .streams) ≡ sumOut c (p .streams) (sheet .streams)
-      kept-sums = minus-none _ _ (
+      holds-sums : sumIn c (p .streams) (sheet .streams) ≡ sumOut c (p .streams) (sheet .streams)
+      holds-sums = minus-none _ _ (
           sym (crossing-sums p sheet (g .long) (g .classes) c)
           ∙ sum-same (countOf p) _ (λ k. crossing (λ v. has v (joinedTo (withheldOnly p) p u)) (streamOf p k) (x k))
           (λ k h. rw (same-set (streamOf p k .to) (w .each k h .to-in), same-set (streamOf p k .from) (w .each k h .from-in)))
-          ∙ g .meets .closed u l)
+          ∙ g .meets .uncrossed u l)
 
     -- A sheet that keeps each rule passes.
-    pub kept-passes : Passes p sheet numbers
-    kept-passes = record {
+    pub holds-passes : Passes p sheet numbers
+    holds-passes = record {
       one-each = g .one-each;
       small = g .small;
       ours = ours-by (decided p w);
@@ -230,12 +229,12 @@ module _ (p : Plant) (w : Within p) (sheet : SheetParts) (numbers : List ℤ) wh
       to-top = λ k i. rw (shown-metered k (i .1)) at (step-top π (streamOf p k) (x k) (i .1) (met .ranges k (i .0)) (met .steps k (i .0)));
       ranges = λ k i. rw (shown-metered k (i .1)) at (met .ranges k (i .0));
       equal = λ k i. sym (minus-none (π (streamOf p k .to)) (π (streamOf p k .from)) (step-level π (streamOf p k) (i .1) (x k) (met .steps k (i .0))));
-      sums = kept-sums;
+      sums = holds-sums;
     }
 
     -- So no known flow is large: one that is can be refused before sums and products are formed.
-    pub kept-small : (k : ℕ) → k < countOf p → natAbs (x k) ≤ flowShift
-    kept-small k l = by-cases (known (classOf p k))
+    pub holds-small : (k : ℕ) → k < countOf p → natAbs (x k) ≤ flowShift
+    holds-small k l = by-cases (known (classOf p k))
         (λ t. rw (← filled-at p w π x met k l t) (omega (arith, known-few p w π (filledIn p w π x met) (filled-certified p w π x met) k l t)))
         (λ t. rw t (omega arith))
 
@@ -243,9 +242,9 @@ module _ (p : Plant) (w : Within p) (sheet : SheetParts) (numbers : List ℤ) wh
   c = cost (p .streams) (shownFlows p sheet)
 
   -- The test is that of these rules.
-  test-kept : passes p sheet numbers ≡ true → Kept p sheet numbers
+  test-holds : passes p sheet numbers ≡ true → Holds p sheet numbers
   unfolding passes netsFit
-  test-kept e = record {
+  test-holds e = record {
     one-each = eqb-true (length numbers) (suc (p .units)) (and-left (eqb (length numbers) (suc (p .units))) _ one);
     small = λ u l. leb-true (natAbs (π u)) numberLimit
         (every-at (suc (p .units)) (λ u. leb (natAbs (placeNumber numbers u)) numberLimit) (and-right (eqb (length numbers) (suc (p .units))) _ one) u (omega arith));
@@ -255,7 +254,7 @@ module _ (p : Plant) (w : Within p) (sheet : SheetParts) (numbers : List ℤ) wh
     meets = record {
       steps = λ k l. kilter-says π (streamOf p k) (x k) (and-right (inRange 1 (streamOf p k) (x k)) _ (flow k l));
       ranges = λ k l. and-left (inRange 1 (streamOf p k) (x k)) _ (flow k l);
-      closed = nets-closed (withheldOnly p) p w x
+      uncrossed = nets-uncrossed (withheldOnly p) p w x
           (λ v l. size-none _ (eqb-true _ 0 (every-at places (λ v. eqb (natAbs (netBy (labelsOf (withheldOnly p) p) (p .streams) x v)) 0) nets v l)));
     };
     freedom = eqb-true (sheet .total .degrees) (degrees p) (and-left (eqb (sheet .total .degrees) (degrees p)) _ total);
@@ -302,17 +301,17 @@ module _ (p : Plant) (w : Within p) (sheet : SheetParts) (numbers : List ℤ) wh
       flow : (k : ℕ) → k < countOf p → inRange 1 (streamOf p k) (x k) && inKilter π (streamOf p k) (x k) ≡ true
       flow k l = every-at (countOf p) _ (and-left (flowsFit (p .streams) x numbers) _ flows) k l
 
-  kept-test : Kept p sheet numbers → passes p sheet numbers ≡ true
+  holds-test : Holds p sheet numbers → passes p sheet numbers ≡ true
   unfolding passes netsFit
-  kept-test g =
+  holds-test g =
       and-both _ _
       (and-both _ _ (eq-eqb _ _ (g .one-each)) (every-all (suc (p .units)) _ (λ u l. le-leb _ numberLimit (g .small u (omega arith)))))
       (and-both _ _ (eq-eqb _ _ (g .long))
-      (and-both _ _ (every-all (countOf p) _ (λ k l. and-both _ _ (eq-eqb _ _ (ap kindOf (g .classes k l))) (le-leb _ flowShift (kept-small g k l))))
+      (and-both _ _ (every-all (countOf p) _ (λ k l. and-both _ _ (eq-eqb _ _ (ap kindOf (g .classes k l))) (le-leb _ flowShift (holds-small g k l))))
       (and-both _ _ (every-all (countOf p) _ (λ k l. and-both _ _ (g .meets .ranges k l) (says-kilter π (streamOf p k) (x k) (g .meets .steps k l))))
-      (and-both _ _ (every-all places _ (λ v l. eq-eqb _ 0 (ap natAbs (closed-nets (withheldOnly p) p w x (g .meets .closed) v))))
+      (and-both _ _ (every-all places _ (λ v l. eq-eqb _ 0 (ap natAbs (uncrossed-nets (withheldOnly p) p w x (g .meets .uncrossed) v))))
       (and-both _ _ (eq-eqb _ _ (g .freedom)) (and-both _ _ (eq-eqb _ _ (g .costs)) (eq-eqb _ _ (g .verdict))))))))
 
   -- The computed test says whether the sheet passes.
   pub test-is : (passes p sheet numbers ≡ true) ↔ Passes p sheet numbers
-  test-is = (λ e. kept-passes (test-kept e), λ g. kept-test (passes-kept g))
+  test-is = (λ e. holds-passes (test-holds e), λ g. holds-test (passes-holds g))

@@ -9,7 +9,7 @@ use Rattle.plant_def.specs.Converts.{ReadAs}
 use Rattle.num_bytes.specs.Bytes.{over}
 use Rattle.plant_def.specs.Limits.{places}
 use Rattle.plant_def.specs.Plants.{Plant}
-use Rattle.plant_def.specs.Files.{Got, bad, got, readPlant}
+use Rattle.plant_def.specs.Files.{Got, got, readPlant}
 use Rattle.flow_def.specs.Flows.{allowed}
 use Rattle.sheet_def.specs.declared.Sheet.{Sheet}
 use Rattle.sheet_def.specs.Sheets.{SheetParts}

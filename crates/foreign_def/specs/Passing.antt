@@ -32,13 +32,15 @@ difference numbers s = placeNumber numbers (s .to) -ℤ placeNumber numbers (s .
 abbrev pub bottom : Stream → ℤ → ℤ
 bottom s flow = pos (s .weight) *ℤ (pos 2 *ℤ (flow -ℤ s .reading) -ℤ pos 1)
 
+-- The upper of the two.
 abbrev pub top : Stream → ℤ → ℤ
 top s flow = pos (s .weight) *ℤ (pos 2 *ℤ (flow -ℤ s .reading) +ℤ pos 1)
 
--- A flow at an end of the stream's range.
+-- A flow at the high end of the stream's range.
 abbrev pub AtHigh : Stream → ℤ → Type 0
 AtHigh s flow = (limited s ≡ true) × (flow ≡ s .high)
 
+-- A flow at the low end of the stream's range.
 abbrev pub AtLow : Stream → ℤ → Type 0
 AtLow s flow = (limited s ≡ true) × (flow ≡ s .low)
 
@@ -62,15 +64,17 @@ withheldOn sheet k s = not (known (classOn sheet k))
 abbrev pub JoinedByW : Plant → SheetParts → ℕ → (ℕ → Bool) → Type 0
 JoinedByW p sheet u c = (v : ℕ) → v ≤ p .units → (c v ≡ true) ↔ Chain (withheldOn sheet) (p .streams) u v
 
--- The known flows of the streams that a test takes, summed; those into a set of places, and those out of it.
+-- The known flows of the streams that a test takes, summed.
 abbrev pub knownSum : (Stream → Bool) → List Stream → List Entry → ℤ
 knownSum takes [] es = pos 0
 knownSum takes (s ∷ ss) [] = pos 0
 knownSum takes (s ∷ ss) (e ∷ es) = pick (known (e .class) && takes s) (e .flow) (pos 0) +ℤ knownSum takes ss es
 
+-- The sum of those into a set of places,
 abbrev pub sumIn : (ℕ → Bool) → List Stream → List Entry → ℤ
 sumIn c = knownSum (λ s. c (s .to))
 
+-- and of those out of it.
 abbrev pub sumOut : (ℕ → Bool) → List Stream → List Entry → ℤ
 sumOut c = knownSum (λ s. c (s .from))
 

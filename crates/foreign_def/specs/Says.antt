@@ -9,7 +9,7 @@ use Rattle.plant_def.specs.Plants.{Plant}
 use Rattle.plant_def.specs.Files.{Got, bad, got, readPlant}
 use Rattle.flow_def.specs.declared.Class.the-variants.{Withheld}
 use Rattle.flow_def.specs.Flows.{amountAt, allowed, cost, OfLeastCost}
-use Rattle.sheet_def.specs.Apart.{capped}
+use Rattle.sheet_def.specs.Totals.{capped}
 use Rattle.sheet_def.specs.Counters.{topSheet, counterOf}
 use Rattle.sheet_def.specs.declared.Sheet.{Sheet}
 use Rattle.sheet_def.specs.Sheets.{SheetParts}
@@ -23,6 +23,7 @@ pub record CheckOf (p : Plant) (sheet : SheetParts) (numbers : List ℤ) (r : �
   pub passed : Passes p sheet numbers → r ≡ 0
   pub broken : (Passes p sheet numbers → ⊥) → r ≡ 26
 
+-- By what was read: the plant file's refusal, then the sheet's, then the check.
 abbrev pub CheckWith : Got → Reopened → List ℤ → ℕ → Type 0
 CheckWith (bad f) sheet numbers r = r ≡ f
 CheckWith (got p) (noSheet f) numbers r = r ≡ f

@@ -22,9 +22,10 @@ use Rattle.flow_def.specs.Labels.{labelsOf}
 use Rattle.flow_def.specs.Test.{verdictAt}
 use Rattle.flow_def.specs.Shown.{adjusted}
 use Rattle.flow_def.specs.Certificate.{leastClimb, mostClimb, rises, falls, every}
-use Rattle.flow_def.specs.Nets.{sum}
+use Rattle.num_bytes.specs.Sums.{sum}
 use Rattle.solve_def.specs.Sizes.{flowShift}
-use Rattle.sheet_def.specs.Apart.{capped}
+use Rattle.sheet_def.specs.Calls.{noEntry}
+use Rattle.sheet_def.specs.Totals.{capped}
 use Rattle.sheet_def.specs.declared.Entry.{Entry}
 use Rattle.sheet_def.specs.declared.Total.{Total}
 use Rattle.sheet_def.specs.declared.SheetRead.{SheetRead}
@@ -37,10 +38,11 @@ use Rattle.foreign_def.specs.Passing.{numberLimit, placeNumber, differen
 abbrev pub withheldOnly : Plant → Counting
 withheldOnly p k s = not (known (classOf p k))
 
--- The flows of a sheet, 0 where a stream is withheld by its class.
+-- The flow of stream k on a sheet, 0 where the stream is withheld by its class.
 abbrev pub shownAt : Plant → SheetParts → ℕ → ℤ
 shownAt p sheet k = pick (known (classOf p k)) (numberOn sheet k) (pos 0)
 
+-- The flows of a sheet in a list, 0 where a stream is withheld by its class.
 abbrev pub shownFlows : Plant → SheetParts → List ℤ
 shownFlows p sheet = values (length (p .streams)) (shownAt p sheet)
 
@@ -60,25 +62,28 @@ flowFits s x c = inRange 1 s x && ((not (falls s x) || leZ (leastClimb s x) c) &
 abbrev pub flowsFit : List Stream → (ℕ → ℤ) → List ℤ → Bool
 flowsFit ss x numbers = every (length ss) (λ k. flowFits (streamAt ss k) (x k) (difference numbers (streamAt ss k)))
 
--- What stream s, carrying x, brings to label v, less what it takes from it; and the net of the places that have label v.
+-- What stream s, carrying x, brings to label v, less what it takes from it.
 abbrev pub broughtBy : List ℕ → ℕ → Stream → ℤ → ℤ
 broughtBy labels v s x = pick (eqb (getD labels (s .to) 0) v) x (pos 0) +ℤ pick (eqb (getD labels (s .from) 0) v) (negℤ x) (pos 0)
 
+-- The net of the places that have label v.
 abbrev pub netBy : List ℕ → List Stream → (ℕ → ℤ) → ℕ → ℤ
 netBy labels ss x v = sum (length ss) (λ k. broughtBy labels v (streamAt ss k) (x k))
 
--- A list of the nets of all labels; and labels that are places.
+-- A list of the nets of all labels.
 abbrev pub Nets : List ℕ → List Stream → (ℕ → ℤ) → List ℤ → Type 0
 Nets labels ss x nets = (v : ℕ) → v < places → getD nets v (pos 0) ≡ netBy labels ss x v
 
+-- Every label is a place.
 abbrev pub ArePlaces : List ℕ → Type 0
 ArePlaces labels = (u : ℕ) → u < places → getD labels u 0 < places
 
--- What a stream that carries x makes of the nets, from one label to another; and nets with room for it in 64 bits.
+-- What a stream that carries x makes of the nets, from one label to another.
 pub record Moved (to from : ℕ) (x : ℤ) (before after : List ℤ) : Type 0 where
   pub long : length after ≡ length before
   pub each : (v : ℕ) → v < places → getD after v (pos 0) ≡ getD before v (pos 0) +ℤ (pick (eqb to v) x (pos 0) +ℤ pick (eqb from v) (negℤ x) (pos 0))
 
+-- Nets with room in 64 bits for a stream that carries x.
 abbrev pub Roomy : ℤ → List ℤ → Type 0
 Roomy x nets = (v : ℕ) → v < places → natAbs (getD nets v (pos 0)) + 2 * natAbs x < 2 ^ 62
 
@@ -101,19 +106,17 @@ passes p sheet numbers =
     && (flowsFit (p .streams) x numbers
     && (netsFit (labelsOf (withheldOnly p) p) (p .streams) x && totalFits p (cost (p .streams) (shownFlows p sheet)) (sheet .total)))))
 
--- Numbers by the solver's potentials: each less that of the outside, 0 past the last place.
+-- A place's potential less that of the outside.
 abbrev pub potentialFrom : List ℕ → ℕ → ℤ
 potentialFrom ps u = pos (getD ps u 0) -ℤ pos (getD ps 0 0)
 
+-- One number for each of the places 0 to n, by its potential; 0 past them.
 pub record NumberedBy (n : ℕ) (ps : List ℕ) (numbers : List ℤ) : Type 0 where
   pub long : length numbers ≡ places
   pub each : (u : ℕ) → u ≤ n → placeNumber numbers u ≡ potentialFrom ps u
   pub past : (u : ℕ) → n < u → placeNumber numbers u ≡ pos 0
 
 -- The flows of a sheet's entries in an array, by classes in an array: 0 where a stream is withheld.
-abbrev pub noEntry : Entry
-noEntry = record { class = Adjusted; flow = pos 0 }
-
 unfoldable pub flowsShown : List Class → List Entry → List ℤ
 flowsShown classes entries = values maxStreams (λ k. pick (known (getD classes k Adjusted)) (getD entries k noEntry .flow) (pos 0))
 

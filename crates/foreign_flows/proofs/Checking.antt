@@ -10,7 +10,6 @@ use lib.ListN.{length, getD}
 use lib.Seq.{ext-getD}
 use mir.Syntax.{w64}
 use mir.Val.{SFits, toZ, ofZ}
-use mir.ValLaws.{toZ-ofZ}
 use borrow.Author.Tests.{eq-eqb, ne-eqb, eqb-true, leb-true}
 use Rattle.num_bytes.specs.Choice.{pick}
 use Rattle.num_bytes.specs.Inner.{values}
@@ -25,18 +24,19 @@ use Rattle.flow_def.specs.declared.Class.{Class}
 use Rattle.flow_def.specs.declared.Class.the-variants.{Adjusted}
 use Rattle.flow_def.specs.Flows.{streamAt, amountAt}
 use Rattle.flow_def.specs.Certificate.{every}
-use Rattle.flow_def.proofs.Certified.{every-at}
-use Rattle.flow_def.proofs.Lists.{values-long, values-at}
+use Rattle.flow_def.proofs.Certified.{every-at, every-all, every-off}
+use Rattle.num_bytes.proofs.Lists.{values-long, values-at}
 use Rattle.sheet_def.specs.declared.Entry.{Entry}
 use Rattle.sheet_def.specs.Sheets.{known}
 use Rattle.foreign_def.specs.Passing.{numberLimit, placeNumber, difference}
-use Rattle.foreign_def.specs.Test.{noEntry, numbersFit, flowFits, flowsFit, flowsShown}
-use Rattle.foreign_def.proofs.Every.{every-all, every-off}
+use Rattle.foreign_def.specs.Test.{numbersFit, flowFits, flowsFit, flowsShown}
+use Rattle.sheet_def.specs.Calls.{noEntry}
 use Rattle.sheet_cost.proofs.Costing.{size-fits, minus-size}
 use Rattle.foreign_stream.proofs.Fitting.{coded-fits, coded-is}
 
 -- A test of elements of an array: one that fails, and none.
 module _ (n : ℕ) (test : ℕ → Bool) where
+  -- One that fails: not all hold.
   pub one-fails : (k : ℕ) (b : Bool) → k < n → b ≡ test k → b ≡ false → false ≡ every n test
   one-fails k b l e f = sym (every-off n test k l (sym e ∙ f))
 
@@ -63,6 +63,7 @@ module _ (n : ℕ) (numbers : List ℤ) where
 
   -- What fits.
   module _ (e : numbersFit n numbers ≡ true) where
+    -- There is one number for each place.
     pub fit-long : length numbers ≡ suc n
     fit-long = eqb-true (length numbers) (suc n) (and-left (eqb (length numbers) (suc n)) _ e)
 
@@ -85,6 +86,7 @@ module _ (x y : ℤ) (f : SFits w64 x) (g : SFits w64 y) (h : natAbs x ≤ numbe
 
 -- A record: its kind, then its flow.
 module _ (a b : ℕ) (t : Bool) where
+  -- Another kind fails, whatever the flow is.
   pub other-kind : (a ≡ b → ⊥) → false ≡ (eqb a b && t)
   other-kind n = rw (ne-eqb a b n)
 

@@ -23,9 +23,9 @@ ghost use Rattle.flow_def.specs.declared.Class.the-variants.{Adjusted};
 ghost use Rattle.flow_def.specs.Flows.{amountAt};
 ghost use Rattle.solve_def.specs.Sizes.{flowShift};
 ghost use Rattle.sheet_def.specs.Sheets.{kindOf, known};
-ghost use Rattle.sheet_def.specs.Calls.{AllSmall};
+ghost use Rattle.sheet_def.specs.Calls.{AllSmall, noEntry};
 ghost use Rattle.foreign_def.specs.Passing.{numberLimit, placeNumber, difference};
-ghost use Rattle.foreign_def.specs.Test.{noEntry, numbersFit, recordsFit, flowsFit, flowsShown};
+ghost use Rattle.foreign_def.specs.Test.{numbersFit, recordsFit, flowsFit, flowsShown};
 
 // A number within the limit.
 fn is_small(z: i64) -> bool

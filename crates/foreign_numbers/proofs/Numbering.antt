@@ -1,5 +1,5 @@
 -- The call's answer, by what was read; and what is handed over in a slice.
-use mathlib.Core.Path.{_≡_, refl, sym, _∙_, ap, subst}
+use mathlib.Core.Path.{_≡_, refl, ap}
 use mathlib.Core.List.{List}
 use mathlib.Core.Logic.{⊎-elim}
 use lib.IntN.{ℤ}
@@ -9,26 +9,22 @@ use lib.ListN.{length}
 use Rattle.num_bytes.specs.Bytes.{over}
 use Rattle.plant_def.specs.declared.Read.{Read}
 use Rattle.plant_def.specs.Limits.{places}
-use Rattle.plant_def.specs.Plants.{Plant}
 use Rattle.plant_def.specs.Files.{Got, bad, got, readPlant}
 use Rattle.plant_def.specs.Says.{plantOf, readOf}
-use Rattle.plant_def.proofs.Arrayed.{read-held}
-use Rattle.plant_def.proofs.Found.{read-bad, found}
+use Rattle.plant_def.proofs.Found.{says-bad, says-got}
+use Rattle.plant_def.proofs.Accepted.{read-within}
 use Rattle.sheet_def.proofs.Demands.{demands}
 use Rattle.foreign_def.specs.declared.PlaceNumbers.{PlaceNumbers}
 use Rattle.foreign_def.specs.Numbers.{noNumbers, numbersIn, NumbersOf, NumbersWith, NumbersSay, NumbersLent}
-use Rattle.foreign_def.proofs.Promise.{read-within}
 
 module _ (file : List ℕ) (y : Read) (e : y ≡ readOf (readPlant file)) (r : PlaceNumbers) where
   -- A file that is not read.
   pub says-unread : (y .number ≡ 0 → ⊥) → r ≡ noNumbers (y .number) → NumbersSay file r
-  says-unread n q = subst (λ (g : Got). NumbersWith g r) (sym (read-bad (readPlant file) y e n)) q
+  says-unread = says-bad (λ g. NumbersWith g r) file y e
 
   -- A file that is read: the answer of its plant.
   pub says-numbers : y .number ≡ 0 → NumbersOf (plantOf (y .plant)) r → NumbersSay file r
-  says-numbers n h =
-      let f = found file y e n in
-      subst (λ (g : Got). NumbersWith g r) (sym (f .1)) (subst (λ (q : Plant). NumbersOf q r) (ap plantOf (f .2) ∙ read-held file (f .0) (f .1)) h)
+  says-numbers = says-got (λ g. NumbersWith g r) file y e
 
 -- There are no more numbers than there may be.
 pub numbers-few : (file : List ℕ) (r : PlaceNumbers) → NumbersSay file r → r .count ≤ places
@@ -46,6 +42,7 @@ numbers-few file r = go (readPlant file) refl
 
 -- In a slice.
 module _ (file : List ℕ) (o : List ℤ) where
+  -- A slice that is too short: 1, and the slice as it was.
   pub lends-nothing : length o < places → NumbersLent file o o 1 0
   lends-nothing h = record { short = λ l. (refl, refl, refl); told = λ l. absurd (omega arith) }
 

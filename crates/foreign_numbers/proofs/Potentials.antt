@@ -10,19 +10,19 @@ use mir.Syntax.{w64}
 use mir.Val.{SFits, toZ, ofZ}
 use mir.ValLaws.{toZ-ofZ}
 use mir.Facts.{toZ-pos}
+use Rattle.num_bytes.proofs.Filled.{blank-at}
 use Rattle.plant_def.specs.declared.Plant as Arrays
 use Rattle.plant_def.specs.Limits.{places}
 use Rattle.plant_def.specs.Within.{Accepted}
 use Rattle.plant_def.specs.Says.{plantOf}
 use Rattle.plant_def.proofs.Arrayed.{within-of}
-use Rattle.flow_def.proofs.Lists.{Written}
+use Rattle.num_bytes.proofs.Lists.{Written}
 use Rattle.solve_def.specs.Sizes.{potentialShift}
 use Rattle.solve_def.specs.declared.Solved.{Solved}
 use Rattle.solve_def.specs.Promise.{flowOf, Solution}
 use Rattle.sheet_cost.proofs.Costing.{size-fits, minus-size}
 use Rattle.foreign_def.specs.Numbers.{NumbersOf}
 use Rattle.foreign_def.specs.Test.{potentialFrom, NumberedBy}
-use Rattle.foreign_def.proofs.Every.{zeros}
 use Rattle.foreign_def.proofs.Serving.{numbers-of, solution-numbered}
 
 module _ (a b : ℕ) (h : a ≤ potentialShift) (k : b ≤ potentialShift) where
@@ -45,7 +45,7 @@ pub numbered-all : (n m : ℕ) (ps : List ℕ) (numbers : List ℤ) → m ≡ su
 numbered-all n m ps numbers e w = record {
   long = w .long;
   each = λ u l. w .done u (omega arith);
-  past = λ u l. w .rest u (omega arith) ∙ zeros places u;
+  past = λ u l. w .rest u (omega arith) ∙ blank-at (pos 0) places u;
 }
 
 -- The plant's numbers.

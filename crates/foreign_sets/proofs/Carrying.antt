@@ -28,20 +28,20 @@ use Rattle.flow_def.specs.declared.Class.the-variants.{Adjusted}
 use Rattle.flow_def.specs.Classes.{classOf}
 use Rattle.flow_def.specs.Calls.{classesOf}
 use Rattle.flow_def.specs.Flows.{streamAt, amountAt}
-use Rattle.flow_def.specs.Nets.{sum}
+use Rattle.num_bytes.specs.Sums.{sum}
 use Rattle.flow_def.specs.Chains.{Counting}
 use Rattle.flow_def.specs.Labels.{labelsOf}
 use Rattle.flow_def.proofs.Labels.{label-low}
 use Rattle.flow_def.proofs.Nets.{inside}
-use Rattle.flow_def.proofs.Lists.{values-at}
-use Rattle.flow_def.proofs.Integers.{up-neg, dn-neg, size-val, size-none, canon, Z·diff}
+use Rattle.num_bytes.proofs.Lists.{values-at}
+use Rattle.num_bytes.proofs.Integers.{up-neg, dn-neg, size-val, size-none, canon, Z·diff, plus-size}
+use Rattle.flow_def.proofs.Certified.{every-all, every-off}
 use Rattle.solve_def.specs.Sizes.{flowShift}
 use Rattle.sheet_def.specs.Calls.{AllSmall}
 use Rattle.sheet_def.specs.Sheets.{known}
 use Rattle.foreign_def.specs.Test.{broughtBy, netBy, ArePlaces, Nets, Moved, Roomy, netsFit}
-use Rattle.foreign_def.proofs.Every.{every-all, every-off}
 use Rattle.sheet_cost.proofs.Costing.{size-fits}
-use Rattle.foreign_stream.proofs.Fitting.{plus-size, coded-fits, coded-is}
+use Rattle.foreign_stream.proofs.Fitting.{coded-fits, coded-is}
 
 -- A store of one element.
 put : (xs : List ℤ) (a : ℕ) (x y : ℤ) → a < length xs → y ≡ getD xs a (pos 0) +ℤ x → (v : ℕ) → getD (set xs a y) v (pos 0) ≡ getD xs v (pos 0) +ℤ pick (eqb a v) x (pos 0)

@@ -2,8 +2,7 @@
 use mathlib.Core.List.{List}
 use lib.IntN.{ℤ}
 use Prim.Native.Nat.{ℕ, _<_, _^_}
-use denote.Ref.{RefT}
-use denote.Triple.Both.{Both}
+use Rattle.num_bytes.specs.Lent.{Lent}
 use Rattle.num_lent.specs.Marks.{marksIn}
 use Rattle.plant_def.specs.Limits.{places}
 use Rattle.plant_parts.specs.Parts.{Slices, HandedWritten}
@@ -11,10 +10,6 @@ use Rattle.sheet_def.specs.declared.Sheet.{Sheet}
 use Rattle.sheet_lent.specs.Lent.{LentSays}
 use Rattle.sheet_parts.specs.Kept.{HandsOver}
 use Rattle.purchase_def.specs.Lent.{BuyHandsOver}
-
--- What is lent: a slice, or a number.
-abbrev pub Lent : Type 0 → Type 0
-Lent A = Both (RefT A) (RefT A)
 
 -- The sheet call; no bit past the places is set.
 abbrev pub SheetCall : Lent (List ℕ) → ℕ → Lent (List ℕ) → Lent (List ℕ) → Lent ℕ → Lent ℕ → ℕ → Type 0

@@ -28,6 +28,7 @@ use Rattle.sheet_def.proofs.Promise.{call-taken}
 use Rattle.sheet_def.proofs.Unique.{one-balance, never-both}
 use Rattle.sheet_def.proofs.Answering.{ReadsBack}
 use Rattle.sheet_def.proofs.Demands.{drawn-kept}
+use Rattle.sheet_def.proofs.DeskTool.{same-parts}
 use Rattle.listing_lines.specs.Listing.{listingOf, refusalText}
 use Rattle.listing_lines.specs.Room.{leastText}
 use Rattle.listing_call.specs.Says.{Listed, Overfilled, ListWith, ListSays}
@@ -66,9 +67,6 @@ module _ (file o o′ : List ℕ) (r : ℕ) where
         go : Listed p o o′ r ⊎ Overfilled p o o′ r → Put (refusalText 19) o o′ r
         go (inl a) = never-both p (within p (accepted file p e .0)) (a .0) (a .1) (m .0) (m .1)
         go (inr k) = k .2
-
-same-parts : (s t : SheetParts) → someSheet s ≡ someSheet t → s ≡ t
-same-parts s t e = cc
 
 drawn : (file b b′ o o′ : List ℕ) (q : Sheet) (s : SheetParts) (r : ℕ) → SheetSays file 0 (officesFrom 0) b b′ q → q .number ≡ 0
     → readSheet (take (q .written) b′) ≡ someSheet s → leastText ≤ length o → ListSays file o o′ r → Put (sheetText s) o o′ r

@@ -19,7 +19,7 @@ use Rattle.plant_def.proofs.Accepted.{accepted}
 use Rattle.plant_def.proofs.Found.{read-bad, found, plant-count}
 use Rattle.flow_def.specs.Overfull.{Overfull}
 use Rattle.sheet_def.specs.declared.Balance.{Balance}
-use Rattle.sheet_def.specs.Balances.{balanceOf, BalanceSays}
+use Rattle.sheet_def.specs.Balances.{BalanceSays}
 use Rattle.sheet_def.proofs.Promise.{plant-balance, plant-overfull}
 use Rattle.sheet_def.proofs.Unique.{one-balance, never-both}
 use Rattle.listing_lines.specs.Listing.{listingOf, refusalText}

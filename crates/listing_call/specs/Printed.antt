@@ -21,6 +21,7 @@ use Rattle.listing_call.specs.Sample.{sampleFile}
 abbrev pub sheetText : SheetParts → List ℕ
 sheetText s = linesFrom 1 (s .streams) ++ totalLine (s .total .sheet) (s .total .cost) (s .total .degrees) (s .total .verdict)
 
+-- What is printed of a file, by what the sheet call answers.
 pub record Printed : Type 0 where
   -- A slice that is too short: nothing, and the slice as it was.
   pub short : (file o o′ : List ℕ) (r : ℕ) → length o < leastText → ListSays file o o′ r → (r ≡ 0) × (o′ ≡ o)

@@ -16,14 +16,15 @@ use Rattle.sheet_def.specs.Balances.{balanceOf}
 use Rattle.listing_lines.specs.Listing.{listingOf, refusalText}
 use Rattle.listing_lines.specs.Room.{leastText}
 
--- The listing of sheet 1 of the balance by a cheapest flow; or, where a set of places is overfull, the text of refusal 19. The slice
--- past it is as it was.
+-- The listing of sheet 1 of the balance by a cheapest flow; the slice past it is as it was.
 abbrev pub Listed : Plant → List ℕ → List ℕ → ℕ → Type 0
 Listed p o o′ r = (xs : List ℤ) × Cheapest p xs × Put (listingOf (length (p .streams)) 1 (balanceOf p xs)) o o′ r
 
+-- No flow in range: the text of refusal 19.
 abbrev pub Overfilled : Plant → List ℕ → List ℕ → ℕ → Type 0
 Overfilled p o o′ r = (ms : List Bool) × Overfull p ms × Put (refusalText 19) o o′ r
 
+-- By what the file was read as: the text of its refusal, or the listing or refusal 19 of its plant.
 abbrev pub ListWith : Got → List ℕ → List ℕ → ℕ → Type 0
 ListWith (bad f) o o′ r = Put (refusalText f) o o′ r
 ListWith (got p) o o′ r = Listed p o o′ r ⊎ Overfilled p o o′ r

@@ -5,11 +5,11 @@ use Prim.Native.Nat.{ℕ, _+_, _*_, _≤_}
 use lib.ListN.{length, take}
 use Rattle.plant_def.specs.Limits.{maxStreams}
 
--- The longest line of a stream (a number of 2 digits, a flow of 20 characters), and that of the total (10, 20 and 3 digits, 5
--- letters).
+-- The longest line of a stream: a number of 2 digits, a flow of 20 characters.
 abbrev pub lineSize : ℕ
 lineSize = 26
 
+-- The longest line of the total: 10, 20 and 3 digits, 5 letters.
 abbrev pub totalSize : ℕ
 totalSize = 48
 

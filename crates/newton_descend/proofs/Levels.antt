@@ -5,7 +5,7 @@ use Prim.Native.Nat.{ℕ, _+_, _≤_, _<_}
 use native.Mathlib.Omega.{arith}
 use lib.ListN.{getD, set, length-set, length-map, replicate, length-replicate, getD-replicate}
 use Rattle.plant_def.specs.Limits.{places}
-use Rattle.flow_def.proofs.Lists.{map-at, set-each, Written, written-all}
+use Rattle.num_bytes.proofs.Lists.{map-at, set-each, Written, written-all}
 use Rattle.newton_laplacian.specs.Ends.{Labels}
 use Rattle.newton_descend.specs.Levels.{Banded, atLabels, Level}
 

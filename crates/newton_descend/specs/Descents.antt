@@ -10,12 +10,15 @@ use Rattle.plant_def.specs.Limits.{places}
 use Rattle.newton_descend.specs.Nets.{none, productTo, movedTo, netsTo}
 use Rattle.newton_descend.specs.declared.descents.Bracket.{Bracket}
 
+-- 1,
 abbrev pub one : Float
 one = ofBits binary64 4607182418800017408
 
+-- 2,
 abbrev pub two : Float
 two = ofBits binary64 4611686018427387904
 
+-- and the float of 64 bits nearest to a tenth.
 abbrev pub tenth : Float
 tenth = ofBits binary64 4591870180066957722
 

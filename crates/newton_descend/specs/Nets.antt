@@ -7,6 +7,7 @@ use Rattle.num_bytes.specs.Choice.{pick}
 use Rattle.plant_def.specs.Limits.{places}
 use Rattle.newton_laplacian.specs.Amounts.{amountBy, broughtIn}
 
+-- 0.
 abbrev pub none : Float
 none = ofBits binary64 0
 

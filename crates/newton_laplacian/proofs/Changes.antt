@@ -8,10 +8,12 @@ use lib.ListN.{getD}
 use lib.Ieee.{Float, nan, binary64, sub, mul, div, lt}
 use Rattle.newton_laplacian.specs.Cells.{width, restTo, changeAt}
 
+-- Before the first place the right-hand side is whole,
 pub rest-none : (a xs : List Float) (k : ℕ) → getD a (k * width) nan ≡ restTo a xs k 0
 unfolding restTo
 rest-none a xs k = refl
 
+-- and each place takes off its coefficient times its change.
 pub rest-more : (a xs : List Float) (k j : ℕ) (r : Float) → r ≡ restTo a xs k j
     → sub binary64 r (mul binary64 (getD a (k * width + 1 + j) nan) (getD xs j nan)) ≡ restTo a xs k (j + 1)
 unfolding restTo

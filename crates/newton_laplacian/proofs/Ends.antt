@@ -1,12 +1,12 @@
 -- The groups of streams' ends are places: where a place is put in, and at first.
-use mathlib.Core.Path.{_≡_, refl, _∙_}
+use mathlib.Core.Path.{refl, _∙_}
 use native.Mathlib.Omega.{arith}
 use lib.ListN.{set, length-set, replicate, getD-replicate}
 use mathlib.Core.List.{List}
 use lib.Ieee.{Float}
 use Prim.Native.Nat.{ℕ, suc, _*_, _≤_, _<_}
 use Rattle.plant_def.specs.Limits.{maxStreams}
-use Rattle.flow_def.proofs.Lists.{set-each}
+use Rattle.num_bytes.proofs.Lists.{set-each}
 use Rattle.newton_laplacian.specs.Ends.{Ends, Gathered}
 
 -- One more among the first n.

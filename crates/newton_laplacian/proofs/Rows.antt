@@ -1,5 +1,5 @@
 -- A stream in use, by its row: its reading is within its limits; and whether some stream has a range.
-use mathlib.Core.Path.{_≡_, refl, sym, _∙_}
+use mathlib.Core.Path.{_≡_, refl}
 use mathlib.Core.Bool.{Bool, true, false, _||_}
 use mathlib.Core.List.{List}
 use Prim.Native.Nat.{ℕ, zero, suc, _+_, _*_, _≤_, _<_}
@@ -15,16 +15,16 @@ use Rattle.plant_def.specs.Limits.{maxReading}
 use Rattle.plant_def.specs.Plants.{noStream}
 use Rattle.flow_def.specs.Certificate.{weightOf}
 use Rattle.solve_def.specs.Sizes.{mostReading}
-use Rattle.solve_def.specs.Held.{shifted, readingOf}
-use Rattle.solve_def.specs.SearchNeeds.{Close}
-use Rattle.solve_def.proofs.Bounds.{reading-close}
+use Rattle.solve_def.specs.Held.{readingOf}
+use Rattle.solve_def.specs.SearchNeeds.{SizeWithin}
+use Rattle.solve_def.proofs.Bounds.{reading-within}
 use Rattle.solve_arcs.specs.Cells.{countOf}
 use Rattle.solve_arcs.specs.ArcNeeds.{Laying}
 use Rattle.solve_arcs.proofs.Rowing.{below, row-at}
 use Rattle.newton_laplacian.specs.Readings.{leastRead, mostRead, Read, ranged, rangedTo}
 
 -- Twice a weight times a reading within its limits.
-within : (w R : ℕ) → Close mostReading R → (w * leastRead ≤ 2 * (w * R)) × (2 * (w * R) ≤ w * mostRead)
+within : (w R : ℕ) → SizeWithin mostReading R → (w * leastRead ≤ 2 * (w * R)) × (2 * (w * R) ≤ w * mostRead)
 within w R c =
     let low : leastRead ≤ 2 * R = omega (arith, c .1) in
     let high : 2 * R ≤ mostRead = omega (arith, c .0) in
@@ -37,7 +37,7 @@ weighed s h = go (s .metered) h
   where
     go : (b : Bool) → (b ≡ true → natAbs (s .reading) ≤ maxReading)
         → (pick b (s .weight) 0 * leastRead ≤ 2 * (pick b (s .weight) 0 * readingOf s)) × (2 * (pick b (s .weight) 0 * readingOf s) ≤ pick b (s .weight) 0 * mostRead)
-    go true f = within (s .weight) (readingOf s) (reading-close (s .reading) (f refl))
+    go true f = within (s .weight) (readingOf s) (reading-within (s .reading) (f refl))
     go false f = (omega arith, omega arith)
 
 -- The row of a stream in use.
@@ -51,6 +51,7 @@ read-of ls rs w i l =
       most = rw (w .laid .rowed .weights i b, w .laid .rowed .pulls i b) (h .1);
     }
 
+-- Before the first stream none has a range.
 pub ranged-none : (rs : List ℕ) → rangedTo rs 0 ≡ false
 unfolding rangedTo
 ranged-none rs = refl

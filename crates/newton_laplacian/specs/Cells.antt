@@ -30,5 +30,6 @@ changeAt least a xs k =
 abbrev pub Joinable : List ℕ → List ℕ → List ℕ → List Float → Type 0
 Joinable gs ls rs a = (n : ℕ) × Placed n gs ls rs × Fits n a
 
+-- The same of the first count streams gathered, whose groups are among some number of places.
 abbrev pub Joining : List ℕ → List Float → ℕ → List Float → Type 0
 Joining es ms count a = (n : ℕ) × Gathered n es ms count × Fits n a

@@ -20,6 +20,7 @@ pub record Placed (n : ℕ) (gs ls rs : List ℕ) : Type 0 where
   pub starts : (k : ℕ) → k < countOf ls → getD gs (getD ls (toCell + 2 * k) 0) 0 < n
   pub ends : (k : ℕ) → k < countOf ls → getD gs (getD ls (toCell + (2 * k + 1)) 0) 0 < n
 
+-- The same of some number of places.
 abbrev pub Placing : List ℕ → List ℕ → List ℕ → Type 0
 Placing gs ls rs = (n : ℕ) × Placed n gs ls rs
 

@@ -10,10 +10,11 @@ use Rattle.num_bytes.specs.Choice.{pick}
 use Rattle.solve_def.specs.Sizes.{flowShift, mostFlow, mostReading}
 use Rattle.solve_arcs.specs.ArcNeeds.{Row}
 
--- Twice the least reading as it is held, and twice the greatest.
+-- Twice the least reading as it is held.
 abbrev pub leastRead : ℕ
 leastRead = 2 * (flowShift - mostReading)
 
+-- Twice the greatest reading as it is held.
 abbrev pub mostRead : ℕ
 mostRead = 2 * (flowShift + mostReading)
 
@@ -23,9 +24,11 @@ pub record Read (rs : List ℕ) (k : ℕ) : Type 0 where
   pub least : getD rs (4 * k) 0 * leastRead ≤ getD rs (4 * k + 1) 0
   pub most : getD rs (4 * k + 1) 0 ≤ getD rs (4 * k) 0 * mostRead
 
+-- A whole number as a float of 64 bits.
 abbrev pub real : ℕ → Float
 real n = ofInt binary64 (pos n)
 
+-- One half, as a float of 64 bits.
 abbrev pub half : Float
 half = ofBits binary64 4602678819172646912
 
@@ -41,10 +44,11 @@ readingBy rs k c = sub binary64 (mul binary64 (real (getD rs (4 * k + 1) 0 - get
 abbrev pub ranged : List ℕ → ℕ → Bool
 ranged rs k = ltb (getD rs (4 * k + 3) 0) mostFlow
 
--- The ends of a stream's range, where no amount comes where it has none.
+-- The low end of a stream's range; where it has none, as far below 0, which no amount comes to.
 abbrev pub lowEnd : Float → List ℕ → ℕ → Float
 lowEnd far rs k = pick (ranged rs k) (sub binary64 (real (getD rs (4 * k + 2) 0)) (real flowShift)) (neg far)
 
+-- The high end of a stream's range; where it has none, far, which no amount comes to.
 abbrev pub highEnd : Float → List ℕ → ℕ → Float
 highEnd far rs k = pick (ranged rs k) (sub binary64 (real (getD rs (4 * k + 3) 0)) (real flowShift)) far
 

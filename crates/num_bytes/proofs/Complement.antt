@@ -2,16 +2,21 @@
 use mathlib.Core.Path.{_≡_, refl, sym, ap, _∙_}
 use mathlib.Core.Bool.{Bool, true, false, false≢true}
 use lib.IntN.{ℤ, pos, negsuc, _-ℤ_, natAbs}
-use lib.Signed.{leZ, ltZ}
-use lib.Dec.{ltb}
+use lib.Signed.{leZ, ltZ, nonNeg}
+use lib.Dec.{ltb, T}
 use Prim.Native.Nat.{ℕ, zero, suc, _+_, _-_, _*_, _<_, _≤_, _^_, zero-le}
 use native.Mathlib.Omega.{arith}
 use borrow.Author.Tests.{ltb-true, ltb-false, lt-ltb, le-ltb, le-leb, leb-true}
 use mir.Syntax.{Width}
-use mir.Val.{toZ, ofZ, SFits, bits, hbits}
+use mir.Val.{toZ, ofZ, SFits, Fits, bits, hbits}
 use mir.Facts.{toZ-ofZ, toZ-pos}
 use Rattle.num_bytes.specs.Bytes.{raw, signed, holds}
 use Rattle.num_bytes.proofs.Tests.{picked}
+
+-- Of size 0 is 0 alone.
+pub zero-size : (z : ℤ) → natAbs z ≡ 0 → pos 0 ≡ z
+zero-size (pos a) e = ap pos (sym e)
+zero-size (negsuc a) e = absurd (omega arith)
 
 module _ (n : ℕ) where
   signed-low : (v : ℕ) → 2 * v < 256 ^ n → signed n v ≡ pos v
@@ -108,6 +113,54 @@ module _ (w : Width) where
       go : (y : ℤ) → SFits w y → leZ (pos 0) y ≡ false → (k : ℕ) × (y ≡ negsuc k) × (k < 2 ^ hbits w) × (negsuc 0 -ℤ toZ w (ofZ w y) ≡ pos k)
       go (pos k) g t = absurd (false≢true (sym t ∙ le-leb 0 k zero-le))
       go (negsuc k) g t = (k, refl, g .sfits, rw (toZ-ofZ {z = negsuc k} g) (simp (le-ltb (suc k) 1 (omega arith)) (ap pos (omega arith))))
+
+-- A word at or above zero is a number as it stands: its size, and what any n bytes hold of it.
+pub record Upright (w : Width) (z : ℤ) : Type 0 where
+  pub cast : T (nonNeg (toZ w (ofZ w z))) × Fits w (natAbs (toZ w (ofZ w z)))
+  pub size : natAbs (toZ w (ofZ w z)) ≡ natAbs z
+  pub bits : (n : ℕ) → natAbs (toZ w (ofZ w z)) ≡ raw n z
+
+-- What is left of a word below zero: −1 less the word.
+abbrev pub leftBy : Width → ℤ → ℤ
+leftBy w z = negsuc 0 -ℤ toZ w (ofZ w z)
+
+-- It is a number; one more is the word's size, and it is missing from all bits.
+pub record Inverted (w : Width) (z : ℤ) : Type 0 where
+  pub fits : SFits w (leftBy w z)
+  pub cast : T (nonNeg (toZ w (ofZ w (leftBy w z)))) × Fits w (natAbs (toZ w (ofZ w (leftBy w z))))
+  pub small : natAbs (toZ w (ofZ w (leftBy w z))) < 2 ^ hbits w
+  pub size : natAbs (toZ w (ofZ w (leftBy w z))) + 1 ≡ natAbs z
+  pub bits : (n m : ℕ) → suc m ≡ 256 ^ n → m - natAbs (toZ w (ofZ w (leftBy w z))) ≡ raw n z
+
+module _ (w : Width) (half : 2 * 2 ^ hbits w ≡ 2 ^ bits w) (z : ℤ) (f : SFits w z) where
+  -- A word that is tested to be at or above zero.
+  pub upright : leZ (pos 0) (toZ w (ofZ w z)) ≡ true → Upright w z
+  upright t =
+      let b = at-zero w z f t in
+      record {
+        cast = rw (b .3) (tt, record { fits = omega (arith, b .2) });
+        size = ap natAbs (b .3) ∙ sym (ap natAbs (b .1));
+        bits = λ n. ap natAbs (b .3) ∙ sym (ap (raw n) (b .1));
+      }
+
+  -- A word that is tested to be below zero.
+  pub inverted : leZ (pos 0) (toZ w (ofZ w z)) ≡ false → Inverted w z
+  inverted t =
+      let b = under-zero w z f t in
+      let k : toZ w (ofZ w (leftBy w z)) ≡ pos (b .0) = rw (b .3) (toZ-pos w (b .2)) in
+      record {
+        fits = rw (b .3) (record { sfits = b .2 });
+        cast = rw k (tt, record { fits = omega (arith, b .2) });
+        small = rw k (b .2);
+        size = ap (λ (y : ℤ). natAbs y + 1) k ∙ one (b .0) ∙ sym (ap natAbs (b .1));
+        bits = λ n m e. ap (λ (y : ℤ). m - natAbs y) k ∙ others (b .0) n m e ∙ sym (ap (raw n) (b .1));
+      }
+    where
+      one : (j : ℕ) → j + 1 ≡ suc j
+      one j = omega arith
+
+      others : (j n m : ℕ) → suc m ≡ 256 ^ n → m - j ≡ 256 ^ n - suc j
+      others j n m e = omega arith
 
 -- A signed word held against a range by two tests, from −(m + 1) to m + 1.
 module _ (w : Width) (m : ℕ) (z : ℤ) (f : SFits w z) where

@@ -18,6 +18,12 @@ module _ {A : Type 0} (d : A) where
   filled-none zero = refl
   filled-none (suc n) = ap (λ (l : List A). d ∷ l) (filled-none n)
 
+  -- An array of d has d at each place.
+  pub blank-at : (n j : ℕ) → getD (replicate n d) j d ≡ d
+  blank-at zero j = refl
+  blank-at (suc n) zero = refl
+  blank-at (suc n) (suc j) = blank-at n j
+
   -- One element more.
   pub filled-more : (n : ℕ) (xs : List A) (y : A) → length xs < n → set (filled d n xs) (length xs) y ≡ filled d n (xs ++ (y ∷ []))
   filled-more zero xs y h = absurd (omega arith)
@@ -38,3 +44,9 @@ module _ {A : Type 0} (d : A) where
   filled-at (suc n) [] (suc j) h = filled-at n [] j (omega arith)
   filled-at (suc n) (x ∷ xs) zero h = refl
   filled-at (suc n) (x ∷ xs) (suc j) h = filled-at n xs j (omega arith)
+
+-- What is read past the end does not matter before it.
+pub getD-any : {A : Type 0} (xs : List A) (i : ℕ) (a b : A) → i < length xs → getD xs i a ≡ getD xs i b
+getD-any [] i a b l = absurd (omega arith)
+getD-any (x ∷ xs) zero a b l = refl
+getD-any (x ∷ xs) (suc i) a b l = getD-any xs i a b (omega arith)

@@ -30,6 +30,11 @@ and-right false b e = absurd (false≢true e)
 pub and-both : (a b : Bool) → a ≡ true → b ≡ true → a && b ≡ true
 and-both a b p q = rw (p, q)
 
+-- Where the second does not hold, not both do.
+pub and-none : (a : Bool) → a && false ≡ false
+and-none true = refl
+and-none false = refl
+
 -- Where the first holds, one of them does.
 pub or-left : (a b : Bool) → a ≡ true → a || b ≡ true
 or-left a b p = rw p
@@ -113,3 +118,8 @@ module _ (r f g : ℕ) (e : r ≡ f) where
   -- after none, what comes next decides.
   pub others-then : r ≡ 0 → (q : ℕ) → q ≡ g → q ≡ firstOf f g
   others-then h q d = d ∙ second-is f g (sym e ∙ h)
+
+-- A choice of one value.
+pub pick-same : {A : Type 0} (b : Bool) (x : A) → pick b x x ≡ x
+pick-same true x = refl
+pick-same false x = refl

@@ -1,4 +1,5 @@
-// Numbers at the front of a slice, high byte first, read and written; differences and sizes; refusals in their order.
+// Numbers at the front of a slice, high byte first; refusals in their order; the laws of integers, sums, counts, bits and lists. Differences
+// and sizes of numbers stand here, too.
 ghost use mathlib.Core.Path.{_≡_};
 ghost use lib.IntN.{natAbs};
 ghost use Prim.Native.Nat.{_-_, _≤_, _<_};

@@ -62,7 +62,10 @@ module _ {A B : Type 0} (f : A → B) where
 abbrev pub itself : {A : Type 0} → A → A
 itself x = x
 
--- Elements handed over as they are.
-pub map-itself : {A : Type 0} (xs : List A) → map itself xs ≡ xs
+map-itself : {A : Type 0} (xs : List A) → map itself xs ≡ xs
 map-itself [] = refl
 map-itself {A = A} (x ∷ xs) = ap (λ (l : List A). x ∷ l) (map-itself xs)
+
+-- Elements as they are, behind the last one.
+pub all-as-they-are : {A : Type 0} {xs : List A} {c : ℕ} {o n : List A} {k : ℕ} → Handing itself xs c o n k → c ≤ k → n ≡ over (take c xs) o
+all-as-they-are {A = A} {xs} {c} {o} h l = all-handed itself h l ∙ ap (λ (ys : List A). over ys o) (map-itself (take c xs))

@@ -11,8 +11,8 @@ use lib.Seq.{drop-cons}
 use Rattle.num_bytes.specs.Choice.{pick}
 use Rattle.num_bytes.specs.Inner.{values}
 use Rattle.plant_def.specs.Limits.{places}
-use Rattle.flow_def.specs.Sides.{bit}
-use Rattle.flow_def.proofs.Lists.{values-same}
+use Rattle.num_bytes.specs.Sums.{bit}
+use Rattle.num_bytes.proofs.Lists.{values-same}
 use Rattle.num_lent.specs.Marks.{marksIn}
 
 -- The number with these bits, the first the lowest.

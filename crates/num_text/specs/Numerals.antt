@@ -25,6 +25,7 @@ digitsOf (suc more) n = pick (ltb n 10) (digit n ∷ []) (digitsOf more (n / 10)
 unfoldable pub decimal : ℕ → List ℕ
 decimal n = digitsOf n n
 
+-- A signed number, with a minus sign below 0.
 abbrev pub signedDecimal : ℤ → List ℕ
 signedDecimal (pos n) = decimal n
 signedDecimal (negsuc n) = text "-" ++ decimal (suc n)

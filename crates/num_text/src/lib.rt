@@ -1,6 +1,5 @@
 // Numbers as text, put into a slice at a place. Each function that puts answers the place behind its text.
 use num_bytes::size_of;
-ghost use mathlib.Core.Path.{_≡_};
 ghost use Prim.Native.Nat.{_+_, _≤_};
 ghost use mathlib.Core.List.{[], _∷_};
 ghost use lib.ListN.{length};

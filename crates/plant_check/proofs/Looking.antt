@@ -15,12 +15,12 @@ use Rattle.plant_def.specs.Plants.{noStream, streamFault, firstFault}
 -- i streams looked at, none at fault: the rest decides.
 pub record Looked (n k : ℕ) (ss : List Stream) (i : ℕ) : Type 0 where
   pub within : i ≤ k
-  pub held : length ss ≡ maxStreams
+  pub long-enough : length ss ≡ maxStreams
   pub rest : firstFault n (take k ss) ≡ firstFault n (take (k - i) (drop i ss))
 
 -- Before the first stream.
 pub look : (n k : ℕ) (ss : List Stream) → length ss ≡ maxStreams → Looked n k ss 0
-look n k ss h = let e : k ≡ k - 0 = omega arith in record { within = omega arith; held = h; rest = ap (λ (j : ℕ). firstFault n (take j ss)) e }
+look n k ss h = let e : k ≡ k - 0 = omega arith in record { within = omega arith; long-enough = h; rest = ap (λ (j : ℕ). firstFault n (take j ss)) e }
 
 module _ {n k : ℕ} {ss : List Stream} {i : ℕ} (l : Looked n k ss i) (f : ℕ) (few : k ≤ maxStreams) (more : i < k) (e : f ≡ streamFault n (getD ss i noStream)) where
   after : ℕ
@@ -29,7 +29,7 @@ module _ {n k : ℕ} {ss : List Stream} {i : ℕ} (l : Looked n k ss i) (f : ℕ
   whole : firstFault n (take k ss) ≡ firstOf f after
   unfolding after
   whole =
-      let h = l .held in
+      let h = l .long-enough in
       let z : k - i ≡ suc (k - (i + 1)) = omega arith in
       l .rest
       ∙ ap (λ (t : List Stream). firstFault n (take (k - i) t)) (drop-cons ss i noStream (omega arith))
@@ -43,7 +43,7 @@ module _ {n k : ℕ} {ss : List Stream} {i : ℕ} (l : Looked n k ss i) (f : ℕ
   -- Without a fault the next stream is looked at.
   pub look-on : f ≡ 0 → Looked n k ss (i + 1)
   unfolding after
-  look-on z = record { within = omega arith; held = l .held; rest = whole ∙ ap (λ (g : ℕ). firstOf g after) z }
+  look-on z = record { within = omega arith; long-enough = l .long-enough; rest = whole ∙ ap (λ (g : ℕ). firstOf g after) z }
 
 -- Behind the last stream there was none.
 pub no-fault : {n k : ℕ} {ss : List Stream} {i : ℕ} → Looked n k ss i → k ≤ i → 0 ≡ firstFault n (take k ss)

@@ -15,7 +15,9 @@ use Rattle.plant_def.specs.declared.Record.the-variants.{Listed, End, Re
 use Rattle.plant_def.specs.Limits.{maxStreams, siteBody}
 use Rattle.plant_def.specs.Plants.{Plant, unitsFault, streamFault, firstFault, plantFault, plainOne, plain}
 use Rattle.plant_def.specs.Files.{Got, bad, got, siteAt, onSite, recordAt, onRecord, withStream, recordsBy, mostRecords, fileBy, readPlant}
+use Rattle.plant_def.specs.Within.{Within}
 use Rattle.plant_def.proofs.Records.{Taken, Means, record-taken, units-there, missing-there, site-units}
+use Rattle.plant_def.proofs.Limited.{within}
 
 -- What is known of the plant while a file is read.
 pub record Sound (p : Plant) : Type 0 where
@@ -90,6 +92,10 @@ module _ (at : ℕ → ℕ → List ℕ → Record) (means : (n c : ℕ) (s : Li
 -- A plant file.
 pub accepted : (s : List ℕ) (p : Plant) → readPlant s ≡ got p → (plantFault p ≡ 0) × (plain (p .streams) ≡ true)
 accepted = file-accepted recordAt record-taken
+
+-- A plant that is read is within the limits.
+pub read-within : (s : List ℕ) (p : Plant) → readPlant s ≡ got p → Within p
+read-within s p e = within p (accepted s p e .0)
 
 -- A refusal is never 0.
 pub refused : (s : List ℕ) (f : ℕ) → readPlant s ≡ bad f → f ≡ 0 → ⊥

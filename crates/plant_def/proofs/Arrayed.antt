@@ -21,7 +21,7 @@ pub within-more : {m n : ℕ} {s : Stream} → m ≤ n → WithinStream m s → 
 within-more l w = record {
   from-in = omega (arith, w .from-in);
   to-in = omega (arith, w .to-in);
-  apart = w .apart;
+  distinct = w .distinct;
   weighed = w .weighed;
   light = w .light;
   in-range = w .in-range;

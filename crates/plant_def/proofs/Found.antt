@@ -1,5 +1,5 @@
 -- What the reader handed over, by its number: its refusal, or the plant of the file, accepted.
-use mathlib.Core.Path.{_≡_, refl, sym, ap, _∙_}
+use mathlib.Core.Path.{_≡_, refl, sym, ap, _∙_, subst}
 use mathlib.Core.List.{List}
 use Prim.Native.Nat.{ℕ}
 use lib.ListN.{length}
@@ -37,3 +37,13 @@ module _ (file : List ℕ) (y : Read) (e : y ≡ readOf (readPlant file)) (n : y
   -- and counts them.
   pub plant-count : y .plant .count ≡ length (found .0 .streams)
   plant-count = sym (all-listed (y .plant) plant-accepted) ∙ ap (λ (x : Plant). length (x .streams)) plant-same
+
+-- What is said of a file, `With` of what was read of it.
+module _ (With : Got → Type 0) (file : List ℕ) (y : Read) (e : y ≡ readOf (readPlant file)) where
+  -- A file that is refused: what is said of its number.
+  pub says-bad : (y .number ≡ 0 → ⊥) → With (bad (y .number)) → With (readPlant file)
+  says-bad n q = subst With (sym (read-bad (readPlant file) y e n)) q
+
+  -- A file that is read: what is said of its plant.
+  pub says-got : y .number ≡ 0 → With (got (plantOf (y .plant))) → With (readPlant file)
+  says-got n b = subst With (sym (found file y e n .1)) (subst (λ (p : Plant). With (got p)) (plant-same file y e n) b)

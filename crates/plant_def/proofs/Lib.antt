@@ -13,3 +13,4 @@ pub mod Amiss
 pub mod Refusals
 pub mod Longest
 pub mod Promise
+pub mod Sample

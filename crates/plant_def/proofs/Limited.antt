@@ -39,7 +39,7 @@ pub within-stream : (n : ℕ) (s : Stream) → streamFault n s ≡ 0 → WithinS
 within-stream n s e = record {
   from-in = ltb-false n (s .from) (or-none-left (ltb n (s .from)) (ltb n (s .to)) ends);
   to-in = ltb-false n (s .to) (or-none-right (ltb n (s .from)) (ltb n (s .to)) ends);
-  apart = eqb-false (s .from) (s .to) (refuse-none (eqb (s .from) (s .to)) 7 (first-none-left (refuseIf (eqb (s .from) (s .to)) 8) _ rest));
+  distinct = eqb-false (s .from) (s .to) (refuse-none (eqb (s .from) (s .to)) 7 (first-none-left (refuseIf (eqb (s .from) (s .to)) 8) _ rest));
   weighed = λ m. let z = eqb-false (s .weight) 0 (or-none-left (eqb (s .weight) 0) (ltb maxWeight (s .weight)) (weight m)) in omega arith;
   light = λ m. ltb-false maxWeight (s .weight) (or-none-right (eqb (s .weight) 0) (ltb maxWeight (s .weight)) (weight m));
   in-range = λ m. ltb-false maxReading (natAbs (s .reading))

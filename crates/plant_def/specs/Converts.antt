@@ -16,11 +16,12 @@ abbrev pub ReadAs : {R : Type 0} → (ℕ → R) → (Plant → R → Type 0) �
 ReadAs none Of (bad f) r = r ≡ none f
 ReadAs none Of (got p) r = Of p r
 
--- A reading's refusal number, 0 where it is none, and the bytes of its plant as the plant writer writes them.
+-- A reading's refusal number, 0 where it is none.
 abbrev pub faultOf : Got → ℕ
 faultOf (bad f) = f
 faultOf (got p) = 0
 
+-- The bytes of its plant, none where it is a refusal.
 abbrev pub bytesOf : Got → List ℕ
 bytesOf (bad f) = []
 bytesOf (got p) = plantBytes p

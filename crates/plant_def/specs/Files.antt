@@ -33,11 +33,12 @@ siteFault s =
 abbrev pub siteAt : List ℕ → Site
 siteAt s = pick (eqb (siteFault s) 0) (Units (getD s 1 0)) (Missing (siteFault s))
 
--- What each case of Site means: its number, 0 where it is no refusal, and its value.
+-- The refusal number of what stands there, 0 where it is a site record.
 abbrev pub siteNumber : Site → ℕ
 siteNumber (Units n) = 0
 siteNumber (Missing f) = f
 
+-- What follows from a site record, by its case.
 abbrev pub onSite : {A : Type 0} → Site → (ℕ → A) → (ℕ → A) → A
 onSite (Units n) placed refused = placed n
 onSite (Missing f) placed refused = refused f
@@ -67,6 +68,7 @@ bodyFault size c b = firstOf (refuseIf (leb maxStreams c) 5) (refuseIf (ltb (len
 abbrev pub checked : ℕ → Stream → ℕ → Record
 checked n s m = pick (eqb (streamFault n s) 0) (Listed s m) (Refused (streamFault n s))
 
+-- A stream's record: the faults of its body, then the stream's own.
 abbrev pub streamRecord : ℕ → Stream → ℕ → ℕ → List ℕ → Record
 streamRecord size s n c b = pick (eqb (bodyFault size c b) 0) (checked n s (suc size)) (Refused (bodyFault size c b))
 
@@ -76,6 +78,7 @@ endFault c b =
     firstOf (refuseIf (ltb (length b) endBody) 3)
     (firstOf (refuseIf (not (eqb (getD b 0 0) c)) 11) (refuseIf (not (eqb (length b) endBody)) 12))
 
+-- The end of the file, or what is amiss with it.
 abbrev pub endRecord : ℕ → List ℕ → Record
 endRecord c b = pick (eqb (endFault c b) 0) End (Refused (endFault c b))
 
@@ -97,6 +100,7 @@ onRecord (Listed s m) listed ended refused = listed s m
 onRecord End listed ended refused = ended
 onRecord (Refused f) listed ended refused = refused f
 
+-- A plant with one stream more.
 abbrev pub withStream : Plant → Stream → Plant
 withStream p s = record { units = p .units; streams = p .streams ++ (s ∷ []) }
 
@@ -118,23 +122,27 @@ fileBy at s = onSite (siteAt s) (λ n. recordsBy at mostRecords (record { units 
 abbrev pub readPlant : List ℕ → Got
 readPlant = fileBy recordAt
 
--- Writing. What both kinds of metered stream have; low and high.
+-- Writing. What both kinds of metered stream have: from, to, weight, reading.
 abbrev pub meterBytes : Stream → List ℕ
 meterBytes s = s .from ∷ s .to ∷ putBe 2 (s .weight) ++ putBe 4 (raw 4 (s .reading))
 
+-- Low and high.
 abbrev pub rangeBytes : Stream → List ℕ
 rangeBytes s = putBe 4 (raw 4 (s .low)) ++ putBe 4 (raw 4 (s .high))
 
+-- The record of a stream.
 abbrev pub streamBytes : Stream → List ℕ
 streamBytes s =
     pick (s .metered)
     (pick (s .ranged) (rangedKind ∷ meterBytes s ++ rangeBytes s) (meteredKind ∷ meterBytes s))
     (unmeteredKind ∷ s .from ∷ s .to ∷ [])
 
+-- The records of streams, one after the other.
 abbrev pub streamsBytes : List Stream → List ℕ
 streamsBytes [] = []
 streamsBytes (s ∷ ss) = streamBytes s ++ streamsBytes ss
 
+-- A plant file: site, streams, end.
 abbrev pub plantBytes : Plant → List ℕ
 plantBytes p = siteKind ∷ p .units ∷ streamsBytes (p .streams) ++ (endKind ∷ length (p .streams) ∷ [])
 

@@ -56,6 +56,7 @@ firstFault n (s ∷ ss) = firstOf (streamFault n s) (firstFault n ss)
 abbrev pub partsFault : ℕ → ℕ → List Stream → ℕ
 partsFault n c ss = firstOf (unitsFault n) (firstOf (refuseIf (ltb maxStreams c) 5) (firstFault n ss))
 
+-- The same of a plant, which has as many streams as it announces.
 abbrev pub plantFault : Plant → ℕ
 plantFault p = partsFault (p .units) (length (p .streams)) (p .streams)
 
@@ -65,6 +66,7 @@ plainOne s =
     (s .metered || (eqb (s .weight) 0 && (eqb (natAbs (s .reading)) 0 && not (s .ranged))))
     && (s .ranged || (eqb (natAbs (s .low)) 0 && eqb (natAbs (s .high)) 0))
 
+-- Every stream of a list is so.
 abbrev pub plain : List Stream → Bool
 plain [] = true
 plain (s ∷ ss) = plainOne s && plain ss

@@ -20,13 +20,15 @@ use Rattle.plant_def.specs.Files.{Got, bad, got, readPlant, plantBytes}
 abbrev pub padded : ℕ → List Stream → List Stream
 padded = filled noStream
 
--- A plant as the code holds it, and back: the array's records up to the count.
+-- A plant as the code holds it: its streams in an array, empty records after them.
 abbrev pub arrayed : Plant → Arrays.Plant
 arrayed p = record { units = p .units; count = length (p .streams); streams = padded maxStreams (p .streams) }
 
+-- So many units, and the first c records of an array.
 abbrev pub listing : ℕ → ℕ → List Stream → Plant
 listing n c ss = record { units = n; streams = take c ss }
 
+-- The plant that the code holds.
 abbrev pub plantOf : Arrays.Plant → Plant
 plantOf p = listing (p .units) (p .count) (p .streams)
 
@@ -35,6 +37,7 @@ abbrev pub readOf : Got → Read
 readOf (bad f) = record { number = f; plant = arrayed (record { units = 0; streams = [] }) }
 readOf (got p) = record { number = 0; plant = arrayed p }
 
+-- What the plant reader ensures.
 abbrev pub ReadSays : List ℕ → Read → Type 0
 ReadSays file r = r ≡ readOf (readPlant file)
 
@@ -53,6 +56,7 @@ abbrev pub PartsWritten : ℕ → ℕ → List Stream → List ℕ → List ℕ 
 PartsWritten n c ss o =
     Written (firstOf (refuseIf (ltb (length o) longestFile) 1) (partsFault n c ss)) (plantBytes (record { units = n; streams = ss })) o
 
+-- What the plant writer ensures.
 abbrev pub WriteSays : Arrays.Plant → List ℕ → List ℕ → Done → Type 0
 WriteSays p o = Written (writeFault p o) (plantBytes (plantOf p)) o
 
@@ -64,5 +68,6 @@ Longest-file = (file : List ℕ) (p : Plant) → readPlant file ≡ got p → le
 abbrev pub fileNumber : ℕ → Bool
 fileNumber f = (leb 3 f && leb f 12) || eqb f 18
 
+-- No file is refused with any other number.
 abbrev pub File-refusals : Type 0
 File-refusals = (file : List ℕ) (f : ℕ) → readPlant file ≡ bad f → fileNumber f ≡ true

@@ -15,7 +15,7 @@ use Rattle.plant_def.specs.Plants.{Plant, noStream, limited}
 pub record WithinStream (n : ℕ) (s : Stream) : Type 0 where
   pub from-in : s .from ≤ n
   pub to-in : s .to ≤ n
-  pub apart : s .from ≡ s .to → ⊥
+  pub distinct : s .from ≡ s .to → ⊥
   pub weighed : s .metered ≡ true → 1 ≤ s .weight
   pub light : s .metered ≡ true → s .weight ≤ maxWeight
   pub in-range : s .metered ≡ true → natAbs (s .reading) ≤ maxReading

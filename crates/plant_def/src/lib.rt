@@ -1,5 +1,5 @@
 // Plant files: a plant's units and streams, read from bytes and written to them. What a call promises that reads a file and writes
-// a plant file from it. No function stands here.
+// a plant file from it. One function stands here: the record of an unmetered stream.
 pub mod limits;
 pub mod streams;
 

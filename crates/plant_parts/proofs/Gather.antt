@@ -17,7 +17,7 @@ use Rattle.plant_def.specs.Limits.{maxStreams}
 use Rattle.plant_def.specs.Plants.{noStream}
 use Rattle.plant_def.specs.Says.{padded}
 use Rattle.plant_def.proofs.Held.{length-padded, padded-more, getD-padded}
-use Rattle.flow_def.proofs.Lists.{values-long, values-at}
+use Rattle.num_bytes.proofs.Lists.{values-long, values-at}
 use Rattle.plant_parts.specs.Parts.{Slices, partsAt, reaches, handed, least, reach, listedTo}
 use Rattle.plant_parts.specs.Inner.{meterAt, rangeAt}
 
@@ -41,29 +41,40 @@ pub record Reached (p : Slices) (n : ℕ) : Type 0 where
   pub low-there : n ≤ length (p .low)
   pub high-there : n ≤ length (p .high)
 
+-- How far the slices of a part reach: ends, weights and readings, all of a meter; low and high, all of a range.
+abbrev endsTo : Slices → ℕ
+endsTo p = least (length (p .from)) (length (p .to))
+
+abbrev meterTo : Slices → ℕ
+meterTo p = least (length (p .weight)) (length (p .reading))
+
+abbrev metersTo : Slices → ℕ
+metersTo p = least (endsTo p) (least (length (p .metered)) (meterTo p))
+
+abbrev rangeTo : Slices → ℕ
+rangeTo p = least (length (p .low)) (length (p .high))
+
+abbrev rangesTo : Slices → ℕ
+rangesTo p = least (length (p .ranged)) (rangeTo p)
+
 -- Every slice reaches so many streams.
 pub reached : (p : Slices) (n : ℕ) → n ≡ reach p → Reached p n
 reached p n e =
-    let ends = least (length (p .from)) (length (p .to)) in
-    let meter = least (length (p .weight)) (length (p .reading)) in
-    let meters = least ends (least (length (p .metered)) meter) in
-    let range = least (length (p .low)) (length (p .high)) in
-    let ranges = least (length (p .ranged)) range in
-    let all : n ≤ least meters ranges = omega (arith, least-right maxStreams (least meters ranges)) in
-    let m : n ≤ meters = omega (arith, least-left meters ranges) in
-    let r : n ≤ ranges = omega (arith, least-right meters ranges) in
-    let s : n ≤ least (length (p .metered)) meter = omega (arith, least-right ends (least (length (p .metered)) meter)) in
-    let f : n ≤ ends = omega (arith, least-left ends (least (length (p .metered)) meter)) in
-    let w : n ≤ meter = omega (arith, least-right (length (p .metered)) meter) in
-    let l : n ≤ range = omega (arith, least-right (length (p .ranged)) range) in
+    let all : n ≤ least (metersTo p) (rangesTo p) = omega (arith, least-right maxStreams (least (metersTo p) (rangesTo p))) in
+    let m : n ≤ metersTo p = omega (arith, least-left (metersTo p) (rangesTo p)) in
+    let r : n ≤ rangesTo p = omega (arith, least-right (metersTo p) (rangesTo p)) in
+    let s : n ≤ least (length (p .metered)) (meterTo p) = omega (arith, least-right (endsTo p) (least (length (p .metered)) (meterTo p))) in
+    let f : n ≤ endsTo p = omega (arith, least-left (endsTo p) (least (length (p .metered)) (meterTo p))) in
+    let w : n ≤ meterTo p = omega (arith, least-right (length (p .metered)) (meterTo p)) in
+    let l : n ≤ rangeTo p = omega (arith, least-right (length (p .ranged)) (rangeTo p)) in
     record {
-      room = omega (arith, least-left maxStreams (least meters ranges));
+      room = omega (arith, least-left maxStreams (least (metersTo p) (rangesTo p)));
       from-there = omega (arith, least-left (length (p .from)) (length (p .to)));
       to-there = omega (arith, least-right (length (p .from)) (length (p .to)));
-      metered-there = omega (arith, least-left (length (p .metered)) meter);
+      metered-there = omega (arith, least-left (length (p .metered)) (meterTo p));
       weight-there = omega (arith, least-left (length (p .weight)) (length (p .reading)));
       reading-there = omega (arith, least-right (length (p .weight)) (length (p .reading)));
-      ranged-there = omega (arith, least-left (length (p .ranged)) range);
+      ranged-there = omega (arith, least-left (length (p .ranged)) (rangeTo p));
       low-there = omega (arith, least-left (length (p .low)) (length (p .high)));
       high-there = omega (arith, least-right (length (p .low)) (length (p .high)));
     }
@@ -118,20 +129,15 @@ all-gathered p n ms e d =
 -- Every slice reaches the streams gathered, and no other.
 reaches-is : (p : Slices) (k : ℕ) → k < maxStreams → ltb k (reach p) ≡ reaches p k
 reaches-is p k h =
-    let ends = least (length (p .from)) (length (p .to)) in
-    let meter = least (length (p .weight)) (length (p .reading)) in
-    let meters = least ends (least (length (p .metered)) meter) in
-    let range = least (length (p .low)) (length (p .high)) in
-    let ranges = least (length (p .ranged)) range in
-    least-test k maxStreams (least meters ranges)
-    ∙ ap (λ (b : Bool). b && ltb k (least meters ranges)) (lt-ltb k maxStreams h)
-    ∙ least-test k meters ranges
+    least-test k maxStreams (least (metersTo p) (rangesTo p))
+    ∙ ap (λ (b : Bool). b && ltb k (least (metersTo p) (rangesTo p))) (lt-ltb k maxStreams h)
+    ∙ least-test k (metersTo p) (rangesTo p)
     ∙ ap₂ _&&_
-    (least-test k ends (least (length (p .metered)) meter)
+    (least-test k (endsTo p) (least (length (p .metered)) (meterTo p))
     ∙ ap₂ _&&_ (least-test k (length (p .from)) (length (p .to)))
-    (least-test k (length (p .metered)) meter ∙ ap (λ (b : Bool). ltb k (length (p .metered)) && b) (least-test k (length (p .weight)) (length (p .reading))))
+    (least-test k (length (p .metered)) (meterTo p) ∙ ap (λ (b : Bool). ltb k (length (p .metered)) && b) (least-test k (length (p .weight)) (length (p .reading))))
     ∙ and-assoc (ltb k (length (p .from))) (ltb k (length (p .to))) _)
-    (least-test k (length (p .ranged)) range ∙ ap (λ (b : Bool). ltb k (length (p .ranged)) && b) (least-test k (length (p .low)) (length (p .high))))
+    (least-test k (length (p .ranged)) (rangeTo p) ∙ ap (λ (b : Bool). ltb k (length (p .ranged)) && b) (least-test k (length (p .low)) (length (p .high))))
   where
     least-test : (k a b : ℕ) → ltb k (least a b) ≡ ltb k a && ltb k b
     least-test k a b =

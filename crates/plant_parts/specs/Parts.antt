@@ -52,16 +52,18 @@ handed p k = pick (reaches p k) (partsAt p k) noStream
 abbrev pub HandedWritten : ℕ → ℕ → Slices → List ℕ → List ℕ → Done → Type 0
 HandedWritten n c p = PartsWritten n c (values c (handed p))
 
--- As the code has it: how many streams every slice reaches, up to the limit, and the first n of the streams that f gives.
+-- The lower of two numbers.
 abbrev pub least : ℕ → ℕ → ℕ
 least a b = pick (ltb a b) a b
 
+-- As far as the shortest slice reaches, up to the limit.
 abbrev pub reach : Slices → ℕ
 reach p =
     least maxStreams
     (least (least (least (length (p .from)) (length (p .to))) (least (length (p .metered)) (least (length (p .weight)) (length (p .reading)))))
     (least (length (p .ranged)) (least (length (p .low)) (length (p .high)))))
 
+-- The first n streams, one after the other.
 abbrev pub listedTo : (ℕ → Stream) → ℕ → List Stream
 listedTo f zero = []
 listedTo f (suc n) = listedTo f n ++ (f n ∷ [])

@@ -2,7 +2,7 @@
 use mathlib.Core.Path.{_≡_, refl, sym, ap, _∙_}
 use mathlib.Core.Bool.{Bool, true, false, not, _||_}
 use mathlib.Core.List.{List, [], _∷_}
-use Prim.Native.Nat.{ℕ, _-_, _*_, _≤_, _<_}
+use Prim.Native.Nat.{ℕ, _-_, _*_, _≤_}
 use native.Mathlib.Omega.{arith}
 use native.Mathlib.Decide.{ℕ-discrete, decLe}
 use lib.Dec.{eqb, ltb}
@@ -16,9 +16,7 @@ use Rattle.plant_def.specs.Limits.{maxStreams, longestFile}
 use Rattle.plant_def.specs.Plants.{Plant}
 use Rattle.plant_def.specs.Files.{Got, bad, got, readPlant}
 use Rattle.plant_def.specs.Says.{fileNumber}
-use Rattle.plant_def.specs.Within.{Within}
-use Rattle.plant_def.proofs.Limited.{within}
-use Rattle.plant_def.proofs.Accepted.{accepted}
+use Rattle.plant_def.proofs.Accepted.{read-within}
 use Rattle.plant_def.proofs.Refusals.{file-refusals, write-not-19}
 use Rattle.plant_def.specs.Converts.{faultOf, Converts}
 use Rattle.ranged_def.specs.Moves.{narrower, narrowFault, home, toRanged, fromRanged}
@@ -35,9 +33,6 @@ use Rattle.survey_def.specs.Says.{maxSurveyed, surveySize, listed, refusedWith,
 use Rattle.survey_def.proofs.Promise.{one-survey}
 use Rattle.survey_answers.specs.Lent.{HandedOver, LendSays}
 use Rattle.promises.specs.Bounds.{Without-19, Bounds}
-
-read-within : (file : List ℕ) (p : Plant) → readPlant file ≡ got p → Within p
-read-within file p e = within p (accepted file p e .0)
 
 -- No file is refused with 19, nor with anything but its numbers.
 bad-not : (file : List ℕ) (f : ℕ) → readPlant file ≡ bad f → f ≡ 19 → ⊥

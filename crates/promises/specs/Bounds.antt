@@ -30,6 +30,7 @@ pub record Without-19 : Type 0 where
 abbrev pub longestPlain : ℕ
 longestPlain = 2 + maxStreams * 9 + 2
 
+-- The bounds of lengths and prices, and what leaves no choice.
 pub record Bounds : Type 0 where
   -- The translator writes no ranges: 868 bytes at most.
   pub translated : (file o o′ : List ℕ) (r : Done) → TranslateSays file o o′ r → r .written ≤ longestPlain

@@ -24,6 +24,7 @@ use Rattle.foreign_def.specs.Says.{Foreign-sheets}
 use Rattle.foreign_def.specs.Numbers.{Own-numbers}
 use Rattle.promises.specs.Bounds.{Without-19, Bounds}
 
+-- All that is promised.
 pub record Promises : Type 0 where
   -- Plant files: how long one is at most, and with which numbers it is refused: with which at all, and with which one. (Which are read, and
   -- as what, is a demand.)

@@ -18,7 +18,7 @@ ghost use Rattle.plant_def.specs.Within.{Accepted};
 ghost use Rattle.plant_def.specs.Says.{plantOf};
 ghost use Rattle.purchase_def.specs.Purchases.{maxPrice, unmeteredTo, someUnfair, pricesFault, priceIn};
 ghost use lib.ListN.{getD, replicate};
-ghost use Rattle.flow_def.specs.Written.{Written};
+ghost use Rattle.num_bytes.specs.Written.{Written};
 ghost use Rattle.purchase_def.specs.Says.{BuySays};
 
 // A price is 0 or over its limit.

@@ -1,11 +1,11 @@
 -- Whether a stream of the array is bought; and the streams bought so far.
 use mathlib.Core.Path.{_≡_, refl, sym, _∙_, ap}
-use mathlib.Core.Bool.{Bool, true, false, not, _&&_}
+use mathlib.Core.Bool.{Bool, true, false, not}
 use mathlib.Core.List.{List, [], _∷_, _++_, append-nil}
 use Prim.Native.Nat.{ℕ, zero, suc, _+_, _≤_, _<_, _^_}
 use native.Mathlib.Numerals.{add-one}
 use native.Mathlib.Omega.{arith}
-use lib.ListN.{length, getD, replicate, length-append}
+use lib.ListN.{length, getD, length-append}
 use Rattle.num_bytes.specs.Arrays.{filled}
 use Rattle.num_bytes.specs.Choice.{pick}
 use Rattle.num_bytes.specs.Inner.{values}
@@ -17,7 +17,7 @@ use Rattle.plant_def.specs.Within.{Accepted}
 use Rattle.plant_def.specs.Says.{plantOf}
 use Rattle.plant_def.proofs.Arrayed.{all-listed, listed-at, within-of}
 use Rattle.flow_def.specs.Labels.{labelsOf, oneLabel}
-use Rattle.flow_def.proofs.Lists.{values-long, values-at}
+use Rattle.num_bytes.proofs.Lists.{values-long, values-at}
 use Rattle.flow_def.proofs.Nets.{inside}
 use Rattle.flow_def.specs.Metering.{chosen}
 use Rattle.purchase_def.specs.declared.Bought.{Bought}
@@ -28,6 +28,7 @@ use Rattle.purchase_def.proofs.Sets.{bought-by-labels, sum-most, prices-same}
 
 -- A metered stream is not bought; another by the labels of those that go before it.
 module _ (p : Arrays.Plant) (a : Accepted p) (price : ℕ → ℕ) (i : ℕ) (l : i < p .count) where
+  -- A metered stream is not bought.
   pub metered-not : getD (p .streams) i noStream .metered ≡ true → false ≡ bought (plantOf p) price i
   metered-not t = rw (listed-at p a i l, t)
 

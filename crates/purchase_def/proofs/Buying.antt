@@ -13,11 +13,12 @@ use Rattle.num_bytes.proofs.Tests.{by-cases, and-left, same-test}
 use Rattle.plant_def.specs.Plants.{Plant}
 use Rattle.plant_def.specs.Within.{Within}
 use Rattle.flow_def.specs.Flows.{streamAt}
-use Rattle.flow_def.proofs.Lists.{values-long, values-at}
+use Rattle.num_bytes.proofs.Lists.{values-long, values-at}
 use Rattle.flow_def.proofs.Nets.{inside}
-use Rattle.flow_def.specs.Loops.{countTo, left}
+use Rattle.num_bytes.specs.Sums.{countTo}
+use Rattle.flow_def.specs.Loops.{left}
 use Rattle.flow_def.specs.Metering.{chosen}
-use Rattle.flow_def.proofs.Counts.{one, count-same, count-gap, most, most-le}
+use Rattle.num_bytes.proofs.Counts.{one, count-same, count-strict, most, most-le}
 use Rattle.flow_def.proofs.Left.{none→left, left→none}
 use Rattle.purchase_def.specs.Purchases.{priceOf, numbersOf, notLater, Serves, Best}
 use Rattle.purchase_def.specs.Choosing.{before, bought, toBuy}
@@ -149,7 +150,7 @@ module _ (p : Plant) (w : Within p) (price : ℕ → ℕ) where
           gap : countTo n (λ k. chosen (toBuy p price) k && dear k) + countTo n (λ k. chosen other k && high k)
               < countTo n (λ k. chosen other k && dear k) + countTo n (λ k. chosen (toBuy p price) k && high k)
           gap =
-              count-gap n m (λ k. chosen (toBuy p price) k && dear k) (λ k. chosen other k && high k) (λ k. chosen other k && dear k) (λ k. chosen (toBuy p price) k && high k) b
+              count-strict n m (λ k. chosen (toBuy p price) k && dear k) (λ k. chosen other k && high k) (λ k. chosen other k && dear k) (λ k. chosen (toBuy p price) k && high k) b
               (rw (lacks, takes, lt-ltb (price m - 1) (price m) (omega (arith, cost)), lt-leb (suc (value n price m)) (value n price m) (omega arith)) (omega arith))
               (λ k h q. elim (decLe k m) [
                 | yes g ↦ rw (same k (omega arith)) (omega arith)

@@ -8,9 +8,9 @@ use borrow.Author.Tests.{lt-ltb, eq-eqb}
 use lib.Dec.{eqb, ltb}
 use lib.ListN.{length}
 use Rattle.num_bytes.proofs.Tests.{or-left, or-right, and-both}
-use Rattle.flow_def.specs.Loops.{countTo}
+use Rattle.num_bytes.specs.Sums.{countTo}
 use Rattle.flow_def.specs.Metering.{chosen}
-use Rattle.flow_def.proofs.Counts.{count-front}
+use Rattle.num_bytes.proofs.Counts.{count-front}
 use Rattle.purchase_def.specs.Purchases.{numbersFrom, notLater}
 
 -- As many numbers as streams are chosen.

@@ -16,8 +16,9 @@ use Rattle.flow_def.specs.Flows.{streamAt}
 use Rattle.flow_def.specs.Chains.{Counting, Chain}
 use Rattle.flow_def.specs.Classes.{has, joinedTo}
 use Rattle.flow_def.proofs.Reach.{Inside, chain-trans, chain-sym, chain-map, joined→chain, chain→joined}
-use Rattle.flow_def.specs.Loops.{countTo, but}
-use Rattle.flow_def.proofs.Counts.{one, count-four}
+use Rattle.num_bytes.specs.Sums.{countTo}
+use Rattle.flow_def.specs.Loops.{but}
+use Rattle.num_bytes.proofs.Counts.{one, count-four}
 use Rattle.flow_def.proofs.Chains.{Spans, chain-bind}
 use Rattle.flow_def.proofs.Ranks.{Free, free-few}
 
@@ -34,7 +35,7 @@ free-fewer f g ss h free i l t c =
 -- An order of the streams by value, values falling. (goes i j: stream j goes before stream i.)
 pub record Ordered (n : ℕ) (goes : ℕ → ℕ → Bool) (v : ℕ → ℕ) (top : ℕ) : Type 0 where
   pub under : (k : ℕ) → k < n → v k < top
-  pub apart : (i j : ℕ) → i < n → j < n → v i ≡ v j → i ≡ j
+  pub distinct : (i j : ℕ) → i < n → j < n → v i ≡ v j → i ≡ j
   pub more : (i j : ℕ) → i < n → j < n → goes i j ≡ true → v i < v j
   pub goes-on : (i j : ℕ) → i < n → j < n → v i < v j → goes i j ≡ true
 
@@ -92,7 +93,7 @@ module _ (p : Plant) (small : p .units ≤ maxUnits) (w : Inside (p .units) (p .
     onward c (returns m l e q a b) = returns m l e q a (chain-trans b c)
 
     same-one : (m k : ℕ) → m < length (p .streams) → k < length (p .streams) → v m ≡ t → v k ≡ t → m ≡ k
-    same-one m k l b q r = o .apart m k l b (q ∙ sym r)
+    same-one m k l b q r = o .distinct m k l b (q ∙ sym r)
 
     there : {u : ℕ} (k : ℕ) → k < length (p .streams) → f k (streamAt (p .streams) k) ≡ true → v k ≡ t → Through u (from k) → Through u (to k)
     there k l e q (avoids a) = passes k l e q a Chain.stop
@@ -142,7 +143,7 @@ module _ (p : Plant) (small : p .units ≤ maxUnits) (w : Inside (p .units) (p .
         → Chain (from-value v t (but i kept)) (p .streams) (from i) (to i)
         → ((v m < v i → Chain (going m) (p .streams) (from m) (to m))) → ⊥
     at-least m t b e q c f = elim (ℕ-discrete (v i) (v m)) [
-      | yes z ↦ absurd (eqb-false m i (not-true (eqb m i) (and-right (kept m (streamAt (p .streams) m)) (not (eqb m i)) e)) (o .apart m i b l (sym z)))
+      | yes z ↦ absurd (eqb-false m i (not-true (eqb m i) (and-right (kept m (streamAt (p .streams) m)) (not (eqb m i)) e)) (o .distinct m i b l (sym z)))
       | no z ↦ elim (decLe (v m) (v i)) [
         | yes h ↦ not-before m (and-left (kept m (streamAt (p .streams) m)) (not (eqb m i)) e) (f (omega arith))
         | no h ↦ not-before i k-i (go-before i t l (omega arith) c)

@@ -9,8 +9,8 @@ use borrow.Author.Tests.{lt-ltb, le-ltb, ltb-true, leb-true, le-leb, eqb-true, e
 use lib.Dec.{eqb, ltb, leb}
 use Rattle.num_bytes.specs.Choice.{pick}
 use Rattle.num_bytes.proofs.Tests.{or-cases, or-left, or-right, and-left, and-right, and-both, same-test}
-use Rattle.flow_def.specs.Loops.{countTo}
-use Rattle.flow_def.proofs.Counts.{one, most, most-le}
+use Rattle.num_bytes.specs.Sums.{countTo}
+use Rattle.num_bytes.proofs.Counts.{one, most, most-le}
 use Rattle.purchase_def.specs.Purchases.{pricesTo}
 use Rattle.purchase_def.specs.Choosing.{before}
 use Rattle.purchase_def.proofs.Keeping.{Ordered}
@@ -94,7 +94,7 @@ module _ (n : ℕ) (price : ℕ → ℕ) where
   pub ordered : Ordered n (before price) value (suc (most n price) * n)
   ordered = record {
     under = λ k l. omega (arith, mul-le-mul-right n (most-le n price k l));
-    apart = λ i j l b e. elim (decLe (suc (price i)) (price j)) [
+    distinct = λ i j l b e. elim (decLe (suc (price i)) (price j)) [
       | yes h ↦ absurd (omega (arith, dear i j l h))
       | no h ↦ elim (decLe (suc (price j)) (price i)) [
         | yes g ↦ absurd (omega (arith, dear j i b g))

@@ -15,7 +15,7 @@ use Rattle.plant_def.specs.Plants.{Plant}
 use Rattle.plant_def.specs.Within.{Within}
 use Rattle.flow_def.specs.Flows.{streamAt}
 use Rattle.flow_def.specs.Chains.{Chain}
-use Rattle.flow_def.proofs.Lists.{values-long, values-at}
+use Rattle.num_bytes.proofs.Lists.{values-long, values-at}
 use Rattle.flow_def.specs.Loops.{but, left}
 use Rattle.flow_def.specs.Metering.{chosen}
 use Rattle.flow_def.proofs.Left.{left→none}
@@ -84,7 +84,7 @@ module _ (p : Plant) (w : Within p) (m : ℕ) (many : length (p .streams) ≡ su
   others-serve bare = record {
     long = others-long ∙ sym many;
     unmetered = λ k l e. bare k l;
-    none = left→none others p w (λ i l e c. w .each i l .apart (no-chain i (alone i l e) c));
+    none = left→none others p w (λ i l e c. w .each i l .distinct (no-chain i (alone i l e) c));
   }
 
   -- They cost less by the last stream's price.

@@ -10,17 +10,13 @@ use Rattle.plant_def.specs.Limits.{maxStreams}
 use Rattle.plant_def.specs.Plants.{Plant}
 use Rattle.plant_def.specs.Files.{Got, bad, got, readPlant}
 use Rattle.plant_def.specs.Within.{Within}
-use Rattle.plant_def.proofs.Limited.{within}
-use Rattle.plant_def.proofs.Accepted.{accepted}
+use Rattle.plant_def.proofs.Accepted.{read-within}
 use Rattle.purchase_def.specs.declared.Bought.{Bought}
 use Rattle.purchase_def.specs.Purchases.{priceIn, pricesFault, numbersFrom, Best}
 use Rattle.purchase_def.specs.Choosing.{toBuy}
 use Rattle.purchase_def.specs.Says.{boughtOf, BuyOf, BuyWith, Meters-to-buy}
 use Rattle.purchase_def.specs.Lent.{LentSays}
 use Rattle.purchase_def.proofs.Sets.{one-best, same-price, nothing-to-buy, to-buy}
-
-read-within : (file : List ℕ) (p : Plant) → readPlant file ≡ got p → Within p
-read-within file p e = within p (accepted file p e .0)
 
 -- The answer is the same whichever best set is taken.
 one-answer : (p : Plant) (price : ℕ → ℕ) (a b : List Bool) → Best p price a → Best p price b → boughtOf price a ≡ boughtOf price b

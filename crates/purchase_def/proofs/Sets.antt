@@ -17,7 +17,7 @@ use Rattle.plant_def.specs.Within.{Within}
 use Rattle.flow_def.specs.Flows.{streamAt}
 use Rattle.flow_def.specs.Classes.{unmeteredBut}
 use Rattle.flow_def.specs.Labels.{labelsOf, oneLabel}
-use Rattle.flow_def.proofs.Lists.{values-long, values-at, values-same}
+use Rattle.num_bytes.proofs.Lists.{values-long, values-at, values-same}
 use Rattle.flow_def.proofs.Nets.{inside}
 use Rattle.flow_def.proofs.Reach.{Inside, chain-map, joined→chain, chain→joined}
 use Rattle.flow_def.proofs.Labels.{label-joined, labels-same}

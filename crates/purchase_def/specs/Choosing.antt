@@ -25,6 +25,7 @@ bought p price i =
     let s = streamAt (p .streams) i in
     not (s .metered) && has (s .to) (joinedTo (dearer price i) p (s .from))
 
+-- The set of all streams that are bought.
 abbrev pub toBuy : Plant → (ℕ → ℕ) → List Bool
 toBuy p price = values (length (p .streams)) (bought p price)
 

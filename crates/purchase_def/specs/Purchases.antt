@@ -39,6 +39,7 @@ abbrev pub pricesTo : ℕ → (ℕ → Bool) → (ℕ → ℕ) → ℕ
 pricesTo zero in-it price = 0
 pricesTo (suc n) in-it price = pick (in-it n) (price n) 0 + pricesTo n in-it price
 
+-- The price of a set.
 abbrev pub priceOf : (ℕ → ℕ) → List Bool → ℕ
 priceOf price set = pricesTo (length set) (chosen set) price
 
@@ -47,6 +48,7 @@ abbrev pub numbersFrom : ℕ → List Bool → List ℕ
 numbersFrom i [] = []
 numbersFrom i (b ∷ set) = pick b (i ∷ numbersFrom (suc i) set) (numbersFrom (suc i) set)
 
+-- The numbers of its streams, from 1.
 abbrev pub numbersOf : List Bool → List ℕ
 numbersOf set = numbersFrom 1 set
 

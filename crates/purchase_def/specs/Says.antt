@@ -8,7 +8,7 @@ use Rattle.plant_def.specs.Converts.{ReadAs}
 use Rattle.num_bytes.specs.Arrays.{filled}
 use Rattle.plant_def.specs.Limits.{maxStreams}
 use Rattle.plant_def.specs.Plants.{Plant}
-use Rattle.plant_def.specs.Files.{Got, bad, got, readPlant}
+use Rattle.plant_def.specs.Files.{Got, got, readPlant}
 use Rattle.flow_def.specs.Withheld.{NoneWithheld}
 use Rattle.purchase_def.specs.declared.Bought.{Bought}
 use Rattle.purchase_def.specs.Purchases.{priceIn, pricesFault, priceOf, numbersOf, Best}

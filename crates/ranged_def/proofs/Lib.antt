@@ -1,6 +1,6 @@
 -- Laws of moved plants.
 pub mod Streams
 pub mod Mapped
-pub mod Kept
+pub mod Faultless
 pub mod Reading
 pub mod Trip

@@ -20,6 +20,7 @@ partly f (suc k) [] = []
 partly f (suc k) (s ∷ ss) = f s ∷ partly f k ss
 
 module _ (f : Stream → Stream) where
+  -- Before the first stream nothing is moved.
   pub partly-none : (ss : List Stream) → ss ≡ partly f 0 ss
   unfolding partly
   partly-none ss = refl
@@ -30,12 +31,13 @@ module _ (f : Stream → Stream) where
   next zero (s ∷ ss) h = refl
   next (suc k) (s ∷ ss) h = ap (λ (t : List Stream). f s ∷ t) (next k ss (omega arith))
 
-  -- One more.
+  -- One stream more is moved.
   pub partly-more : (k : ℕ) (ss now : List Stream) (s : Stream) → k < length ss → now ≡ partly f k ss → s ≡ f (getD ss k noStream)
       → set now k s ≡ partly f (k + 1) ss
   partly-more k ss now s h e d =
       ap (λ (t : List Stream). set t k s) e ∙ ap (set (partly f k ss) k) d ∙ next k ss h ∙ ap (λ (j : ℕ). partly f j ss) (sym (add-one k))
 
+  -- After the last stream all are moved.
   pub partly-all : (k : ℕ) (ss : List Stream) → length ss ≤ k → partly f k ss ≡ map f ss
   unfolding partly
   partly-all zero [] h = refl
@@ -54,15 +56,19 @@ module _ (ss : List Stream) (k : ℕ) (h : k < length ss) (e : narrowFault ss �
   next-narrow : narrowFault ss ≡ firstOf (refuseIf (narrower (getD ss k noStream)) 20) (narrowFault (drop (suc k) ss))
   next-narrow = e ∙ ap narrowFault (drop-cons ss k noStream h)
 
+  -- A narrower range at this stream: refusal 20.
   pub narrow-found : narrower (getD ss k noStream) ≡ true → 20 ≡ narrowFault ss
   narrow-found t = sym (next-narrow ∙ ap (λ (b : Bool). firstOf (refuseIf b 20) (narrowFault (drop (suc k) ss))) t)
 
+  -- No narrower range at this stream: what is left to look at are the streams after it.
   pub narrow-more : narrower (getD ss k noStream) ≡ false → narrowFault ss ≡ narrowFault (drop (k + 1) ss)
   narrow-more t = rw (add-one k) (next-narrow ∙ ap (λ (b : Bool). firstOf (refuseIf b 20) (narrowFault (drop (suc k) ss))) t)
 
+-- None past the last stream.
 pub narrow-end : (ss : List Stream) (k : ℕ) → length ss ≤ k → narrowFault (drop k ss) ≡ 0
 narrow-end ss k h = ap narrowFault (drop-of-length-le ss {i = k} h)
 
+-- Nor does an array's padding have one.
 pub narrow-padded : (n : ℕ) (ss : List Stream) → length ss ≤ n → narrowFault (padded n ss) ≡ narrowFault ss
 narrow-padded zero [] h = refl
 narrow-padded zero (s ∷ ss) h = absurd (omega arith)

@@ -12,6 +12,7 @@ use Rattle.plant_def.specs.Files.{Got, bad, got, readPlant}
 use Rattle.plant_def.specs.Says.{arrayed, readOf}
 use Rattle.plant_def.proofs.Accepted.{accepted, refused}
 use Rattle.plant_def.proofs.Limited.{few-parts}
+use Rattle.plant_def.proofs.Found.{read-bad}
 use Rattle.ranged_def.specs.Moves.{widened, bared, narrowFault, moved, toRanged, fromRanged}
 use Rattle.ranged_def.proofs.Mapped.{map-padded, narrow-padded}
 
@@ -26,22 +27,17 @@ moved-held f n p y ss e d =
 module _ (file : List ℕ) (y : Read) (e : y ≡ readOf (readPlant file)) where
   -- A refusal is handed on.
   module _ (n : y .number ≡ 0 → ⊥) (r : Read) (d : r ≡ readOf (bad (y .number))) where
+    -- A refusal stays one on the way to the ranged form,
     pub forward-bad : r ≡ readOf (toRanged (readPlant file))
-    forward-bad = d ∙ go (readPlant file) e
-      where
-        go : (g : Got) → y ≡ readOf g → readOf (bad (y .number)) ≡ readOf (toRanged g)
-        go (bad f) q = ap (λ (t : Read). readOf (bad (t .number))) q
-        go (got p) q = absurd (n (ap (λ (t : Read). t .number) q))
+    forward-bad = d ∙ ap (λ (g : Got). readOf (toRanged g)) (sym (read-bad (readPlant file) y e n))
 
+    -- and on the way home.
     pub home-bad : r ≡ readOf (fromRanged (readPlant file))
-    home-bad = d ∙ go (readPlant file) e
-      where
-        go : (g : Got) → y ≡ readOf g → readOf (bad (y .number)) ≡ readOf (fromRanged g)
-        go (bad f) q = ap (λ (t : Read). readOf (bad (t .number))) q
-        go (got p) q = absurd (n (ap (λ (t : Read). t .number) q))
+    home-bad = d ∙ ap (λ (g : Got). readOf (fromRanged g)) (sym (read-bad (readPlant file) y e n))
 
   -- A plant is moved.
   module _ (z : y .number ≡ 0) where
+    -- A plant with its streams widened is the plant in the ranged form.
     pub forward-good : (ss : List Stream) → ss ≡ map widened (y .plant .streams)
         → record { number = 0; plant = record { units = y .plant .units; count = y .plant .count; streams = ss } } ≡ readOf (toRanged (readPlant file))
     forward-good ss d = go (readPlant file) refl e
@@ -58,6 +54,7 @@ module _ (file : List ℕ) (y : Read) (e : y ≡ readOf (readPlant file)) where
         ∙ narrow-padded maxStreams (p .streams) (few-parts (p .units) (length (p .streams)) (p .streams) (accepted file p h .0))
 
     module _ (f : ℕ) (d : f ≡ narrowFault (y .plant .streams)) where
+      -- A narrower range is refused on the way home;
       pub home-narrow : (f ≡ 0 → ⊥) → (r : Read) → r ≡ readOf (bad f) → r ≡ readOf (fromRanged (readPlant file))
       home-narrow n r w = w ∙ go (readPlant file) refl e
         where
@@ -67,6 +64,7 @@ module _ (file : List ℕ) (y : Read) (e : y ≡ readOf (readPlant file)) where
               let k : f ≡ narrowFault (p .streams) = d ∙ fault-held p h q in
               simp (ne-eqb (narrowFault (p .streams)) 0 (λ (w : narrowFault (p .streams) ≡ 0). n (k ∙ w))) (ap (λ (j : ℕ). readOf (bad j)) k)
 
+      -- without one, the plant with its streams bared is the plant moved home.
       pub home-good : f ≡ 0 → (ss : List Stream) → ss ≡ map bared (y .plant .streams)
           → record { number = 0; plant = record { units = y .plant .units; count = y .plant .count; streams = ss } } ≡ readOf (fromRanged (readPlant file))
       home-good n ss w = go (readPlant file) refl e

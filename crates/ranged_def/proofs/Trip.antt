@@ -23,13 +23,15 @@ use Rattle.plant_def.specs.Converts.{Converts}
 use Rattle.plant_def.proofs.Promise.{converted}
 use Rattle.ranged_def.specs.Moves.{widened, bared, narrower, narrowFault, moved, forward, home, toRanged, fromRanged, ToSays, FromSays}
 use Rattle.ranged_def.specs.Trip.{rangeless, Moving}
-use Rattle.ranged_def.proofs.Kept.{forward-good, home-good, widened-plain, bared-plain, moved-plain}
+use Rattle.ranged_def.proofs.Faultless.{forward-good, home-good, widened-plain, bared-plain, moved-plain}
 
 -- What is moved is read as it was written.
 module _ (file : List ℕ) (p : Plant) (e : readPlant file ≡ got p) where
+  -- In the ranged form,
   pub forward-read : readPlant (plantBytes (forward p)) ≡ got (forward p)
   forward-read = let a = accepted file p e in there (forward p) (forward-good p (a .0)) (moved-plain widened widened-plain (p .streams) (a .1))
 
+  -- and moved home.
   pub home-read : readPlant (plantBytes (home p)) ≡ got (home p)
   home-read = let a = accepted file p e in there (home p) (home-good p (a .0)) (moved-plain bared bared-plain (p .streams) (a .1))
 
@@ -89,6 +91,7 @@ trip file p a e h o o′ u u′ r q l m s t =
       again .1 ∙ ap (λ (x : List ℕ). over x u) same,
     )
 
+-- Both moves write plant files, and a file without ranges comes home byte for byte.
 pub moving : Moving
 moving = record {
   forth = λ file p. forth-read file (readPlant file) refl p;

@@ -13,10 +13,11 @@ use Rattle.plant_def.specs.Plants.{Plant, limited}
 use Rattle.plant_def.specs.Files.{Got, bad, got, readPlant}
 use Rattle.plant_def.specs.Converts.{Converts}
 
--- The widest range that there is.
+-- The low end of the widest range that there is.
 abbrev pub widestLow : ℤ
 widestLow = negℤ (pos maxRange)
 
+-- Its high end.
 abbrev pub widestHigh : ℤ
 widestHigh = pos maxRange
 
@@ -47,17 +48,20 @@ narrowFault (s ∷ ss) = firstOf (refuseIf (narrower s) 20) (narrowFault ss)
 abbrev pub moved : (Stream → Stream) → Plant → Plant
 moved move p = record { units = p .units; streams = map move (p .streams) }
 
+-- To the ranged form,
 abbrev pub forward : Plant → Plant
 forward = moved widened
 
+-- and home again.
 abbrev pub home : Plant → Plant
 home = moved bared
 
--- The same of what was read: the reader's refusals first; backward, then 20.
+-- The same of what was read, to the ranged form: the reader's refusals.
 abbrev pub toRanged : Got → Got
 toRanged (bad f) = bad f
 toRanged (got p) = got (forward p)
 
+-- Home: the reader's refusals, then 20.
 abbrev pub fromRanged : Got → Got
 fromRanged (bad f) = bad f
 fromRanged (got p) = pick (eqb (narrowFault (p .streams)) 0) (got (home p)) (bad (narrowFault (p .streams)))
@@ -67,5 +71,6 @@ fromRanged (got p) = pick (eqb (narrowFault (p .streams)) 0) (got (home p)) (bad
 abbrev pub ToSays : List ℕ → List ℕ → List ℕ → Done → Type 0
 ToSays file = Converts (toRanged (readPlant file))
 
+-- The call that moves home.
 abbrev pub FromSays : List ℕ → List ℕ → List ℕ → Done → Type 0
 FromSays file = Converts (fromRanged (readPlant file))

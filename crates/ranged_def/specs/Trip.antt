@@ -17,6 +17,7 @@ abbrev pub rangeless : List Stream → Bool
 rangeless [] = true
 rangeless (s ∷ ss) = not (limited s) && rangeless ss
 
+-- What both moves promise.
 pub record Moving : Type 0 where
   -- What is written is a plant file, which reads as the plant that was moved.
   pub forth : (file : List ℕ) (p : Plant) → toRanged (readPlant file) ≡ got p → readPlant (plantBytes p) ≡ got p

@@ -19,8 +19,8 @@ use Rattle.flow_def.specs.Chains.{Counting, everyStream, unmeteredOnly}
 use Rattle.flow_def.specs.Classes.{has, including, spread, rounds, joinedTo, unmeteredBut, oneGroup, onLoop, classOf, sideOut, givenOf, numberOf, lowest, leadersTo, degrees}
 use Rattle.flow_def.specs.Test.{verdictAt}
 use Rattle.flow_def.specs.Shown.{adjustedWeight, adjustedTo, adjusted}
-use Rattle.flow_def.proofs.Lists.{values-same}
-use Rattle.sheet_def.specs.Apart.{capped}
+use Rattle.num_bytes.proofs.Lists.{values-same}
+use Rattle.sheet_def.specs.Totals.{capped}
 use Rattle.sheet_def.specs.Balances.{entryOf, balanceOf}
 use Rattle.sheet_def.specs.Drawings.{sheetBytes, sheetOf}
 use Rattle.ranged_def.specs.Moves.{widened, moved}
@@ -34,6 +34,7 @@ pub record Keeps (f : Stream → Stream) : Type 0 where
   pub reading : (s : Stream) → f s .reading ≡ s .reading
   pub empty : f noStream ≡ noStream
 
+-- Widening changes ranges alone.
 pub widened-keeps : Keeps widened
 widened-keeps = record {
   from = λ s. picked (λ (t : Stream). t .from ≡ s .from) (s .metered && not (s .ranged)) _ s (λ q. refl) (λ q. refl);
@@ -52,6 +53,7 @@ weight-alone Given s t e = refl
 weight-alone Withheld s t e = refl
 
 module _ (f : Stream → Stream) (keep : Keeps f) where
+  -- Stream k of the streams moved is stream k, moved.
   pub moved-at : (ss : List Stream) (k : ℕ) → streamAt (map f ss) k ≡ f (streamAt ss k)
   moved-at ss k = ap (λ (d : Stream). streamFrom d) (sym (keep .empty)) ∙ List·getD-map f ss k noStream
     where
@@ -69,15 +71,18 @@ module _ (f : Stream → Stream) (keep : Keeps f) where
   level-same zero ss xs = refl
   level-same (suc u) ss xs = λ i. eqb (natAbs (net-same (suc u) ss xs i)) 0 && level-same u ss xs i
 
+  -- A flow balances before exactly where it does after,
   pub balanced-same : (p : Plant) (xs : List ℤ) → balanced (moved f p) xs ≡ balanced p xs
   balanced-same p xs = λ i. eqb (length xs) (length-map (p .streams) f i) && level-same (p .units) (p .streams) xs i
 
+  -- costs the same,
   pub cost-same : (d : ℕ) (ss : List Stream) (xs : List ℤ) → costOver d (map f ss) xs ≡ costOver d ss xs
   cost-same d [] xs = refl
   cost-same d (s ∷ ss) [] = refl
   cost-same d (s ∷ ss) (x ∷ xs) =
       λ i. pick (keep .metered s i) (keep .weight s i * square (x -ℤ pos d *ℤ keep .reading s i)) 0 + cost-same d ss xs i
 
+  -- and shows the same on the metered streams.
   pub metered-same : (ss : List Stream) (xs : List ℤ) → meteredOf (map f ss) xs ≡ meteredOf ss xs
   metered-same [] xs = refl
   metered-same (s ∷ ss) [] = refl
@@ -134,6 +139,7 @@ module _ (f : Stream → Stream) (keep : Keeps f) where
         ap₂ (λ (u v : ℕ). has v (joinedTo (unmeteredBut k) (moved f p) u)) from-at to-at
         ∙ ap (has (s .to)) (joined-same (unmeteredBut k) (but-even k) p (s .from))
 
+    -- A stream has the same class,
     pub class-same : classOf (moved f p) k ≡ classOf p k
     class-same = λ i. pick {A = Class} (metered-at i) (pick (group-same i) AsRead Adjusted) (pick (loop-same i) Withheld Given)
 
@@ -155,6 +161,7 @@ module _ (f : Stream → Stream) (keep : Keeps f) where
         ∙ ap (λ (side : List ℕ). sideOut side (p .streams) xs)
         (ap (joinedTo (unmeteredBut k) (moved f p)) to-at ∙ joined-same (unmeteredBut k) (but-even k) p (s .to))
 
+    -- and the same number.
     pub number-same : (xs : List ℤ) → numberOf (moved f p) xs k ≡ numberOf p xs k
     number-same xs = λ i. pick {A = ℤ} (metered-at i) (amountAt xs k) (given-same xs i)
 
@@ -178,5 +185,6 @@ module _ (f : Stream → Stream) (keep : Keeps f) where
         let w = weights-same p in
         λ i. record { streams = e i; cost = capped (c i); degrees = d i; verdict = verdictAt (d i) (c i) (w i) }
 
+    -- So a flow's sheet is the same.
     pub sheet-same : (office n : ℕ) → sheetOf office (moved f p) xs n ≡ sheetOf office p xs n
     sheet-same office n = λ i. sheetBytes office (length-map (p .streams) f i) n (balance-same i)

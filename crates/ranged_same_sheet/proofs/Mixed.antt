@@ -7,7 +7,6 @@ use Prim.Native.Nat.{ℕ}
 use native.Mathlib.Omega.{arith}
 use lib.ListN.{getD}
 use Rattle.plant_def.specs.declared.Stream.{Stream}
-use Rattle.plant_def.specs.Plants.{Plant}
 use Rattle.plant_def.specs.Files.{readPlant}
 use Rattle.sheet_def.specs.Table.{fullUnit}
 use Rattle.sheet_def.specs.Balances.{balanceOf}
@@ -27,6 +26,7 @@ full-streams =
 apart : mixed .sheet ≡ mixedMoved .sheet → ⊥
 apart e = let z : _≡_ {A = ℕ} 64 0 = ap (λ (l : List ℕ). getD l 17 0) e in omega arith
 
+-- Both examples hold: another sheet in the ranged form, and refusal 19.
 pub examples : Mixed
 unfolding balanceOf full-streams
 examples = record {

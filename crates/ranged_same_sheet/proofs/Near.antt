@@ -1,13 +1,13 @@
 -- A plant without ranges: the zero flow costs so little that no flow that costs no more comes near the widest range.
-use mathlib.Core.Path.{_≡_, refl}
-use mathlib.Core.Bool.{Bool, true, false, not, _&&_}
+use mathlib.Core.Path.{_≡_}
+use mathlib.Core.Bool.{true, not, _&&_}
 use mathlib.Core.Logic.{⊎-elim}
 use mathlib.Core.List.{List, [], _∷_}
-use lib.IntN.{ℤ, pos, natAbs, _+ℤ_, _-ℤ_, _*ℤ_}
+use lib.IntN.{ℤ, pos, natAbs, _-ℤ_, _*ℤ_}
 use Prim.Native.Nat.{ℕ, zero, suc, _+_, _*_, _≤_, _<_}
 use native.Mathlib.Omega.{arith}
 use native.Mathlib.Nat.{mul-le-mul, mul-le-mul-right}
-use lib.Dec.{eqb, ltb}
+use lib.Dec.{ltb}
 use lib.ListN.{length, getD}
 use borrow.Author.Tests.{ltb-true, ltb-false, not-true}
 use Rattle.num_bytes.specs.Choice.{pick}
@@ -18,17 +18,19 @@ use Rattle.plant_def.specs.Limits.{maxStreams, maxWeight, maxReading, maxRange}
 use Rattle.plant_def.specs.Plants.{Plant, noStream, limited}
 use Rattle.plant_def.specs.Within.{Within, WithinStream}
 use Rattle.flow_def.specs.Flows.{streamAt, amountAt, balanced, inRange, square, cost}
-use Rattle.flow_def.proofs.Integers.{size-val, minus-val, parts, one-times}
-use Rattle.flow_def.proofs.Sums.{sum-none}
-use Rattle.flow_def.proofs.Nets.{countOf, streamOf, brought, listed, listed-balanced}
+use Rattle.num_bytes.proofs.Integers.{size-val, minus-val, parts, one-times}
+use Rattle.num_bytes.proofs.Sums.{sum-none}
+use Rattle.flow_def.proofs.Nets.{countOf, streamOf, listed, listed-balanced}
 use Rattle.flow_def.proofs.Ranges.{whole-holds}
+use Rattle.flow_def.proofs.Routes.{brought-none}
 use Rattle.ranged_def.specs.Moves.{widestLow, widestHigh, widened}
 use Rattle.ranged_def.specs.Trip.{rangeless}
 
--- What the zero flow costs at most: one stream, and all of them.
+-- The most that one stream of the zero flow may cost.
 mostEach : ℕ
 mostEach = maxWeight * (maxReading * maxReading)
 
+-- The most that the zero flow may cost: 96 streams of weight 1,000 that read 4,000,000.
 pub mostCost : ℕ
 mostCost = maxStreams * mostEach
 
@@ -57,24 +59,18 @@ zero-costs : (n : ℕ) (ss : List Stream) → ((k : ℕ) → k < length ss → W
 zero-costs n [] h = omega arith
 zero-costs n (s ∷ ss) h = omega (arith, zero-cost n s (h 0 (omega arith)), zero-costs n ss (λ k l. h (suc k) (omega arith)))
 
+-- The zero flow: nothing on any stream.
 abbrev pub zeroFlow : Plant → List ℤ
 zeroFlow p = listed p (λ k. pos 0)
 
+-- It costs no more than the most stated above,
 pub zero-most : (p : Plant) → Within p → cost (p .streams) (zeroFlow p) ≤ mostCost
 unfolding mostCost
 zero-most p w = omega (arith, zero-costs (p .units) (p .streams) (w .each), mul-le-mul-right mostEach (w .few-streams))
 
+-- and balances.
 pub zero-balanced : (p : Plant) → balanced p (zeroFlow p) ≡ true
-zero-balanced p = listed-balanced p (λ k. pos 0) (λ u l. sum-none (length (p .streams)) _ (λ k m. none u (streamAt (p .streams) k)))
-  where
-    none : (u : ℕ) (s : Stream) → brought u s (pos 0) ≡ pos 0
-    none u s = go (eqb (s .to) u) (eqb (s .from) u)
-      where
-        go : (a b : Bool) → pick a (pos 0) (pos 0) +ℤ pick b (pos 0) (pos 0) ≡ pos 0
-        go true true = refl
-        go true false = refl
-        go false true = refl
-        go false false = refl
+zero-balanced p = listed-balanced p (λ k. pos 0) (λ u l. sum-none (length (p .streams)) _ (λ k m. brought-none u (streamAt (p .streams) k)))
 
 -- Streams without a range.
 pub rangeless-at : (ss : List Stream) → rangeless ss ≡ true → (k : ℕ) → k < length ss → not (limited (streamAt ss k)) ≡ true
@@ -82,6 +78,7 @@ rangeless-at [] e k l = absurd (omega arith)
 rangeless-at (s ∷ ss) e zero l = and-left (not (limited s)) (rangeless ss) e
 rangeless-at (s ∷ ss) e (suc k) l = rangeless-at ss (and-right (not (limited s)) (rangeless ss) e) k (omega arith)
 
+-- On a stream without a range any amount is in range.
 pub any-amount : (s : Stream) (x : ℤ) → not (limited s) ≡ true → inRange 1 s x ≡ true
 any-amount s x n = whole-holds s x (λ q. clash (limited s) q (not-true (limited s) n))
 
@@ -103,13 +100,17 @@ cost-part (s ∷ ss) [] n k l m = absurd (omega arith)
 cost-part (s ∷ ss) (x ∷ xs) n zero l m = rw m (omega arith)
 cost-part (s ∷ ss) (x ∷ xs) n (suc k) l m = omega (arith, cost-part ss xs (omega arith) k (omega arith) m)
 
+-- Above the root of mostCost.
+abbrev rootMost : ℕ
+rootMost = 1240000000
+
 -- A root that is no more than so much.
-root-near : (d : ℕ) → d * d ≤ mostCost → d < 1240000000
+root-near : (d : ℕ) → d * d ≤ mostCost → d < rootMost
 unfolding mostCost mostEach
-root-near d h = by-cases (ltb d 1240000000) (λ t. ltb-true d 1240000000 t) (λ t. absurd (far (ltb-false d 1240000000 t)))
+root-near d h = by-cases (ltb d rootMost) (λ t. ltb-true d rootMost t) (λ t. absurd (far (ltb-false d rootMost t)))
   where
-    far : 1240000000 ≤ d → ⊥
-    far l = let q : 1240000000 * 1240000000 ≤ d * d = mul-le-mul l l in omega (arith, q, h)
+    far : rootMost ≤ d → ⊥
+    far l = let q : rootMost * rootMost ≤ d * d = mul-le-mul l l in omega (arith, q, h)
 
 amount-size : (x r : ℤ) → natAbs x ≤ natAbs (x -ℤ pos 1 *ℤ r) + natAbs r
 amount-size x r = rw (one-times r)

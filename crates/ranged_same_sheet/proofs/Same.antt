@@ -29,12 +29,12 @@ use Rattle.sheet_def.specs.declared.Sheet.{Sheet}
 use Rattle.sheet_def.specs.Drawings.{sheetOf}
 use Rattle.sheet_def.specs.Counters.{offices, topSheet, counterOf, nextOf, raised}
 use Rattle.sheet_def.specs.Says.{Drawn, SheetWith, SheetSays}
-use Rattle.sheet_def.specs.Apart.{leastSlice}
+use Rattle.sheet_def.specs.Totals.{leastSlice}
 use Rattle.sheet_def.specs.Sentences.{callFault, Refused}
 use Rattle.ranged_def.specs.Moves.{widened, forward}
 use Rattle.ranged_def.specs.Trip.{rangeless}
 use Rattle.ranged_def.proofs.Trip.{forward-read}
-use Rattle.ranged_def.proofs.Kept.{forward-good}
+use Rattle.ranged_def.proofs.Faultless.{forward-good}
 use Rattle.ranged_same_sheet.specs.Same.{Moved-sheets}
 use Rattle.ranged_same_sheet.proofs.Alike.{widened-keeps, moved-at, balanced-same, cost-same, metered-same, sheet-same}
 use Rattle.ranged_same_sheet.proofs.Near.{mostCost, zeroFlow, zero-most, zero-balanced, rangeless-at, any-amount, in-widest, near}

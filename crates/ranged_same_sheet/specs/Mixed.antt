@@ -9,16 +9,19 @@ use Rattle.sheet_def.specs.Table.{Example, Shows, Refuses, site, end, fullUnit}
 use Rattle.plant_def.specs.Converts.{bytesOf}
 use Rattle.ranged_def.specs.Moves.{widestLow, widestHigh, toRanged}
 
--- Records of a file; of a sheet whose degrees are 1 and whose verdict is 1, fail.
+-- The record of a metered stream,
 abbrev pub metered : ℕ → ℕ → ℕ → ℤ → List ℕ
 metered u v w r = 2 ∷ u ∷ v ∷ putBe 2 w ++ putBe 4 (raw 4 r)
 
+-- of a stream with a range,
 abbrev pub ranged : ℕ → ℕ → ℕ → ℤ → ℤ → ℤ → List ℕ
 ranged u v w r low high = 6 ∷ u ∷ v ∷ putBe 2 w ++ putBe 4 (raw 4 r) ++ putBe 4 (raw 4 low) ++ putBe 4 (raw 4 high)
 
+-- of an A stream of a sheet,
 abbrev pub adjusted : ℤ → List ℕ
 adjusted x = 17 ∷ putBe 8 (raw 8 x)
 
+-- and of the total of a sheet whose degrees are 1 and whose verdict is 1, fail.
 abbrev pub failing : ℕ → List ℕ
 failing cost = 30 ∷ 0 ∷ putBe 4 1 ++ putBe 8 cost ++ (1 ∷ 1 ∷ [])
 
@@ -52,6 +55,7 @@ filling =
       sheet = adjusted (pos 1200000000) ++ adjusted (pos 1200000000) ++ adjusted (pos 2400000000) ++ failing 8640000000000000000;
     }
 
+-- The same in the ranged form.
 abbrev pub fillingMoved : List ℕ
 fillingMoved =
     site 1 ++ ranged 0 1 1 (pos 0) (pos 1200000000) (pos 2000000000) ++ ranged 0 1 1 (pos 0) (pos 1200000000) (pos 2000000000)
@@ -61,6 +65,7 @@ fillingMoved =
 abbrev pub Becomes : List ℕ → List ℕ → Type 0
 Becomes file moved = bytesOf (toRanged (readPlant file)) ≡ moved
 
+-- Both examples: in the ranged form the one plant comes to another sheet, the other to refusal 19.
 pub record Mixed : Type 0 where
   -- Another sheet.
   pub another : Becomes (mixed .file) (mixedMoved .file)

@@ -13,6 +13,7 @@ use Rattle.sheet_def.specs.Says.{SheetSays}
 use Rattle.ranged_def.specs.Moves.{forward}
 use Rattle.ranged_def.specs.Trip.{rangeless}
 
+-- What holds of a file without ranges and the plant that it reads as.
 pub record Same-sheet (file : List ℕ) (p : Plant) : Type 0 where
   -- The file in the ranged form is read as the plant that was moved, and that plant has a cheapest flow: it is accepted.
   pub read : readPlant (plantBytes (forward p)) ≡ got (forward p)

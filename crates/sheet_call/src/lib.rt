@@ -49,14 +49,14 @@ pub fn balance_of(p: Plant) -> Outcome
     let mut arcs = [NONE as u8; ARCS];
     let mut rows = [0u64; ROWS];
     lay(streams, count, &mut arcs, &mut rows);
-    let cuts = flow_bridges::cuts_of(&arcs, &rows);
-    let labels = cuts.labels;
+    let bridges = flow_bridges::bridges_of(&arcs, &rows);
+    let labels = bridges.labels;
     let solved = solve_call::solve(p, labels, &arcs, &rows);
     let marked = solved.marked;
     if !solved.found {
         return overfilled(marked);
     }
-    let balance = balance_by(p, &arcs, &rows, cuts, solved);
+    let balance = balance_by(p, &arcs, &rows, bridges, solved);
     Outcome {
         found: true,
         balance: balance,

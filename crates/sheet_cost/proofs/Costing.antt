@@ -23,21 +23,23 @@ use Rattle.plant_def.specs.Limits.{maxUnits, maxStreams}
 use Rattle.plant_def.specs.Within.{WithinStream, Accepted}
 use Rattle.plant_def.proofs.Arrayed.{all-listed, listed-at, stream-within}
 use Rattle.flow_def.specs.Flows.{streamAt, amountAt, cost}
-use Rattle.flow_def.proofs.Integers.{size-val, minus-val, parts, one-times}
+use Rattle.num_bytes.proofs.Integers.{size-val, minus-val, parts, one-times}
 use Rattle.solve_def.proofs.Weights.{wide}
-use Rattle.sheet_def.specs.Apart.{topCost, capped}
+use Rattle.sheet_def.specs.Totals.{topCost, capped}
 use Rattle.sheet_def.specs.Calls.{Small, AllSmall, streamCost}
 use Rattle.sheet_def.proofs.Capped.{capped-below, capped-above, capped-most}
 
--- A reading taken away from a small flow fits.
+-- A number of size below 2^63 fits 64 bits.
 pub size-fits : (z : ℤ) → 2 * natAbs z < 2 ^ 64 → SFits w64 z
 size-fits (pos a) h = sfits-of (omega arith)
 size-fits (negsuc a) h = sfits-of (omega arith)
 
+-- A reading of 32 bits is of size 2^31 at most.
 pub reading-size : (z : ℤ) → SFits w32 z → natAbs z ≤ 2 ^ 31
 reading-size (pos a) f = omega (arith, f .sfits)
 reading-size (negsuc a) f = omega (arith, f .sfits)
 
+-- The size of a difference is at most the sum of the sizes.
 pub minus-size : (x z : ℤ) → natAbs (x -ℤ z) ≤ natAbs x + natAbs z
 minus-size x z =
     let d = x -ℤ z in
@@ -47,6 +49,7 @@ minus-size x z =
     let n = size-val d in
     ⊎-elim (λ k. omega arith) (λ k. omega arith) (parts d)
 
+-- A correction fits 64 bits.
 pub correction-fits : (x z : ℤ) → Small x → SFits w32 z → SFits w64 (x -ℤ z)
 correction-fits x z h f = size-fits (x -ℤ z) (omega (arith, minus-size x z, reading-size z f))
 
@@ -56,17 +59,21 @@ correction-is x z f g = rw (toZ-ofZ w64 x f, toZ-ofZ w32 z g, toZ-ofZ w64 z (wid
 
 -- Weight times a square, as it is written: one whose root is too great, one that is too great, and one that fits.
 module _ (w d : ℕ) (l : 1 ≤ w) where
+  -- A root of 2^32 or more: the greatest that is written.
   pub root-above : 2 ^ 32 ≤ d → topCost ≡ capped (w * (d * d))
   root-above h =
       let q : 2 ^ 32 * 2 ^ 32 ≤ d * d = mul-le-mul h h in
       sym (capped-above (w * (d * d)) (omega (arith, mul-le-mul-right (d * d) l)))
 
+  -- A square that is too great: the greatest, too.
   pub square-above : topCost / w < d * d → topCost ≡ capped (w * (d * d))
   square-above h = sym (capped-above (w * (d * d)) (omega (arith, div-lt-iff-lt-mul {k = w} {x = topCost} {y = d * d} l .0 h)))
 
+  -- One that is not: the product fits,
   pub square-fits : d * d ≤ topCost / w → w * (d * d) ≤ topCost
   square-fits h = omega (arith, le-div-iff-mul-le {k = w} {x = d * d} {y = topCost} l .0 h)
 
+  -- and is written as it is.
   pub square-below : d * d ≤ topCost / w → w * (d * d) ≡ capped (w * (d * d))
   square-below h = sym (capped-below (w * (d * d)) (square-fits h))
 
@@ -77,6 +84,7 @@ capped-add a c = elim (decLe a topCost) [
   | no h ↦ capped-above (capped a + c) (omega (arith, capped-above a (omega arith))) ∙ sym (capped-above (a + c) (omega arith))
 ]
 
+-- A stream's cost, and the sum up to it, may be capped before the rest is added.
 pub capped-sum : (a b c : ℕ) → capped (capped (a + capped b) + c) ≡ capped (a + (b + c))
 capped-sum a b c =
     let e : a + capped b + c ≡ capped b + (a + c) = omega arith in
@@ -85,9 +93,11 @@ capped-sum a b c =
 
 -- What a metered stream costs, and an unmetered one.
 module _ (s : Stream) (x : ℤ) where
+  -- An unmetered stream costs nothing.
   pub unmetered-cost : s .metered ≡ false → 0 ≡ capped (streamCost s x)
   unmetered-cost m = rw m
 
+  -- A metered one costs its weight times the square of its correction.
   pub metered-cost : s .metered ≡ true → (d : ℕ) → d ≡ natAbs (x -ℤ s .reading) → capped (s .weight * (d * d)) ≡ capped (streamCost s x)
   metered-cost m d e = let q : d ≡ natAbs (x -ℤ pos 1 *ℤ s .reading) = e ∙ ap (λ (y : ℤ). natAbs (x -ℤ y)) (sym (one-times (s .reading))) in rw (m, q)
 
@@ -108,6 +118,7 @@ pub record Summed (p : Arrays.Plant) (xs : List ℤ) (sum i : ℕ) : Type 0 wher
   pub most : sum ≤ topCost
   pub rest : capped (cost (plantOf p .streams) (take (p .count) xs)) ≡ capped (sum + cost (drop i (plantOf p .streams)) (drop i (take (p .count) xs)))
 
+-- Before the first stream the sum is 0.
 pub summed-none : (p : Arrays.Plant) (xs : List ℤ) → Summed p xs 0 0
 summed-none p xs = record {
   within = omega arith;
@@ -131,9 +142,11 @@ module _ {p : Arrays.Plant} {xs : List ℤ} {sum i : ℕ} (c : Costed p xs) (r :
         one : cost (streamAt (plantOf p .streams) i ∷ []) (amountAt (take (p .count) xs) i ∷ []) ≡ streamCost (getD (p .streams) i noStream) (amountAt xs i)
         one = rw (listed-at p (c .accepted) i more, getD-take (p .count) xs i (pos 0) more) (omega arith)
 
+    -- The next stream is within its limits, and its amount is small.
     pub next-fits : WithinStream maxUnits (getD (p .streams) i noStream) × Small (amountAt xs i)
     next-fits = (stream-within p (c .accepted) i more, c .small i (omega (arith, c .accepted .within .few-streams)))
 
+    -- With the next stream's cost added, one stream more is summed up.
     pub summed-more : (k new : ℕ) → k ≡ capped (streamCost (getD (p .streams) i noStream) (amountAt xs i)) → new ≡ capped (sum + k) → Summed p xs new (i + 1)
     summed-more k new e f = record {
       within = omega arith;
@@ -145,6 +158,7 @@ module _ {p : Arrays.Plant} {xs : List ℤ} {sum i : ℕ} (c : Costed p xs) (r :
           ∙ sym (capped-sum sum (streamCost (getD (p .streams) i noStream) (amountAt xs i)) _));
     }
 
+  -- After the last the sum is the cost of the flow, as it is written.
   pub summed-all : p .count ≤ i → sum ≡ capped (cost (plantOf p .streams) (take (p .count) xs))
   summed-all h =
       let l = all-listed p (c .accepted) in

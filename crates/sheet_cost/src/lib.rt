@@ -20,9 +20,9 @@ ghost use Rattle.solve_def.specs.Sizes.{mostFlow};
 ghost use Rattle.solve_def.specs.Held.{opened};
 ghost use Rattle.solve_def.specs.SolverNeeds.{Amounts};
 ghost use Rattle.solve_arcs_fill.specs.Plants.{LaidOf};
-ghost use Rattle.sheet_def.specs.Apart.{capped};
+ghost use Rattle.sheet_def.specs.Totals.{capped};
 ghost use Rattle.sheet_def.specs.Calls.{Small, AllSmall, streamCost};
-ghost use Rattle.sheet_cost.specs.Rows.{apartSquared};
+ghost use Rattle.sheet_cost.specs.Rows.{distanceSquared};
 
 // Weight times a square, as it is written.
 fn weighed_square(weight: u64, d: u64) -> u64
@@ -80,7 +80,7 @@ pub fn cost_of(p: Plant, flows: [i64; MAX_STREAMS]) -> u64
 }
 
 // How far two numbers are apart.
-fn gap(a: u64, b: u64) -> u64
+fn distance(a: u64, b: u64) -> u64
     ensures { λ r. ⌜ r ≡ (a - b) + (b - a) ⌝ }
 {
     if a < b { b - a } else { a - b }
@@ -89,12 +89,12 @@ fn gap(a: u64, b: u64) -> u64
 // What a stream costs at the held amount x, as it is written: by its weight, and twice the weight times its reading.
 fn row_cost(w: u64, pull: u64, x: u64) -> u64
     requires { ⌜ (w ≤ maxWeight) × (x ≤ mostFlow) ⌝ }
-    ensures { λ r. ⌜ ((R : ℕ) → pull ≡ 2 * (w * R) → r ≡ capped (w * apartSquared x R)) ⌝ }
+    ensures { λ r. ⌜ ((R : ℕ) → pull ≡ 2 * (w * R) → r ≡ capped (w * distanceSquared x R)) ⌝ }
 {
     if w == 0 {
         return 0;
     }
-    let d = gap(2 * (w * x), pull) / (2 * w);
+    let d = distance(2 * (w * x), pull) / (2 * w);
     weighed_square(w, d)
 }
 

@@ -32,7 +32,7 @@ use Rattle.solve_def.specs.Promise.{flowOf, Solution, Right}
 use Rattle.solve_def.proofs.Amounts.{opened-at}
 use Rattle.sheet_def.specs.declared.Sheet.{Sheet}
 use Rattle.sheet_def.specs.Sentences.{callFault, Overfilled, Full, Answers}
-use Rattle.sheet_def.specs.Apart.{totalKind}
+use Rattle.sheet_def.specs.Totals.{totalKind}
 use Rattle.sheet_def.specs.Counters.{topSheet, counterOf, nextOf, raised}
 use Rattle.sheet_def.specs.Drawings.{plantParts, sheetOf}
 use Rattle.sheet_def.specs.Says.{Drawn, SheetWith, SheetSays}

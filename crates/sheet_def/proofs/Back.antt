@@ -17,6 +17,7 @@ use Rattle.sheet_def.specs.Sheets.{recordOf, recordsOf, totalBytes, Shee
 use Rattle.sheet_def.specs.Kept.{noSheet, someSheet, fieldsFit, recordAt, onRecord, sheetWith, recordsFrom, readSheet, fits, allFit, kindFits, WithinSheet}
 use Rattle.sheet_def.proofs.Records.{EndedAs, Meaning, record-means}
 
+-- A refusal is no sheet.
 pub not-both : (f : ℕ) (p : SheetParts) → noSheet f ≡ someSheet p → ⊥
 not-both f p e = let z : _≡_ {A = ℕ} 0 1 = cc in omega arith
 
@@ -85,6 +86,7 @@ rest-few (suc l) done s p f e =
         subst (λ (q : SheetParts). length (q .streams) ≤ maxStreams) g f
     go (Listed x m) h e ih = let room = h .room in ih x m (omega (arith, length-append done (x ∷ []))) e
 
+-- A sheet that is read has no more streams than a plant may have.
 pub few-read : (b : List ℕ) (s : SheetParts) → readSheet b ≡ someSheet s → length (s .streams) ≤ maxStreams
 few-read b s e = rest-few mostRecords [] b s (omega arith) e
 

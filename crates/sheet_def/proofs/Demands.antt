@@ -36,6 +36,7 @@ solved p a = (
   solved-right p a _ (from-none (plantOf p) (within-of p a)),
 )
 
+-- All demands are met.
 pub demands : Demands
 demands = demands-met demand-3 refusal-19 solved
 

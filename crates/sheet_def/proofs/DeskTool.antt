@@ -17,8 +17,8 @@ use Rattle.plant_def.proofs.Limited.{within}
 use Rattle.plant_def.proofs.Accepted.{accepted}
 use Rattle.flow_def.specs.Flows.{amountAt, allowedOver, Cheapest}
 use Rattle.flow_def.specs.Overfull.{Refusal-19}
-use Rattle.flow_def.specs.Least.{LeastInFractions, apart}
-use Rattle.flow_def.proofs.Distance.{apart-same, apart-part}
+use Rattle.flow_def.specs.Least.{LeastInFractions, distance}
+use Rattle.flow_def.proofs.Distance.{distance-same, distance-part}
 use Rattle.flow_def.proofs.AsRead.{as-read}
 use Rattle.flow_def.proofs.Near.{near-fractions, one-fraction}
 use Rattle.sheet_def.specs.declared.Sheet.{Sheet}
@@ -33,7 +33,7 @@ use Rattle.sheet_def.specs.DeskTool.{Beside, Desk-tool}
 beside : (p : Plant) → Within p → (s : SheetParts) → Tells p s → (d : ℕ) (ys : List ℤ) → LeastInFractions p d ys → Beside p s d ys
 beside p w s t d ys m = record {
   all = all;
-  each = λ k q. omega (arith, all, mul-le-mul-left 4 (apart-part d (p .streams) ys (numberOn s) (length (p .streams)) k (q .0) (q .1)));
+  each = λ k q. omega (arith, all, mul-le-mul-left 4 (distance-part d (p .streams) ys (numberOn s) (length (p .streams)) k (q .0) (q .1)));
   as-read = λ k q e. as-read p w d ys m k (q .0) (q .1) (t .as-read k q .0 e) ∙ ap (λ (x : ℤ). pos d *ℤ x) (sym (t .reading k q e));
 }
   where
@@ -43,14 +43,14 @@ beside p w s t d ys m = record {
     c : Cheapest p xs
     c = t .some .1
 
-    shown : apart d (p .streams) (numberOn s) ys ≡ apart d (p .streams) (amountAt xs) ys
-    shown = apart-same d (p .streams) ys (numberOn s) (amountAt xs) (length (p .streams)) (λ k l q. t .metered xs c k (l, q))
+    shown : distance d (p .streams) (numberOn s) ys ≡ distance d (p .streams) (amountAt xs) ys
+    shown = distance-same d (p .streams) ys (numberOn s) (amountAt xs) (length (p .streams)) (λ k l q. t .metered xs c k (l, q))
 
-    all : 4 * apart d (p .streams) (numberOn s) ys ≤ d * d * adjustedWeights p s
+    all : 4 * distance d (p .streams) (numberOn s) ys ≤ d * d * adjustedWeights p s
     all = rw shown (near-fractions p w xs ys d (adjustedWeights p s) (c .balance) m (t .near xs c d ys (m .some) (m .allowed)))
 
 -- A reading of bytes has one result.
-same-parts : (s t : SheetParts) → someSheet s ≡ someSheet t → s ≡ t
+pub same-parts : (s t : SheetParts) → someSheet s ≡ someSheet t → s ≡ t
 same-parts s t e = cc
 
 module _ (nineteen : Refusal-19)

@@ -1,7 +1,7 @@
 -- The entries of a balance.
 use mathlib.Core.Path.{_≡_, refl, ap}
 use mathlib.Core.List.{List}
-use lib.IntN.{ℤ, pos}
+use lib.IntN.{ℤ}
 use Prim.Native.Nat.{ℕ}
 use native.Mathlib.Omega.{arith}
 use lib.ListN.{length}
@@ -10,13 +10,8 @@ use Rattle.plant_def.specs.Plants.{Plant}
 use Rattle.flow_def.specs.declared.Class.{Class}
 use Rattle.flow_def.specs.declared.Class.the-variants.{Adjusted, AsRead, Given, Withheld}
 use Rattle.flow_def.specs.Classes.{classOf, numberOf}
-use Rattle.flow_def.proofs.Lists.{values-long}
-use Rattle.sheet_def.specs.declared.Entry.{Entry}
+use Rattle.num_bytes.proofs.Lists.{values-long}
 use Rattle.sheet_def.specs.Balances.{entryOf, balanceOf}
-
--- What stands past an array of entries.
-abbrev pub noEntry : Entry
-noEntry = record { class = Adjusted; flow = pos 0 }
 
 -- An entry shows the number, or no number.
 pub entry-same : (c : Class) (x y : ℤ) → ((c ≡ Withheld → ⊥) → x ≡ y) → entryOf c x ≡ entryOf c y

@@ -27,6 +27,7 @@ fail-tests false false true h = absurd (omega arith)
 fail-tests false false false h = refl
 
 module _ (d c q : ℕ) where
+  -- Pass: the cost is at most the critical value.
   pub passed-means : verdictAt d c q ≡ 0 → c ≤ criticalAt d
   passed-means h = leb-true c (criticalAt d) (pass-tests (eqb d 0) (leb c (criticalAt d)) (leb (4 * c) (4 * criticalAt d + q)) h)
 
@@ -34,6 +35,7 @@ module _ (d c q : ℕ) where
   above : (v k s : ℕ) → 1 ≤ k → 4 * v + q < 4 * c → 4 * k * c ≤ 4 * s + k * q → k * v < s
   above v k s l h near = omega (arith, mul-le-mul-left k h)
 
+  -- Fail: every flow in n-ths that undercuts the cost by no more than a quarter of the weights costs more than the critical value.
   pub failed-means : verdictAt d c q ≡ 1 → (n s : ℕ) → 1 ≤ n → 4 * (n * n) * c ≤ 4 * s + n * n * q → n * n * criticalAt d < s
   failed-means h n s l near =
       let far = leb-false (4 * c) (4 * criticalAt d + q) (fail-tests (eqb d 0) (leb c (criticalAt d)) (leb (4 * c) (4 * criticalAt d + q)) h) in

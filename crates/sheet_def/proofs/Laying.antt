@@ -18,7 +18,7 @@ use Rattle.sheet_def.specs.declared.Balance.{Balance}
 use Rattle.sheet_def.specs.Balances.{balanceOf}
 use Rattle.sheet_def.specs.Sheets.{recordOf, recordsOf, totalOf}
 use Rattle.sheet_def.specs.Drawings.{sheetBytes, sheetOf}
-use Rattle.sheet_def.specs.Apart.{streamSize, totalSize, leastSlice}
+use Rattle.sheet_def.specs.Totals.{streamSize, totalSize, leastSlice}
 
 -- No stream record is longer than a number's.
 pub record-most : (c : Class) (x : ℤ) → length (recordOf c x) ≤ streamSize
@@ -63,6 +63,7 @@ pub record Recorded (k : ℕ) (es : List Entry) (o o₁ : List ℕ) (m : ℕ) : 
   pub most : m ≤ maxStreams * streamSize
   pub so-far : Laid (recordsOf (take k es)) o o₁ m
 
+-- The records of k entries stand in the slice, with room for what follows.
 pub recorded : (k : ℕ) (es : List Entry) (o : List ℕ) {o₁ : List ℕ} {m : ℕ} → k ≤ maxStreams → leastSlice ≤ length o
     → Put (recordsOf (take k es)) o o₁ m → Recorded k es o o₁ m
 recorded k es o {o₁} {m} h l p =
@@ -71,9 +72,11 @@ recorded k es o {o₁} {m} h l p =
     record { wide = l; most = b; so-far = record { bytes = p .bytes; size = sym s; fits = omega arith } }
 
 module _ {k : ℕ} (b : Balance) {o o₁ : List ℕ} {m : ℕ} (r : Recorded k (b .streams) o o₁ m) where
+  -- The place for the total is in the slice,
   pub total-lend : m ≤ length o₁
   total-lend = may-lend (r .so-far)
 
+  -- and there is room for it.
   pub total-room : totalSize ≤ length (partFrom m o₁)
   total-room = let a = r .wide in let b = r .most in room (r .so-far) totalSize (omega arith)
 

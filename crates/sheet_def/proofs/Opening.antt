@@ -8,7 +8,7 @@ use Rattle.plant_def.specs.declared.Plant as Arrays
 use Rattle.num_bytes.specs.Inner.{pickT}
 use Rattle.plant_def.specs.Says.{plantOf}
 use Rattle.flow_def.specs.Overfull.{Overfull}
-use Rattle.flow_def.proofs.Integers.{size-val, parts}
+use Rattle.num_bytes.proofs.Integers.{size-val, parts}
 use Rattle.solve_def.specs.Sizes.{mostFlow}
 use Rattle.solve_def.specs.Held.{unshifted}
 use Rattle.solve_def.proofs.Amounts.{unshifted-val}
@@ -19,16 +19,19 @@ use Rattle.sheet_def.specs.Calls.{Small}
 
 -- What the solver promises, by whether it found a flow.
 module _ (p : Arrays.Plant) (s : Solved) (r : Right p s) where
+  -- A flow: the cheapest, with its certificate.
   pub right-found : s .found ≡ true → Solution p s
   right-found t = subst (λ (b : Bool). pickT b (Solution p s) (Overfull (plantOf p) (s .marked))) t r
 
+  -- None: an overfull set.
   pub right-overfull : s .found ≡ false → Overfull (plantOf p) (s .marked)
   right-overfull t = subst (λ (b : Bool). pickT b (Solution p s) (Overfull (plantOf p) (s .marked))) t r
 
--- The solver's amounts can be opened, and are small then.
+-- The solver's amounts may be held: each is at most mostFlow.
 pub held-amounts : (p : Arrays.Plant) (s : Solved) → Solution p s → Amounts (s .flows)
-held-amounts p s r = λ k h. omega (arith, r .close k h .0)
+held-amounts p s r = λ k h. omega (arith, r .sized k h .0)
 
+-- An amount that the solver may hold, opened, is small.
 pub opened-small : (x : ℕ) → x ≤ mostFlow → Small (unshifted x)
 opened-small x h =
     let z = unshifted x in

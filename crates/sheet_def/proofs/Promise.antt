@@ -19,7 +19,7 @@ use Rattle.sheet_def.specs.declared.Sheet.{Sheet}
 use Rattle.sheet_def.specs.declared.Balance.{Balance}
 use Rattle.sheet_def.specs.declared.Outcome.{Outcome}
 use Rattle.sheet_def.specs.Balances.{BalanceSays, OutcomeSays}
-use Rattle.sheet_def.specs.Apart.{leastSlice}
+use Rattle.sheet_def.specs.Totals.{leastSlice}
 use Rattle.sheet_def.specs.Says.{SheetWith, SheetSays}
 use Rattle.sheet_def.specs.Counters.{offices, topSheet, counterOf}
 use Rattle.sheet_def.specs.Sentences.{callFault, Refused}

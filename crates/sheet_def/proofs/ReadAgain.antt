@@ -30,7 +30,7 @@ use Rattle.sheet_def.specs.Counters.{offices}
 use Rattle.sheet_def.specs.Kept.{someSheet, readSheet, verdictFits, fieldsFit, fits, allFit, kindFits, WithinSheet}
 use Rattle.flow_def.proofs.Ranges.{balanced-of}
 use Rattle.sheet_def.proofs.Capped.{capped-most}
-use Rattle.sheet_def.proofs.Entries.{noEntry}
+use Rattle.sheet_def.specs.Calls.{noEntry}
 use Rattle.sheet_def.proofs.Telling.{Sized, es-long, entry-at, cost-is, degrees-is, verdict-is}
 use Rattle.sheet_def.proofs.There.{there}
 
@@ -74,6 +74,7 @@ module _ (p : Plant) (w : Within p) (xs : List ℤ) (c : Cheapest p xs) (sized :
         rw (lt-ltb office offices known, degrees-is p w xs c, verdict-is p w xs c, ne-eqb (suc last) 0 (omega arith), le-leb (degrees p) maxUnits few)
         (verdict-fits (degrees p) (cost (p .streams) xs) (adjusted p))
 
+    -- The parts of a cheapest flow's sheet are within the limits of sheets,
     pub within-sheet : WithinSheet parts
     within-sheet =
         let f = w .few-streams in
@@ -88,5 +89,6 @@ module _ (p : Plant) (w : Within p) (xs : List ℤ) (c : Cheapest p xs) (sized :
           allowed = total-fits;
         }
 
+    -- so its bytes read back as its parts.
     pub read-back : readSheet (partsBytes parts) ≡ someSheet parts
     read-back = there parts within-sheet

@@ -20,7 +20,7 @@ use Rattle.sheet_def.specs.declared.Entry.{Entry}
 use Rattle.sheet_def.specs.declared.Total.{Total}
 use Rattle.sheet_def.specs.declared.SheetRecord.{SheetRecord}
 use Rattle.sheet_def.specs.declared.SheetRecord.the-variants.{Listed, Ended, Refused}
-use Rattle.sheet_def.specs.Apart.{totalKind, plainKind, streamSize, bodySize, totalSize, plainSize}
+use Rattle.sheet_def.specs.Totals.{totalKind, plainKind, streamSize, bodySize, totalSize, plainSize}
 use Rattle.sheet_def.specs.Sheets.{adjustedKind, asReadKind, givenKind, withheldKind, recordOf, bodyOf, totalBytes}
 use Rattle.sheet_def.specs.Kept.{shownIn, blank, streamRecord, totalIn, plainIn, fieldsFit, totalFault, afterFault, endFault, totalRecord, kindRecord, recordAt, fits, kindFits}
 
@@ -128,7 +128,7 @@ pub record Again (size : ℕ) (s : List ℕ) (t : Total) : Type 0 where
   pub number : t .sheet < 256 ^ 4
   pub cost : t .cost < 256 ^ 8
 
--- The two kinds of total, written again.
+-- A plain total, read and written again, is the same bytes.
 pub plain-again : (b : List ℕ) → allBytes (plainKind ∷ b) ≡ true → plainSize ≤ length (plainKind ∷ b) → Again plainSize (plainKind ∷ b) (plainIn (plainKind ∷ b))
 plain-again b a l =
     let bytes = byte-first plainKind b a .1 in
@@ -138,6 +138,7 @@ plain-again b a l =
       cost = be-fits 4 8 b bytes (omega arith);
     }
 
+-- A total with its office, read and written again, is the same bytes.
 pub total-again : (b : List ℕ) → allBytes (totalKind ∷ b) ≡ true → totalSize ≤ length (totalKind ∷ b) → Again totalSize (totalKind ∷ b) (totalIn (totalKind ∷ b))
 total-again [] a l = absurd (omega arith)
 total-again (k ∷ b) a l =

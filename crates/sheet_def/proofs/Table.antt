@@ -8,10 +8,11 @@ use lib.Signed.{ltZ}
 use Prim.Native.Nat.{ℕ, zero, suc, _-_, _<_}
 use native.Mathlib.Omega.{arith}
 use lib.Dec.{eqb}
-use lib.ListN.{length, getD, replicate}
+use lib.ListN.{length}
 use borrow.Author.Tests.{eqb-true}
 use Rattle.num_bytes.proofs.Tests.{and-left, and-right}
 use Rattle.num_bytes.specs.Bytes.{over}
+use Rattle.num_bytes.proofs.Filled.{blank-at}
 use Rattle.plant_def.specs.declared.Stream.{Stream}
 use Rattle.plant_def.specs.Limits.{places}
 use Rattle.plant_def.specs.Plants.{Plant, limited}
@@ -62,6 +63,7 @@ abbrev pub shows : Example → List ℤ → Got → Bool
 shows e potentials (bad f) = false
 shows e potentials (got p) = certified p (e .flow) potentials && sameBytes (sheetOf 0 p (e .flow) 1) (e .sheet)
 
+-- Where the computed test passes, the example shows what it says.
 pub shows-right : (e : Example) (potentials : List ℤ) (g : Got) → readPlant (e .file) ≡ g → shows e potentials g ≡ true → Shows e
 shows-right e potentials (bad f) r t = absurd (false≢true t)
 shows-right e potentials (got p) r t =
@@ -103,6 +105,7 @@ potentials =
     ∷ (pos 0 ∷ pos 0 ∷ [])
     ∷ []
 
+-- All examples of the table show what they say.
 pub table : AllShow examples
 unfolding potentials balanceOf
 table = all-right examples potentials refl
@@ -117,11 +120,6 @@ fullPlant =
           ∷ record { from = 1; to = 0; metered = true; weight = 10; reading = pos 15; ranged = true; low = pos 0; high = pos 5 }
           ∷ [];
     }
-
-none-there : (n k : ℕ) → getD (replicate n false) k false ≡ false
-none-there zero k = refl
-none-there (suc n) zero = refl
-none-there (suc n) (suc k) = none-there n k
 
 -- Each stream has a range.
 abbrev pub allLimited : List Stream → Bool
@@ -141,7 +139,7 @@ unit-full ss e m = record { long = refl; placed = past; bounded = λ k l t. limi
     past : (u : ℕ) → 1 < u → marks fullUnit u ≡ false
     past zero l = absurd (omega arith)
     past (suc zero) l = absurd (omega arith)
-    past (suc (suc u)) l = none-there (places - 2) u
+    past (suc (suc u)) l = blank-at false (places - 2) u
 
 -- A call that drew a sheet would have a flow in range.
 pub refuses-right : (file : List ℕ) (p : Plant) (ms : List Bool) → readPlant file ≡ got p → Overfull p ms → Refuses file ms
@@ -152,6 +150,7 @@ refuses-right file p ms e m = (p, e, m, calls)
         let given : Drawn p 0 (officesFrom 0) o o′ r ⊎ Overfilled p (officesFrom 0) o o′ r = call-read file 0 (officesFrom 0) o o′ r s (got p) z e in
         ⊎-elim (λ d. never-both p (within p (accepted file p e .0)) (d .0) (d .1) ms m) (λ m. ap (λ (q : Sheet). q .number) (m .2 .0)) given
 
+-- The plant of the table that has no flow in range is refused with 19: its unit is overfull.
 pub refuses : Refuses fullFile fullUnit
 unfolding fullPlant
 refuses = refuses-right fullFile fullPlant fullUnit refl (unit-full (fullPlant .streams) refl refl)

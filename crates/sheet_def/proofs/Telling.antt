@@ -2,9 +2,9 @@
 use mathlib.Core.Path.{_≡_, refl, sym, ap, ap₂, _∙_}
 use mathlib.Core.Bool.{true}
 use mathlib.Core.Logic.{_↔_}
-use mathlib.Core.List.{List, _++_}
+use mathlib.Core.List.{List}
 use lib.IntN.{ℤ, pos, _*ℤ_}
-use Prim.Native.Nat.{ℕ, zero, suc, _+_, _*_, _^_, _≤_, _<_}
+use Prim.Native.Nat.{ℕ, zero, suc, _+_, _*_, _≤_, _<_}
 use native.Mathlib.Omega.{arith}
 use lib.Dec.{eqb}
 use lib.ListN.{length, getD, take}
@@ -23,14 +23,14 @@ use Rattle.flow_def.specs.Classes.{classOf, numberOf, degrees}
 use Rattle.flow_def.specs.Test.{verdictAt}
 use Rattle.flow_def.specs.Shown.{adjustedWeight, adjustedTo, adjusted, Shown}
 use Rattle.flow_def.proofs.Nets.{inside}
-use Rattle.flow_def.proofs.Lists.{values-at}
+use Rattle.num_bytes.proofs.Lists.{values-at}
 use Rattle.flow_def.proofs.Ranges.{balanced-of}
 use Rattle.flow_def.proofs.Given.{class-means, number-is}
 use Rattle.flow_def.proofs.Degrees.{degrees-most}
 use Rattle.flow_def.proofs.Counted.{some-each, degrees-counted}
 use Rattle.flow_def.proofs.Chained.{as-read-of, adjusted-of, given-times}
 use Rattle.sheet_def.specs.declared.Entry.{Entry}
-use Rattle.sheet_def.specs.Apart.{capped}
+use Rattle.sheet_def.specs.Totals.{capped}
 use Rattle.sheet_def.specs.Sheets.{adjustedKind, kindOf, SheetParts}
 use Rattle.sheet_def.specs.Sentences.{MeteredAt, UnmeteredAt, classOn, numberOn, MetersAs, weightsTo, adjustedWeights, Tells}
 use Rattle.sheet_def.specs.Balances.{entryOf, balanceOf}
@@ -50,13 +50,14 @@ pub record Told (p : Plant) (xs : List ℤ) (s : SheetParts) : Type 0 where
   pub freedom : s .total .degrees ≡ degrees p
   pub verdict : s .total .verdict ≡ verdictAt (degrees p) (cost (p .streams) xs) (adjusted p)
 
--- An entry's class and its flow.
+-- An entry has the class that it is made of.
 pub entry-class : (c : Class) (x : ℤ) → entryOf c x .class ≡ c
 entry-class Adjusted x = refl
 entry-class AsRead x = refl
 entry-class Given x = refl
 entry-class Withheld x = refl
 
+-- The entry of a stream that is not withheld has its number.
 pub entry-flow : (c : Class) (x : ℤ) → (c ≡ Withheld → ⊥) → entryOf c x .flow ≡ x
 entry-flow Adjusted x n = refl
 entry-flow AsRead x n = refl
@@ -74,29 +75,36 @@ module _ (p : Plant) (w : Within p) (xs : List ℤ) (c : Cheapest p xs) where
   abbrev es : List Entry
   es = take (length (p .streams)) (balanceOf p xs .streams)
 
+  -- A sheet has an entry for each stream,
   pub es-long : length es ≡ count
   es-long = let l = balance-long p xs in let f = w .few-streams in length-take-le count (balanceOf p xs .streams) (omega arith)
 
+  -- that of its class and number,
   pub entry-at : (none : Entry) (k : ℕ) → k < count → getD es k none ≡ entryOf (classOf p k) (numberOf p xs k)
   unfolding balanceOf
   entry-at none k h =
       let f = w .few-streams in
       getD-take count (balanceOf p xs .streams) k none h ∙ values-at (λ k. entryOf (classOf p k) (numberOf p xs k)) none maxStreams k (omega arith)
 
+  -- so its class is the stream's,
   pub class-at : (none : Entry) (k : ℕ) → k < count → getD es k none .class ≡ classOf p k
   class-at none k h = ap (λ (e : Entry). e .class) (entry-at none k h) ∙ entry-class (classOf p k) (numberOf p xs k)
 
+  -- and its number, where there is one, the flow's.
   pub flow-at : (none : Entry) (k : ℕ) → k < count → (classOf p k ≡ Withheld → ⊥) → getD es k none .flow ≡ amountAt xs k
   flow-at none k h o = ap (λ (e : Entry). e .flow) (entry-at none k h) ∙ entry-flow (classOf p k) (numberOf p xs k) o ∙ number-is p w xs (balanced-of 1 p xs (c .balance)) k h o
 
+  -- Its cost is the flow's, as it is written,
   pub cost-is : balanceOf p xs .cost ≡ capped (cost (p .streams) xs)
   unfolding balanceOf
   cost-is = refl
 
+  -- its degrees are the plant's,
   pub degrees-is : balanceOf p xs .degrees ≡ degrees p
   unfolding balanceOf
   degrees-is = refl
 
+  -- and its verdict is that of the degrees, the cost and the adjusted streams' weights.
   pub verdict-is : balanceOf p xs .verdict ≡ verdictAt (degrees p) (cost (p .streams) xs) (adjusted p)
   unfolding balanceOf
   verdict-is = refl
@@ -160,6 +168,7 @@ module _ (p : Plant) (w : Within p) (shown : Shown p) (xs : List ℤ) (c : Cheap
   judged : (zs : List ℤ) → Cheapest p zs → s .total .verdict ≡ verdictAt (s .total .degrees) (cost (p .streams) zs) (adjustedWeights p s)
   judged zs z = t .verdict ∙ (λ i. verdictAt (sym (t .freedom) i) (cost-same p w xs zs c z i) (weights (length (p .streams)) (omega arith) i))
 
+  -- So the sheet tells of the plant all that it has to.
   pub tells : Tells p s
   tells = record {
     listed = t .long;

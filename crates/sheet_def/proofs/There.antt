@@ -3,7 +3,7 @@ use mathlib.Core.Path.{_≡_, refl, sym, ap, _∙_, subst}
 use mathlib.Core.Bool.{Bool, true, false, not, _&&_, _||_, false≢true}
 use mathlib.Core.Logic.{_⊎_, inl, inr, ⊎-elim}
 use mathlib.Core.List.{List, [], _∷_, _++_, append-assoc, append-nil}
-use lib.IntN.{ℤ, pos, negsuc, natAbs}
+use lib.IntN.{ℤ, pos, natAbs}
 use Prim.Native.Nat.{ℕ, zero, suc, _+_, _-_, _<_, _≤_, _^_}
 use native.Mathlib.Omega.{arith}
 use lib.Dec.{eqb}
@@ -14,7 +14,7 @@ use Rattle.num_bytes.specs.Choice.{pick, refuseIf, firstOf}
 use Rattle.num_bytes.specs.Bytes.{be, putBe, signed, raw, holds}
 use Rattle.num_bytes.proofs.Tests.{same-test, and-left, and-right}
 use Rattle.num_bytes.proofs.Digits.{be-put}
-use Rattle.num_bytes.proofs.Complement.{held-back, held-fits}
+use Rattle.num_bytes.proofs.Complement.{held-back, held-fits, zero-size}
 use Rattle.plant_def.specs.Limits.{maxStreams}
 use Rattle.plant_def.specs.Files.{mostRecords}
 use Rattle.flow_def.specs.declared.Class.{Class}
@@ -23,7 +23,7 @@ use Rattle.sheet_def.specs.declared.Entry.{Entry}
 use Rattle.sheet_def.specs.declared.Total.{Total}
 use Rattle.sheet_def.specs.declared.SheetRecord.{SheetRecord}
 use Rattle.sheet_def.specs.declared.SheetRecord.the-variants.{Listed, Ended, Refused}
-use Rattle.sheet_def.specs.Apart.{totalKind, plainKind, streamSize, totalSize, plainSize}
+use Rattle.sheet_def.specs.Totals.{totalKind, plainKind, streamSize, totalSize, plainSize}
 use Rattle.sheet_def.specs.Sheets.{kindOf, recordOf, recordsOf, bodyOf, totalBytes, SheetParts, partsBytes}
 use Rattle.sheet_def.specs.Kept.{Reopened, noSheet, someSheet, streamRecord, bodyIn, totalIn, plainIn, totalFault, totalRecord, kindRecord}
 use Rattle.sheet_def.specs.Kept.{recordAt, onRecord, sheetWith, recordsFrom, readSheet, fits, allFit, kindFits, Recorded, WithinSheet, Unfit}
@@ -44,10 +44,6 @@ shown-there k x r c more h =
     let s = kindOf k ∷ putBe 8 (raw 8 x) ++ r in
     let v : signed 8 (be 1 8 s) ≡ x = ap (signed 8) (be-put 8 (raw 8 x) r (held-fits 8 x h)) ∙ held-back 8 x h in
     stream-there streamSize c (record { class = k; flow = signed 8 (be 1 8 s) }) (record { class = k; flow = x }) s more (omega arith) (λ i. record { class = k; flow = v i })
-
-zero-size : (z : ℤ) → natAbs z ≡ 0 → pos 0 ≡ z
-zero-size (pos a) e = ap pos (sym e)
-zero-size (negsuc a) e = absurd (omega arith)
 
 record-there : (k : Class) (x : ℤ) (r : List ℕ) (c : ℕ) → c < maxStreams → fits k x ≡ true
     → recordAt c (recordOf k x ++ r) ≡ Listed (record { class = k; flow = x }) (length (recordOf k x))

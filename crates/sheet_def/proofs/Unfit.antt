@@ -1,6 +1,6 @@
 -- Why a kept sheet is refused. Writing and reading undo each other.
 use mathlib.Core.Path.{_≡_, refl, sym, ap, _∙_, subst}
-use mathlib.Core.Bool.{Bool, true, false, not, _||_}
+use mathlib.Core.Bool.{true, false, not, _||_}
 use mathlib.Core.Logic.{_⊎_, inl, inr, ⊎-elim}
 use mathlib.Core.List.{List, [], _∷_, _++_, append-assoc, append-nil}
 use Prim.Native.Nat.{ℕ, zero, suc, _≤_, _<_, _^_}
@@ -18,10 +18,10 @@ use Rattle.sheet_def.specs.declared.Entry.{Entry}
 use Rattle.sheet_def.specs.declared.Total.{Total}
 use Rattle.sheet_def.specs.declared.SheetRecord.{SheetRecord}
 use Rattle.sheet_def.specs.declared.SheetRecord.the-variants.{Listed, Ended, Refused}
-use Rattle.sheet_def.specs.Apart.{totalKind, plainKind, streamSize, totalSize, plainSize}
-use Rattle.sheet_def.specs.Sheets.{adjustedKind, asReadKind, givenKind, withheldKind, recordOf, recordsOf, totalBytes, SheetParts, partsBytes}
-use Rattle.sheet_def.specs.Kept.{noSheet, someSheet, shownIn, blank, streamRecord, totalIn, plainIn, fieldsFit, totalRecord, kindRecord, recordAt}
-use Rattle.sheet_def.specs.Kept.{onRecord, sheetWith, recordsFrom, fits, allFit, kindFits, Recorded, WithinSheet, Unfit, Reopening}
+use Rattle.sheet_def.specs.Totals.{totalKind, plainKind, streamSize, totalSize, plainSize}
+use Rattle.sheet_def.specs.Sheets.{adjustedKind, asReadKind, givenKind, withheldKind, recordOf, recordsOf, totalBytes, partsBytes}
+use Rattle.sheet_def.specs.Kept.{noSheet, shownIn, blank, streamRecord, totalIn, plainIn, fieldsFit, totalRecord, kindRecord, recordAt}
+use Rattle.sheet_def.specs.Kept.{onRecord, sheetWith, recordsFrom, fits, allFit, kindFits, Recorded, Unfit, Reopening}
 use Rattle.sheet_def.proofs.Records.{Meaning, record-means, Again, plain-again, total-again}
 use Rattle.sheet_def.proofs.There.{there, unfit-there}
 use Rattle.sheet_def.proofs.Back.{not-both, all-back, rest-refused}

@@ -31,12 +31,12 @@ use Rattle.flow_def.specs.Overfull.{unmarked, Overfull}
 use Rattle.flow_def.proofs.Nets.{balanced-size}
 use Rattle.flow_def.proofs.Ranges.{balanced-of}
 use Rattle.flow_def.proofs.Overfull.{overfull-none}
-use Rattle.flow_def.proofs.Lists.{values-same}
+use Rattle.num_bytes.proofs.Lists.{values-same}
 use Rattle.flow_def.proofs.Order.{one}
 use Rattle.flow_def.proofs.ByLabels.{class-past}
 use Rattle.flow_def.proofs.Given.{class-means, number-is, given-agree}
 use Rattle.sheet_def.specs.declared.Sheet.{Sheet}
-use Rattle.sheet_def.specs.Apart.{capped}
+use Rattle.sheet_def.specs.Totals.{capped}
 use Rattle.sheet_def.specs.Counters.{nextOf, raised}
 use Rattle.sheet_def.specs.Balances.{entryOf, balanceOf}
 use Rattle.sheet_def.specs.Drawings.{sheetBytes, sheetOf}
@@ -90,15 +90,18 @@ module _ (p : Plant) (w : Within p) (xs ys : List ℤ) (c : Cheapest p xs) (d : 
       past : (classOf p k ≡ Withheld → ⊥) → ltb k (length (p .streams)) ≡ false → numberOf p xs k ≡ numberOf p ys k
       past n t = absurd (n (class-past p k (ltb-false k (length (p .streams)) t)))
 
+  -- Two cheapest flows have one cost,
   pub cost-same : cost (p .streams) xs ≡ cost (p .streams) ys
   cost-same = let a = c .least ys (d .balance) in let b = d .least xs (c .balance) in omega arith
 
+  -- one balance,
   pub one-balance : balanceOf p xs ≡ balanceOf p ys
   unfolding balanceOf
   one-balance =
       let e = values-same maxStreams (λ k. entryOf (classOf p k) (numberOf p xs k)) (λ k. entryOf (classOf p k) (numberOf p ys k)) (λ k l. entries-same k) in
       λ i. record { streams = e i; cost = capped (cost-same i); degrees = degrees p; verdict = verdictAt (degrees p) (cost-same i) (adjusted p) }
 
+  -- and one sheet, whichever its number.
   pub one-sheet : (office n : ℕ) → sheetOf office p xs n ≡ sheetOf office p ys n
   one-sheet office n = ap (sheetBytes office (length (p .streams)) n) one-balance
 
@@ -106,7 +109,7 @@ module _ (p : Plant) (w : Within p) (xs ys : List ℤ) (c : Cheapest p xs) (d : 
 pub never-both : {A : Type 0} (p : Plant) → Within p → (xs : List ℤ) → Cheapest p xs → (ms : List Bool) → Overfull p ms → A
 never-both p w xs c ms m = clash (allowed p xs) (c .balance) (overfull-none p w ms m 1 xs (omega arith))
 
--- What a call returns and leaves behind follows from what it was handed, but for the set that a 19 marks.
+-- Equal answers are alike.
 pub alike-same : (r₁ r₂ : Sheet) → r₁ ≡ r₂ → Alike r₁ r₂
 alike-same r₁ r₂ e = (ap bare e, λ n. e)
 
@@ -142,5 +145,6 @@ call-same : (b : Bool) (file : List ℕ) (office : ℕ) (lasts : List ℕ) (o o�
 call-same true file office lasts o o₁ o₂ r₁ r₂ a b = read-same office lasts o o₁ o₂ r₁ r₂ (readPlant file) (λ p e. within p (accepted file p e .0)) a b
 call-same false file office lasts o o₁ o₂ r₁ r₂ a b = refused-same office lasts o o₁ o₂ r₁ r₂ (callFault office lasts o) a b
 
+-- So no call has a choice, but that of the set that a 19 marks.
 pub no-choice : No-choice
 no-choice file office lasts o o₁ o₂ r₁ r₂ a b = call-same (eqb (callFault office lasts o) 0) file office lasts o o₁ o₂ r₁ r₂ a b

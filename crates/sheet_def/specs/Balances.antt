@@ -15,7 +15,7 @@ use Rattle.flow_def.specs.Overfull.{Overfull}
 use Rattle.sheet_def.specs.declared.Entry.{Entry}
 use Rattle.sheet_def.specs.declared.Balance.{Balance}
 use Rattle.sheet_def.specs.declared.Outcome.{Outcome}
-use Rattle.sheet_def.specs.Apart.{capped}
+use Rattle.sheet_def.specs.Totals.{capped}
 
 -- A stream's entry: its class and its number; a withheld stream has none, and 0 stands there.
 abbrev pub entryOf : Class → ℤ → Entry

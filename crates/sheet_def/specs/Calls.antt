@@ -14,14 +14,19 @@ use Rattle.solve_def.specs.Sizes.{flowShift}
 use Rattle.sheet_def.specs.declared.Entry.{Entry}
 use Rattle.sheet_def.specs.Balances.{entryOf}
 
+-- What stands past an array of entries.
+abbrev pub noEntry : Entry
+noEntry = record { class = Adjusted; flow = pos 0 }
+
 -- The entries of streams, by their classes and their flows.
 unfoldable pub entriesOf : List Class → List ℤ → List Entry
 entriesOf cs xs = values maxStreams (λ k. entryOf (getD cs k Adjusted) (amountAt xs k))
 
--- Flows that the solver may hold, opened: each of size flowShift at most.
+-- An amount that the solver may hold, opened: of size flowShift at most.
 abbrev pub Small : ℤ → Type 0
 Small x = natAbs x ≤ flowShift
 
+-- Every amount of a list is small.
 abbrev pub AllSmall : List ℤ → Type 0
 AllSmall xs = (k : ℕ) → k < maxStreams → Small (amountAt xs k)
 

@@ -11,13 +11,15 @@ offices = 8
 abbrev pub topSheet : ℕ
 topSheet = 4294967295
 
--- An office's last sheet number, the number of its next sheet, and the counters when it is drawn.
+-- An office's last sheet number.
 abbrev pub counterOf : ℕ → List ℕ → ℕ
 counterOf office lasts = getD lasts office 0
 
+-- The number of its next sheet.
 abbrev pub nextOf : ℕ → List ℕ → ℕ
 nextOf office lasts = suc (counterOf office lasts)
 
+-- The counters when that sheet is drawn.
 abbrev pub raised : ℕ → List ℕ → List ℕ
 raised office lasts = set lasts office (nextOf office lasts)
 

@@ -13,10 +13,11 @@ use Rattle.sheet_def.specs.Says.{SheetSays}
 use Rattle.sheet_def.specs.DeskTool.{Desk-tool}
 use Rattle.sheet_def.specs.Kept.{Reopening}
 
--- Two answers are alike: the same but for the places marked, and the same altogether where the number is not 19.
+-- An answer without the places that it marks.
 abbrev pub bare : Sheet → Sheet
 bare r = record { number = r .number; written = r .written; lasts = r .lasts; marked = unmarked }
 
+-- Two answers that a caller cannot tell apart but by the set that a 19 marks.
 abbrev pub Alike : Sheet → Sheet → Type 0
 Alike r₁ r₂ = (bare r₁ ≡ bare r₂) × ((r₁ .number ≡ 19 → ⊥) → r₁ ≡ r₂)
 
@@ -26,6 +27,7 @@ No-choice =
     (file : List ℕ) (office : ℕ) (lasts : List ℕ) (o o₁ o₂ : List ℕ) (r₁ r₂ : Sheet)
     → SheetSays file office lasts o o₁ r₁ → SheetSays file office lasts o o₂ r₂ → Alike r₁ r₂ × (o₁ ≡ o₂)
 
+-- The customer's demands, one by one.
 pub record Demands : Type 0 where
   -- Of every call, the office's counter being of 32 bits: the refusal, or a sheet that tells what it has to.
   pub sentences : (file : List ℕ) (office : ℕ) (lasts o o′ : List ℕ) (r : Sheet) → counterOf office lasts ≤ topSheet → SheetSays file office lasts o o′ r

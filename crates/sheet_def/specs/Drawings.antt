@@ -5,7 +5,7 @@ use Prim.Native.Nat.{ℕ}
 use lib.ListN.{length, take}
 use Rattle.plant_def.specs.Plants.{Plant}
 use Rattle.sheet_def.specs.declared.Balance.{Balance}
-use Rattle.sheet_def.specs.Apart.{totalKind}
+use Rattle.sheet_def.specs.Totals.{totalKind}
 use Rattle.sheet_def.specs.Balances.{balanceOf}
 use Rattle.sheet_def.specs.Sheets.{SheetParts, partsBytes}
 
@@ -21,9 +21,10 @@ partsOf kind office count n b =
 abbrev pub sheetBytes : ℕ → ℕ → ℕ → Balance → List ℕ
 sheetBytes office count n b = partsBytes (partsOf totalKind office count n b)
 
--- An office's sheet n of a plant with a flow: its parts, and its bytes.
+-- An office's sheet n of a plant with a flow, by its parts.
 abbrev pub plantParts : ℕ → Plant → List ℤ → ℕ → SheetParts
 plantParts office p xs n = partsOf totalKind office (length (p .streams)) n (balanceOf p xs)
 
+-- The bytes of an office's sheet n of a plant with a flow.
 abbrev pub sheetOf : ℕ → Plant → List ℤ → ℕ → List ℕ
 sheetOf office p xs n = partsBytes (plantParts office p xs n)

@@ -19,7 +19,7 @@ use Rattle.sheet_def.specs.declared.Total.{Total}
 use Rattle.sheet_def.specs.declared.SheetRead.{SheetRead}
 use Rattle.sheet_def.specs.declared.SheetRecord.{SheetRecord}
 use Rattle.sheet_def.specs.declared.SheetRecord.the-variants.{Listed, Ended, Refused}
-use Rattle.sheet_def.specs.Apart.{totalKind, plainKind, streamSize, totalSize, plainSize}
+use Rattle.sheet_def.specs.Totals.{totalKind, plainKind, streamSize, totalSize, plainSize}
 use Rattle.sheet_def.specs.Sheets.{known, adjustedKind, asReadKind, givenKind, withheldKind, SheetParts, partsBytes}
 use Rattle.sheet_def.specs.Counters.{offices}
 
@@ -45,10 +45,11 @@ abbrev pub bodyIn : ℕ → ℕ → List ℕ → Total
 bodyIn kind office b =
     record { kind = kind; office = office; sheet = be 0 4 b; cost = be 4 8 b; degrees = getD b 12 0; verdict = getD b 13 0 }
 
--- The total, behind its office; and the plain total, which is that of office 0.
+-- The total, behind its office.
 abbrev pub totalIn : List ℕ → Total
 totalIn s = bodyIn totalKind (getD s 1 0) (drop 2 s)
 
+-- The plain total: that of office 0.
 abbrev pub plainIn : List ℕ → Total
 plainIn s = bodyIn plainKind 0 (drop 1 s)
 
@@ -73,6 +74,7 @@ afterFault size s = refuseIf (not (eqb (length s) size)) 15
 abbrev pub endFault : ℕ → Total → List ℕ → ℕ
 endFault size t s = firstOf (refuseIf (ltb (length s) size) 13) (firstOf (totalFault t) (afterFault size s))
 
+-- The total, or what is first amiss with it.
 abbrev pub totalRecord : ℕ → Total → List ℕ → SheetRecord
 totalRecord size t s = pick (eqb (endFault size t s) 0) (Ended t) (Refused (endFault size t s))
 
@@ -90,18 +92,19 @@ kindRecord c k s =
 abbrev pub recordAt : ℕ → List ℕ → SheetRecord
 recordAt c s = pick (eqb (length s) 0) (Refused 13) (kindRecord c (getD s 0 0) s)
 
--- What each case of SheetRecord means: its number, 0 where it is no refusal; the entry and the record's size, the total, or the
--- refusal.
+-- The number of a record: 0 where it is no refusal.
 abbrev pub recordNumber : SheetRecord → ℕ
 recordNumber (Listed e m) = 0
 recordNumber (Ended t) = 0
 recordNumber (Refused f) = f
 
+-- What follows from a record, by its case: the entry and the record's size, the total, or the refusal.
 abbrev pub onRecord : {A : Type 0} → SheetRecord → (Entry → ℕ → A) → (Total → A) → (ℕ → A) → A
 onRecord (Listed e m) listed ended refused = listed e m
 onRecord (Ended t) listed ended refused = ended t
 onRecord (Refused f) listed ended refused = refused f
 
+-- A sheet of these entries and this total.
 abbrev pub sheetWith : List Entry → Total → Reopened
 sheetWith es t = someSheet (record { streams = es; total = t })
 
@@ -123,6 +126,7 @@ abbrev pub readOf : Reopened → SheetRead
 readOf (noSheet f) = handedOver f [] (record { kind = 0; office = 0; sheet = 0; cost = 0; degrees = 0; verdict = 0 })
 readOf (someSheet s) = handedOver 0 (s .streams) (s .total)
 
+-- What the reader ensures.
 abbrev pub ReadSays : List ℕ → SheetRead → Type 0
 ReadSays bytes r = r ≡ readOf (readSheet bytes)
 
@@ -130,6 +134,7 @@ ReadSays bytes r = r ≡ readOf (readSheet bytes)
 abbrev pub fits : Class → ℤ → Bool
 fits c x = pick (known c) (holds 8 x) (eqb (natAbs x) 0)
 
+-- Every entry of a list fits.
 abbrev pub allFit : List Entry → Bool
 allFit [] = true
 allFit (e ∷ es) = fits (e .class) (e .flow) && allFit es

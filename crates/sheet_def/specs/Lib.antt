@@ -1,5 +1,5 @@
 -- Balances and sheets: a sheet taken apart, the sentences about its bytes and the demands; the bytes of a sheet, what the sheet
-pub mod Apart
+pub mod Totals
 pub mod Counters
 pub mod Sheets
 pub mod Kept

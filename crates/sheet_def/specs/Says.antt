@@ -26,6 +26,7 @@ Drawn p office lasts o o′ r =
     × (r ≡ record { number = 0; written = length (sheetOf office p xs (nextOf office lasts)); lasts = raised office lasts; marked = unmarked })
     × (o′ ≡ over (sheetOf office p xs (nextOf office lasts)) o)
 
+-- By what the file was read as: refused, or drawn, or no flow in range.
 abbrev pub SheetWith : Got → ℕ → List ℕ → List ℕ → List ℕ → Sheet → Type 0
 SheetWith (bad f) office lasts o o′ r = Refused f lasts o o′ r
 SheetWith (got p) office lasts o o′ r = Drawn p office lasts o o′ r ⊎ Overfilled p lasts o o′ r

@@ -19,15 +19,16 @@ use Rattle.flow_def.specs.Overfull.{unmarked, Overfull}
 use Rattle.flow_def.specs.declared.Class.{Class}
 use Rattle.flow_def.specs.declared.Class.the-variants.{Adjusted, AsRead, Given, Withheld}
 use Rattle.sheet_def.specs.declared.Sheet.{Sheet}
-use Rattle.sheet_def.specs.Apart.{totalKind, leastSlice, capped}
+use Rattle.sheet_def.specs.Totals.{totalKind, leastSlice, capped}
 use Rattle.sheet_def.specs.Sheets.{kindOf, SheetParts}
 use Rattle.sheet_def.specs.Kept.{blank, someSheet, readSheet}
 use Rattle.sheet_def.specs.Counters.{offices, topSheet, counterOf, nextOf, raised}
 
--- Stream i, from 0, is listed, and metered or not.
+-- Stream i, from 0, is listed, and metered.
 abbrev pub MeteredAt : Plant → ℕ → Type 0
 MeteredAt p i = (i < length (p .streams)) × (streamAt (p .streams) i .metered ≡ true)
 
+-- Stream i is listed, and unmetered.
 abbrev pub UnmeteredAt : Plant → ℕ → Type 0
 UnmeteredAt p i = (i < length (p .streams)) × (streamAt (p .streams) i .metered ≡ false)
 
@@ -35,17 +36,19 @@ UnmeteredAt p i = (i < length (p .streams)) × (streamAt (p .streams) i .metered
 abbrev pub EndsJoined : Plant → ℕ → Type 0
 EndsJoined p i = Chain unmeteredOnly (p .streams) (streamAt (p .streams) i .from) (streamAt (p .streams) i .to)
 
--- Every two balanced flows that agree on all metered streams agree on stream i; some two differ on it.
+-- Every two balanced flows that agree on all metered streams agree on stream i.
 abbrev pub Forced : Plant → ℕ → Type 0
 Forced p i = (ys zs : List ℤ) → Agree p ys zs → amountAt ys i ≡ amountAt zs i
 
+-- Some two balanced flows that agree on all metered streams differ on stream i.
 abbrev pub Free : Plant → ℕ → Type 0
 Free p i = (ys : List ℤ) × (zs : List ℤ) × Agree p ys zs × (amountAt ys i ≡ amountAt zs i → ⊥)
 
--- Stream i of a sheet, from 0: its class, and the number beside it.
+-- The class of stream i of a sheet, from 0.
 abbrev pub classOn : SheetParts → ℕ → Class
 classOn s i = getD (s .streams) i blank .class
 
+-- The number beside stream i of a sheet, from 0; 0 where it is blank.
 abbrev pub numberOn : SheetParts → ℕ → ℤ
 numberOn s i = getD (s .streams) i blank .flow
 
@@ -58,6 +61,7 @@ abbrev pub weightsTo : Plant → SheetParts → ℕ → ℕ
 weightsTo p s zero = 0
 weightsTo p s (suc k) = pick (eqb (kindOf (classOn s k)) (kindOf Adjusted)) (streamAt (p .streams) k .weight) 0 + weightsTo p s k
 
+-- The summed weights of all A streams.
 abbrev pub adjustedWeights : Plant → SheetParts → ℕ
 adjustedWeights p s = weightsTo p s (length (p .streams))
 

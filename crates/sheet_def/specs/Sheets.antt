@@ -10,7 +10,7 @@ use Rattle.flow_def.specs.declared.Class.{Class}
 use Rattle.flow_def.specs.declared.Class.the-variants.{Adjusted, AsRead, Given, Withheld}
 use Rattle.sheet_def.specs.declared.Entry.{Entry}
 use Rattle.sheet_def.specs.declared.Total.{Total}
-use Rattle.sheet_def.specs.Apart.{totalKind}
+use Rattle.sheet_def.specs.Totals.{totalKind}
 
 -- The kinds of a stream's record: 0x11 A, adjusted; 0x12 R, as read; 0x13 G, given; 0x14 W, withheld (the blank).
 abbrev pub kindOf : Class → ℕ
@@ -19,15 +19,19 @@ kindOf AsRead = 18
 kindOf Given = 19
 kindOf Withheld = 20
 
+-- 0x11, A.
 abbrev pub adjustedKind : ℕ
 adjustedKind = kindOf Adjusted
 
+-- 0x12, R.
 abbrev pub asReadKind : ℕ
 asReadKind = kindOf AsRead
 
+-- 0x13, G.
 abbrev pub givenKind : ℕ
 givenKind = kindOf Given
 
+-- 0x14, W.
 abbrev pub withheldKind : ℕ
 withheldKind = kindOf Withheld
 

@@ -11,7 +11,7 @@ use Rattle.plant_def.specs.Plants.{Plant}
 use Rattle.plant_def.specs.Files.{got, readPlant}
 use Rattle.flow_def.specs.Flows.{Cheapest}
 use Rattle.flow_def.specs.Overfull.{Overfull}
-use Rattle.flow_def.specs.Least.{LeastInFractions, apart}
+use Rattle.flow_def.specs.Least.{LeastInFractions, distance}
 use Rattle.sheet_def.specs.declared.Sheet.{Sheet}
 use Rattle.sheet_def.specs.Sentences.{numberOn, adjustedWeights, callFault}
 use Rattle.sheet_def.specs.Sheets.{SheetParts}
@@ -19,6 +19,7 @@ use Rattle.sheet_def.specs.Kept.{someSheet, readSheet}
 use Rattle.sheet_def.specs.Counters.{officesFrom}
 use Rattle.sheet_def.specs.Says.{SheetSays}
 
+-- A plant file, its cheapest flow, and the sheet.
 pub record Example : Type 0 where
   pub file : List ℕ
   pub flow : List ℤ
@@ -32,6 +33,7 @@ Shows e =
     × Cheapest p (e .flow)
     × ((o o′ : List ℕ) (r : Sheet) → callFault 0 (officesFrom 0) o ≡ 0 → SheetSays (e .file) 0 (officesFrom 0) o o′ r → o′ ≡ over (e .sheet) o)
 
+-- The same of every example of a list.
 abbrev pub AllShow : List Example → Type 0
 AllShow [] = Unit {0}
 AllShow (e ∷ es) = Shows e × AllShow es
@@ -44,25 +46,31 @@ Refuses file ms =
     × Overfull p ms
     × ((o o′ : List ℕ) (r : Sheet) → callFault 0 (officesFrom 0) o ≡ 0 → SheetSays file 0 (officesFrom 0) o o′ r → r .number ≡ 19)
 
--- Records of a file, with a weight, a reading and a range below 256; of a sheet, with an amount below 256 and a cost of two bytes.
+-- Records of a file, with a weight, a reading and a range below 256; of a sheet, with an amount below 256 and a cost of two bytes. A site of n units:
 abbrev pub site : ℕ → List ℕ
 site n = 1 ∷ n ∷ []
 
+-- A metered stream,
 abbrev pub meter : ℕ → ℕ → ℕ → ℕ → List ℕ
 meter u v w r = 2 ∷ u ∷ v ∷ 0 ∷ w ∷ 0 ∷ 0 ∷ 0 ∷ r ∷ []
 
+-- one with a range,
 abbrev pub within : ℕ → ℕ → ℕ → ℕ → ℕ → ℕ → List ℕ
 within u v w r low high = 6 ∷ u ∷ v ∷ 0 ∷ w ∷ 0 ∷ 0 ∷ 0 ∷ r ∷ 0 ∷ 0 ∷ 0 ∷ low ∷ 0 ∷ 0 ∷ 0 ∷ high ∷ []
 
+-- an unmetered one,
 abbrev pub pipe : ℕ → ℕ → List ℕ
 pipe u v = 3 ∷ u ∷ v ∷ []
 
+-- and the end of a file.
 abbrev pub end : ℕ → List ℕ
 end c = 4 ∷ c ∷ []
 
+-- A stream's record on a sheet,
 abbrev pub shown : ℕ → ℕ → List ℕ
 shown kind x = kind ∷ 0 ∷ 0 ∷ 0 ∷ 0 ∷ 0 ∷ 0 ∷ 0 ∷ x ∷ []
 
+-- and its total, of sheet 1.
 abbrev pub total : ℕ → ℕ → ℕ → ℕ → List ℕ
 total high low degrees verdict = 30 ∷ 0 ∷ 0 ∷ 0 ∷ 0 ∷ 1 ∷ 0 ∷ 0 ∷ 0 ∷ 0 ∷ 0 ∷ 0 ∷ high ∷ low ∷ degrees ∷ verdict ∷ []
 
@@ -152,11 +160,12 @@ pub record Farthest (e : Example) (d : ℕ) (ys : List ℤ) : Type 0 where
   pub least : LeastInFractions plant d ys
   pub sheet : SheetParts
   pub read : readSheet (e .sheet) ≡ someSheet sheet
-  pub met : 4 * apart d (plant .streams) (numberOn sheet) ys ≡ d * d * adjustedWeights plant sheet
+  pub met : 4 * distance d (plant .streams) (numberOn sheet) ys ≡ d * d * adjustedWeights plant sheet
 
 -- In within 10 to 20, out within 0 to 5: the unit must take in more than it can let out.
 abbrev pub fullFile : List ℕ
 fullFile = site 1 ++ within 0 1 10 15 10 20 ++ within 1 0 10 15 0 5 ++ end 2
 
+-- The set that shows it: unit 1 alone.
 abbrev pub fullUnit : List Bool
 fullUnit = false ∷ true ∷ replicate (places - 2) false

@@ -7,7 +7,7 @@ use Prim.Native.Nat.{ℕ, _≤_}
 use native.Mathlib.Omega.{arith}
 use borrow.Author.Tests.{ltb-true, ltb-false}
 use lib.Dec.{ltb}
-use lib.ListN.{length, getD, take}
+use lib.ListN.{getD, take}
 use lib.Seq.{getD-take}
 use Rattle.num_bytes.proofs.Tests.{by-cases}
 use Rattle.plant_def.specs.declared.Plant as Arrays
@@ -24,7 +24,7 @@ use Rattle.flow_def.specs.Classes.{classOf, numberOf, degrees}
 use Rattle.flow_def.specs.Test.{verdictAt}
 use Rattle.flow_def.specs.Shown.{adjusted}
 use Rattle.flow_def.specs.Calls.{classesOf}
-use Rattle.flow_def.proofs.Lists.{values-same, values-at}
+use Rattle.num_bytes.proofs.Lists.{values-same, values-at}
 use Rattle.flow_def.proofs.Given.{number-is}
 use Rattle.flow_def.proofs.Ranges.{balanced-of}
 use Rattle.flow_def.proofs.ByLabels.{class-past}
@@ -33,7 +33,7 @@ use Rattle.solve_def.specs.declared.Solved.{Solved}
 use Rattle.solve_def.specs.Promise.{Solution}
 use Rattle.sheet_def.specs.declared.Entry.{Entry}
 use Rattle.sheet_def.specs.Balances.{entryOf, balanceOf, BalanceSays}
-use Rattle.sheet_def.specs.Apart.{topCost, capped}
+use Rattle.sheet_def.specs.Totals.{topCost, capped}
 use Rattle.sheet_def.specs.Calls.{entriesOf}
 use Rattle.sheet_def.proofs.Entries.{entry-same}
 use Rattle.sheet_cost.proofs.Rows.{take-opened}
@@ -59,6 +59,7 @@ module _ (p : Arrays.Plant) (xs : List ℤ) (a : Accepted p) (b : balanced (plan
       sym (getD-take (p .count) xs k (pos 0) l) ∙ sym (number-is (plantOf p) (within-of p a) (take (p .count) xs) b k (omega arith) n))
       (λ t. let l = ltb-false k (p .count) t in absurd (n (class-past (plantOf p) k (omega arith))))
 
+  -- Entries by the amounts of a balanced flow are entries by the streams' numbers.
   pub entries-shown : entriesOf (classesOf (plantOf p)) xs ≡ values maxStreams (λ k. entryOf (classOf (plantOf p) k) (numberOf (plantOf p) (take (p .count) xs) k))
   unfolding entriesOf
   entries-shown =
@@ -77,6 +78,7 @@ module _ (p : Arrays.Plant) (a : Accepted p) (s : Solved) (r : Solution p s) whe
   flow-cheapest : Cheapest (plantOf p) (take (p .count) xs)
   flow-cheapest = rw flow-is (r .cheapest)
 
+  -- Entries, cost, degrees and verdict together are a balance of the plant.
   pub balanced-so : (es : List Entry) (c d q v : ℕ) → es ≡ entriesOf (classesOf (plantOf p)) (map unshifted (s .flows))
       → c ≡ capped (cost (plantOf p .streams) (opened (p .count) (s .flows))) → d ≡ degrees (plantOf p) → q ≡ adjusted (plantOf p) → q ≤ topCost
       → v ≡ verdictAt d c q

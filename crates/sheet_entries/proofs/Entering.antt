@@ -22,15 +22,14 @@ use Rattle.flow_def.specs.Certificate.{weightOf}
 use Rattle.flow_def.specs.Classes.{classOf}
 use Rattle.flow_def.specs.Flows.{amountAt}
 use Rattle.flow_def.specs.Shown.{adjustedWeight}
-use Rattle.flow_def.specs.Sides.{bit}
+use Rattle.num_bytes.specs.Sums.{bit}
 use Rattle.flow_def.proofs.ByLabels.{class-past}
 use Rattle.flow_def.proofs.BySides.{in-unmetered}
-use Rattle.flow_def.proofs.Lists.{map-at, values-long, values-at, Written}
+use Rattle.num_bytes.proofs.Lists.{map-at, values-long, values-at, Written}
 use Rattle.solve_def.specs.Held.{unshifted}
 use Rattle.sheet_def.specs.declared.Entry.{Entry}
 use Rattle.sheet_def.specs.Balances.{entryOf}
-use Rattle.sheet_def.specs.Calls.{entriesOf}
-use Rattle.sheet_def.proofs.Entries.{noEntry}
+use Rattle.sheet_def.specs.Calls.{entriesOf, noEntry}
 
 -- An entry under its class and with its flow.
 pub entry-as : (c : Class) {d : Class} {x y : ℤ} → d ≡ c → x ≡ y → entryOf c x ≡ entryOf d y
@@ -45,6 +44,7 @@ module _ (p : Plant) (n : ℕ) (xs : List ℕ) (now : List Entry) (l : length (p
       (λ t. w .rest k (ltb-false k n t) ∙ getD-replicate maxStreams k (entryOf Withheld (pos 0)) noEntry h
       ∙ ap (λ (c : Class). entryOf c (amountAt (map unshifted xs) k)) (sym (class-past p k (omega (arith, ltb-false k n t)))))
 
+  -- The array so written holds the entries by the plant's classes and the amounts.
   pub entries-all : now ≡ entriesOf (classesOf p) (map unshifted xs)
   unfolding entriesOf
   entries-all =
@@ -73,6 +73,7 @@ module _ (ls : List ℕ) (s : Stream) (h looped : ℕ) where
       go true = refl
       go false = refl
 
+  -- What a class and a row's weight give of any stream with that weight, they give of the stream itself.
   pub weight-by : (c : Class) (w k : ℕ) → c ≡ classIn ls s h looped → w ≡ weightOf s → ((t : Stream) → t .weight ≡ w → k ≡ adjustedWeight c t) → k ≡ adjustedWeight c s
   weight-by c w k e q f = by-cases (s .metered)
       (λ m. f s (rw (q, m) refl))

@@ -12,7 +12,7 @@ use lib.ListN.{getD}
 use Rattle.num_bytes.specs.Choice.{pick}
 use Rattle.num_bytes.proofs.Tests.{same-test, and-left, and-right}
 use Rattle.flow_def.specs.Test.{critical, criticalAt, verdictAt}
-use Rattle.sheet_def.specs.Apart.{topCost, capped}
+use Rattle.sheet_def.specs.Totals.{topCost, capped}
 use Rattle.sheet_def.proofs.Capped.{capped-below, capped-above}
 
 -- The critical values, and they with a quarter of any weights that 8 bytes hold, are far below the cap, so the verdict is the
@@ -41,6 +41,7 @@ below-test n c v h = elim (decLe c topCost) [
 critical-low : (d : ℕ) → criticalAt d < 65536
 critical-low d = below-at 65536 critical (omega arith) refl (d - 1)
 
+-- The verdict by the cost as it is written is the verdict by the cost itself.
 pub capped-verdict : (d c q : ℕ) → q ≤ topCost → verdictAt d (capped c) q ≡ verdictAt d c q
 capped-verdict d c q h =
     let v = criticalAt d in

@@ -1,8 +1,8 @@
 // Class and flow of each stream, and the balance by a given solution; it stands below the solver.
 use flow_classes::class_of;
 use flow_classes::degrees_of;
+use flow_def::Bridges;
 use flow_def::Class;
-use flow_def::Cuts;
 use flow_test::adjusted_weight;
 use flow_test::verdict;
 use plant_def::Plant;
@@ -24,13 +24,13 @@ ghost use Rattle.plant_def.specs.declared.Plant.{Plant};
 ghost use Rattle.plant_def.specs.Limits.{maxStreams};
 ghost use Rattle.plant_def.specs.Within.{Accepted};
 ghost use Rattle.plant_def.specs.Says.{plantOf};
-ghost use Rattle.flow_def.specs.Calls.{Cutting, classesOf};
+ghost use Rattle.flow_def.specs.Calls.{Bridging, classesOf};
 ghost use Rattle.solve_def.specs.Sizes.{mostFlow};
 ghost use Rattle.solve_def.specs.Held.{unshifted};
 ghost use Rattle.solve_def.specs.SolverNeeds.{Amounts};
 ghost use Rattle.solve_def.specs.Promise.{Solution};
 ghost use Rattle.solve_arcs_fill.specs.Plants.{LaidOf};
-ghost use Rattle.sheet_def.specs.Apart.{topCost};
+ghost use Rattle.sheet_def.specs.Totals.{topCost};
 ghost use Rattle.sheet_def.specs.Balances.{entryOf, BalanceSays};
 ghost use Rattle.sheet_entries.specs.Entries.{EntersAs};
 
@@ -43,13 +43,13 @@ fn opened_flow(x: u64) -> i64
 }
 
 // The classes of all streams; past the last one, Withheld.
-pub fn classes_of(p: Plant, cuts: Cuts) -> [Class; MAX_STREAMS]
-    requires { ⌜ Accepted p × Cutting p cuts ⌝ }
+pub fn classes_of(p: Plant, bridges: Bridges) -> [Class; MAX_STREAMS]
+    requires { ⌜ Accepted p × Bridging p bridges ⌝ }
     ensures { λ r. ⌜ r ≡ classesOf (plantOf p) ⌝ }
 {
     let n = p.count as usize;
-    let labels = cuts.labels;
-    let taken = cuts.taken;
+    let labels = bridges.labels;
+    let taken = bridges.taken;
     let mut r = [Class::Withheld; MAX_STREAMS];
     let mut i: usize = 0;
     while i < n {
@@ -60,7 +60,7 @@ pub fn classes_of(p: Plant, cuts: Cuts) -> [Class; MAX_STREAMS]
             s.from as usize,
             s.to as usize,
             taken[i],
-            cuts.looped,
+            bridges.looped,
         );
         r[i] = c;
         i += 1;
@@ -99,14 +99,19 @@ pub struct Entered {
 }
 
 // The entries of all streams with the amounts that the solver holds; past the last one, where the class is Withheld, empty ones.
-fn enter(arcs: &[u8; ARCS], rows: &[u64; ROWS], cuts: Cuts, held: &[u64; MAX_STREAMS]) -> Entered
-    requires { ⌜ ((p : Plant) × LaidOf p (now arcs) (now rows) × Cutting p cuts) × Amounts (now held) × (length (now held) ≡ maxStreams) ⌝ }
-    ensures { λ r. ⌜ ((p : Plant) → LaidOf p (now (arcs .entry)) (now (rows .entry)) → Cutting p cuts
+fn enter(
+    arcs: &[u8; ARCS],
+    rows: &[u64; ROWS],
+    bridges: Bridges,
+    held: &[u64; MAX_STREAMS],
+) -> Entered
+    requires { ⌜ ((p : Plant) × LaidOf p (now arcs) (now rows) × Bridging p bridges) × Amounts (now held) × (length (now held) ≡ maxStreams) ⌝ }
+    ensures { λ r. ⌜ ((p : Plant) → LaidOf p (now (arcs .entry)) (now (rows .entry)) → Bridging p bridges
         → EntersAs p (now (held .entry)) (r .streams) (r .weights)) × (r .weights ≤ topCost) ⌝ }
 {
     let n = count_of(arcs);
-    let labels = cuts.labels;
-    let taken = cuts.taken;
+    let labels = bridges.labels;
+    let taken = bridges.taken;
     let none = blank_entry();
     let mut streams = [none; MAX_STREAMS];
     let mut weights: u64 = 0;
@@ -115,7 +120,7 @@ fn enter(arcs: &[u8; ARCS], rows: &[u64; ROWS], cuts: Cuts, held: &[u64; MAX_STR
         let w = rows[4 * i];
         let u = end_at(arcs, 2 * i);
         let v = end_at(arcs, 2 * i + 1);
-        let c = class_of(&labels, 0 < w, u, v, taken[i], cuts.looped);
+        let c = class_of(&labels, 0 < w, u, v, taken[i], bridges.looped);
         let more = adjusted_weight(c, w);
         weights += more;
         let x = opened_flow(held[i]);
@@ -134,17 +139,17 @@ pub fn balance_by(
     p: Plant,
     arcs: &[u8; ARCS],
     rows: &[u64; ROWS],
-    cuts: Cuts,
+    bridges: Bridges,
     solved: Solved,
 ) -> Balance
-    requires { ⌜ LaidOf p (now arcs) (now rows) × Cutting p cuts × Solution p solved ⌝ }
+    requires { ⌜ LaidOf p (now arcs) (now rows) × Bridging p bridges × Solution p solved ⌝ }
     ensures { λ r. ⌜ BalanceSays (plantOf p) r ⌝ }
 {
-    let labels = cuts.labels;
+    let labels = bridges.labels;
     let held = solved.flows;
     let cost = cost_held(arcs, rows, &held);
     let degrees = degrees_of(arcs, rows, p.units, labels);
-    let entered = enter(arcs, rows, cuts, &held);
+    let entered = enter(arcs, rows, bridges, &held);
     let streams = entered.streams;
     let verdict = verdict(degrees, cost, entered.weights);
     Balance {

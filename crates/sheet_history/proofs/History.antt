@@ -15,7 +15,7 @@ use Rattle.plant_def.specs.Files.{Got, bad, got, readPlant, mostRecords}
 use Rattle.plant_def.proofs.Accepted.{refused}
 use Rattle.flow_def.specs.Overfull.{unmarked}
 use Rattle.sheet_def.specs.declared.Sheet.{Sheet}
-use Rattle.sheet_def.specs.Apart.{plainKind, leastSlice}
+use Rattle.sheet_def.specs.Totals.{plainKind, leastSlice}
 use Rattle.sheet_def.specs.Sheets.{SheetParts, partsBytes}
 use Rattle.sheet_def.specs.Kept.{someSheet, WithinSheet}
 use Rattle.sheet_def.specs.Counters.{offices, topSheet, counterOf, nextOf, raised}
@@ -82,6 +82,7 @@ read-before b s a = (
   λ h. subst (λ (y : List ℕ). readBefore y ≡ someSheet s) (h .0) (read-then s (h .2) mostRecords [] (partsBytes s) (reopening .there s (h .1))),
 )
 
+-- All that is promised of any sequence of calls holds.
 pub history : History
 history = record {
   others = λ file office lasts o o′ r s k n. ⊎-elim (λ d. other-same office lasts r d k n) (λ d. ap (counterOf k) (d .same)) (step file office lasts o o′ r s);

@@ -19,7 +19,7 @@ use Rattle.plant_def.proofs.Limited.{within}
 use Rattle.plant_def.proofs.Accepted.{accepted, refused}
 use Rattle.flow_def.specs.Overfull.{unmarked}
 use Rattle.sheet_def.specs.declared.Sheet.{Sheet}
-use Rattle.sheet_def.specs.Apart.{plainKind, streamSize, plainSize}
+use Rattle.sheet_def.specs.Totals.{plainKind, streamSize, plainSize}
 use Rattle.sheet_def.specs.Counters.{topSheet, counterOf, officesFrom}
 use Rattle.sheet_def.specs.Kept.{readSheet}
 use Rattle.sheet_def.proofs.ReadAgain.{read-back}
@@ -32,7 +32,7 @@ use Rattle.sheet_history.proofs.Sequences.{read-own, numbers}
 record Drew (file : List ℕ) (last : ℕ) (o′ : List ℕ) (r : Sheet) : Type 0 where
   done : r .number ≡ 0
   after : counterOf 0 (r .lasts) ≡ suc last
-  held : suc last ≤ topSheet
+  fit : suc last ≤ topSheet
   read : ReadsPlain file last o′ r
 
 record Idle (last : ℕ) (r : Sheet) : Type 0 where
@@ -54,7 +54,7 @@ module _ (file : List ℕ) (last : ℕ) (o o′ : List ℕ) (r : Sheet) (top : l
       record {
         done = ap (λ (y : Sheet). y .number) (d .2);
         after = ap (λ (y : Sheet). counterOf 0 (y .lasts)) (d .2);
-        held = omega (arith, left);
+        fit = omega (arith, left);
         read = record {
           plant = p;
           listed = e;
@@ -81,6 +81,7 @@ module _ (file : List ℕ) (last : ℕ) (o o′ : List ℕ) (r : Sheet) (top : l
   step : PlainSays file last o o′ r → Drew file last o′ r ⊎ Idle last r
   step s = by-test (eqb (plainFault last o) 0) refl s
 
+  -- A sheet drawn before the change reads back as that of office 0, and tells of the plant what it has to.
   pub plain : PlainSays file last o o′ r → r .number ≡ 0 → ReadsPlain file last o′ r
   plain s n = ⊎-elim (λ d. d .read) (λ d. absurd (d .not-done n)) (step s)
 
@@ -117,7 +118,7 @@ count-both k (c ∷ ps) cs = let more = count-both k ps cs in by-cases (drew k c
 -- What the calls before the change come to, whatever sheets follow.
 record Came (last : ℕ) (ps : List Call) : Type 0 where
   counted : lastAfter last ps ≡ last + plainCount ps
-  held : lastAfter last ps ≤ topSheet
+  fit : lastAfter last ps ≤ topSheet
   numbered : (bs : List (List ℕ)) → numbersOf 0 (drawnSheets ps ++ bs) ≡ upFrom (suc last) (plainCount ps) ++ numbersOf 0 bs
 
 module _ (last : ℕ) (c : Call) (ps : List Call) (rest : Came (counterOf 0 (c .answer .lasts)) ps) where
@@ -129,7 +130,7 @@ module _ (last : ℕ) (c : Call) (ps : List Call) (rest : Came (counterOf 0 (c .
       let listed : drawnSheets (c ∷ ps) ≡ take (c .answer .written) (c .after) ∷ drawnSheets ps = rw done refl in
       record {
         counted = let q = rest .counted in let a = d .after in omega (arith, q, a, count);
-        held = rest .held;
+        fit = rest .fit;
         numbered = λ bs. ap (λ (l : List (List ℕ)). numbersOf 0 (l ++ bs)) listed
             ∙ read-own 0 sheet (drawnSheets ps ++ bs) (d .read .sheet) (d .read .read) (d .read .under .drawer)
             ∙ ap (λ (n : ℕ). n ∷ numbersOf 0 (drawnSheets ps ++ bs)) (d .read .under .numbered)
@@ -144,39 +145,40 @@ module _ (last : ℕ) (c : Call) (ps : List Call) (rest : Came (counterOf 0 (c .
       let listed : drawnSheets (c ∷ ps) ≡ drawnSheets ps = rw none refl in
       record {
         counted = let q = rest .counted in let a = d .same in omega (arith, q, a, count);
-        held = rest .held;
+        fit = rest .fit;
         numbered = λ bs. ap (λ (l : List (List ℕ)). numbersOf 0 (l ++ bs)) listed
             ∙ rest .numbered bs
             ∙ (λ i. upFrom (suc (d .same i)) (sym count i) ++ numbersOf 0 bs);
       }
 
 came : (last : ℕ) (ps : List Call) → last ≤ topSheet → PlainCalls last ps → Came last ps
-came last [] top s = record { counted = omega arith; held = top; numbered = λ bs. refl }
+came last [] top s = record { counted = omega arith; fit = top; numbered = λ bs. refl }
 came last (c ∷ ps) top s =
-    ⊎-elim (λ d. let a = d .after in let h = d .held in drew-more last c ps (came (counterOf 0 (c .answer .lasts)) ps (omega (arith, a, h)) (s .2)) d)
+    ⊎-elim (λ d. let a = d .after in let h = d .fit in drew-more last c ps (came (counterOf 0 (c .answer .lasts)) ps (omega (arith, a, h)) (s .2)) d)
     (λ d. let a = d .same in idle-more last c ps (came (counterOf 0 (c .answer .lasts)) ps (omega (arith, a, top)) (s .2)) d)
     (step (c .file) last (c .before) (c .after) (c .answer) top (s .1))
 
 -- The counters that the change makes.
 from-eight : (last : ℕ) → last ≤ topSheet → Eight (officesFrom last)
-from-eight last h = record { long = refl; held = held }
+from-eight last h = record { long = refl; fit = fit }
   where
-    held : (k : ℕ) → counterOf k (officesFrom last) ≤ topSheet
-    held zero = h
-    held (suc zero) = omega arith
-    held (suc (suc zero)) = omega arith
-    held (suc (suc (suc zero))) = omega arith
-    held (suc (suc (suc (suc zero)))) = omega arith
-    held (suc (suc (suc (suc (suc zero))))) = omega arith
-    held (suc (suc (suc (suc (suc (suc zero)))))) = omega arith
-    held (suc (suc (suc (suc (suc (suc (suc zero))))))) = omega arith
-    held (suc (suc (suc (suc (suc (suc (suc (suc k)))))))) = omega arith
+    fit : (k : ℕ) → counterOf k (officesFrom last) ≤ topSheet
+    fit zero = h
+    fit (suc zero) = omega arith
+    fit (suc (suc zero)) = omega arith
+    fit (suc (suc (suc zero))) = omega arith
+    fit (suc (suc (suc (suc zero)))) = omega arith
+    fit (suc (suc (suc (suc (suc zero))))) = omega arith
+    fit (suc (suc (suc (suc (suc (suc zero)))))) = omega arith
+    fit (suc (suc (suc (suc (suc (suc (suc zero))))))) = omega arith
+    fit (suc (suc (suc (suc (suc (suc (suc (suc k)))))))) = omega arith
 
 abbrev passed : ℕ → List Call → ℕ
 passed first ps = counterOf 0 (countersAfter (first ∷ []) ps)
 
+-- The counters at the change are eight, each of 32 bits.
 pub change : (first : ℕ) (ps : List Call) → first ≤ topSheet → PlainCalls first ps → Eight (officesFrom (passed first ps))
-change first ps top s = from-eight (passed first ps) (let h = came first ps top s .held in let e = last-is (first ∷ []) ps in omega arith)
+change first ps top s = from-eight (passed first ps) (let h = came first ps top s .fit in let e = last-is (first ∷ []) ps in omega arith)
 
 up-more : (n i j : ℕ) → upFrom n i ++ upFrom (n + i) j ≡ upFrom n (i + j)
 up-more n zero j = let e : n + 0 ≡ n = omega arith in let f : j ≡ 0 + j = omega arith in λ i. upFrom (e i) (f i)
@@ -185,6 +187,7 @@ up-more n (suc i) j =
     let f : suc (i + j) ≡ suc i + j = omega arith in
     ap (λ (l : List ℕ). n ∷ l) (ap (λ (m : ℕ). upFrom (suc n) i ++ upFrom m j) e ∙ up-more (suc n) i j) ∙ ap (upFrom n) f
 
+-- The numbers of office 0's sheets, before the change and after it, are consecutive.
 pub follow : (first : ℕ) (ps cs : List Call) → first ≤ topSheet → PlainCalls first ps → Calls (officesFrom (passed first ps)) cs
     → numbersOf 0 (drawnSheets (ps ++ cs)) ≡ upFrom (suc first) (drawnCount 0 (ps ++ cs))
 follow first ps cs top s t =

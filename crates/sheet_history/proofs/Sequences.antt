@@ -20,6 +20,7 @@ use Rattle.sheet_def.proofs.Demands.{drawn-kept}
 use Rattle.sheet_history.specs.History.{Call, Calls, countersAfter, drawnCount, drawnSheets, numberRead, numbersOf, upFrom, Eight}
 use Rattle.sheet_history.proofs.Steps.{Drew, Idle, step, own-raised, other-same, step-eight}
 
+-- The counters stay eight, each of 32 bits.
 pub kept : (lasts : List ℕ) (cs : List Call) → Eight lasts → Calls lasts cs → Eight (countersAfter lasts cs)
 kept lasts [] w s = w
 kept lasts (c ∷ cs) w s = kept (c .answer .lasts) cs (step-eight (c .file) (c .office) lasts (c .before) (c .after) (c .answer) (s .0) w) (s .1)
@@ -54,6 +55,7 @@ module _ (lasts : List ℕ) (c : Call) (cs : List Call) (w : Eight lasts) (s : S
   next-more : nextOf k (countersAfter lasts (c ∷ cs)) ≡ nextOf k lasts + drawnCount k (c ∷ cs)
   next-more = ⊎-elim drawn idle (step (c .file) (c .office) lasts (c .before) (c .after) (c .answer) s)
 
+-- An office's next number is raised by as many sheets as it drew.
 pub next : (lasts : List ℕ) (cs : List Call) → Eight lasts → Calls lasts cs → (k : ℕ)
     → nextOf k (countersAfter lasts cs) ≡ nextOf k lasts + drawnCount k cs
 next lasts [] w s k = omega arith
@@ -62,12 +64,14 @@ next lasts (c ∷ cs) w s k =
 
 -- A sheet that is read, of this office and of another.
 module _ (k : ℕ) (b : List ℕ) (bs : List (List ℕ)) (s : SheetParts) (e : readSheet b ≡ someSheet s) where
+  -- Of this office: its number comes first.
   pub read-own : s .total .office ≡ k → numbersOf k (b ∷ bs) ≡ s .total .sheet ∷ numbersOf k bs
   read-own h = ap (λ (l : List ℕ). l ++ numbersOf k bs) (ap (numberRead k) e ∙ one)
     where
       one : numberRead k (someSheet s) ≡ s .total .sheet ∷ []
       one = rw (eq-eqb (s .total .office) k h) refl
 
+  -- Of another: nothing is added.
   pub read-other : (s .total .office ≡ k → ⊥) → numbersOf k (b ∷ bs) ≡ numbersOf k bs
   read-other h = ap (λ (l : List ℕ). l ++ numbersOf k bs) (ap (numberRead k) e ∙ none)
     where
@@ -80,7 +84,7 @@ module _ (lasts : List ℕ) (c : Call) (cs : List Call) (w : Eight lasts) (s : S
   drawn-numbers d =
       let done : eqb (c .answer .number) 0 ≡ true = eq-eqb (c .answer .number) 0 (d .done) in
       let back : ReadsBack (c .file) (c .office) lasts (c .after) (c .answer) =
-      drawn-kept (c .file) (c .office) lasts (c .before) (c .after) (c .answer) (w .held (c .office)) s (d .done) in
+      drawn-kept (c .file) (c .office) lasts (c .before) (c .after) (c .answer) (w .fit (c .office)) s (d .done) in
       let parts : SheetParts = plantParts (c .office) (back .plant) (back .flow) (nextOf (c .office) lasts) in
       let listed : numbersOf k (drawnSheets (c ∷ cs)) ≡ numbersOf k (take (c .answer .written) (c .after) ∷ drawnSheets cs) = rw done refl in
       by-cases (eqb (c .office) k)
@@ -106,6 +110,7 @@ module _ (lasts : List ℕ) (c : Call) (cs : List Call) (w : Eight lasts) (s : S
   numbers-more : numbersOf k (drawnSheets (c ∷ cs)) ≡ upFrom (nextOf k lasts) (drawnCount k (c ∷ cs))
   numbers-more = ⊎-elim drawn-numbers idle-numbers (step (c .file) (c .office) lasts (c .before) (c .after) (c .answer) s)
 
+-- The numbers of an office's sheets are consecutive.
 pub numbers : (lasts : List ℕ) (cs : List Call) → Eight lasts → Calls lasts cs → (k : ℕ)
     → numbersOf k (drawnSheets cs) ≡ upFrom (nextOf k lasts) (drawnCount k cs)
 numbers lasts [] w s k = refl

@@ -47,6 +47,7 @@ module _ (file : List ℕ) (office : ℕ) (lasts o o′ : List ℕ) (r : Sheet) 
     same = ap (λ (y : Sheet). y .lasts) (m .2 .0);
   })
 
+  -- A sheet is drawn, or the counters stay.
   pub step : Drew office lasts r ⊎ Idle lasts r
   step = by-cases (eqb (callFault office lasts o) 0)
       (λ t. let z = eqb-true (callFault office lasts o) 0 t in by-file z (readPlant file) refl (call-taken file office lasts o o′ r s z))
@@ -54,21 +55,25 @@ module _ (file : List ℕ) (office : ℕ) (lasts o o′ : List ℕ) (r : Sheet) 
 
 -- What a sheet that is drawn makes of the counters.
 module _ (office : ℕ) (lasts : List ℕ) (r : Sheet) (d : Drew office lasts r) where
+  -- The office's own is one more,
   pub own-raised : length lasts ≡ offices → counterOf office (r .lasts) ≡ suc (counterOf office lasts)
   own-raised l = let k = d .known in ap (counterOf office) (d .after) ∙ getD-set-same lasts office (nextOf office lasts) 0 (omega arith)
 
+  -- any other is the same,
   pub other-same : (k : ℕ) → (k ≡ office → ⊥) → counterOf k (r .lasts) ≡ counterOf k lasts
   other-same k n = ap (counterOf k) (d .after) ∙ getD-set-other lasts office k (nextOf office lasts) 0 n
 
+  -- and they are eight, as before.
   pub drew-eight : Eight lasts → Eight (r .lasts)
   drew-eight w = record {
     long = ap length (d .after) ∙ length-set lasts office (nextOf office lasts) ∙ w .long;
-    held = λ k. by-cases (eqb k office)
+    fit = λ k. by-cases (eqb k office)
         (λ t. let e = eqb-true k office t in let n = d .left in
-        subst (λ (j : ℕ). counterOf j (r .lasts) ≤ topSheet) (sym e) (omega (arith, own-raised (w .long), w .held office, n)))
-        (λ t. omega (arith, other-same k (eqb-false k office t), w .held k));
+        subst (λ (j : ℕ). counterOf j (r .lasts) ≤ topSheet) (sym e) (omega (arith, own-raised (w .long), w .fit office, n)))
+        (λ t. omega (arith, other-same k (eqb-false k office t), w .fit k));
   }
 
+-- Where no sheet is drawn, the counters are eight, as before.
 pub idle-eight : (lasts : List ℕ) (r : Sheet) → Idle lasts r → Eight lasts → Eight (r .lasts)
 idle-eight lasts r d w = subst Eight (sym (d .same)) w
 

@@ -15,7 +15,7 @@ use Rattle.sheet_def.specs.declared.Sheet.{Sheet}
 use Rattle.sheet_def.specs.Counters.{offices, topSheet, counterOf, nextOf, officesFrom}
 use Rattle.sheet_def.specs.Says.{SheetSays}
 use Rattle.sheet_def.specs.Kept.{Reopened, noSheet, someSheet, readSheet, WithinSheet}
-use Rattle.sheet_def.specs.Apart.{plainKind}
+use Rattle.sheet_def.specs.Totals.{plainKind}
 use Rattle.sheet_def.specs.Sheets.{SheetParts, partsBytes}
 use Rattle.sheet_def.specs.Sentences.{Tells, Under}
 use Rattle.sheet_history.specs.Before.{PlainSays, readBefore}
@@ -28,11 +28,12 @@ pub record Call : Type 0 where
   pub after : List ℕ
   pub answer : Sheet
 
--- Calls one after the other, each handed the counters that the one before it gave back; the counters after them.
+-- Calls one after the other, each handed the counters that the one before it gave back.
 abbrev pub Calls : List ℕ → List Call → Type 0
 Calls lasts [] = Unit {0}
 Calls lasts (c ∷ cs) = SheetSays (c .file) (c .office) lasts (c .before) (c .after) (c .answer) × Calls (c .answer .lasts) cs
 
+-- The counters after the last of them.
 abbrev pub countersAfter : List ℕ → List Call → List ℕ
 countersAfter lasts [] = lasts
 countersAfter lasts (c ∷ cs) = countersAfter (c .answer .lasts) cs
@@ -42,23 +43,26 @@ abbrev pub PlainCalls : ℕ → List Call → Type 0
 PlainCalls last [] = Unit {0}
 PlainCalls last (c ∷ cs) = (c .office ≡ 0) × PlainSays (c .file) last (c .before) (c .after) (c .answer) × PlainCalls (counterOf 0 (c .answer .lasts)) cs
 
--- How many sheets of office k they drew; the sheets of all offices, in their order.
+-- A call drew a sheet, and for office k.
 abbrev pub drew : ℕ → Call → Bool
 drew k c = eqb (c .answer .number) 0 && eqb (c .office) k
 
+-- How many sheets of office k the calls drew.
 abbrev pub drawnCount : ℕ → List Call → ℕ
 drawnCount k [] = 0
 drawnCount k (c ∷ cs) = pick (drew k c) (suc (drawnCount k cs)) (drawnCount k cs)
 
+-- The sheets that the calls drew, of all offices, in their order.
 abbrev pub drawnSheets : List Call → List (List ℕ)
 drawnSheets [] = []
 drawnSheets (c ∷ cs) = pick (eqb (c .answer .number) 0) (take (c .answer .written) (c .after) ∷ drawnSheets cs) (drawnSheets cs)
 
--- The numbers of office k's sheets among kept sheets, in their order, as the sheet reader has them.
+-- The number of a sheet that was read, where it is of office k; else none.
 abbrev pub numberRead : ℕ → Reopened → List ℕ
 numberRead k (noSheet f) = []
 numberRead k (someSheet s) = pick (eqb (s .total .office) k) (s .total .sheet ∷ []) []
 
+-- The numbers of office k's sheets among kept sheets, in their order, as the sheet reader has them.
 abbrev pub numbersOf : ℕ → List (List ℕ) → List ℕ
 numbersOf k [] = []
 numbersOf k (b ∷ bs) = numberRead k (readSheet b) ++ numbersOf k bs
@@ -71,7 +75,7 @@ upFrom n (suc j) = n ∷ upFrom (suc n) j
 -- The counters that a call may be handed: eight, of 32 bits.
 pub record Eight (lasts : List ℕ) : Type 0 where
   pub long : length lasts ≡ offices
-  pub held : (k : ℕ) → counterOf k lasts ≤ topSheet
+  pub fit : (k : ℕ) → counterOf k lasts ≤ topSheet
 
 -- A call before the change that drew a sheet: it reads back with its kind, as that of office 0, and tells of the plant what a sheet has to.
 pub record ReadsPlain (file : List ℕ) (last : ℕ) (o′ : List ℕ) (r : Sheet) : Type 0 where
@@ -82,6 +86,7 @@ pub record ReadsPlain (file : List ℕ) (last : ℕ) (o′ : List ℕ) (r : Shee
   pub tells : Tells plant sheet
   pub under : Under plainKind 0 (suc last) sheet
 
+-- What is promised of any sequence of calls.
 pub record History : Type 0 where
   -- No call alters another office's number, nor does what it returns and leaves behind depend on one: its refusal, the bytes written
   -- and the slice go by the calling office's number alone.

@@ -17,17 +17,20 @@ use Rattle.sheet_def.specs.Kept.{Reopened, noSheet, someSheet, readSheet}
 abbrev pub readLent : List ℕ → ℕ → ℕ → Reopened
 readLent bytes k f = pick (ltb k maxStreams || ltb f maxStreams) (noSheet 1) (readSheet bytes)
 
+-- The kinds of entries,
 abbrev pub kindsOf : List Entry → List ℕ
 kindsOf = map (λ e. kindOf (e .class))
 
+-- and their flows.
 abbrev pub flowsOf : List Entry → List ℤ
 flowsOf = map (λ e. e .flow)
 
--- What a reading hands over: its number, 0 where it is no refusal, and the sheet's parts, zeros and no streams after a refusal.
+-- What a reading hands over: its number, 0 where it is no refusal.
 abbrev pub numberOf : Reopened → ℕ
 numberOf (noSheet f) = f
 numberOf (someSheet s) = 0
 
+-- The sheet's parts; zeros and no streams after a refusal.
 abbrev pub partsOf : Reopened → SheetParts
 partsOf (noSheet f) = record { streams = []; total = record { kind = 0; office = 0; sheet = 0; cost = 0; degrees = 0; verdict = 0 } }
 partsOf (someSheet s) = s

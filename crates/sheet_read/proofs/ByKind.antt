@@ -9,7 +9,7 @@ use Rattle.num_bytes.specs.Choice.{pick}
 use Rattle.flow_def.specs.declared.Class.the-variants.{Adjusted, AsRead, Given}
 use Rattle.sheet_def.specs.declared.SheetRecord.{SheetRecord}
 use Rattle.sheet_def.specs.declared.SheetRecord.the-variants.{Refused}
-use Rattle.sheet_def.specs.Apart.{totalKind, plainKind, streamSize, totalSize, plainSize}
+use Rattle.sheet_def.specs.Totals.{totalKind, plainKind, streamSize, totalSize, plainSize}
 use Rattle.sheet_def.specs.Sheets.{adjustedKind, asReadKind, givenKind, withheldKind}
 use Rattle.sheet_def.specs.Kept.{shownIn, blank, streamRecord, totalIn, plainIn, totalRecord, recordAt}
 

@@ -24,7 +24,7 @@ use Rattle.sheet_def.proofs.Records.{ListedAs, Meaning, record-means}
 -- c entries held in es, and the place `at`: what stands from there on decides the whole.
 pub record Reading (bytes : List ℕ) (es : List Entry) (c at : ℕ) : Type 0 where
   pub done : List Entry
-  pub held : es ≡ filled blank maxStreams done
+  pub array : es ≡ filled blank maxStreams done
   pub counted : c ≡ length done
   pub few : length done ≤ maxStreams
   pub within : at ≤ length bytes
@@ -35,7 +35,7 @@ pub begin : (bytes : List ℕ) (e : Entry) → e ≡ blank → Reading bytes (re
 begin bytes e z =
     record {
       done = [];
-      held = ap (replicate maxStreams) z ∙ filled-none blank maxStreams;
+      array = ap (replicate maxStreams) z ∙ filled-none blank maxStreams;
       counted = refl;
       few = omega arith;
       within = omega arith;
@@ -72,7 +72,7 @@ module _ {bytes : List ℕ} {es : List Entry} {c at : ℕ} (r : Reading bytes es
         let fuel : maxStreams - c ≡ mostRecords - (c + 1) = omega arith in
         record {
           done = r .done ++ (x ∷ []);
-          held = ap (λ (t : List Entry). set t c x) (r .held) ∙ ap (λ (j : ℕ). set (filled blank maxStreams (r .done)) j x) k
+          array = ap (λ (t : List Entry). set t c x) (r .array) ∙ ap (λ (j : ℕ). set (filled blank maxStreams (r .done)) j x) k
               ∙ filled-more blank maxStreams (r .done) x (omega arith);
           counted = omega (arith, length-append (r .done) (x ∷ []));
           few = omega (arith, length-append (r .done) (x ∷ []));
@@ -83,7 +83,7 @@ module _ {bytes : List ℕ} {es : List Entry} {c at : ℕ} (r : Reading bytes es
 
   -- The total ends the reading, with the sheet.
   pub ended-here : {t : Total} → Ended t ≡ recordAt c (partFrom at bytes) → ReadSays bytes (record { number = 0; count = c; streams = es; total = t })
-  ended-here {t} e = (λ i. record { number = 0; count = r .counted i; streams = r .held i; total = t }) ∙ ap readOf (sym (next e))
+  ended-here {t} e = (λ i. record { number = 0; count = r .counted i; streams = r .array i; total = t }) ∙ ap readOf (sym (next e))
 
   -- Neither an entry nor a total: the refusal.
   pub refused-here : (h : SheetRecord) → h ≡ recordAt c (partFrom at bytes)

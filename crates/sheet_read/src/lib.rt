@@ -27,7 +27,7 @@ ghost use Rattle.plant_def.specs.Limits.{maxStreams};
 ghost use Rattle.sheet_def.specs.Kept.{blank, verdictFits, totalFault, afterFault, shownIn, streamRecord, bodyIn, totalIn};
 ghost use Rattle.sheet_def.specs.Kept.{plainIn, totalRecord, recordAt, recordNumber, noSheet, readOf, ReadSays};
 ghost use Prim.Native.Nat.{_≤_};
-ghost use Rattle.sheet_def.specs.Apart.{streamSize, bodySize, totalSize, plainSize};
+ghost use Rattle.sheet_def.specs.Totals.{streamSize, bodySize, totalSize, plainSize};
 ghost use Rattle.sheet_def.specs.Sheets.{kindOf};
 
 // A stream record of so many bytes, after so many streams: there is no room for it, or it is cut.

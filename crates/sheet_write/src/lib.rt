@@ -27,7 +27,7 @@ ghost use Rattle.num_bytes.specs.Bytes.{putBe, raw, over};
 ghost use Rattle.num_bytes.specs.Inner.{Put};
 ghost use Rattle.plant_def.specs.Limits.{maxStreams};
 ghost use Rattle.sheet_def.specs.Sheets.{recordOf, recordsOf, totalOf};
-ghost use Rattle.sheet_def.specs.Apart.{totalKind, streamSize, totalSize, leastSlice};
+ghost use Rattle.sheet_def.specs.Totals.{totalKind, streamSize, totalSize, leastSlice};
 ghost use Rattle.sheet_def.specs.Drawings.{sheetBytes};
 ghost use lib.Dec.{eqb, leb};
 ghost use Rattle.num_bytes.specs.Choice.{refuseIf};

@@ -7,7 +7,7 @@ use native.Mathlib.Nat.{div-add-mod', mod-lt}
 use native.Mathlib.Omega.{arith}
 use lib.Dec.{eqb}
 use lib.ListN.{getD}
-use Rattle.flow_def.proofs.Lists.{values-at}
+use Rattle.num_bytes.proofs.Lists.{values-at}
 use Rattle.solve_arcs.specs.Cells.{toCell, arcOf, countOf, startsOf, endsOf}
 use Rattle.solve_arcs.specs.Margins.{reducedCost, reducedCosts, leaves, reaches}
 
@@ -36,7 +36,7 @@ reach-is ls k true l = sym (ends-at ls k l)
 reach-is ls k false l = let e : 2 * k + 0 ≡ 2 * k = omega arith in rw e (sym (starts-at ls k l))
 
 -- Its reduced cost.
-pub slack-is : (ls ms ps : List ℕ) (f : Bool) (k : ℕ) → k < countOf ls
+pub reduced-is : (ls ms ps : List ℕ) (f : Bool) (k : ℕ) → k < countOf ls
     → getD (reducedCosts ls ms ps f) k 0 ≡ reducedCost (getD ms (arcOf k f) 0) (getD ps (leaves ls f k) 0) (getD ps (reaches ls f k) 0)
 unfolding reducedCosts
-slack-is ls ms ps f k l = values-at (λ k. reducedCost (getD ms (arcOf k f) 0) (getD ps (leaves ls f k) 0) (getD ps (reaches ls f k) 0)) 0 (countOf ls) k l
+reduced-is ls ms ps f k l = values-at (λ k. reducedCost (getD ms (arcOf k f) 0) (getD ps (leaves ls f k) 0) (getD ps (reaches ls f k) 0)) 0 (countOf ls) k l

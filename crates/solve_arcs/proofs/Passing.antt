@@ -16,7 +16,7 @@ use Rattle.solve_def.proofs.Listing.{touches, last-good, arc-is, arc-less, rela
 use Rattle.solve_arcs.specs.Cells.{toCell, nextCell, arcOf, countOf, startsOf, endsOf}
 use Rattle.solve_arcs.specs.Margins.{shut, reducedCost, reducedCosts, leaves, reaches}
 use Rattle.solve_arcs.specs.ArcNeeds.{Linked}
-use Rattle.solve_arcs.proofs.Along.{arc-parts, reach-is, slack-is}
+use Rattle.solve_arcs.proofs.Along.{arc-parts, reach-is, reduced-is}
 
 halves : (l i d : ℕ) → l ≡ 2 * i + d → d ≤ 1 → (l / 2 ≡ i) × (l % 2 ≡ d)
 halves l i d h b =
@@ -98,7 +98,7 @@ module _ (ls : List ℕ) (w : Linked ls) (e m l : ℕ) (few : m ≤ countOf ls) 
           ap (λ (v : ℕ). reducedCost (getD ms l 0) (getD ps e 0) (getD ps v 0)) head
           ∙ ap (λ (c : ℕ). reducedCost (getD ms c 0) (getD ps e 0) (getD ps (reaches ls f i) 0)) (arc-parts l)
           ∙ ap (λ (u : ℕ). reducedCost (getD ms (arcOf i f) 0) (getD ps u 0) (getD ps (reaches ls f i) 0)) (sym tail)
-          ∙ sym (slack-is ls ms ps f i low)
+          ∙ sym (reduced-is ls ms ps f i low)
 
       turned : (b : Bool) (x y : ℕ) → pick b y x ≡ pick (not b) x y
       turned true x y = refl
@@ -120,6 +120,6 @@ unfolding relaxedAlong
 along-visited vs k v g i near h = rw h
 
 -- An offer to a place that is not visited.
-pub along-open : (vs : List Bool) (k v g i : ℕ) (near : List ℕ) → getD vs v false ≡ false → lessened near v (codeOf (k + g) i) ≡ relaxedAlong vs k v g i near
+pub along-unvisited : (vs : List Bool) (k v g i : ℕ) (near : List ℕ) → getD vs v false ≡ false → lessened near v (codeOf (k + g) i) ≡ relaxedAlong vs k v g i near
 unfolding relaxedAlong
-along-open vs k v g i near h = rw h
+along-unvisited vs k v g i near h = rw h

@@ -10,7 +10,7 @@ use lib.Dec.{ltb}
 use lib.ListN.{length, getD, set, length-set}
 use lib.Seq.{getD-set-same, getD-set-other}
 use Rattle.num_bytes.specs.Choice.{pick}
-use Rattle.num_bytes.proofs.Tests.{clash}
+use Rattle.num_bytes.proofs.Tests.{clash, and-none, pick-same}
 use Rattle.plant_def.specs.Limits.{maxStreams}
 use Rattle.solve_arcs.specs.Cells.{arcOf, marginCells}
 use Rattle.solve_arcs.specs.Margins.{marginAt, shut, spared}
@@ -39,11 +39,7 @@ module _ (i a b : ℕ) (ms : List ℕ) (low : i < maxStreams) (long : length ms 
 
 -- None is left alone before number 0; and one more before the next number.
 pub spare-none : (rs : List ℕ) (k : ℕ) → spared rs 0 k ≡ false
-spare-none rs k = rw (le-ltb k 0 (omega arith)) (go (ltb 0 (getD rs (4 * k) 0)))
-  where
-    go : (b : Bool) → b && false ≡ false
-    go true = refl
-    go false = refl
+spare-none rs k = rw (le-ltb k 0 (omega arith)) (and-none (ltb 0 (getD rs (4 * k) 0)))
 
 spare-other : (rs : List ℕ) (i k : ℕ) → (k ≡ i → ⊥) → spared rs (i + 1) k ≡ spared rs i k
 spare-other rs i k q = ap (λ (b : Bool). ltb 0 (getD rs (4 * k) 0) && b) (elim (decLe k i) [
@@ -67,13 +63,9 @@ module _ (rs : List ℕ) (d i : ℕ) (ms : List ℕ) (low : i < maxStreams) wher
   own x true = refl
   own x false = refl
 
-  both : (f : Bool) (x : ℕ) → pick f x x ≡ x
-  both true x = refl
-  both false x = refl
-
   -- No stream has its margins yet.
   pub margined-none : (xs : List ℕ) → length ms ≡ marginCells → Margined 0 rs xs d 0 ms
-  margined-none xs h = record { long = h; are = λ k f l. absurd (omega arith); closed = λ k f l. absurd (omega arith) }
+  margined-none xs h = record { long = h; are = λ k f l. absurd (omega arith); alone = λ k f l. absurd (omega arith) }
 
   -- One stream more has them.
   pub margined-more : (xs : List ℕ) → Margined i rs xs d 0 ms
@@ -84,7 +76,7 @@ module _ (rs : List ℕ) (d i : ℕ) (ms : List ℕ) (low : i < maxStreams) wher
       | yes q ↦ rw q (put-own i _ _ ms low (m .long) f ∙ own (getD xs i 0) f)
       | no q ↦ put-other i _ _ ms low (m .long) k f q ∙ m .are k f (omega arith) o
     ];
-    closed = λ k f l o. clash _ o (spare-none rs k);
+    alone = λ k f l o. clash _ o (spare-none rs k);
   }
 
   -- One amount moves, and its margins with it.
@@ -96,9 +88,9 @@ module _ (rs : List ℕ) (d i : ℕ) (ms : List ℕ) (low : i < maxStreams) wher
       | yes q ↦ rw (q, getD-set-same xs i x 0 l) (put-own i _ _ ms low (m .long) f ∙ own x f)
       | no q ↦ rw (getD-set-other xs i k x 0 q) (put-other i _ _ ms low (m .long) k f q ∙ m .are k f b o)
     ];
-    closed = λ k f b o. elim (ℕ-discrete k i) [
+    alone = λ k f b o. elim (ℕ-discrete k i) [
       | yes q ↦ clash _ o (rw q free)
-      | no q ↦ put-other i _ _ ms low (m .long) k f q ∙ m .closed k f b o
+      | no q ↦ put-other i _ _ ms low (m .long) k f q ∙ m .alone k f b o
     ];
   }
 
@@ -110,7 +102,7 @@ module _ (rs : List ℕ) (d i : ℕ) (ms : List ℕ) (low : i < maxStreams) wher
       | yes q ↦ clash _ (rw q on) o
       | no q ↦ rw (getD-set-other xs i k x 0 q) (m .are k f b o)
     ];
-    closed = m .closed;
+    alone = m .alone;
   }
 
   -- A metered stream is left alone.
@@ -121,9 +113,9 @@ module _ (rs : List ℕ) (d i : ℕ) (ms : List ℕ) (low : i < maxStreams) wher
       | yes q ↦ clash _ (rw q (spare-own rs i l)) o
       | no q ↦ put-other i _ _ ms low (m .long) k f q ∙ m .are k f b (sym (spare-other rs i k q) ∙ o)
     ];
-    closed = λ k f b o. elim (ℕ-discrete k i) [
-      | yes q ↦ rw q (put-own i _ _ ms low (m .long) f ∙ both f shut)
-      | no q ↦ put-other i _ _ ms low (m .long) k f q ∙ m .closed k f b (sym (spare-other rs i k q) ∙ o)
+    alone = λ k f b o. elim (ℕ-discrete k i) [
+      | yes q ↦ rw q (put-own i _ _ ms low (m .long) f ∙ pick-same f shut)
+      | no q ↦ put-other i _ _ ms low (m .long) k f q ∙ m .alone k f b (sym (spare-other rs i k q) ∙ o)
     ];
   }
 
@@ -132,7 +124,7 @@ module _ (rs : List ℕ) (d i : ℕ) (ms : List ℕ) (low : i < maxStreams) wher
   margined-free n xs l m = record {
     long = m .long;
     are = λ k f b o. m .are k f b (sym (same k) ∙ o);
-    closed = λ k f b o. m .closed k f b (sym (same k) ∙ o);
+    alone = λ k f b o. m .alone k f b (sym (same k) ∙ o);
   }
     where
       same : (k : ℕ) → spared rs (i + 1) k ≡ spared rs i k

@@ -71,7 +71,7 @@ Marginable n rs xs d ms =
 pub record Margined (n : ℕ) (rs xs : List ℕ) (d skip : ℕ) (ms : List ℕ) : Type 0 where
   pub long : length ms ≡ marginCells
   pub are : (k : ℕ) (f : Bool) → k < n → spared rs skip k ≡ false → getD ms (arcOf k f) 0 ≡ marginAt rs f k (getD xs k 0) d
-  pub closed : (k : ℕ) (f : Bool) → k < n → spared rs skip k ≡ true → getD ms (arcOf k f) 0 ≡ shut
+  pub alone : (k : ℕ) (f : Bool) → k < n → spared rs skip k ≡ true → getD ms (arcOf k f) 0 ≡ shut
 
 -- None of the first len remembered streams is left alone.
 abbrev pub Free : List ℕ → ℕ → List ℕ → ℕ → Type 0

@@ -10,15 +10,19 @@ use Rattle.num_bytes.specs.Choice.{pick}
 use Rattle.num_bytes.specs.Inner.{values}
 use Rattle.plant_def.specs.Limits.{places, maxStreams}
 
+-- Where the places begin that arcs lead to,
 abbrev pub toCell : ℕ
 toCell = places
 
+-- where the next arcs from their starts begin,
 abbrev pub nextCell : ℕ
 nextCell = places + 2 * maxStreams
 
+-- and where the number of streams stands.
 abbrev pub countCell : ℕ
 countCell = places + 4 * maxStreams
 
+-- How many bytes the arcs take in all.
 abbrev pub arcCells : ℕ
 arcCells = countCell + 1
 
@@ -26,18 +30,22 @@ arcCells = countCell + 1
 abbrev pub arcOf : ℕ → Bool → ℕ
 arcOf k f = 2 * k + pick f 1 0
 
+-- How many streams are in use.
 abbrev pub countOf : List ℕ → ℕ
 countOf ls = getD ls countCell 0
 
--- Where the streams in use start, and where they end: where their arcs lead backwards, and forwards.
+-- Where the streams in use start: where their arcs lead backwards.
 unfoldable pub startsOf : List ℕ → List ℕ
 startsOf ls = values (countOf ls) (λ k. getD ls (toCell + 2 * k) 0)
 
+-- Where the streams in use end: where their arcs lead forwards.
 unfoldable pub endsOf : List ℕ → List ℕ
 endsOf ls = values (countOf ls) (λ k. getD ls (toCell + (2 * k + 1)) 0)
 
+-- How many numbers the rows take,
 abbrev pub rowCells : ℕ
 rowCells = 4 * maxStreams
 
+-- and how many the margins take.
 abbrev pub marginCells : ℕ
 marginCells = 2 * maxStreams

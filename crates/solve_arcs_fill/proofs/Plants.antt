@@ -26,6 +26,7 @@ module _ {p : Plant} {ls rs : List ℕ} (w : LaidOf p ls rs) where
   abbrev laying : Laying ls rs
   laying = record { streams = p .streams; n = p .count; network = network-of p (w .accepted); laid = w .laid }
 
+  -- The arcs are of all streams of the plant.
   pub counted : countOf ls ≡ p .count
   counted = w .laid .along .counted
 
@@ -34,24 +35,31 @@ module _ {p : Plant} {ls rs : List ℕ} (w : LaidOf p ls rs) where
     used : i < countOf ls
     used = rw counted l
 
+    -- A stream in use is among those that there may be.
     pub few : i < maxStreams
     few = omega (arith, l, w .accepted .within .few-streams)
 
+    -- Its arc backwards leads to its start,
     pub from-at : getD ls (toCell + 2 * i) 0 ≡ getD (p .streams) i noStream .from
     from-at = from-is ls rs laying i used
 
+    -- and its arc forwards to its end;
     pub to-at : getD ls (toCell + (2 * i + 1)) 0 ≡ getD (p .streams) i noStream .to
     to-at = to-is ls rs laying i used
 
+    -- its start is a place,
     pub from-low : getD ls (toCell + 2 * i) 0 < places
     from-low = start-in ls rs laying i used
 
+    -- and so is its end.
     pub to-low : getD ls (toCell + (2 * i + 1)) 0 < places
     to-low = end-in ls rs laying i used
 
+    -- Its row has its weight,
     pub weight-at : getD rs (4 * i) 0 ≡ weightOf (getD (p .streams) i noStream)
     weight-at = w .laid .rowed .weights i l
 
+    -- and twice its weight times its reading.
     pub pull-at : getD rs (4 * i + 1) 0 ≡ 2 * (weightOf (getD (p .streams) i noStream) * readingOf (getD (p .streams) i noStream))
     pull-at = w .laid .rowed .pulls i l
 

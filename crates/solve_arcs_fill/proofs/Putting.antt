@@ -13,7 +13,7 @@ use Rattle.num_bytes.specs.Choice.{pick}
 use Rattle.plant_def.specs.declared.Stream.{Stream}
 use Rattle.plant_def.specs.Limits.{places, maxStreams}
 use Rattle.plant_def.specs.Plants.{noStream}
-use Rattle.flow_def.proofs.Lists.{values-at, values-same}
+use Rattle.num_bytes.proofs.Lists.{values-at, values-same}
 use Rattle.flow_def.specs.Certificate.{weightOf}
 use Rattle.solve_def.specs.Sizes.{mostPull}
 use Rattle.solve_def.specs.Held.{readingOf, lowOf, highOf}

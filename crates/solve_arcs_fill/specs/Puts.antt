@@ -12,21 +12,23 @@ use Rattle.solve_def.specs.Held.{readingOf, lowOf, highOf}
 use Rattle.solve_def.specs.SearchNeeds.{Network}
 use Rattle.solve_arcs.specs.Cells.{toCell, nextCell, arcCells, rowCells}
 
--- Where the first n streams start, and where they end.
+-- Where the first n streams start.
 unfoldable pub startsIn : List Stream → ℕ → List ℕ
 startsIn streams n = values n (λ k. getD streams k noStream .from)
 
+-- Where the first n streams end.
 unfoldable pub endsIn : List Stream → ℕ → List ℕ
 endsIn streams n = values n (λ k. getD streams k noStream .to)
 
--- Stream i, from place u to place v: where its arcs lead, then the arcs that were first at the places that they leave; and its
--- arcs become the first there.
+-- Stream i, from place u to place v: where its arcs lead.
 abbrev pub endsPut : ℕ → ℕ → ℕ → List ℕ → List ℕ
 endsPut i u v ls = set (set ls (toCell + 2 * i) u) (toCell + (2 * i + 1)) v
 
+-- The arcs x and y come next after those of stream i.
 abbrev pub nextPut : ℕ → ℕ → ℕ → List ℕ → List ℕ
 nextPut i x y ls = set (set ls (nextCell + (2 * i + 1)) x) (nextCell + 2 * i) y
 
+-- The arcs of stream i become the first at the places u and v.
 abbrev pub firstPut : ℕ → ℕ → ℕ → List ℕ → List ℕ
 firstPut i u v ls = set (set ls v (2 * i)) u (2 * i + 1)
 

@@ -3,6 +3,7 @@ use mathlib.Core.Path.{_≡_}
 use mathlib.Core.List.{List}
 use Prim.Native.Nat.{ℕ, _≤_}
 use lib.ListN.{length, take}
+use Rattle.num_bytes.specs.Lent.{Lent}
 use Rattle.solve_def.specs.declared.Route.{Route}
 use Rattle.solve_def.specs.Sizes.{mostStep}
 use Rattle.solve_def.specs.Augment.{augmented}
@@ -24,3 +25,12 @@ MarginsMoved ls rs via way ms xs ms′ xs′ =
 abbrev pub FlowsMoved : List ℕ → List ℕ → List ℕ → List ℕ → Route → List ℕ → List ℕ → Type 0
 FlowsMoved ls rs via ends way xs xs′ =
     (w : Laying ls rs) → xs′ ≡ augmented (take (w .n) (w .streams)) via ends (way .delta) (way .len) (way .target) xs
+
+-- What augmenting comes to, of what is lent to it: margins stay those of the amounts, and the amounts are the definition's.
+abbrev pub AugmentCall : (arcs rows margins flows via ends : Lent (List ℕ)) → Route → Type 0
+AugmentCall arcs rows margins flows via ends way =
+    let ls = arcs .entry .now in
+    let rs = rows .entry .now in
+    let back = via .entry .now in
+    MarginsMoved ls rs back way (margins .entry .now) (flows .entry .now) (margins .exit .now) (flows .exit .now)
+    × FlowsMoved ls rs back (ends .entry .now) way (flows .entry .now) (flows .exit .now)

@@ -16,7 +16,7 @@ ghost use Rattle.solve_def.specs.Sizes.{mostFlow};
 ghost use Rattle.solve_def.specs.Model.{shiftedNets};
 ghost use Rattle.solve_def.specs.SolverNeeds.{Shiftable};
 ghost use Rattle.solve_arcs.specs.Cells.{toCell};
-ghost use Rattle.solve_augment.specs.Augmented.{Augmentable, MarginsMoved, FlowsMoved};
+ghost use Rattle.solve_augment.specs.Augmented.{Augmentable, AugmentCall};
 
 // The amount of a stream after delta moves along it, to its end or to its start.
 fn moved(x: u64, forwards: bool, delta: u64) -> u64
@@ -49,11 +49,7 @@ pub fn augment(
     way: Route,
 )
     requires { ⌜ Augmentable (now arcs) (now rows) (now margins) (now flows) (now via) way ⌝ }
-    ensures { λ _. ⌜
-        MarginsMoved (now (arcs .entry)) (now (rows .entry)) (now (via .entry)) way
-        (now (margins .entry)) (now (flows .entry)) (now (margins .exit)) (now (flows .exit))
-        × FlowsMoved (now (arcs .entry)) (now (rows .entry)) (now (via .entry)) (now (ends .entry)) way (now (flows .entry)) (now (flows .exit))
-        ⌝ }
+    ensures { λ _. ⌜ AugmentCall arcs rows margins flows via ends way ⌝ }
 {
     let delta = way.delta;
     let mut at = way.target;

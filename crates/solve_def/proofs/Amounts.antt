@@ -14,10 +14,10 @@ use Rattle.num_bytes.specs.Choice.{pick}
 use Rattle.num_bytes.proofs.Tests.{by-cases}
 use Rattle.plant_def.specs.declared.Stream.{Stream}
 use Rattle.flow_def.specs.Flows.{streamAt, amountAt}
-use Rattle.flow_def.proofs.Integers.{up, dn, same, diff, diff-val, plus-val, minus-val, up-neg, dn-neg}
-use Rattle.flow_def.proofs.Sums.{sum, sum-same}
+use Rattle.num_bytes.proofs.Integers.{up, dn, same, diff, diff-val, plus-val, minus-val, up-neg, dn-neg}
+use Rattle.num_bytes.proofs.Sums.{sum, sum-same}
 use Rattle.flow_def.proofs.Nets.{brought, netOf}
-use Rattle.flow_def.proofs.Lists.{map-at}
+use Rattle.num_bytes.proofs.Lists.{map-at}
 use Rattle.solve_def.specs.Sizes.{flowShift}
 use Rattle.solve_def.specs.Held.{unshifted, opened}
 

@@ -12,13 +12,13 @@ use Rattle.num_bytes.specs.Choice.{pick}
 use Rattle.num_bytes.proofs.Tests.{by-cases, clash, or-right}
 use Rattle.plant_def.specs.declared.Stream.{Stream}
 use Rattle.flow_def.specs.Flows.{streamAt}
-use Rattle.flow_def.proofs.Integers.{up, dn}
+use Rattle.num_bytes.proofs.Integers.{up, dn}
 use Rattle.flow_def.specs.Certificate.{weightOf}
-use Rattle.solve_def.specs.Held.{readingOf, lowOf, highOf, Held, HeldAt, AllHeld, AllInside}
-use Rattle.solve_def.specs.Slack.{slackBy}
+use Rattle.solve_def.specs.Held.{readingOf, lowOf, highOf, StepMet, StepMetAt, AllStepsMet, AllInside}
+use Rattle.solve_def.specs.ReducedCosts.{reducedCostBy}
 use Rattle.solve_def.specs.Augment.{movedOf, otherEnd, augmented}
 use Rattle.solve_def.proofs.Amounts.{net, net-set, get-set}
-use Rattle.solve_def.proofs.Bounds.{Open, slack-open, open-of}
+use Rattle.solve_def.proofs.Bounds.{HasRoom, reduced-with-room, room-of}
 
 -- The first place and the next j that were visited.
 abbrev pub reached : ℕ → List ℕ → ℕ → ℕ → Bool
@@ -35,13 +35,13 @@ reached-more root ends j (suc k) v l h =
 pub reached-new : (root : ℕ) (ends : List ℕ) (j : ℕ) → reached root ends (suc j) (getD ends j 0) ≡ true
 reached-new root ends j = rw (eq-eqb (getD ends j 0) (getD ends j 0) refl)
 
--- Remembered stream k leads from the places visited before it to a new one, has no slack and room for d less.
+-- Remembered stream k leads from the places visited before it to a new one, has no reduced cost and room for d less.
 pub record Link (ss : List Stream) (xs ps : List ℕ) (d root : ℕ) (via ends : List ℕ) (k : ℕ) : Type 0 where
   pub inside : getD via k 0 < length ss
   pub fresh : reached root ends k (getD ends k 0) ≡ false
   pub joins : reached root ends k (otherEnd (streamAt ss (getD via k 0)) (getD ends k 0)) ≡ true
   pub touch : eqb (streamAt ss (getD via k 0) .to) (getD ends k 0) ≡ false → streamAt ss (getD via k 0) .from ≡ getD ends k 0
-  pub tight : slackBy (streamAt ss (getD via k 0)) (eqb (streamAt ss (getD via k 0) .to) (getD ends k 0)) (getD xs (getD via k 0) 0)
+  pub tight : reducedCostBy (streamAt ss (getD via k 0)) (eqb (streamAt ss (getD via k 0) .to) (getD ends k 0)) (getD xs (getD via k 0) 0)
       (getD ps (streamAt ss (getD via k 0) .from) 0) (getD ps (streamAt ss (getD via k 0) .to) 0) d
       ≡ 0
   pub room : d ≤ getD xs (getD via k 0) 0
@@ -49,7 +49,7 @@ pub record Link (ss : List Stream) (xs ps : List ℕ) (d root : ℕ) (via ends :
 -- What the augmentation of d from c back to the root leaves.
 pub record Augmented (ss : List Stream) (xs ys ps : List ℕ) (d c root : ℕ) (via : List ℕ) (j : ℕ) : Type 0 where
   pub long : length ys ≡ length xs
-  pub held : AllHeld ss ys ps d
+  pub met : AllStepsMet ss ys ps d
   pub nets : (u : ℕ) → up (net ss ys u) + dn (net ss xs u) + pick (eqb root u) d 0 ≡ up (net ss xs u) + dn (net ss ys u) + pick (eqb c u) d 0
   pub most : (k : ℕ) → getD ys k 0 ≤ getD xs k 0 + d
   pub least : (k : ℕ) → getD xs k 0 ≤ getD ys k 0 + d
@@ -57,24 +57,24 @@ pub record Augmented (ss : List Stream) (xs ys ps : List ℕ) (d c root : ℕ) (
   pub inside : AllInside ss xs → AllInside ss ys
 
 -- One stream after d is moved along it: the step condition and the range, how far it moves, and the nets.
-moved-held : (s : Stream) (x pu pv d c : ℕ) → Held d (weightOf s) x (readingOf s) pu pv (lowOf s) (highOf s) → slackBy s (eqb (s .to) c) x pu pv d ≡ 0 → d ≤ x
-    → Held d (weightOf s) (movedOf s x c d) (readingOf s) pu pv (lowOf s) (highOf s)
-moved-held s x pu pv d c h t r = go (eqb (s .to) c) t (open-of (eqb (s .to) c) s x pu pv d (omega arith))
+moved-met : (s : Stream) (x pu pv d c : ℕ) → StepMet d (weightOf s) x (readingOf s) pu pv (lowOf s) (highOf s) → reducedCostBy s (eqb (s .to) c) x pu pv d ≡ 0 → d ≤ x
+    → StepMet d (weightOf s) (movedOf s x c d) (readingOf s) pu pv (lowOf s) (highOf s)
+moved-met s x pu pv d c h t r = go (eqb (s .to) c) t (room-of (eqb (s .to) c) s x pu pv d (omega arith))
   where
-    go : (b : Bool) → slackBy s b x pu pv d ≡ 0 → Open s b x d → Held d (weightOf s) (pick b (x + d) (x - d)) (readingOf s) pu pv (lowOf s) (highOf s)
+    go : (b : Bool) → reducedCostBy s b x pu pv d ≡ 0 → HasRoom s b x d → StepMet d (weightOf s) (pick b (x + d) (x - d)) (readingOf s) pu pv (lowOf s) (highOf s)
     go true t o =
-        record { low = λ q. omega (arith, slack-open true s x pu pv d o, t, h .high o); high = λ q. omega (arith, slack-open true s x pu pv d o, t, h .high o) }
+        record { low = λ q. omega (arith, reduced-with-room true s x pu pv d o, t, h .high o); high = λ q. omega (arith, reduced-with-room true s x pu pv d o, t, h .high o) }
     go false t o =
         let y : ℕ = x - d in
         let e : y + d ≡ x = omega arith in
         let f : weightOf s * (y + d) ≡ weightOf s * x = ap (λ k. weightOf s * k) e in
-        record { low = λ q. omega (arith, slack-open false s x pu pv d o, t, h .low o, f); high = λ q. omega (arith, slack-open false s x pu pv d o, t, h .low o, f) }
+        record { low = λ q. omega (arith, reduced-with-room false s x pu pv d o, t, h .low o, f); high = λ q. omega (arith, reduced-with-room false s x pu pv d o, t, h .low o, f) }
 
-moved-inside : (s : Stream) (x pu pv d c : ℕ) → slackBy s (eqb (s .to) c) x pu pv d ≡ 0 → (lowOf s ≤ x) × (x ≤ highOf s)
+moved-inside : (s : Stream) (x pu pv d c : ℕ) → reducedCostBy s (eqb (s .to) c) x pu pv d ≡ 0 → (lowOf s ≤ x) × (x ≤ highOf s)
     → (lowOf s ≤ movedOf s x c d) × (movedOf s x c d ≤ highOf s)
-moved-inside s x pu pv d c t r = go (eqb (s .to) c) (open-of (eqb (s .to) c) s x pu pv d (omega arith))
+moved-inside s x pu pv d c t r = go (eqb (s .to) c) (room-of (eqb (s .to) c) s x pu pv d (omega arith))
   where
-    go : (b : Bool) → Open s b x d → (lowOf s ≤ pick b (x + d) (x - d)) × (pick b (x + d) (x - d) ≤ highOf s)
+    go : (b : Bool) → HasRoom s b x d → (lowOf s ≤ pick b (x + d) (x - d)) × (pick b (x + d) (x - d) ≤ highOf s)
     go true o = (omega (arith, r .0), o)
     go false o = (omega arith, omega (arith, r .1))
 
@@ -127,17 +127,17 @@ module _ (ss : List Stream) (ps : List ℕ) (d root : ℕ) (via ends : List ℕ)
 
   -- The law for the first j remembered streams.
   Rec : ℕ → Type 0
-  Rec j = (c : ℕ) (xs : List ℕ) → length ss ≤ length xs → AllHeld ss xs ps d → ((k : ℕ) → k < j → Link ss xs ps d root via ends k)
+  Rec j = (c : ℕ) (xs : List ℕ) → length ss ≤ length xs → AllStepsMet ss xs ps d → ((k : ℕ) → k < j → Link ss xs ps d root via ends k)
       → reached root ends j c ≡ true → Augmented ss xs (augmented ss via ends d j c xs) ps d c root via j
 
   -- The last of them leads to the place, or it does not.
-  hit : (j : ℕ) → Rec j → (xs : List ℕ) → length ss ≤ length xs → AllHeld ss xs ps d → ((k : ℕ) → k < suc j → Link ss xs ps d root via ends k)
+  hit : (j : ℕ) → Rec j → (xs : List ℕ) → length ss ≤ length xs → AllStepsMet ss xs ps d → ((k : ℕ) → k < suc j → Link ss xs ps d root via ends k)
       → Augmented ss xs (augmented ss via ends d j (otherEnd (streamAt ss (getD via j 0)) (getD ends j 0))
       (set xs (getD via j 0) (movedOf (streamAt ss (getD via j 0)) (getD xs (getD via j 0) 0) (getD ends j 0) d))) ps d (getD ends j 0) root via (suc j)
   unfolding Rec
-  hit j rec xs long held links = record {
+  hit j rec xs long met links = record {
     long = r .long ∙ length-set xs i y;
-    held = r .held;
+    met = r .met;
     nets = nets;
     most = λ k. by-cases (eqb i k) (λ t. here-most k t) (λ t. rw (sym (else k t)) (r .most k));
     least = λ k. by-cases (eqb i k) (λ t. here-least k t) (λ t. rw (sym (else k t)) (r .least k));
@@ -177,11 +177,11 @@ module _ (ss : List Stream) (ps : List ℕ) (d root : ℕ) (via ends : List ℕ)
       here : (k : ℕ) → eqb i k ≡ true → getD zs k 0 ≡ y
       here k t = get-set xs i k y 0 li ∙ ap (λ (b : Bool). pick b y (getD xs k 0)) t
 
-      held′ : AllHeld ss zs ps d
+      held′ : AllStepsMet ss zs ps d
       held′ k l = by-cases (eqb i k)
-          (λ t. let q : i ≡ k = eqb-true i k t in subst (λ (m : ℕ). HeldAt ss zs ps d m) q
-          (rw (here i (eq-eqb i i refl)) (moved-held s x (getD ps (s .from) 0) (getD ps (s .to) 0) d e (held i (g .inside)) (g .tight) (g .room))))
-          (λ t. rw (else k t) (held k l))
+          (λ t. let q : i ≡ k = eqb-true i k t in subst (λ (m : ℕ). StepMetAt ss zs ps d m) q
+          (rw (here i (eq-eqb i i refl)) (moved-met s x (getD ps (s .from) 0) (getD ps (s .to) 0) d e (met i (g .inside)) (g .tight) (g .room))))
+          (λ t. rw (else k t) (met k l))
 
       links′ : (k : ℕ) → k < j → Link ss zs ps d root via ends k
       links′ k l = link-kept xs zs k (else (getD via k 0) (ne-eqb i (getD via k 0) (λ q. apart xs k j l (links k (omega arith)) g (sym q)))) (links k (omega arith))
@@ -209,22 +209,22 @@ module _ (ss : List Stream) (ps : List ℕ) (d root : ℕ) (via ends : List ℕ)
       nets : (u : ℕ) → up (net ss ys u) + dn (net ss xs u) + pick (eqb root u) d 0 ≡ up (net ss xs u) + dn (net ss ys u) + pick (eqb e u) d 0
       nets u = omega (arith, r .nets u, step u)
 
-  miss : (j : ℕ) → Rec j → (c : ℕ) (xs : List ℕ) → length ss ≤ length xs → AllHeld ss xs ps d → ((k : ℕ) → k < suc j → Link ss xs ps d root via ends k)
+  miss : (j : ℕ) → Rec j → (c : ℕ) (xs : List ℕ) → length ss ≤ length xs → AllStepsMet ss xs ps d → ((k : ℕ) → k < suc j → Link ss xs ps d root via ends k)
       → reached root ends j c ≡ true → Augmented ss xs (augmented ss via ends d j c xs) ps d c root via (suc j)
   unfolding Rec
-  miss j rec c xs long held links h = let r = rec c xs long held (λ k l. links k (omega arith)) h in
-      record { long = r .long; held = r .held; nets = r .nets; most = r .most; least = r .least; off = λ k n. r .off k (λ m l. n m (omega arith)); inside = r .inside }
+  miss j rec c xs long met links h = let r = rec c xs long met (λ k l. links k (omega arith)) h in
+      record { long = r .long; met = r .met; nets = r .nets; most = r .most; least = r .least; off = λ k n. r .off k (λ m l. n m (omega arith)); inside = r .inside }
 
   -- What the augmentation from c back to the root leaves.
-  pub augment-good : (j c : ℕ) (xs : List ℕ) → length ss ≤ length xs → AllHeld ss xs ps d → ((k : ℕ) → k < j → Link ss xs ps d root via ends k)
+  pub augment-good : (j c : ℕ) (xs : List ℕ) → length ss ≤ length xs → AllStepsMet ss xs ps d → ((k : ℕ) → k < j → Link ss xs ps d root via ends k)
       → reached root ends j c ≡ true → Augmented ss xs (augmented ss via ends d j c xs) ps d c root via j
   unfolding augmented Rec
-  augment-good zero c xs long held links h =
-      record { long = refl; held = held; nets = λ u. let q : root ≡ c = eqb-true root c h in rw q; most = λ k. omega arith; least = λ k. omega arith; off = λ k n. refl; inside = λ r. r }
-  augment-good (suc j) c xs long held links h = go (eqb (getD ends j 0) c) refl (augment-good j) h
+  augment-good zero c xs long met links h =
+      record { long = refl; met = met; nets = λ u. let q : root ≡ c = eqb-true root c h in rw q; most = λ k. omega arith; least = λ k. omega arith; off = λ k n. refl; inside = λ r. r }
+  augment-good (suc j) c xs long met links h = go (eqb (getD ends j 0) c) refl (augment-good j) h
     where
       go : (b : Bool) → eqb (getD ends j 0) c ≡ b → Rec j → b || reached root ends j c ≡ true
           → Augmented ss xs (pick b (augmented ss via ends d j (otherEnd (streamAt ss (getD via j 0)) c)
           (set xs (getD via j 0) (movedOf (streamAt ss (getD via j 0)) (getD xs (getD via j 0) 0) c d))) (augmented ss via ends d j c xs)) ps d c root via (suc j)
-      go true e rec h = let q : getD ends j 0 ≡ c = eqb-true (getD ends j 0) c e in rw (← q) (hit j rec xs long held links)
-      go false e rec h = miss j rec c xs long held links h
+      go true e rec h = let q : getD ends j 0 ≡ c = eqb-true (getD ends j 0) c e in rw (← q) (hit j rec xs long met links)
+      go false e rec h = miss j rec c xs long met links h

@@ -12,8 +12,8 @@ use Rattle.num_bytes.proofs.Tests.{by-cases}
 use Rattle.plant_def.specs.declared.Stream.{Stream}
 use Rattle.plant_def.specs.Limits.{maxUnits, places, maxStreams}
 use Rattle.flow_def.specs.Flows.{streamAt}
-use Rattle.flow_def.proofs.Integers.{up, dn, same, plus-val, minus-val}
-use Rattle.flow_def.proofs.Sums.{sum}
+use Rattle.num_bytes.proofs.Integers.{up, dn, same, plus-val, minus-val}
+use Rattle.num_bytes.proofs.Sums.{sum}
 use Rattle.flow_def.proofs.Nets.{brought}
 use Rattle.solve_def.specs.Sizes.{flowShift, mostFlow, netShift, netRoom}
 use Rattle.solve_def.specs.Held.{unshifted}

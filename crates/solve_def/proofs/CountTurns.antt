@@ -13,11 +13,11 @@ use lib.Pow.{pow-pos}
 use Rattle.num_bytes.specs.Choice.{pick}
 use Rattle.plant_def.specs.declared.Stream.{Stream}
 use Rattle.plant_def.specs.Limits.{places}
-use Rattle.solve_def.specs.Sizes.{netShift, mostStep, mostOver, mostTried, halvings, settledRoom}
+use Rattle.solve_def.specs.Sizes.{netShift, mostStep, mostExcess, mostTried, halvings, settledRoom}
 use Rattle.solve_def.specs.declared.Hint.{Hint}
 use Rattle.solve_def.specs.declared.State.{State}
 use Rattle.solve_def.specs.declared.Ended.{Ended}
-use Rattle.solve_def.specs.Model.{Improved, improvedBy, improvedAt, fromPlace, phaseTo, phase, settled, noHint, asHint, going, endedBy, overSum, stepsOver}
+use Rattle.solve_def.specs.Model.{Improved, improvedBy, improvedAt, fromPlace, phaseTo, phase, settled, noHint, asHint, going, endedBy, excessSum, excessSteps}
 use Rattle.solve_def.specs.SolverNeeds.{Step, Underway}
 use Rattle.solve_def.specs.Made.{madeFrom, madeTo, madeBy, made}
 use Rattle.solve_def.proofs.Streams.{Solvable}
@@ -83,21 +83,22 @@ module _ (ss : List Stream) (d n : ℕ) (st now : State) (l : n < places) (e : p
 
 -- A phase makes no more than may be over.
 module _ (ss : List Stream) (v : Solvable ss) (d : ℕ) (step : Step d) (st : State) (h : Underway ss d settledRoom st) where
-  pub phase-made-room : (n : ℕ) → n ≤ places → madeTo n ss d st ≤ mostOver
+  -- From the first n places a phase makes no more improvements than may be over.
+  pub phase-made-room : (n : ℕ) → n ≤ places → madeTo n ss d st ≤ mostExcess
   phase-made-room n l =
       omega (
         arith,
         phase-made ss v d settledRoom step (omega arith) st h n l,
-        mul-le-mul-right (stepsOver d (st .nets)) (step .0),
+        mul-le-mul-right (excessSteps d (st .nets)) (step .0),
         steps-over d (st .nets),
         h .sound .over,
       )
 
--- The phases one after the other: so many have been made before the phase at this step, and each phase makes mostOver at most.
+-- The phases one after the other: so many have been made before the phase at this step, and each phase makes mostExcess at most.
 pub record Tallied (ss : List Stream) (step : ℕ) (h : Hint) (count : ℕ) : Type 0 where
   pub n : ℕ
   pub is : step ≡ 2 ^ n
-  pub fits : count + suc n * mostOver ≤ suc halvings * mostOver
+  pub fits : count + suc n * mostExcess ≤ suc halvings * mostExcess
   pub rest : count + madeBy n ss h ≡ madeBy halvings ss noHint
 
 -- Before the first phase none has been made.
@@ -123,12 +124,12 @@ module _ (ss : List Stream) (step : ℕ) (h : Hint) (count : ℕ) (t : Tallied s
   tallied-room = omega (arith, t .fits)
 
   module _ (e : Ended) (q : e ≡ phase ss step (settled ss h)) (more : 1 < step) (m : ℕ) (c : m ≡ count + madeTo places ss step (settled ss h))
-      (room : madeTo places ss step (settled ss h) ≤ mostOver) where
+      (room : madeTo places ss step (settled ss h) ≤ mostExcess) where
     -- One phase more is counted.
     pub tallied-next : e .full ≡ false → Tallied ss (step / 2) (asHint (e .state)) m
     tallied-next f = go (t .n) (t .is) (t .fits) (t .rest)
       where
-        go : (n : ℕ) → step ≡ 2 ^ n → count + suc n * mostOver ≤ suc halvings * mostOver → count + madeBy n ss h ≡ madeBy halvings ss noHint
+        go : (n : ℕ) → step ≡ 2 ^ n → count + suc n * mostExcess ≤ suc halvings * mostExcess → count + madeBy n ss h ≡ madeBy halvings ss noHint
             → Tallied ss (step / 2) (asHint (e .state)) m
         go zero i l r = absurd (omega (arith, more, i))
         go (suc n) i l r = record {
@@ -155,11 +156,13 @@ module _ (ss : List Stream) (step : ℕ) (h : Hint) (count : ℕ) (t : Tallied s
       go (suc n) i r = absurd (omega (arith, l, i, pow-pos n))
 
 -- In a call: by how much is over.
-module _ (ss : List Stream) (st : State) (over : ℕ) (e : over ≡ overSum (st .nets)) where
+module _ (ss : List Stream) (st : State) (over : ℕ) (e : over ≡ excessSum (st .nets)) where
+  -- Little is over: the improvements at step 1 are all.
   pub made-by-hint : over ≤ mostTried → madeTo places ss 1 st ≡ made ss st
   unfolding made
   made-by-hint l = sym (rw (← e, le-leb over mostTried l))
 
+  -- Much is over: the improvements of the phases from no hint are all.
   pub made-by-phases : mostTried < over → madeBy halvings ss noHint ≡ made ss st
   unfolding made
   made-by-phases l = sym (rw (← e, lt-leb over mostTried l))

@@ -18,15 +18,15 @@ use Rattle.plant_def.specs.declared.Stream.{Stream}
 use Rattle.plant_def.specs.Limits.{maxUnits, places, maxStreams}
 use Rattle.flow_def.specs.Flows.{streamAt}
 use Rattle.flow_def.specs.Certificate.{weightOf}
-use Rattle.flow_def.proofs.Integers.{up, dn, Le, plus-val, minus-val}
-use Rattle.flow_def.proofs.Sums.{sum}
+use Rattle.num_bytes.proofs.Integers.{up, dn, Le, plus-val, minus-val}
+use Rattle.num_bytes.proofs.Sums.{sum}
 use Rattle.flow_def.proofs.Nets.{nets-sum}
-use Rattle.solve_def.specs.Sizes.{flowShift, netShift, mostStep, mostOver, mostTried, halvings, settledRoom}
-use Rattle.solve_def.specs.Held.{unshifted, readingOf, lowOf, highOf, Held}
+use Rattle.solve_def.specs.Sizes.{flowShift, netShift, mostStep, mostExcess, mostTried, halvings, settledRoom}
+use Rattle.solve_def.specs.Held.{unshifted, readingOf, lowOf, highOf, StepMet}
 use Rattle.solve_def.specs.declared.Hint.{Hint}
 use Rattle.solve_def.specs.declared.State.{State}
 use Rattle.solve_def.specs.declared.Ended.{Ended}
-use Rattle.solve_def.specs.Model.{phase, settled, asHint, noHint, overSum, stepsOver}
+use Rattle.solve_def.specs.Model.{phase, settled, asHint, noHint, excessSum, excessSteps}
 use Rattle.solve_def.specs.SolverNeeds.{AtHint, Sound, Underway}
 use Rattle.solve_def.proofs.Amounts.{net, unshifted-val}
 use Rattle.solve_def.proofs.Bounds.{weight-some}
@@ -76,20 +76,20 @@ some-low ss v d b st h = go (low-or-high (st .nets) places)
         positive u l = rw (h .nets u l) (omega (arith, a u l, minus-val (pos (getD (st .nets) u 0)) (pos netShift)))
 
 -- So what is over is at most b at each place but one.
-over-most : (es : List ℕ) (b : ℕ) → ((u : ℕ) → u < length es → getD es u 0 ≤ netShift + b) → overSum es ≤ length es * b
-unfolding overSum
+over-most : (es : List ℕ) (b : ℕ) → ((u : ℕ) → u < length es → getD es u 0 ≤ netShift + b) → excessSum es ≤ length es * b
+unfolding excessSum
 over-most [] b h = omega arith
 over-most (e ∷ es) b h = omega (arith, h 0 (omega arith), over-most es b (λ u l. h (suc u) (omega arith)))
 
 over-but-one : (es : List ℕ) (b u : ℕ) → u < length es → getD es u 0 ≤ netShift → ((w : ℕ) → w < length es → getD es w 0 ≤ netShift + b)
-    → overSum es + b ≤ length es * b
-unfolding overSum
+    → excessSum es + b ≤ length es * b
+unfolding excessSum
 over-but-one [] b u l e h = absurd (omega arith)
 over-but-one (x ∷ es) b zero l e h = omega (arith, over-most es b (λ w m. h (suc w) (omega arith)))
 over-but-one (x ∷ es) b (suc u) l e h = omega (arith, h 0 (omega arith), over-but-one es b u (omega arith) e (λ w m. h (suc w) (omega arith)))
 
 -- From step 2 on an amount that is settled anew moves by less than a step.
-module _ (d w X Y R u v L H : ℕ) (two : 2 ≤ d) (l : 1 ≤ w) (a : Held d w X R u v L H) (b : Held 1 w Y R u v L H) (i : (L ≤ X) × (X ≤ H)) (j : (L ≤ Y) × (Y ≤ H)) where
+module _ (d w X Y R u v L H : ℕ) (two : 2 ≤ d) (l : 1 ≤ w) (a : StepMet d w X R u v L H) (b : StepMet 1 w Y R u v L H) (i : (L ≤ X) × (X ≤ H)) (j : (L ≤ Y) × (Y ≤ H)) where
   nearer-above : Y ≤ X + (d - 1)
   nearer-above = elim (decLe Y (X + (d - 1))) [ yes k ↦ k | no k ↦ absurd (far (omega arith)) ]
     where
@@ -116,12 +116,12 @@ module _ (ss : List Stream) (v : Solvable ss) (d b : ℕ) (two : 2 ≤ d) (st : 
       go true e =
           let o = settled-one ss v (asHint st) b (again-start ss v d b st h within) k l in
           let w : 1 ≤ weightOf t = rw (weight-some t e) (v .weighed k l e) in (
-            nearer-above d (weightOf t) (getD (st .flows) k 0) (getD zs k 0) (readingOf t) _ _ (lowOf t) (highOf t) two w (h .held k l) (o .0) (h .inside k l) (o .1),
-            nearer-below d (weightOf t) (getD (st .flows) k 0) (getD zs k 0) (readingOf t) _ _ (lowOf t) (highOf t) two w (h .held k l) (o .0) (h .inside k l) (o .1),
+            nearer-above d (weightOf t) (getD (st .flows) k 0) (getD zs k 0) (readingOf t) _ _ (lowOf t) (highOf t) two w (h .met k l) (o .0) (h .inside k l) (o .1),
+            nearer-below d (weightOf t) (getD (st .flows) k 0) (getD zs k 0) (readingOf t) _ _ (lowOf t) (highOf t) two w (h .met k l) (o .0) (h .inside k l) (o .1),
           )
       go false e = let q = settled-free ss v (asHint st) b (again-start ss v d b st h within) k e in (omega (arith, q), omega (arith, q))
 
-  again-less : overSum (settled ss (asHint st) .nets) ≤ overSum (st .nets) + maxStreams * (d - 1)
+  again-less : excessSum (settled ss (asHint st) .nets) ≤ excessSum (st .nets) + maxStreams * (d - 1)
   again-less =
       omega (
         arith,
@@ -141,8 +141,8 @@ module _ (ss : List Stream) (v : Solvable ss) (d b : ℕ) (two : 2 ≤ d) (st : 
 module _ (ss : List Stream) (v : Solvable ss) where
   -- After a phase at twice the step d, few steps are over.
   few-steps : (d t : ℕ) → 1 ≤ d → (e : Ended) → t ≤ settledRoom → Phased ss (2 * d) t places e → e .full ≡ false
-      → stepsOver d (settled ss (asHint (e .state)) .nets) ≤ perPhase
-  few-steps d t l e m r f = elim (decLe (stepsOver d (settled ss (asHint (e .state)) .nets)) perPhase) [ yes k ↦ k | no k ↦ absurd (many (omega arith)) ]
+      → excessSteps d (settled ss (asHint (e .state)) .nets) ≤ perPhase
+  few-steps d t l e m r f = elim (decLe (excessSteps d (settled ss (asHint (e .state)) .nets)) perPhase) [ yes k ↦ k | no k ↦ absurd (many (omega arith)) ]
     where
       s : Sound ss (2 * d) (r .underway .size) (e .state)
       s = r .underway .sound
@@ -150,12 +150,12 @@ module _ (ss : List Stream) (v : Solvable ss) where
       low : (u : ℕ) × (u < places) × (getD (e .state .nets) u 0 ≤ netShift)
       low = some-low ss v (2 * d) (r .underway .size) (e .state) s
 
-      left : overSum (e .state .nets) + maxStreams * (2 * d - 1) ≤ places * (maxStreams * (2 * d - 1))
+      left : excessSum (e .state .nets) + maxStreams * (2 * d - 1) ≤ places * (maxStreams * (2 * d - 1))
       left =
-          subst (λ (n : ℕ). overSum (e .state .nets) + maxStreams * (2 * d - 1) ≤ n * (maxStreams * (2 * d - 1))) (s .netted)
+          subst (λ (n : ℕ). excessSum (e .state .nets) + maxStreams * (2 * d - 1) ≤ n * (maxStreams * (2 * d - 1))) (s .netted)
           (over-but-one (e .state .nets) (maxStreams * (2 * d - 1)) (low .0) (rw (s .netted) (low .1)) (low .2) (λ w o. r .small f w (rw (s .netted) at o)))
 
-      many : perPhase + 1 ≤ stepsOver d (settled ss (asHint (e .state)) .nets) → ⊥
+      many : perPhase + 1 ≤ excessSteps d (settled ss (asHint (e .state)) .nets) → ⊥
       many k =
           omega (
             arith,
@@ -168,31 +168,31 @@ module _ (ss : List Stream) (v : Solvable ss) where
 
   -- A phase makes no more than there are steps over at its start, and at most 32 of its searches are stuck.
   phase-few : (d t : ℕ) → 1 ≤ d → d ≤ mostStep → t ≤ settledRoom → (st : State) → Underway ss d t st
-      → (madeTo places ss d st ≤ stepsOver d (st .nets)) × (stuckTo places ss d st ≤ maxUnits)
+      → (madeTo places ss d st ≤ excessSteps d (st .nets)) × (stuckTo places ss d st ≤ maxUnits)
   phase-few d t l m f st h =
       let low = some-low ss v d (h .size) st (h .sound) in (
         omega (arith, phase-made ss v d t (l, m) f st h places (omega arith)),
         omega (arith, phase-stuck ss v d t (l, m) f st h (low .0) (low .1) (omega (arith, low .2, l)) places (omega arith) .1 (low .1)),
       )
 
-  phases-few : (n t c : ℕ) (h : Hint) → 2 ^ n ≤ mostStep → t + suc n * mostOver ≤ settledRoom → Stage ss n t h → stepsOver (2 ^ n) (settled ss h .nets) ≤ c
+  phases-few : (n t c : ℕ) (h : Hint) → 2 ^ n ≤ mostStep → t + suc n * mostExcess ≤ settledRoom → Stage ss n t h → excessSteps (2 ^ n) (settled ss h .nets) ≤ c
       → (madeBy n ss h ≤ c + n * perPhase) × (stuckBy n ss h ≤ suc n * maxUnits)
   unfolding madeBy stuckBy
   phases-few zero t c h l m s o =
-      let r = phase-few 1 (t + mostOver) (omega arith) (omega arith) (omega arith) (settled ss h) (stage-underway ss v 0 t h s) in
+      let r = phase-few 1 (t + mostExcess) (omega arith) (omega arith) (omega arith) (settled ss h) (stage-underway ss v 0 t h s) in
       (omega (arith, r .0, o), omega (arith, r .1))
   phases-few (suc n) t c h l m s o =
-      go (phase ss (2 ^ suc n) (settled ss h)) (stage-phased ss v (suc n) t h s l (omega arith)) (phases-few n (t + mostOver) perPhase)
+      go (phase ss (2 ^ suc n) (settled ss h)) (stage-phased ss v (suc n) t h s l (omega arith)) (phases-few n (t + mostExcess) perPhase)
     where
-      now : (madeTo places ss (2 ^ suc n) (settled ss h) ≤ stepsOver (2 ^ suc n) (settled ss h .nets)) × (stuckTo places ss (2 ^ suc n) (settled ss h) ≤ maxUnits)
-      now = phase-few (2 ^ suc n) (t + mostOver) (pow-pos (suc n)) l (omega arith) (settled ss h) (stage-underway ss v (suc n) t h s)
+      now : (madeTo places ss (2 ^ suc n) (settled ss h) ≤ excessSteps (2 ^ suc n) (settled ss h .nets)) × (stuckTo places ss (2 ^ suc n) (settled ss h) ≤ maxUnits)
+      now = phase-few (2 ^ suc n) (t + mostExcess) (pow-pos (suc n)) l (omega arith) (settled ss h) (stage-underway ss v (suc n) t h s)
 
       double : 2 ^ suc n ≡ 2 * 2 ^ n
       double = omega arith
 
-      go : (e : Ended) → Phased ss (2 ^ suc n) (t + mostOver) places e
-          → ((h : Hint) → 2 ^ n ≤ mostStep → t + mostOver + suc n * mostOver ≤ settledRoom → Stage ss n (t + mostOver) h
-          → stepsOver (2 ^ n) (settled ss h .nets) ≤ perPhase → (madeBy n ss h ≤ perPhase + n * perPhase) × (stuckBy n ss h ≤ suc n * maxUnits))
+      go : (e : Ended) → Phased ss (2 ^ suc n) (t + mostExcess) places e
+          → ((h : Hint) → 2 ^ n ≤ mostStep → t + mostExcess + suc n * mostExcess ≤ settledRoom → Stage ss n (t + mostExcess) h
+          → excessSteps (2 ^ n) (settled ss h .nets) ≤ perPhase → (madeBy n ss h ≤ perPhase + n * perPhase) × (stuckBy n ss h ≤ suc n * maxUnits))
           → (madeTo places ss (2 ^ suc n) (settled ss h) + pick (e .full) 0 (madeBy n ss (asHint (e .state))) ≤ c + suc n * perPhase)
           × (stuckTo places ss (2 ^ suc n) (settled ss h) + pick (e .full) 0 (stuckBy n ss (asHint (e .state))) ≤ suc (suc n) * maxUnits)
       go e r rec = by-cases (e .full)
@@ -202,20 +202,20 @@ module _ (ss : List Stream) (v : Solvable ss) where
           rest : e .full ≡ false → (madeBy n ss (asHint (e .state)) ≤ perPhase + n * perPhase) × (stuckBy n ss (asHint (e .state)) ≤ suc n * maxUnits)
           rest f =
               rec (asHint (e .state)) (omega (arith, l, double)) (omega arith) (stage-next ss v n t e (omega arith) r)
-              (few-steps (2 ^ n) (t + mostOver) (pow-pos n) e (omega arith) (subst (λ (d : ℕ). Phased ss d (t + mostOver) places e) double r) f)
+              (few-steps (2 ^ n) (t + mostExcess) (pow-pos n) e (omega arith) (subst (λ (d : ℕ). Phased ss d (t + mostExcess) places e) double r) f)
 
   -- The first phase.
-  first-few : stepsOver (2 ^ halvings) (settled ss noHint .nets) ≤ 357
+  first-few : excessSteps (2 ^ halvings) (settled ss noHint .nets) ≤ 357
   first-few = omega (arith, steps-over (2 ^ halvings) (settled ss noHint .nets), none-over ss v)
 
 -- Of a call.
 pub few : (ss : List Stream) → Solvable ss → (st : State) → AtHint ss st → Few ss st
 unfolding made stuck
-few ss v st s = by-cases (leb (overSum (st .nets)) mostTried)
+few ss v st s = by-cases (leb (excessSum (st .nets)) mostTried)
     (λ e.
-    let r = phase-few ss v 1 settledRoom (omega arith) (omega arith) (omega arith) st (hint-underway ss v st s (leb-true (overSum (st .nets)) mostTried e)) in
+    let r = phase-few ss v 1 settledRoom (omega arith) (omega arith) (omega arith) st (hint-underway ss v st s (leb-true (excessSum (st .nets)) mostTried e)) in
     record {
-      improvements = rw e (omega (arith, r .0, steps-over 1 (st .nets), leb-true (overSum (st .nets)) mostTried e));
+      improvements = rw e (omega (arith, r .0, steps-over 1 (st .nets), leb-true (excessSum (st .nets)) mostTried e));
       searches = rw e (omega (arith, r .1));
       hinted = λ o. rw e (omega (arith, r .0, steps-over 1 (st .nets), o));
     })
@@ -224,7 +224,7 @@ few ss v st s = by-cases (leb (overSum (st .nets)) mostTried)
     record {
       improvements = rw e (omega (arith, r .0));
       searches = rw e (omega (arith, r .1));
-      hinted = λ o. absurd (omega (arith, o, leb-false (overSum (st .nets)) mostTried e));
+      hinted = λ o. absurd (omega (arith, o, leb-false (excessSum (st .nets)) mostTried e));
     })
 
 -- So is a count that is the definition's.

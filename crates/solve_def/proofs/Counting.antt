@@ -7,8 +7,8 @@ use native.Mathlib.Decide.{ℕ-discrete}
 use borrow.Author.Tests.{ne-eqb}
 use lib.Dec.{eqb}
 use Rattle.num_bytes.proofs.Tests.{by-cases}
-use Rattle.flow_def.proofs.Counts as counts
-use Rattle.flow_def.proofs.Counts.{one}
+use Rattle.num_bytes.proofs.Counts as counts
+use Rattle.num_bytes.proofs.Counts.{one}
 use Rattle.solve_def.specs.Counts.{countPlaces}
 
 -- No more than all.

@@ -1,4 +1,4 @@
--- One stream of the tie pass: it is left as it is, for a reason, or it has 1 less, which a way of no slack makes up for.
+-- One stream of the tie pass: it is left as it is, for a reason, or it has 1 less, which a way of no reduced cost makes up for.
 use mathlib.Core.Path.{_≡_, _∙_, ap, subst}
 use mathlib.Core.Bool.{Bool, true, false, not}
 use mathlib.Core.List.{List}
@@ -15,17 +15,17 @@ use Rattle.num_bytes.proofs.Tests.{picked}
 use Rattle.plant_def.specs.declared.Stream.{Stream}
 use Rattle.plant_def.specs.Limits.{maxUnits, places, maxStreams}
 use Rattle.flow_def.specs.Flows.{streamAt}
-use Rattle.flow_def.proofs.Integers.{up, dn, same}
+use Rattle.num_bytes.proofs.Integers.{up, dn, same}
 use Rattle.flow_def.specs.Certificate.{weightOf}
 use Rattle.solve_def.specs.declared.Tree.{Tree}
 use Rattle.solve_def.specs.Sizes.{searchRounds}
-use Rattle.solve_def.specs.Held.{readingOf, lowOf, highOf, Held, AllHeld}
+use Rattle.solve_def.specs.Held.{readingOf, lowOf, highOf, StepMet, AllStepsMet}
 use Rattle.solve_def.specs.Search.{rootAt, Grown, tightPath}
 use Rattle.solve_def.specs.Augment.{augmented}
 use Rattle.solve_def.proofs.Amounts.{net, net-set}
-use Rattle.solve_def.specs.Slack.{slackAt}
+use Rattle.solve_def.specs.ReducedCosts.{reducedCostAt}
 use Rattle.solve_def.proofs.Least.{Usable, startIn, endIn}
-use Rattle.solve_def.proofs.Bounds.{Open, slack-open, open-of}
+use Rattle.solve_def.proofs.Bounds.{HasRoom, reduced-with-room, room-of}
 use Rattle.solve_def.proofs.Augmenting.{reached, Augmented, augment-good}
 use Rattle.solve_def.proofs.Growing.{Growing, root-growing}
 use Rattle.solve_def.proofs.TightPath.{Used, Path, way, shut, path-good, not-usable}
@@ -41,18 +41,18 @@ pub record Detour (ss : List Stream) (ps : List ℕ) (i : ℕ) (xs ws : List ℕ
   pub tight : 2 * (weightOf (streamAt ss i) * getD xs i 0) + getD ps (streamAt ss i .from) 0
       ≡ getD ps (streamAt ss i .to) 0 + 2 * (weightOf (streamAt ss i) * readingOf (streamAt ss i)) + weightOf (streamAt ss i)
 
--- What comes of stream i: it is unmetered; it has slack; a set of places with its start and without its end is left by no usable
--- stream without slack; or there is a way round.
+-- What comes of stream i: it is unmetered; it has reduced cost; a set of places with its start and without its end is left by no usable
+-- stream without reduced cost; or there is a way round.
 pub data Turn (ss : List Stream) (ps : List ℕ) (i : ℕ) (xs : List ℕ) : List ℕ → Type 0 where
   free : streamAt ss i .metered ≡ false → Turn ss ps i xs xs
-  slack : streamAt ss i .metered ≡ true → 0 < slackAt ss xs ps 1 i false → Turn ss ps i xs xs
+  strict : streamAt ss i .metered ≡ true → 0 < reducedCostAt ss xs ps 1 i false → Turn ss ps i xs xs
   cut : streamAt ss i .metered ≡ true → (ls : List Bool) → getD ls (streamAt ss i .from) false ≡ true → getD ls (streamAt ss i .to) false ≡ false
-      → ((k : ℕ) → k < length ss → Usable ss (suc i) k → startIn ss ls k ≡ not (endIn ss ls k) → 0 < slackAt ss xs ps 1 k (startIn ss ls k)) → Turn ss ps i xs xs
+      → ((k : ℕ) → k < length ss → Usable ss (suc i) k → startIn ss ls k ≡ not (endIn ss ls k) → 0 < reducedCostAt ss xs ps 1 k (startIn ss ls k)) → Turn ss ps i xs xs
   round : streamAt ss i .metered ≡ true → (ws : List ℕ) → Detour ss ps i xs ws → Turn ss ps i xs ws
 
 -- One less, where the bound is tight; and the nets then.
-less-held : (w X R u v L H : ℕ) → 1 ≤ X → 2 * (w * X) + u ≡ v + 2 * (w * R) + w → Held 1 w (X - 1) R u v L H
-less-held w X R u v L H l e =
+less-met : (w X R u v L H : ℕ) → 1 ≤ X → 2 * (w * X) + u ≡ v + 2 * (w * R) + w → StepMet 1 w (X - 1) R u v L H
+less-met w X R u v L H l e =
     let c : X - 1 + 1 ≡ X = omega arith in
     let f : w * (X - 1 + 1) ≡ w * X = ap (λ k. w * k) c in
     record { low = λ o. omega (arith, e, f); high = λ o. omega (arith, e, f) }
@@ -69,14 +69,14 @@ module _ (ss : List Stream) (v : Solvable ss) (ps : List ℕ) (i : ℕ) (li : i 
 
   -- Room for one less on stream i, and for one less and one more everywhere.
   some : (k : ℕ) → k < length ss → 1 ≤ getD xs k 0
-  some k l = omega (arith, h .close k (omega (arith, v .plain .few)) .1, v .plain .few)
+  some k l = omega (arith, h .sized k (omega (arith, v .plain .few)) .1, v .plain .few)
 
   -- The search for a way round stream i.
   pub round-path : Path maxUnits ss xs ps (s .from) (s .to) (suc i) (tightPath ss (length ss) xs ps (s .to) (suc i) searchRounds (rootAt (s .from)))
   round-path =
       path-good maxUnits ss (v .plain) xs ps (s .from) (s .to) (suc i) nf nt
       some
-      searchRounds (rootAt (s .from)) start (omega arith) (start .marks (s .to) (omega (arith, nt)) ∙ ne-eqb (s .from) (s .to) (v .apart i li)) (λ k l. absurd (omega arith))
+      searchRounds (rootAt (s .from)) start (omega arith) (start .reaches-all (s .to) (omega (arith, nt)) ∙ ne-eqb (s .from) (s .to) (v .distinct i li)) (λ k l. absurd (omega arith))
     where
       nf : s .from ≤ maxUnits
       nf = v .plain .inside i li .0
@@ -85,17 +85,17 @@ module _ (ss : List Stream) (v : Solvable ss) (ps : List ℕ) (i : ℕ) (li : i 
       nt = v .plain .inside i li .1
 
       start : Growing maxUnits ss xs 1 (s .from) ps (rootAt (s .from))
-      start = root-growing maxUnits ss xs ps 1 (s .from) (omega arith) nf (h .held)
+      start = root-growing maxUnits ss xs ps 1 (s .from) (omega arith) nf (h .met)
 
   -- A way leads round: 1 is moved along it, and stream i has 1 less.
-  module _ (m : s .metered ≡ true) (none : slackAt ss xs ps 1 i false ≡ 0) (t : Tree) (g : Growing maxUnits ss xs 1 (s .from) ps t)
+  module _ (m : s .metered ≡ true) (none : reducedCostAt ss xs ps 1 i false ≡ 0) (t : Tree) (g : Growing maxUnits ss xs 1 (s .from) ps t)
       (r : reached (s .from) (t .ends) (t .len) (s .to) ≡ true) (used : Used ss (suc i) t) where
     ys : List ℕ
     ys = augmented ss (t .via) (t .ends) 1 (t .len) (s .to) xs
 
     q : Augmented ss xs ys ps 1 (s .to) (s .from) (t .via) (t .len)
     unfolding ys
-    q = augment-good ss ps 1 (s .from) (t .via) (t .ends) (t .len) (s .to) xs (omega (arith, h .long, v .plain .few)) (g .held) (g .links) r
+    q = augment-good ss ps 1 (s .from) (t .via) (t .ends) (t .len) (s .to) xs (omega (arith, h .long, v .plain .few)) (g .met) (g .links) r
 
     ws : List ℕ
     ws = set ys i (getD ys i 0 - 1)
@@ -108,11 +108,11 @@ module _ (ss : List Stream) (v : Solvable ss) (ps : List ℕ) (i : ℕ) (li : i 
     here = kept i (omega arith) m
 
     -- The amount can fall.
-    falls : Open s false (getD xs i 0) 1
-    falls = open-of false s (getD xs i 0) (getD ps (s .from) 0) (getD ps (s .to) 0) 1 (omega arith)
+    falls : HasRoom s false (getD xs i 0) 1
+    falls = room-of false s (getD xs i 0) (getD ps (s .from) 0) (getD ps (s .to) 0) 1 (omega arith)
 
     tight : 2 * (weightOf s * getD xs i 0) + getD ps (s .from) 0 ≡ getD ps (s .to) 0 + 2 * (weightOf s * readingOf s) + weightOf s
-    tight = omega (arith, none, slack-open false s (getD xs i 0) (getD ps (s .from) 0) (getD ps (s .to) 0) 1 falls, h .held i li .low falls)
+    tight = omega (arith, none, reduced-with-room false s (getD xs i 0) (getD ps (s .from) 0) (getD ps (s .to) 0) 1 falls, h .met i li .low falls)
 
     long-ys : i < length ys
     long-ys = rw (q .long) (omega (arith, h .long, v .plain .few))
@@ -129,10 +129,10 @@ module _ (ss : List Stream) (v : Solvable ss) (ps : List ℕ) (i : ℕ) (li : i 
     unfolding ws
     long-ws = length-set ys i (getD ys i 0 - 1) ∙ q .long ∙ h .long
 
-    held : AllHeld ss ws ps 1
-    held k l = elim (ℕ-discrete k i) [
-      | yes z ↦ rw (z, ws-here) (less-held (weightOf s) (getD xs i 0) (readingOf s) (getD ps (s .from) 0) (getD ps (s .to) 0) (lowOf s) (highOf s) (some i li) tight)
-      | no z ↦ rw (ws-else k z) (q .held k l)
+    met : AllStepsMet ss ws ps 1
+    met k l = elim (ℕ-discrete k i) [
+      | yes z ↦ rw (z, ws-here) (less-met (weightOf s) (getD xs i 0) (readingOf s) (getD ps (s .from) 0) (getD ps (s .to) 0) (lowOf s) (highOf s) (some i li) tight)
+      | no z ↦ rw (ws-else k z) (q .met k l)
     ]
 
     nets : (u : ℕ) → up (net ss ws u) + dn (net ss xs u) ≡ up (net ss xs u) + dn (net ss ws u)
@@ -152,7 +152,7 @@ module _ (ss : List Stream) (v : Solvable ss) (ps : List ℕ) (i : ℕ) (li : i 
     detour = record {
       even = record {
         long = long-ws;
-        held = held;
+        met = met;
         inside = λ k l. elim (ℕ-discrete k i) [
           | yes z ↦ rw (z, ws-here) (omega (arith, falls), omega (arith, h .inside i li .1))
           | no z ↦ rw (ws-else k z) (q .inside (h .inside) k l)
@@ -164,9 +164,9 @@ module _ (ss : List Stream) (v : Solvable ss) (ps : List ℕ) (i : ℕ) (li : i 
           | no z ↦ let o = h .moderate k l e in rw (ws-else k z) (omega (arith, o .0, q .most k), omega (arith, o .1, q .least k))
         ];
         floor = h .floor;
-        close = λ k l. elim (ℕ-discrete k i) [
-          | yes z ↦ rw (z, ws-here) (omega (arith, h .close i (omega (arith, v .plain .few)) .0), omega (arith, h .close i (omega (arith, v .plain .few)) .1, some i li))
-          | no z ↦ rw (ws-else k z) (omega (arith, h .close k l .0, q .most k), omega (arith, h .close k l .1, q .least k))
+        sized = λ k l. elim (ℕ-discrete k i) [
+          | yes z ↦ rw (z, ws-here) (omega (arith, h .sized i (omega (arith, v .plain .few)) .0), omega (arith, h .sized i (omega (arith, v .plain .few)) .1, some i li))
+          | no z ↦ rw (ws-else k z) (omega (arith, h .sized k l .0, q .most k), omega (arith, h .sized k l .1, q .least k))
         ];
       };
       kept = λ k l e. ws-else k (λ z. omega arith) ∙ kept k (omega arith) e;
@@ -179,7 +179,7 @@ module _ (ss : List Stream) (v : Solvable ss) (ps : List ℕ) (i : ℕ) (li : i 
     unfolding ys
     left-some = rw here (some i li)
 
-  by-path : s .metered ≡ true → slackAt ss xs ps 1 i false ≡ 0 → (g : Grown) → Path maxUnits ss xs ps (s .from) (s .to) (suc i) g
+  by-path : s .metered ≡ true → reducedCostAt ss xs ps 1 i false ≡ 0 → (g : Grown) → Path maxUnits ss xs ps (s .from) (s .to) (suc i) g
       → Turn ss ps i xs (tiedBy ss xs (s .to) i g)
   unfolding ys ws
   by-path m none g (way e a r u) = rw e (round m _ (detour m none (g .tree) a r u))
@@ -190,27 +190,27 @@ module _ (ss : List Stream) (v : Solvable ss) (ps : List ℕ) (i : ℕ) (li : i 
   unfolding tiedAt
   turn =
       picked (Turn ss ps i xs) (s .metered) _ _
-      (λ m. picked (Turn ss ps i xs) (ltb 0 (slackAt ss xs ps 1 i false)) _ _
-      (λ e. slack m (ltb-true 0 (slackAt ss xs ps 1 i false) e))
-      (λ e. by-path m (omega (arith, ltb-false 0 (slackAt ss xs ps 1 i false) e)) _ round-path))
+      (λ m. picked (Turn ss ps i xs) (ltb 0 (reducedCostAt ss xs ps 1 i false)) _ _
+      (λ e. strict m (ltb-true 0 (reducedCostAt ss xs ps 1 i false) e))
+      (λ e. by-path m (omega (arith, ltb-false 0 (reducedCostAt ss xs ps 1 i false) e)) _ round-path))
       (λ m. free m)
 
 -- The flow stays even.
 even-more : (ss : List Stream) (ps : List ℕ) (i : ℕ) (xs : List ℕ) → Even ss ps i xs → Even ss ps (suc i) xs
 even-more ss ps i xs h = record {
   long = h .long;
-  held = h .held;
+  met = h .met;
   inside = h .inside;
   agreed = h .agreed;
   level = h .level;
   moderate = λ k l m. (omega (arith, h .moderate k l m .0), omega (arith, h .moderate k l m .1));
   floor = h .floor;
-  close = λ k l. (omega (arith, h .close k l .0), omega (arith, h .close k l .1));
+  sized = λ k l. (omega (arith, h .sized k l .0), omega (arith, h .sized k l .1));
 }
 
 even-turn : (ss : List Stream) (ps : List ℕ) (i : ℕ) (xs ws : List ℕ) → Even ss ps i xs → Turn ss ps i xs ws → Even ss ps (suc i) ws
 even-turn ss ps i xs _ h (free m) = even-more ss ps i xs h
-even-turn ss ps i xs _ h (slack m q) = even-more ss ps i xs h
+even-turn ss ps i xs _ h (strict m q) = even-more ss ps i xs h
 even-turn ss ps i xs _ h (cut m ls a b c) = even-more ss ps i xs h
 even-turn ss ps i xs _ h (round m ws d) = d .even
 

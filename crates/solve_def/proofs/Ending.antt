@@ -4,7 +4,7 @@ use mathlib.Core.Bool.{Bool, true, false}
 use mathlib.Core.List.{List}
 use mathlib.Core.Logic.{⊎-elim}
 use lib.IntN.{ℤ, pos, natAbs}
-use Prim.Native.Nat.{ℕ, _+_, _-_, _*_, _≤_, _<_}
+use Prim.Native.Nat.{ℕ, _+_, _*_, _≤_, _<_}
 use native.Mathlib.Nat.{mul-le-mul-left, mul-le-mul-right}
 use native.Mathlib.Omega.{arith}
 use native.Mathlib.Decide.{decLe, ℕ-discrete}
@@ -16,16 +16,16 @@ use Rattle.plant_def.specs.declared.Stream.{Stream}
 use Rattle.plant_def.specs.Limits.{maxUnits, places, maxStreams}
 use Rattle.flow_def.specs.Flows.{streamAt}
 use Rattle.flow_def.specs.Certificate.{weightOf}
-use Rattle.flow_def.proofs.Integers.{up, dn, Le, parts, size-val}
+use Rattle.num_bytes.proofs.Integers.{up, dn, Le, parts, size-val}
 use Rattle.flow_def.proofs.Reach.{Inside}
-use Rattle.flow_def.proofs.Sums.{sum, sum-none, sum-tight}
+use Rattle.num_bytes.proofs.Sums.{sum, sum-none, sum-tight}
 use Rattle.flow_def.proofs.Nets.{netOf, nets-sum}
 use Rattle.solve_def.specs.Sizes.{flowShift, potentialShift, mostReading, mostRange, mostTried, halvings, hintRoom, settledRoom}
-use Rattle.solve_def.specs.Held.{unshifted, readingOf, lowOf, highOf, Held}
-use Rattle.solve_def.specs.SearchNeeds.{Close}
+use Rattle.solve_def.specs.Held.{unshifted, readingOf, lowOf, highOf, StepMet}
+use Rattle.solve_def.specs.SearchNeeds.{SizeWithin}
 use Rattle.solve_def.specs.declared.State.{State}
 use Rattle.solve_def.specs.declared.Ended.{Ended}
-use Rattle.solve_def.specs.Model.{settled, overSum, noHint, phase, phases, finished}
+use Rattle.solve_def.specs.Model.{settled, excessSum, noHint, phase, phases, finished}
 use Rattle.solve_def.specs.SolverNeeds.{Start, Hinted, AtHint, Underway, Even}
 use Rattle.solve_def.proofs.Amounts.{net, unshifted-val}
 use Rattle.solve_def.proofs.Bounds.{weight-some}
@@ -34,13 +34,13 @@ use Rattle.solve_def.proofs.Streams.{Solvable}
 use Rattle.solve_def.proofs.Overs.{over-start}
 use Rattle.solve_def.proofs.Nearest.{start-more, ys, settled-one, settled-free, settled-over, settled-sound}
 use Rattle.solve_def.proofs.Tall.{sound-tall}
-use Rattle.solve_def.proofs.Steady.{steps-over, nets-val, sound-close}
+use Rattle.solve_def.proofs.Steady.{steps-over, nets-val, sound-within}
 use Rattle.solve_def.proofs.Phases.{Finished, Stage, last-phase, phases-good}
 
 -- At equal potentials an amount is the nearest in range to its reading: of size mostRange at most.
-level-close : (s : Stream) (X p : ℕ) → Ranged s → Close mostReading (readingOf s) → 1 ≤ weightOf s → Held 1 (weightOf s) X (readingOf s) p p (lowOf s) (highOf s)
-    → (lowOf s ≤ X) × (X ≤ highOf s) → Close mostRange X
-level-close s X p r z w h i = elim (ℕ-discrete (lowOf s) 0) [
+level-within : (s : Stream) (X p : ℕ) → Ranged s → SizeWithin mostReading (readingOf s) → 1 ≤ weightOf s → StepMet 1 (weightOf s) X (readingOf s) p p (lowOf s) (highOf s)
+    → (lowOf s ≤ X) × (X ≤ highOf s) → SizeWithin mostRange X
+level-within s X p r z w h i = elim (ℕ-discrete (lowOf s) 0) [
   | yes e ↦ (most e, least e)
   | no e ↦ (omega (arith, r .sized (omega arith) .1, i .1), omega (arith, r .sized (omega arith) .0, i .0))
 ]
@@ -78,13 +78,13 @@ module _ (ss : List Stream) (v : Solvable ss) where
   pub none-hinted : Hinted ss noHint
   none-hinted = start-more ss 0 hintRoom noHint none-start (omega arith) (omega arith)
 
-  none-close : (k : ℕ) → k < length ss → natAbs (unshifted (getD (ys ss v noHint 0 none-start) k 0)) ≤ mostRange
-  none-close k l = go (streamAt ss k .metered) refl
+  none-within : (k : ℕ) → k < length ss → natAbs (unshifted (getD (ys ss v noHint 0 none-start) k 0)) ≤ mostRange
+  none-within k l = go (streamAt ss k .metered) refl
     where
       X : ℕ
       X = getD (ys ss v noHint 0 none-start) k 0
 
-      size : Close mostRange X → natAbs (unshifted X) ≤ mostRange
+      size : SizeWithin mostRange X → natAbs (unshifted X) ≤ mostRange
       size c = ⊎-elim
           (λ (o : up (unshifted X) ≡ 0). omega (arith, o, size-val (unshifted X), unshifted-val X, c .1))
           (λ (o : dn (unshifted X) ≡ 0). omega (arith, o, size-val (unshifted X), unshifted-val X, c .0))
@@ -95,18 +95,18 @@ module _ (ss : List Stream) (v : Solvable ss) where
           let o = settled-one ss v noHint 0 none-start k l in
           let a : getD (noHint .potentials) (streamAt ss k .from) 0 ≡ potentialShift = potential (streamAt ss k .from) (omega (arith, v .plain .inside k l .0)) in
           let c : getD (noHint .potentials) (streamAt ss k .to) 0 ≡ potentialShift = potential (streamAt ss k .to) (omega (arith, v .plain .inside k l .1)) in
-          size (level-close (streamAt ss k) X potentialShift (v .ranged k l) (v .plain .read k l e) (rw (weight-some (streamAt ss k) e) (v .weighed k l e)) (rw (a, c) at (o .0)) (o .1))
+          size (level-within (streamAt ss k) X potentialShift (v .ranged k l) (v .plain .read k l e) (rw (weight-some (streamAt ss k) e) (v .weighed k l e)) (rw (a, c) at (o .0)) (o .1))
       go false e =
           let q : getD (noHint .flows) k 0 ≡ flowShift = getD-replicate {A = ℕ} maxStreams k flowShift 0 (omega (arith, v .plain .few)) in
           let f = settled-free ss v noHint 0 none-start k e in
           size (omega (arith, f, q), omega (arith, f, q))
 
   -- What is over at that start.
-  pub none-over : overSum (settled ss noHint .nets) ≤ maxStreams * mostRange
+  pub none-over : excessSum (settled ss noHint .nets) ≤ maxStreams * mostRange
   none-over =
       omega (
         arith,
-        over-start maxUnits ss (λ k. unshifted (getD (ys ss v noHint 0 none-start) k 0)) (v .plain .inside) mostRange none-close,
+        over-start maxUnits ss (λ k. unshifted (getD (ys ss v noHint 0 none-start) k 0)) (v .plain .inside) mostRange none-within,
         settled-over ss v noHint 0 none-start,
         mul-le-mul-right mostRange (v .plain .few),
       )
@@ -118,21 +118,21 @@ module _ (ss : List Stream) (v : Solvable ss) where
 -- Settled at a hint with little over.
 module _ (ss : List Stream) (v : Solvable ss) (st : State) (s : AtHint ss st) where
   -- A hint that leaves little over can go straight to step 1.
-  pub hint-underway : overSum (st .nets) ≤ mostTried → Underway ss 1 settledRoom st
+  pub hint-underway : excessSum (st .nets) ≤ mostTried → Underway ss 1 settledRoom st
   hint-underway o = subst (Underway ss 1 settledRoom) (sym (s .is)) (record {
     size = hintRoom;
     sound = settled-sound ss v (s .hint) hintRoom (s .hinted) 1 (omega arith) (omega (arith, little));
     fits = omega (arith, little, steps-over 1 (settled ss (s .hint) .nets));
   })
     where
-      little : overSum (settled ss (s .hint) .nets) ≤ mostTried
-      little = subst (λ (r : State). overSum (r .nets) ≤ mostTried) (s .is) o
+      little : excessSum (settled ss (s .hint) .nets) ≤ mostTried
+      little = subst (λ (r : State). excessSum (r .nets) ≤ mostTried) (s .is) o
 
   -- From there the flow is finished.
   pub finished-good : Finished ss (finished ss st)
   unfolding finished
-  finished-good = picked (Finished ss) (leb (overSum (st .nets)) mostTried) (phase ss 1 st) (phases halvings ss noHint)
-      (λ e. last-phase ss v settledRoom st (omega arith) (hint-underway (leb-true (overSum (st .nets)) mostTried e)))
+  finished-good = picked (Finished ss) (leb (excessSum (st .nets)) mostTried) (phase ss 1 st) (phases halvings ss noHint)
+      (λ e. last-phase ss v settledRoom st (omega arith) (hint-underway (leb-true (excessSum (st .nets)) mostTried e)))
       (λ e. phases-good ss v halvings 0 noHint (omega arith) (omega arith) (none-stage ss v))
 
 -- Nets of which none is positive are 0: their sum is.
@@ -146,7 +146,7 @@ level-nets ss w x h u l = sum-tight places (netOf ss x) (λ v. pos 0) (λ k m. o
 pub finished-even : (ss : List Stream) → Solvable ss → (r : Ended) → Finished ss r → r .full ≡ false → Even ss (r .state .potentials) 0 (r .state .flows)
 finished-even ss v r h e = record {
   long = h .underway e .sound .long;
-  held = h .underway e .sound .held;
+  met = h .underway e .sound .met;
   inside = h .underway e .sound .inside;
   agreed = h .underway e .sound .agreed;
   level = λ u l. level-nets ss (v .plain .inside) (λ k. unshifted (getD (r .state .flows) k 0)) none u (omega arith);
@@ -154,8 +154,8 @@ finished-even ss v r h e = record {
       let q = sound-tall ss v 1 (h .underway e .size) (r .state) (omega arith) (h .underway e .sound) k l m in
       (omega (arith, q .0), omega (arith, q .1));
   floor = h .underway e .sound .floor;
-  close = λ k l.
-      let q = sound-close ss v 1 (h .underway e .size) (omega arith, omega arith) (r .state) (h .underway e .sound) (omega (arith, h .underway e .fits)) k l in
+  sized = λ k l.
+      let q = sound-within ss v 1 (h .underway e .size) (omega arith, omega arith) (r .state) (h .underway e .sound) (omega (arith, h .underway e .fits)) k l in
       (omega (arith, q .0), omega (arith, q .1));
 }
   where

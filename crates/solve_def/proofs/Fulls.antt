@@ -14,8 +14,8 @@ use Rattle.num_bytes.proofs.Tests.{by-cases, and-both}
 use Rattle.plant_def.specs.declared.Stream.{Stream}
 use Rattle.plant_def.specs.Limits.{maxUnits}
 use Rattle.flow_def.specs.Flows.{streamAt}
-use Rattle.flow_def.proofs.Integers.{up, dn, plus-val, up-neg, dn-neg}
-use Rattle.flow_def.proofs.Sums.{sum}
+use Rattle.num_bytes.proofs.Integers.{up, dn, plus-val, up-neg, dn-neg}
+use Rattle.num_bytes.proofs.Sums.{sum}
 use Rattle.solve_def.specs.Sizes.{flowShift, mostFlow, netShift}
 use Rattle.solve_def.specs.Held.{unshifted, lowOf, highOf}
 use Rattle.solve_def.specs.Full.{mayCross, pressed, boundedTo, pressedTo, overfull}
@@ -23,7 +23,7 @@ use Rattle.solve_def.proofs.Amounts.{net, unshifted-val}
 use Rattle.solve_def.proofs.Least.{startIn, endIn}
 use Rattle.solve_def.proofs.Hunting.{Stuck, stuck-edge}
 use Rattle.solve_def.proofs.Streams.{Solvable}
-use Rattle.solve_def.proofs.Closed.{edge, stuck-over}
+use Rattle.solve_def.proofs.Edges.{edge, stuck-over}
 
 -- What is pressed into a set, by value.
 pressed-val : (s : Stream) (a b : Bool) → highOf s ≤ mostFlow

@@ -12,6 +12,7 @@ use lib.ListN.{length, getD, set, replicate, length-set}
 use lib.Seq.{getD-set-same, getD-set-other}
 use Rattle.num_bytes.specs.Choice.{pick}
 use Rattle.num_bytes.proofs.Tests.{by-cases}
+use Rattle.num_bytes.proofs.Filled.{blank-at}
 use Rattle.plant_def.specs.declared.Stream.{Stream}
 use Rattle.plant_def.specs.Limits.{places, maxUnits, maxStreams, maxWeight}
 use Rattle.flow_def.specs.Flows.{streamAt}
@@ -19,9 +20,9 @@ use Rattle.flow_def.proofs.Reach.{Inside}
 use Rattle.solve_def.specs.declared.Tree.{Tree}
 use Rattle.flow_def.specs.Certificate.{weightOf}
 use Rattle.solve_def.specs.Sizes.{mostStep, mostReading, mostAmount, mostMarginal, farthest}
-use Rattle.solve_def.specs.Held.{readingOf, lowOf, highOf, Held, AllHeld}
-use Rattle.solve_def.specs.SearchNeeds.{Close, Moderate}
-use Rattle.solve_def.specs.Slack.{slackBy, slackAt}
+use Rattle.solve_def.specs.Held.{readingOf, lowOf, highOf, StepMet, AllStepsMet}
+use Rattle.solve_def.specs.SearchNeeds.{SizeWithin, Moderate}
+use Rattle.solve_def.specs.ReducedCosts.{reducedCostBy, reducedCostAt}
 use Rattle.solve_def.specs.Search.{fallen, loweredBy, farEnd, rootAt, addedTo}
 use Rattle.solve_def.specs.Augment.{otherEnd}
 use Rattle.solve_def.proofs.Amounts.{get-set}
@@ -29,7 +30,7 @@ use Rattle.solve_def.proofs.Elements.{lowered-at}
 use Rattle.solve_def.proofs.Least.{startIn, endIn}
 use Rattle.solve_def.specs.Counts.{countPlaces}
 use Rattle.solve_def.proofs.Counting.{count-most, count-none, count-more}
-use Rattle.solve_def.proofs.Bounds.{Open, slack-open, open-of}
+use Rattle.solve_def.proofs.Bounds.{HasRoom, reduced-with-room, room-of}
 use Rattle.solve_def.proofs.Augmenting.{reached, Link, both-reached}
 
 -- Streams among places 0 to n, as far as the search needs them.
@@ -38,42 +39,42 @@ pub record Plain (n : ℕ) (ss : List Stream) : Type 0 where
   pub small : n ≤ maxUnits
   pub few : length ss ≤ maxStreams
   pub light : (k : ℕ) → k < length ss → weightOf (streamAt ss k) ≤ maxWeight
-  pub read : (k : ℕ) → k < length ss → streamAt ss k .metered ≡ true → Close mostReading (readingOf (streamAt ss k))
+  pub read : (k : ℕ) → k < length ss → streamAt ss k .metered ≡ true → SizeWithin mostReading (readingOf (streamAt ss k))
 
--- One stream keeps the step condition while potentials fall by no more than its slack.
-held-kept : (a b : Bool) (s : Stream) (x pu pv d g : ℕ) → Held d (weightOf s) x (readingOf s) pu pv (lowOf s) (highOf s) → (a ≡ true → g ≤ pu) → (b ≡ true → g ≤ pv)
-    → (a ≡ not b → g ≤ slackBy s a x pu pv d) → Held d (weightOf s) x (readingOf s) (fallen a g pu) (fallen b g pv) (lowOf s) (highOf s)
-held-kept true true s x pu pv d g h hu hv c =
+-- One stream keeps the step condition while potentials fall by no more than its reduced cost.
+met-kept : (a b : Bool) (s : Stream) (x pu pv d g : ℕ) → StepMet d (weightOf s) x (readingOf s) pu pv (lowOf s) (highOf s) → (a ≡ true → g ≤ pu) → (b ≡ true → g ≤ pv)
+    → (a ≡ not b → g ≤ reducedCostBy s a x pu pv d) → StepMet d (weightOf s) x (readingOf s) (fallen a g pu) (fallen b g pv) (lowOf s) (highOf s)
+met-kept true true s x pu pv d g h hu hv c =
     record { low = λ o. omega (arith, h .low o, hu refl, hv refl); high = λ o. omega (arith, h .high o, hu refl, hv refl) }
-held-kept true false s x pu pv d g h hu hv c =
-    record { low = λ o. omega (arith, h .low o, hu refl); high = λ o. omega (arith, h .high o, hu refl, c refl, slack-open true s x pu pv d o) }
-held-kept false true s x pu pv d g h hu hv c =
-    record { low = λ o. omega (arith, h .low o, hv refl, c refl, slack-open false s x pu pv d o); high = λ o. omega (arith, h .high o, hv refl) }
-held-kept false false s x pu pv d g h hu hv c = h
+met-kept true false s x pu pv d g h hu hv c =
+    record { low = λ o. omega (arith, h .low o, hu refl); high = λ o. omega (arith, h .high o, hu refl, c refl, reduced-with-room true s x pu pv d o) }
+met-kept false true s x pu pv d g h hu hv c =
+    record { low = λ o. omega (arith, h .low o, hv refl, c refl, reduced-with-room false s x pu pv d o); high = λ o. omega (arith, h .high o, hv refl) }
+met-kept false false s x pu pv d g h hu hv c = h
 
--- The slack after both potentials fell alike, and after the visited end's fell by it.
-slack-both : (b : Bool) (s : Stream) (x pu pv d g : ℕ) → g ≤ pu → g ≤ pv → slackBy s b x pu pv d ≡ 0 → slackBy s b x (pu - g) (pv - g) d ≡ 0
-slack-both b s x pu pv d g hu hv e = go b (open-of b s x pu pv d (omega arith)) e
+-- The reduced cost after both potentials fell alike, and after the visited end's fell by it.
+reduced-both : (b : Bool) (s : Stream) (x pu pv d g : ℕ) → g ≤ pu → g ≤ pv → reducedCostBy s b x pu pv d ≡ 0 → reducedCostBy s b x (pu - g) (pv - g) d ≡ 0
+reduced-both b s x pu pv d g hu hv e = go b (room-of b s x pu pv d (omega arith)) e
   where
-    go : (b : Bool) → Open s b x d → slackBy s b x pu pv d ≡ 0 → slackBy s b x (pu - g) (pv - g) d ≡ 0
-    go true o e = slack-open true s x (pu - g) (pv - g) d o ∙ omega (arith, slack-open true s x pu pv d o, e)
-    go false o e = slack-open false s x (pu - g) (pv - g) d o ∙ omega (arith, slack-open false s x pu pv d o, e)
+    go : (b : Bool) → HasRoom s b x d → reducedCostBy s b x pu pv d ≡ 0 → reducedCostBy s b x (pu - g) (pv - g) d ≡ 0
+    go true o e = reduced-with-room true s x (pu - g) (pv - g) d o ∙ omega (arith, reduced-with-room true s x pu pv d o, e)
+    go false o e = reduced-with-room false s x (pu - g) (pv - g) d o ∙ omega (arith, reduced-with-room false s x pu pv d o, e)
 
--- Potentials that fall by the slack leave none.
-pub slack-gone : (a b : Bool) (s : Stream) (x pu pv d g : ℕ) → a ≡ not b → (a ≡ true → g ≤ pu) → (b ≡ true → g ≤ pv) → g ≡ slackBy s a x pu pv d → g < farthest
-    → slackBy s a x (fallen a g pu) (fallen b g pv) d ≡ 0
-slack-gone true true s x pu pv d g c hu hv e f = absurd (true≢false c)
-slack-gone true false s x pu pv d g c hu hv e f =
-    let o : Open s true x d = open-of true s x pu pv d (omega arith) in
-    slack-open true s x (pu - g) pv d o ∙ omega (arith, slack-open true s x pu pv d o, e, hu refl)
-slack-gone false true s x pu pv d g c hu hv e f =
-    let o : Open s false x d = open-of false s x pu pv d (omega arith) in
-    slack-open false s x pu (pv - g) d o ∙ omega (arith, slack-open false s x pu pv d o, e, hv refl)
-slack-gone false false s x pu pv d g c hu hv e f = absurd (false≢true c)
+-- Potentials that fall by the reduced cost leave none.
+pub reduced-gone : (a b : Bool) (s : Stream) (x pu pv d g : ℕ) → a ≡ not b → (a ≡ true → g ≤ pu) → (b ≡ true → g ≤ pv) → g ≡ reducedCostBy s a x pu pv d → g < farthest
+    → reducedCostBy s a x (fallen a g pu) (fallen b g pv) d ≡ 0
+reduced-gone true true s x pu pv d g c hu hv e f = absurd (true≢false c)
+reduced-gone true false s x pu pv d g c hu hv e f =
+    let o : HasRoom s true x d = room-of true s x pu pv d (omega arith) in
+    reduced-with-room true s x (pu - g) pv d o ∙ omega (arith, reduced-with-room true s x pu pv d o, e, hu refl)
+reduced-gone false true s x pu pv d g c hu hv e f =
+    let o : HasRoom s false x d = room-of false s x pu pv d (omega arith) in
+    reduced-with-room false s x pu (pv - g) d o ∙ omega (arith, reduced-with-room false s x pu pv d o, e, hv refl)
+reduced-gone false false s x pu pv d g c hu hv e f = absurd (false≢true c)
 
 -- Where a stream is metered, its amount and its reading are of sizes provided for.
 abbrev pub Modest : Stream → ℕ → Type 0
-Modest s x = s .metered ≡ true → Close mostAmount x × Close mostReading (readingOf s)
+Modest s x = s .metered ≡ true → SizeWithin mostAmount x × SizeWithin mostReading (readingOf s)
 
 -- The marginals, the step's share added, are at most mostMarginal; an unmetered stream's are 0.
 pub marginals : (s : Stream) (x d : ℕ) → weightOf s ≤ maxWeight → d ≤ mostStep → Modest s x
@@ -83,7 +84,7 @@ marginals s x d light step modest = by-cases (s .metered) (λ m. some m (modest 
     apart : (w x r : ℕ) → x ≤ r + (mostAmount + mostReading) → w ≤ maxWeight → w * x ≤ w * r + maxWeight * (mostAmount + mostReading)
     apart w x r h l = let a = mul-le-mul-left w h in omega (arith, a)
 
-    some : s .metered ≡ true → Close mostAmount x × Close mostReading (readingOf s)
+    some : s .metered ≡ true → SizeWithin mostAmount x × SizeWithin mostReading (readingOf s)
         → (2 * (weightOf s * x) + weightOf s * d ≤ 2 * (weightOf s * readingOf s) + mostMarginal) × (2 * (weightOf s * readingOf s) + weightOf s * d ≤ 2 * (weightOf s * x) + mostMarginal)
     some m c =
         let a = apart (weightOf s) x (readingOf s) (omega (arith, c .0 .0, c .1 .1)) light in
@@ -91,26 +92,26 @@ marginals s x d light step modest = by-cases (s .metered) (λ m. some m (modest 
         let e : weightOf s * d ≤ maxWeight * mostStep = mul-le-mul light step in
         (omega (arith, a, e), omega (arith, b, e))
 
--- How large the slack of an open stream is, by the potentials of the ends; and one without slack: its ends' potentials are within mostMarginal of
+-- How large the reduced cost of a stream with room is, by the potentials of the ends; and one without reduced cost: its ends' potentials are within mostMarginal of
 -- each other.
-pub slack-rise : (f : Bool) (s : Stream) (x pu pv d : ℕ) → Held d (weightOf s) x (readingOf s) pu pv (lowOf s) (highOf s) → weightOf s ≤ maxWeight → d ≤ mostStep → Modest s x
-    → Open s f x d → slackBy s f x pu pv d + pick f pv pu ≤ pick f pu pv + mostMarginal
-slack-rise true s x pu pv d h light step modest o =
-    let m = marginals s x d light step modest in omega (arith, slack-open true s x pu pv d o, h .high o, m .0)
-slack-rise false s x pu pv d h light step modest o =
-    let m = marginals s x d light step modest in omega (arith, slack-open false s x pu pv d o, h .low o, m .1)
+pub reduced-rise : (f : Bool) (s : Stream) (x pu pv d : ℕ) → StepMet d (weightOf s) x (readingOf s) pu pv (lowOf s) (highOf s) → weightOf s ≤ maxWeight → d ≤ mostStep → Modest s x
+    → HasRoom s f x d → reducedCostBy s f x pu pv d + pick f pv pu ≤ pick f pu pv + mostMarginal
+reduced-rise true s x pu pv d h light step modest o =
+    let m = marginals s x d light step modest in omega (arith, reduced-with-room true s x pu pv d o, h .high o, m .0)
+reduced-rise false s x pu pv d h light step modest o =
+    let m = marginals s x d light step modest in omega (arith, reduced-with-room false s x pu pv d o, h .low o, m .1)
 
-slack-none : (f : Bool) (s : Stream) (x pu pv d : ℕ) → Held d (weightOf s) x (readingOf s) pu pv (lowOf s) (highOf s) → weightOf s ≤ maxWeight → d ≤ mostStep → Modest s x
-    → slackBy s f x pu pv d ≡ 0 → (pu ≤ pv + mostMarginal) × (pv ≤ pu + mostMarginal)
-slack-none f s x pu pv d h light step modest e = go f e (open-of f s x pu pv d (omega arith))
+reduced-none : (f : Bool) (s : Stream) (x pu pv d : ℕ) → StepMet d (weightOf s) x (readingOf s) pu pv (lowOf s) (highOf s) → weightOf s ≤ maxWeight → d ≤ mostStep → Modest s x
+    → reducedCostBy s f x pu pv d ≡ 0 → (pu ≤ pv + mostMarginal) × (pv ≤ pu + mostMarginal)
+reduced-none f s x pu pv d h light step modest e = go f e (room-of f s x pu pv d (omega arith))
   where
-    go : (f : Bool) → slackBy s f x pu pv d ≡ 0 → Open s f x d → (pu ≤ pv + mostMarginal) × (pv ≤ pu + mostMarginal)
+    go : (f : Bool) → reducedCostBy s f x pu pv d ≡ 0 → HasRoom s f x d → (pu ≤ pv + mostMarginal) × (pv ≤ pu + mostMarginal)
     go true e o =
         let m = marginals s x d light step modest in
-        (omega (arith, slack-open true s x pu pv d o, e, h .high o, m .1), omega (arith, slack-open true s x pu pv d o, e, h .high o, m .0))
+        (omega (arith, reduced-with-room true s x pu pv d o, e, h .high o, m .1), omega (arith, reduced-with-room true s x pu pv d o, e, h .high o, m .0))
     go false e o =
         let m = marginals s x d light step modest in
-        (omega (arith, slack-open false s x pu pv d o, e, h .low o, m .1), omega (arith, slack-open false s x pu pv d o, e, h .low o, m .0))
+        (omega (arith, reduced-with-room false s x pu pv d o, e, h .low o, m .1), omega (arith, reduced-with-room false s x pu pv d o, e, h .low o, m .0))
 
 -- A store past the places that are looked at.
 reached-set : (root : ℕ) (ends : List ℕ) (m e j v : ℕ) → j ≤ m → reached root (set ends m e) j v ≡ reached root ends j v
@@ -119,11 +120,11 @@ reached-set root ends m e (suc j) v l = rw (getD-set-other ends m j e 0 (λ q. o
 
 -- What holds of a tree and potentials during a search.
 pub record Growing (n : ℕ) (ss : List Stream) (xs : List ℕ) (d root : ℕ) (ps : List ℕ) (t : Tree) : Type 0 where
-  pub held : AllHeld ss xs ps d
+  pub met : AllStepsMet ss xs ps d
   pub visits : length (t .visited) ≡ places
   pub vias : length (t .via) ≡ places
   pub endings : length (t .ends) ≡ places
-  pub marks : (v : ℕ) → v < places → getD (t .visited) v false ≡ reached root (t .ends) (t .len) v
+  pub reaches-all : (v : ℕ) → v < places → getD (t .visited) v false ≡ reached root (t .ends) (t .len) v
   pub links : (k : ℕ) → k < t .len → Link ss xs ps d root (t .via) (t .ends) k
   pub counted : countPlaces n (λ v. getD (t .visited) v false) ≡ suc (t .len)
 
@@ -133,13 +134,13 @@ Level ps t = (u v : ℕ) → u < places → v < places → getD (t .visited) u f
     → getD ps u 0 ≤ getD ps v 0 + mostMarginal * t .len
 
 -- The tree of one place.
-pub root-growing : (n : ℕ) (ss : List Stream) (xs ps : List ℕ) (d root : ℕ) → n ≤ maxUnits → root ≤ n → AllHeld ss xs ps d → Growing n ss xs d root ps (rootAt root)
+pub root-growing : (n : ℕ) (ss : List Stream) (xs ps : List ℕ) (d root : ℕ) → n ≤ maxUnits → root ≤ n → AllStepsMet ss xs ps d → Growing n ss xs d root ps (rootAt root)
 root-growing n ss xs ps d root small l h = record {
-  held = h;
+  met = h;
   visits = length-set (replicate places false) root true;
   vias = refl;
   endings = refl;
-  marks = λ v m. get-set (replicate places false) root v true false (omega arith) ∙ go v m (eqb root v);
+  reaches-all = λ v m. get-set (replicate places false) root v true false (omega arith) ∙ go v m (eqb root v);
   links = λ k m. absurd (omega arith);
   counted =
       count-more n root (λ v. false) (λ v. getD (set (replicate places false) root true) v false) l refl
@@ -147,13 +148,8 @@ root-growing n ss xs ps d root small l h = record {
       ∙ ap suc (count-none n (λ v. false) (λ v m. refl));
 }
   where
-    none-at : (k v : ℕ) → getD (replicate k false) v false ≡ false
-    none-at zero v = refl
-    none-at (suc k) zero = refl
-    none-at (suc k) (suc v) = none-at k v
-
     none : (v : ℕ) → getD (replicate places false) v false ≡ false
-    none v = none-at 33 v
+    none v = blank-at false places v
 
     go : (v : ℕ) → v < places → (b : Bool) → pick b true (getD (replicate places false) v false) ≡ b
     go v m true = refl
@@ -174,30 +170,30 @@ module _ (n : ℕ) (ss : List Stream) (plain : Plain n ss) (xs : List ℕ) (d ro
 
   -- The potentials are lowered.
   pub lower-growing : (ps : List ℕ) (t : Tree) (g : ℕ) → Growing n ss xs d root ps t → ((u : ℕ) → u < places → getD (t .visited) u false ≡ true → g ≤ getD ps u 0)
-      → ((k : ℕ) → k < length ss → startIn ss (t .visited) k ≡ not (endIn ss (t .visited) k) → g ≤ slackAt ss xs ps d k (startIn ss (t .visited) k))
+      → ((k : ℕ) → k < length ss → startIn ss (t .visited) k ≡ not (endIn ss (t .visited) k) → g ≤ reducedCostAt ss xs ps d k (startIn ss (t .visited) k))
       → Growing n ss xs d root (loweredBy (t .visited) g ps) t
   lower-growing ps t g h room lack =
-      record { held = held; visits = h .visits; vias = h .vias; endings = h .endings; marks = h .marks; links = links; counted = h .counted }
+      record { met = met; visits = h .visits; vias = h .vias; endings = h .endings; reaches-all = h .reaches-all; links = links; counted = h .counted }
     where
-      held : AllHeld ss xs (loweredBy (t .visited) g ps) d
-      held k l = rw (lowered-at (t .visited) g ps (streamAt ss k .from), lowered-at (t .visited) g ps (streamAt ss k .to))
-          (held-kept (startIn ss (t .visited) k) (endIn ss (t .visited) k) (streamAt ss k) (getD xs k 0) (getD ps (streamAt ss k .from) 0)
-          (getD ps (streamAt ss k .to) 0) d g (h .held k l) (room (streamAt ss k .from) (from-small k l)) (room (streamAt ss k .to) (to-small k l)) (lack k l))
+      met : AllStepsMet ss xs (loweredBy (t .visited) g ps) d
+      met k l = rw (lowered-at (t .visited) g ps (streamAt ss k .from), lowered-at (t .visited) g ps (streamAt ss k .to))
+          (met-kept (startIn ss (t .visited) k) (endIn ss (t .visited) k) (streamAt ss k) (getD xs k 0) (getD ps (streamAt ss k .from) 0)
+          (getD ps (streamAt ss k .to) 0) d g (h .met k l) (room (streamAt ss k .from) (from-small k l)) (room (streamAt ss k .to) (to-small k l)) (lack k l))
 
       links : (k : ℕ) → k < t .len → Link ss xs (loweredBy (t .visited) g ps) d root (t .via) (t .ends) k
       links k l =
           let m = h .links k l in
           let i : ℕ = getD (t .via) k 0 in
           let b = both-reached ss ps d root (t .via) (t .ends) xs k (t .len) l m in
-          let bf : getD (t .visited) (streamAt ss i .from) false ≡ true = h .marks (streamAt ss i .from) (from-small i (m .inside)) ∙ b .0 in
-          let bt : getD (t .visited) (streamAt ss i .to) false ≡ true = h .marks (streamAt ss i .to) (to-small i (m .inside)) ∙ b .1 in
+          let bf : getD (t .visited) (streamAt ss i .from) false ≡ true = h .reaches-all (streamAt ss i .from) (from-small i (m .inside)) ∙ b .0 in
+          let bt : getD (t .visited) (streamAt ss i .to) false ≡ true = h .reaches-all (streamAt ss i .to) (to-small i (m .inside)) ∙ b .1 in
           record {
             inside = m .inside;
             fresh = m .fresh;
             joins = m .joins;
             touch = m .touch;
             tight = rw (lowered-at (t .visited) g ps (streamAt ss i .from), lowered-at (t .visited) g ps (streamAt ss i .to), bf, bt)
-                (slack-both (eqb (streamAt ss i .to) (getD (t .ends) k 0)) (streamAt ss i) (getD xs i 0) (getD ps (streamAt ss i .from) 0)
+                (reduced-both (eqb (streamAt ss i .to) (getD (t .ends) k 0)) (streamAt ss i) (getD xs i 0) (getD ps (streamAt ss i .from) 0)
                 (getD ps (streamAt ss i .to) 0) d g (room (streamAt ss i .from) (from-small i (m .inside)) bf) (room (streamAt ss i .to) (to-small i (m .inside)) bt)
                 (m .tight));
             room = m .room;
@@ -239,7 +235,7 @@ module _ (n : ℕ) (ss : List Stream) (plain : Plain n ss) (xs : List ℕ) (d ro
 
   -- One place more is visited: it is within mostMarginal of the end from which the stream leads there.
   pub add-level : (ps : List ℕ) (t : Tree) (i : ℕ) → Growing n ss xs d root ps t → Level ps t → d ≤ mostStep → Moderate ss xs → i < length ss
-      → startIn ss (t .visited) i ≡ not (endIn ss (t .visited) i) → slackAt ss xs ps d i (startIn ss (t .visited) i) ≡ 0
+      → startIn ss (t .visited) i ≡ not (endIn ss (t .visited) i) → reducedCostAt ss xs ps d i (startIn ss (t .visited) i) ≡ 0
       → Level ps (addedTo t i (farEnd (t .visited) (streamAt ss i)))
   add-level ps t i h level step moderate li c z u v lu lv a b = by-cases (eqb e u)
       (λ p. let o : e ≡ u = eqb-true e u p in by-cases (eqb e v)
@@ -262,7 +258,7 @@ module _ (n : ℕ) (ss : List Stream) (plain : Plain n ss) (xs : List ℕ) (d ro
       old v q o = sym (getD-set-other (t .visited) e v true false (λ y. q (sym y))) ∙ o
 
       both : (getD ps (s .from) 0 ≤ getD ps (s .to) 0 + mostMarginal) × (getD ps (s .to) 0 ≤ getD ps (s .from) 0 + mostMarginal)
-      both = slack-none (startIn ss (t .visited) i) s (getD xs i 0) _ _ d (h .held i li) (plain .light i li) step (modest moderate i li) z
+      both = reduced-none (startIn ss (t .visited) i) s (getD xs i 0) _ _ d (h .met i li) (plain .light i li) step (modest moderate i li) z
 
       lx : x < places
       lx = by-cases (startIn ss (t .visited) i) (λ q. rw q (from-small i li)) (λ q. rw q (to-small i li))
@@ -275,14 +271,14 @@ module _ (n : ℕ) (ss : List Stream) (plain : Plain n ss) (xs : List ℕ) (d ro
 
   -- One place more is visited.
   pub add-growing : (ps : List ℕ) (t : Tree) (i : ℕ) → Growing n ss xs d root ps t → i < length ss → startIn ss (t .visited) i ≡ not (endIn ss (t .visited) i)
-      → slackAt ss xs ps d i (startIn ss (t .visited) i) ≡ 0 → d ≤ getD xs i 0
+      → reducedCostAt ss xs ps d i (startIn ss (t .visited) i) ≡ 0 → d ≤ getD xs i 0
       → Growing n ss xs d root ps (addedTo t i (farEnd (t .visited) (streamAt ss i)))
   add-growing ps t i h li c z room = record {
-    held = h .held;
+    met = h .met;
     visits = length-set (t .visited) e true ∙ h .visits;
     vias = length-set (t .via) (t .len) i ∙ h .vias;
     endings = length-set (t .ends) (t .len) e ∙ h .endings;
-    marks = marks;
+    reaches-all = reaches-all;
     links = links;
     counted =
         count-more n e (λ v. getD (t .visited) v false) (λ v. getD (set (t .visited) e true) v false) le (f .0) (getD-set-same (t .visited) e true false small-e)
@@ -325,17 +321,17 @@ module _ (n : ℕ) (ss : List Stream) (plain : Plain n ss) (xs : List ℕ) (d ro
       suc-len : t .len + 1 ≡ suc (t .len)
       suc-len = omega arith
 
-      marks : (v : ℕ) → v < places → getD (set (t .visited) e true) v false ≡ reached root (set (t .ends) (t .len) e) (t .len + 1) v
-      marks v l =
+      reaches-all : (v : ℕ) → v < places → getD (set (t .visited) e true) v false ≡ reached root (set (t .ends) (t .len) e) (t .len + 1) v
+      reaches-all v l =
           get-set (t .visited) e v true false small-e
-          ∙ rw (suc-len, end-new, reached-set root (t .ends) (t .len) e (t .len) v (omega arith), ← h .marks v l) (or-pick (eqb e v) (getD (t .visited) v false))
+          ∙ rw (suc-len, end-new, reached-set root (t .ends) (t .len) e (t .len) v (omega arith), ← h .reaches-all v l) (or-pick (eqb e v) (getD (t .visited) v false))
         where
           or-pick : (a b : Bool) → pick a true b ≡ a || b
           or-pick true b = refl
           or-pick false b = refl
 
       marked : (v : ℕ) → v < places → reached root (set (t .ends) (t .len) e) (t .len) v ≡ getD (t .visited) v false
-      marked v l = reached-set root (t .ends) (t .len) e (t .len) v (omega arith) ∙ sym (h .marks v l)
+      marked v l = reached-set root (t .ends) (t .len) e (t .len) v (omega arith) ∙ sym (h .reaches-all v l)
 
       other-small : otherEnd s e < places
       other-small = by-cases (eqb (s .to) e) (λ q. rw q (from-small i li)) (λ q. rw q (to-small i li))

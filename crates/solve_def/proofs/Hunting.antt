@@ -1,4 +1,4 @@
--- The search finds a place with a negative net, or is stuck with the places that it visited: no open stream leaves them.
+-- The search finds a place with a negative net, or is stuck with the places that it visited: no stream with room leaves them.
 use mathlib.Core.Path.{_≡_, refl, sym, _∙_, ap}
 use mathlib.Core.Bool.{Bool, true, false, not}
 use mathlib.Core.List.{List}
@@ -16,17 +16,17 @@ use Rattle.plant_def.specs.Limits.{places}
 use Rattle.flow_def.specs.Flows.{streamAt}
 use Rattle.solve_def.specs.declared.Tree.{Tree}
 use Rattle.solve_def.specs.Sizes.{netShift, searchRounds, mostStep, mostMarginal, potentialFloor, farthest}
-use Rattle.solve_def.specs.Held.{lowOf, highOf, AllHeld}
-use Rattle.solve_def.specs.Slack.{Crossing, At, Nothing, leastTo, slackAt}
+use Rattle.solve_def.specs.Held.{lowOf, highOf, AllStepsMet}
+use Rattle.solve_def.specs.ReducedCosts.{Crossing, At, Nothing, leastTo, reducedCostAt}
 use Rattle.solve_def.specs.Search.{loweredBy, farEnd, onCrossing, rootAt, addedTo, target, Grown, grownBy, grow, sought}
 use Rattle.solve_def.specs.SearchNeeds.{Potentials, Moderate, Floored}
 use Rattle.solve_def.proofs.Elements.{lowered-at, lowered-long, fallen-least}
 use Rattle.solve_def.proofs.Least.{opposed, all-usable, startIn, endIn, Answers, least-good}
 use Rattle.solve_def.proofs.Counting.{count-full}
-use Rattle.solve_def.proofs.Bounds.{Open, open-of}
+use Rattle.solve_def.proofs.Bounds.{HasRoom, room-of}
 use Rattle.solve_def.proofs.Augmenting.{reached-more}
 use Rattle.solve_def.proofs.Growing.{Plain, Growing, Level, root-growing, from-small, to-small, lower-growing, lower-level, some-left}
-use Rattle.solve_def.proofs.Growing.{far-off, far-near, add-level, add-growing, slack-gone, slack-rise, modest}
+use Rattle.solve_def.proofs.Growing.{far-off, far-near, add-level, add-growing, reduced-gone, reduced-rise, modest}
 
 -- What a search that found a place comes to, from the potentials ps: the place visited last has a negative net, and no potential rose.
 pub record Found (n : ℕ) (ss : List Stream) (xs es : List ℕ) (d root : ℕ) (ps : List ℕ) (g : Grown) : Type 0 where
@@ -37,11 +37,11 @@ pub record Found (n : ℕ) (ss : List Stream) (xs es : List ℕ) (d root : ℕ) 
   pub rise : (u : ℕ) → getD (g .potentials) u 0 ≤ getD ps u 0
   pub long : length (g .potentials) ≡ length ps
 
--- What a search that is stuck comes to: the visited places, none with a negative net, and no open stream leaves them.
+-- What a search that is stuck comes to: the visited places, none with a negative net, and no stream with room leaves them.
 pub record Stuck (n : ℕ) (ss : List Stream) (xs es : List ℕ) (d root : ℕ) (ls : List Bool) : Type 0 where
   pub rooted : getD ls root false ≡ true
   pub none-less : (v : ℕ) → v ≤ n → getD ls v false ≡ true → netShift ≤ getD es v 0
-  pub shut : (k : ℕ) → k < length ss → startIn ss ls k ≡ not (endIn ss ls k) → Open (streamAt ss k) (startIn ss ls k) (getD xs k 0) d → ⊥
+  pub shut : (k : ℕ) → k < length ss → startIn ss ls k ≡ not (endIn ss ls k) → HasRoom (streamAt ss k) (startIn ss ls k) (getD xs k 0) d → ⊥
 
 -- A search hits, or is stuck.
 pub data Hunt (n : ℕ) (ss : List Stream) (xs es : List ℕ) (d root : ℕ) (ps : List ℕ) (g : Grown) : Type 0 where
@@ -63,9 +63,9 @@ pub record Since (n : ℕ) (es ps₀ ps : List ℕ) (t : Tree) : Type 0 where
 module _ (n : ℕ) (ss : List Stream) (plain : Plain n ss) (xs es : List ℕ) (d : ℕ) (step : d ≤ mostStep) (root : ℕ) (near : root ≤ n)
     (room : (k : ℕ) → k < length ss → d ≤ getD xs k 0) (moderate : Moderate ss xs) (ps₀ : List ℕ) (capped : Potentials ps₀) (floor : Floored ps₀) where
   root-marked : (ps : List ℕ) (t : Tree) → Growing n ss xs d root ps t → getD (t .visited) root false ≡ true
-  root-marked ps t h = h .marks root (omega (arith, plain .small)) ∙ reached-more root (t .ends) 0 (t .len) root (omega arith) (eq-eqb root root refl)
+  root-marked ps t h = h .reaches-all root (omega (arith, plain .small)) ∙ reached-more root (t .ends) 0 (t .len) root (omega arith) (eq-eqb root root refl)
 
-  -- A stream that leaves the visited places: its slack by the potentials of the two ends, the end that is visited, and how large the slack is.
+  -- A stream that leaves the visited places: its reduced cost by the potentials of the two ends, the end that is visited, and how large the reduced cost is.
   module _ (ps : List ℕ) (t : Tree) (h : Growing n ss xs d root ps t) (since : Since n es ps₀ ps t) (k : ℕ) (l : k < length ss) (c : startIn ss (t .visited) k ≡ not (endIn ss (t .visited) k)) where
     abbrev head : ℕ
     head = farEnd (t .visited) (streamAt ss k)
@@ -73,10 +73,10 @@ module _ (n : ℕ) (ss : List Stream) (plain : Plain n ss) (xs es : List ℕ) (d
     abbrev tail : ℕ
     tail = pick (startIn ss (t .visited) k) (streamAt ss k .from) (streamAt ss k .to)
 
-    across : Open (streamAt ss k) (startIn ss (t .visited) k) (getD xs k 0) d → slackAt ss xs ps d k (startIn ss (t .visited) k) + getD ps head 0 ≤ getD ps tail 0 + mostMarginal
+    across : HasRoom (streamAt ss k) (startIn ss (t .visited) k) (getD xs k 0) d → reducedCostAt ss xs ps d k (startIn ss (t .visited) k) + getD ps head 0 ≤ getD ps tail 0 + mostMarginal
     across = by-cases (startIn ss (t .visited) k)
-        (λ q. rw q (slack-rise true (streamAt ss k) (getD xs k 0) _ _ d (h .held k l) (plain .light k l) step (modest n ss plain xs d root moderate k l)))
-        (λ q. rw q (slack-rise false (streamAt ss k) (getD xs k 0) _ _ d (h .held k l) (plain .light k l) step (modest n ss plain xs d root moderate k l)))
+        (λ q. rw q (reduced-rise true (streamAt ss k) (getD xs k 0) _ _ d (h .met k l) (plain .light k l) step (modest n ss plain xs d root moderate k l)))
+        (λ q. rw q (reduced-rise false (streamAt ss k) (getD xs k 0) _ _ d (h .met k l) (plain .light k l) step (modest n ss plain xs d root moderate k l)))
 
     tail-on : getD (t .visited) tail false ≡ true
     tail-on = by-cases (startIn ss (t .visited) k) (λ q. rw q q) (λ q. rw q (not-false (endIn ss (t .visited) k) (sym c ∙ q)))
@@ -93,14 +93,14 @@ module _ (n : ℕ) (ss : List Stream) (plain : Plain n ss) (xs es : List ℕ) (d
     head-floor : potentialFloor ≤ getD ps head 0
     head-floor = rw (since .same head head-off) (floor head (omega (arith, head-near, plain .small)))
 
-    slack-low : Open (streamAt ss k) (startIn ss (t .visited) k) (getD xs k 0) d → slackAt ss xs ps d k (startIn ss (t .visited) k) < farthest
-    slack-low o = omega (arith, across o, head-floor, since .rise tail, capped tail tail-small)
+    reduced-low : HasRoom (streamAt ss k) (startIn ss (t .visited) k) (getD xs k 0) d → reducedCostAt ss xs ps d k (startIn ss (t .visited) k) < farthest
+    reduced-low o = omega (arith, across o, head-floor, since .rise tail, capped tail tail-small)
 
     -- No visited potential falls below 0.
-    slack-room : slackAt ss xs ps d k (startIn ss (t .visited) k) < farthest → (u : ℕ) → u < places → getD (t .visited) u false ≡ true
-        → slackAt ss xs ps d k (startIn ss (t .visited) k) ≤ getD ps u 0
-    slack-room f u lu a =
-        let rise = across (open-of (startIn ss (t .visited) k) (streamAt ss k) (getD xs k 0) _ _ d f) in
+    reduced-room : reducedCostAt ss xs ps d k (startIn ss (t .visited) k) < farthest → (u : ℕ) → u < places → getD (t .visited) u false ≡ true
+        → reducedCostAt ss xs ps d k (startIn ss (t .visited) k) ≤ getD ps u 0
+    reduced-room f u lu a =
+        let rise = across (room-of (startIn ss (t .visited) k) (streamAt ss k) (getD xs k 0) _ _ d f) in
         let few = some-left n ss plain xs d root ps t head h head-near head-off in
         omega (arith, rise, head-floor, since .level tail u tail-small lu tail-on a, few, plain .small)
 
@@ -133,7 +133,7 @@ module _ (n : ℕ) (ss : List Stream) (plain : Plain n ss) (xs es : List ℕ) (d
           (λ q. rw q (stuck refl (record {
             rooted = root-marked ps t h;
             none-less = since .none;
-            shut = λ k l c o. omega (arith, slack-low ps t h since k l c o, m .least k l (all-usable ss k) c, leb-true farthest g q);
+            shut = λ k l c o. omega (arith, reduced-low ps t h since k l c o, m .least k l (all-usable ss k) c, leb-true farthest g q);
           })))
           (λ o. rw o (onward (leb-false farthest g o)))
         where
@@ -153,14 +153,14 @@ module _ (n : ℕ) (ss : List Stream) (plain : Plain n ss) (xs es : List ℕ) (d
               r = addedTo t i (farEnd (t .visited) (streamAt ss i))
 
               enough : (u : ℕ) → u < places → getD (t .visited) u false ≡ true → g ≤ getD ps u 0
-              enough u k a = rw (m .is) (slack-room ps t h since i (m .below) (m .leaves) (rw (← m .is) below) u k a)
+              enough u k a = rw (m .is) (reduced-room ps t h since i (m .below) (m .leaves) (rw (← m .is) below) u k a)
 
               low : Growing n ss xs d root qs t
               low = lower-growing n ss plain xs d root ps t g h enough (λ k o c. m .least k o (all-usable ss k) c)
 
-              gone : slackAt ss xs qs d i (startIn ss (t .visited) i) ≡ 0
+              gone : reducedCostAt ss xs qs d i (startIn ss (t .visited) i) ≡ 0
               gone = rw (lowered-at (t .visited) g ps (streamAt ss i .from), lowered-at (t .visited) g ps (streamAt ss i .to))
-                  (slack-gone (startIn ss (t .visited) i) (endIn ss (t .visited) i) (streamAt ss i) (getD xs i 0) (getD ps (streamAt ss i .from) 0)
+                  (reduced-gone (startIn ss (t .visited) i) (endIn ss (t .visited) i) (streamAt ss i) (getD xs i 0) (getD ps (streamAt ss i .from) 0)
                   (getD ps (streamAt ss i .to) 0) d g (m .leaves) (enough (streamAt ss i .from) (from-small n ss plain xs d root i (m .below)))
                   (enough (streamAt ss i .to) (to-small n ss plain xs d root i (m .below))) (m .is) below)
 
@@ -215,7 +215,7 @@ module _ (n : ℕ) (ss : List Stream) (plain : Plain n ss) (xs es : List ℕ) (d
                       (λ z. since .none v k (sym (getD-set-other (t .visited) e v true false (λ o. eqb-false e v z (sym o))) ∙ c))
 
   -- From the first place, in as many rounds as there are other places.
-  pub hunt : AllHeld ss xs ps₀ d → netShift ≤ getD es root 0 → Hunt n ss xs es d root ps₀ (sought ss xs es ps₀ d root)
+  pub hunt : AllStepsMet ss xs ps₀ d → netShift ≤ getD es root 0 → Hunt n ss xs es d root ps₀ (sought ss xs es ps₀ d root)
   unfolding sought
   hunt h e = back _ (grow-good searchRounds ps₀ (rootAt root) start (omega (arith, plain .small)) (record {
     level = λ u v lu lv a b. rw (← only u lu a, ← only v lv b) (omega arith);
@@ -229,7 +229,7 @@ module _ (n : ℕ) (ss : List Stream) (plain : Plain n ss) (xs es : List ℕ) (d
       start = root-growing n ss xs ps₀ d root (plain .small) near h
 
       only : (v : ℕ) → v < places → getD (rootAt root .visited) v false ≡ true → root ≡ v
-      only v k c = eqb-true root v (sym (start .marks v k) ∙ c)
+      only v k c = eqb-true root v (sym (start .reaches-all v k) ∙ c)
 
       -- The potentials are the search's where it found a place, and as they were where it did not.
       back : (g : Grown) → Hunt n ss xs es d root ps₀ g → Hunt n ss xs es d root ps₀ (grownBy (g .found) (g .tree) (pick (g .found) (g .potentials) ps₀))

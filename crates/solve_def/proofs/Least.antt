@@ -1,4 +1,4 @@
--- The stream of least slack: of the usable streams that leave the visited places, none has less.
+-- The stream of least reduced cost: of the usable streams that leave the visited places, none has less.
 use mathlib.Core.Path.{_≡_, refl, sym, _∙_, ap}
 use mathlib.Core.Bool.{Bool, true, false, _&&_, not}
 use mathlib.Core.List.{List}
@@ -12,7 +12,7 @@ use Rattle.num_bytes.specs.Choice.{pick}
 use Rattle.num_bytes.proofs.Tests.{by-cases, clash}
 use Rattle.plant_def.specs.declared.Stream.{Stream}
 use Rattle.flow_def.specs.Flows.{streamAt}
-use Rattle.solve_def.specs.Slack.{slackAt, Crossing, At, Nothing, lesser, byEnds, considered, leastTo}
+use Rattle.solve_def.specs.ReducedCosts.{reducedCostAt, Crossing, At, Nothing, lesser, byEnds, considered, leastTo}
 
 -- A test is not both the same as another and its opposite.
 pub opposed : {A : Type 0} (a b : Bool) → a ≡ b → a ≡ not b → A
@@ -39,14 +39,14 @@ startIn ss ls k = getD ls (streamAt ss k .from) false
 abbrev pub endIn : List Stream → List Bool → ℕ → Bool
 endIn ss ls k = getD ls (streamAt ss k .to) false
 
--- Stream i leaves the visited places with slack g, no usable one among the first n does with less, and none before it with as little.
+-- Stream i leaves the visited places with reduced cost g, no usable one among the first n does with less, and none before it with as little.
 pub record Least (ss : List Stream) (xs ps : List ℕ) (ls : List Bool) (d skip n i g : ℕ) : Type 0 where
   pub below : i < n
   pub usable : Usable ss skip i
   pub leaves : startIn ss ls i ≡ not (endIn ss ls i)
-  pub is : g ≡ slackAt ss xs ps d i (startIn ss ls i)
-  pub least : (k : ℕ) → k < n → Usable ss skip k → startIn ss ls k ≡ not (endIn ss ls k) → g ≤ slackAt ss xs ps d k (startIn ss ls k)
-  pub first : (k : ℕ) → k < n → Usable ss skip k → startIn ss ls k ≡ not (endIn ss ls k) → slackAt ss xs ps d k (startIn ss ls k) ≤ g → i ≤ k
+  pub is : g ≡ reducedCostAt ss xs ps d i (startIn ss ls i)
+  pub least : (k : ℕ) → k < n → Usable ss skip k → startIn ss ls k ≡ not (endIn ss ls k) → g ≤ reducedCostAt ss xs ps d k (startIn ss ls k)
+  pub first : (k : ℕ) → k < n → Usable ss skip k → startIn ss ls k ≡ not (endIn ss ls k) → reducedCostAt ss xs ps d k (startIn ss ls k) ≤ g → i ≤ k
 
 -- What an answer means.
 abbrev pub Answers : List Stream → List ℕ → List ℕ → List Bool → ℕ → ℕ → ℕ → Crossing → Type 0
@@ -58,10 +58,10 @@ module _ (ss : List Stream) (xs ps : List ℕ) (ls : List Bool) (d skip : ℕ) w
   upto P n h p k l = elim (ℕ-discrete k n) [ yes e ↦ rw e p | no e ↦ h k (omega arith) ]
 
   abbrev NoLess : ℕ → ℕ → Type 0
-  NoLess g k = Usable ss skip k → startIn ss ls k ≡ not (endIn ss ls k) → g ≤ slackAt ss xs ps d k (startIn ss ls k)
+  NoLess g k = Usable ss skip k → startIn ss ls k ≡ not (endIn ss ls k) → g ≤ reducedCostAt ss xs ps d k (startIn ss ls k)
 
   abbrev NoEarlier : ℕ → ℕ → ℕ → Type 0
-  NoEarlier i g k = Usable ss skip k → startIn ss ls k ≡ not (endIn ss ls k) → slackAt ss xs ps d k (startIn ss ls k) ≤ g → i ≤ k
+  NoEarlier i g k = Usable ss skip k → startIn ss ls k ≡ not (endIn ss ls k) → reducedCostAt ss xs ps d k (startIn ss ls k) ≤ g → i ≤ k
 
   -- Stream n is left alone, or does not leave the visited places.
   more : (n : ℕ) (f : Crossing) → Answers ss xs ps ls d skip n f → (Usable ss skip n → startIn ss ls n ≡ endIn ss ls n) → Answers ss xs ps ls d skip (suc n) f
@@ -75,9 +75,9 @@ module _ (ss : List Stream) (xs ps : List ℕ) (ls : List Bool) (d skip : ℕ) w
     first = upto (NoEarlier i g) n (h .first) (λ u c m. opposed (startIn ss ls n) (endIn ss ls n) (e u) c);
   }
 
-  -- Stream n leaves them with slack g.
+  -- Stream n leaves them with reduced cost g.
   new : (n : ℕ) (f : Crossing) (g : ℕ) → Answers ss xs ps ls d skip n f → Usable ss skip n → startIn ss ls n ≡ not (endIn ss ls n)
-      → g ≡ slackAt ss xs ps d n (startIn ss ls n) → Answers ss xs ps ls d skip (suc n) (lesser f n g)
+      → g ≡ reducedCostAt ss xs ps d n (startIn ss ls n) → Answers ss xs ps ls d skip (suc n) (lesser f n g)
   new n Nothing g h u c e = record {
     below = omega arith;
     usable = u;
@@ -105,11 +105,11 @@ module _ (ss : List Stream) (xs ps : List ℕ) (ls : List Bool) (d skip : ℕ) w
       }))
 
   crossed : (n : ℕ) (f : Crossing) (a b : Bool) → startIn ss ls n ≡ a → endIn ss ls n ≡ b → Answers ss xs ps ls d skip n f → Usable ss skip n
-      → Answers ss xs ps ls d skip (suc n) (byEnds a b f (lesser f n (slackAt ss xs ps d n true)) (lesser f n (slackAt ss xs ps d n false)))
+      → Answers ss xs ps ls d skip (suc n) (byEnds a b f (lesser f n (reducedCostAt ss xs ps d n true)) (lesser f n (reducedCostAt ss xs ps d n false)))
   crossed n f true true p q h u = more n f h (λ v. p ∙ sym q)
   crossed n f false false p q h u = more n f h (λ v. p ∙ sym q)
-  crossed n f true false p q h u = new n f (slackAt ss xs ps d n true) h u (p ∙ ap not (sym q)) (ap (slackAt ss xs ps d n) (sym p))
-  crossed n f false true p q h u = new n f (slackAt ss xs ps d n false) h u (p ∙ ap not (sym q)) (ap (slackAt ss xs ps d n) (sym p))
+  crossed n f true false p q h u = new n f (reducedCostAt ss xs ps d n true) h u (p ∙ ap not (sym q)) (ap (reducedCostAt ss xs ps d n) (sym p))
+  crossed n f false true p q h u = new n f (reducedCostAt ss xs ps d n false) h u (p ∙ ap not (sym q)) (ap (reducedCostAt ss xs ps d n) (sym p))
 
   -- What is found is the least.
   pub least-good : (n : ℕ) → Answers ss xs ps ls d skip n (leastTo ss xs ps ls d skip n)
@@ -119,7 +119,7 @@ module _ (ss : List Stream) (xs ps : List ℕ) (ls : List Bool) (d skip : ℕ) w
     where
       go : (b : Bool) → streamAt ss n .metered && ltb n skip ≡ b → (f : Crossing) → Answers ss xs ps ls d skip n f
           → Answers ss xs ps ls d skip (suc n)
-          (pick b f (byEnds (startIn ss ls n) (endIn ss ls n) f (lesser f n (slackAt ss xs ps d n true)) (lesser f n (slackAt ss xs ps d n false))))
+          (pick b f (byEnds (startIn ss ls n) (endIn ss ls n) f (lesser f n (reducedCostAt ss xs ps d n true)) (lesser f n (reducedCostAt ss xs ps d n false))))
       go true e f h = more n f h (λ u. clash _ e u)
       go false e f h = crossed n f (startIn ss ls n) (endIn ss ls n) refl refl h e
 
@@ -137,6 +137,6 @@ module _ (ss : List Stream) (xs ps : List ℕ) (ls : List Bool) (d skip : ℕ) w
       let one : i ≡ j = omega (arith, before, after) in
       rw (same, one)
 
-  -- So what answers is the stream of least slack.
+  -- So what answers is the stream of least reduced cost.
   pub answers-same : (n : ℕ) (f : Crossing) → Answers ss xs ps ls d skip n f → leastTo ss xs ps ls d skip n ≡ f
   answers-same n f a = answer-one n (leastTo ss xs ps ls d skip n) f (least-good n) a

@@ -6,7 +6,7 @@ pub mod Elements
 pub mod Filling
 pub mod Listing
 pub mod Nearing
-pub mod Opening
+pub mod Fringes
 pub mod Steps
 pub mod Walks
 pub mod Bounds
@@ -19,7 +19,7 @@ pub mod Growing
 pub mod Hunting
 pub mod Ranged
 pub mod Streams
-pub mod Closed
+pub mod Edges
 pub mod TightPath
 pub mod Booking
 pub mod Sums
@@ -27,7 +27,7 @@ pub mod Overs
 pub mod Nearest
 pub mod Tall
 pub mod Raised
-pub mod Closings
+pub mod Compressions
 pub mod Fulls
 pub mod Steady
 pub mod Phases

@@ -3,7 +3,7 @@ use mathlib.Core.Path.{_≡_, refl, sym, _∙_, ap}
 use mathlib.Core.Bool.{Bool, true, false, not, _&&_, _||_, false≢true}
 use mathlib.Core.List.{List}
 use lib.IntN.{ℤ, pos, negℤ, _+ℤ_, +ℤ-idr}
-use Prim.Native.Nat.{ℕ, zero, suc, _+_, _*_, _≤_, _<_}
+use Prim.Native.Nat.{ℕ, zero, suc, _*_, _≤_, _<_}
 use native.Mathlib.Omega.{arith}
 use native.Mathlib.Decide.{ℕ-discrete, decLe}
 use borrow.Author.Tests.{ltb-true, le-leb, lt-leb}
@@ -17,17 +17,17 @@ use Rattle.plant_def.specs.Plants.{Plant, limited}
 use Rattle.plant_def.specs.Within.{Within}
 use Rattle.flow_def.specs.Flows.{streamAt}
 use Rattle.flow_def.specs.Overfull.{marks, enters, leaves, lowsIn, highsOut, Overfull}
-use Rattle.flow_def.proofs.Integers.{up, dn, Lt, same, plus-val, up-neg, dn-neg, lt-ltZ}
-use Rattle.flow_def.proofs.Sums.{sum, sum-same, sum-plus}
+use Rattle.num_bytes.proofs.Integers.{up, dn, Lt, same, plus-val, up-neg, dn-neg, lt-ltZ}
+use Rattle.num_bytes.proofs.Sums.{sum, sum-same, sum-plus}
 use Rattle.flow_def.proofs.Nets.{sum-listed, listed, listed-size}
-use Rattle.flow_def.proofs.Lists.{values-at, values-long}
+use Rattle.num_bytes.proofs.Lists.{values-at, values-long}
 use Rattle.solve_def.specs.Sizes.{flowShift}
 use Rattle.solve_def.specs.Held.{unshifted, lowOf, highOf}
 use Rattle.solve_def.specs.Full.{mayCross, boundedTo, pressedTo, overfull}
 use Rattle.solve_def.specs.Model.{masked}
 use Rattle.solve_def.proofs.Bounds.{low-is, high-is, low-free}
 use Rattle.solve_def.proofs.Streams.{Solvable}
-use Rattle.solve_def.proofs.Closed.{edge}
+use Rattle.solve_def.proofs.Edges.{edge}
 use Rattle.solve_def.proofs.Fulls.{pressed-sum}
 use Rattle.solve_def.proofs.Certify.{held-right}
 

@@ -17,15 +17,15 @@ use Rattle.plant_def.specs.declared.Stream.{Stream}
 use Rattle.plant_def.specs.Limits.{maxUnits, places, maxStreams}
 use Rattle.flow_def.specs.Flows.{streamAt}
 use Rattle.flow_def.specs.Certificate.{weightOf}
-use Rattle.flow_def.proofs.Integers.{Le, plus-val}
-use Rattle.solve_def.specs.Sizes.{flowShift, mostFlow, netShift, mostOver}
-use Rattle.solve_def.specs.Held.{unshifted, readingOf, lowOf, highOf, Held, HeldAt}
+use Rattle.num_bytes.proofs.Integers.{Le, plus-val}
+use Rattle.solve_def.specs.Sizes.{flowShift, mostFlow, netShift, mostExcess}
+use Rattle.solve_def.specs.Held.{unshifted, readingOf, lowOf, highOf, StepMet, StepMetAt}
 use Rattle.solve_def.specs.declared.Hint.{Hint}
 use Rattle.solve_def.specs.declared.State.{State}
-use Rattle.solve_def.specs.Model.{clamped, nearestAmount, settledOf, settledTo, netsTo, settled, asHint, overSum}
+use Rattle.solve_def.specs.Model.{clamped, nearestAmount, settledOf, settledTo, netsTo, settled, asHint, excessSum}
 use Rattle.solve_def.specs.SolverNeeds.{Start, Sound}
 use Rattle.solve_def.proofs.Amounts.{net, unshifted-val}
-use Rattle.solve_def.proofs.Bounds.{weight-none, weight-some, held-more, agree-held}
+use Rattle.solve_def.proofs.Bounds.{weight-none, weight-some, met-more, agree-met}
 use Rattle.solve_def.proofs.Streams.{Solvable}
 use Rattle.solve_def.proofs.Overs.{overTo, over-held, over-moved}
 use Rattle.solve_def.proofs.Booking.{nets-around, nets-long, nets-right, net-value}
@@ -93,8 +93,8 @@ module _ (w R pu pv : ℕ) (l : 1 ≤ w) where
 settled-in : (s : Stream) (pu pv : ℕ) → lowOf s ≤ highOf s → (lowOf s ≤ settledOf s pu pv) × (settledOf s pu pv ≤ highOf s)
 settled-in s pu pv o = clamped-in (lowOf s) (highOf s) (nearestAmount (weightOf s) (readingOf s) pu pv) o
 
-settled-held : (s : Stream) (pu pv : ℕ) → 1 ≤ weightOf s → Held 1 (weightOf s) (settledOf s pu pv) (readingOf s) pu pv (lowOf s) (highOf s)
-settled-held s pu pv l = record {
+settled-met : (s : Stream) (pu pv : ℕ) → 1 ≤ weightOf s → StepMet 1 (weightOf s) (settledOf s pu pv) (readingOf s) pu pv (lowOf s) (highOf s)
+settled-met s pu pv l = record {
   low = λ c. low (clamped-down (lowOf s) (highOf s) (nearestAmount (weightOf s) (readingOf s) pu pv) (omega arith)) c;
   high = λ c. high (clamped-up (lowOf s) (highOf s) (nearestAmount (weightOf s) (readingOf s) pu pv) (omega arith));
 }
@@ -117,7 +117,7 @@ settled-held s pu pv l = record {
     high h = omega (arith, nearest-high w R pu pv l, mul-le-mul-left w h)
 
 -- Two amounts in one range, held at d and at 1 by the same potentials, differ by at most d.
-module _ (d w X Y R u v L H : ℕ) (l : 1 ≤ w) (a : Held d w X R u v L H) (b : Held 1 w Y R u v L H) (i : (L ≤ X) × (X ≤ H)) (j : (L ≤ Y) × (Y ≤ H)) where
+module _ (d w X Y R u v L H : ℕ) (l : 1 ≤ w) (a : StepMet d w X R u v L H) (b : StepMet 1 w Y R u v L H) (i : (L ≤ X) × (X ≤ H)) (j : (L ≤ Y) × (Y ≤ H)) where
   near-above : Y ≤ X + d
   near-above = elim (decLe Y (X + d)) [ yes k ↦ k | no k ↦ absurd (far (omega arith)) ]
     where
@@ -183,9 +183,9 @@ module _ (ss : List Stream) (ps xs : List ℕ) where
       go false e r = r
 
 -- What is over in a state, by its amounts.
-pub sound-over : (ss : List Stream) (d b : ℕ) (st : State) → Sound ss d b st → overTo places (net ss (st .flows)) ≡ overSum (st .nets)
+pub sound-over : (ss : List Stream) (d b : ℕ) (st : State) → Sound ss d b st → overTo places (net ss (st .flows)) ≡ excessSum (st .nets)
 sound-over ss d b st h =
-    subst (λ (n : ℕ). overTo n (net ss (st .flows)) ≡ overSum (st .nets)) (h .netted)
+    subst (λ (n : ℕ). overTo n (net ss (st .flows)) ≡ excessSum (st .nets)) (h .netted)
     (over-held (st .nets) (net ss (st .flows)) (λ u l. h .nets u (rw (h .netted) at l)))
 
 -- The settled state.
@@ -202,7 +202,7 @@ module _ (ss : List Stream) (v : Solvable ss) (h : Hint) (b : ℕ) (s : Start ss
   at k l = settled-at ss ps (h .flows) (length ss) k (omega (arith, s .long, v .plain .few)) l
 
   -- Each meets the step condition at 1 and is in range.
-  pub settled-one : (k : ℕ) → k < length ss → HeldAt ss ys ps 1 k × ((lowOf (streamAt ss k) ≤ getD ys k 0) × (getD ys k 0 ≤ highOf (streamAt ss k)))
+  pub settled-one : (k : ℕ) → k < length ss → StepMetAt ss ys ps 1 k × ((lowOf (streamAt ss k) ≤ getD ys k 0) × (getD ys k 0 ≤ highOf (streamAt ss k)))
   settled-one k l = rw (at k l) (go (streamAt ss k .metered) refl)
     where
       t : Stream
@@ -218,12 +218,12 @@ module _ (ss : List Stream) (v : Solvable ss) (h : Hint) (b : ℕ) (s : Start ss
       X = settledOf (streamAt ss k) pu pv
 
       go : (m : Bool) → streamAt ss k .metered ≡ m
-          → Held 1 (weightOf t) (pick m X (getD (h .flows) k 0)) (readingOf t) pu pv (lowOf t) (highOf t)
+          → StepMet 1 (weightOf t) (pick m X (getD (h .flows) k 0)) (readingOf t) pu pv (lowOf t) (highOf t)
           × ((lowOf t ≤ pick m X (getD (h .flows) k 0)) × (pick m X (getD (h .flows) k 0) ≤ highOf t))
-      go true e = (settled-held t pu pv (rw (weight-some t e) (v .weighed k l e)), settled-in t pu pv (v .ranged k l .ordered))
+      go true e = (settled-met t pu pv (rw (weight-some t e) (v .weighed k l e)), settled-in t pu pv (v .ranged k l .ordered))
       go false e =
           let r = s .unmetered k (omega (arith, v .plain .few)) e in (
-            agree-held 1 (weightOf t) (getD (h .flows) k 0) (readingOf t) pu pv (lowOf t) (highOf t) (weight-none t e) (s .agree k l e),
+            agree-met 1 (weightOf t) (getD (h .flows) k 0) (readingOf t) pu pv (lowOf t) (highOf t) (weight-none t e) (s .agree k l e),
             (omega (arith, v .ranged k l .free e), omega (arith, v .ranged k l .wide (v .ranged k l .free e), r .0, s .within)),
           )
 
@@ -243,9 +243,9 @@ module _ (ss : List Stream) (v : Solvable ss) (h : Hint) (b : ℕ) (s : Start ss
       net-value (net ss ys u) (getD (netsTo ss ys (length ss)) u 0) (nets-right ss ys (length ss) (v .plain .few) (v .plain .inside) settled-most u l)
 
   -- So the settled state is sound at every step.
-  pub settled-sound : (d : ℕ) → 1 ≤ d → overSum (settled ss h .nets) + 2 * maxStreams * d ≤ mostOver → Sound ss d b (settled ss h)
+  pub settled-sound : (d : ℕ) → 1 ≤ d → excessSum (settled ss h .nets) + 2 * maxStreams * d ≤ mostExcess → Sound ss d b (settled ss h)
   settled-sound d l1 o = record {
-    held = λ k l. held-more d _ _ _ _ _ _ _ l1 (settled-one k l .0);
+    met = λ k l. met-more d _ _ _ _ _ _ _ l1 (settled-one k l .0);
     inside = λ k l. settled-one k l .1;
     agreed = s .agree;
     long = settled-long ss ps (h .flows) (length ss) ∙ s .long;
@@ -255,13 +255,13 @@ module _ (ss : List Stream) (v : Solvable ss) (h : Hint) (b : ℕ) (s : Start ss
     floor = s .floor;
     capped = s .capped;
     over = o;
-    close = λ k l e. rw (settled-free k e) (s .unmetered k l e);
+    sized = λ k l e. rw (settled-free k e) (s .unmetered k l e);
   }
 
   -- What is over, by the amounts.
-  pub settled-over : overTo places (net ss ys) ≡ overSum (settled ss h .nets)
+  pub settled-over : overTo places (net ss ys) ≡ excessSum (settled ss h .nets)
   settled-over =
-      subst (λ (n : ℕ). overTo n (net ss ys) ≡ overSum (netsTo ss ys (length ss))) (nets-long ss ys (length ss))
+      subst (λ (n : ℕ). overTo n (net ss ys) ≡ excessSum (netsTo ss ys (length ss))) (nets-long ss ys (length ss))
       (over-held (netsTo ss ys (length ss)) (net ss ys) (λ u l. settled-nets u (rw (nets-long ss ys (length ss)) at l)))
 
 -- A wider range.
@@ -286,7 +286,7 @@ module _ (ss : List Stream) (v : Solvable ss) (d b : ℕ) (st : State) (h : Soun
     capped = h .capped;
     per-place = h .per-place;
     long = h .long;
-    unmetered = h .close;
+    unmetered = h .sized;
     within = within;
   }
 
@@ -304,13 +304,13 @@ module _ (ss : List Stream) (v : Solvable ss) (d b : ℕ) (st : State) (h : Soun
       go true e =
           let o = settled-one ss v (asHint st) b again-start k l in
           let w : 1 ≤ weightOf t = rw (weight-some t e) (v .weighed k l e) in (
-            near-above d (weightOf t) (getD (st .flows) k 0) Y (readingOf t) _ _ (lowOf t) (highOf t) w (h .held k l) (o .0) (h .inside k l) (o .1),
-            near-below d (weightOf t) (getD (st .flows) k 0) Y (readingOf t) _ _ (lowOf t) (highOf t) w (h .held k l) (o .0) (h .inside k l) (o .1),
+            near-above d (weightOf t) (getD (st .flows) k 0) Y (readingOf t) _ _ (lowOf t) (highOf t) w (h .met k l) (o .0) (h .inside k l) (o .1),
+            near-below d (weightOf t) (getD (st .flows) k 0) Y (readingOf t) _ _ (lowOf t) (highOf t) w (h .met k l) (o .0) (h .inside k l) (o .1),
           )
       go false e = let q = settled-free ss v (asHint st) b again-start k e in (omega (arith, q), omega (arith, q))
 
   -- Settled there, little more is over than before.
-  pub again-over : overSum (settled ss (asHint st) .nets) ≤ overSum (st .nets) + maxStreams * d
+  pub again-over : excessSum (settled ss (asHint st) .nets) ≤ excessSum (st .nets) + maxStreams * d
   again-over =
       omega (
         arith,
@@ -330,5 +330,5 @@ module _ (ss : List Stream) (v : Solvable ss) (d b : ℕ) (st : State) (h : Soun
         omega (arith, near k l .1, unshifted-val (getD zs k 0), unshifted-val (getD (st .flows) k 0), plus-val (unshifted (getD zs k 0)) (pos d)),
       )
 
-      before : overTo places (net ss (st .flows)) ≡ overSum (st .nets)
+      before : overTo places (net ss (st .flows)) ≡ excessSum (st .nets)
       before = sound-over ss d b st h

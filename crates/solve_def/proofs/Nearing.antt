@@ -12,10 +12,10 @@ use lib.ListN.{length, getD, set, length-set, List·getD-eq-default}
 use lib.Seq.{getD-set-same, getD-set-other}
 use Rattle.num_bytes.specs.Choice.{pick}
 use Rattle.num_bytes.proofs.Tests.{by-cases, clash}
+use Rattle.num_bytes.proofs.Filled.{getD-any}
 use Rattle.plant_def.specs.Limits.{places}
 use Rattle.solve_def.specs.Sizes.{far, numbering}
 use Rattle.solve_def.specs.Near.{codeOf, lessened, relaxedAlong, relaxedAt, relaxedTo, nearestTo}
-use Rattle.solve_def.proofs.Filling.{getD-any}
 
 -- The first place with the least code, among the first n.
 pub record Nearest (near : List ℕ) (n r : ℕ) : Type 0 where
@@ -54,7 +54,7 @@ nearest-is near r h e q =
 pub nearest-least : (near : List ℕ) (r v : ℕ) → length near ≡ places → r ≡ nearestTo near places → v < places → getD near r far ≤ getD near v 0
 nearest-least near r v h e l = rw (e, getD-any near v 0 far (rw h l)) (nearest-good near places h (omega arith) .least v l)
 
--- n streams: their starts, their ends, and their slacks forwards and backwards.
+-- n streams: their starts, their ends, and their reduced costs forwards and backwards.
 module _ (n : ℕ) (fs ts gs bs : List ℕ) where
   -- The place that stream k leaves in direction f.
   abbrev pub tailOf : ℕ → Bool → ℕ
@@ -64,13 +64,13 @@ module _ (n : ℕ) (fs ts gs bs : List ℕ) where
   abbrev pub headOf : ℕ → Bool → ℕ
   headOf k f = pick f (getD ts k 0) (getD fs k 0)
 
-  -- Its slack in that direction.
-  abbrev pub slackOf : ℕ → Bool → ℕ
-  slackOf k f = pick f (getD gs k 0) (getD bs k 0)
+  -- Its reduced cost in that direction.
+  abbrev pub reducedCostOf : ℕ → Bool → ℕ
+  reducedCostOf k f = pick f (getD gs k 0) (getD bs k 0)
 
   -- The distance over stream k; ks are the distances of visited places.
   abbrev pub overOf : List ℕ → ℕ → Bool → ℕ
-  overOf ks k f = getD ks (tailOf k f) 0 + slackOf k f
+  overOf ks k f = getD ks (tailOf k f) 0 + reducedCostOf k f
 
   -- A stream that leads from a visited place to place v, with code c.
   pub record Leads (ls : List Bool) (ks : List ℕ) (v c : ℕ) : Type 0 where
@@ -139,15 +139,15 @@ module _ (n : ℕ) (fs ts gs bs : List ℕ) where
     -- Stream i is looked at in direction f from place e, at distance j.
     module _ (heads : (k : ℕ) (f : Bool) → k < n → headOf k f < places) (marked : getD ls e false ≡ true) (j : ℕ) (at : getD ks e 0 ≡ j) (lower : low ≤ j * numbering) where
       along : (i : ℕ) (f : Bool) (near : List ℕ) → i < n → tailOf i f ≡ e → ((g : Bool) → tailOf i g ≡ e → getD ls (headOf i g) false ≡ false → g ≡ f) → Nears ls ks low e (suc i) near
-          → Nears ls ks low e i (relaxedAlong ls j (headOf i f) (slackOf i f) i near)
+          → Nears ls ks low e i (relaxedAlong ls j (headOf i f) (reducedCostOf i f) i near)
       unfolding relaxedAlong
       along i f near l t only h = by-cases (getD ls (headOf i f) false)
           (λ o. rw o (widen i near h (λ g y z. clash _ o (ap (λ (b : Bool). getD ls (headOf i b) false) (sym (only g y z)) ∙ z))))
-          (λ o. rw o (widen i (lessened near (headOf i f) (codeOf (j + slackOf i f) i))
-          (offered (suc i) near (headOf i f) (codeOf (j + slackOf i f) i) h (heads i f l) (lead o) (omega (arith, lower)))
-          (λ g y z. rw (only g y z, t, at) (lessened-here near (headOf i f) (codeOf (j + slackOf i f) i) (rw (h .long) (heads i f l))))))
+          (λ o. rw o (widen i (lessened near (headOf i f) (codeOf (j + reducedCostOf i f) i))
+          (offered (suc i) near (headOf i f) (codeOf (j + reducedCostOf i f) i) h (heads i f l) (lead o) (omega (arith, lower)))
+          (λ g y z. rw (only g y z, t, at) (lessened-here near (headOf i f) (codeOf (j + reducedCostOf i f) i) (rw (h .long) (heads i f l))))))
         where
-          lead : getD ls (headOf i f) false ≡ false → Leads ls ks (headOf i f) (codeOf (j + slackOf i f) i)
+          lead : getD ls (headOf i f) false ≡ false → Leads ls ks (headOf i f) (codeOf (j + reducedCostOf i f) i)
           lead o = record { stream = i; forwards = f; below = l; tail = rw t marked; head = refl; off = o; is = rw (t, at) }
 
       looked : (i : ℕ) (near : List ℕ) → i < n → Nears ls ks low e (suc i) near → Nears ls ks low e i (relaxedAt fs ts gs bs ls j e i near)

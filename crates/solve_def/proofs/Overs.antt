@@ -10,12 +10,12 @@ use lib.ListN.{length, getD}
 use Rattle.num_bytes.specs.Choice.{pick}
 use Rattle.plant_def.specs.declared.Stream.{Stream}
 use Rattle.flow_def.specs.Flows.{streamAt}
-use Rattle.flow_def.proofs.Integers.{up, dn, Le, plus-val, minus-val, up-neg, dn-neg, size-val, parts}
-use Rattle.flow_def.proofs.Sums.{sum, sum-plus, sum-le}
+use Rattle.num_bytes.proofs.Integers.{up, dn, Le, plus-val, minus-val, up-neg, dn-neg, size-val, parts}
+use Rattle.num_bytes.proofs.Sums.{sum, sum-plus, sum-le}
 use Rattle.flow_def.proofs.Reach.{Inside}
 use Rattle.flow_def.proofs.Nets.{netOf, crossing, cut}
 use Rattle.solve_def.specs.Sizes.{netShift}
-use Rattle.solve_def.specs.Model.{overSum}
+use Rattle.solve_def.specs.Model.{excessSum}
 use Rattle.solve_def.proofs.Sums.{sum-const}
 
 -- What is over at a place: its net, 0 where that is negative; and the sum of it over the places 0 to n - 1.
@@ -45,8 +45,8 @@ over-one z e h = ⊎-elim
     (parts z)
 
 -- By nets as they are held.
-pub over-held : (es : List ℕ) (z : ℕ → ℤ) → ((u : ℕ) → u < length es → z u ≡ pos (getD es u 0) -ℤ pos netShift) → overTo (length es) z ≡ overSum es
-unfolding overSum overTo
+pub over-held : (es : List ℕ) (z : ℕ → ℤ) → ((u : ℕ) → u < length es → z u ≡ pos (getD es u 0) -ℤ pos netShift) → overTo (length es) z ≡ excessSum es
+unfolding excessSum overTo
 over-held [] z h = refl
 over-held (e ∷ es) z h =
     over-front (length es) z ∙ ap₂ _+_ (over-one (z 0) e (h 0 (omega arith))) (over-held es (λ k. z (suc k)) (λ u l. h (suc u) (omega arith)))

@@ -16,7 +16,7 @@ use Rattle.solve_def.specs.Sizes.{netShift, settledRoom}
 use Rattle.solve_def.specs.declared.State.{State}
 use Rattle.solve_def.specs.declared.Ended.{Ended}
 use Rattle.solve_def.specs.Full.{overfull}
-use Rattle.solve_def.specs.Model.{Improved, improvedAt, fromPlace, phaseTo, going, endedBy, stepsOver}
+use Rattle.solve_def.specs.Model.{Improved, improvedAt, fromPlace, phaseTo, going, endedBy, excessSteps}
 use Rattle.solve_def.specs.SolverNeeds.{Step, Underway}
 use Rattle.solve_def.proofs.Streams.{Solvable}
 use Rattle.solve_def.proofs.Steady.{underway-room, Outcome, better, jammed, improved-good}
@@ -27,7 +27,7 @@ use Rattle.solve_def.specs.Made.{madeFrom, stuckFrom, madeTo, stuckTo}
 module _ (ss : List Stream) (v : Solvable ss) (d t : ℕ) (step : Step d) (fits : t ≤ settledRoom) where
   -- From a place: each takes one step away.
   from-made : (k s : ℕ) (st : State) → s < places → Underway ss d t st → (1 ≤ k → netShift + k * d ≤ getD (st .nets) s 0)
-      → madeFrom k ss d s st + stepsOver d (fromPlace k ss d s st .state .nets) ≡ stepsOver d (st .nets)
+      → madeFrom k ss d s st + excessSteps d (fromPlace k ss d s st .state .nets) ≡ excessSteps d (st .nets)
   unfolding madeFrom fromPlace
   from-made zero s st l h low = omega arith
   from-made (suc k) s st l h low = go (improvedAt ss st d s) (improved-good ss v d (h .size) step st (h .sound) room s l over) (from-made k s)
@@ -40,10 +40,10 @@ module _ (ss : List Stream) (v : Solvable ss) (d t : ℕ) (step : Step d) (fits 
 
       go : (r : Improved) → Outcome ss d (h .size) s st r
           → ((st : State) → s < places → Underway ss d t st → (1 ≤ k → netShift + k * d ≤ getD (st .nets) s 0)
-          → madeFrom k ss d s st + stepsOver d (fromPlace k ss d s st .state .nets) ≡ stepsOver d (st .nets))
+          → madeFrom k ss d s st + excessSteps d (fromPlace k ss d s st .state .nets) ≡ excessSteps d (st .nets))
           → pick (r .done) (suc (madeFrom k ss d s (r .state))) 0
-          + stepsOver d (pick (r .done) (fromPlace k ss d s (r .state)) (pick (overfull ss (r .visited)) (endedBy true st (r .visited)) (going st)) .state .nets)
-          ≡ stepsOver d (st .nets)
+          + excessSteps d (pick (r .done) (fromPlace k ss d s (r .state)) (pick (overfull ss (r .visited)) (endedBy true st (r .visited)) (going st)) .state .nets)
+          ≡ excessSteps d (st .nets)
       go r (better e b) rec =
           rw e (omega (arith, b .fewer, rec (r .state) l next (λ o. omega (arith, low (omega arith), b .source))))
         where
@@ -68,15 +68,16 @@ module _ (ss : List Stream) (v : Solvable ss) (d t : ℕ) (step : Step d) (fits 
     at : (n : ℕ) → n ≤ places → Phased ss d t n (phaseTo n ss d st)
     at n l = phased ss v d t step fits n l st h
 
-    pub phase-made : (n : ℕ) → n ≤ places → madeTo n ss d st + stepsOver d (phaseTo n ss d st .state .nets) ≡ stepsOver d (st .nets)
+    -- What is made and the steps still over are the steps over at the start.
+    pub phase-made : (n : ℕ) → n ≤ places → madeTo n ss d st + excessSteps d (phaseTo n ss d st .state .nets) ≡ excessSteps d (st .nets)
     unfolding madeTo phaseTo
     phase-made zero l = omega arith
     phase-made (suc n) l = go (phaseTo n ss d st) (at n (omega arith)) (phase-made n (omega arith))
       where
-        go : (e : Ended) → Phased ss d t n e → madeTo n ss d st + stepsOver d (e .state .nets) ≡ stepsOver d (st .nets)
+        go : (e : Ended) → Phased ss d t n e → madeTo n ss d st + excessSteps d (e .state .nets) ≡ excessSteps d (st .nets)
             → madeTo n ss d st + pick (e .full) 0 (madeFrom ((getD (e .state .nets) n 0 - netShift) / d) ss d n (e .state))
-            + stepsOver d (pick (e .full) e (fromPlace ((getD (e .state .nets) n 0 - netShift) / d) ss d n (e .state)) .state .nets)
-            ≡ stepsOver d (st .nets)
+            + excessSteps d (pick (e .full) e (fromPlace ((getD (e .state .nets) n 0 - netShift) / d) ss d n (e .state)) .state .nets)
+            ≡ excessSteps d (st .nets)
         go e r q = by-cases (e .full)
             (λ f. rw f (omega (arith, q)))
             (λ f. rw f (omega (
@@ -111,6 +112,7 @@ module _ (ss : List Stream) (v : Solvable ss) (d t : ℕ) (step : Step d) (fits 
               on (inl x) = omega (arith, x, q)
               on (inr x) = x
 
+      -- At most one search from each place is stuck, and none from place u, where less than a step is over.
       pub phase-stuck : (n : ℕ) → n ≤ places → (stuckTo n ss d st ≤ n) × (u < n → stuckTo n ss d st + 1 ≤ n)
       unfolding stuckTo
       phase-stuck zero l = (omega arith, λ o. absurd (omega arith))

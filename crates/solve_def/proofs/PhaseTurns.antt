@@ -13,7 +13,7 @@ use Rattle.num_bytes.specs.Choice.{pick}
 use Rattle.num_bytes.proofs.Tests.{clash}
 use Rattle.plant_def.specs.declared.Stream.{Stream}
 use Rattle.plant_def.specs.Limits.{places}
-use Rattle.solve_def.specs.Sizes.{netShift, mostStep, mostOver, halvings, settledRoom}
+use Rattle.solve_def.specs.Sizes.{netShift, mostStep, mostExcess, halvings, settledRoom}
 use Rattle.solve_def.specs.Full.{overfull}
 use Rattle.solve_def.specs.declared.Hint.{Hint}
 use Rattle.solve_def.specs.declared.State.{State}
@@ -182,7 +182,7 @@ pub record Staged (ss : List Stream) (step : ℕ) (h : Hint) : Type 0 where
   pub size : ℕ
   pub is : step ≡ 2 ^ n
   pub small : step ≤ mostStep
-  pub fits : size + suc n * mostOver ≤ settledRoom
+  pub fits : size + suc n * mostExcess ≤ settledRoom
   pub stage : Stage ss n size h
   pub rest : phases n ss h ≡ phases halvings ss noHint
 
@@ -204,7 +204,7 @@ module _ (ss : List Stream) (v : Solvable ss) where
     pub staged-underway : Underway ss step settledRoom (settled ss h)
     staged-underway =
         subst (λ (d : ℕ). Underway ss d settledRoom (settled ss h)) (sym (s .is))
-        (underway-more ss (2 ^ s .n) (s .size + mostOver) settledRoom (settled ss h) (omega (arith, s .fits)) (stage-underway ss v (s .n) (s .size) h (s .stage)))
+        (underway-more ss (2 ^ s .n) (s .size + mostExcess) settledRoom (settled ss h) (omega (arith, s .fits)) (stage-underway ss v (s .n) (s .size) h (s .stage)))
 
     module _ (e : Ended) (q : e ≡ phase ss step (settled ss h)) (more : 1 < step) where
       -- One phase more is done.
@@ -214,12 +214,12 @@ module _ (ss : List Stream) (v : Solvable ss) where
           halved : (n : ℕ) → step ≡ 2 ^ suc n → step / 2 ≡ 2 ^ n
           halved n i = rw i (half n)
 
-          go : (n : ℕ) → step ≡ 2 ^ n → s .size + suc n * mostOver ≤ settledRoom → Stage ss n (s .size) h → phases n ss h ≡ phases halvings ss noHint
+          go : (n : ℕ) → step ≡ 2 ^ n → s .size + suc n * mostExcess ≤ settledRoom → Stage ss n (s .size) h → phases n ss h ≡ phases halvings ss noHint
               → Staged ss (step / 2) (asHint (e .state))
           go zero i m g r = absurd (omega (arith, more, i))
           go (suc n) i m g r = record {
             n = n;
-            size = s .size + mostOver;
+            size = s .size + mostExcess;
             is = halved n i;
             small = omega (arith, s .small, halved n i, double n, i);
             fits = omega arith;

@@ -13,13 +13,13 @@ use Rattle.num_bytes.specs.Choice.{pick}
 use Rattle.num_bytes.proofs.Tests.{by-cases, clash, picked}
 use Rattle.plant_def.specs.declared.Stream.{Stream}
 use Rattle.plant_def.specs.Limits.{places, maxStreams}
-use Rattle.solve_def.specs.Sizes.{flowShift, netShift, mostStep, mostOver, settledRoom}
+use Rattle.solve_def.specs.Sizes.{flowShift, netShift, mostStep, mostExcess, settledRoom}
 use Rattle.solve_def.specs.Full.{overfull}
 use Rattle.solve_def.specs.declared.Hint.{Hint}
 use Rattle.solve_def.specs.declared.State.{State}
 use Rattle.solve_def.specs.declared.Ended.{Ended}
 use Rattle.flow_def.specs.Overfull.{unmarked}
-use Rattle.solve_def.specs.Model.{Improved, improvedAt, fromPlace, phaseTo, phase, phases, settled, asHint, going, endedBy, overSum}
+use Rattle.solve_def.specs.Model.{Improved, improvedAt, fromPlace, phaseTo, phase, phases, settled, asHint, going, endedBy, excessSum}
 use Rattle.solve_def.specs.SolverNeeds.{Step, Start, Underway}
 use Rattle.solve_def.proofs.Streams.{Solvable}
 use Rattle.solve_def.proofs.Nearest.{start-more, settled-sound, again-start, again-over}
@@ -158,11 +158,11 @@ module _ (ss : List Stream) (v : Solvable ss) where
 -- Amounts and potentials before the phase at step 2^n, the unmetered amounts of size t at most.
 pub record Stage (ss : List Stream) (n t : ℕ) (h : Hint) : Type 0 where
   pub start : Start ss t h
-  pub over : overSum (settled ss h .nets) + 2 * maxStreams * 2 ^ n ≤ mostOver
+  pub over : excessSum (settled ss h .nets) + 2 * maxStreams * 2 ^ n ≤ mostExcess
 
 module _ (ss : List Stream) (v : Solvable ss) where
   -- A phase moves unmetered amounts by no more than what may be over.
-  pub stage-underway : (n t : ℕ) (h : Hint) → Stage ss n t h → Underway ss (2 ^ n) (t + mostOver) (settled ss h)
+  pub stage-underway : (n t : ℕ) (h : Hint) → Stage ss n t h → Underway ss (2 ^ n) (t + mostExcess) (settled ss h)
   stage-underway n t h s = record {
     size = t;
     sound = settled-sound ss v h t (s .start) (2 ^ n) (pow-pos n) (s .over);
@@ -170,14 +170,14 @@ module _ (ss : List Stream) (v : Solvable ss) where
   }
 
   -- A phase at step 2^n.
-  pub stage-phased : (n t : ℕ) (h : Hint) → Stage ss n t h → 2 ^ n ≤ mostStep → t + mostOver ≤ settledRoom
-      → Phased ss (2 ^ n) (t + mostOver) places (phase ss (2 ^ n) (settled ss h))
-  stage-phased n t h s l m = phased ss v (2 ^ n) (t + mostOver) (pow-pos n, l) m places (omega arith) (settled ss h) (stage-underway n t h s)
+  pub stage-phased : (n t : ℕ) (h : Hint) → Stage ss n t h → 2 ^ n ≤ mostStep → t + mostExcess ≤ settledRoom
+      → Phased ss (2 ^ n) (t + mostExcess) places (phase ss (2 ^ n) (settled ss h))
+  stage-phased n t h s l m = phased ss v (2 ^ n) (t + mostExcess) (pow-pos n, l) m places (omega arith) (settled ss h) (stage-underway n t h s)
 
   -- After it all holds again at half the step.
-  pub stage-next : (n t : ℕ) (e : Ended) → t + mostOver ≤ settledRoom → Phased ss (2 ^ suc n) (t + mostOver) places e → Stage ss n (t + mostOver) (asHint (e .state))
+  pub stage-next : (n t : ℕ) (e : Ended) → t + mostExcess ≤ settledRoom → Phased ss (2 ^ suc n) (t + mostExcess) places e → Stage ss n (t + mostExcess) (asHint (e .state))
   stage-next n t e m r = record {
-    start = start-more ss (r .underway .size) (t + mostOver) (asHint (e .state)) again (omega (arith, r .underway .fits)) (omega arith);
+    start = start-more ss (r .underway .size) (t + mostExcess) (asHint (e .state)) again (omega (arith, r .underway .fits)) (omega arith);
     over = omega (arith, again-over ss v (2 ^ suc n) (r .underway .size) (e .state) (r .underway .sound) small, r .underway .sound .over);
   }
     where
@@ -188,13 +188,13 @@ module _ (ss : List Stream) (v : Solvable ss) where
       again = again-start ss v (2 ^ suc n) (r .underway .size) (e .state) (r .underway .sound) small
 
   -- All phases, down to step 1.
-  pub phases-good : (n t : ℕ) (h : Hint) → 2 ^ n ≤ mostStep → t + suc n * mostOver ≤ settledRoom → Stage ss n t h → Finished ss (phases n ss h)
+  pub phases-good : (n t : ℕ) (h : Hint) → 2 ^ n ≤ mostStep → t + suc n * mostExcess ≤ settledRoom → Stage ss n t h → Finished ss (phases n ss h)
   unfolding phases
-  phases-good zero t h l m s = last-phase ss v (t + mostOver) (settled ss h) (omega arith) (stage-underway 0 t h s)
-  phases-good (suc n) t h l m s = go (phase ss (2 ^ suc n) (settled ss h)) (stage-phased (suc n) t h s l (omega arith)) (phases-good n (t + mostOver))
+  phases-good zero t h l m s = last-phase ss v (t + mostExcess) (settled ss h) (omega arith) (stage-underway 0 t h s)
+  phases-good (suc n) t h l m s = go (phase ss (2 ^ suc n) (settled ss h)) (stage-phased (suc n) t h s l (omega arith)) (phases-good n (t + mostExcess))
     where
-      go : (e : Ended) → Phased ss (2 ^ suc n) (t + mostOver) places e
-          → ((h : Hint) → 2 ^ n ≤ mostStep → t + mostOver + suc n * mostOver ≤ settledRoom → Stage ss n (t + mostOver) h → Finished ss (phases n ss h))
+      go : (e : Ended) → Phased ss (2 ^ suc n) (t + mostExcess) places e
+          → ((h : Hint) → 2 ^ n ≤ mostStep → t + mostExcess + suc n * mostExcess ≤ settledRoom → Stage ss n (t + mostExcess) h → Finished ss (phases n ss h))
           → Finished ss (pick (e .full) e (phases n ss (asHint (e .state))))
       go e r rec = picked (Finished ss) (e .full) e (phases n ss (asHint (e .state)))
           (λ f. record { underway = λ o. clash (e .full) f o; found = r .found; bare = r .bare; none = λ o. clash (e .full) f o })

@@ -1,4 +1,4 @@
--- The search over streams without slack by a walk of distance 0: it comes to what that search comes to.
+-- The search over streams without reduced cost by a walk of distance 0: it comes to what that search comes to.
 use mathlib.Core.Path.{_≡_, refl, sym, _∙_, ap}
 use mathlib.Core.Bool.{Bool, true, false, not}
 use mathlib.Core.List.{List}
@@ -7,6 +7,7 @@ use native.Mathlib.Omega.{arith}
 use native.Mathlib.Decide.{decLe, ℕ-discrete}
 use lib.ListN.{length, getD, set, take, replicate, length-set, getD-replicate}
 use lib.Seq.{getD-take, getD-set-same, getD-set-other}
+use Rattle.num_bytes.proofs.Filled.{blank-at}
 use Rattle.plant_def.specs.declared.Stream.{Stream}
 use Rattle.plant_def.specs.Limits.{places}
 use Rattle.plant_def.specs.Plants.{noStream}
@@ -14,15 +15,15 @@ use Rattle.flow_def.specs.Flows.{streamAt}
 use Rattle.solve_def.specs.declared.Tree.{Tree}
 use Rattle.solve_def.specs.declared.Walked.{Walked}
 use Rattle.solve_def.specs.Sizes.{netShift, searchRounds, numbering, farthest, far}
-use Rattle.solve_def.specs.Slack.{Crossing, At, Nothing, leastTo, slackAt}
+use Rattle.solve_def.specs.ReducedCosts.{Crossing, At, Nothing, leastTo, reducedCostAt}
 use Rattle.solve_def.specs.Search.{farEnd, rootAt, addedTo, Grown, grownBy, tightPath}
 use Rattle.solve_def.specs.Near.{relaxedTo, nearestTo, goalAt, walked}
 use Rattle.solve_def.proofs.Least.{Usable, startIn, endIn, Answers, least-good, answers-same}
 use Rattle.solve_def.proofs.Rounds.{path-none, path-stop, path-hit, path-more, path-end}
 use Rattle.solve_def.proofs.Steps.{walk-none, walk-far, walk-hit, walk-more, walk-end}
-use Rattle.solve_def.proofs.Nearing.{tailOf, headOf, slackOf, overOf, Nears, relaxed-good, next-good}
+use Rattle.solve_def.proofs.Nearing.{tailOf, headOf, reducedCostOf, overOf, Nears, relaxed-good, next-good}
 use Rattle.solve_def.proofs.Walks.{leaving, leads-on, Told, told, none-leads}
-use Rattle.solve_def.proofs.Finds.{Slacked, heads, tails, usable-slack, left-alone, zeros, root-nears}
+use Rattle.solve_def.proofs.Finds.{Reduced, heads, tails, usable-reduced, left-alone, root-nears}
 
 -- Only place v has a negative net.
 pub goal-hit : (v : ℕ) → v < places → getD (goalAt v) v 0 < netShift
@@ -32,7 +33,7 @@ goal-hit v l = rw (getD-set-same (replicate places netShift) v 0 0 l) (omega ari
 pub goal-miss : (v u : ℕ) → u < places → (u ≡ v → ⊥) → netShift ≤ getD (goalAt v) u 0
 goal-miss v u l q = rw (getD-set-other (replicate places netShift) v u 0 0 q, getD-replicate places u netShift 0 l) (omega arith)
 
-module _ (streams : List Stream) (n : ℕ) (xs ps : List ℕ) (skip : ℕ) (fs ts gs bs : List ℕ) (laid : Slacked streams n xs ps 1 skip fs ts gs bs) (v : ℕ) (vl : v < places) where
+module _ (streams : List Stream) (n : ℕ) (xs ps : List ℕ) (skip : ℕ) (fs ts gs bs : List ℕ) (laid : Reduced streams n xs ps 1 skip fs ts gs bs) (v : ℕ) (vl : v < places) where
   abbrev ss : List Stream
   ss = take n streams
 
@@ -66,11 +67,11 @@ module _ (streams : List Stream) (n : ℕ) (xs ps : List ℕ) (skip : ℕ) (fs t
         relaxed-good n fs ts gs bs (t .visited) ks 0 e (heads streams n xs ps 1 skip fs ts gs bs laid) (g .marked) 0 (g .none e) (omega arith) n near (omega arith)
         (g .nears)
 
-    over : (i : ℕ) (f : Bool) → overOf n fs ts gs bs ks i f ≡ slackOf n fs ts gs bs i f
+    over : (i : ℕ) (f : Bool) → overOf n fs ts gs bs ks i f ≡ reducedCostOf n fs ts gs bs i f
     over i f = rw (g .none (tailOf n fs ts gs bs i f)) (omega arith)
 
-    -- No usable stream without slack leaves the visited places.
-    shut : ((i : ℕ) → i < n → Usable ss skip i → startIn ss (t .visited) i ≡ not (endIn ss (t .visited) i) → 0 < slackAt ss xs ps 1 i (startIn ss (t .visited) i))
+    -- No usable stream without reduced cost leaves the visited places.
+    shut : ((i : ℕ) → i < n → Usable ss skip i → startIn ss (t .visited) i ≡ not (endIn ss (t .visited) i) → 0 < reducedCostAt ss xs ps 1 i (startIn ss (t .visited) i))
         → tightPath ss n xs ps v skip (suc l) t ≡ grownBy false t ps
     shut lack = go _ refl (least-good ss xs ps (t .visited) 1 skip n)
       where
@@ -81,8 +82,8 @@ module _ (streams : List Stream) (n : ℕ) (xs ps : List ℕ) (skip : ℕ) (fs t
     none : r ≡ places → tightPath ss n xs ps v skip (suc l) t ≡ grownBy false t ps
     none q = shut (λ i b u c.
         let o = leaving ss n fs ts gs bs starts ends (laid .network .within .few-streams) (t .visited) i b c in
-        elim (decLe farthest (slackOf n fs ts gs bs i (startIn ss (t .visited) i))) [
-          | yes z ↦ omega (arith, z, usable-slack streams n xs ps 1 skip fs ts gs bs laid i (startIn ss (t .visited) i) b u)
+        elim (decLe farthest (reducedCostOf n fs ts gs bs i (startIn ss (t .visited) i))) [
+          | yes z ↦ omega (arith, z, usable-reduced streams n xs ps 1 skip fs ts gs bs laid i (startIn ss (t .visited) i) b u)
           | no z ↦ absurd
               (none-leads ss n fs ts gs bs starts ends (laid .network .within .few-streams) (heads streams n xs ps 1 skip fs ts gs bs laid) (t .visited) ks codes 0 e r full refl q i
               (startIn ss (t .visited) i) b (o .0) (o .1) (rw (over i (startIn ss (t .visited) i)) (omega arith)))
@@ -93,16 +94,16 @@ module _ (streams : List Stream) (n : ℕ) (xs ps : List ℕ) (skip : ℕ) (fs t
       tells = told ss n fs ts gs bs starts ends (laid .network .within .few-streams) (heads streams n xs ps 1 skip fs ts gs bs laid) (t .visited) ks codes 0 e r full refl q
 
       least : (i : ℕ) → i < n → Usable ss skip i → startIn ss (t .visited) i ≡ not (endIn ss (t .visited) i)
-          → (j ≤ slackAt ss xs ps 1 i (startIn ss (t .visited) i)) × (slackAt ss xs ps 1 i (startIn ss (t .visited) i) ≤ j → tells .lead .stream ≤ i)
+          → (j ≤ reducedCostAt ss xs ps 1 i (startIn ss (t .visited) i)) × (reducedCostAt ss xs ps 1 i (startIn ss (t .visited) i) ≤ j → tells .lead .stream ≤ i)
       least i b u c =
           let o = leaving ss n fs ts gs bs starts ends (laid .network .within .few-streams) (t .visited) i b c in
-          rw (sym (usable-slack streams n xs ps 1 skip fs ts gs bs laid i (startIn ss (t .visited) i) b u), sym (over i (startIn ss (t .visited) i)))
+          rw (sym (usable-reduced streams n xs ps 1 skip fs ts gs bs laid i (startIn ss (t .visited) i) b u), sym (over i (startIn ss (t .visited) i)))
           (tells .nearer i (startIn ss (t .visited) i) b (o .0) (o .1))
 
       above : 0 < j → tightPath ss n xs ps v skip (suc l) t ≡ grownBy false t ps
       above h = shut (λ i b u c. omega (arith, least i b u c .0))
 
-      -- At distance 0 the stream that leads there is one without slack.
+      -- At distance 0 the stream that leads there is one without reduced cost.
       module _ (z : j ≤ 0) where
         abbrev i : ℕ
         i = tells .lead .stream
@@ -116,7 +117,7 @@ module _ (streams : List Stream) (n : ℕ) (xs ps : List ℕ) (skip : ℕ) (fs t
         on : (startIn ss (t .visited) i ≡ not (endIn ss (t .visited) i)) × (startIn ss (t .visited) i ≡ f) × (farEnd (t .visited) (streamAt ss i) ≡ headOf n fs ts gs bs i f)
         on = leads-on ss n fs ts gs bs starts ends (laid .network .within .few-streams) (t .visited) i f (tells .lead .below) (tells .lead .tail) off
 
-        tight : slackOf n fs ts gs bs i f ≡ 0
+        tight : reducedCostOf n fs ts gs bs i f ≡ 0
         tight = omega (arith, over i f, tells .distance)
 
         usable : Usable ss skip i
@@ -127,7 +128,7 @@ module _ (streams : List Stream) (n : ℕ) (xs ps : List ℕ) (skip : ℕ) (fs t
           below = tells .lead .below;
           usable = usable;
           leaves = on .0;
-          is = rw (on .1) (sym (sym (usable-slack streams n xs ps 1 skip fs ts gs bs laid i f (tells .lead .below) usable) ∙ tight));
+          is = rw (on .1) (sym (sym (usable-reduced streams n xs ps 1 skip fs ts gs bs laid i f (tells .lead .below) usable) ∙ tight));
           least = λ m b u c. omega arith;
           first = λ m b u c h. least m b u c .1 (omega arith);
         })
@@ -208,5 +209,5 @@ module _ (streams : List Stream) (n : ℕ) (xs ps : List ℕ) (skip : ℕ) (fs t
     marked = getD-set-same (replicate places false) s true false l;
     visits = length-set (replicate places false) s true;
     dists = refl;
-    none = zeros places;
+    none = blank-at {A = ℕ} 0 places;
   })

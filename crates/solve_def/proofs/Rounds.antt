@@ -11,25 +11,25 @@ use Rattle.plant_def.specs.declared.Stream.{Stream}
 use Rattle.plant_def.specs.Plants.{noStream}
 use Rattle.solve_def.specs.declared.Tree.{Tree}
 use Rattle.solve_def.specs.Sizes.{netShift, farthest}
-use Rattle.solve_def.specs.Slack.{At, Nothing, leastTo}
+use Rattle.solve_def.specs.ReducedCosts.{At, Nothing, leastTo}
 use Rattle.solve_def.specs.Search.{loweredBy, farEnd, addedTo, grownBy, grow, tightPath}
 use Rattle.solve_def.specs.Augment.{movedOf, otherEnd, augmented}
 
 module _ (streams : List Stream) (n : ℕ) (xs es : List ℕ) (d : ℕ) (ps : List ℕ) (t : Tree) where
-  -- The search: no stream leaves the visited places; none that is open; the new place has a negative net; or it has not.
+  -- The search: no stream leaves the visited places; none with room; the new place has a negative net; or it has not.
   pub grow-none : (l : ℕ) → 0 < l → leastTo (take n streams) xs ps (t .visited) d 0 n ≡ Nothing → grow (take n streams) n xs es d l ps t ≡ grownBy false t ps
   unfolding grow
   grow-none zero p e = absurd (omega arith)
   grow-none (suc l) p e = simp e
 
-  -- No open stream leaves the visited places.
+  -- No stream with room leaves the visited places.
   pub grow-stop : (l i g : ℕ) → 0 < l → leastTo (take n streams) xs ps (t .visited) d 0 n ≡ At i g → farthest ≤ g
       → grow (take n streams) n xs es d l ps t ≡ grownBy false t ps
   unfolding grow
   grow-stop zero i g p e h = absurd (omega arith)
   grow-stop (suc l) i g p e h = simp (e, le-leb farthest g h)
 
-  -- The place over the stream of least slack has a negative net.
+  -- The place over the stream of least reduced cost has a negative net.
   pub grow-hit : (l i g : ℕ) → 0 < l → i < n → leastTo (take n streams) xs ps (t .visited) d 0 n ≡ At i g → g < farthest
       → getD es (farEnd (t .visited) (getD streams i noStream)) 0 < netShift
       → grow (take n streams) n xs es d l ps t ≡ grownBy true (addedTo t i (farEnd (t .visited) (getD streams i noStream))) (loweredBy (t .visited) g ps)
@@ -51,15 +51,15 @@ module _ (streams : List Stream) (n : ℕ) (xs es : List ℕ) (d : ℕ) (ps : Li
   unfolding grow
   grow-end = refl
 
--- The search over streams without slack: none leaves; the least has slack; the new place is v; or it is not.
+-- The search over streams without reduced cost: none leaves; the least has reduced cost; the new place is v; or it is not.
 module _ (streams : List Stream) (n : ℕ) (xs ps : List ℕ) (v skip : ℕ) (t : Tree) where
-  -- The same of the search over streams without slack: no stream leaves.
+  -- The same of the search over streams without reduced cost: no stream leaves.
   pub path-none : (l : ℕ) → 0 < l → leastTo (take n streams) xs ps (t .visited) 1 skip n ≡ Nothing → tightPath (take n streams) n xs ps v skip l t ≡ grownBy false t ps
   unfolding tightPath
   path-none zero p e = absurd (omega arith)
   path-none (suc l) p e = simp e
 
-  -- The stream of least slack has some.
+  -- The stream of least reduced cost has some.
   pub path-stop : (l i g : ℕ) → 0 < l → leastTo (take n streams) xs ps (t .visited) 1 skip n ≡ At i g → 0 < g
       → tightPath (take n streams) n xs ps v skip l t ≡ grownBy false t ps
   unfolding tightPath

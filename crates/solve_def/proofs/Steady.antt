@@ -18,53 +18,53 @@ use Rattle.plant_def.specs.declared.Stream.{Stream}
 use Rattle.plant_def.specs.Limits.{maxUnits, places, maxStreams}
 use Rattle.plant_def.specs.Plants.{noStream}
 use Rattle.flow_def.specs.Flows.{streamAt}
-use Rattle.flow_def.proofs.Integers.{up, dn, minus-val}
+use Rattle.num_bytes.proofs.Integers.{up, dn, minus-val}
 use Rattle.solve_def.specs.Sizes.{mostFlow, netShift, settledRoom}
-use Rattle.solve_def.specs.Held.{lowOf, AllHeld}
+use Rattle.solve_def.specs.Held.{lowOf, AllStepsMet}
 use Rattle.solve_def.specs.Search.{target, Grown, sought}
-use Rattle.solve_def.specs.SearchNeeds.{Close, Moderate}
+use Rattle.solve_def.specs.SearchNeeds.{SizeWithin, Moderate}
 use Rattle.solve_def.specs.Augment.{augmented}
 use Rattle.solve_def.specs.declared.State.{State}
-use Rattle.solve_def.specs.Model.{Improved, shiftedNets, augmentedOn, improvedAt, improvedBy, overSum, stepsOver}
+use Rattle.solve_def.specs.Model.{Improved, shiftedNets, augmentedOn, improvedAt, improvedBy, excessSum, excessSteps}
 use Rattle.solve_def.specs.SolverNeeds.{Step, Agreed, Sound, Underway}
 use Rattle.solve_def.proofs.Amounts.{get-set, net}
-use Rattle.solve_def.proofs.Bounds.{weight-none, held-agree}
+use Rattle.solve_def.proofs.Bounds.{weight-none, met-agree}
 use Rattle.solve_def.proofs.Augmenting.{reached, reached-new, Augmented, augment-good}
 use Rattle.solve_def.proofs.Hunting.{Hunt, hit, stuck, Found, Stuck, hunt}
 use Rattle.solve_def.proofs.Streams.{Solvable}
 use Rattle.solve_def.proofs.Booking.{net-value}
 use Rattle.solve_def.proofs.Tall.{sound-tall, sound-moderate}
-use Rattle.solve_def.proofs.Closings.{Floors, refloored-floors}
+use Rattle.solve_def.proofs.Compressions.{Floors, refloored-floors}
 
 -- What is over in sum, and in steps: after a store; and no more than the one is the other.
-pub over-set : (es : List ℕ) (i y : ℕ) → i < length es → overSum (set es i y) + (getD es i 0 - netShift) ≡ overSum es + (y - netShift)
-unfolding overSum
+pub over-set : (es : List ℕ) (i y : ℕ) → i < length es → excessSum (set es i y) + (getD es i 0 - netShift) ≡ excessSum es + (y - netShift)
+unfolding excessSum
 over-set [] i y l = absurd (omega arith)
 over-set (e ∷ es) zero y l = omega arith
 over-set (e ∷ es) (suc i) y l = omega (arith, over-set es i y (omega arith))
 
 -- What is over at one place is no more than at all.
-pub over-at : (es : List ℕ) (u : ℕ) → getD es u 0 ≤ netShift + overSum es
-unfolding overSum
+pub over-at : (es : List ℕ) (u : ℕ) → getD es u 0 ≤ netShift + excessSum es
+unfolding excessSum
 over-at [] u = omega arith
 over-at (e ∷ es) zero = omega arith
 over-at (e ∷ es) (suc u) = omega (arith, over-at es u)
 
 -- What a store of one net does to the steps that are over.
-pub steps-set : (d : ℕ) (es : List ℕ) (i y : ℕ) → i < length es → stepsOver d (set es i y) + (getD es i 0 - netShift) / d ≡ stepsOver d es + (y - netShift) / d
-unfolding stepsOver
+pub steps-set : (d : ℕ) (es : List ℕ) (i y : ℕ) → i < length es → excessSteps d (set es i y) + (getD es i 0 - netShift) / d ≡ excessSteps d es + (y - netShift) / d
+unfolding excessSteps
 steps-set d [] i y l = absurd (omega arith)
 steps-set d (e ∷ es) zero y l = omega arith
 steps-set d (e ∷ es) (suc i) y l = omega (arith, steps-set d es i y (omega arith))
 
 -- So many steps are over.
-pub steps-over : (d : ℕ) (es : List ℕ) → d * stepsOver d es ≤ overSum es
-unfolding stepsOver overSum
+pub steps-over : (d : ℕ) (es : List ℕ) → d * excessSteps d es ≤ excessSum es
+unfolding excessSteps excessSum
 steps-over d [] = omega arith
 steps-over d (e ∷ es) = omega (arith, mul-div-le (e - netShift) d, steps-over d es)
 
-steps-at : (d : ℕ) (es : List ℕ) (u : ℕ) → u < length es → (getD es u 0 - netShift) / d ≤ stepsOver d es
-unfolding stepsOver
+steps-at : (d : ℕ) (es : List ℕ) (u : ℕ) → u < length es → (getD es u 0 - netShift) / d ≤ excessSteps d es
+unfolding excessSteps
 steps-at d [] u l = absurd (omega arith)
 steps-at d (e ∷ es) zero l = omega arith
 steps-at d (e ∷ es) (suc u) l = omega (arith, steps-at d es u (omega arith))
@@ -73,7 +73,7 @@ steps-at d (e ∷ es) (suc u) l = omega (arith, steps-at d es u (omega arith))
 pub underway-room : (ss : List Stream) (d t : ℕ) (st : State) → Step d → (h : Underway ss d t st) (s : ℕ) → s < places → netShift + d ≤ getD (st .nets) s 0 → h .size + d ≤ t
 underway-room ss d t st step h s l over = omega (arith, h .fits, mul-le-mul-left d one)
   where
-    one : 1 ≤ stepsOver d (st .nets)
+    one : 1 ≤ excessSteps d (st .nets)
     one =
         omega (
           arith,
@@ -108,12 +108,12 @@ module _ (es : List ℕ) (s v d : ℕ) (ls : s < length es) (lv : v < length es)
       (λ a. by-cases (eqb s u) (λ b. let q : s ≡ u = eqb-true s u b in rw (a, b) (omega (arith, ap (λ (k : ℕ). getD es k 0) q))) (λ b. rw (a, b))))
 
   -- Less is over after it.
-  pub shifted-less : 1 ≤ d → overSum (shiftedNets es s v d) < overSum es
+  pub shifted-less : 1 ≤ d → excessSum (shiftedNets es s v d) < excessSum es
   unfolding fs
   shifted-less l = omega (arith, over-set fs v (getD fs v 0 + d) (rw fs-long lv), over-set es s (getD es s 0 - d) ls, fs-v)
 
   -- Namely one step.
-  pub shifted-step : 1 ≤ d → stepsOver d (shiftedNets es s v d) + 1 ≡ stepsOver d es
+  pub shifted-step : 1 ≤ d → excessSteps d (shiftedNets es s v d) + 1 ≡ excessSteps d es
   unfolding fs
   shifted-step l =
       omega (
@@ -155,13 +155,13 @@ module _ (ss : List Stream) (v : Solvable ss) (d b : ℕ) (step : Step d) (st : 
   nets-val u l = rw (h .nets u l) (omega (arith, minus-val (pos (getD (st .nets) u 0)) (pos netShift)))
 
   -- Its amounts are in the room of the solver.
-  pub sound-close : (k : ℕ) → k < maxStreams → Close settledRoom (getD (st .flows) k 0)
-  sound-close k l = go (streamAt ss k .metered) refl
+  pub sound-within : (k : ℕ) → k < maxStreams → SizeWithin settledRoom (getD (st .flows) k 0)
+  sound-within k l = go (streamAt ss k .metered) refl
     where
-      free : streamAt ss k .metered ≡ false → Close settledRoom (getD (st .flows) k 0)
-      free e = let r = h .close k l e in (omega (arith, r .0, fits), omega (arith, r .1, fits))
+      free : streamAt ss k .metered ≡ false → SizeWithin settledRoom (getD (st .flows) k 0)
+      free e = let r = h .sized k l e in (omega (arith, r .0, fits), omega (arith, r .1, fits))
 
-      go : (m : Bool) → streamAt ss k .metered ≡ m → Close settledRoom (getD (st .flows) k 0)
+      go : (m : Bool) → streamAt ss k .metered ≡ m → SizeWithin settledRoom (getD (st .flows) k 0)
       go true e = elim (decLe (length ss) k) [
         | yes q ↦ free (ap (λ (s : Stream). s .metered) (List·getD-eq-default ss noStream q))
         | no q ↦ let r = sound-moderate ss v d b st (step .1) h k (omega arith) e in (omega (arith, r .0), omega (arith, r .1))
@@ -170,14 +170,14 @@ module _ (ss : List Stream) (v : Solvable ss) (d b : ℕ) (step : Step d) (st : 
 
   -- And each has room for a step.
   pub sound-room : (k : ℕ) → k < length ss → (d ≤ getD (st .flows) k 0) × (getD (st .flows) k 0 + d ≤ mostFlow)
-  sound-room k l = let r = sound-close k (omega (arith, v .plain .few)) in (omega (arith, r .1, step .1), omega (arith, r .0, step .1))
+  sound-room k l = let r = sound-within k (omega (arith, v .plain .few)) in (omega (arith, r .1, step .1), omega (arith, r .0, step .1))
 
 -- The step condition makes the ends of unmetered streams agree.
-pub held-agreed : (ss : List Stream) → Solvable ss → (xs ps : List ℕ) (d : ℕ)
+pub met-agreed : (ss : List Stream) → Solvable ss → (xs ps : List ℕ) (d : ℕ)
     → ((k : ℕ) → k < length ss → streamAt ss k .metered ≡ false → (d ≤ getD xs k 0) × (getD xs k 0 + d ≤ mostFlow))
-    → AllHeld ss xs ps d → Agreed ss ps
-held-agreed ss v xs ps d room h k l e =
-    held-agree d _ (getD xs k 0) _ _ _ _ _ (weight-none (streamAt ss k) e) (omega (arith, free, room k l e .0))
+    → AllStepsMet ss xs ps d → Agreed ss ps
+met-agreed ss v xs ps d room h k l e =
+    met-agree d _ (getD xs k 0) _ _ _ _ _ (weight-none (streamAt ss k) e) (omega (arith, free, room k l e .0))
     (omega (arith, v .ranged k l .wide free, room k l e .1)) (h k l)
   where
     free : lowOf (streamAt ss k) ≡ 0
@@ -186,7 +186,7 @@ held-agreed ss v xs ps d room h k l e =
 -- What an improvement from place s comes to: a better state, or a stuck set.
 pub record Better (ss : List Stream) (d b s : ℕ) (st r : State) : Type 0 where
   pub sound : Sound ss d (b + d) r
-  pub fewer : stepsOver d (r .nets) + 1 ≡ stepsOver d (st .nets)
+  pub fewer : excessSteps d (r .nets) + 1 ≡ excessSteps d (st .nets)
   pub source : getD (r .nets) s 0 + d ≡ getD (st .nets) s 0
   pub others : (u : ℕ) → (getD (r .nets) u 0 ≤ getD (st .nets) u 0) ⊎ (getD (r .nets) u 0 < netShift + d)
 
@@ -207,12 +207,12 @@ module _ (ss : List Stream) (v : Solvable ss) (d b : ℕ) (step : Step d) (st : 
   pub finds : Hunt maxUnits ss (st .flows) (st .nets) d s (st .potentials) (sought ss (st .flows) (st .nets) (st .potentials) d s)
   finds =
       hunt maxUnits ss (v .plain) (st .flows) (st .nets) d (step .1) s (omega arith) (λ k l. sound-room ss v d b step st h (omega arith) k l .0) moderate
-      (st .potentials) (h .capped) (h .floor) (h .held) (omega arith)
+      (st .potentials) (h .capped) (h .floor) (h .met) (omega arith)
 
   augmented-better : (g : Grown) → Found maxUnits ss (st .flows) (st .nets) d s (st .potentials) g → Better ss d b s st (augmentedOn ss st d s g)
   augmented-better g r = record {
     sound = record {
-      held = floors .held;
+      met = floors .met;
       inside = p .inside (h .inside);
       agreed = floors .agreed;
       long = p .long ∙ h .long;
@@ -222,7 +222,7 @@ module _ (ss : List Stream) (v : Solvable ss) (d b : ℕ) (step : Step d) (st : 
       floor = floors .floor;
       capped = floors .capped;
       over = omega (arith, h .over, shifted-less es s w d lls llw ne over (r .negative) (step .0));
-      close = λ k l e. (omega (arith, h .close k l e .0, p .most k), omega (arith, h .close k l e .1, p .least k));
+      sized = λ k l e. (omega (arith, h .sized k l e .0, p .most k), omega (arith, h .sized k l e .1, p .least k));
     };
     fewer = shifted-step es s w d lls llw ne over (r .negative) (step .0);
     source = source;
@@ -260,7 +260,7 @@ module _ (ss : List Stream) (v : Solvable ss) (d b : ℕ) (step : Step d) (st : 
 
       p : Augmented ss (st .flows) (augmented ss (g .tree .via) (g .tree .ends) d (g .tree .len) w (st .flows)) (g .potentials) d w s (g .tree .via) (g .tree .len)
       p =
-          augment-good ss (g .potentials) d s (g .tree .via) (g .tree .ends) (g .tree .len) w (st .flows) (omega (arith, h .long, v .plain .few)) (r .grown .held)
+          augment-good ss (g .potentials) d s (g .tree .via) (g .tree .ends) (g .tree .len) w (st .flows) (omega (arith, h .long, v .plain .few)) (r .grown .met)
           (r .grown .links) reach
 
       -- Amounts move by d at most: they are moderate still, and unmetered ones have room.
@@ -270,13 +270,13 @@ module _ (ss : List Stream) (v : Solvable ss) (d b : ℕ) (step : Step d) (st : 
 
       roomy : (k : ℕ) → k < length ss → streamAt ss k .metered ≡ false → (d ≤ getD ys k 0) × (getD ys k 0 + d ≤ mostFlow)
       roomy k l e =
-          let r = h .close k (omega (arith, v .plain .few)) e in
+          let r = h .sized k (omega (arith, v .plain .few)) e in
           (omega (arith, r .1, p .least k, step .1, fits), omega (arith, r .0, p .most k, step .1, fits))
 
       floors : Floors ss ys d (augmentedOn ss st d s g .potentials)
       floors =
-          refloored-floors ss v ys (g .potentials) d (step .1) still (r .long ∙ h .per-place) (λ u l. omega (arith, h .capped u l, r .rise u)) (p .held)
-          (held-agreed ss v ys (g .potentials) d roomy (p .held))
+          refloored-floors ss v ys (g .potentials) d (step .1) still (r .long ∙ h .per-place) (λ u l. omega (arith, h .capped u l, r .rise u)) (p .met)
+          (met-agreed ss v ys (g .potentials) d roomy (p .met))
 
   -- Every improvement comes to one of these.
   pub improved-good : Outcome ss d b s st (improvedAt ss st d s)

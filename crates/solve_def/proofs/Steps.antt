@@ -9,18 +9,19 @@ use borrow.Author.Tests.{ltb-true, ltb-false, lt-ltb, le-ltb, eq-eqb, ne-eqb}
 use lib.Dec.{ltb}
 use lib.ListN.{length, getD, set, length-set}
 use Rattle.num_bytes.proofs.Tests.{by-cases}
+use Rattle.num_bytes.proofs.Filled.{getD-any}
 use Rattle.plant_def.specs.Limits.{places}
 use Rattle.solve_def.specs.declared.Tree.{Tree}
 use Rattle.solve_def.specs.Sizes.{netShift, numbering, far, farthest}
 use Rattle.solve_def.specs.Search.{addedTo}
 use Rattle.solve_def.specs.Near.{relaxedTo, nearestTo, nearestWithin, walkedBy, walked}
-use Rattle.solve_def.proofs.Filling.{getD-any, relaxed-all-long}
+use Rattle.solve_def.proofs.Filling.{relaxed-all-long}
 use Rattle.solve_def.proofs.Nearing.{nearest-is}
 use native.Mathlib.Nat.{div-add-mod}
 use lib.Bits.{bitXor}
 use Rattle.solve_def.specs.declared.Spot.{Spot}
-use Rattle.solve_def.specs.Fringe.{Open, Stepped}
-use Rattle.solve_def.proofs.Opening.{open-visited}
+use Rattle.solve_def.specs.Fringe.{Fringe, Stepped}
+use Rattle.solve_def.proofs.Fringes.{fringe-visited}
 
 module _ (fs ts gs bs : List ℕ) (n : ℕ) (es : List ℕ) (limit k e : ℕ) (ks near : List ℕ) (t : Tree) (codes : List ℕ) (is : codes ≡ relaxedTo fs ts gs bs (t .visited) k e n near)
     (r : ℕ) (nearest : r ≡ nearestTo codes places) where
@@ -93,7 +94,7 @@ step-none limit codes k e f near w q = record {
   fringe = λ o. absurd (o refl);
 }
 
-module _ (limit : ℕ) (codes : List ℕ) (e f : ℕ) (long : length codes ≡ places) (o : Open limit codes f) (w : e ≡ nearestWithin codes limit) (q : e ≡ places → ⊥) where
+module _ (limit : ℕ) (codes : List ℕ) (e f : ℕ) (long : length codes ≡ places) (o : Fringe limit codes f) (w : e ≡ nearestWithin codes limit) (q : e ≡ places → ⊥) where
   -- The nearest place is a place, and its code one.
   pub step-in : (e < places) × (getD codes e 0 < far)
   step-in = nearest-is codes e long (within-is codes limit e long w q .0) q
@@ -108,7 +109,7 @@ module _ (limit : ℕ) (codes : List ℕ) (e f : ℕ) (long : length codes ≡ p
     stream = λ z. refl;
     taken = λ z. refl;
     fringe = λ z.
-        rw is (open-visited limit codes f e o (step-in .0) long (o .all e (step-in .0) (step-in .1) (within-is codes limit e long w q .1)));
+        rw is (fringe-visited limit codes f e o (step-in .0) long (o .all e (step-in .0) (step-in .1) (within-is codes limit e long w q .1)));
   }
 
 -- The walk by its steps.

@@ -15,7 +15,7 @@ use Rattle.flow_def.specs.Flows.{streamAt}
 use Rattle.solve_def.specs.Sizes.{mostReading}
 use Rattle.solve_def.specs.SearchNeeds.{Network}
 use Rattle.solve_def.proofs.Weights.{weight-most}
-use Rattle.solve_def.proofs.Bounds.{reading-close}
+use Rattle.solve_def.proofs.Bounds.{reading-within}
 use Rattle.solve_def.proofs.Ranged.{Ranged, ranged}
 use Rattle.solve_def.proofs.Growing.{Plain}
 
@@ -24,7 +24,7 @@ pub record Solvable (ss : List Stream) : Type 0 where
   pub plain : Plain maxUnits ss
   pub weighed : (k : ℕ) → k < length ss → streamAt ss k .metered ≡ true → 1 ≤ streamAt ss k .weight
   pub in-range : (k : ℕ) → k < length ss → streamAt ss k .metered ≡ true → natAbs (streamAt ss k .reading) ≤ mostReading
-  pub apart : (k : ℕ) → k < length ss → streamAt ss k .from ≡ streamAt ss k .to → ⊥
+  pub distinct : (k : ℕ) → k < length ss → streamAt ss k .from ≡ streamAt ss k .to → ⊥
   pub ranged : (k : ℕ) → k < length ss → Ranged (streamAt ss k)
 
 -- Streams within the limits of a plant.
@@ -35,7 +35,7 @@ module _ {n : ℕ} (ss : List Stream) (small : n ≤ maxUnits) (few : length ss 
     small = omega arith;
     few = few;
     light = λ k l. weight-most (streamAt ss k) (each k l);
-    read = λ k l m. reading-close (streamAt ss k .reading) (omega (arith, each k l .in-range m));
+    read = λ k l m. reading-within (streamAt ss k .reading) (omega (arith, each k l .in-range m));
   }
 
   -- Streams within the limits are such.
@@ -44,7 +44,7 @@ module _ {n : ℕ} (ss : List Stream) (small : n ≤ maxUnits) (few : length ss 
     plain = plain-in;
     weighed = λ k l. each k l .weighed;
     in-range = λ k l m. omega (arith, each k l .in-range m);
-    apart = λ k l. each k l .apart;
+    distinct = λ k l. each k l .distinct;
     ranged = λ k l. ranged (streamAt ss k) (each k l);
   }
 

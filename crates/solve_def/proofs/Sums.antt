@@ -1,11 +1,11 @@
 -- Sums: of one number throughout, and of none below 0.
 use mathlib.Core.Path.{_≡_, _∙_, ap}
 use lib.IntN.{ℤ, pos, _+ℤ_}
-use Prim.Native.Nat.{ℕ, zero, suc, _+_, _*_, _<_}
+use Prim.Native.Nat.{ℕ, zero, suc, _*_, _<_}
 use native.Mathlib.Omega.{arith}
 use native.Mathlib.Decide.{ℕ-discrete}
-use Rattle.flow_def.proofs.Integers.{Le, plus-val}
-use Rattle.flow_def.proofs.Sums.{sum}
+use Rattle.num_bytes.proofs.Integers.{Le, plus-val}
+use Rattle.num_bytes.proofs.Sums.{sum}
 
 -- Of n numbers a.
 pub sum-const : (n a : ℕ) → sum n (λ k. pos a) ≡ pos (n * a)

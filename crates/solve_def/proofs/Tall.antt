@@ -2,7 +2,7 @@
 use mathlib.Core.Path.{_≡_, refl, sym, _∙_, ap}
 use mathlib.Core.Bool.{Bool, true, false, false≢true}
 use mathlib.Core.List.{List}
-use mathlib.Core.Logic.{_⊎_, ⊎-elim}
+use mathlib.Core.Logic.{⊎-elim}
 use lib.IntN.{ℤ, pos, negℤ, natAbs, _+ℤ_, _-ℤ_}
 use lib.Signed.{leZ}
 use Prim.Native.Nat.{ℕ, suc, _+_, _*_, _≤_, _<_}
@@ -16,13 +16,13 @@ use Rattle.plant_def.specs.declared.Stream.{Stream}
 use Rattle.plant_def.specs.Limits.{maxUnits}
 use Rattle.flow_def.specs.Flows.{streamAt}
 use Rattle.flow_def.specs.Certificate.{climb, weightOf}
-use Rattle.flow_def.proofs.Integers.{up, dn, Le, Lt, plus-val, minus-val, up-neg, dn-neg, size-val, parts, leZ-le, le-leZ}
-use Rattle.flow_def.proofs.Sums.{sum, sum-plus}
+use Rattle.num_bytes.proofs.Integers.{up, dn, Le, Lt, plus-val, minus-val, up-neg, dn-neg, size-val, parts, leZ-le, le-leZ}
+use Rattle.num_bytes.proofs.Sums.{sum, sum-plus}
 use Rattle.flow_def.proofs.Reach.{Inside}
 use Rattle.flow_def.proofs.Nets.{netOf, crossing, crossing-level, cut}
 use Rattle.solve_def.specs.Sizes.{flowShift, mostReading, mostRange, mostStep, meteredRoom}
-use Rattle.solve_def.specs.Held.{unshifted, readingOf, lowOf, highOf, Held}
-use Rattle.solve_def.specs.SearchNeeds.{Close, Moderate}
+use Rattle.solve_def.specs.Held.{unshifted, readingOf, lowOf, highOf, StepMet}
+use Rattle.solve_def.specs.SearchNeeds.{SizeWithin, Moderate}
 use Rattle.solve_def.specs.declared.State.{State}
 use Rattle.solve_def.specs.SolverNeeds.{Sound}
 use Rattle.solve_def.proofs.Amounts.{unshifted-val}
@@ -161,8 +161,8 @@ module _ (n t : ℕ) (π : ℕ → ℤ) (ss : List Stream) (x : ℕ → ℤ) (w 
           (parts (x k))
 
 -- A stream that meets the step condition has such slopes.
-module _ (d : ℕ) (s : Stream) (X pu pv : ℕ) (few : d ≤ mostStep) (r : Ranged s) (z : Close mostReading (readingOf s)) (w : 1 ≤ weightOf s)
-    (h : Held d (weightOf s) X (readingOf s) pu pv (lowOf s) (highOf s)) (i : (lowOf s ≤ X) × (X ≤ highOf s)) where
+module _ (d : ℕ) (s : Stream) (X pu pv : ℕ) (few : d ≤ mostStep) (r : Ranged s) (z : SizeWithin mostReading (readingOf s)) (w : 1 ≤ weightOf s)
+    (h : StepMet d (weightOf s) X (readingOf s) pu pv (lowOf s) (highOf s)) (i : (lowOf s ≤ X) × (X ≤ highOf s)) where
   high-slope : flowShift + mostRange < X → pu < pv
   high-slope l = elim (ℕ-discrete (lowOf s) 0) [
     | yes e ↦ omega (arith, h .low (omega (arith, e)), mul-le-mul-left (weightOf s) far, w)
@@ -189,7 +189,7 @@ module _ (d : ℕ) (s : Stream) (X pu pv : ℕ) (few : d ≤ mostStep) (r : Rang
 
 -- So metered amounts are not too large in any sound state.
 pub sound-tall : (ss : List Stream) → Solvable ss → (d b : ℕ) (st : State) → d ≤ mostStep → Sound ss d b st
-    → (k : ℕ) → k < length ss → streamAt ss k .metered ≡ true → Close meteredRoom (getD (st .flows) k 0)
+    → (k : ℕ) → k < length ss → streamAt ss k .metered ≡ true → SizeWithin meteredRoom (getD (st .flows) k 0)
 sound-tall ss v d b st few h k l m = (omega (arith, size, unshifted-val X, size-val (unshifted X)), omega (arith, size, unshifted-val X, size-val (unshifted X)))
   where
     X : ℕ
@@ -201,7 +201,7 @@ sound-tall ss v d b st few h k l m = (omega (arith, size, unshifted-val X, size-
     sloped : (j : ℕ) → j < length ss → streamAt ss j .metered ≡ true → Slopes mostRange (unshifted (getD (st .flows) j 0)) (climb π (streamAt ss j))
     sloped j o e =
         slopes d (streamAt ss j) (getD (st .flows) j 0) (getD (st .potentials) (streamAt ss j .from) 0) (getD (st .potentials) (streamAt ss j .to) 0) few (v .ranged j o)
-        (v .plain .read j o e) (rw (weight-some (streamAt ss j) e) (v .weighed j o e)) (h .held j o) (h .inside j o)
+        (v .plain .read j o e) (rw (weight-some (streamAt ss j) e) (v .weighed j o e)) (h .met j o) (h .inside j o)
 
     size : natAbs (unshifted X) ≤ meteredRoom
     size =

@@ -1,14 +1,13 @@
 -- The solver is right: of every plant that is read, from any hint, the flow is the cheapest and its potentials certify it, or the places
 -- that are marked must take in more than they can let out.
 use mathlib.Core.Path.{_≡_, refl, _∙_, ap, subst}
-use mathlib.Core.Bool.{Bool, true, false, not, _||_}
+use mathlib.Core.Bool.{true, false, not}
 use mathlib.Core.List.{List}
-use lib.IntN.{ℤ}
 use Prim.Native.Nat.{ℕ}
 use native.Mathlib.Omega.{arith}
 use lib.ListN.{length}
 use Rattle.num_bytes.specs.Choice.{pick}
-use Rattle.num_bytes.proofs.Tests.{by-cases, and-both}
+use Rattle.num_bytes.proofs.Tests.{by-cases}
 use Rattle.plant_def.specs.declared.Stream.{Stream}
 use Rattle.plant_def.specs.declared.Plant as Arrays
 use Rattle.plant_def.specs.Plants.{Plant}
@@ -16,11 +15,10 @@ use Rattle.plant_def.specs.Says.{plantOf}
 use Rattle.plant_def.specs.Within.{Within, Accepted}
 use Rattle.plant_def.proofs.Arrayed.{all-listed, within-of, stream-within}
 use Rattle.flow_def.specs.Flows.{streamAt, amountAt, Cheapest}
-use Rattle.flow_def.specs.Certificate.{climb, leastClimb, mostClimb, inKilter, rises, falls}
 use Rattle.flow_def.specs.Overfull.{unmarked, Overfull}
-use Rattle.flow_def.proofs.Integers.{le-leZ}
-use Rattle.flow_def.proofs.Potentials.{StepAt, Steps, Certificate}
+use Rattle.flow_def.proofs.Potentials.{Steps, Certificate}
 use Rattle.flow_def.proofs.Decided.{Decided, solved, full}
+use Rattle.flow_def.proofs.Certified.{says-kilter}
 use Rattle.solve_def.specs.Held.{opened}
 use Rattle.solve_def.specs.SearchNeeds.{Network}
 use Rattle.solve_def.specs.declared.State.{State}
@@ -92,15 +90,6 @@ decided q w = go (finished (q .streams) (settled (q .streams) noHint)) (finished
         (λ n. full (masked (q .units) (e .marked)) (ended-full q w e f n))
         (λ n. solved _ _ (ended-cheapest q w e f n) (ended-sure q w e f n))
 
--- The step condition by its tests.
-within-bounds : (π : ℕ → ℤ) (s : Stream) (x : ℤ) → StepAt 1 π s x → inKilter π s x ≡ true
-within-bounds π s x o =
-    and-both _ _ (waived (falls s x) (λ t. le-leZ (leastClimb s x) (climb π s) (o .low t))) (waived (rises s x) (λ t. le-leZ (climb π s) (mostClimb s x) (o .high t)))
-  where
-    waived : (b : Bool) {t : Bool} → (b ≡ true → t ≡ true) → not b || t ≡ true
-    waived true h = h refl
-    waived false h = refl
-
 -- No mark is left where none was.
 masked-none : (n : ℕ) → masked n unmarked ≡ unmarked
 unfolding masked
@@ -139,11 +128,11 @@ module _ (p : Arrays.Plant) (a : Accepted p) (st : State) (s : AtHint (plantOf p
               })
           found n = record {
             cheapest = subst (λ (m : ℕ). Cheapest q (opened m (ys q w e f))) (all-listed p a) (ended-cheapest q w e f n);
-            steps = λ k l. within-bounds (potentialAt (ps q w e f)) (streamAt (q .streams) k) _
+            steps = λ k l. says-kilter (potentialAt (ps q w e f)) (streamAt (q .streams) k) _
                 (subst (λ (m : ℕ). Steps 1 (potentialAt (ps q w e f)) (q .streams) (amountAt (opened m (ys q w e f)))) (all-listed p a) (ended-sure q w e f n .steps) k l);
             agree = λ k l m. ap potential (ended-even q w e f n .agreed k l m);
             bound = f .underway n .sound .capped;
-            close = λ k l. (omega (arith, ended-even q w e f n .close k l .0, w .few-streams), omega (arith, ended-even q w e f n .close k l .1, w .few-streams));
+            sized = λ k l. (omega (arith, ended-even q w e f n .sized k l .0, w .few-streams), omega (arith, ended-even q w e f n .sized k l .1, w .few-streams));
             long = ended-even q w e f n .long;
             per-place = f .underway n .sound .per-place;
             bare = ap (masked (p .units)) (f .bare n) ∙ masked-none (p .units);

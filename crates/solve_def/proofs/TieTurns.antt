@@ -16,7 +16,7 @@ use Rattle.plant_def.specs.Plants.{noStream}
 use Rattle.flow_def.specs.Flows.{streamAt}
 use Rattle.solve_def.specs.declared.Tree.{Tree}
 use Rattle.solve_def.specs.Sizes.{searchRounds}
-use Rattle.solve_def.specs.Slack.{slackBy}
+use Rattle.solve_def.specs.ReducedCosts.{reducedCostBy}
 use Rattle.solve_def.specs.Search.{rootAt, Grown, tightPath}
 use Rattle.solve_def.specs.Augment.{augmented}
 use Rattle.solve_def.specs.SearchNeeds.{Network, Trail, Roomy}
@@ -34,9 +34,9 @@ module _ (streams : List Stream) (n : ℕ) (w : Network streams n) (ps : List �
   abbrev s : Stream
   s = getD streams i noStream
 
-  -- The slack against less, and the search for a way round.
+  -- The reduced cost against less, and the search for a way round.
   abbrev pub lack : ℕ
-  lack = slackBy (getD streams i noStream) false (getD xs i 0) (getD ps (getD streams i noStream .from) 0) (getD ps (getD streams i noStream .to) 0) 1
+  lack = reducedCostBy (getD streams i noStream) false (getD xs i 0) (getD ps (getD streams i noStream .from) 0) (getD ps (getD streams i noStream .to) 0) 1
 
   -- The search round stream i.
   abbrev pub searched : Grown
@@ -54,8 +54,8 @@ module _ (streams : List Stream) (n : ℕ) (w : Network streams n) (ps : List �
   metered-parts e = parts ∙ ap (λ (b : Bool). pick b (pick (ltb 0 lack) xs (tiedBy ss xs (s .to) i searched)) xs) e
 
   -- So does one that cannot fall at no cost.
-  pub tied-slack : s .metered ≡ true → 0 < lack → tiedAt ss ps i xs ≡ xs
-  tied-slack e h = metered-parts e ∙ ap (λ (b : Bool). pick b xs (tiedBy ss xs (s .to) i searched)) (lt-ltb 0 lack h)
+  pub tied-reduced : s .metered ≡ true → 0 < lack → tiedAt ss ps i xs ≡ xs
+  tied-reduced e h = metered-parts e ∙ ap (λ (b : Bool). pick b xs (tiedBy ss xs (s .to) i searched)) (lt-ltb 0 lack h)
 
   tied-search : s .metered ≡ true → lack ≤ 0 → tiedAt ss ps i xs ≡ tiedBy ss xs (s .to) i searched
   tied-search e h = metered-parts e ∙ ap (λ (b : Bool). pick b xs (tiedBy ss xs (s .to) i searched)) (le-ltb 0 lack h)
@@ -97,8 +97,8 @@ module _ (streams : List Stream) (n : ℕ) (w : Network streams n) (ps : List �
             trail = record { short = omega (arith, a .counted, m); within = λ k j. rw (in-use streams n w) at (a .links k j .inside) };
             roomy = record {
               long = h .long;
-              low = λ k j. omega (arith, h .close k j .1, a .counted, m, l, w .within .few-streams);
-              high = λ k j. omega (arith, h .close k j .0, a .counted, m, l, w .within .few-streams);
+              low = λ k j. omega (arith, h .sized k j .1, a .counted, m, l, w .within .few-streams);
+              high = λ k j. omega (arith, h .sized k j .0, a .counted, m, l, w .within .few-streams);
             };
             some = rw at at (left-some ss (solvable-of streams n w) ps i li xs h (rw at e) (rw at (omega arith)) (g .tree) (rw at a) (rw at r) u);
           }

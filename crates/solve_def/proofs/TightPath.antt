@@ -1,4 +1,4 @@
--- The search over streams without slack: it finds a way to the place, or a set of places that no usable stream leaves without slack.
+-- The search over streams without reduced cost: it finds a way to the place, or a set of places that no usable stream leaves without reduced cost.
 use mathlib.Core.Path.{_≡_, refl, sym, _∙_, ap, subst}
 use mathlib.Core.Bool.{Bool, true, false, not}
 use mathlib.Core.List.{List}
@@ -14,7 +14,7 @@ use Rattle.num_bytes.proofs.Tests.{by-cases, clash}
 use Rattle.plant_def.specs.declared.Stream.{Stream}
 use Rattle.flow_def.specs.Flows.{streamAt}
 use Rattle.solve_def.specs.declared.Tree.{Tree}
-use Rattle.solve_def.specs.Slack.{Crossing, At, Nothing, leastTo, slackAt}
+use Rattle.solve_def.specs.ReducedCosts.{Crossing, At, Nothing, leastTo, reducedCostAt}
 use Rattle.solve_def.specs.Search.{farEnd, onCrossing, addedTo, target, Grown, grownBy, tightPath}
 use Rattle.solve_def.proofs.Least.{opposed, Usable, startIn, endIn, Answers, least-good}
 use Rattle.solve_def.proofs.Counting.{count-most, count-full}
@@ -35,7 +35,7 @@ pub data Path (n : ℕ) (ss : List Stream) (xs ps : List ℕ) (root v skip : ℕ
   way : g .found ≡ true → Growing n ss xs 1 root ps (g .tree) → reached root (g .tree .ends) (g .tree .len) v ≡ true → Used ss skip (g .tree)
       → Path n ss xs ps root v skip g
   shut : g .found ≡ false → (ls : List Bool) → getD ls root false ≡ true → getD ls v false ≡ false
-      → ((k : ℕ) → k < length ss → Usable ss skip k → startIn ss ls k ≡ not (endIn ss ls k) → 0 < slackAt ss xs ps 1 k (startIn ss ls k)) → Path n ss xs ps root v skip g
+      → ((k : ℕ) → k < length ss → Usable ss skip k → startIn ss ls k ≡ not (endIn ss ls k) → 0 < reducedCostAt ss xs ps 1 k (startIn ss ls k)) → Path n ss xs ps root v skip g
 
 module _ (n : ℕ) (ss : List Stream) (plain : Plain n ss) (xs ps : List ℕ) (root v skip : ℕ) (near : root ≤ n) (vnear : v ≤ n) (room : (k : ℕ) → k < length ss → 1 ≤ getD xs k 0) where
   -- It comes to one of these.
@@ -46,7 +46,7 @@ module _ (n : ℕ) (ss : List Stream) (plain : Plain n ss) (xs ps : List ℕ) (r
   path-good (suc l) t h fuel off used = go (leastTo ss xs ps (t .visited) 1 skip (length ss)) (least-good ss xs ps (t .visited) 1 skip (length ss)) (path-good l)
     where
       start : getD (t .visited) root false ≡ true
-      start = h .marks root (omega (arith, plain .small)) ∙ reached-more root (t .ends) 0 (t .len) root (omega arith) (eq-eqb root root refl)
+      start = h .reaches-all root (omega (arith, plain .small)) ∙ reached-more root (t .ends) 0 (t .len) root (omega arith) (eq-eqb root root refl)
 
       go : (f : Crossing) → Answers ss xs ps (t .visited) 1 skip (length ss) f
           → ((r : Tree) → Growing n ss xs 1 root ps r → n ≤ l + r .len → getD (r .visited) v false ≡ false → Used ss skip r → Path n ss xs ps root v skip (tightPath ss (length ss) xs ps v skip l r))

@@ -17,13 +17,13 @@ use Rattle.solve_def.specs.declared.Tree.{Tree}
 use Rattle.solve_def.specs.declared.State.{State}
 use Rattle.solve_def.specs.Sizes.{netShift, settledRoom}
 use Rattle.solve_def.specs.Search.{target, Grown, grownBy, sought}
-use Rattle.solve_def.specs.SearchNeeds.{Network, Potentials, Close, Trail, Roomy}
-use Rattle.solve_def.specs.Model.{improvedBy, settledOf, settledTo, booked, netsTo, augmentedOn, improvedAt, overSum}
+use Rattle.solve_def.specs.SearchNeeds.{Network, Potentials, SizeWithin, Trail, Roomy}
+use Rattle.solve_def.specs.Model.{improvedBy, settledOf, settledTo, booked, netsTo, augmentedOn, improvedAt, excessSum}
 use Rattle.solve_def.specs.SolverNeeds.{Step, Shiftable, Underway}
 use Rattle.solve_def.proofs.Counting.{count-most}
 use Rattle.solve_def.proofs.Hunting.{Hunt, hit, stuck, sought-stays}
 use Rattle.solve_def.proofs.Streams.{in-use, solvable-of}
-use Rattle.solve_def.proofs.Steady.{over-at, sound-close, underway-room, finds}
+use Rattle.solve_def.proofs.Steady.{over-at, sound-within, underway-room, finds}
 
 -- A store keeps a bound.
 pub set-le : (e : List ℕ) (s y v b : ℕ) → s < length e → y ≤ b → getD e v 0 ≤ b → getD (set e s y) v 0 ≤ b
@@ -75,8 +75,8 @@ module _ (streams : List Stream) (n : ℕ) (w : Network streams n) (st : State) 
       size : (u : ℕ) → getD (st .nets) u 0 ≤ 2 * netShift
       size u = omega (arith, over-at (st .nets) u, h .sound .over)
 
-      close : (k : ℕ) → k < maxStreams → Close settledRoom (getD (st .flows) k 0)
-      close = sound-close ss (solvable-of streams n w) d (h .size) step st (h .sound) (omega (arith, room))
+      sized : (k : ℕ) → k < maxStreams → SizeWithin settledRoom (getD (st .flows) k 0)
+      sized = sound-within ss (solvable-of streams n w) d (h .size) step st (h .sound) (omega (arith, room))
 
       go : Hunt maxUnits ss (st .flows) (st .nets) d s (st .potentials) (grownBy true t ps) → Moving n st s d t
       go (stuck f m) = clash true refl f
@@ -86,8 +86,8 @@ module _ (streams : List Stream) (n : ℕ) (w : Network streams n) (st : State) 
         trail = record { short = omega (arith, short); within = λ k o. rw (in-use streams n w) at (m .grown .links k o .inside) };
         roomy = record {
           long = h .sound .long;
-          low = λ k o. omega (arith, close k o .1, short);
-          high = λ k o. omega (arith, close k o .0, short);
+          low = λ k o. omega (arith, sized k o .1, short);
+          high = λ k o. omega (arith, sized k o .0, short);
         };
         shiftable = record {
           long = h .sound .netted;
@@ -103,7 +103,7 @@ module _ (streams : List Stream) (n : ℕ) (w : Network streams n) (st : State) 
           short : t .len < places
           short = omega (arith, m .grown .counted, count-most maxUnits (λ v. getD (t .visited) v false))
 
-  -- The potentials after the search are held, for closing.
+  -- The potentials after the search are held, for compression.
   pub found-potentials : (t : Tree) (ps : List ℕ) → grownBy true t ps ≡ sought (take n streams) (st .flows) (st .nets) (st .potentials) d s → Potentials ps × (length ps ≡ places)
   found-potentials t ps q = go (subst (Hunt maxUnits ss (st .flows) (st .nets) d s (st .potentials)) (sym q) (finds ss (solvable-of streams n w) d (h .size) step st (h .sound) room s l over))
     where
@@ -167,8 +167,8 @@ over-front e es zero = refl
 over-front e es (suc n) = omega (arith, over-front e es n)
 
 -- All places.
-pub over-all : (es : List ℕ) → overTo es (length es) ≡ overSum es
-unfolding overSum
+pub over-all : (es : List ℕ) → overTo es (length es) ≡ excessSum es
+unfolding excessSum
 over-all [] = over-none []
 over-all (e ∷ es) = over-front e es (length es) ∙ ap (λ (k : ℕ). (e - netShift) + k) (over-all es)
 

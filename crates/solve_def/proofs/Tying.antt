@@ -17,23 +17,23 @@ use Rattle.plant_def.specs.Plants.{Plant}
 use Rattle.plant_def.specs.Within.{Within}
 use Rattle.flow_def.specs.Flows.{streamAt, amountAt, allowed, cost, Cheapest}
 use Rattle.flow_def.specs.Certificate.{weightOf}
-use Rattle.flow_def.proofs.Integers.{Le}
+use Rattle.num_bytes.proofs.Integers.{Le}
 use Rattle.flow_def.proofs.Potentials.{Certificate, least}
 use Rattle.flow_def.proofs.Order.{AgreeTo}
 use Rattle.flow_def.proofs.Ties as Ties
 use Rattle.flow_def.proofs.Ties.{Stays, stays-least, first-cheapest}
 use Rattle.solve_def.specs.Sizes.{settledRoom}
 use Rattle.solve_def.specs.Held.{unshifted, opened, readingOf}
-use Rattle.solve_def.specs.Slack.{slackBy, slackAt}
+use Rattle.solve_def.specs.ReducedCosts.{reducedCostBy, reducedCostAt}
 use Rattle.solve_def.proofs.Amounts.{opened-at}
 use Rattle.solve_def.proofs.Least.{Usable, startIn, endIn}
 use Rattle.solve_def.specs.Model.{tiedAt, tiesTo}
 use Rattle.solve_def.specs.Promise.{potentialAt}
 use Rattle.solve_def.specs.SolverNeeds.{Even}
-use Rattle.solve_def.proofs.Bounds.{Open, open-or, unlimited, open-free, slack-open, slack-shut, weight-some}
+use Rattle.solve_def.proofs.Bounds.{HasRoom, room-or, unlimited, room-free, reduced-with-room, reduced-shut, weight-some}
 use Rattle.solve_def.proofs.Streams.{Solvable}
 use Rattle.solve_def.proofs.Certify.{no-less, no-more, certify}
-use Rattle.solve_def.proofs.Detours.{Detour, Turn, free, slack, cut, round, turn, ties-even}
+use Rattle.solve_def.proofs.Detours.{Detour, Turn, free, strict, cut, round, turn, ties-even}
 
 -- No flow as cheap as xs with the same metered amounts before stream k has less on it.
 abbrev pub Tied : Plant → List ℤ → ℕ → Type 0
@@ -43,9 +43,9 @@ Tied p xs k = streamAt (p .streams) k .metered ≡ true → (ys : List ℤ) → 
 abbrev AllTied : Plant → ℕ → List ℕ → Type 0
 AllTied p i xs = (k : ℕ) → k < i → Tied p (opened (length (p .streams)) xs) k
 
--- An unmetered stream has no slack.
-free-slack : (b : Bool) (s : Stream) (x pu pv : ℕ) → s .metered ≡ false → Open s b x 1 → pu ≡ pv → slackBy s b x pu pv 1 ≡ 0
-free-slack b s x pu pv e o q = slack-open b s x pu pv 1 o ∙ go b (weightOf s) (rw e)
+-- An unmetered stream has no reduced cost.
+free-reduced : (b : Bool) (s : Stream) (x pu pv : ℕ) → s .metered ≡ false → HasRoom s b x 1 → pu ≡ pv → reducedCostBy s b x pu pv 1 ≡ 0
+free-reduced b s x pu pv e o q = reduced-with-room b s x pu pv 1 o ∙ go b (weightOf s) (rw e)
   where
     go : (b : Bool) (w : ℕ) → w ≡ 0
         → pick b ((2 * (w * x) + w * 1 + pu) - (pv + 2 * (w * readingOf s))) ((pv + 2 * (w * readingOf s) + w * 1) - (2 * (w * x) + pu)) ≡ 0
@@ -80,7 +80,7 @@ module _ (p : Plant) (w : Within p) (v : Solvable (p .streams)) (ps : List ℕ) 
 
     -- No way leads round: the visited places are a cut.
     blocked : (ls : List Bool) → getD ls (s .from) false ≡ true → getD ls (s .to) false ≡ false
-        → ((k : ℕ) → k < length ss → Usable ss (suc i) k → startIn ss ls k ≡ not (endIn ss ls k) → 0 < slackAt ss xs ps 1 k (startIn ss ls k))
+        → ((k : ℕ) → k < length ss → Usable ss (suc i) k → startIn ss ls k ≡ not (endIn ss ls k) → 0 < reducedCostAt ss xs ps 1 k (startIn ss ls k))
         → Tied p (opened (length ss) xs) i
     blocked ls start end closed =
         stays-tied (Ties.cut (λ u. getD ls u false) start end
@@ -94,20 +94,20 @@ module _ (p : Plant) (w : Within p) (v : Solvable (p .streams)) (ps : List ℕ) 
         }))
       where
         leaves : (k : ℕ) → k < length ss → Ties.meteredTo i k (streamAt ss k) ≡ false → startIn ss ls k ≡ true → startIn ss ls k ≡ not (endIn ss ls k)
-            → 0 < slackAt ss xs ps 1 k true
-        leaves k l u a c = subst (λ (b : Bool). 0 < slackAt ss xs ps 1 k b) a (closed k l (settled-usable ss i k u) c)
+            → 0 < reducedCostAt ss xs ps 1 k true
+        leaves k l u a c = subst (λ (b : Bool). 0 < reducedCostAt ss xs ps 1 k b) a (closed k l (settled-usable ss i k u) c)
 
         enters : (k : ℕ) → k < length ss → Ties.meteredTo i k (streamAt ss k) ≡ false → startIn ss ls k ≡ false → startIn ss ls k ≡ not (endIn ss ls k)
-            → 0 < slackAt ss xs ps 1 k false
-        enters k l u a c = subst (λ (b : Bool). 0 < slackAt ss xs ps 1 k b) a (closed k l (settled-usable ss i k u) c)
+            → 0 < reducedCostAt ss xs ps 1 k false
+        enters k l u a c = subst (λ (b : Bool). 0 < reducedCostAt ss xs ps 1 k b) a (closed k l (settled-usable ss i k u) c)
 
-        none : (k : ℕ) → k < length ss → streamAt ss k .metered ≡ false → 0 < slackAt ss xs ps 1 k (startIn ss ls k) → ⊥
+        none : (k : ℕ) → k < length ss → streamAt ss k .metered ≡ false → 0 < reducedCostAt ss xs ps 1 k (startIn ss ls k) → ⊥
         none k l e q =
             omega (
               arith,
-              free-slack (startIn ss ls k) (streamAt ss k) (getD xs k 0) (getD ps (streamAt ss k .from) 0) (getD ps (streamAt ss k .to) 0) e
-                  (open-free (startIn ss ls k) (streamAt ss k) (getD xs k 0) 1 (settledRoom + i) (unlimited (streamAt ss k) e)
-                  (h .close k (omega (arith, v .plain .few))) (omega (arith, v .plain .few)))
+              free-reduced (startIn ss ls k) (streamAt ss k) (getD xs k 0) (getD ps (streamAt ss k .from) 0) (getD ps (streamAt ss k .to) 0) e
+                  (room-free (startIn ss ls k) (streamAt ss k) (getD xs k 0) 1 (settledRoom + i) (unlimited (streamAt ss k) e)
+                  (h .sized k (omega (arith, v .plain .few))) (omega (arith, v .plain .few)))
                   (h .agreed k l e),
             )
 
@@ -139,20 +139,20 @@ module _ (p : Plant) (w : Within p) (v : Solvable (p .streams)) (ps : List ℕ) 
     at-i : Tied p (opened (length ss) ws) i
     at-i e os b c a =
         stays-least p w (potentialAt ps) (opened (length ss) ws) sure′ os b (omega arith) i li a
-        (Ties.slack (no-less p w ps (suc i) ws (d .even) (omega arith) i li m now))
+        (Ties.strict (no-less p w ps (suc i) ws (d .even) (omega arith) i li m now))
       where
         weighed : 1 ≤ weightOf s
         weighed = rw (weight-some s m) (v .weighed i li m)
 
         -- Where it could still fall, its gap is twice its weight.
-        now : 0 < slackBy s false (getD ws i 0) (getD ps (s .from) 0) (getD ps (s .to) 0) 1
-        now = open-or false s (getD ws i 0) 1
-            (λ o. omega (arith, slack-open false s (getD ws i 0) (getD ps (s .from) 0) (getD ps (s .to) 0) 1 o, ap (λ k. weightOf s * k) (d .less), d .tight, weighed))
-            (λ o. omega (arith, slack-shut false s (getD ws i 0) (getD ps (s .from) 0) (getD ps (s .to) 0) 1 o))
+        now : 0 < reducedCostBy s false (getD ws i 0) (getD ps (s .from) 0) (getD ps (s .to) 0) 1
+        now = room-or false s (getD ws i 0) 1
+            (λ o. omega (arith, reduced-with-room false s (getD ws i 0) (getD ps (s .from) 0) (getD ps (s .to) 0) 1 o, ap (λ k. weightOf s * k) (d .less), d .tight, weighed))
+            (λ o. omega (arith, reduced-shut false s (getD ws i 0) (getD ps (s .from) 0) (getD ps (s .to) 0) 1 o))
 
   tied-turn : (xs ws : List ℕ) → Even ss ps i xs → AllTied p i xs → Turn ss ps i xs ws → AllTied p (suc i) ws
   tied-turn xs _ h t (free m) = all-tied xs t (λ e. clash _ e m)
-  tied-turn xs _ h t (slack m q) = all-tied xs t (stays-tied xs h (Ties.slack (no-less p w ps i xs h (omega arith) i li m q)))
+  tied-turn xs _ h t (strict m q) = all-tied xs t (stays-tied xs h (Ties.strict (no-less p w ps i xs h (omega arith) i li m q)))
   tied-turn xs _ h t (cut m ls a b c) = all-tied xs t (blocked xs h ls a b c)
   tied-turn xs _ h t (round m ws d) = all-tied ws (before xs ws h t m d) (at-i xs ws h t m d)
 

@@ -8,14 +8,15 @@ use native.Mathlib.Omega.{arith}
 use native.Mathlib.Decide.{ℕ-discrete}
 use lib.ListN.{length, getD, set, List·getD-eq-default}
 use lib.Seq.{ext-getD, getD-set-same, getD-set-other}
+use Rattle.num_bytes.proofs.Filled.{getD-any}
 use Rattle.plant_def.specs.declared.Stream.{Stream}
 use Rattle.plant_def.specs.Limits.{places, maxStreams}
 use Rattle.flow_def.specs.Flows.{streamAt}
 use Rattle.solve_def.specs.Sizes.{numbering, farthest, far}
 use Rattle.solve_def.specs.Search.{fallen, loweredBy, farEnd}
-use Rattle.solve_def.specs.Near.{codeOf, nearestTo, reducedBy}
+use Rattle.solve_def.specs.Near.{codeOf, nearestTo, fallenBy}
 use Rattle.solve_def.proofs.Elements.{lowered-at, lowered-long}
-use Rattle.solve_def.proofs.Filling.{getD-any, reduced-at, reduced-long}
+use Rattle.solve_def.proofs.Filling.{fallen-at, fallen-long}
 use Rattle.solve_def.proofs.Least.{startIn, endIn}
 use Rattle.solve_def.proofs.Nearing.{nearest-is, nearest-least, tailOf, headOf, overOf, Leads, Nears}
 
@@ -27,13 +28,13 @@ code-parts k i l =
     (omega (arith, q, m), omega (arith, q, m))
 
 -- Potentials after the distance grew to j and place r was visited at it.
-pub reduced-next : (ls : List Bool) (ks ps : List ℕ) (k j r : ℕ) → k ≤ j → ((u : ℕ) → getD ks u 0 ≤ k) → r < length ls → r < length ks → getD ls r false ≡ false
-    → loweredBy ls (j - k) (reducedBy ls ks k ps) ≡ reducedBy (set ls r true) (set ks r j) j ps
-reduced-next ls ks ps k j r l close small short off =
-    ext-getD 0 (loweredBy ls (j - k) (reducedBy ls ks k ps)) (reducedBy (set ls r true) (set ks r j) j ps)
-    (lowered-long ls (j - k) (reducedBy ls ks k ps) ∙ reduced-long ls ks k ps ∙ sym (reduced-long (set ls r true) (set ks r j) j ps))
+pub fallen-next : (ls : List Bool) (ks ps : List ℕ) (k j r : ℕ) → k ≤ j → ((u : ℕ) → getD ks u 0 ≤ k) → r < length ls → r < length ks → getD ls r false ≡ false
+    → loweredBy ls (j - k) (fallenBy ls ks k ps) ≡ fallenBy (set ls r true) (set ks r j) j ps
+fallen-next ls ks ps k j r l close small short off =
+    ext-getD 0 (loweredBy ls (j - k) (fallenBy ls ks k ps)) (fallenBy (set ls r true) (set ks r j) j ps)
+    (lowered-long ls (j - k) (fallenBy ls ks k ps) ∙ fallen-long ls ks k ps ∙ sym (fallen-long (set ls r true) (set ks r j) j ps))
     (λ u b.
-    lowered-at ls (j - k) (reducedBy ls ks k ps) u ∙ rw (reduced-at ls ks k ps u, reduced-at (set ls r true) (set ks r j) j ps u) (each u))
+    lowered-at ls (j - k) (fallenBy ls ks k ps) u ∙ rw (fallen-at ls ks k ps u, fallen-at (set ls r true) (set ks r j) j ps u) (each u))
   where
     twice : (b : Bool) (a p : ℕ) → a ≤ k → fallen b (j - k) (fallen b (k - a) p) ≡ fallen b (j - a) p
     twice true a p h = omega arith

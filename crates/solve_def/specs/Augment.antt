@@ -7,10 +7,11 @@ use Rattle.num_bytes.specs.Choice.{pick}
 use Rattle.plant_def.specs.declared.Stream.{Stream}
 use Rattle.flow_def.specs.Flows.{streamAt}
 
--- The amount x of a stream after d moves along it to the place c, and the stream's other end.
+-- The amount x of a stream after d moves along it to the place c.
 abbrev pub movedOf : Stream → ℕ → ℕ → ℕ → ℕ
 movedOf s x c d = pick (eqb (s .to) c) (x + d) (x - d)
 
+-- The end of a stream that is not the place c.
 abbrev pub otherEnd : Stream → ℕ → ℕ
 otherEnd s c = pick (eqb (s .to) c) (s .from) (s .to)
 

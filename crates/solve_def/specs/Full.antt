@@ -27,13 +27,14 @@ pressed true false low high = mostFlow - high
 pressed false true low high = low
 pressed false false low high = flowShift
 
--- By the first n streams.
+-- Each of the first n streams may stand across the edge of the set, or does not cross it.
 unfoldable pub boundedTo : List Stream → List Bool → ℕ → Bool
 boundedTo ss ms zero = true
 boundedTo ss ms (suc n) =
     let s = streamAt ss n in
     mayCross (getD ms (s .from) false) (getD ms (s .to) false) (lowOf s) && boundedTo ss ms n
 
+-- What the first n streams press into the set at least, as held, summed.
 unfoldable pub pressedTo : List Stream → List Bool → ℕ → ℕ
 pressedTo ss ms zero = 0
 pressedTo ss ms (suc n) =

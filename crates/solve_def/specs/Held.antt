@@ -15,38 +15,42 @@ abbrev pub shifted : ℤ → ℕ
 shifted (pos a) = flowShift + a
 shifted (negsuc a) = flowShift - suc a
 
--- The amount that is held as x; the flow that the first n of a list of held amounts are.
+-- The amount that is held as x.
 unfoldable pub unshifted : ℕ → ℤ
 unshifted x = pos x -ℤ pos flowShift
 
+-- The flow that the first n of a list of held amounts are.
 abbrev pub opened : ℕ → List ℕ → List ℤ
 opened n xs = map unshifted (take n xs)
 
+-- A stream's reading as it is held.
 abbrev pub readingOf : Stream → ℕ
 readingOf s = shifted (s .reading)
 
--- The range of a stream as it is held: from 0 to mostFlow where it has none.
+-- The low end of a stream's range as it is held: 0 where it has none.
 unfoldable pub lowOf : Stream → ℕ
 lowOf s = pick (limited s) (shifted (s .low)) 0
 
+-- The high end of a stream's range as it is held: mostFlow where it has none.
 unfoldable pub highOf : Stream → ℕ
 highOf s = pick (limited s) (shifted (s .high)) mostFlow
 
 -- The step condition at step m, of a stream of weight w with amount X and reading R, from L to H in range, between the potentials u and v
 -- of its start and its end, all as held: w (2 (X − R) − m) ≤ v − u where the amount can fall by m, and v − u ≤ w (2 (X − R) + m)
 -- where it can rise by m.
-pub record Held (m w X R u v L H : ℕ) : Type 0 where
+pub record StepMet (m w X R u v L H : ℕ) : Type 0 where
   pub low : L + m ≤ X → 2 * w * X + u ≤ v + 2 * w * R + w * m
   pub high : X + m ≤ H → v + 2 * w * R ≤ 2 * w * X + w * m + u
 
--- Of stream k, with the amounts xs and the potentials ps; and of every stream.
-abbrev pub HeldAt : List Stream → List ℕ → List ℕ → ℕ → ℕ → Type 0
-HeldAt ss xs ps m k =
+-- The step condition at step m, of stream k with the amounts xs and the potentials ps.
+abbrev pub StepMetAt : List Stream → List ℕ → List ℕ → ℕ → ℕ → Type 0
+StepMetAt ss xs ps m k =
     let s = streamAt ss k in
-    Held m (weightOf s) (getD xs k 0) (readingOf s) (getD ps (s .from) 0) (getD ps (s .to) 0) (lowOf s) (highOf s)
+    StepMet m (weightOf s) (getD xs k 0) (readingOf s) (getD ps (s .from) 0) (getD ps (s .to) 0) (lowOf s) (highOf s)
 
-abbrev pub AllHeld : List Stream → List ℕ → List ℕ → ℕ → Type 0
-AllHeld ss xs ps m = (k : ℕ) → k < length ss → HeldAt ss xs ps m k
+-- The step condition at step m, of every stream.
+abbrev pub AllStepsMet : List Stream → List ℕ → List ℕ → ℕ → Type 0
+AllStepsMet ss xs ps m = (k : ℕ) → k < length ss → StepMetAt ss xs ps m k
 
 -- Every amount is in its stream's range.
 abbrev pub AllInside : List Stream → List ℕ → Type 0

@@ -14,9 +14,9 @@ use Rattle.flow_def.specs.Overfull.{unmarked}
 use Rattle.solve_def.specs.Sizes.{flowShift, potentialShift, netShift, searchRounds, mostTried, halvings}
 use Rattle.flow_def.specs.Certificate.{weightOf}
 use Rattle.solve_def.specs.Held.{readingOf, lowOf, highOf}
-use Rattle.solve_def.specs.Slack.{slackBy}
+use Rattle.solve_def.specs.ReducedCosts.{reducedCostBy}
 use Rattle.solve_def.specs.Search.{rootAt, target, Grown, sought, tightPath}
-use Rattle.solve_def.specs.Closing.{refloored}
+use Rattle.solve_def.specs.Compression.{refloored}
 use Rattle.solve_def.specs.Full.{overfull}
 use Rattle.solve_def.specs.Augment.{augmented}
 use Rattle.solve_def.specs.declared.Hint.{Hint}
@@ -44,13 +44,15 @@ settledTo ss ps xs (suc n) =
     let s = streamAt ss n in
     pick (s .metered) (set ys n (settledOf s (getD ps (s .from) 0) (getD ps (s .to) 0))) ys
 
--- The nets of the places: the amount x leaves one place and comes to another.
+-- The nets after the amount x leaves place u.
 abbrev pub left : List ℕ → ℕ → ℕ → List ℕ
 left es u x = set es u (getD es u 0 + flowShift - x)
 
+-- The nets after the amount x comes to place u.
 abbrev pub come : List ℕ → ℕ → ℕ → List ℕ
 come es u x = set es u (getD es u 0 + x - flowShift)
 
+-- The nets with a stream's amount x in them: it leaves the start and comes to the end.
 abbrev pub booked : List ℕ → Stream → ℕ → List ℕ
 booked es s x = come (left es (s .from) x) (s .to) x
 
@@ -79,10 +81,11 @@ pub record Improved : Type 0 where
   pub state : State
   pub visited : List Bool
 
+-- A state after an attempt, by its parts.
 abbrev pub improvedBy : Bool → State → List Bool → Improved
 improvedBy b st ls = record { done = b; state = st; visited = ls }
 
--- From place s: a search to a place with a negative net, and d augmented along the way to it.
+-- The state after d is augmented along the way that a search found; where potentials have fallen too far they are compressed.
 abbrev pub augmentedOn : List Stream → State → ℕ → ℕ → Grown → State
 augmentedOn ss st d s g =
     record {
@@ -91,21 +94,21 @@ augmentedOn ss st d s g =
       nets = shiftedNets (st .nets) s (target (g .tree)) d;
     }
 
--- Where potentials have fallen too far they are closed up.
+-- From place s: a search to a place with a negative net, and d augmented along the way to it.
 abbrev pub improvedAt : List Stream → State → ℕ → ℕ → Improved
 improvedAt ss st d s =
     let g = sought ss (st .flows) (st .nets) (st .potentials) d s in
     improvedBy (g .found) (pick (g .found) (augmentedOn ss st d s g) st) (g .tree .visited)
 
 -- The summed positive net.
-unfoldable pub overSum : List ℕ → ℕ
-overSum [] = 0
-overSum (e ∷ es) = (e - netShift) + overSum es
+unfoldable pub excessSum : List ℕ → ℕ
+excessSum [] = 0
+excessSum (e ∷ es) = (e - netShift) + excessSum es
 
 -- How many steps of d the positive nets have, place by place.
-unfoldable pub stepsOver : ℕ → List ℕ → ℕ
-stepsOver d [] = 0
-stepsOver d (e ∷ es) = (e - netShift) / d + stepsOver d es
+unfoldable pub excessSteps : ℕ → List ℕ → ℕ
+excessSteps d [] = 0
+excessSteps d (e ∷ es) = (e - netShift) / d + excessSteps d es
 
 -- No hint: amounts and potentials 0.
 abbrev pub noHint : Hint
@@ -119,6 +122,7 @@ asHint st = record { flows = st .flows; potentials = st .potentials }
 abbrev pub endedBy : Bool → State → List Bool → Ended
 endedBy b st ls = record { full = b; state = st; marked = ls }
 
+-- No set is full so far.
 abbrev pub going : State → Ended
 going st = endedBy false st unmarked
 
@@ -137,6 +141,7 @@ phaseTo (suc n) ss d st =
     let e = phaseTo n ss d st in
     pick (e .full) e (fromPlace ((getD (e .state .nets) n 0 - netShift) / d) ss d n (e .state))
 
+-- A phase at step d, from all places.
 abbrev pub phase : List Stream → ℕ → State → Ended
 phase ss d st = phaseTo places ss d st
 
@@ -149,20 +154,20 @@ phases (suc n) ss h =
 
 -- From amounts settled at a hint: one phase at step 1; where too much is over, all phases from no hint.
 unfoldable pub finished : List Stream → State → Ended
-finished ss st = pick (leb (overSum (st .nets)) mostTried) (phase ss 1 st) (phases halvings ss noHint)
+finished ss st = pick (leb (excessSum (st .nets)) mostTried) (phase ss 1 st) (phases halvings ss noHint)
 
--- Ties. Stream i less by 1 where its amount can fall at no cost and a way of no slack leads round it, which leaves the metered
--- streams up to it alone.
+-- Ties. Where a way round stream i was found, from its start to its end v, 1 is moved along it and stream i carries 1 less.
 abbrev pub tiedBy : List Stream → List ℕ → ℕ → ℕ → Grown → List ℕ
 tiedBy ss xs v i g =
     let ys = augmented ss (g .tree .via) (g .tree .ends) 1 (g .tree .len) v xs in
     pick (g .found) (set ys i (getD ys i 0 - 1)) xs
 
+-- The tie pass at stream i: the flow stays as it is where the stream is unmetered, cannot fall at no cost, or has no way without reduced cost round it.
 unfoldable pub tiedAt : List Stream → List ℕ → ℕ → List ℕ → List ℕ
 tiedAt ss ps i xs =
     let s = streamAt ss i in
     pick (s .metered)
-    (pick (ltb 0 (slackBy s false (getD xs i 0) (getD ps (s .from) 0) (getD ps (s .to) 0) 1)) xs
+    (pick (ltb 0 (reducedCostBy s false (getD xs i 0) (getD ps (s .from) 0) (getD ps (s .to) 0) 1)) xs
     (tiedBy ss xs (s .to) i (tightPath ss (length ss) xs ps (s .to) (suc i) searchRounds (rootAt (s .from)))))
     xs
 

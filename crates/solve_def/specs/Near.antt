@@ -1,6 +1,6 @@
 -- The search by distances: for each place that is not visited, the stream by which the visited places come nearest to it. A stream
 -- has two directions, forwards from its start to its end and backwards from its end to its start. In what follows fs are the starts
--- of streams, ts their ends, gs the slacks forwards and bs backwards.
+-- of streams, ts their ends, gs the reduced costs forwards and bs backwards.
 use mathlib.Core.Bool.{Bool, true, false, _||_}
 use mathlib.Core.List.{List, [], _∷_}
 use Prim.Native.Nat.{ℕ, zero, suc, _+_, _-_, _*_, _/_, _%_}
@@ -31,7 +31,7 @@ codeOf k i = k * numbering + i
 abbrev pub lessened : List ℕ → ℕ → ℕ → List ℕ
 lessened near v c = pick (ltb c (getD near v 0)) (set near v c) near
 
--- After stream i, of slack g, was looked at in the direction of place v, from a place at distance k; ls tells which places are visited.
+-- After stream i, of reduced cost g, was looked at in the direction of place v, from a place at distance k; ls tells which places are visited.
 unfoldable pub relaxedAlong : List Bool → ℕ → ℕ → ℕ → ℕ → List ℕ → List ℕ
 relaxedAlong ls k v g i near = pick (getD ls v false) near (lessened near v (codeOf (k + g) i))
 
@@ -56,11 +56,11 @@ abbrev pub nearestWithin : List ℕ → ℕ → ℕ
 nearestWithin near limit = pick (ltb limit (getD near (nearestTo near places) far / numbering)) places (nearestTo near places)
 
 -- The potentials when the search is at the distance k: a visited place's has fallen by what k exceeds its own distance.
-unfoldable pub reducedBy : List Bool → List ℕ → ℕ → List ℕ → List ℕ
-reducedBy [] ks k ps = ps
-reducedBy (l ∷ ls) ks k [] = []
-reducedBy (l ∷ ls) [] k (p ∷ ps) = fallen l k p ∷ reducedBy ls [] k ps
-reducedBy (l ∷ ls) (j ∷ ks) k (p ∷ ps) = fallen l (k - j) p ∷ reducedBy ls ks k ps
+unfoldable pub fallenBy : List Bool → List ℕ → ℕ → List ℕ → List ℕ
+fallenBy [] ks k ps = ps
+fallenBy (l ∷ ls) ks k [] = []
+fallenBy (l ∷ ls) [] k (p ∷ ps) = fallen l k p ∷ fallenBy ls [] k ps
+fallenBy (l ∷ ls) (j ∷ ks) k (p ∷ ps) = fallen l (k - j) p ∷ fallenBy ls ks k ps
 
 -- Nets that make place v the one that is looked for.
 abbrev pub goalAt : ℕ → List ℕ

@@ -15,12 +15,13 @@ use Rattle.flow_def.specs.Overfull.{unmarked, Overfull}
 use Rattle.solve_def.specs.Sizes.{potentialShift, settledRoom}
 use Rattle.solve_def.specs.Held.{opened}
 use Rattle.solve_def.specs.declared.Solved.{Solved}
-use Rattle.solve_def.specs.SearchNeeds.{Close}
+use Rattle.solve_def.specs.SearchNeeds.{SizeWithin}
 
--- The potential that is held as x; the potential of each place.
+-- The potential that is held as x.
 unfoldable pub potential : ℕ → ℤ
 potential x = pos x -ℤ pos potentialShift
 
+-- The potential of place u.
 abbrev pub potentialAt : List ℕ → ℕ → ℤ
 potentialAt ps u = potential (getD ps u 0)
 
@@ -39,7 +40,7 @@ pub record Solution (p : Arrays.Plant) (r : Solved) : Type 0 where
       → potentialAt (r .potentials) (streamAt (plantOf p .streams) k .from) ≡ potentialAt (r .potentials) (streamAt (plantOf p .streams) k .to)
   -- A potential is from −potentialShift to 0, and an amount is of size settledRoom + maxStreams at most.
   pub bound : (u : ℕ) → u < places → getD (r .potentials) u 0 ≤ potentialShift
-  pub close : (k : ℕ) → k < maxStreams → Close (settledRoom + maxStreams) (getD (r .flows) k 0)
+  pub sized : (k : ℕ) → k < maxStreams → SizeWithin (settledRoom + maxStreams) (getD (r .flows) k 0)
   pub long : length (r .flows) ≡ maxStreams
   pub per-place : length (r .potentials) ≡ places
   -- No place is marked.

@@ -1,4 +1,4 @@
--- The search: place after place is visited, each over the stream of least slack, until one is visited that is looked for.
+-- The search: place after place is visited, each over the stream of least reduced cost, until one is visited that is looked for.
 use mathlib.Core.Bool.{Bool, true, false}
 use mathlib.Core.List.{List, [], _∷_}
 use Prim.Native.Nat.{ℕ, zero, suc, _+_, _-_}
@@ -10,13 +10,14 @@ use Rattle.flow_def.specs.Flows.{streamAt}
 use Rattle.solve_def.specs.declared.Tree.{Tree}
 use Rattle.plant_def.specs.Limits.{places}
 use Rattle.solve_def.specs.Sizes.{netShift, farthest, searchRounds}
-use Rattle.solve_def.specs.Slack.{Crossing, At, Nothing, leastTo}
+use Rattle.solve_def.specs.ReducedCosts.{Crossing, At, Nothing, leastTo}
 
--- The potentials, those of visited places lowered by g.
+-- A potential p, lowered by g where its place is visited.
 abbrev pub fallen : Bool → ℕ → ℕ → ℕ
 fallen true g p = p - g
 fallen false g p = p
 
+-- The potentials, those of visited places lowered by g.
 unfoldable pub loweredBy : List Bool → ℕ → List ℕ → List ℕ
 loweredBy [] g ps = ps
 loweredBy (l ∷ ls) g [] = []
@@ -31,10 +32,11 @@ abbrev pub onCrossing : {A : Type 0} → Crossing → A → (ℕ → ℕ → A) 
 onCrossing Nothing none at = none
 onCrossing (At i g) none at = at i g
 
--- The tree of one place; and one place more, e over stream i.
+-- The tree of one place.
 abbrev pub rootAt : ℕ → Tree
 rootAt s = record { visited = set (replicate places false) s true; via = replicate places 0; ends = replicate places 0; len = 0 }
 
+-- One place more: e, over stream i.
 abbrev pub addedTo : Tree → ℕ → ℕ → Tree
 addedTo t i e =
     record { visited = set (t .visited) e true; via = set (t .via) (t .len) i; ends = set (t .ends) (t .len) e; len = t .len + 1 }
@@ -49,10 +51,11 @@ pub record Grown : Type 0 where
   pub tree : Tree
   pub potentials : List ℕ
 
+-- A search by its parts.
 abbrev pub grownBy : Bool → Tree → List ℕ → Grown
 grownBy b t ps = record { found = b; tree = t; potentials = ps }
 
--- At step d, over the first n streams: the visited places' potentials fall by the least slack, and its stream's far end is visited,
+-- At step d, over the first n streams: the visited places' potentials fall by the least reduced cost, and its stream's far end is visited,
 -- at most `fuel` times, until a place with a negative net is, or no stream that can move leaves the visited places. xs are the
 -- amounts and es the nets.
 unfoldable pub grow : List Stream → ℕ → List ℕ → List ℕ → ℕ → ℕ → List ℕ → Tree → Grown
@@ -71,7 +74,7 @@ sought ss xs es ps d s =
     let g = grow ss (length ss) xs es d searchRounds ps (rootAt s) in
     grownBy (g .found) (g .tree) (pick (g .found) (g .potentials) ps)
 
--- At step 1, over streams without slack only, metered ones before number skip left alone, until the place v is visited.
+-- At step 1, over streams without reduced cost only, metered ones before number skip left alone, until the place v is visited.
 unfoldable pub tightPath : List Stream → ℕ → List ℕ → List ℕ → ℕ → ℕ → ℕ → Tree → Grown
 tightPath ss n xs ps v skip zero t = grownBy false t ps
 tightPath ss n xs ps v skip (suc fuel) t =

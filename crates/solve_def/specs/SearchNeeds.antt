@@ -9,22 +9,23 @@ use Rattle.plant_def.specs.Limits.{places, maxUnits, maxStreams}
 use Rattle.plant_def.specs.Within.{Accepted}
 use Rattle.solve_def.specs.Sizes.{flowShift, mostFlow, potentialShift, potentialFloor, mostStep, mostAmount}
 use Rattle.flow_def.specs.Flows.{streamAt}
-use Rattle.solve_def.specs.Held.{AllHeld}
+use Rattle.solve_def.specs.Held.{AllStepsMet}
 
 -- An array of streams of which the first n are in use, within the limits of a plant, whatever its number of units.
 abbrev pub Network : List Stream → ℕ → Type 0
 Network streams n = Accepted (record { units = maxUnits; count = n; streams = streams })
 
+-- Potentials that may be held.
 abbrev pub Potentials : List ℕ → Type 0
 Potentials ps = (u : ℕ) → u < places → getD ps u 0 ≤ potentialShift
 
 -- A held amount of size b at most.
-abbrev pub Close : ℕ → ℕ → Type 0
-Close b x = (x ≤ flowShift + b) × (flowShift ≤ x + b)
+abbrev pub SizeWithin : ℕ → ℕ → Type 0
+SizeWithin b x = (x ≤ flowShift + b) × (flowShift ≤ x + b)
 
 -- Every metered amount is of size mostAmount at most.
 abbrev pub Moderate : List Stream → List ℕ → Type 0
-Moderate ss xs = (k : ℕ) → k < length ss → streamAt ss k .metered ≡ true → Close mostAmount (getD xs k 0)
+Moderate ss xs = (k : ℕ) → k < length ss → streamAt ss k .metered ≡ true → SizeWithin mostAmount (getD xs k 0)
 
 -- Potentials from potentialFloor up.
 abbrev pub Floored : List ℕ → Type 0
@@ -40,7 +41,7 @@ pub record Searchable (streams : List Stream) (n : ℕ) (xs ps : List ℕ) (d : 
 -- And where the step condition holds, of amounts that are not too large and potentials that are not too low.
 pub record Walkable (streams : List Stream) (n : ℕ) (xs ps : List ℕ) (d : ℕ) : Type 0 where
   pub searchable : Searchable streams n xs ps d
-  pub held : AllHeld (take n streams) xs ps d
+  pub met : AllStepsMet (take n streams) xs ps d
   pub moderate : Moderate (take n streams) xs
   pub floored : Floored ps
 

@@ -3,10 +3,11 @@
 use Prim.Native.Nat.{ℕ, _*_, _+_, _-_}
 use Rattle.plant_def.specs.Limits.{maxUnits, places, maxWeight, maxStreams}
 
--- The greatest reading, and the greatest size of a range's ends, provided for: maxReading ≤ mostReading, maxRange ≤ mostRange.
+-- The greatest reading provided for: maxReading ≤ mostReading.
 abbrev pub mostReading : ℕ
 mostReading = 4000000
 
+-- The greatest size of a range's ends provided for: maxRange ≤ mostRange.
 abbrev pub mostRange : ℕ
 mostRange = 2000000000
 
@@ -31,12 +32,12 @@ abbrev pub halvings : ℕ
 halvings = 29
 
 -- The most that is ever over at the places together: what amounts in range bring, and what is moved when amounts are settled anew.
-abbrev pub mostOver : ℕ
-mostOver = maxStreams * (mostRange + 2 * mostStep)
+abbrev pub mostExcess : ℕ
+mostExcess = maxStreams * (mostRange + 2 * mostStep)
 
 -- The greatest size of a metered amount that meets the step condition: what the other streams bring in range, and what is over.
 abbrev pub meteredRoom : ℕ
-meteredRoom = maxStreams * mostRange + mostOver
+meteredRoom = maxStreams * mostRange + mostExcess
 
 -- The greatest size of a metered amount that a search allows for, 2^39: meteredRoom + maxStreams ≤ mostAmount, for the ties still take 1
 -- for each stream.
@@ -52,7 +53,7 @@ mostMarginal = maxWeight * (2 * (mostAmount + mostReading) + mostStep)
 abbrev pub potentialShift : ℕ
 potentialShift = 144115188075855872
 
--- Potentials below this are closed up again after an improvement.
+-- Potentials below this are compressed again after an improvement.
 abbrev pub potentialFloor : ℕ
 potentialFloor = potentialShift - places * mostMarginal
 
@@ -73,7 +74,7 @@ netRoom = 2 * maxStreams * mostFlow
 abbrev pub numbering : ℕ
 numbering = 128
 
--- Every distance of a place that can be reached is below this, 2^56, and a stream that cannot move has it as its slack:
+-- Every distance of a place that can be reached is below this, 2^56, and a stream that cannot move has it as its reduced cost:
 -- (2 * places - 1) * mostMarginal < farthest, and in 64 bits 2 * farthest * numbering ≤ 2^64.
 abbrev pub farthest : ℕ
 farthest = 72057594037927936
@@ -86,7 +87,7 @@ far = farthest * numbering
 abbrev pub potentialSpread : ℕ
 potentialSpread = 18014398509481984
 
--- The greatest size of an unmetered amount of a hint, 2^45: (halvings + 1) * mostOver ≤ hintRoom.
+-- The greatest size of an unmetered amount of a hint, 2^45: (halvings + 1) * mostExcess ≤ hintRoom.
 abbrev pub hintRoom : ℕ
 hintRoom = 35184372088832
 
@@ -97,4 +98,4 @@ mostTried = 512
 -- The greatest size of an amount at the end: settledRoom + maxStreams + places * mostStep ≤ flowShift, for an augmentation may
 -- take a step from a stream at each place, and the ties still take 1 for each stream.
 abbrev pub settledRoom : ℕ
-settledRoom = hintRoom + mostOver
+settledRoom = hintRoom + mostExcess

@@ -10,13 +10,13 @@ use Rattle.plant_def.specs.Limits.{places, maxStreams}
 use Rattle.plant_def.specs.Plants.{noStream}
 use Rattle.flow_def.specs.Flows.{streamAt}
 use Rattle.flow_def.specs.Nets.{netOf}
-use Rattle.solve_def.specs.Sizes.{flowShift, mostFlow, netShift, mostStep, mostOver, meteredRoom, hintRoom, settledRoom}
-use Rattle.solve_def.specs.Held.{unshifted, AllHeld, AllInside}
-use Rattle.solve_def.specs.Slack.{slackBy}
-use Rattle.solve_def.specs.SearchNeeds.{Potentials, Floored, Close}
+use Rattle.solve_def.specs.Sizes.{flowShift, mostFlow, netShift, mostStep, mostExcess, meteredRoom, hintRoom, settledRoom}
+use Rattle.solve_def.specs.Held.{unshifted, AllStepsMet, AllInside}
+use Rattle.solve_def.specs.ReducedCosts.{reducedCostBy}
+use Rattle.solve_def.specs.SearchNeeds.{Potentials, Floored, SizeWithin}
 use Rattle.solve_def.specs.declared.Hint.{Hint}
 use Rattle.solve_def.specs.declared.State.{State}
-use Rattle.solve_def.specs.Model.{settled, overSum, stepsOver}
+use Rattle.solve_def.specs.Model.{settled, excessSum, excessSteps}
 
 -- A step: at least 1.
 abbrev pub Step : ℕ → Type 0
@@ -53,7 +53,7 @@ pub record Start (ss : List Stream) (b : ℕ) (h : Hint) : Type 0 where
   pub capped : Potentials (h .potentials)
   pub per-place : length (h .potentials) ≡ places
   pub long : length (h .flows) ≡ maxStreams
-  pub unmetered : (k : ℕ) → k < maxStreams → streamAt ss k .metered ≡ false → Close b (getD (h .flows) k 0)
+  pub unmetered : (k : ℕ) → k < maxStreams → streamAt ss k .metered ≡ false → SizeWithin b (getD (h .flows) k 0)
   pub within : b ≤ flowShift
 
 -- Some potentials and amounts to settle at.
@@ -75,7 +75,7 @@ pub record AtHint (ss : List Stream) (st : State) : Type 0 where
 -- potentials from potentialFloor up, no more over than there may be, and unmetered amounts of size b at most. (How large metered amounts
 -- are follows.)
 pub record Sound (ss : List Stream) (d b : ℕ) (st : State) : Type 0 where
-  pub held : AllHeld ss (st .flows) (st .potentials) d
+  pub met : AllStepsMet ss (st .flows) (st .potentials) d
   pub inside : AllInside ss (st .flows)
   pub agreed : Agreed ss (st .potentials)
   pub long : length (st .flows) ≡ maxStreams
@@ -84,28 +84,28 @@ pub record Sound (ss : List Stream) (d b : ℕ) (st : State) : Type 0 where
   pub nets : (u : ℕ) → u < places → netOf ss (λ k. unshifted (getD (st .flows) k 0)) u ≡ pos (getD (st .nets) u 0) -ℤ pos netShift
   pub floor : Floored (st .potentials)
   pub capped : Potentials (st .potentials)
-  pub over : overSum (st .nets) + 2 * maxStreams * d ≤ mostOver
-  pub close : (k : ℕ) → k < maxStreams → streamAt ss k .metered ≡ false → Close b (getD (st .flows) k 0)
+  pub over : excessSum (st .nets) + 2 * maxStreams * d ≤ mostExcess
+  pub sized : (k : ℕ) → k < maxStreams → streamAt ss k .metered ≡ false → SizeWithin b (getD (st .flows) k 0)
 
 -- A state in a phase at step d, whose unmetered amounts stay within t: they may still grow by d for each step that is over.
 pub record Underway (ss : List Stream) (d t : ℕ) (st : State) : Type 0 where
   pub size : ℕ
   pub sound : Sound ss d size st
-  pub fits : size + d * stepsOver d (st .nets) ≤ t
+  pub fits : size + d * excessSteps d (st .nets) ≤ t
 
 -- A balanced flow in range that meets the step condition at 1, before the tie pass comes to stream i.
 pub record Even (ss : List Stream) (ps : List ℕ) (i : ℕ) (xs : List ℕ) : Type 0 where
   pub long : length xs ≡ maxStreams
-  pub held : AllHeld ss xs ps 1
+  pub met : AllStepsMet ss xs ps 1
   pub inside : AllInside ss xs
   pub agreed : Agreed ss ps
   pub level : (u : ℕ) → u < places → netOf ss (λ k. unshifted (getD xs k 0)) u ≡ pos 0
-  pub moderate : (k : ℕ) → k < length ss → streamAt ss k .metered ≡ true → Close (meteredRoom + i) (getD xs k 0)
+  pub moderate : (k : ℕ) → k < length ss → streamAt ss k .metered ≡ true → SizeWithin (meteredRoom + i) (getD xs k 0)
   pub floor : Floored ps
-  pub close : (k : ℕ) → k < maxStreams → Close (settledRoom + i) (getD xs k 0)
+  pub sized : (k : ℕ) → k < maxStreams → SizeWithin (settledRoom + i) (getD xs k 0)
 
 -- Stream i is metered, and its amount can fall at no cost.
 pub record Falls (streams : List Stream) (ps : List ℕ) (i : ℕ) (xs : List ℕ) : Type 0 where
   pub metered : getD streams i noStream .metered ≡ true
   pub tight :
-      slackBy (getD streams i noStream) false (getD xs i 0) (getD ps (getD streams i noStream .from) 0) (getD ps (getD streams i noStream .to) 0) 1 ≤ 0
+      reducedCostBy (getD streams i noStream) false (getD xs i 0) (getD ps (getD streams i noStream .from) 0) (getD ps (getD streams i noStream .to) 0) 1 ≤ 0

@@ -12,7 +12,7 @@ pub const MOST_FLOW: u64 = 2 * FLOW_SHIFT;
 pub const NET_SHIFT: u64 = 72_057_594_037_927_936;
 
 // A distance k and a stream's number i are held as k * NUMBERING + i; FAR is more than each of these. A stream that cannot move has the
-// slack FARTHEST.
+// reduced cost FARTHEST.
 pub const NUMBERING: u64 = 128;
 
 pub const FARTHEST: u64 = 72_057_594_037_927_936;
@@ -30,7 +30,7 @@ pub const MOST_AMOUNT: u64 = 549_755_813_888;
 // The greatest marginal cost of a step on a metered stream.
 pub const MOST_MARGINAL: u64 = MAX_WEIGHT as u64 * (2 * (MOST_AMOUNT + MOST_READING) + MOST_STEP);
 
-// A potential p is held as p + POTENTIAL_SHIFT; below POTENTIAL_FLOOR potentials are closed up.
+// A potential p is held as p + POTENTIAL_SHIFT; below POTENTIAL_FLOOR potentials are compressed.
 pub const POTENTIAL_SHIFT: u64 = 144_115_188_075_855_872;
 
 pub const POTENTIAL_FLOOR: u64 = POTENTIAL_SHIFT - PLACES as u64 * MOST_MARGINAL;

@@ -15,10 +15,10 @@ ghost use mathlib.Core.Bool.{false, not};
 ghost use Prim.Native.Nat.{_<_};
 ghost use lib.ListN.{length, getD};
 ghost use Rattle.plant_def.specs.Limits.{places};
-ghost use Rattle.flow_def.specs.Loops.{countTo};
+ghost use Rattle.num_bytes.specs.Sums.{countTo};
 ghost use Rattle.solve_arcs.specs.ArcNeeds.{Laying};
 ghost use Rattle.solve_forest.specs.Forests.{Spanning, ListedMore, ListedOf, Routable};
-ghost use Rattle.solve_def.specs.SearchNeeds.{Close};
+ghost use Rattle.solve_def.specs.SearchNeeds.{SizeWithin};
 ghost use Rattle.solve_def.specs.Sizes.{hintRoom};
 ghost use Rattle.solve_forest.specs.Routes.{Routing, Routed};
 
@@ -173,8 +173,8 @@ pub fn span(arcs: &[u8; ARCS], rows: &[u64; ROWS], labels: [u8; PLACES]) -> Fore
 }
 
 // The held amount nearest to x within the hint's room.
-fn close(x: u64) -> u64
-    ensures { λ r. ⌜ Close hintRoom r ⌝ }
+fn clamp(x: u64) -> u64
+    ensures { λ r. ⌜ SizeWithin hintRoom r ⌝ }
 {
     if x < FLOW_SHIFT - HINT_ROOM {
         return FLOW_SHIFT - HINT_ROOM;
@@ -199,14 +199,14 @@ fn hand_on(nets: &mut [u64; PLACES], u: usize, v: usize) -> u64
 // The amount of a stream from place u to place v by which the place that it was to reach hands its net on.
 fn routed(nets: &mut [u64; PLACES], u: usize, v: usize, into: bool) -> u64
     requires { ⌜ (length (now nets) ≡ places) × (u < places) × (v < places) ⌝ }
-    ensures { λ r. ⌜ (length (now (nets .exit)) ≡ places) × Close hintRoom r ⌝ }
+    ensures { λ r. ⌜ (length (now (nets .exit)) ≡ places) × SizeWithin hintRoom r ⌝ }
 {
     if into {
         let z = hand_on(nets, u, v);
-        close(wrapping_sub_u64(FLOW_SHIFT, z))
+        clamp(wrapping_sub_u64(FLOW_SHIFT, z))
     } else {
         let z = hand_on(nets, v, u);
-        close(wrapping_add_u64(FLOW_SHIFT, z))
+        clamp(wrapping_add_u64(FLOW_SHIFT, z))
     }
 }
 

@@ -3,13 +3,14 @@ use mathlib.Core.Path.{_≡_}
 use mathlib.Core.List.{List}
 use Prim.Native.Nat.{ℕ, _+_, _≤_, _<_}
 use lib.ListN.{getD, take}
+use Rattle.num_bytes.specs.Lent.{Lent}
 use Rattle.plant_def.specs.declared.Stream.{Stream}
 use Rattle.plant_def.specs.Limits.{places}
 use Rattle.solve_def.specs.declared.Quest.{Quest}
 use Rattle.solve_def.specs.declared.Searched.{Searched}
 use Rattle.solve_def.specs.declared.State.{State}
 use Rattle.solve_def.specs.Sizes.{netShift, settledRoom}
-use Rattle.solve_def.specs.Model.{improvedBy, improvedAt}
+use Rattle.solve_def.specs.Model.{stateOf, improvedBy, improvedAt}
 use Rattle.solve_def.specs.SearchNeeds.{Network}
 use Rattle.solve_def.specs.SolverNeeds.{Step, Underway}
 use Rattle.solve_arcs.specs.ArcNeeds.{Laid, Margined}
@@ -43,3 +44,17 @@ Improving ls rs ms q st r after margins =
     (w : Improvable ls rs ms (q .delta) st)
     → (improvedBy (r .found) after (r .tree .visited) ≡ improvedAt (take (w .n) (w .streams)) st (q .delta) (q .start))
     × Margined (w .n) rs (after .flows) (q .delta) 0 margins
+
+-- The state that is lent to a call,
+abbrev pub stateBefore : (flows potentials nets : Lent (List ℕ)) → State
+stateBefore flows potentials nets = stateOf (flows .entry .now) (potentials .entry .now) (nets .entry .now)
+
+-- and the one that it leaves.
+abbrev pub stateAfter : (flows potentials nets : Lent (List ℕ)) → State
+stateAfter flows potentials nets = stateOf (flows .exit .now) (potentials .exit .now) (nets .exit .now)
+
+-- What an improvement comes to, of what is lent to it.
+abbrev pub ImproveCall : (arcs rows margins flows potentials nets : Lent (List ℕ)) → Quest → Searched → Type 0
+ImproveCall arcs rows margins flows potentials nets q r =
+    Improving (arcs .entry .now) (rows .entry .now) (margins .entry .now) q (stateBefore flows potentials nets) r
+    (stateAfter flows potentials nets) (margins .exit .now)

@@ -12,7 +12,7 @@ use solve_def::Route;
 use solve_def::Searched;
 use solve_path::search;
 ghost use Rattle.solve_def.specs.Model.{stateOf};
-ghost use Rattle.solve_improve.specs.Improves.{Improves, Improving};
+ghost use Rattle.solve_improve.specs.Improves.{Improves, ImproveCall};
 
 // One improvement at step delta from place s: a search to a place with a negative net, and delta augmented along the way to it. Where no
 // such place can be reached, nothing changes. The margins stay those of the amounts.
@@ -26,9 +26,7 @@ pub fn improve_from(
     q: Quest,
 ) -> Searched
     requires { ⌜ Improves (now arcs) (now rows) (now margins) q (stateOf (now flows) (now potentials) (now nets)) ⌝ }
-    ensures { λ r. ⌜ Improving (now (arcs .entry)) (now (rows .entry)) (now (margins .entry)) q
-        (stateOf (now (flows .entry)) (now (potentials .entry)) (now (nets .entry))) r
-        (stateOf (now (flows .exit)) (now (potentials .exit)) (now (nets .exit))) (now (margins .exit)) ⌝ }
+    ensures { λ r. ⌜ ImproveCall arcs rows margins flows potentials nets q r ⌝ }
 {
     let s = q.start;
     let delta = q.delta;

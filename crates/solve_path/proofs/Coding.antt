@@ -13,18 +13,18 @@ use lib.Seq.{ext-getD, getD-set-same, getD-set-other, set-getD}
 use Rattle.num_bytes.specs.Choice.{pick}
 use Rattle.num_bytes.proofs.Tests.{by-cases, clash, or-cases, picked}
 use Rattle.plant_def.specs.Limits.{places, maxStreams}
-use Rattle.flow_def.specs.Sides.{bit}
-use Rattle.flow_def.proofs.Lists.{values-at, values-long}
-use Rattle.flow_def.proofs.Binary.{bit-or, bit-zero, bit-other}
+use Rattle.num_bytes.specs.Sums.{bit}
+use Rattle.num_bytes.proofs.Lists.{values-at, values-long}
+use Rattle.num_bytes.proofs.Binary.{bit-or, bit-zero, bit-other}
 use Rattle.flow_def.proofs.Passed.{shifted}
 use Rattle.solve_def.specs.Sizes.{far, farthest}
 use Rattle.solve_def.specs.Near.{codeOf, lessened, arcAt, relaxedAlong, relaxedTo}
-use Rattle.solve_def.specs.Fringe.{openedBy}
-use Rattle.solve_def.proofs.Opening.{open-offered}
+use Rattle.solve_def.specs.Fringe.{fringeBit}
+use Rattle.solve_def.proofs.Fringes.{fringe-offered}
 use Rattle.solve_arcs.specs.Cells.{toCell, nextCell, countOf, startsOf, endsOf}
 use Rattle.solve_arcs.specs.Margins.{lessOf, reducedCost, reducedCosts}
 use Rattle.solve_arcs.specs.ArcNeeds.{Linked}
-use Rattle.solve_arcs.proofs.Passing.{along-visited, along-open, all-passed, low, low-all, head-in, next-is, passed}
+use Rattle.solve_arcs.proofs.Passing.{along-visited, along-unvisited, all-passed, low, low-all, head-in, next-is, passed}
 use Rattle.solve_path.specs.Codes.{shown, Coded, Looked}
 
 -- The code of a place as the definition has it.
@@ -38,8 +38,8 @@ unfolding shown
 shown-long vs near = values-long (λ v. pick (getD vs v false) far (getD near v 0)) places
 
 -- That of a place that is not visited is the one that is kept.
-pub shown-open : (vs : List Bool) (near : List ℕ) (v : ℕ) → v < places → getD vs v false ≡ false → getD (shown vs near) v 0 ≡ getD near v 0
-shown-open vs near v l o = shown-at vs near v l ∙ rw o
+pub shown-fringe : (vs : List Bool) (near : List ℕ) (v : ℕ) → v < places → getD vs v false ≡ false → getD (shown vs near) v 0 ≡ getD near v 0
+shown-fringe vs near v l o = shown-at vs near v l ∙ rw o
 
 -- A store at a place that is not visited.
 shown-set : (vs : List Bool) (near : List ℕ) (v c : ℕ) → v < places → length near ≡ places → getD vs v false ≡ false
@@ -51,7 +51,7 @@ shown-set vs near v c l long o =
   where
     each : (u : ℕ) → u < places → getD (shown vs (set near v c)) u 0 ≡ getD (set (shown vs near) v c) u 0
     each u b = elim (ℕ-discrete u v) [
-      | yes q ↦ rw q (shown-open vs (set near v c) v l o ∙ getD-set-same near v c 0 (rw long l) ∙ sym (getD-set-same (shown vs near) v c 0 (rw (shown-long vs near) l)))
+      | yes q ↦ rw q (shown-fringe vs (set near v c) v l o ∙ getD-set-same near v c 0 (rw long l) ∙ sym (getD-set-same (shown vs near) v c 0 (rw (shown-long vs near) l)))
       | no q ↦ shown-at vs (set near v c) u b ∙ ap (pick (getD vs u false) far) (getD-set-other near v u c 0 q)
           ∙ sym (getD-set-other (shown vs near) v u c 0 q ∙ shown-at vs near u b)
     ]
@@ -63,7 +63,7 @@ module _ (vs : List Bool) (near : List ℕ) (m v k g i : ℕ) (w : Coded vs near
 
   -- The fringe after it.
   abbrev pub widened : ℕ
-  widened = bitOr m (openedBy far near v (k + g) i)
+  widened = bitOr m (fringeBit far near v (k + g) i)
 
   -- To a visited place: nothing changes.
   module _ (o : getD vs v false ≡ true) where
@@ -79,17 +79,17 @@ module _ (vs : List Bool) (near : List ℕ) (m v k g i : ℕ) (w : Coded vs near
   -- To another.
   module _ (o : getD vs v false ≡ false) where
     here : getD (shown vs near) v 0 ≡ getD near v 0
-    here = shown-open vs near v l o
+    here = shown-fringe vs near v l o
 
     less-shown : shown vs offered ≡ lessened (shown vs near) v (codeOf (k + g) i)
     less-shown = rw here (by-cases (ltb (codeOf (k + g) i) (getD near v 0))
         (λ t. rw t (shown-set vs near v (codeOf (k + g) i) l long o))
         (λ t. rw t))
 
-    same-opened : openedBy far (shown vs near) v (k + g) i ≡ openedBy far near v (k + g) i
-    same-opened = rw here
+    same-bit : fringeBit far (shown vs near) v (k + g) i ≡ fringeBit far near v (k + g) i
+    same-bit = rw here
 
-    own : (h : ℕ) → bit h (openedBy far near v (k + g) i) ≡ true → h ≡ v
+    own : (h : ℕ) → bit h (fringeBit far near v (k + g) i) ≡ true → h ≡ v
     own h = picked (λ (x : ℕ). bit h x ≡ true → h ≡ v) (ltb (codeOf (k + g) i) (getD near v 0)) _ _
         (λ t. picked (λ (x : ℕ). bit h x ≡ true → h ≡ v) (ltb far (k + g)) 0 (2 ^ v)
         (λ s b. clash (bit h 0) b (bit-zero h))
@@ -101,8 +101,8 @@ module _ (vs : List Bool) (near : List ℕ) (m v k g i : ℕ) (w : Coded vs near
       zero = λ u b e. picked (λ (ns : List ℕ). getD ns u 0 ≡ 0) (ltb (codeOf (k + g) i) (getD near v 0)) (set near v (codeOf (k + g) i)) near
           (λ t. getD-set-other near v u (codeOf (k + g) i) 0 (λ q. clash (getD vs u false) e (ap (λ (x : ℕ). getD vs x false) q ∙ o)) ∙ w .zero u b e)
           (λ t. w .zero u b e);
-      fresh = λ h b. or-cases (bit h m) (bit h (openedBy far near v (k + g) i)) (sym (bit-or h m (openedBy far near v (k + g) i)) ∙ b) (w .fresh h) (λ q. rw (own h q) o);
-      fringe = rw (less-shown, ← same-opened) (open-offered far (shown vs near) m v (k + g) i (w .fringe) l (shown-long vs near) (omega arith));
+      fresh = λ h b. or-cases (bit h m) (bit h (fringeBit far near v (k + g) i)) (sym (bit-or h m (fringeBit far near v (k + g) i)) ∙ b) (w .fresh h) (λ q. rw (own h q) o);
+      fringe = rw (less-shown, ← same-bit) (fringe-offered far (shown vs near) m v (k + g) i (w .fringe) l (shown-long vs near) (omega arith));
     }
 
   offered-coded : Coded vs offered widened
@@ -111,7 +111,7 @@ module _ (vs : List Bool) (near : List ℕ) (m v k g i : ℕ) (w : Coded vs near
   offered-along : shown vs offered ≡ relaxedAlong vs k v g i (shown vs near)
   offered-along = by-cases (getD vs v false)
       (λ o. ap (shown vs) (same-codes o) ∙ along-visited vs k v g i (shown vs near) o)
-      (λ o. less-shown o ∙ along-open vs k v g i (shown vs near) o)
+      (λ o. less-shown o ∙ along-unvisited vs k v g i (shown vs near) o)
 
 -- The code is stored in any case; and the bit.
 pub stored : (near : List ℕ) (v c : ℕ) → set near v (lessOf (getD near v 0) c) ≡ lessened near v c
@@ -119,7 +119,7 @@ stored near v c = by-cases (ltb c (getD near v 0)) (λ t. rw t) (λ t. rw t (set
 
 -- What the code computes is the place's bit, or 0.
 pub bit-of : (near : List ℕ) (v d i : ℕ) → v < places → d < 2 * farthest
-    → pick {A = ℕ} (ltb (codeOf d i) (getD near v 0)) 1 0 * 2 ^ v % 2 ^ 64 ≡ openedBy far near v d i
+    → pick {A = ℕ} (ltb (codeOf d i) (getD near v 0)) 1 0 * 2 ^ v % 2 ^ 64 ≡ fringeBit far near v d i
 bit-of near v d i l m = by-cases (ltb (codeOf d i) (getD near v 0)) (λ t. rw (t, within) (shifted v l)) (λ t. rw t (nothing (2 ^ v)))
   where
     within : ltb far d ≡ false
@@ -156,7 +156,7 @@ module _ (ls ms ps : List ℕ) (k e : ℕ) (near₀ : List ℕ) (fringe₀ : ℕ
     pub turn-more : arc < 2 * maxStreams
         → Turn ls ms ps k e near₀ fringe₀
         (lessened near (getD ls (toCell + arc) 0) (codeOf (k + reducedCost (getD ms arc 0) (getD ps e 0) (getD ps (getD ls (toCell + arc) 0) 0)) (arc / 2)))
-        (bitOr fringe (openedBy far near (getD ls (toCell + arc) 0) (k + reducedCost (getD ms arc 0) (getD ps e 0) (getD ps (getD ls (toCell + arc) 0) 0)) (arc / 2)))
+        (bitOr fringe (fringeBit far near (getD ls (toCell + arc) 0) (k + reducedCost (getD ms arc 0) (getD ps e 0) (getD ps (getD ls (toCell + arc) 0) 0)) (arc / 2)))
         (getD ls (nextCell + arc) 0)
     turn-more l = record {
       long = less-long near v (codeOf (k + g) i) ∙ t .long;

@@ -8,14 +8,14 @@ use lib.ListN.{length, getD, set, replicate, length-set, length-replicate, getD-
 use lib.Seq.{ext-getD, getD-set-same, getD-set-other}
 use Rattle.num_bytes.proofs.Tests.{clash}
 use Rattle.plant_def.specs.Limits.{places}
-use Rattle.flow_def.specs.Sides.{bit}
-use Rattle.flow_def.proofs.Binary.{bit-zero}
+use Rattle.num_bytes.specs.Sums.{bit}
+use Rattle.num_bytes.proofs.Binary.{bit-zero}
 use Rattle.solve_def.specs.declared.Spot.{Spot}
 use Rattle.solve_def.specs.declared.Tree.{Tree}
 use Rattle.solve_def.specs.Sizes.{netShift, searchRounds, far}
 use Rattle.solve_def.specs.Search.{rootAt, addedTo}
 use Rattle.solve_def.specs.Near.{walkedBy}
-use Rattle.solve_def.proofs.Opening.{open-none}
+use Rattle.solve_def.proofs.Fringes.{fringe-none}
 use Rattle.solve_arcs.specs.Cells.{countOf, startsOf, endsOf}
 use Rattle.solve_arcs.specs.ArcNeeds.{walkedFrom}
 use Rattle.solve_arcs.specs.Margins.{reducedCosts}
@@ -47,7 +47,7 @@ module _ (s : ℕ) (l : s < places) where
       | no q ↦ clash _ o (getD-set-other (replicate places false) s v true false q ∙ getD-replicate places v false false b)
     ];
     fresh = λ v b. clash (bit v 0) b (bit-zero v);
-    fringe = rw first-shown (open-none far);
+    fringe = rw first-shown (fringe-none far);
   }
 
 module _ (ls ms ps es : List ℕ) (s : ℕ) where

@@ -12,16 +12,16 @@ use lib.ListN.{length, getD, set, length-set}
 use lib.Seq.{ext-getD, getD-set-same, getD-set-other}
 use Rattle.num_bytes.proofs.Tests.{clash}
 use Rattle.plant_def.specs.Limits.{places}
-use Rattle.flow_def.specs.Sides.{bit}
-use Rattle.flow_def.proofs.Binary.{unlike, bit-xor, bit-same, bit-other}
+use Rattle.num_bytes.specs.Sums.{bit}
+use Rattle.num_bytes.proofs.Binary.{unlike, bit-xor, bit-same, bit-other}
 use Rattle.solve_def.specs.Sizes.{far, numbering}
 use Rattle.solve_def.specs.Near.{nearestWithin}
 use Rattle.solve_def.specs.Fringe.{Stepped}
 use Rattle.flow_def.proofs.Lowest.{lowest, with-others}
-use Rattle.solve_def.proofs.Opening.{Scan, scan-none, scan-nearer, scan-not, scan-near}
+use Rattle.solve_def.proofs.Fringes.{Scan, scan-none, scan-nearer, scan-not, scan-near}
 use Rattle.solve_def.proofs.Steps.{step-none, step-in, step-some}
 use Rattle.solve_path.specs.Codes.{shown, Coded, Looked}
-use Rattle.solve_path.proofs.Coding.{shown-at, shown-long, shown-open}
+use Rattle.solve_path.proofs.Coding.{shown-at, shown-long, shown-fringe}
 use Rattle.solve_path.specs.Paces.{Paced}
 
 -- The places of the fringe are looked at, by the codes that are kept; `left` are the others.
@@ -46,7 +46,7 @@ module _ (near : List ℕ) (m left at best : ℕ) (w : Scanned near m left at be
   scanned-in vs c = c .fringe .inside t own
 
   here : (vs : List Bool) → Coded vs near m → getD (shown vs near) t 0 ≡ getD near t 0
-  here vs c = shown-open vs near t (scanned-in vs c) (c .fresh t own)
+  here vs c = shown-fringe vs near t (scanned-in vs c) (c .fresh t own)
 
   rest-small : bitAnd left (left - 1) < 2 ^ 64
   rest-small = omega (arith, and-le-r left (left - 1), w .small)
@@ -87,7 +87,7 @@ module _ (vs : List Bool) (near : List ℕ) (m e : ℕ) (l : length vs ≡ place
   on = c .fringe .all e (taken-in .0) (taken-in .1) (omega (arith, taken-in .1))
 
   taken-code : getD (shown vs near) e 0 ≡ getD near e 0
-  taken-code = shown-open vs near e (taken-in .0) (c .fresh e on)
+  taken-code = shown-fringe vs near e (taken-in .0) (c .fresh e on)
 
   taken-shown : shown (set vs e true) (set near e 0) ≡ set (shown vs near) e far
   taken-shown =

@@ -1,4 +1,4 @@
--- The walk over arcs without slack: a step of the walk over all arcs, and an end where the nearest place lies behind slack.
+-- The walk over arcs without reduced cost: a step of the walk over all arcs, and an end where the nearest place lies behind reduced cost.
 use mathlib.Core.Path.{_≡_, refl, sym, _∙_, ap}
 use mathlib.Core.Bool.{Bool, true, false}
 use mathlib.Core.List.{List}
@@ -9,6 +9,7 @@ use lib.Dec.{ltb}
 use lib.ListN.{length, getD, set, replicate, length-set, length-replicate}
 use Rattle.num_bytes.specs.Choice.{pick}
 use Rattle.num_bytes.proofs.Tests.{by-cases}
+use Rattle.num_bytes.proofs.Filled.{getD-any}
 use Rattle.plant_def.specs.Limits.{places}
 use Rattle.solve_def.specs.declared.Spot.{Spot}
 use Rattle.solve_def.specs.declared.Tree.{Tree}
@@ -16,8 +17,8 @@ use Rattle.solve_def.specs.declared.Walked.{Walked}
 use Rattle.solve_def.specs.Sizes.{searchRounds, far, numbering}
 use Rattle.solve_def.specs.Search.{rootAt, addedTo}
 use Rattle.solve_def.specs.Near.{nearestTo, nearestWithin, goalAt, walkedBy}
-use Rattle.solve_def.specs.Fringe.{Open, Stepped}
-use Rattle.solve_def.proofs.Filling.{getD-any, relaxed-all-long}
+use Rattle.solve_def.specs.Fringe.{Fringe, Stepped}
+use Rattle.solve_def.proofs.Filling.{relaxed-all-long}
 use Rattle.solve_def.proofs.Nearing.{nearest-is}
 use Rattle.solve_def.proofs.Steps.{within-is, step-none}
 use Rattle.solve_def.proofs.Rounding.{goal-hit, goal-miss}
@@ -31,10 +32,10 @@ use Rattle.solve_path.proofs.Turns as W
 use Rattle.solve_path.proofs.Going.{first-shown, first-coded}
 
 -- A fringe within any limit is one within 0.
-open-less : (near : List ℕ) (m : ℕ) → Open far near m → Open 0 near m
-open-less near m o = record { inside = o .inside; all = λ v l c w. o .all v l c (omega arith) }
+fringe-less : (near : List ℕ) (m : ℕ) → Fringe far near m → Fringe 0 near m
+fringe-less near m o = record { inside = o .inside; all = λ v l c w. o .all v l c (omega arith) }
 
--- Where no place is left, none is without slack.
+-- Where no place is left, none is without reduced cost.
 none-less : (codes : List ℕ) → places ≡ nearestWithin codes far → places ≡ nearestWithin codes 0
 none-less codes = go (nearestTo codes places) (getD codes (nearestTo codes places) far / numbering)
   where
@@ -56,8 +57,8 @@ module _ (codes : List ℕ) (long : length codes ≡ places) (k : ℕ) (next : L
         rw (← is .0)
         (ap (λ (x : ℕ). x / numbering) (getD-any codes (r .place) far 0 (rw long (nearest-is codes (r .place) long (is .0) q .0))) ∙ sym (h .distance q))
 
-    slack-tight : 0 < r .distance → Stepped 0 codes k next (record { place = places; distance = k; stream = 0; fringe = 0 })
-    slack-tight l = step-none 0 codes k places 0 next (sym (rw (same, lt-ltb 0 (r .distance) l))) refl
+    reduced-tight : 0 < r .distance → Stepped 0 codes k next (record { place = places; distance = k; stream = 0; fringe = 0 })
+    reduced-tight l = step-none 0 codes k places 0 next (sym (rw (same, lt-ltb 0 (r .distance) l))) refl
 
     low-tight : r .distance ≤ 0 → Stepped 0 codes k next r
     low-tight l = record {
@@ -66,7 +67,7 @@ module _ (codes : List ℕ) (long : length codes ≡ places) (k : ℕ) (next : L
       distance = h .distance;
       stream = h .stream;
       taken = h .taken;
-      fringe = λ o. open-less next (r .fringe) (h .fringe o);
+      fringe = λ o. fringe-less next (r .fringe) (h .fringe o);
     }
 
 module _ (ls ms ps : List ℕ) (s v : ℕ) where
@@ -76,7 +77,7 @@ module _ (ls ms ps : List ℕ) (s v : ℕ) where
   abbrev All : Walked
   All = walkedFrom ls ms ps (goalAt v) 0 s
 
-  -- What holds of the walk without slack with `left` steps to go.
+  -- What holds of the walk without reduced cost with `left` steps to go.
   pub record Tight (left : ℕ) (at : Spot) (t : Tree) (near : List ℕ) : Type 0 where
     pub ks : List ℕ
     pub walks : Walks left at t ks (shown (t .visited) near)
@@ -111,9 +112,9 @@ module _ (ls ms ps : List ℕ) (s v : ℕ) where
       tight-stops q = told false t (g .ks) _ (W.stops _ _ _ _ _ _ _ s left at t (g .ks) _ (g .walks) p _ _ (none-tight _ coded-long _ _ r (h .stepped) q) refl)
 
       module _ (q : r .place ≡ places → ⊥) where
-        -- The nearest place lies behind slack.
-        pub tight-slack : 0 < r .distance → Tightly All (record { found = false; tree = t })
-        tight-slack l = told false t (g .ks) _ (W.stops _ _ _ _ _ _ _ s left at t (g .ks) _ (g .walks) p _ _ (slack-tight _ coded-long _ _ r (h .stepped) q l) refl)
+        -- The nearest place lies behind reduced cost.
+        pub tight-reduced : 0 < r .distance → Tightly All (record { found = false; tree = t })
+        tight-reduced l = told false t (g .ks) _ (W.stops _ _ _ _ _ _ _ s left at t (g .ks) _ (g .walks) p _ _ (reduced-tight _ coded-long _ _ r (h .stepped) q l) refl)
 
         -- The place that is taken is a place.
         pub tight-within : r .place < places

@@ -23,8 +23,8 @@ ghost use lib.ListN.{length};
 ghost use Rattle.plant_def.specs.Limits.{places, maxStreams};
 ghost use Rattle.solve_def.specs.Sizes.{farthest, far};
 ghost use Rattle.num_bytes.specs.Choice.{pick};
-ghost use Rattle.solve_def.specs.Near.{codeOf, lessened, reducedBy};
-ghost use Rattle.solve_def.specs.Fringe.{openedBy};
+ghost use Rattle.solve_def.specs.Near.{codeOf, lessened, fallenBy};
+ghost use Rattle.solve_def.specs.Fringe.{fringeBit};
 ghost use Rattle.solve_arcs.specs.ArcNeeds.{Searching};
 ghost use Rattle.solve_path.specs.Codes.{Standing, LookedAlong};
 ghost use Rattle.solve_path.specs.Paces.{Sought, SoughtTightly};
@@ -39,7 +39,7 @@ fn digit(b: bool) -> u64
 // any case.)
 fn offer(near: &mut [u64; PLACES], v: usize, d: u64, i: usize) -> u64
     requires { ⌜ (d < 2 * farthest) × (v < places) × (i < maxStreams) × (length (now near) ≡ places) ⌝ }
-    ensures { λ r. ⌜ (now (near .exit) ≡ lessened (now (near .entry)) v (codeOf d i)) × (r ≡ openedBy far (now (near .entry)) v d i) ⌝ }
+    ensures { λ r. ⌜ (now (near .exit) ≡ lessened (now (near .entry)) v (codeOf d i)) × (r ≡ fringeBit far (now (near .entry)) v d i) ⌝ }
 {
     let code = d * NUMBERING + i as u64;
     let old = near[v];
@@ -82,7 +82,7 @@ fn fall(visited: bool, reach: u64, dist: u64) -> u64
 // The potentials of all places. (A place's is written whether it falls or not: which places are visited cannot be foreseen.)
 fn lower(potentials: &mut [u64; PLACES], visited: &[bool; PLACES], dist: &[u64; PLACES], reach: u64)
     requires { ⌜ length (now potentials) ≡ places ⌝ }
-    ensures { λ _. ⌜ now (potentials .exit) ≡ reducedBy (now (visited .entry)) (now (dist .entry)) reach (now (potentials .entry)) ⌝ }
+    ensures { λ _. ⌜ now (potentials .exit) ≡ fallenBy (now (visited .entry)) (now (dist .entry)) reach (now (potentials .entry)) ⌝ }
 {
     let mut u: usize = 0;
     while u < PLACES {
@@ -92,7 +92,7 @@ fn lower(potentials: &mut [u64; PLACES], visited: &[bool; PLACES], dist: &[u64; 
     }
 }
 
-// Places are visited, each over the stream of least slack and with the potentials lowered by it, until one with a negative net is; where
+// Places are visited, each over the stream of least reduced cost and with the potentials lowered by it, until one with a negative net is; where
 // none can be reached, the potentials stay. (The walk goes along arcs by distances, and the potentials fall once, at its end.)
 pub fn search(
     arcs: &[u8; ARCS],

@@ -4,6 +4,7 @@ use mathlib.Core.Bool.{false}
 use mathlib.Core.List.{List}
 use Prim.Native.Nat.{ℕ, _-_, _/_}
 use lib.ListN.{getD, take}
+use Rattle.num_bytes.specs.Lent.{Lent}
 use Rattle.plant_def.specs.Limits.{places}
 use Rattle.solve_def.specs.Sizes.{netShift, halvings}
 use Rattle.solve_def.specs.declared.Quest.{Quest}
@@ -12,7 +13,7 @@ use Rattle.solve_def.specs.declared.Tried.{Tried}
 use Rattle.solve_def.specs.Model.{endedBy, fromPlace, phase, phases, finished, noHint}
 use Rattle.solve_def.specs.Made.{madeFrom, madeTo, madeBy, made}
 use Rattle.solve_arcs.specs.ArcNeeds.{Laying, Margined}
-use Rattle.solve_improve.specs.Improves.{Phasable, Improvable}
+use Rattle.solve_improve.specs.Improves.{Phasable, Improvable, stateBefore, stateAfter}
 use Rattle.solve_phases.specs.Finishes.{Finishable}
 
 -- How many improvements are tried from a place: as many as its excess has steps.
@@ -50,3 +51,24 @@ Finishing ls rs st r after margins =
     → (endedBy (r .full) after (r .marked) ≡ finished (take (w .laying .n) (w .laying .streams)) st)
     × (r .made ≡ made (take (w .laying .n) (w .laying .streams)) st)
     × (r .full ≡ false → Margined (w .laying .n) rs (after .flows) 1 0 margins)
+
+-- What improvements from a place come to, of what is lent to the call,
+abbrev pub TryCall : (arcs rows margins flows potentials nets : Lent (List ℕ)) → Quest → Tried → Type 0
+TryCall arcs rows margins flows potentials nets q r =
+    Trying (arcs .entry .now) (rows .entry .now) (margins .entry .now) q (stateBefore flows potentials nets) r
+    (stateAfter flows potentials nets) (margins .exit .now)
+
+-- what a phase comes to,
+abbrev pub PhaseCall : (arcs rows margins flows potentials nets : Lent (List ℕ)) → ℕ → Tried → Type 0
+PhaseCall arcs rows margins flows potentials nets d r =
+    Phasing (arcs .entry .now) (rows .entry .now) d (stateBefore flows potentials nets) r (stateAfter flows potentials nets) (margins .exit .now)
+
+-- what the phases from no hint come to,
+abbrev pub PhasesCall : (arcs rows margins flows potentials nets : Lent (List ℕ)) → Tried → Type 0
+PhasesCall arcs rows margins flows potentials nets r =
+    AllPhases (arcs .entry .now) (rows .entry .now) r (stateAfter flows potentials nets) (margins .exit .now)
+
+-- and what finishing from a state that is settled at a hint comes to.
+abbrev pub FinishCall : (arcs rows margins flows potentials nets : Lent (List ℕ)) → Tried → Type 0
+FinishCall arcs rows margins flows potentials nets r =
+    Finishing (arcs .entry .now) (rows .entry .now) (stateBefore flows potentials nets) r (stateAfter flows potentials nets) (margins .exit .now)

@@ -8,8 +8,8 @@ use solve_arcs::ROWS;
 use solve_def::Tried;
 use solve_def::sizes::MOST_STEP;
 use solve_def::sizes::MOST_TRIED;
+use solve_settle::excess_sum;
 use solve_settle::forget;
-use solve_settle::over_sum;
 use solve_settle::resettle;
 ghost use mathlib.Core.Path.{_≡_};
 ghost use lib.ListN.{length};
@@ -17,7 +17,7 @@ ghost use Rattle.solve_def.specs.Model.{stateOf};
 ghost use Rattle.solve_arcs.specs.Cells.{marginCells};
 ghost use Rattle.solve_arcs.specs.ArcNeeds.{Laying};
 ghost use Rattle.solve_phases.specs.Finishes.{Finishable};
-ghost use Rattle.solve_phases.specs.Phases.{AllPhases, Finishing};
+ghost use Rattle.solve_phases.specs.Phases.{PhasesCall, FinishCall};
 
 // From no hint: at each step from MOST_STEP down to 1 amounts are settled anew, and a phase is gone through.
 fn phases(
@@ -29,8 +29,7 @@ fn phases(
     nets: &mut [u64; PLACES],
 ) -> Tried
     requires { ⌜ Laying (now arcs) (now rows) × (length (now margins) ≡ marginCells) ⌝ }
-    ensures { λ r. ⌜ AllPhases (now (arcs .entry)) (now (rows .entry)) r
-        (stateOf (now (flows .exit)) (now (potentials .exit)) (now (nets .exit))) (now (margins .exit)) ⌝ }
+    ensures { λ r. ⌜ PhasesCall arcs rows margins flows potentials nets r ⌝ }
 {
     forget(flows, potentials);
     let mut made: u64 = 0;
@@ -71,11 +70,9 @@ pub fn finish(
 ) -> Tried
     requires { ⌜ Finishable (now arcs) (now rows) (stateOf (now flows) (now potentials) (now nets))
         × (length (now margins) ≡ marginCells) ⌝ }
-    ensures { λ r. ⌜ Finishing (now (arcs .entry)) (now (rows .entry))
-        (stateOf (now (flows .entry)) (now (potentials .entry)) (now (nets .entry))) r
-        (stateOf (now (flows .exit)) (now (potentials .exit)) (now (nets .exit))) (now (margins .exit)) ⌝ }
+    ensures { λ r. ⌜ FinishCall arcs rows margins flows potentials nets r ⌝ }
 {
-    if over_sum(nets) <= MOST_TRIED {
+    if excess_sum(nets) <= MOST_TRIED {
         return phase(arcs, rows, margins, flows, potentials, nets, 1);
     }
     phases(arcs, rows, margins, flows, potentials, nets)

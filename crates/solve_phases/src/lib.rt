@@ -19,7 +19,7 @@ ghost use Rattle.plant_def.specs.Limits.{places};
 ghost use Rattle.solve_def.specs.Model.{stateOf};
 ghost use Rattle.solve_arcs.specs.Cells.{marginCells};
 ghost use Rattle.solve_improve.specs.Improves.{Phasable, Improvable};
-ghost use Rattle.solve_phases.specs.Phases.{Trying, Phasing};
+ghost use Rattle.solve_phases.specs.Phases.{TryCall, PhaseCall};
 
 pub mod finishing;
 pub mod marks;
@@ -37,9 +37,7 @@ fn from_place(
 ) -> Tried
     requires { ⌜ Improvable (now arcs) (now rows) (now margins) (q .delta) (stateOf (now flows) (now potentials) (now nets))
         × (q .start < places) ⌝ }
-    ensures { λ r. ⌜ Trying (now (arcs .entry)) (now (rows .entry)) (now (margins .entry)) q
-        (stateOf (now (flows .entry)) (now (potentials .entry)) (now (nets .entry))) r
-        (stateOf (now (flows .exit)) (now (potentials .exit)) (now (nets .exit))) (now (margins .exit)) ⌝ }
+    ensures { λ r. ⌜ TryCall arcs rows margins flows potentials nets q r ⌝ }
 {
     let s = q.start;
     let delta = q.delta;
@@ -81,9 +79,7 @@ pub fn phase(
 ) -> Tried
     requires { ⌜ Phasable (now arcs) (now rows) delta (stateOf (now flows) (now potentials) (now nets))
         × (length (now margins) ≡ marginCells) ⌝ }
-    ensures { λ r. ⌜ Phasing (now (arcs .entry)) (now (rows .entry)) delta
-        (stateOf (now (flows .entry)) (now (potentials .entry)) (now (nets .entry))) r
-        (stateOf (now (flows .exit)) (now (potentials .exit)) (now (nets .exit))) (now (margins .exit)) ⌝ }
+    ensures { λ r. ⌜ PhaseCall arcs rows margins flows potentials nets delta r ⌝ }
 {
     let count = count_of(arcs);
     margins_of(rows, margins, flows, count, delta);

@@ -13,6 +13,7 @@ use Rattle.solve_arcs.specs.ArcNeeds.{Laying}
 abbrev pub hintOf : List ℕ → List ℕ → Hint
 hintOf xs ps = record { flows = xs; potentials = ps }
 
+-- What settling needs.
 pub record Hinting (ls rs : List ℕ) (h : Hint) : Type 0 where
   pub laying : Laying ls rs
   pub ready : Ready (take (laying .n) (laying .streams)) h

@@ -16,7 +16,7 @@ ghost use Prim.Native.Nat.{ℕ, _+_, _*_, _≤_, _<_};
 ghost use lib.ListN.{getD, length, take};
 ghost use Rattle.plant_def.specs.Limits.{maxWeight, places, maxStreams};
 ghost use Rattle.solve_def.specs.Sizes.{mostPull, potentialShift, mostFlow, netRoom};
-ghost use Rattle.solve_def.specs.Model.{clamped, nearestAmount, settledTo, left, come, netsTo, settled, overSum, stateOf, noHint};
+ghost use Rattle.solve_def.specs.Model.{clamped, nearestAmount, settledTo, left, come, netsTo, settled, excessSum, stateOf, noHint};
 ghost use Rattle.solve_arcs.specs.ArcNeeds.{Row, Laying, OfStreams};
 ghost use mathlib.Core.List.{List};
 ghost use Rattle.solve_def.specs.SearchNeeds.{Potentials};
@@ -158,9 +158,9 @@ pub fn forget(flows: &mut [u64; MAX_STREAMS], potentials: &mut [u64; PLACES])
 }
 
 // The summed positive net.
-pub fn over_sum(nets: &[u64; PLACES]) -> u64
+pub fn excess_sum(nets: &[u64; PLACES]) -> u64
     requires { ⌜ Around (now nets) netRoom ⌝ }
-    ensures { λ r. ⌜ r ≡ overSum (now (nets .entry)) ⌝ }
+    ensures { λ r. ⌜ r ≡ excessSum (now (nets .entry)) ⌝ }
 {
     let mut u: usize = 0;
     let mut sum: u64 = 0;

@@ -23,7 +23,7 @@ use Rattle.solve_def.specs.Model.{settledTo, netsTo, stateOf}
 use Rattle.solve_def.specs.SolverNeeds.{Hinted, Ready, AtHint}
 use Rattle.solve_arcs.specs.ArcNeeds.{Laid, Laying}
 use Rattle.solve_arcs.proofs.Rowing.{below, from-is, to-is}
-use Rattle.solve_forest.specs.Routes.{Routes, Kept}
+use Rattle.solve_forest.specs.Routes.{Routes, Unchanged}
 use Rattle.flow_def.proofs.Nets.{inside-of}
 use Rattle.flow_def.proofs.Labels.{label-long, label-low, label-level}
 use Rattle.solve_def.proofs.Nearest.{settled-long, settled-at, settled-again, settled-free}
@@ -32,6 +32,7 @@ use Rattle.solve_def.proofs.Theorem.{network-of, solvable-in}
 use Rattle.solve_forest.proofs.Routes.{routes-none}
 
 module _ (p : Arrays.Plant) (a : Accepted p) where
+  -- The labels of the groups are places, one for each place.
   pub labels-of : Labels (labelsOf unmeteredOnly (plantOf p))
   labels-of = record {
     long = label-long unmeteredOnly (plantOf p) (a .within .few-units) (inside-of p a);
@@ -54,6 +55,7 @@ module _ (p : Arrays.Plant) (a : Accepted p) where
       low u h = omega (arith, label-low unmeteredOnly (plantOf p) (a .within .few-units) (inside-of p a) u (omega (arith, a .within .few-units)))
 
   module _ {ps xs : List ℕ} (v : Level (labelsOf unmeteredOnly (plantOf p)) potentialShift potentialSpread ps) (r : Routes (plantOf p .streams) xs) where
+    -- Potentials by label, with routed amounts, are a hint.
     pub level-hinted : Hinted (plantOf p .streams) (record { flows = xs; potentials = ps })
     level-hinted = record {
       agree = λ k l e. v .level _ _ (omega (arith, within-of p a .each k l .from-in, a .within .few-units)) (omega (arith, within-of p a .each k l .to-in, a .within .few-units))
@@ -62,7 +64,7 @@ module _ (p : Arrays.Plant) (a : Accepted p) where
       capped = v .bounded .high;
       per-place = v .bounded .long;
       long = r .long;
-      unmetered = r .close;
+      unmetered = r .sized;
       within = omega arith;
     }
 
@@ -70,6 +72,7 @@ module _ (p : Arrays.Plant) (a : Accepted p) where
     abbrev none : Hint
     none = record { flows = replicate maxStreams flowShift; potentials = ps }
 
+    -- At potentials by label, with all amounts 0, amounts can be settled.
     pub level-ready : Ready (plantOf p .streams) none
     level-ready = hinted-ready (p .streams) (p .count) (network-of p a) none (level-hinted v routes-none)
 
@@ -77,11 +80,12 @@ module _ (p : Arrays.Plant) (a : Accepted p) where
     abbrev xs : List ℕ
     xs = settledTo (plantOf p .streams) ps (replicate maxStreams flowShift) (p .count)
 
+    -- So settled, the amounts can be routed: those of unmetered streams, still 0, are within the hint's room.
     pub level-routes : Routes (plantOf p .streams) xs
     level-routes = record {
       long = settled-long (plantOf p .streams) ps (replicate maxStreams flowShift) (p .count) ∙ routes-none {ss = plantOf p .streams} .long;
       most = λ k l. ready-amounts (p .streams) (p .count) (network-of p a) none level-ready k l;
-      close = λ k l m. rw (settled-free-at k m) (routes-none {ss = plantOf p .streams} .close k l m);
+      sized = λ k l m. rw (settled-free-at k m) (routes-none {ss = plantOf p .streams} .sized k l m);
     }
       where
         settled-free-at : (k : ℕ) → streamAt (plantOf p .streams) k .metered ≡ false → getD xs k 0 ≡ getD (replicate maxStreams flowShift) k 0
@@ -90,7 +94,8 @@ module _ (p : Arrays.Plant) (a : Accepted p) where
             (settled-free (plantOf p .streams) (solvable-in (plantOf p) (within-of p a)) none hintRoom (level-hinted v routes-none) k m)
 
     -- What is routed leaves the metered amounts settled.
-    module _ {zs ys : List ℕ} (e : zs ≡ xs) (r : Routes (plantOf p .streams) ys) (kept : Kept (p .streams) (p .count) zs ys) where
+    module _ {zs ys : List ℕ} (e : zs ≡ xs) (r : Routes (plantOf p .streams) ys) (kept : Unchanged (p .streams) (p .count) zs ys) where
+      -- Settled once more at these potentials the amounts stay,
       pub routed-again : settledTo (plantOf p .streams) ps ys (p .count) ≡ ys
       routed-again = settled-again (plantOf p .streams) ps ys (p .count) (λ k l m.
           kept .each k l (subst (λ (s : Stream). s .metered ≡ true) (listed-at p a k l) m)
@@ -98,6 +103,7 @@ module _ (p : Arrays.Plant) (a : Accepted p) where
           ∙ settled-at (plantOf p .streams) ps (replicate maxStreams flowShift) (p .count) k (omega (arith, routes-none {ss = plantOf p .streams} .long, a .within .few-streams)) l
           ∙ rw m)
 
+      -- so they are settled at a hint.
       pub routed-start : AtHint (plantOf p .streams) (record { flows = ys; potentials = ps; nets = netsTo (plantOf p .streams) ys (p .count) })
       routed-start = record {
         hint = record { flows = ys; potentials = ps };

@@ -9,7 +9,7 @@ use lib.Dec.{eqb, ltb}
 use lib.ListN.{length, getD, take}
 use lib.Seq.{getD-take}
 use Rattle.num_bytes.specs.Choice.{pick}
-use Rattle.num_bytes.proofs.Tests.{clash}
+use Rattle.num_bytes.proofs.Tests.{clash, and-none}
 use Rattle.plant_def.specs.declared.Stream.{Stream}
 use Rattle.plant_def.specs.Limits.{maxUnits}
 use Rattle.plant_def.specs.Plants.{noStream}
@@ -22,13 +22,13 @@ use Rattle.solve_def.proofs.Streams.{stream-is, in-use, solvable-of}
 use Rattle.solve_def.proofs.Weights.{weight-least}
 use Rattle.solve_def.proofs.TightPath.{Path, way, shut}
 use Rattle.solve_def.proofs.Detours.{round-path}
-use Rattle.solve_def.proofs.TieTurns.{lack, searched, tied-free, tied-slack}
+use Rattle.solve_def.proofs.TieTurns.{lack, searched, tied-free, tied-reduced}
 use Rattle.solve_arcs.specs.Cells.{toCell, arcOf, countOf}
 use Rattle.solve_arcs.specs.Margins as Mg
 use Rattle.solve_arcs.specs.Margins.{spared, reducedCost, reducedCosts}
-use Rattle.solve_arcs.proofs.Along.{starts-at, ends-at, slack-is}
+use Rattle.solve_arcs.proofs.Along.{starts-at, ends-at, reduced-is}
 use Rattle.solve_arcs.specs.ArcNeeds.{Rowed, Laid, Margined, Free, Laying, Searching}
-use Rattle.solve_arcs.proofs.Finding.{slacked}
+use Rattle.solve_arcs.proofs.Finding.{reduced}
 use Rattle.solve_ties.specs.Evens.{Tieable}
 
 -- The arc of a stream backwards.
@@ -36,11 +36,11 @@ pub small-back : (ls ms : List ℕ) (i : ℕ) → ((k : ℕ) (f : Bool) → k < 
 small-back ls ms i h l = let e : 2 * i + 0 ≡ 2 * i = omega arith in rw e at (h i false l)
 
 -- The reduced cost of the arc backwards.
-pub slack-back : (ls ms ps : List ℕ) (i : ℕ) → i < countOf ls
+pub reduced-back : (ls ms ps : List ℕ) (i : ℕ) → i < countOf ls
     → getD (reducedCosts ls ms ps false) i 0 ≡ reducedCost (getD ms (2 * i) 0) (getD ps (getD ls (toCell + (2 * i + 1)) 0) 0) (getD ps (getD ls (toCell + 2 * i) 0) 0)
-slack-back ls ms ps i l =
+reduced-back ls ms ps i l =
     let e : 2 * i + 0 ≡ 2 * i = omega arith in
-    rw (← starts-at ls i l, ← ends-at ls i l) (rw e at (slack-is ls ms ps false i l))
+    rw (← starts-at ls i l, ← ends-at ls i l) (rw e at (reduced-is ls ms ps false i l))
 
 -- The search round a stream can go over the arcs.
 abbrev pub tie-searching : (ls rs ms ps : List ℕ) (i skip : ℕ) (xs : List ℕ) (w : Tieable ls rs ps i xs) → i ≤ w .n → Margined (countOf ls) rs xs 1 skip ms → Searching ls ms ps 1 skip
@@ -53,10 +53,10 @@ tie-searching ls rs ms ps i skip xs w l m = record {
     searchable = record {
       network = w .network;
       step = omega arith;
-      amounts = λ k b. omega (arith, w .even .close k (omega (arith, w .network .within .few-streams)) .0, w .network .within .few-streams, l);
+      amounts = λ k b. omega (arith, w .even .sized k (omega (arith, w .network .within .few-streams)) .0, w .network .within .few-streams, l);
       potentials = w .potentials;
     };
-    held = w .even .held;
+    met = w .even .met;
     moderate = λ k b e. let o = w .even .moderate k b e in (omega (arith, o .0, w .network .within .few-streams, l), omega (arith, o .1, w .network .within .few-streams, l));
     floored = w .even .floor;
   };
@@ -111,18 +111,14 @@ module _ (streams : List Stream) (n : ℕ) (w : Network streams n) (rs : List �
       abbrev test : Bool
       test = ltb 0 (getD rs (4 * i) 0) && eqb (getD (reducedCosts ls ms ps false) i 0) 0
 
-      none : (b : Bool) → b && false ≡ false
-      none true = refl
-      none false = refl
-
       free : streamAt (take n streams) i .metered && ltb i i ≡ false
-      free = rw (le-ltb i i (omega arith)) (none (streamAt (take n streams) i .metered))
+      free = rw (le-ltb i i (omega arith)) (and-none (streamAt (take n streams) i .metered))
 
-      gap-is : getD (reducedCosts ls ms ps false) i 0 ≡ lack streams n w ps i l xs
-      gap-is = slacked streams n xs ps 1 i ls rs ms laid mg wk .back i l ∙ rw (free, stream-is streams n i l)
+      margin-reduced : getD (reducedCosts ls ms ps false) i 0 ≡ lack streams n w ps i l xs
+      margin-reduced = reduced streams n xs ps 1 i ls rs ms laid mg wk .back i l ∙ rw (free, stream-is streams n i l)
 
       test-is : test ≡ (getD streams i noStream .metered && eqb (lack streams n w ps i l xs) 0)
-      test-is = rw (gap-is, weighs i l)
+      test-is = rw (margin-reduced, weighs i l)
 
       -- Where the test holds, the stream can fall at no cost.
       pub falls : test ≡ true → Falls streams ps i xs
@@ -137,7 +133,7 @@ module _ (streams : List Stream) (n : ℕ) (w : Network streams n) (rs : List �
       stays e = go (getD streams i noStream .metered) refl (sym test-is ∙ e)
         where
           go : (b : Bool) → getD streams i noStream .metered ≡ b → (b && eqb (lack streams n w ps i l xs) 0) ≡ false → tiedAt (take n streams) ps i xs ≡ xs
-          go true m h = tied-slack streams n w ps i l xs m (go-lack (lack streams n w ps i l xs) (eqb-false (lack streams n w ps i l xs) 0 h))
+          go true m h = tied-reduced streams n w ps i l xs m (go-lack (lack streams n w ps i l xs) (eqb-false (lack streams n w ps i l xs) 0 h))
             where
               go-lack : (a : ℕ) → (a ≡ 0 → ⊥) → 0 < a
               go-lack zero q = absurd (q refl)

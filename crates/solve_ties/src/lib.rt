@@ -18,7 +18,7 @@ ghost use lib.ListN.{length};
 ghost use Rattle.plant_def.specs.Limits.{maxStreams};
 ghost use Rattle.solve_arcs.specs.Cells.{countOf, marginCells};
 ghost use Rattle.solve_arcs.specs.ArcNeeds.{Ways, Margined};
-ghost use Rattle.solve_ties.specs.Evens.{Tieable, Tying, canFall, Spared, TiedAt, TiedAll};
+ghost use Rattle.solve_ties.specs.Evens.{Tieable, Tying, canFall, Spared, TieCall, TiedAll};
 
 // Whether stream i is metered and its amount can fall at no cost.
 fn can_fall(
@@ -63,10 +63,7 @@ fn tie_at(
         Tying (now arcs) (now rows) (now potentials) i (now flows)
         × Margined (countOf (now arcs)) (now rows) (now flows) 1 (i + 1) (now margins)
         ⌝ }
-    ensures { λ _. ⌜
-        TiedAt (now (arcs .entry)) (now (rows .entry)) (now (potentials .entry)) i (now (flows .entry)) (now (flows .exit))
-        × Margined (countOf (now (arcs .entry))) (now (rows .entry)) (now (flows .exit)) 1 (i + 1) (now (margins .exit))
-        ⌝ }
+    ensures { λ _. ⌜ TieCall arcs rows margins flows potentials i ⌝ }
 {
     let u = end_at(arcs, 2 * i);
     let v = end_at(arcs, 2 * i + 1);

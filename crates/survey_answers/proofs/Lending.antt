@@ -1,7 +1,7 @@
 -- Handing a survey over, by what was found.
 use mathlib.Core.Path.{_≡_, refl, sym, ap, _∙_}
 use mathlib.Core.List.{List}
-use Prim.Native.Nat.{ℕ, suc, _+_, _≤_, _<_}
+use Prim.Native.Nat.{ℕ, _+_, _≤_, _<_}
 use native.Mathlib.Numerals.{add-one}
 use native.Mathlib.Omega.{arith}
 use borrow.Author.Tests.{eq-eqb, ne-eqb}
@@ -9,7 +9,7 @@ use lib.ListN.{length, take}
 use Rattle.num_bytes.specs.Bytes.{over}
 use Rattle.survey_def.specs.declared.Layouts.{Layouts}
 use Rattle.survey_def.specs.Says.{surveySize, SurveySays}
-use Rattle.survey_answers.specs.Lent.{HandedOver, LendSays}
+use Rattle.survey_answers.specs.Lent.{LendSays}
 
 module _ (file cs : List ℕ) where
   -- A slice that is too short.

@@ -1,14 +1,11 @@
 -- The promise of the call that lists a survey, by what was found; no choice is left; the texts of two plants.
-use mathlib.Core.Path.{_≡_, refl, sym, ap, _∙_, subst}
+use mathlib.Core.Path.{_≡_, refl, ap, subst}
 use mathlib.Core.List.{List}
 use Prim.Native.Nat.{ℕ, suc, _≤_, _<_}
 use native.Mathlib.Omega.{arith}
-use borrow.Author.Tests.{eq-eqb, ne-eqb, ltb-true, ltb-false}
-use lib.Dec.{ltb}
+use borrow.Author.Tests.{eq-eqb, ne-eqb}
 use lib.ListN.{length, take}
-use Rattle.num_bytes.specs.Bytes.{over}
 use Rattle.num_bytes.specs.Inner.{Put}
-use Rattle.num_bytes.proofs.Tests.{by-cases}
 use Rattle.num_text.specs.Numerals.{decimal}
 use Rattle.listing_lines.specs.Listing.{refusalText}
 use Rattle.survey_def.specs.declared.Layouts.{Layouts}
@@ -17,6 +14,7 @@ use Rattle.survey_def.proofs.Promise.{one-survey}
 use Rattle.survey_def.proofs.Samples.{samples}
 use Rattle.survey_answers.specs.Text.{linesFrom, surveyText}
 use Rattle.listing_lines.specs.Room.{OneText}
+use Rattle.listing_lines.proofs.Told.{one-told}
 use Rattle.survey_answers.specs.Says.{leastText, TextSays, Texts}
 
 module _ (file o : List ℕ) where
@@ -36,22 +34,9 @@ module _ (file o : List ℕ) where
       told = λ x. (l, s, rw (eq-eqb (l .number) 0 z) (subst (λ (n : ℕ). Put (linesFrom 0 (take n (l .counts))) o o′ r) e p));
     }
 
--- Text and length follow from the file and the slice.
-put-one : {x y o o₁ o₂ : List ℕ} {r₁ r₂ : ℕ} → x ≡ y → Put x o o₁ r₁ → Put y o o₂ r₂ → (r₁ ≡ r₂) × (o₁ ≡ o₂)
-put-one {o = o} e p q = (p .size ∙ ap length e ∙ sym (q .size), p .bytes ∙ ap (λ (l : List ℕ). over l o) e ∙ sym (q .bytes))
-
 -- No choice is left.
 pub one-text : OneText TextSays
-one-text file o o₁ o₂ r₁ r₂ a b =
-    by-cases (ltb (length o) leastText)
-    (λ t. let h = ltb-true (length o) leastText t in short (a .too-short h) (b .too-short h))
-    (λ t. let h = ltb-false (length o) leastText t in
-    let x = a .told h in
-    let y = b .told h in
-    put-one (ap surveyText (one-survey file (x .0) (y .0) (x .1) (y .1))) (x .2) (y .2))
-  where
-    short : (r₁ ≡ 0) × (o₁ ≡ o) → (r₂ ≡ 0) × (o₂ ≡ o) → (r₁ ≡ r₂) × (o₁ ≡ o₂)
-    short a b = (a .0 ∙ sym (b .0), a .1 ∙ sym (b .1))
+one-text file o o₁ o₂ r₁ r₂ a b = one-told surveyText (SurveySays file) (one-survey file) leastText o o₁ o₂ r₁ r₂ (a .too-short) (b .too-short) (a .told) (b .told)
 
 -- The texts of the examples.
 pub texts : Texts

@@ -11,7 +11,6 @@ ghost use lib.ListN.{length, take};
 ghost use Rattle.num_bytes.specs.Bytes.{over};
 ghost use Rattle.survey_def.specs.Says.{surveySize};
 ghost use Rattle.survey_answers.specs.Lent.{LendSays};
-ghost use mathlib.Core.List.{_++_};
 ghost use Rattle.num_bytes.specs.Inner.{Put};
 ghost use Rattle.num_text.specs.Adding.{Added};
 ghost use Rattle.listing_lines.specs.Room.{Counts};

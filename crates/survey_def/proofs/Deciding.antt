@@ -2,12 +2,11 @@
 use mathlib.Core.Path.{_≡_, refl, sym}
 use mathlib.Core.Logic.{_↔_}
 use mathlib.Core.Bool.{Bool, true, false, not, _||_}
-use mathlib.Core.List.{List, map}
-use Prim.Native.Nat.{ℕ, zero, suc, _<_}
-use native.Mathlib.Omega.{arith}
+use mathlib.Core.List.{List}
+use Prim.Native.Nat.{ℕ, _<_}
 use borrow.Author.Tests.{not-true}
 use lib.ListN.{length, length-map}
-use Rattle.num_bytes.proofs.Tests.{clash, and-both}
+use Rattle.num_bytes.proofs.Tests.{clash}
 use Rattle.plant_def.specs.declared.Stream.{Stream}
 use Rattle.plant_def.specs.Limits.{maxUnits}
 use Rattle.plant_def.specs.Plants.{Plant, noStream, unmetered}
@@ -16,8 +15,8 @@ use Rattle.flow_def.specs.Flows.{streamAt}
 use Rattle.flow_def.specs.Chains.{Counting}
 use Rattle.flow_def.specs.Labels.{labelsAfter, oneLabel}
 use Rattle.flow_def.specs.Certificate.{every}
-use Rattle.flow_def.proofs.Certified.{every-at}
-use Rattle.flow_def.proofs.Lists.{map-at}
+use Rattle.flow_def.proofs.Certified.{every-at, every-all}
+use Rattle.num_bytes.proofs.Lists.{map-at}
 use Rattle.flow_def.proofs.Nets.{inside}
 use Rattle.flow_def.specs.Withheld.{NoneWithheld}
 use Rattle.flow_def.specs.Metering.{chosen}
@@ -38,16 +37,11 @@ joinsAt set ss k = chosen set k || not (oneLabel (labelsAfter (leftOut set) ss k
 abbrev pub eachJoins : List Bool → List Stream → Bool
 eachJoins set ss = every (length ss) (joinsAt set ss)
 
--- A test that each number below n passes.
-every-all : (n : ℕ) (test : ℕ → Bool) → ((k : ℕ) → k < n → test k ≡ true) → every n test ≡ true
-every-all zero test h = refl
-every-all (suc n) test h = and-both (test n) (every n test) (h n (omega arith)) (every-all n test (λ k l. h k (omega arith)))
-
 plain-within : (n : ℕ) (s : Stream) → WithinStream n s → WithinStream n (unmetered (s .from) (s .to))
 plain-within n s w = record {
   from-in = w .from-in;
   to-in = w .to-in;
-  apart = w .apart;
+  distinct = w .distinct;
   weighed = λ e. clash false e refl;
   light = λ e. clash false e refl;
   in-range = λ e. clash false e refl;

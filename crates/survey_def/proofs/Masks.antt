@@ -1,8 +1,8 @@
 -- The sets of n streams are the bits of the numbers below 2 ^ n.
 use mathlib.Core.Path.{_≡_, refl, sym, _∙_, ap, ap₂}
 use mathlib.Core.Bool.{Bool, true, false, not, _&&_}
-use mathlib.Core.List.{List, [], _∷_}
-use Prim.Native.Nat.{ℕ, zero, suc, _+_, _*_, _/_, _%_, _^_, _≤_, _<_}
+use mathlib.Core.List.{List, _∷_}
+use Prim.Native.Nat.{ℕ, zero, suc, _+_, _*_, _/_, _%_, _^_, _<_}
 use native.Mathlib.Nat.{mul-add-mod-self-right, mul-add-div-right, div-div-eq-div-mul, zero-lt-suc, add-zero, div-one, pow-suc, pow-succ', mod-eq-of-lt, div-eq-of-lt}
 use native.Mathlib.Omega.{arith}
 use lib.Dec.{eqb}
@@ -10,16 +10,15 @@ use lib.ListN.{length}
 use Rattle.num_bytes.specs.Choice.{pick}
 use Rattle.num_bytes.specs.Inner.{values}
 use Rattle.plant_def.specs.declared.Stream.{Stream}
-use Rattle.flow_def.specs.Sides.{bit}
-use Rattle.flow_def.specs.Certificate.{every}
-use Rattle.flow_def.proofs.Lists.{values-at, values-same}
+use Rattle.num_bytes.specs.Sums.{bit, countTo}
+use Rattle.num_bytes.proofs.Lists.{values-at, values-same}
 use Rattle.flow_def.proofs.Labels.{labels-same}
 use Rattle.flow_def.specs.Metering.{chosen}
-use Rattle.flow_def.specs.Loops.{countTo}
-use Rattle.flow_def.proofs.Counts.{count-same, count-front}
+use Rattle.num_bytes.proofs.Counts.{count-same, count-front}
+use Rattle.flow_def.proofs.Certified.{every-same}
 use Rattle.survey_def.specs.Layouts.{size, setsOf}
-use Rattle.survey_def.specs.Inner.{bitOff, meets, eachMeets, ones, countBelow}
-use Rattle.survey_def.proofs.Deciding.{leftOut, joinsAt, eachJoins}
+use Rattle.survey_def.specs.Inner.{bitOff, eachMeets, countBelow}
+use Rattle.survey_def.proofs.Deciding.{leftOut, eachJoins}
 
 -- The set whose yes and no are the bits of a number.
 abbrev setAt : ℕ → ℕ → List Bool
@@ -62,10 +61,6 @@ sets-by-number (suc n) test =
 size-values : (n : ℕ) (f : ℕ → Bool) → size (values n f) ≡ countTo n f
 size-values zero f = refl
 size-values (suc n) f = omega (arith, size-values n (λ k. f (suc k)), count-front n f)
-
-every-same : (n : ℕ) (f g : ℕ → Bool) → ((k : ℕ) → k < n → f k ≡ g k) → every n f ≡ every n g
-every-same zero f g e = refl
-every-same (suc n) f g e = rw (e n (omega arith), every-same n f g (λ k l. e k (omega arith)))
 
 bits-join : (ss : List Stream) (m : ℕ) → eachJoins (setAt (length ss) m) ss ≡ eachMeets m ss
 bits-join ss m =

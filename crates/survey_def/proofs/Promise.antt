@@ -2,7 +2,7 @@
 use mathlib.Core.Path.{_≡_, refl, sym, _∙_, ap, subst}
 use mathlib.Core.Bool.{Bool, true, false, _&&_}
 use mathlib.Core.List.{List, [], _∷_}
-use Prim.Native.Nat.{ℕ, zero, suc, _+_, _^_, _≤_, _<_}
+use Prim.Native.Nat.{ℕ, zero, suc, _^_, _≤_, _<_}
 use native.Mathlib.Omega.{arith}
 use borrow.Author.Tests.{ne-eqb, ltb-true, ltb-false}
 use lib.Dec.{eqb, ltb}
@@ -18,11 +18,10 @@ use Rattle.plant_def.specs.Within.{Within, Accepted}
 use Rattle.plant_def.specs.Says.{plantOf, readOf}
 use Rattle.plant_def.proofs.Arrayed.{all-listed, listed-at, within-of, stream-within, read-held}
 use Rattle.plant_def.proofs.Found.{read-bad, found, plant-count}
-use Rattle.flow_def.specs.Sides.{bit}
-use Rattle.flow_def.specs.Loops.{countTo}
-use Rattle.flow_def.proofs.Counts.{count-few, count-same}
+use Rattle.num_bytes.specs.Sums.{bit, countTo}
+use Rattle.num_bytes.proofs.Counts.{count-few}
 use Rattle.survey_def.specs.declared.Layouts.{Layouts}
-use Rattle.survey_def.specs.Layouts.{laidOut, size, setsOf, Counted}
+use Rattle.survey_def.specs.Layouts.{size, setsOf, Counted}
 use Rattle.survey_def.specs.Says.{maxSurveyed, surveySize, refusedWith, Surveyed, SurveySays, One-survey}
 use Rattle.survey_def.specs.Inner.{eachMeets, ones, countBelow, Few}
 use Rattle.survey_def.proofs.Deciding.{eachJoins, decides}
@@ -63,6 +62,7 @@ surveyed-by p w r n c l h few = record {
 
 -- A plant in its array: its first streams, and its survey by their counts.
 module _ (p : Arrays.Plant) (a : Accepted p) (few : p .count ≤ maxSurveyed) where
+  -- Its first streams, as many as are surveyed, are within the limits of a plant.
   pub few-of : Few (p .count) (take maxSurveyed (p .streams))
   few-of = record {
     few = few;

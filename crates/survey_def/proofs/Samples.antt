@@ -1,19 +1,17 @@
--- The survey of the definition's plant and of one without streams, by computing.
+-- The survey of the definition's samplePlant and of one without streams, by computing.
 use mathlib.Core.Path.{_≡_, refl, sym, _∙_, ap}
-use mathlib.Core.Bool.{true, false}
-use mathlib.Core.List.{List, [], _∷_}
-use lib.IntN.{pos}
+use mathlib.Core.List.{List, []}
 use Prim.Native.Nat.{ℕ, _^_, _≤_, _<_}
 use native.Mathlib.Omega.{arith}
 use lib.ListN.{length, getD}
 use Rattle.num_bytes.specs.Inner.{values}
-use Rattle.plant_def.specs.Plants.{Plant, unmetered}
+use Rattle.plant_def.specs.Plants.{Plant}
 use Rattle.plant_def.specs.Files.{got, readPlant}
-use Rattle.plant_def.specs.Within.{Within}
 use Rattle.plant_def.proofs.Limited.{within}
 use Rattle.plant_def.proofs.Accepted.{accepted}
+use Rattle.plant_def.proofs.Sample.{samplePlant}
 use Rattle.flow_def.specs.Labels.{labelsAfter}
-use Rattle.flow_def.proofs.Lists.{values-at}
+use Rattle.num_bytes.proofs.Lists.{values-at}
 use Rattle.survey_def.specs.declared.Layouts.{Layouts}
 use Rattle.survey_def.specs.Says.{maxSurveyed, surveySize, SurveySays}
 use Rattle.survey_def.specs.Inner.{countBelow}
@@ -36,25 +34,13 @@ surveys-so file p e few s n c l h r says =
         ∙ ap (λ (v : List ℕ). getD v k 0) h
         ∙ values-at (computed p) 0 surveySize k b
 
-plant : Plant
-plant =
-    record {
-      units = 2;
-      streams =
-          record { from = 0; to = 1; metered = true; weight = 10; reading = pos 100; ranged = false; low = pos 0; high = pos 0 }
-          ∷ unmetered 1 2
-          ∷ unmetered 1 2
-          ∷ record { from = 2; to = 0; metered = true; weight = 10; reading = pos 98; ranged = false; low = pos 0; high = pos 0 }
-          ∷ [];
-    }
-
 nothing : Plant
 nothing = record { units = 1; streams = [] }
 
 -- The worked examples.
 pub samples : Samples
-unfolding plant nothing labelsAfter
+unfolding nothing labelsAfter
 samples = record {
-  listed = surveys-so sampleFile plant refl (omega arith) _ refl refl refl refl;
+  listed = surveys-so sampleFile samplePlant refl (omega arith) _ refl refl refl refl;
   empty = surveys-so emptyFile nothing refl (omega arith) _ refl refl refl refl;
 }

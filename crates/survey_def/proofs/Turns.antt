@@ -6,27 +6,24 @@ use Prim.Native.Nat.{ℕ, zero, suc, _+_, _*_, _/_, _%_, _^_, _≤_, _<_}
 use native.Mathlib.Nat.{div-div-eq-div-mul, pow-suc, div-one}
 use native.Mathlib.Numerals.{add-one}
 use native.Mathlib.Omega.{arith}
-use borrow.Author.Tests.{eq-eqb, ne-eqb, eqb-true}
+use borrow.Author.Tests.{eq-eqb, ne-eqb}
 use lib.Dec.{eqb}
 use lib.Pow.{shl-exact}
 use lib.ListN.{length, getD, take, set, length-set, replicate, length-replicate, getD-replicate}
-use lib.Seq.{length-take-le, getD-take, getD-set-same, getD-set-other, ext-getD}
+use lib.Seq.{length-take-le, getD-take, getD-set-same, getD-set-other}
 use native.Mathlib.Decide.{ℕ-discrete}
-use Rattle.num_bytes.specs.Choice.{pick}
-use Rattle.num_bytes.proofs.Tests.{by-cases, clash}
 use Rattle.plant_def.specs.declared.Stream.{Stream}
-use Rattle.plant_def.specs.Limits.{maxUnits, places}
+use Rattle.plant_def.specs.Limits.{places}
 use Rattle.plant_def.specs.Plants.{noStream}
 use Rattle.flow_def.specs.Flows.{streamAt}
 use Rattle.flow_def.specs.Groups.{AmongPlaces, StepSays}
 use Rattle.flow_def.specs.Labels.{ownNumbers, labelsAfter, oneLabel}
-use Rattle.flow_def.specs.Sides.{bit}
+use Rattle.num_bytes.specs.Sums.{bit}
 use Rattle.flow_def.specs.Certificate.{every}
-use Rattle.flow_def.proofs.Certified.{every-at}
+use Rattle.flow_def.proofs.Certified.{every-off}
 use Rattle.flow_def.proofs.Labels.{step-none, labels-long}
 use Rattle.flow_def.proofs.Grouping.{step-said}
-use Rattle.flow_def.specs.Loops.{countTo}
-use Rattle.flow_def.proofs.Counts.{one, count-few}
+use Rattle.num_bytes.proofs.Counts.{one, count-few}
 use Rattle.survey_def.specs.Says.{maxSurveyed, surveySize}
 use Rattle.survey_def.specs.Inner.{bitOff, meets, eachMeets, ones, countBelow, Few}
 
@@ -61,10 +58,6 @@ ones-more n m = rw (add-one n) (omega (arith, bit-one m n))
 -- A test of each number below n, one more.
 pub every-more : (n : ℕ) (test : ℕ → Bool) → every n test ≡ true → test n ≡ true → every (n + 1) test ≡ true
 every-more n test e t = rw (add-one n) (rw (t, e) refl)
-
--- A test that fails of one.
-pub every-not : (n : ℕ) (test : ℕ → Bool) (k : ℕ) → k < n → test k ≡ false → every n test ≡ false
-every-not n test k l t = by-cases (every n test) (λ e. absurd (clash (test k) (every-at n test e k l) t)) (λ e. e)
 
 -- A bit that is 0.
 bit-off : (m j left : ℕ) → left ≡ m / 2 ^ j → not (bit j m) ≡ eqb (left % 2) 0
@@ -123,7 +116,7 @@ module _ (n : ℕ) (streams : List Stream) (f : Few n streams) where
 
       -- A stream closes a loop: the choice does not serve.
       pub passed-closed : j < n → closes ≡ true → false ≡ eachMeets m (take n streams)
-      passed-closed h t = sym (every-not (length (take n streams)) (meets m (take n streams)) j (rw few-long h) (meets-so h ∙ ap not t))
+      passed-closed h t = sym (every-off (length (take n streams)) (meets m (take n streams)) j (rw few-long h) (meets-so h ∙ ap not t))
 
       -- One stream more, and no loop.
       pub passed-more : j < n → closes ≡ false → (next : List ℕ) → StepSays (eqb (rest % 2) 0) (getD streams j noStream) labels next

@@ -12,10 +12,11 @@ use Rattle.plant_def.specs.Plants.{Plant, unmetered}
 use Rattle.flow_def.specs.Withheld.{NoneWithheld}
 use Rattle.flow_def.specs.Metering.{metering}
 
--- The plant without any meter, and with the streams of a set metered and no others.
+-- The plant without any meter.
 abbrev pub bare : Plant → Plant
 bare p = record { units = p .units; streams = map (λ (s : Stream). unmetered (s .from) (s .to)) (p .streams) }
 
+-- The plant with the streams of a set metered, and no others.
 abbrev pub laidOut : List Bool → Plant → Plant
 laidOut set p = metering set (bare p)
 

@@ -9,6 +9,7 @@ use Rattle.survey_def.specs.Says.{SurveySays}
 abbrev pub sampleFile : List ℕ
 sampleFile = 1 ∷ 2 ∷ 2 ∷ 0 ∷ 1 ∷ 0 ∷ 10 ∷ 0 ∷ 0 ∷ 0 ∷ 100 ∷ 3 ∷ 1 ∷ 2 ∷ 3 ∷ 1 ∷ 2 ∷ 2 ∷ 2 ∷ 0 ∷ 0 ∷ 10 ∷ 0 ∷ 0 ∷ 0 ∷ 98 ∷ 4 ∷ 4 ∷ []
 
+-- One unit, and no stream.
 abbrev pub emptyFile : List ℕ
 emptyFile = 1 ∷ 1 ∷ 4 ∷ 0 ∷ []
 

@@ -10,10 +10,11 @@ use Rattle.plant_def.specs.Files.{bad, got, readPlant}
 use Rattle.survey_def.specs.declared.Layouts.{Layouts}
 use Rattle.survey_def.specs.Layouts.{Counted}
 
--- The most streams of a plant that is surveyed, and how many counts there are.
+-- The most streams of a plant that is surveyed.
 abbrev pub maxSurveyed : ℕ
 maxSurveyed = 12
 
+-- A count for each number of metered streams, 0 among them.
 abbrev pub surveySize : ℕ
 surveySize = suc maxSurveyed
 

@@ -1,7 +1,7 @@
 // A file of cases has one after the other, with no gap. A case, its numbers with the high byte first:
 //
 //     byte 0       what is called: 1 the sheet call, 2 the plant reader, 3 the plant writer, 4 the solver without a hint,
-//                  5 the listing, 6 the sheet reader, 7 the translator, 8 the closing, 9 and 10 the moves,
+//                  5 the listing, 6 the sheet reader, 7 the translator, 8 the compression, 9 and 10 the moves,
 //                  11 meters to buy, 12 the survey, 13 its text, 14 meters worth a visit, 15 their text,
 //                  16 the sheet call of any office, 17 steam charges,
 //                  18 the check of a sheet, 19 numbers of the places

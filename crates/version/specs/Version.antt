@@ -1,12 +1,15 @@
 -- The version of the part, by semantic versioning, and the number that tells it.
 use Prim.Native.Nat.{ℕ, _+_, _*_}
 
+-- Raised by a change that a caller must follow,
 abbrev pub major : ℕ
 major = 1
 
+-- by one that adds to what there is,
 abbrev pub minor : ℕ
 minor = 0
 
+-- and by any other.
 abbrev pub patch : ℕ
 patch = 0
 

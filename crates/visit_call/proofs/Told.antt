@@ -15,7 +15,7 @@ use Rattle.flow_def.specs.declared.Class.{Class}
 use Rattle.flow_def.specs.declared.Class.the-variants.{Adjusted}
 use Rattle.flow_def.specs.Classes.{classOf}
 use Rattle.flow_def.specs.Calls.{classesOf}
-use Rattle.flow_def.proofs.Lists.{Written, values-at}
+use Rattle.num_bytes.proofs.Lists.{Written, values-at}
 use Rattle.solve_def.specs.declared.Solved.{Solved}
 use Rattle.solve_def.specs.Promise.{flowOf, Solution}
 use Rattle.visit_def.specs.declared.Visits.{Visits}

@@ -3,10 +3,9 @@ use mathlib.Core.Path.{_≡_}
 use mathlib.Core.List.{List}
 use Prim.Native.Nat.{ℕ}
 use lib.ListN.{length, take}
-use denote.Ref.{RefT}
-use denote.Triple.Both.{Both}
 use Rattle.num_lent.specs.Lending.{Lending}
 use Rattle.num_bytes.specs.Bytes.{over}
+use Rattle.num_bytes.specs.Lent.{Lent}
 use Rattle.visit_def.specs.declared.Visits.{Visits}
 use Rattle.visit_def.specs.Says.{noVisits, VisitsSays}
 
@@ -25,7 +24,7 @@ pub record VisitsHandOver (file ns ns′ cs cs′ : List ℕ) (number count : �
   pub costs : cs′ ≡ over (take (made .count) (made .costs)) cs
 
 -- The same of two lent slices, each at the call's entry and at its exit.
-abbrev pub VisitsLent : (file : List ℕ) (ns cs : Both (RefT (List ℕ)) (RefT (List ℕ))) (number count : ℕ) → Type 0
+abbrev pub VisitsLent : (file : List ℕ) (ns cs : Lent (List ℕ)) (number count : ℕ) → Type 0
 VisitsLent file ns cs number count = VisitsHandOver file (ns .entry .now) (ns .exit .now) (cs .entry .now) (cs .exit .now) number count
 
 -- No choice is left.

@@ -29,13 +29,13 @@ pub fn visits_of(file: &[u8]) -> Visits
     let mut arcs = [NONE as u8; ARCS];
     let mut rows = [0u64; ROWS];
     lay(streams, count, &mut arcs, &mut rows);
-    let cuts = flow_bridges::cuts_of(&arcs, &rows);
-    let labels = cuts.labels;
+    let bridges = flow_bridges::bridges_of(&arcs, &rows);
+    let labels = bridges.labels;
     let solved = solve_call::solve(plant, labels, &arcs, &rows);
     if !solved.found {
         return refused(19);
     }
-    let classes = sheet_entries::classes_of(plant, cuts);
+    let classes = sheet_entries::classes_of(plant, bridges);
     let listed = adjusted_of(classes);
     let costs = costs_without(plant, listed);
     list_by(listed, costs, plant.count as usize)

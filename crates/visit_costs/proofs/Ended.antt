@@ -26,7 +26,7 @@ use Rattle.solve_def.proofs.Phases.{Finished}
 use Rattle.solve_def.proofs.Ending.{finished-good, finished-even}
 use Rattle.solve_def.proofs.Certify.{certify}
 use Rattle.solve_def.proofs.Theorem.{solvable-in, ended-full}
-use Rattle.sheet_def.specs.Apart.{capped}
+use Rattle.sheet_def.specs.Totals.{capped}
 use Rattle.visit_def.specs.Visits.{LeastCost, Feasible}
 
 module _ (p : Arrays.Plant) (a : Accepted p) (st : State) (s : AtHint (plantOf p .streams) st) (e : Ended) (q : e ≡ finished (plantOf p .streams) st) where
@@ -48,7 +48,7 @@ module _ (p : Arrays.Plant) (a : Accepted p) (st : State) (s : AtHint (plantOf p
 
     -- The amounts are within their bounds.
     pub amounts : Amounts (e .state .flows)
-    amounts = λ k h. omega (arith, even .close k h .0)
+    amounts = λ k h. omega (arith, even .sized k h .0)
 
     -- As many amounts as there may be streams.
     pub all-held : length (e .state .flows) ≡ maxStreams

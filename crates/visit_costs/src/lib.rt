@@ -22,7 +22,7 @@ ghost use Prim.Native.Nat.{ℕ, _<_};
 ghost use lib.ListN.{getD, replicate};
 ghost use Rattle.plant_def.specs.Limits.{maxStreams};
 ghost use Rattle.flow_def.specs.declared.Class.the-variants.{Adjusted};
-ghost use Rattle.flow_def.specs.Written.{Written};
+ghost use Rattle.num_bytes.specs.Written.{Written};
 
 // The least cost, as it is written on a sheet. (No set of places is overfull.)
 pub fn least_cost(p: Plant) -> u64

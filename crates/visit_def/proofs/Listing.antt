@@ -11,11 +11,11 @@ use lib.Seq.{ext-getD}
 use Rattle.num_bytes.proofs.Tests.{by-cases}
 use Rattle.plant_def.specs.Limits.{maxStreams}
 use Rattle.plant_def.specs.Plants.{Plant}
-use Rattle.flow_def.specs.Loops.{countTo}
-use Rattle.flow_def.proofs.Counts.{count-same}
+use Rattle.num_bytes.specs.Sums.{countTo}
+use Rattle.num_bytes.proofs.Counts.{count-same}
 use Rattle.visit_def.specs.declared.Visits.{Visits}
 use Rattle.visit_def.specs.Visits.{isListed, comesFirst, placeOf, Ordered}
-use Rattle.flow_def.proofs.Places.{keyOf, by-key, belowTo, Different, below-few, apart, rises, taken}
+use Rattle.flow_def.proofs.Places.{keyOf, by-key, belowTo, Different, below-few, distinct, rises, taken}
 
 module _ (p : Plant) (few : length (p .streams) ≤ maxStreams) (costs : ℕ → ℕ) where
   abbrev n : ℕ
@@ -35,7 +35,7 @@ module _ (p : Plant) (few : length (p .streams) ≤ maxStreams) (costs : ℕ →
 
   -- No two listed streams have one place.
   pub place-apart : (j k : ℕ) → j < n → k < n → isListed p j ≡ true → isListed p k ≡ true → placeOf p costs j ≡ placeOf p costs k → j ≡ k
-  place-apart j k l m s t e = apart (isListed p) (keyOf costs) n j k different l m s t (sym (place-is j l) ∙ e ∙ place-is k m)
+  place-apart j k l m s t e = distinct (isListed p) (keyOf costs) n j k different l m s t (sym (place-is j l) ∙ e ∙ place-is k m)
 
   -- Every place is some listed stream's.
   pub place-taken : (i : ℕ) → i < countTo n (isListed p) → (k : ℕ) × (k < n) × (isListed p k ≡ true) × (placeOf p costs k ≡ i)

@@ -1,5 +1,5 @@
 -- What is promised of meters worth a visit, of every file; and what the call answers, by what was found.
-use mathlib.Core.Path.{_≡_, refl, sym, _∙_, ap, subst}
+use mathlib.Core.Path.{_≡_, refl, sym, _∙_, ap}
 use mathlib.Core.Bool.{Bool, true, false, false≢true}
 use mathlib.Core.Logic.{_↔_, ⊎-elim}
 use mathlib.Core.List.{List}
@@ -16,8 +16,7 @@ use Rattle.plant_def.specs.Within.{Within}
 use Rattle.plant_def.specs.Says.{plantOf, readOf}
 use Rattle.plant_def.proofs.Limited.{within}
 use Rattle.plant_def.proofs.Accepted.{accepted}
-use Rattle.plant_def.proofs.Arrayed.{read-held}
-use Rattle.plant_def.proofs.Found.{read-bad, found}
+use Rattle.plant_def.proofs.Found.{says-bad, says-got}
 use Rattle.flow_def.specs.declared.Class.{Class}
 use Rattle.flow_def.specs.declared.Class.the-variants.{Adjusted, AsRead, Given, Withheld}
 use Rattle.flow_def.specs.Flows.{streamAt, allowed}
@@ -33,7 +32,7 @@ use Rattle.visit_def.specs.Visits.{without, isAdjusted, isListed, AllLea
 use Rattle.visit_def.specs.Says.{noVisits, VisitsFor, VisitsWith, VisitsSays, Meters-worth-a-visit}
 use Rattle.visit_def.proofs.Unmetered.{feasible, sheet-without, not-above, one-cost}
 use Rattle.visit_def.proofs.Listing.{stands, in-order, one-list, ordered-by}
-use Rattle.flow_def.proofs.Counts.{count-few}
+use Rattle.num_bytes.proofs.Counts.{count-few}
 
 -- One answer of a plant.
 same-for : (file : List ℕ) (p : Plant) → readPlant file ≡ got p → (r r′ : Visits) → VisitsFor p r → VisitsFor p r′ → r ≡ r′
@@ -82,6 +81,7 @@ meters-worth-a-visit = record {
 
 -- By the plant: no flow in range, or the list.
 module _ (p : Plant) (w : Within p) (r : Visits) where
+  -- No flow in range: 19.
   pub none-balanced : (ms : List Bool) → Overfull p ms → r ≡ noVisits 19 → VisitsFor p r
   none-balanced ms m e = record {
     unbalanced = λ n. e;
@@ -97,15 +97,13 @@ module _ (p : Plant) (w : Within p) (r : Visits) where
 
 -- By the reading.
 module _ (file : List ℕ) (y : Read) (e : y ≡ readOf (readPlant file)) (r : Visits) where
+  -- A file that is refused: its number, and no list.
   pub unread : (y .number ≡ 0 → ⊥) → r ≡ noVisits (y .number) → VisitsSays file r
-  unread n q = subst (λ (g : Got). VisitsWith g r) (sym (read-bad (readPlant file) y e n)) q
+  unread = says-bad (λ g. VisitsWith g r) file y e
 
   -- A file that is read: the answer of its plant.
   pub answered : y .number ≡ 0 → VisitsFor (plantOf (y .plant)) r → VisitsSays file r
-  answered n b =
-      let q = found file y e n in
-      let same : plantOf (y .plant) ≡ q .0 = ap plantOf (q .2) ∙ read-held file (q .0) (q .1) in
-      subst (λ (g : Got). VisitsWith g r) (sym (q .1)) (subst (λ (p : Plant). VisitsFor p r) same b)
+  answered = says-got (λ g. VisitsWith g r) file y e
 
 -- A list fits its arrays.
 pub visits-fit : (file : List ℕ) (r : Visits) → VisitsSays file r → r .count ≤ maxStreams

@@ -22,7 +22,7 @@ use Rattle.flow_def.specs.Flows.{streamAt, netAt, balancedTo, balanced, inRange
 use Rattle.flow_def.proofs.Decided.{Decided, solved, full}
 use Rattle.flow_def.proofs.Overfull.{overfull-none}
 use Rattle.solve_def.proofs.Theorem.{decided}
-use Rattle.sheet_def.specs.Apart.{topCost, capped}
+use Rattle.sheet_def.specs.Totals.{topCost, capped}
 use Rattle.visit_def.specs.Visits.{unmeter, without, LeastCost}
 
 abbrev gone : List Stream → ℕ → List Stream
@@ -33,7 +33,7 @@ within-gone : (n : ℕ) (s : Stream) → WithinStream n s → WithinStream n (un
 within-gone n s w = record {
   from-in = w .from-in;
   to-in = w .to-in;
-  apart = w .apart;
+  distinct = w .distinct;
   weighed = λ e. absurd (false≢true e);
   light = λ e. absurd (false≢true e);
   in-range = λ e. absurd (false≢true e);

@@ -9,9 +9,9 @@ use lib.ListN.{length, getD, replicate}
 use Rattle.plant_def.specs.Converts.{ReadAs}
 use Rattle.plant_def.specs.Limits.{maxStreams}
 use Rattle.plant_def.specs.Plants.{Plant}
-use Rattle.plant_def.specs.Files.{Got, bad, got, readPlant}
+use Rattle.plant_def.specs.Files.{Got, got, readPlant}
 use Rattle.flow_def.specs.Flows.{streamAt, allowed, cost, Cheapest}
-use Rattle.sheet_def.specs.Apart.{capped}
+use Rattle.sheet_def.specs.Totals.{capped}
 use Rattle.sheet_def.specs.Sentences.{EndsJoined}
 use Rattle.visit_def.specs.declared.Visits.{Visits}
 use Rattle.visit_def.specs.Visits.{without, isListed, LeastCost, Ordered, AllLeast}
@@ -33,6 +33,7 @@ VisitsSays file = ReadAs noVisits VisitsFor (readPlant file)
 abbrev pub VisitsWith : Got → Visits → Type 0
 VisitsWith = ReadAs noVisits VisitsFor
 
+-- What is promised of every list.
 pub record Meters-worth-a-visit : Type 0 where
   -- A plant that has a sheet has one without any of its meters, so that no entry is refused; and no entry is above the sheet's cost.
   pub feasible : (p : Plant) (k : ℕ) (xs : List ℤ) → allowed p xs ≡ true → allowed (without p k) xs ≡ true

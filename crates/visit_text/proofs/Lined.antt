@@ -1,25 +1,20 @@
 -- Lines put one behind the other.
-use mathlib.Core.Path.{_≡_, sym, ap, _∙_}
+use mathlib.Core.Path.{_≡_, refl, sym, ap, _∙_}
 use mathlib.Core.List.{List, [], _∷_, _++_, append-nil, append-assoc}
-use Prim.Native.Nat.{ℕ, zero, suc, _+_, _*_, _^_, _<_, _≤_}
+use Prim.Native.Nat.{ℕ, zero, suc, _+_, _^_, _<_, _≤_}
 use native.Mathlib.Omega.{arith}
 use native.Mathlib.Numerals.{add-one}
-use lib.ListN.{length, getD, take, length-append}
-use Rattle.num_bytes.specs.Inner.{Put}
-use Rattle.num_text.specs.Numerals.{text, decimal, field, pairLine}
+use lib.ListN.{length, getD, take}
+use Rattle.num_text.specs.Numerals.{pairLine}
 use Rattle.num_text.specs.Adding.{Added}
-use Rattle.num_text.proofs.Behind.{nothing, behind, kept-length, put-front}
 use Rattle.num_text.proofs.Decimals.{decimal-most, field-size}
+use Rattle.num_text.proofs.Lines as Ls
 use Rattle.plant_def.specs.Limits.{maxStreams}
 use Rattle.visit_text.specs.Text.{linesFor}
 use Rattle.visit_text.specs.Says.{lineSize, leastText}
 
--- How long a line is.
-pub line-size : (n c : ℕ) → length (pairLine n c) ≡ length (field n) + length (decimal c) + 1
-line-size n c = length-append (field n ++ decimal c) (text "\n") ∙ ap (λ (m : ℕ). m + 1) (length-append (field n) (decimal c))
-
 line-most : (n c : ℕ) → n < 10 ^ 3 → c < 10 ^ 20 → length (pairLine n c) ≤ lineSize
-line-most n c h l = omega (arith, line-size n c, field-size n, decimal-most 2 n h, decimal-most 19 c l)
+line-most n c h l = omega (arith, Ls.pair-size n c, field-size n, decimal-most 2 n h, decimal-most 19 c l)
 
 -- One line more.
 lines-more : (ns cs : List ℕ) (i : ℕ) → i < length ns → i < length cs
@@ -35,14 +30,11 @@ lines-more (n ∷ ns) (c ∷ cs) (suc i) h l =
 pub record Lined (ns cs : List ℕ) (m : ℕ) (o o₁ : List ℕ) (at i : ℕ) : Type 0 where
   pub few : m ≤ maxStreams
   pub long : (length ns ≡ maxStreams) × (length cs ≡ maxStreams)
-  pub wide : leastText ≤ length o
-  pub within : i ≤ m
-  pub so-far : Added (linesFor (take i ns) (take i cs)) 0 o o₁ at
-  pub bound : at ≤ lineSize * i
+  pub lines : Ls.Lines (λ j. linesFor (take j ns) (take j cs)) lineSize m o o₁ at i
 
 -- No line yet.
 pub no-lines : (ns cs : List ℕ) (m : ℕ) (o : List ℕ) → m ≤ maxStreams → (length ns ≡ maxStreams) × (length cs ≡ maxStreams) → leastText ≤ length o → Lined ns cs m o o 0 0
-no-lines ns cs m o f l w = record { few = f; long = l; wide = w; within = omega arith; so-far = nothing 0 o (omega arith); bound = omega arith }
+no-lines ns cs m o f l w = record { few = f; long = l; lines = Ls.no-lines _ lineSize m o refl (omega arith) }
 
 module _ {ns cs : List ℕ} {m : ℕ} {o o₁ : List ℕ} {at i : ℕ} (w : Lined ns cs m o o₁ at i) (h : i < m) (s : getD ns i 0 < 2 ^ 8) (t : getD cs i 0 < 2 ^ 64) where
   small : length (pairLine (getD ns i 0) (getD cs i 0)) ≤ lineSize
@@ -50,25 +42,12 @@ module _ {ns cs : List ℕ} {m : ℕ} {o o₁ : List ℕ} {at i : ℕ} (w : Line
 
   -- There is room for the next line.
   pub line-room : at + length (pairLine (getD ns i 0) (getD cs i 0)) ≤ length o₁
-  line-room = let a = w .few in let b = w .bound in let c = w .wide in omega (arith, small, kept-length (w .so-far))
+  line-room = Ls.line-room (w .lines) (pairLine (getD ns i 0) (getD cs i 0)) h small
 
   -- One line more.
   pub one-line : {o₂ : List ℕ} {a : ℕ} → Added (pairLine (getD ns i 0) (getD cs i 0)) at o₁ o₂ a → Lined ns cs m o o₂ a (i + 1)
-  one-line {o₂} {a} p =
+  one-line p =
       let l = w .long in
       let c = w .few in
-      let b = w .bound in
-      let e : linesFor (take (i + 1) ns) (take (i + 1) cs) ≡ linesFor (take i ns) (take i cs) ++ pairLine (getD ns i 0) (getD cs i 0) =
-      ap (λ (j : ℕ). linesFor (take j ns) (take j cs)) (add-one i) ∙ lines-more ns cs i (omega (arith, l .0)) (omega (arith, l .1)) in
-      record {
-        few = c;
-        long = l;
-        wide = w .wide;
-        within = omega arith;
-        so-far = rw e (behind (w .so-far) p);
-        bound = omega (arith, small, p .place);
-      }
-
--- All lines.
-pub all-lines : {ns cs : List ℕ} {m : ℕ} {o o₁ : List ℕ} {at i : ℕ} → Lined ns cs m o o₁ at i → m ≤ i → Put (linesFor (take m ns) (take m cs)) o o₁ at
-all-lines {ns} {cs} {m} {o} {o₁} {at} {i} w h = let a = w .within in let e : m ≡ i = omega arith in rw e (put-front (w .so-far))
+      let e = ap (λ (j : ℕ). linesFor (take j ns) (take j cs)) (add-one i) ∙ lines-more ns cs i (omega (arith, l .0)) (omega (arith, l .1)) in
+      record { few = c; long = l; lines = Ls.one-line (w .lines) (pairLine (getD ns i 0) (getD cs i 0)) h small e p }

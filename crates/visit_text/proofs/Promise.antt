@@ -1,14 +1,11 @@
 -- The promise of the call that lists meters worth a visit, by what was found; no choice is left.
-use mathlib.Core.Path.{_≡_, refl, sym, ap, _∙_, subst}
+use mathlib.Core.Path.{_≡_, refl, ap, subst}
 use mathlib.Core.List.{List}
 use Prim.Native.Nat.{ℕ, _≤_, _<_}
 use native.Mathlib.Omega.{arith}
-use borrow.Author.Tests.{eq-eqb, ne-eqb, ltb-true, ltb-false}
-use lib.Dec.{ltb}
+use borrow.Author.Tests.{eq-eqb, ne-eqb}
 use lib.ListN.{length, take}
-use Rattle.num_bytes.specs.Bytes.{over}
 use Rattle.num_bytes.specs.Inner.{Put}
-use Rattle.num_bytes.proofs.Tests.{by-cases}
 use Rattle.num_text.specs.Numerals.{decimal}
 use Rattle.listing_lines.specs.Listing.{refusalText}
 use Rattle.visit_def.specs.declared.Visits.{Visits}
@@ -17,6 +14,7 @@ use Rattle.visit_def.proofs.Promise.{meters-worth-a-visit}
 use Rattle.visit_def.proofs.Samples.{sample}
 use Rattle.visit_text.specs.Text.{linesFor, visitsText}
 use Rattle.listing_lines.specs.Room.{OneText}
+use Rattle.listing_lines.proofs.Told.{one-told}
 use Rattle.visit_text.specs.Says.{leastText, TextSays, Texts}
 
 module _ (file o : List ℕ) where
@@ -33,22 +31,9 @@ module _ (file o : List ℕ) where
     pub says-lines : l .number ≡ 0 → Put (linesFor (take (l .count) (l .streams)) (take (l .count) (l .costs))) o o′ r → TextSays file o o′ r
     says-lines z p = record { too-short = λ x. absurd (omega arith); told = λ x. (l, s, rw (eq-eqb (l .number) 0 z) p) }
 
--- Text and length follow from the file and the slice.
-put-one : {x y o o₁ o₂ : List ℕ} {r₁ r₂ : ℕ} → x ≡ y → Put x o o₁ r₁ → Put y o o₂ r₂ → (r₁ ≡ r₂) × (o₁ ≡ o₂)
-put-one {o = o} e p q = (p .size ∙ ap length e ∙ sym (q .size), p .bytes ∙ ap (λ (l : List ℕ). over l o) e ∙ sym (q .bytes))
-
 -- No choice is left.
 pub one-text : OneText TextSays
-one-text file o o₁ o₂ r₁ r₂ a b =
-    by-cases (ltb (length o) leastText)
-    (λ t. let h = ltb-true (length o) leastText t in short (a .too-short h) (b .too-short h))
-    (λ t. let h = ltb-false (length o) leastText t in
-    let x = a .told h in
-    let y = b .told h in
-    put-one (ap visitsText (meters-worth-a-visit .only file (x .0) (y .0) (x .1) (y .1))) (x .2) (y .2))
-  where
-    short : (r₁ ≡ 0) × (o₁ ≡ o) → (r₂ ≡ 0) × (o₂ ≡ o) → (r₁ ≡ r₂) × (o₁ ≡ o₂)
-    short a b = (a .0 ∙ sym (b .0), a .1 ∙ sym (b .1))
+one-text file o o₁ o₂ r₁ r₂ a b = one-told visitsText (VisitsSays file) (meters-worth-a-visit .only file) leastText o o₁ o₂ r₁ r₂ (a .too-short) (b .too-short) (a .told) (b .told)
 
 -- The texts of the examples.
 pub texts : Texts

@@ -8,6 +8,7 @@ use Rattle.num_text.specs.Numerals.{pairLine}
 use Rattle.listing_lines.specs.Listing.{refusalText}
 use Rattle.visit_def.specs.declared.Visits.{Visits}
 
+-- A line for each stream of the list: its number, and the cost without its meter.
 abbrev pub linesFor : List ℕ → List ℕ → List ℕ
 linesFor [] cs = []
 linesFor (n ∷ ns) [] = []

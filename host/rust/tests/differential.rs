@@ -8,6 +8,7 @@ mod agree;
 mod charges;
 mod draw;
 mod foreign;
+mod layouts;
 mod moves;
 mod offices;
 mod purchases;

@@ -4,23 +4,14 @@ use borrow.Author.Needs.{needs}
 use Rattle.charge_call.proofs.charges_lent.Statement.{statement}
 use Rattle.charge_call.proofs.charges_lent.Tie as tie
 
-refused-requires : tie.Need-refused-requires
-refused-requires c κs = search needs
-
 returns : tie.Need-returns
 returns c = first-short _ _ _ _ _ (c .before .if1 .taken) (c .refused .ensures)
 
-refused-requires-2 : tie.Need-refused-requires-2
-refused-requires-2 c κs = search needs
-
 returns-2 : tie.Need-returns-2
 returns-2 c = second-short _ _ _ _ _ (c .before .if2 .taken) (c .refused2 .ensures)
-
-charges-of-requires : tie.Need-charges-of-requires
-charges-of-requires c κs = search needs
 
 returns-3 : tie.Need-returns-3
 returns-3 c = both-long _ _ _ _ _ (c .before .before .if1 .left) (c .before .if2 .left) (c .charges-of .ensures)
 
 pub charges-lent-spec : {M : Type 1} → statement M
-charges-lent-spec = tie.close (tie.spec refused-requires returns refused-requires-2 returns-2 charges-of-requires returns-3)
+charges-lent-spec = tie.close (tie.spec (λ c κs. search needs) returns (λ c κs. search needs) returns-2 (λ c κs. search needs) returns-3)

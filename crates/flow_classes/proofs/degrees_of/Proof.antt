@@ -1,7 +1,6 @@
 -- `flow_classes::degrees_of` meets its contract, by the laws of degrees by labels.
-use mathlib.Core.Path.{_≡_, sym, ap, _∙_}
-use mathlib.Core.List.{List}
-use Prim.Native.Nat.{ℕ, _-_}
+use mathlib.Core.Path.{_≡_, sym, _∙_}
+use Prim.Native.Nat.{_-_}
 use native.Mathlib.Omega.{arith}
 use Rattle.plant_def.specs.declared.Plant.{Plant}
 use Rattle.plant_def.specs.Says.{plantOf}
@@ -13,7 +12,6 @@ use Rattle.flow_def.proofs.Nets.{inside-of}
 use Rattle.flow_def.proofs.Grouping.{labels-are}
 use Rattle.flow_def.proofs.Degrees.{pieces-le, degrees-own, degrees-most}
 use Rattle.solve_arcs_fill.specs.Plants.{LaidOf}
-use borrow.Author.Needs.{needs}
 use Rattle.flow_classes.proofs.degrees_of.Statement.{statement}
 use Rattle.flow_classes.proofs.degrees_of.Tie as tie
 

@@ -32,12 +32,6 @@ used c p w = rw (← counted w, ← c .before .before .before .count-of .ensures
 low : (c : tie.In-loop Inv-loop μ-loop) → c .before .loop .i < 96
 low c = let w = begin c .pre in few (w .1) _ (used c (w .0) (w .1))
 
-count-of-requires : tie.Need-count-of-requires Inv-loop μ-loop
-count-of-requires c κs = search needs
-
-own-numbers-requires : tie.Need-own-numbers-requires Inv-loop μ-loop
-own-numbers-requires c κs = search needs
-
 loop-holds : tie.Need-loop-holds Inv-loop μ-loop
 loop-holds c = (omega arith, λ p w. groups-none _ _ _ (c .own-numbers .ensures))
 
@@ -65,9 +59,6 @@ mul-counts-2 c = omega (arith, low (c .before .before))
 element-copy-out-counts : tie.Need-element-copy-out-counts Inv-loop μ-loop
 element-copy-out-counts c = omega (arith, low (c .before .before))
 
-counts-requires : tie.Need-counts-requires Inv-loop μ-loop
-counts-requires c κs = search needs
-
 join-requires : tie.Need-join-requires Inv-loop μ-loop
 join-requires c κs =
     let v = c .before .before .before in
@@ -75,12 +66,6 @@ join-requires c κs =
     let w = begin on .pre in
     let l = used on (w .0) (w .1) in
     (rw (v .before .end-at .ensures) (from-low (w .1) _ l), rw (v .end-at2 .ensures) (to-low (w .1) _ l), on .before .loop .inv .1 (w .0) (w .1) .long)
-
-add-i : tie.Need-add-i Inv-loop μ-loop
-add-i c = search needs
-
-loop-less : tie.Need-loop-less Inv-loop μ-loop
-loop-less c = search needs
 
 loop-again : tie.Need-loop-again Inv-loop μ-loop
 loop-again c =
@@ -106,23 +91,6 @@ returns c = λ p w.
 pub group-spec : {M : Type 1} → statement M
 group-spec =
     tie.close
-    (tie.spec
-    Inv-loop
-    μ-loop
-    count-of-requires
-    own-numbers-requires
-    loop-holds
-    mul-end-at
-    end-at-requires
-    mul-end-at-2
-    add-end-at
-    end-at-requires-2
-    mul-counts
-    mul-counts-2
-    element-copy-out-counts
-    counts-requires
-    join-requires
-    add-i
-    loop-less
-    loop-again
-    returns)
+    (tie.spec Inv-loop μ-loop (λ c κs. search needs) (λ c κs. search needs) loop-holds mul-end-at end-at-requires
+    mul-end-at-2 add-end-at end-at-requires-2 mul-counts mul-counts-2 element-copy-out-counts (λ c κs. search needs)
+    join-requires (λ c. search needs) (λ c. search needs) loop-again returns)

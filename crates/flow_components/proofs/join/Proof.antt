@@ -15,20 +15,11 @@ returns c = λ s e f.
     let a = c .before .args in
     step-says (a .counts) s (now (a .labels)) _ (stepped-none (a .counts) s (now (a .labels)) (not-true (a .counts) (c .if1 .taken)))
 
-element-copy-out-a : tie.Need-element-copy-out-a
-element-copy-out-a c = search needs
-
-element-copy-out-b : tie.Need-element-copy-out-b
-element-copy-out-b c = search needs
-
 returns-2 : tie.Need-returns-2
 returns-2 c = λ s e f.
     let a = c .before .before .before .before .args in
     let counts = not-false (a .counts) (c .before .before .before .if1 .left) in
     step-says (a .counts) s (now (a .labels)) _ (stepped-one (a .counts) s (now (a .labels)) counts (rw (e, f) (c .if2 .taken)))
-
-rename-requires : tie.Need-rename-requires
-rename-requires c κs = search needs
 
 returns-3 : tie.Need-returns-3
 returns-3 c = λ s e f.
@@ -37,9 +28,6 @@ returns-3 c = λ s e f.
     let counts = not-false (a .counts) (c .before .before .before .before .before .before .if1 .left) in
     step-says (a .counts) s (now (a .labels)) _
     (rw (e, f) (c .rename .ensures ∙ stepped-up (a .counts) (unmetered (a .u) (a .v)) (now (a .labels)) counts (c .before .before .if3 .taken)))
-
-rename-requires-2 : tie.Need-rename-requires-2
-rename-requires-2 c κs = search needs
 
 returns-4 : tie.Need-returns-4
 returns-4 c = λ s e f.
@@ -52,12 +40,5 @@ returns-4 c = λ s e f.
 pub join-spec : {M : Type 1} → statement M
 join-spec =
     tie.close
-    (tie.spec
-    returns
-    element-copy-out-a
-    element-copy-out-b
-    returns-2
-    rename-requires
-    returns-3
-    rename-requires-2
-    returns-4)
+    (tie.spec returns (λ c. search needs) (λ c. search needs) returns-2 (λ c κs. search needs) returns-3
+    (λ c κs. search needs) returns-4)

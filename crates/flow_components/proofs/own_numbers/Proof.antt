@@ -5,7 +5,7 @@ use native.Mathlib.Omega.{arith}
 use lib.ListN.{length-replicate}
 use Rattle.plant_def.specs.Limits.{places}
 use Rattle.flow_def.specs.Labels.{ownNumbers}
-use Rattle.flow_def.proofs.Lists.{values-long, values-at, Written, written-none, written-put, written-all}
+use Rattle.num_bytes.proofs.Lists.{values-long, values-at, Written, written-none, written-put, written-all}
 use borrow.Author.Needs.{needs}
 use Rattle.flow_components.proofs.own_numbers.Statement.{statement}
 use Rattle.flow_components.proofs.own_numbers.Tie as tie
@@ -19,18 +19,6 @@ abbrev μ-loop : tie.MeasureT-loop
 loop-holds : tie.Need-loop-holds Inv-loop μ-loop
 loop-holds c = (omega arith, written-none (length-replicate {A = ℕ} places 0))
 
-cast-labels : tie.Need-cast-labels Inv-loop μ-loop
-cast-labels c = search needs
-
-array-write-labels : tie.Need-array-write-labels Inv-loop μ-loop
-array-write-labels c = search needs
-
-add-own : tie.Need-add-own Inv-loop μ-loop
-add-own c = search needs
-
-loop-less : tie.Need-loop-less Inv-loop μ-loop
-loop-less c = search needs
-
 loop-again : tie.Need-loop-again Inv-loop μ-loop
 loop-again c = (omega arith, written-put (c .before .loop .inv .1) (omega arith) _ refl)
 
@@ -42,13 +30,5 @@ returns c =
 pub own-numbers-spec : {M : Type 1} → statement M
 own-numbers-spec =
     tie.close
-    (tie.spec
-    Inv-loop
-    μ-loop
-    loop-holds
-    cast-labels
-    array-write-labels
-    add-own
-    loop-less
-    loop-again
-    returns)
+    (tie.spec Inv-loop μ-loop loop-holds (λ c. search needs) (λ c. search needs) (λ c. search needs) (λ c. search needs)
+    loop-again returns)

@@ -4,7 +4,7 @@ use Prim.Native.Nat.{_≤_, _-_}
 use native.Mathlib.Omega.{arith}
 use Rattle.plant_def.specs.Limits.{places}
 use Rattle.flow_def.specs.Labels.{renamed}
-use Rattle.flow_def.proofs.Lists.{Written, written-none, written-put}
+use Rattle.num_bytes.proofs.Lists.{Written, written-none, written-put}
 use Rattle.flow_def.proofs.Labels.{renamed-all}
 use borrow.Author.Needs.{needs}
 use Rattle.flow_components.proofs.rename.Statement.{statement}

@@ -13,14 +13,14 @@ use Rattle.foreign_call.proofs.rules_hold.Statement.{statement}
 use Rattle.foreign_call.proofs.rules_hold.Tie as tie
 
 -- What is known once the flows are shown, and what each test passed says.
-abbrev cut : tie.After-shown-flows → tie.After-cuts-of
-cut c = c .before .before
+abbrev bridge : tie.After-shown-flows → tie.After-bridges-of
+bridge c = c .before .before
 
-abbrev laid : tie.After-cuts-of → tie.After-lay
+abbrev laid : tie.After-bridges-of → tie.After-lay
 laid c = c .before .before .before
 
 abbrev counted : tie.After-shown-flows → tie.Else2
-counted c = laid (cut c) .before .before .before .before .before .before
+counted c = laid (bridge c) .before .before .before .before .before .before
 
 abbrev first : tie.Else2 → tie.Else1
 first c = c .before .before .before
@@ -74,8 +74,8 @@ begin c = first (c .before .before .before .before .before) .before .before
 lay-requires : tie.Need-lay-requires
 lay-requires c κs = let st = begin c in (network-of (st .args .p) (st .pre .0), refl, no-arc, refl)
 
-cuts-of-requires : tie.Need-cuts-of-requires
-cuts-of-requires c κs =
+bridges-of-requires : tie.Need-bridges-of-requires
+bridges-of-requires c κs =
     let f = c .before .before in
     let st = begin (f .before) in
     (st .args .p, record { accepted = st .pre .0; laid = f .lay .ensures })
@@ -84,7 +84,7 @@ classes-of-requires : tie.Need-classes-of-requires
 classes-of-requires c κs =
     let f = laid c in
     let st = begin (f .before) in
-    (st .pre .0, c .cuts-of .ensures (st .args .p) (record { accepted = st .pre .0; laid = f .lay .ensures }))
+    (st .pre .0, c .bridges-of .ensures (st .args .p) (record { accepted = st .pre .0; laid = f .lay .ensures }))
 
 shown-flows-requires : tie.Need-shown-flows-requires
 shown-flows-requires c κs = search needs
@@ -118,9 +118,9 @@ total-fits-requires c κs =
     let half = c .before .before .before .before in
     let recorded-here = half .before .before .before .before in
     let s = recorded-here .before .before in
-    let k = cut s in
+    let k = bridge s in
     let f = laid k in
-    let grouped = k .cuts-of .ensures (start s .args .p) (record { accepted = start s .pre .0; laid = f .lay .ensures }) .grouped in
+    let grouped = k .bridges-of .ensures (start s .args .p) (record { accepted = start s .pre .0; laid = f .lay .ensures }) .grouped in
     (record { accepted = start s .pre .0; laid = f .lay .ensures }, grouped, s .before .classes-of .ensures, small recorded-here)
 
 returns-6 : tie.Need-returns-6
@@ -143,7 +143,7 @@ rules-hold-spec =
     cast-count
     cast-arcs
     lay-requires
-    cuts-of-requires
+    bridges-of-requires
     classes-of-requires
     shown-flows-requires
     records-fit-requires

@@ -9,24 +9,6 @@ use borrow.Author.Needs.{needs}
 use Rattle.foreign_flows.proofs.difference_at.Statement.{statement}
 use Rattle.foreign_flows.proofs.difference_at.Tie as tie
 
-cast-u : tie.Need-cast-u
-cast-u c = search needs
-
-cast-v : tie.Need-cast-v
-cast-v c = search needs
-
-mul-result : tie.Need-mul-result
-mul-result c = search needs
-
-shared-slice-copy-out-result : tie.Need-shared-slice-copy-out-result
-shared-slice-copy-out-result c = search needs
-
-mul-result-2 : tie.Need-mul-result-2
-mul-result-2 c = search needs
-
-shared-slice-copy-out-result-2 : tie.Need-shared-slice-copy-out-result-2
-shared-slice-copy-out-result-2 c = search needs
-
 sub-result : tie.Need-sub-result
 sub-result c =
     let st = c .before .before .before .before in
@@ -44,12 +26,5 @@ returns c =
 pub difference-at-spec : {M : Type 1} → statement M
 difference-at-spec =
     tie.close
-    (tie.spec
-    cast-u
-    cast-v
-    mul-result
-    shared-slice-copy-out-result
-    mul-result-2
-    shared-slice-copy-out-result-2
-    sub-result
-    returns)
+    (tie.spec (λ c. search needs) (λ c. search needs) (λ c. search needs) (λ c. search needs) (λ c. search needs)
+    (λ c. search needs) sub-result returns)

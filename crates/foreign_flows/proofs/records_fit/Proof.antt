@@ -15,7 +15,7 @@ use Rattle.flow_def.specs.declared.Class.the-variants.{Adjusted}
 use Rattle.flow_def.specs.Flows.{amountAt}
 use Rattle.solve_def.specs.Sizes.{flowShift}
 use Rattle.sheet_def.specs.Sheets.{kindOf}
-use Rattle.foreign_def.specs.Test.{noEntry}
+use Rattle.sheet_def.specs.Calls.{noEntry}
 use borrow.Author.Needs.{needs}
 use Rattle.foreign_flows.proofs.records_fit.Statement.{statement}
 use Rattle.foreign_flows.proofs.records_fit.Tie as tie

@@ -1,13 +1,9 @@
 -- After j turns the labels are those after j steps.
-use mathlib.Core.Path.{_≡_, sym, _∙_, ap}
-use Prim.Native.Nat.{_≤_, _<_, _-_}
-use native.Mathlib.Omega.{arith}
-use lib.ListN.{length}
+use mathlib.Core.Path.{_∙_}
+use Prim.Native.Nat.{_-_}
 use Rattle.plant_def.specs.Says.{plantOf}
-use Rattle.plant_def.proofs.Arrayed.{all-listed, listed-at, stream-within}
-use Rattle.flow_def.specs.Labels.{labelsAfter}
-use Rattle.flow_def.proofs.Grouping.{ends-in, step-said}
-use Rattle.flow_def.proofs.Labels.{step-none, labels-long}
+use Rattle.plant_def.proofs.Arrayed.{stream-within}
+use Rattle.flow_def.proofs.Grouping.{Labelled, labelled-none, labelled-long, labelled-more, labelled-all}
 use Rattle.foreign_def.specs.Test.{withheldOnly}
 use Rattle.foreign_sets.proofs.Carrying as C
 use borrow.Author.Needs.{needs}
@@ -15,82 +11,35 @@ use Rattle.foreign_sets.proofs.labels_by.Statement.{statement}
 use Rattle.foreign_sets.proofs.labels_by.Tie as tie
 
 abbrev Inv-loop : tie.InvT-loop
-Inv-loop p classes n labels₀ j₀ labels j = (j ≤ p .count) × (labels ≡ labelsAfter (withheldOnly (plantOf p)) (plantOf p .streams) j)
+Inv-loop p classes n labels₀ j₀ labels j = Labelled (withheldOnly (plantOf p)) p labels j
 
 abbrev μ-loop : tie.MeasureT-loop
 μ-loop p classes n labels₀ j₀ labels j = n - j
 
-cast-n : tie.Need-cast-n Inv-loop μ-loop
-cast-n c = search needs
-
-own-numbers-requires : tie.Need-own-numbers-requires Inv-loop μ-loop
-own-numbers-requires c κs = search needs
-
 loop-holds : tie.Need-loop-holds Inv-loop μ-loop
-loop-holds c = (omega arith, step-none _ _ _ (c .own-numbers .ensures))
-
-mul-s : tie.Need-mul-s Inv-loop μ-loop
-mul-s c = search needs
-
-element-copy-out-s : tie.Need-element-copy-out-s Inv-loop μ-loop
-element-copy-out-s c = search needs
-
-array-copy-out-class : tie.Need-array-copy-out-class Inv-loop μ-loop
-array-copy-out-class c = search needs
-
-is-withheld-requires : tie.Need-is-withheld-requires Inv-loop μ-loop
-is-withheld-requires c κs = search needs
+loop-holds c = labelled-none _ _ _ (c .own-numbers .ensures)
 
 step-requires : tie.Need-step-requires Inv-loop μ-loop
 step-requires c κs =
     let in-loop = c .before .before .before .before in
     let at-loop = in-loop .before in
     let start = at-loop .before .before in
-    (stream-within (start .args .t1) (start .pre .0) _ (in-loop .loop-test .taken), ap length (at-loop .loop .inv .1) ∙ labels-long _ _ _)
-
-add-j : tie.Need-add-j Inv-loop μ-loop
-add-j c = search needs
-
-loop-less : tie.Need-loop-less Inv-loop μ-loop
-loop-less c = search needs
+    (stream-within (start .args .t1) (start .pre .0) _ (in-loop .loop-test .taken), labelled-long (at-loop .loop .inv))
 
 loop-again : tie.Need-loop-again Inv-loop μ-loop
 loop-again c =
     let in-loop = c .before .before .before .before .before in
     let at-loop = in-loop .before in
     let start = at-loop .before .before in
-    let at = at-loop .loop in
-    let p = start .args .t1 in
-    let taken = in-loop .loop-test .taken in
-    let listed : at .j < length (plantOf p .streams) = rw (all-listed p (start .pre .0)) taken in (
-      omega arith,
-      step-said (withheldOnly (plantOf p)) (plantOf p .streams) (ends-in p (start .pre .0)) (at .j) _ _ _ _ listed (at .inv .1)
-          (listed-at p (start .pre .0) (at .j) taken)
-          (c .before .before .is-withheld .ensures ∙ C.withheld-at p (start .pre .0) (start .args .t2) (start .pre .1) (at .j) taken) (c .step .ensures),
-    )
+    let counts = c .before .before .is-withheld .ensures ∙ C.withheld-at (start .args .t1) (start .pre .0) (start .args .t2) (start .pre .1) _ (in-loop .loop-test .taken) in
+    labelled-more (at-loop .loop .inv) (start .pre .0) (in-loop .loop-test .taken) counts (c .step .ensures)
 
 returns : tie.Need-returns Inv-loop μ-loop
-returns c =
-    let st = c .before .before .before in
-    let at = c .before .loop in
-    let e : at .j ≡ st .args .t1 .count = omega arith in
-    at .inv .1 ∙ ap (labelsAfter _ _) (e ∙ sym (all-listed (st .args .t1) (st .pre .0)))
+returns c = labelled-all (c .before .loop .inv) (c .before .before .before .pre .0) (c .loop-test .left)
 
 pub labels-by-spec : {M : Type 1} → statement M
 labels-by-spec =
     tie.close
-    (tie.spec
-    Inv-loop
-    μ-loop
-    cast-n
-    own-numbers-requires
-    loop-holds
-    mul-s
-    element-copy-out-s
-    array-copy-out-class
-    is-withheld-requires
-    step-requires
-    add-j
-    loop-less
-    loop-again
-    returns)
+    (tie.spec Inv-loop μ-loop (λ c. search needs) (λ c κs. search needs) loop-holds (λ c. search needs)
+    (λ c. search needs) (λ c. search needs) (λ c κs. search needs) step-requires (λ c. search needs) (λ c. search needs)
+    loop-again returns)

@@ -7,12 +7,12 @@ use lib.ListN.{getD, length-replicate}
 use mir.Syntax.{w64}
 use mir.Val.{SFits}
 use mir.ValLaws.{toZ-ofZ}
+use Rattle.num_bytes.proofs.Filled.{blank-at}
 use Rattle.plant_def.specs.Limits.{places, maxUnits}
 use Rattle.plant_def.specs.Plants.{noStream}
 use Rattle.plant_def.specs.Within.{Accepted, WithinStream}
 use Rattle.plant_def.proofs.Arrayed.{stream-within}
 use Rattle.foreign_def.specs.Test.{Roomy}
-use Rattle.foreign_def.proofs.Every.{zeros}
 use Rattle.foreign_sets.proofs.Carrying as C
 use borrow.Author.Needs.{needs}
 use Rattle.foreign_sets.proofs.nets_by.Statement.{statement}
@@ -28,7 +28,7 @@ cast-n : tie.Need-cast-n Inv-loop μ-loop
 cast-n c = search needs
 
 loop-holds : tie.Need-loop-holds Inv-loop μ-loop
-loop-holds c = (refl, omega arith, λ a. C.tallied-none (c .args .t1) a (c .args .t2) (c .args .t3) _ (length-replicate {A = ℤ} places (pos 0)) (λ v l. zeros places v))
+loop-holds c = (refl, omega arith, λ a. C.tallied-none (c .args .t1) a (c .args .t2) (c .args .t3) _ (length-replicate {A = ℤ} places (pos 0)) (λ v l. blank-at (pos 0) places v))
 
 -- The stream is listed.
 listed : (c : tie.In-loop Inv-loop μ-loop) → c .before .loop .i < c .before .before .args .t1 .count

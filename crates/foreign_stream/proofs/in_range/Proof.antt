@@ -20,7 +20,7 @@ has-range-requires : tie.Need-has-range-requires
 has-range-requires c κs = search needs
 
 returns : tie.Need-returns
-returns c = F.unlimited (c .before .before .args .s) (c .before .before .args .x) (sym (c .before .has-range .ensures) ∙ not-true _ (c .if1 .taken)) .0
+returns c = F.unlimited (c .before .before .args .s) (c .before .before .args .x) (sym (c .before .has-range .ensures) ∙ not-true _ (c .if1 .taken))
 
 cast-if2 : tie.Need-cast-if2
 cast-if2 c = F.widens _ (low-fits (c .before .before .before .before))

@@ -1,23 +1,13 @@
 -- Twice the correction and 1, times the weight, fits 64 bits.
-use Rattle.foreign_stream.proofs.Fitting as F
+use lib.IntN.{pos, _+ℤ_}
+use Rattle.num_bytes.proofs.Integers.{plus-size}
+use Rattle.foreign_stream.proofs.Fitting.{Bounded, bounded}
 use borrow.Author.Needs.{needs}
 use Rattle.foreign_stream.proofs.top_of.Statement.{statement}
 use Rattle.foreign_stream.proofs.top_of.Tie as tie
 
-cast-result : tie.Need-cast-result
-cast-result c = search needs
-
-mul-result : tie.Need-mul-result
-mul-result c = F.twice-fits (c .args .weight) (c .args .d) (c .fits .d) (c .pre .0) (c .pre .1)
-
-add-result : tie.Need-add-result
-add-result c = F.more-fits (c .args .weight) (c .args .d) (c .fits .d) (c .pre .0) (c .pre .1)
-
-mul-result-2 : tie.Need-mul-result-2
-mul-result-2 c = F.top-fits (c .args .weight) (c .args .d) (c .fits .d) (c .pre .0) (c .pre .1)
-
-returns : tie.Need-returns
-returns c = F.top-is (c .args .weight) (c .args .d) (c .fits .d) (c .pre .0) (c .pre .1)
+bound : (c : tie.Start) → Bounded (λ y. y +ℤ pos 1) (c .args .weight) (c .args .d)
+bound c = bounded _ (λ y. plus-size y (pos 1)) (c .args .weight) (c .args .d) (c .fits .d) (c .pre .0) (c .pre .1)
 
 pub top-of-spec : {M : Type 1} → statement M
-top-of-spec = tie.close (tie.spec cast-result mul-result add-result mul-result-2 returns)
+top-of-spec = tie.close (tie.spec (λ c. search needs) (λ c. bound c .twice) (λ c. bound c .next) (λ c. bound c .fits) (λ c. bound c .is))

@@ -17,15 +17,6 @@ returns c =
     let start = c .before .before .before in
     (too-short (now (start .args .file)) (now (start .args .text)) (c .if1 .taken), (omega arith, refl))
 
-read-plant-requires : tie.Need-read-plant-requires
-read-plant-requires c κs = search needs
-
-put-refusal-requires : tie.Need-put-refusal-requires
-put-refusal-requires c κs = search needs
-
-same-length : tie.Need-same-length
-same-length c = search needs
-
 returns-2 : tie.Need-returns-2
 returns-2 c =
     let then2 = c .before .before .before .before in
@@ -43,12 +34,6 @@ balance-of-requires c κs =
     let start = after-read-plant .before .before .before .before in
     plant-accepted (now (start .args .file)) (after-read-plant .read-plant .result) (after-read-plant .read-plant .ensures) (c .before .if2 .left)
 
-put-refusal-requires-2 : tie.Need-put-refusal-requires-2
-put-refusal-requires-2 c κs = search needs
-
-same-length-2 : tie.Need-same-length-2
-same-length-2 c = search needs
-
 returns-3 : tie.Need-returns-3
 returns-3 c =
     let then3 = c .before .before .before .before in
@@ -64,9 +49,6 @@ returns-3 c =
     let none = outcome-overfull (plantOf (y .result .plant)) (b .result) (b .ensures) (not-true (b .result .found) (then3 .if3 .taken)) in
     (plant-overfilled (now (a .file)) (now (a .text)) (else1 .if1 .left) _ _ (y .result) (b .result .marked) (y .ensures) (else2 .if2 .left) none (p .ensures), put-counts (p .ensures))
 
-cast-put-listing : tie.Need-cast-put-listing
-cast-put-listing c = search needs
-
 put-listing-requires : tie.Need-put-listing-requires
 put-listing-requires c κs =
     let else3 = c .before .before .before in
@@ -76,9 +58,6 @@ put-listing-requires c κs =
     let start = else1 .before .before .before in
     let y = after-read-plant .read-plant in
     (plant-accepted (now (start .args .file)) (y .result) (y .ensures) (else2 .if2 .left) .within .few-streams, else1 .if1 .left)
-
-same-length-3 : tie.Need-same-length-3
-same-length-3 c = search needs
 
 returns-4 : tie.Need-returns-4
 returns-4 c =
@@ -98,17 +77,6 @@ returns-4 c =
 pub list-plant-spec : {M : Type 1} → statement M
 list-plant-spec =
     tie.close
-    (tie.spec
-    returns
-    read-plant-requires
-    put-refusal-requires
-    same-length
-    returns-2
-    balance-of-requires
-    put-refusal-requires-2
-    same-length-2
-    returns-3
-    cast-put-listing
-    put-listing-requires
-    same-length-3
+    (tie.spec returns (λ c κs. search needs) (λ c κs. search needs) (λ c. search needs) returns-2 balance-of-requires
+    (λ c κs. search needs) (λ c. search needs) returns-3 (λ c. search needs) put-listing-requires (λ c. search needs)
     returns-4)

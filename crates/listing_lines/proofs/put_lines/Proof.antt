@@ -1,15 +1,14 @@
 -- Line by line.
 use borrow.Author.Needs.{needs}
-use native.Mathlib.Omega.{arith}
 use denote.Ref.{now}
 use Prim.Native.Nat.{_-_}
 use lib.ListN.{getD}
 use mir.Syntax.{w64}
 use mir.Val.{SFits}
 use mir.Facts.{toZ-ofZ}
-use Rattle.sheet_def.proofs.Entries.{noEntry}
-use Rattle.num_text.proofs.Behind.{kept-length}
-use Rattle.listing_lines.proofs.Lined.{Lined, no-lines, line-room, one-line, all-lines, lines-most}
+use Rattle.sheet_def.specs.Calls.{noEntry}
+use Rattle.num_text.proofs.Lines.{lines-long, all-lines}
+use Rattle.listing_lines.proofs.Lined.{Lined, no-lines, line-room, one-line, lines-most}
 use Rattle.listing_lines.proofs.put_lines.Statement.{statement}
 use Rattle.listing_lines.proofs.put_lines.Tie as tie
 
@@ -22,15 +21,6 @@ abbrev μ-loop : tie.MeasureT-loop
 loop-holds : tie.Need-loop-holds Inv-loop μ-loop
 loop-holds c = no-lines (c .before .args .t2) (c .before .args .count) (now (c .before .args .out)) (c .before .pre .0) (search needs) (c .before .pre .1)
 
-mul-e : tie.Need-mul-e Inv-loop μ-loop
-mul-e c = search needs
-
-array-copy-out-e : tie.Need-array-copy-out-e Inv-loop μ-loop
-array-copy-out-e c = search needs
-
-add-i : tie.Need-add-i Inv-loop μ-loop
-add-i c = search needs
-
 put-line-requires : tie.Need-put-line-requires Inv-loop μ-loop
 put-line-requires c κs =
     let in-loop = c .before .before .before in
@@ -39,9 +29,6 @@ put-line-requires c κs =
     let l = at-loop .loop in
     let f : SFits w64 (getD (start .args .t2) (l .i) noEntry .flow) = search needs in
     rw (toZ-ofZ f) (line-room (l .inv) (in-loop .loop-test .taken) noEntry f)
-
-loop-less : tie.Need-loop-less Inv-loop μ-loop
-loop-less c = search needs
 
 loop-again : tie.Need-loop-again Inv-loop μ-loop
 loop-again c =
@@ -53,23 +40,13 @@ loop-again c =
     one-line (l .inv) (in-loop .loop-test .taken) noEntry f (rw (toZ-ofZ f) at (c .before .before .put-line .ensures))
 
 same-length : tie.Need-same-length Inv-loop μ-loop
-same-length c = kept-length (c .before .loop .inv .so-far)
+same-length c = lines-long (c .before .loop .inv .lines)
 
 returns : tie.Need-returns Inv-loop μ-loop
-returns c = let w = c .before .loop .inv in (all-lines w (c .loop-test .left), lines-most w)
+returns c = let w = c .before .loop .inv in (all-lines (w .lines) (c .loop-test .left), lines-most w)
 
 pub put-lines-spec : {M : Type 1} → statement M
 put-lines-spec =
     tie.close
-    (tie.spec
-    Inv-loop
-    μ-loop
-    loop-holds
-    mul-e
-    array-copy-out-e
-    add-i
-    put-line-requires
-    loop-less
-    loop-again
-    same-length
-    returns)
+    (tie.spec Inv-loop μ-loop loop-holds (λ c. search needs) (λ c. search needs) (λ c. search needs) put-line-requires
+    (λ c. search needs) loop-again same-length returns)

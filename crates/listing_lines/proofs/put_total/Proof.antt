@@ -1,84 +1,62 @@
 -- The word, then field by field.
 use borrow.Author.Needs.{needs}
 use native.Mathlib.Omega.{arith}
+use mathlib.Core.Path.{_≡_}
+use Prim.Native.Nat.{_+_}
+use lib.ListN.{length}
+use Rattle.num_text.specs.Numerals.{field}
 use Rattle.num_text.proofs.Behind.{behind}
+use Rattle.listing_lines.specs.Listing.{totalLine, wordOf}
 use Rattle.listing_lines.proofs.Sizes.{total-size}
 use Rattle.listing_lines.proofs.put_total.Statement.{statement}
 use Rattle.listing_lines.proofs.put_total.Tie as tie
 
-slice-aggregate-put-text : tie.Need-slice-aggregate-put-text
-slice-aggregate-put-text c = search needs
+-- The arguments, and how long the line is; then where the word and each field end.
+abbrev begun : tie.After-put-text → tie.Start
+begun c = c .before .before .before .before
 
-put-text-requires : tie.Need-put-text-requires
-put-text-requires c κs = search needs
+long : (c : tie.After-put-text) → let a = begun c .args in length (totalLine (a .number) (a .cost) (a .degrees) (a .verdict))
+    ≡ 6 + length (field (a .number)) + length (field (a .cost)) + length (field (a .degrees)) + length (wordOf (a .verdict)) + 1
+long c = let a = begun c .args in total-size (a .number) (a .cost) (a .degrees) (a .verdict)
+
+abbrev said : tie.After-put-field → tie.After-put-text
+said c = c .before .before .before .before
+
+numbered : (c : tie.After-put-field) → c .put-field .result ≡ begun (said c) .args .at + 6 + length (field (begun (said c) .args .number))
+numbered c = omega (arith, said c .put-text .ensures .place, c .put-field .ensures .place)
+
+abbrev counted : tie.After-put-field2 → tie.After-put-field
+counted c = c .before .before .before .before
+
+costed : (c : tie.After-put-field2) → c .put-field2 .result ≡ counted c .put-field .result + length (field (begun (said (counted c)) .args .cost))
+costed c = c .put-field2 .ensures .place
+
+abbrev paid : tie.After-put-field3 → tie.After-put-field2
+paid c = c .before .before .before .before
+
+freed : (c : tie.After-put-field3) → c .put-field3 .result ≡ paid c .put-field2 .result + length (field (begun (said (counted (paid c))) .args .degrees))
+freed c = c .put-field3 .ensures .place
 
 put-field-requires : tie.Need-put-field-requires
-put-field-requires c κs =
-    let after-put-text = c .before .before .before in
-    let start = after-put-text .before .before .before .before in
-    let a = start .args in
-    let s = total-size (a .number) (a .cost) (a .degrees) (a .verdict) in
-    let p0 = after-put-text .put-text .ensures .place in
-    omega arith
+put-field-requires c κs = let t = c .before .before .before in omega (arith, long t, t .put-text .ensures .place)
 
 put-field-requires-2 : tie.Need-put-field-requires-2
-put-field-requires-2 c κs =
-    let after-put-field = c .before .before .before in
-    let after-put-text = after-put-field .before .before .before .before in
-    let start = after-put-text .before .before .before .before in
-    let a = start .args in
-    let s = total-size (a .number) (a .cost) (a .degrees) (a .verdict) in
-    let p0 = after-put-text .put-text .ensures .place in
-    let p1 = after-put-field .put-field .ensures .place in
-    omega arith
+put-field-requires-2 c κs = let n = c .before .before .before in omega (arith, long (said n), numbered n)
 
 put-field-requires-3 : tie.Need-put-field-requires-3
-put-field-requires-3 c κs =
-    let after-put-field2 = c .before .before .before in
-    let after-put-field = after-put-field2 .before .before .before .before in
-    let after-put-text = after-put-field .before .before .before .before in
-    let start = after-put-text .before .before .before .before in
-    let a = start .args in
-    let s = total-size (a .number) (a .cost) (a .degrees) (a .verdict) in
-    let p0 = after-put-text .put-text .ensures .place in
-    let p1 = after-put-field .put-field .ensures .place in
-    let p2 = after-put-field2 .put-field2 .ensures .place in
-    omega arith
+put-field-requires-3 c κs = let m = c .before .before .before in omega (arith, long (said (counted m)), numbered (counted m), costed m)
 
 put-word-requires : tie.Need-put-word-requires
-put-word-requires c κs =
-    let after-put-field3 = c .before .before .before in
-    let after-put-field2 = after-put-field3 .before .before .before .before in
-    let after-put-field = after-put-field2 .before .before .before .before in
-    let after-put-text = after-put-field .before .before .before .before in
-    let start = after-put-text .before .before .before .before in
-    let a = start .args in
-    let s = total-size (a .number) (a .cost) (a .degrees) (a .verdict) in
-    let p0 = after-put-text .put-text .ensures .place in
-    let p1 = after-put-field .put-field .ensures .place in
-    let p2 = after-put-field2 .put-field2 .ensures .place in
-    let p3 = after-put-field3 .put-field3 .ensures .place in
-    omega arith
+put-word-requires c κs = let d = c .before .before .before in omega (arith, long (said (counted (paid d))), numbered (counted (paid d)), costed (paid d), freed d)
 
 put-byte-requires : tie.Need-put-byte-requires
 put-byte-requires c κs =
-    let after-put-word = c .before .before .before in
-    let after-put-field3 = after-put-word .before .before .before .before in
-    let after-put-field2 = after-put-field3 .before .before .before .before in
-    let after-put-field = after-put-field2 .before .before .before .before in
-    let after-put-text = after-put-field .before .before .before .before in
-    let start = after-put-text .before .before .before .before in
-    let a = start .args in
-    let s = total-size (a .number) (a .cost) (a .degrees) (a .verdict) in
-    let p0 = after-put-text .put-text .ensures .place in
-    let p1 = after-put-field .put-field .ensures .place in
-    let p2 = after-put-field2 .put-field2 .ensures .place in
-    let p3 = after-put-field3 .put-field3 .ensures .place in
-    let p4 = after-put-word .put-word .ensures .place in
-    omega arith
-
-same-length : tie.Need-same-length
-same-length c = search needs
+    let w = c .before .before .before in
+    let d = w .before .before .before .before in
+    let m = paid d in
+    let n = counted m in
+    let start = begun (said n) in
+    omega (arith, long (said n), numbered n, costed m, freed d, w .put-word .ensures .place)
 
 returns : tie.Need-returns
 returns c =
@@ -96,13 +74,5 @@ returns c =
 pub put-total-spec : {M : Type 1} → statement M
 put-total-spec =
     tie.close
-    (tie.spec
-    slice-aggregate-put-text
-    put-text-requires
-    put-field-requires
-    put-field-requires-2
-    put-field-requires-3
-    put-word-requires
-    put-byte-requires
-    same-length
-    returns)
+    (tie.spec (λ c. search needs) (λ c κs. search needs) put-field-requires put-field-requires-2 put-field-requires-3
+    put-word-requires put-byte-requires (λ c. search needs) returns)

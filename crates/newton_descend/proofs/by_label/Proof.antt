@@ -5,7 +5,7 @@ use native.Mathlib.Omega.{arith}
 use lib.ListN.{getD}
 use borrow.Author.Needs.{needs}
 use Rattle.plant_def.specs.Limits.{places}
-use Rattle.flow_def.proofs.Lists.{Written, written-none, written-put}
+use Rattle.num_bytes.proofs.Lists.{Written, written-none, written-put}
 use Rattle.newton_descend.proofs.Levels.{labels-all}
 use Rattle.newton_descend.proofs.by_label.Statement.{statement}
 use Rattle.newton_descend.proofs.by_label.Tie as tie
@@ -19,29 +19,11 @@ abbrev μ-loop : tie.MeasureT-loop
 loop-holds : tie.Need-loop-holds Inv-loop μ-loop
 loop-holds c = (omega arith, written-none (omega arith))
 
-array-read-g : tie.Need-array-read-g Inv-loop μ-loop
-array-read-g c = search needs
-
-cast-g : tie.Need-cast-g Inv-loop μ-loop
-cast-g c = search needs
-
 mul-r : tie.Need-mul-r Inv-loop μ-loop
 mul-r c = let h = c .before .before .pre .within (c .before .loop .u) (omega arith) in search needs
 
 array-read-r : tie.Need-array-read-r Inv-loop μ-loop
 array-read-r c = omega (arith, c .before .before .pre .within (c .before .loop .u) (omega arith))
-
-mul-r-2 : tie.Need-mul-r-2 Inv-loop μ-loop
-mul-r-2 c = search needs
-
-array-write-r : tie.Need-array-write-r Inv-loop μ-loop
-array-write-r c = search needs
-
-add-u : tie.Need-add-u Inv-loop μ-loop
-add-u c = search needs
-
-loop-less : tie.Need-loop-less Inv-loop μ-loop
-loop-less c = search needs
 
 loop-again : tie.Need-loop-again Inv-loop μ-loop
 loop-again c = (omega arith, written-put (c .before .loop .inv .1) (omega arith) _ refl)
@@ -54,17 +36,5 @@ returns c =
 pub by-label-spec : {M : Type 1} → statement M
 by-label-spec =
     tie.close
-    (tie.spec
-    Inv-loop
-    μ-loop
-    loop-holds
-    array-read-g
-    cast-g
-    mul-r
-    array-read-r
-    mul-r-2
-    array-write-r
-    add-u
-    loop-less
-    loop-again
-    returns)
+    (tie.spec Inv-loop μ-loop loop-holds (λ c. search needs) (λ c. search needs) mul-r array-read-r (λ c. search needs)
+    (λ c. search needs) (λ c. search needs) (λ c. search needs) loop-again returns)

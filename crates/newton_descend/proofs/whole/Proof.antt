@@ -1,8 +1,7 @@
 -- `newton_descend::whole` meets its contract: the cast is made within its range.
-use mathlib.Core.Path.{_≡_, sym, subst, _∙_}
+use mathlib.Core.Path.{sym, subst}
 use lib.Dec.{T}
 use lib.Ieee.{ofBits, neg}
-use borrow.Author.Needs.{needs}
 use Rattle.newton_descend.proofs.whole.Statement.{statement}
 use Rattle.newton_descend.proofs.whole.Tie as tie
 

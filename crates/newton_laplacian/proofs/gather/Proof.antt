@@ -1,5 +1,4 @@
 -- `newton_laplacian::gather` meets its contract: no more streams are gathered than were passed, and their groups are among the places.
-use mathlib.Core.Path.{_≡_}
 use Prim.Native.Nat.{_≤_, _<_, _-_}
 use native.Mathlib.Omega.{arith}
 use borrow.Author.Needs.{needs}

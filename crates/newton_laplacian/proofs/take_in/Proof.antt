@@ -1,5 +1,4 @@
 -- `newton_laplacian::take_in` meets its contract: both groups are among the places.
-use mathlib.Core.Path.{_∙_}
 use native.Mathlib.Omega.{arith}
 use lib.ListN.{length-set}
 use borrow.Author.Needs.{needs}

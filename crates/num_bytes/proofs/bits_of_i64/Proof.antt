@@ -1,39 +1,19 @@
 -- At or above zero the number itself; below it, what is left of all bits.
 use native.Mathlib.Omega.{arith}
-use mathlib.Core.Path.{_≡_, ap, sym, _∙_}
 use mir.Syntax.{w64}
-use mir.Val.{toZ, ofZ, hbits}
-use mir.Facts.{toZ-pos}
-use lib.IntN.{ℤ, pos, negsuc, natAbs, _-ℤ_}
-use Prim.Native.Nat.{ℕ, _-_, _<_, _^_}
-use Rattle.num_bytes.specs.Bytes.{raw}
-use Rattle.num_bytes.proofs.Complement.{at-zero, under-zero}
+use mathlib.Core.Path.{refl}
+use Rattle.num_bytes.proofs.Complement.{Upright, Inverted, upright, inverted}
 use Rattle.num_bytes.proofs.bits_of_i64.Statement.{statement}
 use Rattle.num_bytes.proofs.bits_of_i64.Tie as tie
 
--- The number below zero.
-below : (c : tie.Else1) → (k : ℕ) × (c .before .args .z ≡ negsuc k) × (k < 2 ^ hbits w64) × (negsuc 0 -ℤ toZ w64 (ofZ w64 (c .before .args .z)) ≡ pos k)
-below c = under-zero w64 (c .before .args .z) (c .before .fits .z) (c .if1 .left)
+above : (c : tie.Then1) → Upright w64 (c .before .args .z)
+above c = upright w64 refl (c .before .args .z) (c .before .fits .z) (c .if1 .taken)
 
-cast-result : tie.Need-cast-result
-cast-result c = let b = at-zero w64 (c .before .args .z) (c .before .fits .z) (c .if1 .taken) in rw (b .3) (tt, omega arith)
-
-returns : tie.Need-returns
-returns c = let b = at-zero w64 (c .before .args .z) (c .before .fits .z) (c .if1 .taken) in ap natAbs (b .3) ∙ sym (ap (raw 8) (b .1))
-
-sub-below : tie.Need-sub-below
-sub-below c = let b = below c in rw (b .3) (record { sfits = b .2 })
-
-cast-below : tie.Need-cast-below
-cast-below c = let b = below c in rw (b .3, toZ-pos w64 (b .2)) (tt, omega arith)
-
-sub-result : tie.Need-sub-result
-sub-result c = let b = below c in rw (b .3, toZ-pos w64 (b .2)) (omega arith)
-
-returns-2 : tie.Need-returns-2
-returns-2 c = let b = below c in
-    let e : 18446744073709551615 - natAbs (toZ w64 (b .0)) ≡ raw 8 (negsuc (b .0)) = rw (toZ-pos w64 (b .2)) (omega arith) in
-    ap (λ (y : ℤ). 18446744073709551615 - natAbs (toZ w64 (ofZ w64 y))) (b .3) ∙ e ∙ sym (ap (raw 8) (b .1))
+below : (c : tie.Else1) → Inverted w64 (c .before .args .z)
+below c = inverted w64 refl (c .before .args .z) (c .before .fits .z) (c .if1 .left)
 
 pub bits-of-i64-spec : {M : Type 1} → statement M
-bits-of-i64-spec = tie.close (tie.spec cast-result returns sub-below cast-below sub-result returns-2)
+bits-of-i64-spec =
+    tie.close
+    (tie.spec (λ c. above c .cast) (λ c. above c .bits 8) (λ c. below c .fits) (λ c. below c .cast) (λ c. omega (arith, below c .small))
+    (λ c. below c .bits 8 18446744073709551615 refl))

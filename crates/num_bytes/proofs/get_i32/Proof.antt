@@ -9,20 +9,8 @@ use Rattle.num_bytes.proofs.Complement.{word-signed, high-fits, high-is
 use Rattle.num_bytes.proofs.get_i32.Statement.{statement}
 use Rattle.num_bytes.proofs.get_i32.Tie as tie
 
-get-u32-requires : tie.Need-get-u32-requires
-get-u32-requires c κs = search needs
-
-cast-result : tie.Need-cast-result
-cast-result c = search needs
-
 returns : tie.Need-returns
 returns c = word-signed w32 4 refl refl (c .before .get-u32 .result) ∙ ap (signed 4) (c .before .get-u32 .ensures)
-
-sub-below : tie.Need-sub-below
-sub-below c = search needs
-
-cast-below : tie.Need-cast-below
-cast-below c = search needs
 
 sub-result : tie.Need-sub-result
 sub-result c = let v = c .before .get-u32 .result in high-fits w32 4 refl refl v (4294967295 - v) (omega arith) (omega arith)
@@ -34,4 +22,5 @@ returns-2 c = let v = c .before .get-u32 .result in
 pub get-i32-spec : {M : Type 1} → statement M
 get-i32-spec =
     tie.close
-    (tie.spec get-u32-requires cast-result returns sub-below cast-below sub-result returns-2)
+    (tie.spec (λ c κs. search needs) (λ c. search needs) returns (λ c. search needs) (λ c. search needs) sub-result
+    returns-2)

@@ -25,9 +25,9 @@ add-result : tie.Need-add-result
 add-result c = search needs
 
 returns : tie.Need-returns
-returns c = let s = now (c .before .before .before .before .before .args .s) in
-    let h = c .before .before .before .before .before .pre in
-    omega (arith, be-split 1 1 s h, be-byte 0 s (omega arith), be-byte 1 s (omega arith), c .before .before .wide .ensures .0, c .wide2 .ensures .0)
+returns c = let start = c .before .before .before .before .before in
+    let s = now (start .args .s) in
+    omega (arith, be-split 1 1 s (start .pre), be-byte 0 s (omega arith), be-byte 1 s (omega arith), c .before .before .wide .ensures .0, c .wide2 .ensures .0)
 
 pub get-u16-spec : {M : Type 1} → statement M
 get-u16-spec =

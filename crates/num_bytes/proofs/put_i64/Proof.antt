@@ -8,15 +8,6 @@ use Rattle.num_bytes.specs.Bytes.{putBe, raw, over}
 use Rattle.num_bytes.proofs.put_i64.Statement.{statement}
 use Rattle.num_bytes.proofs.put_i64.Tie as tie
 
-bits-of-i64-requires : tie.Need-bits-of-i64-requires
-bits-of-i64-requires c κs = search needs
-
-put-u64-requires : tie.Need-put-u64-requires
-put-u64-requires c κs = search needs
-
-same-length : tie.Need-same-length
-same-length c = search needs
-
 returns : tie.Need-returns
 returns c =
     let after-bits-of-i64 = c .before .before .before .before in
@@ -25,4 +16,4 @@ returns c =
     c .before .before .put-u64 .ensures ∙ ap (λ (v : ℕ). over (putBe 8 v) o) (after-bits-of-i64 .bits-of-i64 .ensures ∙ ap (raw 8) (toZ-ofZ (start .fits .z)))
 
 pub put-i64-spec : {M : Type 1} → statement M
-put-i64-spec = tie.close (tie.spec bits-of-i64-requires put-u64-requires same-length returns)
+put-i64-spec = tie.close (tie.spec (λ c κs. search needs) (λ c κs. search needs) (λ c. search needs) returns)

@@ -1,10 +1,7 @@
 -- The measure is the number: its tenth is less.
 use borrow.Author.Needs.{needs}
-use denote.Ref.{now}
 use native.Mathlib.Omega.{arith}
-use mathlib.Core.List.{[], _∷_}
-use Prim.Native.Nat.{_/_}
-use lib.ListN.{length, length-append}
+use lib.ListN.{length}
 use Rattle.num_text.specs.Numerals.{decimal}
 use Rattle.num_text.proofs.Behind.{behind, kept-length}
 use Rattle.num_text.proofs.Decimals.{decimal-one, decimal-more, more-size}
@@ -51,7 +48,7 @@ put-decimal-put-byte-requires : (t : ℕ) → put-decimal-lts.Need-put-byte-requ
   put-decimal-below t,
   put-decimal.Post,
 ) (put-decimal-at t) put-decimal.Post
-put-decimal-put-byte-requires t c κs = rw (decimal-one (c .before .before .before .args .n) (c .before .if1 .taken)) at (c .before .before .before .pre .1)
+put-decimal-put-byte-requires t c κs = let start = c .before .before .before in rw (decimal-one (start .args .n) (c .before .if1 .taken)) at (start .pre .1)
 
 put-decimal-same-length : (t : ℕ) → put-decimal-lts.Need-same-length (
   put-byte-reads.Asked,

@@ -3,7 +3,6 @@ use borrow.Author.Needs.{needs}
 use native.Mathlib.Omega.{arith}
 use mathlib.Core.Path.{_≡_, ap}
 use mathlib.Core.List.{_++_}
-use Prim.Native.Nat.{ℕ}
 use lib.ListN.{length}
 use Rattle.num_text.specs.Numerals.{text, decimal, signedDecimal}
 use Rattle.num_text.proofs.Behind.{behind}
@@ -13,11 +12,13 @@ use Rattle.num_text.proofs.put_signed.Tie as tie
 
 -- At or above zero.
 at : (c : tie.Then1) → signedDecimal (c .before .before .before .args .z) ≡ decimal (c .before .size-of .result)
-at c = signed-at (c .before .before .before .args .z) (c .before .size-of .result) (c .before .before .before .fits .z) (c .before .size-of .ensures) (c .if1 .taken)
+at c = let start = c .before .before .before in
+    signed-at (start .args .z) (c .before .size-of .result) (start .fits .z) (c .before .size-of .ensures) (c .if1 .taken)
 
 -- Below it.
 under : (c : tie.Else1) → signedDecimal (c .before .before .before .args .z) ≡ text "-" ++ decimal (c .before .size-of .result)
-under c = signed-under (c .before .before .before .args .z) (c .before .size-of .result) (c .before .before .before .fits .z) (c .before .size-of .ensures) (c .if1 .left)
+under c = let start = c .before .before .before in
+    signed-under (start .args .z) (c .before .size-of .result) (start .fits .z) (c .before .size-of .ensures) (c .if1 .left)
 
 size-of-requires : tie.Need-size-of-requires
 size-of-requires c κs = search needs

@@ -8,9 +8,6 @@ use Rattle.plant_def.proofs.Records.{whole, body-refused, body-read}
 use Rattle.plant_read.proofs.read_metered.Statement.{statement}
 use Rattle.plant_read.proofs.read_metered.Tie as tie
 
-body-fault-requires : tie.Need-body-fault-requires
-body-fault-requires c κs = search needs
-
 returns : tie.Need-returns
 returns c = let a = c .before .before .before .args in
     body-refused meteredBody (meteredIn (now (a .b))) (a .units) (a .count) (now (a .b)) _ (c .before .body-fault .ensures) (c .if1 .taken)
@@ -19,12 +16,6 @@ metered-in-requires : tie.Need-metered-in-requires
 metered-in-requires c κs =
     let start = c .before .before .before in
     whole meteredBody (start .args .count) (now (start .args .b)) (sym (c .before .body-fault .ensures) ∙ c .if1 .left)
-
-add-checked-stream : tie.Need-add-checked-stream
-add-checked-stream c = search needs
-
-checked-stream-requires : tie.Need-checked-stream-requires
-checked-stream-requires c κs = search needs
 
 returns-2 : tie.Need-returns-2
 returns-2 c =
@@ -37,10 +28,4 @@ returns-2 c =
 pub read-metered-spec : {M : Type 1} → statement M
 read-metered-spec =
     tie.close
-    (tie.spec
-    body-fault-requires
-    returns
-    metered-in-requires
-    add-checked-stream
-    checked-stream-requires
-    returns-2)
+    (tie.spec (λ c κs. search needs) returns metered-in-requires (λ c. search needs) (λ c κs. search needs) returns-2)

@@ -8,9 +8,6 @@ use Rattle.plant_def.proofs.Records.{whole, body-refused, body-read}
 use Rattle.plant_read.proofs.read_ranged.Statement.{statement}
 use Rattle.plant_read.proofs.read_ranged.Tie as tie
 
-body-fault-requires : tie.Need-body-fault-requires
-body-fault-requires c κs = search needs
-
 returns : tie.Need-returns
 returns c = let a = c .before .before .before .args in
     body-refused rangedBody (rangedIn (now (a .b))) (a .units) (a .count) (now (a .b)) _ (c .before .body-fault .ensures) (c .if1 .taken)
@@ -19,12 +16,6 @@ ranged-in-requires : tie.Need-ranged-in-requires
 ranged-in-requires c κs =
     let start = c .before .before .before in
     whole rangedBody (start .args .count) (now (start .args .b)) (sym (c .before .body-fault .ensures) ∙ c .if1 .left)
-
-add-checked-stream : tie.Need-add-checked-stream
-add-checked-stream c = search needs
-
-checked-stream-requires : tie.Need-checked-stream-requires
-checked-stream-requires c κs = search needs
 
 returns-2 : tie.Need-returns-2
 returns-2 c =
@@ -37,10 +28,4 @@ returns-2 c =
 pub read-ranged-spec : {M : Type 1} → statement M
 read-ranged-spec =
     tie.close
-    (tie.spec
-    body-fault-requires
-    returns
-    ranged-in-requires
-    add-checked-stream
-    checked-stream-requires
-    returns-2)
+    (tie.spec (λ c κs. search needs) returns ranged-in-requires (λ c. search needs) (λ c κs. search needs) returns-2)

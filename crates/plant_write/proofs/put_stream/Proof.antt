@@ -6,30 +6,12 @@ use Rattle.plant_def.proofs.Records.{metered-bytes, ranged-bytes, unmetered-byt
 use Rattle.plant_write.proofs.put_stream.Statement.{statement}
 use Rattle.plant_write.proofs.put_stream.Tie as tie
 
-put-ends-requires : tie.Need-put-ends-requires
-put-ends-requires c κs = search needs
-
-add-result : tie.Need-add-result
-add-result c = search needs
-
-same-length : tie.Need-same-length
-same-length c = search needs
-
 returns : tie.Need-returns
 returns c =
     let then1 = c .before .before .before .before in
     let start = then1 .before .before in
     let s = start .args .s in
     put-as (unmetered-bytes s (not-true (s .metered) (then1 .if1 .taken))) (c .before .before .put-ends .ensures)
-
-put-ranged-requires : tie.Need-put-ranged-requires
-put-ranged-requires c κs = search needs
-
-add-result-2 : tie.Need-add-result-2
-add-result-2 c = search needs
-
-same-length-2 : tie.Need-same-length-2
-same-length-2 c = search needs
 
 returns-2 : tie.Need-returns-2
 returns-2 c =
@@ -38,15 +20,6 @@ returns-2 c =
     let start = else1 .before .before in
     let s = start .args .s in
     put-as (ranged-bytes s (not-false (s .metered) (else1 .if1 .left)) (then2 .if2 .taken)) (c .before .before .put-ranged .ensures)
-
-put-meter-requires : tie.Need-put-meter-requires
-put-meter-requires c κs = search needs
-
-add-result-3 : tie.Need-add-result-3
-add-result-3 c = search needs
-
-same-length-3 : tie.Need-same-length-3
-same-length-3 c = search needs
 
 returns-3 : tie.Need-returns-3
 returns-3 c =
@@ -59,16 +32,6 @@ returns-3 c =
 pub put-stream-spec : {M : Type 1} → statement M
 put-stream-spec =
     tie.close
-    (tie.spec
-    put-ends-requires
-    add-result
-    same-length
-    returns
-    put-ranged-requires
-    add-result-2
-    same-length-2
-    returns-2
-    put-meter-requires
-    add-result-3
-    same-length-3
+    (tie.spec (λ c κs. search needs) (λ c. search needs) (λ c. search needs) returns (λ c κs. search needs)
+    (λ c. search needs) (λ c. search needs) returns-2 (λ c κs. search needs) (λ c. search needs) (λ c. search needs)
     returns-3)

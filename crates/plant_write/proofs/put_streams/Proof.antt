@@ -42,20 +42,11 @@ written c =
 loop-holds : tie.Need-loop-holds Inv-loop μ-loop
 loop-holds c = (search needs, c .before .pre .0, no-streams (c .before .args .t2) (c .before .args .count) (now (c .before .args .out)) (omega (arith, c .before .pre .0, c .before .pre .1)))
 
-mul-s : tie.Need-mul-s Inv-loop μ-loop
-mul-s c = search needs
-
-array-copy-out-s : tie.Need-array-copy-out-s Inv-loop μ-loop
-array-copy-out-s c = search needs
-
 sub-put-stream : tie.Need-sub-put-stream Inv-loop μ-loop
 sub-put-stream c = rows-lend (c .before .before .loop .inv .2)
 
 part-put-stream-start : tie.Need-part-put-stream-start Inv-loop μ-loop
 part-put-stream-start c = rows-lend (c .before .before .loop .inv .2)
-
-part-put-stream-end : tie.Need-part-put-stream-end Inv-loop μ-loop
-part-put-stream-end c = search needs
 
 put-stream-requires : tie.Need-put-stream-requires Inv-loop μ-loop
 put-stream-requires c κs = rows-room (c .before .before .before .loop .inv .2) (c .before .before .loop-test .taken)
@@ -65,12 +56,6 @@ add-at c =
     let after-s = c .before .before .before .before in
     let start = after-s .before .before .before .before in
     omega (arith, rows-lend (written c), rows-long (written c), start .good)
-
-add-i : tie.Need-add-i Inv-loop μ-loop
-add-i c = search needs
-
-loop-less : tie.Need-loop-less Inv-loop μ-loop
-loop-less c = search needs
 
 loop-again : tie.Need-loop-again Inv-loop μ-loop
 loop-again c =
@@ -86,19 +71,6 @@ returns c = all-rows (c .before .loop .inv .2) (c .loop-test .left)
 pub put-streams-spec : {M : Type 1} → statement M
 put-streams-spec =
     tie.close
-    (tie.spec
-    Inv-loop
-    μ-loop
-    loop-holds
-    mul-s
-    array-copy-out-s
-    sub-put-stream
-    part-put-stream-start
-    part-put-stream-end
-    put-stream-requires
-    add-at
-    add-i
-    loop-less
-    loop-again
-    same-length
+    (tie.spec Inv-loop μ-loop loop-holds (λ c. search needs) (λ c. search needs) sub-put-stream part-put-stream-start
+    (λ c. search needs) put-stream-requires add-at (λ c. search needs) (λ c. search needs) loop-again same-length
     returns)

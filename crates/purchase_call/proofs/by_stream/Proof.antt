@@ -7,7 +7,7 @@ use denote.Ref.{now}
 use lib.ListN.{getD, replicate, length-replicate}
 use Rattle.plant_def.specs.Limits.{maxStreams}
 use Rattle.plant_def.specs.Says.{plantOf}
-use Rattle.flow_def.proofs.Lists.{Written, written-none, written-put}
+use Rattle.num_bytes.proofs.Lists.{Written, written-none, written-put}
 use Rattle.purchase_def.specs.Purchases.{unmeteredTo, priceIn}
 use Rattle.purchase_call.proofs.Prices.{unmetered-few, unmetered-next}
 use Rattle.purchase_call.proofs.by_stream.Statement.{statement}

@@ -15,29 +15,14 @@ Inv-loop p n k₀ i₀ k i = (i ≤ p .count) × (k ≡ unmeteredTo (plantOf p .
 abbrev μ-loop : tie.MeasureT-loop
 μ-loop p n k₀ i₀ k i = n - i
 
-cast-n : tie.Need-cast-n Inv-loop μ-loop
-cast-n c = search needs
-
 loop-holds : tie.Need-loop-holds Inv-loop μ-loop
 loop-holds c = (omega arith, refl)
-
-mul-s : tie.Need-mul-s Inv-loop μ-loop
-mul-s c = search needs
-
-element-copy-out-s : tie.Need-element-copy-out-s Inv-loop μ-loop
-element-copy-out-s c = search needs
 
 more-requires : tie.Need-more-requires Inv-loop μ-loop
 more-requires c κs =
     let at = c .before .before .loop in
     let st = c .before .before .before in
     omega (arith, at .inv .1, unmetered-few (plantOf (st .args .t1) .streams) (at .i), c .before .loop-test .taken, st .pre .within .few-streams)
-
-add-i : tie.Need-add-i Inv-loop μ-loop
-add-i c = search needs
-
-loop-less : tie.Need-loop-less Inv-loop μ-loop
-loop-less c = search needs
 
 loop-again : tie.Need-loop-again Inv-loop μ-loop
 loop-again c =
@@ -55,15 +40,5 @@ returns c =
 pub unmetered-in-spec : {M : Type 1} → statement M
 unmetered-in-spec =
     tie.close
-    (tie.spec
-    Inv-loop
-    μ-loop
-    cast-n
-    loop-holds
-    mul-s
-    element-copy-out-s
-    more-requires
-    add-i
-    loop-less
-    loop-again
-    returns)
+    (tie.spec Inv-loop μ-loop (λ c. search needs) loop-holds (λ c. search needs) (λ c. search needs) more-requires
+    (λ c. search needs) (λ c. search needs) loop-again returns)

@@ -3,18 +3,9 @@ use borrow.Author.Needs.{needs}
 use denote.Ref.{now}
 use Rattle.plant_def.specs.Files.{readPlant}
 use Rattle.ranged_def.specs.Moves.{fromRanged}
-use Rattle.ranged_def.proofs.Kept.{from-good}
+use Rattle.ranged_def.proofs.Faultless.{from-good}
 use Rattle.ranged_call.proofs.from_ranged.Statement.{statement}
 use Rattle.ranged_call.proofs.from_ranged.Tie as tie
-
-read-home-requires : tie.Need-read-home-requires
-read-home-requires c κs = search needs
-
-write-read-requires : tie.Need-write-read-requires
-write-read-requires c κs = search needs
-
-same-length : tie.Need-same-length
-same-length c = search needs
 
 returns : tie.Need-returns
 returns c =
@@ -24,4 +15,4 @@ returns c =
     c .before .before .write-read .ensures (fromRanged (readPlant file)) (from-good file) (after-read-home .read-home .ensures)
 
 pub from-ranged-spec : {M : Type 1} → statement M
-from-ranged-spec = tie.close (tie.spec read-home-requires write-read-requires same-length returns)
+from-ranged-spec = tie.close (tie.spec (λ c κs. search needs) (λ c κs. search needs) (λ c. search needs) returns)

@@ -12,19 +12,10 @@ use Rattle.ranged_call.proofs.read_forward.Tie as tie
 read-in : (c : tie.After-read-plant) → c .read-plant .result ≡ readOf (readPlant (now (c .before .before .args .file)))
 read-in c = c .read-plant .ensures
 
-read-plant-requires : tie.Need-read-plant-requires
-read-plant-requires c κs = search needs
-
-refusal-requires : tie.Need-refusal-requires
-refusal-requires c κs = search needs
-
 returns : tie.Need-returns
 returns c =
     let read = c .before .before .read-plant in
     forward-bad (now (c .before .before .before .before .args .file)) (read .result) (read-in (c .before .before)) (c .before .if1 .taken) (c .refusal .result) (c .refusal .ensures)
-
-move-all-requires : tie.Need-move-all-requires
-move-all-requires c κs = search needs
 
 returns-2 : tie.Need-returns-2
 returns-2 c =
@@ -35,4 +26,4 @@ returns-2 c =
     forward-good (now (start .args .file)) (read .result) (read-in after-read-plant) (else1 .if1 .left) (c .move-all .result) (c .move-all .ensures)
 
 pub read-forward-spec : {M : Type 1} → statement M
-read-forward-spec = tie.close (tie.spec read-plant-requires refusal-requires returns move-all-requires returns-2)
+read-forward-spec = tie.close (tie.spec (λ c κs. search needs) (λ c κs. search needs) returns (λ c κs. search needs) returns-2)

@@ -12,22 +12,10 @@ use Rattle.ranged_call.proofs.read_home.Tie as tie
 read-in : (c : tie.After-read-plant) → c .read-plant .result ≡ readOf (readPlant (now (c .before .before .args .file)))
 read-in c = c .read-plant .ensures
 
-read-plant-requires : tie.Need-read-plant-requires
-read-plant-requires c κs = search needs
-
-refusal-requires : tie.Need-refusal-requires
-refusal-requires c κs = search needs
-
 returns : tie.Need-returns
 returns c =
     let read = c .before .before .read-plant in
     home-bad (now (c .before .before .before .before .args .file)) (read .result) (read-in (c .before .before)) (c .before .if1 .taken) (c .refusal .result) (c .refusal .ensures)
-
-narrow-fault-requires : tie.Need-narrow-fault-requires
-narrow-fault-requires c κs = search needs
-
-refusal-requires-2 : tie.Need-refusal-requires-2
-refusal-requires-2 c κs = search needs
 
 returns-2 : tie.Need-returns-2
 returns-2 c =
@@ -38,9 +26,6 @@ returns-2 c =
     let read = after-read-plant .read-plant in
     home-narrow (now (start .args .file)) (read .result) (read-in after-read-plant) (else1 .if1 .left)
     (narrow .result) (narrow .ensures) (c .before .if2 .taken) (c .refusal2 .result) (c .refusal2 .ensures)
-
-move-all-requires : tie.Need-move-all-requires
-move-all-requires c κs = search needs
 
 returns-3 : tie.Need-returns-3
 returns-3 c =
@@ -55,4 +40,5 @@ returns-3 c =
 pub read-home-spec : {M : Type 1} → statement M
 read-home-spec =
     tie.close
-    (tie.spec read-plant-requires refusal-requires returns narrow-fault-requires refusal-requires-2 returns-2 move-all-requires returns-3)
+    (tie.spec (λ c κs. search needs) (λ c κs. search needs) returns (λ c κs. search needs) (λ c κs. search needs)
+    returns-2 (λ c κs. search needs) returns-3)

@@ -24,11 +24,11 @@ says-overfull p r ms e o = subst (λ (b : Bool). pickT b (BalanceSays p (r .bala
 abbrev begin : tie.After-lay → tie.Start
 begin c = c .before .before .before .before .before
 
-abbrev laid : tie.After-cuts-of → tie.After-lay
+abbrev laid : tie.After-bridges-of → tie.After-lay
 laid c = c .before .before .before
 
-abbrev cut : tie.After-solve → tie.After-cuts-of
-cut c = c .before .before .before .before
+abbrev bridge : tie.After-solve → tie.After-bridges-of
+bridge c = c .before .before .before .before
 
 cast-count : tie.Need-cast-count
 cast-count c = search needs
@@ -41,8 +41,8 @@ lay-requires c κs =
     let st = c .before .before .before .before in
     (network-of (st .args .p) (st .pre), refl, no-arc, refl)
 
-cuts-of-requires : tie.Need-cuts-of-requires
-cuts-of-requires c κs =
+bridges-of-requires : tie.Need-bridges-of-requires
+bridges-of-requires c κs =
     let f = c .before .before in
     (begin f .args .p, record { accepted = begin f .pre; laid = f .lay .ensures })
 
@@ -50,7 +50,7 @@ solve-requires : tie.Need-solve-requires
 solve-requires c κs =
     let k = c .before .before .before in
     let f = laid k in
-    (begin f .pre, k .cuts-of .ensures (begin f .args .p) (record { accepted = begin f .pre; laid = f .lay .ensures }) .grouped, f .lay .ensures)
+    (begin f .pre, k .bridges-of .ensures (begin f .args .p) (record { accepted = begin f .pre; laid = f .lay .ensures }) .grouped, f .lay .ensures)
 
 overfilled-requires : tie.Need-overfilled-requires
 overfilled-requires c κs = search needs
@@ -58,7 +58,7 @@ overfilled-requires c κs = search needs
 returns : tie.Need-returns
 returns c =
     let s = c .before .before .before .before in
-    let p = begin (laid (cut s)) .args .p in
+    let p = begin (laid (bridge s)) .args .p in
     says-overfull (plantOf p) (c .overfilled .result) (s .solve .result .marked) (c .overfilled .ensures)
     (right-overfull p (s .solve .result) (s .solve .ensures .0) (not-true (s .solve .result .found) (c .before .if1 .taken)))
 
@@ -66,12 +66,12 @@ balance-by-requires : tie.Need-balance-by-requires
 balance-by-requires c κs =
     let e = c .before .before in
     let s = e .before .before .before in
-    let k = cut s in
+    let k = bridge s in
     let f = laid k in
     let p = begin f .args .p in
     let solution = right-found p (s .solve .result) (s .solve .ensures .0) (not-false (s .solve .result .found) (e .if1 .left)) in (
       record { accepted = begin f .pre; laid = f .lay .ensures },
-      k .cuts-of .ensures p (record { accepted = begin f .pre; laid = f .lay .ensures }),
+      k .bridges-of .ensures p (record { accepted = begin f .pre; laid = f .lay .ensures }),
       solution,
     )
 
@@ -85,7 +85,7 @@ balance-of-spec =
     cast-count
     cast-arcs
     lay-requires
-    cuts-of-requires
+    bridges-of-requires
     solve-requires
     overfilled-requires
     returns

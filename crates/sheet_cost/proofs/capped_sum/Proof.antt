@@ -3,7 +3,7 @@ use borrow.Author.Needs.{needs}
 use native.Mathlib.Omega.{arith}
 use mathlib.Core.Path.{_≡_, sym, _∙_}
 use Prim.Native.Nat.{_+_, _-_}
-use Rattle.sheet_def.specs.Apart.{topCost}
+use Rattle.sheet_def.specs.Totals.{topCost}
 use Rattle.sheet_def.proofs.Capped.{capped-below, capped-above}
 use Rattle.sheet_cost.proofs.capped_sum.Statement.{statement}
 use Rattle.sheet_cost.proofs.capped_sum.Tie as tie

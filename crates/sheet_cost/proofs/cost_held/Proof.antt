@@ -1,7 +1,6 @@
 -- Each turn adds one stream, by its row.
 use borrow.Author.Needs.{needs}
 use native.Mathlib.Omega.{arith}
-use mathlib.Core.Path.{_≡_}
 use mathlib.Core.List.{map}
 use Prim.Native.Nat.{_≤_, _<_, _-_}
 use Rattle.plant_def.specs.declared.Plant.{Plant}

@@ -10,7 +10,7 @@ use mir.Val.{SFits, toZ, ofZ}
 use mir.Facts.{toZ-ofZ}
 use Rattle.plant_def.specs.Plants.{noStream}
 use Rattle.flow_def.specs.Flows.{amountAt}
-use Rattle.sheet_def.specs.Apart.{capped}
+use Rattle.sheet_def.specs.Totals.{capped}
 use Rattle.sheet_def.specs.Calls.{streamCost}
 use Rattle.sheet_cost.proofs.Costing.{Costed, Summed, summed-none, next-fits, summed-more, summed-all}
 use Rattle.sheet_cost.proofs.cost_of.Statement.{statement}

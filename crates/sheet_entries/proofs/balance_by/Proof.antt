@@ -1,5 +1,4 @@
 -- The parts make up the balance of the cheapest flow.
-use borrow.Author.Needs.{needs}
 use mathlib.Core.Path.{refl}
 use Rattle.sheet_def.proofs.Opening.{held-amounts}
 use Rattle.sheet_entries.proofs.Balanced.{balanced-so}
@@ -37,12 +36,12 @@ returns c =
     let start = begin degrees in
     let p = start .args .p in
     let laid = start .pre .0 in
-    let cut = start .pre .1 in
+    let bridge = start .pre .1 in
     let cost = degrees .before .cost-held in
-    let e = entered .enter .ensures .0 p laid cut in
+    let e = entered .enter .ensures .0 p laid bridge in
     balanced-so p (laid .accepted) (start .args .solved) (start .pre .2) (entered .enter .result .streams) (cost .result)
     (degrees .degrees-of .result) (entered .enter .result .weights) (c .verdict .result)
-    (e .0) (cost .ensures p laid) (degrees .degrees-of .ensures .0 p laid refl (cut .grouped)) (e .1) (entered .enter .ensures .1) (c .verdict .ensures)
+    (e .0) (cost .ensures p laid) (degrees .degrees-of .ensures .0 p laid refl (bridge .grouped)) (e .1) (entered .enter .ensures .1) (c .verdict .ensures)
 
 pub balance-by-spec : {M : Type 1} → statement M
 balance-by-spec =

@@ -1,8 +1,8 @@
 -- After i turns the first i entries are written, and the weights of the first i streams summed up.
 use borrow.Author.Needs.{needs}
 use native.Mathlib.Omega.{arith}
-use mathlib.Core.Path.{_≡_, refl, sym, ap, subst, _∙_}
-use lib.IntN.{ℤ, pos}
+use mathlib.Core.Path.{_≡_, sym, ap, subst, _∙_}
+use lib.IntN.{ℤ}
 use Prim.Native.Nat.{ℕ, _≤_, _<_, _-_, _*_}
 use lib.ListN.{getD, replicate, length-replicate}
 use mir.Syntax.{w64}
@@ -14,12 +14,11 @@ use Rattle.plant_def.specs.Plants.{noStream}
 use Rattle.plant_def.specs.Says.{plantOf}
 use Rattle.plant_def.proofs.Arrayed.{all-listed, stream-within}
 use Rattle.flow_def.specs.declared.Class.{Class}
-use Rattle.flow_def.specs.declared.Class.the-variants.{Withheld}
-use Rattle.flow_def.specs.Calls.{Cutting, classIn}
+use Rattle.flow_def.specs.Calls.{Bridging, classIn}
 use Rattle.flow_def.specs.Classes.{classOf}
 use Rattle.flow_def.specs.Shown.{adjustedWeight}
 use Rattle.flow_def.proofs.BySides.{class-in}
-use Rattle.flow_def.proofs.Lists.{Written, written-none, written-put}
+use Rattle.num_bytes.proofs.Lists.{Written, written-none, written-put}
 use Rattle.flow_test.proofs.Summing.{Weighed, weighed-none, weighed-more, weighed-all}
 use Rattle.solve_def.specs.Held.{unshifted}
 use Rattle.solve_def.proofs.Weights.{weight-most}
@@ -27,19 +26,19 @@ use Rattle.solve_arcs_fill.specs.Plants.{LaidOf}
 use Rattle.solve_arcs_fill.proofs.Plants.{counted, few, from-at, to-at, from-low, to-low, weight-at, metered-at}
 use Rattle.sheet_def.specs.declared.Entry.{Entry}
 use Rattle.sheet_def.specs.Balances.{entryOf}
-use Rattle.sheet_def.proofs.Entries.{noEntry}
+use Rattle.sheet_def.specs.Calls.{noEntry}
 use Rattle.sheet_entries.proofs.Opening.{opened-fits}
 use Rattle.sheet_entries.proofs.Entering.{entries-all, weight-by}
 use Rattle.sheet_entries.proofs.enter.Statement.{statement}
 use Rattle.sheet_entries.proofs.enter.Tie as tie
 
 abbrev Inv-loop : tie.InvT-loop
-Inv-loop arcs rows cuts held n labels taken streams₀ weights₀ i₀ streams weights i =
-    (i ≤ n) × ((p : Plant) → LaidOf p arcs rows → Cutting p cuts
+Inv-loop arcs rows bridges held n labels taken streams₀ weights₀ i₀ streams weights i =
+    (i ≤ n) × ((p : Plant) → LaidOf p arcs rows → Bridging p bridges
     → Written noEntry maxStreams (λ k e. entryOf (classOf (plantOf p) k) (unshifted (getD held k 0))) streams₀ streams i × Weighed p weights i)
 
 abbrev μ-loop : tie.MeasureT-loop
-μ-loop arcs rows cuts held n labels taken streams₀ weights₀ i₀ streams weights i = n - i
+μ-loop arcs rows bridges held n labels taken streams₀ weights₀ i₀ streams weights i = n - i
 
 -- The start, from a turn of the loop; the stream is in use, by any plant that was laid.
 abbrev begin : tie.In-loop Inv-loop μ-loop → tie.Start Inv-loop μ-loop
@@ -61,9 +60,6 @@ light c =
     let w = begin c .pre .0 .1 in
     let l = used c p w in
     rw (weight-at w _ l) (weight-most _ (stream-within p (w .accepted) _ l))
-
-count-of-requires : tie.Need-count-of-requires Inv-loop μ-loop
-count-of-requires c κs = search needs
 
 loop-holds : tie.Need-loop-holds Inv-loop μ-loop
 loop-holds c = (omega arith, λ p w q. (written-none (length-replicate {A = Entry} maxStreams (c .blank-entry .result)), weighed-none p))
@@ -106,9 +102,6 @@ class-of-requires c κs =
     let l = used on p w in
     (rw (v .before .end-at .ensures) (from-low w _ l), rw (v .end-at2 .ensures) (to-low w _ l), q .grouped .long, q .low _ l)
 
-adjusted-weight-requires : tie.Need-adjusted-weight-requires Inv-loop μ-loop
-adjusted-weight-requires c κs = search needs
-
 add-weights : tie.Need-add-weights Inv-loop μ-loop
 add-weights c =
     let on = c .before .before .before .before .before .before in
@@ -128,21 +121,6 @@ opened-flow-requires c κs =
     let on = weighed .before .before .before .before in
     begin on .pre .1 _ (low on)
 
-entry-of-requires : tie.Need-entry-of-requires Inv-loop μ-loop
-entry-of-requires c κs = search needs
-
-mul-streams : tie.Need-mul-streams Inv-loop μ-loop
-mul-streams c = search needs
-
-array-set-from-streams : tie.Need-array-set-from-streams Inv-loop μ-loop
-array-set-from-streams c = search needs
-
-add-i : tie.Need-add-i Inv-loop μ-loop
-add-i c = search needs
-
-loop-less : tie.Need-loop-less Inv-loop μ-loop
-loop-less c = search needs
-
 -- A turn, for a plant that was laid.
 module _ (c : tie.After-class-of Inv-loop μ-loop) where
   abbrev ends : tie.After-end-at2 Inv-loop μ-loop
@@ -151,10 +129,10 @@ module _ (c : tie.After-class-of Inv-loop μ-loop) where
   abbrev turn : tie.In-loop Inv-loop μ-loop
   turn = ends .before .before .before
 
-  module _ (p : Plant) (w : Of turn p) (q : Cutting p (begin turn .args .cuts)) where
+  module _ (p : Plant) (w : Of turn p) (q : Bridging p (begin turn .args .bridges)) where
     in-class : c .class-of .result
-        ≡ classIn (begin turn .args .cuts .labels) (getD (p .streams) (turn .before .loop .i) noStream)
-        (getD (begin turn .args .cuts .taken) (turn .before .loop .i) 0) (begin turn .args .cuts .looped)
+        ≡ classIn (begin turn .args .bridges .labels) (getD (p .streams) (turn .before .loop .i) noStream)
+        (getD (begin turn .args .bridges .taken) (turn .before .loop .i) 0) (begin turn .args .bridges .looped)
     in-class =
         let l = used turn p w in
         c .class-of .ensures (getD (p .streams) (turn .before .loop .i) noStream) (metered-at w _ l) (sym (ends .before .end-at .ensures ∙ from-at w _ l)) (sym (ends .end-at2 .ensures ∙ to-at w _ l))
@@ -176,7 +154,7 @@ loop-again c =
           let l = used on p w in
           let s = getD (p .streams) (at .i) noStream in
           let class = is-class classed p w q in
-          let weight = weight-by (st .args .cuts .labels) s (getD (st .args .cuts .taken) (at .i) 0) (st .args .cuts .looped) _ _ _ (in-class classed p w q)
+          let weight = weight-by (st .args .bridges .labels) s (getD (st .args .bridges .taken) (at .i) 0) (st .args .bridges .looped) _ _ _ (in-class classed p w q)
           (weight-at w _ l) (weighed .adjusted-weight .ensures .0)
           ∙ ap (λ (k : Class). adjustedWeight k s) class in (
             written-put (at .inv .1 p w q .0) (low on) _ (c .entry-of .ensures ∙ (λ i. entryOf (class i) (flow i))),
@@ -207,31 +185,8 @@ returns c =
 pub enter-spec : {M : Type 1} → statement M
 enter-spec =
     tie.close
-    (tie.spec
-    Inv-loop
-    μ-loop
-    count-of-requires
-    (λ c κs. search needs)
-    loop-holds
-    mul-w
-    mul-w-2
-    element-copy-out-w
-    mul-end-at
-    end-at-requires
-    mul-end-at-2
-    add-end-at
-    end-at-requires-2
-    array-read-class-of
-    class-of-requires
-    adjusted-weight-requires
-    add-weights
-    mul-opened-flow
-    element-copy-out-opened-flow
-    opened-flow-requires
-    entry-of-requires
-    mul-streams
-    array-set-from-streams
-    add-i
-    loop-less
-    loop-again
+    (tie.spec Inv-loop μ-loop (λ c κs. search needs) (λ c κs. search needs) loop-holds mul-w mul-w-2 element-copy-out-w
+    mul-end-at end-at-requires mul-end-at-2 add-end-at end-at-requires-2 array-read-class-of class-of-requires
+    (λ c κs. search needs) add-weights mul-opened-flow element-copy-out-opened-flow opened-flow-requires
+    (λ c κs. search needs) (λ c. search needs) (λ c. search needs) (λ c. search needs) (λ c. search needs) loop-again
     returns)

@@ -1,6 +1,5 @@
 -- The shift, taken away.
 use borrow.Author.Needs.{needs}
-use mathlib.Core.Path.{_∙_}
 use mir.Facts.{toZ-ofZ}
 use Rattle.sheet_entries.proofs.Opening.{opened-here, opened-fits}
 use Rattle.sheet_entries.proofs.opened_flow.Statement.{statement}

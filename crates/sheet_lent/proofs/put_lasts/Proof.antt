@@ -5,11 +5,11 @@ use denote.Ref.{now}
 use mathlib.Core.Path.{_≡_, refl, ap, _∙_}
 use mathlib.Core.List.{List}
 use Prim.Native.Nat.{ℕ, _-_}
-use lib.ListN.{length, take}
+use lib.ListN.{length}
 use lib.Seq.{take-all}
 use Rattle.num_bytes.specs.Bytes.{over}
 use Rattle.sheet_def.specs.Counters.{offices}
-use Rattle.num_lent.proofs.Handing.{Handing, none-handed, slice-long, room-there, one-handed, all-handed, itself, map-itself}
+use Rattle.num_lent.proofs.Handing.{Handing, none-handed, slice-long, room-there, one-handed, itself, all-as-they-are}
 use Rattle.sheet_lent.proofs.put_lasts.Statement.{statement}
 use Rattle.sheet_lent.proofs.put_lasts.Tie as tie
 
@@ -50,8 +50,8 @@ returns : tie.Need-returns Inv-loop μ-loop
 returns c =
     let a = c .before .before .args in
     let l : length (a .t1) ≡ offices = c .before .loop .inv .1 in (
-      all-handed itself (c .before .loop .inv .0) (c .loop-test .left)
-          ∙ ap (λ (l : List ℕ). over l (now (a .lasts))) (map-itself (take offices (a .t1)) ∙ take-all offices (a .t1) (omega arith)),
+      all-as-they-are (c .before .loop .inv .0) (c .loop-test .left)
+          ∙ ap (λ (l : List ℕ). over l (now (a .lasts))) (take-all offices (a .t1) (omega arith)),
       l,
     )
 

@@ -5,7 +5,7 @@ use denote.Ref.{now}
 use Prim.Native.Nat.{ℕ, _-_}
 use Rattle.sheet_def.specs.declared.Entry.{Entry}
 use Rattle.sheet_def.specs.Sheets.{kindOf}
-use Rattle.sheet_def.proofs.Entries.{noEntry}
+use Rattle.sheet_def.specs.Calls.{noEntry}
 use Rattle.num_lent.proofs.Handing.{Handing, none-handed, slice-long, room-there, one-handed, all-handed}
 use Rattle.sheet_parts.proofs.put_kinds.Statement.{statement}
 use Rattle.sheet_parts.proofs.put_kinds.Tie as tie
@@ -22,20 +22,8 @@ abbrev μ-loop : tie.MeasureT-loop
 loop-holds : tie.Need-loop-holds Inv-loop μ-loop
 loop-holds c = none-handed kind (c .before .args .t2) (c .before .args .count) (now (c .before .args .kinds)) (omega (arith, c .before .pre .0)) (c .before .pre .1)
 
-mul-e : tie.Need-mul-e Inv-loop μ-loop
-mul-e c = search needs
-
-array-copy-out-e : tie.Need-array-copy-out-e Inv-loop μ-loop
-array-copy-out-e c = search needs
-
-kind-of-requires : tie.Need-kind-of-requires Inv-loop μ-loop
-kind-of-requires c κs = search needs
-
 slice-write-kinds : tie.Need-slice-write-kinds Inv-loop μ-loop
 slice-write-kinds c = room-there kind (c .before .before .before .loop .inv) (c .before .before .loop-test .taken)
-
-add-k : tie.Need-add-k Inv-loop μ-loop
-add-k c = search needs
 
 loop-less : tie.Need-loop-less Inv-loop μ-loop
 loop-less c = omega (arith, c .before .before .loop-test .taken)
@@ -52,16 +40,5 @@ returns c = all-handed kind (c .before .loop .inv) (c .loop-test .left)
 pub put-kinds-spec : {M : Type 1} → statement M
 put-kinds-spec =
     tie.close
-    (tie.spec
-    Inv-loop
-    μ-loop
-    loop-holds
-    mul-e
-    array-copy-out-e
-    kind-of-requires
-    slice-write-kinds
-    add-k
-    loop-less
-    loop-again
-    same-length
-    returns)
+    (tie.spec Inv-loop μ-loop loop-holds (λ c. search needs) (λ c. search needs) (λ c κs. search needs)
+    slice-write-kinds (λ c. search needs) loop-less loop-again same-length returns)

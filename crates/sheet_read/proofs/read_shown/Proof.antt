@@ -12,7 +12,7 @@ use mir.Facts.{toZ-ofZ}
 use Rattle.num_bytes.specs.Bytes.{be, signed}
 use Rattle.num_bytes.proofs.Parts.{part-is, length-part}
 use Rattle.sheet_def.specs.declared.SheetRecord.the-variants.{Listed}
-use Rattle.sheet_def.specs.Apart.{streamSize}
+use Rattle.sheet_def.specs.Totals.{streamSize}
 use Rattle.sheet_def.specs.Kept.{shownIn}
 use Rattle.sheet_def.proofs.Records.{unfit-refused, fit-listed, fit-whole}
 use Rattle.sheet_read.proofs.read_shown.Statement.{statement}
@@ -22,9 +22,6 @@ use Rattle.sheet_read.proofs.read_shown.Tie as tie
 whole : (c : tie.Else1) → streamSize ≤ length (now (c .before .before .before .args .s))
 whole c = let a = c .before .before .before .args in fit-whole streamSize (a .count) (now (a .s)) _ (c .before .unfit .ensures) (c .if1 .left)
 
-unfit-requires : tie.Need-unfit-requires
-unfit-requires c κs = search needs
-
 returns : tie.Need-returns
 returns c = let a = c .before .before .before .args in unfit-refused streamSize (shownIn (a .class) (now (a .s))) (a .count) (now (a .s)) _ (c .before .unfit .ensures) (c .if1 .taken)
 
@@ -33,9 +30,6 @@ sub-get-i64 c = omega (arith, whole c)
 
 part-get-i64-start : tie.Need-part-get-i64-start
 part-get-i64-start c = omega (arith, whole c)
-
-part-get-i64-end : tie.Need-part-get-i64-end
-part-get-i64-end c = search needs
 
 get-i64-requires : tie.Need-get-i64-requires
 get-i64-requires c κs = omega (arith, whole (c .before), length-part 1 (now (c .before .before .before .before .args .s)))
@@ -53,11 +47,5 @@ returns-2 c =
 pub read-shown-spec : {M : Type 1} → statement M
 read-shown-spec =
     tie.close
-    (tie.spec
-    unfit-requires
-    returns
-    sub-get-i64
-    part-get-i64-start
-    part-get-i64-end
-    get-i64-requires
+    (tie.spec (λ c κs. search needs) returns sub-get-i64 part-get-i64-start (λ c. search needs) get-i64-requires
     returns-2)

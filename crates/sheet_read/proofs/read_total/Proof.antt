@@ -5,7 +5,7 @@ use denote.Ref.{now}
 use Prim.Native.Nat.{_≤_}
 use lib.ListN.{length, getD}
 use Rattle.num_bytes.proofs.Parts.{length-part}
-use Rattle.sheet_def.specs.Apart.{totalKind, totalSize}
+use Rattle.sheet_def.specs.Totals.{totalKind, totalSize}
 use Rattle.sheet_def.specs.Kept.{totalIn}
 use Rattle.sheet_read.proofs.Totals.{cut-refused, whole, total-behind}
 use Rattle.sheet_read.proofs.read_total.Statement.{statement}
@@ -13,9 +13,6 @@ use Rattle.sheet_read.proofs.read_total.Tie as tie
 
 there : (c : tie.Else1) → totalSize ≤ length (now (c .before .before .before .args .s))
 there c = whole totalSize (now (c .before .before .before .args .s)) _ (c .before .cut-fault .ensures) (c .if1 .left)
-
-cut-fault-requires : tie.Need-cut-fault-requires
-cut-fault-requires c κs = search needs
 
 returns : tie.Need-returns
 returns c = let s = now (c .before .before .before .args .s) in cut-refused totalSize s _ (c .before .cut-fault .ensures) (totalIn s) (c .if1 .taken)
@@ -28,9 +25,6 @@ sub-body-in c = omega (arith, there (c .before))
 
 part-body-in-start : tie.Need-part-body-in-start
 part-body-in-start c = omega (arith, there (c .before))
-
-part-body-in-end : tie.Need-part-body-in-end
-part-body-in-end c = search needs
 
 body-in-requires : tie.Need-body-in-requires
 body-in-requires c κs = omega (arith, there (c .before .before), length-part 2 (now (c .before .before .before .before .before .args .s)))
@@ -48,13 +42,5 @@ returns-2 c =
 pub read-total-spec : {M : Type 1} → statement M
 read-total-spec =
     tie.close
-    (tie.spec
-    cut-fault-requires
-    returns
-    shared-slice-read-body-in
-    sub-body-in
-    part-body-in-start
-    part-body-in-end
-    body-in-requires
-    end-with-requires
-    returns-2)
+    (tie.spec (λ c κs. search needs) returns shared-slice-read-body-in sub-body-in part-body-in-start
+    (λ c. search needs) body-in-requires end-with-requires returns-2)

@@ -12,38 +12,11 @@ use Rattle.sheet_write.proofs.put_record.Tie as tie
 enum-told : tie.Need-enum-told
 enum-told c = search needs
 
-put-flow-requires : tie.Need-put-flow-requires
-put-flow-requires c κs = search needs
-
-enum-told-2 : tie.Need-enum-told-2
-enum-told-2 c = search needs
-
-put-flow-requires-2 : tie.Need-put-flow-requires-2
-put-flow-requires-2 c κs = search needs
-
-enum-told-3 : tie.Need-enum-told-3
-enum-told-3 c = search needs
-
-put-flow-requires-3 : tie.Need-put-flow-requires-3
-put-flow-requires-3 c κs = search needs
-
-enum-told-4 : tie.Need-enum-told-4
-enum-told-4 c = search needs
-
-put-u8-requires : tie.Need-put-u8-requires
-put-u8-requires c κs = search needs
-
-same-length : tie.Need-same-length
-same-length c = search needs
-
 returns : tie.Need-returns
 returns c =
     let after-enum-told = c .before .before .before .before in
     let start = after-enum-told .before .before .before in
     put-as (record-as (after-enum-told .enum-told .given .1) (toZ-ofZ (start .fits .flow))) (c .before .before .put-flow .ensures)
-
-same-length-2 : tie.Need-same-length-2
-same-length-2 c = search needs
 
 returns-2 : tie.Need-returns-2
 returns-2 c =
@@ -51,17 +24,11 @@ returns-2 c =
     let start = after-enum-told2 .before .before .before in
     put-as (record-as (after-enum-told2 .enum-told2 .given .1) (toZ-ofZ (start .fits .flow))) (c .before .before .put-flow2 .ensures)
 
-same-length-3 : tie.Need-same-length-3
-same-length-3 c = search needs
-
 returns-3 : tie.Need-returns-3
 returns-3 c =
     let after-enum-told3 = c .before .before .before .before in
     let start = after-enum-told3 .before .before .before in
     put-as (record-as (after-enum-told3 .enum-told3 .given .1) (toZ-ofZ (start .fits .flow))) (c .before .before .put-flow3 .ensures)
-
-same-length-4 : tie.Need-same-length-4
-same-length-4 c = search needs
 
 returns-4 : tie.Need-returns-4
 returns-4 c =
@@ -72,20 +39,6 @@ returns-4 c =
 pub put-record-spec : {M : Type 1} → statement M
 put-record-spec =
     tie.close
-    (tie.spec
-    enum-told
-    put-flow-requires
-    enum-told-2
-    put-flow-requires-2
-    enum-told-3
-    put-flow-requires-3
-    enum-told-4
-    put-u8-requires
-    same-length
-    returns
-    same-length-2
-    returns-2
-    same-length-3
-    returns-3
-    same-length-4
-    returns-4)
+    (tie.spec enum-told (λ c κs. search needs) (λ c. search needs) (λ c κs. search needs) (λ c. search needs)
+    (λ c κs. search needs) (λ c. search needs) (λ c κs. search needs) (λ c. search needs) returns (λ c. search needs)
+    returns-2 (λ c. search needs) returns-3 (λ c. search needs) returns-4)

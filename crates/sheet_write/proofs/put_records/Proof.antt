@@ -2,10 +2,8 @@
 use borrow.Author.Needs.{needs}
 use native.Mathlib.Omega.{arith}
 use denote.Ref.{now}
-use mathlib.Core.Path.{_≡_, refl, ap}
-use mathlib.Core.List.{List}
-use lib.IntN.{ℤ}
-use Prim.Native.Nat.{ℕ, _+_, _-_, _≤_}
+use mathlib.Core.Path.{_≡_, refl}
+use Prim.Native.Nat.{_+_, _-_, _≤_}
 use lib.ListN.{length, getD, take}
 use mir.Syntax.{w64}
 use mir.Val.{SFits}
@@ -15,8 +13,8 @@ use Rattle.num_bytes.proofs.Parts.{returned, partFrom}
 use Rattle.num_bytes.proofs.Rows.{Rows, no-rows, one-row, rows-long, rows-lend, rows-room, all-rows}
 use Rattle.plant_def.specs.Limits.{maxStreams}
 use Rattle.sheet_def.specs.Sheets.{recordOf, recordsOf}
-use Rattle.sheet_def.specs.Apart.{streamSize}
-use Rattle.sheet_def.proofs.Entries.{noEntry}
+use Rattle.sheet_def.specs.Totals.{streamSize}
+use Rattle.sheet_def.specs.Calls.{noEntry}
 use Rattle.sheet_def.proofs.Laying.{record-most, records-more}
 use Rattle.sheet_write.proofs.put_records.Statement.{statement}
 use Rattle.sheet_write.proofs.put_records.Tie as tie
@@ -57,20 +55,11 @@ loop-holds c =
     let p = c .before .pre in
     (p .0, search needs, no-rows (λ k. recordsOf (take k (a .t2))) streamSize (a .count) (now (a .out)) refl (omega (arith, p .0, p .1)))
 
-mul-e : tie.Need-mul-e Inv-loop μ-loop
-mul-e c = search needs
-
-array-copy-out-e : tie.Need-array-copy-out-e Inv-loop μ-loop
-array-copy-out-e c = search needs
-
 sub-put-record : tie.Need-sub-put-record Inv-loop μ-loop
 sub-put-record c = rows-lend (c .before .before .loop .inv .2)
 
 part-put-record-start : tie.Need-part-put-record-start Inv-loop μ-loop
 part-put-record-start c = rows-lend (c .before .before .loop .inv .2)
-
-part-put-record-end : tie.Need-part-put-record-end Inv-loop μ-loop
-part-put-record-end c = search needs
 
 put-record-requires : tie.Need-put-record-requires Inv-loop μ-loop
 put-record-requires c κs =
@@ -83,12 +72,6 @@ add-at c =
     let after-put-record-arg = c .before .before .before .before in
     let start = after-put-record-arg .before .before .before .before .before in
     omega (arith, rows-lend (written c), rows-long (written c), start .good)
-
-add-i : tie.Need-add-i Inv-loop μ-loop
-add-i c = search needs
-
-loop-less : tie.Need-loop-less Inv-loop μ-loop
-loop-less c = search needs
 
 loop-again : tie.Need-loop-again Inv-loop μ-loop
 loop-again c =
@@ -105,19 +88,6 @@ returns c = all-rows (c .before .loop .inv .2) (c .loop-test .left)
 pub put-records-spec : {M : Type 1} → statement M
 put-records-spec =
     tie.close
-    (tie.spec
-    Inv-loop
-    μ-loop
-    loop-holds
-    mul-e
-    array-copy-out-e
-    sub-put-record
-    part-put-record-start
-    part-put-record-end
-    put-record-requires
-    add-at
-    add-i
-    loop-less
-    loop-again
-    same-length
+    (tie.spec Inv-loop μ-loop loop-holds (λ c. search needs) (λ c. search needs) sub-put-record part-put-record-start
+    (λ c. search needs) put-record-requires add-at (λ c. search needs) (λ c. search needs) loop-again same-length
     returns)

@@ -5,7 +5,7 @@ use denote.Ref.{now}
 use mathlib.Core.List.{[], _∷_, _++_}
 use Rattle.num_bytes.specs.Bytes.{putBe}
 use Rattle.num_bytes.proofs.Parts.{laid, lay}
-use Rattle.sheet_def.specs.Apart.{totalKind}
+use Rattle.sheet_def.specs.Totals.{totalKind}
 use Rattle.sheet_write.proofs.put_total.Statement.{statement}
 use Rattle.sheet_write.proofs.put_total.Tie as tie
 

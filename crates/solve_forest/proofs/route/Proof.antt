@@ -8,7 +8,7 @@ use Rattle.plant_def.specs.Limits.{places, maxStreams}
 use Rattle.solve_arcs.specs.Cells.{countOf}
 use Rattle.solve_arcs.proofs.Rowing.{low-in, start-in, end-in}
 use Rattle.solve_forest.specs.Forests.{Unmetered}
-use Rattle.solve_forest.specs.Routes.{Routes, Kept, Routing}
+use Rattle.solve_forest.specs.Routes.{Routes, Unchanged, Routing}
 use Rattle.solve_forest.proofs.Routes.{routes-set, kept-set}
 use Rattle.solve_forest.proofs.route.Statement.{statement}
 use Rattle.solve_forest.proofs.route.Tie as tie
@@ -17,7 +17,7 @@ abbrev Inv-loop : tie.InvT-loop
 Inv-loop arcs nets₀ flows₀ f k₀ nets flows k =
     (k ≤ f .len)
     × (length nets ≡ places)
-    × ((w : Routing arcs f flows₀) → Routes (take (w .laying .n) (w .laying .streams)) flows × Kept (w .laying .streams) (w .laying .n) flows₀ flows)
+    × ((w : Routing arcs f flows₀) → Routes (take (w .laying .n) (w .laying .streams)) flows × Unchanged (w .laying .streams) (w .laying .n) flows₀ flows)
 
 abbrev μ-loop : tie.MeasureT-loop
 μ-loop arcs nets₀ flows₀ f k₀ nets flows k = k

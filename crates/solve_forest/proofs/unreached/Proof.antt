@@ -7,7 +7,7 @@ use native.Mathlib.Omega.{arith}
 use lib.ListN.{getD}
 use borrow.Author.Needs.{needs}
 use Rattle.plant_def.specs.Limits.{places}
-use Rattle.flow_def.specs.Loops.{countTo}
+use Rattle.num_bytes.specs.Sums.{countTo}
 use Rattle.solve_forest.proofs.Counted.{count-next, count-stay}
 use Rattle.solve_forest.proofs.unreached.Statement.{statement}
 use Rattle.solve_forest.proofs.unreached.Tie as tie

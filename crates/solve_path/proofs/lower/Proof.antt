@@ -7,8 +7,8 @@ use lib.ListN.{getD}
 use Rattle.num_bytes.specs.Choice.{pick}
 use Rattle.plant_def.specs.Limits.{places}
 use Rattle.solve_def.specs.Search.{fallen}
-use Rattle.flow_def.proofs.Lists.{Written, written-none, written-put}
-use Rattle.solve_def.proofs.Filling.{reduced-is}
+use Rattle.num_bytes.proofs.Lists.{Written, written-none, written-put}
+use Rattle.solve_def.proofs.Filling.{fallen-is}
 use borrow.Author.Needs.{needs}
 use Rattle.solve_path.proofs.lower.Statement.{statement}
 use Rattle.solve_path.proofs.lower.Tie as tie
@@ -39,7 +39,7 @@ loop-again c =
 returns : tie.Need-returns Inv-loop μ-loop
 returns c =
     let e : c .before .loop .u ≡ places = omega arith in
-    reduced-is _ _ _ _ _ (c .before .before .pre) (rw e at (c .before .loop .inv .1))
+    fallen-is _ _ _ _ _ (c .before .before .pre) (rw e at (c .before .loop .inv .1))
 
 pub lower-spec : {M : Type 1} → statement M
 lower-spec =

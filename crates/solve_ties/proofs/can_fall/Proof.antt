@@ -6,7 +6,7 @@ use borrow.Author.Tests.{lt-ltb, le-ltb}
 use lib.Dec.{eqb}
 use Rattle.plant_def.specs.Limits.{places}
 use Rattle.solve_arcs.proofs.Along.{starts-at, ends-at}
-use Rattle.solve_ties.proofs.Evened.{small-back, slack-back}
+use Rattle.solve_ties.proofs.Evened.{small-back, reduced-back}
 use borrow.Author.Needs.{needs}
 use Rattle.solve_ties.proofs.can_fall.Statement.{statement}
 use Rattle.solve_ties.proofs.can_fall.Tie as tie
@@ -40,7 +40,7 @@ returns c =
     let v = c .before .before .before .before in
     let st = v .before .before .before .before in
     rw (lt-ltb 0 _ (v .before .before .if1 .taken), c .reduced-cost .ensures .0, v .end-at2 .ensures, v .before .end-at .ensures)
-    (sym (ap (λ (x : ℕ). eqb x 0) (slack-back (st .args .arcs .now) (st .args .margins .now) (st .args .potentials .now) (st .args .i) (st .pre .1))))
+    (sym (ap (λ (x : ℕ). eqb x 0) (reduced-back (st .args .arcs .now) (st .args .margins .now) (st .args .potentials .now) (st .args .i) (st .pre .1))))
 
 returns-2 : tie.Need-returns-2
 returns-2 c = rw (le-ltb 0 _ (c .if1 .left))

@@ -10,12 +10,6 @@ use Rattle.survey_answers.proofs.layouts_lent.Tie as tie
 returns : tie.Need-returns
 returns c = let a = c .before .before .before .args in lends-nothing (now (a .file)) (now (a .counts)) (c .if1 .taken)
 
-layouts-of-requires : tie.Need-layouts-of-requires
-layouts-of-requires c κs = search needs
-
-cast-count : tie.Need-cast-count
-cast-count c = search needs
-
 returns-2 : tie.Need-returns-2
 returns-2 c =
     let else1 = c .before .before .before in
@@ -23,9 +17,6 @@ returns-2 c =
     let a = start .args in
     let l = c .before .before .layouts-of in
     lends-refusal (now (a .file)) (now (a .counts)) (else1 .if1 .left) (l .result) (l .ensures) (c .if2 .taken)
-
-add-put-counts : tie.Need-add-put-counts
-add-put-counts c = search needs
 
 put-counts-requires : tie.Need-put-counts-requires
 put-counts-requires c κs =
@@ -36,9 +27,6 @@ put-counts-requires c κs =
     let f = survey-fits (now (start .args .file)) (l .result) (l .ensures) in
     let h = else1 .if1 .left in
     (omega (arith, f .0), omega (arith, f .0, h))
-
-same-length : tie.Need-same-length
-same-length c = search needs
 
 returns-3 : tie.Need-returns-3
 returns-3 c =
@@ -53,12 +41,5 @@ returns-3 c =
 pub layouts-lent-spec : {M : Type 1} → statement M
 layouts-lent-spec =
     tie.close
-    (tie.spec
-    returns
-    layouts-of-requires
-    cast-count
-    returns-2
-    add-put-counts
-    put-counts-requires
-    same-length
-    returns-3)
+    (tie.spec returns (λ c κs. search needs) (λ c. search needs) returns-2 (λ c. search needs) put-counts-requires
+    (λ c. search needs) returns-3)

@@ -13,15 +13,6 @@ use Rattle.survey_answers.proofs.list_layouts.Tie as tie
 returns : tie.Need-returns
 returns c = let a = c .before .before .before .args in (says-nothing (now (a .file)) (now (a .text)) (c .if1 .taken), (omega arith, refl))
 
-layouts-of-requires : tie.Need-layouts-of-requires
-layouts-of-requires c κs = search needs
-
-put-refusal-requires : tie.Need-put-refusal-requires
-put-refusal-requires c κs = search needs
-
-same-length : tie.Need-same-length
-same-length c = search needs
-
 returns-2 : tie.Need-returns-2
 returns-2 c =
     let then2 = c .before .before .before .before in
@@ -33,12 +24,6 @@ returns-2 c =
     let p = c .before .before .put-refusal .ensures in
     (says-refused (now (a .file)) (now (a .text)) (else1 .if1 .left) _ _ (l .result) (l .ensures) (then2 .if2 .taken) p, put-counts p)
 
-cast-put-lines : tie.Need-cast-put-lines
-cast-put-lines c = search needs
-
-add-put-lines : tie.Need-add-put-lines
-add-put-lines c = search needs
-
 put-lines-requires : tie.Need-put-lines-requires
 put-lines-requires c κs =
     let after-layouts-of = c .before .before .before .before in
@@ -47,9 +32,6 @@ put-lines-requires c κs =
     let l = after-layouts-of .layouts-of in
     let f = survey-fits (now (start .args .file)) (l .result) (l .ensures) in
     (omega (arith, f .0), else1 .if1 .left)
-
-same-length-2 : tie.Need-same-length-2
-same-length-2 c = search needs
 
 returns-3 : tie.Need-returns-3
 returns-3 c =
@@ -65,14 +47,5 @@ returns-3 c =
 pub list-layouts-spec : {M : Type 1} → statement M
 list-layouts-spec =
     tie.close
-    (tie.spec
-    returns
-    layouts-of-requires
-    put-refusal-requires
-    same-length
-    returns-2
-    cast-put-lines
-    add-put-lines
-    put-lines-requires
-    same-length-2
-    returns-3)
+    (tie.spec returns (λ c κs. search needs) (λ c κs. search needs) (λ c. search needs) returns-2 (λ c. search needs)
+    (λ c. search needs) put-lines-requires (λ c. search needs) returns-3)

@@ -1,12 +1,12 @@
 -- Line by line.
-use native.Mathlib.Omega.{arith}
 use denote.Ref.{now}
 use Prim.Native.Nat.{_-_}
 use lib.ListN.{getD}
 use mir.Syntax.{w16}
 use mir.Val.{Fits}
-use Rattle.num_text.proofs.Behind.{kept-length}
-use Rattle.survey_answers.proofs.Lined.{Lined, no-lines, line-room, one-line, all-lines}
+use Rattle.num_text.proofs.Behind.{put-front}
+use Rattle.num_text.proofs.Lines.{lines-long, all-lines}
+use Rattle.survey_answers.proofs.Lined.{Lined, no-lines, line-room, one-line}
 use borrow.Author.Needs.{needs}
 use Rattle.survey_answers.proofs.put_lines.Statement.{statement}
 use Rattle.survey_answers.proofs.put_lines.Tie as tie
@@ -20,23 +20,11 @@ abbrev μ-loop : tie.MeasureT-loop
 loop-holds : tie.Need-loop-holds Inv-loop μ-loop
 loop-holds c = no-lines (c .before .args .t2) (c .before .args .size) (now (c .before .args .out)) (c .before .pre .0) (search needs) (c .before .pre .1)
 
-mul-put-line : tie.Need-mul-put-line Inv-loop μ-loop
-mul-put-line c = search needs
-
-array-read-put-line : tie.Need-array-read-put-line Inv-loop μ-loop
-array-read-put-line c = search needs
-
 put-line-requires : tie.Need-put-line-requires Inv-loop μ-loop
 put-line-requires c κs =
     let l = c .before .before .loop in
     let f : Fits w16 (getD (c .before .before .before .before .args .t2) (l .k) 0) = search needs in
     line-room (l .inv) (c .before .loop-test .taken) (f .fits)
-
-add-k : tie.Need-add-k Inv-loop μ-loop
-add-k c = search needs
-
-loop-less : tie.Need-loop-less Inv-loop μ-loop
-loop-less c = search needs
 
 loop-again : tie.Need-loop-again Inv-loop μ-loop
 loop-again c =
@@ -48,23 +36,13 @@ loop-again c =
     one-line (l .inv) (in-loop .loop-test .taken) (f .fits) (c .before .before .put-line .ensures)
 
 same-length : tie.Need-same-length Inv-loop μ-loop
-same-length c = kept-length (c .before .loop .inv .so-far)
+same-length c = lines-long (c .before .loop .inv .lines)
 
 returns : tie.Need-returns Inv-loop μ-loop
-returns c = all-lines (c .before .loop .inv) (c .loop-test .left)
+returns c = put-front (all-lines (c .before .loop .inv .lines) (c .loop-test .left))
 
 pub put-lines-spec : {M : Type 1} → statement M
 put-lines-spec =
     tie.close
-    (tie.spec
-    Inv-loop
-    μ-loop
-    loop-holds
-    mul-put-line
-    array-read-put-line
-    put-line-requires
-    add-k
-    loop-less
-    loop-again
-    same-length
-    returns)
+    (tie.spec Inv-loop μ-loop loop-holds (λ c. search needs) (λ c. search needs) put-line-requires (λ c. search needs)
+    (λ c. search needs) loop-again same-length returns)

@@ -1,11 +1,10 @@
 -- `count_all` meets its contract: the numbers passed are counted, by size.
 use mathlib.Core.Path.{_≡_, sym, ap, _∙_}
-use Prim.Native.Nat.{ℕ, _-_, _≤_, _<_, _^_}
-use lib.ListN.{length, getD, take}
+use Prim.Native.Nat.{ℕ, _-_, _≤_, _^_}
+use lib.ListN.{take}
 use native.Mathlib.Nat.{le-antisymm}
 use native.Mathlib.Omega.{arith}
 use mathlib.Core.Logic.{⊎-elim}
-use Rattle.survey_def.specs.Says.{surveySize}
 use Rattle.survey_def.specs.Inner.{ones}
 use Rattle.survey_def.proofs.Turns.{top-so, few-long, Tallied, tallied-none, tally-most, tallied-not, tallied-one}
 use borrow.Author.Needs.{needs}

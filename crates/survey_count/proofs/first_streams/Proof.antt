@@ -5,7 +5,7 @@ use lib.ListN.{length, getD, take, length-replicate}
 use lib.Seq.{length-take-le, getD-take}
 use native.Mathlib.Omega.{arith}
 use Rattle.plant_def.specs.Plants.{noStream}
-use Rattle.flow_def.proofs.Lists.{Written, written-none, written-put, written-all}
+use Rattle.num_bytes.proofs.Lists.{Written, written-none, written-put, written-all}
 use Rattle.survey_def.specs.Says.{maxSurveyed}
 use borrow.Author.Needs.{needs}
 use Rattle.survey_count.proofs.first_streams.Statement.{statement}

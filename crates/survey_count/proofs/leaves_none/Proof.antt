@@ -1,5 +1,5 @@
 -- `leaves_none` meets its contract: each stream passed has a meter or joined two groups.
-use mathlib.Core.Path.{_≡_, sym, ap, _∙_}
+use mathlib.Core.Path.{sym, ap, _∙_}
 use mathlib.Core.Bool.{Bool, _&&_}
 use Prim.Native.Nat.{_-_, _%_}
 use lib.Dec.{eqb}
@@ -63,8 +63,8 @@ loop-again c =
     let start = at-loop .before .before in
     let at = at-loop .loop in
     let taken = in-loop .loop-test .taken in
-    let apart = ap (λ (b : Bool). eqb (at .left % 2) 0 && b) (sym (after-one-label .one-label .ensures)) ∙ c .before .before .if1 .left in
-    passed-more _ _ (start .pre) _ _ _ _ (at .inv) taken apart _ (c .step .ensures)
+    let distinct = ap (λ (b : Bool). eqb (at .left % 2) 0 && b) (sym (after-one-label .one-label .ensures)) ∙ c .before .before .if1 .left in
+    passed-more _ _ (start .pre) _ _ _ _ (at .inv) taken distinct _ (c .step .ensures)
 
 returns-2 : tie.Need-returns-2 Inv-loop μ-loop
 returns-2 c = passed-all _ _ (c .before .before .before .pre) _ _ _ _ (c .before .loop .inv) (omega arith)

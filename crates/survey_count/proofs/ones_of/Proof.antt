@@ -2,9 +2,9 @@
 use mathlib.Core.Path.{_≡_, refl, ap, ap₂, _∙_}
 use Prim.Native.Nat.{ℕ, _+_, _≤_, _-_, _/_, _%_, _^_}
 use native.Mathlib.Omega.{arith}
-use Rattle.flow_def.specs.Sides.{bit}
+use Rattle.num_bytes.specs.Sums.{bit}
 use Rattle.survey_def.specs.Inner.{ones}
-use Rattle.flow_def.proofs.Counts.{count-few}
+use Rattle.num_bytes.proofs.Counts.{count-few}
 use Rattle.survey_def.proofs.Turns.{none-taken, half-left, ones-more}
 use borrow.Author.Needs.{needs}
 use Rattle.survey_count.proofs.ones_of.Statement.{statement}

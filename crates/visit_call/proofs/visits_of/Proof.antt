@@ -26,14 +26,14 @@ taken c =
 abbrev at-plant : tie.After-lay → tie.After-plant
 at-plant c = c .before .before .before .before .before
 
-abbrev laid : tie.After-cuts-of → tie.After-lay
+abbrev laid : tie.After-bridges-of → tie.After-lay
 laid c = c .before .before .before
 
-abbrev cut : tie.After-solve → tie.After-cuts-of
-cut c = c .before .before .before .before
+abbrev bridge : tie.After-solve → tie.After-bridges-of
+bridge c = c .before .before .before .before
 
 abbrev begun : tie.After-solve → tie.After-plant
-begun c = at-plant (laid (cut c))
+begun c = at-plant (laid (bridge c))
 
 -- It has a flow in range.
 solved : (c : tie.Else2) → Feasible (plantOf (begun (c .before .before) .before .before .read-plant .result .plant))
@@ -61,8 +61,8 @@ cast-arcs c = search needs
 lay-requires : tie.Need-lay-requires
 lay-requires c κs = (network-of _ (taken (c .before .before .before .before)), refl, no-arc, refl)
 
-cuts-of-requires : tie.Need-cuts-of-requires
-cuts-of-requires c κs =
+bridges-of-requires : tie.Need-bridges-of-requires
+bridges-of-requires c κs =
     let f = c .before .before in
     (at-plant f .before .before .read-plant .result .plant, record { accepted = taken (at-plant f); laid = f .lay .ensures })
 
@@ -71,7 +71,7 @@ solve-requires c κs =
     let k = c .before .before .before in
     let f = laid k in
     let a = at-plant f in
-    (taken a, k .cuts-of .ensures (a .before .before .read-plant .result .plant) (record { accepted = taken a; laid = f .lay .ensures }) .grouped, f .lay .ensures)
+    (taken a, k .bridges-of .ensures (a .before .before .read-plant .result .plant) (record { accepted = taken a; laid = f .lay .ensures }) .grouped, f .lay .ensures)
 
 refused-requires-2 : tie.Need-refused-requires-2
 refused-requires-2 c κs = search needs
@@ -88,10 +88,10 @@ returns-2 c =
 
 classes-of-requires : tie.Need-classes-of-requires
 classes-of-requires c κs =
-    let k = cut (c .before .before) in
+    let k = bridge (c .before .before) in
     let f = laid k in
     let a = at-plant f in
-    (taken a, k .cuts-of .ensures (a .before .before .read-plant .result .plant) (record { accepted = taken a; laid = f .lay .ensures }))
+    (taken a, k .bridges-of .ensures (a .before .before .read-plant .result .plant) (record { accepted = taken a; laid = f .lay .ensures }))
 
 adjusted-of-requires : tie.Need-adjusted-of-requires
 adjusted-of-requires c κs = search needs
@@ -128,7 +128,7 @@ visits-of-spec =
     cast-count
     cast-arcs
     lay-requires
-    cuts-of-requires
+    bridges-of-requires
     solve-requires
     refused-requires-2
     returns-2

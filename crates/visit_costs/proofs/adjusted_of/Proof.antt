@@ -6,7 +6,7 @@ use native.Mathlib.Omega.{arith}
 use lib.ListN.{getD, length-replicate}
 use Rattle.plant_def.specs.Limits.{maxStreams}
 use Rattle.flow_def.specs.declared.Class.the-variants.{Adjusted}
-use Rattle.flow_def.proofs.Lists.{Written, written-none, written-put}
+use Rattle.num_bytes.proofs.Lists.{Written, written-none, written-put}
 use Rattle.visit_def.specs.Visits.{isAdjusted}
 use borrow.Author.Needs.{needs}
 use Rattle.visit_costs.proofs.adjusted_of.Statement.{statement}

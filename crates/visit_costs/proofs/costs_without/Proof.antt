@@ -27,7 +27,7 @@ array-read-cost-without : tie.Need-array-read-cost-without Inv-loop μ-loop
 array-read-cost-without c = omega (arith, c .loop-test .taken, c .before .before .before .pre .0 .within .few-streams)
 
 cost-without-requires : tie.Need-cost-without-requires Inv-loop μ-loop
-cost-without-requires c κs = (c .before .before .before .pre .0, c .loop-test .taken, c .before .before .before .pre .1)
+cost-without-requires c κs = let start = c .before .before .before in (start .pre .0, c .loop-test .taken, start .pre .1)
 
 mul-costs : tie.Need-mul-costs Inv-loop μ-loop
 mul-costs c = search needs

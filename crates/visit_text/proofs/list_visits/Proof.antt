@@ -14,15 +14,6 @@ returns c =
     let start = c .before .before .before in
     (says-nothing (now (start .args .file)) (now (start .args .text)) (c .if1 .taken), (omega arith, refl))
 
-visits-of-requires : tie.Need-visits-of-requires
-visits-of-requires c κs = search needs
-
-put-refusal-requires : tie.Need-put-refusal-requires
-put-refusal-requires c κs = search needs
-
-same-length : tie.Need-same-length
-same-length c = search needs
-
 returns-2 : tie.Need-returns-2
 returns-2 c =
     let then2 = c .before .before .before .before in
@@ -35,18 +26,12 @@ returns-2 c =
       put-counts p,
     )
 
-cast-put-lines : tie.Need-cast-put-lines
-cast-put-lines c = search needs
-
 put-lines-requires : tie.Need-put-lines-requires
 put-lines-requires c κs =
     let after-visits-of = c .before .before .before .before .before in
     let else1 = after-visits-of .before in
     let start = else1 .before .before .before in
     (visits-fit (now (start .args .file)) (after-visits-of .visits-of .result) (after-visits-of .visits-of .ensures), else1 .if1 .left)
-
-same-length-2 : tie.Need-same-length-2
-same-length-2 c = search needs
 
 returns-3 : tie.Need-returns-3
 returns-3 c =
@@ -64,13 +49,5 @@ returns-3 c =
 pub list-visits-spec : {M : Type 1} → statement M
 list-visits-spec =
     tie.close
-    (tie.spec
-    returns
-    visits-of-requires
-    put-refusal-requires
-    same-length
-    returns-2
-    cast-put-lines
-    put-lines-requires
-    same-length-2
-    returns-3)
+    (tie.spec returns (λ c κs. search needs) (λ c κs. search needs) (λ c. search needs) returns-2 (λ c. search needs)
+    put-lines-requires (λ c. search needs) returns-3)

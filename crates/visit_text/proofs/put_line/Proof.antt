@@ -1,42 +1,31 @@
 -- The number, the cost, the line's end.
 use native.Mathlib.Omega.{arith}
 use Rattle.num_text.proofs.Behind.{behind}
-use Rattle.visit_text.proofs.Lined.{line-size}
+use Rattle.num_text.proofs.Lines.{pair-size}
 use borrow.Author.Needs.{needs}
 use Rattle.visit_text.proofs.put_line.Statement.{statement}
 use Rattle.visit_text.proofs.put_line.Tie as tie
 
 put-field-requires : tie.Need-put-field-requires
-put-field-requires c κs = let s = line-size (c .before .before .args .stream) (c .before .before .args .cost) in omega arith
+put-field-requires c κs = let a = c .before .before .args in omega (arith, pair-size (a .stream) (a .cost))
 
 put-decimal-requires : tie.Need-put-decimal-requires
 put-decimal-requires c κs =
-    let after-put-field = c .before .before .before in
-    let start = after-put-field .before .before .before in
-    let s = line-size (start .args .stream) (start .args .cost) in
-    let p = after-put-field .put-field .ensures .place in
-    omega arith
+    let f = c .before .before .before in
+    let a = f .before .before .before .args in
+    omega (arith, pair-size (a .stream) (a .cost), f .put-field .ensures .place)
 
 put-byte-requires : tie.Need-put-byte-requires
 put-byte-requires c κs =
-    let after-put-decimal = c .before .before .before in
-    let after-put-field = after-put-decimal .before .before .before .before in
-    let start = after-put-field .before .before .before in
-    let s = line-size (start .args .stream) (start .args .cost) in
-    let p = after-put-field .put-field .ensures .place in
-    let q = after-put-decimal .put-decimal .ensures .place in
-    omega arith
-
-same-length : tie.Need-same-length
-same-length c = search needs
+    let d = c .before .before .before in
+    let f = d .before .before .before .before in
+    let a = f .before .before .before .args in
+    omega (arith, pair-size (a .stream) (a .cost), f .put-field .ensures .place, d .put-decimal .ensures .place)
 
 returns : tie.Need-returns
 returns c =
-    let after-put-decimal = c .before .before .before .before .before .before in
-    let after-put-field = after-put-decimal .before .before .before .before in
-    behind (behind (after-put-field .put-field .ensures) (after-put-decimal .put-decimal .ensures)) (c .before .before .put-byte .ensures)
+    let d = c .before .before .before .before .before .before in
+    behind (behind (d .before .before .before .before .put-field .ensures) (d .put-decimal .ensures)) (c .before .before .put-byte .ensures)
 
 pub put-line-spec : {M : Type 1} → statement M
-put-line-spec =
-    tie.close
-    (tie.spec put-field-requires put-decimal-requires put-byte-requires same-length returns)
+put-line-spec = tie.close (tie.spec put-field-requires put-decimal-requires put-byte-requires (λ c. search needs) returns)

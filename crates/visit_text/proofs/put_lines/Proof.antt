@@ -4,8 +4,9 @@ use Prim.Native.Nat.{_-_}
 use lib.ListN.{getD}
 use mir.Syntax.{w8, w64}
 use mir.Val.{Fits}
-use Rattle.num_text.proofs.Behind.{kept-length}
-use Rattle.visit_text.proofs.Lined.{Lined, no-lines, line-room, one-line, all-lines}
+use Rattle.num_text.proofs.Behind.{put-front}
+use Rattle.num_text.proofs.Lines.{lines-long, all-lines}
+use Rattle.visit_text.proofs.Lined.{Lined, no-lines, line-room, one-line}
 use borrow.Author.Needs.{needs}
 use Rattle.visit_text.proofs.put_lines.Statement.{statement}
 use Rattle.visit_text.proofs.put_lines.Tie as tie
@@ -52,10 +53,10 @@ loop-again c =
     one-line (at-loop .loop .inv) (in-loop .loop-test .taken) (f .fits) (g .fits) (c .before .before .put-line .ensures)
 
 same-length : tie.Need-same-length Inv-loop μ-loop
-same-length c = kept-length (c .before .loop .inv .so-far)
+same-length c = lines-long (c .before .loop .inv .lines)
 
 returns : tie.Need-returns Inv-loop μ-loop
-returns c = all-lines (c .before .loop .inv) (c .loop-test .left)
+returns c = put-front (all-lines (c .before .loop .inv .lines) (c .loop-test .left))
 
 pub put-lines-spec : {M : Type 1} → statement M
 put-lines-spec =

@@ -10,7 +10,7 @@ const FAR: i64 = i64::MAX;
 struct Reach {
     /// The places labelled, a bit for each, and those with a distance that are not.
     labelled: u64,
-    open: u64,
+    fringe: u64,
     distance: [i64; PLACES],
     via: [u8; PLACES],
     /// The step of the improvement that is sought.
@@ -33,12 +33,12 @@ impl Reach {
     fn from(start: usize, delta: i64) -> Reach {
         let mut distance = [FAR; PLACES];
         distance[start] = 0;
-        Reach { labelled: 0, open: 1 << start, distance, via: [0; PLACES], delta }
+        Reach { labelled: 0, fringe: 1 << start, distance, via: [0; PLACES], delta }
     }
 
-    /// The open place of least distance.
+    /// The place of the fringe at least distance.
     fn nearest(&self) -> Option<usize> {
-        bits(self.open).min_by_key(|&u| self.distance[u])
+        bits(self.fringe).min_by_key(|&u| self.distance[u])
     }
 
     /// The streams of a newly labelled place.
@@ -50,15 +50,15 @@ impl Reach {
                 continue;
             }
             let i = usize::from(step.stream);
-            let slack = state.slack(&streams[i], state.flows[i], step.forwards, self.delta);
-            if slack == SHUT {
+            let cost = state.reduced_cost(&streams[i], state.flows[i], step.forwards, self.delta);
+            if cost == SHUT {
                 continue;
             }
-            let distance = self.distance[u] + slack;
+            let distance = self.distance[u] + cost;
             if distance < self.distance[v] {
                 self.distance[v] = distance;
                 self.via[v] = step.stream;
-                self.open |= 1 << v;
+                self.fringe |= 1 << v;
             }
         }
     }
@@ -68,7 +68,7 @@ impl Reach {
         loop {
             let u = self.nearest()?;
             watch.round();
-            self.open &= !(1 << u);
+            self.fringe &= !(1 << u);
             self.labelled |= 1 << u;
             if state.nets[u] < 0 {
                 return Some(u);

@@ -19,7 +19,7 @@ const MOST_MARGINAL: i64 = MAX_WEIGHT * (2 * (MOST_AMOUNT + MAX_READING) + FIRST
 const POTENTIAL_FLOOR: i64 = -(PLACES as i64) * MOST_MARGINAL;
 
 /// The potentials from the top: every gap above `most` becomes `most`, the highest comes within it of 0.
-fn close(potentials: &mut [i64; PLACES], most: i64) {
+fn compress(potentials: &mut [i64; PLACES], most: i64) {
     let mut order: [usize; PLACES] = std::array::from_fn(|u| u);
     order.sort_by_key(|&u| std::cmp::Reverse(potentials[u]));
     let (mut last, mut raised) = (0, 0);
@@ -69,7 +69,7 @@ pub fn phase<W: Watch>(
                 break;
             }
             if sunk(&state.potentials) {
-                close(&mut state.potentials, MOST_MARGINAL);
+                compress(&mut state.potentials, MOST_MARGINAL);
                 watch.closed();
             }
         }
@@ -110,22 +110,30 @@ mod tests {
         potentials
     }
 
-    /// The committed cases of the closing: potentials as the library holds them, 2^57 above what they are, 8 bytes each.
+    /// The committed cases of the compression: potentials as the library holds them, 2^57 above what they are, 8 bytes each. A case has its
+    /// lengths in front, and leaves off the end of the slice as far as it is the filling (reference/cases.py).
     #[test]
-    fn committed_closings() {
+    fn committed_compressions() {
         const HELD: u64 = 1 << 57;
-        const SIZE: usize = 20 + 2 * 8 * PLACES;
-        let cases = include_bytes!("../../../../crates/vectors/data/closings.bin");
+        const SIZE: usize = 8 * PLACES;
+        let mut cases: &[u8] = include_bytes!("../../../../crates/vectors/data/compressions.bin");
         let potential = |bytes: &[u8]| u64::from_be_bytes(bytes.try_into().expect("8 bytes")).wrapping_sub(HELD) as i64;
         let potentials = |bytes: &[u8]| -> [i64; PLACES] { std::array::from_fn(|u| potential(&bytes[8 * u..8 * u + 8])) };
-        assert!(cases.len() / SIZE > 50 && cases.len() % SIZE == 0, "cases are missing");
-        for case in cases.chunks(SIZE) {
-            let (mut found, after) = (potentials(&case[20..]), potentials(&case[20 + 8 * PLACES..]));
+        let mut count = 0;
+        while !cases.is_empty() {
+            let length = |at: usize| usize::from(u16::from_be_bytes([cases[at], cases[at + 1]]));
+            let (given, told) = (length(2), length(4));
+            assert!(given == SIZE && told <= SIZE);
+            let mut slice = [cases[1]; SIZE];
+            slice[..told].copy_from_slice(&cases[20 + SIZE..20 + SIZE + told]);
+            let (mut found, after) = (potentials(&cases[20..]), potentials(&slice));
             if sunk(&found) {
-                close(&mut found, MOST_MARGINAL);
+                compress(&mut found, MOST_MARGINAL);
             }
             assert_eq!(found, after);
+            (cases, count) = (&cases[20 + SIZE + told..], count + 1);
         }
+        assert!(count > 50, "cases are missing");
     }
 
     #[test]
@@ -135,7 +143,7 @@ mod tests {
             let most = draws.pick(&[1, 9, 1_000, MOST_MARGINAL]);
             let potentials: [i64; PLACES] = std::array::from_fn(|_| -draws.between(0, 40 * most) * draws.between(0, 2));
             let mut found = potentials;
-            close(&mut found, most);
+            compress(&mut found, most);
             assert_eq!(found, closed(potentials, most));
             assert!(found.iter().all(|p| (-(PLACES as i64) * most..=0).contains(p)));
         }

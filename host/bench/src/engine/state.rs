@@ -1,9 +1,9 @@
-//! Amounts, potentials and nets; amounts settled at potentials and moved along a way; the slack of a stream.
+//! Amounts, potentials and nets; amounts settled at potentials and moved along a way; the reduced cost of a stream.
 
 use super::watch::Watch;
 use crate::plants::{Stream, MAX_STREAMS, PLACES};
 
-/// The slack of a stream that has no room.
+/// The reduced cost of a stream that has no room.
 pub const SHUT: i64 = i64::MAX;
 
 /// The amount of each stream, and the potential and the net of each place.
@@ -60,7 +60,7 @@ impl State {
     }
 
     /// What is missing before delta can be moved along a stream with amount x; SHUT where it would leave the range.
-    pub fn slack(&self, s: &Stream, x: i64, forwards: bool, delta: i64) -> i64 {
+    pub fn reduced_cost(&self, s: &Stream, x: i64, forwards: bool, delta: i64) -> i64 {
         if if forwards { x + delta > s.high } else { x - delta < s.low } {
             return SHUT;
         }

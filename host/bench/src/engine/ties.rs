@@ -7,7 +7,7 @@ use crate::plants::{Stream, PLACES};
 
 /// Whether a stream's amount can fall by one at no cost.
 fn can_fall(state: &State, s: &Stream, i: usize) -> bool {
-    s.metered && state.slack(s, state.flows[i], false, 1) == 0
+    s.metered && state.reduced_cost(s, state.flows[i], false, 1) == 0
 }
 
 /// The stream by which each place was labelled, if the target was; each labelled place looks at its own streams alone.
@@ -31,7 +31,7 @@ fn way_round<W: Watch>(
             watch.visits(1);
             let (v, j) = (usize::from(step.to), usize::from(step.stream));
             let s = &streams[j];
-            if labelled >> v & 1 == 1 || (s.metered && j <= i) || state.slack(s, state.flows[j], step.forwards, 1) > 0 {
+            if labelled >> v & 1 == 1 || (s.metered && j <= i) || state.reduced_cost(s, state.flows[j], step.forwards, 1) > 0 {
                 continue;
             }
             via[v] = step.stream;
@@ -46,7 +46,7 @@ fn way_round<W: Watch>(
     None
 }
 
-/// The streams one after the other: less by one where a way of no slack leads round it.
+/// The streams one after the other: less by one where a way of no reduced cost leads round it.
 pub fn tie_all<W: Watch>(streams: &[Stream], incidence: &Incidence, state: &mut State, watch: &mut W) {
     for (i, s) in streams.iter().enumerate() {
         if !can_fall(state, s, i) {

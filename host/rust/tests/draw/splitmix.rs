@@ -21,7 +21,6 @@ impl Draw {
     }
 
     /// One of the numbers from a to b.
-    #[allow(dead_code)] // one of the tests draws no such number
     pub fn between(&mut self, a: i64, b: i64) -> i64 {
         a + (self.bits() % (b - a + 1) as u64) as i64
     }

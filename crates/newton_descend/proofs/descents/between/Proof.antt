@@ -1,6 +1,5 @@
 -- `newton_descend::descents::between` meets its contract: by the trial.
 use borrow.Author.Tests.{eq-eqb, ne-eqb}
-use borrow.Author.Needs.{needs}
 use Rattle.newton_descend.proofs.descents.between.Statement.{statement}
 use Rattle.newton_descend.proofs.descents.between.Tie as tie
 

@@ -71,10 +71,11 @@ loop-less c = search needs
 
 loop-again : tie.Need-loop-again Inv-loop μ-loop
 loop-again c =
-    let e = tested (c .before .before .before .before .before .before) in
+    let after-direction = c .before .before .before .before .before .before in
+    let e = tested after-direction in
     let on = turned e in
     let v = on .before .loop .inv in
-    let d = directed (c .before .before .before .before .before .before) in (
+    let d = directed after-direction in (
       rw (c .advance .ensures) (advanced-long _ _ _ (begin e .args .n) ∙ v .0),
       rw (e .before .before .before .nets-at .ensures) (nets-long _ _ _ (begin e .args .count)),
       d .direction .ensures .1,

@@ -1,5 +1,4 @@
 -- `newton_descend::descents::narrowed` meets its contract: by the sign of the slope.
-use borrow.Author.Needs.{needs}
 use Rattle.newton_descend.proofs.descents.narrowed.Statement.{statement}
 use Rattle.newton_descend.proofs.descents.narrowed.Tie as tie
 

@@ -19,30 +19,6 @@ abbrev μ-loop : tie.MeasureT-loop
 loop-holds : tie.Need-loop-holds Inv-loop μ-loop
 loop-holds c = (omega arith, c .pre .1, advanced-none _ _ _)
 
-mul-potentials : tie.Need-mul-potentials Inv-loop μ-loop
-mul-potentials c = search needs
-
-element-copy-out-potentials : tie.Need-element-copy-out-potentials Inv-loop μ-loop
-element-copy-out-potentials c = search needs
-
-mul-potentials-2 : tie.Need-mul-potentials-2 Inv-loop μ-loop
-mul-potentials-2 c = search needs
-
-element-copy-out-potentials-2 : tie.Need-element-copy-out-potentials-2 Inv-loop μ-loop
-element-copy-out-potentials-2 c = search needs
-
-mul-potentials-3 : tie.Need-mul-potentials-3 Inv-loop μ-loop
-mul-potentials-3 c = search needs
-
-element-write-potentials : tie.Need-element-write-potentials Inv-loop μ-loop
-element-write-potentials c = search needs
-
-add-u : tie.Need-add-u Inv-loop μ-loop
-add-u c = search needs
-
-loop-less : tie.Need-loop-less Inv-loop μ-loop
-loop-less c = search needs
-
 loop-again : tie.Need-loop-again Inv-loop μ-loop
 loop-again c = let at = c .before .before .before in (omega arith, simp length-set (at .loop .inv .1), advanced-more _ _ _ (at .loop .u) (at .loop .potentials) (at .loop .inv .2))
 
@@ -52,17 +28,5 @@ returns c = let l = c .before .loop in l .inv .2 ∙ ap (advancedTo _ _ _) (all-
 pub advance-spec : {M : Type 1} → statement M
 advance-spec =
     tie.close
-    (tie.spec
-    Inv-loop
-    μ-loop
-    loop-holds
-    mul-potentials
-    element-copy-out-potentials
-    mul-potentials-2
-    element-copy-out-potentials-2
-    mul-potentials-3
-    element-write-potentials
-    add-u
-    loop-less
-    loop-again
-    returns)
+    (tie.spec Inv-loop μ-loop loop-holds (λ c. search needs) (λ c. search needs) (λ c. search needs) (λ c. search needs)
+    (λ c. search needs) (λ c. search needs) (λ c. search needs) (λ c. search needs) loop-again returns)

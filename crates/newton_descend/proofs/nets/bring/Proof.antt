@@ -1,5 +1,4 @@
 -- `newton_descend::nets::bring` meets its contract: both groups are places.
-use mathlib.Core.Path.{_≡_}
 use Prim.Native.Nat.{_+_, _*_, _<_}
 use native.Mathlib.Omega.{arith}
 use borrow.Author.Needs.{needs}
@@ -18,12 +17,6 @@ end-in c =
     let all = c .before .before .pre .1 .1 in
     rw (c .end-at .ensures) (omega (arith, all .few, all .ends .within (2 * c .before .before .args .k + 1) (omega (arith, all .short))))
 
-start-at-requires : tie.Need-start-at-requires
-start-at-requires c κs = search needs
-
-end-at-requires : tie.Need-end-at-requires
-end-at-requires c κs = search needs
-
 mul-amount-at : tie.Need-mul-amount-at
 mul-amount-at c = omega (arith, end-in c)
 
@@ -35,12 +28,6 @@ mul-amount-at-2 c = omega (arith, start-in (c .before .before))
 
 element-copy-out-amount-at-2 : tie.Need-element-copy-out-amount-at-2
 element-copy-out-amount-at-2 c = start-in (c .before .before)
-
-amount-at-requires : tie.Need-amount-at-requires
-amount-at-requires c κs = search needs
-
-in-range-requires : tie.Need-in-range-requires
-in-range-requires c κs = search needs
 
 mul-nets : tie.Need-mul-nets
 mul-nets c = omega (arith, start-in (c .before .before .before .before .before))
@@ -78,21 +65,6 @@ returns c =
 pub bring-spec : {M : Type 1} → statement M
 bring-spec =
     tie.close
-    (tie.spec
-    start-at-requires
-    end-at-requires
-    mul-amount-at
-    element-copy-out-amount-at
-    mul-amount-at-2
-    element-copy-out-amount-at-2
-    amount-at-requires
-    in-range-requires
-    mul-nets
-    element-copy-out-nets
-    mul-nets-2
-    element-write-nets
-    mul-nets-3
-    element-copy-out-nets-2
-    mul-nets-4
-    element-write-nets-2
-    returns)
+    (tie.spec (λ c κs. search needs) (λ c κs. search needs) mul-amount-at element-copy-out-amount-at mul-amount-at-2
+    element-copy-out-amount-at-2 (λ c κs. search needs) (λ c κs. search needs) mul-nets element-copy-out-nets mul-nets-2
+    element-write-nets mul-nets-3 element-copy-out-nets-2 mul-nets-4 element-write-nets-2 returns)

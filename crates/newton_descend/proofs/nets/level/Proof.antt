@@ -5,7 +5,7 @@ use native.Mathlib.Omega.{arith}
 use lib.Ieee.{nan}
 use borrow.Author.Needs.{needs}
 use Rattle.plant_def.specs.Limits.{places}
-use Rattle.flow_def.proofs.Lists.{Written, written-none, written-put}
+use Rattle.num_bytes.proofs.Lists.{Written, written-none, written-put}
 use Rattle.newton_descend.specs.Nets.{none}
 use Rattle.newton_descend.proofs.Steps.{level-all}
 use Rattle.newton_descend.proofs.nets.level.Statement.{statement}
@@ -20,17 +20,8 @@ abbrev μ-loop : tie.MeasureT-loop
 loop-holds : tie.Need-loop-holds Inv-loop μ-loop
 loop-holds c = (omega arith, written-none (c .pre))
 
-mul-nets : tie.Need-mul-nets Inv-loop μ-loop
-mul-nets c = search needs
-
 element-write-nets : tie.Need-element-write-nets Inv-loop μ-loop
 element-write-nets c = omega (arith, c .before .loop .inv .1 .long)
-
-add-u : tie.Need-add-u Inv-loop μ-loop
-add-u c = search needs
-
-loop-less : tie.Need-loop-less Inv-loop μ-loop
-loop-less c = search needs
 
 loop-again : tie.Need-loop-again Inv-loop μ-loop
 loop-again c = (omega arith, written-put (c .before .loop .inv .1) (omega arith) _ refl)
@@ -41,13 +32,5 @@ returns c = let e : c .before .loop .u ≡ places = omega (arith, c .before .loo
 pub level-spec : {M : Type 1} → statement M
 level-spec =
     tie.close
-    (tie.spec
-    Inv-loop
-    μ-loop
-    loop-holds
-    mul-nets
-    element-write-nets
-    add-u
-    loop-less
-    loop-again
-    returns)
+    (tie.spec Inv-loop μ-loop loop-holds (λ c. search needs) element-write-nets (λ c. search needs) (λ c. search needs)
+    loop-again returns)

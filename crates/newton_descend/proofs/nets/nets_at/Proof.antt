@@ -17,9 +17,6 @@ Inv-loop ends meters count potentials nets₀ k₀ nets k = (k ≤ count) × (le
 abbrev μ-loop : tie.MeasureT-loop
 μ-loop ends meters count potentials nets₀ k₀ nets k = count - k
 
-level-requires : tie.Need-level-requires Inv-loop μ-loop
-level-requires c κs = search needs
-
 loop-holds : tie.Need-loop-holds Inv-loop μ-loop
 loop-holds c = (omega arith, rw (c .level .ensures) (length-replicate places none), c .level .ensures ∙ nets-none _ _ _)
 
@@ -29,12 +26,6 @@ bring-requires c κs =
     let at = on .before in
     let all = at .before .before .before .pre .0 in
     (at .loop .inv .1, (all .0, gathered-first (all .1) _ (on .loop-test .taken)))
-
-add-k : tie.Need-add-k Inv-loop μ-loop
-add-k c = search needs
-
-loop-less : tie.Need-loop-less Inv-loop μ-loop
-loop-less c = search needs
 
 loop-again : tie.Need-loop-again Inv-loop μ-loop
 loop-again c =
@@ -48,13 +39,5 @@ returns c = let l = c .before .loop in l .inv .2 ∙ ap (netsTo _ _ _) (all-done
 pub nets-at-spec : {M : Type 1} → statement M
 nets-at-spec =
     tie.close
-    (tie.spec
-    Inv-loop
-    μ-loop
-    level-requires
-    loop-holds
-    bring-requires
-    add-k
-    loop-less
-    loop-again
-    returns)
+    (tie.spec Inv-loop μ-loop (λ c κs. search needs) loop-holds bring-requires (λ c. search needs) (λ c. search needs)
+    loop-again returns)

@@ -1,5 +1,4 @@
 -- `newton_laplacian::equations::join` meets its contract: both groups are among the places that the equations are of.
-use mathlib.Core.Path.{_≡_}
 use Prim.Native.Nat.{suc, _<_}
 use native.Mathlib.Omega.{arith}
 use borrow.Author.Needs.{needs}

@@ -1,5 +1,5 @@
 -- `newton_laplacian::equations::join_all` meets its contract: each stream joined keeps the length.
-use mathlib.Core.Path.{_≡_, sym}
+use mathlib.Core.Path.{_≡_}
 use Prim.Native.Nat.{_≤_, _<_, _-_}
 use native.Mathlib.Omega.{arith}
 use lib.ListN.{length}

@@ -1,6 +1,6 @@
 -- `solve_path::walking::tight_walk` meets its contract: with `left` steps to go the walk comes to what it comes to from the start.
 use borrow.Author.Needs.{needs}
-use Rattle.solve_path.proofs.Tight.{Tight, tight-starts, tight-ends, tight-stops, tight-slack, tight-hits, tight-goes-on}
+use Rattle.solve_path.proofs.Tight.{Tight, tight-starts, tight-ends, tight-stops, tight-reduced, tight-hits, tight-goes-on}
 use Rattle.solve_path.proofs.walking.tight_walk.Statement.{statement}
 use Rattle.solve_path.proofs.walking.tight_walk.Tie as tie
 
@@ -39,7 +39,7 @@ returns-2 c =
     let o = b .before .before in
     let f = o .before in
     let g = turn f .loop .inv in
-    rw (c .searched-by2 .ensures) (tight-slack _ _ _ _ _ _ _ _ _ g (tested f .loop-test .taken) _ _ (f .step .ensures .1 _ (g .visits) (g .coded)) (o .if1 .left) (b .if2 .taken))
+    rw (c .searched-by2 .ensures) (tight-reduced _ _ _ _ _ _ _ _ _ g (tested f .loop-test .taken) _ _ (f .step .ensures .1 _ (g .visits) (g .coded)) (o .if1 .left) (b .if2 .taken))
 
 returns-3 : tie.Need-returns-3 Inv-loop μ-loop
 returns-3 c =

@@ -7,7 +7,7 @@ use borrow.Author.Needs.{needs}
 use lib.ListN.{length, take}
 use Rattle.num_bytes.proofs.Tests.{clash}
 use Rattle.plant_def.specs.Limits.{places}
-use Rattle.solve_def.specs.Sizes.{mostOver, settledRoom}
+use Rattle.solve_def.specs.Sizes.{mostExcess, settledRoom}
 use Rattle.solve_def.specs.declared.Hint.{Hint}
 use Rattle.solve_def.specs.declared.State.{State}
 use Rattle.solve_def.specs.declared.Ended.{Ended}
@@ -89,7 +89,7 @@ abbrev from : tie.After-phase Inv-loop μ-loop → tie.After-resettle Inv-loop �
 from c = c .before .before .before .before .before
 
 added : (c : tie.At-loop Inv-loop μ-loop) (w : Of (begin c)) → let ss = take (w .n) (w .streams) in
-    madeTo places ss (c .loop .step) (settled ss (hint c)) ≤ mostOver
+    madeTo places ss (c .loop .step) (settled ss (hint c)) ≤ mostExcess
 added c w =
     let v = solvable-of (w .streams) (w .n) (w .network) in
     let s = staged c w in

@@ -8,7 +8,7 @@ use borrow.Author.Needs.{needs}
 use lib.Dec.{leb}
 use lib.ListN.{getD, length-replicate}
 use Rattle.plant_def.specs.Limits.{places}
-use Rattle.flow_def.proofs.Lists.{values-at, Written, written-none, written-put, written-all}
+use Rattle.num_bytes.proofs.Lists.{values-at, Written, written-none, written-put, written-all}
 use Rattle.solve_def.specs.Model.{masked}
 use Rattle.solve_def.proofs.Marked.{masked-long}
 use Rattle.solve_phases.proofs.marks.masked.Statement.{statement}
