@@ -13,13 +13,13 @@ from hypothesis import HealthCheck, given, settings
 from hypothesis import strategies as st
 
 import wengeludo_balance as engine
-from wengeludo import view
-from wengeludo.faults import Faulty, Stopped
-from wengeludo.lists import COLUMNS, read_list
-from wengeludo.picture import dot_source
-from wengeludo.sheet import balance
-from wengeludo.site import site_of
-from wengeludo.why import overfull, why
+from wengeludo.write import view
+from wengeludo.read.faults import Faulty, Stopped
+from wengeludo.read.lists import COLUMNS, read_list
+from wengeludo.write.picture import dot_source
+from wengeludo.balance.sheet import balance
+from wengeludo.balance.site import site_of
+from wengeludo.explain.why import overfull, why
 
 PLACES = ("outside", "boiler", "Boiler", "header", "dryers", "tank", "unit 1", "", "<b>&\"'", "[/red]", "=1+1")
 CELLS = {

@@ -15,9 +15,9 @@ import pytest
 from conftest import SAMPLES
 from test_book import sound
 
-from wengeludo.book import Book
-from wengeludo.sheet import balance
-from wengeludo.site import read_site
+from wengeludo.keep.book import Book
+from wengeludo.balance.sheet import balance
+from wengeludo.balance.site import read_site
 
 HOURS = int(os.environ.get("WENGELUDO_HOURS") or 200)
 

@@ -11,10 +11,10 @@ import pytest
 from conftest import SAMPLES
 
 import wengeludo_balance as engine
-from wengeludo.book import Book
-from wengeludo.faults import Stopped
-from wengeludo.sheet import balance
-from wengeludo.site import read_site
+from wengeludo.keep.book import Book
+from wengeludo.read.faults import Stopped
+from wengeludo.balance.sheet import balance
+from wengeludo.balance.site import read_site
 
 HERE = Path(__file__).parent
 
@@ -120,8 +120,8 @@ def test_two_at_a_time(tmp_path):
 KEEPER = """
 import sys
 from pathlib import Path
-from wengeludo.book import Book
-from wengeludo.site import read_site
+from wengeludo.keep.book import Book
+from wengeludo.balance.site import read_site
 book, site = Book(Path(sys.argv[1]), make=True), read_site(Path(sys.argv[2]))
 for _ in range(int(sys.argv[3])):
     book.keep([(site, "x")], 0)

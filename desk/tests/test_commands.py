@@ -214,7 +214,7 @@ class TestCheck:
 
 def test_the_workbook_is_the_list(run, tmp_path):
     """The sample that is shipped as XLSX has the streams of the CSV, and a drawing of its own."""
-    from wengeludo.lists import read_list
+    from wengeludo.read.lists import read_list
 
     book, text = (read_list(SAMPLES / f"steam_site{suffix}") for suffix in (".xlsx", ".csv"))
     assert (book.pipes, book.places) == (text.pipes, text.places) and len(book.spots) == len(book.places) - 1 and not text.spots

@@ -6,11 +6,11 @@ from xml.etree import ElementTree
 import pytest
 from conftest import SAMPLES
 
-from wengeludo.labels import Label, _lines, _placed, _units
-from wengeludo.picture import _label, dot_source
-from wengeludo.sheet import balance
-from wengeludo.site import read_site
-from wengeludo.spots import graphviz
+from wengeludo.write.labels import Label, _lines, _placed, _units
+from wengeludo.write.picture import _label, dot_source
+from wengeludo.balance.sheet import balance
+from wengeludo.balance.site import read_site
+from wengeludo.write.spots import graphviz
 
 SVG = "{http://www.w3.org/2000/svg}"
 CENTIMETRE = 72 / 2.54

@@ -7,8 +7,8 @@ from pathlib import Path
 import openpyxl
 import pytest
 
-from wengeludo.faults import Faulty
-from wengeludo.lists import read_list
+from wengeludo.read.faults import Faulty
+from wengeludo.read.lists import read_list
 
 HEAD = "stream,what,from,to,reading,accuracy,low,high,price,rate\n"
 FORMS = "2% (of the reading), ±50 (standard deviation in kg/h) or w40 (weight) would do"
@@ -145,7 +145,7 @@ def test_titles_above_the_header(listed):
 
 
 def test_a_text_is_no_formula(tmp_path):
-    from wengeludo.packing import written
+    from wengeludo.write.packing import written
 
     path = tmp_path / "list.xlsx"
     pipes = read_list(Path(__file__).parents[1] / "samples" / "listing.csv")

@@ -9,9 +9,9 @@ import subprocess
 import pytest
 from conftest import SAMPLES
 
-from wengeludo import view
-from wengeludo.sheet import balance
-from wengeludo.site import read_site
+from wengeludo.write import view
+from wengeludo.balance.sheet import balance
+from wengeludo.balance.site import read_site
 
 CHROMIUM = shutil.which(os.environ.get("CHROMIUM", "chromium"))
 pytestmark = pytest.mark.skipif(not CHROMIUM, reason="no chromium")

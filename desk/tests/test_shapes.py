@@ -8,14 +8,14 @@ import pytest
 from conftest import SAMPLES
 
 import wengeludo_balance as engine
-from wengeludo import together
-from wengeludo.graph import across, groups, rings, summed
-from wengeludo.lists import read_list
-from wengeludo.sheet import balance
-from wengeludo.site import read_site, site_of
-from wengeludo.spread import spreads
-from wengeludo.suspects import likeliest, suspects
-from wengeludo.unit import UNITS, choose, clamps
+from wengeludo.explain import together
+from wengeludo.balance.graph import across, groups, rings, summed
+from wengeludo.read.lists import read_list
+from wengeludo.balance.sheet import balance
+from wengeludo.balance.site import read_site, site_of
+from wengeludo.balance.spread import spreads
+from wengeludo.explain.suspects import likeliest, suspects
+from wengeludo.balance.unit import UNITS, choose, clamps
 
 
 def drawn_plants(count=150):
@@ -122,7 +122,7 @@ def test_a_unit_keeps_decimals(listed):
 
 
 def test_dead_end_is_noted(listed):
-    from wengeludo.site import notes
+    from wengeludo.balance.site import notes
 
     text = "from,to,reading,accuracy\noutside,boiler 2,50,5\nboiler 2,outside,50,5\nboilr 2,outside,3,1\n"
     assert notes(site_of(read_list(Path(listed(text))))) == ["boilr 2 has a single stream, so nothing can flow through it; is it boiler 2, mistyped?"]

@@ -12,7 +12,7 @@ import click
 import wengeludo_balance as engine
 
 from .. import __version__
-from ..faults import Stopped
+from ..read.faults import Stopped
 from . import files, kept, meters, sheets
 from .options import REFUSED
 

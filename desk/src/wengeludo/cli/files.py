@@ -8,10 +8,11 @@ from typing import Optional
 
 import click
 
-from .. import outputs, packing, terminal
-from ..batch import site_in
-from ..faults import Stopped
-from ..lists import MOST_UNITS
+from ..balance.site import site_in
+from ..read import plant_files
+from ..read.faults import Stopped
+from ..read.lists import MOST_UNITS
+from ..write import outputs, packing, terminal
 from .options import FILE, LIST, UNIT, UnitType
 
 
@@ -38,7 +39,7 @@ def pack(list: Path, plant: Path, transmitter: bool, units: Optional[int], unit:
 @click.option("--unit", type=UnitType(), default="1", show_default=True, help="The unit of the plant file's flows in kg/h, as `pack` told it.")
 def unpack(plant: Path, list: Path, unit: Fraction) -> int:
     """Writes the LIST (CSV or XLSX) of a PLANT file or a transmitter file."""
-    pipes = packing.unpacked(plant, unit)
+    pipes = plant_files.unpacked(plant, unit)
     if not pipes.pipes:
         raise Stopped(f"{plant}: the plant has no stream, so there is nothing to list")
     outputs.write(outputs.other(list, plant), packing.written(pipes, list))

@@ -11,14 +11,16 @@ import click
 
 import wengeludo_balance as engine
 
-from .. import outputs, packing, rules, terminal
-from ..batch import run as run_batch
-from ..batch import site_in
-from ..book import Book
-from ..chart import chart
-from ..faults import Stopped
-from ..sheet import VERDICT, balance
-from ..why import overfull
+from ..balance.sheet import VERDICT, balance
+from ..balance.site import site_in
+from ..explain import rules
+from ..explain.why import overfull
+from ..keep.batch import run as run_batch
+from ..keep.book import Book
+from ..keep.chart import chart
+from ..read import plant_files
+from ..read.faults import Stopped
+from ..write import outputs, terminal
 from .options import FILE, LIST, OFFICE, OUTPUT, REFUSED, UNIT
 
 
@@ -78,7 +80,7 @@ def _told(bytes_: bytes) -> str:
 @click.argument("numbers", type=FILE)
 def check(plant: Path, sheet: Path, numbers: Path) -> int:
     """Checks a SHEET drawn up elsewhere against its PLANT file, with one NUMBER for each place."""
-    broken = rules.check(plant.read_bytes(), sheet.read_bytes(), packing.numbers_in(numbers))
+    broken = rules.check(plant.read_bytes(), sheet.read_bytes(), plant_files.numbers_in(numbers))
     terminal.lines([f"does not pass: {broken}" if broken else "passes: no balanced flow within the ranges costs less"])
     return REFUSED if broken else 0
 

@@ -8,8 +8,9 @@ from typing import Optional
 
 import click
 
-from .. import purchase, terminal
-from ..batch import site_in
+from ..balance.site import site_in
+from ..explain import purchase
+from ..write import terminal
 from .options import LIST, UNIT
 
 

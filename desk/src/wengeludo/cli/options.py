@@ -10,11 +10,11 @@ import click
 
 import wengeludo_balance as engine
 
-from ..batch import site_in
-from ..faults import Stopped
-from ..sheet import Balance, balance
-from ..unit import unit_from
-from ..why import overfull
+from ..balance.sheet import Balance, balance
+from ..balance.site import site_in
+from ..balance.unit import unit_from
+from ..explain.why import overfull
+from ..read.faults import Stopped
 
 REFUSED, WRONG_USE, FAILED = 1, 2, 3
 FILE = click.Path(path_type=Path)

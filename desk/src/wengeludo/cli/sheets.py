@@ -10,9 +10,10 @@ import click
 
 from wengeludo_balance import Verdict
 
-from .. import outputs, suspects, terminal
-from ..sheet import VERDICT
-from ..why import overfull, why
+from ..balance.sheet import VERDICT
+from ..explain import suspects
+from ..explain.why import overfull, why
+from ..write import outputs, terminal
 from .options import FAILED, LIST, OFFICE, OUTPUT, REFUSED, UNIT, drawn_of, sheet_of
 
 

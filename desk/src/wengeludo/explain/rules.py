@@ -7,7 +7,7 @@ from typing import Dict, FrozenSet, List, Optional, Sequence
 import wengeludo_balance as engine
 from wengeludo_balance import Kind
 
-from .graph import across, reach
+from ..balance.graph import across, reach
 
 LIMIT = 10**18
 

@@ -112,3 +112,8 @@ def accuracy(text: str, reading: float, marks: Marks) -> Accuracy:
     if not 1e-6 <= deviation <= 1e12:
         raise ValueError("the standard deviation must be above 0: " + FORMS)
     return Accuracy(deviation)
+
+
+def deviation_of(weight: int, unit: Fraction) -> float:
+    """The deviation with which a weight counts, in kg/h."""
+    return float(unit) * math.sqrt(1_000 / weight)

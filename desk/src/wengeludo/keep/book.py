@@ -16,12 +16,12 @@ from typing import Iterable, Iterator, List, Optional, Tuple
 
 import wengeludo_balance as engine
 
-from .faults import Stopped
-from .lists import Pipe, PipeList
-from .numbers import Accuracy
-from .sheet import Balance, reopened
-from .site import Site
-from .unit import clamp
+from ..balance.sheet import Balance, reopened
+from ..balance.site import Site
+from ..balance.unit import clamp
+from ..read.faults import Stopped
+from ..read.lists import Pipe, PipeList
+from ..read.numbers import Accuracy
 
 VERSION = 1
 APPLICATION = 0x57454E47  # the file's mark

@@ -8,8 +8,8 @@ from typing import List, Optional
 import wengeludo_balance as engine
 from wengeludo_balance import Verdict
 
-from .sheet import Balance
-from .site import Site
+from ..balance.sheet import Balance
+from ..balance.site import Site
 
 
 @dataclass(frozen=True)

@@ -12,12 +12,10 @@ from typing import Callable, Iterator, List, Optional, Sequence, Tuple
 
 import wengeludo_balance as engine
 
+from ..balance.sheet import Balance, balance
+from ..balance.site import Site, site_in
+from ..read.faults import Stopped
 from .book import Book
-from .faults import Stopped
-from .packing import unpacked
-from .sheet import Balance, balance
-from .site import Site, read_site, site_of
-from .unit import choose
 
 HEAD = ("file", "verdict", "cost", "limit", "degrees", "blanks", "worst", "worst σ", "unit", "office", "sheet", "fault")
 SUFFIXES = (".csv", ".xlsx", ".bin")
@@ -49,14 +47,6 @@ def files_in(folder: Path) -> List[Path]:
     except OSError as error:
         raise Stopped(f"{folder}: {error.strerror}") from None
     return [p for p in found if not p.name.endswith(".places.csv") and not p.name.startswith(".")]
-
-
-def site_in(path: Path, unit: Optional[Fraction]) -> Site:
-    """The site of a list or of a plant file."""
-    if path.suffix.lower() != ".bin":
-        return read_site(path, unit)
-    pipes = unpacked(path)
-    return site_of(pipes, unit or choose(pipes.pipes), path)
 
 
 def outcome(path: Path, unit: Optional[Fraction], keep: bool = False) -> Outcome:

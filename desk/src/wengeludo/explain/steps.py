@@ -6,10 +6,10 @@ from typing import List
 
 from wengeludo_balance import Verdict
 
+from ..balance.graph import across, rings
+from ..balance.sheet import Balance, sigmas
+from ..balance.site import notes
 from . import purchase, suspects, together
-from .graph import across, rings
-from .sheet import Balance, sigmas
-from .site import notes
 from .why import overfull
 
 MOST = 5

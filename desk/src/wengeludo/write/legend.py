@@ -5,7 +5,7 @@ from __future__ import annotations
 from html import escape
 from typing import List, Tuple
 
-from .sheet import Balance
+from ..balance.sheet import Balance
 
 ROW, COLUMN, TOP = 19, 250, 16
 _SAMPLES = (

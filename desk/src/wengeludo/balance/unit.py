@@ -11,8 +11,9 @@ from dataclasses import dataclass
 from fractions import Fraction
 from typing import List, Optional, Sequence, Tuple
 
-from .faults import Stopped
-from .lists import Pipe
+from ..read.faults import Stopped
+from ..read.lists import Pipe
+from ..read.numbers import deviation_of
 
 MOST_WEIGHT = 1_000
 MOST_READING = 4_000_000
@@ -33,11 +34,6 @@ class Clamp:
 def weight_of(deviation: float, unit: Fraction) -> int:
     """The weight of a meter in this unit, as near as a weight can be."""
     return min(MOST_WEIGHT, max(1, round(1_000 * float(unit) ** 2 / deviation**2)))
-
-
-def deviation_of(weight: int, unit: Fraction) -> float:
-    """The deviation with which a weight counts, in kg/h."""
-    return float(unit) * math.sqrt(1_000 / weight)
 
 
 def _weight(pipe: Pipe, unit: Fraction) -> int:

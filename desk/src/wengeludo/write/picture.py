@@ -15,9 +15,9 @@ from typing import Dict, List, Optional, Tuple
 
 from wengeludo_balance import Kind
 
+from ..balance.sheet import Balance, Line, sigmas
 from .labels import FONT, Label, labelled
 from .legend import legend
-from .sheet import Balance, Line, sigmas
 from .spots import CENTIMETRE, WIDE, all_spots, graphviz, header, outside_spots
 
 COLOURS = {Kind.ADJUSTED: "#1b6ca8", Kind.AS_READ: "#8a6d00", Kind.GIVEN: "#2e7d32", Kind.WITHHELD: "#6a3d9a"}

@@ -6,11 +6,11 @@ from typing import List, Sequence
 
 from wengeludo_balance import Kind
 
+from ..balance.graph import Signed, across, chain, groups, ring, summed, unmetered
+from ..balance.sheet import HOW, Balance, sigmas
 from . import together
-from .graph import Signed, across, chain, groups, ring, summed, unmetered
 from .purchase import cheapest
 from .purchase import words as bought
-from .sheet import HOW, Balance, sigmas
 
 Lines = List[str]
 

@@ -10,12 +10,12 @@ import tempfile
 from pathlib import Path
 from typing import Any, Callable, Dict, Optional, Sequence
 
+from ..balance.sheet import Balance
+from ..explain.steps import steps
+from ..read.faults import Stopped
 from . import view
-from .faults import Stopped
 from .page import page
 from .picture import picture
-from .sheet import Balance
-from .steps import steps
 
 
 def write(path: Path, data: bytes) -> None:

@@ -6,8 +6,8 @@ import math
 import subprocess
 from typing import Dict, List, Sequence, Tuple
 
-from .faults import Stopped
-from .lists import PipeList
+from ..read.faults import Stopped
+from ..read.lists import PipeList
 
 Spot = Tuple[float, float]
 CENTIMETRE = 72 / 2.54

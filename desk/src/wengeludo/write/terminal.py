@@ -11,9 +11,9 @@ from rich.console import Console
 from rich.table import Table
 from rich.text import Text
 
+from ..balance.sheet import Balance
+from ..explain.steps import steps
 from . import view
-from .sheet import Balance
-from .steps import steps
 
 STYLES = {"good": "bold green", "poor": "bold yellow", "bad": "bold red"}
 MARKS = {"worst": "bold red", "notable": "yellow", "": ""}

@@ -7,10 +7,10 @@ from typing import List, Tuple
 
 import wengeludo_balance as engine
 
-from .faults import Fault, Faulty, Stopped
-from .graph import chain, unmetered
-from .lists import Pipe
-from .site import Site
+from ..balance.graph import chain, unmetered
+from ..balance.site import Site
+from ..read.faults import Fault, Faulty, Stopped
+from ..read.lists import Pipe
 
 
 DEAREST = 1_000_000  # the greatest price that the engine takes

@@ -8,10 +8,10 @@ from typing import FrozenSet, List, Optional, Tuple
 import wengeludo_balance as engine
 from wengeludo_balance import Kind, Verdict
 
-from .lists import Pipe
+from ..read.lists import Pipe
+from ..read.numbers import deviation_of
 from .site import Site
 from .spread import at_end, spreads
-from .unit import deviation_of
 
 # Critical values of chi-square at 95 per cent, in thousandths, for 1 to 32 degrees.
 CRITICAL = (

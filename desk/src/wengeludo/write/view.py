@@ -7,10 +7,10 @@ from typing import Any, Dict, List, Optional, Tuple
 
 from wengeludo_balance import Kind, Verdict
 
-from .sheet import HOW, SHORT, VERDICT, Balance, Line, sigmas
-from .site import notes
-from .steps import steps
-from .why import overfull
+from ..balance.sheet import HOW, SHORT, VERDICT, Balance, Line, sigmas
+from ..balance.site import notes
+from ..explain.steps import steps
+from ..explain.why import overfull
 
 NAMES = ("stream", "what", "from", "to")
 HEADS = (*NAMES, "reading", "balanced", "correction", "σ", "±", "how known")

@@ -9,12 +9,12 @@ from typing import Optional
 from jinja2 import Environment, PackageLoader, select_autoescape
 from markupsafe import Markup
 
+from ..balance.sheet import Balance
+from ..balance.site import notes
+from ..explain.steps import steps
+from ..explain.why import overfull
 from . import view
 from .picture import picture
-from .sheet import Balance
-from .site import notes
-from .steps import steps
-from .why import overfull
 
 
 @dataclass(frozen=True)
@@ -35,7 +35,7 @@ def scale(balance: Balance) -> Optional[Scale]:
 
 def page(balance: Balance) -> str:
     """The page of a balance as HTML."""
-    environment = Environment(loader=PackageLoader("wengeludo"), autoescape=select_autoescape(), trim_blocks=True, lstrip_blocks=True)
+    environment = Environment(loader=PackageLoader("wengeludo.write"), autoescape=select_autoescape(), trim_blocks=True, lstrip_blocks=True)
     return environment.get_template("page.html").render(
         site=balance.site.list.name, balance=balance, heads=view.heads(balance), numeric=view.NUMERIC,
         looks={"balanced": "balanced", "correction": "off", "σ": "off"}, estimates=view.ESTIMATES, rows=view.rows(balance),

@@ -10,9 +10,10 @@ from typing import List, Optional, Tuple
 
 import wengeludo_balance as engine
 
+from ..read.faults import Fault, Faulty
+from ..read.lists import PipeList, read_list
+from ..read.plant_files import unpacked
 from . import unit as units
-from .faults import Fault, Faulty
-from .lists import PipeList, read_list
 
 
 @dataclass(frozen=True)
@@ -77,6 +78,14 @@ def site_of(pipes: PipeList, unit: Optional[Fraction] = None, path: object = "")
 def read_site(path: Path, unit: Optional[Fraction] = None) -> Site:
     """The site of a list in a file."""
     return site_of(read_list(path), unit, path)
+
+
+def site_in(path: Path, unit: Optional[Fraction]) -> Site:
+    """The site of a list or of a plant file."""
+    if path.suffix.lower() != ".bin":
+        return read_site(path, unit)
+    pipes = unpacked(path)
+    return site_of(pipes, unit or units.choose(pipes.pipes), path)
 
 
 def notes(site: Site) -> List[str]:

@@ -9,9 +9,9 @@ from typing import Dict, List, Optional, Sequence, Tuple
 import wengeludo_balance as engine
 from wengeludo_balance import Kind, Stream
 
-from .lists import MOST_STREAMS, MOST_UNITS
-from .sheet import Balance
-from .spread import spreads
+from ..balance.sheet import Balance
+from ..balance.spread import spreads
+from ..read.lists import MOST_STREAMS, MOST_UNITS
 
 
 @dataclass(frozen=True)

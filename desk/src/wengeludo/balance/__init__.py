@@ -1,0 +1,1 @@
+"""Balancing: unit, weights, the site, its sheet, and how sure its numbers are."""

@@ -1,0 +1,1 @@
+"""Explaining: why a number stands there, what to do next, which meter to visit or to buy."""

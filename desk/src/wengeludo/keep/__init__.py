@@ -1,0 +1,1 @@
+"""Keeping: the book of sheets, and a folder of lists in one run."""

@@ -1,0 +1,1 @@
+"""Reading: numbers, tables, pipe lists, plant files, and the faults that they have."""

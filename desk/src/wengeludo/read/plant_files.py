@@ -1,0 +1,55 @@
+"""Plant files and transmitter files read as lists, and place numbers read from a text."""
+
+from __future__ import annotations
+
+import re
+from dataclasses import replace
+from fractions import Fraction
+from pathlib import Path
+from typing import List
+
+import wengeludo_balance as engine
+
+from .faults import Stopped, quoted
+from .lists import OUTSIDE, Pipe, PipeList
+from .numbers import Marks, accuracy, deviation_of
+
+
+def unpacked(path: Path, unit: Fraction = Fraction(1)) -> PipeList:
+    """The list of a plant file or a transmitter file whose flows are in this unit; Stopped where it is neither."""
+    file = path.read_bytes()
+    try:
+        return _list(path.stem, engine.read_plant(file), unit)
+    except engine.Refusal as refusal:
+        first = refusal
+    try:
+        plant = engine.read_plant(engine.plant_from_transmitter(file))
+    except engine.Refusal as refusal:
+        if file[2:3] and file[2] in (0x21, 0x22, 0x23):
+            first = refusal
+        raise Stopped(f"{path}: {first.text} ({first.number})") from None
+    return _list(path.stem, plant, unit)
+
+
+def _list(name: str, plant: engine.Plant, unit: Fraction) -> PipeList:
+    places = (OUTSIDE, *(f"unit {k}" for k in range(1, plant.units + 1)))
+    return PipeList(name, tuple(_pipe(k, s, unit) for k, s in enumerate(plant.streams, 1)), places)
+
+
+def _pipe(k: int, stream: engine.Stream, unit: Fraction) -> Pipe:
+    pipe = Pipe(k + 1, str(k), "", stream.source, stream.target)
+    if stream.weight is None:
+        return pipe
+    stated = f"w{stream.weight}" if unit == 1 else f"±{deviation_of(stream.weight, unit):.7g}"
+    known = accuracy(stated, stream.reading, Marks(".", True))
+    reading, low, high = (None if end is None else float(end * unit) for end in (stream.reading, stream.low, stream.high))
+    return replace(pipe, reading=reading, accuracy=known, stated=stated, low=low, high=high)
+
+
+def numbers_in(path: Path) -> List[int]:
+    """Place numbers in a text, one after the other, the outside's first; Stopped where one is none."""
+    words = path.read_text(encoding="utf-8-sig", errors="replace").replace(",", " ").replace(";", " ").split()
+    wrong = next((word for word in words if not re.fullmatch(r"[+-]?[0-9]{1,40}", word)), None)
+    if wrong is not None:
+        raise Stopped(f"{path}: {quoted(wrong)} stands there; whole numbers would do, one for each place, the outside first")
+    return [int(word) for word in words]

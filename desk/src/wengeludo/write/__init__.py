@@ -1,0 +1,1 @@
+"""Writing: tables, pages, drawings, files, the terminal."""
