@@ -105,6 +105,11 @@ fi
 if part "the programs themselves" python3; then
     python3 host/programs/test.py
 fi
+if part "cases that are spoilt, and a start that must be worth something" python3 rt; then
+    python3 host/check/spoilt_cases.py
+    python3 host/check/hints.py
+    ! long || quietly target/host/hints.log '^hints: [0-9]+ worthless' python3 host/check/hints.py --worthless
+fi
 if part "C++" g++ clang++; then
     bash host/cpp/test.sh
 fi
