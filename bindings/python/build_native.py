@@ -17,6 +17,7 @@ ROOT = Path(__file__).resolve().parents[2]
 INCLUDE = Path(os.environ.get("WENGELUDO_INCLUDE") or ROOT / "host" / "include")
 ARCHIVE = Path(os.environ.get("WENGELUDO_ARCHIVE") or ROOT / "target" / "staticlib" / "liblinked.a")
 HEADER = INCLUDE / "wengeludo_balance.h"
+NATIVE = Path(__file__).resolve().parent / "native"  # C of this package's own, over the archive's calls
 
 
 def declarations(header: str) -> str:
@@ -28,18 +29,26 @@ def declarations(header: str) -> str:
     return "\n".join([*numbers, *enums, *calls])
 
 
+def own(header: str) -> str:
+    """The structures and calls of a header of this package's own."""
+    text = re.sub(r"/\*.*?\*/", "", header, flags=re.DOTALL)
+    return "\n".join(line for line in text.splitlines() if not line.startswith("#"))
+
+
 for needed, how in ((HEADER, "it belongs to this repository"), (ARCHIVE, "build it with 'rt staticlib linked'")):
     if not needed.exists():
         sys.exit(f"wengeludo_balance: no {needed}: {how}")
 
 ffi = FFI()
 ffi.cdef(declarations(HEADER.read_text(encoding="utf-8")))
+ffi.cdef(own((NATIVE / "rows.h").read_text(encoding="utf-8")))
 ffi.set_source(
     "wengeludo_balance._native",
-    '#include "wengeludo_balance.h"',
-    include_dirs=[str(INCLUDE)],
+    '#include "wengeludo_balance.h"\n#include "rows.h"',
+    sources=["native/rows.c"],
+    include_dirs=[str(INCLUDE), str(NATIVE)],
     extra_objects=[str(ARCHIVE)],
-    depends=[str(HEADER), str(ARCHIVE)],
+    depends=[str(HEADER), str(ARCHIVE), *map(str, sorted(NATIVE.glob("*.[ch]")))],
     extra_compile_args=["-Werror=incompatible-pointer-types", "-Werror=int-conversion", "-Werror=implicit-function-declaration"],
 )
 

@@ -26,6 +26,7 @@ from .plant import (
     write_plant,
 )
 from .refusal import TEXTS, Refusal
+from .row_sheets import ADJUSTED, AS_READ, FAULT, GIVEN, HELD, MEASURED, WITHHELD, Rows, deviation_for, rows
 from .sheet import (
     MAX_STREAMS,
     NO_SHEETS,
@@ -44,8 +45,9 @@ from .sheet import (
 )
 
 __all__ = [
-    "Bill", "Drawn", "FILE_SIZE", "Kind", "MAX_STREAMS", "NO_SHEETS", "OFFICES", "Plant", "Purchase", "Record", "Refusal",
-    "SHEET_SIZE", "Sheet", "Signal", "Stream", "TEXTS", "Verdict", "Visit", "WIDEST", "balance", "balance_plant", "charges",
-    "check_sheet", "from_ranged", "layouts_of", "meters_to_buy", "place_numbers", "plant_from_transmitter", "read_plant",
-    "read_sheet", "to_ranged", "transmitter_file", "version", "visits", "write_plant",
+    "ADJUSTED", "AS_READ", "Bill", "Drawn", "FAULT", "FILE_SIZE", "GIVEN", "HELD", "Kind", "MAX_STREAMS", "MEASURED", "NO_SHEETS", "OFFICES",
+    "Plant", "Purchase", "Record", "Refusal", "Rows", "SHEET_SIZE", "Sheet", "Signal", "Stream", "TEXTS", "Verdict", "Visit", "WIDEST",
+    "WITHHELD", "balance", "balance_plant", "charges", "check_sheet", "deviation_for", "from_ranged", "layouts_of", "meters_to_buy",
+    "place_numbers", "plant_from_transmitter", "read_plant", "read_sheet", "rows", "to_ranged", "transmitter_file", "version", "visits",
+    "write_plant",
 ]
