@@ -1,21 +1,40 @@
 #!/usr/bin/env bash
 # Runs balance_file, meters_to_buy, layouts_file, visits_file, charges_file, check_sheet and place_numbers of target/host: the samples, a cut plant, the last sheet
-# number, the offices, and what cannot be read, written or understood.
+# number, the offices, the longest file and one byte more, and what cannot be read, written or understood; then limits.
 set -eu
 cd "$(dirname "$0")/../.."
 program=target/host/balance_file
 [ -x "$program" ] || { echo "no $program: build it with 'bash host/c/build.sh'" >&2; exit 2; }
 work=$(mktemp -d)
 trap 'rm -rf "$work"' EXIT
-failed=0
-expect() { # status, output, words; of the program that is tried
+failed=0 runs=0
+expect() { # status, output, words; of the program that is tried. With status 2 it says why in one line, else nothing
     local status=0 out
-    out=$("$program" "${@:3}" 2>/dev/null) || status=$?
+    runs=$((runs + 1))
+    out=$("$program" "${@:3}" 2>"$work/said") || status=$?
     if [ "$status" != "$1" ] || [ "$out" != "$2" ]; then
         printf '%s %s: status %s, expected %s; printed:\n%s\nexpected:\n%s\n' "${program##*/}" "${*:3}" "$status" "$1" "$out" "$2" >&2
         failed=1
     fi
+    if [ "$(grep -c "^\(usage: \)\?$program" "$work/said") $(wc -l <"$work/said")" != "$([ "$1" = 2 ] && echo 1 1 || echo 0 0)" ]; then
+        printf '%s %s: status %s, and on standard error:\n%s\n' "${program##*/}" "${*:3}" "$status" "$(cat "$work/said")" >&2
+        failed=1
+    fi
 }
+full() { # words; the program that is tried, to a full device
+    local status=0
+    runs=$((runs + 1))
+    "$program" "$@" >/dev/full 2>"$work/said" || status=$?
+    if [ "$status" != 2 ] || [ "$(cat "$work/said")" != "$program: standard output cannot be written" ]; then
+        echo "${program##*/} $* to a full device: status $status, and said: $(cat "$work/said")" >&2
+        failed=1
+    fi
+}
+stream() { printf '\006\000\001\000\001\000\000\000\000\000\000\000\000\000\000\000\000'; } # of weight 1, with the range 0 to 0
+{ printf '\001\001'; for _ in {1..96}; do stream; done; printf '\004\140'; } >"$work/longest"
+{ cat "$work/longest"; printf '\000'; } >"$work/longer"
+{ printf '\001\001'; for _ in {1..96}; do printf '\003\001\000'; done; printf '\004\140'; } >"$work/bare" # all to the outside, without meters
+{ printf '\001\040\006\000\040\000\001\000\000\000\005\000\000\000\001\000\000\000\011\004\001'; } >"$work/dead_end" # at least 1 into unit 32
 listing=samples/listing.bin
 head -c 20 "$listing" >"$work/cut"
 expect 0 "$(cat samples/listing.expected)" "$listing"
@@ -39,11 +58,10 @@ expect 2 '' "$listing" 4294967296
 expect 2 '' "$work/missing"
 expect 2 '' "$work"
 # A text that cannot be written, of a sheet and of a refusal.
-for file in "$listing" "$work/cut"; do
-    status=0
-    "$program" "$file" >/dev/full 2>/dev/null || status=$?
-    [ "$status" = 2 ] || { echo "balance_file $file to a full device: status $status, expected 2" >&2; failed=1; }
-done
+for file in "$listing" "$work/cut"; do full "$file"; done
+expect 1 $'refused 19\nmarked 32' "$work/dead_end"
+expect 0 "$(for k in {1..96}; do echo "$k A 0"; done)"$'\ntotal 1 0 1 pass' "$work/longest"
+expect 1 'refused 12' "$work/longer"
 # Meters to buy.
 program=target/host/meters_to_buy
 [ -x "$program" ] || { echo "no $program: build it with 'bash host/c/build.sh'" >&2; exit 2; }
@@ -60,42 +78,38 @@ expect 2 ''
 expect 2 '' "$listing" 5 x
 expect 2 '' "$listing" 5 4294967296
 expect 2 '' "$work/missing" 5 3
-[ "$failed" = 0 ] || exit 1
-echo "balance_file: 22 runs as expected; meters_to_buy: 12"
+expect 1 'refused 12' "$work/longer"
+full "$listing" 5 3
+# shellcheck disable=SC2046
+expect 0 "$(for k in {1..95}; do echo "buy $k"; done)"$'\nprice 95' "$work/bare" $(for _ in {1..95}; do echo 1; done) 2
+# shellcheck disable=SC2046
+expect 1 'refused 21' "$work/bare" $(for _ in {1..97}; do echo 1; done)
 program=target/host/layouts_file
 [ -x "$program" ] || { echo "no $program: build it with 'bash host/c/build.sh'" >&2; exit 2; }
 printf '\001\001\004\000' >"$work/empty"
 expect 0 "$(cat samples/listing.layouts)" "$listing"
 expect 0 '0 1' "$work/empty"
 expect 1 'refused 23' samples/steam_site.bin
+expect 1 'refused 12' "$work/longer"
 expect 1 'refused 3' "$work/cut"
 expect 2 ''
 expect 2 '' "$listing" 0
 expect 2 '' "$work/missing"
 expect 2 '' "$work"
-status=0
-"$program" "$listing" >/dev/full 2>/dev/null || status=$?
-[ "$status" = 2 ] || { echo "layouts_file to a full device: status $status, expected 2" >&2; failed=1; }
-[ "$failed" = 0 ] || exit 1
-echo "layouts_file: 9 runs as expected"
+full "$listing"
 program=target/host/visits_file
 [ -x "$program" ] || { echo "no $program: build it with 'bash host/c/build.sh'" >&2; exit 2; }
 expect 0 "$(cat samples/listing.visits)" "$listing"
 expect 0 "$(cat samples/far_off_site.visits)" samples/far_off_site.bin
 expect 0 '' "$work/empty"
 expect 1 'refused 19' samples/overfull_site.bin
+expect 1 'refused 12' "$work/longer"
 expect 1 'refused 3' "$work/cut"
 expect 2 ''
 expect 2 '' "$listing" 0
 expect 2 '' "$work/missing"
 expect 2 '' "$work"
-for file in "$listing" "$work/cut"; do
-    status=0
-    "$program" "$file" >/dev/full 2>/dev/null || status=$?
-    [ "$status" = 2 ] || { echo "visits_file $file to a full device: status $status, expected 2" >&2; failed=1; }
-done
-[ "$failed" = 0 ] || exit 1
-echo "visits_file: 11 runs as expected"
+for file in "$listing" "$work/cut"; do full "$file"; done
 program=target/host/charges_file
 [ -x "$program" ] || { echo "no $program: build it with 'bash host/c/build.sh'" >&2; exit 2; }
 billed=samples/billed_site.bin
@@ -110,6 +124,11 @@ expect 1 'refused 24' "$listing" 5 5
 expect 1 'refused 24' "$listing" 10001
 expect 1 'refused 24' samples/twin_lines.bin 8350 10001 0
 expect 1 'refused 19' samples/overfull_site.bin 10001
+expect 1 'refused 12' "$work/longer"
+# shellcheck disable=SC2046
+expect 1 'refused 25' "$work/bare" $(for _ in {1..96}; do echo 1; done)
+# shellcheck disable=SC2046
+expect 1 'refused 24' "$work/bare" $(for _ in {1..97}; do echo 1; done)
 expect 1 'refused 3' "$work/cut" 5
 expect 2 ''
 expect 2 '' "$listing" x
@@ -118,13 +137,7 @@ expect 2 '' "$listing" -1
 expect 2 '' "$listing" 65536
 expect 2 '' "$work/missing" 5
 expect 2 '' "$work" 5
-for file in "$listing" "$work/cut"; do
-    status=0
-    "$program" "$file" 5 >/dev/full 2>/dev/null || status=$?
-    [ "$status" = 2 ] || { echo "charges_file $file to a full device: status $status, expected 2" >&2; failed=1; }
-done
-[ "$failed" = 0 ] || exit 1
-echo "charges_file: 21 runs as expected"
+for file in "$listing" "$work/cut"; do full "$file" 5; done
 # Sheets drawn up elsewhere.
 program=target/host/check_sheet
 [ -x "$program" ] || { echo "no $program: build it with 'bash host/c/build.sh'" >&2; exit 2; }
@@ -154,14 +167,22 @@ expect 1 $'refused 26\nthe sheet lists 8 streams, the plant 4' "$listing" "$shee
 expect 1 $'refused 26\nthe plant has no sheet: no balanced flow lies within all ranges' samples/overfull_site.bin "$sheet" "$(listed six 0 0 0 0 0 0)"
 expect 1 'refused 3' "$work/cut" "$work/cut" "$numbers"
 expect 1 'refused 13' "$rated" "$work/cut" "$(listed none)"
+expect 1 'refused 12' "$work/longer" "$sheet" "$(listed two 0 0)"
+printf '\001\040\004\000' >"$work/units"
+printf '\036\000\000\000\000\001\000\000\000\000\000\000\000\000\000\002' >"$work/total"
+expect 0 'passes' "$work/units" "$work/total" "$(listed most {0..32})"
+expect 1 $'refused 26\nthere are 34 numbers for 33 places' "$work/units" "$work/total" "$(listed more {0..33})"
+{ for _ in {1..96}; do printf '\021\000\000\000\000\000\000\000\000'; done; printf '\036\000\000\000\000\001\000\000\000\000\000\000\000\000\001\000'; } >"$work/long_sheet"
+{ cat "$work/long_sheet"; printf '\000'; } >"$work/longer_sheet"
+expect 0 'passes' "$work/longest" "$work/long_sheet" "$(listed two 0 0)"
+expect 1 'refused 15' "$work/longest" "$work/longer_sheet" "$(listed two 0 0)"
+expect 2 '' "$rated" "$sheet" "$numbers" "$numbers"
 expect 2 '' "$rated" "$sheet"
 expect 2 '' "$rated" "$sheet" "$work/missing"
 expect 2 '' "$rated" "$work/missing" "$numbers"
 expect 2 '' "$rated" "$sheet" "$(listed words -27 -103 x 0 -27)"
 expect 2 '' "$rated" "$sheet" "$(listed long -27 -103 9223372036854775808 0 -27)"
-status=0
-"$program" "$rated" "$sheet" "$numbers" >/dev/full 2>/dev/null || status=$?
-[ "$status" = 2 ] || { echo "check_sheet to a full device: status $status, expected 2" >&2; failed=1; }
+full "$rated" "$sheet" "$numbers"
 # The archive's own numbers.
 for file in "$listing" samples/steam_site.bin "$rated"; do
     target/host/place_numbers "$file" >"$work/own" || { echo "place_numbers $file: status $?" >&2; failed=1; }
@@ -170,9 +191,14 @@ done
 expect 0 'passes' "$rated" "$sheet" "$work/own"
 program=target/host/place_numbers
 expect 1 'refused 19' samples/overfull_site.bin
+expect 1 'refused 12' "$work/longer"
 expect 1 'refused 3' "$work/cut"
+expect 0 "$(for _ in {0..32}; do echo 0; done)" "$work/units"
 expect 2 ''
+expect 2 '' "$listing" 0
 expect 2 '' "$work/missing"
 expect 2 '' "$work"
+full "$listing"
 [ "$failed" = 0 ] || exit 1
-echo "check_sheet: 25 runs as expected; place_numbers: 8"
+echo "the C programs: $runs runs as expected"
+target/host/limits
