@@ -13,7 +13,7 @@ from typing import List, Optional, Sequence, Tuple
 
 from ..read.faults import Stopped
 from ..read.lists import Pipe
-from ..read.numbers import deviation_of
+from ..read.numbers import deviation_of, exact
 
 MOST_WEIGHT = 1_000
 MOST_READING = 4_000_000
@@ -94,11 +94,6 @@ def unit_from(text: str) -> Fraction:
     if not Fraction(1, 10_000) <= unit <= 10**9:
         raise ValueError(text)
     return unit
-
-
-def exact(value: float) -> Fraction:
-    """The number that the list shows: 0.1 is a tenth."""
-    return Fraction(repr(float(value)))
 
 
 def meter(pipe: Pipe, unit: Fraction) -> Tuple[int, int]:

@@ -5,6 +5,7 @@ from __future__ import annotations
 import math
 import re
 from dataclasses import dataclass
+from fractions import Fraction
 from typing import Dict, Iterable, Optional, Tuple
 
 _BLANKS = re.compile(r"(?<=\d)[\s'’\u00a0\u2009\u202f](?=\d{3})")
@@ -83,12 +84,26 @@ def whole(text: str, marks: Marks, least: int, most: int) -> int:
     return int(value)
 
 
+def exact(value: float) -> Fraction:
+    """The number that the list shows: 0.1 is a tenth."""
+    return Fraction(repr(float(value)))
+
+
 @dataclass(frozen=True)
 class Accuracy:
-    """How accurate a meter is: its standard deviation in kg/h, or the weight that the list gives."""
+    """How accurate a meter is: its standard deviation in kg/h, the weight if the list gives one, and the deviation's square in exact
+    numbers if it is not that of the deviation itself."""
 
     deviation: float
     weight: Optional[int] = None
+    square: Optional[Fraction] = None
+
+    @property
+    def variance(self) -> Fraction:
+        """The square of the deviation, exact: a weight w is one of 1,000 / w."""
+        if self.weight is not None:
+            return Fraction(1_000, self.weight)
+        return exact(self.deviation) ** 2 if self.square is None else self.square
 
 
 FORMS = "2% (of the reading), ±50 (standard deviation in kg/h) or w40 (weight) would do"
@@ -96,13 +111,14 @@ FORMS = "2% (of the reading), ±50 (standard deviation in kg/h) or w40 (weight) 
 
 def accuracy(text: str, reading: float, marks: Marks) -> Accuracy:
     """The accuracy of a meter with this reading; ValueError with what would do."""
-    plain = text.strip()
+    plain, square = text.strip(), None
     try:
         if plain[:1] in "wW" and plain:
             weight = whole(plain[1:], marks, 1, 1_000)
             return Accuracy(math.sqrt(1_000 / weight), weight)
         if plain.endswith("%"):
-            deviation = abs(reading) * number(plain[:-1].strip("± "), marks) / 100
+            share = number(plain[:-1].strip("± "), marks)
+            deviation, square = abs(reading) * share / 100, (exact(reading) * exact(share) / 100) ** 2
         else:
             deviation = number(re.sub(r"^(±|\+/-|\+-)", "", plain), marks)
     except ValueError:
@@ -111,7 +127,7 @@ def accuracy(text: str, reading: float, marks: Marks) -> Accuracy:
         raise ValueError("a share of a reading of 0 is no accuracy: ±50 (kg/h) would do")
     if not 1e-6 <= deviation <= 1e12:
         raise ValueError("the standard deviation must be above 0: " + FORMS)
-    return Accuracy(deviation)
+    return Accuracy(deviation, square=square)
 
 
 def deviation_of(weight: int, unit: Fraction) -> float:

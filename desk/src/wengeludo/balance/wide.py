@@ -1,0 +1,113 @@
+"""The rule for lists of any span: the unit, the weights, and whole flows of least cost by a solver that is not proved, checked by the call
+that is. The readings are the list's, always; no float decides anything.
+
+Unit: of 1, 2, 5 times a power of ten the largest that is at most a hundredth of the smallest deviation and divides every reading and end
+of a range, unless it is finer than a ten-thousandth of that deviation; else the largest that is at most a hundredth of it; else the finest.
+Weights: the greatest is 2^40, the others in proportion, rounded, at least 1.
+"""
+
+from __future__ import annotations
+
+from fractions import Fraction
+from typing import FrozenSet, List, Optional, Tuple
+
+import wengeludo_balance as engine
+
+from ..read.faults import Stopped
+from .checked import REACH, Checked, wide_plant
+from .exact import Exacts
+
+UNITS = tuple(Fraction(10) ** k * step for k in range(-9, 10) for step in (1, 2, 5))
+PARTS = 100  # the unit is at most this part of the smallest deviation
+FINEST = 10_000  # and finer than this part of it not for the sake of typed digits alone
+TOPS = (engine.WIDE_WEIGHT, 2**30)  # the greatest weight; the lesser if the numbers of the places would be too large
+
+
+class NotJudged(Exception):
+    """The rule gives no flows; the message says why."""
+
+
+class Overfull(Exception):
+    """No flow keeps within all ranges: these places must take in more than they can let out, by the list's own numbers."""
+
+    def __init__(self, places: FrozenSet[int]) -> None:
+        super().__init__(places)
+        self.places = places
+
+
+def solve(listed: Exacts) -> Checked:
+    """Flows of least cost that the proved call has passed; Overfull if there are none in range, NotJudged if none were found."""
+    unit, smallest = _unit(listed), _smallest(listed)
+    for top in TOPS:
+        factor = top * smallest / (unit * unit)
+        plant = wide_plant(listed, unit, factor)
+        try:
+            found = engine.wide_solve(plant)
+        except engine.NotCertified:
+            continue
+        except engine.Refusal as refusal:
+            raise _refused(listed, unit, plant, refusal) from None
+        return _passed(Checked(listed, unit, factor, plant, found.flows, found.numbers))
+    raise NotJudged("no flows were found that pass the proved check")
+
+
+def _passed(checked: Checked) -> Checked:
+    """The same, once the proved call has passed it here too."""
+    try:
+        checked.recheck()
+        checked.sheet  # the engine's classes and deduced flows
+    except (Stopped, engine.Refusal) as error:
+        raise NotJudged(f"the flows that were found do not pass the proved check: {error}") from None
+    return checked
+
+
+def _refused(listed: Exacts, unit: Fraction, plant: engine.WidePlant, refusal: engine.Refusal) -> Exception:
+    """Overfull places, if they are so by the list's own numbers too; else why there are no flows."""
+    if refusal.number == 19 and overfull(listed, refusal.places):
+        return Overfull(refusal.places)
+    if refusal.number in (18, 19):
+        return NotJudged(f"no whole multiples of {float(unit):g} kg/h keep within all ranges, though numbers in between may")
+    return NotJudged(f"{refusal.text} ({refusal.number})")
+
+
+def overfull(listed: Exacts, places: FrozenSet[int]) -> bool:
+    """Whether these places must take in more than they can let out, by the list's own ranges."""
+    total = Fraction(0)
+    for stream in listed.streams:
+        within, out = stream.target in places, stream.source in places
+        end = stream.low if within else stream.high
+        if within == out:
+            continue
+        if end is None:
+            return False
+        total += end if within else -end
+    return total > 0
+
+
+def _smallest(listed: Exacts) -> Fraction:
+    """The least square of a deviation, of the meters that count."""
+    metered = [k for k, s in enumerate(listed.streams) if s.metered]
+    return min((listed.streams[k].variance or Fraction(1) for k in listed.counting or metered), default=Fraction(1))
+
+
+def _unit(listed: Exacts) -> Fraction:
+    """The unit of a list."""
+    smallest, (near, all_) = _smallest(listed), _typed(listed)
+    reach = max((abs(number) for number in near), default=Fraction(0))
+    fits = [unit for unit in UNITS if 16 * reach <= 15 * REACH * unit]
+    if not fits:
+        raise NotJudged("its readings are too large for any unit")
+    fine = [unit for unit in fits if (unit * PARTS) ** 2 <= smallest]
+    whole = [unit for unit in fine if (unit * FINEST) ** 2 >= smallest and all((number / unit).denominator == 1 for number in all_)]
+    return whole[-1] if whole else fine[-1] if fine else fits[0]
+
+
+def _typed(listed: Exacts) -> Tuple[List[Fraction], List[Fraction]]:
+    """The numbers that the flows come near: readings, and ends of ranges that a reading is beyond; and these with all ends."""
+    near: List[Fraction] = []
+    ends: List[Optional[Fraction]] = []
+    for stream in listed.streams:
+        if stream.reading is not None:
+            near += [stream.reading] if stream.held == stream.reading else [stream.reading, stream.held]
+            ends += [stream.low, stream.high]
+    return near, near + [end for end in ends if end is not None]
