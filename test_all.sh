@@ -34,6 +34,8 @@ advice() { # tool
     python3) echo "install Python 3.10 or later (Debian: apt-get install python3)" ;;
     cmake) echo "install CMake (Debian: apt-get install cmake)" ;;
     pkg-config) echo "install pkg-config (Debian: apt-get install pkgconf)" ;;
+    qemu-*) echo "install the emulators of other processors (Debian: apt-get install qemu-user-static)" ;;
+    node) echo "install Node 18 or later (Debian: apt-get install nodejs)" ;;
     man | groff) echo "install man and groff (Debian: apt-get install man-db groff-base)" ;;
     *) echo "install a C compiler (Debian: apt-get install gcc libc6-dev) or name one in CC" ;;
     esac
@@ -48,7 +50,7 @@ there() { # tool
 compiler=${CC:-cc}
 if [ "${SKIP_MISSING:-0}" != 1 ]; then
     missing=0
-    for tool in rt "$compiler" g++ clang clang++ cargo python3 cmake pkg-config man groff objdump nm ar; do
+    for tool in rt "$compiler" g++ clang clang++ cargo python3 cmake pkg-config man groff objdump nm ar node qemu-aarch64-static qemu-riscv64-static; do
         there "$tool" || { echo "test_all: no $tool on the PATH, or too old: $(advice "$tool")" >&2; missing=1; }
     done
     [ "$missing" = 0 ] || exit 2
@@ -115,6 +117,17 @@ if part "C++" g++ clang++; then
 fi
 if part "what is installed" "$compiler" pkg-config cmake man groff objdump cargo; then
     bash host/install/test.sh
+fi
+if part "the search for what depends on a processor" python3; then
+    bash host/cross/test.sh --search
+fi
+for target in aarch64 riscv64; do
+    if part "the calls on $target, against x86-64" python3 "qemu-$target-static"; then
+        bash host/cross/test.sh "$target"
+    fi
+done
+if part "the calls as WebAssembly, against x86-64" python3 node; then
+    bash host/cross/test.sh wasm32
 fi
 if part "the cases and samples, made anew" python3; then
     quietly target/host/cases.log '^[0-9,]+ ' python3 reference/make_cases.py --check

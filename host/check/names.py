@@ -26,6 +26,7 @@ LINK = re.compile(r'\]\(([^)#:]+)(?:#[^)]*)?\)')
 ROW = re.compile(r'^\| `([a-z0-9_]+/[a-z0-9_]+)` \|', re.M)  # an edit's own row
 TOKEN = re.compile(r'(?=([\w-]+))(\w+)')  # with its hyphens, and up to the first of them
 KIT = re.compile(r'rattle-kit|sha256sum$|[A-Z_]+_PROOFS$|NOT_COVERED$')  # not ours
+SUM = re.compile(r'[0-9a-f]{64}')  # a SHA-256
 FORM = re.compile(r'\b(NAME|EDIT)\b')  # any crate, any edit
 
 
@@ -80,7 +81,7 @@ def written():
         words.update(os.path.relpath(folder, ROOT).split(os.sep))
         for name in files:
             words.update(re.split(r'[.]', name))
-            if name == 'run' or re.search(r'\.(rt|antt|py|rs|c|h|hpp|cpp|sh|toml|txt|tsv|cmake|in)$', name):
+            if name == 'run' or re.search(r'\.(rt|antt|py|rs|c|h|hpp|cpp|sh|toml|txt|tsv|cmake|in|mjs|js|ts)$', name):
                 with open(os.path.join(folder, name), encoding='utf-8') as file:
                     words.update(word for line in file for both in TOKEN.findall(line) for word in both)
     return words
@@ -89,7 +90,7 @@ def written():
 def unwritten(path, words):
     """Pieces of code in a text that stand nowhere in the code."""
     for code in sorted(set(CODE.findall(read(path)))):
-        if re.fullmatch(r'[A-Za-z][\w-]*(?:(?:\.|::)[\w-]+)?', code) and not KIT.match(code):
+        if re.fullmatch(r'[A-Za-z][\w-]*(?:(?:\.|::)[\w-]+)?', code) and not KIT.match(code) and not SUM.fullmatch(code):
             if not set(re.split(r'\.|::', code)) <= words:
                 yield f'{path} names {code}, which stands nowhere in the code'
 

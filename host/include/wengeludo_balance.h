@@ -1,7 +1,9 @@
 /* Steam and condensate balance sheets: the calls of libwengeludo.
  *
  * `bash install.sh PREFIX` puts the library where a compiler finds it (-lwengeludo), for x86-64 Linux; `rt staticlib linked`
- * proves it and writes target/staticlib/liblinked.a, which is the same archive, to be linked as it is.
+ * proves it and writes target/staticlib/liblinked.a, which is the same archive, to be linked as it is. For 64-bit Linux on ARM and
+ * RISC-V host/cross/build.sh compiles the module of that proof. Lengths and counts have 64 bits: size_t has them on all three. In
+ * WebAssembly of 32 bits size_t has fewer and the calls take 64-bit numbers all the same: see host/cross/lengths.h.
  * It needs nothing but the C library (memcpy, memset). The calls keep no state, allocate nothing, take less than
  * 72 KB of stack, and may run in several threads at once on memory of their own.
  *
@@ -19,6 +21,10 @@
 
 #include <stddef.h>
 #include <stdint.h>
+
+#if SIZE_MAX < UINT64_MAX && !defined(size_t)
+#error "wengeludo: lengths have 64 bits, and size_t has fewer here; for wasm32 include host/cross/lengths.h"
+#endif
 
 #ifdef __cplusplus
 extern "C" {
