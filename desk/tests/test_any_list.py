@@ -7,6 +7,7 @@ import csv
 import io
 import os
 import re
+from xml.etree import ElementTree
 
 import pytest
 from hypothesis import HealthCheck, given, settings
@@ -16,7 +17,8 @@ import wengeludo_balance as engine
 from wengeludo.write import view
 from wengeludo.read.faults import Faulty, Stopped
 from wengeludo.read.lists import COLUMNS, read_list
-from wengeludo.write.picture import dot_source
+from wengeludo.write.layout import layout_of
+from wengeludo.write.paint import paint
 from wengeludo.balance.sheet import balance
 from wengeludo.balance.site import site_of
 from wengeludo.explain.why import overfull, why
@@ -65,7 +67,8 @@ def ends_well(path):
         assert str(stopped)
         return
     drawn = balance(site)
-    assert view.document(drawn)["streams"] and dot_source(drawn) and len(view.rows(drawn)) == len(pipes.pipes)
+    assert view.document(drawn)["streams"] and len(view.rows(drawn)) == len(pipes.pipes)
+    ElementTree.fromstring(paint(layout_of(drawn), drawn))
     if drawn.refused:
         assert overfull(drawn)
         return

@@ -10,6 +10,7 @@ from pathlib import Path
 from typing import Any, List, Tuple
 
 from .faults import Fault, Faulty
+from .texts import legible
 
 MOST_ROWS = 10_000
 SEPARATORS = ",;\t"
@@ -17,7 +18,7 @@ SEPARATORS = ",;\t"
 
 @dataclass(frozen=True)
 class Grid:
-    """Rows of texts, the first of them row 1; the separator of a CSV file; the second table, if there is one."""
+    """Rows of texts without control characters, the first of them row 1; the separator of a CSV file; the second table, if there is one."""
 
     rows: List[List[str]]
     separator: str = ","
@@ -46,7 +47,8 @@ def _lines(path: Path, data: bytes) -> Tuple[List[List[str]], str]:
     head = next((line for line in text.splitlines() if line.strip()), "")
     separator = max(SEPARATORS, key=head.count)
     try:
-        rows = [row for _, row in zip(range(MOST_ROWS), csv.reader(io.StringIO(text, newline=""), delimiter=separator))]
+        lines = csv.reader(io.StringIO(text, newline=""), delimiter=separator)
+        rows = [[legible(cell) for cell in row] for _, row in zip(range(MOST_ROWS), lines)]
     except csv.Error as error:
         raise Faulty(path, [Fault(f"the file is no CSV: {error}")]) from None
     return rows, separator
@@ -87,7 +89,7 @@ def _text(cell: Any) -> str:
     if value is None:
         return ""
     if isinstance(value, bool) or not isinstance(value, (int, float)):
-        return str(value)
+        return legible(str(value))
     if "%" in (cell.number_format or ""):
         return f"{round(value * 100, 10):.12g}%"
     return str(int(value)) if value == int(value) and abs(value) < 1e15 else repr(value)

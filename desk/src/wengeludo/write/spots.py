@@ -13,6 +13,7 @@ Spot = Tuple[float, float]
 CENTIMETRE = 72 / 2.54
 AWAY = 2.9  # centimetres from the unit
 WAYS = 16
+SECONDS = 10  # for graphviz
 APART, WIDE = 2.5, 3.2  # inches between units that graphviz places, and across a header
 HEADERS = ("header", "manifold", " main", "mains")
 
@@ -25,7 +26,7 @@ def header(name: str) -> bool:
 def graphviz(command: Sequence[str], source: str) -> str:
     """What graphviz makes of a text in its language; Stopped where it is missing or cannot."""
     try:
-        done = subprocess.run(command, input=source, capture_output=True, text=True, check=True, timeout=120)
+        done = subprocess.run(command, input=source, capture_output=True, text=True, check=True, timeout=SECONDS)
     except FileNotFoundError:
         raise Stopped("no drawing: graphviz is not installed (Debian: apt-get install graphviz)") from None
     except (subprocess.CalledProcessError, subprocess.TimeoutExpired) as error:
