@@ -1,6 +1,7 @@
 #!/usr/bin/env bash
 # The Rust crate with archives that it was not made for, each made here in C with the calls of target/staticlib/liblinked.a:
-#   one whose calls all return 99 (no call of the crate may take that for done), one of a later minor version (taken),
+#   one whose calls all return 99 (no call of the crate may take that for done), one whose sheet reader answers what is not known (not
+#   taken for what is), one of a later minor version (taken),
 #   one of another major version, one without a version, and none at all (the build fails and says why).
 set -eu
 cd "$(dirname "$0")/../.."
@@ -36,6 +37,35 @@ refused() { # folder, what must be said
 made returns_99 $((10000 * major + 100 * minor))
 crate returns_99 test --test unknown_number -- --ignored 2>"$work/log" >&2 || { cat "$work/log" >&2; exit 1; }
 grep -q '1 passed' "$work/log" || { cat "$work/log" >&2; exit 1; }
+made answers $((10000 * major + 100 * minor))
+{
+    grep -v 'wengeludo_read_sheet(' "$work/answers/linked.c"
+    cat <<'C'
+#include <stddef.h>
+#include <stdint.h>
+unsigned char wengeludo_read_sheet(const uint8_t *bytes, size_t length, uint8_t *kinds, size_t room, int64_t *flows, size_t flow_room,
+                                   size_t *count, uint8_t *kind, uint8_t *office, uint32_t *sheet, uint64_t *cost, uint8_t *degrees,
+                                   uint8_t *verdict)
+{
+    if (length < 3 || room < 1 || flow_room < 1)
+        return 99;
+    *count = 1;
+    kinds[0] = bytes[0];
+    flows[0] = 7;
+    *kind = bytes[1];
+    *verdict = bytes[2];
+    *office = *degrees = 0;
+    *sheet = 1;
+    *cost = 0;
+    return 0;
+}
+C
+} >"$work/answers/answers.c"
+"${CC:-cc}" -std=c11 -Wall -Wextra -Werror -ffunction-sections -c "$work/answers/answers.c" -o "$work/answers/linked.o"
+rm "$work/answers/liblinked.a"
+ar rcs "$work/answers/liblinked.a" "$work/answers/linked.o"
+crate answers test --test unknown_answer -- --ignored 2>"$work/log" >&2 || { cat "$work/log" >&2; exit 1; }
+grep -q '1 passed' "$work/log" || { cat "$work/log" >&2; exit 1; }
 made later_minor $((10000 * major + 100 * minor + 100))
 crate later_minor build
 made another_major $((10000 * major + 10000))
@@ -44,4 +74,4 @@ made no_version none
 refused no_version "liblinked.a is older than 1.0.0"
 mkdir "$work/none"
 refused none "neither liblinked.a nor libwengeludo.a in"
-echo "rust crate: fails closed at 99; takes $major.$((minor + 1)).0; refuses $((major + 1)).0.0, an archive without a version, and none"
+echo "rust crate: fails closed at 99 and at kinds and verdicts that it does not know; takes $major.$((minor + 1)).0; refuses $((major + 1)).0.0, an archive without a version, and none"
