@@ -1,5 +1,5 @@
 #!/usr/bin/env bash
-# wengeludo.hpp with g++ and clang++, warnings as errors: the example's sheet, and what slices take, in C++17 and C++20.
+# wengeludo.hpp with g++ and clang++, warnings as errors: the example's sheet, what slices take, and what each call is handed, in C++17 and C++20.
 set -eu
 cd "$(dirname "$0")/../.."
 archive=target/staticlib/liblinked.a
@@ -9,10 +9,13 @@ tried=""
 for compiler in ${CXX:-g++ clang++}; do
     command -v "$compiler" >/dev/null || { echo "no $compiler: install it (Debian: apt-get install g++ clang)" >&2; exit 2; }
     for standard in c++17 c++20; do
-        for program in balance_site slices; do
+        for program in balance_site slices handed; do
+            calls=$archive
+            [ "$program" != handed ] || calls= # it has calls of its own
             "$compiler" -std="$standard" -Wall -Wextra -pedantic -Wconversion -Werror -fno-exceptions -fno-rtti -O1 -I host/include \
-                "host/cpp/$program.cpp" "$archive" -o "target/host/cpp/$program"
+                "host/cpp/$program.cpp" $calls -o "target/host/cpp/$program"
         done
+        target/host/cpp/handed
         target/host/cpp/slices
         target/host/cpp/balance_site | cmp - samples/listing.expected
     done
