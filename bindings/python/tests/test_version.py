@@ -40,13 +40,36 @@ def test_it_is_the_header_s():
     assert w.version() == tuple(int(re.search(rf"VERSION_{part} (\d+)", text)[1]) for part in ("MAJOR", "MINOR", "PATCH"))
 
 
+ANSWERS = """
+unsigned char wengeludo_read_sheet(const unsigned char *bytes, unsigned long length, unsigned char *kinds, unsigned long room, long *flows,
+    unsigned long flow_room, unsigned long *count, unsigned char *kind, unsigned char *office, unsigned *sheet, unsigned long *cost,
+    unsigned char *degrees, unsigned char *verdict)
+{
+    *count = 1; kinds[0] = bytes[0]; flows[0] = 7; *kind = 0x1E; *verdict = bytes[1]; *office = *degrees = 0; *sheet = 1; *cost = 0;
+    return length < 2 || room < 1 || flow_room < 1;
+}
+"""
+TAKEN = """
+import wengeludo_balance as w
+taken = []
+for kind in range(256):
+    for verdict in (*range(8), 255):
+        try:
+            sheet = w.read_sheet(bytes((kind, verdict)))
+            taken.append((sheet.records[0].kind.value, sheet.verdict.name))
+        except Exception:
+            pass
+print(*(kind + verdict for kind, verdict in taken))
+"""
+
+
 @pytest.fixture(scope="module")
 def made(tmp_path_factory):
     """The package over an archive of another version, by the number of that version and the header's; what a program over it says."""
 
-    def make(number, header=(1, 0, 0)):
+    def make(number, header=(1, 0, 0), answers=""):
         work = tmp_path_factory.mktemp("other")
-        calls = [f"unsigned char {call}(void) {{ return 99; }}" for call in CALLS]
+        calls = [f"unsigned char {call}(void) {{ return 99; }}" for call in CALLS if f"{call}(" not in answers] + [answers]
         (work / "linked.c").write_text("\n".join([*calls, f"unsigned wengeludo_version(void) {{ return {number}; }}", ""]))
         text = build_native.HEADER.read_text(encoding="utf-8")
         for part, value in zip(("MAJOR", "MINOR", "PATCH"), header):
@@ -83,3 +106,9 @@ def test_a_later_one_and_numbers_that_are_not_known(made):
     says = made(10_102)
     assert says(ASKED).stdout == "(1, 1, 2)\n"
     assert says(UNKNOWN).stdout == "99 a number that this binding does not know\n" * len(CALLS)
+
+
+def test_kinds_and_verdicts_that_are_not_known(made):
+    """What the archive tells and this binding does not know is taken for nothing that it does."""
+    known = [kind + verdict for kind in "ARGW" for verdict in ("PASS", "FAIL", "NONE", "CLOSE")]
+    assert made(10_000, answers=ANSWERS)(TAKEN).stdout.split() == known
