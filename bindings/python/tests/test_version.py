@@ -78,6 +78,7 @@ def made(tmp_path_factory):
         subprocess.run([os.environ.get("CC") or "cc", "-fPIC", "-c", "linked.c", "-o", "linked.o"], cwd=work, check=True)
         subprocess.run(["ar", "rcs", "other.a", "linked.o"], cwd=work, check=True)
         shutil.copytree(PACKAGE / "src" / "wengeludo_balance", work / "wengeludo_balance", ignore=shutil.ignore_patterns("_native*"))
+        shutil.copytree(PACKAGE / "native", work / "native")
         env = {**os.environ, "WENGELUDO_INCLUDE": str(work), "WENGELUDO_ARCHIVE": str(work / "other.a"), "PYTHONPATH": str(work)}
         subprocess.run([sys.executable, str(PACKAGE / "build_native.py")], cwd=work, env=env, check=True, capture_output=True)
 
