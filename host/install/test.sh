@@ -57,6 +57,17 @@ for asked in 2 0.9 1.99; do
     grep -q 'not compatible\|compatible with requested version\|not accepted' "$work/log" || { cat "$work/log" >&2; fail "find_package(wengeludo $asked)"; }
 done
 
+# The version itself is found where exactly it is asked for, another is not.
+mkdir -p "$work/exact"
+for asked in "$version" "${version%.*}.99"; do
+    sed "s/find_package(wengeludo 1 /find_package(wengeludo $asked EXACT /" host/install/cmake/CMakeLists.txt >"$work/exact/CMakeLists.txt"
+    grep -q EXACT "$work/exact/CMakeLists.txt" || fail "the customer's project asks for no version"
+    rm -rf "$work/exact/build"
+    found=no
+    ! cmake -S "$work/exact" -B "$work/exact/build" -DCMAKE_PREFIX_PATH="$prefix" -DSOURCES="$PWD" >"$work/log" 2>&1 || found=yes
+    [ "$found" = "$([ "$asked" = "$version" ] && echo yes || echo no)" ] || { cat "$work/log" >&2; fail "find_package(wengeludo $asked EXACT): found: $found"; }
+done
+
 # Manual pages: one for each call, nothing that groff warns of, every refusal in it.
 while read -r call; do
     man -M "$prefix/share/man" -w "$call" >/dev/null || fail "no manual page of $call"
@@ -64,6 +75,13 @@ done < <(cat "$work/declared" && echo wengeludo_refusal_text)
 groff -man -ww -z "$prefix/share/man/man3/wengeludo.3" 2>"$work/log"
 [ ! -s "$work/log" ] || { cat "$work/log" >&2; fail "groff warns of the manual page"; }
 MANWIDTH=200 man -M "$prefix/share/man" wengeludo_balance_plant >"$work/page" 2>/dev/null
+while read -r call; do
+    grep -qE "^ +uint[0-9]+_t $call\\(" "$work/page" || fail "$call is not in the synopsis of the manual page"
+    grep -qE "^   [a-z_ ]*\\b$call\\b" "$work/page" || fail "$call is not described in the manual page"
+done <"$work/declared"
+for word in $(grep -oE '^#define WENGELUDO_[A-Z_]+ [^(]' "$prefix/include/wengeludo_balance.h" | awk '{ print $2 }'); do
+    grep -q "#define $word " "$work/page" || fail "$word is not in the manual page"
+done
 for word in $(cut -f2 host/refusals.tsv | tail -n +2); do
     grep -q "WENGELUDO_$word (" "$work/page" || fail "WENGELUDO_$word is not in the manual page"
 done
@@ -96,6 +114,14 @@ grep -qx 'prefix=/usr' "$work/dest/usr/lib/x86_64-linux-gnu/pkgconfig/wengeludo.
 quiet cmake -S host/install/cmake -B "$work/cmake2" -DCMAKE_PREFIX_PATH="$work/dest/usr" -DSOURCES="$PWD" -DCMAKE_LIBRARY_ARCHITECTURE=x86_64-linux-gnu
 quiet cmake --build "$work/cmake2" --target fixed
 LD_LIBRARY_PATH='' listing "$work/cmake2/fixed"
+
+# A prefix that is not absolute stands in the pkg-config file as an absolute one; what is put there can be read by all.
+(cd "$work" && umask 077 && bash "$OLDPWD/install.sh" below/here >log 2>&1) || { cat "$work/log" >&2; fail "install.sh below/here"; }
+grep -qx "prefix=$work/below/here" "$work/below/here/lib/pkgconfig/wengeludo.pc" || fail "the prefix below/here stands in the pkg-config file as it is"
+[ "$(find "$work/below/here" -type f ! -name '*.so.*' -printf '%m\n' | sort -u)" = 644 ] || fail "modes of the files"
+[ "$(find "$work/below/here" -type f -name '*.so.*' -printf '%m\n' | sort -u)" = 755 ] || fail "the mode of the shared library"
+(cd "$work" && bash "$OLDPWD/install.sh" --uninstall below/here >log 2>&1) || { cat "$work/log" >&2; fail "install.sh --uninstall below/here"; }
+[ -z "$(find "$work/below/here" ! -type d)" ] || fail "left after --uninstall below/here"
 
 # Away again.
 quiet bash install.sh --uninstall "$prefix"
