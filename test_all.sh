@@ -129,6 +129,9 @@ done
 if part "the calls as WebAssembly, against x86-64" python3 node; then
     bash host/cross/test.sh wasm32
 fi
+if part "JavaScript" python3 node; then
+    (long || export CHROMIUM=none; bash bindings/js/test.sh)
+fi
 if part "the cases and samples, made anew" python3; then
     quietly target/host/cases.log '^[0-9,]+ ' python3 reference/make_cases.py --check
 fi

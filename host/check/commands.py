@@ -1,5 +1,5 @@
 #!/usr/bin/env python3
-"""Every command that README.md, CONTRIBUTING.md, docs/ and the README of samples, reference, bindings/python and desk name, read out of the text and run.
+"""Every command that README.md, CONTRIBUTING.md, docs/ and the README of samples, reference, bindings and desk name, read out of the text and run.
 
     python3 host/check/commands.py          runs them; status 1 where one fails or prints something else than the text says
     python3 host/check/commands.py --all    also those that take minutes
@@ -57,6 +57,8 @@ RULES = [
     Rule(r'python3 host/check/(picture)\.py --write', 'run', r'cd "$COPY" && \g<0> && python3 host/check/\1.py', 'dot'),
     Rule(r'python3 host/check/seconds\.py (crates|edits|modules).*', 'run', r'python3 host/check/seconds.py \1 version'),
     Rule(r'bash install\.sh (--uninstall )?PREFIX', 'run', r'bash install.sh \1"$PREFIX"'),
+    Rule(r'bash host/cross/build\.sh( TARGET OUT)?', 'not', 'a form; the commands of docs/LINKING.md are run'),
+    Rule(r'bash host/cross/test\.sh \S+', 'not', 'test_all.sh runs it for each processor whose emulator is there'),
     Rule(r'target/host/(balance_file samples/overfull_site|charges_file samples/twin_lines)\.bin.*', 'run', r'\g<0> || [ $? = 1 ]'),
     Rule(r'bash desk/install\.sh', 'run', r'WENGELUDO_APT=no \g<0> "$PREFIX/desk"', DESK),
     Rule(r'wengeludo (sheet desk/\S+) -o \S+', 'run', r'"$PREFIX/desk/bin/wengeludo" \1 -o "$PREFIX/desk/page.html"', DESK),
@@ -89,7 +91,8 @@ class Code(NamedTuple):
 
 
 def texts():
-    found = ['README.md', 'CONTRIBUTING.md', 'CHANGELOG.md', 'samples/README.md', 'reference/README.md', 'bindings/python/README.md', 'desk/README.md']
+    found = ['README.md', 'CONTRIBUTING.md', 'CHANGELOG.md', 'samples/README.md', 'reference/README.md', 'bindings/python/README.md', 'bindings/js/README.md',
+             'desk/README.md']
     found += sorted(os.path.relpath(path, ROOT) for path in glob.glob(os.path.join(ROOT, 'docs', '*.md')))
     return [path for path in found if os.path.exists(os.path.join(ROOT, path))]
 

@@ -5,7 +5,7 @@
     python3 host/check/refusals.py --write   makes it anew
 
 Made from it, each between two marks: the enum and wengeludo_refusal_text in the C header, the enum of wengeludo.hpp, the enum and
-the texts of the Rust crate, the texts of the Python package, the tables in docs/FORMATS.md: the refusals, and which numbers are
+the texts of the Rust crate, those of the Python package and of the JavaScript module, the tables in docs/FORMATS.md: the refusals, and which numbers are
 used and which are free.
 """
 import csv
@@ -124,7 +124,8 @@ def rust_texts(found):
     return text + ['];', '', f'const UNKNOWN: &str = "{UNKNOWN}";']
 
 
-def python_texts(found):
+def by_number(found):
+    """Sentences by their numbers, as Python and JavaScript both take them."""
     return [f'    {number}: "{sentence}",' for number, _, _, sentence, _ in found]
 
 
@@ -166,7 +167,8 @@ MADE = [
     ('host/rust/src/refusal.rs', '// refusals: {}', 'texts', rust_texts),
     ('docs/FORMATS.md', '<!-- refusals: {} -->', 'table', table),
     ('docs/FORMATS.md', '<!-- refusals: {} -->', 'free numbers', free),
-    ('bindings/python/src/wengeludo_balance/refusal.py', '    # refusals: {}', 'texts', python_texts),
+    ('bindings/python/src/wengeludo_balance/refusal.py', '    # refusals: {}', 'texts', by_number),
+    ('bindings/js/wengeludo.js', '    // refusals: {}', 'texts', by_number),
 ]
 
 

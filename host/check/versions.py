@@ -13,6 +13,8 @@ PLACES = [
     ('host/include/wengeludo_balance.h', r'VERSION_MAJOR (\d+)\n#define WENGELUDO_VERSION_MINOR (\d+)\n#define WENGELUDO_VERSION_PATCH (\d+)'),
     ('host/rust/Cargo.toml', r'^version = "(\d+)\.(\d+)\.(\d+)"'),
     ('host/rust/src/lib.rs', r'pub const VERSION: u32 = ([\d_]+);'),  # one number
+    ('bindings/js/package.json', r'^    "version": "(\d+)\.(\d+)\.(\d+)"'),
+    ('bindings/js/wengeludo.js', r"^export const VERSION = '(\d+)\.(\d+)\.(\d+)'"),
     ('CHANGELOG.md', r'^## (\d+)\.(\d+)\.(\d+)'),
     ('docs/LINKING.md', r'^\*\*v(\d+)\.(\d+)\.(\d+)\*\*'),
 ]
