@@ -48,7 +48,7 @@ def test_a_line_for_each(run, year, tmp_path):
     began = time.monotonic()
     ended = run("batch", year, "-o", summary)
     print(f"\n{HOURS} lists in {time.monotonic() - began:.1f} s")
-    assert ended.status == 0 and f"{HOURS:,} files" in ended.out
+    assert ended.status == 3 and f"{HOURS:,} files" in ended.out, "a sheet that fails is told by the status"
     found = lines_of(summary)
     assert [line["file"] for line in found] == [f"{hour:04}.csv" for hour in range(HOURS)]
     failed = {int(line["file"][:4]) for line in found if line["verdict"] == "fail"}
@@ -93,8 +93,9 @@ def test_cut_off_in_the_middle(year, tmp_path):
     before = sound(book)[0]
     assert set(told) <= set(before)
     again = subprocess.run(command, capture_output=True, text=True)
-    assert again.returncode == 0 and f"{HOURS:,} files, {len(before):,} of them in the book before: " in again.stdout
-    kept = list(Book(book).sheets())
+    assert again.returncode == 3 and f"{HOURS:,} files, {len(before):,} of them in the book before: " in again.stdout
+    with Book(book) as closed:
+        kept = list(closed.sheets())
     assert [k.number for k in kept] == list(range(1, HOURS + 1)) and len({k.source for k in kept}) == HOURS
     assert {line["file"]: int(line["sheet"]) for line in lines_of(summary)} == {os.path.basename(k.source): k.number for k in kept}
 

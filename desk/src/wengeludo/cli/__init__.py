@@ -13,7 +13,7 @@ import wengeludo_balance as engine
 
 from .. import __version__
 from ..read.faults import Stopped
-from . import files, kept, meters, sheets
+from . import books, files, kept, meters, sheets
 from .options import REFUSED
 
 
@@ -28,7 +28,7 @@ def cli() -> None:
 
 for command in (
     sheets.sheet, sheets.why_, sheets.suspects_, meters.buy, meters.layouts, meters.bill, kept.keep, kept.open_, kept.check, files.pack,
-    files.unpack, kept.batch,
+    files.unpack, kept.batch, books.book,
 ):
     cli.add_command(command)
 

@@ -2,10 +2,10 @@
 
 from __future__ import annotations
 
-import sys
+from contextlib import nullcontext
 from fractions import Fraction
 from pathlib import Path
-from typing import Optional, Sequence
+from typing import Optional, Sequence, Tuple
 
 import click
 
@@ -16,62 +16,93 @@ from ..balance.site import site_in
 from ..explain import rules
 from ..explain.why import overfull
 from ..keep.batch import run as run_batch
-from ..keep.book import Book
+from ..keep.batch import summary_of
+from ..keep.book import Book, Draft
 from ..keep.chart import chart
+from ..keep.find import Brief, Search, find, key_of
+from ..keep.record import FLOW, KIND, SHEET, Kept
 from ..read import plant_files
 from ..read.faults import Stopped
 from ..write import outputs, terminal
-from .options import FILE, LIST, OFFICE, OUTPUT, REFUSED, UNIT
+from .books import WHO, progress
+from .named import BOOK, BookType, HourType, ReferenceType
+from .options import FAILED, FILE, LIST, OFFICE, OUTPUT, REFUSED, UNIT
 
 
 @click.command()
 @LIST
-@click.argument("book", type=FILE)
+@BOOK
 @OFFICE
 @UNIT
-def keep(list: Path, book: Path, office: int, unit: Optional[Fraction]) -> int:
+@click.option("--at", "hour", type=HourType(), default="", help="The hour of the readings: 2026-11-17 14:00. By default the list's own, if it tells one.")
+@WHO
+@click.option("--note", default="", help="A note kept beside the sheet.")
+def keep(list: Path, book: str, office: int, unit: Optional[Fraction], hour: str, who: str, note: str) -> int:
     """Draws the sheet of LIST under the office's next number and keeps it in BOOK, which is made if there is none."""
     site = site_in(list, unit)
-    kept = Book(book, make=True)
-    number = kept.keep([(site, str(list.resolve()))], office)[0]
-    if number is None:
-        raise Stopped("\n".join(overfull(balance(site))))
-    verdict = VERDICT[kept.sheet(office, number).balance().total.verdict]
-    terminal.lines([f"kept as sheet {number} of office {office} in {book}: {verdict}"])
-    return 0
+    hour = hour or getattr(site.list, "hour", "")
+    with Book(book, make=True) as kept:
+        receipt = kept.keep_one(Draft(site, str(list.resolve()), hour, who, note=note), office)
+        if receipt is None:
+            raise Stopped("\n".join(overfull(balance(site))))
+        verdict = engine.Verdict(kept.sheet(office, receipt.number, receipt.kind).verdict)
+    terminal.lines([f"kept as {KIND[receipt.kind]} {receipt.number} of office {office} in {kept.title}: {VERDICT[verdict]}", hour_told(hour)])
+    return FAILED if verdict is engine.Verdict.FAIL else 0
+
+
+def hour_told(hour: str) -> str:
+    """The hour of the readings, as messages tell it."""
+    return f"the hour of its readings: {hour}" if hour else "the hour of its readings is not known: --at 2026-11-17T14:00 would tell it"
 
 
 @click.command("open")
-@click.argument("book", type=FILE)
+@BOOK
 @click.argument("number", type=click.IntRange(1), required=False)
-@OFFICE
+@click.option("--office", type=click.IntRange(0, 7), help="The office; by default 0, and for a list of sheets all of them.")
 @OUTPUT
-def open_(book: Path, number: Optional[int], office: int, outputs_: Sequence[Path]) -> int:
-    """Lists the sheets of BOOK, or reopens sheet NUMBER of an office and checks it again."""
+@click.option("--find", "words", default="", help="List the sheets in which these words stand: site, unit, stream, or the name of the list.")
+@click.option("--verdict", type=click.Choice([v.name.lower() for v in engine.Verdict]), help="List the sheets with this verdict.")
+@click.option("--since", default="", help="List the sheets kept since then: 2026-11-17, or 2026-11.")
+@click.option("--until", default="", help="List the sheets kept until then.")
+@click.option("--by-hour", is_flag=True, help="--since and --until are of the hour of the readings.")
+@click.option("--older", metavar="OFFICE-NUMBER", type=ReferenceType(), help="List the sheets kept before this one.")
+@click.option("--flows", is_flag=True, help="NUMBER is that of checked flows.")
+def open_(book: str, number: Optional[int], office: Optional[int], outputs_: Sequence[Path], words: str, verdict: Optional[str], since: str, until: str,
+          by_hour: bool, older: Optional[Tuple[int, int]], flows: bool) -> int:
+    """Lists the newest sheets of BOOK, or reopens sheet NUMBER of an office and checks it again."""
     paths = [outputs.checked(path) for path in outputs_]
-    kept = Book(book)
-    if number is None:
-        rows = [((str(k.office), str(k.number), k.date, Path(k.source).name, _told(k.sheet)), "") for k in kept.sheets()]
-        terminal.table(("office", "sheet", "kept", "list", "verdict"), rows, ("office", "sheet"))
-        return 0
-    found = kept.sheet(office, number)
-    try:
-        found.checked()
-    except engine.Refusal as refusal:
-        raise Stopped(f"sheet {number} of office {office} does not pass the check any more: {refusal.text} ({refusal.number})") from None
-    terminal.show(found.balance())
-    terminal.lines([f"kept {found.date} from {found.source}; checked again with its place numbers: it passes"])
-    outputs.write_all(found.balance(), paths)
+    wanted = Search(words, office, None if verdict is None else engine.Verdict[verdict.upper()].value, None, since, until, by_hour)
+    with Book(book) as kept:
+        if number is not None:
+            return _reopened(kept, kept.sheet(office or 0, number, FLOW if flows else SHEET), paths)
+        page = find(kept, wanted, key_of(kept, *older) if older else None)
+    heads = ("office", "sheet", "kept", "hour of the readings", "list", "verdict", "cost")
+    terminal.table(heads, [(_cells(line), "dim" if line.annulled else "") for line in page.lines], ("office", "sheet", "cost"))
+    if page.older:
+        last = page.lines[-1]
+        terminal.lines([f"older ones: --older {last.office}-{last.number}"])
     return 0
 
 
-def _told(bytes_: bytes) -> str:
-    """Verdict and cost of a kept sheet; damage is told too."""
-    try:
-        total = engine.read_sheet(bytes_)
-    except engine.Refusal as refusal:
-        return f"damaged: {refusal.text} ({refusal.number})"
-    return f"{total.verdict.name.lower()}, cost {total.cost / 1000:,.1f}"
+def _cells(line: Brief) -> Tuple[str, ...]:
+    verdict = engine.Verdict(line.verdict).name.lower() + (", annulled" if line.annulled else "")
+    number = str(line.number) if line.kind == SHEET else f"{KIND[line.kind]} {line.number}"
+    return str(line.office), number, line.at[:16].replace("T", " "), line.hour, Path(line.source).name, verdict, f"{line.cost / 1000:,.1f}"
+
+
+def _reopened(book: Book, found: Kept, paths: Sequence[Path]) -> int:
+    """Shows a kept sheet after every check of it."""
+    faults = book.faults(found)
+    if faults:
+        raise Stopped("\n".join(f"{found.title}: {fault}" for fault in faults))
+    drawn = found.balance()
+    terminal.show(drawn)
+    checked = "checked again with its place numbers, names, unit, readings and chain: it passes"
+    terminal.lines([f"kept {found.at} by {found.who or 'nobody named'} from {found.source}; {checked}", hour_told(found.hour)])
+    terminal.lines([f"note: {found.note}"] if found.note else [])
+    terminal.lines([f"ANNULLED by {found.annulled}"] if found.annulled else [])
+    outputs.write_all(drawn, paths)
+    return FAILED if drawn.total.verdict is engine.Verdict.FAIL else 0
 
 
 @click.command()
@@ -88,23 +119,19 @@ def check(plant: Path, sheet: Path, numbers: Path) -> int:
 @click.command()
 @click.argument("folder", type=FILE)
 @click.option("-o", "--output", "summary", type=FILE, default=Path("summary.csv"), show_default=True, help="The summary; a chart is written beside it (.svg).")
-@click.option("--book", type=FILE, help="Keep every sheet in this book, each once: a run that was cut off goes on where it stopped.")
+@click.option("--book", type=BookType(), help="Keep every sheet in this book, each once: a run that was cut off goes on where it stopped.")
 @OFFICE
 @UNIT
 @click.option("--jobs", type=click.IntRange(1, 256), help="Processes at a time; by default one for each core.")
-def batch(folder: Path, summary: Path, book: Optional[Path], office: int, unit: Optional[Fraction], jobs: Optional[int]) -> int:
+def batch(folder: Path, summary: Path, book: Optional[str], office: int, unit: Optional[Fraction], jobs: Optional[int]) -> int:
     """Balances every list and plant file of FOLDER: a line for each, and a chart of the cost over time."""
-    from rich.progress import BarColumn, MofNCompleteColumn, Progress, TextColumn, TimeRemainingColumn
-
-    kept = Book(book, make=True) if book else None
-    columns = (TextColumn("sheets"), BarColumn(), MofNCompleteColumn(), TimeRemainingColumn())
-    with Progress(*columns, console=terminal.console(error=True), transient=True, disable=not sys.stderr.isatty()) as progress:
-        task = progress.add_task("sheets", total=None)
-        done = run_batch(folder, summary, unit, kept, office, jobs, lambda n, of: progress.update(task, completed=n, total=of))
+    summary_of(folder, summary)
+    with nullcontext() if book is None else Book(book, make=True) as kept, progress("sheets") as told:
+        done = run_batch(folder, summary, unit, kept, office, jobs, told)
     outputs.write(summary.with_suffix(".svg"), chart(done, folder.resolve().name).encode())
     counts = {word: sum(o.cells[0] == word for o in done) for word in ("pass", "close", "fail", "none", "no flow in range", "fault")}
-    told = ", ".join(f"{count:,} {word}" for word, count in counts.items() if count)
+    summed = ", ".join(f"{count:,} {word}" for word, count in counts.items() if count)
     before = sum(o.before for o in done)
     known = f", {before:,} of them in the book before" if before else ""
-    terminal.lines([f"{len(done):,} files{known}: {told or 'none'}; {summary}, {summary.with_suffix('.svg')}"])
-    return 0
+    terminal.lines([f"{len(done):,} files{known}: {summed or 'none'}; {summary}, {summary.with_suffix('.svg')}"])
+    return FAILED if counts["fail"] else 0

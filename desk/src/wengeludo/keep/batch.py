@@ -4,6 +4,8 @@ from __future__ import annotations
 
 import csv
 import os
+import threading
+import time
 from concurrent.futures import ProcessPoolExecutor
 from dataclasses import dataclass, replace
 from fractions import Fraction
@@ -15,7 +17,8 @@ import wengeludo_balance as engine
 from ..balance.sheet import Balance, balance
 from ..balance.site import Site, site_in
 from ..read.faults import Stopped
-from .book import Book
+from .book import Book, Draft, Receipt, someone
+from .record import KIND, content_key
 
 HEAD = ("file", "verdict", "cost", "limit", "degrees", "blanks", "worst", "worst σ", "unit", "office", "sheet", "fault")
 SUFFIXES = (".csv", ".xlsx", ".bin")
@@ -82,15 +85,39 @@ def outcomes(paths: Sequence[Path], unit: Optional[Fraction], keep: bool, jobs: 
     if jobs < 2 or len(tasks) < 2:
         yield from map(_work, tasks)
         return
-    with ProcessPoolExecutor(jobs) as pool:
+    with ProcessPoolExecutor(jobs, initializer=_tied, initargs=(os.getpid(),)) as pool:
         yield from pool.map(_work, tasks)
+
+
+def _tied(parent: int) -> None:
+    """Ends this worker when its parent has ended, by whatever signal."""
+
+    def watch() -> None:
+        while os.getppid() == parent:
+            time.sleep(0.2)
+        os._exit(1)
+
+    threading.Thread(target=watch, daemon=True).start()
+
+
+def summary_of(folder: Path, summary: Path) -> Path:
+    """Where the summary goes; Stopped if that is a list of the folder, which would be lost."""
+    if summary.exists() and summary.resolve() in {path.resolve() for path in files_in(folder)} and not _is_summary(summary):
+        raise Stopped(f"{summary}: that is a list of the folder, and would be lost: another name would do")
+    return summary
+
+
+def _is_summary(path: Path) -> bool:
+    """Whether a file is the summary of an earlier run."""
+    with open(path, encoding="utf-8", errors="replace", newline="") as file:
+        return next(csv.reader(file), []) == list(HEAD)
 
 
 def run(folder: Path, summary: Path, unit: Optional[Fraction] = None, book: Optional[Book] = None, office: int = 0,
         jobs: Optional[int] = None, told: Callable[[int, int], None] = lambda done, of: None) -> List[Outcome]:
-    """Balances every file of a folder; the summary is written as it grows. With a book each sheet is kept, once: a list whose sheet the
-    book has, with the same readings and names, draws no other, so that a run that was cut off goes on where it stopped."""
-    paths = [p for p in files_in(folder) if p.resolve() != summary.resolve()]
+    """Balances every file of a folder; the summary is written as it grows. With a book each list is kept once by its content, whatever
+    runs beside it and wherever its folder lies, so that a run that was cut off goes on where it stopped."""
+    paths = [p for p in files_in(folder) if p.resolve() != summary_of(folder, summary).resolve()]
     done: List[Outcome] = []
     with open(summary, "w", newline="", encoding="utf-8") as file:
         writer = csv.writer(file)
@@ -106,12 +133,19 @@ def run(folder: Path, summary: Path, unit: Optional[Fraction] = None, book: Opti
 
 def _kept(some: List[Outcome], folder: Path, book: Book, office: int) -> List[Outcome]:
     """The same lines, with the numbers under which the book has their sheets, now or from before."""
-    sites = [(o.site, str((folder / o.file).resolve())) for o in some if o.site]
-    before = [book.number_of(site, source, office) for site, source in sites]
-    drawn = iter(book.keep([one for one, known in zip(sites, before) if known is None], office))
-    numbers = iter([(next(drawn) if known is None else known, known is not None) for known in before])
-    return [_numbered(o, office, *next(numbers)) if o.site else o for o in some]
+    drafts = [_draft(o, folder, office) for o in some if o.site]
+    receipts = iter(book.keep(drafts, office))
+    return [_numbered(o, office, next(receipts)) if o.site else o for o in some]
 
 
-def _numbered(line: Outcome, office: int, number: Optional[int], before: bool) -> Outcome:
-    return replace(line, cells=(*line.cells[:8], office, number, line.cells[10]), before=before)
+def _draft(line: Outcome, folder: Path, office: int) -> Draft:
+    assert line.site is not None
+    hour = getattr(line.site.list, "hour", "")
+    return Draft(line.site, str((folder / line.file).resolve()), hour, someone(), content_key(line.site, office, hour))
+
+
+def _numbered(line: Outcome, office: int, receipt: Optional[Receipt]) -> Outcome:
+    if receipt is None:
+        return line
+    number = receipt.number if not receipt.kind else f"{KIND[receipt.kind]} {receipt.number}"
+    return replace(line, cells=(*line.cells[:8], office, number, line.cells[10]), before=receipt.before)

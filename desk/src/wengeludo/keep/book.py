@@ -8,16 +8,17 @@ from __future__ import annotations
 
 import getpass
 import hashlib
-import json
 import uuid
-from dataclasses import dataclass, field
+from dataclasses import dataclass, field, replace
 from typing import Any, Dict, Iterator, List, Optional, Sequence, Tuple
 
 import wengeludo_balance as engine
 
 from ..balance.site import Site
-from .record import FIELDS, FLOW, KIND, MOST_COST, SHEET, Kept, clean, dumps, link, readings_of, site_from, site_name, told_of, words_of
-from .schema import OPEN, now
+from .record import (
+    FIELDS, FLOW, KIND, MOST_COST, SHEET, Kept, blanks_of, clean, dumps, link, readings_of, site_from, site_name, thousandths, told_of, words_of,
+)
+from .schema import MOST_NUMBER, OPEN, now
 from .store import Absent, Closed, Conflict, Damaged, Row, Store, Where, opened, patiently
 
 PAGE = 50
@@ -53,6 +54,7 @@ class Draft:
     request: str = field(default_factory=new_key)
     changes: str = ""
     note: str = ""
+    checked: Any = None  # the record of checked flows, if the engine has no sheet of its own for this list
 
 
 @dataclass(frozen=True)
@@ -104,7 +106,14 @@ class Book:
         return self.store.title
 
     def close(self) -> None:
+        """Lets the store go; an SQLite file is then whole by itself."""
         self.store.close()
+
+    def __enter__(self) -> "Book":
+        return self
+
+    def __exit__(self, *_: object) -> None:
+        self.close()
 
     # -- keeping
 
@@ -318,23 +327,37 @@ class _Ready:
     numbers: Optional[str]
 
     def drawn(self, at: Office) -> Optional[Drawn]:
-        """The sheet under the office's next number; None if no flow keeps within the ranges."""
+        """The sheet, or the checked flows, under the office's next number; None if no flow keeps within the ranges."""
+        if self.draft.checked is not None:
+            return self._flows(at)
         if self.numbers is None:
             return None
         lasts = tuple(at.last if k == at.office else 0 for k in range(engine.OFFICES))
         drawn = engine.balance_plant(self.plant, at.office, lasts)
         read = engine.read_sheet(drawn.sheet)
-        blanks = sum(record.flow is None for record in read.records)
-        return Drawn(SHEET, drawn.lasts[at.office], self.plant, drawn.sheet, self.numbers, read.verdict.value, min(read.cost, MOST_COST), blanks)
+        return Drawn(SHEET, drawn.lasts[at.office], self.plant, drawn.sheet, self.numbers, read.verdict.value, min(read.cost, MOST_COST), blanks_of(read))
+
+    def _flows(self, at: Office) -> Drawn:
+        if at.flows >= MOST_NUMBER:
+            raise Conflict(f"office {at.office} has no number left for checked flows")
+        checked = self.draft.checked
+        judged = checked.judged
+        return Drawn(FLOW, at.flows + 1, b"", checked.to_json().encode(), "[]", judged.verdict.value, thousandths(judged.cost), blanks_of(checked.sheet))
 
 
 def _ready(draft: Draft) -> _Ready:
-    told, file = told_of(draft.site), draft.site.file
+    told = told_of(draft.site)
+    file, numbers = (b"", None) if draft.checked is not None else _numbered(draft.site)
+    plain = replace(draft, **{name: clean(getattr(draft, name)) for name in ("source", "hour", "who", "request", "changes", "note")})
+    return _Ready(plain, told, hashlib.sha256(told.encode()).digest(), readings_of(draft.site), file, clean(draft.site.list.name), numbers)
+
+
+def _numbered(site: Site) -> Tuple[bytes, Optional[str]]:
+    """A site's plant file and the numbers of its places; none if no flow keeps within the ranges."""
+    file = site.file
     try:
-        numbers: Optional[str] = dumps(engine.place_numbers(file))
+        return file, dumps(engine.place_numbers(file))
     except engine.Refusal as refusal:
         if refusal.number != 19:
             raise
-        numbers = None
-    plain = Draft(draft.site, clean(draft.source), clean(draft.hour), clean(draft.who), clean(draft.request), clean(draft.changes), clean(draft.note))
-    return _Ready(plain, told, hashlib.sha256(told.encode()).digest(), readings_of(draft.site), file, clean(draft.site.list.name), numbers)
+        return file, None

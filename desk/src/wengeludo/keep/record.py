@@ -4,26 +4,31 @@ from __future__ import annotations
 
 import hashlib
 import json
+import math
 import re
 from dataclasses import dataclass, fields, replace
 from fractions import Fraction
-from typing import Any, Dict, List, Optional, Sequence, Tuple
+from functools import lru_cache
+from typing import Any, Callable, Dict, List, Optional, Sequence, Tuple, TypeVar
 
 import wengeludo_balance as engine
 
 from ..balance import unit as units
 from ..balance.sheet import Balance, reopened
-from ..balance.site import Site
+from ..balance.site import Site, site_of
 from ..read.lists import Pipe, PipeList
 from ..read.numbers import Accuracy
+from ..read.faults import Stopped
 from .store import Damaged
 
+T = TypeVar("T")
 SHEET, FLOW = 0, 1  # the kinds: a numbered sheet of the engine, a checked flow
 KIND = {SHEET: "sheet", FLOW: "flow"}
 MOST_COST = 2**63 - 1  # a cost may be 2^64 - 1, which no column holds: the column is for sorting, the sheet has the cost
 _HOURLY = ("row", "reading", "accuracy")  # of a pipe; all its other fields belong to the plan
 _LISTED = ("name", "pipes", "places", "spots")  # of a list, told in ways of their own
 _HELD = (str, int, float, Fraction, tuple, list, type(None))
+_UNREADABLE = (engine.Refusal, Stopped, ValueError, KeyError, TypeError, IndexError, AttributeError, ArithmeticError)
 _STAMP = re.compile(r"[\W_]*\d[\dT:_\W]*")
 
 
@@ -83,14 +88,15 @@ def told_of(site: Site) -> str:
 
 def readings_of(site: Site) -> str:
     """What changes from hour to hour: each pipe's reading as listed, and the accuracy that it counts with."""
-    return dumps([_reading(pipe) for pipe in site.list.pipes])
+    return dumps([0 if pipe.reading is None else [pipe.reading, *_accuracy(pipe.accuracy)] for pipe in site.list.pipes])
 
 
-def _reading(pipe: Pipe) -> Any:
-    if pipe.reading is None:
-        return 0
-    known = pipe.accuracy
-    return [pipe.reading, *(() if known is None else (known.deviation,) if known.weight is None else (known.deviation, known.weight))]
+def _accuracy(known: Optional[Accuracy]) -> List[Any]:
+    """The fields of an accuracy, those at the end left out if they are none."""
+    cells = [] if known is None else [_plain(getattr(known, f.name)) for f in fields(known)]
+    while cells and cells[-1] is None:
+        cells.pop()
+    return cells
 
 
 def words_of(site: Site) -> str:
@@ -104,36 +110,72 @@ def _made(kind: Any, told: Dict[str, Any], **more: Any) -> Any:
     return kind(**{name: _back(value) for name, value in told.items() if name in known}, **more)
 
 
-def site_from(told_text: str, readings: str, plant_file: bytes, name: str) -> Site:
+@dataclass(frozen=True)
+class Plan:
+    """A plan as it was kept: its unit, its pipes without readings, their ranges in units, its places, the rest of its list."""
+
+    unit: Fraction
+    pipes: Tuple[Pipe, ...]
+    ranges: Tuple[Tuple[Optional[int], Optional[int]], ...]
+    places: Tuple[str, ...]
+    told: Dict[str, Any]
+
+    def list(self, readings: str, name: str) -> PipeList:
+        """The list of an hour."""
+        spots = {place: (float(x), float(y)) for place, x, y in self.told.get("spots", ())}
+        pipes = tuple(_read(pipe, value) for pipe, value in zip(self.pipes, json.loads(readings)))
+        return _made(PipeList, self.told["list"], name=name, pipes=pipes, places=self.places, spots=spots)
+
+
+@lru_cache(256)
+def plan_of(told_text: str) -> Plan:
+    """The plan of a kept text; ValueError, KeyError or TypeError if it is none."""
+    told = json.loads(told_text)
+    unit = Fraction(told["unit"])
+    pipes = tuple(_made(Pipe, named, row=row) for row, named in enumerate(told["pipes"], 2))
+    return Plan(unit, pipes, tuple(units.limits(pipe, unit) or (None, None) for pipe in pipes), tuple(told["places"]), told)
+
+
+def _read(pipe: Pipe, value: Any) -> Pipe:
+    """A pipe with its reading."""
+    if not value:
+        return pipe
+    reading, *known = value
+    return replace(pipe, reading=reading, accuracy=Accuracy(*map(_back, known)) if known else None)
+
+
+def site_from(told: str, readings: str, plant_file: bytes, name: str) -> Site:
     """The site of a kept plan, its readings and its plant file."""
-    plant, told = engine.read_plant(plant_file), json.loads(told_text)
-    unit, pipes = Fraction(told["unit"]), []
-    for row, (named, value) in enumerate(zip(told["pipes"], json.loads(readings)), 2):
-        reading, *known = value or (None,)
-        pipes.append(_made(Pipe, named, row=row, reading=reading, accuracy=Accuracy(*known) if known else None))
-    spots = {place: (float(x), float(y)) for place, x, y in told.get("spots", ())}
-    listed = _made(PipeList, told["list"], name=name, pipes=tuple(pipes), places=tuple(told["places"]), spots=spots)
-    found = (units.clamp(pipe, stream.weight or 1, unit) for pipe, stream in zip(pipes, plant.streams))
-    return Site(listed, unit, plant, tuple(one for one in found if one))
+    plan = plan_of(told)
+    site = site_of(plan.list(readings, name), plan.unit, name)
+    return replace(site, plant=engine.read_plant(plant_file)) if plant_file else site
 
 
-def differs(site: Site) -> Optional[str]:
-    """The first thing in which a kept list differs from its plant file: names, ends, unit, readings, accuracies, ranges; None if nothing does."""
-    pipes, plant = site.list.pipes, site.plant
-    if len(pipes) != len(plant.streams) or max(1, len(site.list.places) - 1) != plant.units:
-        return f"the list has {len(pipes)} streams and {len(site.list.places) - 1} units, the plant file {len(plant.streams)} and {plant.units}"
-    for pipe, stream in zip(pipes, plant.streams):
-        if (pipe.source, pipe.target, pipe.reading is not None) != (stream.source, stream.target, stream.metered):
+def differs(plan: Plan, readings: str, plant: engine.Plant) -> Optional[str]:
+    """The first thing in which a kept list differs from its plant file: ends, unit, readings, accuracies, ranges; None if nothing does."""
+    values = json.loads(readings)
+    if not len(plan.pipes) == len(values) == len(plant.streams) or max(1, len(plan.places) - 1) != plant.units:
+        return f"the list has {len(values)} streams and {len(plan.places) - 1} units, the plant file {len(plant.streams)} and {plant.units}"
+    unit = float(plan.unit)
+    for pipe, value, ends, stream in zip(plan.pipes, values, plan.ranges, plant.streams):
+        if (pipe.source, pipe.target, value != 0) != (stream.source, stream.target, stream.metered):
             return f"{pipe.title} has other ends or another meter in the plant file"
-        if stream.metered and _metered(pipe, site.unit) != (stream.weight, stream.reading, stream.low, stream.high):
+        if value and (_whole(value[0], plan.unit, unit), _weight(value[1:], plan.unit), *ends) != (stream.reading, stream.weight, stream.low, stream.high):
             return f"{pipe.title} has another reading, accuracy, range or unit in the plant file"
     return None
 
 
-def _metered(pipe: Pipe, unit: Fraction) -> Tuple[Any, ...]:
-    if pipe.accuracy is None:
-        return ()
-    return (*units.meter(pipe, unit), *(units.limits(pipe, unit) or (None, None)))
+def _whole(reading: float, unit: Fraction, near: float) -> int:
+    """A reading in whole units; only near a half the fraction decides, elsewhere its float does."""
+    units_ = reading / near
+    whole = round(units_)
+    return whole if abs(units_ - whole) < 0.4999 else round(Fraction(repr(float(reading))) / unit)
+
+
+def _weight(known: Sequence[Any], unit: Fraction) -> Optional[int]:
+    if len(known) > 1 and known[1] is not None and unit == 1:
+        return int(known[1])
+    return units.weight_of(known[0], unit) if known else None
 
 
 @dataclass(frozen=True)
@@ -181,39 +223,77 @@ class Kept:
 
     def site(self) -> Site:
         """The site with its names and readings; Damaged if what is kept cannot be read."""
-        try:
-            return site_from(self.told, self.readings, self.plant, self.name)
-        except (engine.Refusal, ValueError, KeyError, TypeError, IndexError, ArithmeticError) as error:
-            raise Damaged(f"{self.title} is damaged in the book: {error}") from None
+        return self._readable(lambda: site_from(self.told, self.readings, self.plant, self.name))
 
     def balance(self) -> Balance:
         """The sheet with its names, read by the sheet reader; Damaged if what is kept cannot be read."""
+        return replace(self._readable(self._balance), date=self.at)
+
+    def _balance(self) -> Balance:
+        if self.kind == FLOW:
+            from ..balance.sheet import checked_balance
+
+            return checked_balance(plan_of(self.told).list(self.readings, self.name), self.checked())
+        return reopened(self.site(), self.sheet)
+
+    def checked(self) -> Any:
+        """The record of checked flows, of a sheet of that kind."""
+        from ..balance.checked import Checked
+
+        return Checked.from_json(self.sheet.decode())
+
+    def _readable(self, work: Callable[[], T]) -> T:
         try:
-            return replace(reopened(self.site(), self.sheet), date=self.at)
-        except (engine.Refusal, ValueError, KeyError, TypeError, IndexError, ArithmeticError) as error:
+            return work()
+        except Damaged:
+            raise
+        except _UNREADABLE as error:
             raise Damaged(f"{self.title} is damaged in the book: {error}") from None
 
-    def faults(self, before: bytes, sites: Optional[Dict[bytes, Any]] = None) -> List[str]:
+    def faults(self, before: bytes) -> List[str]:
         """What is wrong with the sheet: its chain, its names and readings, the engine's check, the columns for searching."""
         found = [] if self.link(before) == self.chain else ["the chain is broken"]
         try:
-            engine.check_sheet(self.plant, self.sheet, tuple(json.loads(self.numbers)))
-            read = engine.read_sheet(self.sheet)
-            if (read.office, read.number) != (self.office, self.number):
-                found.append(f"its bytes are of sheet {read.number} of office {read.office}")
-            if (read.verdict, min(read.cost, MOST_COST), sum(r.flow is None for r in read.records)) != (self.verdict, self.cost, self.blanks):
-                found.append("verdict, cost or blanks stand otherwise in the sheet")
-            other = differs(self.site())
+            return found + (self._flow_faults() if self.kind == FLOW else self._sheet_faults())
         except engine.Refusal as refusal:
             return [*found, f"it does not pass the check any more: {refusal.text} ({refusal.number})"]
-        except (Damaged, ValueError, KeyError, TypeError, OverflowError) as error:
+        except _UNREADABLE as error:
             return [*found, f"it cannot be read ({error})"]
+
+    def _sheet_faults(self) -> List[str]:
+        engine.check_sheet(self.plant, self.sheet, tuple(json.loads(self.numbers)))
+        read, found = engine.read_sheet(self.sheet), []
+        if (read.office, read.number) != (self.office, self.number):
+            found.append(f"its bytes are of sheet {read.number} of office {read.office}")
+        if (read.verdict, min(read.cost, MOST_COST), blanks_of(read)) != (self.verdict, self.cost, self.blanks):
+            found.append("verdict, cost or blanks stand otherwise in the sheet")
+        other = differs(plan_of(self.told), self.readings, engine.read_plant(self.plant))
         return found + ([other] if other else [])
+
+    def _flow_faults(self) -> List[str]:
+        from ..balance.exact import exacts_of
+
+        checked = self.checked()
+        checked.recheck()
+        judged = (checked.judged.verdict, thousandths(checked.judged.cost), blanks_of(checked.sheet))
+        found = [] if judged == (self.verdict, self.cost, self.blanks) else ["verdict, cost or blanks stand otherwise in the record"]
+        same = exacts_of(plan_of(self.told).list(self.readings, self.name)) == checked.listed
+        return found + ([] if same else ["its list has other readings, accuracies, ranges or ends than the record"])
+
+
+def blanks_of(sheet: engine.Sheet) -> int:
+    """How many streams of a sheet are not known."""
+    return sum(record.flow is None for record in sheet.records)
+
+
+def thousandths(cost: Fraction) -> int:
+    """A cost as the column has it."""
+    return min(math.floor(cost * 1000), MOST_COST)
 
 
 FIELDS = tuple(f.name for f in fields(Kept))[:21]  # the columns of the table
 
 
 def content_key(site: Site, office: int, hour: str = "") -> str:
-    """The key of a list by its content, wherever it lies: office, name, plan, readings, plant file, hour."""
-    return "list/" + hashlib.sha256(packed(office, clean(site.list.name), told_of(site), readings_of(site), site.file, hour)).hexdigest()
+    """The key of a list by its content, wherever it lies: office, name, plan, readings, hour."""
+    return "list/" + hashlib.sha256(packed(office, clean(site.list.name), told_of(site), readings_of(site), hour)).hexdigest()
