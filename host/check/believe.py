@@ -45,6 +45,7 @@ SUBJECTS = (
     ("steam charges", {"linked": {"wengeludo_charges"}}, ("charge_def/Says/Steam-charges", "charge_call/Lent/One-hand-over")),
     ("sheets drawn up elsewhere", {"linked": {"wengeludo_check_sheet", "wengeludo_place_numbers"}},
      ("foreign_def/Says/Foreign-sheets", "foreign_def/Numbers/Own-numbers")),
+    ("flows found elsewhere", {"linked": {"wengeludo_check_flow"}}, ()),
     ("bounds, and the record of all promises", {"linked": None}, ("promises/Promises/Promises",)),
 )
 

@@ -1,6 +1,6 @@
 // The calls for programs in C and Rust, as functions on numbers and slices of numbers: the archive. They are the version, the sheet call,
 // the plant writer, the sheet reader, the translator, the two moves, meters to buy, the survey, meters worth a visit, steam charges, the
-// check of a sheet and numbers of the places.
+// check of a sheet, numbers of the places and the check of a flow over wide numbers.
 use plant_def::Plant;
 use sheet_lent::balance_lent;
 ghost use mathlib.Core.Path.{_≡_};
@@ -10,6 +10,7 @@ ghost use Rattle.survey_answers.specs.Lent.{LendSays};
 ghost use Rattle.foreign_def.specs.Says.{CheckSays};
 ghost use Rattle.foreign_def.specs.Numbers.{NumbersLent};
 ghost use Rattle.visit_call.specs.Lent.{VisitsLent};
+ghost use Rattle.certify_def.specs.Says.{lentSlices, FlowSays};
 ghost use Rattle.charge_call.specs.Lent.{ChargesLent};
 ghost use Rattle.version.specs.Version.{version};
 ghost use Rattle.linked.specs.Calls.{SheetCall, WriteCall, ReadCall, BuyCall};
@@ -235,4 +236,36 @@ pub extern "C" fn wengeludo_place_numbers(file: &[u8], numbers: &mut [i64], coun
     let lent = foreign_numbers::numbers_lent(file, numbers);
     *count = lent.count;
     lent.number
+}
+
+// The check of a flow found elsewhere, with one number for each place, of a plant of wide numbers whose parts are handed over in eight
+// slices, stream k + 1 at place k of each: a slice too short for the count (of the numbers: for the places) 1, then the faults of the
+// parts, then 26 where any rule is broken; 0 where the flow passes, and then it has least cost.
+#[no_mangle]
+pub extern "C" fn wengeludo_check_flow(
+    units: u8,
+    count: usize,
+    from: &[u8],
+    to: &[u8],
+    metered: &[u8],
+    weight: &[u64],
+    reading: &[i64],
+    ranged: &[u8],
+    low: &[i64],
+    high: &[i64],
+    flow: &[i64],
+    numbers: &[i64],
+) -> u8
+    ensures { λ r. ⌜ FlowSays units count (lentSlices from to metered weight reading ranged low high) (now (flow .entry)) (now (numbers .entry)) r ⌝ }
+{
+    let first = certify_call::least_of(from.len(), to.len(), metered.len(), weight.len());
+    let last = certify_call::least_of(reading.len(), ranged.len(), low.len(), high.len());
+    let reach = certify_call::lesser(first, last);
+    let fault = certify_call::call_fault(units, count, reach, flow.len(), numbers.len());
+    if fault != 0 {
+        return fault;
+    }
+    let meters = certify_call::meters_gathered(count, from, to, metered, weight, reading);
+    let streams = certify_call::ranges_gathered(count, meters, ranged, low, high);
+    certify_call::flow_number(units, count, streams, flow, numbers)
 }

@@ -1,0 +1,4 @@
+-- A flow found elsewhere, for a plant of wide numbers.
+pub mod Number
+pub mod Says
+pub mod Test

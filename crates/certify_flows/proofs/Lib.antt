@@ -1,0 +1,2 @@
+-- Streams tested one after the other, and their nets.
+pub mod Turning

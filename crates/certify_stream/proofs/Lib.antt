@@ -1,0 +1,2 @@
+-- Bounds of wide numbers in 64 bits.
+pub mod Widths
