@@ -11,11 +11,13 @@ from wengeludo.read.faults import Faulty
 from wengeludo.read.lists import read_list
 
 HEAD = "stream,what,from,to,reading,accuracy,low,high,price,rate\n"
+UNITS = "kg/h, t/h, kg/s, g/s, kg/min, t/d, lb/h or klb/h would do"
+SHARE = "±50 (kg/h), or a floor below which no accuracy falls, would do"
 FORMS = "2% (of the reading), ±50 (standard deviation in kg/h) or w40 (weight) would do"
-UNSURE = "it may be thousands or decimals: write it without a mark for thousands"
+UNSURE = "it may be thousands or decimals: 7979 or 7{}9790 would do"
 LARGE = "a number from -4,000,000,000,000 to 4,000,000,000,000 would do"
 BOTH = 'row 3, column reading: "2.5" stands there; row 2 has 1,5: decimal points all over the list, or decimal commas, would do'
-KNOWN = "stream, what, from, to, reading, accuracy, low, high, price, rate"
+KNOWN = "stream, what, from, to, reading, accuracy, low, high, price, rate, unit, floor"
 GOOD = "1,feed,outside,boiler,100,w10,,,,\n"
 
 
@@ -31,14 +33,14 @@ def faults(path):
         ("9,x,boiler,outside,abc,2%,,,,", 'row 3, column reading, stream 9: "abc" stands there; a number would do'),
         ("9,x,boiler,outside,5,,,,,", "row 3, column accuracy, stream 9: nothing stands there; a reading needs an accuracy: 2%, ±50 or w40 would do"),
         ("9,x,boiler,outside,5,good,,,,", 'row 3, column accuracy, stream 9: "good" stands there; ' + FORMS),
-        ("9,x,boiler,outside,0,2%,,,,", 'row 3, column accuracy, stream 9: "2%" stands there; a share of a reading of 0 is no accuracy: ±50 (kg/h) would do'),
+        ("9,x,boiler,outside,0,2%,,,,", 'row 3, column accuracy, stream 9: "2%" stands there; a share of a reading of 0 is no accuracy: ' + SHARE),
         ("9,x,boiler,outside,5,0,,,,", 'row 3, column accuracy, stream 9: "0" stands there; the standard deviation must be above 0: ' + FORMS),
         ("9,x,boiler,outside,5,w0,,,,", 'row 3, column accuracy, stream 9: "w0" stands there; ' + FORMS),
         ("9,x,boiler,outside,5,w1001,,,,", 'row 3, column accuracy, stream 9: "w1001" stands there; ' + FORMS),
         ("9,x,boiler,outside,5,1,9,3,,", 'row 3, column low, stream 9: "9" stands there; low is above high (3): the other way round would do'),
         ("9,x,boiler,outside,5,1,,,1.5,", 'row 3, column price, stream 9: "1.5" stands there; a whole number from 1 to 1,000,000 would do'),
         ("9,x,boiler,outside,5,1,,,0,", 'row 3, column price, stream 9: "0" stands there; a whole number from 1 to 1,000,000 would do'),
-        ("9,x,boiler,outside,5,1,,,,10001", 'row 3, column rate, stream 9: "10001" stands there; a whole number from 0 to 10,000 would do'),
+        ("9,x,boiler,outside,5,1,,,,1000001", 'row 3, column rate, stream 9: "1000001" stands there; a whole number from 0 to 1,000,000 would do'),
         ("9,x,,outside,5,1,,,,", "row 3, column from, stream 9: nothing stands there; a place or outside would do"),
         ("9,x,boiler,,5,1,,,,", "row 3, column to, stream 9: nothing stands there; a place or outside would do"),
         ("9,x,Boiler ,boiler,5,1,,,,", 'row 3, column to, stream 9: "boiler" stands there; from and to are the same place: two places would do'),
@@ -46,7 +48,10 @@ def faults(path):
         (",x,boiler,outside,5,1,,,,", "row 3, column stream: nothing stands there; a number or a name of the stream would do"),
         ("9,x,boiler,outside,5,1,,,,,more", 'row 3, column 11, stream 9: "more" stands there; the cell stands under no column name'),
         ("9,x,boiler,outside,1e300,1,,,,", 'row 3, column reading, stream 9: "1e300" stands there; ' + LARGE),
-        ("9,x,boiler,outside,nan,1,,,,", 'row 3, column reading, stream 9: "nan" stands there; a number would do'),
+        ("9,x,boiler,outside,inf,1,,,,", 'row 3, column reading, stream 9: "inf" stands there; a number would do'),
+        ("9,x,boiler,outside,8.151 t,1,,,,", 'row 3, column reading, stream 9: "8.151 t" stands there; a number would do'),
+        ("9,x,boiler,outside,8.1 m3/h,1,,,,", 'row 3, column reading, stream 9: "8.1 m3/h" stands there; ' + "m3/h is no unit of flow that is known: " + UNITS),
+        ("9,x,boiler,outside,5,8.1 tons/h,,,,", 'row 3, column accuracy, stream 9: "8.1 tons/h" stands there; ' + "tons/h is no unit of flow that is known: " + UNITS),
     ],
 )
 def test_fault(row, told, listed):
@@ -74,8 +79,9 @@ def test_all_faults_at_once(listed):
         (b"from,to\n\xff\xfe,b\n", "row 2: the file is not UTF-8 text: save it as “CSV UTF-8” or as XLSX"),
         (HEAD + "".join(f"{k},x,outside,boiler,,,,,,\n" for k in range(97)), "row 98: the list has 97 streams: at most 96 would do"),
         (HEAD + "".join(f"{k},x,outside,u{k},,,,,,\n" for k in range(33)), "row 34, column to: the list has 33 places beside the outside: at most 32 would do"),
-        ("from;to;reading;accuracy\na;outside;7.979;5\n", 'row 2, column reading, stream 1: "7.979" stands there; ' + UNSURE),
-        ('from,to,reading,accuracy\na,outside,"7,979",5\n', 'row 2, column reading, stream 1: "7,979" stands there; ' + UNSURE),
+        ("from;to;reading;accuracy\na;outside;7.979;5\n", 'row 2, column reading, stream 1: "7.979" stands there; ' + UNSURE.format(",")),
+        ('from,to,reading,accuracy\na,outside,"7,979",5\n', 'row 2, column reading, stream 1: "7,979" stands there; ' + UNSURE.format(".")),
+        ("from,to,reading,accuracy\na,outside,8.479,2%\noutside,a,9.120,2%\n", 'row 2, column reading, stream 1: "8.479" stands there; it may be thousands or decimals: 8479 or 8.4790 would do'),
         ("from;to;reading;accuracy\na;outside;1,5;5\na;outside;2.5;5\n", BOTH),
     ],
 )

@@ -90,7 +90,7 @@ def site_in(path: Path, unit: Optional[Fraction]) -> Site:
 
 def notes(site: Site) -> List[str]:
     """What is worth a second look in the list though it is no fault."""
-    found = []
+    found = list(site.list.told)
     ends = [end for pipe in site.list.pipes for end in (pipe.source, pipe.target)]
     for number, name in enumerate(site.list.places):
         if number and ends.count(number) == 1:
@@ -101,6 +101,6 @@ def notes(site: Site) -> List[str]:
     for pipe in site.list.pipes:
         if pipe.reading is None and (pipe.low is not None or pipe.high is not None):
             found.append(f"the range of {pipe.title} plays no part: it has no meter")
-        if pipe.reading is None and pipe.stated:
+        if pipe.reading is None and pipe.stated and not pipe.silent:
             found.append(f"the accuracy of {pipe.title} plays no part: it has no reading")
     return found

@@ -4,36 +4,53 @@ from __future__ import annotations
 
 import csv
 import io
-import warnings
 from dataclasses import dataclass, field
 from pathlib import Path
-from typing import Any, List, Tuple
+from typing import Iterable, List, Tuple
 
+from .columns import language_of
 from .faults import Fault, Faulty
-from .texts import legible
+from .flow_units import split_heading
+from .texts import legible, unguarded
 
 MOST_ROWS = 10_000
+MOST_BYTES = 20_000_000
 SEPARATORS = ",;\t"
+LOOKED_AT = 50  # lines that may stand above the header
 
 
 @dataclass(frozen=True)
 class Grid:
-    """Rows of texts without control characters, the first of them row 1; the separator of a CSV file; the second table, if there is one."""
+    """Rows of texts without control characters, the first of them row 1; the separator of a CSV file; the second table, if there is one;
+    what is to be told of the file."""
 
     rows: List[List[str]]
     separator: str = ","
     places: List[List[str]] = field(default_factory=list)
+    told: Tuple[str, ...] = ()
 
 
 def read_grid(path: Path) -> Grid:
-    """The tables of a file; OSError where it cannot be read, Faulty where it is no table."""
-    data = path.read_bytes()
+    """The tables of a file; OSError if it cannot be read, Faulty if it is no table."""
+    data = read_bytes(path)
     if path.suffix.lower() in (".xlsx", ".xlsm"):
-        return _workbook(path, data)
+        from .workbooks import workbook
+
+        tables, told = workbook(path, data)
+        return Grid(tables[0] if tables else [], "", tables[1] if len(tables) > 1 else [], told)
     beside = path.with_suffix(".places.csv")
-    places = _lines(beside, beside.read_bytes())[0] if beside.is_file() else []
+    places = _lines(beside, read_bytes(beside))[0] if beside.is_file() else []
     rows, separator = _lines(path, data)
     return Grid(rows, separator, places)
+
+
+def read_bytes(path: Path) -> bytes:
+    """What stands in a file; Faulty if that is more than a list can have."""
+    with open(path, "rb") as file:
+        data = file.read(MOST_BYTES + 1)
+    if len(data) > MOST_BYTES:
+        raise Faulty(path, [Fault(f"the file has more than {MOST_BYTES:,} bytes: a list has at most 96 streams")])
+    return data
 
 
 def _lines(path: Path, data: bytes) -> Tuple[List[List[str]], str]:
@@ -44,52 +61,38 @@ def _lines(path: Path, data: bytes) -> Tuple[List[List[str]], str]:
         raise Faulty(path, [Fault("the file is not UTF-8 text: save it as “CSV UTF-8” or as XLSX", row=row)]) from None
     if "\0" in text:
         raise Faulty(path, [Fault("the file is no text: a list is CSV or XLSX")])
-    head = next((line for line in text.splitlines() if line.strip()), "")
-    separator = max(SEPARATORS, key=head.count)
+    text = legible(text)
     try:
-        lines = csv.reader(io.StringIO(text, newline=""), delimiter=separator)
-        rows = [[legible(cell) for cell in row] for _, row in zip(range(MOST_ROWS), lines)]
+        separator = _separator(text)
+        rows = limited(path, ([unguarded(cell) for cell in row] for row in csv.reader(io.StringIO(text, newline=""), delimiter=separator)))
     except csv.Error as error:
         raise Faulty(path, [Fault(f"the file is no CSV: {error}")]) from None
     return rows, separator
 
 
-def _workbook(path: Path, data: bytes) -> Grid:
-    import openpyxl
-
-    try:
-        with warnings.catch_warnings():
-            warnings.simplefilter("ignore")
-            values = openpyxl.load_workbook(io.BytesIO(data), data_only=True)
-            formulas = openpyxl.load_workbook(io.BytesIO(data))
-        tables = [_table(path, one, other) for one, other in zip(values.worksheets[:2], formulas.worksheets[:2])]
-    except Faulty:
-        raise
-    except Exception:  # of a damaged workbook the library may raise anything: zip, zlib, XML, dates, names
-        raise Faulty(path, [Fault("the file is no XLSX workbook that can be read: save it anew")]) from None
-    return Grid(tables[0] if tables else [], ",", tables[1] if len(tables) > 1 else [])
+def _separator(text: str) -> str:
+    """The separator by which a line is a header; else the one that the first line has most of."""
+    for separator in SEPARATORS:
+        lines = csv.reader(io.StringIO(text, newline=""), delimiter=separator)
+        if any(is_header(row) for _, row in zip(range(LOOKED_AT), lines)):
+            return separator
+    head = next((line for line in text.splitlines() if line.strip()), "")
+    return max(SEPARATORS, key=head.count)
 
 
-def _table(path: Path, values: Any, formulas: Any) -> List[List[str]]:
-    rows, faults = [], []
-    for cells, originals in zip(values.iter_rows(max_row=MOST_ROWS), formulas.iter_rows(max_row=MOST_ROWS)):
-        for cell, original in zip(cells, originals):
-            if cell.value is None and original.data_type == "f":
-                wanted = "a formula that was never worked out: open the file in the spreadsheet and save it"
-                faults.append(Fault(wanted, row=cell.row, column=cell.column_letter, found=str(original.value)))
-        rows.append([_text(cell) for cell in cells])
-    if faults:
-        raise Faulty(path, faults)
-    return rows
+def is_header(row: Iterable[str]) -> bool:
+    """Whether a row has the two columns that every list has."""
+    return bool(language_of([split_heading(cell)[0] for cell in row]))
 
 
-def _text(cell: Any) -> str:
-    """A cell as an engineer reads it: 0.02 shown as 2% is 2%."""
-    value = cell.value
-    if value is None:
-        return ""
-    if isinstance(value, bool) or not isinstance(value, (int, float)):
-        return legible(str(value))
-    if "%" in (cell.number_format or ""):
-        return f"{round(value * 100, 10):.12g}%"
-    return str(int(value)) if value == int(value) and abs(value) < 1e15 else repr(value)
+def limited(path: Path, rows: Iterable[List[str]]) -> List[List[str]]:
+    """The rows, without empty ones at the end; Faulty if there are more than a list can have."""
+    found: List[List[str]] = []
+    for number, row in enumerate(rows, 1):
+        if not any(cell.strip() for cell in row):
+            continue
+        if number > MOST_ROWS:
+            raise Faulty(path, [Fault(f"the file goes on after row {MOST_ROWS:,}: a list has at most 96 streams", row=number)])
+        found += [[] for _ in range(number - 1 - len(found))]
+        found.append(row)
+    return found
