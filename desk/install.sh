@@ -48,9 +48,14 @@ build=$(mktemp -d)
 trap 'rm -rf "$build"' EXIT
 export WENGELUDO_INCLUDE="${WENGELUDO_INCLUDE:-$root/host/include}"
 export WENGELUDO_ARCHIVE="${WENGELUDO_ARCHIVE:-$root/target/staticlib/liblinked.a}"
+if [ ! -e "$root/target/cross/wengeludo.wasm" ] && command -v rt >/dev/null && [ -e "$root/target/staticlib/liblinked.a" ]; then
+    say "the engine's WebAssembly, for pages that recompute by themselves"
+    bash "$root/host/cross/build.sh" wasm32 "$root/target/cross/wengeludo.wasm" >/dev/null || say "not built: wengeludo sheet --live is left out"
+fi
 for part in bindings/python desk; do
     mkdir -p "$build/$part"
     cp -r "$root/$part/." "$build/$part/"
+    [ $part != desk ] || bash "$root/desk/engine.sh" "$build/desk"
     "$home/bin/python3" -m pip install --quiet --no-index --no-build-isolation --no-deps --force-reinstall --disable-pip-version-check "$build/$part" ||
         fail "pip could not install $part"
 done

@@ -37,6 +37,7 @@ trap 'rm -rf "$build"' EXIT
 for part in bindings/python desk; do
     mkdir -p "$build/$part"
     cp -r "$part/." "$build/$part/"
+    [ $part != desk ] || bash desk/engine.sh "$build/desk"
     "$home/bin/python3" -m pip install --quiet --no-index --no-build-isolation --no-deps --force-reinstall --disable-pip-version-check "$build/$part"
 done
 for part in bindings/python desk; do

@@ -62,6 +62,7 @@ RULES = [
     Rule(r'target/host/(balance_file samples/overfull_site|charges_file samples/twin_lines)\.bin.*', 'run', r'\g<0> || [ $? = 1 ]'),
     Rule(r'bash desk/install\.sh', 'run', r'WENGELUDO_APT=no \g<0> "$PREFIX/desk"', DESK),
     Rule(r'wengeludo (sheet desk/\S+) -o \S+', 'run', r'"$PREFIX/desk/bin/wengeludo" \1 -o "$PREFIX/desk/page.html"', DESK),
+    Rule(r'wengeludo sheet( … -o page\.html)? --live', 'not', 'a form; desk/tests/test_live.py runs it'),
     Rule(r'wengeludo .*[A-Z]{4}.*|wengeludo (suspects|buy)', 'not', 'a form; desk/tests/test_readme.py runs the commands of desk/README.md'),
     Rule(r'(/usr/bin/python3 -m venv|target/python/bin/pip install) .*', 'run', r'cd "$COPY" && \g<0>', DESK),
     Rule(r'python3 -m pytest', 'not', 'desk/test.sh runs it, in an environment of its own'),

@@ -22,13 +22,16 @@ from .options import FAILED, LIST, OFFICE, OUTPUT, REFUSED, UNIT, drawn_of, shee
 @OUTPUT
 @UNIT
 @OFFICE
+@click.option("--live", is_flag=True, help="Puts the engine into the .html page: it recomputes by itself, for readings that are tried and not kept.")
 @click.option("--last", type=click.IntRange(0, 2**32 - 1), default=0, help="The office's last sheet number; `keep` counts by itself.")
-def sheet(list: Path, outputs_: Sequence[Path], unit: Optional[Fraction], office: int, last: int) -> int:
+def sheet(list: Path, outputs_: Sequence[Path], unit: Optional[Fraction], office: int, live: bool, last: int) -> int:
     """The sheet of LIST: flows, corrections, verdict, and what to do next."""
     paths = [outputs.checked(path, list) for path in outputs_]
+    if live and not any(path.suffix.lower() == ".html" for path in paths):
+        raise click.UsageError("--live is for a page: -o page.html would do")
     drawn = drawn_of(list, unit, office, last)
     terminal.show(drawn)
-    outputs.write_all(drawn, paths)
+    outputs.write_all(drawn, paths, live)
     if drawn.refused:
         return REFUSED
     return FAILED if drawn.total.verdict is Verdict.FAIL else 0

@@ -14,6 +14,7 @@ from ..balance.sheet import Balance
 from ..explain.steps import steps
 from ..read.faults import Stopped
 from . import view
+from .live import section as live_section
 from .page import page
 from .picture import picture
 
@@ -40,10 +41,12 @@ def _umask() -> int:
     return mask
 
 
-def write_all(balance: Balance, paths: Sequence[Path]) -> None:
-    """Writes every file that is asked for."""
+def write_all(balance: Balance, paths: Sequence[Path], live: bool = False) -> None:
+    """Writes every file that is asked for; pages with the engine inside if they are to recompute."""
+    section = live_section(balance) if live else ""
     for path in paths:
-        write(path, FORMS[path.suffix.lower()](balance))
+        form = FORMS[path.suffix.lower()]
+        write(path, page(balance, section).encode() if live and path.suffix.lower() == ".html" else form(balance))
 
 
 def checked(path: Path, read: Optional[Path] = None) -> Path:

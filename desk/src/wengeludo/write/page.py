@@ -33,14 +33,14 @@ def scale(balance: Balance) -> Optional[Scale]:
     return Scale(100 * balance.cost / full, 100 * balance.limit / full)
 
 
-def page(balance: Balance) -> str:
-    """The page of a balance as HTML."""
+def page(balance: Balance, live: str = "") -> str:
+    """The page of a balance as HTML, with the section that recomputes if there is one."""
     environment = Environment(loader=PackageLoader("wengeludo.write"), autoescape=select_autoescape(), trim_blocks=True, lstrip_blocks=True)
     return environment.get_template("page.html").render(
         site=balance.site.list.name, balance=balance, heads=view.heads(balance), numeric=view.NUMERIC,
         looks={"balanced": "balanced", "correction": "off", "σ": "off"}, estimates=view.ESTIMATES, rows=view.rows(balance),
         headline=view.headline(balance), summary=view.summary(balance),
         tone=view.tone(balance), cost_text=view.cost_text, scale=scale(balance), steps=steps(balance), notes=notes(balance.site),
-        overfull=overfull(balance) if balance.refused else [], picture=Markup(picture(balance)), unit=f"{float(balance.site.unit):g}",
+        overfull=overfull(balance) if balance.refused else [], picture=Markup(picture(balance)), live=Markup(live), unit=f"{float(balance.site.unit):g}",
         date=f"kept {balance.date}" if balance.date else datetime.now().strftime("%Y-%m-%d %H:%M"),
     )
