@@ -147,6 +147,14 @@ elif part "the Python binding and the desk tool" "$compiler"; then
     long || export CHROMIUM=none
     bash desk/test.sh
 fi
+if part "wrong programs of the host" python3 "$compiler"; then
+    if long && [ -z "$absent" ]; then
+        quietly target/host/wrong.log '^wrong: ' python3 host/check/wrong.py
+    else
+        python3 host/check/wrong.py c
+        python3 host/check/wrong.py --applies || echo "wrong: the long run asks for them"
+    fi
+fi
 if long && part "the benchmark, a short run" cargo; then
     quietly target/host/bench.log "$rows" bash host/bench/run.sh 5 1 | head -4
 fi

@@ -1,0 +1,162 @@
+#!/usr/bin/env python3
+"""A mutation run: small changes of the desk, the bindings, C, C++, Rust and what installs, drawn by a seed; each must fail a test of the
+short run that is meant for it.
+
+    python3 host/check/mutants.py                       300 mutants from seed 1, by the short run
+    python3 host/check/mutants.py --count 50 --seed 7   other ones
+    python3 host/check/mutants.py --long                by the long run's numbers of draws
+    python3 host/check/mutants.py --only desk,rust      of some parts
+    python3 host/check/mutants.py --list                prints them, and tries none
+
+A comparison is turned, a number moved by one, a sign or a word exchanged, a line dropped, a text changed. A change that no compiler takes is
+no mutant, and another is drawn in its place. A survivor is printed with its file, line and change; --log FILE keeps all of them.
+"""
+
+import argparse
+import io
+import random
+import re
+import sys
+import time
+import tokenize
+
+from tried import ROOT, Tree
+
+# Part, how many of a hundred, and the files.
+AREAS = (
+    ('desk', 50, ('desk/src/wengeludo/**/*.py', 'desk/src/wengeludo/**/*.js')),
+    ('python', 14, ('bindings/python/src/wengeludo_balance/*.py', 'bindings/python/native/rows.c')),
+    ('c', 10, ('host/c/*_file.c', 'host/c/meters_to_buy.c', 'host/c/check_sheet.c', 'host/c/place_numbers.c', 'host/c/*.h')),
+    ('cpp', 8, ('host/include/wengeludo.hpp',)),
+    ('rust', 10, ('host/rust/src/*.rs',)),
+    ('install', 8, ('install.sh', 'host/install/man.py', 'host/install/*.cmake', 'host/install/*.in')),
+)
+TURNED = {'<': '<=', '<=': '<', '>': '>=', '>=': '>', '==': '!=', '!=': '==', '+': '-', '-': '+', '*': '/', '/': '*', '&&': '||', '||': '&&',
+          'and': 'or', 'or': 'and', 'True': 'False', 'False': 'True', 'true': 'false', 'false': 'true', 'min': 'max', 'max': 'min', 'any': 'all',
+          'all': 'any', 'not': '', 'in': 'not in', 'is': 'is not', '%': '//', '+=': '-=', '-=': '+=', '<<': '>>', '>>': '<<', 'ceil': 'floor',
+          'floor': 'ceil', 'sorted': 'list', 'abs': '', 'if': 'if not', 'break': 'continue', 'continue': 'break'}
+SIGNS = re.compile(r'(?<![<>=!&|+\-*/:])(<=|>=|==|!=|&&|\|\||<<|>>|(?<= )[<>+\-*/%](?= )|\b(?:true|false|min|max)\b|\b\d+\b)(?![<>=&|])')
+
+
+def python_spots(text):
+    """Where a Python file may be changed: (from, to, what stands there), comments, docstrings and imports left out."""
+    starts, at = [], 0
+    for line in text.splitlines(keepends=True):
+        starts.append(at)
+        at += len(line)
+    found, before = [], None
+    for token in tokenize.generate_tokens(io.StringIO(text).readline):
+        start, end = (starts[min(row, len(starts)) - 1] + column for row, column in (token.start, token.end))
+        if token.line.lstrip().startswith(('import ', 'from ', '"""', '@', 'class ', 'def ')) and '=' not in token.line:
+            continue
+        first = before in (None, tokenize.NEWLINE, tokenize.INDENT, tokenize.DEDENT, tokenize.NL)
+        if token.type == tokenize.NUMBER or token.string in TURNED or (token.type == tokenize.STRING and not first and len(token.string) > 3):
+            found.append((start, end, token.string))
+        if first and token.type == tokenize.NAME and re.match(r'\s+[\w.\[\]]+(\(.*\)| [+\-|*/]?= .*)$', token.line.rstrip('\n')):
+            found.append((start, starts[token.start[0] - 1] + len(token.line.rstrip('\n')), '-- line'))
+        before = token.type
+    return found
+
+
+def plain_spots(text):
+    """Where another file may be changed: lines of comment left out."""
+    found, at, comment = [], 0, False
+    for line in text.splitlines(keepends=True):
+        bare = line.strip()
+        comment = comment or bare.startswith('/*')
+        if not comment and not bare.startswith(('//', '#', '*', '.')) and bare:
+            found += [(at + m.start(1), at + m.end(1), m[1]) for m in SIGNS.finditer(line)]
+            found += [(at + m.start(), at + m.end(), m[0]) for m in re.finditer(r'"[^"\\{}%]{3,}"', line)]
+            if re.fullmatch(r'\s+[\w.*&\[\]>-]+( [+\-|*/]?= .*|\(.*\));?', line.rstrip('\n')) and 'return' not in line:
+                found.append((at + len(line) - len(line.lstrip()), at + len(line.rstrip('\n')), '-- line'))
+        comment = comment and '*/' not in bare
+        at += len(line)
+    return found
+
+
+def changed(draw, what, name):
+    """What takes its place."""
+    if what == '-- line':
+        return 'pass' if name.endswith('.py') else ':' if name.endswith('.sh') else ''
+    if what in TURNED:
+        return TURNED[what]
+    if what[0] in '"\'' or what[-1] in '"\'':
+        return what[:-1] + '~' + what[-1] if not what.endswith('"""') else what
+    number = re.match(r'\d[\d_]*$', what)
+    return str(int(what.replace('_', '')) + draw.choice((-1, 1))) if number else f'({what} + 1)'
+
+
+def mutants(seed, count, only):
+    """Mutants without end, part after part by their shares: part, file, line, what stood there, what stands now, the text."""
+    draw = random.Random(seed)
+    files = {part: sorted(str(path.relative_to(ROOT)) for one in patterns for path in ROOT.glob(one)) for part, _, patterns in AREAS}
+    spots = {}
+    for part, names in files.items():
+        for name in names:
+            text = (ROOT / name).read_text(encoding='utf-8')
+            for spot in python_spots(text) if name.endswith('.py') else plain_spots(text):
+                spots.setdefault(part, []).append((name, *spot))
+    parts = [(part, share) for part, share, _ in AREAS if not only or part in only]
+    while True:
+        part = draw.choices([one for one, _ in parts], [share for _, share in parts])[0]
+        name, start, end, what = draw.choice(spots[part])
+        text, new = (ROOT / name).read_text(encoding='utf-8'), changed(draw, what, name)
+        if new != what:
+            yield part, name, text[:start].count('\n') + 1, what if what != '-- line' else text[start:end], new, text[:start] + new + text[end:]
+
+
+def stillborn(name, text, said):
+    """Whether no compiler takes it."""
+    if name.endswith('.py'):
+        try:
+            compile(text, name, 'exec')
+        except (SyntaxError, ValueError):
+            return True
+        return False
+    return bool(re.search(r'\berror(\[E\d+\])?: |static assertion failed|SyntaxError', said)) and 'limits:' not in said and 'expected:' not in said
+
+
+def main():
+    words = argparse.ArgumentParser(description=__doc__.split('\n\n')[0])
+    words.add_argument('--seed', type=int, default=1)
+    words.add_argument('--count', type=int, default=300)
+    words.add_argument('--only', default='')
+    words.add_argument('--long', action='store_true')
+    words.add_argument('--list', action='store_true')
+    words.add_argument('--log', default='')
+    asked = words.parse_args()
+    only = set(filter(None, asked.only.split(',')))
+    tree = None if asked.list else Tree(asked.long)
+    if tree:
+        tree.baseline([part for part, _, _ in AREAS if not only or part in only])
+    tally, tried, began = {}, 0, time.monotonic()
+    for part, name, line, what, new, text in mutants(asked.seed, asked.count, only):
+        if tried == asked.count:
+            break
+        if name.endswith('.py') and stillborn(name, text, ''):
+            continue
+        told = f'{part} {name}:{line}: {what!r} becomes {new!r}'
+        if asked.list:
+            print(told)
+            tried += 1
+            continue
+        killed, said = tree.changed(name, text, part)
+        if killed and stillborn(name, text, said):
+            continue
+        tried += 1
+        tally.setdefault(part, []).append(killed)
+        told = f'{"killed" if killed else "SURVIVES"} {told}'
+        if asked.log:
+            with open(asked.log, 'a', encoding='utf-8') as log:
+                log.write(told + '\n')
+        if not killed or not sys.stdout.isatty():
+            print(f'{told} [{tried}, {time.monotonic() - began:.0f} s]', flush=True)
+    for part, found in tally.items():
+        print(f'mutants: {part}: {sum(found)} of {len(found)} killed')
+    every = [killed for found in tally.values() for killed in found]
+    if every:
+        print(f'mutants: {sum(every)} of {len(every)} killed, {100 * sum(every) / len(every):.1f} %, seed {asked.seed}, {"long" if asked.long else "short"} run')
+
+
+if __name__ == '__main__':
+    main()

@@ -1,0 +1,131 @@
+"""A copy of the tree in which a change is tried: made once, changed, tested by the narrowest part of the short run, and put right again.
+
+Used by host/check/wrong.py and host/check/mutants.py. It needs target/staticlib/liblinked.a and Debian's packages for the desk.
+"""
+
+import os
+import re
+import shutil
+import subprocess
+import sys
+import tempfile
+from pathlib import Path
+
+ROOT = Path(__file__).resolve().parents[2]
+PYTHON = '/usr/bin/python3'
+SECONDS = 240  # so long may the tests of one change take
+SHORT = {'WENGELUDO_EXAMPLES': '5', 'WENGELUDO_DRAWN': '30', 'WENGELUDO_HOURS': '20', 'WENGELUDO_INPUTS': '400', 'CHROMIUM': 'none'}
+LONG = {'WENGELUDO_EXAMPLES': '100', 'WENGELUDO_DRAWN': '300', 'WENGELUDO_HOURS': '200', 'WENGELUDO_INPUTS': '20000'}
+# Which tests of the desk come first, by the package that is changed; the others follow.
+FIRST = {
+    'read': ('lists', 'figures', 'numbers', 'units', 'shapes', 'commands'), 'balance': ('shapes', 'golden', 'figures', 'wide'),
+    'explain': ('golden', 'shapes', 'commands'), 'write': ('shown', 'golden', 'commands', 'drawing', 'figures'), 'keep': ('runs', 'batch', 'book', 'commands'),
+    'cli': ('commands', 'golden', 'runs', 'book'), 'history': ('history',),
+}
+NEVER = ('install', 'page')  # those of desk/install.sh, and those that open a browser
+LAST = ('killed',)
+
+
+class Tree:
+    """The copy."""
+
+    def __init__(self, long=False):
+        self.folder = tempfile.TemporaryDirectory(prefix='wengeludo-tried-')
+        self.path = Path(self.folder.name) / 'tree'
+        self.long, self.failing = long, []
+        listed = subprocess.run(['git', 'ls-files', '-z'], cwd=ROOT, capture_output=True, check=True).stdout.decode().split('\0')
+        for name in listed:
+            if name and (ROOT / name).is_file() and (not name.startswith('crates/') or name.startswith('crates/version/')):
+                (self.path / name).parent.mkdir(parents=True, exist_ok=True)
+                shutil.copy2(ROOT / name, self.path / name)
+        (self.path / 'target').mkdir()
+        shutil.copytree(ROOT / 'target' / 'staticlib', self.path / 'target' / 'staticlib')
+        self.built = ''
+
+    def environment(self):
+        python = ':'.join(str(self.path / part) for part in ('bindings/python/src', 'bindings/python', 'desk/src'))
+        own = {'WENGELUDO_INCLUDE': str(self.path / 'host/include'), 'WENGELUDO_ARCHIVE': str(self.path / 'target/staticlib/liblinked.a')}
+        own |= {'PYTHONPATH': python, 'PYTHONDONTWRITEBYTECODE': '1', 'CARGO_TARGET_DIR': str(self.path / 'target/cargo'), 'CXX': 'g++'}
+        return {**os.environ, **SHORT, **(LONG if self.long else {}), **own}
+
+    def run(self, words, where='.'):
+        """Whether a command ends well, and what it said last."""
+        try:
+            with subprocess.Popen(words, cwd=self.path / where, env=self.environment(), stdout=subprocess.PIPE, stderr=subprocess.STDOUT,
+                                  stdin=subprocess.DEVNULL, start_new_session=True) as ran:
+                said = ran.communicate(timeout=SECONDS)[0]
+        except subprocess.TimeoutExpired:
+            os.killpg(ran.pid, 9)
+            return False, f'no end after {SECONDS} seconds'
+        return ran.returncode == 0, said.decode(errors='replace')[-3000:]
+
+    def binding(self):
+        """Compiles the binding anew if its C, the header or what builds it has changed."""
+        sources = [self.path / 'host/include/wengeludo_balance.h', *(self.path / 'bindings/python').glob('*.py'), *(self.path / 'bindings/python/native').glob('*')]
+        state = repr([path.read_bytes() for path in sorted(sources)])
+        if state == self.built:
+            return True, ''
+        good, said = self.run([PYTHON, 'build_native.py'], 'bindings/python')
+        for made in (self.path / 'bindings/python/wengeludo_balance').glob('_native*.so'):
+            shutil.move(made, self.path / 'bindings/python/src/wengeludo_balance' / made.name)
+        self.built = state if good else ''
+        return good, said
+
+    def pytest(self, where, files, *words):
+        good, said = self.binding()
+        if not good:
+            return False, said
+        left = [word for name in self.failing for word in ('--deselect', name)]
+        return self.run([PYTHON, '-m', 'pytest', '-x', '-q', '-p', 'no:cacheprovider', *left, *words, *files], where)
+
+    def tests(self, part, changed=''):
+        """Whether the tests of a part pass: (passed, what was said)."""
+        name, *files = part.split()
+        good, said = self.texts() if changed.startswith(('host/include', 'host/rust', 'bindings')) else (True, '')
+        if not good:
+            return False, said
+        if name == 'c':
+            good, said = self.run(['bash', 'host/c/build.sh'])
+            return self.run(['bash', 'host/c/test.sh']) if good else (False, said)
+        if name in ('cpp', 'install', 'archives'):
+            return self.run(['bash', {'cpp': 'host/cpp/test.sh', 'install': 'host/install/test.sh', 'archives': 'host/rust/test_archives.sh'}[name]])
+        if name == 'rust':
+            return self.run(['cargo', 'test', '--offline', '--quiet', *files], 'host/rust')
+        if name == 'python':
+            return self.pytest('bindings/python', files)
+        return self.pytest('desk', files or self.desk_files(changed))
+
+    def texts(self):
+        """Refusals and versions, which stand in several languages."""
+        good, said = self.run([PYTHON, 'host/check/refusals.py'])
+        return self.run([PYTHON, 'host/check/versions.py']) if good else (False, said)
+
+    def desk_files(self, changed):
+        """The desk's test files, the likeliest first."""
+        first = next((names for package, names in FIRST.items() if f'/{package}/' in changed), ())
+        files = [path for path in sorted((self.path / 'desk/tests').glob('test_*.py')) if path.stem[5:] not in NEVER]
+        rank = {name: k for k, name in enumerate(first)}
+        return [f'tests/{path.name}' for path in sorted(files, key=lambda path: (rank.get(path.stem[5:], 99), path.stat().st_size))]
+
+    def baseline(self, parts):
+        """Runs the tests of the tree as it is; those of pytest that fail are told and left out, another failure ends the program."""
+        for part in parts:
+            good, said = self.tests(part)
+            while not good and part.split()[0] in ('python', 'desk') and re.search(r'^(FAILED|ERROR) (\S+)', said, re.M):
+                name = re.search(r'^(?:FAILED|ERROR) (\S+)', said, re.M)[1]
+                print(f'tried: {name} fails in the tree as it is, and is left out', flush=True)
+                self.failing.append(name)
+                good, said = self.tests(part)
+            if not good:
+                sys.exit(f'tried: the tests of {part} fail in the tree as it is:\n{said}')
+
+    def changed(self, name, text, part):
+        """Whether the tests of a part see a file with another text; what they said."""
+        path = self.path / name
+        before = path.read_bytes()
+        path.write_text(text, encoding='utf-8', newline='')
+        try:
+            good, said = self.tests(part, name)
+        finally:
+            path.write_bytes(before)
+        return not good, said
