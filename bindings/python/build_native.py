@@ -1,6 +1,6 @@
-"""Makes the compiled module wengeludo_balance._native out of the C header and the archive (cffi, API mode).
+"""Makes the compiled module wengeludo_balance._native out of the C header, the archive and the solver of native/ (cffi, API mode).
 
-The declarations are read from the header, and the C compiler checks the calls against that same header: no signature stands here.
+The declarations are read from the headers, and the C compiler checks the calls against these same headers: no signature stands here.
 
 WENGELUDO_INCLUDE (default: host/include of this repository)            the header's folder
 WENGELUDO_ARCHIVE (default: target/staticlib/liblinked.a, likewise)     the archive, as `rt staticlib linked` writes it
@@ -13,20 +13,25 @@ from pathlib import Path
 
 from cffi import FFI
 
-ROOT = Path(__file__).resolve().parents[2]
+HERE = Path(__file__).resolve().parent
+ROOT = HERE.parents[1]
 INCLUDE = Path(os.environ.get("WENGELUDO_INCLUDE") or ROOT / "host" / "include")
 ARCHIVE = Path(os.environ.get("WENGELUDO_ARCHIVE") or ROOT / "target" / "staticlib" / "liblinked.a")
 HEADER = INCLUDE / "wengeludo_balance.h"
-NATIVE = Path(__file__).resolve().parent / "native"  # C of this package's own, over the archive's calls
+NATIVE = HERE / "native"  # C of this package's own, over the archive's calls
+HEADERS = (HEADER, NATIVE / "rows.h", NATIVE / "wide_solve.h")
+SOURCES = tuple(NATIVE / name for name in ("rows.c", "wide_checked.c", "wide_solve.c"))
 
 
 def declarations(header: str) -> str:
     """The header's numbers, enums and calls, without its comments and whatever is for the preprocessor."""
     text = re.sub(r"/\*.*?\*/", "", header, flags=re.DOTALL)
     numbers = re.findall(r"^#define WENGELUDO_\w+ \d+$", text, flags=re.MULTILINE)
+    large = re.findall(r"^#define (WENGELUDO_\w+) (U?)INT64_C\(\d+\)$", text, flags=re.MULTILINE)
+    constants = [f"static const {sign.lower()}int64_t {name};" for name, sign in large]
     enums = re.findall(r"^enum \{.*?^\};", text, flags=re.DOTALL | re.MULTILINE)
     calls = re.findall(r"^\w[\w \*]*\bwengeludo_\w+\([^;{]*\);", text, flags=re.MULTILINE)
-    return "\n".join([*numbers, *enums, *calls])
+    return "\n".join([*numbers, *constants, *enums, *calls])
 
 
 def own(header: str) -> str:
@@ -41,14 +46,16 @@ for needed, how in ((HEADER, "it belongs to this repository"), (ARCHIVE, "build 
 
 ffi = FFI()
 ffi.cdef(declarations(HEADER.read_text(encoding="utf-8")))
-ffi.cdef(own((NATIVE / "rows.h").read_text(encoding="utf-8")))
+for header in HEADERS[1:]:
+    ffi.cdef(own(header.read_text(encoding="utf-8")))
 ffi.set_source(
     "wengeludo_balance._native",
-    '#include "wengeludo_balance.h"\n#include "rows.h"',
-    sources=["native/rows.c"],
+    "\n".join(f'#include "{header.name}"' for header in HEADERS),
+    sources=[str(path.relative_to(HERE) if HERE == Path.cwd() else path) for path in SOURCES],  # setuptools asks for relative ones
     include_dirs=[str(INCLUDE), str(NATIVE)],
     extra_objects=[str(ARCHIVE)],
-    depends=[str(HEADER), str(ARCHIVE), *map(str, sorted(NATIVE.glob("*.[ch]")))],
+    libraries=["m"],
+    depends=[*map(str, HEADERS), *map(str, SOURCES), str(ARCHIVE)],
     extra_compile_args=["-Werror=incompatible-pointer-types", "-Werror=int-conversion", "-Werror=implicit-function-declaration"],
 )
 

@@ -72,6 +72,12 @@ uint32_t wengeludo_version(void);
 #define WENGELUDO_MAX_PLACES 33
 #define WENGELUDO_MAX_NUMBER INT64_C(1000000000000000000)
 
+/* For the check of a flow alone: the greatest weight, and in size the greatest reading, flow and number of a place. */
+#define WENGELUDO_MAX_WIDE_WEIGHT UINT64_C(1099511627776)
+#define WENGELUDO_MAX_WIDE_READING INT64_C(1099511627776)
+#define WENGELUDO_MAX_WIDE_FLOW INT64_C(36028797018963968)
+#define WENGELUDO_MAX_WIDE_NUMBER INT64_C(2305843009213693952)
+
 /* What the calls return: 0, or the number of a refusal. */
 enum {
     /* refusals: enum, from host/refusals.tsv */
@@ -461,6 +467,42 @@ uint8_t wengeludo_check_sheet(const uint8_t *plant, size_t plant_length,
 uint8_t wengeludo_place_numbers(const uint8_t *file, size_t file_length,
                                 int64_t *numbers, size_t numbers_length,
                                 size_t *count);
+
+/* The check of a flow that was found elsewhere, of a plant by its parts, with wide weights and readings.
+ *
+ * Reads   units (n), count (how many streams), the first `count` elements of each of the eight slices of the plant's parts, which
+ *         mean what they mean to the plant writer, and of `flow`, a flow for each stream; and the first n + 1 elements of
+ *         `numbers`, one for each place, the outside first. Elements past these make no difference, nor do weight, reading and range
+ *         of an unmetered stream, nor low and high where there is no range.
+ * Returns 0 where the flow passes, or one of 1, 5 to 10, 18, 26. The order: 1, 6, 5, then stream after stream, in each 7 to 10, then
+ *         18; then 26. Never 19.
+ *         1:  one of the eight slices or `flow` has fewer than `count` elements, or `numbers` fewer than n + 1.
+ *         9:  the weight of a metered stream is 0 or over 2^40 (1,099,511,627,776).
+ *         10: its reading is outside -2^40 to 2^40.
+ *         18: its low is above its high. Else low and high may be any numbers.
+ *         26: a rule is broken. The flows lie from -2^55 to 2^55, the numbers from -2^61 to 2^61. What flows into each unit is what
+ *             flows out of it. For a metered stream the number of its to-place less that of its from-place lies from
+ *             weight * (2 * d - 1) to weight * (2 * d + 1), d being its flow less its reading; a flow at its low may fall short of
+ *             the first, one at its high may exceed the second. Its flow lies in range. The places of an unmetered stream have equal
+ *             numbers.
+ * Writes  nothing.
+ *
+ * A flow that passes is balanced and within all ranges, and no other whole flow that is undercuts it in cost, the sum of
+ * weight * d * d over the metered streams; none in fractions does by more than a quarter of the summed weights of these streams.
+ * That is proved, for every input. A flow of least cost whose numbers lie past their limit is answered 26: the check does not say
+ * that it is wrong. No verdict, no class and no cost is given.
+ */
+uint8_t wengeludo_check_flow(uint8_t units, size_t count,
+                             const uint8_t *from, size_t from_length,
+                             const uint8_t *to, size_t to_length,
+                             const uint8_t *metered, size_t metered_length,
+                             const uint64_t *weight, size_t weight_length,
+                             const int64_t *reading, size_t reading_length,
+                             const uint8_t *ranged, size_t ranged_length,
+                             const int64_t *low, size_t low_length,
+                             const int64_t *high, size_t high_length,
+                             const int64_t *flow, size_t flow_length,
+                             const int64_t *numbers, size_t numbers_length);
 
 #ifdef __cplusplus
 }

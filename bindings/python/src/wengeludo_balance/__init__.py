@@ -7,7 +7,9 @@
 2 A 101
 total 1 50 1 pass
 
-Every call is one of the proved archive; `Refusal` is the one exception. The calls keep no state and may run in several threads.
+Every call is one of the proved archive, or made of them; `Refusal` is the one exception. But `wide_solve` and `wide_rows` are a solver that
+is not proved; what they give has passed the proved `check_flow`, else it is `NotCertified`. The calls keep no state and may run in several
+threads.
 """
 
 from ._version import version
@@ -43,11 +45,26 @@ from .sheet import (
     place_numbers,
     read_sheet,
 )
+from .wide import (
+    WIDE_FLOW,
+    WIDE_NUMBER,
+    WIDE_READING,
+    WIDE_WEIGHT,
+    NotCertified,
+    WideFlow,
+    WidePlant,
+    WideRows,
+    check_flow,
+    overfull,
+    wide_rows,
+    wide_solve,
+)
 
 __all__ = [
-    "ADJUSTED", "AS_READ", "Bill", "Drawn", "FAULT", "FILE_SIZE", "GIVEN", "HELD", "Kind", "MAX_STREAMS", "MEASURED", "NO_SHEETS", "OFFICES",
-    "Plant", "Purchase", "Record", "Refusal", "Rows", "SHEET_SIZE", "Sheet", "Signal", "Stream", "TEXTS", "Verdict", "Visit", "WIDEST",
-    "WITHHELD", "balance", "balance_plant", "charges", "check_sheet", "deviation_for", "from_ranged", "layouts_of", "meters_to_buy",
-    "place_numbers", "plant_from_transmitter", "read_plant", "read_sheet", "rows", "to_ranged", "transmitter_file", "version", "visits",
-    "write_plant",
+    "ADJUSTED", "AS_READ", "Bill", "Drawn", "FAULT", "FILE_SIZE", "GIVEN", "HELD", "Kind", "MAX_STREAMS", "MEASURED", "NO_SHEETS",
+    "NotCertified", "OFFICES", "Plant", "Purchase", "Record", "Refusal", "Rows", "SHEET_SIZE", "Sheet", "Signal", "Stream", "TEXTS",
+    "Verdict", "Visit", "WIDEST", "WIDE_FLOW", "WIDE_NUMBER", "WIDE_READING", "WIDE_WEIGHT", "WITHHELD", "WideFlow", "WidePlant",
+    "WideRows", "balance", "balance_plant", "charges", "check_flow", "check_sheet", "deviation_for", "from_ranged", "layouts_of",
+    "meters_to_buy", "overfull", "place_numbers", "plant_from_transmitter", "read_plant", "read_sheet", "rows", "to_ranged",
+    "transmitter_file", "version", "visits", "wide_rows", "wide_solve", "write_plant",
 ]
