@@ -1,9 +1,9 @@
 /* The solver of the tool: see wide_solve.h. Not proved.
  *
- * Places that unmetered streams join are one group; the metered streams between groups are the arcs of a network, and each group has
- * a number. A start in floats (the real-number optimum) gives whole numbers; each arc takes the flow that is cheapest at them; what
- * is then over in a group goes along shortest paths to where something is missing, in steps that halve where much is over. Equally
- * cheap flows are told apart along paths that cost nothing. All but the start is exact, in 128 bits.
+ * Places that unmetered streams join are one group; the metered streams between groups are the arcs of a network, and each group
+ * has a number. A start in floats (the real-number optimum) gives whole numbers; each arc takes the flow that is cheapest at them;
+ * what is then over in a group goes along shortest paths to where something is missing, in steps that halve where much is over.
+ * Equally cheap flows are told apart along paths that cost nothing. All but the start is exact, in 128 bits.
  */
 #include "wide_solve.h"
 #include "wengeludo_balance.h"
@@ -18,6 +18,7 @@ __extension__ typedef __int128 wide;
 #define LOST ((wide)1 << 110)        /* a number this large is given up */
 #define FEW 512                      /* more than this over: steps that halve */
 #define MOST_IMPROVEMENTS 200000
+#define LEVEL 1e-6                   /* a slope of the start that is this part of what it was is none */
 
 typedef struct {
     int groups, arcs, ranged;
@@ -27,8 +28,8 @@ typedef struct {
     wide more[WIDE_STREAMS], less[WIDE_STREAMS]; /* what a unit more, a unit less costs at the present step */
     uint8_t settled[WIDE_STREAMS];               /* no longer to be moved */
     wide number[WIDE_PLACES];
-    int64_t over[WIDE_PLACES];                                   /* what flows in less what flows out */
-    int first[WIDE_PLACES + 1], touching[2 * WIDE_STREAMS];      /* the arcs at a group: 2 * arc, and 1 more where it is the head */
+    int64_t over[WIDE_PLACES];                              /* what flows in less what flows out */
+    int first[WIDE_PLACES + 1], touching[2 * WIDE_STREAMS]; /* the arcs at a group: 2 * arc, and 1 more where it is the head */
     wide distance[WIDE_PLACES];
     int came[WIDE_PLACES]; /* the last arc of the path to a group, as in `touching` */
     uint8_t seen[WIDE_PLACES];
@@ -60,8 +61,9 @@ static int64_t clipped(int64_t value, int64_t low, int64_t high) { return value 
 
 static int meter_taken(const wide_plant *plant, size_t k)
 {
-    return plant->weight[k] >= 1 && plant->weight[k] <= WENGELUDO_MAX_WIDE_WEIGHT && within(plant->reading[k], WENGELUDO_MAX_WIDE_READING)
-           && (!plant->ranged[k] || plant->low[k] <= plant->high[k]);
+    int in_range = !plant->ranged[k] || plant->low[k] <= plant->high[k];
+    return in_range && plant->weight[k] >= 1 && plant->weight[k] <= WENGELUDO_MAX_WIDE_WEIGHT
+           && within(plant->reading[k], WENGELUDO_MAX_WIDE_READING);
 }
 
 static int taken(const wide_plant *plant)
@@ -264,26 +266,46 @@ static double slope(const network *net, const newton *n, double length)
     return sum;
 }
 
+typedef struct {
+    double at, rise; /* a length along the step, and the slope there */
+} spot;
+
+static spot look(const network *net, const newton *n, double length)
+{
+    spot found = {length, slope(net, n, length)};
+    return found;
+}
+
+/* Where the slope is nearly level, between two spots: by the line through them, whose older end counts half (the Illinois rule). */
+static double level(const network *net, const newton *n, spot near, spot far)
+{
+    double enough = LEVEL * fabs(near.rise);
+    for (int turn = 0; turn < 30; turn++) {
+        spot next = look(net, n, (near.at * far.rise - far.at * near.rise) / (far.rise - near.rise));
+        if (!(fabs(next.rise) > enough))
+            return next.at;
+        if ((next.rise > 0) == (far.rise > 0))
+            near.rise /= 2;
+        else
+            near = far;
+        far = next;
+    }
+    return far.at;
+}
+
 /* How far to go along the step: all of it without ranges, else to where the dual no longer rises. */
 static double length_of_step(const network *net, const newton *n)
 {
     if (!net->ranged)
         return 1;
-    double near = 0, far = 1, length = 1, rise = slope(net, n, 1);
-    if (!(fabs(rise) > 1e-12 * fabs(slope(net, n, 0))))
+    spot near = look(net, n, 0), far = look(net, n, 1);
+    if (!(fabs(far.rise) > LEVEL * fabs(near.rise)))
         return 1;
-    for (; rise > 0 && far < 1e9; rise = slope(net, n, far)) {
+    while (far.rise > 0 && far.at < 1e9) {
         near = far;
-        far *= 2;
+        far = look(net, n, 2 * far.at);
     }
-    for (int half = 0; half < 40; half++) {
-        length = (near + far) / 2;
-        if (slope(net, n, length) > 0)
-            near = length;
-        else
-            far = length;
-    }
-    return length;
+    return far.rise < 0 ? level(net, n, near, far) : far.at;
 }
 
 static void improve_start(const network *net, newton *n)
