@@ -1,7 +1,8 @@
 #!/usr/bin/env bash
-# Runs the rows function over drawn plants and rows under ASan and UBSan; a row may be refused, no byte may be touched that is not its own.
+# Runs the rows function over drawn plants and rows, then the solver over drawn and hostile plants, under ASan and UBSan; a row or a plant
+# may be refused, no byte may be touched that is not its own.
 #
-#     bash bindings/python/native/sanitize.sh [ROUNDS]     3 rows a round, default 2000; 30000 takes a minute
+#     bash bindings/python/native/sanitize.sh [ROUNDS]     3 rows and a plant a round, default 2000; 30000 takes a minute
 #
 # WENGELUDO_ARCHIVE, WENGELUDO_INCLUDE   another archive and its header's folder
 set -eu
@@ -9,6 +10,11 @@ cd "$(dirname "$0")"
 root=$(cd ../../.. && pwd)
 out=$(mktemp -d)
 trap 'rm -rf "$out"' EXIT
-"${CC:-cc}" -std=gnu11 -O1 -g -Wall -Wextra -Werror -fsanitize=address,undefined -fno-sanitize-recover=all \
-    -I "${WENGELUDO_INCLUDE:-$root/host/include}" -I . rows_fuzz.c rows.c "${WENGELUDO_ARCHIVE:-$root/target/staticlib/liblinked.a}" -o "$out/fuzz"
-"$out/fuzz" "${1:-2000}"
+built() { # what is tried, its sources
+    "${CC:-cc}" -std=gnu11 -O1 -g -Wall -Wextra -Werror -fsanitize=address,undefined,float-cast-overflow -fno-sanitize-recover=all \
+        -I "${WENGELUDO_INCLUDE:-$root/host/include}" -I . "$1_fuzz.c" "${@:2}" "${WENGELUDO_ARCHIVE:-$root/target/staticlib/liblinked.a}" -lm -o "$out/$1"
+}
+built rows rows.c
+built wide wide_checked.c wide_solve.c
+"$out/rows" "${1:-2000}"
+"$out/wide" "${1:-2000}"

@@ -1,4 +1,4 @@
-"""The rows function under ASan and UBSan, over drawn plants and rows.
+"""The rows function under ASan and UBSan, over drawn plants and rows; and the solver with its check, over drawn and hostile plants.
 
 WENGELUDO_DRAWN (default 300)  how many rounds of three rows, by tens
 """
@@ -23,4 +23,5 @@ def test_no_byte_is_touched_that_is_not_the_rows_own():
     if "cannot find" in run.stderr and "asan" in run.stderr:
         pytest.skip("the compiler has no ASan")
     assert run.returncode == 0, run.stdout + run.stderr
-    assert run.stdout.startswith(f"{3 * int(rounds)} rows: 0: "), run.stdout
+    rows, plants = run.stdout.splitlines()
+    assert rows.startswith(f"{3 * int(rounds)} rows: 0: ") and plants.startswith(f"{rounds} plants: 0: "), run.stdout
