@@ -84,16 +84,18 @@ enum {
     WENGELUDO_DONE = 0,
     WENGELUDO_SLICE_TOO_SHORT = 1,     /* a slice is too short: under 880 bytes for a sheet, 8 numbers for the offices, 1,636
                                           bytes for a plant file, 96 elements for the sheet reader and for lists of streams, 13
-                                          for the survey, 33 for the numbers of the places */
+                                          for the survey, 33 for the numbers of the places; for the check of a flow, fewer
+                                          elements than streams, or numbers than places */
     WENGELUDO_NO_SHEET_NUMBER = 2,     /* the calling office's last sheet number is 4,294,967,295 */
     WENGELUDO_FILE_ENDS = 3,           /* bytes end where a record is due or inside a body */
     WENGELUDO_KIND = 4,                /* kind not allowed at this place */
-    WENGELUDO_TOO_MANY_STREAMS = 5,    /* a 97th stream; for the plant writer, a count over 96 */
+    WENGELUDO_TOO_MANY_STREAMS = 5,    /* a 97th stream; for the plant writer and the check of a flow, a count over 96 */
     WENGELUDO_UNITS = 6,               /* the number of units, n, is 0 or over 32 */
     WENGELUDO_PLACE = 7,               /* from or to above n */
     WENGELUDO_SAME_PLACE = 8,          /* from equals to */
-    WENGELUDO_WEIGHT = 9,              /* weight 0 or over 1,000 */
-    WENGELUDO_READING = 10,            /* reading outside -4,000,000 to 4,000,000 */
+    WENGELUDO_WEIGHT = 9,              /* weight 0 or over 1,000; for the check of a flow, over 1,099,511,627,776 */
+    WENGELUDO_READING = 10,            /* reading outside -4,000,000 to 4,000,000; for the check of a flow, outside
+                                          -1,099,511,627,776 to 1,099,511,627,776 */
     WENGELUDO_END_COUNT = 11,          /* end count differs from the streams read */
     WENGELUDO_AFTER_END = 12,          /* bytes after the end record */
     WENGELUDO_SHEET_RECORD = 13,       /* in a sheet, a record is missing, cut short, a 97th or of a wrong kind */
@@ -102,7 +104,8 @@ enum {
     WENGELUDO_AFTER_TOTAL = 15,        /* in a sheet, bytes after the total */
     WENGELUDO_VALUE = 16,              /* a transmitter's value is not finite */
     WENGELUDO_DEVIATION = 17,          /* a transmitter's deviation is no finite number above 0 */
-    WENGELUDO_RANGE = 18,              /* low above high, or either outside -2,000,000,000 to 2,000,000,000 */
+    WENGELUDO_RANGE = 18,              /* low above high, or either outside -2,000,000,000 to 2,000,000,000; for the check of a
+                                          flow, low above high */
     WENGELUDO_NO_FLOW = 19,            /* no balanced flow lies within all ranges */
     WENGELUDO_NARROWER = 20,           /* moving home, a range is narrower than -2,000,000,000 to 2,000,000,000 */
     WENGELUDO_PRICES = 21,             /* prices are not one for each unmetered stream, or one is 0 or over 1,000,000 */
@@ -110,8 +113,8 @@ enum {
     WENGELUDO_TOO_MANY_TO_SURVEY = 23, /* more than the 12 streams of which layouts are surveyed */
     WENGELUDO_RATES = 24,              /* rates are not one for each stream to the outside, or one is over 10,000 */
     WENGELUDO_CHARGE_WITHHELD = 25,    /* a stream to the outside is withheld, whatever its rate */
-    WENGELUDO_RULE_BROKEN = 26,        /* a sheet that is checked breaks a rule, a number of a place is missing, extra or past
-                                          its limit, or the plant has no sheet */
+    WENGELUDO_RULE_BROKEN = 26,        /* a sheet or a flow that is checked breaks a rule, a number of a place is missing,
+                                          extra or past its limit, or the plant has no sheet */
     /* refusals: end of enum */
 };
 
@@ -124,7 +127,8 @@ static inline const char *wengeludo_refusal_text(uint8_t number)
         return "done";
     case WENGELUDO_SLICE_TOO_SHORT:
         return "a slice is too short: under 880 bytes for a sheet, 8 numbers for the offices, 1,636 bytes for a plant file, 96 "
-               "elements for the sheet reader and for lists of streams, 13 for the survey, 33 for the numbers of the places";
+               "elements for the sheet reader and for lists of streams, 13 for the survey, 33 for the numbers of the places; "
+               "for the check of a flow, fewer elements than streams, or numbers than places";
     case WENGELUDO_NO_SHEET_NUMBER:
         return "the calling office's last sheet number is 4,294,967,295";
     case WENGELUDO_FILE_ENDS:
@@ -132,7 +136,7 @@ static inline const char *wengeludo_refusal_text(uint8_t number)
     case WENGELUDO_KIND:
         return "kind not allowed at this place";
     case WENGELUDO_TOO_MANY_STREAMS:
-        return "a 97th stream; for the plant writer, a count over 96";
+        return "a 97th stream; for the plant writer and the check of a flow, a count over 96";
     case WENGELUDO_UNITS:
         return "the number of units, n, is 0 or over 32";
     case WENGELUDO_PLACE:
@@ -140,9 +144,10 @@ static inline const char *wengeludo_refusal_text(uint8_t number)
     case WENGELUDO_SAME_PLACE:
         return "from equals to";
     case WENGELUDO_WEIGHT:
-        return "weight 0 or over 1,000";
+        return "weight 0 or over 1,000; for the check of a flow, over 1,099,511,627,776";
     case WENGELUDO_READING:
-        return "reading outside -4,000,000 to 4,000,000";
+        return "reading outside -4,000,000 to 4,000,000; for the check of a flow, outside -1,099,511,627,776 to "
+               "1,099,511,627,776";
     case WENGELUDO_END_COUNT:
         return "end count differs from the streams read";
     case WENGELUDO_AFTER_END:
@@ -159,7 +164,7 @@ static inline const char *wengeludo_refusal_text(uint8_t number)
     case WENGELUDO_DEVIATION:
         return "a transmitter's deviation is no finite number above 0";
     case WENGELUDO_RANGE:
-        return "low above high, or either outside -2,000,000,000 to 2,000,000,000";
+        return "low above high, or either outside -2,000,000,000 to 2,000,000,000; for the check of a flow, low above high";
     case WENGELUDO_NO_FLOW:
         return "no balanced flow lies within all ranges";
     case WENGELUDO_NARROWER:
@@ -175,8 +180,8 @@ static inline const char *wengeludo_refusal_text(uint8_t number)
     case WENGELUDO_CHARGE_WITHHELD:
         return "a stream to the outside is withheld, whatever its rate";
     case WENGELUDO_RULE_BROKEN:
-        return "a sheet that is checked breaks a rule, a number of a place is missing, extra or past its limit, or the plant "
-               "has no sheet";
+        return "a sheet or a flow that is checked breaks a rule, a number of a place is missing, extra or past its limit, or "
+               "the plant has no sheet";
     default:
         return "a number that this version does not know";
     }

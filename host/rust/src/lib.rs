@@ -38,6 +38,8 @@
 //!
 //! [`check`] tests a sheet drawn up elsewhere with a number for each place; [`Certificate::of`] has such numbers for a plant file.
 //!
+//! [`WidePlant::check`] tests a flow found elsewhere, of a plant with wide weights and readings, with a number for each place.
+//!
 //! A caller who has memory of its own uses [`Offices::draw_into`], [`Plant::write_into`], [`plant_from_transmitter_into`],
 //! [`to_ranged_into`] and [`from_ranged_into`], which allocate nothing.
 //!
@@ -58,6 +60,7 @@ mod refusal;
 mod sheet;
 mod transmitter;
 mod visits;
+mod wide;
 
 pub use charges::{charges, Bill, Charge, MAX_RATE};
 pub use check::{check, Certificate, MAX_PLACES};
@@ -71,6 +74,7 @@ pub use refusal::{Places, Refusal};
 pub use sheet::{Record, Sheet, TotalKind, Verdict};
 pub use transmitter::{plant_from_transmitter, plant_from_transmitter_into, Transmitter};
 pub use visits::{visits, Visit};
+pub use wide::{WidePlant, MAX_WIDE_FLOW, MAX_WIDE_NUMBER, MAX_WIDE_READING, MAX_WIDE_WEIGHT};
 
 /// The version of this crate, a number like [`version`]'s: 10,000 is 1.0.0. Building it against an archive of another major
 /// version, or of a lower minor one, fails.

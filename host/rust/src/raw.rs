@@ -103,6 +103,30 @@ extern "C" {
         numbers: *const i64,
         numbers_length: usize,
     ) -> u8;
+    fn wengeludo_check_flow(
+        units: u8,
+        count: usize,
+        from: *const u8,
+        from_length: usize,
+        to: *const u8,
+        to_length: usize,
+        metered: *const u8,
+        metered_length: usize,
+        weight: *const u64,
+        weight_length: usize,
+        reading: *const i64,
+        reading_length: usize,
+        ranged: *const u8,
+        ranged_length: usize,
+        low: *const i64,
+        low_length: usize,
+        high: *const i64,
+        high_length: usize,
+        flow: *const i64,
+        flow_length: usize,
+        numbers: *const i64,
+        numbers_length: usize,
+    ) -> u8;
     fn wengeludo_place_numbers(
         file: *const u8,
         file_length: usize,
@@ -334,4 +358,61 @@ pub fn check_sheet(plant: &[u8], sheet: &[u8], numbers: &[i64]) -> u8 {
 pub fn place_numbers(file: &[u8], numbers: &mut [i64], count: &mut usize) -> u8 {
     // SAFETY: as above.
     unsafe { wengeludo_place_numbers(file.as_ptr(), file.len(), numbers.as_mut_ptr(), numbers.len(), count) }
+}
+
+/// The parts of a plant with wide weights and readings, one slice for each; stream k, counted from 1, stands at index k - 1 of each.
+#[derive(Clone, Copy, Debug)]
+pub struct WideParts<'a> {
+    /// How many units.
+    pub units: u8,
+    /// How many streams.
+    pub count: usize,
+    /// Where each stream comes from; 0 is the outside.
+    pub from: &'a [u8],
+    /// Where each stream goes.
+    pub to: &'a [u8],
+    /// 0 for an unmetered stream, any other number for a metered one.
+    pub metered: &'a [u8],
+    /// The meter's weight.
+    pub weight: &'a [u64],
+    /// The meter's reading.
+    pub reading: &'a [i64],
+    /// 0 for a stream without a range, any other number for a metered one with a range.
+    pub ranged: &'a [u8],
+    /// The least flow in range.
+    pub low: &'a [i64],
+    /// The greatest flow in range.
+    pub high: &'a [i64],
+}
+
+/// The check of a flow found elsewhere, with a flow for each stream and a number for each place. 0: it passes. Another number: a
+/// refusal, 1, 6, 5, stream after stream 7 to 10 and 18, then 26. Slices shorter than the streams, or than the places, are refused as 1.
+pub fn check_flow(parts: WideParts, flow: &[i64], numbers: &[i64]) -> u8 {
+    // SAFETY: as above.
+    unsafe {
+        wengeludo_check_flow(
+            parts.units,
+            parts.count,
+            parts.from.as_ptr(),
+            parts.from.len(),
+            parts.to.as_ptr(),
+            parts.to.len(),
+            parts.metered.as_ptr(),
+            parts.metered.len(),
+            parts.weight.as_ptr(),
+            parts.weight.len(),
+            parts.reading.as_ptr(),
+            parts.reading.len(),
+            parts.ranged.as_ptr(),
+            parts.ranged.len(),
+            parts.low.as_ptr(),
+            parts.low.len(),
+            parts.high.as_ptr(),
+            parts.high.len(),
+            flow.as_ptr(),
+            flow.len(),
+            numbers.as_ptr(),
+            numbers.len(),
+        )
+    }
 }

@@ -28,7 +28,8 @@ impl Places {
 pub enum Refusal {
     // refusals: enum, from host/refusals.tsv
     /// A slice is too short: under 880 bytes for a sheet, 8 numbers for the offices, 1,636 bytes for a plant file, 96 elements
-    /// for the sheet reader and for lists of streams, 13 for the survey, 33 for the numbers of the places.
+    /// for the sheet reader and for lists of streams, 13 for the survey, 33 for the numbers of the places; for the check of a
+    /// flow, fewer elements than streams, or numbers than places.
     SliceTooShort,
     /// The calling office's last sheet number is 4,294,967,295.
     NoSheetNumber,
@@ -36,7 +37,7 @@ pub enum Refusal {
     FileEnds,
     /// Kind not allowed at this place.
     Kind,
-    /// A 97th stream; for the plant writer, a count over 96.
+    /// A 97th stream; for the plant writer and the check of a flow, a count over 96.
     TooManyStreams,
     /// The number of units, n, is 0 or over 32.
     Units,
@@ -44,9 +45,9 @@ pub enum Refusal {
     Place,
     /// From equals to.
     SamePlace,
-    /// Weight 0 or over 1,000.
+    /// Weight 0 or over 1,000; for the check of a flow, over 1,099,511,627,776.
     Weight,
-    /// Reading outside -4,000,000 to 4,000,000.
+    /// Reading outside -4,000,000 to 4,000,000; for the check of a flow, outside -1,099,511,627,776 to 1,099,511,627,776.
     Reading,
     /// End count differs from the streams read.
     EndCount,
@@ -63,7 +64,7 @@ pub enum Refusal {
     Value,
     /// A transmitter's deviation is no finite number above 0.
     Deviation,
-    /// Low above high, or either outside -2,000,000,000 to 2,000,000,000.
+    /// Low above high, or either outside -2,000,000,000 to 2,000,000,000; for the check of a flow, low above high.
     Range,
     /// No balanced flow lies within all ranges. The places that the sheet call marks must take in more than they can let out:
     /// every stream across their edge has a range, and the lows in sum to more than the highs out. Other calls mark none.
@@ -80,7 +81,8 @@ pub enum Refusal {
     Rates,
     /// A stream to the outside is withheld, whatever its rate.
     ChargeWithheld,
-    /// A sheet that is checked breaks a rule, a number of a place is missing, extra or past its limit, or the plant has no sheet.
+    /// A sheet or a flow that is checked breaks a rule, a number of a place is missing, extra or past its limit, or the plant has
+    /// no sheet.
     RuleBroken,
     // refusals: end of enum
     /// A number that this version does not know.
@@ -93,17 +95,21 @@ const ALL: [(u8, Refusal, &str); 26] = [
     (
         1,
         Refusal::SliceTooShort,
-        "a slice is too short: under 880 bytes for a sheet, 8 numbers for the offices, 1,636 bytes for a plant file, 96 elements for the sheet reader and for lists of streams, 13 for the survey, 33 for the numbers of the places",
+        "a slice is too short: under 880 bytes for a sheet, 8 numbers for the offices, 1,636 bytes for a plant file, 96 elements for the sheet reader and for lists of streams, 13 for the survey, 33 for the numbers of the places; for the check of a flow, fewer elements than streams, or numbers than places",
     ),
     (2, Refusal::NoSheetNumber, "the calling office's last sheet number is 4,294,967,295"),
     (3, Refusal::FileEnds, "bytes end where a record is due or inside a body"),
     (4, Refusal::Kind, "kind not allowed at this place"),
-    (5, Refusal::TooManyStreams, "a 97th stream; for the plant writer, a count over 96"),
+    (5, Refusal::TooManyStreams, "a 97th stream; for the plant writer and the check of a flow, a count over 96"),
     (6, Refusal::Units, "the number of units, n, is 0 or over 32"),
     (7, Refusal::Place, "from or to above n"),
     (8, Refusal::SamePlace, "from equals to"),
-    (9, Refusal::Weight, "weight 0 or over 1,000"),
-    (10, Refusal::Reading, "reading outside -4,000,000 to 4,000,000"),
+    (9, Refusal::Weight, "weight 0 or over 1,000; for the check of a flow, over 1,099,511,627,776"),
+    (
+        10,
+        Refusal::Reading,
+        "reading outside -4,000,000 to 4,000,000; for the check of a flow, outside -1,099,511,627,776 to 1,099,511,627,776",
+    ),
     (11, Refusal::EndCount, "end count differs from the streams read"),
     (12, Refusal::AfterEnd, "bytes after the end record"),
     (13, Refusal::SheetRecord, "in a sheet, a record is missing, cut short, a 97th or of a wrong kind"),
@@ -115,7 +121,11 @@ const ALL: [(u8, Refusal, &str); 26] = [
     (15, Refusal::AfterTotal, "in a sheet, bytes after the total"),
     (16, Refusal::Value, "a transmitter's value is not finite"),
     (17, Refusal::Deviation, "a transmitter's deviation is no finite number above 0"),
-    (18, Refusal::Range, "low above high, or either outside -2,000,000,000 to 2,000,000,000"),
+    (
+        18,
+        Refusal::Range,
+        "low above high, or either outside -2,000,000,000 to 2,000,000,000; for the check of a flow, low above high",
+    ),
     (19, Refusal::NoFlow(Places(0)), "no balanced flow lies within all ranges"),
     (20, Refusal::Narrower, "moving home, a range is narrower than -2,000,000,000 to 2,000,000,000"),
     (21, Refusal::Prices, "prices are not one for each unmetered stream, or one is 0 or over 1,000,000"),
@@ -126,7 +136,7 @@ const ALL: [(u8, Refusal, &str); 26] = [
     (
         26,
         Refusal::RuleBroken,
-        "a sheet that is checked breaks a rule, a number of a place is missing, extra or past its limit, or the plant has no sheet",
+        "a sheet or a flow that is checked breaks a rule, a number of a place is missing, extra or past its limit, or the plant has no sheet",
     ),
 ];
 

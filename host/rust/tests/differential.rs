@@ -16,6 +16,7 @@ mod reference;
 mod shrink;
 mod transmitters;
 mod visits;
+mod wide;
 
 use agree::{Counts, Subject};
 use draw::{Call, Draw, Reopen, Write};
