@@ -105,6 +105,15 @@ static void others(void)
     expect("check_sheet, no numbers", wengeludo_check_sheet(plant, sizeof plant, empty, sizeof empty, NULL, 0),
            WENGELUDO_RULE_BROKEN);
     expect("check_sheet", wengeludo_check_sheet(plant, sizeof plant, empty, sizeof empty, numbers, 2), WENGELUDO_DONE);
+    expect("check_flow, no streams",
+           wengeludo_check_flow(1, 0, NULL, 0, NULL, 0, NULL, 0, NULL, 0, NULL, 0, NULL, 0, NULL, 0, NULL, 0, NULL, 0, numbers, 2),
+           WENGELUDO_DONE);
+    expect("check_flow, no numbers",
+           wengeludo_check_flow(1, 0, NULL, 0, NULL, 0, NULL, 0, NULL, 0, NULL, 0, NULL, 0, NULL, 0, NULL, 0, NULL, 0, NULL, 0),
+           WENGELUDO_SLICE_TOO_SHORT);
+    expect("check_flow, a stream that is not there",
+           wengeludo_check_flow(1, 1, NULL, 0, NULL, 0, NULL, 0, NULL, 0, NULL, 0, NULL, 0, NULL, 0, NULL, 0, NULL, 0, numbers, 2),
+           WENGELUDO_SLICE_TOO_SHORT);
     expect("place_numbers, no file", wengeludo_place_numbers(NULL, 0, numbers, WENGELUDO_MAX_UNITS + 1, &count),
            WENGELUDO_FILE_ENDS);
     expect("place_numbers, no numbers", wengeludo_place_numbers(plant, sizeof plant, NULL, 0, &count), WENGELUDO_SLICE_TOO_SHORT);

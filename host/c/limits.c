@@ -203,6 +203,34 @@ static void numbers(void)
     expect("a lesser number", wengeludo_check_sheet(file, length, sheet, written, places, WENGELUDO_MAX_PLACES), WENGELUDO_RULE_BROKEN);
 }
 
+/* The check of a flow: a stream to unit 1 and one back, the first with a range that is 0 alone. */
+static uint8_t checks(uint64_t weight, int64_t reading, int64_t flow, int64_t number)
+{
+    static const uint8_t from[] = {0, 1}, to[] = {1, 0}, metered[] = {1, 0}, ranged[] = {1, 0};
+    const uint64_t weights[] = {weight, 0};
+    const int64_t readings[] = {reading, 0}, low[] = {flow, 0}, high[] = {flow, 0}, flows[] = {flow, flow}, numbers[] = {number, number};
+    return wengeludo_check_flow(1, 2, from, 2, to, 2, metered, 2, weights, 2, readings, 2, ranged, 2, low, 2, high, 2, flows, 2, numbers, 2);
+}
+
+static void flows(void)
+{
+    expect("the greatest wide weight", checks(WENGELUDO_MAX_WIDE_WEIGHT, 0, 0, 0), 0);
+    expect("a greater wide weight", checks(WENGELUDO_MAX_WIDE_WEIGHT + 1, 0, 0, 0), WENGELUDO_WEIGHT);
+    expect("a weight of 0", checks(0, 0, 0, 0), WENGELUDO_WEIGHT);
+    expect("the greatest wide reading", checks(1, WENGELUDO_MAX_WIDE_READING, 0, 0), 0);
+    expect("a greater wide reading", checks(1, WENGELUDO_MAX_WIDE_READING + 1, 0, 0), WENGELUDO_READING);
+    expect("the least wide reading", checks(1, -WENGELUDO_MAX_WIDE_READING, 0, 0), 0);
+    expect("a lesser wide reading", checks(1, -WENGELUDO_MAX_WIDE_READING - 1, 0, 0), WENGELUDO_READING);
+    expect("the greatest flow", checks(1, 0, WENGELUDO_MAX_WIDE_FLOW, 0), 0);
+    expect("a greater flow", checks(1, 0, WENGELUDO_MAX_WIDE_FLOW + 1, 0), WENGELUDO_RULE_BROKEN);
+    expect("the least flow", checks(1, 0, -WENGELUDO_MAX_WIDE_FLOW, 0), 0);
+    expect("a lesser flow", checks(1, 0, -WENGELUDO_MAX_WIDE_FLOW - 1, 0), WENGELUDO_RULE_BROKEN);
+    expect("the greatest wide number", checks(1, 0, 0, WENGELUDO_MAX_WIDE_NUMBER), 0);
+    expect("a greater wide number", checks(1, 0, 0, WENGELUDO_MAX_WIDE_NUMBER + 1), WENGELUDO_RULE_BROKEN);
+    expect("the least wide number", checks(1, 0, 0, -WENGELUDO_MAX_WIDE_NUMBER), 0);
+    expect("a lesser wide number", checks(1, 0, 0, -WENGELUDO_MAX_WIDE_NUMBER - 1), WENGELUDO_RULE_BROKEN);
+}
+
 /* A ring of metered streams, all shut at 0, from the outside through so many units and back: as many degrees, and this cost. */
 static void ring(uint8_t units, uint64_t cost, uint64_t *told, uint8_t *degrees, uint8_t *verdict, int64_t *weights)
 {
@@ -286,6 +314,7 @@ int main(void)
     lists();
     surveys();
     numbers();
+    flows();
     verdicts();
     kinds();
     if (!failed)

@@ -108,6 +108,16 @@ std::uint8_t wengeludo_check_sheet(const std::uint8_t *plant, std::size_t pn, co
     note(plant, pn), note(sheet, sn), note(numbers, nn);
     return 26;
 }
+std::uint8_t wengeludo_check_flow(std::uint8_t units, std::size_t count, const std::uint8_t *from, std::size_t fn, const std::uint8_t *to,
+                                  std::size_t tn, const std::uint8_t *metered, std::size_t mn, const std::uint64_t *weight, std::size_t wn,
+                                  const std::int64_t *reading, std::size_t rn, const std::uint8_t *ranged, std::size_t gn,
+                                  const std::int64_t *low, std::size_t on, const std::int64_t *high, std::size_t hn,
+                                  const std::int64_t *flow, std::size_t wide, const std::int64_t *numbers, std::size_t nn)
+{
+    note(nullptr, units), note(nullptr, count), note(from, fn), note(to, tn), note(metered, mn), note(weight, wn), note(reading, rn);
+    note(ranged, gn), note(low, on), note(high, hn), note(flow, wide), note(numbers, nn);
+    return 18;
+}
 std::uint8_t wengeludo_place_numbers(const std::uint8_t *file, std::size_t fn, std::int64_t *numbers, std::size_t nn, std::size_t *count)
 {
     note(file, fn), note(numbers, nn);
@@ -180,6 +190,10 @@ int main()
     const auto billed = w::charges(file, rates, out, flows);
     expect("charges", billed.number == w::refusal::rates && billed.count == 514 && billed.bill == -515, {of(file), of(rates), of(out), of(flows)});
     expect("check_sheet", w::check_sheet(file, sheet, numbers).number == w::refusal::rule_broken, {of(file), of(sheet), of(numbers)});
+    const w::wide_parts wide{4, 8, {b + 8, 30}, {b + 9, 31}, {b + 10, 32}, {q + 1, 33}, {l + 2, 34}, {b + 11, 35}, {l + 3, 36}, {l + 4, 37}};
+    expect("check_flow", w::check_flow(wide, flows, numbers).number == w::refusal::range,
+           {of(4), of(8), of(wide.from), of(wide.to), of(wide.metered), of(wide.weight), of(wide.reading), of(wide.ranged), of(wide.low),
+            of(wide.high), of(flows), of(numbers)});
     const auto placed = w::place_numbers(file, flows);
     expect("place_numbers", placed.number == w::refusal::slice_too_short && placed.count == 516, {of(file), of(flows)});
     expect("version", w::version() == 70'503, {});

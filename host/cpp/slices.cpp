@@ -74,6 +74,14 @@ int main()
     const auto again = w::balance_plant(plant, 0, lasts, sheet);
     expect("check_sheet", w::check_sheet(plant, {sheet.data(), again.written}, {numbers.data(), placed.count}), w::refusal::done);
     expect("check_sheet without numbers", w::check_sheet(plant, {sheet.data(), again.written}, {}), w::refusal::rule_broken);
+    const std::uint8_t there[] = {0, 1}, back[] = {1, 0}, yes[] = {1, 1}, no[] = {0, 0};
+    const std::uint64_t weights[] = {30, 10};
+    const std::int64_t readings[] = {100, 104}, ends[] = {0, 0}, carried[] = {101, 101}, shown[] = {0, 60};
+    const w::wide_parts site{1, 2, there, back, yes, weights, readings, no, ends, ends};
+    expect("check_flow", w::check_flow(site, carried, shown), w::refusal::done);
+    expect("check_flow of its readings", w::check_flow(site, readings, shown), w::refusal::rule_broken);
+    expect("check_flow without numbers", w::check_flow(site, carried, {}), w::refusal::slice_too_short);
+    expect("check_flow of no streams", w::check_flow({1, 0}, {}, shown), w::refusal::done);
 #if __cplusplus >= 202002L
     expect("a std::span", w::to_ranged(std::span(plant), std::span(out)), w::refusal::done);
 #endif

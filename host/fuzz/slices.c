@@ -8,8 +8,7 @@ enum { AREA = 8192, PAGE = 4096 };
 
 uint8_t *file_end, *out_end, *again_end, *kinds_end, *flows_end, *lasts_end;
 
-/* An area whose last byte stands before a page that may not be touched. */
-static uint8_t *area(void)
+uint8_t *area(void)
 {
     uint8_t *memory = mmap(NULL, AREA + PAGE, PROT_READ | PROT_WRITE, MAP_PRIVATE | MAP_ANONYMOUS, -1, 0);
     if (memory == MAP_FAILED || mprotect(memory + AREA, PAGE, PROT_NONE) != 0)

@@ -13,6 +13,7 @@
 #include "target.h"
 
 enum {
+    OF_FLOWS = 242,        /* a flow with wide weights: flows.c says how it is laid out */
     OF_CHARGES = 243,      /* a plant file for steam charges */
     OF_LISTS = 244,        /* a plant file for meters worth a visit */
     OF_PURCHASES = 245,    /* a plant file for meters to buy */
@@ -29,9 +30,9 @@ static unsigned long of_sheets, of_others[256];
 static void tell_subjects(void)
 {
     fprintf(stderr, "fuzz target: inputs: %lu sheets, %lu charges, %lu lists of visits, %lu purchases, %lu moves, %lu transmitter files, "
-                    "%lu kept sheets, %lu parts\n",
+                    "%lu kept sheets, %lu parts, %lu flows\n",
             of_sheets, of_others[OF_CHARGES], of_others[OF_LISTS], of_others[OF_PURCHASES], of_others[OF_MOVES],
-            of_others[OF_TRANSMITTERS], of_others[OF_KEPT_SHEETS], of_others[OF_PARTS]);
+            of_others[OF_TRANSMITTERS], of_others[OF_KEPT_SHEETS], of_others[OF_PARTS], of_others[OF_FLOWS]);
 }
 
 int LLVMFuzzerInitialize(int *count, char ***words)
@@ -53,7 +54,7 @@ size_t LLVMFuzzerCustomMutator(uint8_t *data, size_t size, size_t most, unsigned
         return size;
     if (data[1] == OF_TRANSMITTERS)
         return 2 + repaired_signals(data + 2, size - 2, most - 2, seed % 4 == 1);
-    if (data[1] == OF_PARTS || data[1] == OF_KEPT_SHEETS)
+    if (data[1] == OF_PARTS || data[1] == OF_KEPT_SHEETS || data[1] == OF_FLOWS)
         return size;
     return 2 + repaired(data + 2, size - 2, most - 2);
 }
@@ -113,7 +114,9 @@ int LLVMFuzzerTestOneInput(const uint8_t *data, size_t size)
     const uint8_t choice = data[0], subject = data[1], *rest = data + 2;
     size_t length = slice_length(choice, WENGELUDO_FILE_SIZE);
     of_others[subject]++;
-    if (subject == OF_CHARGES)
+    if (subject == OF_FLOWS)
+        check_flow(rest, size - 2, choice);
+    else if (subject == OF_CHARGES)
         charge(rest, size - 2, choice);
     else if (subject == OF_LISTS)
         visit(rest, size - 2, choice);

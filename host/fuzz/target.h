@@ -30,6 +30,7 @@ enum {
     OF_VISITS = 728,      /* how many are listed */
     OF_CHARGED = 832,     /* the number that is returned */
     OF_MISSING = 864,     /* how many cents are missing */
+    OF_FLOW = 970,        /* the number that is returned */
     COUNTERS = 1024,
 };
 
@@ -44,6 +45,9 @@ enum { GUARD = 64 };
 extern uint8_t *file_end, *out_end, *again_end, *kinds_end, *flows_end, *lasts_end;
 
 void make_areas(void);
+
+/* An area whose last byte stands before a page that may not be touched; where it ends. */
+uint8_t *area(void);
 
 /* A copy of the bytes at the end of the area of files; and that it is still the same. */
 uint8_t *lend_file(const uint8_t *data, size_t size);
@@ -113,5 +117,6 @@ void visit(const uint8_t *data, size_t size, uint8_t choice);
 void charge(const uint8_t *data, size_t size, uint8_t choice);
 int64_t *place_numbers(const uint8_t *file, size_t size, uint8_t sheet_number, size_t *count);
 void check(const uint8_t *file, size_t size, const uint8_t *sheet, size_t written, const uint8_t *choices);
+void check_flow(const uint8_t *data, size_t size, uint8_t choice);
 
 #endif

@@ -269,6 +269,26 @@ struct bill_result : count_result {
     return {refusal{wengeludo_check_sheet(plant.data(), plant.size(), sheet.data(), sheet.size(), numbers.data(), numbers.size())}};
 }
 
+// The parts of a plant with wide weights and readings, one slice for each; stream k, counted from 1, stands at index k - 1 of each.
+struct wide_parts {
+    std::uint8_t units = 0;
+    std::size_t count = 0;
+    slice<const std::uint8_t> from{}, to{}, metered{};
+    slice<const std::uint64_t> weight{};
+    slice<const std::int64_t> reading{};
+    slice<const std::uint8_t> ranged{};
+    slice<const std::int64_t> low{}, high{};
+};
+
+// The check of a flow that was found elsewhere: a flow for each stream, a number for each place.
+[[nodiscard]] inline result check_flow(const wide_parts &p, slice<const std::int64_t> flow, slice<const std::int64_t> numbers) noexcept
+{
+    return {refusal{wengeludo_check_flow(
+        p.units, p.count, p.from.data(), p.from.size(), p.to.data(), p.to.size(), p.metered.data(), p.metered.size(),
+        p.weight.data(), p.weight.size(), p.reading.data(), p.reading.size(), p.ranged.data(), p.ranged.size(), p.low.data(),
+        p.low.size(), p.high.data(), p.high.size(), flow.data(), flow.size(), numbers.data(), numbers.size())}};
+}
+
 // Numbers of the places, with which the sheets of a plant file pass that check.
 [[nodiscard]] inline count_result place_numbers(bytes file, slice<std::int64_t> numbers) noexcept
 {
