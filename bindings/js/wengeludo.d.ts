@@ -100,6 +100,7 @@ export class Engine {
     visits(file: Bytes): { stream: number; cost: bigint }[];
     charges(file: Bytes, rates: Iterable<Whole>): { charges: { stream: number; cents: bigint }[]; bill: bigint };
     checkSheet(plant: Bytes, sheet: Bytes, numbers: Iterable<Whole>): void;
+    checkFlow(units: Whole, streams: readonly Stream[], flows: Iterable<Whole>, numbers: Iterable<Whole>): void;
     placeNumbers(file: Bytes): bigint[];
 }
 

@@ -10,16 +10,16 @@
 /** What a refusal's number says. */
 export const TEXTS = Object.freeze({
     // refusals: texts, from host/refusals.tsv
-    1: "a slice is too short: under 880 bytes for a sheet, 8 numbers for the offices, 1,636 bytes for a plant file, 96 elements for the sheet reader and for lists of streams, 13 for the survey, 33 for the numbers of the places",
+    1: "a slice is too short: under 880 bytes for a sheet, 8 numbers for the offices, 1,636 bytes for a plant file, 96 elements for the sheet reader and for lists of streams, 13 for the survey, 33 for the numbers of the places; for the check of a flow, fewer elements than streams, or numbers than places",
     2: "the calling office's last sheet number is 4,294,967,295",
     3: "bytes end where a record is due or inside a body",
     4: "kind not allowed at this place",
-    5: "a 97th stream; for the plant writer, a count over 96",
+    5: "a 97th stream; for the plant writer and the check of a flow, a count over 96",
     6: "the number of units, n, is 0 or over 32",
     7: "from or to above n",
     8: "from equals to",
-    9: "weight 0 or over 1,000",
-    10: "reading outside -4,000,000 to 4,000,000",
+    9: "weight 0 or over 1,000; for the check of a flow, over 1,099,511,627,776",
+    10: "reading outside -4,000,000 to 4,000,000; for the check of a flow, outside -1,099,511,627,776 to 1,099,511,627,776",
     11: "end count differs from the streams read",
     12: "bytes after the end record",
     13: "in a sheet, a record is missing, cut short, a 97th or of a wrong kind",
@@ -27,7 +27,7 @@ export const TEXTS = Object.freeze({
     15: "in a sheet, bytes after the total",
     16: "a transmitter's value is not finite",
     17: "a transmitter's deviation is no finite number above 0",
-    18: "low above high, or either outside -2,000,000,000 to 2,000,000,000",
+    18: "low above high, or either outside -2,000,000,000 to 2,000,000,000; for the check of a flow, low above high",
     19: "no balanced flow lies within all ranges",
     20: "moving home, a range is narrower than -2,000,000,000 to 2,000,000,000",
     21: "prices are not one for each unmetered stream, or one is 0 or over 1,000,000",
@@ -35,7 +35,7 @@ export const TEXTS = Object.freeze({
     23: "more than the 12 streams of which layouts are surveyed",
     24: "rates are not one for each stream to the outside, or one is over 10,000",
     25: "a stream to the outside is withheld, whatever its rate",
-    26: "a sheet that is checked breaks a rule, a number of a place is missing, extra or past its limit, or the plant has no sheet",
+    26: "a sheet or a flow that is checked breaks a rule, a number of a place is missing, extra or past its limit, or the plant has no sheet",
     // refusals: end of texts
 });
 
@@ -74,6 +74,7 @@ const CALLS = Object.freeze({
     visits: ['in u8', `out u8 ${MAX_STREAMS}`, `out u64 ${MAX_STREAMS}`, 'cell u64'],
     charges: ['in u8', 'in u16', `out u8 ${MAX_STREAMS}`, `out i64 ${MAX_STREAMS}`, 'cell u64', 'cell i64'],
     check_sheet: ['in u8', 'in u8', 'in i64'],
+    check_flow: ['u8', 'u64', 'in u8', 'in u8', 'in u8', 'in u64', 'in i64', 'in u8', 'in i64', 'in i64', 'in i64', 'in i64'],
     place_numbers: ['in u8', `out i64 ${MAX_PLACES}`, 'cell u64'],
 });
 export { CALLS };
@@ -105,6 +106,17 @@ function fitting(type, value, refused) {
 
 /** A slice of numbers of this type, each of them fitted. */
 const slice = (type, values, refused) => TYPES[type].from(values, (value) => fitting(type, value, refused));
+
+/** Which streams have a meter, and which a range; a RangeError for half a range, or one without a meter. */
+function metersOf(streams) {
+    const metered = streams.map((s) => s.weight != null), ranged = streams.map((s, k) => metered[k] && s.low != null && s.high != null);
+    streams.forEach((s, k) => {
+        if ((s.low != null) !== (s.high != null) || (!metered[k] && s.low != null)) {
+            throw new RangeError(`stream ${k + 1}: a range is low and high, both or neither, of a stream with a weight`);
+        }
+    });
+    return { metered, ranged };
+}
 
 /** Loads the engine from the bytes of its WebAssembly module. */
 export async function load(bytes) {
@@ -198,12 +210,7 @@ export class Engine {
 
     /** The plant file of a plant's parts. Refused: 6, 5, then stream after stream 7 to 10, 18. */
     writePlant(units, streams) {
-        const metered = streams.map((s) => s.weight != null), ranged = streams.map((s, k) => metered[k] && s.low != null && s.high != null);
-        streams.forEach((s, k) => {
-            if ((s.low != null) !== (s.high != null) || (!metered[k] && s.low != null)) {
-                throw new RangeError(`stream ${k + 1}: a range is low and high, both or neither, of a stream with a weight`);
-            }
-        });
+        const { metered, ranged } = metersOf(streams);
         const column = (type, of, refused) => slice(type, streams.map(of), refused);
         const [file, [written]] = this.#done('write_plant', fitting('u8', units, 0), streams.length,
             column('u8', (s) => s.from, 255), column('u8', (s) => s.to, 255), column('u8', (s, k) => Number(metered[k])),
@@ -273,6 +280,19 @@ export class Engine {
     /** Checks a sheet drawn up elsewhere, with one number for each place. Refused: the plant's, the sheet's, 26. */
     checkSheet(plant, sheet, numbers) {
         this.#done('check_sheet', bytesOf(plant), bytesOf(sheet), slice('i64', numbers, 0x7fffffffffffffffn));
+    }
+
+    /** Checks a flow found elsewhere, of a plant with wide weights, with one number for each place. Refused: 1, 5 to 10, 18, 26. */
+    checkFlow(units, streams, flows, numbers) {
+        const { metered, ranged } = metersOf(streams), most = 0x7fffffffffffffffn;
+        const column = (type, of, refused) => slice(type, streams.map(of), refused);
+        const ends = streams.map((s, k) => (ranged[k] ? [whole(s.low), whole(s.high)] : [0n, 0n]))
+            .map(([low, high]) => (low < -most - 1n || high > most ? [1n, 0n] : [low, high]));
+        this.#done('check_flow', fitting('u8', units, 0), streams.length,
+            column('u8', (s) => s.from, 255), column('u8', (s) => s.to, 255), column('u8', (s, k) => Number(metered[k])),
+            column('u64', (s) => s.weight ?? 0, 0), column('i64', (s, k) => (metered[k] ? s.reading ?? 0 : 0), most),
+            column('u8', (s, k) => Number(ranged[k])), column('i64', (s, k) => ends[k][0], most), column('i64', (s, k) => ends[k][1], -most),
+            slice('i64', flows, most), slice('i64', numbers, most));
     }
 
     /** One number for each place, the outside first, with which the plant's sheets pass the check. Refused: 3 to 12, 18, 19. */

@@ -1,5 +1,5 @@
 #!/usr/bin/env bash
-# Builds balance_file, meters_to_buy, layouts_file, visits_file, charges_file, check_sheet, place_numbers and what tests them in target/host with the system's C compiler (CC, else cc).
+# Builds balance_file, meters_to_buy, layouts_file, visits_file, charges_file, check_sheet, check_flow, place_numbers and what tests them in target/host with the system's C compiler (CC, else cc).
 set -eu
 cd "$(dirname "$0")/../.."
 archive=target/staticlib/liblinked.a
@@ -12,7 +12,7 @@ if [ ! -e "$archive" ]; then
     exit 2
 fi
 mkdir -p target/host
-for program in balance_file meters_to_buy layouts_file visits_file charges_file check_sheet place_numbers empty_slices limits; do
+for program in balance_file meters_to_buy layouts_file visits_file charges_file check_sheet check_flow place_numbers empty_slices limits; do
     "${CC:-cc}" -std=c11 -O2 -Wall -Wextra -Werror -I host/include "host/c/$program.c" "$archive" -o "target/host/$program"
     echo "built target/host/$program"
 done

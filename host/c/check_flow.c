@@ -98,23 +98,28 @@ static int read_line(struct site *s, char *line)
     return 0;
 }
 
+static int unread(const char *program, const char *name)
+{
+    fprintf(stderr, "%s: %s cannot be read: %s\n", program, name, strerror(errno));
+    return 0;
+}
+
 static int read_site(const char *program, const char *name, struct site *s)
 {
     char line[512];
     int at = 0, good = 1;
     FILE *in = fopen(name, "r");
-    if (in == NULL) {
-        fprintf(stderr, "%s: %s cannot be read: %s\n", program, name, strerror(errno));
-        return 0;
-    }
+    if (in == NULL)
+        return unread(program, name);
     while (good && fgets(line, sizeof line, in) != NULL) {
         at++;
         good = (strchr(line, '\n') != NULL || feof(in)) && read_line(s, line);
     }
-    if (!good)
+    if (ferror(in))
+        good = unread(program, name);
+    else if (!good)
         fprintf(stderr, "%s: line %d of %s is none of: units N; metered FROM TO WEIGHT READING FLOW; ranged FROM TO WEIGHT READING LOW "
                         "HIGH FLOW; unmetered FROM TO FLOW; number PLACE NUMBER\n", program, at, name);
-    good = good && !ferror(in);
     fclose(in);
     return good;
 }

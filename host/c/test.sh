@@ -1,5 +1,5 @@
 #!/usr/bin/env bash
-# Runs balance_file, meters_to_buy, layouts_file, visits_file, charges_file, check_sheet and place_numbers of target/host: the samples, a cut plant, the last sheet
+# Runs balance_file, meters_to_buy, layouts_file, visits_file, charges_file, check_sheet, check_flow and place_numbers of target/host: the samples, a cut plant, the last sheet
 # number, the offices, the longest file and one byte more, and what cannot be read, written or understood; then limits.
 set -eu
 cd "$(dirname "$0")/../.."
@@ -183,7 +183,41 @@ expect 2 '' "$rated" "$work/missing" "$numbers"
 expect 2 '' "$rated" "$sheet" "$(listed words -27 -103 x 0 -27)"
 expect 2 '' "$rated" "$sheet" "$(listed long -27 -103 9223372036854775808 0 -27)"
 full "$rated" "$sheet" "$numbers"
+# Flows found elsewhere.
+program=target/host/check_flow
+[ -x "$program" ] || { echo "no $program: build it with 'bash host/c/build.sh'" >&2; exit 2; }
+wide=samples/wide_site.flow
+other() { sed "$2" "$wide" >"$work/wide_$1"; echo "$work/wide_$1"; } # name, a change of the sample
+expect 0 $'passes\ncost 2535198345492880289' "$wide"
+expect 0 $'passes\ncost 2535198345492880289' "$(other blanks 's/ /\t /g; s/$/ # a word/')"
+expect 1 'refused 26' "$(other number 's/^number 1 .*/number 1 0/')"
+expect 1 'refused 26' "$(other flow '/^metered 0 1/s/41019622$/41019621/')"
+expect 1 'refused 26' "$(other dearer '/^metered [01] [12]/s/[0-9]*$/26746824/')"
+expect 1 'refused 26' "$(other high 's/ 0 34000 34000$/ 0 33999 34000/')"
+expect 1 'refused 18' "$(other range 's/ 0 34000 34000$/ 34001 34000 34000/')"
+expect 1 'refused 9' "$(other weight 's/1099511627776/1099511627777/')"
+expect 1 'refused 9' "$(other below 's/1099511627776/-1/')"
+expect 1 'refused 10' "$(other reading 's/ 41200000 / 1099511627777 /')"
+expect 1 'refused 7' "$(other place 's/^unmetered 3 0/unmetered 3 5/')"
+expect 1 'refused 8' "$(other loop 's/^unmetered 3 0/unmetered 3 3/')"
+expect 1 'refused 6' "$(other units 's/^units 4/units 33/')"
+{ cat "$wide"; for _ in {1..89}; do echo 'unmetered 3 0 0'; done; } >"$work/many"
+expect 1 'refused 5' "$work/many"
+{ cat "$wide"; for _ in {1..90}; do echo 'unmetered 3 0 0'; done; } >"$work/more"
+expect 2 '' "$work/more"
+expect 2 '' "$(other words 's/^units 4/units four/')"
+expect 2 '' "$(other few 's/ 34000$//')"
+expect 2 '' "$(other extra 's/ 34000$/ 34000 0/')"
+expect 2 '' "$(other kind 's/^ranged/range/')"
+expect 2 '' "$(other long 's/ 41200000 / 9223372036854775808 /')"
+expect 2 '' "$(other far 's/^unmetered 3 0/unmetered 3 256/')"
+expect 2 ''
+expect 2 '' "$wide" "$wide"
+expect 2 '' "$work/missing"
+expect 2 '' "$work"
+full "$wide"
 # The archive's own numbers.
+program=target/host/check_sheet
 for file in "$listing" samples/steam_site.bin "$rated"; do
     target/host/place_numbers "$file" >"$work/own" || { echo "place_numbers $file: status $?" >&2; failed=1; }
     [ "$(head -n 1 "$work/own")" = 0 ] || { echo "place_numbers $file: the outside has not 0" >&2; failed=1; }

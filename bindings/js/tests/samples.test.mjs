@@ -40,6 +40,42 @@ test('moves, transmitters, checks', () => {
     engine.checkSheet(file, engine.balancePlant(file, 3).sheet, engine.placeNumbers(file));
 });
 
+/** The plant, flows and numbers of a sample of text. */
+function flowOf(name) {
+    const lines = text(`samples/${name}`).split('\n').map((line) => line.split('#')[0].trim().split(/\s+/)).filter(([word]) => word);
+    const streams = [], flows = [], numbers = [];
+    let units = 0n;
+    for (const [word, ...rest] of lines) {
+        const [from, to, ...more] = rest.map(BigInt);
+        if (word === 'units') units = from;
+        else if (word === 'number') numbers[Number(from)] = to;
+        else flows.push(more.at(-1)) && streams.push(word === 'unmetered' ? { from, to } : word === 'metered' ? { from, to, weight: more[0], reading: more[1] }
+            : { from, to, weight: more[0], reading: more[1], low: more[2], high: more[3] });
+    }
+    return { units, streams, flows, numbers };
+}
+
+test('a flow found elsewhere', () => {
+    const { units, streams, flows, numbers } = flowOf('wide_site.flow');
+    engine.checkFlow(units, streams, flows, numbers);
+    const changed = (k, words) => streams.map((s, i) => (i === k ? { ...s, ...words } : s));
+    const refused = (number, ...given) => assert.equal(told(() => engine.checkFlow(...given))[0], number);
+    refused(26, units, streams, flows, numbers.map((x, k) => (k === 1 ? 0n : x)));
+    refused(26, units, streams, flows.map((x, k) => (k === 2 ? x + 1n : x)), numbers);
+    refused(26, units, streams, flows, numbers.map((x, k) => (k === 4 ? 2n ** 70n : x)));
+    refused(1, units, streams, flows, numbers.slice(1));
+    refused(1, units, streams, flows.slice(1), numbers);
+    refused(6, 256, streams, flows, numbers);
+    refused(7, units, changed(0, { to: 5 }), flows, numbers);
+    refused(9, units, changed(0, { weight: 2n ** 40n + 1n }), flows, numbers);
+    refused(9, units, changed(0, { weight: 2n ** 64n }), flows, numbers);
+    refused(10, units, changed(0, { reading: 2n ** 40n + 1n }), flows, numbers);
+    refused(10, units, changed(0, { reading: -(2n ** 64n) }), flows, numbers);
+    refused(18, units, changed(7, { low: 34001n }), flows, numbers);
+    refused(18, units, changed(7, { low: -(2n ** 64n) }), flows, numbers);
+    assert.throws(() => engine.checkFlow(units, changed(0, { low: 1 }), flows, numbers), RangeError);
+});
+
 test('offices', () => {
     const lasts = [0, 7, 0, 0, 0, 0, 0, 4294967295];
     assert.deepEqual(engine.balancePlant(ENDED, 1, lasts).lasts, [0, 8, 0, 0, 0, 0, 0, 4294967295]);
