@@ -2,6 +2,7 @@
 
 import csv
 import json
+import os
 import subprocess
 import sys
 
@@ -226,7 +227,35 @@ def test_closed_output_and_own_process(tmp_path):
     command = [sys.executable, "-m", "wengeludo", "sheet", str(SAMPLES / "steam_site.csv")]
     done = subprocess.run(command, stdout=subprocess.PIPE, stderr=subprocess.PIPE, text=True)
     assert (done.returncode, done.stderr) == (0, "")
-    closed = subprocess.run(f"{' '.join(command)} | head -1", shell=True, capture_output=True, text=True)
-    assert closed.stderr == "" and "steam_site" in closed.stdout
     bare = {"PATH": "/usr/bin:/bin", "LC_ALL": "C", "PYTHONIOENCODING": "ascii", "PYTHONPATH": ":".join(sys.path)}
     assert subprocess.run(command, capture_output=True, env=bare).returncode == 0
+
+
+@pytest.mark.parametrize("words, status", [(("sheet", "steam_site.csv"), 0), (("sheet", "steam_site_off.csv"), 3), (("suspects", "steam_site.csv"), 0), (("--help",), 0)])
+@pytest.mark.parametrize("unbuffered", ["", "1"])
+def test_a_reader_that_goes(words, status, unbuffered, tmp_path):
+    """Into a pipe that nobody reads: quiet, the status is the command's own, and the files that were asked for are written."""
+    read, write = os.pipe()
+    os.close(read)
+    page = tmp_path / "page.json"
+    words = [str(SAMPLES / word) if word.endswith(".csv") else word for word in words] + (["-o", str(page)] if words[0] == "sheet" else [])
+    command = [sys.executable, "-m", "wengeludo", *words]
+    ended = subprocess.run(command, stdout=write, stderr=subprocess.PIPE, text=True, env={**os.environ, "PYTHONUNBUFFERED": unbuffered})
+    os.close(write)
+    assert (ended.returncode, ended.stderr) == (status, "")
+    assert page.exists() == (words[0] == "sheet")
+
+
+def test_errors_name_the_file(run, listed):
+    """Whatever ends a command, its file stands in the message, once."""
+    blanks = listed("from,to,reading,accuracy,rate\noutside,a,100,w10,\na,outside,,,100\na,outside,,,100\n", "blanks.csv")
+    for words in (("why", blanks, "77"), ("bill", blanks), ("sheet", blanks, "--last", 2**32 - 1), ("layouts", SAMPLES / "steam_site.csv"), ("suspects", SAMPLES / "overfull_site.csv"),
+                  ("open", blanks), ("unpack", blanks, "x.csv"), ("pack", "--units", "1", SAMPLES / "steam_site.csv", "x.bin")):
+        ended = run(*words)
+        file = next(str(word) for word in words if str(word).endswith(".csv"))
+        assert ended.status == 1 and ended.err.splitlines()[0].count(file) == 1, (words, ended.err)
+
+
+def test_what_would_say_the_decimal_mark(run, listed):
+    ended = run("sheet", listed("from,to,reading,accuracy\na,outside,8.479,2%\n"))
+    assert ended.status == 1 and ended.err.endswith("8479 or 8.4790 would do\n--decimal point or --decimal comma says which it is\n")

@@ -5,16 +5,21 @@ from __future__ import annotations
 import os
 import sqlite3
 import sys
-from typing import Optional, Sequence, Tuple
+from contextlib import redirect_stdout
+from pathlib import Path
+from typing import Any, Mapping, Optional, Sequence, TextIO, Tuple
 
 import click
 
 import wengeludo_balance as engine
 
 from .. import __version__
-from ..read.faults import Stopped
+from ..read.faults import Faulty, Stopped
+from ..read.numbers import UNSURE
 from . import books, files, kept, meters, sheets
 from .options import REFUSED
+
+SUBJECTS = ("list", "plant", "book", "folder")  # of commands: what their errors are about
 
 
 @click.group(context_settings={"help_option_names": ["-h", "--help"]})
@@ -26,11 +31,73 @@ def cli() -> None:
     """
 
 
+def _about(command: click.Command) -> click.Command:
+    """The command; what ends it names the file that it is about."""
+    for inner in getattr(command, "commands", {}).values():
+        _about(inner)
+    plain = command.invoke
+
+    def invoke(context: click.Context) -> Any:
+        try:
+            return plain(context)
+        except Faulty:
+            raise
+        except (Stopped, engine.Refusal, sqlite3.Error, MemoryError, RecursionError) as error:
+            raise Stopped(_named(_told(error), context.params)) from None
+
+    command.invoke = invoke  # type: ignore[method-assign]
+    return command
+
+
+def _named(told: str, words: Mapping[str, Any]) -> str:
+    """A message with the file that it is about before it, if it names none of the command's files itself."""
+    files = [str(one) for value in words.values() for one in (value if isinstance(value, tuple) else (value,)) if isinstance(one, Path)]
+    subject = next((str(words[name]) for name in SUBJECTS if words.get(name)), "")
+    return told if not subject or any(file in told for file in (subject, *files)) else f"{subject}: {told}"
+
+
+def _told(error: BaseException) -> str:
+    """What is told of an error."""
+    if isinstance(error, engine.Refusal):
+        return f"the engine refuses: {error.text} ({error.number})"
+    if isinstance(error, sqlite3.Error):
+        return f"the book cannot be used: {error}"
+    if isinstance(error, (MemoryError, RecursionError)):
+        return f"it is more than this machine can hold ({type(error).__name__})"
+    return str(error)
+
+
 for command in (
     sheets.sheet, sheets.why_, sheets.suspects_, meters.buy, meters.layouts, meters.bill, kept.keep, kept.open_, kept.check, files.pack,
     files.unpack, kept.batch, books.book,
 ):
-    cli.add_command(command)
+    cli.add_command(_about(command))
+
+
+class Patient:
+    """Standard output whose reader may have gone: what is then written is dropped, and the command goes on to its end."""
+
+    def __init__(self, stream: TextIO) -> None:
+        self._stream = stream
+
+    def __getattr__(self, name: str) -> Any:
+        return getattr(self._stream, name)
+
+    def write(self, text: str) -> int:
+        try:
+            return self._stream.write(text)
+        except BrokenPipeError:
+            self._drop()
+            return len(text)
+
+    def flush(self) -> None:
+        try:
+            self._stream.flush()
+        except BrokenPipeError:
+            self._drop()
+
+    def _drop(self) -> None:
+        os.dup2(os.open(os.devnull, os.O_WRONLY), self._stream.fileno())
 
 
 def main(arguments: Optional[Sequence[str]] = None) -> int:
@@ -38,29 +105,31 @@ def main(arguments: Optional[Sequence[str]] = None) -> int:
     for stream in (sys.stdout, sys.stderr):
         if hasattr(stream, "reconfigure"):
             stream.reconfigure(errors="replace")
-    try:
-        status: Tuple[int, str] = (cli.main(args=arguments, prog_name="wengeludo", standalone_mode=False) or 0, "")
+    with redirect_stdout(Patient(sys.stdout)):  # type: ignore[type-var]
+        status, told = _run(arguments)
         sys.stdout.flush()
+    if told:
+        print(told, file=sys.stderr)
+    return status
+
+
+def _run(arguments: Optional[Sequence[str]]) -> Tuple[int, str]:
+    """The status of a command, and what is to be told of its end."""
+    try:
+        return cli.main(args=arguments, prog_name="wengeludo", standalone_mode=False) or 0, ""
     except click.exceptions.Abort:
-        status = (130, "stopped")
+        return 130, "stopped"
     except click.ClickException as error:
         error.show()
-        status = (error.exit_code, "")
-    except BrokenPipeError:
-        os.dup2(os.open(os.devnull, os.O_WRONLY), 1)
-        status = (0, "")
+        return error.exit_code, ""
+    except Faulty as error:
+        unsure = any(UNSURE in fault.wanted for fault in error.faults)
+        return REFUSED, str(error) + ("\n--decimal point or --decimal comma says which it is" if unsure else "")
     except Stopped as error:
-        status = (REFUSED, str(error))
-    except engine.Refusal as error:
-        status = (REFUSED, f"the engine refuses: {error.text} ({error.number})")
+        return REFUSED, str(error)
     except OSError as error:
-        status = (REFUSED, f"{error.filename or ''}: {error.strerror or error}".lstrip(": "))
-    except sqlite3.Error as error:
-        status = (REFUSED, f"the book cannot be used: {error}")
+        return REFUSED, f"{error.filename or ''}: {error.strerror or error}".lstrip(": ")
     except Exception as error:  # the last resort: a fault of this program, told in a line
         if os.environ.get("WENGELUDO_TRACE"):
             raise
-        status = (REFUSED, f"a fault of this program, please report it: {type(error).__name__}: {error} (WENGELUDO_TRACE=1 shows where)")
-    if status[1]:
-        print(status[1], file=sys.stderr)
-    return status[0]
+        return REFUSED, f"a fault of this program, please report it: {type(error).__name__}: {error} (WENGELUDO_TRACE=1 shows where)"

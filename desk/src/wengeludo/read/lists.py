@@ -13,12 +13,14 @@ from .columns import AMOUNTS, COLUMNS, MORE, NUMBERS, OUTSIDE, is_outside, known
 from .faults import Fault, Faulty, Stopped
 from .flow_units import KNOWN, flow_unit, split_heading, split_unit
 from .grids import Grid, is_header, read_grid
+from .hours import hour_within
 from .numbers import COMMA, KG, POINT, Accuracy, Held, Marks, accuracy, amount, gives_none, marks_of, whole
 from .places import drawable, spots_in
 
 MOST_STREAMS, MOST_UNITS = 96, 32
 MOST_READING, MOST_RANGE = 4e12, 2e15
 MOST_PRICE, MOST_RATE = 1_000_000, 1_000_000
+MOST_ABOVE = 2_000  # letters above the header in which an hour is looked for
 T = TypeVar("T")
 
 
@@ -78,6 +80,7 @@ class PipeList:
     spots: Mapping[int, Tuple[float, float]] = field(default_factory=dict)
     told: Tuple[str, ...] = ()
     form: Form = Form()
+    hour: str = ""  # of the readings, if the lines above the header tell it
 
     def find(self, label: str) -> int:
         """The index of the stream with this label; Stopped if there is none."""
@@ -121,6 +124,7 @@ class _Reader:
         self.header(*rows[top])
         if self.faults:
             raise Faulty(self.path, self.faults)
+        above = " ".join(cell for _, row in rows[:top] for cell in row)
         rows = rows[top + 1 :]
         self.own_unit_column(rows)
         self.decimal(rows)
@@ -132,7 +136,7 @@ class _Reader:
             raise Faulty(self.path, sorted(self.faults, key=lambda fault: fault.row or 0))
         self.tell()
         form = Form(self.asked.lang or self.lang, self.grid.separator, self.marks.decimal)
-        return PipeList(self.path.stem, tuple(pipes), tuple(self.names), tuple(self.extras), spots, tuple(self.told), form)
+        return PipeList(self.path.stem, tuple(pipes), tuple(self.names), tuple(self.extras), spots, tuple(self.told), form, hour_within(above[:MOST_ABOVE]) or "")
 
     def fault(self, wanted: str, row: Optional[int] = None, column: Optional[str] = None, stream: Optional[str] = None,
               found: Optional[str] = None) -> None:
