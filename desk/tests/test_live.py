@@ -18,6 +18,7 @@ from wengeludo.write import live
 CHROMIUM = shutil.which(os.environ.get("CHROMIUM", "chromium"))
 NAMES = sorted(path.name for path in SAMPLES.iterdir() if path.suffix == ".csv")
 MOST_BYTES = 250_000
+PATIENCE = 20_000_000  # of the browser's own clock, which runs ahead while the engine is unpacked beside much other work; no time is lost by it
 PROBE = """
 <script type="module">
 const asked = JSON.parse(document.getElementById("asked").textContent), told = [];
@@ -121,7 +122,7 @@ def in_browser(text, asked, tmp_path):
     asking = f'<script type="application/json" id="asked">{json.dumps(asked)}</script>'
     probe = tmp_path / "probe.html"
     probe.write_text(text.replace("<body", CATCH + "<body", 1).replace("</body>", asking + PROBE + "</body>"), encoding="utf-8")
-    words = [CHROMIUM, "--headless", "--no-sandbox", "--disable-gpu", f"--user-data-dir={tmp_path / 'profile'}", "--virtual-time-budget=20000"]
+    words = [CHROMIUM, "--headless", "--no-sandbox", "--disable-gpu", f"--user-data-dir={tmp_path / 'profile'}", f"--virtual-time-budget={PATIENCE}"]
     done = subprocess.run([*words, "--dump-dom", probe.as_uri()], capture_output=True, text=True, timeout=300)
     return json.loads(re.search(r'id="probe">(.*?)</script>', done.stdout, re.DOTALL)[1].replace("&lt;", "<").replace("&amp;", "&"))
 

@@ -15,7 +15,7 @@ from pathlib import Path
 ROOT = Path(__file__).resolve().parents[3]
 SCRIPT = """
 const bytes = (text) => Uint8Array.from(atob(text), (letter) => letter.charCodeAt(0));
-const said = {};
+const said = {}, ticking = setInterval(() => {}, 5); // so that the browser's own clock waits for the engine
 const engine = await load(bytes(WASM));
 for (const [name, file] of Object.entries(FILES)) {
     try {
@@ -24,6 +24,7 @@ for (const [name, file] of Object.entries(FILES)) {
         said[name] = `refused ${refusal.number}\\n`;
     }
 }
+clearInterval(ticking);
 document.body.textContent = JSON.stringify(said);
 """
 
@@ -39,7 +40,7 @@ def page(wasm: bytes, files: dict) -> str:
 def shown(path: Path) -> str:
     """What the page's body says once its script has run."""
     browser = os.environ.get("CHROMIUM") or "chromium"
-    words = ["--headless", "--no-sandbox", "--disable-gpu", "--virtual-time-budget=10000", "--dump-dom", path.as_uri()]
+    words = ["--headless", "--no-sandbox", "--disable-gpu", "--virtual-time-budget=20000000", "--dump-dom", path.as_uri()]
     text = subprocess.run([browser, *words], capture_output=True, text=True, timeout=120, check=True).stdout
     return re.search(r"<body>(.*?)</body>", text, re.S)[1]
 
