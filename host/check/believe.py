@@ -5,7 +5,7 @@
     python3 host/check/believe.py --table    the rows of the lists, with their counts
 
 It begins at the contracts of the exported calls (crates/linked/src) and of the calls that the programs print by, and at the theorems of
-the record `Promises`, reads the names in each, finds the definition of each name in specs/ or in a declared struct or enum,
+the record `Promises`, which stands above them, reads the names in each, finds the definition of each name in specs/ or in a declared struct or enum,
 and goes on from there. A name of the kit ends the way. Names that need not be read are those below: what a call ensures and how files are
 read, where a theorem begins with it and its sentences leave nothing open.
 """
@@ -19,9 +19,10 @@ CRATES = ROOT / "crates"
 
 # What a call ensures, and how files and sheets are read -> the theorem that says what follows, all of it.
 LED_ON = {
-    ("sheet_def", "Says", "SheetSays"): "Demands.sentences",
+    ("sheet_def", "Says", "SheetSays"): "Demands.some and Demands.sentences",
+    ("linked", "Calls", "SheetLent"): "Sheet-calls: the same of the exported call",
     ("listing_call", "Says", "ListSays"): "Printed",
-    ("sheet_history", "Before", "PlainSays"): "History: what the call promised before there were offices",
+    ("sheet_history", "Before", "PlainSays"): "History.before, as-today and plain: what the call promised before there were offices",
     ("visit_def", "Visits", "isListed"): "Meters-worth-a-visit.which",
     ("plant_def", "Files", "readPlant"): "Demands.round: which files are read, and as what; Refused-files: with which number the others are refused",
     ("sheet_def", "Kept", "readSheet"): "Demands.reopening: the same of sheets",
@@ -32,7 +33,10 @@ LED_ON = {
 # What is read for what, each list going on from those above it: its title, the functions whose contracts it begins at, and the theorems.
 SUBJECTS = (
     ("sheets", {"linked": {"wengeludo_balance_plant", "wengeludo_write_plant", "wengeludo_read_sheet"}},
-     ("plant_def/Says/Longest-file", "plant_def/Says/File-refusals", "plant_def/Refusals/Refused-files", "sheet_def/Demands/Demands")),
+     ("plant_def/Says/Longest-file", "plant_def/Says/File-refusals", "plant_def/Refusals/Refused-files", "sheet_def/Demands/Demands",
+      "promises/SheetCalls/Sheet-calls")),
+    ("the readers and the plant writer as calls of their own",
+     {"plant_read": {"read_plant"}, "plant_write": {"write_plant"}, "sheet_read": {"read_sheet"}}, ()),
     ("the offices' sheet numbers", {}, ("sheet_history/History/History",)),
     ("the listing and the programs", {"listing_call": {"list_plant"}, "programs": {"plant_file"}}, ("listing_lines/Room/OneText", "listing_call/Printed/Printed")),
     ("the translator", {"linked": {"wengeludo_plant_from_transmitter"}},
@@ -41,12 +45,12 @@ SUBJECTS = (
     ("meters to buy", {"linked": {"wengeludo_meters_to_buy"}}, ("purchase_def/Says/Meters-to-buy",)),
     ("layouts of meters", {"linked": {"wengeludo_layouts_of"}, "survey_answers": {"list_layouts"}}, ("survey_def/Says/One-survey",)),
     ("meters worth a visit", {"linked": {"wengeludo_visits"}, "visit_text": {"list_visits"}},
-     ("visit_def/Says/Meters-worth-a-visit", "visit_call/Lent/One-hand-over")),
-    ("steam charges", {"linked": {"wengeludo_charges"}}, ("charge_def/Says/Steam-charges", "charge_call/Lent/One-hand-over")),
+     ("visit_def/Says/Meters-worth-a-visit",)),
+    ("steam charges", {"linked": {"wengeludo_charges"}}, ("charge_def/Says/Steam-charges",)),
     ("sheets drawn up elsewhere", {"linked": {"wengeludo_check_sheet", "wengeludo_place_numbers"}},
      ("foreign_def/Says/Foreign-sheets", "foreign_def/Numbers/Own-numbers")),
     ("flows found elsewhere", {"linked": {"wengeludo_check_flow"}}, ()),
-    ("bounds, and the record of all promises", {"linked": None}, ("promises/Promises/Promises",)),
+    ("bounds, and the record of all promises", {"linked": None}, ("promises/Engine/Engine",)),
 )
 
 NAME = re.compile(r"[^\s(){}\[\],;\"]+")
@@ -116,6 +120,8 @@ class House:
 
     def at(self, module, name):
         """The definition of a name of a module of this repository; None for the kit's."""
+        if re.match(r"Rattle\.linked\.proofs\.\w+\.Statement$", module):  # made by the compiler from a contract, at which the walk begins
+            return None
         found = re.match(r"Rattle·(\w+?)(?:·specs\.specs|\.specs)\.(.+)$", module)
         if not found:
             if module.startswith("Rattle·") and not re.match(r"Rattle·(io|os|libc|bytes|check)\b", module):
@@ -169,7 +175,7 @@ class House:
                 if (only is None and not found.group(1)) or (only is not None and found.group(2) not in only):
                     continue
                 missing.discard(found.group(2))
-                for clause in re.findall(r"^    (?:ensures|requires) \{(.*)\}$", found.group(3), flags=re.M):
+                for clause in re.findall(r"^    (?:ensures|requires) \{(.*?)\}$", found.group(3), flags=re.M | re.S):
                     for word in NAME.findall(clause):
                         if word in brought:
                             yield self.at(brought[word], word)
@@ -202,6 +208,16 @@ def told(sums):
     return wrong + ([] if together in text else [f"docs/PROMISES.md does not say: {together}"])
 
 
+def unnamed():
+    """The exported functions that the last record does not name, and the names in it that are none."""
+    exported = set(re.findall(r'^pub extern "C" fn (\w+)', (CRATES / "linked" / "src" / "lib.rt").read_text(), flags=re.M))
+    engine = (CRATES / "promises" / "specs" / "Engine.antt").read_text()
+    named = {alias: name for name, alias in re.findall(r"^use Rattle\.linked\.proofs\.(\w+)\.Statement as (\S+)$", engine, flags=re.M)}
+    fields = set(re.findall(r"^  pub \S+ : \(M : Type 1\) → (\S+)\.statement M$", engine, flags=re.M))
+    kept = {named[alias] for alias in fields if alias in named}
+    return [f"the record Engine does not name {name}, or names no function by it" for name in sorted(exported ^ kept)]
+
+
 def main(arguments):
     house = House()
     rows, wrong, total, sums, seen = listed(), [], 0, {}, set()
@@ -229,7 +245,7 @@ def main(arguments):
         print(f"{title}: {lines_here} lines in {len(by_file)} files")
     wrong += [f"{key[0]}: {key[1]}/{key[2]} is listed, and nothing there cites it" for key in rows]
     print(f"together {total} lines, {len(seen)} definitions")
-    wrong += told(sums)
+    wrong += told(sums) + unnamed()
     for line in wrong:
         print(f"believe: {line}", file=sys.stderr)
     sys.exit(1 if wrong else 0)

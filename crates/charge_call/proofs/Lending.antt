@@ -1,34 +1,24 @@
--- What is handed over has room in the slices, and no choice is left.
-use mathlib.Core.Path.{_≡_, sym, _∙_, ap}
+-- What is handed over has room in the slices.
+use mathlib.Core.Path.{_≡_, refl}
 use mathlib.Core.List.{List}
+use lib.IntN.{ℤ}
 use Prim.Native.Nat.{ℕ, _≤_}
-use native.Mathlib.Omega.{arith}
-use lib.ListN.{length, take}
+use lib.ListN.{take}
 use Rattle.num_bytes.specs.Bytes.{over}
 use Rattle.plant_def.specs.Limits.{maxStreams}
-use Rattle.num_lent.proofs.Rooms.{by-room}
+use Rattle.num_lent.specs.Made.{Made}
+use Rattle.num_lent.proofs.Rooms.{room-both}
 use Rattle.charge_def.specs.declared.Charges.{Charges}
-use Rattle.charge_def.proofs.Promise.{steam-charges, charges-few}
-use Rattle.charge_call.specs.Lent.{LentSays, One-hand-over}
+use Rattle.charge_def.specs.Says.{noCharges, ChargesSays}
+use Rattle.charge_def.proofs.Promise.{charges-few}
+use Rattle.charge_call.specs.Lent.{chargesShown}
 
 -- There is room: no more are charged than there may be, nor than either slice holds.
-pub room-lent : (file rates : List ℕ) (m n : ℕ) (r : Charges) → LentSays file rates m n r → (r .count ≤ maxStreams) × (r .count ≤ m) × (r .count ≤ n)
-room-lent file rates m n r s =
-    by-room m n
-    (λ h. let e : r .count ≡ 0 = ap (λ (y : Charges). y .count) (s .short h) in (omega arith, omega arith, omega arith))
-    (λ h l. let f = charges-few file rates r (s .enough h l) in (f, omega arith, omega arith))
+pub room-lent : (file rates : List ℕ) (m n : ℕ) (r : Charges) → Made ((maxStreams ≤ m) × (maxStreams ≤ n)) noCharges (ChargesSays file rates) r
+    → (r .count ≤ maxStreams) × (r .count ≤ m) × (r .count ≤ n)
+room-lent file rates = room-both noCharges (ChargesSays file rates) (λ c. c .count) refl (charges-few file rates)
 
-same-lent : (file rates : List ℕ) (m n : ℕ) (r r′ : Charges) → LentSays file rates m n r → LentSays file rates m n r′ → r ≡ r′
-same-lent file rates m n r r′ s t =
-    by-room m n (λ h. s .short h ∙ sym (t .short h)) (λ h l. steam-charges .only file rates r r′ (s .enough h l) (t .enough h l))
-
--- No choice is left.
-pub one-hand-over : One-hand-over
-one-hand-over file rates ns ns₁ ns₂ cs cs₁ cs₂ n₁ n₂ c₁ c₂ b₁ b₂ x y =
-    let e = same-lent file rates (length ns) (length cs) (x .made) (y .made) (x .said) (y .said) in (
-      x .numbered ∙ ap (λ (v : Charges). v .number) e ∙ sym (y .numbered),
-      x .counted ∙ ap (λ (v : Charges). v .count) e ∙ sym (y .counted),
-      x .billed ∙ ap (λ (v : Charges). v .bill) e ∙ sym (y .billed),
-      x .numbers ∙ ap (λ (v : Charges). over (take (v .count) (v .streams)) ns) e ∙ sym (y .numbers),
-      x .cents ∙ ap (λ (v : Charges). over (take (v .count) (v .cents)) cs) e ∙ sym (y .cents),
-    )
+-- What is found is what the answer shows, where each part of it is.
+pub charges-shown : (c : Charges) (number count : ℕ) (bill : ℤ) (ns ns′ : List ℕ) (cs cs′ : List ℤ) → number ≡ c .number → count ≡ c .count → bill ≡ c .bill
+    → ns′ ≡ over (take (c .count) (c .streams)) ns → cs′ ≡ over (take (c .count) (c .cents)) cs → (number, count, bill, ns′, cs′) ≡ chargesShown ns cs c
+charges-shown c number count bill ns ns′ cs cs′ a b d e f = λ i. (a i, b i, d i, e i, f i)

@@ -3,10 +3,9 @@ use mathlib.Core.Path.{_≡_}
 use mathlib.Core.Bool.{true, false}
 use mathlib.Core.List.{List}
 use lib.IntN.{ℤ, pos}
-use Prim.Native.Nat.{ℕ, suc, _≤_, _<_}
+use Prim.Native.Nat.{ℕ, suc, _<_}
 use lib.ListN.{length, take, replicate}
 use Rattle.plant_def.specs.Converts.{ReadAs}
-use Rattle.num_bytes.specs.Bytes.{over}
 use Rattle.plant_def.specs.Limits.{places}
 use Rattle.plant_def.specs.Plants.{Plant}
 use Rattle.plant_def.specs.Files.{Got, got, readPlant}
@@ -54,13 +53,6 @@ NumbersSay file = ReadAs noNumbers NumbersOf (readPlant file)
 -- The same of what was read.
 abbrev pub NumbersWith : Got → PlaceNumbers → Type 0
 NumbersWith = ReadAs noNumbers NumbersOf
-
--- In a lent slice: 1 where it does not hold as many as there may be, before the file is read; else number and count of the call, the
--- numbers at the front of the slice, the rest as it was. (A refusal has no numbers: the slice is as it was.)
-pub record NumbersLent (file : List ℕ) (o o′ : List ℤ) (number count : ℕ) : Type 0 where
-  pub short : length o < places → (number ≡ 1) × (count ≡ 0) × (o′ ≡ o)
-  pub told : places ≤ length o
-      → (r : PlaceNumbers) × NumbersSay file r × (number ≡ r .number) × (count ≡ r .count) × (o′ ≡ over (numbersIn r) o)
 
 -- What is promised of numbers, whichever are chosen.
 pub record Own-numbers : Type 0 where

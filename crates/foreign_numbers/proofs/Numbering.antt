@@ -15,7 +15,8 @@ use Rattle.plant_def.proofs.Found.{says-bad, says-got}
 use Rattle.plant_def.proofs.Accepted.{read-within}
 use Rattle.sheet_def.proofs.Demands.{demands}
 use Rattle.foreign_def.specs.declared.PlaceNumbers.{PlaceNumbers}
-use Rattle.foreign_def.specs.Numbers.{noNumbers, numbersIn, NumbersOf, NumbersWith, NumbersSay, NumbersLent}
+use Rattle.foreign_def.specs.Numbers.{noNumbers, numbersIn, NumbersOf, NumbersWith, NumbersSay}
+use Rattle.foreign_numbers.specs.Lent.{NumbersFound}
 
 module _ (file : List ℕ) (y : Read) (e : y ≡ readOf (readPlant file)) (r : PlaceNumbers) where
   -- A file that is not read.
@@ -43,10 +44,10 @@ numbers-few file r = go (readPlant file) refl
 -- In a slice.
 module _ (file : List ℕ) (o : List ℤ) where
   -- A slice that is too short: 1, and the slice as it was.
-  pub lends-nothing : length o < places → NumbersLent file o o 1 0
-  lends-nothing h = record { short = λ l. (refl, refl, refl); told = λ l. absurd (omega arith) }
+  pub lends-nothing : length o < places → NumbersFound file o (1, 0, o)
+  lends-nothing h = record { made = noNumbers 1; enough = λ l. absurd (omega arith); short = λ l. refl; handed = refl }
 
   -- A slice that is long enough gets the numbers at its front.
   pub lends-numbers : places ≤ length o → (r : PlaceNumbers) → NumbersSay file r → (o′ : List ℤ) → o′ ≡ over (numbersIn r) o
-      → NumbersLent file o o′ (r .number) (r .count)
-  lends-numbers h r n o′ e = record { short = λ l. absurd (omega arith); told = λ l. (r, n, refl, refl, e) }
+      → NumbersFound file o (r .number, r .count, o′)
+  lends-numbers h r n o′ e = record { made = r; enough = λ l. n; short = λ l. absurd (l h); handed = λ i. (r .number, r .count, e i) }

@@ -17,8 +17,9 @@ ghost use Rattle.plant_def.specs.Says.{plantOf};
 ghost use Rattle.solve_def.specs.Sizes.{potentialShift};
 ghost use Rattle.solve_def.specs.SearchNeeds.{Potentials};
 ghost use Rattle.solve_def.specs.Promise.{Right};
-ghost use Rattle.foreign_def.specs.Numbers.{noNumbers, NumbersOf, NumbersSay, NumbersLent};
+ghost use Rattle.foreign_def.specs.Numbers.{noNumbers, NumbersOf, NumbersSay};
 ghost use Rattle.foreign_def.specs.Test.{NumberedBy};
+ghost use Rattle.foreign_numbers.specs.Lent.{NumbersFound};
 ghost use lib.ListN.{length, take};
 ghost use Rattle.num_bytes.specs.Bytes.{over};
 
@@ -117,7 +118,7 @@ fn put_numbers(count: usize, numbers: [i64; PLACES], out: &mut [i64])
 // The numbers at the front of the slice, the rest of it as it was; or a refusal, and the slice as it was. A slice that does not hold
 // as many as there may be is refused as 1, before the file is read.
 pub fn numbers_lent(file: &[u8], out: &mut [i64]) -> Lent
-    ensures { λ r. ⌜ NumbersLent (now (file .entry)) (now (out .entry)) (now (out .exit)) (r .number) (r .count) ⌝ }
+    ensures { λ r. ⌜ NumbersFound (now (file .entry)) (now (out .entry)) (r .number, r .count, now (out .exit)) ⌝ }
 {
     if out.len() < PLACES {
         return Lent {

@@ -6,17 +6,19 @@ use Rattle.num_bytes.specs.Lent.{Lent}
 use Rattle.num_lent.specs.Marks.{marksIn}
 use Rattle.plant_def.specs.Limits.{places}
 use Rattle.plant_parts.specs.Parts.{Slices, HandedWritten}
-use Rattle.sheet_def.specs.declared.Sheet.{Sheet}
 use Rattle.sheet_lent.specs.Lent.{LentSays}
 use Rattle.sheet_parts.specs.Kept.{HandsOver}
-use Rattle.purchase_def.specs.Lent.{BuyHandsOver}
 
--- The sheet call; no bit past the places is set.
+-- The sheet call, the last numbers ls and the slice o being ls′ and o′ after it; no bit past the places is set.
+abbrev pub SheetLent : (file : List ℕ) (office : ℕ) (ls o ls′ o′ : List ℕ) (written bits number : ℕ) → Type 0
+SheetLent file office ls o ls′ o′ written bits number =
+    LentSays file office ls o o′ (record { number = number; written = written; lasts = ls′; marked = marksIn bits }) × (bits < 2 ^ places)
+
+-- The same of what is lent.
 abbrev pub SheetCall : Lent (List ℕ) → ℕ → Lent (List ℕ) → Lent (List ℕ) → Lent ℕ → Lent ℕ → ℕ → Type 0
 SheetCall file office lasts sheet written marked number =
-    let bits = marked .exit .now in
-    let drawn : Sheet = record { number = number; written = written .exit .now; lasts = lasts .exit .now; marked = marksIn bits } in
-    LentSays (file .entry .now) office (lasts .entry .now) (sheet .entry .now) (sheet .exit .now) drawn × (bits < 2 ^ places)
+    SheetLent (file .entry .now) office (lasts .entry .now) (sheet .entry .now) (lasts .exit .now) (sheet .exit .now) (written .exit .now)
+    (marked .exit .now) number
 
 -- The plant writer, of the plant whose streams' parts are handed over in eight slices.
 abbrev pub WriteCall : (units count : ℕ) (from to metered weight : Lent (List ℕ)) (reading : Lent (List ℤ)) (ranged : Lent (List ℕ))
@@ -40,9 +42,3 @@ abbrev pub ReadCall : (bytes kinds : Lent (List ℕ)) (flows : Lent (List ℤ)) 
 ReadCall bytes kinds flows count kind office sheet cost degrees verdict number =
     HandsOver (bytes .entry .now) (kinds .entry .now) (kinds .exit .now) (flows .entry .now) (flows .exit .now) number (count .exit .now)
     (kind .exit .now) (office .exit .now) (sheet .exit .now) (cost .exit .now) (degrees .exit .now) (verdict .exit .now)
-
--- Meters to buy.
-abbrev pub BuyCall : (file prices streams : Lent (List ℕ)) (count price : Lent ℕ) (number : ℕ) → Type 0
-BuyCall file prices streams count price number =
-    BuyHandsOver (file .entry .now) (prices .entry .now) (streams .entry .now) (streams .exit .now)
-    (record { number = number; count = count .exit .now; price = price .exit .now })

@@ -6,14 +6,15 @@ use sheet_lent::balance_lent;
 ghost use mathlib.Core.Path.{_≡_};
 ghost use Rattle.transmitter_def.specs.Says.{TranslateSays};
 ghost use Rattle.ranged_def.specs.Moves.{ToSays, FromSays};
-ghost use Rattle.survey_answers.specs.Lent.{LendSays};
+ghost use Rattle.survey_answers.specs.Lent.{SurveyFound};
 ghost use Rattle.foreign_def.specs.Says.{CheckSays};
-ghost use Rattle.foreign_def.specs.Numbers.{NumbersLent};
-ghost use Rattle.visit_call.specs.Lent.{VisitsLent};
+ghost use Rattle.foreign_numbers.specs.Lent.{NumbersFound};
+ghost use Rattle.purchase_call.specs.Lent.{BuyFound};
+ghost use Rattle.visit_call.specs.Lent.{VisitsFound};
 ghost use Rattle.certify_def.specs.Says.{lentSlices, FlowSays};
-ghost use Rattle.charge_call.specs.Lent.{ChargesLent};
+ghost use Rattle.charge_call.specs.Lent.{ChargesFound};
 ghost use Rattle.version.specs.Version.{version};
-ghost use Rattle.linked.specs.Calls.{SheetCall, WriteCall, ReadCall, BuyCall};
+ghost use Rattle.linked.specs.Calls.{SheetCall, WriteCall, ReadCall};
 
 // The version as one number: 10,000 is 1.0.0.
 #[no_mangle]
@@ -160,7 +161,8 @@ pub extern "C" fn wengeludo_meters_to_buy(
     count: &mut usize,
     price: &mut u32,
 ) -> u8
-    ensures { λ r. ⌜ BuyCall file prices streams count price r ⌝ }
+    ensures { λ r. ⌜ BuyFound (now (file .entry)) (now (prices .entry)) (now (streams .entry))
+        (r, now (count .exit), now (price .exit), now (streams .exit)) ⌝ }
 {
     let handed = purchase_call::lent::buy_into(file, prices, streams);
     *count = handed.count;
@@ -173,7 +175,7 @@ pub extern "C" fn wengeludo_meters_to_buy(
 // that does not hold 13 counts is refused as 1, before the file is read.
 #[no_mangle]
 pub extern "C" fn wengeludo_layouts_of(file: &[u8], counts: &mut [u16], count: &mut usize) -> u8
-    ensures { λ r. ⌜ LendSays (now (file .entry)) (now (counts .entry)) (now (counts .exit)) r (now (count .exit)) ⌝ }
+    ensures { λ r. ⌜ SurveyFound (now (file .entry)) (now (counts .entry)) (r, now (count .exit), now (counts .exit)) ⌝ }
 {
     let lent = survey_answers::layouts_lent(file, counts);
     *count = lent.count;
@@ -190,7 +192,8 @@ pub extern "C" fn wengeludo_visits(
     costs: &mut [u64],
     count: &mut usize,
 ) -> u8
-    ensures { λ r. ⌜ VisitsLent (now (file .entry)) streams costs r (now (count .exit)) ⌝ }
+    ensures { λ r. ⌜ VisitsFound (now (file .entry)) (now (streams .entry)) (now (costs .entry))
+        (r, now (count .exit), now (streams .exit), now (costs .exit)) ⌝ }
 {
     let handed = visit_call::visits_into(file, streams, costs);
     *count = handed.count;
@@ -209,7 +212,8 @@ pub extern "C" fn wengeludo_charges(
     count: &mut usize,
     bill: &mut i64,
 ) -> u8
-    ensures { λ r. ⌜ ChargesLent (now (file .entry)) (now (rates .entry)) streams charges r (now (count .exit)) (now (bill .exit)) ⌝ }
+    ensures { λ r. ⌜ ChargesFound (now (file .entry)) (now (rates .entry)) (now (streams .entry)) (now (charges .entry))
+        (r, now (count .exit), now (bill .exit), now (streams .exit), now (charges .exit)) ⌝ }
 {
     let handed = charge_call::charges_into(file, rates, streams, charges);
     let total = handed.bill;
@@ -231,7 +235,7 @@ pub extern "C" fn wengeludo_check_sheet(plant: &[u8], sheet: &[u8], numbers: &[i
 // refusal number, 0, and the slice as it was. A slice that does not hold 33 numbers is refused as 1, before the file is read.
 #[no_mangle]
 pub extern "C" fn wengeludo_place_numbers(file: &[u8], numbers: &mut [i64], count: &mut usize) -> u8
-    ensures { λ r. ⌜ NumbersLent (now (file .entry)) (now (numbers .entry)) (now (numbers .exit)) r (now (count .exit)) ⌝ }
+    ensures { λ r. ⌜ NumbersFound (now (file .entry)) (now (numbers .entry)) (r, now (count .exit), now (numbers .exit)) ⌝ }
 {
     let lent = foreign_numbers::numbers_lent(file, numbers);
     *count = lent.count;

@@ -2,3 +2,4 @@
 pub mod Handing
 pub mod Rooms
 pub mod Marking
+pub mod OneNumber

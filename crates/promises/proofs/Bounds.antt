@@ -6,9 +6,8 @@ use Prim.Native.Nat.{ℕ, _-_, _*_, _≤_}
 use native.Mathlib.Omega.{arith}
 use native.Mathlib.Decide.{ℕ-discrete, decLe}
 use lib.Dec.{eqb, ltb}
-use lib.ListN.{length, take}
+use lib.ListN.{length}
 use Rattle.num_bytes.specs.Choice.{refuseIf, firstOf}
-use Rattle.num_bytes.specs.Bytes.{over}
 use Rattle.num_bytes.proofs.Tests.{clash, picked}
 use Rattle.plant_def.specs.declared.Stream.{Stream}
 use Rattle.plant_def.specs.declared.Done.{Done}
@@ -20,19 +19,16 @@ use Rattle.plant_def.proofs.Accepted.{read-within}
 use Rattle.plant_def.proofs.Refusals.{file-refusals, write-not-19}
 use Rattle.plant_def.specs.Converts.{faultOf, Converts}
 use Rattle.ranged_def.specs.Moves.{narrower, narrowFault, home, toRanged, fromRanged}
+use Rattle.transmitter_def.specs.Says.{readTransmitter}
 use Rattle.transmitter_def.proofs.Short.{written-short}
 use Rattle.purchase_def.specs.declared.Bought.{Bought}
-use Rattle.purchase_def.specs.declared.Handed.{Handed}
 use Rattle.purchase_def.specs.Purchases.{maxPrice, unmeteredTo, someUnfair, pricesFault}
 use Rattle.purchase_def.specs.Says.{BuyWith}
-use Rattle.purchase_def.specs.Lent.{LentSays, BuyHandsOver}
 use Rattle.purchase_def.proofs.Price.{price-most}
-use Rattle.purchase_def.proofs.Promise.{meters-to-buy}
 use Rattle.survey_def.specs.declared.Layouts.{Layouts}
-use Rattle.survey_def.specs.Says.{maxSurveyed, surveySize, listed, refusedWith, SurveySays}
-use Rattle.survey_def.proofs.Promise.{one-survey}
-use Rattle.survey_answers.specs.Lent.{HandedOver, LendSays}
+use Rattle.survey_def.specs.Says.{maxSurveyed, SurveySays}
 use Rattle.promises.specs.Bounds.{Without-19, Bounds}
+use Rattle.promises.proofs.Sent.{sent-not}
 
 -- No file is refused with 19, nor with anything but its numbers.
 bad-not : (file : List ℕ) (f : ℕ) → readPlant file ≡ bad f → f ≡ 19 → ⊥
@@ -91,6 +87,7 @@ survey-not file r s (got p) e n = elim (decLe (length (p .streams)) maxSurveyed)
 pub without-19 : Without-19
 without-19 = record {
   writer = write-not-19;
+  translator = λ file o o′ r b. converts-not (readTransmitter file) o o′ r (sent-not file b);
   forth = λ file o o′ r. converts-not (toRanged (readPlant file)) o o′ r (to-not file (readPlant file) refl);
   home = λ file o o′ r. converts-not (fromRanged (readPlant file)) o o′ r (from-not file (readPlant file) refl);
   purchase = λ file prices r b. buy-not file prices r (readPlant file) refl b;
@@ -105,41 +102,9 @@ buy-price file prices r (got p) e b = elim (ℕ-discrete (pricesFault p prices) 
   | no z ↦ rw (b .unpriced z) (omega arith)
 ]
 
--- One purchase, and one survey.
-one-made : (file prices : List ℕ) (room : ℕ) (r s : Bought) → LentSays file prices room r → LentSays file prices room s → r ≡ s
-one-made file prices room r s a b = elim (decLe maxStreams room) [
-  | yes h ↦ meters-to-buy .only file prices r s (a .enough h) (b .enough h)
-  | no h ↦ a .short (omega arith) ∙ sym (b .short (omega arith))
-]
-
-one-handed : (file prices o o₁ o₂ : List ℕ) (r₁ r₂ : Handed) → BuyHandsOver file prices o o₁ r₁ → BuyHandsOver file prices o o₂ r₂ → (r₁ ≡ r₂) × (o₁ ≡ o₂)
-one-handed file prices o o₁ o₂ r₁ r₂ a b =
-    let e = one-made file prices (length o) (a .made) (b .made) (a .said) (b .said) in (
-      a .handed ∙ ap (λ (m : Bought). record { number = m .number; count = m .count; price = m .price }) e ∙ sym (b .handed),
-      a .numbers ∙ ap (λ (m : Bought). over (take (m .count) (m .streams)) o) e ∙ sym (b .numbers),
-    )
-
-one-over : (l k : Layouts) (o o₁ o₂ : List ℕ) (n₁ n₂ c₁ c₂ : ℕ) → l ≡ k → HandedOver l o o₁ n₁ c₁ → HandedOver k o o₂ n₂ c₂ → (n₁ ≡ n₂) × (c₁ ≡ c₂) × (o₁ ≡ o₂)
-one-over l k o o₁ o₂ n₁ n₂ c₁ c₂ e a b = (
-  a .numbered ∙ ap (λ (y : Layouts). y .number) e ∙ sym (b .numbered),
-  a .counted ∙ ap (λ (y : Layouts). y .count) e ∙ sym (b .counted),
-  a .counts ∙ ap (λ (y : Layouts). over (listed y) o) e ∙ sym (b .counts),
-)
-
-one-lent : (file o o₁ o₂ : List ℕ) (n₁ n₂ c₁ c₂ : ℕ) → LendSays file o o₁ n₁ c₁ → LendSays file o o₂ n₂ c₂ → (n₁ ≡ n₂) × (c₁ ≡ c₂) × (o₁ ≡ o₂)
-one-lent file o o₁ o₂ n₁ n₂ c₁ c₂ a b = elim (decLe surveySize (length o)) [
-  | yes h ↦
-      let x = a .told h in
-      let y = b .told h in
-      one-over (x .0) (y .0) o o₁ o₂ n₁ n₂ c₁ c₂ (one-survey file (x .0) (y .0) (x .1) (y .1)) (x .2) (y .2)
-  | no h ↦ one-over (refusedWith 1) (refusedWith 1) o o₁ o₂ n₁ n₂ c₁ c₂ refl (a .too-short (omega arith)) (b .too-short (omega arith))
-]
-
 -- The record of bounds.
 pub bounds : Bounds
 bounds = record {
   translated = written-short;
   price = λ file prices r b. buy-price file prices r (readPlant file) refl b;
-  one-purchase = one-handed;
-  one-survey = one-lent;
 }

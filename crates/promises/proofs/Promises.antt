@@ -17,16 +17,18 @@ use Rattle.survey_def.proofs.Promise.{one-survey}
 use Rattle.survey_answers.proofs.Promise as Survey-texts
 use Rattle.visit_def.proofs.Promise.{meters-worth-a-visit}
 use Rattle.visit_text.proofs.Promise as Visit-texts
-use Rattle.visit_call.proofs.Lending as Visit-parts
 use Rattle.charge_def.proofs.Promise.{steam-charges}
-use Rattle.charge_call.proofs.Lending as Charge-parts
 use Rattle.foreign_def.proofs.Promise.{foreign-sheets, own-numbers}
 use Rattle.promises.specs.Promises.{Promises}
 use Rattle.promises.proofs.Bounds.{without-19, bounds}
+use Rattle.promises.proofs.SheetCalls.{sheet-calls}
+use Rattle.promises.proofs.Once.{lent-once}
 
 -- The record of all promises.
 pub promises : Promises
 promises = record {
+  sheet-calls = sheet-calls;
+  lent-once = lent-once;
   longest-file = longest-file;
   file-refusals = file-refusals;
   refused-files = refused-files;
@@ -45,9 +47,7 @@ promises = record {
   layouts = Survey-texts.one-text;
   meters-worth-a-visit = meters-worth-a-visit;
   visits = Visit-texts.one-text;
-  one-list = Visit-parts.one-hand-over;
   steam-charges = steam-charges;
-  one-bill = Charge-parts.one-hand-over;
   foreign-sheets = foreign-sheets;
   own-numbers = own-numbers;
   without-19 = without-19;

@@ -17,15 +17,19 @@ use Rattle.survey_def.specs.Says.{One-survey}
 use Rattle.survey_answers.specs.Says as Survey-texts
 use Rattle.visit_def.specs.Says.{Meters-worth-a-visit}
 use Rattle.visit_text.specs.Says as Visit-texts
-use Rattle.visit_call.specs.Lent as Visit-parts
 use Rattle.charge_def.specs.Says.{Steam-charges}
-use Rattle.charge_call.specs.Lent as Charge-parts
 use Rattle.foreign_def.specs.Says.{Foreign-sheets}
 use Rattle.foreign_def.specs.Numbers.{Own-numbers}
 use Rattle.promises.specs.Bounds.{Without-19, Bounds}
+use Rattle.promises.specs.SheetCalls.{Sheet-calls}
+use Rattle.promises.specs.Once.{Lent-once}
 
 -- All that is promised.
 pub record Promises : Type 0 where
+  -- The exported calls: the sheet call, by the sentences of the demands below; and those that hand an answer over in lent slices leave no
+  -- choice of what is found. (Of the numbers of places every choice serves: `own-numbers`.)
+  pub sheet-calls : Sheet-calls
+  pub lent-once : Lent-once
   -- Plant files: how long one is at most, and with which numbers it is refused: with which at all, and with which one. (Which are read, and
   -- as what, is a demand.)
   pub longest-file : Longest-file
@@ -50,10 +54,8 @@ pub record Promises : Type 0 where
   pub layouts : OneText Survey-texts.TextSays
   pub meters-worth-a-visit : Meters-worth-a-visit
   pub visits : OneText Visit-texts.TextSays
-  pub one-list : Visit-parts.One-hand-over
   -- Steam charges.
   pub steam-charges : Steam-charges
-  pub one-bill : Charge-parts.One-hand-over
   -- Sheets drawn up elsewhere, and numbers of the places of our own.
   pub foreign-sheets : Foreign-sheets
   pub own-numbers : Own-numbers

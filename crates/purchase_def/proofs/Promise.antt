@@ -3,7 +3,7 @@ use mathlib.Core.Path.{_≡_, refl, sym, _∙_}
 use mathlib.Core.Bool.{Bool, true, false}
 use mathlib.Core.List.{List, [], _∷_}
 use Prim.Native.Nat.{ℕ, suc, _≤_}
-use native.Mathlib.Decide.{ℕ-discrete, decLe}
+use native.Mathlib.Decide.{ℕ-discrete}
 use native.Mathlib.Omega.{arith}
 use lib.ListN.{length}
 use Rattle.plant_def.specs.Limits.{maxStreams}
@@ -14,8 +14,7 @@ use Rattle.plant_def.proofs.Accepted.{read-within}
 use Rattle.purchase_def.specs.declared.Bought.{Bought}
 use Rattle.purchase_def.specs.Purchases.{priceIn, pricesFault, numbersFrom, Best}
 use Rattle.purchase_def.specs.Choosing.{toBuy}
-use Rattle.purchase_def.specs.Says.{boughtOf, BuyOf, BuyWith, Meters-to-buy}
-use Rattle.purchase_def.specs.Lent.{LentSays}
+use Rattle.purchase_def.specs.Says.{boughtOf, BuyOf, BuyWith, BuySays, Meters-to-buy}
 use Rattle.purchase_def.proofs.Sets.{one-best, same-price, nothing-to-buy, to-buy}
 
 -- The answer is the same whichever best set is taken.
@@ -53,12 +52,9 @@ few-with : (file prices : List ℕ) (r : Bought) (g : Got) → readPlant file �
 few-with file prices r (bad f) e b = rw b (omega arith)
 few-with file prices r (got p) e b = few-of p (read-within file p e) prices r b
 
--- No more numbers than there may be, and than the slice holds.
-pub few-lent : (file prices : List ℕ) (room : ℕ) (r : Bought) → LentSays file prices room r → (r .count ≤ maxStreams) × (r .count ≤ room)
-few-lent file prices room r b = elim (decLe maxStreams room) [
-  | yes h ↦ let few = few-with file prices r (readPlant file) refl (b .enough h) in (few, omega (arith, few))
-  | no h ↦ let z : r .count ≡ 0 = rw (b .short (omega arith)) in (omega arith, omega arith)
-]
+-- No more numbers than there may be.
+pub few-bought : (file prices : List ℕ) (r : Bought) → BuySays file prices r → r .count ≤ maxStreams
+few-bought file prices r b = few-with file prices r (readPlant file) refl b
 
 -- The record of what is promised of meters to buy.
 pub meters-to-buy : Meters-to-buy

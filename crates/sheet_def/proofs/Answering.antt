@@ -1,6 +1,6 @@
 -- Of every call: the refusal, or a sheet that tells what it has to. The demands.
 use mathlib.Core.Path.{_≡_, refl, sym, ap, _∙_, subst}
-use mathlib.Core.Bool.{true, false}
+use mathlib.Core.Bool.{Bool, true, false}
 use mathlib.Core.Logic.{_⊎_, inl, inr, ⊎-elim}
 use mathlib.Core.List.{List}
 use lib.IntN.{ℤ}
@@ -10,6 +10,8 @@ use borrow.Author.Tests.{eqb-true, eqb-false}
 use lib.Dec.{eqb}
 use lib.ListN.{length, getD, take, drop}
 use lib.Seq.{drop-append-seam, take-at}
+use Rattle.num_bytes.specs.Bytes.{over}
+use Rattle.num_bytes.specs.Inner.{pickT}
 use Rattle.num_bytes.proofs.Tests.{by-cases, clash}
 use Rattle.num_bytes.proofs.Parts.{laid, same-length}
 use Rattle.plant_def.specs.declared.Plant as Arrays
@@ -31,11 +33,12 @@ use Rattle.solve_def.specs.declared.Solved.{Solved}
 use Rattle.solve_def.specs.Promise.{flowOf, Solution, Right}
 use Rattle.solve_def.proofs.Amounts.{opened-at}
 use Rattle.sheet_def.specs.declared.Sheet.{Sheet}
-use Rattle.sheet_def.specs.Sentences.{callFault, Overfilled, Full, Answers}
+use Rattle.sheet_def.specs.Sentences.{callFault, Refused, Overfilled, Full, Tells, Answers}
 use Rattle.sheet_def.specs.Totals.{totalKind}
 use Rattle.sheet_def.specs.Counters.{topSheet, counterOf, nextOf, raised}
 use Rattle.sheet_def.specs.Drawings.{plantParts, sheetOf}
 use Rattle.sheet_def.specs.Says.{Drawn, SheetWith, SheetSays}
+use Rattle.sheet_def.specs.Sheets.{SheetParts}
 use Rattle.sheet_def.specs.Kept.{someSheet, readSheet}
 use Rattle.sheet_def.specs.Demands.{Demands}
 use Rattle.sheet_def.specs.Calls.{Small}
@@ -145,6 +148,29 @@ module _ (file : List ℕ) (office : ℕ) (lasts o o′ : List ℕ) (r : Sheet) 
       go (got p) e z (inl d) = drawn-back p e z d
       go (got p) e z (inr m) = absurd (omega (arith, ap (λ (y : Sheet). y .number) (m .2 .0)))
 
+-- Every call has an answer, since every plant that is read has a cheapest flow or an overfull set.
+module _ (nineteen : Refusal-19) (file : List ℕ) (office : ℕ) (lasts o : List ℕ) where
+  abbrev none-drawn : List Bool → ℕ → Sheet
+  none-drawn ms f = record { number = f; written = 0; lasts = lasts; marked = ms }
+
+  some-read : (g : Got) → readPlant file ≡ g → (o′ : List ℕ) × (r : Sheet) × SheetWith g office lasts o o′ r
+  some-read (bad f) e = (o, none-drawn unmarked f, (refl, refl))
+  some-read (got p) e = ⊎-elim
+      (λ c.
+      let sheet = sheetOf office p (c .0) (nextOf office lasts) in
+      (over sheet o, record { number = 0; written = length sheet; lasts = raised office lasts; marked = unmarked }, inl (c .0, c .1, refl, refl)))
+      (λ m. (o, none-drawn (m .0) 19, inr (m .0, m .1, (refl, refl))))
+      (nineteen .either file p e)
+
+  some-tested : (b : Bool)
+      → (o′ : List ℕ) × (r : Sheet) × pickT b (SheetWith (readPlant file) office lasts o o′ r) (Refused (callFault office lasts o) lasts o o′ r)
+  some-tested true = some-read (readPlant file) refl
+  some-tested false = (o, none-drawn unmarked (callFault office lasts o), (refl, refl))
+
+  -- The answer of a call.
+  pub some-answer : (o′ : List ℕ) × (r : Sheet) × SheetSays file office lasts o o′ r
+  some-answer = some-tested (eqb (callFault office lasts o) 0)
+
 -- Of every call, where the solver is right of every plant.
 module _ (third : Demand-3) (nineteen : Refusal-19) (solve : (p : Arrays.Plant) → Accepted p → (s : Solved) × Right p s) where
   -- The same of the plant of a file.
@@ -161,9 +187,20 @@ module _ (third : Demand-3) (nineteen : Refusal-19) (solve : (p : Arrays.Plant) 
     overfull = λ p z e. overfilled-of p (within p (accepted file p e .0)) office lasts o o′ r (call-read file office lasts o o′ r s (got p) z e);
   }
 
+  -- A plant with a flow in range has a sheet that tells what it has to.
+  some-sheet : (file : List ℕ) (p : Plant) (ys : List ℤ) → readPlant file ≡ got p → allowed p ys ≡ true → (s : SheetParts) × Tells p s
+  some-sheet file p ys e a =
+      let w = within p (accepted file p e .0) in
+      let shown = third file p ys e a in
+      let xs = shown .some .0 in
+      let c = shown .some .1 in
+      (plantParts 0 p xs 1, tells p w shown xs c (plantParts 0 p xs 1) (told p w xs c totalKind 0 1))
+
   -- The demands, all of them.
   pub demands-met : Demands
   demands-met = record {
+    some = some-answer nineteen;
+    third = some-sheet;
     sentences = answers;
     no-choice = no-choice;
     round = round-trip;

@@ -1,13 +1,18 @@
 -- The demands, all in one record. `SheetSays file office lasts o o′ r` is what the sheet call ensures.
 use mathlib.Core.Path.{_≡_}
+use mathlib.Core.Bool.{true}
 use mathlib.Core.List.{List}
+use lib.IntN.{ℤ}
 use Prim.Native.Nat.{ℕ, _≤_}
-use Rattle.plant_def.specs.Files.{Round-trip}
+use Rattle.plant_def.specs.Plants.{Plant}
+use Rattle.plant_def.specs.Files.{Round-trip, got, readPlant}
+use Rattle.flow_def.specs.Flows.{allowed}
 use Rattle.flow_def.specs.Chains.{everyStream, unmeteredOnly}
 use Rattle.flow_def.specs.Groups.{One-pass}
 use Rattle.flow_def.specs.Overfull.{unmarked, Refusal-19}
 use Rattle.sheet_def.specs.declared.Sheet.{Sheet}
-use Rattle.sheet_def.specs.Sentences.{Answers}
+use Rattle.sheet_def.specs.Sheets.{SheetParts}
+use Rattle.sheet_def.specs.Sentences.{Tells, Answers}
 use Rattle.sheet_def.specs.Counters.{topSheet, counterOf}
 use Rattle.sheet_def.specs.Says.{SheetSays}
 use Rattle.sheet_def.specs.DeskTool.{Desk-tool}
@@ -29,6 +34,10 @@ No-choice =
 
 -- The customer's demands, one by one.
 pub record Demands : Type 0 where
+  -- Every call has an answer, and every plant that is read and has a flow in range a sheet that tells what it has to: the sentences below
+  -- are about something, with a call and without one.
+  pub some : (file : List ℕ) (office : ℕ) (lasts o : List ℕ) → (o′ : List ℕ) × (r : Sheet) × SheetSays file office lasts o o′ r
+  pub third : (file : List ℕ) (p : Plant) (ys : List ℤ) → readPlant file ≡ got p → allowed p ys ≡ true → (s : SheetParts) × Tells p s
   -- Of every call, the office's counter being of 32 bits: the refusal, or a sheet that tells what it has to.
   pub sentences : (file : List ℕ) (office : ℕ) (lasts o o′ : List ℕ) (r : Sheet) → counterOf office lasts ≤ topSheet → SheetSays file office lasts o o′ r
       → Answers file office lasts o o′ r

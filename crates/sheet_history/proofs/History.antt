@@ -30,6 +30,7 @@ use Rattle.sheet_history.proofs.Steps.{step, other-same}
 use Rattle.sheet_history.proofs.Sequences.{kept, next, numbers}
 use Rattle.sheet_history.proofs.Plain.{plain, change, follow}
 use Rattle.sheet_history.proofs.Reading.{read-now, read-then}
+use Rattle.sheet_history.proofs.Today.{some-before, as-today}
 
 -- A call with other counters, where the calling office's is the same: the same answer, with what becomes of those.
 module _ (file : List ℕ) (office : ℕ) (ls ms o o′ : List ℕ) (e : counterOf office ls ≡ counterOf office ms) where
@@ -93,6 +94,8 @@ history = record {
   numbers = numbers;
   read-before = read-before;
   as-before = λ b s e. let r = read-now s mostRecords [] b e in (r .0, r .1 .0, r .1 .1);
+  before = some-before;
+  as-today = as-today;
   plain = plain;
   change = change;
   follow = follow;

@@ -3,4 +3,5 @@ pub mod Steps
 pub mod Sequences
 pub mod Plain
 pub mod Reading
+pub mod Today
 pub mod History

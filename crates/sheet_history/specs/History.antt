@@ -17,7 +17,7 @@ use Rattle.sheet_def.specs.Says.{SheetSays}
 use Rattle.sheet_def.specs.Kept.{Reopened, noSheet, someSheet, readSheet, WithinSheet}
 use Rattle.sheet_def.specs.Totals.{plainKind}
 use Rattle.sheet_def.specs.Sheets.{SheetParts, partsBytes}
-use Rattle.sheet_def.specs.Sentences.{Tells, Under}
+use Rattle.sheet_def.specs.Sentences.{Tells, Under, callFault}
 use Rattle.sheet_history.specs.Before.{PlainSays, readBefore}
 
 -- A call: its plant file, the calling office, the slice before it and after it, and what it handed over.
@@ -110,6 +110,10 @@ pub record History : Type 0 where
       → (readBefore b ≡ someSheet s) ↔ ((partsBytes s ≡ b) × WithinSheet s × (s .total .kind ≡ plainKind))
   pub as-before : (b : List ℕ) (s : SheetParts) → readBefore b ≡ someSheet s
       → (readSheet b ≡ someSheet s) × (s .total .kind ≡ plainKind) × (s .total .office ≡ 0)
+  -- Every call before the change had an answer; and its number, where a call of today is not refused by its own tests, is that of today.
+  pub before : (file : List ℕ) (last : ℕ) (o : List ℕ) → (o′ : List ℕ) × (r : Sheet) × PlainSays file last o o′ r
+  pub as-today : (file : List ℕ) (lasts o o₁ o₂ : List ℕ) (r s : Sheet) → callFault 0 lasts o ≡ 0
+      → PlainSays file (counterOf 0 lasts) o o₁ r → SheetSays file 0 lasts o o₂ s → r .number ≡ s .number
   -- Before the change and after it: the sheets of office 0 follow on in number.
   pub plain : (file : List ℕ) (last : ℕ) (o o′ : List ℕ) (r : Sheet) → last ≤ topSheet → PlainSays file last o o′ r → r .number ≡ 0
       → ReadsPlain file last o′ r

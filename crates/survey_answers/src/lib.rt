@@ -10,7 +10,7 @@ ghost use Prim.Native.Nat.{_≤_, _+_};
 ghost use lib.ListN.{length, take};
 ghost use Rattle.num_bytes.specs.Bytes.{over};
 ghost use Rattle.survey_def.specs.Says.{surveySize};
-ghost use Rattle.survey_answers.specs.Lent.{LendSays};
+ghost use Rattle.survey_answers.specs.Lent.{SurveyFound};
 ghost use Rattle.num_bytes.specs.Inner.{Put};
 ghost use Rattle.num_text.specs.Adding.{Added};
 ghost use Rattle.listing_lines.specs.Room.{Counts};
@@ -39,7 +39,7 @@ fn put_counts(size: usize, counts: [u16; SURVEY_SIZE], out: &mut [u16])
 // The survey: a count for each size at the front of the slice, the rest of it as it was; or a refusal, and the slice as it was.
 // A slice that does not hold as many as there may be is refused as 1, before the file is read.
 pub fn layouts_lent(file: &[u8], counts: &mut [u16]) -> Lent
-    ensures { λ r. ⌜ LendSays (now (file .entry)) (now (counts .entry)) (now (counts .exit)) (r .number) (r .count) ⌝ }
+    ensures { λ r. ⌜ SurveyFound (now (file .entry)) (now (counts .entry)) (r .number, r .count, now (counts .exit)) ⌝ }
 {
     if counts.len() < SURVEY_SIZE {
         return Lent {

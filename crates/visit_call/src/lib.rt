@@ -11,8 +11,11 @@ use visit_costs::costs_without;
 use visit_def::Visits;
 use visit_order::list_by;
 use visit_order::refused;
-ghost use Rattle.visit_def.specs.Says.{VisitsSays};
-ghost use Rattle.visit_call.specs.Lent.{LentSays, VisitsLent};
+ghost use Prim.Native.Nat.{_≤_};
+ghost use Rattle.plant_def.specs.Limits.{maxStreams};
+ghost use Rattle.num_lent.specs.Made.{Made};
+ghost use Rattle.visit_def.specs.Says.{noVisits, VisitsSays};
+ghost use Rattle.visit_call.specs.Lent.{VisitsFound};
 
 // For every A stream of a plant file the least cost with that stream, and its range, made unmetered; listed by cost, equals by number.
 pub fn visits_of(file: &[u8]) -> Visits
@@ -49,7 +52,7 @@ pub struct Handed {
 
 // The call, where slices with room for so many numbers and so many costs hold as many as there may be.
 fn visits_lent(file: &[u8], numbers: usize, costs: usize) -> Visits
-    ensures { λ r. ⌜ LentSays (now (file .entry)) numbers costs r ⌝ }
+    ensures { λ r. ⌜ Made ((maxStreams ≤ numbers) × (maxStreams ≤ costs)) noVisits (VisitsSays (now (file .entry))) r ⌝ }
 {
     if numbers < MAX_STREAMS {
         return refused(1);
@@ -63,7 +66,8 @@ fn visits_lent(file: &[u8], numbers: usize, costs: usize) -> Visits
 // The call with lent slices: the streams' numbers and their costs at the front, the rest as it was; or a refusal, and the slices as
 // they were.
 pub fn visits_into(file: &[u8], numbers: &mut [u8], costs: &mut [u64]) -> Handed
-    ensures { λ r. ⌜ VisitsLent (now (file .entry)) numbers costs (r .number) (r .count) ⌝ }
+    ensures { λ r. ⌜ VisitsFound (now (file .entry)) (now (numbers .entry)) (now (costs .entry))
+        (r .number, r .count, now (numbers .exit), now (costs .exit)) ⌝ }
 {
     let visits = visits_lent(file, numbers.len(), costs.len());
     let count = visits.count as usize;

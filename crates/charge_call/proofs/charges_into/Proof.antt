@@ -1,9 +1,14 @@
 -- There is room for the numbers and for the cents.
+use mathlib.Core.Path.{refl}
 use denote.Ref.{now}
 use Prim.Native.Nat.{_≤_}
+use mir.Syntax.{w64}
+use mir.Val.{SFits}
+use mir.Facts.{toZ-ofZ}
 use lib.ListN.{length}
 use Rattle.plant_def.specs.Limits.{maxStreams}
-use Rattle.charge_call.proofs.Lending.{room-lent}
+use Rattle.num_lent.proofs.Rooms.{lend}
+use Rattle.charge_call.proofs.Lending.{room-lent, charges-shown}
 use borrow.Author.Needs.{needs}
 use Rattle.charge_call.proofs.charges_into.Statement.{statement}
 use Rattle.charge_call.proofs.charges_into.Tie as tie
@@ -41,8 +46,19 @@ same-length c = search needs
 same-length-2 : tie.Need-same-length-2
 same-length-2 c = search needs
 
+-- The bill is of 64 bits.
+bill-fits : (c : tie.After-struct-known) → SFits w64 (c .before .charges-lent .result .bill)
+bill-fits c = search needs
+
 returns : tie.Need-returns
-returns c = search needs
+returns c =
+    let after-put-signed = c .before .before in
+    let after-put-bytes = after-put-signed .before .before .before .before .before in
+    let after-struct-known = after-put-bytes .before .before .before in
+    let after-charges-lent = after-struct-known .before in
+    let v = after-charges-lent .charges-lent .result in
+    lend _ _ _ v _ _ (after-charges-lent .charges-lent .ensures)
+    (charges-shown v _ _ _ _ _ _ _ refl refl (toZ-ofZ (bill-fits after-struct-known)) (after-put-bytes .put-bytes .ensures) (after-put-signed .put-signed .ensures))
 
 pub charges-into-spec : {M : Type 1} → statement M
 charges-into-spec = tie.close (tie.spec charges-lent-requires cast-count put-bytes-requires put-signed-requires same-length same-length-2 returns)

@@ -1,6 +1,7 @@
 -- There is room for the numbers and for the costs.
 use denote.Ref.{now}
 use lib.ListN.{length}
+use Rattle.num_lent.proofs.Rooms.{lend}
 use Rattle.visit_call.proofs.Lending.{room-lent}
 use borrow.Author.Needs.{needs}
 use Rattle.visit_call.proofs.visits_into.Statement.{statement}
@@ -34,7 +35,13 @@ same-length-2 : tie.Need-same-length-2
 same-length-2 c = search needs
 
 returns : tie.Need-returns
-returns c = search needs
+returns c =
+    let after-put-words = c .before .before in
+    let after-put-bytes = after-put-words .before .before .before .before .before in
+    let after-visits-lent = after-put-bytes .before .before .before .before in
+    let v = after-visits-lent .visits-lent .result in
+    lend _ _ _ v _ _ (after-visits-lent .visits-lent .ensures)
+    (λ i. (v .number, v .count, after-put-bytes .put-bytes .ensures i, after-put-words .put-words .ensures i))
 
 pub visits-into-spec : {M : Type 1} → statement M
 visits-into-spec =
