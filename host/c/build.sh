@@ -1,5 +1,7 @@
 #!/usr/bin/env bash
 # Builds balance_file, meters_to_buy, layouts_file, visits_file, charges_file, check_sheet, check_flow, place_numbers and what tests them in target/host with the system's C compiler (CC, else cc).
+#
+#     bash host/c/build.sh [FOLDER]   another folder; CFLAGS has further words for the compiler
 set -eu
 cd "$(dirname "$0")/../.."
 archive=target/staticlib/liblinked.a
@@ -11,8 +13,9 @@ if [ ! -e "$archive" ]; then
     echo "no $archive: build it with 'rt staticlib linked' (Rattle kit rattle-kit-5 or later)" >&2
     exit 2
 fi
-mkdir -p target/host
+host=${1:-target/host}
+mkdir -p "$host"
 for program in balance_file meters_to_buy layouts_file visits_file charges_file check_sheet check_flow place_numbers empty_slices limits; do
-    "${CC:-cc}" -std=c11 -O2 -Wall -Wextra -Werror -I host/include "host/c/$program.c" "$archive" -o "target/host/$program"
-    echo "built target/host/$program"
+    "${CC:-cc}" -std=c11 -O2 -Wall -Wextra -Werror ${CFLAGS:-} -I host/include "host/c/$program.c" "$archive" -o "$host/$program"
+    echo "built $host/$program"
 done

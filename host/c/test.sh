@@ -1,9 +1,13 @@
 #!/usr/bin/env bash
 # Runs balance_file, meters_to_buy, layouts_file, visits_file, charges_file, check_sheet, check_flow and place_numbers of target/host: the samples, a cut plant, the last sheet
 # number, the offices, the longest file and one byte more, and what cannot be read, written or understood; then limits.
+#
+#     bash host/c/test.sh            the programs of target/host, then the same with the sanitizers of addresses and of undefined behaviour
+#     bash host/c/test.sh FOLDER     those of another folder
 set -eu
 cd "$(dirname "$0")/../.."
-program=target/host/balance_file
+host=${1:-target/host}
+program=$host/balance_file
 [ -x "$program" ] || { echo "no $program: build it with 'bash host/c/build.sh'" >&2; exit 2; }
 work=$(mktemp -d)
 trap 'rm -rf "$work"' EXIT
@@ -21,6 +25,10 @@ expect() { # status, output, words; of the program that is tried. With status 2 
         failed=1
     fi
 }
+uses() { # words: what the program that is tried takes
+    "$program" 2>"$work/said" >&2 || true
+    [ "$(cat "$work/said")" = "usage: $program $*" ] || { echo "${program##*/} without a word says: $(cat "$work/said")" >&2; failed=1; }
+}
 full() { # words; the program that is tried, to a full device
     local status=0
     runs=$((runs + 1))
@@ -35,6 +43,7 @@ stream() { printf '\006\000\001\000\001\000\000\000\000\000\000\000\000\000\000\
 { cat "$work/longest"; printf '\000'; } >"$work/longer"
 { printf '\001\001'; for _ in {1..96}; do printf '\003\001\000'; done; printf '\004\140'; } >"$work/bare" # all to the outside, without meters
 { printf '\001\040\006\000\040\000\001\000\000\000\005\000\000\000\001\000\000\000\011\004\001'; } >"$work/dead_end" # at least 1 into unit 32
+uses 'FILE [LAST [OFFICE]]'
 listing=samples/listing.bin
 head -c 20 "$listing" >"$work/cut"
 expect 0 "$(cat samples/listing.expected)" "$listing"
@@ -63,8 +72,9 @@ expect 1 $'refused 19\nmarked 32' "$work/dead_end"
 expect 0 "$(for k in {1..96}; do echo "$k A 0"; done)"$'\ntotal 1 0 1 pass' "$work/longest"
 expect 1 'refused 12' "$work/longer"
 # Meters to buy.
-program=target/host/meters_to_buy
+program=$host/meters_to_buy
 [ -x "$program" ] || { echo "no $program: build it with 'bash host/c/build.sh'" >&2; exit 2; }
+uses 'FILE [PRICE..]'
 blind=samples/blind_site.bin
 expect 0 $'buy 4\nbuy 8\nprice 950' "$blind" 900 1400 650 650 300 300 420
 expect 0 $'buy 3\nprice 3' "$listing" 5 3
@@ -84,8 +94,9 @@ full "$listing" 5 3
 expect 0 "$(for k in {1..95}; do echo "buy $k"; done)"$'\nprice 95' "$work/bare" $(for _ in {1..95}; do echo 1; done) 2
 # shellcheck disable=SC2046
 expect 1 'refused 21' "$work/bare" $(for _ in {1..97}; do echo 1; done)
-program=target/host/layouts_file
+program=$host/layouts_file
 [ -x "$program" ] || { echo "no $program: build it with 'bash host/c/build.sh'" >&2; exit 2; }
+uses 'FILE'
 printf '\001\001\004\000' >"$work/empty"
 expect 0 "$(cat samples/listing.layouts)" "$listing"
 expect 0 '0 1' "$work/empty"
@@ -97,8 +108,9 @@ expect 2 '' "$listing" 0
 expect 2 '' "$work/missing"
 expect 2 '' "$work"
 full "$listing"
-program=target/host/visits_file
+program=$host/visits_file
 [ -x "$program" ] || { echo "no $program: build it with 'bash host/c/build.sh'" >&2; exit 2; }
+uses 'FILE'
 expect 0 "$(cat samples/listing.visits)" "$listing"
 expect 0 "$(cat samples/far_off_site.visits)" samples/far_off_site.bin
 expect 0 '' "$work/empty"
@@ -110,8 +122,9 @@ expect 2 '' "$listing" 0
 expect 2 '' "$work/missing"
 expect 2 '' "$work"
 for file in "$listing" "$work/cut"; do full "$file"; done
-program=target/host/charges_file
+program=$host/charges_file
 [ -x "$program" ] || { echo "no $program: build it with 'bash host/c/build.sh'" >&2; exit 2; }
+uses 'FILE [RATE..]'
 billed=samples/billed_site.bin
 expect 0 "$(cat samples/billed_site.charges)" "$billed" 0 8350 8350 7120 9060
 expect 1 "$(cat samples/twin_lines.charges)" samples/twin_lines.bin 8350 8350 8350
@@ -139,8 +152,9 @@ expect 2 '' "$work/missing" 5
 expect 2 '' "$work" 5
 for file in "$listing" "$work/cut"; do full "$file" 5; done
 # Sheets drawn up elsewhere.
-program=target/host/check_sheet
+program=$host/check_sheet
 [ -x "$program" ] || { echo "no $program: build it with 'bash host/c/build.sh'" >&2; exit 2; }
+uses 'PLANT SHEET NUMBERS'
 rated=samples/rated_site.bin
 sheet=samples/rated_site.sheet
 numbers=samples/rated_site.numbers
@@ -157,6 +171,11 @@ expect 1 $'refused 26\nplace 2: its number is past its limit' "$rated" "$sheet" 
 expect 1 $'refused 26\nstream 1: its class is A, not R' "$rated" "$(changed class 0 022)" "$numbers"
 expect 1 $'refused 26\nthe degrees are 3, not 2' "$rated" "$(changed degrees 86 002)" "$numbers"
 expect 1 $'refused 26\nthe least cost is 5322, not 5323' "$rated" "$(changed cost 85 313)" "$numbers"
+printf '\001\001\002\000\001\003\350\000\000\000\000\002\001\000\003\350\000\000\000\144\004\002' >"$work/apart" # two meters that read 0 and 100
+both='\021\000\000\000\000\000\000\000\062\021\000\000\000\000\000\000\000\062'
+for verdict in 0 3; do printf "$both"'\036\000\000\000\000\001\000\000\000\000\000\114\113\100\001'"\\00$verdict" >"$work/apart$verdict"; done
+expect 1 $'refused 26\nthe verdict is fail, not pass' "$work/apart" "$work/apart0" "$(listed two 0 0)"
+expect 1 $'refused 26\nthe verdict is fail, not close' "$work/apart" "$work/apart3" "$(listed two 0 0)"
 expect 1 $'refused 26\nthe verdict is pass, not close' "$rated" "$(changed verdict 87 003)" "$numbers"
 expect 1 $'refused 26\nstream 7: its places have unequal numbers' "$rated" "$sheet" "$(listed unequal -26 -103 -48 0 -27)"
 expect 1 $'refused 26\nstream 1: the difference of its places\' numbers exceeds the top' "$rated" "$(changed less 8 261)" "$numbers"
@@ -184,7 +203,7 @@ expect 2 '' "$rated" "$sheet" "$(listed words -27 -103 x 0 -27)"
 expect 2 '' "$rated" "$sheet" "$(listed long -27 -103 9223372036854775808 0 -27)"
 full "$rated" "$sheet" "$numbers"
 # Flows found elsewhere.
-program=target/host/check_flow
+program=$host/check_flow
 [ -x "$program" ] || { echo "no $program: build it with 'bash host/c/build.sh'" >&2; exit 2; }
 wide=samples/wide_site.flow
 other() { sed "$2" "$wide" >"$work/wide_$1"; echo "$work/wide_$1"; } # name, a change of the sample
@@ -217,13 +236,14 @@ expect 2 '' "$work/missing"
 expect 2 '' "$work"
 full "$wide"
 # The archive's own numbers.
-program=target/host/check_sheet
+program=$host/check_sheet
 for file in "$listing" samples/steam_site.bin "$rated"; do
-    target/host/place_numbers "$file" >"$work/own" || { echo "place_numbers $file: status $?" >&2; failed=1; }
+    $host/place_numbers "$file" >"$work/own" || { echo "place_numbers $file: status $?" >&2; failed=1; }
     [ "$(head -n 1 "$work/own")" = 0 ] || { echo "place_numbers $file: the outside has not 0" >&2; failed=1; }
 done
 expect 0 'passes' "$rated" "$sheet" "$work/own"
-program=target/host/place_numbers
+program=$host/place_numbers
+uses 'FILE'
 expect 1 'refused 19' samples/overfull_site.bin
 expect 1 'refused 12' "$work/longer"
 expect 1 'refused 3' "$work/cut"
@@ -235,4 +255,12 @@ expect 2 '' "$work"
 full "$listing"
 [ "$failed" = 0 ] || exit 1
 echo "the C programs: $runs runs as expected"
-target/host/limits
+$host/limits
+if [ $# = 0 ]; then
+    if echo 'int main(void) { return 0; }' | "${CC:-cc}" -fsanitize=address,undefined -x c - -o "$work/tried" 2>/dev/null && "$work/tried"; then
+        CFLAGS="-g -fsanitize=address,undefined -fno-sanitize-recover=all" bash host/c/build.sh "$host/sanitized" >"$work/log" || { cat "$work/log" >&2; exit 1; }
+        bash host/c/test.sh "$host/sanitized"
+    else
+        echo "the C programs: not tried with sanitizers, which this compiler lacks"
+    fi
+fi
