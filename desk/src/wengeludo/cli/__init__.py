@@ -16,7 +16,7 @@ import wengeludo_balance as engine
 from .. import __version__
 from ..read.faults import Faulty, Stopped
 from ..read.numbers import UNSURE
-from . import books, files, kept, meters, sheets
+from . import books, files, histories, kept, meters, sheets
 from .options import REFUSED
 
 SUBJECTS = ("list", "plant", "book", "folder")  # of commands: what their errors are about
@@ -27,7 +27,7 @@ SUBJECTS = ("list", "plant", "book", "folder")  # of commands: what their errors
 def cli() -> None:
     """Balance sheets of steam and condensate from a pipe list (CSV or XLSX).
 
-    Exit status: 0 done, 1 refused (faults in the list, or the engine refuses), 2 wrong use, 3 a sheet that fails its test.
+    Exit status: 0 done, 1 refused (faults in the list, or the engine refuses), 2 wrong use, 3 a sheet that fails its test, or a finding of a history.
     """
 
 
@@ -69,7 +69,7 @@ def _told(error: BaseException) -> str:
 
 for command in (
     sheets.sheet, sheets.why_, sheets.suspects_, meters.buy, meters.layouts, meters.bill, kept.keep, kept.open_, kept.check, files.pack,
-    files.unpack, kept.batch, books.book,
+    files.unpack, kept.batch, books.book, histories.history,
 ):
     cli.add_command(_about(command))
 

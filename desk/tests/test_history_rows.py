@@ -1,0 +1,113 @@
+"""Rows of a run are the desk's sheets, hour by hour, at several units; numbers survive on their way; published examples."""
+
+from dataclasses import replace
+from fractions import Fraction
+
+import numpy as np
+import pytest
+import simulator as sim
+
+import wengeludo_balance as engine
+from wengeludo.balance import unit as units
+from wengeludo.balance.site import site_of
+from wengeludo.history import run as runs
+from wengeludo.history.analysis import analysed
+from wengeludo.history.estimates import Standardized, checks, sets_of
+from wengeludo_balance import FAULT, HELD, MEASURED, Verdict
+
+
+@pytest.mark.parametrize("name, unit", [("steam_site", None), ("two_percent", None), ("steam_site", Fraction(1, 2)), ("steam_site", Fraction(1, 5)), ("two_percent", Fraction(50))])
+def test_a_row_is_the_desks_sheet_of_that_hour(name, unit):
+    made = sim.site(name)
+    rng = np.random.default_rng(3)
+    readings = np.round(sim.read_by(made, sim.true_flows(made, 60, rng), rng), 1)
+    run = sim.run_of(made, readings, unit=unit)
+    pipes = run.list.pipes
+    for hour in range(0, 60, 5):
+        typed = tuple(replace(p, reading=float(readings[hour, k])) if p.reading is not None else p for k, p in enumerate(pipes))
+        sheet = engine.balance(site_of(replace(run.list, pipes=typed), run.unit).plant.file())
+        assert run.sheets.flows[hour].tolist() == [record.flow or 0 for record in sheet.records]
+        assert (run.sheets.cost[hour], run.sheets.verdict[hour], run.sheets.degrees[hour]) == (sheet.cost, sheet.verdict, sheet.degrees)
+
+
+def test_a_reading_is_rounded_to_whole_units_exactly():
+    rng = np.random.default_rng(0)
+    values = np.r_[np.round(rng.uniform(-5000, 5000, 4000), 1), np.round(rng.uniform(-5, 5, 500), 7), 0.5, 1.5, -0.5, 2.5, 0.1, 1e6 + 0.05, 3999999.5]
+    for ratio in (Fraction(1), Fraction(5), Fraction(1, 20), Fraction(2), Fraction(1, 50), Fraction(1000, 3), Fraction(22, 7) / 10**9):
+        expected = [round(Fraction(repr(float(value))) * ratio) for value in values]
+        assert runs.whole_units(values, ratio).tolist() == expected
+    assert np.rint(0.3 / 0.2) == 1 and runs.whole_units(np.array([0.3]), Fraction(5)).tolist() == [2]  # a half, to the even number
+
+
+def test_a_held_cell_counts_a_quarter_and_a_fault_nothing():
+    made = sim.site()
+    readings = np.tile(made.flow.round(), (3, 1))
+    readings[:, 4] += 300
+    status = sim.all_measured(made, 3)
+    status[1, 4], status[2, 4] = HELD, FAULT
+    run = sim.run_of(made, readings, status)
+    off = np.abs(run.sheets.flows[:, 4] - made.flow[4])
+    assert off[0] > off[1] > off[2] and run.sheets.kinds[2, 4] == engine.GIVEN
+
+
+def test_the_unit_is_one_for_the_run_and_holds_its_greatest_reading():
+    made = sim.site("two_percent")
+    readings = np.tile(made.flow, (4, 1))
+    calm = sim.run_of(made, readings.copy())
+    readings[2, 4] = 3e8
+    wild = sim.run_of(made, readings)
+    assert wild.unit > calm.unit and abs(int(wild.readings[2, 4])) <= units.MOST_READING
+    assert wild.sheets.refusal.tolist() == [0, 0, 0, 0]
+
+
+def test_z_is_the_measurement_test():
+    """Source 001, example 7.3 by its own figures: the greatest z is that of f4, and taking it out clears the row."""
+    ends = ((0, 1), (1, 2), (2, 1), (0, 2), (2, 3), (3, 0))
+    plant = engine.Plant(3, tuple(engine.Stream(a, b, 10) for a, b in ends))
+    readings, status = np.array([[105, 145, 55, 140, 195, 205]]), np.full((1, 6), MEASURED)
+    sheets = engine.rows(plant, readings, engine.deviation_for([10] * 6), status, suspects=3)
+    found = checks(plant, np.full(6, 10), status[0])
+    z = (readings[0] - sheets.flows[0])[found.adjusted] / found.deviations
+    assert found.adjusted[np.abs(z).argmax()] == 3 and sheets.dropped[0].tolist() == [4, 0, 0]
+    assert float(sheets.cost[0] - sheets.dropped_cost[0, 0]) / 1000 == pytest.approx(float(np.abs(z).max() ** 2), abs=0.5)
+
+
+PAIRS = {(1, 2): (0.969, 0.910), (1, 3): (0.969, 0.908), (1, 4): (0.974, 0.929), (2, 5): (1.0, 0.956), (2, 6): (0.989, 0.951), (2, 7): (0.999, 0.954),
+         (3, 5): (0.999, 0.956), (3, 6): (0.988, 0.949), (3, 7): (0.999, 0.951), (4, 7): (0.999, 0.965), (5, 7): (0.996, 0.949)}
+
+
+@pytest.mark.parametrize("pair", PAIRS)
+def test_pairs_of_biases_are_found_as_published(pair):
+    """Source 001, example 7.5: seven flows, biases of 7 and 4 deviations; the share of biased meters that serial elimination names."""
+    rng, trials = np.random.default_rng(pair[0] * 8 + pair[1]), 2000
+    ends = ((0, 1), (1, 2), (2, 3), (3, 1), (3, 4), (4, 1), (4, 0))
+    plant = engine.Plant(4, tuple(engine.Stream(a, b, 1) for a, b in ends))
+    true = np.array([5, 15, 15, 5, 10, 5, 5.0])
+    own = 0.025 * true
+    bias = np.zeros(7)
+    bias[pair[0] - 1], bias[pair[1] - 1] = 7 * own[pair[0] - 1], 4 * own[pair[1] - 1]
+    mean = own / np.sqrt(10)
+    readings = np.rint((true + bias + rng.normal(size=(trials, 7)) * mean) / 0.01)
+    weights = np.rint(1000 * 0.01**2 / mean**2).astype(int)
+    made = engine.rows(plant, readings, engine.deviation_for(weights), np.full((trials, 7), MEASURED), suspects=3)
+    named = sum((made.dropped == number).any(1).astype(int) for number in pair)
+    assert named.mean() / 2 == pytest.approx(PAIRS[pair][0], abs=0.03)
+
+
+def test_sets_of_the_steam_site():
+    made = sim.site()
+    found = sets_of(checks(made.plant, np.array([s.weight or 0 for s in made.plant.streams]), np.where(made.deviations > 0, MEASURED, FAULT)))
+    assert [[k + 1 for k in together] for together in found] == [[2, 15, 20, 22], [5, 6], [7], [9, 11], [12, 13], [17, 25], [24]]
+
+
+def test_z_in_blocks_is_z_of_the_whole(monkeypatch):
+    made = sim.site()
+    rng = np.random.default_rng(5)
+    status = sim.all_measured(made, 90)
+    status[30:50, 4] = FAULT
+    run = sim.run_of(made, sim.read_by(made, sim.true_flows(made, 90, rng), rng), status)
+    whole = next(Standardized(run).blocks())[1]
+    monkeypatch.setattr("wengeludo.history.estimates.BLOCK", 7)
+    cut = np.concatenate([z for _, z in Standardized(run).blocks()])
+    assert np.array_equal(whole, cut, equal_nan=True)
+    assert np.isnan(whole[30:50, 4]).all() and np.isfinite(whole[:30, 4]).all()
