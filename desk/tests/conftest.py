@@ -41,3 +41,24 @@ def listed(tmp_path):
         return path
 
     return write
+
+
+@pytest.fixture(scope="session")
+def server():
+    """A private PostgreSQL server; what needs it is skipped if this machine has none."""
+    import servers
+
+    if servers.missing():
+        pytest.skip(f"no book on a server is tested: {servers.missing()}")
+    one = servers.Server()
+    yield one
+    one.end()
+
+
+@pytest.fixture(params=["file", "server"])
+def new_book(request, tmp_path):
+    """Gives the name of a book that is not there yet: a file, then a database of a server."""
+    if request.param == "server":
+        return request.getfixturevalue("server").fresh
+    names = iter(range(100))
+    return lambda: str(tmp_path / f"{next(names)}.book")

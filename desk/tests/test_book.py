@@ -26,6 +26,7 @@ from wengeludo.balance.site import read_site
 
 HERE = Path(__file__).parent
 STEP = int(os.environ.get("WENGELUDO_KILL_STEP") or 4)
+KILLS_IN_SHORT = 1 if STEP == 1 else 17
 
 
 def sound(path):

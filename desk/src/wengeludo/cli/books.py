@@ -4,17 +4,22 @@ from __future__ import annotations
 
 import sys
 from contextlib import contextmanager
-from typing import Callable, Iterator
+from pathlib import Path
+from typing import Callable, Dict, Iterator, Optional, Sequence, Tuple
 
 import click
 
+from ..keep import copies
 from ..keep.book import Book, someone
 from ..keep.check import check as checked
 from ..keep.record import FLOW, KIND, SHEET
+from ..keep.schema import MOST_NUMBER, VERSION
+from ..keep.store import is_server
+from ..keep.upgrade import upgrade as upgraded
 from ..read.faults import Stopped
 from ..write import terminal
-from .named import BOOK
-from .options import REFUSED
+from .named import BOOK, BookType, ReferenceType
+from .options import FILE, REFUSED
 
 WHO = click.option("--who", default=someone, show_default="your login", help="Your name, as the book writes it.")
 
@@ -74,4 +79,89 @@ def annul(book: str, number: int, office: int, reason: str, flows: bool, who: st
         if not kept.annul(office, number, who, reason, kind):
             raise Stopped(f"{kept.title}: {KIND[kind]} {number} of office {office} was annulled before: {kept.sheet(office, number, kind).annulled}")
     terminal.lines([f"{KIND[kind]} {number} of office {office} is annulled by {who}: {reason}"])
+    return 0
+
+
+@book.command()
+@BOOK
+@click.argument("file", type=FILE)
+def backup(book: str, file: Path) -> int:
+    """Writes a copy of BOOK to FILE and checks it whole, while others go on drawing. `book restore` makes it a book again."""
+    with Book(book) as kept, progress("backup") as told:
+        count = copies.backup(kept, file, told)
+    terminal.lines([f"{file}: a backup of {kept.title}, {count:,} entries, checked whole"])
+    return 0
+
+
+@book.command()
+@click.argument("backup", type=FILE)
+@BOOK
+@click.option("--printed", type=ReferenceType(), multiple=True, metavar="OFFICE-NUMBER", help="The last number that an office has printed; asked for if it is not given.")
+@click.option("--reason", default="", help="Why numbers that were printed are missing from the backup; it stays in the book.")
+@WHO
+def restore(backup: Path, book: str, printed: Sequence[Tuple[int, int]], reason: str, who: str) -> int:
+    """Makes BACKUP a book again, BOOK, which goes on behind the last number that each office has printed."""
+    with Book(backup) as kept, progress("restore") as told:
+        lasts = _asked(dict(printed), kept)
+        gone = copies.missing(kept, lasts)
+        if gone and not reason:
+            terminal.lines([f"office {office}: {first} to {last} were printed and are not in the backup; they are entered as lost" for office, (first, last) in gone.items()])
+            reason = click.prompt("Why are they lost? (it stays in the book)")
+        count = copies.restore(kept, book, lasts, (who, reason), told)
+    terminal.lines([f"{book}: restored and open" + (f"; {count:,} numbers are entered as lost" if count else "")])
+    return 0
+
+
+def _asked(printed: Dict[int, int], kept: Book) -> Dict[int, int]:
+    """The last number that each office has printed."""
+    for at in kept.offices():
+        if at.office not in printed:
+            text = f"The last sheet that office {at.office} has printed (the backup has {at.last:,})"
+            printed[at.office] = click.prompt(text, type=click.IntRange(0, MOST_NUMBER), default=at.last)
+    return printed
+
+
+@book.command()
+@click.argument("source", type=BookType(), metavar="FROM")
+@click.argument("target", type=BookType(), metavar="TO", required=False)
+@click.option("--stay", is_flag=True, help="Give up a move that was not finished: FROM is open again.")
+def move(source: str, target: Optional[str], stay: bool) -> int:
+    """Moves a book, file or server, to TO, where there is none yet. Never two are open; cut off anywhere, it is run again."""
+    if stay == (target is not None):
+        raise click.UsageError("TO, or --stay, would do")
+    with Book(source) as kept, progress("entries") as told:
+        if target is None:
+            copies.stay(kept)
+            terminal.lines([f"{kept.title} is open again"])
+            return 0
+        count = copies.move(kept, target, told)
+    terminal.lines([f"moved: {count:,} entries copied and checked; {kept.title} is closed"])
+    return 0
+
+
+@book.command()
+@click.argument("old", type=FILE)
+@click.argument("new", type=FILE)
+def upgrade(old: Path, new: Path) -> int:
+    """Makes NEW of OLD, a book of version 1: the same numbers and the same bytes of every sheet. Nobody draws in OLD any more."""
+    with progress("sheets") as told:
+        count = upgraded(old, new, told)
+    terminal.lines([f"{new}: {count:,} sheets, byte for byte those of {old}, checked whole; {old} is closed and may be put away"])
+    return 0
+
+
+@book.command()
+@BOOK
+@click.option("--role", default="", help="On a server: a role that keeps and reads, and can neither alter nor delete; made if there is none.")
+@click.option("--password", is_flag=True, help="Ask for a password for the role.")
+def make(book: str, role: str, password: bool) -> int:
+    """Makes BOOK, a file or the tables in a database of a server, if there is none."""
+    secret = click.prompt("Password of the role", hide_input=True, confirmation_prompt=True) if password else ""
+    with Book(book, make=True) as kept:
+        terminal.lines([f"{kept.title}: a book of version {VERSION}, {sum(at.entry for at in kept.offices()):,} entries"])
+        if role:
+            if not is_server(book):
+                raise Stopped(f"{book}: a file has no roles: the right to write it, given by the system, would do")
+            made = kept.store.granted(role, secret)  # type: ignore[attr-defined]
+            terminal.lines([f"role {role}{' made, which' if made else ''} may keep and read, and can neither alter nor delete"])
     return 0

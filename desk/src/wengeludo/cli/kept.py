@@ -21,6 +21,7 @@ from ..keep.book import Book, Draft
 from ..keep.chart import chart
 from ..keep.find import Brief, Search, find, key_of
 from ..keep.record import FLOW, KIND, SHEET, Kept
+from ..keep.store import is_server
 from ..read import plant_files
 from ..read.faults import Stopped
 from ..write import outputs, terminal
@@ -41,7 +42,7 @@ def keep(list: Path, book: str, office: int, unit: Optional[Fraction], hour: str
     """Draws the sheet of LIST under the office's next number and keeps it in BOOK, which is made if there is none."""
     site = site_in(list, unit)
     hour = hour or getattr(site.list, "hour", "")
-    with Book(book, make=True) as kept:
+    with Book(book, make=not is_server(book)) as kept:
         receipt = kept.keep_one(Draft(site, str(list.resolve()), hour, who, note=note), office)
         if receipt is None:
             raise Stopped("\n".join(overfull(balance(site))))
@@ -126,7 +127,7 @@ def check(plant: Path, sheet: Path, numbers: Path) -> int:
 def batch(folder: Path, summary: Path, book: Optional[str], office: int, unit: Optional[Fraction], jobs: Optional[int]) -> int:
     """Balances every list and plant file of FOLDER: a line for each, and a chart of the cost over time."""
     summary_of(folder, summary)
-    with nullcontext() if book is None else Book(book, make=True) as kept, progress("sheets") as told:
+    with nullcontext() if book is None else Book(book, make=not is_server(book)) as kept, progress("sheets") as told:
         done = run_batch(folder, summary, unit, kept, office, jobs, told)
     outputs.write(summary.with_suffix(".svg"), chart(done, folder.resolve().name).encode())
     counts = {word: sum(o.cells[0] == word for o in done) for word in ("pass", "close", "fail", "none", "no flow in range", "fault")}

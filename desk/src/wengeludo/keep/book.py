@@ -97,7 +97,7 @@ class Book:
     """A book, opened; made if there is none and `make` says so. `where` is a file or postgresql://user@host/database."""
 
     def __init__(self, where: Where, make: bool = False, state: str = OPEN, identity: str = "") -> None:
-        self.store: Store = patiently(lambda: opened(where, make, state, identity))
+        self.store: Store = opened(where, make, state, identity)
         self.known: Dict[bytes, int] = {}
 
     @property
@@ -128,8 +128,9 @@ class Book:
         return self.keep([draft], office)[0]
 
     def _keep(self, drafts: Sequence["_Ready"], office: int) -> List[Optional[Receipt]]:
+        plans = self._plans(drafts) if self.store.lock else {}  # on a server before, so that no office waits for another's plans
         with self.store.whole():
-            plans = self._plans(drafts)
+            plans = plans or self._plans(drafts)
             at = self._office(office)
             found: List[Optional[Receipt]] = []
             for ready in drafts:

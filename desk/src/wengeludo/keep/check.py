@@ -21,7 +21,7 @@ _REMARKS = "SELECT office, entry, what, kind, first, final, at, who, reason, cha
 def check(book: Book, told: Told = lambda done, of: None) -> List[str]:
     """What is wrong with a book, by office and entry; nothing if it is whole. At most the first thousand faults."""
     offices, plans = book.offices(), _Plans(book)
-    faults, done, of = plans.faults(), 0, sum(at.entry for at in offices)
+    faults, done, of = book.store.faults() + plans.faults(), 0, sum(at.entry for at in offices)
     for at in offices:
         walk = _Walk(at, plans)
         for some in _entries(book, at):

@@ -15,7 +15,7 @@ from typing import Any, Iterable, Iterator, List, Optional, Sequence
 
 from ..read.faults import Stopped
 from .schema import APPLICATION, KEPT, VERSION, first_rows, statements
-from .store import Conflict, Damaged, NoBook, Row, Store, Unreachable
+from .store import Conflict, Damaged, NoBook, Row, Store, Unreachable, Unwritable
 
 TURN_SECONDS = 10.0  # how long one waits for one's turn to write
 BUSY_SECONDS = 5.0
@@ -78,7 +78,7 @@ class Lite(Store):
                     os.rename(name, self.path)
                     _forced(self.path.parent)
         except OSError as error:
-            raise Unreachable(f"{self.path}: no book can be made here ({error.strerror}): a folder that you may write to would do") from None
+            raise Unwritable(f"{self.path}: no book can be made here ({error.strerror}): a folder that you may write to would do") from None
         except sqlite3.Error as error:
             raise self._told(error) from None
 
@@ -122,6 +122,9 @@ class Lite(Store):
         except sqlite3.Error as error:
             raise self._told(error) from None
 
+    def faults(self) -> List[str]:
+        return [f"{self.path}: {text}" for (text,) in self.run("PRAGMA integrity_check(10)") if text != "ok"]
+
     @contextmanager
     def whole(self) -> Iterator[Store]:
         with self._turn():
@@ -140,7 +143,7 @@ class Lite(Store):
         try:
             handle = os.open(f"{self.path}.turn", os.O_RDWR | os.O_CREAT | os.O_CLOEXEC, 0o666)
         except OSError as error:
-            raise Unreachable(f"{self.path}: the book cannot be written ({error.strerror}): the right to write it and its folder would do") from None
+            raise Unwritable(f"{self.path}: the book cannot be written ({error.strerror}): the right to write it and its folder would do") from None
         try:
             self._wait(handle)
             yield
@@ -165,14 +168,38 @@ class Lite(Store):
         if name.startswith(_NO_FILE) or "malformed" in text or "not a database" in text:
             return Damaged(f"{self.path}: the book is damaged ({text}): `wengeludo book restore` of a backup would do")
         if name.startswith(_NO_ROOM) or "disk" in text:
-            return Unreachable(f"{self.path}: the disk is full or fails ({text}); nothing of this is kept: room on the disk and the same again would do")
+            return Unwritable(f"{self.path}: the disk is full or fails ({text}); nothing of this is kept: room on the disk and the same again would do")
         if "readonly" in text or "unable to open" in text:
-            return Unreachable(f"{self.path}: the book cannot be written ({text}): the right to write it and its folder would do")
+            return Unwritable(f"{self.path}: the book cannot be written ({text}): the right to write it and its folder would do")
         if "locked" in text or "busy" in text:
             return Unreachable(f"{self.path}: another program holds the book ({text}); nothing of this is kept: the same again would do")
         if isinstance(error, sqlite3.IntegrityError):
             return Conflict(f"{self.path}: this contradicts what the book has ({text}); nothing of this is kept")
         return Damaged(f"{self.path}: the book is damaged ({text}): `wengeludo book restore` of a backup would do")
+
+
+def handed_over(name: Path, path: Path) -> None:
+    """Gives a finished book its name, if no file has it, and takes away what stood beside it."""
+    try:
+        os.link(name, path)
+    except FileExistsError:
+        raise Conflict(f"{path}: there is a file of this name, and it would be lost: another name would do") from None
+    except OSError:  # a disk without such links
+        os.rename(name, path)
+    _forced(path.parent)
+
+
+def unused(path: Path) -> Path:
+    """A name beside a path, for a book that is not finished."""
+    if path.exists():
+        raise Conflict(f"{path}: there is a file of this name, and it would be lost: another name would do")
+    return Path(tempfile.mktemp(prefix=f".{path.name}.", dir=path.parent))
+
+
+def removed(path: Path) -> None:
+    """Takes an unfinished book away, with the files beside it."""
+    for end in ("", ".turn", "-wal", "-shm"):
+        Path(f"{path}{end}").unlink(missing_ok=True)
 
 
 def _forced(folder: Path) -> None:

@@ -2,7 +2,6 @@
 
 from __future__ import annotations
 
-import re
 import select
 import threading
 import time
@@ -11,10 +10,10 @@ from typing import Any, Iterator, List, Sequence
 
 from ..read.faults import Stopped
 from .schema import APPLICATION, VERSION, first_rows, statements
-from .store import Conflict, Damaged, NoBook, Row, Store, Unreachable
+from .store import Conflict, Damaged, NoBook, Row, Store, Unreachable, title_of
 
 ANSWER_SECONDS = 10.0  # a server that is silent for longer, though not gone, is left
-_DEADLINES = "SET lock_timeout = '6s'; SET statement_timeout = '8s'; SET idle_in_transaction_session_timeout = '4s'; SET TIME ZONE 'UTC'"
+_SETTINGS = "SET synchronous_commit = on; SET lock_timeout = '6s'; SET statement_timeout = '8s'; SET idle_in_transaction_session_timeout = '4s'; SET TIME ZONE 'UTC'"
 _REFUSED = ("password", "authentication", "pg_hba", "does not exist", "permission denied", "no encryption")
 GRANTS = """
 GRANT SELECT ON book, offices, plans, sheets, remarks, lists, audit TO {role};
@@ -57,7 +56,7 @@ class Server(Store):
 
     def __init__(self, address: str, make: bool = False, state: str = "", identity: str = "") -> None:
         self.driver, self.address, self.local = _driver(), address, threading.local()
-        self.title = re.sub(r"(//[^/@:]*):[^/@]*@", r"\1:…@", re.sub(r"(password=)[^&]*", r"\1…", address))
+        self.title = title_of(address)
         self.lost = (self.driver.OperationalError, self.driver.InterfaceError)
         self._known(make, state, identity)
 
@@ -73,10 +72,10 @@ class Server(Store):
     def _connect(self) -> Any:
         try:
             base = self.driver.connect(self.address, connect_timeout=3, fallback_application_name="wengeludo", keepalives_idle=5,
-                                       keepalives_interval=2, keepalives_count=3, options="-c synchronous_commit=on")
+                                       keepalives_interval=2, keepalives_count=3)
             base.autocommit = True
             with base.cursor() as cursor:
-                cursor.execute(_DEADLINES)
+                cursor.execute(_SETTINGS)
             return base
         except self.driver.Error as error:
             raise self._told(error) from None
@@ -95,7 +94,7 @@ class Server(Store):
             raise NoBook(f"{self.title}: this is a book of version {version}, this program reads version {VERSION}: a later program would do")
 
     def _there(self) -> bool:
-        return bool(self.run("SELECT to_regclass('book')")[0][0])
+        return bool(self.run("SELECT count(*) FROM pg_tables WHERE schemaname = current_schema() AND tablename = 'book'")[0][0])
 
     def _make(self, state: str, identity: str) -> None:
         with self.whole():

@@ -2,10 +2,11 @@
 
 from __future__ import annotations
 
+import re
 import time
 from contextlib import contextmanager
 from pathlib import Path
-from typing import Any, Callable, Iterable, Iterator, List, Sequence, Tuple, TypeVar, Union
+from typing import Any, Callable, Iterable, Iterator, List, Optional, Sequence, Tuple, TypeVar, Union
 
 from ..read.faults import Stopped
 from .schema import OPEN
@@ -22,7 +23,11 @@ class NoBook(Stopped):
 
 
 class Unreachable(Stopped):
-    """The store cannot be reached, is full, or stays locked. What was not told as kept may be sent again with the same key."""
+    """The store cannot be reached or stays locked. What was not told as kept may be sent again with the same key."""
+
+
+class Unwritable(Stopped):
+    """The store is full, or may not be written by this user. Nothing of what was asked is kept."""
 
 
 class Damaged(Stopped):
@@ -65,6 +70,10 @@ class Store:
     def counted(self) -> None:
         """After rows came in with numbers of their own: new ones are numbered behind them."""
 
+    def faults(self) -> List[str]:
+        """What the database itself finds wrong with its pages."""
+        return []
+
     def close(self) -> None:
         """Lets the database go."""
         raise NotImplementedError
@@ -73,6 +82,11 @@ class Store:
 def is_server(where: Where) -> bool:
     """Whether a book's name is that of a server's database."""
     return str(where).startswith(SERVERS)
+
+
+def title_of(where: Where) -> str:
+    """A book's name without a password, as messages and the book itself write it."""
+    return re.sub(r"(//[^/@:]*):[^/@]*@", r"\1:…@", re.sub(r"(password=)[^&]*", r"\1…", str(where)))
 
 
 def opened(where: Where, make: bool = False, state: str = OPEN, identity: str = "") -> Store:
@@ -86,9 +100,9 @@ def opened(where: Where, make: bool = False, state: str = OPEN, identity: str = 
     return Lite(Path(where), make, state, identity)
 
 
-def patiently(work: Callable[[], T], seconds: float = PATIENCE) -> T:
+def patiently(work: Callable[[], T], seconds: Optional[float] = None) -> T:
     """Does what may be done twice (a read, or a keep with its key) again if the store was lost, for some seconds."""
-    end, pause = time.monotonic() + seconds, 0.05
+    end, pause = time.monotonic() + (PATIENCE if seconds is None else seconds), 0.05
     while True:
         try:
             return work()
