@@ -7,13 +7,14 @@ import subprocess
 import sys
 import threading
 import time
+from dataclasses import replace
 
 import pytest
 from conftest import SAMPLES
 
 import wengeludo_balance as engine
 from wengeludo.balance.site import read_site
-from wengeludo.keep import copies, lite
+from wengeludo.keep import copies, lite, store
 from wengeludo.keep import server as servers
 from wengeludo.keep.book import Book, Draft, Receipt
 from wengeludo.keep.check import check
@@ -63,7 +64,7 @@ def test_one_sheet(new_book):
     with filled(new_book()) as book:
         kept = book.sheet(2, 1)
         assert (kept.who, kept.hour, kept.source, kept.name) == ("person 2", "2026-03-03T04:00", "blind_site.csv", "blind_site")
-        assert kept.site() == site_of("blind_site") and book.faults(kept) == []
+        assert kept.site() == replace(site_of("blind_site"), list=replace(site_of("blind_site").list, hour=kept.hour)) and book.faults(kept) == []
         assert book.sheet(3, 2).annulled.startswith("A. Brandt, 20")
         with pytest.raises(Absent):
             book.sheet(2, 9)
@@ -340,10 +341,11 @@ def test_a_silent_server_is_noticed(server, monkeypatch):
         assert book.keep_one(Draft(site, request="b"), 2) == Receipt(2, 2) and check(book) == []
 
 
-def test_server_stopped_and_started(server, run):
+def test_server_stopped_and_started(server, run, monkeypatch):
+    monkeypatch.setattr(store, "PATIENCE", 60.0)
     where, site = server.fresh(), site_of("listing")
     with Book(where, make=True) as book:
-        book.keep_one(Draft(site), 2)
+        assert book.keep_one(Draft(site), 2) == Receipt(2, 1)
         server.stop("immediate")
         ended = run("open", where)
         assert ended.status == 1 and "cannot be reached" in ended.err and ended.err.count("\n") == 1

@@ -14,6 +14,7 @@ import click
 import wengeludo_balance as engine
 
 from .. import __version__
+from ..keep.store import title_of
 from ..read.faults import Faulty, Stopped
 from ..read.numbers import UNSURE
 from . import books, files, histories, kept, meters, sheets
@@ -52,7 +53,7 @@ def _about(command: click.Command) -> click.Command:
 def _named(told: str, words: Mapping[str, Any]) -> str:
     """A message with the file that it is about before it, if it names none of the command's files itself."""
     files = [str(one) for value in words.values() for one in (value if isinstance(value, tuple) else (value,)) if isinstance(one, Path)]
-    subject = next((str(words[name]) for name in SUBJECTS if words.get(name)), "")
+    subject = next((title_of(words[name]) for name in SUBJECTS if words.get(name)), "")
     return told if not subject or any(file in told for file in (subject, *files)) else f"{subject}: {told}"
 
 

@@ -41,7 +41,7 @@ from .options import FAILED, FILE, LIST, OFFICE, OUTPUT, REFUSED, UNIT
 def keep(list: Path, book: str, office: int, unit: Optional[Fraction], hour: str, who: str, note: str) -> int:
     """Draws the sheet of LIST under the office's next number and keeps it in BOOK, which is made if there is none."""
     site = site_in(list, unit)
-    hour = hour or getattr(site.list, "hour", "")
+    hour = hour or site.list.hour
     with Book(book, make=not is_server(book)) as kept:
         receipt = kept.keep_one(Draft(site, str(list.resolve()), hour, who, note=note), office)
         if receipt is None:

@@ -140,7 +140,7 @@ def _kept(some: List[Outcome], folder: Path, book: Book, office: int) -> List[Ou
 
 def _draft(line: Outcome, folder: Path, office: int) -> Draft:
     assert line.site is not None
-    hour = getattr(line.site.list, "hour", "")
+    hour = line.site.list.hour
     return Draft(line.site, str((folder / line.file).resolve()), hour, someone(), content_key(line.site, office, hour))
 
 

@@ -241,7 +241,7 @@ class Book:
         ask = "SELECT l.list, l.at, l.who, l.hour, l.source, l.name, l.plan, p.told, l.readings, l.plant FROM lists l JOIN plans p ON p.plan = l.plan WHERE l.list = ?"
         for row in self.store.run(ask, (number,)):
             taken = Taken(*row[:7])
-            return taken, site_from(*row[7:], taken.name)
+            return taken, site_from(*row[7:], taken.name, taken.hour)
         raise Absent(f"{self.title}: there is no list {number}")
 
     # -- looking

@@ -16,7 +16,7 @@ import wengeludo_balance as engine
 from ..balance import unit as units
 from ..balance.sheet import Balance, reopened
 from ..balance.site import Site, site_of
-from ..read.lists import Pipe, PipeList
+from ..read.lists import Form, Pipe, PipeList
 from ..read.numbers import Accuracy
 from ..read.faults import Stopped
 from .store import Damaged
@@ -25,8 +25,8 @@ T = TypeVar("T")
 SHEET, FLOW = 0, 1  # the kinds: a numbered sheet of the engine, a checked flow
 KIND = {SHEET: "sheet", FLOW: "flow"}
 MOST_COST = 2**63 - 1  # a cost may be 2^64 - 1, which no column holds: the column is for sorting, the sheet has the cost
-_HOURLY = ("row", "reading", "accuracy")  # of a pipe; all its other fields belong to the plan
-_LISTED = ("name", "pipes", "places", "spots")  # of a list, told in ways of their own
+_HOURLY = ("row", "reading", "accuracy", "silent")  # of a pipe; all its other fields belong to the plan
+_LISTED = ("name", "pipes", "places", "spots", "told", "form", "hour")  # of a list, kept in ways of their own
 _HELD = (str, int, float, Fraction, tuple, list, type(None))
 _UNREADABLE = (engine.Refusal, Stopped, ValueError, KeyError, TypeError, IndexError, AttributeError, ArithmeticError)
 _STAMP = re.compile(r"[\W_]*\d[\dT:_\W]*")
@@ -80,15 +80,23 @@ def _fields(thing: Any, but: Sequence[str]) -> Dict[str, Any]:
 def told_of(site: Site) -> str:
     """The plan of a site: unit, places, drawing, and of each pipe all but its reading."""
     told: Dict[str, Any] = {"unit": str(site.unit), "places": list(site.list.places), "pipes": [_fields(p, _HOURLY) for p in site.list.pipes]}
-    told["list"] = _fields(site.list, (*_LISTED, "hour"))
+    told["list"], told["form"] = _fields(site.list, _LISTED), _fields(site.list.form, ())
     if site.list.spots:
         told["spots"] = [[place, *spot] for place, spot in sorted(site.list.spots.items())]
     return dumps({"site": site_name(site.list.name), **told})
 
 
 def readings_of(site: Site) -> str:
-    """What changes from hour to hour: each pipe's reading as listed, and the accuracy that it counts with."""
-    return dumps([0 if pipe.reading is None else [pipe.reading, *_accuracy(pipe.accuracy)] for pipe in site.list.pipes])
+    """What changes from hour to hour: each pipe's reading as listed with the accuracy that it counts with, or what stands in its place, and
+    what is told of how the list was read."""
+    cells = [pipe.silent or 0 if pipe.reading is None else [pipe.reading, *_accuracy(pipe.accuracy)] for pipe in site.list.pipes]
+    return dumps({"pipes": cells, "told": list(site.list.told)} if site.list.told else cells)
+
+
+def _cells(readings: str) -> Tuple[List[Any], Tuple[str, ...]]:
+    """The cells of kept readings, and what was told of them."""
+    found = json.loads(readings)
+    return (found["pipes"], tuple(found["told"])) if isinstance(found, dict) else (found, ())
 
 
 def _accuracy(known: Optional[Accuracy]) -> List[Any]:
@@ -104,10 +112,10 @@ def words_of(site: Site) -> str:
     return clean("\n".join((site_name(site.list.name), *site.list.places, *(pipe.title for pipe in site.list.pipes))).casefold())
 
 
-def _made(kind: Any, told: Dict[str, Any], **more: Any) -> Any:
+def _made(of: Any, held: Dict[str, Any], **more: Any) -> Any:
     """A dataclass of the fields that it still has."""
-    known = {f.name for f in fields(kind)}
-    return kind(**{name: _back(value) for name, value in told.items() if name in known}, **more)
+    known = {f.name for f in fields(of)} - set(more)
+    return of(**{name: _back(value) for name, value in held.items() if name in known}, **more)
 
 
 @dataclass(frozen=True)
@@ -120,11 +128,13 @@ class Plan:
     places: Tuple[str, ...]
     told: Dict[str, Any]
 
-    def list(self, readings: str, name: str) -> PipeList:
+    def list(self, readings: str, name: str, hour: str = "") -> PipeList:
         """The list of an hour."""
         spots = {place: (float(x), float(y)) for place, x, y in self.told.get("spots", ())}
-        pipes = tuple(_read(pipe, value) for pipe, value in zip(self.pipes, json.loads(readings)))
-        return _made(PipeList, self.told["list"], name=name, pipes=pipes, places=self.places, spots=spots)
+        cells, told = _cells(readings)
+        pipes = tuple(_read(pipe, value) for pipe, value in zip(self.pipes, cells))
+        form = _made(Form, self.told.get("form", {}))
+        return _made(PipeList, self.told["list"], name=name, pipes=pipes, places=self.places, spots=spots, told=told, form=form, hour=hour)
 
 
 @lru_cache(256)
@@ -138,29 +148,29 @@ def plan_of(told_text: str) -> Plan:
 
 def _read(pipe: Pipe, value: Any) -> Pipe:
     """A pipe with its reading."""
-    if not value:
-        return pipe
+    if not isinstance(value, list):
+        return replace(pipe, silent=value) if value else pipe
     reading, *known = value
     return replace(pipe, reading=reading, accuracy=Accuracy(*map(_back, known)) if known else None)
 
 
-def site_from(told: str, readings: str, plant_file: bytes, name: str) -> Site:
+def site_from(told: str, readings: str, plant_file: bytes, name: str, hour: str = "") -> Site:
     """The site of a kept plan, its readings and its plant file."""
     plan = plan_of(told)
-    site = site_of(plan.list(readings, name), plan.unit, name)
+    site = site_of(plan.list(readings, name, hour), plan.unit, name)
     return replace(site, plant=engine.read_plant(plant_file)) if plant_file else site
 
 
 def differs(plan: Plan, readings: str, plant: engine.Plant) -> Optional[str]:
     """The first thing in which a kept list differs from its plant file: ends, unit, readings, accuracies, ranges; None if nothing does."""
-    values = json.loads(readings)
+    values, _ = _cells(readings)
     if not len(plan.pipes) == len(values) == len(plant.streams) or max(1, len(plan.places) - 1) != plant.units:
         return f"the list has {len(values)} streams and {len(plan.places) - 1} units, the plant file {len(plant.streams)} and {plant.units}"
     unit = float(plan.unit)
     for pipe, value, ends, stream in zip(plan.pipes, values, plan.ranges, plant.streams):
-        if (pipe.source, pipe.target, value != 0) != (stream.source, stream.target, stream.metered):
+        if (pipe.source, pipe.target, isinstance(value, list)) != (stream.source, stream.target, stream.metered):
             return f"{pipe.title} has other ends or another meter in the plant file"
-        if value and (_whole(value[0], plan.unit, unit), _weight(value[1:], plan.unit), *ends) != (stream.reading, stream.weight, stream.low, stream.high):
+        if stream.metered and (_whole(value[0], plan.unit, unit), _weight(value[1:], plan.unit), *ends) != (stream.reading, stream.weight, stream.low, stream.high):
             return f"{pipe.title} has another reading, accuracy, range or unit in the plant file"
     return None
 
@@ -223,7 +233,7 @@ class Kept:
 
     def site(self) -> Site:
         """The site with its names and readings; Damaged if what is kept cannot be read."""
-        return self._readable(lambda: site_from(self.told, self.readings, self.plant, self.name))
+        return self._readable(lambda: site_from(self.told, self.readings, self.plant, self.name, self.hour))
 
     def balance(self) -> Balance:
         """The sheet with its names, read by the sheet reader; Damaged if what is kept cannot be read."""
@@ -233,7 +243,7 @@ class Kept:
         if self.kind == FLOW:
             from ..balance.sheet import checked_balance
 
-            return checked_balance(plan_of(self.told).list(self.readings, self.name), self.checked())
+            return checked_balance(plan_of(self.told).list(self.readings, self.name, self.hour), self.checked())
         return reopened(self.site(), self.sheet)
 
     def checked(self) -> Any:
