@@ -145,6 +145,7 @@ if [ -n "$absent" ]; then
     skip "the Python binding and the desk tool" "no$absent"
 elif part "the Python binding and the desk tool" "$compiler"; then
     long || export CHROMIUM=none
+    ! long || export WENGELUDO_AGREED=${WENGELUDO_AGREED:-100000}
     bash desk/test.sh
 fi
 if part "wrong programs of the host" python3 "$compiler"; then
