@@ -164,6 +164,7 @@ if long && part "the list of meters worth a visit, a short run" cargo; then
 fi
 if long && part "the check of a sheet, a short run" cargo; then
     quietly target/host/checks.log "$rows" bash host/bench/checks.sh 20 1
+    quietly target/host/flows.log "$rows" bash host/bench/flows.sh 20 1
 fi
 fuzzer() { echo 'int LLVMFuzzerTestOneInput(const char *d, long n) { return n < 0 && *d; }' | clang -fsanitize=fuzzer -x c - -o /dev/null 2>/dev/null; }
 if there clang && ! fuzzer && [ "${SKIP_MISSING:-0}" = 1 ]; then
