@@ -97,6 +97,15 @@ def test_a_range_is_never_rounded_outwards(run, listed):
         read_site(narrow, Fraction(50))
 
 
+def test_a_range_with_one_end(listed):
+    """The other end is as far as the engine goes, and the one that is given holds."""
+    text = "from,to,reading,accuracy,low,high\noutside,a,100,5,{},{}\na,outside,100,5,,\n"
+    most = engine.WIDEST
+    for low, high, wanted in (("105", "", (105, most)), ("", "95", (-most, 95)), ("", "", (None, None))):
+        first = read_site(listed(text.format(low, high)), Fraction(1)).plant.streams[0]
+        assert (first.low, first.high) == wanted
+
+
 @pytest.mark.parametrize("minus", ["-", "−", "–", "\u2010", "\u2011"])
 def test_signs(minus, listed):
     """What looks like a minus is one."""

@@ -205,6 +205,26 @@ def test_the_legend_of_ranges_that_cannot_be_kept(run, tmp_path):
         assert look(svg, k) == next(sample for text, sample in legend.items() if text.startswith(word))
 
 
+@pytest.mark.parametrize("name", ["steam_site.csv", "steam_site.xlsx"])
+def test_arrows_lead_from_one_place_to_the_other(name, run, tmp_path):
+    """Each has a head that is a triangle behind its tip, and the tip is nearer to the unit it leads to than the line's start is."""
+    run("sheet", SAMPLES / name, "-o", tmp_path / "a.svg")
+    svg, site = ElementTree.parse(tmp_path / "a.svg").getroot(), read_site(SAMPLES / name)
+    groups = {part.get("id"): part for part in svg.iter(f"{SVG}g") if part.get("id")}
+    for k, pipe in enumerate(site.list.pipes):
+        tip, *sides = (tuple(map(float, point.split(","))) for point in groups[f"stream-{k}"].find(f"{SVG}polygon").get("points").split())
+        knots = [tuple(map(float, point.split(","))) for point in re.findall(r"-?[\d.]+(?:e-\d+)?,-?[\d.]+(?:e-\d+)?", groups[f"stream-{k}"].findall(f"{SVG}path")[-1].get("d"))]
+        (ax, ay), (bx, by) = sides
+        area = abs((ax - tip[0]) * (by - tip[1]) - (bx - tip[0]) * (ay - tip[1])) / 2
+        assert 10 < area < 30 and abs((ax - bx) ** 2 + (ay - by) ** 2 - 4 * 2.45**2) < 1
+        assert min((tip[0] - x) ** 2 + (tip[1] - y) ** 2 for x, y in (knots[-1],)) < 150
+        for place, point in ((pipe.source, knots[0]), (pipe.target, tip)):
+            if place:
+                box = groups[f"unit-{place}"].find(f"{SVG}rect")
+                left, top, wide, high = (float(box.get(word)) for word in ("x", "y", "width", "height"))
+                assert left - 12 <= point[0] <= left + wide + 12 and top - 12 <= point[1] <= top + high + 12, (pipe.label, place)
+
+
 def test_width_grows_with_the_flow(run, tmp_path):
     run("sheet", SAMPLES / "steam_site.csv", "-o", tmp_path / "a.svg")
     svg, drawn = ElementTree.parse(tmp_path / "a.svg").getroot(), balance(read_site(SAMPLES / "steam_site.csv"))

@@ -198,6 +198,10 @@ int main()
     expect("place_numbers", placed.number == w::refusal::slice_too_short && placed.count == 516, {of(file), of(flows)});
     expect("version", w::version() == 70'503, {});
     expect("first", out.first(5).size() == 5 && out.first(13).size() == 13 && out.first(14).size() == 13 && out.first(5).data() == out.data(), {});
+    expect("empty", w::bytes{}.empty() && !out.empty() && w::bytes{}.size() == 0 && w::bytes{}.data() == nullptr, {});
+    expect("begin and end", out.begin() == out.data() && out.end() == out.data() + 13 && &out[4] == out.data() + 4, {});
+    const w::parts none{};
+    expect("parts of nothing", none.units == 0 && none.count == 0 && none.from.empty() && none.high.empty(), {});
     expect("text", placed.text()[0] == 'a' && placed.text() == w::text(w::refusal::slice_too_short), {});
     return failed;
 }

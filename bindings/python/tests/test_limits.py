@@ -126,3 +126,20 @@ def test_kinds_and_verdicts():
     told = {name: getattr(lib, f"WENGELUDO_{name}") for name in ("PASS", "FAIL", "NONE", "CLOSE")}
     assert told == {verdict.name: int(verdict) for verdict in w.Verdict}
     assert str(sheet) == "1 R 7\n2 G 7\n3 W -\n4 W -\ntotal 1 0 0 none\n"
+
+
+def test_rows_at_the_limits_and_beyond():
+    """A row that is refused is empty, and numbers that no field of C holds are refused like any other."""
+    np = pytest.importorskip("numpy")
+    plant = w.Plant(1, (w.Stream(0, 1, 1, 0), w.Stream(1, 0, 1, 0)))
+    readings = np.array([[LIMITS["MAX_READING"]] * 2, [LIMITS["MAX_READING"] + 1] * 2, [5, 7]])
+    done = w.rows(plant, readings, np.array([10.0, 10.0]), np.full((3, 2), w.MEASURED), rates=[5])
+    found = done.arrays()
+    assert list(found["refusal"]) == [0, 10, 0]
+    for name, array in found.items():
+        if name not in ("refusal", "unbilled"):
+            assert not np.any(array[1]), f"{name} of a row that is refused"
+    one = [w.MEASURED]
+    for streams, rates, refused in (((w.Stream(0, 256, 1, 0),), None, 7), ((w.Stream(1, 0, 1, 0),), [-1], 24), ((w.Stream(1, 0, 1, 0),), [65_536], 24)):
+        told = w.rows(w.Plant(1, streams), [[5]], [10.0], [one], rates=rates).arrays()
+        assert int(told["unbilled" if rates else "refusal"][0]) == refused, told
