@@ -49,7 +49,7 @@ SUBJECTS = (
     ("steam charges", {"linked": {"wengeludo_charges"}}, ("charge_def/Says/Steam-charges",)),
     ("sheets drawn up elsewhere", {"linked": {"wengeludo_check_sheet", "wengeludo_place_numbers"}},
      ("foreign_def/Says/Foreign-sheets", "foreign_def/Numbers/Own-numbers")),
-    ("flows found elsewhere", {"linked": {"wengeludo_check_flow"}}, ()),
+    ("flows found elsewhere", {"linked": {"wengeludo_check_flow"}}, ("certify_sheets/Promise/Flows-found-elsewhere",)),
     ("bounds, and the record of all promises", {"linked": None}, ("promises/Engine/Engine",)),
 )
 

@@ -20,8 +20,8 @@ use Rattle.plant_parts.proofs.Gather.{least-left, least-right}
 use Rattle.plant_def.specs.declared.Stream.{Stream}
 use Rattle.flow_def.specs.Flows.{amountAt}
 use Rattle.certify_def.specs.declared.WideStream.{WideStream}
-use Rattle.certify_def.specs.Number.{maxWideFlow, maxWideNumber, shortest, wideFaults, certifies, widePlant, flowNumber}
-use Rattle.certify_def.specs.Test.{plainly, noWide, wideAt, Gathered, Handed, callNumber, allSmall, netsFit, flowsFit, rulesHold}
+use Rattle.certify_def.specs.Number.{maxWideFlow, maxWideNumber, shortest, wideFaults, widePlant}
+use Rattle.certify_def.specs.Test.{plainly, noWide, wideAt, Gathered, Handed, callNumber, allSmall, netsFit, flowsFit, rulesHold, certifies, flowNumber}
 use Rattle.certify_def.proofs.Answer.{faults-same, rules-by}
 
 -- Every slice reaches so many streams.

@@ -8,14 +8,16 @@ use Prim.Native.Nat.{ℕ, zero, suc, _+_, _≤_, _<_}
 use native.Mathlib.Omega.{arith}
 use native.Mathlib.Decide.{ℕ-discrete}
 use native.Mathlib.Numerals.{add-one}
-use borrow.Author.Tests.{ltb-false, eq-eqb, eqb-false, not-false}
+use borrow.Author.Tests.{ltb-false, eq-eqb, eqb-false, leb-true, le-leb, not-false}
 use lib.Dec.{eqb, ltb, leb}
 use lib.ListN.{length, take, getD}
 use lib.Seq.{getD-take, length-take-le}
 use Rattle.num_bytes.specs.Choice.{refuseIf, firstOf}
 use Rattle.num_bytes.specs.Inner.{values}
-use Rattle.num_bytes.proofs.Tests.{and-left, and-right, and-both, or-none-left, or-none-right, refuse-none, first-none-left, first-none-right, second-is, this-first, same-test}
+use Rattle.num_bytes.proofs.Tests.{and-left, and-right, and-both, or-none-left, or-none-right, same-test, by-cases, clash}
+use Rattle.num_bytes.proofs.Tests.{refuse-none, first-none-left, first-none-right, first-is, second-is, this-first}
 use Rattle.num_bytes.proofs.Lists.{values-long, values-at}
+use Rattle.num_bytes.proofs.Integers.{minus-none, none-minus}
 use Rattle.num_bytes.proofs.Sums.{sum, sum-same}
 use Rattle.plant_def.specs.declared.Stream.{Stream}
 use Rattle.plant_def.specs.Limits.{maxStreams}
@@ -25,12 +27,14 @@ use Rattle.flow_def.specs.Flows.{streamAt, amountAt, netAt, balancedTo, balance
 use Rattle.flow_def.specs.Nets.{brought}
 use Rattle.flow_def.specs.Certificate.{climb, inKilter, every, listedPotential}
 use Rattle.foreign_def.specs.Test.{flowFits}
-use Rattle.flow_def.proofs.Nets.{net-is}
-use Rattle.flow_def.proofs.Ranges.{ranges-at, ranges-all}
-use Rattle.flow_def.proofs.Certified.{every-at, every-all, every-same, kilter-says}
-use Rattle.certify_def.specs.Number.{maxWideWeight, maxWideReading, maxWideFlow, maxWideNumber, widePlant, shortest, wideFault, wideFaults, certifies, flowNumber}
-use Rattle.certify_def.specs.Says.{Vouched, FlowSays}
-use Rattle.certify_def.specs.Test.{WideWithin, AllWithin, allSmall, flowsFit, netTo, netsFit, rulesHold}
+use Rattle.flow_def.proofs.Nets.{net-is, balanced-size}
+use Rattle.flow_def.proofs.Potentials.{StepAt}
+use Rattle.flow_def.proofs.Ranges.{ranges-at, ranges-all, balanced-of, range-of}
+use Rattle.flow_def.proofs.Certified.{every-at, every-all, every-same, kilter-says, says-kilter}
+use Rattle.foreign_def.proofs.Stepping.{step-level, level-step, between-step, step-bottom, step-top}
+use Rattle.certify_def.specs.Number.{maxWideWeight, maxWideReading, maxWideFlow, maxWideNumber, widePlant, shortest, wideFault, wideFaults, flowFault}
+use Rattle.certify_def.specs.Says.{Vouched, Certifies, FlowSays}
+use Rattle.certify_def.specs.Test.{WideWithin, AllWithin, allSmall, flowsFit, netTo, netsFit, rulesHold, certifies, flowNumber}
 use Rattle.certify_def.proofs.Sound.{vouched}
 
 some-of : (w : ℕ) → eqb w 0 ≡ false → 1 ≤ w
@@ -128,9 +132,115 @@ zero-sound n c parts flow numbers e =
     rules : allowed p xs && every (length (p .streams)) (λ k. inKilter (listedPotential numbers) (streamAt (p .streams) k) (amountAt xs k)) ≡ true
     rules = and-right (allSmall (length xs) xs maxWideFlow && allSmall (suc n) numbers maxWideNumber) _ all-rules
 
--- What the number says, and what its 0 does.
+-- The rules, computed.
+module _ (p : Plant) (xs numbers : List ℤ) where
+  abbrev s : ℕ → Stream
+  s k = streamAt (p .streams) k
+
+  abbrev π : ℕ → ℤ
+  π = listedPotential numbers
+
+  -- Where the test answers true the rules hold,
+  pub certified : certifies p xs numbers ≡ true → Certifies p xs numbers
+  certified t = record {
+    small-flows = λ k l. leb-true _ maxWideFlow (every-at (length xs) _ (and-left (allSmall (length xs) xs maxWideFlow) _ sizes) k (rw size l));
+    small-numbers = λ u l. leb-true _ maxWideNumber (every-at (suc (p .units)) (λ v. leb (natAbs (π v)) maxWideNumber) (and-right (allSmall (length xs) xs maxWideFlow) _ sizes) u (omega arith));
+    balance = ranged;
+    from-bottom = λ k i. step-bottom π (s k) (amountAt xs k) (i .1) (range-of 1 p xs ranged k (i .0)) (steps k (i .0));
+    to-top = λ k i. step-top π (s k) (amountAt xs k) (i .1) (range-of 1 p xs ranged k (i .0)) (steps k (i .0));
+    equal = λ k i. sym (minus-none (π (s k .to)) (π (s k .from)) (step-level π (s k) (i .1) (amountAt xs k) (steps k (i .0))));
+  }
+    where
+      sizes : allSmall (length xs) xs maxWideFlow && allSmall (suc (p .units)) numbers maxWideNumber ≡ true
+      sizes = and-left (allSmall (length xs) xs maxWideFlow && allSmall (suc (p .units)) numbers maxWideNumber) _ t
+
+      rules : allowed p xs && every (length (p .streams)) (λ k. inKilter π (s k) (amountAt xs k)) ≡ true
+      rules = and-right (allSmall (length xs) xs maxWideFlow && allSmall (suc (p .units)) numbers maxWideNumber) _ t
+
+      ranged : allowed p xs ≡ true
+      ranged = and-left (allowed p xs) _ rules
+
+      size : length xs ≡ length (p .streams)
+      size = balanced-size p xs (balanced-of 1 p xs ranged)
+
+      steps : (k : ℕ) → k < length (p .streams) → StepAt 1 π (s k) (amountAt xs k)
+      steps k l = kilter-says π (s k) (amountAt xs k) (every-at (length (p .streams)) _ (and-right (allowed p xs) _ rules) k l)
+
+  -- and where they hold it does.
+  pub tested : Certifies p xs numbers → certifies p xs numbers ≡ true
+  tested c =
+      and-both _ _
+      (and-both _ _ (every-all (length xs) _ (λ k l. le-leb _ maxWideFlow (c .small-flows k (rw size at l))))
+      (every-all (suc (p .units)) _ (λ u l. le-leb _ maxWideNumber (c .small-numbers u (omega arith)))))
+      (and-both _ _ (c .balance) (every-all (length (p .streams)) _ (λ k l. says-kilter π (s k) (amountAt xs k) (step k l))))
+    where
+      size : length xs ≡ length (p .streams)
+      size = balanced-size p xs (balanced-of 1 p xs (c .balance))
+
+      step : (k : ℕ) → k < length (p .streams) → StepAt 1 π (s k) (amountAt xs k)
+      step k l = by-cases (s k .metered)
+          (λ m. between-step π (s k) (amountAt xs k) m (c .from-bottom k (l, m)) (c .to-top k (l, m)))
+          (λ m. level-step π (s k) m (amountAt xs k) (none-minus (π (s k .to)) (π (s k .from)) (sym (c .equal k (l, m)))))
+
+first-again : (a b d : ℕ) → firstOf a (firstOf b d) ≡ firstOf (firstOf a b) d
+first-again zero b d = refl
+first-again (suc a) b d = refl
+
+-- The answer is the call's fault, then that of the rules.
+number-is : (n c : ℕ) (parts : Slices) (flow numbers : List ℤ)
+    → flowNumber n c parts flow numbers
+    ≡ firstOf (flowFault n c parts (length flow) (length numbers)) (refuseIf (not (certifies (widePlant n c parts) (take c flow) numbers)) 26)
+number-is n c parts flow numbers =
+    ap (λ (x : ℕ). firstOf short (firstOf (unitsFault n) x)) (first-again many (wideFaults n (partsAt parts) c) rest)
+    ∙ ap (firstOf short) (first-again (unitsFault n) (firstOf many (wideFaults n (partsAt parts) c)) rest)
+    ∙ first-again short (firstOf (unitsFault n) (firstOf many (wideFaults n (partsAt parts) c))) rest
+  where
+    short : ℕ
+    short = refuseIf (ltb (least (shortest parts) (length flow)) c || ltb (length numbers) (suc n)) 1
+
+    many : ℕ
+    many = refuseIf (ltb maxStreams c) 5
+
+    rest : ℕ
+    rest = refuseIf (not (certifies (widePlant n c parts) (take c flow) numbers)) 26
+
+-- What the number says.
 pub says-of : (n c : ℕ) (parts : Slices) (flow numbers : List ℤ) (r : ℕ) → r ≡ flowNumber n c parts flow numbers → FlowSays n c parts flow numbers r
-says-of n c parts flow numbers r e = record { number = e; sound = λ z. zero-sound n c parts flow numbers (sym e ∙ z) }
+says-of n c parts flow numbers r e = record {
+  fault = λ z. is ∙ sym (first-is f rest z);
+  passed = λ z h. is ∙ sym (second-is f rest z) ∙ rw (tested p xs numbers h);
+  broken = λ z h. is ∙ sym (second-is f rest z) ∙ by-cases (certifies p xs numbers) (λ t. absurd (h (certified p xs numbers t))) (λ t. rw t);
+  sound = λ z. zero-sound n c parts flow numbers (sym e ∙ z);
+}
+  where
+    p : Plant
+    p = widePlant n c parts
+
+    xs : List ℤ
+    xs = take c flow
+
+    f : ℕ
+    f = flowFault n c parts (length flow) (length numbers)
+
+    rest : ℕ
+    rest = refuseIf (not (certifies (widePlant n c parts) (take c flow) numbers)) 26
+
+    is : r ≡ firstOf f rest
+    is = e ∙ number-is n c parts flow numbers
+
+-- The number is said.
+pub said-is : (n c : ℕ) (parts : Slices) (flow numbers : List ℤ) (r : ℕ) → FlowSays n c parts flow numbers r → r ≡ flowNumber n c parts flow numbers
+said-is n c parts flow numbers r s =
+    elim (ℕ-discrete (flowFault n c parts (length flow) (length numbers)) 0) [
+      | yes z ↦ by-cases (certifies (widePlant n c parts) (take c flow) numbers)
+          (λ t. s .passed z (certified (widePlant n c parts) (take c flow) numbers t) ∙ sym (number-is n c parts flow numbers ∙ sym (second-is f _ z) ∙ rw t))
+          (λ t. s .broken z (λ h. clash (certifies (widePlant n c parts) (take c flow) numbers) (tested (widePlant n c parts) (take c flow) numbers h) t)
+          ∙ sym (number-is n c parts flow numbers ∙ sym (second-is f _ z) ∙ rw t))
+      | no z ↦ s .fault z ∙ sym (number-is n c parts flow numbers ∙ sym (first-is f _ z))
+    ]
+  where
+    f : ℕ
+    f = flowFault n c parts (length flow) (length numbers)
 
 -- Units of which each net is 0, by sums.
 balanced-by : (n : ℕ) (ss : List Stream) (xs : List ℤ) → balancedTo n ss xs ≡ every n (λ u. eqb (natAbs (netAt (suc u) ss xs)) 0)

@@ -1,19 +1,16 @@
--- The number that the check of a flow found elsewhere answers, over a plant of wide numbers.
-use mathlib.Core.Bool.{Bool, not, _&&_, _||_}
-use mathlib.Core.List.{List}
-use lib.IntN.{ℤ, natAbs}
+-- A plant of wide numbers, handed over in slices, and its faults.
+use mathlib.Core.Bool.{_&&_, _||_}
+use lib.IntN.{natAbs}
 use lib.Signed.{ltZ}
 use Prim.Native.Nat.{ℕ, zero, suc}
-use lib.Dec.{eqb, ltb, leb}
-use lib.ListN.{length, take}
+use lib.Dec.{eqb, ltb}
+use lib.ListN.{length}
 use Rattle.num_bytes.specs.Choice.{pick, refuseIf, firstOf}
 use Rattle.num_bytes.specs.Inner.{values}
 use Rattle.plant_def.specs.declared.Stream.{Stream}
 use Rattle.plant_def.specs.Limits.{maxStreams}
 use Rattle.plant_def.specs.Plants.{Plant, unitsFault}
 use Rattle.plant_parts.specs.Parts.{Slices, partsAt, least}
-use Rattle.flow_def.specs.Flows.{streamAt, amountAt, allowed}
-use Rattle.flow_def.specs.Certificate.{inKilter, every, listedPotential}
 
 -- The limits: a weight, and a reading, 2^40; a flow, 2^55; the number of a place, 2^61. (Ends of a range have none but 64 bits.)
 abbrev pub maxWideWeight : ℕ
@@ -56,17 +53,9 @@ abbrev pub wideFaults : ℕ → (ℕ → Stream) → ℕ → ℕ
 wideFaults n s zero = 0
 wideFaults n s (suc k) = firstOf (wideFaults n s k) (wideFault n (s k))
 
--- The rules: flows and numbers within their limits, the flow balanced and in range, each stream's numbers within its bounds.
-abbrev pub certifies : Plant → List ℤ → List ℤ → Bool
-certifies p xs numbers =
-    (every (length xs) (λ k. leb (natAbs (amountAt xs k)) maxWideFlow)
-    && every (suc (p .units)) (λ u. leb (natAbs (listedPotential numbers u)) maxWideNumber))
-    && (allowed p xs && every (length (p .streams)) (λ k. inKilter (listedPotential numbers) (streamAt (p .streams) k) (amountAt xs k)))
-
--- The answer: a slice too short 1, then the faults of the parts, then 26 where a rule is broken; else 0.
-abbrev pub flowNumber : ℕ → ℕ → Slices → List ℤ → List ℤ → ℕ
-flowNumber n c parts flow numbers =
-    firstOf (refuseIf (ltb (least (shortest parts) (length flow)) c || ltb (length numbers) (suc n)) 1)
-    (firstOf (unitsFault n)
-    (firstOf (refuseIf (ltb maxStreams c) 5)
-    (firstOf (wideFaults n (partsAt parts) c) (refuseIf (not (certifies (widePlant n c parts) (take c flow) numbers)) 26))))
+-- The fault of a call over c streams with so many flows and numbers of the places: a slice too short 1, then those of the plant, 6, 5, then
+-- the first stream's.
+abbrev pub flowFault : ℕ → ℕ → Slices → ℕ → ℕ → ℕ
+flowFault n c parts flows numbers =
+    firstOf (refuseIf (ltb (least (shortest parts) flows) c || ltb numbers (suc n)) 1)
+    (firstOf (unitsFault n) (firstOf (refuseIf (ltb maxStreams c) 5) (wideFaults n (partsAt parts) c)))

@@ -1,23 +1,23 @@
 -- The check as the code makes it, over streams by their numbers. For proofs and for what inner calls promise: no public promise cites it.
 use mathlib.Core.Path.{_≡_}
-use mathlib.Core.Bool.{Bool, true, false, _&&_, _||_}
+use mathlib.Core.Bool.{Bool, true, false, not, _&&_, _||_}
 use mathlib.Core.List.{List}
 use lib.IntN.{ℤ, pos, natAbs}
 use Prim.Native.Nat.{ℕ, suc, _≤_, _<_}
 use lib.Dec.{eqb, ltb, leb}
-use lib.ListN.{length, getD}
+use lib.ListN.{length, getD, take}
 use Rattle.num_bytes.specs.Choice.{refuseIf, firstOf}
 use Rattle.num_bytes.specs.Sums.{sum}
 use Rattle.plant_def.specs.declared.Stream.{Stream}
 use Rattle.plant_def.specs.Limits.{maxUnits, maxStreams}
-use Rattle.plant_def.specs.Plants.{unitsFault}
-use Rattle.plant_parts.specs.Parts.{Slices, partsAt}
-use Rattle.flow_def.specs.Flows.{amountAt}
+use Rattle.plant_def.specs.Plants.{Plant, unitsFault}
+use Rattle.plant_parts.specs.Parts.{Slices, partsAt, least}
+use Rattle.flow_def.specs.Flows.{streamAt, amountAt, allowed}
 use Rattle.flow_def.specs.Nets.{brought}
-use Rattle.flow_def.specs.Certificate.{climb, every, listedPotential}
+use Rattle.flow_def.specs.Certificate.{climb, inKilter, every, listedPotential}
 use Rattle.foreign_def.specs.Test.{flowFits}
 use Rattle.certify_def.specs.declared.WideStream.{WideStream}
-use Rattle.certify_def.specs.Number.{maxWideWeight, maxWideReading, maxWideFlow, maxWideNumber}
+use Rattle.certify_def.specs.Number.{maxWideWeight, maxWideReading, maxWideFlow, maxWideNumber, widePlant, shortest, wideFaults}
 
 -- A stream of wide numbers as a stream.
 abbrev pub plainly : WideStream → Stream
@@ -99,3 +99,18 @@ netsFit s x c n = every n (λ u. eqb (natAbs (netTo s x (suc u) c)) 0)
 abbrev pub rulesHold : ℕ → ℕ → (ℕ → Stream) → List ℤ → List ℤ → Bool
 rulesHold n c s flow numbers =
     (allSmall c flow maxWideFlow && allSmall (suc n) numbers maxWideNumber) && (netsFit s (amountAt flow) c n && flowsFit s (amountAt flow) numbers c)
+
+-- The rules as one test: flows and numbers within their limits, the flow balanced and in range, each stream's numbers within its bounds.
+abbrev pub certifies : Plant → List ℤ → List ℤ → Bool
+certifies p xs numbers =
+    (every (length xs) (λ k. leb (natAbs (amountAt xs k)) maxWideFlow)
+    && every (suc (p .units)) (λ u. leb (natAbs (listedPotential numbers u)) maxWideNumber))
+    && (allowed p xs && every (length (p .streams)) (λ k. inKilter (listedPotential numbers) (streamAt (p .streams) k) (amountAt xs k)))
+
+-- The answer: a slice too short 1, then the faults of the parts, then 26 where a rule is broken; else 0.
+abbrev pub flowNumber : ℕ → ℕ → Slices → List ℤ → List ℤ → ℕ
+flowNumber n c parts flow numbers =
+    firstOf (refuseIf (ltb (least (shortest parts) (length flow)) c || ltb (length numbers) (suc n)) 1)
+    (firstOf (unitsFault n)
+    (firstOf (refuseIf (ltb maxStreams c) 5)
+    (firstOf (wideFaults n (partsAt parts) c) (refuseIf (not (certifies (widePlant n c parts) (take c flow) numbers)) 26))))

@@ -19,6 +19,7 @@ use Rattle.visit_def.proofs.Promise.{meters-worth-a-visit}
 use Rattle.visit_text.proofs.Promise as Visit-texts
 use Rattle.charge_def.proofs.Promise.{steam-charges}
 use Rattle.foreign_def.proofs.Promise.{foreign-sheets, own-numbers}
+use Rattle.certify_sheets.proofs.Promise.{flows-found-elsewhere}
 use Rattle.promises.specs.Promises.{Promises}
 use Rattle.promises.proofs.Bounds.{without-19, bounds}
 use Rattle.promises.proofs.SheetCalls.{sheet-calls}
@@ -50,6 +51,7 @@ promises = record {
   steam-charges = steam-charges;
   foreign-sheets = foreign-sheets;
   own-numbers = own-numbers;
+  flows-found-elsewhere = flows-found-elsewhere;
   without-19 = without-19;
   bounds = bounds;
 }

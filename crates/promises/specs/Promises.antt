@@ -20,6 +20,7 @@ use Rattle.visit_text.specs.Says as Visit-texts
 use Rattle.charge_def.specs.Says.{Steam-charges}
 use Rattle.foreign_def.specs.Says.{Foreign-sheets}
 use Rattle.foreign_def.specs.Numbers.{Own-numbers}
+use Rattle.certify_sheets.specs.Promise.{Flows-found-elsewhere}
 use Rattle.promises.specs.Bounds.{Without-19, Bounds}
 use Rattle.promises.specs.SheetCalls.{Sheet-calls}
 use Rattle.promises.specs.Once.{Lent-once}
@@ -59,6 +60,8 @@ pub record Promises : Type 0 where
   -- Sheets drawn up elsewhere, and numbers of the places of our own.
   pub foreign-sheets : Foreign-sheets
   pub own-numbers : Own-numbers
+  -- Flows found elsewhere, over wide numbers.
+  pub flows-found-elsewhere : Flows-found-elsewhere
   -- Numbers that are never given, and bounds.
   pub without-19 : Without-19
   pub bounds : Bounds

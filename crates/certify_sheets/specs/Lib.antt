@@ -1,0 +1,2 @@
+-- What is promised of the check of a flow found elsewhere.
+pub mod Promise
