@@ -19,6 +19,8 @@ from wengeludo.read.faults import Faulty, Stopped
 from wengeludo.read.lists import COLUMNS, read_list
 from wengeludo.write.layout import layout_of
 from wengeludo.write.paint import paint
+from wengeludo.balance.checked import Checked
+from wengeludo.balance.kind import SheetKind
 from wengeludo.balance.sheet import balance
 from wengeludo.balance.site import site_of
 from wengeludo.explain.why import overfull, why
@@ -72,7 +74,14 @@ def ends_well(path):
     if drawn.refused:
         assert overfull(drawn)
         return
-    engine.check_sheet(site.file, drawn.drawn, engine.place_numbers(site.file))
+    if drawn.kind is SheetKind.ENGINE:
+        engine.check_sheet(site.file, drawn.drawn, engine.place_numbers(site.file))
+    elif drawn.checked:
+        assert Checked.from_json(drawn.checked.to_json()) == drawn.checked
+        drawn.checked.recheck()
+    if drawn.flowless:
+        assert drawn.reason
+        return
     for k in range(len(pipes.pipes)):
         assert why(drawn, k)
 

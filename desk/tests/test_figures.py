@@ -11,7 +11,7 @@ from fractions import Fraction
 import pytest
 
 import wengeludo_balance as engine
-from wengeludo.balance import sheet as sheets
+from wengeludo.balance.limits import CRITICAL
 from wengeludo.balance.site import read_site
 from wengeludo.read.faults import Faulty, Stopped
 from wengeludo.read.lists import read_list
@@ -30,8 +30,8 @@ def ring(units, cost):
 
 def test_critical_values():
     """Each is the greatest cost that the engine lets pass."""
-    assert len(sheets.CRITICAL) == 32
-    for units, value in enumerate(sheets.CRITICAL, 1):
+    assert len(CRITICAL) == 32
+    for units, value in enumerate(CRITICAL, 1):
         assert ring(units, value) is engine.Verdict.PASS and ring(units, value + 1) is not engine.Verdict.PASS, units
 
 

@@ -11,6 +11,7 @@ import wengeludo_balance as engine
 from wengeludo.explain import together
 from wengeludo.balance.graph import across, groups, rings, summed
 from wengeludo.read.lists import read_list
+from wengeludo.balance.kind import SheetKind
 from wengeludo.balance.sheet import balance
 from wengeludo.balance.site import read_site, site_of
 from wengeludo.balance.spread import spreads
@@ -116,7 +117,7 @@ def test_units():
 def test_a_unit_keeps_decimals(listed):
     site = read_site(listed("from,to,reading,accuracy\noutside,kettle,12.3,0.3\nkettle,outside,12.9,0.3\n"))
     drawn = balance(site)
-    assert site.unit < 1 and site.clamps == ()
+    assert site.unit < 1 and drawn.kind is SheetKind.ENGINE
     assert drawn.lines[0].flow == drawn.lines[1].flow == pytest.approx(12.6, abs=float(site.unit))
     assert site.shown(12.6) == "12.60" if site.unit == Fraction(1, 20) else True
 

@@ -190,7 +190,7 @@ def test_the_legend_says_what_the_drawing_shows(name, run, tmp_path):
     legend = legend_of(svg)
     words = {"A": "corrected", "R": "as read", "G": "deduced", "W": "not known"}
     for k, line in enumerate(drawn.lines):
-        word = "worst" if k == drawn.worst else "over 2" if line.notable else words[line.kind.value]
+        word = "beyond chance" if k in drawn.worst else "over 1.96" if line.notable else words[line.kind.value]
         assert look(svg, k) == next(sample for text, sample in legend.items() if word in text), (k, word)
     assert len(set(legend.values())) == len(legend) == 6
 

@@ -18,7 +18,6 @@ import wengeludo_balance as engine
 
 from wengeludo.balance.sheet import Balance, reopened
 from wengeludo.balance.site import Site
-from wengeludo.balance.unit import clamp
 from wengeludo.read.faults import Stopped
 from wengeludo.read.lists import Pipe, PipeList
 from wengeludo.read.numbers import Accuracy
@@ -176,5 +175,4 @@ def _site(kept: Kept) -> Site:
         pipes.append(Pipe(row, label, what, stream.source, stream.target, reading, accuracy, stated, low, high, price, rate, tuple(extra)))
     spots = {place: (float(x), float(y)) for place, x, y in told.get("spots", ())}
     listed = PipeList(told["site"], tuple(pipes), tuple(told["places"]), tuple(told["extras"]), spots)
-    found = (clamp(pipe, stream.weight or 1, unit) for pipe, stream in zip(pipes, plant.streams))
-    return Site(listed, unit, plant, tuple(one for one in found if one))
+    return Site(listed, unit, plant)

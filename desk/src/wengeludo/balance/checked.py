@@ -12,7 +12,7 @@ import math
 from dataclasses import dataclass
 from fractions import Fraction
 from functools import cached_property
-from typing import Any, Dict, List, Optional, Tuple
+from typing import Any, Dict, List, Optional, Tuple, Union
 
 import wengeludo_balance as engine
 from wengeludo_balance import Verdict
@@ -111,7 +111,7 @@ def _stream(stream: Exact, unit: Fraction, factor: Fraction) -> engine.Stream:
     return engine.Stream(stream.source, stream.target, weight, round(stream.reading / unit), *ends)
 
 
-def pinned(plant: engine.WidePlant, flows: Tuple[int, ...]) -> engine.Plant:
+def pinned(plant: Union[engine.Plant, engine.WidePlant], flows: Tuple[int, ...]) -> engine.Plant:
     """The plant of the engine whose only metered flows in range are these."""
     most = 4_000_000
     streams = (

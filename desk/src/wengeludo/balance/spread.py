@@ -1,27 +1,27 @@
 """How sure a number is: one standard deviation, by linear propagation at the balanced flow. An estimate, in floats, of the tool's own.
 
 The corrections are linear in the readings as long as the same streams stay at the ends of their ranges; those are taken as fixed. With
-weights W of the free meters and M the balances of the groups, the balanced flow is P times the readings, P = 1 - W^-1 M' (M W^-1 M')^- M,
-and a meter's own deviation, as the list gives it, is carried through P.
+the squares V of the free meters' deviations, as the list gives them, and M the balances of the groups, the balanced flow is P times the
+readings, P = 1 - V M' (M V M')^- M, and a meter's own deviation is carried through P.
 """
 
 from __future__ import annotations
 
 from typing import Any, List, Optional, Sequence
 
-from wengeludo_balance import Kind, Plant, Record
+from wengeludo_balance import Kind, Plant, Record, Stream
 
 from .graph import groups, summed
+from .inverse import inverse
 
 
-def at_end(plant: Plant, records: Sequence[Record], k: int) -> Optional[str]:
+def at_end(stream: Stream, flow: Optional[int]) -> Optional[str]:
     """Whether a stream is held at an end of its range: low, high or neither."""
-    s, flow = plant.streams[k], records[k].flow
-    if not s.ranged or flow is None:
+    if not stream.ranged or flow is None:
         return None
-    if flow == s.high:
+    if flow == stream.high:
         return "high"
-    return "low" if flow == s.low else None
+    return "low" if flow == stream.low else None
 
 
 def spreads(plant: Plant, records: Sequence[Record], deviations: Sequence[Optional[float]]) -> List[Optional[float]]:
@@ -29,9 +29,10 @@ def spreads(plant: Plant, records: Sequence[Record], deviations: Sequence[Option
     import numpy as np  # only here and below: it is slow to load
 
     streams = plant.streams
-    free = [k for k, r in enumerate(records) if r.kind is Kind.ADJUSTED and not at_end(plant, records, k)]
+    free = [k for k, r in enumerate(records) if r.kind is Kind.ADJUSTED and not at_end(streams[k], r.flow)]
     as_read = [k for k, r in enumerate(records) if r.kind is Kind.AS_READ]
-    carried = _projector(plant, free) * np.array([deviations[k] for k in free], dtype=float)
+    own = np.array([deviations[k] for k in free], dtype=float)
+    carried = _projector(plant, free, own) * own
     rows = {k: carried[j] for j, k in enumerate(free)}
 
     def spread(k: int) -> Optional[float]:
@@ -44,13 +45,13 @@ def spreads(plant: Plant, records: Sequence[Record], deviations: Sequence[Option
             return None
         signed, _ = summed(streams, k)
         together = sum((sign * rows[j] for j, sign in signed if j in rows), np.zeros(len(free)))
-        own = sum(deviations[j] ** 2 for j, _ in signed if j in as_read)  # type: ignore[operator, misc]
-        return float(np.sqrt((together**2).sum() + own))
+        unchecked = sum(deviations[j] ** 2 for j, _ in signed if j in as_read)  # type: ignore[operator, misc]
+        return float(np.sqrt((together**2).sum() + unchecked))
 
     return [spread(k) for k in range(len(streams))]
 
 
-def _projector(plant: Plant, free: Sequence[int]) -> Any:
+def _projector(plant: Plant, free: Sequence[int], deviations: Any) -> Any:
     """P of the free meters, a matrix."""
     import numpy as np
 
@@ -59,6 +60,6 @@ def _projector(plant: Plant, free: Sequence[int]) -> Any:
         for column, k in enumerate(free):
             s = plant.streams[k]
             balances[row, column] = (s.target in group) - (s.source in group)
-    spread = np.diag([1 / plant.streams[k].weight for k in free])  # type: ignore[operator]
-    inverse = np.linalg.pinv(balances @ spread @ balances.T)
-    return np.eye(len(free)) - spread @ balances.T @ inverse @ balances
+    squares = deviations**2
+    carried = balances.T @ inverse((balances * squares) @ balances.T) @ balances
+    return np.eye(len(free)) - squares[:, None] * carried

@@ -1,7 +1,8 @@
-"""The unit in which a site's flows are written, and the weights that its meters then have.
+"""The unit in which the engine's own sheet of a list is drawn, and the weights that its meters then have.
 
 A weight is a whole number from 1 to 1,000, which holds deviations from 31.6 units down to 1. The unit is the one of 1, 2, 5 times a power
-of ten in which the fewest meters count with another accuracy than the list gives; of equally good ones the finest.
+of ten in which the fewest meters count with another accuracy than the list gives; of equally good ones the finest. Whether that sheet
+stands, the rule of `wide` decides.
 """
 
 from __future__ import annotations
@@ -11,7 +12,6 @@ from dataclasses import dataclass
 from fractions import Fraction
 from typing import List, Optional, Sequence, Tuple
 
-from ..read.faults import Stopped
 from ..read.lists import Pipe
 from ..read.numbers import deviation_of, exact
 
@@ -43,18 +43,10 @@ def _weight(pipe: Pipe, unit: Fraction) -> int:
     return weight_of(pipe.accuracy.deviation, unit)
 
 
-def clamp(pipe: Pipe, weight: int, unit: Fraction) -> Optional[Clamp]:
-    """Whether a meter with this weight counts with another accuracy than the list gives."""
-    if pipe.accuracy is None:
-        return None
-    given, counts = pipe.accuracy.deviation, deviation_of(weight, unit)
-    return Clamp(pipe, given, counts) if abs(counts / given - 1) > OFF else None
-
-
 def clamps(pipes: Sequence[Pipe], unit: Fraction) -> List[Clamp]:
-    """The meters that count with another accuracy than the list gives."""
-    found = (clamp(pipe, _weight(pipe, unit), unit) for pipe in pipes if pipe.accuracy)
-    return [one for one in found if one]
+    """The meters that count, in the engine's plant, with another accuracy than the list gives."""
+    counted = [Clamp(pipe, pipe.accuracy.deviation, deviation_of(_weight(pipe, unit), unit)) for pipe in pipes if pipe.accuracy]
+    return [one for one in counted if abs(one.counts / one.given - 1) > OFF]
 
 
 def holds(pipes: Sequence[Pipe], unit: Fraction) -> bool:
@@ -64,8 +56,8 @@ def holds(pipes: Sequence[Pipe], unit: Fraction) -> bool:
     return reach / unit <= MOST_READING and ends / unit <= MOST_RANGE
 
 
-def choose(pipes: Sequence[Pipe]) -> Fraction:
-    """The unit of a list. Weights in the list are in units of 1 kg/h, and then that is the unit."""
+def choose(pipes: Sequence[Pipe]) -> Optional[Fraction]:
+    """The unit of a list, none if its numbers fit in no unit. Weights in the list are in units of 1 kg/h, and then that is the unit."""
     if any(p.accuracy and p.accuracy.weight is not None for p in pipes) and holds(pipes, Fraction(1)):
         return Fraction(1)
     if not any(p.accuracy for p in pipes):
@@ -74,7 +66,7 @@ def choose(pipes: Sequence[Pipe]) -> Fraction:
     most, least = 2 * max(deviations), min(deviations) / 64
     fitting = [unit for unit in UNITS if holds(pipes, unit)]
     if not fitting:
-        raise Stopped("readings or ranges are too large for any unit")
+        return None
     near = [unit for unit in fitting if least <= unit <= most] or fitting[:1]
     return min(near, key=lambda unit: (_clamped(deviations, float(unit)), unit))
 

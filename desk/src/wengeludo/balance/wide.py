@@ -37,7 +37,9 @@ class Overfull(Exception):
 
 def solve(listed: Exacts) -> Checked:
     """Flows of least cost that the proved call has passed; Overfull if there are none in range, NotJudged if none were found."""
-    unit, smallest = _unit(listed), _smallest(listed)
+    unit, smallest = unit_of(listed), _smallest(listed)
+    if unit is None:
+        raise NotJudged("its readings are too large for any unit")
     for top in TOPS:
         factor = top * smallest / (unit * unit)
         plant = wide_plant(listed, unit, factor)
@@ -90,13 +92,13 @@ def _smallest(listed: Exacts) -> Fraction:
     return min((listed.streams[k].variance or Fraction(1) for k in listed.counting or metered), default=Fraction(1))
 
 
-def _unit(listed: Exacts) -> Fraction:
-    """The unit of a list."""
+def unit_of(listed: Exacts) -> Optional[Fraction]:
+    """The unit of a list; none if its readings are too large for any."""
     smallest, (near, all_) = _smallest(listed), _typed(listed)
     reach = max((abs(number) for number in near), default=Fraction(0))
     fits = [unit for unit in UNITS if 16 * reach <= 15 * REACH * unit]
     if not fits:
-        raise NotJudged("its readings are too large for any unit")
+        return None
     fine = [unit for unit in fits if (unit * PARTS) ** 2 <= smallest]
     whole = [unit for unit in fine if (unit * FINEST) ** 2 >= smallest and all((number / unit).denominator == 1 for number in all_)]
     return whole[-1] if whole else fine[-1] if fine else fits[0]

@@ -25,21 +25,32 @@ from .options import FILE, LIST, UNIT, UnitType
 def pack(list: Path, plant: Path, transmitter: bool, units: Optional[int], unit: Optional[Fraction]) -> int:
     """Writes the PLANT file of LIST."""
     site = site_in(list, unit)
+    lost = packing.lost(site)
     site = packing.with_units(site, units) if units else site
     data = packing.transmitter(site) if transmitter else site.file
     outputs.write(outputs.other(plant, list), data)
+    _tell_unit(outputs.other(plant_files.beside(plant), list), site.unit)
     places = ", ".join(f"{k} {name}" for k, name in enumerate(site.list.places))
-    terminal.lines([f"{plant}: {len(data)} bytes, flows in units of {float(site.unit):g} kg/h; places: {places}"])
+    terminal.lines([f"{plant}: {len(data)} bytes, flows in units of {float(site.unit):g} kg/h; places: {places}", *lost])
     return 0
+
+
+def _tell_unit(path: Path, unit: Fraction) -> None:
+    """Writes the unit beside a plant file, which has no room for it; in kg/h none is written, and one that is there goes."""
+    if unit != 1:
+        outputs.write(path, f"{unit} kg/h is the unit of the flows in this plant file\n".encode())
+    elif path.is_file():
+        path.unlink()
 
 
 @click.command()
 @click.argument("plant", type=FILE)
 @LIST
-@click.option("--unit", type=UnitType(), default="1", show_default=True, help="The unit of the plant file's flows in kg/h, as `pack` told it.")
-def unpack(plant: Path, list: Path, unit: Fraction) -> int:
+@click.option("--unit", type=UnitType(), help="The unit of the plant file's flows in kg/h; by default the one that `pack` told beside it, else 1.")
+def unpack(plant: Path, list: Path, unit: Optional[Fraction]) -> int:
     """Writes the LIST (CSV or XLSX) of a PLANT file or a transmitter file."""
-    pipes = plant_files.unpacked(plant, unit)
+    unit = unit or plant_files.unit_beside(plant) or Fraction(1)
+    pipes, _ = plant_files.unpacked(plant, unit)
     if not pipes.pipes:
         raise Stopped(f"{plant}: the plant has no stream, so there is nothing to list")
     outputs.write(outputs.other(list, plant), packing.written(pipes, list))

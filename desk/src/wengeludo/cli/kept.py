@@ -39,13 +39,16 @@ from .options import FAILED, FILE, LIST, OFFICE, OUTPUT, REFUSED, UNIT
 @WHO
 @click.option("--note", default="", help="A note kept beside the sheet.")
 def keep(list: Path, book: str, office: int, unit: Optional[Fraction], hour: str, who: str, note: str) -> int:
-    """Draws the sheet of LIST under the office's next number and keeps it in BOOK, which is made if there is none."""
+    """Draws the sheet of LIST under the office's next number and keeps it in BOOK, which is made if there is none. Checked flows are kept
+    under a number of their own kind; what is not judged is not kept."""
     site = site_in(list, unit)
+    drawn = balance(site, estimated=False)
+    if drawn.refused or drawn.verdict is None:
+        raise Stopped("\n".join(overfull(drawn)) if drawn.refused else f"{list}: not kept, as it is not judged: {drawn.reason}")
     hour = hour or site.list.hour
     with Book(book, make=not is_server(book)) as kept:
-        receipt = kept.keep_one(Draft(site, str(list.resolve()), hour, who, note=note), office)
-        if receipt is None:
-            raise Stopped("\n".join(overfull(balance(site))))
+        receipt = kept.keep_one(Draft(site, str(list.resolve()), hour, who, note=note, checked=drawn.checked), office)
+        assert receipt is not None
         verdict = engine.Verdict(kept.sheet(office, receipt.number, receipt.kind).verdict)
     terminal.lines([f"kept as {KIND[receipt.kind]} {receipt.number} of office {office} in {kept.title}: {VERDICT[verdict]}", hour_told(hour)])
     return FAILED if verdict is engine.Verdict.FAIL else 0
@@ -103,7 +106,7 @@ def _reopened(book: Book, found: Kept, paths: Sequence[Path]) -> int:
     terminal.lines([f"note: {found.note}"] if found.note else [])
     terminal.lines([f"ANNULLED by {found.annulled}"] if found.annulled else [])
     outputs.write_all(drawn, paths)
-    return FAILED if drawn.total.verdict is engine.Verdict.FAIL else 0
+    return FAILED if drawn.verdict is engine.Verdict.FAIL else 0
 
 
 @click.command()
@@ -130,7 +133,7 @@ def batch(folder: Path, summary: Path, book: Optional[str], office: int, unit: O
     with nullcontext() if book is None else Book(book, make=not is_server(book)) as kept, progress("sheets") as told:
         done = run_batch(folder, summary, unit, kept, office, jobs, told)
     outputs.write(summary.with_suffix(".svg"), chart(done, folder.resolve().name).encode())
-    counts = {word: sum(o.cells[0] == word for o in done) for word in ("pass", "close", "fail", "none", "no flow in range", "fault")}
+    counts = {word: sum(o.cells[0] == word for o in done) for word in ("pass", "close", "fail", "none", "not judged", "no flow in range", "fault")}
     summed = ", ".join(f"{count:,} {word}" for word, count in counts.items() if count)
     before = sum(o.before for o in done)
     known = f", {before:,} of them in the book before" if before else ""

@@ -8,10 +8,12 @@ from typing import Optional
 
 import click
 
+from ..balance.kind import SheetKind
 from ..balance.site import site_in
 from ..explain import purchase
+from ..explain.charges import bill as bill_of
 from ..write import terminal
-from .options import LIST, UNIT
+from .options import LIST, UNIT, sheet_of
 
 
 @click.command()
@@ -46,9 +48,11 @@ def layouts(list: Path, unit: Optional[Fraction]) -> int:
 @UNIT
 def bill(list: Path, unit: Optional[Fraction]) -> int:
     """What each stream to the outside is charged for one hour, by the column `rate`."""
-    site = site_in(list, unit)
-    charges, cents = purchase.bill(site, list)
+    drawn = sheet_of(list, unit)
+    site, (charges, cents) = drawn.site, bill_of(drawn, list)
     rows = [((c.pipe.label, c.pipe.what, site.shown(c.flow), f"{c.rate:,}", f"{c.cents:,}"), "") for c in charges]
     rows.append((("", "bill", "", "", f"{cents:,}"), "bold"))
     terminal.table(("stream", "what", "kg", "1/10,000 cent per kg", "cents"), rows, ("kg", "1/10,000 cent per kg", "cents"))
+    if drawn.kind is SheetKind.CHECKED:
+        terminal.lines([f"Flows: {drawn.kind.text}. Charges: worked out by the tool in exact fractions, rounded as the engine rounds them."])
     return 0

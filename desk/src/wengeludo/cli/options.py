@@ -33,7 +33,7 @@ class UnitType(click.ParamType):
             self.fail(f"{value} is no unit: a number of kg/h from 0.0001 to 1,000,000,000 would do", param, ctx)
 
 
-UNIT = click.option("--unit", type=UnitType(), help="The unit of the flows in kg/h; by default the one that keeps the most accuracies.")
+UNIT = click.option("--unit", type=UnitType(), help="The unit of the flows in kg/h; by default the best one for the list.")
 OFFICE = click.option("--office", type=click.IntRange(0, 7), default=0, show_default=True, help="The office that draws the sheet.")
 WRITTEN = "A file to write: .html, .svg, .xlsx, .csv or .json. May be given more than once."
 OUTPUT = click.option("-o", "--output", "outputs_", type=FILE, multiple=True, help=WRITTEN)
@@ -46,8 +46,8 @@ def drawn_of(path: Path, unit: Optional[Fraction], office: int = 0, last: int = 
 
 
 def sheet_of(path: Path, unit: Optional[Fraction]) -> Balance:
-    """A sheet; Stopped with the reason where there is none."""
+    """A sheet with flows; Stopped with the reason where there is none."""
     drawn = drawn_of(path, unit)
-    if drawn.refused:
-        raise Stopped("\n".join(overfull(drawn)))
+    if drawn.flowless:
+        raise Stopped("\n".join(overfull(drawn)) if drawn.refused else f"not judged: {drawn.reason}")
     return drawn

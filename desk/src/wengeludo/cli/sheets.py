@@ -10,10 +10,10 @@ import click
 
 from wengeludo_balance import Verdict
 
-from ..balance.sheet import VERDICT
 from ..explain import suspects
 from ..explain.why import overfull, why
 from ..write import outputs, terminal
+from ..write.view import headline
 from .options import FAILED, LIST, OFFICE, OUTPUT, REFUSED, UNIT, drawn_of, sheet_of
 
 
@@ -32,9 +32,9 @@ def sheet(list: Path, outputs_: Sequence[Path], unit: Optional[Fraction], office
     drawn = drawn_of(list, unit, office, last)
     terminal.show(drawn)
     outputs.write_all(drawn, paths, live)
-    if drawn.refused:
+    if drawn.verdict is None:
         return REFUSED
-    return FAILED if drawn.total.verdict is Verdict.FAIL else 0
+    return FAILED if drawn.verdict is Verdict.FAIL else 0
 
 
 @click.command("why")
@@ -44,8 +44,8 @@ def sheet(list: Path, outputs_: Sequence[Path], unit: Optional[Fraction], office
 def why_(list: Path, stream: Optional[str], unit: Optional[Fraction]) -> int:
     """Why STREAM of LIST has its number, or none; where there is no sheet, why there is none."""
     drawn = drawn_of(list, unit)
-    if drawn.refused:
-        terminal.lines(overfull(drawn))
+    if drawn.flowless:
+        terminal.lines(overfull(drawn) if drawn.refused else [headline(drawn)])
         return REFUSED
     if stream is None:
         raise click.UsageError("a sheet can be drawn: name a stream")
@@ -63,13 +63,15 @@ def suspects_(list: Path, unit: Optional[Fraction]) -> int:
     if not listed:
         terminal.lines(["No meter is checked by another, so none can be suspected."])
         return 0
-    terminal.lines([f"The sheet costs {drawn.cost:,.1f}: {VERDICT[drawn.total.verdict]}.", ""])
-    likely = {s.index for s in suspects.likeliest(drawn, listed) if not s.why_not} if drawn.total.verdict is Verdict.FAIL else set()
+    terminal.lines([f"The sheet costs {drawn.cost:,.1f}: {headline(drawn)}.", ""])
+    likely = {s.index for s in suspects.likeliest(drawn, listed) if not s.why_not} if drawn.verdict is Verdict.FAIL else set()
     rows = []
     for s in listed:
         pipe = site.list.pipes[s.index]
         off = site.shown((pipe.reading or 0) - s.flow, "+")
-        remark = s.why_not or ("visit this one" if s.index in likely else "")
+        others = [other.index for other in listed if other.index in drawn.alike(s.index) and other is not s and not other.why_not]
+        apart = f" or {suspects.titles(drawn, others)}: no balance tells them apart" if others else ""
+        remark = s.why_not or (f"visit this one{apart}" if s.index in likely else "")
         cells = (pipe.label, pipe.what, f"{s.cost:,.1f}", s.verdict.name.lower(), site.shown(pipe.reading or 0), site.shown(s.flow), off, remark)
         rows.append((cells, "bold" if s.index in likely else ""))
     heads = ("stream", "what", "cost without it", "verdict then", "reads", "would carry", "off by", "")

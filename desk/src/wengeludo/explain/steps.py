@@ -2,12 +2,13 @@
 
 from __future__ import annotations
 
-from typing import List
+from typing import List, Set, Tuple
 
 from wengeludo_balance import Verdict
 
 from ..balance.graph import across, rings
-from ..balance.sheet import Balance, sigmas
+from ..balance.individual import MARKED, SURE
+from ..balance.sheet import Balance, by_rule
 from ..balance.site import notes
 from . import purchase, suspects, together
 from .why import overfull
@@ -16,35 +17,91 @@ MOST = 5
 
 
 def steps(balance: Balance) -> List[str]:
-    """What an engineer does with this sheet."""
-    if balance.refused:
-        return _overfull(balance)
-    found = [*_verdict(balance), *_blanks(balance), *_held(balance), *_clamps(balance), *notes(balance.site)]
-    return found[:MOST] or ["Nothing: the meters agree, and every flow is known."]
+    """What an engineer does with this sheet, worked out once."""
+    return balance.once("steps", lambda: _overfull(balance) if balance.refused else _steps(balance))
+
+
+def _steps(balance: Balance) -> List[str]:
+    if balance.flowless:
+        return [_not_judged(balance), *notes(balance.site)][:MOST]
+    found = [*_verdict(balance), *_blanks(balance), *_held(balance), *notes(balance.site)]
+    return found[:MOST] or [f"Nothing: the meters agree, and every flow is known.{_chance(balance)}"]
+
+
+def _not_judged(balance: Balance) -> str:
+    return f"Not judged: {balance.reason}. Rely on no number of it; look at the meter whose accuracy is the finest by far."
 
 
 def _verdict(balance: Balance) -> List[str]:
-    verdict = balance.total.verdict
+    verdict = balance.verdict
+    if verdict is None:
+        return [_not_judged(balance)]
     if verdict is Verdict.NONE:
         return ["No meter is checked by another: a further meter on a stream that closes a balance would."]
     if verdict is Verdict.CLOSE:
-        finer = f"{float(balance.site.unit) / 10:g}"
-        return [f"Try a finer unit (--unit {finer}): rounding to whole units may alone have taken the cost above its limit."]
+        return [_close(balance)]
     if verdict is Verdict.PASS:
-        worst = balance.worst
-        if worst is None:
-            return []
-        line = balance.lines[worst]
-        return [f"Keep an eye on {line.pipe.title}: the sheet passes, yet its correction is {sigmas(line.sigmas)} deviations."]
+        return _watched(balance)
+    return _failing(balance)
+
+
+def _close(balance: Balance) -> str:
+    """What the rule says of a sheet that rounding may alone have taken above its limit."""
+    ruled = balance.once("ruled", lambda: by_rule(balance.site.list))
+    if ruled.verdict is None or ruled.verdict is Verdict.CLOSE:
+        return "Take it as it is: rounding to whole units may alone have taken the cost above its limit, and nothing shows that it has not."
+    word = "passes" if ruled.verdict is Verdict.PASS else "fails"
+    limit = f"{ruled.limit:.3f}" if ruled.limit is not None else "none"
+    return f"In a finer unit, in exact fractions, the list {word}: its least cost is {ruled.cost:.3f} beside the limit {limit}."
+
+
+def _watched(balance: Balance) -> List[str]:
+    """Of a sheet that passes, the meter whose correction is more than chance gives."""
+    if not balance.worst:
+        return []
+    value = abs(balance.lines[balance.worst[0]].test or 0)
+    apart = " (no balance tells them apart)" if len(balance.worst) > 1 else ""
+    told = f"its correction is {value:.1f} times its own deviation, and chance takes a meter above {balance.bound:.1f} in 5 of 100 sheets"
+    return [f"Keep an eye on {suspects.titles(balance, balance.worst)}{apart}: the sheet passes, yet {told}."]
+
+
+def _chance(balance: Balance) -> str:
+    """Why a mark alone is nothing to do."""
+    tested = [line for line in balance.lines if line.test is not None]
+    labels = ", ".join(line.pipe.label for line in tested if line.notable)
+    if not labels:
+        return ""
+    share = round(100 * (1 - SURE ** len(tested)))
+    return f" ▲ marks a test value over {MARKED} ({labels}): chance marks some of {len(tested)} meters in {share} of 100 sheets."
+
+
+def _failing(balance: Balance) -> List[str]:
+    """Of a sheet that fails: the meters to visit, what to leave alone, and the meters that explain it together."""
     listed = suspects.likeliest(balance, suspects.suspects(balance))
-    good = [s for s in listed if not s.why_not]
-    lines = [f"Visit the meter of {suspects.words(balance, s)}." for s in good[:2]]
+    good, told = [s for s in listed if not s.why_not], set()  # type: Tuple[List[suspects.Suspect], Set[int]]
+    lines = []
+    for suspect in good:
+        alike = [s.index for s in good if s.index in balance.alike(suspect.index) and s is not suspect]
+        if suspect.index not in told and len(lines) < 2:
+            apart = f". No balance tells it apart from {suspects.titles(balance, alike)}" if alike else ""
+            lines.append(f"Visit the meter of {suspects.words(balance, suspect)}{apart}.")
+        told |= {suspect.index, *alike}
     poor = [f"{balance.site.list.pipes[s.index].title} {s.why_not}" for s in listed if s.why_not]
     if poor and good:
         lines.append(f"Leave alone what would clear the sheet on paper only: {'; '.join(poor[:2])}.")
-    if not good:
-        lines.append("No single meter explains it: more than one is off, or a stream is missing in the list. `wengeludo suspects` lists them all.")
+    if not any(s.clears for s in good):
+        lines.append(_several(balance))
     return lines
+
+
+def _several(balance: Balance) -> str:
+    """The meters that explain a failing sheet together, taken out one after the other."""
+    gone = suspects.eliminated(balance)
+    if len(gone) < 2 or gone[-1].verdict is Verdict.FAIL:
+        return "No single meter explains it: more than one is off, or a stream is missing in the list. `wengeludo suspects` lists them all."
+    names = ", then ".join(suspects.titles(balance, one.alike) for one in gone)
+    then = f"the cost is then {gone[-1].cost:,.1f}, and the sheet no longer fails"
+    return f"More than one meter is off. Taken out one after the other, each time the one with the greatest test value: {names}; {then}."
 
 
 def _blanks(balance: Balance) -> List[str]:
@@ -76,16 +133,6 @@ def _overfull(balance: Balance) -> List[str]:
     """Which ranges to look at again."""
     site, streams, ends = balance.site, balance.site.plant.streams, []
     for k, way in sorted(across(streams, balance.marked), key=lambda one: -one[1]):
-        end = streams[k].low if way > 0 else streams[k].high
-        ends.append(f"{site.list.pipes[k].title} (at {'least' if way > 0 else 'most'} {site.shown(site.kg(end or 0))})")
+        pipe = site.list.pipes[k]
+        ends.append(f"{pipe.title} (at {'least' if way > 0 else 'most'} {site.shown((pipe.low if way > 0 else pipe.high) or 0)})")
     return [f"Look again at these ranges, at least one of them is wrong: {', '.join(ends)}.", overfull(balance)[-1]]
-
-
-def _clamps(balance: Balance) -> List[str]:
-    clamps = balance.site.clamps
-    if not clamps:
-        return []
-    told = ", ".join(f"{c.pipe.label} (±{c.given:.3g} as ±{c.counts:.3g})" for c in clamps[:6])
-    more = f" and {len(clamps) - 6} more" if len(clamps) > 6 else ""
-    one = "meter counts" if len(clamps) == 1 else "meters count"
-    return [f"{len(clamps)} {one} with another accuracy than the list gives, as no unit holds all: {told}{more}."]

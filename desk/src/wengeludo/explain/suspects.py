@@ -1,15 +1,23 @@
-"""Meters worth a visit: what the sheet would cost without each, and what its pipe would then carry."""
+"""Meters worth a visit: what the sheet would cost without each, and what its pipe would then carry. Of the engine's own sheet by the
+engine's call, of checked flows by the same rule without that meter."""
 
 from __future__ import annotations
 
 from dataclasses import dataclass
-from typing import List, Optional
+from typing import List, Optional, Sequence, Tuple
 
 import wengeludo_balance as engine
 from wengeludo_balance import Verdict
 
+from ..balance import individual, wide
+from ..balance.checked import Checked
+from ..balance.exact import Exacts, without
+from ..balance.kind import SheetKind
 from ..balance.sheet import Balance
 from ..balance.site import Site
+from ..balance.spread import at_end
+
+MOST_GONE = 5  # meters that are taken out one after the other
 
 
 @dataclass(frozen=True)
@@ -28,34 +36,97 @@ class Suspect:
         return self.verdict is not Verdict.FAIL
 
 
+@dataclass(frozen=True)
+class Gone:
+    """Meters that no balance tells apart, of which one was taken out, and the cost and verdict then."""
+
+    alike: Tuple[int, ...]
+    cost: float
+    verdict: Verdict
+
+
 def suspects(balance: Balance) -> List[Suspect]:
-    """The checked meters by the cost without each, as the engine lists them."""
-    site = balance.site
+    """The checked meters by the cost without each, worked out once for a balance."""
+    return balance.once("suspects", lambda: _by_rule(balance) if balance.checked else _by_engine(balance.site))
+
+
+def _by_engine(site: Site) -> List[Suspect]:
     return [_suspect(site, visit) for visit in engine.visits(site.file)]
 
 
 def _suspect(site: Site, visit: engine.Visit) -> Suspect:
     k = visit.stream - 1
     streams = list(site.plant.streams)
-    meter = streams[k]
-    streams[k] = meter.unmetered()
+    streams[k] = streams[k].unmetered()
     sheet = engine.balance(engine.Plant(site.plant.units, tuple(streams)).file())
-    flow = sheet.records[k].flow or 0
-    return Suspect(k, visit.cost / 1000, sheet.verdict, site.kg(flow), _why_not(site, meter, flow))
+    flow = site.kg(sheet.records[k].flow or 0)
+    return Suspect(k, visit.cost / 1000, sheet.verdict, flow, _why_not(site, k, flow))
 
 
-def _why_not(site: Site, meter: engine.Stream, flow: int) -> str:
+def _by_rule(balance: Balance) -> List[Suspect]:
+    """The same for checked flows: a meter without which nothing can be judged is left out."""
+    site, found = balance.site, []
+    for k in site.exacts.checked:
+        then = _solved(without(site.exacts, [k]))
+        if then is None:
+            continue
+        flow = float((then.sheet.records[k].flow or 0) * then.unit)
+        found.append(Suspect(k, float(then.judged.cost), then.judged.verdict, flow, _why_not(site, k, flow)))
+    return sorted(found, key=lambda s: (s.cost, s.index))
+
+
+def _solved(listed: Exacts) -> Optional[Checked]:
+    """The checked flows of a list, if it has some that can be judged."""
+    try:
+        found = wide.solve(listed)
+    except (wide.NotJudged, wide.Overfull):
+        return None
+    return found if found.judged.guarded else None
+
+
+def _why_not(site: Site, k: int, flow: float) -> str:
     """Why the meter alone is hardly at fault: its pipe would run backwards, or outside its range."""
-    if meter.low is not None and meter.high is not None and not meter.low <= flow <= meter.high:
-        return f"would carry {site.shown(site.kg(flow))}, outside its range"
-    if flow * meter.reading < 0 and abs(flow) > 1:
-        return f"would have to run backwards, at {site.shown(site.kg(flow))}"
+    pipe = site.list.pipes[k]
+    if (pipe.low is not None and flow < pipe.low) or (pipe.high is not None and flow > pipe.high):
+        return f"would carry {site.shown(flow)}, outside its range"
+    if flow * (pipe.reading or 0) < 0 and abs(flow) > site.unit:
+        return f"would have to run backwards, at {site.shown(flow)}"
     return ""
+
+
+def eliminated(balance: Balance) -> List[Gone]:
+    """Of a sheet that fails, the meters taken out one after the other, always the one with the greatest test value, until the sheet no
+    longer fails; worked out once. By the rule, in exact fractions, whatever the kind of the sheet."""
+    return balance.once("eliminated", lambda: _eliminated(balance))
+
+
+def _eliminated(balance: Balance) -> List[Gone]:
+    listed, gone, found = balance.site.exacts, [], []  # type: Tuple[Exacts, List[int], List[Gone]]
+    left = _solved(listed)
+    while left is not None and left.judged.verdict is Verdict.FAIL and len(gone) < MOST_GONE:
+        alike = _greatest(left)
+        if not alike:
+            break
+        gone.append(alike[0])
+        left = _solved(without(listed, gone))
+        if left is not None:
+            found.append(Gone(alike, float(left.judged.cost), left.judged.verdict))
+    return found
+
+
+def _greatest(checked: Checked) -> Tuple[int, ...]:
+    """The meter with the greatest test value, and those that no balance tells apart from it."""
+    held = {k: flow * checked.unit for k, flow in enumerate(checked.flows) if at_end(checked.plant.streams[k], flow)}
+    tests = individual.tests(checked.listed, held)
+    if not tests:
+        return ()
+    first = max(tests, key=lambda k: (abs(tests[k]), -k))
+    return tuple(k for k in individual.alike(checked.listed, first) if k in tests)
 
 
 def likeliest(balance: Balance, listed: List[Suspect]) -> List[Suspect]:
     """The meters that explain a failing sheet about as well as the best one, those with nothing against them first."""
-    if not listed or balance.refused:
+    if not listed or balance.flowless:
         return []
     best = listed[0].cost
     near = [s for s in listed if s.cost <= best + 0.1 * (balance.cost - best) + 1e-9]
@@ -74,6 +145,12 @@ def words(balance: Balance, suspect: Suspect) -> str:
         f"{pipe.title}: without this meter the cost falls from {balance.cost:,.1f} to {suspect.cost:,.1f}, and {outcome}; the pipe would carry "
         f"{site.shown(suspect.flow)} where the meter reads {site.shown(reading)} ({off})"
     )
+
+
+def titles(balance: Balance, streams: Sequence[int]) -> str:
+    """The names of streams, the last after an "or"."""
+    names = [balance.site.list.pipes[k].title for k in streams]
+    return names[0] if len(names) == 1 else f"{', '.join(names[:-1])} or {names[-1]}"
 
 
 def first(listed: List[Suspect]) -> Optional[Suspect]:

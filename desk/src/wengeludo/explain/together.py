@@ -9,7 +9,8 @@ from typing import Dict, List, Optional, Sequence, Tuple
 import wengeludo_balance as engine
 from wengeludo_balance import Kind, Stream
 
-from ..balance.sheet import Balance
+from ..balance.checked import pinned
+from ..balance.sheet import Balance, deviations
 from ..balance.spread import spreads
 from ..read.lists import MOST_STREAMS, MOST_UNITS
 
@@ -36,13 +37,19 @@ def known_sum(balance: Balance, blanks: Sequence[int], place: int) -> Optional[S
         streams[k] = Stream(streams[k].source, new) if inward else Stream(new, streams[k].target)
         signed.append((k, 1 if inward else -1))
     plant = engine.Plant(new, (*streams, Stream(new, place)))
-    sheet = engine.balance(plant.file())
+    sheet = engine.balance(_drawable(balance, plant).file())
     last = sheet.records[-1]
     if last.kind is not Kind.GIVEN or last.flow is None:
         return None
-    deviations = [p.accuracy.deviation if p.accuracy else None for p in site.list.pipes]
-    spread = spreads(plant, sheet.records, [*deviations, None])[-1]
+    spread = spreads(plant, sheet.records, [*deviations(site.list), None])[-1]
     return Sum(tuple(signed), site.kg(last.flow), spread or 0.0, place)
+
+
+def _drawable(balance: Balance, plant: engine.Plant) -> engine.Plant:
+    """The plant whose sheet has the flows of this balance: of checked flows every range is pinned to its flow."""
+    if not balance.checked:
+        return plant
+    return pinned(plant, (*balance.checked.flows, 0))
 
 
 def side_by_side(balance: Balance) -> List[Sum]:

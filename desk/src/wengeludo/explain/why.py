@@ -7,6 +7,7 @@ from typing import List, Sequence
 from wengeludo_balance import Kind
 
 from ..balance.graph import Signed, across, chain, groups, ring, summed, unmetered
+from ..balance.individual import MARKED
 from ..balance.sheet import HOW, Balance, sigmas
 from . import together
 from .purchase import cheapest
@@ -85,13 +86,23 @@ def _as_read(balance: Balance, k: int) -> Lines:
 def _adjusted(balance: Balance, k: int) -> Lines:
     site, stream, line = balance.site, balance.site.plant.streams[k], balance.lines[k]
     moved = f"{site.shown(line.correction or 0, '+')} kg/h or {sigmas(line.sigmas)} deviations"
-    lines = [f"It reads {site.shown(line.pipe.reading or 0)}, a correction of {moved}. What checks it:"]
+    lines = [f"It reads {site.shown(line.pipe.reading or 0)}, a correction of {moved}{_tested(balance, k)}. What checks it:"]
     for group in groups(site.plant.streams, site.plant.units):
         if (stream.source in group) != (stream.target in group) and 0 not in group:
             lines += [f"At {_places(balance, list(group))} what comes in (+) is what goes out (−):", *_terms(balance, across(site.plant.streams, group))]
     if line.held:
         lines.append(f"It is held at the {line.held} end of its range.")
     return lines
+
+
+def _tested(balance: Balance, k: int) -> str:
+    """The test value of a correction, and the meters that no balance tells apart from it."""
+    test = balance.lines[k].test
+    if test is None:
+        return ""
+    others = [j for j in balance.alike(k) if j != k]
+    apart = f"; no balance tells it apart from {_titles(balance, others)}" if others else ""
+    return f", {abs(test):.1f} times the correction's own deviation (marked above {MARKED}, a warning above {balance.bound:.1f}){apart}"
 
 
 def overfull(balance: Balance) -> Lines:
@@ -103,7 +114,8 @@ def overfull(balance: Balance) -> Lines:
         amounts = []
         for k, way in across(streams, balance.marked):
             if way == sign:
-                amounts.append(site.kg((streams[k].low if sign > 0 else streams[k].high) or 0))
+                pipe = site.list.pipes[k]
+                amounts.append((pipe.low if sign > 0 else pipe.high) or 0.0)
                 lines.append(f"  {'in ' if sign > 0 else 'out'} {word} {site.shown(amounts[-1])}  {site.list.pipes[k].title}, {_run(balance, k)}")
         sums.append(sum(amounts))
     lines.append(f"At least {site.shown(sums[0])} come in, at most {site.shown(sums[1])} go out: {site.shown(sums[0] - sums[1])} kg/h too many.")

@@ -14,6 +14,7 @@ from typing import Callable, Iterator, List, Optional, Sequence, Tuple
 
 import wengeludo_balance as engine
 
+from ..balance.checked import Checked
 from ..balance.sheet import Balance, balance
 from ..balance.site import Site, site_in
 from ..read.faults import Stopped
@@ -32,6 +33,7 @@ class Outcome:
     file: str
     cells: Tuple[object, ...]
     site: Optional[Site] = None
+    checked: Optional[Checked] = None  # its flows, if its sheet is not the engine's own
     before: bool = False  # the book had its sheet already
 
     @property
@@ -59,7 +61,8 @@ def outcome(path: Path, unit: Optional[Fraction], keep: bool = False) -> Outcome
         drawn = balance(site, estimated=False)
     except (Stopped, engine.Refusal, OSError) as error:
         return Outcome(path.name, ("fault", *[""] * 9, " | ".join(str(error).splitlines())))
-    return Outcome(path.name, _cells(drawn), site if keep and not drawn.refused else None)
+    judged = keep and drawn.verdict is not None
+    return Outcome(path.name, _cells(drawn), site if judged else None, drawn.checked if judged else None)
 
 
 def _cells(drawn: Balance) -> Tuple[object, ...]:
@@ -69,9 +72,9 @@ def _cells(drawn: Balance) -> Tuple[object, ...]:
         return ("no flow in range", *[""] * 6, unit, "", "", f"overfull: {places}")
     worst = max((line for line in drawn.lines if line.sigmas is not None), key=lambda line: abs(line.sigmas or 0), default=None)
     off = ("", "") if worst is None else (worst.pipe.label, round(worst.sigmas or 0, 2))
-    verdict = drawn.total.verdict.name.lower()
+    verdict = drawn.verdict.name.lower() if drawn.verdict is not None else "not judged"
     limit = "" if drawn.limit is None else drawn.limit
-    return (verdict, drawn.cost, limit, drawn.total.degrees, len(drawn.blanks), *off, unit, "", "", "")
+    return (verdict, drawn.cost, limit, drawn.degrees, len(drawn.blanks), *off, unit, "", "", "")
 
 
 def _work(task: Tuple[Sequence[Path], Optional[Fraction], bool]) -> List[Outcome]:
@@ -126,7 +129,7 @@ def run(folder: Path, summary: Path, unit: Optional[Fraction] = None, book: Opti
             kept = _kept(some, folder, book, office) if book else some
             writer.writerows((o.file, *o.cells) for o in kept)
             file.flush()
-            done += [replace(o, site=None) for o in kept]
+            done += [replace(o, site=None, checked=None) for o in kept]
             told(len(done), len(paths))
     return done
 
@@ -141,7 +144,7 @@ def _kept(some: List[Outcome], folder: Path, book: Book, office: int) -> List[Ou
 def _draft(line: Outcome, folder: Path, office: int) -> Draft:
     assert line.site is not None
     hour = line.site.list.hour
-    return Draft(line.site, str((folder / line.file).resolve()), hour, someone(), content_key(line.site, office, hour))
+    return Draft(line.site, str((folder / line.file).resolve()), hour, someone(), content_key(line.site, office, hour), checked=line.checked)
 
 
 def _numbered(line: Outcome, office: int, receipt: Optional[Receipt]) -> Outcome:

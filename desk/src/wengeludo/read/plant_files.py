@@ -6,7 +6,7 @@ import re
 from dataclasses import replace
 from fractions import Fraction
 from pathlib import Path
-from typing import List
+from typing import List, Optional, Tuple
 
 import wengeludo_balance as engine
 
@@ -15,11 +15,12 @@ from .lists import OUTSIDE, Pipe, PipeList
 from .numbers import Marks, accuracy, deviation_of
 
 
-def unpacked(path: Path, unit: Fraction = Fraction(1)) -> PipeList:
-    """The list of a plant file or a transmitter file whose flows are in this unit; Stopped where it is neither."""
+def unpacked(path: Path, unit: Fraction = Fraction(1)) -> Tuple[PipeList, engine.Plant]:
+    """The list and the plant of a plant file or a transmitter file whose flows are in this unit; Stopped where it is neither."""
     file = path.read_bytes()
     try:
-        return _list(path.stem, engine.read_plant(file), unit)
+        plant = engine.read_plant(file)
+        return _list(path.stem, plant, unit), plant
     except engine.Refusal as refusal:
         first = refusal
     try:
@@ -28,7 +29,27 @@ def unpacked(path: Path, unit: Fraction = Fraction(1)) -> PipeList:
         if file[2:3] and file[2] in (0x21, 0x22, 0x23):
             first = refusal
         raise Stopped(f"{path}: {first.text} ({first.number})") from None
-    return _list(path.stem, plant, unit)
+    return _list(path.stem, plant, unit), plant
+
+
+def beside(path: Path) -> Path:
+    """The text beside a plant file that tells the unit of its flows."""
+    return path.with_suffix(path.suffix + ".unit")
+
+
+def unit_beside(path: Path) -> Optional[Fraction]:
+    """The unit that the text beside a plant file tells; none if there is no such text, Stopped if it tells none."""
+    told = beside(path)
+    if not told.is_file():
+        return None
+    words = told.read_text(encoding="utf-8-sig", errors="replace").split()
+    try:
+        unit = Fraction(words[0])
+    except (ValueError, ZeroDivisionError, IndexError):
+        unit = Fraction(0)
+    if unit <= 0:
+        raise Stopped(f"{told}: {quoted(' '.join(words))} stands there; a number of kg/h would do")
+    return unit
 
 
 def _list(name: str, plant: engine.Plant, unit: Fraction) -> PipeList:

@@ -10,6 +10,7 @@ import tempfile
 from pathlib import Path
 from typing import Any, Callable, Dict, Optional, Sequence
 
+from ..balance.kind import SheetKind
 from ..balance.sheet import Balance
 from ..explain.steps import steps
 from ..read.faults import Stopped
@@ -66,6 +67,8 @@ def other(path: Path, read: Optional[Path]) -> Path:
 def _csv(balance: Balance) -> bytes:
     text = io.StringIO(newline="")
     writer = csv.writer(text)
+    if balance.kind is not SheetKind.ENGINE:
+        writer.writerow([view.first_line(balance)])
     writer.writerow(view.heads(balance))
     for row in view.rows(balance):
         writer.writerow([row.cells[0], *("" if key is None else key for key in row.keys[1:])])
@@ -84,7 +87,7 @@ def _xlsx(balance: Balance) -> bytes:
     book = Workbook()
     sheet = book.active
     sheet.title = "sheet"
-    for line in (balance.site.list.name, view.headline(balance), view.summary(balance), "", *steps(balance), ""):
+    for line in (balance.site.list.name, view.first_line(balance), view.summary(balance), "", *steps(balance), ""):
         put(sheet, [line])
     sheet["A1"].font = sheet["A2"].font = Font(bold=True, size=13)
     put(sheet, view.heads(balance))

@@ -10,10 +10,14 @@ from typing import List, Optional, Tuple
 
 import wengeludo_balance as engine
 
+from ..balance.kind import SheetKind
+from ..balance.sheet import balance
 from ..balance.site import Site
+from ..balance.unit import clamps
 from ..read.faults import Stopped
 from ..read.lists import PipeList
 from .outputs import put
+from .view import headline
 
 HEAD = ("stream", "what", "from", "to", "reading", "accuracy", "low", "high")
 
@@ -34,6 +38,23 @@ def transmitter(site: Site) -> bytes:
     except engine.Refusal as refusal:
         raise Stopped(f"the engine would refuse this transmitter file: {refusal.text} ({refusal.number}); another --unit would do") from None
     return file
+
+
+def lost(site: Site) -> List[str]:
+    """What a plant file of this list would lose, in lines, nothing if its sheet is the list's own; Stopped if its verdict would be another,
+    or if the engine takes the list in no unit."""
+    drawn = balance(site, estimated=False)
+    if drawn.kind is SheetKind.ENGINE and site.fits:
+        return []
+    if not site.fits:
+        raise Stopped(f"{site.list.name}: no plant file holds it: its readings and ranges fit no unit of the engine; keep the list itself")
+    plain = engine.balance(site.file)
+    if plain.verdict is not drawn.verdict:
+        told = f"the sheet of such a plant file would say {plain.verdict.name.lower()}, and the list's own is {headline(drawn).split(':')[0]}"
+        raise Stopped(f"{site.list.name}: {told}; a plant file holds accuracies within 32:1 only: another --unit may do, or the list itself")
+    meters = ", ".join(f"{c.pipe.label} (±{c.given:.3g} as ±{c.counts:.3g})" for c in clamps(site.list.pipes, site.unit)) or "none by over 5 %"
+    rounded = ", ".join(p.label for p, s in zip(site.list.pipes, site.plant.streams) if p.reading is not None and p.reading != site.kg(s.reading)) or "none"
+    return [f"Lost in it: accuracies of {meters}; readings rounded to the unit of {rounded}. Its sheet is not the list's own."]
 
 
 def idle(pipes: PipeList) -> List[str]:

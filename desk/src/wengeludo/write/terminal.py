@@ -48,12 +48,12 @@ def table(heads: Sequence[str], rows: Iterable[Tuple[Sequence[str], str]], numer
 def show(balance: Balance) -> None:
     """A sheet: verdict, table, what to do next."""
     out = console()
-    out.print(Text(balance.site.list.name, style="bold"), Text(view.headline(balance), style=STYLES[view.tone(balance)]), sep="  ")
+    out.print(Text(balance.site.list.name, style="bold"), Text(view.first_line(balance), style=STYLES[view.tone(balance)]), sep="  ")
     out.print(Text(view.summary(balance)))
     out.print()
     table(view.heads(balance), ((row.signed, MARKS[row.mark]) for row in view.rows(balance)), view.NUMERIC)
-    if not balance.refused:
-        out.print(Text("σ, ±: estimates of the desk tool; every other number comes from the proved engine", style="dim"))
+    if not balance.flowless:
+        out.print(Text(view.whose(balance), style="dim"))
     out.print()
     bullets(steps(balance))
 

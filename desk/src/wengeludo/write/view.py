@@ -7,16 +7,17 @@ from typing import Any, Dict, List, Optional, Tuple
 
 from wengeludo_balance import Kind, Verdict
 
+from ..balance.kind import SheetKind
 from ..balance.sheet import HOW, SHORT, VERDICT, Balance, Line, sigmas
 from ..balance.site import notes
 from ..explain.steps import steps
 from ..explain.why import overfull
 
 NAMES = ("stream", "what", "from", "to")
-HEADS = (*NAMES, "reading", "balanced", "correction", "σ", "±", "how known")
+HEADS = (*NAMES, "reading", "balanced", "correction", "σ", "test", "±", "how known")
 NO_SHEET = (*NAMES, "reading", "low", "high")
-NUMERIC = frozenset(("reading", "balanced", "correction", "σ", "±", "low", "high"))
-ESTIMATES = frozenset(("σ", "±"))
+NUMERIC = frozenset(("reading", "balanced", "correction", "σ", "test", "±", "low", "high"))
+ESTIMATES = frozenset(("σ", "test", "±"))
 
 
 @dataclass(frozen=True)
@@ -32,7 +33,7 @@ class Row:
     def signed(self) -> Tuple[str, ...]:
         """The cells, with a sign before a correction that is worth a look."""
         sign = {"worst": "⚠ ", "notable": "▲ "}.get(self.mark, "")
-        return tuple(sign + cell if k == HEADS.index("σ") and self.kind else cell for k, cell in enumerate(self.cells))
+        return tuple(sign + cell if k == HEADS.index("test") and self.kind else cell for k, cell in enumerate(self.cells))
 
 
 def correction(line: Line) -> Optional[float]:
@@ -42,7 +43,7 @@ def correction(line: Line) -> Optional[float]:
 
 def heads(balance: Balance) -> Tuple[str, ...]:
     """The columns: of a sheet, or of the ranges where there is none; then those of the user's own."""
-    return (*(NO_SHEET if balance.refused else HEADS), *balance.site.list.extras)
+    return (*(NO_SHEET if balance.flowless else HEADS), *balance.site.list.extras)
 
 
 def rows(balance: Balance) -> List[Row]:
@@ -53,27 +54,28 @@ def rows(balance: Balance) -> List[Row]:
 def _row(balance: Balance, k: int) -> Row:
     site, pipe = balance.site, balance.site.list.pipes[k]
     names = (pipe.label, pipe.what, site.place(pipe.source), site.place(pipe.target))
-    if balance.refused:
+    if balance.flowless:
         ends = (pipe.reading, pipe.low, pipe.high)
         cells = tuple("" if end is None else site.shown(end) for end in ends)
         return Row((*names, *cells, *pipe.extra), (k, *names[1:], *ends, *pipe.extra), "", "")
     line = balance.lines[k]
     moved = correction(line)
-    numbers = (pipe.reading, line.flow, moved, line.sigmas if moved is not None else None, line.spread)
+    numbers = (pipe.reading, line.flow, moved, line.sigmas if moved is not None else None, line.test and abs(line.test), line.spread)
     how = SHORT[line.kind] + (f", at its {line.held} end" if line.held else "") + (", backwards" if (line.flow or 0) < 0 else "")
-    mark = "worst" if k == balance.worst else "notable" if line.notable else ""
+    mark = "worst" if k in balance.worst else "notable" if line.notable else ""
     cells = (*names, *_texts(balance, numbers), how, *pipe.extra)
     return Row(cells, (k, *names[1:], *numbers, how, *pipe.extra), line.kind.value, mark)
 
 
 def _texts(balance: Balance, numbers: Tuple[Optional[float], ...]) -> Tuple[str, ...]:
     site = balance.site
-    reading, flow, moved, off, spread = numbers
+    reading, flow, moved, off, test, spread = numbers
     return (
         "" if reading is None else site.shown(reading),
         "?" if flow is None else site.shown(flow),
         "" if moved is None else site.shown(moved, "+"),
         "" if off is None else sigmas(off),
+        "" if test is None else f"{test:.1f}",
         "" if spread is None else site.shown(spread) if spread > 1e-9 else "fixed",
     )
 
@@ -87,44 +89,71 @@ def headline(balance: Balance) -> str:
     """The verdict in words."""
     if balance.refused:
         return "no sheet: the ranges cannot all be kept"
-    return VERDICT[balance.total.verdict]
+    return f"not judged: {balance.reason}" if balance.verdict is None else VERDICT[balance.verdict]
+
+
+def standing(balance: Balance) -> str:
+    """What the sheet says of itself beside its verdict, if it is not the engine's own."""
+    return balance.kind.text if balance.kind is SheetKind.CHECKED and not balance.refused else ""
+
+
+def first_line(balance: Balance) -> str:
+    """The verdict in words, and what stands behind it."""
+    return "; ".join(text for text in (headline(balance), standing(balance)) if text)
+
+
+def whose(balance: Balance) -> str:
+    """Which numbers are the engine's and which the tool's, in a line."""
+    mine = "σ, test, ±: estimates of the desk tool"
+    if balance.kind is SheetKind.ENGINE:
+        return f"{mine}; every other number comes from the proved engine"
+    return f"{mine}; flows found by it and checked by the proved engine, which deduces the others; cost and verdict worked out by it, exactly"
 
 
 def summary(balance: Balance) -> str:
     """Number, cost and limit in a line."""
-    if balance.refused:
-        return f"{len(balance.site.list.pipes)} streams, unit {float(balance.site.unit):g} kg/h"
-    total = balance.total
-    checks = "check" if total.degrees == 1 else "checks"
-    limit = f"limit {balance.limit:,.1f} for {total.degrees} {checks}" if total.degrees else "nothing to test"
-    return f"sheet {total.number} of office {total.office}, cost {cost_text(balance.cost)}, {limit}, unit {float(balance.site.unit):g} kg/h"
+    unit = f"unit {float(balance.site.unit):g} kg/h"
+    if balance.flowless:
+        return f"{len(balance.site.list.pipes)} streams, {unit}"
+    checks = "check" if balance.degrees == 1 else "checks"
+    limit = f"limit {balance.limit:,.1f} for {balance.degrees} {checks}" if balance.limit is not None else "nothing to test"
+    number = f"sheet {balance.total.number} of office {balance.total.office}, " if balance.kind is SheetKind.ENGINE else ""
+    return f"{number}cost {cost_text(balance.cost)}, {limit}, {unit}"
 
 
 def tone(balance: Balance) -> str:
     """Good, poor or bad."""
-    if balance.refused or balance.total.verdict is Verdict.FAIL:
+    if balance.refused or balance.verdict is Verdict.FAIL:
         return "bad"
-    return "good" if balance.total.verdict is Verdict.PASS else "poor"
+    return "good" if balance.verdict is Verdict.PASS else "poor"
 
 
 def document(balance: Balance) -> Dict[str, Any]:
     """Everything, for programs."""
     site = balance.site
     told: Dict[str, Any] = {
-        "site": site.list.name, "unit_kg_per_hour": float(site.unit), "verdict": headline(balance).split(":")[0], "next": steps(balance),
-        "notes": notes(site),
-        "clamped": [{"stream": c.pipe.label, "given": c.given, "counts_as": c.counts} for c in site.clamps],
+        "site": site.list.name, "kind": balance.kind.value, "unit_kg_per_hour": float(site.unit), "verdict": headline(balance).split(":")[0],
+        "next": steps(balance), "notes": notes(site),
     }
     if balance.refused:
         told |= {"refusal": 19, "overfull": [site.place(p) for p in sorted(balance.marked)], "why": overfull(balance)}
-    else:
-        total = balance.total
-        told |= {
-            "office": total.office, "sheet": total.number, "cost": balance.cost, "cost_thousandths": total.cost, "limit": balance.limit,
-            "degrees": total.degrees, "estimates": ["sigmas", "deviation"],
-        }
+    elif not balance.flowless:
+        told |= {"cost": balance.cost, "limit": balance.limit, "degrees": balance.degrees, "estimates": ["sigmas", "test", "deviation"]}
+        told["test_bound"] = round(balance.bound, 3) if balance.greatest else None
+    told |= _standing(balance)
     told["streams"] = [_entry(balance, k) for k in range(len(site.list.pipes))]
     return told
+
+
+def _standing(balance: Balance) -> Dict[str, Any]:
+    """What only one kind of sheet has: the engine's number; the sentence and the exact cost of checked flows; why it is not judged."""
+    if balance.kind is SheetKind.UNJUDGED:
+        return {"not_judged": balance.reason}
+    if balance.refused:
+        return {}
+    if balance.kind is SheetKind.CHECKED:
+        return {"checked": standing(balance), "cost_exact": str(balance.exact_cost)}
+    return {"office": balance.total.office, "sheet": balance.total.number, "cost_thousandths": balance.total.cost}
 
 
 def _entry(balance: Balance, k: int) -> Dict[str, Any]:
@@ -139,6 +168,6 @@ def _entry(balance: Balance, k: int) -> Dict[str, Any]:
         entry |= {
             "class": line.kind.value, "how": HOW[line.kind], "balanced": line.flow, "correction": moved,
             "sigmas": None if moved is None or line.sigmas is None else round(line.sigmas, 3),
-            "deviation": None if line.spread is None else round(line.spread, 3), "held": line.held,
+            "test": None if line.test is None else round(abs(line.test), 3), "deviation": None if line.spread is None else round(line.spread, 3), "held": line.held,
         }
     return entry | dict(zip(site.list.extras, pipe.extra))

@@ -63,13 +63,13 @@ def name_lines(pipes: PipeList, k: int) -> List[str]:
 def label_of(balance: Balance, k: int) -> Label:
     """Number of the stream, large flow; name, reading and correction small."""
     pipes = balance.site.list
-    big, small = _range_words(balance, k) if balance.refused else _words(balance, k)
+    big, small = _range_words(balance, k) if balance.flowless else _words(balance, k)
     return Label(pipes.pipes[k].label, big, (*name_lines(pipes, k), *(text for text in small if text)), look_of(balance, k)[0])
 
 
 def look_of(balance: Balance, k: int) -> Tuple[str, str, float]:
     """Colour, style and width of a stream."""
-    if balance.refused:
+    if balance.flowless:
         stream = balance.site.plant.streams[k]
         crossing = (stream.source in balance.marked) != (stream.target in balance.marked)
         return WORST if crossing else GREY, "solid" if stream.metered else "dashed", 2.4 if crossing else 1.2
@@ -81,7 +81,7 @@ def look_of(balance: Balance, k: int) -> Tuple[str, str, float]:
 
 def mark(balance: Balance, k: int) -> Tuple[str, str]:
     """Colour and sign of a correction that is worth a look; empty for any other."""
-    if k == balance.worst:
+    if k in balance.worst:
         return WORST, "⚠"
     return (NOTABLE, "▲") if balance.lines[k].notable else ("", "")
 
@@ -112,5 +112,5 @@ def _range_words(balance: Balance, k: int) -> Tuple[str, List[str]]:
     within, out = stream.target in balance.marked, stream.source in balance.marked
     if within == out:
         return "", read or ["no meter"]
-    end = stream.low if within else stream.high
-    return f"{'≥' if within else '≤'} {site.shown(site.kg(end or 0))}", [("in, at least" if within else "out, at most"), *read]
+    end = pipe.low if within else pipe.high
+    return f"{'≥' if within else '≤'} {site.shown(end or 0)}", [("in, at least" if within else "out, at most"), *read]
