@@ -36,10 +36,21 @@ class Overfull(Exception):
 
 
 def solve(listed: Exacts) -> Checked:
-    """Flows of least cost that the proved call has passed; Overfull if there are none in range, NotJudged if none were found."""
-    unit, smallest = unit_of(listed), _smallest(listed)
+    """Flows of least cost that the proved call has passed; Overfull if there are none in range, NotJudged if none were found. If ends of
+    ranges were rounded so much that the guard does not hold, they are sought once more in the finest unit."""
+    unit = unit_of(listed)
     if unit is None:
         raise NotJudged("its readings are too large for any unit")
+    found, finer = _solved(listed, unit), _units(listed)[0]
+    if found.judged.guarded or finer >= unit:
+        return found
+    again = _solved(listed, finer)
+    return again if again.judged.guarded else found
+
+
+def _solved(listed: Exacts, unit: Fraction) -> Checked:
+    """The flows in a unit."""
+    smallest = _smallest(listed)
     for top in TOPS:
         factor = top * smallest / (unit * unit)
         plant = wide_plant(listed, unit, factor)
@@ -48,7 +59,7 @@ def solve(listed: Exacts) -> Checked:
         except engine.NotCertified:
             continue
         except engine.Refusal as refusal:
-            raise _refused(listed, unit, plant, refusal) from None
+            raise _refused(listed, unit, refusal) from None
         return _passed(Checked(listed, unit, factor, plant, found.flows, found.numbers))
     raise NotJudged("no flows were found that pass the proved check")
 
@@ -63,7 +74,7 @@ def _passed(checked: Checked) -> Checked:
     return checked
 
 
-def _refused(listed: Exacts, unit: Fraction, plant: engine.WidePlant, refusal: engine.Refusal) -> Exception:
+def _refused(listed: Exacts, unit: Fraction, refusal: engine.Refusal) -> Exception:
     """Overfull places, if they are so by the list's own numbers too; else why there are no flows."""
     if refusal.number == 19 and overfull(listed, refusal.places):
         return Overfull(refusal.places)
@@ -94,14 +105,23 @@ def _smallest(listed: Exacts) -> Fraction:
 
 def unit_of(listed: Exacts) -> Optional[Fraction]:
     """The unit of a list; none if its readings are too large for any."""
-    smallest, (near, all_) = _smallest(listed), _typed(listed)
-    reach = max((abs(number) for number in near), default=Fraction(0))
-    fits = [unit for unit in UNITS if 16 * reach <= 15 * REACH * unit]
-    if not fits:
-        return None
-    fine = [unit for unit in fits if (unit * PARTS) ** 2 <= smallest]
-    whole = [unit for unit in fine if (unit * FINEST) ** 2 >= smallest and all((number / unit).denominator == 1 for number in all_)]
-    return whole[-1] if whole else fine[-1] if fine else fits[0]
+    fits, fine = _reached(listed), _units(listed)
+    typed = _typed(listed)[1]
+    whole = [unit for unit in fine if all((number / unit).denominator == 1 for number in typed)]
+    coarse = [unit for unit in fits if (unit * PARTS) ** 2 <= _smallest(listed)]
+    return whole[-1] if whole else coarse[-1] if coarse else fits[0] if fits else None
+
+
+def _reached(listed: Exacts) -> List[Fraction]:
+    """The units in which the flows do not go too far, the finest first."""
+    reach = max((abs(number) for number in _typed(listed)[0]), default=Fraction(0))
+    return [unit for unit in UNITS if 16 * reach <= 15 * REACH * unit]
+
+
+def _units(listed: Exacts) -> List[Fraction]:
+    """Of these units those from a ten-thousandth to a hundredth of the smallest deviation; if there are none, the finest."""
+    fits, smallest = _reached(listed), _smallest(listed)
+    return [unit for unit in fits if (unit * PARTS) ** 2 <= smallest <= (unit * FINEST) ** 2] or fits[:1]
 
 
 def _typed(listed: Exacts) -> Tuple[List[Fraction], List[Fraction]]:
