@@ -29,21 +29,23 @@ VERSION = 1
 
 @dataclass(frozen=True)
 class Judged:
-    """The cost of the flows shown and a bound below which no balanced flow costs, in exact fractions; how far, in deviations, a flow may
-    be at most from the list's own; the verdict."""
+    """The cost of the flows shown and a bound below which no balanced flow costs, in exact fractions; the verdict; and the square of the
+    greatest distance, in deviations, by which a reading that no other meter checks was rounded to the unit."""
 
     cost: Fraction
     least: Fraction
     verdict: Verdict
+    off: Fraction = Fraction(0)
 
     @property
     def guarded(self) -> bool:
         """Whether every flow is within a tenth of a deviation of the list's own least squares."""
-        return self.cost - self.least <= GUARD
+        return max(self.cost - self.least, self.off) <= GUARD
 
     @property
     def far(self) -> float:
-        return math.sqrt(max(0.0, float(self.cost - self.least)))
+        """How far, in deviations, a flow may be at most from the list's own."""
+        return math.sqrt(max(0.0, float(max(self.cost - self.least, self.off))))
 
 
 @dataclass(frozen=True)
@@ -76,7 +78,7 @@ class Checked:
     def judged(self) -> Judged:
         """Cost and verdict."""
         cost, least = _cost(self), _least(self)
-        return Judged(cost, least, _verdict(self, cost, least))
+        return Judged(cost, least, _verdict(self, cost, least), _off(self))
 
     def to_json(self) -> str:
         """The record as text; the same text for the same record."""
@@ -130,6 +132,13 @@ def _cost(checked: Checked) -> Fraction:
 
 def _as_read(listed: Exacts) -> Fraction:
     return sum((listed.streams[k].off(listed.streams[k].held) for k in listed.as_read), Fraction(0))
+
+
+def _off(checked: Checked) -> Fraction:
+    """The square of the greatest distance, in deviations, from a reading that no other meter checks, put in range, to its whole flow."""
+    streams = checked.listed.streams
+    squares = [(checked.flows[k] * checked.unit - streams[k].held) ** 2 / (streams[k].variance or 1) for k in checked.listed.as_read]
+    return max(squares, default=Fraction(0))
 
 
 def _least(checked: Checked) -> Fraction:

@@ -3,7 +3,7 @@ that is. The readings are the list's, always; no float decides anything.
 
 Unit: of 1, 2, 5 times a power of ten the largest that is at most a hundredth of the smallest deviation and divides every reading and end
 of a range, unless it is finer than a ten-thousandth of that deviation; else the largest that is at most a hundredth of it; else the finest.
-Weights: the greatest is 2^40, the others in proportion, rounded, at least 1.
+Weights: the greatest, of the meters that other meters check, is 2^40, the others in proportion, rounded, from 1 to 2^40.
 """
 
 from __future__ import annotations
@@ -50,7 +50,7 @@ def solve(listed: Exacts) -> Checked:
 
 def _solved(listed: Exacts, unit: Fraction) -> Checked:
     """The flows in a unit."""
-    smallest = _smallest(listed)
+    smallest = _smallest(listed, counting=True)
     for top in TOPS:
         factor = top * smallest / (unit * unit)
         plant = wide_plant(listed, unit, factor)
@@ -97,10 +97,10 @@ def overfull(listed: Exacts, places: FrozenSet[int]) -> bool:
     return total > 0
 
 
-def _smallest(listed: Exacts) -> Fraction:
-    """The least square of a deviation, of the meters that count."""
-    metered = [k for k, s in enumerate(listed.streams) if s.metered]
-    return min((listed.streams[k].variance or Fraction(1) for k in listed.counting or metered), default=Fraction(1))
+def _smallest(listed: Exacts, counting: bool = False) -> Fraction:
+    """The least square of a deviation: of all meters, as deduced flows rest on those too that no other checks; or of those that count."""
+    squares = {k: s.variance for k, s in enumerate(listed.streams) if s.variance is not None}
+    return min((squares[k] for k in (counting and listed.counting) or squares), default=Fraction(1))
 
 
 def unit_of(listed: Exacts) -> Optional[Fraction]:

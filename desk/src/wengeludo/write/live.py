@@ -12,7 +12,9 @@ from typing import Any, Dict
 from jinja2 import Environment, PackageLoader, select_autoescape
 from markupsafe import Markup
 
-from ..balance.sheet import CRITICAL, HOW, VERDICT, Balance
+from ..balance.kind import SheetKind
+from ..balance.limits import CRITICAL
+from ..balance.sheet import HOW, VERDICT, Balance
 from ..read.faults import Stopped
 
 HERE = Path(__file__).resolve().parent
@@ -42,7 +44,9 @@ def binding() -> str:
 
 
 def given(balance: Balance) -> Dict[str, Any]:
-    """What the page hands to the engine, and the words for what the engine says."""
+    """What the page hands to the engine, and the words for what the engine says; Stopped if the sheet is not the engine's own."""
+    if balance.kind is not SheetKind.ENGINE:
+        raise Stopped("--live: the engine in the page draws its own sheet only, and that of this list does not stand: a page without --live would do")
     site = balance.site
     streams = [
         {"from": s.source, "to": s.target, "weight": s.weight, "reading": s.reading if s.metered else None, "low": s.low, "high": s.high,
