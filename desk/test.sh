@@ -8,6 +8,7 @@
 # WENGELUDO_ARCHIVE, WENGELUDO_INCLUDE   another archive and its header's folder
 # WENGELUDO_HOURS (default 200)          lists of the batch test; 8760 is a year
 # WENGELUDO_EXAMPLES (default 100)       drawn lists of each kind
+# WENGELUDO_WIDE (default 8)              drawn lists of each span beside an independent least squares; 500 is the table of docs/desk/wide.md
 # WENGELUDO_DRAWN (default 300)          drawn plants for the binding
 # WENGELUDO_AGREED (default 300)         drawn plants for the binding's solver beside the engine; 100000 in the long run of test_all.sh
 # CHROMIUM (default chromium)            the browser that opens the pages; none: they are not opened
