@@ -13,7 +13,7 @@ import wengeludo_balance as engine
 from wengeludo_balance import FAULT, MEASURED
 
 from ..balance import unit as units
-from ..balance.sheet import CRITICAL
+from ..balance.limits import CRITICAL
 from ..read.faults import Fault, Faulty
 from ..read.lists import Pipe, PipeList
 from . import clock
@@ -136,7 +136,10 @@ def run_pipes(listed: Tagged, export: Export, path: Path) -> List[Pipe]:
 def unit_of(pipes: Sequence[Pipe], reach: Dict[int, float], unit: Optional[Fraction]) -> Fraction:
     """The one unit of a run: by the rule of a list, with readings as great as the run's greatest."""
     far = [replace(pipe, reading=reach[k]) if k in reach else pipe for k, pipe in enumerate(pipes)]
-    return units.choose(far) if unit is None else unit
+    chosen = units.choose(far) if unit is None else unit
+    if chosen is None:
+        raise Stopped("readings or ranges are too large for any unit")
+    return chosen
 
 
 def plant_of(pipes: Sequence[Pipe], places: int, unit: Fraction) -> engine.Plant:
