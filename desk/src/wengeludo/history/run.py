@@ -14,7 +14,7 @@ from wengeludo_balance import FAULT, MEASURED
 
 from ..balance import unit as units
 from ..balance.limits import CRITICAL
-from ..read.faults import Fault, Faulty
+from ..read.faults import Fault, Faulty, Stopped
 from ..read.lists import Pipe, PipeList
 from . import clock
 from .export import Export
