@@ -73,7 +73,8 @@ def test_bill_faults(run, listed):
     assert ended.status == 1 and "is not known (25)" in ended.err
     text = "from,to,reading,accuracy,rate\noutside,a,100000,5000,\na,outside,,,10000\n"
     ended = run("bill", listed(text))
-    assert ended.status == 0 and "100,000" in ended.out.splitlines()[-1], "the engine's call takes no such rate in this unit; in exact fractions it is billed"
+    assert ended.status == 0 and "100,000" in ended.out, "the engine's call takes no such rate in this unit; in exact fractions it is billed"
+    assert "Charges worked out by the tool, in exact fractions, by the engine's rule: the engine charges whole rates up to 10,000 for each unit of" in ended.out
 
 
 @pytest.mark.parametrize("name", ["listing", "steam_site", "rated_site", "overfull_site", "small_header", "blind_site", "sighted_site"])

@@ -78,7 +78,7 @@ def test_a_unit_that_is_not_1(unit, run, listed, tmp_path):
     bare = listed("from,to,reading,accuracy\noutside,a,1000,25\na,outside,1010,25\n", "bare.csv")
     ended = run("pack", bare, tmp_path / "t.bin", "--transmitter", "--unit", unit)
     if ended.status:
-        assert "--unit" in ended.err
+        assert "another unit" in ended.err
         return
     plant = engine.read_plant(engine.plant_from_transmitter((tmp_path / "t.bin").read_bytes()))
     ours = read_site(bare, Fraction(unit)).plant

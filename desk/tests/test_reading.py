@@ -179,7 +179,7 @@ def test_german_lists(listed):
     pipes = read_list(listed(GERMAN))
     first, second = pipes.pipes
     assert (first.label, first.what, first.source, first.target, first.reading, first.low, first.high) == ("1", "Speisewasser", 0, 1, 7979.5, 0, 9000)
-    assert (second.reading, second.target, second.rate, pipes.places, pipes.form) == (7900, 0, 100, ("outside", "Kessel"), Form("de", ";", ","))
+    assert (second.reading, second.target, second.rate, pipes.places, pipes.form) == (7900, 0, 100, ("außen", "Kessel"), Form("de", ";", ","))
 
 
 def test_a_title_above_a_list_with_semicolons(listed):

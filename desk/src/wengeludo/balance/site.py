@@ -12,7 +12,7 @@ from typing import List, Optional, Tuple
 import wengeludo_balance as engine
 
 from ..read.faults import Fault, Faulty
-from ..read.lists import Pipe, PipeList, read_list
+from ..read.lists import Asked, Pipe, PipeList, read_list
 from ..read.numbers import exact
 from ..read.plant_files import unit_beside, unpacked
 from . import unit as units
@@ -114,26 +114,26 @@ def _faults(pipe: Pipe, stream: engine.Stream, unit: float) -> List[Fault]:
     found = []
     if stream.low is not None and stream.high is not None:
         if stream.low > stream.high:
-            wanted = f"no whole number of units of {unit:g} kg/h lies between low and high: a wider range or another --unit would do"
+            wanted = f"no whole number of units of {unit:g} kg/h lies between low and high: a wider range or another unit would do"
             found.append(Fault(wanted, pipe.row, "low", pipe.label, "" if pipe.low is None else f"{pipe.low:g}"))
         if max(-stream.low, stream.high) > units.MOST_RANGE:
-            wanted = f"in units of {unit:g} kg/h it is over {units.MOST_RANGE:,}: a larger --unit would do"
+            wanted = f"in units of {unit:g} kg/h it is over {units.MOST_RANGE:,}: a larger unit would do"
             found.append(Fault(wanted, pipe.row, "low and high", pipe.label))
     if abs(stream.reading) > units.MOST_READING:
-        wanted = f"in units of {unit:g} kg/h it is over {units.MOST_READING:,}: a larger --unit would do"
+        wanted = f"in units of {unit:g} kg/h it is over {units.MOST_READING:,}: a larger unit would do"
         found.append(Fault(wanted, pipe.row, "reading", pipe.label, f"{pipe.reading:g}"))
     return found
 
 
-def read_site(path: Path, unit: Optional[Fraction] = None) -> Site:
+def read_site(path: Path, unit: Optional[Fraction] = None, asked: Asked = Asked()) -> Site:
     """The site of a list in a file."""
-    return site_of(read_list(path), unit, path)
+    return site_of(read_list(path, asked), unit, path)
 
 
-def site_in(path: Path, unit: Optional[Fraction]) -> Site:
+def site_in(path: Path, unit: Optional[Fraction], asked: Asked = Asked()) -> Site:
     """The site of a list or of a plant file, whose flows are in this unit; if none is given, in the one told beside it, or in kg/h."""
     if path.suffix.lower() != ".bin":
-        return read_site(path, unit)
+        return read_site(path, unit, asked)
     told = unit or unit_beside(path) or Fraction(1)
     pipes, plant = unpacked(path, told)
     return Site(pipes, told, plant, given=True)
@@ -150,8 +150,6 @@ def notes(site: Site) -> List[str]:
             hint = f"; is it {near[0]}, mistyped?" if near else ""
             found.append(f"{name} has a single stream, so nothing can flow through it{hint}")
     for pipe in site.list.pipes:
-        if pipe.reading is None and (pipe.low is not None or pipe.high is not None):
-            found.append(f"the range of {pipe.title} plays no part: it has no meter")
         if pipe.reading is None and pipe.stated and not pipe.silent:
             found.append(f"the accuracy of {pipe.title} plays no part: it has no reading")
     return found

@@ -8,12 +8,11 @@ from typing import Optional
 
 import click
 
-from ..balance.site import site_in
 from ..read import plant_files
 from ..read.faults import Stopped
 from ..read.lists import MOST_UNITS
 from ..write import outputs, packing, terminal
-from .options import FILE, LIST, UNIT, UnitType
+from .options import FILE, LIST, UNIT, UnitType, site_in
 
 
 @click.command()
@@ -38,14 +37,14 @@ def pack(list: Path, plant: Path, transmitter: bool, units: Optional[int], unit:
 def _tell_unit(path: Path, unit: Fraction) -> None:
     """Writes the unit beside a plant file, which has no room for it; in kg/h none is written, and one that is there goes."""
     if unit != 1:
-        outputs.write(path, f"{unit} kg/h is the unit of the flows in this plant file\n".encode())
+        outputs.write(path, outputs.unit_text(unit))
     elif path.is_file():
         path.unlink()
 
 
 @click.command()
 @click.argument("plant", type=FILE)
-@LIST
+@click.argument("list", type=FILE, metavar="LIST")
 @click.option("--unit", type=UnitType(), help="The unit of the plant file's flows in kg/h; by default the one that `pack` told beside it, else 1.")
 def unpack(plant: Path, list: Path, unit: Optional[Fraction]) -> int:
     """Writes the LIST (CSV or XLSX) of a PLANT file or a transmitter file."""

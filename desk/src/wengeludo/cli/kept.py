@@ -12,7 +12,6 @@ import click
 import wengeludo_balance as engine
 
 from ..balance.sheet import VERDICT, balance
-from ..balance.site import site_in
 from ..explain import rules
 from ..explain.why import overfull
 from ..keep.batch import run as run_batch
@@ -27,7 +26,7 @@ from ..read.faults import Stopped
 from ..write import outputs, terminal
 from .books import WHO, progress
 from .named import BOOK, BookType, HourType, ReferenceType
-from .options import FAILED, FILE, LIST, OFFICE, OUTPUT, REFUSED, UNIT
+from .options import FAILED, FILE, LIST, OFFICE, OUTPUT, REFUSED, UNIT, site_in
 
 
 @click.command()

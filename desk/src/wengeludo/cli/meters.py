@@ -8,12 +8,15 @@ from typing import Optional
 
 import click
 
+from wengeludo_balance import Verdict
+
 from ..balance.kind import SheetKind
-from ..balance.site import site_in
 from ..explain import purchase
 from ..explain.charges import bill as bill_of
+from ..explain.charges import by_the_tool
 from ..write import terminal
-from .options import LIST, UNIT, sheet_of
+from ..write.view import headline
+from .options import FAILED, LIST, UNIT, sheet_of, site_in
 
 
 @click.command()
@@ -46,13 +49,20 @@ def layouts(list: Path, unit: Optional[Fraction]) -> int:
 @click.command()
 @LIST
 @UNIT
-def bill(list: Path, unit: Optional[Fraction]) -> int:
+@click.option("--failing", is_flag=True, help="Bill from a sheet that fails its test too.")
+def bill(list: Path, unit: Optional[Fraction], failing: bool) -> int:
     """What each stream to the outside is charged for one hour, by the column `rate`."""
     drawn = sheet_of(list, unit)
+    failed = drawn.verdict is Verdict.FAIL
+    if failed and not failing:
+        terminal.console(error=True).print(terminal.said(f"{list}: no bill: the sheet fails its test ({headline(drawn)}); --failing bills it all the same"), soft_wrap=True)
+        return FAILED
     site, (charges, cents) = drawn.site, bill_of(drawn, list)
     rows = [((c.pipe.label, c.pipe.what, site.shown(c.flow), f"{c.rate:,}", f"{c.cents:,}"), "") for c in charges]
     rows.append((("", "bill", "", "", f"{cents:,}"), "bold"))
     terminal.table(("stream", "what", "kg", "1/10,000 cent per kg", "cents"), rows, ("kg", "1/10,000 cent per kg", "cents"))
-    if drawn.kind is SheetKind.CHECKED:
-        terminal.lines([f"Flows: {drawn.kind.text}. Charges: worked out by the tool in exact fractions, rounded as the engine rounds them."])
-    return 0
+    why = by_the_tool(drawn)
+    terminal.lines([f"Flows: {drawn.kind.text}."] if drawn.kind is SheetKind.CHECKED else [])
+    terminal.lines([f"Charges worked out by the tool, in exact fractions, by the engine's rule: {why}."] if why else [])
+    terminal.lines([f"BILLED FROM A FAILING SHEET: {headline(drawn)}."] if failed else [])
+    return FAILED if failed else 0

@@ -4,21 +4,68 @@ from __future__ import annotations
 
 from fractions import Fraction
 from pathlib import Path
-from typing import Optional
+from typing import Any, Callable, Optional, TypeVar
 
 import click
 
 import wengeludo_balance as engine
 
 from ..balance.sheet import Balance, balance
-from ..balance.site import site_in
+from ..balance.site import Site
+from ..balance.site import site_in as plain_site
 from ..balance.unit import unit_from
 from ..explain.why import overfull
 from ..read.faults import Stopped
+from ..read.lists import Asked
+from ..read.numbers import COMMA, POINT, amount
+from ..write import terminal
 
+F = TypeVar("F", bound=Callable[..., Any])
 REFUSED, WRONG_USE, FAILED = 1, 2, 3
 FILE = click.Path(path_type=Path)
-LIST = click.argument("list", type=FILE, metavar="LIST")
+
+
+class FloorType(click.ParamType):
+    """A floor of accuracies."""
+
+    name = "flow"
+
+    def convert(self, value: object, param: Optional[click.Parameter], ctx: Optional[click.Context]) -> float:
+        try:
+            floor = amount(str(value), POINT if "." in str(value) else COMMA)
+        except ValueError:
+            floor = 0.0
+        if not 1e-6 <= floor <= 1e12:
+            self.fail(f"{value} is no floor: a number of kg/h above 0, or with its unit as 0.05 t/h, would do", param, ctx)
+        return floor
+
+
+def _said(context: click.Context, option: click.Parameter, value: Any) -> None:
+    """Keeps what a user says of a list, for `site_in` below."""
+    context.meta[f"wengeludo.{option.name}"] = value
+
+
+def LIST(command: F) -> F:
+    """The list that a command reads, and what a user may say of it."""
+    words = {"point": ".", ".": ".", "comma": ",", ",": ","}
+    for option in (
+        click.option("--lang", type=click.Choice(["en", "de"]), expose_value=False, callback=_said, help="Numbers and headings in English or German; by default as the list has them."),
+        click.option("--floor", type=FloorType(), expose_value=False, callback=_said, help="No accuracy that is a share of a reading is below this one."),
+        click.option("--decimal", type=click.Choice(list(words)), metavar="point|comma", expose_value=False, callback=lambda c, o, v: _said(c, o, words.get(v)),
+                     help="The decimal mark of the list, if its numbers do not show it."),
+        click.argument("list", type=FILE, metavar="LIST"),
+    ):
+        command = option(command)
+    return command
+
+
+def site_in(path: Path, unit: Optional[Fraction]) -> Site:
+    """The site of a list or a plant file, read as the user says."""
+    said = click.get_current_context().meta
+    asked = Asked(*(said.get(f"wengeludo.{name}") for name in ("decimal", "floor", "lang")))
+    site = plain_site(path, unit, asked)
+    terminal.speak(site.list)
+    return site
 
 
 class UnitType(click.ParamType):
@@ -35,7 +82,7 @@ class UnitType(click.ParamType):
 
 UNIT = click.option("--unit", type=UnitType(), help="The unit of the flows in kg/h; by default the best one for the list.")
 OFFICE = click.option("--office", type=click.IntRange(0, 7), default=0, show_default=True, help="The office that draws the sheet.")
-WRITTEN = "A file to write: .html, .svg, .xlsx, .csv or .json. May be given more than once."
+WRITTEN = "A file to write: .html, .svg, .xlsx, .csv, .json; .bin, .sheet, .numbers for `check`. May be given more than once."
 OUTPUT = click.option("-o", "--output", "outputs_", type=FILE, multiple=True, help=WRITTEN)
 
 

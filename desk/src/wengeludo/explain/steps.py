@@ -1,4 +1,4 @@
-"""What to do next: at most five lines, the most pressing first."""
+"""What to do next: at most five lines, the most pressing first; then what is to be told of the list."""
 
 from __future__ import annotations
 
@@ -10,7 +10,7 @@ from ..balance.graph import across, rings
 from ..balance.individual import MARKED, SURE
 from ..balance.sheet import Balance, by_rule
 from ..balance.site import notes
-from . import purchase, suspects, together
+from . import purchase, ranges, suspects, together
 from .why import overfull
 
 MOST = 5
@@ -23,9 +23,14 @@ def steps(balance: Balance) -> List[str]:
 
 def _steps(balance: Balance) -> List[str]:
     if balance.flowless:
-        return [_not_judged(balance), *notes(balance.site)][:MOST]
-    found = [*_verdict(balance), *_blanks(balance), *_held(balance), *notes(balance.site)]
-    return found[:MOST] or [f"Nothing: the meters agree, and every flow is known.{_chance(balance)}"]
+        return [_not_judged(balance), *told(balance)]
+    found = [*_verdict(balance), *_blanks(balance), *_held(balance), *ranges.broken(balance)]
+    return [*found[:MOST], *told(balance)] or [f"Nothing: the meters agree, and every flow is known.{_chance(balance)}"]
+
+
+def told(balance: Balance) -> List[str]:
+    """What is worth knowing of the list and how it was read, all of it."""
+    return [*notes(balance.site), *ranges.notes(balance)]
 
 
 def _not_judged(balance: Balance) -> str:
@@ -98,7 +103,7 @@ def _several(balance: Balance) -> str:
     """The meters that explain a failing sheet together, taken out one after the other."""
     gone = suspects.eliminated(balance)
     if len(gone) < 2 or gone[-1].verdict is Verdict.FAIL:
-        return "No single meter explains it: more than one is off, or a stream is missing in the list. `wengeludo suspects` lists them all."
+        return "No single meter explains it: more than one is off, or a stream is missing in the list."
     names = ", then ".join(suspects.titles(balance, one.alike) for one in gone)
     then = f"the cost is then {gone[-1].cost:,.1f}, and the sheet no longer fails"
     return f"More than one meter is off. Taken out one after the other, each time the one with the greatest test value: {names}; {then}."

@@ -9,13 +9,14 @@ MORE = ("unit", "floor")  # columns that a list may have beside those
 NUMBERS = ("reading", "accuracy", "low", "high", "price", "rate", "floor")
 AMOUNTS = ("reading", "low", "high", "floor")  # numbers of kg/h
 OUTSIDE = "outside"
-RESULTS = ("balanced", "correction", "σ", "±", "how known")
+RESULTS = ("balanced", "correction", "σ", "test", "±", "how known")
+_TELLING = ("balanced", "correction", "how known")  # by these a sheet is known
 GERMAN: Dict[str, Tuple[str, ...]] = {
     "stream": ("Strom", "Nr", "Nr.", "Nummer", "Leitung", "Stream"), "what": ("Bezeichnung", "Benennung", "Beschreibung", "Was"), "from": ("von",),
     "to": ("nach", "bis"), "reading": ("Messwert", "Ablesung", "Anzeige", "Wert"), "accuracy": ("Genauigkeit", "Unsicherheit", "Messgenauigkeit"),
     "low": ("mindestens", "untere Grenze", "unterer Grenzwert"), "high": ("höchstens", "obere Grenze", "oberer Grenzwert"), "price": ("Preis",),
     "rate": ("Tarif", "Satz"), "unit": ("Einheit",), "floor": ("Mindestabweichung", "Grundabweichung"), "balanced": ("ausgeglichen",),
-    "correction": ("Korrektur",), "how known": ("woher",), OUTSIDE: ("außen", "aussen", "draußen", "draussen", "Umgebung"),
+    "correction": ("Korrektur",), "test": ("Prüfwert",), "how known": ("woher",), OUTSIDE: ("außen", "aussen", "draußen", "draussen", "Umgebung"),
 }
 _ENGLISH = {"unit": ("unit", "units", "uom"), **{name: (name,) for name in (*COLUMNS, "floor")}}
 _OUTSIDES: FrozenSet[str] = frozenset(word.casefold() for word in GERMAN[OUTSIDE])
@@ -48,10 +49,9 @@ def is_outside(name: str, lang: str) -> bool:
 
 
 def results_of(cells: Sequence[str]) -> FrozenSet[str]:
-    """The columns of an earlier sheet, if a heading has all of them: what the tool wrote is no column of the user's."""
+    """The columns of an earlier sheet, if a heading has them: what the tool wrote is no column of the user's."""
     folded = {" ".join(cell.casefold().split()) for cell in cells}
     for lang in ("en", "de"):
-        wanted = {word(name, lang).casefold() for name in RESULTS}
-        if wanted <= folded:
-            return frozenset(wanted)
+        if {word(name, lang).casefold() for name in _TELLING} <= folded:
+            return frozenset(word(name, lang).casefold() for name in RESULTS) & folded
     return frozenset()

@@ -9,7 +9,7 @@ from fractions import Fraction
 from pathlib import Path
 from typing import Callable, Dict, FrozenSet, List, Mapping, Optional, Tuple, TypeVar
 
-from .columns import AMOUNTS, COLUMNS, MORE, NUMBERS, OUTSIDE, is_outside, known_words, language_of, results_of
+from .columns import AMOUNTS, COLUMNS, MORE, NUMBERS, OUTSIDE, is_outside, known_words, language_of, results_of, word
 from .faults import Fault, Faulty, Stopped
 from .flow_units import KNOWN, flow_unit, split_heading, split_unit
 from .grids import Grid, is_header, read_grid
@@ -40,6 +40,9 @@ class Form:
     lang: str = "en"
     separator: str = ","
     decimal: str = "."
+
+
+FORMS = {"en": Form(), "de": Form("de", ";", ",")}
 
 
 @dataclass(frozen=True)
@@ -135,7 +138,8 @@ class _Reader:
         if self.faults:
             raise Faulty(self.path, sorted(self.faults, key=lambda fault: fault.row or 0))
         self.tell()
-        form = Form(self.asked.lang or self.lang, self.grid.separator, self.marks.decimal)
+        form = FORMS[self.asked.lang] if self.asked.lang else Form(self.lang, self.grid.separator, self.marks.decimal)
+        self.names[0] = word(OUTSIDE, form.lang)
         return PipeList(self.path.stem, tuple(pipes), tuple(self.names), tuple(self.extras), spots, tuple(self.told), form, hour_within(above[:MOST_ABOVE]) or "")
 
     def fault(self, wanted: str, row: Optional[int] = None, column: Optional[str] = None, stream: Optional[str] = None,

@@ -2,7 +2,6 @@
 
 from __future__ import annotations
 
-import csv
 import io
 from dataclasses import replace
 from pathlib import Path
@@ -16,7 +15,7 @@ from ..balance.site import Site
 from ..balance.unit import clamps
 from ..read.faults import Stopped
 from ..read.lists import PipeList
-from .outputs import put
+from .outputs import csv_bytes, put
 from .view import headline
 
 HEAD = ("stream", "what", "from", "to", "reading", "accuracy", "low", "high")
@@ -36,7 +35,7 @@ def transmitter(site: Site) -> bytes:
     try:
         engine.plant_from_transmitter(file)
     except engine.Refusal as refusal:
-        raise Stopped(f"the engine would refuse this transmitter file: {refusal.text} ({refusal.number}); another --unit would do") from None
+        raise Stopped(f"the engine would refuse this transmitter file: {refusal.text} ({refusal.number}); another unit would do") from None
     return file
 
 
@@ -51,7 +50,7 @@ def lost(site: Site) -> List[str]:
     plain = engine.balance(site.file)
     if plain.verdict is not drawn.verdict:
         told = f"the sheet of such a plant file would say {plain.verdict.name.lower()}, and the list's own is {headline(drawn).split(':')[0]}"
-        raise Stopped(f"{site.list.name}: {told}; a plant file holds accuracies within 32:1 only: another --unit may do, or the list itself")
+        raise Stopped(f"{site.list.name}: {told}; a plant file holds accuracies within 32:1 only: another unit may do, or the list itself")
     meters = ", ".join(f"{c.pipe.label} (±{c.given:.3g} as ±{c.counts:.3g})" for c in clamps(site.list.pipes, site.unit)) or "none by over 5 %"
     rounded = ", ".join(p.label for p, s in zip(site.list.pipes, site.plant.streams) if p.reading is not None and p.reading != site.kg(s.reading)) or "none"
     return [f"Lost in it: accuracies of {meters}; readings rounded to the unit of {rounded}. Its sheet is not the list's own."]
@@ -95,6 +94,4 @@ def written(pipes: PipeList, path: Path) -> bytes:
         data = io.BytesIO()
         book.save(data)
         return data.getvalue()
-    text = io.StringIO(newline="")
-    csv.writer(text).writerows(rows)
-    return text.getvalue().encode()
+    return csv_bytes(rows, pipes.form)

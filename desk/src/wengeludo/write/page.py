@@ -2,19 +2,25 @@
 
 from __future__ import annotations
 
+import math
+import re
 from dataclasses import dataclass
 from datetime import datetime
-from typing import Optional
+from typing import Any, List, Optional, Tuple
 
 from jinja2 import Environment, PackageLoader, select_autoescape
-from markupsafe import Markup
+from markupsafe import Markup, escape
 
 from ..balance.sheet import Balance
-from ..balance.site import notes
-from ..explain.steps import steps
+from ..explain.steps import steps, told
 from ..explain.why import overfull
 from . import view
+from .language import marked_names, spoken
 from .picture import picture
+
+
+TILE = (850.0, 1150.0)  # points of a drawing that are read well on a page of A4
+OVERLAP, WHOLE = 60.0, 1.35  # points that two parts share; a drawing this much larger is still read in one piece
 
 
 @dataclass(frozen=True)
@@ -23,6 +29,11 @@ class Scale:
 
     cost: float
     limit: float
+
+    @property
+    def styles(self) -> Tuple[Markup, Markup]:
+        """Where the two stand, as CSS."""
+        return Markup(f"{self.cost:.2f}%"), Markup(f"{self.limit:.2f}%")
 
 
 def scale(balance: Balance) -> Optional[Scale]:
@@ -33,14 +44,41 @@ def scale(balance: Balance) -> Optional[Scale]:
     return Scale(100 * balance.cost / full, 100 * balance.limit / full)
 
 
+def tiles(drawing: str) -> List[Markup]:
+    """The parts of a drawing that is too large to be read on one page, each as a window on it: left, top, width, height."""
+    found = re.search(r'viewBox="0 0 (\d+) (\d+)"', drawing)
+    wide, high = (float(x) for x in found.groups()) if found else (0.0, 0.0)
+    if wide <= WHOLE * TILE[0] and high <= WHOLE * TILE[1]:
+        return []
+    columns, rows = (_parts(size, most) for size, most in zip((wide, high), TILE))
+    return [Markup(f"{left:.0f} {top:.0f} {across:.0f} {down:.0f}") for top, down in rows for left, across in columns]
+
+
+def _parts(size: float, most: float) -> List[Tuple[float, float]]:
+    """Where equal parts of a length begin, and how long they are, none longer than this, each with a little of the next."""
+    count = max(1, math.ceil((size - OVERLAP) / (most - OVERLAP)))
+    part = (size + OVERLAP * (count - 1)) / count
+    return [(k * (part - OVERLAP), part) for k in range(count)]
+
+
 def page(balance: Balance, live: str = "") -> str:
     """The page of a balance as HTML, with the section that recomputes if there is one."""
-    environment = Environment(loader=PackageLoader("wengeludo.write"), autoescape=select_autoescape(), trim_blocks=True, lstrip_blocks=True)
-    return environment.get_template("page.html").render(
-        site=balance.site.list.name, balance=balance, heads=view.heads(balance), numeric=view.NUMERIC,
-        looks={"balanced": "balanced", "test": "off"}, estimates=view.ESTIMATES, rows=view.rows(balance),
+    drawing = picture(balance)
+    return _environment(balance).get_template("page.html").render(
+        site=Markup(escape(balance.site.list.name)), lang=balance.site.list.form.lang, balance=balance, heads=view.heads(balance), titles=view.titles(balance),
+        numeric=view.NUMERIC, looks={"balanced": "balanced", "test": "off"}, estimates=view.ESTIMATES, rows=view.rows(balance),
         headline=view.headline(balance), standing=view.standing(balance), summary=view.summary(balance),
-        tone=view.tone(balance), cost_text=view.cost_text, scale=scale(balance), steps=steps(balance), notes=notes(balance.site),
-        overfull=overfull(balance) if balance.refused else [], picture=Markup(picture(balance)), live=Markup(live), unit=f"{float(balance.site.unit):g}",
-        date=f"kept {balance.date}" if balance.date else datetime.now().strftime("%Y-%m-%d %H:%M"),
+        tone=view.tone(balance), cost_text=view.cost_text, scale=scale(balance), steps=steps(balance), notes=told(balance),
+        overfull=overfull(balance) if balance.refused else [], picture=Markup(drawing), tiles=tiles(drawing), live=Markup(live), unit=f"{float(balance.site.unit):g}",
+        date=Markup(f"kept {escape(balance.date)}") if balance.date else Markup(datetime.now().strftime("%Y-%m-%d %H:%M")),
     )
+
+
+def _environment(balance: Balance) -> Environment:
+    """Templates whose numbers are written as the language of the list does."""
+    lang, names = balance.site.list.form.lang, marked_names(balance.site.list)
+
+    def said(value: Any) -> Any:
+        return spoken(value, lang, names) if isinstance(value, str) and not isinstance(value, Markup) else value
+
+    return Environment(loader=PackageLoader("wengeludo.write"), autoescape=select_autoescape(), trim_blocks=True, lstrip_blocks=True, finalize=said)

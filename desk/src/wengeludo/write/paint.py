@@ -8,10 +8,11 @@ from typing import FrozenSet, List, Sequence
 
 from ..balance.sheet import SHORT, Balance
 from ..read.texts import legible
+from .language import spoken
 from .layout import NAME, UNIT_ROW, UNIT_SIZE, Layout
 from .legend import legend
 from .spots import header
-from .words import FONT, GREY, LARGE, ROW, SMALL, WORST, broken, label_of, look_of
+from .words import FONT, GREY, LARGE, ROW, SMALL, WORST, broken, label_of, look_of, name_lines
 
 DASHES = {"solid": "", "dashed": ' stroke-dasharray="5,3"', "dotted": ' stroke-dasharray="1.5,4"'}
 RIM = 'stroke="#ffffff" stroke-width="3" paint-order="stroke"'  # of a label that covers a line all the same
@@ -39,13 +40,13 @@ def paint(layout: Layout, balance: Balance, marks: Marks = PLAIN) -> str:
     count = range(len(balance.site.list.pipes))
     return "".join([
         f'<svg xmlns="http://www.w3.org/2000/svg" {size} role="{"group" if marks.focus else "img"}" class="drawing" aria-label="drawing of {name}" ',
-        f'font-family="{FONT}"><title>{name}</title><rect width="100%" height="100%" fill="#ffffff"/>',
+        f'font-family="{FONT}"><title>{name}</title><rect width="100%" height="100%" fill="#ffffff"/><g id="drawing">',
         f'<g transform="translate({(full - wide) / 2 - left:.1f} {-top:.1f})">',
         *(_unit(layout, balance, place) for place in range(1, len(balance.site.list.places))),
         *(f'<circle cx="{x:.1f}" cy="{y:.1f}" r="2.2" fill="{GREY}"/>' for x, y in layout.outs),
         *(_line(layout, balance, k, marks) for k in count),
         *(_label(layout, balance, k, marks) for k in count),
-        f'</g><g transform="translate({(full - key_wide) / 2:.1f} {high:.1f})">{key}</g></svg>\n',
+        f'</g><g transform="translate({(full - key_wide) / 2:.1f} {high:.1f})">{key}</g></g></svg>\n',
     ])
 
 
@@ -82,7 +83,8 @@ def _line(layout: Layout, balance: Balance, k: int, marks: Marks) -> str:
     told = f"{pipe.title}: {site.place(pipe.source)} to {site.place(pipe.target)}"
     if balance.lines:
         flow = balance.lines[k].flow
-        told += f", {'' if flow is None else site.shown(flow) + ' kg/h, '}{SHORT[balance.lines[k].kind]}"
+        amount = "" if flow is None else spoken(f"{site.shown(flow)} kg/h, ", site.list.form.lang)
+        told += f", {amount}{SHORT[balance.lines[k].kind]}"
     focus = f' tabindex="0" role="button" aria-label="{text(told)}"' if marks.focus else ""
     hit = f'<path class="hit" fill="none" stroke="none" d="{path}"/>' if marks.focus else ""
     return (
@@ -95,11 +97,12 @@ def _line(layout: Layout, balance: Balance, k: int, marks: Marks) -> str:
 def _label(layout: Layout, balance: Balance, k: int, marks: Marks) -> str:
     """A label, with a white rim if units have places of the user's own: it may cover a line there."""
     label, (x, y) = label_of(balance, k), layout.labels[k]
-    small = list(label.small)
+    lang, names = balance.site.list.form.lang, len(name_lines(balance.site.list, k))
+    small = [*label.small[:names], *(spoken(line, lang) for line in label.small[names:])]
     if k in marks.struck:
         small[-1:] = [f"✗ struck out; {' '.join(small[-1:])}"]
     sign = "✎ " if k in marks.changed else ""
-    large = f'<tspan font-size="{LARGE}" font-weight="bold" fill="{label.colour}">{text(label.large)}</tspan>'
+    large = f'<tspan font-size="{LARGE}" font-weight="bold" fill="{label.colour}">{text(spoken(label.large, lang))}</tspan>'
     rows = [f'<text x="{x:.1f}" y="{y + LARGE:.1f}" fill="#666666">{sign}{text(label.number)} {large}</text>', *_small(small, x, y)]
     rim = f" {RIM}" if layout.own else ""
     return f'<g id="label-{k}" class="label{_classes(k, marks)}" data-stream="{k}" font-size="{SMALL}" text-anchor="middle"{rim}>{"".join(rows)}</g>\n'

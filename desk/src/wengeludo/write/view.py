@@ -2,6 +2,7 @@
 
 from __future__ import annotations
 
+import re
 from dataclasses import dataclass
 from typing import Any, Dict, List, Optional, Tuple
 
@@ -9,9 +10,11 @@ from wengeludo_balance import Kind, Verdict
 
 from ..balance.kind import SheetKind
 from ..balance.sheet import HOW, SHORT, VERDICT, Balance, Line, sigmas
-from ..balance.site import notes
 from ..explain.steps import steps
+from ..explain.steps import told as notes_of
 from ..explain.why import overfull
+from ..read.columns import COLUMNS, MORE, word
+from ..read.lists import Pipe, PipeList
 
 NAMES = ("stream", "what", "from", "to")
 HEADS = (*NAMES, "reading", "balanced", "correction", "σ", "test", "±", "how known")
@@ -36,14 +39,60 @@ class Row:
         return tuple(sign + cell if k == HEADS.index("test") and self.kind else cell for k, cell in enumerate(self.cells))
 
 
+OF_THE_LIST = ("accuracy", "low", "high", "price", "rate", "floor")  # columns that files have too, so that they can be read again
+
+
 def correction(line: Line) -> Optional[float]:
     """The correction that is shown: of a checked meter, or of one held at an end of its range."""
     return line.correction if line.kind is Kind.ADJUSTED or line.held else None
 
 
 def heads(balance: Balance) -> Tuple[str, ...]:
-    """The columns: of a sheet, or of the ranges where there is none; then those of the user's own."""
-    return (*(NO_SHEET if balance.flowless else HEADS), *balance.site.list.extras)
+    """The columns: of a sheet, or of the ranges if there is none; then those of the user's own."""
+    return (*(NO_SHEET if balance.flowless else HEADS), *own_heads(balance.site.list))
+
+
+def own_heads(pipes: PipeList) -> Tuple[str, ...]:
+    """The columns of the user's own; one that is called as one of the tool's is told apart."""
+    taken = {name.casefold() for name in (*HEADS, *NO_SHEET, *COLUMNS, *MORE)}
+    taken |= {word(name, pipes.form.lang).casefold() for name in (*HEADS, *NO_SHEET, *COLUMNS, *MORE)}
+    return tuple(f"{name} (of the list)" if name.casefold() in taken else name for name in pipes.extras)
+
+
+def titles(balance: Balance) -> Tuple[str, ...]:
+    """The same in the language of the list."""
+    lang, own = balance.site.list.form.lang, own_heads(balance.site.list)
+    return tuple(head if head in own else word(head, lang) for head in heads(balance))
+
+
+def filed(balance: Balance) -> Tuple[Tuple[str, ...], List[Tuple[Any, ...]]]:
+    """What files have: the titles, and a row for each stream with numbers as numbers; the columns of the list too."""
+    pipes, base = balance.site.list, NO_SHEET if balance.flowless else HEADS
+    more = [name for name in OF_THE_LIST if name not in base and any(_listed(pipe, name) is not None for pipe in pipes.pipes)]
+    own = len(pipes.extras)
+    shown = titles(balance)
+    heads_ = (*shown[: len(base)], *(word(name, pipes.form.lang) for name in more), *shown[len(base) :])
+    table = []
+    for pipe, row in zip(pipes.pipes, rows(balance)):
+        keys = (row.cells[0], *row.keys[1:])
+        split = len(keys) - own
+        table.append((*(_round(key) for key in keys[:split]), *(_listed(pipe, name) for name in more), *keys[split:]))
+    return heads_, table
+
+
+def _listed(pipe: Pipe, name: str) -> Any:
+    """What a column of the list has for a stream; nothing if it has nothing."""
+    return {"accuracy": _stated(pipe), "low": pipe.low, "high": pipe.high, "price": pipe.price, "rate": pipe.rate, "floor": pipe.floor}[name]
+
+
+def _stated(pipe: Pipe) -> Any:
+    """The accuracy as the list states it, a plain number as a number."""
+    return float(pipe.stated) if re.fullmatch(r"\d+(\.\d+)?", pipe.stated) else pipe.stated or None
+
+
+def _round(key: Any) -> Any:
+    """A number without the noise of floats."""
+    return round(key, 9) if isinstance(key, float) else key
 
 
 def rows(balance: Balance) -> List[Row]:
@@ -117,8 +166,14 @@ def summary(balance: Balance) -> str:
         return f"{len(balance.site.list.pipes)} streams, {unit}"
     checks = "check" if balance.degrees == 1 else "checks"
     limit = f"limit {balance.limit:,.1f} for {balance.degrees} {checks}" if balance.limit is not None else "nothing to test"
-    number = f"sheet {balance.total.number} of office {balance.total.office}, " if balance.kind is SheetKind.ENGINE else ""
-    return f"{number}cost {cost_text(balance.cost)}, {limit}, {unit}"
+    return f"{numbered(balance)}, cost {cost_text(balance.cost)}, {limit}, {unit}"
+
+
+def numbered(balance: Balance) -> str:
+    """What a sheet is: one that an office has numbered, or one that nobody has kept."""
+    if balance.kind is SheetKind.ENGINE and (balance.date or balance.total.office or balance.total.number != 1):
+        return f"sheet {balance.total.number} of office {balance.total.office}"
+    return "kept" if balance.date else "not kept"
 
 
 def tone(balance: Balance) -> str:
@@ -133,7 +188,7 @@ def document(balance: Balance) -> Dict[str, Any]:
     site = balance.site
     told: Dict[str, Any] = {
         "site": site.list.name, "kind": balance.kind.value, "unit_kg_per_hour": float(site.unit), "verdict": headline(balance).split(":")[0],
-        "next": steps(balance), "notes": notes(site),
+        "next": steps(balance), "notes": notes_of(balance),
     }
     if balance.refused:
         told |= {"refusal": 19, "overfull": [site.place(p) for p in sorted(balance.marked)], "why": overfull(balance)}
@@ -170,4 +225,4 @@ def _entry(balance: Balance, k: int) -> Dict[str, Any]:
             "sigmas": None if moved is None or line.sigmas is None else round(line.sigmas, 3),
             "test": None if line.test is None else round(abs(line.test), 3), "deviation": None if line.spread is None else round(line.spread, 3), "held": line.held,
         }
-    return entry | dict(zip(site.list.extras, pipe.extra))
+    return entry | ({"columns": dict(zip(site.list.extras, pipe.extra))} if site.list.extras else {})
