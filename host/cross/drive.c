@@ -247,9 +247,65 @@ static void write_plant(void) /* and what becomes of the file that is written */
     visits_of(moved, moved_length);
 }
 
+/* A plant with wide numbers, and a flow. */
+static struct {
+    uint8_t units, from[WENGELUDO_MAX_STREAMS], to[WENGELUDO_MAX_STREAMS], metered[WENGELUDO_MAX_STREAMS], ranged[WENGELUDO_MAX_STREAMS];
+    uint64_t weight[WENGELUDO_MAX_STREAMS], count;
+    int64_t reading[WENGELUDO_MAX_STREAMS], low[WENGELUDO_MAX_STREAMS], high[WENGELUDO_MAX_STREAMS], flow[WENGELUDO_MAX_STREAMS];
+    int64_t numbers[WENGELUDO_MAX_PLACES];
+} wide;
+
+static int64_t sized(uint32_t bits) /* within 2^(bits - 1) */
+{
+    const int64_t size = (int64_t)drawn(1u << 20) - (1 << 19);
+    return size * ((int64_t)1 << drawn(bits - 19));
+}
+
+/* Every second stream brings back what the one before it took; the reading is one at which the numbers show the flow. */
+static void draw_wide(uint64_t k)
+{
+    wide.from[k] = k % 2 ? wide.to[k - 1] : (uint8_t)drawn(wide.units + 1u);
+    wide.to[k] = k % 2 ? wide.from[k - 1] : (uint8_t)((wide.from[k] + 1 + drawn(wide.units)) % (wide.units + 1u));
+    const int64_t difference = wide.numbers[wide.to[k]] - wide.numbers[wide.from[k]];
+    wide.metered[k] = (uint8_t)(difference || drawn(4));
+    wide.weight[k] = 1 + ((uint64_t)drawn(1u << 20) << drawn(21));
+    wide.flow[k] = k % 2 ? wide.flow[k - 1] : sized(40);
+    const int64_t twice = 2 * (int64_t)wide.weight[k], sum = difference + (int64_t)wide.weight[k];
+    wide.reading[k] = wide.flow[k] - (sum / twice - (sum % twice < 0));
+    wide.ranged[k] = (uint8_t)drawn(3);
+    wide.low[k] = wide.flow[k] - (int64_t)drawn(3);
+    wide.high[k] = wide.flow[k] + (int64_t)drawn(3);
+}
+
+static void tell_wide(void)
+{
+    number(wengeludo_check_flow(wide.units, wide.count, wide.from, COUNT(wide.from), wide.to, COUNT(wide.to), wide.metered,
+                                COUNT(wide.metered), wide.weight, COUNT(wide.weight), wide.reading, COUNT(wide.reading), wide.ranged,
+                                COUNT(wide.ranged), wide.low, COUNT(wide.low), wide.high, COUNT(wide.high), wide.flow, COUNT(wide.flow),
+                                wide.numbers, said(wide.units + 1u, COUNT(wide.numbers))));
+}
+
+static void check_flow(void) /* as it is, with a number, a flow or a weight off */
+{
+    const uint32_t bits = 20 + drawn(41);
+    wide.units = (uint8_t)(1 + drawn(WENGELUDO_MAX_UNITS));
+    wide.count = 2 * drawn(WENGELUDO_MAX_STREAMS / 2 + 1);
+    for (uint64_t u = 0; u < COUNT(wide.numbers); u++)
+        wide.numbers[u] = sized(bits);
+    for (uint64_t k = 0; k < wide.count; k++)
+        draw_wide(k);
+    tell_wide();
+    wide.numbers[drawn(wide.units + 1u)] += (int64_t)drawn(3) - 1;
+    tell_wide();
+    wide.flow[drawn(WENGELUDO_MAX_STREAMS)] += (int64_t)drawn(3) - 1;
+    tell_wide();
+    wide.weight[drawn(WENGELUDO_MAX_STREAMS)] <<= drawn(24);
+    tell_wide();
+}
+
 static void (*const calls[])(void) = {
     version, balance_plant, read_sheet, place_numbers, check_sheet, to_ranged, from_ranged, plant_from_transmitter,
-    layouts_of, visits, meters_to_buy, charges, write_plant,
+    layouts_of, visits, meters_to_buy, charges, write_plant, check_flow,
 };
 
 /* The pack: each file behind its length, in four bytes, high byte first. */
