@@ -35,6 +35,7 @@ TURNED = {'<': '<=', '<=': '<', '>': '>=', '>=': '>', '==': '!=', '!=': '==', '+
           'and': 'or', 'or': 'and', 'True': 'False', 'False': 'True', 'true': 'false', 'false': 'true', 'min': 'max', 'max': 'min', 'any': 'all',
           'all': 'any', 'not': '', 'in': 'not in', 'is': 'is not', '%': '//', '+=': '-=', '-=': '+=', '<<': '>>', '>>': '<<', 'ceil': 'floor',
           'floor': 'ceil', 'sorted': 'list', 'abs': '', 'if': 'if not', 'break': 'continue', 'continue': 'break'}
+EMPTY = re.compile(r'let mut|let \(|vec!|= \{0\}|= 0[,;]')  # what a call overwrites: another number there changes nothing
 SIGNS = re.compile(r'(?<![<>=!&|+\-*/:])(<=|>=|==|!=|&&|\|\||<<|>>|(?<= )[<>+\-*/%](?= )|\b(?:true|false|min|max)\b|\b\d+\b)(?![<>=&|])')
 
 
@@ -65,7 +66,7 @@ def plain_spots(text):
         bare = line.strip()
         comment = comment or bare.startswith('/*')
         if not comment and not bare.startswith(('//', '#', '*', '.')) and bare:
-            found += [(at + m.start(1), at + m.end(1), m[1]) for m in SIGNS.finditer(line)]
+            found += [(at + m.start(1), at + m.end(1), m[1]) for m in SIGNS.finditer(line) if m[1] != '0' or not EMPTY.search(line)]
             found += [(at + m.start(), at + m.end(), m[0]) for m in re.finditer(r'"[^"\\{}%]{3,}"', line)]
             if re.fullmatch(r'\s+[\w.*&\[\]>-]+( [+\-|*/]?= .*|\(.*\));?', line.rstrip('\n')) and 'return' not in line:
                 found.append((at + len(line) - len(line.lstrip()), at + len(line.rstrip('\n')), '-- line'))

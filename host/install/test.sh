@@ -75,6 +75,8 @@ done < <(cat "$work/declared" && echo wengeludo_refusal_text)
 groff -man -ww -z "$prefix/share/man/man3/wengeludo.3" 2>"$work/log"
 [ ! -s "$work/log" ] || { cat "$work/log" >&2; fail "groff warns of the manual page"; }
 MANWIDTH=200 man -M "$prefix/share/man" wengeludo_balance_plant >"$work/page" 2>/dev/null
+MANWIDTH=1000 man --no-hyphenation --no-justification -M "$prefix/share/man" wengeludo >"$work/wide" 2>/dev/null
+python3 host/install/test_page.py "$work/wide" "$prefix/include/wengeludo_balance.h" || fail "the manual page does not say what the header says"
 while read -r call; do
     grep -qE "^ +uint[0-9]+_t $call\\(" "$work/page" || fail "$call is not in the synopsis of the manual page"
     grep -qE "^   [a-z_ ]*\\b$call\\b" "$work/page" || fail "$call is not described in the manual page"
