@@ -25,8 +25,8 @@ from tried import ROOT, Tree
 # Part, how many of a hundred, and the files.
 AREAS = (
     ('desk', 50, ('desk/src/wengeludo/**/*.py', 'desk/src/wengeludo/**/*.js')),
-    ('python', 14, ('bindings/python/src/wengeludo_balance/*.py', 'bindings/python/native/rows.c')),
-    ('c', 10, ('host/c/*_file.c', 'host/c/meters_to_buy.c', 'host/c/check_sheet.c', 'host/c/place_numbers.c', 'host/c/*.h')),
+    ('python', 14, ('bindings/python/src/wengeludo_balance/*.py', 'bindings/python/native/rows.c', 'bindings/python/native/wide_checked.c')),
+    ('c', 10, ('host/c/*_file.c', 'host/c/meters_to_buy.c', 'host/c/check_sheet.c', 'host/c/check_flow.c', 'host/c/place_numbers.c', 'host/c/*.h')),
     ('cpp', 8, ('host/include/wengeludo.hpp',)),
     ('rust', 10, ('host/rust/src/*.rs',)),
     ('install', 8, ('install.sh', 'host/install/man.py', 'host/install/*.cmake', 'host/install/*.in')),

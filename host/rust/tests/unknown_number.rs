@@ -3,7 +3,7 @@
 
 use wengeludo_balance::{
     charges, check, from_ranged, layouts, meters_to_buy, plant_from_transmitter, to_ranged, visits, Certificate, Offices, Plant,
-    Refusal, Sheet, SHEET_SIZE,
+    Refusal, Sheet, WidePlant, SHEET_SIZE,
 };
 
 #[test]
@@ -25,5 +25,6 @@ fn nothing_is_taken_for_done() {
     assert_eq!(charges(&file, &[]), Err(unknown));
     assert_eq!(check(&file, &[0x1F], &Certificate::default()), Err(unknown));
     assert_eq!(Certificate::of(&file), Err(unknown));
+    assert_eq!(WidePlant::new(1).check(&[], &[0, 0]), Err(unknown));
     assert_eq!(unknown.to_string(), "refused 99: a number that this version does not know");
 }

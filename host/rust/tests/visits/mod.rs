@@ -7,7 +7,7 @@ use crate::agree::{Counts, Subject};
 use crate::draw::{Call, Draw};
 use crate::reference::{self, file_of, read, Listed};
 use crate::shrink;
-use wengeludo_balance::{raw, Visit};
+use wengeludo_balance::{raw, Visit, WidePlant};
 
 const GUARD: usize = 64;
 
@@ -205,6 +205,8 @@ fn little_stack() {
             let (mut numbers, mut places) = (vec![0; 33], 0);
             raw::place_numbers(file, &mut numbers, &mut places);
             raw::check_sheet(file, &sheet[..count], &numbers[..places]);
+            let ring = (0..96).fold(WidePlant::new(32), |plant, k| plant.metered(k % 33, (k + 1) % 33, 1 << 40, 1 << 40));
+            let _ = ring.check(&[1 << 40; 96], &[0; 33]);
         }
     };
     std::thread::Builder::new().stack_size(76 * 1024).spawn(calls).unwrap().join().unwrap();
