@@ -7,6 +7,7 @@ import csv
 import json
 import os
 import random
+import sqlite3
 from dataclasses import replace
 from fractions import Fraction
 
@@ -14,6 +15,7 @@ import monte_carlo
 import openpyxl
 import pytest
 from conftest import SAMPLES
+from test_book import altered
 
 import wengeludo_balance as engine
 from wengeludo.balance import individual, wide
@@ -221,6 +223,25 @@ def test_kept_and_opened(house, run, tmp_path):
     assert "kept as sheet 1 of office 3" in run("keep", SAMPLES / "steam_site.csv", book, "--office", "3").out
     opened = run("open", book, "1", "--office", "3", "--flows")
     assert opened.status == 0 and SENTENCE in opened.out and "it passes" in opened.out
+
+
+@pytest.mark.parametrize("what", ["flows", "numbers", "streams", "list"])
+def test_a_spoilt_book_is_seen(what, house, run, tmp_path):
+    """A number of a kept record changed in the book: it is not opened, and the record itself is named beside the chain."""
+    path = tmp_path / "sheets.book"
+    run("keep", house, path)
+    told = json.loads(sqlite3.connect(path).execute("SELECT sheet FROM sheets WHERE kind = 1").fetchone()[0])
+    if what == "list":  # a sound record, of another list than the one that is kept beside it
+        house.write_text(BOILER_HOUSE.replace("400,2%", "401,2%"))
+        told = json.loads(wide.solve(exacts_of(read_list(house))).to_json())
+    elif what == "streams":
+        told["streams"][2][1] += 100
+    else:
+        told[what][2] += 2**42
+    spoilt = altered(path, tmp_path / "spoilt.book", ("UPDATE sheets SET sheet = ? WHERE kind = 1", json.dumps(told).encode()))
+    opened = run("open", spoilt, "1", "--flows")
+    said = {"list": "other readings", "streams": "not those of its list"}.get(what, "do not pass the check")
+    assert opened.status == 1 and "the chain is broken" in opened.err and said in opened.err
 
 
 # ---------------------------------------------------------------- not judged, overfull

@@ -13,6 +13,7 @@ from wengeludo_balance import Kind, Record, Verdict
 from ..read.lists import Pipe, PipeList
 from . import individual, wide
 from .checked import Checked
+from .exact import exacts_of
 from .kind import SheetKind
 from .limits import critical
 from .site import Site, wide_site
@@ -176,13 +177,12 @@ def _own(site: Site, office: int, lasts: Tuple[int, ...]) -> Balance:
 
 def by_rule(listed: PipeList) -> Balance:
     """The sheet of a list by the wide rule, without estimates: checked flows, or not judged and why; with 19 its marked places."""
-    site = wide_site(listed)
     try:
-        checked = wide.solve(site.exacts)
+        checked = wide.solve(exacts_of(listed))
     except wide.Overfull as overfull:
-        return Balance(site, marked=overfull.places)
+        return Balance(wide_site(listed), marked=overfull.places)
     except wide.NotJudged as unjudged:
-        return Balance(site, kind=SheetKind.UNJUDGED, reason=str(unjudged))
+        return Balance(wide_site(listed), kind=SheetKind.UNJUDGED, reason=str(unjudged))
     return checked_balance(listed, checked, False)
 
 
@@ -196,7 +196,7 @@ def agrees(own: Balance, ruled: Balance) -> bool:
     limit = critical(own.degrees) or Fraction(1)
     if abs(own.exact_cost - ruled.exact_cost) > SHARE * max(limit, ruled.exact_cost):
         return False
-    return all(_near(own, ruled.checked, k) for k, stream in enumerate(ruled.site.exacts.streams) if stream.metered)
+    return all(_near(own, ruled.checked, k) for k, stream in enumerate(ruled.checked.listed.streams) if stream.metered)
 
 
 def _near(own: Balance, checked: Checked, k: int) -> bool:

@@ -90,9 +90,12 @@ def site_of(pipes: PipeList, unit: Optional[Fraction] = None, path: object = "")
 
 def wide_site(pipes: PipeList, unit: Optional[Fraction] = None, plant: Optional[engine.WidePlant] = None) -> Site:
     """The site of a list by the wide rule: in this unit, with this plant; without one, in its unit and with its shape alone."""
+    if unit is not None and plant is not None:
+        return Site(pipes, unit, engine.Plant(plant.units, plant.streams), fits=False)
     listed = exacts_of(pipes)
-    streams = plant.streams if plant else tuple(engine.Stream(s.source, s.target, 1, 0) if s.metered else engine.Stream(s.source, s.target) for s in listed.streams)
-    return Site(pipes, unit or wide.unit_of(listed) or Fraction(1), engine.Plant(listed.units, streams), fits=False)
+    streams = (engine.Stream(s.source, s.target, 1, 0) if s.metered else engine.Stream(s.source, s.target) for s in listed.streams)
+    found = wide.units_of(listed)
+    return Site(pipes, found.best if found else Fraction(1), engine.Plant(listed.units, tuple(streams)), fits=False)
 
 
 def _streams(pipes: PipeList, unit: Fraction) -> Tuple[List[engine.Stream], List[Fault]]:

@@ -8,6 +8,9 @@ Weights: the greatest, of the meters that other meters check, is 2^40, the other
 
 from __future__ import annotations
 
+import math
+from bisect import bisect_left, bisect_right
+from dataclasses import dataclass
 from fractions import Fraction
 from typing import FrozenSet, List, Optional, Tuple
 
@@ -18,9 +21,18 @@ from .checked import REACH, Checked, wide_plant
 from .exact import Exacts
 
 UNITS = tuple(Fraction(10) ** k * step for k in range(-9, 10) for step in (1, 2, 5))
+SQUARES = tuple(unit * unit for unit in UNITS)
 PARTS = 100  # the unit is at most this part of the smallest deviation
 FINEST = 10_000  # and finer than this part of it not for the sake of typed digits alone
 TOPS = (engine.WIDE_WEIGHT, 2**30)  # the greatest weight; the lesser if the numbers of the places would be too large
+
+
+@dataclass(frozen=True)
+class Units:
+    """The unit of a list, and the finest that may be tried if it does not do."""
+
+    best: Fraction
+    finest: Fraction
 
 
 class NotJudged(Exception):
@@ -38,13 +50,13 @@ class Overfull(Exception):
 def solve(listed: Exacts) -> Checked:
     """Flows of least cost that the proved call has passed; Overfull if there are none in range, NotJudged if none were found. If ends of
     ranges were rounded so much that the guard does not hold, they are sought once more in the finest unit."""
-    unit = unit_of(listed)
-    if unit is None:
+    units = units_of(listed)
+    if units is None:
         raise NotJudged("its readings are too large for any unit")
-    found, finer = _solved(listed, unit), _units(listed)[0]
-    if found.judged.guarded or finer >= unit:
+    found = _solved(listed, units.best)
+    if found.judged.guarded or units.finest >= units.best:
         return found
-    again = _solved(listed, finer)
+    again = _solved(listed, units.finest)
     return again if again.judged.guarded else found
 
 
@@ -103,25 +115,24 @@ def _smallest(listed: Exacts, counting: bool = False) -> Fraction:
     return min((squares[k] for k in (counting and listed.counting) or squares), default=Fraction(1))
 
 
-def unit_of(listed: Exacts) -> Optional[Fraction]:
-    """The unit of a list; none if its readings are too large for any."""
-    fits, fine = _reached(listed), _units(listed)
-    typed = _typed(listed)[1]
-    whole = [unit for unit in fine if all((number / unit).denominator == 1 for number in typed)]
-    coarse = [unit for unit in fits if (unit * PARTS) ** 2 <= _smallest(listed)]
-    return whole[-1] if whole else coarse[-1] if coarse else fits[0] if fits else None
+def units_of(listed: Exacts) -> Optional[Units]:
+    """The units of a list; none if its readings are too large for any."""
+    smallest, (near, all_) = _smallest(listed), _typed(listed)
+    reach = max((abs(number) for number in near), default=Fraction(0))
+    least, fine = bisect_left(UNITS, 16 * reach / (15 * REACH)), bisect_right(SQUARES, smallest / PARTS**2)
+    tried = UNITS[max(least, bisect_left(SQUARES, smallest / FINEST**2)) : fine]
+    if least == len(UNITS):
+        return None
+    step = _step(all_)
+    whole = [unit for unit in tried if (step / unit).denominator == 1]
+    best = whole[-1] if whole else UNITS[fine - 1] if fine > least else UNITS[least]
+    return Units(best, tried[0] if tried else UNITS[least])
 
 
-def _reached(listed: Exacts) -> List[Fraction]:
-    """The units in which the flows do not go too far, the finest first."""
-    reach = max((abs(number) for number in _typed(listed)[0]), default=Fraction(0))
-    return [unit for unit in UNITS if 16 * reach <= 15 * REACH * unit]
-
-
-def _units(listed: Exacts) -> List[Fraction]:
-    """Of these units those from a ten-thousandth to a hundredth of the smallest deviation; if there are none, the finest."""
-    fits, smallest = _reached(listed), _smallest(listed)
-    return [unit for unit in fits if (unit * PARTS) ** 2 <= smallest <= (unit * FINEST) ** 2] or fits[:1]
+def _step(numbers: List[Fraction]) -> Fraction:
+    """The greatest number of which all these are whole multiples."""
+    shared = math.lcm(*(number.denominator for number in numbers))
+    return Fraction(math.gcd(*(number.numerator * (shared // number.denominator) for number in numbers)), shared)
 
 
 def _typed(listed: Exacts) -> Tuple[List[Fraction], List[Fraction]]:
