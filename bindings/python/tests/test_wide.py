@@ -327,4 +327,7 @@ def test_rows_that_do_not_fit():
     for weights, readings in (([1], [0]), ([1, 1], [0]), ([1, 1, 1], [0, 0, 0])):
         with pytest.raises(ValueError):
             w.wide_rows(plant, array("Q", weights), array("q", readings))
+    for weights, readings in ((array("I", [1] * 4), array("q", [0, 0])), (array("Q", [1, 1]), array("d", [0, 0])), (b"\1" * 16, b"\0" * 16)):
+        with pytest.raises(ValueError, match="whole numbers of 8 bytes"):
+            w.wide_rows(plant, weights, readings)
     assert w.wide_rows(plant, array("Q"), array("q")).answers == b""

@@ -112,6 +112,15 @@ def wide_solve(plant: WidePlant) -> WideFlow:
     return WideFlow(tuple(flow[0 : len(plant.streams)]), tuple(number[0 : units + 1]))
 
 
+def _words(element: str, values: Any) -> Any:
+    """A buffer of whole numbers of 8 bytes, as the solver in C takes it; ValueError for one of other elements."""
+    view = memoryview(values)
+    if view.itemsize != 8 or view.format not in ("q", "Q", "l", "L", "n", "N") or not view.c_contiguous:
+        gaps = "" if view.c_contiguous else ", with gaps"
+        raise ValueError(f"weights and readings are whole numbers of 8 bytes, row after row without gaps; these are of kind {view.format}{gaps}")
+    return ffi.from_buffer(f"{element}[]", values)
+
+
 def wide_rows(plant: WidePlant, weights: Any, readings: Any) -> WideRows:
     """`wide_solve` of many rows of one plant, whose own weights and readings are not looked at.
 
@@ -119,7 +128,7 @@ def wide_rows(plant: WidePlant, weights: Any, readings: Any) -> WideRows:
     has them. A weight of 0 makes the stream unmetered in that row. Flows and numbers of a row that is not answered 0 are 0.
     """
     count, units = len(plant.streams), _units(plant)
-    weight, reading = ffi.from_buffer("uint64_t[]", weights), ffi.from_buffer("int64_t[]", readings)
+    weight, reading = _words("uint64_t", weights), _words("int64_t", readings)
     rows = len(weight) // count if count else 0
     if len(reading) != len(weight) or rows * count != len(weight):
         raise ValueError("weights and readings are as many, a whole number of rows")
