@@ -172,3 +172,20 @@ def test_a_bill_of_the_sheet_s_flows(run, listed):
     assert numbers[-3:] == ["100", "100", "200"], ended.out
     assert run("bill", listed(text.format(10_000, ""))).status == 1
     assert "rate" in run("bill", listed(text.format(10_000, ""))).err
+
+
+def test_places_that_are_not_in_centimetres():
+    """Far apart or close together they keep their proportions, to the right and down; one that is far from the rest has no place."""
+    from wengeludo.read.places import drawable
+
+    names = ["outside", "a", "b", "c", "d"]
+    usual = {1: (100.0, 2.0), 2: (106.0, 2.0), 3: (100.0, 9.0)}
+    assert drawable(usual, names) == (usual, [])
+    for factor in (100.0, 0.01):
+        found, told = drawable({unit: (x * factor, y * factor) for unit, (x, y) in usual.items()}, names)
+        (ax, ay), (bx, by), (cx, cy) = (found[unit] for unit in (1, 2, 3))
+        assert (cy - ay) / (bx - ax) == pytest.approx(7 / 6) and (by, cx) == (pytest.approx(ay), pytest.approx(ax)) and 1 < bx - ax < 30
+        assert len(told) == 1 and ("far apart" if factor > 1 else "close together") in told[0]
+        assert sorted(x for x, _ in found.values())[1] == pytest.approx(0) == sorted(y for _, y in found.values())[1]
+    found, told = drawable({**usual, 4: (100.0, 5000.0)}, names)
+    assert set(found) == {1, 2, 3} and "d" in told[-1]

@@ -296,3 +296,31 @@ def test_the_script_sorts_numbers_as_numbers(name, run, tmp_path):
                 numbers = [float(value) for value in known]
                 assert numbers == sorted(numbers, reverse=down), page.heads[column]
     assert told["on"] == {told["first"]: True} and told["off"] == {told["first"]: False}
+
+
+@pytest.mark.skipif(not shutil.which("node"), reason="no node: the page's script is not run")
+@pytest.mark.parametrize("unit, decimals", [((1, 1), 0), ((1, 2), 1), ((5, 1), 0), ((1, 20), 2), ((200, 1), 0)])
+def test_the_live_page_reads_and_shows_numbers_as_the_list_does(unit, decimals):
+    """In node, without an engine: a text as a fraction, in whole units with halves to the even one, and shown again."""
+    from fractions import Fraction
+    from pathlib import Path
+
+    import wengeludo.write
+
+    source = (Path(wengeludo.write.__file__).parent / "templates" / "live.js").read_text(encoding="utf-8")
+    functions = source[source.index("function fraction") : source.index("/** An element with a text")]
+    texts = ["0", "7", "-7", "−12.5", "100", "2.5", "-2.5", "7.5", "0,25", "-0.05", "1 234.5", "+3", "12345678.9", "x", "", "1.2.3", "-", "0.1"]
+    script = f"const GIVEN = {json.dumps({'unit': unit, 'decimals': decimals})};\n{functions}\nconst told = {json.dumps(texts)}.map((text) => {{"
+    script += " const f = fraction(text); if (!f) return null; const n = inUnits(f); return [String(n), shown(n), shown(n, true)]; });"
+    ran = subprocess.run(["node", "-e", script + "console.log(JSON.stringify(told));"], capture_output=True, text=True, timeout=60)
+    assert ran.returncode == 0, ran.stderr
+    for text, told in zip(texts, json.loads(ran.stdout)):
+        try:
+            value = Fraction(text.replace("−", "-").replace(",", ".").replace(" ", ""))
+        except ValueError:
+            assert told is None, text
+            continue
+        whole = round(value / Fraction(*unit))
+        amount = float(whole * Fraction(*unit))
+        shown, signed = (f"{amount:{sign},.{decimals}f}".replace("-", "−") for sign in ("", "+"))
+        assert told == [str(whole), shown.lstrip("−") if not whole else shown, shown.lstrip("−") if not whole else signed], text
