@@ -16,7 +16,7 @@ from hypothesis import strategies as st
 import wengeludo_balance as engine
 from wengeludo.write import view
 from wengeludo.read.faults import Faulty, Stopped
-from wengeludo.read.lists import COLUMNS, read_list
+from wengeludo.read.lists import COLUMNS, Asked, read_list
 from wengeludo.write.layout import layout_of
 from wengeludo.write.paint import paint
 from wengeludo.balance.checked import Checked
@@ -55,10 +55,10 @@ def lists(draw):
     return text.getvalue().encode()
 
 
-def ends_well(path):
+def ends_well(path, asked=Asked()):
     """A sheet with everything that can be said of it, or faults."""
     try:
-        pipes = read_list(path)
+        pipes = read_list(path, asked)
         site = site_of(pipes)
     except Faulty as faulty:
         assert faulty.faults and all(fault.wanted for fault in faulty.faults)
