@@ -48,17 +48,19 @@ def test_all_tables_of_a_year(run, year, tmp_path):
     rows, flows = table(out / "rows.csv"), table(out / "flows.csv")
     assert len(rows) == len(flows) == sim.YEAR and rows[0]["time"] == "2025-01-01T01:00+01:00"
     assert sum(row["verdict"] == "fail" for row in rows) == int(re.search(r"([\d,]+) of 8,730 tested rows fail", ended.out)[1].replace(",", ""))
-    assert {row["classes"] for row in rows[:24]} == {"RAGGAAARAGAAAGARAWWAGAGAAG"} and flows[0]["18"] == "" and flows[0]["1"] == "3512"
+    assert {row["classes"] for row in rows[:24]} == {"RAGGAAARAGAAAGARAWWAGAGAAG"} and flows[0]["18"] == "" and float(flows[0]["1"]) == year.truth.readings[0, 0]
+    assert {row["sheet"] for row in rows} == {row["sheet"] for row in flows} == {"checked"}
     assert [row["suspect"] for row in rows if row["time"].startswith("2025-02-15T10:00")] == ["5"]
     kept = np.load(tmp_path / "run.npz")
-    assert [int(text["5"]) for text in flows[:200]] == kept["flows"][:200, 4].tolist()
+    unit = Fraction(str(kept["unit"]))
+    assert [Fraction(text["5"]) for text in flows[:200]] == [int(flow) * unit for flow in kept["flows"][:200, 4]]
     assert len(table(out / "meters.csv")) == 17 and len(table(out / "findings.csv")) == 9 and len(table(out / "events.csv")) == 11
     assert [(row["stream"], row["status"]) for row in table(out / "overrides.csv")] == [("9", "fault"), ("20", "fault"), ("17", "fault"), ("24", "fault")]
 
 
 def test_what_is_the_tools_is_called_an_estimate_in_every_file(run, year, tmp_path):
     run("history", year.list, year.spring, "-o", f"{tmp_path}/out/", "-o", tmp_path / "run.xlsx")
-    engines = {"rows": {"time", "verdict", "cost", "limit", "degrees", "classes", "suspect", "flow without it", "verdict without", "refusal"}}
+    engines = {"rows": {"time", "sheet", "verdict", "cost", "limit", "degrees", "classes", "suspect", "flow without it", "verdict without", "refusal"}}
     for name, own in engines.items():
         heads = set(next(csv.reader(open(tmp_path / "out" / f"{name}.csv", encoding="utf-8-sig", newline=""))))
         assert own <= heads and all(head.endswith("(estimate)") for head in heads - own)
@@ -66,7 +68,7 @@ def test_what_is_the_tools_is_called_an_estimate_in_every_file(run, year, tmp_pa
         assert "(estimate)" in (tmp_path / "out" / f"{name}.csv").read_text(encoding="utf-8-sig").splitlines()[0]
     book = openpyxl.load_workbook(tmp_path / "run.xlsx")
     assert book.sheetnames == ["rows", "flows", "meters", "findings", "events", "overrides"]
-    assert book["flows"]["B2"].value == pytest.approx(float(table(tmp_path / "out" / "flows.csv")[0]["1"]))
+    assert book["flows"]["B2"].value == "checked" and book["flows"]["C2"].value == pytest.approx(float(table(tmp_path / "out" / "flows.csv")[0]["1"]))
     text = (tmp_path / "out" / "run.html").read_text(encoding="utf-8")
     assert "The tool’s, estimates" in text and "proved" in text
 

@@ -34,7 +34,7 @@ def test_the_findings_of_the_year():
     assert names(meter) == [("meter", 9), ("meter", 11)] and meter.weeks == 21
     assert (found.run.at(meter.start), found.run.at(meter.end)) == ("2025-05-14T00:00Z", "2025-10-08T00:00Z")
     assert abs(meter.causes[0].off / year.site.deviations[8] - 3) < 0.3
-    assert names(leak)[:4] == [("meter", 20), ("meter", 15), ("meter", 2), ("meter", 22)]
+    assert names(leak)[0] == ("meter", 20) and set(names(leak)[:4]) == {("meter", 20), ("meter", 15), ("meter", 2), ("meter", 22)}
     places = [year.site.tagged.list.places[index] for kind, index in names(leak) if kind == "leak"]
     assert "condensate tank" in places and len(names(leak)) == 7
     assert abs(leak.causes[-1].off - 150) < 8 and leak.causes[-1].off > 0
@@ -71,8 +71,9 @@ def test_a_meter_that_would_tell_them_apart_does():
     streams = list(found.run.plant.streams)
     streams[ask] = Stream(streams[ask].source, streams[ask].target, 40)
     plant = Plant(found.run.plant.units, tuple(streams))
-    weights = np.array([s.weight or 0 for s in streams])
-    together = sets_of(checks(plant, weights, np.where(weights > 0, MEASURED, FAULT)))
+    own = np.array([year.site.deviations**2] * 2)
+    own[:, ask] = 25
+    together = sets_of(checks(plant, own, np.where(own[0] > 0, MEASURED, FAULT)))
     before = next(part for part in found.sets if 19 in part)
     assert not any(set(before) <= set(part) for part in together)
 
@@ -115,7 +116,7 @@ def injected(made, kind, size, seed, rows=20 * 168):
     rng = np.random.default_rng(5000 + seed)
     flows = sim.true_flows(made, rows, rng)
     start = int(rng.integers(6, 12)) * 168 + int(rng.integers(0, 168))
-    checked = [k for together in analysed_sets(made) for k in together]
+    checked = sorted(k for together in analysed_sets(made) for k in together)
     k = int(rng.choice(checked if kind in ("bias", "drift", "spike") else made.metered))
     target = ("meter", k)
     if kind == "leak":
@@ -141,8 +142,8 @@ def sets_by_plant(plant):
     from wengeludo.history.estimates import checks, sets_of
     from wengeludo_balance import MEASURED
 
-    weights = np.array([s.weight or 0 for s in plant.streams])
-    return sets_of(checks(plant, weights, np.where(weights > 0, MEASURED, FAULT)))
+    own = np.array([[1000 / s.weight if s.weight else 0 for s in plant.streams]] * 2)
+    return sets_of(checks(plant, own, np.where(own[0] > 0, MEASURED, FAULT)))
 
 
 def analysed_sets(made):
@@ -184,7 +185,7 @@ def test_what_nothing_checks_is_not_found():
 
 def tables(runs):
     """The tables of docs/HISTORY.md, line by line."""
-    for name, made in (("steam site, 26 streams", sim.site()), ("drawn site, 72 streams", sim.drawn_site())):
+    for name, made, runs in (("steam site, 26 streams", sim.site(), runs), ("drawn site, 72 streams", sim.drawn_site(), max(3, runs * 2 // 5))):
         for memory, more in ((0.5, 1.0), (0.9, 1.0), (0.5, 1.5)):
             found, events = false_findings(made, runs, memory, more)
             yield {"site": name, "nothing": f"memory {memory}, noise {more} times stated", "years": runs, "false findings a year": sum(found) / runs,

@@ -8,7 +8,8 @@ import pytest
 import simulator as sim
 
 import wengeludo_balance as engine
-from wengeludo.balance import unit as units
+from wengeludo.balance import unit as units, wide
+from wengeludo.balance.exact import Exact, Exacts, exacts_of
 from wengeludo.balance.site import site_of
 from wengeludo.history import run as runs
 from wengeludo.history.analysis import analysed
@@ -16,8 +17,8 @@ from wengeludo.history.estimates import Standardized, checks, sets_of
 from wengeludo_balance import FAULT, HELD, MEASURED, Verdict
 
 
-@pytest.mark.parametrize("name, unit", [("steam_site", None), ("two_percent", None), ("steam_site", Fraction(1, 2)), ("steam_site", Fraction(1, 5)), ("two_percent", Fraction(50))])
-def test_a_row_is_the_desks_sheet_of_that_hour(name, unit):
+@pytest.mark.parametrize("name, unit", [("steam_site", Fraction(1)), ("two_percent", Fraction(20)), ("steam_site", Fraction(1, 2)), ("steam_site", Fraction(1, 5)), ("two_percent", Fraction(50))])
+def test_a_row_is_the_engines_sheet_of_that_hour(name, unit):
     made = sim.site(name)
     rng = np.random.default_rng(3)
     readings = np.round(sim.read_by(made, sim.true_flows(made, 60, rng), rng), 1)
@@ -56,8 +57,7 @@ def test_the_unit_is_one_for_the_run_and_holds_its_greatest_reading():
     calm = sim.run_of(made, readings.copy())
     readings[2, 4] = 3e8
     wild = sim.run_of(made, readings)
-    assert wild.unit > calm.unit and abs(int(wild.readings[2, 4])) <= units.MOST_READING
-    assert wild.sheets.refusal.tolist() == [0, 0, 0, 0]
+    assert wild.unit > calm.unit and wild.sheets.refusal.tolist() == [0, 0, 0, 0] and wild.sheets.verdict.tolist() == [0, 0, 1, 0]
 
 
 def test_z_is_the_measurement_test():
@@ -66,7 +66,7 @@ def test_z_is_the_measurement_test():
     plant = engine.Plant(3, tuple(engine.Stream(a, b, 10) for a, b in ends))
     readings, status = np.array([[105, 145, 55, 140, 195, 205]]), np.full((1, 6), MEASURED)
     sheets = engine.rows(plant, readings, engine.deviation_for([10] * 6), status, suspects=3)
-    found = checks(plant, np.full(6, 10), status[0])
+    found = checks(plant, np.full((2, 6), 100.0), status[0])
     z = (readings[0] - sheets.flows[0])[found.adjusted] / found.deviations
     assert found.adjusted[np.abs(z).argmax()] == 3 and sheets.dropped[0].tolist() == [4, 0, 0]
     assert float(sheets.cost[0] - sheets.dropped_cost[0, 0]) / 1000 == pytest.approx(float(np.abs(z).max() ** 2), abs=0.5)
@@ -96,7 +96,7 @@ def test_pairs_of_biases_are_found_as_published(pair):
 
 def test_sets_of_the_steam_site():
     made = sim.site()
-    found = sets_of(checks(made.plant, np.array([s.weight or 0 for s in made.plant.streams]), np.where(made.deviations > 0, MEASURED, FAULT)))
+    found = sets_of(checks(made.plant, np.array([made.deviations**2] * 2), np.where(made.deviations > 0, MEASURED, FAULT)))
     assert [[k + 1 for k in together] for together in found] == [[2, 15, 20, 22], [5, 6], [7], [9, 11], [12, 13], [17, 25], [24]]
 
 
@@ -111,3 +111,88 @@ def test_z_in_blocks_is_z_of_the_whole(monkeypatch):
     cut = np.concatenate([z for _, z in Standardized(run).blocks()])
     assert np.array_equal(whole, cut, equal_nan=True)
     assert np.isnan(whole[30:50, 4]).all() and np.isfinite(whole[:30, 4]).all()
+
+
+WIDE = """stream,from,to,reading,accuracy,low,high
+1,outside,a,80000,2%,,
+2,a,b,79000,2%,,
+3,a,outside,1010,2%,,
+4,b,outside,40,2%,0,45
+5,b,c,3,2%,,
+6,b,outside,79100,2%,,
+7,c,outside,,,,
+"""
+
+
+@pytest.mark.parametrize("name", ["steam_site", "two_percent", "rated_site", "wide"])
+def test_a_row_of_checked_flows_is_the_sheet_of_that_hour(name, tmp_path):
+    """Of each hour's list by itself: the same verdict and cost; the same flows in the same unit, within it in another."""
+    path = sim.SAMPLES / f"{name}.csv"
+    if name == "wide":
+        path = tmp_path / "wide.csv"
+        path.write_text(WIDE)
+    made = sim.of_list(sim.read_list(path))
+    rng = np.random.default_rng(4)
+    readings = np.round(sim.read_by(made, np.tile(made.flow, (12, 1)), rng, more=1.2), 1)
+    run = sim.run_of(made, readings)
+    assert run.exact or name == "rated_site"
+    listed = exacts_of(run.list)
+    same = 0
+    for hour in range(12):
+        typed = [Exact(s.source, s.target, Fraction(repr(float(readings[hour, k]))), s.variance, s.low, s.high) if s.metered else s for k, s in enumerate(listed.streams)]
+        one = wide.solve(Exacts(listed.units, tuple(typed)))
+        assert run.sheets.verdict[hour] == one.judged.verdict and run.sheets.degrees[hour] == one.sheet.degrees
+        assert run.sheets.cost[hour] / 1000 == pytest.approx(float(one.judged.cost), abs=0.02 if run.exact else 1)
+        within = max(one.unit, run.unit) if run.exact else Fraction(1)
+        for k in made.metered:
+            assert abs(int(run.sheets.flows[hour, k]) * run.unit - one.flows[k] * one.unit) <= within
+        same += one.unit == run.unit and one.factor == checked_factor(run)
+    assert same or not run.exact
+
+
+def checked_factor(run):
+    smallest = min(pipe.accuracy.variance for pipe in run.list.pipes if pipe.accuracy)
+    return wide.TOPS[0] * smallest / run.unit**2
+
+
+def test_checked_flows_name_suspects_as_the_engine_does(monkeypatch):
+    monkeypatch.setattr(runs, "STANDS", 0.0)
+    made = sim.site()
+    rng = np.random.default_rng(8)
+    readings = np.round(sim.read_by(made, sim.true_flows(made, 40, rng), rng))
+    readings[::2, 4] += 12 * made.deviations[4]
+    readings[5::6, 8] += 14 * made.deviations[8]
+    checked, own = sim.run_of(made, readings), sim.run_of(made, readings, unit=Fraction(1))
+    assert checked.exact and not own.exact
+    fails = own.sheets.verdict == Verdict.FAIL
+    alike = {k: number for number, together in enumerate(analysed(own).sets) for k in together}
+    agree = [alike[int(a) - 1] == alike[int(b) - 1] for a, b in zip(checked.sheets.dropped[fails, 0], own.sheets.dropped[fails, 0])]
+    assert fails.sum() >= 20 and np.mean(agree) > 0.9
+    assert (checked.sheets.cleared[fails] != Verdict.FAIL).mean() > 0.9
+
+
+def test_the_engines_own_sheets_are_shown_only_if_they_stand_in_every_row(monkeypatch):
+    made = sim.site()
+    rng = np.random.default_rng(8)
+    readings = np.round(sim.read_by(made, sim.true_flows(made, 40, rng), rng))
+    own = sim.run_of(made, readings)
+    assert own.kind.value == "engine" and own.unit == 1
+    monkeypatch.setattr(runs, "STANDS", 0.02)
+    assert sim.run_of(made, readings).kind.value == "checked"
+    assert sim.run_of(sim.site("two_percent"), readings).kind.value == "checked"  # no unit of the engine's holds these accuracies
+
+
+def test_certified_rows_of_checked_flows_pass_the_proved_call():
+    made = sim.site("two_percent")
+    rng = np.random.default_rng(9)
+    run = sim.run_of(made, np.round(sim.read_by(made, np.tile(made.flow, (6, 1)), rng), 1), check=True)
+    from wengeludo.history.checked_rows import Shape
+
+    listed = exacts_of(run.list)
+    shape = Shape(listed.units, tuple(Exact(s.source, s.target, None, s.variance, s.low, s.high) for s in listed.streams), run.unit, checked_factor(run))
+    for row in range(6):
+        streams = tuple(engine.Stream(s.source, s.target, w or None, int(r)) for s, w, r in zip(shape.plant.streams, shape.weights, run.readings[row]))
+        blank = run.sheets.kinds[row] == engine.WITHHELD
+        assert not run.sheets.checked[row]
+        if not blank.any():
+            engine.check_flow(engine.WidePlant(listed.units, streams), run.sheets.flows[row].tolist(), run.sheets.numbers[row, : listed.units + 1].tolist())

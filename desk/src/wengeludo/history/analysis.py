@@ -59,5 +59,5 @@ def analysed(run: Run, reference: Optional[Tuple[int, int]] = None) -> Analysis:
     known = weeks.reference_of(run, rows, used, summary)
     each = weeks.weeks(run, used, known)
     found = findings.findings(run, each)
-    checks = estimates.checks(run.plant, run.weights, run.usual)
+    checks = estimates.checks(run.plant, run.variances, run.usual)
     return Analysis(run, known, happened, used, summary, checks, estimates.sets_of(checks), each, found)

@@ -10,7 +10,6 @@ from __future__ import annotations
 from dataclasses import dataclass
 from typing import Any, Dict, Iterator, List, Tuple
 
-import wengeludo_balance as engine
 from wengeludo_balance import FAULT, HELD
 
 from .run import Run
@@ -42,20 +41,19 @@ class Checks:
         return np.diag(self.covariance) / self.variances
 
 
-def checks(plant: engine.Plant, weights: Any, status: Any) -> Checks:
-    """What checks what, in this pattern of status."""
+def checks(plant: Any, variances: Any, status: Any) -> Checks:
+    """What checks what, in this pattern of status; the variances are those of a measured and of a held cell."""
     import numpy as np
 
     source, target = (np.array([getattr(s, end) for s in plant.streams], int) for end in ("source", "target"))
     bare = status == FAULT
     group = _groups(plant.units, source[bare], target[bare])
     adjusted = np.flatnonzero(~bare & (group[source] != group[target]))
-    counts = np.where(status == HELD, np.maximum(1, weights // 4), np.maximum(1, weights))
-    variances = 1000 / counts[adjusted].astype(float)
+    own = np.where(status == HELD, variances[1], variances[0])[adjusted]
     names = np.unique(group)[:, None]
     balances = (group[target[adjusted]] == names).astype(float) - (group[source[adjusted]] == names)
-    spread = balances * variances
-    return Checks(adjusted, spread.T @ np.linalg.pinv(spread @ balances.T) @ spread, variances)
+    spread = balances * own
+    return Checks(adjusted, spread.T @ np.linalg.pinv(spread @ balances.T) @ spread, own)
 
 
 def _groups(units: int, source: Any, target: Any) -> Any:
@@ -105,7 +103,7 @@ class Standardized:
         for j, pattern in enumerate(patterns):
             rows = np.flatnonzero((which == j) & good)
             found = self._checks(pattern.tobytes())
-            seen = found.deviations > 1e-6
+            seen = found.deviations > 1e-6 * np.sqrt(found.variances)
             cells = np.ix_(rows, found.adjusted[seen])
             off = run.readings[first:last][cells] - run.sheets.flows[first:last][cells]
             z[cells] = off / found.deviations[seen]
@@ -115,7 +113,7 @@ class Standardized:
         import numpy as np
 
         if pattern not in self.known:
-            self.known[pattern] = checks(self.run.plant, self.run.weights, np.frombuffer(pattern, np.uint8))
+            self.known[pattern] = checks(self.run.plant, self.run.variances, np.frombuffer(pattern, np.uint8))
         return self.known[pattern]
 
 

@@ -143,5 +143,5 @@ def _arrays(found: Analysis, file: IO[bytes]) -> None:
 
     run = found.run
     labels = np.array([pipe.label for pipe in run.list.pipes])
-    np.savez_compressed(file, times=run.times, labels=labels, unit=np.array(str(run.unit)), weights=run.weights, readings=run.readings, status=run.status,
+    np.savez_compressed(file, times=run.times, labels=labels, unit=np.array(str(run.unit)), sheet=np.array(run.kind.value), readings=run.readings, status=run.status,
                         **run.sheets.arrays())

@@ -4,14 +4,15 @@ from __future__ import annotations
 
 from dataclasses import dataclass, field
 from statistics import median
-from typing import Any, Dict, List, Optional, Sequence, Set, Tuple
+from typing import List, Optional, Sequence, Set, Tuple
 
 import wengeludo_balance as engine
-from wengeludo_balance import FAULT, MEASURED, Verdict
+from wengeludo_balance import Verdict
 
 from .run import Run
 from .weeks import Candidate, Trial, Week, trial_of
 
+PLAIN = 4.0  # more cost than so much: a further meter contradicts a cause
 MOSTLY = 0.6  # of the greatest error of a series: weeks below that count as cut
 STRONG = 4.0  # a single week counts if it explains so many limits
 
@@ -91,32 +92,28 @@ def asked(run: Run, week: Week, causes: Sequence[Candidate]) -> Optional[int]:
     if len(causes) < 2 or not bare or week.readings is None:
         return None
     trial = trial_of(run, week.readings, run.deviations)
-    counts = {k: _told_apart(run, trial, causes[:6], k) for k in bare}
+    counts = {k: _told_apart(trial, causes[:6], k) for k in bare}
     best = max(counts, key=lambda k: (counts[k], -k))
     return best if counts[best] else None
 
 
-def _told_apart(run: Run, trial: Trial, causes: Sequence[Candidate], k: int) -> int:
-    """How many ordered pairs of causes a meter on this pipe tells apart."""
-    metered = trial.weights[trial.weights > 0]
-    return sum(_differs(trial, one, other, k, int(metered.max())) for one in causes for other in causes if one is not other)
+def _told_apart(trial: Trial, causes: Sequence[Candidate], k: int) -> int:
+    """How many ordered pairs of causes a meter on this pipe tells apart, if it is as good as the best of the list."""
+    best = float(trial.variances[trial.variances > 0].min())
+    return sum(_differs(trial, one, other, k, best) for one in causes for other in causes if one is not other)
 
 
-def _differs(trial: Trial, one: Candidate, other: Candidate, k: int, weight: int) -> bool:
+def _differs(trial: Trial, one: Candidate, other: Candidate, k: int, variance: float) -> bool:
     """Whether the flow that one cause leaves in a pipe contradicts the other cause."""
-    import numpy as np
-
     first = trial.taken(one)
     sheet = first.sheets(first.without())
     if sheet.refusal[0] or sheet.kinds[0, k] == engine.WITHHELD:
         return False
-    readings, weights = trial.readings.copy(), trial.weights.copy()
-    readings[k], weights[k] = sheet.flows[0, k], weight
-    then = Trial(trial.plant, trial.unit, weights, readings).taken(other)
+    then = trial.metered_too(k, float(sheet.flows[0, k]), variance).taken(other)
     made = then.sheets(then.without())
     without = trial.taken(other)
     alone = without.sheets(without.without())
-    return bool(made.verdict[0] == Verdict.FAIL and float(made.cost[0]) > float(alone.cost[0]) + 4000)
+    return bool(made.verdict[0] == Verdict.FAIL and float(made.cost[0]) > float(alone.cost[0]) + PLAIN * 1000)
 
 
 def period(run: Run, start: int, end: int) -> str:

@@ -22,6 +22,16 @@ MOST_BYTES, SHEET_BYTES = 190_000, 60_000  # of a page, and of the weeks' sheets
 SHEETS = "{the sheets of the weeks}"
 
 
+SHEETS_OF = {False: "the engine’s own", True: "checked flows"}
+WHOSE = {
+    False: "The engine’s, proved: flows, classes, costs, limits, verdicts, suspects of a row, charges.",
+    True: "Whole flows of least cost by the tool’s solver, each row’s passed by a proved call; classes and degrees by the engine; cost and verdict of the "
+    "list’s own deviations by the tool, near the limit in exact fractions. The engine’s own sheets do not stand for this run: its weights cannot hold "
+    "these accuracies closely enough, and --unit would show them nevertheless.",
+}
+COSTS = {False: "Costs, limits and verdicts are the engine’s.", True: "Costs and verdicts are of checked flows; the limits are the engine’s."}
+
+
 def headline(found: Analysis) -> str:
     """What was found, in a line."""
     rows, fails = int(found.run.tested.sum()), int(found.fails().sum())
@@ -36,7 +46,7 @@ def summary(found: Analysis) -> str:
 
     run, tested = found.run, found.run.tested
     degrees = float(run.sheets.degrees[tested].sum())
-    told = [f"{period(run, 0, len(run.times))}, {len(run.times):,} rows of {_step(run.step)}", f"unit {float(run.unit):g} kg/h",
+    told = [f"{period(run, 0, len(run.times))}, {len(run.times):,} rows of {_step(run.step)}", f"unit {float(run.unit):g} kg/h", f"sheets: {SHEETS_OF[run.exact]}",
             f"reference {period(run, found.reference.start, found.reference.end)}"]
     if degrees:
         told.append(f"cost per check {float(run.costs[tested].sum()) / degrees:.2f} (1 if the stated deviations are right)")
@@ -108,7 +118,7 @@ def week_sheets(found: Analysis, left: int) -> Dict[str, Any]:
         told = {
             "when": period(run, week.start, week.end), "cost": f"{week.cost:,.1f}", "limit": f"{week.limit:,.1f}", "fails": week.fails,
             "why": "; or ".join(cause_words(run, cause) for cause in week.steps[0][:MOST_CAUSES]) if week.steps else "",
-            "reads": [round(float(value), 1) if run.weights[k] else None for k, value in enumerate(week.readings)],
+            "reads": [round(float(value), 1) if run.deviations[k] else None for k, value in enumerate(week.readings)],
             "flows": [None if kind == "W" else round(float(value), 1) for value, kind in zip(week.flows, week.kinds)],
         }
         left -= len(_json(told).encode()) + 10
@@ -135,7 +145,7 @@ def page(found: Analysis, bills: Sequence[Bill]) -> str:
         findings=[sentence(run, finding, MOST_CAUSES) for finding in found.findings[:MOST_FINDINGS]], more=max(0, len(found.findings) - MOST_FINDINGS),
         events=happenings(found), cost=Markup(charts.cost_chart(found)), map=Markup(charts.meter_map(found)),
         drift=Markup(charts.drift_chart(found, *worst)) if worst else "", meters=meter_rows(found), notes=notes,
-        bills=[line for bill in bills for line in account(bill)], certified=_certified(run), date=datetime.now().strftime("%Y-%m-%d %H:%M"), sheets=SHEETS,
+        bills=[line for bill in bills for line in account(bill)], certified=_certified(run), whose=WHOSE[run.exact], costs=COSTS[run.exact], date=datetime.now().strftime("%Y-%m-%d %H:%M"), sheets=SHEETS,
     )
     told = {"titles": [pipe.title for pipe in run.list.pipes], "fields": charts.week_fields(found)}
     left = min(SHEET_BYTES, MOST_BYTES - len(text.encode()) - len(_json(told).encode()))

@@ -13,16 +13,20 @@ import wengeludo_balance as engine
 from wengeludo_balance import FAULT, MEASURED
 
 from ..balance import unit as units
+from ..balance.exact import Exact
+from ..balance.kind import SheetKind
 from ..balance.limits import CRITICAL
 from ..read.faults import Fault, Faulty, Stopped
 from ..read.lists import Pipe, PipeList
-from . import clock
+from ..read.numbers import exact
+from . import checked_rows, clock
 from .export import Export
 from .tags import Tagged
 
 LIMITS = (0.0, *(value / 1000 for value in CRITICAL))
 CHUNK = 32_768  # rows that are balanced at a time
 SHORTEST = 3  # rows of one value that are kept in mind
+STANDS = 0.1  # of a deviation: so near the engine's own sheets are shown
 SUSPECTS = 3  # meters taken out of a row that fails, at most
 
 
@@ -32,7 +36,7 @@ class Run:
 
     list: PipeList
     unit: Fraction
-    plant: engine.Plant
+    plant: Any  # engine.Plant, or engine.WidePlant of checked flows
     deviations: Any  # kg/h, of each stream; 0 without a meter
     times: Any
     readings: Any
@@ -43,6 +47,8 @@ class Run:
     notes: List[str] = field(default_factory=list)
     words: Counter = field(default_factory=Counter)
     outgoing: Tuple[int, ...] = ()
+    kind: SheetKind = SheetKind.ENGINE
+    variances: Any = None  # in units squared, of a measured and of a held cell of each stream
     still: Dict[int, List[Tuple[int, int, float]]] = field(default_factory=dict)  # of a stream: rows from, to and kg/h of one typed value
 
     @property
@@ -60,11 +66,9 @@ class Run:
         return np.array([MEASURED if s.metered else FAULT for s in self.plant.streams], np.uint8)
 
     @property
-    def weights(self) -> Any:
-        """The weight of each meter; 0 without one."""
-        import numpy as np
-
-        return np.array([s.weight or 0 for s in self.plant.streams])
+    def exact(self) -> bool:
+        """Whether the sheets are flows of the tool's solver that the proved call has passed, and not the engine's own."""
+        return self.kind is SheetKind.CHECKED
 
     @property
     def limits(self) -> Any:
@@ -203,25 +207,110 @@ class Asked:
 
 
 def balanced(listed: Tagged, export: Export, path: Path, zone: Optional[ZoneInfo], asked: Asked) -> Run:
-    """The run of a list and an export. The export's numbers are let go of."""
+    """The run of a list and an export: the engine's own sheets if a unit is asked for or these stand for the run, else checked flows. The
+    export's numbers are let go of."""
     import numpy as np
 
     pipes = run_pipes(listed, export, path)
+    deviations = np.array([pipe.accuracy.deviation if pipe.accuracy else 0.0 for pipe in pipes])
+    still = {tag.index: standing(export.values[:, j], export.status[:, j], tag.factor) for j, tag in enumerate(listed.tags)}
+    own = asked.unit is not None or asked.charges or any(pipe.accuracy and pipe.accuracy.weight is not None for pipe in pipes)
+    made = _by_engine(listed, export, path, pipes, asked) if own else None
+    if made is None:
+        made = _that_stand(listed, export, path, pipes, asked)
+    plant, unit, readings, status, sheets, kind, variances, notes = made
+    times, words = export.times, export.words
+    export.values = export.status = None
+    outgoing = tuple(k for k, pipe in enumerate(pipes) if pipe.target == 0)
+    return Run(replace(listed.list, pipes=tuple(pipes)), unit, plant, deviations, times, readings, status, sheets, zone, clock.strided(times),
+               export.notes + notes, words, outgoing, kind, variances, still)
+
+
+Made = Tuple[Any, Fraction, Any, Any, engine.Rows, SheetKind, Any, List[str]]
+
+
+def _by_engine(listed: Tagged, export: Export, path: Path, pipes: Sequence[Pipe], asked: Asked, suspects: int = SUSPECTS) -> Made:
+    """The engine's own sheets, in the unit that is asked for or in the run's best."""
+    import numpy as np
+
     reach = {tag.index: _reach(export, j) * abs(float(tag.factor)) for j, tag in enumerate(listed.tags)}
-    unit = unit_of(pipes, reach, asked.unit)
+    unit = unit_of(pipes, reach, asked.unit or (Fraction(1) if asked.charges else None))
     _fitting(listed, export, unit, path)
     plant = plant_of(pipes, len(listed.list.places), unit)
     readings, status = in_units(listed, export, unit)
-    still = {tag.index: standing(export.values[:, j], export.status[:, j], tag.factor) for j, tag in enumerate(listed.tags)}
-    export.values = export.status = None
-    deviations = np.array([pipe.accuracy.deviation if pipe.accuracy else 0.0 for pipe in pipes])
-    outgoing = tuple(k for k, pipe in enumerate(pipes) if pipe.target == 0)
-    rates = [pipes[k].rate or 0 for k in outgoing] if asked.charges else None
-    sheets = sheets_of(plant, readings, status, rates, asked)
+    rates = [pipe.rate or 0 for pipe in pipes if pipe.target == 0] if asked.charges else None
+    sheets = sheets_of(plant, readings, status, rates, asked, suspects)
     clamps = units.clamps([pipe for pipe in pipes if pipe.accuracy], unit)
-    notes = [_clamped(clamps)] if clamps else []
-    return Run(replace(listed.list, pipes=tuple(pipes)), unit, plant, deviations, export.times, readings, status, sheets, zone,
-               clock.strided(export.times), export.notes + notes, export.words, outgoing, still)
+    weights = np.array([s.weight or 1000 for s in plant.streams])
+    variances = np.array([1000 / weights, 1000 / np.maximum(1, weights // 4)])
+    return plant, unit, readings, status, sheets, SheetKind.ENGINE, variances, [_clamped(clamps)] if clamps else []
+
+
+def _that_stand(listed: Tagged, export: Export, path: Path, pipes: Sequence[Pipe], asked: Asked) -> Made:
+    """Checked flows, unless the engine's own sheets are within a tenth of a deviation of them with the same verdicts in every row."""
+    shape = shape_of(listed, export, pipes)
+    if shape is None:
+        return _by_engine(listed, export, path, pipes, asked)
+    try:
+        clamped = bool(units.clamps([pipe for pipe in pipes if pipe.accuracy], unit_of(pipes, {}, None)))
+        made = None if clamped else _by_engine(listed, export, path, pipes, asked)
+    except Stopped:
+        made = None  # a reading is too large for the engine's unit
+    return made if made and _stands(listed, export, shape, made, asked) else _checked(listed, export, shape, asked)
+
+
+def shape_of(listed: Tagged, export: Export, pipes: Sequence[Pipe]) -> Optional[checked_rows.Shape]:
+    """The unit and the weights of checked flows, by all readings of the run; none if no unit holds them."""
+    streams = []
+    for pipe in pipes:
+        low, high = (None if end is None else exact(end) for end in (pipe.low, pipe.high))
+        streams.append(Exact(pipe.source, pipe.target, None, pipe.accuracy.variance, low, high) if pipe.accuracy else Exact(pipe.source, pipe.target))
+    typed = [_grain(export, j) * abs(tag.factor) for j, tag in enumerate(listed.tags)]
+    reach = max(exact(_reach(export, j)) * abs(tag.factor) for j, tag in enumerate(listed.tags))
+    return checked_rows.shape_of(max(1, len(listed.list.places) - 1), streams, typed, reach)
+
+
+def _grain(export: Export, j: int) -> Fraction:
+    """The finest step of a tag's numbers: a power of ten, at least a millionth."""
+    import numpy as np
+
+    values = np.where(export.status[:, j] == FAULT, 0.0, export.values[:, j])
+    return next((Fraction(1, 10**k) for k in range(6) if (np.abs(values * 10**k - np.rint(values * 10**k)) <= 1e-9 * (1 + np.abs(values * 10**k))).all()),
+                Fraction(1, 10**6))
+
+
+def _checked(listed: Tagged, export: Export, shape: checked_rows.Shape, asked: Asked) -> Made:
+    """Checked flows of all rows; with lesser weights if numbers of places were too large."""
+    import numpy as np
+
+    readings, status = in_units(listed, export, shape.unit)
+    sheets = checked_rows.rows(shape, readings, status, SUSPECTS, asked.check, asked.threads)
+    if (sheets.refusal == checked_rows.NOT_JUDGED).any():
+        lesser = checked_rows.rows(shape.smaller(), readings, status, SUSPECTS, asked.check, asked.threads)
+        sheets = lesser if (lesser.refusal > 0).sum() < (sheets.refusal > 0).sum() else sheets
+    if np.abs(sheets.flows).max(initial=0) < 2**31:
+        sheets = replace(sheets, flows=sheets.flows.astype(np.int32))
+    variances = shape.variances
+    return shape.plant, shape.unit, readings, status, sheets, SheetKind.CHECKED, np.array([variances, checked_rows.QUARTER * variances]), []
+
+
+def _stands(listed: Tagged, export: Export, shape: checked_rows.Shape, made: Made, asked: Asked) -> bool:
+    """Whether the engine's sheets are within a tenth of a deviation of the checked flows, with the same verdicts, in every row."""
+    import numpy as np
+
+    _, unit, _, status, sheets, _, _, _ = made
+    deviations = np.sqrt(shape.variances) * float(shape.unit)
+    for first in range(0, len(status), CHUNK):
+        part = slice(first, first + CHUNK)
+        few = Export(export.times[part], export.values[part], export.status[part])
+        readings, cells = in_units(listed, few, shape.unit)
+        other = checked_rows.rows(shape, readings, cells, threads=asked.threads)
+        off = np.abs(sheets.flows[part] * float(unit) - other.flows * float(shape.unit))
+        if (sheets.refusal[part] != other.refusal).any() or (sheets.verdict[part] != other.verdict).any():
+            return False
+        if (off[cells != FAULT] > STANDS * np.broadcast_to(deviations, off.shape)[cells != FAULT]).any():
+            return False
+    return True
 
 
 def _reach(export: Export, j: int) -> float:
@@ -230,7 +319,7 @@ def _reach(export: Export, j: int) -> float:
     return float(np.abs(np.where(export.status[:, j] == FAULT, 0.0, export.values[:, j])).max(initial=0))
 
 
-def sheets_of(plant: engine.Plant, readings: Any, status: Any, rates: Optional[Sequence[int]], asked: Asked) -> engine.Rows:
+def sheets_of(plant: engine.Plant, readings: Any, status: Any, rates: Optional[Sequence[int]], asked: Asked, suspects: int = SUSPECTS) -> engine.Rows:
     """The sheets of all rows by the engine, some ten thousand at a time; flows in half the memory if they fit."""
     import numpy as np
 
@@ -238,7 +327,7 @@ def sheets_of(plant: engine.Plant, readings: Any, status: Any, rates: Optional[S
     whole: Dict[str, Any] = {}
     for first in range(0, max(1, len(readings)), CHUNK):
         last = first + CHUNK
-        part = engine.rows(plant, readings[first:last], deviations, status[first:last], suspects=SUSPECTS, rates=rates, check=asked.check,
+        part = engine.rows(plant, readings[first:last], deviations, status[first:last], suspects=suspects, rates=rates, check=asked.check,
                            threads=asked.threads).arrays()
         small = np.abs(part["flows"]).max(initial=0) < 2**31
         for name, array in part.items():

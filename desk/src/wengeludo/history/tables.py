@@ -7,7 +7,6 @@ from typing import Any, Callable, Dict, Iterable, Iterator, List, Optional, Sequ
 
 from wengeludo_balance import ADJUSTED, AS_READ, GIVEN, WITHHELD, Verdict
 
-from ..read.numbers import deviation_of
 from .analysis import Analysis
 from .bill import Bill
 from .clock import shown
@@ -52,7 +51,7 @@ def _rows(found: Analysis) -> Iterator[Sequence[Any]]:
     run, sheets, summary = found.run, found.run.sheets, found.summary
     labels = [guarded(pipe.label) for pipe in run.list.pipes] + [""]
     letters = bytes(ord(LETTERS.get(kind, "-")) for kind in range(256))
-    certified = sheets.checked is not None
+    certified, kind = sheets.checked is not None, run.kind.value
     for number, times in enumerate(times_of(run)):
         part = slice(number * CHUNK, number * CHUNK + len(times))
         kinds = [row.tobytes().translate(letters).decode() for row in sheets.kinds[part]]
@@ -63,7 +62,7 @@ def _rows(found: Analysis) -> Iterator[Sequence[Any]]:
         )
         for at, (time, verdict, cost, limit, degrees, classes, out, flow, then, refusal, worst, z) in enumerate(columns):
             tested = not refusal and verdict != Verdict.NONE
-            told = (time, "" if refusal else WORDS[verdict], f"{cost / 1000:.3f}" if tested else "", f"{limit:.3f}" if tested else "",
+            told = (time, kind, "" if refusal else WORDS[verdict], f"{cost / 1000:.3f}" if tested else "", f"{limit:.3f}" if tested else "",
                     "" if refusal else degrees, classes, labels[out - 1] if out else "", flow if out else "", WORDS[then] if out else "", refusal or "")
             check = (("passes" if not sheets.checked[part.start + at] else sheets.checked[part.start + at]) if not refusal else "",) if certified else ()
             yield (*told, *check, labels[worst], f"{z:+.2f}" if worst >= 0 else "")
@@ -75,7 +74,7 @@ def _flows(found: Analysis) -> Iterator[Sequence[Any]]:
         part = slice(number * CHUNK, number * CHUNK + len(times))
         blank = (run.sheets.kinds[part] == WITHHELD) | (run.sheets.kinds[part] == 0)
         for time, flows, none in zip(times, run.sheets.flows[part].tolist(), blank.tolist()):
-            yield (time, *("" if no else text for text, no in zip(amounts(run, flows), none)))
+            yield (time, run.kind.value, *("" if no else text for text, no in zip(amounts(run, flows), none)))
 
 
 def _meters(found: Analysis) -> Iterator[Sequence[Any]]:
@@ -85,7 +84,7 @@ def _meters(found: Analysis) -> Iterator[Sequence[Any]]:
     for k in found.run.metered.tolist():
         pipe, summary, least = run.list.pipes[k], found.summary, found.least_bias(k)
         checked = share.get(k, 0.0) > 1e-6
-        yield (pipe.label, pipe.what, f"{run.deviations[k]:.4g}", f"{deviation_of(int(run.weights[k]), run.unit):.4g}",
+        yield (pipe.label, pipe.what, f"{run.deviations[k]:.4g}", f"{float(run.variances[0][k]) ** 0.5 * float(run.unit):.4g}",
                int(np.count_nonzero(run.sheets.dropped[:, 0] == k + 1)), f"{share.get(k, 0.0):.2f}",
                " ".join(run.list.pipes[other].label for other in alike.get(k, [])), int(summary.tested[k]), int(summary.over[k]),
                f"{summary.mean[k]:+.2f}" if checked else "", f"{least:.3g}" if least is not None else "")
@@ -131,9 +130,9 @@ def tables(found: Analysis, bills: Sequence[Bill]) -> Dict[str, Table]:
     run = found.run
     check = ("check",) if run.sheets.checked is not None else ()
     made = [
-        Table("rows", ("time", "verdict", "cost", "limit", "degrees", "classes", "suspect", "flow without it", "verdict without", "refusal", *check,
+        Table("rows", ("time", "sheet", "verdict", "cost", "limit", "degrees", "classes", "suspect", "flow without it", "verdict without", "refusal", *check,
                        f"worst{e}", f"z of the worst{e}"), lambda: _rows(found)),
-        Table("flows", ("time", *(pipe.label for pipe in run.list.pipes)), lambda: _flows(found)),
+        Table("flows", ("time", "sheet", *(pipe.label for pipe in run.list.pipes)), lambda: _flows(found)),
         Table("meters", ("stream", "what", "deviation kg/h", "counts as kg/h", "rows as first suspect", f"checked share{e}", f"not told apart from{e}",
                          f"rows tested{e}", f"rows over 1.96{e}", f"mean z{e}", f"least bias one week shows kg/h{e}"), lambda: _meters(found)),
         Table("findings", ("finding", "from", "to", "weeks", "rank", f"kind{e}", f"stream or place{e}", f"off kg/h{e}", f"own deviations{e}",

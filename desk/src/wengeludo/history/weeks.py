@@ -8,14 +8,17 @@ are the engine's.
 from __future__ import annotations
 
 import math
-from dataclasses import dataclass
+from dataclasses import dataclass, replace
+from fractions import Fraction
 from typing import Any, List, Optional, Tuple
 
 import wengeludo_balance as engine
 from wengeludo_balance import ADJUSTED, AS_READ, FAULT, GIVEN, MEASURED, Verdict
 
-from ..balance import unit as units
+from ..balance import unit as units, wide
+from ..balance.exact import Exact
 from ..balance.graph import groups
+from . import checked_rows
 from .estimates import Summary, checks
 from .run import LIMITS, Run
 
@@ -84,7 +87,7 @@ def reference_of(run: Run, rows: Tuple[int, int], used: Any, summary: Summary) -
     none = np.zeros(len(run.plant.streams))
     offset = (run.readings[at] - run.sheets.flows[at].astype(float)).mean(0) if len(at) else none
     days = [int((run.times[min(row, len(run.times) - 1)] - run.times[0]) // DAY) for row in rows]
-    adjusted = checks(run.plant, run.weights, run.usual).adjusted
+    adjusted = checks(run.plant, run.variances, run.usual).adjusted
     daily = summary.daily_used[days[0] : days[1] + (rows[1] >= len(run.times))][:, adjusted]
     daily = daily[:, np.isfinite(daily).sum(0) > 2]
     if len(at) < 2 or not daily.size:
@@ -126,12 +129,14 @@ def finer(deviations: Any) -> float:
 
 @dataclass
 class Trial:
-    """A plant of mean readings, from which meters are taken and to which leaks are added."""
+    """A plant of mean readings, from which meters are taken and to which leaks are added: by the engine's sheets, or by checked flows if
+    the run is of those. Readings are in units, variances in kg/h squared, 0 without a meter."""
 
-    plant: engine.Plant
+    plant: Any
     unit: float
-    weights: Any
+    variances: Any
     readings: Any
+    exact: bool = False
     gone: Tuple[int, ...] = ()
     leaks: Tuple[int, ...] = ()
 
@@ -139,36 +144,71 @@ class Trial:
         """A sheet for each row of `metered`: which streams keep their meters."""
         import numpy as np
 
-        extra = [engine.Stream(place, 0) for place in self.leaks]
-        plant = engine.Plant(self.plant.units, tuple(engine.Stream(s.source, s.target) for s in self.plant.streams) + tuple(extra))
-        rows, more = len(metered), len(extra)
-        status = np.hstack([np.where(metered, MEASURED, FAULT), np.full((rows, more), FAULT)])
+        rows, more = len(metered), len(self.leaks)
+        status = np.hstack([np.where(metered, MEASURED, FAULT), np.full((rows, more), FAULT)]).astype(np.uint8)
         readings = np.hstack([np.tile(self.readings, (rows, 1)), np.zeros((rows, more))])
+        if self.exact:
+            return checked_rows.rows(self.shape, readings, status)
+        extra = tuple(engine.Stream(place, 0) for place in self.leaks)
+        plant = engine.Plant(self.plant.units, tuple(engine.Stream(s.source, s.target) for s in self.plant.streams) + extra)
         return engine.rows(plant, readings, np.r_[engine.deviation_for(np.maximum(self.weights, 1)), np.ones(more)], status)
+
+    @property
+    def weights(self) -> Any:
+        """The engine's weights; 0 without a meter."""
+        import numpy as np
+
+        made = np.clip(np.rint(1000 * self.unit**2 / np.maximum(self.variances, 1e-30)), 1, 1000)
+        return np.where(self.variances > 0, made, 0).astype(int)
+
+    @property
+    def shape(self) -> checked_rows.Shape:
+        """The same for checked flows, in this unit."""
+        unit = Fraction(f"{self.unit:.9g}")
+        listed = [Exact(s.source, s.target, None, Fraction(f"{v:.9g}")) if v > 0 else Exact(s.source, s.target) for s, v in zip(self.plant.streams, self.variances)]
+        smallest = min(s.variance for s in listed if s.variance is not None)
+        listed += [Exact(place, 0) for place in self.leaks]
+        return checked_rows.Shape(self.plant.units, tuple(listed), unit, wide.TOPS[0] * smallest / (unit * unit))
+
+    def slack(self, kinds: Any) -> float:
+        """What rounding to whole units can make of a cost: a quarter of the weights of the checked meters."""
+        each = self.unit**2 / self.variances[kinds == ADJUSTED] if self.exact else self.weights[kinds == ADJUSTED] / 1000
+        return 0.25 * float(each.sum())
 
     def without(self) -> Any:
         """Which streams keep their meters, as it stands."""
-        import numpy as np
-
-        kept = self.weights > 0
+        kept = self.variances > 0
         kept[list(self.gone)] = False
         return kept[None]
 
     def taken(self, candidate: Candidate) -> "Trial":
         """The same with a candidate taken as the explanation."""
         meter = candidate.kind == "meter"
-        return Trial(self.plant, self.unit, self.weights, self.readings, self.gone + ((candidate.index,) if meter else ()),
-                     self.leaks + (() if meter else (candidate.index,)))
+        return replace(self, gone=self.gone + ((candidate.index,) if meter else ()), leaks=self.leaks + (() if meter else (candidate.index,)))
+
+    def metered_too(self, k: int, flow: float, variance: float) -> "Trial":
+        """The same with a meter more, which reads this flow, in units."""
+        readings, variances = self.readings.copy(), self.variances.copy()
+        readings[k], variances[k] = flow, variance
+        return replace(self, readings=readings, variances=variances)
 
 
 def trial_of(run: Run, mean: Any, deviations: Any) -> Trial:
     """The plant of mean readings with these deviations, both in kg/h, in a unit of its own."""
     import numpy as np
 
-    metered = run.weights > 0
-    unit = max(finer(deviations[metered]), float(np.abs(mean[metered]).max(initial=0)) / units.MOST_READING)
-    weights = np.where(metered, np.clip(np.rint(1000 / np.maximum(deviations / unit, 1e-9) ** 2), 1, 1000), 0).astype(int)
-    return Trial(run.plant, unit, weights, np.where(metered, np.rint(mean / unit), 0))
+    metered = run.deviations > 0
+    reach = float(np.abs(mean[metered]).max(initial=0))
+    if run.exact:
+        unit = max(float(_fine(float(deviations[metered].min()) / wide.PARTS)), float(_fine(reach * 2 / checked_rows.REACH)) * 2)
+    else:
+        unit = max(finer(deviations[metered]), reach / units.MOST_READING)
+    return Trial(run.plant, unit, np.where(metered, deviations**2, 0.0), np.where(metered, np.rint(mean / unit), 0), run.exact)
+
+
+def _fine(size: float) -> Fraction:
+    """The greatest unit of 1, 2, 5 times a power of ten that is at most so large."""
+    return max((unit for unit in wide.UNITS if unit <= size), default=wide.UNITS[0])
 
 
 def _week(run: Run, start: int, end: int, mean: Any, deviations: Any) -> Week:
@@ -196,8 +236,7 @@ def _explanations(trial: Trial, sheet: engine.Rows, mean: Any, deviations: Any) 
     if not tried:
         return ()
     least, cost = min(c.cost for c in tried), float(sheet.cost[0]) / 1000
-    streams = len(trial.weights)
-    slack = 0.25 * float(trial.weights[sheet.kinds[0, :streams] == ADJUSTED].sum()) / 1000
+    slack = trial.slack(sheet.kinds[0, : len(trial.variances)])
     near = [c for c in tried if c.cost <= least + max(slack, NEAR * (cost - least))]
     own = sorted(near, key=lambda c: (c.kind == "leak", abs(c.off) / deviations[c.index] if c.kind == "meter" else abs(c.off)))
     return tuple(c for c in own if c.kind == "meter" or c.off > 0) or tuple(own)
@@ -207,7 +246,7 @@ def _meters_out(trial: Trial, sheet: engine.Rows, mean: Any) -> List[Candidate]:
     """Each checked meter as if it were none."""
     import numpy as np
 
-    streams = len(trial.weights)
+    streams = len(trial.variances)
     checked = np.flatnonzero(sheet.kinds[0, :streams] == ADJUSTED)
     kept = np.repeat(trial.without(), len(checked), 0)
     kept[np.arange(len(checked)), checked] = False
