@@ -203,8 +203,8 @@ def _record(told: Dict[str, Any]) -> Checked:
         raise ValueError(f"its version is {told['version']}, and {VERSION} would do")
     streams = tuple(Exact(int(a), int(b), *(None if n is None else Fraction(n) for n in numbers)) for a, b, *numbers in told["list"])
     listed = Exacts(int(told["units"]), streams)
-    whole = (engine.Stream(s.source, s.target, *((0 if n is None and at == 1 else n) for at, n in enumerate(row))) for s, row in zip(streams, told["streams"]))
-    plant = engine.WidePlant(listed.units, tuple(whole))
+    rows = zip(streams, told["streams"])
+    plant = engine.WidePlant(listed.units, tuple(engine.Stream(s.source, s.target, weight, reading, *ends) for s, (weight, reading, *ends) in rows))
     unit, factor = Fraction(told["unit"]), Fraction(told["factor"])
     if unit <= 0 or factor <= 0 or len(plant.streams) != len(streams):
         raise ValueError("its unit, factor or streams are none")

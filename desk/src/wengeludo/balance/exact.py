@@ -7,6 +7,8 @@ from fractions import Fraction
 from functools import cached_property
 from typing import List, Optional, Sequence, Tuple
 
+from wengeludo_balance import Stream
+
 from ..read.lists import Pipe, PipeList
 from ..read.numbers import exact
 from .graph import groups
@@ -56,10 +58,14 @@ class Exacts:
     def group(self) -> List[int]:
         """Of each place the group of places that it belongs to, joined by streams without meters."""
         found = [0] * (self.units + 1)
-        for number, places in enumerate(groups(self.streams, self.units)):
+        for number, places in enumerate(groups(self._shape(), self.units)):
             for place in places:
                 found[place] = number
         return found
+
+    def _shape(self) -> List[Stream]:
+        """The streams as the engine has them, by their ends and whether they have a meter."""
+        return [Stream(s.source, s.target, 1 if s.metered else None) for s in self.streams]
 
     def ends(self, k: int) -> Tuple[int, int]:
         """The groups at the two ends of a stream."""

@@ -28,7 +28,8 @@ SUBJECTS = ("list", "plant", "book", "folder")  # of commands: what their errors
 def cli() -> None:
     """Balance sheets of steam and condensate from a pipe list (CSV or XLSX).
 
-    Exit status: 0 done, 1 refused (faults in the list, or the engine refuses), 2 wrong use, 3 a sheet that fails its test, or a finding of a history.
+    Exit status: 0 done, 1 refused (faults in the list, the engine refuses, or a sheet that is not judged), 2 wrong use, 3 a sheet that
+    fails its test, or a finding of a history.
     """
 
 

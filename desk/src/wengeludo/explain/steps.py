@@ -2,7 +2,7 @@
 
 from __future__ import annotations
 
-from typing import List, Set, Tuple
+from typing import List, Set
 
 from wengeludo_balance import Verdict
 
@@ -83,8 +83,9 @@ def _chance(balance: Balance) -> str:
 def _failing(balance: Balance) -> List[str]:
     """Of a sheet that fails: the meters to visit, what to leave alone, and the meters that explain it together."""
     listed = suspects.likeliest(balance, suspects.suspects(balance))
-    good, told = [s for s in listed if not s.why_not], set()  # type: Tuple[List[suspects.Suspect], Set[int]]
-    lines = []
+    good = [s for s in listed if not s.why_not]
+    lines: List[str] = []
+    told: Set[int] = set()
     for suspect in good:
         alike = [s.index for s in good if s.index in balance.alike(suspect.index) and s is not suspect]
         if suspect.index not in told and len(lines) < 2:

@@ -12,7 +12,6 @@ from wengeludo_balance import Verdict
 from ..balance import individual, wide
 from ..balance.checked import Checked
 from ..balance.exact import Exacts, without
-from ..balance.kind import SheetKind
 from ..balance.sheet import Balance
 from ..balance.site import Site
 from ..balance.spread import at_end
@@ -101,7 +100,9 @@ def eliminated(balance: Balance) -> List[Gone]:
 
 
 def _eliminated(balance: Balance) -> List[Gone]:
-    listed, gone, found = balance.site.exacts, [], []  # type: Tuple[Exacts, List[int], List[Gone]]
+    listed = balance.site.exacts
+    gone: List[int] = []
+    found: List[Gone] = []
     left = _solved(listed)
     while left is not None and left.judged.verdict is Verdict.FAIL and len(gone) < MOST_GONE:
         alike = _greatest(left)

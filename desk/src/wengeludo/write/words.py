@@ -102,7 +102,8 @@ def _small(balance: Balance, line: Line, sign: str) -> str:
     end = f", at its {line.held} end" if line.held else ""
     if line.kind is Kind.AS_READ:
         return f"{reading}, unchecked{end}"
-    return f"{sign} {reading}, {sigmas(line.sigmas)}σ{end}".strip()
+    test = f", test {abs(line.test or 0):.1f}" if sign else ""
+    return f"{sign} {reading}, {sigmas(line.sigmas)}σ{test}{end}".strip()
 
 
 def _range_words(balance: Balance, k: int) -> Tuple[str, List[str]]:
