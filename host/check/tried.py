@@ -23,7 +23,9 @@ FIRST = {
     'cli': ('commands', 'golden', 'runs', 'book'), 'history': ('history',),
 }
 NEVER = ('install', 'page')  # those of desk/install.sh, and those that open a browser
-LAST = ('killed',)
+# Tests that need servers or many rows are run for changes of these packages alone: that can only leave a change unseen.
+NEEDED = {'history': ('history', 'balance'), 'stores': ('keep', 'cli'), 'upgrade': ('keep', 'cli'), 'book': ('keep', 'cli', 'balance'), 'batch': ('keep', 'cli'),
+          'any_list': ('read', 'balance', 'explain'), 'live': ('write',)}
 
 
 class Tree:
@@ -106,6 +108,8 @@ class Tree:
         """The desk's test files, the likeliest first."""
         first = next((names for package, names in FIRST.items() if f'/{package}/' in changed), ())
         files = [path for path in sorted((self.path / 'desk/tests').glob('test_*.py')) if path.stem[5:] not in NEVER]
+        files = [path for path in files if all(any(f'/{package}/' in changed for package in packages) or not path.stem[5:].startswith(start)
+                                               for start, packages in NEEDED.items()) or not changed]
         rank = {name: k for k, name in enumerate(first)}
         return [f'tests/{path.name}' for path in sorted(files, key=lambda path: (rank.get(path.stem[5:], 99), path.stat().st_size))]
 

@@ -18,6 +18,7 @@ quiet() { "$@" >"$work/log" 2>&1 || { cat "$work/log" >&2; fail "$*"; }; }
 
 quiet bash install.sh "$prefix"
 quiet bash install.sh "$prefix" # a second time over the first
+grep -qE "^ *export PKG_CONFIG_PATH=$prefix/lib/pkgconfig CMAKE_PREFIX_PATH=$prefix LD_LIBRARY_PATH=$prefix/lib\$" "$work/log" || fail "install.sh does not say what to export"
 version=$(sed -n 's/^Version: //p' "$prefix/lib/pkgconfig/wengeludo.pc")
 export PKG_CONFIG_PATH=$prefix/lib/pkgconfig LD_LIBRARY_PATH=$prefix/lib
 
