@@ -251,6 +251,11 @@ def test_a_narrow_terminal(width, run, monkeypatch):
 
     buffer = io.StringIO()
     monkeypatch.setattr("sys.stdout", buffer)
+    main(["suspects", str(SAMPLES / "steam_site_off.csv")])
+    listed = buffer.getvalue()
+    assert max(map(len, listed.splitlines())) <= width and "…" not in listed and "would have to run backwards, at −332" in " ".join(listed.split())
+    buffer.truncate(0)
+    buffer.seek(0)
     main(["sheet", str(SAMPLES / "steam_site.csv")])
     lines = buffer.getvalue().splitlines()
     assert max(map(len, lines)) <= width

@@ -75,5 +75,8 @@ def suspects_(list: Path, unit: Optional[Fraction]) -> int:
         cells = (pipe.label, pipe.what, f"{s.cost:,.1f}", s.verdict.name.lower(), site.shown(pipe.reading or 0), site.shown(s.flow), off, remark)
         rows.append((cells, "bold" if s.index in likely else ""))
     heads = ("stream", "what", "cost without it", "verdict then", "reads", "would carry", "off by", "")
-    terminal.table(heads, rows, ("cost without it", "reads", "would carry", "off by"))
+    if terminal.narrow():
+        heads = ("stream", "what", "cost then", "verdict", "reads", "would carry", "off by")
+        rows = [((cells[0], terminal.above(cells[1], cells[-1]), *cells[2:-1]), style) for cells, style in rows]
+    terminal.table(heads, rows, ("cost without it", "cost then", "reads", "would carry", "off by"), close=terminal.narrow())
     return 0

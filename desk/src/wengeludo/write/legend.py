@@ -8,6 +8,7 @@ from typing import List, Tuple
 
 from ..balance.kind import SheetKind
 from ..balance.sheet import Balance
+from .language import spoken
 from .view import headline, standing
 
 ROW, COLUMN, TOP = 19, 250, 16
@@ -43,7 +44,7 @@ def legend(balance: Balance) -> Tuple[str, float, float]:
         x, y = k // rows * COLUMN, TOP + k % rows * ROW
         dash = f' stroke-dasharray="{dashes}"' if dashes else ""
         parts.append(f'<line x1="{x + 8}" y1="{y}" x2="{x + 40}" y2="{y}" stroke="{colour}" stroke-width="2.4"{dash}/>')
-        parts.append(f'<text x="{x + 48}" y="{y + 3.5}">{escape(text)}</text>')
+        parts.append(f'<text x="{x + 48}" y="{y + 3.5}">{escape(spoken(text, balance.site.list.form.lang))}</text>')
     y = TOP + rows * ROW
     for text in _standing(balance):
         parts.append(f'<text x="8" y="{y + 3.5}" font-weight="bold">{escape(text)}</text>')

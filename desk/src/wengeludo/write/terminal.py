@@ -50,6 +50,17 @@ def lines(texts: Iterable[str]) -> None:
         out.print(said(text), soft_wrap=not out.is_terminal)
 
 
+def narrow() -> bool:
+    """Whether names have to stand above one another."""
+    return console().width < NARROW
+
+
+def above(name: str, below: str) -> Text:
+    """Two texts, one above the other."""
+    text = Text(f"{name}\n" if name and below else name)
+    return text.append(spoken(below, _voice["lang"], _voice["names"]), style="dim")
+
+
 def table(heads: Sequence[str], rows: Iterable[Tuple[Sequence[Union[str, Text]], str]], numeric: Iterable[str] = (), close: bool = False) -> None:
     """A table; each row with its style. Close: with little between the columns."""
     right = frozenset(numeric)
@@ -95,9 +106,7 @@ def _streams(balance: Balance, width: int) -> None:
     for row in view.rows(balance):
         cells = dict(zip(named, row.signed))
         cells["how known"] = cells.get("how known", "").split(",")[0]
-        where = Text(f"{cells['what']}\n" if cells["what"] else "")
-        where.append(f"{cells['from']} → {cells['to']}", style="dim")
-        rows.append(((cells["stream"], where, *(cells[head] for head in kept)), MARKS[row.mark]))
+        rows.append(((cells["stream"], above(cells["what"], f"{cells['from']} → {cells['to']}"), *(cells[head] for head in kept)), MARKS[row.mark]))
     table((named["stream"], named["what"], *(named[head] for head in kept)), rows, [named[head] for head in kept if head in view.NUMERIC], close=True)
     console().print(Text(f"From {NARROW} columns on: corrections and columns of the list too.", style="dim"))
 
