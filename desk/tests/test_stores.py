@@ -45,13 +45,16 @@ def test_kept_and_found_alike(new_book):
     with filled(new_book()) as book:
         assert check(book) == [] and book.lasts() == (3,) * 8
         newest = find(book, limit=10)
-        assert [line.key for line in newest.lines] == sorted((line.key for line in newest.lines), reverse=True) and len(newest.lines) == 10
+        assert [line.key() for line in newest.lines] == sorted((line.key() for line in newest.lines), reverse=True) and len(newest.lines) == 10
         second = find(book, before=newest.older, limit=10)
         last = find(book, before=second.older, limit=10)
         pages = [*newest.lines, *second.lines, *last.lines]
-        assert len({line.key for line in pages}) == 24 and last.older is None
+        assert len({line.key() for line in pages}) == 24 and last.older is None
         assert key_of(book, pages[9].office, pages[9].number) == newest.older
         assert {(line.office, line.number) for line in pages if line.annulled} == {(3, 2)}
+        hours = find(book, Search(by_hour=True), limit=7)
+        assert [line.hour for line in hours.lines] == sorted((line.hour for line in hours.lines), reverse=True) and "" not in {line.hour for line in hours.lines}
+        assert len(find(book, Search(by_hour=True), hours.older).lines) == 9
         for asked, count in (
             (Search("dye house"), 18), (Search("DYE"), 18), (Search("steam_site_off"), 6), (Search("zzz"), 0), (Search("100%"), 0), (Search("_"), 18),
             (Search(office=5), 3), (Search(verdict=engine.Verdict.FAIL.value), 6), (Search("steam", 1, engine.Verdict.FAIL.value), 3), (Search(kind=1), 0),
@@ -285,7 +288,7 @@ def test_a_frozen_one_holds_up_nobody_for_long(server, tmp_path, monkeypatch):
                 plain = book.store.run
 
                 def run(sql, words=()):
-                    if sql.startswith("INSERT INTO sheets"):
+                    if sql == "COMMIT":
                         book.store.run = plain
                         os.write(told, b"x")
                         os.kill(os.getpid(), signal.SIGSTOP)

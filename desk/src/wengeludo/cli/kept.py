@@ -78,7 +78,7 @@ def open_(book: str, number: Optional[int], office: Optional[int], outputs_: Seq
     with Book(book) as kept:
         if number is not None:
             return _reopened(kept, kept.sheet(office or 0, number, FLOW if flows else SHEET), paths)
-        page = find(kept, wanted, key_of(kept, *older) if older else None)
+        page = find(kept, wanted, key_of(kept, *older, search=wanted) if older else None)
     heads = ("office", "sheet", "kept", "hour of the readings", "list", "verdict", "cost")
     terminal.table(heads, [(_cells(line), "dim" if line.annulled else "") for line in page.lines], ("office", "sheet", "cost"))
     if page.older:

@@ -137,7 +137,7 @@ class Book:
                 receipt, at = self._kept(ready, plans[ready.digest], at)
                 found.append(receipt)
             if at.entry:
-                self.store.run("UPDATE offices SET last = ?, flows = ?, entry = ?, chain = ? WHERE office = ?", (at.last, at.flows, at.entry, at.chain, office))
+                self.store.later("UPDATE offices SET last = ?, flows = ?, entry = ?, chain = ? WHERE office = ?", (at.last, at.flows, at.entry, at.chain, office))
         self.known.update(plans)
         return found
 
@@ -164,8 +164,8 @@ class Book:
         kept = Kept(at.office, at.entry + 1, drawn.kind, drawn.number, now(), draft.hour, draft.who, draft.request, draft.source, ready.name, plan, ready.readings,
                     drawn.plant, drawn.sheet, drawn.numbers, draft.changes, draft.note, drawn.verdict, drawn.cost, drawn.blanks, b"", ready.digest)
         chain = kept.link(at.chain)
-        self.store.run(_INSERT, (*(getattr(kept, name) for name in FIELDS[:-1]), chain))
-        self.store.run(_AUDIT, (kept.at, draft.who, "kept", f"{KIND[kept.kind]} {at.office}-{kept.number}"))
+        self.store.later(_INSERT, (*(getattr(kept, name) for name in FIELDS[:-1]), chain))
+        self.store.later(_AUDIT, (kept.at, draft.who, "kept", f"{KIND[kept.kind]} {at.office}-{kept.number}"))
         last, flows = (drawn.number, at.flows) if drawn.kind == SHEET else (at.last, drawn.number)
         return Receipt(at.office, drawn.number, False, drawn.kind), Office(at.office, last, flows, kept.entry, chain, at.state)
 
@@ -190,9 +190,9 @@ class Book:
         row = (at.office, at.entry + 1, what, kind, *span, now(), *said)
         chain = link(at.chain, *row)
         after = Office(at.office, max(at.last, span[1]) if kind == SHEET else at.last, max(at.flows, span[1]) if kind == FLOW else at.flows, at.entry + 1, chain, at.state)
-        self.store.run("INSERT INTO remarks (office, entry, what, kind, first, final, at, who, reason, chain) VALUES (?, ?, ?, ?, ?, ?, ?, ?, ?, ?)", (*row, chain))
-        self.store.run("UPDATE offices SET last = ?, flows = ?, entry = ?, chain = ? WHERE office = ?", (after.last, after.flows, after.entry, chain, at.office))
-        self.store.run(_AUDIT, (row[6], said[0], what, f"{KIND[kind]} {at.office}-{span[0]}" + (f" to {span[1]}" if span[1] > span[0] else "")))
+        self.store.later("INSERT INTO remarks (office, entry, what, kind, first, final, at, who, reason, chain) VALUES (?, ?, ?, ?, ?, ?, ?, ?, ?, ?)", (*row, chain))
+        self.store.later("UPDATE offices SET last = ?, flows = ?, entry = ?, chain = ? WHERE office = ?", (after.last, after.flows, after.entry, chain, at.office))
+        self.store.later(_AUDIT, (row[6], said[0], what, f"{KIND[kind]} {at.office}-{span[0]}" + (f" to {span[1]}" if span[1] > span[0] else "")))
         return after
 
     # -- plans and lists taken
@@ -227,7 +227,7 @@ class Book:
             plans = self._plans([ready])
             row = (now(), draft.who, draft.hour, draft.source, ready.name, plans[ready.digest], ready.readings, ready.plant)
             number = int(self.store.run("INSERT INTO lists (at, who, hour, source, name, plan, readings, plant) VALUES (?, ?, ?, ?, ?, ?, ?, ?) RETURNING list", row)[0][0])
-            self.store.run(_AUDIT, (row[0], draft.who, "list", f"{number} {draft.source}"))
+            self.store.later(_AUDIT, (row[0], draft.who, "list", f"{number} {draft.source}"))
         self.known.update(plans)
         return number
 

@@ -8,7 +8,7 @@ from typing import Any, List, Optional, Tuple
 from .book import PAGE, Book
 from .record import KIND
 
-Key = Tuple[str, int, int, int]  # at, office, kind, number
+Key = Tuple[str, int, int, int]  # when it was kept, or the hour of its readings, then office, kind, number
 FEW = 8  # of more plans than this the newest sheets are looked through, and not each plan's
 MOST_PLANS = 500
 _BRIEF = "s.office, s.kind, s.number, s.at, s.hour, s.who, s.name, p.site, s.source, s.verdict, s.cost, s.blanks, s.changes, s.note"
@@ -25,7 +25,12 @@ class Search:
     kind: Optional[int] = None
     since: str = ""
     until: str = ""
-    by_hour: bool = False  # since and until are of the readings' hour, not of the keeping
+    by_hour: bool = False  # since, until and the order are of the readings' hour, not of the keeping
+
+    @property
+    def time(self) -> str:
+        """The column by which sheets are ordered."""
+        return "hour" if self.by_hour else "at"
 
 
 @dataclass(frozen=True)
@@ -48,9 +53,9 @@ class Brief:
     note: str
     annulled: bool
 
-    @property
-    def key(self) -> Key:
-        return self.at, self.office, self.kind, self.number
+    def key(self, time: str = "at") -> Key:
+        """Its place in the order by a column."""
+        return getattr(self, time), self.office, self.kind, self.number
 
     @property
     def title(self) -> str:
@@ -70,20 +75,21 @@ def find(book: Book, search: Search = Search(), before: Optional[Key] = None, li
     plans = _plans(book, search.words) if search.words else []
     lines: List[Brief] = []
     for where, values in _sources(search.words, plans):
+        where += "" if search.kind is None else f" AND s.kind = {int(search.kind)}"  # in the text, so that the index of flows is seen
         for clause, value in _clauses(search):
             where += f" AND {clause}"
             values.append(value)
         if before:
-            where += " AND (s.at, s.office, s.kind, s.number) < (?, ?, ?, ?)"
+            where += f" AND (s.{search.time}, s.office, s.kind, s.number) < (?, ?, ?, ?)"
             values += before
-        lines += _lines(book, where, values, limit + 1)
-    found = sorted({line.key: line for line in lines}.values(), key=lambda line: line.key, reverse=True)[: limit + 1]
-    return Page(tuple(found[:limit]), found[limit - 1].key if len(found) > limit else None)
+        lines += _lines(book, where, values, search.time, limit + 1)
+    found = sorted({line.key(search.time): line for line in lines}.items(), reverse=True)[: limit + 1]
+    return Page(tuple(line for _, line in found[:limit]), found[limit - 1][0] if len(found) > limit else None)
 
 
-def key_of(book: Book, office: int, number: int, kind: int = 0) -> Key:
+def key_of(book: Book, office: int, number: int, kind: int = 0, search: Search = Search()) -> Key:
     """The key of a kept sheet, to look for older ones."""
-    return book.sheet(office, number, kind).at, office, kind, number
+    return getattr(book.sheet(office, number, kind), search.time), office, kind, number
 
 
 def _plans(book: Book, words: str) -> List[int]:
@@ -104,15 +110,15 @@ def _sources(words: str, plans: List[int]) -> List[Tuple[str, List[Any]]]:
 
 
 def _clauses(search: Search) -> List[Tuple[str, Any]]:
-    time = "s.hour" if search.by_hour else "s.at"
+    time = f"s.{search.time}"
     asked = (
-        ("s.office = ?", search.office), ("s.verdict = ?", search.verdict), ("s.kind = ?", search.kind), (f"{time} >= ?", search.since or None),
-        (f"{time} <= ?", search.until + "~" if search.until else None), ("s.hour <> ?", "" if search.by_hour else None),
+        ("s.office = ?", search.office), ("s.verdict = ?", search.verdict), (f"{time} >= ?", search.since or ("0" if search.by_hour else None)),
+        (f"{time} <= ?", search.until + "~" if search.until else None),
     )
     return [(clause, value) for clause, value in asked if value is not None]
 
 
-def _lines(book: Book, where: str, values: List[Any], limit: int) -> List[Brief]:
-    order = "s.at DESC, s.office DESC, s.kind DESC, s.number DESC"
+def _lines(book: Book, where: str, values: List[Any], time: str, limit: int) -> List[Brief]:
+    order = f"s.{time} DESC, s.office DESC, s.kind DESC, s.number DESC"
     ask = f"SELECT {_BRIEF}, {_ANNULLED} FROM sheets s JOIN plans p ON p.plan = s.plan WHERE {where} ORDER BY {order} LIMIT {int(limit)}"
     return [Brief(*row[:-1], bool(row[-1])) for row in book.store.run(ask, values)]

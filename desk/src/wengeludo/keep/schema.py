@@ -45,8 +45,10 @@ CREATE TABLE sheets (
     PRIMARY KEY (office, kind, number), UNIQUE (office, entry)
 );
 CREATE INDEX sheets_at ON sheets (at, office, kind, number);
-CREATE INDEX sheets_hour ON sheets (hour, at, office, kind, number);
+CREATE INDEX sheets_hour ON sheets (hour, office, kind, number);
 CREATE INDEX sheets_office ON sheets (office, at, kind, number);
+CREATE INDEX sheets_office_verdict ON sheets (office, verdict, at, kind, number);
+CREATE INDEX sheets_flows ON sheets (at, office, number) WHERE kind = 1;
 CREATE INDEX sheets_plan ON sheets (plan, at, office, kind, number, verdict);
 CREATE INDEX sheets_verdict ON sheets (verdict, at, office, kind, number, plan);
 CREATE INDEX sheets_name ON sheets (name, at, office, kind, number);

@@ -12,6 +12,7 @@ from ..read.faults import Stopped
 from .schema import APPLICATION, VERSION, first_rows, statements
 from .store import Conflict, Damaged, NoBook, Row, Store, Unreachable, title_of
 
+MOST_WAITING = 50  # statements sent at once
 ANSWER_SECONDS = 10.0  # a server that is silent for longer, though not gone, is left
 _SETTINGS = "SET synchronous_commit = on; SET lock_timeout = '6s'; SET statement_timeout = '8s'; SET idle_in_transaction_session_timeout = '4s'; SET TIME ZONE 'UTC'"
 _REFUSED = ("password", "authentication", "pg_hba", "does not exist", "permission denied", "no encryption")
@@ -66,8 +67,15 @@ class Server(Store):
     def base(self) -> Any:
         found = getattr(self.local, "base", None)
         if found is None or found.closed:
+            if self.inside:  # never half a transaction on another connection
+                raise Unreachable(f"{self.title}: the connection was lost; nothing of this is kept: the same again would do")
             found = self.local.base = self._connect()
         return found
+
+    @property
+    def inside(self) -> bool:
+        """Whether this thread is within a transaction."""
+        return getattr(self.local, "waiting", None) is not None
 
     def _connect(self) -> Any:
         try:
@@ -121,7 +129,7 @@ class Server(Store):
             return self._run(sql, words)
         except self.lost as error:
             self.close()
-            if getattr(self.local, "inside", False) or not sql.startswith("SELECT") or _is_refusal(error):
+            if self.inside or not sql.startswith("SELECT") or _is_refusal(error):
                 raise self._told(error) from None
         try:
             return self._run(sql, words)  # a read outside a transaction may be asked again
@@ -132,7 +140,7 @@ class Server(Store):
     def _run(self, sql: str, words: Sequence[Any]) -> List[Row]:
         try:
             with self.base.cursor() as cursor:
-                cursor.execute(sql.replace("?", "%s"), words or None)
+                cursor.execute(b"; ".join((*self._taken(), self._text(cursor, sql, words))))
                 rows = cursor.fetchall() if cursor.description else []
         except self.driver.errors.InsufficientPrivilege as error:
             raise Stopped(f"{self.title}: {_first(error)}: a role that may do this would do") from None
@@ -142,10 +150,30 @@ class Server(Store):
             raise Damaged(f"{self.title}: the book is damaged ({_first(error)}): `wengeludo book restore` of a backup would do") from None
         return [tuple(bytes(cell) if isinstance(cell, memoryview) else cell for cell in row) for row in rows]
 
+    def later(self, sql: str, words: Sequence[Any] = ()) -> None:
+        if not self.inside:
+            self.run(sql, words)
+            return
+        with self.base.cursor() as cursor:
+            self.local.waiting.append(self._text(cursor, sql, words))
+        if len(self.local.waiting) >= MOST_WAITING:
+            self.run("SELECT 1")
+
+    def _text(self, cursor: Any, sql: str, words: Sequence[Any]) -> bytes:
+        """A statement with its words in it, as the driver writes them."""
+        return bytes(cursor.mogrify(sql.replace("?", "%s"), tuple(words))) if words else sql.encode()
+
+    def _taken(self) -> List[bytes]:
+        """The statements that wait to be sent with the next."""
+        waiting = list(getattr(self.local, "waiting", None) or ())
+        if waiting:
+            self.local.waiting.clear()
+        return waiting
+
     @contextmanager
     def whole(self) -> Iterator[Store]:
-        self.run("BEGIN")
-        self.local.inside = True
+        self.base  # there before the transaction, which stays with it
+        self.local.waiting = [b"BEGIN"]
         try:
             yield self
             self.run("COMMIT")
@@ -153,7 +181,7 @@ class Server(Store):
             self._undone()
             raise
         finally:
-            self.local.inside = False
+            self.local.waiting = None
 
     def _undone(self) -> None:
         base = getattr(self.local, "base", None)

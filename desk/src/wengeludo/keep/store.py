@@ -56,10 +56,14 @@ class Store:
         """The rows of a statement."""
         raise NotImplementedError
 
+    def later(self, sql: str, words: Sequence[Any] = ()) -> None:
+        """Writes within a transaction without waiting for the answer: it comes with the next statement's, at the latest with the end's."""
+        self.run(sql, words)
+
     def many(self, sql: str, rows: Iterable[Sequence[Any]]) -> None:
         """One statement for each of these rows."""
         for row in rows:
-            self.run(sql, row)
+            self.later(sql, row)
 
     @contextmanager
     def whole(self) -> Iterator["Store"]:
