@@ -1,14 +1,19 @@
 """What a list tells comes back with its kept sheet: hour, language, units, what stands in place of a reading."""
 
 import csv
+import subprocess
+import sys
+import time
 from dataclasses import replace
+from pathlib import Path
 
 import pytest
 from conftest import SAMPLES
 
 from wengeludo.balance.site import read_site
 from wengeludo.keep.book import Book, Draft
-from wengeludo.keep.record import content_key, site_name
+from wengeludo.keep.check import check
+from wengeludo.keep.record import FLOW, content_key, site_name
 from wengeludo.read.hours import hour_from, hour_within
 
 GERMAN = "Dampf; Stand 17.11.2026 14:00 Uhr\nStrom;von;nach;Messwert;Genauigkeit\nD1;outside;Kessel;100,5;2,5\nD2;Kessel;outside;103,0;2,5\nD3;Kessel;outside;Bad;2,5\n"
@@ -39,11 +44,11 @@ def test_what_a_list_tells_comes_back(run, listed, tmp_path):
     path, book = listed(GERMAN, "dampf.csv"), tmp_path / "a.book"
     assert "2026-11-17T14:00" in run("keep", path, book).out
     with Book(book) as kept:
-        sheet = kept.sheet(0, 1)
+        sheet = next(kept.sheets())
         back, read = sheet.site().list, read_site(path).list
         assert sheet.hour == "2026-11-17T14:00" and (back.form, back.told, back.hour, back.places) == (read.form, read.told, read.hour, read.places)
         assert [replace(pipe, row=0) for pipe in back.pipes] == [replace(pipe, row=0) for pipe in read.pipes] and back.pipes[2].silent == "Bad"
-    assert "the hour of its readings: 2026-11-17T14:00" in run("open", book, "1").out
+    assert "the hour of its readings: 2026-11-17T14:00" in run("open", book, "1", *(["--flows"] if sheet.kind else [])).out
     assert "2025-01-02" in run("keep", path, book, "--at", "2.1.2025").out, "what the user says goes before"
     assert "not known" in run("keep", SAMPLES / "listing.csv", book).out and run("keep", path, book, "--at", "yesterday").status == 2
 
@@ -98,3 +103,78 @@ def test_a_failing_sheet_is_told_by_the_status(run, tmp_path):
     book = tmp_path / "a.book"
     assert run("keep", SAMPLES / "steam_site_off.csv", book).status == 3
     assert run("open", book, "1").status == 3 and run("open", book).status == 0
+
+
+def test_the_bill_of_a_month(run, tmp_path):
+    """Three hours of a site, one of them failing, one annulled: the sum of their bills, each hour once."""
+    book, cents = tmp_path / "a.book", int(run("bill", SAMPLES / "steam_site.csv").out.split("bill")[1].split()[0].replace(",", ""))
+    for hour in ("2026-11-17 14:00", "2026-11-17 15:00", "2026-11-18 00:00", "2026-12-01 00:00"):
+        assert run("keep", SAMPLES / "steam_site.csv", book, "--at", hour).status == 0
+    run("keep", SAMPLES / "steam_site_off.csv", book, "--at", "2026-11-18 01:00")
+    assert run("book", "bill", book, "2026-11").status == 1 and "several sites" in run("book", "bill", book, "2026-11").err
+    run("book", "annul", book, "3", "--reason", "x")
+    ended = run("book", "bill", book, "2026-11", "--find", "steam_site")
+    assert ended.status == 1, "the other site has steam_site in its name too"
+    run("book", "annul", book, "5", "--reason", "x")
+    ended = run("book", "bill", book, "2026-11")
+    assert ended.status == 0 and f"{2 * cents:,}" in ended.out and "2 of 720 hours billed" in ended.out and "2 annulled sheets do not count" in ended.out
+    run("keep", SAMPLES / "steam_site.csv", book, "--at", "2026-11-17 15:00")
+    assert "2 sheets" in run("book", "bill", book, "2026-11").err
+    for month in ("2026-13", "2026", "2020-01", "x"):
+        assert run("book", "bill", book, month).status == 1
+
+
+def test_failing_hours_are_billed_only_if_asked(run, tmp_path):
+    book = tmp_path / "a.book"
+    run("keep", SAMPLES / "steam_site_off.csv", book, "--at", "2026-11-18 01:00")
+    left, billed = run("book", "bill", book, "2026-11"), run("book", "bill", book, "2026-11", "--failing")
+    assert left.status == billed.status == 3 and "not billed" in left.out and "FAILING" in billed.out and "1 of 720" in billed.out
+
+
+def test_checked_flows_have_numbers_of_their_own(run, tmp_path):
+    book = tmp_path / "a.book"
+    for name, told in (("two_percent", "checked flows 1"), ("steam_site", "sheet 1"), ("two_percent", "checked flows 2"), ("steam_site", "sheet 2")):
+        assert f"kept as {told} of office 4" in run("keep", SAMPLES / f"{name}.csv", book, "--office", "4").out
+    with Book(book) as kept:
+        assert check(kept) == [] and (kept.offices()[4].last, kept.offices()[4].flows, kept.offices()[4].entry) == (2, 2, 4)
+        found = kept.sheet(4, 1, FLOW)
+        for other in (replace(found, verdict=1), replace(found, cost=found.cost + 1), replace(found, blanks=9), replace(found, sheet=found.sheet.replace(b'"flows":[', b'"flows":[1')),
+                      replace(found, readings=found.readings.replace("[", "[ ", 1).replace("4", "5"))):
+            assert other._flow_faults() if b'"flows":[1' not in other.sheet else other.faults(kept.before(other))
+    assert "it passes" in run("open", book, "2", "--office", "4", "--flows").out and "flows 2" in run("open", book).out
+    assert run("open", book, "3", "--office", "4", "--flows").status == 1
+    assert run("book", "annul", book, "1", "--office", "4", "--flows", "--reason", "x").status == 0 and run("book", "check", book).status == 0
+
+
+def test_workers_end_with_their_parent(tmp_path):
+    """A batch killed leaves no process behind."""
+    (tmp_path / "a").mkdir()
+    for k in range(400):
+        (tmp_path / "a" / f"{k}.csv").write_bytes((SAMPLES / "steam_site.csv").read_bytes())
+    command = [sys.executable, "-m", "wengeludo", "batch", str(tmp_path / "a"), "-o", str(tmp_path / "s.csv"), "--jobs", "2"]
+    running = subprocess.Popen(command, stdout=subprocess.DEVNULL, stderr=subprocess.DEVNULL)
+    workers = []
+    for _ in range(500):
+        workers = subprocess.run(["pgrep", "-P", str(running.pid)], capture_output=True, text=True).stdout.split()
+        if len(workers) == 2 or running.poll() is not None:
+            break
+        time.sleep(0.02)
+    running.kill()
+    running.wait()
+    assert len(workers) == 2
+    for _ in range(150):
+        if not any(Path(f"/proc/{pid}").exists() for pid in workers):
+            return
+        time.sleep(0.1)
+    raise AssertionError("workers go on without their parent")
+
+
+def test_two_batches_at_once_keep_each_list_once(tmp_path):
+    (tmp_path / "a").mkdir()
+    for k in range(20):
+        (tmp_path / "a" / f"{k}.csv").write_text((SAMPLES / "listing.csv").read_text().replace("100", f"{100 + k}"))
+    words = [sys.executable, "-m", "wengeludo", "batch", str(tmp_path / "a"), "--book", str(tmp_path / "a.book"), "--jobs", "1", "-o"]
+    running = [subprocess.Popen([*words, str(tmp_path / f"{k}.csv")], stdout=subprocess.DEVNULL) for k in range(3)]
+    assert {one.wait() for one in running} <= {0, 3}
+    with Book(tmp_path / "a.book") as book:
+        assert book.offices()[0].entry == 20 and check(book) == []

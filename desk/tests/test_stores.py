@@ -5,9 +5,11 @@ import signal
 import sqlite3
 import subprocess
 import sys
+import tempfile
 import threading
 import time
 from dataclasses import replace
+from pathlib import Path
 
 import pytest
 from conftest import SAMPLES
@@ -468,18 +470,17 @@ def test_a_full_disk(tmp_path):
 
 
 @pytest.mark.skipif(os.getuid() != 0, reason="as root alone another user's rights can be tried")
-def test_read_only(tmp_path):
+def test_read_only():
     """As a user who may not write: looking goes, keeping is told."""
-    path = tmp_path / "a.book"
-    filled(path).close()
-    os.chmod(path, 0o444)
-    os.chmod(tmp_path, 0o555)
-    for folder in tmp_path.parents:
-        if folder.owner() == "root" and str(folder).startswith("/tmp/"):
-            os.chmod(folder, 0o755)
-    words = "import sys\nfrom wengeludo.cli import main\nsys.exit(main(sys.argv[1:]))"
-    for command, status, word in ((("open", path), 0, "steam_site"), (("open", path, "1"), 0, "it passes"), (("book", "check", path), 0, "whole"),
-                                  (("keep", SAMPLES / "listing.csv", path), 1, "the right to write"), (("keep", SAMPLES / "listing.csv", tmp_path / "new.book"), 1, "the right to write")):
-        ended = subprocess.run([sys.executable, "-c", words, *map(str, command)], capture_output=True, text=True, user="nobody", group="nogroup", extra_groups=[])
-        assert ended.returncode == status and word in ended.stdout + ended.stderr and "Traceback" not in ended.stderr, ended
-    assert sorted(p.name for p in tmp_path.iterdir()) == ["a.book", "a.book.turn"]
+    with tempfile.TemporaryDirectory() as name:
+        folder = Path(name)
+        path, new = folder / "a.book", folder / "new.book"
+        filled(path).close()
+        os.chmod(path, 0o444)
+        os.chmod(folder, 0o555)
+        words = "import sys\nfrom wengeludo.cli import main\nsys.exit(main(sys.argv[1:]))"
+        for command, status, word in ((("open", path), 0, "steam_site"), (("open", path, "1"), 0, "it passes"), (("book", "check", path), 0, "whole"),
+                                      (("keep", SAMPLES / "listing.csv", path), 1, "the right to write"), (("keep", SAMPLES / "listing.csv", new), 1, "the right to write")):
+            ended = subprocess.run([sys.executable, "-c", words, *map(str, command)], capture_output=True, text=True, user="nobody", group="nogroup", extra_groups=[])
+            assert ended.returncode == status and word in ended.stdout + ended.stderr and "Traceback" not in ended.stderr, ended
+        assert sorted(p.name for p in folder.iterdir()) == ["a.book", "a.book.turn"]

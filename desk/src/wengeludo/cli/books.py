@@ -1,4 +1,4 @@
-"""Commands over a whole book: check, offices, annul, backup, restore, move, upgrade, make."""
+"""Commands over a whole book: check, offices, annul, bill, backup, restore, move, upgrade, make."""
 
 from __future__ import annotations
 
@@ -12,6 +12,7 @@ import click
 from ..keep import copies
 from ..keep.book import Book, someone
 from ..keep.check import check as checked
+from ..keep.month import month_bill
 from ..keep.record import FLOW, KIND, SHEET
 from ..keep.schema import MOST_NUMBER, VERSION
 from ..keep.store import is_server
@@ -19,7 +20,7 @@ from ..keep.upgrade import upgrade as upgraded
 from ..read.faults import Stopped
 from ..write import terminal
 from .named import BOOK, BookType, ReferenceType
-from .options import FILE, REFUSED
+from .options import FAILED, FILE, REFUSED
 
 WHO = click.option("--who", default=someone, show_default="your login", help="Your name, as the book writes it.")
 
@@ -80,6 +81,22 @@ def annul(book: str, number: int, office: int, reason: str, flows: bool, who: st
             raise Stopped(f"{kept.title}: {KIND[kind]} {number} of office {office} was annulled before: {kept.sheet(office, number, kind).annulled}")
     terminal.lines([f"{KIND[kind]} {number} of office {office} is annulled by {who}: {reason}"])
     return 0
+
+
+@book.command("bill")
+@BOOK
+@click.argument("month", metavar="MONTH")
+@click.option("--find", "words", default="", help="Sheets in which these words stand, if the book has several sites.")
+@click.option("--office", type=click.IntRange(0, 7), help="Sheets of this office; by default of all.")
+@click.option("--failing", is_flag=True, help="Bill from sheets that fail their test too.")
+def bill_(book: str, month: str, words: str, office: Optional[int], failing: bool) -> int:
+    """The bill of a MONTH (2026-11): the charges of each hour's sheet, by the hour of its readings, added in whole cents."""
+    with Book(book) as kept:
+        found = month_bill(kept, month, words, office, failing)
+    rows = [((label, what, f"{amount:,.0f}", f"{cents:,}"), "") for (label, what), (amount, cents) in found.charges.items()]
+    terminal.table(("stream", "what", "kg", "cents"), [*rows, (("", "bill", "", f"{found.cents:,}"), "bold")], ("kg", "cents"))
+    terminal.lines(found.account())
+    return FAILED if found.failing or found.left_out else 0
 
 
 @book.command()

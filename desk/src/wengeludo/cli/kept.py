@@ -89,7 +89,7 @@ def open_(book: str, number: Optional[int], office: Optional[int], outputs_: Seq
 
 def _cells(line: Brief) -> Tuple[str, ...]:
     verdict = engine.Verdict(line.verdict).name.lower() + (", annulled" if line.annulled else "")
-    number = str(line.number) if line.kind == SHEET else f"{KIND[line.kind]} {line.number}"
+    number = str(line.number) if line.kind == SHEET else f"flows {line.number}"
     return str(line.office), number, line.at[:16].replace("T", " "), line.hour, Path(line.source).name, verdict, f"{line.cost / 1000:,.1f}"
 
 

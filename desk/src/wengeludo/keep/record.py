@@ -23,7 +23,7 @@ from .store import Damaged
 
 T = TypeVar("T")
 SHEET, FLOW = 0, 1  # the kinds: a numbered sheet of the engine, a checked flow
-KIND = {SHEET: "sheet", FLOW: "flow"}
+KIND = {SHEET: "sheet", FLOW: "checked flows"}
 MOST_COST = 2**63 - 1  # a cost may be 2^64 - 1, which no column holds: the column is for sorting, the sheet has the cost
 _HOURLY = ("row", "reading", "accuracy", "silent")  # of a pipe; all its other fields belong to the plan
 _LISTED = ("name", "pipes", "places", "spots", "told", "form", "hour")  # of a list, kept in ways of their own
