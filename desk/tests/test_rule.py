@@ -207,6 +207,13 @@ def test_damaged_records(text):
         Checked.from_json(text)
 
 
+@pytest.mark.parametrize("name, value", [("unit", "0"), ("factor", "-1"), ("units", 10**9), ("units", 2), ("flows", ["x"]), ("streams", []), ("list", [[0, 1, "5", "0", None, None]])])
+def test_numbers_of_a_record_that_are_none(name, value, house):
+    told = json.loads(wide.solve(exacts_of(read_list(house))).to_json())
+    with pytest.raises(Stopped):
+        Checked.from_json(json.dumps({**told, name: value}))
+
+
 def test_a_record_comes_back(house):
     listed = read_list(house)
     drawn = balance(read_site(house))

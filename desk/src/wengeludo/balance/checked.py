@@ -18,6 +18,7 @@ import wengeludo_balance as engine
 from wengeludo_balance import Verdict
 
 from ..read.faults import Stopped
+from ..read.lists import MOST_STREAMS, MOST_UNITS
 from .exact import Exact, Exacts
 from .limits import critical
 
@@ -206,6 +207,13 @@ def _record(told: Dict[str, Any]) -> Checked:
     rows = zip(streams, told["streams"])
     plant = engine.WidePlant(listed.units, tuple(engine.Stream(s.source, s.target, weight, reading, *ends) for s, (weight, reading, *ends) in rows))
     unit, factor = Fraction(told["unit"]), Fraction(told["factor"])
-    if unit <= 0 or factor <= 0 or len(plant.streams) != len(streams):
+    if unit <= 0 or factor <= 0 or len(plant.streams) != len(streams) or not _sound(listed):
         raise ValueError("its unit, factor or streams are none")
     return Checked(listed, unit, factor, plant, tuple(map(int, told["flows"])), tuple(map(int, told["numbers"])))
+
+
+def _sound(listed: Exacts) -> bool:
+    """Whether the list of a record is one: within the limits of a list, a deviation above 0 beside each reading."""
+    metered = all((s.reading is None) == (s.variance is None) and (s.variance is None or s.variance > 0) for s in listed.streams)
+    placed = all(0 <= end <= listed.units for s in listed.streams for end in (s.source, s.target))
+    return metered and placed and 1 <= listed.units <= MOST_UNITS and len(listed.streams) <= MOST_STREAMS
