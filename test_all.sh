@@ -9,7 +9,7 @@
 #
 # WENGELUDO_INPUTS (default 100000)  inputs of the differential tests
 # FUZZ_SECONDS (default 60)          how long the fuzz target runs
-# SHORT=1                            no benchmark, no browser, no older Rust, and the commands of the texts are not run
+# SHORT=1                            no benchmark, no older Rust, and the commands of the texts are not run
 # SKIP_MISSING=1                     a part whose tool is missing is left out, and the last lines say so
 set -euo pipefail
 cd "$(dirname "$0")"
@@ -144,7 +144,6 @@ absent=$(bash desk/test.sh --missing)
 if [ -n "$absent" ]; then
     skip "the Python binding and the desk tool" "no$absent"
 elif part "the Python binding and the desk tool" "$compiler"; then
-    long || export CHROMIUM=none
     ! long || export WENGELUDO_AGREED=${WENGELUDO_AGREED:-100000}
     bash desk/test.sh
 fi

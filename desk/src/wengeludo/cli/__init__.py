@@ -17,7 +17,7 @@ from .. import __version__
 from ..keep.store import title_of
 from ..read.faults import Faulty, Stopped
 from ..read.numbers import UNSURE
-from . import books, files, histories, kept, meters, sheets
+from . import books, files, histories, kept, meters, served, sheets
 from .options import REFUSED
 
 SUBJECTS = ("list", "plant", "book", "folder")  # of commands: what their errors are about
@@ -71,7 +71,7 @@ def _told(error: BaseException) -> str:
 
 for command in (
     sheets.sheet, sheets.why_, sheets.suspects_, meters.buy, meters.layouts, meters.bill, kept.keep, kept.open_, kept.check, files.pack,
-    files.unpack, kept.batch, books.book, histories.history,
+    files.unpack, kept.batch, books.book, histories.history, served.serve, served.people,
 ):
     cli.add_command(_about(command))
 

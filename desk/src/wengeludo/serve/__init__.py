@@ -1,0 +1,1 @@
+"""Serving: the desk in a browser."""
