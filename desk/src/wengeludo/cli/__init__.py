@@ -71,7 +71,7 @@ def _told(error: BaseException) -> str:
 
 for command in (
     sheets.sheet, sheets.why_, sheets.suspects_, meters.buy, meters.layouts, meters.bill, kept.keep, kept.open_, kept.check, files.pack,
-    files.unpack, kept.batch, books.book, histories.history, served.serve, served.people,
+    files.unpack, kept.batch, books.book, histories.history, histories.histories, served.serve, served.people,
 ):
     cli.add_command(_about(command))
 

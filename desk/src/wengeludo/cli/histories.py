@@ -1,8 +1,9 @@
-"""Commands over histories: history."""
+"""Commands over histories: history, histories."""
 
 from __future__ import annotations
 
 import os
+import sys
 from fractions import Fraction
 from pathlib import Path
 from typing import Optional, Sequence
@@ -12,7 +13,8 @@ import click
 from ..history import files
 from ..history.command import Options, history as history_of
 from ..write import terminal
-from .options import FAILED, FILE, LIST, UNIT
+from ..read.faults import Stopped
+from .options import FAILED, FILE, LIST, REFUSED, UNIT
 
 ZONE = click.option("--zone", help="The time zone of times without an offset, as Europe/Vienna; by default UTC.")
 EVERY = click.option("--every", help="Mean over intervals, as 1h or 15min: of the measured cells, a fault if fewer than half are.")
@@ -55,3 +57,33 @@ def history(list: Path, exports: Sequence[Path], outputs_: Sequence[str], zone: 
     if wanted:
         terminal.lines([f"Written: {', '.join(str(path) for path, _ in wanted)}"])
     return FAILED if found.findings else 0
+
+
+@click.command()
+@click.argument("folder", type=FILE)
+@click.option("-o", "--output", "summary", type=FILE, default=Path("histories.csv"), show_default=True, help="The summary; the sites' tables and pages are "
+              "kept beside it, in a folder of its name with .sites.")
+@ZONE
+@EVERY
+@click.option("--reference", help="The time against which weeks are held, as 2025-01-01..2025-01-28; by default the first 28 days.")
+@UNIT
+@click.option("--jobs", type=click.IntRange(1, 256), help="Processes at a time; by default one for each core.")
+@click.option("--cluster", help="Hands the sites to the workers of a dask.distributed scheduler, as tcp://host:8786. Whoever reaches its port runs code there.")
+def histories(folder: Path, summary: Path, zone: Optional[str], every: Optional[str], reference: Optional[str], unit: Optional[Fraction],
+              jobs: Optional[int], cluster: Optional[str]) -> int:
+    """The history of every site of FOLDER: a folder for each, with its list and its exports. A run that was cut off goes on."""
+    from rich.progress import BarColumn, MofNCompleteColumn, Progress, TextColumn, TimeRemainingColumn
+
+    from ..history.sites import Runs
+
+    if summary.suffix.lower() != ".csv" or summary.is_dir():
+        raise Stopped(f"{summary}: the summary is a .csv file")
+    columns = (TextColumn("sites"), BarColumn(), MofNCompleteColumn(), TimeRemainingColumn())
+    runs = Runs(folder, summary, Options(zone=zone, every=every, reference=reference, unit=unit), jobs or os.cpu_count() or 1, cluster)
+    with Progress(*columns, console=terminal.console(error=True), transient=True, disable=not sys.stderr.isatty()) as progress:
+        bar = progress.add_task("sites", total=None)
+        lines, before = runs.run(lambda done, of: progress.update(bar, completed=done, total=of))
+    found, faulty = sum(line[4] not in ("", "0") for line in lines), [line[0] for line in lines if line[-1]]
+    known = f", {before:,} of them from before" if before else ""
+    terminal.lines([f"{len(lines):,} sites{known}: {found:,} with findings, {len(faulty):,} with faults{': ' + ', '.join(faulty[:5]) if faulty else ''}; {summary}"])
+    return FAILED if found else REFUSED if faulty else 0
