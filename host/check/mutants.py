@@ -98,9 +98,13 @@ def mutants(seed, count, only):
             for spot in python_spots(text) if name.endswith('.py') else plain_spots(text):
                 spots.setdefault(part, []).append((name, *spot))
     parts = [(part, share) for part, share, _ in AREAS if not only or part in only]
+    drawn = set()
     while True:
         part = draw.choices([one for one, _ in parts], [share for _, share in parts])[0]
         name, start, end, what = draw.choice(spots[part])
+        if (name, start, what) in drawn:
+            continue
+        drawn.add((name, start, what))
         text, new = (ROOT / name).read_text(encoding='utf-8'), changed(draw, what, name)
         if new != what:
             yield part, name, text[:start].count('\n') + 1, what if what != '-- line' else text[start:end], new, text[:start] + new + text[end:]
