@@ -12,10 +12,10 @@ from markupsafe import Markup
 
 from ..balance.kind import SheetKind
 from ..balance.sheet import Balance, balance
-from ..balance.site import Site, notes
+from ..balance.site import Site
 from ..explain import purchase, suspects
 from ..explain.charges import Charge, bill
-from ..explain.steps import steps
+from ..explain.steps import steps, told as notes_of
 from ..explain.why import overfull, why
 from ..read.faults import Stopped
 from ..write import outputs, view
@@ -63,7 +63,7 @@ def _told(shelf: Shelf, base: Base, words: Mapping[str, str]) -> Dict[str, Any]:
     return {
         "base": base, "trial": trial, "first": first, "now": now, "site": now.site, "chosen": chosen, "fields": FIELDS, "field_of": field_of,
         "headline": view.headline(now), "before": view.headline(first), "tone": view.tone(now), "scale": scale(now), "steps": steps(now),
-        "notes": notes(now.site), "words": trial.words, "query": query, "faults": trial.faults, "decimal": decimal(), "signs": SIGNS, "forms": FORMS,
+        "notes": notes_of(now), "words": trial.words, "query": query, "faults": trial.faults, "decimal": decimal(), "signs": SIGNS, "forms": FORMS,
         "trying": bool(trial.changes) or not base.kept or "try" in words, "rows": _rows(first, now, bool(trial.counted)),
         "reasons": overfull(now) if now.refused else [now.reason] if now.flowless else why(now, chosen) if chosen >= 0 else [],
         "drawing": Markup(thin_texts(paint(shelf.layout(base), now, Marks(trial.streams, trial.struck, chosen, focus=True)))),

@@ -28,7 +28,7 @@ GERMAN: Dict[str, str] = {
     "Keep this sheet": "Dieses Blatt ablegen", "Office": "Büro", "Note": "Notiz", "needed if something was changed": "nötig, wenn etwas geändert wurde",
     "Keep under its next number": "Unter der nächsten Nummer ablegen", "Full size": "Volle Größe", "drawing": "Zeichnung", "The streams": "Die Ströme", "which streams": "welche Ströme",
     "all": "alle", "marked": "markiert", "not known": "nicht bekannt", "changed": "geändert", "stream": "Strom", "what": "Bezeichnung", "balanced": "ausgeglichen",
-    "correction": "Korrektur", "test": "Prüfwert", "how known": "woher bekannt", "no meter": "ohne Messung", "Try these readings": "Diese Messwerte versuchen", "was": "war", "no sheet": "kein Blatt",
+    "correction": "Korrektur", "test": "Prüfwert", "how known": "woher bekannt", "no meter": "ohne", "Try these readings": "Diese Messwerte versuchen", "was": "war", "no sheet": "kein Blatt",
     "The server does not answer. What you see is the last answer; it is asked again with your next change.":
         "Der Server antwortet nicht. Zu sehen ist die letzte Antwort; mit der nächsten Änderung wird wieder gefragt.",
     "Marked with e: estimates of this tool. ? is not known: any number would be invented.":
@@ -42,7 +42,7 @@ GERMAN: Dict[str, str] = {
     "it could carry at least": "es mindestens führen könnte", "and at most": "und höchstens", "its meter were struck out": "sein Messgerät gestrichen wäre", "Try it": "Versuchen",
     "Click a stream, in the drawing or the table: why it has its number or none.": "Einen Strom anklicken, in Zeichnung oder Tabelle: warum er seine Zahl hat oder keine.",
     "Suspects: the cost without each meter": "Verdächtige: die Kosten ohne jedes Messgerät", "meter": "Messgerät", "cost without": "Kosten ohne", "reads": "zeigt",
-    "would carry": "würde führen", "visit": "hingehen", "and more, none of which takes more off": "und weitere, von denen keines mehr wegnimmt", "Meters to buy": "Messgeräte zu kaufen",
+    "would carry": "würde führen", "visit": "hingehen", "and {n} more, none of which takes more off": "und {n} weitere, von denen keines mehr wegnimmt", "Meters to buy": "Messgeräte zu kaufen",
     "price": "Preis", "no price said": "ohne Preis", "No stream is unknown.": "Kein Strom ist unbekannt.", "Bill for one hour": "Rechnung für eine Stunde", "bill": "Rechnung",
     "The list has no rates.": "Die Liste hat keine Sätze.", "cents": "Cent", "The sheet fails: a bill from it is not to be sent.": "Das Blatt besteht nicht: eine Rechnung daraus ist nicht zu versenden.",
     # the book

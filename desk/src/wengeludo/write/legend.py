@@ -18,7 +18,7 @@ _SAMPLES = (
     ("#8a6d00", "", "metered, as read (unchecked)"),
     ("#2e7d32", "6 3", "deduced from meters, ± estimate"),
     ("#6a3d9a", "1.5 4", "? not known"),
-    ("#c96f00", "", "▲ test value over 1.96"),
+    ("#a65b00", "", "▲ test value over 1.96"),
     ("#c62828", "", "⚠ the greatest, beyond chance"),
 )
 _REFUSED = (

@@ -18,7 +18,7 @@ from ..read.lists import PipeList
 
 COLOURS = {Kind.ADJUSTED: "#1b6ca8", Kind.AS_READ: "#8a6d00", Kind.GIVEN: "#2e7d32", Kind.WITHHELD: "#6a3d9a"}
 STYLES = {Kind.ADJUSTED: "solid", Kind.AS_READ: "solid", Kind.GIVEN: "dashed", Kind.WITHHELD: "dotted"}
-WORST, NOTABLE, GREY = "#c62828", "#c96f00", "#54606c"
+WORST, NOTABLE, GREY = "#c62828", "#a65b00", "#54606c"
 BLANK = 2.2  # the width of a dotted line, which is faint when thin
 FONT = "DejaVu Sans,Verdana,sans-serif"
 SMALL, LARGE, ROW, BOLD = 9.0, 13.0, 11.0, 1.13  # BOLD: how much wider bold letters are
