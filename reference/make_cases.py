@@ -13,7 +13,7 @@ from pathlib import Path
 if not __package__:
     import by_path  # started by its path
 
-from reference import cases, samples, subjects
+from reference import cases, samples, subjects, wide_to_try
 
 ROOT = Path(__file__).resolve().parent.parent
 VECTORS = ROOT / "crates" / "vectors"
@@ -67,6 +67,8 @@ def main(arguments):
         printed += f"{name}.bin, cases: {len(records)}\n"
     settle(VECTORS / "args", "".join(f"{name}.bin\n" for name, _ in subjects.SUBJECTS).encode(), "the program's arguments")
     settle(VECTORS / "stdout", printed.encode(), "what the program prints")
+    flows = wide_to_try.text()
+    settle(ROOT / "reference" / "flows.cases", flows.encode(), f"{flows.count('#')} cases of the check of a flow")
     for path, made in samples.files():
         settle(ROOT / path, made, "sample")
     for path, problem in samples.missing_text(ROOT):

@@ -76,6 +76,21 @@ test('a flow found elsewhere', () => {
     assert.throws(() => engine.checkFlow(units, changed(0, { low: 1 }), flows, numbers), RangeError);
 });
 
+test('committed flows', () => {
+    let tried = 0;
+    for (const line of text('reference/flows.cases').split('\n').filter((each) => each && !each.startsWith('#'))) {
+        const [number, units, count, ...words] = line.split(' ').map(BigInt), slices = [];
+        for (let at = 0; at < words.length; at += 1 + Number(words[at])) slices.push(words.slice(at + 1, at + 1 + Number(words[at])));
+        const [from, to, metered, weight, reading, ranged, low, high, flow, numbers] = slices;
+        if (slices.slice(0, 9).some((each) => BigInt(each.length) !== count) || weight.some((w, k) => metered[k] === 0n && ranged[k] !== 0n)) continue;
+        const streams = from.map((_, k) => (metered[k] === 0n ? { from: from[k], to: to[k] } : { from: from[k], to: to[k], weight: weight[k], reading: reading[k],
+            ...(ranged[k] ? { low: low[k], high: high[k] } : {}) }));
+        assert.equal(told(() => engine.checkFlow(units, streams, flow, numbers))[0], Number(number), line);
+        tried += 1;
+    }
+    assert.ok(tried > 300, `${tried}`);
+});
+
 test('offices', () => {
     const lasts = [0, 7, 0, 0, 0, 0, 0, 4294967295];
     assert.deepEqual(engine.balancePlant(ENDED, 1, lasts).lasts, [0, 8, 0, 0, 0, 0, 0, 4294967295]);

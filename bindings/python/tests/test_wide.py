@@ -9,9 +9,11 @@ import random
 from array import array
 
 import pytest
+from conftest import REFERENCE
 
 import wengeludo_balance as w
 from reference import foreign, solver, wide_flows
+from wengeludo_balance._native import ffi, lib
 
 DRAWN = int(os.environ.get("WENGELUDO_DRAWN") or 300)
 AGREED = int(os.environ.get("WENGELUDO_AGREED") or 300)
@@ -331,3 +333,25 @@ def test_rows_that_do_not_fit():
         with pytest.raises(ValueError, match="whole numbers of 8 bytes"):
             w.wide_rows(plant, weights, readings)
     assert w.wide_rows(plant, array("Q"), array("q")).answers == b""
+
+
+def cases():
+    """The committed cases: what is returned, units, count, and the ten slices."""
+    for line in (REFERENCE / "flows.cases").read_text(encoding="utf-8").splitlines():
+        if not line.startswith("#"):
+            number, units, count, *words = map(int, line.split())
+            slices = []
+            while words:
+                slices.append(words[1 : words[0] + 1])
+                words = words[words[0] + 1 :]
+            yield number, units, count, slices
+
+
+def test_committed_cases():
+    """The call itself, as the binding does not hand over slices of other lengths."""
+    kinds, met = ("uint8_t", "uint8_t", "uint8_t", "uint64_t", "int64_t", "uint8_t", *["int64_t"] * 4), set()
+    for number, units, count, slices in cases():
+        lent = [part for kind, values in zip(kinds, slices) for part in (ffi.new(f"{kind}[]", values), len(values))]
+        assert lib.wengeludo_check_flow(units, count, *lent) == number, (number, units, count, slices)
+        met.add(number)
+    assert met == {0, 1, 5, 6, 7, 8, 9, 10, 18, 26}

@@ -310,3 +310,41 @@ fn bounds() {
         assert_eq!(found, [false, true, true, false], "weight {weight}, {d} off");
     }
 }
+
+/// A list behind its length.
+fn taken<T: std::str::FromStr>(words: &mut std::str::SplitWhitespace) -> Vec<T> {
+    let mut word = || words.next().unwrap();
+    let length: usize = word().parse().unwrap();
+    (0..length).map(|_| word().parse().ok().expect("a number of the slice's kind")).collect()
+}
+
+/// The committed cases of the reference: reference/flows.cases.
+#[test]
+fn committed_cases() {
+    let text = include_str!("../../../../reference/flows.cases");
+    let mut tried = 0;
+    for line in text.lines().filter(|line| !line.starts_with('#')) {
+        let words = &mut line.split_whitespace();
+        let mut first = || words.next().unwrap().parse::<u64>().unwrap();
+        let (number, units, count) = (first() as u8, first() as u8, first() as usize);
+        let (from, to, metered): (Vec<u8>, Vec<u8>, Vec<u8>) = (taken(words), taken(words), taken(words));
+        let (weight, reading, ranged): (Vec<u64>, Vec<i64>, Vec<u8>) = (taken(words), taken(words), taken(words));
+        let [low, high, flow, numbers]: [Vec<i64>; 4] = [(); 4].map(|()| taken(words));
+        let parts = WideParts {
+            units,
+            count,
+            from: &from,
+            to: &to,
+            metered: &metered,
+            weight: &weight,
+            reading: &reading,
+            ranged: &ranged,
+            low: &low,
+            high: &high,
+        };
+        assert_eq!(raw::check_flow(parts, &flow, &numbers), number, "{line}");
+        tried += 1;
+    }
+    println!("the check of a flow: {tried} committed cases");
+    assert!(tried > 400);
+}
