@@ -11,6 +11,8 @@
 # WENGELUDO_WIDE (default 8)              drawn lists of each span beside an independent least squares; 500 is the table of docs/desk/wide.md
 # WENGELUDO_DRAWN (default 300)          drawn plants for the binding
 # WENGELUDO_AGREED (default 300)         drawn plants for the binding's solver beside the engine; 100000 in the long run of test_all.sh
+# WENGELUDO_DRAWS (default 12)           draws of each process of the book under load; 500 is the long run: 8 processes, the rates held to their goals
+# WENGELUDO_KILL_STEP (default: some)    the book is killed at every so many writes or statements; 1 is each of them
 # CHROMIUM (default chromium)            the browser that opens the pages; none: they are not opened
 set -eu
 cd "$(dirname "$0")/.."
@@ -31,6 +33,8 @@ if [ -n "$absent" ]; then
     exit 0
 fi
 [ "${CHROMIUM:-}" = none ] || command -v "${CHROMIUM:-chromium}" >/dev/null || echo "desk: pages are not opened in a browser, as there is no chromium (apt-get install chromium)"
+{ ls /usr/lib/postgresql/*/bin/initdb && "$python" -c "import psycopg2"; } >/dev/null 2>&1 ||
+    echo "desk: no book on a server is tested, as there is no PostgreSQL or no psycopg2 (apt-get install postgresql python3-psycopg2)"
 home=$PWD/target/desk
 [ -x "$home/bin/python3" ] || "$python" -m venv --system-site-packages "$home"
 export WENGELUDO_INCLUDE="${WENGELUDO_INCLUDE:-$PWD/host/include}" WENGELUDO_ARCHIVE="${WENGELUDO_ARCHIVE:-$PWD/target/staticlib/liblinked.a}"

@@ -27,7 +27,7 @@ WHO = click.option("--who", default=someone, show_default="your login", help="Yo
 
 @click.group()
 def book() -> None:
-    """A whole book: its check, backup, move, upgrade, offices. BOOK is a file or postgresql://user@host/database."""
+    """A whole book: its check, backup, move, upgrade, offices. BOOK is a file or postgresql://user@server/database."""
 
 
 @contextmanager

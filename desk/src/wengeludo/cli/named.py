@@ -11,14 +11,14 @@ from ..read.hours import hour_from
 
 
 class BookType(click.ParamType):
-    """A file, or postgresql://user@host/database."""
+    """A file, or postgresql://user@server/database."""
 
     name = "book"
 
     def convert(self, value: object, param: Optional[click.Parameter], ctx: Optional[click.Context]) -> str:
         text = str(value)
         if re.match(r"[a-z]+://", text) and not text.startswith(("postgresql://", "postgres://")):
-            self.fail(f"{text} is no book: a file or postgresql://user@host/database would do", param, ctx)
+            self.fail(f"{text} is no book: a file or postgresql://user@server/database would do", param, ctx)
         return text
 
 

@@ -94,7 +94,7 @@ class Drawn:
 
 
 class Book:
-    """A book, opened; made if there is none and `make` says so. `where` is a file or postgresql://user@host/database."""
+    """A book, opened; made if there is none and `make` says so. `where` is a file or postgresql://user@server/database."""
 
     def __init__(self, where: Where, make: bool = False, state: str = OPEN, identity: str = "") -> None:
         self.store: Store = opened(where, make, state, identity)

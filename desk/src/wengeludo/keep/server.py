@@ -204,7 +204,7 @@ class Server(Store):
         if _is_refusal(error):
             return Stopped(f"{self.title}: the server refuses ({text}): another user, password or database would do")
         if "not installed" in text or "invalid" in text and "connection" in text:
-            return Stopped(f"{self.title}: {text}: postgresql://user@host/database would do")
+            return Stopped(f"{self.title}: {text}: postgresql://user@server/database would do")
         return Unreachable(f"{self.title}: the server cannot be reached or is at a stand ({text}); nothing of this is kept: the same again would do")
 
     # -- the role
