@@ -244,3 +244,17 @@ def test_killed_between_any_two_writes(killer, tmp_path):
         if done.returncode == 0:
             break
     assert at > 12, "the writes were counted"
+
+
+def test_a_drawing_is_laid_out_once_for_a_plan(run, tmp_path, monkeypatch):
+    from wengeludo.keep import drawn
+    from wengeludo.write.layout import layout_of as real
+
+    book = tmp_path / "site.book"
+    for name in ("steam_site.csv", "steam_site.csv"):
+        assert run("keep", SAMPLES / name, book).status == 0
+    laid = []
+    monkeypatch.setattr(drawn, "layout_of", lambda *words, **more: laid.append(1) or real(*words, **more))
+    assert run("open", book, "1", "-o", tmp_path / "one.svg").status == 0 and len(laid) == 1
+    assert run("open", book, "2", "-o", tmp_path / "two.svg", "-o", tmp_path / "two.html").status == 0 and len(laid) == 1
+    assert (tmp_path / "one.svg").read_bytes() == (tmp_path / "two.svg").read_bytes()

@@ -18,6 +18,7 @@ from ..keep.batch import run as run_batch
 from ..keep.batch import summary_of
 from ..keep.book import Book, Draft
 from ..keep.chart import chart
+from ..keep.drawn import laid_out
 from ..keep.find import Brief, Search, find, key_of
 from ..keep.record import FLOW, KIND, SHEET, Kept
 from ..keep.store import is_server
@@ -27,6 +28,8 @@ from ..write import outputs, terminal
 from .books import WHO, progress
 from .named import BOOK, BookType, HourType, ReferenceType
 from .options import FAILED, FILE, LIST, OFFICE, OUTPUT, REFUSED, UNIT, site_in
+
+DRAWINGS = {".html", ".svg"}  # files with a drawing in them
 
 
 @click.command()
@@ -104,7 +107,7 @@ def _reopened(book: Book, found: Kept, paths: Sequence[Path]) -> int:
     terminal.lines([f"kept {found.at} by {found.who or 'nobody named'} from {found.source}; {checked}", hour_told(found.hour)])
     terminal.lines([f"note: {found.note}"] if found.note else [])
     terminal.lines([f"ANNULLED by {found.annulled}"] if found.annulled else [])
-    outputs.write_all(drawn, paths)
+    outputs.write_all(laid_out(book, found.plan, drawn) if DRAWINGS & {path.suffix.lower() for path in paths} else drawn, paths)
     return FAILED if drawn.verdict is engine.Verdict.FAIL else 0
 
 

@@ -17,12 +17,13 @@ from ..balance.kind import SheetKind
 from ..balance.sheet import Balance, balance
 from ..balance.site import Site
 from ..keep.book import Book, Draft
+from ..keep.drawn import layout_in
 from ..keep.find import Brief, Key, Search, find
 from ..keep.record import FLOW, SHEET, Kept
 from ..keep.store import Absent, Closed, Conflict, Unreachable
 from ..read.faults import Stopped
 from ..write import view
-from ..write.layout import Layout, layout_from, layout_of
+from ..write.layout import Layout
 from .show import SIGNS
 
 __all__ = ["Absent", "Base", "Closed", "Conflict", "Query", "Shelf", "Unreachable"]
@@ -205,23 +206,7 @@ class Shelf:
 
     def layout(self, base: Base) -> Layout:
         """Where things stand in the drawing: laid out once for a plan, and kept with it."""
-        return self.layouts.get(base.plan, lambda: self._layout(base))
-
-    def _layout(self, base: Base) -> Layout:
-        stored = self.book.layout(base.plan)
-        if stored:
-            try:
-                found = layout_from(json.loads(stored))
-                if found.fits(base.site.list):
-                    return found
-            except ValueError:
-                pass  # of another version: laid out anew
-        laid = layout_of(self.first(base), lasting=True)
-        try:
-            self.book.set_layout(base.plan, json.dumps(laid.plain(), separators=(",", ":")))
-        except (Unreachable, Closed):
-            pass  # the drawing is shown all the same
-        return laid
+        return self.layouts.get(base.plan, lambda: layout_in(self.book, base.plan, base.site.list, lambda: self.first(base)))
 
     def lists(self, before: Optional[int], limit: int) -> List[Any]:
         """Lists taken, the newest first."""

@@ -11,4 +11,4 @@ from .paint import paint
 
 def picture(balance: Balance, layout: Optional[Layout] = None) -> str:
     """The drawing as SVG, with its legend, by a layout that was kept or by one of its own."""
-    return paint(layout or layout_of(balance), balance)
+    return paint(layout or balance.once("layout", lambda: layout_of(balance)), balance)
