@@ -129,3 +129,29 @@ def test_options(tmp_path_factory, command, words, sample):
 def test_ranges_with_one_end_and_a_unit(low, high, unit, run, listed):
     ended = run("sheet", listed(f"from,to,reading,accuracy,low,high\noutside,a,100,5,{low},{high}\na,outside,100,5,,\n"), "--unit", unit)
     assert ended.status in (0, 1, 3) and "TypeError" not in ended.err and (ended.status != 1 or ended.err or "no sheet" in ended.out)
+
+
+@pytest.mark.parametrize("name", [b"\xff\xfe", "a\x1b[31mb".encode(), "名前".encode(), b"<b>", b"'; --"])
+@pytest.mark.parametrize("suffix", [b".csv", b".bin"])
+def test_names_of_files(name, suffix, run, tmp_path):
+    """A file may be called anything: every output is written, and none has a control character."""
+    path = os.fsdecode(os.path.join(os.fsencode(tmp_path), name + suffix))
+    sample = SAMPLES / "listing.csv" if suffix == b".csv" else SAMPLES.parents[1] / "samples" / "listing.bin"
+    with open(path, "wb") as file:
+        file.write(sample.read_bytes())
+    outputs = [tmp_path / f"out.{kind}" for kind in ("html", "svg", "xlsx", "csv", "json")]
+    ended = run("sheet", path, *(word for output in outputs for word in ("-o", output)))
+    assert ended.status == 0 and all(output.stat().st_size for output in outputs) and "\x1b" not in ended.out
+
+
+def test_files_without_an_end(run, listed):
+    for command in (("sheet", "/dev/zero"), ("check", "/dev/zero", "/dev/zero", "/dev/zero"), ("unpack", "/dev/zero", "x.csv")):
+        ended = run(*command)
+        assert ended.status == 1 and "/dev/zero: the file has more than 20,000,000 bytes" in ended.err
+
+
+def test_hints_of_the_command_line(run, listed):
+    ended = run("sheet", listed("from,to,reading,accuracy\noutside,a,0,2%\n"))
+    assert ended.status == 1 and ended.err.endswith("\n--floor sets a floor for the whole list\n")
+    ended = run("sheet", listed("from,to,reading,accuracy,low,high\noutside,a,10,5,10.3,10.4\na,outside,10,5,,\n"), "--unit", "1")
+    assert ended.status == 1 and ended.err.endswith("\n--unit sets the unit\n")

@@ -20,6 +20,9 @@ from ..read.numbers import UNSURE
 from . import books, files, histories, kept, meters, served, sheets
 from .options import REFUSED
 
+HINTS = {  # what the command line has for a fault
+    UNSURE: "--decimal point or --decimal comma says which it is", "unit would do": "--unit sets the unit", "or a floor below": "--floor sets a floor for the whole list",
+}
 SUBJECTS = ("list", "plant", "book", "folder")  # of commands: what their errors are about
 
 
@@ -125,8 +128,7 @@ def _run(arguments: Optional[Sequence[str]]) -> Tuple[int, str]:
         error.show()
         return error.exit_code, ""
     except Faulty as error:
-        unsure = any(UNSURE in fault.wanted for fault in error.faults)
-        return REFUSED, str(error) + ("\n--decimal point or --decimal comma says which it is" if unsure else "")
+        return REFUSED, "\n".join([str(error), *(hint for words, hint in HINTS.items() if any(words in fault.wanted for fault in error.faults))])
     except Stopped as error:
         return REFUSED, str(error)
     except OSError as error:

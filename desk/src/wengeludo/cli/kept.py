@@ -24,6 +24,7 @@ from ..keep.record import FLOW, KIND, SHEET, Kept
 from ..keep.store import is_server
 from ..read import plant_files
 from ..read.faults import Stopped
+from ..read.grids import read_bytes
 from ..write import outputs, terminal
 from .books import WHO, progress
 from .named import BOOK, BookType, HourType, ReferenceType
@@ -117,7 +118,7 @@ def _reopened(book: Book, found: Kept, paths: Sequence[Path]) -> int:
 @click.argument("numbers", type=FILE)
 def check(plant: Path, sheet: Path, numbers: Path) -> int:
     """Checks a SHEET drawn up elsewhere against its PLANT file, with one NUMBER for each place."""
-    broken = rules.check(plant.read_bytes(), sheet.read_bytes(), plant_files.numbers_in(numbers))
+    broken = rules.check(read_bytes(plant), read_bytes(sheet), plant_files.numbers_in(numbers))
     terminal.lines([f"does not pass: {broken}" if broken else "passes: no balanced flow within the ranges costs less"])
     return REFUSED if broken else 0
 

@@ -49,7 +49,7 @@ def read_bytes(path: Path) -> bytes:
     with open(path, "rb") as file:
         data = file.read(MOST_BYTES + 1)
     if len(data) > MOST_BYTES:
-        raise Faulty(path, [Fault(f"the file has more than {MOST_BYTES:,} bytes: a list has at most 96 streams")])
+        raise Faulty(path, [Fault(f"the file has more than {MOST_BYTES:,} bytes: a list or a plant has at most 96 streams")])
     return data
 
 

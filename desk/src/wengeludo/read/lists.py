@@ -16,6 +16,7 @@ from .grids import Grid, is_header, read_grid
 from .hours import hour_within
 from .numbers import COMMA, KG, POINT, Accuracy, Held, Marks, accuracy, amount, gives_none, marks_of, whole
 from .places import drawable, spots_in
+from .texts import legible
 
 MOST_STREAMS, MOST_UNITS = 96, 32
 MOST_READING, MOST_RANGE = 4e12, 2e15
@@ -140,7 +141,7 @@ class _Reader:
         self.tell()
         form = FORMS[self.asked.lang] if self.asked.lang else Form(self.lang, self.grid.separator, self.marks.decimal)
         self.names[0] = word(OUTSIDE, form.lang)
-        return PipeList(self.path.stem, tuple(pipes), tuple(self.names), tuple(self.extras), spots, tuple(self.told), form, hour_within(above[:MOST_ABOVE]) or "")
+        return PipeList(legible(self.path.stem) or "list", tuple(pipes), tuple(self.names), tuple(self.extras), spots, tuple(self.told), form, hour_within(above[:MOST_ABOVE]) or "")
 
     def fault(self, wanted: str, row: Optional[int] = None, column: Optional[str] = None, stream: Optional[str] = None,
               found: Optional[str] = None) -> None:

@@ -11,16 +11,19 @@ from typing import List, Optional, Tuple
 import wengeludo_balance as engine
 
 from .faults import Stopped, quoted
+from .grids import read_bytes
 from .lists import OUTSIDE, Pipe, PipeList
 from .numbers import Marks, accuracy, deviation_of
+from .texts import legible
 
 
 def unpacked(path: Path, unit: Fraction = Fraction(1)) -> Tuple[PipeList, engine.Plant]:
     """The list and the plant of a plant file or a transmitter file whose flows are in this unit; Stopped where it is neither."""
-    file = path.read_bytes()
+    file = read_bytes(path)
+    name = legible(path.stem) or "plant"
     try:
         plant = engine.read_plant(file)
-        return _list(path.stem, plant, unit), plant
+        return _list(name, plant, unit), plant
     except engine.Refusal as refusal:
         first = refusal
     try:
@@ -29,7 +32,7 @@ def unpacked(path: Path, unit: Fraction = Fraction(1)) -> Tuple[PipeList, engine
         if file[2:3] and file[2] in (0x21, 0x22, 0x23):
             first = refusal
         raise Stopped(f"{path}: {first.text} ({first.number})") from None
-    return _list(path.stem, plant, unit), plant
+    return _list(name, plant, unit), plant
 
 
 def beside(path: Path) -> Path:
@@ -42,7 +45,7 @@ def unit_beside(path: Path) -> Optional[Fraction]:
     told = beside(path)
     if not told.is_file():
         return None
-    words = told.read_text(encoding="utf-8-sig", errors="replace").split()
+    words = read_bytes(told).decode("utf-8-sig", errors="replace").split()
     try:
         unit = Fraction(words[0])
     except (ValueError, ZeroDivisionError, IndexError):
@@ -69,7 +72,7 @@ def _pipe(k: int, stream: engine.Stream, unit: Fraction) -> Pipe:
 
 def numbers_in(path: Path) -> List[int]:
     """Place numbers in a text, one after the other, the outside's first; Stopped where one is none."""
-    words = path.read_text(encoding="utf-8-sig", errors="replace").replace(",", " ").replace(";", " ").split()
+    words = read_bytes(path).decode("utf-8-sig", errors="replace").replace(",", " ").replace(";", " ").split()
     wrong = next((word for word in words if not re.fullmatch(r"[+-]?[0-9]{1,40}", word)), None)
     if wrong is not None:
         raise Stopped(f"{path}: {quoted(wrong)} stands there; whole numbers would do, one for each place, the outside first")
