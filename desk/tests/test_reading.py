@@ -17,6 +17,7 @@ from wengeludo.read.faults import Faulty
 from wengeludo.read.flow_units import flow_unit, split_heading, split_unit
 from wengeludo.read.lists import Asked, Form, read_list
 from wengeludo.read.numbers import POINT, Marks, amount
+from wengeludo.read.places import drawable
 from wengeludo.read.texts import guarded, unguarded
 
 
@@ -335,3 +336,11 @@ def test_columns_of_an_earlier_sheet_are_left_out(listed):
 
 def test_wide_columns_have_names():
     assert get_column_letter(16384) == "XFD" and workbooks.MOST_WIDE > 16384
+
+
+@pytest.mark.parametrize("spots", [{1: (-4.9, 1.9e246)}, {1: (1e308, 0.0), 2: (1e308, 1e308)}, {1: (3e5, 3e5), 2: (3e5 + 4, 3e5)}, {1: (1.0, 1.0), 2: (1.0, 1.0)}])
+def test_places_anywhere_are_brought_to_the_page(spots):
+    found, _ = drawable(spots, ["outside", "a", "b"])
+    assert all(abs(value) <= 1000 for spot in found.values() for value in spot)
+    if len(spots) == 2 and spots[1][0] == 3e5:
+        assert found[2][0] - found[1][0] == pytest.approx(4)

@@ -12,7 +12,7 @@ from .numbers import Marks, number
 Spot = Tuple[float, float]
 UNIT_WORDS = ("unit", "place", "anlage", "apparat", "einheit")
 NEAR, FAR, USUAL = 1.5, 15.0, 5.0  # centimetres between neighbours: at least, at most, and to which others are brought
-REACH = 150.0  # centimetres from the middle of the drawing
+REACH, PAPER = 150.0, 1_000.0  # centimetres from the middle of the drawing, and from its corner
 
 
 def spots_in(rows: Sequence[List[str]], places: Mapping[str, int], marks: Marks) -> Tuple[Dict[int, Spot], List[Fault]]:
@@ -59,9 +59,8 @@ def drawable(spots: Mapping[int, Spot], names: Sequence[str]) -> Tuple[Dict[int,
     far = [names[unit] for unit in spots if unit not in near]
     if far:
         told.append(f"too far from the rest of the drawing, and put where the streams draw it: {', '.join(far)}")
-    if not far and scale == 1:
-        return dict(spots), told
-    return near, told
+    small = all(abs(value) <= PAPER for spot in spots.values() for value in spot)
+    return (dict(spots) if small and scale == 1 and not far else near), told
 
 
 def _scale(spots: Sequence[Spot]) -> float:
