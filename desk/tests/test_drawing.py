@@ -100,6 +100,21 @@ def test_a_long_label_is_wide():
     assert Label("1", "2", ("a" * 40,), "#000").size[0] > Label("1", "2", ("a" * 20,), "#000").size[0] > 100
 
 
+@pytest.mark.parametrize("name", ["steam_site.csv", "steam_site_off.csv", "blind_site.csv", "overfull_site.csv"])
+@pytest.mark.parametrize("lasting", [False, True])
+def test_labels_that_graphviz_places(name, lasting):
+    """No label on a unit or on another label, and each beside its own line."""
+    drawn = balance(read_site(SAMPLES / name))
+    laid = layout_of(drawn, lasting)
+    boxes = [label_box(laid, drawn, k) for k in range(len(laid.labels))]
+    everything = [*laid.units, *boxes]
+    assert sum(shared(a, b) for k, a in enumerate(everything) for b in everything[:k]) < 60
+    for (left, top, right, bottom), line in zip(boxes, laid.lines):
+        assert min(max(left - x, x - right, top - y, y - bottom, 0) for x, y in points_along(line)) <= 50, "beside its own line"
+    left, top, wide, high = laid.box
+    assert all(left <= box[0] and box[2] <= left + wide and top <= box[1] and box[3] <= top + high for box in laid.units)
+
+
 SAMPLE_NAMES = ("steam_site.csv", "steam_site_off.csv", "steam_site.xlsx", "overfull_site.csv", "blind_site.csv")
 
 

@@ -234,6 +234,9 @@ def test_notes_are_never_dropped(run, listed):
     text = "stream,what,from,to,reading,accuracy,low,high\n1,feed,outside,a,100,2%,,\n2,steam,a,outside,900,2%,,\n13,x,a,outside,Bad,2%,,\n" + "\n".join(rows)
     out = " ".join(run("sheet", listed(text)).out.split())
     assert "no reading, so they count as streams without a meter: 13 (“Bad”)" in out
+    lone = "stream,from,to,reading,accuracy\n1,outside,a,100,2%\n2,a,outside,Bad,2%\n" + "".join(f"x{k},outside,w{k},5,1\n" for k in range(9))
+    out = " ".join(run("sheet", listed(lone)).out.split())
+    assert "“Bad”" in out and all(f"w{k} has a single stream" in out for k in range(9))
 
 
 def test_texts_name_no_surface(listed):
