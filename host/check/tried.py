@@ -18,9 +18,9 @@ SHORT = {'WENGELUDO_EXAMPLES': '5', 'WENGELUDO_DRAWN': '30', 'WENGELUDO_HOURS': 
 LONG = {'WENGELUDO_EXAMPLES': '100', 'WENGELUDO_DRAWN': '300', 'WENGELUDO_HOURS': '200', 'WENGELUDO_INPUTS': '20000'}
 # Which tests of the desk come first, by the package that is changed; the others follow.
 FIRST = {
-    'read': ('lists', 'figures', 'numbers', 'units', 'shapes', 'commands'), 'balance': ('shapes', 'golden', 'figures', 'wide'),
-    'explain': ('golden', 'shapes', 'commands'), 'write': ('shown', 'golden', 'commands', 'drawing', 'figures'), 'keep': ('runs', 'batch', 'book', 'commands'),
-    'cli': ('commands', 'golden', 'runs', 'book'), 'history': ('history',),
+    'read': ('reading', 'lists', 'figures', 'shapes', 'commands'), 'balance': ('rule', 'golden', 'shapes', 'figures'),
+    'explain': ('golden', 'rule', 'shapes', 'commands'), 'write': ('shown', 'written', 'golden', 'drawing', 'figures', 'commands'),
+    'keep': ('runs', 'kept_lists', 'book', 'batch', 'upgrade', 'stores'), 'cli': ('commands', 'golden', 'runs', 'book'), 'history': ('history',),
 }
 NEVER = ('install', 'page')  # those of desk/install.sh, and those that open a browser
 # Tests that need servers or many rows are run for changes of these packages alone: that can only leave a change unseen.
