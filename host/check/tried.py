@@ -13,7 +13,7 @@ from pathlib import Path
 
 ROOT = Path(__file__).resolve().parents[2]
 PYTHON = '/usr/bin/python3'
-SECONDS = 240  # so long may the tests of one change take
+SECONDS = 900  # so long may the tests of one change take
 SHORT = {'WENGELUDO_EXAMPLES': '5', 'WENGELUDO_DRAWN': '30', 'WENGELUDO_HOURS': '20', 'WENGELUDO_INPUTS': '400', 'CHROMIUM': 'none'}
 LONG = {'WENGELUDO_EXAMPLES': '100', 'WENGELUDO_DRAWN': '300', 'WENGELUDO_HOURS': '200', 'WENGELUDO_INPUTS': '20000'}
 # Which tests of the desk come first, by the package that is changed; the others follow.
@@ -52,13 +52,13 @@ class Tree:
 
     def run(self, words, where='.'):
         """Whether a command ends well, and what it said last."""
-        try:
-            with subprocess.Popen(words, cwd=self.path / where, env=self.environment(), stdout=subprocess.PIPE, stderr=subprocess.STDOUT,
-                                  stdin=subprocess.DEVNULL, start_new_session=True) as ran:
+        with subprocess.Popen(words, cwd=self.path / where, env=self.environment(), stdout=subprocess.PIPE, stderr=subprocess.STDOUT,
+                              stdin=subprocess.DEVNULL, start_new_session=True) as ran:
+            try:
                 said = ran.communicate(timeout=SECONDS)[0]
-        except subprocess.TimeoutExpired:
-            os.killpg(ran.pid, 9)
-            return False, f'no end after {SECONDS} seconds'
+            except subprocess.TimeoutExpired:
+                os.killpg(ran.pid, 9)
+                return False, f'no end after {SECONDS} seconds'
         return ran.returncode == 0, said.decode(errors='replace')[-3000:]
 
     def binding(self):
