@@ -131,7 +131,16 @@ def test_kinds_and_verdicts():
 def test_rows_at_the_limits_and_beyond():
     """A row that is refused is empty, and numbers that no field of C holds are refused like any other."""
     np = pytest.importorskip("numpy")
-    plant = w.Plant(1, (w.Stream(0, 1, 1, 0), w.Stream(1, 0, 1, 0)))
+    for ends in ((), (-9, LIMITS["MAX_READING"])):
+        refused_row(np, w.Plant(1, (w.Stream(0, 1, 1, 0, *ends), w.Stream(1, 0, 1, 0))))
+    one = [w.MEASURED]
+    for streams, rates, refused in (((w.Stream(0, 256, 1, 0),), None, 7), ((w.Stream(1, 0, 1, 0),), [-1], 24), ((w.Stream(1, 0, 1, 0),), [65_536], 24)):
+        told = w.rows(w.Plant(1, streams), [[5]], [10.0], [one], rates=rates).arrays()
+        assert int(told["unbilled" if rates else "refusal"][0]) == refused, told
+
+
+def refused_row(np, plant):
+    """The second of three rows is refused, and nothing of it is left."""
     readings = np.array([[LIMITS["MAX_READING"]] * 2, [LIMITS["MAX_READING"] + 1] * 2, [5, 7]])
     done = w.rows(plant, readings, np.array([10.0, 10.0]), np.full((3, 2), w.MEASURED), rates=[5])
     found = done.arrays()
@@ -139,7 +148,3 @@ def test_rows_at_the_limits_and_beyond():
     for name, array in found.items():
         if name not in ("refusal", "unbilled"):
             assert not np.any(array[1]), f"{name} of a row that is refused"
-    one = [w.MEASURED]
-    for streams, rates, refused in (((w.Stream(0, 256, 1, 0),), None, 7), ((w.Stream(1, 0, 1, 0),), [-1], 24), ((w.Stream(1, 0, 1, 0),), [65_536], 24)):
-        told = w.rows(w.Plant(1, streams), [[5]], [10.0], [one], rates=rates).arrays()
-        assert int(told["unbilled" if rates else "refusal"][0]) == refused, told
