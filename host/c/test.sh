@@ -191,6 +191,10 @@ printf '\001\040\004\000' >"$work/units"
 printf '\036\000\000\000\000\001\000\000\000\000\000\000\000\000\000\002' >"$work/total"
 expect 0 'passes' "$work/units" "$work/total" "$(listed most {0..32})"
 expect 1 $'refused 26\nthere are 34 numbers for 33 places' "$work/units" "$work/total" "$(listed more {0..33})"
+printf '\001\040\002\000\040\000\001\000\000\000\000\002\040\000\000\001\000\000\000\000\004\002' >"$work/last" # to unit 32 and back
+printf '\021\000\000\000\000\000\000\000\001\021\000\000\000\000\000\000\000\000\036\000\000\000\000\001\000\000\000\000\000\000\000\000\001\000' >"$work/last_sheet"
+# shellcheck disable=SC2046
+expect 1 $'refused 26\nplace 0, with the places that W streams join to it: flows in and out have other sums' "$work/last" "$work/last_sheet" "$(listed edge $(for _ in {0..31}; do echo 0; done) 1)"
 { for _ in {1..96}; do printf '\021\000\000\000\000\000\000\000\000'; done; printf '\036\000\000\000\000\001\000\000\000\000\000\000\000\000\001\000'; } >"$work/long_sheet"
 { cat "$work/long_sheet"; printf '\000'; } >"$work/longer_sheet"
 expect 0 'passes' "$work/longest" "$work/long_sheet" "$(listed two 0 0)"
