@@ -47,11 +47,11 @@ def test_kept_and_found_alike(new_book):
     with filled(new_book()) as book:
         assert check(book) == [] and book.lasts() == (3,) * 8
         newest = find(book, limit=10)
-        assert [line.key() for line in newest.lines] == sorted((line.key() for line in newest.lines), reverse=True) and len(newest.lines) == 10
+        assert [line.key for line in newest.lines] == sorted((line.key for line in newest.lines), reverse=True) and len(newest.lines) == 10
         second = find(book, before=newest.older, limit=10)
         last = find(book, before=second.older, limit=10)
         pages = [*newest.lines, *second.lines, *last.lines]
-        assert len({line.key() for line in pages}) == 24 and last.older is None
+        assert len({line.key for line in pages}) == 24 and last.older is None
         assert key_of(book, pages[9].office, pages[9].number) == newest.older
         assert {(line.office, line.number) for line in pages if line.annulled} == {(3, 2)}
         hours = find(book, Search(by_hour=True), limit=7)

@@ -122,7 +122,8 @@ def restore(backup: Path, book: str, printed: Sequence[Tuple[int, int]], reason:
         lasts = _asked(dict(printed), kept)
         gone = copies.missing(kept, lasts)
         if gone and not reason:
-            terminal.lines([f"office {office}: {first} to {last} were printed and are not in the backup; they are entered as lost" for office, (first, last) in gone.items()])
+            text = "were printed and are not in the backup; they are entered as lost"
+            terminal.lines([f"office {office}: {first} to {last} {text}" for office, (first, last) in gone.items()])
             reason = click.prompt("Why are they lost? (it stays in the book)")
         count = copies.restore(kept, book, lasts, (who, reason), told)
     terminal.lines([f"{book}: restored and open" + (f"; {count:,} numbers are entered as lost" if count else "")])

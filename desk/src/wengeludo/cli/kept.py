@@ -5,7 +5,7 @@ from __future__ import annotations
 from contextlib import nullcontext
 from fractions import Fraction
 from pathlib import Path
-from typing import Optional, Sequence, Tuple
+from typing import Any, Optional, Sequence, Tuple
 
 import click
 
@@ -74,14 +74,15 @@ def hour_told(hour: str) -> str:
 @click.option("--by-hour", is_flag=True, help="--since and --until are of the hour of the readings.")
 @click.option("--older", metavar="OFFICE-NUMBER", type=ReferenceType(), help="List the sheets kept before this one.")
 @click.option("--flows", is_flag=True, help="NUMBER is that of checked flows.")
-def open_(book: str, number: Optional[int], office: Optional[int], outputs_: Sequence[Path], words: str, verdict: Optional[str], since: str, until: str,
-          by_hour: bool, older: Optional[Tuple[int, int]], flows: bool) -> int:
+def open_(book: str, number: Optional[int], office: Optional[int], outputs_: Sequence[Path], flows: bool, **asked: Any) -> int:
     """Lists the newest sheets of BOOK, or reopens sheet NUMBER of an office and checks it again."""
     paths = [outputs.checked(path) for path in outputs_]
-    wanted = Search(words, office, None if verdict is None else engine.Verdict[verdict.upper()].value, None, since, until, by_hour)
     with Book(book) as kept:
         if number is not None:
             return _reopened(kept, kept.sheet(office or 0, number, FLOW if flows else SHEET), paths)
+        verdict, older = asked["verdict"], asked["older"]
+        known = None if verdict is None else engine.Verdict[verdict.upper()].value
+        wanted = Search(asked["words"], office, known, FLOW if flows else None, asked["since"], asked["until"], asked["by_hour"])
         page = find(kept, wanted, key_of(kept, *older, search=wanted) if older else None)
     heads = ("office", "sheet", "kept", "hour of the readings", "list", "verdict", "cost")
     terminal.table(heads, [(_cells(line), "dim" if line.annulled else "") for line in page.lines], ("office", "sheet", "cost"))

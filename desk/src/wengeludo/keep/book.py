@@ -180,7 +180,8 @@ class Book:
             at = self._office(kept.office)
             if at.state != OPEN:
                 raise Closed(f"{self.title}: nobody writes in this book: {at.state}")
-            if self.store.run("SELECT entry FROM remarks WHERE what = 'annulled' AND office = ? AND kind = ? AND first = ?", (kept.office, kept.kind, kept.number)):
+            ask = "SELECT entry FROM remarks WHERE what = 'annulled' AND office = ? AND kind = ? AND first = ?"
+            if self.store.run(ask, (kept.office, kept.kind, kept.number)):
                 return False
             self.remark(at, "annulled", kept.kind, (kept.number, kept.number), (who, reason))
         return True
@@ -226,7 +227,8 @@ class Book:
         with self.store.whole():
             plans = self._plans([ready])
             row = (now(), draft.who, draft.hour, draft.source, ready.name, plans[ready.digest], ready.readings, ready.plant)
-            number = int(self.store.run("INSERT INTO lists (at, who, hour, source, name, plan, readings, plant) VALUES (?, ?, ?, ?, ?, ?, ?, ?) RETURNING list", row)[0][0])
+            insert = "INSERT INTO lists (at, who, hour, source, name, plan, readings, plant) VALUES (?, ?, ?, ?, ?, ?, ?, ?) RETURNING list"
+            number = int(self.store.run(insert, row)[0][0])
             self.store.later(_AUDIT, (row[0], draft.who, "list", f"{number} {draft.source}"))
         self.known.update(plans)
         return number
@@ -241,7 +243,7 @@ class Book:
         ask = "SELECT l.list, l.at, l.who, l.hour, l.source, l.name, l.plan, p.told, l.readings, l.plant FROM lists l JOIN plans p ON p.plan = l.plan WHERE l.list = ?"
         for row in self.store.run(ask, (number,)):
             taken = Taken(*row[:7])
-            return taken, site_from(*row[7:], taken.name, taken.hour)
+            return taken, site_from(row[7], row[8], row[9], taken.name, taken.hour)
         raise Absent(f"{self.title}: there is no list {number}")
 
     # -- looking

@@ -11,7 +11,7 @@ from typing import Dict, List, Mapping, Sequence, Tuple
 from .book import SOME, Book, Office
 from .check import Told, check
 from .lite import handed_over, removed, unused
-from .record import FIELDS, SHEET, clean
+from .record import FIELDS, FLOW, SHEET, clean
 from .schema import OPEN, now
 from .store import Closed, Conflict, Damaged, Row, title_of
 
@@ -87,7 +87,8 @@ class Copy:
         ends = [(row[1], bytes(row[-1])) for row in (*sheets, *remarks)]
         if len(ends) != until - at.entry:
             raise Damaged(f"{self.source.title}: office {at.office} has gaps in its entries: `wengeludo book check` tells where")
-        lasts = [max([at.last if kind == SHEET else at.flows, *(row[3] for row in sheets if row[2] == kind), *(row[5] for row in remarks if row[3] == kind)]) for kind in (0, 1)]
+        drawn = [(row[2], row[3]) for row in sheets] + [(row[3], row[5]) for row in remarks] + [(SHEET, at.last), (FLOW, at.flows)]
+        lasts = [max(number for kind, number in drawn if kind == one) for one in (SHEET, FLOW)]
         after = Office(at.office, lasts[0], lasts[1], until, max(ends)[1], at.state)
         with self.target.store.whole() as store:
             store.many(_insert("sheets", FIELDS), [(*row[:_PLAN], self.plans[row[_PLAN]], *row[_PLAN + 1 :]) for row in sheets])

@@ -53,7 +53,12 @@ class Brief:
     note: str
     annulled: bool
 
-    def key(self, time: str = "at") -> Key:
+    @property
+    def key(self) -> Key:
+        """Its place in the order of keeping."""
+        return self.by("at")
+
+    def by(self, time: str) -> Key:
         """Its place in the order by a column."""
         return getattr(self, time), self.office, self.kind, self.number
 
@@ -83,7 +88,7 @@ def find(book: Book, search: Search = Search(), before: Optional[Key] = None, li
             where += f" AND (s.{search.time}, s.office, s.kind, s.number) < (?, ?, ?, ?)"
             values += before
         lines += _lines(book, where, values, search.time, limit + 1)
-    found = sorted({line.key(search.time): line for line in lines}.items(), reverse=True)[: limit + 1]
+    found = sorted({line.by(search.time): line for line in lines}.items(), reverse=True)[: limit + 1]
     return Page(tuple(line for _, line in found[:limit]), found[limit - 1][0] if len(found) > limit else None)
 
 
@@ -121,4 +126,4 @@ def _clauses(search: Search) -> List[Tuple[str, Any]]:
 def _lines(book: Book, where: str, values: List[Any], time: str, limit: int) -> List[Brief]:
     order = f"s.{time} DESC, s.office DESC, s.kind DESC, s.number DESC"
     ask = f"SELECT {_BRIEF}, {_ANNULLED} FROM sheets s JOIN plans p ON p.plan = s.plan WHERE {where} ORDER BY {order} LIMIT {int(limit)}"
-    return [Brief(*row[:-1], bool(row[-1])) for row in book.store.run(ask, values)]
+    return [Brief(*(*row[:-1], bool(row[-1]))) for row in book.store.run(ask, values)]

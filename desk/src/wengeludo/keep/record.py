@@ -134,7 +134,9 @@ class Plan:
         cells, told = _cells(readings)
         pipes = tuple(_read(pipe, value) for pipe, value in zip(self.pipes, cells))
         form = _made(Form, self.told.get("form", {}))
-        return _made(PipeList, self.told["list"], name=name, pipes=pipes, places=self.places, spots=spots, told=told, form=form, hour=hour)
+        own = dict(name=name, pipes=pipes, places=self.places, spots=spots, told=told, form=form, hour=hour)
+        listed: PipeList = _made(PipeList, self.told["list"], **own)
+        return listed
 
 
 @lru_cache(256)

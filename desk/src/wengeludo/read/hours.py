@@ -28,7 +28,7 @@ def _iso(match: "re.Match[str]") -> Optional[str]:
     year, month, day = (int(match[name] or match[name + "2"]) for name in ("year", "month", "day"))
     clock = [int(match[name] or 0) for name in ("hour", "minute", "second")]
     try:
-        moment = datetime(year, month, day, *clock)
+        moment = datetime(year, month, day, clock[0], clock[1], clock[2])
     except ValueError:
         return None
     if match["hour"] is None:
