@@ -16,6 +16,7 @@ from pathlib import Path
 import servers
 
 from wengeludo.balance.site import read_site
+from wengeludo.keep import server
 from wengeludo.keep.book import Book, Draft
 from wengeludo.keep.find import Search, find
 from wengeludo.keep.record import FIELDS
@@ -44,19 +45,19 @@ def made(book, count):
     plans = [plan for plan, in book.store.run("SELECT plan FROM plans ORDER BY plan")]
     one = book.sheet(0, 1)
     _emptied(book)
-    insert = f"INSERT INTO sheets ({', '.join(FIELDS)}) VALUES ({', '.join('?' * len(FIELDS))})"
-    some = []
-    for row in rows(one, plans, count):
-        some.append(row)
-        if len(some) == 5_000:
-            _written(book, insert, some)
-            some = []
-    _written(book, insert, some)
+    if book.store.lock:
+        _by_the_server(book, plans, count)
+    else:
+        insert = f"INSERT INTO sheets ({', '.join(FIELDS)}) VALUES ({', '.join('?' * len(FIELDS))})"
+        with book.store.whole() as store:
+            store.many(insert, rows(one, plans, count))
     for office in range(8):
         ask = "SELECT coalesce(max(number), 0) FROM sheets WHERE office = ?"
         last = book.store.run(ask, (office,))[0][0]
         book.store.run("UPDATE offices SET last = ?, entry = ? WHERE office = ?", (last, last, office))
+    book.store.run("SET statement_timeout = 0" if book.store.lock else "SELECT 1")
     book.store.run("ANALYZE")
+    book.store.run("SET statement_timeout = '8s'" if book.store.lock else "SELECT 1")
     if not book.store.lock:
         book.store.run("PRAGMA synchronous = FULL")
 
@@ -70,9 +71,20 @@ def _emptied(book):
     book.store.run("DELETE FROM sheets WHERE entry > 1")
 
 
-def _written(book, insert, some):
-    with book.store.whole() as store:
-        store.many(insert, some)
+def _by_the_server(book, plans, count):
+    """The same rows, made by the server itself: it takes minutes less."""
+    server.ANSWER_SECONDS = 600.0
+    book.store.run("SET statement_timeout = 0")
+    at = "to_char(timestamp '2018-01-01' + g * interval '274 seconds', 'YYYY-MM-DD\"T\"HH24:MI:SS')"
+    verdict = "CASE WHEN mod(g, 97) = 0 THEN 1 WHEN mod(g, 31) = 0 THEN 3 ELSE 0 END"
+    made_of = {"office": "mod(g, 8)", "entry": "g / 8 + 1", "number": "g / 8 + 1", "at": f"{at} || '.000Z'", "hour": f"left({at}, 13) || ':00'", "who": "'person ' || mod(g, 40)",
+               "request": "'m' || g", "source": "'hour_' || g || '.csv'", "name": "'hour_' || g", "plan": f"(ARRAY{plans})[mod(g::bigint * 7919, {SITES}) + 1]", "verdict": verdict,
+               "cost": "mod(g::bigint * 7727, 20000)"}
+    cells = ", ".join(made_of.get(name, f"s.{name}") for name in FIELDS)
+    for first in range(8, count, 50_000):
+        source = f"sheets s, generate_series({first}, {min(first + 50_000, count) - 1}) g WHERE s.office = 0 AND s.number = 1"
+        book.store.run(f"INSERT INTO sheets ({', '.join(FIELDS)}) SELECT {cells} FROM {source}")
+    book.store.run("SET statement_timeout = '8s'")
 
 
 def timed(title, work, times=9):
@@ -110,20 +122,21 @@ def measured(book, count):
 
 
 def main(where, count=1_000_000):
-    server = servers.Server() if where == "server" else None
-    name = server.fresh() if server else f"{where}/million.book"
+    """Makes the book and measures; the greatest median of lists and searches, in ms."""
+    running = servers.Server() if where == "server" else None
+    name = running.fresh() if running else f"{where}/million.book"
     try:
         with Book(name, make=True) as book:
             began = time.perf_counter()
             if sum(book.lasts()) < count // 2:
                 made(book, count)
-            print(f"{'PostgreSQL' if server else 'SQLite'}: {sum(book.lasts()):,} sheets, made in {time.perf_counter() - began:.0f} s", flush=True)
+            print(f"{'PostgreSQL' if running else 'SQLite'}: {sum(book.lasts()):,} sheets, made in {time.perf_counter() - began:.0f} s", flush=True)
             worst = measured(book, count)
             print(f"the slowest list or search: median {worst:.1f} ms, goal 50", flush=True)
             return worst
     finally:
-        if server:
-            server.end()
+        if running:
+            running.end()
 
 
 if __name__ == "__main__":

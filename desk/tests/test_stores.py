@@ -360,7 +360,7 @@ def test_server_stopped_and_started(server, run, monkeypatch):
         again.join()
 
 
-def test_a_role_keeps_and_reads_and_no_more(server, run):
+def test_a_role_keeps_and_reads_and_no_more(server, run, tmp_path):
     where = server.fresh()
     assert run("book", "make", where, "--role", "keeper").status == 0 and run("book", "make", where, "--role", "keeper").status == 0
     mine = where.replace("postgres@", "keeper@")
@@ -374,7 +374,7 @@ def test_a_role_keeps_and_reads_and_no_more(server, run):
             with pytest.raises(Stopped, match="permission denied|must be owner"):
                 book.store.run(sql)
         with pytest.raises(Stopped):
-            copies.move(book, "x.book")
+            copies.move(book, str(tmp_path / "x.book"))
 
 
 def test_a_file_is_not_altered_either(tmp_path):
