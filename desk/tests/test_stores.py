@@ -9,21 +9,25 @@ import tempfile
 import threading
 import time
 from dataclasses import replace
+from fractions import Fraction
 from pathlib import Path
 
 import pytest
 from conftest import SAMPLES
 
 import wengeludo_balance as engine
+from wengeludo.balance import unit as units
 from wengeludo.balance.site import read_site
 from wengeludo.keep import copies, lite, store
 from wengeludo.keep import server as servers
 from wengeludo.keep.book import Book, Draft, Receipt
 from wengeludo.keep.check import check
 from wengeludo.keep.find import Search, find, key_of
-from wengeludo.keep.record import content_key
+from wengeludo.keep.record import _whole, content_key
 from wengeludo.keep.store import Absent, Closed, Conflict, NoBook, Unreachable
 from wengeludo.read.faults import Stopped
+from wengeludo.read.lists import Pipe
+from wengeludo.read.numbers import Accuracy
 
 LISTS = ("steam_site", "steam_site_off", "blind_site", "listing")
 
@@ -146,7 +150,7 @@ def test_restored_behind_no_printed_number(new_book, tmp_path):
     with Book(tmp_path / "copy.book") as copy:
         with pytest.raises(Conflict):
             copies.restore(copy, where, {2: 5}, ("me", ""))
-        assert copies.restore(copy, where, {2: 5, 4: 1}, ("me", "the disk was lost")) == 2
+        assert copies.restore(copy, where, {0: 3, 2: 5, 4: 1}, ("me", "the disk was lost")) == 2
         with pytest.raises(Conflict):
             copies.restore(copy, where, {}, ("", ""))
     with Book(where) as book:
@@ -375,6 +379,19 @@ def test_a_role_keeps_and_reads_and_no_more(server, run, tmp_path):
                 book.store.run(sql)
         with pytest.raises(Stopped):
             copies.move(book, str(tmp_path / "x.book"))
+
+
+def test_numbers_that_do_not_follow_are_told(tmp_path):
+    with filled(tmp_path / "a.book") as book:
+        with book.store.whole():
+            book.remark(book._office(2), "lost", 0, (7, 8), ("me", "x"))
+        assert check(book) == ["office 2: sheet 4 should follow, 7 does"]
+
+
+def test_readings_near_a_half_are_compared_exactly():
+    for reading, unit in ((0.15, "1/10"), (0.25, "1/10"), (2.5, "1"), (3.5, "1"), (-0.15, "1/10"), (1e6 + 0.5, "1"), (12.34, "1/100"), (7.0, "20")):
+        pipe = Pipe(2, "1", "", 0, 1, reading, Accuracy(1.0))
+        assert _whole(reading, Fraction(unit), float(Fraction(unit))) == units.meter(pipe, Fraction(unit))[1]
 
 
 def test_a_file_is_not_altered_either(tmp_path):

@@ -69,6 +69,13 @@ def test_a_damaged_one_is_left_alone(column, value, tmp_path):
     assert sorted(p.name for p in tmp_path.iterdir()) == ["old.book"] and old.read_bytes() == before
 
 
+def test_a_gap_is_told(tmp_path):
+    book = old_book(tmp_path / "old.book", 3)
+    book.base.execute("DELETE FROM sheets WHERE office = 3 AND number = 2")
+    with pytest.raises(Stopped, match="sheet 3 of office 3 does not follow sheet 1"):
+        upgrade(tmp_path / "old.book", tmp_path / "new.book")
+
+
 def test_cut_off_anywhere(killer, tmp_path):  # noqa: F811
     at = 0
     while True:
