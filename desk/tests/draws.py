@@ -1,6 +1,7 @@
 """Draws by many processes at once: rates beside the book of version 1, and draws under SIGKILL, cut connections and a server that stops.
 
     python3 desk/tests/draws.py rates [PROCESSES [DRAWS]]    three books in one run: version 1, a file, a server (if this machine has one)
+    python3 desk/tests/draws.py check [SHEETS]               how long the check of a whole book takes
     python3 desk/tests/draws.py worker ...                   one of the processes
 """
 
@@ -162,8 +163,23 @@ def rates(processes=8, count=100):
             server.end()
 
 
+def checked(count=100_000):
+    """Prints how long the check of a book in a file takes."""
+    from wengeludo.balance.site import read_site
+    from wengeludo.keep.book import Book, Draft
+    from wengeludo.keep.check import check
+
+    site = read_site(SAMPLE)
+    with tempfile.TemporaryDirectory() as name, Book(f"{name}/a.book", make=True) as book:
+        for k in range(count // 500):
+            book.keep([Draft(site, "x") for _ in range(500)], k % 8)
+        began, wall = time.process_time(), time.time()
+        faults = check(book)
+        print(f"{sum(book.lasts()):,} sheets, {len(faults)} faults: {time.process_time() - began:.1f} s of processor time, {time.time() - wall:.1f} s on the clock")
+
+
 if __name__ == "__main__":
     if sys.argv[1] == "worker":
         worker(sys.argv[2], sys.argv[3], int(sys.argv[4]), sys.argv[5], float(sys.argv[6]))
     else:
-        rates(*map(int, sys.argv[2:]))
+        {"rates": rates, "check": checked}[sys.argv[1]](*map(int, sys.argv[2:]))
