@@ -104,6 +104,9 @@ if part "the C programs" "$compiler"; then
     bash host/c/test.sh
     target/host/empty_slices
 fi
+if part "the host code beside the archive, and the floating-point environment" "$compiler" python3; then
+    bash host/companion/test.sh
+fi
 if part "the programs themselves" python3; then
     python3 host/programs/test.py
 fi

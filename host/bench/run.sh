@@ -23,7 +23,7 @@ object() { # name, archive or shared object: prints the shared object, made from
     if [ "${2%.so}" != "$2" ]; then
         realpath "$2"
     else
-        "${CC:-cc}" -shared -nostartfiles -Wl,--version-script,host/install/wengeludo.map -Wl,-z,defs -Wl,-z,now \
+        "${CC:-cc}" -shared -nostartfiles -Wl,--version-script,host/bench/calls.map -Wl,-z,defs -Wl,-z,now \
             -Wl,--whole-archive "$2" -Wl,--no-whole-archive -o "$out/$1.so" || exit 2
         realpath "$out/$1.so"
     fi

@@ -56,7 +56,7 @@ same_object() { # module, words
 # The module stays in target/cross under the sum of the archive that it came to.
 module() {
     local sum
-    if [ -e "$archive" ]; then
+    if [ -e "$archive" ] && python3 host/check/archive.py >/dev/null 2>&1; then
         sum=$(sha256sum <"$archive" | cut -d' ' -f1)
         kept=target/cross/$sum
         if [ -e "$kept.bc" ] && [ -e "$kept.words" ] && same_object "$kept.bc" "$kept.words"; then return; fi

@@ -9,7 +9,13 @@
  *
  * What holds of every pointer here, and what no call can check:
  *   - it points to as many elements as the length beside it says (a pointer without a length: to one, never NULL);
- *   - what a call writes overlaps nothing else that the same call is handed.
+ *   - what a call writes overlaps nothing else that the same call is handed;
+ *   - it is aligned as its element type is;
+ *   - the floating-point environment is C's own at the start of a program: rounding to nearest, no trap unmasked. Under another
+ *     rounding the translator gives some deviations another weight, and every sheet is the same; with a trap unmasked a transmitter
+ *     file of 19 bytes ends the process (SIGFPE).
+ * So input and output are two slices: nothing is promised of a call in place. C99 or later, C++11 or later. There are no unwind
+ * tables: nothing is thrown through a call, and a backtrace from inside one does not reach the caller.
  * Lengths count elements. A slice may be longer than is needed. A slice of length 0 may be NULL: it is never looked at.
  *
  * What each call does is proved against definitions that docs/PROMISES.md lists, call by call and file by file: result, counts

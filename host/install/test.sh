@@ -22,11 +22,23 @@ grep -qE "^ *export PKG_CONFIG_PATH=$prefix/lib/pkgconfig CMAKE_PREFIX_PATH=$pre
 version=$(sed -n 's/^Version: //p' "$prefix/lib/pkgconfig/wengeludo.pc")
 export PKG_CONFIG_PATH=$prefix/lib/pkgconfig LD_LIBRARY_PATH=$prefix/lib
 
-# The shared library: its name, and the calls of the header and nothing else.
-readelf -d "$prefix/lib/libwengeludo.so" | grep -q 'SONAME.*\[libwengeludo.so.1\]' || fail "soname"
+# The shared library: its name, and the calls of the headers and nothing else.
+readelf -d "$prefix/lib/libwengeludo.so" | grep -q "SONAME.*\[libwengeludo.so.${version%%.*}\]" || fail "soname"
 nm -D --defined-only "$prefix/lib/libwengeludo.so" | awk '$2 == "T" { sub("@.*", "", $3); print $3 }' | sort >"$work/exported"
 grep -oE '^uint(8|32)_t wengeludo_[a-z_]+' "$prefix/include/wengeludo_balance.h" | awk '{ print $2 }' | sort >"$work/declared"
-cmp "$work/exported" "$work/declared" || fail "the shared library does not export the calls of the header"
+{ cat "$work/declared"; printf 'wengeludo_%s\n' plant_fault_at refusal_text transmitter_fault_at; } | sort | cmp "$work/exported" - ||
+    fail "the shared library does not export the calls of the headers"
+python3 - "$prefix/lib/libwengeludo.so" <<'P' || fail "the sentence of a refusal and the place of a fault by dlopen"
+import ctypes
+import sys
+
+library = ctypes.CDLL(sys.argv[1])
+library.wengeludo_refusal_text.restype = ctypes.c_char_p
+byte, stream = ctypes.c_size_t(), ctypes.c_size_t()
+library.wengeludo_plant_fault_at.restype = ctypes.c_uint8
+number = library.wengeludo_plant_fault_at(bytes.fromhex('0101 030001 020001 0000 00000000 0402'), ctypes.c_size_t(16), ctypes.byref(byte), ctypes.byref(stream))
+assert (number, byte.value, stream.value) == (9, 8, 2) and library.wengeludo_refusal_text(9).startswith(b'weight 0')
+P
 nm -g --defined-only "$prefix/lib/libwengeludo.a" | awk '$2 == "T" { print $3 }' | sort | cmp - "$work/declared" || fail "the archive's calls"
 nm -u "$prefix/lib/libwengeludo.a" | awk 'NF == 2 { print $2 }' | sort | tr '\n' ' ' >"$work/needs"
 [ "$(cat "$work/needs")" = "memcpy memset " ] || fail "the archive needs $(cat "$work/needs")"
@@ -125,6 +137,50 @@ grep -qx "prefix=$work/below/here" "$work/below/here/lib/pkgconfig/wengeludo.pc"
 [ "$(find "$work/below/here" -type f -name '*.so.*' -printf '%m\n' | sort -u)" = 755 ] || fail "the mode of the shared library"
 (cd "$work" && bash "$OLDPWD/install.sh" --uninstall below/here >log 2>&1) || { cat "$work/log" >&2; fail "install.sh --uninstall below/here"; }
 [ -z "$(find "$work/below/here" ! -type d)" ] || fail "left after --uninstall below/here"
+
+# A prefix with a blank and an ampersand, libraries in a folder of their own.
+odd="$work/R & D/here"
+quiet env LIBDIR="$work/own libs" bash install.sh "$odd"
+PKG_CONFIG_PATH="$work/own libs/pkgconfig" sh -c 'eval "${CC:-cc} host/c/balance_file.c $(pkg-config --cflags --libs wengeludo) -o \"$1\""' - "$work/by_odd"
+LD_LIBRARY_PATH="$work/own libs" listing "$work/by_odd"
+quiet env LIBDIR="$work/own libs" bash install.sh --uninstall "$odd"
+[ -z "$(find "$odd" "$work/own libs" ! -type d)" ] || fail "left after --uninstall $odd"
+
+# Another archive than the recorded one, or one of another version, is refused unless it is asked for, and nothing is put there.
+cp target/staticlib/liblinked.a "$work/other.a"
+chmod u+w "$work/other.a"
+echo 'int other;' | "${CC:-cc}" -x c -c - -o "$work/other.o" && ar rcs "$work/other.a" "$work/other.o"
+if WENGELUDO_ARCHIVE=$work/other.a bash install.sh "$work/refused" >"$work/log" 2>&1; then fail "an archive that is not the recorded one is taken"; fi
+grep -q 'is not the archive that docs/MEASURED.md records' "$work/log" || { cat "$work/log" >&2; fail "what is said of another archive"; }
+[ ! -e "$work/refused" ] || fail "something of an archive that is refused is installed"
+quiet env WENGELUDO_ARCHIVE="$work/other.a" bash install.sh --unproved "$work/refused"
+grep -q '^install: UNPROVED: ' "$work/log" || fail "an archive without proof is not told"
+printf '#include <stdint.h>\nuint32_t wengeludo_version(void);\nuint32_t wengeludo_version(void) { return 990000; }\n' >"$work/version.c"
+"${CC:-cc}" -c -fPIC "$work/version.c" -o "$work/version.o" && rm -f "$work/version.a" && ar rcs "$work/version.a" "$work/version.o"
+quiet env WENGELUDO_ARCHIVE="$work/version.a" bash install.sh --unproved "$work/refused"
+grep -q "is of version 99.0.0, and the header of $version" "$work/log" || { cat "$work/log" >&2; fail "the version of an archive is not told"; }
+
+# What another version has put into the prefix stays: its own files, files that it lists too, and files that it has replaced.
+two=$work/two
+quiet bash install.sh "$two"
+echo other >"$two/lib/libwengeludo.so.9.9.9"
+ln -sf libwengeludo.so.9.9.9 "$two/lib/libwengeludo.so"
+grep ' .*/LICENCE$' "$two/share/wengeludo/manifest-$version" >"$two/share/wengeludo/manifest-9.9.9"
+quiet bash install.sh --uninstall "$two"
+(cd "$two" && find . ! -type d | sort | tr '\n' ' ') >"$work/log"
+[ "$(cat "$work/log")" = "./lib/libwengeludo.so ./lib/libwengeludo.so.9.9.9 ./share/doc/wengeludo/LICENCE ./share/wengeludo/manifest-9.9.9 " ] ||
+    fail "after --uninstall of one of two versions there is $(cat "$work/log")"
+if bash install.sh --uninstall "$two" >/dev/null 2>&1; then fail "what is not installed is taken away"; fi
+
+# For another processor, if there is a compiler for it and its archive.
+if command -v aarch64-linux-gnu-gcc >/dev/null && [ -e target/cross/aarch64.a ]; then
+    quiet env CC=aarch64-linux-gnu-gcc bash install.sh --target aarch64 "$work/arm"
+    readelf -h "$work/arm/lib/libwengeludo.so" | grep -q AArch64 || fail "--target aarch64 installs something else"
+    if command -v qemu-aarch64-static >/dev/null; then
+        aarch64-linux-gnu-gcc -static host/c/balance_file.c -I "$work/arm/include" "$work/arm/lib/libwengeludo.a" -o "$work/by_arm"
+        listing qemu-aarch64-static "$work/by_arm"
+    fi
+fi
 
 # Away again.
 quiet bash install.sh --uninstall "$prefix"
