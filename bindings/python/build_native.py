@@ -2,12 +2,14 @@
 
 The declarations are read from the headers, and the C compiler checks the calls against these same headers: no signature stands here.
 
-WENGELUDO_INCLUDE (default: host/include of this repository)            the header's folder
+WENGELUDO_INCLUDE (default: host/include of this repository, else the folder that pkg-config names)   the header's folder
 WENGELUDO_ARCHIVE (default: target/staticlib/liblinked.a, likewise)     the archive, as `rt staticlib linked` writes it
 """
 
 import os
 import re
+import shutil
+import subprocess
 import sys
 from pathlib import Path
 
@@ -15,8 +17,24 @@ from cffi import FFI
 
 HERE = Path(__file__).resolve().parent
 ROOT = HERE.parents[1]
-INCLUDE = Path(os.environ.get("WENGELUDO_INCLUDE") or ROOT / "host" / "include")
-ARCHIVE = Path(os.environ.get("WENGELUDO_ARCHIVE") or ROOT / "target" / "staticlib" / "liblinked.a")
+
+
+def installed(variable: str) -> Path:
+    """A folder of the library that `install.sh` has installed, by pkg-config; one that is not there if it knows none."""
+    if shutil.which("pkg-config") is None:
+        return HERE / "not-installed"
+    told = subprocess.run(["pkg-config", f"--variable={variable}", "wengeludo"], capture_output=True, text=True, check=False)
+    return Path(told.stdout.strip().replace("\\ ", " ") or HERE / "not-installed")
+
+
+def first(name: str, here: Path, there: Path) -> Path:
+    """What the variable names, else what this repository has, else what is installed; the repository's if there is neither."""
+    named = os.environ.get(name)
+    return Path(named) if named else there if there.exists() and not here.exists() else here
+
+
+INCLUDE = first("WENGELUDO_INCLUDE", ROOT / "host" / "include", installed("includedir"))
+ARCHIVE = first("WENGELUDO_ARCHIVE", ROOT / "target" / "staticlib" / "liblinked.a", installed("libdir") / "libwengeludo.a")
 HEADER = INCLUDE / "wengeludo_balance.h"
 NATIVE = HERE / "native"  # C of this package's own, over the archive's calls
 HEADERS = (HEADER, NATIVE / "rows.h", NATIVE / "wide_solve.h")
@@ -40,7 +58,7 @@ def own(header: str) -> str:
     return "\n".join(line for line in text.splitlines() if not line.startswith("#"))
 
 
-for needed, how in ((HEADER, "it belongs to this repository"), (ARCHIVE, "build it with 'rt staticlib linked'")):
+for needed, how in ((HEADER, "it belongs to this repository, or install.sh puts it where pkg-config finds it"), (ARCHIVE, "build it with 'rt staticlib linked'")):
     if not needed.exists():
         sys.exit(f"wengeludo_balance: no {needed}: {how}")
 

@@ -1,5 +1,6 @@
-"""The compiled part; everything else stands in pyproject.toml."""
+"""The compiled part, and the tag of its wheel; everything else stands in pyproject.toml."""
 
 from setuptools import setup
 
-setup(cffi_modules=["build_native.py:ffi"])
+# The compiled module is of the limited API (cffi makes it so), so one wheel serves Python 3.9 and later.
+setup(cffi_modules=["build_native.py:ffi"], options={"bdist_wheel": {"py_limited_api": "cp39"}})

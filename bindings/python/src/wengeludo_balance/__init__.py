@@ -12,7 +12,7 @@ is not proved; what they give has passed the proved `check_flow`, else it is `No
 threads.
 """
 
-from ._version import version
+from ._version import __version__, version
 from .meters import Bill, Purchase, Visit, charges, layouts_of, meters_to_buy, visits
 from .plant import (
     FILE_SIZE,
@@ -64,7 +64,7 @@ __all__ = [
     "ADJUSTED", "AS_READ", "Bill", "Drawn", "FAULT", "FILE_SIZE", "GIVEN", "HELD", "Kind", "MAX_STREAMS", "MEASURED", "NO_SHEETS",
     "NotCertified", "OFFICES", "Plant", "Purchase", "Record", "Refusal", "Rows", "SHEET_SIZE", "Sheet", "Signal", "Stream", "TEXTS",
     "Verdict", "Visit", "WIDEST", "WIDE_FLOW", "WIDE_NUMBER", "WIDE_READING", "WIDE_WEIGHT", "WITHHELD", "WideFlow", "WidePlant",
-    "WideRows", "balance", "balance_plant", "charges", "check_flow", "check_sheet", "deviation_for", "from_ranged", "layouts_of",
+    "WideRows", "__version__", "balance", "balance_plant", "charges", "check_flow", "check_sheet", "deviation_for", "from_ranged", "layouts_of",
     "meters_to_buy", "overfull", "place_numbers", "plant_from_transmitter", "read_plant", "read_sheet", "rows", "to_ranged",
     "transmitter_file", "version", "visits", "wide_rows", "wide_solve", "write_plant",
 ]

@@ -8,7 +8,7 @@ from . import _version  # noqa: F401  an archive that the header does not fit is
 from ._native import ffi, lib
 from .refusal import Refusal
 
-__all__ = ["ffi", "fitting", "lent", "lib", "out", "raise_for"]
+__all__ = ["ffi", "fitting", "given", "lent", "lib", "out", "raise_for"]
 
 
 def out(element: str, length: int) -> Any:
@@ -19,6 +19,15 @@ def out(element: str, length: int) -> Any:
 def lent(array: Any) -> Tuple[Any, int]:
     """Pointer and length, as the calls take them."""
     return array, len(array)
+
+
+def given(data: Any) -> Tuple[bytes, int]:
+    """The bytes of any bytes-like object (bytes, bytearray, memoryview, array of bytes) and their length; TypeError for anything else."""
+    try:
+        taken = bytes(memoryview(data))
+    except TypeError:
+        raise TypeError(f"a file is bytes or a bytes-like object, not {type(data).__name__}") from None
+    return taken, len(taken)
 
 
 def fitting(array: str, values: Iterable[Any], least: int, most: int, refused: int) -> Any:

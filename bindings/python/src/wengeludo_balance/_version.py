@@ -25,3 +25,4 @@ def _held() -> None:
 
 
 _held()
+__version__ = ".".join(map(str, HEADER))

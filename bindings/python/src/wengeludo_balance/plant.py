@@ -6,7 +6,7 @@ import struct
 from dataclasses import dataclass
 from typing import Iterable, Optional, Sequence, Tuple
 
-from ._slices import ffi, fitting, lib, lent, out, raise_for
+from ._slices import ffi, fitting, given, lent, lib, out, raise_for
 
 FILE_SIZE = lib.WENGELUDO_FILE_SIZE
 WIDEST = lib.WENGELUDO_MAX_RANGE
@@ -113,7 +113,7 @@ def read_plant(file: bytes) -> Plant:
 
 def _moved(call: str, file: bytes) -> bytes:
     moved, written = out("uint8_t", FILE_SIZE), ffi.new("size_t *")
-    raise_for(getattr(lib, call)(file, len(file), *lent(moved), written))
+    raise_for(getattr(lib, call)(*given(file), *lent(moved), written))
     return bytes(ffi.buffer(moved, written[0]))
 
 

@@ -6,7 +6,7 @@ from dataclasses import dataclass
 from enum import Enum, IntEnum
 from typing import Optional, Sequence, Tuple
 
-from ._slices import ffi, fitting, lib, lent, out, raise_for
+from ._slices import ffi, fitting, given, lent, lib, out, raise_for
 
 SHEET_SIZE = lib.WENGELUDO_SHEET_SIZE
 MAX_STREAMS = lib.WENGELUDO_MAX_STREAMS
@@ -82,7 +82,7 @@ def balance_plant(file: bytes, office: int = 0, lasts: Sequence[int] = NO_SHEETS
     counters, sheet = ffi.new("uint32_t[]", list(lasts)), out("uint8_t", SHEET_SIZE)
     written, marked = ffi.new("size_t *"), ffi.new("uint64_t *")
     desk = office if 0 <= office <= 255 else 255
-    number = lib.wengeludo_balance_plant(file, len(file), desk, *lent(counters), *lent(sheet), written, marked)
+    number = lib.wengeludo_balance_plant(*given(file), desk, *lent(counters), *lent(sheet), written, marked)
     raise_for(number, marked[0])
     return Drawn(bytes(ffi.buffer(sheet, written[0])), tuple(counters))
 
@@ -93,7 +93,7 @@ def read_sheet(sheet: bytes) -> Sheet:
     kind, office, number = ffi.new("uint8_t *"), ffi.new("uint8_t *"), ffi.new("uint32_t *")
     cost, degrees, verdict = ffi.new("uint64_t *"), ffi.new("uint8_t *"), ffi.new("uint8_t *")
     total = (kind, office, number, cost, degrees, verdict)
-    raise_for(lib.wengeludo_read_sheet(sheet, len(sheet), *lent(kinds), *lent(flows), count, *total))
+    raise_for(lib.wengeludo_read_sheet(*given(sheet), *lent(kinds), *lent(flows), count, *total))
     found = ((_KINDS[kinds[k]], flows[k]) for k in range(count[0]))
     records = tuple(Record(k, None if k is Kind.WITHHELD else flow) for k, flow in found)
     return Sheet(records, office[0], number[0], cost[0], degrees[0], Verdict(verdict[0]), kind[0] == 0x1F)
@@ -107,11 +107,11 @@ def balance(file: bytes) -> Sheet:
 def check_sheet(plant: bytes, sheet: bytes, numbers: Sequence[int]) -> None:
     """Checks a sheet drawn up elsewhere, with one number for each place. Refused: the plant's, the sheet's, 26."""
     array = fitting("int64_t[]", numbers, _LEAST, _MOST, _MOST)
-    raise_for(lib.wengeludo_check_sheet(plant, len(plant), sheet, len(sheet), *lent(array)))
+    raise_for(lib.wengeludo_check_sheet(*given(plant), *given(sheet), *lent(array)))
 
 
 def place_numbers(file: bytes) -> Tuple[int, ...]:
     """One number for each place, the outside first, with which the plant's sheets pass the check. Refused: 3 to 12, 18, 19."""
     numbers, count = out("int64_t", PLACES), ffi.new("size_t *")
-    raise_for(lib.wengeludo_place_numbers(file, len(file), *lent(numbers), count))
+    raise_for(lib.wengeludo_place_numbers(*given(file), *lent(numbers), count))
     return tuple(numbers[0 : count[0]])
