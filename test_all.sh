@@ -99,6 +99,9 @@ rt staticlib linked
 if part "the archive's bytes" python3; then
     python3 host/check/archive.py
 fi
+if part "the archive's stack" python3 objdump; then
+    python3 host/check/stack.py
+fi
 if part "the C programs" "$compiler"; then
     bash host/c/build.sh
     bash host/c/test.sh
