@@ -226,7 +226,7 @@ def test_a_record_comes_back(house):
 def test_kept_and_opened(house, run, tmp_path):
     """Checked flows are kept under a number of their own kind; the office's numbers are left alone."""
     book = tmp_path / "sheets.book"
-    assert "kept as flow 1 of office 3" in run("keep", house, book, "--office", "3").out
+    assert "kept as checked flows 1 of office 3" in run("keep", house, book, "--office", "3").out
     assert "kept as sheet 1 of office 3" in run("keep", SAMPLES / "steam_site.csv", book, "--office", "3").out
     opened = run("open", book, "1", "--office", "3", "--flows")
     assert opened.status == 0 and SENTENCE in opened.out and "it passes" in opened.out

@@ -160,13 +160,20 @@ def whose(balance: Balance) -> str:
 
 
 def summary(balance: Balance) -> str:
-    """Number, cost and limit in a line."""
+    """Number, cost and limit, and the greatest test value, in a line."""
     unit = f"unit {float(balance.site.unit):g} kg/h"
     if balance.flowless:
         return f"{len(balance.site.list.pipes)} streams, {unit}"
     checks = "check" if balance.degrees == 1 else "checks"
     limit = f"limit {balance.limit:,.1f} for {balance.degrees} {checks}" if balance.limit is not None else "nothing to test"
-    return f"{numbered(balance)}, cost {cost_text(balance.cost)}, {limit}, {unit}"
+    return f"{numbered(balance)}, cost {cost_text(balance.cost)}, {limit}, {unit}{_tested(balance)}"
+
+
+def _tested(balance: Balance) -> str:
+    """The individual test beside the global one: the greatest test value and the value above which it is a warning."""
+    if not balance.greatest:
+        return ""
+    return f"; greatest test value {abs(balance.lines[balance.greatest[0]].test or 0):.1f}, a warning above {balance.bound:.1f}"
 
 
 def numbered(balance: Balance) -> str:
