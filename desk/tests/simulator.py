@@ -163,7 +163,7 @@ def all_measured(made, rows):
 def run_of(made, readings, status=None, **asked):
     """The run of readings."""
     status = all_measured(made, len(readings)) if status is None else status
-    return runs.balanced(made.tagged, exported(made, readings, status), Path("export.csv"), None, runs.Asked(**asked))
+    return runs.balanced(made.tagged, exported(made, readings, status), Path("export.csv"), None, runs.Wanted(**asked))
 
 
 @dataclass
@@ -228,3 +228,22 @@ def write_export(year, path, rows=slice(None), zone="Europe/Vienna", separator="
                 cells.append(text.replace(".", ",") if comma and year.status[row, k] != FAULT else text)
             cells.insert(2, "Held" if year.status[row, made.metered[1]] == HELD else "Good")
             writer.writerow([at.strftime("%d.%m.%Y %H:%M") if comma else at.astimezone(timezone.utc).strftime("%Y-%m-%dT%H:%M:%SZ"), *cells])
+
+
+def sample():
+    """The sample of desk/README.md: sixteen weeks, a row for every four hours; from the ninth week on a meter is off."""
+    made = site()
+    rng = np.random.default_rng(11)
+    rows = 16 * 168
+    readings = read_by(made, true_flows(made, rows, rng), rng)
+    readings[8 * 168 :, 8] += 3 * made.deviations[8]
+    readings[900:972, 16] = readings[900, 16]
+    status = all_measured(made, rows)
+    status[1500:1524, 4] = FAULT
+    return Year(made, readings, np.round(readings, 1), status)
+
+
+if __name__ == "__main__":
+    (SAMPLES / "history").mkdir(exist_ok=True)
+    write_list(sample().site, SAMPLES / "history" / "steam_site.csv")
+    write_export(sample(), SAMPLES / "history" / "export.csv", slice(0, 16 * 168, 4))

@@ -193,7 +193,7 @@ def wild(made, rows, step=3600, seed=1):
 
     from wengeludo.history import run as runs
 
-    return runs.balanced(made.tagged, sim.exported(made, readings, status, step=step), Path("x"), None, runs.Asked())
+    return runs.balanced(made.tagged, sim.exported(made, readings, status, step=step), Path("x"), None, runs.Wanted())
 
 
 @pytest.mark.parametrize("made, rows, step", [(sim.site, 15_000, 3600), (lambda: sim.drawn_site(2, 32, 96, 90), 1_500, 36_000)])
@@ -244,3 +244,18 @@ def test_a_click_on_a_week_shows_its_sheet(year, tmp_path, width):
     assert told["errors"] == [] and told["hidden"] and not told["after"] and told["rows"] == 26 and told["fields"] == 3 * sum(week.cost is not None for week in found.weeks)
     assert "fails" in told["what"] and "9 steam from boiler 2 reads" in told["what"] and told["nine"].startswith("9 steam from boiler 2")
     assert told["wide"] <= 0 or width == 390  # headless chromium has a least width of its own
+
+
+def test_the_decimal_mark_may_be_said(run, listed, tmp_path):
+    (tmp_path / "export.csv").write_text("time;T;K\n" + "".join(f"2025-01-01 {hour:02d}:00;123,450;123,460\n" for hour in range(4)))
+    path = listed("stream,from,to,tag,accuracy\n1,outside,a,T,5\n2,a,outside,K,5\n")
+    assert "thousands or decimals" in run("history", path, tmp_path / "export.csv").err
+    ended = run("history", path, tmp_path / "export.csv", "--decimal", "comma", "-o", tmp_path / "flows.csv")
+    assert ended.status == 0 and 123 < float(table(tmp_path / "flows.csv")[0]["1"]) < 124
+
+
+def test_an_idle_pipe_has_a_floor(run, listed, tmp_path):
+    (tmp_path / "export.csv").write_text("time,T,K\n" + "".join(f"2025-01-01 {hour:02d}:00,0,0\n" for hour in range(4)))
+    path = listed("stream,from,to,tag,accuracy\n1,outside,a,T,2%\n2,a,outside,K,2%\n")
+    assert "a share of a reading of 0" in run("history", path, tmp_path / "export.csv").err
+    assert run("history", path, tmp_path / "export.csv", "--floor", "5").status == 0

@@ -6,6 +6,7 @@ WENGELUDO_YEARS (default 3)   years without fault, and runs of each fault; 50 ma
 import json
 import os
 import sys
+from fractions import Fraction
 from functools import lru_cache
 
 import numpy as np
@@ -97,7 +98,7 @@ def clean(made, seed, memory=0.5, more=1.0, rows=sim.YEAR):
 
 def false_findings(made, years, memory=0.5, more=1.0):
     """Findings of years without fault, and their events."""
-    found = [analysed(sim.run_of(made, clean(made, 1000 + year, memory, more))) for year in range(years)]
+    found = [analysed(sim.run_of(made, clean(made, 1000 + year, memory, more), unit=Fraction(1))) for year in range(years)]
     return [len(one.findings) for one in found], [len(one.events) for one in found]
 
 
@@ -134,7 +135,7 @@ def injected(made, kind, size, seed, rows=20 * 168):
         readings[start, k] += size * own
     if kind in ("frozen", "zero"):
         readings[start : start + int(size), k] = 0 if kind == "zero" else np.round(readings[start, k], 1)
-    return target, start, analysed(sim.run_of(made, readings))
+    return target, start, analysed(sim.run_of(made, readings, unit=Fraction(1)))
 
 
 @lru_cache(maxsize=4)

@@ -8,7 +8,7 @@ import pytest
 from conftest import SAMPLES
 
 README = SAMPLES.parent / "README.md"
-STATUS = {"faulty/steam_site.csv": 1, "steam_site_off.csv": 3, "overfull_site.csv": 1}
+STATUS = {"faulty/steam_site.csv": 1, "steam_site_off.csv": 3, "overfull_site.csv": 1, "history/steam_site.csv": 3}
 
 
 def told():
@@ -30,7 +30,7 @@ def test_commands(run, tmp_path, monkeypatch):
     assert len(commands) > 12
     for words, lines in commands:
         ended = run(*words)
-        wanted = STATUS.get(words[1], 0) if words[0] in ("sheet", "why") else 0
+        wanted = STATUS.get(words[1], 0) if words[0] in ("sheet", "why", "history") else 0
         assert ended.status == wanted, (words, ended.err)
         printed = [line.rstrip() for line in (ended.out + ended.err).splitlines()]
         for line in lines:

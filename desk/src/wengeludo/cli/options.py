@@ -59,11 +59,15 @@ def LIST(command: F) -> F:
     return command
 
 
+def said() -> Asked:
+    """What the user says of the list."""
+    kept = click.get_current_context().meta
+    return Asked(*(kept.get(f"wengeludo.{name}") for name in ("decimal", "floor", "lang")))
+
+
 def site_in(path: Path, unit: Optional[Fraction]) -> Site:
     """The site of a list or a plant file, read as the user says."""
-    said = click.get_current_context().meta
-    asked = Asked(*(said.get(f"wengeludo.{name}") for name in ("decimal", "floor", "lang")))
-    site = plain_site(path, unit, asked)
+    site = plain_site(path, unit, said())
     terminal.speak(site.list)
     return site
 

@@ -34,6 +34,19 @@ def svg(height: float, body: str, label: str) -> str:
             f'font-size="11.5" fill="{INK}" role="img" aria-label="{escape(label)}">{body}</svg>')
 
 
+def picture(found: Analysis) -> str:
+    """The page's drawings in one, below each other."""
+    worst = worst_meter(found)
+    parts = [cost_chart(found), meter_map(found), *([drift_chart(found, *worst)] if worst else [])]
+    body, y = "", 0.0
+    for part in parts:
+        height = float(part.split('viewBox="0 0 ', 1)[1].split('"', 1)[0].split()[1])
+        body += f'<g transform="translate(0 {y:.0f})">{part}</g>'
+        y += height + 8
+    back = f'<rect width="{WIDTH}" height="{y:.0f}" fill="#fff"/>'
+    return svg(y, back + body, f"history of {found.run.list.name}").replace("<svg ", '<svg font-family="DejaVu Sans,Verdana,sans-serif" ', 1)
+
+
 def text(x: float, y: float, words: str, more: str = "") -> str:
     return f'<text x="{x:.1f}" y="{y:.1f}"{" " + more if more else ""}>{escape(words)}</text>'
 

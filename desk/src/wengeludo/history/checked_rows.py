@@ -6,6 +6,7 @@ One unit and one factor for the run, by the rule of a single list (balance/wide.
 
 from __future__ import annotations
 
+import threading
 from concurrent.futures import ThreadPoolExecutor
 from dataclasses import dataclass
 from fractions import Fraction
@@ -89,14 +90,36 @@ def rows(shape: Shape, readings: Any, status: Any, suspects: int = 0, check: boo
     import numpy as np
 
     blocks = [slice(at, at + BLOCK) for at in range(0, max(1, len(readings)), BLOCK)]
-    work = _Work(shape)
-    made = lambda part: work.block(np.ascontiguousarray(readings[part], np.int64), status[part], suspects, check)
-    if threads > 1 and len(blocks) > 1:
+    work, whole = _Work(shape), Whole(len(readings))
+    made = lambda part: whole.put(part, work.block(np.ascontiguousarray(readings[part], np.int64), status[part], suspects, check))
+    made(blocks[0])
+    if threads > 1 and len(blocks) > 2:
         with ThreadPoolExecutor(threads) as pool:
-            parts = list(pool.map(made, blocks))
+            list(pool.map(made, blocks[1:]))
     else:
-        parts = [made(part) for part in blocks]
-    return engine.Rows(**{name: np.concatenate([part[name] for part in parts]) for name in parts[0]})
+        list(map(made, blocks[1:]))
+    return engine.Rows(**whole.arrays)
+
+
+class Whole:
+    """Arrays of all rows, filled block by block; flows take half the memory as long as they fit."""
+
+    def __init__(self, rows: int) -> None:
+        self.rows, self.arrays, self.lock = rows, {}, threading.Lock()  # type: int, Dict[str, Any], threading.Lock
+
+    def put(self, part: slice, block: Dict[str, Any]) -> None:
+        """Puts a block at its rows."""
+        import numpy as np
+
+        small = np.abs(block["flows"]).max(initial=0) < 2**31
+        with self.lock:
+            for name, array in block.items():
+                if name not in self.arrays:
+                    kind = np.int32 if name == "flows" and small else array.dtype
+                    self.arrays[name] = np.zeros((self.rows, *array.shape[1:]), kind)
+                elif name == "flows" and not small:
+                    self.arrays[name] = self.arrays[name].astype(np.int64, copy=False)
+                self.arrays[name][part] = array
 
 
 class _Work:

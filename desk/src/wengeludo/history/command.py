@@ -2,19 +2,19 @@
 
 from __future__ import annotations
 
-from dataclasses import dataclass, replace
+from dataclasses import dataclass
 from fractions import Fraction
 from pathlib import Path
 from typing import List, Optional, Sequence, Tuple
 
 from ..read.faults import Stopped
-from ..read.lists import read_list
+from ..read.lists import Asked, read_list
 from . import clock
 from .analysis import Analysis, analysed
 from .bill import Bill, bill, month_of
 from .export import How, read_exports
 from .overrides import apply, read_overrides
-from .run import Asked, balanced
+from .run import Wanted, balanced
 from .tags import tagged
 
 
@@ -33,7 +33,7 @@ class Options:
     threads: int = 1
     certify: bool = False
     bills: Tuple[str, ...] = ()
-    decimal: Optional[str] = None
+    said: Asked = Asked()  # of the list and, by its decimal mark, of the exports
 
 
 def history(path: Path, exports: Sequence[Path], options: Options) -> Tuple[Analysis, List[Bill]]:
@@ -42,12 +42,12 @@ def history(path: Path, exports: Sequence[Path], options: Options) -> Tuple[Anal
     months = [month_of(text) for text in options.bills]
     times = [None if text is None else clock.instant(text, zone) for text in (options.start, options.end)]
     reference = _span(options.reference, options.zone)
-    how = How(options.zone, options.form, clock.every_of(options.every) if options.every else None, *times, options.decimal)
-    listed = tagged(read_list(path), path)
+    how = How(options.zone, options.form, clock.every_of(options.every) if options.every else None, *times, options.said.decimal)
+    listed = tagged(read_list(path, options.said), path, options.said.floor)
     overrides = read_overrides(options.overrides, listed, zone) if options.overrides else []
     export = read_exports(exports, [tag.name for tag in listed.tags], how)
     export.notes += apply(export, overrides)
-    run = balanced(listed, export, path, zone, Asked(options.unit, options.threads, options.certify, bool(months)))
+    run = balanced(listed, export, path, zone, Wanted(options.unit, options.threads, options.certify, bool(months)))
     return analysed(run, reference), [bill(run, month) for month in months]
 
 

@@ -16,7 +16,7 @@ from ..read.grids import SEPARATORS
 from ..read.numbers import POINT, Marks, marks_of
 from . import cells, clock
 
-BLOCK = 4_000_000  # characters read at a time
+BLOCK = 1_000_000  # characters read at a time
 MOST_ROWS = 3_000_000  # rows of a run; more are told
 BOOK_ROWS = 20_000
 MOST_FAULTS = 20

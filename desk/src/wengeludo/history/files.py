@@ -12,11 +12,12 @@ from typing import IO, Any, Callable, Dict, Iterable, List, Optional, Sequence, 
 from ..read.faults import Stopped
 from ..write.outputs import put
 from .analysis import Analysis
+from .charts import picture
 from .tables import Table, guarded
 
 NAMES = ("rows", "flows", "meters", "findings", "events", "overrides", "bill")
 MOST_SHEET = 20_000  # rows of a workbook's sheet
-PAGE, ARRAYS, BOOK = "run.html", "run.npz", "run.xlsx"
+PAGE, ARRAYS, BOOK, PICTURE = "run.html", "run.npz", "run.xlsx", "run.svg"
 
 
 class Staged:
@@ -51,14 +52,14 @@ class Staged:
 def name_of(path: Path) -> str:
     """What a path asks for, by its suffix, and for CSV by the last word of its name; Stopped if that is none."""
     suffix = path.suffix.lower()
-    if suffix in (".html", ".npz", ".xlsx"):
-        return {".html": PAGE, ".npz": ARRAYS, ".xlsx": BOOK}[suffix]
+    if suffix in (".html", ".npz", ".xlsx", ".svg"):
+        return {".html": PAGE, ".npz": ARRAYS, ".xlsx": BOOK, ".svg": PICTURE}[suffix]
     stem = path.stem.casefold()
     for name in NAMES:
         if suffix == ".csv" and (stem == name or stem.endswith(("_" + name, "-" + name, "." + name))):
             return name
     told = ", ".join(f"{name}.csv" for name in NAMES)
-    raise Stopped(f"{path}: the name says what is written: {told}, .html, .xlsx, .npz, or a folder with / at its end for all")
+    raise Stopped(f"{path}: the name says what is written: {told}, .html, .svg, .xlsx, .npz, or a folder with / at its end for all")
 
 
 def wanted(paths: Sequence[Path], texts: Sequence[str], read: Sequence[Path], billed: bool) -> List[Tuple[Path, str]]:
@@ -92,6 +93,8 @@ def write(found: Analysis, tables: Dict[str, Table], page: Callable[[], str], fi
             with staged.open(path) as file:
                 if name == PAGE:
                     file.write(page().encode())
+                elif name == PICTURE:
+                    file.write(picture(found).encode())
                 elif name == ARRAYS:
                     _arrays(found, file)
                 elif name == BOOK:

@@ -197,7 +197,7 @@ def standing(values: Any, status: Any, factor: Fraction) -> List[Tuple[int, int,
 
 
 @dataclass(frozen=True)
-class Asked:
+class Wanted:
     """What a run is to have: a unit, threads, place numbers with the check, charges."""
 
     unit: Optional[Fraction] = None
@@ -206,7 +206,7 @@ class Asked:
     charges: bool = False
 
 
-def balanced(listed: Tagged, export: Export, path: Path, zone: Optional[ZoneInfo], asked: Asked) -> Run:
+def balanced(listed: Tagged, export: Export, path: Path, zone: Optional[ZoneInfo], asked: Wanted) -> Run:
     """The run of a list and an export: the engine's own sheets if a unit is asked for or these stand for the run, else checked flows. The
     export's numbers are let go of."""
     import numpy as np
@@ -229,7 +229,7 @@ def balanced(listed: Tagged, export: Export, path: Path, zone: Optional[ZoneInfo
 Made = Tuple[Any, Fraction, Any, Any, engine.Rows, SheetKind, Any, List[str]]
 
 
-def _by_engine(listed: Tagged, export: Export, path: Path, pipes: Sequence[Pipe], asked: Asked, suspects: int = SUSPECTS) -> Made:
+def _by_engine(listed: Tagged, export: Export, path: Path, pipes: Sequence[Pipe], asked: Wanted, suspects: int = SUSPECTS) -> Made:
     """The engine's own sheets, in the unit that is asked for or in the run's best."""
     import numpy as np
 
@@ -246,17 +246,21 @@ def _by_engine(listed: Tagged, export: Export, path: Path, pipes: Sequence[Pipe]
     return plant, unit, readings, status, sheets, SheetKind.ENGINE, variances, [_clamped(clamps)] if clamps else []
 
 
-def _that_stand(listed: Tagged, export: Export, path: Path, pipes: Sequence[Pipe], asked: Asked) -> Made:
+def _that_stand(listed: Tagged, export: Export, path: Path, pipes: Sequence[Pipe], asked: Wanted) -> Made:
     """Checked flows, unless the engine's own sheets are within a tenth of a deviation of them with the same verdicts in every row."""
     shape = shape_of(listed, export, pipes)
     if shape is None:
         return _by_engine(listed, export, path, pipes, asked)
     try:
-        clamped = bool(units.clamps([pipe for pipe in pipes if pipe.accuracy], unit_of(pipes, {}, None)))
-        made = None if clamped else _by_engine(listed, export, path, pipes, asked)
+        reach = {tag.index: _reach(export, j) * abs(float(tag.factor)) for j, tag in enumerate(listed.tags)}
+        unit = unit_of(pipes, reach, None)
+        _fitting(listed, export, unit, path)
+        clamped = bool(units.clamps([pipe for pipe in pipes if pipe.accuracy], unit))
     except Stopped:
-        made = None  # a reading is too large for the engine's unit
-    return made if made and _stands(listed, export, shape, made, asked) else _checked(listed, export, shape, asked)
+        clamped = True  # a reading is too large for the engine's unit
+    if clamped or not _stands(listed, export, shape, plant_of(pipes, len(listed.list.places), unit), unit):
+        return _checked(listed, export, shape, asked)
+    return _by_engine(listed, export, path, pipes, asked)
 
 
 def shape_of(listed: Tagged, export: Export, pipes: Sequence[Pipe]) -> Optional[checked_rows.Shape]:
@@ -279,34 +283,33 @@ def _grain(export: Export, j: int) -> Fraction:
                 Fraction(1, 10**6))
 
 
-def _checked(listed: Tagged, export: Export, shape: checked_rows.Shape, asked: Asked) -> Made:
+def _checked(listed: Tagged, export: Export, shape: checked_rows.Shape, asked: Wanted) -> Made:
     """Checked flows of all rows; with lesser weights if numbers of places were too large."""
     import numpy as np
 
     readings, status = in_units(listed, export, shape.unit)
+    export.values = export.status = None  # half of the run's memory
     sheets = checked_rows.rows(shape, readings, status, SUSPECTS, asked.check, asked.threads)
     if (sheets.refusal == checked_rows.NOT_JUDGED).any():
         lesser = checked_rows.rows(shape.smaller(), readings, status, SUSPECTS, asked.check, asked.threads)
         sheets = lesser if (lesser.refusal > 0).sum() < (sheets.refusal > 0).sum() else sheets
-    if np.abs(sheets.flows).max(initial=0) < 2**31:
-        sheets = replace(sheets, flows=sheets.flows.astype(np.int32))
     variances = shape.variances
     return shape.plant, shape.unit, readings, status, sheets, SheetKind.CHECKED, np.array([variances, checked_rows.QUARTER * variances]), []
 
 
-def _stands(listed: Tagged, export: Export, shape: checked_rows.Shape, made: Made, asked: Asked) -> bool:
-    """Whether the engine's sheets are within a tenth of a deviation of the checked flows, with the same verdicts, in every row."""
+def _stands(listed: Tagged, export: Export, shape: checked_rows.Shape, plant: engine.Plant, unit: Fraction) -> bool:
+    """Whether the engine's sheets are within a tenth of a deviation of the checked flows, with the same verdicts, in every row; the first
+    rows that are not end it."""
     import numpy as np
 
-    _, unit, _, status, sheets, _, _, _ = made
-    deviations = np.sqrt(shape.variances) * float(shape.unit)
-    for first in range(0, len(status), CHUNK):
-        part = slice(first, first + CHUNK)
+    deviations, weights = np.sqrt(shape.variances) * float(shape.unit), engine.deviation_for([s.weight or 1 for s in plant.streams])
+    for first in range(0, len(export.times), checked_rows.BLOCK):
+        part = slice(first, first + checked_rows.BLOCK)
         few = Export(export.times[part], export.values[part], export.status[part])
-        readings, cells = in_units(listed, few, shape.unit)
-        other = checked_rows.rows(shape, readings, cells, threads=asked.threads)
-        off = np.abs(sheets.flows[part] * float(unit) - other.flows * float(shape.unit))
-        if (sheets.refusal[part] != other.refusal).any() or (sheets.verdict[part] != other.verdict).any():
+        (readings, cells), (own, _) = in_units(listed, few, shape.unit), in_units(listed, few, unit)
+        sheets, other = engine.rows(plant, own, weights, cells), checked_rows.rows(shape, readings, cells)
+        off = np.abs(sheets.flows * float(unit) - other.flows * float(shape.unit))
+        if (sheets.refusal != other.refusal).any() or (sheets.verdict != other.verdict).any():
             return False
         if (off[cells != FAULT] > STANDS * np.broadcast_to(deviations, off.shape)[cells != FAULT]).any():
             return False
@@ -319,25 +322,14 @@ def _reach(export: Export, j: int) -> float:
     return float(np.abs(np.where(export.status[:, j] == FAULT, 0.0, export.values[:, j])).max(initial=0))
 
 
-def sheets_of(plant: engine.Plant, readings: Any, status: Any, rates: Optional[Sequence[int]], asked: Asked, suspects: int = SUSPECTS) -> engine.Rows:
-    """The sheets of all rows by the engine, some ten thousand at a time; flows in half the memory if they fit."""
-    import numpy as np
-
+def sheets_of(plant: engine.Plant, readings: Any, status: Any, rates: Optional[Sequence[int]], asked: Wanted, suspects: int = SUSPECTS) -> engine.Rows:
+    """The sheets of all rows by the engine, some ten thousand at a time."""
     deviations = engine.deviation_for([s.weight or 1 for s in plant.streams])
-    whole: Dict[str, Any] = {}
+    whole = checked_rows.Whole(len(readings))
     for first in range(0, max(1, len(readings)), CHUNK):
-        last = first + CHUNK
-        part = engine.rows(plant, readings[first:last], deviations, status[first:last], suspects=suspects, rates=rates, check=asked.check,
-                           threads=asked.threads).arrays()
-        small = np.abs(part["flows"]).max(initial=0) < 2**31
-        for name, array in part.items():
-            if name not in whole:
-                kind = np.int32 if name == "flows" and small else array.dtype
-                whole[name] = np.zeros((len(readings), *array.shape[1:]), kind)
-            elif name == "flows" and not small:
-                whole[name] = whole[name].astype(np.int64)
-            whole[name][first:last] = array
-    return engine.Rows(**whole)
+        part = slice(first, first + CHUNK)
+        whole.put(part, engine.rows(plant, readings[part], deviations, status[part], suspects=suspects, rates=rates, check=asked.check, threads=asked.threads).arrays())
+    return engine.Rows(**whole.arrays)
 
 
 def _clamped(clamps: Sequence[units.Clamp]) -> str:

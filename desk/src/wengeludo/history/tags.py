@@ -27,14 +27,15 @@ class Tagged:
 
     list: PipeList
     tags: Tuple[Tag, ...]
+    floor: Optional[float] = None  # of accuracies that are a share of a reading, in kg/h
 
     def accuracy(self, k: int, reading: float) -> Accuracy:
         """The accuracy of a pipe's meter at this reading; ValueError with what would do."""
         pipe = self.list.pipes[k]
-        return accuracy(pipe.stated, reading, POINT, floor=pipe.floor)
+        return accuracy(pipe.stated, reading, POINT, floor=self.floor if pipe.floor is None else pipe.floor)
 
 
-def tagged(pipes: PipeList, path: Path) -> Tagged:
+def tagged(pipes: PipeList, path: Path, floor: Optional[float] = None) -> Tagged:
     """The tags of a list; Faulty with every fault."""
     names = {name.casefold(): k for k, name in enumerate(pipes.extras)}
     if "tag" not in names:
@@ -54,7 +55,7 @@ def tagged(pipes: PipeList, path: Path) -> Tagged:
         faults.append(Fault("no pipe of the list has a tag: at least one would do", column="tag"))
     if faults:
         raise Faulty(path, faults)
-    return Tagged(pipes, tuple(tags))
+    return Tagged(pipes, tuple(tags), floor)
 
 
 def _factor(pipe: Pipe, text: str, marks: Marks, faults: List[Fault]) -> Fraction:
