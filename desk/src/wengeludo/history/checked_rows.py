@@ -23,6 +23,7 @@ from ..balance.limits import CRITICAL
 NOT_JUDGED = 26  # of rows: no flow passed the check, or it may be over a tenth of a deviation from the list's own
 QUARTER = 4  # a held cell counts with a quarter of its weight
 BLOCK = 4_096
+FEW = 256  # rows that fail whose meters are taken out at a time
 SURE = 1e-7  # of the terms of a cost: what floats may be off by
 LIMITS = (0.0, *(value / 1000 for value in CRITICAL))
 
@@ -234,9 +235,17 @@ class _Work:
         rows = len(readings)
         told = {"dropped": np.zeros((rows, most), np.uint8), "dropped_flow": np.zeros((rows, most), np.int64), "dropped_cost": np.zeros((rows, most), np.uint64),
                 "cleared": made["verdict"].copy()}
-        left = np.flatnonzero((made["refusal"] == 0) & (made["verdict"] == Verdict.FAIL))
-        kinds, now = made["kinds"][left], status[left].copy()
-        for step in range(most):
+        fails = np.flatnonzero((made["refusal"] == 0) & (made["verdict"] == Verdict.FAIL))
+        for at in range(0, len(fails), FEW):
+            self.eliminate(readings, status, fails[at : at + FEW], made["kinds"], told)
+        return told
+
+    def eliminate(self, readings: Any, status: Any, left: Any, kinds: Any, told: Dict[str, Any]) -> None:
+        """Takes meters out of some rows that fail, step by step, and puts what that gives to `told`."""
+        import numpy as np
+
+        now, kinds = status[left].copy(), kinds[left]
+        for step in range(told["dropped"].shape[1]):
             if not len(left):
                 break
             out, sheets, has = self.without_one(readings[left], now, kinds)
@@ -247,7 +256,6 @@ class _Work:
             go = has & (sheets["verdict"] == Verdict.FAIL)
             now[np.arange(len(now)), out] = np.where(has, FAULT, now[np.arange(len(now)), out])
             left, now, kinds = left[go], now[go], sheets["kinds"][go]
-        return told
 
     def without_one(self, readings: Any, status: Any, kinds: Any) -> Tuple[Any, Dict[str, Any], Any]:
         """For each row the checked meter without which it costs least, the sheet without it, and whether there is one."""
