@@ -129,7 +129,8 @@ static int cost_of(const struct site *s, wide *cost)
 {
     *cost = 0;
     for (size_t k = 0; k < s->count; k++) {
-        uint64_t off = s->flow[k] < s->reading[k] ? (uint64_t)s->reading[k] - (uint64_t)s->flow[k] : (uint64_t)s->flow[k] - (uint64_t)s->reading[k];
+        uint64_t flow = (uint64_t)s->flow[k], reading = (uint64_t)s->reading[k];
+        uint64_t off = s->flow[k] < s->reading[k] ? reading - flow : flow - reading;
         if (s->metered[k] && off > UINT64_C(1) << 40)
             return 0;
         *cost += s->metered[k] ? (wide)s->weight[k] * off * off : 0;

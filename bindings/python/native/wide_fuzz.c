@@ -94,8 +94,8 @@ static uint8_t round_of(void)
     wide_plant plant = {(uint8_t)units, count, m.from, m.to, m.metered, m.weight, m.reading, m.ranged, m.low, m.high};
     uint64_t marked = 77;
     uint8_t answer = wide_checked(&plant, m.flow, m.number, &marked);
-    uint8_t again = wengeludo_check_flow(plant.units, count, m.from, count, m.to, count, m.metered, count, m.weight, count, m.reading, count,
-                                         m.ranged, count, m.low, count, m.high, count, m.flow, count, m.number, units + 1);
+    uint8_t again = wengeludo_check_flow(plant.units, count, m.from, count, m.to, count, m.metered, count, m.weight, count, m.reading,
+                                         count, m.ranged, count, m.low, count, m.high, count, m.flow, count, m.number, units + 1);
     if ((answer == 0 && again != 0) || (answer != 0 && answer != 19 && answer != again && again != 26) || (answer == 19) != (marked != 0)) {
         fprintf(stderr, "answered %u, the check %u, marked %" PRIx64 "\n", answer, again, marked);
         exit(1);

@@ -73,7 +73,8 @@ def told(call, *words):
 
 def as_reference(plant):
     """The plant as the reference has it."""
-    return solver.Plant(plant.units, tuple(solver.Stream(s.source, s.target, s.weight or 0, s.reading, s.low, s.high) for s in plant.streams))
+    streams = (solver.Stream(s.source, s.target, s.weight or 0, s.reading, s.low, s.high) for s in plant.streams)
+    return solver.Plant(plant.units, tuple(streams))
 
 
 def checked(plant, flows, numbers):
@@ -256,13 +257,13 @@ def test_unmetered_flows_to_their_limit():
 
 @pytest.mark.parametrize("weight", [1, 3, 1_000, 2**30, 2**40])
 def test_each_bound_to_its_unit(weight):
-    """One stream in range about the reading 7, two about 5: the numbers between the bounds pass, those one beyond do not."""
+    """A stream d off its reading of 7: numbers between the bounds pass, those one beyond do not, but at an end that excuses them."""
     for d in (-3, 0, 1, 4):
-        for number, passes in ((weight * (2 * d - 1) - 1, False), (weight * (2 * d - 1), True), (weight * (2 * d + 1), True), (weight * (2 * d + 1) + 1, False)):
-            other = (1, 7 + d, 7 + d, 7 + d)  # pinned, so that its numbers are free
-            assert both((weight, 7), other, (7 + d, 7 + d), (0, number)) == (0 if passes else 26)
-            assert both((weight, 7, 7 + d, 7 + d + 1), other, (7 + d, 7 + d), (0, number)) == (0 if number <= weight * (2 * d + 1) else 26)
-            assert both((weight, 7, 7 + d - 1, 7 + d), other, (7 + d, 7 + d), (0, number)) == (0 if number >= weight * (2 * d - 1) else 26)
+        bottom, top, flow = weight * (2 * d - 1), weight * (2 * d + 1), 7 + d
+        pinned = (1, flow, flow, flow)  # its numbers are free
+        for number in (bottom - 1, bottom, top, top + 1):
+            for ends, passes in (((), bottom <= number <= top), ((flow, flow + 1), number <= top), ((flow - 1, flow), number >= bottom)):
+                assert both((weight, 7, *ends), pinned, (flow, flow), (0, number)) == (0 if passes else 26)
 
 
 @pytest.mark.parametrize(
@@ -317,7 +318,8 @@ def test_rows_are_the_plants_one_by_one():
         found = w.wide_rows(plant, weights, readings)
         count, places = len(plant.streams), plant.units + 1
         for r, row in enumerate(rows):
-            streams = [w.Stream(s.source, s.target, weight, y, s.low, s.high) if weight else s.unmetered() for s, (weight, y) in zip(plant.streams, row)]
+            read = zip(plant.streams, row)
+            streams = [w.Stream(s.source, s.target, weight, y, s.low, s.high) if weight else s.unmetered() for s, (weight, y) in read]
             number, one = told(w.wide_solve, w.WidePlant(plant.units, tuple(streams)))
             shown = tuple(found.flows[r * count : (r + 1) * count]), tuple(found.numbers[r * places : (r + 1) * places])
             assert found.answers[r] == number
@@ -329,7 +331,8 @@ def test_rows_that_do_not_fit():
     for weights, readings in (([1], [0]), ([1, 1], [0]), ([1, 1, 1], [0, 0, 0])):
         with pytest.raises(ValueError):
             w.wide_rows(plant, array("Q", weights), array("q", readings))
-    for weights, readings in ((array("I", [1] * 4), array("q", [0, 0])), (array("Q", [1, 1]), array("d", [0, 0])), (b"\1" * 16, b"\0" * 16)):
+    two = array("Q", [1, 1])
+    for weights, readings in ((array("I", [1] * 4), array("q", [0, 0])), (two, array("d", [0, 0])), (b"\1" * 16, b"\0" * 16)):
         with pytest.raises(ValueError, match="whole numbers of 8 bytes"):
             w.wide_rows(plant, weights, readings)
     assert w.wide_rows(plant, array("Q"), array("q")).answers == b""

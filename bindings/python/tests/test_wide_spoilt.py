@@ -23,7 +23,7 @@ WRONG = {
     "a stale number": ("net->number[g] -= net->distance[to] - net->distance[g];", ";"),
     "numbers turned round": ("number[place] = (int64_t)found;", "number[place] = (int64_t)-found;"),
     "a number of one place": ("number[place] = (int64_t)found;", "number[place] = (int64_t)found + (place == 1);"),
-    "ends of ranges left out": ("return plant->ranged[k] ? clipped(plant->high[k], -REACH, REACH) : REACH;", "(void)plant, (void)k; return REACH;"),
+    "ends of ranges left out": ("plant->ranged[k] ? clipped(plant->high[k], -REACH, REACH) : REACH;", "(void)plant, (void)k, REACH;"),
     "unmetered flows turned round": ("over[from] : -over[to];", "-over[from] : over[to];"),
     "steps that are too long": ("move(net, from, to, step);", "move(net, from, to, 2 * step);"),
     "what is over left there": ("return phase(net, 1);", "phase(net, 1); return WIDE_FOUND;"),

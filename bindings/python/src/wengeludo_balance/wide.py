@@ -116,8 +116,8 @@ def _words(element: str, values: Any) -> Any:
     """A buffer of whole numbers of 8 bytes, as the solver in C takes it; ValueError for one of other elements."""
     view = memoryview(values)
     if view.itemsize != 8 or view.format not in ("q", "Q", "l", "L", "n", "N") or not view.c_contiguous:
-        gaps = "" if view.c_contiguous else ", with gaps"
-        raise ValueError(f"weights and readings are whole numbers of 8 bytes, row after row without gaps; these are of kind {view.format}{gaps}")
+        there = f"these are of kind {view.format}{'' if view.c_contiguous else ', with gaps'}"
+        raise ValueError(f"weights and readings are whole numbers of 8 bytes, row after row without gaps; {there}")
     return ffi.from_buffer(f"{element}[]", values)
 
 
