@@ -8,12 +8,14 @@ import os
 import sys
 from fractions import Fraction
 from functools import lru_cache
+from types import SimpleNamespace
 
 import numpy as np
+import pytest
 import simulator as sim
 
 from wengeludo.history.analysis import analysed
-from wengeludo.history.findings import sentence
+from wengeludo.history.findings import findings, sentence
 from wengeludo_balance import FAULT, Verdict
 
 YEARS = int(os.environ.get("WENGELUDO_YEARS") or 3)
@@ -88,6 +90,25 @@ def test_a_second_run_with_the_meter_as_fault_passes_again():
     fails = [np.mean(one.fails()[meter.start : meter.end]) for one in (found, again)]
     assert fails[0] > 0.3 and fails[1] < 0.08
     assert not any(("meter", 9) in names(finding) for finding in again.findings)
+
+
+def week(number, fails, cost=20.0, then=8.0, index=3):
+    from wengeludo.history.weeks import Candidate, Week
+
+    return Week(number * 10, number * 10 + 10, cost, 11.0, fails, ((Candidate("meter", index, 5.0, then, 1.0),),) if fails else ())
+
+
+@pytest.mark.parametrize("pattern, spans", [("FF", [(0, 20)]), ("FPF", [(0, 30)]), ("FPPF", []), ("F", []), ("PPFFPPFPF", [(20, 40), (60, 90)]), ("FPPPPF", [])])
+def test_weeks_make_a_series_over_at_most_one_that_passes(pattern, spans):
+    run = SimpleNamespace(plant=SimpleNamespace(streams=()))
+    found = findings(run, [week(number, letter == "F") for number, letter in enumerate(pattern)])
+    assert [(one.start, one.end) for one in found] == spans and all(one.causes[0].name == ("meter", 3) for one in found)
+
+
+def test_one_week_is_a_finding_if_it_explains_four_limits():
+    run = SimpleNamespace(plant=SimpleNamespace(streams=()))
+    assert not findings(run, [week(0, True, 50.0, 7.0)]) and len(findings(run, [week(0, True, 52.0, 8.0)])) == 1
+    assert not findings(run, [week(0, True), week(1, True, index=4)])
 
 
 def clean(made, seed, memory=0.5, more=1.0, rows=sim.YEAR):
