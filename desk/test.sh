@@ -12,7 +12,7 @@
 # WENGELUDO_DRAWN (default 300)          drawn plants for the binding
 # WENGELUDO_YEARS (default 3)            simulated years without fault and with each fault; 50 for docs/HISTORY.md
 # WENGELUDO_AGREED (default 300)         drawn plants for the binding's solver beside the engine; 100000 in the long run of test_all.sh
-# WENGELUDO_DRAWS (default 12)           draws of each process of the book under load; 500 is the long run: 8 processes, the rates held to their goals
+# WENGELUDO_DRAWS (default 12)           draws of each process of the book under load; 500 is the long run, with 8 processes
 # WENGELUDO_KILL_STEP (default: some)    the book is killed at every so many writes or statements; 1 is each of them
 # CHROMIUM (default chromium)            the browser that opens the pages; none: they are not opened
 set -eu

@@ -140,6 +140,18 @@ def lost(where, folder):
     return [one for one in told if rows.get(one[0]) != tuple(one[1:])], len({one[0] for one in told})
 
 
+def forced_out(folder):
+    """Milliseconds in which the disk of a folder forces a small write out: the median of 31."""
+    spans, handle = [], os.open(folder / "forced", os.O_CREAT | os.O_WRONLY)
+    for _ in range(31):
+        os.write(handle, bytes(4096))
+        began = time.perf_counter()
+        os.fsync(handle)
+        spans.append((time.perf_counter() - began) * 1e3)
+    os.close(handle)
+    return sorted(spans)[15]
+
+
 def rates(processes=8, count=100):
     """Prints the rates of version 1, of a file and of a server, in one run."""
     import servers
@@ -149,6 +161,8 @@ def rates(processes=8, count=100):
     try:
         with tempfile.TemporaryDirectory(dir=os.environ.get("WENGELUDO_LOAD_FOLDER")) as name:
             folder, found = Path(name), {}
+            found["forced out"] = forced_out(folder)
+            print(f"\nthe disk forces a write out in {found['forced out']:.1f} ms", flush=True)
             books = {"version 1": f"version1:{folder}/old.book", "SQLite": f"{folder}/new.book", **({"PostgreSQL": server.fresh()} if server else {})}
             for title, where in books.items():
                 (folder / title).mkdir()
