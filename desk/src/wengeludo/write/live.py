@@ -60,6 +60,12 @@ def given(balance: Balance) -> Dict[str, Any]:
     }
 
 
+def compact(script: str) -> str:
+    """A script without its indentation and the lines that are comments alone; no text of it goes over several lines."""
+    lines = (line.strip() for line in script.splitlines())
+    return "\n".join(line for line in lines if line and not line.startswith("//") and not (line.startswith("/**") and line.endswith("*/")))
+
+
 def scripted(value: Any) -> Markup:
     """A value as JSON that may stand in a script of a page, whatever texts are in it."""
     return Markup(json.dumps(value, ensure_ascii=False, separators=(",", ":")).replace("<", "\\u003c").replace("\u2028", "\\u2028").replace("\u2029", "\\u2029"))
@@ -69,5 +75,6 @@ def section(balance: Balance) -> Markup:
     """The section of a page, with the engine in it. Stopped if the engine's WebAssembly is not there."""
     environment = Environment(loader=PackageLoader("wengeludo.write"), autoescape=select_autoescape(), trim_blocks=True, lstrip_blocks=True)
     return Markup(environment.get_template("live.html").render(
-        given=scripted(given(balance)), wasm=base64.b64encode(gzip.compress(module(), 9, mtime=0)).decode(), binding=Markup(binding()), unit=f"{float(balance.site.unit):g}",
+        given=scripted(given(balance)), wasm=base64.b64encode(gzip.compress(module(), 9, mtime=0)).decode(), binding=Markup(compact(binding())),
+        script=Markup(compact(environment.get_template("live.js").render())), unit=f"{float(balance.site.unit):g}",
     ))
