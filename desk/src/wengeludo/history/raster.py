@@ -37,5 +37,5 @@ def image(marks: Any, palette: Sequence[Colour], box: Tuple[float, float, float,
     """The picture at x, y, width and height of a drawing."""
     x, y, width, height = box
     data = base64.b64encode(png(marks, palette)).decode()
-    return (f'<image x="{x:.1f}" y="{y:.1f}" width="{width:.1f}" height="{height:.1f}" preserveAspectRatio="none" class="marks" '
+    return (f'<image x="{x:.1f}" y="{y:.1f}" width="{width:.1f}" height="{height:.1f}" preserveAspectRatio="none" class="marks" image-rendering="pixelated" '
             f'href="data:image/png;base64,{data}"/>')
