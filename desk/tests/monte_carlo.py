@@ -17,6 +17,7 @@ from fractions import Fraction
 
 import numpy as np
 
+import wengeludo_balance as engine
 from wengeludo.balance.kind import SheetKind
 from wengeludo.balance.limits import CRITICAL
 from wengeludo.balance.sheet import balance
@@ -196,25 +197,36 @@ def _pull(basis, left, fixed):
 
 @dataclass
 class Row:
-    """A list: its span of flows, the kind of its sheet, both verdicts, the greatest distance of a metered flow, in deviations."""
+    """A list: its span of flows, the kind of its sheet, both verdicts, the greatest distance of a metered flow, in deviations, and the
+    verdict of the engine's own sheet, whether it stands or not."""
 
     span: float
     kind: SheetKind
     verdict: object
     truth: str
     far: float
+    own: str = ""
 
 
 def one(rng, span, gross, ranged):
     """A drawn list by both; None if nothing is to be tested in it."""
     listed, flows = drawn(rng, span, gross, ranged)
-    sheet = balance(site_of(listed), estimated=False)
+    site = site_of(listed)
+    sheet = balance(site, estimated=False)
     if sheet.flowless or not sheet.degrees:
         return None if sheet.kind is not SheetKind.UNJUDGED else Row(max(flows) / min(flows), sheet.kind, None, "", 0.0)
     real, cost = reference(listed, flows)
     far = max(abs(sheet.lines[k].flow - flow) / listed.pipes[k].accuracy.deviation for k, flow in real.items())
     truth = "PASS" if cost <= CRITICAL[sheet.degrees - 1] / 1000 else "FAIL"
-    return Row(max(flows) / min(flows), sheet.kind, None if sheet.verdict is None else sheet.verdict.name, truth, far)
+    return Row(max(flows) / min(flows), sheet.kind, None if sheet.verdict is None else sheet.verdict.name, truth, far, own(site))
+
+
+def own(site):
+    """The verdict of the engine's own sheet, in the unit that is the best for it; blank if it has none."""
+    try:
+        return engine.balance(site.file).verdict.name if site.fits else ""
+    except engine.Refusal:
+        return ""
 
 
 def run(count, seed=1, spans=SPANS):
@@ -227,7 +239,9 @@ def run(count, seed=1, spans=SPANS):
 
 def table(rows):
     """The rows by their span, as Markdown."""
-    lines = ["| span of flows | lists | engine's own | checked flows | not judged | false fail | false pass | close | greatest error in deviations |", "|" + "---|" * 9]
+    heads = ("span of flows", "lists", "engine's own", "checked flows", "not judged", "false fail", "false pass", "close", "greatest error in deviations",
+             "engine alone: false fail", "engine alone: false pass")
+    lines = [f"| {' | '.join(heads)} |", "|" + "---|" * len(heads)]
     below = 0.0
     for upto in CLASSES:
         some = [row for row in rows if below <= row.span < upto]
@@ -236,6 +250,7 @@ def table(rows):
             f"{below:,.0f} to {upto:,.0f}" if upto < float("inf") else f"over {below:,.0f}", len(some), *(sum(row.kind is kind for row in some) for kind in SheetKind),
             sum(row.verdict == "FAIL" and row.truth == "PASS" for row in judged), sum(row.verdict == "PASS" and row.truth == "FAIL" for row in judged),
             sum(row.verdict == "CLOSE" for row in judged), f"{max((row.far for row in judged), default=0):.3f}",
+            sum(row.own == "FAIL" and row.truth == "PASS" for row in some), sum(row.own == "PASS" and row.truth == "FAIL" for row in some),
         ]
         lines.append("| " + " | ".join(str(cell) for cell in cells) + " |")
         below = upto
