@@ -10,12 +10,13 @@ from typing import Any, Dict, List, Optional, Sequence, Tuple
 from zoneinfo import ZoneInfo
 
 import wengeludo_balance as engine
-from wengeludo_balance import FAULT, MEASURED
+from wengeludo_balance import AS_READ, FAULT, MEASURED
 
 from ..balance import unit as units
 from ..balance.exact import Exact
 from ..balance.kind import SheetKind
 from ..balance.limits import CRITICAL
+from ..balance.sheet import SHARE
 from ..read.faults import Fault, Faulty, Stopped
 from ..read.lists import Pipe, PipeList
 from ..read.numbers import exact
@@ -298,8 +299,8 @@ def _checked(listed: Tagged, export: Export, shape: checked_rows.Shape, asked: W
 
 
 def _stands(listed: Tagged, export: Export, shape: checked_rows.Shape, plant: engine.Plant, unit: Fraction) -> bool:
-    """Whether the engine's sheets are within a tenth of a deviation of the checked flows, with the same verdicts, in every row; the first
-    rows that are not end it."""
+    """Whether the engine's sheets stand in every row, by the rule of a single sheet: flows within a tenth of a deviation of the checked ones,
+    as read is as read, the same verdict, near the same cost. The first rows that do not end it."""
     import numpy as np
 
     deviations, weights = np.sqrt(shape.variances) * float(shape.unit), engine.deviation_for([s.weight or 1 for s in plant.streams])
@@ -311,7 +312,11 @@ def _stands(listed: Tagged, export: Export, shape: checked_rows.Shape, plant: en
         off = np.abs(sheets.flows * float(unit) - other.flows * float(shape.unit))
         if (sheets.refusal != other.refusal).any() or (sheets.verdict != other.verdict).any():
             return False
-        if (off[cells != FAULT] > STANDS * np.broadcast_to(deviations, off.shape)[cells != FAULT]).any():
+        near = np.where(sheets.kinds == AS_READ, 1e-9 * np.abs(own * float(unit)), STANDS * deviations)  # what no meter checks is as read
+        if (off > near)[cells != FAULT].any():
+            return False
+        limits = np.array(LIMITS)[other.degrees]
+        if (np.abs(sheets.cost / 1000 - other.cost / 1000) > float(SHARE) * np.maximum(np.where(limits > 0, limits, 1), other.cost / 1000)).any():
             return False
     return True
 
