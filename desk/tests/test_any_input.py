@@ -147,7 +147,7 @@ def test_names_of_files(name, suffix, run, tmp_path):
 def test_files_without_an_end(run, listed):
     for command in (("sheet", "/dev/zero"), ("check", "/dev/zero", "/dev/zero", "/dev/zero"), ("unpack", "/dev/zero", "x.csv")):
         ended = run(*command)
-        assert ended.status == 1 and "/dev/zero: the file has more than 20,000,000 bytes" in ended.err
+        assert ended.status == 1 and "/dev/zero: the file has more than 5,000,000 bytes" in ended.err
 
 
 def test_hints_of_the_command_line(run, listed):

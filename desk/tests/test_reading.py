@@ -197,7 +197,7 @@ def test_rows_beyond_the_limit(listed):
     assert read_list(listed("from,to\noutside,a\n" + rows)).pipes, "empty rows do no harm"
     told = faults(listed("from,to\noutside,a\n" + rows + "a,outside\n"))
     assert told == ["row 10,008: the file goes on after row 10,000: a list has at most 96 streams".replace("10,008", "10008")]
-    assert "more than 20,000,000 bytes" in faults(listed("from,to\n" + "x" * 20_000_001))[0]
+    assert "more than 5,000,000 bytes" in faults(listed("from,to\n" + "x" * 5_000_001))[0]
 
 
 def test_hidden_worksheets(listed):
@@ -344,3 +344,16 @@ def test_places_anywhere_are_brought_to_the_page(spots):
     assert all(abs(value) <= 1000 for spot in found.values() for value in spot)
     if len(spots) == 2 and spots[1][0] == 3e5:
         assert found[2][0] - found[1][0] == pytest.approx(4)
+
+
+TEXTS = {
+    "a row of commas": "from,to\n" + "," * 4_900_000, "a wide table": "from,to\n" + ("x," * 400 + "\n") * 6_000, "many rows": "a,b,c\n" * 800_000,
+    "many columns": "from,to," + ",".join(f"c{k}" for k in range(200_000)) + "\noutside,a\n", "many streams": "from,to,reading\n" + "".join(f"outside,a{k},x\n" for k in range(9_990)),
+    "quotes": '"' * 4_900_000, "columns within the limit": "from,to," + ",".join(f"c{k}" for k in range(498)) + "\noutside,a\n",
+}
+
+
+@pytest.mark.parametrize("name", TEXTS)
+def test_texts_that_are_too_much(name, run, listed):
+    ended = limited(run, "why", listed(TEXTS[name]), "1")
+    assert len(ended.stderr) < 60_000 and (ended.returncode == 0 if name == "columns within the limit" else ended.returncode == 1 and "list.csv" in ended.stderr)

@@ -14,7 +14,8 @@ from .flow_units import split_heading
 from .texts import legible, unguarded
 
 MOST_ROWS = 10_000
-MOST_BYTES = 20_000_000
+MOST_BYTES, MOST_PACKED = 5_000_000, 20_000_000  # of a list, and of a workbook, which may have pictures
+MOST_COLUMNS = 500
 SEPARATORS = ",;\t"
 LOOKED_AT = 50  # lines that may stand above the header
 
@@ -32,24 +33,23 @@ class Grid:
 
 def read_grid(path: Path) -> Grid:
     """The tables of a file; OSError if it cannot be read, Faulty if it is no table."""
-    data = read_bytes(path)
     if path.suffix.lower() in (".xlsx", ".xlsm"):
         from .workbooks import workbook
 
-        tables, told = workbook(path, data)
+        tables, told = workbook(path, read_bytes(path, MOST_PACKED))
         return Grid(tables[0] if tables else [], "", tables[1] if len(tables) > 1 else [], told)
-    beside = path.with_suffix(".places.csv")
+    data, beside = read_bytes(path), path.with_suffix(".places.csv")
     places = _lines(beside, read_bytes(beside))[0] if beside.is_file() else []
     rows, separator = _lines(path, data)
     return Grid(rows, separator, places)
 
 
-def read_bytes(path: Path) -> bytes:
+def read_bytes(path: Path, most: int = MOST_BYTES) -> bytes:
     """What stands in a file; Faulty if that is more than a list can have."""
     with open(path, "rb") as file:
-        data = file.read(MOST_BYTES + 1)
-    if len(data) > MOST_BYTES:
-        raise Faulty(path, [Fault(f"the file has more than {MOST_BYTES:,} bytes: a list or a plant has at most 96 streams")])
+        data = file.read(most + 1)
+    if len(data) > most:
+        raise Faulty(path, [Fault(f"the file has more than {most:,} bytes: a list or a plant has at most 96 streams")])
     return data
 
 
@@ -89,8 +89,12 @@ def limited(path: Path, rows: Iterable[List[str]]) -> List[List[str]]:
     """The rows, without empty ones at the end; Faulty if there are more than a list can have."""
     found: List[List[str]] = []
     for number, row in enumerate(rows, 1):
-        if not any(cell.strip() for cell in row):
+        while row and not row[-1].strip():
+            row.pop()
+        if not row:
             continue
+        if len(row) > MOST_COLUMNS:
+            raise Faulty(path, [Fault(f"the row has {len(row):,} cells: a list has at most {MOST_COLUMNS} columns", row=number)])
         if number > MOST_ROWS:
             raise Faulty(path, [Fault(f"the file goes on after row {MOST_ROWS:,}: a list has at most 96 streams", row=number)])
         found += [[] for _ in range(number - 1 - len(found))]

@@ -21,6 +21,7 @@ from .texts import legible
 MOST_STREAMS, MOST_UNITS = 96, 32
 MOST_READING, MOST_RANGE = 4e12, 2e15
 MOST_PRICE, MOST_RATE = 1_000_000, 1_000_000
+MOST_ROWS, MOST_FAULTS = 200, 200  # rows of streams that are looked at, and faults that are told
 MOST_ABOVE = 2_000  # letters above the header in which an hour is looked for
 T = TypeVar("T")
 
@@ -133,11 +134,13 @@ class _Reader:
         self.own_unit_column(rows)
         self.decimal(rows)
         self.numbered(rows)
-        pipes = [self.pipe(place, row, k) for k, (place, row) in enumerate(rows, 1)]
-        self.whole_list(pipes)
+        pipes = [self.pipe(place, row, k) for k, (place, row) in enumerate(rows[:MOST_ROWS], 1)]
+        self.whole_list(pipes, len(rows))
         spots = self.positions()
         if self.faults:
-            raise Faulty(self.path, sorted(self.faults, key=lambda fault: fault.row or 0))
+            told = sorted(self.faults, key=lambda fault: fault.row or 0)
+            more = [Fault(f"the list has {len(told) - MOST_FAULTS:,} faults more")] if len(told) > MOST_FAULTS else []
+            raise Faulty(self.path, [*told[:MOST_FAULTS], *more])
         self.tell()
         form = FORMS[self.asked.lang] if self.asked.lang else Form(self.lang, self.grid.separator, self.marks.decimal)
         self.names[0] = word(OUTSIDE, form.lang)
@@ -317,14 +320,14 @@ class _Reader:
             self.names.append(name)
         return self.places[folded]
 
-    def whole_list(self, pipes: List[Pipe]) -> None:
+    def whole_list(self, pipes: List[Pipe], count: int) -> None:
         first: Dict[str, int] = {}
         for pipe in pipes:
             before = first.setdefault(pipe.label.casefold(), pipe.row)
             if pipe.label and before != pipe.row:
                 self.fault(f"row {before} has the same stream: another number or name would do", pipe.row, "stream", found=pipe.label)
         if len(pipes) > MOST_STREAMS:
-            self.fault(f"the list has {len(pipes)} streams: at most {MOST_STREAMS} would do", pipes[MOST_STREAMS].row)
+            self.fault(f"the list has {count} streams: at most {MOST_STREAMS} would do", pipes[MOST_STREAMS].row)
         if len(self.names) - 1 > MOST_UNITS:
             row, column = next((p.row, "from" if p.source > MOST_UNITS else "to") for p in pipes if max(p.source, p.target) > MOST_UNITS)
             self.fault(f"the list has {len(self.names) - 1} places beside the outside: at most {MOST_UNITS} would do", row, column)
