@@ -2,6 +2,9 @@
 
 import io
 import re
+import socket
+import threading
+import time
 import zipfile
 from html.parser import HTMLParser
 
@@ -126,6 +129,35 @@ def test_a_changed_sheet_needs_a_note_and_a_sheet_is_kept_once(desk, shelf):
     assert other.status_code == 409 and "another sheet" in other.text
     page = desk.get("/sheet/3-1", **BASE).text
     assert "Kept with changed fields" in page and "7979 → 8000" in page and "read at the meter" in page
+
+
+def test_eight_at_once_each_sent_twice_draw_eight_numbers(shelf):
+    app = application(shelf, Door((HOST,), key=KEY))
+    first = app.test_client()
+    first.get(f"/?key={KEY}", **BASE)
+    take(first)
+    token, found = csrf(first), []
+
+    def work(k):
+        client = app.test_client()
+        client.get(f"/?key={KEY}", **BASE)
+        form = {"csrf": token, "request": f"{k:032x}", "base": "list/1", "office": "7"}
+        found.extend(client.post("/keep", data=form, **BASE).headers["Location"] for _ in range(2))
+
+    threads = [threading.Thread(target=work, args=(k,)) for k in range(8)]
+    [one.start() for one in threads]
+    [one.join() for one in threads]
+    assert sorted(found) == sorted(f"/sheet/7-{n}?kept=now" for n in range(1, 9) for _ in range(2)) and shelf.lasts()[7] == 8
+
+
+def test_a_form_older_than_the_login_is_told(doorway, shelf):
+    brandt = doorway("brandt")
+    take(brandt)
+    old = csrf(brandt)
+    brandt.post("/logout", data={"csrf": old}, **BASE)
+    brandt.post("/login", data={"name": "brandt", "password": "correct horse brandt"}, **BASE)
+    stale = brandt.post("/keep", data={"csrf": old, "request": "d" * 32, "base": "list/1", "office": "3"}, **BASE)
+    assert stale.status_code == 403 and "reload it" in stale.text and shelf.lasts()[3] == 0
 
 
 def test_files_of_what_is_not_kept_say_so(desk):
@@ -297,6 +329,18 @@ def packed(parts):
     return data.getvalue()
 
 
+def workbook(strings):
+    """A workbook whose table of texts is this one."""
+    data = io.BytesIO()
+    book = openpyxl.Workbook()
+    book.active.append(["stream", "from", "to", "reading", "accuracy"])
+    book.active.append(["1", "outside", "a", 1, 1])
+    book.save(data)
+    parts = zipfile.ZipFile(data)
+    names = [name for name in parts.namelist() if name != "xl/sharedStrings.xml"]
+    return packed({**{name: parts.read(name) for name in names}, "xl/sharedStrings.xml": strings})
+
+
 def test_guard_7_uploads_that_are_too_much_are_refused(desk):
     cases = {
         "huge.csv": b"x" * (upload.MOST_BYTES + 1), "bomb.xlsx": packed({"xl/worksheets/sheet1.xml": b" " * (upload.MOST_UNPACKED + 1)}),
@@ -305,6 +349,15 @@ def test_guard_7_uploads_that_are_too_much_are_refused(desk):
     for name, data in cases.items():
         answer = take(desk, name, data)
         assert answer.status_code == 422 and "cannot be taken yet" in answer.text, name
+    entities = "".join(f'<!ENTITY e{k} "{f"&e{k - 1};" * 10}">' for k in range(1, 12))
+    bomb = f'<?xml version="1.0"?><!DOCTYPE x [<!ENTITY e0 "{"x" * 50}">{entities}]><sst xmlns="http://schemas.openxmlformats.org/spreadsheetml/2006/main" count="1"><si><t>&e11;</t></si></sst>'
+    outside = '<?xml version="1.0"?><!DOCTYPE x [<!ENTITY e SYSTEM "file:///etc/hostname">]><sst xmlns="http://schemas.openxmlformats.org/spreadsheetml/2006/main"><si><t>&e;</t></si></sst>'
+    cells = "stream,from,to,reading,accuracy\n" + "," * 900_000 + "\n"
+    began = time.monotonic()
+    for name, data in (("entities.xlsx", workbook(bomb)), ("outside.xlsx", workbook(outside)), ("cells.csv", cells.encode())):
+        answer = take(desk, name, data)
+        assert answer.status_code == 422 and socket.gethostname() not in answer.text, name
+    assert time.monotonic() - began < 60
     faulty = take(desk, "faulty.csv", (SAMPLES / "faulty" / "steam_site.csv").read_bytes())
     assert faulty.status_code == 422 and faulty.text.count("<li>") == 3
     assert desk.get("/list/1", **BASE).status_code == 404  # nothing was stored

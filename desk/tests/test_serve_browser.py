@@ -8,7 +8,7 @@ from conftest import SAMPLES
 from served import Served, browser, missing, wait
 
 pytestmark = pytest.mark.skipif(bool(missing()), reason=f"the desk is not opened in a browser: {missing()}")
-SITES = ("steam_site.csv", "steam_site_off.csv", "overfull_site.csv", "blind_site.csv", "two_percent.csv", "steam_site.xlsx")
+SITES = sorted(path.name for path in SAMPLES.iterdir() if path.suffix in (".csv", ".xlsx") and "histor" not in path.name and "export" not in path.name)
 CONTRAST = """
 const lum = c => { const v = c.map(x => { x /= 255; return x <= .03928 ? x / 12.92 : ((x + .055) / 1.055) ** 2.4; }); return .2126 * v[0] + .7152 * v[1] + .0722 * v[2]; };
 const rgb = s => { const m = s.match(/[\\d.]+/g).map(Number); return m.length > 3 && m[3] === 0 ? null : m.slice(0, 3); };
@@ -80,7 +80,7 @@ def quiet(page, served):
 def test_every_sample_is_taken_and_shown(page, served, name):
     take(page, served, SAMPLES / name)
     pipes = len(page.execute_script("return [...document.querySelectorAll('table.sheet tbody tr')]"))
-    assert pipes == len(page.execute_script("return [...document.querySelectorAll('.edge')]")) > 3
+    assert pipes == len(page.execute_script("return [...document.querySelectorAll('.edge')]")) > 2
     low, nameless = page.execute_script(CONTRAST)
     assert not low and not nameless
     quiet(page, served)
