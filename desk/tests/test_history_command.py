@@ -145,27 +145,43 @@ def test_overrides_are_taken_only_if_handed_back(run, year, tmp_path, listed):
     assert "no column status" in run("history", year.list, year.spring, "--overrides", listed("stream,from,to\n", "none.csv")).err
 
 
-def billed_list(year, path):
-    """The year's list with no blank to the outside, and rates."""
+def billed_list(year, path, rates={"20": "2500", "21": "2500"}):
+    """The year's list with rates: these, and 0 of what else goes outside."""
     with open(year.list, newline="") as file:
         rows = list(csv.reader(file))
     for row in rows[1:]:
-        row[9] = {"20": "2500", "21": "2500"}.get(row[0], "0" if row[3] == "outside" else "")
+        row[9] = rates.get(row[0], "0" if row[3] == "outside" else "")
     with open(path, "w", newline="") as file:
         csv.writer(file).writerows(rows)
     return path
 
 
+def cents_of(flows, unit, rates):
+    """The charges of an hour by another way: the whole bill rounded down, cents handed out one by one to the largest remainder."""
+    shares = [int(flow) * unit * rate / 10_000 for flow, rate in zip(flows, rates)]
+    cents = [share.numerator // share.denominator for share in shares]
+    total = sum(shares)
+    while sum(cents) < total.numerator // total.denominator:
+        cents[max(range(len(shares)), key=lambda k: (shares[k] - cents[k] if shares[k] - cents[k] < 1 else -1, -k))] += 1
+    return cents
+
+
+def july_of(kept):
+    start, end = (np.searchsorted(kept["times"], at) for at in (1751320800, 1753999200))  # 1 July and 1 August, 00:00 in Vienna
+    return np.arange(start, end)
+
+
 def test_the_bill_is_the_sum_of_the_hours(run, year, tmp_path):
     path = billed_list(year, tmp_path / "site.csv")
-    ended = run("history", path, year.export, "--zone", "Europe/Vienna", "--bill", "2025-07", "-o", tmp_path / "bill.csv", "-o", tmp_path / "run.npz")
+    words = ("--zone", "Europe/Vienna", "--unit", "1", "--bill", "2025-07", "-o", tmp_path / "bill.csv", "-o", tmp_path / "run.npz")
+    ended = run("history", path, year.export, *words)
     assert ended.status == 3 and "2025-07:" in ended.out and "by the proved call" in ended.out and "rounded once" in ended.out
     rows = table(tmp_path / "bill.csv")
     kept = np.load(tmp_path / "run.npz")
-    start, end = (np.searchsorted(kept["times"], at) for at in (1751320800, 1753999200))  # 1 July and 1 August, 00:00 in Vienna
-    july = np.arange(start, end)
+    july = july_of(kept)
     good = july[(kept["refusal"][july] == 0) & (kept["unbilled"][july] == 0)]
     assert int(rows[-1]["cents"]) == int(kept["bill"][good].sum()) == sum(int(row["cents"]) for row in rows[:-1]) > 100_000
+    assert {row["charged by"] for row in rows} == {"proved call"} and all(row["cents by the proved call"] == row["cents"] for row in rows)
     assert int(rows[0]["hours billed"]) == len(good) and int(rows[0]["hours not billed"]) == 744 - len(good)
     sheet = engine.Plant(13, tuple(engine.Stream(s.source, s.target, s.weight, int(r)) if w == 0x21 else engine.Stream(s.source, s.target)
                                    for s, r, w in zip(year.truth.site.plant.streams, kept["readings"][good[5]], kept["status"][good[5]])))
@@ -175,11 +191,44 @@ def test_the_bill_is_the_sum_of_the_hours(run, year, tmp_path):
     assert int(rows[-1]["cents rounded once (estimate)"]) == once >= int(rows[-1]["cents"])
 
 
-def test_a_bill_needs_hours_rates_and_whole_kilograms(run, year, tmp_path):
+@pytest.mark.parametrize("rates, words, why", [
+    ({"20": "2500", "21": "2500"}, (), "not of the engine's own sheet"), ({"20": "333", "21": "1000000"}, ("--unit", "1"), "rates up to 10,000, and 21 has more"),
+    ({"20": "2501", "21": "7"}, ("--unit", "1/2"), "whole rates up to 10,000 for each unit of 0.5 kg"), ({"20": "999999", "21": "1"}, (), "not of the engine's own sheet")])
+def test_a_bill_that_the_engine_does_not_charge_is_the_tools_and_of_the_flows_shown(run, year, tmp_path, rates, words, why):
+    path = billed_list(year, tmp_path / "site.csv", rates)
+    every = ("--zone", "Europe/Vienna", "--from", "2025-06-20", "--to", "2025-08-02", *words)
+    ended = run("history", path, year.export, *every, "--bill", "2025-07", "-o", tmp_path / "bill.csv", "-o", tmp_path / "run.npz", "-o", tmp_path / "run.html")
+    assert "hours by the tool, in exact fractions of the flows that the rows show" in ended.out and why in ended.out and "by the proved call" not in ended.out
+    assert "by the tool, in exact fractions" in (tmp_path / "run.html").read_text(encoding="utf-8")
+    rows, kept = table(tmp_path / "bill.csv"), np.load(tmp_path / "run.npz")
+    assert {row["charged by"] for row in rows} == {"tool"} and {row["cents by the proved call"] for row in rows} == {""}
+    run("history", path, year.export, *every, "-o", tmp_path / "plain.npz")  # the rows are the same without a bill
+    plain = np.load(tmp_path / "plain.npz")
+    assert np.array_equal(kept["flows"], plain["flows"]) and kept["sheet"] == plain["sheet"] and kept["unit"] == plain["unit"]
+    unit, july = Fraction(str(kept["unit"])), july_of(kept)
+    outward = [(k, int(rates.get(p.label, "0"))) for k, p in enumerate(year.truth.site.tagged.list.pipes) if p.target == 0]
+    good = [row for row in july if not kept["refusal"][row] and not any(kept["kinds"][row, k] == engine.WITHHELD for k, _ in outward)]
+    told = np.array([cents_of(kept["flows"][row, [k for k, _ in outward]], unit, [rate for _, rate in outward]) for row in good], object)
+    assert [int(row["cents"]) for row in rows[:-1]] == told.sum(0).tolist() and int(rows[-1]["cents"]) == told.sum() > 1000
+    assert int(rows[0]["hours billed"]) == len(good) and int(rows[0]["hours billed"]) + int(rows[0]["hours not billed"]) + int(rows[0]["hours without a row"]) == 744
+
+
+def test_a_bill_that_the_engine_charges_otherwise_is_none(run, year, tmp_path, monkeypatch):
+    from wengeludo.history import bill
+
+    path = billed_list(year, tmp_path / "site.csv")
+    monkeypatch.setattr(bill, "apportioned", lambda exact: ([1 for _ in exact], len(exact)))
+    ended = run("history", path, year.spring, "--unit", "1", "--bill", "2025-01", "-o", tmp_path / "bill.csv")
+    assert ended.status == 1 and "charges the hour" in ended.err and not (tmp_path / "bill.csv").exists()
+
+
+def test_a_bill_needs_hours_and_rates(run, year, tmp_path):
     path = billed_list(year, tmp_path / "site.csv")
     assert "a bill takes hours" in run("history", path, year.spring, "--every", "2h", "--bill", "2025-01").err
-    assert "whole kg" in run("history", path, year.spring, "--unit", "2", "--bill", "2025-01").err
-    assert "nothing to bill" in run("history", sim.SAMPLES / "steam_site.csv", year.spring, "--bill", "2025-01").err or True
+    assert run("history", path, year.spring, "--unit", "2", "--bill", "2025-01").out.count("by the proved call") == 1
+    assert "nothing to bill" in run("history", billed_list(year, tmp_path / "none.csv", {}), year.spring, "--bill", "2025-01").err
+    ended = run("history", billed_list(year, tmp_path / "one.csv", {"20": "5", "21": ""}), year.spring, "--bill", "2025-01")
+    assert ended.status == 1 and ended.err.count("needs a rate") == 1 and "column rate, stream 21" in ended.err
 
 
 def wild(made, rows, step=3600, seed=1):

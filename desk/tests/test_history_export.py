@@ -118,6 +118,25 @@ def test_faults_are_told_with_row_and_column_all_at_once(read):
     assert "row 6: the row has 2 cells, the header 3 (the export is cut off)" in told and told.count("\n") == 2
 
 
+def test_of_several_exports_every_fault_is_told_with_file_row_and_column(tmp_path, monkeypatch):
+    rows = {"b": "2025-01-02 00:00,1,2\n2025-01-01 00:00,1,2\n", "a": "2025-01-01 00:00,1\nnever,1,2\n", "good": "2025-01-03 00:00,1,2\n"}
+    paths = [tmp_path / f"{name}.csv" for name in rows]
+    for path in paths:
+        path.write_text("time,A,B\n" + rows[path.stem])
+    headless = tmp_path / "headless.csv"
+    headless.write_text("time,A,C\n2025-01-04 00:00,1,2\n")
+    with pytest.raises(Stopped) as told:
+        read_exports([*paths, headless, tmp_path / "absent.csv"], ("A", "B"), How())
+    lines = str(told.value).splitlines()
+    assert [line.split(": ")[0].rsplit("/", 1)[1] for line in lines] == ["b.csv", "a.csv", "a.csv", "headless.csv", "absent.csv"]
+    assert "row 3, column time" in lines[0] and "row 2: the row has 2 cells" in lines[1] and "row 3, column time" in lines[2] and "tag B has no column" in lines[3]
+    assert "No such file" in lines[4]
+    monkeypatch.setattr(export, "MOST_FILES", 2)
+    with pytest.raises(Stopped) as told:
+        read_exports([*paths, headless], ("A", "B"), How())
+    assert "headless.csv" not in str(told.value) and str(told.value).endswith("a.csv: and 1 exports more have faults")
+
+
 def test_tags_that_are_missing_or_twice(read):
     told = faults(read, "time,A,A,C\n2025-01-01,1,2,3\n")
     assert "the list's tag B has no column; the header has A, A, C" in told and 'column 3: "A" stands there; each tag once' in told
@@ -131,7 +150,7 @@ def test_what_is_no_table(read, tmp_path):
     assert "a header and no row" in faults(read, "time,A,B\n")
     assert "no XLSX workbook" in faults(read, b"PK\x03\x04 not a workbook", name="export.xlsx")
     assert "no cell of the column is a number" in faults(read, "time,A,B\n2025-01-01,on,2\n2025-01-02,off,2\n")
-    with pytest.raises(OSError):
+    with pytest.raises(Faulty, match="absent.csv: No such file or directory"):
         read_exports([tmp_path / "absent.csv"], ["A"], How())
 
 

@@ -7,6 +7,7 @@ from fractions import Fraction
 from pathlib import Path
 from typing import List, Optional, Sequence, Tuple
 
+from ..explain.charges import rated
 from ..read.faults import Stopped
 from ..read.lists import Asked, read_list
 from . import clock
@@ -44,6 +45,8 @@ def history(path: Path, exports: Sequence[Path], options: Options) -> Tuple[Anal
     reference = _span(options.reference, options.zone)
     how = How(options.zone, options.form, clock.every_of(options.every) if options.every else None, *times, options.said.decimal)
     listed = tagged(read_list(path, options.said), path, options.said.floor)
+    if months:
+        rated(listed.list.pipes, path)
     overrides = read_overrides(options.overrides, listed, zone) if options.overrides else []
     export = read_exports(exports, [tag.name for tag in listed.tags], how)
     export.notes += apply(export, overrides)

@@ -7,11 +7,11 @@ from collections import Counter
 from dataclasses import dataclass, field
 from datetime import datetime
 from pathlib import Path
-from typing import Any, Dict, Iterator, List, Optional, Sequence, Tuple
+from typing import Any, Callable, Dict, Iterable, Iterator, List, Optional, Sequence, Tuple, TypeVar
 
 from wengeludo_balance import FAULT, HELD, MEASURED
 
-from ..read.faults import Fault, Faulty
+from ..read.faults import Fault, Faulty, together
 from ..read.grids import SEPARATORS
 from ..read.numbers import POINT, Marks, marks_of
 from . import cells, clock
@@ -19,7 +19,9 @@ from . import cells, clock
 BLOCK = 1_000_000  # characters read at a time
 MOST_ROWS = 3_000_000  # rows of a run; more are told
 BOOK_ROWS = 20_000
-MOST_FAULTS = 20
+MOST_FAULTS = 20  # of an export that are told
+MOST_FILES = 10  # exports with faults that are told
+T, S = TypeVar("T"), TypeVar("S")
 
 
 @dataclass
@@ -46,9 +48,14 @@ class How:
 
 
 def read_exports(paths: Sequence[Path], tags: Sequence[str], how: How) -> Export:
-    """The rows of all exports, one after the other in time; Faulty with every fault of the first that has some."""
-    readers = sorted((_Reader(path, tags, how) for path in paths), key=lambda reader: reader.first)
-    parts = [part for reader in readers for part in reader.blocks()]
+    """The rows of all exports, one after the other in time; Stopped with the faults of all that have some, of each file so many."""
+    opened, faulty = _each([(path, path) for path in paths], lambda path: _Reader(path, tags, how))
+    readers = sorted(opened, key=lambda reader: reader.first)
+    read, more = _each([(reader.path, reader) for reader in readers], lambda reader: list(reader.blocks()))
+    faulty += more
+    if faulty:
+        raise together(_bounded(sorted(faulty, key=lambda fault: [str(path) for path in paths].index(fault.path))))
+    parts = [part for blocks in read for part in blocks]
     words = sum((reader.words for reader in readers), Counter())
     if not parts:
         raise Faulty(paths[0], [Fault("no row lies between --from and --to" if how.start or how.end else "the export has a header and no row")])
@@ -62,6 +69,27 @@ def read_exports(paths: Sequence[Path], tags: Sequence[str], how: How) -> Export
 
 
 _FEWER = f"at most {MOST_ROWS:,} would do, by --every 1h or by --from and --to"
+
+
+def _each(things: Iterable[Tuple[Path, T]], made: Callable[[T], S]) -> Tuple[List[S], List[Faulty]]:
+    """What is made of each file's thing, and what is wrong with the other files."""
+    found, faulty = [], []
+    for path, thing in things:
+        try:
+            found.append(made(thing))
+        except Faulty as fault:
+            faulty.append(fault)
+        except OSError as error:
+            faulty.append(Faulty(path, [Fault(error.strerror or str(error))]))
+    return found, faulty
+
+
+def _bounded(faulty: Sequence[Faulty]) -> List[Faulty]:
+    """The files with faults, so many of them; the last tells how many more there are."""
+    if len(faulty) <= MOST_FILES:
+        return list(faulty)
+    last, more = faulty[MOST_FILES - 1], len(faulty) - MOST_FILES
+    return [*faulty[: MOST_FILES - 1], Faulty(last.path, [*last.faults, Fault(f"and {more:,} exports more have faults")])]
 
 
 def _joined(parts: List[List[Any]], k: int) -> Any:

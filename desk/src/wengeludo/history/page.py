@@ -24,7 +24,7 @@ SHEETS = "{the sheets of the weeks}"
 
 SHEETS_OF = {False: "the engine’s own", True: "checked flows"}
 WHOSE = {
-    False: "The engine’s, proved: flows, classes, costs, limits, verdicts, suspects of a row, charges.",
+    False: "The engine’s, proved: flows, classes, costs, limits, verdicts, suspects of a row.",
     True: "Whole flows of least cost by the tool’s solver, each row’s passed by a proved call; classes and degrees by the engine; cost and verdict of the "
     "list’s own deviations by the tool, near the limit in exact fractions. The engine’s own sheets do not stand for this run: its weights cannot hold "
     "these accuracies closely enough, and --unit would show them nevertheless.",

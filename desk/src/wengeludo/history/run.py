@@ -17,6 +17,7 @@ from ..balance.exact import Exact
 from ..balance.kind import SheetKind
 from ..balance.limits import CRITICAL
 from ..balance.sheet import SHARE
+from ..explain.charges import engine_rates
 from ..read.faults import Fault, Faulty, Stopped
 from ..read.lists import Pipe, PipeList
 from ..read.numbers import exact
@@ -215,7 +216,7 @@ def balanced(listed: Tagged, export: Export, path: Path, zone: Optional[ZoneInfo
     pipes = run_pipes(listed, export, path)
     deviations = np.array([pipe.accuracy.deviation if pipe.accuracy else 0.0 for pipe in pipes])
     still = {tag.index: standing(export.values[:, j], export.status[:, j], tag.factor) for j, tag in enumerate(listed.tags)}
-    own = asked.unit is not None or asked.charges or any(pipe.accuracy and pipe.accuracy.weight is not None for pipe in pipes)
+    own = asked.unit is not None or any(pipe.accuracy and pipe.accuracy.weight is not None for pipe in pipes)
     made = _by_engine(listed, export, path, pipes, asked) if own else None
     if made is None:
         made = _that_stand(listed, export, path, pipes, asked)
@@ -235,12 +236,11 @@ def _by_engine(listed: Tagged, export: Export, path: Path, pipes: Sequence[Pipe]
     import numpy as np
 
     reach = {tag.index: _reach(export, j) * abs(float(tag.factor)) for j, tag in enumerate(listed.tags)}
-    unit = unit_of(pipes, reach, asked.unit or (Fraction(1) if asked.charges else None))
+    unit = unit_of(pipes, reach, asked.unit)
     _fitting(listed, export, unit, path)
     plant = plant_of(pipes, len(listed.list.places), unit)
     readings, status = in_units(listed, export, unit)
-    rates = [pipe.rate or 0 for pipe in pipes if pipe.target == 0] if asked.charges else None
-    sheets = sheets_of(plant, readings, status, rates, asked, suspects)
+    sheets = sheets_of(plant, readings, status, engine_rates(pipes, unit) if asked.charges else None, asked, suspects)
     clamps = units.clamps([pipe for pipe in pipes if pipe.accuracy], unit)
     weights = np.array([s.weight or 1000 for s in plant.streams])
     variances = np.array([1000 / weights, 1000 / np.maximum(1, weights // 4)])

@@ -36,6 +36,19 @@ class Faulty(Stopped):
         super().__init__("\n".join(f"{self.path}: {fault}" for fault in self.faults))
 
 
+class FaultyFiles(Stopped):
+    """Several files with faults, each told as it is by itself."""
+
+    def __init__(self, files: Sequence[Faulty]) -> None:
+        self.files = tuple(files)
+        super().__init__("\n".join(map(str, self.files)))
+
+
+def together(files: Sequence[Faulty]) -> Stopped:
+    """What several files with faults are told by; of one file alone its own."""
+    return files[0] if len(files) == 1 else FaultyFiles(files)
+
+
 def quoted(text: str) -> str:
     """What stands in a cell, short enough for a line."""
     if not text:
