@@ -92,7 +92,7 @@ def killed(where, processes, count, folder, chance=0.0, kills=0, harm=None):
     """Draws by processes that are killed, at statements by chance or from outside, and started again until all is drawn; how many kills.
     `harm` is done to the server meanwhile, again and again."""
     rng, done, ended = random.Random(7), threading.Event(), 0
-    hurting = threading.Thread(target=_harm, args=(harm, done))
+    hurting = threading.Thread(target=_harm, args=(harm, done, 0.4 if count >= 100 else 0.03))  # a few draws are soon over
     if harm:
         hurting.start()
     running = {k: _go(start(where, k, count, folder, chance)) for k in range(processes)}
@@ -125,8 +125,8 @@ def _go(process):
     return process
 
 
-def _harm(harm, done):
-    while not done.wait(0.4):
+def _harm(harm, done, pause):
+    while not done.wait(pause):
         harm()
 
 
