@@ -36,6 +36,8 @@ fi
 [ "${CHROMIUM:-}" = none ] || command -v "${CHROMIUM:-chromium}" >/dev/null || echo "desk: pages are not opened in a browser, as there is no chromium (apt-get install chromium)"
 { ls /usr/lib/postgresql/*/bin/initdb && "$python" -c "import psycopg2"; } >/dev/null 2>&1 ||
     echo "desk: no book on a server is tested, as there is no PostgreSQL or no psycopg2 (apt-get install postgresql python3-psycopg2)"
+"$python" -c "import distributed" 2>/dev/null ||
+    echo "desk: no histories on a cluster are tested, as there is no dask.distributed (apt-get install python3-distributed)"
 home=$PWD/target/desk
 [ -x "$home/bin/python3" ] || "$python" -m venv --system-site-packages "$home"
 export WENGELUDO_INCLUDE="${WENGELUDO_INCLUDE:-$PWD/host/include}" WENGELUDO_ARCHIVE="${WENGELUDO_ARCHIVE:-$PWD/target/staticlib/liblinked.a}"

@@ -2,6 +2,7 @@
 
 import csv
 import json
+import shutil
 import signal
 import subprocess
 import sys
@@ -44,6 +45,29 @@ def test_a_line_for_each_site_and_its_tables_beside(run, folder, tmp_path):
     assert [line["site"] for line in told] == ["east", "north", "west"] and told[0]["rows"] == "1000" and told[1]["findings"] == "1"
     assert "the export is cut off" in told[2]["fault"] and "9 steam from boiler 2" in told[1]["first finding (estimate)"]
     assert (tmp_path / "all.sites" / "north" / "run.html").stat().st_size < 200_000
+
+
+def test_bills_overrides_and_the_check_of_every_site(run, folder, tmp_path):
+    home = tmp_path / "sites"
+    for name in ("east", "west"):
+        shutil.copytree(folder / "east", home / name)
+    (home / "east" / "Overrides.csv").write_text("stream,from,to,status,why\n9,2025-01-10,2025-01-12,fault,replaced\n")
+    words = ("-o", tmp_path / "all.csv", "--jobs", "1", "--certify", "--bill", "2025-01", "--bill", "2025-02")
+    assert run("histories", home, *words).status == 0
+    plain = {line["site"]: line for line in lines(tmp_path / "all.csv")}
+    assert {line["charged by"] for line in plain.values()} == {"tool"} and plain["east"]["cents"] == plain["west"]["cents"]
+    bill = lines(tmp_path / "all.sites" / "east" / "bill.csv")
+    assert int(plain["east"]["cents"]) == sum(int(row["cents"]) for row in bill if row["stream"] == "all") > 100_000 and {row["month"] for row in bill} == {"2025-01", "2025-02"}
+    assert {line["sheets that pass the check"] for line in plain.values()} == {"1000"}
+    assert {row["check"] for row in lines(tmp_path / "all.sites" / "east" / "rows.csv")} == {"passes"}
+    assert run("histories", home, *words, "--overrides").status == 0
+    told = {line["site"]: line for line in lines(tmp_path / "all.csv")}
+    assert told["west"] == plain["west"] and told["east"] != plain["east"]
+    classes = [row["classes"] for row in lines(tmp_path / "all.sites" / "east" / "rows.csv")]
+    assert all((row[8] == "G") == (216 <= hour < 264) for hour, row in enumerate(classes))
+    assert run("history", home / "east" / "list.csv", home / "east" / "export.csv", "--overrides", home / "east" / "Overrides.csv", "--bill", "2025-01",
+               "--bill", "2025-02", "--certify", "-o", f"{tmp_path}/one/").status == 0
+    assert tables(tmp_path / "one") == tables(tmp_path / "all.sites" / "east")
 
 
 def test_a_run_that_was_cut_off_goes_on(folder, tmp_path, monkeypatch):
@@ -94,6 +118,9 @@ def test_wrong_use(run, tmp_path, listed):
     assert run("histories", tmp_path / "none", "-o", tmp_path / "all.csv").status == 1
     assert "one list and at least one export" in lines(tmp_path / "all.csv")[0]["fault"]
     assert "is a .csv file" in run("histories", tmp_path / "none", "-o", tmp_path / "all.xlsx").err
+    for words, told in ((("--bill", "July"), "2025-07 would do"), (("--zone", "Nowhere"), "no such time zone"), (("--every", "fortnight"), "1h, 15min")):
+        ended = run("histories", tmp_path / "none", *words, "-o", tmp_path / "wrong.csv")
+        assert ended.status == 1 and told in ended.err and not (tmp_path / "wrong.csv").exists()
 
 
 def _started(words, log):
@@ -116,7 +143,7 @@ def _killed_at_work(address, worker):
 
 def test_a_worker_that_is_killed_changes_no_table(run, folder, tmp_path):
     """A scheduler and two workers on loopback; one worker is killed while it works."""
-    pytest.importorskip("distributed")
+    pytest.importorskip("distributed", reason="no histories on a cluster are tested: there is no dask.distributed (apt-get install python3-distributed)")
     assert run("histories", folder, "-o", tmp_path / "here.csv", "--jobs", "1").status == 3
     log, started = open(tmp_path / "log", "w+"), []
     try:

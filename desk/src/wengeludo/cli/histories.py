@@ -11,13 +11,15 @@ from typing import Optional, Sequence
 import click
 
 from ..history import files
-from ..history.command import Options, history as history_of
+from ..history.command import OVERRIDES, Options, history as history_of
 from ..write import terminal
 from ..read.faults import Stopped
 from .options import FAILED, FILE, LIST, REFUSED, UNIT, said
 
 ZONE = click.option("--zone", help="The time zone of times without an offset, as Europe/Vienna; by default UTC.")
 EVERY = click.option("--every", help="Mean over intervals, as 1h or 15min: of the measured cells, a fault if fewer than half are.")
+CERTIFY = click.option("--certify", is_flag=True, help="Keep place numbers and check every sheet with them by the proved call.")
+BILL = click.option("--bill", "bills", multiple=True, help="The bill of a month, as 2025-07. May be given more than once.")
 
 
 @click.command()
@@ -34,8 +36,8 @@ EVERY = click.option("--every", help="Mean over intervals, as 1h or 15min: of th
 @click.option("--overrides", type=FILE, help="A table of cells to be taken as held or fault: stream, from, to, status, why.")
 @UNIT
 @click.option("--jobs", type=click.IntRange(1, 256), help="Threads; by default one for each core.")
-@click.option("--certify", is_flag=True, help="Keep place numbers and check every sheet with them by the proved call.")
-@click.option("--bill", "bills", multiple=True, help="The bill of a month, as 2025-07. May be given more than once.")
+@CERTIFY
+@BILL
 def history(list: Path, exports: Sequence[Path], outputs_: Sequence[str], zone: Optional[str], time_format: Optional[str], every: Optional[str],
             start: Optional[str], end: Optional[str], reference: Optional[str], overrides: Optional[Path], unit: Optional[Fraction],
             jobs: Optional[int], certify: bool, bills: Sequence[str]) -> int:
@@ -68,8 +70,11 @@ def history(list: Path, exports: Sequence[Path], outputs_: Sequence[str], zone: 
 @UNIT
 @click.option("--jobs", type=click.IntRange(1, 256), help="Processes at a time; by default one for each core.")
 @click.option("--cluster", help="Hands the sites to the workers of a dask.distributed scheduler, as tcp://host:8786. Whoever reaches its port runs code there.")
+@click.option("--overrides", is_flag=True, help=f"Take the cells of each site's own {OVERRIDES}, if its folder has one, as held or fault; else it is left alone.")
+@CERTIFY
+@BILL
 def histories(folder: Path, summary: Path, zone: Optional[str], every: Optional[str], reference: Optional[str], unit: Optional[Fraction],
-              jobs: Optional[int], cluster: Optional[str]) -> int:
+              jobs: Optional[int], cluster: Optional[str], overrides: bool, certify: bool, bills: Sequence[str]) -> int:
     """The history of every site of FOLDER: a folder for each, with its list and its exports. A run that was cut off goes on."""
     from rich.progress import BarColumn, MofNCompleteColumn, Progress, TextColumn, TimeRemainingColumn
 
@@ -78,7 +83,9 @@ def histories(folder: Path, summary: Path, zone: Optional[str], every: Optional[
     if summary.suffix.lower() != ".csv" or summary.is_dir():
         raise Stopped(f"{summary}: the summary is a .csv file")
     columns = (TextColumn("sites"), BarColumn(), MofNCompleteColumn(), TimeRemainingColumn())
-    runs = Runs(folder, summary, Options(zone=zone, every=every, reference=reference, unit=unit), jobs or os.cpu_count() or 1, cluster)
+    asked = Options(zone=zone, every=every, reference=reference, unit=unit, overrides=Path(OVERRIDES) if overrides else None, certify=certify, bills=tuple(bills))
+    asked.checked()
+    runs = Runs(folder, summary, asked, jobs or os.cpu_count() or 1, cluster)
     with Progress(*columns, console=terminal.console(error=True), transient=True, disable=not sys.stderr.isatty()) as progress:
         bar = progress.add_task("sites", total=None)
         lines, before = runs.run(lambda done, of: progress.update(bar, completed=done, total=of))

@@ -53,6 +53,11 @@ class Bill:
     def cents(self) -> int:
         return sum(charge.cents for charge in self.charges)
 
+    @property
+    def whose(self) -> str:
+        """Who has charged: the proved call, or the tool alone."""
+        return TOOL if self.why else PROVED
+
     @staticmethod
     def heads() -> Tuple[str, ...]:
         return ("month", "stream", "what", "cents", "of it in failing hours", "hours billed", "hours failing", "hours not billed", "hours without a row",
@@ -60,7 +65,7 @@ class Bill:
 
     def table(self) -> List[Sequence[Any]]:
         """A row for each charged stream, then the sum."""
-        hours, whose = (self.billed, self.failing, sum(self.refused.values()), self.missing), TOOL if self.why else PROVED
+        hours, whose = (self.billed, self.failing, sum(self.refused.values()), self.missing), self.whose
         rows = [(self.month, c.label, c.what, c.cents, c.failing, *hours, c.once, whose, "" if c.proved is None else c.proved) for c in self.charges]
         proved = "" if self.why else sum(c.proved or 0 for c in self.charges)
         total = (self.month, "all", "", self.cents, sum(c.failing for c in self.charges), *hours, sum(c.once for c in self.charges), whose, proved)

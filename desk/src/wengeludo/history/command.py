@@ -19,6 +19,9 @@ from .run import Wanted, balanced
 from .tags import tagged
 
 
+OVERRIDES = "overrides.csv"  # of a site's folder
+
+
 @dataclass(frozen=True)
 class Options:
     """What a history is asked for, as texts of the command line."""
@@ -35,6 +38,15 @@ class Options:
     certify: bool = False
     bills: Tuple[str, ...] = ()
     said: Asked = Asked()  # of the list and, by its decimal mark, of the exports
+
+    def checked(self) -> None:
+        """Stopped if a zone, a month, an interval or the reference is none."""
+        clock.zone_of(self.zone)
+        for month in self.bills:
+            month_of(month)
+        if self.every:
+            clock.every_of(self.every)
+        _span(self.reference, self.zone)
 
 
 def history(path: Path, exports: Sequence[Path], options: Options) -> Tuple[Analysis, List[Bill]]:

@@ -88,6 +88,11 @@ class Run:
         """The rows that have a verdict."""
         return (self.sheets.refusal == 0) & (self.sheets.verdict != engine.Verdict.NONE)
 
+    @property
+    def passed(self) -> int:
+        """How many sheets passed the proved check with their place numbers, if they were checked."""
+        return 0 if self.sheets.checked is None else int(((self.sheets.refusal == 0) & (self.sheets.checked == 0)).sum())
+
     def kg(self, amount: float) -> float:
         return float(amount) * float(self.unit)
 

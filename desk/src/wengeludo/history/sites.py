@@ -13,15 +13,15 @@ import json
 import os
 import tempfile
 from concurrent.futures import FIRST_COMPLETED, Future, ProcessPoolExecutor, wait
-from dataclasses import asdict, dataclass
+from dataclasses import asdict, dataclass, replace
 from pathlib import Path
 from typing import Any, Callable, Dict, Iterator, List, Optional, Sequence, Set, Tuple
 
 from ..read.faults import Stopped
 from ..read.grids import is_header
-from .command import Options, history
+from .command import OVERRIDES, Options, history
 
-HEAD = ("site", "rows", "tested", "fail", "findings", "events", "sheets", "first finding (estimate)", "fault")
+HEAD = ("site", "rows", "tested", "fail", "findings", "events", "sheets", "sheets that pass the check", "cents", "charged by", "first finding (estimate)", "fault")
 TABLES = (".csv", ".xlsx", ".xlsm")
 DONE = "done.json"
 AHEAD = 2  # tasks handed over beyond the workers that are free
@@ -81,8 +81,10 @@ def task(site: str, files: Files, options: Options) -> Outcome:
         home.mkdir()
         for name, data in files.items():
             (home / name).write_bytes(data)
-        lists = [name for name, data in files.items() if _is_list(name, data)]
-        exports = [home / name for name in files if name not in lists]
+        said = [name for name in files if name.casefold() == OVERRIDES]  # no export; taken only if that is asked for
+        lists = [name for name, data in files.items() if name not in said and _is_list(name, data)]
+        exports = [home / name for name in files if name not in lists + said]
+        options = replace(options, overrides=home / said[0] if options.overrides and said else None)
         try:
             if len(lists) != 1 or not exports:
                 raise Stopped(f"it has {len(lists)} lists (tables with from and to) and {len(exports)} other tables: one list and at least one export would do")
@@ -103,7 +105,9 @@ def _outcome(site: str, path: Path, exports: Sequence[Path], options: Options, o
     written.write(found, tables(found, bills), lambda: page(found, bills), wanted)
     first = sentence(found.run, found.findings[0], 3) if found.findings else ""
     counts = (len(found.run.times), int(found.run.tested.sum()), int(found.fails().sum()), len(found.findings), len(found.events))
-    return Outcome((site, *map(str, counts), found.run.kind.value, first, ""), {path.name: path.read_bytes() for path, _ in wanted})
+    passed = "" if found.run.sheets.checked is None else str(found.run.passed)
+    cents = (str(sum(one.cents for one in bills)), bills[0].whose) if bills else ("", "")
+    return Outcome((site, *map(str, counts), found.run.kind.value, passed, *cents, first, ""), {path.name: path.read_bytes() for path, _ in wanted})
 
 
 def executor(cluster: Optional[str], jobs: int) -> Any:
