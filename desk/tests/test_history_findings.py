@@ -81,6 +81,16 @@ def test_a_meter_that_would_tell_them_apart_does():
     assert not any(set(before) <= set(part) for part in together)
 
 
+def test_the_least_bias_of_a_meter_falls_with_how_far_it_is_checked():
+    """Four limits of a week: the meters that are checked have one, by the share of the others, and no other meter has."""
+    year, found = bad()
+    checked = {k: share for k, share in found.share.items() if share > 0.001}
+    least = {k: found.least_bias(k) for k in checked}
+    assert len(checked) > 5 and all(one > 0 for one in least.values())
+    worth = [least[k] ** 2 * checked[k] / found.run.deviations[k] ** 2 for k in checked]
+    assert max(worth) == pytest.approx(min(worth)) and found.least_bias(len(found.run.plant.streams)) is None
+
+
 def test_a_second_run_with_the_meter_as_fault_passes_again():
     year, found = bad()
     meter = found.findings[0]

@@ -6,6 +6,7 @@ import sys
 import time
 from dataclasses import replace
 from pathlib import Path
+from types import SimpleNamespace
 
 import pytest
 from conftest import SAMPLES
@@ -13,7 +14,9 @@ from conftest import SAMPLES
 from wengeludo.balance.site import read_site
 from wengeludo.keep.book import Book, Draft
 from wengeludo.keep.check import check
+from wengeludo.keep.month import _each_once
 from wengeludo.keep.record import FLOW, content_key, site_name
+from wengeludo.read.faults import Stopped
 from wengeludo.read.hours import hour_from, hour_within
 
 GERMAN = "Dampf; Stand 17.11.2026 14:00 Uhr\nStrom;von;nach;Messwert;Genauigkeit\nD1;outside;Kessel;100,5;2,5\nD2;Kessel;outside;103,0;2,5\nD3;Kessel;outside;Bad;2,5\n"
@@ -119,9 +122,17 @@ def test_the_bill_of_a_month(run, tmp_path):
     ended = run("book", "bill", book, "2026-11")
     assert ended.status == 0 and f"{2 * cents:,}" in ended.out and "2 of 720 hours billed" in ended.out and "2 annulled sheets do not count" in ended.out
     run("keep", SAMPLES / "steam_site.csv", book, "--at", "2026-11-17 15:00")
-    assert "2 sheets" in run("book", "bill", book, "2026-11").err
+    told = "2026-11-17T15 h has 2 sheets (sheet 6 of office 0, sheet 2 of office 0): `book annul` of all but one would do"
+    assert told in " ".join(run("book", "bill", book, "2026-11").err.split())
     for month in ("2026-13", "2026", "2020-01", "x"):
         assert run("book", "bill", book, month).status == 1
+
+
+def test_a_month_of_several_sites_names_the_first_five_in_their_order():
+    lines = [SimpleNamespace(site=name, hour="2026-11-17T14:00", title="") for name in "hgfedcba"]
+    with pytest.raises(Stopped) as stopped:
+        _each_once(lines)
+    assert str(stopped.value) == "the month has sheets of several sites (a, b, c, d, e): --find NAME would do"
 
 
 def test_failing_hours_are_billed_only_if_asked(run, tmp_path):

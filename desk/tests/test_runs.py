@@ -60,6 +60,7 @@ def test_the_chart_shows_each_cost_where_it_lies(run, folder, tmp_path):
     marks = [part for part in chart.iter() if part.tag in (f"{SVG}circle", f"{SVG}path")]
     known = [line for line in found if line["cost"]]
     assert [part.find(f"{SVG}title").text.split(":")[0] for part in marks] == [line["file"] for line in known]
+    assert not [part.tail for part in chart.iter() if (part.tail or "").strip()], "no text outside of a mark"
     ticks = [part for part in chart.iter(f"{SVG}rect") if part.get("height") == "6"]
     assert len(ticks) == len(found) - len(known)
     across = [float(part.get("cx")) for part in marks if part.tag == f"{SVG}circle"]

@@ -7,6 +7,7 @@ import threading
 import time
 import zipfile
 from html.parser import HTMLParser
+from pathlib import Path
 
 import openpyxl
 import pytest
@@ -72,6 +73,8 @@ def test_a_list_is_taken_shown_kept_and_found(desk):
     assert (answer.status_code, answer.headers["Location"]) == (303, "/list/1")
     page = desk.get("/list/1", **BASE).text
     assert "pass: the meters agree" in page and len(tables(page)) == 26 and "no number yet" in page
+    files = re.findall(r'<a href="([^"]+)" data-download>', page)
+    assert [name.split("?")[0] for name in files] == ["/list/1.xlsx", "/list/1.csv", "/list/1.html"] and {desk.get(name, **BASE).status_code for name in files} == {200}
     kept = keep(desk)
     assert (kept.status_code, kept.headers["Location"]) == (303, "/sheet/3-1?kept=now")
     shown = desk.get("/sheet/3-1?kept=now", **BASE).text
@@ -413,3 +416,21 @@ def test_checked_flows_say_so_and_have_a_number_of_their_own_kind(desk):
     assert "f1" in shown and "it passes" in shown and "checked by a proved call" in shown and "404.5" in shown
     assert desk.get("/sheet/3-1", **BASE).status_code == 404 and 'href="/sheet/3-f1"' in desk.get("/book", **BASE).text
     assert "the engine&#39;s own sheet" in desk.get(take(desk, "steam_site.csv").headers["Location"], **BASE).text
+
+
+def _said():
+    """The texts of the pages: templates and code of the served desk, and the words of sheets that it shows."""
+    home = Path(words.__file__).parent
+    parts = [*home.glob("*.py"), *home.glob("templates/*.html"), *home.glob("static/*.js"), *home.parent.glob("write/*.py"), *home.parent.glob("balance/*.py"),
+             *home.parent.glob("keep/*.py")]
+    return "\n".join(part.read_text() for part in parts if part.name != "words.py" or part.parent.name != "serve")
+
+
+def test_german_words_are_those_of_texts_that_are_said():
+    """Each English text of the table stands on a page or in the code; its German ends with the same mark and has the same places to fill."""
+    said = _said()
+    assert [text for text in words.GERMAN if text not in said] == []
+    for text, german in words.GERMAN.items():
+        marks = [re.search(r"[^\w)]*$", one)[0] for one in (text, german)]
+        assert marks[0] == marks[1] and re.findall(r"\{\w+\}", text) == re.findall(r"\{\w+\}", german), text
+        assert not re.search(r"[^\w\s.,:;?!()„“…–—σ{}'-]", german), german

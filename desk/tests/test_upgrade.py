@@ -64,7 +64,8 @@ def test_a_damaged_one_is_left_alone(column, value, tmp_path):
     book = old_book(old, 3)
     book.base.execute(f"UPDATE sheets SET {column} = ? WHERE office = 3 AND number = 4", (value,))
     before = old.read_bytes()
-    with pytest.raises(Stopped, match="nothing is upgraded"):
+    told = {"number": "sheet 99 of office 3 does not follow sheet 3", "numbers": "the upgraded book does not pass the check: sheet 4 of office 3: .+"}
+    with pytest.raises(Stopped, match=rf"^{told.get(column, 'sheet 4 of office 3 is damaged in the old book [(].+[)]')}: nothing is upgraded$"):
         upgrade(old, tmp_path / "new.book")
     assert sorted(p.name for p in tmp_path.iterdir()) == ["old.book"] and old.read_bytes() == before
 

@@ -7,12 +7,14 @@ short run that is meant for it.
     python3 host/check/mutants.py --long                by the long run's numbers of draws
     python3 host/check/mutants.py --only desk,rust      of some parts
     python3 host/check/mutants.py --list                prints them, and tries none
+    python3 host/check/mutants.py --only desk --map F   by the tests that run the changed line (host/check/seen.py), the map kept in F
 
 A comparison is turned, a number moved by one, a sign or a word exchanged, a line dropped, a text changed. A change that no compiler takes is
 no mutant, and another is drawn in its place. A survivor is printed with its file, line and change; --log FILE keeps all of them.
 """
 
 import argparse
+import ast
 import io
 import random
 import re
@@ -20,6 +22,7 @@ import sys
 import time
 import tokenize
 
+import seen
 from tried import ROOT, Tree
 
 # Part, how many of a hundred, and the files.
@@ -121,31 +124,54 @@ def stillborn(name, text, said):
     return bool(re.search(r'\berror(\[E\d+\])?: |static assertion failed|SyntaxError', said)) and 'limits:' not in said and 'expected:' not in said
 
 
+def statement(name, line):
+    """The lines of the statement that a line belongs to, a block's own lines left out."""
+    best = range(line, line + 1)
+    for node in ast.walk(ast.parse((ROOT / name).read_text(encoding='utf-8'))) if name.endswith('.py') else ():
+        end = node.body[0].lineno - 1 if isinstance(node, ast.stmt) and getattr(node, 'body', None) else getattr(node, 'end_lineno', 0)
+        if isinstance(node, ast.stmt) and node.lineno <= line <= end:
+            best = range(node.lineno, end + 1)
+    return best
+
+
+def tests(tree, known, part, name, line):
+    """The part with the tests that run a line, if there is a map; the copy waits for them no longer than they can take."""
+    found = seen.tests(known, name, statement(name, line)) if known and part == 'desk' else []
+    tree.seconds = 60 + 4 * seen.SECONDS if found else 900
+    return ' '.join((part, *found))
+
+
 def main():
     words = argparse.ArgumentParser(description=__doc__.split('\n\n')[0])
     words.add_argument('--seed', type=int, default=1)
     words.add_argument('--count', type=int, default=300)
+    words.add_argument('--skip', type=int, default=0, help='so many of the first are left out')
     words.add_argument('--only', default='')
     words.add_argument('--long', action='store_true')
     words.add_argument('--list', action='store_true')
     words.add_argument('--log', default='')
+    words.add_argument('--map', default='')
     asked = words.parse_args()
     only = set(filter(None, asked.only.split(',')))
     tree = None if asked.list else Tree(asked.long)
     if tree:
         tree.baseline([part for part, _, _ in AREAS if not only or part in only])
-    tally, tried, began = {}, 0, time.monotonic()
+    known = seen.made(tree, asked.map) if tree and asked.map else None
+    tally, tried, drawn, began = {}, 0, 0, time.monotonic()
     for part, name, line, what, new, text in mutants(asked.seed, asked.count, only):
         if tried == asked.count:
             break
         if name.endswith('.py') and stillborn(name, text, ''):
+            continue
+        drawn += 1
+        if drawn <= asked.skip:
             continue
         told = f'{part} {name}:{line}: {what!r} becomes {new!r}'
         if asked.list:
             print(told)
             tried += 1
             continue
-        killed, said = tree.changed(name, text, part)
+        killed, said = tree.changed(name, text, tests(tree, known, part, name, line))
         if killed and stillborn(name, text, said):
             continue
         tried += 1

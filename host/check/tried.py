@@ -34,7 +34,7 @@ class Tree:
     def __init__(self, long=False):
         self.folder = tempfile.TemporaryDirectory(prefix='wengeludo-tried-')
         self.path = Path(self.folder.name) / 'tree'
-        self.long, self.failing, self.passing = long, [], []
+        self.long, self.failing, self.passing, self.seconds = long, [], [], SECONDS
         listed = subprocess.run(['git', 'ls-files', '-z'], cwd=ROOT, capture_output=True, check=True).stdout.decode().split('\0')
         for name in listed:
             if name and (ROOT / name).is_file() and (not name.startswith('crates/') or name.startswith('crates/version/')):
@@ -50,16 +50,16 @@ class Tree:
         own |= {'PYTHONPATH': python, 'PYTHONDONTWRITEBYTECODE': '1', 'CARGO_TARGET_DIR': str(self.path / 'target/cargo'), 'CXX': 'g++'}
         return {**os.environ, **SHORT, **(LONG if self.long else {}), **own}
 
-    def run(self, words, where='.'):
+    def run(self, words, where='.', last=3000):
         """Whether a command ends well, and what it said last."""
         with subprocess.Popen(words, cwd=self.path / where, env=self.environment(), stdout=subprocess.PIPE, stderr=subprocess.STDOUT,
                               stdin=subprocess.DEVNULL, start_new_session=True) as ran:
             try:
-                said = ran.communicate(timeout=SECONDS)[0]
+                said = ran.communicate(timeout=self.seconds)[0]
             except subprocess.TimeoutExpired:
                 os.killpg(ran.pid, 9)
-                return False, f'no end after {SECONDS} seconds'
-        return ran.returncode == 0, said.decode(errors='replace')[-3000:]
+                return False, f'no end after {self.seconds} seconds'
+        return ran.returncode == 0, said.decode(errors='replace')[-last:]
 
     def binding(self):
         """Compiles the binding anew if its C, the header or what builds it has changed."""
@@ -122,7 +122,7 @@ class Tree:
 
     def sound(self, part, said):
         """Whether the test of pytest that failed passes in the tree as it is; one that does not is told and left out from then on."""
-        failed = re.search(r'^(?:FAILED|ERROR) (\S+)', said, re.M)
+        failed = re.search(r'^(?:FAILED|ERROR) ([^\s\[]+)', said, re.M)  # a name of a parameter may have blanks
         if part.split()[0] not in ('python', 'desk') or not failed or failed[1] in self.passing:
             return True
         good, _ = self.pytest('bindings/python' if part.startswith('python') else 'desk', [failed[1]])

@@ -1,0 +1,60 @@
+"""Which tests of the desk run a line: a map by Debian's python3-coverage, made once for a copy of the tree (host/check/tried.py).
+
+Used by host/check/mutants.py --map FILE, so that a change is tried by the tests that run its line, the quickest first. What another process runs
+is not seen: such a line is tried by the tests that run any line of its file.
+"""
+
+import json
+import re
+from pathlib import Path
+
+from tried import PYTHON
+
+PACKAGE = 'desk/src/wengeludo'
+SECONDS = 25  # tests that take longer together are cut off: that can only leave a change unseen
+SETTINGS = '[run]\ndynamic_context = test_function\nsource = {source}\ndata_file = {data}\n'
+LISTED = """
+import coverage, json
+data = coverage.CoverageData({data!r})
+data.read()
+print(json.dumps({{name: data.contexts_by_lineno(name) for name in data.measured_files()}}))
+"""
+
+
+def made(tree, path):
+    """The map, read from a file, or made by running the desk's tests in a copy of the tree and written there."""
+    if not Path(path).exists():
+        settings, data = tree.path / 'seen.rc', str(tree.path / 'seen.data')
+        settings.write_text(SETTINGS.format(source=tree.path / PACKAGE, data=data))
+        tree.binding()
+        words = [PYTHON, '-m', 'coverage', 'run', f'--rcfile={settings}', '-m', 'pytest', '-q', '-p', 'no:cacheprovider', '--durations=0', '--durations-min=0']
+        said = tree.run([*words, *tree.desk_files('')], 'desk', last=1_000_000)[1]
+        lines = json.loads(tree.run([PYTHON, '-c', LISTED.format(data=data)], last=100_000_000)[1])
+        Path(path).write_text(json.dumps(told(lines, said)))
+    return json.loads(Path(path).read_text())
+
+
+def told(lines, said):
+    """The tests of each line of each file, the quickest first, and the seconds that each takes."""
+    seconds = {}
+    for spent, name in re.findall(r'^([\d.]+)s (?:call|setup|teardown) +(tests/\w+\.py::\w+)', said, re.M):
+        seconds[name] = seconds.get(name, 0) + float(spent)
+    known = {f'{Path(name).stem.split(".py")[0]}.{name.split("::")[1]}': name for name in seconds}
+    files = {}
+    for path, found in lines.items():
+        name = f'{PACKAGE}/{path.split(PACKAGE + "/")[1]}'
+        files[name] = {line: sorted({known[one] for one in tests if one in known}, key=seconds.get) for line, tests in found.items()}
+    return {'seconds': seconds, 'files': files}
+
+
+def tests(seen, name, lines):
+    """The tests that run some lines of a file; those that run any of its lines if these belong to its import or to another process."""
+    found = seen['files'].get(name, {})
+    own = {one for line in lines for one in found.get(str(line), ())}
+    every = sorted(own or {one for some in found.values() for one in some}, key=seen['seconds'].get)
+    taken, spent = [], 0.0
+    for one in every:
+        spent += seen['seconds'][one]
+        if spent <= SECONDS or not taken:
+            taken.append(one)
+    return taken
