@@ -178,10 +178,13 @@ elif part "the fuzz target, ${FUZZ_SECONDS:-60} seconds" clang objdump nm; then
     bash host/fuzz/build.sh
     quietly target/host/fuzz/log '^(Done|fuzz target:)' bash host/fuzz/run.sh "${FUZZ_SECONDS:-60}"
 fi
-if long && part "the files of a release" python3; then
+if long && part "the files of a release" python3 dpkg-deb dpkg-shlibdeps; then
     rm -rf target/release
     WENGELUDO_CHANGED=1 bash host/release/make.sh target/release | tail -1
     (cd target/release && sha256sum -c --quiet SHA256SUMS)
+fi
+if long && part "the Debian packages" dpkg-deb dpkg-shlibdeps lintian fakeroot pkg-config "$compiler"; then
+    bash host/debian/test.sh
 fi
 if long && part "every command of the texts" python3; then
     python3 host/check/commands.py

@@ -4,7 +4,7 @@
 #     bash host/release/make.sh OUT
 #
 # In OUT: the source, the archives for x86-64, AArch64 and RISC-V, the WebAssembly with its JavaScript, the Python source package, the
-# headers, a bill of materials (SPDX), and SHA256SUMS over all of them. Nothing is uploaded and no tag is set: docs/RELEASING.md.
+# Debian packages, the headers, a bill of materials (SPDX), and SHA256SUMS over all of them. Nothing is uploaded, no tag is set: RELEASING.md.
 #
 # WENGELUDO_CHANGED=1   takes a tree with changes, to try this script
 set -euo pipefail
@@ -38,6 +38,7 @@ tar -C "$work" --sort=name --mtime="@$stamp" --owner=0 --group=0 --numeric-owner
 cp -r bindings/python "$work/python"
 (cd "$work/python" && WENGELUDO_INCLUDE=$OLDPWD/host/include WENGELUDO_ARCHIVE=$OLDPWD/target/staticlib/liblinked.a SOURCE_DATE_EPOCH=$stamp \
     /usr/bin/python3 setup.py -q sdist -d "$parts" >/dev/null 2>"$work/log") || { cat "$work/log" >&2; fail "no Python source package"; }
+WENGELUDO_WASM=$work/js/wengeludo.wasm bash host/debian/build.sh "$parts" >/dev/null
 python3 host/release/sbom.py "$parts" >"$work/sbom.spdx.json"
 mv "$work/sbom.spdx.json" "$parts/"
 (cd "$parts" && sha256sum -- * >"$work/SHA256SUMS" && mv "$work/SHA256SUMS" .)

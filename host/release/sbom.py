@@ -52,11 +52,11 @@ def part(folder, name):
 
 def needed(name):
     """What a file of the release needs of others when it runs."""
-    if name.endswith('.a'):
+    if name.endswith('.a') or name.startswith('libwengeludo1_'):
         return ['libc']
-    if name.startswith('wengeludo_balance-'):
+    if name.startswith(('wengeludo_balance-', 'python3-wengeludo_')):
         return needs('bindings/python/pyproject.toml')
-    if name == f'wengeludo-{version()}.tar.gz':
+    if name == f'wengeludo-{version()}.tar.gz' or name.endswith('_all.deb'):
         return sorted({*needs('desk/pyproject.toml'), 'graphviz', 'libc'} - {'wengeludo_balance'})
     return []
 
