@@ -37,8 +37,9 @@ INCLUDE = first("WENGELUDO_INCLUDE", ROOT / "host" / "include", installed("inclu
 ARCHIVE = first("WENGELUDO_ARCHIVE", ROOT / "target" / "staticlib" / "liblinked.a", installed("libdir") / "libwengeludo.a")
 HEADER = INCLUDE / "wengeludo_balance.h"
 NATIVE = HERE / "native"  # C of this package's own, over the archive's calls
-HEADERS = (HEADER, NATIVE / "rows.h", NATIVE / "wide_solve.h")
-SOURCES = tuple(NATIVE / name for name in ("rows.c", "wide_checked.c", "wide_solve.c"))
+FAULT = NATIVE / "wengeludo_fault.h"  # it and fault.c are those of host/companion, byte for byte: a test compares them
+HEADERS = (HEADER, FAULT, NATIVE / "rows.h", NATIVE / "wide_solve.h")
+SOURCES = tuple(NATIVE / name for name in ("fault.c", "rows.c", "wide_checked.c", "wide_solve.c"))
 
 
 def declarations(header: str) -> str:
@@ -64,7 +65,8 @@ for needed, how in ((HEADER, "it belongs to this repository, or install.sh puts 
 
 ffi = FFI()
 ffi.cdef(declarations(HEADER.read_text(encoding="utf-8")))
-for header in HEADERS[1:]:
+ffi.cdef(declarations(FAULT.read_text(encoding="utf-8")))
+for header in HEADERS[2:]:
     ffi.cdef(own(header.read_text(encoding="utf-8")))
 ffi.set_source(
     "wengeludo_balance._native",

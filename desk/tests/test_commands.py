@@ -146,6 +146,22 @@ def test_damaged_plant(run, listed):
     assert "(17)" in run("unpack", listed(b"\x01\x01\x21\x00\x01" + bytes(12) + b"\x04\x01", "sent.bin"), "x.csv").err
 
 
+@pytest.mark.parametrize("file, number, place", [
+    ("", 3, "byte 0, counted from 0"), ("0201", 4, "byte 0, counted from 0"), ("0101 070001", 4, "byte 2, counted from 0, in stream 1"),
+    ("0101" + "030001" * 97 + "0461", 5, "byte 290, counted from 0, in stream 97"), ("0100 0400", 6, "byte 1, counted from 0"),
+    ("0101 030002 0401", 7, "byte 4, counted from 0, in stream 1"), ("0101 030001 030101 0402", 8, "byte 7, counted from 0, in stream 2"),
+    ("0101 020001 03E9 00000000 0401", 9, "byte 5, counted from 0, in stream 1"), ("0101 020001 0001 003D0901 0401", 10, "byte 7, counted from 0, in stream 1"),
+    ("0101 0401", 11, "byte 3, counted from 0"), ("0101 0400 00", 12, "byte 4, counted from 0"),
+    ("0101 060001 0001 00000000 00000005 00000004 0401", 18, "byte 15, counted from 0, in stream 1"),
+    ("0101 210001 7fc00000 4024000000000000 0401", 16, "byte 5, counted from 0, in stream 1"),
+    ("0101 230001 220001 00000000 0000000000000000 0402", 17, "byte 12, counted from 0, in stream 2"),
+    ("0101 210001 00000000 4050000000000000 0401", 9, "byte 9, counted from 0, in stream 1"),
+])
+def test_where_a_plant_file_is_refused(run, listed, file, number, place):
+    told = run("unpack", listed(bytes.fromhex(file), "plant.bin"), "x.csv")
+    assert told.status == 1 and told.err.rstrip().endswith(f"({number}) at {place}")
+
+
 def test_plant_files_are_lists_too(run):
     assert run("sheet", ENGINE_SAMPLES / "steam_site.bin").status == 0
 
@@ -198,7 +214,7 @@ class TestCheck:
 
     def test_refusals_first(self, run, files):
         assert "(13)" in self.told(run, files(sheet=b""))
-        assert "(3)" in self.told(run, files(plant=b""))
+        assert "(3) at byte 0, counted from 0" in self.told(run, files(plant=b""))
         overfull = (ENGINE_SAMPLES / "overfull_site.bin").read_bytes()
         assert "the plant has no sheet" in self.told(run, files(plant=overfull, numbers=[0] * 6))
 

@@ -17,9 +17,11 @@ from .meters import Bill, Purchase, Visit, charges, layouts_of, meters_to_buy, v
 from .plant import (
     FILE_SIZE,
     WIDEST,
+    Fault,
     Plant,
     Signal,
     Stream,
+    fault_at,
     from_ranged,
     plant_from_transmitter,
     read_plant,
@@ -61,10 +63,10 @@ from .wide import (
 )
 
 __all__ = [
-    "ADJUSTED", "AS_READ", "Bill", "Drawn", "FAULT", "FILE_SIZE", "GIVEN", "HELD", "Kind", "MAX_STREAMS", "MEASURED", "NO_SHEETS",
+    "ADJUSTED", "AS_READ", "Bill", "Drawn", "FAULT", "FILE_SIZE", "Fault", "GIVEN", "HELD", "Kind", "MAX_STREAMS", "MEASURED", "NO_SHEETS",
     "NotCertified", "OFFICES", "Plant", "Purchase", "Record", "Refusal", "Rows", "SHEET_SIZE", "Sheet", "Signal", "Stream", "TEXTS",
     "Verdict", "Visit", "WIDEST", "WIDE_FLOW", "WIDE_NUMBER", "WIDE_READING", "WIDE_WEIGHT", "WITHHELD", "WideFlow", "WidePlant",
-    "WideRows", "__version__", "balance", "balance_plant", "charges", "check_flow", "check_sheet", "deviation_for", "from_ranged", "layouts_of",
-    "meters_to_buy", "overfull", "place_numbers", "plant_from_transmitter", "read_plant", "read_sheet", "rows", "to_ranged",
+    "WideRows", "__version__", "balance", "balance_plant", "charges", "check_flow", "check_sheet", "deviation_for", "fault_at", "from_ranged",
+    "layouts_of", "meters_to_buy", "overfull", "place_numbers", "plant_from_transmitter", "read_plant", "read_sheet", "rows", "to_ranged",
     "transmitter_file", "version", "visits", "wide_rows", "wide_solve", "write_plant",
 ]

@@ -67,6 +67,26 @@ class Signal:
     held: bool = False
 
 
+@dataclass(frozen=True)
+class Fault:
+    """The first fault of a file: the refusal's number, the byte, counted from 0, and the stream, counted from 1; 0 if it is in none."""
+
+    number: int
+    byte: int
+    stream: int
+
+    def __str__(self) -> str:
+        return f"byte {self.byte}, counted from 0" + (f", in stream {self.stream}" if self.stream else "")
+
+
+def fault_at(file: bytes, transmitter: bool = False) -> Optional[Fault]:
+    """Where a plant file, or a transmitter file, is refused; None if it is taken. Host code beside the proved calls, as in C."""
+    call = lib.wengeludo_transmitter_fault_at if transmitter else lib.wengeludo_plant_fault_at
+    byte, stream = ffi.new("size_t *"), ffi.new("size_t *")
+    number = call(*given(file), byte, stream)
+    return Fault(number, byte[0], stream[0]) if number else None
+
+
 def write_plant(units: int, streams: Sequence[Stream]) -> bytes:
     """The plant file of a plant's parts. Refused: 6, 5, then stream after stream 7 to 10, 18.
 

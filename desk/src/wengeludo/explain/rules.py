@@ -8,6 +8,7 @@ import wengeludo_balance as engine
 from wengeludo_balance import Kind
 
 from ..balance.graph import across, reach
+from ..read.plant_files import refused
 
 LIMIT = 10**18
 
@@ -19,7 +20,7 @@ def check(plant: bytes, sheet: bytes, numbers: Sequence[int]) -> Optional[str]:
         return None
     except engine.Refusal as refusal:
         if refusal.number != 26:
-            return f"{refusal.text} ({refusal.number})"
+            return refused(refusal, plant)
     return f"{_first(engine.read_plant(plant), plant, engine.read_sheet(sheet), numbers)} (26)"
 
 

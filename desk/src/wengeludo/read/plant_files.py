@@ -29,10 +29,15 @@ def unpacked(path: Path, unit: Fraction = Fraction(1)) -> Tuple[PipeList, engine
     try:
         plant = engine.read_plant(engine.plant_from_transmitter(file))
     except engine.Refusal as refusal:
-        if file[2:3] and file[2] in (0x21, 0x22, 0x23):
-            first = refusal
-        raise Stopped(f"{path}: {first.text} ({first.number})") from None
+        sent = file[2:3] in (b"\x21", b"\x22", b"\x23")
+        raise Stopped(f"{path}: {refused(refusal if sent else first, file, sent)}") from None
     return _list(name, plant, unit), plant
+
+
+def refused(refusal: engine.Refusal, file: bytes, sent: bool = False) -> str:
+    """Why a plant file, or a transmitter file, is refused, and at which byte of which stream."""
+    fault = engine.fault_at(file, sent)
+    return f"{refusal.text} ({refusal.number})" + (f" at {fault}" if fault and fault.number == refusal.number else "")
 
 
 def beside(path: Path) -> Path:
