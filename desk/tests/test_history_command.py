@@ -19,6 +19,7 @@ import simulator as sim
 import wengeludo_balance as engine
 from wengeludo.history.analysis import analysed
 from wengeludo.history.page import page
+from wengeludo.keep.book import Book
 from wengeludo_balance import FAULT, HELD
 
 CHROMIUM = shutil.which(os.environ.get("CHROMIUM", "chromium"))
@@ -229,6 +230,38 @@ def test_a_bill_needs_hours_and_rates(run, year, tmp_path):
     assert "nothing to bill" in run("history", billed_list(year, tmp_path / "none.csv", {}), year.spring, "--bill", "2025-01").err
     ended = run("history", billed_list(year, tmp_path / "one.csv", {"20": "5", "21": ""}), year.spring, "--bill", "2025-01")
     assert ended.status == 1 and ended.err.count("needs a rate") == 1 and "column rate, stream 21" in ended.err
+
+
+@pytest.mark.parametrize("words", [("--unit", "1"), ()], ids=["engine", "checked"])
+def test_the_hours_are_kept_in_a_book_each_once(run, year, tmp_path, words):
+    """Rows with a fault and a held cell among them; a second run, and one that goes further, keep what is not there."""
+    book, span = tmp_path / "sheets.book", ("--zone", "Europe/Vienna", "--from", "2025-09-22T20:00")
+    first = run("history", year.list, year.export, *span, "--to", "2025-09-23T08:00", *words, "--book", book, "--office", "3", "-o", tmp_path / "run.npz")
+    assert "12 sheets kept: office 3 of" in first.out
+    further = run("history", year.list, year.export, *span, "--to", "2025-09-23T12:00", *words, "--book", book, "--office", "3", "-o", tmp_path / "run.npz")
+    assert "4 sheets kept, 12 were there before: office 3 of" in further.out
+    kept = np.load(tmp_path / "run.npz")
+    assert (kept["status"] == HELD).any() and run("book", "check", book).status == 0
+    unit = Fraction(str(kept["unit"]))
+    with Book(book) as opened:
+        sheets = list(opened.sheets())
+        assert [one.hour for one in sheets] == [f"2025-09-{22 + (20 + k) // 24}T{(20 + k) % 24:02d}:00+02:00" for k in range(16)] and {one.office for one in sheets} == {3}
+        for row, one in enumerate(sheets):
+            drawn = one.balance()
+            assert not opened.faults(one) and drawn.kind.value == str(kept["sheet"]) and drawn.verdict == kept["verdict"][row]
+            typed = [None if s == FAULT else r for s, r in zip(kept["status"][row], year.truth.readings[6354 + row])]
+            assert [line.pipe.reading for line in drawn.lines] == typed
+            off = [abs((record.flow or 0) * drawn.site.unit - int(flow) * unit) for record, flow in zip(drawn.sheet.records, kept["flows"][row])]
+            assert max(off) == 0 if str(kept["sheet"]) == "engine" or not (kept["status"][row] == HELD).any() else max(off) <= unit
+
+
+def test_what_is_kept_of_means_says_so_and_a_faulty_run_makes_no_book(run, year, tmp_path):
+    book = tmp_path / "sheets.book"
+    assert run("history", year.list, year.spring, "--zone", "Nowhere", "--book", book).status == 1 and not book.exists()
+    assert "that is what is read" in run("history", year.list, year.spring, "--book", tmp_path / "rows.csv", "-o", tmp_path / "rows.csv").err
+    assert "12 sheets kept" in run("history", year.list, year.spring, "--every", "2h", "--to", "2025-01-02", "--book", book).out
+    with Book(book) as opened:
+        assert {one.note for one in opened.sheets()} == {"the readings are means over 2h"}
 
 
 def wild(made, rows, step=3600, seed=1):

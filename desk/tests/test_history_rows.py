@@ -10,10 +10,13 @@ import simulator as sim
 import wengeludo_balance as engine
 from wengeludo.balance import unit as units, wide
 from wengeludo.balance.exact import Exact, Exacts, exacts_of
+from wengeludo.balance.sheet import balance
 from wengeludo.balance.site import site_of
-from wengeludo.history import run as runs
+from wengeludo.history import kept, run as runs
 from wengeludo.history.analysis import analysed
 from wengeludo.history.estimates import Standardized, checks, sets_of
+from wengeludo.history.tables import LETTERS
+from wengeludo.read.numbers import Accuracy, exact
 from wengeludo_balance import FAULT, HELD, MEASURED, Verdict
 
 
@@ -148,6 +151,44 @@ def test_a_row_of_checked_flows_is_the_sheet_of_that_hour(name, tmp_path):
             assert abs(int(run.sheets.flows[hour, k]) * run.unit - one.flows[k] * one.unit) <= within
         same += one.unit == run.unit and one.factor == checked_factor(run)
     assert same or not run.exact
+
+
+def scaled(made, times):
+    """A site with all its readings and accuracies so many times as large."""
+    pipes = tuple(replace(p, reading=p.reading * times, accuracy=Accuracy(p.accuracy.deviation * times), stated=f"{p.accuracy.deviation * times:.9g}") if p.accuracy else p
+                  for p in made.tagged.list.pipes)
+    return sim.of_list(replace(made.tagged.list, pipes=pipes))
+
+
+@pytest.mark.parametrize("name, times, step, unit", [
+    ("steam_site", 1, 1, None), ("steam_site", 1, 1, Fraction(1)), ("steam_site", 20, 20, Fraction(20)), ("steam_site", 0.1, 0.1, Fraction(1, 10)),
+    ("steam_site", 1, 0.1, None), ("rated_site", 1, 0.1, None), ("two_percent", 1, 0.1, None), ("two_percent", 50, 0.1, None), ("two_percent", 0.01, 0.1, None)])
+def test_a_row_is_the_sheet_that_the_desk_shows_of_that_hour(name, times, step, unit):
+    """By `balance` of the hour's own list: verdict, classes and cost; the same flows in the same unit, within it in another. A run of checked flows
+    may have hours whose own sheet by the engine stands: these are within a tenth of a deviation."""
+    made = scaled(sim.site(name), times)
+    readings, status = sim.read_by(made, np.tile(made.flow, (16, 1)), np.random.default_rng(6), more=1.3), sim.all_measured(made, 16)
+    readings = np.round(np.round(readings / step) * step, 1)
+    status[3, made.metered[2]] = status[5, made.metered[0]] = FAULT
+    status[7, made.metered[1]] = HELD if unit or step < 1 else MEASURED  # a quarter of a weight, rounded down, would not stand
+    run = sim.run_of(made, readings, status, unit=unit, typed=True)
+    assert run.exact == (unit is None and step < 1) and (unit is None or run.unit == unit)
+    same = 0
+    for hour in range(16):
+        listed = kept.hour_list(run, hour)
+        shown = balance(site_of(listed, None if run.exact else run.unit), estimated=False)
+        assert [pipe.reading for pipe in listed.pipes] == [None if run.status[hour, k] == FAULT else readings[hour, k] for k in range(len(listed.pipes))]
+        assert (run.sheets.verdict[hour], run.sheets.degrees[hour]) == (shown.verdict, shown.degrees)
+        assert [LETTERS[kind] for kind in run.sheets.kinds[hour].tolist()] == [line.kind.value for line in shown.lines]
+        off = [abs(int(flow) * run.unit - (record.flow or 0) * shown.site.unit) for flow, record in zip(run.sheets.flows[hour], shown.sheet.records)]
+        if shown.kind is not run.kind:
+            assert run.exact and all(o <= 0.1 * p.accuracy.deviation for o, p in zip(off, listed.pipes) if p.accuracy)
+            continue
+        alike = not run.exact or (shown.site.unit, shown.checked.factor) == (run.unit, run.factor)
+        assert run.sheets.cost[hour] / 1000 == pytest.approx(shown.cost, abs=0.02 if run.exact else 1e-9)
+        assert max(off) == 0 if alike else all(o <= max(run.unit, shown.site.unit) for o, p in zip(off, listed.pipes) if p.accuracy)
+        same += alike
+    assert same >= 8
 
 
 def checked_factor(run):

@@ -64,16 +64,22 @@ def _solved(listed: Exacts, unit: Fraction) -> Checked:
     """The flows in a unit."""
     smallest = _smallest(listed, counting=True)
     for top in TOPS:
-        factor = top * smallest / (unit * unit)
-        plant = wide_plant(listed, unit, factor)
-        try:
-            found = engine.wide_solve(plant)
-        except engine.NotCertified:
-            continue
-        except engine.Refusal as refusal:
-            raise _refused(listed, unit, refusal) from None
-        return _passed(Checked(listed, unit, factor, plant, found.flows, found.numbers))
+        found = solved_by(listed, unit, top * smallest / (unit * unit))
+        if found is not None:
+            return found
     raise NotJudged("no flows were found that pass the proved check")
+
+
+def solved_by(listed: Exacts, unit: Fraction, factor: Fraction) -> Optional[Checked]:
+    """The flows in a unit with the weights of a factor; none if numbers of places are too large for these."""
+    plant = wide_plant(listed, unit, factor)
+    try:
+        found = engine.wide_solve(plant)
+    except engine.NotCertified:
+        return None
+    except engine.Refusal as refusal:
+        raise _refused(listed, unit, refusal) from None
+    return _passed(Checked(listed, unit, factor, plant, found.flows, found.numbers))
 
 
 def _passed(checked: Checked) -> Checked:

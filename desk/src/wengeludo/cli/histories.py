@@ -3,18 +3,25 @@
 from __future__ import annotations
 
 import os
-import sys
+from contextlib import nullcontext
 from fractions import Fraction
 from pathlib import Path
-from typing import Optional, Sequence
+from typing import Optional, Sequence, Tuple
 
 import click
 
 from ..history import files
+from ..history.analysis import Analysis
+from ..history.bill import Bill
 from ..history.command import OVERRIDES, Options, history as history_of
-from ..write import terminal
+from ..history.kept import Source, keep
+from ..keep.book import Book
+from ..keep.store import is_server
 from ..read.faults import Stopped
-from .options import FAILED, FILE, LIST, REFUSED, UNIT, said
+from ..write import terminal
+from .books import progress
+from .named import BookType
+from .options import FAILED, FILE, LIST, OFFICE, REFUSED, UNIT, said
 
 ZONE = click.option("--zone", help="The time zone of times without an offset, as Europe/Vienna; by default UTC.")
 EVERY = click.option("--every", help="Mean over intervals, as 1h or 15min: of the measured cells, a fault if fewer than half are.")
@@ -38,17 +45,31 @@ BILL = click.option("--bill", "bills", multiple=True, help="The bill of a month,
 @click.option("--jobs", type=click.IntRange(1, 256), help="Threads; by default one for each core.")
 @CERTIFY
 @BILL
+@click.option("--book", type=BookType(), help="Keep the sheet of every row in this book, each once: a run that was cut off goes on where it stopped.")
+@OFFICE
 def history(list: Path, exports: Sequence[Path], outputs_: Sequence[str], zone: Optional[str], time_format: Optional[str], every: Optional[str],
             start: Optional[str], end: Optional[str], reference: Optional[str], overrides: Optional[Path], unit: Optional[Fraction],
-            jobs: Optional[int], certify: bool, bills: Sequence[str]) -> int:
+            jobs: Optional[int], certify: bool, bills: Sequence[str], book: Optional[str], office: int) -> int:
     """The sheets of every row of EXPORTS of a historian, and what they say together: which meter drifts, what leaks, what happened.
 
     LIST has a column tag: the column of the export with the pipe's meter; a column factor has kg/h in one unit of the tag.
     """
-    read = [list, *exports, *([overrides] if overrides else [])]
+    read = [list, *exports, *([overrides] if overrides else []), *([Path(book)] if book and not is_server(book) else [])]
     wanted = files.wanted([Path(text) for text in outputs_], outputs_, read, bool(bills))
-    options = Options(zone, time_format, every, start, end, reference, overrides, unit, jobs or os.cpu_count() or 1, certify, tuple(bills), said())
+    options = Options(zone, time_format, every, start, end, reference, overrides, unit, jobs or os.cpu_count() or 1, certify, tuple(bills), book is not None, said())
     found, billed = history_of(list, exports, options)
+    with nullcontext() if book is None else Book(book, make=not is_server(book)) as opened:
+        _told(found, billed, wanted)
+        if opened is not None:
+            note = f"the readings are means over {every}" if every else ""
+            with progress("sheets") as told:
+                kept = keep(found.run, opened, Source(office, list, note), told)
+            terminal.lines([f"{kept}: office {office} of {opened.title}"])
+    return FAILED if found.findings else 0
+
+
+def _told(found: Analysis, billed: Sequence[Bill], wanted: Sequence[Tuple[Path, str]]) -> None:
+    """Writes what is wanted of a run, and tells what it says."""
     from ..history.page import page  # the page's renderer is slow to load
     from ..history.tables import tables
     from ..history.texts import lines
@@ -57,7 +78,6 @@ def history(list: Path, exports: Sequence[Path], outputs_: Sequence[str], zone: 
     terminal.lines(lines(found, billed))
     if wanted:
         terminal.lines([f"Written: {', '.join(str(path) for path, _ in wanted)}"])
-    return FAILED if found.findings else 0
 
 
 @click.command()
@@ -76,19 +96,15 @@ def history(list: Path, exports: Sequence[Path], outputs_: Sequence[str], zone: 
 def histories(folder: Path, summary: Path, zone: Optional[str], every: Optional[str], reference: Optional[str], unit: Optional[Fraction],
               jobs: Optional[int], cluster: Optional[str], overrides: bool, certify: bool, bills: Sequence[str]) -> int:
     """The history of every site of FOLDER: a folder for each, with its list and its exports. A run that was cut off goes on."""
-    from rich.progress import BarColumn, MofNCompleteColumn, Progress, TextColumn, TimeRemainingColumn
-
     from ..history.sites import Runs
 
     if summary.suffix.lower() != ".csv" or summary.is_dir():
         raise Stopped(f"{summary}: the summary is a .csv file")
-    columns = (TextColumn("sites"), BarColumn(), MofNCompleteColumn(), TimeRemainingColumn())
     asked = Options(zone=zone, every=every, reference=reference, unit=unit, overrides=Path(OVERRIDES) if overrides else None, certify=certify, bills=tuple(bills))
     asked.checked()
     runs = Runs(folder, summary, asked, jobs or os.cpu_count() or 1, cluster)
-    with Progress(*columns, console=terminal.console(error=True), transient=True, disable=not sys.stderr.isatty()) as progress:
-        bar = progress.add_task("sites", total=None)
-        lines, before = runs.run(lambda done, of: progress.update(bar, completed=done, total=of))
+    with progress("sites") as told:
+        lines, before = runs.run(told)
     found, faulty = sum(line[4] not in ("", "0") for line in lines), [line[0] for line in lines if line[-1]]
     known = f", {before:,} of them from before" if before else ""
     terminal.lines([f"{len(lines):,} sites{known}: {found:,} with findings, {len(faulty):,} with faults{': ' + ', '.join(faulty[:5]) if faulty else ''}; {summary}"])

@@ -37,6 +37,7 @@ class Options:
     threads: int = 1
     certify: bool = False
     bills: Tuple[str, ...] = ()
+    typed: bool = False  # the numbers as the export shows them are wanted too
     said: Asked = Asked()  # of the list and, by its decimal mark, of the exports
 
     def checked(self) -> None:
@@ -62,7 +63,7 @@ def history(path: Path, exports: Sequence[Path], options: Options) -> Tuple[Anal
     overrides = read_overrides(options.overrides, listed, zone) if options.overrides else []
     export = read_exports(exports, [tag.name for tag in listed.tags], how)
     export.notes += apply(export, overrides)
-    run = balanced(listed, export, path, zone, Wanted(options.unit, options.threads, options.certify, bool(months)))
+    run = balanced(listed, export, path, zone, Wanted(options.unit, options.threads, options.certify, bool(months), options.typed))
     return analysed(run, reference), [bill(run, month) for month in months]
 
 

@@ -23,7 +23,7 @@ from ..read.lists import Pipe, PipeList
 from ..read.numbers import exact
 from . import checked_rows, clock
 from .export import Export
-from .tags import Tagged
+from .tags import Tag, Tagged
 
 LIMITS = (0.0, *(value / 1000 for value in CRITICAL))
 CHUNK = 32_768  # rows that are balanced at a time
@@ -52,6 +52,9 @@ class Run:
     kind: SheetKind = SheetKind.ENGINE
     variances: Any = None  # in units squared, of a measured and of a held cell of each stream
     still: Dict[int, List[Tuple[int, int, float]]] = field(default_factory=dict)  # of a stream: rows from, to and kg/h of one typed value
+    tags: Tuple[Tag, ...] = ()
+    typed: Any = None  # what the export shows of each tag, if that is wanted
+    factor: Fraction = Fraction(1)  # of the weights of checked flows
 
     @property
     def metered(self) -> Any:
@@ -205,12 +208,13 @@ def standing(values: Any, status: Any, factor: Fraction) -> List[Tuple[int, int,
 
 @dataclass(frozen=True)
 class Wanted:
-    """What a run is to have: a unit, threads, place numbers with the check, charges."""
+    """What a run is to have: a unit, threads, place numbers with the check, charges, the numbers as the export shows them."""
 
     unit: Optional[Fraction] = None
     threads: int = 1
     check: bool = False
     charges: bool = False
+    typed: bool = False
 
 
 def balanced(listed: Tagged, export: Export, path: Path, zone: Optional[ZoneInfo], asked: Wanted) -> Run:
@@ -221,19 +225,20 @@ def balanced(listed: Tagged, export: Export, path: Path, zone: Optional[ZoneInfo
     pipes = run_pipes(listed, export, path)
     deviations = np.array([pipe.accuracy.deviation if pipe.accuracy else 0.0 for pipe in pipes])
     still = {tag.index: standing(export.values[:, j], export.status[:, j], tag.factor) for j, tag in enumerate(listed.tags)}
+    typed = export.values if asked.typed else None
     own = asked.unit is not None or any(pipe.accuracy and pipe.accuracy.weight is not None for pipe in pipes)
     made = _by_engine(listed, export, path, pipes, asked) if own else None
     if made is None:
         made = _that_stand(listed, export, path, pipes, asked)
-    plant, unit, readings, status, sheets, kind, variances, notes = made
+    plant, unit, readings, status, sheets, kind, variances, notes, factor = made
     times, words = export.times, export.words
     export.values = export.status = None
     outgoing = tuple(k for k, pipe in enumerate(pipes) if pipe.target == 0)
     return Run(replace(listed.list, pipes=tuple(pipes)), unit, plant, deviations, times, readings, status, sheets, zone, clock.strided(times),
-               export.notes + notes, words, outgoing, kind, variances, still)
+               export.notes + notes, words, outgoing, kind, variances, still, listed.tags, typed, factor)
 
 
-Made = Tuple[Any, Fraction, Any, Any, engine.Rows, SheetKind, Any, List[str]]
+Made = Tuple[Any, Fraction, Any, Any, engine.Rows, SheetKind, Any, List[str], Fraction]
 
 
 def _by_engine(listed: Tagged, export: Export, path: Path, pipes: Sequence[Pipe], asked: Wanted, suspects: int = SUSPECTS) -> Made:
@@ -249,7 +254,7 @@ def _by_engine(listed: Tagged, export: Export, path: Path, pipes: Sequence[Pipe]
     clamps = units.clamps([pipe for pipe in pipes if pipe.accuracy], unit)
     weights = np.array([s.weight or 1000 for s in plant.streams])
     variances = np.array([1000 / weights, 1000 / np.maximum(1, weights // 4)])
-    return plant, unit, readings, status, sheets, SheetKind.ENGINE, variances, [_clamped(clamps)] if clamps else []
+    return plant, unit, readings, status, sheets, SheetKind.ENGINE, variances, [_clamped(clamps)] if clamps else [], Fraction(1)
 
 
 def _that_stand(listed: Tagged, export: Export, path: Path, pipes: Sequence[Pipe], asked: Wanted) -> Made:
@@ -298,9 +303,10 @@ def _checked(listed: Tagged, export: Export, shape: checked_rows.Shape, asked: W
     sheets = checked_rows.rows(shape, readings, status, SUSPECTS, asked.check, asked.threads)
     if (sheets.refusal == checked_rows.NOT_JUDGED).any():
         lesser = checked_rows.rows(shape.smaller(), readings, status, SUSPECTS, asked.check, asked.threads)
-        sheets = lesser if (lesser.refusal > 0).sum() < (sheets.refusal > 0).sum() else sheets
-    variances = shape.variances
-    return shape.plant, shape.unit, readings, status, sheets, SheetKind.CHECKED, np.array([variances, checked_rows.QUARTER * variances]), []
+        fewer = (lesser.refusal > 0).sum() < (sheets.refusal > 0).sum()
+        shape, sheets = (shape.smaller(), lesser) if fewer else (shape, sheets)
+    variances = np.array([shape.variances, checked_rows.QUARTER * shape.variances])
+    return shape.plant, shape.unit, readings, status, sheets, SheetKind.CHECKED, variances, [], shape.factor
 
 
 def _stands(listed: Tagged, export: Export, shape: checked_rows.Shape, plant: engine.Plant, unit: Fraction) -> bool:
