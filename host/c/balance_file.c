@@ -1,6 +1,6 @@
 /* Balances the plant file that is named on the command line, for an office, 0 where none is given, under the sheet number after
  * the last one that is given for it, and prints the sheet: per stream its number, class letter, flow or '-'; then the total. A
- * refusal prints its number; 19 also prints the marked places.
+ * refusal prints its number; 19 also prints the marked places, and a plant file that is at fault the byte, counted from 0, and the stream.
  *
  *     balance_file FILE [LAST [OFFICE]]
  *
@@ -70,7 +70,7 @@ int main(int count, char **words)
                                               &written, &marked);
     if (refusal == WENGELUDO_DONE)
         refusal = print_sheet(sheet, written);
-    int status = told(refusal);
+    int status = told(refusal, file, length);
     if (refusal == WENGELUDO_NO_FLOW)
         print_marked(marked);
     return finish(words[0], status);

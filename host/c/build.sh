@@ -16,6 +16,6 @@ fi
 host=${1:-target/host}
 mkdir -p "$host"
 for program in balance_file meters_to_buy layouts_file visits_file charges_file check_sheet check_flow place_numbers empty_slices limits; do
-    "${CC:-cc}" -std=c11 -O2 -Wall -Wextra -Werror ${CFLAGS:-} -I host/include "host/c/$program.c" "$archive" -o "$host/$program"
+    "${CC:-cc}" -std=c11 -O2 -Wall -Wextra -Werror ${CFLAGS:-} -I host/include "host/c/$program.c" -I host/companion host/companion/fault.c "$archive" -o "$host/$program"
     echo "built $host/$program"
 done

@@ -25,8 +25,9 @@ int main(int count_of_words, char **words)
         rates[k] = (uint16_t)given[k];
     if (!read_bytes(words[0], words[1], file, sizeof file, &length))
         return FAILED;
-    int status = told(wengeludo_charges(file, length, rates, listed, streams, WENGELUDO_MAX_STREAMS, charges, WENGELUDO_MAX_STREAMS,
-                                        &count, &bill));
+    uint8_t refusal = wengeludo_charges(file, length, rates, listed, streams, WENGELUDO_MAX_STREAMS, charges, WENGELUDO_MAX_STREAMS,
+                                        &count, &bill);
+    int status = told(refusal, file, length);
     for (size_t k = 0; k < count; k++)
         printf("%d %" PRId64 "\n", streams[k], charges[k]);
     if (status == ANSWERED)

@@ -161,7 +161,7 @@ int main(int count_of_words, char **words)
     size_t n = s.count;
     uint8_t refusal = wengeludo_check_flow(s.units, n, s.from, n, s.to, n, s.metered, n, s.weight, n, s.reading, n, s.ranged, n, s.low, n,
                                            s.high, n, s.flow, n, s.number, (size_t)s.units + 1);
-    int status = told(refusal);
+    int status = told(refusal, NULL, 0);
     if (status == ANSWERED)
         printf("passes\n");
     if (status == ANSWERED && cost_of(&s, &cost))

@@ -62,7 +62,7 @@ int main(int count_of_words, char **words)
         || !read_bytes(words[0], words[2], sheet, sizeof sheet, &sheet_length) || !read_numbers(words[0], words[3], numbers, &count))
         return FAILED;
     uint8_t refusal = wengeludo_check_sheet(plant, plant_length, sheet, sheet_length, numbers, count);
-    int status = told(refusal);
+    int status = told(refusal, plant, plant_length);
     if (status == ANSWERED)
         printf("passes\n");
     if (refusal == WENGELUDO_RULE_BROKEN)

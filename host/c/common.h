@@ -54,12 +54,30 @@ static inline int usage(const char *program, const char *words)
     return FAILED;
 }
 
-/* A refusal's line, where there is one; the status of an answer or a refusal. */
-static inline int told(uint8_t refusal)
+/* Of wengeludo_fault.h. A program that is linked with the archive alone goes without it. */
+uint8_t wengeludo_plant_fault_at(const uint8_t *file, size_t file_length, size_t *byte, size_t *stream) __attribute__((weak));
+
+/* The line of the place, if this plant file is what is refused with this number. */
+static inline void print_place(uint8_t refusal, const uint8_t *file, size_t length)
 {
-    if (refusal != WENGELUDO_DONE)
-        printf("refused %d\n", refusal);
-    return refusal != WENGELUDO_DONE ? REFUSED : ANSWERED;
+    size_t byte, stream;
+    if (wengeludo_plant_fault_at == NULL || wengeludo_plant_fault_at(file, length, &byte, &stream) != refusal)
+        return;
+    if (stream != 0)
+        printf("at byte %zu, stream %zu\n", byte, stream);
+    else
+        printf("at byte %zu\n", byte);
+}
+
+/* A refusal's line, if there is one, and where the plant file is at fault, if it is; the status of an answer or a refusal. */
+static inline int told(uint8_t refusal, const uint8_t *file, size_t length)
+{
+    if (refusal == WENGELUDO_DONE)
+        return ANSWERED;
+    printf("refused %d\n", refusal);
+    if (file != NULL)
+        print_place(refusal, file, length);
+    return REFUSED;
 }
 
 /* The status, where what was printed reached its end. */

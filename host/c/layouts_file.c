@@ -17,7 +17,7 @@ int main(int count_of_words, char **words)
     if (!read_bytes(words[0], words[1], file, sizeof file, &length))
         return FAILED;
     uint8_t refusal = wengeludo_layouts_of(file, length, counts, WENGELUDO_SURVEY_SIZE, &count);
-    int status = told(refusal);
+    int status = told(refusal, file, length);
     for (size_t k = 0; status == ANSWERED && k <= count; k++)
         printf("%zu %d\n", k, counts[k]);
     return finish(words[0], status);

@@ -24,7 +24,8 @@ int main(int count_of_words, char **words)
         prices[k] = (uint32_t)given[k];
     if (!read_bytes(words[0], words[1], file, sizeof file, &length))
         return FAILED;
-    int status = told(wengeludo_meters_to_buy(file, length, prices, listed, streams, sizeof streams, &count, &price));
+    uint8_t refusal = wengeludo_meters_to_buy(file, length, prices, listed, streams, sizeof streams, &count, &price);
+    int status = told(refusal, file, length);
     for (size_t k = 0; k < count; k++)
         printf("buy %d\n", streams[k]);
     if (status == ANSWERED)

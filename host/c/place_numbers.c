@@ -17,7 +17,7 @@ int main(int count_of_words, char **words)
     if (!read_bytes(words[0], words[1], file, sizeof file, &length))
         return FAILED;
     uint8_t refusal = wengeludo_place_numbers(file, length, numbers, WENGELUDO_MAX_PLACES, &count);
-    int status = told(refusal);
+    int status = told(refusal, file, length);
     for (size_t u = 0; u < count; u++)
         printf("%" PRId64 "\n", numbers[u]);
     return finish(words[0], status);

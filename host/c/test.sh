@@ -46,6 +46,7 @@ stream() { printf '\006\000\001\000\001\000\000\000\000\000\000\000\000\000\000\
 uses 'FILE [LAST [OFFICE]]'
 listing=samples/listing.bin
 head -c 20 "$listing" >"$work/cut"
+cut=$'refused 3\nat byte 20, stream 4' longer=$'refused 12\nat byte 1636' # what every program says of these two
 expect 0 "$(cat samples/listing.expected)" "$listing"
 expect 0 "$(cat samples/steam_site.expected)" samples/steam_site.bin
 expect 0 "$(cat samples/rated_site.expected)" samples/rated_site.bin
@@ -58,7 +59,9 @@ expect 0 $'1 A 99\n2 W -\n3 W -\n4 A 99\ntotal 8 20 1 pass' "$listing" 7 7
 expect 1 'refused 2' "$listing" 4294967295 3
 expect 1 'refused 22' "$listing" 4294967295 8
 expect 1 'refused 22' "$work/cut" 0 255
-expect 1 'refused 3' "$work/cut"
+printf '\001\001\003\000\001\002\000\001\000\000\000\000\000\000\004\002' >"$work/weightless"
+expect 1 $'refused 9\nat byte 8, stream 2' "$work/weightless"
+expect 1 "$cut" "$work/cut"
 expect 2 ''
 expect 2 '' "$listing" 0 0 0
 expect 2 '' "$listing" 0 256
@@ -70,7 +73,7 @@ expect 2 '' "$work"
 for file in "$listing" "$work/cut"; do full "$file"; done
 expect 1 $'refused 19\nmarked 32' "$work/dead_end"
 expect 0 "$(for k in {1..96}; do echo "$k A 0"; done)"$'\ntotal 1 0 1 pass' "$work/longest"
-expect 1 'refused 12' "$work/longer"
+expect 1 "$longer" "$work/longer"
 # Meters to buy.
 program=$host/meters_to_buy
 [ -x "$program" ] || { echo "no $program: build it with 'bash host/c/build.sh'" >&2; exit 2; }
@@ -83,12 +86,12 @@ expect 0 'price 0' samples/sighted_site.bin 900 1400 650 300 420
 expect 1 'refused 21' "$blind" 900 1400 650 650 300 300
 expect 1 'refused 21' "$listing" 0 3
 expect 1 'refused 21' "$listing" 5 1000001
-expect 1 'refused 3' "$work/cut"
+expect 1 "$cut" "$work/cut"
 expect 2 ''
 expect 2 '' "$listing" 5 x
 expect 2 '' "$listing" 5 4294967296
 expect 2 '' "$work/missing" 5 3
-expect 1 'refused 12' "$work/longer"
+expect 1 "$longer" "$work/longer"
 full "$listing" 5 3
 # shellcheck disable=SC2046
 expect 0 "$(for k in {1..95}; do echo "buy $k"; done)"$'\nprice 95' "$work/bare" $(for _ in {1..95}; do echo 1; done) 2
@@ -101,8 +104,8 @@ printf '\001\001\004\000' >"$work/empty"
 expect 0 "$(cat samples/listing.layouts)" "$listing"
 expect 0 '0 1' "$work/empty"
 expect 1 'refused 23' samples/steam_site.bin
-expect 1 'refused 12' "$work/longer"
-expect 1 'refused 3' "$work/cut"
+expect 1 "$longer" "$work/longer"
+expect 1 "$cut" "$work/cut"
 expect 2 ''
 expect 2 '' "$listing" 0
 expect 2 '' "$work/missing"
@@ -115,8 +118,8 @@ expect 0 "$(cat samples/listing.visits)" "$listing"
 expect 0 "$(cat samples/far_off_site.visits)" samples/far_off_site.bin
 expect 0 '' "$work/empty"
 expect 1 'refused 19' samples/overfull_site.bin
-expect 1 'refused 12' "$work/longer"
-expect 1 'refused 3' "$work/cut"
+expect 1 "$longer" "$work/longer"
+expect 1 "$cut" "$work/cut"
 expect 2 ''
 expect 2 '' "$listing" 0
 expect 2 '' "$work/missing"
@@ -137,12 +140,12 @@ expect 1 'refused 24' "$listing" 5 5
 expect 1 'refused 24' "$listing" 10001
 expect 1 'refused 24' samples/twin_lines.bin 8350 10001 0
 expect 1 'refused 19' samples/overfull_site.bin 10001
-expect 1 'refused 12' "$work/longer"
+expect 1 "$longer" "$work/longer"
 # shellcheck disable=SC2046
 expect 1 'refused 25' "$work/bare" $(for _ in {1..96}; do echo 1; done)
 # shellcheck disable=SC2046
 expect 1 'refused 24' "$work/bare" $(for _ in {1..97}; do echo 1; done)
-expect 1 'refused 3' "$work/cut" 5
+expect 1 "$cut" "$work/cut" 5
 expect 2 ''
 expect 2 '' "$listing" x
 expect 2 '' "$listing" 5x
@@ -184,9 +187,9 @@ expect 1 $'refused 26\nstream 3: its flow is out of range' "$rated" "$(changed a
 expect 1 $'refused 26\nplace 0, with the places that W streams join to it: flows in and out have other sums' "$rated" "$(changed given 62 021)" "$numbers"
 expect 1 $'refused 26\nthe sheet lists 8 streams, the plant 4' "$listing" "$sheet" "$(listed three 0 0 0)"
 expect 1 $'refused 26\nthe plant has no sheet: no balanced flow lies within all ranges' samples/overfull_site.bin "$sheet" "$(listed six 0 0 0 0 0 0)"
-expect 1 'refused 3' "$work/cut" "$work/cut" "$numbers"
+expect 1 "$cut" "$work/cut" "$work/cut" "$numbers"
 expect 1 'refused 13' "$rated" "$work/cut" "$(listed none)"
-expect 1 'refused 12' "$work/longer" "$sheet" "$(listed two 0 0)"
+expect 1 "$longer" "$work/longer" "$sheet" "$(listed two 0 0)"
 printf '\001\040\004\000' >"$work/units"
 printf '\036\000\000\000\000\001\000\000\000\000\000\000\000\000\000\002' >"$work/total"
 expect 0 'passes' "$work/units" "$work/total" "$(listed most {0..32})"
@@ -249,8 +252,8 @@ expect 0 'passes' "$rated" "$sheet" "$work/own"
 program=$host/place_numbers
 uses 'FILE'
 expect 1 'refused 19' samples/overfull_site.bin
-expect 1 'refused 12' "$work/longer"
-expect 1 'refused 3' "$work/cut"
+expect 1 "$longer" "$work/longer"
+expect 1 "$cut" "$work/cut"
 expect 0 "$(for _ in {0..32}; do echo 0; done)" "$work/units"
 expect 2 ''
 expect 2 '' "$listing" 0

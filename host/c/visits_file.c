@@ -18,7 +18,7 @@ int main(int count_of_words, char **words)
     if (!read_bytes(words[0], words[1], file, sizeof file, &length))
         return FAILED;
     uint8_t refusal = wengeludo_visits(file, length, streams, WENGELUDO_MAX_STREAMS, costs, WENGELUDO_MAX_STREAMS, &count);
-    int status = told(refusal);
+    int status = told(refusal, file, length);
     for (size_t k = 0; k < count; k++)
         printf("%d %" PRIu64 "\n", streams[k], costs[k]);
     return finish(words[0], status);
