@@ -10,6 +10,7 @@ import subprocess
 from dataclasses import replace
 from fractions import Fraction
 from types import SimpleNamespace
+from xml.etree import ElementTree
 
 import numpy as np
 import openpyxl
@@ -17,6 +18,7 @@ import pytest
 import simulator as sim
 
 import wengeludo_balance as engine
+from wengeludo.history import charts
 from wengeludo.history.analysis import analysed
 from wengeludo.history.page import page
 from wengeludo.keep.book import Book
@@ -136,7 +138,7 @@ def test_a_disk_that_is_full_leaves_nothing_half_written(run, year, tmp_path, mo
 
 
 def test_overrides_are_taken_only_if_handed_back(run, year, tmp_path, listed):
-    override = listed("stream,from,to,status,why\n9,2025-01-10,2025-01-12,fault,replaced\n2,2025-01-03 00:00,2025-01-04 00:00,held,by hand\n", "overrides.csv")
+    override = listed("stream,from,to,status,why\n9,2025-01-10,2025-01-12,fault,\n,,,,\n2,2025-01-03 00:00,2025-01-04 00:00,held,by hand\n", "overrides.csv")
     assert run("history", year.list, year.spring, "--overrides", override, "-o", tmp_path / "run.npz").status == 0
     status = np.load(tmp_path / "run.npz")["status"]
     assert (status[216:264, 8] == FAULT).all() and status[215, 8] != FAULT and status[264, 8] != FAULT and (status[48:72, 1] == HELD).all()
@@ -144,6 +146,21 @@ def test_overrides_are_taken_only_if_handed_back(run, year, tmp_path, listed):
     ended = run("history", year.list, year.spring, "--overrides", wrong)
     assert ended.status == 1 and ended.err.count("row 2") == 1 and ended.err.count("row 3") == 3
     assert "no column status" in run("history", year.list, year.spring, "--overrides", listed("stream,from,to\n", "none.csv")).err
+
+
+def test_each_colour_of_the_map_has_its_number():
+    """Mean z from three below to three above in 31 steps, beyond them as at the ends, and grey for no value."""
+    made = charts.palette()
+    assert charts.shades(np.array([-9, -3, -0.2, -0.09, 0, 0.09, 0.2, 3, 9, np.nan])).tolist() == [0, 0, 14, 15, 15, 15, 16, 30, 30, 31] and len(made) == 32
+    assert (made[0], made[15], made[30], made[31]) == ((33, 102, 172, 255), (250, 250, 250, 255), (178, 24, 43, 255), (214, 218, 222, 255))
+    assert all(one[0] < one[2] for one in made[:15]) and all(one[0] > one[2] for one in made[16:31])
+
+
+def test_days_are_put_together_if_they_are_more_than_the_columns():
+    daily = np.arange(761.0).reshape(-1, 1)
+    daily[3:6] = np.nan
+    found, each = charts._columns(daily)
+    assert each == 3 and len(found) == 254 and np.isnan(found[1]) and found[0] == 1 and found[-1] == 759.5 and charts._columns(daily[:380])[1] == 1
 
 
 def billed_list(year, path, rates={"20": "2500", "21": "2500"}):
@@ -300,6 +317,8 @@ def test_the_page_fetches_nothing(year):
     text = page(found, [])
     assert not re.search(r'(?:src|href)\s*=\s*"(?!#|data:image/png)|@import|https?://(?!www\.w3\.org/2000/svg)', text)
     assert text.count("<tr>") == 17 + 2 and text.count('class="weeks"') == 3
+    drawings = [ElementTree.fromstring(one.replace("&nbsp;", " ")) for one in re.findall(r"<svg.*?</svg>", text, re.S)]
+    assert len(drawings) == text.count("<svg") == 3 and not [part.tail for one in drawings for part in one.iter() if (part.tail or "").strip()]
 
 
 PROBE = """<script>

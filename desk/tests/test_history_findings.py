@@ -91,6 +91,13 @@ def test_the_least_bias_of_a_meter_falls_with_how_far_it_is_checked():
     assert max(worth) == pytest.approx(min(worth)) and found.least_bias(len(found.run.plant.streams)) is None
 
 
+def test_weights_of_a_week_are_within_the_engines_limits():
+    from wengeludo.history.weeks import Trial
+
+    week = SimpleNamespace(unit=0.5, variances=np.array([0, 0.25, 0.5, 1e-9, 250, 1e6]))
+    assert Trial.weights.fget(week).tolist() == [0, 1000, 500, 1000, 1, 1]
+
+
 def test_a_second_run_with_the_meter_as_fault_passes_again():
     year, found = bad()
     meter = found.findings[0]

@@ -357,3 +357,19 @@ TEXTS = {
 def test_texts_that_are_too_much(name, run, listed):
     ended = limited(run, "why", listed(TEXTS[name]), "1")
     assert len(ended.stderr) < 60_000 and (ended.returncode == 0 if name == "columns within the limit" else ended.returncode == 1 and "list.csv" in ended.stderr)
+
+
+@pytest.mark.parametrize("gap, scale, told", [
+    (1.5, 1, ""), (1.49, 5 / 1.49, "too close together for centimetres: it is drawn 3.36 times as large"), (15.0, 1, ""),
+    (15.1, 5 / 15.1, "too far apart for centimetres: it is drawn 0.331 times as large"), (5_000.0, 0.001, "too far apart for centimetres: it is drawn 0.001 times as large"),
+])
+def test_a_drawing_is_brought_to_centimetres_only_beyond_the_limits(gap, scale, told):
+    spots, said = drawable({1: (0.0, 0.0), 2: (gap, 0.0), 3: (2 * gap, 0.0)}, ["outside", "a", "b", "c"])
+    assert said == ([f"the drawing's places are {told}"] if told else [])
+    assert spots[2][0] - spots[1][0] == pytest.approx(gap * scale) and spots[3][1] == 0
+
+
+@pytest.mark.parametrize("reach, left_out", [(150.0, []), (150.1, ["d"])])
+def test_a_unit_far_from_the_others_is_put_where_its_streams_draw_it(reach, left_out):
+    spots, said = drawable({1: (0.0, 0.0), 2: (0.0, 5.0), 3: (0.0, 10.0), 4: (-reach, 5.0), 5: (0.0, 0.0)}, ["outside", "a", "b", "c", "d", "e"])
+    assert said == [f"too far from the rest of the drawing, and put where the streams draw it: {name}" for name in left_out] and (4 in spots) == (not left_out)

@@ -19,8 +19,8 @@ from test_book import altered
 
 import wengeludo_balance as engine
 from wengeludo.balance import individual, wide
-from wengeludo.balance.checked import Checked
-from wengeludo.balance.exact import exacts_of
+from wengeludo.balance.checked import Checked, wide_plant
+from wengeludo.balance.exact import Exact, Exacts, exacts_of
 from wengeludo.balance.kind import SheetKind
 from wengeludo.balance.sheet import balance, by_rule, checked_balance
 from wengeludo.balance.site import read_site
@@ -445,3 +445,12 @@ def test_next_to_the_limit():
             streams = tuple(s if not s.metered else replace(s, variance=s.variance * scale) for s in checked.listed.streams)
             verdict = wide.solve(replace(checked.listed, streams=streams)).judged.verdict
             assert verdict is (engine.Verdict.PASS if side < 1 else engine.Verdict.FAIL)
+
+
+@pytest.mark.parametrize("end, made", [(2**30, (-(2**30), 2**30)), (2**30 + 1, (None, None)), (2**29 + 1, (-(2**29) - 1, 2**29 + 1))])
+def test_the_end_of_a_range_counts_up_to_where_flows_reach(end, made):
+    """In units of a quarter: at 2^30 units it is an end, beyond it none; one end alone stays."""
+    unit = Fraction(1, 4)
+    both, one = (Exact(0, 1, Fraction(0), Fraction(1), low, Fraction(end) * unit) for low in (-Fraction(end) * unit, Fraction(0)))
+    found = wide_plant(Exacts(1, (both, one)), unit, Fraction(1)).streams
+    assert (found[0].low, found[0].high) == made and found[1].low == 0 and found[1].high == (made[1] or 2**50)

@@ -162,7 +162,8 @@ def test_modes_of_what_is_written(mask, mode, run, tmp_path):
     try:
         assert run("sheet", SAMPLES / "listing.csv", *(word for file in files for word in ("-o", file))).status == 0
         assert run("pack", SAMPLES / "listing.csv", tmp_path / "a.bin").status == 0
+        assert sorted(path.name for path in tmp_path.iterdir()) == ["a.bin", "a.csv", "a.html", "a.json", "a.svg", "a.xlsx"]
+        assert run("keep", SAMPLES / "listing.csv", tmp_path / "a.book").status == 0
     finally:
         os.umask(before)
-    assert {stat.S_IMODE(file.stat().st_mode) for file in (*files, tmp_path / "a.bin")} == {mode}
-    assert sorted(path.name for path in tmp_path.iterdir()) == ["a.bin", "a.csv", "a.html", "a.json", "a.svg", "a.xlsx"]
+    assert {stat.S_IMODE(file.stat().st_mode) for file in (*files, tmp_path / "a.bin", tmp_path / "a.book.turn")} == {mode}

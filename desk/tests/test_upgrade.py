@@ -41,7 +41,7 @@ def test_byte_for_byte(run, tmp_path):
             assert [(a.flow, a.spread, a.pipe.label, a.pipe.reading) for a in one.lines] == [(b.flow, b.spread, b.pipe.label, b.pipe.reading) for b in two.lines]
             assert one.site.list.spots == two.site.list.spots
         assert upgraded.keep_one(Draft(read_site(SAMPLES / "listing.csv")), 3) == Receipt(3, book.lasts()[3] + 1)
-    with pytest.raises(sqlite3.IntegrityError, match="upgraded"):
+    with pytest.raises(sqlite3.IntegrityError, match=r"^this book has been upgraded: new.book has its sheets$"):
         book.keep([(read_site(SAMPLES / "listing.csv"), "x")], 3)
     assert run("book", "upgrade", old, new).status == 1 and run("book", "upgrade", new, tmp_path / "x").status == 1
     assert run("book", "upgrade", tmp_path / "none", tmp_path / "x").status == 1 and not (tmp_path / "x").exists()

@@ -21,6 +21,7 @@ FIRST = {
     'read': ('reading', 'lists', 'figures', 'shapes', 'commands'), 'balance': ('rule', 'golden', 'shapes', 'figures'),
     'explain': ('golden', 'rule', 'shapes', 'commands'), 'write': ('shown', 'written', 'golden', 'drawing', 'figures', 'commands'),
     'keep': ('runs', 'kept_lists', 'book', 'batch', 'upgrade', 'stores'), 'cli': ('commands', 'golden', 'runs', 'book'), 'history': ('history',),
+    'serve': ('serve', 'serve_any'),
 }
 NEVER = ('install', 'page')  # those of desk/install.sh, and those that open a browser
 # Tests that need servers or many rows are run for changes of these packages alone: that can only leave a change unseen.
