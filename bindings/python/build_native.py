@@ -37,9 +37,9 @@ INCLUDE = first("WENGELUDO_INCLUDE", ROOT / "host" / "include", installed("inclu
 ARCHIVE = first("WENGELUDO_ARCHIVE", ROOT / "target" / "staticlib" / "liblinked.a", installed("libdir") / "libwengeludo.a")
 HEADER = INCLUDE / "wengeludo_balance.h"
 NATIVE = HERE / "native"  # C of this package's own, over the archive's calls
-FAULT = NATIVE / "wengeludo_fault.h"  # it and fault.c are those of host/companion, byte for byte: a test compares them
-HEADERS = (HEADER, FAULT, NATIVE / "rows.h", NATIVE / "wide_solve.h")
-SOURCES = tuple(NATIVE / name for name in ("fault.c", "rows.c", "wide_checked.c", "wide_solve.c"))
+FAULT = NATIVE / "wengeludo_fault.h"  # it and fault.c are those of host/companion, rules.h that of host/c, byte for byte: a test compares them
+HEADERS = (HEADER, FAULT, NATIVE / "broken_rule.h", NATIVE / "rows.h", NATIVE / "wide_solve.h")
+SOURCES = tuple(NATIVE / name for name in ("broken_rule.c", "fault.c", "rows.c", "wide_checked.c", "wide_solve.c"))
 
 
 def declarations(header: str) -> str:

@@ -191,26 +191,26 @@ class TestCheck:
 
     def test_rules(self, run, files):
         sheet, numbers = files.sheet, list(files.numbers)
-        assert "13 place numbers for 14 places" in self.told(run, files(numbers=numbers[:-1]))
-        assert "place 2 is beyond" in self.told(run, files(numbers=numbers[:2] + [10**18 + 1] + numbers[3:]))
-        assert "no meter, and the numbers of its two places differ" in self.told(run, files(numbers=numbers[:7] + [numbers[7] + 1] + numbers[8:]))
-        assert "place numbers differ by" in self.told(run, files(numbers=[numbers[0]] * 14))
-        assert "is shown as A and is R" in self.told(run, files(sheet=b"\x11" + sheet[1:]))
+        assert "there are 13 numbers for 14 places (26)" in self.told(run, files(numbers=numbers[:-1]))
+        assert "place 2: its number is past its limit (26)" in self.told(run, files(numbers=numbers[:2] + [10**18 + 1] + numbers[3:]))
+        assert "no meter, and the numbers of its places differ by" in self.told(run, files(numbers=numbers[:7] + [numbers[7] + 1] + numbers[8:]))
+        assert "numbers of its places differ by 0" in self.told(run, files(numbers=[numbers[0]] * 14))
+        assert "its class is R, not A" in self.told(run, files(sheet=b"\x11" + sheet[1:]))
         changed = sheet[:36] + b"\x11" + (20_500).to_bytes(8, "big") + sheet[45:]
-        assert "place numbers differ by" in self.told(run, files(sheet=changed))
+        assert "stream 5: the numbers of its places differ by 26, too little: a smaller flow would cost less" in self.told(run, files(sheet=changed))
         total = len(sheet) - 16
         cost = sheet[: total + 6] + (2_022).to_bytes(8, "big") + sheet[total + 14 :]
-        assert "cost shown is 2,022 and should be 2,021" in self.told(run, files(sheet=cost))
+        assert "the least cost is 2021, not 2022" in self.told(run, files(sheet=cost))
         verdict = sheet[:-1] + b"\x01"
-        assert "verdict shown is fail and should be pass" in self.told(run, files(sheet=verdict))
+        assert "the verdict is pass, not fail" in self.told(run, files(sheet=verdict))
         degrees = sheet[:-2] + b"\x06" + sheet[-1:]
-        assert "degrees shown is 6 and should be 5" in self.told(run, files(sheet=degrees))
+        assert "the degrees are 5, not 6" in self.told(run, files(sheet=degrees))
 
     def test_given_flow_and_missing_stream(self, run, files):
         sheet = files.sheet
         changed = sheet[:18] + b"\x13" + (1_993).to_bytes(8, "big") + sheet[27:]
-        assert "exceed those out by" in self.told(run, files(sheet=changed))
-        assert "the sheet has 25 streams, the plant 26" in self.told(run, files(sheet=sheet[9:]))
+        assert "flows in and out have other sums" in self.told(run, files(sheet=changed))
+        assert "the sheet lists 25 streams, the plant 26" in self.told(run, files(sheet=sheet[9:]))
 
     def test_refusals_first(self, run, files):
         assert "(13)" in self.told(run, files(sheet=b""))

@@ -37,17 +37,8 @@ static int read_numbers(const char *program, const char *name, int64_t *numbers,
 static void print_rule(const uint8_t *plant, size_t plant_length, const uint8_t *sheet, size_t sheet_length, const int64_t *numbers,
                        size_t count)
 {
-    uint8_t drawn[WENGELUDO_SHEET_SIZE];
-    uint32_t lasts[WENGELUDO_OFFICES] = {0};
-    size_t written;
-    uint64_t marked;
-    struct shown theirs, ours;
-    char words[160];
-    int none = wengeludo_balance_plant(plant, plant_length, 0, lasts, WENGELUDO_OFFICES, drawn, sizeof drawn, &written, &marked) != 0;
-    if (!none)
-        read_shown(drawn, written, &ours);
-    read_shown(sheet, sheet_length, &theirs);
-    if (first_broken(plant, &theirs, none ? NULL : &ours, numbers, count, words, sizeof words))
+    char words[WORDS];
+    if (broken_rule(plant, plant_length, sheet, sheet_length, numbers, count, words))
         printf("%s\n", words);
 }
 

@@ -8,6 +8,8 @@
 
 #include "wengeludo_balance.h"
 
+enum { WORDS = 160 }; /* room for the words */
+
 /* What a sheet shows. */
 struct shown {
     uint8_t kinds[WENGELUDO_MAX_STREAMS], degrees, verdict;
@@ -75,18 +77,20 @@ static inline int total_differs(const struct shown *sheet, const struct shown *o
     return 0;
 }
 
-/* The rules of one stream. */
+/* The rules of one stream. Numbers are within their limit here, so that a difference has 64 bits. */
 static inline int stream_breaks(const struct stream *s, size_t k, int64_t flow, __int128 difference, char *words, size_t room)
 {
     __int128 d = (__int128)flow - s->reading;
     if (!s->metered)
-        return difference == 0 ? 0 : snprintf(words, room, "stream %zu: its places have unequal numbers", k + 1);
+        return difference == 0 ? 0 : snprintf(words, room, "stream %zu: it has no meter, and the numbers of its places differ by %" PRId64, k + 1, (int64_t)difference);
     if (s->ranged && (flow < s->low || flow > s->high))
-        return snprintf(words, room, "stream %zu: its flow is out of range", k + 1);
+        return snprintf(words, room, "stream %zu: its flow %" PRId64 " is outside its range %" PRId32 " to %" PRId32, k + 1, flow, s->low, s->high);
     if (difference < s->weight * (2 * d - 1) && !(s->ranged && flow == s->low))
-        return snprintf(words, room, "stream %zu: the difference of its places' numbers falls short of the bottom", k + 1);
+        return snprintf(words, room, "stream %zu: the numbers of its places differ by %" PRId64 ", too little: a smaller flow would cost less", k + 1,
+                        (int64_t)difference);
     if (difference > s->weight * (2 * d + 1) && !(s->ranged && flow == s->high))
-        return snprintf(words, room, "stream %zu: the difference of its places' numbers exceeds the top", k + 1);
+        return snprintf(words, room, "stream %zu: the numbers of its places differ by %" PRId64 ", too much: a greater flow would cost less", k + 1,
+                        (int64_t)difference);
     return 0;
 }
 
@@ -131,6 +135,22 @@ static inline int first_broken(const uint8_t *file, const struct shown *sheet, c
     for (size_t k = 0; k < count && !broken; k++)
         broken = stream_breaks(&streams[k], k, sheet->flows[k], (__int128)numbers[streams[k].to] - numbers[streams[k].from], words, room);
     return broken ? broken : sums_differ(streams, sheet, units, words, room);
+}
+
+/* The first broken rule, in words, of a plant file and a sheet that the check has refused with 26; 0 if none is found. */
+static inline int broken_rule(const uint8_t *plant, size_t plant_length, const uint8_t *sheet, size_t sheet_length, const int64_t *numbers,
+                              size_t listed, char words[WORDS])
+{
+    uint8_t drawn[WENGELUDO_SHEET_SIZE];
+    uint32_t lasts[WENGELUDO_OFFICES] = {0};
+    size_t written;
+    uint64_t marked;
+    struct shown theirs, ours;
+    int none = wengeludo_balance_plant(plant, plant_length, 0, lasts, WENGELUDO_OFFICES, drawn, sizeof drawn, &written, &marked) != 0;
+    if (!none)
+        read_shown(drawn, written, &ours);
+    read_shown(sheet, sheet_length, &theirs);
+    return first_broken(plant, &theirs, none ? NULL : &ours, numbers, listed, words, WORDS);
 }
 
 #endif

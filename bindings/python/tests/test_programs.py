@@ -59,4 +59,6 @@ def test_checked(path, tmp_path):
     (tmp_path / "numbers").write_text("".join(f"{number}\n" for number in numbers))
     for data, passes in ((sheet, True), (other, False)):
         (tmp_path / "sheet").write_bytes(data)
-        assert printed("check_sheet", path, tmp_path / "sheet", tmp_path / "numbers").startswith("passes") == passes
+        told = printed("check_sheet", path, tmp_path / "sheet", tmp_path / "numbers")
+        assert told.startswith("passes") == passes
+        assert passes or told == f"refused 26\n{w.broken_rule(file, data, numbers)}\n"

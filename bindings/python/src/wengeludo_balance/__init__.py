@@ -43,6 +43,7 @@ from .sheet import (
     Verdict,
     balance,
     balance_plant,
+    broken_rule,
     check_sheet,
     place_numbers,
     read_sheet,
@@ -66,7 +67,7 @@ __all__ = [
     "ADJUSTED", "AS_READ", "Bill", "Drawn", "FAULT", "FILE_SIZE", "Fault", "GIVEN", "HELD", "Kind", "MAX_STREAMS", "MEASURED", "NO_SHEETS",
     "NotCertified", "OFFICES", "Plant", "Purchase", "Record", "Refusal", "Rows", "SHEET_SIZE", "Sheet", "Signal", "Stream", "TEXTS",
     "Verdict", "Visit", "WIDEST", "WIDE_FLOW", "WIDE_NUMBER", "WIDE_READING", "WIDE_WEIGHT", "WITHHELD", "WideFlow", "WidePlant",
-    "WideRows", "__version__", "balance", "balance_plant", "charges", "check_flow", "check_sheet", "deviation_for", "fault_at", "from_ranged",
+    "WideRows", "__version__", "balance", "balance_plant", "broken_rule", "charges", "check_flow", "check_sheet", "deviation_for", "fault_at", "from_ranged",
     "layouts_of", "meters_to_buy", "overfull", "place_numbers", "plant_from_transmitter", "read_plant", "read_sheet", "rows", "to_ranged",
     "transmitter_file", "version", "visits", "wide_rows", "wide_solve", "write_plant",
 ]

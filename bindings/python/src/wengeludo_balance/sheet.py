@@ -7,6 +7,7 @@ from enum import Enum, IntEnum
 from typing import Optional, Sequence, Tuple
 
 from ._slices import ffi, fitting, given, lent, lib, out, raise_for
+from .refusal import Refusal
 
 SHEET_SIZE = lib.WENGELUDO_SHEET_SIZE
 MAX_STREAMS = lib.WENGELUDO_MAX_STREAMS
@@ -108,6 +109,19 @@ def check_sheet(plant: bytes, sheet: bytes, numbers: Sequence[int]) -> None:
     """Checks a sheet drawn up elsewhere, with one number for each place. Refused: the plant's, the sheet's, 26."""
     array = fitting("int64_t[]", numbers, _LEAST, _MOST, _MOST)
     raise_for(lib.wengeludo_check_sheet(*given(plant), *given(sheet), *lent(array)))
+
+
+def broken_rule(plant: bytes, sheet: bytes, numbers: Sequence[int]) -> Optional[str]:
+    """None if the sheet passes the check; the first broken rule in words if it is refused with 26. Refused: the plant's, the sheet's."""
+    try:
+        check_sheet(plant, sheet, numbers)
+        return None
+    except Refusal as refusal:
+        if refusal.number != lib.WENGELUDO_RULE_BROKEN:
+            raise
+    array, words = fitting("int64_t[]", numbers, _LEAST, _MOST, _MOST), out("char", 160)
+    lib.wengeludo_broken_rule(*given(plant), *given(sheet), *lent(array), words)
+    return str(ffi.string(words).decode("ascii")) or "a rule is broken"
 
 
 def place_numbers(file: bytes) -> Tuple[int, ...]:
