@@ -19,7 +19,7 @@ from test_book import altered
 
 import wengeludo_balance as engine
 from wengeludo.balance import individual, wide
-from wengeludo.balance.checked import Checked, wide_plant
+from wengeludo.balance.checked import Checked, rounded, wide_plant
 from wengeludo.balance.exact import Exact, Exacts, exacts_of
 from wengeludo.balance.kind import SheetKind
 from wengeludo.balance.sheet import balance, by_rule, checked_balance
@@ -454,3 +454,10 @@ def test_the_end_of_a_range_counts_up_to_where_flows_reach(end, made):
     both, one = (Exact(0, 1, Fraction(0), Fraction(1), low, Fraction(end) * unit) for low in (-Fraction(end) * unit, Fraction(0)))
     found = wide_plant(Exacts(1, (both, one)), unit, Fraction(1)).streams
     assert (found[0].low, found[0].high) == made and found[1].low == 0 and found[1].high == (made[1] or 2**50)
+
+
+@pytest.mark.parametrize("high, shares", [(Fraction(200), 0), (Fraction(401, 2), None), (None, 0)])
+def test_a_range_with_one_end_is_rounded_only_by_its_end(high, shares):
+    unit, factor = Fraction(1), Fraction(1000)
+    listed = Exacts(1, (Exact(0, 1, Fraction(100), Fraction(1), None, high), Exact(1, 0, Fraction(101), Fraction(1), Fraction(0), None)))
+    assert rounded(Checked(listed, unit, factor, wide_plant(listed, unit, factor), (100, 100), ())) == shares

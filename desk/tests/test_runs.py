@@ -7,6 +7,7 @@ import sqlite3
 import stat
 import time
 from datetime import datetime, timedelta, timezone
+from types import SimpleNamespace
 from xml.etree import ElementTree
 
 import pytest
@@ -15,6 +16,8 @@ from conftest import SAMPLES
 import wengeludo_balance as engine
 from wengeludo.balance.site import read_site
 from wengeludo.keep.book import Book, Draft
+from wengeludo.keep.lite import Lite
+from wengeludo.keep.store import Conflict, Damaged, Unreachable, Unwritable
 
 SVG = "{http://www.w3.org/2000/svg}"
 FILES = 130  # two times 64, and some more
@@ -167,3 +170,22 @@ def test_modes_of_what_is_written(mask, mode, run, tmp_path):
     finally:
         os.umask(before)
     assert {stat.S_IMODE(file.stat().st_mode) for file in (*files, tmp_path / "a.bin", tmp_path / "a.book.turn")} == {mode}
+
+
+@pytest.mark.parametrize("name, text, kind, told", [
+    ("SQLITE_FULL", "x", Unwritable, "the disk is full or fails (x)"), ("SQLITE_IOERR_WRITE", "x", Unwritable, "the disk is full or fails (x)"),
+    ("", "disk I/O error", Unwritable, "the disk is full or fails (disk I/O error)"), ("SQLITE_NOTADB", "x", Damaged, "the book is damaged (x)"),
+    ("", "database disk image is malformed", Damaged, "the book is damaged"), ("", "file is not a database", Damaged, "the book is damaged"),
+    ("", "attempt to write a readonly database", Unwritable, "the book cannot be written"), ("", "unable to open database file", Unwritable, "the book cannot be written"),
+    ("", "database is locked", Unreachable, "another program holds the book"), ("SQLITE_BUSY", "busy", Unreachable, "another program holds the book (busy)"), ("", "x", Damaged, "the book is damaged (x)"),
+])
+def test_what_an_error_of_the_file_comes_to(name, text, kind, told):
+    error = sqlite3.OperationalError(text)
+    error.sqlite_errorname = name
+    found = Lite._told(SimpleNamespace(path="a.book"), error)
+    assert type(found) is kind and str(found).startswith(f"a.book: {told}") and str(found).endswith(" would do")
+
+
+def test_a_contradiction_is_told_as_one():
+    found = Lite._told(SimpleNamespace(path="a.book"), sqlite3.IntegrityError("UNIQUE"))
+    assert type(found) is Conflict and str(found) == "a.book: this contradicts what the book has (UNIQUE); nothing of this is kept"

@@ -214,6 +214,8 @@ def test_arrows_lead_from_one_place_to_the_other(name, run, tmp_path):
     for k, pipe in enumerate(site.list.pipes):
         tip, *sides = (tuple(map(float, point.split(","))) for point in groups[f"stream-{k}"].find(f"{SVG}polygon").get("points").split())
         knots = [tuple(map(float, point.split(","))) for point in re.findall(r"-?[\d.]+(?:e-\d+)?,-?[\d.]+(?:e-\d+)?", groups[f"stream-{k}"].findall(f"{SVG}path")[-1].get("d"))]
+        drawn = [part.get("d") for part in groups[f"stream-{k}"].findall(f"{SVG}path")]
+        assert all(re.fullmatch(r"M[-\d.e]+,[-\d.e]+C[-\d.e]+,[-\d.e]+( [-\d.e]+,[-\d.e]+)*", one) for one in drawn), drawn
         (ax, ay), (bx, by) = sides
         area = abs((ax - tip[0]) * (by - tip[1]) - (bx - tip[0]) * (ay - tip[1])) / 2
         assert 10 < area < 30 and abs((ax - bx) ** 2 + (ay - by) ** 2 - 4 * 2.45**2) < 1

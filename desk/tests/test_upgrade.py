@@ -70,6 +70,16 @@ def test_a_damaged_one_is_left_alone(column, value, tmp_path):
     assert sorted(p.name for p in tmp_path.iterdir()) == ["old.book"] and old.read_bytes() == before
 
 
+def test_one_that_is_in_use_is_told(tmp_path, monkeypatch):
+    old = tmp_path / "old.book"
+    old_book(old, 3).base.execute("BEGIN IMMEDIATE")
+    connect = sqlite3.connect
+    monkeypatch.setattr(sqlite3, "connect", lambda *words, **more: connect(*words, **{**more, "timeout": 0.05}))
+    with pytest.raises(Stopped) as stopped:
+        upgrade(old, tmp_path / "new.book")
+    assert str(stopped.value) == f"{old}: the book is damaged or in use (database is locked)" and sorted(path.name for path in tmp_path.iterdir()) == ["old.book"]
+
+
 def test_a_gap_is_told(tmp_path):
     book = old_book(tmp_path / "old.book", 3)
     book.base.execute("DELETE FROM sheets WHERE office = 3 AND number = 2")

@@ -285,3 +285,12 @@ def test_view_is_said_once():
     heads, rows = view.filed(drawn)
     assert heads[: len(view.HEADS)] == view.HEADS and {len(row) for row in rows} == {len(heads)} and "accuracy" in heads
     assert len(outputs.FORMS) == 8
+
+
+@pytest.mark.parametrize("unit, more", [("10", ["a.bin.unit"]), ("1", [])])
+def test_the_unit_of_a_plant_file_stands_beside_it(unit, more, run, listed, tmp_path):
+    """If it is not 1 kg/h: the file itself has no room for it. Beside no other file."""
+    path = listed("from,to,reading,accuracy\noutside,a,10000,50\na,outside,10010,50\n", "b.csv")
+    assert run("sheet", path, "--unit", unit, "-o", tmp_path / "a.bin", "-o", tmp_path / "a.csv").status == 0
+    assert sorted(path.name for path in tmp_path.iterdir()) == ["a.bin", *more, "a.csv", "b.csv"]
+    assert [(tmp_path / name).read_text() for name in more] == ["10 kg/h is the unit of the flows in this plant file\n"] * len(more)

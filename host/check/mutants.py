@@ -136,7 +136,7 @@ def statement(name, line):
 
 def tests(tree, known, part, name, line):
     """The part with the tests that run a line, if there is a map; the copy waits for them no longer than they can take."""
-    found = (seen.tests(known, name, statement(name, line)) or tree.desk_files(name)[:4]) if known and part == 'desk' else []
+    found = (seen.tests(tree, known, name, statement(name, line)) or tree.desk_files(name)[:4]) if known and part == 'desk' else []
     tree.seconds = 60 + 4 * seen.SECONDS if found else 900
     return ' '.join((part, *found))
 

@@ -1,7 +1,7 @@
 """Which tests of the desk run a line: a map by Debian's python3-coverage, made once for a copy of the tree (host/check/tried.py).
 
 Used by host/check/mutants.py --map FILE, so that a change is tried by the tests that run its line, the quickest first. What another process runs
-is not seen: such a line is tried by the tests that run any line of its file.
+is not seen: such a line is tried by the tests that import its file or run any line of it.
 """
 
 import json
@@ -47,12 +47,20 @@ def told(lines, said):
     return {'seconds': seconds, 'files': files}
 
 
-def tests(seen, name, lines):
-    """The tests that run some lines of a file; those that run any of its lines if these belong to its import or to another process."""
+def importing(tree, name):
+    """The test files of a copy of the tree that import a module by its name: they may hold its tables, and run no line of it."""
+    named = re.compile(rf'^(?:from|import) .*\b{Path(name).stem}\b', re.M)
+    return [f'tests/{path.name}' for path in sorted((tree.path / 'desk/tests').glob('test_*.py')) if named.search(path.read_text(encoding='utf-8'))]
+
+
+def tests(tree, seen, name, lines):
+    """The tests that run some lines of a file; if these belong to its import or to another process, those that import the file or run any of its
+    lines."""
     found = seen['files'].get(name, {})
     own = {one for line in lines for one in found.get(str(line), ())}
+    taken = [] if own else importing(tree, name)
     every = sorted(own or {one for some in found.values() for one in some}, key=seen['seconds'].get)
-    taken, spent = [], 0.0
+    spent = 0.0
     for one in every:
         spent += seen['seconds'][one]
         if spent <= SECONDS or not taken:
