@@ -192,13 +192,15 @@ def july_of(kept):
 def test_the_bill_is_the_sum_of_the_hours(run, year, tmp_path):
     path = billed_list(year, tmp_path / "site.csv")
     words = ("--zone", "Europe/Vienna", "--unit", "1", "--bill", "2025-07", "-o", tmp_path / "bill.csv", "-o", tmp_path / "run.npz")
-    ended = run("history", path, year.export, *words)
+    ended = run("history", path, year.export, *words, "-o", tmp_path / "run.html")
     assert ended.status == 3 and "2025-07:" in ended.out and "by the proved call" in ended.out and "rounded once" in ended.out
     rows = table(tmp_path / "bill.csv")
     kept = np.load(tmp_path / "run.npz")
     july = july_of(kept)
     good = july[(kept["refusal"][july] == 0) & (kept["unbilled"][july] == 0)]
     assert int(rows[-1]["cents"]) == int(kept["bill"][good].sum()) == sum(int(row["cents"]) for row in rows[:-1]) > 100_000
+    twenty = next(f"{int(row['cents']):,}" for row in rows if row["stream"] == "20")
+    assert f'<td class="n">{twenty}</td><td class="n">{twenty}</td>' in (tmp_path / "run.html").read_text(encoding="utf-8")
     assert {row["charged by"] for row in rows} == {"proved call"} and all(row["cents by the proved call"] == row["cents"] for row in rows)
     assert int(rows[0]["hours billed"]) == len(good) and int(rows[0]["hours not billed"]) == 744 - len(good)
     sheet = engine.Plant(13, tuple(engine.Stream(s.source, s.target, s.weight, int(r)) if w == 0x21 else engine.Stream(s.source, s.target)
@@ -217,7 +219,8 @@ def test_a_bill_that_the_engine_does_not_charge_is_the_tools_and_of_the_flows_sh
     every = ("--zone", "Europe/Vienna", "--from", "2025-06-20", "--to", "2025-08-02", *words)
     ended = run("history", path, year.export, *every, "--bill", "2025-07", "-o", tmp_path / "bill.csv", "-o", tmp_path / "run.npz", "-o", tmp_path / "run.html")
     assert "hours by the tool, in exact fractions of the flows that the rows show" in ended.out and why in ended.out and "by the proved call" not in ended.out
-    assert "by the tool, in exact fractions" in (tmp_path / "run.html").read_text(encoding="utf-8")
+    text = (tmp_path / "run.html").read_text(encoding="utf-8")
+    assert "by the tool, in exact fractions" in text and "cents, by the tool" in text and "by the proved call" not in text and "not known (25)" in text
     rows, kept = table(tmp_path / "bill.csv"), np.load(tmp_path / "run.npz")
     assert {row["charged by"] for row in rows} == {"tool"} and {row["cents by the proved call"] for row in rows} == {""}
     run("history", path, year.export, *every, "-o", tmp_path / "plain.npz")  # the rows are the same without a bill

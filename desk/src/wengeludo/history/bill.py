@@ -19,6 +19,7 @@ from .run import Run
 
 HOUR = 3600
 BLANK = 25  # what the engine's call answers if a stream to the outside is withheld
+WHYS = {BLANK: "in which what a stream to the outside carries is not known (25)", 19: "in which no flow keeps within the ranges (19)"}
 PROVED, TOOL = "proved call", "tool"
 
 
@@ -138,10 +139,10 @@ def account(found: Bill) -> List[str]:
     failing = sum(charge.failing for charge in found.charges)
     whose = f"by the tool, in exact fractions of the flows that the rows show: {found.why}" if found.why else "by the proved call"
     told = [f"{found.month}: {found.cents:,} cents, the sum of {found.billed:,} hours {whose}."]
-    told.append(f"Estimate: rounded once for the month it would be {once:,} cents ({once - found.cents:+,}), as each hour rounds down.")
     if found.failing:
         told.append(f"{failing:,} cents of it are of {found.failing:,} hours that fail their test.")
     if found.refused or found.missing:
-        whys = [f"{count:,} by refusal {number}" for number, count in found.refused.items()] + ([f"{found.missing:,} without a row"] if found.missing else [])
-        told.append(f"Not billed: {', '.join(whys)} of {found.hours:,} hours.")
+        whys = [f"{count:,} {WHYS.get(number, f'without a sheet ({number})')}" for number, count in found.refused.items()] + ([f"{found.missing:,} without a row"] if found.missing else [])
+        told.append(f"Not billed, of {found.hours:,} hours: {', '.join(whys)}.")
+    told.append(f"Estimate: rounded once for the month it would be {once:,} cents ({once - found.cents:+,}), as each hour rounds down.")
     return told

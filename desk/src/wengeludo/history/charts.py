@@ -101,7 +101,7 @@ class Axis:
         for begin, middle, name in self.ticks():
             if begin >= self.first:
                 made.append(f'<path d="M{self.x(begin):.1f} {top:.1f}V{bottom:.1f}" stroke="{LINE}"/>')
-            if self.x(middle) - last > 34:
+            if self.x(middle) - last > 34 and (last < 0 or self.x(middle) < LEFT + INNER - 10):
                 last = self.x(middle)
                 made.append(text(last, bottom + 15, name, f'text-anchor="middle" fill="{SOFT}"'))
         return "".join(made)
@@ -292,8 +292,8 @@ def _map_legend(y: float) -> str:
     body = raster.image(np.arange(2 * STEPS + 1)[None], palette(), (LEFT, y, 200, 11))
     for value in (-3, 0, 3):
         body += text(LEFT + 100 + 33.3 * value, y + 24, signed(value), f'text-anchor="middle" fill="{SOFT}"')
-    body += text(LEFT + 212, y + 10, "reads low · reads high, in deviations of the correction: an estimate, mean of a day", f'fill="{SOFT}"')
-    x = LEFT + 212.0
+    body += text(LEFT + 226, y + 10, "reads low · reads high, in deviations of the correction: an estimate, mean of a day", f'fill="{SOFT}"')
+    x = LEFT + 226.0
     for word, colour in (("spike", ""), ("frozen or at zero", MARKS["frozen"]), ("held", MARKS["held"]), ("no signal", MARKS["no signal"])):
         body += (f'<rect x="{x:.1f}" y="{y + 17:.1f}" width="9" height="9" fill="none" stroke="{colour}" stroke-width="2"/>' if colour
                  else f'<path d="M{x:.1f} {y + 26:.1f}h8l-4 -8z"/>')

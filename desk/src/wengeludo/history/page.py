@@ -17,7 +17,7 @@ from .events import Event
 from .findings import cause_words, period, sentence
 from .run import Run
 
-MOST_EVENTS, MOST_FINDINGS, MOST_CAUSES = 24, 20, 7
+MOST_EVENTS, MOST_FINDINGS, MOST_CAUSES, MOST_CHARGES = 24, 20, 7, 12
 MOST_BYTES, SHEET_BYTES = 190_000, 60_000  # of a page, and of the weeks' sheets in it
 SHEETS = "{the sheets of the weeks}"
 
@@ -128,6 +128,14 @@ def week_sheets(found: Analysis, left: int) -> Dict[str, Any]:
     return made
 
 
+def bill_of(bill: Bill) -> Dict[str, Any]:
+    """A bill as the page has it: its sentences, the streams that are charged most, and how many more there are."""
+    charged = sorted((charge for charge in bill.charges if charge.cents or charge.once), key=lambda charge: -abs(charge.cents))
+    rows = [{"title": f"{c.label} {c.what}".strip(), "cents": f"{c.cents:,}", "failing": f"{c.failing:,}", "once": f"{c.once:,}",
+             "proved": "" if c.proved is None else f"{c.proved:,}"} for c in charged[:MOST_CHARGES]]
+    return {"told": " ".join(account(bill)), "rows": rows, "more": max(0, len(charged) - MOST_CHARGES), "proved": not bill.why}
+
+
 def _json(told: Any) -> str:
     """JSON that may stand in a script of a page."""
     return json.dumps(told, separators=(",", ":"), ensure_ascii=False).replace("<", "\\u003c")
@@ -145,7 +153,7 @@ def page(found: Analysis, bills: Sequence[Bill]) -> str:
         findings=[sentence(run, finding, MOST_CAUSES) for finding in found.findings[:MOST_FINDINGS]], more=max(0, len(found.findings) - MOST_FINDINGS),
         events=happenings(found), cost=Markup(charts.cost_chart(found)), map=Markup(charts.meter_map(found)),
         drift=Markup(charts.drift_chart(found, *worst)) if worst else "", meters=meter_rows(found), notes=notes,
-        bills=[line for bill in bills for line in account(bill)], certified=_certified(run), whose=WHOSE[run.exact], costs=COSTS[run.exact], date=datetime.now().strftime("%Y-%m-%d %H:%M"), sheets=SHEETS,
+        bills=[bill_of(bill) for bill in bills], certified=_certified(run), whose=WHOSE[run.exact], costs=COSTS[run.exact], date=datetime.now().strftime("%Y-%m-%d %H:%M"), sheets=SHEETS,
     )
     told = {"titles": [pipe.title for pipe in run.list.pipes], "fields": charts.week_fields(found)}
     left = min(SHEET_BYTES, MOST_BYTES - len(text.encode()) - len(_json(told).encode()))
