@@ -275,6 +275,15 @@ def test_the_hours_are_kept_in_a_book_each_once(run, year, tmp_path, words):
             assert max(off) == 0 if str(kept["sheet"]) == "engine" or not (kept["status"][row] == HELD).any() else max(off) <= unit
 
 
+def test_a_book_of_hours_is_a_file_or_on_a_server(run, year, new_book):
+    name = new_book()
+    Book(name, make=True).close()
+    words = ("--to", "2025-01-01T05:00", "--book", name, "--office", "7")
+    assert "5 sheets kept: office 7" in run("history", year.list, year.spring, *words).out
+    assert "0 sheets kept, 5 were there before: office 7" in run("history", year.list, year.spring, *words).out
+    assert run("book", "check", name).status == 0
+
+
 def test_what_is_kept_of_means_says_so_and_a_faulty_run_makes_no_book(run, year, tmp_path):
     book = tmp_path / "sheets.book"
     assert run("history", year.list, year.spring, "--zone", "Nowhere", "--book", book).status == 1 and not book.exists()
