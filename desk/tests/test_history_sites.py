@@ -43,7 +43,7 @@ def test_a_line_for_each_site_and_its_tables_beside(run, folder, tmp_path):
     assert ended.status == 3 and "3 sites: 1 with findings, 1 with faults: west" in ended.out
     told = lines(tmp_path / "all.csv")
     assert [line["site"] for line in told] == ["east", "north", "west"] and told[0]["rows"] == "1000" and told[1]["findings"] == "1"
-    assert "the export is cut off" in told[2]["fault"] and "9 steam from boiler 2" in told[1]["first finding (estimate)"]
+    assert told[2]["fault"].startswith("west/export.csv") and "the export is cut off" in told[2]["fault"] and "9 steam from boiler 2" in told[1]["first finding (estimate)"]
     rows = lines(tmp_path / "all.sites" / "north" / "rows.csv")
     assert int(told[1]["rows"]) == len(rows) >= int(told[1]["tested"]) > int(told[1]["fail"]) == sum(row["verdict"] == "fail" for row in rows) > 0
     assert (tmp_path / "all.sites" / "north" / "run.html").stat().st_size < 200_000
