@@ -93,6 +93,7 @@ if part "texts that are made from lists and samples, and what is to be believed"
     python3 host/check/picture.py
     python3 host/check/believe.py | tail -1
     python3 host/check/names.py
+    python3 host/check/spdx.py || ! long
 fi
 part "the archive"
 rt staticlib linked

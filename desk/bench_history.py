@@ -1,4 +1,5 @@
 #!/usr/bin/env python3
+# SPDX-License-Identifier: LicenseRef-Wengeludo
 """Speed and memory of `wengeludo history`: a year of hours and a year of minutes of the steam site (26 streams, 17 tags), from CSV to page.
 
     python3 desk/bench_history.py [hours|minutes|rows|all]     with the interpreter that has wengeludo; about a minute for all

@@ -4,6 +4,7 @@
 #     bash desk/engine.sh COPY
 #
 # Without target/cross/wengeludo.wasm, or the one that WENGELUDO_WASM names, nothing is put there, and --live says what it lacks.
+# SPDX-License-Identifier: LicenseRef-Wengeludo
 set -eu
 root=$(cd "$(dirname "$0")/.." && pwd)
 wasm=${WENGELUDO_WASM:-$root/target/cross/wengeludo.wasm}

@@ -10,6 +10,7 @@
 #
 # Without an archive it is built by `rt staticlib linked`, which proves it (minutes the first time). A second run takes seconds: what is
 # there is left alone, and binding and tool are put in place anew.
+# SPDX-License-Identifier: LicenseRef-Wengeludo
 set -eu
 root=$(cd "$(dirname "$0")/.." && pwd)
 python=/usr/bin/python3 # Debian's own: another python3 on the PATH sees none of Debian's packages

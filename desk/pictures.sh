@@ -1,5 +1,6 @@
 #!/usr/bin/env bash
 # Draws the pictures of docs/desk anew, by the tool itself: bash desk/pictures.sh (wengeludo on the PATH)
+# SPDX-License-Identifier: LicenseRef-Wengeludo
 set -eu
 cd "$(dirname "$0")"
 for name in steam_site steam_site_off blind_site overfull_site; do

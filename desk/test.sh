@@ -15,6 +15,7 @@
 # WENGELUDO_DRAWS (default 12)           draws of each process of the book under load; 500 is the long run, with 8 processes
 # WENGELUDO_KILL_STEP (default: some)    the book is killed at every so many writes or statements; 1 is each of them
 # CHROMIUM (default chromium)            the browser that opens the pages; none: they are not opened
+# SPDX-License-Identifier: LicenseRef-Wengeludo
 set -eu
 cd "$(dirname "$0")/.."
 python=/usr/bin/python3 # Debian's own: another python3 on the PATH sees none of Debian's packages

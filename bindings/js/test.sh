@@ -5,6 +5,7 @@
 # WENGELUDO_WASM (default: target/cross/wengeludo.wasm)   the WebAssembly module
 # WENGELUDO_DRAWN (default 300)   drawn plants
 # CHROMIUM (default: chromium)    the browser; "none" leaves it out
+# SPDX-License-Identifier: LicenseRef-Wengeludo
 set -euo pipefail
 cd "$(dirname "$0")/../.."
 export WENGELUDO_WASM=${WENGELUDO_WASM:-$PWD/target/cross/wengeludo.wasm}

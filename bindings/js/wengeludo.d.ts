@@ -1,3 +1,4 @@
+// SPDX-License-Identifier: LicenseRef-Wengeludo
 /** Steam and condensate balance sheets: every call of the proved engine, for browsers and Node. */
 
 /** Bytes in any of their forms. */

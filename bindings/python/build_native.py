@@ -1,3 +1,4 @@
+# SPDX-License-Identifier: LicenseRef-Wengeludo
 """Makes the compiled module wengeludo_balance._native out of the C header, the archive and the solver of native/ (cffi, API mode).
 
 The declarations are read from the headers, and the C compiler checks the calls against these same headers: no signature stands here.

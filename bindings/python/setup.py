@@ -1,3 +1,4 @@
+# SPDX-License-Identifier: LicenseRef-Wengeludo
 """The compiled part, and the tag of its wheel; everything else stands in pyproject.toml."""
 
 from setuptools import setup

@@ -1,4 +1,5 @@
 #!/usr/bin/env python3
+# SPDX-License-Identifier: LicenseRef-Wengeludo
 """Times the solver of the tool with its check, row after row of one plant: microseconds a row, processor time, the best of five runs.
 
     python3 bindings/python/time_wide.py [ROWS]      in the environment in which the binding is installed; ROWS is 2,000 at first

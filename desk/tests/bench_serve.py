@@ -1,4 +1,5 @@
 #!/usr/bin/python3
+# SPDX-License-Identifier: LicenseRef-Wengeludo
 """How quick the desk is in a browser: start, what-ifs in chromium, what-ifs a second with four clients, bytes of a page.
 
     python3 desk/tests/bench_serve.py [WHAT-IFS]      by default 200

@@ -1,3 +1,4 @@
+# SPDX-License-Identifier: LicenseRef-Wengeludo
 """Where the sample lists are, and the tool run within the test."""
 
 import os

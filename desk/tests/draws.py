@@ -1,3 +1,4 @@
+# SPDX-License-Identifier: LicenseRef-Wengeludo
 """Draws by many processes at once: rates beside the book of version 1, and draws under SIGKILL, cut connections and a server that stops.
 
     python3 desk/tests/draws.py rates [PROCESSES [DRAWS]]    three books in one run: version 1, a file, a server (if this machine has one)

@@ -1,4 +1,5 @@
 /* Preloaded: ends the process by SIGKILL at the WENGELUDO_KILL-th call that writes to a file, cuts it, forces it out, or removes it. */
+/* SPDX-License-Identifier: LicenseRef-Wengeludo */
 #define _GNU_SOURCE
 #include <dlfcn.h>
 #include <signal.h>

@@ -1,3 +1,4 @@
+# SPDX-License-Identifier: LicenseRef-Wengeludo
 """A book of a million sheets, and what listing, searching and drawing take in it.
 
     python3 desk/tests/million.py FOLDER|server [SHEETS]

@@ -1,3 +1,4 @@
+# SPDX-License-Identifier: LicenseRef-Wengeludo
 """Drawn lists of any span, each judged by the tool and by an independent least squares, in a table.
 
     python3 monte_carlo.py [LISTS [SEED]]     LISTS drawn lists of each span; the table of docs/desk/wide.md is that of 500

@@ -1,3 +1,4 @@
+# SPDX-License-Identifier: LicenseRef-Wengeludo
 """A server of the desk and a browser for the tests: started by them, on loopback, in a temporary folder, and stopped by them."""
 
 import os

@@ -1,3 +1,4 @@
+# SPDX-License-Identifier: LicenseRef-Wengeludo
 """A private PostgreSQL server of a test: in a folder of its own, on loopback, started and stopped by the test; skipped if Debian's package is missing."""
 
 import glob

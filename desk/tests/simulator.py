@@ -1,3 +1,4 @@
+# SPDX-License-Identifier: LicenseRef-Wengeludo
 """Sites and years of hours, with what went wrong in them: truth beside readings. For the tests of histories, and for their tables."""
 
 from __future__ import annotations

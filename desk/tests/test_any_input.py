@@ -1,3 +1,4 @@
+# SPDX-License-Identifier: LicenseRef-Wengeludo
 """Input of any shape: workbooks, places, options. Each ends in a sheet or in faults that name the file, never in a traceback, a hang or in silence.
 
 WENGELUDO_EXAMPLES (default 100)  a third of it for each kind

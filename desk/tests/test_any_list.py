@@ -1,3 +1,4 @@
+# SPDX-License-Identifier: LicenseRef-Wengeludo
 """Lists of any shape: each ends in a sheet or in faults with row and column, never in a traceback.
 
 WENGELUDO_EXAMPLES (default 100)  how many lists of each kind

@@ -1,3 +1,4 @@
+# SPDX-License-Identifier: LicenseRef-Wengeludo
 """A folder in one run: a line for each file, faults among them; cut off in the middle, nothing that was kept is lost.
 
 WENGELUDO_HOURS (default 200)  how many lists; 8,760 is a year

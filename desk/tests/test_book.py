@@ -1,3 +1,4 @@
+# SPDX-License-Identifier: LicenseRef-Wengeludo
 """The book: kept sheets, their numbers, damage, two at a time, and SIGKILL between any two writes.
 
 WENGELUDO_KILL_STEP (default 4)  killed at every so many writes; 1 is each of them

@@ -1,3 +1,4 @@
+# SPDX-License-Identifier: LicenseRef-Wengeludo
 """Every command: its status, what it writes, and wrong use of it."""
 
 import csv

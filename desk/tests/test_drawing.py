@@ -1,3 +1,4 @@
+# SPDX-License-Identifier: LicenseRef-Wengeludo
 """The drawing: names that are no markup, units where the user has put them, labels that cover neither units nor each other."""
 
 import csv

@@ -1,3 +1,4 @@
+# SPDX-License-Identifier: LicenseRef-Wengeludo
 """The tool's own figures against the engine's calls: critical values, limits taken at them and refused beyond them, units that are not 1,
 ranges, transmitter files, signs and zeros."""
 

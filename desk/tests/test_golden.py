@@ -1,3 +1,4 @@
+# SPDX-License-Identifier: LicenseRef-Wengeludo
 """The samples' sheets as text and as JSON, and what the other commands say of them, as they were looked at and kept.
 
 WENGELUDO_GOLDEN=write  writes them anew

@@ -1,3 +1,4 @@
+# SPDX-License-Identifier: LicenseRef-Wengeludo
 """The command `history`: statuses, every file, all of them whole or none, whose numbers, the page in a browser, the bill, overrides."""
 
 import csv

@@ -1,3 +1,4 @@
+# SPDX-License-Identifier: LicenseRef-Wengeludo
 """Exports as historians write them: cells, separators, times, zones, autumn; and everything that is wrong with one, told at once."""
 
 import csv

@@ -1,3 +1,4 @@
+# SPDX-License-Identifier: LicenseRef-Wengeludo
 """What is found in a year: the right meter, leak and events, and little in a year without fault.
 
 WENGELUDO_YEARS (default 3)   years without fault, and runs of each fault; 50 makes docs/HISTORY.md's tables (python3 tests/test_history_findings.py)

@@ -1,3 +1,4 @@
+# SPDX-License-Identifier: LicenseRef-Wengeludo
 """Rows of a run are the desk's sheets, hour by hour, at several units; numbers survive on their way; published examples."""
 
 from dataclasses import replace

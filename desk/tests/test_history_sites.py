@@ -1,3 +1,4 @@
+# SPDX-License-Identifier: LicenseRef-Wengeludo
 """Histories of a folder of sites: a line for each, faults are lines, a run that was cut off goes on, workers that are killed change nothing."""
 
 import csv

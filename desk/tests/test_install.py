@@ -1,3 +1,4 @@
+# SPDX-License-Identifier: LicenseRef-Wengeludo
 """install.sh in a copy of the tree: with no archive and no rt, with an rt that fails, with one that builds it, and a second time.
 
 The rt here is a script that does what `rt staticlib linked` does, by a copy of the archive.

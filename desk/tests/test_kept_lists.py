@@ -1,3 +1,4 @@
+# SPDX-License-Identifier: LicenseRef-Wengeludo
 """What a list tells comes back with its kept sheet: hour, language, units, what stands in place of a reading."""
 
 import csv

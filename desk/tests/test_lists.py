@@ -1,3 +1,4 @@
+# SPDX-License-Identifier: LicenseRef-Wengeludo
 """Faults of lists, one by one: row, column, stream, what stands there and what would do; and lists of every shape that is taken."""
 
 import io

@@ -1,3 +1,4 @@
+# SPDX-License-Identifier: LicenseRef-Wengeludo
 """Pages that recompute by themselves (--live): what they hand to the engine, and in a browser every sheet against the binding's."""
 
 import json

@@ -1,3 +1,4 @@
+# SPDX-License-Identifier: LicenseRef-Wengeludo
 """Offices that draw at once, under faults: every office has its numbers 1 to n, none twice, none told and lost; chains and sheets are whole.
 
 WENGELUDO_DRAWS (default 12)  draws of each process; 500 is the long run, with 8 processes in place of 4

@@ -1,3 +1,4 @@
+# SPDX-License-Identifier: LicenseRef-Wengeludo
 """Each page opened in a real browser: no error on its console, every stream and number in its text; it sorts, and it prints."""
 
 import json

@@ -1,3 +1,4 @@
+# SPDX-License-Identifier: LicenseRef-Wengeludo
 """Numbers, units, marks, languages and damaged files: what a cell means, and what is asked back."""
 
 import csv

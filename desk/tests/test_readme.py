@@ -1,3 +1,4 @@
+# SPDX-License-Identifier: LicenseRef-Wengeludo
 """Every command in README.md is run, one after the other, and prints what stands below it."""
 
 import re

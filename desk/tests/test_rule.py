@@ -1,3 +1,4 @@
+# SPDX-License-Identifier: LicenseRef-Wengeludo
 """Lists of any span by the rule: true figures, spoilt solvers and spoilt records, the individual test, charges, a plant file's unit.
 
 WENGELUDO_WIDE (default 8)  drawn lists of each span beside an independent least squares; 500 is the table of docs/desk/wide.md

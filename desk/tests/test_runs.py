@@ -1,3 +1,4 @@
+# SPDX-License-Identifier: LicenseRef-Wengeludo
 """Runs over folders and books: every file once, counts that add up, what is kept is on the disk, whole or not at all, with its zone of time."""
 
 import csv

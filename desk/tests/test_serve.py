@@ -1,3 +1,4 @@
+# SPDX-License-Identifier: LicenseRef-Wengeludo
 """The desk in a browser, page by page: what it shows, what it refuses, and each of its nine guards."""
 
 import io

@@ -1,3 +1,4 @@
+# SPDX-License-Identifier: LicenseRef-Wengeludo
 """Addresses, forms and uploads of any shape: a page or a told fault, never a failure of the server."""
 
 import io

@@ -1,3 +1,4 @@
+# SPDX-License-Identifier: LicenseRef-Wengeludo
 """The desk in a real browser: typing, striking, choosing, keeping; keyboard, contrast, names of fields, phone and print; a server that is killed."""
 
 import json

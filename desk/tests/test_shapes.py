@@ -1,3 +1,4 @@
+# SPDX-License-Identifier: LicenseRef-Wengeludo
 """What the tool works out itself, against the engine and by other ways."""
 
 import random

@@ -1,3 +1,4 @@
+# SPDX-License-Identifier: LicenseRef-Wengeludo
 """What a person is shown: names that are markup through page, drawing, chart and "what to do next"; verdicts in their colours; as many rows,
 lines and labels as there are streams; the legend and the scale by the sheet; the page's own script in node."""
 

@@ -1,3 +1,4 @@
+# SPDX-License-Identifier: LicenseRef-Wengeludo
 """One book over two stores: the same answers from a file and from a server, and one line for what cannot be done."""
 
 import os

@@ -1,3 +1,4 @@
+# SPDX-License-Identifier: LicenseRef-Wengeludo
 """A book of version 1 made one of version 2: the same numbers, the same bytes, shown alike; cut off anywhere, run again."""
 
 import os

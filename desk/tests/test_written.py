@@ -1,3 +1,4 @@
+# SPDX-License-Identifier: LicenseRef-Wengeludo
 """What is written: columns said once, files that are read again, languages, all files or none, the bill and its marks."""
 
 import csv

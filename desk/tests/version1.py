@@ -1,3 +1,4 @@
+# SPDX-License-Identifier: LicenseRef-Wengeludo
 """The book of version 1, as it was: for tests of the upgrade, and for the rate beside it. One SQLite file, each sheet written in one transaction with the office's last number.
 
 A crash between any two writes leaves the book as it was before the sheet or as it is after it: no number is lost, none is drawn twice.

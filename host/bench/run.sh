@@ -8,6 +8,7 @@
 #     bash host/bench/run.sh --before LIBRARY [...]        the same with another archive in the run, a .a or a .so of version 1
 #     bash host/bench/run.sh --record [...]                the same, and puts the tables into docs/SPEED.md, the plot beside it, and
 #                                                          the worst plants into host/bench
+# SPDX-License-Identifier: LicenseRef-Wengeludo
 set -euo pipefail
 start=$PWD
 cd "$(dirname "$0")/../.."

@@ -2,6 +2,7 @@
 # Measures a call beside the sheet call on plants in sequence, by a program of host/bench/examples.
 #
 #     bash host/bench/sequence.sh EXAMPLE DEFAULT [PLANTS [ROUNDS]]   prints the table; DEFAULT plants of each kind and size, 9 rounds
+# SPDX-License-Identifier: LicenseRef-Wengeludo
 set -euo pipefail
 cd "$(dirname "$0")/../.."
 [ $# -ge 2 ] || { sed -n '2,4s/^# \{0,1\}//p' "$0" >&2; exit 2; }

@@ -6,6 +6,7 @@
  *
  * Exit status: 0 a sheet, 1 a refusal, 2 the command line is wrong, the file cannot be read or the text not be written.
  */
+/* SPDX-License-Identifier: LicenseRef-Wengeludo */
 #include "common.h"
 
 /* Reads the sheet back in and prints it; the number of a refusal, or 0. */

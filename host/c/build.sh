@@ -2,6 +2,7 @@
 # Builds balance_file, meters_to_buy, layouts_file, visits_file, charges_file, check_sheet, check_flow, place_numbers and what tests them in target/host with the system's C compiler (CC, else cc).
 #
 #     bash host/c/build.sh [FOLDER]   another folder; CFLAGS has further words for the compiler
+# SPDX-License-Identifier: LicenseRef-Wengeludo
 set -eu
 cd "$(dirname "$0")/../.."
 archive=target/staticlib/liblinked.a

@@ -14,6 +14,7 @@
  *
  * Exit status: 0 it passes, 1 a refusal, 2 the command line is wrong, the file cannot be read or the text not be written.
  */
+/* SPDX-License-Identifier: LicenseRef-Wengeludo */
 #define _POSIX_C_SOURCE 200809L
 #include "common.h"
 

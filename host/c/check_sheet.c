@@ -8,6 +8,7 @@
  *
  * Exit status: 0 it passes, 1 a refusal, 2 the command line is wrong, a file cannot be read or the text not be written.
  */
+/* SPDX-License-Identifier: LicenseRef-Wengeludo */
 #include "common.h"
 #include "rules.h"
 

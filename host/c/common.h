@@ -1,5 +1,6 @@
 /* What the programs of this folder share: a file read, words that are numbers, and whether what was printed reached its end. Each
  * function that finds something wrong says so on standard error. */
+/* SPDX-License-Identifier: LicenseRef-Wengeludo */
 #ifndef WENGELUDO_COMMON_H
 #define WENGELUDO_COMMON_H
 

@@ -1,6 +1,7 @@
 /* Every slice of every call, of length 0 and NULL: the header promises that it is not looked at. Prints how many calls were tried;
  * exit status 1 where one returned another number than it should, or wrote where it should not.
  */
+/* SPDX-License-Identifier: LicenseRef-Wengeludo */
 #include <stdio.h>
 #include <string.h>
 

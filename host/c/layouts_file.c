@@ -5,6 +5,7 @@
  *
  * Exit status: 0 a survey, 1 a refusal, 2 the command line is wrong, the file cannot be read or the text not be written.
  */
+/* SPDX-License-Identifier: LicenseRef-Wengeludo */
 #include "common.h"
 
 int main(int count_of_words, char **words)

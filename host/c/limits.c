@@ -1,5 +1,6 @@
 /* Every limit, kind and verdict of the header against the calls: taken at it, refused beyond it; and the critical values, by plants
  * whose cost is at each of them and just above it. Prints what differs. */
+/* SPDX-License-Identifier: LicenseRef-Wengeludo */
 #include <stdio.h>
 #include <string.h>
 

@@ -7,6 +7,7 @@
  *
  * Exit status: 0 an answer, 1 a refusal, 2 the command line is wrong, the file cannot be read or the text not be written.
  */
+/* SPDX-License-Identifier: LicenseRef-Wengeludo */
 #include "common.h"
 
 /* One more than the most prices: more are refused all the same. */

@@ -1,5 +1,6 @@
 /* The rules of the check of a sheet, one by one in exact numbers, so that the first one broken can be told in words. The check is
  * the archive's (wengeludo_check_sheet); what stands here only finds the words for its 26. */
+/* SPDX-License-Identifier: LicenseRef-Wengeludo */
 #ifndef WENGELUDO_RULES_H
 #define WENGELUDO_RULES_H
 

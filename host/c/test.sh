@@ -4,6 +4,7 @@
 #
 #     bash host/c/test.sh            the programs of target/host, then the same with the sanitizers of addresses and of undefined behaviour
 #     bash host/c/test.sh FOLDER     those of another folder
+# SPDX-License-Identifier: LicenseRef-Wengeludo
 set -eu
 cd "$(dirname "$0")/../.."
 host=${1:-target/host}

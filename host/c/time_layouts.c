@@ -3,6 +3,7 @@
  *
  *     cc -O2 -I host/include host/c/time_layouts.c target/staticlib/liblinked.a -o target/host/time_layouts
  */
+/* SPDX-License-Identifier: LicenseRef-Wengeludo */
 #include <stdio.h>
 #include <time.h>
 

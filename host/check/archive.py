@@ -1,4 +1,5 @@
 #!/usr/bin/env python3
+# SPDX-License-Identifier: LicenseRef-Wengeludo
 """The archive is the same byte for byte wherever it is built: its SHA-256 stands in docs/MEASURED.md, beside the kit that wrote it.
 
     python3 host/check/archive.py                    compares target/staticlib/liblinked.a with it, where the kit is the same

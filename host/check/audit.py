@@ -1,4 +1,5 @@
 #!/usr/bin/env python3
+# SPDX-License-Identifier: LicenseRef-Wengeludo
 """What a reader of the crates asks first, counted from the files.
 
     python3 host/check/audit.py

@@ -1,3 +1,4 @@
+# SPDX-License-Identifier: LicenseRef-Wengeludo
 """What a reader of the promises must believe: every definition that they unfold to, and where it stands.
 
     python3 host/check/believe.py            fails where a name stands in no file that docs/PROMISES.md lists, or a count there is not true

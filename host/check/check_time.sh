@@ -7,6 +7,7 @@
 # Each commit is cloned and proved from nothing (rt prove: no edits, no programs), one crate at a time so that times compare. Prints a
 # table in markdown: seconds by crate, their sum, then lines of specs, code and proofs. seconds.py beside this file measures one tree
 # in seconds of processor time, and finer.
+# SPDX-License-Identifier: LicenseRef-Wengeludo
 set -eu
 cd "$(dirname "$0")/../.."
 [ $# -ge 1 ] || { sed -n '2,9s/^# \{0,1\}//p' "$0" >&2; exit 2; }

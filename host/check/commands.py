@@ -1,4 +1,5 @@
 #!/usr/bin/env python3
+# SPDX-License-Identifier: LicenseRef-Wengeludo
 """Every command that README.md, CONTRIBUTING.md, docs/ and the README of samples, reference, bindings and desk name, read out of the text and run.
 
     python3 host/check/commands.py          runs them; status 1 where one fails or prints something else than the text says

@@ -1,4 +1,5 @@
 #!/usr/bin/env python3
+# SPDX-License-Identifier: LicenseRef-Wengeludo
 """The list of crates in docs/ARCHITECTURE.md, from crates.txt and the first sentence of each crate's lib.rt or main.rt.
 
     python3 host/check/crate_list.py           compares the list with the crates; status 1 where they differ

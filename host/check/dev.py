@@ -1,4 +1,5 @@
 #!/usr/bin/env python3
+# SPDX-License-Identifier: LicenseRef-Wengeludo
 """rt dev, easier to read.
 
     python3 host/check/dev.py CRATE            errors and goals, long module paths shortened, proved functions left out

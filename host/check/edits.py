@@ -1,4 +1,5 @@
 #!/usr/bin/env python3
+# SPDX-License-Identifier: LicenseRef-Wengeludo
 """The tables of docs/EDITS.md, from the must-fail edits themselves.
 
     python3 host/check/edits.py           compares the tables with the edits; status 1 where they differ

@@ -1,4 +1,5 @@
 #!/usr/bin/env python3
+# SPDX-License-Identifier: LicenseRef-Wengeludo
 """Whether the names that docs/GLOSSARY.md gives are in the code.
 
     python3 host/check/glossary.py

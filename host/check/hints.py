@@ -1,4 +1,5 @@
 #!/usr/bin/env python3
+# SPDX-License-Identifier: LicenseRef-Wengeludo
 """Whether the solver's start is worth something: how many improvements fifty drawn plants take, beside a recorded count of each.
 
     python3 host/check/hints.py                  the counts, compared with host/check/improvements.tsv

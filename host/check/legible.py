@@ -1,4 +1,5 @@
 #!/usr/bin/env python3
+# SPDX-License-Identifier: LicenseRef-Wengeludo
 """The crates can be read: the rules of CONTRIBUTING.md on functions, contracts and proofs that a program can tell.
 
     python3 host/check/legible.py    status 1 where a rule is broken, with each place

@@ -1,3 +1,4 @@
+# SPDX-License-Identifier: LicenseRef-Wengeludo
 """Texts that are made from lists: what stands between two marks is compared with what the list makes of it, or made anew."""
 import os
 import sys

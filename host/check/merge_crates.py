@@ -1,4 +1,5 @@
 #!/usr/bin/env python3
+# SPDX-License-Identifier: LicenseRef-Wengeludo
 """Merges two crates of a repository of proved Rattle crates into one, with every mention of them.
 
     python3 host/check/merge_crates.py NEW A[:MODULE] B[:MODULE] [--root DIR] [--no-fmt]

@@ -1,4 +1,5 @@
 #!/usr/bin/env python3
+# SPDX-License-Identifier: LicenseRef-Wengeludo
 """A mutation run: small changes of the desk, the bindings, C, C++, Rust and what installs, drawn by a seed; each must fail a test of the
 short run that is meant for it.
 

@@ -1,4 +1,5 @@
 #!/usr/bin/env python3
+# SPDX-License-Identifier: LicenseRef-Wengeludo
 """Every file, crate, definition's file and edit that the texts name is there, and every crate and edit is named.
 
     python3 host/check/names.py          status 1 where one is not

@@ -1,4 +1,5 @@
 #!/usr/bin/env python3
+# SPDX-License-Identifier: LicenseRef-Wengeludo
 """The picture of a sample's sheet, docs/sheet.svg: the plant of samples/blind_site.bin, each stream with what its sheet shows
 (samples/blind_site.expected, which `balance` prints, byte for byte).
 

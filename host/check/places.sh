@@ -4,6 +4,7 @@
 #     bash host/check/places.sh CRATE FUNCTION
 #
 # FUNCTION is its path under proofs/, as read_plant or scan/find.
+# SPDX-License-Identifier: LicenseRef-Wengeludo
 set -eu
 cd "$(dirname "$0")/../.."
 [ $# -eq 2 ] || { sed -n '2,6s/^# \{0,1\}//p' "$0" >&2; exit 2; }

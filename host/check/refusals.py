@@ -1,4 +1,5 @@
 #!/usr/bin/env python3
+# SPDX-License-Identifier: LicenseRef-Wengeludo
 """The refusals, from one list: host/refusals.tsv has a line for each (number, name in C, name in Rust, sentence, smallest file).
 
     python3 host/check/refusals.py           compares what is made from the list with the list; status 1 where they differ

@@ -1,4 +1,5 @@
 #!/usr/bin/env python3
+# SPDX-License-Identifier: LicenseRef-Wengeludo
 """Why each must-fail edit was refused, after `rt must-fail` or `rt ci`, from target/must-fail/*/*/.log.
 
     python3 host/check/refused_at.py [CRATE ..]

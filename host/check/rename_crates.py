@@ -1,4 +1,5 @@
 #!/usr/bin/env python3
+# SPDX-License-Identifier: LicenseRef-Wengeludo
 """Renames crates of a repository of proved Rattle crates, with every mention of them.
 
     python3 host/check/rename_crates.py MAP [--root DIR] [--dry-run] [--no-fmt]

@@ -1,4 +1,5 @@
 #!/usr/bin/env python3
+# SPDX-License-Identifier: LicenseRef-Wengeludo
 """Runs of lines that stand twice in the .antt and .rt files below a folder, alike but for names and numbers.
 
     python3 host/check/repeats.py [DIR] [--lines N] [--most N] [--exact]

@@ -1,4 +1,5 @@
 #!/usr/bin/env python3
+# SPDX-License-Identifier: LicenseRef-Wengeludo
 """Where the time of the check goes, in seconds of processor time (user and system), one check at a time.
 
     python3 host/check/seconds.py crates [NAME ...]   proves the crates in order, from nothing: a line for each, and the sum

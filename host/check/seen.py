@@ -1,3 +1,4 @@
+# SPDX-License-Identifier: LicenseRef-Wengeludo
 """Which tests of the desk run a line: a map by Debian's python3-coverage, made once for a copy of the tree (host/check/tried.py).
 
 Used by host/check/mutants.py --map FILE, so that a change is tried by the tests that run its line, the quickest first. What another process runs

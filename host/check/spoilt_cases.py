@@ -1,4 +1,5 @@
 #!/usr/bin/env python3
+# SPDX-License-Identifier: LicenseRef-Wengeludo
 """Whether `vectors` sees a difference: the compiled program over copies of its cases, each of which has one byte changed.
 
     python3 host/check/spoilt_cases.py   after `rt check vectors` or the gate

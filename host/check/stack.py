@@ -1,4 +1,5 @@
 #!/usr/bin/env python3
+# SPDX-License-Identifier: LicenseRef-Wengeludo
 """The most stack that each exported call takes, by its instructions: what every function pushes and sets aside, along the deepest chain.
 
     python3 host/check/stack.py [ARCHIVE]   the calls with their bytes, for x86-64; status 1 if the header says another most

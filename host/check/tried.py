@@ -1,3 +1,4 @@
+# SPDX-License-Identifier: LicenseRef-Wengeludo
 """A copy of the tree in which a change is tried: made once, changed, tested by the narrowest part of the short run, and put right again.
 
 Used by host/check/wrong.py and host/check/mutants.py. It needs target/staticlib/liblinked.a and Debian's packages for the desk.

@@ -7,6 +7,7 @@
 #
 # TREE is the folder of a crates.txt (default: this repository). The functions are those of the archive that rt builds, instruction for
 # instruction. But an unproved program may read out of bounds: what is delivered is built by rt.
+# SPDX-License-Identifier: LicenseRef-Wengeludo
 set -eu
 [ $# -eq 1 ] || [ $# -eq 2 ] || { sed -n '2,9s/^# \{0,1\}//p' "$0" >&2; exit 2; }
 tree=$(cd "${2:-$(dirname "$0")/../..}" && pwd)

@@ -1,4 +1,5 @@
 #!/usr/bin/env python3
+# SPDX-License-Identifier: LicenseRef-Wengeludo
 """Names that nothing uses, specs that lean on proofs, and how the crates lean on one another.
 
     python3 host/check/unused.py            names defined at the top of a .antt file, or functions of src/, that occur nowhere else

@@ -1,4 +1,5 @@
 #!/usr/bin/env python3
+# SPDX-License-Identifier: LicenseRef-Wengeludo
 """One version everywhere: the definition and the code of the crate `version`, the C header, the Rust crate, the newest heading of
 CHANGELOG.md, docs/LINKING.md, and the Python packages where there are any. Prints it; status 1 where two differ."""
 import os

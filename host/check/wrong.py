@@ -1,4 +1,5 @@
 #!/usr/bin/env python3
+# SPDX-License-Identifier: LicenseRef-Wengeludo
 """Wrong programs of the host: each edit of host/check/wrong is applied to a copy of the tree, and the test that it names must fail.
 
     python3 host/check/wrong.py              all of them

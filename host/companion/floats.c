@@ -3,6 +3,7 @@
  *
  *     floats PACK   files of host/cross/pack.py
  */
+/* SPDX-License-Identifier: LicenseRef-Wengeludo */
 #define _GNU_SOURCE
 #include "wengeludo_balance.h"
 

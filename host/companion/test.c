@@ -4,6 +4,7 @@
  *
  *     test PACK...
  */
+/* SPDX-License-Identifier: LicenseRef-Wengeludo */
 #include "wengeludo_fault.h"
 
 #include <stdio.h>

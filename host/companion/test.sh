@@ -1,6 +1,7 @@
 #!/usr/bin/env bash
 # The host code beside the archive: where a file is refused, against the proved calls; the sentence of a refusal as a function. And what
 # the header says of the floating-point environment.
+# SPDX-License-Identifier: LicenseRef-Wengeludo
 set -euo pipefail
 cd "$(dirname "$0")/../.."
 archive=${WENGELUDO_ARCHIVE:-target/staticlib/liblinked.a}

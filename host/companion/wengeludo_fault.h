@@ -3,6 +3,7 @@
  *
  * In the shared library, and for programs that link the archive in libwengeludo_host.a beside it.
  */
+/* SPDX-License-Identifier: LicenseRef-Wengeludo */
 #ifndef WENGELUDO_FAULT_H
 #define WENGELUDO_FAULT_H
 

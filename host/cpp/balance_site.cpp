@@ -1,3 +1,4 @@
+/* SPDX-License-Identifier: LicenseRef-Wengeludo */
 // A plant written, balanced and printed from C++17, without an allocation: slices of what the caller has, results by value.
 //
 //     balance_site

@@ -1,3 +1,4 @@
+/* SPDX-License-Identifier: LicenseRef-Wengeludo */
 // What the calls of wengeludo.hpp hand over: each slice with its own length, in the header's order, and back what the call wrote. The
 // calls stand here in place of the archive's, and note what they are handed; no two lengths are equal.
 #include <array>

@@ -1,3 +1,4 @@
+/* SPDX-License-Identifier: LicenseRef-Wengeludo */
 // What a slice takes and what it does not, every call of wengeludo.hpp once, empty containers among them; and that nothing is
 // allocated: operator new ends the program.
 #include <array>

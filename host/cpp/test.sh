@@ -1,5 +1,6 @@
 #!/usr/bin/env bash
 # wengeludo.hpp with g++ and clang++, warnings as errors: the example's sheet, what slices take, and what each call is handed, in C++17 and C++20.
+# SPDX-License-Identifier: LicenseRef-Wengeludo
 set -eu
 cd "$(dirname "$0")/../.."
 archive=target/staticlib/liblinked.a

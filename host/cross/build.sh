@@ -11,6 +11,7 @@
 # clang's back end for the other one.
 #
 # CROSS_OBJECT=OUT.o   keeps the object as well: test.sh links its driver with it
+# SPDX-License-Identifier: LicenseRef-Wengeludo
 set -euo pipefail
 usage() { sed -n '2,5s/^# \{0,1\}//p' "$0" >&2; exit 2; }
 [ $# -eq 2 ] || usage

@@ -3,6 +3,7 @@
  *
  * A call more is one function and one row of `calls`; test.sh compares the rows with the header.
  */
+/* SPDX-License-Identifier: LicenseRef-Wengeludo */
 #include "lengths.h"
 
 #define PAST 4 /* elements past what a call asks for */

@@ -1,4 +1,5 @@
 /* The C header for wasm32 as well: its calls take lengths and hand over counts of 64 bits there too, and its size_t has 32. */
+/* SPDX-License-Identifier: LicenseRef-Wengeludo */
 #ifndef CROSS_LENGTHS_H
 #define CROSS_LENGTHS_H
 #include <stddef.h>

@@ -1,4 +1,5 @@
 /* What a wasm32 module without a C library needs of one: moving and filling memory, and a product of 128 bits. */
+/* SPDX-License-Identifier: LicenseRef-Wengeludo */
 #include <stddef.h>
 #include <stdint.h>
 

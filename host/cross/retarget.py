@@ -1,4 +1,5 @@
 #!/usr/bin/env python3
+# SPDX-License-Identifier: LicenseRef-Wengeludo
 """The module of the proving run as text, for another processor: searched for what depends on its own, then without its name.
 
     python3 host/cross/retarget.py IN.ll OUT.ll aarch64|riscv64|wasm32

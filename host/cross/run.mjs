@@ -1,3 +1,4 @@
+// SPDX-License-Identifier: LicenseRef-Wengeludo
 // Runs the driver as a WebAssembly module in Node: node host/cross/run.mjs DRIVER.wasm < PACK > OUT
 import { readFileSync, writeSync } from 'node:fs';
 

@@ -1,4 +1,5 @@
 /* Runs the driver on Linux without a C library: the pack comes by standard input, and what the calls hand back goes to standard output. */
+/* SPDX-License-Identifier: LicenseRef-Wengeludo */
 #include "lengths.h"
 
 void emit(const uint8_t *bytes, uint64_t count);

@@ -7,6 +7,7 @@
 #     bash host/cross/test.sh --search          that what depends on a processor is found where it is put in
 #
 # CROSS_FILES (default 2000)   how many files are drawn
+# SPDX-License-Identifier: LicenseRef-Wengeludo
 set -euo pipefail
 cd "$(dirname "$0")/../.."
 kit=${RATTLE_HOME:-$(dirname "$(dirname "$(readlink -f "$(command -v rt)")")")}

@@ -9,6 +9,7 @@
 # WENGELUDO_MAINTAINER    who answers for the packages, as "Name <name@host>"; the address that stands here leads nowhere
 #
 # The same tree gives the same bytes: times are those of the newest commit.
+# SPDX-License-Identifier: LicenseRef-Wengeludo
 set -euo pipefail
 unproved=()
 [ "${1:-}" != --unproved ] || { unproved=(--unproved); shift; }

@@ -1,4 +1,5 @@
 #!/usr/bin/env python3
+# SPDX-License-Identifier: LicenseRef-Wengeludo
 """Prints the manual page wengeludo(1): every command with its own first sentence, as the tool has them."""
 
 from __future__ import annotations

@@ -3,6 +3,7 @@
 # beside this machine's own list of packages, used from there by C, by Python and as the desk tool, and removed again.
 #
 #     bash host/debian/test.sh [--unproved]
+# SPDX-License-Identifier: LicenseRef-Wengeludo
 set -euo pipefail
 cd "$(dirname "$0")/../.."
 for tool in dpkg-deb lintian fakeroot pkg-config dpkg-shlibdeps; do

@@ -1,6 +1,7 @@
 /* Coverage of the archive as it is delivered, which carries no instrumentation: a breakpoint stands at each basic block of its
  * functions (blocks.txt beside the program, made by build.sh). The first time a block runs, the breakpoint is taken away and the
  * block's counter set, so that the input counts as new. What the subjects see counts as new as well (seen). */
+/* SPDX-License-Identifier: LicenseRef-Wengeludo */
 #define _GNU_SOURCE
 #include <signal.h>
 #include <stdio.h>

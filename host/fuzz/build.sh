@@ -1,5 +1,6 @@
 #!/usr/bin/env bash
 # Builds target/host/fuzz/target, the fuzz target over liblinked.a, with clang's libFuzzer, and the list of its basic blocks.
+# SPDX-License-Identifier: LicenseRef-Wengeludo
 set -eu
 cd "$(dirname "$0")/../.."
 archive=target/staticlib/liblinked.a

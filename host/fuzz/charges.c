@@ -1,4 +1,5 @@
 /* Steam charges: shares in 128 bits, the missing cents handed out one after the other. */
+/* SPDX-License-Identifier: LicenseRef-Wengeludo */
 #include "target.h"
 
 /* Ten-thousandths rounded toward minus infinity, and what remains. */

@@ -5,6 +5,7 @@
  * the sign, and 2 bytes. Where the first byte of all is even, every second stream runs back what the one before it brings, and readings
  * are such that the numbers show the flow, `off` aside: so the search finds flows that pass.
  */
+/* SPDX-License-Identifier: LicenseRef-Wengeludo */
 #include "target.h"
 
 __extension__ typedef __int128 wide;

@@ -1,4 +1,5 @@
 /* Sheets drawn up elsewhere: numbers of the places, and the check against its rules in exact numbers (host/c/rules.h). */
+/* SPDX-License-Identifier: LicenseRef-Wengeludo */
 #include "target.h"
 #include "../c/rules.h"
 

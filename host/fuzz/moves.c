@@ -1,4 +1,5 @@
 /* Moves: a plant file to the ranged form and home again, against its records rewritten where they stand. */
+/* SPDX-License-Identifier: LicenseRef-Wengeludo */
 #include "target.h"
 
 /* The records of a plant file that is read, rewritten where they stand: to the ranged form, or home; 0 bytes where a range is

@@ -2,6 +2,7 @@
  *
  * Parts, as an input has them: units, count (2), which slice is cut (1) and where (1), then 18 bytes for each stream: from, to,
  * metered, weight (2), reading (4), ranged, low (4), high (4). */
+/* SPDX-License-Identifier: LicenseRef-Wengeludo */
 #include "target.h"
 
 enum { SLICES = 8, PART_BYTES = 18, HEAD_BYTES = 5, MOST_PARTS = 112 };

@@ -1,4 +1,5 @@
 /* Meters to buy: prices by the choice of the input, and an answer that no other set has. */
+/* SPDX-License-Identifier: LicenseRef-Wengeludo */
 #include "target.h"
 
 /* Whether stream j goes before stream i where streams are left unmetered: dearer, or as dear and of higher number. */

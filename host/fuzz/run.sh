@@ -1,5 +1,6 @@
 #!/usr/bin/env bash
 # Runs the fuzz target for so many seconds (default 60) over a copy of the corpus. Findings are left in target/host/fuzz/.
+# SPDX-License-Identifier: LicenseRef-Wengeludo
 set -eu
 cd "$(dirname "$0")/../.."
 out=target/host/fuzz

@@ -1,4 +1,5 @@
 /* Sheets: the sheet call, the sheet reader, and what a sheet or the marked places must show. */
+/* SPDX-License-Identifier: LicenseRef-Wengeludo */
 #include "target.h"
 
 /* The refusal of the call itself, as the header states it; 0 where it has none. */

@@ -1,4 +1,5 @@
 /* Slices that end at a page that may not be touched, with a guard before them, and numbers in bytes. */
+/* SPDX-License-Identifier: LicenseRef-Wengeludo */
 #define _GNU_SOURCE
 #include <sys/mman.h>
 

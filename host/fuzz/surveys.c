@@ -1,4 +1,5 @@
 /* The survey of meter layouts: what is returned, and for few streams the counts by brute force. */
+/* SPDX-License-Identifier: LicenseRef-Wengeludo */
 #include "target.h"
 
 /* Whether the streams that are not in the set have no loop: each joins two sets of places. */

@@ -7,6 +7,7 @@
  * before it that may not change. Three of four changed inputs are repaired to a plant within its limits, so that the search gets
  * past the reader. What counts as new: blocks.c, and the counters of target.h.
  */
+/* SPDX-License-Identifier: LicenseRef-Wengeludo */
 #include <stdio.h>
 #include <stdlib.h>
 

@@ -1,5 +1,6 @@
 /* What the subjects of the fuzz target share: slices between a guard and a page that may not be touched, numbers in bytes, the parts
  * of a plant, and what counts as new. A subject has a file of its own, and target.c says which input goes to which. */
+/* SPDX-License-Identifier: LicenseRef-Wengeludo */
 #ifndef WENGELUDO_FUZZ_TARGET_H
 #define WENGELUDO_FUZZ_TARGET_H
 

@@ -1,4 +1,5 @@
 /* Meters worth a visit: the list, against the sheets of the plants with a meter less. */
+/* SPDX-License-Identifier: LicenseRef-Wengeludo */
 #include "target.h"
 
 /* The cost on a sheet. */

@@ -1,3 +1,4 @@
+/* SPDX-License-Identifier: LicenseRef-Wengeludo */
 // Steam and condensate balance sheets for C++17: the calls of wengeludo_balance.h with slices in place of pointers and lengths, and
 // results in place of pointers to numbers. Header only; nothing is allocated and nothing is thrown.
 //

@@ -23,6 +23,7 @@
  * and every byte of a slice follow from what is handed in, but for the choices that two calls have, which places are marked and
  * which numbers places get.
  */
+/* SPDX-License-Identifier: LicenseRef-Wengeludo */
 #ifndef WENGELUDO_BALANCE_H
 #define WENGELUDO_BALANCE_H
 

@@ -1,4 +1,5 @@
 #!/usr/bin/env python3
+# SPDX-License-Identifier: LicenseRef-Wengeludo
 """The manual page wengeludo(3), made from the C header: its calls, its constants and its refusals, in the header's own words.
 
     python3 host/install/man.py           prints the page

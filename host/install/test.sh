@@ -1,6 +1,7 @@
 #!/usr/bin/env bash
 # install.sh in a scratch prefix, as a customer uses it: pkg-config, plain cc, CMake, the manual pages, the Rust crate, DESTDIR, and
 # that uninstalling leaves nothing.
+# SPDX-License-Identifier: LicenseRef-Wengeludo
 set -eu
 cd "$(dirname "$0")/../.."
 for tool in pkg-config cmake man groff readelf cargo; do

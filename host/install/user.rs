@@ -1,3 +1,4 @@
+// SPDX-License-Identifier: LicenseRef-Wengeludo
 use wengeludo_balance::{Offices, Plant, Refusal};
 
 fn main() -> Result<(), Refusal> {

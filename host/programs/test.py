@@ -1,3 +1,4 @@
+# SPDX-License-Identifier: LicenseRef-Wengeludo
 """Runs the programs themselves, target/bin/balance, layouts and visits, and compares what they print with the reference solver.
 
     python3 host/programs/test.py

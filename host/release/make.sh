@@ -7,6 +7,7 @@
 # Debian packages, the headers, a bill of materials (SPDX), and SHA256SUMS over all of them. Nothing is uploaded, no tag is set: RELEASING.md.
 #
 # WENGELUDO_CHANGED=1   takes a tree with changes, to try this script
+# SPDX-License-Identifier: LicenseRef-Wengeludo
 set -euo pipefail
 [ $# -eq 1 ] || { sed -n '2,7s/^# \{0,1\}//p' "$0" >&2; exit 2; }
 out=$(realpath -m "$1")

@@ -1,4 +1,5 @@
 #!/usr/bin/env python3
+# SPDX-License-Identifier: LicenseRef-Wengeludo
 """The software bill of materials, SPDX 2.3 in JSON: the parts of a release, their sums, and what each needs of others.
 
     python3 host/release/sbom.py FOLDER   the parts in FOLDER; prints the document

@@ -1,3 +1,4 @@
+// SPDX-License-Identifier: LicenseRef-Wengeludo
 //! Links the engine's archive, and refuses one that this crate was not made for.
 //!
 //! The archive is liblinked.a or libwengeludo.a in the folder that WENGELUDO_ARCHIVE_DIR names; without it liblinked.a in the

@@ -3,6 +3,7 @@
 #   one whose calls all return 99 (no call of the crate may take that for done), one whose sheet reader answers what is not known (not
 #   taken for what is), one of a later minor version (taken),
 #   one of another major version, one without a version, and none at all (the build fails and says why).
+# SPDX-License-Identifier: LicenseRef-Wengeludo
 set -eu
 cd "$(dirname "$0")/../.."
 archive=target/staticlib/liblinked.a

@@ -1,6 +1,7 @@
 #!/usr/bin/env bash
 # The Rust crate with the oldest Rust that Cargo.toml names (rust-version), where there is one: `cargo` and `rustc` in the folder that
 # OLDEST_RUST names, else the system's (Debian 12 has 1.63), else rustup's. All tests and the documentation's examples.
+# SPDX-License-Identifier: LicenseRef-Wengeludo
 set -eu
 cd "$(dirname "$0")"
 oldest=$(sed -n 's/^rust-version = "\(.*\)"$/\1/p' Cargo.toml)

@@ -1,3 +1,4 @@
+# SPDX-License-Identifier: LicenseRef-Wengeludo
 """Drawn plants with the reference solver's answers, one JSON value a line, for differential.test.mjs: python3 answers.py HOW_MANY SEED."""
 
 import json

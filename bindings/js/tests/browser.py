@@ -1,3 +1,4 @@
+# SPDX-License-Identifier: LicenseRef-Wengeludo
 """A page from file: with the engine inside, in Chromium: it draws the sheet of every sample, as samples/*.expected have it.
 
     python3 bindings/js/tests/browser.py MODULE.wasm     CHROMIUM names the browser (default: chromium)

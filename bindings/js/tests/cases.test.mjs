@@ -1,3 +1,4 @@
+// SPDX-License-Identifier: LicenseRef-Wengeludo
 // Every committed case of an exported call (reference/cases.py says their form), through this module.
 import assert from 'node:assert/strict';
 import { readdirSync } from 'node:fs';

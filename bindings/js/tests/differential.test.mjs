@@ -1,3 +1,4 @@
+// SPDX-License-Identifier: LicenseRef-Wengeludo
 // Drawn plants, whole and damaged, against the reference solver (reference/), which shares no method with the engine.
 // WENGELUDO_DRAWN (default 300)   how many plants
 import assert from 'node:assert/strict';

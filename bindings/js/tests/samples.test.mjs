@@ -1,3 +1,4 @@
+// SPDX-License-Identifier: LicenseRef-Wengeludo
 // Every sample, every call on one of them, every refusal by its smallest file, what is no number and no bytes; the calls of the header.
 import assert from 'node:assert/strict';
 import { test } from 'node:test';

@@ -4,6 +4,7 @@
 #     bash bindings/python/native/bench.sh
 #
 # WENGELUDO_ARCHIVE, WENGELUDO_INCLUDE   another archive and its header's folder
+# SPDX-License-Identifier: LicenseRef-Wengeludo
 set -eu
 cd "$(dirname "$0")"
 root=$(cd ../../.. && pwd)

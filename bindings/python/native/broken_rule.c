@@ -1,4 +1,5 @@
 /* The words of host/c/rules.h as a function. */
+/* SPDX-License-Identifier: LicenseRef-Wengeludo */
 #include "broken_rule.h"
 
 #include "rules.h"

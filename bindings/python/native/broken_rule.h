@@ -1,4 +1,5 @@
 /* The first broken rule of a sheet that the check has refused with 26, in words, as the C program check_sheet prints it. */
+/* SPDX-License-Identifier: LicenseRef-Wengeludo */
 #ifndef WENGELUDO_BROKEN_RULE_H
 #define WENGELUDO_BROKEN_RULE_H
 

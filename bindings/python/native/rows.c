@@ -1,3 +1,4 @@
+/* SPDX-License-Identifier: LicenseRef-Wengeludo */
 #include "rows.h"
 
 #include <string.h>

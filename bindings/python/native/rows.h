@@ -3,6 +3,7 @@
  * What is unproved here: that a row's cells become the right transmitter file, and that what the calls give is put at its place. With
  * `numbers` every sheet is held against the plant file that it was drawn from, by the proved check.
  */
+/* SPDX-License-Identifier: LicenseRef-Wengeludo */
 #ifndef WENGELUDO_ROWS_H
 #define WENGELUDO_ROWS_H
 

@@ -2,6 +2,7 @@
  *
  * The same rows twice: by rows_balance, and by the calls alone over transmitter files that were made before the clock started.
  */
+/* SPDX-License-Identifier: LicenseRef-Wengeludo */
 #include <stdio.h>
 #include <stdlib.h>
 #include <string.h>

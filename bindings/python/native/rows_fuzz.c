@@ -1,6 +1,7 @@
 /* Drawn plants and rows, tame and wild, each array exactly as long as it must be: under ASan and UBSan (sanitize.sh) a byte past an
  * array ends the run. Every sheet that is not refused must pass the proved check.
  */
+/* SPDX-License-Identifier: LicenseRef-Wengeludo */
 #include <stdio.h>
 #include <stdlib.h>
 #include <string.h>

@@ -5,6 +5,7 @@
 #     bash bindings/python/native/sanitize.sh [ROUNDS]     3 rows and a plant a round, default 2000; 30000 takes a minute
 #
 # WENGELUDO_ARCHIVE, WENGELUDO_INCLUDE   another archive and its header's folder
+# SPDX-License-Identifier: LicenseRef-Wengeludo
 set -eu
 cd "$(dirname "$0")"
 root=$(cd ../../.. && pwd)

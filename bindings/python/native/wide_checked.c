@@ -1,5 +1,6 @@
 /* The solver of the tool with every answer checked: see wide_solve.h. The check of a flow is the proved call; that of the places that
  * are overfull is the count below, in 128 bits, not proved. */
+/* SPDX-License-Identifier: LicenseRef-Wengeludo */
 #include "wide_solve.h"
 #include "wengeludo_balance.h"
 

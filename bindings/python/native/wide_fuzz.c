@@ -3,6 +3,7 @@
  *
  *     wide_fuzz ROUNDS
  */
+/* SPDX-License-Identifier: LicenseRef-Wengeludo */
 #include "wide_solve.h"
 #include "wengeludo_balance.h"
 

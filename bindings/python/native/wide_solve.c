@@ -5,6 +5,7 @@
  * what is then over in a group goes along shortest paths to where something is missing, in steps that halve where much is over.
  * Equally cheap flows are told apart along paths that cost nothing. All but the start is exact, in 128 bits.
  */
+/* SPDX-License-Identifier: LicenseRef-Wengeludo */
 #include "wide_solve.h"
 #include "wengeludo_balance.h"
 

@@ -4,6 +4,7 @@
  * the proved call wengeludo_check_flow tells. Who shows a flow to a person takes wide_checked or wide_rows, which hand out nothing
  * that the check did not pass.
  */
+/* SPDX-License-Identifier: LicenseRef-Wengeludo */
 #ifndef WIDE_SOLVE_H
 #define WIDE_SOLVE_H
 

@@ -1,3 +1,4 @@
+# SPDX-License-Identifier: LicenseRef-Wengeludo
 """Where the repository's samples and reference solver are."""
 
 import os

@@ -1,3 +1,4 @@
+# SPDX-License-Identifier: LicenseRef-Wengeludo
 """Where a file is refused, beside the refusals of the proved calls, over files with one fault each; and which rule a sheet breaks."""
 
 import importlib.util

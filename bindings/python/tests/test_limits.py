@@ -1,3 +1,4 @@
+# SPDX-License-Identifier: LicenseRef-Wengeludo
 """Every limit of the header and the binding against the archive's calls: taken at it, refused beyond it; kinds, verdicts, the critical
 values, the last place of an overfull set, and an archive that answers what is not known."""
 

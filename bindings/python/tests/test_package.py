@@ -1,3 +1,4 @@
+# SPDX-License-Identifier: LicenseRef-Wengeludo
 """The package as others take it: bytes-like objects, its version, and a source package that installs beside an installed library."""
 
 import os

@@ -1,3 +1,4 @@
+# SPDX-License-Identifier: LicenseRef-Wengeludo
 """The binding beside the C programs over the same archive, on all samples.
 
 WENGELUDO_PROGRAMS (default target/host)  where `bash host/c/build.sh` puts them

@@ -1,3 +1,4 @@
+# SPDX-License-Identifier: LicenseRef-Wengeludo
 """Every call against the reference solver, on drawn plants, whole and damaged.
 
 WENGELUDO_DRAWN (default 300)  how many plants

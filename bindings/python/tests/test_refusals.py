@@ -1,3 +1,4 @@
+# SPDX-License-Identifier: LicenseRef-Wengeludo
 """Every refusal by its smallest file, its number and its text; numbers that do not fit a field of C."""
 
 import re

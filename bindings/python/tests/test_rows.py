@@ -1,3 +1,4 @@
+# SPDX-License-Identifier: LicenseRef-Wengeludo
 """Rows are the sheets that the calls give one by one; what a row cannot be is told in that row alone."""
 
 import os

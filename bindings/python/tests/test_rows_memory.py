@@ -1,3 +1,4 @@
+# SPDX-License-Identifier: LicenseRef-Wengeludo
 """The rows function under ASan and UBSan, over drawn plants and rows; and the solver with its check, over drawn and hostile plants.
 
 WENGELUDO_DRAWN (default 300)  how many rounds of three rows, by tens

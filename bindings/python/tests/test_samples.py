@@ -1,3 +1,4 @@
+# SPDX-License-Identifier: LicenseRef-Wengeludo
 """Every sample, and every call on one of them."""
 
 import doctest

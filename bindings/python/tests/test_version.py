@@ -1,3 +1,4 @@
+# SPDX-License-Identifier: LicenseRef-Wengeludo
 """The version, and archives that the binding was not made for: each made here in C, its calls returning 99."""
 
 import importlib.metadata

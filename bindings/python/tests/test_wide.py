@@ -1,3 +1,4 @@
+# SPDX-License-Identifier: LicenseRef-Wengeludo
 """The check of a flow with wide weights, and the solver whose answers all go through it.
 
 WENGELUDO_DRAWN (default 300)   drawn plants of each test

@@ -1,3 +1,4 @@
+# SPDX-License-Identifier: LicenseRef-Wengeludo
 """Solvers that are wrong in one place: each is built here, and the check sees it; whatever it hands out all the same is of least cost.
 
 WENGELUDO_DRAWN (default 300)  how many plants each wrong solver is tried on

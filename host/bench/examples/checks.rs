@@ -1,3 +1,4 @@
+// SPDX-License-Identifier: LicenseRef-Wengeludo
 //! Times the check of a sheet and the call over numbers of the places beside the sheet call, on plants in sequence:
 //!
 //!     checks [PLANTS [ROUNDS]]

@@ -1,3 +1,4 @@
+// SPDX-License-Identifier: LicenseRef-Wengeludo
 //! Times the check of a flow beside the sheet call, on plants in sequence:
 //!
 //!     flows [PLANTS [ROUNDS]]

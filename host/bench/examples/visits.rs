@@ -1,3 +1,4 @@
+// SPDX-License-Identifier: LicenseRef-Wengeludo
 //! Times the call over meters worth a visit beside the sheet call, on plants in sequence:
 //!
 //!     visits [PLANTS [ROUNDS]]

@@ -4,6 +4,7 @@
 #     bash host/bench/peers/build.sh FOLDER   prints NAME=FOLDER/OBJECT for each; says which are left out, and what to install
 #
 # CXX (default: g++)   compiles them: -O3 for any x86-64 processor, as the archive and plain Rust are compiled
+# SPDX-License-Identifier: LicenseRef-Wengeludo
 set -euo pipefail
 here=$(cd "$(dirname "$0")" && pwd)
 [ $# = 1 ] || { echo "usage: bash host/bench/peers/build.sh FOLDER" >&2; exit 2; }

@@ -1,3 +1,4 @@
+/* SPDX-License-Identifier: LicenseRef-Wengeludo */
 // Eigen's QR as a peer: data reconciliation in real numbers, as textbooks have it.
 //
 // Does: reads the file; QR of the unmetered columns of the balance matrix; the balances left without them, whose columns tell A

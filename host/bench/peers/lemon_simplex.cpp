@@ -1,3 +1,4 @@
+/* SPDX-License-Identifier: LicenseRef-Wengeludo */
 // LEMON's network simplex as a peer: the cheapest balanced flow in whole numbers, its cost taken piece by piece.
 //
 // Does: reads the file; the real-number optimum of the plant without its ranges, for a start (a few lines of our own, LEMON has

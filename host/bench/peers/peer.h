@@ -1,3 +1,4 @@
+/* SPDX-License-Identifier: LicenseRef-Wengeludo */
 // What a peer of the benchmark exports, and how it reads a plant file.
 #ifndef WENGELUDO_BENCH_PEER_H
 #define WENGELUDO_BENCH_PEER_H

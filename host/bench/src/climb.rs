@@ -1,3 +1,4 @@
+// SPDX-License-Identifier: LicenseRef-Wengeludo
 //! A search for bad plants: changes are kept where what is sought of the plain engine's work does not fall. It goes on from the
 //! plant that was recorded, and from drawn ones.
 

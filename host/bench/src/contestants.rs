@@ -1,3 +1,4 @@
+// SPDX-License-Identifier: LicenseRef-Wengeludo
 //! Who is timed, and what must hold of their answers before.
 
 use crate::engine::{self, Back, Unwatched};

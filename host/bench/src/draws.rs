@@ -1,3 +1,4 @@
+// SPDX-License-Identifier: LicenseRef-Wengeludo
 //! Numbers drawn from a seed, by the generator of the tests.
 
 #[path = "../../rust/tests/draw/splitmix.rs"]

@@ -1,3 +1,4 @@
+// SPDX-License-Identifier: LicenseRef-Wengeludo
 //! The floor: the real-number optimum of a plant by Cholesky factorisation of its weighted Laplacian; where it has ranges,
 //! by Newton's method, which factors such a Laplacian several times.
 //!

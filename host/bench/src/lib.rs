@@ -1,3 +1,4 @@
+// SPDX-License-Identifier: LicenseRef-Wengeludo
 //! The benchmark of the sheet call: archives of the library beside the same algorithm in plain Rust, a real-number solve and
 //! other libraries.
 

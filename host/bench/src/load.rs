@@ -1,3 +1,4 @@
+// SPDX-License-Identifier: LicenseRef-Wengeludo
 //! Shared objects, opened while the program runs: archives of this library, and peers.
 
 use std::ffi::{c_char, c_int, c_void, CStr, CString};

@@ -1,3 +1,4 @@
+// SPDX-License-Identifier: LicenseRef-Wengeludo
 //! The benchmark's program (run.sh builds what it is handed, and runs it):
 //!
 //!     wengeludo_bench [--before OBJECT] [--peer NAME=OBJECT]... LIBRARY PLANTS SECONDS ROUNDS FOLDER

@@ -1,3 +1,4 @@
+// SPDX-License-Identifier: LicenseRef-Wengeludo
 //! Plants drawn from seeds: several kinds, any number of units and streams within the limits; and their files.
 
 mod ranges;

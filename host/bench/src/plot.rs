@@ -1,3 +1,4 @@
+// SPDX-License-Identifier: LicenseRef-Wengeludo
 //! The plot of how cost grows: streams to the right, microseconds upwards by powers of ten.
 
 use crate::report::Growth;

@@ -1,3 +1,4 @@
+// SPDX-License-Identifier: LicenseRef-Wengeludo
 //! The tables, in Markdown.
 
 use crate::climb::{climb, Aim, Worst, AIMS};

@@ -1,3 +1,4 @@
+// SPDX-License-Identifier: LicenseRef-Wengeludo
 //! Times in sequence: a site comes again when all the others were there, as it does in a program that balances many sites. A
 //! processor that meets one plant again and again learns its branches, and the times flatter.
 

@@ -1,3 +1,4 @@
+// SPDX-License-Identifier: LicenseRef-Wengeludo
 //! What a list of times comes to.
 
 /// The median, the 99th percentile and the worst of a list.

@@ -1,3 +1,4 @@
+// SPDX-License-Identifier: LicenseRef-Wengeludo
 //! The plain engine against the library, byte for byte, on every plant that the benchmark times and on damaged files; and
 //! the floor against the sheet's cost.
 

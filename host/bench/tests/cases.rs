@@ -1,3 +1,4 @@
+// SPDX-License-Identifier: LicenseRef-Wengeludo
 //! The plain engine and the reference of the differential tests on the committed cases of the sheet call, of office 0 and of any
 //! office, which a third solver made (crates/vectors/data; reference/cases.py says what a case looks like).
 

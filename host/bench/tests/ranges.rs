@@ -1,3 +1,4 @@
+// SPDX-License-Identifier: LicenseRef-Wengeludo
 //! The plain engine against the reference of the differential tests, on drawn plants with ranges: the same number, counters,
 //! count and bytes; and the marked places of a refusal 19 are tested. Neither needs the archive.
 //!

@@ -1,4 +1,5 @@
 /* The numbers of a fixed width from what the compiler itself knows: the kit's clang has no headers. */
+/* SPDX-License-Identifier: LicenseRef-Wengeludo */
 #ifndef CROSS_STDINT_H
 #define CROSS_STDINT_H
 typedef __UINT8_TYPE__ uint8_t;

@@ -1,3 +1,4 @@
+// SPDX-License-Identifier: LicenseRef-Wengeludo
 //! Steam charges.
 
 use crate::{raw, Refusal, MAX_STREAMS};

@@ -1,3 +1,4 @@
+// SPDX-License-Identifier: LicenseRef-Wengeludo
 //! Sheets drawn up elsewhere: the check, and numbers of the places.
 
 use crate::raw;

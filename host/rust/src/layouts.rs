@@ -1,3 +1,4 @@
+// SPDX-License-Identifier: LicenseRef-Wengeludo
 //! The survey of meter layouts.
 
 use crate::{raw, Refusal};

@@ -1,3 +1,4 @@
+// SPDX-License-Identifier: LicenseRef-Wengeludo
 //! Steam and condensate balance sheets.
 //!
 //! A [`Plant`] lists the streams between its units; [`Offices`] have the sheet counters of the offices, and [`Offices::draw`] takes

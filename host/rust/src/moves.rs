@@ -1,3 +1,4 @@
+// SPDX-License-Identifier: LicenseRef-Wengeludo
 //! Plant files moved to the ranged form, and home again.
 
 use crate::raw;

@@ -1,3 +1,4 @@
+// SPDX-License-Identifier: LicenseRef-Wengeludo
 //! The offices that draw sheets.
 
 use crate::raw;

@@ -1,3 +1,4 @@
+// SPDX-License-Identifier: LicenseRef-Wengeludo
 //! A builder for plants.
 
 use crate::raw::{self, Parts};

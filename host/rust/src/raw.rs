@@ -1,3 +1,4 @@
+// SPDX-License-Identifier: LicenseRef-Wengeludo
 //! The calls as the archive has them, on slices and numbers; the result is 0 or a refusal's number.
 //!
 //! The rest of this crate is easier to use. These are for a caller who keeps numbers, and for tests.

@@ -1,3 +1,4 @@
+// SPDX-License-Identifier: LicenseRef-Wengeludo
 //! Sheets.
 
 use crate::raw::{self, Total};

@@ -1,3 +1,4 @@
+// SPDX-License-Identifier: LicenseRef-Wengeludo
 //! A builder for transmitter files, and the translator.
 
 use crate::raw;

@@ -1,3 +1,4 @@
+// SPDX-License-Identifier: LicenseRef-Wengeludo
 //! Meters worth a visit.
 
 use crate::{raw, Refusal, MAX_STREAMS};

@@ -1,3 +1,4 @@
+// SPDX-License-Identifier: LicenseRef-Wengeludo
 //! Flows found elsewhere, of plants with wide weights and readings: the check.
 
 use crate::raw::{self, WideParts};

@@ -1,3 +1,4 @@
+// SPDX-License-Identifier: LicenseRef-Wengeludo
 //! The engine against the reference: drawn plants, damaged files, edges of the call, parts for the writer, kept and damaged sheets.
 //!
 //! On each input: the returned number, every byte of the slice with guard bytes round it, all last sheet numbers that are lent with

@@ -1,3 +1,4 @@
+// SPDX-License-Identifier: LicenseRef-Wengeludo
 //! Every limit of the crate against the archive's calls: taken at it, refused beyond it; the last place of an overfull set; every
 //! verdict and kind.
 

@@ -1,3 +1,4 @@
+// SPDX-License-Identifier: LicenseRef-Wengeludo
 //! An archive whose sheet reader hands over the first three bytes of a sheet as the kind of a stream, the kind of the total and the
 //! verdict: what this crate does not know is never taken for something that it does. host/rust/test_archives.sh builds such an archive
 //! and runs this test with it.

@@ -1,3 +1,4 @@
+// SPDX-License-Identifier: LicenseRef-Wengeludo
 //! An archive whose calls return a number that this crate does not know: no call is taken for done. host/rust/test_archives.sh
 //! builds such an archive and runs this test with it.
 

@@ -1,3 +1,4 @@
+// SPDX-License-Identifier: LicenseRef-Wengeludo
 //! The version, and the list of refusals: each number's smallest file is refused with it, and the file without its last byte is not.
 
 use wengeludo_balance::{raw, version, Refusal, FILE_SIZE, MAX_STREAMS, MAX_SURVEYED, OFFICES, SHEET_SIZE, VERSION};

@@ -1,3 +1,4 @@
+# SPDX-License-Identifier: LicenseRef-Wengeludo
 """Steam and condensate balance sheets.
 
 >>> from wengeludo_balance import Plant, Stream, balance

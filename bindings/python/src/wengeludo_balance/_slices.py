@@ -1,3 +1,4 @@
+# SPDX-License-Identifier: LicenseRef-Wengeludo
 """What the calls share: slices of C numbers, and refusals raised."""
 
 from __future__ import annotations

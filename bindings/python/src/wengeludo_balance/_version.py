@@ -1,3 +1,4 @@
+# SPDX-License-Identifier: LicenseRef-Wengeludo
 """The version of the archive, held against the header that the compiled part was made with."""
 
 from __future__ import annotations

@@ -1,3 +1,4 @@
+# SPDX-License-Identifier: LicenseRef-Wengeludo
 """Meters to buy, layouts of meters, meters worth a visit, charges."""
 
 from __future__ import annotations

@@ -1,3 +1,4 @@
+# SPDX-License-Identifier: LicenseRef-Wengeludo
 """Plants: their streams, plant files and transmitter files."""
 
 from __future__ import annotations

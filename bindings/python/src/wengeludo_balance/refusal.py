@@ -1,3 +1,4 @@
+# SPDX-License-Identifier: LicenseRef-Wengeludo
 """Refusals: the one exception of this package."""
 
 from __future__ import annotations

@@ -1,3 +1,4 @@
+# SPDX-License-Identifier: LicenseRef-Wengeludo
 """Rows: one plant's structure and arrays of readings in, arrays of sheets out. The one part of this package that needs numpy."""
 
 from __future__ import annotations

@@ -1,3 +1,4 @@
+# SPDX-License-Identifier: LicenseRef-Wengeludo
 """Sheets: drawn, read back in, checked."""
 
 from __future__ import annotations

@@ -1,3 +1,4 @@
+# SPDX-License-Identifier: LicenseRef-Wengeludo
 """Flows of plants with wide weights: the proved check, and a solver whose answers all go through it."""
 
 from __future__ import annotations

@@ -1,3 +1,4 @@
+# SPDX-License-Identifier: LicenseRef-Wengeludo
 """Checked flows: what must be kept of such a sheet, its recheck for ever without the solver, and its cost and verdict in exact fractions.
 
 A sheet of checked flows is the list's own exact numbers, a unit, whole weights made of them by one factor, whole flows and one number for

@@ -1,3 +1,4 @@
+# SPDX-License-Identifier: LicenseRef-Wengeludo
 """A list in exact numbers: fractions of kg/h, as they are typed. Which meters a balance checks, by the shape alone."""
 
 from __future__ import annotations

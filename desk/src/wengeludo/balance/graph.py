@@ -1,3 +1,4 @@
+# SPDX-License-Identifier: LicenseRef-Wengeludo
 """Chains, rings, groups and sides: the shape of a plant, by its streams alone."""
 
 from __future__ import annotations

@@ -1,3 +1,4 @@
+# SPDX-License-Identifier: LicenseRef-Wengeludo
 """The individual test of VDI 2048: each correction beside its own deviation, |v| / σ_v. An estimate, in floats, of the tool's own.
 
 A precise meter has a small σ_v, and so cannot hide behind the σ of its own accuracy. Above 1.96 a correction is marked; among many meters

@@ -1,3 +1,4 @@
+# SPDX-License-Identifier: LicenseRef-Wengeludo
 """The inverse of a sum of balances, in floats, whatever the deviations span."""
 
 from __future__ import annotations

@@ -1,3 +1,4 @@
+# SPDX-License-Identifier: LicenseRef-Wengeludo
 """What stands behind the numbers of a sheet: three kinds, told apart wherever a person reads."""
 
 from __future__ import annotations

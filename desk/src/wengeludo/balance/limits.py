@@ -1,3 +1,4 @@
+# SPDX-License-Identifier: LicenseRef-Wengeludo
 """Critical values of chi-square at 95 per cent, beside which a cost is judged."""
 
 from __future__ import annotations

@@ -1,3 +1,4 @@
+# SPDX-License-Identifier: LicenseRef-Wengeludo
 """A sheet as an engineer reads it: flows by name beside the readings, their kind, and the limit of the test."""
 
 from __future__ import annotations

@@ -1,3 +1,4 @@
+# SPDX-License-Identifier: LicenseRef-Wengeludo
 """A site: a pipe list, the unit of its flows, and its plant in that unit."""
 
 from __future__ import annotations

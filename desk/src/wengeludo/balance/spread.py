@@ -1,3 +1,4 @@
+# SPDX-License-Identifier: LicenseRef-Wengeludo
 """How sure a number is: one standard deviation, by linear propagation at the balanced flow. An estimate, in floats, of the tool's own.
 
 The corrections are linear in the readings as long as the same streams stay at the ends of their ranges; those are taken as fixed. With

@@ -1,3 +1,4 @@
+# SPDX-License-Identifier: LicenseRef-Wengeludo
 """The unit in which the engine's own sheet of a list is drawn, and the weights that its meters then have.
 
 A weight is a whole number from 1 to 1,000, which holds deviations from 31.6 units down to 1. The unit is the one of 1, 2, 5 times a power

@@ -1,3 +1,4 @@
+# SPDX-License-Identifier: LicenseRef-Wengeludo
 """The rule for lists of any span: the unit, the weights, and whole flows of least cost by a solver that is not proved, checked by the call
 that is. The readings are the list's, always; no float decides anything.
 

@@ -1,3 +1,4 @@
+# SPDX-License-Identifier: LicenseRef-Wengeludo
 """Commands over a whole book: check, offices, annul, bill, backup, restore, move, upgrade, make."""
 
 from __future__ import annotations

@@ -1,3 +1,4 @@
+# SPDX-License-Identifier: LicenseRef-Wengeludo
 """Commands over files: pack, unpack."""
 
 from __future__ import annotations

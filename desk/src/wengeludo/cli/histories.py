@@ -1,3 +1,4 @@
+# SPDX-License-Identifier: LicenseRef-Wengeludo
 """Commands over histories: history, histories."""
 
 from __future__ import annotations

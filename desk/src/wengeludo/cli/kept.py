@@ -1,3 +1,4 @@
+# SPDX-License-Identifier: LicenseRef-Wengeludo
 """Commands over kept sheets and sheets drawn up elsewhere: keep, open, check, batch."""
 
 from __future__ import annotations

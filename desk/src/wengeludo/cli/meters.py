@@ -1,3 +1,4 @@
+# SPDX-License-Identifier: LicenseRef-Wengeludo
 """Commands over meters and charges: buy, layouts, bill."""
 
 from __future__ import annotations

@@ -1,3 +1,4 @@
+# SPDX-License-Identifier: LicenseRef-Wengeludo
 """Words of the commands over books: a book's name, the hour of readings, a kept sheet."""
 
 from __future__ import annotations

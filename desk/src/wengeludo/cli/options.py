@@ -1,3 +1,4 @@
+# SPDX-License-Identifier: LicenseRef-Wengeludo
 """What the commands share: statuses, arguments, options, and the sheet of a list."""
 
 from __future__ import annotations

@@ -1,3 +1,4 @@
+# SPDX-License-Identifier: LicenseRef-Wengeludo
 """Commands of the desk in a browser: serve, people."""
 
 from __future__ import annotations

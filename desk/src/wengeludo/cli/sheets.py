@@ -1,3 +1,4 @@
+# SPDX-License-Identifier: LicenseRef-Wengeludo
 """Commands over one sheet: sheet, why, suspects."""
 
 from __future__ import annotations

@@ -1,3 +1,4 @@
+# SPDX-License-Identifier: LicenseRef-Wengeludo
 """Meters to buy and layouts, with the names and prices of a list. Both depend on no reading."""
 
 from __future__ import annotations

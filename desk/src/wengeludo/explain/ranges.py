@@ -1,3 +1,4 @@
+# SPDX-License-Identifier: LicenseRef-Wengeludo
 """Ranges of pipes without a meter: no part of the balance, which has ranges for meters only; held against its flows, and told."""
 
 from __future__ import annotations

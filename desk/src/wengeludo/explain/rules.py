@@ -1,3 +1,4 @@
+# SPDX-License-Identifier: LicenseRef-Wengeludo
 """The first rule of the check that a sheet drawn up elsewhere breaks, in words. Whether it passes at all, the engine says."""
 
 from __future__ import annotations

@@ -1,3 +1,4 @@
+# SPDX-License-Identifier: LicenseRef-Wengeludo
 """What to do next: at most five lines, the most pressing first; then what is to be told of the list."""
 
 from __future__ import annotations

@@ -1,3 +1,4 @@
+# SPDX-License-Identifier: LicenseRef-Wengeludo
 """Meters worth a visit: what the sheet would cost without each, and what its pipe would then carry. Of the engine's own sheet by the
 engine's call, of checked flows by the same rule without that meter."""
 

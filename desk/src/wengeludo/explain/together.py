@@ -1,3 +1,4 @@
+# SPDX-License-Identifier: LicenseRef-Wengeludo
 """What is known of blanks together. The engine itself is asked: blanks that end at one place are led to a new unit beside it, from which
 one pipe runs on; if the sheet gives that pipe a number, it is what the blanks carry together."""
 

@@ -1,3 +1,4 @@
+# SPDX-License-Identifier: LicenseRef-Wengeludo
 """Why a stream has the number that it has, or none."""
 
 from __future__ import annotations

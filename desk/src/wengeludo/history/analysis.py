@@ -1,3 +1,4 @@
+# SPDX-License-Identifier: LicenseRef-Wengeludo
 """What the rows of a run say together: events, estimates, weeks, findings, and which overrides they propose."""
 
 from __future__ import annotations

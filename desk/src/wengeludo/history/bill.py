@@ -1,3 +1,4 @@
+# SPDX-License-Identifier: LicenseRef-Wengeludo
 """The bill of a month: each hour's charges in exact fractions of the flows that the rows show, rounded as the engine's call rounds them, added
 in whole cents. If the rows are the engine's own sheets and its call takes the rates, that call has charged the same; else the bill is the
 tool's, and says so. Beside it: what rounding the month once would give."""

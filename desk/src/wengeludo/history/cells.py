@@ -1,3 +1,4 @@
+# SPDX-License-Identifier: LicenseRef-Wengeludo
 """Cells of an export: a number with its status is measured or held, everything else is a fault, counted by its word."""
 
 from __future__ import annotations

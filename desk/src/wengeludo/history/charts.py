@@ -1,3 +1,4 @@
+# SPDX-License-Identifier: LicenseRef-Wengeludo
 """The drawings of a run's page: cost over time beside its limit, a map of meters and days, the worst meter. Plain SVG."""
 
 from __future__ import annotations

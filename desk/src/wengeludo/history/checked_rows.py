@@ -1,3 +1,4 @@
+# SPDX-License-Identifier: LicenseRef-Wengeludo
 """Rows by the rule for lists of any span: whole flows of least cost by a solver that is not proved, each row passed by the proved call
 `check_flow`. Cost and verdict are of the list's own deviations: in floats where these decide, in exact fractions near the limit.
 

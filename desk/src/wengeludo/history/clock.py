@@ -1,3 +1,4 @@
+# SPDX-License-Identifier: LicenseRef-Wengeludo
 """Times as a historian writes them: orders of dates, offsets, zones, the hour that autumn has twice."""
 
 from __future__ import annotations

@@ -1,3 +1,4 @@
+# SPDX-License-Identifier: LicenseRef-Wengeludo
 """A history from files to files: what the command and a folder of sites have in common."""
 
 from __future__ import annotations

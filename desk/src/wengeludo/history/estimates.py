@@ -1,3 +1,4 @@
+# SPDX-License-Identifier: LicenseRef-Wengeludo
 """Estimates of the tool's own, in floats: how far a correction is off in deviations of that correction, and which meters no balance
 tells apart. None of this is the engine's.
 

@@ -1,3 +1,4 @@
+# SPDX-License-Identifier: LicenseRef-Wengeludo
 """Events: what happened within hours. Frozen, zero, no signal, held, spike, and steps of the plant."""
 
 from __future__ import annotations

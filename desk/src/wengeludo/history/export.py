@@ -1,3 +1,4 @@
+# SPDX-License-Identifier: LicenseRef-Wengeludo
 """Exports of a historian: a time column and tags, CSV or XLSX, read block by block; every fault is told with its row and column."""
 
 from __future__ import annotations

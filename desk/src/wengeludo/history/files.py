@@ -1,3 +1,4 @@
+# SPDX-License-Identifier: LicenseRef-Wengeludo
 """Files of a run: which were asked for, and how they are written, all of them whole or none."""
 
 from __future__ import annotations

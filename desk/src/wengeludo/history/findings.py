@@ -1,3 +1,4 @@
+# SPDX-License-Identifier: LicenseRef-Wengeludo
 """Findings: weeks that fail for the same reason, in one sentence that an engineer can act on, and what would tell their causes apart."""
 
 from __future__ import annotations

@@ -1,3 +1,4 @@
+# SPDX-License-Identifier: LicenseRef-Wengeludo
 """The hours of a run kept in a book: the sheet that the desk draws of each hour's own list, in the run's unit, each once by its content."""
 
 from __future__ import annotations

@@ -1,3 +1,4 @@
+# SPDX-License-Identifier: LicenseRef-Wengeludo
 """Overrides: what the engineer says of cells, in a table of her own: stream, from, to, status (held or fault), why. Nothing is repaired
 unasked; `overrides.csv` of a run is a proposal, and counts only if it is handed back with --overrides."""
 

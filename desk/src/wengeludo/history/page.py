@@ -1,3 +1,4 @@
+# SPDX-License-Identifier: LicenseRef-Wengeludo
 """The page of a run: one file, no network, under 200 KB whatever the rows, prints on A4."""
 
 from __future__ import annotations

@@ -1,3 +1,4 @@
+# SPDX-License-Identifier: LicenseRef-Wengeludo
 """Pictures of many marks as PNG inside a drawing, so that a page's size does not grow with the rows. A palette of few colours, zlib alone."""
 
 from __future__ import annotations

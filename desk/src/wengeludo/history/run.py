@@ -1,3 +1,4 @@
+# SPDX-License-Identifier: LicenseRef-Wengeludo
 """A run: the rows of an export in one unit, with one set of weights, and the sheet of each."""
 
 from __future__ import annotations

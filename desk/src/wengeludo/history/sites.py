@@ -1,3 +1,4 @@
+# SPDX-License-Identifier: LicenseRef-Wengeludo
 """Histories of many sites: a folder for each, with its list and its exports; all cores, or the workers of a dask.distributed scheduler.
 
 A task has the bytes of a site's files and gives back the bytes of its tables, so that workers need no disk of this machine. What a site

@@ -1,3 +1,4 @@
+# SPDX-License-Identifier: LicenseRef-Wengeludo
 """The tables of a run: their names, their columns, their rows. What is the tool's own is called an estimate in the head of its column."""
 
 from __future__ import annotations

@@ -1,3 +1,4 @@
+# SPDX-License-Identifier: LicenseRef-Wengeludo
 """Tags of a list: which pipe has which column of an export, by what factor, and how accurate its meter is."""
 
 from __future__ import annotations

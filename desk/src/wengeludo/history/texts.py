@@ -1,3 +1,4 @@
+# SPDX-License-Identifier: LicenseRef-Wengeludo
 """What a terminal is told of a run."""
 
 from __future__ import annotations

@@ -1,3 +1,4 @@
+# SPDX-License-Identifier: LicenseRef-Wengeludo
 """Weeks: the mean readings of a week, held against the reference, balanced by the engine; and if that fails, what explains it.
 
 A meter's stated accuracy is mostly calibration, which averaging does not remove: a week is held against the reference, not against zero.

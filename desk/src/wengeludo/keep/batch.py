@@ -1,3 +1,4 @@
+# SPDX-License-Identifier: LicenseRef-Wengeludo
 """A folder of lists or plant files in one run: a line for each, all cores, a chart of the cost over time. One bad file stops nothing."""
 
 from __future__ import annotations

@@ -1,3 +1,4 @@
+# SPDX-License-Identifier: LicenseRef-Wengeludo
 """The book of kept sheets, over either store. A sheet, its number, its link in the office's chain and its audit line are one transaction.
 
 A crash between any two statements leaves the book as it was before the sheet or as it is after it: no number is lost, none is drawn

@@ -1,3 +1,4 @@
+# SPDX-License-Identifier: LicenseRef-Wengeludo
 """The chart of a batch: cost over time, beside its limit."""
 
 from __future__ import annotations

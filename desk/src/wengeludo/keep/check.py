@@ -1,3 +1,4 @@
+# SPDX-License-Identifier: LicenseRef-Wengeludo
 """The whole book checked: numbers without gaps, the chain of each office, and every kept sheet by the engine. Read page by page, up to the
 entries that were there at the start: others may draw meanwhile."""
 

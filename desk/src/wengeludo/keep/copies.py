@@ -1,3 +1,4 @@
+# SPDX-License-Identifier: LicenseRef-Wengeludo
 """A book copied whole: backup, restore, move. Never two open, and cut off anywhere each may be run again.
 
 The copy goes by entries, up to those that the source had at the start: others may draw meanwhile, unless the source is being moved.

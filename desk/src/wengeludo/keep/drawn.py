@@ -1,3 +1,4 @@
+# SPDX-License-Identifier: LicenseRef-Wengeludo
 """The drawing of a plan: laid out once, kept with it, and painted for each of its sheets."""
 
 from __future__ import annotations

@@ -1,3 +1,4 @@
+# SPDX-License-Identifier: LicenseRef-Wengeludo
 """Searching a book by site, stream, unit, office, verdict and time: newest first, page by page by key, as quick on the last page as on the first."""
 
 from __future__ import annotations

@@ -1,3 +1,4 @@
+# SPDX-License-Identifier: LicenseRef-Wengeludo
 """A book in one SQLite file: write-ahead log, every commit forced out, and a queue with a deadline before each transaction."""
 
 from __future__ import annotations

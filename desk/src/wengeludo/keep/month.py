@@ -1,3 +1,4 @@
+# SPDX-License-Identifier: LicenseRef-Wengeludo
 """A month's bill over the hours of a book: the charges of each hour's sheet, by the hour of its readings, added in whole cents."""
 
 from __future__ import annotations

@@ -1,3 +1,4 @@
+# SPDX-License-Identifier: LicenseRef-Wengeludo
 """What the book keeps of a sheet: the plan, which stays from hour to hour, the readings, which do not, and the link in the office's chain."""
 
 from __future__ import annotations

@@ -1,3 +1,4 @@
+# SPDX-License-Identifier: LicenseRef-Wengeludo
 """The tables of a book of version 2, for either store. {blob}, {id} and {text} are the only words that differ.
 
 Every office has one chain of entries: sheets of the engine, checked flows, and remarks (annulled, lost), counted by `entry`. Times are

@@ -1,3 +1,4 @@
+# SPDX-License-Identifier: LicenseRef-Wengeludo
 """A book on a PostgreSQL server, by Debian's psycopg2. Offices do not wait for each other: an office's row is its lock."""
 
 from __future__ import annotations

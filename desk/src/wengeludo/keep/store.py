@@ -1,3 +1,4 @@
+# SPDX-License-Identifier: LicenseRef-Wengeludo
 """A store under the book: SQLite, one file, or PostgreSQL, a server. Statements are the same text; what differs stands in `lite` and `server`."""
 
 from __future__ import annotations

@@ -1,3 +1,4 @@
+# SPDX-License-Identifier: LicenseRef-Wengeludo
 """A book of version 1 made one of version 2, in a new file: the same numbers, the same bytes of every sheet, checked whole before it is opened."""
 
 from __future__ import annotations

@@ -1,1 +1,2 @@
+# SPDX-License-Identifier: LicenseRef-Wengeludo
 """Reading: numbers, tables, pipe lists, plant files, and the faults that they have."""

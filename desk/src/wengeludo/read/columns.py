@@ -1,3 +1,4 @@
+# SPDX-License-Identifier: LicenseRef-Wengeludo
 """The columns of a list, in English and in German, said once."""
 
 from __future__ import annotations

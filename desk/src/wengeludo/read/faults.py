@@ -1,3 +1,4 @@
+# SPDX-License-Identifier: LicenseRef-Wengeludo
 """Faults: what is wrong with a list, where, and what would do; all of them at once."""
 
 from __future__ import annotations

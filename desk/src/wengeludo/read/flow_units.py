@@ -1,3 +1,4 @@
+# SPDX-License-Identifier: LicenseRef-Wengeludo
 """Units of flow beside a number, in a heading, in a column of their own or in a number format; each as an exact number of kg/h."""
 
 from __future__ import annotations

@@ -1,3 +1,4 @@
+# SPDX-License-Identifier: LicenseRef-Wengeludo
 """Tables as they stand in a file: CSV or XLSX to rows of texts."""
 
 from __future__ import annotations

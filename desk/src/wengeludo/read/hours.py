@@ -1,3 +1,4 @@
+# SPDX-License-Identifier: LicenseRef-Wengeludo
 """The hour of the readings, as a list, a heading or an option tells it."""
 
 from __future__ import annotations

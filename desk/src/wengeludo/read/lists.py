@@ -1,3 +1,4 @@
+# SPDX-License-Identifier: LicenseRef-Wengeludo
 """Pipe lists: a header line, then a row for each stream, with names and not numbers."""
 
 from __future__ import annotations

@@ -1,3 +1,4 @@
+# SPDX-License-Identifier: LicenseRef-Wengeludo
 """Numbers as they stand in a cell: with a decimal point or comma, with or without a mark for thousands."""
 
 from __future__ import annotations

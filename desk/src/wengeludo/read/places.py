@@ -1,3 +1,4 @@
+# SPDX-License-Identifier: LicenseRef-Wengeludo
 """Where units stand in the user's own drawing: a table with unit, x, y, in centimetres to the right and down or to any other scale."""
 
 from __future__ import annotations

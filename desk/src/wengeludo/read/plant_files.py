@@ -1,3 +1,4 @@
+# SPDX-License-Identifier: LicenseRef-Wengeludo
 """Plant files and transmitter files read as lists, and place numbers read from a text."""
 
 from __future__ import annotations

@@ -1,3 +1,4 @@
+# SPDX-License-Identifier: LicenseRef-Wengeludo
 """Texts that people wrote, and what of them can be shown."""
 
 from __future__ import annotations

@@ -1,3 +1,4 @@
+# SPDX-License-Identifier: LicenseRef-Wengeludo
 """Workbooks: the first two worksheets that are not hidden, as rows of texts, by the cells that are there."""
 
 from __future__ import annotations

@@ -1,1 +1,2 @@
+# SPDX-License-Identifier: LicenseRef-Wengeludo
 """Serving: the desk in a browser."""

@@ -1,3 +1,4 @@
+# SPDX-License-Identifier: LicenseRef-Wengeludo
 """The pages of the desk as one web application."""
 
 from __future__ import annotations

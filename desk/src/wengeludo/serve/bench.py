@@ -1,3 +1,4 @@
+# SPDX-License-Identifier: LicenseRef-Wengeludo
 """The workbench: a list or a kept sheet with its what-ifs, as one page or in parts."""
 
 from __future__ import annotations

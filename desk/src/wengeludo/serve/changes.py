@@ -1,3 +1,4 @@
+# SPDX-License-Identifier: LicenseRef-Wengeludo
 """What-ifs: changes of a list that stand in the page's address and nowhere else."""
 
 from __future__ import annotations

@@ -1,3 +1,4 @@
+# SPDX-License-Identifier: LicenseRef-Wengeludo
 """The door: who comes in and from where, and what every answer says to the browser."""
 
 from __future__ import annotations

@@ -1,3 +1,4 @@
+# SPDX-License-Identifier: LicenseRef-Wengeludo
 """Taking lists and keeping sheets: the only pages that write."""
 
 from __future__ import annotations

@@ -1,3 +1,4 @@
+# SPDX-License-Identifier: LicenseRef-Wengeludo
 """Lists, book, comparison of two sheets, history runs."""
 
 from __future__ import annotations

@@ -1,3 +1,4 @@
+# SPDX-License-Identifier: LicenseRef-Wengeludo
 """Who may do what. People are kept in a file of their own beside the book: a book that is handed on holds no password."""
 
 from __future__ import annotations

@@ -1,3 +1,4 @@
+# SPDX-License-Identifier: LicenseRef-Wengeludo
 """The server: one command, one address printed, open it, done."""
 
 from __future__ import annotations

@@ -1,3 +1,4 @@
+# SPDX-License-Identifier: LicenseRef-Wengeludo
 """What the pages begin with: lists that were taken and kept sheets, found in the book and remembered for a while."""
 
 from __future__ import annotations

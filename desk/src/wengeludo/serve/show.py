@@ -1,3 +1,4 @@
+# SPDX-License-Identifier: LicenseRef-Wengeludo
 """How pages show numbers, verdicts and times."""
 
 from __future__ import annotations

@@ -1,3 +1,4 @@
+# SPDX-License-Identifier: LicenseRef-Wengeludo
 """Lists that come over the network: looked over, then read in a process of its own with little memory and time, under no path of the sender's."""
 
 from __future__ import annotations

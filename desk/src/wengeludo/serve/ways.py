@@ -1,3 +1,4 @@
+# SPDX-License-Identifier: LicenseRef-Wengeludo
 """Ways in and out: login, people, the reader's language."""
 
 from __future__ import annotations

@@ -1,3 +1,4 @@
+# SPDX-License-Identifier: LicenseRef-Wengeludo
 """The words of the pages, in English and German. The explanations of a sheet stay in English."""
 
 from __future__ import annotations

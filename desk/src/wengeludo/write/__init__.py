@@ -1,1 +1,2 @@
+# SPDX-License-Identifier: LicenseRef-Wengeludo
 """Writing: tables, pages, drawings, files, the terminal."""

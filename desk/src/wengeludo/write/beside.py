@@ -1,3 +1,4 @@
+# SPDX-License-Identifier: LicenseRef-Wengeludo
 """Where labels stand in a drawing whose units the user has placed: beside their line, where they cover the least."""
 
 from __future__ import annotations

@@ -1,3 +1,4 @@
+# SPDX-License-Identifier: LicenseRef-Wengeludo
 """Numbers in texts as a language writes them. Texts are made in English; German has a decimal comma, and a narrow blank between thousands,
 which nobody takes for a decimal mark and which may be pasted back."""
 

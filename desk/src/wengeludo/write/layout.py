@@ -1,3 +1,4 @@
+# SPDX-License-Identifier: LicenseRef-Wengeludo
 """Where units, streams and labels stand in a drawing: laid out once by graphviz, plain data that can be kept, painted as often as one likes.
 
 It depends on names, ends and places of the user's own, and on the sizes of the labels; never on a reading. No name goes to graphviz.

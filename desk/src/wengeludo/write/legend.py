@@ -1,3 +1,4 @@
+# SPDX-License-Identifier: LicenseRef-Wengeludo
 """The legend below a drawing."""
 
 from __future__ import annotations

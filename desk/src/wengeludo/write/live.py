@@ -1,3 +1,4 @@
+# SPDX-License-Identifier: LicenseRef-Wengeludo
 """The part of a page that recomputes by itself: the engine's WebAssembly in the page, for readings that are tried and not kept."""
 
 from __future__ import annotations

@@ -1,3 +1,4 @@
+# SPDX-License-Identifier: LicenseRef-Wengeludo
 """Files that a command writes: page, drawing, workbook, table, document. The suffix says which."""
 
 from __future__ import annotations

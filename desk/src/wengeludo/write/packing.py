@@ -1,3 +1,4 @@
+# SPDX-License-Identifier: LicenseRef-Wengeludo
 """Plant files and transmitter files made of lists, and lists written."""
 
 from __future__ import annotations

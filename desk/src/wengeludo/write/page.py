@@ -1,3 +1,4 @@
+# SPDX-License-Identifier: LicenseRef-Wengeludo
 """The page: one file, no network, prints on A4."""
 
 from __future__ import annotations

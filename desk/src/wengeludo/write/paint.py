@@ -1,3 +1,4 @@
+# SPDX-License-Identifier: LicenseRef-Wengeludo
 """The drawing of a sheet: a layout painted with its numbers, as SVG without a style attribute."""
 
 from __future__ import annotations

@@ -1,3 +1,4 @@
+# SPDX-License-Identifier: LicenseRef-Wengeludo
 """The drawing of a sheet: laid out, then painted."""
 
 from __future__ import annotations

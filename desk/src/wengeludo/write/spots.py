@@ -1,3 +1,4 @@
+# SPDX-License-Identifier: LicenseRef-Wengeludo
 """Where units and the ends of streams to and from the outside stand, in a drawing some of whose units the user has placed."""
 
 from __future__ import annotations

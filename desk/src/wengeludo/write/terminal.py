@@ -1,3 +1,4 @@
+# SPDX-License-Identifier: LicenseRef-Wengeludo
 """What the commands print."""
 
 from __future__ import annotations

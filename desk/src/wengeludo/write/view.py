@@ -1,3 +1,4 @@
+# SPDX-License-Identifier: LicenseRef-Wengeludo
 """A balance as plain words and numbers: what tables, pages and files show, said once."""
 
 from __future__ import annotations

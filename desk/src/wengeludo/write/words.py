@@ -1,3 +1,4 @@
+# SPDX-License-Identifier: LicenseRef-Wengeludo
 """What a stream says in a drawing: its label, colour, style and width.
 
 Line style tells how a number is known (solid metered, dashed deduced, dotted not known), the width grows with the root of the flow, only

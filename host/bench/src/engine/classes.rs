@@ -1,3 +1,4 @@
+// SPDX-License-Identifier: LicenseRef-Wengeludo
 //! The four classes of stream, the degrees of freedom and the verdict.
 
 use super::groups::{self, Labels};

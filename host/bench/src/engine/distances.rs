@@ -1,3 +1,4 @@
+// SPDX-License-Identifier: LicenseRef-Wengeludo
 //! The search by distances: a distance per place, each labelled place looks at its own streams alone, potentials fall once.
 
 use super::incidence::Incidence;

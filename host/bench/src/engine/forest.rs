@@ -1,3 +1,4 @@
+// SPDX-License-Identifier: LicenseRef-Wengeludo
 //! A spanning forest of the unmetered streams, taken apart from its leaves.
 
 use super::groups::{self, Labels};

@@ -1,3 +1,4 @@
+// SPDX-License-Identifier: LicenseRef-Wengeludo
 //! Groups of places: each place has a label, the lowest place of its group.
 
 use crate::plants::{Stream, PLACES};

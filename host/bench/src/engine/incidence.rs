@@ -1,3 +1,4 @@
+// SPDX-License-Identifier: LicenseRef-Wengeludo
 //! The streams of each place.
 
 use crate::plants::{Stream, MAX_STREAMS, PLACES};

@@ -1,3 +1,4 @@
+// SPDX-License-Identifier: LicenseRef-Wengeludo
 //! The sheet call in plain Rust, by the library's algorithm.
 
 mod classes;

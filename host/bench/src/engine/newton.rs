@@ -1,3 +1,4 @@
+// SPDX-License-Identifier: LicenseRef-Wengeludo
 //! The hint: potentials of the groups from the real-number optimum in range, by Newton's method, rounded; unmetered flows by a
 //! forest.
 //!

@@ -1,3 +1,4 @@
+// SPDX-License-Identifier: LicenseRef-Wengeludo
 //! Improvements at a step from every place, and the phases: steps halved from the first down to 1, amounts settled anew
 //! before each.
 

@@ -1,3 +1,4 @@
+// SPDX-License-Identifier: LicenseRef-Wengeludo
 //! The sheet, written.
 
 use super::classes::{self, Class};

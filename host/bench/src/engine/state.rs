@@ -1,3 +1,4 @@
+// SPDX-License-Identifier: LicenseRef-Wengeludo
 //! Amounts, potentials and nets; amounts settled at potentials and moved along a way; the reduced cost of a stream.
 
 use super::watch::Watch;

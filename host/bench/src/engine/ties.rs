@@ -1,3 +1,4 @@
+// SPDX-License-Identifier: LicenseRef-Wengeludo
 //! Ties: among equally cheap flows, the first metered stream least, then the second, and so on.
 
 use super::incidence::Incidence;

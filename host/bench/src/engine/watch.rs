@@ -1,3 +1,4 @@
+// SPDX-License-Identifier: LicenseRef-Wengeludo
 //! What can be watched of a call: the work counted, and when each phase ends. Unwatched calls pay nothing for it.
 
 use std::time::Instant;

@@ -1,3 +1,4 @@
+// SPDX-License-Identifier: LicenseRef-Wengeludo
 //! Plants with ranges.
 
 use super::{extremes, site_and_flow, Plant, Stream, MAX_RANGE, MAX_UNITS};

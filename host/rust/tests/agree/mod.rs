@@ -1,3 +1,4 @@
+// SPDX-License-Identifier: LicenseRef-Wengeludo
 //! The one loop of the differential tests: inputs drawn from seeds, each compared with its reference, by as many threads as there are
 //! processors. What comes of them is counted; a difference is shrunk, and the smallest input found is shown with its seed.
 //!

@@ -1,3 +1,4 @@
+// SPDX-License-Identifier: LicenseRef-Wengeludo
 //! Inputs, drawn from a seed.
 
 mod ranges;

@@ -1,3 +1,4 @@
+// SPDX-License-Identifier: LicenseRef-Wengeludo
 //! Ranges for the meters of a plant: round a balanced flow, round the readings, anywhere, at the edges.
 
 use super::Draw;

@@ -1,3 +1,4 @@
+// SPDX-License-Identifier: LicenseRef-Wengeludo
 //! Numbers drawn from a seed (splitmix64): the one generator of the tests and of the benchmark.
 
 pub struct Draw(u64);

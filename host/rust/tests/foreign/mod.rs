@@ -1,3 +1,4 @@
+// SPDX-License-Identifier: LicenseRef-Wengeludo
 //! Sheets drawn up elsewhere: the check and numbers of the places against the rules in exact numbers.
 //!
 //! The sheets are the reference's, others of the same cost (those of the plant with all flows turned round), and both with something

@@ -1,3 +1,4 @@
+// SPDX-License-Identifier: LicenseRef-Wengeludo
 //! The survey of meter layouts against brute force: every set of streams, and whether the flows of those left out are all forced.
 //!
 //! The reference shares no method with the engine: the streams left out are forced exactly if their columns of the incidence matrix,

@@ -1,3 +1,4 @@
+// SPDX-License-Identifier: LicenseRef-Wengeludo
 //! The moves against a reference over bytes: drawn plants and damaged files, there and home, the trip, and sheets before and
 //! after.
 //!

@@ -1,3 +1,4 @@
+// SPDX-License-Identifier: LicenseRef-Wengeludo
 //! Sheet calls by several offices, one after the other, accepted and refused, each handed the last numbers that the one before gave
 //! back. Some sequences begin with sheets of the time before there were offices, under one counter.
 //!

@@ -1,3 +1,4 @@
+// SPDX-License-Identifier: LicenseRef-Wengeludo
 //! Meters to buy against a reference: all sets on plants with few unmetered streams, a sorted forest on the others.
 
 use crate::agree::Subject;

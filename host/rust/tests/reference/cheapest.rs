@@ -1,3 +1,4 @@
+// SPDX-License-Identifier: LicenseRef-Wengeludo
 //! The cheapest balanced flow in range, by cancelling cycles; or places that must take in more than they can let out.
 
 use super::Listed;

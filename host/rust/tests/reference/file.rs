@@ -1,3 +1,4 @@
+// SPDX-License-Identifier: LicenseRef-Wengeludo
 //! Plant files, read and written by the definition.
 
 /// A stream; weight and reading where it is metered, and the range, low and high, where it has one: an unmetered stream's

@@ -1,3 +1,4 @@
+// SPDX-License-Identifier: LicenseRef-Wengeludo
 //! Kept sheets, read by the definition.
 
 use super::file::Fault;

@@ -1,3 +1,4 @@
+// SPDX-License-Identifier: LicenseRef-Wengeludo
 //! A second way to the same sheets, exact, by another method than the engine's.
 //!
 //! The places are contracted to the groups that unmetered streams join; what is left is a balanced flow over the streams

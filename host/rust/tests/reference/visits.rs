@@ -1,3 +1,4 @@
+// SPDX-License-Identifier: LicenseRef-Wengeludo
 //! Meters worth a visit: each plant with a meter less is contracted and balanced anew, from its own first flow on.
 
 use super::{cheapest, joined, Listed, Stream};

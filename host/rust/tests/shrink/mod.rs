@@ -1,3 +1,4 @@
+// SPDX-License-Identifier: LicenseRef-Wengeludo
 //! The smallest input that still shows a difference: each simpler one is tried until none shows it.
 
 use crate::draw::{Call, Reopen, Write};

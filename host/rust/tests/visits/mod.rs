@@ -1,3 +1,4 @@
+// SPDX-License-Identifier: LicenseRef-Wengeludo
 //! Meters worth a visit against the reference: plants as for the sheet call, some with a meter or two far off, damaged files; slices
 //! around 96 elements.
 //!

@@ -1,3 +1,4 @@
+// SPDX-License-Identifier: LicenseRef-Wengeludo
 //! Flows found elsewhere, of plants with wide weights: the check against its rules by products in 128 bits.
 //!
 //! A flow that passes is made backwards, and no flow is looked for: a balanced flow by rings, numbers of the places, then readings at

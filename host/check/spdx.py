@@ -1,0 +1,56 @@
+#!/usr/bin/env python3
+# SPDX-License-Identifier: LicenseRef-Wengeludo
+"""Every source file of host/, bindings/ and desk/ names the licence in one line, as SPDX has it; LICENCE is its text.
+
+    python3 host/check/spdx.py           names the files that do not; status 1 if there are any
+    python3 host/check/spdx.py --write   puts the line into them: behind the first comment of C and shell, else at the top
+"""
+import os
+import re
+import subprocess
+import sys
+
+ROOT = os.path.abspath(os.path.join(os.path.dirname(__file__), '..', '..'))
+LINE = 'SPDX-License-Identifier: ' + 'LicenseRef-Wengeludo'
+MARKS = {'.py': '# {}', '.sh': '# {}', '.rs': '// {}', '.mjs': '// {}', '.ts': '// {}', '.c': '/* {} */', '.h': '/* {} */', '.cpp': '/* {} */', '.hpp': '/* {} */'}
+HEAD = {'.sh': r'(?:#.*\n)+', '.py': r'(?:#!.*\n)?', '.mjs': r'(?:#!.*\n)?', '.rs': '', '.ts': ''}
+COMMENT = r'(?:/\*(?:[^*]|\*(?!/))*\*/[ \t]*\n)?'
+
+
+def sources():
+    """The source files that are kept in the repository, or are new in it."""
+    told = subprocess.run(['git', '-C', ROOT, 'ls-files', '-co', '--exclude-standard', '-z', 'host', 'bindings', 'desk'], capture_output=True, text=True, check=True)
+    return sorted(path for path in told.stdout.split('\0') if os.path.splitext(path)[1] in MARKS and os.path.isfile(os.path.join(ROOT, path)))
+
+
+def text_of(path):
+    with open(os.path.join(ROOT, path), encoding='utf-8', newline='') as file:
+        return file.read()
+
+
+def marked(path, text):
+    """The text with the line in it."""
+    kind = os.path.splitext(path)[1]
+    ends = re.match(HEAD.get(kind, COMMENT), text).end()
+    return text[:ends] + MARKS[kind].format(LINE) + '\n' + text[ends:]
+
+
+def main():
+    paths = sources()
+    lacking = [path for path in paths if LINE not in text_of(path)]
+    if sys.argv[1:] == ['--write']:
+        for path in lacking:
+            new = marked(path, text_of(path))
+            with open(os.path.join(ROOT, path), 'w', encoding='utf-8', newline='') as file:
+                file.write(new)
+        print(f'spdx: {len(lacking)} files marked')
+    elif sys.argv[1:]:
+        sys.exit(__doc__)
+    elif lacking:
+        sys.exit('spdx: no licence line (python3 host/check/spdx.py --write puts it there): ' + ', '.join(lacking))
+    else:
+        print(f'spdx: {len(paths)} files name {LINE.split()[-1]}')
+
+
+if __name__ == '__main__':
+    main()
