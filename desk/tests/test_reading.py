@@ -374,3 +374,14 @@ def test_a_drawing_is_brought_to_centimetres_only_beyond_the_limits(gap, scale, 
 def test_a_unit_far_from_the_others_is_put_where_its_streams_draw_it(reach, left_out):
     spots, said = drawable({1: (0.0, 0.0), 2: (0.0, 5.0), 3: (0.0, 10.0), 4: (-reach, 5.0), 5: (0.0, 0.0)}, ["outside", "a", "b", "c", "d", "e"])
     assert said == [f"too far from the rest of the drawing, and put where the streams draw it: {name}" for name in left_out] and (4 in spots) == (not left_out)
+
+
+def test_hidden_worksheets_up_to_the_last_that_is_read_are_told(listed):
+    book = openpyxl.Workbook()
+    for row in (["from", "to", "reading", "accuracy"], ["outside", "a", 100, 5], ["a", "outside", 101, 5]):
+        book.active.append(row)
+    for name, hidden in (("before", True), ("places", False), ("behind", True), ("third", False)):
+        sheet = book.create_sheet(name)
+        sheet.append(["unit", "x", "y"])
+        sheet.sheet_state = "hidden" if hidden else "visible"
+    assert read_list(listed(saved(book), "a.xlsx")).told == ("the hidden worksheet before was not read",)

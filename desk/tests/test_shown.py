@@ -18,6 +18,7 @@ from wengeludo.balance.sheet import balance
 from wengeludo.balance.site import read_site
 from wengeludo.write import view
 from wengeludo.write.page import scale
+from wengeludo.write.spots import header
 
 SVG = "{http://www.w3.org/2000/svg}"
 NAMES = sorted(path.name for path in SAMPLES.iterdir() if path.suffix in (".csv", ".xlsx") and ".places" not in path.name)
@@ -194,6 +195,7 @@ def test_the_legend_says_what_the_drawing_shows(name, run, tmp_path):
         word = "beyond chance" if k in drawn.worst else "over 1.96" if line.notable else words[line.kind.value]
         assert look(svg, k) == next(sample for text, sample in legend.items() if word in text), (k, word)
     assert len(set(legend.values())) == len(legend) == 6
+    assert not [part.tail for part in svg.iter() if (part.tail or "").strip()], "no text outside of a mark"
 
 
 def test_the_legend_of_ranges_that_cannot_be_kept(run, tmp_path):
@@ -327,3 +329,8 @@ def test_the_live_page_reads_and_shows_numbers_as_the_list_does(unit, decimals):
         amount = float(whole * Fraction(*unit))
         shown, signed = (f"{amount:{sign},.{decimals}f}".replace("-", "−") for sign in ("", "+"))
         assert told == [str(whole), shown.lstrip("−") if not whole else shown, shown.lstrip("−") if not whole else signed], text
+
+
+@pytest.mark.parametrize("name, wide", [("HP header", True), ("manifold 3", True), ("steam main", True), ("Watermains", True), ("remainder", False), ("boiler 1", False)])
+def test_a_header_is_known_by_its_name(name, wide):
+    assert header(name) == wide
