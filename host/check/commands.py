@@ -72,6 +72,7 @@ RULES = [
     Rule(r'python3 (?:bindings/python/)?time_wide\.py.*', 'run', 'target/desk/bin/python3 bindings/python/time_wide.py 200 || [ $? = 1 ]', DESK),
     Rule(r'cargo doc --open', 'run', 'cargo doc --offline --no-deps'),
     Rule(r'(?:WENGELUDO_\w+=\d+ )*(cargo test .*)', 'run', r'WENGELUDO_INPUTS=2000 \1'),
+    Rule(r'python3 host/check/mutants\.py.*', 'run', 'python3 host/check/mutants.py --list --count 5'),  # a run of them takes hours
     Rule(r'bash host/bench/run\.sh --before LIBRARY.*', 'run', f'bash host/bench/run.sh --before {ARCHIVE} 2 0'),
     Rule(r'bash host/bench/(run|visits|checks|flows)\.sh.*', 'run', r'bash host/bench/\1.sh 2 1'),
     Rule(r'bash host/fuzz/run\.sh \S+', 'run', 'bash host/fuzz/run.sh 1'),
