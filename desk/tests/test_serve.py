@@ -435,3 +435,19 @@ def test_german_words_are_those_of_texts_that_are_said():
         marks = [re.search(r"[^\w)]*$", one)[0] for one in (text, german)]
         assert marks[0] == marks[1] and re.findall(r"\{\w+\}", text) == re.findall(r"\{\w+\}", german), text
         assert not re.search(r"[^\w\s.,:;?!()„“…–—σ{}'-]", german), german
+
+
+def test_pages_of_history_runs_are_shown_shut_in(tmp_path):
+    folder = tmp_path / "runs"
+    folder.mkdir()
+    (folder / "july.html").write_text("<h1>July</h1><script>1</script>")
+    (folder / "notes.txt").write_text("not a run")
+    (tmp_path / "secret.html").write_text("secret")
+    client = application(Shelf.opened(str(tmp_path / "site.book"), folder), Door((HOST,), key=KEY)).test_client()
+    client.get(f"/?key={KEY}", **BASE)
+    listed = client.get("/runs", **BASE).text
+    assert 'href="/runs/july.html"' in listed and "notes.txt" not in listed and 'href="/runs"' in client.get("/", **BASE).text
+    page = client.get("/runs/july.html", **BASE)
+    assert page.text.startswith("<h1>July</h1>") and "sandbox allow-scripts" in page.headers["Content-Security-Policy"] and "connect-src" not in page.headers["Content-Security-Policy"]
+    for path in ("/runs/notes.txt", "/runs/..%2fsecret.html", "/runs/%2e%2e/secret.html", "/runs/june.html"):
+        assert client.get(path, **BASE).status_code in (404, 308), path

@@ -161,3 +161,34 @@ def test_a_phone_does_not_scroll_sideways_and_a_print_has_two_pages(page, served
     page.get(f"{path}?r9=8000")
     pdf = base64.b64decode(page.execute_cdp_cmd("Page.printToPDF", {"preferCSSPageSize": True, "printBackground": True})["data"])
     assert pdf.count(b"/Type /Page\n") + pdf.count(b"/Type /Page ") in (2, 3)
+
+
+def test_people_come_in_by_their_password_and_see_what_they_may(tmp_path):
+    pytest.importorskip("argon2", reason="people are not tried, as there is no argon2 (apt-get install python3-argon2)")
+    from wengeludo.serve.people import People
+
+    people = People(tmp_path / "people")
+    people.add("planner", "correct horse planner", "reader", frozenset())
+    people.add("boss", "correct horse boss", "admin", frozenset({1}))
+    desk, driver = Served(tmp_path / "site.book", None, "--people", str(tmp_path / "people")), browser()
+    try:
+        for name, may in (("planner", False), ("boss", True)):
+            driver.get(f"{desk.root}/book?office=1")
+            wait(lambda: "/login" in driver.current_url)
+            low, nameless = driver.execute_script(CONTRAST)
+            assert not low and not nameless
+            find(driver, "[name=name]").send_keys(name)
+            find(driver, "[name=password]").send_keys(f"correct horse {name}")
+            find(driver, ".login button").click()
+            wait(lambda: "/book?office=1" in driver.current_url)
+            driver.get(f"{desk.root}/")
+            assert bool(driver.find_elements("css selector", ".upload")) is may
+            driver.get(f"{desk.root}/people")
+            assert ("Somebody new" in driver.page_source) is may
+            low, nameless = driver.execute_script(CONTRAST)
+            assert not low and not nameless
+            find(driver, "form[action='/logout'] button").click()
+            wait(lambda: "/login" in driver.current_url)
+    finally:
+        driver.quit()
+        desk.stop()

@@ -51,7 +51,7 @@ def guard(app: Flask, door: Door) -> None:
 
     @app.after_request
     def leave(answer: Response) -> Response:
-        answer.headers["Content-Security-Policy"] = POLICY
+        answer.headers.setdefault("Content-Security-Policy", POLICY)  # the page of a history run has its own, which shuts it in
         answer.headers["X-Content-Type-Options"] = "nosniff"
         answer.headers["Referrer-Policy"] = "same-origin"
         answer.headers["Cross-Origin-Opener-Policy"] = "same-origin"
