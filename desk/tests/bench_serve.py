@@ -23,15 +23,16 @@ SAMPLES = Path(__file__).resolve().parents[1] / "samples"
 
 
 def large(path, streams=96, units=30):
-    """A list of 96 streams that balances but for noise."""
+    """A list of 96 streams whose flows balance, three of four metered, each read with some noise."""
     draw = random.Random(7)
-    flows = {}
+    ends = [(k, draw.randrange(k)) for k in range(1, units + 1)]  # a tree, the leaves last
+    ends += [tuple(draw.sample(range(units + 1), 2)) for _ in range(streams - units)]
+    flows = [0] * units + [draw.randint(500, 9000) for _ in range(streams - units)]
+    for k in range(units, 0, -1):
+        flows[k - 1] = sum(flow if target == k else -flow for (source, target), flow in zip(ends, flows) if k in (source, target) and flow)
     rows = ["stream,what,from,to,reading,accuracy"]
-    for k in range(1, streams + 1):
-        source, target = draw.sample(range(units + 1), 2)
-        flow = draw.randint(500, 9000)
-        for place, sign in ((source, -1), (target, 1)):
-            flows[place] = flows.get(place, 0) + sign * flow
+    for k, ((source, target), flow) in enumerate(zip(ends, flows), 1):
+        source, target, flow = (source, target, flow) if flow >= 0 else (target, source, -flow)
         names = ["outside" if place == 0 else f"unit {place}" for place in (source, target)]
         meter = f"{flow + draw.gauss(0, 20):.0f},20" if k % 4 else ","
         rows.append(f"{k},stream {k} of the large site,{names[0]},{names[1]},{meter}")

@@ -462,3 +462,20 @@ def test_a_range_with_one_end_is_rounded_only_by_its_end(high, shares):
     unit, factor = Fraction(1), Fraction(1000)
     listed = Exacts(1, (Exact(0, 1, Fraction(100), Fraction(1), None, high), Exact(1, 0, Fraction(101), Fraction(1), Fraction(0), None)))
     assert rounded(Checked(listed, unit, factor, wide_plant(listed, unit, factor), (100, 100), ())) == shares
+
+
+def test_what_leads_the_suspects_is_what_leads_them_all(tmp_path):
+    """Of a failing list of many meters the first of a few are the first of all, with the same cost and flow."""
+    from bench_serve import large
+    from wengeludo.explain.suspects import LEADING, leading, likeliest, suspects
+
+    rows = large(tmp_path / "large.csv").read_text().splitlines()
+    for k in (3, 30, 61):
+        cells = rows[k].split(",")
+        cells[4] = str(int(cells[4]) + 300)
+        path = tmp_path / f"off{k}.csv"
+        path.write_text("\n".join([*rows[:k], ",".join(cells), *rows[k + 1 :]]) + "\n")
+        few, every = (balance(read_site(path)) for _ in range(2))
+        first = likeliest(few, leading(few))
+        assert first and [s.index for s in first] == [s.index for s in likeliest(every, suspects(every))] and first == likeliest(every, suspects(every))
+        assert len(leading(few)) <= LEADING + sum(line.held is not None for line in few.lines) < len(suspects(every))

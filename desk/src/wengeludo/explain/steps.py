@@ -83,7 +83,7 @@ def _chance(balance: Balance) -> str:
 
 def _failing(balance: Balance) -> List[str]:
     """Of a sheet that fails: the meters to visit, what to leave alone, and the meters that explain it together."""
-    listed = suspects.likeliest(balance, suspects.suspects(balance))
+    listed = suspects.likeliest(balance, suspects.leading(balance))
     good = [s for s in listed if not s.why_not]
     lines: List[str] = []
     told: Set[int] = set()

@@ -17,6 +17,7 @@ from ..balance.sheet import Balance
 from ..balance.site import Site
 from ..balance.spread import at_end
 
+LEADING = 12  # meters that are looked at for what to do next
 MOST_GONE = 5  # meters that are taken out one after the other
 
 
@@ -47,7 +48,21 @@ class Gone:
 
 def suspects(balance: Balance) -> List[Suspect]:
     """The checked meters by the cost without each, worked out once for a balance."""
-    return balance.once("suspects", lambda: _by_rule(balance) if balance.checked else _by_engine(balance.site))
+    return balance.once("suspects", lambda: _by_rule(balance, balance.site.exacts.checked) if balance.checked else _by_engine(balance.site))
+
+
+def leading(balance: Balance) -> List[Suspect]:
+    """Those of them that can matter for what to do next: of checked flows the meters with the greatest test values, as the cost falls by
+    about the square of it, and those that have none because they are held at an end of their range; worked out once."""
+    if not balance.checked or "suspects" in balance.memo:
+        return suspects(balance)
+    return balance.once("leading", lambda: _by_rule(balance, _greatest_tests(balance)))
+
+
+def _greatest_tests(balance: Balance) -> Sequence[int]:
+    tests = {k: balance.lines[k].test for k in balance.site.exacts.checked}
+    order = sorted((k for k, test in tests.items() if test is not None), key=lambda k: -abs(tests[k] or 0))
+    return sorted({*order[:LEADING], *(k for k, test in tests.items() if test is None)})
 
 
 def _by_engine(site: Site) -> List[Suspect]:
@@ -63,10 +78,10 @@ def _suspect(site: Site, visit: engine.Visit) -> Suspect:
     return Suspect(k, visit.cost / 1000, sheet.verdict, flow, _why_not(site, k, flow))
 
 
-def _by_rule(balance: Balance) -> List[Suspect]:
-    """The same for checked flows: a meter without which nothing can be judged is left out."""
+def _by_rule(balance: Balance, among: Sequence[int]) -> List[Suspect]:
+    """The same for checked flows, among these meters: one without which nothing can be judged is left out."""
     site, found = balance.site, []
-    for k in site.exacts.checked:
+    for k in among:
         then = _solved(without(site.exacts, [k]))
         if then is None:
             continue

@@ -88,7 +88,7 @@ def _chosen(site: Site, words: Mapping[str, str]) -> int:
 def _side(now: Balance) -> Dict[str, Any]:
     """Suspects, meters to buy and the bill."""
     failing = view.tone(now) == "bad" and not now.flowless
-    listed = suspects.suspects(now) if failing or now.kind is SheetKind.ENGINE and not now.flowless else []
+    listed = suspects.leading(now) if failing or now.kind is SheetKind.ENGINE and not now.flowless else []
     likely = {s.index for s in suspects.likeliest(now, listed) if not s.why_not} if failing else set()
     bought = purchase.cheapest(now.site)
     charges, cents, no_bill = _bill(now)
