@@ -40,7 +40,9 @@ def drawn(where, tmp_path, **how):
 
 
 def test_killed_at_random_statements(new_book, tmp_path):
-    assert drawn(new_book(), tmp_path, chance=0.003 if LONG else 0.01) > 0
+    """By a chance at which a run without a kill is one in a million: a server's draw has fewer statements than a file's."""
+    where = str(new_book())
+    assert drawn(where, tmp_path, chance=0.003 if LONG else 0.05 if where.startswith("postgresql") else 0.025) > 0
 
 
 def test_killed_from_outside(new_book, tmp_path):
