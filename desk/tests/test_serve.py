@@ -4,6 +4,7 @@
 import io
 import re
 import socket
+import sys
 import threading
 import time
 import zipfile
@@ -96,6 +97,9 @@ def test_a_what_if_is_in_the_address_and_nowhere_else(desk, shelf):
     assert desk.get("/list/1", **BASE).text.count("What-if") == before.count("What-if")
     assert shelf.lasts() == (0,) * 8 and len(shelf.lists(None, 9)) == 1
     part = desk.get("/list/1?x9=1", headers={"X-Part": "1"}, **BASE).json
+    first = desk.get("/list/1", headers={"X-Part": "1"}, **BASE).json
+    moved = [k for k, (row, old) in enumerate(zip(part["rows"], first["rows"])) if row[0] != old[0]]
+    assert moved and [k for k, row in enumerate(part["rows"]) if row[1]] == moved and all(part["rows"][k][1] == first["rows"][k][0] for k in moved)
     assert part["tone"] == "good" and part["whatif"] and part["changed"] == [8] and len(part["rows"]) == 26
     assert all(cell in struck for row in part["rows"] for cell in (row[0], row[1]) if cell)
 
@@ -217,6 +221,9 @@ def test_guard_1_the_machine_itself_with_a_key_and_others_with_people(shelf, tmp
     for host, people, names, plain in (("192.0.2.1", None, (), False), ("192.0.2.1", tmp_path / "p", (), False), ("nowhere", None, (), False)):
         with pytest.raises(Stopped):
             door_of(host, 8417, people, names, plain)
+    for names, plain in (((), False), (("desk.example",), False), ((), True)):
+        with pytest.raises(Stopped, match="--people"):  # whatever else is said, nobody comes in from elsewhere without a password
+            door_of("192.0.2.1", 8417, None, names, plain)
     assert door_of("127.0.0.1", 8417, None, (), False).key
 
 
@@ -343,6 +350,27 @@ def workbook(strings):
     parts = zipfile.ZipFile(data)
     names = [name for name in parts.namelist() if name != "xl/sharedStrings.xml"]
     return packed({**{name: parts.read(name) for name in names}, "xl/sharedStrings.xml": strings})
+
+
+def test_guard_7_says_which_limit_and_reads_with_little(monkeypatch):
+    many = {str(k): b"" for k in range(upload.MOST_PARTS)}
+    upload.looked_over("most.csv", b"x" * upload.MOST_BYTES)
+    upload.looked_over("most.xlsx", packed(many))
+    upload.looked_over("most.xlsx", packed({"x": b" " * upload.MOST_UNPACKED}))
+    for name, data, told in (
+        ("a.csv", b"x" * (upload.MOST_BYTES + 1), "larger than 2,000,000 bytes"), ("a.xlsx", packed({"x": b" " * (upload.MOST_UNPACKED + 1)}), "unpacked the workbook"),
+        ("a.xlsx", packed({**many, "one more": b""}), "unpacked the workbook"),
+    ):
+        with pytest.raises(upload.Unreadable, match=told):
+            upload.looked_over(name, data)
+    asked = {}
+    real = upload.subprocess.run
+    monkeypatch.setattr(upload.subprocess, "run", lambda *words, **how: asked.update(how) or real(*words, **how))
+    upload.read("steam_site.csv", (SAMPLES / "steam_site.csv").read_bytes())
+    assert asked["timeout"] <= 20
+    ask = "import resource as r; print([r.getrlimit(x)[0] for x in (r.RLIMIT_AS, r.RLIMIT_CPU, r.RLIMIT_FSIZE)])"
+    told = real([sys.executable, "-c", ask], preexec_fn=asked["preexec_fn"], capture_output=True, text=True).stdout
+    assert told.strip() == str([upload.MEMORY, upload.SECONDS, 0])
 
 
 def test_guard_7_uploads_that_are_too_much_are_refused(desk):
