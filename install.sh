@@ -5,7 +5,7 @@
 #                                                             manual pages, and a list of all that was put there
 #     bash install.sh --uninstall PREFIX                      takes away what that list names, and nothing else
 #
-# --target aarch64|riscv64   the archive that host/cross/build.sh has written to target/cross; CC must make programs for it
+# --target aarch64|riscv64   the archive that packaging/cross/build.sh has written to target/cross; CC must make programs for it
 # --unproved                 takes an archive that is not the one docs/MEASURED.md records, or not of the header's version
 #
 # DESTDIR (default: none)    a folder before PREFIX in which the files are put, for who makes a package
@@ -34,7 +34,7 @@ case "$prefix${LIBDIR:-}" in *'
 '* | *'\'* | *'"'* | *'|'*) fail "PREFIX and LIBDIR take no line end, backslash, quote or |" ;; esac
 case "${LIBDIR:-lib}" in /*) libdir=${LIBDIR%/} ;; *) libdir=$prefix/${LIBDIR:-lib} ;; esac
 dest=${DESTDIR:-}
-header=$here/host/include/wengeludo_balance.h
+header=$here/include/wengeludo_balance.h
 number() { sed -n "s/^#define WENGELUDO_VERSION_$1 \([0-9]*\)$/\1/p" "$header"; }
 major=$(number MAJOR)
 version=$major.$(number MINOR).$(number PATCH)
@@ -72,11 +72,11 @@ fi
 
 need() { command -v "$1" >/dev/null || fail "no $1: $2"; }
 need python3 "the manual pages are made from the header by a script (Debian: apt-get install python3)"
-calls="$(python3 "$here/host/install/man.py" --names) wengeludo_refusal_text"
+calls="$(python3 "$here/packaging/install/man.py" --names) wengeludo_refusal_text"
 archive=${WENGELUDO_ARCHIVE:-$here/target/staticlib/liblinked.a}
 [ "$target" = x86_64 ] || archive=${WENGELUDO_ARCHIVE:-$here/target/cross/$target.a}
 how="build it with 'rt staticlib linked'"
-[ "$target" = x86_64 ] || how="build it with 'bash host/cross/build.sh $target target/cross/$target.a'"
+[ "$target" = x86_64 ] || how="build it with 'bash packaging/cross/build.sh $target target/cross/$target.a'"
 [ -e "$archive" ] || fail "no $archive: $how"
 need "${CC:-cc}" "the shared library is made by a C compiler (Debian: apt-get install gcc libc6-dev) or name one in CC"
 
@@ -93,7 +93,7 @@ sum=$(sha256sum <"$archive" | cut -d' ' -f1)
 
 # What stands beside the proved calls: the sentence of a refusal, and where a file is refused.
 for part in refusal_text fault; do
-    "${CC:-cc}" -std=c99 -O2 -fPIC -ffp-contract=off -I "$here/host/include" -I "$here/host/companion" -c "$here/host/companion/$part.c" -o "$work/$part.o"
+    "${CC:-cc}" -std=c99 -O2 -fPIC -ffp-contract=off -I "$here/include" -I "$here/bindings/c" -c "$here/bindings/c/$part.c" -o "$work/$part.o"
 done
 "${AR:-ar}" rcsD "$work/libwengeludo_host.a" "$work/refusal_text.o" "$work/fault.o"
 printf 'WENGELUDO_%s {\n    global:\n        wengeludo_*;\n    local:\n        *;\n};\n' "$major" >"$work/wengeludo.map"
@@ -125,10 +125,10 @@ for name, word in words.items():
 sys.stdout.write(text)
 P
 }
-filled "$here/host/install/wengeludo.pc.in" >"$work/wengeludo.pc"
-filled "$here/host/install/wengeludo-config.cmake.in" >"$work/wengeludo-config.cmake"
-filled "$here/host/install/wengeludo-config-version.cmake.in" >"$work/wengeludo-config-version.cmake"
-python3 "$here/host/install/man.py" >"$work/wengeludo.3"
+filled "$here/packaging/install/wengeludo.pc.in" >"$work/wengeludo.pc"
+filled "$here/packaging/install/wengeludo-config.cmake.in" >"$work/wengeludo-config.cmake"
+filled "$here/packaging/install/wengeludo-config-version.cmake.in" >"$work/wengeludo-config-version.cmake"
+python3 "$here/packaging/install/man.py" >"$work/wengeludo.3"
 echo ".so man3/wengeludo.3" >"$work/call.3"
 
 : >"$work/manifest"
@@ -142,8 +142,8 @@ link() { # what it leads to, where
     listed "$2" >>"$work/manifest"
 }
 put "$header" "$prefix/include/wengeludo_balance.h"
-put "$here/host/include/wengeludo.hpp" "$prefix/include/wengeludo.hpp"
-put "$here/host/companion/wengeludo_fault.h" "$prefix/include/wengeludo_fault.h"
+put "$here/include/wengeludo.hpp" "$prefix/include/wengeludo.hpp"
+put "$here/bindings/c/wengeludo_fault.h" "$prefix/include/wengeludo_fault.h"
 put "$archive" "$libdir/libwengeludo.a"
 put "$work/libwengeludo_host.a" "$libdir/libwengeludo_host.a"
 put "$work/libwengeludo.so" "$libdir/libwengeludo.so.$version" 755

@@ -73,7 +73,7 @@ part() { # what, tools: true where it is to be run
 }
 long() { [ "${SHORT:-0}" != 1 ]; }
 quietly() { # log, lines to show, command
-    mkdir -p target/host
+    mkdir -p target/built
     "${@:3}" >"$1" 2>&1 || { tail -20 "$1" >&2; exit 1; }
     grep -aE "$2" "$1"
 }
@@ -84,68 +84,68 @@ if [ "${1:-}" = "" ]; then
     bash .ci/run --gate
 fi
 if part "texts that are made from lists and samples, and what is to be believed" python3; then
-    python3 host/check/versions.py
-    python3 host/check/refusals.py
-    python3 host/check/crate_list.py --check
-    python3 host/check/edits.py --check
-    python3 host/check/glossary.py
-    python3 host/check/legible.py
-    python3 host/check/picture.py
-    python3 host/check/believe.py | tail -1
-    python3 host/check/names.py
-    python3 host/check/spdx.py || ! long
+    python3 tools/versions.py
+    python3 tools/refusals.py
+    python3 tools/crate_list.py --check
+    python3 tools/edits.py --check
+    python3 tools/glossary.py
+    python3 tools/legible.py
+    python3 tools/picture.py
+    python3 tools/believe.py | tail -1
+    python3 tools/names.py
+    python3 tools/spdx.py || ! long
 fi
 part "the archive"
 rt staticlib linked
 if part "the archive's bytes" python3; then
-    python3 host/check/archive.py
+    python3 tools/archive.py
 fi
 if part "the archive's stack" python3 objdump; then
-    python3 host/check/stack.py
+    python3 tools/stack.py
 fi
 if part "the C programs" "$compiler"; then
-    bash host/c/build.sh
-    bash host/c/test.sh
-    target/host/empty_slices
+    bash programs/build.sh
+    bash programs/test.sh
+    target/built/empty_slices
 fi
 if part "the host code beside the archive, and the floating-point environment" "$compiler" python3; then
-    bash host/companion/test.sh
+    bash bindings/c/test.sh
 fi
 if part "the programs themselves" python3; then
-    python3 host/programs/test.py
+    python3 tests/programs.py
 fi
 if part "cases that are spoilt, and a start that must be worth something" python3 rt; then
-    python3 host/check/spoilt_cases.py
-    python3 host/check/hints.py
-    ! long || quietly target/host/hints.log '^hints: [0-9]+ worthless' python3 host/check/hints.py --worthless
+    python3 tools/spoilt_cases.py
+    python3 tools/hints.py
+    ! long || quietly target/built/hints.log '^hints: [0-9]+ worthless' python3 tools/hints.py --worthless
 fi
 if part "C++" g++ clang++; then
-    bash host/cpp/test.sh
+    bash bindings/cpp/test.sh
 fi
 if part "what is installed" "$compiler" pkg-config cmake man groff objdump cargo; then
-    bash host/install/test.sh
+    bash packaging/install/test.sh
 fi
 if part "the search for what depends on a processor" python3; then
-    bash host/cross/test.sh --search
+    bash packaging/cross/test.sh --search
 fi
 for target in aarch64 riscv64; do
     if part "the calls on $target, against x86-64" python3 "qemu-$target-static"; then
-        bash host/cross/test.sh "$target"
+        bash packaging/cross/test.sh "$target"
     fi
 done
 if part "the calls as WebAssembly, against x86-64" python3 node; then
-    bash host/cross/test.sh wasm32
+    bash packaging/cross/test.sh wasm32
 fi
 if part "JavaScript" python3 node; then
     (long || export CHROMIUM=none; bash bindings/js/test.sh)
 fi
 if part "the cases and samples, made anew" python3; then
-    quietly target/host/cases.log '^[0-9,]+ ' python3 reference/make_cases.py --check
+    quietly target/built/cases.log '^[0-9,]+ ' python3 reference/make_cases.py --check
 fi
 if part "the Rust crate and the differential tests" cargo "$compiler" nm ar; then
-    (cd host/rust && cargo test --offline --quiet -- --nocapture)
-    bash host/rust/test_archives.sh
-    ! long || bash host/rust/test_oldest.sh
+    (cd bindings/rust && cargo test --offline --quiet -- --nocapture)
+    bash bindings/rust/test_archives.sh
+    ! long || bash bindings/rust/test_oldest.sh
 fi
 absent=$(bash desk/test.sh --missing)
 if [ -n "$absent" ]; then
@@ -156,39 +156,39 @@ elif part "the Python binding and the desk tool" "$compiler"; then
 fi
 if part "wrong programs of the host" python3 "$compiler"; then
     if long && [ -z "$absent" ]; then
-        quietly target/host/wrong.log '^wrong: ' python3 host/check/wrong.py
+        quietly target/built/wrong.log '^wrong: ' python3 tools/wrong.py
     else
-        python3 host/check/wrong.py c
-        python3 host/check/wrong.py --applies || echo "wrong: the long run asks for them"
+        python3 tools/wrong.py c
+        python3 tools/wrong.py --applies || echo "wrong: the long run asks for them"
     fi
 fi
 if long && part "the benchmark, a short run" cargo; then
-    quietly target/host/bench.log "$rows" bash host/bench/run.sh 5 1 | head -4
+    quietly target/built/bench.log "$rows" bash bench/run.sh 5 1 | head -4
 fi
 if long && part "the list of meters worth a visit, a short run" cargo; then
-    quietly target/host/visits.log "$rows" bash host/bench/visits.sh 20 1
+    quietly target/built/visits.log "$rows" bash bench/visits.sh 20 1
 fi
 if long && part "the check of a sheet, a short run" cargo; then
-    quietly target/host/checks.log "$rows" bash host/bench/checks.sh 20 1
-    quietly target/host/flows.log "$rows" bash host/bench/flows.sh 20 1
+    quietly target/built/checks.log "$rows" bash bench/checks.sh 20 1
+    quietly target/built/flows.log "$rows" bash bench/flows.sh 20 1
 fi
 fuzzer() { echo 'int LLVMFuzzerTestOneInput(const char *d, long n) { return n < 0 && *d; }' | clang -fsanitize=fuzzer -x c - -o /dev/null 2>/dev/null; }
 if there clang && ! fuzzer && [ "${SKIP_MISSING:-0}" = 1 ]; then
     skip "the fuzz target" "clang has no libFuzzer"
 elif part "the fuzz target, ${FUZZ_SECONDS:-60} seconds" clang objdump nm; then
-    bash host/fuzz/build.sh
-    quietly target/host/fuzz/log '^(Done|fuzz target:)' bash host/fuzz/run.sh "${FUZZ_SECONDS:-60}"
+    bash tests/fuzz/build.sh
+    quietly target/built/fuzz/log '^(Done|fuzz target:)' bash tests/fuzz/run.sh "${FUZZ_SECONDS:-60}"
 fi
 if long && part "the files of a release" python3 dpkg-deb dpkg-shlibdeps; then
     rm -rf target/release
-    WENGELUDO_CHANGED=1 bash host/release/make.sh target/release | tail -1
+    WENGELUDO_CHANGED=1 bash packaging/release/make.sh target/release | tail -1
     (cd target/release && sha256sum -c --quiet SHA256SUMS)
 fi
 if long && part "the Debian packages" dpkg-deb dpkg-shlibdeps lintian fakeroot pkg-config "$compiler"; then
-    bash host/debian/test.sh
+    bash packaging/debian/test.sh
 fi
 if long && part "every command of the texts" python3; then
-    python3 host/check/commands.py
+    python3 tools/commands.py
 fi
 for what in "${skipped[@]+"${skipped[@]}"}"; do
     echo "test_all: SKIPPED $what"

@@ -68,10 +68,10 @@ say "the archive $archive"
 say "binding and tool in $home, run by $python ($("$python" --version))"
 mkdir -p "$prefix/bin" "$home"
 [ -x "$home/bin/python3" ] || "$python" -m venv --system-site-packages "$home"
-export WENGELUDO_INCLUDE="${WENGELUDO_INCLUDE:-$root/host/include}" WENGELUDO_ARCHIVE="$archive"
+export WENGELUDO_INCLUDE="${WENGELUDO_INCLUDE:-$root/include}" WENGELUDO_ARCHIVE="$archive"
 if [ ! -e "$root/target/cross/wengeludo.wasm" ] && command -v rt >/dev/null && [ -e "$root/target/staticlib/liblinked.a" ]; then
     say "the engine's WebAssembly, for pages that recompute by themselves"
-    bash "$root/host/cross/build.sh" wasm32 "$root/target/cross/wengeludo.wasm" >/dev/null 2>&1 || say "not built: wengeludo sheet --live is left out"
+    bash "$root/packaging/cross/build.sh" wasm32 "$root/target/cross/wengeludo.wasm" >/dev/null 2>&1 || say "not built: wengeludo sheet --live is left out"
 fi
 for part in bindings/python desk; do
     mkdir -p "$build/$part"

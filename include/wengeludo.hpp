@@ -40,7 +40,7 @@ inline constexpr std::uint32_t header_version = WENGELUDO_VERSION;
 
 // What a call returns: done, or why it was refused. Another library may return a number that is not named here.
 enum class refusal : std::uint8_t {
-    // refusals: enum, from host/refusals.tsv
+    // refusals: enum, from tools/refusals.tsv
     done = WENGELUDO_DONE,
     slice_too_short = WENGELUDO_SLICE_TOO_SHORT,
     no_sheet_number = WENGELUDO_NO_SHEET_NUMBER,

@@ -2,11 +2,11 @@
  *
  * `bash install.sh PREFIX` puts the library where a compiler finds it (-lwengeludo), for x86-64 Linux; `rt staticlib linked`
  * proves it and writes target/staticlib/liblinked.a, which is the same archive, to be linked as it is. For 64-bit Linux on ARM and
- * RISC-V host/cross/build.sh compiles the module of that proof. Lengths and counts have 64 bits: size_t has them on all three. In
- * WebAssembly of 32 bits size_t has fewer and the calls take 64-bit numbers all the same: see host/cross/lengths.h.
+ * RISC-V packaging/cross/build.sh compiles the module of that proof. Lengths and counts have 64 bits: size_t has them on all three. In
+ * WebAssembly of 32 bits size_t has fewer and the calls take 64-bit numbers all the same: see packaging/cross/lengths.h.
  * It needs nothing but the C library (memcpy, memset). The calls keep no state, allocate nothing, take less than
  * 72 KB of stack, and may run in several threads at once on memory of their own. On x86-64 they take at most 42,184 bytes of
- * stack, which is visits; balance_plant takes 39,112 and check_flow 11,632 (python3 host/check/stack.py has each).
+ * stack, which is visits; balance_plant takes 39,112 and check_flow 11,632 (python3 tools/stack.py has each).
  *
  * What holds of every pointer here, and what no call can check:
  *   - it points to as many elements as the length beside it says (a pointer without a length: to one, never NULL);
@@ -31,7 +31,7 @@
 #include <stdint.h>
 
 #if SIZE_MAX < UINT64_MAX && !defined(size_t)
-#error "wengeludo: lengths have 64 bits, and size_t has fewer here; for wasm32 include host/cross/lengths.h"
+#error "wengeludo: lengths have 64 bits, and size_t has fewer here; for wasm32 include packaging/cross/lengths.h"
 #endif
 
 #ifdef __cplusplus
@@ -88,7 +88,7 @@ uint32_t wengeludo_version(void);
 
 /* What the calls return: 0, or the number of a refusal. */
 enum {
-    /* refusals: enum, from host/refusals.tsv */
+    /* refusals: enum, from tools/refusals.tsv */
     WENGELUDO_DONE = 0,
     WENGELUDO_SLICE_TOO_SHORT = 1,     /* a slice is too short: under 880 bytes for a sheet, 8 numbers for the offices, 1,636
                                           bytes for a plant file, 96 elements for the sheet reader and for lists of streams, 13
@@ -127,7 +127,7 @@ enum {
 };
 
 /* What a number says, as a sentence without a full stop; also for 0, and for a number that this header does not know. */
-/* refusals: texts, from host/refusals.tsv */
+/* refusals: texts, from tools/refusals.tsv */
 static inline const char *wengeludo_refusal_text(uint8_t number)
 {
     switch (number) {

@@ -1,15 +1,15 @@
 #!/usr/bin/env bash
-# Runs balance_file, meters_to_buy, layouts_file, visits_file, charges_file, check_sheet, check_flow and place_numbers of target/host: the samples, a cut plant, the last sheet
+# Runs balance_file, meters_to_buy, layouts_file, visits_file, charges_file, check_sheet, check_flow and place_numbers of target/built: the samples, a cut plant, the last sheet
 # number, the offices, the longest file and one byte more, and what cannot be read, written or understood; then limits.
 #
-#     bash host/c/test.sh            the programs of target/host, then the same with the sanitizers of addresses and of undefined behaviour
-#     bash host/c/test.sh FOLDER     those of another folder
+#     bash programs/test.sh            the programs of target/built, then the same with the sanitizers of addresses and of undefined behaviour
+#     bash programs/test.sh FOLDER     those of another folder
 # SPDX-License-Identifier: LicenseRef-Wengeludo
 set -eu
-cd "$(dirname "$0")/../.."
-host=${1:-target/host}
+cd "$(dirname "$0")/.."
+host=${1:-target/built}
 program=$host/balance_file
-[ -x "$program" ] || { echo "no $program: build it with 'bash host/c/build.sh'" >&2; exit 2; }
+[ -x "$program" ] || { echo "no $program: build it with 'bash programs/build.sh'" >&2; exit 2; }
 work=$(mktemp -d)
 trap 'rm -rf "$work"' EXIT
 failed=0 runs=0
@@ -77,7 +77,7 @@ expect 0 "$(for k in {1..96}; do echo "$k A 0"; done)"$'\ntotal 1 0 1 pass' "$wo
 expect 1 "$longer" "$work/longer"
 # Meters to buy.
 program=$host/meters_to_buy
-[ -x "$program" ] || { echo "no $program: build it with 'bash host/c/build.sh'" >&2; exit 2; }
+[ -x "$program" ] || { echo "no $program: build it with 'bash programs/build.sh'" >&2; exit 2; }
 uses 'FILE [PRICE..]'
 blind=samples/blind_site.bin
 expect 0 $'buy 4\nbuy 8\nprice 950' "$blind" 900 1400 650 650 300 300 420
@@ -99,7 +99,7 @@ expect 0 "$(for k in {1..95}; do echo "buy $k"; done)"$'\nprice 95' "$work/bare"
 # shellcheck disable=SC2046
 expect 1 'refused 21' "$work/bare" $(for _ in {1..97}; do echo 1; done)
 program=$host/layouts_file
-[ -x "$program" ] || { echo "no $program: build it with 'bash host/c/build.sh'" >&2; exit 2; }
+[ -x "$program" ] || { echo "no $program: build it with 'bash programs/build.sh'" >&2; exit 2; }
 uses 'FILE'
 printf '\001\001\004\000' >"$work/empty"
 expect 0 "$(cat samples/listing.layouts)" "$listing"
@@ -113,7 +113,7 @@ expect 2 '' "$work/missing"
 expect 2 '' "$work"
 full "$listing"
 program=$host/visits_file
-[ -x "$program" ] || { echo "no $program: build it with 'bash host/c/build.sh'" >&2; exit 2; }
+[ -x "$program" ] || { echo "no $program: build it with 'bash programs/build.sh'" >&2; exit 2; }
 uses 'FILE'
 expect 0 "$(cat samples/listing.visits)" "$listing"
 expect 0 "$(cat samples/far_off_site.visits)" samples/far_off_site.bin
@@ -127,7 +127,7 @@ expect 2 '' "$work/missing"
 expect 2 '' "$work"
 for file in "$listing" "$work/cut"; do full "$file"; done
 program=$host/charges_file
-[ -x "$program" ] || { echo "no $program: build it with 'bash host/c/build.sh'" >&2; exit 2; }
+[ -x "$program" ] || { echo "no $program: build it with 'bash programs/build.sh'" >&2; exit 2; }
 uses 'FILE [RATE..]'
 billed=samples/billed_site.bin
 expect 0 "$(cat samples/billed_site.charges)" "$billed" 0 8350 8350 7120 9060
@@ -157,7 +157,7 @@ expect 2 '' "$work" 5
 for file in "$listing" "$work/cut"; do full "$file" 5; done
 # Sheets drawn up elsewhere.
 program=$host/check_sheet
-[ -x "$program" ] || { echo "no $program: build it with 'bash host/c/build.sh'" >&2; exit 2; }
+[ -x "$program" ] || { echo "no $program: build it with 'bash programs/build.sh'" >&2; exit 2; }
 uses 'PLANT SHEET NUMBERS'
 rated=samples/rated_site.bin
 sheet=samples/rated_site.sheet
@@ -212,7 +212,7 @@ expect 2 '' "$rated" "$sheet" "$(listed long -27 -103 9223372036854775808 0 -27)
 full "$rated" "$sheet" "$numbers"
 # Flows found elsewhere.
 program=$host/check_flow
-[ -x "$program" ] || { echo "no $program: build it with 'bash host/c/build.sh'" >&2; exit 2; }
+[ -x "$program" ] || { echo "no $program: build it with 'bash programs/build.sh'" >&2; exit 2; }
 wide=samples/wide_site.flow
 other() { sed "$2" "$wide" >"$work/wide_$1"; echo "$work/wide_$1"; } # name, a change of the sample
 expect 0 $'passes\ncost 2535198345492880289' "$wide"
@@ -266,8 +266,8 @@ echo "the C programs: $runs runs as expected"
 $host/limits
 if [ $# = 0 ]; then
     if echo 'int main(void) { return 0; }' | "${CC:-cc}" -fsanitize=address,undefined -x c - -o "$work/tried" 2>/dev/null && "$work/tried"; then
-        CFLAGS="-g -fsanitize=address,undefined -fno-sanitize-recover=all" bash host/c/build.sh "$host/sanitized" >"$work/log" || { cat "$work/log" >&2; exit 1; }
-        bash host/c/test.sh "$host/sanitized"
+        CFLAGS="-g -fsanitize=address,undefined -fno-sanitize-recover=all" bash programs/build.sh "$host/sanitized" >"$work/log" || { cat "$work/log" >&2; exit 1; }
+        bash programs/test.sh "$host/sanitized"
     else
         echo "the C programs: not tried with sanitizers, which this compiler lacks"
     fi

@@ -1,7 +1,7 @@
 # SPDX-License-Identifier: LicenseRef-Wengeludo
 """Runs the programs themselves, target/bin/balance, layouts and visits, and compares what they print with the reference solver.
 
-    python3 host/programs/test.py
+    python3 tests/programs.py
 
 What a read puts down and what a write takes stands in no contract (docs/PROMISES.md, "The programs"): this is where it is tried. A
 program reads no more than one byte past the longest plant file, all that comes up to there, from standard input alone; it says on
@@ -17,7 +17,7 @@ import tempfile
 import time
 from pathlib import Path
 
-ROOT = Path(__file__).resolve().parent.parent.parent
+ROOT = Path(__file__).resolve().parent.parent
 sys.path.insert(0, str(ROOT))
 
 from reference import parts  # noqa: E402

@@ -2,10 +2,10 @@
 # SPDX-License-Identifier: LicenseRef-Wengeludo
 """The archive is the same byte for byte wherever it is built: its SHA-256 stands in docs/MEASURED.md, beside the kit that wrote it.
 
-    python3 host/check/archive.py                    compares target/staticlib/liblinked.a with it, where the kit is the same
-    python3 host/check/archive.py --write            records it, after a change of the engine or of the kit, and those of the other
-                                                     processors, which it builds by host/cross/build.sh
-    python3 host/check/archive.py --of TARGET FILE   compares what host/cross/build.sh has built for another processor
+    python3 tools/archive.py                    compares target/staticlib/liblinked.a with it, where the kit is the same
+    python3 tools/archive.py --write            records it, after a change of the engine or of the kit, and those of the other
+                                                     processors, which it builds by packaging/cross/build.sh
+    python3 tools/archive.py --of TARGET FILE   compares what packaging/cross/build.sh has built for another processor
 """
 import hashlib
 import os
@@ -14,7 +14,7 @@ import shutil
 import subprocess
 import sys
 
-ROOT = os.path.abspath(os.path.join(os.path.dirname(__file__), '..', '..'))
+ROOT = os.path.abspath(os.path.join(os.path.dirname(__file__), '..'))
 ARCHIVE = os.path.join(ROOT, 'target', 'staticlib', 'liblinked.a')
 TEXT = os.path.join(ROOT, 'docs', 'MEASURED.md')
 ROW = re.compile(r'^\| `(rattle-[^`]+)` \| `([0-9a-f]{64})` \| ([0-9,]+) \|$', re.M)
@@ -53,7 +53,7 @@ def compare(kit, found):
         print(f'archive: {found}, by {kit}; not compared, the one recorded is by {recorded_kit}')
     elif found != recorded:
         sys.exit(f'archive: {found}, and docs/MEASURED.md has {recorded} for the same kit ({kit}).\n'
-                 'Either the engine has changed and python3 host/check/archive.py --write was not run, or it was not built from this text.')
+                 'Either the engine has changed and python3 tools/archive.py --write was not run, or it was not built from this text.')
     else:
         print(f'archive: {found}, as recorded for {kit}')
 
@@ -65,7 +65,7 @@ def compare_target(kit, target, path):
         sys.exit(f'archive: docs/MEASURED.md does not have one row for {target}')
     if kit == ROW.findall(text_of())[0][0] and found != rows[0][0]:
         sys.exit(f'archive: {found} for {target}, and docs/MEASURED.md has {rows[0][0]}. If the engine has changed, run\n'
-                 '    python3 host/check/archive.py --write')
+                 '    python3 tools/archive.py --write')
 
 
 def write(kit, archive, found):
@@ -74,7 +74,7 @@ def write(kit, archive, found):
     print(f'archive: {found} recorded')
     for target, name in TARGETS.items():
         out = os.path.join(ROOT, 'target', 'cross', name)
-        subprocess.run(['bash', os.path.join(ROOT, 'host', 'cross', 'build.sh'), target, out], check=True, stdout=subprocess.DEVNULL)
+        subprocess.run(['bash', os.path.join(ROOT, 'packaging', 'cross', 'build.sh'), target, out], check=True, stdout=subprocess.DEVNULL)
         content, sum_of = read(out)
         put(target_row(target), f'| {target} | `{sum_of}` | {len(content):,} |')
         print(f'archive: {sum_of} recorded for {target}')
@@ -82,7 +82,7 @@ def write(kit, archive, found):
 
 def main(words):
     if words not in ([], ['--write']) and not (len(words) == 3 and words[0] == '--of' and words[1] in TARGETS):
-        sys.exit('usage: python3 host/check/archive.py [--write | --of TARGET FILE]')
+        sys.exit('usage: python3 tools/archive.py [--write | --of TARGET FILE]')
     if shutil.which('rt') is None or not os.path.exists(ARCHIVE):
         sys.exit('archive: build it first, with `rt staticlib linked` (Rattle kit rattle-kit-5 or later)')
     kit = subprocess.run(['rt', 'version'], capture_output=True, text=True, check=True).stdout.strip()

@@ -2,7 +2,7 @@
 # SPDX-License-Identifier: LicenseRef-Wengeludo
 """What a reader of the crates asks first, counted from the files.
 
-    python3 host/check/audit.py
+    python3 tools/audit.py
 
 Told: public functions without `ensures` or with `requires`; files over 500 lines; functions over 60 lines; libraries without a
 must-fail edit; then lines of code, specs and proofs of each crate. `look` is a place to look at. Status 1 where there is a FAULT: a

@@ -1,9 +1,9 @@
 # SPDX-License-Identifier: LicenseRef-Wengeludo
 """What a reader of the promises must believe: every definition that they unfold to, and where it stands.
 
-    python3 host/check/believe.py            fails where a name stands in no file that docs/PROMISES.md lists, or a count there is not true
-    python3 host/check/believe.py --names    also each file's names
-    python3 host/check/believe.py --table    the rows of the lists, with their counts
+    python3 tools/believe.py            fails where a name stands in no file that docs/PROMISES.md lists, or a count there is not true
+    python3 tools/believe.py --names    also each file's names
+    python3 tools/believe.py --table    the rows of the lists, with their counts
 
 It begins at the contracts of the exported calls (crates/linked/src) and of the calls that the programs print by, and at the theorems of
 the record `Promises`, which stands above them, reads the names in each, finds the definition of each name in specs/ or in a declared struct or enum,
@@ -15,7 +15,7 @@ import re
 import sys
 from pathlib import Path
 
-ROOT = Path(__file__).resolve().parent.parent.parent
+ROOT = Path(__file__).resolve().parent.parent
 CRATES = ROOT / "crates"
 
 # What a call ensures, and how files and sheets are read -> the theorem that says what follows, all of it.

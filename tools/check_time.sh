@@ -2,14 +2,14 @@
 # How long the check takes at each of some commits, crate by crate, measured one after the other on this machine: for the note of a
 # change (docs/changes).
 #
-#     bash host/check/check_time.sh BEFORE AFTER ..
+#     bash tools/check_time.sh BEFORE AFTER ..
 #
 # Each commit is cloned and proved from nothing (rt prove: no edits, no programs), one crate at a time so that times compare. Prints a
 # table in markdown: seconds by crate, their sum, then lines of specs, code and proofs. seconds.py beside this file measures one tree
 # in seconds of processor time, and finer.
 # SPDX-License-Identifier: LicenseRef-Wengeludo
 set -eu
-cd "$(dirname "$0")/../.."
+cd "$(dirname "$0")/.."
 [ $# -ge 1 ] || { sed -n '2,9s/^# \{0,1\}//p' "$0" >&2; exit 2; }
 top=$PWD
 work=$(mktemp -d)

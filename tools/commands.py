@@ -2,9 +2,9 @@
 # SPDX-License-Identifier: LicenseRef-Wengeludo
 """Every command that README.md, CONTRIBUTING.md, docs/ and the README of samples, reference, bindings and desk name, read out of the text and run.
 
-    python3 host/check/commands.py          runs them; status 1 where one fails or prints something else than the text says
-    python3 host/check/commands.py --all    also those that take minutes
-    python3 host/check/commands.py --list   prints what would be done with each
+    python3 tools/commands.py          runs them; status 1 where one fails or prints something else than the text says
+    python3 tools/commands.py --all    also those that take minutes
+    python3 tools/commands.py --list   prints what would be done with each
 
 A command is a line that starts with `$ ` in a block marked sh (the lines below it are what it prints; `...` stands for any lines), a
 line of an indented block, or a piece of code in a sentence, where it starts with the name of a program. Blocks marked c, cpp, rust and
@@ -24,7 +24,7 @@ import sys
 import tempfile
 from typing import NamedTuple
 
-ROOT = os.path.abspath(os.path.join(os.path.dirname(__file__), '..', '..'))
+ROOT = os.path.abspath(os.path.join(os.path.dirname(__file__), '..'))
 ARCHIVE = 'target/staticlib/liblinked.a'
 FIRST = re.compile(r'^(?:[A-Z_]+=\S+ )*(?:(?:rt|bash|sh|wengeludo|cargo|(?:/usr/bin/)?python3|cc|c\+\+|cmake|ctest|pkg-config|man|time|mkdir|cp|git'
                    r'|pip|dot) +\S|target/(?:bin|host|python)/\S+(?: |$))')
@@ -44,24 +44,24 @@ RULES = [
     Rule(r'bash test_all\.sh( --after-gate)?', 'not', 'this test is a part of it'),
     Rule(r'rt (check|dev|must-fail)( \[NAME\.\.\]| LOWER| CRATE| NAME)?', 'run', r'rt \1 version'),
     Rule(r'rt fmt', 'run', 'rt fmt --check'),
-    Rule(r'python3 host/check/dev\.py CRATE', 'run', 'python3 host/check/dev.py version'),
-    Rule(r'bash host/check/places\.sh CRATE FUNCTION', 'run', 'bash host/check/places.sh version version_number'),
-    Rule(r'python3 host/check/refused_at\.py.*', 'run', 'rt must-fail version && python3 host/check/refused_at.py version'),
-    Rule(r'python3 host/check/audit\.py', 'run', r'\g<0> || [ $? = 1 ]'),
-    Rule(r'python3 host/check/repeats\.py( \[DIR\])?', 'run', 'python3 host/check/repeats.py crates/version'),
-    Rule(r'bash host/check/unproved\.sh OUT\.so', 'run', 'bash host/check/unproved.sh target/host/unproved.so'),
-    Rule(r'bash host/check/check_time\.sh BEFORE AFTER', 'not', 'it proves two versions from nothing'),
-    Rule(r'python3 host/check/rename_crates\.py MAP', 'run',
-         "echo 'version release' >target/host/map && python3 host/check/rename_crates.py target/host/map --dry-run || [ $? = 1 ]"),
-    Rule(r'python3 host/check/merge_crates\.py NEW A B', 'not', 'it changes the crates'),
-    Rule(r'python3 host/check/(archive|refusals|crate_list|edits)\.py --write', 'run', r'cd "$COPY" && \g<0> && python3 host/check/\1.py'),
-    Rule(r'python3 host/check/(picture)\.py --write', 'run', r'cd "$COPY" && \g<0> && python3 host/check/\1.py', 'dot'),
-    Rule(r'python3 host/check/seconds\.py (crates|edits|modules).*', 'run', r'python3 host/check/seconds.py \1 version'),
+    Rule(r'python3 tools/dev\.py CRATE', 'run', 'python3 tools/dev.py version'),
+    Rule(r'bash tools/places\.sh CRATE FUNCTION', 'run', 'bash tools/places.sh version version_number'),
+    Rule(r'python3 tools/refused_at\.py.*', 'run', 'rt must-fail version && python3 tools/refused_at.py version'),
+    Rule(r'python3 tools/audit\.py', 'run', r'\g<0> || [ $? = 1 ]'),
+    Rule(r'python3 tools/repeats\.py( \[DIR\])?', 'run', 'python3 tools/repeats.py crates/version'),
+    Rule(r'bash tools/unproved\.sh OUT\.so', 'run', 'bash tools/unproved.sh target/built/unproved.so'),
+    Rule(r'bash tools/check_time\.sh BEFORE AFTER', 'not', 'it proves two versions from nothing'),
+    Rule(r'python3 tools/rename_crates\.py MAP', 'run',
+         "echo 'version release' >target/built/map && python3 tools/rename_crates.py target/built/map --dry-run || [ $? = 1 ]"),
+    Rule(r'python3 tools/merge_crates\.py NEW A B', 'not', 'it changes the crates'),
+    Rule(r'python3 tools/(archive|refusals|crate_list|edits)\.py --write', 'run', r'cd "$COPY" && \g<0> && python3 tools/\1.py'),
+    Rule(r'python3 tools/(picture)\.py --write', 'run', r'cd "$COPY" && \g<0> && python3 tools/\1.py', 'dot'),
+    Rule(r'python3 tools/seconds\.py (crates|edits|modules).*', 'run', r'python3 tools/seconds.py \1 version'),
     Rule(r'bash install\.sh (--uninstall )?PREFIX', 'run', r'bash install.sh \1"$PREFIX"'),
-    Rule(r'bash host/cross/build\.sh( TARGET OUT)?', 'not', 'a form; the commands of docs/LINKING.md are run'),
-    Rule(r'bash host/cross/test\.sh \S+', 'not', 'test_all.sh runs it for each processor whose emulator is there'),
-    Rule(r'bash host/release/make\.sh OUT', 'not', 'a form; test_all.sh runs it in the long run'),
-    Rule(r'target/host/(balance_file samples/overfull_site|charges_file samples/twin_lines)\.bin.*', 'run', r'\g<0> || [ $? = 1 ]'),
+    Rule(r'bash packaging/cross/build\.sh( TARGET OUT)?', 'not', 'a form; the commands of docs/LINKING.md are run'),
+    Rule(r'bash packaging/cross/test\.sh \S+', 'not', 'test_all.sh runs it for each processor whose emulator is there'),
+    Rule(r'bash packaging/release/make\.sh OUT', 'not', 'a form; test_all.sh runs it in the long run'),
+    Rule(r'target/built/(balance_file samples/overfull_site|charges_file samples/twin_lines)\.bin.*', 'run', r'\g<0> || [ $? = 1 ]'),
     Rule(r'bash desk/install\.sh', 'run', r'WENGELUDO_APT=no \g<0> "$PREFIX/desk"', DESK),
     Rule(r'wengeludo (sheet desk/\S+) -o \S+', 'run', r'"$PREFIX/desk/bin/wengeludo" \1 -o "$PREFIX/desk/page.html"', DESK),
     Rule(r'wengeludo sheet( … -o page\.html)? --live', 'not', 'a form; desk/tests/test_live.py runs it'),
@@ -72,10 +72,10 @@ RULES = [
     Rule(r'python3 (?:bindings/python/)?time_wide\.py.*', 'run', 'target/desk/bin/python3 bindings/python/time_wide.py 200 || [ $? = 1 ]', DESK),
     Rule(r'cargo doc --open', 'run', 'cargo doc --offline --no-deps'),
     Rule(r'(?:WENGELUDO_\w+=\d+ )*(cargo test .*)', 'run', r'WENGELUDO_INPUTS=2000 \1'),
-    Rule(r'python3 host/check/mutants\.py.*', 'run', 'python3 host/check/mutants.py --list --count 5'),  # a run of them takes hours
-    Rule(r'bash host/bench/run\.sh --before LIBRARY.*', 'run', f'bash host/bench/run.sh --before {ARCHIVE} 2 0'),
-    Rule(r'bash host/bench/(run|visits|checks|flows)\.sh.*', 'run', r'bash host/bench/\1.sh 2 1'),
-    Rule(r'bash host/fuzz/run\.sh \S+', 'run', 'bash host/fuzz/run.sh 1'),
+    Rule(r'python3 tools/mutants\.py.*', 'run', 'python3 tools/mutants.py --list --count 5'),  # a run of them takes hours
+    Rule(r'bash bench/run\.sh --before LIBRARY.*', 'run', f'bash bench/run.sh --before {ARCHIVE} 2 0'),
+    Rule(r'bash bench/(run|visits|checks|flows)\.sh.*', 'run', r'bash bench/\1.sh 2 1'),
+    Rule(r'bash tests/fuzz/run\.sh \S+', 'run', 'bash tests/fuzz/run.sh 1'),
     Rule(r'python3 reference/desk_tool\.py --hold', 'long', r'\g<0>'),
     Rule(r'python3 reference/(brute|certify)\.py', 'long', r'\g<0>'),
     Rule(r'python3 reference/make_cases\.py --write', 'long', r'cd "$COPY" && \g<0> && diff -rq crates "$TREE/crates" && diff -rq samples "$TREE/samples"'),
@@ -105,10 +105,10 @@ def texts():
 
 def folder_of(command, after):
     """Where a command is run: as the text says behind it, cargo in the Rust crate, all else at the root."""
-    told = re.match(r'[^`.;|]{0,20}\bin `?(host/\w+)', after)
+    told = re.match(r'[^`.;|]{0,20}\bin `?((?:bindings|packaging|tests)/\w+|bench|programs|desk)', after)
     if told:
         return told.group(1)
-    return 'host/rust' if re.search(r'(^| )cargo ', command) else '.'
+    return 'bindings/rust' if re.search(r'(^| )cargo ', command) else '.'
 
 
 def read(path):
@@ -241,7 +241,7 @@ def compiled(code, work, env):
         os.makedirs(os.path.join(folder, 'src'), exist_ok=True)
         with open(os.path.join(folder, 'Cargo.toml'), 'w', encoding='utf-8') as file:
             file.write('[package]\nname = "user"\nversion = "0.1.0"\nedition = "2021"\n[dependencies]\n'
-                       f'wengeludo_balance = {{ path = "{ROOT}/host/rust" }}\n[workspace]\n')
+                       f'wengeludo_balance = {{ path = "{ROOT}/bindings/rust" }}\n[workspace]\n')
         with open(os.path.join(folder, 'src', 'main.rs'), 'w', encoding='utf-8') as file:
             file.write(code.text)
         words = f'cd {folder} && cargo run --offline --quiet'
@@ -254,7 +254,7 @@ def compiled(code, work, env):
         path = os.path.join(work, 'code.' + code.language)
         with open(path, 'w', encoding='utf-8') as file:
             file.write('\n'.join(ahead + heads + [f'int customer({given});', f'int customer({given})', '{'] + inside + ['return 0;', '}', '']))
-        words = f'{"g++ -std=c++17" if plus else "cc -std=c11"} -Wall -Wextra -Werror -fsyntax-only -I host/include {path}'
+        words = f'{"g++ -std=c++17" if plus else "cc -std=c11"} -Wall -Wextra -Werror -fsyntax-only -I include {path}'
     status, _, said = run(words, '.', env)
     return '' if status == 0 else f'{code.where}: the code in {code.language} is not taken:\n{said[-2000:]}'
 
@@ -315,16 +315,16 @@ def run_all(commands, codes, everything):
 
 def main(args):
     if args not in ([], ['--all'], ['--list']):
-        sys.exit('usage: python3 host/check/commands.py [--all | --list]')
+        sys.exit('usage: python3 tools/commands.py [--all | --list]')
     commands, codes = gathered()
     if args == ['--list']:
         return listed(commands)
     if not os.path.exists(os.path.join(ROOT, ARCHIVE)):
         sys.exit(f'commands: no {ARCHIVE}: build it with `rt staticlib linked`')
-    os.makedirs(os.path.join(ROOT, 'target', 'host'), exist_ok=True)
+    os.makedirs(os.path.join(ROOT, 'target', 'built'), exist_ok=True)
     failed, counts = run_all(commands, codes, bool(args))
     fitted = {rule.pattern for rule in (plan(command)[2] for command in commands) if rule}
-    failed += [f'host/check/commands.py: no text has a command for the rule {rule.pattern}' for rule in RULES if rule.pattern not in fitted]
+    failed += [f'tools/commands.py: no text has a command for the rule {rule.pattern}' for rule in RULES if rule.pattern not in fitted]
     for text in failed:
         print(f'commands: {text}', file=sys.stderr)
     if failed:

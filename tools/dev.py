@@ -2,10 +2,10 @@
 # SPDX-License-Identifier: LicenseRef-Wengeludo
 """rt dev, easier to read.
 
-    python3 host/check/dev.py CRATE            errors and goals, long module paths shortened, proved functions left out
-    python3 host/check/dev.py CRATE --stubs    also writes each printed proof skeleton to its file, where there is none yet
-    python3 host/check/dev.py CRATE --holes    with --allow-holes: the goal of each '?'
-    python3 host/check/dev.py CRATE --full     lines are not cut at 700 characters
+    python3 tools/dev.py CRATE            errors and goals, long module paths shortened, proved functions left out
+    python3 tools/dev.py CRATE --stubs    also writes each printed proof skeleton to its file, where there is none yet
+    python3 tools/dev.py CRATE --holes    with --allow-holes: the goal of each '?'
+    python3 tools/dev.py CRATE --full     lines are not cut at 700 characters
 
 The whole output is kept in target/dev-CRATE.log. The status is that of rt.
 """

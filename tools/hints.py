@@ -2,12 +2,12 @@
 # SPDX-License-Identifier: LicenseRef-Wengeludo
 """Whether the solver's start is worth something: how many improvements fifty drawn plants take, beside a recorded count of each.
 
-    python3 host/check/hints.py                  the counts, compared with host/check/improvements.tsv
-    python3 host/check/hints.py --write          records them anew, after a change of the start that is meant
-    python3 host/check/hints.py --worthless      spoils the start in eleven ways, one after the other: each must show
+    python3 tools/hints.py                  the counts, compared with tools/improvements.tsv
+    python3 tools/hints.py --write          records them anew, after a change of the start that is meant
+    python3 tools/hints.py --worthless      spoils the start in eleven ways, one after the other: each must show
 
 A start is free to be anything: every sheet stays right and only takes longer, so no proof and no sheet shows that it is worthless. The
-crates are compiled without proof (host/check/unproved.sh), with one more call that hands over the solver's own counter.
+crates are compiled without proof (tools/unproved.sh), with one more call that hands over the solver's own counter.
 """
 
 import ctypes
@@ -19,8 +19,8 @@ import sys
 import tempfile
 from pathlib import Path
 
-ROOT = Path(__file__).resolve().parents[2]
-COUNTS = ROOT / 'host' / 'check' / 'improvements.tsv'
+ROOT = Path(__file__).resolve().parents[1]
+COUNTS = ROOT / 'tools' / 'improvements.tsv'
 PLANTS = 50
 CALL = """
 #[no_mangle]
@@ -107,7 +107,7 @@ def counts(edit=None):
     with tempfile.TemporaryDirectory() as folder:
         tree = Path(folder)
         spoilt(tree, edit)
-        made = subprocess.run(['bash', ROOT / 'host/check/unproved.sh', tree / 'hints.so', tree], capture_output=True, text=True)
+        made = subprocess.run(['bash', ROOT / 'tools/unproved.sh', tree / 'hints.so', tree], capture_output=True, text=True)
         if made.returncode:
             sys.exit(f'hints: the crates do not compile without proof:\n{made.stderr[-2000:]}')
         call = ctypes.CDLL(str(tree / 'hints.so')).wengeludo_improvements
@@ -140,10 +140,10 @@ def main(words):
                 sys.exit(f'hints: {edit[0]}: nothing shows it')
         return f'hints: {len(WORTHLESS)} worthless starts, each is seen'
     if words:
-        sys.exit('usage: python3 host/check/hints.py [--write | --worthless]')
+        sys.exit('usage: python3 tools/hints.py [--write | --worthless]')
     other, told = differences(counts())
     if other:
-        sys.exit(f'hints: {told}\nhints: if the start was changed on purpose: python3 host/check/hints.py --write')
+        sys.exit(f'hints: {told}\nhints: if the start was changed on purpose: python3 tools/hints.py --write')
     return f'hints: {told}'
 
 

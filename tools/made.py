@@ -3,7 +3,7 @@
 import os
 import sys
 
-ROOT = os.path.abspath(os.path.join(os.path.dirname(__file__), '..', '..'))
+ROOT = os.path.abspath(os.path.join(os.path.dirname(__file__), '..'))
 
 
 def between(text, begin, end, lines):
@@ -17,7 +17,7 @@ def between(text, begin, end, lines):
 def remake(program, words, texts, told):
     """Compares texts with what is made of them, or writes them: `texts` has for each path a function from the old text to the new."""
     if words not in ([], ['--check'], ['--write']):
-        sys.exit(f'usage: python3 host/check/{program}.py [--check | --write]')
+        sys.exit(f'usage: python3 tools/{program}.py [--check | --write]')
     differ = False
     for path, make in texts.items():
         with open(os.path.join(ROOT, path), encoding='utf-8') as file:
@@ -33,7 +33,7 @@ def remake(program, words, texts, told):
             print(f'{program}: {path} made anew')
         else:
             differ = True
-            print(f'{program}: {path} is not what it is made from; run python3 host/check/{program}.py --write', file=sys.stderr)
+            print(f'{program}: {path} is not what it is made from; run python3 tools/{program}.py --write', file=sys.stderr)
     if differ:
         sys.exit(1)
     if words != ['--write']:

@@ -2,9 +2,9 @@
 # SPDX-License-Identifier: LicenseRef-Wengeludo
 """Merges two crates of a repository of proved Rattle crates into one, with every mention of them.
 
-    python3 host/check/merge_crates.py NEW A[:MODULE] B[:MODULE] [--root DIR] [--no-fmt]
-    python3 host/check/merge_crates.py NEW A:. B[:MODULE]      A's files stay at the root of NEW, B's become a module
-    python3 host/check/merge_crates.py NEW A:. B:.             both at the root, in one src/lib.rt
+    python3 tools/merge_crates.py NEW A[:MODULE] B[:MODULE] [--root DIR] [--no-fmt]
+    python3 tools/merge_crates.py NEW A:. B[:MODULE]      A's files stay at the root of NEW, B's become a module
+    python3 tools/merge_crates.py NEW A:. B:.             both at the root, in one src/lib.rt
 
 B may stand above A or beside it. MODULE is what the crate is called inside NEW (default: its name). NEW may be A or B.
 

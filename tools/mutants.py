@@ -3,12 +3,12 @@
 """A mutation run: small changes of the desk, the bindings, C, C++, Rust and what installs, drawn by a seed; each must fail a test of the
 short run that is meant for it.
 
-    python3 host/check/mutants.py                       300 mutants from seed 1, by the short run
-    python3 host/check/mutants.py --count 50 --seed 7   other ones
-    python3 host/check/mutants.py --long                by the long run's numbers of draws
-    python3 host/check/mutants.py --only desk,rust      of some parts
-    python3 host/check/mutants.py --list                prints them, and tries none
-    python3 host/check/mutants.py --only desk --map F   by the tests that run the changed line (host/check/seen.py), the map kept in F
+    python3 tools/mutants.py                       300 mutants from seed 1, by the short run
+    python3 tools/mutants.py --count 50 --seed 7   other ones
+    python3 tools/mutants.py --long                by the long run's numbers of draws
+    python3 tools/mutants.py --only desk,rust      of some parts
+    python3 tools/mutants.py --list                prints them, and tries none
+    python3 tools/mutants.py --only desk --map F   by the tests that run the changed line (tools/seen.py), the map kept in F
 
 A comparison is turned, a number moved by one, a sign or a word exchanged, a line dropped, a text changed. A change that no compiler takes is
 no mutant, and another is drawn in its place. A survivor is printed with its file, line and change; --log FILE keeps all of them.
@@ -30,10 +30,10 @@ from tried import ROOT, Tree
 AREAS = (
     ('desk', 50, ('desk/src/wengeludo/**/*.py', 'desk/src/wengeludo/**/*.js')),
     ('python', 14, ('bindings/python/src/wengeludo_balance/*.py', 'bindings/python/native/rows.c', 'bindings/python/native/wide_checked.c')),
-    ('c', 10, ('host/c/*_file.c', 'host/c/meters_to_buy.c', 'host/c/check_sheet.c', 'host/c/check_flow.c', 'host/c/place_numbers.c', 'host/c/*.h')),
-    ('cpp', 8, ('host/include/wengeludo.hpp',)),
-    ('rust', 10, ('host/rust/src/*.rs',)),
-    ('install', 8, ('install.sh', 'host/install/man.py', 'host/install/*.cmake', 'host/install/*.in')),
+    ('c', 10, ('programs/*_file.c', 'programs/meters_to_buy.c', 'programs/check_sheet.c', 'programs/check_flow.c', 'programs/place_numbers.c', 'programs/*.h')),
+    ('cpp', 8, ('include/wengeludo.hpp',)),
+    ('rust', 10, ('bindings/rust/src/*.rs',)),
+    ('install', 8, ('install.sh', 'packaging/install/man.py', 'packaging/install/*.cmake', 'packaging/install/*.in')),
 )
 TURNED = {'<': '<=', '<=': '<', '>': '>=', '>=': '>', '==': '!=', '!=': '==', '+': '-', '-': '+', '*': '/', '/': '*', '&&': '||', '||': '&&',
           'and': 'or', 'or': 'and', 'True': 'False', 'False': 'True', 'true': 'false', 'false': 'true', 'min': 'max', 'max': 'min', 'any': 'all',

@@ -2,8 +2,8 @@
 # SPDX-License-Identifier: LicenseRef-Wengeludo
 """Every file, crate, definition's file and edit that the texts name is there, and every crate and edit is named.
 
-    python3 host/check/names.py          status 1 where one is not
-    python3 host/check/names.py --list   prints each name, and what it stands for
+    python3 tools/names.py          status 1 where one is not
+    python3 tools/names.py --list   prints each name, and what it stands for
 
 A name is a path below a folder of the repository, anywhere in a text; in a piece of code also `crate/specs/File`, `crate/proofs/File`,
 `crate/src/file` and `crate/edit`. `{a,b}` stands for both, `*` for anything. A relative link must lead somewhere. docs/EDITS.md names
@@ -16,10 +16,10 @@ import os
 import re
 import sys
 
-ROOT = os.path.abspath(os.path.join(os.path.dirname(__file__), '..', '..'))
+ROOT = os.path.abspath(os.path.join(os.path.dirname(__file__), '..'))
 TEXTS = ['README.md', 'CONTRIBUTING.md', 'docs/*.md', 'samples/README.md', 'reference/README.md', 'desk/README.md',
-         'bindings/python/README.md', 'host/include/*.h', 'test_all.sh', '.ci/run']
-FOLDERS = r'(?:crates|docs|host|reference|samples|desk|bindings|\.ci)'
+         'bindings/python/README.md', 'include/*.h', 'test_all.sh', '.ci/run']
+FOLDERS = r'(?:crates|docs|include|bindings|programs|tests|bench|packaging|tools|reference|samples|desk|\.ci)'
 PATH = re.compile(r'(?<![\w/.$-])' + FOLDERS + r'/[\w./{},*-]*[\w}*]')
 CODE = re.compile(r'`([^`\n]+)`')
 WORD = re.compile(r'(?<![\w/.$-])[a-z0-9_]+/[\w/{},.*-]*[\w}*]')
@@ -114,7 +114,7 @@ def unnamed(crates):
 
 def main(words):
     if words not in ([], ['--list']):
-        sys.exit('usage: python3 host/check/names.py [--list]')
+        sys.exit('usage: python3 tools/names.py [--list]')
     crates = {os.path.basename(path) for path in glob.glob(os.path.join(ROOT, 'crates', '*'))}
     faults, count, words_written = list(unnamed(crates)), 0, written()
     texts = sorted(os.path.relpath(path, ROOT) for pattern in TEXTS for path in glob.glob(os.path.join(ROOT, pattern)))

@@ -3,8 +3,8 @@
 """The picture of a sample's sheet, docs/sheet.svg: the plant of samples/blind_site.bin, each stream with what its sheet shows
 (samples/blind_site.expected, which `balance` prints, byte for byte).
 
-    python3 host/check/picture.py           holds the picture against the sample: every stream with its number, class and flow
-    python3 host/check/picture.py --write   draws it, by Graphviz (Debian: apt-get install graphviz)
+    python3 tools/picture.py           holds the picture against the sample: every stream with its number, class and flow
+    python3 tools/picture.py --write   draws it, by Graphviz (Debian: apt-get install graphviz)
 """
 import html
 import math
@@ -13,7 +13,7 @@ import re
 import subprocess
 import sys
 
-ROOT = os.path.abspath(os.path.join(os.path.dirname(__file__), '..', '..'))
+ROOT = os.path.abspath(os.path.join(os.path.dirname(__file__), '..'))
 PICTURE = os.path.join(ROOT, 'docs', 'sheet.svg')
 sys.path.insert(0, ROOT)
 from reference import samples  # noqa: E402
@@ -95,7 +95,7 @@ def check():
     pairs = list(zip(texts, texts[1:]))
     missing += [f'{a} {b}' for a, b in (shown(k, *r) for k, r in enumerate(records, 1)) if (a, b) not in pairs]
     if missing:
-        sys.exit(f'picture: docs/sheet.svg lacks {missing}; run python3 host/check/picture.py --write')
+        sys.exit(f'picture: docs/sheet.svg lacks {missing}; run python3 tools/picture.py --write')
     print(f'picture: docs/sheet.svg shows the {len(records)} streams of the sample\'s sheet and its total')
 
 
@@ -103,5 +103,5 @@ if __name__ == '__main__':
     if sys.argv[1:] == ['--write']:
         write()
     elif sys.argv[1:]:
-        sys.exit('usage: python3 host/check/picture.py [--write]')
+        sys.exit('usage: python3 tools/picture.py [--write]')
     check()

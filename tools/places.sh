@@ -1,12 +1,12 @@
 #!/usr/bin/env bash
 # The chain of places of a function's proof, each with the place before it, to count `.before`s.
 #
-#     bash host/check/places.sh CRATE FUNCTION
+#     bash tools/places.sh CRATE FUNCTION
 #
 # FUNCTION is its path under proofs/, as read_plant or scan/find.
 # SPDX-License-Identifier: LicenseRef-Wengeludo
 set -eu
-cd "$(dirname "$0")/../.."
+cd "$(dirname "$0")/.."
 [ $# -eq 2 ] || { sed -n '2,6s/^# \{0,1\}//p' "$0" >&2; exit 2; }
 out=target/generated-$1
 rt dev "$1" --generated "$out" >/dev/null 2>&1 || true # a proof that is not done yet has places too

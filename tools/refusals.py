@@ -1,9 +1,9 @@
 #!/usr/bin/env python3
 # SPDX-License-Identifier: LicenseRef-Wengeludo
-"""The refusals, from one list: host/refusals.tsv has a line for each (number, name in C, name in Rust, sentence, smallest file).
+"""The refusals, from one list: tools/refusals.tsv has a line for each (number, name in C, name in Rust, sentence, smallest file).
 
-    python3 host/check/refusals.py           compares what is made from the list with the list; status 1 where they differ
-    python3 host/check/refusals.py --write   makes it anew
+    python3 tools/refusals.py           compares what is made from the list with the list; status 1 where they differ
+    python3 tools/refusals.py --write   makes it anew
 
 Made from it, each between two marks: the enum and wengeludo_refusal_text in the C header, the enum of wengeludo.hpp, the enum and
 the texts of the Rust crate, those of the Python package and of the JavaScript module, the tables in docs/FORMATS.md: the refusals, and which numbers are
@@ -17,7 +17,7 @@ import sys
 import made
 from made import ROOT
 
-LIST = os.path.join(ROOT, 'host', 'refusals.tsv')
+LIST = os.path.join(ROOT, 'tools', 'refusals.tsv')
 DONE = 'done'
 UNKNOWN = 'a number that this version does not know'
 
@@ -26,11 +26,11 @@ def rows():
     with open(LIST, encoding='utf-8', newline='') as file:
         lines = list(csv.reader(file, delimiter='\t', quoting=csv.QUOTE_NONE))
     if lines[0] != ['number', 'C', 'Rust', 'sentence', 'smallest file']:
-        sys.exit('refusals: the first line of host/refusals.tsv does not name its five columns')
+        sys.exit('refusals: the first line of tools/refusals.tsv does not name its five columns')
     found = [(int(number), c, rust, sentence, smallest) for number, c, rust, sentence, smallest in lines[1:]]
     numbers = [row[0] for row in found]
     if numbers != sorted(set(numbers)):
-        sys.exit('refusals: the numbers of host/refusals.tsv do not rise')
+        sys.exit('refusals: the numbers of tools/refusals.tsv do not rise')
     for row in found:
         if '"' in row[3] or not row[3].isascii():
             sys.exit(f'refusals: the sentence of {row[0]} cannot stand in C as it is')
@@ -161,11 +161,11 @@ def free(found):
 
 
 MADE = [
-    ('host/include/wengeludo_balance.h', '    /* refusals: {} */', 'enum', c_enum),
-    ('host/include/wengeludo_balance.h', '/* refusals: {} */', 'texts', c_text),
-    ('host/include/wengeludo.hpp', '    // refusals: {}', 'enum', cpp_enum),
-    ('host/rust/src/refusal.rs', '    // refusals: {}', 'enum', rust_enum),
-    ('host/rust/src/refusal.rs', '// refusals: {}', 'texts', rust_texts),
+    ('include/wengeludo_balance.h', '    /* refusals: {} */', 'enum', c_enum),
+    ('include/wengeludo_balance.h', '/* refusals: {} */', 'texts', c_text),
+    ('include/wengeludo.hpp', '    // refusals: {}', 'enum', cpp_enum),
+    ('bindings/rust/src/refusal.rs', '    // refusals: {}', 'enum', rust_enum),
+    ('bindings/rust/src/refusal.rs', '// refusals: {}', 'texts', rust_texts),
     ('docs/FORMATS.md', '<!-- refusals: {} -->', 'table', table),
     ('docs/FORMATS.md', '<!-- refusals: {} -->', 'free numbers', free),
     ('bindings/python/src/wengeludo_balance/refusal.py', '    # refusals: {}', 'texts', by_number),
@@ -177,7 +177,7 @@ def texts(found):
     """For each text a function that makes its parts anew."""
     parts = {}
     for path, mark, name, make in MADE:
-        parts.setdefault(path, []).append((mark.format(f'{name}, from host/refusals.tsv'), mark.format(f'end of {name}'), make(found)))
+        parts.setdefault(path, []).append((mark.format(f'{name}, from tools/refusals.tsv'), mark.format(f'end of {name}'), make(found)))
 
     def remade(marked):
         def make(text):

@@ -2,7 +2,7 @@
 # SPDX-License-Identifier: LicenseRef-Wengeludo
 """Why each must-fail edit was refused, after `rt must-fail` or `rt ci`, from target/must-fail/*/*/.log.
 
-    python3 host/check/refused_at.py [CRATE ..]
+    python3 tools/refused_at.py [CRATE ..]
 
 A line for each edit: what it changes (src or specs), the proof and the need that fails first, and the message, cut. Marks where the
 reason deserves a look:
@@ -11,7 +11,7 @@ reason deserves a look:
     FIT    a name is unknown or a law above no longer type-checks, so that the fact itself may still hold
     BOTH   the edit changes specs/ and src/ alike
 
-A place to look, not a verdict. What it tells stands in the edit's line `refused at:` (host/check/edits.py).
+A place to look, not a verdict. What it tells stands in the edit's line `refused at:` (tools/edits.py).
 """
 import os
 import re

@@ -2,7 +2,7 @@
 # SPDX-License-Identifier: LicenseRef-Wengeludo
 """Renames crates of a repository of proved Rattle crates, with every mention of them.
 
-    python3 host/check/rename_crates.py MAP [--root DIR] [--dry-run] [--no-fmt]
+    python3 tools/rename_crates.py MAP [--root DIR] [--dry-run] [--no-fmt]
 
 MAP has a line `old new` for each crate (`#` starts a comment; `name name` is passed over). All lines hold at once, so names may be
 exchanged. DIR is the repository (the folder of crates.txt; default: the one that the current folder stands in).
@@ -541,7 +541,7 @@ def tidy(root, fmt):
     for path, wrong in unfit(root, Repository(root)):
         print(f'BROKEN: {path}: {wrong}')
         status = 2
-    print('next: python3 host/check/crate_list.py --write && python3 host/check/edits.py --write')
+    print('next: python3 tools/crate_list.py --write && python3 tools/edits.py --write')
     return status
 
 

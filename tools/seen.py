@@ -1,7 +1,7 @@
 # SPDX-License-Identifier: LicenseRef-Wengeludo
-"""Which tests of the desk run a line: a map by Debian's python3-coverage, made once for a copy of the tree (host/check/tried.py).
+"""Which tests of the desk run a line: a map by Debian's python3-coverage, made once for a copy of the tree (tools/tried.py).
 
-Used by host/check/mutants.py --map FILE, so that a change is tried by the tests that run its line, the quickest first. What another process runs
+Used by tools/mutants.py --map FILE, so that a change is tried by the tests that run its line, the quickest first. What another process runs
 is not seen: such a line is tried by the tests that import its file or run any line of it.
 """
 

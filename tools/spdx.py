@@ -1,16 +1,16 @@
 #!/usr/bin/env python3
 # SPDX-License-Identifier: LicenseRef-Wengeludo
-"""Every source file of host/, bindings/ and desk/ names the licence in one line, as SPDX has it; LICENCE is its text.
+"""Every source file outside crates/ and reference/ names the licence in one line, as SPDX has it; LICENCE is its text.
 
-    python3 host/check/spdx.py           names the files that do not; status 1 if there are any
-    python3 host/check/spdx.py --write   puts the line into them: behind the first comment of C and shell, else at the top
+    python3 tools/spdx.py           names the files that do not; status 1 if there are any
+    python3 tools/spdx.py --write   puts the line into them: behind the first comment of C and shell, else at the top
 """
 import os
 import re
 import subprocess
 import sys
 
-ROOT = os.path.abspath(os.path.join(os.path.dirname(__file__), '..', '..'))
+ROOT = os.path.abspath(os.path.join(os.path.dirname(__file__), '..'))
 LINE = 'SPDX-License-Identifier: ' + 'LicenseRef-Wengeludo'
 MARKS = {'.py': '# {}', '.sh': '# {}', '.rs': '// {}', '.mjs': '// {}', '.ts': '// {}', '.c': '/* {} */', '.h': '/* {} */', '.cpp': '/* {} */', '.hpp': '/* {} */'}
 HEAD = {'.sh': r'(?:#.*\n)+', '.py': r'(?:#!.*\n)?', '.mjs': r'(?:#!.*\n)?', '.rs': '', '.ts': ''}
@@ -19,7 +19,7 @@ COMMENT = r'(?:/\*(?:[^*]|\*(?!/))*\*/[ \t]*\n)?'
 
 def sources():
     """The source files that are kept in the repository, or are new in it."""
-    told = subprocess.run(['git', '-C', ROOT, 'ls-files', '-co', '--exclude-standard', '-z', 'host', 'bindings', 'desk'], capture_output=True, text=True, check=True)
+    told = subprocess.run(['git', '-C', ROOT, 'ls-files', '-co', '--exclude-standard', '-z', 'bench', 'bindings', 'desk', 'include', 'packaging', 'programs', 'tests', 'tools'], capture_output=True, text=True, check=True)
     return sorted(path for path in told.stdout.split('\0') if os.path.splitext(path)[1] in MARKS and os.path.isfile(os.path.join(ROOT, path)))
 
 
@@ -47,7 +47,7 @@ def main():
     elif sys.argv[1:]:
         sys.exit(__doc__)
     elif lacking:
-        sys.exit('spdx: no licence line (python3 host/check/spdx.py --write puts it there): ' + ', '.join(lacking))
+        sys.exit('spdx: no licence line (python3 tools/spdx.py --write puts it there): ' + ', '.join(lacking))
     else:
         print(f'spdx: {len(paths)} files name {LINE.split()[-1]}')
 

@@ -2,7 +2,7 @@
 # SPDX-License-Identifier: LicenseRef-Wengeludo
 """The most stack that each exported call takes, by its instructions: what every function pushes and sets aside, along the deepest chain.
 
-    python3 host/check/stack.py [ARCHIVE]   the calls with their bytes, for x86-64; status 1 if the header says another most
+    python3 tools/stack.py [ARCHIVE]   the calls with their bytes, for x86-64; status 1 if the header says another most
 
 A bound for every input, since no function calls itself and none sets aside a number of bytes that it works out. memcpy and memset are the
 C library's and are not counted.
@@ -12,9 +12,9 @@ import re
 import subprocess
 import sys
 
-ROOT = os.path.abspath(os.path.join(os.path.dirname(__file__), '..', '..'))
+ROOT = os.path.abspath(os.path.join(os.path.dirname(__file__), '..'))
 ARCHIVE = os.path.join(ROOT, 'target', 'staticlib', 'liblinked.a')
-HEADER = os.path.join(ROOT, 'host', 'include', 'wengeludo_balance.h')
+HEADER = os.path.join(ROOT, 'include', 'wengeludo_balance.h')
 LIBC = {'memcpy', 'memset', 'memmove'}
 
 

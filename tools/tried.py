@@ -1,7 +1,7 @@
 # SPDX-License-Identifier: LicenseRef-Wengeludo
 """A copy of the tree in which a change is tried: made once, changed, tested by the narrowest part of the short run, and put right again.
 
-Used by host/check/wrong.py and host/check/mutants.py. It needs target/staticlib/liblinked.a and Debian's packages for the desk.
+Used by tools/wrong.py and tools/mutants.py. It needs target/staticlib/liblinked.a and Debian's packages for the desk.
 """
 
 import os
@@ -12,7 +12,7 @@ import sys
 import tempfile
 from pathlib import Path
 
-ROOT = Path(__file__).resolve().parents[2]
+ROOT = Path(__file__).resolve().parents[1]
 PYTHON = '/usr/bin/python3'
 SECONDS = 900  # so long may the tests of one change take
 SHORT = {'WENGELUDO_EXAMPLES': '5', 'WENGELUDO_DRAWN': '30', 'WENGELUDO_HOURS': '20', 'WENGELUDO_INPUTS': '400', 'CHROMIUM': 'none'}
@@ -48,7 +48,7 @@ class Tree:
 
     def environment(self):
         python = ':'.join(str(self.path / part) for part in ('bindings/python/src', 'bindings/python', 'desk/src'))
-        own = {'WENGELUDO_INCLUDE': str(self.path / 'host/include'), 'WENGELUDO_ARCHIVE': str(self.path / 'target/staticlib/liblinked.a')}
+        own = {'WENGELUDO_INCLUDE': str(self.path / 'include'), 'WENGELUDO_ARCHIVE': str(self.path / 'target/staticlib/liblinked.a')}
         own |= {'PYTHONPATH': python, 'PYTHONDONTWRITEBYTECODE': '1', 'CARGO_TARGET_DIR': str(self.path / 'target/cargo'), 'CXX': 'g++'}
         return {**os.environ, **SHORT, **(LONG if self.long else {}), **own}
 
@@ -65,7 +65,7 @@ class Tree:
 
     def binding(self):
         """Compiles the binding anew if its C, the header or what builds it has changed."""
-        sources = [self.path / 'host/include/wengeludo_balance.h', *(self.path / 'bindings/python').glob('*.py'), *(self.path / 'bindings/python/native').glob('*')]
+        sources = [self.path / 'include/wengeludo_balance.h', *(self.path / 'bindings/python').glob('*.py'), *(self.path / 'bindings/python/native').glob('*')]
         state = repr([path.read_bytes() for path in sorted(sources)])
         if state == self.built:
             return True, ''
@@ -85,26 +85,26 @@ class Tree:
     def tests(self, part, changed=''):
         """Whether the tests of a part pass: (passed, what was said)."""
         name, *files = part.split()
-        good, said = self.texts() if changed.startswith(('host/include', 'host/rust', 'bindings')) else (True, '')
+        good, said = self.texts() if changed.startswith(('include', 'bindings/rust', 'bindings')) else (True, '')
         if not good:
             return False, said
         if name == 'c':
-            good, said = self.run(['bash', 'host/c/build.sh'])
-            return self.run(['bash', 'host/c/test.sh']) if good else (False, said)
+            good, said = self.run(['bash', 'programs/build.sh'])
+            return self.run(['bash', 'programs/test.sh']) if good else (False, said)
         if name in ('cpp', 'install', 'archives'):
-            return self.run(['bash', {'cpp': 'host/cpp/test.sh', 'install': 'host/install/test.sh', 'archives': 'host/rust/test_archives.sh'}[name]])
+            return self.run(['bash', {'cpp': 'bindings/cpp/test.sh', 'install': 'packaging/install/test.sh', 'archives': 'bindings/rust/test_archives.sh'}[name]])
         if name == 'rust':
             narrow = ['--lib', '--test', 'limits', '--test', 'version_and_refusals']
-            good, said = self.run(['cargo', 'test', '--offline', '--quiet', *narrow], 'host/rust')
-            return self.run(['cargo', 'test', '--offline', '--quiet', *files], 'host/rust') if good else (False, said)
+            good, said = self.run(['cargo', 'test', '--offline', '--quiet', *narrow], 'bindings/rust')
+            return self.run(['cargo', 'test', '--offline', '--quiet', *files], 'bindings/rust') if good else (False, said)
         if name == 'python':
             return self.pytest('bindings/python', files)
         return self.pytest('desk', files or self.desk_files(changed))
 
     def texts(self):
         """Refusals and versions, which stand in several languages."""
-        good, said = self.run([PYTHON, 'host/check/refusals.py'])
-        return self.run([PYTHON, 'host/check/versions.py']) if good else (False, said)
+        good, said = self.run([PYTHON, 'tools/refusals.py'])
+        return self.run([PYTHON, 'tools/versions.py']) if good else (False, said)
 
     def desk_files(self, changed):
         """The desk's test files, the likeliest first."""

@@ -6,14 +6,14 @@ import os
 import re
 import sys
 
-ROOT = os.path.abspath(os.path.join(os.path.dirname(__file__), '..', '..'))
+ROOT = os.path.abspath(os.path.join(os.path.dirname(__file__), '..'))
 PARTS = r'{0} = (\d+)[\s\S]*?{1} = (\d+)[\s\S]*?{2} = (\d+)'
 PLACES = [
     ('crates/version/specs/Version.antt', PARTS.format('major', 'minor', 'patch')),
     ('crates/version/src/lib.rt', PARTS.format('MAJOR: u32', 'MINOR: u32', 'PATCH: u32')),
-    ('host/include/wengeludo_balance.h', r'VERSION_MAJOR (\d+)\n#define WENGELUDO_VERSION_MINOR (\d+)\n#define WENGELUDO_VERSION_PATCH (\d+)'),
-    ('host/rust/Cargo.toml', r'^version = "(\d+)\.(\d+)\.(\d+)"'),
-    ('host/rust/src/lib.rs', r'pub const VERSION: u32 = ([\d_]+);'),  # one number
+    ('include/wengeludo_balance.h', r'VERSION_MAJOR (\d+)\n#define WENGELUDO_VERSION_MINOR (\d+)\n#define WENGELUDO_VERSION_PATCH (\d+)'),
+    ('bindings/rust/Cargo.toml', r'^version = "(\d+)\.(\d+)\.(\d+)"'),
+    ('bindings/rust/src/lib.rs', r'pub const VERSION: u32 = ([\d_]+);'),  # one number
     ('bindings/js/package.json', r'^    "version": "(\d+)\.(\d+)\.(\d+)"'),
     ('bindings/js/wengeludo.js', r"^export const VERSION = '(\d+)\.(\d+)\.(\d+)'"),
     ('CHANGELOG.md', r'^## (\d+)\.(\d+)\.(\d+)'),

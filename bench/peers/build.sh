@@ -1,13 +1,13 @@
 #!/usr/bin/env bash
 # Builds the peers of the benchmark as shared objects, each where its library is installed.
 #
-#     bash host/bench/peers/build.sh FOLDER   prints NAME=FOLDER/OBJECT for each; says which are left out, and what to install
+#     bash bench/peers/build.sh FOLDER   prints NAME=FOLDER/OBJECT for each; says which are left out, and what to install
 #
 # CXX (default: g++)   compiles them: -O3 for any x86-64 processor, as the archive and plain Rust are compiled
 # SPDX-License-Identifier: LicenseRef-Wengeludo
 set -euo pipefail
 here=$(cd "$(dirname "$0")" && pwd)
-[ $# = 1 ] || { echo "usage: bash host/bench/peers/build.sh FOLDER" >&2; exit 2; }
+[ $# = 1 ] || { echo "usage: bash bench/peers/build.sh FOLDER" >&2; exit 2; }
 mkdir -p "$1"
 out=$(cd "$1" && pwd)
 cxx=${CXX:-g++}

@@ -15,7 +15,7 @@ const STARTS: u32 = 6;
 const DRAWN: u64 = 30;
 
 /// What is sought: among which kinds of plants, with ranges or without, what of their work should be great, and which file of
-/// host/bench has the worst plant recorded.
+/// bench has the worst plant recorded.
 #[derive(Clone, Copy)]
 pub struct Aim {
     pub name: &'static str,

@@ -1,7 +1,7 @@
 // SPDX-License-Identifier: LicenseRef-Wengeludo
 //! Numbers drawn from a seed, by the generator of the tests.
 
-#[path = "../../rust/tests/draw/splitmix.rs"]
+#[path = "../../bindings/rust/tests/draw/splitmix.rs"]
 mod splitmix;
 
 pub use splitmix::Draw as Draws;

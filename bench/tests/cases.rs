@@ -3,7 +3,7 @@
 //! office, which a third solver made (crates/vectors/data; reference/cases.py says what a case looks like).
 
 #[allow(dead_code, unused_imports)]
-#[path = "../../rust/tests/reference/mod.rs"]
+#[path = "../../bindings/rust/tests/reference/mod.rs"]
 mod reference;
 
 use std::path::Path;
@@ -78,7 +78,7 @@ fn outcomes(case: &Case) -> [Outcome; 3] {
 
 #[test]
 fn committed_cases() {
-    let data = Path::new(env!("CARGO_MANIFEST_DIR")).join("../../crates/vectors/data");
+    let data = Path::new(env!("CARGO_MANIFEST_DIR")).join("../crates/vectors/data");
     let (mut cases, mut of_any_office, mut none_in_range) = (0, 0, 0);
     for entry in std::fs::read_dir(data).expect("the folder of cases") {
         let path = entry.expect("a file of cases").path();

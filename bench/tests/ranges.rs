@@ -7,13 +7,13 @@
 //! WENGELUDO_PLANTS   how many plants of each kind and size that the benchmark draws (default 20)
 
 #[allow(dead_code, unused_imports)]
-#[path = "../../rust/tests/draw/mod.rs"]
+#[path = "../../bindings/rust/tests/draw/mod.rs"]
 mod draw;
 #[allow(dead_code, unused_imports)]
-#[path = "../../rust/tests/reference/mod.rs"]
+#[path = "../../bindings/rust/tests/reference/mod.rs"]
 mod reference;
 #[allow(dead_code, unused_imports)]
-#[path = "../../rust/tests/shrink/mod.rs"]
+#[path = "../../bindings/rust/tests/shrink/mod.rs"]
 mod shrink;
 
 use draw::{Call, Draw};

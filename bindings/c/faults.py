@@ -2,7 +2,7 @@
 # SPDX-License-Identifier: LicenseRef-Wengeludo
 """Files with one fault each, for test.c: sound files with every byte in turn made every other, cut at every length, and too long.
 
-    python3 host/companion/faults.py OUT   each file behind its length in four bytes
+    python3 bindings/c/faults.py OUT   each file behind its length in four bytes
 """
 import struct
 import sys

@@ -1,7 +1,7 @@
 /* What the header says of the floating-point environment, shown: under another rounding some deviations weigh otherwise and every sheet
  * is the same; with a trap unmasked a short file ends the process; under the default environment neither happens.
  *
- *     floats PACK   files of host/cross/pack.py
+ *     floats PACK   files of packaging/cross/pack.py
  */
 /* SPDX-License-Identifier: LicenseRef-Wengeludo */
 #define _GNU_SOURCE

@@ -1,4 +1,4 @@
-/* The place of a fault against the proved calls, over a pack of files (host/cross/pack.py): the number is the call's; all that comes
+/* The place of a fault against the proved calls, over a pack of files (packaging/cross/pack.py): the number is the call's; all that comes
  * before the stream, ended there, is taken; the place is in the stream's record; and with a sound field at the place the file is not
  * refused there again.
  *

@@ -5,7 +5,7 @@ set -eu
 cd "$(dirname "$0")/../.."
 archive=target/staticlib/liblinked.a
 [ -e "$archive" ] || { echo "no $archive: build it with 'rt staticlib linked'" >&2; exit 2; }
-mkdir -p target/host/cpp
+mkdir -p target/built/cpp
 tried=""
 for compiler in ${CXX:-g++ clang++}; do
     command -v "$compiler" >/dev/null || { echo "no $compiler: install it (Debian: apt-get install g++ clang)" >&2; exit 2; }
@@ -13,12 +13,12 @@ for compiler in ${CXX:-g++ clang++}; do
         for program in balance_site slices handed; do
             calls=$archive
             [ "$program" != handed ] || calls= # it has calls of its own
-            "$compiler" -std="$standard" -Wall -Wextra -pedantic -Wconversion -Werror -fno-exceptions -fno-rtti -O1 -I host/include \
-                "host/cpp/$program.cpp" $calls -o "target/host/cpp/$program"
+            "$compiler" -std="$standard" -Wall -Wextra -pedantic -Wconversion -Werror -fno-exceptions -fno-rtti -O1 -I include \
+                "bindings/cpp/$program.cpp" $calls -o "target/built/cpp/$program"
         done
-        target/host/cpp/handed
-        target/host/cpp/slices
-        target/host/cpp/balance_site | cmp - samples/listing.expected
+        target/built/cpp/handed
+        target/built/cpp/slices
+        target/built/cpp/balance_site | cmp - samples/listing.expected
     done
     tried="$tried $compiler"
 done

@@ -9,7 +9,7 @@
 set -euo pipefail
 cd "$(dirname "$0")/../.."
 export WENGELUDO_WASM=${WENGELUDO_WASM:-$PWD/target/cross/wengeludo.wasm}
-[ -e "$WENGELUDO_WASM" ] || { echo "js/test: no $WENGELUDO_WASM: build it with 'bash host/cross/build.sh wasm32 target/cross/wengeludo.wasm'" >&2; exit 2; }
+[ -e "$WENGELUDO_WASM" ] || { echo "js/test: no $WENGELUDO_WASM: build it with 'bash packaging/cross/build.sh wasm32 target/cross/wengeludo.wasm'" >&2; exit 2; }
 log=$(mktemp)
 trap 'rm -f "$log"' EXIT
 node --test bindings/js/tests/ >"$log" 2>&1 || { grep -vE '^(ok|# Subtest)' "$log" | head -80 >&2; exit 1; }

@@ -3,7 +3,7 @@
 
 The declarations are read from the headers, and the C compiler checks the calls against these same headers: no signature stands here.
 
-WENGELUDO_INCLUDE (default: host/include of this repository, else the folder that pkg-config names)   the header's folder
+WENGELUDO_INCLUDE (default: include of this repository, else the folder that pkg-config names)   the header's folder
 WENGELUDO_ARCHIVE (default: target/staticlib/liblinked.a, likewise)     the archive, as `rt staticlib linked` writes it
 """
 
@@ -34,11 +34,11 @@ def first(name: str, here: Path, there: Path) -> Path:
     return Path(named) if named else there if there.exists() and not here.exists() else here
 
 
-INCLUDE = first("WENGELUDO_INCLUDE", ROOT / "host" / "include", installed("includedir"))
+INCLUDE = first("WENGELUDO_INCLUDE", ROOT / "include", installed("includedir"))
 ARCHIVE = first("WENGELUDO_ARCHIVE", ROOT / "target" / "staticlib" / "liblinked.a", installed("libdir") / "libwengeludo.a")
 HEADER = INCLUDE / "wengeludo_balance.h"
 NATIVE = HERE / "native"  # C of this package's own, over the archive's calls
-FAULT = NATIVE / "wengeludo_fault.h"  # it and fault.c are those of host/companion, rules.h that of host/c, byte for byte: a test compares them
+FAULT = NATIVE / "wengeludo_fault.h"  # it and fault.c are those of bindings/c, rules.h that of programs, byte for byte: a test compares them
 HEADERS = (HEADER, FAULT, NATIVE / "broken_rule.h", NATIVE / "rows.h", NATIVE / "wide_solve.h")
 SOURCES = tuple(NATIVE / name for name in ("broken_rule.c", "fault.c", "rows.c", "wide_checked.c", "wide_solve.c"))
 

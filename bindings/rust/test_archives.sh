@@ -8,10 +8,10 @@ set -eu
 cd "$(dirname "$0")/../.."
 archive=target/staticlib/liblinked.a
 [ -e "$archive" ] || { echo "no $archive: build it with 'rt staticlib linked'" >&2; exit 2; }
-work=$PWD/target/host/archives
+work=$PWD/target/built/archives
 rm -rf "$work"
 mkdir -p "$work"
-part() { sed -n "s/^#define WENGELUDO_VERSION_$1 //p" host/include/wengeludo_balance.h; }
+part() { sed -n "s/^#define WENGELUDO_VERSION_$1 //p" include/wengeludo_balance.h; }
 major=$(part MAJOR) minor=$(part MINOR)
 calls=$(nm -g --defined-only "$archive" | awk '$2 == "T" { print $3 }' | grep -v '^wengeludo_version$')
 
@@ -25,7 +25,7 @@ made() { # folder, version or none: an archive whose calls return 99
     ar rcs "$work/$1/liblinked.a" "$work/$1/linked.o"
 }
 crate() { # folder, words for cargo
-    (cd host/rust && WENGELUDO_ARCHIVE_DIR="$work/$1" CARGO_TARGET_DIR="$work/target" cargo "$2" --offline --quiet "${@:3}")
+    (cd bindings/rust && WENGELUDO_ARCHIVE_DIR="$work/$1" CARGO_TARGET_DIR="$work/target" cargo "$2" --offline --quiet "${@:3}")
 }
 refused() { # folder, what must be said
     if crate "$1" build >"$work/log" 2>&1; then

@@ -16,6 +16,6 @@ if [ -z "$found" ]; then
     echo "rust crate: no Rust $oldest here, not tried with it (Debian 12: apt-get install cargo)"
     exit 0
 fi
-RUSTC=$found/rustc RUSTDOC=$found/rustdoc CARGO_TARGET_DIR=$PWD/../../target/host/oldest WENGELUDO_INPUTS=${WENGELUDO_INPUTS:-2000} \
-    "$found/cargo" test --offline --quiet >../../target/host/oldest.log 2>&1 || { cat ../../target/host/oldest.log >&2; exit 1; }
+RUSTC=$found/rustc RUSTDOC=$found/rustdoc CARGO_TARGET_DIR=$PWD/../../target/built/oldest WENGELUDO_INPUTS=${WENGELUDO_INPUTS:-2000} \
+    "$found/cargo" test --offline --quiet >../../target/built/oldest.log 2>&1 || { cat ../../target/built/oldest.log >&2; exit 1; }
 echo "rust crate: all tests pass with $("$found/rustc" --version), the oldest that Cargo.toml names"

@@ -21,7 +21,7 @@ BUILDING = '#!/bin/sh\n' + NOISE + '[ "$*" = "staticlib linked" ] || exit 9\nmkd
 @pytest.fixture
 def tree(tmp_path):
     """The parts of the tree that the set-up reads, and a PATH without rt."""
-    for part in ("desk", "bindings", "host/include"):
+    for part in ("desk", "bindings", "include"):
         shutil.copytree(ROOT / part, tmp_path / "tree" / part, ignore=shutil.ignore_patterns("build", "*.egg-info", "__pycache__", ".hypothesis"))
     (tmp_path / "bin").mkdir()
     return tmp_path / "tree"

@@ -53,7 +53,7 @@ def module_there():
     return True
 
 
-here = pytest.mark.skipif(not module_there(), reason="no WebAssembly module: bash host/cross/build.sh wasm32 target/cross/wengeludo.wasm")
+here = pytest.mark.skipif(not module_there(), reason="no WebAssembly module: bash packaging/cross/build.sh wasm32 target/cross/wengeludo.wasm")
 
 
 def made(run, tmp_path, path):

@@ -1,8 +1,8 @@
 #!/usr/bin/env bash
 # Compiles the module of the proving run for another processor.
 #
-#     bash host/cross/build.sh aarch64|riscv64 OUT.a    an archive for 64-bit Linux on ARM or RISC-V
-#     bash host/cross/build.sh wasm32 OUT.wasm          a module for browsers and Node
+#     bash packaging/cross/build.sh aarch64|riscv64 OUT.a    an archive for 64-bit Linux on ARM or RISC-V
+#     bash packaging/cross/build.sh wasm32 OUT.wasm          a module for browsers and Node
 #
 # rt proves `linked` and hands its module to the kit's clang. A clang in front of that one keeps a copy, so what is compiled here is the
 # module of the run that ended in logic=proved, and of no other. The x86-64 archive of that run must be the one that docs/MEASURED.md
@@ -57,7 +57,7 @@ same_object() { # module, words
 # The module stays in target/cross under the sum of the archive that it came to.
 module() {
     local sum
-    if [ -e "$archive" ] && python3 host/check/archive.py >/dev/null 2>&1; then
+    if [ -e "$archive" ] && python3 tools/archive.py >/dev/null 2>&1; then
         sum=$(sha256sum <"$archive" | cut -d' ' -f1)
         kept=target/cross/$sum
         if [ -e "$kept.bc" ] && [ -e "$kept.words" ] && same_object "$kept.bc" "$kept.words"; then return; fi
@@ -73,26 +73,26 @@ module() {
 }
 
 module
-python3 host/check/archive.py
+python3 tools/archive.py
 "$clang" --target=x86_64-unknown-linux-gnu -x ir -S -emit-llvm -Xclang -disable-llvm-passes "$kept.bc" -o "$tmp/proved.ll"
-python3 host/cross/retarget.py "$tmp/proved.ll" "$tmp/$target.ll" "$target"
+python3 packaging/cross/retarget.py "$tmp/proved.ll" "$tmp/$target.ll" "$target"
 common=(-O3 -ffp-contract=off -ffunction-sections -fdata-sections --no-default-config -no-canonical-prefixes -fno-crash-diagnostics)
 compiled() { # -S for its instructions as text, -c for the object; where to
     "$clang" "${words[@]}" "${common[@]}" -mllvm -trap-unreachable -mllvm -no-trap-after-noreturn -Wno-override-module \
         "$1" -x ir "$tmp/$target.ll" -o "$2"
 }
 compiled -S "$tmp/linked.s"
-python3 host/cross/retarget.py --fused "$tmp/linked.s" "$target"
+python3 packaging/cross/retarget.py --fused "$tmp/linked.s" "$target"
 compiled -c "$tmp/linked.o"
 [ -z "${CROSS_OBJECT:-}" ] || cp "$tmp/linked.o" "$CROSS_OBJECT"
 
 mkdir -p "$(dirname "$out")"
 if [ "$target" = wasm32 ]; then
     # What the module needs of a C library, and a link: the calls, memory, and where free memory starts.
-    "$clang" "${words[@]}" "${common[@]}" -ffreestanding -fno-builtin -I host/cross/free -c host/cross/memory.c -o "$tmp/memory.o"
+    "$clang" "${words[@]}" "${common[@]}" -ffreestanding -fno-builtin -I packaging/cross/free -c packaging/cross/memory.c -o "$tmp/memory.o"
     ln -s "$clang" "$tmp/wasm-ld"
     exports=()
-    while read -r call; do exports+=("--export=$call"); done < <(python3 host/install/man.py --names)
+    while read -r call; do exports+=("--export=$call"); done < <(python3 packaging/install/man.py --names)
     "$tmp/wasm-ld" --no-entry "${exports[@]}" --export=__heap_base --gc-sections --strip-all --stack-first -z stack-size=131072 \
         "$tmp/linked.o" "$tmp/memory.o" -o "$tmp/out"
 else

@@ -2,7 +2,7 @@
 # SPDX-License-Identifier: LicenseRef-Wengeludo
 """Files for the driver: all samples, then plants as they are drawn, damaged ones, transmitter files and noise, 2,000 in all.
 
-    python3 host/cross/pack.py OUT [HOW_MANY]   each file behind its length in four bytes; the same files in every run
+    python3 packaging/cross/pack.py OUT [HOW_MANY]   each file behind its length in four bytes; the same files in every run
 """
 import glob
 import os

@@ -2,8 +2,8 @@
 # SPDX-License-Identifier: LicenseRef-Wengeludo
 """The module of the proving run as text, for another processor: searched for what depends on its own, then without its name.
 
-    python3 host/cross/retarget.py IN.ll OUT.ll aarch64|riscv64|wasm32
-    python3 host/cross/retarget.py --fused IN.s TARGET   status 1 if the assembly has a fused multiply-add
+    python3 packaging/cross/retarget.py IN.ll OUT.ll aarch64|riscv64|wasm32
+    python3 packaging/cross/retarget.py --fused IN.s TARGET   status 1 if the assembly has a fused multiply-add
 
 What is searched: numbers made of pointers and back, pointers inside a layout, other address spaces, assembly, vectors, words that let a
 floating-point operation be joined with another, and calls of the compiler's own that are not the same on every processor.

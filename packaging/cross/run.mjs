@@ -1,5 +1,5 @@
 // SPDX-License-Identifier: LicenseRef-Wengeludo
-// Runs the driver as a WebAssembly module in Node: node host/cross/run.mjs DRIVER.wasm < PACK > OUT
+// Runs the driver as a WebAssembly module in Node: node packaging/cross/run.mjs DRIVER.wasm < PACK > OUT
 import { readFileSync, writeSync } from 'node:fs';
 
 const wasm = new WebAssembly.Module(readFileSync(process.argv[2]));

@@ -1,7 +1,7 @@
 #!/usr/bin/env bash
 # Makes the Debian packages from this tree, without network: libwengeludo1, libwengeludo-dev, python3-wengeludo, wengeludo.
 #
-#     bash host/debian/build.sh [--unproved] OUT
+#     bash packaging/debian/build.sh [--unproved] OUT
 #
 # --unproved              takes an archive that is not the one docs/MEASURED.md records
 # WENGELUDO_ARCHIVE       another archive than target/staticlib/liblinked.a
@@ -45,8 +45,8 @@ documents() { # package
     gzip -n9 <CHANGELOG.md >"$folder/changelog.gz"
     { printf 'wengeludo (%s) unstable; urgency=medium\n\n  * Version %s, as changelog.gz tells it.\n\n' "$version" "$upstream"
       printf ' -- %s  %s\n' "$maintainer" "$(LC_ALL=C date -uRd "@$SOURCE_DATE_EPOCH")"; } | gzip -n9 >"$folder/changelog.Debian.gz"
-    if [ -e "host/debian/$1.overrides" ]; then
-        install -D -m 644 "host/debian/$1.overrides" "$work/$1/usr/share/lintian/overrides/$1"
+    if [ -e "packaging/debian/$1.overrides" ]; then
+        install -D -m 644 "packaging/debian/$1.overrides" "$work/$1/usr/share/lintian/overrides/$1"
     fi
 }
 # Moves files of the installed tree into a package.
@@ -65,15 +65,15 @@ needs() { # package, file
 }
 scripts() { # package: compiled Python comes and goes with it
     for script in postinst prerm; do
-        sed "s/@PACKAGE@/$1/" "host/debian/$script.in" >"$work/$1/DEBIAN/$script"
+        sed "s/@PACKAGE@/$1/" "packaging/debian/$script.in" >"$work/$1/DEBIAN/$script"
         chmod 755 "$work/$1/DEBIAN/$script"
     done
 }
 packed() { # package, libraries that it needs
     local folder=$work/$1 arch
-    arch=$(sed -n "/^Package: $1\$/,/^\$/s/^Architecture: //p" host/debian/control)
+    arch=$(sed -n "/^Package: $1\$/,/^\$/s/^Architecture: //p" packaging/debian/control)
     find "$folder" -exec touch -hd "@$SOURCE_DATE_EPOCH" {} +
-    sed -n "/^Package: $1\$/,/^\$/p" host/debian/control | sed '/^$/d' | awk -v version="$version" -v maintainer="$maintainer" \
+    sed -n "/^Package: $1\$/,/^\$/p" packaging/debian/control | sed '/^$/d' | awk -v version="$version" -v maintainer="$maintainer" \
         -v needs="${2:-}" -v size="$(du -k -s --apparent-size "$folder" | cut -f1)" '
         { gsub(/@VERSION@/, version); gsub(/@NEEDS@/, needs) }
         /^Architecture:/ { print "Source: wengeludo"; print "Version: " version; print "Maintainer: " maintainer; print "Installed-Size: " size }
@@ -106,11 +106,11 @@ moved libwengeludo-dev usr/include usr/share/man "$libraries/libwengeludo.a" "$l
 packed libwengeludo-dev
 
 # The binding and the tool, as pip installs them, in Debian's folder of modules.
-export WENGELUDO_INCLUDE=$PWD/host/include CFLAGS="-g0 -ffile-prefix-map=$work=wengeludo"
+export WENGELUDO_INCLUDE=$PWD/include CFLAGS="-g0 -ffile-prefix-map=$work=wengeludo"
 cp -r bindings/python "$work/binding"
 cp -r desk "$work/desk"
 if [ ! -e "${WENGELUDO_WASM:-target/cross/wengeludo.wasm}" ] && command -v rt >/dev/null && [ -e target/staticlib/liblinked.a ]; then
-    quietly bash host/cross/build.sh wasm32 target/cross/wengeludo.wasm
+    quietly bash packaging/cross/build.sh wasm32 target/cross/wengeludo.wasm
 fi
 bash desk/engine.sh "$work/desk"
 [ -e "$work/desk/src/wengeludo/write/engine/wengeludo.wasm" ] || echo "debian: no WebAssembly: wengeludo sheet --live is left out"
@@ -130,10 +130,10 @@ packed python3-wengeludo "$(needs python3-wengeludo "$native")"
 
 documents wengeludo
 module desk wengeludo
-install -D -m 755 host/debian/wengeludo "$work/wengeludo/usr/bin/wengeludo"
-install -D -m 644 host/debian/wengeludo.service "$work/wengeludo/lib/systemd/system/wengeludo.service"
+install -D -m 755 packaging/debian/wengeludo "$work/wengeludo/usr/bin/wengeludo"
+install -D -m 644 packaging/debian/wengeludo.service "$work/wengeludo/lib/systemd/system/wengeludo.service"
 mkdir -p "$work/wengeludo/usr/share/man/man1"
-PYTHONDONTWRITEBYTECODE=1 PYTHONPATH=$work/wengeludo/$modules:$work/python3-wengeludo/$modules "$python" host/debian/man.py >"$work/wengeludo.1"
+PYTHONDONTWRITEBYTECODE=1 PYTHONPATH=$work/wengeludo/$modules:$work/python3-wengeludo/$modules "$python" packaging/debian/man.py >"$work/wengeludo.1"
 gzip -n9 <"$work/wengeludo.1" >"$work/wengeludo/usr/share/man/man1/wengeludo.1.gz"
 cp -r desk/samples "$work/wengeludo/usr/share/doc/wengeludo/examples"
 find "$work/wengeludo/usr/share/doc/wengeludo/examples" -type f -exec chmod 644 {} +

@@ -1,8 +1,8 @@
 #!/usr/bin/env bash
-# The Debian packages, made by host/debian/build.sh: the same bytes a second time, lintian without errors, installed into a scratch root
+# The Debian packages, made by packaging/debian/build.sh: the same bytes a second time, lintian without errors, installed into a scratch root
 # beside this machine's own list of packages, used from there by C, by Python and as the desk tool, and removed again.
 #
-#     bash host/debian/test.sh [--unproved]
+#     bash packaging/debian/test.sh [--unproved]
 # SPDX-License-Identifier: LicenseRef-Wengeludo
 set -euo pipefail
 cd "$(dirname "$0")/../.."
@@ -17,8 +17,8 @@ quiet() { "$@" >"$work/log" 2>&1 || { cat "$work/log" >&2; fail "$*"; }; }
 archive=$(realpath "${WENGELUDO_ARCHIVE:-target/staticlib/liblinked.a}")
 packages="libwengeludo-dev libwengeludo1 python3-wengeludo wengeludo"
 
-quiet bash host/debian/build.sh "$@" "$work/debs"
-quiet bash host/debian/build.sh "$@" "$work/again"
+quiet bash packaging/debian/build.sh "$@" "$work/debs"
+quiet bash packaging/debian/build.sh "$@" "$work/again"
 [ "$(cd "$work/debs" && for file in *; do dpkg-deb -f "$file" Package; done | xargs)" = "$packages" ] || fail "the packages are $(ls "$work/debs")"
 for file in "$work"/debs/*; do cmp "$file" "$work/again/${file##*/}" || fail "a second run makes another ${file##*/}"; done
 lintian --allow-root --fail-on error "$work"/debs/*.deb >"$work/lintian" 2>&1 || { cat "$work/lintian" >&2; fail "lintian finds errors"; }
@@ -41,10 +41,10 @@ libraries=$root/usr/lib/x86_64-linux-gnu
 cmp "$archive" "$libraries/libwengeludo.a" || fail "the archive is another"
 read -ra words < <(PKG_CONFIG_SYSROOT_DIR=$root PKG_CONFIG_LIBDIR=$libraries/pkgconfig PKG_CONFIG_ALLOW_SYSTEM_CFLAGS=1 PKG_CONFIG_ALLOW_SYSTEM_LIBS=1 \
     pkg-config --cflags --libs wengeludo)
-"${CC:-cc}" host/c/balance_file.c "${words[@]}" -o "$work/shared"
+"${CC:-cc}" programs/balance_file.c "${words[@]}" -o "$work/shared"
 LD_LIBRARY_PATH=$libraries "$work/shared" samples/listing.bin | cmp - samples/listing.expected || fail "the sheet by the shared library"
 if "$work/shared" samples/listing.bin >/dev/null 2>&1; then fail "the program does not take the shared library of the scratch root"; fi
-"${CC:-cc}" host/c/balance_file.c -I "$root/usr/include" "$libraries/libwengeludo.a" -o "$work/fixed"
+"${CC:-cc}" programs/balance_file.c -I "$root/usr/include" "$libraries/libwengeludo.a" -o "$work/fixed"
 "$work/fixed" samples/listing.bin | cmp - samples/listing.expected || fail "the sheet by the archive"
 
 # Python: modules and tool out of the scratch root alone, in an ordinary folder.

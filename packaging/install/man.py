@@ -2,8 +2,8 @@
 # SPDX-License-Identifier: LicenseRef-Wengeludo
 """The manual page wengeludo(3), made from the C header: its calls, its constants and its refusals, in the header's own words.
 
-    python3 host/install/man.py           prints the page
-    python3 host/install/man.py --names   prints the names of the calls, one a line
+    python3 packaging/install/man.py           prints the page
+    python3 packaging/install/man.py --names   prints the names of the calls, one a line
 
 The header is read as it stands: a comment, then what it speaks of, a blank line after each. What does not fit stops the script.
 """
@@ -11,7 +11,7 @@ import os
 import re
 import sys
 
-HEADER = os.path.join(os.path.dirname(os.path.abspath(__file__)), '..', 'include', 'wengeludo_balance.h')
+HEADER = os.path.join(os.path.dirname(os.path.abspath(__file__)), '..', '..', 'include', 'wengeludo_balance.h')
 CALL = re.compile(r'^(?:static inline )?[a-z0-9_]+ \*?(?:const )?\*?(wengeludo_[a-z_]+)\(', re.M)
 
 
@@ -164,7 +164,7 @@ def main(args):
     elif not args:
         sys.stdout.write(page(text))
     else:
-        sys.exit('usage: python3 host/install/man.py [--names]')
+        sys.exit('usage: python3 packaging/install/man.py [--names]')
 
 
 if __name__ == '__main__':

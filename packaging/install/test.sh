@@ -47,23 +47,23 @@ nm -u "$prefix/lib/libwengeludo.a" | awk 'NF == 2 { print $2 }' | sort | tr '\n'
 # pkg-config, plain cc, the archive by its name.
 [ "$(pkg-config --modversion wengeludo)" = "$version" ] || fail "pkg-config --modversion"
 # shellcheck disable=SC2046
-"${CC:-cc}" host/c/balance_file.c $(pkg-config --cflags --libs wengeludo) -o "$work/by_pkg_config"
+"${CC:-cc}" programs/balance_file.c $(pkg-config --cflags --libs wengeludo) -o "$work/by_pkg_config"
 listing "$work/by_pkg_config"
-(cd "$work" && cp "$OLDPWD/host/c/balance_file.c" x.c && cp "$OLDPWD/host/c/common.h" . && CPATH=$prefix/include LIBRARY_PATH=$prefix/lib "${CC:-cc}" x.c -lwengeludo -o by_cc)
+(cd "$work" && cp "$OLDPWD/programs/balance_file.c" x.c && cp "$OLDPWD/programs/common.h" . && CPATH=$prefix/include LIBRARY_PATH=$prefix/lib "${CC:-cc}" x.c -lwengeludo -o by_cc)
 listing "$work/by_cc"
 readelf -d "$work/by_cc" | grep -q 'NEEDED.*libwengeludo.so.1' || fail "cc -lwengeludo did not take the shared library"
 (cd "$work" && CPATH=$prefix/include LIBRARY_PATH=$prefix/lib "${CC:-cc}" x.c -l:libwengeludo.a -o by_archive)
 LD_LIBRARY_PATH='' listing "$work/by_archive"
 
 # CMake: three programs; a version that is not there is not found.
-quiet cmake -S host/install/cmake -B "$work/cmake" -DCMAKE_PREFIX_PATH="$prefix" -DSOURCES="$PWD"
+quiet cmake -S packaging/install/cmake -B "$work/cmake" -DCMAKE_PREFIX_PATH="$prefix" -DSOURCES="$PWD"
 quiet cmake --build "$work/cmake"
 listing "$work/cmake/shared"
 LD_LIBRARY_PATH='' listing "$work/cmake/fixed"
 sheet "$work/cmake/plus"
 for asked in 2 0.9 1.99; do
     mkdir -p "$work/asks"
-    sed "s/find_package(wengeludo 1 /find_package(wengeludo $asked /" host/install/cmake/CMakeLists.txt >"$work/asks/CMakeLists.txt"
+    sed "s/find_package(wengeludo 1 /find_package(wengeludo $asked /" packaging/install/cmake/CMakeLists.txt >"$work/asks/CMakeLists.txt"
     rm -rf "$work/asks/build"
     if cmake -S "$work/asks" -B "$work/asks/build" -DCMAKE_PREFIX_PATH="$prefix" -DSOURCES="$PWD" >"$work/log" 2>&1; then
         fail "find_package(wengeludo $asked) took $version"
@@ -74,7 +74,7 @@ done
 # The version itself is found where exactly it is asked for, another is not.
 mkdir -p "$work/exact"
 for asked in "$version" "${version%.*}.99"; do
-    sed "s/find_package(wengeludo 1 /find_package(wengeludo $asked EXACT /" host/install/cmake/CMakeLists.txt >"$work/exact/CMakeLists.txt"
+    sed "s/find_package(wengeludo 1 /find_package(wengeludo $asked EXACT /" packaging/install/cmake/CMakeLists.txt >"$work/exact/CMakeLists.txt"
     grep -q EXACT "$work/exact/CMakeLists.txt" || fail "the customer's project asks for no version"
     rm -rf "$work/exact/build"
     found=no
@@ -90,7 +90,7 @@ groff -man -ww -z "$prefix/share/man/man3/wengeludo.3" 2>"$work/log"
 [ ! -s "$work/log" ] || { cat "$work/log" >&2; fail "groff warns of the manual page"; }
 MANWIDTH=200 man -M "$prefix/share/man" wengeludo_balance_plant >"$work/page" 2>/dev/null
 MANWIDTH=1000 man --no-hyphenation --no-justification -M "$prefix/share/man" wengeludo >"$work/wide" 2>/dev/null
-python3 host/install/test_page.py "$work/wide" "$prefix/include/wengeludo_balance.h" || fail "the manual page does not say what the header says"
+python3 packaging/install/test_page.py "$work/wide" "$prefix/include/wengeludo_balance.h" || fail "the manual page does not say what the header says"
 while read -r call; do
     grep -qE "^ +uint[0-9]+_t $call\\(" "$work/page" || fail "$call is not in the synopsis of the manual page"
     grep -qE "^   [a-z_ ]*\\b$call\\b" "$work/page" || fail "$call is not described in the manual page"
@@ -98,14 +98,14 @@ done <"$work/declared"
 for word in $(grep -oE '^#define WENGELUDO_[A-Z_]+ [^(]' "$prefix/include/wengeludo_balance.h" | awk '{ print $2 }'); do
     grep -q "#define $word " "$work/page" || fail "$word is not in the manual page"
 done
-for word in $(cut -f2 host/refusals.tsv | tail -n +2); do
+for word in $(cut -f2 tools/refusals.tsv | tail -n +2); do
     grep -q "WENGELUDO_$word (" "$work/page" || fail "WENGELUDO_$word is not in the manual page"
 done
 
 # The Rust crate by itself, over the installed archive that pkg-config names.
-mkdir -p "$work/rust/host" "$work/user/src"
-cp -r host/rust "$work/rust/host/rust"
-rm -rf "$work/rust/host/rust/target"
+mkdir -p "$work/rust/bindings" "$work/user/src"
+cp -r bindings/rust "$work/rust/bindings/rust"
+rm -rf "$work/rust/bindings/rust/target"
 cp LICENCE "$work/rust/"
 cat >"$work/user/Cargo.toml" <<TOML
 [package]
@@ -113,21 +113,21 @@ name = "user"
 version = "0.1.0"
 edition = "2021"
 [dependencies]
-wengeludo_balance = { path = "../rust/host/rust" }
+wengeludo_balance = { path = "../rust/bindings/rust" }
 [workspace]
 TOML
-cp host/install/user.rs "$work/user/src/main.rs"
+cp packaging/install/user.rs "$work/user/src/main.rs"
 (cd "$work/user" && LD_LIBRARY_PATH='' cargo run --offline --quiet) >"$work/said" 2>"$work/log" || { cat "$work/log" >&2; fail "the Rust crate over the installed archive"; }
 printf '1 A 101\n2 A 101\ntotal 1 50 1 pass\n' | cmp - "$work/said" || fail "the Rust crate prints something else"
 
 # docs.rs has no archive: the pages are made all the same.
-(cd "$work/rust/host/rust" && PKG_CONFIG_PATH='' DOCS_RS=1 RUSTDOCFLAGS=-Dwarnings cargo doc --no-deps --offline --quiet) 2>"$work/log" ||
+(cd "$work/rust/bindings/rust" && PKG_CONFIG_PATH='' DOCS_RS=1 RUSTDOCFLAGS=-Dwarnings cargo doc --no-deps --offline --quiet) 2>"$work/log" ||
     { cat "$work/log" >&2; fail "cargo doc without an archive"; }
 
 # DESTDIR and LIBDIR: the files lie below it, and name the prefix alone.
 quiet env DESTDIR="$work/dest" LIBDIR=lib/x86_64-linux-gnu bash install.sh /usr
 grep -qx 'prefix=/usr' "$work/dest/usr/lib/x86_64-linux-gnu/pkgconfig/wengeludo.pc" || fail "DESTDIR stands in the pkg-config file"
-quiet cmake -S host/install/cmake -B "$work/cmake2" -DCMAKE_PREFIX_PATH="$work/dest/usr" -DSOURCES="$PWD" -DCMAKE_LIBRARY_ARCHITECTURE=x86_64-linux-gnu
+quiet cmake -S packaging/install/cmake -B "$work/cmake2" -DCMAKE_PREFIX_PATH="$work/dest/usr" -DSOURCES="$PWD" -DCMAKE_LIBRARY_ARCHITECTURE=x86_64-linux-gnu
 quiet cmake --build "$work/cmake2" --target fixed
 LD_LIBRARY_PATH='' listing "$work/cmake2/fixed"
 
@@ -142,7 +142,7 @@ grep -qx "prefix=$work/below/here" "$work/below/here/lib/pkgconfig/wengeludo.pc"
 # A prefix with a blank and an ampersand, libraries in a folder of their own.
 odd="$work/R & D/here"
 quiet env LIBDIR="$work/own libs" bash install.sh "$odd"
-PKG_CONFIG_PATH="$work/own libs/pkgconfig" sh -c 'eval "${CC:-cc} host/c/balance_file.c $(pkg-config --cflags --libs wengeludo) -o \"$1\""' - "$work/by_odd"
+PKG_CONFIG_PATH="$work/own libs/pkgconfig" sh -c 'eval "${CC:-cc} programs/balance_file.c $(pkg-config --cflags --libs wengeludo) -o \"$1\""' - "$work/by_odd"
 LD_LIBRARY_PATH="$work/own libs" listing "$work/by_odd"
 quiet env LIBDIR="$work/own libs" bash install.sh --uninstall "$odd"
 [ -z "$(find "$odd" "$work/own libs" ! -type d)" ] || fail "left after --uninstall $odd"
@@ -178,7 +178,7 @@ if command -v aarch64-linux-gnu-gcc >/dev/null && [ -e target/cross/aarch64.a ];
     quiet env CC=aarch64-linux-gnu-gcc bash install.sh --target aarch64 "$work/arm"
     readelf -h "$work/arm/lib/libwengeludo.so" | grep -q AArch64 || fail "--target aarch64 installs something else"
     if command -v qemu-aarch64-static >/dev/null; then
-        aarch64-linux-gnu-gcc -static host/c/balance_file.c -I "$work/arm/include" "$work/arm/lib/libwengeludo.a" -o "$work/by_arm"
+        aarch64-linux-gnu-gcc -static programs/balance_file.c -I "$work/arm/include" "$work/arm/lib/libwengeludo.a" -o "$work/by_arm"
         listing qemu-aarch64-static "$work/by_arm"
     fi
 fi

@@ -1,7 +1,7 @@
 # SPDX-License-Identifier: LicenseRef-Wengeludo
 """Whether the manual page, as man prints it, says what the header says: every comment word for word, every constant with its number.
 
-    python3 host/install/test_page.py PAGE HEADER   PAGE: the page as text (man with a great width)
+    python3 packaging/install/test_page.py PAGE HEADER   PAGE: the page as text (man with a great width)
 """
 
 import re

@@ -1,7 +1,7 @@
 #!/usr/bin/env bash
 # Makes the files of a release and their sums, from a tree without changes.
 #
-#     bash host/release/make.sh OUT
+#     bash packaging/release/make.sh OUT
 #
 # In OUT: the source, the archives for x86-64, AArch64 and RISC-V, the WebAssembly with its JavaScript, the Python source package, the
 # Debian packages, the headers, a bill of materials (SPDX), and SHA256SUMS over all of them. Nothing is uploaded, no tag is set: RELEASING.md.
@@ -15,10 +15,10 @@ cd "$(dirname "$0")/../.."
 fail() { echo "release: $*" >&2; exit 1; }
 [ ! -e "$out" ] || fail "$out is there already: another folder would do"
 [ -n "${WENGELUDO_CHANGED:-}" ] || [ -z "$(git status --porcelain)" ] || fail "the tree has changes that are not committed: a release is made of a commit"
-python3 host/check/versions.py
-python3 host/check/refusals.py
+python3 tools/versions.py
+python3 tools/refusals.py
 [ -e target/staticlib/liblinked.a ] || rt staticlib linked >/dev/null
-python3 host/check/archive.py
+python3 tools/archive.py
 version=$(sed -n 's/^version = "\(.*\)"/\1/p' bindings/python/pyproject.toml)
 work=$(mktemp -d)
 trap 'rm -rf "$work"' EXIT
@@ -26,21 +26,21 @@ parts=$work/parts
 mkdir -p "$parts"
 git archive --format=tar --prefix="wengeludo-$version/" HEAD | gzip -n9 >"$parts/wengeludo-$version.tar.gz"
 cp target/staticlib/liblinked.a "$parts/libwengeludo-$version-x86_64.a"
-cp host/include/wengeludo_balance.h host/include/wengeludo.hpp host/companion/wengeludo_fault.h LICENCE "$parts/"
+cp include/wengeludo_balance.h include/wengeludo.hpp bindings/c/wengeludo_fault.h LICENCE "$parts/"
 for target in aarch64 riscv64; do
-    bash host/cross/build.sh "$target" "$parts/libwengeludo-$version-$target.a" >/dev/null
-    python3 host/check/archive.py --of "$target" "$parts/libwengeludo-$version-$target.a"
+    bash packaging/cross/build.sh "$target" "$parts/libwengeludo-$version-$target.a" >/dev/null
+    python3 tools/archive.py --of "$target" "$parts/libwengeludo-$version-$target.a"
 done
-bash host/cross/build.sh wasm32 "$work/js/wengeludo.wasm" >/dev/null
-python3 host/check/archive.py --of wasm32 "$work/js/wengeludo.wasm"
+bash packaging/cross/build.sh wasm32 "$work/js/wengeludo.wasm" >/dev/null
+python3 tools/archive.py --of wasm32 "$work/js/wengeludo.wasm"
 cp bindings/js/{wengeludo.js,wengeludo.d.ts,package.json,README.md} LICENCE "$work/js/"
 stamp=$(git log -1 --format=%ct)
 tar -C "$work" --sort=name --mtime="@$stamp" --owner=0 --group=0 --numeric-owner -cf - js | gzip -n9 >"$parts/wengeludo-js-$version.tar.gz"
 cp -r bindings/python "$work/python"
-(cd "$work/python" && WENGELUDO_INCLUDE=$OLDPWD/host/include WENGELUDO_ARCHIVE=$OLDPWD/target/staticlib/liblinked.a SOURCE_DATE_EPOCH=$stamp \
+(cd "$work/python" && WENGELUDO_INCLUDE=$OLDPWD/include WENGELUDO_ARCHIVE=$OLDPWD/target/staticlib/liblinked.a SOURCE_DATE_EPOCH=$stamp \
     /usr/bin/python3 setup.py -q sdist -d "$parts" >/dev/null 2>"$work/log") || { cat "$work/log" >&2; fail "no Python source package"; }
-WENGELUDO_WASM=$work/js/wengeludo.wasm bash host/debian/build.sh "$parts" >/dev/null
-python3 host/release/sbom.py "$parts" >"$work/sbom.spdx.json"
+WENGELUDO_WASM=$work/js/wengeludo.wasm bash packaging/debian/build.sh "$parts" >/dev/null
+python3 packaging/release/sbom.py "$parts" >"$work/sbom.spdx.json"
 mv "$work/sbom.spdx.json" "$parts/"
 (cd "$parts" && sha256sum -- * >"$work/SHA256SUMS" && mv "$work/SHA256SUMS" .)
 mkdir -p "$(dirname "$out")"

@@ -2,7 +2,7 @@
 # SPDX-License-Identifier: LicenseRef-Wengeludo
 """The software bill of materials, SPDX 2.3 in JSON: the parts of a release, their sums, and what each needs of others.
 
-    python3 host/release/sbom.py FOLDER   the parts in FOLDER; prints the document
+    python3 packaging/release/sbom.py FOLDER   the parts in FOLDER; prints the document
 
 Versions come from the header, needs from the pyproject files, the date from the newest commit: the same tree gives the same document.
 """
@@ -23,7 +23,7 @@ def text_of(path):
 
 
 def version():
-    header = text_of('host/include/wengeludo_balance.h')
+    header = text_of('include/wengeludo_balance.h')
     return '.'.join(re.search(rf'VERSION_{part} (\d+)', header).group(1) for part in ('MAJOR', 'MINOR', 'PATCH'))
 
 
@@ -72,7 +72,7 @@ def document(folder):
                   for one in own for word in needed(one['name'])]
     return {'spdxVersion': 'SPDX-2.3', 'dataLicense': 'CC0-1.0', 'SPDXID': 'SPDXRef-DOCUMENT', 'name': f'wengeludo-{version()}',
             'documentNamespace': f'urn:wengeludo:{version()}:{hashlib.sha256(json.dumps(own).encode()).hexdigest()}',
-            'creationInfo': {'created': date(), 'creators': ['Tool: host/release/sbom.py']}, 'packages': [*own, *others.values()], 'relationships': relations,
+            'creationInfo': {'created': date(), 'creators': ['Tool: packaging/release/sbom.py']}, 'packages': [*own, *others.values()], 'relationships': relations,
             'hasExtractedLicensingInfos': [{'licenseId': LICENCE, 'extractedText': text_of('LICENCE')}]}
 
 

@@ -69,7 +69,7 @@ static void read_blocks(void)
 {
     FILE *list = fopen(BLOCKS, "r");
     if (list == NULL)
-        fail("no " BLOCKS ": build with host/fuzz/build.sh");
+        fail("no " BLOCKS ": build with tests/fuzz/build.sh");
     unsigned long at;
     while (fscanf(list, "%lx", &at) == 1) {
         if (block_count == MOST_BLOCKS)

@@ -1,10 +1,10 @@
 #!/usr/bin/env bash
-# Builds target/host/fuzz/target, the fuzz target over liblinked.a, with clang's libFuzzer, and the list of its basic blocks.
+# Builds target/built/fuzz/target, the fuzz target over liblinked.a, with clang's libFuzzer, and the list of its basic blocks.
 # SPDX-License-Identifier: LicenseRef-Wengeludo
 set -eu
 cd "$(dirname "$0")/../.."
 archive=target/staticlib/liblinked.a
-out=target/host/fuzz
+out=target/built/fuzz
 need() { command -v "$1" >/dev/null || { echo "no $1: install it (Debian: apt-get install $2)" >&2; exit 2; }; }
 need clang "clang libclang-rt-dev"
 need objdump binutils
@@ -12,7 +12,7 @@ need nm binutils
 [ -e "$archive" ] || { echo "no $archive: build it with 'rt staticlib linked' (Rattle kit rattle-kit-5 or later)" >&2; exit 2; }
 mkdir -p "$out"
 clang -std=gnu11 -O1 -g -Wall -Wextra -Werror -fno-pie -no-pie -fsanitize=fuzzer -DBLOCKS="\"$PWD/$out/blocks.txt\"" \
-    -I host/include host/fuzz/*.c "$archive" -lm -o "$out/target" ||
+    -I include tests/fuzz/*.c "$archive" -lm -o "$out/target" ||
     { echo "clang's libFuzzer is missing? (Debian: apt-get install clang; the archive libclang_rt.fuzzer-x86_64.a)" >&2; exit 2; }
 # A basic block starts at a function's first instruction, at a jump's target and after a jump.
 nm "$archive" | awk '$2 == "t" || $2 == "T" {$1 = ""; $2 = ""; sub(/^ */, ""); print}' >"$out/functions.txt"

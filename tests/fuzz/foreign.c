@@ -1,7 +1,7 @@
-/* Sheets drawn up elsewhere: numbers of the places, and the check against its rules in exact numbers (host/c/rules.h). */
+/* Sheets drawn up elsewhere: numbers of the places, and the check against its rules in exact numbers (programs/rules.h). */
 /* SPDX-License-Identifier: LicenseRef-Wengeludo */
 #include "target.h"
-#include "../c/rules.h"
+#include "../../programs/rules.h"
 
 /* Numbers of the places of a file, of which the sheet call returned this number, on a slice between a guard and a page: what is
  * returned, what stays as it was. */

@@ -117,7 +117,7 @@ mod tests {
     fn committed_compressions() {
         const HELD: u64 = 1 << 57;
         const SIZE: usize = 8 * PLACES;
-        let mut cases: &[u8] = include_bytes!("../../../../crates/vectors/data/compressions.bin");
+        let mut cases: &[u8] = include_bytes!("../../../crates/vectors/data/compressions.bin");
         let potential = |bytes: &[u8]| u64::from_be_bytes(bytes.try_into().expect("8 bytes")).wrapping_sub(HELD) as i64;
         let potentials = |bytes: &[u8]| -> [i64; PLACES] { std::array::from_fn(|u| potential(&bytes[8 * u..8 * u + 8])) };
         let mut count = 0;

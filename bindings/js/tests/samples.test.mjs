@@ -150,7 +150,7 @@ test('bytes in any form, and far more of them than the module has memory for', (
 
 /** The calls of the header with what each is handed, as the table of wengeludo.js says it. */
 function declared() {
-    const header = text('host/include/wengeludo_balance.h').replace(/\/\*[\s\S]*?\*\//g, '');
+    const header = text('include/wengeludo_balance.h').replace(/\/\*[\s\S]*?\*\//g, '');
     const short = (type) => ({ size_t: 'u64' })[type] ?? type.replace('uint', 'u').replace('int', 'i').replace('_t', '');
     const words = (parameters) => parameters.replace(/,\s*size_t \w+_length/g, ',size_t length').split(',').map((p) => p.trim()).flatMap((p, k, all) => {
         const [, fixed, type, star] = /^(const )?(\w+) (\*?)\w+$/.exec(p) ?? [];
@@ -172,7 +172,7 @@ test('the calls are those of the header', () => {
 });
 
 test('the limits are those of the header', async () => {
-    const ours = await import('../wengeludo.js'), header = text('host/include/wengeludo_balance.h');
+    const ours = await import('../wengeludo.js'), header = text('include/wengeludo_balance.h');
     const names = { SHEET_SIZE: 'SHEET_SIZE', FILE_SIZE: 'FILE_SIZE', MAX_STREAMS: 'MAX_STREAMS', MAX_PLACES: 'MAX_PLACES', SURVEY_SIZE: 'SURVEY_SIZE', OFFICES: 'OFFICES', WIDEST: 'MAX_RANGE' };
     for (const [name, there] of Object.entries(names)) assert.equal(ours[name], Number(new RegExp(`#define WENGELUDO_${there} (\\d+)`).exec(header)[1]), name);
 });

@@ -10,6 +10,6 @@ cd "$(dirname "$0")"
 root=$(cd ../../.. && pwd)
 out=$(mktemp -d)
 trap 'rm -rf "$out"' EXIT
-"${CC:-cc}" -std=gnu11 -O2 -Wall -Wextra -Werror -I "${WENGELUDO_INCLUDE:-$root/host/include}" -I . rows_bench.c rows.c \
+"${CC:-cc}" -std=gnu11 -O2 -Wall -Wextra -Werror -I "${WENGELUDO_INCLUDE:-$root/include}" -I . rows_bench.c rows.c \
     "${WENGELUDO_ARCHIVE:-$root/target/staticlib/liblinked.a}" -o "$out/bench"
 "$out/bench"

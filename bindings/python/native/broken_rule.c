@@ -1,4 +1,4 @@
-/* The words of host/c/rules.h as a function. */
+/* The words of programs/rules.h as a function. */
 /* SPDX-License-Identifier: LicenseRef-Wengeludo */
 #include "broken_rule.h"
 

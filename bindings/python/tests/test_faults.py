@@ -8,8 +8,8 @@ import pytest
 import build_native
 from wengeludo_balance import Fault, Refusal, balance_plant, broken_rule, check_sheet, fault_at, place_numbers, plant_from_transmitter, to_ranged
 
-COMPANION = build_native.ROOT / "host" / "companion"
-companion = pytest.mark.skipif(not COMPANION.is_dir(), reason="not beside host/companion")
+COMPANION = build_native.ROOT / "bindings" / "c"
+companion = pytest.mark.skipif(not COMPANION.is_dir(), reason="not beside bindings/c")
 
 
 def files():

@@ -51,7 +51,7 @@ def test_source_package_beside_an_installed_library(tmp_path):
     bare = {name: "" for name in ("WENGELUDO_INCLUDE", "WENGELUDO_ARCHIVE")}
     (tmp_path / "lib" / "pkgconfig").mkdir(parents=True)
     shutil.copy(archive, tmp_path / "lib" / "libwengeludo.a")
-    shutil.copytree(ROOT / "host" / "include", tmp_path / "include")
+    shutil.copytree(ROOT / "include", tmp_path / "include")
     lines = [f"prefix={tmp_path}", "includedir=${prefix}/include", "libdir=${prefix}/lib", "Name: wengeludo", "Description: x", f"Version: {w.__version__}"]
     (tmp_path / "lib" / "pkgconfig" / "wengeludo.pc").write_text("\n".join(lines) + "\n", encoding="utf-8")
     bare["PKG_CONFIG_PATH"] = str(tmp_path / "lib" / "pkgconfig")

@@ -1,7 +1,7 @@
 # SPDX-License-Identifier: LicenseRef-Wengeludo
 """The binding beside the C programs over the same archive, on all samples.
 
-WENGELUDO_PROGRAMS (default target/host)  where `bash host/c/build.sh` puts them
+WENGELUDO_PROGRAMS (default target/built)  where `bash programs/build.sh` puts them
 """
 
 import os
@@ -13,7 +13,7 @@ import pytest
 import wengeludo_balance as w
 
 ROOT = Path(__file__).resolve().parents[3]
-PROGRAMS = Path(os.environ.get("WENGELUDO_PROGRAMS") or ROOT / "target" / "host")
+PROGRAMS = Path(os.environ.get("WENGELUDO_PROGRAMS") or ROOT / "target" / "built")
 FILES = sorted(path for path in (ROOT / "samples").glob("*.bin") if path.stem != "transmitter")
 pytestmark = pytest.mark.skipif(not (PROGRAMS / "visits_file").exists(), reason="the C programs are not built")
 

@@ -27,7 +27,7 @@ impl Places {
 #[derive(Clone, Copy, Debug, PartialEq, Eq, Hash)]
 #[non_exhaustive]
 pub enum Refusal {
-    // refusals: enum, from host/refusals.tsv
+    // refusals: enum, from tools/refusals.tsv
     /// A slice is too short: under 880 bytes for a sheet, 8 numbers for the offices, 1,636 bytes for a plant file, 96 elements
     /// for the sheet reader and for lists of streams, 13 for the survey, 33 for the numbers of the places; for the check of a
     /// flow, fewer elements than streams, or numbers than places.
@@ -91,7 +91,7 @@ pub enum Refusal {
 }
 
 /// Number and text of each refusal.
-// refusals: texts, from host/refusals.tsv
+// refusals: texts, from tools/refusals.tsv
 const ALL: [(u8, Refusal, &str); 26] = [
     (
         1,

@@ -1,12 +1,12 @@
 // SPDX-License-Identifier: LicenseRef-Wengeludo
 //! An archive whose sheet reader hands over the first three bytes of a sheet as the kind of a stream, the kind of the total and the
-//! verdict: what this crate does not know is never taken for something that it does. host/rust/test_archives.sh builds such an archive
+//! verdict: what this crate does not know is never taken for something that it does. bindings/rust/test_archives.sh builds such an archive
 //! and runs this test with it.
 
 use wengeludo_balance::{Record, Refusal, Sheet, TotalKind, Verdict};
 
 #[test]
-#[ignore = "for an archive that answers anything: bash host/rust/test_archives.sh"]
+#[ignore = "for an archive that answers anything: bash bindings/rust/test_archives.sh"]
 fn what_is_not_known_is_refused() {
     let verdicts = [Verdict::Pass, Verdict::Fail, Verdict::None, Verdict::Close];
     let kinds = [(0x1E, TotalKind::Office), (0x1F, TotalKind::Plain)];

@@ -1,5 +1,5 @@
 // SPDX-License-Identifier: LicenseRef-Wengeludo
-//! An archive whose calls return a number that this crate does not know: no call is taken for done. host/rust/test_archives.sh
+//! An archive whose calls return a number that this crate does not know: no call is taken for done. bindings/rust/test_archives.sh
 //! builds such an archive and runs this test with it.
 
 use wengeludo_balance::{
@@ -8,7 +8,7 @@ use wengeludo_balance::{
 };
 
 #[test]
-#[ignore = "for an archive that returns 99: bash host/rust/test_archives.sh"]
+#[ignore = "for an archive that returns 99: bash bindings/rust/test_archives.sh"]
 fn nothing_is_taken_for_done() {
     let unknown = Refusal::Unknown(99);
     let file = [1, 1, 4, 0];

@@ -3,7 +3,7 @@
 
 use wengeludo_balance::{raw, version, Refusal, FILE_SIZE, MAX_STREAMS, MAX_SURVEYED, OFFICES, SHEET_SIZE, VERSION};
 
-const LIST: &str = include_str!("../../refusals.tsv");
+const LIST: &str = include_str!("../../../tools/refusals.tsv");
 
 #[test]
 fn the_archive_has_this_version() {

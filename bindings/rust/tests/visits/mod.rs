@@ -189,7 +189,7 @@ fn the_serial_system() {
 /// The deepest calls in a thread with little more stack than the header speaks of, 72 KB; what the thread itself needs is in the rest.
 #[test]
 fn little_stack() {
-    let bench = concat!(env!("CARGO_MANIFEST_DIR"), "/../bench");
+    let bench = concat!(env!("CARGO_MANIFEST_DIR"), "/../../bench");
     let worst =
         ["worst.bin", "worst_ranges.bin", "most_improvements.bin"].map(|name| std::fs::read(format!("{bench}/{name}")).unwrap());
     let mut drawn: Vec<Vec<u8>> = (0..300).map(|k| file_of(&Draw::new(k).plant())).collect();

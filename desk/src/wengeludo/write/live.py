@@ -21,7 +21,7 @@ from ..read.faults import Stopped
 HERE = Path(__file__).resolve().parent
 ENGINE = HERE / "engine"  # where an installed tool has both files
 ROOT = HERE.parents[3]
-HOW_TO = "build it with `bash host/cross/build.sh wasm32 target/cross/wengeludo.wasm`, or name it in WENGELUDO_WASM"
+HOW_TO = "build it with `bash packaging/cross/build.sh wasm32 target/cross/wengeludo.wasm`, or name it in WENGELUDO_WASM"
 
 
 def _first(what: str, *paths: Path) -> Path:
