@@ -20,6 +20,7 @@ ROOT = os.path.abspath(os.path.join(os.path.dirname(__file__), '..'))
 TEXTS = ['README.md', 'CONTRIBUTING.md', 'docs/*.md', 'samples/README.md', 'reference/README.md', 'desk/README.md',
          'bindings/python/README.md', 'include/*.h', 'test_all.sh', '.ci/run']
 FOLDERS = r'(?:crates|docs|include|bindings|programs|tests|bench|packaging|tools|reference|samples|desk|\.ci)'
+TESTED = ('desk', 'bindings/python', 'bindings/rust')  # a command that is run in one of these names its own tests
 PATH = re.compile(r'(?<![\w/.$-])' + FOLDERS + r'/[\w./{},*-]*[\w}*]')
 CODE = re.compile(r'`([^`\n]+)`')
 WORD = re.compile(r'(?<![\w/.$-])[a-z0-9_]+/[\w/{},.*-]*[\w}*]')
@@ -53,7 +54,7 @@ def of_crate(name, crates):
     crate, rest = name.split('/', 1)
     if crate not in crates and not re.match('(specs|proofs)/', rest):
         return []
-    return [f'crates/{crate}/{folder}{rest}' for folder in ('', 'must-fail/', 'proofs/', 'src/')]
+    return [name] + [f'crates/{crate}/{folder}{rest}' for folder in ('', 'must-fail/', 'proofs/', 'src/')]
 
 
 def names(path, crates):
@@ -62,7 +63,7 @@ def names(path, crates):
     for name in PATH.findall(text):
         for each in opened(name):
             if not FORM.search(each):
-                yield each, [each]
+                yield each, [each] + [f'{folder}/{each}' for folder in TESTED if each.startswith('tests/')]
     for name in (word for code in CODE.findall(text) for word in WORD.findall(code)):
         for each in opened(name):
             places = of_crate(each, crates)

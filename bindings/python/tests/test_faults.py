@@ -29,9 +29,9 @@ def number_of(call, file):
 
 
 @companion
-@pytest.mark.parametrize("folder, name", [("companion", "fault.c"), ("companion", "wengeludo_fault.h"), ("c", "rules.h")])
+@pytest.mark.parametrize("folder, name", [("bindings/c", "fault.c"), ("bindings/c", "wengeludo_fault.h"), ("programs", "rules.h")])
 def test_one_source(folder, name):
-    assert (build_native.NATIVE / name).read_bytes() == (COMPANION.parent / folder / name).read_bytes()
+    assert (build_native.NATIVE / name).read_bytes() == (build_native.ROOT / folder / name).read_bytes()
 
 
 @companion
