@@ -99,7 +99,7 @@ class Code(NamedTuple):
 def texts():
     found = ['README.md', 'CONTRIBUTING.md', 'CHANGELOG.md', 'samples/README.md', 'reference/README.md', 'bindings/python/README.md', 'bindings/js/README.md',
              'desk/README.md']
-    found += sorted(os.path.relpath(path, ROOT) for path in glob.glob(os.path.join(ROOT, 'docs', '*.md')))
+    found += sorted(os.path.relpath(path, ROOT) for pattern in ('*.md', 'decisions/*.md') for path in glob.glob(os.path.join(ROOT, 'docs', pattern)))
     return [path for path in found if os.path.exists(os.path.join(ROOT, path))]
 
 
