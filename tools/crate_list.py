@@ -1,6 +1,6 @@
 #!/usr/bin/env python3
 # SPDX-License-Identifier: LicenseRef-Wengeludo
-"""The list of crates in docs/ARCHITECTURE.md, from crates.txt and the first sentence of each crate's lib.rt or main.rt.
+"""The list of crates, docs/CRATES.md, from crates.txt and the first sentence of each crate's lib.rt or main.rt.
 
     python3 tools/crate_list.py           compares the list with the crates; status 1 where they differ
     python3 tools/crate_list.py --write   makes it anew
@@ -15,7 +15,7 @@ import sys
 import made
 from made import ROOT
 
-TEXT = 'docs/ARCHITECTURE.md'
+TEXT = 'docs/CRATES.md'
 BEGIN, END = '<!-- crates: list, from crates.txt and crates/*/src -->', '<!-- crates: end of list -->'
 LONGEST = 160
 
@@ -88,7 +88,7 @@ def listed():
     text = []
     for subject, crates in found:
         below = {home[name] for names_below in crates.values() for name in names_below if name in home} - {subject}
-        text += [f'### {subject[0].upper()}{subject[1:]}', '']
+        text += [f'## {subject[0].upper()}{subject[1:]}', '']
         if below:
             text += ['Over: ' + ', '.join(sorted(below, key=order.index)) + '.', '']
         text += ['| crate | of | holds |', '|---|---|---|']

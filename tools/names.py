@@ -7,7 +7,7 @@
 
 A name is a path below a folder of the repository, anywhere in a text; in a piece of code also `crate/specs/File`, `crate/proofs/File`,
 `crate/src/file` and `crate/edit`. `{a,b}` stands for both, `*` for anything. A relative link must lead somewhere. docs/EDITS.md names
-every edit, docs/ARCHITECTURE.md and crates.txt every crate. A piece of code that is one word, or two with a dot or colons between them,
+every edit, docs/CRATES.md and crates.txt every crate. A piece of code that is one word, or two with a dot or colons between them,
 stands in the code: a definition, field, function or variable that was renamed is found so. docs/changes and CHANGELOG.md tell of older
 versions and are left out.
 """
@@ -29,7 +29,7 @@ ROW = re.compile(r'^\| `([a-z0-9_]+/[a-z0-9_]+)` \|', re.M)  # an edit's own row
 TOKEN = re.compile(r'(?=([\w-]+))(\w+)')  # with its hyphens, and up to the first of them
 KIT = re.compile(r'rattle-kit|sha256sum$|[A-Z_]+_PROOFS$|NOT_COVERED$')  # not ours
 SUM = re.compile(r'[0-9a-f]{64}')  # a SHA-256
-FORM = re.compile(r'\b(NAME|EDIT)\b')  # any crate, any edit
+FORM = re.compile(r'\b(?:NAME|EDIT|FAMILY)(?:\b|_)')  # any crate, any edit, any family of commands
 
 
 def read(path):
@@ -67,7 +67,7 @@ def names(path, crates):
     for name in (word for code in CODE.findall(text) for word in WORD.findall(code)):
         for each in opened(name):
             places = of_crate(each, crates)
-            if places:
+            if places and not FORM.search(each):
                 yield each, places
     for edit in ROW.findall(text) if path == 'docs/EDITS.md' else []:
         yield edit, [f"crates/{edit.replace('/', '/must-fail/')}.edit"]
@@ -92,6 +92,8 @@ def written():
 def unwritten(path, words):
     """Pieces of code in a text that stand nowhere in the code."""
     for code in sorted(set(CODE.findall(read(path)))):
+        if FORM.search(code):
+            continue
         if re.fullmatch(r'[A-Za-z][\w-]*(?:(?:\.|::)[\w-]+)?', code) and not KIT.match(code) and not SUM.fullmatch(code):
             if not set(re.split(r'\.|::', code)) <= words:
                 yield f'{path} names {code}, which stands nowhere in the code'
@@ -100,13 +102,13 @@ def unwritten(path, words):
 def unnamed(crates):
     """Crates and edits that the texts leave out."""
     listed = set(re.findall(r'^(\w+):', read('crates.txt'), re.M))
-    drawn = set(re.findall(r'\w+', read('docs/ARCHITECTURE.md')))
+    drawn = set(re.findall(r'\w+', read('docs/CRATES.md')))
     edits = {each for code in CODE.findall(read('docs/EDITS.md')) for each in opened(code)}
     for crate in sorted(crates):
         if crate not in listed:
             yield f'crate {crate} is not in crates.txt'
         if crate not in drawn:
-            yield f'crate {crate} is not in docs/ARCHITECTURE.md'
+            yield f'crate {crate} is not in docs/CRATES.md'
     for path in sorted(glob.glob(os.path.join(ROOT, 'crates', '*', 'must-fail', '*.edit'))):
         parts = path.split(os.sep)
         if f'{parts[-3]}/{parts[-1][:-5]}' not in edits:
