@@ -8,7 +8,9 @@ short run that is meant for it.
     python3 tools/mutants.py --long                by the long run's numbers of draws
     python3 tools/mutants.py --only desk,rust      of some parts
     python3 tools/mutants.py --list                prints them, and tries none
-    python3 tools/mutants.py --only desk --map F   by the tests that run the changed line (tools/seen.py), the map kept in F
+    python3 tools/mutants.py --map FILE         of the desk by the tests that run the changed line (tools/seen.py), the map kept in FILE
+    python3 tools/mutants.py --jobs 3           three copies of the tree at a time
+    python3 tools/mutants.py --again FILE       those of a log that survived, once more
 
 A comparison is turned, a number moved by one, a sign or a word exchanged, a line dropped, a text changed. A change that no compiler takes is
 no mutant, and another is drawn in its place. A survivor is printed with its file, line and change; --log FILE keeps all of them.
@@ -20,8 +22,10 @@ import io
 import random
 import re
 import sys
+import threading
 import time
 import tokenize
+from pathlib import Path
 
 import seen
 from tried import ROOT, Tree
@@ -49,9 +53,12 @@ def python_spots(text):
     for line in text.splitlines(keepends=True):
         starts.append(at)
         at += len(line)
-    found, before = [], None
+    found, before, hints = [], None, set(hinted(text))
     for token in tokenize.generate_tokens(io.StringIO(text).readline):
         start, end = (starts[min(row, len(starts)) - 1] + column for row, column in (token.start, token.end))
+        if any(first <= token.start < last for first, last in hints):
+            before = token.type
+            continue
         if token.line.lstrip().startswith(('import ', 'from ', '"""', '@', 'class ', 'def ')) and '=' not in token.line:
             continue
         first = before in (None, tokenize.NEWLINE, tokenize.INDENT, tokenize.DEDENT, tokenize.NL)
@@ -61,6 +68,14 @@ def python_spots(text):
             found.append((start, starts[token.start[0] - 1] + len(token.line.rstrip('\n')), '-- line'))
         before = token.type
     return found
+
+
+def hinted(text):
+    """From where to where types stand, which no program of ours reads."""
+    for node in ast.walk(ast.parse(text)):
+        for hint in (getattr(node, 'annotation', None), getattr(node, 'returns', None)):
+            if isinstance(hint, ast.AST):
+                yield (hint.lineno, hint.col_offset), (hint.end_lineno, hint.end_col_offset)
 
 
 def plain_spots(text):
@@ -111,7 +126,17 @@ def mutants(seed, count, only):
         drawn.add((name, start, what))
         text, new = (ROOT / name).read_text(encoding='utf-8'), changed(draw, what, name)
         if new != what:
-            yield part, name, text[:start].count('\n') + 1, what if what != '-- line' else text[start:end], new, text[:start] + new + text[end:]
+            yield part, name, start, what if what != '-- line' else text[start:end], new
+
+
+def logged(path):
+    """The mutants of a log that survived."""
+    for line in Path(path).read_text(encoding='utf-8').splitlines():
+        found = re.fullmatch(r'SURVIVES (\S+) (\S+?):(\d+):(\d+): (.*) becomes (.*)', line)
+        if found:
+            part, name, row, column = found.group(1, 2, 3, 4)
+            start = sum(map(len, (ROOT / name).read_text(encoding='utf-8').splitlines(keepends=True)[: int(row) - 1])) + int(column)
+            yield part, name, start, ast.literal_eval(found[5]), ast.literal_eval(found[6])
 
 
 def stillborn(name, text, said):
@@ -138,56 +163,95 @@ def statement(name, line):
 def tests(tree, known, part, name, line):
     """The part with the tests that run a line, if there is a map; the copy waits for them no longer than they can take."""
     found = (seen.tests(tree, known, name, statement(name, line)) or tree.desk_files(name)[:4]) if known and part == 'desk' else []
-    tree.seconds = 60 + 4 * seen.SECONDS if found else 900
-    return ' '.join((part, *found))
+    tree.seconds = 60 + 4 * seen.SECONDS if found and not tree.long else 900
+    return ' '.join((part, *found, *(tree.browsed(name) if found and tree.long else ())))
+
+
+class Run:
+    """A run: copies of the tree take one mutant after the other, until enough were tried."""
+
+    def __init__(self, asked):
+        self.asked, self.lock, self.began = asked, threading.Lock(), time.monotonic()
+        self.tried, self.tally = 0, {}
+        only = set(filter(None, asked.only.split(',')))
+        self.drawn = logged(asked.again) if asked.again else mutants(asked.seed, asked.count, only)
+        self.parts = [part for part, _, _ in AREAS if not only or part in only]
+
+    def next(self):
+        """The next mutant that a compiler may take, or None."""
+        with self.lock:
+            while self.tried < self.asked.count:
+                part, name, start, what, new = next(self.drawn, (None,) * 5)
+                if part is None:
+                    return None
+                text = (ROOT / name).read_text(encoding='utf-8')
+                if not text.startswith(what, start):
+                    print(f'mutants: {name} has no longer {what!r} there', flush=True)
+                    continue
+                text, line = text[:start] + new + text[start + len(what):], text[:start].count('\n') + 1
+                if name.endswith('.py') and stillborn(name, text, ''):
+                    continue
+                self.tried += 1
+                return part, name, line, text, f'{part} {name}:{line}:{start - text.rfind(chr(10), 0, start) - 1}: {what!r} becomes {new!r}'
+            return None
+
+    def took(self, part, killed, told):
+        """Notes the end of a mutant."""
+        with self.lock:
+            self.tally.setdefault(part, []).append(killed)
+            told = f'{"killed" if killed else "SURVIVES"} {told}'
+            if self.asked.log:
+                with open(self.asked.log, 'a', encoding='utf-8') as log:
+                    log.write(told + '\n')
+            if not killed or not sys.stdout.isatty():
+                print(f'{told} [{sum(map(len, self.tally.values()))}, {time.monotonic() - self.began:.0f} s]', flush=True)
+
+    def work(self, tree, known):
+        """One copy of the tree takes mutants until there are enough."""
+        while one := self.next():
+            part, name, line, text, told = one
+            killed, said = tree.changed(name, text, tests(tree, known, part, name, line))
+            if killed and stillborn(name, text, said):
+                with self.lock:
+                    self.tried -= 1
+                continue
+            self.took(part, killed, told)
+
+    def end(self):
+        for part, found in self.tally.items():
+            print(f'mutants: {part}: {sum(found)} of {len(found)} killed')
+        every = [killed for found in self.tally.values() for killed in found]
+        if every:
+            share = 100 * sum(every) / len(every)
+            print(f'mutants: {sum(every)} of {len(every)} killed, {share:.1f} %, seed {self.asked.seed}, {"long" if self.asked.long else "short"} run')
 
 
 def main():
     words = argparse.ArgumentParser(description=__doc__.split('\n\n')[0])
     words.add_argument('--seed', type=int, default=1)
     words.add_argument('--count', type=int, default=300)
-    words.add_argument('--skip', type=int, default=0, help='so many of the first are left out')
     words.add_argument('--only', default='')
+    words.add_argument('--jobs', type=int, default=1)
+    words.add_argument('--again', default='')
     words.add_argument('--long', action='store_true')
     words.add_argument('--list', action='store_true')
     words.add_argument('--log', default='')
     words.add_argument('--map', default='')
     asked = words.parse_args()
-    only = set(filter(None, asked.only.split(',')))
-    tree = None if asked.list else Tree(asked.long)
-    if tree:
-        tree.baseline([part for part, _, _ in AREAS if not only or part in only])
-    known = seen.made(tree, asked.map) if tree and asked.map else None
-    tally, tried, drawn, began = {}, 0, 0, time.monotonic()
-    for part, name, line, what, new, text in mutants(asked.seed, asked.count, only):
-        if tried == asked.count:
-            break
-        if name.endswith('.py') and stillborn(name, text, ''):
-            continue
-        drawn += 1
-        if drawn <= asked.skip:
-            continue
-        told = f'{part} {name}:{line}: {what!r} becomes {new!r}'
-        if asked.list:
-            print(told)
-            tried += 1
-            continue
-        killed, said = tree.changed(name, text, tests(tree, known, part, name, line))
-        if killed and stillborn(name, text, said):
-            continue
-        tried += 1
-        tally.setdefault(part, []).append(killed)
-        told = f'{"killed" if killed else "SURVIVES"} {told}'
-        if asked.log:
-            with open(asked.log, 'a', encoding='utf-8') as log:
-                log.write(told + '\n')
-        if not killed or not sys.stdout.isatty():
-            print(f'{told} [{tried}, {time.monotonic() - began:.0f} s]', flush=True)
-    for part, found in tally.items():
-        print(f'mutants: {part}: {sum(found)} of {len(found)} killed')
-    every = [killed for found in tally.values() for killed in found]
-    if every:
-        print(f'mutants: {sum(every)} of {len(every)} killed, {100 * sum(every) / len(every):.1f} %, seed {asked.seed}, {"long" if asked.long else "short"} run')
+    run = Run(asked)
+    if asked.list:
+        while one := run.next():
+            print(one[-1])
+        return
+    trees = [Tree(asked.long) for _ in range(asked.jobs)]
+    trees[0].baseline(run.parts)
+    known = seen.made(trees[0], asked.map) if asked.map else None
+    threads = [threading.Thread(target=run.work, args=(tree, known)) for tree in trees]
+    for thread in threads:
+        thread.start()
+    for thread in threads:
+        thread.join()
+    run.end()
 
 
 if __name__ == '__main__':

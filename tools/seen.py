@@ -5,6 +5,7 @@ Used by tools/mutants.py --map FILE, so that a change is tried by the tests that
 is not seen: such a line is tried by the tests that import its file or run any line of it.
 """
 
+import hashlib
 import json
 import re
 from pathlib import Path
@@ -13,6 +14,8 @@ from tried import PYTHON
 
 PACKAGE = 'desk/src/wengeludo'
 SECONDS = 25  # tests that take longer together are cut off: that can only leave a change unseen
+SETTINGS_TEST = 'tests/test_settings.py'  # the constants of every module
+SCRIPTS = ['tests/test_scripts.py', 'tests/test_shown.py']  # what runs the pages' scripts
 SETTINGS = '[run]\ndynamic_context = test_function\nsource = {source}\ndata_file = {data}\n'
 LISTED = """
 import coverage, json
@@ -23,16 +26,34 @@ print(json.dumps({{name: data.contexts_by_lineno(name) for name in data.measured
 
 
 def made(tree, path):
-    """The map, read from a file, or made by running the desk's tests in a copy of the tree and written there."""
-    if not Path(path).exists():
-        settings, data = tree.path / 'seen.rc', str(tree.path / 'seen.data')
-        settings.write_text(SETTINGS.format(source=tree.path / PACKAGE, data=data))
-        tree.binding()
-        words = [PYTHON, '-m', 'coverage', 'run', f'--rcfile={settings}', '-m', 'pytest', '-q', '-p', 'no:cacheprovider', '--durations=0', '--durations-min=0']
-        said = tree.run([*words, *tree.desk_files('')], 'desk', last=1_000_000)[1]
-        lines = json.loads(tree.run([PYTHON, '-c', LISTED.format(data=data)], last=100_000_000)[1])
-        Path(path).write_text(json.dumps(told(lines, said)))
-    return json.loads(Path(path).read_text())
+    """The map, read from a file and written there; what a test file runs is looked at anew if its text or the desk's has changed."""
+    kept = json.loads(Path(path).read_text()) if Path(path).exists() else {}
+    package = hashlib.sha256(b''.join(one.read_bytes() for one in sorted((tree.path / PACKAGE).rglob('*.py')))).hexdigest()
+    parts = {}
+    for name in tree.desk_files(''):
+        state = package + hashlib.sha256((tree.path / 'desk' / name).read_bytes()).hexdigest()
+        known = kept.get('parts', {}).get(name, {})
+        parts[name] = known if known.get('state') == state else {'state': state, **looked_at(tree, name)}
+        Path(path).write_text(json.dumps({'parts': {**kept.get('parts', {}), **parts}}))
+    seconds = {test: spent for part in parts.values() for test, spent in part['seconds'].items()}
+    files = {}
+    for part in parts.values():
+        for name, lines in part['files'].items():
+            for line, tests in lines.items():
+                files.setdefault(name, {}).setdefault(line, []).extend(tests)
+    return {'seconds': seconds, 'files': {name: {line: sorted(tests, key=seconds.get) for line, tests in lines.items()} for name, lines in files.items()}}
+
+
+def looked_at(tree, name):
+    """What the tests of one file run."""
+    settings, data = tree.path / 'seen.rc', str(tree.path / 'seen.data')
+    settings.write_text(SETTINGS.format(source=tree.path / PACKAGE, data=data))
+    Path(data).unlink(missing_ok=True)
+    tree.binding()
+    words = [PYTHON, '-m', 'coverage', 'run', f'--rcfile={settings}', '-m', 'pytest', '-q', '-p', 'no:cacheprovider', '--durations=0', '--durations-min=0']
+    said = tree.run([*words, name], 'desk', last=1_000_000)[1]
+    lines = json.loads(tree.run([PYTHON, '-c', LISTED.format(data=data)], last=100_000_000)[1]) if Path(data).exists() else {}
+    return told(lines, said)
 
 
 def told(lines, said):
@@ -57,9 +78,11 @@ def importing(tree, name):
 def tests(tree, seen, name, lines):
     """The tests that run some lines of a file; if these belong to its import or to another process, those that import the file or run any of its
     lines."""
+    if name.endswith('.js'):
+        return SCRIPTS
     found = seen['files'].get(name, {})
     own = {one for line in lines for one in found.get(str(line), ())}
-    taken = [] if own else importing(tree, name)
+    taken = [] if own else [SETTINGS_TEST, *importing(tree, name)]
     every = sorted(own or {one for some in found.values() for one in some}, key=seen['seconds'].get)
     spent = 0.0
     for one in every:

@@ -24,6 +24,7 @@ FIRST = {
     'keep': ('runs', 'kept_lists', 'book', 'batch', 'upgrade', 'stores'), 'cli': ('commands', 'golden', 'runs', 'book'), 'history': ('history',),
     'serve': ('serve', 'serve_any'),
 }
+BROWSED = ('page', 'live', 'serve_browser')
 NEVER = ('install', 'page')  # those of desk/install.sh, and those that open a browser
 # Tests that need servers or many rows are run for changes of these packages alone: that can only leave a change unseen.
 NEEDED = {'history': ('history', 'balance'), 'stores': ('keep', 'cli'), 'upgrade': ('keep', 'cli'), 'book': ('keep', 'cli', 'balance'), 'batch': ('keep', 'cli'),
@@ -114,6 +115,11 @@ class Tree:
                                                for start, packages in NEEDED.items()) or not changed]
         rank = {name: k for k, name in enumerate(first)}
         return [f'tests/{path.name}' for path in sorted(files, key=lambda path: (rank.get(path.stem[5:], 99), path.stat().st_size))]
+
+    def browsed(self, changed):
+        """Test files of the long run alone, which open a browser, for a change of what it shows."""
+        shown = any(f'/{package}/' in changed for package in ('write', 'serve', 'history'))
+        return [f'tests/test_{name}.py' for name in BROWSED] if shown else []
 
     def baseline(self, parts):
         """Runs the tests of the tree as it is; a failure ends the program. Those of pytest are looked at when one sees something (`sound`)."""

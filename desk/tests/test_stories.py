@@ -17,7 +17,7 @@ from datetime import datetime
 from pathlib import Path
 
 import pytest
-from conftest import SAMPLES
+from conftest import SAMPLES, Ended
 
 from wengeludo.cli import cli
 from wengeludo.history import page as history_page
@@ -78,7 +78,7 @@ def story(run, monkeypatch, tmp_path):
     for module in (spots, layout):
         monkeypatch.setattr(module, "graphviz", drawn)
 
-    def tell(name):
+    def tell(name, run=run):
         path = FOLDER / f"{name}.txt"
         asked = path.read_text(encoding="utf-8")
         blocks = [block for block in re.split(r"^(?=[$#])", asked, flags=re.M) if block]
@@ -105,6 +105,8 @@ def _told(block, run, folder):
 def _said(words, own, run):
     """What a command says."""
     name, *rest = words
+    if name == "browser":
+        return run(*rest).out
     if name == "put":
         Path(rest[0]).parent.mkdir(parents=True, exist_ok=True)
         Path(rest[0]).write_text("".join(f"{line}\n" for line in own), encoding="utf-8")
@@ -152,9 +154,45 @@ def _shown(path):
         return path.read_bytes().hex("\n", 16)
     text = path.read_text(encoding="utf-8-sig")
     if path.suffix in (".html", ".svg"):
-        text = re.sub(r"<(style|script)\b[^>]*>.*?</\1>", "", text, flags=re.S)
-        text = re.sub(r">\s*<", ">\n<", text)
+        text = _tags(text)
     return text
+
+
+class Browser:
+    """A browser at the desk: `take LIST`, `get ADDRESS`, `de ADDRESS` in German, `part ADDRESS`, `post ADDRESS NAME=VALUE ...`."""
+
+    def __init__(self, folder):
+        from test_serve import BASE, HOST, KEY, csrf
+        from wengeludo.serve.app import application
+        from wengeludo.serve.door import Door
+        from wengeludo.serve.shelf import Shelf
+
+        (folder / "runs").mkdir()
+        (folder / "runs" / "one.html").write_text("<title>a run</title>")
+        self.base, self.shelf = BASE, Shelf.opened(str(folder / "site.book"), folder / "runs")
+        self.client = application(self.shelf, Door((HOST,), key=KEY)).test_client()
+        self.client.get(f"/?key={KEY}", **BASE)
+        self.token = csrf(self.client)
+
+    def __call__(self, verb, *words):
+        from wengeludo.balance.site import read_site
+
+        if verb == "take":
+            return Ended(0, f"{self.shelf.take(read_site(Path(words[0])), words[0], 'engineer')}\n", "")
+        heads = {"Accept-Language": "de" if verb == "de" else "en"} | ({"X-Part": "1"} if verb == "part" else {})
+        if verb == "post":
+            answer = self.client.post(words[0], data={"csrf": self.token, **dict(word.split("=", 1) for word in words[1:])}, headers=heads, **self.base)
+        else:
+            answer = self.client.get(words[0], headers=heads, **self.base)
+        text = _tags(re.sub(r"<svg\b.*?</svg>", "", json.dumps(answer.json, indent=0, ensure_ascii=False) if answer.json else answer.text, flags=re.S))
+        text = re.sub(r'(?<=[?])[0-9a-f]{8}\b|(?<=name=\\"csrf\\" value=\\")[^"]+(?=\\")|(?<=name="csrf" value=")[^"]+|\b[0-9a-f]{32}\b', "...", text)
+        return Ended(0, f"{answer.status_code} {answer.headers.get('Location', '')} {answer.headers.get('Content-Disposition', '')}\n{text}\n", "")
+
+
+def _tags(text):
+    """A page tag by tag, without styles and scripts."""
+    text = re.sub(r"<(style|script)\b[^>]*>.*?</\1>", "", text, flags=re.S)
+    return re.sub(r"\n\s*\n+", "\n", re.sub(r">\s*<", ">\n<", text))
 
 
 def _cells(path):
@@ -194,6 +232,11 @@ def test_lists(story):
 
 def test_pages(story):
     story("pages")
+
+
+def test_serve(story, tmp_path):
+    pytest.importorskip("flask", reason="the desk is not served, as there is no Flask (apt-get install python3-flask)")
+    story("serve", Browser(tmp_path))
 
 
 def test_every_story_is_told():
