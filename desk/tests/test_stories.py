@@ -133,10 +133,15 @@ def _options(command, path="wengeludo"):
     """What each command takes, and what it says of that."""
     yield f"{path}: {command.help}".replace("\n", " ")
     for one in command.params:
-        words = (one.human_readable_name, one.opts, re.sub(r" object at 0x\w+", "", repr(one.type)), one.default() if callable(one.default) else one.default, one.required, one.multiple, one.nargs)
+        words = (one.human_readable_name, one.opts, _type(one.type), one.default() if callable(one.default) else one.default, one.required, one.multiple, one.nargs)
         yield f"  {words} {getattr(one, 'is_flag', '')} {getattr(one, 'show_default', '')} {getattr(one, 'help', '') or ''}"
     for name, inner in sorted(getattr(command, "commands", {}).items()):
         yield from _options(inner, f"{path} {name}")
+
+
+def _type(kind):
+    """A type of an option: its name and what it takes."""
+    return " ".join([kind.name, *(f"{name}={getattr(kind, name)}" for name in ("choices", "min", "max") if getattr(kind, name, None) is not None)])
 
 
 def _answered(run, own, words):
@@ -169,6 +174,7 @@ class Browser:
 
         (folder / "runs").mkdir()
         (folder / "runs" / "one.html").write_text("<title>a run</title>")
+        os.utime(folder / "runs" / "one.html", (1_760_000_000, 1_760_000_000))
         self.base, self.shelf = BASE, Shelf.opened(str(folder / "site.book"), folder / "runs")
         self.client = application(self.shelf, Door((HOST,), key=KEY)).test_client()
         self.client.get(f"/?key={KEY}", **BASE)

@@ -15,6 +15,7 @@ import wengeludo_balance as engine
 from ..balance.sheet import VERDICT, balance
 from ..explain import rules
 from ..explain.why import overfull
+from ..keep.batch import How
 from ..keep.batch import run as run_batch
 from ..keep.batch import summary_of
 from ..keep.book import Book, Draft
@@ -29,7 +30,7 @@ from ..read.grids import read_bytes
 from ..write import outputs, terminal
 from .books import WHO, progress
 from .named import BOOK, BookType, HourType, ReferenceType
-from .options import FAILED, FILE, LIST, OFFICE, OUTPUT, REFUSED, UNIT, site_in
+from .options import FAILED, FILE, LIST, OFFICE, OUTPUT, REFUSED, SAID, UNIT, said, site_in
 
 DRAWINGS = {".html", ".svg"}  # files with a drawing in them
 
@@ -131,12 +132,13 @@ def check(plant: Path, sheet: Path, numbers: Path) -> int:
 @click.option("--book", type=BookType(), help="Keep every sheet in this book, each once: a run that was cut off goes on where it stopped.")
 @OFFICE
 @UNIT
+@SAID
 @click.option("--jobs", type=click.IntRange(1, 256), help="Processes at a time; by default one for each core.")
 def batch(folder: Path, summary: Path, book: Optional[str], office: int, unit: Optional[Fraction], jobs: Optional[int]) -> int:
     """Balances every list and plant file of FOLDER: a line for each, and a chart of the cost over time."""
     summary_of(folder, summary)
     with nullcontext() if book is None else Book(book, make=not is_server(book)) as kept, progress("sheets") as told:
-        done = run_batch(folder, summary, unit, kept, office, jobs, told)
+        done = run_batch(folder, summary, How(unit, said()), kept, office, jobs, told)
     outputs.write(summary.with_suffix(".svg"), chart(done, folder.resolve().name).encode())
     counts = {word: sum(o.cells[0] == word for o in done) for word in ("pass", "close", "fail", "none", "not judged", "no flow in range", "fault")}
     summed = ", ".join(f"{count:,} {word}" for word, count in counts.items() if count)

@@ -46,18 +46,22 @@ def _said(context: click.Context, option: click.Parameter, value: Any) -> None:
     context.meta[f"wengeludo.{option.name}"] = value
 
 
-def LIST(command: F) -> F:
-    """The list that a command reads, and what a user may say of it."""
+def SAID(command: F) -> F:
+    """What a user may say of a list, or of every list of a folder."""
     words = {"point": ".", ".": ".", "comma": ",", ",": ","}
     for option in (
         click.option("--lang", type=click.Choice(["en", "de"]), expose_value=False, callback=_said, help="Numbers and headings in English or German; by default as the list has them."),
         click.option("--floor", type=FloorType(), expose_value=False, callback=_said, help="No accuracy that is a share of a reading is below this one."),
         click.option("--decimal", type=click.Choice(list(words)), metavar="point|comma", expose_value=False, callback=lambda c, o, v: _said(c, o, words.get(v)),
                      help="The decimal mark of the list, if its numbers do not show it."),
-        click.argument("list", type=FILE, metavar="LIST"),
     ):
         command = option(command)
     return command
+
+
+def LIST(command: F) -> F:
+    """The list that a command reads, and what a user may say of it."""
+    return click.argument("list", type=FILE, metavar="LIST")(SAID(command))
 
 
 def said() -> Asked:

@@ -19,12 +19,21 @@ from ..balance.checked import Checked
 from ..balance.sheet import Balance, balance
 from ..balance.site import Site, site_in
 from ..read.faults import Stopped
+from ..read.lists import Asked
 from .book import Book, Draft, Receipt, someone
 from .record import KIND, content_key
 
 HEAD = ("file", "verdict", "cost", "limit", "degrees", "blanks", "worst", "worst σ", "unit", "office", "sheet", "fault")
 SUFFIXES = (".csv", ".xlsx", ".bin")
 CHUNK = 64
+
+
+@dataclass(frozen=True)
+class How:
+    """How the lists of a folder are read: the unit of their flows, and what the user says of them all."""
+
+    unit: Optional[Fraction] = None
+    said: Asked = Asked()
 
 
 @dataclass(frozen=True)
@@ -55,10 +64,10 @@ def files_in(folder: Path) -> List[Path]:
     return [p for p in found if not p.name.endswith(".places.csv") and not p.name.startswith(".")]
 
 
-def outcome(path: Path, unit: Optional[Fraction], keep: bool = False) -> Outcome:
+def outcome(path: Path, how: How = How(), keep: bool = False) -> Outcome:
     """What one file comes to; a fault is a line like any other."""
     try:
-        site = site_in(path, unit)
+        site = site_in(path, how.unit, how.said)
         drawn = balance(site, estimated=False)
     except (Stopped, engine.Refusal, OSError) as error:
         return Outcome(path.name, ("fault", *[""] * 9, " | ".join(str(error).splitlines())))
@@ -78,14 +87,14 @@ def _cells(drawn: Balance) -> Tuple[object, ...]:
     return (verdict, drawn.cost, limit, drawn.degrees, len(drawn.blanks), *off, unit, "", "", "")
 
 
-def _work(task: Tuple[Sequence[Path], Optional[Fraction], bool]) -> List[Outcome]:
-    paths, unit, keep = task
-    return [outcome(path, unit, keep) for path in paths]
+def _work(task: Tuple[Sequence[Path], How, bool]) -> List[Outcome]:
+    paths, how, keep = task
+    return [outcome(path, how, keep) for path in paths]
 
 
-def outcomes(paths: Sequence[Path], unit: Optional[Fraction], keep: bool, jobs: int) -> Iterator[List[Outcome]]:
+def outcomes(paths: Sequence[Path], how: How, keep: bool, jobs: int) -> Iterator[List[Outcome]]:
     """What the files come to, in their order, some at a time."""
-    tasks = [(paths[at : at + CHUNK], unit, keep) for at in range(0, len(paths), CHUNK)]
+    tasks = [(paths[at : at + CHUNK], how, keep) for at in range(0, len(paths), CHUNK)]
     if jobs < 2 or len(tasks) < 2:
         yield from map(_work, tasks)
         return
@@ -114,25 +123,31 @@ def summary_of(folder: Path, summary: Path) -> Path:
 def _is_summary(path: Path) -> bool:
     """Whether a file is the summary of an earlier run."""
     with open(path, encoding="utf-8", errors="replace", newline="") as file:
-        return next(csv.reader(file), []) == list(HEAD)
+        return file.readline().rstrip("\r\n") in (",".join(HEAD), ";".join(HEAD))
 
 
-def run(folder: Path, summary: Path, unit: Optional[Fraction] = None, book: Optional[Book] = None, office: int = 0,
+def run(folder: Path, summary: Path, how: How = How(), book: Optional[Book] = None, office: int = 0,
         jobs: Optional[int] = None, told: Callable[[int, int], None] = lambda done, of: None) -> List[Outcome]:
     """Balances every file of a folder; the summary is written as it grows. With a book each list is kept once by its content, whatever
     runs beside it and wherever its folder lies, so that a run that was cut off goes on where it stopped."""
     paths = [p for p in files_in(folder) if p.resolve() != summary_of(folder, summary).resolve()]
     done: List[Outcome] = []
     with open(summary, "w", newline="", encoding="utf-8") as file:
-        writer = csv.writer(file)
+        german = how.said.lang == "de"
+        writer = csv.writer(file, delimiter=";" if german else ",")
         writer.writerow(HEAD)
-        for some in outcomes(paths, unit, book is not None, jobs or os.cpu_count() or 1):
+        for some in outcomes(paths, how, book is not None, jobs or os.cpu_count() or 1):
             kept = _kept(some, folder, book, office) if book else some
-            writer.writerows((o.file, *o.cells) for o in kept)
+            writer.writerows(_written(o, german) for o in kept)
             file.flush()
             done += [replace(o, site=None, checked=None) for o in kept]
             told(len(done), len(paths))
     return done
+
+
+def _written(line: Outcome, german: bool) -> List[object]:
+    """A line of the summary, numbers as its language writes them."""
+    return [str(cell).replace(".", ",") if german and (isinstance(cell, float) or name == "unit") else cell for name, cell in zip(HEAD, (line.file, *line.cells))]
 
 
 def _kept(some: List[Outcome], folder: Path, book: Book, office: int) -> List[Outcome]:

@@ -8,13 +8,13 @@ import re
 from dataclasses import dataclass, field
 from fractions import Fraction
 from pathlib import Path
-from typing import Callable, Dict, FrozenSet, List, Mapping, Optional, Tuple, TypeVar
+from typing import Callable, Dict, FrozenSet, List, Mapping, Optional, Sequence, Tuple, TypeVar
 
 from .columns import AMOUNTS, COLUMNS, MORE, NUMBERS, OUTSIDE, is_outside, known_words, language_of, results_of, word
 from .faults import Fault, Faulty, Stopped
 from .flow_units import KNOWN, flow_unit, split_heading, split_unit
 from .grids import Grid, is_header, read_grid
-from .hours import hour_within
+from .hours import hour_from, hour_within
 from .numbers import COMMA, KG, POINT, Accuracy, Held, Marks, accuracy, amount, gives_none, marks_of, whole
 from .places import drawable, spots_in
 from .texts import legible
@@ -23,6 +23,7 @@ MOST_STREAMS, MOST_UNITS = 96, 32
 MOST_READING, MOST_RANGE = 4e12, 2e15
 MOST_PRICE, MOST_RATE = 1_000_000, 1_000_000
 MOST_ROWS, MOST_FAULTS = 200, 200  # rows of streams that are looked at, and faults that are told
+HOURS = ("hour", "time", "stunde", "zeit", "zeitpunkt")  # columns that may tell the hour of the readings
 MOST_ABOVE = 2_000  # letters above the header in which an hour is looked for
 T = TypeVar("T")
 
@@ -86,7 +87,7 @@ class PipeList:
     spots: Mapping[int, Tuple[float, float]] = field(default_factory=dict)
     told: Tuple[str, ...] = ()
     form: Form = Form()
-    hour: str = ""  # of the readings, if the lines above the header tell it
+    hour: str = ""  # of the readings, if the lines above the header or a column tell it
 
     def find(self, label: str) -> int:
         """The index of the stream with this label; Stopped if there is none."""
@@ -145,7 +146,13 @@ class _Reader:
         self.tell()
         form = FORMS[self.asked.lang] if self.asked.lang else Form(self.lang, self.grid.separator, self.marks.decimal)
         self.names[0] = word(OUTSIDE, form.lang)
-        return PipeList(legible(self.path.stem) or "list", tuple(pipes), tuple(self.names), tuple(self.extras), spots, tuple(self.told), form, hour_within(above[:MOST_ABOVE]) or "")
+        return PipeList(legible(self.path.stem) or "list", tuple(pipes), tuple(self.names), tuple(self.extras), spots, tuple(self.told), form, hour_within(above[:MOST_ABOVE]) or self.hour(rows))
+
+    def hour(self, rows: Sequence[Tuple[int, List[str]]]) -> str:
+        """The hour that a column of the user's own tells, the same in every row that tells one; nothing if there is none, or several."""
+        columns = [at for name, at in self.extras.items() if name.casefold() in HOURS]
+        found = {hour_from(row[at]) for _, row in rows for at in columns if at < len(row) and row[at].strip()}
+        return (found.pop() or "") if len(found) == 1 else ""
 
     def fault(self, wanted: str, row: Optional[int] = None, column: Optional[str] = None, stream: Optional[str] = None,
               found: Optional[str] = None) -> None:

@@ -110,7 +110,7 @@ def _row(balance: Balance, k: int) -> Row:
         return Row((*names, *cells, *pipe.extra), (k, *names[1:], *ends, *pipe.extra), "", "")
     line = balance.lines[k]
     moved = correction(line)
-    numbers = (pipe.reading, line.flow, moved, line.sigmas if moved is not None else None, line.test and abs(line.test), line.spread)
+    numbers = (pipe.reading, line.flow, moved, line.sigmas if moved is not None else None, None if line.test is None else abs(line.test), line.spread)
     how = SHORT[line.kind] + (f", at its {line.held} end" if line.held else "") + (", backwards" if (line.flow or 0) < 0 else "")
     mark = "worst" if k in balance.worst else "notable" if line.notable else ""
     cells = (*names, *_texts(balance, numbers), how, *pipe.extra)
