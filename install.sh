@@ -1,5 +1,5 @@
 #!/usr/bin/env bash
-# Installs the library that `rt staticlib linked` has proved and written, for C, C++ and Rust programs on 64-bit Linux.
+# Installs the library that `rt staticlib wengeludo` has proved and written, for C, C++ and Rust programs on 64-bit Linux.
 #
 #     bash install.sh [--target TARGET] [--unproved] PREFIX   the archive, the shared library, headers, pkg-config and CMake files,
 #                                                             manual pages, and a list of all that was put there
@@ -10,7 +10,7 @@
 #
 # DESTDIR (default: none)    a folder before PREFIX in which the files are put, for who makes a package
 # LIBDIR (default: lib)      the folder of libraries below PREFIX, as lib/x86_64-linux-gnu, or with a / before it anywhere
-# WENGELUDO_ARCHIVE          another archive than target/staticlib/liblinked.a
+# WENGELUDO_ARCHIVE          another archive than target/staticlib/libwengeludo.a
 # CC (default: cc)           makes the shared library from the archive
 set -eu
 here=$(cd "$(dirname "$0")" && pwd)
@@ -73,9 +73,9 @@ fi
 need() { command -v "$1" >/dev/null || fail "no $1: $2"; }
 need python3 "the manual pages are made from the header by a script (Debian: apt-get install python3)"
 calls="$(python3 "$here/packaging/install/man.py" --names) wengeludo_refusal_text"
-archive=${WENGELUDO_ARCHIVE:-$here/target/staticlib/liblinked.a}
+archive=${WENGELUDO_ARCHIVE:-$here/target/staticlib/libwengeludo.a}
 [ "$target" = x86_64 ] || archive=${WENGELUDO_ARCHIVE:-$here/target/cross/$target.a}
-how="build it with 'rt staticlib linked'"
+how="build it with 'rt staticlib wengeludo'"
 [ "$target" = x86_64 ] || how="build it with 'bash packaging/cross/build.sh $target target/cross/$target.a'"
 [ -e "$archive" ] || fail "no $archive: $how"
 need "${CC:-cc}" "the shared library is made by a C compiler (Debian: apt-get install gcc libc6-dev) or name one in CC"

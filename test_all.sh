@@ -96,7 +96,7 @@ if part "texts that are made from lists and samples, and what is to be believed"
     python3 tools/spdx.py || ! long
 fi
 part "the archive"
-rt staticlib linked
+rt staticlib wengeludo
 if part "the archive's bytes" python3; then
     python3 tools/archive.py
 fi

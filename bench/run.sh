@@ -54,12 +54,12 @@ done
 [ $# -le 3 ] || usage
 for word in "$@"; do [[ $word =~ ^[0-9]+$ ]] || usage; done
 words+=${*:+ $*}
-if [ ! -e target/staticlib/liblinked.a ]; then
-    echo "no target/staticlib/liblinked.a: building it with 'rt staticlib linked'" >&2
+if [ ! -e target/staticlib/libwengeludo.a ]; then
+    echo "no target/staticlib/libwengeludo.a: building it with 'rt staticlib wengeludo'" >&2
     need rt "the Rattle kit (rattle-kit-5 or later)"
-    rt staticlib linked >&2
+    rt staticlib wengeludo >&2
 fi
-library=$(object library target/staticlib/liblinked.a)
+library=$(object library target/staticlib/libwengeludo.a)
 bash bench/peers/build.sh "$out/peers" >"$out/peers.txt"
 while read -r peer; do options+=(--peer "$peer"); done <"$out/peers.txt"
 (cd bench && cargo build --release --offline --quiet)

@@ -8,7 +8,7 @@
 # WENGELUDO_INCLUDE           the folder of that archive's header, if it is not that of this tree
 # WENGELUDO_APT=no            names Debian's packages that are missing, and installs none
 #
-# Without an archive it is built by `rt staticlib linked`, which proves it (minutes the first time). A second run takes seconds: what is
+# Without an archive it is built by `rt staticlib wengeludo`, which proves it (minutes the first time). A second run takes seconds: what is
 # there is left alone, and binding and tool are put in place anew.
 # SPDX-License-Identifier: LicenseRef-Wengeludo
 set -eu
@@ -55,11 +55,11 @@ if [ -n "$missing" ]; then
 fi
 
 if [ -z "$archive" ]; then
-    archive=$root/target/staticlib/liblinked.a
+    archive=$root/target/staticlib/libwengeludo.a
     if [ ! -e "$archive" ]; then
         command -v rt >/dev/null || fail "no archive, and no rt on the PATH to build it: install the Rattle kit, or hand over an archive with --archive FILE"
         say "the engine's archive, proved while it is built (minutes the first time)"
-        (cd "$root" && quietly rt staticlib linked) || fail "rt staticlib linked did not succeed"
+        (cd "$root" && quietly rt staticlib wengeludo) || fail "rt staticlib wengeludo did not succeed"
     fi
 fi
 
@@ -69,7 +69,7 @@ say "binding and tool in $home, run by $python ($("$python" --version))"
 mkdir -p "$prefix/bin" "$home"
 [ -x "$home/bin/python3" ] || "$python" -m venv --system-site-packages "$home"
 export WENGELUDO_INCLUDE="${WENGELUDO_INCLUDE:-$root/include}" WENGELUDO_ARCHIVE="$archive"
-if [ ! -e "$root/target/cross/wengeludo.wasm" ] && command -v rt >/dev/null && [ -e "$root/target/staticlib/liblinked.a" ]; then
+if [ ! -e "$root/target/cross/wengeludo.wasm" ] && command -v rt >/dev/null && [ -e "$root/target/staticlib/libwengeludo.a" ]; then
     say "the engine's WebAssembly, for pages that recompute by themselves"
     bash "$root/packaging/cross/build.sh" wasm32 "$root/target/cross/wengeludo.wasm" >/dev/null 2>&1 || say "not built: wengeludo sheet --live is left out"
 fi

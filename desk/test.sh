@@ -41,7 +41,7 @@ fi
     echo "desk: no histories on a cluster are tested, as there is no dask.distributed (apt-get install python3-distributed)"
 home=$PWD/target/desk
 [ -x "$home/bin/python3" ] || "$python" -m venv --system-site-packages "$home"
-export WENGELUDO_INCLUDE="${WENGELUDO_INCLUDE:-$PWD/include}" WENGELUDO_ARCHIVE="${WENGELUDO_ARCHIVE:-$PWD/target/staticlib/liblinked.a}"
+export WENGELUDO_INCLUDE="${WENGELUDO_INCLUDE:-$PWD/include}" WENGELUDO_ARCHIVE="${WENGELUDO_ARCHIVE:-$PWD/target/staticlib/libwengeludo.a}"
 build=$(mktemp -d)
 trap 'rm -rf "$build"' EXIT
 for part in bindings/python desk; do

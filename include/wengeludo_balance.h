@@ -1,7 +1,7 @@
 /* Steam and condensate balance sheets: the calls of libwengeludo.
  *
- * `bash install.sh PREFIX` puts the library where a compiler finds it (-lwengeludo), for x86-64 Linux; `rt staticlib linked`
- * proves it and writes target/staticlib/liblinked.a, which is the same archive, to be linked as it is. For 64-bit Linux on ARM and
+ * `bash install.sh PREFIX` puts the library where a compiler finds it (-lwengeludo), for x86-64 Linux; `rt staticlib wengeludo`
+ * proves it and writes target/staticlib/libwengeludo.a, which is the same archive, to be linked as it is. For 64-bit Linux on ARM and
  * RISC-V packaging/cross/build.sh compiles the module of that proof. Lengths and counts have 64 bits: size_t has them on all three. In
  * WebAssembly of 32 bits size_t has fewer and the calls take 64-bit numbers all the same: see packaging/cross/lengths.h.
  * It needs nothing but the C library (memcpy, memset). The calls keep no state, allocate nothing, take less than

@@ -5,13 +5,13 @@
 # SPDX-License-Identifier: LicenseRef-Wengeludo
 set -eu
 cd "$(dirname "$0")/.."
-archive=target/staticlib/liblinked.a
+archive=target/staticlib/libwengeludo.a
 if ! command -v "${CC:-cc}" >/dev/null; then
     echo "no C compiler: install one (Debian: apt-get install gcc libc6-dev) or name it in CC" >&2
     exit 2
 fi
 if [ ! -e "$archive" ]; then
-    echo "no $archive: build it with 'rt staticlib linked' (Rattle kit rattle-kit-5 or later)" >&2
+    echo "no $archive: build it with 'rt staticlib wengeludo' (Rattle kit rattle-kit-5 or later)" >&2
     exit 2
 fi
 host=${1:-target/built}

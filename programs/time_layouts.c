@@ -1,7 +1,7 @@
 /* Times the survey of meter layouts on plants of 12 streams: a path, a star, a plant of 4 places, a path from the last place, a
  * ring of 6 places twice. Prints for each the least and the mean processor time of 300 calls, in microseconds.
  *
- *     cc -O2 -I include programs/time_layouts.c target/staticlib/liblinked.a -o target/built/time_layouts
+ *     cc -O2 -I include programs/time_layouts.c target/staticlib/libwengeludo.a -o target/built/time_layouts
  */
 /* SPDX-License-Identifier: LicenseRef-Wengeludo */
 #include <stdio.h>

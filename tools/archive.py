@@ -2,7 +2,7 @@
 # SPDX-License-Identifier: LicenseRef-Wengeludo
 """The archive is the same byte for byte wherever it is built: its SHA-256 stands in docs/MEASURED.md, beside the kit that wrote it.
 
-    python3 tools/archive.py                    compares target/staticlib/liblinked.a with it, where the kit is the same
+    python3 tools/archive.py                    compares target/staticlib/libwengeludo.a with it, where the kit is the same
     python3 tools/archive.py --write            records it, after a change of the engine or of the kit, and those of the other
                                                      processors, which it builds by packaging/cross/build.sh
     python3 tools/archive.py --of TARGET FILE   compares what packaging/cross/build.sh has built for another processor
@@ -15,7 +15,7 @@ import subprocess
 import sys
 
 ROOT = os.path.abspath(os.path.join(os.path.dirname(__file__), '..'))
-ARCHIVE = os.path.join(ROOT, 'target', 'staticlib', 'liblinked.a')
+ARCHIVE = os.path.join(ROOT, 'target', 'staticlib', 'libwengeludo.a')
 TEXT = os.path.join(ROOT, 'docs', 'MEASURED.md')
 ROW = re.compile(r'^\| `(rattle-[^`]+)` \| `([0-9a-f]{64})` \| ([0-9,]+) \|$', re.M)
 TARGETS = {'aarch64': 'aarch64.a', 'riscv64': 'riscv64.a', 'wasm32': 'wengeludo.wasm'}  # what each is built as, in target/cross
@@ -84,7 +84,7 @@ def main(words):
     if words not in ([], ['--write']) and not (len(words) == 3 and words[0] == '--of' and words[1] in TARGETS):
         sys.exit('usage: python3 tools/archive.py [--write | --of TARGET FILE]')
     if shutil.which('rt') is None or not os.path.exists(ARCHIVE):
-        sys.exit('archive: build it first, with `rt staticlib linked` (Rattle kit rattle-kit-5 or later)')
+        sys.exit('archive: build it first, with `rt staticlib wengeludo` (Rattle kit rattle-kit-5 or later)')
     kit = subprocess.run(['rt', 'version'], capture_output=True, text=True, check=True).stdout.strip()
     if len(ROW.findall(text_of())) != 1:
         sys.exit('archive: docs/MEASURED.md does not have one row with a kit and a SHA-256')

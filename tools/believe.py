@@ -5,7 +5,7 @@
     python3 tools/believe.py --names    also each file's names
     python3 tools/believe.py --table    the rows of the lists, with their counts
 
-It begins at the contracts of the exported calls (crates/linked/src) and of the calls that the programs print by, and at the theorems of
+It begins at the contracts of the exported calls (crates/wengeludo/src) and of the calls that the programs print by, and at the theorems of
 the record `Promises`, which stands above them, reads the names in each, finds the definition of each name in specs/ or in a declared struct or enum,
 and goes on from there. A name of the kit ends the way. Names that need not be read are those below: what a call ensures and how files are
 read, where a theorem begins with it and its sentences leave nothing open.
@@ -21,7 +21,7 @@ CRATES = ROOT / "crates"
 # What a call ensures, and how files and sheets are read -> the theorem that says what follows, all of it.
 LED_ON = {
     ("sheet_def", "Says", "SheetSays"): "Demands.some and Demands.sentences",
-    ("linked", "Calls", "SheetLent"): "Sheet-calls: the same of the exported call",
+    ("wengeludo", "Calls", "SheetLent"): "Sheet-calls: the same of the exported call",
     ("listing_call", "Says", "ListSays"): "Printed",
     ("sheet_history", "Before", "PlainSays"): "History.before, as-today and plain: what the call promised before there were offices",
     ("visit_def", "Visits", "isListed"): "Meters-worth-a-visit.which",
@@ -33,25 +33,25 @@ LED_ON = {
 
 # What is read for what, each list going on from those above it: its title, the functions whose contracts it begins at, and the theorems.
 SUBJECTS = (
-    ("sheets", {"linked": {"wengeludo_balance_plant", "wengeludo_write_plant", "wengeludo_read_sheet"}},
+    ("sheets", {"wengeludo": {"wengeludo_balance_plant", "wengeludo_write_plant", "wengeludo_read_sheet"}},
      ("plant_def/Says/Longest-file", "plant_def/Says/File-refusals", "plant_def/Refusals/Refused-files", "sheet_def/Demands/Demands",
       "promises/SheetCalls/Sheet-calls")),
     ("the readers and the plant writer as calls of their own",
      {"plant_read": {"read_plant"}, "plant_write": {"write_plant"}, "sheet_read": {"read_sheet"}}, ()),
     ("the offices' sheet numbers", {}, ("sheet_history/History/History",)),
     ("the listing and the programs", {"listing_call": {"list_plant"}, "programs": {"plant_file"}}, ("listing_lines/Room/OneText", "listing_call/Printed/Printed")),
-    ("the translator", {"linked": {"wengeludo_plant_from_transmitter"}},
+    ("the translator", {"wengeludo": {"wengeludo_plant_from_transmitter"}},
      ("transmitter_def/Says/Translated", "transmitter_def/Sendings/Sent-files")),
-    ("the two moves", {"linked": {"wengeludo_to_ranged", "wengeludo_from_ranged"}}, ("ranged_def/Trip/Moving", "ranged_same_sheet/Same/Moved-sheets")),
-    ("meters to buy", {"linked": {"wengeludo_meters_to_buy"}}, ("purchase_def/Says/Meters-to-buy",)),
-    ("layouts of meters", {"linked": {"wengeludo_layouts_of"}, "survey_answers": {"list_layouts"}}, ("survey_def/Says/One-survey",)),
-    ("meters worth a visit", {"linked": {"wengeludo_visits"}, "visit_text": {"list_visits"}},
+    ("the two moves", {"wengeludo": {"wengeludo_to_ranged", "wengeludo_from_ranged"}}, ("ranged_def/Trip/Moving", "ranged_same_sheet/Same/Moved-sheets")),
+    ("meters to buy", {"wengeludo": {"wengeludo_meters_to_buy"}}, ("purchase_def/Says/Meters-to-buy",)),
+    ("layouts of meters", {"wengeludo": {"wengeludo_layouts_of"}, "survey_answers": {"list_layouts"}}, ("survey_def/Says/One-survey",)),
+    ("meters worth a visit", {"wengeludo": {"wengeludo_visits"}, "visit_text": {"list_visits"}},
      ("visit_def/Says/Meters-worth-a-visit",)),
-    ("steam charges", {"linked": {"wengeludo_charges"}}, ("charge_def/Says/Steam-charges",)),
-    ("sheets drawn up elsewhere", {"linked": {"wengeludo_check_sheet", "wengeludo_place_numbers"}},
+    ("steam charges", {"wengeludo": {"wengeludo_charges"}}, ("charge_def/Says/Steam-charges",)),
+    ("sheets drawn up elsewhere", {"wengeludo": {"wengeludo_check_sheet", "wengeludo_place_numbers"}},
      ("foreign_def/Says/Foreign-sheets", "foreign_def/Numbers/Own-numbers")),
-    ("flows found elsewhere", {"linked": {"wengeludo_check_flow"}}, ("certify_sheets/Promise/Flows-found-elsewhere",)),
-    ("bounds, and the record of all promises", {"linked": None}, ("promises/Engine/Engine",)),
+    ("flows found elsewhere", {"wengeludo": {"wengeludo_check_flow"}}, ("certify_sheets/Promise/Flows-found-elsewhere",)),
+    ("bounds, and the record of all promises", {"wengeludo": None}, ("promises/Engine/Engine",)),
 )
 
 NAME = re.compile(r"[^\s(){}\[\],;\"]+")
@@ -121,7 +121,7 @@ class House:
 
     def at(self, module, name):
         """The definition of a name of a module of this repository; None for the kit's."""
-        if re.match(r"Rattle\.linked\.proofs\.\w+\.Statement$", module):  # made by the compiler from a contract, at which the walk begins
+        if re.match(r"Rattle\.wengeludo\.proofs\.\w+\.Statement$", module):  # made by the compiler from a contract, at which the walk begins
             return None
         found = re.match(r"Rattle·(\w+?)(?:·specs\.specs|\.specs)\.(.+)$", module)
         if not found:
@@ -211,9 +211,9 @@ def told(sums):
 
 def unnamed():
     """The exported functions that the last record does not name, and the names in it that are none."""
-    exported = set(re.findall(r'^pub extern "C" fn (\w+)', (CRATES / "linked" / "src" / "lib.rt").read_text(), flags=re.M))
+    exported = set(re.findall(r'^pub extern "C" fn (\w+)', (CRATES / "wengeludo" / "src" / "lib.rt").read_text(), flags=re.M))
     engine = (CRATES / "promises" / "specs" / "Engine.antt").read_text()
-    named = {alias: name for name, alias in re.findall(r"^use Rattle\.linked\.proofs\.(\w+)\.Statement as (\S+)$", engine, flags=re.M)}
+    named = {alias: name for name, alias in re.findall(r"^use Rattle\.wengeludo\.proofs\.(\w+)\.Statement as (\S+)$", engine, flags=re.M)}
     fields = set(re.findall(r"^  pub \S+ : \(M : Type 1\) → (\S+)\.statement M$", engine, flags=re.M))
     kept = {named[alias] for alias in fields if alias in named}
     return [f"the record Engine does not name {name}, or names no function by it" for name in sorted(exported ^ kept)]

@@ -92,7 +92,7 @@ def spoilt(tree, edit):
     shutil.copy(ROOT / 'crates.txt', tree / 'crates.txt')
     for source in (ROOT / 'crates').glob('*/src'):
         shutil.copytree(source, tree / 'crates' / source.parent.name / 'src')
-    root = tree / 'crates' / 'linked' / 'src' / 'lib.rt'
+    root = tree / 'crates' / 'wengeludo' / 'src' / 'lib.rt'
     root.write_text(root.read_text(encoding='utf-8') + CALL, encoding='utf-8')
     if edit:
         name, path, old, new = edit

@@ -13,7 +13,7 @@ import subprocess
 import sys
 
 ROOT = os.path.abspath(os.path.join(os.path.dirname(__file__), '..'))
-ARCHIVE = os.path.join(ROOT, 'target', 'staticlib', 'liblinked.a')
+ARCHIVE = os.path.join(ROOT, 'target', 'staticlib', 'libwengeludo.a')
 HEADER = os.path.join(ROOT, 'include', 'wengeludo_balance.h')
 LIBC = {'memcpy', 'memset', 'memmove'}
 

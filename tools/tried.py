@@ -1,7 +1,7 @@
 # SPDX-License-Identifier: LicenseRef-Wengeludo
 """A copy of the tree in which a change is tried: made once, changed, tested by the narrowest part of the short run, and put right again.
 
-Used by tools/wrong.py and tools/mutants.py. It needs target/staticlib/liblinked.a and Debian's packages for the desk.
+Used by tools/wrong.py and tools/mutants.py. It needs target/staticlib/libwengeludo.a and Debian's packages for the desk.
 """
 
 import os
@@ -49,7 +49,7 @@ class Tree:
 
     def environment(self):
         python = ':'.join(str(self.path / part) for part in ('bindings/python/src', 'bindings/python', 'desk/src'))
-        own = {'WENGELUDO_INCLUDE': str(self.path / 'include'), 'WENGELUDO_ARCHIVE': str(self.path / 'target/staticlib/liblinked.a')}
+        own = {'WENGELUDO_INCLUDE': str(self.path / 'include'), 'WENGELUDO_ARCHIVE': str(self.path / 'target/staticlib/libwengeludo.a')}
         own |= {'PYTHONPATH': python, 'PYTHONDONTWRITEBYTECODE': '1', 'CARGO_TARGET_DIR': str(self.path / 'target/cargo'), 'CXX': 'g++'}
         return {**os.environ, **SHORT, **(LONG if self.long else {}), **own}
 

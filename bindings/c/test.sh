@@ -4,7 +4,7 @@
 # SPDX-License-Identifier: LicenseRef-Wengeludo
 set -euo pipefail
 cd "$(dirname "$0")/../.."
-archive=${WENGELUDO_ARCHIVE:-target/staticlib/liblinked.a}
+archive=${WENGELUDO_ARCHIVE:-target/staticlib/libwengeludo.a}
 work=$(mktemp -d)
 trap 'rm -rf "$work"' EXIT
 words=(-std=c99 -pedantic -O2 -Wall -Wextra -Wconversion -Werror -I include -I bindings/c)

@@ -3,8 +3,8 @@
 # SPDX-License-Identifier: LicenseRef-Wengeludo
 set -eu
 cd "$(dirname "$0")/../.."
-archive=target/staticlib/liblinked.a
-[ -e "$archive" ] || { echo "no $archive: build it with 'rt staticlib linked'" >&2; exit 2; }
+archive=target/staticlib/libwengeludo.a
+[ -e "$archive" ] || { echo "no $archive: build it with 'rt staticlib wengeludo'" >&2; exit 2; }
 mkdir -p target/built/cpp
 tried=""
 for compiler in ${CXX:-g++ clang++}; do

@@ -4,7 +4,7 @@
 The declarations are read from the headers, and the C compiler checks the calls against these same headers: no signature stands here.
 
 WENGELUDO_INCLUDE (default: include of this repository, else the folder that pkg-config names)   the header's folder
-WENGELUDO_ARCHIVE (default: target/staticlib/liblinked.a, likewise)     the archive, as `rt staticlib linked` writes it
+WENGELUDO_ARCHIVE (default: target/staticlib/libwengeludo.a, likewise)     the archive, as `rt staticlib wengeludo` writes it
 """
 
 import os
@@ -35,7 +35,7 @@ def first(name: str, here: Path, there: Path) -> Path:
 
 
 INCLUDE = first("WENGELUDO_INCLUDE", ROOT / "include", installed("includedir"))
-ARCHIVE = first("WENGELUDO_ARCHIVE", ROOT / "target" / "staticlib" / "liblinked.a", installed("libdir") / "libwengeludo.a")
+ARCHIVE = first("WENGELUDO_ARCHIVE", ROOT / "target" / "staticlib" / "libwengeludo.a", installed("libdir") / "libwengeludo.a")
 HEADER = INCLUDE / "wengeludo_balance.h"
 NATIVE = HERE / "native"  # C of this package's own, over the archive's calls
 FAULT = NATIVE / "wengeludo_fault.h"  # it and fault.c are those of bindings/c, rules.h that of programs, byte for byte: a test compares them
@@ -60,7 +60,7 @@ def own(header: str) -> str:
     return "\n".join(line for line in text.splitlines() if not line.startswith("#"))
 
 
-for needed, how in ((HEADER, "it belongs to this repository, or install.sh puts it where pkg-config finds it"), (ARCHIVE, "build it with 'rt staticlib linked'")):
+for needed, how in ((HEADER, "it belongs to this repository, or install.sh puts it where pkg-config finds it"), (ARCHIVE, "build it with 'rt staticlib wengeludo'")):
     if not needed.exists():
         sys.exit(f"wengeludo_balance: no {needed}: {how}")
 

@@ -1,7 +1,7 @@
 // SPDX-License-Identifier: LicenseRef-Wengeludo
 //! Links the engine's archive, and refuses one that this crate was not made for.
 //!
-//! The archive is liblinked.a or libwengeludo.a in the folder that WENGELUDO_ARCHIVE_DIR names; without it liblinked.a in the
+//! The archive is libwengeludo.a or libwengeludo.a in the folder that WENGELUDO_ARCHIVE_DIR names; without it libwengeludo.a in the
 //! repository's target/staticlib; without that the libwengeludo.a that pkg-config finds. Its version is asked by a program of three
 //! lines that calls it: the major version must be this crate's and the minor version no lower.
 use std::env;
@@ -40,23 +40,23 @@ fn stop(text: &str) -> ! {
 fn archive() -> (PathBuf, &'static str) {
     if let Some(folder) = env::var_os("WENGELUDO_ARCHIVE_DIR") {
         let folder = PathBuf::from(folder);
-        for name in ["linked", "wengeludo"] {
+        for name in ["wengeludo", "wengeludo"] {
             if folder.join(format!("lib{name}.a")).is_file() {
                 return (folder, name);
             }
         }
-        stop(&format!("neither liblinked.a nor libwengeludo.a in {} (WENGELUDO_ARCHIVE_DIR)", folder.display()));
+        stop(&format!("neither libwengeludo.a nor libwengeludo.a in {} (WENGELUDO_ARCHIVE_DIR)", folder.display()));
     }
     let own = PathBuf::from(env::var_os("CARGO_MANIFEST_DIR").unwrap()).join("../../target/staticlib");
-    if own.join("liblinked.a").is_file() {
-        return (own, "linked");
+    if own.join("libwengeludo.a").is_file() {
+        return (own, "wengeludo");
     }
     match installed() {
         Some(folder) => (folder, "wengeludo"),
         None => {
             println!("cargo:rerun-if-changed={}", own.display());
-            eprintln!("wengeludo_balance: no {}, and no wengeludo that pkg-config knows", own.join("liblinked.a").display());
-            eprintln!("Build it at the repository's root with `rt staticlib linked` (Rattle kit rattle-kit-5 or later), install");
+            eprintln!("wengeludo_balance: no {}, and no wengeludo that pkg-config knows", own.join("libwengeludo.a").display());
+            eprintln!("Build it at the repository's root with `rt staticlib wengeludo` (Rattle kit rattle-kit-5 or later), install");
             eprintln!("it with `bash install.sh PREFIX`, or name the folder that has it in WENGELUDO_ARCHIVE_DIR.");
             exit(1)
         }

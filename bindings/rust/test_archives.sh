@@ -1,13 +1,13 @@
 #!/usr/bin/env bash
-# The Rust crate with archives that it was not made for, each made here in C with the calls of target/staticlib/liblinked.a:
+# The Rust crate with archives that it was not made for, each made here in C with the calls of target/staticlib/libwengeludo.a:
 #   one whose calls all return 99 (no call of the crate may take that for done), one whose sheet reader answers what is not known (not
 #   taken for what is), one of a later minor version (taken),
 #   one of another major version, one without a version, and none at all (the build fails and says why).
 # SPDX-License-Identifier: LicenseRef-Wengeludo
 set -eu
 cd "$(dirname "$0")/../.."
-archive=target/staticlib/liblinked.a
-[ -e "$archive" ] || { echo "no $archive: build it with 'rt staticlib linked'" >&2; exit 2; }
+archive=target/staticlib/libwengeludo.a
+[ -e "$archive" ] || { echo "no $archive: build it with 'rt staticlib wengeludo'" >&2; exit 2; }
 work=$PWD/target/built/archives
 rm -rf "$work"
 mkdir -p "$work"
@@ -22,7 +22,7 @@ made() { # folder, version or none: an archive whose calls return 99
         [ "$2" = none ] || echo "unsigned wengeludo_version(void) { return $2; }"
     } >"$work/$1/linked.c"
     "${CC:-cc}" -std=c11 -Wall -Wextra -Werror -ffunction-sections -c "$work/$1/linked.c" -o "$work/$1/linked.o"
-    ar rcs "$work/$1/liblinked.a" "$work/$1/linked.o"
+    ar rcs "$work/$1/libwengeludo.a" "$work/$1/linked.o"
 }
 crate() { # folder, words for cargo
     (cd bindings/rust && WENGELUDO_ARCHIVE_DIR="$work/$1" CARGO_TARGET_DIR="$work/target" cargo "$2" --offline --quiet "${@:3}")
@@ -63,16 +63,16 @@ unsigned char wengeludo_read_sheet(const uint8_t *bytes, size_t length, uint8_t 
 C
 } >"$work/answers/answers.c"
 "${CC:-cc}" -std=c11 -Wall -Wextra -Werror -ffunction-sections -c "$work/answers/answers.c" -o "$work/answers/linked.o"
-rm "$work/answers/liblinked.a"
-ar rcs "$work/answers/liblinked.a" "$work/answers/linked.o"
+rm "$work/answers/libwengeludo.a"
+ar rcs "$work/answers/libwengeludo.a" "$work/answers/linked.o"
 crate answers test --test unknown_answer -- --ignored 2>"$work/log" >&2 || { cat "$work/log" >&2; exit 1; }
 grep -q '1 passed' "$work/log" || { cat "$work/log" >&2; exit 1; }
 made later_minor $((10000 * major + 100 * minor + 100))
 crate later_minor build
 made another_major $((10000 * major + 10000))
-refused another_major "liblinked.a is version $((major + 1)).0.0; this crate needs $major.$minor or a later $major"
+refused another_major "libwengeludo.a is version $((major + 1)).0.0; this crate needs $major.$minor or a later $major"
 made no_version none
-refused no_version "liblinked.a is older than 1.0.0"
+refused no_version "libwengeludo.a is older than 1.0.0"
 mkdir "$work/none"
-refused none "neither liblinked.a nor libwengeludo.a in"
+refused none "neither libwengeludo.a nor libwengeludo.a in"
 echo "rust crate: fails closed at 99 and at kinds and verdicts that it does not know; takes $major.$((minor + 1)).0; refuses $((major + 1)).0.0, an archive without a version, and none"

@@ -1,7 +1,7 @@
 # SPDX-License-Identifier: LicenseRef-Wengeludo
 """install.sh in a copy of the tree: with no archive and no rt, with an rt that fails, with one that builds it, and a second time.
 
-The rt here is a script that does what `rt staticlib linked` does, by a copy of the archive.
+The rt here is a script that does what `rt staticlib wengeludo` does, by a copy of the archive.
 """
 
 import os
@@ -12,10 +12,10 @@ from pathlib import Path
 import pytest
 
 ROOT = Path(__file__).resolve().parents[2]
-ARCHIVE = Path(os.environ.get("WENGELUDO_ARCHIVE") or ROOT / "target" / "staticlib" / "liblinked.a")
+ARCHIVE = Path(os.environ.get("WENGELUDO_ARCHIVE") or ROOT / "target" / "staticlib" / "libwengeludo.a")
 FAILING = "#!/bin/sh\nexit 1\n"
 NOISE = "".join(f"echo proving {k}\n" for k in range(200))
-BUILDING = '#!/bin/sh\n' + NOISE + '[ "$*" = "staticlib linked" ] || exit 9\nmkdir -p target/staticlib && cp "{}" target/staticlib/liblinked.a && echo built >>rt.log\n'
+BUILDING = '#!/bin/sh\n' + NOISE + '[ "$*" = "staticlib wengeludo" ] || exit 9\nmkdir -p target/staticlib && cp "{}" target/staticlib/libwengeludo.a && echo built >>rt.log\n'
 
 
 @pytest.fixture
@@ -42,7 +42,7 @@ def test_no_archive_and_no_rt(tree):
     ended = installed(tree)
     assert ended.returncode == 1 and "no archive, and no rt on the PATH to build it" in ended.stderr
     ended = installed(tree, FAILING)
-    assert ended.returncode == 1 and ended.stderr.endswith("rt staticlib linked did not succeed\n") and len(ended.stderr.splitlines()) < 25
+    assert ended.returncode == 1 and ended.stderr.endswith("rt staticlib wengeludo did not succeed\n") and len(ended.stderr.splitlines()) < 25
     assert not (tree.parent / "prefix").exists()
 
 

@@ -4,7 +4,7 @@
 #     bash packaging/cross/build.sh aarch64|riscv64 OUT.a    an archive for 64-bit Linux on ARM or RISC-V
 #     bash packaging/cross/build.sh wasm32 OUT.wasm          a module for browsers and Node
 #
-# rt proves `linked` and hands its module to the kit's clang. A clang in front of that one keeps a copy, so what is compiled here is the
+# rt proves `wengeludo` and hands its module to the kit's clang. A clang in front of that one keeps a copy, so what is compiled here is the
 # module of the run that ended in logic=proved, and of no other. The x86-64 archive of that run must be the one that docs/MEASURED.md
 # records, and the module, compiled for x86-64 once more, must come to that archive's object, byte for byte.
 # Assumed beside what the x86-64 archive assumes: that the module does not depend on its processor (retarget.py looks for what would), and
@@ -27,7 +27,7 @@ cd "$(dirname "$0")/../.."
 kit=${RATTLE_HOME:-$(dirname "$(dirname "$(readlink -f "$(command -v rt)")")")}
 on=$kit/on/$(uname -m)
 clang=$on/toolchain/bin/clang
-archive=target/staticlib/liblinked.a
+archive=target/staticlib/libwengeludo.a
 tmp=$(mktemp -d)
 trap 'rm -rf "$tmp"' EXIT
 
@@ -63,7 +63,7 @@ module() {
         if [ -e "$kept.bc" ] && [ -e "$kept.words" ] && same_object "$kept.bc" "$kept.words"; then return; fi
     fi
     kept_kit
-    RATTLE_HOME=$tmp/kit rt staticlib linked >"$tmp/log" 2>&1 || { tail -20 "$tmp/log" >&2; exit 1; }
+    RATTLE_HOME=$tmp/kit rt staticlib wengeludo >"$tmp/log" 2>&1 || { tail -20 "$tmp/log" >&2; exit 1; }
     grep -q '^logic=proved ' "$tmp/log" && [ -e "$tmp/module.bc" ] || { echo "cross: rt handed no proved module to its compiler" >&2; exit 1; }
     kept=target/cross/$(sha256sum <"$archive" | cut -d' ' -f1)
     mkdir -p target/cross
@@ -81,10 +81,10 @@ compiled() { # -S for its instructions as text, -c for the object; where to
     "$clang" "${words[@]}" "${common[@]}" -mllvm -trap-unreachable -mllvm -no-trap-after-noreturn -Wno-override-module \
         "$1" -x ir "$tmp/$target.ll" -o "$2"
 }
-compiled -S "$tmp/linked.s"
-python3 packaging/cross/retarget.py --fused "$tmp/linked.s" "$target"
-compiled -c "$tmp/linked.o"
-[ -z "${CROSS_OBJECT:-}" ] || cp "$tmp/linked.o" "$CROSS_OBJECT"
+compiled -S "$tmp/wengeludo.s"
+python3 packaging/cross/retarget.py --fused "$tmp/wengeludo.s" "$target"
+compiled -c "$tmp/wengeludo.o"
+[ -z "${CROSS_OBJECT:-}" ] || cp "$tmp/wengeludo.o" "$CROSS_OBJECT"
 
 mkdir -p "$(dirname "$out")"
 if [ "$target" = wasm32 ]; then
@@ -94,9 +94,9 @@ if [ "$target" = wasm32 ]; then
     exports=()
     while read -r call; do exports+=("--export=$call"); done < <(python3 packaging/install/man.py --names)
     "$tmp/wasm-ld" --no-entry "${exports[@]}" --export=__heap_base --gc-sections --strip-all --stack-first -z stack-size=131072 \
-        "$tmp/linked.o" "$tmp/memory.o" -o "$tmp/out"
+        "$tmp/wengeludo.o" "$tmp/memory.o" -o "$tmp/out"
 else
-    "$on/toolchain/bin/llvm-ar" rcsD "$tmp/out" "$tmp/linked.o"
+    "$on/toolchain/bin/llvm-ar" rcsD "$tmp/out" "$tmp/wengeludo.o"
 fi
 cp "$tmp/out" "$out"
 echo "cross: $out for $target, $(stat -c %s "$out") bytes, sha256 $(sha256sum <"$out" | cut -d' ' -f1)"

@@ -66,7 +66,7 @@ module() { # the same as a WebAssembly module
     done
     ln -s "$bin/clang" "$tmp/wasm-ld"
     "$tmp/wasm-ld" --no-entry --export=drive --export=__heap_base --allow-undefined --stack-first -z stack-size=131072 \
-        "$tmp"/{drive,memory}.o "$tmp/linked.o" -o "$tmp/wasm32"
+        "$tmp"/{drive,memory}.o "$tmp/wengeludo.o" -o "$tmp/wasm32"
 }
 same() { # target, command
     "${@:2}" <"$tmp/pack" >"$tmp/out"
@@ -83,8 +83,8 @@ listed
 files=$(python3 packaging/cross/pack.py "$tmp/pack" "${CROSS_FILES:-2000}")
 out=$work/$1.a
 [ "$1" != wasm32 ] || out=$work/wengeludo.wasm
-CROSS_OBJECT=$tmp/linked.o bash packaging/cross/build.sh "$1" "$out"
-driver x86_64 x86_64-unknown-linux-gnu target/staticlib/liblinked.a
+CROSS_OBJECT=$tmp/wengeludo.o bash packaging/cross/build.sh "$1" "$out"
+driver x86_64 x86_64-unknown-linux-gnu target/staticlib/libwengeludo.a
 "$tmp/x86_64" <"$tmp/pack" >"$tmp/native"
 case $1 in
 wasm32) module; same wasm32 node packaging/cross/run.mjs "$tmp/wasm32" ;;

@@ -4,7 +4,7 @@
 #     bash packaging/debian/build.sh [--unproved] OUT
 #
 # --unproved              takes an archive that is not the one docs/MEASURED.md records
-# WENGELUDO_ARCHIVE       another archive than target/staticlib/liblinked.a
+# WENGELUDO_ARCHIVE       another archive than target/staticlib/libwengeludo.a
 # WENGELUDO_WASM          another WebAssembly for pages that recompute than target/cross/wengeludo.wasm, which is built if rt is there
 # WENGELUDO_MAINTAINER    who answers for the packages, as "Name <name@host>"; the address that stands here leads nowhere
 #
@@ -22,8 +22,8 @@ for tool in dpkg-deb dpkg-shlibdeps strip gzip; do
 done
 [ "$(dpkg --print-architecture)" = amd64 ] || fail "packages are made on amd64, and this machine is $(dpkg --print-architecture)"
 python=/usr/bin/python3 # Debian's own: another python3 on the PATH sees none of Debian's packages
-archive=$(realpath -m "${WENGELUDO_ARCHIVE:-target/staticlib/liblinked.a}")
-[ -e "$archive" ] || fail "no $archive: build it with 'rt staticlib linked'"
+archive=$(realpath -m "${WENGELUDO_ARCHIVE:-target/staticlib/libwengeludo.a}")
+[ -e "$archive" ] || fail "no $archive: build it with 'rt staticlib wengeludo'"
 upstream=$(sed -n 's/^version = "\(.*\)"/\1/p' bindings/python/pyproject.toml)
 version=$upstream-1
 maintainer=${WENGELUDO_MAINTAINER:-Wengeludo packages <packages@wengeludo.example>}
@@ -109,7 +109,7 @@ packed libwengeludo-dev
 export WENGELUDO_INCLUDE=$PWD/include CFLAGS="-g0 -ffile-prefix-map=$work=wengeludo"
 cp -r bindings/python "$work/binding"
 cp -r desk "$work/desk"
-if [ ! -e "${WENGELUDO_WASM:-target/cross/wengeludo.wasm}" ] && command -v rt >/dev/null && [ -e target/staticlib/liblinked.a ]; then
+if [ ! -e "${WENGELUDO_WASM:-target/cross/wengeludo.wasm}" ] && command -v rt >/dev/null && [ -e target/staticlib/libwengeludo.a ]; then
     quietly bash packaging/cross/build.sh wasm32 target/cross/wengeludo.wasm
 fi
 bash desk/engine.sh "$work/desk"

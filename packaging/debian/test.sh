@@ -14,7 +14,7 @@ server=
 trap '[ -z "$server" ] || kill "$server" 2>/dev/null || true; rm -rf "$work"' EXIT
 fail() { echo "debian/test: $*" >&2; exit 1; }
 quiet() { "$@" >"$work/log" 2>&1 || { cat "$work/log" >&2; fail "$*"; }; }
-archive=$(realpath "${WENGELUDO_ARCHIVE:-target/staticlib/liblinked.a}")
+archive=$(realpath "${WENGELUDO_ARCHIVE:-target/staticlib/libwengeludo.a}")
 packages="libwengeludo-dev libwengeludo1 python3-wengeludo wengeludo"
 
 quiet bash packaging/debian/build.sh "$@" "$work/debs"

@@ -148,7 +148,7 @@ quiet env LIBDIR="$work/own libs" bash install.sh --uninstall "$odd"
 [ -z "$(find "$odd" "$work/own libs" ! -type d)" ] || fail "left after --uninstall $odd"
 
 # Another archive than the recorded one, or one of another version, is refused unless it is asked for, and nothing is put there.
-cp target/staticlib/liblinked.a "$work/other.a"
+cp target/staticlib/libwengeludo.a "$work/other.a"
 chmod u+w "$work/other.a"
 echo 'int other;' | "${CC:-cc}" -x c -c - -o "$work/other.o" && ar rcs "$work/other.a" "$work/other.o"
 if WENGELUDO_ARCHIVE=$work/other.a bash install.sh "$work/refused" >"$work/log" 2>&1; then fail "an archive that is not the recorded one is taken"; fi

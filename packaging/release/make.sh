@@ -17,7 +17,7 @@ fail() { echo "release: $*" >&2; exit 1; }
 [ -n "${WENGELUDO_CHANGED:-}" ] || [ -z "$(git status --porcelain)" ] || fail "the tree has changes that are not committed: a release is made of a commit"
 python3 tools/versions.py
 python3 tools/refusals.py
-[ -e target/staticlib/liblinked.a ] || rt staticlib linked >/dev/null
+[ -e target/staticlib/libwengeludo.a ] || rt staticlib wengeludo >/dev/null
 python3 tools/archive.py
 version=$(sed -n 's/^version = "\(.*\)"/\1/p' bindings/python/pyproject.toml)
 work=$(mktemp -d)
@@ -25,7 +25,7 @@ trap 'rm -rf "$work"' EXIT
 parts=$work/parts
 mkdir -p "$parts"
 git archive --format=tar --prefix="wengeludo-$version/" HEAD | gzip -n9 >"$parts/wengeludo-$version.tar.gz"
-cp target/staticlib/liblinked.a "$parts/libwengeludo-$version-x86_64.a"
+cp target/staticlib/libwengeludo.a "$parts/libwengeludo-$version-x86_64.a"
 cp include/wengeludo_balance.h include/wengeludo.hpp bindings/c/wengeludo_fault.h LICENCE "$parts/"
 for target in aarch64 riscv64; do
     bash packaging/cross/build.sh "$target" "$parts/libwengeludo-$version-$target.a" >/dev/null
@@ -37,7 +37,7 @@ cp bindings/js/{wengeludo.js,wengeludo.d.ts,package.json,README.md} LICENCE "$wo
 stamp=$(git log -1 --format=%ct)
 tar -C "$work" --sort=name --mtime="@$stamp" --owner=0 --group=0 --numeric-owner -cf - js | gzip -n9 >"$parts/wengeludo-js-$version.tar.gz"
 cp -r bindings/python "$work/python"
-(cd "$work/python" && WENGELUDO_INCLUDE=$OLDPWD/include WENGELUDO_ARCHIVE=$OLDPWD/target/staticlib/liblinked.a SOURCE_DATE_EPOCH=$stamp \
+(cd "$work/python" && WENGELUDO_INCLUDE=$OLDPWD/include WENGELUDO_ARCHIVE=$OLDPWD/target/staticlib/libwengeludo.a SOURCE_DATE_EPOCH=$stamp \
     /usr/bin/python3 setup.py -q sdist -d "$parts" >/dev/null 2>"$work/log") || { cat "$work/log" >&2; fail "no Python source package"; }
 WENGELUDO_WASM=$work/js/wengeludo.wasm bash packaging/debian/build.sh "$parts" >/dev/null
 python3 packaging/release/sbom.py "$parts" >"$work/sbom.spdx.json"

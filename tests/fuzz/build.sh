@@ -1,15 +1,15 @@
 #!/usr/bin/env bash
-# Builds target/built/fuzz/target, the fuzz target over liblinked.a, with clang's libFuzzer, and the list of its basic blocks.
+# Builds target/built/fuzz/target, the fuzz target over libwengeludo.a, with clang's libFuzzer, and the list of its basic blocks.
 # SPDX-License-Identifier: LicenseRef-Wengeludo
 set -eu
 cd "$(dirname "$0")/../.."
-archive=target/staticlib/liblinked.a
+archive=target/staticlib/libwengeludo.a
 out=target/built/fuzz
 need() { command -v "$1" >/dev/null || { echo "no $1: install it (Debian: apt-get install $2)" >&2; exit 2; }; }
 need clang "clang libclang-rt-dev"
 need objdump binutils
 need nm binutils
-[ -e "$archive" ] || { echo "no $archive: build it with 'rt staticlib linked' (Rattle kit rattle-kit-5 or later)" >&2; exit 2; }
+[ -e "$archive" ] || { echo "no $archive: build it with 'rt staticlib wengeludo' (Rattle kit rattle-kit-5 or later)" >&2; exit 2; }
 mkdir -p "$out"
 clang -std=gnu11 -O1 -g -Wall -Wextra -Werror -fno-pie -no-pie -fsanitize=fuzzer -DBLOCKS="\"$PWD/$out/blocks.txt\"" \
     -I include tests/fuzz/*.c "$archive" -lm -o "$out/target" ||

@@ -11,5 +11,5 @@ root=$(cd ../../.. && pwd)
 out=$(mktemp -d)
 trap 'rm -rf "$out"' EXIT
 "${CC:-cc}" -std=gnu11 -O2 -Wall -Wextra -Werror -I "${WENGELUDO_INCLUDE:-$root/include}" -I . rows_bench.c rows.c \
-    "${WENGELUDO_ARCHIVE:-$root/target/staticlib/liblinked.a}" -o "$out/bench"
+    "${WENGELUDO_ARCHIVE:-$root/target/staticlib/libwengeludo.a}" -o "$out/bench"
 "$out/bench"

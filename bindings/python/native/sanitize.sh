@@ -13,7 +13,7 @@ out=$(mktemp -d)
 trap 'rm -rf "$out"' EXIT
 built() { # what is tried, its sources
     "${CC:-cc}" -std=gnu11 -O1 -g -Wall -Wextra -Werror -fsanitize=address,undefined,float-cast-overflow -fno-sanitize-recover=all \
-        -I "${WENGELUDO_INCLUDE:-$root/include}" -I . "$1_fuzz.c" "${@:2}" "${WENGELUDO_ARCHIVE:-$root/target/staticlib/liblinked.a}" -lm -o "$out/$1"
+        -I "${WENGELUDO_INCLUDE:-$root/include}" -I . "$1_fuzz.c" "${@:2}" "${WENGELUDO_ARCHIVE:-$root/target/staticlib/libwengeludo.a}" -lm -o "$out/$1"
 }
 built rows rows.c
 built wide wide_checked.c wide_solve.c

@@ -46,7 +46,7 @@ def run(*words, cwd, **environment):
 
 @pytest.mark.skipif(shutil.which("pkg-config") is None, reason="no pkg-config")
 def test_source_package_beside_an_installed_library(tmp_path):
-    archive = Path(os.environ.get("WENGELUDO_ARCHIVE") or ROOT / "target" / "staticlib" / "liblinked.a")
+    archive = Path(os.environ.get("WENGELUDO_ARCHIVE") or ROOT / "target" / "staticlib" / "libwengeludo.a")
     shutil.copytree(HERE, tmp_path / "package", ignore=shutil.ignore_patterns("build", "*.egg-info", "__pycache__"))
     bare = {name: "" for name in ("WENGELUDO_INCLUDE", "WENGELUDO_ARCHIVE")}
     (tmp_path / "lib" / "pkgconfig").mkdir(parents=True)

@@ -12,7 +12,7 @@ from pathlib import Path
 import pytest
 
 SCRIPT = Path(__file__).resolve().parents[1] / "native" / "sanitize.sh"
-ARCHIVE = Path(os.environ.get("WENGELUDO_ARCHIVE") or Path(__file__).resolve().parents[3] / "target" / "staticlib" / "liblinked.a")
+ARCHIVE = Path(os.environ.get("WENGELUDO_ARCHIVE") or Path(__file__).resolve().parents[3] / "target" / "staticlib" / "libwengeludo.a")
 
 
 def test_no_byte_is_touched_that_is_not_the_rows_own():

@@ -1,18 +1,18 @@
 -- The engine is proved.
-use Rattle.linked.proofs.wengeludo_version.Met as Version
-use Rattle.linked.proofs.wengeludo_balance_plant.Met as Balance-plant
-use Rattle.linked.proofs.wengeludo_write_plant.Met as Write-plant
-use Rattle.linked.proofs.wengeludo_read_sheet.Met as Read-sheet
-use Rattle.linked.proofs.wengeludo_plant_from_transmitter.Met as Plant-from-transmitter
-use Rattle.linked.proofs.wengeludo_to_ranged.Met as To-ranged
-use Rattle.linked.proofs.wengeludo_from_ranged.Met as From-ranged
-use Rattle.linked.proofs.wengeludo_meters_to_buy.Met as Meters-to-buy
-use Rattle.linked.proofs.wengeludo_layouts_of.Met as Layouts-of
-use Rattle.linked.proofs.wengeludo_visits.Met as Visits
-use Rattle.linked.proofs.wengeludo_charges.Met as Charges
-use Rattle.linked.proofs.wengeludo_check_sheet.Met as Check-sheet
-use Rattle.linked.proofs.wengeludo_place_numbers.Met as Place-numbers
-use Rattle.linked.proofs.wengeludo_check_flow.Met as Check-flow
+use Rattle.wengeludo.proofs.wengeludo_version.Met as Version
+use Rattle.wengeludo.proofs.wengeludo_balance_plant.Met as Balance-plant
+use Rattle.wengeludo.proofs.wengeludo_write_plant.Met as Write-plant
+use Rattle.wengeludo.proofs.wengeludo_read_sheet.Met as Read-sheet
+use Rattle.wengeludo.proofs.wengeludo_plant_from_transmitter.Met as Plant-from-transmitter
+use Rattle.wengeludo.proofs.wengeludo_to_ranged.Met as To-ranged
+use Rattle.wengeludo.proofs.wengeludo_from_ranged.Met as From-ranged
+use Rattle.wengeludo.proofs.wengeludo_meters_to_buy.Met as Meters-to-buy
+use Rattle.wengeludo.proofs.wengeludo_layouts_of.Met as Layouts-of
+use Rattle.wengeludo.proofs.wengeludo_visits.Met as Visits
+use Rattle.wengeludo.proofs.wengeludo_charges.Met as Charges
+use Rattle.wengeludo.proofs.wengeludo_check_sheet.Met as Check-sheet
+use Rattle.wengeludo.proofs.wengeludo_place_numbers.Met as Place-numbers
+use Rattle.wengeludo.proofs.wengeludo_check_flow.Met as Check-flow
 use Rattle.promises.specs.Engine.{Engine}
 use Rattle.promises.proofs.Promises.{promises}
 

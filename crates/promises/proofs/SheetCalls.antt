@@ -18,7 +18,7 @@ use Rattle.sheet_def.specs.Sentences.{Refused}
 use Rattle.sheet_def.specs.Says.{SheetSays}
 use Rattle.sheet_def.proofs.Demands.{demands}
 use Rattle.sheet_lent.specs.Lent.{fronted, LentSays}
-use Rattle.linked.specs.Calls.{SheetLent}
+use Rattle.wengeludo.specs.Calls.{SheetLent}
 use Rattle.promises.specs.SheetCalls.{Sheet-calls}
 
 -- An answer by its number, the bytes written, the last numbers and the bits.

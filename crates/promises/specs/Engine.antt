@@ -1,18 +1,18 @@
 -- The end: the exported functions themselves, by the compiler's names for them, keep the contracts that the promises begin with.
-use Rattle.linked.proofs.wengeludo_version.Statement as Version
-use Rattle.linked.proofs.wengeludo_balance_plant.Statement as Balance-plant
-use Rattle.linked.proofs.wengeludo_write_plant.Statement as Write-plant
-use Rattle.linked.proofs.wengeludo_read_sheet.Statement as Read-sheet
-use Rattle.linked.proofs.wengeludo_plant_from_transmitter.Statement as Plant-from-transmitter
-use Rattle.linked.proofs.wengeludo_to_ranged.Statement as To-ranged
-use Rattle.linked.proofs.wengeludo_from_ranged.Statement as From-ranged
-use Rattle.linked.proofs.wengeludo_meters_to_buy.Statement as Meters-to-buy
-use Rattle.linked.proofs.wengeludo_layouts_of.Statement as Layouts-of
-use Rattle.linked.proofs.wengeludo_visits.Statement as Visits
-use Rattle.linked.proofs.wengeludo_charges.Statement as Charges
-use Rattle.linked.proofs.wengeludo_check_sheet.Statement as Check-sheet
-use Rattle.linked.proofs.wengeludo_place_numbers.Statement as Place-numbers
-use Rattle.linked.proofs.wengeludo_check_flow.Statement as Check-flow
+use Rattle.wengeludo.proofs.wengeludo_version.Statement as Version
+use Rattle.wengeludo.proofs.wengeludo_balance_plant.Statement as Balance-plant
+use Rattle.wengeludo.proofs.wengeludo_write_plant.Statement as Write-plant
+use Rattle.wengeludo.proofs.wengeludo_read_sheet.Statement as Read-sheet
+use Rattle.wengeludo.proofs.wengeludo_plant_from_transmitter.Statement as Plant-from-transmitter
+use Rattle.wengeludo.proofs.wengeludo_to_ranged.Statement as To-ranged
+use Rattle.wengeludo.proofs.wengeludo_from_ranged.Statement as From-ranged
+use Rattle.wengeludo.proofs.wengeludo_meters_to_buy.Statement as Meters-to-buy
+use Rattle.wengeludo.proofs.wengeludo_layouts_of.Statement as Layouts-of
+use Rattle.wengeludo.proofs.wengeludo_visits.Statement as Visits
+use Rattle.wengeludo.proofs.wengeludo_charges.Statement as Charges
+use Rattle.wengeludo.proofs.wengeludo_check_sheet.Statement as Check-sheet
+use Rattle.wengeludo.proofs.wengeludo_place_numbers.Statement as Place-numbers
+use Rattle.wengeludo.proofs.wengeludo_check_flow.Statement as Check-flow
 use Rattle.promises.specs.Promises.{Promises}
 
 -- Each exported function meets its contract in every model of the machine (`Statement` is made by the compiler from the line `ensures`

@@ -6,7 +6,7 @@ use lib.ListN.{length, take, drop}
 use Rattle.num_lent.specs.Marks.{marksIn}
 use Rattle.sheet_def.specs.Counters.{offices, topSheet, counterOf}
 use Rattle.sheet_def.specs.Sentences.{Answers}
-use Rattle.linked.specs.Calls.{SheetLent}
+use Rattle.wengeludo.specs.Calls.{SheetLent}
 
 -- What is promised of it.
 pub record Sheet-calls : Type 0 where

@@ -8,8 +8,8 @@ use Rattle.plant_def.specs.Says.{padded, WriteSays}
 use Rattle.plant_parts.specs.Parts.{Slices, partsAt, least, reach, listedTo}
 use Rattle.plant_parts.proofs.Gather.{reached, all-gathered}
 use Rattle.plant_parts.proofs.Counts.{any-count}
-use Rattle.linked.proofs.wengeludo_write_plant.Statement.{statement}
-use Rattle.linked.proofs.wengeludo_write_plant.Tie as tie
+use Rattle.wengeludo.proofs.wengeludo_write_plant.Statement.{statement}
+use Rattle.wengeludo.proofs.wengeludo_write_plant.Tie as tie
 
 abbrev slices : tie.After-reached → Slices
 slices c =

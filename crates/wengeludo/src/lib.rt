@@ -14,7 +14,7 @@ ghost use Rattle.visit_call.specs.Lent.{VisitsFound};
 ghost use Rattle.certify_def.specs.Says.{lentSlices, FlowSays};
 ghost use Rattle.charge_call.specs.Lent.{ChargesFound};
 ghost use Rattle.version.specs.Version.{version};
-ghost use Rattle.linked.specs.Calls.{SheetCall, WriteCall, ReadCall};
+ghost use Rattle.wengeludo.specs.Calls.{SheetCall, WriteCall, ReadCall};
 
 // The version as one number: 10,000 is 1.0.0.
 #[no_mangle]

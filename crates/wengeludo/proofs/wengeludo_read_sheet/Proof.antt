@@ -4,8 +4,8 @@ use denote.Ref.{now}
 use lib.ListN.{length}
 use Rattle.sheet_parts.specs.Kept.{readLent}
 use Rattle.sheet_parts.proofs.Handing.{Room, room-lent, handed-over}
-use Rattle.linked.proofs.wengeludo_read_sheet.Statement.{statement}
-use Rattle.linked.proofs.wengeludo_read_sheet.Tie as tie
+use Rattle.wengeludo.proofs.wengeludo_read_sheet.Statement.{statement}
+use Rattle.wengeludo.proofs.wengeludo_read_sheet.Tie as tie
 
 -- There is room for what was read.
 room : (c : tie.After-read-lent) → let a = c .before .before .before .args in Room (c .read-lent .result .count) (length (now (a .kinds))) (length (now (a .flows)))

@@ -9,8 +9,8 @@ use Rattle.certify_def.specs.Test.{slicesOf}
 use Rattle.certify_def.proofs.Answer.{says-of}
 use Rattle.certify_call.proofs.Calling as C
 use borrow.Author.Needs.{needs}
-use Rattle.linked.proofs.wengeludo_check_flow.Statement.{statement}
-use Rattle.linked.proofs.wengeludo_check_flow.Tie as tie
+use Rattle.wengeludo.proofs.wengeludo_check_flow.Statement.{statement}
+use Rattle.wengeludo.proofs.wengeludo_check_flow.Tie as tie
 
 abbrev start : tie.After-lesser → tie.Start
 start c =

@@ -8,8 +8,8 @@ use mir.Val.{SFits}
 use mir.Facts.{toZ-ofZ}
 use Rattle.num_lent.specs.Lending.{Lending}
 use borrow.Author.Needs.{needs}
-use Rattle.linked.proofs.wengeludo_charges.Statement.{statement}
-use Rattle.linked.proofs.wengeludo_charges.Tie as tie
+use Rattle.wengeludo.proofs.wengeludo_charges.Statement.{statement}
+use Rattle.wengeludo.proofs.wengeludo_charges.Tie as tie
 
 found-as : {R F Room : Type 0} {refused : ℕ → R} {Says : R → Type 0} {shows : R → F} (f g : F) → f ≡ g → Lending Room refused Says shows g
     → Lending Room refused Says shows f
