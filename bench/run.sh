@@ -3,11 +3,11 @@
 # installed: all in turns in one run, each plant once in a round with all the others between (docs/SPEED.md).
 #
 #     bash bench/run.sh [PLANTS [SECONDS [ROUNDS]]]   prints the tables; 1000 plants of each kind and size, 60 seconds of the
-#                                                          search for bad plants for each of its three aims, 9 rounds; plot and
-#                                                          worst plants go to target/built/bench
+#                                                     search for bad plants for each of its three aims, 9 rounds; plot and
+#                                                     worst plants go to target/built/bench
 #     bash bench/run.sh --before LIBRARY [...]        the same with another archive in the run, a .a or a .so of version 1
 #     bash bench/run.sh --record [...]                the same, and puts the tables into docs/SPEED.md, the plot beside it, and
-#                                                          the worst plants into bench
+#                                                     the worst plants into bench
 # SPDX-License-Identifier: LicenseRef-Wengeludo
 set -euo pipefail
 start=$PWD

@@ -14,9 +14,9 @@ if [ ! -e "$archive" ]; then
     echo "no $archive: build it with 'rt staticlib wengeludo' (Rattle kit rattle-kit-5 or later)" >&2
     exit 2
 fi
-host=${1:-target/built}
-mkdir -p "$host"
+folder=${1:-target/built}
+mkdir -p "$folder"
 for program in balance_file meters_to_buy layouts_file visits_file charges_file check_sheet check_flow place_numbers empty_slices limits; do
-    "${CC:-cc}" -std=c11 -O2 -Wall -Wextra -Werror ${CFLAGS:-} -I include "programs/$program.c" -I bindings/c bindings/c/fault.c "$archive" -o "$host/$program"
-    echo "built $host/$program"
+    "${CC:-cc}" -std=c11 -O2 -Wall -Wextra -Werror ${CFLAGS:-} -I include "programs/$program.c" -I bindings/c bindings/c/fault.c "$archive" -o "$folder/$program"
+    echo "built $folder/$program"
 done

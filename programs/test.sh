@@ -7,8 +7,8 @@
 # SPDX-License-Identifier: LicenseRef-Wengeludo
 set -eu
 cd "$(dirname "$0")/.."
-host=${1:-target/built}
-program=$host/balance_file
+folder=${1:-target/built}
+program=$folder/balance_file
 [ -x "$program" ] || { echo "no $program: build it with 'bash programs/build.sh'" >&2; exit 2; }
 work=$(mktemp -d)
 trap 'rm -rf "$work"' EXIT
@@ -76,7 +76,7 @@ expect 1 $'refused 19\nmarked 32' "$work/dead_end"
 expect 0 "$(for k in {1..96}; do echo "$k A 0"; done)"$'\ntotal 1 0 1 pass' "$work/longest"
 expect 1 "$longer" "$work/longer"
 # Meters to buy.
-program=$host/meters_to_buy
+program=$folder/meters_to_buy
 [ -x "$program" ] || { echo "no $program: build it with 'bash programs/build.sh'" >&2; exit 2; }
 uses 'FILE [PRICE..]'
 blind=samples/blind_site.bin
@@ -98,7 +98,7 @@ full "$listing" 5 3
 expect 0 "$(for k in {1..95}; do echo "buy $k"; done)"$'\nprice 95' "$work/bare" $(for _ in {1..95}; do echo 1; done) 2
 # shellcheck disable=SC2046
 expect 1 'refused 21' "$work/bare" $(for _ in {1..97}; do echo 1; done)
-program=$host/layouts_file
+program=$folder/layouts_file
 [ -x "$program" ] || { echo "no $program: build it with 'bash programs/build.sh'" >&2; exit 2; }
 uses 'FILE'
 printf '\001\001\004\000' >"$work/empty"
@@ -112,7 +112,7 @@ expect 2 '' "$listing" 0
 expect 2 '' "$work/missing"
 expect 2 '' "$work"
 full "$listing"
-program=$host/visits_file
+program=$folder/visits_file
 [ -x "$program" ] || { echo "no $program: build it with 'bash programs/build.sh'" >&2; exit 2; }
 uses 'FILE'
 expect 0 "$(cat samples/listing.visits)" "$listing"
@@ -126,7 +126,7 @@ expect 2 '' "$listing" 0
 expect 2 '' "$work/missing"
 expect 2 '' "$work"
 for file in "$listing" "$work/cut"; do full "$file"; done
-program=$host/charges_file
+program=$folder/charges_file
 [ -x "$program" ] || { echo "no $program: build it with 'bash programs/build.sh'" >&2; exit 2; }
 uses 'FILE [RATE..]'
 billed=samples/billed_site.bin
@@ -156,7 +156,7 @@ expect 2 '' "$work/missing" 5
 expect 2 '' "$work" 5
 for file in "$listing" "$work/cut"; do full "$file" 5; done
 # Sheets drawn up elsewhere.
-program=$host/check_sheet
+program=$folder/check_sheet
 [ -x "$program" ] || { echo "no $program: build it with 'bash programs/build.sh'" >&2; exit 2; }
 uses 'PLANT SHEET NUMBERS'
 rated=samples/rated_site.bin
@@ -211,7 +211,7 @@ expect 2 '' "$rated" "$sheet" "$(listed words -27 -103 x 0 -27)"
 expect 2 '' "$rated" "$sheet" "$(listed long -27 -103 9223372036854775808 0 -27)"
 full "$rated" "$sheet" "$numbers"
 # Flows found elsewhere.
-program=$host/check_flow
+program=$folder/check_flow
 [ -x "$program" ] || { echo "no $program: build it with 'bash programs/build.sh'" >&2; exit 2; }
 wide=samples/wide_site.flow
 other() { sed "$2" "$wide" >"$work/wide_$1"; echo "$work/wide_$1"; } # name, a change of the sample
@@ -244,13 +244,13 @@ expect 2 '' "$work/missing"
 expect 2 '' "$work"
 full "$wide"
 # The archive's own numbers.
-program=$host/check_sheet
+program=$folder/check_sheet
 for file in "$listing" samples/steam_site.bin "$rated"; do
-    $host/place_numbers "$file" >"$work/own" || { echo "place_numbers $file: status $?" >&2; failed=1; }
+    $folder/place_numbers "$file" >"$work/own" || { echo "place_numbers $file: status $?" >&2; failed=1; }
     [ "$(head -n 1 "$work/own")" = 0 ] || { echo "place_numbers $file: the outside has not 0" >&2; failed=1; }
 done
 expect 0 'passes' "$rated" "$sheet" "$work/own"
-program=$host/place_numbers
+program=$folder/place_numbers
 uses 'FILE'
 expect 1 'refused 19' samples/overfull_site.bin
 expect 1 "$longer" "$work/longer"
@@ -263,11 +263,11 @@ expect 2 '' "$work"
 full "$listing"
 [ "$failed" = 0 ] || exit 1
 echo "the C programs: $runs runs as expected"
-$host/limits
+$folder/limits
 if [ $# = 0 ]; then
     if echo 'int main(void) { return 0; }' | "${CC:-cc}" -fsanitize=address,undefined -x c - -o "$work/tried" 2>/dev/null && "$work/tried"; then
-        CFLAGS="-g -fsanitize=address,undefined -fno-sanitize-recover=all" bash programs/build.sh "$host/sanitized" >"$work/log" || { cat "$work/log" >&2; exit 1; }
-        bash programs/test.sh "$host/sanitized"
+        CFLAGS="-g -fsanitize=address,undefined -fno-sanitize-recover=all" bash programs/build.sh "$folder/sanitized" >"$work/log" || { cat "$work/log" >&2; exit 1; }
+        bash programs/test.sh "$folder/sanitized"
     else
         echo "the C programs: not tried with sanitizers, which this compiler lacks"
     fi

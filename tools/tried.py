@@ -86,7 +86,7 @@ class Tree:
     def tests(self, part, changed=''):
         """Whether the tests of a part pass: (passed, what was said)."""
         name, *files = part.split()
-        good, said = self.texts() if changed.startswith(('include', 'bindings/rust', 'bindings')) else (True, '')
+        good, said = self.texts() if changed.startswith(('include', 'bindings')) else (True, '')
         if not good:
             return False, said
         if name == 'c':

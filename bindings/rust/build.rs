@@ -1,9 +1,9 @@
 // SPDX-License-Identifier: LicenseRef-Wengeludo
 //! Links the engine's archive, and refuses one that this crate was not made for.
 //!
-//! The archive is libwengeludo.a or libwengeludo.a in the folder that WENGELUDO_ARCHIVE_DIR names; without it libwengeludo.a in the
-//! repository's target/staticlib; without that the libwengeludo.a that pkg-config finds. Its version is asked by a program of three
-//! lines that calls it: the major version must be this crate's and the minor version no lower.
+//! The archive is libwengeludo.a in the folder that WENGELUDO_ARCHIVE_DIR names; without it in the repository's target/staticlib;
+//! without that where pkg-config finds it. Its version is asked by a program of three lines that calls it: the major version must be
+//! this crate's and the minor version no lower.
 use std::env;
 use std::fs;
 use std::path::{Path, PathBuf};
@@ -20,14 +20,14 @@ fn main() {
     if arch != "x86_64" || os != "linux" {
         stop(&format!("the archive is for x86-64 Linux, not for {arch} {os}"));
     }
-    let (folder, name) = archive();
-    let path = folder.join(format!("lib{name}.a"));
+    let folder = folder();
+    let path = folder.join("libwengeludo.a");
     println!("cargo:rerun-if-changed={}", path.display());
     if env::var("HOST") == env::var("TARGET") {
-        check_version(&path, version_of(&folder, name, &path));
+        check_version(&path, version_of(&folder, &path));
     }
     println!("cargo:rustc-link-search=native={}", folder.display());
-    println!("cargo:rustc-link-lib=static={name}");
+    println!("cargo:rustc-link-lib=static=wengeludo");
     println!("cargo:archive={}", path.display()); // DEP_WENGELUDO_ARCHIVE for crates that depend on this one
 }
 
@@ -36,28 +36,26 @@ fn stop(text: &str) -> ! {
     exit(1)
 }
 
-/// The archive's folder, and its name without lib and .a.
-fn archive() -> (PathBuf, &'static str) {
+/// The archive's folder.
+fn folder() -> PathBuf {
     if let Some(folder) = env::var_os("WENGELUDO_ARCHIVE_DIR") {
         let folder = PathBuf::from(folder);
-        for name in ["wengeludo", "wengeludo"] {
-            if folder.join(format!("lib{name}.a")).is_file() {
-                return (folder, name);
-            }
+        if folder.join("libwengeludo.a").is_file() {
+            return folder;
         }
-        stop(&format!("neither libwengeludo.a nor libwengeludo.a in {} (WENGELUDO_ARCHIVE_DIR)", folder.display()));
+        stop(&format!("no libwengeludo.a in {} (WENGELUDO_ARCHIVE_DIR)", folder.display()));
     }
     let own = PathBuf::from(env::var_os("CARGO_MANIFEST_DIR").unwrap()).join("../../target/staticlib");
     if own.join("libwengeludo.a").is_file() {
-        return (own, "wengeludo");
+        return own;
     }
     match installed() {
-        Some(folder) => (folder, "wengeludo"),
+        Some(folder) => folder,
         None => {
             println!("cargo:rerun-if-changed={}", own.display());
             eprintln!("wengeludo_balance: no {}, and no wengeludo that pkg-config knows", own.join("libwengeludo.a").display());
-            eprintln!("Build it at the repository's root with `rt staticlib wengeludo` (Rattle kit rattle-kit-5 or later), install");
-            eprintln!("it with `bash install.sh PREFIX`, or name the folder that has it in WENGELUDO_ARCHIVE_DIR.");
+            eprintln!("Build it at the repository's root with `rt staticlib wengeludo` (Rattle kit rattle-kit-5 or later),");
+            eprintln!("install it with `bash install.sh PREFIX`, or name the folder that has it in WENGELUDO_ARCHIVE_DIR.");
             exit(1)
         }
     }
@@ -71,14 +69,14 @@ fn installed() -> Option<PathBuf> {
 }
 
 /// What the archive's wengeludo_version returns; none where it has no such call.
-fn version_of(folder: &Path, name: &str, path: &Path) -> Option<u32> {
+fn version_of(folder: &Path, path: &Path) -> Option<u32> {
     let out = PathBuf::from(env::var_os("OUT_DIR").unwrap());
     let (source, program) = (out.join("version.rs"), out.join("version"));
     let text = "extern \"C\" {\n    fn wengeludo_version() -> u32;\n}\nfn main() {\n    print!(\"{}\", unsafe { wengeludo_version() });\n}\n";
     fs::write(&source, text).unwrap_or_else(|error| stop(&format!("{}: {error}", source.display())));
     let mut rustc = Command::new(env::var_os("RUSTC").unwrap_or_else(|| "rustc".into()));
     rustc.arg("--edition=2021").arg("-o").arg(&program).arg(&source);
-    rustc.arg("-L").arg(format!("native={}", folder.display())).arg("-l").arg(format!("static={name}"));
+    rustc.arg("-L").arg(format!("native={}", folder.display())).args(["-l", "static=wengeludo"]);
     if let Some(linker) = env::var_os("RUSTC_LINKER") {
         rustc.arg("-C").arg(format!("linker={}", linker.to_string_lossy()));
     }

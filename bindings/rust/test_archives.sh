@@ -20,9 +20,9 @@ made() { # folder, version or none: an archive whose calls return 99
     {
         for call in $calls; do echo "unsigned char $call(void) { return 99; }"; done
         [ "$2" = none ] || echo "unsigned wengeludo_version(void) { return $2; }"
-    } >"$work/$1/linked.c"
-    "${CC:-cc}" -std=c11 -Wall -Wextra -Werror -ffunction-sections -c "$work/$1/linked.c" -o "$work/$1/linked.o"
-    ar rcs "$work/$1/libwengeludo.a" "$work/$1/linked.o"
+    } >"$work/$1/engine.c"
+    "${CC:-cc}" -std=c11 -Wall -Wextra -Werror -ffunction-sections -c "$work/$1/engine.c" -o "$work/$1/engine.o"
+    ar rcs "$work/$1/libwengeludo.a" "$work/$1/engine.o"
 }
 crate() { # folder, words for cargo
     (cd bindings/rust && WENGELUDO_ARCHIVE_DIR="$work/$1" CARGO_TARGET_DIR="$work/target" cargo "$2" --offline --quiet "${@:3}")
@@ -40,7 +40,7 @@ crate returns_99 test --test unknown_number -- --ignored 2>"$work/log" >&2 || { 
 grep -q '1 passed' "$work/log" || { cat "$work/log" >&2; exit 1; }
 made answers $((10000 * major + 100 * minor))
 {
-    grep -v 'wengeludo_read_sheet(' "$work/answers/linked.c"
+    grep -v 'wengeludo_read_sheet(' "$work/answers/engine.c"
     cat <<'C'
 #include <stddef.h>
 #include <stdint.h>
@@ -62,9 +62,9 @@ unsigned char wengeludo_read_sheet(const uint8_t *bytes, size_t length, uint8_t 
 }
 C
 } >"$work/answers/answers.c"
-"${CC:-cc}" -std=c11 -Wall -Wextra -Werror -ffunction-sections -c "$work/answers/answers.c" -o "$work/answers/linked.o"
+"${CC:-cc}" -std=c11 -Wall -Wextra -Werror -ffunction-sections -c "$work/answers/answers.c" -o "$work/answers/engine.o"
 rm "$work/answers/libwengeludo.a"
-ar rcs "$work/answers/libwengeludo.a" "$work/answers/linked.o"
+ar rcs "$work/answers/libwengeludo.a" "$work/answers/engine.o"
 crate answers test --test unknown_answer -- --ignored 2>"$work/log" >&2 || { cat "$work/log" >&2; exit 1; }
 grep -q '1 passed' "$work/log" || { cat "$work/log" >&2; exit 1; }
 made later_minor $((10000 * major + 100 * minor + 100))
@@ -74,5 +74,5 @@ refused another_major "libwengeludo.a is version $((major + 1)).0.0; this crate 
 made no_version none
 refused no_version "libwengeludo.a is older than 1.0.0"
 mkdir "$work/none"
-refused none "neither libwengeludo.a nor libwengeludo.a in"
+refused none "no libwengeludo.a in"
 echo "rust crate: fails closed at 99 and at kinds and verdicts that it does not know; takes $major.$((minor + 1)).0; refuses $((major + 1)).0.0, an archive without a version, and none"

@@ -72,13 +72,13 @@ def made(tmp_path_factory):
     def make(number, header=(1, 0, 0), answers=""):
         work = tmp_path_factory.mktemp("other")
         calls = [f"unsigned char {call}(void) {{ return 99; }}" for call in CALLS if f"{call}(" not in answers] + [answers]
-        (work / "linked.c").write_text("\n".join([*calls, f"unsigned wengeludo_version(void) {{ return {number}; }}", ""]))
+        (work / "engine.c").write_text("\n".join([*calls, f"unsigned wengeludo_version(void) {{ return {number}; }}", ""]))
         text = build_native.HEADER.read_text(encoding="utf-8")
         for part, value in zip(("MAJOR", "MINOR", "PATCH"), header):
             text = re.sub(rf"(VERSION_{part}) \d+", rf"\1 {value}", text)
         (work / "wengeludo_balance.h").write_text(text, encoding="utf-8")
-        subprocess.run([os.environ.get("CC") or "cc", "-fPIC", "-c", "linked.c", "-o", "linked.o"], cwd=work, check=True)
-        subprocess.run(["ar", "rcs", "other.a", "linked.o"], cwd=work, check=True)
+        subprocess.run([os.environ.get("CC") or "cc", "-fPIC", "-c", "engine.c", "-o", "engine.o"], cwd=work, check=True)
+        subprocess.run(["ar", "rcs", "other.a", "engine.o"], cwd=work, check=True)
         shutil.copytree(PACKAGE / "src" / "wengeludo_balance", work / "wengeludo_balance", ignore=shutil.ignore_patterns("_native*"))
         shutil.copytree(PACKAGE / "native", work / "native")
         env = {**os.environ, "WENGELUDO_INCLUDE": str(work), "WENGELUDO_ARCHIVE": str(work / "other.a"), "PYTHONPATH": str(work)}
