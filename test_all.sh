@@ -83,25 +83,16 @@ if [ "${1:-}" = "" ]; then
     part "the gate"
     bash .ci/run --gate
 fi
-if part "texts that are made from lists and samples, and what is to be believed" python3; then
-    python3 tools/versions.py
-    python3 tools/refusals.py
-    python3 tools/crate_list.py --check
-    python3 tools/edits.py --check
-    python3 tools/glossary.py
-    python3 tools/legible.py
-    python3 tools/picture.py
-    python3 tools/believe.py | tail -1
-    python3 tools/names.py
-    python3 tools/spdx.py || ! long
+if part "the texts: what is made from lists and samples, what they name, and what is to be believed" python3; then
+    ./dev texts
 fi
 part "the archive"
 rt staticlib wengeludo
 if part "the archive's bytes" python3; then
-    python3 tools/archive.py
+    ./dev archive
 fi
 if part "the archive's stack" python3 objdump; then
-    python3 tools/stack.py
+    ./dev stack
 fi
 if part "the C programs" "$compiler"; then
     bash programs/build.sh
@@ -115,9 +106,9 @@ if part "the programs themselves" python3; then
     python3 tests/programs.py
 fi
 if part "cases that are spoilt, and a start that must be worth something" python3 rt; then
-    python3 tools/spoilt_cases.py
-    python3 tools/hints.py
-    ! long || quietly target/built/hints.log '^hints: [0-9]+ worthless' python3 tools/hints.py --worthless
+    ./dev spoilt-cases
+    ./dev hints
+    ! long || quietly target/built/hints.log '^hints: [0-9]+ worthless' ./dev hints --worthless
 fi
 if part "C++" g++ clang++; then
     bash bindings/cpp/test.sh
@@ -139,8 +130,10 @@ fi
 if part "JavaScript" python3 node; then
     (long || export CHROMIUM=none; bash bindings/js/test.sh)
 fi
-if part "the cases and samples, made anew" python3; then
+if part "the cases and samples, made anew, and checked by themselves" python3; then
     quietly target/built/cases.log '^[0-9,]+ ' python3 reference/make_cases.py --check
+    python3 reference/certify.py
+    ! long || quietly target/built/brute.log . python3 reference/brute.py | tail -1
 fi
 if part "the Rust crate and the differential tests" cargo "$compiler" nm ar; then
     (cd bindings/rust && cargo test --offline --quiet -- --nocapture)
@@ -154,15 +147,16 @@ elif part "the Python binding and the desk tool" "$compiler"; then
     ! long || export WENGELUDO_AGREED=${WENGELUDO_AGREED:-100000}
     bash desk/test.sh
 fi
-if part "wrong programs of the host" python3 "$compiler"; then
+if part "wrong programs outside the proofs" python3 "$compiler"; then
     if long && [ -z "$absent" ]; then
-        quietly target/built/wrong.log '^wrong: ' python3 tools/wrong.py
+        quietly target/built/wrong.log '^wrong: ' ./dev wrong
     else
-        python3 tools/wrong.py c
-        python3 tools/wrong.py --applies || echo "wrong: the long run asks for them"
+        ./dev wrong c
+        ./dev wrong --applies || echo "wrong: the long run asks for them"
     fi
 fi
-if long && part "the benchmark, a short run" cargo; then
+if long && part "the benchmark's own tests, and a short run of it" cargo; then
+    (cd bench && quietly ../target/built/bench_tests.log '^test result: ok. [1-9]' cargo test --offline --quiet)
     quietly target/built/bench.log "$rows" bash bench/run.sh 5 1 | head -4
 fi
 if long && part "the list of meters worth a visit, a short run" cargo; then
@@ -188,7 +182,7 @@ if long && part "the Debian packages" dpkg-deb dpkg-shlibdeps lintian fakeroot p
     bash packaging/debian/test.sh
 fi
 if long && part "every command of the texts" python3; then
-    python3 tools/commands.py
+    ./dev doc-commands
 fi
 for what in "${skipped[@]+"${skipped[@]}"}"; do
     echo "test_all: SKIPPED $what"

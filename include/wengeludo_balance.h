@@ -6,7 +6,7 @@
  * WebAssembly of 32 bits size_t has fewer and the calls take 64-bit numbers all the same: see packaging/cross/lengths.h.
  * It needs nothing but the C library (memcpy, memset). The calls keep no state, allocate nothing, take less than
  * 72 KB of stack, and may run in several threads at once on memory of their own. On x86-64 they take at most 42,184 bytes of
- * stack, which is visits; balance_plant takes 39,112 and check_flow 11,632 (python3 tools/stack.py has each).
+ * stack, which is visits; balance_plant takes 39,112 and check_flow 11,632 (./dev stack has each).
  *
  * What holds of every pointer here, and what no call can check:
  *   - it points to as many elements as the length beside it says (a pointer without a length: to one, never NULL);

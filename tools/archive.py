@@ -2,10 +2,10 @@
 # SPDX-License-Identifier: LicenseRef-Wengeludo
 """The archive is the same byte for byte wherever it is built: its SHA-256 stands in docs/MEASURED.md, beside the kit that wrote it.
 
-    python3 tools/archive.py                    compares target/staticlib/libwengeludo.a with it, where the kit is the same
-    python3 tools/archive.py --write            records it, after a change of the engine or of the kit, and those of the other
+    ./dev archive                    compares target/staticlib/libwengeludo.a with it, where the kit is the same
+    ./dev archive --write            records it, after a change of the engine or of the kit, and those of the other
                                                      processors, which it builds by packaging/cross/build.sh
-    python3 tools/archive.py --of TARGET FILE   compares what packaging/cross/build.sh has built for another processor
+    ./dev archive --of TARGET FILE   compares what packaging/cross/build.sh has built for another processor
 """
 import hashlib
 import os
@@ -53,7 +53,7 @@ def compare(kit, found):
         print(f'archive: {found}, by {kit}; not compared, the one recorded is by {recorded_kit}')
     elif found != recorded:
         sys.exit(f'archive: {found}, and docs/MEASURED.md has {recorded} for the same kit ({kit}).\n'
-                 'Either the engine has changed and python3 tools/archive.py --write was not run, or it was not built from this text.')
+                 'Either the engine has changed and ./dev archive --write was not run, or it was not built from this text.')
     else:
         print(f'archive: {found}, as recorded for {kit}')
 
@@ -65,7 +65,7 @@ def compare_target(kit, target, path):
         sys.exit(f'archive: docs/MEASURED.md does not have one row for {target}')
     if kit == ROW.findall(text_of())[0][0] and found != rows[0][0]:
         sys.exit(f'archive: {found} for {target}, and docs/MEASURED.md has {rows[0][0]}. If the engine has changed, run\n'
-                 '    python3 tools/archive.py --write')
+                 '    ./dev archive --write')
 
 
 def write(kit, archive, found):
@@ -82,7 +82,7 @@ def write(kit, archive, found):
 
 def main(words):
     if words not in ([], ['--write']) and not (len(words) == 3 and words[0] == '--of' and words[1] in TARGETS):
-        sys.exit('usage: python3 tools/archive.py [--write | --of TARGET FILE]')
+        sys.exit('usage: ./dev archive [--write | --of TARGET FILE]')
     if shutil.which('rt') is None or not os.path.exists(ARCHIVE):
         sys.exit('archive: build it first, with `rt staticlib wengeludo` (Rattle kit rattle-kit-5 or later)')
     kit = subprocess.run(['rt', 'version'], capture_output=True, text=True, check=True).stdout.strip()

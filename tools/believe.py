@@ -1,9 +1,9 @@
 # SPDX-License-Identifier: LicenseRef-Wengeludo
 """What a reader of the promises must believe: every definition that they unfold to, and where it stands.
 
-    python3 tools/believe.py            fails where a name stands in no file that docs/PROMISES.md lists, or a count there is not true
-    python3 tools/believe.py --names    also each file's names
-    python3 tools/believe.py --table    the rows of the lists, with their counts
+    ./dev believe            fails where a name stands in no file that docs/PROMISES.md lists, or a count there is not true
+    ./dev believe --names    also each file's names
+    ./dev believe --table    the rows of the lists, with their counts
 
 It begins at the contracts of the exported calls (crates/wengeludo/src) and of the calls that the programs print by, and at the theorems of
 the record `Promises`, which stands above them, reads the names in each, finds the definition of each name in specs/ or in a declared struct or enum,

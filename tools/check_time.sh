@@ -2,7 +2,7 @@
 # How long the check takes at each of some commits, crate by crate, measured one after the other on this machine: for the note of a
 # change (docs/changes).
 #
-#     bash tools/check_time.sh BEFORE AFTER ..
+#     ./dev time commits BEFORE AFTER ..
 #
 # Each commit is cloned and proved from nothing (rt prove: no edits, no programs), one crate at a time so that times compare. Prints a
 # table in markdown: seconds by crate, their sum, then lines of specs, code and proofs. seconds.py beside this file measures one tree

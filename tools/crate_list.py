@@ -2,8 +2,8 @@
 # SPDX-License-Identifier: LicenseRef-Wengeludo
 """The list of crates, docs/CRATES.md, from crates.txt and the first sentence of each crate's lib.rt or main.rt.
 
-    python3 tools/crate_list.py           compares the list with the crates; status 1 where they differ
-    python3 tools/crate_list.py --write   makes it anew
+    ./dev texts crate_list           compares the list with the crates; status 1 where they differ
+    ./dev texts crate_list --write   makes it anew
 
 A comment line of crates.txt is a subject, and the crates below it are its rooms. The first sentence of the comment at the head of
 src/lib.rt, or src/main.rt, says what a crate holds: one sentence, of at most 160 characters.

@@ -2,8 +2,8 @@
 # SPDX-License-Identifier: LicenseRef-Wengeludo
 """The tables of docs/EDITS.md, from the must-fail edits themselves.
 
-    python3 tools/edits.py           compares the tables with the edits; status 1 where they differ
-    python3 tools/edits.py --write   makes the tables anew
+    ./dev texts edits           compares the tables with the edits; status 1 where they differ
+    ./dev texts edits --write   makes the tables anew
 
 An edit (crates/NAME/must-fail/EDIT.edit) starts with three lines, which rt passes over:
 

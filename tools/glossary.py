@@ -2,7 +2,7 @@
 # SPDX-License-Identifier: LicenseRef-Wengeludo
 """Whether the names that docs/GLOSSARY.md gives are in the code.
 
-    python3 tools/glossary.py
+    ./dev texts glossary
 
 In a table whose last column is headed "in code", each word in backticks there must be a name of crates/*/src or crates/*/specs,
 outside comments. Under "Words that the code uses for more than one thing" the words in backticks of every column must be. Prints how

@@ -2,9 +2,9 @@
 # SPDX-License-Identifier: LicenseRef-Wengeludo
 """Whether the solver's start is worth something: how many improvements fifty drawn plants take, beside a recorded count of each.
 
-    python3 tools/hints.py                  the counts, compared with tools/improvements.tsv
-    python3 tools/hints.py --write          records them anew, after a change of the start that is meant
-    python3 tools/hints.py --worthless      spoils the start in eleven ways, one after the other: each must show
+    ./dev hints                  the counts, compared with tools/improvements.tsv
+    ./dev hints --write          records them anew, after a change of the start that is meant
+    ./dev hints --worthless      spoils the start in eleven ways, one after the other: each must show
 
 A start is free to be anything: every sheet stays right and only takes longer, so no proof and no sheet shows that it is worthless. The
 crates are compiled without proof (tools/unproved.sh), with one more call that hands over the solver's own counter.
@@ -140,10 +140,10 @@ def main(words):
                 sys.exit(f'hints: {edit[0]}: nothing shows it')
         return f'hints: {len(WORTHLESS)} worthless starts, each is seen'
     if words:
-        sys.exit('usage: python3 tools/hints.py [--write | --worthless]')
+        sys.exit('usage: ./dev hints [--write | --worthless]')
     other, told = differences(counts())
     if other:
-        sys.exit(f'hints: {told}\nhints: if the start was changed on purpose: python3 tools/hints.py --write')
+        sys.exit(f'hints: {told}\nhints: if the start was changed on purpose: ./dev hints --write')
     return f'hints: {told}'
 
 

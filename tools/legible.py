@@ -2,7 +2,7 @@
 # SPDX-License-Identifier: LicenseRef-Wengeludo
 """The crates can be read: the rules of CONTRIBUTING.md on functions, contracts and proofs that a program can tell.
 
-    python3 tools/legible.py    status 1 where a rule is broken, with each place
+    ./dev texts legible    status 1 where a rule is broken, with each place
 
 - A line of code or of definitions has at most 160 characters, one of a proof 200; a chain has at most six `.before`.
 - A function's body is under 40 lines, with one loop at most; it has at most 7 parameters, an exported call as many as C wants.

@@ -16,8 +16,8 @@ def between(text, begin, end, lines):
 
 def remake(program, words, texts, told):
     """Compares texts with what is made of them, or writes them: `texts` has for each path a function from the old text to the new."""
-    if words not in ([], ['--check'], ['--write']):
-        sys.exit(f'usage: python3 tools/{program}.py [--check | --write]')
+    if words not in ([], ['--write']):
+        sys.exit(f'usage: ./dev texts {program} [--write]')
     differ = False
     for path, make in texts.items():
         with open(os.path.join(ROOT, path), encoding='utf-8') as file:
@@ -33,7 +33,7 @@ def remake(program, words, texts, told):
             print(f'{program}: {path} made anew')
         else:
             differ = True
-            print(f'{program}: {path} is not what it is made from; run python3 tools/{program}.py --write', file=sys.stderr)
+            print(f'{program}: {path} is not what it is made from; run ./dev texts {program} --write', file=sys.stderr)
     if differ:
         sys.exit(1)
     if words != ['--write']:

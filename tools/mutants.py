@@ -3,14 +3,14 @@
 """A mutation run: small changes of the desk, the bindings, C, C++, Rust and what installs, drawn by a seed; each must fail a test of the
 short run that is meant for it.
 
-    python3 tools/mutants.py                       300 mutants from seed 1, by the short run
-    python3 tools/mutants.py --count 50 --seed 7   other ones
-    python3 tools/mutants.py --long                by the long run's numbers of draws
-    python3 tools/mutants.py --only desk,rust      of some parts
-    python3 tools/mutants.py --list                prints them, and tries none
-    python3 tools/mutants.py --map FILE         of the desk by the tests that run the changed line (tools/seen.py), the map kept in FILE
-    python3 tools/mutants.py --jobs 3           three copies of the tree at a time
-    python3 tools/mutants.py --again FILE       those of a log that survived, once more
+    ./dev mutants                       300 mutants from seed 1, by the short run
+    ./dev mutants --count 50 --seed 7   other ones
+    ./dev mutants --long                by the long run's numbers of draws
+    ./dev mutants --only desk,rust      of some parts
+    ./dev mutants --list                prints them, and tries none
+    ./dev mutants --map FILE         of the desk by the tests that run the changed line (tools/seen.py), the map kept in FILE
+    ./dev mutants --jobs 3           three copies of the tree at a time
+    ./dev mutants --again FILE       those of a log that survived, once more
 
 A comparison is turned, a number moved by one, a sign or a word exchanged, a line dropped, a text changed. A change that no compiler takes is
 no mutant, and another is drawn in its place. A survivor is printed with its file, line and change; --log FILE keeps all of them.

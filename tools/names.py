@@ -2,8 +2,8 @@
 # SPDX-License-Identifier: LicenseRef-Wengeludo
 """Every file, crate, definition's file and edit that the texts name is there, and every crate and edit is named.
 
-    python3 tools/names.py          status 1 where one is not
-    python3 tools/names.py --list   prints each name, and what it stands for
+    ./dev texts names          status 1 where one is not
+    ./dev texts names --list   prints each name, and what it stands for
 
 A name is a path below a folder of the repository, anywhere in a text; in a piece of code also `crate/specs/File`, `crate/proofs/File`,
 `crate/src/file` and `crate/edit`. `{a,b}` stands for both, `*` for anything. A relative link must lead somewhere. docs/EDITS.md names
@@ -117,7 +117,7 @@ def unnamed(crates):
 
 def main(words):
     if words not in ([], ['--list']):
-        sys.exit('usage: python3 tools/names.py [--list]')
+        sys.exit('usage: ./dev texts names [--list]')
     crates = {os.path.basename(path) for path in glob.glob(os.path.join(ROOT, 'crates', '*'))}
     faults, count, words_written = list(unnamed(crates)), 0, written()
     texts = sorted(os.path.relpath(path, ROOT) for pattern in TEXTS for path in glob.glob(os.path.join(ROOT, pattern)))

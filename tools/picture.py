@@ -3,8 +3,8 @@
 """The picture of a sample's sheet, docs/sheet.svg: the plant of samples/blind_site.bin, each stream with what its sheet shows
 (samples/blind_site.expected, which `balance` prints, byte for byte).
 
-    python3 tools/picture.py           holds the picture against the sample: every stream with its number, class and flow
-    python3 tools/picture.py --write   draws it, by Graphviz (Debian: apt-get install graphviz)
+    ./dev texts picture           holds the picture against the sample: every stream with its number, class and flow
+    ./dev texts picture --write   draws it, by Graphviz (Debian: apt-get install graphviz)
 """
 import html
 import math
@@ -95,7 +95,7 @@ def check():
     pairs = list(zip(texts, texts[1:]))
     missing += [f'{a} {b}' for a, b in (shown(k, *r) for k, r in enumerate(records, 1)) if (a, b) not in pairs]
     if missing:
-        sys.exit(f'picture: docs/sheet.svg lacks {missing}; run python3 tools/picture.py --write')
+        sys.exit(f'picture: docs/sheet.svg lacks {missing}; run ./dev texts picture --write')
     print(f'picture: docs/sheet.svg shows the {len(records)} streams of the sample\'s sheet and its total')
 
 
@@ -103,5 +103,5 @@ if __name__ == '__main__':
     if sys.argv[1:] == ['--write']:
         write()
     elif sys.argv[1:]:
-        sys.exit('usage: python3 tools/picture.py [--write]')
+        sys.exit('usage: ./dev texts picture [--write]')
     check()

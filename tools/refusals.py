@@ -2,8 +2,8 @@
 # SPDX-License-Identifier: LicenseRef-Wengeludo
 """The refusals, from one list: tools/refusals.tsv has a line for each (number, name in C, name in Rust, sentence, smallest file).
 
-    python3 tools/refusals.py           compares what is made from the list with the list; status 1 where they differ
-    python3 tools/refusals.py --write   makes it anew
+    ./dev texts refusals           compares what is made from the list with the list; status 1 where they differ
+    ./dev texts refusals --write   makes it anew
 
 Made from it, each between two marks: the enum and wengeludo_refusal_text in the C header, the enum of wengeludo.hpp, the enum and
 the texts of the Rust crate, those of the Python package and of the JavaScript module, the tables in docs/FORMATS.md: the refusals, and which numbers are

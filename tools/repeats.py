@@ -2,7 +2,7 @@
 # SPDX-License-Identifier: LicenseRef-Wengeludo
 """Runs of lines that stand twice in the .antt and .rt files below a folder, alike but for names and numbers.
 
-    python3 tools/repeats.py [DIR] [--lines N] [--most N] [--exact]
+    ./dev repeats [DIR] [--lines N] [--most N] [--exact]
 
 A row names two places and how many lines they share (at least --lines, 6; at most --most rows, 12). Comments, blank lines, imports
 and lines of punctuation are passed over. With --exact only runs that are the same to the letter count. A row is a place to look at:

@@ -2,9 +2,9 @@
 # SPDX-License-Identifier: LicenseRef-Wengeludo
 """Where the time of the check goes, in seconds of processor time (user and system), one check at a time.
 
-    python3 tools/seconds.py crates [NAME ...]   proves the crates in order, from nothing: a line for each, and the sum
-    python3 tools/seconds.py edits [NAME ...]    tries the must-fail edits: a line for each, and the sum
-    python3 tools/seconds.py modules NAME        checks one crate: its modules, the slowest first (seconds of the clock)
+    ./dev time crates [NAME ...]   proves the crates in order, from nothing: a line for each, and the sum
+    ./dev time edits [NAME ...]    tries the must-fail edits: a line for each, and the sum
+    ./dev time modules NAME        checks one crate: its modules, the slowest first (seconds of the clock)
 
 With names, these crates alone: those below them must have been proved by an earlier `crates`, as for `edits` and `modules`.
 What it writes stands in target/seconds, apart from what rt keeps. It gives no verdict: rt does.

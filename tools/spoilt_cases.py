@@ -2,7 +2,7 @@
 # SPDX-License-Identifier: LicenseRef-Wengeludo
 """Whether `vectors` sees a difference: the compiled program over copies of its cases, each of which has one byte changed.
 
-    python3 tools/spoilt_cases.py   after `rt check vectors` or the gate
+    ./dev spoilt-cases   after `rt check vectors` or the gate
 
 In the first copy a byte of what a call tells is changed (its number, its count, the number handed back), in the second a byte of what
 it leaves in the slice; in the third nothing. Each changed case must be told as different, by its number, and no other one.

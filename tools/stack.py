@@ -2,7 +2,7 @@
 # SPDX-License-Identifier: LicenseRef-Wengeludo
 """The most stack that each exported call takes, by its instructions: what every function pushes and sets aside, along the deepest chain.
 
-    python3 tools/stack.py [ARCHIVE]   the calls with their bytes, for x86-64; status 1 if the header says another most
+    ./dev stack [ARCHIVE]   the calls with their bytes, for x86-64; status 1 if the header says another most
 
 A bound for every input, since no function calls itself and none sets aside a number of bytes that it works out. memcpy and memset are the
 C library's and are not counted.

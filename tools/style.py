@@ -2,9 +2,9 @@
 # SPDX-License-Identifier: LicenseRef-Wengeludo
 """The style of the texts, as far as a program can tell it: sentences, words that CONTRIBUTING.md asks not to use, words by document.
 
-    python3 tools/style.py           status 1 if a rule is broken, with each place
-    python3 tools/style.py --words   prints the words of each document, written by hand, beside the most that it may have
-    python3 tools/style.py FILE ..   the rules on sentences and words, for these files alone
+    ./dev texts style           status 1 if a rule is broken, with each place
+    ./dev texts style --words   prints the words of each document, written by hand, beside the most that it may have
+    ./dev texts style FILE ..   the rules on sentences and words, for these files alone
 
 - A sentence has at most 40 words. A piece of code counts as one word; an item of a list and a cell of a table are texts of their own.
 - "if" and not "where" for a condition; "is" and not "stands"; a noun before "who"; no verb before its subject ("Compared are"); "the
@@ -139,7 +139,7 @@ def main(given):
         print(f'{sum(found.values()):6,}  {TOGETHER:>6}  together')
         return
     if any(word.startswith('-') for word in given):
-        sys.exit('usage: python3 tools/style.py [--words | FILE ..]')
+        sys.exit('usage: ./dev texts style [--words | FILE ..]')
     told = [fault for path in given or documents() for fault in faults(path)]
     if not given:
         told += [fault for path in documents() if path.startswith('docs/decisions/') for fault in entries(path)]

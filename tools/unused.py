@@ -2,8 +2,8 @@
 # SPDX-License-Identifier: LicenseRef-Wengeludo
 """Names that nothing uses, specs that lean on proofs, and how the crates lean on one another.
 
-    python3 tools/unused.py            names defined at the top of a .antt file, or functions of src/, that occur nowhere else
-    python3 tools/unused.py --leans    for each crate the files that it uses of other crates; specs that cite proofs are marked
+    ./dev unused            names defined at the top of a .antt file, or functions of src/, that occur nowhere else
+    ./dev unused --leans    for each crate the files that it uses of other crates; specs that cite proofs are marked
 
 A place to look, not a verdict: a theorem that is the end of the reading is cited by nothing. What the prover itself looks for in a
 function's Proof.antt is left out.

@@ -2,9 +2,9 @@
 # SPDX-License-Identifier: LicenseRef-Wengeludo
 """Wrong programs of the host: each edit of tools/wrong is applied to a copy of the tree, and the test that it names must fail.
 
-    python3 tools/wrong.py              all of them
-    python3 tools/wrong.py desk c       those of some files
-    python3 tools/wrong.py --applies    only whether each still applies, and whether it names a part
+    ./dev wrong              all of them
+    ./dev wrong desk c       those of some files
+    ./dev wrong --applies    only whether each still applies, and whether it names a part
 
 An edit has `wrong`, `file`, `old` and `new`; several lines of `old` or `new` stand one below the other. `seen by` names the part of the
 tests, and of the desk and the binding also the test file; the one at the head of a file holds for all edits that name none.

@@ -57,7 +57,7 @@ same_object() { # module, words
 # The module stays in target/cross under the sum of the archive that it came to.
 module() {
     local sum
-    if [ -e "$archive" ] && python3 tools/archive.py >/dev/null 2>&1; then
+    if [ -e "$archive" ] && ./dev archive >/dev/null 2>&1; then
         sum=$(sha256sum <"$archive" | cut -d' ' -f1)
         kept=target/cross/$sum
         if [ -e "$kept.bc" ] && [ -e "$kept.words" ] && same_object "$kept.bc" "$kept.words"; then return; fi
@@ -73,7 +73,7 @@ module() {
 }
 
 module
-python3 tools/archive.py
+./dev archive
 "$clang" --target=x86_64-unknown-linux-gnu -x ir -S -emit-llvm -Xclang -disable-llvm-passes "$kept.bc" -o "$tmp/proved.ll"
 python3 packaging/cross/retarget.py "$tmp/proved.ll" "$tmp/$target.ll" "$target"
 common=(-O3 -ffp-contract=off -ffunction-sections -fdata-sections --no-default-config -no-canonical-prefixes -fno-crash-diagnostics)

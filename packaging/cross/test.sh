@@ -90,4 +90,4 @@ case $1 in
 wasm32) module; same wasm32 node packaging/cross/run.mjs "$tmp/wasm32" ;;
 *) driver "$1" "$1-unknown-linux-gnu" "$out"; same "$1" "qemu-$1-static" "$tmp/$1" ;;
 esac
-python3 tools/archive.py --of "$1" "$out"
+./dev archive --of "$1" "$out"

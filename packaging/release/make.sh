@@ -15,10 +15,10 @@ cd "$(dirname "$0")/../.."
 fail() { echo "release: $*" >&2; exit 1; }
 [ ! -e "$out" ] || fail "$out is there already: another folder would do"
 [ -n "${WENGELUDO_CHANGED:-}" ] || [ -z "$(git status --porcelain)" ] || fail "the tree has changes that are not committed: a release is made of a commit"
-python3 tools/versions.py
-python3 tools/refusals.py
+./dev versions
+./dev texts refusals
 [ -e target/staticlib/libwengeludo.a ] || rt staticlib wengeludo >/dev/null
-python3 tools/archive.py
+./dev archive
 version=$(sed -n 's/^version = "\(.*\)"/\1/p' bindings/python/pyproject.toml)
 work=$(mktemp -d)
 trap 'rm -rf "$work"' EXIT
@@ -29,10 +29,10 @@ cp target/staticlib/libwengeludo.a "$parts/libwengeludo-$version-x86_64.a"
 cp include/wengeludo_balance.h include/wengeludo.hpp bindings/c/wengeludo_fault.h LICENCE "$parts/"
 for target in aarch64 riscv64; do
     bash packaging/cross/build.sh "$target" "$parts/libwengeludo-$version-$target.a" >/dev/null
-    python3 tools/archive.py --of "$target" "$parts/libwengeludo-$version-$target.a"
+    ./dev archive --of "$target" "$parts/libwengeludo-$version-$target.a"
 done
 bash packaging/cross/build.sh wasm32 "$work/js/wengeludo.wasm" >/dev/null
-python3 tools/archive.py --of wasm32 "$work/js/wengeludo.wasm"
+./dev archive --of wasm32 "$work/js/wengeludo.wasm"
 cp bindings/js/{wengeludo.js,wengeludo.d.ts,package.json,README.md} LICENCE "$work/js/"
 stamp=$(git log -1 --format=%ct)
 tar -C "$work" --sort=name --mtime="@$stamp" --owner=0 --group=0 --numeric-owner -cf - js | gzip -n9 >"$parts/wengeludo-js-$version.tar.gz"

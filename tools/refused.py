@@ -2,7 +2,7 @@
 # SPDX-License-Identifier: LicenseRef-Wengeludo
 """Why each must-fail edit was refused, after `rt must-fail` or `rt ci`, from target/must-fail/*/*/.log.
 
-    python3 tools/refused_at.py [CRATE ..]
+    ./dev refused [CRATE ..]
 
 A line for each edit: what it changes (src or specs), the proof and the need that fails first, and the message, cut. Marks where the
 reason deserves a look:
@@ -57,7 +57,7 @@ def main(words):
         sys.exit(__doc__.strip())
     os.chdir(ROOT)
     if not os.path.isdir(TOP):
-        sys.exit(f'refused_at: no {TOP}; run rt must-fail first')
+        sys.exit(f'refused: no {TOP}; run rt must-fail first')
     for crate in sorted(os.listdir(TOP)):
         if words and crate not in words or not os.path.isdir(f'{TOP}/{crate}'):
             continue

@@ -2,9 +2,9 @@
 # SPDX-License-Identifier: LicenseRef-Wengeludo
 """Every command that README.md, CONTRIBUTING.md, docs/ and the README of samples, reference, bindings and desk name, read out of the text and run.
 
-    python3 tools/commands.py          runs them; status 1 where one fails or prints something else than the text says
-    python3 tools/commands.py --all    also those that take minutes
-    python3 tools/commands.py --list   prints what would be done with each
+    ./dev doc-commands          runs them; status 1 where one fails or prints something else than the text says
+    ./dev doc-commands --all    also those that take minutes
+    ./dev doc-commands --list   prints what would be done with each
 
 A command is a line that starts with `$ ` in a block marked sh (the lines below it are what it prints; `...` stands for any lines), a
 line of an indented block, or a piece of code in a sentence, where it starts with the name of a program. Blocks marked c, cpp, rust and
@@ -27,7 +27,7 @@ from typing import NamedTuple
 ROOT = os.path.abspath(os.path.join(os.path.dirname(__file__), '..'))
 ARCHIVE = 'target/staticlib/libwengeludo.a'
 FIRST = re.compile(r'^(?:[A-Z_]+=\S+ )*(?:(?:rt|bash|sh|wengeludo|cargo|(?:/usr/bin/)?python3|cc|c\+\+|cmake|ctest|pkg-config|man|time|mkdir|cp|git'
-                   r'|pip|dot) +\S|target/(?:bin|host|python)/\S+(?: |$))')
+                   r'|pip|dot|\./dev) +\S|target/(?:bin|built|python)/\S+(?: |$))')
 DESK = 'target/desk/bin/wengeludo'  # there where Debian's packages are, by desk/test.sh
 LIMIT = 900  # seconds for one command
 
@@ -44,16 +44,19 @@ RULES = [
     Rule(r'bash test_all\.sh( --after-gate)?', 'not', 'this test is a part of it'),
     Rule(r'rt (check|dev|must-fail)( \[NAME\.\.\]| LOWER| CRATE| NAME)?', 'run', r'rt \1 version'),
     Rule(r'rt fmt', 'run', 'rt fmt --check'),
-    Rule(r'python3 tools/dev\.py CRATE', 'run', 'python3 tools/dev.py version'),
-    Rule(r'bash tools/places\.sh CRATE FUNCTION', 'run', 'bash tools/places.sh version version_number'),
-    Rule(r'python3 tools/refused_at\.py.*', 'run', 'rt must-fail version && python3 tools/refused_at.py version'),
-    Rule(r'python3 tools/audit\.py', 'run', r'\g<0> || [ $? = 1 ]'),
-    Rule(r'python3 tools/repeats\.py( \[DIR\])?', 'run', 'python3 tools/repeats.py crates/version'),
-    Rule(r'bash tools/unproved\.sh OUT\.so', 'run', 'bash tools/unproved.sh target/built/unproved.so'),
-    Rule(r'bash tools/check_time\.sh BEFORE AFTER', 'not', 'it proves two versions from nothing'),
-    Rule(r'python3 tools/(archive|refusals|crate_list|edits)\.py --write', 'run', r'cd "$COPY" && \g<0> && python3 tools/\1.py'),
-    Rule(r'python3 tools/(picture)\.py --write', 'run', r'cd "$COPY" && \g<0> && python3 tools/\1.py', 'dot'),
-    Rule(r'python3 tools/seconds\.py (crates|edits|modules).*', 'run', r'python3 tools/seconds.py \1 version'),
+    Rule(r'\./dev prove CRATE', 'run', './dev prove version'),
+    Rule(r'\./dev where CRATE FUNCTION', 'run', './dev where version version_number'),
+    Rule(r'\./dev refused.*', 'run', 'rt must-fail version && ./dev refused version'),
+    Rule(r'\./dev repeats( \[DIR\])?', 'run', './dev repeats crates/version'),
+    Rule(r'\./dev unproved OUT\.so', 'run', './dev unproved target/built/unproved.so'),
+    Rule(r'\./dev time commits BEFORE AFTER', 'not', 'it proves two versions from nothing'),
+    Rule(r'(\./dev (?:archive|texts (?:refusals|crate_list|edits))) --write', 'run', r'cd "$COPY" && \g<0> && \1'),
+    Rule(r'(\./dev texts(?: picture)?) --write', 'run', r'cd "$COPY" && \g<0> && \1', 'dot'),
+    Rule(r'\./dev prove', 'not', 'the gate proves every crate'),
+    Rule(r'\./dev wrong', 'not', 'test_all.sh runs it in the long run'),
+    Rule(r'\./dev hints --worthless', 'not', 'test_all.sh runs it in the long run'),
+    Rule(r'\./dev( [A-Z]{3,}| texts NAME).*|\./dev', 'run', './dev'),
+    Rule(r'\./dev time (crates|edits|modules).*', 'run', r'./dev time \1 version'),
     Rule(r'bash install\.sh (--uninstall )?PREFIX', 'run', r'bash install.sh \1"$PREFIX"'),
     Rule(r'bash packaging/cross/build\.sh( TARGET OUT)?', 'not', 'a form; the commands of docs/LINKING.md are run'),
     Rule(r'bash packaging/cross/test\.sh \S+', 'not', 'test_all.sh runs it for each processor whose emulator is there'),
@@ -69,12 +72,11 @@ RULES = [
     Rule(r'python3 (?:bindings/python/)?time_wide\.py.*', 'run', 'target/desk/bin/python3 bindings/python/time_wide.py 200 || [ $? = 1 ]', DESK),
     Rule(r'cargo doc --open', 'run', 'cargo doc --offline --no-deps'),
     Rule(r'(?:WENGELUDO_\w+=\d+ )*(cargo test .*)', 'run', r'WENGELUDO_INPUTS=2000 \1'),
-    Rule(r'python3 tools/mutants\.py.*', 'run', 'python3 tools/mutants.py --list --count 5'),  # a run of them takes hours
+    Rule(r'\./dev mutants.*', 'run', './dev mutants --list --count 5'),  # a run of them takes hours
     Rule(r'bash bench/run\.sh --before LIBRARY.*', 'run', f'bash bench/run.sh --before {ARCHIVE} 2 0'),
     Rule(r'bash bench/(run|visits|checks|flows)\.sh.*', 'run', r'bash bench/\1.sh 2 1'),
     Rule(r'bash tests/fuzz/run\.sh \S+', 'run', 'bash tests/fuzz/run.sh 1'),
     Rule(r'python3 reference/desk_tool\.py --hold', 'long', r'\g<0>'),
-    Rule(r'python3 reference/(brute|certify)\.py', 'long', r'\g<0>'),
     Rule(r'python3 reference/make_cases\.py --write', 'long', r'cd "$COPY" && \g<0> && diff -rq crates "$TREE/crates" && diff -rq samples "$TREE/samples"'),
     Rule(r'time COMMAND', 'not', 'a form, with any command'),
 ]
@@ -312,7 +314,7 @@ def run_all(commands, codes, everything):
 
 def main(args):
     if args not in ([], ['--all'], ['--list']):
-        sys.exit('usage: python3 tools/commands.py [--all | --list]')
+        sys.exit('usage: ./dev doc-commands [--all | --list]')
     commands, codes = gathered()
     if args == ['--list']:
         return listed(commands)
@@ -321,7 +323,7 @@ def main(args):
     os.makedirs(os.path.join(ROOT, 'target', 'built'), exist_ok=True)
     failed, counts = run_all(commands, codes, bool(args))
     fitted = {rule.pattern for rule in (plan(command)[2] for command in commands) if rule}
-    failed += [f'tools/commands.py: no text has a command for the rule {rule.pattern}' for rule in RULES if rule.pattern not in fitted]
+    failed += [f'tools/doc_commands.py: no text has a command for the rule {rule.pattern}' for rule in RULES if rule.pattern not in fitted]
     for text in failed:
         print(f'commands: {text}', file=sys.stderr)
     if failed:

@@ -1,11 +1,12 @@
 #!/usr/bin/env python3
 # SPDX-License-Identifier: LicenseRef-Wengeludo
-"""rt dev, easier to read.
+"""Proves: all crates by `rt check`, or some by `rt dev`, easier to read.
 
-    python3 tools/dev.py CRATE            errors and goals, long module paths shortened, proved functions left out
-    python3 tools/dev.py CRATE --stubs    also writes each printed proof skeleton to its file, where there is none yet
-    python3 tools/dev.py CRATE --holes    with --allow-holes: the goal of each '?'
-    python3 tools/dev.py CRATE --full     lines are not cut at 700 characters
+    ./dev prove                  every crate that has changed, and runs the programs (rt check)
+    ./dev prove CRATE ..         errors and goals, long module paths shortened, proved functions left out
+    ./dev prove CRATE --stubs    also writes each printed proof skeleton to its file, if there is none yet
+    ./dev prove CRATE --holes    with --allow-holes: the goal of each '?'
+    ./dev prove CRATE --full     lines are not cut at 700 characters
 
 The whole output is kept in target/dev-CRATE.log. The status is that of rt.
 """
@@ -70,21 +71,27 @@ def short(line, crate, full):
     return line if full or len(line) < LONGEST else line[:LONGEST] + ' …'
 
 
-def main(words):
-    flags = set(words[1:])
-    if not words or words[0].startswith('-') or flags - FLAGS:
-        sys.exit(__doc__.strip())
-    crate = words[0]
-    os.chdir(ROOT)
-    run = subprocess.run(['rt', 'dev', crate] + (['--allow-holes'] if '--holes' in flags else []), capture_output=True, text=True,
-                         env=dict(os.environ, RT_CUT='0'))
+def prove(crate, flags):
+    """The status of `rt dev`, and what it says that tells something."""
+    words = ['--allow-holes'] if '--holes' in flags else []
+    run = subprocess.run(['rt', 'dev', crate, *words], capture_output=True, text=True, env=dict(os.environ, RT_CUT='0'))
     said = run.stdout + run.stderr
     os.makedirs('target', exist_ok=True)
     with open(f'target/dev-{crate}.log', 'w', encoding='utf-8') as log:
         log.write(said)
     for line in shown(said.split('\n'), '--stubs' in flags):
         print(short(line, crate, '--full' in flags))
-    sys.exit(run.returncode)
+    return run.returncode
+
+
+def main(words):
+    flags, crates = {word for word in words if word.startswith('-')}, [word for word in words if not word.startswith('-')]
+    if flags - FLAGS or flags and not crates:
+        sys.exit(__doc__.strip())
+    os.chdir(ROOT)
+    if not crates:
+        os.execvp('rt', ['rt', 'check'])
+    sys.exit(max(prove(crate, flags) for crate in crates))
 
 
 if __name__ == '__main__':
