@@ -8,9 +8,9 @@ short run that is meant for it.
     ./dev mutants --long                by the long run's numbers of draws
     ./dev mutants --only desk,rust      of some parts
     ./dev mutants --list                prints them, and tries none
-    ./dev mutants --map FILE         of the desk by the tests that run the changed line (tools/seen.py), the map kept in FILE
-    ./dev mutants --jobs 3           three copies of the tree at a time
-    ./dev mutants --again FILE       those of a log that survived, once more
+    ./dev mutants --map FILE            of the desk by the tests that run the changed line (tools/seen.py), the map kept in FILE
+    ./dev mutants --jobs 3              three copies of the tree at a time
+    ./dev mutants --again FILE          those of a log that survived, once more
 
 A comparison is turned, a number moved by one, a sign or a word exchanged, a line dropped, a text changed. A change that no compiler takes is
 no mutant, and another is drawn in its place. A survivor is printed with its file, line and change; --log FILE keeps all of them.
