@@ -3,7 +3,7 @@
     python3 reference/make_cases.py --check   compare with the committed files
     python3 reference/make_cases.py --write   write them anew
 
-cases.py says what a case looks like.
+cases.py says what a case looks like. The table of reference/README.md is made too.
 """
 
 import sys
@@ -19,6 +19,8 @@ ROOT = Path(__file__).resolve().parent.parent
 VECTORS = ROOT / "crates" / "vectors"
 DATA = VECTORS / "data"
 CASES_AT_LEAST = 3_700
+README = ROOT / "reference" / "README.md"
+BEGIN, END = "<!-- cases: table, from reference/subjects.py -->\n", "<!-- cases: end of table -->\n"
 
 
 def difference(made, kept):
@@ -28,6 +30,14 @@ def difference(made, kept):
     common = min(len(made), len(kept))
     first = next((k for k in range(common) if made[k] != kept[k]), common)
     return f"byte {first} ({len(made)} bytes made, {len(kept)} committed)"
+
+
+def table(counts):
+    """The text of README.md with the table of the files of cases in it."""
+    rows = [f"| `{name}.bin` | {tries} | {counts[name]:,} |" for name, _, tries in subjects.SUBJECTS]
+    lines = ["| file | tries | cases |", "|---|---|---|", *rows, f"| together | | {sum(counts.values()):,} |"]
+    before, rest = README.read_text(encoding="utf-8").split(BEGIN)
+    return before + BEGIN + "\n".join(lines) + "\n" + END + rest.split(END)[1]
 
 
 def main(arguments):
@@ -52,8 +62,8 @@ def main(arguments):
             different += 1
         print(f"{path.relative_to(ROOT)}: {told}" + (f"; DIFFERENT: {found}" if found else ""), flush=True)
 
-    printed = ""
-    for name, cases_of in subjects.SUBJECTS:
+    printed, counts = "", {}
+    for name, cases_of, _ in subjects.SUBJECTS:
         begun = time.monotonic()
         records = []
         for case in cases_of():
@@ -65,8 +75,10 @@ def main(arguments):
         told = f"{len(records)} cases, {refused} refused, {time.monotonic() - begun:.1f} s"
         settle(DATA / f"{name}.bin", b"".join(map(cases.encoded, records)), told)
         printed += f"{name}.bin, cases: {len(records)}\n"
-    settle(VECTORS / "args", "".join(f"{name}.bin\n" for name, _ in subjects.SUBJECTS).encode(), "the program's arguments")
+        counts[name] = len(records)
+    settle(VECTORS / "args", "".join(f"{name}.bin\n" for name, _, _ in subjects.SUBJECTS).encode(), "the program's arguments")
     settle(VECTORS / "stdout", printed.encode(), "what the program prints")
+    settle(README, table(counts).encode(), "the table of the cases")
     flows = wide_to_try.text()
     settle(ROOT / "reference" / "flows.cases", flows.encode(), f"{flows.count('#')} cases of the check of a flow")
     for path, made in samples.files():
