@@ -14,7 +14,7 @@ import sys
 
 TOOLS = os.path.dirname(os.path.abspath(__file__))
 CHECKS = ('versions', 'refusals', 'crate_list', 'edits', 'glossary', 'legible', 'audit', 'picture', 'believe', 'names', 'spdx')
-ALONE = ('style',)  # run by name
+ALONE = ('style', 'old_crates')  # run by name
 MADE = ('refusals', 'crate_list', 'edits', 'picture', 'spdx')  # these take --write
 
 
