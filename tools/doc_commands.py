@@ -52,10 +52,6 @@ RULES = [
     Rule(r'\./dev time commits BEFORE AFTER', 'not', 'it proves two versions from nothing'),
     Rule(r'(\./dev (?:archive|texts (?:refusals|crate_list|edits))) --write', 'run', r'cd "$COPY" && \g<0> && \1'),
     Rule(r'(\./dev texts(?: picture)?) --write', 'run', r'cd "$COPY" && \g<0> && \1', 'dot'),
-    Rule(r'\./dev prove', 'not', 'the gate proves every crate'),
-    Rule(r'\./dev wrong', 'not', 'test_all.sh runs it in the long run'),
-    Rule(r'\./dev hints --worthless', 'not', 'test_all.sh runs it in the long run'),
-    Rule(r'\./dev( [A-Z]{3,}| texts NAME).*|\./dev', 'run', './dev'),
     Rule(r'\./dev time (crates|edits|modules).*', 'run', r'./dev time \1 version'),
     Rule(r'bash install\.sh (--uninstall )?PREFIX', 'run', r'bash install.sh \1"$PREFIX"'),
     Rule(r'bash packaging/cross/build\.sh( TARGET OUT)?', 'not', 'a form; the commands of docs/LINKING.md are run'),
@@ -70,6 +66,9 @@ RULES = [
     Rule(r'(?:WENGELUDO_\w+=\d+ )*python3 -m pytest.*', 'not', 'desk/test.sh runs it, in an environment of its own'),
     Rule(r'bash (?:bindings/python/)?native/(bench|sanitize)\.sh.*', 'run', r'bash bindings/python/native/\1.sh 500'),
     Rule(r'python3 (?:bindings/python/)?time_wide\.py.*', 'run', 'target/desk/bin/python3 bindings/python/time_wide.py 200 || [ $? = 1 ]', DESK),
+    Rule(r'python3 (desk/tests/draws\.py) (rates) .*', 'run', r'PYTHONPATH=desk/src:desk/tests target/desk/bin/python3 \1 \2 2 3', DESK),
+    Rule(r'python3 (desk/tests/draws\.py) (check) .*', 'run', r'PYTHONPATH=desk/src:desk/tests target/desk/bin/python3 \1 \2 1000', DESK),
+    Rule(r'python3 (desk/tests/million\.py) FOLDER', 'run', r'mkdir -p "$PREFIX" && PYTHONPATH=desk/src:desk/tests target/desk/bin/python3 \1 "$PREFIX" 2000', DESK),
     Rule(r'cargo doc --open', 'run', 'cargo doc --offline --no-deps'),
     Rule(r'(?:WENGELUDO_\w+=\d+ )*(cargo test .*)', 'run', r'WENGELUDO_INPUTS=2000 \1'),
     Rule(r'\./dev mutants.*', 'run', './dev mutants --list --count 5'),  # a run of them takes hours
@@ -77,8 +76,7 @@ RULES = [
     Rule(r'bash bench/(run|visits|checks|flows)\.sh.*', 'run', r'bash bench/\1.sh 2 1'),
     Rule(r'bash tests/fuzz/run\.sh \S+', 'run', 'bash tests/fuzz/run.sh 1'),
     Rule(r'python3 reference/desk_tool\.py --hold', 'long', r'\g<0>'),
-    Rule(r'python3 reference/make_cases\.py --write', 'long', r'cd "$COPY" && \g<0> && diff -rq crates "$TREE/crates" && diff -rq samples "$TREE/samples"'),
-    Rule(r'time COMMAND', 'not', 'a form, with any command'),
+    Rule(r'python3 reference/make_cases\.py --write', 'long', r'cd "$COPY" && \g<0> && diff -rq crates "$TREE/crates" && diff -rq samples "$TREE/samples" && diff reference/README.md "$TREE/reference/README.md"'),
 ]
 
 

@@ -32,7 +32,7 @@ LIMITS = {
 TICS = [
     (r'(?:^|[.;:|] )Where\b(?! (?:to|it is|a line|from)\b)[^?.]{0,90},', '"If …,", not "Where …,"'),
     (r'\b(?:only|also|even|except|but|exactly|unless|is|are|or|told|done|so) where\b', '"if" for a condition, not "where"'),
-    (r'\bstands?\b(?! for\b)|\bstood\b(?! for\b)', '"is", not "stands"'),
+    (r'\b(?:stands?|stood)\b(?! for\b|-)', '"is", not "stands"'),
     (r'(?:^|[.;:] )Who\b[^?.|]*[.|]', 'a noun before "who"'),
     (r'\b(?:for|by|to|of|from|that|and) who(?:ever)?\b', 'a noun before "who"'),
     (r'(?:^|[.;:] )(?:Compared|Wanted|Told|Shown|Tried|Asked|Looked|Counted|Added|Left|Meant) (?:is|are|was|were)\b', 'the subject first'),
@@ -44,6 +44,7 @@ ALLOWED = {  # document: what the text has
 }
 CODE = re.compile(r'`[^`]*`')
 LINK = re.compile(r'!?\[([^\]]*)\]\([^)]*\)')
+QUOTED = re.compile(r'"[^"]{1,20}"')  # a word that is spoken of
 MARK = re.compile(r'\s*<!--(.*?)-->\s*$')
 
 
@@ -77,8 +78,8 @@ def pieces(path):
     for number, line in list(by_hand(path)) + [(0, '')]:
         plain = line.strip()
         if plain.startswith('|'):
-            for cell in re.split(r'(?<!\\)\|', plain):
-                yield number, re.sub(r';(?= )', '.', cell.strip()), True
+            for part in re.split(r'(?<!\\)\||; ', plain):
+                yield number, part.strip(), True
         elif not plain or re.match(r'#|[-*] |\d+\. |>', plain):
             if found:
                 yield first, found, False
@@ -104,7 +105,7 @@ def faults(path):
         for sentence in sentences(text):
             if count(sentence) > LONGEST and not any(each in sentence for each in allowed):
                 yield f'{path}:{number}: a sentence of {count(sentence)} words: {sentence[:60]}…'
-        plain = LINK.sub(r'\1', CODE.sub('Code', text)).replace('**', '').replace('*', '')
+        plain = QUOTED.sub('Word', LINK.sub(r'\1', CODE.sub('Code', text)).replace('**', '').replace('*', ''))
         for pattern, rule in TICS:
             for found in re.finditer(pattern, plain):
                 around = plain[max(0, found.start() - 20):found.end() + 20]
