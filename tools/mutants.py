@@ -172,14 +172,16 @@ class Run:
 
     def __init__(self, asked):
         self.asked, self.lock, self.began = asked, threading.Lock(), time.monotonic()
-        self.tried, self.tally = 0, {}
+        self.tried, self.tally, self.waiting = 0, {}, []
         only = set(filter(None, asked.only.split(',')))
         self.drawn = logged(asked.again) if asked.again else mutants(asked.seed, asked.count, only)
         self.parts = [part for part, _, _ in AREAS if not only or part in only]
 
-    def next(self):
-        """The next mutant that a compiler may take, or None."""
+    def next(self, first=True):
+        """The next mutant that a compiler may take, or None. Those of Rust are for the first copy, which has built the crate."""
         with self.lock:
+            if first and self.waiting:
+                return self.waiting.pop()
             while self.tried < self.asked.count:
                 part, name, start, what, new = next(self.drawn, (None,) * 5)
                 if part is None:
@@ -192,7 +194,10 @@ class Run:
                 if name.endswith('.py') and stillborn(name, text, ''):
                     continue
                 self.tried += 1
-                return part, name, line, text, f'{part} {name}:{line}:{start - text.rfind(chr(10), 0, start) - 1}: {what!r} becomes {new!r}'
+                one = part, name, line, text, f'{part} {name}:{line}:{start - text.rfind(chr(10), 0, start) - 1}: {what!r} becomes {new!r}'
+                if first or part != 'rust':
+                    return one
+                self.waiting.append(one)
             return None
 
     def took(self, part, killed, told):
@@ -206,9 +211,9 @@ class Run:
             if not killed or not sys.stdout.isatty():
                 print(f'{told} [{sum(map(len, self.tally.values()))}, {time.monotonic() - self.began:.0f} s]', flush=True)
 
-    def work(self, tree, known):
+    def work(self, tree, known, first):
         """One copy of the tree takes mutants until there are enough."""
-        while one := self.next():
+        while one := self.next(first):
             part, name, line, text, told = one
             killed, said = tree.changed(name, text, tests(tree, known, part, name, line))
             if killed and stillborn(name, text, said):
@@ -245,8 +250,8 @@ def main():
         return
     trees = [Tree(asked.long) for _ in range(asked.jobs)]
     trees[0].baseline(run.parts)
-    known = seen.made(trees[0], asked.map) if asked.map else None
-    threads = [threading.Thread(target=run.work, args=(tree, known)) for tree in trees]
+    known = seen.made(trees, asked.map) if asked.map else None
+    threads = [threading.Thread(target=run.work, args=(tree, known, tree is trees[0])) for tree in trees]
     for thread in threads:
         thread.start()
     for thread in threads:

@@ -8,6 +8,7 @@ is not seen: such a line is tried by the tests that import its file or run any l
 import hashlib
 import json
 import re
+import threading
 from pathlib import Path
 
 from tried import PYTHON
@@ -25,19 +26,39 @@ print(json.dumps({{name: data.contexts_by_lineno(name) for name in data.measured
 """
 
 
-def made(tree, path):
-    """The map, read from a file and written there; what a test file runs is looked at anew if its text or the desk's has changed."""
-    kept = json.loads(Path(path).read_text()) if Path(path).exists() else {}
-    package = hashlib.sha256(b''.join(one.read_bytes() for one in sorted((tree.path / PACKAGE).rglob('*.py')))).hexdigest()
-    parts = {}
-    for name in tree.desk_files(''):
-        state = package + hashlib.sha256((tree.path / 'desk' / name).read_bytes()).hexdigest()
-        known = kept.get('parts', {}).get(name, {})
-        parts[name] = known if known.get('state') == state else {'state': state, **looked_at(tree, name)}
-        Path(path).write_text(json.dumps({'parts': {**kept.get('parts', {}), **parts}}))
-    seconds = {test: spent for part in parts.values() for test, spent in part['seconds'].items()}
+def made(trees, path):
+    """The map, read from a file and written there; what a test file runs is looked at anew, by any of the copies, if its text or the desk's has changed."""
+    kept = json.loads(Path(path).read_text())['parts'] if Path(path).exists() else {}
+    first = trees[0].path
+    package = hashlib.sha256(b''.join(one.read_bytes() for one in sorted((first / PACKAGE).rglob('*.py')))).hexdigest()
+    names = trees[0].desk_files('')
+    states = {name: package + hashlib.sha256((first / 'desk' / name).read_bytes()).hexdigest() for name in names}
+    left, lock = iter([name for name in names if kept.get(name, {}).get('state') != states[name]]), threading.Lock()
+
+    def work(tree):
+        while True:
+            with lock:
+                name = next(left, None)
+            if name is None:
+                return
+            found = {'state': states[name], **looked_at(tree, name)}
+            with lock:
+                kept[name] = found
+                Path(path).write_text(json.dumps({'parts': kept}))
+
+    threads = [threading.Thread(target=work, args=(tree,)) for tree in trees]
+    for thread in threads:
+        thread.start()
+    for thread in threads:
+        thread.join()
+    return joined([kept[name] for name in names])
+
+
+def joined(parts):
+    """The maps of the test files as one."""
+    seconds = {test: spent for part in parts for test, spent in part['seconds'].items()}
     files = {}
-    for part in parts.values():
+    for part in parts:
         for name, lines in part['files'].items():
             for line, tests in lines.items():
                 files.setdefault(name, {}).setdefault(line, []).extend(tests)

@@ -24,6 +24,7 @@ FIRST = {
     'keep': ('runs', 'kept_lists', 'book', 'batch', 'upgrade', 'stores'), 'cli': ('commands', 'golden', 'runs', 'book'), 'history': ('history',),
     'serve': ('serve', 'serve_any'),
 }
+QUICK = ('settings', 'limits', 'refusals', 'samples', 'rows', 'faults', 'version')  # of the binding's tests
 BROWSED = ('page', 'live', 'serve_browser')
 NEVER = ('install', 'page')  # those of desk/install.sh, and those that open a browser
 # Tests that need servers or many rows are run for changes of these packages alone: that can only leave a change unseen.
@@ -99,7 +100,7 @@ class Tree:
             good, said = self.run(['cargo', 'test', '--offline', '--quiet', *narrow], 'bindings/rust')
             return self.run(['cargo', 'test', '--offline', '--quiet', *files], 'bindings/rust') if good else (False, said)
         if name == 'python':
-            return self.pytest('bindings/python', files)
+            return self.pytest('bindings/python', files or self.python_files())
         return self.pytest('desk', files or self.desk_files(changed))
 
     def texts(self):
@@ -115,6 +116,11 @@ class Tree:
                                                for start, packages in NEEDED.items()) or not changed]
         rank = {name: k for k, name in enumerate(first)}
         return [f'tests/{path.name}' for path in sorted(files, key=lambda path: (rank.get(path.stem[5:], 99), path.stat().st_size))]
+
+    def python_files(self):
+        """The binding's test files, the quick ones first."""
+        files = sorted((self.path / 'bindings/python/tests').glob('test_*.py'))
+        return [f'tests/{path.name}' for path in sorted(files, key=lambda path: QUICK.index(path.stem[5:]) if path.stem[5:] in QUICK else 99)]
 
     def browsed(self, changed):
         """Test files of the long run alone, which open a browser, for a change of what it shows."""

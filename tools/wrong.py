@@ -4,6 +4,7 @@
 
     ./dev wrong              all of them
     ./dev wrong desk c       those of some files
+    ./dev wrong --word flow  those whose fault is told with this word
     ./dev wrong --applies    only whether each still applies, and whether it names a part
 
 An edit has `wrong`, `file`, `old` and `new`; several lines of `old` or `new` stand one below the other. `seen by` names the part of the
@@ -43,8 +44,9 @@ def faults(found):
 
 
 def main(words):
-    names = [word for word in words if not word.startswith('-')]
-    found = [edit for path in sorted(FOLDER.glob('*.edits')) if not names or path.stem in names for edit in edits(path)]
+    word = words.pop(words.index('--word') + 1) if '--word' in words[:-1] else ''
+    names = [one for one in words if not one.startswith('-')]
+    found = [edit for path in sorted(FOLDER.glob('*.edits')) if not names or path.stem in names for edit in edits(path) if word in edit[0]]
     amiss = list(faults(found))
     for fault in amiss:
         print(f'wrong: {fault}')

@@ -5,6 +5,7 @@ A story of tests/stories has lines `$ command`, below them what a file is to hol
 after `!`, a status other than 0 after `?`. WENGELUDO_GOLDEN=write  writes what is said now; look at the difference before it is kept.
 """
 
+import csv
 import io
 import itertools
 import json
@@ -97,7 +98,7 @@ def _told(block, run, folder):
     asked = "".join(f"{line}\n" for line in (head, *(f"| {line}".rstrip() for line in own)))
     if head.startswith("#"):
         return asked
-    said = _said(shlex.split(head[2:]), own, run).replace(str(folder), "FOLDER")
+    said = _said(shlex.split(head[2:]), own, run).replace(str(folder), "FOLDER").replace(str(SAMPLES), "SAMPLES")
     said = re.sub(r"\b[0-9a-f]{16}\b", "CHAIN", said)  # it goes over the folder's name
     return asked + "".join(f"  {line}".rstrip() + "\n" for line in said.splitlines())
 
@@ -117,6 +118,21 @@ def _said(words, own, run):
         return _shown(Path(rest[0]))
     if name == "some":  # every 40th line of a long file
         return "\n".join(Path(rest[0]).read_text(encoding="utf-8-sig").splitlines()[::40])
+    if name == "change":  # a list with other readings
+        rows = list(csv.reader(Path(rest[0]).read_text(encoding="utf-8").splitlines()))
+        told = dict(word.split("=") for word in rest[2:])
+        at = rows[0].index("reading")
+        text = "\n".join(",".join(told.get(row[0], cell) if k == at else f'"{cell}"' if "," in cell else cell for k, cell in enumerate(row)) for row in rows)
+        Path(rest[1]).write_text(text + "\n", encoding="utf-8")
+        return ""
+    if name == "workbook":  # its cells as PLACE=VALUE, a number's format after a blank
+        return _workbook(Path(rest[0]), own)
+    if name == "version1":  # a book as it was before
+        from test_upgrade import old_book
+
+        with pytest.MonkeyPatch.context() as patch:
+            patch.setattr("version1.datetime", Then)
+            return str(old_book(Path(rest[0]), int(rest[1])).lasts())
     if name == "width":
         os.environ["COLUMNS"] = rest[0]  # put back by `run`
         return ""
@@ -144,6 +160,22 @@ def _type(kind):
     return " ".join([kind.name, *(f"{name}={getattr(kind, name)}" for name in ("choices", "min", "max") if getattr(kind, name, None) is not None)])
 
 
+def _workbook(path, cells):
+    import openpyxl
+
+    book = openpyxl.Workbook()
+    book.active.title = "list"
+    for line in cells:
+        place, _, told = line.partition("=")
+        sheet, place = place.split("!") if "!" in place else ("list", place)
+        value, _, form = told.partition(" :: ")
+        sheet = book[sheet] if sheet in book.sheetnames else book.create_sheet(sheet)
+        sheet[place] = float(value) if re.fullmatch(r"-?[\d.]+", value) else value
+        sheet[place].number_format = form or "General"
+    book.save(path)
+    return ""
+
+
 def _answered(run, own, words):
     """A command whose questions are answered."""
     with pytest.MonkeyPatch.context() as patch:
@@ -166,7 +198,7 @@ def _shown(path):
 class Browser:
     """A browser at the desk: `take LIST`, `get ADDRESS`, `de ADDRESS` in German, `part ADDRESS`, `post ADDRESS NAME=VALUE ...`."""
 
-    def __init__(self, folder):
+    def __init__(self, folder, people=False):
         from test_serve import BASE, HOST, KEY, csrf
         from wengeludo.serve.app import application
         from wengeludo.serve.door import Door
@@ -176,6 +208,16 @@ class Browser:
         (folder / "runs" / "one.html").write_text("<title>a run</title>")
         os.utime(folder / "runs" / "one.html", (1_760_000_000, 1_760_000_000))
         self.base, self.shelf = BASE, Shelf.opened(str(folder / "site.book"), folder / "runs")
+        if people:
+            from wengeludo.serve.people import People
+
+            self.people = People(folder / "people.db")
+            self.people.hasher = type(self.people.hasher)(time_cost=1, memory_cost=64, parallelism=1)
+            self.people.nobody = self.people.hasher.hash("nobody")
+            self.people.add("boss", "a long password", "admin", frozenset({0, 3}))
+            self.app = application(self.shelf, Door((HOST,), self.people))
+            self.client, self.token = self.app.test_client(), ""
+            return
         self.client = application(self.shelf, Door((HOST,), key=KEY)).test_client()
         self.client.get(f"/?key={KEY}", **BASE)
         self.token = csrf(self.client)
@@ -185,14 +227,28 @@ class Browser:
 
         if verb == "take":
             return Ended(0, f"{self.shelf.take(read_site(Path(words[0])), words[0], 'engineer')}\n", "")
+        if verb == "login":
+            self.client = self.app.test_client()
+            answer = self.client.post("/login", data={"name": words[0], "password": words[1], "then": words[2]}, **self.base)
+            found = re.search(r'name="csrf" value="([^"]+)"', self.client.get("/", **self.base).text)
+            self.token = found[1] if found else ""
+            return Ended(0, f"{answer.status_code} {answer.headers.get('Location', '')}\n{_steady(_tags(answer.text))}\n", "")
+        if verb == "later":  # so many seconds after what was wrong before
+            self.people.base.execute("UPDATE failures SET at = at - ?", (int(words[0]),))
+            self.people.base.execute("UPDATE sessions SET made = made - ?, seen = seen - ?", (int(words[0]), int(words[0])))
+            return Ended(0, "", "")
         heads = {"Accept-Language": "de" if verb == "de" else "en"} | ({"X-Part": "1"} if verb == "part" else {})
         if verb == "post":
             answer = self.client.post(words[0], data={"csrf": self.token, **dict(word.split("=", 1) for word in words[1:])}, headers=heads, **self.base)
         else:
             answer = self.client.get(words[0], headers=heads, **self.base)
         text = _tags(re.sub(r"<svg\b.*?</svg>", "", json.dumps(answer.json, indent=0, ensure_ascii=False) if answer.json else answer.text, flags=re.S))
-        text = re.sub(r'(?<=[?])[0-9a-f]{8}\b|(?<=name=\\"csrf\\" value=\\")[^"]+(?=\\")|(?<=name="csrf" value=")[^"]+|\b[0-9a-f]{32}\b', "...", text)
-        return Ended(0, f"{answer.status_code} {answer.headers.get('Location', '')} {answer.headers.get('Content-Disposition', '')}\n{text}\n", "")
+        return Ended(0, f"{answer.status_code} {answer.headers.get('Location', '')} {answer.headers.get('Content-Disposition', '')}\n{_steady(text)}\n", "")
+
+
+def _steady(text):
+    """A page without what is drawn anew each time: tokens of forms, names of requests, the mark of a version."""
+    return re.sub(r'(?<=[?])[0-9a-f]{8}\b|(?<=name=\\"csrf\\" value=\\")[^"]+(?=\\")|(?<=name="csrf" value=")[^"]+|\b[0-9a-f]{32}\b', "...", text)
 
 
 def _tags(text):
@@ -243,6 +299,30 @@ def test_pages(story):
 def test_serve(story, tmp_path):
     pytest.importorskip("flask", reason="the desk is not served, as there is no Flask (apt-get install python3-flask)")
     story("serve", Browser(tmp_path))
+
+
+def test_people(story, tmp_path):
+    pytest.importorskip("flask", reason="the desk is not served, as there is no Flask (apt-get install python3-flask)")
+    pytest.importorskip("argon2", reason="nobody comes in, as there is no argon2 (apt-get install python3-argon2)")
+    story("people", Browser(tmp_path, people=True))
+
+
+def test_server(story, server, run):
+    address = server.fresh()
+
+    def at_server(*words):
+        ended = run(*(word.replace("SERVER", address) for word in words))
+        return Ended(ended.status, *(text.replace(address, "SERVER").replace(address.partition("://")[2], "SERVER") for text in (ended.out, ended.err)))
+
+    story("server", at_server)
+
+
+def test_suspects(story):
+    story("suspects")
+
+
+def test_workbooks(story):
+    story("workbooks")
 
 
 def test_every_story_is_told():

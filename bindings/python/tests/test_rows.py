@@ -153,3 +153,23 @@ def test_the_published_example_of_serial_elimination():
     made = rows(plant, np.array([[105, 145, 55, 140, 195, 205]]), deviation_for([10] * 6), np.full((1, 6), MEASURED), suspects=3)
     assert made.verdict[0] == Verdict.FAIL and made.dropped[0].tolist() == [4, 0, 0]
     assert (made.dropped_flow[0, 0], made.dropped_cost[0, 0], made.cleared[0]) == (100, 1250, Verdict.PASS)
+
+
+def test_nothing_is_left_of_what_stood_in_the_memory(monkeypatch):
+    """Rows that are refused, and what a row has no use for, are 0 over memory that held other numbers."""
+    refused = 0
+    for seed in range(12):
+        plant, readings, weights, status = drawn(seed, 8)
+        readings[::3, 0] = 5_000_000  # beyond the limit
+        status[::3, 0] = MEASURED
+        words = {"suspects": 3, "rates": [3_000] * sum(s.target == 0 for s in plant.streams), "check": True}
+        clean = rows(plant, readings, deviation_for(weights), status, **words)
+        with monkeypatch.context() as patch:
+            patch.setattr(np, "zeros", lambda shape, kind: np.full(shape, 119, kind))
+            dirty = rows(plant, readings, deviation_for(weights), status, **words)
+        for name, values in clean.arrays().items():
+            assert (values == dirty.arrays()[name]).all(), name
+            if name != "refusal" and name != "unbilled" and name != "checked":
+                assert not values[clean.refusal != 0].any(), name
+        refused += int((clean.refusal != 0).sum())
+    assert refused > 20
