@@ -5,8 +5,8 @@
     ./dev texts old_crates           compares the table with the history; status 1 if they differ
     ./dev texts old_crates --write   makes it anew
 
-A crate's heirs at the commit that took it away are the crates to which its files were renamed then, or to which most of them had been
-renamed before; an heir that is no more is followed to its own. A clone without the whole history leaves the table as it is.
+A crate's heirs are the crates to which its files were renamed, those of the last such commit first; an heir that is no more is followed
+to its own. A clone without the whole history leaves the table as it is.
 """
 import collections
 import os
@@ -27,15 +27,21 @@ def git(*words):
 
 
 def moves():
-    """For each crate the crates to which its files were renamed, each with how many; a later rename comes later."""
-    found = collections.defaultdict(collections.Counter)
-    said = git('log', '--reverse', '-M40%', '-l4000', '--diff-filter=R', '--name-status', '--format=', '--', 'crates')
+    """For each crate the crates to which its files were renamed: those of the last such commit first, then those with most files."""
+    found, at = collections.defaultdict(dict), 0
+    said = git('log', '--reverse', '-M40%', '-l4000', '--diff-filter=R', '--name-status', '--format=commit', '--', 'crates')
     for line in said.split('\n'):
-        words = line.split('\t')
-        ends = [FILE.match(path) for path in words[1:]]
+        at += line == 'commit'
+        ends = [FILE.match(path) for path in line.split('\t')[1:]]
         if len(ends) == 2 and all(ends) and ends[0][1] != ends[1][1]:
-            found[ends[0][1]][ends[1][1]] += 1
-    return found
+            before = found[ends[0][1]].get(ends[1][1], (0, 0))
+            found[ends[0][1]][ends[1][1]] = (at, before[1] + 1)
+    return {name: _ordered(heirs_of) for name, heirs_of in found.items()}
+
+
+def _ordered(heirs_of):
+    last = max(at for at, _ in heirs_of.values())
+    return sorted(heirs_of, key=lambda heir: (heirs_of[heir][0] != last, -heirs_of[heir][1], heir))
 
 
 def ever():
@@ -46,11 +52,11 @@ def ever():
 
 
 def heirs(name, now, moved, seen=()):
-    """The crates of today that have a crate's files, those with most of them first; at most three."""
+    """The crates of today that have a crate's files, in their order; at most three."""
     if name in now:
         return [name]
     found = []
-    for heir, _ in moved[name].most_common(3):
+    for heir in moved.get(name, [])[:3]:
         if heir not in seen:
             found += [each for each in heirs(heir, now, moved, (*seen, name)) if each not in found]
     return found[:3]
