@@ -29,7 +29,7 @@ def git(*words):
 def moves():
     """For each crate the crates to which its files were renamed: those of the last such commit first, then those with most files."""
     found, at = collections.defaultdict(dict), 0
-    said = git('log', '--reverse', '-M40%', '-l4000', '--diff-filter=R', '--name-status', '--format=commit', '--', 'crates')
+    said = git('log', '--reverse', '-M40%', '-l4000', '--diff-filter=R', '--name-status', '--format=tformat:commit', '--', 'crates')
     for line in said.split('\n'):
         at += line == 'commit'
         ends = [FILE.match(path) for path in line.split('\t')[1:]]
