@@ -13,7 +13,8 @@
 - A document has at most the words of LIMITS, and all together at most 33,000. What is made by a script (between its two marks), blocks of
   code and docs/changes are not counted.
 
-What a rule must let pass is in ALLOWED, with its document.
+What a rule must let pass is in ALLOWED, with its document. tools/wrong/style.md breaks every rule on sentences and words, and is read first:
+a rule that it does not break is an error.
 """
 import os
 import re
@@ -23,6 +24,7 @@ import sys
 from made import ROOT
 
 LONGEST, ENTRY, TOGETHER = 40, 80, 33000
+WRONG = 'tools/wrong/style.md'
 LIMITS = {
     'README.md': 900, 'CONTRIBUTING.md': 900, 'CHANGELOG.md': 500, 'docs/GUIDE.md': 2200, 'docs/FORMATS.md': 1100, 'docs/LINKING.md': 900,
     'docs/PROMISES.md': 3800, 'docs/ARCHITECTURE.md': 1400, 'docs/SOLVER.md': 2400, 'docs/decisions': 5000, 'docs/PROVING.md': 2700,
@@ -51,7 +53,7 @@ MARK = re.compile(r'\s*<!--(.*?)-->\s*$')
 def documents():
     """Every text, by its path."""
     listed = subprocess.run(['git', 'ls-files', '-co', '--exclude-standard', '*.md'], cwd=ROOT, capture_output=True, text=True, check=True)
-    return [path for path in sorted(listed.stdout.split('\n')) if path and not path.startswith('docs/changes/') and os.path.exists(os.path.join(ROOT, path))]
+    return [path for path in sorted(listed.stdout.split('\n')) if path and path != WRONG and not path.startswith('docs/changes/') and os.path.exists(os.path.join(ROOT, path))]
 
 
 def by_hand(path):
@@ -113,6 +115,12 @@ def faults(path):
                     yield f'{path}:{number}: {rule}: …{around}…'
 
 
+def blind():
+    """Rules that the wrong text does not break."""
+    seen = '\n'.join(faults(WRONG))
+    return [f'{WRONG} does not break: {rule}' for rule in (f'a sentence of {LONGEST + 1} words', *(rule for _, rule in TICS)) if rule not in seen]
+
+
 def entries(path):
     """The entries of decisions: at most so many words, and what would change them."""
     for number, text, cell in pieces(path):
@@ -141,7 +149,7 @@ def main(given):
         return
     if any(word.startswith('-') for word in given):
         sys.exit('usage: ./dev texts style [--words | FILE ..]')
-    told = [fault for path in given or documents() for fault in faults(path)]
+    told = blind() + [fault for path in given or documents() for fault in faults(path)]
     if not given:
         told += [fault for path in documents() if path.startswith('docs/decisions/') for fault in entries(path)]
         told += [f'{path}: {number:,} words by hand, {LIMITS[path]:,} are the most' for path, number in found.items() if number > LIMITS.get(path, number)]
