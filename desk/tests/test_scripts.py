@@ -28,7 +28,15 @@ globalThis.document = document;
 read(given.page, root);
 const out = [];
 const tell = (what, node) => out.push(`== ${what}`, ...calls.splice(0), ...(node ? [page(node)] : []));
-const wait = (some = 0) => new Promise((done) => setTimeout(done, some));
+const timers = new Map(), soon = setImmediate; // a clock that goes on when it is told to
+let now = 0, last = 0;
+globalThis.setTimeout = (call, some = 0) => { timers.set(++last, { at: now + some, call }); return last; };
+globalThis.clearTimeout = (id) => timers.delete(id);
+const wait = async (some = 0) => {
+  now += some;
+  for (const [id, { at, call }] of [...timers]) if (at <= now && timers.delete(id)) call();
+  for (let k = 0; k < 20; k += 1) await new Promise((done) => soon(done));
+};
 """
 
 
@@ -132,8 +140,10 @@ refuse = new Refusal(5, []); put(fields(0)[0], { value: "8" }); tell("5", docume
 def test_the_page_of_the_desk(tmp_path, monkeypatch):
     """What is typed goes into the address and is asked for after a while; what comes back is put into the page."""
     pytest.importorskip("flask", reason="the desk is not served, as there is no Flask (apt-get install python3-flask)")
-    from test_stories import Browser
+    from test_stories import Browser, Then
+    from wengeludo.keep import schema
 
+    monkeypatch.setattr(schema, "datetime", Then)
     for name in ("steam_site_off.csv", "small_header.csv"):
         shutil.copy(SAMPLES / name, tmp_path)
     monkeypatch.chdir(tmp_path)
