@@ -216,7 +216,7 @@ def printed(x):
 
 
 def table(plant):
-    """The lines of a comparison, as docs/DESK-TOOL.md has them."""
+    """The lines of a comparison, as docs/REAL-NUMBERS.md has them."""
     balance = solver.balance(plant)
     b = beside(plant, balance.classes, balance.numbers)
     yield "| stream | class | weight | sheet | in fractions | | difference | weight × difference² | difference at most |"
