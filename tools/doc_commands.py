@@ -57,12 +57,15 @@ RULES = [
     Rule(r'bash install\.sh (--uninstall )?PREFIX', 'run', r'bash install.sh \1"$PREFIX"'),
     Rule(r'bash packaging/cross/build\.sh( TARGET OUT)?', 'not', 'a form; the commands of docs/LINKING.md are run'),
     Rule(r'bash packaging/cross/test\.sh \S+', 'not', 'test_all.sh runs it for each processor whose emulator is there'),
+    Rule(r'bash packaging/debian/build\.sh OUT', 'not', 'a form; packaging/debian/test.sh runs it'),
+    Rule(r'cc -I include program\.c .*', 'not', 'a form; the code in C of the texts is compiled'),
     Rule(r'bash packaging/release/make\.sh OUT', 'not', 'a form; test_all.sh runs it in the long run'),
     Rule(r'target/built/(balance_file samples/overfull_site|charges_file samples/twin_lines)\.bin.*', 'run', r'\g<0> || [ $? = 1 ]'),
     Rule(r'bash desk/install\.sh', 'run', r'WENGELUDO_APT=no \g<0> "$PREFIX/desk"', DESK),
-    Rule(r'wengeludo (sheet desk/\S+) -o \S+', 'run', r'"$PREFIX/desk/bin/wengeludo" \1 -o "$PREFIX/desk/page.html"', DESK),
+    Rule(r'(bash desk/install\.sh && )?wengeludo serve( site\.book)?', 'run', 'WENGELUDO_APT=no bash desk/install.sh "$PREFIX/desk" && cd "$PREFIX" && '
+         '{ timeout 10 desk/bin/wengeludo serve --port 8437 >served || [ $? = 124 ]; } && grep -q http served', DESK),
     Rule(r'wengeludo sheet( … -o page\.html)? --live', 'not', 'a form; desk/tests/test_live.py runs it'),
-    Rule(r'wengeludo .*[A-Z]{4}.*|wengeludo (suspects|buy)', 'not', 'a form; desk/tests/test_readme.py runs the commands of desk/README.md'),
+    Rule(r'wengeludo .*[A-Z]{4}.*|wengeludo (suspects|buy|why|history|histories)', 'not', 'a form; desk/tests/test_readme.py runs the commands of desk/README.md'),
     Rule(r'(/usr/bin/python3 -m venv|target/python/bin/pip install) .*', 'run', r'cd "$COPY" && \g<0>', DESK),
     Rule(r'(?:WENGELUDO_\w+=\d+ )*python3 -m pytest.*', 'not', 'desk/test.sh runs it, in an environment of its own'),
     Rule(r'bash (?:bindings/python/)?native/(bench|sanitize)\.sh.*', 'run', r'bash bindings/python/native/\1.sh 500'),
@@ -76,6 +79,8 @@ RULES = [
     Rule(r'bash bench/run\.sh --before LIBRARY.*', 'run', f'bash bench/run.sh --before {ARCHIVE} 2 0'),
     Rule(r'bash bench/(run|visits|checks|flows)\.sh.*', 'run', r'bash bench/\1.sh 2 1'),
     Rule(r'bash tests/fuzz/run\.sh \S+', 'run', 'bash tests/fuzz/run.sh 1'),
+    Rule(r'python3 (desk/tests/monte_carlo|desk/tests/test_history_findings)\.py \d+', 'long', r'target/desk/bin/python3 \1.py 1', DESK),
+    Rule(r'python3 (desk/bench_history|desk/tests/bench_serve)\.py', 'long', r'PYTHONPATH=desk/tests target/desk/bin/python3 \1.py', DESK),
     Rule(r'python3 reference/desk_tool\.py --hold', 'long', r'\g<0>'),
     Rule(r'python3 reference/make_cases\.py --write', 'long', r'cd "$COPY" && \g<0> && diff -rq crates "$TREE/crates" && diff -rq samples "$TREE/samples" && diff reference/README.md "$TREE/reference/README.md"'),
 ]
@@ -96,8 +101,8 @@ class Code(NamedTuple):
 
 def texts():
     found = ['README.md', 'CONTRIBUTING.md', 'CHANGELOG.md', 'samples/README.md', 'reference/README.md', 'bindings/python/README.md', 'bindings/js/README.md',
-             'desk/README.md']
-    found += sorted(os.path.relpath(path, ROOT) for pattern in ('*.md', 'decisions/*.md') for path in glob.glob(os.path.join(ROOT, 'docs', pattern)))
+             'bindings/rust/README.md', 'desk/README.md', 'SECURITY.md']
+    found += sorted(os.path.relpath(path, ROOT) for pattern in ('*.md', 'decisions/*.md', 'desk/*.md') for path in glob.glob(os.path.join(ROOT, 'docs', pattern)))
     return [path for path in found if os.path.exists(os.path.join(ROOT, path))]
 
 
