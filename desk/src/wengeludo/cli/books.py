@@ -127,7 +127,7 @@ def restore(backup: Path, book: str, printed: Sequence[Tuple[int, int]], reason:
             terminal.lines([f"office {office}: {first} to {last} {text}" for office, (first, last) in gone.items()])
             reason = click.prompt("Why are they lost? (it stays in the book)")
         count = copies.restore(kept, book, lasts, (who, reason), told)
-    terminal.lines([f"{book}: restored and open" + (f"; {count:,} numbers are entered as lost" if count else "")])
+    terminal.lines([f"{book}: restored and open" + (f"; {count:,} {'number is' if count == 1 else 'numbers are'} entered as lost" if count else "")])
     return 0
 
 

@@ -41,7 +41,7 @@ class MonthBill:
         told += [f"{self.hours - self.billed:,} hours have no bill."] if self.billed < self.hours else []
         told += [f"BILLED FROM FAILING SHEETS: {self.failing:,} hours."] if self.failing else []
         told += [f"{self.left_out:,} hours fail their test and are not billed; --failing bills them all the same."] if self.left_out else []
-        return told + ([f"{self.annulled:,} annulled sheets do not count."] if self.annulled else [])
+        return told + ([f"{self.annulled:,} annulled {'sheet does' if self.annulled == 1 else 'sheets do'} not count."] if self.annulled else [])
 
 
 def month_bill(book: Book, month: str, words: str = "", office: Optional[int] = None, failing: bool = False) -> MonthBill:

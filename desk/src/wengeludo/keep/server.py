@@ -219,8 +219,8 @@ class Server(Store):
                 self.run(f"CREATE ROLE {name} LOGIN")
             if password:
                 self.run(f"ALTER ROLE {name} PASSWORD ?", (password,))
-            for one in GRANTS.format(role=name).split(";"):
-                self.run(one.strip())
+            for one in GRANTS.split(";"):
+                self.run(one.format(role=name).strip())
         return made
 
 
