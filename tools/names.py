@@ -17,7 +17,7 @@ import re
 import sys
 
 ROOT = os.path.abspath(os.path.join(os.path.dirname(__file__), '..'))
-TEXTS = ['README.md', 'CONTRIBUTING.md', 'docs/*.md', 'docs/decisions/*.md', 'samples/README.md', 'reference/README.md', 'desk/README.md', 'docs/desk/*.md',
+TEXTS = ['README.md', 'CONTRIBUTING.md', 'docs/*.md', 'docs/decisions/*.md', 'samples/README.md', 'reference/README.md', 'desk/*.md', 'docs/desk/*.md',
          'SECURITY.md', 'bindings/*/README.md', 'include/*.h', 'test_all.sh', '.ci/run']
 FOLDERS = r'(?:crates|docs|include|bindings|programs|tests|bench|packaging|tools|reference|samples|desk|\.ci)'
 TESTED = ('desk', 'bindings/python', 'bindings/rust')  # a command that is run in one of these names its own tests

@@ -139,8 +139,8 @@ def batch(folder: Path, summary: Path, book: Optional[str], office: int, unit: O
     summary_of(folder, summary)
     with nullcontext() if book is None else Book(book, make=not is_server(book)) as kept, progress("sheets") as told:
         done = run_batch(folder, summary, How(unit, said()), kept, office, jobs, told)
-    outputs.write(summary.with_suffix(".svg"), chart(done, folder.resolve().name).encode())
-    counts = {word: sum(o.cells[0] == word for o in done) for word in ("pass", "close", "fail", "none", "not judged", "no flow in range", "fault")}
+    outputs.write(summary.with_suffix(".svg"), chart([o.row for o in done], folder.resolve().name).encode())
+    counts = {word: sum(o.row.verdict == word for o in done) for word in ("pass", "close", "fail", "none", "not judged", "no flow in range", "fault")}
     summed = ", ".join(f"{count:,} {word}" for word, count in counts.items() if count)
     before = sum(o.before for o in done)
     known = f", {before:,} of them in the book before" if before else ""

@@ -8,10 +8,10 @@ import os
 import threading
 import time
 from concurrent.futures import ProcessPoolExecutor
-from dataclasses import dataclass, replace
+from dataclasses import dataclass, fields, replace
 from fractions import Fraction
 from pathlib import Path
-from typing import Callable, Iterator, List, Optional, Sequence, Tuple
+from typing import Callable, Iterator, List, Optional, Sequence, Tuple, Union
 
 import wengeludo_balance as engine
 
@@ -23,7 +23,6 @@ from ..read.lists import Asked
 from .book import Book, Draft, Receipt, someone
 from .record import KIND, content_key
 
-HEAD = ("file", "verdict", "cost", "limit", "degrees", "blanks", "worst", "worst σ", "unit", "office", "sheet", "fault")
 SUFFIXES = (".csv", ".xlsx", ".bin")
 CHUNK = 64
 
@@ -37,22 +36,35 @@ class How:
 
 
 @dataclass(frozen=True)
-class Outcome:
-    """A line of the summary; the site, where it is to be kept."""
+class Row:
+    """A line of the summary: a field for each column, in their order. What is not known is None, and an empty cell."""
 
     file: str
-    cells: Tuple[object, ...]
+    verdict: str
+    cost: Optional[float] = None
+    limit: Optional[float] = None
+    degrees: Optional[int] = None
+    blanks: Optional[int] = None
+    worst: Optional[str] = None  # the stream whose meter was farthest off
+    sigmas: Optional[float] = None  # how far, in deviations
+    unit: Optional[str] = None
+    office: Optional[int] = None
+    sheet: Optional[Union[int, str]] = None  # under which the book has it
+    fault: Optional[str] = None
+
+
+TITLES = {"sigmas": "worst σ"}
+HEAD = tuple(TITLES.get(field.name, field.name) for field in fields(Row))
+
+
+@dataclass(frozen=True)
+class Outcome:
+    """What one file comes to; the site, if it is to be kept."""
+
+    row: Row
     site: Optional[Site] = None
     checked: Optional[Checked] = None  # its flows, if its sheet is not the engine's own
     before: bool = False  # the book had its sheet already
-
-    @property
-    def cost(self) -> Optional[float]:
-        return self.cells[1] if isinstance(self.cells[1], float) else None
-
-    @property
-    def limit(self) -> Optional[float]:
-        return self.cells[2] if isinstance(self.cells[2], float) else None
 
 
 def files_in(folder: Path) -> List[Path]:
@@ -70,21 +82,20 @@ def outcome(path: Path, how: How = How(), keep: bool = False) -> Outcome:
         site = site_in(path, how.unit, how.said)
         drawn = balance(site, estimated=False)
     except (Stopped, engine.Refusal, OSError) as error:
-        return Outcome(path.name, ("fault", *[""] * 9, " | ".join(str(error).splitlines())))
+        return Outcome(Row(path.name, "fault", fault=" | ".join(str(error).splitlines())))
     judged = keep and drawn.verdict is not None
-    return Outcome(path.name, _cells(drawn), site if judged else None, drawn.checked if judged else None)
+    return Outcome(_row(path.name, drawn), site if judged else None, drawn.checked if judged else None)
 
 
-def _cells(drawn: Balance) -> Tuple[object, ...]:
+def _row(file: str, drawn: Balance) -> Row:
     unit = f"{float(drawn.site.unit):g}"
     if drawn.refused:
         places = ", ".join(drawn.site.place(p) for p in sorted(drawn.marked))
-        return ("no flow in range", *[""] * 6, unit, "", "", f"overfull: {places}")
-    worst = max((line for line in drawn.lines if line.sigmas is not None), key=lambda line: abs(line.sigmas or 0), default=None)
-    off = ("", "") if worst is None else (worst.pipe.label, round(worst.sigmas or 0, 2))
+        return Row(file, "no flow in range", unit=unit, fault=f"overfull: {places}")
     verdict = drawn.verdict.name.lower() if drawn.verdict is not None else "not judged"
-    limit = "" if drawn.limit is None else drawn.limit
-    return (verdict, drawn.cost, limit, drawn.degrees, len(drawn.blanks), *off, unit, "", "", "")
+    row = Row(file, verdict, drawn.cost, drawn.limit, drawn.degrees, len(drawn.blanks), unit=unit)
+    worst = max((line for line in drawn.lines if line.sigmas is not None), key=lambda line: abs(line.sigmas or 0), default=None)
+    return row if worst is None else replace(row, worst=worst.pipe.label, sigmas=round(worst.sigmas or 0, 2))
 
 
 def _work(task: Tuple[Sequence[Path], How, bool]) -> List[Outcome]:
@@ -138,16 +149,17 @@ def run(folder: Path, summary: Path, how: How = How(), book: Optional[Book] = No
         writer.writerow(HEAD)
         for some in outcomes(paths, how, book is not None, jobs or os.cpu_count() or 1):
             kept = _kept(some, folder, book, office) if book else some
-            writer.writerows(_written(o, german) for o in kept)
+            writer.writerows(_written(o.row, german) for o in kept)
             file.flush()
             done += [replace(o, site=None, checked=None) for o in kept]
             told(len(done), len(paths))
     return done
 
 
-def _written(line: Outcome, german: bool) -> List[object]:
-    """A line of the summary, numbers as its language writes them."""
-    return [str(cell).replace(".", ",") if german and (isinstance(cell, float) or name == "unit") else cell for name, cell in zip(HEAD, (line.file, *line.cells))]
+def _written(row: Row, german: bool) -> List[object]:
+    """The cells of a line, numbers as its language writes them."""
+    cells = {field.name: getattr(row, field.name) for field in fields(row)}
+    return ["" if cell is None else str(cell).replace(".", ",") if german and (isinstance(cell, float) or name == "unit") else cell for name, cell in cells.items()]
 
 
 def _kept(some: List[Outcome], folder: Path, book: Book, office: int) -> List[Outcome]:
@@ -160,11 +172,11 @@ def _kept(some: List[Outcome], folder: Path, book: Book, office: int) -> List[Ou
 def _draft(line: Outcome, folder: Path, office: int) -> Draft:
     assert line.site is not None
     hour = line.site.list.hour
-    return Draft(line.site, str((folder / line.file).resolve()), hour, someone(), content_key(line.site, office, hour), checked=line.checked)
+    return Draft(line.site, str((folder / line.row.file).resolve()), hour, someone(), content_key(line.site, office, hour), checked=line.checked)
 
 
 def _numbered(line: Outcome, office: int, receipt: Optional[Receipt]) -> Outcome:
     if receipt is None:
         return line
     number = receipt.number if not receipt.kind else f"{KIND[receipt.kind]} {receipt.number}"
-    return replace(line, cells=(*line.cells[:8], office, number, line.cells[10]), before=receipt.before)
+    return replace(line, row=replace(line.row, office=office, sheet=number), before=receipt.before)

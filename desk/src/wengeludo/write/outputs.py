@@ -23,6 +23,7 @@ from ..read.lists import Form
 from ..read.plant_files import beside
 from ..read.texts import guarded
 from . import view
+from .columns import columns
 from .live import section as live_section
 from .page import page
 from .picture import picture
@@ -160,7 +161,7 @@ def _xlsx(balance: Balance) -> bytes:
     heads, rows = view.filed(balance)
     put(sheet, heads)
     head, marks = sheet.max_row, [row.mark for row in view.rows(balance)]
-    formats = [_number_format(name, balance.site.decimals) for name in (view.NO_SHEET if balance.flowless else view.HEADS)]
+    formats = [_number_format(balance.site.decimals if column.places is None else column.places) for column in columns(balance)]
     for row, mark in zip(rows, marks):
         put(sheet, row)
         for cell, form in zip(sheet[sheet.max_row], formats):
@@ -178,9 +179,8 @@ def _xlsx(balance: Balance) -> bytes:
     return data.getvalue()
 
 
-def _number_format(name: str, decimals: int) -> str:
-    """How a spreadsheet shows a column: flows with the decimals of the unit, deviations with one."""
-    places = 1 if name in ("σ", "test") else decimals
+def _number_format(places: int) -> str:
+    """How a spreadsheet shows a column with so many decimals."""
     return "#,##0" + ("." + "0" * places if places else "")
 
 

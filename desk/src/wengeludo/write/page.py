@@ -16,6 +16,7 @@ from ..balance.sheet import Balance
 from ..explain.steps import steps, told
 from ..explain.why import overfull
 from . import view
+from .columns import ESTIMATES, LOOKS, NUMERIC
 from .language import marked_names, spoken
 from .picture import picture
 
@@ -67,7 +68,7 @@ def page(balance: Balance, live: str = "") -> str:
     drawing = picture(balance)
     return _environment(balance).get_template("page.html").render(
         site=Markup(escape(balance.site.list.name)), lang=balance.site.list.form.lang, balance=balance, heads=view.heads(balance), titles=view.titles(balance),
-        numeric=view.NUMERIC, looks={"balanced": "balanced", "test": "off"}, estimates=view.ESTIMATES, rows=view.rows(balance),
+        numeric=NUMERIC, looks=LOOKS, estimates=ESTIMATES, rows=view.rows(balance),
         headline=view.headline(balance), standing=view.standing(balance), summary=view.summary(balance),
         tone=view.tone(balance), cost_text=view.cost_text, scale=scale(balance), steps=steps(balance), notes=told(balance),
         overfull=overfull(balance) if balance.refused else [], picture=Markup(drawing), tiles=tiles(drawing), live=Markup(live), unit=f"{float(balance.site.unit):g}",

@@ -18,6 +18,7 @@ from ..balance.sheet import Balance
 from ..explain.steps import steps
 from ..read.lists import PipeList
 from . import view
+from .columns import NUMERIC, WIDE
 from .language import marked_names, spoken
 
 STYLES = {"good": "bold green", "poor": "bold yellow", "bad": "bold red"}
@@ -100,15 +101,15 @@ def _streams(balance: Balance, width: int) -> None:
     """The table of streams; on a narrow terminal names stand above one another, and what can be worked out is left out."""
     named = dict(zip(view.heads(balance), view.titles(balance)))
     if width >= NARROW or balance.flowless and width >= 90:
-        table(list(named.values()), ((row.signed, MARKS[row.mark]) for row in view.rows(balance)), [named[head] for head in named if head in view.NUMERIC])
+        table(list(named.values()), ((row.signed, MARKS[row.mark]) for row in view.rows(balance)), [named[head] for head in named if head in NUMERIC])
         return
-    kept = [head for head in named if head in view.NUMERIC and head not in ("correction", "σ")] + (["how known"] if "how known" in named else [])
+    kept = [head for head in named if head in NUMERIC and head not in WIDE] + (["how known"] if "how known" in named else [])
     rows = []
     for row in view.rows(balance):
         cells = dict(zip(named, row.signed))
         cells["how known"] = cells.get("how known", "").split(",")[0]
         rows.append(((cells["stream"], above(cells["what"], f"{cells['from']} → {cells['to']}"), *(cells[head] for head in kept)), MARKS[row.mark]))
-    table((named["stream"], named["what"], *(named[head] for head in kept)), rows, [named[head] for head in kept if head in view.NUMERIC], close=True)
+    table((named["stream"], named["what"], *(named[head] for head in kept)), rows, [named[head] for head in kept if head in NUMERIC], close=True)
     console().print(Text(f"From {NARROW} columns on: corrections and columns of the list too.", style="dim"))
 
 

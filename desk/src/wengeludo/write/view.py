@@ -5,23 +5,18 @@ from __future__ import annotations
 
 import re
 from dataclasses import dataclass
-from typing import Any, Dict, List, Optional, Tuple
+from typing import Any, Dict, List, Tuple
 
-from wengeludo_balance import Kind, Verdict
+from wengeludo_balance import Verdict
 
 from ..balance.kind import SheetKind
-from ..balance.sheet import HOW, SHORT, VERDICT, Balance, Line, sigmas
+from ..balance.sheet import HOW, VERDICT, Balance
 from ..explain.steps import steps
 from ..explain.steps import told as notes_of
 from ..explain.why import overfull
 from ..read.columns import COLUMNS, MORE, word
 from ..read.lists import Pipe, PipeList
-
-NAMES = ("stream", "what", "from", "to")
-HEADS = (*NAMES, "reading", "balanced", "correction", "σ", "test", "±", "how known")
-NO_SHEET = (*NAMES, "reading", "low", "high")
-NUMERIC = frozenset(("reading", "balanced", "correction", "σ", "test", "±", "low", "high"))
-ESTIMATES = frozenset(("σ", "test", "±"))
+from .columns import HEADS, MARKED, NO_SHEET, columns, correction
 
 
 @dataclass(frozen=True)
@@ -37,20 +32,15 @@ class Row:
     def signed(self) -> Tuple[str, ...]:
         """The cells, with a sign before a correction that is worth a look."""
         sign = {"worst": "⚠ ", "notable": "▲ "}.get(self.mark, "")
-        return tuple(sign + cell if k == HEADS.index("test") and self.kind else cell for k, cell in enumerate(self.cells))
+        return tuple(sign + cell if k == MARKED and self.kind else cell for k, cell in enumerate(self.cells))
 
 
 OF_THE_LIST = ("accuracy", "low", "high", "price", "rate", "floor")  # columns that files have too, so that they can be read again
 
 
-def correction(line: Line) -> Optional[float]:
-    """The correction that is shown: of a checked meter, or of one held at an end of its range."""
-    return line.correction if line.kind is Kind.ADJUSTED or line.held else None
-
-
 def heads(balance: Balance) -> Tuple[str, ...]:
     """The columns: of a sheet, or of the ranges if there is none; then those of the user's own."""
-    return (*(NO_SHEET if balance.flowless else HEADS), *own_heads(balance.site.list))
+    return (*(column.name for column in columns(balance)), *own_heads(balance.site.list))
 
 
 def own_heads(pipes: PipeList) -> Tuple[str, ...]:
@@ -68,7 +58,7 @@ def titles(balance: Balance) -> Tuple[str, ...]:
 
 def filed(balance: Balance) -> Tuple[Tuple[str, ...], List[Tuple[Any, ...]]]:
     """What files have: the titles, and a row for each stream with numbers as numbers; the columns of the list too."""
-    pipes, base = balance.site.list, NO_SHEET if balance.flowless else HEADS
+    pipes, base = balance.site.list, [column.name for column in columns(balance)]
     more = [name for name in OF_THE_LIST if name not in base and any(_listed(pipe, name) is not None for pipe in pipes.pipes)]
     own = len(pipes.extras)
     shown = titles(balance)
@@ -102,32 +92,14 @@ def rows(balance: Balance) -> List[Row]:
 
 
 def _row(balance: Balance, k: int) -> Row:
-    site, pipe = balance.site, balance.site.list.pipes[k]
-    names = (pipe.label, pipe.what, site.place(pipe.source), site.place(pipe.target))
+    pipe, shown = balance.site.list.pipes[k], columns(balance)
+    values = [column.value(balance, k) for column in shown]
+    cells = (*(column.cell(balance, value) for column, value in zip(shown, values)), *pipe.extra)
+    keys = (k, *values[1:], *pipe.extra)
     if balance.flowless:
-        ends = (pipe.reading, pipe.low, pipe.high)
-        cells = tuple("" if end is None else site.shown(end) for end in ends)
-        return Row((*names, *cells, *pipe.extra), (k, *names[1:], *ends, *pipe.extra), "", "")
+        return Row(cells, keys, "", "")
     line = balance.lines[k]
-    moved = correction(line)
-    numbers = (pipe.reading, line.flow, moved, line.sigmas if moved is not None else None, None if line.test is None else abs(line.test), line.spread)
-    how = SHORT[line.kind] + (f", at its {line.held} end" if line.held else "") + (", backwards" if (line.flow or 0) < 0 else "")
-    mark = "worst" if k in balance.worst else "notable" if line.notable else ""
-    cells = (*names, *_texts(balance, numbers), how, *pipe.extra)
-    return Row(cells, (k, *names[1:], *numbers, how, *pipe.extra), line.kind.value, mark)
-
-
-def _texts(balance: Balance, numbers: Tuple[Optional[float], ...]) -> Tuple[str, ...]:
-    site = balance.site
-    reading, flow, moved, off, test, spread = numbers
-    return (
-        "" if reading is None else site.shown(reading),
-        "?" if flow is None else site.shown(flow),
-        "" if moved is None else site.shown(moved, "+"),
-        "" if off is None else sigmas(off),
-        "" if test is None else f"{test:.1f}",
-        "" if spread is None else site.shown(spread) if spread > 1e-9 else "fixed",
-    )
+    return Row(cells, keys, line.kind.value, "worst" if k in balance.worst else "notable" if line.notable else "")
 
 
 def cost_text(value: float) -> str:
