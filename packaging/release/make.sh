@@ -3,13 +3,14 @@
 #
 #     bash packaging/release/make.sh OUT
 #
-# In OUT: the source, the archives for x86-64, AArch64 and RISC-V, the WebAssembly with its JavaScript, the Python source package, the
-# Debian packages, the headers, a bill of materials (SPDX), and SHA256SUMS over all of them. Nothing is uploaded, no tag is set: RELEASING.md.
+# In OUT: the source, the archives for x86-64, AArch64 and RISC-V, the WebAssembly with its JavaScript, the Python binding as source and
+# as wheel, the Debian packages, the headers, a bill of materials (SPDX), and SHA256SUMS over all of them. Nothing is uploaded, no tag is
+# set: docs/RELEASING.md.
 #
 # WENGELUDO_CHANGED=1   takes a tree with changes, to try this script
 # SPDX-License-Identifier: LicenseRef-Wengeludo
 set -euo pipefail
-[ $# -eq 1 ] || { sed -n '2,7s/^# \{0,1\}//p' "$0" >&2; exit 2; }
+[ $# -eq 1 ] || { sed -n '2,8s/^# \{0,1\}//p' "$0" >&2; exit 2; }
 out=$(realpath -m "$1")
 cd "$(dirname "$0")/../.."
 fail() { echo "release: $*" >&2; exit 1; }
@@ -38,7 +39,7 @@ stamp=$(git log -1 --format=%ct)
 tar -C "$work" --sort=name --mtime="@$stamp" --owner=0 --group=0 --numeric-owner -cf - js | gzip -n9 >"$parts/wengeludo-js-$version.tar.gz"
 cp -r bindings/python "$work/python"
 (cd "$work/python" && WENGELUDO_INCLUDE=$OLDPWD/include WENGELUDO_ARCHIVE=$OLDPWD/target/staticlib/libwengeludo.a SOURCE_DATE_EPOCH=$stamp \
-    /usr/bin/python3 setup.py -q sdist -d "$parts" >/dev/null 2>"$work/log") || { cat "$work/log" >&2; fail "no Python source package"; }
+    /usr/bin/python3 setup.py -q sdist -d "$parts" bdist_wheel -d "$parts" >/dev/null 2>"$work/log") || { cat "$work/log" >&2; fail "no Python package"; }
 WENGELUDO_WASM=$work/js/wengeludo.wasm bash packaging/debian/build.sh "$parts" >/dev/null
 python3 packaging/release/sbom.py "$parts" >"$work/sbom.spdx.json"
 mv "$work/sbom.spdx.json" "$parts/"
