@@ -13,8 +13,8 @@ import subprocess
 import sys
 
 TOOLS = os.path.dirname(os.path.abspath(__file__))
-CHECKS = ('versions', 'refusals', 'crate_list', 'edits', 'glossary', 'legible', 'audit', 'picture', 'believe', 'names', 'spdx')
-ALONE = ('style', 'old_crates')  # run by name
+CHECKS = ('versions', 'refusals', 'crate_list', 'edits', 'glossary', 'legible', 'audit', 'picture', 'believe', 'names', 'style', 'spdx')
+ALONE = ('old_crates',)  # run by name
 MADE = ('refusals', 'crate_list', 'edits', 'picture', 'spdx')  # these take --write
 
 
