@@ -53,9 +53,17 @@ MARK = re.compile(r'\s*<!--(.*?)-->\s*$')
 
 
 def documents():
-    """Every text, by its path."""
-    listed = subprocess.run(['git', 'ls-files', '-co', '--exclude-standard', '*.md'], cwd=ROOT, capture_output=True, text=True, check=True)
-    return [path for path in sorted(listed.stdout.split('\n')) if path and path != WRONG and not path.startswith('docs/changes/') and os.path.exists(os.path.join(ROOT, path))]
+    """Every text, by its path; in a copy without a history, every one that is there."""
+    listed = subprocess.run(['git', 'ls-files', '-co', '--exclude-standard', '*.md'], cwd=ROOT, capture_output=True, text=True, check=False)
+    inside = os.path.exists(os.path.join(ROOT, '.git')) and listed.returncode == 0
+    found = listed.stdout.split('\n') if inside else walked()
+    return [path for path in sorted(found) if path and path != WRONG and not path.startswith('docs/changes/') and os.path.exists(os.path.join(ROOT, path))]
+
+
+def walked():
+    for folder, below, files in os.walk(ROOT):
+        below[:] = [name for name in below if name not in ('target', 'build', '.git', '.pytest_cache') and not name.endswith('.egg-info')]
+        yield from (os.path.relpath(os.path.join(folder, name), ROOT) for name in files if name.endswith('.md'))
 
 
 def by_hand(path):
