@@ -2,10 +2,11 @@
 use mathlib.Core.Path.{_≡_, refl, sym, _∙_, ap}
 use mathlib.Core.Bool.{Bool, true, false}
 use mathlib.Core.List.{List}
+use mathlib.Core.Logic.{_⊎_, inl, inr, ⊎-elim}
 use Prim.Native.Nat.{ℕ, _+_, _*_, _/_, _%_, _^_, _≤_, _<_}
 use native.Mathlib.Omega.{arith}
 use native.Mathlib.Decide.{ℕ-discrete}
-use borrow.Author.Tests.{le-ltb}
+use borrow.Author.Tests.{ltb-true, le-ltb}
 use lib.Bits.{bitOr, or-zero-r}
 use lib.Dec.{ltb}
 use lib.ListN.{length, getD, set, length-set}
@@ -17,7 +18,7 @@ use Rattle.num_bytes.specs.Sums.{bit}
 use Rattle.num_bytes.proofs.Lists.{values-at, values-long}
 use Rattle.num_bytes.proofs.Binary.{bit-or, bit-zero, bit-other}
 use Rattle.flow_def.proofs.Passed.{shifted}
-use Rattle.solve_def.specs.Sizes.{far, farthest}
+use Rattle.solve_def.specs.Sizes.{far, farthest, numbering}
 use Rattle.solve_def.specs.Near.{codeOf, lessened, arcAt, relaxedAlong, relaxedTo}
 use Rattle.solve_def.specs.Fringe.{fringeBit}
 use Rattle.solve_def.proofs.Fringes.{fringe-offered}
@@ -56,7 +57,7 @@ shown-set vs near v c l long o =
           ∙ sym (getD-set-other (shown vs near) v u c 0 q ∙ shown-at vs near u b)
     ]
 
-module _ (vs : List Bool) (near : List ℕ) (m v k g i : ℕ) (w : Coded vs near m) (l : v < places) (long : length near ≡ places) (few : i < maxStreams) where
+module _ (limit : ℕ) (vs : List Bool) (near : List ℕ) (m v k g i : ℕ) (w : Coded limit vs near m) (l : v < places) (long : length near ≡ places) (few : i < maxStreams) where
   -- The codes after an offer.
   abbrev pub offered : List ℕ
   offered = lessened near v (codeOf (k + g) i)
@@ -86,8 +87,12 @@ module _ (vs : List Bool) (near : List ℕ) (m v k g i : ℕ) (w : Coded vs near
         (λ t. rw t (shown-set vs near v (codeOf (k + g) i) l long o))
         (λ t. rw t))
 
-    same-bit : fringeBit far (shown vs near) v (k + g) i ≡ fringeBit far near v (k + g) i
-    same-bit = rw here
+    same-bit : fringeBit limit (shown vs near) v (k + g) i ≡ fringeBit far near v (k + g) i
+    same-bit = rw here (by-cases (ltb (codeOf (k + g) i) (getD near v 0))
+        (λ t.
+        let b : k + g ≤ limit = omega (arith, ltb-true (codeOf (k + g) i) (getD near v 0) t, w .capped v l) in
+        rw (t, le-ltb limit (k + g) b, le-ltb far (k + g) (omega (arith, b, w .low))))
+        (λ t. rw t))
 
     own : (h : ℕ) → bit h (fringeBit far near v (k + g) i) ≡ true → h ≡ v
     own h = picked (λ (x : ℕ). bit h x ≡ true → h ≡ v) (ltb (codeOf (k + g) i) (getD near v 0)) _ _
@@ -96,16 +101,43 @@ module _ (vs : List Bool) (near : List ℕ) (m v k g i : ℕ) (w : Coded vs near
         (λ s b. elim (ℕ-discrete h v) [ yes q ↦ q | no q ↦ clash (bit h (2 ^ v)) b (bit-other h v q) ]))
         (λ t b. clash (bit h 0) b (bit-zero h))
 
-    new : Coded vs offered widened
+    -- A code that is taken in is below what no code is above.
+    taken-in : ltb (codeOf (k + g) i) (getD near v 0) ≡ true → (h : ℕ) → (getD near h 0 < (limit + 1) * numbering) ⊎ (h ≡ v) → getD offered h 0 < (limit + 1) * numbering
+    taken-in t h o = rw t (elim (ℕ-discrete h v) [
+      | yes q ↦ rw (q, getD-set-same near v (codeOf (k + g) i) 0 (rw long l)) (omega (arith, ltb-true (codeOf (k + g) i) (getD near v 0) t, w .capped v l))
+      | no q ↦ rw (getD-set-other near v h (codeOf (k + g) i) 0 q) (⊎-elim (λ x. x) (λ x. absurd (q x)) o)
+    ])
+
+    still : (h : ℕ) → ltb (codeOf (k + g) i) (getD near v 0) ≡ false → bit h widened ≡ bit h m
+    still h t = ap (bit h) (rw t (or-zero-r m))
+
+    new-capped : (u : ℕ) → u < places → getD offered u 0 ≤ (limit + 1) * numbering
+    new-capped u b = picked (λ (ns : List ℕ). getD ns u 0 ≤ (limit + 1) * numbering) (ltb (codeOf (k + g) i) (getD near v 0)) (set near v (codeOf (k + g) i)) near
+        (λ t. elim (ℕ-discrete u v) [
+          | yes q ↦ rw (q, getD-set-same near v (codeOf (k + g) i) 0 (rw long l)) (omega (arith, ltb-true (codeOf (k + g) i) (getD near v 0) t, w .capped v l))
+          | no q ↦ rw (getD-set-other near v u (codeOf (k + g) i) 0 q) (w .capped u b)
+        ])
+        (λ t. w .capped u b)
+
+    new-within : (h : ℕ) → bit h widened ≡ true → getD offered h 0 < (limit + 1) * numbering
+    new-within h b = by-cases (ltb (codeOf (k + g) i) (getD near v 0))
+        (λ t. taken-in t h
+        (or-cases (bit h m) (bit h (fringeBit far near v (k + g) i)) (sym (bit-or h m (fringeBit far near v (k + g) i)) ∙ b) (λ o. inl (w .within h o)) (λ o. inr (own h o))))
+        (λ t. let z : bit h m ≡ true = sym (still h t) ∙ b in rw t (w .within h z))
+
+    new : Coded limit vs offered widened
     new = record {
+      low = w .low;
+      capped = new-capped;
+      within = new-within;
       zero = λ u b e. picked (λ (ns : List ℕ). getD ns u 0 ≡ 0) (ltb (codeOf (k + g) i) (getD near v 0)) (set near v (codeOf (k + g) i)) near
           (λ t. getD-set-other near v u (codeOf (k + g) i) 0 (λ q. clash (getD vs u false) e (ap (λ (x : ℕ). getD vs x false) q ∙ o)) ∙ w .zero u b e)
           (λ t. w .zero u b e);
       fresh = λ h b. or-cases (bit h m) (bit h (fringeBit far near v (k + g) i)) (sym (bit-or h m (fringeBit far near v (k + g) i)) ∙ b) (w .fresh h) (λ q. rw (own h q) o);
-      fringe = rw (less-shown, ← same-bit) (fringe-offered far (shown vs near) m v (k + g) i (w .fringe) l (shown-long vs near) (omega arith));
+      fringe = rw (less-shown, ← same-bit) (fringe-offered limit (shown vs near) m v (k + g) i (w .fringe) l (shown-long vs near) (omega arith));
     }
 
-  offered-coded : Coded vs offered widened
+  offered-coded : Coded limit vs offered widened
   offered-coded = by-cases (getD vs v false) (λ o. rw (same-codes o, same-fringe o) w) new
 
   offered-along : shown vs offered ≡ relaxedAlong vs k v g i (shown vs near)
@@ -134,22 +166,22 @@ pub record Turn (ls ms ps : List ℕ) (k e : ℕ) (near₀ : List ℕ) (fringe�
   pub m : ℕ
   pub few : m ≤ countOf ls
   pub at : arc ≡ arcAt (startsOf ls) (endsOf ls) e m
-  pub coded : (vs : List Bool) → Coded vs near₀ fringe₀ → Coded vs near fringe
-  pub same : (vs : List Bool) → Coded vs near₀ fringe₀
+  pub coded : (limit : ℕ) (vs : List Bool) → Coded limit vs near₀ fringe₀ → Coded limit vs near fringe
+  pub same : (limit : ℕ) (vs : List Bool) → Coded limit vs near₀ fringe₀
       → relaxedTo (startsOf ls) (endsOf ls) (reducedCosts ls ms ps true) (reducedCosts ls ms ps false) vs k e m (shown vs near)
       ≡ relaxedTo (startsOf ls) (endsOf ls) (reducedCosts ls ms ps true) (reducedCosts ls ms ps false) vs k e (countOf ls) (shown vs near₀)
 
 module _ (ls ms ps : List ℕ) (k e : ℕ) (near₀ : List ℕ) (fringe₀ : ℕ) where
   -- No arc is gone along yet.
   pub turn-none : length near₀ ≡ places → (arc : ℕ) → arc ≡ arcAt (startsOf ls) (endsOf ls) e (countOf ls) → Turn ls ms ps k e near₀ fringe₀ near₀ fringe₀ arc
-  turn-none long arc h = record { long = long; m = countOf ls; few = omega arith; at = h; coded = λ vs c. c; same = λ vs c. refl }
+  turn-none long arc h = record { long = long; m = countOf ls; few = omega arith; at = h; coded = λ limit vs c. c; same = λ limit vs c. refl }
 
   module _ (near : List ℕ) (fringe arc : ℕ) (t : Turn ls ms ps k e near₀ fringe₀ near fringe arc) (w : Linked ls) where
     -- All arcs of the place are gone along.
-    pub turn-all : 2 * maxStreams ≤ arc → (vs : List Bool) → Coded vs near₀ fringe₀ → Looked ls ms ps k e near₀ fringe₀ near fringe vs
-    turn-all l vs c = record {
-      coded = t .coded vs c;
-      same = sym (all-passed ls w e (t .m) arc (t .few) (t .at) l _ _ vs k (shown vs near)) ∙ t .same vs c;
+    pub turn-all : 2 * maxStreams ≤ arc → (limit : ℕ) (vs : List Bool) → Coded limit vs near₀ fringe₀ → Looked ls ms ps k e near₀ fringe₀ near fringe limit vs
+    turn-all l limit vs c = record {
+      coded = t .coded limit vs c;
+      same = sym (all-passed ls w e (t .m) arc (t .few) (t .at) l _ _ vs k (shown vs near)) ∙ t .same limit vs c;
     }
 
     -- One more is.
@@ -163,9 +195,9 @@ module _ (ls ms ps : List ℕ) (k e : ℕ) (near₀ : List ℕ) (fringe₀ : ℕ
       m = i;
       few = omega (arith, low ls w e (t .m) arc (t .few) (t .at) l);
       at = next-is ls w e (t .m) arc (t .few) (t .at) l;
-      coded = λ vs c. offered-coded vs near fringe v k g i (t .coded vs c) in-places (t .long) in-streams;
-      same = λ vs c. rw (offered-along vs near fringe v k g i (t .coded vs c) in-places (t .long) in-streams)
-          (passed ls w e (t .m) arc (t .few) (t .at) l ms ps vs k (shown vs near) ∙ t .same vs c);
+      coded = λ limit vs c. offered-coded limit vs near fringe v k g i (t .coded limit vs c) in-places (t .long) in-streams;
+      same = λ limit vs c. rw (offered-along limit vs near fringe v k g i (t .coded limit vs c) in-places (t .long) in-streams)
+          (passed ls w e (t .m) arc (t .few) (t .at) l ms ps vs k (shown vs near) ∙ t .same limit vs c);
     }
       where
         i : ℕ

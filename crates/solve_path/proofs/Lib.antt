@@ -4,3 +4,4 @@ pub mod Pacing
 pub mod Turns
 pub mod Going
 pub mod Tight
+pub mod Alike

@@ -5,7 +5,7 @@ use mathlib.Core.List.{List}
 use Prim.Native.Nat.{ℕ, _≤_, _<_}
 use lib.ListN.{length, set, take}
 use Rattle.plant_def.specs.Limits.{places}
-use Rattle.solve_def.specs.Sizes.{far, farthest, searchRounds}
+use Rattle.solve_def.specs.Sizes.{farthest, searchRounds}
 use Rattle.solve_def.specs.declared.Spot.{Spot}
 use Rattle.solve_def.specs.declared.Walked.{Walked}
 use Rattle.solve_def.specs.declared.Searched.{Searched}
@@ -14,20 +14,22 @@ use Rattle.solve_def.specs.Fringe.{Stepped}
 use Rattle.solve_arcs.specs.ArcNeeds.{Ways, Searching}
 use Rattle.solve_path.specs.Codes.{shown, Coded, lookedAt}
 
--- Where the places vs are visited: a step of the definition, and codes kept for the next.
-pub record Paced (ls ms ps : List ℕ) (k e : ℕ) (before after : List ℕ) (r : Spot) (vs : List Bool) : Type 0 where
-  pub stepped : Stepped far (lookedAt ls ms ps vs k e (shown vs before)) k (shown (set vs (r .place) true) after) r
-  pub coded : (r .place ≡ places → ⊥) → Coded (set vs (r .place) true) after (r .fringe)
+-- Where the places vs are visited: a step of the definition within the limit, and codes kept for the next.
+pub record Paced (ls ms ps : List ℕ) (k e : ℕ) (before after : List ℕ) (r : Spot) (limit : ℕ) (vs : List Bool) : Type 0 where
+  pub stepped : Stepped limit (lookedAt ls ms ps vs k e (shown vs before)) k (shown (set vs (r .place) true) after) r
+  pub coded : (r .place ≡ places → ⊥) → Coded limit (set vs (r .place) true) after (r .fringe)
 
 -- What a step of a walk requires.
 abbrev pub Pacing : List ℕ → List ℕ → List ℕ → Spot → List ℕ → Type 0
 Pacing ls ms ps at near =
-    Ways ls ms ps × (at .place < places) × (at .distance < farthest) × (length near ≡ places) × ((vs : List Bool) × Coded vs near (at .fringe))
+    Ways ls ms ps × (at .place < places) × (at .distance < farthest) × (length near ≡ places)
+    × ((limit : ℕ) × (vs : List Bool) × Coded limit vs near (at .fringe))
 
--- What a step of a walk comes to, whichever places are visited.
+-- What a step of a walk comes to, whatever the limit and whichever places are visited.
 abbrev pub PacedAlong : List ℕ → List ℕ → List ℕ → Spot → List ℕ → List ℕ → Spot → Type 0
 PacedAlong ls ms ps at before after r = (length after ≡ places)
-    × ((vs : List Bool) → length vs ≡ places → Coded vs before (at .fringe) → Paced ls ms ps (at .distance) (at .place) before after r vs)
+    × ((limit : ℕ) (vs : List Bool) → length vs ≡ places → Coded limit vs before (at .fringe)
+    → Paced ls ms ps (at .distance) (at .place) before after r limit vs)
     × (r .place ≤ places)
 
 -- What a walk over arcs without reduced cost hands over of it.

@@ -13,13 +13,13 @@ use solve_def::sizes::NUMBERING;
 ghost use mathlib.Core.Bool.{Bool, true, false};
 ghost use mathlib.Core.List.{List};
 ghost use mathlib.Core.Path.{_≡_};
-ghost use Prim.Native.Nat.{_≤_, _<_};
+ghost use Prim.Native.Nat.{ℕ, _<_};
 ghost use lib.ListN.{length, replicate};
 ghost use Rattle.plant_def.specs.Limits.{places};
 ghost use Rattle.solve_def.specs.Sizes.{far};
-ghost use Rattle.solve_def.specs.Near.{nearestWithin, goalAt, walkedBy};
+ghost use Rattle.solve_def.specs.Near.{goalAt, walkedBy};
 ghost use Rattle.solve_arcs.specs.ArcNeeds.{Ways, walkedFrom};
-ghost use Rattle.solve_path.specs.Codes.{shown, Coded};
+ghost use Rattle.solve_path.specs.Codes.{Coded, NearestFound};
 ghost use Rattle.solve_path.specs.Paces.{Pacing, PacedAlong, Tightly};
 
 // The most places that a walk visits after the first.
@@ -27,8 +27,8 @@ const ROUNDS: usize = PLACES - 1;
 
 // The first place of the fringe with the least code; PLACES where there is none. The lowest place is looked at first.
 fn nearest(near: &[u64; PLACES], fringe: u64) -> usize
-    requires { ⌜ (length (now near) ≡ places) × ((vs : List Bool) × Coded vs (now near) fringe) ⌝ }
-    ensures { λ r. ⌜ (r ≤ places) × ((vs : List Bool) → Coded vs (now (near .entry)) fringe → r ≡ nearestWithin (shown vs (now (near .entry))) far) ⌝ }
+    requires { ⌜ (length (now near) ≡ places) × ((limit : ℕ) × (vs : List Bool) × Coded limit vs (now near) fringe) ⌝ }
+    ensures { λ r. ⌜ NearestFound (now (near .entry)) fringe r ⌝ }
 {
     let mut best = FAR;
     let mut at: usize = PLACES;
@@ -160,7 +160,7 @@ pub fn walk(
     walked_by(false, t, dist, at.distance)
 }
 
-// From place s over arcs of reduced cost 0 until v is visited.
+// From place s over arcs of reduced cost 0 until v is visited. (Codes are at first those of the distance 1, so that no other offer is less.)
 pub fn tight_walk(
     arcs: &[u8; ARCS],
     margins: &[u64; MARGINS],
@@ -173,7 +173,7 @@ pub fn tight_walk(
 {
     let mut at = first(s);
     let mut t = bare();
-    let mut near = [FAR; PLACES];
+    let mut near = [NUMBERING; PLACES];
     let mut left: usize = ROUNDS;
     t.visited[s] = true;
     near[s] = 0;
@@ -181,9 +181,6 @@ pub fn tight_walk(
         at = step(arcs, margins, potentials, at, &mut near);
         let e = at.place;
         if e == PLACES {
-            return searched_by(false, t);
-        }
-        if 0 < at.distance {
             return searched_by(false, t);
         }
         let len = t.len;

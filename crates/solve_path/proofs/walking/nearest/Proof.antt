@@ -19,7 +19,7 @@ abbrev μ-loop : tie.MeasureT-loop
 
 -- The lowest that is left is a place.
 place : (c : tie.In-loop Inv-loop μ-loop) → trailingZeros 64 (c .before .loop .left) < places
-place c = let v = c .before .before .pre .1 in scanned-in _ _ _ _ _ (c .before .loop .inv .1) (c .loop-test .taken) (v .0) (v .1)
+place c = let v = c .before .before .pre .1 in scanned-in _ _ _ _ _ (c .before .loop .inv .1) (c .loop-test .taken) (v .0) (v .1) (v .2)
 
 loop-holds : tie.Need-loop-holds Inv-loop μ-loop
 loop-holds c = (omega arith, scanned-none _ _ (search needs))
@@ -50,7 +50,7 @@ loop-again c =
 returns : tie.Need-returns Inv-loop μ-loop
 returns c =
     let e : c .before .loop .left ≡ 0 = omega arith in
-    (c .before .loop .inv .0, λ vs h. scanned-all _ _ _ _ (rw e at (c .before .loop .inv .1)) vs h)
+    (c .before .loop .inv .0, λ limit vs h. scanned-all _ _ _ _ (rw e at (c .before .loop .inv .1)) limit vs h)
 
 pub nearest-spec : {M : Type 1} → statement M
 nearest-spec =

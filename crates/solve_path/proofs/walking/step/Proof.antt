@@ -13,14 +13,14 @@ nearest-requires : tie.Need-nearest-requires
 nearest-requires c κs =
     let f = c .before in
     let v = f .before .before .pre .4 in
-    (f .relax .ensures .0, (v .0, f .relax .ensures .1 (v .0) (v .1) .coded))
+    (f .relax .ensures .0, (v .0, v .1, f .relax .ensures .1 (v .0) (v .1) (v .2) .coded))
 
 returns : tie.Need-returns
 returns c =
     let n = c .before in
     let f = n .before .before in (
       f .relax .ensures .0,
-      λ vs l h. let w = f .relax .ensures .1 vs h in paced-none _ _ _ _ _ _ _ _ _ vs w _ (n .nearest .ensures .1 vs (w .coded)) (c .if1 .taken),
+      λ limit vs l h. let w = f .relax .ensures .1 limit vs h in paced-none _ _ _ _ _ _ _ _ _ limit vs w _ (n .nearest .ensures .1 limit vs (w .coded)) (c .if1 .taken),
       omega arith,
     )
 
@@ -31,8 +31,8 @@ returns-2 c =
     let f = n .before .before in
     let one : n .nearest .result < places = omega (arith, n .nearest .ensures .0, o .if1 .left) in (
       simp length-set (f .relax .ensures .0),
-      λ vs l h. let w = f .relax .ensures .1 vs h in
-          paced-some _ _ _ _ _ _ _ _ _ vs w _ (n .nearest .ensures .1 vs (w .coded)) l (f .relax .ensures .0) (o .if1 .left) _ (shifted _ one),
+      λ limit vs l h. let w = f .relax .ensures .1 limit vs h in
+          paced-some _ _ _ _ _ _ _ _ _ limit vs w _ (n .nearest .ensures .1 limit vs (w .coded)) l (f .relax .ensures .0) (o .if1 .left) _ (shifted _ one),
       n .nearest .ensures .0,
     )
 

@@ -25,28 +25,28 @@ step-requires : tie.Need-step-requires Inv-loop μ-loop
 step-requires c κs =
     let at = c .before .before in
     let g = at .loop .inv in
-    (at .before .before .before .pre .0, g .walks .place, g .walks .short, g .long, (at .loop .t .visited, g .coded))
+    (at .before .before .before .pre .0, g .walks .place, g .walks .short, g .long, (_, at .loop .t .visited, g .coded))
 
 returns : tie.Need-returns Inv-loop μ-loop
 returns c =
     let o = c .before in
     let f = o .before in
     let g = turn f .loop .inv in
-    c .walked-by .ensures ∙ stops _ _ _ _ _ _ _ _ _ _ g (tested f .loop-test .taken) _ _ (f .step .ensures .1 _ (g .visits) (g .coded)) (o .if1 .taken)
+    c .walked-by .ensures ∙ stops _ _ _ _ _ _ _ _ _ _ g (tested f .loop-test .taken) _ _ (f .step .ensures .1 _ _ (g .visits) (g .coded)) (o .if1 .taken)
 
 returns-2 : tie.Need-returns-2 Inv-loop μ-loop
 returns-2 c =
     let o = c .before .before .before in
     let f = o .before in
     let g = turn f .loop .inv in
-    c .walked-by2 .ensures ∙ hits _ _ _ _ _ _ _ _ _ _ g (tested f .loop-test .taken) _ _ (f .step .ensures .1 _ (g .visits) (g .coded)) (o .if1 .left) (c .before .if2 .taken)
+    c .walked-by2 .ensures ∙ hits _ _ _ _ _ _ _ _ _ _ g (tested f .loop-test .taken) _ _ (f .step .ensures .1 _ _ (g .visits) (g .coded)) (o .if1 .left) (c .before .if2 .taken)
 
 loop-again : tie.Need-loop-again Inv-loop μ-loop
 loop-again c =
     let o = c .before .before in
     let f = o .before in
     let g = turn f .loop .inv in
-    goes-on _ _ _ _ _ _ _ _ _ _ g (tested f .loop-test .taken) _ _ (f .step .ensures .1 _ (g .visits) (g .coded)) (o .if1 .left) (f .step .ensures .0) (c .if2 .left)
+    goes-on _ _ _ _ _ _ _ _ _ _ g (tested f .loop-test .taken) _ _ (f .step .ensures .1 _ _ (g .visits) (g .coded)) (o .if1 .left) (f .step .ensures .0) (c .if2 .left)
 
 returns-3 : tie.Need-returns-3 Inv-loop μ-loop
 returns-3 c = c .walked-by3 .ensures ∙ ends _ _ _ _ _ _ _ _ _ _ (c .before .before .loop .inv) (c .before .loop-test .left)
