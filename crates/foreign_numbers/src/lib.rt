@@ -98,7 +98,7 @@ pub fn place_numbers(file: &[u8]) -> PlaceNumbers
     let mut rows = [0u64; ROWS];
     lay(streams, count, &mut arcs, &mut rows);
     let labels = flow_components::group(&arcs, &rows, Which::Unmetered);
-    let solved = solve_call::solve(plant, labels, &arcs, &rows);
+    let solved = solve_call::solve(plant.units, labels, &arcs, &rows);
     numbers_by(plant, solved)
 }
 

@@ -51,12 +51,12 @@ pub fn balance_of(p: Plant) -> Outcome
     lay(streams, count, &mut arcs, &mut rows);
     let bridges = flow_bridges::bridges_of(&arcs, &rows);
     let labels = bridges.labels;
-    let solved = solve_call::solve(p, labels, &arcs, &rows);
+    let solved = solve_call::solve(p.units, labels, &arcs, &rows);
     let marked = solved.marked;
     if !solved.found {
         return overfilled(marked);
     }
-    let balance = balance_by(p, &arcs, &rows, bridges, solved);
+    let balance = balance_by(p.units, &arcs, &rows, bridges, solved);
     Outcome {
         found: true,
         balance: balance,

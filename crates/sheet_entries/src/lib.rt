@@ -136,19 +136,20 @@ fn enter(
 
 // The balance by the cheapest flow. The plant as read stands unchanged beside the corrected flows.
 pub fn balance_by(
-    p: Plant,
+    units: u8,
     arcs: &[u8; ARCS],
     rows: &[u64; ROWS],
     bridges: Bridges,
     solved: Solved,
 ) -> Balance
-    requires { ⌜ LaidOf p (now arcs) (now rows) × Bridging p bridges × Solution p solved ⌝ }
-    ensures { λ r. ⌜ BalanceSays (plantOf p) r ⌝ }
+    requires { ⌜ ((p : Plant) × LaidOf p (now arcs) (now rows) × (p .units ≡ units) × Bridging p bridges × Solution p solved) ⌝ }
+    ensures { λ r. ⌜ ((p : Plant) → LaidOf p (now (arcs .entry)) (now (rows .entry)) → p .units ≡ units → Bridging p bridges → Solution p solved
+        → BalanceSays (plantOf p) r) ⌝ }
 {
     let labels = bridges.labels;
     let held = solved.flows;
     let cost = cost_held(arcs, rows, &held);
-    let degrees = degrees_of(arcs, rows, p.units, labels);
+    let degrees = degrees_of(arcs, rows, units, labels);
     let entered = enter(arcs, rows, bridges, &held);
     let streams = entered.streams;
     let verdict = verdict(degrees, cost, entered.weights);

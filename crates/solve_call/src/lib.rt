@@ -15,20 +15,23 @@ use solve_phases::marks::masked;
 use solve_settle::settle;
 use solve_start::start;
 use solve_ties::tie_all;
+ghost use mathlib.Core.Path.{_≡_};
 ghost use Prim.Native.Nat.{_≤_};
+ghost use Rattle.plant_def.specs.declared.Plant.{Plant};
 ghost use Rattle.plant_def.specs.Within.{Accepted};
 ghost use Rattle.plant_def.specs.Says.{plantOf};
 ghost use Rattle.solve_def.specs.SolverNeeds.{AtHint, Hinted};
 ghost use Rattle.solve_def.specs.Promise.{Right};
 ghost use Rattle.solve_def.specs.Few.{mostMade, Effort};
-ghost use Rattle.solve_arcs.specs.ArcNeeds.{Laid};
+ghost use Rattle.solve_arcs_fill.specs.Plants.{LaidOf};
 ghost use Rattle.flow_def.specs.Calls.{Grouped};
 
 // The cheapest balanced flow of a plant, from amounts settled at a hint; or a set of places that must take in more than it can let
 // out. The improvements are counted.
-pub fn solve_at(p: Plant, arcs: &[u8; ARCS], rows: &[u64; ROWS], start: State) -> Solved
-    requires { ⌜ Accepted p × Laid (p .streams) (p .count) (now arcs) (now rows) × AtHint (plantOf p .streams) start ⌝ }
-    ensures { λ r. ⌜ Right p r × Effort (plantOf p .streams) start (r .made) ⌝ }
+pub fn solve_at(units: u8, arcs: &[u8; ARCS], rows: &[u64; ROWS], start: State) -> Solved
+    requires { ⌜ ((p : Plant) × LaidOf p (now arcs) (now rows) × (p .units ≡ units) × AtHint (plantOf p .streams) start) ⌝ }
+    ensures { λ r. ⌜ ((p : Plant) → LaidOf p (now (arcs .entry)) (now (rows .entry)) → p .units ≡ units → AtHint (plantOf p .streams) start
+        → Right p r × Effort (plantOf p .streams) start (r .made)) ⌝ }
 {
     let mut flows = start.flows;
     let mut potentials = start.potentials;
@@ -43,7 +46,7 @@ pub fn solve_at(p: Plant, arcs: &[u8; ARCS], rows: &[u64; ROWS], start: State) -
         &mut nets,
     );
     let marked = e.marked;
-    let own = masked(marked, p.units);
+    let own = masked(marked, units);
     if e.full {
         return Solved {
             found: false,
@@ -74,14 +77,15 @@ pub fn solve_from(p: Plant, h: Hint) -> Solved
     let mut rows = [0u64; ROWS];
     lay(streams, count, &mut arcs, &mut rows);
     let st = settle(&arcs, &rows, h);
-    solve_at(p, &arcs, &rows, st)
+    solve_at(p.units, &arcs, &rows, st)
 }
 
 // The same of a plant whose arcs and rows are laid, and whose labels by the unmetered streams are handed in.
-pub fn solve(p: Plant, labels: [u8; PLACES], arcs: &[u8; ARCS], rows: &[u64; ROWS]) -> Solved
-    requires { ⌜ Accepted p × Grouped p labels × Laid (p .streams) (p .count) (now arcs) (now rows) ⌝ }
-    ensures { λ r. ⌜ Right p r × (r .made ≤ mostMade) ⌝ }
+pub fn solve(units: u8, labels: [u8; PLACES], arcs: &[u8; ARCS], rows: &[u64; ROWS]) -> Solved
+    requires { ⌜ ((p : Plant) × LaidOf p (now arcs) (now rows) × (p .units ≡ units) × Grouped p labels) ⌝ }
+    ensures { λ r. ⌜ ((p : Plant) → LaidOf p (now (arcs .entry)) (now (rows .entry)) → p .units ≡ units → Grouped p labels → Right p r)
+        × (r .made ≤ mostMade) ⌝ }
 {
-    let begun = start(p, labels, arcs, rows);
-    solve_at(p, arcs, rows, begun)
+    let begun = start(units, labels, arcs, rows);
+    solve_at(units, arcs, rows, begun)
 }

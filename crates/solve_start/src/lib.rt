@@ -1,7 +1,6 @@
 // The start by factorisation: metered amounts settled at potentials at which the real-number optimum balances, unmetered ones routed
 // along a spanning forest.
 use newton_descend::potentials_of;
-use plant_def::Plant;
 use plant_def::limits::MAX_STREAMS;
 use plant_def::limits::PLACES;
 use solve_arcs::ARCS;
@@ -14,25 +13,19 @@ use solve_forest::route;
 use solve_forest::span;
 use solve_settle::nets_of;
 use solve_settle::settle_flows;
-ghost use Rattle.plant_def.specs.Within.{Accepted};
+ghost use mathlib.Core.Path.{_≡_};
+ghost use Rattle.plant_def.specs.declared.Plant.{Plant};
 ghost use Rattle.plant_def.specs.Says.{plantOf};
 ghost use Rattle.flow_def.specs.Calls.{Grouped};
 ghost use Rattle.solve_def.specs.SolverNeeds.{AtHint};
-ghost use Rattle.solve_arcs.specs.ArcNeeds.{Laid};
+ghost use Rattle.solve_arcs_fill.specs.Plants.{LaidOf};
 
 // Potentials from the labels by the unmetered streams, and amounts at these. Routing leaves metered amounts as they are.
-pub fn start(p: Plant, labels: [u8; PLACES], arcs: &[u8; ARCS], rows: &[u64; ROWS]) -> State
-    requires { ⌜ Accepted p × Grouped p labels × Laid (p .streams) (p .count) (now arcs) (now rows) ⌝ }
-    ensures { λ r. ⌜ AtHint (plantOf p .streams) r ⌝ }
+pub fn start(units: u8, labels: [u8; PLACES], arcs: &[u8; ARCS], rows: &[u64; ROWS]) -> State
+    requires { ⌜ ((p : Plant) × LaidOf p (now arcs) (now rows) × (p .units ≡ units) × Grouped p labels) ⌝ }
+    ensures { λ r. ⌜ ((p : Plant) → LaidOf p (now (arcs .entry)) (now (rows .entry)) → Grouped p labels → AtHint (plantOf p .streams) r) ⌝ }
 {
-    let potentials = potentials_of(
-        p.units,
-        labels,
-        arcs,
-        rows,
-        POTENTIAL_SHIFT,
-        POTENTIAL_SPREAD,
-    );
+    let potentials = potentials_of(units, labels, arcs, rows, POTENTIAL_SHIFT, POTENTIAL_SPREAD);
     let mut flows = [FLOW_SHIFT; MAX_STREAMS];
     settle_flows(arcs, rows, &potentials, &mut flows);
     let mut given = nets_of(arcs, &flows);

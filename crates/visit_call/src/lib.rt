@@ -34,7 +34,7 @@ pub fn visits_of(file: &[u8]) -> Visits
     lay(streams, count, &mut arcs, &mut rows);
     let bridges = flow_bridges::bridges_of(&arcs, &rows);
     let labels = bridges.labels;
-    let solved = solve_call::solve(plant, labels, &arcs, &rows);
+    let solved = solve_call::solve(plant.units, labels, &arcs, &rows);
     if !solved.found {
         return refused(19);
     }

@@ -36,7 +36,7 @@ pub fn least_cost(p: Plant) -> u64
     let mut margins = [0u64; MARGINS];
     lay(streams, count, &mut arcs, &mut rows);
     let labels = group(&arcs, &rows, Which::Unmetered);
-    let begun = start(p, labels, &arcs, &rows);
+    let begun = start(p.units, labels, &arcs, &rows);
     let mut held = begun.flows;
     let mut potentials = begun.potentials;
     let mut nets = begun.nets;

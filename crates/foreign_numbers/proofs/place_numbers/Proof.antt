@@ -56,10 +56,23 @@ solve-requires c κs =
     let g = c .before .before in
     let f = laid g in
     let e = read (f .before) in
-    (able e, g .group .ensures (e .before .read-plant .result .plant) (record { accepted = able e; laid = f .lay .ensures }), f .lay .ensures)
+    let p = e .before .read-plant .result .plant in (
+      p,
+      record { accepted = able e; laid = f .lay .ensures },
+      refl,
+      g .group .ensures p (record { accepted = able e; laid = f .lay .ensures }),
+    )
 
 numbers-by-requires : tie.Need-numbers-by-requires
-numbers-by-requires c κs = (able (read (laid (c .before .before .before) .before)), c .solve .ensures .0)
+numbers-by-requires c κs =
+    let g = c .before .before .before in
+    let f = laid g in
+    let e = read (f .before) in
+    let p = e .before .read-plant .result .plant in (
+      able e,
+      c .solve .ensures .0 p (record { accepted = able e; laid = f .lay .ensures }) refl
+          (g .group .ensures p (record { accepted = able e; laid = f .lay .ensures })),
+    )
 
 returns-2 : tie.Need-returns-2
 returns-2 c =

@@ -8,6 +8,7 @@ use Rattle.num_bytes.specs.Inner.{pickT}
 use Rattle.plant_def.specs.Plants.{Plant}
 use Rattle.plant_def.specs.Says.{plantOf}
 use Rattle.flow_def.specs.Overfull.{Overfull}
+use Rattle.solve_def.specs.Promise.{Right, Solution}
 use Rattle.solve_def.proofs.Theorem.{network-of}
 use Rattle.solve_arcs_fill.proofs.Plants.{no-arc}
 use Rattle.sheet_def.specs.declared.Outcome.{Outcome}
@@ -30,6 +31,19 @@ laid c = c .before .before .before
 abbrev bridge : tie.After-solve → tie.After-bridges-of
 bridge c = c .before .before .before .before
 
+-- What the solver hands over is right.
+right : (c : tie.After-solve) → Right (begin (laid (bridge c)) .args .p) (c .solve .result)
+right c =
+    let k = bridge c in
+    let f = laid k in
+    let p = begin f .args .p in
+    c .solve .ensures .0 p (record { accepted = begin f .pre; laid = f .lay .ensures }) refl
+    (k .bridges-of .ensures p (record { accepted = begin f .pre; laid = f .lay .ensures }) .grouped)
+
+-- And where a flow is found, it is a solution.
+found : (c : tie.Else1) → Solution (begin (laid (bridge (c .before .before .before))) .args .p) (c .before .before .before .solve .result)
+found c = let s = c .before .before .before in right-found _ (s .solve .result) (right s) (not-false (s .solve .result .found) (c .if1 .left))
+
 cast-count : tie.Need-cast-count
 cast-count c = search needs
 
@@ -50,7 +64,12 @@ solve-requires : tie.Need-solve-requires
 solve-requires c κs =
     let k = c .before .before .before in
     let f = laid k in
-    (begin f .pre, k .bridges-of .ensures (begin f .args .p) (record { accepted = begin f .pre; laid = f .lay .ensures }) .grouped, f .lay .ensures)
+    let p = begin f .args .p in (
+      p,
+      record { accepted = begin f .pre; laid = f .lay .ensures },
+      refl,
+      k .bridges-of .ensures p (record { accepted = begin f .pre; laid = f .lay .ensures }) .grouped,
+    )
 
 overfilled-requires : tie.Need-overfilled-requires
 overfilled-requires c κs = search needs
@@ -60,7 +79,7 @@ returns c =
     let s = c .before .before .before .before in
     let p = begin (laid (bridge s)) .args .p in
     says-overfull (plantOf p) (c .overfilled .result) (s .solve .result .marked) (c .overfilled .ensures)
-    (right-overfull p (s .solve .result) (s .solve .ensures .0) (not-true (s .solve .result .found) (c .before .if1 .taken)))
+    (right-overfull p (s .solve .result) (right s) (not-true (s .solve .result .found) (c .before .if1 .taken)))
 
 balance-by-requires : tie.Need-balance-by-requires
 balance-by-requires c κs =
@@ -68,15 +87,22 @@ balance-by-requires c κs =
     let s = e .before .before .before in
     let k = bridge s in
     let f = laid k in
-    let p = begin f .args .p in
-    let solution = right-found p (s .solve .result) (s .solve .ensures .0) (not-false (s .solve .result .found) (e .if1 .left)) in (
+    let p = begin f .args .p in (
+      p,
       record { accepted = begin f .pre; laid = f .lay .ensures },
+      refl,
       k .bridges-of .ensures p (record { accepted = begin f .pre; laid = f .lay .ensures }),
-      solution,
+      found e,
     )
 
 returns-2 : tie.Need-returns-2
-returns-2 c = search needs
+returns-2 c =
+    let e = c .before .before .before in
+    let k = bridge (e .before .before .before) in
+    let f = laid k in
+    let p = begin f .args .p in
+    c .balance-by .ensures p (record { accepted = begin f .pre; laid = f .lay .ensures }) refl
+    (k .bridges-of .ensures p (record { accepted = begin f .pre; laid = f .lay .ensures })) (found e)
 
 pub balance-of-spec : {M : Type 1} → statement M
 balance-of-spec =

@@ -1,7 +1,11 @@
 -- `solve_call::solve_at` meets its contract: what the code computes is what the definitions give, and that is right.
 use mathlib.Core.Path.{refl}
 use borrow.Author.Needs.{needs}
+use Rattle.plant_def.specs.declared.Plant.{Plant}
+use Rattle.plant_def.specs.Says.{plantOf}
+use Rattle.solve_def.specs.SolverNeeds.{AtHint}
 use Rattle.solve_def.proofs.Theorem.{network-of}
+use Rattle.solve_arcs_fill.specs.Plants.{LaidOf}
 use Rattle.solve_phases.specs.Finishes.{Finishable}
 use Rattle.solve_call.proofs.Solving.{full-right, counted, tieable, tie-margined, found-right}
 use Rattle.solve_call.proofs.solve_at.Statement.{statement}
@@ -17,25 +21,28 @@ start c =
     m .before .before .before .before
 
 -- What the phases begin from.
-abbrev begun : (st : tie.Start) → Finishable (st .args .arcs .now) (st .args .rows .now) (st .args .start)
-begun st = record {
-  laying = record { streams = st .args .p .streams; n = st .args .p .count; network = network-of (st .args .p) (st .pre .0); laid = st .pre .1 };
-  at-hint = st .pre .2;
+abbrev begun : (st : tie.Start) (p : Plant) → LaidOf p (st .args .arcs .now) (st .args .rows .now) → AtHint (plantOf p .streams) (st .args .start)
+    → Finishable (st .args .arcs .now) (st .args .rows .now) (st .args .start)
+begun st p w h = record {
+  laying = record { streams = p .streams; n = p .count; network = network-of p (w .accepted); laid = w .laid };
+  at-hint = h;
 }
 
 finish-requires : tie.Need-finish-requires
 finish-requires c κs =
     let m = c .before .before .before in
-    (begun (m .before .before .before .before), refl)
+    let st = m .before .before .before .before in
+    (begun st (st .pre .0) (st .pre .1) (st .pre .3), refl)
 
 returns : tie.Need-returns
 returns c =
     let m = c .before in
     let f = ended m in
     let st = start f in
-    let got = f .finish .ensures (begun st) in (
-      full-right (st .args .p) (st .pre .0) (st .args .start) (st .pre .2) _ (got .0) _ (c .if1 .taken) (m .masked .ensures),
-      counted (st .args .p) (st .pre .0) (st .args .start) (st .pre .2) _ (got .0) _ (got .1),
+    λ p w e h.
+    let got = f .finish .ensures (begun st p w h) in (
+      full-right p (w .accepted) (st .args .start) h _ (got .0) _ (c .if1 .taken) (rw e (m .masked .ensures)),
+      counted p (w .accepted) (st .args .start) h _ (got .0) _ (got .1),
     )
 
 tie-all-requires : tie.Need-tie-all-requires
@@ -43,23 +50,27 @@ tie-all-requires c κs =
     let e = c .before .before .before in
     let f = ended (e .before) in
     let st = start f in
-    let got = f .finish .ensures (begun st) in
+    let p = st .pre .0 in
+    let w = st .pre .1 in
+    let h = st .pre .3 in
+    let got = f .finish .ensures (begun st p w h) in
     let n = e .if1 .left in (
-      tieable (st .args .p) (st .pre .0) (st .args .start) (st .pre .2) _ (got .0) n _ _ (st .pre .1),
-      tie-margined (st .args .p) (st .pre .0) (st .args .start) (st .pre .2) _ (got .0) n _ _ _ (st .pre .1) (got .2 n),
+      tieable p (w .accepted) (st .args .start) h _ (got .0) n _ _ (w .laid),
+      tie-margined p (w .accepted) (st .args .start) h _ (got .0) n _ _ _ (w .laid) (got .2 n),
     )
 
 returns-2 : tie.Need-returns-2
 returns-2 c =
-    let e = c .before .before .before .before in
-    let m = e .before in
+    let b = c .before .before .before .before in
+    let m = b .before in
     let f = ended m in
     let st = start f in
-    let n = e .if1 .left in
-    let got = f .finish .ensures (begun st) in
-    let ties = c .tie-all .ensures (tieable (st .args .p) (st .pre .0) (st .args .start) (st .pre .2) _ (got .0) n _ _ (st .pre .1)) in (
-      found-right (st .args .p) (st .pre .0) (st .args .start) (st .pre .2) _ (got .0) n _ _ _ ties (m .masked .ensures) (got .1),
-      counted (st .args .p) (st .pre .0) (st .args .start) (st .pre .2) _ (got .0) _ (got .1),
+    let n = b .if1 .left in
+    λ p w e h.
+    let got = f .finish .ensures (begun st p w h) in
+    let ties = c .tie-all .ensures (tieable p (w .accepted) (st .args .start) h _ (got .0) n _ _ (w .laid)) in (
+      found-right p (w .accepted) (st .args .start) h _ (got .0) n _ _ _ ties (rw e (m .masked .ensures)) (got .1),
+      counted p (w .accepted) (st .args .start) h _ (got .0) _ (got .1),
     )
 
 pub solve-at-spec : {M : Type 1} → statement M

@@ -5,6 +5,8 @@ use native.Mathlib.Omega.{arith}
 use borrow.Author.Needs.{needs}
 use lib.ListN.{getD-replicate}
 use Rattle.plant_def.specs.Limits.{maxStreams}
+use Rattle.plant_def.specs.Says.{plantOf}
+use Rattle.solve_def.specs.SolverNeeds.{AtHint}
 use Rattle.solve_def.proofs.Layouts.{hinted-ready}
 use Rattle.solve_def.proofs.Theorem.{network-of}
 use Rattle.solve_arcs.specs.Cells.{arcCells}
@@ -31,23 +33,32 @@ settle-requires c κs =
       ready = hinted-ready (p .streams) (p .count) w (st .args .h) (st .pre .1);
     }
 
+-- The settled amounts are those of the hint.
+at-hint : (c : tie.After-settle) → let st = begin (c .before .before .before) in AtHint (plantOf (st .args .p) .streams) (c .settle .result)
+at-hint c =
+    let f = c .before .before .before in
+    let st = begin f in
+    let p = st .args .p in
+    record {
+      hint = st .args .h;
+      hinted = st .pre .1;
+      is = c .settle .ensures (record { streams = p .streams; n = p .count; network = network-of p (st .pre .0); laid = f .lay .ensures });
+    }
+
 solve-at-requires : tie.Need-solve-at-requires
 solve-at-requires c κs =
     let s = c .before .before in
     let f = s .before .before .before in
-    let st = begin f in
-    let p = st .args .p in (
-      st .pre .0,
-      f .lay .ensures,
-      record {
-        hint = st .args .h;
-        hinted = st .pre .1;
-        is = s .settle .ensures (record { streams = p .streams; n = p .count; network = network-of p (st .pre .0); laid = f .lay .ensures });
-      },
-    )
+    (begin f .args .p, record { accepted = begin f .pre .0; laid = f .lay .ensures }, refl, at-hint s)
+
+returns : tie.Need-returns
+returns c =
+    let s = c .before .before .before in
+    let f = s .before .before .before in
+    let r = c .solve-at .ensures (begin f .args .p) (record { accepted = begin f .pre .0; laid = f .lay .ensures }) refl (at-hint s) in
+    (r .0, r .1 .few)
 
 pub solve-from-spec : {M : Type 1} → statement M
 solve-from-spec =
     tie.close
-    (tie.spec (λ c. search needs) (λ c. search needs) lay-requires settle-requires solve-at-requires
-    (λ c. search needs))
+    (tie.spec (λ c. search needs) (λ c. search needs) lay-requires settle-requires solve-at-requires returns)

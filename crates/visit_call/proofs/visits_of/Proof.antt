@@ -6,6 +6,7 @@ use Rattle.plant_def.specs.Within.{Accepted}
 use Rattle.plant_def.specs.Says.{plantOf}
 use Rattle.plant_def.proofs.Arrayed.{within-of}
 use Rattle.plant_def.proofs.Found.{plant-accepted}
+use Rattle.solve_def.specs.Promise.{Right}
 use Rattle.solve_def.proofs.Theorem.{network-of}
 use Rattle.solve_arcs_fill.proofs.Plants.{no-arc}
 use Rattle.sheet_def.proofs.Opening.{right-found, right-overfull}
@@ -35,11 +36,21 @@ bridge c = c .before .before .before .before
 abbrev begun : tie.After-solve → tie.After-plant
 begun c = at-plant (laid (bridge c))
 
+-- What the solver hands over is right.
+right : (c : tie.After-solve) → Right (begun c .before .before .read-plant .result .plant) (c .solve .result)
+right c =
+    let k = bridge c in
+    let f = laid k in
+    let a = at-plant f in
+    let p = a .before .before .read-plant .result .plant in
+    c .solve .ensures .0 p (record { accepted = taken a; laid = f .lay .ensures }) refl
+    (k .bridges-of .ensures p (record { accepted = taken a; laid = f .lay .ensures }) .grouped)
+
 -- It has a flow in range.
 solved : (c : tie.Else2) → Feasible (plantOf (begun (c .before .before) .before .before .read-plant .result .plant))
 solved c =
     let s = c .before .before .solve in
-    solved-feasible _ (s .result) (right-found _ (s .result) (s .ensures .0) (not-false (s .result .found) (c .if2 .left)))
+    solved-feasible _ (s .result) (right-found _ (s .result) (right (c .before .before)) (not-false (s .result .found) (c .if2 .left)))
 
 read-plant-requires : tie.Need-read-plant-requires
 read-plant-requires c κs = search needs
@@ -71,7 +82,12 @@ solve-requires c κs =
     let k = c .before .before .before in
     let f = laid k in
     let a = at-plant f in
-    (taken a, k .bridges-of .ensures (a .before .before .read-plant .result .plant) (record { accepted = taken a; laid = f .lay .ensures }) .grouped, f .lay .ensures)
+    let p = a .before .before .read-plant .result .plant in (
+      p,
+      record { accepted = taken a; laid = f .lay .ensures },
+      refl,
+      k .bridges-of .ensures p (record { accepted = taken a; laid = f .lay .ensures }) .grouped,
+    )
 
 refused-requires-2 : tie.Need-refused-requires-2
 refused-requires-2 c κs = search needs
@@ -84,7 +100,7 @@ returns-2 c =
     let y = e .before in
     answered (now (y .before .before .args .file)) (y .read-plant .result) (y .read-plant .ensures) (c .refused2 .result) (e .if1 .left)
     (none-balanced _ (within-of (y .read-plant .result .plant) (taken a)) (c .refused2 .result) (s .solve .result .marked)
-    (right-overfull _ (s .solve .result) (s .solve .ensures .0) (not-true (s .solve .result .found) (c .before .if2 .taken))) (c .refused2 .ensures))
+    (right-overfull _ (s .solve .result) (right s) (not-true (s .solve .result .found) (c .before .if2 .taken))) (c .refused2 .ensures))
 
 classes-of-requires : tie.Need-classes-of-requires
 classes-of-requires c κs =

@@ -3,6 +3,8 @@ use mathlib.Core.Path.{refl}
 use mathlib.Core.List.{List}
 use Prim.Native.Nat.{ℕ}
 use borrow.Author.Needs.{needs}
+use Rattle.plant_def.specs.Says.{plantOf}
+use Rattle.solve_def.specs.SolverNeeds.{AtHint}
 use Rattle.solve_def.proofs.Theorem.{network-of}
 use Rattle.solve_arcs.specs.ArcNeeds.{Laid}
 use Rattle.solve_arcs_fill.proofs.Plants.{no-arc}
@@ -46,7 +48,20 @@ start-requires : tie.Need-start-requires
 start-requires c κs =
     let g = c .before .before in
     let f = g .before .before .before in
-    (start f .pre .0, g .group .ensures (start f .args .p) (record { accepted = start f .pre .0; laid = f .lay .ensures }), f .lay .ensures)
+    let p = start f .args .p in (
+      p,
+      record { accepted = start f .pre .0; laid = f .lay .ensures },
+      refl,
+      g .group .ensures p (record { accepted = start f .pre .0; laid = f .lay .ensures }),
+    )
+
+-- What the phases begin from is settled at a hint.
+at-hint : (c : tie.After-start) → AtHint (plantOf (start (laid c) .args .p) .streams) (c .start .result)
+at-hint c =
+    let f = laid c in
+    let p = start f .args .p in
+    c .start .ensures p (record { accepted = start f .pre .0; laid = f .lay .ensures })
+    (grouped c .group .ensures p (record { accepted = start f .pre .0; laid = f .lay .ensures }))
 
 -- What the phases begin from.
 abbrev able : (c : tie.After-finish) (ls rs : List ℕ) → let b = begun c in let p = start (laid b) .args .p in
@@ -56,7 +71,7 @@ able c ls rs l =
     let st = start (laid b) in
     record {
       laying = record { streams = st .args .p .streams; n = st .args .p .count; network = network-of (st .args .p) (st .pre .0); laid = l };
-      at-hint = b .start .ensures;
+      at-hint = at-hint b;
     }
 
 finish-requires : tie.Need-finish-requires
@@ -66,7 +81,7 @@ finish-requires c κs =
     let st = start (laid b) in (
       record {
         laying = record { streams = st .args .p .streams; n = st .args .p .count; network = network-of (st .args .p) (st .pre .0); laid = laid b .lay .ensures };
-        at-hint = b .start .ensures;
+        at-hint = at-hint b;
       },
       refl,
     )
@@ -77,7 +92,7 @@ returns c =
     let b = begun f in
     let st = start (laid b) in
     let got = f .finish .ensures (able f _ _ (laid b .lay .ensures)) in
-    never-full (st .args .p) (st .pre .0) (b .start .result) (b .start .ensures) _ (got .0) (st .pre .1) (c .if1 .taken)
+    never-full (st .args .p) (st .pre .0) (b .start .result) (at-hint b) _ (got .0) (st .pre .1) (c .if1 .taken)
 
 cost-held-requires : tie.Need-cost-held-requires
 cost-held-requires c κs =
@@ -88,8 +103,8 @@ cost-held-requires c κs =
     let st = start l in
     let got = f .finish .ensures (able f _ _ (l .lay .ensures)) in (
       (st .args .p, record { accepted = st .pre .0; laid = l .lay .ensures }),
-      amounts (st .args .p) (st .pre .0) (b .start .result) (b .start .ensures) _ (got .0) (e .if1 .left),
-      all-held (st .args .p) (st .pre .0) (b .start .result) (b .start .ensures) _ (got .0) (e .if1 .left),
+      amounts (st .args .p) (st .pre .0) (b .start .result) (at-hint b) _ (got .0) (e .if1 .left),
+      all-held (st .args .p) (st .pre .0) (b .start .result) (at-hint b) _ (got .0) (e .if1 .left),
     )
 
 returns-2 : tie.Need-returns-2
@@ -100,7 +115,7 @@ returns-2 c =
     let l = laid b in
     let st = start l in
     let got = f .finish .ensures (able f _ _ (l .lay .ensures)) in
-    least-found (st .args .p) (st .pre .0) (b .start .result) (b .start .ensures) _ (got .0) (e .if1 .left) (c .cost-held .result)
+    least-found (st .args .p) (st .pre .0) (b .start .result) (at-hint b) _ (got .0) (e .if1 .left) (c .cost-held .result)
     (c .cost-held .ensures (st .args .p) (record { accepted = st .pre .0; laid = l .lay .ensures }))
 
 pub least-cost-spec : {M : Type 1} → statement M
