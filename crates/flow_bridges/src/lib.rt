@@ -28,18 +28,10 @@ fn taken_by(labels: &[u8; PLACES], u: usize, v: usize, metered: bool) -> u8
     requires { ⌜ (u < places) × (v < places) × (length (now labels) ≡ places) ⌝ }
     ensures { λ r. ⌜ ((s : Stream) → Runs s u v → s .metered ≡ metered → r ≡ takenBy (now (labels .entry)) s) ⌝ }
 {
-    if metered {
-        return 0;
-    }
     let a = labels[u];
     let b = labels[v];
-    if a == b {
-        return 0;
-    }
-    if a <= b {
-        return b;
-    }
-    a
+    let most = if a <= b { b } else { a };
+    if metered | (a == b) { 0 } else { most }
 }
 
 // The streams on the way between two places, by their bits.
@@ -55,13 +47,9 @@ fn looped_by(labels: &[u8; PLACES], sides: &[u64; PLACES], u: usize, v: usize, m
     requires { ⌜ (u < places) × (v < places) × (length (now labels) ≡ places) × (length (now sides) ≡ places) ⌝ }
     ensures { λ r. ⌜ ((s : Stream) → Runs s u v → s .metered ≡ metered → r ≡ loopedBy (now (labels .entry)) (now (sides .entry)) s) ⌝ }
 {
-    if metered {
-        return 0;
-    }
-    if labels[u] == labels[v] {
-        return way_between(sides, u, v);
-    }
-    0
+    let way = way_between(sides, u, v);
+    let apart = labels[u] != labels[v];
+    if metered | apart { 0 } else { way }
 }
 
 // The sides of a place, changed where its label is h.
@@ -109,13 +97,17 @@ fn pass(
     h: u8,
 ) -> u64
     requires { ⌜ (u < places) × (v < places) × (length (now labels) ≡ places) × (length (now sides) ≡ places) × (h < places) ⌝ }
+    requires { ⌜ ((s : Stream) → Runs s u v → s .metered ≡ metered → h ≡ takenBy (now labels) s) ⌝ }
     ensures { λ r. ⌜ ((s : Stream) → Runs s u v → s .metered ≡ metered → r ≡ loopedBy (now (labels .entry)) (now (sides .entry)) s) ⌝ }
     ensures { λ r. ⌜ ((s : Stream) → Runs s u v → now (sides .exit) ≡ parted h (now (labels .entry)) s (now (sides .entry))) ⌝ }
-    ensures { λ r. ⌜ ((s : Stream) → Runs s u v → StepSays (not metered) s (now (labels .entry)) (now (labels .exit))) ⌝ }
+    ensures { λ r. ⌜ ((s : Stream) → Runs s u v → s .metered ≡ metered → StepSays (not (s .metered)) s (now (labels .entry)) (now (labels .exit))) ⌝ }
 {
     let looped = looped_by(labels, sides, u, v, metered);
+    if h == 0 {
+        return looped;
+    }
     part(sides, labels, u, v, h);
-    flow_components::join(labels, u, v, !metered);
+    flow_components::join(labels, u, v, true);
     looped
 }
 

@@ -29,16 +29,13 @@ pub fn class_of(
     requires { ⌜ (u < places) × (v < places) × (length (now labels) ≡ places) × (h < places) ⌝ }
     ensures { λ r. ⌜ ((s : Stream) → s .metered ≡ metered → s .from ≡ u → s .to ≡ v → r ≡ classIn (now (labels .entry)) s h looped) ⌝ }
 {
+    let same = labels[u] == labels[v];
+    let loops = (looped >> h) % 2 == 1;
     if metered {
-        if labels[u] == labels[v] {
-            return Class::AsRead;
-        }
-        return Class::Adjusted;
+        if same { Class::AsRead } else { Class::Adjusted }
+    } else {
+        if loops { Class::Withheld } else { Class::Given }
     }
-    if (looped >> h) % 2 == 1 {
-        return Class::Withheld;
-    }
-    Class::Given
 }
 
 // The number of groups of a plant with so many units less the number of connected pieces.

@@ -19,7 +19,7 @@ use Rattle.plant_def.specs.declared.Stream.{Stream}
 use Rattle.plant_def.specs.declared.Plant as Arrays
 use Rattle.plant_def.specs.Plants.{noStream}
 use Rattle.plant_def.specs.Says.{plantOf}
-use Rattle.plant_def.specs.Limits.{maxUnits, maxStreams}
+use Rattle.plant_def.specs.Limits.{maxUnits, maxStreams, maxWeight}
 use Rattle.plant_def.specs.Within.{WithinStream, Accepted}
 use Rattle.plant_def.proofs.Arrayed.{all-listed, listed-at, stream-within}
 use Rattle.flow_def.specs.Flows.{streamAt, amountAt, cost}
@@ -28,6 +28,7 @@ use Rattle.solve_def.proofs.Weights.{wide}
 use Rattle.sheet_def.specs.Totals.{topCost, capped}
 use Rattle.sheet_def.specs.Calls.{Small, AllSmall, streamCost}
 use Rattle.sheet_def.proofs.Capped.{capped-below, capped-above, capped-most}
+use Rattle.sheet_cost.specs.Rows.{safeRoot}
 
 -- A number of size below 2^63 fits 64 bits.
 pub size-fits : (z : ℤ) → 2 * natAbs z < 2 ^ 64 → SFits w64 z
@@ -56,6 +57,16 @@ correction-fits x z h f = size-fits (x -ℤ z) (omega (arith, minus-size x z, re
 -- A flow less a reading, as the code has them.
 pub correction-is : (x z : ℤ) → SFits w64 x → SFits w32 z → toZ w64 (ofZ w64 x) -ℤ toZ w64 (ofZ w64 (toZ w32 (ofZ w32 z))) ≡ x -ℤ z
 correction-is x z f g = rw (toZ-ofZ w64 x f, toZ-ofZ w32 z g, toZ-ofZ w64 z (wide z g)) refl
+
+-- Weight times the square of a safe root: the product fits,
+pub safe-fits : (w d : ℕ) → w ≤ maxWeight → d ≤ safeRoot → w * (d * d) ≤ topCost
+safe-fits w d l h =
+    let q : d * d ≤ safeRoot * safeRoot = mul-le-mul h h in
+    omega (arith, mul-le-mul l q)
+
+-- and is written as it is.
+pub safe-is : (w d : ℕ) → w ≤ maxWeight → d ≤ safeRoot → w * (d * d) ≡ capped (w * (d * d))
+safe-is w d l h = sym (capped-below (w * (d * d)) (safe-fits w d l h))
 
 -- Weight times a square, as it is written: one whose root is too great, one that is too great, and one that fits.
 module _ (w d : ℕ) (l : 1 ≤ w) where

@@ -6,7 +6,7 @@ use lib.IntN.{ℤ, pos, natAbs, _-ℤ_}
 use Prim.Native.Nat.{ℕ, zero, suc, _+_, _-_, _*_, _/_, _≤_, _<_}
 use native.Mathlib.Omega.{arith}
 use native.Mathlib.Decide.{decLe}
-use native.Mathlib.Nat.{mul-le-mul-left, mul-div-cancel}
+use native.Mathlib.Nat.{mul-le-mul-left, mul-div-cancel, zero-div}
 use lib.ListN.{length, getD, take, length-map}
 use Rattle.num_bytes.proofs.Tests.{by-cases}
 use Rattle.plant_def.specs.declared.Stream.{Stream}
@@ -30,7 +30,7 @@ use Rattle.solve_arcs_fill.proofs.Plants.{weight-at, pull-at}
 use Rattle.sheet_def.specs.Totals.{capped}
 use Rattle.sheet_def.specs.Calls.{streamCost}
 use Rattle.sheet_def.proofs.Opening.{opened-small}
-use Rattle.sheet_cost.specs.Rows.{distanceSquared}
+use Rattle.sheet_cost.specs.Rows.{distanceSquared, safeRoot}
 use Rattle.sheet_cost.proofs.Costing.{Costed, Summed, unmetered-cost, metered-cost, summed-more, summed-all}
 
 -- How far twice the weight times an amount is from twice the weight times another, in weights.
@@ -40,7 +40,7 @@ distance-halved w x y t o e =
     rw f (mul-div-cancel t (omega arith))
 
 -- How far twice the weight times two numbers are apart, over twice the weight, is how far the numbers are apart.
-pub distance-is : (w x y : ℕ) → 1 ≤ w → ((2 * (w * x) - 2 * (w * y)) + (2 * (w * y) - 2 * (w * x))) / (2 * w) ≡ (x - y) + (y - x)
+distance-is : (w x y : ℕ) → 1 ≤ w → ((2 * (w * x) - 2 * (w * y)) + (2 * (w * y) - 2 * (w * x))) / (2 * w) ≡ (x - y) + (y - x)
 distance-is w x y o = elim (decLe x y) [
   | yes l ↦
       let a : (2 * (w * x) - 2 * (w * y)) + (2 * (w * y) - 2 * (w * x)) ≡ 2 * (w * y) - 2 * (w * x) = omega (arith, mul-le-mul-left w l) in
@@ -54,8 +54,34 @@ distance-is w x y o = elim (decLe x y) [
 ]
 
 -- A stream of weight 0.
-pub nothing : (w y : ℕ) → w ≡ 0 → 0 ≡ capped (w * y)
+nothing : (w y : ℕ) → w ≡ 0 → 0 ≡ capped (w * y)
 nothing w y e = let z : 0 * y ≡ 0 = omega arith in rw (e, z) refl
+
+-- The quotient of a row: far is how far twice the weight times the amount is from what the row holds, by is the divisor.
+module _ (w x R pull far by : ℕ) (e : pull ≡ 2 * (w * R)) (f : far ≡ (2 * (w * x) - pull) + (pull - 2 * (w * x))) (g : 1 ≤ 2 * w → by ≡ 2 * w) where
+  -- With a weight it is how far the amount is from the reading;
+  pub quotient-is : 1 ≤ w → far / by ≡ (x - R) + (R - x)
+  quotient-is some = rw (g (omega arith), f, e) (distance-is w x R some)
+
+  -- with weight 0 it is 0.
+  pub quotient-none : w ≡ 0 → far / by ≡ 0
+  quotient-none none =
+      let z : far ≡ 0 = f ∙ rw (e, none) (omega arith) in
+      rw z (zero-div by)
+
+  -- So where it is large there is a weight.
+  pub has-weight : safeRoot < far / by → 1 ≤ w
+  has-weight h = elim (decLe 1 w) [
+    | yes some ↦ some
+    | no less ↦ let none : w ≡ 0 = omega arith in absurd (omega (arith, quotient-none none))
+  ]
+
+  -- What the row costs, by the quotient.
+  pub quotient-cost : capped (w * (far / by * (far / by))) ≡ capped (w * distanceSquared x R)
+  quotient-cost = elim (decLe 1 w) [
+    | yes some ↦ ap (λ (k : ℕ). capped (w * (k * k))) (quotient-is some)
+    | no less ↦ let none : w ≡ 0 = omega arith in sym (nothing w (far / by * (far / by)) none) ∙ nothing w (distanceSquared x R) none
+  ]
 
 -- How far a held amount is from a held reading is the size of the correction.
 distance-size : (x : ℕ) (z : ℤ) → natAbs z ≤ flowShift → (x - shifted z) + (shifted z - x) ≡ natAbs (unshifted x -ℤ z)
@@ -79,6 +105,11 @@ pub take-opened : (n : ℕ) (xs : List ℕ) → take n (map unshifted xs) ≡ op
 take-opened zero xs = refl
 take-opened (suc n) [] = refl
 take-opened (suc n) (x ∷ xs) = ap (λ (l : List ℤ). unshifted x ∷ l) (take-opened n xs)
+
+-- The row of a stream has its reading.
+pub row-reads : (p : Plant) {ls rs : List ℕ} → LaidOf p ls rs → (i : ℕ) → i < p .count
+    → getD rs (4 * i + 1) 0 ≡ 2 * (getD rs (4 * i) 0 * readingOf (getD (p .streams) i noStream))
+row-reads p w i h = pull-at w i h ∙ ap (λ (v : ℕ). 2 * (v * readingOf (getD (p .streams) i noStream))) (sym (weight-at w i h))
 
 -- A plant and all its amounts, as they are held.
 module _ (p : Plant) {ls rs : List ℕ} (w : LaidOf p ls rs) (xs : List ℕ) (a : Amounts xs) (l : length xs ≡ maxStreams) where
@@ -106,7 +137,7 @@ module _ (p : Plant) {ls rs : List ℕ} (w : LaidOf p ls rs) (xs : List ℕ) (a 
       where
         costs : k ≡ capped (streamCost s (unshifted (getD xs i 0)))
         costs =
-            e (readingOf s) (pull-at w i h ∙ ap (λ (v : ℕ). 2 * (v * readingOf s)) (sym (weight-at w i h)))
+            e (readingOf s) (row-reads p w i h)
             ∙ ap (λ (v : ℕ). capped (v * distanceSquared (getD xs i 0) (readingOf s))) (weight-at w i h)
             ∙ row-cost-is s (stream-within p (w .accepted) i h) (getD xs i 0)
 

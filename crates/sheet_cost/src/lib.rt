@@ -9,7 +9,7 @@ use solve_arcs::ARCS;
 use solve_arcs::ROWS;
 use solve_arcs::count_of;
 ghost use mathlib.Core.Path.{_≡_};
-ghost use Prim.Native.Nat.{ℕ, _+_, _-_, _*_, _≤_};
+ghost use Prim.Native.Nat.{ℕ, _+_, _-_, _*_, _≤_, _<_};
 ghost use lib.ListN.{length, take};
 ghost use Rattle.plant_def.specs.declared.Plant.{Plant};
 ghost use Rattle.plant_def.specs.Limits.{maxUnits, maxStreams, maxWeight};
@@ -22,13 +22,19 @@ ghost use Rattle.solve_def.specs.SolverNeeds.{Amounts};
 ghost use Rattle.solve_arcs_fill.specs.Plants.{LaidOf};
 ghost use Rattle.sheet_def.specs.Totals.{capped};
 ghost use Rattle.sheet_def.specs.Calls.{Small, AllSmall, streamCost};
-ghost use Rattle.sheet_cost.specs.Rows.{distanceSquared};
+ghost use Rattle.sheet_cost.specs.Rows.{distanceSquared, safeRoot};
 
-// Weight times a square, as it is written.
+// A number whose square, times any weight, is within a word.
+const SAFE_ROOT: u64 = 134_217_728;
+
+// Weight times a square, as it is written. (Most roots are safe, and ask for no quotient.)
 fn weighed_square(weight: u64, d: u64) -> u64
-    requires { ⌜ 1 ≤ weight ⌝ }
+    requires { ⌜ (weight ≤ maxWeight) × (safeRoot < d → 1 ≤ weight) ⌝ }
     ensures { λ r. ⌜ r ≡ capped (weight * (d * d)) ⌝ }
 {
+    if d <= SAFE_ROOT {
+        return weight * (d * d);
+    }
     if TOP_ROOT < d {
         return TOP_COST;
     }
@@ -86,15 +92,19 @@ fn distance(a: u64, b: u64) -> u64
     if a < b { b - a } else { a - b }
 }
 
+// A number to divide by: where it is 0, 1.
+fn at_least_one(w: u64) -> u64
+    ensures { λ r. ⌜ (1 ≤ r) × (1 ≤ w → r ≡ w) ⌝ }
+{
+    if w == 0 { 1 } else { w }
+}
+
 // What a stream costs at the held amount x, as it is written: by its weight, and twice the weight times its reading.
 fn row_cost(w: u64, pull: u64, x: u64) -> u64
-    requires { ⌜ (w ≤ maxWeight) × (x ≤ mostFlow) ⌝ }
+    requires { ⌜ (w ≤ maxWeight) × (x ≤ mostFlow) × ((R : ℕ) × (pull ≡ 2 * (w * R))) ⌝ }
     ensures { λ r. ⌜ ((R : ℕ) → pull ≡ 2 * (w * R) → r ≡ capped (w * distanceSquared x R)) ⌝ }
 {
-    if w == 0 {
-        return 0;
-    }
-    let d = distance(2 * (w * x), pull) / (2 * w);
+    let d = distance(2 * (w * x), pull) / at_least_one(2 * w);
     weighed_square(w, d)
 }
 

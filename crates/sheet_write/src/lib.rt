@@ -26,7 +26,7 @@ ghost use lib.ListN.{length, take};
 ghost use Rattle.num_bytes.specs.Bytes.{putBe, raw, over};
 ghost use Rattle.num_bytes.specs.Inner.{Put};
 ghost use Rattle.plant_def.specs.Limits.{maxStreams};
-ghost use Rattle.sheet_def.specs.Sheets.{recordOf, recordsOf, totalOf};
+ghost use Rattle.sheet_def.specs.Sheets.{kindOf, recordOf, recordsOf, totalOf};
 ghost use Rattle.sheet_def.specs.Totals.{totalKind, streamSize, totalSize, leastSlice};
 ghost use Rattle.sheet_def.specs.Drawings.{sheetBytes};
 ghost use lib.Dec.{eqb, leb};
@@ -45,29 +45,30 @@ fn put_flow(kind: u8, flow: i64, out: &mut [u8])
     num_bytes::put_i64(flow, &mut out[1..]);
 }
 
+// The kind of record that a class has.
+fn kind_of(class: Class) -> u8
+    ensures { λ r. ⌜ r ≡ kindOf class ⌝ }
+{
+    match class {
+        Class::Adjusted => ADJUSTED,
+        Class::AsRead => AS_READ,
+        Class::Given => GIVEN,
+        Class::Withheld => WITHHELD,
+    }
+}
+
 // A stream's record, and how many bytes it takes. The blank has no body.
 fn put_record(class: Class, flow: i64, out: &mut [u8]) -> usize
     requires { ⌜ streamSize ≤ length (now out) ⌝ }
     ensures { λ r. ⌜ Put (recordOf class flow) (now (out .entry)) (now (out .exit)) r ⌝ }
 {
-    match class {
-        Class::Adjusted => {
-            put_flow(ADJUSTED, flow, out);
-            STREAM_SIZE
-        }
-        Class::AsRead => {
-            put_flow(AS_READ, flow, out);
-            STREAM_SIZE
-        }
-        Class::Given => {
-            put_flow(GIVEN, flow, out);
-            STREAM_SIZE
-        }
-        Class::Withheld => {
-            num_bytes::put_u8(WITHHELD, out);
-            1
-        }
+    let kind = kind_of(class);
+    if kind == WITHHELD {
+        num_bytes::put_u8(kind, out);
+        return 1;
     }
+    put_flow(kind, flow, out);
+    STREAM_SIZE
 }
 
 // The records of the first so many streams, one after the other, and how many bytes they take.

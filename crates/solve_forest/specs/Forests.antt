@@ -5,7 +5,7 @@ use mathlib.Core.List.{List}
 use Prim.Native.Nat.{ℕ, _≤_, _<_}
 use lib.ListN.{length, getD}
 use Rattle.plant_def.specs.declared.Stream.{Stream}
-use Rattle.plant_def.specs.Limits.{places, maxUnits}
+use Rattle.plant_def.specs.Limits.{places, maxUnits, maxStreams}
 use Rattle.plant_def.specs.Plants.{noStream}
 use Rattle.solve_forest.specs.declared.Forest.{Forest}
 use Rattle.solve_def.specs.Counts.{countPlaces}
@@ -33,6 +33,16 @@ ListedMore i via len via′ r = (ss : List Stream) (n : ℕ) → Unmetered ss n 
 -- They are such of the streams that arcs and rows are of, whichever these are.
 abbrev pub ListedOf : List ℕ → List ℕ → List ℕ → ℕ → Type 0
 ListedOf ls rs via len = (w : Laying ls rs) → Listed (w .streams) (w .n) via len
+
+-- The first n numbers of an array are such.
+pub record FreeOf (ls rs listed : List ℕ) (n : ℕ) : Type 0 where
+  pub long : length listed ≡ maxStreams
+  pub few : n ≤ maxStreams
+  pub each : ListedOf ls rs listed n
+
+-- A forest's streams stay such, where those that may be added are.
+abbrev pub ListedOn : List ℕ → List ℕ → ℕ → List ℕ → ℕ → List ℕ → ℕ → Type 0
+ListedOn ls listed n via len via′ r = (rs : List ℕ) → FreeOf ls rs listed n → ListedOf ls rs via len → ListedOf ls rs via′ r
 
 -- A forest along which amounts can be routed.
 pub record Routable (streams : List Stream) (n : ℕ) (f : Forest) : Type 0 where

@@ -12,12 +12,14 @@ use std::num::wrapping_add_u64;
 use std::num::wrapping_sub_u64;
 ghost use mathlib.Core.Path.{_≡_};
 ghost use mathlib.Core.Bool.{false, not};
-ghost use Prim.Native.Nat.{_<_};
+ghost use mathlib.Core.List.{List};
+ghost use Prim.Native.Nat.{ℕ, _≤_, _<_};
 ghost use lib.ListN.{length, getD};
-ghost use Rattle.plant_def.specs.Limits.{places};
+ghost use Rattle.plant_def.specs.Limits.{places, maxStreams};
+ghost use Rattle.num_bytes.specs.Choice.{pick};
 ghost use Rattle.num_bytes.specs.Sums.{countTo};
 ghost use Rattle.solve_arcs.specs.ArcNeeds.{Laying};
-ghost use Rattle.solve_forest.specs.Forests.{Spanning, ListedMore, ListedOf, Routable};
+ghost use Rattle.solve_forest.specs.Forests.{Spanning, ListedMore, FreeOf, ListedOn, Routable};
 ghost use Rattle.solve_def.specs.SearchNeeds.{SizeWithin};
 ghost use Rattle.solve_def.specs.Sizes.{hintRoom};
 ghost use Rattle.solve_forest.specs.Routes.{Routing, Routed};
@@ -93,34 +95,64 @@ fn along(
     len
 }
 
-// One pass over the streams.
-fn pass(
+// 1 where it holds, else 0.
+fn one_if(b: bool) -> usize
+    ensures { λ r. ⌜ (r ≡ pick b 1 0) × (r ≤ 1) ⌝ }
+{
+    if b { 1 } else { 0 }
+}
+
+// The numbers of the unmetered streams, where passes are to be made, and how many they are.
+fn list_unmetered(
     arcs: &[u8; ARCS],
     rows: &[u64; ROWS],
+    listed: &mut [u8; MAX_STREAMS],
+    left: usize,
+) -> usize
+    requires { ⌜ Laying (now arcs) (now rows) × (length (now listed) ≡ maxStreams) ⌝ }
+    ensures { λ r. ⌜ FreeOf (now (arcs .entry)) (now (rows .entry)) (now (listed .exit)) r ⌝ }
+{
+    if left == 0 {
+        return 0;
+    }
+    let count = count_of(arcs);
+    let mut n: usize = 0;
+    let mut i: usize = 0;
+    while i < count {
+        listed[n] = i as u8;
+        n += one_if(rows[4 * i] == 0);
+        i += 1;
+    }
+    n
+}
+
+// One pass over the unmetered streams.
+fn pass(
+    arcs: &[u8; ARCS],
+    listed: &[u8; MAX_STREAMS],
+    n: usize,
     reached: &mut [bool; PLACES],
     via: &mut [u8; PLACES],
     into: &mut [bool; PLACES],
     start: usize,
 ) -> usize
     requires { ⌜
-        Laying (now arcs) (now rows) × Spanning (now reached) (now via) (now into) start
-        × ListedOf (now arcs) (now rows) (now via) start
+        ((rs : List ℕ) × Laying (now arcs) rs × FreeOf (now arcs) rs (now listed) n)
+        × Spanning (now reached) (now via) (now into) start
         ⌝ }
     ensures { λ r. ⌜
         Spanning (now (reached .exit)) (now (via .exit)) (now (into .exit)) r
-        × ListedOf (now (arcs .entry)) (now (rows .entry)) (now (via .exit)) r
+        × ListedOn (now (arcs .entry)) (now (listed .entry)) n (now (via .entry)) start (now (via .exit)) r
         ⌝ }
 {
-    let n = count_of(arcs);
     let mut len = start;
-    let mut i: usize = 0;
-    while i < n {
-        if rows[4 * i] == 0 {
-            let u = end_at(arcs, 2 * i);
-            let v = end_at(arcs, 2 * i + 1);
-            len = along(reached, via, into, len, i as u8, u, v);
-        }
-        i += 1;
+    let mut k: usize = 0;
+    while k < n {
+        let i = listed[k];
+        let u = end_at(arcs, 2 * (i as usize));
+        let v = end_at(arcs, 2 * (i as usize) + 1);
+        len = along(reached, via, into, len, i, u, v);
+        k += 1;
     }
     len
 }
@@ -160,9 +192,11 @@ pub fn span(arcs: &[u8; ARCS], rows: &[u64; ROWS], labels: [u8; PLACES]) -> Fore
     let mut into = [false; PLACES];
     let mut len: usize = 0;
     let mut left = passes_left(0, all, PLACES);
+    let mut listed = [0u8; MAX_STREAMS];
+    let n = list_unmetered(arcs, rows, &mut listed, left);
     while 0 < left {
         let before = len;
-        len = pass(arcs, rows, &mut reached, &mut via, &mut into, before);
+        len = pass(arcs, &listed, n, &mut reached, &mut via, &mut into, before);
         left = passes_left(len, all, left);
     }
     Forest {

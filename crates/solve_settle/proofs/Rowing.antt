@@ -2,7 +2,13 @@
 use mathlib.Core.Path.{_≡_, sym, _∙_}
 use mathlib.Core.List.{List, []}
 use Prim.Native.Nat.{ℕ, _+_, _*_, _≤_, _<_}
+use lib.Dec.{ltb}
 use lib.ListN.{getD, set, take}
+use lib.Seq.{set-getD}
+use native.Mathlib.Omega.{arith}
+use borrow.Author.Tests.{ltb-true, ltb-false}
+use Rattle.num_bytes.specs.Choice.{pick}
+use Rattle.num_bytes.proofs.Tests.{by-cases}
 use Rattle.plant_def.specs.declared.Stream.{Stream}
 use Rattle.plant_def.specs.Plants.{noStream}
 use Rattle.solve_def.specs.Held.{readingOf}
@@ -22,7 +28,7 @@ module _ (ls rs : List ℕ) (w : Laying ls rs) (i : ℕ) (l : i < countOf ls) wh
 
   module _ (ps xs ys : List ℕ) (e : ys ≡ settledTo (take (w .n) (w .streams)) ps xs i) where
     -- A metered stream is settled.
-    pub settled-row : (r : ℕ) → 0 < getD rs (4 * i) 0
+    settled-row : (r : ℕ) → 0 < getD rs (4 * i) 0
         → r ≡ clamped (getD rs (4 * i + 2) 0) (getD rs (4 * i + 3) 0)
         (nearestAmount (getD rs (4 * i) 0) (readingOf s) (getD ps (getD ls (toCell + 2 * i) 0) 0) (getD ps (getD ls (toCell + (2 * i + 1)) 0) 0))
         → set ys i r ≡ settledTo (take (w .n) (w .streams)) ps xs (i + 1)
@@ -31,8 +37,18 @@ module _ (ls rs : List ℕ) (w : Laying ls rs) (i : ℕ) (l : i < countOf ls) wh
         (sym (settle-hit (w .streams) (w .n) ps xs i (below ls rs w i l) (metered-of ls rs w i l h)))
 
     -- An unmetered one stays.
-    pub passed-row : getD rs (4 * i) 0 ≤ 0 → ys ≡ settledTo (take (w .n) (w .streams)) ps xs (i + 1)
+    passed-row : getD rs (4 * i) 0 ≤ 0 → ys ≡ settledTo (take (w .n) (w .streams)) ps xs (i + 1)
     passed-row h = e ∙ sym (settle-miss (w .streams) (w .n) ps xs i (below ls rs w i l) (free-of ls rs w i l h))
+
+    -- One stream more: what is stored is the settled amount, or what was there.
+    pub turned-row : (x r : ℕ)
+        → (1 ≤ getD rs (4 * i) 0 → x ≡ clamped (getD rs (4 * i + 2) 0) (getD rs (4 * i + 3) 0)
+        (nearestAmount (getD rs (4 * i) 0) (readingOf s) (getD ps (getD ls (toCell + 2 * i) 0) 0) (getD ps (getD ls (toCell + (2 * i + 1)) 0) 0)))
+        → r ≡ pick (ltb 0 (getD rs (4 * i) 0)) x (getD ys i 0) → set ys i r ≡ settledTo (take (w .n) (w .streams)) ps xs (i + 1)
+    turned-row x r q p =
+        by-cases (ltb 0 (getD rs (4 * i) 0))
+        (λ t. let h : 0 < getD rs (4 * i) 0 = ltb-true 0 (getD rs (4 * i) 0) t in settled-row r h (rw t at p ∙ q (omega arith)))
+        (λ t. let h : getD rs (4 * i) 0 ≤ 0 = ltb-false 0 (getD rs (4 * i) 0) t in rw (rw t at p, set-getD ys i 0) (passed-row h))
 
   -- The amount of a stream is booked.
   pub booked-row : (xs ys : List ℕ) → ys ≡ netsTo (take (w .n) (w .streams)) xs i

@@ -13,7 +13,9 @@ use solve_def::sizes::NET_SHIFT;
 use solve_def::sizes::POTENTIAL_SHIFT;
 ghost use mathlib.Core.Path.{_≡_};
 ghost use Prim.Native.Nat.{ℕ, _+_, _*_, _≤_, _<_};
+ghost use lib.Dec.{ltb};
 ghost use lib.ListN.{getD, length, take};
+ghost use Rattle.num_bytes.specs.Choice.{pick};
 ghost use Rattle.plant_def.specs.Limits.{maxWeight, places, maxStreams};
 ghost use Rattle.solve_def.specs.Sizes.{mostPull, potentialShift, mostFlow, netRoom};
 ghost use Rattle.solve_def.specs.Model.{clamped, nearestAmount, settledTo, left, come, netsTo, settled, excessSum, stateOf, noHint};
@@ -33,22 +35,35 @@ fn nearest(w: u64, pull: u64, pu: u64, pv: u64) -> u64
     minus(pull + (pv + w), pu) / (2 * w)
 }
 
+// A weight to divide by: where it is 0, 1.
+fn at_least_one(w: u64) -> u64
+    ensures { λ r. ⌜ (1 ≤ r) × (w ≤ maxWeight → r ≤ maxWeight) × (1 ≤ w → r ≡ w) ⌝ }
+{
+    if w == 0 { 1 } else { w }
+}
+
+// The amount x of a stream with the weight w where it is metered; else the one that it had.
+fn settled_or(w: u64, x: u64, old: u64) -> u64
+    ensures { λ r. ⌜ r ≡ pick (ltb 0 w) x old ⌝ }
+{
+    if 0 < w { x } else { old }
+}
+
 // A number brought into a range.
 fn clamp(low: u64, high: u64, x: u64) -> u64
     ensures { λ r. ⌜ r ≡ clamped low high x ⌝ }
 {
-    if x < low {
-        return low;
-    }
-    if high < x { high } else { x }
+    let y = if high < x { high } else { x };
+    if x < low { low } else { y }
 }
 
-// The amount of stream i, which is metered, at the potentials of its start and its end: by its row.
+// The amount of stream i, where it is metered, at the potentials of its start and its end: by its row. (An unmetered one has some number.)
 pub fn amount_at(rows: &[u64; ROWS], i: usize, pu: u64, pv: u64) -> u64
-    requires { ⌜ Row (now rows) i × (1 ≤ getD (now rows) (4 * i) 0) × (pu ≤ potentialShift) × (pv ≤ potentialShift) ⌝ }
-    ensures { λ r. ⌜ ((R : ℕ) → RowReads (now (rows .entry)) i R → r ≡ settledRow (now (rows .entry)) i R pu pv) ⌝ }
+    requires { ⌜ Row (now rows) i × (pu ≤ potentialShift) × (pv ≤ potentialShift) ⌝ }
+    ensures { λ r. ⌜ ((R : ℕ) → RowReads (now (rows .entry)) i R → 1 ≤ getD (now (rows .entry)) (4 * i) 0
+        → r ≡ settledRow (now (rows .entry)) i R pu pv) ⌝ }
 {
-    let x = nearest(rows[4 * i], rows[4 * i + 1], pu, pv);
+    let x = nearest(at_least_one(rows[4 * i]), rows[4 * i + 1], pu, pv);
     clamp(rows[4 * i + 2], rows[4 * i + 3], x)
 }
 
@@ -68,11 +83,10 @@ pub fn settle_flows(
     let n = count_of(arcs);
     let mut i: usize = 0;
     while i < n {
-        if 0 < rows[4 * i] {
-            let u = end_at(arcs, 2 * i);
-            let v = end_at(arcs, 2 * i + 1);
-            flows[i] = amount_at(rows, i, potentials[u], potentials[v]);
-        }
+        let u = end_at(arcs, 2 * i);
+        let v = end_at(arcs, 2 * i + 1);
+        let x = amount_at(rows, i, potentials[u], potentials[v]);
+        flows[i] = settled_or(rows[4 * i], x, flows[i]);
         i += 1;
     }
 }

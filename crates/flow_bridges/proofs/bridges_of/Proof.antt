@@ -1,15 +1,11 @@
 -- `flow_bridges::bridges_of` meets its contract: after i turns, what holds after i steps.
-use mathlib.Core.Path.{_≡_, sym, subst, _∙_}
-use mathlib.Core.Bool.{Bool, not}
-use mathlib.Core.List.{List}
-use Prim.Native.Nat.{ℕ, _≤_, _<_, _-_}
+use mathlib.Core.Path.{_≡_, sym, _∙_}
+use Prim.Native.Nat.{_≤_, _<_, _-_}
 use native.Mathlib.Omega.{arith}
 use lib.ListN.{getD}
 use Rattle.plant_def.specs.declared.Plant.{Plant}
-use Rattle.plant_def.specs.declared.Stream.{Stream}
 use Rattle.plant_def.specs.Limits.{places}
 use Rattle.plant_def.specs.Plants.{noStream}
-use Rattle.flow_def.specs.Groups.{StepSays}
 use Rattle.flow_def.proofs.Passed.{Passed, passed-none, labels-all, sides-all, taken-in, passed-more, passed-all}
 use Rattle.solve_arcs_fill.specs.Plants.{LaidOf}
 use Rattle.solve_arcs_fill.proofs.Plants.{counted, few, from-at, to-at, from-low, to-low, metered-at}
@@ -17,10 +13,6 @@ use borrow.Author.Needs.{needs}
 use Rattle.flow_bridges.specs.Runs.{Runs}
 use Rattle.flow_bridges.proofs.bridges_of.Statement.{statement}
 use Rattle.flow_bridges.proofs.bridges_of.Tie as tie
-
--- A step over a stream that counts where it is unmetered.
-steps-as : {s : Stream} {b d : Bool} {ls ms : List ℕ} → b ≡ d → StepSays (not d) s ls ms → StepSays (not b) s ls ms
-steps-as {s} {b} {d} {ls} {ms} e says = subst (λ (k : Bool). StepSays (not k) s ls ms) (sym e) says
 
 abbrev Inv-loop : tie.InvT-loop
 Inv-loop arcs rows n labels₀ sides₀ taken₀ looped₀ i₀ labels sides taken looped i = (i ≤ n) × ((p : Plant) → LaidOf p arcs rows → Passed p i taken₀ labels sides taken looped)
@@ -104,7 +96,7 @@ pass-requires c κs =
     let l = used turn p w in
     let inv = turn .before .loop .inv .1 p w in
     let h = took .taken-by .ensures _ (runs ends p w) (metered-at w _ l) in
-    (u-in ends, v-in ends, labels-all (w .accepted) inv, sides-all (w .accepted) inv, taken-in (w .accepted) inv l _ h)
+    ((u-in ends, v-in ends, labels-all (w .accepted) inv, sides-all (w .accepted) inv, taken-in (w .accepted) inv l _ h), λ s r m. took .taken-by .ensures s r m)
 
 loop-again : tie.Need-loop-again Inv-loop μ-loop
 loop-again c =
@@ -118,7 +110,7 @@ loop-again c =
           let r = runs ends p w in
           let m = metered-at w _ l in
           passed-more (w .accepted) (turn .before .loop .inv .1 p w) l _ _ _ _ (took .taken-by .ensures s r m) (c .pass .ensures .0 s r m) (c .pass .ensures .1 .0 s r)
-          (steps-as m (c .pass .ensures .1 .1 s r)),
+          (c .pass .ensures .1 .1 s r m),
     )
 
 returns : tie.Need-returns Inv-loop μ-loop

@@ -10,7 +10,7 @@ use Rattle.plant_def.proofs.Arrayed.{stream-within}
 use Rattle.solve_arcs_fill.specs.Plants.{LaidOf}
 use Rattle.solve_arcs_fill.proofs.Plants.{counted, few, weight-at}
 use Rattle.sheet_cost.proofs.Costing.{Summed, summed-none}
-use Rattle.sheet_cost.proofs.Rows.{held-more, held-all}
+use Rattle.sheet_cost.proofs.Rows.{row-reads, held-more, held-all}
 use Rattle.sheet_cost.proofs.cost_held.Statement.{statement}
 use Rattle.sheet_cost.proofs.cost_held.Tie as tie
 
@@ -70,7 +70,7 @@ row-cost-requires c κs =
     let p = st .pre .0 .0 in
     let w = st .pre .0 .1 in
     let l = used on p w in
-    (rw (weight-at w _ l) (weight-most _ (stream-within p (w .accepted) _ l)), st .pre .1 _ (low on))
+    (rw (weight-at w _ l) (weight-most _ (stream-within p (w .accepted) _ l)), st .pre .1 _ (low on), (_, row-reads p w _ l))
 
 capped-sum-requires : tie.Need-capped-sum-requires Inv-loop μ-loop
 capped-sum-requires c κs = search needs

@@ -43,7 +43,8 @@ weighed-square-requires : tie.Need-weighed-square-requires
 weighed-square-requires c κs =
     let else1 = c .before .before .before .before in
     let start = else1 .before .before in
-    start .pre .0 .weighed (not-false (start .args .s .metered) (else1 .if1 .left))
+    let m = not-false (start .args .s .metered) (else1 .if1 .left) in
+    (start .pre .0 .light m, λ h. start .pre .0 .weighed m)
 
 returns-2 : tie.Need-returns-2
 returns-2 c =

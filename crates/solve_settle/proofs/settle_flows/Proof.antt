@@ -1,6 +1,5 @@
 -- `solve_settle::settle_flows` meets its contract: the first i streams are settled.
-use mathlib.Core.Path.{_≡_, sym, _∙_}
-use mathlib.Core.Logic.{⊎-elim}
+use mathlib.Core.Path.{_≡_, sym}
 use Prim.Native.Nat.{_≤_, _<_, _-_}
 use native.Mathlib.Omega.{arith}
 use borrow.Author.Needs.{needs}
@@ -10,7 +9,7 @@ use Rattle.solve_def.proofs.Turns.{settle-none}
 use Rattle.solve_arcs.specs.Cells.{countOf}
 use Rattle.solve_arcs.specs.ArcNeeds.{OfStreams}
 use Rattle.solve_arcs.proofs.Rowing.{row-at, start-in, end-in}
-use Rattle.solve_settle.proofs.Rowing.{pull-is, settled-row, passed-row}
+use Rattle.solve_settle.proofs.Rowing.{pull-is, turned-row}
 use Rattle.solve_settle.proofs.settle_flows.Statement.{statement}
 use Rattle.solve_settle.proofs.settle_flows.Tie as tie
 
@@ -29,10 +28,10 @@ below : (c : tie.In-loop Inv-loop μ-loop) → c .before .loop .i < countOf (beg
 below c = rw (← c .before .before .count-of .ensures) (c .loop-test .taken)
 
 u-in : (c : tie.After-end-at Inv-loop μ-loop) → c .end-at .result < places
-u-in c = let on = c .before .before .before in rw (c .end-at .ensures) (start-in _ _ (begin on .pre .0) _ (below on))
+u-in c = let on = c .before in rw (c .end-at .ensures) (start-in _ _ (begin on .pre .0) _ (below on))
 
 v-in : (c : tie.After-end-at2 Inv-loop μ-loop) → c .end-at2 .result < places
-v-in c = let on = c .before .before .before .before in rw (c .end-at2 .ensures) (end-in _ _ (begin on .pre .0) _ (below on))
+v-in c = let on = c .before .before in rw (c .end-at2 .ensures) (end-in _ _ (begin on .pre .0) _ (below on))
 
 loop-holds : tie.Need-loop-holds Inv-loop μ-loop
 loop-holds c = (omega arith, λ w. sym (settle-none _ _ _), omega (arith, c .count-of .ensures, c .before .pre .0 .laid .along .linked .few))
@@ -52,19 +51,19 @@ element-copy-out-amount-at-2 c = v-in (c .before)
 amount-at-requires : tie.Need-amount-at-requires Inv-loop μ-loop
 amount-at-requires c κs =
     let v = c .before .before in
-    let on = v .before .before .before .before in
+    let on = v .before .before in
     let st = begin on in
-    (row-at _ _ (st .pre .0) _ (below on), omega (arith, v .before .before .if1 .taken), st .pre .1 _ (u-in (v .before)), st .pre .1 _ (v-in v))
+    (row-at _ _ (st .pre .0) _ (below on), st .pre .1 _ (u-in (v .before)), st .pre .1 _ (v-in v))
 
 loop-again : tie.Need-loop-again Inv-loop μ-loop
 loop-again c =
-    let on = c .before .before in
+    let amount = c .before .before .before in
+    let v = amount .before .before .before in
+    let on = v .before .before in
     let at = on .before .loop in (
       omega arith,
-      λ w. ⊎-elim
-          (λ o. o .6 ∙ settled-row _ _ w _ (below on) _ _ _ (at .inv .1 w) _ (o .0 .taken) (rw (← o .1 .ensures, ← o .2 .ensures) (o .5 .ensures _ (pull-is _ _ w _ (below on)))))
-          (λ o. o .1 ∙ passed-row _ _ w _ (below on) _ _ _ (at .inv .1 w) (o .0 .left))
-          (c .if1 .came),
+      λ w. turned-row _ _ w _ (below on) _ _ _ (at .inv .1 w) _ _
+          (λ h. rw (← v .before .end-at .ensures, ← v .end-at2 .ensures) (amount .amount-at .ensures _ (pull-is _ _ w _ (below on)) h)) (c .settled-or .ensures),
       at .inv .2,
     )
 
@@ -76,8 +75,8 @@ returns c = λ w.
 pub settle-flows-spec : {M : Type 1} → statement M
 settle-flows-spec =
     tie.close
-    (tie.spec Inv-loop μ-loop (λ c κs. search needs) loop-holds (λ c. search needs) (λ c. search needs)
-    (λ c. search needs) (λ c. search needs) (λ c κs. search needs) (λ c. search needs) (λ c. search needs)
-    (λ c κs. search needs) mul-amount-at element-copy-out-amount-at mul-amount-at-2 element-copy-out-amount-at-2
-    amount-at-requires (λ c. search needs) (λ c. search needs) (λ c. search needs) (λ c. search needs) loop-again
-    returns)
+    (tie.spec Inv-loop μ-loop (λ c κs. search needs) loop-holds (λ c. search needs) (λ c κs. search needs)
+    (λ c. search needs) (λ c. search needs) (λ c κs. search needs) mul-amount-at element-copy-out-amount-at
+    mul-amount-at-2 element-copy-out-amount-at-2 amount-at-requires (λ c. search needs) (λ c. search needs)
+    (λ c. search needs) (λ c. search needs) (λ c. search needs) (λ c κs. search needs) (λ c. search needs)
+    (λ c. search needs) (λ c. search needs) (λ c. search needs) loop-again returns)
