@@ -1,6 +1,7 @@
 // The cheapest balanced flow of a plant, with potentials that certify it; or a set of places that must take in more than it can let
 // out.
 use plant_def::Plant;
+use plant_def::limits::MAX_STREAMS;
 use plant_def::limits::PLACES;
 use solve_arcs::ARCS;
 use solve_arcs::MARGINS;
@@ -9,7 +10,9 @@ use solve_arcs::ROWS;
 use solve_arcs_fill::lay;
 use solve_def::Hint;
 use solve_def::Solved;
-use solve_def::State;
+use solve_def::sizes::FLOW_SHIFT;
+use solve_def::sizes::NET_SHIFT;
+use solve_def::sizes::POTENTIAL_SHIFT;
 use solve_phases::finishing::finish;
 use solve_phases::marks::masked;
 use solve_settle::settle;
@@ -22,45 +25,49 @@ ghost use Rattle.plant_def.specs.Within.{Accepted};
 ghost use Rattle.plant_def.specs.Says.{plantOf};
 ghost use Rattle.solve_def.specs.SolverNeeds.{AtHint, Hinted};
 ghost use Rattle.solve_def.specs.Promise.{Right};
-ghost use Rattle.solve_def.specs.Few.{mostMade, Effort};
+ghost use Rattle.solve_def.specs.Few.{mostMade};
+ghost use Rattle.solve_def.specs.Model.{stateOf};
+ghost use Rattle.solve_call.specs.Answers.{Answers};
 ghost use Rattle.solve_arcs_fill.specs.Plants.{LaidOf};
 ghost use Rattle.flow_def.specs.Calls.{Grouped};
 
-// The cheapest balanced flow of a plant, from amounts settled at a hint; or a set of places that must take in more than it can let
-// out. The improvements are counted.
-pub fn solve_at(units: u8, arcs: &[u8; ARCS], rows: &[u64; ROWS], start: State) -> Solved
-    requires { ⌜ ((p : Plant) × LaidOf p (now arcs) (now rows) × (p .units ≡ units) × AtHint (plantOf p .streams) start) ⌝ }
-    ensures { λ r. ⌜ ((p : Plant) → LaidOf p (now (arcs .entry)) (now (rows .entry)) → p .units ≡ units → AtHint (plantOf p .streams) start
-        → Right p r × Effort (plantOf p .streams) start (r .made)) ⌝ }
+// The cheapest balanced flow of a plant, from amounts settled at a hint, in lent arrays; or a set of places that must take in more than it
+// can let out. The improvements are counted.
+pub fn solve_at(
+    units: u8,
+    arcs: &[u8; ARCS],
+    rows: &[u64; ROWS],
+    flows: &mut [u64; MAX_STREAMS],
+    potentials: &mut [u64; PLACES],
+    nets: &mut [u64; PLACES],
+) -> Solved
+    requires { ⌜ ((p : Plant) × LaidOf p (now arcs) (now rows) × (p .units ≡ units)
+        × AtHint (plantOf p .streams) (stateOf (now flows) (now potentials) (now nets))) ⌝ }
+    ensures { λ r. ⌜ Answers (now (arcs .entry)) (now (rows .entry)) units
+        (stateOf (now (flows .entry)) (now (potentials .entry)) (now (nets .entry))) r ⌝ }
 {
-    let mut flows = start.flows;
-    let mut potentials = start.potentials;
-    let mut nets = start.nets;
     let mut margins = [0u64; MARGINS];
-    let e = finish(
-        arcs,
-        rows,
-        &mut margins,
-        &mut flows,
-        &mut potentials,
-        &mut nets,
-    );
+    let e = finish(arcs, rows, &mut margins, flows, potentials, nets);
     let marked = e.marked;
     let own = masked(marked, units);
     if e.full {
+        let held = *flows;
+        let levels = *potentials;
         return Solved {
             found: false,
-            flows: flows,
-            potentials: potentials,
+            flows: held,
+            potentials: levels,
             marked: own,
             made: e.made,
         };
     }
-    tie_all(arcs, rows, &mut margins, &mut flows, &potentials);
+    tie_all(arcs, rows, &mut margins, flows, potentials);
+    let held = *flows;
+    let levels = *potentials;
     Solved {
         found: true,
-        flows: flows,
-        potentials: potentials,
+        flows: held,
+        potentials: levels,
         marked: own,
         made: e.made,
     }
@@ -77,7 +84,17 @@ pub fn solve_from(p: Plant, h: Hint) -> Solved
     let mut rows = [0u64; ROWS];
     lay(streams, count, &mut arcs, &mut rows);
     let st = settle(&arcs, &rows, h);
-    solve_at(p.units, &arcs, &rows, st)
+    let mut flows = st.flows;
+    let mut potentials = st.potentials;
+    let mut nets = st.nets;
+    solve_at(
+        p.units,
+        &arcs,
+        &rows,
+        &mut flows,
+        &mut potentials,
+        &mut nets,
+    )
 }
 
 // The same of a plant whose arcs and rows are laid, and whose labels by the unmetered streams are handed in.
@@ -86,6 +103,17 @@ pub fn solve(units: u8, labels: [u8; PLACES], arcs: &[u8; ARCS], rows: &[u64; RO
     ensures { λ r. ⌜ ((p : Plant) → LaidOf p (now (arcs .entry)) (now (rows .entry)) → p .units ≡ units → Grouped p labels → Right p r)
         × (r .made ≤ mostMade) ⌝ }
 {
-    let begun = start(units, labels, arcs, rows);
-    solve_at(units, arcs, rows, begun)
+    let mut flows = [FLOW_SHIFT; MAX_STREAMS];
+    let mut potentials = [POTENTIAL_SHIFT; PLACES];
+    let mut nets = [NET_SHIFT; PLACES];
+    start(
+        units,
+        labels,
+        arcs,
+        rows,
+        &mut flows,
+        &mut potentials,
+        &mut nets,
+    );
+    solve_at(units, arcs, rows, &mut flows, &mut potentials, &mut nets)
 }

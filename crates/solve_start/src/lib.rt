@@ -5,8 +5,6 @@ use plant_def::limits::MAX_STREAMS;
 use plant_def::limits::PLACES;
 use solve_arcs::ARCS;
 use solve_arcs::ROWS;
-use solve_def::State;
-use solve_def::sizes::FLOW_SHIFT;
 use solve_def::sizes::POTENTIAL_SHIFT;
 use solve_def::sizes::POTENTIAL_SPREAD;
 use solve_forest::route;
@@ -14,26 +12,38 @@ use solve_forest::span;
 use solve_settle::nets_of;
 use solve_settle::settle_flows;
 ghost use mathlib.Core.Path.{_≡_};
+ghost use lib.ListN.{replicate};
+ghost use Rattle.plant_def.specs.Limits.{maxStreams};
 ghost use Rattle.plant_def.specs.declared.Plant.{Plant};
 ghost use Rattle.plant_def.specs.Says.{plantOf};
 ghost use Rattle.flow_def.specs.Calls.{Grouped};
+ghost use Rattle.solve_def.specs.Sizes.{flowShift};
+ghost use Rattle.solve_def.specs.Model.{stateOf};
 ghost use Rattle.solve_def.specs.SolverNeeds.{AtHint};
 ghost use Rattle.solve_arcs_fill.specs.Plants.{LaidOf};
 
-// Potentials from the labels by the unmetered streams, and amounts at these. Routing leaves metered amounts as they are.
-pub fn start(units: u8, labels: [u8; PLACES], arcs: &[u8; ARCS], rows: &[u64; ROWS]) -> State
-    requires { ⌜ ((p : Plant) × LaidOf p (now arcs) (now rows) × (p .units ≡ units) × Grouped p labels) ⌝ }
-    ensures { λ r. ⌜ ((p : Plant) → LaidOf p (now (arcs .entry)) (now (rows .entry)) → Grouped p labels → AtHint (plantOf p .streams) r) ⌝ }
+// Potentials from the labels by the unmetered streams, and amounts at these, in lent arrays; the amounts are 0 at first. Routing leaves
+// metered amounts as they are.
+pub fn start(
+    units: u8,
+    labels: [u8; PLACES],
+    arcs: &[u8; ARCS],
+    rows: &[u64; ROWS],
+    flows: &mut [u64; MAX_STREAMS],
+    potentials: &mut [u64; PLACES],
+    nets: &mut [u64; PLACES],
+)
+    requires { ⌜ ((p : Plant) × LaidOf p (now arcs) (now rows) × (p .units ≡ units) × Grouped p labels)
+        × (now flows ≡ replicate maxStreams flowShift) ⌝ }
+    ensures { λ _. ⌜ ((p : Plant) → LaidOf p (now (arcs .entry)) (now (rows .entry)) → Grouped p labels
+        → AtHint (plantOf p .streams) (stateOf (now (flows .exit)) (now (potentials .exit)) (now (nets .exit)))) ⌝ }
 {
-    let potentials = potentials_of(units, labels, arcs, rows, POTENTIAL_SHIFT, POTENTIAL_SPREAD);
-    let mut flows = [FLOW_SHIFT; MAX_STREAMS];
-    settle_flows(arcs, rows, &potentials, &mut flows);
-    let mut given = nets_of(arcs, &flows);
-    route(arcs, span(arcs, rows, labels), &mut given, &mut flows);
-    let nets = nets_of(arcs, &flows);
-    State {
-        flows: flows,
-        potentials: potentials,
-        nets: nets,
-    }
+    let levels = potentials_of(units, labels, arcs, rows, POTENTIAL_SHIFT, POTENTIAL_SPREAD);
+    *potentials = levels;
+    settle_flows(arcs, rows, potentials, flows);
+    let given = nets_of(arcs, flows);
+    *nets = given;
+    route(arcs, span(arcs, rows, labels), nets, flows);
+    let anew = nets_of(arcs, flows);
+    *nets = anew;
 }

@@ -4,6 +4,7 @@ use flow_def::Class;
 use flow_def::Which;
 use plant_def::Plant;
 use plant_def::limits::MAX_STREAMS;
+use plant_def::limits::PLACES;
 use plant_def::streams::unmetered_stream;
 use sheet_cost::cost_held;
 use solve_arcs::ARCS;
@@ -11,6 +12,9 @@ use solve_arcs::MARGINS;
 use solve_arcs::NONE;
 use solve_arcs::ROWS;
 use solve_arcs_fill::lay;
+use solve_def::sizes::FLOW_SHIFT;
+use solve_def::sizes::NET_SHIFT;
+use solve_def::sizes::POTENTIAL_SHIFT;
 use solve_phases::finishing::finish;
 use solve_start::start;
 ghost use Rattle.plant_def.specs.Within.{Accepted};
@@ -36,10 +40,18 @@ pub fn least_cost(p: Plant) -> u64
     let mut margins = [0u64; MARGINS];
     lay(streams, count, &mut arcs, &mut rows);
     let labels = group(&arcs, &rows, Which::Unmetered);
-    let begun = start(p.units, labels, &arcs, &rows);
-    let mut held = begun.flows;
-    let mut potentials = begun.potentials;
-    let mut nets = begun.nets;
+    let mut held = [FLOW_SHIFT; MAX_STREAMS];
+    let mut potentials = [POTENTIAL_SHIFT; PLACES];
+    let mut nets = [NET_SHIFT; PLACES];
+    start(
+        p.units,
+        labels,
+        &arcs,
+        &rows,
+        &mut held,
+        &mut potentials,
+        &mut nets,
+    );
     let e = finish(
         &arcs,
         &rows,

@@ -45,15 +45,21 @@ at-hint c =
       is = c .settle .ensures (record { streams = p .streams; n = p .count; network = network-of p (st .pre .0); laid = f .lay .ensures });
     }
 
+-- The settled state, from where all is lent.
+abbrev lent : tie.After-nets2 → tie.After-settle
+lent c =
+    let n = c .before .before .before .before .before in
+    n .before .before .before
+
 solve-at-requires : tie.Need-solve-at-requires
 solve-at-requires c κs =
-    let s = c .before .before in
+    let s = lent c in
     let f = s .before .before .before in
     (begin f .args .p, record { accepted = begin f .pre .0; laid = f .lay .ensures }, refl, at-hint s)
 
 returns : tie.Need-returns
 returns c =
-    let s = c .before .before .before in
+    let s = lent (c .before) in
     let f = s .before .before .before in
     let r = c .solve-at .ensures (begin f .args .p) (record { accepted = begin f .pre .0; laid = f .lay .ensures }) refl (at-hint s) in
     (r .0, r .1 .few)

@@ -4,6 +4,7 @@ use mathlib.Core.List.{List}
 use Prim.Native.Nat.{ℕ}
 use borrow.Author.Needs.{needs}
 use Rattle.plant_def.specs.Says.{plantOf}
+use Rattle.solve_def.specs.declared.State.{State}
 use Rattle.solve_def.specs.SolverNeeds.{AtHint}
 use Rattle.solve_def.proofs.Theorem.{network-of}
 use Rattle.solve_arcs.specs.ArcNeeds.{Laid}
@@ -16,11 +17,11 @@ use Rattle.visit_costs.proofs.least_cost.Tie as tie
 -- The first state, from the end of the phases; arcs and rows, from there; and the start.
 abbrev begun : tie.After-finish → tie.After-start
 begun c =
-    let m = c .before .before .before .before .before .before in
-    m .before .before .before .before
+    let m = c .before .before .before .before in
+    m .before .before .before
 
 abbrev grouped : tie.After-start → tie.After-group
-grouped c = c .before .before .before
+grouped c = c .before .before .before .before .before .before
 
 abbrev laid : tie.After-start → tie.After-lay
 laid c = grouped c .before .before .before
@@ -46,77 +47,76 @@ group-requires c κs =
 
 start-requires : tie.Need-start-requires
 start-requires c κs =
-    let g = c .before .before in
+    let g = c .before .before .before .before .before in
     let f = g .before .before .before in
     let p = start f .args .p in (
-      p,
-      record { accepted = start f .pre .0; laid = f .lay .ensures },
+      (
+        p,
+        record { accepted = start f .pre .0; laid = f .lay .ensures },
+        refl,
+        g .group .ensures p (record { accepted = start f .pre .0; laid = f .lay .ensures }),
+      ),
       refl,
-      g .group .ensures p (record { accepted = start f .pre .0; laid = f .lay .ensures }),
     )
 
--- What the phases begin from is settled at a hint.
-at-hint : (c : tie.After-start) → AtHint (plantOf (start (laid c) .args .p) .streams) (c .start .result)
-at-hint c =
-    let f = laid c in
-    let p = start f .args .p in
-    c .start .ensures p (record { accepted = start f .pre .0; laid = f .lay .ensures })
-    (grouped c .group .ensures p (record { accepted = start f .pre .0; laid = f .lay .ensures }))
-
 -- What the phases begin from.
-abbrev able : (c : tie.After-finish) (ls rs : List ℕ) → let b = begun c in let p = start (laid b) .args .p in
-    Laid (p .streams) (p .count) ls rs → Finishable ls rs (b .start .result)
-able c ls rs l =
-    let b = begun c in
-    let st = start (laid b) in
-    record {
-      laying = record { streams = st .args .p .streams; n = st .args .p .count; network = network-of (st .args .p) (st .pre .0); laid = l };
-      at-hint = at-hint b;
-    }
+abbrev able : (st : tie.Start) {ls rs : List ℕ} {begin : State} → Laid (st .args .p .streams) (st .args .p .count) ls rs → AtHint (plantOf (st .args .p) .streams) begin
+    → Finishable ls rs begin
+able st l h = record {
+  laying = record { streams = st .args .p .streams; n = st .args .p .count; network = network-of (st .args .p) (st .pre .0); laid = l };
+  at-hint = h;
+}
 
 finish-requires : tie.Need-finish-requires
 finish-requires c κs =
-    let m = c .before .before .before .before .before in
-    let b = m .before .before .before .before in
-    let st = start (laid b) in (
-      record {
-        laying = record { streams = st .args .p .streams; n = st .args .p .count; network = network-of (st .args .p) (st .pre .0); laid = laid b .lay .ensures };
-        at-hint = at-hint b;
-      },
+    let m = c .before .before .before in
+    let b = m .before .before .before in
+    let f = laid b in
+    let st = start f in
+    let p = st .args .p in (
+      able st (f .lay .ensures) (b .start .ensures p (record { accepted = st .pre .0; laid = f .lay .ensures })
+          (grouped b .group .ensures p (record { accepted = st .pre .0; laid = f .lay .ensures }))),
       refl,
     )
 
 returns : tie.Need-returns
 returns c =
-    let f = c .before in
-    let b = begun f in
-    let st = start (laid b) in
-    let got = f .finish .ensures (able f _ _ (laid b .lay .ensures)) in
-    never-full (st .args .p) (st .pre .0) (b .start .result) (at-hint b) _ (got .0) (st .pre .1) (c .if1 .taken)
+    let b = begun (c .before) in
+    let f = laid b in
+    let st = start f in
+    let p = st .args .p in
+    let h = b .start .ensures p (record { accepted = st .pre .0; laid = f .lay .ensures })
+    (grouped b .group .ensures p (record { accepted = st .pre .0; laid = f .lay .ensures })) in
+    let got = c .before .finish .ensures (able st (f .lay .ensures) h) in
+    never-full p (st .pre .0) _ h _ (got .0) (st .pre .1) (c .if1 .taken)
 
 cost-held-requires : tie.Need-cost-held-requires
 cost-held-requires c κs =
     let e = c .before .before .before in
-    let f = e .before in
-    let b = begun f in
-    let l = laid b in
-    let st = start l in
-    let got = f .finish .ensures (able f _ _ (l .lay .ensures)) in (
-      (st .args .p, record { accepted = st .pre .0; laid = l .lay .ensures }),
-      amounts (st .args .p) (st .pre .0) (b .start .result) (at-hint b) _ (got .0) (e .if1 .left),
-      all-held (st .args .p) (st .pre .0) (b .start .result) (at-hint b) _ (got .0) (e .if1 .left),
+    let b = begun (e .before) in
+    let f = laid b in
+    let st = start f in
+    let p = st .args .p in
+    let h = b .start .ensures p (record { accepted = st .pre .0; laid = f .lay .ensures })
+    (grouped b .group .ensures p (record { accepted = st .pre .0; laid = f .lay .ensures })) in
+    let got = e .before .finish .ensures (able st (f .lay .ensures) h) in (
+      (p, record { accepted = st .pre .0; laid = f .lay .ensures }),
+      amounts p (st .pre .0) _ h _ (got .0) (e .if1 .left),
+      all-held p (st .pre .0) _ h _ (got .0) (e .if1 .left),
     )
 
 returns-2 : tie.Need-returns-2
 returns-2 c =
     let e = c .before .before .before .before in
-    let f = e .before in
-    let b = begun f in
-    let l = laid b in
-    let st = start l in
-    let got = f .finish .ensures (able f _ _ (l .lay .ensures)) in
-    least-found (st .args .p) (st .pre .0) (b .start .result) (at-hint b) _ (got .0) (e .if1 .left) (c .cost-held .result)
-    (c .cost-held .ensures (st .args .p) (record { accepted = st .pre .0; laid = l .lay .ensures }))
+    let b = begun (e .before) in
+    let f = laid b in
+    let st = start f in
+    let p = st .args .p in
+    let h = b .start .ensures p (record { accepted = st .pre .0; laid = f .lay .ensures })
+    (grouped b .group .ensures p (record { accepted = st .pre .0; laid = f .lay .ensures })) in
+    let got = e .before .finish .ensures (able st (f .lay .ensures) h) in
+    least-found p (st .pre .0) _ h _ (got .0) (e .if1 .left) (c .cost-held .result)
+    (c .cost-held .ensures p (record { accepted = st .pre .0; laid = f .lay .ensures }))
 
 pub least-cost-spec : {M : Type 1} → statement M
 least-cost-spec =

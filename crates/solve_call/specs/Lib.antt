@@ -1,0 +1,2 @@
+-- What the solver hands over.
+pub mod Answers
