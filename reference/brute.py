@@ -6,6 +6,18 @@ The brute force follows the definitions word for word: it lists the balanced
 flows in range that could be the cheapest and takes the least by cost and tie
 rule; where there are none, the set of places is tested, and where there are some,
 that no set of places must take in more than it can let out.
+
+Compared with:
+
+- the answers that the definition states, its listing, and a file or more for each refusal; the critical values, from
+  the chi-square distribution;
+- 60,000 drawn small plants, half of them with ranges, by brute force: all balanced whole flows in a box that holds
+  the cheapest, classes by pairs of flows, groups by Warshall's closure, degrees by ranks;
+- 2,000 small plants with a cost near the critical value: a fail is above it over flows in fractions too;
+- meters worth a visit on 6,000 small plants by brute force, and on larger ones by the whole solve;
+- 5,000 lists of shares: the sort against all sets;
+- 4,000 small plants: every flow of least cost passes the check with the numbers of one, and no dearer one does;
+- 80 large plants: balance, cost against the least cost in fractions, and the same after renumbering.
 """
 
 import math

@@ -3,7 +3,26 @@
 A balanced flow in range is found along shortest ways, and improved along cycles
 of streams until no cycle improves it; the classes come from a depth-first search
 over the unmetered streams.
-README.md beside this file says why that is right.
+README.md beside this file has the method.
+
+Why that is right:
+
+1. It ends. The objective is an integer, falls with each cycle, and is bounded below.
+2. At the end no cycle of ones improves. The last search, with step 1, shows that.
+3. Then no flow improves. The difference of two balanced flows falls apart into cycles of ones, none of which runs
+   against it on a stream, so each keeps in range. The objective is a sum of convex functions of single streams.
+   Several steps in one direction change it by at least the sum of the changes of single steps. If no single cycle
+   lowers it, their sum does not.
+4. Cost first. Round a cycle of ones the second part of the objective changes by less than 2^m, so it never outweighs
+   a change of cost.
+5. Then the tie rule. Two flows in range of least cost differ by at most 1 on each metered stream. If they differed by
+   2, moving one cycle of the difference from one to the other would lower the sum of both costs, since weights are
+   positive. At the first metered stream on which two such flows differ, 2^(m-k) outweighs all later terms. So the
+   least objective is the flow that the tie rule takes.
+6. Classes. Two balanced flows equal on the metered streams differ by a balanced flow on the unmetered streams alone.
+   Such a flow can differ from 0 on a stream exactly if the stream is no bridge. Ranges play no part.
+7. No flow in range. If no path leads on, every stream out of the places reached is at its high and every stream into
+   them at its low, and together they have too much. So the lows in sum to more than the highs out.
 
     python3 reference/solver.py < samples/listing.bin
 """
