@@ -16,6 +16,7 @@
 What a rule must let pass is in ALLOWED, with its document. tools/wrong/style.md breaks every rule on sentences and words, and is read first:
 a rule that it does not break is an error.
 """
+import glob
 import os
 import re
 import subprocess

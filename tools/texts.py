@@ -32,10 +32,10 @@ def sentence(name):
 
 
 def main(words):
-    if words and words[0] in CHECKS + ALONE:
+    if words and words[0] in CHECKS:
         os.execv(sys.executable, [sys.executable, os.path.join(TOOLS, f'{words[0]}.py'), *words[1:]])
     if words == ['--list']:
-        for name in CHECKS + ALONE:
+        for name in CHECKS:
             print(f'{name + (" *" if name in MADE else ""):13} {sentence(name)}')
         print('* makes its texts anew with --write')
         return

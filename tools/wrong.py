@@ -1,6 +1,6 @@
 #!/usr/bin/env python3
 # SPDX-License-Identifier: LicenseRef-Wengeludo
-"""Wrong programs of the host: each edit of tools/wrong is applied to a copy of the tree, and the test that it names must fail.
+"""Wrong programs outside the proofs: each edit of tools/wrong is applied to a copy of the tree, and the test that it names must fail.
 
     ./dev wrong              all of them
     ./dev wrong desk c       those of some files
