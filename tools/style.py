@@ -32,7 +32,7 @@ LIMITS = {
     'docs/EDITS.md': 500, 'docs/FORMATS.md': 1100, 'docs/GLOSSARY.md': 2000, 'docs/GUIDE.md': 2200, 'docs/HISTORY.md': 1100, 'docs/HOWTO.md': 1500,
     'docs/LINKING.md': 900, 'docs/MEASURED.md': 300, 'docs/PROMISES.md': 3800, 'docs/PROVING.md': 2700, 'docs/PUBLISHED.md': 800,
     'docs/REAL-NUMBERS.md': 700, 'docs/RELEASING.md': 400, 'docs/SOLVER.md': 2400, 'docs/SPEED.md': 1200, 'docs/TESTING.md': 1300,
-    'docs/decisions': 4500, 'docs/desk/browser.md': 500, 'docs/desk/wide.md': 700, 'reference/README.md': 1500, 'samples/README.md': 950,
+    'docs/decisions': 4700, 'docs/desk/browser.md': 500, 'docs/desk/wide.md': 700, 'reference/README.md': 1500, 'samples/README.md': 950,
 }
 TICS = [
     (r'(?:^|[.;:|] )Where\b(?! (?:to|it is|a line|from)\b)[^?.]{0,90},', '"If …,", not "Where …,"'),
@@ -134,6 +134,9 @@ def blind():
 
 def entries(path):
     """The entries of decisions: at most so many words, and what would change them."""
+    with open(os.path.join(ROOT, 'docs/DECISIONS.md'), encoding='utf-8') as index:
+        if f'({path[len("docs/"):]})' not in index.read():
+            yield f'{path}: docs/DECISIONS.md does not link it'
     for number, text, cell in pieces(path):
         if not cell and text.startswith('**'):
             if count(text) > ENTRY:
