@@ -79,7 +79,8 @@ def hinted(text):
 
 
 def plain_spots(text):
-    """Where another file may be changed: lines of comment left out."""
+    """Where another file may be changed: lines of comment and tests that stand below the code of Rust left out."""
+    text = text.partition('#[cfg(test)]\n')[0]
     found, at, comment = [], 0, False
     for line in text.splitlines(keepends=True):
         bare = line.strip()

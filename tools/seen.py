@@ -15,6 +15,7 @@ from tried import PYTHON
 
 PACKAGE = 'desk/src/wengeludo'
 SECONDS = 25  # tests that take longer together are cut off: that can only leave a change unseen
+WHOLE = ('tests/test_stories.py', 'tests/test_golden.py')  # whole outputs: never cut off
 SETTINGS_TEST = 'tests/test_settings.py'  # the constants of every module
 SCRIPTS = ['tests/test_scripts.py', 'tests/test_shown.py']  # what runs the pages' scripts
 SETTINGS = '[run]\ndynamic_context = test_function\nsource = {source}\ndata_file = {data}\n'
@@ -108,6 +109,6 @@ def tests(tree, seen, name, lines):
     spent = 0.0
     for one in every:
         spent += seen['seconds'][one]
-        if spent <= SECONDS or not taken:
+        if spent <= SECONDS or not taken or one.startswith(WHOLE):
             taken.append(one)
     return taken

@@ -41,6 +41,7 @@ def test_a_reading_is_rounded_to_whole_units_exactly():
     for ratio in (Fraction(1), Fraction(5), Fraction(1, 20), Fraction(2), Fraction(1, 50), Fraction(1000, 3), Fraction(22, 7) / 10**9):
         expected = [round(Fraction(repr(float(value))) * ratio) for value in values]
         assert runs.whole_units(values, ratio).tolist() == expected
+    assert runs.whole_units(np.array([2.5000004, 2.4999996, -3.5000004]), Fraction(1)).tolist() == [3, 2, -4]  # more decimals than are shown
     assert np.rint(0.3 / 0.2) == 1 and runs.whole_units(np.array([0.3]), Fraction(5)).tolist() == [2]  # a half, to the even number
 
 

@@ -6,6 +6,8 @@ import os
 import re
 import sqlite3
 import stat
+import subprocess
+import sys
 import time
 from datetime import datetime, timedelta, timezone
 from types import SimpleNamespace
@@ -190,3 +192,16 @@ def test_what_an_error_of_the_file_comes_to(name, text, kind, told):
 def test_a_contradiction_is_told_as_one():
     found = Lite._told(SimpleNamespace(path="a.book"), sqlite3.IntegrityError("UNIQUE"))
     assert type(found) is Conflict and str(found) == "a.book: this contradicts what the book has (UNIQUE); nothing of this is kept"
+
+
+def test_a_worker_ends_with_its_parent():
+    """A process that has been tied to a parent goes as soon as that parent has gone, in the middle of its work."""
+    work = "import os, sys, time\nfrom wengeludo.keep.batch import _tied\nparent = os.getpid()\nif os.fork() == 0:\n    _tied(parent)\n    print(os.getpid(), flush=True)\n    time.sleep(60)\nelse:\n    time.sleep(1)\n"
+    with subprocess.Popen([sys.executable, "-c", work], stdout=subprocess.PIPE, text=True) as parent:
+        worker = int(parent.stdout.readline())
+        parent.wait()
+        for _ in range(100):
+            if not os.path.exists(f"/proc/{worker}") or open(f"/proc/{worker}/stat").read().split(")")[-1].split()[0] == "Z":
+                return
+            time.sleep(0.1)
+    raise AssertionError("the worker is still there")

@@ -479,3 +479,14 @@ def test_pages_of_history_runs_are_shown_shut_in(tmp_path):
     assert page.text.startswith("<h1>July</h1>") and "sandbox allow-scripts" in page.headers["Content-Security-Policy"] and "connect-src" not in page.headers["Content-Security-Policy"]
     for path in ("/runs/notes.txt", "/runs/..%2fsecret.html", "/runs/%2e%2e/secret.html", "/runs/june.html"):
         assert client.get(path, **BASE).status_code in (404, 308), path
+
+
+def test_a_fault_of_the_program_is_told_as_one(desk, shelf, monkeypatch):
+    """A page that fails says so, and is not called one that is not there."""
+    def broken():
+        raise RuntimeError("broken")
+
+    monkeypatch.setattr(shelf, "lasts", broken)
+    desk.application.config["PROPAGATE_EXCEPTIONS"] = False
+    answer = desk.get("/health", **BASE)
+    assert answer.status_code == 500 and "This page has failed" in answer.text and "no such page" not in answer.text

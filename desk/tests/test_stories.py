@@ -13,6 +13,7 @@ import os
 import re
 import shlex
 import shutil
+import sys
 import uuid
 from datetime import datetime
 from pathlib import Path
@@ -140,6 +141,8 @@ def _said(words, own, run):
         return "\n".join(_options(cli))
     if name == "ls":
         return "\n".join(sorted(str(path) for path in Path(rest[0]).rglob("*")))
+    if name == "colours":  # as on a terminal that has them
+        return _coloured(run, rest)
     ended = run(*rest) if not own else _answered(run, own, rest)
     faults = "".join(f"! {line}\n" for line in ended.err.splitlines())
     return ended.out + faults + (f"? {ended.status}" if ended.status else "")
@@ -174,6 +177,23 @@ def _workbook(path, cells):
         sheet[place].number_format = form or "General"
     book.save(path)
     return ""
+
+
+def _coloured(run, words):
+    """What is said on a terminal with colours, their marks as ^."""
+    from rich.console import Console
+
+    from wengeludo.write import terminal
+
+    def console(error=False):
+        return Console(file=sys.stderr if error else sys.stdout, width=100, force_terminal=True, color_system="standard", highlight=False, markup=False, emoji=False)
+
+    with pytest.MonkeyPatch.context() as patch:
+        patch.setattr(terminal, "console", console)
+        patch.setenv("TERM", "xterm")
+        patch.delenv("NO_COLOR", raising=False)
+        ended = run(*words)
+    return (ended.out + ended.err).replace("\x1b", "^") + (f"? {ended.status}" if ended.status else "")
 
 
 def _answered(run, own, words):

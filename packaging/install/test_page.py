@@ -37,6 +37,8 @@ def main(page, header):
     missing += [call for call in re.findall(r"^(?:uint8_t|uint32_t) wengeludo_\w+\([^;]*\);", text, re.MULTILINE) if squeezed(call) not in shown]
     numbers = re.findall(r"(WENGELUDO_[A-Z_]+) = (\d+),?\s*/\*(.*?)\*/", re.search(r"refusals: enum.*?end of enum", text, re.DOTALL)[0], re.DOTALL)
     missing += [name for name, number, said in numbers if squeezed(f"{name} ({number}) " + re.sub(r"\n\s*", " ", said)) not in shown]
+    twice = [f"{name} = {number}" for name, number, _ in numbers if squeezed(f"{name} = {number}") in shown]
+    missing += [f"{one} only among the numbers of refusals" for one in twice]
     missing += [f"the section {name}" for name in SECTIONS if lines.count(name) != 1]
     for paragraph in missing:
         print(f"install/test: not in the manual page: {' '.join(paragraph.split())[:200]}")

@@ -327,6 +327,18 @@ def test_rows_are_the_plants_one_by_one():
             assert shown == ((one.flows, one.numbers) if one else ((0,) * count, (0,) * places))
 
 
+def test_rows_that_pass_are_counted():
+    from wengeludo_balance import wide
+
+    plant = w.WidePlant(1, (w.Stream(0, 1, 1, 0), w.Stream(1, 0, 1, 0)))
+    columns, ffi = wide._columns(plant.streams), wide.ffi
+    for readings, passed in (([5, 5, 2**60, 5, 7, 9], 2), ([2**60, 0], 0), ([1, 1] * 3, 3)):
+        rows = len(readings) // 2
+        out = [ffi.new("int64_t[]", 2 * rows), ffi.new("int64_t[]", 2 * rows), ffi.new("uint8_t[]", rows)]
+        assert wide.lib.wide_rows(wide._lent_plant(1, columns), rows, ffi.new("uint64_t[]", [1] * 2 * rows), ffi.new("int64_t[]", readings), *out) == passed
+        assert list(out[2]).count(0) == passed
+
+
 def test_rows_that_do_not_fit():
     plant = w.WidePlant(1, (w.Stream(0, 1, 1, 0), w.Stream(1, 0, 1, 0)))
     for weights, readings in (([1], [0]), ([1, 1], [0]), ([1, 1, 1], [0, 0, 0])):
