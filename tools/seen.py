@@ -16,7 +16,7 @@ from tried import PYTHON
 PACKAGE = 'desk/src/wengeludo'
 SECONDS = 25  # tests that take longer together are cut off: that can only leave a change unseen
 WHOLE = ('tests/test_stories.py', 'tests/test_golden.py')  # whole outputs: never cut off
-SETTINGS_TEST = 'tests/test_settings.py'  # the constants of every module
+SETTINGS_TESTS = ('tests/test_settings.py', 'tests/test_stories.py::test_lists')  # the constants of every module, the options of every command
 SCRIPTS = ['tests/test_scripts.py', 'tests/test_shown.py']  # what runs the pages' scripts
 SETTINGS = '[run]\ndynamic_context = test_function\nsource = {source}\ndata_file = {data}\n'
 LISTED = """
@@ -104,7 +104,7 @@ def tests(tree, seen, name, lines):
         return SCRIPTS
     found = seen['files'].get(name, {})
     own = {one for line in lines for one in found.get(str(line), ())}
-    taken = [] if own else [SETTINGS_TEST, *importing(tree, name)]
+    taken = [] if own else [*SETTINGS_TESTS, *importing(tree, name)]
     every = sorted(own or {one for some in found.values() for one in some}, key=seen['seconds'].get)
     spent = 0.0
     for one in every:

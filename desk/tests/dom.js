@@ -59,6 +59,7 @@ class Node {
 }
 function fits(node, text) {
   const parts = text.split(/ +(?![^[]*\])/), last = parts.pop();
+  if (!/^([#.]?[\w-]+|\[[^\]~]+\])+$/.test(last)) throw new SyntaxError(`no selector: ${text}`);
   for (const [, sign, word] of last.matchAll(/([#.]?)([\w-]+|\[[^\]]+\])/g)) {
     if (word[0] === "[") {
       const [, name, value] = /\[([\w-]+)(?:="?([^"\]]*)"?)?\]/.exec(word);

@@ -115,6 +115,12 @@ def test_a_row_that_is_refused_says_so_and_leaves_the_others(reading, deviation,
     assert made.flows.tolist() == [[11, 11], [0, 0], [11, 11]] and made.checked.tolist() == [0, 0, 0]
 
 
+@pytest.mark.parametrize("units", [-1, 0, 33, 255, 256, 1_000])
+def test_units_beyond_the_limit_are_refused_in_every_row(units):
+    made = rows(Plant(units, (Stream(0, 1, 1, 0), Stream(1, 0, 1, 0))), [[1, 1]] * 2, [1.0, 1.0], [[MEASURED] * 2] * 2)
+    assert made.refusal.tolist() == [6, 6]
+
+
 def test_the_plants_own_faults_are_told_in_every_row():
     def refused(units, *streams):
         count = len(streams)

@@ -65,6 +65,12 @@ def test_constants_and_defaults():
     assert text == KEPT.read_text(encoding="utf-8"), "if that is meant: WENGELUDO_GOLDEN=write"
 
 
+def test_what_modules_name_is_there():
+    for found in pkgutil.iter_modules(wengeludo_balance.__path__):
+        module = importlib.import_module(f"wengeludo_balance.{found.name}")
+        assert [name for name in getattr(module, "__all__", ()) if not hasattr(module, name)] == [], found.name
+
+
 def test_all_that_is_given_is_there():
     space = {}
     exec("from wengeludo_balance import *", space)
