@@ -214,10 +214,12 @@ def environment(work):
 
 
 def copied(copy):
-    """The tree without what is built, and its archive."""
+    """The tree without what is built, and its archive with the module that the proof handed to the compiler (packaging/cross/build.sh)."""
     shutil.copytree(ROOT, copy, ignore=shutil.ignore_patterns('.git', 'target', 'build', '__pycache__', '*.egg-info'))
     os.makedirs(os.path.join(copy, 'target'))
     os.symlink(os.path.join(ROOT, 'target', 'staticlib'), os.path.join(copy, 'target', 'staticlib'))
+    if os.path.isdir(os.path.join(ROOT, 'target', 'cross')):
+        shutil.copytree(os.path.join(ROOT, 'target', 'cross'), os.path.join(copy, 'target', 'cross'))
 
 
 def absent(rule):
