@@ -241,6 +241,9 @@ expect 1 'refused 7' "$(other last 's/^unmetered 3 0/unmetered 3 255/')"
 expect 1 'refused 6' "$(other all 's/^units 4/units 255/')"
 expect 2 '' "$(other far 's/^unmetered 3 0/unmetered 3 256/')"
 expect 2 '' "$(other beyond 's/^units 4/units 256/')"
+padded() { printf -v blanks '%*s' "$(($1 - 7))" ''; other "padded$1" "s/^units 4.*/units 4$blanks/"; } # a line of so many letters
+expect 0 $'passes\ncost 2535198345492880289' "$(padded 510)"
+expect 2 '' "$(padded 511)"
 expect 2 ''
 expect 2 '' "$wide" "$wide"
 expect 2 '' "$work/missing"

@@ -481,6 +481,14 @@ def test_pages_of_history_runs_are_shown_shut_in(tmp_path):
         assert client.get(path, **BASE).status_code in (404, 308), path
 
 
+def test_who_has_left_is_out_wherever_the_token_goes(doorway, people):
+    brandt = doorway("brandt")
+    token = re.match(r"wengeludo=([^;]+)", brandt.answer.headers["Set-Cookie"])[1]
+    assert people.person(token).name == "brandt"
+    brandt.post("/logout", data={"csrf": csrf(brandt)}, **BASE)
+    assert people.person(token) is None
+
+
 def test_a_fault_of_the_program_is_told_as_one(desk, shelf, monkeypatch):
     """A page that fails says so, and is not called one that is not there."""
     def broken():

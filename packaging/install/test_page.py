@@ -38,7 +38,9 @@ def main(page, header):
     numbers = re.findall(r"(WENGELUDO_[A-Z_]+) = (\d+),?\s*/\*(.*?)\*/", re.search(r"refusals: enum.*?end of enum", text, re.DOTALL)[0], re.DOTALL)
     missing += [name for name, number, said in numbers if squeezed(f"{name} ({number}) " + re.sub(r"\n\s*", " ", said)) not in shown]
     twice = [f"{name} = {number}" for name, number, _ in numbers if squeezed(f"{name} = {number}") in shown]
-    missing += [f"{one} only among the numbers of refusals" for one in twice]
+    source = squeezed("\n".join(comments(text)))
+    twice += [paragraph for paragraph in told if len(paragraph.split()) > 8 and shown.count(squeezed(paragraph)) > max(1, source.count(squeezed(paragraph)))]
+    missing += [f"{one} once, in its place" for one in twice]
     missing += [f"the section {name}" for name in SECTIONS if lines.count(name) != 1]
     for paragraph in missing:
         print(f"install/test: not in the manual page: {' '.join(paragraph.split())[:200]}")

@@ -281,6 +281,7 @@ def test_each_bound_to_its_unit(weight):
         (8, w.WidePlant(1, (w.Stream(1, 1),))),
         (9, w.WidePlant(1, (w.Stream(0, 1, 2**64, 0),))),
         (9, w.WidePlant(1, (w.Stream(0, 1, -1, 0),))),
+        (9, w.WidePlant(1, (w.Stream(0, 1, 0, 0),))),
         (10, w.WidePlant(1, (w.Stream(0, 1, 1, 2**70),))),
         (10, w.WidePlant(1, (w.Stream(0, 1, 1, -(2**70)),))),
         (18, w.WidePlant(1, (w.Stream(0, 1, 1, 0, -(2**70), 0),))),
