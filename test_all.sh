@@ -156,7 +156,7 @@ if part "wrong programs outside the proofs" python3 "$compiler"; then
     fi
 fi
 if long && part "the benchmark's own tests, and a short run of it" cargo; then
-    (cd bench && quietly ../target/built/bench_tests.log '^test result: ok. [1-9]' cargo test --offline --quiet)
+    quietly target/built/bench_tests.log '^test result: ok. [1-9]' cargo test --offline --quiet --manifest-path bench/Cargo.toml
     quietly target/built/bench.log "$rows" bash bench/run.sh 5 1 | head -4
 fi
 if long && part "the list of meters worth a visit, a short run" cargo; then
