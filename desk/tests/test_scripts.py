@@ -115,7 +115,7 @@ const load = async (bytes) => ({ bytes: new TextDecoder().decode(bytes), version
   balance: (streams) => {
     if (refuse) throw refuse;
     const degrees = streams.filter((one) => one.weight !== undefined).length - 1;
-    return { degrees, cost: 1234n, verdict: degrees > 0 ? "pass" : "none", records: streams.map((one, k) => ({ kind: k < 2 ? "A" : "W", flow: k < 2 ? 201n : null })) };
+    return { degrees, cost: 1234567n, verdict: degrees > 0 ? "pass" : "none", records: streams.map((one, k) => ({ kind: k < 2 ? "A" : "W", flow: k < 2 ? 201n : null })) };
   } });
 await new (Object.getPrototypeOf(async function () {}).constructor)("load", "Refusal", given.script)(load, Refusal);
 const row = (k) => document.querySelectorAll("#live-rows tr")[k], fields = (k) => row(k).querySelectorAll("input");
@@ -183,6 +183,9 @@ answer = { status: 200, ok: true, redirected: true }; field.dispatch("input"); a
 answer = { status: 500, ok: false }; field.dispatch("input"); await wait(200); tell(`failed, gone ${!$("gone").hidden}`);
 answer = null; field.dispatch("input"); await wait(200); tell(`no server, gone ${!$("gone").hidden}`);
 answer = { status: 200, ok: true }; field.dispatch("input"); await wait(200); tell(`back, gone ${!$("gone").hidden}`);
+const side = $("side").querySelectorAll("input").find((one) => one.id && one.type === "text");
+side.focus(); side.value = " 77 "; side.selectionStart = 2; side.dispatch("input"); await wait(200);
+tell(`in the side ${document.activeElement !== side} ${document.activeElement.id === side.id}`, document.activeElement);
 const keep = asked.length;
 for (const key of ["Enter", " ", "a"]) { document.querySelector(".edge").dispatch("keydown", { key }); await wait(); tell(`key ${key}: ${asked.length - keep} ${asked.map((one) => one.aborted ? 1 : 0).join("")}`); }
 for (const more of [{}, { ctrlKey: true }, { metaKey: true }]) { document.querySelector(".edge").click(more); await wait(); tell(`edge ${JSON.stringify(more)}`); }

@@ -16,6 +16,7 @@ from conftest import SAMPLES
 
 from wengeludo.balance.sheet import balance
 from wengeludo.balance.site import read_site
+from wengeludo.write import page as page_of
 from wengeludo.write import view
 from wengeludo.write.page import scale
 from wengeludo.write.spots import header
@@ -334,3 +335,14 @@ def test_the_live_page_reads_and_shows_numbers_as_the_list_does(unit, decimals):
 @pytest.mark.parametrize("name, wide", [("HP header", True), ("manifold 3", True), ("steam main", True), ("Watermains", True), ("remainder", False), ("boiler 1", False)])
 def test_a_header_is_known_by_its_name(name, wide):
     assert header(name) == wide
+
+
+@pytest.mark.parametrize("size", [1.0, 699.0, 700.0, 701.0, 1_371.0, 1_372.0, 5_000.0, 20_000.5])
+def test_a_large_drawing_is_cut_into_equal_parts(size):
+    """As few as can be, none longer than a sheet of paper, each with a little of the next, from one end to the other."""
+    most, over = 700.0, page_of.OVERLAP
+    parts = page_of._parts(size, most)
+    starts, lengths = zip(*parts)
+    assert starts[0] == 0 and starts[-1] + lengths[-1] == pytest.approx(size) and len(set(lengths)) == 1 and lengths[0] <= most + 1e-9
+    assert all(a + lengths[0] - b == pytest.approx(over) for a, b in zip(starts, starts[1:]))
+    assert len(parts) == 1 or (most - over) * (len(parts) - 1) + over < size

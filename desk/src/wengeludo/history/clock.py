@@ -196,8 +196,8 @@ def every_of(text: str) -> int:
     return size
 
 
-def strided(times: Any) -> int:
-    """The usual distance of rows, in seconds; an hour if there is one row."""
+def strided(times: Any, alone: Optional[int] = None) -> int:
+    """The usual distance of rows, in seconds; if there is one row, what it is the mean of, or an hour."""
     import numpy as np
 
-    return max(1, int(np.median(np.diff(times)))) if len(times) > 1 else 3600
+    return max(1, int(np.median(np.diff(times)))) if len(times) > 1 else alone or 3600

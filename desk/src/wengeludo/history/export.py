@@ -34,6 +34,7 @@ class Export:
     status: Any
     words: Counter = field(default_factory=Counter)
     notes: List[str] = field(default_factory=list)
+    every: Optional[int] = None  # the seconds of the means that the rows are
 
 
 @dataclass(frozen=True)
@@ -60,7 +61,7 @@ def read_exports(paths: Sequence[Path], tags: Sequence[str], how: How) -> Export
     words = sum((reader.words for reader in readers), Counter())
     if not parts:
         raise Faulty(paths[0], [Fault("no row lies between --from and --to" if how.start or how.end else "the export has a header and no row")])
-    export = Export(*(_joined(parts, k) for k in range(3)), words)
+    export = Export(*(_joined(parts, k) for k in range(3)), words, every=how.every)
     _ordered(readers, export)
     if len(export.times) > MOST_ROWS:
         raise Faulty(paths[0], [Fault(f"the run has {len(export.times):,} rows: {_FEWER}")])

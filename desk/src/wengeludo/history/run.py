@@ -235,7 +235,7 @@ def balanced(listed: Tagged, export: Export, path: Path, zone: Optional[ZoneInfo
     times, words = export.times, export.words
     export.values = export.status = None
     outgoing = tuple(k for k, pipe in enumerate(pipes) if pipe.target == 0)
-    return Run(replace(listed.list, pipes=tuple(pipes)), unit, plant, deviations, times, readings, status, sheets, zone, clock.strided(times),
+    return Run(replace(listed.list, pipes=tuple(pipes)), unit, plant, deviations, times, readings, status, sheets, zone, clock.strided(times, export.every),
                export.notes + notes, words, outgoing, kind, variances, still, listed.tags, typed, factor)
 
 
