@@ -127,7 +127,7 @@ all-gathered p n ms e d =
     range k s = rangeAt (p .ranged) (p .low) (p .high) s k
 
 -- Every slice reaches the streams gathered, and no other.
-reaches-is : (p : Slices) (k : ℕ) → k < maxStreams → ltb k (reach p) ≡ reaches p k
+pub reaches-is : (p : Slices) (k : ℕ) → k < maxStreams → ltb k (reach p) ≡ reaches p k
 reaches-is p k h =
     least-test k maxStreams (least (metersTo p) (rangesTo p))
     ∙ ap (λ (b : Bool). b && ltb k (least (metersTo p) (rangesTo p))) (lt-ltb k maxStreams h)
