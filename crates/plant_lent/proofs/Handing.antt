@@ -89,22 +89,27 @@ shown p (got q) y few e =
     (λ i. let x = e i in (x .number, x .plant .units, x .plant .count, laid (take (x .plant .count) (x .plant .streams)) p))
     ∙ ap (λ (ss : List Stream). (0, q .units, length (q .streams), laid ss p)) (take-filled noStream maxStreams (q .streams) few)
 
--- What is found after the call.
-pub found-lent : (file : List ℕ) (p : Slices) (n : ℕ) (y : Read) → n ≡ reach p → y ≡ readOf (readLent file n)
-    → PlantFound file p (y .number, y .plant .units, y .plant .count, laid (take (y .plant .count) (y .plant .streams)) p)
-found-lent file p n y e d = go (ltb n maxStreams) refl d
+-- What is found after the call, the slices holding what was read.
+pub found-lent : (file : List ℕ) (p q : Slices) (n : ℕ) (y : Read) → n ≡ reach p → y ≡ readOf (readLent file n)
+    → q ≡ laid (take (y .plant .count) (y .plant .streams)) p → PlantFound file p (y .number, y .plant .units, y .plant .count, q)
+found-lent file p q n y e d f = go (ltb n maxStreams) refl d
   where
-    go : (b : Bool) → ltb n maxStreams ≡ b → y ≡ readOf (pick b (bad 1) (readPlant file))
-        → PlantFound file p (y .number, y .plant .units, y .plant .count, laid (take (y .plant .count) (y .plant .streams)) p)
+    found : ℕ × ℕ × ℕ × Slices
+    found = (y .number, y .plant .units, y .plant .count, q)
+
+    as-read : found ≡ (y .number, y .plant .units, y .plant .count, laid (take (y .plant .count) (y .plant .streams)) p)
+    as-read = ap (λ (q : Slices). (y .number, y .plant .units, y .plant .count, q)) f
+
+    go : (b : Bool) → ltb n maxStreams ≡ b → y ≡ readOf (pick b (bad 1) (readPlant file)) → PlantFound file p found
     go true t d = record {
       made = bad 1;
       enough = λ h. absurd (room-not p n e t h);
       short = λ h. refl;
-      handed = shown p (bad 1) y (omega arith) d;
+      handed = as-read ∙ shown p (bad 1) y (omega arith) d;
     }
     go false t d = record {
       made = readPlant file;
       enough = λ h. refl;
       short = λ h. absurd (h (room-told p n e t));
-      handed = shown p (readPlant file) y (few-read file (readPlant file) refl) d;
+      handed = as-read ∙ shown p (readPlant file) y (few-read file (readPlant file) refl) d;
     }

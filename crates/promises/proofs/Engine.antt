@@ -2,6 +2,7 @@
 use Rattle.wengeludo.proofs.wengeludo_version.Met as Version
 use Rattle.wengeludo.proofs.wengeludo_balance_plant.Met as Balance-plant
 use Rattle.wengeludo.proofs.wengeludo_write_plant.Met as Write-plant
+use Rattle.wengeludo.proofs.wengeludo_read_plant.Met as Read-plant
 use Rattle.wengeludo.proofs.wengeludo_read_sheet.Met as Read-sheet
 use Rattle.wengeludo.proofs.wengeludo_plant_from_transmitter.Met as Plant-from-transmitter
 use Rattle.wengeludo.proofs.wengeludo_to_ranged.Met as To-ranged
@@ -22,6 +23,7 @@ engine = record {
   version = λ M. Version.met;
   balance-plant = λ M. Balance-plant.met;
   write-plant = λ M. Write-plant.met;
+  read-plant = λ M. Read-plant.met;
   read-sheet = λ M. Read-sheet.met;
   plant-from-transmitter = λ M. Plant-from-transmitter.met;
   to-ranged = λ M. To-ranged.met;

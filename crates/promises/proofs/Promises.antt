@@ -2,6 +2,7 @@
 use Rattle.plant_def.proofs.Refusals.{file-refusals}
 use Rattle.plant_def.proofs.Amiss.{refused-files}
 use Rattle.plant_def.proofs.Longest.{longest-file}
+use Rattle.plant_lent.proofs.Trip.{parts-trip}
 use Rattle.sheet_def.proofs.Demands.{demands}
 use Rattle.sheet_history.proofs.History.{history}
 use Rattle.listing_call.proofs.Promise.{one-text}
@@ -33,6 +34,7 @@ promises = record {
   longest-file = longest-file;
   file-refusals = file-refusals;
   refused-files = refused-files;
+  parts-trip = parts-trip;
   demands = demands;
   history = history;
   one-text = one-text;

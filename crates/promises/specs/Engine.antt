@@ -2,6 +2,7 @@
 use Rattle.wengeludo.proofs.wengeludo_version.Statement as Version
 use Rattle.wengeludo.proofs.wengeludo_balance_plant.Statement as Balance-plant
 use Rattle.wengeludo.proofs.wengeludo_write_plant.Statement as Write-plant
+use Rattle.wengeludo.proofs.wengeludo_read_plant.Statement as Read-plant
 use Rattle.wengeludo.proofs.wengeludo_read_sheet.Statement as Read-sheet
 use Rattle.wengeludo.proofs.wengeludo_plant_from_transmitter.Statement as Plant-from-transmitter
 use Rattle.wengeludo.proofs.wengeludo_to_ranged.Statement as To-ranged
@@ -21,6 +22,7 @@ pub record Engine : Type 2 where
   pub version : (M : Type 1) → Version.statement M
   pub balance-plant : (M : Type 1) → Balance-plant.statement M
   pub write-plant : (M : Type 1) → Write-plant.statement M
+  pub read-plant : (M : Type 1) → Read-plant.statement M
   pub read-sheet : (M : Type 1) → Read-sheet.statement M
   pub plant-from-transmitter : (M : Type 1) → Plant-from-transmitter.statement M
   pub to-ranged : (M : Type 1) → To-ranged.statement M

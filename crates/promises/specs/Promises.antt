@@ -1,6 +1,7 @@
 -- Every public theorem, in one record. docs/PROMISES.md follows it field by field.
 use Rattle.plant_def.specs.Says.{Longest-file, File-refusals}
 use Rattle.plant_def.specs.Refusals.{Refused-files}
+use Rattle.plant_lent.specs.Trip.{Parts-trip}
 use Rattle.sheet_def.specs.Demands.{Demands}
 use Rattle.sheet_history.specs.History.{History}
 use Rattle.listing_lines.specs.Room.{OneText}
@@ -36,6 +37,8 @@ pub record Promises : Type 0 where
   pub longest-file : Longest-file
   pub file-refusals : File-refusals
   pub refused-files : Refused-files
+  -- The exported plant writer and plant reader undo each other, both ways.
+  pub parts-trip : Parts-trip
   -- Sheets: the demands; the sheet numbers of the offices, over any calls; what `balance` prints.
   pub demands : Demands
   pub history : History

@@ -1,5 +1,5 @@
 // The calls for programs in C and Rust, as functions on numbers and slices of numbers: the archive. They are the version, the sheet call,
-// the plant writer, the sheet reader, the translator, the two moves, meters to buy, the survey, meters worth a visit, steam charges, the
+// the plant writer, the plant reader, the sheet reader, the translator, the two moves, meters to buy, the survey, meters worth a visit, steam charges, the
 // check of a sheet, numbers of the places and the check of a flow over wide numbers.
 use plant_def::Plant;
 use sheet_lent::balance_lent;
@@ -14,7 +14,7 @@ ghost use Rattle.visit_call.specs.Lent.{VisitsFound};
 ghost use Rattle.certify_def.specs.Says.{lentSlices, FlowSays};
 ghost use Rattle.charge_call.specs.Lent.{ChargesFound};
 ghost use Rattle.version.specs.Version.{version};
-ghost use Rattle.wengeludo.specs.Calls.{SheetCall, WriteCall, ReadCall};
+ghost use Rattle.wengeludo.specs.Calls.{SheetCall, WriteCall, ReadPlantCall, ReadCall};
 
 // The version as one number: 10,000 is 1.0.0.
 #[no_mangle]
@@ -78,6 +78,41 @@ pub extern "C" fn wengeludo_write_plant(
     let done = plant_write::write_plant(plant, file);
     *written = done.written;
     done.number
+}
+
+// The plant reader: a plant file's units, how many streams it lists, and their parts at the front of eight slices, stream k + 1 at place k
+// of each, as the plant writer takes them; or a refusal number, zeros, and the slices as they were. A slice that does not hold as many as
+// there may be is refused as 1, before the file is read.
+#[no_mangle]
+pub extern "C" fn wengeludo_read_plant(
+    file: &[u8],
+    units: &mut u8,
+    count: &mut usize,
+    from: &mut [u8],
+    to: &mut [u8],
+    metered: &mut [u8],
+    weight: &mut [u16],
+    reading: &mut [i32],
+    ranged: &mut [u8],
+    low: &mut [i32],
+    high: &mut [i32],
+) -> u8
+    ensures { λ r. ⌜ ReadPlantCall file units count from to metered weight reading ranged low high r ⌝ }
+{
+    let reach = plant_parts::reached(
+        plant_parts::meters_reach(from, to, metered, weight, reading),
+        plant_parts::ranges_reach(ranged, low, high),
+    );
+    let read = plant_lent::read_lent(file, reach);
+    let plant = read.plant;
+    let listed = plant.count as usize;
+    let streams = plant.streams;
+    plant_lent::put_ends(listed, streams, from, to);
+    plant_lent::put_meters(listed, streams, metered, weight, reading);
+    plant_lent::put_ranges(listed, streams, ranged, low, high);
+    *units = plant.units;
+    *count = listed;
+    read.number
 }
 
 // The sheet reader: the kinds of a sheet's stream records, which tell the classes, and the flows at the front of two slices, how
