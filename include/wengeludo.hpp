@@ -169,6 +169,32 @@ struct parts {
     return r;
 }
 
+// Where the plant reader puts a plant's parts: as parts has them, to be written.
+struct parts_room {
+    slice<std::uint8_t> from{}, to{}, metered{};
+    slice<std::uint16_t> weight{};
+    slice<std::int32_t> reading{};
+    slice<std::uint8_t> ranged{};
+    slice<std::int32_t> low{}, high{};
+};
+
+// What the plant reader hands over beside the eight slices; both 0 where it refuses.
+struct plant_result : result {
+    std::uint8_t units;
+    std::size_t count;
+};
+
+// The plant reader.
+[[nodiscard]] inline plant_result read_plant(bytes file, const parts_room &p) noexcept
+{
+    plant_result r{};
+    r.number = refusal{wengeludo_read_plant(
+        file.data(), file.size(), &r.units, &r.count, p.from.data(), p.from.size(), p.to.data(), p.to.size(), p.metered.data(),
+        p.metered.size(), p.weight.data(), p.weight.size(), p.reading.data(), p.reading.size(), p.ranged.data(), p.ranged.size(),
+        p.low.data(), p.low.size(), p.high.data(), p.high.size())};
+    return r;
+}
+
 // What the sheet reader hands over beside its two slices; all 0 where it refuses.
 struct read_result : result {
     std::size_t count;

@@ -40,7 +40,7 @@ extern "C" {
 
 /* The version of this header. What may change between versions: CHANGELOG.md. */
 #define WENGELUDO_VERSION_MAJOR 1
-#define WENGELUDO_VERSION_MINOR 0
+#define WENGELUDO_VERSION_MINOR 1
 #define WENGELUDO_VERSION_PATCH 0
 #define WENGELUDO_VERSION (10000 * WENGELUDO_VERSION_MAJOR + 100 * WENGELUDO_VERSION_MINOR + WENGELUDO_VERSION_PATCH)
 
@@ -91,9 +91,9 @@ enum {
     /* refusals: enum, from tools/refusals.tsv */
     WENGELUDO_DONE = 0,
     WENGELUDO_SLICE_TOO_SHORT = 1,     /* a slice is too short: under 880 bytes for a sheet, 8 numbers for the offices, 1,636
-                                          bytes for a plant file, 96 elements for the sheet reader and for lists of streams, 13
-                                          for the survey, 33 for the numbers of the places; for the check of a flow, fewer
-                                          elements than streams, or numbers than places */
+                                          bytes for a plant file, 96 elements for the plant reader, the sheet reader and lists
+                                          of streams, 13 for the survey, 33 for the numbers of the places; for the check of a
+                                          flow, fewer elements than streams, or numbers than places */
     WENGELUDO_NO_SHEET_NUMBER = 2,     /* the calling office's last sheet number is 4,294,967,295 */
     WENGELUDO_FILE_ENDS = 3,           /* bytes end where a record is due or inside a body */
     WENGELUDO_KIND = 4,                /* kind not allowed at this place */
@@ -135,8 +135,8 @@ static inline const char *wengeludo_refusal_text(uint8_t number)
         return "done";
     case WENGELUDO_SLICE_TOO_SHORT:
         return "a slice is too short: under 880 bytes for a sheet, 8 numbers for the offices, 1,636 bytes for a plant file, 96 "
-               "elements for the sheet reader and for lists of streams, 13 for the survey, 33 for the numbers of the places; "
-               "for the check of a flow, fewer elements than streams, or numbers than places";
+               "elements for the plant reader, the sheet reader and lists of streams, 13 for the survey, 33 for the numbers of "
+               "the places; for the check of a flow, fewer elements than streams, or numbers than places";
     case WENGELUDO_NO_SHEET_NUMBER:
         return "the calling office's last sheet number is 4,294,967,295";
     case WENGELUDO_FILE_ENDS:
@@ -271,6 +271,34 @@ uint8_t wengeludo_write_plant(uint8_t units, size_t count,
                               const int32_t *high, size_t high_length,
                               uint8_t *file, size_t file_length,
                               size_t *written);
+
+/* The plant reader: reads a plant file into its parts, as the plant writer takes them.
+ *
+ * Reads   the file's file_length bytes.
+ * Returns 0, or one of 1, 3 to 12, 18. The order: 1, then the file's records as in the sheet call (18 after 10).
+ *         1:  one of the eight slices has fewer than 96 elements, however many streams the file lists.
+ * Writes, where it returns 0:
+ *         *units: n; *count: how many streams there are; at index k - 1 of each of the eight slices the part of stream k, counted
+ *         from 1: from and to, metered (1, or 0 for an unmetered stream), weight and reading (both 0 for an unmetered stream),
+ *         ranged (1, or 0 for a stream without a range), low and high (both 0 without a range); the elements past the last stream
+ *         keep their values.
+ * Writes, where it returns another number:
+ *         0 to *units and *count, and nothing else. All elements of the eight slices are as they were.
+ * What the two numbers were before the call makes no difference.
+ *
+ * The plant writer gives the file back, byte for byte, from what was read; and what the plant writer wrote is read as the parts that
+ * it was written from, an unmetered stream's weight, reading and range being 0 there, and low and high where there is no range.
+ */
+uint8_t wengeludo_read_plant(const uint8_t *file, size_t file_length,
+                             uint8_t *units, size_t *count,
+                             uint8_t *from, size_t from_length,
+                             uint8_t *to, size_t to_length,
+                             uint8_t *metered, size_t metered_length,
+                             uint16_t *weight, size_t weight_length,
+                             int32_t *reading, size_t reading_length,
+                             uint8_t *ranged, size_t ranged_length,
+                             int32_t *low, size_t low_length,
+                             int32_t *high, size_t high_length);
 
 /* The sheet reader: reads a kept sheet back in.
  *

@@ -69,6 +69,18 @@ static void files(void)
     expect("write_plant, no file",
            wengeludo_write_plant(1, 0, NULL, 0, NULL, 0, NULL, 0, NULL, 0, NULL, 0, NULL, 0, NULL, 0, NULL, 0, NULL, 0, &written),
            WENGELUDO_SLICE_TOO_SHORT);
+    uint8_t units, from[WENGELUDO_MAX_STREAMS], to[WENGELUDO_MAX_STREAMS], metered[WENGELUDO_MAX_STREAMS], ranged[WENGELUDO_MAX_STREAMS];
+    uint16_t weight[WENGELUDO_MAX_STREAMS];
+    int32_t reading[WENGELUDO_MAX_STREAMS], low[WENGELUDO_MAX_STREAMS], high[WENGELUDO_MAX_STREAMS];
+    size_t count;
+    const size_t most = WENGELUDO_MAX_STREAMS;
+    expect("read_plant, no file",
+           wengeludo_read_plant(NULL, 0, &units, &count, from, most, to, most, metered, most, weight, most, reading, most, ranged, most, low,
+                                most, high, most),
+           WENGELUDO_FILE_ENDS);
+    expect("read_plant, no parts",
+           wengeludo_read_plant(plant, sizeof plant, &units, &count, NULL, 0, NULL, 0, NULL, 0, NULL, 0, NULL, 0, NULL, 0, NULL, 0, NULL, 0),
+           WENGELUDO_SLICE_TOO_SHORT);
     expect("plant_from_transmitter, no file", wengeludo_plant_from_transmitter(NULL, 0, file, sizeof file, &written),
            WENGELUDO_FILE_ENDS);
     expect("plant_from_transmitter, no plant", wengeludo_plant_from_transmitter(plant, sizeof plant, NULL, 0, &written),

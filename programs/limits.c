@@ -117,6 +117,41 @@ static void slices(void)
     expect("a byte after it", wengeludo_to_ranged(file, length + 1, out, WENGELUDO_FILE_SIZE, &written), WENGELUDO_AFTER_END);
 }
 
+static uint8_t reads(const uint8_t *file, size_t length, const size_t *room, uint8_t *units, size_t *count, struct parts *p)
+{
+    return wengeludo_read_plant(file, length, units, count, p->from, room[0], p->to, room[1], p->metered, room[2], p->weight, room[3],
+                                p->reading, room[4], p->ranged, room[5], p->low, room[6], p->high, room[7]);
+}
+
+/* A part of all streams as it was written, and the element past them as it was. */
+#define READ(part)                                                               \
+    (memcmp(p.part, all.part, WENGELUDO_MAX_STREAMS * sizeof *p.part) == 0       \
+     && memcmp(p.part + WENGELUDO_MAX_STREAMS, before.part, sizeof *p.part) == 0)
+
+/* The longest plant file read into its parts, each slice as long as it must be, and each in turn one too short. */
+static void parts_read(void)
+{
+    uint8_t file[ROOM], units = 9;
+    size_t length, count = 9, room[8];
+    struct parts all = full(), p, before;
+    memset(&p, 0x55, sizeof p);
+    memset(&before, 0x55, sizeof before);
+    write_to(1, WENGELUDO_MAX_STREAMS, all, file, sizeof file, &length);
+    for (int i = 0; i < 8; i++)
+        room[i] = WENGELUDO_MAX_STREAMS;
+    for (int i = 0; i < 8; i++) {
+        room[i]--;
+        expect("a slice of parts too short", reads(file, length, room, &units, &count, &p), WENGELUDO_SLICE_TOO_SHORT);
+        expect("nothing is written", units == 0 && count == 0 && memcmp(&p, &before, sizeof p) == 0, 1);
+        room[i]++;
+    }
+    expect("the most streams read", reads(file, length, room, &units, &count, &p), 0);
+    expect("how many", units == 1 && count == WENGELUDO_MAX_STREAMS, 1);
+    expect("their ends", READ(from) && READ(to), 1);
+    expect("their meters", READ(metered) && READ(weight) && READ(reading), 1);
+    expect("their ranges", READ(ranged) && READ(low) && READ(high), 1);
+}
+
 /* A transmitter file of so many records, each of a value; its length. */
 static size_t transmitter(uint8_t *file, uint8_t records)
 {
@@ -311,6 +346,7 @@ int main(void)
 {
     plants();
     slices();
+    parts_read();
     transmitters();
     lists();
     surveys();

@@ -50,6 +50,16 @@ std::uint8_t wengeludo_write_plant(std::uint8_t units, std::size_t count, const 
     *written = 503;
     return 0;
 }
+std::uint8_t wengeludo_read_plant(const std::uint8_t *file, std::size_t n, std::uint8_t *units, std::size_t *count, std::uint8_t *from,
+                                  std::size_t fn, std::uint8_t *to, std::size_t tn, std::uint8_t *metered, std::size_t mn,
+                                  std::uint16_t *weight, std::size_t wn, std::int32_t *reading, std::size_t rn, std::uint8_t *ranged,
+                                  std::size_t gn, std::int32_t *low, std::size_t on, std::int32_t *high, std::size_t hn)
+{
+    note(file, n), note(from, fn), note(to, tn), note(metered, mn), note(weight, wn), note(reading, rn);
+    note(ranged, gn), note(low, on), note(high, hn);
+    *units = 17, *count = 518;
+    return 12;
+}
 std::uint8_t wengeludo_read_sheet(const std::uint8_t *bytes, std::size_t bn, std::uint8_t *kinds, std::size_t kn, std::int64_t *flows,
                                   std::size_t fn, std::size_t *count, std::uint8_t *kind, std::uint8_t *office, std::uint32_t *sheet,
                                   std::uint64_t *cost, std::uint8_t *degrees, std::uint8_t *verdict)
@@ -173,6 +183,11 @@ int main()
     const auto file_of = w::write_plant(p, out);
     expect("write_plant", file_of && file_of.written == 503, {of(3), of(9), of(p.from), of(p.to), of(p.metered), of(p.weight), of(p.reading),
                                                              of(p.ranged), of(p.low), of(p.high), of(out)});
+    const w::parts_room room{{b + 12, 38}, {b + 13, 39}, {b + 14, 40}, {h + 3, 41}, {i + 3, 42}, {b + 15, 43}, {i + 4, 44}, {i + 5, 45}};
+    const auto parted = w::read_plant(file, room);
+    expect("read_plant", parted.number == w::refusal::after_end && parted.units == 17 && parted.count == 518,
+           {of(file), of(room.from), of(room.to), of(room.metered), of(room.weight), of(room.reading), of(room.ranged), of(room.low),
+            of(room.high)});
     const auto read = w::read_sheet(sheet, kinds, flows);
     expect("read_sheet", read && read.count == 504 && read.kind == 31 && read.office == 5 && read.sheet == 506 && read.cost == 507 && read.degrees == 8
                              && read.verdict == w::verdict::close, {of(sheet), of(kinds), of(flows)});

@@ -61,6 +61,12 @@ int main()
     expect("read_sheet of nothing", w::read_sheet({}, streams, flows), w::refusal::sheet_record);
     expect("write_plant", w::write_plant({1, 0}, out), w::refusal::done);
     expect("write_plant of a stream that is not there", w::write_plant({1, 1}, out), w::refusal::same_place);
+    std::array<std::uint8_t, w::max_streams> from, to, metered, ranged;
+    std::array<std::uint16_t, w::max_streams> weight;
+    std::array<std::int32_t, w::max_streams> reading, low, high;
+    expect("read_plant", w::read_plant(plant, {from, to, metered, weight, reading, ranged, low, high}), w::refusal::done);
+    expect("read_plant of nothing", w::read_plant(none, {from, to, metered, weight, reading, ranged, low, high}), w::refusal::file_ends);
+    expect("read_plant into nothing", w::read_plant(plant, {}), w::refusal::slice_too_short);
     expect("plant_from_transmitter", w::plant_from_transmitter(plant, out), w::refusal::done);
     expect("to_ranged", w::to_ranged(plant, out), w::refusal::done);
     expect("from_ranged", w::from_ranged(plant, out), w::refusal::done);

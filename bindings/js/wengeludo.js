@@ -10,7 +10,7 @@
 /** What a refusal's number says. */
 export const TEXTS = Object.freeze({
     // refusals: texts, from tools/refusals.tsv
-    1: "a slice is too short: under 880 bytes for a sheet, 8 numbers for the offices, 1,636 bytes for a plant file, 96 elements for the sheet reader and for lists of streams, 13 for the survey, 33 for the numbers of the places; for the check of a flow, fewer elements than streams, or numbers than places",
+    1: "a slice is too short: under 880 bytes for a sheet, 8 numbers for the offices, 1,636 bytes for a plant file, 96 elements for the plant reader, the sheet reader and lists of streams, 13 for the survey, 33 for the numbers of the places; for the check of a flow, fewer elements than streams, or numbers than places",
     2: "the calling office's last sheet number is 4,294,967,295",
     3: "bytes end where a record is due or inside a body",
     4: "kind not allowed at this place",
@@ -53,10 +53,13 @@ export class Refusal extends Error {
 }
 
 export const SHEET_SIZE = 880, FILE_SIZE = 1636, MAX_STREAMS = 96, MAX_PLACES = 33, SURVEY_SIZE = 13, OFFICES = 8, WIDEST = 2000000000;
-export const VERSION = '1.0.0';
+export const VERSION = '1.1.0';
 export const VERDICTS = Object.freeze(['pass', 'fail', 'none', 'close']);
 const LETTERS = { 0x11: 'A', 0x12: 'R', 0x13: 'G', 0x14: 'W' };
 const PLAIN = 0x1f;
+
+// The eight slices of a plant's parts, to be written.
+const PARTS = ['u8', 'u8', 'u8', 'u16', 'i32', 'u8', 'i32', 'i32'].map((type) => `out ${type} ${MAX_STREAMS}`);
 
 // The calls, each with what it is handed, in the header's order: a slice that is read ('in'), one that is written ('out', with its
 // length), one that is both; a number; a cell for a number that it hands back. A call more is a line here and a method below.
@@ -64,6 +67,7 @@ const CALLS = Object.freeze({
     version: [],
     balance_plant: ['in u8', 'u8', 'both u32', `out u8 ${SHEET_SIZE}`, 'cell u64', 'cell u64'],
     write_plant: ['u8', 'u64', 'in u8', 'in u8', 'in u8', 'in u16', 'in i32', 'in u8', 'in i32', 'in i32', `out u8 ${FILE_SIZE}`, 'cell u64'],
+    read_plant: ['in u8', 'cell u8', 'cell u64', ...PARTS],
     read_sheet: ['in u8', `out u8 ${MAX_STREAMS}`, `out i64 ${MAX_STREAMS}`,
         'cell u64', 'cell u8', 'cell u8', 'cell u32', 'cell u64', 'cell u8', 'cell u8'],
     plant_from_transmitter: ['in u8', `out u8 ${FILE_SIZE}`, 'cell u64'],
@@ -219,18 +223,13 @@ export class Engine {
         return file.slice(0, Number(written));
     }
 
-    /** The units and streams of a plant file; the move to the ranged form decides whether it is taken. Refused: 3 to 12, 18. */
+    /** The units and streams of a plant file. Refused: 3 to 12, 18. */
     readPlant(file) {
-        this.toRanged(file);
-        const bytes = bytesOf(file), view = new DataView(bytes.buffer, bytes.byteOffset, bytes.byteLength), streams = [];
-        for (let at = 2; bytes[at] !== 0x04;) {
-            const stream = { from: bytes[at + 1], to: bytes[at + 2] }, kind = bytes[at];
-            if (kind !== 0x03) Object.assign(stream, { weight: view.getUint16(at + 3), reading: view.getInt32(at + 5) });
-            if (kind === 0x06) Object.assign(stream, { low: view.getInt32(at + 9), high: view.getInt32(at + 13) });
-            streams.push(stream);
-            at += { 2: 9, 3: 3, 6: 17 }[kind];
-        }
-        return { units: bytes[1], streams };
+        const [[units], [count], from, to, metered, weight, reading, ranged, low, high] = this.#done('read_plant', bytesOf(file));
+        const streams = [...from.slice(0, Number(count))].map((source, k) => ({
+            from: source, to: to[k], ...(metered[k] && { weight: weight[k], reading: reading[k] }), ...(ranged[k] && { low: low[k], high: high[k] }),
+        }));
+        return { units, streams };
     }
 
     #moved(name, file) {

@@ -248,6 +248,34 @@ static void write_plant(void) /* and what becomes of the file that is written */
     visits_of(moved, moved_length);
 }
 
+static void read_plant(void)
+{
+    uint8_t units = FILLER, from[WENGELUDO_MAX_STREAMS + PAST], to[COUNT(from)], metered[COUNT(from)], ranged[COUNT(from)];
+    uint16_t weight[COUNT(from)];
+    int32_t reading[COUNT(from)], low[COUNT(from)], high[COUNT(from)];
+    uint64_t count = FILLER;
+    FILL(from);
+    FILL(to);
+    FILL(metered);
+    FILL(weight);
+    FILL(reading);
+    FILL(ranged);
+    FILL(low);
+    FILL(high);
+    number(wengeludo_read_plant(file, file_length, &units, &count, from, COUNT(from), to, said(WENGELUDO_MAX_STREAMS, COUNT(to)), metered,
+                                COUNT(metered), weight, COUNT(weight), reading, COUNT(reading), ranged, COUNT(ranged), low, COUNT(low), high,
+                                said(WENGELUDO_MAX_STREAMS, COUNT(high))));
+    number(units), number(count);
+    BYTES(from);
+    BYTES(to);
+    BYTES(metered);
+    NUMBERS(weight);
+    NUMBERS(reading);
+    BYTES(ranged);
+    NUMBERS(low);
+    NUMBERS(high);
+}
+
 /* A plant with wide numbers, and a flow. */
 static struct {
     uint8_t units, from[WENGELUDO_MAX_STREAMS], to[WENGELUDO_MAX_STREAMS], metered[WENGELUDO_MAX_STREAMS], ranged[WENGELUDO_MAX_STREAMS];
@@ -306,7 +334,7 @@ static void check_flow(void) /* as it is, with a number, a flow or a weight off 
 
 static void (*const calls[])(void) = {
     version, balance_plant, read_sheet, place_numbers, check_sheet, to_ranged, from_ranged, plant_from_transmitter,
-    layouts_of, visits, meters_to_buy, charges, write_plant, check_flow,
+    layouts_of, visits, meters_to_buy, charges, write_plant, read_plant, check_flow,
 };
 
 /* The pack: each file behind its length, in four bytes, high byte first. */

@@ -65,6 +65,34 @@ void written_again(const uint8_t *file, size_t size, const struct parts *p, size
             fail("a refused writer writes");
 }
 
+static uint8_t read_call(const uint8_t *file, size_t size, size_t room, struct parts *p, uint8_t *units, size_t *count)
+{
+    return wengeludo_read_plant(file, size, units, count, p->from, room, p->to, room, p->metered, room, p->weight, room, p->reading, room,
+                                p->ranged, room, p->low, room, p->high, room);
+}
+
+void read_parts(const uint8_t *file, size_t size, uint8_t sheet_number)
+{
+    struct parts found, before;
+    uint8_t units = 99;
+    size_t count = 99;
+    memset(&before, fill(size, 0), sizeof before);
+    memset(&found, fill(size, 0), sizeof found);
+    if (read_call(file, size, WENGELUDO_MAX_STREAMS - 1, &found, &units, &count) != WENGELUDO_SLICE_TOO_SHORT || units != 0 || count != 0)
+        fail("a plant read into slices that are too short");
+    units = 99, count = 99;
+    uint8_t returned = read_call(file, size, WENGELUDO_MAX_STREAMS, &found, &units, &count);
+    if (!of_the_call(sheet_number) && returned != (sheet_number == WENGELUDO_NO_FLOW ? 0 : sheet_number))
+        fail("another number than the sheet call's, from the plant reader");
+    if (returned == 0) {
+        if (units != file[1] || count != listed(file, &before))
+            fail("units and streams of a plant that was read");
+    } else if (units != 0 || count != 0)
+        fail("a refused plant reader counts");
+    if (memcmp(&found, &before, sizeof found) != 0)
+        fail("the parts of a plant that was read");
+}
+
 /* The refusals of the writer, in their order, as the header states them; `there` streams are in all slices. */
 static uint8_t write_fault(const struct plant *a, size_t there, size_t length)
 {

@@ -93,6 +93,7 @@ static void balance(const uint8_t *data, size_t size)
         fail("two sheets differ");
     same_file(data + 2, size);
     survey(file, size, a.returned);
+    read_parts(file, size, a.returned);
     place_numbers(file, size, a.returned, &numbered);
     if (a.returned != 0 && a.returned != WENGELUDO_NO_FLOW)
         return;

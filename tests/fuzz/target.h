@@ -80,6 +80,9 @@ size_t body(uint8_t kind);
 /* The parts of a file that the reader takes, and how many streams it has. */
 size_t listed(const uint8_t *file, struct parts *p);
 
+/* The plant reader on any file: the number of the sheet call, which comes first; the parts that the file lists, and nothing past them. */
+void read_parts(const uint8_t *file, size_t size, uint8_t sheet_number);
+
 /* A file that the reader takes: its parts written again give it back. */
 void written_again(const uint8_t *file, size_t size, const struct parts *p, size_t count);
 void write_parts(const uint8_t *data, size_t size, size_t length);

@@ -68,7 +68,7 @@ pub use check::{check, Certificate, MAX_PLACES};
 pub use layouts::{layouts, MAX_SURVEYED};
 pub use moves::{from_ranged, from_ranged_into, to_ranged, to_ranged_into};
 pub use offices::{Offices, OFFICES};
-pub use plant::Plant;
+pub use plant::{Plant, Stream};
 pub use purchase::{meters_to_buy, Purchase};
 pub use raw::version;
 pub use refusal::{Places, Refusal};
@@ -79,7 +79,7 @@ pub use wide::{WidePlant, MAX_WIDE_FLOW, MAX_WIDE_NUMBER, MAX_WIDE_READING, MAX_
 
 /// The version of this crate, a number like [`version`]'s: 10,000 is 1.0.0. Building it against an archive of another major
 /// version, or of a lower minor one, fails.
-pub const VERSION: u32 = 10_000;
+pub const VERSION: u32 = 10_100;
 
 /// The least sheet slice that is taken.
 pub const SHEET_SIZE: usize = 880;

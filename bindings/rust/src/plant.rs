@@ -1,9 +1,9 @@
 // SPDX-License-Identifier: LicenseRef-Wengeludo
 //! A builder for plants.
 
-use crate::raw::{self, Parts};
+use crate::raw::{self, Parts, PartsRoom};
 use crate::refusal::Refusal;
-use crate::FILE_SIZE;
+use crate::{FILE_SIZE, MAX_STREAMS};
 
 /// A plant: its units, numbered from 1, and its streams. Place 0 is the outside. Any values are taken here; what is
 /// wrong with them is said when the file is written.
@@ -28,10 +28,95 @@ pub struct Plant {
     high: Vec<i32>,
 }
 
+/// A stream of a plant.
+#[derive(Clone, Copy, Debug, PartialEq, Eq)]
+pub struct Stream {
+    /// Where it comes from; 0 is the outside.
+    pub from: u8,
+    /// Where it goes.
+    pub to: u8,
+    /// Its meter's weight and reading, None if it is unmetered.
+    pub meter: Option<(u16, i32)>,
+    /// The least and the greatest flow in its range, None if it has none.
+    pub range: Option<(i32, i32)>,
+}
+
 impl Plant {
     /// A plant without streams.
     pub fn new(units: u8) -> Plant {
         Plant { units, ..Plant::default() }
+    }
+
+    /// The plant of a plant file: what [`Plant::file`] writes is read as the plant itself, and a file that is read is written again
+    /// byte for byte.
+    ///
+    /// ```
+    /// use wengeludo_balance::{Plant, Refusal};
+    /// let plant = Plant::new(1).metered_within(0, 1, 10, 7, -1, 9).unmetered(1, 0);
+    /// assert_eq!(Plant::from_file(&plant.file()?)?, plant);
+    /// assert_eq!(Plant::from_file(&[1, 1]), Err(Refusal::FileEnds));
+    /// # Ok::<(), Refusal>(())
+    /// ```
+    pub fn from_file(file: &[u8]) -> Result<Plant, Refusal> {
+        let (mut units, mut count) = (0, 0);
+        let mut plant = Plant::with_room(MAX_STREAMS);
+        let room = PartsRoom {
+            from: &mut plant.from,
+            to: &mut plant.to,
+            metered: &mut plant.metered,
+            weight: &mut plant.weight,
+            reading: &mut plant.reading,
+            ranged: &mut plant.ranged,
+            low: &mut plant.low,
+            high: &mut plant.high,
+        };
+        Refusal::check(raw::read_plant(file, &mut units, &mut count, room))?;
+        plant.units = units;
+        plant.cut(count);
+        Ok(plant)
+    }
+
+    /// So many empty streams.
+    fn with_room(count: usize) -> Plant {
+        let bytes = vec![0; count];
+        let numbers = vec![0; count];
+        Plant {
+            units: 0,
+            from: bytes.clone(),
+            to: bytes.clone(),
+            metered: bytes.clone(),
+            weight: vec![0; count],
+            reading: numbers.clone(),
+            ranged: bytes,
+            low: numbers.clone(),
+            high: numbers,
+        }
+    }
+
+    /// Keeps the first so many streams.
+    fn cut(&mut self, count: usize) {
+        for bytes in [&mut self.from, &mut self.to, &mut self.metered, &mut self.ranged] {
+            bytes.truncate(count);
+        }
+        self.weight.truncate(count);
+        for numbers in [&mut self.reading, &mut self.low, &mut self.high] {
+            numbers.truncate(count);
+        }
+    }
+
+    /// How many units there are.
+    pub fn units(&self) -> u8 {
+        self.units
+    }
+
+    /// Stream k, counted from 0, by its parts; None past the last.
+    pub fn stream_at(&self, k: usize) -> Option<Stream> {
+        Some(Stream {
+            from: *self.from.get(k)?,
+            to: *self.to.get(k)?,
+            meter: (*self.metered.get(k)? != 0).then(|| (self.weight[k], self.reading[k])),
+            range: (*self.ranged.get(k)? != 0).then(|| (self.low[k], self.high[k])),
+        })
     }
 
     /// Adds a metered stream: from, to, weight (1,000 divided by the variance, 1 to 1,000), reading in kg per hour.

@@ -39,6 +39,28 @@ extern "C" {
         file_length: usize,
         written: *mut usize,
     ) -> u8;
+    fn wengeludo_read_plant(
+        file: *const u8,
+        file_length: usize,
+        units: *mut u8,
+        count: *mut usize,
+        from: *mut u8,
+        from_length: usize,
+        to: *mut u8,
+        to_length: usize,
+        metered: *mut u8,
+        metered_length: usize,
+        weight: *mut u16,
+        weight_length: usize,
+        reading: *mut i32,
+        reading_length: usize,
+        ranged: *mut u8,
+        ranged_length: usize,
+        low: *mut i32,
+        low_length: usize,
+        high: *mut i32,
+        high_length: usize,
+    ) -> u8;
     fn wengeludo_read_sheet(
         bytes: *const u8,
         bytes_length: usize,
@@ -222,6 +244,58 @@ pub fn write_plant(parts: Parts, file: &mut [u8], written: &mut usize) -> u8 {
             file.as_mut_ptr(),
             file.len(),
             written,
+        )
+    }
+}
+
+/// Where the plant reader puts a plant's parts, one slice for each, as [`Parts`] has them.
+#[derive(Debug)]
+pub struct PartsRoom<'a> {
+    /// Where each stream comes from; 0 is the outside.
+    pub from: &'a mut [u8],
+    /// Where each stream goes.
+    pub to: &'a mut [u8],
+    /// 1 for a metered stream, 0 for an unmetered one.
+    pub metered: &'a mut [u8],
+    /// The meter's weight.
+    pub weight: &'a mut [u16],
+    /// The meter's reading.
+    pub reading: &'a mut [i32],
+    /// 1 for a stream with a range, 0 for one without.
+    pub ranged: &'a mut [u8],
+    /// The least flow in range.
+    pub low: &'a mut [i32],
+    /// The greatest flow in range.
+    pub high: &'a mut [i32],
+}
+
+/// The plant reader. 0: the parts of each stream are at the front of the eight slices, `units` and `count` say how many units and
+/// streams there are. Another number: a refusal; `units` and `count` are 0, the slices are as they were. Slices with room for fewer
+/// than 96 elements are refused as 1.
+pub fn read_plant(file: &[u8], units: &mut u8, count: &mut usize, room: PartsRoom) -> u8 {
+    // SAFETY: as above.
+    unsafe {
+        wengeludo_read_plant(
+            file.as_ptr(),
+            file.len(),
+            units,
+            count,
+            room.from.as_mut_ptr(),
+            room.from.len(),
+            room.to.as_mut_ptr(),
+            room.to.len(),
+            room.metered.as_mut_ptr(),
+            room.metered.len(),
+            room.weight.as_mut_ptr(),
+            room.weight.len(),
+            room.reading.as_mut_ptr(),
+            room.reading.len(),
+            room.ranged.as_mut_ptr(),
+            room.ranged.len(),
+            room.low.as_mut_ptr(),
+            room.low.len(),
+            room.high.as_mut_ptr(),
+            room.high.len(),
         )
     }
 }

@@ -29,8 +29,8 @@ impl Places {
 pub enum Refusal {
     // refusals: enum, from tools/refusals.tsv
     /// A slice is too short: under 880 bytes for a sheet, 8 numbers for the offices, 1,636 bytes for a plant file, 96 elements
-    /// for the sheet reader and for lists of streams, 13 for the survey, 33 for the numbers of the places; for the check of a
-    /// flow, fewer elements than streams, or numbers than places.
+    /// for the plant reader, the sheet reader and lists of streams, 13 for the survey, 33 for the numbers of the places; for the
+    /// check of a flow, fewer elements than streams, or numbers than places.
     SliceTooShort,
     /// The calling office's last sheet number is 4,294,967,295.
     NoSheetNumber,
@@ -96,7 +96,7 @@ const ALL: [(u8, Refusal, &str); 26] = [
     (
         1,
         Refusal::SliceTooShort,
-        "a slice is too short: under 880 bytes for a sheet, 8 numbers for the offices, 1,636 bytes for a plant file, 96 elements for the sheet reader and for lists of streams, 13 for the survey, 33 for the numbers of the places; for the check of a flow, fewer elements than streams, or numbers than places",
+        "a slice is too short: under 880 bytes for a sheet, 8 numbers for the offices, 1,636 bytes for a plant file, 96 elements for the plant reader, the sheet reader and lists of streams, 13 for the survey, 33 for the numbers of the places; for the check of a flow, fewer elements than streams, or numbers than places",
     ),
     (2, Refusal::NoSheetNumber, "the calling office's last sheet number is 4,294,967,295"),
     (3, Refusal::FileEnds, "bytes end where a record is due or inside a body"),

@@ -7,7 +7,7 @@ major = 1
 
 -- by one that adds to what there is,
 abbrev pub minor : ℕ
-minor = 0
+minor = 1
 
 -- and by any other.
 abbrev pub patch : ℕ

@@ -10,8 +10,9 @@ from typing import Iterable, Optional, Sequence, Tuple
 from ._slices import ffi, fitting, given, lent, lib, out, raise_for
 
 FILE_SIZE = lib.WENGELUDO_FILE_SIZE
+MAX_STREAMS = lib.WENGELUDO_MAX_STREAMS
 WIDEST = lib.WENGELUDO_MAX_RANGE
-_SITE, _METERED, _UNMETERED, _END, _RANGED = 0x01, 0x02, 0x03, 0x04, 0x06
+_SITE, _END = 0x01, 0x04
 
 
 @dataclass(frozen=True)
@@ -112,24 +113,19 @@ def write_plant(units: int, streams: Sequence[Stream]) -> bytes:
 
 
 def read_plant(file: bytes) -> Plant:
-    """The units and streams of a plant file. Refused: 3 to 12, 18.
+    """The units and streams of a plant file. Refused: 3 to 12, 18."""
+    columns = [out(kind, MAX_STREAMS) for kind in ("uint8_t", "uint8_t", "uint8_t", "uint16_t", "int32_t", "uint8_t", "int32_t", "int32_t")]
+    units, count = ffi.new("uint8_t *"), ffi.new("size_t *")
+    slices = [part for column in columns for part in lent(column)]
+    raise_for(lib.wengeludo_read_plant(*given(file), units, count, *slices))
+    rows = zip(*(column[0 : count[0]] for column in columns))
+    return Plant(units[0], tuple(_stream(*row) for row in rows))
 
-    The archive exports no reader: the move to the ranged form, which reads as the plant reader does, decides whether the file is
-    taken, and the records are then told apart here.
-    """
-    to_ranged(file)
-    streams, at = [], 2
-    while file[at] != _END:
-        source, target = file[at + 1], file[at + 2]
-        if file[at] == _UNMETERED:
-            streams.append(Stream(source, target))
-            at += 3
-            continue
-        weight, reading = struct.unpack_from(">Hi", file, at + 3)
-        low, high = struct.unpack_from(">ii", file, at + 9) if file[at] == _RANGED else (None, None)
-        streams.append(Stream(source, target, weight, reading, low, high))
-        at += 17 if file[at] == _RANGED else 9
-    return Plant(file[1], tuple(streams))
+
+def _stream(source: int, target: int, metered: int, weight: int, reading: int, ranged: int, low: int, high: int) -> Stream:
+    if not metered:
+        return Stream(source, target)
+    return Stream(source, target, weight, reading, low, high) if ranged else Stream(source, target, weight, reading)
 
 
 def _moved(call: str, file: bytes) -> bytes:

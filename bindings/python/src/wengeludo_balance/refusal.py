@@ -7,7 +7,7 @@ from typing import FrozenSet
 
 TEXTS = {
     # refusals: texts, from tools/refusals.tsv
-    1: "a slice is too short: under 880 bytes for a sheet, 8 numbers for the offices, 1,636 bytes for a plant file, 96 elements for the sheet reader and for lists of streams, 13 for the survey, 33 for the numbers of the places; for the check of a flow, fewer elements than streams, or numbers than places",
+    1: "a slice is too short: under 880 bytes for a sheet, 8 numbers for the offices, 1,636 bytes for a plant file, 96 elements for the plant reader, the sheet reader and lists of streams, 13 for the survey, 33 for the numbers of the places; for the check of a flow, fewer elements than streams, or numbers than places",
     2: "the calling office's last sheet number is 4,294,967,295",
     3: "bytes end where a record is due or inside a body",
     4: "kind not allowed at this place",
