@@ -12,6 +12,7 @@ mod foreign;
 mod layouts;
 mod moves;
 mod offices;
+mod parts;
 mod purchases;
 mod reference;
 mod shrink;

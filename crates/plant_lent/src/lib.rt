@@ -8,8 +8,7 @@ ghost use lib.ListN.{length};
 ghost use Rattle.num_bytes.specs.Choice.{pick};
 ghost use Rattle.plant_def.specs.Limits.{maxStreams};
 ghost use Rattle.plant_def.specs.Says.{readOf};
-ghost use Rattle.plant_lent.specs.Lent.{fromOf, toOf, meteredOf, weightOf, readingOf, rangedOf, lowOf, highOf};
-ghost use Rattle.plant_lent.specs.Inner.{readLent, Front};
+ghost use Rattle.plant_lent.specs.Inner.{readLent, Front, fromOf, toOf, meteredOf, weightOf, readingOf, rangedOf, lowOf, highOf};
 
 // The reading, where every slice reaches as many streams as there may be.
 pub fn read_lent(file: &[u8], reach: usize) -> Read

@@ -45,24 +45,28 @@ read c = c .before .before .before .before .before
 put-ends-requires : tie.Need-put-ends-requires
 put-ends-requires c κs = let q = room (read c) in (q .room, q .from-there, q .to-there)
 
+-- The places of the calls that put parts, from those behind them.
+abbrev ends-put : tie.After-put-meters-arg3 → tie.After-put-ends
+ends-put c =
+    let args = c .before .before .before in
+    args .before .before .before .before
+
+abbrev meters-put : tie.After-put-ranges-arg3 → tie.After-put-meters
+meters-put c =
+    let args = c .before .before .before in
+    args .before .before .before .before .before
+
 put-meters-requires : tie.Need-put-meters-requires
-put-meters-requires c κs =
-    let after-put-ends = c .before .before .before .before .before .before .before in
-    let q = room (read (after-put-ends .before)) in
-    (q .room, q .metered-there, q .weight-there, q .reading-there)
+put-meters-requires c κs = let q = room (read (ends-put c .before)) in (q .room, q .metered-there, q .weight-there, q .reading-there)
 
 put-ranges-requires : tie.Need-put-ranges-requires
-put-ranges-requires c κs =
-    let after-put-meters = c .before .before .before .before .before .before .before .before in
-    let after-put-ends = after-put-meters .before .before .before .before .before .before .before .before in
-    let q = room (read (after-put-ends .before)) in
-    (q .room, q .ranged-there, q .low-there, q .high-there)
+put-ranges-requires c κs = let q = room (read (ends-put (meters-put c .before) .before)) in (q .room, q .ranged-there, q .low-there, q .high-there)
 
 returns : tie.Need-returns
 returns c =
     let after-put-ranges = c .before .before .before .before in
-    let after-put-meters = after-put-ranges .before .before .before .before .before .before .before .before .before in
-    let after-put-ends = after-put-meters .before .before .before .before .before .before .before .before in
+    let after-put-meters = meters-put (after-put-ranges .before) in
+    let after-put-ends = ends-put (after-put-meters .before) in
     let after-read-lent = read (after-put-ends .before) in
     let after-reached = after-read-lent .before in
     let file = now (began after-reached .args .file) in
