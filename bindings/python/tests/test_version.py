@@ -20,7 +20,7 @@ ASKED = "import wengeludo_balance as w; print(w.version())"
 UNKNOWN = """
 import wengeludo_balance as w
 file = bytes.fromhex("01010400")
-tried = [lambda: w.balance_plant(file), lambda: w.read_sheet(file), lambda: w.write_plant(1, []), lambda: w.to_ranged(file),
+tried = [lambda: w.balance_plant(file), lambda: w.read_sheet(file), lambda: w.write_plant(1, []), lambda: w.read_plant(file), lambda: w.to_ranged(file),
          lambda: w.from_ranged(file), lambda: w.plant_from_transmitter(file), lambda: w.meters_to_buy(file, []), lambda: w.layouts_of(file),
          lambda: w.visits(file), lambda: w.charges(file, []), lambda: w.place_numbers(file), lambda: w.check_sheet(file, file, []),
          lambda: w.check_flow(w.WidePlant(1), [], [0, 0])]

@@ -16,6 +16,7 @@ fn nothing_is_taken_for_done() {
     assert_eq!(offices.draw(0, &file), Err(unknown));
     assert_eq!(offices.draw_into(0, &file, &mut [0; SHEET_SIZE]), Err(unknown));
     assert_eq!(Plant::new(1).file(), Err(unknown));
+    assert_eq!(Plant::from_file(&file), Err(unknown));
     assert_eq!(Sheet::from_bytes(&[0x1F]), Err(unknown));
     assert_eq!(plant_from_transmitter(&file), Err(unknown));
     assert_eq!(to_ranged(&file), Err(unknown));

@@ -17,6 +17,7 @@ from ._version import __version__, version
 from .meters import Bill, Purchase, Visit, charges, layouts_of, meters_to_buy, visits
 from .plant import (
     FILE_SIZE,
+    MAX_STREAMS,
     WIDEST,
     Fault,
     Plant,
@@ -33,7 +34,6 @@ from .plant import (
 from .refusal import TEXTS, Refusal
 from .row_sheets import ADJUSTED, AS_READ, FAULT, GIVEN, HELD, MEASURED, WITHHELD, Rows, deviation_for, rows
 from .sheet import (
-    MAX_STREAMS,
     NO_SHEETS,
     OFFICES,
     SHEET_SIZE,

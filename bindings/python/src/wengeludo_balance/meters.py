@@ -7,7 +7,7 @@ from dataclasses import dataclass
 from typing import Sequence, Tuple
 
 from ._slices import ffi, fitting, given, lent, lib, out, raise_for
-from .sheet import MAX_STREAMS
+from .plant import MAX_STREAMS
 
 
 @dataclass(frozen=True)

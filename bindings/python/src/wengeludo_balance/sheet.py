@@ -8,10 +8,10 @@ from enum import Enum, IntEnum
 from typing import Optional, Sequence, Tuple
 
 from ._slices import ffi, fitting, given, lent, lib, out, raise_for
+from .plant import MAX_STREAMS
 from .refusal import Refusal
 
 SHEET_SIZE = lib.WENGELUDO_SHEET_SIZE
-MAX_STREAMS = lib.WENGELUDO_MAX_STREAMS
 PLACES = lib.WENGELUDO_MAX_UNITS + 1
 OFFICES = 8
 NO_SHEETS = (0,) * OFFICES
