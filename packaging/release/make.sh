@@ -36,10 +36,13 @@ bash packaging/cross/build.sh wasm32 "$work/js/wengeludo.wasm" >/dev/null
 ./dev archive --of wasm32 "$work/js/wengeludo.wasm"
 cp bindings/js/{wengeludo.js,wengeludo.d.ts,package.json,README.md} LICENCE "$work/js/"
 stamp=$(git log -1 --format=%ct)
-tar -C "$work" --sort=name --mtime="@$stamp" --owner=0 --group=0 --numeric-owner -cf - js | gzip -n9 >"$parts/wengeludo-js-$version.tar.gz"
+packed() { tar -C "$1" --sort=name --mtime="@$stamp" --owner=0 --group=0 --numeric-owner --mode=go-w -cf - "$2" | gzip -n9; } # where, folder: the same bytes each time
+packed "$work" js >"$parts/wengeludo-js-$version.tar.gz"
 cp -r bindings/python "$work/python"
 (cd "$work/python" && WENGELUDO_INCLUDE=$OLDPWD/include WENGELUDO_ARCHIVE=$OLDPWD/target/staticlib/libwengeludo.a SOURCE_DATE_EPOCH=$stamp \
-    /usr/bin/python3 setup.py -q sdist -d "$parts" bdist_wheel -d "$parts" >/dev/null 2>"$work/log") || { cat "$work/log" >&2; fail "no Python package"; }
+    CFLAGS=-g0 LDFLAGS=-s /usr/bin/python3 setup.py -q sdist -d "$parts" bdist_wheel -d "$parts" >/dev/null 2>"$work/log") || { cat "$work/log" >&2; fail "no Python package"; }
+tar -xzf "$parts/wengeludo_balance-$version.tar.gz" -C "$work"
+packed "$work" "wengeludo_balance-$version" >"$parts/wengeludo_balance-$version.tar.gz"
 WENGELUDO_WASM=$work/js/wengeludo.wasm bash packaging/debian/build.sh "$parts" >/dev/null
 python3 packaging/release/sbom.py "$parts" >"$work/sbom.spdx.json"
 mv "$work/sbom.spdx.json" "$parts/"
