@@ -45,6 +45,10 @@ stream() { printf '\006\000\001\000\001\000\000\000\000\000\000\000\000\000\000\
 { printf '\001\001'; for _ in {1..96}; do printf '\003\001\000'; done; printf '\004\140'; } >"$work/bare" # all to the outside, without meters
 { printf '\001\040\006\000\040\000\001\000\000\000\005\000\000\000\001\000\000\000\011\004\001'; } >"$work/dead_end" # at least 1 into unit 32
 uses 'FILE [LAST [OFFICE]]'
+for word in 'sheet number' office; do
+    "$program" samples/listing.bin $([ "$word" = office ] && echo 0) x 2>"$work/said" >/dev/null || true
+    grep -q "\b$word\b" "$work/said" && ! grep -q '~' "$work/said" || { echo "of a wrong $word it says: $(cat "$work/said")" >&2; failed=1; }
+done
 listing=samples/listing.bin
 head -c 20 "$listing" >"$work/cut"
 cut=$'refused 3\nat byte 20, stream 4' longer=$'refused 12\nat byte 1636' # what every program says of these two
@@ -215,6 +219,7 @@ program=$folder/check_flow
 [ -x "$program" ] || { echo "no $program: build it with 'bash programs/build.sh'" >&2; exit 2; }
 wide=samples/wide_site.flow
 other() { sed "$2" "$wide" >"$work/wide_$1"; echo "$work/wide_$1"; } # name, a change of the sample
+uses 'FLOW'
 expect 0 $'passes\ncost 2535198345492880289' "$wide"
 expect 0 $'passes\ncost 2535198345492880289' "$(other blanks 's/ /\t /g; s/$/ # a word/')"
 expect 1 'refused 26' "$(other number 's/^number 1 .*/number 1 0/')"

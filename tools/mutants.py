@@ -161,9 +161,15 @@ def statement(name, line):
     return best
 
 
+def in_function(name, line):
+    """Whether a line is run by calls; others are run once, by whichever test is the first to import the file."""
+    tree = ast.parse((ROOT / name).read_text(encoding='utf-8')) if name.endswith('.py') else ast.Module([], [])
+    return any(node.body[0].lineno <= line <= node.end_lineno for node in ast.walk(tree) if isinstance(node, (ast.FunctionDef, ast.AsyncFunctionDef)))
+
+
 def tests(tree, known, part, name, line):
     """The part with the tests that run a line, if there is a map; the copy waits for them no longer than they can take."""
-    found = (seen.tests(tree, known, name, statement(name, line)) or tree.desk_files(name)[:4]) if known and part == 'desk' else []
+    found = (seen.tests(tree, known, name, statement(name, line) if in_function(name, line) else ()) or tree.desk_files(name)[:4]) if known and part == 'desk' else []
     tree.seconds = 60 + 4 * seen.SECONDS if found and not tree.long else 900
     return ' '.join((part, *found, *(tree.browsed(name) if found and tree.long else ())))
 

@@ -14,7 +14,7 @@ from pathlib import Path
 from tried import PYTHON
 
 PACKAGE = 'desk/src/wengeludo'
-SECONDS = 25  # tests that take longer together are cut off: that can only leave a change unseen
+SECONDS = 60  # tests that take longer together are cut off: that can only leave a change unseen
 WHOLE = ('tests/test_stories.py', 'tests/test_golden.py')  # whole outputs: never cut off
 SETTINGS_TESTS = ('tests/test_settings.py', 'tests/test_stories.py::test_lists')  # the constants of every module, the options of every command
 SCRIPTS = ['tests/test_scripts.py', 'tests/test_shown.py']  # what runs the pages' scripts
@@ -105,7 +105,7 @@ def tests(tree, seen, name, lines):
     found = seen['files'].get(name, {})
     own = {one for line in lines for one in found.get(str(line), ())}
     taken = [] if own else [*SETTINGS_TESTS, *importing(tree, name)]
-    every = sorted(own or {one for some in found.values() for one in some}, key=seen['seconds'].get)
+    every = sorted(own or {one for some in found.values() for one in some}, key=lambda one: (not one.startswith(WHOLE), seen['seconds'].get(one, 0)))
     spent = 0.0
     for one in every:
         spent += seen['seconds'][one]

@@ -259,3 +259,19 @@ def test_a_drawing_is_laid_out_once_for_a_plan(run, tmp_path, monkeypatch):
     assert run("open", book, "1", "-o", tmp_path / "one.svg").status == 0 and len(laid) == 1
     assert run("open", book, "2", "-o", tmp_path / "two.svg", "-o", tmp_path / "two.html").status == 0 and len(laid) == 1
     assert (tmp_path / "one.svg").read_bytes() == (tmp_path / "two.svg").read_bytes()
+
+
+def test_an_office_is_checked_some_entries_at_a_time(run, tmp_path, monkeypatch):
+    """Sheets and remarks in their order, whatever the number that is read at once."""
+    from wengeludo.keep import check as checks
+
+    for _ in range(5):
+        run("keep", SAMPLES / "listing.csv", tmp_path / "a.book")
+    run("book", "annul", tmp_path / "a.book", "2", "--reason", "once")
+    monkeypatch.setattr(checks, "_SHEETS", checks._SHEETS.replace(f"LIMIT {checks.SOME}", "LIMIT 2"))
+    monkeypatch.setattr(checks, "SOME", 2)
+    with Book(tmp_path / "a.book") as book:
+        at = book.offices()[0]
+        parts = list(checks._entries(book, at))
+        assert [[getattr(one, "entry", None) or one[1] for one in part] for part in parts] == [[1, 2], [3, 4], [5, 6]]
+        assert checks.check(book) == []

@@ -373,3 +373,8 @@ def test_an_idle_pipe_has_a_floor(run, listed, tmp_path):
     path = listed("stream,from,to,tag,accuracy\n1,outside,a,T,2%\n2,a,outside,K,2%\n")
     assert "a share of a reading of 0" in run("history", path, tmp_path / "export.csv").err
     assert run("history", path, tmp_path / "export.csv", "--floor", "5").status == 0
+
+
+def test_the_legend_of_a_drift_has_a_long_name_on_two_lines():
+    drawn = charts._drift_legend("17 condensate of the heating station in the north", 100.0, True)
+    assert re.findall(r'y="([\d.]+)"[^>]*>([^<]+)<', drawn)[:4] == [("112.0", "17"), ("127.0", "condensate of the heating"), ("141.0", "station in the north"), ("164.0", "reading − balanced, kg/h")]

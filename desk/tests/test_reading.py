@@ -385,3 +385,9 @@ def test_hidden_worksheets_up_to_the_last_that_is_read_are_told(listed):
         sheet.append(["unit", "x", "y"])
         sheet.sheet_state = "hidden" if hidden else "visible"
     assert read_list(listed(saved(book), "a.xlsx")).told == ("the hidden worksheet before was not read",)
+
+
+def test_a_worksheet_with_too_many_cells_is_told(run, monkeypatch):
+    monkeypatch.setattr("wengeludo.read.workbooks.MOST_CELLS", 12)
+    ended = run("sheet", SAMPLES / "steam_site.xlsx")
+    assert ended.status == 1 and ended.err.endswith("steam_site.xlsx: the file has a worksheet of more than 12 cells: a list has at most 96 streams\n")

@@ -21,6 +21,9 @@ quiet bash install.sh "$prefix"
 quiet bash install.sh "$prefix" # a second time over the first
 grep -qE "^ *export PKG_CONFIG_PATH=$prefix/lib/pkgconfig CMAKE_PREFIX_PATH=$prefix LD_LIBRARY_PATH=$prefix/lib\$" "$work/log" || fail "install.sh does not say what to export"
 version=$(sed -n 's/^Version: //p' "$prefix/lib/pkgconfig/wengeludo.pc")
+manifest=$prefix/share/wengeludo/manifest-$version
+grep -qxF "install: wengeludo $version in $prefix ($(wc -l <"$manifest") files, listed in $manifest); if the system does not look there by itself:" "$work/log" ||
+    fail "install.sh does not say what it has put where"
 export PKG_CONFIG_PATH=$prefix/lib/pkgconfig LD_LIBRARY_PATH=$prefix/lib
 
 # The shared library: its name, and the calls of the headers and nothing else.
@@ -152,7 +155,8 @@ cp target/staticlib/libwengeludo.a "$work/other.a"
 chmod u+w "$work/other.a"
 echo 'int other;' | "${CC:-cc}" -x c -c - -o "$work/other.o" && ar rcs "$work/other.a" "$work/other.o"
 if WENGELUDO_ARCHIVE=$work/other.a bash install.sh "$work/refused" >"$work/log" 2>&1; then fail "an archive that is not the recorded one is taken"; fi
-grep -q 'is not the archive that docs/MEASURED.md records' "$work/log" || { cat "$work/log" >&2; fail "what is said of another archive"; }
+sum=$(sha256sum <"$work/other.a" | cut -d' ' -f1)
+grep -qxF "install: $work/other.a is not the archive that docs/MEASURED.md records ($sum); --unproved installs it all the same" "$work/log" || { cat "$work/log" >&2; fail "what is said of another archive"; }
 [ ! -e "$work/refused" ] || fail "something of an archive that is refused is installed"
 quiet env WENGELUDO_ARCHIVE="$work/other.a" bash install.sh --unproved "$work/refused"
 grep -q '^install: UNPROVED: ' "$work/log" || fail "an archive without proof is not told"
@@ -168,6 +172,8 @@ echo other >"$two/lib/libwengeludo.so.9.9.9"
 ln -sf libwengeludo.so.9.9.9 "$two/lib/libwengeludo.so"
 grep ' .*/LICENCE$' "$two/share/wengeludo/manifest-$version" >"$two/share/wengeludo/manifest-9.9.9"
 quiet bash install.sh --uninstall "$two"
+grep -qE "^install: [0-9]+ files of wengeludo $version taken away from $two, 2 left that are another version's or were changed\$" "$work/log" ||
+    { cat "$work/log" >&2; fail "install.sh does not say what it has left"; }
 (cd "$two" && find . ! -type d | sort | tr '\n' ' ') >"$work/log"
 [ "$(cat "$work/log")" = "./lib/libwengeludo.so ./lib/libwengeludo.so.9.9.9 ./share/doc/wengeludo/LICENCE ./share/wengeludo/manifest-9.9.9 " ] ||
     fail "after --uninstall of one of two versions there is $(cat "$work/log")"
@@ -184,7 +190,9 @@ if command -v aarch64-linux-gnu-gcc >/dev/null && [ -e target/cross/aarch64.a ];
 fi
 
 # Away again.
+count=$(wc -l <"$manifest")
 quiet bash install.sh --uninstall "$prefix"
+[ "$(cat "$work/log")" = "install: $count files of wengeludo $version taken away from $prefix" ] || { cat "$work/log" >&2; fail "what is said of an uninstall"; }
 quiet env DESTDIR="$work/dest" LIBDIR=lib/x86_64-linux-gnu bash install.sh --uninstall /usr
 left=$(find "$prefix" "$work/dest" ! -type d)
 [ -z "$left" ] || fail "left after --uninstall: $left"

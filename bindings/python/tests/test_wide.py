@@ -128,6 +128,12 @@ def test_engine_s_numbers_pass():
     assert met > DRAWN / 20
 
 
+def test_places_that_take_in_as_much_as_they_let_out_are_not_overfull():
+    for high, over in ((4, True), (5, False), (6, False)):
+        plant = w.WidePlant(1, (w.Stream(0, 1, 1, 5, 5, 9), w.Stream(1, 0, 1, 5, 0, high)))
+        assert w.overfull(plant, {1}) == over
+
+
 def test_overfull_places_are_counted():
     rng, met = random.Random(44), 0
     for _ in range(DRAWN):

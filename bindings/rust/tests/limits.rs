@@ -56,6 +56,9 @@ fn transmitters() {
     assert_eq!(signals(MAX_STREAMS).len(), 1_444);
     assert!(plant_from_transmitter(&signals(MAX_STREAMS)).is_ok());
     assert_eq!(plant_from_transmitter(&signals(MAX_STREAMS + 1)), Err(Refusal::TooManyStreams));
+    for count in [255, 256, 257, 300] {
+        assert_eq!(signals(count).last(), Some(&255));
+    }
 }
 
 #[test]
