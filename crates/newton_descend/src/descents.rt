@@ -1,5 +1,6 @@
 // Newton's method on the dual of the real-number problem: potentials whose clamped amounts balance. What they cost is convex and its slope
 // along a direction is the sum of nets times changes, which rises; so a step is as long as the slope is not above 0.
+use crate::guesses::guess;
 use crate::nets::advance;
 use crate::nets::greatest_net;
 use crate::nets::moved;
@@ -19,6 +20,9 @@ ghost use Rattle.newton_descend.specs.Descents.{slopeAt, lengthBetween, 
 
 // How many steps there are at most, how near to 0 the nets have to come, and how often the length of a step is sought.
 const STEPS: usize = 23;
+
+// What is left of a division by 4 at the second step.
+const SECOND: usize = 2;
 
 const NEAR: f64 = 4.0;
 
@@ -117,7 +121,26 @@ fn step_length(
     b.short
 }
 
+// A guess at every fourth step from the second on; else 0. At the first one few sets of streams are at the ends of their ranges, and a
+// guess at each step would slow plants whose ranges can be kept.
+fn guess_at(
+    left: usize,
+    ends: &[u8; ENDS],
+    meters: &[f64; METERS],
+    count: usize,
+    way: &[f64; PLACES],
+    n: usize,
+) -> u64
+    requires { ⌜ Gathered n (now ends) (now meters) count ⌝ }
+{
+    if left % 4 != SECOND {
+        return 0;
+    }
+    guess(ends, meters, count, way, n)
+}
+
 // Real potentials of n places, one for each label: at first without ranges, by equations that are empty, then step by step with them.
+// Where a set of labels looks overfull, that set as bits; else 0.
 pub fn descend(
     a: &mut [f64],
     ends: &[u8; ENDS],
@@ -125,7 +148,7 @@ pub fn descend(
     count: usize,
     n: usize,
     potentials: &mut [f64; PLACES],
-)
+) -> u64
     requires { ⌜ Gathered n (now ends) (now meters) count × Fits n (now a) × (length (now potentials) ≡ places) ⌝ }
     ensures { λ _. ⌜ length (now (potentials .exit)) ≡ places ⌝ }
 {
@@ -136,15 +159,20 @@ pub fn descend(
     while 0 < left {
         nets_at(ends, meters, count, potentials, &mut nets);
         if greatest_net(&nets, n) < NEAR {
-            return;
+            return 0;
         }
         direction(a, ends, meters, count, n, potentials, &mut way);
         let first = product(&nets, &way, n);
         if !(first < 0.0) {
-            return;
+            return 0;
+        }
+        let bits = guess_at(left, ends, meters, count, &way, n);
+        if bits != 0 {
+            return bits;
         }
         let t = step_length(ends, meters, count, potentials, &way, n, first);
         advance(potentials, &way, t, n);
         left -= 1;
     }
+    0
 }

@@ -1,5 +1,6 @@
 // Potentials of places (node potentials) at which the real-number optimum of a plant balances, made whole.
 use descents::descend;
+use guesses::places_of;
 use newton_laplacian::ENDS;
 use newton_laplacian::METERS;
 use newton_laplacian::equations::CELLS;
@@ -17,6 +18,7 @@ use solve_arcs::count_of;
 use std::num::truncating_f64_to_u64;
 
 mod descents;
+pub mod guesses;
 mod nets;
 
 ghost use mathlib.Core.Path.{_≡_};
@@ -97,6 +99,7 @@ pub fn by_label(potentials: [u64; PLACES], labels: [u8; PLACES]) -> [u64; PLACES
 }
 
 // Real potentials of n places of a plant that has a range: with its streams gathered, as they are gone over again and again.
+// Where a set of labels looks overfull, that set as bits; else 0.
 fn with_ranges(
     a: &mut [f64],
     labels: &[u8; PLACES],
@@ -104,14 +107,14 @@ fn with_ranges(
     rows: &[u64; ROWS],
     n: usize,
     x: &mut [f64; PLACES],
-)
+) -> u64
     requires { ⌜ (1 ≤ n) × Placed n (now labels) (now arcs) (now rows) × Fits n (now a) × (length (now x) ≡ places) ⌝ }
     ensures { λ _. ⌜ length (now (x .exit)) ≡ places ⌝ }
 {
     let mut ends = [0u8; ENDS];
     let mut meters = [0.0f64; METERS];
     let count = gather(labels, arcs, rows, &mut ends, &mut meters);
-    descend(a, &ends, &meters, count, n, x);
+    descend(a, &ends, &meters, count, n, x)
 }
 
 // Real potentials of n places, by empty equations that are lent.
@@ -122,14 +125,15 @@ fn find_in(
     rows: &[u64; ROWS],
     n: usize,
     x: &mut [f64; PLACES],
-)
+) -> u64
     requires { ⌜ (1 ≤ n) × Placed n (now labels) (now arcs) (now rows) × Fits n (now a) × (length (now x) ≡ places) ⌝ }
     ensures { λ _. ⌜ length (now (x .exit)) ≡ places ⌝ }
 {
     if some_range(rows, count_of(arcs)) {
-        with_ranges(a, labels, arcs, rows, n, x);
+        with_ranges(a, labels, arcs, rows, n, x)
     } else {
         first_direction(a, labels, arcs, rows, n, x);
+        0
     }
 }
 
@@ -140,23 +144,23 @@ fn find(
     rows: &[u64; ROWS],
     n: usize,
     x: &mut [f64; PLACES],
-)
+) -> u64
     requires { ⌜ (1 ≤ n) × Placed n (now labels) (now arcs) (now rows) × (length (now x) ≡ places) ⌝ }
     ensures { λ _. ⌜ length (now (x .exit)) ≡ places ⌝ }
 {
     if n <= FEW {
         let mut a = [0.0f64; FEW_CELLS];
-        find_in(&mut a, labels, arcs, rows, n, x);
+        find_in(&mut a, labels, arcs, rows, n, x)
     } else if n <= SOME {
         let mut a = [0.0f64; SOME_CELLS];
-        find_in(&mut a, labels, arcs, rows, n, x);
+        find_in(&mut a, labels, arcs, rows, n, x)
     } else {
         let mut a = [0.0f64; CELLS];
-        find_in(&mut a, labels, arcs, rows, n, x);
+        find_in(&mut a, labels, arcs, rows, n, x)
     }
 }
 
-// Potentials from top − band to top, one for each label.
+// Potentials from top − band to top, one for each label. Where a set of places looks overfull, it becomes the guess, as bits.
 pub fn potentials_of(
     units: u8,
     labels: [u8; PLACES],
@@ -164,12 +168,16 @@ pub fn potentials_of(
     rows: &[u64; ROWS],
     top: u64,
     band: u64,
+    guess: &mut u64,
 ) -> [u64; PLACES]
     requires { ⌜ Labels labels × Placed (units + 1) labels (now arcs) (now rows) × (band ≤ top) ⌝ }
     ensures { λ r. ⌜ Level labels top band r ⌝ }
 {
     let n = units as usize + 1;
     let mut x = [0.0f64; PLACES];
-    find(&labels, arcs, rows, n, &mut x);
+    let bits = find(&labels, arcs, rows, n, &mut x);
+    if bits != 0 {
+        *guess = places_of(bits, &labels);
+    }
     by_label(lowered(&x, n, top, band), labels)
 }

@@ -1,8 +1,13 @@
 -- What the solver hands over is right, where a set is full and where a flow is found.
-use mathlib.Core.Path.{_≡_, sym, subst}
-use mathlib.Core.Bool.{Bool, true, false}
+use mathlib.Core.Path.{_≡_, refl, sym, _∙_, ap, subst}
+use mathlib.Core.Bool.{Bool, true, false, _&&_}
 use mathlib.Core.List.{List}
 use Prim.Native.Nat.{ℕ}
+use lib.Dec.{leb}
+use lib.ListN.{getD}
+use Rattle.num_bytes.specs.Inner.{values}
+use Rattle.num_bytes.proofs.Lists.{values-at, values-same}
+use Rattle.plant_def.specs.Limits.{places}
 use Rattle.plant_def.specs.declared.Stream.{Stream}
 use Rattle.plant_def.specs.declared.Plant as Arrays
 use Rattle.plant_def.specs.Within.{Accepted}
@@ -11,12 +16,15 @@ use Rattle.plant_def.proofs.Arrayed.{all-listed, within-of}
 use Rattle.flow_def.specs.Overfull.{Overfull}
 use Rattle.solve_def.specs.declared.State.{State}
 use Rattle.solve_def.specs.declared.Ended.{Ended}
+use Rattle.solve_def.specs.declared.Solved.{Solved}
+use Rattle.solve_def.specs.Full.{overfull}
 use Rattle.solve_def.specs.Model.{finished, masked, tiesTo}
 use Rattle.solve_def.specs.Made.{made}
 use Rattle.solve_def.specs.Whole.{solvedFrom}
 use Rattle.solve_def.specs.Few.{Effort}
 use Rattle.solve_def.specs.SolverNeeds.{AtHint}
 use Rattle.solve_def.specs.Promise.{Right}
+use Rattle.solve_def.proofs.Marked.{overfull-says}
 use Rattle.solve_def.proofs.Phases.{Finished}
 use Rattle.solve_def.proofs.Ending.{finished-good, finished-even}
 use Rattle.solve_def.proofs.Counted.{effort}
@@ -67,3 +75,25 @@ module _ (p : Arrays.Plant) (a : Accepted p) (st : State) (s : AtHint (plantOf p
       -- What is handed over where a flow is found.
       pub found-right : Right p (record { found = true; flows = flows; potentials = e .state .potentials; marked = own; made = count })
       found-right = subst (Right p) found-is (solved-right p a st s)
+
+twice : (a b : Bool) → (a && b) && b ≡ (a && b)
+twice true true = refl
+twice true false = refl
+twice false b = refl
+
+-- Marks of the places of a plant stay as they are where they are cut to these.
+masked-twice : (n : ℕ) (ms : List Bool) → masked n (masked n ms) ≡ masked n ms
+unfolding masked
+masked-twice n ms =
+    values-same places (λ u. getD (values places (λ v. getD ms v false && leb v n)) u false && leb u n) (λ u. getD ms u false && leb u n)
+    (λ k l. ap (λ (b : Bool). b && leb k n) (values-at (λ v. getD ms v false && leb v n) false places k l) ∙ twice (getD ms k false) (leb k n))
+
+-- What is handed over if a set that is guessed passes the test.
+pub guess-right : (p : Arrays.Plant) → Accepted p → (ms : List Bool) (r : Solved) → overfull (plantOf p .streams) (masked (p .units) ms) ≡ true
+    → r .found ≡ false → r .marked ≡ masked (p .units) ms → Right p r
+guess-right p a ms r t f m = rw (f, m) full
+  where
+    full : Overfull (plantOf p) (masked (p .units) ms)
+    full =
+        subst (Overfull (plantOf p)) (masked-twice (p .units) ms)
+        (overfull-says (plantOf p) (within-of p a) (solvable-in (plantOf p) (within-of p a)) (masked (p .units) ms) t)

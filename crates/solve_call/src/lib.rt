@@ -1,5 +1,6 @@
 // The cheapest balanced flow of a plant, with potentials that certify it; or a set of places that must take in more than it can let
 // out.
+use newton_descend::guesses::marks_of;
 use plant_def::Plant;
 use plant_def::limits::MAX_STREAMS;
 use plant_def::limits::PLACES;
@@ -13,12 +14,14 @@ use solve_def::Solved;
 use solve_def::sizes::FLOW_SHIFT;
 use solve_def::sizes::NET_SHIFT;
 use solve_def::sizes::POTENTIAL_SHIFT;
+use solve_infeasible::overfull;
 use solve_phases::finishing::finish;
 use solve_phases::marks::masked;
 use solve_settle::settle;
 use solve_start::start;
 use solve_ties::tie_all;
 ghost use mathlib.Core.Path.{_≡_};
+ghost use mathlib.Core.Bool.{true, false};
 ghost use Prim.Native.Nat.{_≤_};
 ghost use Rattle.plant_def.specs.declared.Plant.{Plant};
 ghost use Rattle.plant_def.specs.Within.{Accepted};
@@ -26,8 +29,11 @@ ghost use Rattle.plant_def.specs.Says.{plantOf};
 ghost use Rattle.solve_def.specs.SolverNeeds.{AtHint, Hinted};
 ghost use Rattle.solve_def.specs.Promise.{Right};
 ghost use Rattle.solve_def.specs.Few.{mostMade};
-ghost use Rattle.solve_def.specs.Model.{stateOf};
+ghost use Rattle.solve_def.specs.Model.{stateOf, masked};
+ghost use Rattle.solve_def.specs.Full.{overfull};
+ghost use Rattle.newton_descend.specs.Guesses.{marksOf};
 ghost use Rattle.solve_call.specs.Answers.{Answers};
+ghost use Rattle.solve_arcs.specs.ArcNeeds.{Laying, OfStreams};
 ghost use Rattle.solve_arcs_fill.specs.Plants.{LaidOf};
 ghost use Rattle.flow_def.specs.Calls.{Grouped};
 
@@ -97,7 +103,35 @@ pub fn solve_from(p: Plant, h: Hint) -> Solved
     )
 }
 
-// The same of a plant whose arcs and rows are laid, and whose labels by the unmetered streams are handed in.
+// Whether a guess is a set of places, as bits, that is overfull.
+fn is_overfull(units: u8, arcs: &[u8; ARCS], rows: &[u64; ROWS], guess: u64) -> bool
+    requires { ⌜ Laying (now arcs) (now rows) ⌝ }
+    ensures { λ r. ⌜ OfStreams (now (arcs .entry)) (now (rows .entry)) (λ ss n. r ≡ true → overfull ss (masked units (marksOf guess)) ≡ true) ⌝ }
+{
+    if guess == 0 {
+        return false;
+    }
+    let own = marks_of(guess, units);
+    overfull(arcs, rows, &own)
+}
+
+// What is handed over if a set of places is found at the start: no improvement is made.
+fn refused(flows: &[u64; MAX_STREAMS], potentials: &[u64; PLACES], own: [bool; PLACES]) -> Solved
+    ensures { λ r. ⌜ (r .found ≡ false) × (r .marked ≡ own) × (r .made ≡ 0) ⌝ }
+{
+    let held = *flows;
+    let levels = *potentials;
+    Solved {
+        found: false,
+        flows: held,
+        potentials: levels,
+        marked: own,
+        made: 0,
+    }
+}
+
+// The same of a plant whose arcs and rows are laid, and whose labels by the unmetered streams are handed in. If the start guesses a set of
+// places, and the set is overfull, that is the answer.
 pub fn solve(units: u8, labels: [u8; PLACES], arcs: &[u8; ARCS], rows: &[u64; ROWS]) -> Solved
     requires { ⌜ ((p : Plant) × LaidOf p (now arcs) (now rows) × (p .units ≡ units) × Grouped p labels) ⌝ }
     ensures { λ r. ⌜ ((p : Plant) → LaidOf p (now (arcs .entry)) (now (rows .entry)) → p .units ≡ units → Grouped p labels → Right p r)
@@ -106,7 +140,7 @@ pub fn solve(units: u8, labels: [u8; PLACES], arcs: &[u8; ARCS], rows: &[u64; RO
     let mut flows = [FLOW_SHIFT; MAX_STREAMS];
     let mut potentials = [POTENTIAL_SHIFT; PLACES];
     let mut nets = [NET_SHIFT; PLACES];
-    start(
+    let guess = start(
         units,
         labels,
         arcs,
@@ -115,5 +149,8 @@ pub fn solve(units: u8, labels: [u8; PLACES], arcs: &[u8; ARCS], rows: &[u64; RO
         &mut potentials,
         &mut nets,
     );
+    if is_overfull(units, arcs, rows, guess) {
+        return refused(&flows, &potentials, marks_of(guess, units));
+    }
     solve_at(units, arcs, rows, &mut flows, &mut potentials, &mut nets)
 }

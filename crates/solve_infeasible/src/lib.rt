@@ -43,7 +43,7 @@ fn pressed(start: bool, end: bool, low: u64, high: u64) -> u64
 }
 
 // Every stream across has a range, and the lows in sum to more than the highs out.
-fn overfull(arcs: &[u8; ARCS], rows: &[u64; ROWS], marked: &[bool; PLACES]) -> bool
+pub fn overfull(arcs: &[u8; ARCS], rows: &[u64; ROWS], marked: &[bool; PLACES]) -> bool
     requires { ⌜ Laying (now arcs) (now rows) ⌝ }
     ensures { λ r. ⌜ OfStreams (now (arcs .entry)) (now (rows .entry)) (λ ss n. r ≡ F.overfull ss (now (marked .entry))) ⌝ }
 {

@@ -23,7 +23,7 @@ ghost use Rattle.solve_def.specs.SolverNeeds.{AtHint};
 ghost use Rattle.solve_arcs_fill.specs.Plants.{LaidOf};
 
 // Potentials from the labels by the unmetered streams, and amounts at these, in lent arrays; the amounts are 0 at first. Routing leaves
-// metered amounts as they are.
+// metered amounts as they are. If a set of places looks overfull, that set as bits; else 0.
 pub fn start(
     units: u8,
     labels: [u8; PLACES],
@@ -32,13 +32,22 @@ pub fn start(
     flows: &mut [u64; MAX_STREAMS],
     potentials: &mut [u64; PLACES],
     nets: &mut [u64; PLACES],
-)
+) -> u64
     requires { ⌜ ((p : Plant) × LaidOf p (now arcs) (now rows) × (p .units ≡ units) × Grouped p labels)
         × (now flows ≡ replicate maxStreams flowShift) ⌝ }
     ensures { λ _. ⌜ ((p : Plant) → LaidOf p (now (arcs .entry)) (now (rows .entry)) → Grouped p labels
         → AtHint (plantOf p .streams) (stateOf (now (flows .exit)) (now (potentials .exit)) (now (nets .exit)))) ⌝ }
 {
-    let levels = potentials_of(units, labels, arcs, rows, POTENTIAL_SHIFT, POTENTIAL_SPREAD);
+    let mut guess: u64 = 0;
+    let levels = potentials_of(
+        units,
+        labels,
+        arcs,
+        rows,
+        POTENTIAL_SHIFT,
+        POTENTIAL_SPREAD,
+        &mut guess,
+    );
     *potentials = levels;
     settle_flows(arcs, rows, potentials, flows);
     let given = nets_of(arcs, flows);
@@ -46,4 +55,5 @@ pub fn start(
     route(arcs, span(arcs, rows, labels), nets, flows);
     let anew = nets_of(arcs, flows);
     *nets = anew;
+    guess
 }

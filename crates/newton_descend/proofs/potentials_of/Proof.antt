@@ -12,15 +12,20 @@ add-n c = search needs
 find-requires : tie.Need-find-requires
 find-requires c κs = (omega arith, c .before .before .pre .1, refl)
 
+places-of-requires : tie.Need-places-of-requires
+places-of-requires c κs = c .before .before .before .before .before .pre .0
+
 lowered-requires : tie.Need-lowered-requires
-lowered-requires c κs = let st = c .before .before .before .before in (st .pre .1 .few, st .pre .2)
+lowered-requires c κs = let st = c .before .before .before .before .before in (st .pre .1 .few, st .pre .2)
 
 by-label-requires : tie.Need-by-label-requires
 by-label-requires c κs = search needs
 
 returns : tie.Need-returns
-returns c = rw (c .by-label .ensures) (level-labels (c .before .lowered .ensures) (c .before .before .before .before .before .before .pre .0))
+returns c =
+    let joined = c .before .before .before in
+    rw (c .by-label .ensures) (level-labels (c .before .lowered .ensures) (joined .before .before .before .before .pre .0))
 
 pub potentials-of-spec : {M : Type 1} → statement M
 potentials-of-spec =
-    tie.close (tie.spec add-n find-requires lowered-requires by-label-requires returns)
+    tie.close (tie.spec add-n find-requires places-of-requires lowered-requires by-label-requires returns)

@@ -26,7 +26,7 @@ use Rattle.solve_start.proofs.start.Tie as tie
 
 potentials-of-requires : tie.Need-potentials-of-requires
 potentials-of-requires c κs =
-    let o = c .pre .0 in
+    let o = c .before .pre .0 in
     let a = o .1 .accepted in
     let e = labels-are (o .0) a unmeteredOnly _ (o .3) in
     (rw e (labels-of (o .0) a), rw (← o .2, e) (placed-of (o .0) a (o .1 .laid)), omega arith)
@@ -56,13 +56,13 @@ module _ (st : tie.Start) (p : Plant) (w : LaidOf p (st .args .arcs .now) (st .a
   from-none ps xs e = e ∙ ap (λ (ys : List ℕ). settledTo (plantOf p .streams) ps ys (p .count)) (st .pre .1)
 
 -- What is routed, and along what.
-abbrev routing : (c : tie.After-span) (p : Plant) (w : LaidOf p (begun c .before .args .arcs .now) (begun c .before .args .rows .now))
-    → Grouped p (begun c .before .args .labels) → (xs : List ℕ)
-    → xs ≡ settledTo (plantOf p .streams) (begun c .potentials-of .result) (begun c .before .args .flows .now) (p .count)
-    → Routing (begun c .before .args .arcs .now) (c .span .result) xs
+abbrev routing : (c : tie.After-span) (p : Plant) (w : LaidOf p (begun c .before .before .args .arcs .now) (begun c .before .before .args .rows .now))
+    → Grouped p (begun c .before .before .args .labels) → (xs : List ℕ)
+    → xs ≡ settledTo (plantOf p .streams) (begun c .potentials-of .result) (begun c .before .before .args .flows .now) (p .count)
+    → Routing (begun c .before .before .args .arcs .now) (c .span .result) xs
 routing c p w g xs e =
     let at = begun c in
-    let st = at .before in
+    let st = at .before .before in
     record {
       rows = st .args .rows .now;
       laying = laying st p w;
@@ -73,7 +73,7 @@ routing c p w g xs e =
 settle-flows-requires : tie.Need-settle-flows-requires
 settle-flows-requires c κs =
     let at = c .before .before in
-    let st = at .before in
+    let st = at .before .before in
     let o = st .pre .0 in (
       laying st (o .0) (o .1),
       level-ready (o .0) (o .1 .accepted) (levels st (o .0) (o .1) _ (o .3) (at .potentials-of .ensures)) .start .capped,
@@ -84,7 +84,7 @@ nets-of-requires : tie.Need-nets-of-requires
 nets-of-requires c κs =
     let f = c .before in
     let at = f .before .before .before in
-    let st = at .before in
+    let st = at .before .before in
     let o = st .pre .0 in (
       (_, laying st (o .0) (o .1)),
       rw (from-none st (o .0) (o .1) _ _ (f .settle-flows .ensures (laying st (o .0) (o .1))))
@@ -92,12 +92,12 @@ nets-of-requires c κs =
     )
 
 span-requires : tie.Need-span-requires
-span-requires c κs = let st = c .before .before .before .before .before .before in laying st (st .pre .0 .0) (st .pre .0 .1)
+span-requires c κs = let f = c .before .before .before .before .before in let st = f .before .before in laying st (st .pre .0 .0) (st .pre .0 .1)
 
 route-requires : tie.Need-route-requires
 route-requires c κs =
     let f = c .before .before in
-    let st = begun f .before in
+    let st = begun f .before .before in
     let o = st .pre .0 in
     let l = laying st (o .0) (o .1) in
     (routing f (o .0) (o .1) (o .3) _ (settled-are f .settle-flows .ensures l), rw (f .before .nets-of .ensures _ l) (nets-long _ _ (o .0 .count)))
@@ -106,7 +106,7 @@ nets-of-requires-2 : tie.Need-nets-of-requires-2
 nets-of-requires-2 c κs =
     let r = c .before in
     let f = r .before .before .before in
-    let st = begun f .before in
+    let st = begun f .before .before in
     let o = st .pre .0 in
     let l = laying st (o .0) (o .1) in
     ((_, l), routes-amounts (r .route .ensures (routing f (o .0) (o .1) (o .3) _ (settled-are f .settle-flows .ensures l)) .0))
@@ -115,7 +115,7 @@ returns : tie.Need-returns
 returns c =
     let r = c .before .before in
     let f = r .before .before .before in
-    let st = begun f .before in
+    let st = begun f .before .before in
     λ p w g.
     let e = settled-are f .settle-flows .ensures (laying st p w) in
     let o = r .route .ensures (routing f p w g _ e) in

@@ -1,5 +1,7 @@
 -- `newton_descend::descents::descend` meets its contract: the steps are counted, and each keeps the lengths.
 use mathlib.Core.Path.{_≡_, _∙_}
+use Prim.Native.Nat.{_<_}
+use native.Mathlib.Omega.{arith}
 use lib.ListN.{length}
 use borrow.Author.Needs.{needs}
 use Rattle.plant_def.specs.Limits.{places}
@@ -13,7 +15,10 @@ Inv-loop a₀ ends meters count n potentials₀ nets₀ way₀ left₀ a potenti
 abbrev μ-loop : tie.MeasureT-loop
 μ-loop a₀ ends meters count n potentials₀ nets₀ way₀ left₀ a potentials nets way left = left
 
--- From where the slope is below 0 to where the direction was found, and to where the nets were too large.
+-- From where no set looks overfull to where the slope is below 0, to where the direction was found, and to where the nets were too large.
+abbrev falling : tie.Else3 Inv-loop μ-loop → tie.Else2 Inv-loop μ-loop
+falling c = c .before .before .before
+
 abbrev directed : tie.Else2 Inv-loop μ-loop → tie.After-direction Inv-loop μ-loop
 directed c = c .before .before .before .before .before .before
 
@@ -57,36 +62,49 @@ same-length-2 c = search needs
 returns-2 : tie.Need-returns-2 Inv-loop μ-loop
 returns-2 c = search needs
 
-step-length-requires : tie.Need-step-length-requires Inv-loop μ-loop
-step-length-requires c κs = search needs
-
-advance-requires : tie.Need-advance-requires Inv-loop μ-loop
-advance-requires c κs = let e = tested (c .before .before .before .before .before) in (begin e .pre .0 .few, turned e .before .loop .inv .0)
-
-sub-left : tie.Need-sub-left Inv-loop μ-loop
-sub-left c = search needs
-
-loop-less : tie.Need-loop-less Inv-loop μ-loop
-loop-less c = search needs
-
-loop-again : tie.Need-loop-again Inv-loop μ-loop
-loop-again c =
-    let after-direction = c .before .before .before .before .before .before in
-    let e = tested after-direction in
-    let on = turned e in
-    let v = on .before .loop .inv in
-    let d = directed after-direction in (
-      rw (c .advance .ensures) (advanced-long _ _ _ (begin e .args .n) ∙ v .0),
-      rw (e .before .before .before .nets-at .ensures) (nets-long _ _ _ (begin e .args .count)),
-      d .direction .ensures .1,
-      d .direction .ensures .0 ∙ v .3,
-    )
+guess-at-requires : tie.Need-guess-at-requires Inv-loop μ-loop
+guess-at-requires c κs = begin (tested (c .before)) .pre .0
 
 same-length-3 : tie.Need-same-length-3 Inv-loop μ-loop
 same-length-3 c = search needs
 
 returns-3 : tie.Need-returns-3 Inv-loop μ-loop
 returns-3 c = search needs
+
+step-length-requires : tie.Need-step-length-requires Inv-loop μ-loop
+step-length-requires c κs = begin (tested (falling (c .before .before))) .pre .0
+
+advance-requires : tie.Need-advance-requires Inv-loop μ-loop
+advance-requires c κs = let e = tested (falling (c .before .before .before .before .before)) in (begin e .pre .0 .few, turned e .before .loop .inv .0)
+
+-- A step is left.
+some : (c : tie.After-advance Inv-loop μ-loop) → let on = turned (tested (falling (c .before .before .before .before .before .before))) in 0 < on .before .loop .left
+some c = turned (tested (falling (c .before .before .before .before .before .before))) .loop-test .taken
+
+sub-left : tie.Need-sub-left Inv-loop μ-loop
+sub-left c = omega (arith, some c)
+
+loop-less : tie.Need-loop-less Inv-loop μ-loop
+loop-less c = omega (arith, some c)
+
+loop-again : tie.Need-loop-again Inv-loop μ-loop
+loop-again c =
+    let f = falling (c .before .before .before .before .before .before) in
+    let e = tested f in
+    let on = turned e in
+    let v = on .before .loop .inv in
+    let d = directed f in (
+      rw (c .advance .ensures) (advanced-long _ _ _ (begin e .args .n) ∙ v .0),
+      rw (e .before .before .before .nets-at .ensures) (nets-long _ _ _ (begin e .args .count)),
+      d .direction .ensures .1,
+      d .direction .ensures .0 ∙ v .3,
+    )
+
+same-length-4 : tie.Need-same-length-4 Inv-loop μ-loop
+same-length-4 c = search needs
+
+returns-4 : tie.Need-returns-4 Inv-loop μ-loop
+returns-4 c = search needs
 
 pub descend-spec : {M : Type 1} → statement M
 descend-spec =
@@ -104,10 +122,13 @@ descend-spec =
     product-requires
     same-length-2
     returns-2
+    guess-at-requires
+    same-length-3
+    returns-3
     step-length-requires
     advance-requires
     sub-left
     loop-less
     loop-again
-    same-length-3
-    returns-3)
+    same-length-4
+    returns-4)
