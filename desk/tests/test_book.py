@@ -268,10 +268,10 @@ def test_an_office_is_checked_some_entries_at_a_time(run, tmp_path, monkeypatch)
     for _ in range(5):
         run("keep", SAMPLES / "listing.csv", tmp_path / "a.book")
     run("book", "annul", tmp_path / "a.book", "2", "--reason", "once")
-    monkeypatch.setattr(checks, "_SHEETS", checks._SHEETS.replace(f"LIMIT {checks.SOME}", "LIMIT 2"))
-    monkeypatch.setattr(checks, "SOME", 2)
+    monkeypatch.setattr(checks, "_SHEETS", checks._SHEETS.replace(f"LIMIT {checks.SOME}", "LIMIT 3"))
+    monkeypatch.setattr(checks, "SOME", 3)
     with Book(tmp_path / "a.book") as book:
         at = book.offices()[0]
         parts = list(checks._entries(book, at))
-        assert [[getattr(one, "entry", None) or one[1] for one in part] for part in parts] == [[1, 2], [3, 4], [5, 6]]
+        assert [[getattr(one, "entry", None) or one[1] for one in part] for part in parts] == [[1, 2, 3], [4, 5, 6]]
         assert checks.check(book) == []
