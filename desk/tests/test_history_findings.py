@@ -239,3 +239,14 @@ def tables(runs):
 if __name__ == "__main__":
     for line in tables(int(sys.argv[1]) if len(sys.argv) > 1 else YEARS):
         print(json.dumps(line), flush=True)
+
+
+@pytest.mark.parametrize("exact, slack", [(True, 0.25 * (4 / 5 + 4 / 8)), (False, 0.25 * (0.3 + 0.9))])
+def test_what_rounding_can_make_of_a_cost_goes_by_the_kind_of_the_sheets(exact, slack):
+    from types import SimpleNamespace
+
+    from wengeludo.history import weeks
+    from wengeludo_balance import ADJUSTED, AS_READ
+
+    of = SimpleNamespace(unit=2.0, variances=np.array([5.0, 7.0, 8.0]), weights=np.array([300.0, 500.0, 900.0]), exact=exact)
+    assert weeks.Trial.slack(of, np.array([ADJUSTED, AS_READ, ADJUSTED])) == pytest.approx(slack)
