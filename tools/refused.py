@@ -31,7 +31,7 @@ def marks(need, message, where, places):
     found = []
     if re.search(r'-(result|fits|index|in-range)(-\d+)?$|^(index|cast)', need):
         found.append('RANGE')
-    if re.search(r'not in scope|unknown|no such|not found', message) or (not where.endswith('/Proof.antt') and 'src' in places):
+    if re.search(r'not in scope|unknown|no such|not found|can be named from here', message) or (not where.endswith('/Proof.antt') and 'src' in places):
         found.append('FIT')
     if {'src', 'specs'} <= places:
         found.append('BOTH')
