@@ -59,7 +59,7 @@ def python_spots(text):
         if any(first <= token.start < last for first, last in hints):
             before = token.type
             continue
-        if token.line.lstrip().startswith(('import ', 'from ', '"""', '@', 'class ', 'def ')) and '=' not in token.line:
+        if token.line.lstrip().startswith(('import ', 'from ', '"""', 'class ', 'def ')) and '=' not in token.line:
             continue
         first = before in (None, tokenize.NEWLINE, tokenize.INDENT, tokenize.DEDENT, tokenize.NL)
         if token.type == tokenize.NUMBER or token.string in TURNED or (token.type == tokenize.STRING and not first and len(token.string) > 3):

@@ -121,6 +121,13 @@ def test_units_beyond_the_limit_are_refused_in_every_row(units):
     assert made.refusal.tolist() == [6, 6]
 
 
+@pytest.mark.parametrize("place", [-1, 2, 255, 256, 1_000])
+def test_places_that_do_not_fit_are_refused_in_every_row(place):
+    for ends in ((place, 1), (1, place)):
+        made = rows(Plant(1, (Stream(*ends, 1, 0), Stream(1, 0, 1, 0))), [[1, 1]] * 2, [1.0, 1.0], [[MEASURED] * 2] * 2)
+        assert made.refusal.tolist() == [7, 7]
+
+
 def test_the_plants_own_faults_are_told_in_every_row():
     def refused(units, *streams):
         count = len(streams)
