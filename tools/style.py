@@ -10,7 +10,7 @@
 - "if" and not "where" for a condition; "is" and not "stands"; a noun before "who"; no verb before its subject ("Compared are"); "the
   desk", and "a real-number solver" for another's.
 - An entry of docs/decisions has at most 80 words and says what would change it.
-- A document has at most the words of LIMITS, and all together have a limit too. What is made by a script (between its two marks), blocks of
+- A document has at most the words of LIMITS, and all together at most 33,000. What is made by a script (between its two marks), blocks of
   code and docs/changes are not counted.
 
 What a rule must let pass is in ALLOWED, with its document. tools/wrong/style.md breaks every rule on sentences and words, and is read first:
@@ -24,11 +24,11 @@ import sys
 
 from made import ROOT
 
-LONGEST, ENTRY, TOGETHER = 40, 80, 33500
+LONGEST, ENTRY, TOGETHER = 40, 80, 33000
 WRONG = 'tools/wrong/style.md'
 LIMITS = {
     'README.md': 950, 'CONTRIBUTING.md': 900, 'CHANGELOG.md': 500, 'SECURITY.md': 250, 'bindings/js/README.md': 500, 'bindings/python/README.md': 600,
-    'bindings/rust/README.md': 500, 'desk/README.md': 2100, 'docs/ARCHITECTURE.md': 1400, 'docs/CRATES.md': 100, 'docs/DECISIONS.md': 200,
+    'bindings/rust/README.md': 500, 'desk/README.md': 2100, 'docs/ARCHITECTURE.md': 1400, 'docs/BELIEVE.md': 100, 'docs/CRATES.md': 100, 'docs/DECISIONS.md': 200,
     'docs/EDITS.md': 500, 'docs/FORMATS.md': 1100, 'docs/GLOSSARY.md': 2000, 'docs/GUIDE.md': 2200, 'docs/HISTORY.md': 1100, 'docs/HOWTO.md': 1500,
     'docs/LINKING.md': 900, 'docs/MEASURED.md': 300, 'docs/PROMISES.md': 3800, 'docs/PROVING.md': 2700, 'docs/PUBLISHED.md': 800,
     'docs/REAL-NUMBERS.md': 700, 'docs/RELEASING.md': 400, 'docs/SOLVER.md': 2400, 'docs/SPEED.md': 1200, 'docs/TESTING.md': 1300,
