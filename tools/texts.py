@@ -15,7 +15,7 @@ import sys
 TOOLS = os.path.dirname(os.path.abspath(__file__))
 CHECKS = ('versions', 'refusals', 'crate_list', 'edits', 'glossary', 'legible', 'audit', 'picture', 'believe', 'names', 'style', 'spdx')
 ALONE = ('old_crates',)  # run by name
-MADE = ('refusals', 'crate_list', 'edits', 'picture', 'spdx')  # these take --write
+MADE = ('refusals', 'crate_list', 'edits', 'believe', 'picture', 'spdx')  # these take --write
 
 
 def run(name, *words):
