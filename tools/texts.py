@@ -32,10 +32,10 @@ def sentence(name):
 
 
 def main(words):
-    if words and words[0] in CHECKS:
+    if words and words[0] in CHECKS + ALONE:
         os.execv(sys.executable, [sys.executable, os.path.join(TOOLS, f'{words[0]}.py'), *words[1:]])
     if words == ['--list']:
-        for name in CHECKS:
+        for name in CHECKS + ALONE:
             print(f'{name + (" *" if name in MADE else ""):13} {sentence(name)}')
         print('* makes its texts anew with --write')
         return
