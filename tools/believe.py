@@ -81,7 +81,7 @@ PARTS = (
      ("sheet_def/src", "sheet_def/Totals", "sheet_def/Sheets", "sheet_def/Counters", "sheet_def/Kept", "sheet_parts/Kept",
       "sheet_def/Sentences", "sheet_def/DeskTool", "sheet_def/Demands", "sheet_history/History")),
     ("Listings and the programs", "What the programs read, and what they print.",
-     ("num_text/Numerals", "listing_lines/Listing", "listing_lines/Room", "listing_call/Printed", "programs/src", "programs/Fed")),
+     ("num_text/Numerals", "listing_lines/Listing", "listing_lines/Room", "listing_call/Printed", "programs/Fed")),
     ("Transmitter files", "Values and deviations in floating point become readings and weights, and a plant file is written of them.",
      ("transmitter_def/src", "transmitter_def/Limits", "transmitter_def/Signals", "transmitter_def/Answers", "transmitter_def/Rounding",
       "transmitter_def/Sendings", "transmitter_def/Says")),

@@ -1,2 +1,3 @@
 -- What a program is fed.
+pub mod Reads
 pub mod Fed

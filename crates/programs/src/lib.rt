@@ -3,7 +3,8 @@ use plant_def::limits::LONGEST_FILE;
 ghost use mathlib.Core.Path.{_≡_};
 ghost use lib.ListN.{length};
 ghost use Rattle.io.specs.Counts.{Counts};
-ghost use Rattle.programs.specs.Fed.{ReadOut, FedSays};
+ghost use Rattle.programs.specs.Reads.{ReadOut};
+ghost use Rattle.programs.specs.Fed.{FedSays};
 
 // One byte more than the longest plant file: a longer file is refused as one that has bytes after its end.
 const MOST_FED: usize = LONGEST_FILE + 1;
@@ -14,11 +15,13 @@ pub struct Input {
     pub last: isize,
 }
 
-// What a program is fed: the first so many bytes of an array, what the last read answered, and whether it is a file to work on.
+// What a program is fed: the first so many bytes of an array, what the last read answered, how many words the program was started with, its
+// own name among them, and whether it is a file to work on.
 pub struct Fed {
     pub file: [u8; MOST_FED],
     pub size: usize,
     pub last: isize,
+    pub words: usize,
     pub taken: bool,
 }
 
@@ -49,18 +52,19 @@ pub fn read_input(file: &mut [u8]) -> Input
 }
 
 // Says in one line, on standard error, what is wrong.
-pub fn complain(name: &[u8], what: &[u8]) {
+fn complain(name: &[u8], what: &[u8]) {
     io::write_all(libc::STDERR_FILENO, name);
     io::write_all(libc::STDERR_FILENO, what);
 }
 
 // The plant file that a program is fed, from standard input. It takes no argument. Where it is given one, or a read fails, it says so.
 pub fn plant_file(name: &[u8]) -> Fed
-    ensures { λ r. ⌜ FedSays r ⌝ }
+    ensures { λ r. ⌜ FedSays (r .file) (r .size) (r .last) (r .words) (r .taken) ⌝ }
     ensures { λ r. ⌜ Counts (r .size) (r .file) ⌝ }
 {
     let mut file = [0u8; MOST_FED];
-    if 1 < os::arg_count() {
+    let words = os::arg_count();
+    if 1 < words {
         complain(
             name,
             b": a plant file is read from standard input, and no argument is taken\n",
@@ -69,6 +73,7 @@ pub fn plant_file(name: &[u8]) -> Fed
             file: file,
             size: 0,
             last: 0,
+            words: words,
             taken: false,
         };
     }
@@ -81,11 +86,12 @@ pub fn plant_file(name: &[u8]) -> Fed
         file: file,
         size: input.size,
         last: input.last,
+        words: words,
         taken: !failed,
     }
 }
 
-// A text to standard output. Where that fails, it says so.
+// A text to standard output. Where that fails, it says so. (What is written where, no contract can say: that is tested.)
 pub fn put_text(name: &[u8], text: &[u8]) {
     if !io::write_all(libc::STDOUT_FILENO, text) {
         complain(name, b": standard output cannot be written\n");
