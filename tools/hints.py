@@ -32,7 +32,7 @@ pub extern "C" fn wengeludo_improvements(file: &[u8]) -> u64 {
     let mut rows = [0u64; solve_arcs::ROWS];
     solve_arcs_fill::lay(streams, plant.count as usize, &mut arcs, &mut rows);
     let labels = flow_components::group(&arcs, &rows, flow_def::Which::Unmetered);
-    let solved = solve_call::solve(plant, labels, &arcs, &rows);
+    let solved = solve_call::solve(plant.units, labels, &arcs, &rows);
     solved.made
 }
 """
@@ -41,7 +41,7 @@ WORTHLESS = (
     ('elimination that adds', 'newton_laplacian/src/elimination.rt', ' - f * ', ' + f * '),
     ('amounts routed with the wrong sign', 'solve_forest/src/lib.rt', 'into[len] = inwards;', 'into[len] = !inwards;'),
     ('a forest from the outside alone', 'solve_forest/src/lib.rt', 'reached[u] = labels[u] as usize == u;', 'reached[u] = u == 0;'),
-    ('no forest', 'solve_forest/src/lib.rt', 'if rows[4 * i] == 0 {', 'if rows[4 * i] == 1 {'),
+    ('no forest', 'solve_forest/src/lib.rt', 'n += one_if(rows[4 * i] == 0);', 'n += one_if(rows[4 * i] == 1);'),
     ('no conductance off the diagonal', 'newton_laplacian/src/equations.rt', 'add(a, h, g + 1, -c);', 'add(a, h, g + 1, 0.0);'),
     ('conductances with the wrong sign', 'newton_laplacian/src/equations.rt', 'add(a, g, h + 1, -c);', 'add(a, g, h + 1, c);'),
     ('ranges never looked at', 'newton_descend/src/lib.rt', 'if some_range(rows, count_of(arcs)) {', 'if count_of(arcs) > 200 {'),
