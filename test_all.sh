@@ -136,7 +136,7 @@ if part "the cases and samples, made anew, and checked by themselves" python3; t
     ! long || quietly target/built/brute.log . python3 reference/brute.py | tail -1
 fi
 if part "the Rust crate and the differential tests" cargo "$compiler" nm ar; then
-    (cd bindings/rust && cargo test --offline --quiet -- --nocapture)
+    (cd bindings/rust && cargo test --offline --quiet --features rules -- --nocapture)
     bash bindings/rust/test_archives.sh
     ! long || bash bindings/rust/test_oldest.sh
 fi

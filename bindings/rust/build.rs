@@ -4,6 +4,8 @@
 //! The archive is libwengeludo.a in the folder that WENGELUDO_ARCHIVE_DIR names; without it in the repository's target/staticlib;
 //! without that where pkg-config finds it. Its version is asked by a program of three lines that calls it: the major version must be
 //! this crate's and the minor version no lower.
+//!
+//! With the feature `rules` programs/rules.h is compiled beside it, by the compiler that CC names.
 use std::env;
 use std::fs;
 use std::path::{Path, PathBuf};
@@ -26,9 +28,44 @@ fn main() {
     if env::var("HOST") == env::var("TARGET") {
         check_version(&path, version_of(&folder, &path));
     }
+    if env::var_os("CARGO_FEATURE_RULES").is_some() {
+        rules();
+    }
     println!("cargo:rustc-link-search=native={}", folder.display());
     println!("cargo:rustc-link-lib=static=wengeludo");
     println!("cargo:archive={}", path.display()); // DEP_WENGELUDO_ARCHIVE for crates that depend on this one
+}
+
+/// Compiles the words of a broken rule, which C and Python have from the same file.
+fn rules() {
+    let root = PathBuf::from(env::var_os("CARGO_MANIFEST_DIR").unwrap()).join("../..");
+    let out = PathBuf::from(env::var_os("OUT_DIR").unwrap());
+    let rules = root.join("programs/rules.h");
+    println!("cargo:rerun-if-env-changed=CC");
+    println!("cargo:rerun-if-changed={}", rules.display());
+    if !rules.is_file() {
+        stop(&format!("no {}: the feature `rules` needs the repository", rules.display()));
+    }
+    let text = "#include \"rules.h\"\nint wengeludo_rust_broken_rule(const uint8_t *plant, size_t plant_length, const uint8_t *sheet, \
+                size_t sheet_length, const int64_t *numbers, size_t count, char *words)\n{\n    return broken_rule(plant, plant_length, \
+                sheet, sheet_length, numbers, count, words);\n}\n";
+    let (source, object, archive) = (out.join("rules.c"), out.join("rules.o"), out.join("libwengeludo_rules.a"));
+    fs::write(&source, text).unwrap_or_else(|error| stop(&format!("{}: {error}", source.display())));
+    let mut cc = Command::new(env::var_os("CC").unwrap_or_else(|| "cc".into()));
+    cc.args(["-std=c11", "-O2", "-fPIC"]).arg("-I").arg(root.join("include")).arg("-I").arg(root.join("programs"));
+    run(cc.arg("-c").arg(&source).arg("-o").arg(&object));
+    run(Command::new(env::var_os("AR").unwrap_or_else(|| "ar".into())).arg("rcs").arg(&archive).arg(&object));
+    println!("cargo:rustc-link-search=native={}", out.display());
+    println!("cargo:rustc-link-lib=static=wengeludo_rules");
+}
+
+fn run(command: &mut Command) {
+    let name = command.get_program().to_string_lossy().into_owned();
+    match command.status() {
+        Err(error) => stop(&format!("{name} cannot be run: {error}")),
+        Ok(status) if !status.success() => stop(&format!("{name} failed: {status}")),
+        Ok(_) => {}
+    }
 }
 
 fn stop(text: &str) -> ! {

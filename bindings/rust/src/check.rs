@@ -60,3 +60,26 @@ impl Certificate {
 pub fn check(plant: &[u8], sheet: &[u8], certificate: &Certificate) -> Result<(), Refusal> {
     Refusal::check(raw::check_sheet(plant, sheet, &certificate.numbers))
 }
+
+/// The first rule that a sheet breaks, in words, if [`check`] refuses it with [`Refusal::RuleBroken`]; else `None`. The words are those
+/// of the C programs and of Python, from one file in C; they are not proved. With the feature `rules`.
+///
+/// ```
+/// use wengeludo_balance::{broken_rule, Certificate, Offices, Plant};
+/// let file = Plant::new(1).metered_within(0, 1, 10, 100, 0, 102).metered(1, 0, 10, 103).file()?;
+/// let certificate = Certificate::of(&file)?;
+/// let mut sheet = [0; 880];
+/// let written = Offices::default().draw_into(0, &file, &mut sheet)?;
+/// assert_eq!(broken_rule(&file, &sheet[..written], &certificate), None);
+/// (sheet[8], sheet[17]) = (103, 103);
+/// let words = broken_rule(&file, &sheet[..written], &certificate);
+/// assert_eq!(words.as_deref(), Some("stream 1: its flow 103 is outside its range 0 to 102"));
+/// # Ok::<(), wengeludo_balance::Refusal>(())
+/// ```
+#[cfg(feature = "rules")]
+pub fn broken_rule(plant: &[u8], sheet: &[u8], certificate: &Certificate) -> Option<String> {
+    match check(plant, sheet, certificate) {
+        Err(Refusal::RuleBroken) => raw::broken_rule(plant, sheet, &certificate.numbers),
+        _ => None,
+    }
+}

@@ -64,6 +64,8 @@ mod visits;
 mod wide;
 
 pub use charges::{charges, Bill, Charge, MAX_RATE};
+#[cfg(feature = "rules")]
+pub use check::broken_rule;
 pub use check::{check, Certificate, MAX_PLACES};
 pub use layouts::{layouts, MAX_SURVEYED};
 pub use moves::{from_ranged, from_ranged_into, to_ranged, to_ranged_into};

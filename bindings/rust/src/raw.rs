@@ -460,6 +460,39 @@ pub struct WideParts<'a> {
     pub high: &'a [i64],
 }
 
+#[cfg(feature = "rules")]
+extern "C" {
+    fn wengeludo_rust_broken_rule(
+        plant: *const u8,
+        plant_length: usize,
+        sheet: *const u8,
+        sheet_length: usize,
+        numbers: *const i64,
+        count: usize,
+        words: *mut u8,
+    ) -> i32;
+}
+
+/// The first rule that a sheet breaks, in words; only of what [`check_sheet`] refuses with 26. Host code, not proved.
+#[cfg(feature = "rules")]
+pub(crate) fn broken_rule(plant: &[u8], sheet: &[u8], numbers: &[i64]) -> Option<String> {
+    let mut words = [0; 160];
+    // SAFETY: the C function reads the slices only if the check has read them, and writes at most 160 bytes, the last of them 0.
+    let found = unsafe {
+        wengeludo_rust_broken_rule(
+            plant.as_ptr(),
+            plant.len(),
+            sheet.as_ptr(),
+            sheet.len(),
+            numbers.as_ptr(),
+            numbers.len(),
+            words.as_mut_ptr(),
+        )
+    };
+    let end = words.iter().position(|byte| *byte == 0).unwrap_or(words.len());
+    (found != 0).then(|| String::from_utf8_lossy(&words[..end]).into_owned())
+}
+
 /// The check of a flow found elsewhere, with a flow for each stream and a number for each place. 0: it passes. Another number: a
 /// refusal, 1, 6, 5, stream after stream 7 to 10 and 18, then 26. Slices shorter than the streams, or than the places, are refused as 1.
 pub fn check_flow(parts: WideParts, flow: &[i64], numbers: &[i64]) -> u8 {
