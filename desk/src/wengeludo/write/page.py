@@ -64,9 +64,9 @@ def _parts(size: float, most: float) -> List[Tuple[float, float]]:
 
 
 def page(balance: Balance, live: str = "") -> str:
-    """The page of a balance as HTML, with the section that recomputes if there is one."""
+    """The page of a balance as HTML, with the section that recomputes if there is one; then without blanks before its tags, to stay small."""
     drawing = picture(balance)
-    return _environment(balance).get_template("page.html").render(
+    text = _environment(balance).get_template("page.html").render(
         site=Markup(escape(balance.site.list.name)), lang=balance.site.list.form.lang, balance=balance, heads=view.heads(balance), titles=view.titles(balance),
         numeric=NUMERIC, looks=LOOKS, estimates=ESTIMATES, rows=view.rows(balance),
         headline=view.headline(balance), standing=view.standing(balance), summary=view.summary(balance),
@@ -74,6 +74,7 @@ def page(balance: Balance, live: str = "") -> str:
         overfull=overfull(balance) if balance.refused else [], picture=Markup(drawing), tiles=tiles(drawing), live=Markup(live), unit=f"{float(balance.site.unit):g}",
         date=Markup(f"kept {escape(balance.date)}") if balance.date else Markup(datetime.now().strftime("%Y-%m-%d %H:%M")),
     )
+    return re.sub(r"(?m)^ +(?=<)", "", text) if live else text
 
 
 def _environment(balance: Balance) -> Environment:
