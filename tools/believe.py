@@ -340,7 +340,7 @@ def document(house, found):
 def shown(house, crate, file, reached):
     if file == "src":
         definitions = [definition for (owner, name), definition in house.declared.items() if owner == crate and (crate, "src", name) in reached]
-        text, language = [f"### `{crate}/src`", "", "The structs and enums of the code that the definitions speak of.", ""], "rust"
+        text, language = [f"### `{crate}/src`", "", "The structs and enums of the code that the definitions speak of.", ""], "rattle"
     else:
         specs = house.specs(crate, file)
         definitions, language = [each for each in specs.definitions() if (crate, file, each.name) in reached], "agda"

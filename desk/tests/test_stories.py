@@ -84,7 +84,7 @@ def story(run, monkeypatch, tmp_path):
         path = FOLDER / f"{name}.txt"
         asked = path.read_text(encoding="utf-8")
         blocks = [block for block in re.split(r"^(?=[$#])", asked, flags=re.M) if block]
-        told = "".join(_told(block, run, tmp_path) for block in blocks)
+        told = "".join(_told(block, run, tmp_path) for block in blocks).replace(tmp_path.name, "folder")
         if ANEW:
             path.write_text(told, encoding="utf-8")
         _same(asked if not ANEW else told, told)
