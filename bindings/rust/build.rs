@@ -46,8 +46,8 @@ fn rules() {
     if !rules.is_file() {
         stop(&format!("no {}: the feature `rules` needs the repository", rules.display()));
     }
-    let text = "#include \"rules.h\"\nint wengeludo_rust_broken_rule(const uint8_t *plant, size_t plant_length, const uint8_t *sheet, \
-                size_t sheet_length, const int64_t *numbers, size_t count, char *words)\n{\n    return broken_rule(plant, plant_length, \
+    let text = "#include \"rules.h\"\n_Static_assert(WORDS == 160, \"raw.rs lends 160 bytes for the words\");\n\
+                int wengeludo_rust_broken_rule(const uint8_t *plant, size_t plant_length, const uint8_t *sheet, size_t sheet_length, const int64_t *numbers, size_t count, char *words)\n{\n    return broken_rule(plant, plant_length, \
                 sheet, sheet_length, numbers, count, words);\n}\n";
     let (source, object, archive) = (out.join("rules.c"), out.join("rules.o"), out.join("libwengeludo_rules.a"));
     fs::write(&source, text).unwrap_or_else(|error| stop(&format!("{}: {error}", source.display())));
