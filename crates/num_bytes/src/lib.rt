@@ -1,5 +1,7 @@
 // Numbers at the front of a slice, high byte first; refusals in their order; the laws of integers, sums, counts, bits and lists. Differences
 // and sizes of numbers stand here, too.
+#![tactic(auto)]
+
 ghost use Rattle.std.specs.Prelude.{◌≡◌, nat_abs, ◌-◌, ◌≤◌, ◌<◌, length, [], ◌∷◌};
 ghost use Rattle.num_bytes.specs.Choice.{first_of};
 ghost use Rattle.num_bytes.specs.Bytes.{be, put_be, signed, raw, over};

@@ -1,4 +1,6 @@
 // Numbers as text, put into a slice at a place. Each function that puts answers the place behind its text.
+#![tactic(auto)]
+
 ghost use Rattle.std.specs.Prelude.{◌+◌, ◌≤◌, [], ◌∷◌, length};
 ghost use Rattle.num_text.specs.Numerals.{decimal, signed_decimal, field};
 ghost use Rattle.num_text.specs.Adding.{Added};
