@@ -1,5 +1,6 @@
 // The listing of a plant: the plant file from standard input, its listing to standard output. What goes wrong in reading or
 // writing is said on standard error, in one line.
+#![tactic(auto)]
 use listing_call::LEAST_TEXT;
 
 fn main() {

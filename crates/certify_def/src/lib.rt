@@ -1,7 +1,8 @@
 // A flow found elsewhere, for a plant of wide numbers: when the numbers of the places show that it has least cost.
 
 // A stream of wide numbers, as the slices hand it over.
-#[derive(Drop)]
+#![tactic(auto)]
+#[derive(Clone, Copy)]
 pub struct WideStream {
     pub from: u8,
     pub to: u8,

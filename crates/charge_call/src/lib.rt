@@ -1,4 +1,5 @@
 // Steam charges: the call, and the same in two lent slices.
+#![tactic(auto)]
 ghost use Rattle.std.specs.Prelude.{◌≤◌};
 ghost use Rattle.plant_def.specs.Limits.{max_streams};
 ghost use Rattle.num_lent.specs.Made.{Made};
@@ -27,7 +28,7 @@ pub fn charges_of(file: &[u8], rates: &[u16]) -> Charges
 }
 
 // What is handed over beside the slices: the number, how many streams are charged, and the bill.
-#[derive(Drop)]
+#[derive(Clone, Copy)]
 pub struct Handed {
     pub number: u8,
     pub count: usize,

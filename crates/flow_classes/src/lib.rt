@@ -1,4 +1,5 @@
 // The class of a stream, and the degrees of freedom.
+#![tactic(auto)]
 ghost use Rattle.std.specs.Prelude.{◌≡◌, ◌≤◌, ◌<◌, length};
 ghost use Rattle.plant_def.specs.Limits.{max_units, places};
 ghost use Rattle.plant_def.specs.declared.Plant.{Plant};

@@ -1,4 +1,5 @@
 // Sheets drawn up elsewhere, as definitions with their laws. No function stands here.
+#![tactic(auto)]
 use plant_def::limits::PLACES;
 
 // The limit of a place's number.
@@ -6,7 +7,7 @@ pub const NUMBER_LIMIT: u64 = 1_000_000_000_000_000_000;
 
 // What the call over numbers of the places hands over: 0, how many places there are, and a number for each of them, 0 past them; or
 // a refusal number and zeros.
-#[derive(Drop)]
+#[derive(Clone, Copy)]
 pub struct PlaceNumbers {
     pub number: u8,
     pub count: u8,

@@ -1,4 +1,5 @@
 // Numbers of the places of a plant file, with which its sheets pass the check: the call.
+#![tactic(auto)]
 ghost use Rattle.std.specs.Prelude.{◌≡◌, pos, ◌-ℤ◌, ◌≤◌, length, take};
 ghost use Rattle.plant_def.specs.Limits.{max_units, places};
 ghost use Rattle.plant_def.specs.Within.{Accepted};
@@ -72,7 +73,7 @@ pub fn numbers_by(p: Plant, solved: Solved) -> PlaceNumbers
 }
 
 // What is handed over beside the slice: the number, and how many places there are.
-#[derive(Drop)]
+#[derive(Clone, Copy)]
 pub struct Lent {
     pub number: u8,
     pub count: usize,

@@ -1,5 +1,6 @@
 // The survey of meter layouts: the plant file from standard input, a line for each k to standard output. What goes wrong in reading or
 // writing is said on standard error, in one line.
+#![tactic(auto)]
 use survey_answers::LEAST_TEXT;
 
 fn main() {

@@ -23,7 +23,7 @@ const NEAR: f64 = 4.0;
 const TRIALS: usize = 12;
 
 // Two lengths of a step between which the best one lies, and the slopes there: at most 0, and above 0.
-#[derive(Drop)]
+#[derive(Clone, Copy)]
 struct Bracket {
     short: f64,
     long: f64,

@@ -1,4 +1,6 @@
 // The faults of a plant's parts: of its units, of a stream, of all its streams.
+#![tactic(auto)]
+
 ghost use Rattle.std.specs.Prelude.{◌≡◌, ◌≤◌, take};
 ghost use Rattle.plant_def.specs.Plants.{units_fault, meter_fault, range_fault, stream_fault, first_fault, parts_fault};
 ghost use Rattle.plant_def.specs.Limits.{max_streams};

@@ -1,11 +1,13 @@
 // Plant files: a plant's units and streams, read from bytes and written to them. What a call promises that reads a file and writes
 // a plant file from it. One function stands here: the record of an unmetered stream.
+#![tactic(auto)]
+
 pub mod limits;
 pub mod streams;
 
 // A stream from one place to another: metered, with its weight and its reading, or unmetered, with both 0. A metered
 // stream may have a range, from low to high; where there is none, low and high are 0.
-#[derive(Drop)]
+#[derive(Clone, Copy)]
 pub struct Stream {
     pub from: u8,
     pub to: u8,
@@ -18,7 +20,7 @@ pub struct Stream {
 }
 
 // A plant: its units, how many streams it lists, and their records as read; those past the count are empty.
-#[derive(Drop)]
+#[derive(Clone, Copy)]
 pub struct Plant {
     pub units: u8,
     pub count: u8,
@@ -26,28 +28,28 @@ pub struct Plant {
 }
 
 // What the plant reader hands over: 0 and the plant, or a refusal number and a plant without units or streams.
-#[derive(Drop)]
+#[derive(Clone, Copy)]
 pub struct Read {
     pub number: u8,
     pub plant: Plant,
 }
 
 // What a writer hands over: 0 and the bytes written, or a refusal number and 0.
-#[derive(Drop)]
+#[derive(Clone, Copy)]
 pub struct Done {
     pub number: u8,
     pub written: usize,
 }
 
 // What stands where the site record is due: the units, or a refusal.
-#[derive(Drop)]
+#[derive(Clone, Copy)]
 pub enum Site {
     Units(u8),
     Missing(u8),
 }
 
 // What stands where a later record is due: a stream with the record's size, the end of the file, or a refusal.
-#[derive(Drop)]
+#[derive(Clone, Copy)]
 pub enum Record {
     Listed { stream: Stream, size: usize },
     End,

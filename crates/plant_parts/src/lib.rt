@@ -1,4 +1,6 @@
 // A plant's streams, gathered from one slice for each part, and how many of them the slices reach.
+#![tactic(auto)]
+
 ghost use Rattle.std.specs.Prelude.{◌≡◌, ◌<◌, ◌≤◌, length, get_or};
 ghost use Rattle.plant_parts.specs.Parts.{listed_to, least};
 ghost use Rattle.plant_parts.specs.Inner.{meter_at, range_at, held_count, meters_reach};

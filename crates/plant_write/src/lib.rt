@@ -1,4 +1,6 @@
 // The plant writer: the record of a stream, the whole file, and a reading written anew.
+#![tactic(auto)]
+
 ghost use Rattle.std.specs.Prelude.{◌≡◌, suc, ◌≤◌, ◌*◌, length, take, [], ◌∷◌, ◌++◌};
 ghost use Rattle.num_bytes.specs.Bytes.{over};
 ghost use Rattle.num_bytes.specs.Inner.{Put};

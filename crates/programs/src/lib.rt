@@ -1,4 +1,5 @@
 // What the programs share: what they are fed, what they answer, and what they say where either fails.
+#![tactic(auto)]
 ghost use Rattle.std.specs.Prelude.{◌≡◌, length};
 ghost use Rattle.io.specs.Counts.{IsPrefixLen};
 ghost use Rattle.programs.specs.Reads.{ReadOut};
@@ -10,7 +11,7 @@ use plant_def::limits::LONGEST_FILE;
 const MOST_FED: usize = LONGEST_FILE + 1;
 
 // How many bytes were read, and what the last read answered.
-#[derive(Drop)]
+#[derive(Clone, Copy)]
 pub struct Input {
     pub size: usize,
     pub last: isize,
@@ -18,7 +19,7 @@ pub struct Input {
 
 // What a program is fed: the first so many bytes of an array, what the last read answered, how many words the program was started with, its
 // own name among them, and whether it is a file to work on.
-#[derive(Drop)]
+#[derive(Clone, Copy)]
 pub struct Fed {
     pub file: [u8; MOST_FED],
     pub size: usize,

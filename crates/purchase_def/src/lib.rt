@@ -1,4 +1,5 @@
 // Meters to buy: definitions and laws. No function stands here.
+#![tactic(auto)]
 use plant_def::limits::MAX_STREAMS;
 
 // The greatest price.
@@ -6,7 +7,7 @@ pub const MAX_PRICE: u32 = 1_000_000;
 
 // What the call hands over: 0, how many streams are to be metered, their numbers in rising order with zeros after them, and
 // what they cost together; or a refusal number and zeros.
-#[derive(Drop)]
+#[derive(Clone, Copy)]
 pub struct Bought {
     pub number: u8,
     pub count: u8,
@@ -15,7 +16,7 @@ pub struct Bought {
 }
 
 // What the call with a lent slice hands over beside the slice.
-#[derive(Drop)]
+#[derive(Clone, Copy)]
 pub struct Handed {
     pub number: u8,
     pub count: usize,

@@ -1,4 +1,5 @@
 // Sheets: the balance of a plant, its bytes and what the sheet call promises, as definitions with their laws.
+#![tactic(auto)]
 use crate::kinds::OFFICES;
 use flow_def::Class;
 use plant_def::limits::{MAX_STREAMS, PLACES};
@@ -7,14 +8,14 @@ pub mod blanks;
 pub mod kinds;
 
 // A stream on a balance: its class and its flow, 0 where it is withheld.
-#[derive(Drop)]
+#[derive(Clone, Copy)]
 pub struct Entry {
     pub class: Class,
     pub flow: i64,
 }
 
 // The balance of a plant: an entry for each stream, empty past the last one, and cost, degrees and verdict.
-#[derive(Drop)]
+#[derive(Clone, Copy)]
 pub struct Balance {
     pub streams: [Entry; MAX_STREAMS],
     pub cost: u64,
@@ -23,7 +24,7 @@ pub struct Balance {
 }
 
 // What is found of a plant: its balance, or none and an overfull set of places, marked.
-#[derive(Drop)]
+#[derive(Clone, Copy)]
 pub struct Outcome {
     pub found: bool,
     pub balance: Balance,
@@ -32,7 +33,7 @@ pub struct Outcome {
 
 // What the sheet call hands over: 0, the bytes written and the offices' last sheet numbers, the calling office's one higher, which
 // is the sheet's; or a refusal number, 0 and the last sheet numbers as they were. Places are marked by refusal 19 alone.
-#[derive(Drop)]
+#[derive(Clone, Copy)]
 pub struct Sheet {
     pub number: u8,
     pub written: usize,
@@ -42,7 +43,7 @@ pub struct Sheet {
 
 // The total of a sheet: its kind, the office that drew it, its number, the cost, the degrees and the verdict. A total without an
 // office is that of office 0.
-#[derive(Drop)]
+#[derive(Clone, Copy)]
 pub struct Total {
     pub kind: u8,
     pub office: u8,
@@ -54,7 +55,7 @@ pub struct Total {
 
 // What the sheet reader hands over: 0, how many streams the sheet lists, an entry for each, the blank past the last one, and
 // the total; or a refusal number, no streams and zeros.
-#[derive(Drop)]
+#[derive(Clone, Copy)]
 pub struct SheetRead {
     pub number: u8,
     pub count: u8,
@@ -63,7 +64,7 @@ pub struct SheetRead {
 }
 
 // What stands where a record of a sheet is due: a stream's entry with the record's size, the total, or a refusal.
-#[derive(Drop)]
+#[derive(Clone, Copy)]
 pub enum SheetRecord {
     Listed { entry: Entry, size: usize },
     Ended(Total),

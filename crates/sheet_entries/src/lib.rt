@@ -1,4 +1,5 @@
 // Class and flow of each stream, and the balance by a given solution; it stands below the solver.
+#![tactic(auto)]
 ghost use Rattle.std.specs.Prelude.{◌≡◌, ◌≤◌, length};
 ghost use Rattle.plant_def.specs.declared.Plant.{Plant};
 ghost use Rattle.plant_def.specs.Limits.{max_streams};
@@ -85,7 +86,7 @@ fn entry_of(class: Class, flow: i64) -> Entry
 }
 
 // What one pass over the streams finds: their entries, and the summed weights of the adjusted ones.
-#[derive(Drop)]
+#[derive(Clone, Copy)]
 pub struct Entered {
     pub streams: [Entry; MAX_STREAMS],
     pub weights: u64,

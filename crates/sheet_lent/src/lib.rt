@@ -1,4 +1,5 @@
 // The sheet call for callers who lend the offices' last sheet numbers in a slice; its marked places as the bits of a number.
+#![tactic(auto)]
 ghost use Rattle.std.specs.Prelude.{◌≡◌, ◌≤◌, ◌<◌, ◌^◌, length, take};
 ghost use Rattle.num_bytes.specs.Bytes.{over};
 ghost use Rattle.plant_def.specs.Limits.{places};
@@ -12,7 +13,7 @@ use sheet_call::balance_plant;
 use sheet_def::kinds::OFFICES;
 
 // What the sheet call hands over, the marks as bits.
-#[derive(Drop)]
+#[derive(Clone, Copy)]
 pub struct Drawn {
     pub number: u8,
     pub written: usize,
@@ -21,7 +22,7 @@ pub struct Drawn {
 }
 
 // What is handed over beside the slices.
-#[derive(Drop)]
+#[derive(Clone, Copy)]
 pub struct Handed {
     pub number: u8,
     pub written: usize,

@@ -1,18 +1,19 @@
 // The cheapest balanced flow, computed: search, augmentation and solver as definitions with their laws, and how many improvements it
 // makes.
+#![tactic(auto)]
 use plant_def::limits::{MAX_STREAMS, PLACES};
 
 pub mod sizes;
 
 // What an improvement is to do: the place that it starts from, and the step.
-#[derive(Drop)]
+#[derive(Clone, Copy)]
 pub struct Quest {
     pub start: usize,
     pub delta: u64,
 }
 
 // A way to augment along: how many streams are remembered, the place that the way ends at, and the step.
-#[derive(Drop)]
+#[derive(Clone, Copy)]
 pub struct Route {
     pub len: usize,
     pub target: u8,
@@ -21,7 +22,7 @@ pub struct Route {
 
 // The place visited last, its distance and the stream that led to it; and the fringe, a bit for each place: those to which a stream
 // from a visited place leads, within the limit.
-#[derive(Drop)]
+#[derive(Clone, Copy)]
 pub struct Spot {
     pub place: usize,
     pub distance: u64,
@@ -30,7 +31,7 @@ pub struct Spot {
 }
 
 // The visited places; and for each place visited after the first, in order, the stream that led to it and the place.
-#[derive(Drop)]
+#[derive(Clone, Copy)]
 pub struct Tree {
     pub visited: [bool; PLACES],
     pub via: [u8; PLACES],
@@ -40,7 +41,7 @@ pub struct Tree {
 
 // What a walk hands over: whether it visited a place that it looks for, its tree, the distances of visited places, and how far it
 // came.
-#[derive(Drop)]
+#[derive(Clone, Copy)]
 pub struct Walked {
     pub found: bool,
     pub tree: Tree,
@@ -49,21 +50,21 @@ pub struct Walked {
 }
 
 // What a search hands over: whether it visited a place that it looks for, and its tree.
-#[derive(Drop)]
+#[derive(Clone, Copy)]
 pub struct Searched {
     pub found: bool,
     pub tree: Tree,
 }
 
 // Potentials to begin with, and amounts for the unmetered streams; held shifted, as below.
-#[derive(Drop)]
+#[derive(Clone, Copy)]
 pub struct Hint {
     pub flows: [u64; MAX_STREAMS],
     pub potentials: [u64; PLACES],
 }
 
 // The amount of each stream, and the potential and the net of each place.
-#[derive(Drop)]
+#[derive(Clone, Copy)]
 pub struct State {
     pub flows: [u64; MAX_STREAMS],
     pub potentials: [u64; PLACES],
@@ -71,14 +72,14 @@ pub struct State {
 }
 
 // How improvements from a place end: whether a set of places was found that must take in more than it can let out, and that set.
-#[derive(Drop)]
+#[derive(Clone, Copy)]
 pub struct Halt {
     pub full: bool,
     pub marked: [bool; PLACES],
 }
 
 // What the improvements from a place come to: how they end, and how many are made.
-#[derive(Drop)]
+#[derive(Clone, Copy)]
 pub struct Tried {
     pub full: bool,
     pub marked: [bool; PLACES],
@@ -86,7 +87,7 @@ pub struct Tried {
 }
 
 // How a phase ends: whether such a set was found, with the state.
-#[derive(Drop)]
+#[derive(Clone, Copy)]
 pub struct Ended {
     pub full: bool,
     pub state: State,
@@ -95,7 +96,7 @@ pub struct Ended {
 
 // The flow and the potentials that certify it; or, where none is found, a set of places that must take in more than it can let out.
 // And how many improvements were made.
-#[derive(Drop)]
+#[derive(Clone, Copy)]
 pub struct Solved {
     pub found: bool,
     pub flows: [u64; MAX_STREAMS],

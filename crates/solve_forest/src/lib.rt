@@ -1,4 +1,5 @@
 // A spanning forest of the unmetered streams, and their amounts routed along it.
+#![tactic(auto)]
 ghost use Rattle.std.specs.Prelude.{◌≡◌, ℕ, ◌<◌, ◌≤◌, false, not, List, length, slice_index_or};
 ghost use Rattle.plant_def.specs.Limits.{places, max_streams};
 ghost use Rattle.num_bytes.specs.Choice.{pick};
@@ -16,7 +17,7 @@ use std::num::{wrapping_add_u64, wrapping_sub_u64};
 
 // A spanning forest of unmetered streams: in the order in which places were reached, the stream that leads to each, and whether
 // it leads into it.
-#[derive(Drop)]
+#[derive(Clone, Copy)]
 pub struct Forest {
     pub via: [u8; PLACES],
     pub into: [bool; PLACES],

@@ -1,4 +1,5 @@
 // The survey of a plant file in a lent slice, and as text.
+#![tactic(auto)]
 ghost use Rattle.std.specs.Prelude.{◌≡◌, ◌≤◌, ◌+◌, length, take};
 ghost use Rattle.num_bytes.specs.Bytes.{over};
 ghost use Rattle.survey_def.specs.Says.{survey_size};
@@ -16,7 +17,7 @@ use survey_count::layouts_of;
 use survey_def::SURVEY_SIZE;
 
 // What is handed over beside the slice: the number, and how many streams there are.
-#[derive(Drop)]
+#[derive(Clone, Copy)]
 pub struct Lent {
     pub number: u8,
     pub count: usize,

@@ -1,4 +1,5 @@
 // Calls on the cases of files, each answer compared with what a separate reference solver gave.
+#![tactic(auto)]
 mod calls;
 mod cases;
 mod drawing;

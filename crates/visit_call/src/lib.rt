@@ -1,4 +1,5 @@
 // Meters worth a visit: the call, and the same in two lent slices.
+#![tactic(auto)]
 ghost use Rattle.std.specs.Prelude.{◌≤◌};
 ghost use Rattle.plant_def.specs.Limits.{max_streams};
 ghost use Rattle.num_lent.specs.Made.{Made};
@@ -41,7 +42,7 @@ pub fn visits_of(file: &[u8]) -> Visits
 }
 
 // What is handed over beside the slices: the number, and how many streams are listed.
-#[derive(Drop)]
+#[derive(Clone, Copy)]
 pub struct Handed {
     pub number: u8,
     pub count: usize,

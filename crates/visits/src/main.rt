@@ -1,5 +1,6 @@
 // Meters worth a visit: the plant file from standard input, a line for each A stream to standard output. What goes wrong in reading or
 // writing is said on standard error, in one line.
+#![tactic(auto)]
 use visit_text::LEAST_TEXT;
 
 fn main() {

@@ -1,6 +1,7 @@
 // The calls for programs in C and Rust, as functions on numbers and slices of numbers: the archive. They are the version, the sheet call,
 // the plant writer, the plant reader, the sheet reader, the translator, the two moves, meters to buy, the survey, meters worth a visit, steam charges, the
 // check of a sheet, numbers of the places and the check of a flow over wide numbers.
+#![tactic(auto)]
 ghost use Rattle.std.specs.Prelude.{◌≡◌};
 ghost use Rattle.transmitter_def.specs.Says.{TranslateSays};
 ghost use Rattle.ranged_def.specs.Moves.{ToSays, FromSays};
