@@ -2,6 +2,7 @@
 
 // A stream of wide numbers, as the slices hand it over.
 #![tactic(auto)]
+
 #[derive(Clone, Copy)]
 pub struct WideStream {
     pub from: u8,

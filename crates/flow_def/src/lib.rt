@@ -1,6 +1,7 @@
 // Flows of a plant, whole or in fractions: balance, cost, groups, classes, forests and the test, as definitions with their laws.
 // No function stands here.
 #![tactic(auto)]
+
 use plant_def::limits::{MAX_STREAMS, PLACES};
 
 // The class of a stream. A (a redundant meter), R (a non-redundant meter), G (observable), W (unobservable).

@@ -1,5 +1,6 @@
 // The test of the whole: the weights of the adjusted streams, and the cost against a critical value.
 #![tactic(auto)]
+
 ghost use Rattle.std.specs.Prelude.{◌≡◌, ◌≤◌};
 ghost use Rattle.plant_def.specs.declared.Stream.{Stream};
 ghost use Rattle.plant_def.specs.Within.{Accepted};

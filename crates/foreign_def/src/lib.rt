@@ -1,5 +1,6 @@
 // Sheets drawn up elsewhere, as definitions with their laws. No function stands here.
 #![tactic(auto)]
+
 use plant_def::limits::PLACES;
 
 // The limit of a place's number.

@@ -1,5 +1,6 @@
 // The lines of a listing: one for each stream, then that of the total.
 #![tactic(auto)]
+
 ghost use Rattle.std.specs.Prelude.{◌+◌, ◌≤◌, ◌*◌, ◌∷◌, ◌++◌, length, take};
 ghost use Rattle.num_bytes.specs.Inner.{Put};
 ghost use Rattle.num_text.specs.Numerals.{text, signed_decimal, field};

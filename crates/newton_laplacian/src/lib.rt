@@ -1,5 +1,6 @@
 // The metered streams between groups as real numbers, and the equations of one step towards the real-number optimum.
 #![tactic(auto)]
+
 use plant_def::limits::{MAX_STREAMS, PLACES};
 use readings::{conductance_of, high_of, low_of, reading_of};
 use solve_arcs::{ARCS, ROWS, count_of, wide};

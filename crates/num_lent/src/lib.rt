@@ -1,5 +1,6 @@
 // Numbers handed over: arrays at the front of a lent slice, and marked places as the bits of a number.
 #![tactic(auto)]
+
 ghost use Rattle.std.specs.Prelude.{◌≡◌, ◌≤◌, ◌<◌, ◌^◌, length, take};
 ghost use Rattle.num_bytes.specs.Bytes.{over};
 ghost use Rattle.plant_def.specs.Limits.{max_streams, places};

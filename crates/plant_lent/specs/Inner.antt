@@ -2,7 +2,7 @@
 use Rattle.std.specs.Prelude.{◌≡◌, List, map, ℤ, ℕ, ltb, take}
 use Rattle.num_bytes.specs.Choice.{pick}
 use Rattle.num_bytes.specs.Bytes.{over}
-use Rattle.num_bytes.specs.Lent.{Lent}
+use Rattle.num_bytes.specs.Lent.{LentMut}
 use Rattle.plant_def.specs.declared.Stream.{Stream}
 use Rattle.plant_def.specs.Limits.{max_streams}
 use Rattle.plant_def.specs.Files.{Got, bad, read_plant}
@@ -44,5 +44,5 @@ abbrev pub high_of : List Stream → List ℤ
 high_of = map (λ s. s.high)
 
 -- A part of the first c streams at the front of a lent slice, the rest of it as it was.
-abbrev pub Front : {B : Type 0} → (List Stream → List B) → ℕ → List Stream → Lent (List B) → Type 0
+abbrev pub Front : {B : Type 0} → (List Stream → List B) → ℕ → List Stream → LentMut (List B) → Type 0
 Front part c ss slice = slice.exit.now ≡ over (part (take c ss)) slice.entry.now

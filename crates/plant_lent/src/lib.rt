@@ -1,5 +1,6 @@
 // A plant file's parts, handed over in one lent slice each: the form in which the exported plant writer takes them.
 #![tactic(auto)]
+
 ghost use Rattle.std.specs.Prelude.{◌≡◌, ◌≤◌, length};
 ghost use Rattle.num_bytes.specs.Choice.{pick};
 ghost use Rattle.plant_def.specs.Limits.{max_streams};

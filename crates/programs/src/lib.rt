@@ -1,5 +1,6 @@
 // What the programs share: what they are fed, what they answer, and what they say where either fails.
 #![tactic(auto)]
+
 ghost use Rattle.std.specs.Prelude.{◌≡◌, length};
 ghost use Rattle.io.specs.Counts.{IsPrefixLen};
 ghost use Rattle.programs.specs.Reads.{ReadOut};

@@ -1,5 +1,6 @@
 // Meters to buy: definitions and laws. No function stands here.
 #![tactic(auto)]
+
 use plant_def::limits::MAX_STREAMS;
 
 // The greatest price.

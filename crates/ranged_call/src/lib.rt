@@ -1,5 +1,6 @@
 // Plants moved to the ranged form and home again: a stream, all streams, and the two calls.
 #![tactic(auto)]
+
 ghost use Rattle.std.specs.Prelude.{◌≡◌, map};
 ghost use Rattle.ranged_def.specs.Moves.{widened, bared, narrower, narrow_fault, to_ranged, from_ranged, ToSays, FromSays};
 ghost use Rattle.ranged_def.specs.Inner.{moving};

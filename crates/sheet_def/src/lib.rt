@@ -1,5 +1,6 @@
 // Sheets: the balance of a plant, its bytes and what the sheet call promises, as definitions with their laws.
 #![tactic(auto)]
+
 use crate::kinds::OFFICES;
 use flow_def::Class;
 use plant_def::limits::{MAX_STREAMS, PLACES};

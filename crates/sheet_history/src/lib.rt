@@ -1,5 +1,6 @@
 // The offices' last sheet numbers at the change, and what comes of them over any calls: definitions with their laws.
 #![tactic(auto)]
+
 ghost use Rattle.std.specs.Prelude.{◌≡◌};
 ghost use Rattle.sheet_def.specs.Counters.{offices_from};
 

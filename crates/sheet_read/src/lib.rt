@@ -1,5 +1,6 @@
 // The sheet reader: stream records, then the total, each by its fields, with refusals 13 to 15.
 #![tactic(auto)]
+
 ghost use Rattle.std.specs.Prelude.{◌≡◌, ◌||◌, leb, ltb, length, ◌≤◌};
 ghost use Rattle.num_bytes.specs.Choice.{refuse_if, first_of};
 ghost use Rattle.plant_def.specs.Limits.{max_streams};

@@ -2,6 +2,7 @@
 // lent the part of the slice that starts at the next free byte. A call that draws no sheet has its refusal here too. It stands
 // below the solver.
 #![tactic(auto)]
+
 ghost use Rattle.std.specs.Prelude.{◌≡◌, [], ◌∷◌, ◌++◌, ◌≤◌, ◌*◌, ◌<◌, length, take, eqb, leb};
 ghost use Rattle.num_bytes.specs.Bytes.{put_be, raw, over};
 ghost use Rattle.num_bytes.specs.Inner.{Put};

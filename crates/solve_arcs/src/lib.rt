@@ -5,6 +5,7 @@
 // specs/Cells.antt. The margin of an arc is its marginal cost: what one step more along it costs at the present amounts. Its
 // reduced cost is that by the potentials of its two ends.
 #![tactic(auto)]
+
 ghost use Rattle.std.specs.Prelude.{◌≡◌, ◌-◌, ◌*◌, ◌≤◌, ◌+◌, ◌<◌, ℕ, get_or, length, set, true, false};
 ghost use Rattle.plant_def.specs.Limits.{max_units, places, max_streams, max_weight};
 ghost use Rattle.plant_def.specs.Within.{WithinStream};

@@ -1,5 +1,6 @@
 // The arcs and the rows of a plant's streams are laid.
 #![tactic(auto)]
+
 ghost use Rattle.std.specs.Prelude.{◌≡◌, ◌*◌, ◌≤◌, ◌<◌, get_or, length};
 ghost use Rattle.plant_def.specs.Limits.{max_units, max_streams, places};
 ghost use Rattle.plant_def.specs.Within.{WithinStream};

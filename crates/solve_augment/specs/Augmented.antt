@@ -1,6 +1,6 @@
 -- What moving along remembered streams requires, and what it comes to.
 use Rattle.std.specs.Prelude.{◌≡◌, List, ℕ, ◌≤◌, length, take}
-use Rattle.num_bytes.specs.Lent.{Lent}
+use Rattle.num_bytes.specs.Lent.{Lent, LentMut}
 use Rattle.solve_def.specs.declared.Route.{Route}
 use Rattle.solve_def.specs.Sizes.{most_step}
 use Rattle.solve_def.specs.Augment.{augmented}
@@ -24,7 +24,7 @@ FlowsMoved ls rs via ends way xs xs' =
     (w : Laying ls rs) → xs' ≡ augmented (take w.n w.streams) via ends way.delta way.len way.target xs
 
 -- What augmenting comes to, of what is lent to it: margins stay those of the amounts, and the amounts are the definition's.
-abbrev pub AugmentCall : (arcs rows margins flows via ends : Lent (List ℕ)) → Route → Type 0
+abbrev pub AugmentCall : (arcs rows : Lent (List ℕ)) (margins flows : LentMut (List ℕ)) (via ends : Lent (List ℕ)) → Route → Type 0
 AugmentCall arcs rows margins flows via ends way =
     let ls = arcs.entry.now in
     let rs = rows.entry.now in

@@ -1,5 +1,6 @@
 // Augmenting: what is moved along the streams that a search remembers, with their margins; and from excess to excess.
 #![tactic(auto)]
+
 ghost use Rattle.std.specs.Prelude.{◌≡◌, ◌+◌, ◌-◌, ◌*◌, ◌≤◌, ◌<◌, get_or};
 ghost use Rattle.num_bytes.specs.Choice.{pick};
 ghost use Rattle.plant_def.specs.Limits.{max_streams};

@@ -1,6 +1,7 @@
 // The cheapest balanced flow, computed: search, augmentation and solver as definitions with their laws, and how many improvements it
 // makes.
 #![tactic(auto)]
+
 use plant_def::limits::{MAX_STREAMS, PLACES};
 
 pub mod sizes;

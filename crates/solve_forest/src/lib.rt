@@ -1,5 +1,6 @@
 // A spanning forest of the unmetered streams, and their amounts routed along it.
 #![tactic(auto)]
+
 ghost use Rattle.std.specs.Prelude.{◌≡◌, ℕ, ◌<◌, ◌≤◌, false, not, List, length, slice_index_or};
 ghost use Rattle.plant_def.specs.Limits.{places, max_streams};
 ghost use Rattle.num_bytes.specs.Choice.{pick};

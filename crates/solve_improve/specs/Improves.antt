@@ -1,6 +1,6 @@
 -- What a phase begins from; what an improvement requires, and what it comes to.
 use Rattle.std.specs.Prelude.{◌≡◌, List, ℕ, ◌+◌, ◌≤◌, ◌<◌, get_or, take}
-use Rattle.num_bytes.specs.Lent.{Lent}
+use Rattle.num_bytes.specs.Lent.{Lent, LentMut}
 use Rattle.plant_def.specs.declared.Stream.{Stream}
 use Rattle.plant_def.specs.Limits.{places}
 use Rattle.solve_def.specs.declared.Quest.{Quest}
@@ -43,15 +43,15 @@ Improving ls rs ms q st r after margins =
     × Margined w.n rs after.flows q.delta 0 margins
 
 -- The state that is lent to a call,
-abbrev pub state_before : (flows potentials nets : Lent (List ℕ)) → State
+abbrev pub state_before : (flows potentials nets : LentMut (List ℕ)) → State
 state_before flows potentials nets = state_of flows.entry.now potentials.entry.now nets.entry.now
 
 -- and the one that it leaves.
-abbrev pub state_after : (flows potentials nets : Lent (List ℕ)) → State
+abbrev pub state_after : (flows potentials nets : LentMut (List ℕ)) → State
 state_after flows potentials nets = state_of flows.exit.now potentials.exit.now nets.exit.now
 
 -- What an improvement comes to, of what is lent to it.
-abbrev pub ImproveCall : (arcs rows margins flows potentials nets : Lent (List ℕ)) → Quest → Searched → Type 0
+abbrev pub ImproveCall : (arcs rows : Lent (List ℕ)) (margins flows potentials nets : LentMut (List ℕ)) → Quest → Searched → Type 0
 ImproveCall arcs rows margins flows potentials nets q r =
     Improving arcs.entry.now rows.entry.now margins.entry.now q (state_before flows potentials nets) r
     (state_after flows potentials nets) margins.exit.now

@@ -1,5 +1,6 @@
 // The test of a set of places: whether it must take in more than it can let out, by the ranges of the streams across its edge.
 #![tactic(auto)]
+
 ghost use Rattle.std.specs.Prelude.{◌≡◌, ◌≤◌, true, false};
 ghost use Rattle.solve_def.specs.Sizes.{most_flow};
 ghost use Rattle.solve_def.specs.Full as F;

@@ -1,5 +1,6 @@
 // Shortest paths: the search over visited places, along the arcs of each by their reduced costs.
 #![tactic(auto)]
+
 use num_bytes::minus;
 use plant_def::limits::PLACES;
 use solve_arcs::{ARCS, MARGINS, NONE, end_at, first_at, lesser, next_at, reduced_cost};

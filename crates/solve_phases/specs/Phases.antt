@@ -1,6 +1,6 @@
 -- What improvements from a place and a phase come to, of any streams that arcs and rows are of, with the count of the improvements.
 use Rattle.std.specs.Prelude.{◌≡◌, false, List, ℕ, ◌-◌, ◌/◌, get_or, take}
-use Rattle.num_bytes.specs.Lent.{Lent}
+use Rattle.num_bytes.specs.Lent.{Lent, LentMut}
 use Rattle.plant_def.specs.Limits.{places}
 use Rattle.solve_def.specs.Sizes.{net_shift, halvings}
 use Rattle.solve_def.specs.declared.Quest.{Quest}
@@ -49,22 +49,22 @@ Finishing ls rs st r after margins =
     × (r.full ≡ false → Margined w.laying.n rs after.flows 1 0 margins)
 
 -- What improvements from a place come to, of what is lent to the call,
-abbrev pub TryCall : (arcs rows margins flows potentials nets : Lent (List ℕ)) → Quest → Tried → Type 0
+abbrev pub TryCall : (arcs rows : Lent (List ℕ)) (margins flows potentials nets : LentMut (List ℕ)) → Quest → Tried → Type 0
 TryCall arcs rows margins flows potentials nets q r =
     Trying arcs.entry.now rows.entry.now margins.entry.now q (state_before flows potentials nets) r
     (state_after flows potentials nets) margins.exit.now
 
 -- what a phase comes to,
-abbrev pub PhaseCall : (arcs rows margins flows potentials nets : Lent (List ℕ)) → ℕ → Tried → Type 0
+abbrev pub PhaseCall : (arcs rows : Lent (List ℕ)) (margins flows potentials nets : LentMut (List ℕ)) → ℕ → Tried → Type 0
 PhaseCall arcs rows margins flows potentials nets d r =
     Phasing arcs.entry.now rows.entry.now d (state_before flows potentials nets) r (state_after flows potentials nets) margins.exit.now
 
 -- what the phases from no hint come to,
-abbrev pub PhasesCall : (arcs rows margins flows potentials nets : Lent (List ℕ)) → Tried → Type 0
+abbrev pub PhasesCall : (arcs rows : Lent (List ℕ)) (margins flows potentials nets : LentMut (List ℕ)) → Tried → Type 0
 PhasesCall arcs rows margins flows potentials nets r =
     AllPhases arcs.entry.now rows.entry.now r (state_after flows potentials nets) margins.exit.now
 
 -- and what finishing from a state that is settled at a hint comes to.
-abbrev pub FinishCall : (arcs rows margins flows potentials nets : Lent (List ℕ)) → Tried → Type 0
+abbrev pub FinishCall : (arcs rows : Lent (List ℕ)) (margins flows potentials nets : LentMut (List ℕ)) → Tried → Type 0
 FinishCall arcs rows margins flows potentials nets r =
     Finishing arcs.entry.now rows.entry.now (state_before flows potentials nets) r (state_after flows potentials nets) margins.exit.now

@@ -1,5 +1,6 @@
 // Amounts settled at potentials, each the nearest to its reading in its range, and the nets that they leave.
 #![tactic(auto)]
+
 ghost use Rattle.std.specs.Prelude.{◌≡◌, ℕ, ◌+◌, ◌*◌, ◌≤◌, ◌<◌, ltb, get_or, length, take, List};
 ghost use Rattle.num_bytes.specs.Choice.{pick};
 ghost use Rattle.plant_def.specs.Limits.{max_weight, places, max_streams};

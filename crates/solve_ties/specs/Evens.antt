@@ -1,6 +1,6 @@
 -- Streams that arcs and rows are of, potentials, and a flow before the tie pass comes to stream i.
 use Rattle.std.specs.Prelude.{◌≡◌, Bool, false, ◌&&◌, List, ℕ, ◌+◌, ◌*◌, ◌<◌, eqb, ltb, get_or, take}
-use Rattle.num_bytes.specs.Lent.{Lent}
+use Rattle.num_bytes.specs.Lent.{Lent, LentMut}
 use Rattle.plant_def.specs.declared.Stream.{Stream}
 use Rattle.solve_def.specs.SearchNeeds.{Network, Potentials}
 use Rattle.solve_def.specs.Model.{tied_at, ties_to}
@@ -41,7 +41,7 @@ abbrev pub TiedAll : List ℕ → List ℕ → List ℕ → List ℕ → List �
 TiedAll ls rs ps xs xs' = (w : Tieable ls rs ps 0 xs) → xs' ≡ ties_to (take w.n w.streams) ps w.n xs
 
 -- What the tie pass comes to at stream i, of what is lent to it; the margins are those of the amounts, metered streams up to i left alone.
-abbrev pub TieCall : (arcs rows margins flows potentials : Lent (List ℕ)) → ℕ → Type 0
+abbrev pub TieCall : (arcs rows : Lent (List ℕ)) (margins flows : LentMut (List ℕ)) (potentials : Lent (List ℕ)) → ℕ → Type 0
 TieCall arcs rows margins flows potentials i =
     TiedAt arcs.entry.now rows.entry.now potentials.entry.now i flows.entry.now flows.exit.now
     × Margined (count_of arcs.entry.now) rows.entry.now flows.exit.now 1 (i + 1) margins.exit.now

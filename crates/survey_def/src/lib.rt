@@ -2,6 +2,7 @@
 
 // The most streams of a plant that is surveyed.
 #![tactic(auto)]
+
 pub const MAX_SURVEYED: usize = 12;
 
 // How many counts there are: for no meter, one, and so on.

@@ -1,0 +1,14 @@
+-- `newton_laplacian::equations::join_all` meets its contract: each stream joined keeps the length.
+use Prim.Native.Nat.{◌<◌}
+use native.Mathlib.Omega.{arith}
+use Rattle.solve_arcs.specs.Cells.{count_of}
+use Rattle.newton_laplacian.proofs.equations.join_all.Goals as goal
+use Rattle.newton_laplacian.proofs.equations.join_all.Goals.{In-loop-i}
+
+used : (c : In-loop-i) → c.loop-i.i < count_of c.args.arcs.now
+used c = rw (← c.count_of-count.ensures) c.loop-i-test.true
+
+pub join_read-requires : goal.join_read-requires
+join_read-requires c =
+    let st = begin (goal.at.join_read-requires c).In-loop-i in
+    ((st.pre.0, st.pre.1, omega (arith, st.pre.2, c.loop-i.invariant.1)), used (goal.at.join_read-requires c).In-loop-i)

@@ -1,0 +1,30 @@
+-- Each turn hands over the next number.
+use native.Mathlib.Omega.{arith}
+use lib.IntN.{pos}
+use lib.ListN.{get_or}
+use mir.Syntax.{w64}
+use mir.Val.{SFits}
+use mir.Facts.{to_z-of_z}
+use Rattle.num_lent.proofs.Handing.{none_handed, slice_long, room_there, one_handed, itself, all_as_they_are}
+use borrow.Author.Rules.{rules}
+use Rattle.num_lent.proofs.put_signed.Goals as goal
+
+pub loop-k-init : goal.loop-k-init
+loop-k-init c = none_handed itself c.args.found c.args.count c.args.out.now (omega (arith, c.requires.0)) c.requires.1
+
+pub loop-k-preserved : goal.loop-k-preserved
+loop-k-preserved c =
+    let f : SFits w64 (get_or c.args.found c.loop-k.k (pos 0)) = search rules in
+    one_handed itself c.loop-k.invariant (pos 0) _ c.loop-k-test.true (to_z-of_z f)
+
+pub bounds-out-k : goal.bounds-out-k
+bounds-out-k c = room_there itself c.loop-k.invariant c.loop-k-test.true
+
+pub loop-k-smaller : goal.loop-k-smaller
+loop-k-smaller c = omega (arith, c.loop-k-test.true)
+
+pub shape_of-out : goal.shape_of-out
+shape_of-out c = slice_long itself c.loop-k.invariant
+
+pub returns : goal.returns
+returns c = all_as_they_are c.loop-k.invariant c.loop-k-test.false

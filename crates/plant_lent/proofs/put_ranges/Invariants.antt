@@ -1,0 +1,23 @@
+-- Each turn hands over whether the next stream has a range, and the ends of this.
+use lib.IntN.{ℤ}
+use Prim.Native.Nat.{ℕ, ◌-◌}
+use Rattle.num_bytes.specs.Choice.{pick}
+use Rattle.plant_def.specs.declared.Stream.{Stream}
+use Rattle.num_lent.proofs.Handing.{Handing}
+use Rattle.plant_lent.proofs.put_ranges.Given as goal
+
+abbrev pub told : Stream → ℕ
+told s = pick {A = ℕ} s.ranged 1 0
+
+abbrev pub lowest : Stream → ℤ
+lowest s = s.low
+
+abbrev pub highest : Stream → ℤ
+highest s = s.high
+
+abbrev pub invariant-loop-k : goal.invariant-loop-k
+invariant-loop-k l = 
+    Handing told l.streams l.count l.initial.ranged l.ranged l.k × Handing lowest l.streams l.count l.initial.low l.low l.k × Handing highest l.streams l.count l.initial.high l.high l.k
+
+abbrev pub decreases-loop-k : goal.decreases-loop-k
+decreases-loop-k l = l.count - l.k
