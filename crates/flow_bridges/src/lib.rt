@@ -1,5 +1,6 @@
 // The streams that join two groups, in one pass, and on which side of each a place lies.
 #![tactic(auto)]
+
 ghost use Rattle.std.specs.Prelude.{◌≡◌, ◌<◌, length, eqb, not};
 ghost use Rattle.std.specs.Int.Bits.{bit_xor};
 ghost use Rattle.num_bytes.specs.Choice.{pick};

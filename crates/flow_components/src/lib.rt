@@ -1,5 +1,6 @@
 // Groups of places, formed in one pass over the streams: each place has a label, the lowest place of its group.
 #![tactic(auto)]
+
 ghost use Rattle.std.specs.Prelude.{◌≡◌, ◌≤◌, ◌<◌, ℕ, length};
 ghost use Rattle.plant_def.specs.Limits.{max_units, places};
 ghost use Rattle.plant_def.specs.Within.{WithinStream};

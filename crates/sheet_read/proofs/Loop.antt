@@ -87,9 +87,8 @@ module _ {bytes : List ℕ} {es : List Entry} {c at : ℕ} (r : Reading bytes es
 
   -- Neither an entry nor a total: the refusal.
   pub refused_here : (h : SheetRecord) → h ≡ record_at c (part_from at bytes)
-      → (tag_of (declared record-type.enum) h ≡ 1) ⊎ (tag_of (declared record-type.enum) h ≡ 2)
-      → (tag_of (declared record-type.enum) h ≡ 0) ⊎ (tag_of (declared record-type.enum) h ≡ 2)
+      → ((x : Entry) (m : ℕ) → h ≡ Listed x m → ⊥) → ((t : Total) → h ≡ Ended t → ⊥)
       → (y : SheetRead) → y ≡ read_of (no_sheet (record_number h)) → ReadSays bytes y
-  refused_here (Listed x m) e a b y w = absurd (⊎_elim (λ v. omega arith) (λ v. omega arith) a)
-  refused_here (Ended t) e a b y w = absurd (⊎_elim (λ v. omega arith) (λ v. omega arith) b)
+  refused_here (Listed x m) e a b y w = absurd (a x m refl)
+  refused_here (Ended t) e a b y w = absurd (b t refl)
   refused_here (Refused f) e a b y w = w ∙ ap read_of (sym (next e))

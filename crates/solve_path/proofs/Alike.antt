@@ -103,8 +103,9 @@ module _ (fs ts gs bs : List ℕ) (ls : List Bool) (k e : ℕ) where
 
   alike_to : {xs ys : List ℕ} (n : ℕ) → Alike xs ys → Alike (relaxed_to fs ts gs bs ls k e n xs) (relaxed_to fs ts gs bs ls k e n ys)
   unfolding relaxed_to
-  alike_to zero h = h
-  alike_to (suc n) h = alike_to n (alike_at h n)
+  alike_to {xs = xs} {ys = ys} zero h = h
+  alike_to {xs = xs} {ys = ys} (suc n) h =
+      alike_to {xs = relaxed_at fs ts gs bs ls k e n xs} {ys = relaxed_at fs ts gs bs ls k e n ys} n (alike_at h n)
 
 -- The nearest of either: one place at the distance 0, or none is at that distance.
 abbrev Both : List ℕ → List ℕ → ℕ → ℕ → Type 0

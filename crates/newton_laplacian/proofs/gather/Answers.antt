@@ -15,18 +15,20 @@ loop-i-init c = (omega arith, omega arith, c.requires.1, λ n p e. e)
 pub take_in-k-requires : goal.take_in-k-requires
 take_in-k-requires c =
     let at = c.loop-i in
-    let st = begin (goal.at.take_in-k-requires c).In-loop-i in
-    (at.invariant.2, omega (arith, at.invariant.1, low_in _ _ st.pre.0.1.laying _ (used (goal.at.take_in-k-requires c).In-loop-i)), st.pre.0, used (goal.at.take_in-k-requires c).In-loop-i)
+    (at.invariant.2, omega (arith, at.invariant.1, low_in _ _ c.requires.0.1.laying _ (used (goal.at.take_in-k-requires c).In-loop-i)), c.requires.0, used (goal.at.take_in-k-requires c).In-loop-i)
 
 pub loop-i-preserved : goal.loop-i-preserved
 loop-i-preserved c =
     let at = c.loop-i in
     let o = c.take_in-k.ensures in
-    (omega arith, omega (arith, at.invariant.1, o.0.1), o.0.0, λ n p e. o.1 n p (at.invariant.3 n p e))
+    (omega arith, omega (arith, at.invariant.1, o.long.1), o.long.0, λ n p e. o.still_ends n p (at.invariant.3 n p e))
 
 pub returns : goal.returns
 returns c =
     let at = c.loop-i in
     let w = c.requires.0.1.laying in
     let n = c.count_of-n.ensures in
-    ((at.invariant.2.1, omega (arith, at.invariant.0, at.invariant.1, n, w.laid.along.counted, w.network.within.few_streams)), at.invariant.3)
+    record {
+      meters_len = (at.invariant.2.1, omega (arith, at.invariant.0, at.invariant.1, n, w.laid.along.counted, w.network.within.few_streams));
+      still_ends = at.invariant.3;
+    }

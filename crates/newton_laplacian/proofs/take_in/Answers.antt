@@ -35,14 +35,14 @@ pub bounds-rows-i : goal.bounds-rows-i
 bounds-rows-i c = omega (arith, low_in _ _ c.requires.2.1.laying _ c.requires.3)
 
 pub put-requires : goal.put-requires
-put-requires c = (c.pre.0, c.pre.1, read_of _ _ c.pre.2.1.laying _ c.pre.3)
+put-requires c = (c.requires.0, c.requires.1, read_of _ _ c.requires.2.1.laying _ c.requires.3)
 
 pub returns : goal.returns
 returns c =
     let o = c.put.ensures in
-    (
-      ((rw o.0 (simp length-set c.requires.0.0), o.1), omega arith),
-      λ n p e. rw o.0 (ends_set n _ _ _
+    record {
+      long = ((rw o.0 (simp length-set c.requires.0.0), o.1), omega arith);
+      still_ends = λ n p e. rw o.0 (ends_set n _ _ _
           (ends_set n _ _ _ e (omega (arith, c.requires.1)) (rw c.group_at-g.ensures (p.starts _ c.requires.3)))
-          (omega (arith, c.requires.1)) (rw c.group_at-h.ensures (p.ends _ c.requires.3))),
-    )
+          (omega (arith, c.requires.1)) (rw c.group_at-h.ensures (p.ends _ c.requires.3)));
+    }

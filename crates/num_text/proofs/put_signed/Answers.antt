@@ -11,11 +11,11 @@ use Rattle.num_text.proofs.put_signed.Goals.{Else-z-ge0, Then-z-ge0}
 
 -- At or above zero.
 at : (c : Then-z-ge0) → signed_decimal c.args.z ≡ decimal c.size_of-size.result
-at c = signed_at c.args.z c.size_of-size.result c.ranges.z c.type_size.ensures c.if-z-ge0.true
+at c = signed_at c.args.z c.size_of-size.result c.ranges.z c.size_of-size.ensures c.if-z-ge0.true
 
 -- Below it.
 under : (c : Else-z-ge0) → signed_decimal c.args.z ≡ text "-" ++ decimal c.size_of-size.result
-under c = signed_under c.args.z c.size_of-size.result c.ranges.z c.type_size.ensures c.if-z-ge0.false
+under c = signed_under c.args.z c.size_of-size.result c.ranges.z c.size_of-size.ensures c.if-z-ge0.false
 
 pub put_decimal-requires : goal.put_decimal-requires
 put_decimal-requires c = omega (arith, ap length (at (goal.at.put_decimal-requires c).Then-z-ge0))

@@ -16,7 +16,7 @@ abbrev pub read : Stream → ℤ
 read s = s.reading
 
 abbrev pub invariant-loop-k : goal.invariant-loop-k
-invariant-loop-k l = 
+invariant-loop-k l =
     Handing told l.streams l.count l.initial.metered l.metered l.k × Handing weighed l.streams l.count l.initial.weight l.weight l.k × Handing read l.streams l.count l.initial.reading l.reading l.k
 
 abbrev pub decreases-loop-k : goal.decreases-loop-k

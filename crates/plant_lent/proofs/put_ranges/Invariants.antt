@@ -16,7 +16,7 @@ abbrev pub highest : Stream → ℤ
 highest s = s.high
 
 abbrev pub invariant-loop-k : goal.invariant-loop-k
-invariant-loop-k l = 
+invariant-loop-k l =
     Handing told l.streams l.count l.initial.ranged l.ranged l.k × Handing lowest l.streams l.count l.initial.low l.low l.k × Handing highest l.streams l.count l.initial.high l.high l.k
 
 abbrev pub decreases-loop-k : goal.decreases-loop-k

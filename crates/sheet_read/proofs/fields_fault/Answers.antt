@@ -20,8 +20,8 @@ returns-then-t-gt-MAX_UNITS c = simp (lt-ltb _ _ c.if-t-ge-OFFICES.false, ne_eqb
 
 pub returns-then-verdict_fits : goal.returns-then-verdict_fits
 returns-then-verdict_fits c =
-    by_verdict _ _ _ _ true (lt-ltb _ _ c.if-t-ge-OFFICES.false) (ne_eqb _ 0 c.if-t-eq0.false) (le-leb _ _ c.if-t-gt-MAX_UNITS.false) (sym c.if-verdict_fits.true ∙ c.verdict_fits_lem.ensures)
+    by_verdict _ _ _ _ true (lt-ltb _ _ c.if-t-ge-OFFICES.false) (ne_eqb _ 0 c.if-t-eq0.false) (le-leb _ _ c.if-t-gt-MAX_UNITS.false) (sym c.if-verdict_fits.true ∙ c.verdict_fits.ensures)
 
 pub returns : goal.returns
 returns c =
-    by_verdict _ _ _ _ false (lt-ltb _ _ c.if-t-ge-OFFICES.false) (ne_eqb _ 0 c.if-t-eq0.false) (le-leb _ _ c.if-t-gt-MAX_UNITS.false) (sym c.if-verdict_fits.false ∙ c.verdict_fits_lem.ensures)
+    by_verdict _ _ _ _ false (lt-ltb _ _ c.if-t-ge-OFFICES.false) (ne_eqb _ 0 c.if-t-eq0.false) (le-leb _ _ c.if-t-gt-MAX_UNITS.false) (sym c.if-verdict_fits.false ∙ c.verdict_fits.ensures)

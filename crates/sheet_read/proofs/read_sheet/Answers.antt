@@ -20,7 +20,7 @@ loop-entry-init c = begin c.args.bytes.now c.blank_entry-none.result c.blank_ent
 
 pub returns-in_default-found : goal.returns-in_default-found
 returns-in_default-found c =
-    refused_here c.loop-entry.invariant _ c.read_record-found.ensures c.in_default.in_default-own.keys2 c.in_default-found.in_default-found-own.keys2 c.refusal.result
+    refused_here c.loop-entry.invariant _ c.read_record-found.ensures c.in_default.not-Listed c.in_default-found.not-Ended c.refusal.result
     (c.refusal.ensures ∙ ap (λ (f : ℕ). read_of (no_sheet f)) c.record_number.ensures)
 
 pub returns-in_default : goal.returns-in_default

@@ -11,7 +11,7 @@ use Rattle.solve_arcs.specs.Cells.{to_cell, count_of}
 use Rattle.solve_arcs.proofs.Rowing.{start_in, end_in}
 use Rattle.solve_infeasible.proofs.Edges.{bounded_none, pressed_none, pressed_most, row_range, bounded_next, pressed_next, full_stop, full_end}
 use Rattle.solve_infeasible.proofs.overfull.Goals as goal
-use Rattle.solve_infeasible.proofs.overfull.Goals.{After-end_at, After-may_cross, After-pressed-sum, After-way_told-1, At-loop-i, In-loop-i}
+use Rattle.solve_infeasible.proofs.overfull.Goals.{After-may_cross, After-pressed-sum, In-loop-i}
 
 below : (c : In-loop-i) → c.loop-i.i < count_of c.args.arcs.now
 below c = omega (arith, c.loop-i-test.true, c.count_of-n.ensures)
@@ -32,10 +32,9 @@ may_is : (c : After-may_cross)
 may_is c = c.may_cross.ensures ∙ may_same c.args.marked.now _ c.end_at.ensures c.end_at-in-loop-i.ensures
 
 press_is : (c : After-pressed-sum)
-    → let st = begin (record { before = c.before.before.before.before.before.before.before.before.before.before; type_inv = record { marked = c.type_inv.marked; } }) in
-    let ls = st.args.arcs.now in
-    let rs = st.args.rows.now in
-    let ms = st.args.marked.now in
+    → let ls = c.args.arcs.now in
+    let rs = c.args.rows.now in
+    let ms = c.args.marked.now in
     let i = c.loop-i.i in
     c.pressed-sum.result ≡ pressed (get_or ms (get_or ls (to_cell + 2 * i) 0) false) (get_or ms (get_or ls (to_cell + (2 * i + 1)) 0) false) (get_or rs (4 * i + 2) 0) (get_or rs (4 * i + 3) 0)
 press_is c =
@@ -47,52 +46,47 @@ loop-i-init c =
 
 pub bounds-marked-end_at : goal.bounds-marked-end_at
 bounds-marked-end_at c =
-    let st = begin (goal.at.bounds-marked-end_at c).After-end_at in
-    rw c.end_at.ensures (start_in _ _ st.pre _ (below (goal.at.bounds-marked-end_at c).After-end_at))
+    rw c.end_at.ensures (start_in _ _ c.requires _ (below (goal.at.bounds-marked-end_at c).In-loop-i))
 
 pub bounds-marked-end_at-in-loop-i : goal.bounds-marked-end_at-in-loop-i
 bounds-marked-end_at-in-loop-i c =
-    let st = begin (goal.at.bounds-marked-end_at-in-loop-i c).After-end_at in
-    rw c.end_at-in-loop-i.ensures (end_in _ _ st.pre _ (below (goal.at.bounds-marked-end_at-in-loop-i c).After-end_at))
+    rw c.end_at-in-loop-i.ensures (end_in _ _ c.requires _ (below (goal.at.bounds-marked-end_at-in-loop-i c).In-loop-i))
 
 pub returns-then-not-may_cross : goal.returns-then-not-may_cross
-returns-then-not-may_cross c = λ w. full_stop _ _ w _ _ (below (goal.at.returns-then-not-may_cross c).After-way_told-1) (sym (may_is (goal.at.returns-then-not-may_cross c).After-may_cross) ∙ c.if-not-may_cross.true)
+returns-then-not-may_cross c = λ w. full_stop _ _ w _ _ (below (goal.at.returns-then-not-may_cross c).In-loop-i) (sym (may_is (goal.at.returns-then-not-may_cross c).After-may_cross) ∙ c.if-not-may_cross.true)
 
 pub pressed-sum-requires : goal.pressed-sum-requires
 pressed-sum-requires c =
-    let st = begin (goal.at.pressed-sum-requires c).After-way_told-1 in
-    (row_range _ _ st.pre st.args.marked.now _ (below (goal.at.pressed-sum-requires c).After-way_told-1)).1
+    (row_range _ _ c.requires c.args.marked.now _ (below (goal.at.pressed-sum-requires c).In-loop-i)).1
 
 -- No sum is too large.
 sum_most : (c : After-pressed-sum) → c.pressed-sum.result ≤ most_flow
 sum_most c =
-    let st = begin (record { before = c.before.before.before.before.before.before.before.before.before.before; type_inv = record { marked = c.type_inv.marked; } }) in
-    let ls = st.args.arcs.now in
-    let ms = st.args.marked.now in
+    let ls = c.args.arcs.now in
+    let ms = c.args.marked.now in
     let i = c.loop-i.i in
-    let rs = st.args.rows.now in
+    let rs = c.args.rows.now in
     let start = get_or ms (get_or ls (to_cell + 2 * i) 0) false in
     let end = get_or ms (get_or ls (to_cell + (2 * i + 1)) 0) false in
-    let m = pressed_most start end (get_or rs (4 * i + 2) 0) (get_or rs (4 * i + 3) 0) (row_range _ _ st.pre ms i (below (record { before = c.before.before.before.before.before.before.before.before.before.before; type_inv = record { marked = c.type_inv.marked; } }))).0 in
+    let m = pressed_most start end (get_or rs (4 * i + 2) 0) (get_or rs (4 * i + 3) 0) (row_range _ _ c.requires ms i (below c.before.before.before.before.before.before.before.before.before.before.before.before)).0 in
     omega (arith, press_is c, m)
 
 pub overflow_add-sum : goal.overflow_add-sum
 overflow_add-sum c =
-    omega (arith, sum_most c, c.loop-i.inv.1)
+    omega (arith, sum_most c, c.loop-i.invariant.1)
 
 pub loop-i-preserved : goal.loop-i-preserved
-loop-i-preserved c =
-    let on = inner (goal.at.loop-i-preserved c).After-may_cross in (
-      omega arith,
-      omega (arith, sum_most c, on.before.loop.inv.1),
-      λ w. (
-        bounded_next _ _ w _ _ (below on) (sym (may_is (goal.at.loop-i-preserved c).After-may_cross) ∙ c.if-not-may_cross.false) (on.before.loop.inv.2 w).0,
-        omega (arith, pressed_next _ _ w on.before.before.before.args.marked.now _ (below on), press_is c, (on.before.loop.inv.2 w).1),
-      ),
-      on.before.loop.inv.3,
-    )
+loop-i-preserved c = (
+  omega arith,
+  omega (arith, sum_most c, c.loop-i.invariant.1),
+  λ w. (
+    bounded_next _ _ w _ _ (below (goal.at.loop-i-preserved c).In-loop-i) (sym (may_is (goal.at.loop-i-preserved c).After-may_cross) ∙ c.if-not-may_cross.false) (c.loop-i.invariant.2 w).0,
+    omega (arith, pressed_next _ _ w c.args.marked.now _ (below (goal.at.loop-i-preserved c).In-loop-i), press_is c, (c.loop-i.invariant.2 w).1),
+  ),
+  c.loop-i.invariant.3,
+)
 
 pub returns : goal.returns
 returns c = λ w.
     let e : c.loop-i.i ≡ c.count_of-n.result = omega (arith, c.loop-i-test.false, c.loop-i.invariant.0) in
-    full_end _ _ w _ c.count_of-n.result _ _ c.count_of-n.ensures (rw e (goal.at.returns c).At-loop-i (c.loop-i.invariant.2 w).0) (rw e (goal.at.returns c).At-loop-i (c.loop-i.invariant.2 w).1) refl
+    full_end _ _ w _ c.count_of-n.result _ _ c.count_of-n.ensures (rw e at (c.loop-i.invariant.2 w).0) (rw e at (c.loop-i.invariant.2 w).1) refl

@@ -9,7 +9,7 @@ use Rattle.solve_arcs.specs.ArcNeeds.{OfStreams}
 use Rattle.solve_infeasible.proofs.overfull.Given as goal
 
 abbrev pub invariant-loop-i : goal.invariant-loop-i
-invariant-loop-i l = 
+invariant-loop-i l =
     (l.i ≤ l.n)
     × (l.sum ≤ l.i * most_flow)
     × OfStreams l.arcs l.rows (λ ss m. (bounded_to ss l.marked l.i ≡ true) × (l.sum ≡ pressed_to ss l.marked l.i))

@@ -6,6 +6,7 @@ use native.Mathlib.Omega.{arith}
 use lib.Dec.{ltb}
 use Rattle.num_bytes.specs.Choice.{pick}
 use Rattle.solve_settle.proofs.clamp.Goals as goal
+use Rattle.solve_settle.proofs.clamp.Goals.{then-high-x, else-high-x}
 use Rattle.solve_settle.proofs.clamp.Goals.{Joined-high-x}
 
 pub returns-then-x-low : goal.returns-then-x-low
@@ -15,7 +16,7 @@ returns-then-x-low c = rw (lt-ltb _ _ c.if-x-low.true)
 capped : (c : Joined-high-x) → let a = c.args in c.if-high-x.y ≡ pick (ltb a.high a.x) a.high a.x
 capped c =
     let a = c.args in
-    ⊎_elim (λ o. o.1 ∙ rw (lt-ltb _ _ o.0.taken)) (λ o. o.1 ∙ rw (le-ltb a.high a.x (omega (arith, o.0.left)))) c.if-high-x.branch
+    elim c.if-high-x.branch [ then-high-x o ↦ o.y-is ∙ rw (lt-ltb _ _ o.if-high-x.true) | else-high-x o ↦ o.y-is ∙ rw (le-ltb a.high a.x o.if-high-x.false) ]
 
 pub returns-else-x-low : goal.returns-else-x-low
 returns-else-x-low c =

@@ -4,7 +4,6 @@ use Prim.Native.Nat.{◌+◌, ◌-◌, ◌*◌}
 use native.Mathlib.Omega.{arith}
 use Rattle.newton_laplacian.proofs.Changes.{rest_none, rest_more, change_found}
 use Rattle.newton_laplacian.proofs.elimination.change_at.Goals as goal
-use Rattle.newton_laplacian.proofs.elimination.change_at.Goals.{At-loop-j}
 
 pub returns-then-pivot : goal.returns-then-pivot
 returns-then-pivot c = rw c.if-pivot.true
@@ -20,4 +19,4 @@ loop-j-preserved c = (omega arith, rest_more _ _ _ c.loop-j.j c.loop-j.rest c.lo
 pub returns : goal.returns
 returns c =
     let e : c.loop-j.j ≡ c.args.k = omega (arith, c.loop-j-test.false, c.loop-j.invariant.0) in
-    change_found _ c.args.a.now c.args.x.now c.args.k c.loop-j.rest c.if-pivot.false (rw e (goal.at.returns c).At-loop-j c.loop-j.invariant.1)
+    change_found _ c.args.a.now c.args.x.now c.args.k c.loop-j.rest c.if-pivot.false (rw e at c.loop-j.invariant.1)

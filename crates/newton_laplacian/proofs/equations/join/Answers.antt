@@ -17,7 +17,7 @@ both : (c : After-end_at-h) → let g = c.start_at-g.result in let h = c.end_at-
     Fits (suc g) a × Fits (suc h) a × (g < places) × (h < places)
 both c =
     let all = c.requires in
-    (omega (arith, start_in (record { before = c.before.before; type_inv = record { a = c.type_inv.a; } }), all.2), omega (arith, end_in c, all.2), omega (arith, start_in (record { before = c.before.before; type_inv = record { a = c.type_inv.a; } }), all.1.few), omega (arith, end_in c, all.1.few))
+    (omega (arith, start_in (record { before = c.before.before; type_inv = record { a = c.type_inv.a } }), all.2), omega (arith, end_in c, all.2), omega (arith, start_in (record { before = c.before.before; type_inv = record { a = c.type_inv.a } }), all.1.few), omega (arith, end_in c, all.1.few))
 
 pub offset_bounds-potentials-h : goal.offset_bounds-potentials-h
 offset_bounds-potentials-h c = omega (arith, end_in (goal.at.offset_bounds-potentials-h c).After-end_at-h, c.requires.1.few)

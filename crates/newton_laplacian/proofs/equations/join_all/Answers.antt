@@ -10,5 +10,4 @@ used c = rw (← c.count_of-count.ensures) c.loop-i-test.true
 
 pub join_read-requires : goal.join_read-requires
 join_read-requires c =
-    let st = begin (goal.at.join_read-requires c).In-loop-i in
-    ((st.pre.0, st.pre.1, omega (arith, st.pre.2, c.loop-i.invariant.1)), used (goal.at.join_read-requires c).In-loop-i)
+    ((c.requires.0, c.requires.1, omega (arith, c.requires.2, c.loop-i.invariant.1)), used (goal.at.join_read-requires c).In-loop-i)

@@ -34,10 +34,10 @@ pub bounds-rows-i : goal.bounds-rows-i
 bounds-rows-i c = omega (arith, low_in _ _ c.requires.0.1.laying _ c.requires.1)
 
 pub conductance_of-c-requires : goal.conductance_of-c-requires
-conductance_of-c-requires c = read_of _ _ c.pre.0.1.laying _ c.pre.1
+conductance_of-c-requires c = read_of _ _ c.requires.0.1.laying _ c.requires.1
 
 pub reading_of-x-requires : goal.reading_of-x-requires
-reading_of-x-requires c = read_of _ _ c.pre.0.1.laying _ c.pre.1
+reading_of-x-requires c = read_of _ _ c.requires.0.1.laying _ c.requires.1
 
 pub between-requires : goal.between-requires
 between-requires c =

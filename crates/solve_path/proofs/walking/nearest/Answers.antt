@@ -9,7 +9,8 @@ use borrow.Author.Rules.{rules}
 use Rattle.plant_def.specs.Limits.{places}
 use Rattle.solve_path.proofs.Pacing.{scanned_none, scanned_in, scanned_nearer, scanned_not, scanned_all}
 use Rattle.solve_path.proofs.walking.nearest.Goals as goal
-use Rattle.solve_path.proofs.walking.nearest.Goals.{After-way_told-1, In-loop-left}
+use Rattle.solve_path.proofs.walking.nearest.Goals.{then-code-best, else-code-best}
+use Rattle.solve_path.proofs.walking.nearest.Goals.{In-loop-left}
 
 -- The lowest that is left is a place.
 place : (c : In-loop-left) → count_trailing_zeros 64 c.loop-left.left < places
@@ -25,7 +26,7 @@ pub offset_bounds-near-u : goal.offset_bounds-near-u
 offset_bounds-near-u c = omega (arith, place c)
 
 pub bounds-near-u : goal.bounds-near-u
-bounds-near-u c = place c
+bounds-near-u c = place (goal.at.bounds-near-u c).In-loop-left
 
 pub loop-left-smaller : goal.loop-left-smaller
 loop-left-smaller c =
@@ -34,10 +35,10 @@ loop-left-smaller c =
 pub loop-left-preserved : goal.loop-left-preserved
 loop-left-preserved c =
     let w = c.loop-left.invariant.1 in
-    ⊎_elim
-    (λ o. rw (o.1, o.2) (omega (arith, place (goal.at.loop-left-preserved c).After-way_told-1), scanned_nearer _ _ _ _ _ w c.loop-left-test.true o.0.taken))
-    (λ o. rw (o.1, o.2) (c.loop-left.invariant.0, scanned_not _ _ _ _ _ w c.loop-left-test.true o.0.left))
-    c.if-code-best.branch
+    elim c.if-code-best.branch [
+      | then-code-best o ↦ rw (o.best-is, o.at-is) (omega (arith, place (goal.at.loop-left-preserved c).In-loop-left), scanned_nearer _ _ _ _ _ w c.loop-left-test.true o.if-code-best.true)
+      | else-code-best o ↦ rw (o.best-is, o.at-is) (c.loop-left.invariant.0, scanned_not _ _ _ _ _ w c.loop-left-test.true o.if-code-best.false)
+    ]
 
 pub returns : goal.returns
 returns c =

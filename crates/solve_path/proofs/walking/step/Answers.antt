@@ -13,12 +13,11 @@ nearest-e-requires c =
     (c.relax-fringe.ensures.0, (v.0, v.1, (c.relax-fringe.ensures.1 v.0 v.1 v.2).coded))
 
 pub returns-then-e-eq-PLACES : goal.returns-then-e-eq-PLACES
-returns-then-e-eq-PLACES c =
-    (
-      c.relax-fringe.ensures.0,
-      λ limit vs l h. let w = c.relax-fringe.ensures.1 limit vs h in paced_none _ _ _ _ _ _ _ _ _ limit vs w _ (c.nearest-e.ensures.1 limit vs w.coded) c.if-e-eq-PLACES.true,
-      omega arith,
-    )
+returns-then-e-eq-PLACES c = (
+  c.relax-fringe.ensures.0,
+  λ limit vs l h. let w = c.relax-fringe.ensures.1 limit vs h in paced_none _ _ _ _ _ _ _ _ _ limit vs w _ (c.nearest-e.ensures.1 limit vs w.coded) c.if-e-eq-PLACES.true,
+  omega arith,
+)
 
 pub returns : goal.returns
 returns c =

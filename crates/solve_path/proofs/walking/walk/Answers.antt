@@ -14,7 +14,7 @@ step-at-requires c =
 pub returns-then-e-eq-PLACES : goal.returns-then-e-eq-PLACES
 returns-then-e-eq-PLACES c =
     let g = c.loop-left.invariant in
-    c.Walked-by.ensures ∙ stops _ _ _ _ _ _ _ _ _ _ g c.loop-left-test.true _ _ (c.step-at.ensures.1 _ _ g.visits g.coded) c.if-e-eq-PLACES.true
+    c.walked_by.ensures ∙ stops _ _ _ _ _ _ _ _ _ _ g c.loop-left-test.true _ _ (c.step-at.ensures.1 _ _ g.visits g.coded) c.if-e-eq-PLACES.true
 
 pub returns-then-nets-e-lt-NET_SHIFT : goal.returns-then-nets-e-lt-NET_SHIFT
 returns-then-nets-e-lt-NET_SHIFT c =
