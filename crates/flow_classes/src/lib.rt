@@ -1,5 +1,6 @@
 // The class of a stream, and the degrees of freedom.
 #![tactic(auto)]
+
 ghost use Rattle.std.specs.Prelude.{◌≡◌, ◌≤◌, ◌<◌, length};
 ghost use Rattle.plant_def.specs.Limits.{max_units, places};
 ghost use Rattle.plant_def.specs.declared.Plant.{Plant};

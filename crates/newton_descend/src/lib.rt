@@ -1,5 +1,6 @@
 // Potentials of places (node potentials) at which the real-number optimum of a plant balances, made whole.
 #![tactic(auto)]
+
 use descents::descend;
 use guesses::places_of;
 use newton_laplacian::equations::{CELLS, FEW, FEW_CELLS, SOME, SOME_CELLS, first_direction};

@@ -1,5 +1,6 @@
 // Meters to buy: the prices that a call is handed, the call, and what it hands over in a lent slice.
 #![tactic(auto)]
+
 use plant_def::Plant;
 use plant_def::limits::MAX_STREAMS;
 use purchase_def::MAX_PRICE;

@@ -1,5 +1,6 @@
 // A kept sheet's streams, handed over in one slice for the kinds of their records and one for the flows.
 #![tactic(auto)]
+
 ghost use Rattle.std.specs.Prelude.{◌≡◌, ◌≤◌, length, take};
 ghost use Rattle.num_bytes.specs.Bytes.{over};
 ghost use Rattle.plant_def.specs.Limits.{max_streams};

@@ -1,5 +1,6 @@
 // Improvements over arcs: net is moved from a place that has too much to one that has too little, at the least cost.
 #![tactic(auto)]
+
 ghost use Rattle.solve_def.specs.Model.{state_of};
 ghost use Rattle.solve_improve.specs.Improves.{Improves, ImproveCall};
 

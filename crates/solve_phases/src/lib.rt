@@ -1,5 +1,6 @@
 // Phases: improvements from the places one after the other, at smaller and smaller steps.
 #![tactic(auto)]
+
 ghost use Rattle.std.specs.Prelude.{◌≡◌, ◌<◌, length};
 ghost use Rattle.plant_def.specs.Limits.{places};
 ghost use Rattle.solve_def.specs.Model.{state_of};

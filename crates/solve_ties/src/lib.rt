@@ -1,5 +1,6 @@
 // Ties over arcs: among equally cheap flows, the first metered stream least, then the second, and so on.
 #![tactic(auto)]
+
 ghost use Rattle.std.specs.Prelude.{false, ◌≡◌, ◌+◌, ◌*◌, ◌<◌, length};
 ghost use Rattle.plant_def.specs.Limits.{max_streams};
 ghost use Rattle.solve_arcs.specs.Cells.{count_of, margin_cells};

@@ -1,5 +1,6 @@
 // The survey of meter layouts, counted over the sets of a plant's streams: the call.
 #![tactic(auto)]
+
 ghost use Rattle.std.specs.Prelude.{◌≡◌, ℕ, ◌^◌, ◌≤◌, ◌<◌, length, get_or, take};
 ghost use Rattle.plant_def.specs.Within.{Accepted};
 ghost use Rattle.survey_def.specs.Says.{max_surveyed, survey_size, refused_with, Surveyed, SurveySays};

@@ -12,11 +12,10 @@ returns-then-h-eq0 c =
     )
 
 pub returns : goal.returns
-returns c =
-    (
-      λ s r m. c.looped_by-looped.ensures s r m,
-      (
-        λ s r. c.part.ensures s r,
-        λ s r m. step_joins c.args.labels.now s _ (λ z. c.if-h-eq0.false (c.requires.1 s r m ∙ z)) (c.join.ensures s r.start r.end),
-      ),
-    )
+returns c = (
+  λ s r m. c.looped_by-looped.ensures s r m,
+  (
+    λ s r. c.part.ensures s r,
+    λ s r m. step_joins c.args.labels.now s _ (λ z. c.if-h-eq0.false (c.requires.1 s r m ∙ z)) (c.join.ensures s r.start r.end),
+  ),
+)

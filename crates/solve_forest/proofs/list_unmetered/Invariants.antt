@@ -5,7 +5,7 @@ use Rattle.solve_forest.specs.Forests.{ListedOf}
 use Rattle.solve_forest.proofs.list_unmetered.Given as goal
 
 abbrev pub invariant-loop-i : goal.invariant-loop-i
-invariant-loop-i l = 
+invariant-loop-i l =
     (l.i ≤ l.count) × (l.n ≤ l.i) × (l.count ≤ max_streams) × (length l.listed ≡ max_streams) × ListedOf l.arcs l.rows l.listed l.n
 
 abbrev pub decreases-loop-i : goal.decreases-loop-i

@@ -13,8 +13,7 @@ pub overflow_add-result : goal.overflow_add-result
 overflow_add-result c = let h = spanning_room c.requires.0 c.args.e c.requires.1 c.if-reached-e.false in search rules
 
 pub returns : goal.returns
-returns c =
-    (
-      spanning_grown c.requires.0 c.args.e c.requires.1 c.if-reached-e.false c.args.i c.args.inwards,
-      listed_grown c.requires.0 c.args.e c.requires.1 c.if-reached-e.false c.args.i,
-    )
+returns c = (
+  spanning_grown c.requires.0 c.args.e c.requires.1 c.if-reached-e.false c.args.i c.args.inwards,
+  listed_grown c.requires.0 c.args.e c.requires.1 c.if-reached-e.false c.args.i,
+)

@@ -5,7 +5,7 @@ use Rattle.solve_forest.specs.Routes.{Routes, Unchanged, Routing}
 use Rattle.solve_forest.proofs.route.Given as goal
 
 abbrev pub invariant-loop-k : goal.invariant-loop-k
-invariant-loop-k l = 
+invariant-loop-k l =
     (l.k ≤ l.f.len)
     × (length l.nets ≡ places)
     × ((w : Routing l.arcs l.f l.initial.flows) → Routes (take w.laying.n w.laying.streams) l.flows × Unchanged w.laying.streams w.laying.n l.initial.flows l.flows)

@@ -14,7 +14,7 @@ loop-u-preserved c =
       omega arith,
       elim c.if-not-reached-u.branch [ then-not-reached-u w ↦ omega arith | else-not-reached-u w ↦ omega arith ],
       elim c.if-not-reached-u.branch [
-        then-not-reached-u w ↦ w.c-is ∙ count_next f _ _ c.loop-u.invariant.2 w.if-not-reached-u.true-raw
+        | then-not-reached-u w ↦ w.c-is ∙ count_next f _ _ c.loop-u.invariant.2 w.if-not-reached-u.true-raw
         | else-not-reached-u w ↦ w.c-is ∙ count_stay f _ _ c.loop-u.invariant.2 w.if-not-reached-u.false-raw
       ],
     )

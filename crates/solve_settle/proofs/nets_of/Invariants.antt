@@ -9,7 +9,7 @@ use Rattle.solve_arcs.specs.ArcNeeds.{Laying}
 use Rattle.solve_settle.proofs.nets_of.Given as goal
 
 abbrev pub invariant-loop-i : goal.invariant-loop-i
-invariant-loop-i l = 
+invariant-loop-i l =
     (l.i ≤ l.n) × ((rs : List ℕ) (w : Laying l.arcs rs) → l.nets ≡ nets_to (take w.n w.streams) l.flows l.i) × (l.n ≤ max_streams)
 
 abbrev pub decreases-loop-i : goal.decreases-loop-i

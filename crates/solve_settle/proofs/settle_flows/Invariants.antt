@@ -7,7 +7,7 @@ use Rattle.solve_arcs.specs.ArcNeeds.{OfStreams}
 use Rattle.solve_settle.proofs.settle_flows.Given as goal
 
 abbrev pub invariant-loop-i : goal.invariant-loop-i
-invariant-loop-i l = 
+invariant-loop-i l =
     (l.i ≤ l.n) × OfStreams l.arcs l.rows (λ ss m. l.flows ≡ settled_to ss l.potentials l.initial.flows l.i) × (l.n ≤ max_streams)
 
 abbrev pub decreases-loop-i : goal.decreases-loop-i
