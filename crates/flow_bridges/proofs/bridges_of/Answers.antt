@@ -11,7 +11,7 @@ use Rattle.solve_arcs_fill.specs.Plants.{LaidOf}
 use Rattle.solve_arcs_fill.proofs.Plants.{counted, few, from_at, to_at, from_low, to_low, metered_at}
 use Rattle.flow_bridges.specs.Runs.{Runs}
 use Rattle.flow_bridges.proofs.bridges_of.Goals as goal
-use Rattle.flow_bridges.proofs.bridges_of.Goals.{After-way_told-1, In-loop-i}
+use Rattle.flow_bridges.proofs.bridges_of.Goals.{After-end_at-v, In-loop-i}
 
 abbrev Of : In-loop-i → Plant → Type 0
 Of c p = LaidOf p c.args.arcs.now c.args.rows.now
@@ -50,52 +50,45 @@ pub bounds-rows-i : goal.bounds-rows-i
 bounds-rows-i c = omega (arith, low (goal.at.bounds-rows-i c).In-loop-i)
 
 -- The ends are places, and those of the plant's stream.
-module _ (c : tie.After-end-at2 invariant_loop decreases_loop) where
-  abbrev on : tie.In-loop invariant_loop decreases_loop
-  on = c.before.before
+u_in : (c : After-end_at-v) → c.end_at-u.result < places
+u_in c = let w = c.requires in rw c.end_at-u.ensures (from_low w.1 _ (used c.before.before w.0 w.1))
 
-  u_in : c.before.end-at.result < places
-  u_in = let w = (begin on).pre in rw c.before.end-at.ensures (from_low w.1 _ (used on w.0 w.1))
+v_in : (c : After-end_at-v) → c.end_at-v.result < places
+v_in c = let w = c.requires in rw c.end_at-v.ensures (to_low w.1 _ (used c.before.before w.0 w.1))
 
-  v_in : c.end-at2.result < places
-  v_in = let w = (begin on).pre in rw c.end-at2.ensures (to_low w.1 _ (used on w.0 w.1))
-
-  runs : (p : Plant) → Of on p → Runs (get_or p.streams on.before.loop.i no_stream) c.before.end-at.result c.end-at2.result
-  runs p w =
-      let l = used on p w in
-      record { start = sym (c.before.end-at.ensures ∙ from_at w _ l); end = sym (c.end-at2.ensures ∙ to_at w _ l) }
+runs : (c : After-end_at-v) (p : Plant) → LaidOf p c.args.arcs.now c.args.rows.now → Runs (get_or p.streams c.loop-i.i no_stream) c.end_at-u.result c.end_at-v.result
+runs c p w =
+    let l = used c.before.before p w in
+    record { start = sym (c.end_at-u.ensures ∙ from_at w _ l); end = sym (c.end_at-v.ensures ∙ to_at w _ l) }
 
 pub taken_by-h-requires : goal.taken_by-h-requires
 taken_by-h-requires c =
-    let turn = on (goal.at.taken_by-h-requires c).After-way_told-1 in
-    let w = turn.before.before.before.before.pre in
-    (u_in (goal.at.taken_by-h-requires c).After-way_told-1, v_in (goal.at.taken_by-h-requires c).After-way_told-1, labels_all w.1.accepted (turn.before.loop.inv.1 w.0 w.1))
+    let w = c.requires in
+    (u_in (goal.at.taken_by-h-requires c).After-end_at-v, v_in (goal.at.taken_by-h-requires c).After-end_at-v, labels_all w.1.accepted (c.loop-i.invariant.1 w.0 w.1))
 
 pub bounds-taken-i : goal.bounds-taken-i
-bounds-taken-i c = low (on (goal.at.bounds-taken-i c).After-way_told-1)
+bounds-taken-i c = low (goal.at.bounds-taken-i c).In-loop-i
 
 pub pass-looped-requires : goal.pass-looped-requires
 pass-looped-requires c =
-    let turn = on (goal.at.pass-looped-requires c).After-way_told-1 in
-    let p = turn.before.before.before.before.pre.0 in
-    let w = turn.before.before.before.before.pre.1 in
-    let l = used turn p w in
-    let inv = turn.before.loop.inv.1 p w in
-    let h = c.taken_by-h.ensures _ (runs (goal.at.pass-looped-requires c).After-way_told-1 p w) (metered_at w _ l) in
-    ((u_in (goal.at.pass-looped-requires c).After-way_told-1, v_in (goal.at.pass-looped-requires c).After-way_told-1, labels_all w.accepted inv, sides_all w.accepted inv, taken_in w.accepted inv l _ h), λ s r m. c.taken_by-h.ensures s r m)
+    let p = c.requires.0 in
+    let w = c.requires.1 in
+    let l = used (goal.at.pass-looped-requires c).In-loop-i p w in
+    let inv = c.loop-i.invariant.1 p w in
+    let h = c.taken_by-h.ensures _ (runs (goal.at.pass-looped-requires c).After-end_at-v p w) (metered_at w _ l) in
+    record { u_lt_places = (u_in (goal.at.pass-looped-requires c).After-end_at-v, v_in (goal.at.pass-looped-requires c).After-end_at-v, labels_all w.accepted inv, sides_all w.accepted inv, taken_in w.accepted inv l _ h); h_value = λ s r m. c.taken_by-h.ensures s r m }
 
 pub loop-i-preserved : goal.loop-i-preserved
-loop-i-preserved c =
-    let turn = on (goal.at.loop-i-preserved c).After-way_told-1 in (
-      omega arith,
-      λ p w.
-          let l = used turn p w in
-          let s = get_or p.streams turn.before.loop.i no_stream in
-          let r = runs (goal.at.loop-i-preserved c).After-way_told-1 p w in
-          let m = metered_at w _ l in
-          passed_more w.accepted (turn.before.loop.inv.1 p w) l _ _ _ _ (c.taken_by-h.ensures s r m) (c.pass-looped.ensures.0 s r m) (c.pass-looped.ensures.1.0 s r)
-          (c.pass-looped.ensures.1.1 s r m),
-    )
+loop-i-preserved c = (
+  omega arith,
+  λ p w.
+      let l = used (goal.at.loop-i-preserved c).In-loop-i p w in
+      let s = get_or p.streams c.loop-i.i no_stream in
+      let r = runs (goal.at.loop-i-preserved c).After-end_at-v p w in
+      let m = metered_at w _ l in
+      passed_more w.accepted (c.loop-i.invariant.1 p w) l _ _ _ _ (c.taken_by-h.ensures s r m) (c.pass-looped.ensures.value s r m) (c.pass-looped.ensures.sides_after s r)
+      (c.pass-looped.ensures.step_says s r m),
+)
 
 pub returns : goal.returns
 returns c = λ p w.

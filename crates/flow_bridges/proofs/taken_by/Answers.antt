@@ -6,6 +6,7 @@ use lib.ListN.{get_or}
 use native.Mathlib.Nat.{le_of_lt, max-eq_left, max-eq_right}
 use Rattle.flow_bridges.proofs.Choices.{taken_none, taken_higher}
 use Rattle.flow_bridges.proofs.taken_by.Goals as goal
+use Rattle.flow_bridges.proofs.taken_by.Goals.{then-a-b, else-a-b}
 use Rattle.flow_bridges.proofs.taken_by.Goals.{Joined-a-b}
 
 pub returns-then-metered-a : goal.returns-then-metered-a
@@ -13,7 +14,7 @@ returns-then-metered-a c = λ s r m. taken_none c.args.labels.now s _ _ m (rw (r
 
 -- The higher of the two labels.
 higher : (c : Joined-a-b) → let a = c.args in c.if-a-b.most ≡ max (get_or a.labels.now a.u 0) (get_or a.labels.now a.v 0)
-higher c = ⊎_elim (λ w. w.1 ∙ sym (max-eq_right w.0.taken)) (λ w. w.1 ∙ sym (max-eq_left (le_of_lt w.0.left))) c.if-a-b.branch
+higher c = elim c.if-a-b.branch [ then-a-b w ↦ w.most-is ∙ sym (max-eq_right w.if-a-b.true) | else-a-b w ↦ w.most-is ∙ sym (max-eq_left (le_of_lt w.if-a-b.false)) ]
 
 pub returns-else-metered-a : goal.returns-else-metered-a
 returns-else-metered-a c = λ s r m.

@@ -13,7 +13,7 @@ use Rattle.solve_phases.proofs.from_place.Given as goal
 
 -- What is made and what is over come to no more than was over; what is made and what is to be made, to all that is made.
 abbrev pub invariant-loop-over : goal.invariant-loop-over
-invariant-loop-over l = 
+invariant-loop-over l =
     let st = state_of l.flows l.potentials l.nets in
     let st₀ = state_of l.initial.flows l.initial.potentials l.initial.nets in
     (l.made + l.over ≤ l.initial.over)

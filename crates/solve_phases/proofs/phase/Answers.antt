@@ -34,7 +34,6 @@ able c w = record {
       phase_underway _ (solvable_of w.streams w.n w.network) _ w.step _ w.underway c.loop-s.s (omega (arith, c.loop-s-test.true)) _
       (c.loop-s.invariant.1 w).0;
   margined = (c.loop-s.invariant.1 w).2;
-
 }
 
 -- What is counted once its place has been tried: what is made from one place more.
@@ -44,9 +43,9 @@ counted c w =
     let at = c.loop-s in
     omega (
       arith,
-      (at.inv.1 w).1,
+      (at.invariant.1 w).1,
       (c.from_place-h.ensures (able c.before.before.before.before.before w)).1,
-      phase_made_next (take w.n w.streams) c.args.delta at.s (at_first c.before.before.before.before.before.before.before.before.before.before) (state_of at.flows at.potentials at.nets) (at.inv.1 w).0,
+      phase_made_next (take w.n w.streams) c.args.delta at.s (at_first c.before.before.before.before.before.before.before.before.before.before) (state_of at.flows at.potentials at.nets) (at.invariant.1 w).0,
     )
 
 pub margins_of-requires : goal.margins_of-requires
@@ -55,15 +54,14 @@ margins_of-requires c =
     rw c.count_of-count.ensures (phase_row _ _ _ _ w, phase_amounts _ _ _ _ w, phase_few _ _ _ _ w, w.step.1, c.requires.1)
 
 pub loop-s-init : goal.loop-s-init
-loop-s-init c =
-    (
-      omega arith,
-      λ w. (
-        phase_none _ _ _,
-        omega (arith, phase_made_none (take w.n w.streams) c.args.delta (at_first (goal.at.loop-s-init c).Start)),
-        phase_margined _ _ _ _ w _ _ (rw c.count_of-count.ensures at c.margins_of.ensures),
-      ),
-    )
+loop-s-init c = (
+  omega arith,
+  λ w. (
+    phase_none _ _ _,
+    omega (arith, phase_made_none (take w.n w.streams) c.args.delta (at_first (goal.at.loop-s-init c).Start)),
+    phase_margined _ _ _ _ w _ _ (rw c.count_of-count.ensures at c.margins_of.ensures),
+  ),
+)
 
 pub from_place-h-requires : goal.from_place-h-requires
 from_place-h-requires c =
@@ -82,10 +80,10 @@ returns-then-h c = λ w.
     let full = c.if-h.true in
     let got = c.from_place-h.ensures (able (goal.at.returns-then-h c).In-loop-s w) in
     let rest =
-    phase_made_last (take w.n w.streams) c.args.delta at.s (at_first (goal.at.returns-then-h c).Start) _ (omega (arith, c.loop-s-test.true)) (at.inv.1 w).0 _ _ _
+    phase_made_last (take w.n w.streams) c.args.delta at.s (at_first (goal.at.returns-then-h c).Start) _ (omega (arith, c.loop-s-test.true)) (at.invariant.1 w).0 _ _ _
     got.0 full in (
       phase_full _ (solvable_of w.streams w.n w.network) _ w.step _ w.underway at.s (omega (arith, c.loop-s-test.true)) _
-          (at.inv.1 w).0 _ _ _ got.0 full,
+          (at.invariant.1 w).0 _ _ _ got.0 full,
       omega (arith, counted (goal.at.returns-then-h c).After-from_place-h w, rest),
       got.2,
     )
@@ -96,7 +94,7 @@ loop-s-preserved c =
       omega (arith, c.loop-s-test.true),
       λ w. let got = c.from_place-h.ensures (able (goal.at.loop-s-preserved c).In-loop-s w) in (
         phase_next _ (solvable_of w.streams w.n w.network) _ w.step _ w.underway at.s (omega (arith, c.loop-s-test.true)) _
-            (at.inv.1 w).0 _ _ _ got.0 c.if-h.false,
+            (at.invariant.1 w).0 _ _ _ got.0 c.if-h.false,
         counted (goal.at.loop-s-preserved c).After-from_place-h w,
         got.2,
       ),

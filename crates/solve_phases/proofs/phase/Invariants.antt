@@ -10,7 +10,7 @@ use Rattle.solve_improve.specs.Improves.{Phasable}
 use Rattle.solve_phases.proofs.phase.Given as goal
 
 abbrev pub invariant-loop-s : goal.invariant-loop-s
-invariant-loop-s l = 
+invariant-loop-s l =
     let st₀ = state_of l.initial.flows l.initial.potentials l.initial.nets in
     (l.s ≤ places)
     × ((w : Phasable l.arcs l.rows l.delta st₀) → let ss = take w.n w.streams in

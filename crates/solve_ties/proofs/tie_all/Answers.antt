@@ -14,6 +14,7 @@ use Rattle.solve_arcs.proofs.Finding.{ways_of}
 use Rattle.solve_ties.specs.Evens.{Tieable, Tying}
 use Rattle.solve_ties.proofs.Evened.{tie_searching, falls, stays}
 use Rattle.solve_ties.proofs.tie_all.Goals as goal
+use Rattle.solve_ties.proofs.tie_all.Goals.{then-falls, else-falls}
 use Rattle.solve_ties.proofs.tie_all.Goals.{After-can_fall-falls, In-loop-i, Start}
 
 abbrev Of : Start → Type 0
@@ -39,7 +40,6 @@ able c w = record {
   even =
       subst (λ (xs : List ℕ). Even (take w.n w.streams) c.args.potentials.now c.loop-i.i xs) (sym (c.loop-i.invariant.1 w))
       (tying_even w.streams w.n w.network _ _ w.even c.loop-i.i (omega (arith, below c w)));
-
 }
 
 pub loop-i-init : goal.loop-i-init
@@ -96,10 +96,11 @@ pub loop-i-preserved : goal.loop-i-preserved
 loop-i-preserved c =
     let spared = c.spare.ensures _ _ c.loop-i.invariant.2 in (
       omega arith,
-      λ w. ⊎_elim (λ o. o.5 ∙ o.3.ensures.0 (tying (goal.at.loop-i-preserved c).After-can_fall-falls o.0.taken w) ∙ after (goal.at.loop-i-preserved c).In-loop-i w)
-          (λ o. o.2 ∙ sym (unchanged (goal.at.loop-i-preserved c).After-can_fall-falls w o.0.left) ∙ after (goal.at.loop-i-preserved c).In-loop-i w)
-          c.if-falls.branch,
-      ⊎_elim (λ o. rw (o.4, o.5) o.3.ensures.1) (λ o. rw (o.1, o.2) spared) c.if-falls.branch,
+      λ w. elim c.if-falls.branch [
+        | then-falls o ↦ o.flows-is ∙ o.tie_at.ensures.0 (tying (goal.at.loop-i-preserved c).After-can_fall-falls o.if-falls.true w) ∙ after (goal.at.loop-i-preserved c).In-loop-i w
+        | else-falls o ↦ o.flows-is ∙ sym (unchanged (goal.at.loop-i-preserved c).After-can_fall-falls w o.if-falls.false) ∙ after (goal.at.loop-i-preserved c).In-loop-i w
+      ],
+      elim c.if-falls.branch [ then-falls o ↦ rw (o.margins-is, o.flows-is) o.tie_at.ensures.1 | else-falls o ↦ rw (o.margins-is, o.flows-is) spared ],
     )
 
 pub returns : goal.returns

@@ -9,7 +9,7 @@ use Rattle.solve_ties.specs.Evens.{Tieable}
 use Rattle.solve_ties.proofs.tie_all.Given as goal
 
 abbrev pub invariant-loop-i : goal.invariant-loop-i
-invariant-loop-i l = 
+invariant-loop-i l =
     (l.i ≤ l.n) × ((w : Tieable l.arcs l.rows l.potentials 0 l.initial.flows) → l.flows ≡ ties_to (take w.n w.streams) l.potentials l.i l.initial.flows) × Margined (count_of l.arcs) l.rows l.flows 1 l.i l.margins
 
 abbrev pub decreases-loop-i : goal.decreases-loop-i

@@ -7,6 +7,7 @@ use mathlib.Core.Logic.{⊎_elim}
 use Rattle.survey_def.specs.Inner.{ones}
 use Rattle.survey_def.proofs.Turns.{top_so, few_long, tallied_none, tally_most, tallied_not, tallied_one}
 use Rattle.survey_count.proofs.count_all.Goals as goal
+use Rattle.survey_count.proofs.count_all.Goals.{then-leaves_none, else-leaves_none}
 
 pub loop-m-init : goal.loop-m-init
 loop-m-init c = (omega arith, tallied_none _)
@@ -34,11 +35,11 @@ loop-m-preserved c =
     let e = c.leaves_none.ensures in
     let long = few_long _ _ c.requires in (
       omega arith,
-      ⊎_elim
-          (λ w. rw w.2 (tallied_one _ _ _ at.invariant.1 _ w.1.ensures.1 (w.1.ensures.0 ∙ ap (λ (n : ℕ). ones n at.m) (sym long))
-          (sym e ∙ w.0.taken)))
-          (λ w. rw w.1 (tallied_not _ _ _ at.invariant.1 (sym e ∙ w.0.left)))
-          c.if-leaves_none.branch,
+      elim c.if-leaves_none.branch [
+        | then-leaves_none w ↦ rw w.counts-is (tallied_one _ _ _ at.invariant.1 _ w.ones_of-k.ensures.1 (w.ones_of-k.ensures.0 ∙ ap (λ (n : ℕ). ones n at.m) (sym long))
+            (sym e ∙ w.if-leaves_none.true))
+        | else-leaves_none w ↦ rw w.counts-is (tallied_not _ _ _ at.invariant.1 (sym e ∙ w.if-leaves_none.false))
+      ],
     )
 
 pub returns : goal.returns
