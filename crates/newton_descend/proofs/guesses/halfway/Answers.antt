@@ -10,12 +10,11 @@ pub loop-u-init : goal.loop-u-init
 loop-u-init c = (omega arith, highest_none _, lowest_none _)
 
 pub loop-u-preserved : goal.loop-u-preserved
-loop-u-preserved c =
-    (
-      omega arith,
-      highest_more _ c.loop-u.u c.loop-u.most _ c.loop-u.invariant.1 c.greater-most.ensures,
-      lowest_more _ c.loop-u.u c.loop-u.least _ c.loop-u.invariant.2 c.lesser-least.ensures,
-    )
+loop-u-preserved c = (
+  omega arith,
+  highest_more _ c.loop-u.u c.loop-u.most _ c.loop-u.invariant.1 c.greater-most.ensures,
+  lowest_more _ c.loop-u.u c.loop-u.least _ c.loop-u.invariant.2 c.lesser-least.ensures,
+)
 
 pub returns : goal.returns
 returns c =

@@ -14,11 +14,10 @@ is_in-inside-requires c =
     rw c.wide.ensures.0 (c.requires.within c.loop-u.u c.loop-u-test.true)
 
 pub loop-u-preserved : goal.loop-u-preserved
-loop-u-preserved c =
-    (
-      omega (arith, c.loop-u-test.true),
-      set_more _ c.loop-u.u c.loop-u.all _ _ c.loop-u.invariant.1 c.bit_of-bit.ensures (c.is_in-inside.ensures ∙ ap (λ (g : ℕ). bit g c.args.bits) c.wide.ensures.0),
-    )
+loop-u-preserved c = (
+  omega (arith, c.loop-u-test.true),
+  set_more _ c.loop-u.u c.loop-u.all _ _ c.loop-u.invariant.1 c.bit_of-bit.ensures (c.is_in-inside.ensures ∙ ap (λ (g : ℕ). bit g c.args.bits) c.wide.ensures.0),
+)
 
 pub returns : goal.returns
 returns c = let l = c.loop-u in l.invariant.1 ∙ ap (set_to _) (all_done _ l.u l.invariant.0 c.loop-u-test.false)

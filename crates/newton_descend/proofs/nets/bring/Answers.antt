@@ -53,5 +53,5 @@ bounds-nets-h-2 c = end_in (goal.at.bounds-nets-h-2 c).After-end_at-h
 
 pub returns : goal.returns
 returns c =
-    brought_is c.args.ends.now c.args.meters.now c.args.potentials.now c.args.nets.now c.args.k _ _ c.within_range.result c.amount_at.result
-    c.start_at-g.ensures c.end_at-h.ensures c.amount_at.ensures c.within_range.ensures
+    brought_is c.args.ends.now c.args.meters.now c.args.potentials.now c.args.nets.now c.args.k _ _ c.in_range-x.result c.amount_at.result
+    c.start_at-g.ensures c.end_at-h.ensures c.amount_at.ensures c.in_range-x.ensures
