@@ -1,6 +1,7 @@
 // The start by factorisation: metered amounts settled at potentials at which the real-number optimum balances, unmetered ones routed
 // along a spanning forest.
 #![tactic(auto)]
+
 ghost use Rattle.std.specs.Prelude.{◌≡◌, replicate};
 ghost use Rattle.plant_def.specs.Limits.{max_streams};
 ghost use Rattle.plant_def.specs.declared.Plant.{Plant};

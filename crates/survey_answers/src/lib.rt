@@ -1,5 +1,6 @@
 // The survey of a plant file in a lent slice, and as text.
 #![tactic(auto)]
+
 ghost use Rattle.std.specs.Prelude.{◌≡◌, ◌≤◌, ◌+◌, length, take};
 ghost use Rattle.num_bytes.specs.Bytes.{over};
 ghost use Rattle.survey_def.specs.Says.{survey_size};
