@@ -1,5 +1,6 @@
 // One stream of a sheet drawn up elsewhere: its flow in range, and the numbers at its ends within its bounds.
 #![tactic(auto)]
+
 ghost use Rattle.std.specs.Prelude.{◌≡◌, not, ◌||◌, nat_abs, ◌-ℤ◌, ◌≤◌, ◌^◌};
 ghost use Rattle.std.specs.Int.Signed.{le_z};
 ghost use Rattle.plant_def.specs.Limits.{max_units, max_weight};

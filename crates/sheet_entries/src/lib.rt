@@ -1,5 +1,6 @@
 // Class and flow of each stream, and the balance by a given solution; it stands below the solver.
 #![tactic(auto)]
+
 ghost use Rattle.std.specs.Prelude.{◌≡◌, ◌≤◌, length};
 ghost use Rattle.plant_def.specs.declared.Plant.{Plant};
 ghost use Rattle.plant_def.specs.Limits.{max_streams};
