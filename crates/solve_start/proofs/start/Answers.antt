@@ -31,21 +31,21 @@ potentials_of-levels-requires c =
     let e = labels_are o.0 a unmetered_only _ o.3 in
     (rw e (labels_of_lem o.0 a), rw (← o.2, e) (placed_of o.0 a o.1.laid), omega arith)
 
--- A plant that was laid, and its labels.
-module _ (st : tie.Start) (p : Plant) (w : LaidOf p st.args.arcs.now st.args.rows.now) where
-  -- Streams that the arcs and the rows are of.
-  abbrev laying : Laying st.args.arcs.now st.args.rows.now
-  laying = record { streams = p.streams; n = p.count; network = network_of p w.accepted; laid = w.laid }
+-- Streams that the arcs and the rows of a plant that was laid are of.
+abbrev laying : (arcs rows : List ℕ) (p : Plant) → LaidOf p arcs rows → Laying arcs rows
+laying arcs rows p w = record { streams = p.streams; n = p.count; network = network_of p w.accepted; laid = w.laid }
 
-  -- The potentials are by label.
-  levels : (ps : List ℕ) → Grouped p st.args.labels → Level st.args.labels potential_shift potential_spread ps
-      → Level (labels_of unmetered_only (plant_of p)) potential_shift potential_spread ps
-  levels ps g v = subst (λ (ls : List ℕ). Level ls potential_shift potential_spread ps) (labels_are p w.accepted unmetered_only _ g) v
+-- The potentials are by label.
+levels : (arcs rows labels : List ℕ) (p : Plant) → LaidOf p arcs rows → (ps : List ℕ) → Grouped p labels → Level labels potential_shift potential_spread ps
+    → Level (labels_of unmetered_only (plant_of p)) potential_shift potential_spread ps
+levels arcs rows labels p w ps g v =
+    subst (λ (ls : List ℕ). Level ls potential_shift potential_spread ps) (labels_are p w.accepted unmetered_only _ g) v
 
-  -- Settled from amounts that are 0.
-  from_none : (ps xs : List ℕ) → xs ≡ settled_to (plant_of p).streams ps st.args.flows.now p.count
-      → xs ≡ settled_to (plant_of p).streams ps (replicate max_streams flow_shift) p.count
-  from_none ps xs e = e ∙ ap (λ (ys : List ℕ). settled_to (plant_of p).streams ps ys p.count) st.pre.1
+-- Settled from amounts that are 0.
+from_none : (flows : List ℕ) (p : Plant) → flows ≡ replicate max_streams flow_shift → (ps xs : List ℕ)
+    → xs ≡ settled_to (plant_of p).streams ps flows p.count
+    → xs ≡ settled_to (plant_of p).streams ps (replicate max_streams flow_shift) p.count
+from_none flows p z ps xs e = e ∙ ap (λ (ys : List ℕ). settled_to (plant_of p).streams ps ys p.count) z
 
 -- What is routed, and along what.
 abbrev routing : (c : After-span) (p : Plant) (w : LaidOf p c.args.arcs.now c.args.rows.now)
@@ -55,45 +55,45 @@ abbrev routing : (c : After-span) (p : Plant) (w : LaidOf p c.args.arcs.now c.ar
 routing c p w g xs e =
     record {
       rows = c.args.rows.now;
-      laying = laying c.before.before.before.before.before.before p w;
-      forest = c.span.ensures (laying c.before.before.before.before.before.before p w);
-      routes = rw (from_none c.before.before.before.before.before.before p w _ xs e) (level_routes p w.accepted (levels c.before.before.before.before.before.before p w _ g c.potentials_of-levels.ensures));
+      laying = laying c.args.arcs.now c.args.rows.now p w;
+      forest = c.span.ensures (laying c.args.arcs.now c.args.rows.now p w);
+      routes = rw (from_none _ p c.requires.1 _ xs e) (level_routes p w.accepted (levels _ _ _ p w _ g c.potentials_of-levels.ensures));
     }
 
 pub settle_flows-requires : goal.settle_flows-requires
 settle_flows-requires c =
     let o = c.requires.0 in (
-      laying (goal.at.settle_flows-requires c).Start o.0 o.1,
-      (level_ready o.0 o.1.accepted (levels (goal.at.settle_flows-requires c).Start o.0 o.1 _ o.3 c.potentials_of-levels.ensures)).start.capped,
+      laying c.args.arcs.now c.args.rows.now o.0 o.1,
+      (level_ready o.0 o.1.accepted (levels _ _ _ o.0 o.1 _ o.3 c.potentials_of-levels.ensures)).start.capped,
       rw c.requires.1 (routes_none {ss = (plant_of o.0).streams}).long,
     )
 
 pub nets_of-given-requires : goal.nets_of-given-requires
 nets_of-given-requires c =
     let o = c.requires.0 in (
-      (_, laying (goal.at.nets_of-given-requires c).Start o.0 o.1),
-      rw (from_none (goal.at.nets_of-given-requires c).Start o.0 o.1 _ _ (c.settle_flows.ensures (laying (goal.at.nets_of-given-requires c).Start o.0 o.1)))
-          (routes_amounts (level_routes o.0 o.1.accepted (levels (goal.at.nets_of-given-requires c).Start o.0 o.1 _ o.3 c.potentials_of-levels.ensures))),
+      (_, laying c.args.arcs.now c.args.rows.now o.0 o.1),
+      rw (from_none _ o.0 c.requires.1 _ _ (c.settle_flows.ensures (laying c.args.arcs.now c.args.rows.now o.0 o.1)))
+          (routes_amounts (level_routes o.0 o.1.accepted (levels _ _ _ o.0 o.1 _ o.3 c.potentials_of-levels.ensures))),
     )
 
 pub span-requires : goal.span-requires
-span-requires c = laying (goal.at.span-requires c).Start c.requires.0.0 c.requires.0.1
+span-requires c = laying c.args.arcs.now c.args.rows.now c.requires.0.0 c.requires.0.1
 
 pub route-requires : goal.route-requires
 route-requires c =
     let o = c.requires.0 in
-    let l = laying (goal.at.route-requires c).Start o.0 o.1 in
+    let l = laying c.args.arcs.now c.args.rows.now o.0 o.1 in
     (routing (goal.at.route-requires c).After-span o.0 o.1 o.3 _ (c.settle_flows.ensures l), rw (c.nets_of-given.ensures _ l) (nets_long _ _ o.0.count))
 
 pub nets_of-anew-requires : goal.nets_of-anew-requires
 nets_of-anew-requires c =
     let o = c.requires.0 in
-    let l = laying (goal.at.nets_of-anew-requires c).Start o.0 o.1 in
+    let l = laying c.args.arcs.now c.args.rows.now o.0 o.1 in
     ((_, l), routes_amounts (c.route.ensures (routing (goal.at.nets_of-anew-requires c).After-span o.0 o.1 o.3 _ (c.settle_flows.ensures l))).0)
 
 pub returns : goal.returns
 returns c =
     λ p w g.
-    let e = c.settle_flows.ensures (laying (goal.at.returns c).Start p w) in
+    let e = c.settle_flows.ensures (laying c.args.arcs.now c.args.rows.now p w) in
     let o = c.route.ensures (routing (goal.at.returns c).After-span p w g _ e) in
-    rw (c.nets_of-anew.ensures _ (laying (goal.at.returns c).Start p w)) (routed_start p w.accepted (levels (goal.at.returns c).Start p w _ g c.potentials_of-levels.ensures) (from_none (goal.at.returns c).Start p w _ _ e) o.0 o.1)
+    rw (c.nets_of-anew.ensures _ (laying c.args.arcs.now c.args.rows.now p w)) (routed_start p w.accepted (levels _ _ _ p w _ g c.potentials_of-levels.ensures) (from_none _ p c.requires.1 _ _ e) o.0 o.1)
