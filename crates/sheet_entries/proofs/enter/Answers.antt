@@ -29,7 +29,7 @@ use Rattle.sheet_def.specs.Calls.{no_entry}
 use Rattle.sheet_entries.proofs.Opening.{opened_fits}
 use Rattle.sheet_entries.proofs.Entering.{entries_all, weight_by}
 use Rattle.sheet_entries.proofs.enter.Goals as goal
-use Rattle.sheet_entries.proofs.enter.Goals.{After-adjusted_weight-more, In-loop-i}
+use Rattle.sheet_entries.proofs.enter.Goals.{After-class_of-c, In-loop-i}
 
 abbrev Of : In-loop-i → Plant → Type 0
 Of c p = LaidOf p c.args.arcs.now c.args.rows.now
@@ -101,42 +101,32 @@ pub opened_flow-x-requires : goal.opened_flow-x-requires
 opened_flow-x-requires c =
     c.requires.1 _ (low (goal.at.opened_flow-x-requires c).In-loop-i)
 
--- A turn, for a plant that was laid.
-module _ (c : tie.After-class-of invariant_loop decreases_loop) where
-  abbrev ends : tie.After-end-at2 invariant_loop decreases_loop
-  ends = c.before.before
+-- The class that a turn finds, for a plant that was laid.
+in_class : (c : After-class_of-c) (p : Plant) → LaidOf p c.args.arcs.now c.args.rows.now → Bridging p c.args.bridges → c.class_of-c.result
+    ≡ class_in c.args.bridges.labels (get_or p.streams c.loop-i.i no_stream) (get_or c.args.bridges.taken c.loop-i.i 0) c.args.bridges.looped
+in_class c p w q =
+    let l = used c.before.before.before.before.before.before.before p w in
+    c.class_of-c.ensures (get_or p.streams c.loop-i.i no_stream) (metered_at w _ l) (sym (c.end_at-u.ensures ∙ from_at w _ l)) (sym (c.end_at-v.ensures ∙ to_at w _ l))
 
-  abbrev turn : tie.In-loop invariant_loop decreases_loop
-  turn = ends.before.before.before
-
-  module _ (p : Plant) (w : Of turn p) (q : Bridging p (begin turn).args.bridges) where
-    in_class : c.class_at_place.result
-        ≡ class_in (begin turn).args.bridges.labels (get_or p.streams turn.before.loop.i no_stream)
-        (get_or (begin turn).args.bridges.taken turn.before.loop.i 0) (begin turn).args.bridges.looped
-    in_class =
-        let l = used turn p w in
-        c.class_at_place.ensures (get_or p.streams turn.before.loop.i no_stream) (metered_at w _ l) (sym (ends.before.end-at.ensures ∙ from_at w _ l)) (sym (ends.end-at2.ensures ∙ to_at w _ l))
-
-    is_class : c.class_at_place.result ≡ class_of (plant_of p) turn.before.loop.i
-    is_class = in_class ∙ class_in_lem w.accepted q _ (used turn p w)
+is_class : (c : After-class_of-c) (p : Plant) → LaidOf p c.args.arcs.now c.args.rows.now → Bridging p c.args.bridges → c.class_of-c.result ≡ class_of (plant_of p) c.loop-i.i
+is_class c p w q = in_class c p w q ∙ class_in_lem w.accepted q _ (used c.before.before.before.before.before.before.before p w)
 
 pub loop-i-preserved : goal.loop-i-preserved
 loop-i-preserved c =
-    let on = turn (goal.at.loop-i-preserved c).After-adjusted_weight-more in
-    let at = on.before.loop in
-    let st = on.before.before.before.before.before.before in
-    let fits = opened_fits (get_or st.args.held.now at.i 0) (st.pre.1 _ (low on)) in
+    let on = (goal.at.loop-i-preserved c).In-loop-i in
+    let at = c.loop-i in
+    let fits = opened_fits (get_or c.args.held.now at.i 0) (c.requires.1 _ (low on)) in
     let flow = ap (λ (z : ℤ). to_z w64 (of_z w64 z)) c.opened_flow-x.ensures ∙ to_z-of_z fits in (
       omega arith,
       λ p w q.
           let l = used on p w in
           let s = get_or p.streams at.i no_stream in
-          let class = is_class (goal.at.loop-i-preserved c).After-adjusted_weight-more p w q in
-          let weight = weight_by st.args.bridges.labels s (get_or st.args.bridges.taken at.i 0) st.args.bridges.looped _ _ _ (in_class (goal.at.loop-i-preserved c).After-adjusted_weight-more p w q)
+          let class = is_class (goal.at.loop-i-preserved c).After-class_of-c p w q in
+          let weight = weight_by c.args.bridges.labels s (get_or c.args.bridges.taken at.i 0) c.args.bridges.looped _ _ _ (in_class (goal.at.loop-i-preserved c).After-class_of-c p w q)
           (weight_at w _ l) c.adjusted_weight-more.ensures.0
           ∙ ap (λ (k : Class). adjusted_weight k s) class in (
-            written_put (at.inv.1 p w q).0 (low on) _ (c.entry_of-e.ensures ∙ (λ i. entry_of (class i) (flow i))),
-            weighed_more w.accepted (at.inv.1 p w q).1 l _ weight (omega (arith, c.adjusted_weight-more.ensures.1, light on)),
+            written_put (at.invariant.1 p w q).0 (low on) _ (c.entry_of-e.ensures ∙ (λ i. entry_of (class i) (flow i))),
+            weighed_more w.accepted (at.invariant.1 p w q).1 l _ weight (omega (arith, c.adjusted_weight-more.ensures.1, light on)),
           ),
     )
 

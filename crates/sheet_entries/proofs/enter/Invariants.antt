@@ -15,7 +15,7 @@ use Rattle.sheet_def.specs.Calls.{no_entry}
 use Rattle.sheet_entries.proofs.enter.Given as goal
 
 abbrev pub invariant-loop-i : goal.invariant-loop-i
-invariant-loop-i l = 
+invariant-loop-i l =
     (l.i ≤ l.n) × ((p : Plant) → LaidOf p l.arcs l.rows → Bridging p l.bridges
     → Written no_entry max_streams (λ k e. entry_of (class_of (plant_of p) k) (unshifted (get_or l.held k 0))) l.initial.streams l.streams l.i × Weighed p l.weights l.i)
 
