@@ -67,7 +67,7 @@ pub fn read_input(rt: &impl std::io::Input, file: &mut [u8]) -> Input
 }
 
 // How many words the program was started with, its own name among them.
-fn word_count(rt: &impl Env) -> usize {
+pub fn word_count(rt: &impl Env) -> usize {
     let mut start = [0u8; 1];
     for count in 0..usize::MAX {
         if let Err(FillError::NotPresent) = rt.arg(count, &mut start) {
