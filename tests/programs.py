@@ -5,12 +5,11 @@
 
 What a read puts down and what a write takes is in no contract (docs/PROMISES.md, "The programs"): here it is tried. A
 program reads no more than one byte past the longest plant file, all that comes up to there, from standard input alone; it says on
-standard error, in one line, what cannot be read or written, and then prints nothing. Its exit status is always 0, but where it writes
-to a pipe that nobody reads: there the system ends it, as it ends every program that does not ask otherwise.
+standard error, in one line, what cannot be read or written, and then prints nothing. Its exit status is always 0. A pipe that nobody
+reads is an output that cannot be written: a program of today's Rattle asks the system not to end it there.
 """
 
 import os
-import signal
 import subprocess
 import sys
 import tempfile
@@ -131,7 +130,7 @@ def put(name):
         check(name, "a full output", run(name, small, stdout=full), "", UNWRITTEN)
         check(name, "a full output, refused", run(name, b"", stdout=full), "", UNWRITTEN)
     check(name, "no output", run(name, small, preexec_fn=lambda: os.close(1)), "", UNWRITTEN)
-    check(name, "a pipe that nobody reads", unread(name, small), "", status=-signal.SIGPIPE)
+    check(name, "a pipe that nobody reads", unread(name, small), "", UNWRITTEN)
     check(name, "such a pipe, without the signal", unread(name, small, restore_signals=False), "", UNWRITTEN)
 
 

@@ -1,7 +1,10 @@
 // The parts of a case, and what is said of cases. The form of a case stands beside the program that tries them, vectors.
 ghost use Rattle.std.specs.Prelude.{◌≤◌};
 
-use libc::STDOUT_FILENO;
+use std::env::Env;
+use std::fs;
+use std::io::{Error, ErrorKind, Print, Read, Result};
+use std::rt::Files;
 
 pub const ROOM: usize = 2560;
 
@@ -17,14 +20,14 @@ pub fn told(number: u8, count: usize, back: u32) -> u64 {
 }
 
 // The next four bytes of a file, 0 where it ends.
-pub fn next_u32(file: i32) -> u32 {
+pub fn next_u32(file: &mut impl Read) -> u32 {
     let mut bytes = [0u8; 4];
-    io::read_full(file, &mut bytes);
+    let _ = file.read_exact(&mut bytes);
     num_bytes::get_u32(&bytes)
 }
 
 // The next eight.
-pub fn next_u64(file: i32) -> u64 {
+pub fn next_u64(file: &mut impl Read) -> u64 {
     let high = next_u32(file) as u64;
     high * 4_294_967_296 + next_u32(file) as u64
 }
@@ -41,39 +44,42 @@ pub fn size_in(bytes: u64) -> usize
 }
 
 // Reads the part of this size, with this byte after it.
-pub fn read_part(file: i32, bytes: u64, after: u8) -> [u8; ROOM] {
+pub fn read_part(file: &mut impl Read, bytes: u64, after: u8) -> [u8; ROOM] {
     let mut part = [after; ROOM];
     let size = size_in(bytes);
-    io::read_full(file, &mut part[0..size]);
+    let _ = file.read_exact(&mut part[0..size]);
     part
 }
 
 // Whether the next part, with this byte after it, is the slice.
-pub fn same_part(file: i32, bytes: u64, after: u8, slice: &[u8]) -> bool {
+pub fn same_part(file: &mut impl Read, bytes: u64, after: u8, slice: &[u8]) -> bool {
     let known = read_part(file, bytes, after);
     check::same(slice, &known)
 }
 
 // Opens the file of cases that argument i names, and says its name.
-pub fn open_argument(i: usize) -> i32 {
+pub fn open_argument<R: Env + Files + Print>(rt: &R, i: usize) -> Result<R::File> {
     let mut name = [0u8; 64];
-    let size = os::arg(i, &mut name);
-    io::write_all(STDOUT_FILENO, &name[0..size]);
-    os::open_read(&name[0..size])
+    let size = rt.arg(i, &mut name).unwrap_or(0);
+    let _ = rt.write_all(&name[0..size]);
+    match std::str::from_utf8(&name[0..size]) {
+        Ok(path) => fs::open(rt, path),
+        Err(_) => Err(Error::from(ErrorKind::InvalidInput)),
+    }
 }
 
-fn say(text: &[u8], count: u64) {
-    io::write_all(STDOUT_FILENO, text);
-    io::print_decimal(STDOUT_FILENO, count);
+fn say(rt: &impl Print, text: &str, count: u64) {
+    let _ = rt.print(text);
+    let _ = rt.print(count);
 }
 
 // The case of this number is not as it must be.
-pub fn say_differs(case: u64) {
-    say(b", differs: case ", case);
+pub fn say_differs(rt: &impl Print, case: u64) {
+    say(rt, ", differs: case ", case);
 }
 
 // A file had so many cases.
-pub fn say_cases(cases: u64) {
-    say(b", cases: ", cases);
-    io::write_all(STDOUT_FILENO, b"\n");
+pub fn say_cases(rt: &impl Print, cases: u64) {
+    say(rt, ", cases: ", cases);
+    let _ = rt.print("\n");
 }

@@ -7,6 +7,8 @@ ghost use Rattle.programs.specs.Reads.{ReadOut};
 ghost use Rattle.programs.specs.Fed.{FedSays};
 
 use plant_def::limits::LONGEST_FILE;
+use std::env::{Env, FillError};
+use std::io::{Print, Read};
 
 // One byte more than the longest plant file: a longer file is refused as one that has bytes after its end.
 const MOST_FED: usize = LONGEST_FILE + 1;
@@ -29,16 +31,25 @@ pub struct Fed {
     pub taken: bool,
 }
 
+// One read: how many bytes it gave, or -1 where it failed.
+fn read_some(reader: &mut impl Read, part: &mut [u8]) -> isize {
+    match reader.read(part) {
+        Ok(more) => more as isize,
+        Err(_) => -1,
+    }
+}
+
 // Standard input to its end, or as much of it as the slice holds.
-pub fn read_input(file: &mut [u8]) -> Input
+pub fn read_input(rt: &impl std::io::Input, file: &mut [u8]) -> Input
     ensures prefix_len { IsPrefixLen result.size file.new }
     ensures file_len_unchanged { length file.new ≡ length file.old }
     ensures read_out { ReadOut file.new result.size result.last }
 {
+    let mut reader = rt.reader();
     let mut size: usize = 0;
     let mut last: isize = 0;
     while size < file.len() {
-        let got = libc::read(libc::STDIN_FILENO, &mut file[size..]);
+        let got = read_some(&mut reader, &mut file[size..]);
         let more = io::count(got, &file[size..]);
         last = got;
         if more == 0 {
@@ -55,21 +66,34 @@ pub fn read_input(file: &mut [u8]) -> Input
     }
 }
 
-// Says in one line, on standard error, what is wrong.
-fn complain(name: &[u8], what: &[u8]) {
-    io::write_all(libc::STDERR_FILENO, name);
-    io::write_all(libc::STDERR_FILENO, what);
+// How many words the program was started with, its own name among them.
+pub fn word_count(rt: &impl Env) -> usize {
+    let mut start = [0u8; 1];
+    for count in 0..usize::MAX {
+        if let Err(FillError::NotPresent) = rt.arg(count, &mut start) {
+            return count;
+        }
+    }
+    usize::MAX
 }
 
-// The plant file that a program is fed, from standard input. It takes no argument. Where it is given one, or a read fails, it says so.
-pub fn plant_file(name: &[u8]) -> Fed
+// Says in one line, on standard error, what is wrong.
+fn complain(errors: &impl Print, name: &[u8], what: &[u8]) {
+    let _ = errors.write_all(name);
+    let _ = errors.write_all(what);
+}
+
+// The plant file that a program is fed, from standard input. It takes no argument. Where it is given one, or a read fails, it says so on
+// `errors`, which is standard error.
+pub fn plant_file(rt: &(impl Env + std::io::Input), errors: &impl Print, name: &[u8]) -> Fed
     ensures fed_says { FedSays result.file result.size result.last result.words result.taken }
     ensures prefix_len { IsPrefixLen result.size result.file }
 {
     let mut file = [0u8; MOST_FED];
-    let words = os::arg_count();
+    let words = word_count(rt);
     if 1 < words {
         complain(
+            errors,
             name,
             b": a plant file is read from standard input, and no argument is taken\n",
         );
@@ -81,10 +105,10 @@ pub fn plant_file(name: &[u8]) -> Fed
             taken: false,
         };
     }
-    let input = read_input(&mut file);
+    let input = read_input(rt, &mut file);
     let failed = input.last < 0;
     if failed {
-        complain(name, b": standard input cannot be read\n");
+        complain(errors, name, b": standard input cannot be read\n");
     }
     Fed {
         file: file,
@@ -95,9 +119,9 @@ pub fn plant_file(name: &[u8]) -> Fed
     }
 }
 
-// A text to standard output. Where that fails, it says so. (What is written where, no contract can say: that is tested.)
-pub fn put_text(name: &[u8], text: &[u8]) {
-    if !io::write_all(libc::STDOUT_FILENO, text) {
-        complain(name, b": standard output cannot be written\n");
+// A text to standard output. Where that fails, it says so on `errors`. (What is written where, no contract can say: that is tested.)
+pub fn put_text(rt: &impl Print, errors: &impl Print, name: &[u8], text: &[u8]) {
+    if rt.write_all(text).is_err() {
+        complain(errors, name, b": standard output cannot be written\n");
     }
 }

@@ -19,6 +19,7 @@ ghost use Rattle.std.specs.Prelude.{◌≡◌, length};
 
 use crate::calls::call;
 use case_files::cases::{ROOM, next_u32, next_u64, read_part, same_part, size_in};
+use std::io::Read;
 
 // Bytes 0 to 7 are read as one number. The kind, what the slice holds and the first two sizes are the last part of
 // that number divided by these; the third is the last part of the number itself.
@@ -47,7 +48,7 @@ fn answer(sizes: u64, number: u32, given: [u8; ROOM], slice: &mut [u8]) -> u64
 }
 
 // Tries the case whose bytes 0 to 7 are these, and which tells this.
-fn case_right(file: i32, sizes: u64, number: u32, told: u64) -> bool {
+fn case_right(file: &mut impl Read, sizes: u64, number: u32, told: u64) -> bool {
     let fill = (sizes / FILL % 256) as u8;
     let given = read_part(file, sizes / GIVEN, 0);
     let mut slice = [fill; ROOM];
@@ -57,13 +58,14 @@ fn case_right(file: i32, sizes: u64, number: u32, told: u64) -> bool {
 }
 
 // Tries the next case of an open file; END where the file ends.
-pub fn try_next(file: i32) -> u8 {
+pub fn try_next(file: &mut impl Read) -> u8 {
     let sizes = next_u64(file);
     if sizes == 0 {
         return END;
     }
     let number = next_u32(file);
-    if case_right(file, sizes, number, next_u64(file)) {
+    let told = next_u64(file);
+    if case_right(file, sizes, number, told) {
         RIGHT
     } else {
         WRONG

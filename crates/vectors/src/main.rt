@@ -1,5 +1,6 @@
 // Calls on the cases of files, each answer compared with what a separate reference solver gave.
 #![tactic(auto)]
+
 mod calls;
 mod cases;
 mod drawing;
@@ -7,12 +8,14 @@ mod solving;
 
 use case_files::cases::{open_argument, say_cases, say_differs};
 use cases::{END, WRONG, try_next};
+use std::io;
+use std::io::Read;
 
 // A file has no more cases than this.
 const MOST_CASES: u64 = 10_000;
 
-// Tries the cases of an open file, says which differ, and counts. A file that cannot be opened has none.
-fn try_cases(file: i32) {
+// Tries the cases of an open file, says which differ, and counts.
+fn try_cases(rt: &impl Print, file: &mut impl Read) {
     let mut cases: u64 = 0;
     while cases < MOST_CASES {
         let found = try_next(file);
@@ -21,20 +24,21 @@ fn try_cases(file: i32) {
         }
         cases += 1;
         if found == WRONG {
-            say_differs(cases);
+            say_differs(rt, cases);
         }
     }
-    say_cases(cases);
+    say_cases(rt, cases);
 }
 
-// The files of cases are the arguments.
-fn main() {
-    let count = os::arg_count();
+// The files of cases are the arguments. One that cannot be opened has no case.
+fn main(rt: HostRuntime) {
+    let count = programs::word_count(&rt);
     let mut i: usize = 1;
     while i < count {
-        let file = open_argument(i);
-        try_cases(file);
-        libc::close(file);
+        match open_argument(&rt, i) {
+            Ok(mut file) => try_cases(&rt, &mut file),
+            Err(_) => try_cases(&rt, &mut io::empty()),
+        }
         i += 1;
     }
 }

@@ -10,15 +10,19 @@ use Rattle.programs.proofs.Answers.{many_words, one_word}
 use Rattle.programs.proofs.plant_file.Goals as goal
 
 pub returns-then-words-gt1 : goal.returns-then-words-gt1
-returns-then-words-gt1 c = (record { room = search rules; ended = λ l. search rules; takes = many_words _ (pos 0) c.if-words-gt1.true }, search rules)
+returns-then-words-gt1 g c = record {
+  fed_says = record { room = search rules; ended = λ l. search rules; takes = many_words _ (pos 0) c.if-words-gt1.true };
+  prefix_len = search rules;
+}
 
 pub returns : goal.returns
-returns c =
-    let f : SFits w64 c.read_input-input.result.last = search rules in (
-      record {
+returns g c =
+    let f : SFits w64 c.read_input-input.result.last = search rules in
+    record {
+      fed_says = record {
         room = search rules;
-        ended = (subst (ReadOut c.read_input-input.new.file c.read_input-input.result.size) (sym (to_z-of_z f)) c.read_input-input.ensures.1.1).ended;
+        ended = (subst (ReadOut c.read_input-input.new.file c.read_input-input.result.size) (sym (to_z-of_z f)) c.read_input-input.ensures.read_out).ended;
         takes = one_word _ (to_z w64 (of_z w64 c.read_input-input.result.last)) c.if-words-gt1.false;
-      },
-      c.read_input-input.ensures.0,
-    )
+      };
+      prefix_len = c.read_input-input.ensures.prefix_len;
+    }
