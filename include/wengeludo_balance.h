@@ -1,6 +1,6 @@
 /* Steam and condensate balance sheets: the calls of libwengeludo.
  *
- * `bash install.sh PREFIX` puts the library where a compiler finds it (-lwengeludo), for x86-64 Linux; `rt staticlib wengeludo`
+ * `bash install.sh PREFIX` puts the library where a compiler finds it (-lwengeludo), for x86-64 Linux; `bash packaging/archive.sh`
  * proves it and writes target/staticlib/libwengeludo.a, which is the same archive, to be linked as it is. For 64-bit Linux on ARM and
  * RISC-V packaging/cross/build.sh compiles the module of that proof. Lengths and counts have 64 bits: size_t has them on all three. In
  * WebAssembly of 32 bits size_t has fewer and the calls take 64-bit numbers all the same: see packaging/cross/lengths.h.

@@ -9,7 +9,7 @@
 A command is a line that starts with `$ ` in a block marked sh (the lines below it are what it prints; `...` stands for any lines), a
 line of an indented block, or a piece of code in a sentence, where it starts with the name of a program. Blocks marked c, cpp, rust and
 python are compiled, those in Rust and Python run too. docs/changes tells of older versions and is left out; the blocks of desk/README.md
-marked console are run by desk/tests/test_readme.py. The archive must be there (`rt staticlib wengeludo`). What test_all.sh runs by itself is
+marked console are run by desk/tests/test_readme.py. The archive must be there (`bash packaging/archive.sh`). What test_all.sh runs by itself is
 not run again, unless the text has what it prints. Commands that write into the tree (--write, pip) are run in a copy of it, $COPY.
 
 The rules below say which commands are run with other words, and which are not run and why; a rule that fits no command is an error. What
@@ -325,7 +325,7 @@ def main(args):
     if args == ['--list']:
         return listed(commands)
     if not os.path.exists(os.path.join(ROOT, ARCHIVE)):
-        sys.exit(f'commands: no {ARCHIVE}: build it with `rt staticlib wengeludo`')
+        sys.exit(f'commands: no {ARCHIVE}: build it with `bash packaging/archive.sh`')
     os.makedirs(os.path.join(ROOT, 'target', 'built'), exist_ok=True)
     failed, counts = run_all(commands, codes, bool(args))
     fitted = {rule.pattern for rule in (plan(command)[2] for command in commands) if rule}

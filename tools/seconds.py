@@ -29,7 +29,7 @@ def kit():
     """The kit's folder, and the part of it that is for this machine."""
     rt = shutil.which('rt')
     if rt is None:
-        fail('no rt on the PATH: install the Rattle kit (rattle-kit-5 or later)')
+        fail('no rt on the PATH: install the Rattle kit (rattle-kit-13f or later)')
     home = os.environ.get('RATTLE_HOME') or os.path.dirname(os.path.dirname(os.path.realpath(rt)))
     return home, os.path.join(home, 'on', os.uname().machine)
 

@@ -1,6 +1,6 @@
-// The calls for programs in C and Rust, as functions on numbers and slices of numbers; wengeludo_c makes the archive of them. They are the version, the sheet call,
-// the plant writer, the plant reader, the sheet reader, the translator, the two moves, meters to buy, the survey, meters worth a visit, steam charges, the
-// check of a sheet, numbers of the places and the check of a flow over wide numbers.
+// The calls for programs in C and Rust, as functions on numbers and slices of numbers; wengeludo_c makes the archive of them. They are
+// the version, the sheet call, the plant writer, the plant reader, the sheet reader, the translator, the two moves, meters to buy, the
+// survey, meters worth a visit, steam charges, the check of a sheet, numbers of the places and the check of a flow over wide numbers.
 #![tactic(auto)]
 
 ghost use Rattle.std.specs.Prelude.{◌≡◌};
