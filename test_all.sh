@@ -144,7 +144,7 @@ fi
 if over_archive "JavaScript" python3 node; then
     (long || export CHROMIUM=none; bash bindings/js/test.sh)
 fi
-if part "the cases and samples, made anew, and checked by themselves" python3; then
+if over vectors "the cases and samples, made anew, and checked by themselves" python3; then
     quietly target/built/cases.log '^[0-9,]+ ' python3 reference/make_cases.py --check
     python3 reference/certify.py
     ! long || quietly target/built/brute.log . python3 reference/brute.py | tail -1
