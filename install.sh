@@ -1,5 +1,5 @@
 #!/usr/bin/env bash
-# Installs the library that `rt staticlib wengeludo` has proved and written, for C, C++ and Rust programs on 64-bit Linux.
+# Installs the library that `bash packaging/archive.sh` has proved and written, for C, C++ and Rust programs on 64-bit Linux.
 #
 #     bash install.sh [--target TARGET] [--unproved] PREFIX   the archive, the shared library, headers, pkg-config and CMake files,
 #                                                             manual pages, and a list of all that was put there
@@ -75,7 +75,7 @@ need python3 "the manual pages are made from the header by a script (Debian: apt
 calls="$(python3 "$here/packaging/install/man.py" --names) wengeludo_refusal_text"
 archive=${WENGELUDO_ARCHIVE:-$here/target/staticlib/libwengeludo.a}
 [ "$target" = x86_64 ] || archive=${WENGELUDO_ARCHIVE:-$here/target/cross/$target.a}
-how="build it with 'rt staticlib wengeludo'"
+how="build it with 'bash packaging/archive.sh'"
 [ "$target" = x86_64 ] || how="build it with 'bash packaging/cross/build.sh $target target/cross/$target.a'"
 [ -e "$archive" ] || fail "no $archive: $how"
 need "${CC:-cc}" "the shared library is made by a C compiler (Debian: apt-get install gcc libc6-dev) or name one in CC"

@@ -55,9 +55,9 @@ done
 for word in "$@"; do [[ $word =~ ^[0-9]+$ ]] || usage; done
 words+=${*:+ $*}
 if [ ! -e target/staticlib/libwengeludo.a ]; then
-    echo "no target/staticlib/libwengeludo.a: building it with 'rt staticlib wengeludo'" >&2
-    need rt "the Rattle kit (rattle-kit-5 or later)"
-    rt staticlib wengeludo >&2
+    echo "no target/staticlib/libwengeludo.a: building it with 'bash packaging/archive.sh'" >&2
+    need rt "the Rattle kit (rattle-kit-13f or later)"
+    bash packaging/archive.sh >&2
 fi
 library=$(object library target/staticlib/libwengeludo.a)
 bash bench/peers/build.sh "$out/peers" >"$out/peers.txt"

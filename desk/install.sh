@@ -8,7 +8,7 @@
 # WENGELUDO_INCLUDE           the folder of that archive's header, if it is not that of this tree
 # WENGELUDO_APT=no            names Debian's packages that are missing, and installs none
 #
-# Without an archive it is built by `rt staticlib wengeludo`, which proves it (minutes the first time). A second run takes seconds: what is
+# Without an archive it is built by `bash packaging/archive.sh`, which proves it (minutes the first time). A second run takes seconds: what is
 # there is left alone, and binding and tool are put in place anew.
 # SPDX-License-Identifier: LicenseRef-Wengeludo
 set -eu
@@ -59,7 +59,7 @@ if [ -z "$archive" ]; then
     if [ ! -e "$archive" ]; then
         command -v rt >/dev/null || fail "no archive, and no rt on the PATH to build it: install the Rattle kit, or hand over an archive with --archive FILE"
         say "the engine's archive, proved while it is built (minutes the first time)"
-        (cd "$root" && quietly rt staticlib wengeludo) || fail "rt staticlib wengeludo did not succeed"
+        (cd "$root" && quietly bash packaging/archive.sh) || fail "bash packaging/archive.sh did not succeed"
     fi
 fi
 

@@ -1,8 +1,10 @@
 #!/usr/bin/env bash
-# Tests the Python binding and the desk tool on the archive, in an environment of its own (target/desk).
+# Tests the Python binding and the desk tool on the archive, in an environment of its own. It is outside
+# the checkout, as `rt ci` takes no links there.
 #
 #     bash desk/test.sh            the tests
 #     bash desk/test.sh --missing  what they need and this machine lacks, nothing where it has all
+#     bash desk/test.sh --home     the folder of that environment, once the tests have run
 #
 # Where Debian's packages are missing it says which and ends with 0: the engine does not need them.
 # WENGELUDO_ARCHIVE, WENGELUDO_INCLUDE   another archive and its header's folder
@@ -19,6 +21,11 @@
 set -eu
 cd "$(dirname "$0")/.."
 python=/usr/bin/python3 # Debian's own: another python3 on the PATH sees none of Debian's packages
+home=${XDG_CACHE_HOME:-${HOME:-/tmp}/.cache}/wengeludo/desk-$(printf %s "$PWD" | cksum | cut -d ' ' -f 1)
+if [ "${1:-}" = --home ]; then
+    echo "$home"
+    exit 0
+fi
 modules="cffi click rich openpyxl jinja2 numpy pytest hypothesis setuptools wheel venv ensurepip"
 absent=
 for module in $modules; do "$python" -c "import $module" 2>/dev/null || absent="$absent $module"; done
@@ -39,7 +46,6 @@ fi
     echo "desk: no book on a server is tested, as there is no PostgreSQL or no psycopg2 (apt-get install postgresql python3-psycopg2)"
 "$python" -c "import distributed" 2>/dev/null ||
     echo "desk: no histories on a cluster are tested, as there is no dask.distributed (apt-get install python3-distributed)"
-home=$PWD/target/desk
 [ -x "$home/bin/python3" ] || "$python" -m venv --system-site-packages "$home"
 export WENGELUDO_INCLUDE="${WENGELUDO_INCLUDE:-$PWD/include}" WENGELUDO_ARCHIVE="${WENGELUDO_ARCHIVE:-$PWD/target/staticlib/libwengeludo.a}"
 build=$(mktemp -d)

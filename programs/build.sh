@@ -11,7 +11,7 @@ if ! command -v "${CC:-cc}" >/dev/null; then
     exit 2
 fi
 if [ ! -e "$archive" ]; then
-    echo "no $archive: build it with 'rt staticlib wengeludo' (Rattle kit rattle-kit-5 or later)" >&2
+    echo "no $archive: build it with 'bash packaging/archive.sh' (Rattle kit rattle-kit-13f or later)" >&2
     exit 2
 fi
 folder=${1:-target/built}

@@ -1,5 +1,5 @@
 # SPDX-License-Identifier: LicenseRef-Wengeludo
-"""Runs the programs themselves, target/bin/balance, layouts and visits, and compares what they print with the reference solver.
+"""Runs the programs themselves, balance, layouts and visits of crates/NAME/out, and compares what they print with the reference solver.
 
     python3 tests/programs.py
 
@@ -32,6 +32,12 @@ UNWRITTEN = "{}: standard output cannot be written\n"
 ARGUMENT = "{}: a plant file is read from standard input, and no argument is taken\n"
 SECONDS = 20  # so long may one run take
 
+
+def program(name):
+    """The compiled program, as rt leaves it."""
+    return ROOT / "crates" / name / "out" / name
+
+
 runs = 0
 faults = []
 
@@ -51,7 +57,7 @@ def run(name, given=b"", arguments=(), **streams):
     if "stdout" not in streams:
         streams["stdout"] = subprocess.PIPE
     try:
-        done = subprocess.run([ROOT / "target" / "bin" / name, *arguments], stderr=subprocess.PIPE, timeout=SECONDS, **streams)
+        done = subprocess.run([program(name), *arguments], stderr=subprocess.PIPE, timeout=SECONDS, **streams)
     except subprocess.TimeoutExpired:
         return f"no end after {SECONDS} seconds", "", ""
     return done.returncode, (done.stdout or b"").decode(), done.stderr.decode()
@@ -60,7 +66,7 @@ def run(name, given=b"", arguments=(), **streams):
 def slowly(name, pieces):
     """Input that comes in pieces, with a pause before each; a program that has stopped reading is given no more."""
     pipes = {"stdin": subprocess.PIPE, "stdout": subprocess.PIPE, "stderr": subprocess.PIPE}
-    with subprocess.Popen([ROOT / "target" / "bin" / name], bufsize=0, **pipes) as process:
+    with subprocess.Popen([program(name)], bufsize=0, **pipes) as process:
         try:
             for piece in pieces:
                 time.sleep(0.02)
@@ -139,8 +145,8 @@ def main():
     if there != sorted([*PROGRAMS, "vectors"]):
         sys.exit(f"programs that this test does not know: {there}")
     for name, reference in PROGRAMS.items():
-        if not (ROOT / "target" / "bin" / name).exists():
-            sys.exit(f"no target/bin/{name}: build it with 'rt check {name}'")
+        if not program(name).exists():
+            sys.exit(f"no {program(name).relative_to(ROOT)}: build it with 'rt run </dev/null' in crates/{name}")
         fed(name, reference)
         put(name)
     for fault in faults:

@@ -84,7 +84,7 @@ def main(words):
     if words not in ([], ['--write']) and not (len(words) == 3 and words[0] == '--of' and words[1] in TARGETS):
         sys.exit('usage: ./dev archive [--write | --of TARGET FILE]')
     if shutil.which('rt') is None or not os.path.exists(ARCHIVE):
-        sys.exit('archive: build it first, with `rt staticlib wengeludo` (Rattle kit rattle-kit-5 or later)')
+        sys.exit('archive: build it first, with `bash packaging/archive.sh` (Rattle kit rattle-kit-13f or later)')
     kit = subprocess.run(['rt', 'version'], capture_output=True, text=True, check=True).stdout.strip()
     if len(ROW.findall(text_of())) != 1:
         sys.exit('archive: docs/MEASURED.md does not have one row with a kit and a SHA-256')

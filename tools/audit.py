@@ -1,11 +1,12 @@
 #!/usr/bin/env python3
 # SPDX-License-Identifier: LicenseRef-Wengeludo
-"""What a reader of the crates asks first: no axiom, no path of a machine, and every public function of a library promises something.
+"""What a reader of the crates asks first: no axiom, no path of a machine, and every public function below the promises promises something.
 
     ./dev texts audit
 
-Status 1 if one is broken (FAULT). It also tells what is only worth a look: public functions with `requires`; files over 500 lines;
-functions over 60 lines; libraries without a must-fail edit. Then lines of code, specs and proofs of each crate.
+Status 1 if one is broken (FAULT). It also tells what is only worth a look: public functions of the programs' own crates without
+`ensures`; public functions with `requires`; files over 500 lines; functions over 60 lines; libraries without a must-fail edit. Then lines
+of code, specs and proofs of each crate.
 """
 import os
 import re
@@ -26,12 +27,19 @@ class Note(NamedTuple):
     text: str
 
 
-def read(path):
-    with open(path, encoding='utf-8') as file:
-        return file.read()
+def promised():
+    """The crates that `promises` leads to: what is linked, and the calls that the programs print by."""
+    below = {name: names for _, crates in crate_list.subjects() for name, names in crates.items()}
+    found, left = set(), ['promises']
+    while left:
+        name = left.pop()
+        if name not in found:
+            found.add(name)
+            left += below[name]
+    return found
 
 
-def functions(path, text, library):
+def functions(path, text, library, bound):
     """What is to be said of the functions of a file."""
     for found in re.finditer(r'^( *)(pub (?:extern "C" )?)?fn (\w+)', text, re.M):
         rest = text[found.start():]
@@ -41,12 +49,12 @@ def functions(path, text, library):
         if long > LONG_FUNCTION:
             yield Note(False, f'{path}: fn {found[3]} has {long} lines')
         if library and found[2] and 'ensures' not in head:
-            yield Note(True, f'{path}: pub fn {found[3]} promises nothing')
+            yield Note(bound, f'{path}: pub fn {found[3]} promises nothing')
         if library and found[2] and 'requires' in head:
             yield Note(False, f'{path}: pub fn {found[3]} {REQUIRES}')
 
 
-def file_notes(path, text, count, library):
+def file_notes(path, text, count, library, bound):
     if count > LONG_FILE:
         yield Note(False, f'{path} has {count} lines: is it one subject?')
     if re.search(r'^\s*(pub )?axiom\b', text, re.M):
@@ -54,20 +62,21 @@ def file_notes(path, text, count, library):
     if PATH.search(text):
         yield Note(True, f'{path} names a path of a machine')
     if path.endswith('.rt'):
-        yield from functions(path, text, library)
+        yield from functions(path, text, library, bound)
 
 
-def look(crate):
-    """The notes of a crate, and its lines by part."""
+def look(crate, bound):
+    """The notes of a crate, and its lines by part. `bound`: its public functions must promise something."""
     base, counts, notes = f'crates/{crate}', dict.fromkeys(PARTS, 0), []
     library = os.path.exists(f'{base}/src/lib.rt')
     for folder, _, names in sorted(os.walk(base)):
         for name in sorted(name for name in names if name.endswith(('.rt', '.antt'))):
             path = f'{folder}/{name}'
-            text = read(path)
+            with open(path, encoding='utf-8') as file:
+                text = file.read()
             count = sum(1 for line in text.split('\n') if line.strip() and not re.match(r'\s*(--|//)', line))
             counts[path.split('/')[2]] += count
-            notes += file_notes(path, text, count, library)
+            notes += file_notes(path, text, count, library, bound)
     if library and not os.path.isdir(f'{base}/must-fail'):
         notes.append(Note(False, f'{base} has no must-fail edit'))
     return notes, counts
@@ -77,7 +86,8 @@ def main(words):
     if words:
         sys.exit(__doc__.strip())
     os.chdir(ROOT)
-    found = {crate: look(crate) for crate in sorted(crate_list.names())}
+    bound = promised()
+    found = {crate: look(crate, crate in bound) for crate in sorted(crate_list.names())}
     notes = [note for crate_notes, _ in found.values() for note in crate_notes]
     for note in notes:
         print(('FAULT  ' if note.fault else 'look   ') + note.text)

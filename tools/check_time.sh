@@ -4,9 +4,9 @@
 #
 #     ./dev time commits BEFORE AFTER ..
 #
-# Each commit is cloned and proved from nothing (rt prove: no edits, no programs), one crate at a time so that times compare. Prints a
-# table in markdown: seconds by crate, their sum, then lines of specs, code and proofs. seconds.py beside this file measures one tree
-# in seconds of processor time, and finer.
+# Each commit is cloned and proved from nothing (seconds.py beside this file: no edits, no programs), one crate at a time so that times
+# compare. Prints a table in markdown: seconds of processor time by crate, their sum, then lines of specs, code and proofs. A commit of an
+# older kit cannot be measured by today's.
 # SPDX-License-Identifier: LicenseRef-Wengeludo
 set -eu
 cd "$(dirname "$0")/.."
@@ -18,7 +18,8 @@ k=0
 for commit in "$@"; do
     k=$((k + 1))
     git clone -q "$top" "$work/$k"
-    (cd "$work/$k" && git checkout -q "$commit" && RT_JOBS=1 rt prove >"$work/$k.log" 2>"$work/$k.err") || {
+    (cd "$work/$k" && git checkout -q "$commit")
+    TMPDIR=$work WENGELUDO_TREE=$work/$k python3 tools/seconds.py crates >"$work/$k.log" 2>"$work/$k.err" || {
         echo "check_time: $commit is not proved; the last lines:" >&2
         tail -5 "$work/$k.log" "$work/$k.err" >&2
         exit 1
@@ -35,7 +36,7 @@ KINDS = ('specs', 'src', 'proofs')
 
 def seconds(k):
     with open(f'{work}/{k}.log', encoding='utf-8') as log:
-        return {name: int(taken) for name, taken in re.findall(r'rt: (\w+) proved \((\d+) s\)', log.read())}
+        return {name: round(float(taken)) for taken, name in re.findall(r'^ *([\d.]+) (\w+)$', log.read(), re.M)}
 
 
 def sizes(k):

@@ -9,7 +9,7 @@
 A command is a line that starts with `$ ` in a block marked sh (the lines below it are what it prints; `...` stands for any lines), a
 line of an indented block, or a piece of code in a sentence, where it starts with the name of a program. Blocks marked c, cpp, rust and
 python are compiled, those in Rust and Python run too. docs/changes tells of older versions and is left out; the blocks of desk/README.md
-marked console are run by desk/tests/test_readme.py. The archive must be there (`rt staticlib wengeludo`). What test_all.sh runs by itself is
+marked console are run by desk/tests/test_readme.py. The archive must be there (`bash packaging/archive.sh`). What test_all.sh runs by itself is
 not run again, unless the text has what it prints. Commands that write into the tree (--write, pip) are run in a copy of it, $COPY.
 
 The rules below say which commands are run with other words, and which are not run and why; a rule that fits no command is an error. What
@@ -28,7 +28,8 @@ ROOT = os.path.abspath(os.path.join(os.path.dirname(__file__), '..'))
 ARCHIVE = 'target/staticlib/libwengeludo.a'
 FIRST = re.compile(r'^(?:[A-Z_]+=\S+ )*(?:(?:rt|bash|sh|wengeludo|cargo|(?:/usr/bin/)?python3|cc|c\+\+|cmake|ctest|pkg-config|man|time|mkdir|cp|git'
                    r'|pip|dot|\./dev) +\S|target/(?:bin|built|python)/\S+(?: |$))')
-DESK = 'target/desk/bin/wengeludo'  # there where Debian's packages are, by desk/test.sh
+HOME = subprocess.run(['bash', os.path.join(ROOT, 'desk', 'test.sh'), '--home'], capture_output=True, text=True, check=True).stdout.strip()
+DESK = f'{HOME}/bin/wengeludo'  # there where Debian's packages are, by desk/test.sh
 LIMIT = 900  # seconds for one command
 
 
@@ -42,8 +43,10 @@ class Rule(NamedTuple):
 RULES = [
     Rule(r'time bash \.ci/run', 'not', 'test_all.sh runs it, without a clock'),
     Rule(r'bash test_all\.sh( --after-gate)?', 'not', 'this test is a part of it'),
-    Rule(r'rt (check|dev|must-fail)( \[NAME\.\.\]| LOWER| CRATE| NAME)?', 'run', r'rt \1 version'),
-    Rule(r'rt fmt', 'run', 'rt fmt --check'),
+    Rule(r'rt (must-fail|ci)( \[NAME\.\.\]| LOWER| CRATE| NAME)', 'run', r'rt \1 version'),
+    Rule(r'rt ci', 'not', 'the gate runs it'),
+    Rule(r'rt all check', 'not', 'the gate proves all'),
+    Rule(r'rt (check|lib|run|fmt|tidy|plant|test)', 'run', 'cd crates/version && rt check'),
     Rule(r'\./dev prove CRATE', 'run', './dev prove version'),
     Rule(r'\./dev where CRATE FUNCTION', 'run', './dev where version version_number'),
     Rule(r'\./dev refused.*', 'run', 'rt must-fail version && ./dev refused version'),
@@ -69,18 +72,18 @@ RULES = [
     Rule(r'(/usr/bin/python3 -m venv|target/python/bin/pip install) .*', 'run', r'cd "$COPY" && \g<0>', DESK),
     Rule(r'(?:WENGELUDO_\w+=\d+ )*python3 -m pytest.*', 'not', 'desk/test.sh runs it, in an environment of its own'),
     Rule(r'bash (?:bindings/python/)?native/(bench|sanitize)\.sh.*', 'run', r'bash bindings/python/native/\1.sh 500'),
-    Rule(r'python3 (?:bindings/python/)?time_wide\.py.*', 'run', 'target/desk/bin/python3 bindings/python/time_wide.py 200 || [ $? = 1 ]', DESK),
-    Rule(r'python3 (desk/tests/draws\.py) (rates) .*', 'run', r'PYTHONPATH=desk/src:desk/tests target/desk/bin/python3 \1 \2 2 3', DESK),
-    Rule(r'python3 (desk/tests/draws\.py) (check) .*', 'run', r'PYTHONPATH=desk/src:desk/tests target/desk/bin/python3 \1 \2 1000', DESK),
-    Rule(r'python3 (desk/tests/million\.py) FOLDER', 'run', r'mkdir -p "$PREFIX" && PYTHONPATH=desk/src:desk/tests target/desk/bin/python3 \1 "$PREFIX" 2000', DESK),
+    Rule(r'python3 (?:bindings/python/)?time_wide\.py.*', 'run', f'{HOME}/bin/python3 bindings/python/time_wide.py 200 || [ $? = 1 ]', DESK),
+    Rule(r'python3 (desk/tests/draws\.py) (rates) .*', 'run', fr'PYTHONPATH=desk/src:desk/tests {HOME}/bin/python3 \1 \2 2 3', DESK),
+    Rule(r'python3 (desk/tests/draws\.py) (check) .*', 'run', fr'PYTHONPATH=desk/src:desk/tests {HOME}/bin/python3 \1 \2 1000', DESK),
+    Rule(r'python3 (desk/tests/million\.py) FOLDER', 'run', fr'mkdir -p "$PREFIX" && PYTHONPATH=desk/src:desk/tests {HOME}/bin/python3 \1 "$PREFIX" 2000', DESK),
     Rule(r'cargo doc --open', 'run', 'cargo doc --offline --no-deps'),
     Rule(r'(?:WENGELUDO_\w+=\d+ )*(cargo test .*)', 'run', r'WENGELUDO_INPUTS=2000 \1'),
     Rule(r'\./dev mutants.*', 'run', './dev mutants --list --count 5'),  # a run of them takes hours
     Rule(r'bash bench/run\.sh --before LIBRARY.*', 'run', f'bash bench/run.sh --before {ARCHIVE} 2 0'),
     Rule(r'bash bench/(run|visits|checks|flows)\.sh.*', 'run', r'bash bench/\1.sh 2 1'),
     Rule(r'bash tests/fuzz/run\.sh \S+', 'run', 'bash tests/fuzz/run.sh 1'),
-    Rule(r'python3 (desk/tests/monte_carlo|desk/tests/test_history_findings)\.py \d+', 'long', r'target/desk/bin/python3 \1.py 1', DESK),
-    Rule(r'python3 (desk/bench_history|desk/tests/bench_serve)\.py', 'long', r'PYTHONPATH=desk/tests target/desk/bin/python3 \1.py', DESK),
+    Rule(r'python3 (desk/tests/monte_carlo|desk/tests/test_history_findings)\.py \d+', 'long', fr'{HOME}/bin/python3 \1.py 1', DESK),
+    Rule(r'python3 (desk/bench_history|desk/tests/bench_serve)\.py', 'long', fr'PYTHONPATH=desk/tests {HOME}/bin/python3 \1.py', DESK),
     Rule(r'python3 reference/desk_tool\.py --hold', 'long', r'\g<0>'),
     Rule(r'python3 reference/make_cases\.py --write', 'long', r'cd "$COPY" && \g<0> && diff -rq crates "$TREE/crates" && diff -rq samples "$TREE/samples" && diff reference/README.md "$TREE/reference/README.md"'),
 ]
@@ -215,7 +218,7 @@ def environment(work):
 
 def copied(copy):
     """The tree without what is built, and its archive with the module that the proof handed to the compiler (packaging/cross/build.sh)."""
-    shutil.copytree(ROOT, copy, ignore=shutil.ignore_patterns('.git', 'target', 'build', '__pycache__', '*.egg-info'))
+    shutil.copytree(ROOT, copy, ignore=shutil.ignore_patterns('.git', 'target', 'out', 'build', '__pycache__', '*.egg-info'))
     os.makedirs(os.path.join(copy, 'target'))
     os.symlink(os.path.join(ROOT, 'target', 'staticlib'), os.path.join(copy, 'target', 'staticlib'))
     if os.path.isdir(os.path.join(ROOT, 'target', 'cross')):
@@ -325,7 +328,7 @@ def main(args):
     if args == ['--list']:
         return listed(commands)
     if not os.path.exists(os.path.join(ROOT, ARCHIVE)):
-        sys.exit(f'commands: no {ARCHIVE}: build it with `rt staticlib wengeludo`')
+        sys.exit(f'commands: no {ARCHIVE}: build it with `bash packaging/archive.sh`')
     os.makedirs(os.path.join(ROOT, 'target', 'built'), exist_ok=True)
     failed, counts = run_all(commands, codes, bool(args))
     fitted = {rule.pattern for rule in (plan(command)[2] for command in commands) if rule}

@@ -28,9 +28,9 @@ pub extern "C" fn wengeludo_improvements(file: &[u8]) -> u64 {
     let read = plant_read::read_plant(file);
     let plant = read.plant;
     let streams = plant.streams;
-    let mut arcs = [net_arrays::NONE as u8; net_arrays::ARCS];
-    let mut rows = [0u64; net_arrays::ROWS];
-    net_lay::lay(streams, plant.count as usize, &mut arcs, &mut rows);
+    let mut arcs = [solve_arcs::NONE as u8; solve_arcs::ARCS];
+    let mut rows = [0u64; solve_arcs::ROWS];
+    solve_arcs_fill::lay(streams, plant.count as usize, &mut arcs, &mut rows);
     let labels = flow_components::group(&arcs, &rows, flow_def::Which::Unmetered);
     let solved = solve_call::solve(plant.units, labels, &arcs, &rows);
     solved.made
@@ -38,17 +38,17 @@ pub extern "C" fn wengeludo_improvements(file: &[u8]) -> u64 {
 """
 # What a start may do and be worth nothing: file, what stands there, what takes its place.
 WORTHLESS = (
-    ('elimination that adds', 'solve_laplacian/src/elimination.rt', ' - f * ', ' + f * '),
+    ('elimination that adds', 'newton_laplacian/src/elimination.rt', ' - f * ', ' + f * '),
     ('amounts routed with the wrong sign', 'solve_forest/src/lib.rt', 'into[len] = inwards;', 'into[len] = !inwards;'),
     ('a forest from the outside alone', 'solve_forest/src/lib.rt', 'reached[u] = labels[u] as usize == u;', 'reached[u] = u == 0;'),
     ('no forest', 'solve_forest/src/lib.rt', 'n += one_if(rows[4 * i] == 0);', 'n += one_if(rows[4 * i] == 1);'),
-    ('no conductance off the diagonal', 'solve_laplacian/src/equations.rt', 'add(a, h, g + 1, -c);', 'add(a, h, g + 1, 0.0);'),
-    ('conductances with the wrong sign', 'solve_laplacian/src/equations.rt', 'add(a, g, h + 1, -c);', 'add(a, g, h + 1, c);'),
-    ('ranges never looked at', 'solve_descend/src/lib.rt', 'if some_range(rows, count_of(arcs)) {', 'if count_of(arcs) > 200 {'),
-    ('a single Newton step', 'solve_descend/src/descents.rt', 'const STEPS: usize = 23;', 'const STEPS: usize = 1;'),
-    ('steps uphill', 'solve_descend/src/descents.rt', 'return 1.0;', 'return -1.0;'),
-    ('no steps', 'solve_descend/src/descents.rt', 'return 1.0;', 'return 0.0;'),
-    ('nets that count as near at once', 'solve_descend/src/descents.rt', 'const NEAR: f64 = 4.0;', 'const NEAR: f64 = 4.0e9;'),
+    ('no conductance off the diagonal', 'newton_laplacian/src/equations.rt', 'add(a, h, g + 1, -c);', 'add(a, h, g + 1, 0.0);'),
+    ('conductances with the wrong sign', 'newton_laplacian/src/equations.rt', 'add(a, g, h + 1, -c);', 'add(a, g, h + 1, c);'),
+    ('ranges never looked at', 'newton_descend/src/lib.rt', 'if some_range(rows, count_of(arcs)) {', 'if count_of(arcs) > 200 {'),
+    ('a single Newton step', 'newton_descend/src/descents.rt', 'const STEPS: usize = 23;', 'const STEPS: usize = 1;'),
+    ('steps uphill', 'newton_descend/src/descents.rt', 'return 1.0;', 'return -1.0;'),
+    ('no steps', 'newton_descend/src/descents.rt', 'return 1.0;', 'return 0.0;'),
+    ('nets that count as near at once', 'newton_descend/src/descents.rt', 'const NEAR: f64 = 4.0;', 'const NEAR: f64 = 4.0e9;'),
 )
 
 

@@ -6,8 +6,8 @@
     ./dev texts refusals --write   makes it anew
 
 Made from it, each between two marks: the enum and wengeludo_refusal_text in the C header, the enum of wengeludo.hpp, the enum and
-the texts of the Rust crate, those of the Python package and of the JavaScript module, the constants of the engine in Rattle and in antt, the tables
-in docs/FORMATS.md: the refusals, and which numbers are used and which are free.
+the texts of the Rust crate, those of the Python package and of the JavaScript module, the tables in docs/FORMATS.md: the refusals, and which numbers are
+used and which are free.
 """
 import csv
 import os
@@ -130,32 +130,6 @@ def by_number(found):
     return [f'    {number}: "{sentence}",' for number, _, _, sentence, _ in found]
 
 
-def lines_of(mark, sentence, most=130):
-    """A sentence as a comment, broken where a line would grow too long."""
-    lines, line = [], mark
-    for word in capital(sentence).split(' '):
-        if len(line) + 1 + len(word) > most:
-            lines.append(line)
-            line = mark
-        line += ' ' + word
-    return lines + [line]
-
-
-def rattle(found):
-    text = []
-    for number, c, _, sentence, _ in found:
-        text += ([''] if text else []) + lines_of('//', sentence) + [f'pub const {c}: u8 = {number};']
-    return text
-
-
-def antt(found):
-    text = ['']
-    for number, _, rust, sentence, _ in found:
-        name = rust[0].lower() + rust[1:]
-        text += lines_of('--', sentence) + [f'abbrev pub {name} : ℕ', f'{name} = {number}', '']
-    return text
-
-
 def table(found):
     text = ['| number | `WENGELUDO_…` | `Refusal::…` | when | smallest file |', '|---|---|---|---|---|']
     for number, c, rust, sentence, smallest in found:
@@ -196,8 +170,6 @@ MADE = [
     ('docs/FORMATS.md', '<!-- refusals: {} -->', 'free numbers', free),
     ('bindings/python/src/wengeludo_balance/refusal.py', '    # refusals: {}', 'texts', by_number),
     ('bindings/js/wengeludo.js', '    // refusals: {}', 'texts', by_number),
-    ('crates/num_def/src/refusals.rt', '// refusals: {}', 'numbers', rattle),
-    ('crates/num_def/specs/Refusals.antt', '-- refusals: {}', 'numbers', antt),
 ]
 
 

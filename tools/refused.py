@@ -1,25 +1,28 @@
 #!/usr/bin/env python3
 # SPDX-License-Identifier: LicenseRef-Wengeludo
-"""Why each must-fail edit was refused, after `rt must-fail` or `rt ci`, from target/must-fail/*/*/.log.
+"""Why each must-fail edit is refused, by `rt must-fail`, which tries again only what has changed.
 
     ./dev refused [CRATE ..]
 
-A line for each edit: what it changes (src or specs), the proof and the need that fails first, and the message, cut. Marks where the
+A line for each edit: what it changes (src or specs), the file and the goal that fails first, and the message, cut. Marks where the
 reason deserves a look:
 
-    RANGE  the first need is a machine operation's range (an overflow, an index), not what the contract says
+    RANGE  the first goal is a machine operation's range (an overflow, an index), not what the contract says
     FIT    a name is unknown or a law above no longer type-checks, so that the fact itself may still hold
     BOTH   the edit changes specs/ and src/ alike
+    BAD    the edit cannot be applied or read, so that it shows nothing
 
 A place to look, not a verdict. What it tells stands in the edit's line `refused at:` (tools/edits.py).
 """
 import os
 import re
+import subprocess
 import sys
 
 from made import ROOT
 
-TOP = 'target/must-fail'
+LINE = re.compile(r'^rt: must-fail (\w+)/(\w+)\.edit: (.*)$', re.M)
+RANGES = r'^(overflow|index|cast|shift|divi|remainder)|-(fits|in-range)(-\d+)?$'
 
 
 def read(path):
@@ -27,43 +30,39 @@ def read(path):
         return file.read()
 
 
-def marks(need, message, where, places):
+def marks(goal, message, where, places):
     found = []
-    if re.search(r'-(result|fits|index|in-range)(-\d+)?$|^(index|cast)', need):
+    if re.search(RANGES, goal):
         found.append('RANGE')
-    if re.search(r'not in scope|unknown|no such|not found|can be named from here', message) or (not where.endswith('/Proof.antt') and 'src' in places):
+    if re.search(r'not in scope|unknown|has no |only because a proof file names', message) or where.startswith('proofs/') and 'src' in places:
         found.append('FIT')
     if {'src', 'specs'} <= places:
         found.append('BOTH')
     return ''.join(f'{mark} ' for mark in found)
 
 
-def told(crate, edit):
-    source = f'crates/{crate}/must-fail/{edit}.edit'
-    places = {path.split('/')[0] for path in re.findall(r'^file: (\S+)', read(source), re.M)} if os.path.exists(source) else set()
-    log = read(f'{TOP}/{crate}/{edit}/.log')
-    first = re.search(r'/(proofs|specs|src)/(\S+?):\d+:\d+: error: (?:`([^`]+)`: )?(.*)', log)
-    itself = re.search(r'^fn \S*?(\w+): no proof: .* does not close (.*)$', log, re.M)
-    if not first and itself:
-        return f'{crate}/{edit} [{"+".join(sorted(places))}]: {itself[1]} (by itself): {itself[2]}'
-    if not first:
-        return f'{crate}/{edit}: no error found in its log'
-    where, need, message = f'{first[1]}/{first[2]}', first[3] or '-', first[4]
-    return f'{marks(need, message, where, places)}{crate}/{edit} [{"+".join(sorted(places))}]: {where} `{need}`: {message[:110]}'
+def told(crate, edit, said):
+    source = read(f'crates/{crate}/must-fail/{edit}.edit')
+    places = {path.split('/')[0] for path in re.findall(r'^file: (\S+)', source, re.M)}
+    name = f'{crate}/{edit} [{"+".join(sorted(places))}]'
+    if not said.startswith('refused'):
+        return f'{"BAD " if "BAD EDIT" in said else ""}{name}: {said[:160]}'
+    where = re.search(r'(?:note: )?(?:\./)?((?:src|specs|proofs)/\S+?):\d+', said)
+    goal = re.findall(r'`([^`]+)`', said)
+    place, goal = where[1] if where else '-', goal[-1] if goal else '-'
+    return f'{marks(goal, said, place, places)}{name}: {place} `{goal}`: {said.removeprefix("refused, as it must be: ")[:160]}'
 
 
 def main(words):
     if any(word.startswith('-') for word in words):
         sys.exit(__doc__.strip())
     os.chdir(ROOT)
-    if not os.path.isdir(TOP):
-        sys.exit(f'refused: no {TOP}; run rt must-fail first')
-    for crate in sorted(os.listdir(TOP)):
-        if words and crate not in words or not os.path.isdir(f'{TOP}/{crate}'):
-            continue
-        for edit in sorted(os.listdir(f'{TOP}/{crate}')):
-            if os.path.isfile(f'{TOP}/{crate}/{edit}/.log'):
-                print(told(crate, edit))
+    ran = subprocess.run(['rt', 'must-fail', *words], capture_output=True, text=True)
+    rows = LINE.findall(ran.stdout + ran.stderr)
+    for row in sorted(rows):
+        print(told(*row))
+    if not rows:
+        sys.exit(f'refused: {(ran.stdout + ran.stderr)[-2000:]}')
 
 
 if __name__ == '__main__':

@@ -7,16 +7,18 @@
     ./dev time modules NAME        checks one crate: its modules, the slowest first (seconds of the clock)
 
 With names, these crates alone: those below them must have been proved by an earlier `crates`, as for `edits` and `modules`.
-What it writes stands in target/seconds, apart from what rt keeps. It gives no verdict: rt does.
+What it writes stands in the folder wengeludo-seconds of the system's temporary folder, apart from what rt keeps and outside the checkout,
+where rt ci takes no copies of crates. It gives no verdict: rt does. WENGELUDO_TREE names another checkout that is measured.
 """
 import os
 import resource
 import shutil
 import subprocess
 import sys
+import tempfile
 
-ROOT = os.path.abspath(os.path.join(os.path.dirname(__file__), '..'))
-WORK = os.path.join(ROOT, 'target', 'seconds')
+ROOT = os.path.abspath(os.environ.get('WENGELUDO_TREE') or os.path.join(os.path.dirname(__file__), '..'))
+WORK = os.path.join(tempfile.gettempdir(), 'wengeludo-seconds')
 RLIBS = os.path.join(WORK, 'rlib')
 SHOWN = 30
 
@@ -26,25 +28,26 @@ def fail(text):
 
 
 def kit():
-    """The kit's folder, and the part of it that is for this machine."""
+    """The kit's folder."""
     rt = shutil.which('rt')
     if rt is None:
-        fail('no rt on the PATH: install the Rattle kit (rattle-kit-5 or later)')
-    home = os.environ.get('RATTLE_HOME') or os.path.dirname(os.path.dirname(os.path.realpath(rt)))
-    return home, os.path.join(home, 'on', os.uname().machine)
+        fail('no rt on the PATH: install the Rattle kit (rattle-kit-13f or later)')
+    return os.path.dirname(os.path.dirname(os.path.realpath(rt)))
 
 
-HOME, OWN = kit()
+KIT = kit()
 
 
 def read_crates():
-    """The crates below each crate, those below first."""
-    below, order = {}, []
+    """The crates below each crate, those below first, and those that are made into an archive."""
+    below, order, archives = {}, [], set()
     with open(os.path.join(ROOT, 'crates.txt'), encoding='utf-8') as lines:
         for line in lines:
             name, colon, rest = line.split('#')[0].partition(':')
             if colon:
-                below[name.strip()] = rest.split()
+                name, *kind = name.split()
+                below[name] = rest.split()
+                archives |= {name} if 'staticlib' in kind else set()
 
     def visit(name):
         if name in below and name not in order:
@@ -54,10 +57,10 @@ def read_crates():
 
     for name in below:
         visit(name)
-    return below, order
+    return below, order, archives
 
 
-BELOW, ORDER = read_crates()
+BELOW, ORDER, ARCHIVES = read_crates()
 
 
 def source(folder):
@@ -68,21 +71,22 @@ def source(folder):
 
 def words(name, root_file):
     """What every command on a crate is handed, as rt hands it."""
-    said = ['--crate-name', name, root_file, '--extern', f'std={OWN}/rlib/std.rlib']
+    said = ['--crate-name', name, root_file, '--extern', f'std={KIT}/rlibs/std.rlib']
     for other in BELOW[name]:
-        folder = RLIBS if other in BELOW else f'{OWN}/rlib'
+        folder = RLIBS if other in BELOW else f'{KIT}/rlibs'
         if other in BELOW and not os.path.isdir(f'{folder}/{other}.rlib'):
             fail(f"{other}, below {name}, is not proved: run 'seconds.py crates' first")
         said += ['--extern', f'{other}={folder}/{other}.rlib']
-    said += ['-L', f'dependency={RLIBS}', '-L', f'dependency={OWN}/rlib']
-    return said + ['--antt-project', f'{HOME}/logic/antt-project.json', '--logic-built', f'{OWN}/logic-built']
+    said += ['-L', f'dependency={RLIBS}', '-L', f'dependency={KIT}/rlibs', '--links', f'{name}=']
+    said += ['--crate-type', 'staticlib'] if name in ARCHIVES else []
+    return said + ['--antt-project', f'{KIT}/rattle/logic/antt-project.json', '--logic-built', f'{KIT}/logic_built']
 
 
-def run(log, verb, *said):
+def run(log, cwd, verb, *said):
     """Runs the prover: its status and its seconds."""
     before = resource.getrusage(resource.RUSAGE_CHILDREN)
     with open(log, 'w', encoding='utf-8') as out:
-        status = subprocess.run([f'{OWN}/bin/rattle', verb, *said], stdout=out, stderr=subprocess.STDOUT).returncode
+        status = subprocess.run([f'{KIT}/bin/rattle', verb, *said], cwd=cwd, stdout=out, stderr=subprocess.STDOUT).returncode
     after = resource.getrusage(resource.RUSAGE_CHILDREN)
     return status, after.ru_utime + after.ru_stime - before.ru_utime - before.ru_stime
 
@@ -97,10 +101,12 @@ def prove(name):
     root_file = source(f'{ROOT}/crates/{name}')
     said = words(name, root_file)
     if root_file.endswith('main.rt'):
-        said += ['--toolchain', f'{OWN}/toolchain', '-o', f'{WORK}/{name}.o']
+        said += ['--toolchain', f'{KIT}/toolchain', '-o', f'{WORK}/{name}.o']
+    elif name in ARCHIVES:
+        said += ['--toolchain', f'{KIT}/toolchain', '-o', f'{WORK}/lib{name}.a']
     else:
-        said += ['-o', f'{RLIBS}/{name}.rlib']
-    return run(f'{WORK}/{name}.log', 'build', *said)
+        said += ['--statements', '-o', f'{RLIBS}/{name}.rlib']
+    return run(f'{WORK}/{name}.log', os.path.dirname(os.path.dirname(root_file)), 'build', *said)
 
 
 def edited(name, edit):
@@ -128,7 +134,7 @@ def edited(name, edit):
 
 def refused(name, edit):
     folder = edited(name, edit)
-    status, seconds = run(f'{folder}/.log', 'check', *words(name, source(folder)))
+    status, seconds = run(f'{WORK}/edits/{name}-{edit}.log', folder, 'check', *words(name, source(folder)))
     return 0 if status == 1 else 1, seconds
 
 
@@ -150,7 +156,8 @@ def tell(rows):
 def modules(name):
     """When each module was written tells how long it took."""
     kept = anew(f'{WORK}/modules')
-    status, seconds = run(f'{WORK}/{name}.log', 'check', *words(name, source(f'{ROOT}/crates/{name}')), '--incremental', kept)
+    folder = f'{ROOT}/crates/{name}'
+    status, seconds = run(f'{WORK}/{name}.log', folder, 'check', *words(name, source(folder)), '--incremental', kept)
     written = []
     for folder, _, files in os.walk(kept):
         if os.path.basename(folder) != 'records':
@@ -158,7 +165,7 @@ def modules(name):
     written.sort()
     took = [(after - before, file) for (before, _), (after, file) in zip(written, written[1:])]
     for nanoseconds, file in sorted(took, reverse=True)[:SHOWN]:
-        print(f'{nanoseconds / 1e9:6.2f} {file.removesuffix(".oantt").removeprefix(f"Rattle·{name}·").removeprefix("proofs.")}')
+        print(f'{nanoseconds / 1e9:6.2f} {file.removesuffix(".oantt").removeprefix(f"Rattle-{name}-").removeprefix("proofs.")}')
     print(f'{seconds:6.1f} of processor time in all')
     sys.exit(status)
 

@@ -2,7 +2,7 @@
 # SPDX-License-Identifier: LicenseRef-Wengeludo
 """Whether `vectors` sees a difference: the compiled program over copies of its cases, each of which has one byte changed.
 
-    ./dev spoilt-cases   after `rt check vectors` or the gate
+    ./dev spoilt-cases   after `rt run` in crates/vectors or the gate
 
 In the first copy a byte of what a call tells is changed (its number, its count, the number handed back), in the second a byte of what
 it leaves in the slice; in the third nothing. Each changed case must be told as different, by its number, and no other one.
@@ -15,7 +15,7 @@ import tempfile
 from pathlib import Path
 
 ROOT = Path(__file__).resolve().parents[1]
-PROGRAM = ROOT / 'target' / 'bin' / 'vectors'
+PROGRAM = ROOT / 'crates' / 'vectors' / 'out' / 'vectors'
 DATA = ROOT / 'crates' / 'vectors' / 'data'
 HEAD = 20  # bytes of a case before what is handed in
 TOLD = 12  # from here to the end of the head stands what the call tells
@@ -59,7 +59,7 @@ def said(name, numbers, count):
 
 def main():
     if not PROGRAM.exists():
-        sys.exit(f'spoilt_cases: no {PROGRAM.relative_to(ROOT)}: build it with `rt check vectors`')
+        sys.exit(f'spoilt_cases: no {PROGRAM.relative_to(ROOT)}: build it with `rt run` in crates/vectors')
     tried = 0
     for which in (told_spoilt, slice_spoilt, None):
         with tempfile.TemporaryDirectory() as folder:

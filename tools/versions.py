@@ -9,8 +9,8 @@ import sys
 ROOT = os.path.abspath(os.path.join(os.path.dirname(__file__), '..'))
 PARTS = r'{0} = (\d+)[\s\S]*?{1} = (\d+)[\s\S]*?{2} = (\d+)'
 PLACES = [
-    ('crates/version_def/specs/Version.antt', PARTS.format('major', 'minor', 'patch')),
-    ('crates/version_def/src/lib.rt', PARTS.format('MAJOR: u32', 'MINOR: u32', 'PATCH: u32')),
+    ('crates/version/specs/Version.antt', PARTS.format('major', 'minor', 'patch')),
+    ('crates/version/src/lib.rt', PARTS.format('MAJOR: u32', 'MINOR: u32', 'PATCH: u32')),
     ('include/wengeludo_balance.h', r'VERSION_MAJOR (\d+)\n#define WENGELUDO_VERSION_MINOR (\d+)\n#define WENGELUDO_VERSION_PATCH (\d+)'),
     ('bindings/rust/Cargo.toml', r'^version = "(\d+)\.(\d+)\.(\d+)"'),
     ('bindings/rust/src/lib.rs', r'pub const VERSION: u32 = ([\d_]+);'),  # one number

@@ -4,7 +4,7 @@
 The declarations are read from the headers, and the C compiler checks the calls against these same headers: no signature stands here.
 
 WENGELUDO_INCLUDE (default: include of this repository, else the folder that pkg-config names)   the header's folder
-WENGELUDO_ARCHIVE (default: target/staticlib/libwengeludo.a, likewise)     the archive, as `rt staticlib wengeludo` writes it
+WENGELUDO_ARCHIVE (default: target/staticlib/libwengeludo.a, likewise)     the archive, as `bash packaging/archive.sh` writes it
 """
 
 import os
@@ -60,7 +60,7 @@ def own(header: str) -> str:
     return "\n".join(line for line in text.splitlines() if not line.startswith("#"))
 
 
-for needed, how in ((HEADER, "it belongs to this repository, or install.sh puts it where pkg-config finds it"), (ARCHIVE, "build it with 'rt staticlib wengeludo'")):
+for needed, how in ((HEADER, "it belongs to this repository, or install.sh puts it where pkg-config finds it"), (ARCHIVE, "build it with 'bash packaging/archive.sh'")):
     if not needed.exists():
         sys.exit(f"wengeludo_balance: no {needed}: {how}")
 

@@ -91,7 +91,7 @@ fn folder() -> PathBuf {
         None => {
             println!("cargo:rerun-if-changed={}", own.display());
             eprintln!("wengeludo_balance: no {}, and no wengeludo that pkg-config knows", own.join("libwengeludo.a").display());
-            eprintln!("Build it at the repository's root with `rt staticlib wengeludo` (Rattle kit rattle-kit-5 or later),");
+            eprintln!("Build it at the repository's root with `bash packaging/archive.sh` (Rattle kit rattle-kit-13f or later),");
             eprintln!("install it with `bash install.sh PREFIX`, or name the folder that has it in WENGELUDO_ARCHIVE_DIR.");
             exit(1)
         }

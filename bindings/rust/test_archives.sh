@@ -7,7 +7,7 @@
 set -eu
 cd "$(dirname "$0")/../.."
 archive=target/staticlib/libwengeludo.a
-[ -e "$archive" ] || { echo "no $archive: build it with 'rt staticlib wengeludo'" >&2; exit 2; }
+[ -e "$archive" ] || { echo "no $archive: build it with 'bash packaging/archive.sh'" >&2; exit 2; }
 work=$PWD/target/built/archives
 rm -rf "$work"
 mkdir -p "$work"

@@ -1,7 +1,7 @@
 # SPDX-License-Identifier: LicenseRef-Wengeludo
 """install.sh in a copy of the tree: with no archive and no rt, with an rt that fails, with one that builds it, and a second time.
 
-The rt here is a script that does what `rt staticlib wengeludo` does, by a copy of the archive.
+The rt here is a script that does what `rt lib` does for packaging/archive.sh, by a copy of the archive.
 """
 
 import os
@@ -15,7 +15,7 @@ ROOT = Path(__file__).resolve().parents[2]
 ARCHIVE = Path(os.environ.get("WENGELUDO_ARCHIVE") or ROOT / "target" / "staticlib" / "libwengeludo.a")
 FAILING = "#!/bin/sh\nexit 1\n"
 NOISE = "".join(f"echo proving {k}\n" for k in range(200))
-BUILDING = '#!/bin/sh\n' + NOISE + '[ "$*" = "staticlib wengeludo" ] || exit 9\nmkdir -p target/staticlib && cp "{}" target/staticlib/libwengeludo.a && echo built >>rt.log\n'
+BUILDING = '#!/bin/sh\n' + NOISE + '[ "$*" = "lib --cpu x86-64" ] || exit 9\nmkdir -p out && cp "{}" out/libwengeludo_c.a && echo built >>../../rt.log && echo "logic=proved "\n'
 
 
 @pytest.fixture
@@ -23,6 +23,9 @@ def tree(tmp_path):
     """The parts of the tree that the set-up reads, and a PATH without rt."""
     for part in ("desk", "bindings", "include"):
         shutil.copytree(ROOT / part, tmp_path / "tree" / part, ignore=shutil.ignore_patterns("build", "*.egg-info", "__pycache__", ".hypothesis"))
+    (tmp_path / "tree" / "packaging").mkdir()
+    shutil.copy(ROOT / "packaging" / "archive.sh", tmp_path / "tree" / "packaging")
+    (tmp_path / "tree" / "crates" / "wengeludo_c").mkdir(parents=True)
     (tmp_path / "bin").mkdir()
     return tmp_path / "tree"
 
@@ -42,7 +45,7 @@ def test_no_archive_and_no_rt(tree):
     ended = installed(tree)
     assert ended.returncode == 1 and "no archive, and no rt on the PATH to build it" in ended.stderr
     ended = installed(tree, FAILING)
-    assert ended.returncode == 1 and ended.stderr.endswith("rt staticlib wengeludo did not succeed\n") and len(ended.stderr.splitlines()) < 25
+    assert ended.returncode == 1 and ended.stderr.endswith("bash packaging/archive.sh did not succeed\n") and len(ended.stderr.splitlines()) < 25
     assert not (tree.parent / "prefix").exists()
 
 

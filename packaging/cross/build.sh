@@ -4,9 +4,9 @@
 #     bash packaging/cross/build.sh aarch64|riscv64 OUT.a    an archive for 64-bit Linux on ARM or RISC-V
 #     bash packaging/cross/build.sh wasm32 OUT.wasm          a module for browsers and Node
 #
-# rt proves `wengeludo` and hands its module to the kit's clang. A clang in front of that one keeps a copy, so what is compiled here is the
-# module of the run that ended in logic=proved, and of no other. The x86-64 archive of that run must be the one that docs/MEASURED.md
-# records, and the module, compiled for x86-64 once more, must come to that archive's object, byte for byte.
+# packaging/archive.sh has the calls proved, and their module handed to the kit's clang. A clang in front of that one keeps a copy, so what
+# is compiled here is the module of the run that ended in logic=proved, and of no other. The x86-64 archive of that run must be the one
+# that docs/MEASURED.md records, and the module, compiled for x86-64 once more, must come to that archive's object, byte for byte.
 # Assumed beside what the x86-64 archive assumes: that the module does not depend on its processor (retarget.py looks for what would), and
 # clang's back end for the other one.
 #
@@ -24,33 +24,31 @@ esac
 target=$1
 out=$(realpath -m "$2")
 cd "$(dirname "$0")/../.."
-kit=${RATTLE_HOME:-$(dirname "$(dirname "$(readlink -f "$(command -v rt)")")")}
-on=$kit/on/$(uname -m)
-clang=$on/toolchain/bin/clang
+kit=$(dirname "$(dirname "$(readlink -f "$(command -v rt)")")")
+tools=$kit/toolchain
+clang=$tools/bin/clang
 archive=target/staticlib/libwengeludo.a
 tmp=$(mktemp -d)
 trap 'rm -rf "$tmp"' EXIT
 
-# The kit by links, but for its clang, which keeps the module and the words it is called with.
-kept_kit() {
-    local own=$tmp/kit/on/$(uname -m) f
-    mkdir -p "$own/toolchain/bin"
-    for f in "$kit"/*; do [ "${f##*/}" = on ] || ln -s "$f" "$tmp/kit/"; done
-    for f in "$on"/*; do [ "${f##*/}" = toolchain ] || ln -s "$f" "$own/"; done
-    for f in "$on"/toolchain/*; do [ "${f##*/}" = bin ] || ln -s "$(readlink -f "$f")" "$own/toolchain/"; done
-    for f in "$on"/toolchain/bin/*; do [ "${f##*/}" = clang ] || ln -s "$f" "$own/toolchain/bin/"; done
-    printf '#!/bin/sh\ncp module.bc "%s/module.bc"\nfor word; do printf "%%s\\n" "$word"; done >"%s/words"\nexec "%s" "$@"\n' \
-        "$tmp" "$tmp" "$clang" >"$own/toolchain/bin/clang"
-    chmod +x "$own/toolchain/bin/clang"
+# The kit's tools by links, but for its clang, which keeps the module and the words it is called with.
+kept_tools() {
+    local f
+    mkdir -p "$tmp/tools/bin"
+    ln -s "$tools/lib" "$tmp/tools/lib"
+    for f in "$tools"/bin/*; do [ "${f##*/}" = clang ] || ln -s "$f" "$tmp/tools/bin/"; done
+    printf '#!/bin/sh\n[ ! -e module.bc ] || cp module.bc "%s/module.bc"\nfor word; do printf "%%s\\n" "$word"; done >"%s/words"\nexec "%s" "$@"\n' \
+        "$tmp" "$tmp" "$clang" >"$tmp/tools/bin/clang"
+    chmod +x "$tmp/tools/bin/clang"
 }
 
 # The module, compiled by the very words of the run, is the archive's object.
 same_object() { # module, words
     local again
-    mapfile -t again < <(sed -e "s|^module\.bc$|$1|" -e "s|^module\.o$|$tmp/again.o|" -e "s|^--sysroot=.*|--sysroot=$on/toolchain|" "$2")
+    mapfile -t again < <(sed -e "s|^module\.bc$|$1|" -e "s|^module\.o$|$tmp/again.o|" -e "s|^--sysroot=.*|--sysroot=$tools|" "$2")
     "$clang" "${again[@]}"
     rm -rf "$tmp/member" && mkdir "$tmp/member"
-    (cd "$tmp/member" && "$on/toolchain/bin/llvm-ar" x "$OLDPWD/$archive")
+    (cd "$tmp/member" && "$tools/bin/llvm-ar" x "$OLDPWD/$archive")
     cmp -s "$tmp/again.o" "$tmp"/member/*
 }
 
@@ -62,9 +60,11 @@ module() {
         kept=target/cross/$sum
         if [ -e "$kept.bc" ] && [ -e "$kept.words" ] && same_object "$kept.bc" "$kept.words"; then return; fi
     fi
-    kept_kit
-    RATTLE_HOME=$tmp/kit rt staticlib wengeludo >"$tmp/log" 2>&1 || { tail -20 "$tmp/log" >&2; exit 1; }
-    grep -q '^logic=proved ' "$tmp/log" && [ -e "$tmp/module.bc" ] || { echo "cross: rt handed no proved module to its compiler" >&2; exit 1; }
+    kept_tools
+    bash packaging/archive.sh "$tmp/proved.a" "$tmp/tools" >"$tmp/log" 2>&1 || { tail -20 "$tmp/log" >&2; exit 1; }
+    grep -q '^logic=proved ' "$tmp/log" && [ -e "$tmp/module.bc" ] || { echo "cross: no proved module was handed to the compiler" >&2; exit 1; }
+    mkdir -p target/staticlib
+    cp "$tmp/proved.a" "$archive"
     kept=target/cross/$(sha256sum <"$archive" | cut -d' ' -f1)
     mkdir -p target/cross
     cp "$tmp/words" "$kept.words"
@@ -96,7 +96,7 @@ if [ "$target" = wasm32 ]; then
     "$tmp/wasm-ld" --no-entry "${exports[@]}" --export=__heap_base --gc-sections --strip-all --stack-first -z stack-size=131072 \
         "$tmp/wengeludo.o" "$tmp/memory.o" -o "$tmp/out"
 else
-    "$on/toolchain/bin/llvm-ar" rcsD "$tmp/out" "$tmp/wengeludo.o"
+    "$tools/bin/llvm-ar" rcsD "$tmp/out" "$tmp/wengeludo.o"
 fi
 cp "$tmp/out" "$out"
 echo "cross: $out for $target, $(stat -c %s "$out") bytes, sha256 $(sha256sum <"$out" | cut -d' ' -f1)"

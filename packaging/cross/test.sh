@@ -10,8 +10,7 @@
 # SPDX-License-Identifier: LicenseRef-Wengeludo
 set -euo pipefail
 cd "$(dirname "$0")/../.."
-kit=${RATTLE_HOME:-$(dirname "$(dirname "$(readlink -f "$(command -v rt)")")")}
-bin=$kit/on/$(uname -m)/toolchain/bin
+bin=$(dirname "$(dirname "$(readlink -f "$(command -v rt)")")")/toolchain/bin
 work=target/cross
 mkdir -p "$work"
 tmp=$(mktemp -d)

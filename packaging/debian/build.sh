@@ -23,7 +23,7 @@ done
 [ "$(dpkg --print-architecture)" = amd64 ] || fail "packages are made on amd64, and this machine is $(dpkg --print-architecture)"
 python=/usr/bin/python3 # Debian's own: another python3 on the PATH sees none of Debian's packages
 archive=$(realpath -m "${WENGELUDO_ARCHIVE:-target/staticlib/libwengeludo.a}")
-[ -e "$archive" ] || fail "no $archive: build it with 'rt staticlib wengeludo'"
+[ -e "$archive" ] || fail "no $archive: build it with 'bash packaging/archive.sh'"
 upstream=$(sed -n 's/^version = "\(.*\)"/\1/p' bindings/python/pyproject.toml)
 version=$upstream-1
 maintainer=${WENGELUDO_MAINTAINER:-Wengeludo packages <packages@wengeludo.example>}

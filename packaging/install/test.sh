@@ -212,7 +212,7 @@ says "$usage" --target sparc "$none"
 says 'install: PREFIX and LIBDIR take no line end, backslash, quote or |' "$none|"
 LIBDIR='lib"' says 'install: PREFIX and LIBDIR take no line end, backslash, quote or |' "$none"
 says "install: no $none/share/wengeludo/manifest-$version: wengeludo $version was not installed in $none by this script" --uninstall "$none"
-WENGELUDO_ARCHIVE=$work/none.a says "install: no $work/none.a: build it with 'rt staticlib wengeludo'" "$none"
+WENGELUDO_ARCHIVE=$work/none.a says "install: no $work/none.a: build it with 'bash packaging/archive.sh'" "$none"
 for other in aarch64 riscv64; do
     WENGELUDO_ARCHIVE=$work/none.a says "install: no $work/none.a: build it with 'bash packaging/cross/build.sh $other target/cross/$other.a'" --target $other "$none"
 done

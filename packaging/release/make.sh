@@ -18,7 +18,7 @@ fail() { echo "release: $*" >&2; exit 1; }
 [ -n "${WENGELUDO_CHANGED:-}" ] || [ -z "$(git status --porcelain)" ] || fail "the tree has changes that are not committed: a release is made of a commit"
 ./dev versions
 ./dev texts refusals
-[ -e target/staticlib/libwengeludo.a ] || rt staticlib wengeludo >/dev/null
+[ -e target/staticlib/libwengeludo.a ] || bash packaging/archive.sh >/dev/null
 ./dev archive
 version=$(sed -n 's/^version = "\(.*\)"/\1/p' bindings/python/pyproject.toml)
 work=$(mktemp -d)

@@ -9,7 +9,7 @@ need() { command -v "$1" >/dev/null || { echo "no $1: install it (Debian: apt-ge
 need clang "clang libclang-rt-dev"
 need objdump binutils
 need nm binutils
-[ -e "$archive" ] || { echo "no $archive: build it with 'rt staticlib wengeludo' (Rattle kit rattle-kit-5 or later)" >&2; exit 2; }
+[ -e "$archive" ] || { echo "no $archive: build it with 'bash packaging/archive.sh' (Rattle kit rattle-kit-13f or later)" >&2; exit 2; }
 mkdir -p "$out"
 clang -std=gnu11 -O1 -g -Wall -Wextra -Werror -fno-pie -no-pie -fsanitize=fuzzer -DBLOCKS="\"$PWD/$out/blocks.txt\"" \
     -I include tests/fuzz/*.c "$archive" -lm -o "$out/target" ||

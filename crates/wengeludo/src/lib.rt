@@ -1,7 +1,8 @@
-// The calls for programs in C and Rust, as functions on numbers and slices of numbers: the archive. They are the version, the sheet call,
-// the plant writer, the plant reader, the sheet reader, the translator, the two moves, meters to buy, the survey, meters worth a visit, steam charges, the
-// check of a sheet, numbers of the places and the check of a flow over wide numbers.
+// The calls for programs in C and Rust, as functions on numbers and slices of numbers; wengeludo_c makes the archive of them. They are
+// the version, the sheet call, the plant writer, the plant reader, the sheet reader, the translator, the two moves, meters to buy, the
+// survey, meters worth a visit, steam charges, the check of a sheet, numbers of the places and the check of a flow over wide numbers.
 #![tactic(auto)]
+
 ghost use Rattle.std.specs.Prelude.{◌≡◌};
 ghost use Rattle.transmitter_def.specs.Says.{TranslateSays};
 ghost use Rattle.ranged_def.specs.Moves.{ToSays, FromSays};
@@ -19,8 +20,7 @@ use plant_def::Plant;
 use sheet_lent::balance_lent;
 
 // The version as one number: 10,000 is 1.0.0.
-#[unsafe(no_mangle)]
-pub extern "C" fn wengeludo_version() -> u32
+pub fn wengeludo_version() -> u32
     ensures { result ≡ version }
 {
     version::version_number()
@@ -29,8 +29,7 @@ pub extern "C" fn wengeludo_version() -> u32
 // The sheet call: the file's sheet in the slice, drawn for an office, its bytes counted and the office's last number one higher; or
 // a refusal number, none counted, slice and numbers as they were. Fewer than eight last numbers are refused as 1; those past the
 // eighth stay as they are. With refusal 19 bit u of the marks is set where place u is in an overfull set; else no bit is.
-#[unsafe(no_mangle)]
-pub extern "C" fn wengeludo_balance_plant(
+pub fn wengeludo_balance_plant(
     file: &[u8],
     office: u8,
     lasts: &mut [u32],
@@ -49,8 +48,7 @@ pub extern "C" fn wengeludo_balance_plant(
 // The plant writer: the plant's file in the slice, its bytes counted; or a refusal number, none counted, the slice as it was.
 // The streams' parts are handed over in eight slices, stream k + 1 at place k of each. A stream that some slice does not
 // reach is empty, from 0 to 0, and is refused when its turn comes.
-#[unsafe(no_mangle)]
-pub extern "C" fn wengeludo_write_plant(
+pub fn wengeludo_write_plant(
     units: u8,
     count: usize,
     from: &[u8],
@@ -85,8 +83,7 @@ pub extern "C" fn wengeludo_write_plant(
 // The plant reader: a plant file's units, how many streams it lists, and their parts at the front of eight slices, stream k + 1 at place k
 // of each, as the plant writer takes them; or a refusal number, zeros, and the slices as they were. A slice that does not hold as many as
 // there may be is refused as 1, before the file is read.
-#[unsafe(no_mangle)]
-pub extern "C" fn wengeludo_read_plant(
+pub fn wengeludo_read_plant(
     file: &[u8],
     units: &mut u8,
     count: &mut usize,
@@ -120,8 +117,7 @@ pub extern "C" fn wengeludo_read_plant(
 // The sheet reader: the kinds of a sheet's stream records, which tell the classes, and the flows at the front of two slices, how
 // many they are, and the total with its kind and its office, 0 where it shows none; or a refusal number, zeros, and the slices as
 // they were. A slice that does not hold as many as there may be is refused as 1, before the sheet is read.
-#[unsafe(no_mangle)]
-pub extern "C" fn wengeludo_read_sheet(
+pub fn wengeludo_read_sheet(
     bytes: &[u8],
     kinds: &mut [u8],
     flows: &mut [i64],
@@ -153,12 +149,7 @@ pub extern "C" fn wengeludo_read_sheet(
 
 // The translator: the plant file that a transmitter file becomes in the slice, its bytes counted; or a refusal number, none
 // counted, the slice as it was.
-#[unsafe(no_mangle)]
-pub extern "C" fn wengeludo_plant_from_transmitter(
-    file: &[u8],
-    plant: &mut [u8],
-    written: &mut usize,
-) -> u8
+pub fn wengeludo_plant_from_transmitter(file: &[u8], plant: &mut [u8], written: &mut usize) -> u8
     ensures { TranslateSays file.now plant.old plant.new (record { number = result; written = written.new }) }
 {
     let made = transmitter_translate::plant_from_transmitter(file, plant);
@@ -168,8 +159,7 @@ pub extern "C" fn wengeludo_plant_from_transmitter(
 
 // Moves a plant file to the ranged form: the moved file in the slice, its bytes counted; or a refusal number, none counted, the
 // slice as it was.
-#[unsafe(no_mangle)]
-pub extern "C" fn wengeludo_to_ranged(file: &[u8], out: &mut [u8], written: &mut usize) -> u8
+pub fn wengeludo_to_ranged(file: &[u8], out: &mut [u8], written: &mut usize) -> u8
     ensures { ToSays file.now out.old out.new (record { number = result; written = written.new }) }
 {
     let done = ranged_call::to_ranged(file, out);
@@ -178,8 +168,7 @@ pub extern "C" fn wengeludo_to_ranged(file: &[u8], out: &mut [u8], written: &mut
 }
 
 // Moves a plant file home.
-#[unsafe(no_mangle)]
-pub extern "C" fn wengeludo_from_ranged(file: &[u8], out: &mut [u8], written: &mut usize) -> u8
+pub fn wengeludo_from_ranged(file: &[u8], out: &mut [u8], written: &mut usize) -> u8
     ensures { FromSays file.now out.old out.new (record { number = result; written = written.new }) }
 {
     let done = ranged_call::from_ranged(file, out);
@@ -190,8 +179,7 @@ pub extern "C" fn wengeludo_from_ranged(file: &[u8], out: &mut [u8], written: &m
 // Meters to buy: the numbers of the streams to be metered at the front of a slice, how many they are, and what they cost
 // together; or a refusal number, zeros, and the slice as it was. A slice that does not hold as many as there may be is refused
 // as 1, before the file is read.
-#[unsafe(no_mangle)]
-pub extern "C" fn wengeludo_meters_to_buy(
+pub fn wengeludo_meters_to_buy(
     file: &[u8],
     prices: &[u32],
     streams: &mut [u8],
@@ -210,8 +198,7 @@ pub extern "C" fn wengeludo_meters_to_buy(
 // The survey of meter layouts: for each k from 0 to the number of streams, how many choices of k metered streams leave none
 // withheld, at the front of the slice, and how many streams there are; or a refusal number, 0, and the slice as it was. A slice
 // that does not hold 13 counts is refused as 1, before the file is read.
-#[unsafe(no_mangle)]
-pub extern "C" fn wengeludo_layouts_of(file: &[u8], counts: &mut [u16], count: &mut usize) -> u8
+pub fn wengeludo_layouts_of(file: &[u8], counts: &mut [u16], count: &mut usize) -> u8
     ensures { SurveyFound file.now counts.old (result, count.new, counts.new) }
 {
     let lent = survey_answers::layouts_lent(file, counts);
@@ -222,13 +209,7 @@ pub extern "C" fn wengeludo_layouts_of(file: &[u8], counts: &mut [u16], count: &
 // Meters worth a visit: for every A stream the least cost with that stream, and its range, made unmetered, listed by cost, equals by
 // number: the streams' numbers at the front of one slice, the costs at the front of another, and how many they are; or a refusal
 // number, 0, and the slices as they were. A slice that does not hold as many as there may be is refused as 1, before the file is read.
-#[unsafe(no_mangle)]
-pub extern "C" fn wengeludo_visits(
-    file: &[u8],
-    streams: &mut [u8],
-    costs: &mut [u64],
-    count: &mut usize,
-) -> u8
+pub fn wengeludo_visits(file: &[u8], streams: &mut [u8], costs: &mut [u64], count: &mut usize) -> u8
     ensures { VisitsFound file.now streams.old costs.old
         (result, count.new, streams.new, costs.new) }
 {
@@ -240,8 +221,7 @@ pub extern "C" fn wengeludo_visits(
 // Steam charges: the numbers of the streams to the outside and what each is charged for one hour, in cents, at the front of two
 // slices, how many they are, and the bill; or a refusal number, zeros, and the slices as they were. A slice that does not hold as
 // many as there may be is refused as 1, before the file is read.
-#[unsafe(no_mangle)]
-pub extern "C" fn wengeludo_charges(
+pub fn wengeludo_charges(
     file: &[u8],
     rates: &[u16],
     streams: &mut [u8],
@@ -261,8 +241,7 @@ pub extern "C" fn wengeludo_charges(
 
 // The check of a plant, a sheet drawn up elsewhere and one number for each place: the plant reader's refusals, then the sheet
 // reader's, then 26 where any rule is broken; 0 where the sheet passes, and then its flows have least cost.
-#[unsafe(no_mangle)]
-pub extern "C" fn wengeludo_check_sheet(plant: &[u8], sheet: &[u8], numbers: &[i64]) -> u8
+pub fn wengeludo_check_sheet(plant: &[u8], sheet: &[u8], numbers: &[i64]) -> u8
     ensures { CheckSays plant.now sheet.now numbers.now result }
 {
     foreign_call::check_sheet(plant, sheet, numbers)
@@ -270,8 +249,7 @@ pub extern "C" fn wengeludo_check_sheet(plant: &[u8], sheet: &[u8], numbers: &[i
 
 // Numbers of the places, with which each sheet of the file passes the check, at the front of the slice, and how many they are; or a
 // refusal number, 0, and the slice as it was. A slice that does not hold 33 numbers is refused as 1, before the file is read.
-#[unsafe(no_mangle)]
-pub extern "C" fn wengeludo_place_numbers(file: &[u8], numbers: &mut [i64], count: &mut usize) -> u8
+pub fn wengeludo_place_numbers(file: &[u8], numbers: &mut [i64], count: &mut usize) -> u8
     ensures { NumbersFound file.now numbers.old (result, count.new, numbers.new) }
 {
     let lent = foreign_numbers::numbers_lent(file, numbers);
@@ -282,8 +260,7 @@ pub extern "C" fn wengeludo_place_numbers(file: &[u8], numbers: &mut [i64], coun
 // The check of a flow found elsewhere, with one number for each place, of a plant of wide numbers whose parts are handed over in eight
 // slices, stream k + 1 at place k of each: a slice too short for the count (of the numbers: for the places) 1, then the faults of the
 // parts, then 26 where any rule is broken; 0 where the flow passes, and then it has least cost.
-#[unsafe(no_mangle)]
-pub extern "C" fn wengeludo_check_flow(
+pub fn wengeludo_check_flow(
     units: u8,
     count: usize,
     from: &[u8],
