@@ -1,6 +1,7 @@
 // The cheapest balanced flow of a plant, with potentials that certify it; or a set of places that must take in more than it can let
 // out.
 #![tactic(auto)]
+
 ghost use Rattle.std.specs.Prelude.{◌≡◌, true, false, ◌≤◌};
 ghost use Rattle.plant_def.specs.declared.Plant.{Plant};
 ghost use Rattle.plant_def.specs.Within.{Accepted};

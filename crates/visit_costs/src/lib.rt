@@ -1,5 +1,6 @@
 // The least cost of a plant without the meter of one stream, for each A stream.
 #![tactic(auto)]
+
 ghost use Rattle.plant_def.specs.Within.{Accepted};
 ghost use Rattle.plant_def.specs.Says.{plant_of};
 ghost use Rattle.visit_def.specs.Visits.{LeastCost, Feasible, without, is_adjusted};

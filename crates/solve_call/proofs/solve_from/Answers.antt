@@ -1,0 +1,54 @@
+-- `solve_call::solve_from` meets its contract: amounts are settled at the hint.
+use mathlib.Core.Path.{refl}
+use Prim.Native.Nat.{◌*◌}
+use native.Mathlib.Omega.{arith}
+use lib.ListN.{get_or-replicate}
+use Rattle.plant_def.specs.Limits.{max_streams}
+use Rattle.plant_def.specs.Says.{plant_of}
+use Rattle.solve_def.specs.SolverNeeds.{AtHint}
+use Rattle.solve_def.proofs.Layouts.{hinted_ready}
+use Rattle.solve_def.proofs.Theorem.{network_of}
+use Rattle.solve_arcs.specs.Cells.{arc_cells}
+use Rattle.solve_call.proofs.solve_from.Goals as goal
+use Rattle.solve_call.proofs.solve_from.Goals.{After-nets-2-1, After-settle-st}
+
+pub lay-requires : goal.lay-requires
+lay-requires c =
+    (network_of c.args.p c.requires.0, refl, λ u l. get_or-replicate arc_cells u (2 * max_streams) 0 (omega arith), refl)
+
+pub settle-st-requires : goal.settle-st-requires
+settle-st-requires c =
+    let p = c.args.p in
+    let w = network_of p c.requires.0 in
+    record {
+      laying = record { streams = p.streams; n = p.count; network = w; laid = c.lay.ensures };
+      ready = hinted_ready p.streams p.count w c.args.h c.requires.1;
+    }
+
+-- The settled amounts are those of the hint.
+at_hint : (c : After-settle-st) → AtHint (plant_of c.args.p).streams c.settle-st.result
+at_hint c =
+    let p = c.args.p in
+    record {
+      hint = c.args.h;
+      hinted = c.requires.1;
+      is = c.settle-st.ensures (record { streams = p.streams; n = p.count; network = network_of p c.requires.0; laid = c.lay.ensures });
+    }
+
+-- The settled state, from where all is lent.
+abbrev lent : After-nets-2-1 → After-settle-st
+lent c =
+    c.before.before.before.before.before.before.before.before
+
+pub solve_at-requires : goal.solve_at-requires
+solve_at-requires c =
+    let s = lent c in
+    let f = s.before.before.before in
+    (f.before.before.before.before.before.args.p, record { accepted = f.before.before.before.before.before.pre.0; laid = f.lay.ensures }, refl, at_hint s)
+
+pub returns : goal.returns
+returns c =
+    let s = lent (goal.at.returns c).After-nets-2-1 in
+    let f = s.before.before.before in
+    let r = c.solve_at.ensures f.before.before.before.before.before.args.p (record { accepted = f.before.before.before.before.before.pre.0; laid = f.lay.ensures }) refl (at_hint s) in
+    (r.0, r.1.few)
