@@ -21,12 +21,11 @@ pub is_overfull-requires : goal.is_overfull-requires
 is_overfull-requires c = laying (goal.at.is_overfull-requires c).Start c.requires.0 c.requires.1
 
 pub returns-then-is_overfull : goal.returns-then-is_overfull
-returns-then-is_overfull c =
-    (
-      λ p w e g. guess_right p w.accepted (marks_of c.start-guess.result) _ (rw e (c.is_overfull.ensures (laying (goal.at.returns-then-is_overfull c).Start p w) c.if-is_overfull.true))
-          c.refused.ensures.0 (rw e (c.refused.ensures.1 ∙ c.marks_of.ensures)),
-      rw c.refused.ensures.2 (omega arith),
-    )
+returns-then-is_overfull c = (
+  λ p w e g. guess_right p w.accepted (marks_of c.start-guess.result) _ (rw e (c.is_overfull.ensures (laying (goal.at.returns-then-is_overfull c).Start p w) c.if-is_overfull.true))
+      c.refused.ensures.0 (rw e (c.refused.ensures.1 ∙ c.marks_of.ensures)),
+  rw c.refused.ensures.2 (omega arith),
+)
 
 pub solve_at-requires : goal.solve_at-requires
 solve_at-requires c =

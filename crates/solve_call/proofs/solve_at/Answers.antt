@@ -21,7 +21,6 @@ abbrev begun : (st : Start) (p : Plant) → LaidOf p st.args.arcs.now st.args.ro
 begun st p w h = record {
   laying = record { streams = p.streams; n = p.count; network = network_of p w.accepted; laid = w.laid };
   at_hint = h;
-
 }
 
 pub finish-e-requires : goal.finish-e-requires

@@ -10,7 +10,7 @@ use Rattle.solve_def.proofs.Layouts.{hinted_ready}
 use Rattle.solve_def.proofs.Theorem.{network_of}
 use Rattle.solve_arcs.specs.Cells.{arc_cells}
 use Rattle.solve_call.proofs.solve_from.Goals as goal
-use Rattle.solve_call.proofs.solve_from.Goals.{After-nets-2-1, After-settle-st}
+use Rattle.solve_call.proofs.solve_from.Goals.{After-settle-st}
 
 pub lay-requires : goal.lay-requires
 lay-requires c =
@@ -35,20 +35,11 @@ at_hint c =
       is = c.settle-st.ensures (record { streams = p.streams; n = p.count; network = network_of p c.requires.0; laid = c.lay.ensures });
     }
 
--- The settled state, from where all is lent.
-abbrev lent : After-nets-2-1 → After-settle-st
-lent c =
-    c.before.before.before.before.before.before.before.before
-
 pub solve_at-requires : goal.solve_at-requires
 solve_at-requires c =
-    let s = lent c in
-    let f = s.before.before.before in
-    (f.before.before.before.before.before.args.p, record { accepted = f.before.before.before.before.before.pre.0; laid = f.lay.ensures }, refl, at_hint s)
+    (c.args.p, record { accepted = c.requires.0; laid = c.lay.ensures }, refl, at_hint (goal.at.solve_at-requires c).After-settle-st)
 
 pub returns : goal.returns
 returns c =
-    let s = lent (goal.at.returns c).After-nets-2-1 in
-    let f = s.before.before.before in
-    let r = c.solve_at.ensures f.before.before.before.before.before.args.p (record { accepted = f.before.before.before.before.before.pre.0; laid = f.lay.ensures }) refl (at_hint s) in
+    let r = c.solve_at.ensures c.args.p (record { accepted = c.requires.0; laid = c.lay.ensures }) refl (at_hint (goal.at.returns c).After-settle-st) in
     (r.0, r.1.few)

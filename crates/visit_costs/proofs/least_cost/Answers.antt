@@ -11,12 +11,7 @@ use Rattle.solve_arcs_fill.proofs.Plants.{no_arc}
 use Rattle.solve_phases.specs.Finishes.{Finishable}
 use Rattle.visit_costs.proofs.Ended.{never_full, amounts, all_held, least_found}
 use Rattle.visit_costs.proofs.least_cost.Goals as goal
-use Rattle.visit_costs.proofs.least_cost.Goals.{After-finish-e, After-start, Start}
-
--- The first state, from the end of the phases; arcs and rows, from there; and the start.
-abbrev begun : After-finish-e → After-start
-begun c =
-    (record { before = c.before.before.before.before.before.before.before.before; type_inv = record { nets = c.type_inv.nets; potentials = c.type_inv.potentials; held = c.type_inv.held; } })
+use Rattle.visit_costs.proofs.least_cost.Goals.{Start}
 
 pub lay-requires : goal.lay-requires
 lay-requires c =
@@ -44,7 +39,6 @@ abbrev able : (st : Start) {ls rs : List ℕ} {begin : State} → Laid st.args.p
 able st l h = record {
   laying = record { streams = st.args.p.streams; n = st.args.p.count; network = network_of st.args.p st.requires.0; laid = l };
   at_hint = h;
-
 }
 
 pub finish-e-requires : goal.finish-e-requires
@@ -57,37 +51,28 @@ finish-e-requires c =
 
 pub returns-then-e : goal.returns-then-e
 returns-then-e c =
-    let b = begun (goal.at.returns-then-e c).After-finish-e in
-    let f = b.before.before.before.before.before.before.before.before.before in
-    let st = f.before.before.before.before.before in
-    let p = st.args.p in
-    let h = b.start.ensures p (record { accepted = st.pre.0; laid = f.lay.ensures })
-    (b.before.before.before.before.before.before.group.ensures p (record { accepted = st.pre.0; laid = f.lay.ensures })) in
-    let got = c.finish-e.ensures (able st f.lay.ensures h) in
-    never_full p st.pre.0 _ h _ got.0 st.pre.1 c.if-e.true
+    let p = c.args.p in
+    let h = c.start.ensures p (record { accepted = c.requires.0; laid = c.lay.ensures })
+    (c.group-labels.ensures p (record { accepted = c.requires.0; laid = c.lay.ensures })) in
+    let got = c.finish-e.ensures (able (goal.at.returns-then-e c).Start c.lay.ensures h) in
+    never_full p c.requires.0 _ h _ got.0 c.requires.1 c.if-e.true
 
 pub cost_held-requires : goal.cost_held-requires
 cost_held-requires c =
-    let b = begun (goal.at.cost_held-requires c).After-finish-e in
-    let f = b.before.before.before.before.before.before.before.before.before in
-    let st = f.before.before.before.before.before in
-    let p = st.args.p in
-    let h = b.start.ensures p (record { accepted = st.pre.0; laid = f.lay.ensures })
-    (b.before.before.before.before.before.before.group.ensures p (record { accepted = st.pre.0; laid = f.lay.ensures })) in
-    let got = c.finish-e.ensures (able st f.lay.ensures h) in (
-      (p, record { accepted = st.pre.0; laid = f.lay.ensures }),
-      amounts p st.pre.0 _ h _ got.0 c.if-e.false,
-      all_held p st.pre.0 _ h _ got.0 c.if-e.false,
+    let p = c.args.p in
+    let h = c.start.ensures p (record { accepted = c.requires.0; laid = c.lay.ensures })
+    (c.group-labels.ensures p (record { accepted = c.requires.0; laid = c.lay.ensures })) in
+    let got = c.finish-e.ensures (able (goal.at.cost_held-requires c).Start c.lay.ensures h) in (
+      (p, record { accepted = c.requires.0; laid = c.lay.ensures }),
+      amounts p c.requires.0 _ h _ got.0 c.if-e.false,
+      all_held p c.requires.0 _ h _ got.0 c.if-e.false,
     )
 
 pub returns : goal.returns
 returns c =
-    let b = begun (goal.at.returns c).After-finish-e in
-    let f = b.before.before.before.before.before.before.before.before.before in
-    let st = f.before.before.before.before.before in
-    let p = st.args.p in
-    let h = b.start.ensures p (record { accepted = st.pre.0; laid = f.lay.ensures })
-    (b.before.before.before.before.before.before.group.ensures p (record { accepted = st.pre.0; laid = f.lay.ensures })) in
-    let got = c.finish-e.ensures (able st f.lay.ensures h) in
-    least_found p st.pre.0 _ h _ got.0 c.if-e.false c.cost_held.result
-    (c.cost_held.ensures p (record { accepted = st.pre.0; laid = f.lay.ensures }))
+    let p = c.args.p in
+    let h = c.start.ensures p (record { accepted = c.requires.0; laid = c.lay.ensures })
+    (c.group-labels.ensures p (record { accepted = c.requires.0; laid = c.lay.ensures })) in
+    let got = c.finish-e.ensures (able (goal.at.returns c).Start c.lay.ensures h) in
+    least_found p c.requires.0 _ h _ got.0 c.if-e.false c.cost_held.result
+    (c.cost_held.ensures p (record { accepted = c.requires.0; laid = c.lay.ensures }))
