@@ -1,5 +1,6 @@
 // A sheet drawn up elsewhere: the numbers of the places, the kinds of its records, its flows stream by stream.
 #![tactic(auto)]
+
 ghost use Rattle.std.specs.Prelude.{◌≡◌, true, ◌&&◌, pos, nat_abs, ◌≤◌, ◌<◌, eqb, leb, length, get_or};
 ghost use Rattle.num_bytes.specs.Choice.{pick};
 ghost use Rattle.plant_def.specs.Limits.{max_streams};

@@ -1,5 +1,6 @@
 // The sets of places that W streams join, by labels, and the known flows into each, less those out of it.
 #![tactic(auto)]
+
 ghost use Rattle.std.specs.Prelude.{◌≡◌, not, ◌<◌, length};
 ghost use Rattle.plant_def.specs.Limits.{places};
 ghost use Rattle.plant_def.specs.Within.{Accepted};
