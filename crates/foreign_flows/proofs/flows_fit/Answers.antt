@@ -29,7 +29,8 @@ listed c = omega arith
 
 pub difference_at-c-requires : goal.difference_at-c-requires
 difference_at-c-requires c =
-    C.ends_fit c.args.p c.requires.0 c.args.flows c.args.numbers.now c.requires.2 c.loop-i.i (listed (goal.at.difference_at-c-requires c).In-loop-i)
+    let e = C.ends_fit c.args.p c.requires.0 c.args.flows c.args.numbers.now c.requires.2 c.loop-i.i (listed (goal.at.difference_at-c-requires c).In-loop-i) in
+    record { from_in_bounds = e.0; from_bound = e.1 }
 
 pub flow_fits-requires : goal.flow_fits-requires
 flow_fits-requires c =
