@@ -1,5 +1,6 @@
 // One stream of wide numbers: its fault, its flow in range and the numbers at its ends within its bounds, what it brings to a place.
 #![tactic(auto)]
+
 ghost use Rattle.std.specs.Prelude.{◌≡◌, true, not, ◌&&◌, ◌||◌, pos, nat_abs, ◌-ℤ◌, ◌*ℤ◌, ◌≤◌, ◌^◌, ◌*◌, eqb, ltb, leb};
 ghost use Rattle.std.specs.Int.Signed.{lt_z, le_z};
 ghost use Rattle.num_bytes.specs.Choice.{pick, refuse_if};

@@ -1,5 +1,6 @@
 // The listing of a plant file, as text.
 #![tactic(auto)]
+
 ghost use Rattle.listing_lines.specs.Room.{Counts};
 ghost use Rattle.listing_call.specs.Says.{ListSays};
 

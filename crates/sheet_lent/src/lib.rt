@@ -1,5 +1,6 @@
 // The sheet call for callers who lend the offices' last sheet numbers in a slice; its marked places as the bits of a number.
 #![tactic(auto)]
+
 ghost use Rattle.std.specs.Prelude.{◌≡◌, ◌≤◌, ◌<◌, ◌^◌, length, take};
 ghost use Rattle.num_bytes.specs.Bytes.{over};
 ghost use Rattle.plant_def.specs.Limits.{places};

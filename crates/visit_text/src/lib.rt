@@ -1,5 +1,6 @@
 // Meters worth a visit, as text.
 #![tactic(auto)]
+
 ghost use Rattle.std.specs.Prelude.{◌+◌, ◌≤◌, length, take};
 ghost use Rattle.num_bytes.specs.Inner.{Put};
 ghost use Rattle.num_text.specs.Adding.{Added};
