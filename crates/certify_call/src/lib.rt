@@ -1,5 +1,6 @@
 // The check of a flow found elsewhere by its parts: faults of the call, streams gathered from slices, the faults and rules of the streams.
 #![tactic(auto)]
+
 ghost use Rattle.std.specs.Prelude.{◌≡◌, not, ◌≤◌, ◌<◌, length};
 ghost use Rattle.num_bytes.specs.Choice.{refuse_if, first_of};
 ghost use Rattle.plant_def.specs.Limits.{max_units, max_streams};

@@ -1,5 +1,6 @@
 // All streams of a plant of wide numbers: their first fault, their flows and bounds, the net of each unit.
 #![tactic(auto)]
+
 ghost use Rattle.std.specs.Prelude.{◌≡◌, true, nat_abs, ℕ, ◌≤◌, ◌<◌, ◌^◌, length};
 ghost use Rattle.plant_def.specs.Limits.{max_streams};
 ghost use Rattle.flow_def.specs.Flows.{amount_at};

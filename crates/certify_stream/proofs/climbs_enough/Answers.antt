@@ -18,12 +18,11 @@ correction-d-requires c =
     (rw (to_z-of_z w64 c.args.x c.ranges.x) c.requires.1, rw (to_z-of_z w64 c.args.s.reading fr) (c.requires.0.within_range c.if-s.true))
 
 pub above_lower-requires : goal.above_lower-requires
-above_lower-requires c =
-    (
-      c.requires.0.weighty c.if-s.true,
-      c.requires.0.light c.if-s.true,
-      rw (to_z-of_z w64 c.args.difference c.ranges.difference) c.requires.2,
-    )
+above_lower-requires c = (
+  c.requires.0.weighty c.if-s.true,
+  c.requires.0.light c.if-s.true,
+  rw (to_z-of_z w64 c.args.difference c.ranges.difference) c.requires.2,
+)
 
 pub returns-then-s : goal.returns-then-s
 returns-then-s c =

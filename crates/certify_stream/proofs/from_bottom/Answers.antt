@@ -15,12 +15,11 @@ told : (c : After-may_fall) → c.may_fall.result ≡ falls (plainly c.args.s) c
 told c = c.may_fall.ensures ∙ ap (falls (plainly c.args.s)) (to_z-of_z w64 c.args.x c.ranges.x)
 
 pub climbs_enough-requires : goal.climbs_enough-requires
-climbs_enough-requires c =
-    (
-      c.requires.0,
-      rw (to_z-of_z w64 c.args.x c.ranges.x) c.requires.1,
-      rw (to_z-of_z w64 c.args.difference c.ranges.difference) c.requires.2,
-    )
+climbs_enough-requires c = (
+  c.requires.0,
+  rw (to_z-of_z w64 c.args.x c.ranges.x) c.requires.1,
+  rw (to_z-of_z w64 c.args.difference c.ranges.difference) c.requires.2,
+)
 
 pub returns : goal.returns
 returns c =

@@ -15,12 +15,11 @@ told : (c : After-may_rise) → c.may_rise.result ≡ rises (plainly c.args.s) c
 told c = c.may_rise.ensures ∙ ap (rises (plainly c.args.s)) (to_z-of_z w64 c.args.x c.ranges.x)
 
 pub climbs_little-requires : goal.climbs_little-requires
-climbs_little-requires c =
-    (
-      c.requires.0,
-      rw (to_z-of_z w64 c.args.x c.ranges.x) c.requires.1,
-      rw (to_z-of_z w64 c.args.difference c.ranges.difference) c.requires.2,
-    )
+climbs_little-requires c = (
+  c.requires.0,
+  rw (to_z-of_z w64 c.args.x c.ranges.x) c.requires.1,
+  rw (to_z-of_z w64 c.args.difference c.ranges.difference) c.requires.2,
+)
 
 pub returns : goal.returns
 returns c =
