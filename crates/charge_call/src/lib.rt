@@ -1,5 +1,6 @@
 // Steam charges: the call, and the same in two lent slices.
 #![tactic(auto)]
+
 ghost use Rattle.std.specs.Prelude.{◌≤◌};
 ghost use Rattle.plant_def.specs.Limits.{max_streams};
 ghost use Rattle.num_lent.specs.Made.{Made};

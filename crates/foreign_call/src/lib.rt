@@ -1,5 +1,6 @@
 // The check of a plant, a sheet drawn up elsewhere and one number for each place.
 #![tactic(auto)]
+
 ghost use Rattle.std.specs.Prelude.{◌≡◌, ◌≤◌, length, take};
 ghost use Rattle.plant_def.specs.Limits.{max_streams};
 ghost use Rattle.plant_def.specs.Within.{Accepted};

@@ -1,5 +1,6 @@
 // Numbers of the places of a plant file, with which its sheets pass the check: the call.
 #![tactic(auto)]
+
 ghost use Rattle.std.specs.Prelude.{◌≡◌, pos, ◌-ℤ◌, ◌≤◌, length, take};
 ghost use Rattle.plant_def.specs.Limits.{max_units, places};
 ghost use Rattle.plant_def.specs.Within.{Accepted};
