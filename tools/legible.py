@@ -5,7 +5,7 @@
     ./dev texts legible    status 1 where a rule is broken, with each place
 
 - A line of code has at most 160 characters, one of definitions 190, one of a proof 220, one that answers goals 400 (today's spelling of
-  names is longer, and code stays as it was broken before); a chain has at most six `.before`.
+  names is longer, and code stays as it was broken before); a chain has at most six `.before`, but in answers.
 - A function's body is under 40 lines, with one loop at most; it has at most 7 parameters, an exported call as many as C wants.
 - What a contract says in one clause has at most 200 characters: more than that goes through a definition.
 - A file imports no name that it does not use.
@@ -35,7 +35,7 @@ def lines(path, text):
     for number, line in enumerate(text.split('\n'), 1):
         if len(line) > most:
             yield f'{path}:{number}: {len(line)} characters'
-        if re.search(r'(?:\.before ?){%d}' % (CHAIN + 1), line):
+        if not path.endswith(GOALS) and re.search(r'(?:\.before ?){%d}' % (CHAIN + 1), line):
             yield f'{path}:{number}: a chain of more than {CHAIN} .before'
 
 
