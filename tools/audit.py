@@ -30,7 +30,7 @@ class Note(NamedTuple):
 def promised():
     """The crates that `promises` leads to: what is linked, and the calls that the programs print by."""
     below = {name: names for _, crates in crate_list.subjects() for name, names in crates.items()}
-    found, left = set(), ['promises']
+    found, left = set(), ['promises', 'wengeludo_c']
     while left:
         name = left.pop()
         if name not in found:
@@ -69,7 +69,7 @@ def look(crate, bound):
     """The notes of a crate, and its lines by part. `bound`: its public functions must promise something."""
     base, counts, notes = f'crates/{crate}', dict.fromkeys(PARTS, 0), []
     library = os.path.exists(f'{base}/src/lib.rt')
-    for folder, _, names in sorted(os.walk(base)):
+    for folder, names in sorted((folder, names) for part in PARTS for folder, _, names in os.walk(f'{base}/{part}')):
         for name in sorted(name for name in names if name.endswith(('.rt', '.antt'))):
             path = f'{folder}/{name}'
             with open(path, encoding='utf-8') as file:

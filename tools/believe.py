@@ -2,7 +2,8 @@
 """What a reader of the promises must believe: files of definitions, and the one document that they make.
 
     ./dev believe            fails where the list of files is not closed, where a file has a definition that no promise cites (but for MIXED),
-                             where a name has two meanings (but for TWICE), or where docs/BELIEVE.md is not what is made of the files
+                             where a name has two meanings (but for TWICE), where the archive's exports do not have the very words of the
+                             calls, or where docs/BELIEVE.md is not what is made of the files
     ./dev believe --write    makes docs/BELIEVE.md anew
     ./dev believe --text     prints it
     ./dev believe --names    each list's files, with their lines and their names
@@ -20,45 +21,46 @@ from pathlib import Path
 ROOT = Path(__file__).resolve().parent.parent
 CRATES = ROOT / "crates"
 TEXT = ROOT / "docs" / "BELIEVE.md"
-OUTER = "wengeludo"
+OUTER = "wengeludo"  # the calls
+ARCHIVE = "wengeludo_c"  # exports them, by the same names and clauses
 
 # What a call ensures, and how files and sheets are read -> the theorem that says what follows, all of it.
 LED_ON = {
     ("sheet_def", "Says", "SheetSays"): "what the sheet call ensures: `Demands.some` (every call has an answer), `Demands.sentences`",
-    (OUTER, "Calls", "SheetLent"): "what the exported sheet call ensures: `Sheet-calls`",
+    (OUTER, "Calls", "SheetLent"): "what the exported sheet call ensures: `SheetCalls`",
     ("listing_call", "Says", "ListSays"): "what the call that lists a plant ensures: `Printed`",
-    ("sheet_history", "Before", "PlainSays"): "what the sheet call promised before there were offices: `History.before`, `as-today`, `plain`",
-    ("visit_def", "Visits", "isListed"): "which streams a list of visits has: `Meters-worth-a-visit.which`",
-    ("plant_def", "Files", "readPlant"): "how a plant file is read: `Demands.round` (which files, and as what), `Refused-files` (the others)",
-    ("sheet_def", "Kept", "readSheet"): "how a sheet is read: `Demands.reopening`",
-    ("transmitter_def", "Says", "readTransmitter"): "how a transmitter file is read: `Sent-files`",
-    ("sheet_history", "Before", "readBefore"): "which sheets were read before there were offices: `History.read-before`",
+    ("sheet_history", "Before", "PlainSays"): "what the sheet call promised before there were offices: `History.before`, `as_today`, `plain`",
+    ("visit_def", "Visits", "is_listed"): "which streams a list of visits has: `MetersWorthAVisit.which`",
+    ("plant_def", "Files", "read_plant"): "how a plant file is read: `Demands.round` (which files, and as what), `RefusedFiles` (the others)",
+    ("sheet_def", "Kept", "read_sheet"): "how a sheet is read: `Demands.reopening`",
+    ("transmitter_def", "Says", "read_transmitter"): "how a transmitter file is read: `SentFiles`",
+    ("sheet_history", "Before", "read_before"): "which sheets were read before there were offices: `History.read_before_lem`",
 }
 
 # What is read for what, each list going on from those above it: its title, the functions whose contracts it begins at, and the theorems.
 # A theorem that begins a list of its own is left to that list, though a record names it before.
 SUBJECTS = (
-    ("sheets", {OUTER: {"wengeludo_balance_plant"}}, ("sheet_def/Demands/Demands", "promises/SheetCalls/Sheet-calls")),
-    ("groups in one pass", {}, ("flow_def/Groups/One-pass",)),
-    ("a sheet beside a solver in real numbers", {}, ("sheet_def/DeskTool/Desk-tool",)),
+    ("sheets", {OUTER: {"wengeludo_balance_plant"}}, ("sheet_def/Demands/Demands", "promises/SheetCalls/SheetCalls")),
+    ("groups in one pass", {}, ("flow_def/Groups/OnePass",)),
+    ("a sheet beside a solver in real numbers", {}, ("sheet_def/DeskTool/DeskTool",)),
     ("plant files and kept sheets, read and written",
      {OUTER: {"wengeludo_write_plant", "wengeludo_read_sheet", "wengeludo_read_plant"}, "plant_read": {"read_plant"},
       "plant_write": {"write_plant"}, "sheet_read": {"read_sheet"}},
-     ("plant_def/Says/Longest-file", "plant_def/Says/File-refusals", "plant_def/Refusals/Refused-files", "plant_lent/Trip/Parts-trip")),
+     ("plant_def/Says/LongestFile", "plant_def/Says/FileRefusals", "plant_def/Refusals/RefusedFiles", "plant_lent/Trip/PartsTrip")),
     ("the offices' sheet numbers", {}, ("sheet_history/History/History",)),
     ("the listing and the programs", {"listing_call": {"list_plant"}, "programs": {"plant_file"}},
      ("listing_lines/Room/OneText", "listing_call/Printed/Printed")),
     ("the translator", {OUTER: {"wengeludo_plant_from_transmitter"}},
-     ("transmitter_def/Says/Translated", "transmitter_def/Sendings/Sent-files", "transmitter_def/Answers/Numbered",
+     ("transmitter_def/Says/Translated", "transmitter_def/Sendings/SentFiles", "transmitter_def/Answers/Numbered",
       "transmitter_def/Rounding/Rounding")),
-    ("the two moves", {OUTER: {"wengeludo_to_ranged", "wengeludo_from_ranged"}}, ("ranged_def/Trip/Moving", "ranged_same_sheet/Same/Moved-sheets")),
-    ("meters to buy", {OUTER: {"wengeludo_meters_to_buy"}}, ("purchase_def/Says/Meters-to-buy",)),
-    ("layouts of meters", {OUTER: {"wengeludo_layouts_of"}, "survey_answers": {"list_layouts"}}, ("survey_def/Says/One-survey",)),
-    ("meters worth a visit", {OUTER: {"wengeludo_visits"}, "visit_text": {"list_visits"}}, ("visit_def/Says/Meters-worth-a-visit",)),
-    ("steam charges", {OUTER: {"wengeludo_charges"}}, ("charge_def/Says/Steam-charges",)),
+    ("the two moves", {OUTER: {"wengeludo_to_ranged", "wengeludo_from_ranged"}}, ("ranged_def/Trip/Moving", "ranged_same_sheet/Same/MovedSheets")),
+    ("meters to buy", {OUTER: {"wengeludo_meters_to_buy"}}, ("purchase_def/Says/MetersToBuy",)),
+    ("layouts of meters", {OUTER: {"wengeludo_layouts_of"}, "survey_answers": {"list_layouts"}}, ("survey_def/Says/OneSurvey",)),
+    ("meters worth a visit", {OUTER: {"wengeludo_visits"}, "visit_text": {"list_visits"}}, ("visit_def/Says/MetersWorthAVisit",)),
+    ("steam charges", {OUTER: {"wengeludo_charges"}}, ("charge_def/Says/SteamCharges",)),
     ("sheets drawn up elsewhere", {OUTER: {"wengeludo_check_sheet", "wengeludo_place_numbers"}},
-     ("foreign_def/Says/Foreign-sheets", "foreign_def/Numbers/Own-numbers")),
-    ("flows found elsewhere", {OUTER: {"wengeludo_check_flow"}}, ("certify_sheets/Promise/Flows-found-elsewhere",)),
+     ("foreign_def/Says/ForeignSheets", "foreign_def/Numbers/OwnNumbers")),
+    ("flows found elsewhere", {OUTER: {"wengeludo_check_flow"}}, ("certify_sheets/Promise/FlowsFoundElsewhere",)),
     ("bounds, and the record of all promises", {OUTER: None}, ("promises/Engine/Engine",)),
 )
 
@@ -113,10 +115,12 @@ MIXED = {
 
 # Names with two meanings: a struct of the code and the definition of what it holds; then those that are left.
 TWICE = {
-    "Plant", "Amiss", "HandsOver", "Numbered", "ReadSays", "Refusal", "TextSays", "Vouched", "bare", "comesFirst", "leastText", "linesFrom",
-    "numbersOf", "readOf", "recorded", "weightsTo",
+    "Plant", "Amiss", "HandsOver", "Numbered", "ReadSays", "Refusal", "TextSays", "Vouched", "bare", "comes_first", "least_text", "lines_from",
+    "numbers_of", "read_of", "recorded", "weights_to",
 }
 
+FUNCTION = re.compile(r"^pub (?:extern \"C\" )?fn (\w+)(.*?)(?:^\{| \{$)", re.M | re.S)
+CLAUSE = re.compile(r"^    (?:ensures|requires)(?: \w+)? \{(.*?)\}$", re.M | re.S)
 NAME = re.compile(r"[^\s(){}\[\],;\"]+")
 KEYWORDS = {"abbrev", "pub", "unfoldable", "record", "data", "where", "let", "in", "elim", "use", "module", "Type", "λ", "→", "×", "=", ":", "|", "↦"}
 HEAD = ("abbrev", "pub", "unfoldable", "record", "data")
@@ -188,7 +192,7 @@ class House:
         for path in CRATES.glob("*/src/**/*.rt"):
             text = path.read_text()
             crate = path.relative_to(CRATES).parts[0]
-            for found in re.finditer(r"((?://[^\n]*\n)*)^(pub (struct|enum) (\w+)(.*?)^}|pub struct (\w+)\([^)]*\);)", text, flags=re.M | re.S):
+            for found in re.finditer(r"((?://[^\n]*\n)*)(?:#\[[^\n]*\n)*^(pub (struct|enum) (\w+)(.*?)^}|pub struct (\w+)\([^)]*\);)", text, flags=re.M | re.S):
                 name = found.group(4) or found.group(6)
                 definition = Definition(crate, "src", name)
                 definition.shown = found.group(2).split("\n")
@@ -203,11 +207,11 @@ class House:
 
     def at(self, module, name):
         """The definition of a name of a module of this repository; None for the kit's."""
-        if re.match(rf"Rattle·{OUTER}\.proofs\.\w+\.Statement$", module):  # made by the compiler from a contract, at which the walk begins
+        if re.match(rf"Rattle\.{OUTER}\.proofs\.\w+\.Statement$", module):  # made by the compiler from a contract, at which the walk begins
             return None
-        found = re.match(r"Rattle·(\w+?)(?:·specs\.specs|\.specs)\.(.+)$", module)
+        found = re.match(r"Rattle\.(\w+)\.specs\.(.+)$", module)
         if not found:
-            if module.startswith("Rattle·") and not re.match(r"Rattle·(io|os|libc|bytes|check)\b", module):
+            if (crate := re.match(r"Rattle\.(\w+)", module)) and (CRATES / crate[1]).exists():
                 raise ValueError(f"{module}.{name}: not of specs/")
             return None
         crate, rest = found.groups()
@@ -248,16 +252,16 @@ class House:
 
     def contracts(self, crate, only=None):
         """The definitions that the contracts of a crate's functions name: of all that are exported, or of those named."""
-        for path in (CRATES / crate / "src").glob("**/*.rt"):
+        for path in sorted((CRATES / crate / "src").glob("**/*.rt")):
             text = path.read_text()
             brought = {}
             for found in re.finditer(r"^ghost use (\S+?)\.\{(.*?)\};$", text, flags=re.M):
                 for name in found.group(2).split(","):
                     brought[name.strip()] = found.group(1)
-            for found in re.finditer(r"^pub (extern \"C\" )?fn (\w+)(.*?)(?:^\{| \{$)", text, flags=re.M | re.S):
-                if (only is None and not found.group(1)) or (only is not None and found.group(2) not in only):
+            for found in FUNCTION.finditer(text):
+                if only is not None and found.group(1) not in only:
                     continue
-                for clause in re.findall(r"^    (?:ensures|requires) \{(.*?)\}$", found.group(3), flags=re.M | re.S):
+                for clause in CLAUSE.findall(found.group(2)):
                     for word in NAME.findall(clause):
                         if word in brought:
                             yield self.at(brought[word], word)
@@ -283,12 +287,40 @@ def lines_of(definitions):
 
 def unnamed():
     """The exported functions that the last record does not name, and the names in it that are none."""
-    exported = set(re.findall(r'^pub extern "C" fn (\w+)', (CRATES / OUTER / "src" / "lib.rt").read_text(), flags=re.M))
+    exported = set(re.findall(r"^pub fn (\w+)", (CRATES / OUTER / "src" / "lib.rt").read_text(), flags=re.M))
     engine = (CRATES / "promises" / "specs" / "Engine.antt").read_text()
-    named = {alias: name for name, alias in re.findall(rf"^use Rattle·{OUTER}\.proofs\.(\w+)\.Statement as (\S+)$", engine, flags=re.M)}
+    named = {alias: name for name, alias in re.findall(rf"^use Rattle\.{OUTER}\.proofs\.(\w+)\.Statement as (\S+)$", engine, flags=re.M)}
     fields = set(re.findall(r"^  pub \S+ : \(M : Type 1\) → (\S+)\.statement M$", engine, flags=re.M))
     kept = {named[alias] for alias in fields if alias in named}
     return [f"the record Engine does not name {name}, or names no function by it" for name in sorted(exported ^ kept)]
+
+
+def plain(text):
+    """A text on one line, however its parameters are laid out."""
+    return re.sub(r",? ?\)", ")", re.sub(r"\( ", "(", " ".join(text.split())))
+
+
+def calls(crate):
+    """Each public function of a crate with its parameters, its result and its clauses, and what its body says."""
+    text = (CRATES / crate / "src" / "lib.rt").read_text()
+    return {found[1]: (plain(found[2]), plain(text[found.end():].split("\n}\n")[0])) for found in FUNCTION.finditer(text)}
+
+
+def exports():
+    """What of the archive's exports is not the library's call of that name, with its very words."""
+    if not (CRATES / ARCHIVE).exists():
+        return
+    ours, exported = calls(OUTER), calls(ARCHIVE)
+    for name in sorted(ours.keys() | exported.keys()):
+        if name not in ours or name not in exported:
+            yield f"{name} is not in both {OUTER} and {ARCHIVE}"
+        elif ours[name][0] != exported[name][0]:
+            yield f"{ARCHIVE}: {name} has other words than in {OUTER}"
+        elif not re.fullmatch(rf"{{? ?{OUTER}::{name}\([\w, ]*\)", exported[name][1]):
+            yield f"{ARCHIVE}: {name} does not only call {OUTER}::{name}"
+    text = (CRATES / ARCHIVE / "src" / "lib.rt").read_text()
+    if len(re.findall(r'^#\[unsafe\(no_mangle\)\]\npub extern "C" fn ', text, flags=re.M)) != len(exported):
+        yield f"{ARCHIVE} has a public function that it does not export"
 
 
 def amiss(house, believed):
@@ -364,7 +396,7 @@ def main(arguments):
                 files.setdefault(f"{definition.crate}/{definition.file}", []).append(definition)
             for file, there in files.items():
                 print(f"  {file} {lines_of(there)}: {', '.join(sorted(definition.name for definition in there))}")
-    wrong = list(amiss(house, believed)) + unnamed()
+    wrong = list(amiss(house, believed)) + unnamed() + list(exports())
     text = document(house, found) if not wrong else ""
     if "--text" in arguments:
         print(text, end="")

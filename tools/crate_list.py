@@ -33,9 +33,10 @@ def subjects():
             if line.startswith('# ') and ':' not in line:
                 found.append((line[2:].strip(), {}))
             elif colon:
+                name = name.split()[0]  # without `staticlib`
                 if not found:
-                    fail(f'crates.txt: {name.strip()} stands under no subject')
-                found[-1][1][name.strip()] = below.split()
+                    fail(f'crates.txt: {name} stands under no subject')
+                found[-1][1][name] = below.split()
     return [(subject, crates) for subject, crates in found if crates]
 
 

@@ -21,7 +21,8 @@ TWICE = 'Words that the code uses for more than one thing'
 def names_in_code():
     """All names outside comments, crates' own among them."""
     found = set(os.listdir(os.path.join(ROOT, 'crates')))
-    for folder, _, files in os.walk(os.path.join(ROOT, 'crates')):
+    for folder, below, files in os.walk(os.path.join(ROOT, 'crates')):
+        below[:] = [name for name in below if name != 'out']
         if '/src' not in folder and '/specs' not in folder:
             continue
         for file in files:

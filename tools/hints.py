@@ -23,8 +23,7 @@ ROOT = Path(__file__).resolve().parents[1]
 COUNTS = ROOT / 'tools' / 'improvements.tsv'
 PLANTS = 50
 CALL = """
-#[no_mangle]
-pub extern "C" fn wengeludo_improvements(file: &[u8]) -> u64 {
+pub fn wengeludo_improvements(file: &[u8]) -> u64 {
     let read = plant_read::read_plant(file);
     let plant = read.plant;
     let streams = plant.streams;
@@ -90,8 +89,8 @@ def stream(draw, k, units, ranged):
 def spoilt(tree, edit):
     """The crates' sources below a folder, with the call that counts and one edit."""
     shutil.copy(ROOT / 'crates.txt', tree / 'crates.txt')
-    for source in (ROOT / 'crates').glob('*/src'):
-        shutil.copytree(source, tree / 'crates' / source.parent.name / 'src')
+    for source in (*(ROOT / 'crates').glob('*/src'), *(ROOT / 'crates').glob('*/specs')):
+        shutil.copytree(source, tree / 'crates' / source.parent.name / source.name)
     root = tree / 'crates' / 'wengeludo' / 'src' / 'lib.rt'
     root.write_text(root.read_text(encoding='utf-8') + CALL, encoding='utf-8')
     if edit:

@@ -79,7 +79,7 @@ def written():
     """Every word of the code, its files and folders."""
     words = set()
     for folder, below, files in os.walk(ROOT):
-        below[:] = [name for name in below if name not in ('target', 'docs', 'data', '.git', 'corpus')]
+        below[:] = [name for name in below if name not in ('target', 'out', 'docs', 'data', '.git', 'corpus')]
         words.update(os.path.relpath(folder, ROOT).split(os.sep))
         for name in files:
             words.update(re.split(r'[.]', name))
@@ -101,7 +101,7 @@ def unwritten(path, words):
 
 def unnamed(crates):
     """Crates and edits that the texts leave out."""
-    listed = set(re.findall(r'^(\w+):', read('crates.txt'), re.M))
+    listed = set(re.findall(r'^(\w+)[^:\n]*:', read('crates.txt'), re.M))
     drawn = set(re.findall(r'\w+', read('docs/CRATES.md')))
     edits = {each for code in CODE.findall(read('docs/EDITS.md')) for each in opened(code)}
     for crate in sorted(crates):

@@ -1,4 +1,5 @@
 #!/usr/bin/env python3
+# SPDX-License-Identifier: LicenseRef-Wengeludo
 """Brings the repository's own definitions and lemmas to the kit's spelling: types in upper camel case, all else in snake case.
 
     python3 tools/port_names.py [--list]     at the top of the repository, once, after the kit's own port.py

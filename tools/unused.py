@@ -6,7 +6,7 @@
     ./dev unused --leans    for each crate the files that it uses of other crates; specs that cite proofs are marked
 
 A place to look, not a verdict: a theorem that is the end of the reading is cited by nothing. What the prover itself looks for in a
-function's Proof.antt is left out.
+function's Invariants.antt and Answers.antt (or Proof.antt) is left out.
 """
 import os
 import re
@@ -15,7 +15,7 @@ from collections import Counter
 
 from made import ROOT
 
-USED = re.compile(r'Rattle·(\w+)(?:·\w+)?\.(specs|proofs)\.([\w.]+?)(?:\.\{|\s|$|;)')
+USED = re.compile(r'Rattle\.(\w+)\.(specs|proofs)\.([\w.]+?)(?:\.\{|\s|$|;)')
 WORD = re.compile(r'[^\s(){};,.\[\]⌜⌝`"]+')
 DEFINED = re.compile(r'^(?:(?:abbrev|unfoldable) )?(?:pub )?(?:abbrev |unfoldable )?([^\s:(){}]+) :', re.M)
 
@@ -23,7 +23,7 @@ DEFINED = re.compile(r'^(?:(?:abbrev|unfoldable) )?(?:pub )?(?:abbrev |unfoldabl
 def read_all():
     found = {}
     for folder, _, names in sorted(os.walk('crates')):
-        for name in sorted(names):
+        for name in sorted(names) if '/out' not in folder else ():
             if name.endswith(('.antt', '.rt')):
                 with open(f'{folder}/{name}', encoding='utf-8') as file:
                     found[f'{folder}/{name}'] = file.read()
@@ -70,7 +70,7 @@ def unused(files):
     for path, text in files.items():
         if path.endswith('.rt'):
             unused_functions(path, text, said)
-        elif not path.endswith('Proof.antt'):
+        elif not path.endswith(('/Proof.antt', '/Invariants.antt', '/Answers.antt')):
             unused_laws(path, text, count)
 
 
