@@ -1,5 +1,6 @@
 // The compression and the calls about meters, as cases try them; and what the calls of the solver are handed and tested by.
 #![tactic(auto)]
+
 mod compressed;
 pub mod marking;
 mod meters;
