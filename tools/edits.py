@@ -12,7 +12,8 @@ An edit (crates/NAME/must-fail/EDIT.edit) starts with three lines, which rt pass
     refused at: WORDS     the function, or `laws` and the file of laws, and the fact at which the prover refuses it
 
 A table stands between two marks below its heading, in the order of crates.txt, then of the edits' names. That an edit changes a
-definition is seen from the files that it names. The function, or the file of laws, must be there.
+definition is seen from the files that it names. The function, or the file of laws, must be there. A name of the code that the line has in
+the spelling before today's kit is shown in today's; a goal (`returns-2`) has no name of today's, and ./dev refused prints what it is now.
 """
 import os
 import re
@@ -21,6 +22,7 @@ from typing import NamedTuple
 
 import crate_list
 import made
+import names
 from made import ROOT
 
 TEXT = 'docs/EDITS.md'
@@ -47,6 +49,16 @@ class Edit(NamedTuple):
 
 def fail(text):
     sys.exit(f'edits: {text}')
+
+
+def respelt(text, words):
+    """A text with its names of code in today's spelling."""
+    def today(found):
+        name = found[0]
+        snake = re.sub('[A-Z]', lambda letter: '_' + letter[0].lower(), name).replace('-', '_') if name[0].islower() else name.replace('-', '')
+        camel = re.sub('-([a-z0-9])', lambda letter: letter[1].upper(), name)
+        return name if name in words else next((other for other in (snake, camel) if other in words and not re.match(r'(returns|loop)\b', name)), name)
+    return re.sub(r'`[^`]*`', lambda piece: re.sub(r"[A-Za-z][\w'-]*", today, piece[0]), text)
 
 
 def read(crate, name):
@@ -118,7 +130,8 @@ def tables(text, found):
     for edit in found:
         if edit.under not in told:
             fail(f'{TEXT} has no heading "{edit.under}" with a table below it, for {edit.crate}/{edit.name}')
-    return '\n'.join(out)
+    words = names.written()
+    return '\n'.join(respelt(line, words) if line.startswith('| `') else line for line in out)
 
 
 def main(words):

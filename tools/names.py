@@ -95,7 +95,7 @@ def unwritten(path, words):
         if FORM.search(code):
             continue
         if re.fullmatch(r'[A-Za-z][\w-]*(?:(?:\.|::)[\w-]+)?', code) and not KIT.match(code) and not SUM.fullmatch(code):
-            if not set(re.split(r'\.|::', code)) <= words:
+            if not set(re.split(r'\.|::', code)) <= words and not (path == 'docs/EDITS.md' and '-' in code):  # a goal of the older kit
                 yield f'{path} names {code}, which stands nowhere in the code'
 
 
