@@ -17,13 +17,12 @@ pub balance_of-outcome-requires : goal.balance_of-outcome-requires
 balance_of-outcome-requires c = taken (c)
 
 pub bill_outcome-requires : goal.bill_outcome-requires
-bill_outcome-requires c =
-    (
-      taken (goal.at.bill_outcome-requires c).After-plant-1,
-      c.balance_of-outcome.ensures,
-      small_read c.args.file.now c.read_plant-read.result
-          c.read_plant-read.ensures c.if-number-ne0.false c.balance_of-outcome.result c.balance_of-outcome.ensures,
-    )
+bill_outcome-requires c = (
+  taken (goal.at.bill_outcome-requires c).After-plant-1,
+  c.balance_of-outcome.ensures,
+  small_read c.args.file.now c.read_plant-read.result
+      c.read_plant-read.ensures c.if-number-ne0.false c.balance_of-outcome.result c.balance_of-outcome.ensures,
+)
 
 pub returns : goal.returns
 returns c =

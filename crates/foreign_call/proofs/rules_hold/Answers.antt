@@ -16,7 +16,6 @@ shown c = record {
   same = c.if-kept-p.false;
   ours = c.classes_of-classes.ensures;
   are = c.shown_flows-flows.ensures;
-
 }
 
 numbered : (c : Else-not-numbers_fit) → numbers_fit c.args.p.units c.args.numbers.now ≡ true

@@ -15,7 +15,7 @@ read_in : (c : After-read_plant-read) → c.read_plant-read.result ≡ read_of (
 read_in c = c.read_plant-read.ensures
 
 able : (c : Else-number-ne0) → Accepted c.read_plant-read.result.plant
-able c = plant_accepted c.args.file.now c.read_plant-read.result (read_in (record { before = c.before.before; type_inv = record { file = c.type_inv.file; } })) c.if-number-ne0.false
+able c = plant_accepted c.args.file.now c.read_plant-read.result (read_in (record { before = c.before.before; type_inv = record { file = c.type_inv.file } })) c.if-number-ne0.false
 
 pub returns-then-number-ne0 : goal.returns-then-number-ne0
 returns-then-number-ne0 c =

@@ -8,7 +8,7 @@ use Rattle.plant_parts.specs.Inner.{meter_at}
 use Rattle.plant_parts.proofs.meters_gathered.Given as goal
 
 abbrev pub invariant-loop-k : goal.invariant-loop-k
-invariant-loop-k l = 
+invariant-loop-k l =
     (l.k ≤ l.n) × (l.streams ≡ padded max_streams (listed_to (meter_at l.from l.to l.metered l.weight l.reading) l.k))
 
 abbrev pub decreases-loop-k : goal.decreases-loop-k

@@ -9,7 +9,7 @@ use Rattle.purchase_def.specs.Purchases.{unmetered_to, price_in}
 use Rattle.purchase_call.proofs.by_stream.Given as goal
 
 abbrev pub invariant-loop-i : goal.invariant-loop-i
-invariant-loop-i l = let k = l.k in 
+invariant-loop-i l = let k = l.k in
     (l.i ≤ l.p.count) × (k ≡ unmetered_to (plant_of l.p).streams l.i)
     × Written 0 max_streams (λ k x. price_in (plant_of l.p).streams l.prices k) (replicate max_streams 0) l.each l.i
 

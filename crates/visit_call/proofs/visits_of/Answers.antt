@@ -24,13 +24,13 @@ taken c =
 right : (c : After-solve-solved) → Right c.read_plant-read.result.plant c.solve-solved.result
 right c =
     let p = c.read_plant-read.result.plant in
-    c.solve-solved.ensures.0 p (record { accepted = taken (record { before = c.before.before.before.before.before.before.before.before.before.before.before.before.before; type_inv = record { file = c.type_inv.file; } }); laid = c.lay.ensures }) refl
-    (c.bridges_of-bridges.ensures p (record { accepted = taken (record { before = c.before.before.before.before.before.before.before.before.before.before.before.before.before; type_inv = record { file = c.type_inv.file; } }); laid = c.lay.ensures })).grouped
+    c.solve-solved.ensures.0 p (record { accepted = taken (record { before = c.before.before.before.before.before.before.before.before.before.before.before.before.before; type_inv = record { file = c.type_inv.file } }); laid = c.lay.ensures }) refl
+    (c.bridges_of-bridges.ensures p (record { accepted = taken (record { before = c.before.before.before.before.before.before.before.before.before.before.before.before.before; type_inv = record { file = c.type_inv.file } }); laid = c.lay.ensures })).grouped
 
 -- It has a flow in range.
 solved : (c : Else-not-solved) → Feasible (plant_of c.read_plant-read.result.plant)
 solved c =
-    solved_feasible _ c.solve-solved.result (right_found _ c.solve-solved.result (right (record { before = c.before.before.before; type_inv = record { file = c.type_inv.file; } })) (not-false c.solve-solved.result.found c.if-not-solved.false))
+    solved_feasible _ c.solve-solved.result (right_found _ c.solve-solved.result (right (record { before = c.before.before.before; type_inv = record { file = c.type_inv.file } })) (not-false c.solve-solved.result.found c.if-not-solved.false))
 
 pub returns-then-number-ne0 : goal.returns-then-number-ne0
 returns-then-number-ne0 c =
