@@ -29,7 +29,7 @@ use Rattle.promises.specs.Once.{LentOnce}
 -- All that is promised.
 pub record Promises : Type 0 where
   -- The exported calls: the sheet call, by the sentences of the demands below; and those that hand an answer over in lent slices leave no
-  -- choice of what is found. (Of the numbers of places every choice serves: `own-numbers`.)
+  -- choice of what is found. (Of the numbers of places every choice serves: `own_numbers`.)
   pub sheet_calls : SheetCalls
   pub lent_once : LentOnce
   -- Plant files: how long one is at most, and with which numbers it is refused: with which at all, and with which one. (Which are read, and
