@@ -1,0 +1,2 @@
+-- What the exported functions keep.
+pub mod Exports
