@@ -21,7 +21,7 @@
 set -eu
 cd "$(dirname "$0")/.."
 python=/usr/bin/python3 # Debian's own: another python3 on the PATH sees none of Debian's packages
-home=${XDG_CACHE_HOME:-${HOME:-/tmp}/.cache}/wengeludo/desk-$(printf %s "$PWD" | cksum | cut -d ' ' -f 1)
+home=${TMPDIR:-/tmp}/wengeludo-desk-$(id -u)-$(printf %s "$PWD" | cksum | cut -d ' ' -f 1)
 if [ "${1:-}" = --home ]; then
     echo "$home"
     exit 0
@@ -46,6 +46,7 @@ fi
     echo "desk: no book on a server is tested, as there is no PostgreSQL or no psycopg2 (apt-get install postgresql python3-psycopg2)"
 "$python" -c "import distributed" 2>/dev/null ||
     echo "desk: no histories on a cluster are tested, as there is no dask.distributed (apt-get install python3-distributed)"
+[ ! -e "$home" ] || [ -O "$home" ] || { echo "desk: $home is another user's" >&2; exit 1; }
 [ -x "$home/bin/python3" ] || "$python" -m venv --system-site-packages "$home"
 export WENGELUDO_INCLUDE="${WENGELUDO_INCLUDE:-$PWD/include}" WENGELUDO_ARCHIVE="${WENGELUDO_ARCHIVE:-$PWD/target/staticlib/libwengeludo.a}"
 build=$(mktemp -d)

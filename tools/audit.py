@@ -35,7 +35,7 @@ def promised():
         name = left.pop()
         if name not in found:
             found.add(name)
-            left += below[name]
+            left += below.get(name, [])
     return found
 
 

@@ -43,10 +43,10 @@ class Rule(NamedTuple):
 RULES = [
     Rule(r'time bash \.ci/run', 'not', 'test_all.sh runs it, without a clock'),
     Rule(r'bash test_all\.sh( --after-gate)?', 'not', 'this test is a part of it'),
-    Rule(r'rt (must-fail|ci)( \[NAME\.\.\]| LOWER| CRATE| NAME)', 'run', r'rt \1 version'),
-    Rule(r'rt ci', 'not', 'the gate runs it'),
+    Rule(r'rt must-fail( \[NAME\.\.\]| CRATE)', 'run', 'rt must-fail version'),
+    Rule(r'rt ci( vectors)?', 'not', 'the gate runs it'),
     Rule(r'rt all check', 'not', 'the gate proves all'),
-    Rule(r'rt (check|lib|run|fmt|tidy|plant|test)', 'run', 'cd crates/version && rt check'),
+    Rule(r'rt (check|tidy|fmt)( --only PATH)?', 'run', 'cd crates/version && rt check'),
     Rule(r'\./dev prove CRATE', 'run', './dev prove version'),
     Rule(r'\./dev where CRATE FUNCTION', 'run', './dev where version version_number'),
     Rule(r'\./dev refused.*', 'run', 'rt must-fail version && ./dev refused version'),

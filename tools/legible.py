@@ -4,7 +4,7 @@
 
     ./dev texts legible    status 1 where a rule is broken, with each place
 
-- A line of code has at most 160 characters, one of definitions 190, one of a proof 220, one that answers goals 400 (today's spelling of
+- A line of code has at most 160 characters, one of definitions 190, one of a proof 220, one that answers goals 600 (today's spelling of
   names is longer, and code stays as it was broken before); a chain has at most six `.before`, but in answers.
 - A function's body is under 40 lines, with one loop at most; it has at most 7 parameters, an exported call as many as C wants.
 - What a contract says in one clause has at most 200 characters: more than that goes through a definition.
@@ -19,7 +19,7 @@ import sys
 
 from made import ROOT
 
-LINE, ANSWER = {'src': 160, 'specs': 190, 'proofs': 220}, 400
+LINE, ANSWER = {'src': 160, 'specs': 190, 'proofs': 220}, 600
 CHAIN, BODY, PARAMETERS, LOOPS, CONTRACT = 6, 40, 7, 1, 200
 FUNCTION = re.compile(r'^( *)(?:pub )?(extern "C" )?fn (\w+)\(', re.M)
 CLAUSE = re.compile(r'^ *(?:requires|ensures)[^{\n]*\{(.*?)\}$', re.M | re.S)
@@ -27,6 +27,32 @@ GOALS = ('/Invariants.antt', '/Answers.antt')  # what stands there has the names
 IMPORT = re.compile(r'^(?:ghost )?use \S+?\.\{([^}]*)\};?$', re.M)
 USE = re.compile(r'^use (?:\w+::)*(\w+);$', re.M)
 LAW = re.compile(r'( *)(?:(?:abbrev|unfoldable) )*pub (?!mod |use )(?:(?:record|data) )?(\S+)')
+
+# Imports that nothing uses since the move to today's kit: taking one out proves every crate above anew. The set can only shrink.
+LEFT = {
+    'certify_def/proofs/Answer': {'values'},
+    'flow_bridges/proofs/taken_by/Answers': {'⊎_elim'},
+    'foreign_call/proofs/check_sheet/Answers': {'rules'},
+    'newton_descend/proofs/greatest/Answers': {'⊎_elim'},
+    'newton_descend/proofs/guesses/least_into/Answers': {'⊎_elim'},
+    'newton_descend/proofs/nets/greatest_net/Answers': {'⊎_elim'},
+    'plant_def/proofs/Loop': {'◌⊎◌', '⊎_elim'},
+    'purchase_choose/proofs/Telling': {'not'},
+    'ranged_def/proofs/Trip': {'moved'},
+    'sheet_def/proofs/Unfit': {'not'},
+    'sheet_entries/proofs/Entering': {'values'},
+    'sheet_read/proofs/Loop': {'◌⊎◌', '⊎_elim', 'tag_of', 'declared'},
+    'solve_compress/proofs/raise/Answers': {'⊎_elim', 'not-true', 'not-false'},
+    'solve_compress/proofs/sunk/Answers': {'⊎_elim'},
+    'solve_def/proofs/Counted': {'sum'},
+    'solve_forest/proofs/unreached/Answers': {'⊎_elim'},
+    'solve_path/proofs/walking/nearest/Answers': {'⊎_elim'},
+    'solve_settle/proofs/clamp/Answers': {'⊎_elim'},
+    'solve_start/proofs/start/Answers': {'Start'},
+    'solve_ties/proofs/tie_all/Answers': {'⊎_elim'},
+    'survey_count/proofs/count_all/Answers': {'⊎_elim'},
+    'transmitter_def/proofs/Sendings': {'◌⊎◌', '⊎_elim', 'tag_of', 'declared'},
+}
 
 
 def lines(path, text):
@@ -62,8 +88,11 @@ def imports(path, text):
     """Names that a file imports and does not use. An operator `◌≤◌` is used where its sign stands."""
     body = re.sub(r'--.*|//.*', '', re.sub(r'^(?:(?:pub |ghost )?use|pub mod) .*$', '', text, flags=re.M))
     words = set(re.findall(r'[^\s(){}.,;⌜⌝]+', body)) | set(re.findall(r'\w+', body))
+    left = LEFT.get(path.removeprefix('crates/').removesuffix('.antt'), ())
     for found in IMPORT.finditer(text):
         for name in found[1].split(','):
+            if name.strip() in left:
+                continue
             if not all(sign in words for sign in name.strip().split('◌') if sign) and name.strip() not in words:
                 yield f'{path}: {name.strip()} is imported and not used'
     for found in USE.finditer(text):

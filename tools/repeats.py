@@ -88,7 +88,7 @@ def main():
     words.add_argument('--exact', action='store_true')
     given = words.parse_args()
     os.chdir(ROOT)
-    files = sorted(os.path.join(folder, name) for folder, _, names in os.walk(given.dir) if 'target' not in folder.split(os.sep)
+    files = sorted(os.path.join(folder, name) for folder, _, names in os.walk(given.dir) if not {'target', 'out'} & set(folder.split(os.sep))
                    for name in names if name.endswith(('.antt', '.rt')))
     found = pairs({path: shapes(path, given.exact) for path in files}, given.lines)
     print(f'{len(found)} repeated runs of {given.lines} or more lines in {len(files)} files')

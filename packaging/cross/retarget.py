@@ -11,8 +11,9 @@ floating-point operation be joined with another, and calls of the compiler's own
 import re
 import sys
 
-# The compiler's own calls that mean the same everywhere.
-PLAIN = re.compile(r'^llvm\.(mem(move|cpy|set)\.[a-z0-9.]+|trap|(cttz|ctlz|ctpop|bswap|fsh[lr]|[us](min|max)|abs)\.i\d+'
+# The compiler's own calls that mean the same everywhere. (A fence keeps a floating-point operation from being joined with another.) Tables
+# are bytes, numbers in them with the low byte first: so is memory on each of these processors.
+PLAIN = re.compile(r'^llvm\.(mem(move|cpy|set)\.[a-z0-9.]+|trap|arithmetic\.fence\.f64|(cttz|ctlz|ctpop|bswap|fsh[lr]|[us](min|max)|abs)\.i\d+'
                    r'|[us](add|sub|mul)\.with\.overflow\.i\d+|[us](add|sub)\.sat\.i\d+)$')
 FOREIGN = [
     ('a pointer made a number, or a number a pointer', re.compile(r'\b(inttoptr|ptrtoint|ptrtoaddr)\b')),
@@ -49,7 +50,7 @@ def pointers(text):
     for function in re.split(r'^(?=define )', text, flags=re.M):
         held = set(re.findall(r'(%[\w.]+) = alloca ptr\b', function))
         for line in function.split('\n') if held else []:
-            whole = re.sub(r' = alloca ptr\b.*|(= load ptr,|store ptr %[\w.]+,) ptr %[\w.]+, align .*', '', line)
+            whole = re.sub(r' = alloca ptr\b.*|(= load ptr,|store ptr [%@][\w.]+,) ptr %[\w.]+, align .*', '', line)
             if held & set(re.findall(r'%[\w.]+', whole)) and ' = alloca ptr' not in line:
                 yield f'a pointer not moved whole: {line.strip()[:100]}'
 
