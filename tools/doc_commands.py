@@ -48,7 +48,7 @@ RULES = [
     Rule(r'rt all check', 'not', 'the gate proves all'),
     Rule(r'rt (check|tidy|fmt)( --only PATH)?', 'run', 'cd crates/version && rt check'),
     Rule(r'\./dev prove CRATE', 'run', './dev prove version'),
-    Rule(r'\./dev where CRATE FUNCTION', 'run', './dev where version version_number'),
+    Rule(r'\./dev where CRATE FUNCTION', 'run', './dev where num_lent put_bytes'),
     Rule(r'\./dev refused.*', 'run', 'rt must-fail version && ./dev refused version'),
     Rule(r'\./dev repeats( \[DIR\])?', 'run', './dev repeats crates/version'),
     Rule(r'\./dev unproved OUT\.(s?o)', 'run', r'./dev unproved target/built/unproved.\1'),
