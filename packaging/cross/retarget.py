@@ -49,6 +49,7 @@ def pointers(text):
     """Variables that hold a pointer and are used otherwise than by taking it out whole or putting it in whole."""
     for function in re.split(r'^(?=define )', text, flags=re.M):
         held = set(re.findall(r'(%[\w.]+) = alloca ptr\b', function))
+        # A pointer is moved whole if its place, or the address of a table that is known when all is linked, is stored by one instruction.
         for line in function.split('\n') if held else []:
             whole = re.sub(r' = alloca ptr\b.*|(= load ptr,|store ptr [%@][\w.]+,) ptr %[\w.]+, align .*', '', line)
             if held & set(re.findall(r'%[\w.]+', whole)) and ' = alloca ptr' not in line:
