@@ -2,7 +2,7 @@
 // and sizes of numbers stand here, too.
 #![tactic(auto)]
 
-ghost use Rattle.std.specs.Prelude.{◌≡◌, nat_abs, ◌-◌, ◌≤◌, ◌<◌, length, [], ◌∷◌};
+ghost use Rattle.std.specs.Prelude.{◌≡◌, nat_abs, ◌-◌, ◌≤◌, length, [], ◌∷◌};
 ghost use Rattle.num_bytes.specs.Choice.{first_of};
 ghost use Rattle.num_bytes.specs.Bytes.{be, put_be, signed, raw, over};
 
@@ -10,60 +10,42 @@ ghost use Rattle.num_bytes.specs.Bytes.{be, put_be, signed, raw, over};
 pub fn first_of(first: u8, second: u8) -> u8
     ensures { result ≡ first_of first second }
 {
-    if first != 0 {
-        return first;
-    }
-    second
+    if first != 0 { first } else { second }
 }
 
 // a − b, 0 where b is more.
 pub fn minus(a: u64, b: u64) -> u64
     ensures { result ≡ a - b }
 {
-    if a < b { 0 } else { a - b }
+    a.saturating_sub(b)
 }
 
 // The size of a signed number.
 pub fn size_of(z: i64) -> u64
     ensures { result ≡ nat_abs z }
 {
-    if 0 <= z {
-        return z as u64;
-    }
-    let below = (-1 - z) as u64;
-    below + 1
-}
-
-// A byte, wider.
-fn wide(b: u8) -> u16
-    ensures { (result ≡ b) × (result < 256) }
-{
-    b as u16
+    z.unsigned_abs()
 }
 
 pub fn get_u16(s: &[u8]) -> u16
     requires { 2 ≤ length s.now }
     ensures { result ≡ be 0 2 s.now }
 {
-    wide(s[0]) * 256 + wide(s[1])
+    u16::from_be_bytes([s[0], s[1]])
 }
 
 pub fn get_u32(s: &[u8]) -> u32
     requires { 4 ≤ length s.now }
     ensures { result ≡ be 0 4 s.now }
 {
-    let high = get_u16(s) as u32;
-    let low = get_u16(&s[2..]) as u32;
-    high * 65536 + low
+    u32::from_be_bytes([s[0], s[1], s[2], s[3]])
 }
 
 pub fn get_u64(s: &[u8]) -> u64
     requires { 8 ≤ length s.now }
     ensures { result ≡ be 0 8 s.now }
 {
-    let high = get_u32(s) as u64;
-    let low = get_u32(&s[4..]) as u64;
-    high * 4294967296 + low
+    u64::from_be_bytes([s[0], s[1], s[2], s[3], s[4], s[5], s[6], s[7]])
 }
 
 // Two's complement.
@@ -71,35 +53,22 @@ pub fn get_i32(s: &[u8]) -> i32
     requires { 4 ≤ length s.now }
     ensures { result ≡ signed 4 (be 0 4 s.now) }
 {
-    let v = get_u32(s);
-    if v < 2147483648 {
-        return v as i32;
-    }
-    let below = (4294967295 - v) as i32;
-    -1 - below
+    get_u32(s).cast_signed()
 }
 
 pub fn get_i64(s: &[u8]) -> i64
     requires { 8 ≤ length s.now }
     ensures { result ≡ signed 8 (be 0 8 s.now) }
 {
-    let v = get_u64(s);
-    if v < 9223372036854775808 {
-        return v as i64;
-    }
-    let below = (18446744073709551615 - v) as i64;
-    -1 - below
+    get_u64(s).cast_signed()
 }
 
-// What four bytes hold for a signed number, two's complement.
-fn bits_of(z: i32) -> u32
-    ensures { result ≡ raw 4 z }
+// Bytes laid over the front of a slice.
+fn put<const N: usize>(bytes: [u8; N], s: &mut [u8])
+    requires { N ≤ length s.old }
+    ensures { s.new ≡ over bytes.entry s.old }
 {
-    if 0 <= z {
-        return z as u32;
-    }
-    let below = (-1 - z) as u32;
-    4294967295 - below
+    s[..N].copy_from_slice(&bytes);
 }
 
 pub fn put_u8(v: u8, s: &mut [u8])
@@ -113,49 +82,33 @@ pub fn put_u16(v: u16, s: &mut [u8])
     requires { 2 ≤ length s.old }
     ensures { s.new ≡ over (put_be 2 v) s.old }
 {
-    s[0] = (v / 256) as u8;
-    s[1] = (v % 256) as u8;
+    put(v.to_be_bytes(), s);
 }
 
 pub fn put_u32(v: u32, s: &mut [u8])
     requires { 4 ≤ length s.old }
     ensures { s.new ≡ over (put_be 4 v) s.old }
 {
-    put_u16((v / 65536) as u16, s);
-    put_u16((v % 65536) as u16, &mut s[2..]);
+    put(v.to_be_bytes(), s);
 }
 
 pub fn put_u64(v: u64, s: &mut [u8])
     requires { 8 ≤ length s.old }
     ensures { s.new ≡ over (put_be 8 v) s.old }
 {
-    put_u32((v / 4294967296) as u32, s);
-    put_u32((v % 4294967296) as u32, &mut s[4..]);
-}
-
-// What eight bytes hold for a signed number, two's complement.
-fn bits_of_i64(z: i64) -> u64
-    ensures { result ≡ raw 8 z }
-{
-    if 0 <= z {
-        return z as u64;
-    }
-    let below = (-1 - z) as u64;
-    18446744073709551615 - below
+    put(v.to_be_bytes(), s);
 }
 
 pub fn put_i32(z: i32, s: &mut [u8])
     requires { 4 ≤ length s.old }
     ensures { s.new ≡ over (put_be 4 (raw 4 z)) s.old }
 {
-    let v = bits_of(z);
-    put_u32(v, s);
+    put_u32(z.cast_unsigned(), s);
 }
 
 pub fn put_i64(z: i64, s: &mut [u8])
     requires { 8 ≤ length s.old }
     ensures { s.new ≡ over (put_be 8 (raw 8 z)) s.old }
 {
-    let v = bits_of_i64(z);
-    put_u64(v, s);
+    put_u64(z.cast_unsigned(), s);
 }

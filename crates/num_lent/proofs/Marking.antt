@@ -2,13 +2,13 @@
 use mathlib.Core.Path.{◌≡◌, refl, sym, ap, ◌∙◌}
 use mathlib.Core.Bool.{Bool, true, false}
 use mathlib.Core.List.{List, [], ◌∷◌}
-use Prim.Native.Nat.{ℕ, zero, suc, ◌+◌, ◌-◌, ◌*◌, ◌/◌, ◌%◌, ◌^◌, ◌≤◌, ◌<◌}
+use Prim.Native.Nat.{ℕ, zero, suc, ◌+◌, ◌*◌, ◌/◌, ◌%◌, ◌^◌, ◌≤◌, ◌<◌}
 use native.Mathlib.Omega.{arith}
 use native.Mathlib.Nat.{add-mul-div_left, add-mul-mod_self_left, div-div-eq-div-mul, div-eq_of_lt, div-one, pow-suc, mul_comm}
 use lib.Dec.{eqb}
-use lib.ListN.{length, get_or, drop, drop_of_length-le}
-use lib.Seq.{drop-cons}
-use Rattle.num_bytes.specs.Choice.{pick}
+use native.Mathlib.Numerals.{add-one}
+use mir.Val.{bool_byte}
+use lib.ListN.{length, get_or, take}
 use Rattle.num_bytes.specs.Inner.{values}
 use Rattle.plant_def.specs.Limits.{places}
 use Rattle.num_bytes.specs.Sums.{bit}
@@ -18,26 +18,26 @@ use Rattle.num_lent.specs.Marks.{marks_in}
 -- The number with these bits, the first the lowest.
 abbrev pub bits_of : List Bool → ℕ
 bits_of [] = 0
-bits_of (m ∷ ms) = pick {A = ℕ} m 1 0 + 2 * bits_of ms
+bits_of (m ∷ ms) = bool_byte m + 2 * bits_of ms
 
-digit_small : (m : Bool) → pick {A = ℕ} m 1 0 < 2
+digit_small : (m : Bool) → bool_byte m < 2
 digit_small true = omega arith
 digit_small false = omega arith
 
 -- The lowest bit, and the others.
-first_bit : (m : Bool) (n : ℕ) → bit 0 (pick {A = ℕ} m 1 0 + 2 * n) ≡ m
-first_bit m n = ap (λ (x : ℕ). eqb (x % 2) 1) (div-one (pick {A = ℕ} m 1 0 + 2 * n)) ∙ ap (λ (x : ℕ). eqb x 1) (add-mul-mod_self_left (pick {A = ℕ} m 1 0) 2 n) ∙ go m
+first_bit : (m : Bool) (n : ℕ) → bit 0 (bool_byte m + 2 * n) ≡ m
+first_bit m n = ap (λ (x : ℕ). eqb (x % 2) 1) (div-one (bool_byte m + 2 * n)) ∙ ap (λ (x : ℕ). eqb x 1) (add-mul-mod_self_left (bool_byte m) 2 n) ∙ go m
   where
-    go : (m : Bool) → eqb (pick {A = ℕ} m 1 0 % 2) 1 ≡ m
+    go : (m : Bool) → eqb (bool_byte m % 2) 1 ≡ m
     go true = refl
     go false = refl
 
-halved : (m : Bool) (n : ℕ) → (pick {A = ℕ} m 1 0 + 2 * n) / 2 ≡ n
-halved m n = add-mul-div_left (pick {A = ℕ} m 1 0) n (omega arith) ∙ ap (λ (x : ℕ). x + n) (div-eq_of_lt (digit_small m)) ∙ omega arith
+halved : (m : Bool) (n : ℕ) → (bool_byte m + 2 * n) / 2 ≡ n
+halved m n = add-mul-div_left (bool_byte m) n (omega arith) ∙ ap (λ (x : ℕ). x + n) (div-eq_of_lt (digit_small m)) ∙ omega arith
 
-next_bit : (h : ℕ) (m : Bool) (n : ℕ) → bit (suc h) (pick {A = ℕ} m 1 0 + 2 * n) ≡ bit h n
-next_bit h m n = ap (λ (x : ℕ). eqb (x % 2) 1) (ap (λ (p : ℕ). (pick {A = ℕ} m 1 0 + 2 * n) / p) (pow-suc 2 h ∙ mul_comm (2 ^ h) 2)
-    ∙ sym (div-div-eq-div-mul (pick {A = ℕ} m 1 0 + 2 * n) 2 (2 ^ h)) ∙ ap (λ (x : ℕ). x / 2 ^ h) (halved m n))
+next_bit : (h : ℕ) (m : Bool) (n : ℕ) → bit (suc h) (bool_byte m + 2 * n) ≡ bit h n
+next_bit h m n = ap (λ (x : ℕ). eqb (x % 2) 1) (ap (λ (p : ℕ). (bool_byte m + 2 * n) / p) (pow-suc 2 h ∙ mul_comm (2 ^ h) 2)
+    ∙ sym (div-div-eq-div-mul (bool_byte m + 2 * n) 2 (2 ^ h)) ∙ ap (λ (x : ℕ). x / 2 ^ h) (halved m n))
 
 bits_back : (ms : List Bool) → values (length ms) (λ u. bit u (bits_of ms)) ≡ ms
 bits_back [] = refl
@@ -53,43 +53,33 @@ bits_most : (ms : List Bool) → bits_of ms < 2 ^ length ms
 bits_most [] = omega arith
 bits_most (m ∷ ms) = omega (arith, pow-suc 2 (length ms), bits_most ms, digit_small m)
 
--- From mark k on they are no more.
-bits_fewer : (ms : List Bool) (k : ℕ) → bits_of (drop k ms) ≤ bits_of ms
+-- One mark more: its digit counts for a power of 2.
+bits_next : (ms : List Bool) (k : ℕ) → k < length ms → bits_of (take (suc k) ms) ≡ bits_of (take k ms) + bool_byte (get_or ms k false) * 2 ^ k
+bits_next [] k l = absurd (omega arith)
+bits_next (m ∷ ms) zero l = omega arith
+bits_next (m ∷ ms) (suc k) l = rw (pow-suc 2 k) (omega (arith, bits_next ms k (omega arith)))
+
+-- The first marks' bits are no more than all.
+bits_fewer : (ms : List Bool) (k : ℕ) → bits_of (take k ms) ≤ bits_of ms
 bits_fewer ms zero = omega arith
 bits_fewer [] (suc k) = omega arith
 bits_fewer (m ∷ ms) (suc k) = omega (arith, bits_fewer ms k)
 
--- The bits from mark k on.
-pub record Bits (ms : List Bool) (bits k : ℕ) : Type 0 where
-  pub long : length ms ≡ places
-  pub within : k ≤ places
-  pub so_far : bits ≡ bits_of (drop k ms)
+module _ (ms : List Bool) (long : length ms ≡ places) (k : ℕ) (h : k < places) (d : ℕ) (is : d ≡ bool_byte (get_or ms k false)) where
+  next : bits_of (take (suc k) ms) ≡ bits_of (take k ms) + d * 2 ^ k
+  next = rw is (bits_next ms k (omega arith))
 
--- Before the last mark.
-pub bits_none : (ms : List Bool) → length ms ≡ places → Bits ms 0 places
-bits_none ms l = record { long = l; within = omega arith; so_far = sym (ap bits_of (drop_of_length-le ms {i = places} (omega arith))) }
+  few : bits_of (take (suc k) ms) < 2 ^ places
+  few = omega (arith, bits_fewer ms (suc k), rw long at (bits_most ms))
 
-module _ {ms : List Bool} {bits k : ℕ} (b : Bits ms bits k) where
-  -- Behind the first mark: the bits are the marks.
-  pub bits_all : k ≡ 0 → (marks_in bits ≡ ms) × (bits < 2 ^ places)
-  bits_all e =
-      let whole : bits ≡ bits_of ms = b.so_far ∙ ap (λ (i : ℕ). bits_of (drop i ms)) e in
-      (ap marks_in whole ∙ marks_back ms b.long, rw whole (rw b.long at (bits_most ms)))
+  -- One mark more: its digit is not cut off where it stands.
+  pub bits_more : bits_of (take k ms) + d * 2 ^ k % 2 ^ 64 ≡ bits_of (take (k + 1) ms)
+  bits_more = rw (add-one k) (omega (arith, next, few))
 
-  module _ (h : 0 < k) where
-    more : bits_of (drop (k - 1) ms) ≡ pick {A = ℕ} (get_or ms (k - 1) false) 1 0 + 2 * bits
-    more =
-        let l = b.long in
-        let w = b.within in
-        let e : suc (k - 1) ≡ k = omega arith in
-        ap bits_of (drop-cons ms (k - 1) false (omega arith))
-        ∙ ap (λ (i : ℕ). pick {A = ℕ} (get_or ms (k - 1) false) 1 0 + 2 * bits_of (drop i ms)) e
-        ∙ ap (λ (n : ℕ). pick {A = ℕ} (get_or ms (k - 1) false) 1 0 + 2 * n) (sym b.so_far)
+  -- It fits.
+  pub bits_fit : bits_of (take k ms) + d * 2 ^ k % 2 ^ 64 < 2 ^ places
+  bits_fit = omega (arith, next, few)
 
-    -- One mark more fits.
-    pub next_small : pick {A = ℕ} (get_or ms (k - 1) false) 1 0 + 2 * bits < 2 ^ places
-    next_small = omega (arith, more, bits_fewer ms (k - 1), rw b.long at (bits_most ms))
-
-    -- One mark more, below.
-    pub bits_more : (d : ℕ) → d ≡ pick {A = ℕ} (get_or ms (k - 1) false) 1 0 → Bits ms (d + 2 * bits) (k - 1)
-    bits_more d e = record { long = b.long; within = omega (arith, b.within); so_far = ap (λ (n : ℕ). n + 2 * bits) e ∙ sym more }
+-- All marks: the bits are the marks.
+pub bits_all : (ms : List Bool) (n : ℕ) → length ms ≡ places → n ≡ bits_of ms → (marks_in n ≡ ms) × (n < 2 ^ places)
+bits_all ms n l e = rw e (marks_back ms l, rw l at (bits_most ms))

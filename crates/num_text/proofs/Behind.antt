@@ -3,9 +3,8 @@ use mathlib.Core.Path.{◌≡◌, refl, sym, ap, ◌∙◌}
 use mathlib.Core.List.{List, [], ◌∷◌, ◌++◌, append_assoc}
 use Prim.Native.Nat.{ℕ, suc, ◌+◌, ◌≤◌, ◌<◌}
 use native.Mathlib.Omega.{arith}
-use native.Mathlib.Numerals.{add-one}
-use lib.ListN.{length, get_or, take, drop, set, length-append, length-drop, take-append-drop}
-use lib.Seq.{take_all, take-suc, take_at, drop_at, drop-drop, set_split, length-take-le}
+use lib.ListN.{length, take, drop, set, length-append, length-drop, take-append-drop}
+use lib.Seq.{take_at, drop_at, drop-drop, set_split, length-take-le}
 use Rattle.num_bytes.specs.Bytes.{over}
 use Rattle.num_bytes.specs.Inner.{Put}
 use Rattle.num_text.specs.Adding.{Added}
@@ -53,20 +52,6 @@ behind {x} {y} {o} {o₁} {o₂} {at} {a} {b} f g =
       place = omega arith;
       room = omega (arith, g.room);
     }
-
--- A text put character by character: i of them are put, the next place is a.
-module _ (text : List ℕ) (i : ℕ) {o o₁ : List ℕ} {at a : ℕ} (f : Added (take i text) at o o₁ a) where
-  -- There is room for one more character.
-  pub text_room : at + length text ≤ length o → i < length text → a + 1 ≤ length o₁
-  text_room h l = let p = f.place in omega (arith, kept_length f, length-take-le i text (omega arith))
-
-  -- One more character of the text.
-  pub text_more : {o₂ : List ℕ} {b : ℕ} → i < length text → Added (get_or text i 0 ∷ []) a o₁ o₂ b → Added (take (i + 1) text) at o o₂ b
-  text_more l g = rw (add-one i, take-suc text i 0 l) (behind f g)
-
-  -- Behind the last one.
-  pub text_all : length text ≤ i → Added text at o o₁ a
-  text_all h = rw (take_all i text h) at f
 
 -- A text under another name.
 pub added_as : {x y o o₁ : List ℕ} {at a : ℕ} → x ≡ y → Added x at o o₁ a → Added y at o o₁ a

@@ -19,12 +19,8 @@ pub fn put_text(text: &[u8], at: usize, out: &mut [u8]) -> usize
     requires { at + length text.now ≤ length out.old }
     ensures { Added text.now at out.old out.new result }
 {
-    let mut next = at;
-    let mut i: usize = 0;
-    while i < text.len() {
-        next = put_byte(text[i], next, out);
-        i += 1;
-    }
+    let next = at + text.len();
+    out[at..next].copy_from_slice(text);
     next
 }
 

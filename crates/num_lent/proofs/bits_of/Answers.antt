@@ -1,23 +1,20 @@
--- After each turn the bits from one place further down on.
+-- The bits of the marks passed.
 use borrow.Author.Rules.{rules}
 use native.Mathlib.Omega.{arith}
-use Rattle.num_lent.proofs.Marking.{bits_none, bits_all, next_small, bits_more}
+use mathlib.Core.Path.{◌≡◌}
+use lib.ListN.{length}
+use lib.Seq.{take_all}
+use Rattle.plant_def.specs.Limits.{places}
+use Rattle.num_lent.proofs.Marking.{bits_more, bits_fit, bits_all}
 use Rattle.num_lent.proofs.bits_of.Goals as goal
 
-pub loop-left-init : goal.loop-left-init
-loop-left-init c = bits_none c.args.marked (search rules)
-
-pub bounds-marked-left : goal.bounds-marked-left
-bounds-marked-left c = omega (arith, c.loop-left.invariant.within)
-
-pub overflow_mul-bits : goal.overflow_mul-bits
-overflow_mul-bits c = record { fits = omega (arith, next_small c.loop-left.invariant (omega arith)) }
-
 pub overflow_add-bits : goal.overflow_add-bits
-overflow_add-bits c = record { fits = omega (arith, c.digit.ensures, next_small c.loop-left.invariant (omega arith)) }
+overflow_add-bits c = record { fits = omega (arith, c.loop-u.invariant, bits_fit c.args.marked (search rules) c.loop-u.u c.loop-u-test.true _ c.from.ensures) }
 
-pub loop-left-preserved : goal.loop-left-preserved
-loop-left-preserved c = bits_more c.loop-left.invariant (omega arith) c.digit.result c.digit.ensures
+pub loop-u-preserved : goal.loop-u-preserved
+loop-u-preserved c = rw c.loop-u.invariant (bits_more c.args.marked (search rules) c.loop-u.u c.loop-u-test.true _ c.from.ensures)
 
 pub returns : goal.returns
-returns c = bits_all c.loop-left.invariant (omega arith)
+returns c =
+    let l : length c.args.marked ≡ places = search rules in
+    bits_all c.args.marked _ l (rw (take_all c.loop-u.u c.args.marked (omega (arith, l))) at c.loop-u.invariant)

@@ -1,9 +1,8 @@
--- After each turn the bits from one place further down on.
-use Rattle.num_lent.proofs.Marking.{Bits}
+-- The bits of the marks passed.
+use mathlib.Core.Path.{◌≡◌}
+use lib.ListN.{take}
+use Rattle.num_lent.proofs.Marking.{bits_of}
 use Rattle.num_lent.proofs.bits_of.Given as goal
 
-abbrev pub invariant-loop-left : goal.invariant-loop-left
-invariant-loop-left l = Bits l.marked l.bits l.left
-
-abbrev pub decreases-loop-left : goal.decreases-loop-left
-decreases-loop-left l = l.left
+abbrev pub invariant-loop-u : goal.invariant-loop-u
+invariant-loop-u l = l.bits ≡ bits_of (take l.u l.fn.marked)

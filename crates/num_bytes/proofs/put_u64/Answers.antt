@@ -1,8 +1,0 @@
--- The high half, then the low half in the part behind it.
-use native.Mathlib.Omega.{arith}
-use Rattle.num_bytes.proofs.Digits.{put_halves}
-use Rattle.num_bytes.proofs.put_u64.Goals as goal
-
-pub returns : goal.returns
-returns c =
-    put_halves 4 4 c.args.v c.args.s.now (omega arith) c.put_u32.ensures c.put_u32-2.ensures
