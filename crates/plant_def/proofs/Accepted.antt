@@ -8,10 +8,7 @@ use borrow.Author.Tests.{le-ltb}
 use lib.ListN.{length, drop, length-append}
 use Rattle.num_bytes.proofs.Tests.{and_left, and_right, and_both, first_none_left, first_none_right}
 use Rattle.plant_def.specs.declared.Stream.{Stream}
-use Rattle.plant_def.specs.declared.Site.{Site}
-use Rattle.plant_def.specs.declared.Site.TheVariants.{Units, Missing}
-use Rattle.plant_def.specs.declared.Record.{Record}
-use Rattle.plant_def.specs.declared.Record.TheVariants.{Listed, End, Refused}
+use Rattle.plant_def.specs.Results.{Site, Units, Missing, Record, Listed, End, Refused}
 use Rattle.plant_def.specs.Limits.{max_streams, site_body}
 use Rattle.plant_def.specs.Plants.{Plant, units_fault, stream_fault, first_fault, plant_fault, plain_one, plain}
 use Rattle.plant_def.specs.Files.{Got, bad, got, site_at, on_site, record_at, on_record, with_stream, records_by, most_records, file_by, read_plant}

@@ -8,10 +8,7 @@ use lib.ListN.{length, get_or, drop}
 use Rattle.num_bytes.specs.Bytes.{all_bytes}
 use Rattle.num_bytes.proofs.Digits.{bytes_drop}
 use Rattle.plant_def.specs.declared.Stream.{Stream}
-use Rattle.plant_def.specs.declared.Site.{Site}
-use Rattle.plant_def.specs.declared.Site.TheVariants.{Units, Missing}
-use Rattle.plant_def.specs.declared.Record.{Record}
-use Rattle.plant_def.specs.declared.Record.TheVariants.{Listed, End, Refused}
+use Rattle.plant_def.specs.Results.{Site, Units, Missing, Record, Listed, End, Refused}
 use Rattle.plant_def.specs.Limits.{site_kind, end_kind, site_body}
 use Rattle.plant_def.specs.Plants.{Plant}
 use Rattle.plant_def.specs.Files.{bad, got, site_at, on_site, record_at, on_record, with_stream, records_by, most_records, read_plant, stream_bytes, streams_bytes, plant_bytes, RoundTrip}

@@ -1,7 +1,7 @@
 -- Laws of plant files, in the order in which they build on one another. Laws of files read and written anew.
+pub mod Numbers
 pub mod Records
 pub mod Limited
-pub mod Ranges
 pub mod Accepted
 pub mod Held
 pub mod Loop

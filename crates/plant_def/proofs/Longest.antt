@@ -7,10 +7,7 @@ use lib.Dec.{eqb}
 use lib.ListN.{length, get_or, drop, length-append, length-drop}
 use Rattle.num_bytes.proofs.Tests.{picked}
 use Rattle.plant_def.specs.declared.Stream.{Stream}
-use Rattle.plant_def.specs.declared.Site.{Site}
-use Rattle.plant_def.specs.declared.Site.TheVariants.{Units, Missing}
-use Rattle.plant_def.specs.declared.Record.{Record}
-use Rattle.plant_def.specs.declared.Record.TheVariants.{Listed, End, Refused}
+use Rattle.plant_def.specs.Results.{Site, Units, Missing, Record, Listed, End, Refused}
 use Rattle.plant_def.specs.Limits.{max_streams, metered_kind, unmetered_kind, end_kind, ranged_kind, site_body, metered_body, ranged_body, unmetered_body, end_body, longest_file}
 use Rattle.plant_def.specs.Plants.{Plant, stream_fault}
 use Rattle.plant_def.specs.Files.{Got, bad, got, site_at, on_site, metered_in, ranged_in, unmetered_in, body_fault}

@@ -1,13 +1,11 @@
 -- A file read and written anew: the promise, by what was read.
-use mathlib.Core.Path.{◌≡◌, refl, sym, ap, subst, ◌∙◌}
+use mathlib.Core.Path.{◌≡◌, sym, ap, subst, ◌∙◌}
 use mathlib.Core.List.{List}
-use Prim.Native.Nat.{ℕ, ◌<◌, ◌≤◌}
-use native.Mathlib.Omega.{arith}
+use Prim.Native.Nat.{ℕ, ◌≤◌}
 use lib.ListN.{length}
-use borrow.Author.Tests.{lt-ltb, le-ltb, ne_eqb}
+use borrow.Author.Tests.{le-ltb}
 use Rattle.num_bytes.specs.Bytes.{over}
-use Rattle.plant_def.specs.declared.Read.{Read}
-use Rattle.plant_def.specs.declared.Done.{Done}
+use Rattle.plant_def.specs.Results.{Read, Done}
 use Rattle.plant_def.specs.declared.Plant as Arrays
 use Rattle.plant_def.specs.Limits.{longest_file}
 use Rattle.plant_def.specs.Plants.{Plant, parts_fault, plant_fault}
@@ -18,24 +16,9 @@ use Rattle.plant_def.proofs.Held.{plant_held}
 use Rattle.plant_def.specs.Converts.{fault_of, convert_fault, Converts}
 use Rattle.plant_def.specs.Needs.{Faultless}
 
-number_is : (g : Got) → fault_of g ≡ (read_of g).number
-number_is (bad f) = refl
-number_is (got p) = refl
-
 module _ (g : Got) (o : List ℕ) where
   by_file : longest_file ≤ length o → convert_fault g o ≡ fault_of g
   by_file h = simp (le-ltb (length o) longest_file h)
-
-  refuse : (f : ℕ) → convert_fault g o ≡ f → (f ≡ 0 → ⊥) → Converts g o o (record { number = f; written = 0 })
-  refuse f e z = simp (e, ne_eqb f 0 z) (refl, refl)
-
-  -- A slice that is too short: 1.
-  pub too_short : length o < longest_file → Converts g o o (record { number = 1; written = 0 })
-  too_short h = refuse 1 (simp (lt-ltb (length o) longest_file h)) (λ (e : ◌≡◌ {A = ℕ} 1 0). omega arith)
-
-  -- A file that is refused: its number.
-  pub file_bad : longest_file ≤ length o → (y : Read) → y ≡ read_of g → (y.number ≡ 0 → ⊥) → Converts g o o (record { number = y.number; written = 0 })
-  file_bad h y e z = refuse y.number (by_file h ∙ number_is g ∙ sym (ap (λ (t : Read). t.number) e)) z
 
 -- A plant without fault is written whole.
 written : (p : Plant) (o o' : List ℕ) (r : Done) → plant_fault p ≡ 0 → longest_file ≤ length o → WriteSays (arrayed p) o o' r → Converts (got p) o o' r

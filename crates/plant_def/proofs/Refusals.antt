@@ -13,11 +13,7 @@ use Rattle.num_bytes.specs.Choice.{pick, refuse_if, first_of}
 use borrow.Author.Tests.{eqb-true}
 use Rattle.num_bytes.proofs.Tests.{or_cases, picked}
 use Rattle.plant_def.specs.declared.Stream.{Stream}
-use Rattle.plant_def.specs.declared.Site.{Site}
-use Rattle.plant_def.specs.declared.Site.TheVariants.{Units, Missing}
-use Rattle.plant_def.specs.declared.Record.{Record}
-use Rattle.plant_def.specs.declared.Record.TheVariants.{Listed, End, Refused}
-use Rattle.plant_def.specs.declared.Done.{Done}
+use Rattle.plant_def.specs.Results.{Site, Units, Missing, Record, Listed, End, Refused, Done}
 use Rattle.plant_def.specs.Limits.{max_units, max_streams, max_weight, max_reading, max_range, site_kind, metered_kind, unmetered_kind}
 use Rattle.plant_def.specs.Limits.{end_kind, ranged_kind, site_body, metered_body, ranged_body, unmetered_body, end_body, longest_file}
 use Rattle.plant_def.specs.Plants.{Plant, units_fault, meter_fault, range_fault, stream_fault, first_fault, parts_fault}

@@ -14,10 +14,7 @@ use Rattle.num_bytes.proofs.Tests.{by_cases, and_left, and_right, and_both, firs
 use Rattle.num_bytes.proofs.Digits.{be_put}
 use Rattle.num_bytes.proofs.Complement.{held_back, held_fits, small_held, zero_size}
 use Rattle.plant_def.specs.declared.Stream.{Stream}
-use Rattle.plant_def.specs.declared.Record.{Record}
-use Rattle.plant_def.specs.declared.Record.TheVariants.{Listed, End}
-use Rattle.plant_def.specs.declared.Site.{Site}
-use Rattle.plant_def.specs.declared.Site.TheVariants.{Units}
+use Rattle.plant_def.specs.Results.{Record, Listed, End, Site, Units}
 use Rattle.plant_def.specs.Limits.{max_streams, site_kind, metered_kind, unmetered_kind, end_kind, ranged_kind, site_body, metered_body, ranged_body, unmetered_body}
 use Rattle.plant_def.specs.Within.{WithinStream}
 use Rattle.plant_def.specs.Refusals.{recorded}

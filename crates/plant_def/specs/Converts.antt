@@ -1,7 +1,7 @@
 -- What a call promises that reads a file and writes a plant file from it: each result is one definition's value.
 use Rattle.std.specs.Prelude.{◌≡◌, List, [], ℕ, ltb, length}
 use Rattle.num_bytes.specs.Choice.{refuse_if, first_of}
-use Rattle.plant_def.specs.declared.Done.{Done}
+use Rattle.plant_def.specs.Results.{Done}
 use Rattle.plant_def.specs.Limits.{longest_file}
 use Rattle.plant_def.specs.Plants.{Plant}
 use Rattle.plant_def.specs.Files.{Got, bad, got, plant_bytes}

@@ -3,10 +3,7 @@ use Rattle.std.specs.Prelude.{◌≡◌, Bool, true, false, not, List, [], ◌�
 use Rattle.num_bytes.specs.Choice.{pick, refuse_if, first_of}
 use Rattle.num_bytes.specs.Bytes.{be, put_be, signed, raw, all_bytes}
 use Rattle.plant_def.specs.declared.Stream.{Stream}
-use Rattle.plant_def.specs.declared.Site.{Site}
-use Rattle.plant_def.specs.declared.Site.TheVariants.{Units, Missing}
-use Rattle.plant_def.specs.declared.Record.{Record}
-use Rattle.plant_def.specs.declared.Record.TheVariants.{Listed, End, Refused}
+use Rattle.plant_def.specs.Results.{Site, Units, Missing, Record, Listed, End, Refused}
 use Rattle.plant_def.specs.Limits.{max_streams, site_kind, metered_kind, unmetered_kind, end_kind, ranged_kind}
 use Rattle.plant_def.specs.Limits.{site_body, metered_body, ranged_body, unmetered_body, end_body}
 use Rattle.plant_def.specs.Plants.{Plant, unmetered, units_fault, stream_fault, plant_fault, plain}

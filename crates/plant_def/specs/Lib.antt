@@ -2,9 +2,12 @@
 -- plant file from it.
 pub mod Limits
 pub mod Plants
+pub mod Results
 pub mod Within
 pub mod Files
 pub mod Refusals
+pub mod Refused
 pub mod Says
+pub mod Views
 pub mod Converts
 pub mod Needs

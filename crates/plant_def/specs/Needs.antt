@@ -1,7 +1,6 @@
 -- What inner functions need of a reading, and what they make of it.
 use Rattle.std.specs.Prelude.{◌≡◌, List, ℕ}
-use Rattle.plant_def.specs.declared.Read.{Read}
-use Rattle.plant_def.specs.declared.Done.{Done}
+use Rattle.plant_def.specs.Results.{Read, Done}
 use Rattle.plant_def.specs.Plants.{plant_fault}
 use Rattle.plant_def.specs.Files.{Got, bad, got}
 use Rattle.plant_def.specs.Says.{read_of}

@@ -5,8 +5,7 @@ use Rattle.num_bytes.specs.Bytes.{over}
 use Rattle.num_bytes.specs.Arrays.{filled}
 use Rattle.plant_def.specs.declared.Stream.{Stream}
 use Rattle.plant_def.specs.declared.Plant as Arrays
-use Rattle.plant_def.specs.declared.Read.{Read}
-use Rattle.plant_def.specs.declared.Done.{Done}
+use Rattle.plant_def.specs.Results.{Read, Done}
 use Rattle.plant_def.specs.Limits.{max_streams, longest_file}
 use Rattle.plant_def.specs.Plants.{Plant, no_stream, parts_fault}
 use Rattle.plant_def.specs.Files.{Got, bad, got, read_plant, plant_bytes}

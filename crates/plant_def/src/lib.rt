@@ -3,6 +3,7 @@
 #![tactic(auto)]
 
 pub mod limits;
+pub mod refusal;
 pub mod streams;
 
 // A stream from one place to another: metered, with its weight and its reading, or unmetered, with both 0. A metered
@@ -25,33 +26,4 @@ pub struct Plant {
     pub units: u8,
     pub count: u8,
     pub streams: [Stream; limits::MAX_STREAMS],
-}
-
-// What the plant reader hands over: 0 and the plant, or a refusal number and a plant without units or streams.
-#[derive(Clone, Copy)]
-pub struct Read {
-    pub number: u8,
-    pub plant: Plant,
-}
-
-// What a writer hands over: 0 and the bytes written, or a refusal number and 0.
-#[derive(Clone, Copy)]
-pub struct Done {
-    pub number: u8,
-    pub written: usize,
-}
-
-// What stands where the site record is due: the units, or a refusal.
-#[derive(Clone, Copy)]
-pub enum Site {
-    Units(u8),
-    Missing(u8),
-}
-
-// What stands where a later record is due: a stream with the record's size, the end of the file, or a refusal.
-#[derive(Clone, Copy)]
-pub enum Record {
-    Listed { stream: Stream, size: usize },
-    End,
-    Refused(u8),
 }

@@ -9,8 +9,8 @@ pub fn unmetered_stream(from: u8, to: u8) -> Stream
     ensures { result ≡ unmetered from to }
 {
     Stream {
-        from: from,
-        to: to,
+        from,
+        to,
         metered: false,
         weight: 0,
         reading: 0,

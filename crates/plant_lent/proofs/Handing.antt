@@ -2,15 +2,15 @@
 use mathlib.Core.Path.{◌≡◌, refl, sym, ap, ◌∙◌}
 use mathlib.Core.Bool.{Bool, true, false}
 use mathlib.Core.List.{List}
-use Prim.Native.Nat.{ℕ, ◌-◌, ◌≤◌, ◌<◌}
+use Prim.Native.Nat.{ℕ, ◌-◌, ◌≤◌}
 use native.Mathlib.Omega.{arith}
-use borrow.Author.Tests.{lt-ltb, le-ltb, ltb-true, ltb-false}
+use borrow.Author.Tests.{lt-ltb, ltb-true, ltb-false}
 use lib.Dec.{ltb}
 use lib.ListN.{length, take}
 use Rattle.num_bytes.specs.Choice.{pick}
 use Rattle.num_bytes.proofs.Filled.{take_filled}
 use Rattle.plant_def.specs.declared.Stream.{Stream}
-use Rattle.plant_def.specs.declared.Read.{Read}
+use Rattle.plant_def.specs.Results.{Read}
 use Rattle.plant_def.specs.Limits.{max_streams}
 use Rattle.plant_def.specs.Plants.{no_stream}
 use Rattle.plant_def.specs.Files.{Got, bad, got, read_plant}
@@ -20,24 +20,6 @@ use Rattle.plant_parts.specs.Parts.{Slices, reach, reaches}
 use Rattle.plant_parts.proofs.Gather.{Reached, reached, reaches_is}
 use Rattle.plant_lent.specs.Lent.{laid, plant_shown, PlantFound}
 use Rattle.plant_lent.specs.Inner.{read_lent}
-
--- Which of two readings it is, whatever they are.
-module _ (b : Bool) (g h : Got) where
-  first_read : b ≡ true → read_of g ≡ read_of (pick b g h)
-  first_read t = ap (λ (b : Bool). read_of (pick b g h)) (sym t)
-
-  second_read : b ≡ false → read_of h ≡ read_of (pick b g h)
-  second_read t = ap (λ (b : Bool). read_of (pick b g h)) (sym t)
-
--- The reading, by how many streams every slice reaches.
-module _ (file : List ℕ) (n : ℕ) where
-  -- Too few: 1.
-  pub too_short : n < max_streams → read_of (bad 1) ≡ read_of (read_lent file n)
-  too_short h = first_read (ltb n max_streams) (bad 1) (read_plant file) (lt-ltb n max_streams h)
-
-  -- As many as there may be: the file's own reading.
-  pub long_enough : max_streams ≤ n → read_of (read_plant file) ≡ read_of (read_lent file n)
-  long_enough h = second_read (ltb n max_streams) (bad 1) (read_plant file) (le-ltb n max_streams h)
 
 -- No more streams are read than there may be.
 few_read : (file : List ℕ) (g : Got) → read_plant file ≡ g → (read_of g).plant.count ≤ max_streams

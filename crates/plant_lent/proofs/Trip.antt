@@ -15,7 +15,7 @@ use Rattle.num_bytes.specs.Inner.{values}
 use Rattle.num_bytes.proofs.Tests.{by_cases, clash, and_both, first_none_right}
 use Rattle.num_bytes.proofs.Lists.{map_at, values_long, values_at}
 use Rattle.plant_def.specs.declared.Stream.{Stream}
-use Rattle.plant_def.specs.declared.Done.{Done}
+use Rattle.plant_def.specs.Results.{Done}
 use Rattle.plant_def.specs.Limits.{max_streams, longest_file}
 use Rattle.plant_def.specs.Plants.{Plant, no_stream, plain, parts_fault}
 use Rattle.plant_def.specs.Files.{Got, bad, got, read_plant, plant_bytes}

@@ -2,7 +2,7 @@
 use Rattle.std.specs.Prelude.{◌≡◌, true, List, ℕ, ◌-◌, ◌≤◌, length, take}
 use Rattle.num_bytes.specs.Bytes.{over, all_bytes}
 use Rattle.num_bytes.specs.Inner.{values}
-use Rattle.plant_def.specs.declared.Done.{Done}
+use Rattle.plant_def.specs.Results.{Done}
 use Rattle.plant_def.specs.Limits.{max_streams, longest_file}
 use Rattle.plant_def.specs.Plants.{plain}
 use Rattle.plant_parts.specs.Parts.{Slices, reaches, handed, HandedWritten}

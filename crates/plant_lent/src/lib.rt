@@ -2,20 +2,21 @@
 #![tactic(auto)]
 
 ghost use Rattle.std.specs.Prelude.{◌≡◌, ◌≤◌, length};
-ghost use Rattle.num_bytes.specs.Choice.{pick};
 ghost use Rattle.plant_def.specs.Limits.{max_streams};
 ghost use Rattle.plant_def.specs.Says.{read_of};
+ghost use Rattle.plant_def.specs.Views.{read_as};
 ghost use Rattle.plant_lent.specs.Inner.{read_lent, Front, from_of, to_of, metered_of, weight_of, reading_of, ranged_of, low_of, high_of};
 
 use plant_def::limits::MAX_STREAMS;
-use plant_def::{Read, Stream};
+use plant_def::refusal::Refusal;
+use plant_def::{Plant, Stream};
 
 // The reading, where every slice reaches as many streams as there may be.
-pub fn read_lent(file: &[u8], reach: usize) -> Read
-    ensures { result ≡ read_of (read_lent file.now reach) }
+pub fn read_lent(file: &[u8], reach: usize) -> Result<Plant, Refusal>
+    ensures { read_as result ≡ read_of (read_lent file.now reach) }
 {
     if reach < MAX_STREAMS {
-        return plant_frame::refusal(1);
+        return Err(Refusal::SliceTooShort);
     }
     plant_read::read_plant(file)
 }
@@ -25,22 +26,10 @@ pub fn put_ends(count: usize, streams: [Stream; MAX_STREAMS], from: &mut [u8], t
     requires { (count ≤ max_streams) × (count ≤ length from.old) × (count ≤ length to.old) }
     ensures { Front from_of count streams from × Front to_of count streams to }
 {
-    let mut k: usize = 0;
-    while k < count {
-        let s = streams[k];
+    for (k, s) in streams[..count].iter().enumerate() {
         from[k] = s.from;
         to[k] = s.to;
-        k += 1;
     }
-}
-
-fn digit(told: bool) -> u8
-    ensures { result ≡ pick told 1 0 }
-{
-    if told {
-        return 1;
-    }
-    0
 }
 
 // Whether they are metered, their weights and their readings.
@@ -54,14 +43,10 @@ pub fn put_meters(
     requires { (count ≤ max_streams) × (count ≤ length metered.old) × (count ≤ length weight.old) × (count ≤ length reading.old) }
     ensures { Front metered_of count streams metered × Front weight_of count streams weight × Front reading_of count streams reading }
 {
-    let mut k: usize = 0;
-    while k < count {
-        let s = streams[k];
-        metered[k] = digit(s.metered);
+    for (k, s) in streams[..count].iter().enumerate() {
+        metered[k] = u8::from(s.metered);
         weight[k] = s.weight;
-        let r = s.reading;
-        reading[k] = r;
-        k += 1;
+        reading[k] = s.reading;
     }
 }
 
@@ -76,14 +61,9 @@ pub fn put_ranges(
     requires { (count ≤ max_streams) × (count ≤ length ranged.old) × (count ≤ length low.old) × (count ≤ length high.old) }
     ensures { Front ranged_of count streams ranged × Front low_of count streams low × Front high_of count streams high }
 {
-    let mut k: usize = 0;
-    while k < count {
-        let s = streams[k];
-        ranged[k] = digit(s.ranged);
-        let l = s.low;
-        low[k] = l;
-        let h = s.high;
-        high[k] = h;
-        k += 1;
+    for (k, s) in streams[..count].iter().enumerate() {
+        ranged[k] = u8::from(s.ranged);
+        low[k] = s.low;
+        high[k] = s.high;
     }
 }

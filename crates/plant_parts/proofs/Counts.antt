@@ -9,7 +9,7 @@ use borrow.Author.Tests.{lt-ltb, ltb-true, ltb-false, ne_eqb}
 use Rattle.num_bytes.specs.Choice.{refuse_if, first_of}
 use Rattle.num_bytes.proofs.Tests.{by_cases, first_none_right}
 use Rattle.plant_def.specs.declared.Stream.{Stream}
-use Rattle.plant_def.specs.declared.Done.{Done}
+use Rattle.plant_def.specs.Results.{Done}
 use Rattle.plant_def.specs.Limits.{max_streams, longest_file}
 use Rattle.plant_def.specs.Plants.{units_fault, parts_fault}
 use Rattle.plant_def.specs.Says.{padded, PartsWritten, WriteSays}

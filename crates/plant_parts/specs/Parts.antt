@@ -2,7 +2,7 @@
 use Rattle.std.specs.Prelude.{Bool, not, ◌&&◌, List, [], ◌∷◌, ◌++◌, ℤ, pos, ℕ, zero, suc, eqb, ltb, length, get_or}
 use Rattle.num_bytes.specs.Choice.{pick}
 use Rattle.plant_def.specs.declared.Stream.{Stream}
-use Rattle.plant_def.specs.declared.Done.{Done}
+use Rattle.plant_def.specs.Results.{Done}
 use Rattle.plant_def.specs.Limits.{max_streams}
 use Rattle.plant_def.specs.Plants.{no_stream}
 use Rattle.plant_def.specs.Says.{PartsWritten}

@@ -50,13 +50,9 @@ pub fn meters_gathered(
     ensures { result ≡ padded max_streams
         (listed_to (meter_at from.now to.now metered.now weight.now reading.now) n) }
 {
-    let none = unmetered_stream(0, 0);
-    let mut streams = [none; MAX_STREAMS];
-    let mut k: usize = 0;
-    while k < n {
-        let s = meter_at(from, to, metered, weight, reading, k);
-        streams[k] = s;
-        k += 1;
+    let mut streams = [unmetered_stream(0, 0); MAX_STREAMS];
+    for k in 0..n {
+        streams[k] = meter_at(from, to, metered, weight, reading, k);
     }
     streams
 }
@@ -67,14 +63,10 @@ fn range_at(ranged: &[u8], low: &[i32], high: &[i32], s: Stream, k: usize) -> St
     ensures { result ≡ range_at ranged.now low.now high.now s k }
 {
     Stream {
-        from: s.from,
-        to: s.to,
-        metered: s.metered,
-        weight: s.weight,
-        reading: s.reading,
         ranged: ranged[k] != 0,
         low: low[k],
         high: high[k],
+        ..s
     }
 }
 
@@ -90,32 +82,18 @@ pub fn ranges_gathered(
     ensures { result ≡ padded max_streams
         (listed_to (λ k. range_at ranged.now low.now high.now (get_or meters k no_stream) k) n) }
 {
-    let none = unmetered_stream(0, 0);
-    let mut streams = [none; MAX_STREAMS];
-    let mut k: usize = 0;
-    while k < n {
-        let s = meters[k];
-        let t = range_at(ranged, low, high, s, k);
-        streams[k] = t;
-        k += 1;
+    let mut streams = [unmetered_stream(0, 0); MAX_STREAMS];
+    for k in 0..n {
+        streams[k] = range_at(ranged, low, high, meters[k], k);
     }
     streams
-}
-
-fn lesser(a: usize, b: usize) -> usize
-    ensures { result ≡ least a b }
-{
-    if a < b {
-        return a;
-    }
-    b
 }
 
 // A count in a byte: one over the limit stays over it.
 pub fn count_byte(count: usize) -> u8
     ensures { result ≡ held_count count }
 {
-    lesser(count, MAX_STREAMS + 1) as u8
+    count.min(MAX_STREAMS + 1) as u8
 }
 
 // How many streams the slices of ends and meters reach.
@@ -128,21 +106,21 @@ pub fn meters_reach(
 ) -> usize
     ensures { result ≡ meters_reach from.now to.now metered.now weight.now reading.now }
 {
-    let ends = lesser(from.len(), to.len());
-    let meters = lesser(weight.len(), reading.len());
-    lesser(ends, lesser(metered.len(), meters))
+    let ends = from.len().min(to.len());
+    let meters = weight.len().min(reading.len());
+    ends.min(metered.len().min(meters))
 }
 
 // How many streams the slices of ranges reach.
 pub fn ranges_reach(ranged: &[u8], low: &[i32], high: &[i32]) -> usize
     ensures { result ≡ least (length ranged.now) (least (length low.now) (length high.now)) }
 {
-    lesser(ranged.len(), lesser(low.len(), high.len()))
+    ranged.len().min(low.len().min(high.len()))
 }
 
 // How many streams every slice reaches, up to the limit.
 pub fn reached(meters: usize, ranges: usize) -> usize
     ensures { result ≡ least max_streams (least meters ranges) }
 {
-    lesser(MAX_STREAMS, lesser(meters, ranges))
+    MAX_STREAMS.min(meters.min(ranges))
 }

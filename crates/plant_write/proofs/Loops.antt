@@ -10,8 +10,8 @@ use Rattle.num_bytes.specs.Choice.{pick}
 use Rattle.num_bytes.specs.Bytes.{over}
 use Rattle.num_bytes.specs.Inner.{Put}
 use Rattle.num_bytes.proofs.Tests.{picked}
-use Rattle.num_bytes.proofs.Parts.{Laid, laid, lay, room, may_lend, part_from, returned}
-use Rattle.num_bytes.proofs.Rows.{Rows, no_rows, one_row}
+use Rattle.num_bytes.proofs.Parts.{Laid, laid, lay, room, part_from, returned}
+use Rattle.num_bytes.proofs.Rows.{Rows, one_row}
 use Rattle.plant_def.specs.declared.Stream.{Stream}
 use Rattle.plant_def.specs.Limits.{max_streams, site_kind, metered_kind, unmetered_kind, end_kind, ranged_kind, ranged_body, longest_file}
 use Rattle.plant_def.specs.Plants.{no_stream}
@@ -47,10 +47,6 @@ bytes_more i ss h =
 abbrev pub Streams : List Stream → ℕ → List ℕ → List ℕ → ℕ → ℕ → Type 0
 Streams ss k o o₁ at i = Rows (λ (j : ℕ). streams_bytes (take j ss)) (suc ranged_body) k o o₁ at i
 
--- Before the first stream.
-pub no_streams : (ss : List Stream) (k : ℕ) (o : List ℕ) → suc ranged_body * k ≤ length o → Streams ss k o o 0 0
-no_streams ss k o h = no_rows (λ (j : ℕ). streams_bytes (take j ss)) (suc ranged_body) k o refl h
-
 -- One stream more.
 pub one_stream : {ss : List Stream} {k : ℕ} {o o₁ : List ℕ} {at i : ℕ} → Streams ss k o o₁ at i → {last : List ℕ} {m : ℕ} → i < k → k ≤ length ss
     → Put (stream_bytes (get_or ss i no_stream)) (part_from at o₁) last m → Streams ss k o (returned at o₁ last) (at + m) (i + 1)
@@ -74,11 +70,7 @@ streamed n k ss o {m = m} few held wide site p =
     record { listed = l; wide = wide; most = b; so_far = record { bytes = q.bytes; size = q.size ∙ ap (λ (j : ℕ). 2 + j) (sym p.size); fits = omega arith } }
 
 module _ {n k : ℕ} {ss : List Stream} {o o₁ : List ℕ} {m : ℕ} (w : Streamed n k ss o o₁ m) where
-  -- The part behind the streams may be lent.
-  pub end_lend : 2 + m ≤ length o₁
-  end_lend = may_lend w.so_far
-
-  -- There is room in it for the end record.
+  -- There is room for the end record in the part behind the streams.
   pub end_room : 2 ≤ length (part_from (2 + m) o₁)
   end_room = let b = w.most in let l = w.wide in room w.so_far 2 (omega arith)
 

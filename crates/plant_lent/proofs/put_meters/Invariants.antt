@@ -1,6 +1,7 @@
 -- Each turn hands over whether the next stream is metered, its weight and its reading.
 use lib.IntN.{ℤ}
-use Prim.Native.Nat.{ℕ, ◌-◌}
+use Prim.Native.Nat.{ℕ}
+use lib.ListN.{length}
 use Rattle.num_bytes.specs.Choice.{pick}
 use Rattle.plant_def.specs.declared.Stream.{Stream}
 use Rattle.num_lent.proofs.Handing.{Handing}
@@ -17,7 +18,4 @@ read s = s.reading
 
 abbrev pub invariant-loop-k : goal.invariant-loop-k
 invariant-loop-k l =
-    Handing told l.streams l.count l.initial.metered l.metered l.k × Handing weighed l.streams l.count l.initial.weight l.weight l.k × Handing read l.streams l.count l.initial.reading l.reading l.k
-
-abbrev pub decreases-loop-k : goal.decreases-loop-k
-decreases-loop-k l = l.count - l.k
+    Handing told l.s-items (length l.s-items) l.initial.metered l.metered l.k × Handing weighed l.s-items (length l.s-items) l.initial.weight l.weight l.k × Handing read l.s-items (length l.s-items) l.initial.reading l.reading l.k

@@ -1,6 +1,7 @@
 -- Each turn hands over whether the next stream has a range, and the ends of this.
 use lib.IntN.{ℤ}
-use Prim.Native.Nat.{ℕ, ◌-◌}
+use Prim.Native.Nat.{ℕ}
+use lib.ListN.{length}
 use Rattle.num_bytes.specs.Choice.{pick}
 use Rattle.plant_def.specs.declared.Stream.{Stream}
 use Rattle.num_lent.proofs.Handing.{Handing}
@@ -17,7 +18,4 @@ highest s = s.high
 
 abbrev pub invariant-loop-k : goal.invariant-loop-k
 invariant-loop-k l =
-    Handing told l.streams l.count l.initial.ranged l.ranged l.k × Handing lowest l.streams l.count l.initial.low l.low l.k × Handing highest l.streams l.count l.initial.high l.high l.k
-
-abbrev pub decreases-loop-k : goal.decreases-loop-k
-decreases-loop-k l = l.count - l.k
+    Handing told l.s-items (length l.s-items) l.initial.ranged l.ranged l.k × Handing lowest l.s-items (length l.s-items) l.initial.low l.low l.k × Handing highest l.s-items (length l.s-items) l.initial.high l.high l.k

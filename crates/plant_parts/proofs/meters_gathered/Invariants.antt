@@ -1,6 +1,5 @@
 -- Each turn puts the next stream into the array.
 use mathlib.Core.Path.{◌≡◌}
-use Prim.Native.Nat.{◌-◌, ◌≤◌}
 use Rattle.plant_def.specs.Limits.{max_streams}
 use Rattle.plant_def.specs.Says.{padded}
 use Rattle.plant_parts.specs.Parts.{listed_to}
@@ -9,7 +8,4 @@ use Rattle.plant_parts.proofs.meters_gathered.Given as goal
 
 abbrev pub invariant-loop-k : goal.invariant-loop-k
 invariant-loop-k l =
-    (l.k ≤ l.n) × (l.streams ≡ padded max_streams (listed_to (meter_at l.from l.to l.metered l.weight l.reading) l.k))
-
-abbrev pub decreases-loop-k : goal.decreases-loop-k
-decreases-loop-k l = l.n - l.k
+    l.streams ≡ padded max_streams (listed_to (meter_at l.from l.to l.metered l.weight l.reading) l.k)

@@ -2,7 +2,7 @@
 use mathlib.Core.Path.{◌≡◌}
 use mathlib.Core.List.{List}
 use lib.IntN.{ℤ}
-use Prim.Native.Nat.{ℕ, ◌-◌, ◌≤◌}
+use Prim.Native.Nat.{ℕ}
 use lib.ListN.{get_or}
 use Rattle.plant_def.specs.declared.Stream.{Stream}
 use Rattle.plant_def.specs.Limits.{max_streams}
@@ -17,7 +17,4 @@ abbrev pub within : List ℕ → List ℤ → List ℤ → List Stream → ℕ �
 within qs ls hs ms k = range_at qs ls hs (get_or ms k no_stream) k
 
 abbrev pub invariant-loop-k : goal.invariant-loop-k
-invariant-loop-k l = (l.k ≤ l.n) × (l.streams ≡ padded max_streams (listed_to (within l.ranged l.low l.high l.meters) l.k))
-
-abbrev pub decreases-loop-k : goal.decreases-loop-k
-decreases-loop-k l = l.n - l.k
+invariant-loop-k l = l.streams ≡ padded max_streams (listed_to (within l.ranged l.low l.high l.meters) l.k)

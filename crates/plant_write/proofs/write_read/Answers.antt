@@ -1,15 +1,12 @@
--- The slice is long enough, then the reading decides, and the plant writer writes.
-use Rattle.plant_def.proofs.Promise.{too_short, file_bad, file_good}
+-- The plant writer writes what was read.
+use mathlib.Core.Path.{refl, sym, ap, ◌∙◌}
+use Rattle.plant_def.specs.Results.{Read}
+use Rattle.plant_def.specs.Views.{read_as, done_as}
+use Rattle.plant_def.proofs.Promise.{file_good}
 use Rattle.plant_write.proofs.write_read.Goals as goal
-
-pub returns-then-out-lt-LONGEST_FILE : goal.returns-then-out-lt-LONGEST_FILE
-returns-then-out-lt-LONGEST_FILE c g d e = too_short g c.args.out.now c.if-out-lt-LONGEST_FILE.true
-
-pub returns-then-number-ne0 : goal.returns-then-number-ne0
-returns-then-number-ne0 c g d e = let a = c.args in file_bad g a.out.now c.if-out-lt-LONGEST_FILE.false a.read e c.if-number-ne0.true
 
 pub returns : goal.returns
 returns c g d e =
-    let a = c.args in
-    file_good a.out.now c.write_plant.new.file a.read c.write_plant.result
-    c.if-out-lt-LONGEST_FILE.false c.if-number-ne0.false c.write_plant.ensures g d e
+    let y : Read = record { number = 0; plant = c.in_ok-read.field-0 } in
+    file_good c.args.out.now c.write_plant.new.file y (done_as c.write_plant.result)
+    c.if-out-lt-LONGEST_FILE.false refl c.write_plant.ensures g d (sym (ap read_as c.in_ok-read.was) ∙ e)

@@ -1,2 +1,0 @@
--- Laws of a plant's faults.
-pub mod Looking

@@ -1,7 +1,0 @@
--- The lesser of two at a time.
-use mathlib.Core.Path.{ap, ◌∙◌}
-use Rattle.plant_parts.specs.Parts.{least}
-use Rattle.plant_parts.proofs.reached.Goals as goal
-
-pub returns : goal.returns
-returns c = c.lesser-2.ensures ∙ ap (least _) c.lesser.ensures

@@ -1,2 +1,0 @@
--- Laws of the plant reader.
-pub mod ByKind
