@@ -1,59 +1,46 @@
 // Plants moved to the ranged form and home again: a stream, all streams, and the two calls.
 #![tactic(auto)]
 
-ghost use Rattle.std.specs.Prelude.{◌≡◌, map};
+ghost use Rattle.std.specs.Prelude.{◌≡◌};
 ghost use Rattle.ranged_def.specs.Moves.{widened, bared, narrower, narrow_fault, to_ranged, from_ranged, ToSays, FromSays};
-ghost use Rattle.ranged_def.specs.Inner.{moving};
 ghost use Rattle.plant_def.specs.Files.{read_plant};
 ghost use Rattle.plant_def.specs.Says.{read_of};
+ghost use Rattle.plant_def.specs.Refused.{fault_in};
+ghost use Rattle.plant_def.specs.Views.{read_as, done_as};
 
 use plant_def::limits::{MAX_RANGE, MAX_STREAMS};
-use plant_def::{Done, Plant, Read, Stream};
-use plant_frame::refusal;
+use plant_def::refusal::Refusal;
+use plant_def::{Plant, Stream};
 use plant_read::read_plant;
 use plant_write::write_read;
 
 // The widest range for a metered stream without one.
-fn widen(s: Stream) -> Stream
+pub fn widen(s: Stream) -> Stream
     ensures { result ≡ widened s }
 {
-    if !s.metered {
-        return s;
-    }
-    if s.ranged {
+    if !s.metered || s.ranged {
         return s;
     }
     Stream {
-        from: s.from,
-        to: s.to,
-        metered: true,
-        weight: s.weight,
-        reading: s.reading,
         ranged: true,
         low: -MAX_RANGE,
         high: MAX_RANGE,
+        ..s
     }
 }
 
 // No range for a metered stream with one.
-fn bare(s: Stream) -> Stream
+pub fn bare(s: Stream) -> Stream
     ensures { result ≡ bared s }
 {
-    if !s.metered {
-        return s;
-    }
-    if !s.ranged {
+    if !s.metered || !s.ranged {
         return s;
     }
     Stream {
-        from: s.from,
-        to: s.to,
-        metered: true,
-        weight: s.weight,
-        reading: s.reading,
         ranged: false,
         low: 0,
         high: 0,
+        ..s
     }
 }
 
@@ -61,119 +48,53 @@ fn bare(s: Stream) -> Stream
 pub fn narrow(s: Stream) -> bool
     ensures { result ≡ narrower s }
 {
-    if !s.metered {
-        return false;
-    }
-    if !s.ranged {
-        return false;
-    }
-    if -MAX_RANGE < s.low {
-        return true;
-    }
-    s.high < MAX_RANGE
-}
-
-// A stream moved, forward or home.
-pub fn move_one(forth: bool, s: Stream) -> Stream
-    ensures { result ≡ moving forth s }
-{
-    if forth {
-        return widen(s);
-    }
-    bare(s)
-}
-
-// Every stream moved. (The empty records past the last stream stay empty.)
-pub fn move_all(forth: bool, streams: [Stream; MAX_STREAMS]) -> [Stream; MAX_STREAMS]
-    ensures { result ≡ map (moving forth) streams }
-{
-    let mut all = streams;
-    let mut k: usize = 0;
-    while k < MAX_STREAMS {
-        let s = streams[k];
-        let t = move_one(forth, s);
-        all[k] = t;
-        k += 1;
-    }
-    all
+    s.metered && s.ranged && (-MAX_RANGE < s.low || s.high < MAX_RANGE)
 }
 
 // Any range is narrower than the widest: 20.
-pub fn narrow_fault(streams: [Stream; MAX_STREAMS]) -> u8
-    ensures { result ≡ narrow_fault streams }
+pub fn narrow_fault(streams: [Stream; MAX_STREAMS]) -> Result<(), Refusal>
+    ensures { fault_in result ≡ narrow_fault streams }
 {
-    let mut at: usize = 0;
-    while at < MAX_STREAMS {
-        let s = streams[at];
-        let found = narrow(s);
-        if found {
-            return 20;
-        }
-        at += 1;
+    if streams.iter().any(|s| narrow(*s)) {
+        return Err(Refusal::Narrower);
     }
-    0
+    Ok(())
 }
 
-// The plant of a file, moved to the ranged form; or the reader's refusal.
-fn read_forward(file: &[u8]) -> Read
-    ensures { result ≡ read_of (to_ranged (read_plant file.now)) }
+// The plant of a file, moved to the ranged form; or the reader's refusal. (The empty records past the last stream stay empty.)
+fn read_forward(file: &[u8]) -> Result<Plant, Refusal>
+    ensures { read_as result ≡ read_of (to_ranged (read_plant file.now)) }
 {
-    let read = read_plant(file);
-    let number = read.number;
-    if number != 0 {
-        return refusal(number);
-    }
-    let p = read.plant;
-    let streams = p.streams;
-    let all = move_all(true, streams);
-    Read {
-        number: 0,
-        plant: Plant {
-            units: p.units,
-            count: p.count,
-            streams: all,
-        },
-    }
+    let p = read_plant(file)?;
+    Ok(Plant {
+        streams: p.streams.map(widen),
+        ..p
+    })
 }
 
 // The plant of a file, moved home; or the reader's refusal, or 20.
-fn read_home(file: &[u8]) -> Read
-    ensures { result ≡ read_of (from_ranged (read_plant file.now)) }
+fn read_home(file: &[u8]) -> Result<Plant, Refusal>
+    ensures { read_as result ≡ read_of (from_ranged (read_plant file.now)) }
 {
-    let read = read_plant(file);
-    let refused = read.number;
-    if refused != 0 {
-        return refusal(refused);
-    }
-    let p = read.plant;
-    let streams = p.streams;
-    let fault = narrow_fault(streams);
-    if fault != 0 {
-        return refusal(fault);
-    }
-    let all = move_all(false, streams);
-    Read {
-        number: 0,
-        plant: Plant {
-            units: p.units,
-            count: p.count,
-            streams: all,
-        },
-    }
+    let ranged = read_plant(file)?;
+    narrow_fault(ranged.streams)?;
+    Ok(Plant {
+        streams: ranged.streams.map(bare),
+        ..ranged
+    })
 }
 
-// The plant file in the ranged form, at the front of the slice; or a refusal that leaves the slice as it was.
-pub fn to_ranged(file: &[u8], out: &mut [u8]) -> Done
-    ensures { ToSays file.now out.old out.new result }
+// The plant file in the ranged form, at the front of the slice, and how many bytes it takes; or a refusal that leaves the slice as it was.
+pub fn to_ranged(file: &[u8], out: &mut [u8]) -> Result<usize, Refusal>
+    ensures { ToSays file.now out.old out.new (done_as result) }
 {
-    let read = read_forward(file);
-    write_read(read, out)
+    write_read(read_forward(file), out)
 }
 
-// The plant file without its widest ranges, at the front of the slice; or a refusal that leaves the slice as it was.
-pub fn from_ranged(file: &[u8], out: &mut [u8]) -> Done
-    ensures { FromSays file.now out.old out.new result }
+// The plant file without its widest ranges, at the front of the slice, and how many bytes it takes; or a refusal that leaves the slice
+// as it was.
+pub fn from_ranged(file: &[u8], out: &mut [u8]) -> Result<usize, Refusal>
+    ensures { FromSays file.now out.old out.new (done_as result) }
 {
-    let read = read_home(file);
-    write_read(read, out)
+    write_read(read_home(file), out)
 }

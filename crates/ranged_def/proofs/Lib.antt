@@ -1,5 +1,4 @@
 -- Laws of moved plants.
-pub mod Streams
 pub mod Mapped
 pub mod Faultless
 pub mod Reading

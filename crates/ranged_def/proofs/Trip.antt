@@ -12,7 +12,7 @@ use Rattle.num_bytes.specs.Bytes.{all_bytes, over}
 use Rattle.num_bytes.specs.Choice.{pick}
 use Rattle.num_bytes.proofs.Tests.{by_cases, and_left, and_right}
 use Rattle.plant_def.specs.declared.Stream.{Stream}
-use Rattle.plant_def.specs.declared.Done.{Done}
+use Rattle.plant_def.specs.Results.{Done}
 use Rattle.plant_def.specs.Limits.{longest_file, site_kind, end_kind}
 use Rattle.plant_def.specs.Plants.{Plant, limited}
 use Rattle.plant_def.specs.Files.{Got, bad, got, read_plant, stream_bytes, streams_bytes, plant_bytes}

@@ -3,7 +3,7 @@ use Rattle.std.specs.Prelude.{Bool, not, ◌&&◌, ◌||◌, true, false, List, 
 use Rattle.std.specs.Int.Signed.{lt_z}
 use Rattle.num_bytes.specs.Choice.{pick, refuse_if, first_of}
 use Rattle.plant_def.specs.declared.Stream.{Stream}
-use Rattle.plant_def.specs.declared.Done.{Done}
+use Rattle.plant_def.specs.Results.{Done}
 use Rattle.plant_def.specs.Limits.{max_range}
 use Rattle.plant_def.specs.Plants.{Plant, limited}
 use Rattle.plant_def.specs.Files.{Got, bad, got, read_plant}

@@ -2,7 +2,7 @@
 use Rattle.std.specs.Prelude.{◌≡◌, Bool, true, not, ◌&&◌, List, [], ◌∷◌, ℕ, ◌≤◌, length, take}
 use Rattle.num_bytes.specs.Bytes.{all_bytes, over}
 use Rattle.plant_def.specs.declared.Stream.{Stream}
-use Rattle.plant_def.specs.declared.Done.{Done}
+use Rattle.plant_def.specs.Results.{Done}
 use Rattle.plant_def.specs.Limits.{longest_file}
 use Rattle.plant_def.specs.Plants.{Plant, limited}
 use Rattle.plant_def.specs.Files.{got, read_plant, plant_bytes}

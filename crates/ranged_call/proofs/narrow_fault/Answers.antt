@@ -1,44 +1,20 @@
--- Each turn looks at the next stream.
-use native.Mathlib.Omega.{arith}
-use mathlib.Core.Path.{refl, sym, ◌∙◌}
-use Prim.Native.Nat.{◌<◌, ◌≤◌}
-use lib.ListN.{length}
-use Rattle.ranged_def.proofs.Mapped.{narrow_found, narrow_more, narrow_end}
+-- The chain's answer is that of the list.
+use mathlib.Core.Path.{◌≡◌, sym, ◌∙◌}
+use borrow.Author.Rules.{rules}
+use borrow.Author.Tests.{tests}
+use Rattle.std.specs.List.{list_any}
+use Rattle.std.proofs.lemmas.Iterator.{YieldsList-from_slice}
+use Rattle.std.proofs.lemmas.Iterator.Search.{any_from_yields_List}
+use Rattle.ranged_def.specs.Moves.{narrower}
+use Rattle.ranged_def.proofs.Mapped.{some_narrow, no_narrow}
 use Rattle.ranged_call.proofs.narrow_fault.Goals as goal
-use Rattle.ranged_call.proofs.narrow_fault.Goals.{In-loop-at}
+use Rattle.ranged_call.proofs.narrow_fault.Goals.{After-any}
 
--- The stream looked at is one of the array's.
-within : (c : In-loop-at) → c.loop-at.at < length c.args.streams
-within c = omega (arith, c.loop-at-test.true, c.loop-at.invariant.2)
+found : (c : After-any) → c.any.result ≡ list_any narrower c.args.streams
+found c = any_from_yields_List narrower _ _ c.any.result c.any.ensures.ran (YieldsList-from_slice c.args.streams cc) (λ x b q k. search (rules, tests))
 
-pub loop-at-init : goal.loop-at-init
-loop-at-init c = (omega arith, refl, omega arith)
-
-pub offset_bounds-streams-at : goal.offset_bounds-streams-at
-offset_bounds-streams-at c = record { fits = omega (arith, c.loop-at-test.true) }
-
-pub bounds-streams-at : goal.bounds-streams-at
-bounds-streams-at c = c.loop-at-test.true
-
-pub returns-then-found : goal.returns-then-found
-returns-then-found c =
-    let i = c.loop-at.invariant in
-    narrow_found _ _ (within (goal.at.returns-then-found c).In-loop-at) i.1 (sym c.narrow-found.ensures ∙ c.if-found.true)
-
-pub overflow_add-at : goal.overflow_add-at
-overflow_add-at c = record { fits = omega (arith, c.loop-at-test.true) }
-
-pub loop-at-smaller : goal.loop-at-smaller
-loop-at-smaller c = omega (arith, c.loop-at-test.true)
-
-pub loop-at-preserved : goal.loop-at-preserved
-loop-at-preserved c =
-    let i = c.loop-at.invariant in
-    let t = c.loop-at-test.true in
-    (omega (arith, t), narrow_more _ _ (within (goal.at.loop-at-preserved c).In-loop-at) i.1 (sym c.narrow-found.ensures ∙ c.if-found.false), i.2)
+pub returns-then-any : goal.returns-then-any
+returns-then-any c = some_narrow c.args.streams (sym (found (goal.at.returns-then-any c).After-any) ∙ c.if-any.true)
 
 pub returns : goal.returns
-returns c =
-    let i = c.loop-at.invariant in
-    let e : length c.args.streams ≤ c.loop-at.at = omega (arith, c.loop-at-test.false, i.2) in
-    sym (i.1 ∙ narrow_end _ _ e)
+returns c = no_narrow c.args.streams (sym (found (goal.at.returns c).After-any) ∙ c.if-any.false)

@@ -1,19 +1,23 @@
 -- The reader decides, then each stream is moved.
-use mathlib.Core.Path.{◌≡◌}
-use Rattle.plant_def.specs.Files.{read_plant}
-use Rattle.plant_def.specs.Says.{read_of}
+use mathlib.Core.Path.{refl}
+use borrow.Author.Rules.{rules}
+use borrow.Author.Tests.{tests}
+use Rattle.std.specs.Prelude.{Ok}
+use Rattle.std.proofs.lemmas.Result.{err_from_is_err_and}
+use Rattle.plant_def.specs.Plants.{no_stream}
+use Rattle.plant_def.specs.Views.{read_as}
+use Rattle.plant_def.proofs.Numbers.{some_number}
+use Rattle.ranged_def.specs.Moves.{widened}
 use Rattle.ranged_def.proofs.Reading.{forward_bad, forward_good}
+use Rattle.ranged_call.proofs.Mapped.{mapped}
 use Rattle.ranged_call.proofs.read_forward.Goals as goal
-use Rattle.ranged_call.proofs.read_forward.Goals.{After-read_plant-read}
 
--- What was read is what the file says.
-read_in : (c : After-read_plant-read) → c.read_plant-read.result ≡ read_of (read_plant c.args.file.now)
-read_in c = c.read_plant-read.ensures
-
-pub returns-then-number-ne0 : goal.returns-then-number-ne0
-returns-then-number-ne0 c =
-    forward_bad c.args.file.now c.read_plant-read.result (read_in (goal.at.returns-then-number-ne0 c).After-read_plant-read) c.if-number-ne0.true c.refusal.result c.refusal.ensures
+pub returns-in_err-p : goal.returns-in_err-p
+returns-in_err-p c =
+    let p = err_from_is_err_and c.from_residual.result c.from_residual.ensures.1 in
+    rw (p.1, p.2) (forward_bad c.args.file.now _ c.in_err-p.ensures (some_number _) _ refl)
 
 pub returns : goal.returns
 returns c =
-    forward_good c.args.file.now c.read_plant-read.result (read_in (goal.at.returns c).After-read_plant-read) c.if-number-ne0.false c.move_all-all.result c.move_all-all.ensures
+    forward_good c.args.file.now (read_as (Ok c.in_ok-p.p)) c.in_ok-p.ensures refl c.map.result
+    (mapped _ widened no_stream no_stream _ c.in_ok-p.p.streams c.map.result 96 c.map.ensures.items (search rules) (λ p x y q k. search (rules, tests)))

@@ -1,25 +1,28 @@
 -- The reader decides, then the ranges, then each stream is moved.
-use mathlib.Core.Path.{◌≡◌}
-use Rattle.plant_def.specs.Files.{read_plant}
-use Rattle.plant_def.specs.Says.{read_of}
+use mathlib.Core.Path.{refl}
+use borrow.Author.Rules.{rules}
+use borrow.Author.Tests.{tests}
+use Rattle.std.specs.Prelude.{Ok}
+use Rattle.std.proofs.lemmas.Result.{err_from_is_err_and}
+use Rattle.plant_def.specs.Plants.{no_stream}
+use Rattle.plant_def.specs.Views.{read_as}
+use Rattle.plant_def.proofs.Numbers.{some_number}
+use Rattle.ranged_def.specs.Moves.{bared}
 use Rattle.ranged_def.proofs.Reading.{home_bad, home_narrow, home_good}
+use Rattle.ranged_call.proofs.Mapped.{mapped}
 use Rattle.ranged_call.proofs.read_home.Goals as goal
-use Rattle.ranged_call.proofs.read_home.Goals.{After-read_plant-read}
 
--- What was read is what the file says.
-read_in : (c : After-read_plant-read) → c.read_plant-read.result ≡ read_of (read_plant c.args.file.now)
-read_in c = c.read_plant-read.ensures
+pub returns-in_err-ranged : goal.returns-in_err-ranged
+returns-in_err-ranged c =
+    let p = err_from_is_err_and c.from_residual.result c.from_residual.ensures.1 in
+    rw (p.1, p.2) (home_bad c.args.file.now _ c.in_err-ranged.ensures (some_number _) _ refl)
 
-pub returns-then-refused-ne0 : goal.returns-then-refused-ne0
-returns-then-refused-ne0 c =
-    home_bad c.args.file.now c.read_plant-read.result (read_in (goal.at.returns-then-refused-ne0 c).After-read_plant-read) c.if-refused-ne0.true c.refusal.result c.refusal.ensures
-
-pub returns-then-fault-ne0 : goal.returns-then-fault-ne0
-returns-then-fault-ne0 c =
-    home_narrow c.args.file.now c.read_plant-read.result (read_in (goal.at.returns-then-fault-ne0 c).After-read_plant-read) c.if-refused-ne0.false
-    c.narrow_fault-fault.result c.narrow_fault-fault.ensures c.if-fault-ne0.true c.refusal-then-fault-ne0.result c.refusal-then-fault-ne0.ensures
+pub returns-in_err-narrow_fault : goal.returns-in_err-narrow_fault
+returns-in_err-narrow_fault c =
+    let p = err_from_is_err_and c.from_residual-in_err-narrow_fault.result c.from_residual-in_err-narrow_fault.ensures.1 in
+    rw (p.1, p.2) (home_narrow c.args.file.now (read_as (Ok c.in_ok-ranged.ranged)) c.in_ok-ranged.ensures refl _ c.in_err-narrow_fault.ensures (some_number _) _ refl)
 
 pub returns : goal.returns
 returns c =
-    home_good c.args.file.now c.read_plant-read.result (read_in (goal.at.returns c).After-read_plant-read) c.if-refused-ne0.false
-    c.narrow_fault-fault.result c.narrow_fault-fault.ensures c.if-fault-ne0.false c.move_all-all.result c.move_all-all.ensures
+    home_good c.args.file.now (read_as (Ok c.in_ok-ranged.ranged)) c.in_ok-ranged.ensures refl 0 c.in_ok-narrow_fault.ensures refl c.map.result
+    (mapped _ bared no_stream no_stream _ c.in_ok-ranged.ranged.streams c.map.result 96 c.map.ensures.items (search rules) (λ p x y q k. search (rules, tests)))

@@ -1,0 +1,2 @@
+-- Laws of moved arrays.
+pub mod Mapped
