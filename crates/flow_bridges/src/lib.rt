@@ -25,8 +25,7 @@ fn taken_by(labels: &[u8; PLACES], u: usize, v: usize, metered: bool) -> u8
 {
     let a = labels[u];
     let b = labels[v];
-    let most = if a <= b { b } else { a };
-    if metered | (a == b) { 0 } else { most }
+    if metered | (a == b) { 0 } else { a.max(b) }
 }
 
 // The streams on the way between two places, by their bits.
@@ -62,11 +61,8 @@ fn turn(sides: &mut [u64; PLACES], labels: &[u8; PLACES], h: u8, by: u64)
     requires { (length sides.old ≡ places) × (length labels.now ≡ places) }
     ensures { sides.new ≡ turned h by labels.now sides.old }
 {
-    let mut u: usize = 0;
-    while u < PLACES {
-        let x = turned_sides(sides[u], labels[u], h, by);
-        sides[u] = x;
-        u += 1;
+    for (u, x) in sides.iter_mut().enumerate() {
+        *x = turned_sides(*x, labels[u], h, by);
     }
 }
 
@@ -116,19 +112,17 @@ pub fn bridges_of(arcs: &[u8; ARCS], rows: &[u64; ROWS]) -> Bridges
     let mut sides = [0u64; PLACES];
     let mut taken = [0u8; MAX_STREAMS];
     let mut looped: u64 = 1;
-    let mut i: usize = 0;
-    while i < n {
+    for i in 0..n {
         let u = end_at(arcs, 2 * i);
         let v = end_at(arcs, 2 * i + 1);
         let metered = 0 < rows[4 * i];
         let h = taken_by(&labels, u, v, metered);
         taken[i] = h;
         looped |= pass(&mut labels, &mut sides, u, v, metered, h);
-        i += 1;
     }
     Bridges {
-        labels: labels,
-        taken: taken,
-        looped: looped,
+        labels,
+        taken,
+        looped,
     }
 }

@@ -22,10 +22,8 @@ pub fn own_numbers() -> [u8; PLACES]
     ensures { result ≡ own_numbers }
 {
     let mut labels = [0u8; PLACES];
-    let mut own: usize = 0;
-    while own < PLACES {
+    for own in 0..PLACES {
         labels[own] = own as u8;
-        own += 1;
     }
     labels
 }
@@ -45,11 +43,8 @@ pub fn rename(labels: &mut [u8; PLACES], lo: u8, hi: u8)
     requires { length labels.old ≡ places }
     ensures { labels.new ≡ relabelled lo hi labels.old }
 {
-    let mut u: usize = 0;
-    while u < PLACES {
-        let x = renamed_label(labels[u], lo, hi);
-        labels[u] = x;
-        u += 1;
+    for x in labels.iter_mut() {
+        *x = renamed_label(*x, lo, hi);
     }
 }
 
@@ -97,11 +92,8 @@ pub fn own_labels(labels: [u8; PLACES], n: u8) -> u8
     ensures { result ≡ own_labels labels n }
 {
     let mut c: u8 = 1;
-    let mut u: u8 = 0;
-    while u < n {
-        u += 1;
-        let at = u as usize;
-        if labels[at] == u {
+    for u in 1..=n {
+        if labels[u as usize] == u {
             c += 1;
         }
     }
@@ -125,13 +117,11 @@ pub fn group(arcs: &[u8; ARCS], rows: &[u64; ROWS], which: Which) -> [u8; PLACES
 {
     let n = count_of(arcs);
     let mut labels = own_numbers();
-    let mut i: usize = 0;
-    while i < n {
+    for i in 0..n {
         let u = end_at(arcs, 2 * i);
         let v = end_at(arcs, 2 * i + 1);
         let c = counts(which, 0 < rows[4 * i]);
         join(&mut labels, u, v, c);
-        i += 1;
     }
     labels
 }

@@ -4,7 +4,6 @@ use mathlib.Core.Path.{◌≡◌}
 use Prim.Native.Nat.{ℕ, ◌+◌, ◌-◌, ◌*◌, ◌/◌, ◌≤◌, ◌<◌}
 use native.Mathlib.Omega.{arith}
 use borrow.Author.Tests.{ne_eqb, le-leb, lt-leb}
-use lib.Dec.{leb}
 use Rattle.flow_def.specs.Test.{critical_at, verdict_at}
 
 module _ (d c q : ℕ) (some : d ≡ 0 → ⊥) where

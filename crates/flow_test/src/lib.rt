@@ -20,9 +20,7 @@ pub fn adjusted_weight(class: Class, weight: u64) -> u64
 {
     match class {
         Class::Adjusted => weight,
-        Class::AsRead => 0,
-        Class::Given => 0,
-        Class::Withheld => 0,
+        Class::AsRead | Class::Given | Class::Withheld => 0,
     }
 }
 
@@ -31,15 +29,9 @@ pub fn adjusted_weights(p: Plant, classes: [Class; MAX_STREAMS]) -> u64
     requires { Accepted p × (classes ≡ classes_of (plant_of p)) }
     ensures { result ≡ adjusted (plant_of p) }
 {
-    let n = p.count as usize;
     let mut sum: u64 = 0;
-    let mut i: usize = 0;
-    while i < n {
-        let s = p.streams[i];
-        let c = classes[i];
-        let more = adjusted_weight(c, s.weight as u64);
-        sum += more;
-        i += 1;
+    for i in 0..p.count as usize {
+        sum += adjusted_weight(classes[i], p.streams[i].weight as u64);
     }
     sum
 }

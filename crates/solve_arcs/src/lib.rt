@@ -16,7 +16,6 @@ ghost use Rattle.solve_arcs.specs.Cells.{to_cell, next_cell, count_of, margin_ce
 ghost use Rattle.solve_arcs.specs.Margins.{less_of, margin_by, margins_put, shut, reduced_cost};
 ghost use Rattle.solve_arcs.specs.ArcNeeds.{Row, Marginable, Margined};
 
-use num_bytes::minus;
 use plant_def::Stream;
 use plant_def::limits::{MAX_STREAMS, MAX_WEIGHT, PLACES};
 use solve_def::sizes::{FARTHEST, FLOW_SHIFT, MOST_FLOW};
@@ -138,7 +137,7 @@ const SHUT: u64 = 4_611_686_018_427_387_904;
 pub fn lesser(a: u64, b: u64) -> u64
     ensures { result ≡ less_of a b }
 {
-    if b < a { b } else { a }
+    a.min(b)
 }
 
 // The reduced cost of an arc of margin m, from a place of potential p to one of potential r; at least 0 and at most FARTHEST.
@@ -146,7 +145,7 @@ pub fn reduced_cost(m: u64, p: u64, r: u64) -> u64
     requires { (m ≤ shut) × (p ≤ potential_shift) × (r ≤ potential_shift) }
     ensures { (result ≡ reduced_cost m p r) × (result ≤ farthest) }
 {
-    lesser(minus(m + p, r + LIFT), FARTHEST)
+    lesser((m + p).saturating_sub(r + LIFT), FARTHEST)
 }
 
 // The margin of a stream forwards, by its weight, twice its weight times its reading, the greatest amount of its range and its amount.
@@ -204,9 +203,7 @@ pub fn margins_of(
     requires { Marginable count rows.now flows.now delta margins.old }
     ensures { Margined count rows.now flows.now delta 0 margins.new }
 {
-    let mut i: usize = 0;
-    while i < count {
+    for i in 0..count {
         put_margins(rows, margins, i, flows[i], delta);
-        i += 1;
     }
 }

@@ -79,11 +79,9 @@ pub fn lay(
     ensures { Laid streams count arcs.new rows.new }
 {
     arcs[COUNT] = count as u8;
-    let mut i: usize = 0;
-    while i < count {
+    for i in 0..count {
         let s = streams[i];
         list_arcs(arcs, i, s.from, s.to);
         put_row(rows, i, s);
-        i += 1;
     }
 }

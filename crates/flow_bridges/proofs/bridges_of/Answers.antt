@@ -23,7 +23,7 @@ low : (c : In-loop-i) → c.loop-i.i < 96
 low c = let w = c.requires in few w.1 _ (used c w.0 w.1)
 
 pub loop-i-init : goal.loop-i-init
-loop-i-init c = (omega arith, λ p w. passed_none _ _ c.own_numbers-labels.ensures)
+loop-i-init c = λ p w. passed_none _ _ c.own_numbers-labels.ensures
 
 pub overflow_mul-i : goal.overflow_mul-i
 overflow_mul-i c = omega (arith, low c)
@@ -64,7 +64,7 @@ runs c p w =
 pub taken_by-h-requires : goal.taken_by-h-requires
 taken_by-h-requires c =
     let w = c.requires in
-    (u_in (goal.at.taken_by-h-requires c).After-end_at-v, v_in (goal.at.taken_by-h-requires c).After-end_at-v, labels_all w.1.accepted (c.loop-i.invariant.1 w.0 w.1))
+    (u_in (goal.at.taken_by-h-requires c).After-end_at-v, v_in (goal.at.taken_by-h-requires c).After-end_at-v, labels_all w.1.accepted (c.loop-i.invariant w.0 w.1))
 
 pub bounds-taken-i : goal.bounds-taken-i
 bounds-taken-i c = low (goal.at.bounds-taken-i c).In-loop-i
@@ -74,24 +74,22 @@ pass-looped-requires c =
     let p = c.requires.0 in
     let w = c.requires.1 in
     let l = used (goal.at.pass-looped-requires c).In-loop-i p w in
-    let inv = c.loop-i.invariant.1 p w in
+    let inv = c.loop-i.invariant p w in
     let h = c.taken_by-h.ensures _ (runs (goal.at.pass-looped-requires c).After-end_at-v p w) (metered_at w _ l) in
     record { u_lt_places = (u_in (goal.at.pass-looped-requires c).After-end_at-v, v_in (goal.at.pass-looped-requires c).After-end_at-v, labels_all w.accepted inv, sides_all w.accepted inv, taken_in w.accepted inv l _ h); h_value = λ s r m. c.taken_by-h.ensures s r m }
 
 pub loop-i-preserved : goal.loop-i-preserved
-loop-i-preserved c = (
-  omega arith,
-  λ p w.
-      let l = used (goal.at.loop-i-preserved c).In-loop-i p w in
-      let s = get_or p.streams c.loop-i.i no_stream in
-      let r = runs (goal.at.loop-i-preserved c).After-end_at-v p w in
-      let m = metered_at w _ l in
-      passed_more w.accepted (c.loop-i.invariant.1 p w) l _ _ _ _ (c.taken_by-h.ensures s r m) (c.pass-looped.ensures.value s r m) (c.pass-looped.ensures.sides_after s r)
-      (c.pass-looped.ensures.step_says s r m),
-)
+loop-i-preserved c =
+    λ p w.
+    let l = used (goal.at.loop-i-preserved c).In-loop-i p w in
+    let s = get_or p.streams c.loop-i.i no_stream in
+    let r = runs (goal.at.loop-i-preserved c).After-end_at-v p w in
+    let m = metered_at w _ l in
+    passed_more w.accepted (c.loop-i.invariant p w) l _ _ _ _ (c.taken_by-h.ensures s r m) (c.pass-looped.ensures.value s r m) (c.pass-looped.ensures.sides_after s r)
+    (c.pass-looped.ensures.step_says s r m)
 
 pub returns : goal.returns
 returns c = λ p w.
     let at = c.loop-i in
     let e : at.i ≡ p.count = omega (arith, counted w, c.count_of-n.ensures, c.loop-i-test.false) in
-    passed_all w.accepted (at.invariant.1 p w) e
+    passed_all w.accepted (at.invariant p w) e

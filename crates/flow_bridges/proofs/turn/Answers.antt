@@ -12,18 +12,18 @@ use Rattle.flow_def.proofs.BySides.{turned_all}
 use Rattle.flow_bridges.proofs.turn.Goals as goal
 
 pub loop-u-init : goal.loop-u-init
-loop-u-init c = (omega arith, written_none c.requires.0)
+loop-u-init c = written_none c.requires.0
 
 pub loop-u-preserved : goal.loop-u-preserved
 loop-u-preserved c =
     let a = c.args in
-    let w = c.loop-u.invariant.1 in
+    let w = c.loop-u.invariant in
     let u = c.loop-u.u in
     let kept = ap (λ (x : ℕ). pick (eqb (get_or a.labels.now u 0) a.h) (bit_xor x a.by) x) (w.rest u (omega arith)) in
-    (omega arith, written_put w (omega arith) _ (c.turned_sides-x.ensures ∙ kept))
+    written_put w (omega arith) _ (c.turned_sides.ensures ∙ kept)
 
 pub returns : goal.returns
 returns c =
     let e : c.loop-u.u ≡ places = omega arith in
     let a = c.args in
-    turned_all a.h a.by a.labels.now _ _ (rw e at c.loop-u.invariant.1)
+    turned_all a.h a.by a.labels.now _ _ (rw e at c.loop-u.invariant)

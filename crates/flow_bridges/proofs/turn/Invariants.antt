@@ -1,5 +1,4 @@
 -- `flow_bridges::turn` meets its contract: the places passed are turned, the others are as they were.
-use Prim.Native.Nat.{◌≤◌, ◌-◌}
 use lib.Bits.{bit_xor}
 use lib.Dec.{eqb}
 use lib.ListN.{get_or}
@@ -9,7 +8,4 @@ use Rattle.num_bytes.proofs.Lists.{Written}
 use Rattle.flow_bridges.proofs.turn.Given as goal
 
 abbrev pub invariant-loop-u : goal.invariant-loop-u
-invariant-loop-u l = (l.u ≤ places) × Written 0 places (λ k x. pick (eqb (get_or l.labels k 0) l.h) (bit_xor x l.by) x) l.initial.sides l.sides l.u
-
-abbrev pub decreases-loop-u : goal.decreases-loop-u
-decreases-loop-u l = places - l.u
+invariant-loop-u l = Written 0 places (λ k x. pick (eqb (get_or l.labels k 0) l.h) (bit_xor x l.by) x) l.initial.sides l.sides l.u

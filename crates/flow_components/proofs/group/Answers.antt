@@ -20,7 +20,7 @@ low : (c : In-loop-i) → c.loop-i.i < 96
 low c = let w = c.requires in few w.1 _ (used c w.0 w.1)
 
 pub loop-i-init : goal.loop-i-init
-loop-i-init c = (omega arith, λ p w. groups_none _ _ _ c.own_numbers-labels.ensures)
+loop-i-init c = λ p w. groups_none _ _ _ c.own_numbers-labels.ensures
 
 pub overflow_mul-i : goal.overflow_mul-i
 overflow_mul-i c = omega (arith, low c)
@@ -50,23 +50,21 @@ pub join-requires : goal.join-requires
 join-requires c =
     let w = c.requires in
     let l = used (goal.at.join-requires c).In-loop-i w.0 w.1 in
-    (rw c.end_at-u.ensures (from_low w.1 _ l), rw c.end_at-v.ensures (to_low w.1 _ l), (c.loop-i.invariant.1 w.0 w.1).long)
+    (rw c.end_at-u.ensures (from_low w.1 _ l), rw c.end_at-v.ensures (to_low w.1 _ l), (c.loop-i.invariant w.0 w.1).long)
 
 pub loop-i-preserved : goal.loop-i-preserved
 loop-i-preserved c =
-    let at = c.loop-i in (
-      omega arith,
-      λ p w.
-          let l = used (goal.at.loop-i-preserved c).In-loop-i p w in
-          let listed : at.i < length (plant_of p).streams = rw (all_listed p w.accepted) l in
-          let from = sym (c.end_at-u.ensures ∙ from_at w at.i l) in
-          let to = sym (c.end_at-v.ensures ∙ to_at w at.i l) in
-          let counts = c.counts-c.ensures at.i _ (metered_at w at.i l) in
-          rw (add-one at.i) ((c.join.ensures _ from to).next _ _ at.i (ends_in_lem p w.accepted) listed (listed_at p w.accepted at.i l) (sym counts) (at.invariant.1 p w)),
-    )
+    let at = c.loop-i in
+    λ p w.
+    let l = used (goal.at.loop-i-preserved c).In-loop-i p w in
+    let listed : at.i < length (plant_of p).streams = rw (all_listed p w.accepted) l in
+    let from = sym (c.end_at-u.ensures ∙ from_at w at.i l) in
+    let to = sym (c.end_at-v.ensures ∙ to_at w at.i l) in
+    let counts = c.counts-c.ensures at.i _ (metered_at w at.i l) in
+    rw (add-one at.i) ((c.join.ensures _ from to).next _ _ at.i (ends_in_lem p w.accepted) listed (listed_at p w.accepted at.i l) (sym counts) (at.invariant p w))
 
 pub returns : goal.returns
 returns c = λ p w.
     let at = c.loop-i in
     let e : at.i ≡ p.count = omega (arith, counted w, c.count_of-n.ensures, c.loop-i-test.false) in
-    rw e at (at.invariant.1 p w)
+    rw e at (at.invariant p w)

@@ -7,17 +7,17 @@ use Rattle.num_bytes.proofs.Lists.{written_none, written_put}
 use Rattle.flow_def.proofs.Labels.{renamed_all}
 use Rattle.flow_components.proofs.rename.Goals as goal
 
-pub loop-u-init : goal.loop-u-init
-loop-u-init c = (omega arith, written_none c.requires)
+pub loop-x-init : goal.loop-x-init
+loop-x-init c = written_none c.requires
 
-pub loop-u-preserved : goal.loop-u-preserved
-loop-u-preserved c =
+pub loop-x-preserved : goal.loop-x-preserved
+loop-x-preserved c =
     let a = c.args in
-    let at = c.loop-u in
-    let kept = ap (renamed a.lo a.hi) (at.invariant.1.rest at.u (omega arith)) in
-    (omega arith, written_put at.invariant.1 (omega arith) _ (c.renamed_label-x.ensures ∙ kept))
+    let at = c.loop-x in
+    let kept = ap (renamed a.lo a.hi) (at.invariant.rest at.x-index (omega arith)) in
+    written_put at.invariant (omega arith) _ (c.renamed_label.ensures ∙ kept)
 
 pub returns : goal.returns
 returns c =
-    let e : c.loop-u.u ≡ places = omega arith in
-    renamed_all _ _ _ _ c.requires (rw e at c.loop-u.invariant.1)
+    let e : c.loop-x.x-index ≡ places = omega arith in
+    renamed_all _ _ _ _ c.requires (rw e at c.loop-x.invariant)

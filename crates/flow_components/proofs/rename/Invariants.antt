@@ -1,12 +1,8 @@
 -- `flow_components::rename` meets its contract: the labels passed are renamed, the others are as they were.
-use Prim.Native.Nat.{◌≤◌, ◌-◌}
 use Rattle.plant_def.specs.Limits.{places}
 use Rattle.flow_def.specs.Labels.{renamed}
 use Rattle.num_bytes.proofs.Lists.{Written}
 use Rattle.flow_components.proofs.rename.Given as goal
 
-abbrev pub invariant-loop-u : goal.invariant-loop-u
-invariant-loop-u l = (l.u ≤ places) × Written 0 places (λ k x. renamed l.lo l.hi x) l.initial.labels l.labels l.u
-
-abbrev pub decreases-loop-u : goal.decreases-loop-u
-decreases-loop-u l = places - l.u
+abbrev pub invariant-loop-x : goal.invariant-loop-x
+invariant-loop-x l = Written 0 places (λ k x. renamed l.lo l.hi x) l.initial.labels l.labels l.x-index

@@ -13,4 +13,4 @@ less_most : (a b : ℕ) → less_of a b ≤ b
 less_most a b = picked (λ (x : ℕ). x ≤ b) (ltb b a) b a (λ o. omega arith) (λ o. ltb-false b a o)
 
 pub returns : goal.returns
-returns c = (c.lesser.ensures ∙ ap (λ (x : ℕ). less_of x farthest) c.minus.ensures, rw c.lesser.ensures (less_most c.minus.result farthest))
+returns c = (c.lesser.ensures ∙ ap (λ (x : ℕ). less_of x farthest) c.saturating_sub.ensures, rw c.lesser.ensures (less_most c.saturating_sub.result farthest))

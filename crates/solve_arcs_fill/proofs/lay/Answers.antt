@@ -23,18 +23,18 @@ overflow_cast-arcs c = omega (arith, c.requires.0.within.few_streams)
 pub loop-i-init : goal.loop-i-init
 loop-i-init c =
     let l = listed_counted (starts_in c.args.streams c.args.count) (ends_in c.args.streams c.args.count) c.args.arcs.now c.args.count c.requires.1 c.requires.2 in
-    (omega arith, l.0, l.1, rowed_none _ _ c.requires.3)
+    (l.0, l.1, rowed_none _ _ c.requires.3)
 
 pub bounds-streams-i : goal.bounds-streams-i
 bounds-streams-i c = few c
 
 pub list_arcs-requires : goal.list_arcs-requires
 list_arcs-requires c =
-    (c.loop-i.invariant.1.long, few (goal.at.list_arcs-requires c).In-loop-i, omega (arith, (within (goal.at.list_arcs-requires c).In-loop-i).from_in), omega (arith, (within (goal.at.list_arcs-requires c).In-loop-i).to_in))
+    (c.loop-i.invariant.0.long, few (goal.at.list_arcs-requires c).In-loop-i, omega (arith, (within (goal.at.list_arcs-requires c).In-loop-i).from_in), omega (arith, (within (goal.at.list_arcs-requires c).In-loop-i).to_in))
 
 pub put_row-requires : goal.put_row-requires
 put_row-requires c =
-    (c.loop-i.invariant.3.long, few (goal.at.put_row-requires c).In-loop-i, within (goal.at.put_row-requires c).In-loop-i)
+    (c.loop-i.invariant.2.long, few (goal.at.put_row-requires c).In-loop-i, within (goal.at.put_row-requires c).In-loop-i)
 
 pub loop-i-preserved : goal.loop-i-preserved
 loop-i-preserved c =
@@ -49,14 +49,13 @@ loop-i-preserved c =
     let fv : v < places = omega (arith, w.to_in) in
     let r = c.put_row.ensures in
     rw (c.list_arcs.ensures, r.0) (
-      omega arith,
-      arc_step at.i u v _ _ at.arcs (few (goal.at.loop-i-preserved c).In-loop-i) fu fv at.invariant.1.long _ _ starts ends refl refl at.invariant.1,
-      count_kept at.i u v _ _ at.arcs (few (goal.at.loop-i-preserved c).In-loop-i) fu fv at.invariant.1.long ∙ at.invariant.2,
-      rowed_more at.i _ _ _ _ at.rows (few (goal.at.loop-i-preserved c).In-loop-i) at.invariant.3.long streams refl refl (omega (arith, r.1)) refl refl at.invariant.3,
+      arc_step at.i u v _ _ at.arcs (few (goal.at.loop-i-preserved c).In-loop-i) fu fv at.invariant.0.long _ _ starts ends refl refl at.invariant.0,
+      count_kept at.i u v _ _ at.arcs (few (goal.at.loop-i-preserved c).In-loop-i) fu fv at.invariant.0.long ∙ at.invariant.1,
+      rowed_more at.i _ _ _ _ at.rows (few (goal.at.loop-i-preserved c).In-loop-i) at.invariant.2.long streams refl refl (omega (arith, r.1)) refl refl at.invariant.2,
     )
 
 pub returns : goal.returns
 returns c =
     let at = c.loop-i in
     let e : at.i ≡ c.args.count = omega arith in
-    record { along = laid_arcs _ c.args.count c.requires.0 _ (rw e at at.invariant.1) at.invariant.2; rowed = rw e at at.invariant.3 }
+    record { along = laid_arcs _ c.args.count c.requires.0 _ (rw e at at.invariant.0) at.invariant.1; rowed = rw e at at.invariant.2 }
