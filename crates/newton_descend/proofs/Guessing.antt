@@ -1,5 +1,6 @@
 -- One group or one stream more: the least change, the groups that fall, and what is brought into them.
-use Rattle.std.proofs.Common.{◌≡◌, ℕ, ◌+◌, ◌*◌, ◌^◌, Bool, true, false, ◌&&◌, leb, List, get_or, sym, refl, ap, ◌∙◌, add-one}
+use Rattle.std.proofs.Common.{◌≡◌, ℕ, zero, suc, ◌+◌, ◌*◌, ◌^◌, ◌<◌, ◌≤◌, Bool, true, false, ◌&&◌, leb, List, length, get_or, take, arith, sym, refl, ap, ◌∙◌, add-one}
+use Rattle.std.proofs.lemmas.List.{length-take-le, get_or-take}
 use lib.Bits.{bit_or}
 use lib.Ieee.{Float, nan, binary64, add, div}
 use Rattle.num_bytes.specs.Choice.{pick}
@@ -10,6 +11,7 @@ use Rattle.solve_def.specs.Model.{masked}
 use Rattle.solve_def.proofs.Marked.{masked_long}
 use Rattle.newton_descend.specs.Nets.{none, highest_to}
 use Rattle.newton_descend.specs.Descents.{two}
+use Rattle.newton_descend.proofs.Steps.{highest_front}
 use Rattle.newton_descend.specs.Guesses.{smaller, lowest_to, halfway_of, set_to, falls, fallen_of, least_into, into_at, into_to, crowded_by, guess_by, marks_of}
 
 -- Before the first group the least is 0;
@@ -21,6 +23,12 @@ lowest_none xs = refl
 pub lowest_more : (xs : List Float) (n : ℕ) (a b : Float) → a ≡ lowest_to xs n → b ≡ smaller a (get_or xs n nan) → b ≡ lowest_to xs (n + 1)
 unfolding lowest_to
 lowest_more xs n a b e f = rw (add-one n) (f ∙ ap (λ (x : Float). smaller x (get_or xs n nan)) e)
+
+-- The groups after the first n have no part in it.
+pub lowest_front : (xs : List Float) (n k : ℕ) → k ≤ n → lowest_to (take n xs) k ≡ lowest_to xs k
+unfolding lowest_to
+lowest_front xs n zero h = refl
+lowest_front xs n (suc k) h = rw (lowest_front xs n k (omega arith), get_or-take n xs k nan (omega arith))
 
 -- Halfway between both.
 pub halfway_is : (ws : List Float) (n : ℕ) (a b : Float) → a ≡ highest_to ws n → b ≡ lowest_to ws n → div binary64 (add binary64 a b) two ≡ halfway_of ws n
@@ -36,9 +44,22 @@ pub set_more : (test : ℕ → Bool) (n bits own : ℕ) (b : Bool) → bits ≡ 
 unfolding set_to
 set_more test n bits own b e f g = rw (add-one n, e, f, g)
 
+-- Tests that agree below n have one set.
+pub set_same : (f g : ℕ → Bool) (n : ℕ) → ((k : ℕ) → k < n → f k ≡ g k) → set_to f n ≡ set_to g n
+unfolding set_to
+set_same f g zero h = refl
+set_same f g (suc n) h = rw (set_same f g n (λ k l. h k (omega arith)), h n (omega arith))
+
 -- All n groups are looked at.
 pub fallen_all : (ws : List Float) (middle : Float) (n bits : ℕ) → middle ≡ halfway_of ws n → bits ≡ set_to (falls ws middle) n → bits ≡ fallen_of ws n
 fallen_all ws middle n bits e f = f ∙ ap (λ (m : Float). set_to (falls ws m) n) e
+
+-- The groups after the first n have no part in it.
+pub fallen_front : (ws : List Float) (n : ℕ) → n ≤ length ws → fallen_of (take n ws) (length (take n ws)) ≡ fallen_of ws n
+fallen_front ws n h =
+    let e : n ≤ n = omega arith in
+    rw (length-take-le n ws h)
+    (set_same (falls (take n ws) (halfway_of (take n ws) n)) (falls ws (halfway_of ws n)) n (λ k l. rw (get_or-take n ws k nan l, highest_front ws n n e, lowest_front ws n n e)))
 
 -- What stream k brings in at least, by whether its ends are in the set.
 pub into_is : (es : List ℕ) (ms : List Float) (bits k g h : ℕ) (a b : Bool) (x : Float) → g ≡ get_or es (2 * k) 0 → h ≡ get_or es (2 * k + 1) 0

@@ -1,19 +1,10 @@
 -- One place or one stream more: the greatest, the sum of products, potentials moved, and nets.
-use Rattle.std.proofs.Common.{◌≡◌, ℕ, zero, suc, ◌+◌, ◌*◌, ◌≤◌, true, false, List, length, get_or, set, replicate, refl, ap, ◌∙◌, add-one, arith, length-set}
-use lib.ListN.{length-replicate, get_or-replicate}
-use lib.Ieee.{Float, nan, binary64, neg, add, sub, mul, lt}
+use Rattle.std.proofs.Common.{◌≡◌, ℕ, zero, suc, ◌+◌, ◌*◌, ◌≤◌, min, List, length, get_or, set, take, replicate, refl, ap, ◌∙◌, add-one, arith}
+use lib.Ieee.{Float, nan, binary64, neg, add, sub, mul}
+use Rattle.std.proofs.lemmas.List.{length-take, get_or-take}
 use Rattle.plant_def.specs.Limits.{places}
-use Rattle.num_bytes.proofs.Lists.{Written, written_all}
 use Rattle.newton_laplacian.specs.Amounts.{amount_by, brought_in}
-use Rattle.newton_descend.specs.Nets.{none, larger, highest_to, greatest_to, product_to, moved_to, advanced_to, brought_to, brought, nets_to}
-
--- The greater of two: the second, where the first is less,
-pub larger_taken : (a b : Float) → lt a b ≡ true → b ≡ larger a b
-larger_taken a b t = rw t
-
--- and else the first.
-pub larger_left : (a b : Float) → lt a b ≡ false → a ≡ larger a b
-larger_left a b t = rw t
+use Rattle.newton_descend.specs.Nets.{none, larger, highest_to, greatest_to, product_to, moved_to, brought_to, brought, nets_to}
 
 -- Before the first place the greatest is 0;
 pub highest_none : (xs : List Float) → none ≡ highest_to xs 0
@@ -24,6 +15,12 @@ highest_none xs = refl
 pub highest_more : (xs : List Float) (n : ℕ) (a b : Float) → a ≡ highest_to xs n → b ≡ larger a (get_or xs n nan) → b ≡ highest_to xs (n + 1)
 unfolding highest_to
 highest_more xs n a b e f = rw (add-one n) (f ∙ ap (λ (x : Float). larger x (get_or xs n nan)) e)
+
+-- The places after the first n have no part in it.
+pub highest_front : (xs : List Float) (n k : ℕ) → k ≤ n → highest_to (take n xs) k ≡ highest_to xs k
+unfolding highest_to
+highest_front xs n zero h = refl
+highest_front xs n (suc k) h = rw (highest_front xs n k (omega arith), get_or-take n xs k nan (omega arith))
 
 -- Before the first place the greatest size is 0.
 pub greatest_none : (zs : List Float) → none ≡ greatest_to zs 0
@@ -47,6 +44,19 @@ pub product_more : (xs ys : List Float) (n : ℕ) (a : Float) → a ≡ product_
 unfolding product_to
 product_more xs ys n a e = rw (add-one n) (ap (λ (x : Float). add binary64 x (mul binary64 (get_or xs n nan) (get_or ys n nan))) e)
 
+-- The places after the first n have no part in it:
+pub product_front : (xs ys : List Float) (n k : ℕ) → k ≤ n → product_to (take n xs) (take n ys) k ≡ product_to xs ys k
+unfolding product_to
+product_front xs ys n zero h = refl
+product_front xs ys n (suc k) h = rw (product_front xs ys n k (omega arith), get_or-take n xs k nan (omega arith), get_or-take n ys k nan (omega arith))
+
+-- the first n alone have that sum.
+pub product_fronts : (xs ys : List Float) (n : ℕ) → n ≤ length xs → n ≤ length ys
+    → product_to (take n xs) (take n ys) (min (length (take n xs)) (length (take n ys))) ≡ product_to xs ys n
+product_fronts xs ys n h g =
+    let e : min (length (take n xs)) (length (take n ys)) ≡ n = omega (arith, length-take n xs, length-take n ys) in
+    rw e (product_front xs ys n n (omega arith))
+
 module _ (ps ws : List Float) (t : Float) where
   -- Before the first place no potential is moved,
   pub moved_none : (rs : List Float) → rs ≡ moved_to ps ws t rs 0
@@ -59,48 +69,17 @@ module _ (ps ws : List Float) (t : Float) where
   unfolding moved_to
   moved_more rs n r e = rw (add-one n) (ap (λ (x : List Float). set x n (add binary64 (get_or ps n nan) (mul binary64 t (get_or ws n nan)))) e)
 
-  -- Potentials moved in place: before the first place none is moved,
-  pub advanced_none : ps ≡ advanced_to ps ws t 0
-  unfolding advanced_to
-  advanced_none = refl
-
-  -- one place more has its own moved,
-  pub advanced_more : (n : ℕ) (r : List Float) → r ≡ advanced_to ps ws t n
-      → set r n (add binary64 (get_or r n nan) (mul binary64 t (get_or ws n nan))) ≡ advanced_to ps ws t (n + 1)
-  unfolding advanced_to
-  advanced_more n r e = rw (add-one n) (ap (λ (x : List Float). set x n (add binary64 (get_or x n nan) (mul binary64 t (get_or ws n nan)))) e)
-
-  -- and there are as many as before.
-  pub advanced_long : (n : ℕ) → length (advanced_to ps ws t n) ≡ length ps
-  unfolding advanced_to
-  advanced_long zero = refl
-  advanced_long (suc n) = length-set (advanced_to ps ws t n) n _ ∙ advanced_long n
-
--- All nets are written over.
-pub level_all : {before now : List Float} → Written nan places (λ k x. none) before now places → now ≡ replicate places none
-level_all w = written_all w (replicate places none) (length-replicate places none) (λ k l. get_or-replicate places k none nan l)
-
 module _ (es : List ℕ) (ms ps : List Float) where
   -- Before the first stream every net is 0;
   pub nets_none : replicate places none ≡ nets_to es ms ps 0
   unfolding nets_to
   nets_none = refl
 
-  -- one stream more takes its amount from the group of its start and brings it to that of its end;
+  -- one stream more takes its amount from the group of its start and brings it to that of its end.
   pub nets_more : (k : ℕ) (zs : List Float) → zs ≡ nets_to es ms ps k
       → brought es ms ps k zs ≡ nets_to es ms ps (k + 1)
   unfolding nets_to
   nets_more k zs e = rw (add-one k) (ap (brought es ms ps k) e)
-
-  -- and every place has a net.
-  pub nets_long : (k : ℕ) → length (nets_to es ms ps k) ≡ places
-  unfolding nets_to
-  nets_long zero = length-replicate places none
-  nets_long (suc k) = simp length-set (nets_long k)
-
--- All n are done.
-pub all_done : (n u : ℕ) → u ≤ n → n ≤ u → u ≡ n
-all_done n u h l = omega arith
 
 -- What a stream carries is brought from group to group.
 pub brought_is : (es : List ℕ) (ms ps zs : List Float) (k g h : ℕ) (x y : Float) → g ≡ get_or es (2 * k) 0 → h ≡ get_or es (2 * k + 1) 0

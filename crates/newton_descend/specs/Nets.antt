@@ -34,13 +34,6 @@ unfoldable pub moved_to : List Float → List Float → Float → List Float →
 moved_to ps ws t rs zero = rs
 moved_to ps ws t rs (suc n) = slice_set (moved_to ps ws t rs n) n (add binary64 (slice_index_or ps n nan) (mul binary64 t (slice_index_or ws n nan)))
 
--- The first n potentials are moved along a direction by the factor t.
-unfoldable pub advanced_to : List Float → List Float → Float → ℕ → List Float
-advanced_to ps ws t zero = ps
-advanced_to ps ws t (suc n) =
-    let rs = advanced_to ps ws t n in
-    slice_set rs n (add binary64 (slice_index_or rs n nan) (mul binary64 t (slice_index_or ws n nan)))
-
 -- What stream k carries between the potentials of its groups.
 abbrev pub carried : List ℕ → List Float → List Float → ℕ → Float
 carried es ms ps k = brought_in ms k (amount_by ms k (sub binary64 (slice_index_or ps (slice_index es (2 * k + 1)) nan) (slice_index_or ps (slice_index es (2 * k)) nan)))

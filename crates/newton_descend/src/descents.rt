@@ -1,22 +1,17 @@
 // Newton's method on the dual of the real-number problem: potentials whose clamped amounts balance. What they cost is convex and its slope
 // along a direction is the sum of nets times changes, which rises; so a step is as long as the slope is not above 0.
-ghost use Rattle.std.specs.Prelude.{◌≡◌, length};
-ghost use Rattle.plant_def.specs.Limits.{places};
+ghost use Rattle.std.specs.Prelude.{◌≡◌};
 ghost use Rattle.newton_laplacian.specs.Ends.{Gathered};
 ghost use Rattle.newton_laplacian.specs.Cells.{Fits};
 ghost use Rattle.newton_descend.specs.Descents.{slope_at, length_between, narrowed_by, step_length};
 
 use crate::guesses::guess;
-use crate::nets::{advance, greatest_net, moved, nets_at, product};
+use crate::nets::{Streams, greatest_net, moved, nets_at, product};
 use newton_laplacian::equations::{direction, first_gathered};
-use newton_laplacian::{ENDS, METERS};
 use plant_def::limits::PLACES;
 
 // How many steps there are at most, how near to 0 the nets have to come, and how often the length of a step is sought.
 const STEPS: usize = 23;
-
-// What is left of a division by 4 at the second step.
-const SECOND: usize = 2;
 
 const NEAR: f64 = 4.0;
 
@@ -32,23 +27,14 @@ struct Bracket {
 }
 
 // The slope after a step of length t.
-fn slope(
-    ends: &[u8; ENDS],
-    meters: &[f64; METERS],
-    count: usize,
-    potentials: &[f64; PLACES],
-    way: &[f64; PLACES],
-    n: usize,
-    t: f64,
-) -> f64
-    requires { Gathered n ends.now meters.now count }
-    ensures { result ≡ slope_at ends.now meters.now count potentials.now way.now n t }
+fn slope(streams: Streams, potentials: &[f64; PLACES], way: &[f64; PLACES], n: usize, t: f64) -> f64
+    requires { Gathered n streams.ends.now streams.meters.now streams.count }
+    ensures { result ≡ slope_at streams.entry.ends.now streams.entry.meters.now streams.entry.count potentials.now way.now n t }
 {
     let mut there = [0.0f64; PLACES];
     moved(potentials, way, t, n, &mut there);
-    let mut nets = [0.0f64; PLACES];
-    nets_at(ends, meters, count, &there, &mut nets);
-    product(&nets, way, n)
+    let nets = nets_at(streams, &there);
+    product(&nets[..n], &way[..n])
 }
 
 // A length between two: halfway each third time, else where a straight line has the slope 0.
@@ -56,9 +42,10 @@ fn between(b: Bracket, trial: usize) -> f64
     ensures { result ≡ length_between b trial }
 {
     if trial % 3 == 2 {
-        return (b.short + b.long) / 2.0;
+        (b.short + b.long) / 2.0
+    } else {
+        b.short - (b.long - b.short) * b.falling / (b.rising - b.falling)
     }
-    b.short - (b.long - b.short) * b.falling / (b.rising - b.falling)
 }
 
 // The bracket with the slope at t known.
@@ -66,35 +53,32 @@ fn narrowed(b: Bracket, t: f64, at: f64) -> Bracket
     ensures { result ≡ narrowed_by b t at }
 {
     if at > 0.0 {
-        return Bracket {
-            short: b.short,
+        Bracket {
             long: t,
-            falling: b.falling,
             rising: at,
-        };
-    }
-    Bracket {
-        short: t,
-        long: b.long,
-        falling: at,
-        rising: b.rising,
+            ..b
+        }
+    } else {
+        Bracket {
+            short: t,
+            falling: at,
+            ..b
+        }
     }
 }
 
-// How long a step is: 1 where the slope is not above 0 there, else until it is within a tenth of what it was at first.
+// How long a step is: 1 if the slope is not above 0 there, else until it is within a tenth of what it was at first.
 fn step_length(
-    ends: &[u8; ENDS],
-    meters: &[f64; METERS],
-    count: usize,
+    streams: Streams,
     potentials: &[f64; PLACES],
     way: &[f64; PLACES],
     n: usize,
     first: f64,
 ) -> f64
-    requires { Gathered n ends.now meters.now count }
-    ensures { result ≡ step_length (slope_at ends.now meters.now count potentials.now way.now n) first }
+    requires { Gathered n streams.ends.now streams.meters.now streams.count }
+    ensures { result ≡ step_length (slope_at streams.entry.ends.now streams.entry.meters.now streams.entry.count potentials.now way.now n) first }
 {
-    let whole = slope(ends, meters, count, potentials, way, n, 1.0);
+    let whole = slope(streams, potentials, way, n, 1.0);
     if !(whole > 0.0) {
         return 1.0;
     }
@@ -104,70 +88,71 @@ fn step_length(
         falling: first,
         rising: whole,
     };
-    let mut trial: usize = 0;
-    while trial < TRIALS {
+    for trial in 0..TRIALS {
         let t = between(b, trial);
-        b = narrowed(b, t, slope(ends, meters, count, potentials, way, n, t));
+        b = narrowed(b, t, slope(streams, potentials, way, n, t));
         if b.falling > 0.1 * first {
             return b.short;
         }
-        trial += 1;
     }
     b.short
 }
 
-// A guess at every fourth step from the second on; else 0. At the first one few sets of streams are at the ends of their ranges, and a
-// guess at each step would slow plants whose ranges can be kept.
-fn guess_at(
-    left: usize,
-    ends: &[u8; ENDS],
-    meters: &[f64; METERS],
-    count: usize,
-    way: &[f64; PLACES],
-    n: usize,
-) -> u64
-    requires { Gathered n ends.now meters.now count }
+// A guess at every fourth step, from the second on (the first is step 0). At the first one few sets of streams are at the ends of their
+// ranges, and a guess at each step would slow plants whose ranges can be kept.
+fn guess_at(step: usize, streams: Streams, way: &[f64; PLACES], n: usize) -> Option<u64>
+    requires { Gathered n streams.ends.now streams.meters.now streams.count }
 {
-    if left % 4 != SECOND {
-        return 0;
+    if step % 4 != 1 {
+        return None;
     }
-    guess(ends, meters, count, way, n)
+    let bits = guess(streams.ends, streams.meters, streams.count, way, n);
+    (bits != 0).then_some(bits)
 }
 
 // Real potentials of n places, one for each label: at first without ranges, by equations that are empty, then step by step with them.
-// Where a set of labels looks overfull, that set as bits; else 0.
-pub fn descend(
+// If a set of labels looks overfull, that set as bits.
+pub(super) fn descend(
     a: &mut [f64],
-    ends: &[u8; ENDS],
-    meters: &[f64; METERS],
-    count: usize,
+    streams: Streams,
     n: usize,
     potentials: &mut [f64; PLACES],
-) -> u64
-    requires { Gathered n ends.now meters.now count × Fits n a.old × (length potentials.old ≡ places) }
-    ensures { length potentials.new ≡ places }
+) -> Option<u64>
+    requires { Gathered n streams.ends.now streams.meters.now streams.count × Fits n a.old }
 {
-    first_gathered(a, ends, meters, count, n, potentials);
-    let mut nets = [0.0f64; PLACES];
+    first_gathered(
+        a,
+        streams.ends,
+        streams.meters,
+        streams.count,
+        n,
+        potentials,
+    );
     let mut way = [0.0f64; PLACES];
-    let mut left = STEPS;
-    while 0 < left {
-        nets_at(ends, meters, count, potentials, &mut nets);
-        if greatest_net(&nets, n) < NEAR {
-            return 0;
+    for step in 0..STEPS {
+        let nets = nets_at(streams, potentials);
+        if greatest_net(&nets[..n]) < NEAR {
+            return None;
         }
-        direction(a, ends, meters, count, n, potentials, &mut way);
-        let first = product(&nets, &way, n);
+        direction(
+            a,
+            streams.ends,
+            streams.meters,
+            streams.count,
+            n,
+            potentials,
+            &mut way,
+        );
+        let first = product(&nets[..n], &way[..n]);
         if !(first < 0.0) {
-            return 0;
+            return None;
         }
-        let bits = guess_at(left, ends, meters, count, &way, n);
-        if bits != 0 {
-            return bits;
+        if let Some(bits) = guess_at(step, streams, &way, n) {
+            return Some(bits);
         }
-        let t = step_length(ends, meters, count, potentials, &way, n, first);
-        advance(potentials, &way, t, n);
-        left -= 1;
+        let t = step_length(streams, potentials, &way, n, first);
+        let before = *potentials;
+        moved(&before, &way, t, n, potentials);
     }
-    0
+    None
 }

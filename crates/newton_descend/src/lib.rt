@@ -3,6 +3,7 @@
 
 use descents::descend;
 use guesses::places_of;
+use nets::{Streams, greater};
 use newton_laplacian::equations::{CELLS, FEW, FEW_CELLS, SOME, SOME_CELLS, first_direction};
 use newton_laplacian::readings::some_range;
 use newton_laplacian::{ENDS, METERS, gather};
@@ -21,42 +22,27 @@ ghost use Rattle.newton_laplacian.specs.Cells.{Fits};
 ghost use Rattle.newton_descend.specs.Nets.{highest_to};
 ghost use Rattle.newton_descend.specs.Levels.{Banded, whole_of, at_labels, Level};
 
-// The greatest of n potentials, 0 at least.
-fn greatest(x: &[f64; PLACES], n: usize) -> f64
-    requires { n ≤ places }
-    ensures { result ≡ highest_to x.now n }
+// The greatest of some potentials, 0 at least.
+fn greatest(x: &[f64]) -> f64
+    ensures { result ≡ highest_to x.now (length x.now) }
 {
     let mut most = 0.0f64;
-    let mut u: usize = 0;
-    while u < n {
-        let y = x[u];
-        if most < y {
-            most = y;
-        }
-        u += 1;
+    for y in x {
+        most = greater(most, *y);
     }
     most
 }
 
-// The whole number nearest to x, 0 where there is none.
+// The whole number nearest to x, 0 if there is none.
 fn whole(x: f64) -> u64
     ensures { result ≡ whole_of x }
 {
     let y = x + 0.5;
-    if y > -1.0 {
-        if y < 18446744073709551616.0 {
-            return truncating_f64_to_u64(y);
-        }
+    if y > -1.0 && y < 18446744073709551616.0 {
+        truncating_f64_to_u64(y)
+    } else {
+        0
     }
-    0
-}
-
-// By so much below top, but by band at most.
-fn below(top: u64, band: u64, fall: u64) -> u64
-    requires { band ≤ top }
-    ensures { (result ≤ top) × (top ≤ result + band) }
-{
-    if band < fall { top - band } else { top - fall }
 }
 
 // The greatest of n potentials becomes top, the others as much lower as they are, by band at most. The places after them have top.
@@ -64,12 +50,10 @@ pub fn lowered(x: &[f64; PLACES], n: usize, top: u64, band: u64) -> [u64; PLACES
     requires { (n ≤ places) × (band ≤ top) }
     ensures { Banded top band result }
 {
-    let most = greatest(x, n);
+    let most = greatest(&x[..n]);
     let mut r = [top; PLACES];
-    let mut u: usize = 0;
-    while u < n {
-        r[u] = below(top, band, whole(most - x[u]));
-        u += 1;
+    for (u, y) in x[..n].iter().enumerate() {
+        r[u] = top - whole(most - *y).min(band);
     }
     r
 }
@@ -80,17 +64,15 @@ pub fn by_label(potentials: [u64; PLACES], labels: [u8; PLACES]) -> [u64; PLACES
     ensures { result ≡ at_labels potentials labels }
 {
     let mut r = potentials;
-    let mut u: usize = 0;
-    while u < PLACES {
-        let g = labels[u] as usize;
+    for (u, label) in labels.iter().enumerate() {
+        let g = usize::from(*label);
         r[u] = potentials[g];
-        u += 1;
     }
     r
 }
 
 // Real potentials of n places of a plant that has a range: with its streams gathered, as they are gone over again and again.
-// Where a set of labels looks overfull, that set as bits; else 0.
+// If a set of labels looks overfull, that set as bits.
 fn with_ranges(
     a: &mut [f64],
     labels: &[u8; PLACES],
@@ -98,14 +80,18 @@ fn with_ranges(
     rows: &[u64; ROWS],
     n: usize,
     x: &mut [f64; PLACES],
-) -> u64
-    requires { (1 ≤ n) × Placed n labels.now arcs.now rows.now × Fits n a.old × (length x.old ≡ places) }
-    ensures { length x.new ≡ places }
+) -> Option<u64>
+    requires { (1 ≤ n) × Placed n labels.now arcs.now rows.now × Fits n a.old }
 {
     let mut ends = [0u8; ENDS];
     let mut meters = [0.0f64; METERS];
     let count = gather(labels, arcs, rows, &mut ends, &mut meters);
-    descend(a, &ends, &meters, count, n, x)
+    let streams = Streams {
+        ends: &ends,
+        meters: &meters,
+        count,
+    };
+    descend(a, streams, n, x)
 }
 
 // Real potentials of n places, by empty equations that are lent.
@@ -116,15 +102,14 @@ fn find_in(
     rows: &[u64; ROWS],
     n: usize,
     x: &mut [f64; PLACES],
-) -> u64
-    requires { (1 ≤ n) × Placed n labels.now arcs.now rows.now × Fits n a.old × (length x.old ≡ places) }
-    ensures { length x.new ≡ places }
+) -> Option<u64>
+    requires { (1 ≤ n) × Placed n labels.now arcs.now rows.now × Fits n a.old }
 {
     if some_range(rows, count_of(arcs)) {
         with_ranges(a, labels, arcs, rows, n, x)
     } else {
         first_direction(a, labels, arcs, rows, n, x);
-        0
+        None
     }
 }
 
@@ -135,23 +120,19 @@ fn find(
     rows: &[u64; ROWS],
     n: usize,
     x: &mut [f64; PLACES],
-) -> u64
-    requires { (1 ≤ n) × Placed n labels.now arcs.now rows.now × (length x.old ≡ places) }
-    ensures { length x.new ≡ places }
+) -> Option<u64>
+    requires { (1 ≤ n) × Placed n labels.now arcs.now rows.now }
 {
     if n <= FEW {
-        let mut a = [0.0f64; FEW_CELLS];
-        find_in(&mut a, labels, arcs, rows, n, x)
+        find_in(&mut [0.0f64; FEW_CELLS], labels, arcs, rows, n, x)
     } else if n <= SOME {
-        let mut a = [0.0f64; SOME_CELLS];
-        find_in(&mut a, labels, arcs, rows, n, x)
+        find_in(&mut [0.0f64; SOME_CELLS], labels, arcs, rows, n, x)
     } else {
-        let mut a = [0.0f64; CELLS];
-        find_in(&mut a, labels, arcs, rows, n, x)
+        find_in(&mut [0.0f64; CELLS], labels, arcs, rows, n, x)
     }
 }
 
-// Potentials from top − band to top, one for each label. Where a set of places looks overfull, it becomes the guess, as bits.
+// Potentials from top − band to top, one for each label. If a set of places looks overfull, it becomes the guess, as bits.
 pub fn potentials_of(
     units: u8,
     labels: [u8; PLACES],
@@ -164,10 +145,9 @@ pub fn potentials_of(
     requires { Labels labels × Placed (units + 1) labels arcs.now rows.now × (band ≤ top) }
     ensures { Level labels top band result }
 {
-    let n = units as usize + 1;
+    let n = usize::from(units) + 1;
     let mut x = [0.0f64; PLACES];
-    let bits = find(&labels, arcs, rows, n, &mut x);
-    if bits != 0 {
+    if let Some(bits) = find(&labels, arcs, rows, n, &mut x) {
         *guess = places_of(bits, &labels);
     }
     by_label(lowered(&x, n, top, band), labels)

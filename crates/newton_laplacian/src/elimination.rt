@@ -19,11 +19,8 @@ fn take_row(a: &mut [f64], k: usize, i: usize, f: f64)
     }
     let from = k * WIDTH;
     let to = i * WIDTH;
-    let mut j: usize = 0;
-    while j < i + 2 {
-        let at = to + j;
-        a[at] = a[at] - f * a[from + j];
-        j += 1;
+    for j in 0..i + 2 {
+        a[to + j] -= f * a[from + j];
     }
 }
 
@@ -38,11 +35,9 @@ fn clear(a: &mut [f64], k: usize)
         return;
     }
     let inverse = 1.0 / pivot;
-    let mut i: usize = 0;
-    while i < k {
+    for i in 0..k {
         let f = a[row + i] * inverse;
         take_row(a, k, i, f);
-        i += 1;
     }
 }
 
@@ -51,9 +46,7 @@ pub fn eliminate(a: &mut [f64], n: usize)
     requires { Fits n a.old × (n ≤ places) }
     ensures { length a.new ≡ length a.old }
 {
-    let mut k = n;
-    while 0 < k {
-        k -= 1;
+    for k in (0..n).rev() {
         clear(a, k);
     }
 }
@@ -69,10 +62,8 @@ fn change_at(a: &[f64], x: &[f64; PLACES], k: usize) -> f64
         return 0.0;
     }
     let mut rest = a[row - 1];
-    let mut j: usize = 0;
-    while j < k {
-        rest = rest - a[row + j] * x[j];
-        j += 1;
+    for j in 0..k {
+        rest -= a[row + j] * x[j];
     }
     rest / pivot
 }
@@ -82,9 +73,7 @@ pub fn substitute(a: &[f64], n: usize, x: &mut [f64; PLACES])
     requires { Fits n a.now × (n ≤ places) × (length x.old ≡ places) }
     ensures { length x.new ≡ places }
 {
-    let mut k: usize = 0;
-    while k < n {
+    for k in 0..n {
         x[k] = change_at(a, x, k);
-        k += 1;
     }
 }

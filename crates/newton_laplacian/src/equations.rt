@@ -8,7 +8,7 @@ ghost use Rattle.newton_laplacian.specs.Cells.{Fits, Joinable, Joining};
 
 use crate::elimination::{eliminate, substitute};
 use crate::readings::{conductance_of, reading_of};
-use crate::{ENDS, METERS, amount_at, conductance_at, end_at, group_at, in_range, start_at};
+use crate::{ENDS, METERS, amount_at, conductance_at, end_at, groups_of, in_range, start_at};
 use plant_def::limits::PLACES;
 use solve_arcs::{ARCS, ROWS, count_of, wide};
 
@@ -33,8 +33,7 @@ fn add(a: &mut [f64], row: usize, column: usize, x: f64)
     requires { Fits (suc row) a.old × (row < places) × (column ≤ places) }
     ensures { length a.new ≡ length a.old }
 {
-    let at = row * WIDTH + column;
-    a[at] = a[at] + x;
+    a[row * WIDTH + column] += x;
 }
 
 // A stream of conductance c from group g to group h, which carries x.
@@ -58,11 +57,9 @@ fn join_read(a: &mut [f64], labels: &[u8; PLACES], arcs: &[u8; ARCS], rows: &[u6
     requires { Joinable labels.now arcs.now rows.now a.old × (i < count_of arcs.now) }
     ensures { length a.new ≡ length a.old }
 {
-    let g = group_at(labels, arcs, 2 * i);
-    let h = group_at(labels, arcs, 2 * i + 1);
-    if g == h || rows[4 * i] == 0 {
+    let Some((g, h)) = groups_of(labels, arcs, rows, i) else {
         return;
-    }
+    };
     let c = conductance_of(rows, i);
     let x = reading_of(rows, i, c);
     between(a, wide(g), wide(h), x, c);
@@ -74,10 +71,8 @@ fn join_all(a: &mut [f64], labels: &[u8; PLACES], arcs: &[u8; ARCS], rows: &[u64
     ensures { length a.new ≡ length a.old }
 {
     let count = count_of(arcs);
-    let mut i: usize = 0;
-    while i < count {
+    for i in 0..count {
         join_read(a, labels, arcs, rows, i);
-        i += 1;
     }
 }
 
@@ -86,8 +81,7 @@ fn join_gathered(a: &mut [f64], ends: &[u8; ENDS], meters: &[f64; METERS], count
     requires { Joining ends.now meters.now count a.old }
     ensures { length a.new ≡ length a.old }
 {
-    let mut k: usize = 0;
-    while k < count {
+    for k in 0..count {
         between(
             a,
             start_at(ends, k),
@@ -95,7 +89,6 @@ fn join_gathered(a: &mut [f64], ends: &[u8; ENDS], meters: &[f64; METERS], count
             meters[4 * k],
             conductance_at(meters, k),
         );
-        k += 1;
     }
 }
 
@@ -133,10 +126,8 @@ fn laplacian(
     requires { Joining ends.now meters.now count a.old }
     ensures { length a.new ≡ length a.old }
 {
-    let mut k: usize = 0;
-    while k < count {
+    for k in 0..count {
         join(a, ends, meters, k, potentials);
-        k += 1;
     }
 }
 
@@ -145,12 +136,7 @@ fn wipe(a: &mut [f64], n: usize)
     requires { Fits n a.old × (n ≤ places) }
     ensures { length a.new ≡ length a.old }
 {
-    let all = n * WIDTH;
-    let mut at: usize = 0;
-    while at < all {
-        a[at] = 0.0;
-        at += 1;
-    }
+    a[..n * WIDTH].fill(0.0);
 }
 
 // The equations solved: x are the changes of n places.

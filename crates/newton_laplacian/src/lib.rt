@@ -9,11 +9,11 @@ mod elimination;
 pub mod equations;
 pub mod readings;
 
-ghost use Rattle.std.specs.Prelude.{◌≡◌, suc, ◌+◌, ◌*◌, ◌<◌, ◌≤◌, length, get_or, set};
+ghost use Rattle.std.specs.Prelude.{◌≡◌, ℕ, suc, IfSome, ◌+◌, ◌*◌, ◌<◌, ◌≤◌, length, get_or, set};
 ghost use Rattle.plant_def.specs.Limits.{max_streams, places};
 ghost use Rattle.solve_arcs.specs.Cells.{to_cell, count_of};
 ghost use Rattle.newton_laplacian.specs.Readings.{Read};
-ghost use Rattle.newton_laplacian.specs.Ends.{Placing, StillEnds, meter_cells, Long};
+ghost use Rattle.newton_laplacian.specs.Ends.{Placed, Placing, StillEnds, meter_cells, Long};
 ghost use Rattle.newton_laplacian.specs.Amounts.{conductance, amount_by, brought_in};
 
 pub const ENDS: usize = 2 * MAX_STREAMS;
@@ -103,7 +103,25 @@ fn group_at(labels: &[u8; PLACES], arcs: &[u8; ARCS], arc: usize) -> u8
     labels[solve_arcs::end_at(arcs, arc)]
 }
 
-// A stream, where it is metered and leads from one group to another. How many streams there are now.
+// The groups that stream i leads from and to, if it is metered and they are two.
+fn groups_of(
+    labels: &[u8; PLACES],
+    arcs: &[u8; ARCS],
+    rows: &[u64; ROWS],
+    i: usize,
+) -> Option<(u8, u8)>
+    requires { Placing labels.now arcs.now rows.now × (i < count_of arcs.now) }
+    ensures { (n : ℕ) → Placed n labels.now arcs.now rows.now → IfSome result (λ e. (e.0 < n) × (e.1 < n)) }
+{
+    let g = group_at(labels, arcs, 2 * i);
+    let h = group_at(labels, arcs, 2 * i + 1);
+    if g == h || rows[4 * i] == 0 {
+        return None;
+    }
+    Some((g, h))
+}
+
+// A stream, if it is metered and leads from one group to another. How many streams there are now.
 fn take_in(
     ends: &mut [u8; ENDS],
     meters: &mut [f64; METERS],
@@ -117,11 +135,9 @@ fn take_in(
     ensures long { Long ends.new meters.new × (result ≤ suc k) }
     ensures still_ends { StillEnds labels.now arcs.now rows.now ends.old ends.new }
 {
-    let g = group_at(labels, arcs, 2 * i);
-    let h = group_at(labels, arcs, 2 * i + 1);
-    if g == h || rows[4 * i] == 0 {
+    let Some((g, h)) = groups_of(labels, arcs, rows, i) else {
         return k;
-    }
+    };
     put(ends, meters, k, rows, i, g, h);
     k + 1
 }
@@ -140,10 +156,8 @@ pub fn gather(
 {
     let n = count_of(arcs);
     let mut k: usize = 0;
-    let mut i: usize = 0;
-    while i < n {
+    for i in 0..n {
         k = take_in(ends, meters, k, labels, arcs, rows, i);
-        i += 1;
     }
     k
 }

@@ -55,12 +55,10 @@ pub fn some_range(rows: &[u64; ROWS], n: usize) -> bool
     requires { n ≤ max_streams }
     ensures { result ≡ ranged_to rows.now n }
 {
-    let mut i: usize = 0;
-    while i < n {
+    for i in 0..n {
         if rows[4 * i + 3] < MOST_FLOW {
             return true;
         }
-        i += 1;
     }
     false
 }

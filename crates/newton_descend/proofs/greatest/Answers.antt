@@ -1,19 +1,14 @@
--- `newton_descend::greatest` meets its contract: every potential read is that of a place.
-use Rattle.std.proofs.Common.{ap, ◌∙◌, ⊎_elim, arith}
+-- `newton_descend::greatest` meets its contract: the greatest of the potentials passed is known.
+use Rattle.std.proofs.Common.{◌≡◌, length, ap, ◌∙◌, arith}
 use Rattle.newton_descend.specs.Nets.{highest_to}
-use Rattle.newton_descend.proofs.Steps.{larger_taken, larger_left, highest_none, highest_more, all_done}
+use Rattle.newton_descend.proofs.Steps.{highest_none, highest_more}
 use Rattle.newton_descend.proofs.greatest.Goals as goal
-use Rattle.newton_descend.proofs.greatest.Goals.{then-most-y, else-most-y}
 
-pub loop-u-init : goal.loop-u-init
-loop-u-init c = (omega arith, highest_none _)
+pub loop-y-init : goal.loop-y-init
+loop-y-init c = highest_none _
 
-pub loop-u-preserved : goal.loop-u-preserved
-loop-u-preserved c = (
-  omega arith,
-  highest_more c.args.x.now c.loop-u.u c.loop-u.most c.if-most-y.most c.loop-u.invariant.1
-      (elim c.if-most-y.branch [ then-most-y w ↦ w.most-is ∙ larger_taken _ _ w.if-most-y.true | else-most-y w ↦ w.most-is ∙ larger_left _ _ w.if-most-y.false ]),
-)
+pub loop-y-preserved : goal.loop-y-preserved
+loop-y-preserved c = highest_more c.args.x.now c.loop-y.y-index c.loop-y.most _ c.loop-y.invariant c.greater-most.ensures
 
 pub returns : goal.returns
-returns c = let l = c.loop-u in l.invariant.1 ∙ ap (highest_to _) (all_done _ l.u l.invariant.0 c.loop-u-test.false)
+returns c = let e : c.loop-y.y-index ≡ length c.args.x.now = omega arith in c.loop-y.invariant ∙ ap (highest_to _) e

@@ -6,12 +6,3 @@ use Rattle.newton_descend.proofs.whole.Goals as goal
 pub truncating_f64_to_u64-requires : goal.truncating_f64_to_u64-requires
 unfolding of_bits neg
 truncating_f64_to_u64-requires c = record { lower_bound = subst T (sym c.if-y.true) tt; upper_bound = subst T (sym c.if-y-2.true) tt }
-
-pub returns-then-y-2 : goal.returns-then-y-2
-returns-then-y-2 c = rw (c.if-y.true, c.if-y-2.true) c.truncating_f64_to_u64.ensures
-
-pub returns-else-y-2 : goal.returns-else-y-2
-returns-else-y-2 c = rw (c.if-y.true, c.if-y-2.false)
-
-pub returns-else-y : goal.returns-else-y
-returns-else-y c = rw c.if-y.false

@@ -6,4 +6,4 @@ pub descend-requires : goal.descend-requires
 descend-requires c =
     let o = c.gather-count.ensures in
     let p = c.requires.1 in
-    (record { few = p.few; ends = o.still_ends _ p (ends_start _ c.requires.0); long = o.meters_len.0; short = o.meters_len.1 }, c.requires.2, c.requires.3)
+    (record { few = p.few; ends = o.still_ends _ p (ends_start _ c.requires.0); long = o.meters_len.0; short = o.meters_len.1 }, c.requires.2)

@@ -8,7 +8,7 @@ use Rattle.newton_descend.proofs.descents.step_length.Goals.{After-narrowed-b, A
 
 -- The slope by the length of the step.
 abbrev slopes : Start → Float → Float
-slopes st = let a = st.args in slope_at a.ends.now a.meters.now a.count a.potentials.now a.way.now a.n
+slopes st = let a = st.args in slope_at a.streams.ends.now a.streams.meters.now a.streams.count a.potentials.now a.way.now a.n
 
 -- The bracket after a trial.
 key : (c : After-narrowed-b) → c.narrowed-b.result ≡ tried (slopes c.before.before.before.before.before.before.before) c.loop-trial.b c.loop-trial.trial
@@ -19,13 +19,13 @@ key c =
 ended : (c : At-loop-trial) (x : Float) → x ≡ length_by (slopes c.before.before.before) c.args.first (trials - c.loop-trial.trial) c.loop-trial.b c.loop-trial.trial
     → x ≡ step_length (slopes c.before.before.before) c.args.first
 ended c x e =
-    step_tried (slopes c.before.before.before) c.args.first c.slope-whole.result x c.slope-whole.ensures c.if-not-whole.false-raw (e ∙ c.loop-trial.invariant.1)
+    step_tried (slopes c.before.before.before) c.args.first c.slope-whole.result x c.slope-whole.ensures c.if-not-whole.false-raw (e ∙ c.loop-trial.invariant)
 
 pub returns-then-not-whole : goal.returns-then-not-whole
 returns-then-not-whole c = step_whole (slopes (goal.at.returns-then-not-whole c).Start) c.args.first c.slope-whole.result c.slope-whole.ensures c.if-not-whole.true-raw
 
 pub loop-trial-init : goal.loop-trial-init
-loop-trial-init c = (omega arith, refl)
+loop-trial-init c = refl
 
 pub returns-then-b-first : goal.returns-then-b-first
 returns-then-b-first c =
@@ -39,9 +39,9 @@ loop-trial-preserved c =
     let z : trials - (c.loop-trial.trial + 1) ≡ trials - c.loop-trial.trial - 1 = omega arith in
     let f = c.args.first in
     let e = length_more (slopes (goal.at.loop-trial-preserved c).Start) f (trials - c.loop-trial.trial) c.loop-trial.b _ c.loop-trial.trial (omega (arith, l)) (key (goal.at.loop-trial-preserved c).After-narrowed-b) c.if-b-first.false in
-    (omega (arith, l), rw z e ∙ c.loop-trial.invariant.1)
+    rw z e ∙ c.loop-trial.invariant
 
 pub returns : goal.returns
 returns c =
-    let z : trials - c.loop-trial.trial ≡ 0 = omega (arith, c.loop-trial-test.false) in
+    let z : trials - c.loop-trial.trial ≡ 0 = omega arith in
     ended (goal.at.returns c).At-loop-trial _ (length_last (slopes (goal.at.returns c).Start) c.args.first (trials - c.loop-trial.trial) c.loop-trial.b c.loop-trial.trial z)

@@ -1,20 +1,15 @@
--- `newton_descend::nets::greatest_net` meets its contract: every net read is that of a place.
-use Rattle.std.proofs.Common.{ap, ◌∙◌, ⊎_elim, arith, rules}
+-- `newton_descend::nets::greatest_net` meets its contract: the greatest size of the nets passed is known.
+use Rattle.std.proofs.Common.{◌≡◌, length, ap, ◌∙◌, arith}
 use Rattle.newton_descend.specs.Nets.{greatest_to}
-use Rattle.newton_descend.proofs.Steps.{greatest_none, greatest_more, larger_taken, larger_left, all_done}
+use Rattle.newton_descend.proofs.Steps.{greatest_none, greatest_more}
 use Rattle.newton_descend.proofs.nets.greatest_net.Goals as goal
-use Rattle.newton_descend.proofs.nets.greatest_net.Goals.{then-most-z, else-most-z, then-most-z-2, else-most-z-2}
 
-pub loop-u-init : goal.loop-u-init
-loop-u-init c = (omega arith, greatest_none _)
+pub loop-z-init : goal.loop-z-init
+loop-z-init c = greatest_none _
 
-pub loop-u-preserved : goal.loop-u-preserved
-loop-u-preserved c = (
-  search rules,
-  greatest_more c.args.nets.now c.loop-u.u c.loop-u.most c.if-most-z.most c.if-most-z-2.most c.loop-u.invariant.1
-      (elim c.if-most-z.branch [ then-most-z w ↦ w.most-is ∙ larger_taken _ _ w.if-most-z.true | else-most-z w ↦ w.most-is ∙ larger_left _ _ w.if-most-z.false ])
-      (elim c.if-most-z-2.branch [ then-most-z-2 w ↦ w.most-is ∙ larger_taken _ _ w.if-most-z-2.true | else-most-z-2 w ↦ w.most-is ∙ larger_left _ _ w.if-most-z-2.false ]),
-)
+pub loop-z-preserved : goal.loop-z-preserved
+loop-z-preserved c =
+    greatest_more c.args.nets.now c.loop-z.z-index c.loop-z.most c.greater.result _ c.loop-z.invariant c.greater.ensures c.greater-most.ensures
 
 pub returns : goal.returns
-returns c = let l = c.loop-u in l.invariant.1 ∙ ap (greatest_to _) (all_done _ l.u l.invariant.0 c.loop-u-test.false)
+returns c = let e : c.loop-z.z-index ≡ length c.args.nets.now = omega arith in c.loop-z.invariant ∙ ap (greatest_to _) e

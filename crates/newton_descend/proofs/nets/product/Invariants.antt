@@ -1,10 +1,7 @@
--- `newton_descend::nets::product` meets its contract: every number read is that of a place.
-use Rattle.std.proofs.Common.{◌≡◌, ◌-◌, ◌≤◌}
+-- `newton_descend::nets::product` meets its contract: the products of the places passed are summed.
+use Rattle.std.proofs.Common.{◌≡◌, length}
 use Rattle.newton_descend.specs.Nets.{product_to}
 use Rattle.newton_descend.proofs.nets.product.Given as goal
 
-abbrev pub invariant-loop-u : goal.invariant-loop-u
-invariant-loop-u l = (l.u ≤ l.n) × (l.sum ≡ product_to l.x l.y l.u)
-
-abbrev pub decreases-loop-u : goal.decreases-loop-u
-decreases-loop-u l = l.n - l.u
+abbrev pub invariant-loop-a : goal.invariant-loop-a
+invariant-loop-a l = l.sum ≡ product_to l.x l.y (length l.yielded)

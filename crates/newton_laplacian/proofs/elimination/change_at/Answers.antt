@@ -11,12 +11,12 @@ returns-then-pivot c = rw c.if-pivot.true
 pub loop-j-init : goal.loop-j-init
 loop-j-init c =
     let e : c.args.k * 34 + 1 - 1 ≡ c.args.k * 34 = omega arith in
-    (omega arith, rw e (rest_none c.args.a.now c.args.x.now c.args.k))
+    rw e (rest_none c.args.a.now c.args.x.now c.args.k)
 
 pub loop-j-preserved : goal.loop-j-preserved
-loop-j-preserved c = (omega arith, rest_more _ _ _ c.loop-j.j c.loop-j.rest c.loop-j.invariant.1)
+loop-j-preserved c = rest_more _ _ _ c.loop-j.j c.loop-j.rest c.loop-j.invariant
 
 pub returns : goal.returns
 returns c =
-    let e : c.loop-j.j ≡ c.args.k = omega (arith, c.loop-j-test.false, c.loop-j.invariant.0) in
-    change_found _ c.args.a.now c.args.x.now c.args.k c.loop-j.rest c.if-pivot.false (rw e at c.loop-j.invariant.1)
+    let e : c.loop-j.j ≡ c.args.k = omega arith in
+    change_found _ c.args.a.now c.args.x.now c.args.k c.loop-j.rest c.if-pivot.false (rw e at c.loop-j.invariant)

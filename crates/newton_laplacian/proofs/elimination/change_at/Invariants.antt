@@ -1,11 +1,7 @@
 -- `newton_laplacian::elimination::change_at` meets its contract: the places before it are taken off the right-hand side.
 use mathlib.Core.Path.{◌≡◌}
-use Prim.Native.Nat.{◌≤◌, ◌-◌}
 use Rattle.newton_laplacian.specs.Cells.{rest_to}
 use Rattle.newton_laplacian.proofs.elimination.change_at.Given as goal
 
 abbrev pub invariant-loop-j : goal.invariant-loop-j
-invariant-loop-j l = (l.j ≤ l.k) × (l.rest ≡ rest_to l.a l.x l.k l.j)
-
-abbrev pub decreases-loop-j : goal.decreases-loop-j
-decreases-loop-j l = l.k - l.j
+invariant-loop-j l = l.rest ≡ rest_to l.a l.x l.k l.j

@@ -10,4 +10,4 @@ used c = rw (← c.count_of-count.ensures) c.loop-i-test.true
 
 pub join_read-requires : goal.join_read-requires
 join_read-requires c =
-    ((c.requires.0, c.requires.1, omega (arith, c.requires.2, c.loop-i.invariant.1)), used (goal.at.join_read-requires c).In-loop-i)
+    ((c.requires.0, c.requires.1, omega (arith, c.requires.2, c.loop-i.auto.a)), used (goal.at.join_read-requires c).In-loop-i)

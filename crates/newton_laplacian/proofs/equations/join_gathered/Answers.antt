@@ -10,8 +10,8 @@ between-requires c =
     let l = c.loop-k-test.true in
     let s : c.start_at.result < all.0 = rw c.start_at.ensures (all.1.ends.within _ (omega (arith, all.1.short, l))) in
     let e : c.end_at.result < all.0 = rw c.end_at.ensures (all.1.ends.within _ (omega (arith, all.1.short, l))) in (
-      omega (arith, s, all.2, at.invariant.1),
-      omega (arith, e, all.2, at.invariant.1),
+      omega (arith, s, all.2, at.auto.a),
+      omega (arith, e, all.2, at.auto.a),
       omega (arith, s, all.1.few),
       omega (arith, e, all.1.few),
     )

@@ -7,4 +7,4 @@ pub join-requires : goal.join-requires
 join-requires c =
     let at = c.loop-k in
     let all = c.requires in
-    (all.0, gathered_first all.1 _ c.loop-k-test.true, omega (arith, all.2, at.invariant.1))
+    (all.0, gathered_first all.1 _ c.loop-k-test.true, omega (arith, all.2, at.auto.a))

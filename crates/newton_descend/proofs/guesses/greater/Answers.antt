@@ -1,8 +1,0 @@
--- `newton_descend::guesses::greater` meets its contract: the second where it is greater.
-use Rattle.newton_descend.proofs.guesses.greater.Goals as goal
-
-pub returns-then-a-b : goal.returns-then-a-b
-returns-then-a-b c = rw c.if-a-b.true
-
-pub returns-else-a-b : goal.returns-else-a-b
-returns-else-a-b c = rw c.if-a-b.false
