@@ -47,17 +47,14 @@ pub fn augment(
     requires { Augmentable arcs.now rows.now margins.old flows.old via.now way }
     ensures { AugmentCall arcs rows margins flows via ends way }
 {
-    let delta = way.delta;
     let mut at = way.target;
-    let mut j = way.len;
-    while 0 < j {
-        j -= 1;
+    for j in (0..way.len).rev() {
         if ends[j] == at {
             let i = via[j] as usize;
             let forwards = end_at(arcs, 2 * i + 1) == at as usize;
-            let x = moved(flows[i], forwards, delta);
+            let x = moved(flows[i], forwards, way.delta);
             flows[i] = x;
-            put_margins(rows, margins, i, x, delta);
+            put_margins(rows, margins, i, x, way.delta);
             at = place_at(arcs, forwards, i) as u8;
         }
     }
@@ -68,6 +65,6 @@ pub fn shift_nets(nets: &mut [u64; PLACES], s: usize, v: usize, delta: u64)
     requires { Shiftable nets.old s v delta }
     ensures { nets.new ≡ shifted_nets nets.old s v delta }
 {
-    nets[s] = nets[s] - delta;
-    nets[v] = nets[v] + delta;
+    nets[s] -= delta;
+    nets[v] += delta;
 }

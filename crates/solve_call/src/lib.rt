@@ -9,7 +9,7 @@ ghost use Rattle.plant_def.specs.Says.{plant_of};
 ghost use Rattle.solve_def.specs.SolverNeeds.{AtHint, Hinted};
 ghost use Rattle.solve_def.specs.Promise.{Right};
 ghost use Rattle.solve_def.specs.Few.{most_made};
-ghost use Rattle.solve_def.specs.Model.{state_of, masked};
+ghost use Rattle.solve_def.specs.Model.{masked};
 ghost use Rattle.solve_def.specs.Full.{overfull};
 ghost use Rattle.newton_descend.specs.Guesses.{marks_of};
 ghost use Rattle.solve_call.specs.Answers.{Answers};
@@ -23,7 +23,7 @@ use plant_def::limits::{MAX_STREAMS, PLACES};
 use solve_arcs::{ARCS, MARGINS, NONE, ROWS};
 use solve_arcs_fill::lay;
 use solve_def::sizes::{FLOW_SHIFT, NET_SHIFT, POTENTIAL_SHIFT};
-use solve_def::{Hint, Solved};
+use solve_def::{Hint, Solved, State};
 use solve_infeasible::overfull;
 use solve_phases::finishing::finish;
 use solve_phases::marks::masked;
@@ -31,44 +31,36 @@ use solve_settle::settle;
 use solve_start::start;
 use solve_ties::tie_all;
 
-// The cheapest balanced flow of a plant, from amounts settled at a hint, in lent arrays; or a set of places that must take in more than it
+// The cheapest balanced flow of a plant, from amounts settled at a hint, in a lent state; or a set of places that must take in more than it
 // can let out. The improvements are counted.
-pub fn solve_at(
-    units: u8,
-    arcs: &[u8; ARCS],
-    rows: &[u64; ROWS],
-    flows: &mut [u64; MAX_STREAMS],
-    potentials: &mut [u64; PLACES],
-    nets: &mut [u64; PLACES],
-) -> Solved
-    requires { (p : Plant) × LaidOf p arcs.now rows.now × (p.units ≡ units)
-        × AtHint (plant_of p).streams (state_of flows.old potentials.old nets.old) }
-    ensures { Answers arcs.now rows.now units
-        (state_of flows.old potentials.old nets.old) result }
+pub fn solve_at(units: u8, arcs: &[u8; ARCS], rows: &[u64; ROWS], state: &mut State) -> Solved
+    requires { (p : Plant) × LaidOf p arcs.now rows.now × (p.units ≡ units) × AtHint (plant_of p).streams state.old }
+    ensures { Answers arcs.now rows.now units state.old result }
 {
     let mut margins = [0u64; MARGINS];
-    let e = finish(arcs, rows, &mut margins, flows, potentials, nets);
-    let marked = e.marked;
-    let own = masked(marked, units);
+    let e = finish(arcs, rows, &mut margins, state);
+    let marked = masked(e.marked, units);
     if e.full {
-        let held = *flows;
-        let levels = *potentials;
         return Solved {
             found: false,
-            flows: held,
-            potentials: levels,
-            marked: own,
+            flows: state.flows,
+            potentials: state.potentials,
+            marked,
             made: e.made,
         };
     }
-    tie_all(arcs, rows, &mut margins, flows, potentials);
-    let held = *flows;
-    let levels = *potentials;
+    tie_all(
+        arcs,
+        rows,
+        &mut margins,
+        &mut state.flows,
+        &state.potentials,
+    );
     Solved {
         found: true,
-        flows: held,
-        potentials: levels,
-        marked: own,
+        flows: state.flows,
+        potentials: state.potentials,
+        marked,
         made: e.made,
     }
 }
@@ -78,23 +70,11 @@ pub fn solve_from(p: Plant, h: Hint) -> Solved
     requires { Accepted p × Hinted (plant_of p).streams h }
     ensures { Right p result × (result.made ≤ most_made) }
 {
-    let streams = p.streams;
-    let count = p.count as usize;
     let mut arcs = [NONE as u8; ARCS];
     let mut rows = [0u64; ROWS];
-    lay(streams, count, &mut arcs, &mut rows);
-    let st = settle(&arcs, &rows, h);
-    let mut flows = st.flows;
-    let mut potentials = st.potentials;
-    let mut nets = st.nets;
-    solve_at(
-        p.units,
-        &arcs,
-        &rows,
-        &mut flows,
-        &mut potentials,
-        &mut nets,
-    )
+    lay(p.streams, p.count as usize, &mut arcs, &mut rows);
+    let mut state = settle(&arcs, &rows, h);
+    solve_at(p.units, &arcs, &rows, &mut state)
 }
 
 // Whether a guess is a set of places, as bits, that is overfull.
@@ -102,24 +82,18 @@ fn is_overfull(units: u8, arcs: &[u8; ARCS], rows: &[u64; ROWS], guess: u64) -> 
     requires { Laying arcs.now rows.now }
     ensures { OfStreams arcs.now rows.now (λ ss n. result ≡ true → overfull ss (masked units (marks_of guess)) ≡ true) }
 {
-    if guess == 0 {
-        return false;
-    }
-    let own = marks_of(guess, units);
-    overfull(arcs, rows, &own)
+    guess != 0 && overfull(arcs, rows, &marks_of(guess, units))
 }
 
 // What is handed over if a set of places is found at the start: no improvement is made.
-fn refused(flows: &[u64; MAX_STREAMS], potentials: &[u64; PLACES], own: [bool; PLACES]) -> Solved
-    ensures { (result.found ≡ false) × (result.marked ≡ own) × (result.made ≡ 0) }
+fn refused(state: &State, marked: [bool; PLACES]) -> Solved
+    ensures { (result.found ≡ false) × (result.marked ≡ marked) × (result.made ≡ 0) }
 {
-    let held = *flows;
-    let levels = *potentials;
     Solved {
         found: false,
-        flows: held,
-        potentials: levels,
-        marked: own,
+        flows: state.flows,
+        potentials: state.potentials,
+        marked,
         made: 0,
     }
 }
@@ -131,20 +105,14 @@ pub fn solve(units: u8, labels: [u8; PLACES], arcs: &[u8; ARCS], rows: &[u64; RO
     ensures { ((p : Plant) → LaidOf p arcs.now rows.now → p.units ≡ units → Grouped p labels → Right p result)
         × (result.made ≤ most_made) }
 {
-    let mut flows = [FLOW_SHIFT; MAX_STREAMS];
-    let mut potentials = [POTENTIAL_SHIFT; PLACES];
-    let mut nets = [NET_SHIFT; PLACES];
-    let guess = start(
-        units,
-        labels,
-        arcs,
-        rows,
-        &mut flows,
-        &mut potentials,
-        &mut nets,
-    );
+    let mut state = State {
+        flows: [FLOW_SHIFT; MAX_STREAMS],
+        potentials: [POTENTIAL_SHIFT; PLACES],
+        nets: [NET_SHIFT; PLACES],
+    };
+    let guess = start(units, labels, arcs, rows, &mut state);
     if is_overfull(units, arcs, rows, guess) {
-        return refused(&flows, &potentials, marks_of(guess, units));
+        return refused(&state, marks_of(guess, units));
     }
-    solve_at(units, arcs, rows, &mut flows, &mut potentials, &mut nets)
+    solve_at(units, arcs, rows, &mut state)
 }

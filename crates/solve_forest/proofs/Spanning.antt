@@ -1,10 +1,12 @@
 -- Laws of a spanning forest.
-use Rattle.std.proofs.Common.{◌≡◌, ℕ, suc, ◌+◌, ◌*◌, ◌<◌, ◌≤◌, Bool, true, false, eqb, List, length, get_or, set, ◌∙◌, arith, length-set, get_or-set_other, get_or-set_same, below_more, eqb-true}
-use Rattle.num_bytes.specs.Choice.{pick}
+use Rattle.std.proofs.Common.{◌≡◌, ℕ, suc, ◌+◌, ◌*◌, ◌<◌, ◌≤◌, Bool, true, false, eqb, List, length, get_or, take, set, ◌∙◌, arith, length-set, get_or-set_other, get_or-set_same, below_more, eqb-true}
+use Rattle.std.specs.Int.{from_bool}
 use Rattle.num_bytes.proofs.Tests.{by_cases}
 use Rattle.plant_def.specs.declared.Stream.{Stream}
 use Rattle.plant_def.specs.Limits.{places, max_units}
-use Rattle.solve_forest.specs.Forests.{Spanning, Unmetered, Listed, ListedOf}
+use Rattle.std.proofs.lemmas.List.{get_or-take}
+use lib.ListN.{length-take}
+use Rattle.solve_forest.specs.Forests.{Spanning, Unmetered, Listed, ListedOf, FreeOf}
 use Rattle.solve_def.specs.Counts.{count_places}
 use Rattle.solve_arcs.specs.Cells.{count_of}
 use Rattle.solve_arcs.specs.ArcNeeds.{Laying}
@@ -14,6 +16,12 @@ use Rattle.solve_def.proofs.Counting.{count_most, count_more}
 -- A forest has no more streams than there are places.
 pub spanning_short : {reached : List Bool} {via : List ℕ} {into : List Bool} {len : ℕ} → Spanning reached via into len → len ≤ places
 spanning_short {reached} s = omega (arith, s.few, count_most max_units (λ u. get_or reached u false))
+
+-- Of listed streams the first n, as a slice.
+pub listed_first : {ls rs listed : List ℕ} {n : ℕ} → FreeOf ls rs listed n → ListedOf ls rs (take n listed) (length (take n listed))
+listed_first {ls} {rs} {listed} {n} f w k l =
+    let m : k < n = omega (arith, length-take n listed) in
+    rw (get_or-take n listed k 0 m) (f.each w k m)
 
 -- One place more, e over stream i.
 module _ {reached : List Bool} {via : List ℕ} {into : List Bool} {len : ℕ} (s : Spanning reached via into len) (e : ℕ) (l : e < places) (free : get_or reached e false ≡ false) where
@@ -49,7 +57,7 @@ module _ {ls rs : List ℕ} (listed : List ℕ) {n : ℕ} (h : ListedOf ls rs li
   kept w k lt = rw (get_or-set_other listed n k i 0 (λ q. omega arith)) (h w k lt)
 
   -- So with what is added to the number, 1 or 0.
-  pub listed_turn : (r : ℕ) → r ≡ pick (eqb (get_or rs (4 * i) 0) 0) 1 0 → ListedOf ls rs (set listed n i) (n + r)
+  pub listed_turn : (r : ℕ) → r ≡ from_bool (eqb (get_or rs (4 * i) 0) 0) → ListedOf ls rs (set listed n i) (n + r)
   listed_turn r e =
       by_cases (eqb (get_or rs (4 * i) 0) 0)
       (λ t. let one : r ≡ 1 = rw t at e in

@@ -37,8 +37,8 @@ pub record FreeOf (ls rs listed : List ℕ) (n : ℕ) : Type 0 where
   pub each : ListedOf ls rs listed n
 
 -- A forest's streams stay such, where those that may be added are.
-abbrev pub ListedOn : List ℕ → List ℕ → ℕ → List ℕ → ℕ → List ℕ → ℕ → Type 0
-ListedOn ls listed n via len via' r = (rs : List ℕ) → FreeOf ls rs listed n → ListedOf ls rs via len → ListedOf ls rs via' r
+abbrev pub ListedOn : List ℕ → List ℕ → List ℕ → ℕ → List ℕ → ℕ → Type 0
+ListedOn ls listed via len via' r = (rs : List ℕ) → ListedOf ls rs listed (length listed) → ListedOf ls rs via len → ListedOf ls rs via' r
 
 -- A forest along which amounts can be routed.
 pub record Routable (streams : List Stream) (n : ℕ) (f : Forest) : Type 0 where

@@ -1,12 +1,11 @@
 // A spanning forest of the unmetered streams, and their amounts routed along it.
 #![tactic(auto)]
 
-ghost use Rattle.std.specs.Prelude.{◌≡◌, ℕ, ◌<◌, ◌≤◌, false, not, List, length, slice_index_or};
+ghost use Rattle.std.specs.Prelude.{◌≡◌, ℕ, ◌<◌, false, not, List, length, slice_index_or};
 ghost use Rattle.plant_def.specs.Limits.{places, max_streams};
-ghost use Rattle.num_bytes.specs.Choice.{pick};
 ghost use Rattle.num_bytes.specs.Sums.{count_to};
 ghost use Rattle.solve_arcs.specs.ArcNeeds.{Laying};
-ghost use Rattle.solve_forest.specs.Forests.{Spanning, ListedMore, FreeOf, ListedOn, Routable};
+ghost use Rattle.solve_forest.specs.Forests.{Spanning, ListedMore, FreeOf, ListedOf, ListedOn, Routable};
 ghost use Rattle.solve_def.specs.SearchNeeds.{SizeWithin};
 ghost use Rattle.solve_def.specs.Sizes.{hint_room};
 ghost use Rattle.solve_forest.specs.Routes.{Routing, Routed};
@@ -14,7 +13,6 @@ ghost use Rattle.solve_forest.specs.Routes.{Routing, Routed};
 use plant_def::limits::{MAX_STREAMS, PLACES};
 use solve_arcs::{ARCS, ROWS, count_of, end_at};
 use solve_def::sizes::{FLOW_SHIFT, HINT_ROOM, NET_SHIFT};
-use std::num::{wrapping_add_u64, wrapping_sub_u64};
 
 // A spanning forest of unmetered streams: in the order in which places were reached, the stream that leads to each, and whether
 // it leads into it.
@@ -30,116 +28,77 @@ fn roots(labels: [u8; PLACES]) -> [bool; PLACES]
     ensures { length result ≡ places }
 {
     let mut reached = [false; PLACES];
-    let mut u: usize = 0;
-    while u < PLACES {
-        reached[u] = labels[u] as usize == u;
-        u += 1;
+    for (u, label) in labels.iter().enumerate() {
+        reached[u] = *label as usize == u;
     }
     reached
 }
 
-// Place e over stream i, where it is not reached yet. How many streams there are now.
-fn reach(
-    reached: &mut [bool; PLACES],
-    via: &mut [u8; PLACES],
-    into: &mut [bool; PLACES],
-    len: usize,
-    i: u8,
-    e: usize,
-    inwards: bool,
-) -> usize
-    requires { Spanning reached.old via.old into.old len × (e < places) }
-    ensures { Spanning reached.new via.new into.new result
-        × ListedMore i via.old len via.new result }
+// Place e over stream i, if it is not reached yet.
+fn reach(reached: &mut [bool; PLACES], forest: &mut Forest, i: u8, e: usize, inwards: bool)
+    requires { Spanning reached.old forest.old.via forest.old.into forest.old.len × (e < places) }
+    ensures { Spanning reached.new forest.new.via forest.new.into forest.new.len
+        × ListedMore i forest.old.via forest.old.len forest.new.via forest.new.len }
 {
     if reached[e] {
-        return len;
+        return;
     }
     reached[e] = true;
-    via[len] = i;
-    into[len] = inwards;
-    len + 1
+    forest.via[forest.len] = i;
+    forest.into[forest.len] = inwards;
+    forest.len += 1;
 }
 
-// Unmetered stream i from place u to place v, where one of them is reached and the other is not.
-fn along(
-    reached: &mut [bool; PLACES],
-    via: &mut [u8; PLACES],
-    into: &mut [bool; PLACES],
-    len: usize,
-    i: u8,
-    u: usize,
-    v: usize,
-) -> usize
-    requires { Spanning reached.old via.old into.old len × (u < places) × (v < places) }
-    ensures { Spanning reached.new via.new into.new result
-        × ListedMore i via.old len via.new result }
+// Unmetered stream i from place u to place v, if one of them is reached and the other is not.
+fn along(reached: &mut [bool; PLACES], forest: &mut Forest, i: u8, u: usize, v: usize)
+    requires { Spanning reached.old forest.old.via forest.old.into forest.old.len × (u < places) × (v < places) }
+    ensures { Spanning reached.new forest.new.via forest.new.into forest.new.len
+        × ListedMore i forest.old.via forest.old.len forest.new.via forest.new.len }
 {
     if reached[u] {
-        return reach(reached, via, into, len, i, v, true);
+        reach(reached, forest, i, v, true);
+        return;
     }
     if reached[v] {
-        return reach(reached, via, into, len, i, u, false);
+        reach(reached, forest, i, u, false);
     }
-    len
 }
 
-// 1 where it holds, else 0.
-fn one_if(b: bool) -> usize
-    ensures { (result ≡ pick b 1 0) × (result ≤ 1) }
-{
-    if b { 1 } else { 0 }
-}
-
-// The numbers of the unmetered streams, where passes are to be made, and how many they are.
+// The numbers of the unmetered streams, if there are places to be reached, and how many they are.
 fn list_unmetered(
     arcs: &[u8; ARCS],
     rows: &[u64; ROWS],
     listed: &mut [u8; MAX_STREAMS],
-    left: usize,
+    all: usize,
 ) -> usize
     requires { Laying arcs.now rows.now × (length listed.old ≡ max_streams) }
     ensures { FreeOf arcs.now rows.now listed.new result }
 {
-    if left == 0 {
+    if all == 0 {
         return 0;
     }
     let count = count_of(arcs);
     let mut n: usize = 0;
-    let mut i: usize = 0;
-    while i < count {
+    for i in 0..count {
         listed[n] = i as u8;
-        n += one_if(rows[4 * i] == 0);
-        i += 1;
+        n += usize::from(rows[4 * i] == 0);
     }
     n
 }
 
 // One pass over the unmetered streams.
-fn pass(
-    arcs: &[u8; ARCS],
-    listed: &[u8; MAX_STREAMS],
-    n: usize,
-    reached: &mut [bool; PLACES],
-    via: &mut [u8; PLACES],
-    into: &mut [bool; PLACES],
-    start: usize,
-) -> usize
-    requires { ((rs : List ℕ) × Laying arcs.now rs × FreeOf arcs.now rs listed.now n)
-        × Spanning reached.old via.old into.old start }
-    ensures { Spanning reached.new via.new into.new result
-        × ListedOn arcs.now listed.now n via.old start via.new result }
+fn pass(arcs: &[u8; ARCS], listed: &[u8], reached: &mut [bool; PLACES], forest: &mut Forest)
+    requires { ((rs : List ℕ) × Laying arcs.now rs × ListedOf arcs.now rs listed.now (length listed.now))
+        × Spanning reached.old forest.old.via forest.old.into forest.old.len }
+    ensures { Spanning reached.new forest.new.via forest.new.into forest.new.len
+        × ListedOn arcs.now listed.now forest.old.via forest.old.len forest.new.via forest.new.len }
 {
-    let mut len = start;
-    let mut k: usize = 0;
-    while k < n {
-        let i = listed[k];
-        let u = end_at(arcs, 2 * (i as usize));
-        let v = end_at(arcs, 2 * (i as usize) + 1);
-        len = along(reached, via, into, len, i, u, v);
-        k += 1;
+    for i in listed {
+        let stream = *i as usize;
+        let u = end_at(arcs, 2 * stream);
+        let v = end_at(arcs, 2 * stream + 1);
+        along(reached, forest, *i, u, v);
     }
-    len
 }
 
 // How many places are not reached.
@@ -147,61 +106,37 @@ fn unreached(reached: &[bool; PLACES]) -> usize
     requires { length reached.now ≡ places }
     ensures { result ≡ count_to places (λ u. not (slice_index_or reached.now u false)) }
 {
-    let mut c: usize = 0;
-    let mut u: usize = 0;
-    while u < PLACES {
-        if !reached[u] {
-            c += 1;
-        }
-        u += 1;
-    }
-    c
+    reached.iter().filter(|x| !**x).count()
 }
 
-// How many passes may still be made: one less than so many before, and none once all places are reached.
-fn passes_left(len: usize, all: usize, left: usize) -> usize
-    requires { 0 < left }
-    ensures { result < left }
-{
-    if len < all { left - 1 } else { 0 }
-}
-
-// A spanning forest from the labels, by passes.
+// A spanning forest from the labels, by passes: fewer than there are places, and none once all places are reached.
 pub fn span(arcs: &[u8; ARCS], rows: &[u64; ROWS], labels: [u8; PLACES]) -> Forest
     requires { Laying arcs.now rows.now }
     ensures { (w : Laying arcs.now rows.now) → Routable w.streams w.n result }
 {
     let mut reached = roots(labels);
     let all = unreached(&reached);
-    let mut via = [0u8; PLACES];
-    let mut into = [false; PLACES];
-    let mut len: usize = 0;
-    let mut left = passes_left(0, all, PLACES);
+    let mut forest = Forest {
+        via: [0; PLACES],
+        into: [false; PLACES],
+        len: 0,
+    };
     let mut listed = [0u8; MAX_STREAMS];
-    let n = list_unmetered(arcs, rows, &mut listed, left);
-    while 0 < left {
-        let before = len;
-        len = pass(arcs, &listed, n, &mut reached, &mut via, &mut into, before);
-        left = passes_left(len, all, left);
+    let n = list_unmetered(arcs, rows, &mut listed, all);
+    for _ in 1..PLACES {
+        if all <= forest.len {
+            break;
+        }
+        pass(arcs, &listed[..n], &mut reached, &mut forest);
     }
-    Forest {
-        via: via,
-        into: into,
-        len: len,
-    }
+    forest
 }
 
 // The held amount nearest to x within the hint's room.
 fn clamp(x: u64) -> u64
     ensures { SizeWithin hint_room result }
 {
-    if x < FLOW_SHIFT - HINT_ROOM {
-        return FLOW_SHIFT - HINT_ROOM;
-    }
-    if FLOW_SHIFT + HINT_ROOM < x {
-        return FLOW_SHIFT + HINT_ROOM;
-    }
-    x
+    x.clamp(FLOW_SHIFT - HINT_ROOM, FLOW_SHIFT + HINT_ROOM)
 }
 
 // Place v hands its net on to place u.
@@ -209,8 +144,8 @@ fn hand_on(nets: &mut [u64; PLACES], u: usize, v: usize) -> u64
     requires { (length nets.old ≡ places) × (u < places) × (v < places) }
     ensures { length nets.new ≡ places }
 {
-    let z = wrapping_sub_u64(nets[v], NET_SHIFT);
-    nets[u] = wrapping_add_u64(nets[u], z);
+    let z = nets[v].wrapping_sub(NET_SHIFT);
+    nets[u] = nets[u].wrapping_add(z);
     nets[v] = NET_SHIFT;
     z
 }
@@ -222,10 +157,10 @@ fn routed(nets: &mut [u64; PLACES], u: usize, v: usize, into: bool) -> u64
 {
     if into {
         let z = hand_on(nets, u, v);
-        clamp(wrapping_sub_u64(FLOW_SHIFT, z))
+        clamp(FLOW_SHIFT.wrapping_sub(z))
     } else {
         let z = hand_on(nets, v, u);
-        clamp(wrapping_add_u64(FLOW_SHIFT, z))
+        clamp(FLOW_SHIFT.wrapping_add(z))
     }
 }
 
@@ -234,9 +169,7 @@ pub fn route(arcs: &[u8; ARCS], f: Forest, nets: &mut [u64; PLACES], flows: &mut
     requires { Routing arcs.now f flows.old × (length nets.old ≡ places) }
     ensures { Routed arcs.now f flows.old flows.new }
 {
-    let mut k = f.len;
-    while 0 < k {
-        k -= 1;
+    for k in (0..f.len).rev() {
         let i = f.via[k] as usize;
         let into = f.into[k];
         let u = end_at(arcs, 2 * i);

@@ -7,7 +7,7 @@ use Rattle.solve_def.specs.declared.Quest.{Quest}
 use Rattle.solve_def.specs.declared.Searched.{Searched}
 use Rattle.solve_def.specs.declared.State.{State}
 use Rattle.solve_def.specs.Sizes.{net_shift, settled_room}
-use Rattle.solve_def.specs.Model.{state_of, improved_by, improved_at}
+use Rattle.solve_def.specs.Model.{improved_by, improved_at}
 use Rattle.solve_def.specs.SearchNeeds.{Network}
 use Rattle.solve_def.specs.SolverNeeds.{Step, Underway}
 use Rattle.solve_arcs.specs.ArcNeeds.{Laid, Margined}
@@ -42,16 +42,7 @@ Improving ls rs ms q st r after margins =
     → (improved_by r.found after r.tree.visited ≡ improved_at (take w.n w.streams) st q.delta q.start)
     × Margined w.n rs after.flows q.delta 0 margins
 
--- The state that is lent to a call,
-abbrev pub state_before : (flows potentials nets : LentMut (List ℕ)) → State
-state_before flows potentials nets = state_of flows.entry.now potentials.entry.now nets.entry.now
-
--- and the one that it leaves.
-abbrev pub state_after : (flows potentials nets : LentMut (List ℕ)) → State
-state_after flows potentials nets = state_of flows.exit.now potentials.exit.now nets.exit.now
-
 -- What an improvement comes to, of what is lent to it.
-abbrev pub ImproveCall : (arcs rows : Lent (List ℕ)) (margins flows potentials nets : LentMut (List ℕ)) → Quest → Searched → Type 0
-ImproveCall arcs rows margins flows potentials nets q r =
-    Improving arcs.entry.now rows.entry.now margins.entry.now q (state_before flows potentials nets) r
-    (state_after flows potentials nets) margins.exit.now
+abbrev pub ImproveCall : (arcs rows : Lent (List ℕ)) (margins : LentMut (List ℕ)) (state : LentMut State) → Quest → Searched → Type 0
+ImproveCall arcs rows margins state q r =
+    Improving arcs.entry.now rows.entry.now margins.entry.now q state.entry.now r state.exit.now margins.exit.now

@@ -16,13 +16,7 @@ use solve_def::sizes::{FLOW_SHIFT, MOST_FLOW};
 fn may_cross(start: bool, end: bool, low: u64) -> bool
     ensures { result ≡ may_cross start end low }
 {
-    if start {
-        if end {
-            return true;
-        }
-        return 0 < low;
-    }
-    if end { 0 < low } else { true }
+    start == end || 0 < low
 }
 
 // What it presses into the set at least.
@@ -30,13 +24,11 @@ fn pressed(start: bool, end: bool, low: u64, high: u64) -> u64
     requires { high ≤ most_flow }
     ensures { result ≡ F.pressed start end low high }
 {
-    if start {
-        if end {
-            return FLOW_SHIFT;
-        }
-        return MOST_FLOW - high;
+    match (start, end) {
+        (true, false) => MOST_FLOW - high,
+        (false, true) => low,
+        _ => FLOW_SHIFT,
     }
-    if end { low } else { FLOW_SHIFT }
 }
 
 // Every stream across has a range, and the lows in sum to more than the highs out.
@@ -46,8 +38,7 @@ pub fn overfull(arcs: &[u8; ARCS], rows: &[u64; ROWS], marked: &[bool; PLACES]) 
 {
     let n = count_of(arcs);
     let mut sum: u64 = 0;
-    let mut i: usize = 0;
-    while i < n {
+    for i in 0..n {
         let start = marked[end_at(arcs, 2 * i)];
         let end = marked[end_at(arcs, 2 * i + 1)];
         let low = rows[4 * i + 2];
@@ -55,7 +46,6 @@ pub fn overfull(arcs: &[u8; ARCS], rows: &[u64; ROWS], marked: &[bool; PLACES]) 
             return false;
         }
         sum += pressed(start, end, low, rows[4 * i + 3]);
-        i += 1;
     }
     n as u64 * FLOW_SHIFT < sum
 }

@@ -3,10 +3,11 @@ use mathlib.Core.Path.{◌≡◌, refl, sym, ◌∙◌, ap}
 use mathlib.Core.Bool.{Bool, true, false}
 use mathlib.Core.List.{List}
 use mathlib.Core.Logic.{◌⊎◌, inl, inr, ⊎_elim}
-use Prim.Native.Nat.{ℕ, ◌+◌, ◌*◌, ◌/◌, ◌%◌, ◌^◌, ◌≤◌, ◌<◌}
+use Prim.Native.Nat.{ℕ, ◌+◌, ◌*◌, ◌/◌, ◌%◌, ◌^◌, ◌≤◌, ◌<◌, min}
 use native.Mathlib.Omega.{arith}
 use native.Mathlib.Decide.{ℕ_discrete}
-use borrow.Author.Tests.{ltb-true, le-ltb}
+use mir.Val.{bool_byte}
+use borrow.Author.Tests.{ltb-true, ltb-false, le-ltb}
 use lib.Bits.{bit_or, or_zero_r}
 use lib.Dec.{ltb}
 use lib.ListN.{length, get_or, set, length-set}
@@ -23,7 +24,7 @@ use Rattle.solve_def.specs.Near.{code_of, lessened, arc_at, relaxed_along, relax
 use Rattle.solve_def.specs.Fringe.{fringe_bit}
 use Rattle.solve_def.proofs.Fringes.{fringe_offered}
 use Rattle.solve_arcs.specs.Cells.{to_cell, next_cell, count_of, starts_of, ends_of}
-use Rattle.solve_arcs.specs.Margins.{less_of, reduced_cost, reduced_costs}
+use Rattle.solve_arcs.specs.Margins.{reduced_cost, reduced_costs}
 use Rattle.solve_arcs.specs.ArcNeeds.{Linked}
 use Rattle.solve_arcs.proofs.Passing.{along_visited, along_unvisited, all_passed, low, low_all, head_in, next_is, passed}
 use Rattle.solve_path.specs.Codes.{shown, Coded, Looked}
@@ -146,12 +147,18 @@ module _ (limit : ℕ) (vs : List Bool) (near : List ℕ) (m v k g i : ℕ) (w :
       (λ o. less_shown o ∙ along_unvisited vs k v g i (shown vs near) o)
 
 -- The code is stored in any case; and the bit.
-pub stored : (near : List ℕ) (v c : ℕ) → set near v (less_of (get_or near v 0) c) ≡ lessened near v c
-stored near v c = by_cases (ltb c (get_or near v 0)) (λ t. rw t) (λ t. rw t (set-get_or near v 0))
+pub stored : (near : List ℕ) (v c : ℕ) → set near v (min (get_or near v 0) c) ≡ lessened near v c
+stored near v c = by_cases (ltb c (get_or near v 0)) (λ t. rw (t, less t)) (λ t. rw (t, more t) (set-get_or near v 0))
+  where
+    less : ltb c (get_or near v 0) ≡ true → min (get_or near v 0) c ≡ c
+    less t = omega (arith, ltb-true _ _ t)
+
+    more : ltb c (get_or near v 0) ≡ false → min (get_or near v 0) c ≡ get_or near v 0
+    more t = omega (arith, ltb-false _ _ t)
 
 -- What the code computes is the place's bit, or 0.
 pub bit_of : (near : List ℕ) (v d i : ℕ) → v < places → d < 2 * farthest
-    → pick {A = ℕ} (ltb (code_of d i) (get_or near v 0)) 1 0 * 2 ^ v % 2 ^ 64 ≡ fringe_bit far near v d i
+    → bool_byte (ltb (code_of d i) (get_or near v 0)) * 2 ^ v % 2 ^ 64 ≡ fringe_bit far near v d i
 bit_of near v d i l m = by_cases (ltb (code_of d i) (get_or near v 0)) (λ t. rw (t, within) (shifted v l)) (λ t. rw t (nothing (2 ^ v)))
   where
     within : ltb far d ≡ false

@@ -1,9 +1,8 @@
 // Shortest paths: the search over visited places, along the arcs of each by their reduced costs.
 #![tactic(auto)]
 
-use num_bytes::minus;
 use plant_def::limits::PLACES;
-use solve_arcs::{ARCS, MARGINS, NONE, end_at, first_at, lesser, next_at, reduced_cost};
+use solve_arcs::{ARCS, MARGINS, NONE, end_at, first_at, next_at, reduced_cost};
 use solve_def::sizes::NUMBERING;
 use solve_def::{Searched, Spot};
 use walking::{tight_walk, walk};
@@ -20,12 +19,6 @@ ghost use Rattle.solve_arcs.specs.ArcNeeds.{Searching};
 ghost use Rattle.solve_path.specs.Codes.{Standing, LookedAlong};
 ghost use Rattle.solve_path.specs.Paces.{Sought, SoughtTightly};
 
-fn digit(b: bool) -> u64
-    ensures { result ≡ pick b 1 0 }
-{
-    if b { 1 } else { 0 }
-}
-
 // Place v is offered distance d over stream i; its bit, where that is nearer. (Which it is cannot be foreseen: so the code is stored in
 // any case.)
 fn offer(near: &mut [u64; PLACES], v: usize, d: u64, i: usize) -> u64
@@ -34,8 +27,8 @@ fn offer(near: &mut [u64; PLACES], v: usize, d: u64, i: usize) -> u64
 {
     let code = d * NUMBERING + i as u64;
     let old = near[v];
-    near[v] = lesser(old, code);
-    digit(code < old) << v
+    near[v] = old.min(code);
+    u64::from(code < old) << v
 }
 
 // The arcs of the place visited last are gone along, and each place that they lead to is offered its distance; the fringe after that.
@@ -53,11 +46,12 @@ pub fn relax(
     let p = potentials[e];
     let mut fringe = at.fringe;
     let mut arc = first_at(arcs, e);
+    // Stays a `while`: the next arc is known only from this one.
     while arc < NONE {
         let v = end_at(arcs, arc);
         let g = reduced_cost(margins[arc], p, potentials[v]);
         let bit = offer(near, v, at.distance + g, arc / 2);
-        fringe = fringe | bit;
+        fringe |= bit;
         arc = next_at(arcs, arc);
     }
     fringe
@@ -67,7 +61,11 @@ pub fn relax(
 fn fall(visited: bool, reach: u64, dist: u64) -> u64
     ensures { result ≡ pick visited (reach - dist) 0 }
 {
-    if visited { minus(reach, dist) } else { 0 }
+    if visited {
+        reach.saturating_sub(dist)
+    } else {
+        0
+    }
 }
 
 // The potentials of all places. (A place's is written whether it falls or not: which places are visited cannot be foreseen.)
@@ -75,11 +73,8 @@ fn lower(potentials: &mut [u64; PLACES], visited: &[bool; PLACES], dist: &[u64; 
     requires { length potentials.old ≡ places }
     ensures { potentials.new ≡ fallen_by visited.now dist.now reach potentials.old }
 {
-    let mut u: usize = 0;
-    while u < PLACES {
-        let by = fall(visited[u], reach, dist[u]);
-        potentials[u] = minus(potentials[u], by);
-        u += 1;
+    for (u, p) in potentials.iter_mut().enumerate() {
+        *p = p.saturating_sub(fall(visited[u], reach, dist[u]));
     }
 }
 
@@ -97,13 +92,12 @@ pub fn search(
     ensures { Sought arcs.now margins.now potentials.old nets.now delta s result potentials.new }
 {
     let w = walk(arcs, margins, potentials, nets, s);
-    let t = w.tree;
     if w.found {
-        lower(potentials, &t.visited, &w.dist, w.reach);
+        lower(potentials, &w.tree.visited, &w.dist, w.reach);
     }
     Searched {
         found: w.found,
-        tree: t,
+        tree: w.tree,
     }
 }
 

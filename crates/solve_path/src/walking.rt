@@ -1,8 +1,9 @@
 // The walk from a place: the nearest place is visited, again and again.
-ghost use Rattle.std.specs.Prelude.{Bool, true, false, List, ◌≡◌, ℕ, ◌<◌, length, replicate};
+ghost use Rattle.std.specs.Prelude.{Bool, true, false, List, ◌≡◌, ℕ, ◌<◌, length};
 ghost use Rattle.plant_def.specs.Limits.{places};
 ghost use Rattle.solve_def.specs.Sizes.{far};
-ghost use Rattle.solve_def.specs.Near.{goal_at, walked_by};
+ghost use Rattle.solve_def.specs.Near.{goal_at};
+ghost use Rattle.solve_def.specs.Search.{added_to, root_at};
 ghost use Rattle.solve_arcs.specs.ArcNeeds.{Ways, walked_from};
 ghost use Rattle.solve_path.specs.Codes.{Coded, NearestFound};
 ghost use Rattle.solve_path.specs.Paces.{Pacing, PacedAlong, Tightly};
@@ -24,28 +25,44 @@ fn nearest(near: &[u64; PLACES], fringe: u64) -> usize
     let mut best = FAR;
     let mut at: usize = PLACES;
     let mut left = fringe;
+    // Stays a `while`: it clears the lowest bit that is left, and counts nothing.
     while 0 < left {
-        let u = u64::trailing_zeros(left) as usize;
+        let u = left.trailing_zeros() as usize;
         let code = near[u];
         if code < best {
             best = code;
             at = u;
         }
-        left = left & (left - 1);
+        left &= left - 1;
     }
     at
 }
 
-// A tree without a place.
-fn bare() -> Tree
-    ensures { result ≡ record { visited = replicate places false; via = replicate places 0; ends = replicate places 0; len = 0 } }
+// The tree of place s alone.
+fn root(s: usize) -> Tree
+    requires { s < places }
+    ensures { result ≡ root_at s }
 {
+    let mut visited = [false; PLACES];
+    visited[s] = true;
     Tree {
-        visited: [false; PLACES],
+        visited,
         via: [0u8; PLACES],
         ends: [0u8; PLACES],
         len: 0,
     }
+}
+
+// The place visited last joins the tree.
+fn add(t: &mut Tree, at: Spot)
+    requires { (t.old.len < places) × (at.place < places) }
+    ensures { t.new ≡ added_to t.old at.stream at.place }
+{
+    let len = t.len;
+    t.visited[at.place] = true;
+    t.via[len] = at.stream;
+    t.ends[len] = at.place as u8;
+    t.len = len + 1;
 }
 
 // Where a walk starts.
@@ -57,28 +74,6 @@ fn first(s: usize) -> Spot
         distance: 0,
         stream: 0,
         fringe: 0,
-    }
-}
-
-// What a walk hands over.
-fn walked_by(found: bool, t: Tree, dist: [u64; PLACES], reach: u64) -> Walked
-    ensures { result ≡ walked_by found t dist reach }
-{
-    Walked {
-        found: found,
-        tree: t,
-        dist: dist,
-        reach: reach,
-    }
-}
-
-// What a search over arcs of reduced cost 0 hands over.
-fn searched_by(found: bool, t: Tree) -> Searched
-    ensures { result ≡ record { found = found; tree = t } }
-{
-    Searched {
-        found: found,
-        tree: t,
     }
 }
 
@@ -100,7 +95,7 @@ fn step(
             place: PLACES,
             distance: at.distance,
             stream: 0,
-            fringe: fringe,
+            fringe,
         };
     }
     let c = near[e];
@@ -125,33 +120,41 @@ pub fn walk(
     ensures { result ≡ walked_from arcs.now margins.now potentials.now nets.now far s }
 {
     let mut at = first(s);
-    let mut t = bare();
+    let mut t = root(s);
     let mut dist = [0u64; PLACES];
     let mut near = [FAR; PLACES];
-    let mut left: usize = ROUNDS;
-    t.visited[s] = true;
     near[s] = 0;
-    while 0 < left {
+    for _left in (0..ROUNDS).rev() {
         at = step(arcs, margins, potentials, at, &mut near);
-        let e = at.place;
-        if e == PLACES {
-            return walked_by(false, t, dist, at.distance);
+        if at.place == PLACES {
+            return Walked {
+                found: false,
+                tree: t,
+                dist,
+                reach: at.distance,
+            };
         }
-        let len = t.len;
-        dist[e] = at.distance;
-        t.visited[e] = true;
-        t.via[len] = at.stream;
-        t.ends[len] = e as u8;
-        t.len = len + 1;
-        if nets[e] < NET_SHIFT {
-            return walked_by(true, t, dist, at.distance);
+        dist[at.place] = at.distance;
+        add(&mut t, at);
+        if nets[at.place] < NET_SHIFT {
+            return Walked {
+                found: true,
+                tree: t,
+                dist,
+                reach: at.distance,
+            };
         }
-        left -= 1;
     }
-    walked_by(false, t, dist, at.distance)
+    Walked {
+        found: false,
+        tree: t,
+        dist,
+        reach: at.distance,
+    }
 }
 
 // From place s over arcs of reduced cost 0 until v is visited. (Codes are at first those of the distance 1, so that no other offer is less.)
+// Stays a loop beside that of `walk`: one for both would take the first codes and the test as parameters, and keep distances for nothing.
 pub fn tight_walk(
     arcs: &[u8; ARCS],
     margins: &[u64; MARGINS],
@@ -163,26 +166,27 @@ pub fn tight_walk(
     ensures { Tightly (walked_from arcs.now margins.now potentials.now (goal_at v) 0 s) result }
 {
     let mut at = first(s);
-    let mut t = bare();
+    let mut t = root(s);
     let mut near = [NUMBERING; PLACES];
-    let mut left: usize = ROUNDS;
-    t.visited[s] = true;
     near[s] = 0;
-    while 0 < left {
+    for _left in (0..ROUNDS).rev() {
         at = step(arcs, margins, potentials, at, &mut near);
-        let e = at.place;
-        if e == PLACES {
-            return searched_by(false, t);
+        if at.place == PLACES {
+            return Searched {
+                found: false,
+                tree: t,
+            };
         }
-        let len = t.len;
-        t.visited[e] = true;
-        t.via[len] = at.stream;
-        t.ends[len] = e as u8;
-        t.len = len + 1;
-        if e == v {
-            return searched_by(true, t);
+        add(&mut t, at);
+        if at.place == v {
+            return Searched {
+                found: true,
+                tree: t,
+            };
         }
-        left -= 1;
     }
-    searched_by(false, t)
+    Searched {
+        found: false,
+        tree: t,
+    }
 }

@@ -9,7 +9,7 @@ use Rattle.solve_def.specs.declared.Tried.{Tried}
 use Rattle.solve_def.specs.Model.{ended_by, from_place, phase, phases, finished, no_hint}
 use Rattle.solve_def.specs.Made.{made_from, made_to, made_by, made}
 use Rattle.solve_arcs.specs.ArcNeeds.{Laying, Margined}
-use Rattle.solve_improve.specs.Improves.{Phasable, Improvable, state_before, state_after}
+use Rattle.solve_improve.specs.Improves.{Phasable, Improvable}
 use Rattle.solve_phases.specs.Finishes.{Finishable}
 
 -- How many improvements are tried from a place: as many as its excess has steps.
@@ -49,22 +49,18 @@ Finishing ls rs st r after margins =
     × (r.full ≡ false → Margined w.laying.n rs after.flows 1 0 margins)
 
 -- What improvements from a place come to, of what is lent to the call,
-abbrev pub TryCall : (arcs rows : Lent (List ℕ)) (margins flows potentials nets : LentMut (List ℕ)) → Quest → Tried → Type 0
-TryCall arcs rows margins flows potentials nets q r =
-    Trying arcs.entry.now rows.entry.now margins.entry.now q (state_before flows potentials nets) r
-    (state_after flows potentials nets) margins.exit.now
+abbrev pub TryCall : (arcs rows : Lent (List ℕ)) (margins : LentMut (List ℕ)) (state : LentMut State) → Quest → Tried → Type 0
+TryCall arcs rows margins state q r =
+    Trying arcs.entry.now rows.entry.now margins.entry.now q state.entry.now r state.exit.now margins.exit.now
 
 -- what a phase comes to,
-abbrev pub PhaseCall : (arcs rows : Lent (List ℕ)) (margins flows potentials nets : LentMut (List ℕ)) → ℕ → Tried → Type 0
-PhaseCall arcs rows margins flows potentials nets d r =
-    Phasing arcs.entry.now rows.entry.now d (state_before flows potentials nets) r (state_after flows potentials nets) margins.exit.now
+abbrev pub PhaseCall : (arcs rows : Lent (List ℕ)) (margins : LentMut (List ℕ)) (state : LentMut State) → ℕ → Tried → Type 0
+PhaseCall arcs rows margins state d r = Phasing arcs.entry.now rows.entry.now d state.entry.now r state.exit.now margins.exit.now
 
 -- what the phases from no hint come to,
-abbrev pub PhasesCall : (arcs rows : Lent (List ℕ)) (margins flows potentials nets : LentMut (List ℕ)) → Tried → Type 0
-PhasesCall arcs rows margins flows potentials nets r =
-    AllPhases arcs.entry.now rows.entry.now r (state_after flows potentials nets) margins.exit.now
+abbrev pub PhasesCall : (arcs rows : Lent (List ℕ)) (margins : LentMut (List ℕ)) (state : LentMut State) → Tried → Type 0
+PhasesCall arcs rows margins state r = AllPhases arcs.entry.now rows.entry.now r state.exit.now margins.exit.now
 
 -- and what finishing from a state that is settled at a hint comes to.
-abbrev pub FinishCall : (arcs rows : Lent (List ℕ)) (margins flows potentials nets : LentMut (List ℕ)) → Tried → Type 0
-FinishCall arcs rows margins flows potentials nets r =
-    Finishing arcs.entry.now rows.entry.now (state_before flows potentials nets) r (state_after flows potentials nets) margins.exit.now
+abbrev pub FinishCall : (arcs rows : Lent (List ℕ)) (margins : LentMut (List ℕ)) (state : LentMut State) → Tried → Type 0
+FinishCall arcs rows margins state r = Finishing arcs.entry.now rows.entry.now state.entry.now r state.exit.now margins.exit.now

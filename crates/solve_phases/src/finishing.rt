@@ -1,16 +1,14 @@
 // From amounts settled at a hint to a balanced flow that meets the step condition at 1, or to a set that is overfull.
 ghost use Rattle.std.specs.Prelude.{◌≡◌, length};
-ghost use Rattle.solve_def.specs.Model.{state_of};
 ghost use Rattle.solve_arcs.specs.Cells.{margin_cells};
 ghost use Rattle.solve_arcs.specs.ArcNeeds.{Laying};
 ghost use Rattle.solve_phases.specs.Finishes.{Finishable};
 ghost use Rattle.solve_phases.specs.Phases.{PhasesCall, FinishCall};
 
 use crate::phase;
-use plant_def::limits::{MAX_STREAMS, PLACES};
 use solve_arcs::{ARCS, MARGINS, ROWS};
-use solve_def::Tried;
 use solve_def::sizes::{MOST_STEP, MOST_TRIED};
+use solve_def::{State, Tried};
 use solve_settle::{excess_sum, forget, resettle};
 
 // From no hint: at each step from MOST_STEP down to 1 amounts are settled anew, and a phase is gone through.
@@ -18,39 +16,28 @@ fn phases(
     arcs: &[u8; ARCS],
     rows: &[u64; ROWS],
     margins: &mut [u64; MARGINS],
-    flows: &mut [u64; MAX_STREAMS],
-    potentials: &mut [u64; PLACES],
-    nets: &mut [u64; PLACES],
+    state: &mut State,
 ) -> Tried
     requires { Laying arcs.now rows.now × (length margins.old ≡ margin_cells) }
-    ensures { PhasesCall arcs rows margins flows potentials nets result }
+    ensures { PhasesCall arcs rows margins state result }
 {
-    forget(flows, potentials);
+    forget(state);
     let mut made: u64 = 0;
     let mut step = MOST_STEP;
+    // Stays a `while`: it halves the step.
     while 1 < step {
-        resettle(arcs, rows, potentials, flows, nets);
-        let e = phase(arcs, rows, margins, flows, potentials, nets, step);
+        resettle(arcs, rows, state);
+        let e = phase(arcs, rows, margins, state, step);
         made += e.made;
         if e.full {
-            let marked = e.marked;
-            return Tried {
-                full: e.full,
-                marked: marked,
-                made: made,
-            };
+            return Tried { made, ..e };
         }
-        step = step / 2;
+        step /= 2;
     }
-    resettle(arcs, rows, potentials, flows, nets);
-    let e = phase(arcs, rows, margins, flows, potentials, nets, 1);
+    resettle(arcs, rows, state);
+    let e = phase(arcs, rows, margins, state, 1);
     made += e.made;
-    let marked = e.marked;
-    Tried {
-        full: e.full,
-        marked: marked,
-        made: made,
-    }
+    Tried { made, ..e }
 }
 
 // One phase at step 1; where too much is over, all phases from no hint. Where no set is full, the margins are those of the amounts.
@@ -58,16 +45,13 @@ pub fn finish(
     arcs: &[u8; ARCS],
     rows: &[u64; ROWS],
     margins: &mut [u64; MARGINS],
-    flows: &mut [u64; MAX_STREAMS],
-    potentials: &mut [u64; PLACES],
-    nets: &mut [u64; PLACES],
+    state: &mut State,
 ) -> Tried
-    requires { Finishable arcs.now rows.now (state_of flows.old potentials.old nets.old)
-        × (length margins.old ≡ margin_cells) }
-    ensures { FinishCall arcs rows margins flows potentials nets result }
+    requires { Finishable arcs.now rows.now state.old × (length margins.old ≡ margin_cells) }
+    ensures { FinishCall arcs rows margins state result }
 {
-    if excess_sum(nets) <= MOST_TRIED {
-        return phase(arcs, rows, margins, flows, potentials, nets, 1);
+    if excess_sum(&state.nets) <= MOST_TRIED {
+        return phase(arcs, rows, margins, state, 1);
     }
-    phases(arcs, rows, margins, flows, potentials, nets)
+    phases(arcs, rows, margins, state)
 }

@@ -5,14 +5,13 @@ ghost use Rattle.std.specs.Prelude.{◌≡◌, ℕ, ◌+◌, ◌*◌, ◌≤◌,
 ghost use Rattle.num_bytes.specs.Choice.{pick};
 ghost use Rattle.plant_def.specs.Limits.{max_weight, places, max_streams};
 ghost use Rattle.solve_def.specs.Sizes.{most_pull, potential_shift, most_flow, net_room};
-ghost use Rattle.solve_def.specs.Model.{clamped, nearest_amount, settled_to, left, come, nets_to, settled, excess_sum, state_of, no_hint};
+ghost use Rattle.solve_def.specs.Model.{clamped, nearest_amount, settled_to, left, come, nets_to, settled, excess_sum, no_hint};
 ghost use Rattle.solve_arcs.specs.ArcNeeds.{Row, Laying, OfStreams};
 ghost use Rattle.solve_def.specs.SearchNeeds.{Potentials};
 ghost use Rattle.solve_def.specs.SolverNeeds.{Amounts, Around};
 ghost use Rattle.solve_settle.specs.Hints.{hint_of, Hinting, Settling};
 ghost use Rattle.solve_settle.specs.Settled.{RowReads, settled_row};
 
-use num_bytes::minus;
 use plant_def::limits::{MAX_STREAMS, PLACES};
 use solve_arcs::{ARCS, ROWS, count_of, end_at};
 use solve_def::sizes::{FLOW_SHIFT, NET_SHIFT, POTENTIAL_SHIFT};
@@ -24,14 +23,7 @@ fn nearest(w: u64, pull: u64, pu: u64, pv: u64) -> u64
     requires { (1 ≤ w) × (w ≤ max_weight) × (pull ≤ 2 * most_pull) × (pu ≤ potential_shift) × (pv ≤ potential_shift) }
     ensures { (R : ℕ) → pull ≡ 2 * (w * R) → result ≡ nearest_amount w R pu pv }
 {
-    minus(pull + (pv + w), pu) / (2 * w)
-}
-
-// A weight to divide by: where it is 0, 1.
-fn at_least_one(w: u64) -> u64
-    ensures { (1 ≤ result) × (w ≤ max_weight → result ≤ max_weight) × (1 ≤ w → result ≡ w) }
-{
-    if w == 0 { 1 } else { w }
+    (pull + (pv + w)).saturating_sub(pu) / (2 * w)
 }
 
 // The amount x of a stream with the weight w where it is metered; else the one that it had.
@@ -45,17 +37,17 @@ fn settled_or(w: u64, x: u64, old: u64) -> u64
 fn clamp(low: u64, high: u64, x: u64) -> u64
     ensures { result ≡ clamped low high x }
 {
-    let y = if high < x { high } else { x };
-    if x < low { low } else { y }
+    if x < low { low } else { x.min(high) }
 }
 
-// The amount of stream i, where it is metered, at the potentials of its start and its end: by its row. (An unmetered one has some number.)
+// The amount of stream i, if it is metered, at the potentials of its start and its end: by its row. (An unmetered one has some number, by
+// the weight 1 in place of 0.)
 pub fn amount_at(rows: &[u64; ROWS], i: usize, pu: u64, pv: u64) -> u64
     requires { Row rows.now i × (pu ≤ potential_shift) × (pv ≤ potential_shift) }
     ensures { (R : ℕ) → RowReads rows.now i R → 1 ≤ get_or rows.now (4 * i) 0
         → result ≡ settled_row rows.now i R pu pv }
 {
-    let x = nearest(at_least_one(rows[4 * i]), rows[4 * i + 1], pu, pv);
+    let x = nearest(rows[4 * i].max(1), rows[4 * i + 1], pu, pv);
     clamp(rows[4 * i + 2], rows[4 * i + 3], x)
 }
 
@@ -71,13 +63,11 @@ pub fn settle_flows(
         (λ ss n. flows.new ≡ settled_to ss potentials.now flows.old n) }
 {
     let n = count_of(arcs);
-    let mut i: usize = 0;
-    while i < n {
+    for i in 0..n {
         let u = end_at(arcs, 2 * i);
         let v = end_at(arcs, 2 * i + 1);
         let x = amount_at(rows, i, potentials[u], potentials[v]);
         flows[i] = settled_or(rows[4 * i], x, flows[i]);
-        i += 1;
     }
 }
 
@@ -97,12 +87,10 @@ pub fn nets_of(arcs: &[u8; ARCS], flows: &[u64; MAX_STREAMS]) -> [u64; PLACES]
 {
     let n = count_of(arcs);
     let mut nets = [NET_SHIFT; PLACES];
-    let mut i: usize = 0;
-    while i < n {
+    for i in 0..n {
         let u = end_at(arcs, 2 * i);
         let v = end_at(arcs, 2 * i + 1);
         book(&mut nets, u, v, flows[i]);
-        i += 1;
     }
     nets
 }
@@ -112,32 +100,23 @@ pub fn settle(arcs: &[u8; ARCS], rows: &[u64; ROWS], h: Hint) -> State
     requires { Hinting arcs.now rows.now h }
     ensures { OfStreams arcs.now rows.now (λ ss n. result ≡ settled ss h) }
 {
-    let potentials = h.potentials;
     let mut flows = h.flows;
-    settle_flows(arcs, rows, &potentials, &mut flows);
+    settle_flows(arcs, rows, &h.potentials, &mut flows);
     let nets = nets_of(arcs, &flows);
     State {
-        flows: flows,
-        potentials: potentials,
-        nets: nets,
+        flows,
+        potentials: h.potentials,
+        nets,
     }
 }
 
 // Amounts and nets are settled anew at the potentials.
-pub fn resettle(
-    arcs: &[u8; ARCS],
-    rows: &[u64; ROWS],
-    potentials: &[u64; PLACES],
-    flows: &mut [u64; MAX_STREAMS],
-    nets: &mut [u64; PLACES],
-)
-    requires { Hinting arcs.now rows.now (hint_of flows.old potentials.now) }
-    ensures { Settling arcs.now rows.now (hint_of flows.old potentials.now)
-        (state_of flows.new potentials.now nets.new) }
+pub fn resettle(arcs: &[u8; ARCS], rows: &[u64; ROWS], state: &mut State)
+    requires { Hinting arcs.now rows.now (hint_of state.old.flows state.old.potentials) }
+    ensures { Settling arcs.now rows.now (hint_of state.old.flows state.old.potentials) state.new }
 {
-    settle_flows(arcs, rows, potentials, flows);
-    let anew = nets_of(arcs, flows);
-    *nets = anew;
+    settle_flows(arcs, rows, &state.potentials, &mut state.flows);
+    state.nets = nets_of(arcs, &state.flows);
 }
 
 // No hint: amounts and potentials 0.
@@ -150,15 +129,12 @@ pub fn no_hint() -> Hint
     }
 }
 
-// Amounts and potentials become those of no hint.
-pub fn forget(flows: &mut [u64; MAX_STREAMS], potentials: &mut [u64; PLACES])
-    ensures { hint_of flows.new potentials.new ≡ no_hint }
+// Amounts and potentials become those of no hint; the nets stay as they are.
+pub fn forget(state: &mut State)
+    ensures { (hint_of state.new.flows state.new.potentials ≡ no_hint) × (state.new.nets ≡ state.old.nets) }
 {
-    let none = no_hint();
-    let amounts = none.flows;
-    let levels = none.potentials;
-    *flows = amounts;
-    *potentials = levels;
+    state.flows = [FLOW_SHIFT; MAX_STREAMS];
+    state.potentials = [POTENTIAL_SHIFT; PLACES];
 }
 
 // The summed positive net.
@@ -166,11 +142,9 @@ pub fn excess_sum(nets: &[u64; PLACES]) -> u64
     requires { Around nets.now net_room }
     ensures { result ≡ excess_sum nets.now }
 {
-    let mut u: usize = 0;
     let mut sum: u64 = 0;
-    while u < PLACES {
-        sum += minus(nets[u], NET_SHIFT);
-        u += 1;
+    for z in nets {
+        sum += z.saturating_sub(NET_SHIFT);
     }
     sum
 }

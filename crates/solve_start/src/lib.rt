@@ -8,35 +8,32 @@ ghost use Rattle.plant_def.specs.declared.Plant.{Plant};
 ghost use Rattle.plant_def.specs.Says.{plant_of};
 ghost use Rattle.flow_def.specs.Calls.{Grouped};
 ghost use Rattle.solve_def.specs.Sizes.{flow_shift};
-ghost use Rattle.solve_def.specs.Model.{state_of};
 ghost use Rattle.solve_def.specs.SolverNeeds.{AtHint};
 ghost use Rattle.solve_arcs_fill.specs.Plants.{LaidOf};
 
 use newton_descend::potentials_of;
-use plant_def::limits::{MAX_STREAMS, PLACES};
+use plant_def::limits::PLACES;
 use solve_arcs::{ARCS, ROWS};
+use solve_def::State;
 use solve_def::sizes::{POTENTIAL_SHIFT, POTENTIAL_SPREAD};
 use solve_forest::{route, span};
 use solve_settle::{nets_of, settle_flows};
 
-// Potentials from the labels by the unmetered streams, and amounts at these, in lent arrays; the amounts are 0 at first. Routing leaves
+// Potentials from the labels by the unmetered streams, and amounts at these, in a lent state; the amounts are 0 at first. Routing leaves
 // metered amounts as they are. If a set of places looks overfull, that set as bits; else 0.
 pub fn start(
     units: u8,
     labels: [u8; PLACES],
     arcs: &[u8; ARCS],
     rows: &[u64; ROWS],
-    flows: &mut [u64; MAX_STREAMS],
-    potentials: &mut [u64; PLACES],
-    nets: &mut [u64; PLACES],
+    state: &mut State,
 ) -> u64
     requires { ((p : Plant) × LaidOf p arcs.now rows.now × (p.units ≡ units) × Grouped p labels)
-        × (flows.old ≡ replicate max_streams flow_shift) }
-    ensures { (p : Plant) → LaidOf p arcs.now rows.now → Grouped p labels
-        → AtHint (plant_of p).streams (state_of flows.new potentials.new nets.new) }
+        × (state.old.flows ≡ replicate max_streams flow_shift) }
+    ensures { (p : Plant) → LaidOf p arcs.now rows.now → Grouped p labels → AtHint (plant_of p).streams state.new }
 {
     let mut guess: u64 = 0;
-    let levels = potentials_of(
+    state.potentials = potentials_of(
         units,
         labels,
         arcs,
@@ -45,12 +42,14 @@ pub fn start(
         POTENTIAL_SPREAD,
         &mut guess,
     );
-    *potentials = levels;
-    settle_flows(arcs, rows, potentials, flows);
-    let given = nets_of(arcs, flows);
-    *nets = given;
-    route(arcs, span(arcs, rows, labels), nets, flows);
-    let anew = nets_of(arcs, flows);
-    *nets = anew;
+    settle_flows(arcs, rows, &state.potentials, &mut state.flows);
+    state.nets = nets_of(arcs, &state.flows);
+    route(
+        arcs,
+        span(arcs, rows, labels),
+        &mut state.nets,
+        &mut state.flows,
+    );
+    state.nets = nets_of(arcs, &state.flows);
     guess
 }

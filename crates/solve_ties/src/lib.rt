@@ -62,25 +62,20 @@ fn tie_at(
     if !h.found {
         return;
     }
-    let t = h.tree;
-    let via = t.via;
-    let ends = t.ends;
-    let len = t.len;
-    let target = v as u8;
     augment(
         arcs,
         rows,
         margins,
         flows,
-        &via,
-        &ends,
+        &h.tree.via,
+        &h.tree.ends,
         Route {
-            len: len,
-            target: target,
+            len: h.tree.len,
+            target: v as u8,
             delta: 1,
         },
     );
-    flows[i] = flows[i] - 1;
+    flows[i] -= 1;
 }
 
 // The streams one after the other.
@@ -95,13 +90,11 @@ pub fn tie_all(
     ensures { TiedAll arcs.now rows.now potentials.now flows.old flows.new }
 {
     let n = count_of(arcs);
-    let mut i: usize = 0;
-    while i < n {
+    for i in 0..n {
         let falls = can_fall(arcs, rows, margins, potentials, i);
         spare(rows, margins, i);
         if falls {
             tie_at(arcs, rows, margins, flows, potentials, i);
         }
-        i += 1;
     }
 }

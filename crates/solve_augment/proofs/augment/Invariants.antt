@@ -3,7 +3,4 @@ use Rattle.solve_augment.proofs.Augments.{Augmenting}
 use Rattle.solve_augment.proofs.augment.Given as goal
 
 abbrev pub invariant-loop-j : goal.invariant-loop-j
-invariant-loop-j l = Augmenting l.arcs l.rows l.via l.ends l.initial.j l.initial.at l.delta l.initial.flows l.initial.margins l.flows l.margins l.at l.j
-
-abbrev pub decreases-loop-j : goal.decreases-loop-j
-decreases-loop-j l = l.j
+invariant-loop-j l = Augmenting l.arcs l.rows l.via l.ends l.way.len l.way.target l.way.delta l.initial.flows l.initial.margins l.flows l.margins l.at l.j

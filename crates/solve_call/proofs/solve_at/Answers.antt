@@ -3,7 +3,6 @@ use mathlib.Core.Path.{refl}
 use Rattle.plant_def.specs.declared.Plant.{Plant}
 use Rattle.plant_def.specs.Says.{plant_of}
 use Rattle.solve_def.specs.declared.State.{State}
-use Rattle.solve_def.specs.Model.{state_of}
 use Rattle.solve_def.specs.SolverNeeds.{AtHint}
 use Rattle.solve_def.proofs.Theorem.{network_of}
 use Rattle.solve_arcs_fill.specs.Plants.{LaidOf}
@@ -13,7 +12,7 @@ use Rattle.solve_call.proofs.solve_at.Goals as goal
 use Rattle.solve_call.proofs.solve_at.Goals.{Start}
 
 abbrev first : Start → State
-first st = state_of st.args.flows.now st.args.potentials.now st.args.nets.now
+first st = st.args.state.now
 
 -- What the phases begin from.
 abbrev begun : (st : Start) (p : Plant) → LaidOf p st.args.arcs.now st.args.rows.now → AtHint (plant_of p).streams (first st)
@@ -31,7 +30,7 @@ pub returns-then-e : goal.returns-then-e
 returns-then-e c =
     λ p w e h.
     let got = c.finish-e.ensures (begun (goal.at.returns-then-e c).Start p w h) in (
-      full_right p w.accepted (first (goal.at.returns-then-e c).Start) h _ got.0 _ c.if-e.true (rw e c.masked-own.ensures),
+      full_right p w.accepted (first (goal.at.returns-then-e c).Start) h _ got.0 _ c.if-e.true (rw e c.masked-marked.ensures),
       counted p w.accepted (first (goal.at.returns-then-e c).Start) h _ got.0 _ got.1,
     )
 
@@ -52,6 +51,6 @@ returns c =
     λ p w e h.
     let got = c.finish-e.ensures (begun (goal.at.returns c).Start p w h) in
     let ties = c.tie_all.ensures (tieable p w.accepted (first (goal.at.returns c).Start) h _ got.0 n _ _ w.laid) in (
-      found_right p w.accepted (first (goal.at.returns c).Start) h _ got.0 n _ _ _ ties (rw e c.masked-own.ensures) got.1,
+      found_right p w.accepted (first (goal.at.returns c).Start) h _ got.0 n _ _ _ ties (rw e c.masked-marked.ensures) got.1,
       counted p w.accepted (first (goal.at.returns c).Start) h _ got.0 _ got.1,
     )

@@ -7,5 +7,5 @@ returns-then-reached-u c = c.reach.ensures
 pub returns-then-reached-v : goal.returns-then-reached-v
 returns-then-reached-v c = c.reach-then-reached-v.ensures
 
-pub returns : goal.returns
-returns c = (c.requires.0, λ ss n u h. h)
+pub returns-else-reached-v : goal.returns-else-reached-v
+returns-else-reached-v c = (c.requires.0, λ ss n u h. h)

@@ -10,7 +10,7 @@ use Rattle.solve_forest.proofs.route.Goals as goal
 use Rattle.solve_forest.proofs.route.Goals.{In-loop-k}
 
 pub loop-k-init : goal.loop-k-init
-loop-k-init c = (omega arith, c.requires.1, λ w. (w.routes, record { each = λ k l m. refl }))
+loop-k-init c = (c.requires.1, λ w. (w.routes, record { each = λ k l m. refl }))
 
 short : (c : In-loop-k) → c.loop-k.k - 1 < places
 short c = omega (arith, c.requires.0.forest.short)
@@ -53,7 +53,7 @@ end_at-v-requires c = omega (arith, index (goal.at.end_at-v-requires c).In-loop-
 pub routed-requires : goal.routed-requires
 routed-requires c =
     let w = c.requires.0.laying in
-    (c.loop-k.invariant.1, rw c.end_at-u.ensures (start_in _ _ w _ (used (goal.at.routed-requires c).In-loop-k)), rw c.end_at-v.ensures (end_in _ _ w _ (used (goal.at.routed-requires c).In-loop-k)))
+    (c.loop-k.invariant.0, rw c.end_at-u.ensures (start_in _ _ w _ (used (goal.at.routed-requires c).In-loop-k)), rw c.end_at-v.ensures (end_in _ _ w _ (used (goal.at.routed-requires c).In-loop-k)))
 
 pub offset_bounds-flows-i : goal.offset_bounds-flows-i
 offset_bounds-flows-i c = omega (arith, index (goal.at.offset_bounds-flows-i c).In-loop-k)
@@ -64,10 +64,9 @@ bounds-flows-i c = index (goal.at.bounds-flows-i c).In-loop-k
 pub loop-k-preserved : goal.loop-k-preserved
 loop-k-preserved c =
     let at = c.loop-k in (
-      omega arith,
       c.routed.ensures.0,
-      λ w. (routes_set (at.invariant.2 w).0 _ _ (index (goal.at.loop-k-preserved c).In-loop-k) c.routed.ensures.1, kept_set (at.invariant.2 w).1 _ _ (listed (goal.at.loop-k-preserved c).In-loop-k w)),
+      λ w. (routes_set (at.invariant.1 w).0 _ _ (index (goal.at.loop-k-preserved c).In-loop-k) c.routed.ensures.1, kept_set (at.invariant.1 w).1 _ _ (listed (goal.at.loop-k-preserved c).In-loop-k w)),
     )
 
 pub returns : goal.returns
-returns c = λ w. c.loop-k.invariant.2 w
+returns c = λ w. c.loop-k.invariant.1 w

@@ -3,8 +3,5 @@
 use Rattle.solve_forest.specs.Forests.{Spanning, ListedOf, FreeOf}
 use Rattle.solve_forest.proofs.span.Given as goal
 
-abbrev pub invariant-loop-left : goal.invariant-loop-left
-invariant-loop-left l = Spanning l.reached l.via l.into l.len × ListedOf l.arcs l.rows l.via l.len × FreeOf l.arcs l.rows l.listed l.n
-
-abbrev pub decreases-loop-left : goal.decreases-loop-left
-decreases-loop-left l = l.left
+abbrev pub invariant-loop : goal.invariant-loop
+invariant-loop l = Spanning l.reached l.forest.via l.forest.into l.forest.len × ListedOf l.arcs l.rows l.forest.via l.forest.len × FreeOf l.arcs l.rows l.listed l.n

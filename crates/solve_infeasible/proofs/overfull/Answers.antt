@@ -1,6 +1,6 @@
 -- `solve_infeasible::overfull` meets its contract: the first i streams may stand where they stand, and what they press is summed.
 use mathlib.Core.Path.{◌≡◌, refl, sym, ◌∙◌}
-use mathlib.Core.Bool.{Bool, true, false}
+use mathlib.Core.Bool.{Bool, false}
 use mathlib.Core.List.{List}
 use Prim.Native.Nat.{ℕ, ◌+◌, ◌≤◌, ◌<◌, ◌*◌}
 use native.Mathlib.Omega.{arith}
@@ -14,7 +14,7 @@ use Rattle.solve_infeasible.proofs.overfull.Goals as goal
 use Rattle.solve_infeasible.proofs.overfull.Goals.{After-may_cross, After-pressed-sum, In-loop-i}
 
 below : (c : In-loop-i) → c.loop-i.i < count_of c.args.arcs.now
-below c = omega (arith, c.loop-i-test.true, c.count_of-n.ensures)
+below c = omega (arith, c.count_of-n.ensures)
 
 -- The same by the cells.
 may_same : (ms : List Bool) {u u' v v' : ℕ} (l : ℕ) → u ≡ u' → v ≡ v' → may_cross (get_or ms u false) (get_or ms v false) l ≡ may_cross (get_or ms u' false) (get_or ms v' false) l
@@ -42,7 +42,7 @@ press_is c =
 
 pub loop-i-init : goal.loop-i-init
 loop-i-init c =
-    (omega arith, omega arith, λ w. (bounded_none _ _, sym (pressed_none _ _)), omega (arith, c.count_of-n.ensures, c.requires.laid.along.linked.few))
+    (omega arith, λ w. (bounded_none _ _, sym (pressed_none _ _)), omega (arith, c.count_of-n.ensures, c.requires.laid.along.linked.few))
 
 pub bounds-marked-end_at : goal.bounds-marked-end_at
 bounds-marked-end_at c =
@@ -73,20 +73,19 @@ sum_most c =
 
 pub overflow_add-sum : goal.overflow_add-sum
 overflow_add-sum c =
-    omega (arith, sum_most c, c.loop-i.invariant.1)
+    omega (arith, sum_most c, c.loop-i.invariant.0)
 
 pub loop-i-preserved : goal.loop-i-preserved
 loop-i-preserved c = (
-  omega arith,
-  omega (arith, sum_most c, c.loop-i.invariant.1),
+  omega (arith, sum_most c, c.loop-i.invariant.0),
   λ w. (
-    bounded_next _ _ w _ _ (below (goal.at.loop-i-preserved c).In-loop-i) (sym (may_is (goal.at.loop-i-preserved c).After-may_cross) ∙ c.if-not-may_cross.false) (c.loop-i.invariant.2 w).0,
-    omega (arith, pressed_next _ _ w c.args.marked.now _ (below (goal.at.loop-i-preserved c).In-loop-i), press_is c, (c.loop-i.invariant.2 w).1),
+    bounded_next _ _ w _ _ (below (goal.at.loop-i-preserved c).In-loop-i) (sym (may_is (goal.at.loop-i-preserved c).After-may_cross) ∙ c.if-not-may_cross.false) (c.loop-i.invariant.1 w).0,
+    omega (arith, pressed_next _ _ w c.args.marked.now _ (below (goal.at.loop-i-preserved c).In-loop-i), press_is c, (c.loop-i.invariant.1 w).1),
   ),
-  c.loop-i.invariant.3,
+  c.loop-i.invariant.2,
 )
 
 pub returns : goal.returns
 returns c = λ w.
-    let e : c.loop-i.i ≡ c.count_of-n.result = omega (arith, c.loop-i-test.false, c.loop-i.invariant.0) in
-    full_end _ _ w _ c.count_of-n.result _ _ c.count_of-n.ensures (rw e at (c.loop-i.invariant.2 w).0) (rw e at (c.loop-i.invariant.2 w).1) refl
+    let e : c.loop-i.i ≡ c.count_of-n.result = omega arith in
+    full_end _ _ w _ c.count_of-n.result _ _ c.count_of-n.ensures (rw e at (c.loop-i.invariant.1 w).0) (rw e at (c.loop-i.invariant.1 w).1) refl

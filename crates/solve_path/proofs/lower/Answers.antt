@@ -12,7 +12,7 @@ use Rattle.solve_def.proofs.Filling.{fallen_is}
 use Rattle.solve_path.proofs.lower.Goals as goal
 
 pub loop-u-init : goal.loop-u-init
-loop-u-init c = (omega arith, written_none c.requires)
+loop-u-init c = written_none c.requires
 
 -- A potential that falls, or not.
 fallen_by : (b : Bool) (g p : ℕ) → p - pick b g 0 ≡ fallen b g p
@@ -21,13 +21,11 @@ fallen_by false g p = omega arith
 
 pub loop-u-preserved : goal.loop-u-preserved
 loop-u-preserved c =
-    let m = c.loop-u.invariant.1 in
-    let u = c.loop-u.u in (
-      omega arith,
-      written_put m (omega arith) _ (c.minus.ensures ∙ rw (c.fall-by.ensures, m.rest u (omega arith)) (fallen_by (get_or c.args.visited.now u false) _ _)),
-    )
+    let m = c.loop-u.invariant in
+    let u = c.loop-u.u in
+    written_put m (omega arith) _ (c.saturating_sub.ensures ∙ rw (c.fall.ensures, m.rest u (omega arith)) (fallen_by (get_or c.args.visited.now u false) _ _))
 
 pub returns : goal.returns
 returns c =
     let e : c.loop-u.u ≡ places = omega arith in
-    fallen_is _ _ _ _ _ c.requires (rw e at c.loop-u.invariant.1)
+    fallen_is _ _ _ _ _ c.requires (rw e at c.loop-u.invariant)

@@ -6,4 +6,4 @@ pub returns : goal.returns
 returns c =
     let near = c.args.near.now in
     let v = c.args.v in
-    (rw c.lesser.ensures (stored near v _), rw c.digit.ensures (bit_of near v c.args.d c.args.i c.requires.1 c.requires.0))
+    (rw c.min.ensures (stored near v _), rw c.from.ensures (bit_of near v c.args.d c.args.i c.requires.1 c.requires.0))

@@ -15,7 +15,7 @@ use Rattle.num_bytes.specs.Choice.{pick}
 use Rattle.solve_def.specs.declared.Halt.{Halt}
 use Rattle.solve_def.specs.declared.State.{State}
 use Rattle.flow_def.specs.Overfull.{unmarked}
-use Rattle.solve_def.specs.Model.{state_of, ended_by, going}
+use Rattle.solve_def.specs.Model.{ended_by, going}
 use Rattle.solve_def.specs.Full.{overfull}
 use Rattle.solve_def.proofs.Streams.{solvable_of}
 use Rattle.solve_def.proofs.PhaseTurns.{running_start, running_over, running_next, stuck_same, from_none, from_next, from_stuck}
@@ -28,10 +28,10 @@ use Rattle.solve_phases.proofs.from_place.Goals.{In-loop-over, Start}
 abbrev Of : Start → Type 0
 Of st =
     Improvable st.args.arcs.now st.args.rows.now st.args.margins.now st.args.q.delta
-    (state_of st.args.flows.now st.args.potentials.now st.args.nets.now)
+    st.args.state.now
 
 -- One improvement more can be made.
-abbrev able : (c : In-loop-over) → Of c.before.before.before.before.before → let at = c.loop-over in Improvable c.args.arcs.now c.args.rows.now at.margins c.args.q.delta (state_of at.flows at.potentials at.nets)
+abbrev able : (c : In-loop-over) → Of c.before.before.before.before.before.before → let at = c.loop-over in Improvable c.args.arcs.now c.args.rows.now at.margins c.args.q.delta at.state
 able c w =
     let at = c.loop-over.invariant.1 w in
     record { streams = w.streams; n = w.n; network = w.network; laid = w.laid; step = w.step; underway = at.0.underway; margined = at.3 }
@@ -52,15 +52,15 @@ fewer : (c : In-loop-over) → let d = c.args.q.delta in
 fewer c = omega (arith, div-eq-sub-div c.requires.0.step.0 c.loop-over-test.true)
 
 pub loop-over-init : goal.loop-over-init
-loop-over-init c = (omega arith, λ w. rw c.minus-over.ensures (running_start _ _ _ _ w.step w.underway, refl, omega arith, w.margined))
+loop-over-init c = (omega arith, λ w. rw c.saturating_sub-over.ensures (running_start _ _ _ _ w.step w.underway, refl, omega arith, w.margined))
 
 pub improve_from-h-requires : goal.improve_from-h-requires
 improve_from-h-requires c =
     let w = c.requires.0 in
     (able (goal.at.improve_from-h-requires c).In-loop-over w, c.requires.1, running_over _ _ _ _ _ (some (goal.at.improve_from-h-requires c).In-loop-over) (c.loop-over.invariant.1 w).0)
 
-pub tested-e-requires : goal.tested-e-requires
-tested-e-requires c =
+pub tested-full-requires : goal.tested-full-requires
+tested-full-requires c =
     improve_laying _ _ _ _ _ c.requires.0
 
 pub returns-then-not-h : goal.returns-then-not-h
@@ -72,7 +72,7 @@ returns-then-not-h c = λ w.
     let ms = c.improve_from-h.result.tree.visited in (
       halted (overfull (take w.n w.streams) ms) _ _ ms _
           (stuck_same _ _ _ _ _ _ _ _ got.0 l (solvable_of w.streams w.n w.network) w.step c.requires.1 at.0 q)
-          (c.tested-e.ensures (improve_laying _ _ _ _ _ w))
+          (c.tested-full.ensures (improve_laying _ _ _ _ _ w))
           ∙ from_stuck _ _ _ _ _ _ _ _ got.0 l q
           ∙ at.1,
       omega (arith, at.2, made_stuck _ _ _ _ _ _ _ _ got.0 l q),
@@ -81,7 +81,7 @@ returns-then-not-h c = λ w.
 
 pub overflow_add-made : goal.overflow_add-made
 overflow_add-made c =
-    let f : Fits w64 c.minus-over.result = search rules in
+    let f : Fits w64 c.saturating_sub-over.result = search rules in
     omega (arith, f.fits, c.loop-over.invariant.0, c.loop-over-test.true, c.requires.0.step.0)
 
 pub loop-over-preserved : goal.loop-over-preserved
@@ -105,5 +105,5 @@ returns c = λ w.
     let at = l.invariant.1 w in
     let q = c.args.q in
     let z : l.over / q.delta ≡ 0 = div-eq_of_lt c.loop-over-test.false in
-    let none = made_none (take w.n w.streams) q.delta q.start (state_of l.flows l.potentials l.nets) in
+    let none = made_none (take w.n w.streams) q.delta q.start l.state in
     (from_none _ _ _ _ ∙ (rw z at at.1), omega (arith, none, rw z at at.2), at.3)

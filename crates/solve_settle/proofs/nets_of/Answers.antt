@@ -18,7 +18,7 @@ below : (c : In-loop-i) → c.loop-i.i < count_of c.args.arcs.now
 below c = rw (← c.count_of-n.ensures) c.loop-i-test.true
 
 pub loop-i-init : goal.loop-i-init
-loop-i-init c = (omega arith, λ rs w. sym (nets_none _ _), omega (arith, c.count_of-n.ensures, c.requires.0.1.laid.along.linked.few))
+loop-i-init c = (λ rs w. sym (nets_none _ _), omega (arith, c.count_of-n.ensures, c.requires.0.1.laid.along.linked.few))
 
 pub book-requires : goal.book-requires
 book-requires c =
@@ -30,7 +30,7 @@ book-requires c =
       rw c.end_at-u.ensures (start_in _ _ w _ (below (goal.at.book-requires c).In-loop-i)),
       rw c.end_at-v.ensures (end_in _ _ w _ (below (goal.at.book-requires c).In-loop-i)),
       c.requires.1 _ low,
-      rw (at.invariant.1 _ w)
+      rw (at.invariant.0 _ w)
           (around_more
           (nets_around (take w.n w.streams) c.args.flows.now at.i (omega arith)
           (λ k h. rw (stream_is w.streams w.n k (omega arith)) ((net.within.each k (omega arith)).from_in, (net.within.each k (omega arith)).to_in))
@@ -40,9 +40,9 @@ book-requires c =
 pub loop-i-preserved : goal.loop-i-preserved
 loop-i-preserved c =
     let at = c.loop-i in
-    (omega arith, λ rs w. c.book.ensures ∙ rw (c.end_at-u.ensures, c.end_at-v.ensures) (booked_row _ rs w _ (below (goal.at.loop-i-preserved c).In-loop-i) _ _ (at.invariant.1 rs w)), at.invariant.2)
+    (λ rs w. c.book.ensures ∙ rw (c.end_at-u.ensures, c.end_at-v.ensures) (booked_row _ rs w _ (below (goal.at.loop-i-preserved c).In-loop-i) _ _ (at.invariant.0 rs w)), at.invariant.1)
 
 pub returns : goal.returns
 returns c = λ rs w.
     let e : c.loop-i.i ≡ w.n = omega (arith, c.count_of-n.ensures, w.laid.along.counted, c.loop-i-test.false) in
-    rw e at (c.loop-i.invariant.1 rs w)
+    rw e at (c.loop-i.invariant.0 rs w)

@@ -1,7 +1,7 @@
 -- `solve_settle::nets_of` meets its contract: the first i streams are booked.
 use mathlib.Core.Path.{◌≡◌}
 use mathlib.Core.List.{List}
-use Prim.Native.Nat.{ℕ, ◌≤◌, ◌-◌}
+use Prim.Native.Nat.{ℕ, ◌≤◌}
 use lib.ListN.{take}
 use Rattle.solve_def.specs.Model.{nets_to}
 use Rattle.plant_def.specs.Limits.{max_streams}
@@ -10,7 +10,4 @@ use Rattle.solve_settle.proofs.nets_of.Given as goal
 
 abbrev pub invariant-loop-i : goal.invariant-loop-i
 invariant-loop-i l =
-    (l.i ≤ l.n) × ((rs : List ℕ) (w : Laying l.arcs rs) → l.nets ≡ nets_to (take w.n w.streams) l.flows l.i) × (l.n ≤ max_streams)
-
-abbrev pub decreases-loop-i : goal.decreases-loop-i
-decreases-loop-i l = l.n - l.i
+    ((rs : List ℕ) (w : Laying l.arcs rs) → l.nets ≡ nets_to (take w.n w.streams) l.flows l.i) × (l.n ≤ max_streams)

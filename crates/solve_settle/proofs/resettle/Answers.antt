@@ -8,11 +8,11 @@ settle_flows-requires c =
     let h = c.requires in
     (h.laying, h.ready.start.capped, h.ready.start.long)
 
-pub nets_of-anew-requires : goal.nets_of-anew-requires
-nets_of-anew-requires c =
+pub nets_of-state-requires : goal.nets_of-state-requires
+nets_of-state-requires c =
     let h = c.requires in
     let w = h.laying in
     ((_, w), rw (c.settle_flows.ensures w) (ready_amounts w.streams w.n w.network _ h.ready))
 
 pub returns : goal.returns
-returns c = λ w. rw (c.nets_of-anew.ensures _ w, c.settle_flows.ensures w) (sym (settled_is w.streams w.n w.network _))
+returns c = λ w. rw (c.nets_of-state.ensures _ w, c.settle_flows.ensures w) (sym (settled_is w.streams w.n w.network _))

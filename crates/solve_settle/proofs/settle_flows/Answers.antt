@@ -20,7 +20,7 @@ v_in : (c : After-end_at-v) → c.end_at-v.result < places
 v_in c = rw c.end_at-v.ensures (end_in _ _ c.requires.0 _ (below c.before.before))
 
 pub loop-i-init : goal.loop-i-init
-loop-i-init c = (omega arith, λ w. sym (settle_none _ _ _), omega (arith, c.count_of-n.ensures, c.requires.0.laid.along.linked.few))
+loop-i-init c = (λ w. sym (settle_none _ _ _), omega (arith, c.count_of-n.ensures, c.requires.0.laid.along.linked.few))
 
 pub offset_bounds-potentials-u : goal.offset_bounds-potentials-u
 offset_bounds-potentials-u c = omega (arith, u_in (goal.at.offset_bounds-potentials-u c).After-end_at-u)
@@ -41,13 +41,12 @@ amount_at-x-requires c =
 pub loop-i-preserved : goal.loop-i-preserved
 loop-i-preserved c =
     let at = c.loop-i in (
-      omega arith,
-      λ w. turned_row _ _ w _ (below (goal.at.loop-i-preserved c).In-loop-i) _ _ _ (at.invariant.1 w) _ _
+      λ w. turned_row _ _ w _ (below (goal.at.loop-i-preserved c).In-loop-i) _ _ _ (at.invariant.0 w) _ _
           (λ h. rw (← c.end_at-u.ensures, ← c.end_at-v.ensures) (c.amount_at-x.ensures _ (pull_is _ _ w _ (below (goal.at.loop-i-preserved c).In-loop-i)) h)) c.settled_or.ensures,
-      at.invariant.2,
+      at.invariant.1,
     )
 
 pub returns : goal.returns
 returns c = λ w.
     let e : c.loop-i.i ≡ w.n = omega (arith, c.count_of-n.ensures, w.laid.along.counted, c.loop-i-test.false) in
-    rw e at (c.loop-i.invariant.1 w)
+    rw e at (c.loop-i.invariant.0 w)

@@ -24,8 +24,8 @@ use Rattle.solve_start.proofs.Factored.{labels_of_lem, placed_of, level_ready, l
 use Rattle.solve_start.proofs.start.Goals as goal
 use Rattle.solve_start.proofs.start.Goals.{After-span, Start}
 
-pub potentials_of-levels-requires : goal.potentials_of-levels-requires
-potentials_of-levels-requires c =
+pub potentials_of-state-requires : goal.potentials_of-state-requires
+potentials_of-state-requires c =
     let o = c.requires.0 in
     let a = o.1.accepted in
     let e = labels_are o.0 a unmetered_only _ o.3 in
@@ -50,30 +50,30 @@ from_none flows p z ps xs e = e ∙ ap (λ (ys : List ℕ). settled_to (plant_of
 -- What is routed, and along what.
 abbrev routing : (c : After-span) (p : Plant) (w : LaidOf p c.args.arcs.now c.args.rows.now)
     → Grouped p c.args.labels → (xs : List ℕ)
-    → xs ≡ settled_to (plant_of p).streams c.potentials_of-levels.result c.args.flows.now p.count
+    → xs ≡ settled_to (plant_of p).streams c.potentials_of-state.result c.args.state.now.flows p.count
     → Routing c.args.arcs.now c.span.result xs
 routing c p w g xs e =
     record {
       rows = c.args.rows.now;
       laying = laying c.args.arcs.now c.args.rows.now p w;
       forest = c.span.ensures (laying c.args.arcs.now c.args.rows.now p w);
-      routes = rw (from_none _ p c.requires.1 _ xs e) (level_routes p w.accepted (levels _ _ _ p w _ g c.potentials_of-levels.ensures));
+      routes = rw (from_none _ p c.requires.1 _ xs e) (level_routes p w.accepted (levels _ _ _ p w _ g c.potentials_of-state.ensures));
     }
 
 pub settle_flows-requires : goal.settle_flows-requires
 settle_flows-requires c =
     let o = c.requires.0 in (
       laying c.args.arcs.now c.args.rows.now o.0 o.1,
-      (level_ready o.0 o.1.accepted (levels _ _ _ o.0 o.1 _ o.3 c.potentials_of-levels.ensures)).start.capped,
+      (level_ready o.0 o.1.accepted (levels _ _ _ o.0 o.1 _ o.3 c.potentials_of-state.ensures)).start.capped,
       rw c.requires.1 (routes_none {ss = (plant_of o.0).streams}).long,
     )
 
-pub nets_of-given-requires : goal.nets_of-given-requires
-nets_of-given-requires c =
+pub nets_of-state-requires : goal.nets_of-state-requires
+nets_of-state-requires c =
     let o = c.requires.0 in (
       (_, laying c.args.arcs.now c.args.rows.now o.0 o.1),
       rw (from_none _ o.0 c.requires.1 _ _ (c.settle_flows.ensures (laying c.args.arcs.now c.args.rows.now o.0 o.1)))
-          (routes_amounts (level_routes o.0 o.1.accepted (levels _ _ _ o.0 o.1 _ o.3 c.potentials_of-levels.ensures))),
+          (routes_amounts (level_routes o.0 o.1.accepted (levels _ _ _ o.0 o.1 _ o.3 c.potentials_of-state.ensures))),
     )
 
 pub span-requires : goal.span-requires
@@ -83,17 +83,17 @@ pub route-requires : goal.route-requires
 route-requires c =
     let o = c.requires.0 in
     let l = laying c.args.arcs.now c.args.rows.now o.0 o.1 in
-    (routing (goal.at.route-requires c).After-span o.0 o.1 o.3 _ (c.settle_flows.ensures l), rw (c.nets_of-given.ensures _ l) (nets_long _ _ o.0.count))
+    (routing (goal.at.route-requires c).After-span o.0 o.1 o.3 _ (c.settle_flows.ensures l), rw (c.nets_of-state.ensures _ l) (nets_long _ _ o.0.count))
 
-pub nets_of-anew-requires : goal.nets_of-anew-requires
-nets_of-anew-requires c =
+pub nets_of-state-requires-2 : goal.nets_of-state-requires-2
+nets_of-state-requires-2 c =
     let o = c.requires.0 in
     let l = laying c.args.arcs.now c.args.rows.now o.0 o.1 in
-    ((_, l), routes_amounts (c.route.ensures (routing (goal.at.nets_of-anew-requires c).After-span o.0 o.1 o.3 _ (c.settle_flows.ensures l))).0)
+    ((_, l), routes_amounts (c.route.ensures (routing (goal.at.nets_of-state-requires-2 c).After-span o.0 o.1 o.3 _ (c.settle_flows.ensures l))).0)
 
 pub returns : goal.returns
 returns c =
     λ p w g.
     let e = c.settle_flows.ensures (laying c.args.arcs.now c.args.rows.now p w) in
     let o = c.route.ensures (routing (goal.at.returns c).After-span p w g _ e) in
-    rw (c.nets_of-anew.ensures _ (laying c.args.arcs.now c.args.rows.now p w)) (routed_start p w.accepted (levels _ _ _ p w _ g c.potentials_of-levels.ensures) (from_none _ p c.requires.1 _ _ e) o.0 o.1)
+    rw (c.nets_of-state-2.ensures _ (laying c.args.arcs.now c.args.rows.now p w)) (routed_start p w.accepted (levels _ _ _ p w _ g c.potentials_of-state.ensures) (from_none _ p c.requires.1 _ _ e) o.0 o.1)

@@ -12,7 +12,6 @@ use Rattle.solve_def.specs.Augment.{augmented}
 use Rattle.solve_def.specs.Sizes.{search_rounds}
 use Rattle.plant_def.specs.Plants.{no_stream}
 use lib.ListN.{get_or, take}
-use borrow.Author.Tests.{not-true, not-false}
 use native.Mathlib.Numerals.{add-one}
 use native.Mathlib.Omega.{arith}
 use Prim.Native.Nat.{ℕ, suc, ◌+◌, ◌<◌}
@@ -61,21 +60,21 @@ told c w =
     ∙ ap (λ (k : ℕ). round c.before.before.before w (own c.before.before.before w).from (own c.before.before.before w).to k) (add-one c.args.i)
 
 -- A way round was found: what the augmentation needs.
-ready : (c : Else-not-h) (w : Of c.before.before.before.before.before)
+ready : (c : Else-not-h) (w : Of c.before.before.before.before)
     → let a = c.args in
     let t = w.tieable in
     RoundAugmentable t.streams t.n t.network a.potentials.now a.i w.below a.flows.now c.tight_path-h.result.tree
 ready c w =
-    round_augmentable w.tieable.streams w.tieable.n w.tieable.network _ _ w.below _ w.tieable.even _ w.falls.metered w.falls.tight (told c.before.before w) (not-false _ c.if-not-h.false)
+    round_augmentable w.tieable.streams w.tieable.n w.tieable.network _ _ w.below _ w.tieable.even _ w.falls.metered w.falls.tight (told c.before w) c.if-not-h.false
 
 -- The amounts after the augmentation.
-moved_are : (c : After-augment) (w : Of c.before.before.before.before.before.before.before.before.before.before.before.before.before)
+moved_are : (c : After-augment) (w : Of c.before.before.before.before.before.before.before.before.before)
     → let t = c.tight_path-h.result.tree in
-    c.augment.new.flows ≡ augmented (take w.tieable.n w.tieable.streams) t.via t.ends 1 t.len (own c.before.before.before.before.before.before.before.before.before.before.before.before.before w).to c.args.flows.now
+    c.augment.new.flows ≡ augmented (take w.tieable.n w.tieable.streams) t.via t.ends 1 t.len (own c.before.before.before.before.before.before.before.before.before w).to c.args.flows.now
 moved_are c w =
     let t = c.tight_path-h.result.tree in
     c.augment.ensures.1 (tie_laying _ _ _ _ _ w.tieable)
-    ∙ ap (λ (v : ℕ). augmented (take w.tieable.n w.tieable.streams) t.via t.ends 1 t.len v c.args.flows.now) (to_is c.before.before.before.before.before.before.before.before.before.before.before w)
+    ∙ ap (λ (v : ℕ). augmented (take w.tieable.n w.tieable.streams) t.via t.ends 1 t.len v c.args.flows.now) (to_is c.before.before.before.before.before.before.before w)
 
 pub tight_path-h-requires : goal.tight_path-h-requires
 tight_path-h-requires c =
@@ -84,11 +83,11 @@ tight_path-h-requires c =
 
 pub returns-then-not-h : goal.returns-then-not-h
 returns-then-not-h c =
-    (λ w. sym (tied_cut w.tieable.streams w.tieable.n w.tieable.network _ _ w.below _ _ w.falls.metered w.falls.tight (told (goal.at.returns-then-not-h c).After-tight_path-h w) (not-true _ c.if-not-h.true)), c.requires.1)
+    (λ w. sym (tied_cut w.tieable.streams w.tieable.n w.tieable.network _ _ w.below _ _ w.falls.metered w.falls.tight (told (goal.at.returns-then-not-h c).After-tight_path-h w) c.if-not-h.true), c.requires.1)
 
-pub overflow_cast-target : goal.overflow_cast-target
-overflow_cast-target c =
-    omega (arith, end_in (goal.at.overflow_cast-target c).After-end_at-v)
+pub overflow_cast-v : goal.overflow_cast-v
+overflow_cast-v c =
+    omega (arith, end_in (goal.at.overflow_cast-v c).After-end_at-v)
 
 pub augment-requires : goal.augment-requires
 augment-requires c =
@@ -107,9 +106,6 @@ overflow_sub-flows c =
     let w = c.requires.0 in
     rw (moved_are (goal.at.overflow_sub-flows c).After-augment w) (ready (goal.at.overflow_sub-flows c).Else-not-h w).some
 
-pub offset_bounds-flows-i-2 : goal.offset_bounds-flows-i-2
-offset_bounds-flows-i-2 c = omega (arith, low (goal.at.offset_bounds-flows-i-2 c).Start)
-
 pub bounds-flows-i-2 : goal.bounds-flows-i-2
 bounds-flows-i-2 c = low (goal.at.bounds-flows-i-2 c).Start
 
@@ -119,7 +115,7 @@ returns c =
     let n = v.tieable in
     let rs = c.args.rows.now in
     let i = c.args.i in
-    let hit = not-false _ c.if-not-h.false in
+    let hit = c.if-not-h.false in
     let free = way_free n.streams n.n n.network rs n.laid.rowed _ i v.below _ n.even _ (told (goal.at.returns c).After-tight_path-h v) hit in (
       λ w. rw (moved_are (goal.at.returns c).After-augment w)
           (sym (tied_round w.tieable.streams w.tieable.n w.tieable.network _ _ w.below _ _ w.falls.metered w.falls.tight (told (goal.at.returns c).After-tight_path-h w) hit)),

@@ -1,6 +1,5 @@
 -- `solve_path::walking::nearest` meets its contract: of the places of the fringe that are looked at the nearest is known, and its code.
 use mathlib.Core.Path.{◌≡◌}
-use mathlib.Core.Logic.{⊎_elim}
 use Prim.Native.Nat.{◌-◌, ◌<◌}
 use native.Mathlib.Omega.{arith}
 use lib.Bits.{and_le_r}

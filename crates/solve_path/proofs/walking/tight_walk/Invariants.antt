@@ -3,7 +3,4 @@ use Rattle.solve_path.proofs.Tight.{Tight}
 use Rattle.solve_path.proofs.walking.tight_walk.Given as goal
 
 abbrev pub invariant-loop-left : goal.invariant-loop-left
-invariant-loop-left l = Tight l.arcs l.margins l.potentials l.s l.v l.left l.at l.t l.near
-
-abbrev pub decreases-loop-left : goal.decreases-loop-left
-decreases-loop-left l = l.left
+invariant-loop-left l = Tight l.arcs l.margins l.potentials l.s l.v l._left l.at l.t l.near

@@ -3,7 +3,4 @@ use Rattle.solve_path.proofs.Going.{Going}
 use Rattle.solve_path.proofs.walking.walk.Given as goal
 
 abbrev pub invariant-loop-left : goal.invariant-loop-left
-invariant-loop-left l = Going l.arcs l.margins l.potentials l.nets l.s l.left l.at l.t l.dist l.near
-
-abbrev pub decreases-loop-left : goal.decreases-loop-left
-decreases-loop-left l = l.left
+invariant-loop-left l = Going l.arcs l.margins l.potentials l.nets l.s l._left l.at l.t l.dist l.near

@@ -8,7 +8,7 @@ use lib.ListN.{take}
 use Rattle.plant_def.specs.declared.Stream.{Stream}
 use Rattle.solve_def.specs.Sizes.{most_tried, halvings}
 use Rattle.solve_def.specs.declared.State.{State}
-use Rattle.solve_def.specs.Model.{state_of, phase, phases, finished, no_hint, excess_sum}
+use Rattle.solve_def.specs.Model.{phase, phases, finished, no_hint, excess_sum}
 use Rattle.solve_def.proofs.Streams.{solvable_of}
 use Rattle.solve_def.proofs.Layouts.{at_hint_around}
 use Rattle.solve_def.proofs.Ending.{hint_underway}
@@ -29,7 +29,7 @@ by_phases ss st over e l = sym (rw (← e, lt-leb over most_tried l))
 
 -- The state at the start.
 abbrev begun : Start → State
-begun st = state_of st.args.flows.now st.args.potentials.now st.args.nets.now
+begun st = st.args.state.now
 
 abbrev Able : Start → Type 0
 Able st = Finishable st.args.arcs.now st.args.rows.now (begun st)

@@ -27,12 +27,12 @@ abbrev Of : Start → Type 0
 Of st = Laying st.args.arcs.now st.args.rows.now
 
 abbrev hint : At-loop-step → Hint
-hint c = hint_of c.loop-step.flows c.loop-step.potentials
+hint c = hint_of c.loop-step.state.flows c.loop-step.state.potentials
 
-staged : (c : At-loop-step) (w : Of c.before.before.before.before) → Staged (take w.n w.streams) c.loop-step.step (hint c)
+staged : (c : At-loop-step) (w : Of c.before.before.before) → Staged (take w.n w.streams) c.loop-step.step (hint c)
 staged c w = (c.loop-step.invariant.0 w).0
 
-tallied : (c : At-loop-step) (w : Of c.before.before.before.before) → Tallied (take w.n w.streams) c.loop-step.step (hint c) c.loop-step.made
+tallied : (c : At-loop-step) (w : Of c.before.before.before) → Tallied (take w.n w.streams) c.loop-step.step (hint c) c.loop-step.made
 tallied c w = (c.loop-step.invariant.0 w).1
 
 settles : (c : At-loop-step) → Hinting c.args.arcs.now c.args.rows.now (hint c)
@@ -42,12 +42,12 @@ settles c =
 
 pub loop-step-init : goal.loop-step-init
 loop-step-init c =
-    (λ w. rw c.forget.ensures (staged_start _ (solvable_of w.streams w.n w.network), tallied_start _), c.requires.1)
+    (λ w. rw c.forget.ensures.0 (staged_start _ (solvable_of w.streams w.n w.network), tallied_start _), c.requires.1)
 
 pub resettle-requires : goal.resettle-requires
 resettle-requires c = settles (goal.at.resettle-requires c).At-loop-step
 
-abbrev able : (c : At-loop-step) (w : Of c.before.before.before.before) (st : State) → st ≡ settled (take w.n w.streams) (hint c)
+abbrev able : (c : At-loop-step) (w : Of c.before.before.before) (st : State) → st ≡ settled (take w.n w.streams) (hint c)
     → Phasable c.args.arcs.now c.args.rows.now c.loop-step.step st
 able c w st e =
     let v = solvable_of w.streams w.n w.network in
@@ -65,7 +65,7 @@ phase-e-requires c =
     let w = c.requires.0 in
     (able (goal.at.phase-e-requires c).At-loop-step w _ (c.resettle.ensures w), c.loop-step.invariant.1)
 
-added : (c : At-loop-step) (w : Of c.before.before.before.before) → let ss = take w.n w.streams in
+added : (c : At-loop-step) (w : Of c.before.before.before) → let ss = take w.n w.streams in
     made_to places ss c.loop-step.step (settled ss (hint c)) ≤ most_excess
 added c w =
     let v = solvable_of w.streams w.n w.network in
@@ -73,11 +73,11 @@ added c w =
     phase_made_room _ v c.loop-step.step (staged_step _ v _ _ s) _ (staged_underway _ v _ _ s) places (omega arith)
 
 -- How the phase ends, and what is counted then.
-done : (c : At-loop-step) (w : Of c.before.before.before.before) (st : State) → let ss = take w.n w.streams in st ≡ settled ss (hint c) → (e : Ended)
+done : (c : At-loop-step) (w : Of c.before.before.before) (st : State) → let ss = take w.n w.streams in st ≡ settled ss (hint c) → (e : Ended)
     → e ≡ phase ss c.loop-step.step st → e ≡ phase ss c.loop-step.step (settled ss (hint c))
 done c w st q e p = p ∙ ap (λ (s : State). phase (take w.n w.streams) c.loop-step.step s) q
 
-count : (c : At-loop-step) (w : Of c.before.before.before.before) (st : State) → let ss = take w.n w.streams in st ≡ settled ss (hint c) → (m : ℕ)
+count : (c : At-loop-step) (w : Of c.before.before.before) (st : State) → let ss = take w.n w.streams in st ≡ settled ss (hint c) → (m : ℕ)
     → m ≡ made_to places ss c.loop-step.step st → c.loop-step.made + m ≡ c.loop-step.made + made_to places ss c.loop-step.step (settled ss (hint c))
 count c w st q m p = ap (λ (k : ℕ). c.loop-step.made + k) (p ∙ ap (λ (s : State). made_to places (take w.n w.streams) c.loop-step.step s) q)
 
@@ -117,12 +117,12 @@ loop-step-preserved c =
 pub resettle-requires-2 : goal.resettle-requires-2
 resettle-requires-2 c = settles (goal.at.resettle-requires-2 c).At-loop-step
 
-abbrev able_last : (c : After-resettle-2) → (w : Of c.before.before.before.before.before.before.before.before) (st : State)
-    → st ≡ settled (take w.n w.streams) (hint c.before.before.before.before) → Phasable c.args.arcs.now c.args.rows.now 1 st
+abbrev able_last : (c : After-resettle-2) → (w : Of c.before.before.before.before.before.before) (st : State)
+    → st ≡ settled (take w.n w.streams) (hint c.before.before.before) → Phasable c.args.arcs.now c.args.rows.now 1 st
 able_last c w st q =
     let v = solvable_of w.streams w.n w.network in
     let last : c.loop-step.step ≤ 1 = omega (arith, c.loop-step-test.false) in
-    let e = (staged_last _ v _ _ (staged c.before.before.before.before w) last).0 in
+    let e = (staged_last _ v _ _ (staged c.before.before.before w) last).0 in
     record {
       streams = w.streams;
       n = w.n;
@@ -131,8 +131,8 @@ able_last c w st q =
       step = (omega arith, omega arith);
       underway =
           rw q
-          (subst (λ (d : ℕ). Underway (take w.n w.streams) d settled_room (settled (take w.n w.streams) (hint c.before.before.before.before))) e
-          (staged_underway _ v _ _ (staged c.before.before.before.before w)));
+          (subst (λ (d : ℕ). Underway (take w.n w.streams) d settled_room (settled (take w.n w.streams) (hint c.before.before.before))) e
+          (staged_underway _ v _ _ (staged c.before.before.before w)));
     }
 
 pub phase-e-requires-2 : goal.phase-e-requires-2
@@ -140,11 +140,11 @@ phase-e-requires-2 c =
     let w = c.requires.0 in
     (able_last (goal.at.phase-e-requires-2 c).After-resettle-2 w _ (c.resettle-2.ensures w), c.loop-step.invariant.1)
 
-counted : (c : After-phase-e-2) → (w : Of c.before.before.before.before.before.before.before.before.before.before.before.before.before) → let ss = take w.n w.streams in
-    c.phase-e-2.result.made ≡ made_to places ss 1 (settled ss (hint c.before.before.before.before.before.before.before.before.before))
+counted : (c : After-phase-e-2) → (w : Of c.before.before.before.before.before.before.before.before.before) → let ss = take w.n w.streams in
+    c.phase-e-2.result.made ≡ made_to places ss 1 (settled ss (hint c.before.before.before.before.before.before))
 counted c w =
     let q = c.resettle-2.ensures w in
-    (c.phase-e-2.ensures (able_last c.before.before.before.before.before w _ q)).1 ∙ ap (λ (z : State). made_to places (take w.n w.streams) 1 z) q
+    (c.phase-e-2.ensures (able_last c.before.before.before w _ q)).1 ∙ ap (λ (z : State). made_to places (take w.n w.streams) 1 z) q
 
 pub overflow_add-made-2 : goal.overflow_add-made-2
 overflow_add-made-2 c =

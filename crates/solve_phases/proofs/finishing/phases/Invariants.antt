@@ -10,7 +10,7 @@ use Rattle.solve_phases.proofs.finishing.phases.Given as goal
 
 abbrev pub invariant-loop-step : goal.invariant-loop-step
 invariant-loop-step l =
-    ((w : Laying l.arcs l.rows) → let ss = take w.n w.streams in Staged ss l.step (hint_of l.flows l.potentials) × Tallied ss l.step (hint_of l.flows l.potentials) l.made)
+    ((w : Laying l.arcs l.rows) → let ss = take w.n w.streams in Staged ss l.step (hint_of l.state.flows l.state.potentials) × Tallied ss l.step (hint_of l.state.flows l.state.potentials) l.made)
     × (length l.margins ≡ margin_cells)
 
 abbrev pub decreases-loop-step : goal.decreases-loop-step

@@ -11,18 +11,23 @@ use Rattle.num_bytes.proofs.Lists.{values_at, written_none, written_put, written
 use Rattle.solve_def.specs.Model.{masked}
 use Rattle.solve_def.proofs.Marked.{masked_long}
 use Rattle.solve_phases.proofs.marks.masked.Goals as goal
+use Rattle.solve_phases.proofs.marks.masked.Goals.{then-marked-u, else-marked-u}
 
 masked_at : (n : ℕ) (ms : List Bool) (k : ℕ) → k < places → get_or (masked n ms) k false ≡ (get_or ms k false && leb k n)
 unfolding masked
 masked_at n ms k l = values_at (λ u. get_or ms u false && leb u n) false places k l
 
 pub loop-u-init : goal.loop-u-init
-loop-u-init c = (omega arith, written_none (length-replicate places false))
+loop-u-init c = written_none (length-replicate places false)
 
 pub loop-u-preserved : goal.loop-u-preserved
-loop-u-preserved c = (omega arith, written_put c.loop-u.invariant.1 (omega (arith, c.loop-u-test.true)) _ c.own_mark.ensures)
+loop-u-preserved c = written_put c.loop-u.invariant (omega arith) _
+    (elim c.if-marked-u.branch [
+      | then-marked-u w ↦ rw (w.own_u-is, w.if-marked-u.true)
+      | else-marked-u w ↦ rw (w.own_u-is, w.if-marked-u.false)
+    ])
 
 pub returns : goal.returns
 returns c =
-    let e : c.loop-u.u ≡ places = omega (arith, c.loop-u-test.false, c.loop-u.invariant.0) in
-    written_all (rw e at c.loop-u.invariant.1) (masked c.args.n c.args.marked) (masked_long _ _) (masked_at _ _)
+    let e : c.loop-u.u ≡ places = omega arith in
+    written_all (rw e at c.loop-u.invariant) (masked c.args.n c.args.marked) (masked_long _ _) (masked_at _ _)

@@ -1,6 +1,5 @@
 -- `solve_phases::marks::masked` meets its contract: the marks of the first u places are written.
 use mathlib.Core.Bool.{false, ◌&&◌}
-use Prim.Native.Nat.{◌≤◌, ◌-◌}
 use lib.Dec.{leb}
 use lib.ListN.{get_or}
 use Rattle.plant_def.specs.Limits.{places}
@@ -8,7 +7,4 @@ use Rattle.num_bytes.proofs.Lists.{Written}
 use Rattle.solve_phases.proofs.marks.masked.Given as goal
 
 abbrev pub invariant-loop-u : goal.invariant-loop-u
-invariant-loop-u l = (l.u ≤ places) × Written false places (λ k x. get_or l.marked k false && leb k l.n) l.initial.own l.own l.u
-
-abbrev pub decreases-loop-u : goal.decreases-loop-u
-decreases-loop-u l = places - l.u
+invariant-loop-u l = Written false places (λ k x. get_or l.marked k false && leb k l.n) l.initial.own_u-items l.own_u-items l.u
