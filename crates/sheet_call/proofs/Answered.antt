@@ -9,7 +9,7 @@ use lib.ListN.{length}
 use borrow.Author.Tests.{eq-eqb, ne_eqb}
 use Rattle.num_bytes.specs.Bytes.{over}
 use Rattle.num_bytes.specs.Inner.{PickT}
-use Rattle.plant_def.specs.declared.Read.{Read}
+use Rattle.plant_def.specs.Results.{Read}
 use Rattle.plant_def.specs.Files.{Got, got, read_plant}
 use Rattle.plant_def.specs.Says.{plant_of, read_of}
 use Rattle.plant_def.proofs.Found.{read_bad, found, plant_count}

@@ -13,7 +13,7 @@ use sheet_def::blanks::blank_entry;
 use sheet_def::kinds::OFFICES;
 use sheet_def::{Balance, Outcome, Sheet};
 use sheet_entries::balance_by;
-use sheet_write::{call_fault, draw, refused};
+use sheet_write::{check_call, draw, refused};
 use solve_arcs::{ARCS, NONE, ROWS};
 use solve_arcs_fill::lay;
 
@@ -30,7 +30,7 @@ fn overfilled(marked: [bool; PLACES]) -> Outcome
             degrees: 0,
             verdict: 0,
         },
-        marked: marked,
+        marked,
     }
 }
 
@@ -39,14 +39,11 @@ pub fn balance_of(p: Plant) -> Outcome
     requires { Accepted p }
     ensures { OutcomeSays (plant_of p) result }
 {
-    let streams = p.streams;
-    let count = p.count as usize;
     let mut arcs = [NONE as u8; ARCS];
     let mut rows = [0u64; ROWS];
-    lay(streams, count, &mut arcs, &mut rows);
+    lay(p.streams, p.count as usize, &mut arcs, &mut rows);
     let bridges = flow_bridges::bridges_of(&arcs, &rows);
-    let labels = bridges.labels;
-    let solved = solve_call::solve(p.units, labels, &arcs, &rows);
+    let solved = solve_call::solve(p.units, bridges.labels, &arcs, &rows);
     let marked = solved.marked;
     if !solved.found {
         return overfilled(marked);
@@ -54,8 +51,8 @@ pub fn balance_of(p: Plant) -> Outcome
     let balance = balance_by(p.units, &arcs, &rows, bridges, solved);
     Outcome {
         found: true,
-        balance: balance,
-        marked: marked,
+        balance,
+        marked,
     }
 }
 
@@ -64,16 +61,14 @@ pub fn balance_of(p: Plant) -> Outcome
 pub fn balance_plant(file: &[u8], office: u8, lasts: [u32; OFFICES], sheet: &mut [u8]) -> Sheet
     ensures { SheetSays file.now office lasts sheet.old sheet.new result }
 {
-    let fault = call_fault(office, lasts, sheet);
-    if fault != 0 {
-        return refused(fault, lasts);
+    match check_call(office, lasts, sheet) {
+        Ok(()) => {}
+        Err(fault) => return refused(fault, lasts),
     }
-    let read = plant_read::read_plant(file);
-    let number = read.number;
-    if number != 0 {
-        return refused(number, lasts);
-    }
-    let plant = read.plant;
+    let plant = match plant_read::read_plant(file) {
+        Ok(plant) => plant,
+        Err(e) => return refused(e, lasts),
+    };
     let outcome = balance_of(plant);
     draw(plant.count as usize, outcome, office, lasts, sheet)
 }

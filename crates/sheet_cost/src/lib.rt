@@ -1,7 +1,7 @@
 // What a flow costs, as it is written: stream by stream, and summed up.
 #![tactic(auto)]
 
-ghost use Rattle.std.specs.Prelude.{◌≡◌, ℕ, ◌+◌, ◌-◌, ◌*◌, ◌≤◌, ◌<◌, length, take};
+ghost use Rattle.std.specs.Prelude.{◌≡◌, ℕ, ◌+◌, ◌*◌, ◌≤◌, ◌<◌, length, take};
 ghost use Rattle.plant_def.specs.declared.Plant.{Plant};
 ghost use Rattle.plant_def.specs.Limits.{max_units, max_streams, max_weight};
 ghost use Rattle.plant_def.specs.Within.{WithinStream, Accepted};
@@ -15,7 +15,6 @@ ghost use Rattle.sheet_def.specs.Totals.{capped};
 ghost use Rattle.sheet_def.specs.Calls.{Small, AllSmall, stream_cost};
 ghost use Rattle.sheet_cost.specs.Rows.{distance_squared, safe_root};
 
-use num_bytes::size_of;
 use plant_def::limits::MAX_STREAMS;
 use plant_def::{Plant, Stream};
 use sheet_def::kinds::{TOP_COST, TOP_ROOT};
@@ -46,11 +45,7 @@ fn weighed_square(weight: u64, d: u64) -> u64
 fn capped_sum(a: u64, b: u64) -> u64
     ensures { result ≡ capped (a + b) }
 {
-    let room = TOP_COST - a;
-    if room < b {
-        return a + room;
-    }
-    a + b
+    a.saturating_add(b)
 }
 
 // What a stream costs, as it is written: weight times correction squared where it is metered.
@@ -61,7 +56,7 @@ fn stream_cost(s: Stream, flow: i64) -> u64
     if !s.metered {
         return 0;
     }
-    let d = size_of(flow - s.reading as i64);
+    let d = (flow - s.reading as i64).unsigned_abs();
     weighed_square(s.weight as u64, d)
 }
 
@@ -70,30 +65,11 @@ pub fn cost_of(p: Plant, flows: [i64; MAX_STREAMS]) -> u64
     requires { Accepted p × AllSmall flows }
     ensures { result ≡ capped (cost (plant_of p).streams (take p.count flows)) }
 {
-    let n = p.count as usize;
     let mut sum: u64 = 0;
-    let mut i: usize = 0;
-    while i < n {
-        let s = p.streams[i];
-        let more = stream_cost(s, flows[i]);
-        sum = capped_sum(sum, more);
-        i += 1;
+    for i in 0..p.count as usize {
+        sum = capped_sum(sum, stream_cost(p.streams[i], flows[i]));
     }
     sum
-}
-
-// How far two numbers are apart.
-fn distance(a: u64, b: u64) -> u64
-    ensures { result ≡ (a - b) + (b - a) }
-{
-    if a < b { b - a } else { a - b }
-}
-
-// A number to divide by: where it is 0, 1.
-fn at_least_one(w: u64) -> u64
-    ensures { (1 ≤ result) × (1 ≤ w → result ≡ w) }
-{
-    if w == 0 { 1 } else { w }
 }
 
 // What a stream costs at the held amount x, as it is written: by its weight, and twice the weight times its reading.
@@ -101,7 +77,7 @@ fn row_cost(w: u64, pull: u64, x: u64) -> u64
     requires { (w ≤ max_weight) × (x ≤ most_flow) × ((R : ℕ) × (pull ≡ 2 * (w * R))) }
     ensures { (R : ℕ) → pull ≡ 2 * (w * R) → result ≡ capped (w * distance_squared x R) }
 {
-    let d = distance(2 * (w * x), pull) / at_least_one(2 * w);
+    let d = (2 * (w * x)).abs_diff(pull) / (2 * w).max(1);
     weighed_square(w, d)
 }
 
@@ -113,11 +89,9 @@ pub fn cost_held(arcs: &[u8; ARCS], rows: &[u64; ROWS], flows: &[u64; MAX_STREAM
 {
     let n = count_of(arcs);
     let mut sum: u64 = 0;
-    let mut i: usize = 0;
-    while i < n {
+    for i in 0..n {
         let cost = row_cost(rows[4 * i], rows[4 * i + 1], flows[i]);
         sum = capped_sum(sum, cost);
-        i += 1;
     }
     sum
 }

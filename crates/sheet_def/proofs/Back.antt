@@ -11,10 +11,8 @@ use Rattle.num_bytes.proofs.Tests.{and_both}
 use Rattle.plant_def.specs.Limits.{max_streams}
 use Rattle.plant_def.specs.Files.{most_records}
 use Rattle.sheet_def.specs.declared.Entry.{Entry}
-use Rattle.sheet_def.specs.declared.SheetRecord.{SheetRecord}
-use Rattle.sheet_def.specs.declared.SheetRecord.TheVariants.{Listed, Ended, Refused}
 use Rattle.sheet_def.specs.Sheets.{record_of, records_of, total_bytes, SheetParts, parts_bytes}
-use Rattle.sheet_def.specs.Kept.{no_sheet, some_sheet, fields_fit, record_at, on_record, sheet_with, records_from, read_sheet, fits, all_fit, kind_fits, WithinSheet}
+use Rattle.sheet_def.specs.Kept.{SheetRecord, Listed, Ended, Refused, no_sheet, some_sheet, fields_fit, record_at, on_record, sheet_with, records_from, read_sheet, fits, all_fit, kind_fits, WithinSheet}
 use Rattle.sheet_def.proofs.Records.{EndedAs, Meaning, record_means}
 
 -- A refusal is no sheet.

@@ -9,7 +9,7 @@ use borrow.Author.Tests.{eq-eqb, ne_eqb, ltb-false, leb-false, eqb-false}
 use Rattle.num_bytes.specs.Choice.{refuse_if, first_of}
 use Rattle.num_bytes.proofs.Tests.{refuse_none, first_none_left, first_none_right}
 use Rattle.num_bytes.specs.Inner.{PickT}
-use Rattle.plant_def.specs.declared.Read.{Read}
+use Rattle.plant_def.specs.Results.{Read}
 use Rattle.plant_def.specs.Plants.{Plant}
 use Rattle.plant_def.specs.Files.{Got, read_plant}
 use Rattle.plant_def.specs.Says.{plant_of, read_of}

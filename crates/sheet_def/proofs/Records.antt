@@ -7,7 +7,7 @@ use native.Mathlib.Omega.{arith}
 use lib.Dec.{eqb, ltb, leb}
 use lib.ListN.{length, get_or, take, drop, take-append-drop, length-drop, drop_of_length-le}
 use lib.Seq.{drop-drop, get_or-drop}
-use borrow.Author.Tests.{le-ltb, ltb-false, leb-false, eqb-true, eqb-false, not-false}
+use borrow.Author.Tests.{ltb-false, leb-false, eqb-true, eqb-false, not-false}
 use Rattle.num_bytes.specs.Choice.{refuse_if, first_of}
 use Rattle.num_bytes.specs.Bytes.{be, put_be, signed, raw, holds, all_bytes}
 use Rattle.num_bytes.proofs.Tests.{picked, or_none_left, or_none_right, refuse_none, first_none_left, first_none_right}
@@ -18,11 +18,10 @@ use Rattle.flow_def.specs.declared.Class.{Class}
 use Rattle.flow_def.specs.declared.Class.TheVariants.{Adjusted, AsRead, Given}
 use Rattle.sheet_def.specs.declared.Entry.{Entry}
 use Rattle.sheet_def.specs.declared.Total.{Total}
-use Rattle.sheet_def.specs.declared.SheetRecord.{SheetRecord}
-use Rattle.sheet_def.specs.declared.SheetRecord.TheVariants.{Listed, Ended, Refused}
 use Rattle.sheet_def.specs.Totals.{total_kind, plain_kind, stream_size, body_size, total_size, plain_size}
 use Rattle.sheet_def.specs.Sheets.{adjusted_kind, as_read_kind, given_kind, withheld_kind, record_of, body_of, total_bytes}
-use Rattle.sheet_def.specs.Kept.{shown_in, blank, stream_record, total_in, plain_in, fields_fit, total_fault, after_fault, end_fault, total_record, kind_record, record_at, fits, kind_fits}
+use Rattle.sheet_def.specs.Kept.{SheetRecord, Listed, Ended, Refused, shown_in, blank, stream_record, total_in, plain_in}
+use Rattle.sheet_def.specs.Kept.{fields_fit, total_fault, after_fault, end_fault, total_record, kind_record, record_at, fits, kind_fits}
 
 -- An entry listed by a record of m bytes at the front of s, after c streams.
 pub record ListedAs (c : ℕ) (s : List ℕ) (e : Entry) (m : ℕ) : Type 0 where
@@ -58,27 +57,6 @@ stream_means c size s e h =
       held = λ a. (h l a).0;
       bytes = λ a. (h l a).1;
     })
-
--- A stream record read: refused for its place or its size, else its entry.
-module _ (size : ℕ) (e : Entry) (c : ℕ) (s : List ℕ) (b : Bool) (q : b ≡ (leb max_streams c || ltb (length s) size)) where
-  -- A record that does not fit: 13.
-  pub unfit_refused : b ≡ true → Refused 13 ≡ stream_record size e c s
-  unfit_refused t = let u : (leb max_streams c || ltb (length s) size) ≡ true = sym q ∙ t in rw u
-
-  -- One that fits is listed.
-  pub fit_listed : b ≡ false → Listed e size ≡ stream_record size e c s
-  fit_listed t = let u : (leb max_streams c || ltb (length s) size) ≡ false = sym q ∙ t in rw u
-
--- It is whole.
-pub fit_whole : (size c : ℕ) (s : List ℕ) (b : Bool) → b ≡ (leb max_streams c || ltb (length s) size) → b ≡ false → size ≤ length s
-fit_whole size c s b q t = ltb-false (length s) size (or_none_right (leb max_streams c) (ltb (length s) size) (sym q ∙ t))
-
--- A total at the end, whole: the refusal of its fields or of what follows it.
-pub end_is : (size : ℕ) (t : Total) (s : List ℕ) {g : ℕ} → size ≤ length s → g ≡ first_of (total_fault t) (after_fault size s) → g ≡ end_fault size t s
-end_is size t s l e = e ∙ whole
-  where
-    whole : first_of (total_fault t) (after_fault size s) ≡ end_fault size t s
-    whole = simp (le-ltb (length s) size l)
 
 -- A number behind the kind, written again.
 number_again : (b : List ℕ) → all_bytes b ≡ true → 8 ≤ length b → b ≡ put_be 8 (raw 8 (signed 8 (be 0 8 b))) ++ drop 8 b

@@ -21,11 +21,9 @@ use Rattle.flow_def.specs.declared.Class.{Class}
 use Rattle.flow_def.specs.declared.Class.TheVariants.{Adjusted, AsRead, Given, Withheld}
 use Rattle.sheet_def.specs.declared.Entry.{Entry}
 use Rattle.sheet_def.specs.declared.Total.{Total}
-use Rattle.sheet_def.specs.declared.SheetRecord.{SheetRecord}
-use Rattle.sheet_def.specs.declared.SheetRecord.TheVariants.{Listed, Ended, Refused}
 use Rattle.sheet_def.specs.Totals.{total_kind, plain_kind, stream_size, total_size, plain_size}
 use Rattle.sheet_def.specs.Sheets.{kind_of, record_of, records_of, body_of, total_bytes, SheetParts, parts_bytes}
-use Rattle.sheet_def.specs.Kept.{Reopened, no_sheet, some_sheet, stream_record, body_in, total_in, plain_in, total_fault, total_record, kind_record}
+use Rattle.sheet_def.specs.Kept.{SheetRecord, Listed, Ended, Refused, Reopened, no_sheet, some_sheet, stream_record, body_in, total_in, plain_in, total_fault, total_record, kind_record}
 use Rattle.sheet_def.specs.Kept.{record_at, on_record, sheet_with, records_from, read_sheet, fits, all_fit, kind_fits, Recorded, WithinSheet, Unfit}
 
 -- A record is there: it goes by its kind.

@@ -1,6 +1,6 @@
 -- Why a kept sheet is refused. Writing and reading undo each other.
 use mathlib.Core.Path.{◌≡◌, refl, sym, ap, ◌∙◌, subst}
-use mathlib.Core.Bool.{true, false, not, ◌||◌}
+use mathlib.Core.Bool.{true, false, ◌||◌}
 use mathlib.Core.Logic.{◌⊎◌, inl, inr, ⊎_elim}
 use mathlib.Core.List.{List, [], ◌∷◌, ◌++◌, append_assoc, append-nil}
 use Prim.Native.Nat.{ℕ, zero, suc, ◌≤◌, ◌<◌, ◌^◌}
@@ -16,11 +16,9 @@ use Rattle.plant_def.specs.Files.{most_records}
 use Rattle.flow_def.specs.declared.Class.TheVariants.{Adjusted, AsRead, Given}
 use Rattle.sheet_def.specs.declared.Entry.{Entry}
 use Rattle.sheet_def.specs.declared.Total.{Total}
-use Rattle.sheet_def.specs.declared.SheetRecord.{SheetRecord}
-use Rattle.sheet_def.specs.declared.SheetRecord.TheVariants.{Listed, Ended, Refused}
 use Rattle.sheet_def.specs.Totals.{total_kind, plain_kind, stream_size, total_size, plain_size}
 use Rattle.sheet_def.specs.Sheets.{adjusted_kind, as_read_kind, given_kind, withheld_kind, record_of, records_of, total_bytes, parts_bytes}
-use Rattle.sheet_def.specs.Kept.{no_sheet, shown_in, blank, stream_record, total_in, plain_in, fields_fit, total_record, kind_record, record_at}
+use Rattle.sheet_def.specs.Kept.{SheetRecord, Listed, Ended, Refused, no_sheet, shown_in, blank, stream_record, total_in, plain_in, fields_fit, total_record, kind_record, record_at}
 use Rattle.sheet_def.specs.Kept.{on_record, sheet_with, records_from, fits, all_fit, kind_fits, Recorded, Unfit, Reopening}
 use Rattle.sheet_def.proofs.Records.{Meaning, record_means, Again, plain_again, total_again}
 use Rattle.sheet_def.proofs.There.{there, unfit_there}

@@ -9,12 +9,23 @@ use Rattle.flow_def.specs.declared.Class.{Class}
 use Rattle.flow_def.specs.declared.Class.TheVariants.{Adjusted, AsRead, Given, Withheld}
 use Rattle.sheet_def.specs.declared.Entry.{Entry}
 use Rattle.sheet_def.specs.declared.Total.{Total}
-use Rattle.sheet_def.specs.declared.SheetRead.{SheetRead}
-use Rattle.sheet_def.specs.declared.SheetRecord.{SheetRecord}
-use Rattle.sheet_def.specs.declared.SheetRecord.TheVariants.{Listed, Ended, Refused}
 use Rattle.sheet_def.specs.Totals.{total_kind, plain_kind, stream_size, total_size, plain_size}
 use Rattle.sheet_def.specs.Sheets.{known, adjusted_kind, as_read_kind, given_kind, withheld_kind, SheetParts, parts_bytes}
 use Rattle.sheet_def.specs.Counters.{offices}
+
+-- What stands where a record of a sheet is due: a stream's entry with the record's size, the total, or a refusal.
+pub data SheetRecord : Type 0 where
+  Listed : Entry → ℕ → SheetRecord
+  Ended : Total → SheetRecord
+  Refused : ℕ → SheetRecord
+
+-- What the sheet reader hands over: 0, how many streams the sheet lists, an entry for each, the blank past the last one, and
+-- the total; or a refusal number, no streams and zeros.
+pub record SheetRead : Type 0 where
+  pub number : ℕ
+  pub count : ℕ
+  pub streams : List Entry
+  pub total : Total
 
 -- A reading of a sheet: a refusal number, or its parts.
 pub data Reopened : Type 0 where
@@ -84,12 +95,6 @@ kind_record c k s =
 -- What stands where a record is due: a missing one 13.
 abbrev pub record_at : ℕ → List ℕ → SheetRecord
 record_at c s = pick (eqb (length s) 0) (Refused 13) (kind_record c (get_or s 0 0) s)
-
--- The number of a record: 0 where it is no refusal.
-abbrev pub record_number : SheetRecord → ℕ
-record_number (Listed e m) = 0
-record_number (Ended t) = 0
-record_number (Refused f) = f
 
 -- What follows from a record, by its case: the entry and the record's size, the total, or the refusal.
 abbrev pub on_record : {A : Type 0} → SheetRecord → (Entry → ℕ → A) → (Total → A) → (ℕ → A) → A

@@ -3,6 +3,7 @@ pub mod Totals
 pub mod Counters
 pub mod Sheets
 pub mod Kept
+pub mod Views
 pub mod Sentences
 pub mod Balances
 pub mod Drawings

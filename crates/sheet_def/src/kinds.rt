@@ -1,4 +1,8 @@
 // The kinds of record on a sheet and their sizes, and the limits of a cost and of a call. Each is stated here and nowhere else in code.
+ghost use Rattle.std.specs.Prelude.{◌≡◌};
+ghost use Rattle.sheet_def.specs.Sheets.{kind_of};
+
+use flow_def::Class;
 use plant_def::limits::MAX_STREAMS;
 
 pub const ADJUSTED: u8 = 0x11;
@@ -8,6 +12,18 @@ pub const AS_READ: u8 = 0x12;
 pub const GIVEN: u8 = 0x13;
 
 pub const WITHHELD: u8 = 0x14;
+
+// The kind of record that a class has.
+pub fn kind_of(class: Class) -> u8
+    ensures { result ≡ kind_of class }
+{
+    match class {
+        Class::Adjusted => ADJUSTED,
+        Class::AsRead => AS_READ,
+        Class::Given => GIVEN,
+        Class::Withheld => WITHHELD,
+    }
+}
 
 pub const TOTAL: u8 = 0x1E;
 

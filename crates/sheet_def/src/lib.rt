@@ -54,20 +54,17 @@ pub struct Total {
     pub verdict: u8,
 }
 
-// What the sheet reader hands over: 0, how many streams the sheet lists, an entry for each, the blank past the last one, and
-// the total; or a refusal number, no streams and zeros.
+// A sheet as it is read: how many streams it lists, an entry for each, the blank past the last one, and the total.
 #[derive(Clone, Copy)]
 pub struct SheetRead {
-    pub number: u8,
     pub count: u8,
     pub streams: [Entry; MAX_STREAMS],
     pub total: Total,
 }
 
-// What stands where a record of a sheet is due: a stream's entry with the record's size, the total, or a refusal.
+// A record of a sheet: a stream's entry with the record's size, or the total.
 #[derive(Clone, Copy)]
 pub enum SheetRecord {
     Listed { entry: Entry, size: usize },
     Ended(Total),
-    Refused(u8),
 }

@@ -7,7 +7,7 @@ use Prim.Native.Nat.{ℕ, ◌≤◌}
 use native.Mathlib.Omega.{arith}
 use borrow.Author.Tests.{ltb-true, ltb-false}
 use lib.Dec.{ltb}
-use lib.ListN.{get_or, take}
+use lib.ListN.{take}
 use lib.Seq.{get_or-take}
 use Rattle.num_bytes.proofs.Tests.{by_cases}
 use Rattle.plant_def.specs.declared.Plant as Arrays

@@ -2,7 +2,7 @@
 use mathlib.Core.Path.{◌≡◌, refl, sym, ap, ◌∙◌}
 use mathlib.Core.Bool.{Bool, true, false}
 use mathlib.Core.List.{List, map}
-use lib.IntN.{ℤ, pos}
+use lib.IntN.{pos}
 use Prim.Native.Nat.{ℕ, ◌≤◌, ◌<◌}
 use native.Mathlib.Omega.{arith}
 use borrow.Author.Tests.{ltb-true, ltb-false}
@@ -10,7 +10,6 @@ use lib.Dec.{ltb}
 use lib.ListN.{length, get_or, replicate, get_or-replicate}
 use lib.Seq.{ext_get_or}
 use Rattle.num_bytes.specs.Choice.{pick}
-use Rattle.num_bytes.specs.Inner.{values}
 use Rattle.num_bytes.proofs.Tests.{by_cases}
 use Rattle.plant_def.specs.declared.Stream.{Stream}
 use Rattle.plant_def.specs.Limits.{max_streams}
@@ -30,10 +29,6 @@ use Rattle.solve_def.specs.Held.{unshifted}
 use Rattle.sheet_def.specs.declared.Entry.{Entry}
 use Rattle.sheet_def.specs.Balances.{entry_of}
 use Rattle.sheet_def.specs.Calls.{entries_of, no_entry}
-
--- An entry under its class and with its flow.
-pub entry_as : (c : Class) {d : Class} {x y : ℤ} → d ≡ c → x ≡ y → entry_of c x ≡ entry_of d y
-entry_as c {d} {x} {y} e f = ap (λ (k : Class). entry_of k x) (sym e) ∙ ap (entry_of d) f
 
 -- What is written after the first n streams of a plant, n being how many there are, are all its entries.
 module _ (p : Plant) (n : ℕ) (xs : List ℕ) (now : List Entry) (l : length p.streams ≡ n) (few : n ≤ max_streams) (long : length xs ≡ max_streams)

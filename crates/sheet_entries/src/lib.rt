@@ -41,25 +41,19 @@ pub fn classes_of(p: Plant, bridges: Bridges) -> [Class; MAX_STREAMS]
     requires { Accepted p × Bridging p bridges }
     ensures { result ≡ classes_of (plant_of p) }
 {
-    let n = p.count as usize;
-    let labels = bridges.labels;
-    let taken = bridges.taken;
-    let mut r = [Class::Withheld; MAX_STREAMS];
-    let mut i: usize = 0;
-    while i < n {
+    let mut classes = [Class::Withheld; MAX_STREAMS];
+    for i in 0..p.count as usize {
         let s = p.streams[i];
-        let c = class_of(
-            &labels,
+        classes[i] = class_of(
+            &bridges.labels,
             s.metered,
             s.from as usize,
             s.to as usize,
-            taken[i],
+            bridges.taken[i],
             bridges.looped,
         );
-        r[i] = c;
-        i += 1;
     }
-    r
+    classes
 }
 
 // A stream's entry: a withheld one has no flow.
@@ -67,22 +61,8 @@ fn entry_of(class: Class, flow: i64) -> Entry
     ensures { result ≡ entry_of class flow }
 {
     match class {
-        Class::Adjusted => Entry {
-            class: Class::Adjusted,
-            flow: flow,
-        },
-        Class::AsRead => Entry {
-            class: Class::AsRead,
-            flow: flow,
-        },
-        Class::Given => Entry {
-            class: Class::Given,
-            flow: flow,
-        },
-        Class::Withheld => Entry {
-            class: Class::Withheld,
-            flow: 0,
-        },
+        Class::Adjusted | Class::AsRead | Class::Given => Entry { class, flow },
+        Class::Withheld => blank_entry(),
     }
 }
 
@@ -105,28 +85,26 @@ fn enter(
         → EntersAs p held.now result.streams result.weights) × (result.weights ≤ top_cost) }
 {
     let n = count_of(arcs);
-    let labels = bridges.labels;
-    let taken = bridges.taken;
     let none = blank_entry();
     let mut streams = [none; MAX_STREAMS];
     let mut weights: u64 = 0;
-    let mut i: usize = 0;
-    while i < n {
+    for i in 0..n {
         let w = rows[4 * i];
         let u = end_at(arcs, 2 * i);
         let v = end_at(arcs, 2 * i + 1);
-        let c = class_of(&labels, 0 < w, u, v, taken[i], bridges.looped);
-        let more = adjusted_weight(c, w);
-        weights += more;
+        let c = class_of(
+            &bridges.labels,
+            0 < w,
+            u,
+            v,
+            bridges.taken[i],
+            bridges.looped,
+        );
+        weights += adjusted_weight(c, w);
         let x = opened_flow(held[i]);
-        let e = entry_of(c, x);
-        streams[i] = e;
-        i += 1;
+        streams[i] = entry_of(c, x);
     }
-    Entered {
-        streams: streams,
-        weights: weights,
-    }
+    Entered { streams, weights }
 }
 
 // The balance by the cheapest flow. The plant as read stands unchanged beside the corrected flows.
@@ -141,17 +119,15 @@ pub fn balance_by(
     ensures { (p : Plant) → LaidOf p arcs.now rows.now → p.units ≡ units → Bridging p bridges → Solution p solved
         → BalanceSays (plant_of p) result }
 {
-    let labels = bridges.labels;
-    let held = solved.flows;
-    let cost = cost_held(arcs, rows, &held);
-    let degrees = degrees_of(arcs, rows, units, labels);
-    let entered = enter(arcs, rows, bridges, &held);
-    let streams = entered.streams;
+    let cost = cost_held(arcs, rows, &solved.flows);
+    let degrees = degrees_of(arcs, rows, units, bridges.labels);
+    let entered = enter(arcs, rows, bridges, &solved.flows);
     let verdict = verdict(degrees, cost, entered.weights);
+    let streams = entered.streams;
     Balance {
-        streams: streams,
-        cost: cost,
-        degrees: degrees,
-        verdict: verdict,
+        streams,
+        cost,
+        degrees,
+        verdict,
     }
 }

@@ -13,11 +13,10 @@ use Rattle.plant_def.specs.Limits.{max_streams}
 use Rattle.flow_def.specs.declared.Class.TheVariants.{Adjusted, AsRead, Given}
 use Rattle.sheet_def.specs.declared.Entry.{Entry}
 use Rattle.sheet_def.specs.declared.Total.{Total}
-use Rattle.sheet_def.specs.declared.SheetRecord.{SheetRecord}
-use Rattle.sheet_def.specs.declared.SheetRecord.TheVariants.{Listed, Ended, Refused}
 use Rattle.sheet_def.specs.Totals.{total_kind, plain_kind, stream_size, total_size, plain_size}
 use Rattle.sheet_def.specs.Sheets.{adjusted_kind, as_read_kind, given_kind, withheld_kind, SheetParts}
-use Rattle.sheet_def.specs.Kept.{Reopened, no_sheet, some_sheet, shown_in, blank, stream_record, total_in, plain_in, end_fault, total_record, kind_record, record_at, on_record, sheet_with, records_from}
+use Rattle.sheet_def.specs.Kept.{SheetRecord, Listed, Ended, Refused, Reopened, no_sheet, some_sheet, shown_in, blank}
+use Rattle.sheet_def.specs.Kept.{stream_record, total_in, plain_in, end_fault, total_record, kind_record, record_at, on_record, sheet_with, records_from}
 use Rattle.sheet_def.proofs.Back.{not_both}
 use Rattle.sheet_history.specs.Before.{record_before, records_before}
 

@@ -11,14 +11,12 @@ use Rattle.flow_def.specs.Flows.{Cheapest}
 use Rattle.flow_def.specs.Overfull.{unmarked, Overfull}
 use Rattle.sheet_def.specs.declared.Entry.{Entry}
 use Rattle.sheet_def.specs.declared.Sheet.{Sheet}
-use Rattle.sheet_def.specs.declared.SheetRecord.{SheetRecord}
-use Rattle.sheet_def.specs.declared.SheetRecord.TheVariants.{Refused}
 use Rattle.sheet_def.specs.Totals.{total_kind, plain_kind, stream_size, plain_size}
 use Rattle.sheet_def.specs.Balances.{balance_of}
 use Rattle.sheet_def.specs.Counters.{top_sheet}
 use Rattle.sheet_def.specs.Sheets.{SheetParts, parts_bytes}
 use Rattle.sheet_def.specs.Drawings.{parts_of}
-use Rattle.sheet_def.specs.Kept.{Reopened, no_sheet, record_at, on_record, sheet_with}
+use Rattle.sheet_def.specs.Kept.{SheetRecord, Refused, Reopened, no_sheet, record_at, on_record, sheet_with}
 
 -- Sheet n of a plant with a flow, by its parts. (What a call handed over is an answer with one last sheet number.)
 abbrev pub plain_parts : Plant → List ℤ → ℕ → SheetParts

@@ -36,14 +36,13 @@ fn balance_marked(file: &[u8], office: u8, lasts: [u32; OFFICES], sheet: &mut [u
         (with_bits result.number result.written result.lasts result.bits) × (result.bits < 2 ^ places) }
 {
     let drawn = balance_plant(file, office, lasts, sheet);
-    let marked = drawn.marked;
-    let bits = bits_of(marked);
-    let after = drawn.lasts;
+    let bits = bits_of(drawn.marked);
+    let lasts = drawn.lasts;
     Drawn {
         number: drawn.number,
         written: drawn.written,
-        lasts: after,
-        bits: bits,
+        lasts,
+        bits,
     }
 }
 
@@ -52,9 +51,9 @@ fn lasts_in(lasts: &[u32]) -> [u32; OFFICES]
     requires { offices ≤ length lasts.now }
     ensures { result ≡ take offices lasts.now }
 {
-    [
-        lasts[0], lasts[1], lasts[2], lasts[3], lasts[4], lasts[5], lasts[6], lasts[7],
-    ]
+    let mut front = [0u32; OFFICES];
+    front.copy_from_slice(&lasts[..OFFICES]);
+    front
 }
 
 // The last numbers at the front of a slice, the rest of it as it was.
@@ -62,11 +61,7 @@ fn put_lasts(after: [u32; OFFICES], lasts: &mut [u32])
     requires { offices ≤ length lasts.old }
     ensures { (lasts.new ≡ over after lasts.old) × (length after ≡ offices) }
 {
-    let mut k: usize = 0;
-    while k < OFFICES {
-        lasts[k] = after[k];
-        k += 1;
-    }
+    lasts[..OFFICES].copy_from_slice(&after);
 }
 
 // The sheet call over lent last numbers: the sheet in the slice, the calling office's number one higher; or a refusal, slice and
@@ -84,8 +79,7 @@ pub fn balance_lent(file: &[u8], office: u8, lasts: &mut [u32], sheet: &mut [u8]
     }
     let before = lasts_in(lasts);
     let drawn = balance_marked(file, office, before, sheet);
-    let after = drawn.lasts;
-    put_lasts(after, lasts);
+    put_lasts(drawn.lasts, lasts);
     Handed {
         number: drawn.number,
         written: drawn.written,

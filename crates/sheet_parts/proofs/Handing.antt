@@ -1,21 +1,20 @@
 -- Handing a kept sheet over: there is room in the slices.
-use mathlib.Core.Path.{◌≡◌, refl, sym, ap, ◌∙◌, subst}
+use mathlib.Core.Path.{◌≡◌, refl, ap, ◌∙◌, subst}
 use mathlib.Core.Bool.{Bool, true, false, ◌||◌}
 use mathlib.Core.List.{List}
 use lib.IntN.{ℤ}
-use Prim.Native.Nat.{ℕ, ◌≤◌, ◌<◌}
+use Prim.Native.Nat.{ℕ, ◌≤◌}
 use native.Mathlib.Omega.{arith}
 use lib.Dec.{ltb}
 use lib.ListN.{length, take}
-use borrow.Author.Tests.{lt-ltb, le-ltb, ltb-false}
+use borrow.Author.Tests.{ltb-false}
 use Rattle.num_bytes.specs.Choice.{pick}
 use Rattle.num_bytes.specs.Bytes.{over}
 use Rattle.num_bytes.proofs.Tests.{or_none_left, or_none_right}
 use Rattle.plant_def.specs.Limits.{max_streams}
 use Rattle.num_bytes.proofs.Filled.{take_filled}
 use Rattle.sheet_def.specs.declared.Entry.{Entry}
-use Rattle.sheet_def.specs.declared.SheetRead.{SheetRead}
-use Rattle.sheet_def.specs.Kept.{Reopened, no_sheet, some_sheet, blank, read_sheet, read_of}
+use Rattle.sheet_def.specs.Kept.{SheetRead, Reopened, no_sheet, some_sheet, blank, read_sheet, read_of}
 use Rattle.sheet_def.proofs.Back.{few_read}
 use Rattle.sheet_parts.specs.Kept.{read_lent, kinds_of, flows_of, number_of, parts_of, HandedOver}
 
@@ -23,29 +22,6 @@ use Rattle.sheet_parts.specs.Kept.{read_lent, kinds_of, flows_of, number_of, par
 few_streams : (bytes : List ℕ) (g : Reopened) → read_sheet bytes ≡ g → (read_of g).count ≤ max_streams
 few_streams bytes (no_sheet f) e = omega arith
 few_streams bytes (some_sheet s) e = few_read bytes s e
-
--- Which of two readings it is, whatever they are.
-module _ (b : Bool) (g h : Reopened) where
-  first_read : b ≡ true → read_of g ≡ read_of (pick b g h)
-  first_read t = ap (λ (b : Bool). read_of (pick b g h)) (sym t)
-
-  second_read : b ≡ false → read_of h ≡ read_of (pick b g h)
-  second_read t = ap (λ (b : Bool). read_of (pick b g h)) (sym t)
-
--- The reading, by the two lengths.
-module _ (bytes : List ℕ) (k f : ℕ) where
-  -- The slice of kinds is too short: 1.
-  pub kinds_short : k < max_streams → read_of (no_sheet 1) ≡ read_of (read_lent bytes k f)
-  kinds_short h = first_read (ltb k max_streams || ltb f max_streams) (no_sheet 1) (read_sheet bytes) (rw (lt-ltb k max_streams h) refl)
-
-  module _ (h : max_streams ≤ k) where
-    -- The slice of flows is: 1.
-    pub flows_short : f < max_streams → read_of (no_sheet 1) ≡ read_of (read_lent bytes k f)
-    flows_short l = first_read (ltb k max_streams || ltb f max_streams) (no_sheet 1) (read_sheet bytes) (rw (le-ltb k max_streams h, lt-ltb f max_streams l) refl)
-
-    -- Neither is: the sheet's own reading.
-    pub both_long : max_streams ≤ f → read_of (read_sheet bytes) ≡ read_of (read_lent bytes k f)
-    both_long l = second_read (ltb k max_streams || ltb f max_streams) (no_sheet 1) (read_sheet bytes) (rw (le-ltb k max_streams h, le-ltb f max_streams l) refl)
 
 -- What is handed over has room: no more than there may be, nor than either slice holds.
 pub record Room (c k f : ℕ) : Type 0 where

@@ -5,21 +5,23 @@ ghost use Rattle.std.specs.Prelude.{◌≡◌, ◌≤◌, length, take};
 ghost use Rattle.num_bytes.specs.Bytes.{over};
 ghost use Rattle.plant_def.specs.Limits.{max_streams};
 ghost use Rattle.sheet_def.specs.Kept.{read_of};
+ghost use Rattle.sheet_def.specs.Views.{sheet_as};
 ghost use Rattle.sheet_parts.specs.Kept.{read_lent, kinds_of, flows_of};
 
 use plant_def::limits::MAX_STREAMS;
+use plant_def::refusal::Refusal;
 use sheet_def::{Entry, SheetRead};
 use sheet_read::kind_of;
 
 // The reading, where each of the two slices holds as many as there may be.
-pub fn read_lent(bytes: &[u8], kinds: usize, flows: usize) -> SheetRead
-    ensures { result ≡ read_of (read_lent bytes.now kinds flows) }
+pub fn read_lent(bytes: &[u8], kinds: usize, flows: usize) -> Result<SheetRead, Refusal>
+    ensures { sheet_as result ≡ read_of (read_lent bytes.now kinds flows) }
 {
     if kinds < MAX_STREAMS {
-        return sheet_read::refusal(1);
+        return Err(Refusal::SliceTooShort);
     }
     if flows < MAX_STREAMS {
-        return sheet_read::refusal(1);
+        return Err(Refusal::SliceTooShort);
     }
     sheet_read::read_sheet(bytes)
 }
@@ -29,12 +31,8 @@ pub fn put_kinds(count: usize, streams: [Entry; MAX_STREAMS], kinds: &mut [u8])
     requires { (count ≤ max_streams) × (count ≤ length kinds.old) }
     ensures { kinds.new ≡ over (kinds_of (take count streams)) kinds.old }
 {
-    let mut k: usize = 0;
-    while k < count {
-        let e = streams[k];
-        let class = e.class;
-        kinds[k] = kind_of(class);
-        k += 1;
+    for k in 0..count {
+        kinds[k] = kind_of(streams[k].class);
     }
 }
 
@@ -43,11 +41,7 @@ pub fn put_flows(count: usize, streams: [Entry; MAX_STREAMS], flows: &mut [i64])
     requires { (count ≤ max_streams) × (count ≤ length flows.old) }
     ensures { flows.new ≡ over (flows_of (take count streams)) flows.old }
 {
-    let mut k: usize = 0;
-    while k < count {
-        let e = streams[k];
-        let flow = e.flow;
-        flows[k] = flow;
-        k += 1;
+    for k in 0..count {
+        flows[k] = streams[k].flow;
     }
 }

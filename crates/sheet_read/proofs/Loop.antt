@@ -1,12 +1,10 @@
 -- Reading a sheet: what the loop keeps, and what each record makes of it.
 use mathlib.Core.Path.{◌≡◌, refl, sym, ap, ◌∙◌, subst}
-use mathlib.Core.Logic.{◌⊎◌, ⊎_elim}
 use mathlib.Core.List.{List, [], ◌∷◌, ◌++◌}
 use Prim.Native.Nat.{ℕ, suc, ◌+◌, ◌-◌, ◌<◌, ◌≤◌}
 use native.Mathlib.Omega.{arith}
 use lib.ListN.{length, drop, set, replicate, length-append, length-drop}
 use lib.Seq.{drop-drop}
-use denote.Enum.Declared.{tag_of, declared}
 use Rattle.num_bytes.specs.Arrays.{filled}
 use Rattle.num_bytes.proofs.Parts.{part_from, part_is}
 use Rattle.num_bytes.proofs.Filled.{filled_none, filled_more}
@@ -14,11 +12,7 @@ use Rattle.plant_def.specs.Limits.{max_streams}
 use Rattle.plant_def.specs.Files.{most_records}
 use Rattle.sheet_def.specs.declared.Entry.{Entry}
 use Rattle.sheet_def.specs.declared.Total.{Total}
-use Rattle.sheet_def.specs.declared.SheetRead.{SheetRead}
-use Rattle.sheet_def.specs.declared.SheetRecord.{SheetRecord}
-use Rattle.sheet_def.specs.declared.SheetRecord.TheVariants.{Listed, Ended, Refused}
-use Rattle.sheet_def.specs.Kept.{no_sheet, blank, record_at, record_number, on_record, sheet_with, records_from, read_sheet, read_of, ReadSays}
-use Rattle.sheet_def.specs.contracts.SheetRecord as record-type
+use Rattle.sheet_def.specs.Kept.{SheetRecord, Listed, Ended, Refused, no_sheet, blank, record_at, on_record, sheet_with, records_from, read_sheet, read_of, ReadSays}
 use Rattle.sheet_def.proofs.Records.{ListedAs, Meaning, record_means}
 
 -- c entries held in es, and the place `at`: what stands from there on decides the whole.
@@ -85,10 +79,6 @@ module _ {bytes : List ℕ} {es : List Entry} {c at : ℕ} (r : Reading bytes es
   pub ended_here : {t : Total} → Ended t ≡ record_at c (part_from at bytes) → ReadSays bytes (record { number = 0; count = c; streams = es; total = t })
   ended_here {t} e = (λ i. record { number = 0; count = r.counted i; streams = r.array i; total = t }) ∙ ap read_of (sym (next e))
 
-  -- Neither an entry nor a total: the refusal.
-  pub refused_here : (h : SheetRecord) → h ≡ record_at c (part_from at bytes)
-      → ((x : Entry) (m : ℕ) → h ≡ Listed x m → ⊥) → ((t : Total) → h ≡ Ended t → ⊥)
-      → (y : SheetRead) → y ≡ read_of (no_sheet (record_number h)) → ReadSays bytes y
-  refused_here (Listed x m) e a b y w = absurd (a x m refl)
-  refused_here (Ended t) e a b y w = absurd (b t refl)
-  refused_here (Refused f) e a b y w = w ∙ ap read_of (sym (next e))
+  -- A refusal.
+  pub refused_here : {f : ℕ} → Refused f ≡ record_at c (part_from at bytes) → ReadSays bytes (read_of (no_sheet f))
+  refused_here e = ap read_of (sym (next e))

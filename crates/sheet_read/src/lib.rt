@@ -1,31 +1,44 @@
 // The sheet reader: stream records, then the total, each by its fields, with refusals 13 to 15.
 #![tactic(auto)]
 
-ghost use Rattle.std.specs.Prelude.{◌≡◌, ◌||◌, leb, ltb, length, ◌≤◌};
+ghost use Rattle.std.specs.Prelude.{◌≡◌, ◌||◌, leb, ltb, length, ◌≤◌, ◌-◌, drop, get_or};
 ghost use Rattle.num_bytes.specs.Choice.{refuse_if, first_of};
 ghost use Rattle.plant_def.specs.Limits.{max_streams};
-ghost use Rattle.sheet_def.specs.Kept.{blank, verdict_fits, total_fault, after_fault, shown_in, stream_record, body_in, total_in};
-ghost use Rattle.sheet_def.specs.Kept.{plain_in, total_record, record_at, record_number, no_sheet, read_of, ReadSays};
-ghost use Rattle.sheet_def.specs.Totals.{stream_size, body_size, total_size, plain_size};
-ghost use Rattle.sheet_def.specs.Sheets.{kind_of};
+ghost use Rattle.plant_def.specs.Refused.{fault_in};
+ghost use Rattle.sheet_def.specs.Kept.{blank, verdict_fits, total_fault, after_fault, shown_in, stream_record, body_in};
+ghost use Rattle.sheet_def.specs.Kept.{total_record, record_at, ReadSays};
+ghost use Rattle.sheet_def.specs.Totals.{stream_size, body_size};
+ghost use Rattle.sheet_def.specs.Views.{sheet_record_as, sheet_as};
 
 use flow_def::Class;
-use num_bytes::first_of;
 use plant_def::limits::{MAX_STREAMS, MAX_UNITS};
+use plant_def::refusal::Refusal;
 use sheet_def::blanks::blank_entry;
+pub use sheet_def::kinds::kind_of;
 use sheet_def::kinds::{
-    ADJUSTED, AS_READ, GIVEN, OFFICES, PLAIN, PLAIN_SIZE, STREAM_SIZE, TOTAL, TOTAL_SIZE, WITHHELD,
+    ADJUSTED, AS_READ, BODY_SIZE, GIVEN, OFFICES, PLAIN, PLAIN_SIZE, STREAM_SIZE, TOTAL,
+    TOTAL_SIZE, WITHHELD,
 };
 use sheet_def::{Entry, SheetRead, SheetRecord, Total};
 
+// A record or a total of this size: there whole, or cut.
+pub fn check_whole(size: usize, s: &[u8]) -> Result<(), Refusal>
+    ensures { fault_in result ≡ refuse_if (ltb (length s.now) size) 13 }
+{
+    if s.len() < size {
+        return Err(Refusal::SheetRecord);
+    }
+    Ok(())
+}
+
 // A stream record of so many bytes, after so many streams: there is no room for it, or it is cut.
-pub fn unfit(size: usize, count: u8, s: &[u8]) -> bool
-    ensures { result ≡ (leb max_streams count || ltb (length s.now) size) }
+pub fn check_room(size: usize, count: u8, s: &[u8]) -> Result<(), Refusal>
+    ensures { fault_in result ≡ refuse_if (leb max_streams count || ltb (length s.now) size) 13 }
 {
     if MAX_STREAMS <= count as usize {
-        return true;
+        return Err(Refusal::SheetRecord);
     }
-    s.len() < size
+    check_whole(size, s)
 }
 
 // Verdict 2 exactly at degrees 0, else 0, 1 or 3.
@@ -42,92 +55,63 @@ fn verdict_fits(degrees: u8, verdict: u8) -> bool
 }
 
 // A field that is not allowed.
-fn fields_fault(t: Total) -> u8
-    ensures { result ≡ total_fault t }
+fn check_fields(t: Total) -> Result<(), Refusal>
+    ensures { fault_in result ≡ total_fault t }
 {
     if OFFICES <= t.office as usize {
-        return 14;
+        return Err(Refusal::SheetTotal);
     }
     if t.sheet == 0 {
-        return 14;
+        return Err(Refusal::SheetTotal);
     }
     if MAX_UNITS < t.degrees {
-        return 14;
+        return Err(Refusal::SheetTotal);
     }
     if verdict_fits(t.degrees, t.verdict) {
-        return 0;
+        return Ok(());
     }
-    14
-}
-
-// A total of this size that is cut.
-pub fn cut_fault(size: usize, s: &[u8]) -> u8
-    ensures { result ≡ refuse_if (ltb (length s.now) size) 13 }
-{
-    if s.len() < size {
-        return 13;
-    }
-    0
+    Err(Refusal::SheetTotal)
 }
 
 // Bytes after a total of this size.
-fn after_fault(size: usize, s: &[u8]) -> u8
-    ensures { result ≡ after_fault size s.now }
+fn check_after(size: usize, s: &[u8]) -> Result<(), Refusal>
+    ensures { fault_in result ≡ after_fault size s.now }
 {
     if s.len() == size {
-        return 0;
+        return Ok(());
     }
-    15
+    Err(Refusal::AfterTotal)
 }
 
 // The fields of a total that is whole, then bytes after it.
-pub fn rest_fault(size: usize, t: Total, s: &[u8]) -> u8
-    ensures { result ≡ first_of (total_fault t) (after_fault size s.now) }
+pub fn check_rest(size: usize, t: Total, s: &[u8]) -> Result<(), Refusal>
+    ensures { fault_in result ≡ first_of (total_fault t) (after_fault size s.now) }
 {
-    let fields = fields_fault(t);
-    let after = after_fault(size, s);
-    first_of(fields, after)
-}
-
-// The kind of record that a class has.
-pub fn kind_of(class: Class) -> u8
-    ensures { result ≡ kind_of class }
-{
-    match class {
-        Class::Adjusted => ADJUSTED,
-        Class::AsRead => AS_READ,
-        Class::Given => GIVEN,
-        Class::Withheld => WITHHELD,
-    }
+    check_fields(t)?;
+    check_after(size, s)
 }
 
 // A stream that shows a number.
-fn read_shown(class: Class, count: u8, s: &[u8]) -> SheetRecord
-    ensures { result ≡ stream_record stream_size (shown_in class s.now) count s.now }
+fn read_shown(class: Class, count: u8, s: &[u8]) -> Result<SheetRecord, Refusal>
+    ensures { sheet_record_as result ≡ stream_record stream_size (shown_in class s.now) count s.now }
 {
-    if unfit(STREAM_SIZE, count, s) {
-        return SheetRecord::Refused(13);
-    }
+    check_room(STREAM_SIZE, count, s)?;
     let flow = num_bytes::get_i64(&s[1..]);
-    SheetRecord::Listed {
-        entry: Entry {
-            class: class,
-            flow: flow,
-        },
+    Ok(SheetRecord::Listed {
+        entry: Entry { class, flow },
         size: STREAM_SIZE,
-    }
+    })
 }
 
-fn read_blank(count: u8, s: &[u8]) -> SheetRecord
-    ensures { result ≡ stream_record 1 blank count s.now }
+// A withheld stream. Stays beside `read_shown`: one function for both has a size, a flow and a clause for each of the two.
+fn read_blank(count: u8, s: &[u8]) -> Result<SheetRecord, Refusal>
+    ensures { sheet_record_as result ≡ stream_record 1 blank count s.now }
 {
-    if unfit(1, count, s) {
-        return SheetRecord::Refused(13);
-    }
-    SheetRecord::Listed {
+    check_room(1, count, s)?;
+    Ok(SheetRecord::Listed {
         entry: blank_entry(),
         size: 1,
-    }
+    })
 }
 
 // What both totals end in.
@@ -138,133 +122,80 @@ fn body_in(kind: u8, office: u8, body: &[u8]) -> Total
     let sheet = num_bytes::get_u32(body);
     let cost = num_bytes::get_u64(&body[4..]);
     Total {
-        kind: kind,
-        office: office,
-        sheet: sheet,
-        cost: cost,
+        kind,
+        office,
+        sheet,
+        cost,
         degrees: body[12],
         verdict: body[13],
     }
 }
 
 // A total of this size, which is there whole: refused for its fields or for what follows it, or the end of the sheet.
-fn end_with(size: usize, total: Total, s: &[u8]) -> SheetRecord
+fn end_with(size: usize, total: Total, s: &[u8]) -> Result<SheetRecord, Refusal>
     requires { size ≤ length s.now }
-    ensures { result ≡ total_record size total s.now }
+    ensures { sheet_record_as result ≡ total_record size total s.now }
 {
-    let fault = rest_fault(size, total, s);
-    if fault != 0 {
-        return SheetRecord::Refused(fault);
-    }
-    SheetRecord::Ended(total)
+    check_rest(size, total, s)?;
+    Ok(SheetRecord::Ended(total))
 }
 
-fn read_total(s: &[u8]) -> SheetRecord
-    ensures { result ≡ total_record total_size (total_in s.now) s.now }
+// The office behind the kind of a total; 0 if the sheet ends before it.
+fn office_in(s: &[u8]) -> u8
+    ensures { result ≡ get_or s.now 1 0 }
 {
-    let cut = cut_fault(TOTAL_SIZE, s);
-    if cut != 0 {
-        return SheetRecord::Refused(cut);
-    }
-    let total = body_in(TOTAL, s[1], &s[2..]);
-    end_with(TOTAL_SIZE, total, s)
+    s.get(1).copied().unwrap_or(0)
 }
 
-// The total of a sheet drawn before there were offices: that of office 0.
-fn read_plain(s: &[u8]) -> SheetRecord
-    ensures { result ≡ total_record plain_size (plain_in s.now) s.now }
+// A total of this kind, size and office: cut, or there whole.
+fn read_total(kind: u8, size: usize, office: u8, s: &[u8]) -> Result<SheetRecord, Refusal>
+    requires { body_size ≤ size }
+    ensures { sheet_record_as result ≡ total_record size (body_in kind office (drop (size - body_size) s.now)) s.now }
 {
-    let cut = cut_fault(PLAIN_SIZE, s);
-    if cut != 0 {
-        return SheetRecord::Refused(cut);
-    }
-    let total = body_in(PLAIN, 0, &s[1..]);
-    end_with(PLAIN_SIZE, total, s)
+    check_whole(size, s)?;
+    let total = body_in(kind, office, &s[size - BODY_SIZE..]);
+    end_with(size, total, s)
 }
 
-// What stands where a record is due, after so many streams.
-fn read_record(count: u8, s: &[u8]) -> SheetRecord
-    ensures { result ≡ record_at count s.now }
+// What stands where a record is due, after so many streams. The total of a sheet drawn before there were offices is that of office 0.
+fn read_record(count: u8, s: &[u8]) -> Result<SheetRecord, Refusal>
+    ensures { sheet_record_as result ≡ record_at count s.now }
 {
-    if s.len() == 0 {
-        return SheetRecord::Refused(13);
+    if s.is_empty() {
+        return Err(Refusal::SheetRecord);
     }
-    let kind = s[0];
-    if kind == ADJUSTED {
-        return read_shown(Class::Adjusted, count, s);
-    }
-    if kind == AS_READ {
-        return read_shown(Class::AsRead, count, s);
-    }
-    if kind == GIVEN {
-        return read_shown(Class::Given, count, s);
-    }
-    if kind == WITHHELD {
-        return read_blank(count, s);
-    }
-    if kind == TOTAL {
-        return read_total(s);
-    }
-    if kind == PLAIN {
-        return read_plain(s);
-    }
-    SheetRecord::Refused(13)
-}
-
-fn record_number(found: SheetRecord) -> u8
-    ensures { result ≡ record_number found }
-{
-    match found {
-        SheetRecord::Listed { entry: _, size: _ } => 0,
-        SheetRecord::Ended(_) => 0,
-        SheetRecord::Refused(number) => number,
-    }
-}
-
-// A refusal hands over no streams and zeros.
-pub fn refusal(number: u8) -> SheetRead
-    ensures { result ≡ read_of (no_sheet number) }
-{
-    let none = blank_entry();
-    SheetRead {
-        number: number,
-        count: 0,
-        streams: [none; MAX_STREAMS],
-        total: Total {
-            kind: 0,
-            office: 0,
-            sheet: 0,
-            cost: 0,
-            degrees: 0,
-            verdict: 0,
-        },
+    match s[0] {
+        ADJUSTED => read_shown(Class::Adjusted, count, s),
+        AS_READ => read_shown(Class::AsRead, count, s),
+        GIVEN => read_shown(Class::Given, count, s),
+        WITHHELD => read_blank(count, s),
+        TOTAL => read_total(TOTAL, TOTAL_SIZE, office_in(s), s),
+        PLAIN => read_total(PLAIN, PLAIN_SIZE, 0, s),
+        _ => Err(Refusal::SheetRecord),
     }
 }
 
 // The streams and the total that a sheet lists, all of it read before any is used; or a refusal.
-pub fn read_sheet(bytes: &[u8]) -> SheetRead
-    ensures { ReadSays bytes.now result }
+pub fn read_sheet(bytes: &[u8]) -> Result<SheetRead, Refusal>
+    ensures { ReadSays bytes.now (sheet_as result) }
 {
-    let none = blank_entry();
-    let mut streams = [none; MAX_STREAMS];
+    let mut streams = [blank_entry(); MAX_STREAMS];
     let mut count: u8 = 0;
     let mut at: usize = 0;
     loop {
-        let found = read_record(count, &bytes[at..]);
-        let SheetRecord::Listed { entry, size } = found else {
-            let SheetRecord::Ended(total) = found else {
-                return refusal(record_number(found));
-            };
-            return SheetRead {
-                number: 0,
-                count: count,
-                streams: streams,
-                total: total,
-            };
-        };
-        let next = count as usize;
-        streams[next] = entry;
-        count += 1;
-        at += size;
+        match read_record(count, &bytes[at..])? {
+            SheetRecord::Listed { entry, size } => {
+                streams[count as usize] = entry;
+                count += 1;
+                at += size;
+            }
+            SheetRecord::Ended(total) => {
+                return Ok(SheetRead {
+                    count,
+                    streams,
+                    total,
+                });
+            }
+        }
     }
 }

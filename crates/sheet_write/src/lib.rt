@@ -7,7 +7,8 @@ ghost use Rattle.std.specs.Prelude.{◌≡◌, [], ◌∷◌, ◌++◌, ◌≤�
 ghost use Rattle.num_bytes.specs.Bytes.{put_be, raw, over};
 ghost use Rattle.num_bytes.specs.Inner.{Put};
 ghost use Rattle.plant_def.specs.Limits.{max_streams};
-ghost use Rattle.sheet_def.specs.Sheets.{kind_of, record_of, records_of, total_of};
+ghost use Rattle.plant_def.specs.Refused.{refusal_number, fault_in};
+ghost use Rattle.sheet_def.specs.Sheets.{record_of, records_of, total_of};
 ghost use Rattle.sheet_def.specs.Totals.{total_kind, stream_size, total_size, least_slice};
 ghost use Rattle.sheet_def.specs.Drawings.{sheet_bytes};
 ghost use Rattle.num_bytes.specs.Choice.{refuse_if};
@@ -17,11 +18,10 @@ ghost use Rattle.sheet_def.specs.Sentences.{call_fault};
 ghost use Rattle.sheet_write.specs.Draws.{DrawnOf};
 
 use flow_def::Class;
-use num_bytes::first_of;
 use plant_def::limits::{MAX_STREAMS, PLACES};
+use plant_def::refusal::Refusal;
 use sheet_def::kinds::{
-    ADJUSTED, AS_READ, GIVEN, LEAST_SLICE, OFFICES, STREAM_SIZE, TOP_SHEET, TOTAL, TOTAL_SIZE,
-    WITHHELD,
+    LEAST_SLICE, OFFICES, STREAM_SIZE, TOP_SHEET, TOTAL, TOTAL_SIZE, WITHHELD, kind_of,
 };
 use sheet_def::{Balance, Entry, Outcome, Sheet};
 
@@ -32,18 +32,6 @@ fn put_flow(kind: u8, flow: i64, out: &mut [u8])
 {
     num_bytes::put_u8(kind, out);
     num_bytes::put_i64(flow, &mut out[1..]);
-}
-
-// The kind of record that a class has.
-fn kind_of(class: Class) -> u8
-    ensures { result ≡ kind_of class }
-{
-    match class {
-        Class::Adjusted => ADJUSTED,
-        Class::AsRead => AS_READ,
-        Class::Given => GIVEN,
-        Class::Withheld => WITHHELD,
-    }
 }
 
 // A stream's record, and how many bytes it takes. The blank has no body.
@@ -66,13 +54,9 @@ pub fn put_records(count: usize, streams: [Entry; MAX_STREAMS], out: &mut [u8]) 
     ensures { Put (records_of (take count streams)) out.old out.new result }
 {
     let mut at: usize = 0;
-    let mut i: usize = 0;
-    while i < count {
+    for i in 0..count {
         let e = streams[i];
-        let class = e.class;
-        let size = put_record(class, e.flow, &mut out[at..]);
-        at += size;
-        i += 1;
+        at += put_record(e.class, e.flow, &mut out[at..]);
     }
     at
 }
@@ -111,20 +95,19 @@ pub fn put_sheet(office: u8, count: usize, number: u32, b: Balance, out: &mut [u
     requires { (count ≤ max_streams) × (least_slice ≤ length out.old) }
     ensures { Put (sheet_bytes office count number b) out.old out.new result }
 {
-    let streams = b.streams;
-    let at = put_records(count, streams, out);
+    let at = put_records(count, b.streams, out);
     put_total(office, number, b.cost, b.degrees, b.verdict, &mut out[at..]);
     at + TOTAL_SIZE
 }
 
 // A refusal counts nothing, hands the last sheet numbers back and marks no place.
-pub fn refused(number: u8, lasts: [u32; OFFICES]) -> Sheet
-    ensures { result ≡ record { number = number; written = 0; lasts = lasts; marked = unmarked } }
+pub fn refused(refusal: Refusal, lasts: [u32; OFFICES]) -> Sheet
+    ensures { result ≡ record { number = refusal_number refusal; written = 0; lasts = lasts; marked = unmarked } }
 {
     Sheet {
-        number: number,
+        number: refusal.number(),
         written: 0,
-        lasts: lasts,
+        lasts,
         marked: [false; PLACES],
     }
 }
@@ -134,10 +117,10 @@ fn overfilled(lasts: [u32; OFFICES], marked: [bool; PLACES]) -> Sheet
     ensures { result ≡ record { number = 19; written = 0; lasts = lasts; marked = marked } }
 {
     Sheet {
-        number: 19,
+        number: Refusal::NoFlow.number(),
         written: 0,
-        lasts: lasts,
-        marked: marked,
+        lasts,
+        marked,
     }
 }
 
@@ -164,35 +147,34 @@ fn raise(office: u8, lasts: [u32; OFFICES]) -> [u32; OFFICES]
 }
 
 // An office above 7.
-fn office_fault(office: u8) -> u8
-    ensures { result ≡ refuse_if (leb offices office) 22 }
+fn check_office(office: u8) -> Result<(), Refusal>
+    ensures { fault_in result ≡ refuse_if (leb offices office) 22 }
 {
     if OFFICES <= office as usize {
-        return 22;
+        return Err(Refusal::NoOffice);
     }
-    0
+    Ok(())
 }
 
 // No sheet number left of the office's.
-fn number_fault(office: u8, lasts: [u32; OFFICES]) -> u8
-    ensures { result ≡ refuse_if (eqb (counter_of office lasts) top_sheet) 2 }
+fn check_number(office: u8, lasts: [u32; OFFICES]) -> Result<(), Refusal>
+    ensures { fault_in result ≡ refuse_if (eqb (counter_of office lasts) top_sheet) 2 }
 {
     if last_of(office, lasts) == TOP_SHEET {
-        return 2;
+        return Err(Refusal::NoSheetNumber);
     }
-    0
+    Ok(())
 }
 
 // The refusals of the call itself.
-pub fn call_fault(office: u8, lasts: [u32; OFFICES], sheet: &[u8]) -> u8
-    ensures { result ≡ call_fault office lasts sheet.now }
+pub fn check_call(office: u8, lasts: [u32; OFFICES], sheet: &[u8]) -> Result<(), Refusal>
+    ensures { fault_in result ≡ call_fault office lasts sheet.now }
 {
     if sheet.len() < LEAST_SLICE {
-        return 1;
+        return Err(Refusal::SliceTooShort);
     }
-    let unknown = office_fault(office);
-    let used_up = number_fault(office, lasts);
-    first_of(unknown, used_up)
+    check_office(office)?;
+    check_number(office, lasts)
 }
 
 // The sheet of an outcome under the office's next number; or 19, which leaves slice and counters as they were.
@@ -206,19 +188,17 @@ pub fn draw(
     requires { (count ≤ max_streams) × (call_fault office lasts sheet.old ≡ 0) }
     ensures { DrawnOf count outcome office lasts sheet.old sheet.new result }
 {
-    let marked = outcome.marked;
     if !outcome.found {
-        return overfilled(lasts, marked);
+        return overfilled(lasts, outcome.marked);
     }
-    let balance = outcome.balance;
     let next = last_of(office, lasts) + 1;
-    let written = put_sheet(office, count, next, balance, sheet);
+    let written = put_sheet(office, count, next, outcome.balance, sheet);
     let after = raise(office, lasts);
-    let none = [false; PLACES];
+    let marked = [false; PLACES];
     Sheet {
         number: 0,
-        written: written,
+        written,
         lasts: after,
-        marked: none,
+        marked,
     }
 }

@@ -1,32 +1,32 @@
 -- By what was found, in the order of the refusals.
 use native.Mathlib.Omega.{arith}
-use mathlib.Core.Path.{sym, ◌∙◌}
+use mathlib.Core.Path.{refl, sym}
 use Rattle.plant_def.proofs.Found.{plant_accepted}
+use Rattle.plant_def.proofs.Numbers.{some_number}
 use Rattle.sheet_call.proofs.Answered.{call_refused, file_refused, outcome_drawn}
 use Rattle.sheet_call.proofs.balance_plant.Goals as goal
 
-pub returns-then-fault-ne0 : goal.returns-then-fault-ne0
-returns-then-fault-ne0 c =
+pub returns-in-Err : goal.returns-in-Err
+returns-in-Err c =
     let a = c.args in
-    call_refused a.file.now a.office a.lasts a.sheet.now c.call_fault-fault.result c.refused.result c.call_fault-fault.ensures c.if-fault-ne0.true c.refused.ensures
+    call_refused a.file.now a.office a.lasts a.sheet.now _ c.refused.result c.in-Err.ensures (some_number c.in-Err.fault) c.refused.ensures
 
-pub returns-then-number-ne0 : goal.returns-then-number-ne0
-returns-then-number-ne0 c =
+pub returns-in-Err-read_plant : goal.returns-in-Err-read_plant
+returns-in-Err-read_plant c =
     let a = c.args in
-    file_refused a.file.now a.office a.lasts a.sheet.now c.call_fault-fault.result c.call_fault-fault.ensures c.if-fault-ne0.false c.read_plant-read.result c.read_plant-read.ensures c.refused-then-number-ne0.result
-    c.if-number-ne0.true c.refused-then-number-ne0.ensures
+    file_refused a.file.now a.office a.lasts a.sheet.now 0 c.in-Ok.ensures refl _ c.in-Err-read_plant.ensures _
+    (some_number c.in-Err-read_plant.e) c.refused-in-Err-read_plant.ensures
 
 pub balance_of-outcome-requires : goal.balance_of-outcome-requires
-balance_of-outcome-requires c =
-    plant_accepted c.args.file.now c.read_plant-read.result c.read_plant-read.ensures c.if-number-ne0.false
+balance_of-outcome-requires c = plant_accepted c.args.file.now _ c.in-Ok-read_plant.ensures refl
 
 pub draw-requires : goal.draw-requires
 draw-requires c =
-    let few = (plant_accepted c.args.file.now c.read_plant-read.result c.read_plant-read.ensures c.if-number-ne0.false).within.few_streams in
-    (omega (arith, few), sym c.call_fault-fault.ensures ∙ c.if-fault-ne0.false)
+    let few = (plant_accepted c.args.file.now _ c.in-Ok-read_plant.ensures refl).within.few_streams in
+    (omega (arith, few), sym c.in-Ok.ensures)
 
 pub returns : goal.returns
 returns c =
     let a = c.args in
-    outcome_drawn a.file.now a.office a.lasts a.sheet.now c.call_fault-fault.result c.call_fault-fault.ensures c.if-fault-ne0.false c.read_plant-read.result c.read_plant-read.ensures c.if-number-ne0.false
+    outcome_drawn a.file.now a.office a.lasts a.sheet.now 0 c.in-Ok.ensures refl _ c.in-Ok-read_plant.ensures refl
     _ c.draw.result c.balance_of-outcome.result c.balance_of-outcome.ensures c.draw.ensures

@@ -1,16 +1,15 @@
--- What is left up to the cap decides.
+-- std's sum stops at the cap.
 use native.Mathlib.Omega.{arith}
-use mathlib.Core.Path.{◌≡◌, sym, ◌∙◌}
-use Prim.Native.Nat.{◌+◌, ◌-◌}
-use Rattle.sheet_def.specs.Totals.{top_cost}
-use Rattle.sheet_def.proofs.Capped.{capped_below, capped_above}
+use mathlib.Core.Path.{◌≡◌, ◌∙◌}
+use Prim.Native.Nat.{ℕ, min}
+use Rattle.num_bytes.proofs.Tests.{picked}
+use borrow.Author.Tests.{leb-true, leb-false}
+use lib.Dec.{leb}
+use Rattle.sheet_def.specs.Totals.{top_cost, capped}
 use Rattle.sheet_cost.proofs.capped_sum.Goals as goal
 
-pub returns-then-room-b : goal.returns-then-room-b
-returns-then-room-b c =
-    let a = c.args.a in
-    let whole : a + (top_cost - a) ≡ top_cost = omega (arith, c.ranges.a.fits) in
-    whole ∙ sym (capped_above (a + c.args.b) (omega (arith, c.if-room-b.true)))
+stops : (x : ℕ) → min x top_cost ≡ capped x
+stops x = picked (λ (y : ℕ). min x top_cost ≡ y) (leb x top_cost) x top_cost (λ t. omega (arith, leb-true x top_cost t)) (λ t. omega (arith, leb-false x top_cost t))
 
 pub returns : goal.returns
-returns c = sym (capped_below (c.args.a + c.args.b) (omega (arith, c.if-room-b.false, c.ranges.a.fits)))
+returns c = c.saturating_add.ensures ∙ stops _

@@ -18,7 +18,7 @@ low : (c : In-loop-i) → c.loop-i.i < 96
 low c = let w = c.requires.0 in few w.1 _ (used c w.0 w.1)
 
 pub loop-i-init : goal.loop-i-init
-loop-i-init c = (omega arith, λ p w. summed_none p _)
+loop-i-init c = λ p w. summed_none p _
 
 pub overflow_mul-i : goal.overflow_mul-i
 overflow_mul-i c = omega (arith, low c)
@@ -56,8 +56,8 @@ row_cost-cost-requires c =
 
 pub loop-i-preserved : goal.loop-i-preserved
 loop-i-preserved c =
-    (omega arith, λ p w. held_more p w c.args.flows.now c.requires.1 c.requires.2 (c.loop-i.invariant.1 p w) (used (goal.at.loop-i-preserved c).In-loop-i p w) _ _ c.row_cost-cost.ensures c.capped_sum-sum.ensures)
+    λ p w. held_more p w c.args.flows.now c.requires.1 c.requires.2 (c.loop-i.invariant p w) (used (goal.at.loop-i-preserved c).In-loop-i p w) _ _ c.row_cost-cost.ensures c.capped_sum-sum.ensures
 
 pub returns : goal.returns
 returns c = λ p w.
-    held_all p w c.args.flows.now c.requires.1 c.requires.2 (c.loop-i.invariant.1 p w) (omega (arith, counted w, c.count_of-n.ensures, c.loop-i-test.false))
+    held_all p w c.args.flows.now c.requires.1 c.requires.2 (c.loop-i.invariant p w) (omega (arith, counted w, c.count_of-n.ensures, c.loop-i-test.false))

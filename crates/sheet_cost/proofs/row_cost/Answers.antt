@@ -13,12 +13,12 @@ pulled c = pull_most c.args.w c.args.x c.requires.0 c.requires.1
 
 pub weighed_square-requires : goal.weighed_square-requires
 weighed_square-requires c =
-    (c.requires.0, has_weight c.args.w c.args.x c.requires.2.0 c.args.pull c.distance.result _ c.requires.2.1 c.distance.ensures c.at_least_one.ensures.1)
+    (c.requires.0, has_weight c.args.w c.args.x c.requires.2.0 c.args.pull c.abs_diff.result _ c.requires.2.1 c.abs_diff.ensures (λ h. omega (arith, c.max.ensures)))
 
 pub returns : goal.returns
 returns c = λ R e.
     let a = c.args in
-    c.weighed_square.ensures ∙ quotient_cost a.w a.x R a.pull c.distance.result c.at_least_one.result e c.distance.ensures c.at_least_one.ensures.1
+    c.weighed_square.ensures ∙ quotient_cost a.w a.x R a.pull c.abs_diff.result c.max.result e c.abs_diff.ensures (λ h. omega (arith, c.max.ensures))
 
 pub overflow_mul-w : goal.overflow_mul-w
 overflow_mul-w c = record { fits = omega (arith, pulled c) }

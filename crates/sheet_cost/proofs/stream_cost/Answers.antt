@@ -41,8 +41,8 @@ returns c =
     let s = c.args.s in
     let x = c.args.flow in
     let m = not-false s.metered c.if-not-s.false in
-    let d = c.size_of-d in
+    let d = c.unsigned_abs-d in
     let q = correction_is x s.reading c.ranges.flow (reads (goal.at.returns c).Start) in
     let f = correction_fits x s.reading c.requires.1 (reads (goal.at.returns c).Start) in
-    let e : d.result ≡ nat_abs (x -ℤ s.reading) = d.ensures ∙ ap (λ (y : ℤ). nat_abs (to_z w64 (of_z w64 y))) q ∙ ap nat_abs (to_z-of_z w64 _ f) in
+    let e : d.result ≡ nat_abs (x -ℤ s.reading) = d.ensures.value ∙ ap (λ (y : ℤ). nat_abs (to_z w64 (of_z w64 y))) q ∙ ap nat_abs (to_z-of_z w64 _ f) in
     c.weighed_square.ensures ∙ metered_cost s x m d.result e

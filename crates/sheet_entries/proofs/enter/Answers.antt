@@ -49,7 +49,7 @@ light c =
     rw (weight_at w _ l) (weight_most _ (stream_within p w.accepted _ l))
 
 pub loop-i-init : goal.loop-i-init
-loop-i-init c = (omega arith, λ p w q. (written_none (length-replicate {A = Entry} max_streams c.blank_entry-none.result), weighed_none p))
+loop-i-init c = λ p w q. (written_none (length-replicate {A = Entry} max_streams c.blank_entry-none.result), weighed_none p)
 
 pub overflow_mul-w : goal.overflow_mul-w
 overflow_mul-w c = omega (arith, low c)
@@ -75,8 +75,8 @@ overflow_add-i c = omega (arith, low (goal.at.overflow_add-i c).In-loop-i)
 pub end_at-v-requires : goal.end_at-v-requires
 end_at-v-requires c = omega (arith, low (goal.at.end_at-v-requires c).In-loop-i)
 
-pub bounds-taken-i : goal.bounds-taken-i
-bounds-taken-i c = low (goal.at.bounds-taken-i c).In-loop-i
+pub bounds-bridges-i : goal.bounds-bridges-i
+bounds-bridges-i c = low (goal.at.bounds-bridges-i c).In-loop-i
 
 pub class_of-c-requires : goal.class_of-c-requires
 class_of-c-requires c =
@@ -89,7 +89,7 @@ class_of-c-requires c =
 pub overflow_add-weights : goal.overflow_add-weights
 overflow_add-weights c =
     let o = c.requires.0 in
-    omega (arith, (c.loop-i.invariant.1 o.0 o.1 o.2).1.most, c.adjusted_weight-more.ensures.1, light (goal.at.overflow_add-weights c).In-loop-i, low (goal.at.overflow_add-weights c).In-loop-i)
+    omega (arith, (c.loop-i.invariant o.0 o.1 o.2).1.most, c.adjusted_weight-weights.ensures.1, light (goal.at.overflow_add-weights c).In-loop-i, low (goal.at.overflow_add-weights c).In-loop-i)
 
 pub offset_bounds-held-i : goal.offset_bounds-held-i
 offset_bounds-held-i c = omega (arith, low (goal.at.offset_bounds-held-i c).In-loop-i)
@@ -105,39 +105,37 @@ opened_flow-x-requires c =
 in_class : (c : After-class_of-c) (p : Plant) → LaidOf p c.args.arcs.now c.args.rows.now → Bridging p c.args.bridges → c.class_of-c.result
     ≡ class_in c.args.bridges.labels (get_or p.streams c.loop-i.i no_stream) (get_or c.args.bridges.taken c.loop-i.i 0) c.args.bridges.looped
 in_class c p w q =
-    let l = used c.before.before.before.before.before.before.before p w in
+    let l = used c.before.before.before.before.before.before.before.before p w in
     c.class_of-c.ensures (get_or p.streams c.loop-i.i no_stream) (metered_at w _ l) (sym (c.end_at-u.ensures ∙ from_at w _ l)) (sym (c.end_at-v.ensures ∙ to_at w _ l))
 
 is_class : (c : After-class_of-c) (p : Plant) → LaidOf p c.args.arcs.now c.args.rows.now → Bridging p c.args.bridges → c.class_of-c.result ≡ class_of (plant_of p) c.loop-i.i
-is_class c p w q = in_class c p w q ∙ class_in_lem w.accepted q _ (used c.before.before.before.before.before.before.before p w)
+is_class c p w q = in_class c p w q ∙ class_in_lem w.accepted q _ (used c.before.before.before.before.before.before.before.before p w)
 
 pub loop-i-preserved : goal.loop-i-preserved
 loop-i-preserved c =
     let on = (goal.at.loop-i-preserved c).In-loop-i in
     let at = c.loop-i in
     let fits = opened_fits (get_or c.args.held.now at.i 0) (c.requires.1 _ (low on)) in
-    let flow = ap (λ (z : ℤ). to_z w64 (of_z w64 z)) c.opened_flow-x.ensures ∙ to_z-of_z fits in (
-      omega arith,
-      λ p w q.
-          let l = used on p w in
-          let s = get_or p.streams at.i no_stream in
-          let class = is_class (goal.at.loop-i-preserved c).After-class_of-c p w q in
-          let weight = weight_by c.args.bridges.labels s (get_or c.args.bridges.taken at.i 0) c.args.bridges.looped _ _ _ (in_class (goal.at.loop-i-preserved c).After-class_of-c p w q)
-          (weight_at w _ l) c.adjusted_weight-more.ensures.0
-          ∙ ap (λ (k : Class). adjusted_weight k s) class in (
-            written_put (at.invariant.1 p w q).0 (low on) _ (c.entry_of-e.ensures ∙ (λ i. entry_of (class i) (flow i))),
-            weighed_more w.accepted (at.invariant.1 p w q).1 l _ weight (omega (arith, c.adjusted_weight-more.ensures.1, light on)),
-          ),
+    let flow = ap (λ (z : ℤ). to_z w64 (of_z w64 z)) c.opened_flow-x.ensures ∙ to_z-of_z fits in
+    λ p w q.
+    let l = used on p w in
+    let s = get_or p.streams at.i no_stream in
+    let class = is_class (goal.at.loop-i-preserved c).After-class_of-c p w q in
+    let weight = weight_by c.args.bridges.labels s (get_or c.args.bridges.taken at.i 0) c.args.bridges.looped _ _ _ (in_class (goal.at.loop-i-preserved c).After-class_of-c p w q)
+    (weight_at w _ l) c.adjusted_weight-weights.ensures.0
+    ∙ ap (λ (k : Class). adjusted_weight k s) class in (
+      written_put (at.invariant p w q).0 (low on) _ (c.entry_of.ensures ∙ (λ i. entry_of (class i) (flow i))),
+      weighed_more w.accepted (at.invariant p w q).1 l _ weight (omega (arith, c.adjusted_weight-weights.ensures.1, light on)),
     )
 
 pub returns : goal.returns
 returns c =
     let at = c.loop-i in
     let o = c.requires.0 in
-    let most = (at.invariant.1 o.0 o.1 o.2).1 in (
+    let most = (at.invariant o.0 o.1 o.2).1 in (
       λ p w q.
           let e : at.i ≡ p.count = omega (arith, counted w, c.count_of-n.ensures, c.loop-i-test.false) in
-          let v = at.invariant.1 p w q in
+          let v = at.invariant p w q in
           let put : ℕ → Entry → Entry = λ k e. entry_of (class_of (plant_of p) k) (unshifted (get_or c.args.held.now k 0)) in
           let blank_past =
           subst (λ (x : Entry). Written no_entry max_streams put (replicate max_streams x) at.streams at.i) c.blank_entry-none.ensures v.0 in (

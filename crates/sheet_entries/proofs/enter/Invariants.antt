@@ -1,5 +1,4 @@
 -- After i turns the first i entries are written, and the weights of the first i streams summed up.
-use Prim.Native.Nat.{◌≤◌, ◌-◌}
 use lib.ListN.{get_or}
 use Rattle.plant_def.specs.declared.Plant.{Plant}
 use Rattle.plant_def.specs.Limits.{max_streams}
@@ -16,8 +15,5 @@ use Rattle.sheet_entries.proofs.enter.Given as goal
 
 abbrev pub invariant-loop-i : goal.invariant-loop-i
 invariant-loop-i l =
-    (l.i ≤ l.n) × ((p : Plant) → LaidOf p l.arcs l.rows → Bridging p l.bridges
-    → Written no_entry max_streams (λ k e. entry_of (class_of (plant_of p) k) (unshifted (get_or l.held k 0))) l.initial.streams l.streams l.i × Weighed p l.weights l.i)
-
-abbrev pub decreases-loop-i : goal.decreases-loop-i
-decreases-loop-i l = l.n - l.i
+    (p : Plant) → LaidOf p l.arcs l.rows → Bridging p l.bridges
+    → Written no_entry max_streams (λ k e. entry_of (class_of (plant_of p) k) (unshifted (get_or l.held k 0))) l.initial.streams l.streams l.i × Weighed p l.weights l.i

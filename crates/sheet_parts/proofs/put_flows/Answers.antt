@@ -16,9 +16,6 @@ loop-k-init c = none_handed shown c.args.streams c.args.count c.args.flows.now (
 pub bounds-flows-k : goal.bounds-flows-k
 bounds-flows-k c = room_there shown c.loop-k.invariant c.loop-k-test.true
 
-pub loop-k-smaller : goal.loop-k-smaller
-loop-k-smaller c = omega (arith, c.loop-k-test.true)
-
 pub loop-k-preserved : goal.loop-k-preserved
 loop-k-preserved c =
     let e = get_or c.args.streams c.loop-k.k no_entry in

@@ -1,6 +1,5 @@
 -- Each turn hands over the next kind.
 use native.Mathlib.Omega.{arith}
-use Rattle.sheet_def.specs.Sheets.{kind_of}
 use Rattle.sheet_def.specs.Calls.{no_entry}
 use Rattle.num_lent.proofs.Handing.{none_handed, slice_long, room_there, one_handed, all_handed}
 use Rattle.sheet_parts.proofs.put_kinds.Invariants.{kind}
@@ -11,9 +10,6 @@ loop-k-init c = none_handed kind c.args.streams c.args.count c.args.kinds.now (o
 
 pub bounds-kinds-k : goal.bounds-kinds-k
 bounds-kinds-k c = room_there kind c.loop-k.invariant c.loop-k-test.true
-
-pub loop-k-smaller : goal.loop-k-smaller
-loop-k-smaller c = omega (arith, c.loop-k-test.true)
 
 pub loop-k-preserved : goal.loop-k-preserved
 loop-k-preserved c = one_handed kind c.loop-k.invariant no_entry c.kind_of.result c.loop-k-test.true c.kind_of.ensures

@@ -1,5 +1,5 @@
 -- Each turn hands over the next kind.
-use Prim.Native.Nat.{ℕ, ◌-◌}
+use Prim.Native.Nat.{ℕ}
 use Rattle.sheet_def.specs.declared.Entry.{Entry}
 use Rattle.sheet_def.specs.Sheets.{kind_of}
 use Rattle.num_lent.proofs.Handing.{Handing}
@@ -10,6 +10,3 @@ kind e = kind_of e.class
 
 abbrev pub invariant-loop-k : goal.invariant-loop-k
 invariant-loop-k l = Handing kind l.streams l.count l.initial.kinds l.kinds l.k
-
-abbrev pub decreases-loop-k : goal.decreases-loop-k
-decreases-loop-k l = l.count - l.k

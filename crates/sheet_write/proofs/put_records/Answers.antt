@@ -21,17 +21,17 @@ use Rattle.sheet_write.proofs.put_records.Goals.{After-slice_known-in-loop-i-1}
 written : (c : After-slice_known-in-loop-i-1)
     → let a = c.args in
     let l = c.loop-i in
-    Rows (λ k. records_of (take k a.streams)) stream_size a.count a.out.now (returned l.at l.out c.put_record-size.new.out)
-    (l.at + c.put_record-size.result) (l.i + 1)
+    Rows (λ k. records_of (take k a.streams)) stream_size a.count a.out.now (returned l.at l.out c.put_record-at.new.out)
+    (l.at + c.put_record-at.result) (l.i + 1)
 written c =
     let a = c.args in
     let l = c.loop-i in
     let e = get_or a.streams l.i no_entry in
     let lt = c.loop-i-test.true in
     let f : SFits w64 e.flow = search rules in
-    let put : Put (record_of e.class e.flow) (part_from l.at l.out) c.put_record-size.new.out c.put_record-size.result = rw (to_z-of_z f) at
-    c.put_record-size.ensures in
-    one_row l.invariant.2 (record_of e.class e.flow) {last = c.put_record-size.new.out} {m = c.put_record-size.result} lt
+    let put : Put (record_of e.class e.flow) (part_from l.at l.out) c.put_record-at.new.out c.put_record-at.result = rw (to_z-of_z f) at
+    c.put_record-at.ensures in
+    one_row l.invariant.2 (record_of e.class e.flow) {last = c.put_record-at.new.out} {m = c.put_record-at.result} lt
     (records_more a.streams l.i no_entry (omega (arith, l.invariant.0, l.invariant.1))) (record_most e.class e.flow) put
 
 pub loop-i-init : goal.loop-i-init
@@ -46,8 +46,8 @@ slice_bounds-put_record-count c = rows_lend c.loop-i.invariant.2
 pub slice_bounds-put_record-start : goal.slice_bounds-put_record-start
 slice_bounds-put_record-start c = rows_lend c.loop-i.invariant.2
 
-pub put_record-size-requires : goal.put_record-size-requires
-put_record-size-requires c =
+pub put_record-at-requires : goal.put_record-at-requires
+put_record-at-requires c =
     rows_room c.loop-i.invariant.2 c.loop-i-test.true
 
 pub overflow_add-at : goal.overflow_add-at

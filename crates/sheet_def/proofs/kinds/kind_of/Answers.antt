@@ -1,7 +1,7 @@
 -- By the class.
 use mathlib.Core.Path.{sym, ap}
 use Rattle.sheet_def.specs.Sheets.{kind_of}
-use Rattle.sheet_read.proofs.kind_of.Goals as goal
+use Rattle.sheet_def.proofs.kinds.kind_of.Goals as goal
 
 pub returns-in-Adjusted : goal.returns-in-Adjusted
 returns-in-Adjusted c = ap kind_of (sym c.in-Adjusted.is)
