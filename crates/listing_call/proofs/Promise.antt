@@ -9,7 +9,7 @@ use lib.Dec.{ltb}
 use lib.ListN.{length}
 use Rattle.num_bytes.specs.Bytes.{over}
 use Rattle.num_bytes.specs.Inner.{Put, PickT}
-use Rattle.plant_def.specs.declared.Read.{Read}
+use Rattle.plant_def.specs.Results.{Read}
 use Rattle.plant_def.specs.Plants.{Plant}
 use Rattle.plant_def.specs.Files.{Got, bad, got, read_plant}
 use Rattle.plant_def.specs.Says.{plant_of, read_of}

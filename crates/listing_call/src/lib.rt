@@ -24,16 +24,13 @@ pub fn list_plant(file: &[u8], text: &mut [u8]) -> usize
     if text.len() < LEAST_TEXT {
         return 0;
     }
-    let read = plant_read::read_plant(file);
-    let number = read.number;
-    if number != 0 {
-        return put_refusal(number, text);
-    }
-    let plant = read.plant;
+    let plant = match plant_read::read_plant(file) {
+        Ok(plant) => plant,
+        Err(e) => return put_refusal(e.number(), text),
+    };
     let outcome = balance_of(plant);
     if !outcome.found {
         return put_refusal(19, text);
     }
-    let balance = outcome.balance;
-    put_listing(plant.count as usize, 1, balance, text)
+    put_listing(plant.count as usize, 1, outcome.balance, text)
 }

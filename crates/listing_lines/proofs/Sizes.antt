@@ -5,7 +5,6 @@ use mathlib.Core.Bool.{Bool, true, false}
 use lib.IntN.{ℤ, pos, negsuc, nat_abs}
 use Prim.Native.Nat.{ℕ, suc, ◌+◌, ◌^◌, ◌<◌, ◌≤◌}
 use native.Mathlib.Omega.{arith}
-use borrow.Author.Tests.{eq-eqb, ne_eqb}
 use lib.Dec.{eqb}
 use lib.ListN.{length, drop, length-append}
 use lib.Seq.{length-take-le}
@@ -42,26 +41,6 @@ flow_fits (negsuc n) f = let b = f.sfits in omega arith
 -- A line is no longer than the longest.
 pub line_most : (n : ℕ) (c : Class) (x : ℤ) → n < 100 → SFits w64 x → length (field n ++ entry_text c x ++ text "\n") ≤ line_size
 line_most n c x h f = omega (arith, line_size_lem n c x, field_size n, decimal_most 1 n h, entry_most c x (flow_fits x f))
-
--- An entry under its class and with its flow.
-pub entry_as : {c d : Class} {x y : ℤ} → d ≡ c → x ≡ y → entry_text c x ≡ entry_text d y
-entry_as {c} {d} {x} {y} e f = ap (λ (k : Class). entry_text k x) (sym e) ∙ ap (entry_text d) f
-
--- The line of the total.
-pub word_pass : (v : ℕ) → v ≡ 0 → text "pass" ≡ word_of v
-word_pass v e = simp (eq-eqb v 0 e)
-
--- The word of verdict 1.
-pub word_fail : (v : ℕ) → (v ≡ 0 → ⊥) → v ≡ 1 → text "fail" ≡ word_of v
-word_fail v n e = simp (ne_eqb v 0 n, eq-eqb v 1 e)
-
--- The word of verdict 3.
-pub word_close : (v : ℕ) → (v ≡ 0 → ⊥) → (v ≡ 1 → ⊥) → v ≡ 3 → text "close" ≡ word_of v
-word_close v n m e = simp (ne_eqb v 0 n, ne_eqb v 1 m, eq-eqb v 3 e)
-
--- The word of every other verdict.
-pub word_none : (v : ℕ) → (v ≡ 0 → ⊥) → (v ≡ 1 → ⊥) → (v ≡ 3 → ⊥) → text "none" ≡ word_of v
-word_none v n m o = simp (ne_eqb v 0 n, ne_eqb v 1 m, ne_eqb v 3 o)
 
 word_most : (v : ℕ) → length (word_of v) ≤ 5
 word_most v = go (eqb v 0) (eqb v 1) (eqb v 3)

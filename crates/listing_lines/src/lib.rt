@@ -1,7 +1,7 @@
 // The lines of a listing: one for each stream, then that of the total.
 #![tactic(auto)]
 
-ghost use Rattle.std.specs.Prelude.{◌+◌, ◌≤◌, ◌*◌, ◌∷◌, ◌++◌, length, take};
+ghost use Rattle.std.specs.Prelude.{◌+◌, ◌≤◌, ◌*◌, ◌∷◌, ◌++◌, length};
 ghost use Rattle.num_bytes.specs.Inner.{Put};
 ghost use Rattle.num_text.specs.Numerals.{text, signed_decimal, field};
 ghost use Rattle.listing_lines.specs.Listing.{entry_text, refusal_text, lines_from, word_of, total_line, listing_of};
@@ -11,7 +11,6 @@ ghost use Rattle.plant_def.specs.Limits.{max_streams};
 
 use flow_def::Class;
 use num_text::{put_byte, put_decimal, put_field, put_signed, put_text};
-use plant_def::limits::MAX_STREAMS;
 use sheet_def::{Balance, Entry};
 
 // A class letter and a flow.
@@ -57,18 +56,14 @@ fn put_line(number: usize, class: Class, flow: i64, at: usize, out: &mut [u8]) -
     put_byte(b'\n', b, out)
 }
 
-// The lines of the first so many streams.
-fn put_lines(count: usize, streams: [Entry; MAX_STREAMS], out: &mut [u8]) -> usize
-    requires { (count ≤ max_streams) × (max_streams * line_size ≤ length out.old) }
-    ensures { Added (lines_from 1 (take count streams)) 0 out.old out.new result × (result ≤ max_streams * line_size) }
+// The lines of the streams.
+fn put_lines(streams: &[Entry], out: &mut [u8]) -> usize
+    requires { (length streams.now ≤ max_streams) × (max_streams * line_size ≤ length out.old) }
+    ensures { Added (lines_from 1 streams.now) 0 out.old out.new result × (result ≤ max_streams * line_size) }
 {
     let mut at: usize = 0;
-    let mut i: usize = 0;
-    while i < count {
-        let e = streams[i];
-        let class = e.class;
-        i += 1;
-        at = put_line(i, class, e.flow, at, out);
+    for (i, e) in streams.iter().enumerate() {
+        at = put_line(i + 1, e.class, e.flow, at, out);
     }
     at
 }
@@ -78,16 +73,12 @@ fn put_word(verdict: u8, at: usize, out: &mut [u8]) -> usize
     requires { at + length (word_of verdict) ≤ length out.old }
     ensures { Added (word_of verdict) at out.old out.new result }
 {
-    if verdict == 0 {
-        return put_text(b"pass", at, out);
+    match verdict {
+        0 => put_text(b"pass", at, out),
+        1 => put_text(b"fail", at, out),
+        3 => put_text(b"close", at, out),
+        _ => put_text(b"none", at, out),
     }
-    if verdict == 1 {
-        return put_text(b"fail", at, out);
-    }
-    if verdict == 3 {
-        return put_text(b"close", at, out);
-    }
-    put_text(b"none", at, out)
 }
 
 // The line of the total: sheet number, cost, degrees, verdict.
@@ -108,7 +99,6 @@ pub fn put_listing(count: usize, number: u32, b: Balance, out: &mut [u8]) -> usi
     requires { (count ≤ max_streams) × (least_text ≤ length out.old) }
     ensures { Put (listing_of count number b) out.old out.new result }
 {
-    let streams = b.streams;
-    let at = put_lines(count, streams, out);
+    let at = put_lines(&b.streams[..count], out);
     put_total(number, b.cost, b.degrees, b.verdict, at, out)
 }

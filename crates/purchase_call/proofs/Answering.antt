@@ -7,7 +7,7 @@ use native.Mathlib.Decide.{dec_le}
 use lib.ListN.{get_or, replicate}
 use Rattle.num_bytes.proofs.Filled.{blank_at}
 use Rattle.plant_def.specs.declared.Plant as Arrays
-use Rattle.plant_def.specs.declared.Read.{Read}
+use Rattle.plant_def.specs.Results.{Read}
 use Rattle.plant_def.specs.Limits.{max_streams}
 use Rattle.plant_def.specs.Plants.{Plant}
 use Rattle.plant_def.specs.Files.{read_plant}
@@ -16,7 +16,7 @@ use Rattle.plant_def.specs.Says.{plant_of, read_of}
 use Rattle.plant_def.proofs.Arrayed.{all_listed, within_of}
 use Rattle.plant_def.proofs.Found.{says_bad, says_got}
 use Rattle.num_bytes.proofs.Lists.{Written}
-use Rattle.purchase_def.specs.declared.Bought.{Bought}
+use Rattle.purchase_def.specs.Results.{Bought}
 use Rattle.purchase_def.specs.Purchases.{max_price, unmetered_to, price_in, prices_fault}
 use Rattle.purchase_def.specs.Says.{none_bought, bought_of, BuyOf, BuyWith, BuySays}
 use Rattle.purchase_def.specs.Choosing.{to_buy}

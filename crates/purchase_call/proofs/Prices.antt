@@ -1,15 +1,18 @@
 -- Prices looked at one after the other, and spread over the streams.
 use mathlib.Core.Path.{◌≡◌, refl, sym, ◌∙◌, ap}
-use mathlib.Core.Bool.{Bool, true, false, not, ◌||◌}
+use mathlib.Core.Bool.{Bool, true, false, not, ◌||◌, cond}
 use mathlib.Core.List.{List, [], ◌∷◌}
 use Prim.Native.Nat.{ℕ, zero, suc, ◌+◌, ◌≤◌, ◌<◌}
 use native.Mathlib.Numerals.{add-one}
 use native.Mathlib.Omega.{arith}
 use borrow.Author.Tests.{eq-eqb, ne_eqb, ltb-false}
 use lib.Dec.{eqb, ltb}
-use lib.ListN.{length, get_or}
+use lib.ListN.{length, get_or, take}
+use Rattle.std.specs.List.{list_any, count_by}
+use Rattle.std.proofs.lemmas.List.{take_all}
+use Rattle.std.proofs.lemmas.List.Sums.{sum_by_more}
 use Rattle.num_bytes.specs.Choice.{pick, refuse_if}
-use Rattle.num_bytes.proofs.Tests.{or_left, or_right, or_none_left, or_none_right, refuse_none}
+use Rattle.num_bytes.proofs.Tests.{or_none_left, or_none_right, refuse_none}
 use Rattle.plant_def.specs.declared.Stream.{Stream}
 use Rattle.plant_def.specs.declared.Plant as Arrays
 use Rattle.plant_def.specs.Plants.{Plant, no_stream}
@@ -22,16 +25,10 @@ use Rattle.purchase_def.specs.Purchases.{max_price, unmetered_to, some_unfair, p
 abbrev pub off : ℕ → Bool
 off c = eqb c 0 || ltb max_price c
 
--- One price is unfair.
-pub one_off : (cs : List ℕ) (k : ℕ) → k < length cs → off (get_or cs k 0) ≡ true → true ≡ some_unfair cs
-one_off [] k l e = absurd (omega arith)
-one_off (c ∷ cs) zero l e = sym (or_left (off c) (some_unfair cs) e)
-one_off (c ∷ cs) (suc k) l e = sym (or_right (off c) (some_unfair cs) (sym (one_off cs k (omega arith) e)))
-
--- None is.
-pub none_off : (cs : List ℕ) → ((k : ℕ) → k < length cs → off (get_or cs k 0) ≡ false) → false ≡ some_unfair cs
-none_off [] h = refl
-none_off (c ∷ cs) h = none_off cs (λ k l. h (suc k) (omega arith)) ∙ sym (ap (λ (b : Bool). b || some_unfair cs) (h 0 (omega arith)))
+-- Some price of a list is unfair.
+pub any_unfair : (cs : List ℕ) → list_any off cs ≡ some_unfair cs
+any_unfair [] = refl
+any_unfair (c ∷ cs) = ap (λ (b : Bool). off c || b) (any_unfair cs)
 
 -- Without fault each price is at most its limit; past the list's end it is 0.
 pub low : (cs : List ℕ) (k : ℕ) → some_unfair cs ≡ false → get_or cs k 0 ≤ max_price
@@ -55,6 +52,24 @@ unmetered_few ss (suc k) = omega (arith, one (stream_at k), unmetered_few ss k)
 pub unmetered_next : (p : Arrays.Plant) → Accepted p → (i k m : ℕ) → i < p.count → k ≡ unmetered_to (plant_of p).streams i
     → m ≡ pick (get_or p.streams i no_stream).metered 0 1 + k → m ≡ unmetered_to (plant_of p).streams (i + 1)
 unmetered_next p a i k m l e q = rw (add-one i, listed_at p a i l, ← e) q
+
+-- The unmetered ones of the first k streams, counted.
+one_counted : (b : Bool) → cond {A = ℕ} (not b) 1 0 ≡ pick b 0 1
+one_counted true = refl
+one_counted false = refl
+
+counted_to : (ss : List Stream) (k : ℕ) → k ≤ length ss → count_by (λ (s : Stream). not s.metered) (take k ss) ≡ unmetered_to ss k
+counted_to ss zero h = refl
+counted_to ss (suc k) h =
+    rw (← add-one k)
+    (omega (arith, sum_by_more (λ (s : Stream). cond {A = ℕ} (not s.metered) 1 0) ss k no_stream (omega arith), counted_to ss k (omega arith), one_counted (get_or ss k no_stream).metered))
+
+-- Those of all streams of a plant in its array.
+pub counted : (p : Arrays.Plant) → Accepted p → count_by (λ (s : Stream). not s.metered) (take p.count p.streams) ≡ unmetered_to (plant_of p).streams p.count
+counted p a =
+    let e : length (plant_of p).streams ≡ p.count = all_listed p a in
+    ap (count_by (λ (s : Stream). not s.metered)) (sym (take_all p.count (plant_of p).streams (omega arith)))
+    ∙ counted_to (plant_of p).streams p.count (omega arith)
 
 -- The fault, by what was found.
 module _ (p : Arrays.Plant) (a : Accepted p) (prices : List ℕ) (n : ℕ) (e : n ≡ unmetered_to (plant_of p).streams p.count) where

@@ -3,7 +3,7 @@ use Rattle.std.specs.Prelude.{List, ℕ, ◌≤◌, length, take}
 use Rattle.num_bytes.specs.Bytes.{over}
 use Rattle.plant_def.specs.Limits.{max_streams}
 use Rattle.num_lent.specs.Lending.{Lending}
-use Rattle.purchase_def.specs.declared.Bought.{Bought}
+use Rattle.purchase_def.specs.Results.{Bought}
 use Rattle.purchase_def.specs.Says.{none_bought, BuySays}
 
 -- What an answer shows: number, count and price; the streams' numbers at the front of the slice, the rest of it as it was. (A refusal

@@ -1,6 +1,6 @@
 -- Whether a stream of the array is bought; and the streams bought so far.
 use mathlib.Core.Path.{◌≡◌, refl, sym, ◌∙◌, ap}
-use mathlib.Core.Bool.{Bool, true, false, not}
+use mathlib.Core.Bool.{Bool, true, false}
 use mathlib.Core.List.{List, [], ◌∷◌, ◌++◌, append-nil}
 use Prim.Native.Nat.{ℕ, zero, suc, ◌+◌, ◌≤◌, ◌<◌, ◌^◌}
 use native.Mathlib.Numerals.{add-one}
@@ -20,19 +20,15 @@ use Rattle.flow_def.specs.Labels.{labels_of, one_label}
 use Rattle.num_bytes.proofs.Lists.{values_long, values_at}
 use Rattle.flow_def.proofs.Nets.{inside}
 use Rattle.flow_def.specs.Metering.{chosen}
-use Rattle.purchase_def.specs.declared.Bought.{Bought}
+use Rattle.purchase_def.specs.Results.{Bought}
 use Rattle.purchase_def.specs.Purchases.{max_price, prices_to, price_of, numbers_from}
 use Rattle.purchase_def.specs.Says.{none_bought, bought_of}
 use Rattle.purchase_def.specs.Choosing.{dearer, bought, to_buy, with_more}
 use Rattle.purchase_def.proofs.Sets.{bought_by_labels, sum_most, prices_same}
 
--- A metered stream is not bought; another by the labels of those that go before it.
+-- An unmetered stream is bought by the labels of those that go before it.
 module _ (p : Arrays.Plant) (a : Accepted p) (price : ℕ → ℕ) (i : ℕ) (l : i < p.count) where
-  -- A metered stream is not bought.
-  pub metered_not : (get_or p.streams i no_stream).metered ≡ true → false ≡ bought (plant_of p) price i
-  metered_not t = rw (listed_at p a i l, t)
-
-  -- Another is bought where the labels join its ends.
+  -- It is bought if the labels join its ends.
   pub by_label : (get_or p.streams i no_stream).metered ≡ false → (labels : List ℕ) → labels ≡ labels_of (dearer price i) (plant_of p) → (r : Bool)
       → r ≡ one_label labels (get_or p.streams i no_stream).from (get_or p.streams i no_stream).to → r ≡ bought (plant_of p) price i
   by_label t labels e r q =

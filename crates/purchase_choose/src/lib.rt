@@ -2,13 +2,13 @@
 #![tactic(auto)]
 
 ghost use Rattle.std.specs.Prelude.{◌≡◌, not, ◌&&◌, ◌||◌, eqb, ltb, ℕ, ◌+◌, ◌<◌, ◌≤◌, ◌^◌, length, get_or};
-ghost use Rattle.num_bytes.specs.Choice.{pick};
 ghost use Rattle.plant_def.specs.Limits.{max_streams};
 ghost use Rattle.plant_def.specs.Within.{Accepted};
 ghost use Rattle.plant_def.specs.Says.{plant_of};
 ghost use Rattle.flow_def.specs.Labels.{labels_of};
 ghost use Rattle.purchase_def.specs.Purchases.{max_price};
 ghost use Rattle.purchase_def.specs.Says.{none_bought, bought_of};
+ghost use Rattle.purchase_def.specs.Views.{held_as};
 ghost use Rattle.purchase_def.specs.Choosing.{dearer, bought, to_buy, with_more};
 
 use flow_components::{one_label, own_numbers, step};
@@ -20,31 +20,21 @@ use purchase_def::Bought;
 fn goes(a: u32, b: u32, i: usize, j: usize) -> bool
     ensures { result ≡ (ltb a b || (eqb a b && ltb i j)) }
 {
-    if a < b {
-        return true;
-    }
-    if a == b {
-        return i < j;
-    }
-    false
+    (a, i) < (b, j)
 }
 
 // Whether it counts: it is unmetered too.
 pub fn counts(s: Stream, a: u32, b: u32, i: usize, j: usize) -> bool
     ensures { result ≡ (not s.metered && (ltb a b || (eqb a b && ltb i j))) }
 {
-    if s.metered {
-        return false;
-    }
-    goes(a, b, i, j)
+    !s.metered && goes(a, b, i, j)
 }
 
-// A refusal buys nothing.
-pub fn refused(number: u8) -> Bought
-    ensures { result ≡ none_bought number }
+// Nothing is bought yet.
+fn nothing() -> Bought
+    ensures { held_as result ≡ none_bought 0 }
 {
     Bought {
-        number: number,
         count: 0,
         streams: [0; MAX_STREAMS],
         price: 0,
@@ -59,13 +49,10 @@ fn labels_before(p: Plant, prices: [u32; MAX_STREAMS], i: usize) -> [u8; PLACES]
     let n = p.count as usize;
     let a = prices[i];
     let mut labels = own_numbers();
-    let mut j: usize = 0;
-    while j < n {
+    for j in 0..n {
         let s = p.streams[j];
-        let b = prices[j];
-        let c = counts(s, a, b, i, j);
+        let c = counts(s, a, prices[j], i, j);
         step(&mut labels, s, c);
-        j += 1;
     }
     labels
 }
@@ -76,53 +63,35 @@ fn is_bought(p: Plant, prices: [u32; MAX_STREAMS], i: usize) -> bool
     ensures { result ≡ bought (plant_of p) (λ k. get_or prices k 0) i }
 {
     let s = p.streams[i];
-    if s.metered {
-        return false;
-    }
-    let labels = labels_before(p, prices, i);
-    one_label(&labels, s)
+    !s.metered && one_label(&labels_before(p, prices, i), s)
 }
 
 // One stream more is bought.
 fn with_more(b: Bought, stream: u8, price: u32) -> Bought
     requires { (b.count < max_streams) × (length b.streams ≡ max_streams) × (b.price + price < 2 ^ 32) }
-    ensures { result ≡ with_more b stream price }
+    ensures { held_as result ≡ with_more (held_as b) stream price }
 {
     let at = b.count as usize;
     let mut streams = b.streams;
     streams[at] = stream;
     Bought {
-        number: b.number,
         count: b.count + 1,
-        streams: streams,
+        streams,
         price: b.price + price,
     }
-}
-
-// One stream more, where it is bought.
-fn with_stream(b: Bought, taken: bool, stream: u8, price: u32) -> Bought
-    requires { (b.count < max_streams) × (length b.streams ≡ max_streams) × (b.price + price < 2 ^ 32) }
-    ensures { result ≡ pick taken (with_more b stream price) b }
-{
-    if taken {
-        return with_more(b, stream, price);
-    }
-    b
 }
 
 // All streams that are bought, and what they cost.
 pub fn choose(p: Plant, prices: [u32; MAX_STREAMS]) -> Bought
     requires { Accepted p × ((k : ℕ) → get_or prices k 0 ≤ max_price) }
-    ensures { result ≡ bought_of (λ k. get_or prices k 0) (to_buy (plant_of p) (λ k. get_or prices k 0)) }
+    ensures { held_as result ≡ bought_of (λ k. get_or prices k 0) (to_buy (plant_of p) (λ k. get_or prices k 0)) }
 {
     let n = p.count as usize;
-    let mut b = refused(0);
-    let mut i: usize = 0;
-    while i < n {
-        let taken = is_bought(p, prices, i);
-        let stream = i as u8 + 1;
-        b = with_stream(b, taken, stream, prices[i]);
-        i += 1;
+    let mut b = nothing();
+    for i in 0..n {
+        if is_bought(p, prices, i) {
+            b = with_more(b, i as u8 + 1, prices[i]);
+        }
     }
     b
 }

@@ -11,7 +11,7 @@ use Rattle.plant_def.specs.Plants.{Plant}
 use Rattle.plant_def.specs.Files.{Got, bad, got, read_plant}
 use Rattle.plant_def.specs.Within.{Within}
 use Rattle.plant_def.proofs.Accepted.{read_within}
-use Rattle.purchase_def.specs.declared.Bought.{Bought}
+use Rattle.purchase_def.specs.Results.{Bought}
 use Rattle.purchase_def.specs.Purchases.{price_in, prices_fault, numbers_from, Best}
 use Rattle.purchase_def.specs.Choosing.{to_buy}
 use Rattle.purchase_def.specs.Says.{bought_of, BuyOf, BuyWith, BuySays, MetersToBuy}

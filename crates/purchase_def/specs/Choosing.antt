@@ -5,7 +5,7 @@ use Rattle.plant_def.specs.Plants.{Plant}
 use Rattle.flow_def.specs.Flows.{stream_at}
 use Rattle.flow_def.specs.Chains.{Counting}
 use Rattle.flow_def.specs.Classes.{has, joined_to}
-use Rattle.purchase_def.specs.declared.Bought.{Bought}
+use Rattle.purchase_def.specs.Results.{Bought}
 
 -- Stream j goes before stream i where streams are left unmetered: it is dearer, or as dear and of a higher number.
 abbrev pub before : (ℕ → ℕ) → ℕ → ℕ → Bool

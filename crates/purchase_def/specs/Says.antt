@@ -6,7 +6,7 @@ use Rattle.plant_def.specs.Limits.{max_streams}
 use Rattle.plant_def.specs.Plants.{Plant}
 use Rattle.plant_def.specs.Files.{Got, got, read_plant}
 use Rattle.flow_def.specs.Withheld.{NoneWithheld}
-use Rattle.purchase_def.specs.declared.Bought.{Bought}
+use Rattle.purchase_def.specs.Results.{Bought}
 use Rattle.purchase_def.specs.Purchases.{price_in, prices_fault, price_of, numbers_of, Best}
 
 -- A refusal hands over its number and zeros.

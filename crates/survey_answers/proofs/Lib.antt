@@ -1,4 +1,4 @@
--- Laws of a survey that is handed over. Laws of a survey's text: its lines one behind the other, the call's promise, no choice.
+-- Laws of a survey that is handed over, and of its text: its lines one behind the other, no choice.
 pub mod Lending
 pub mod Lined
 pub mod Promise

@@ -2,7 +2,7 @@
 use Rattle.std.specs.Prelude.{List, ℕ, ◌≤◌, length}
 use Rattle.num_bytes.specs.Bytes.{over}
 use Rattle.num_lent.specs.Lending.{Lending}
-use Rattle.survey_def.specs.declared.Layouts.{Layouts}
+use Rattle.survey_def.specs.Results.{Layouts}
 use Rattle.survey_def.specs.Says.{survey_size, refused_with, listed, SurveySays}
 
 -- What a survey shows: the number, how many streams there are, and the counts at the front of the slice, the rest as it was. (With a

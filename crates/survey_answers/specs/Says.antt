@@ -2,7 +2,7 @@
 use Rattle.std.specs.Prelude.{◌≡◌, List, ℕ, ◌*◌, ◌≤◌, ◌<◌, length}
 use Rattle.num_bytes.specs.Inner.{Put}
 use Rattle.num_text.specs.Numerals.{text}
-use Rattle.survey_def.specs.declared.Layouts.{Layouts}
+use Rattle.survey_def.specs.Results.{Layouts}
 use Rattle.survey_def.specs.Says.{survey_size, SurveySays}
 use Rattle.survey_def.specs.Sample.{sample_file, empty_file}
 use Rattle.survey_answers.specs.Text.{survey_text}

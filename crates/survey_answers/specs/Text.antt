@@ -3,7 +3,7 @@ use Rattle.std.specs.Prelude.{List, [], ◌∷◌, ◌++◌, ℕ, suc, eqb}
 use Rattle.num_bytes.specs.Choice.{pick}
 use Rattle.num_text.specs.Numerals.{pair_line}
 use Rattle.listing_lines.specs.Listing.{refusal_text}
-use Rattle.survey_def.specs.declared.Layouts.{Layouts}
+use Rattle.survey_def.specs.Results.{Layouts}
 use Rattle.survey_def.specs.Says.{listed}
 
 -- The lines of counts, the first of which is of this size.

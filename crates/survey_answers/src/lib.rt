@@ -1,8 +1,7 @@
 // The survey of a plant file in a lent slice, and as text.
 #![tactic(auto)]
 
-ghost use Rattle.std.specs.Prelude.{◌≡◌, ◌≤◌, ◌+◌, length, take};
-ghost use Rattle.num_bytes.specs.Bytes.{over};
+ghost use Rattle.std.specs.Prelude.{◌≤◌, ◌+◌, length};
 ghost use Rattle.survey_def.specs.Says.{survey_size};
 ghost use Rattle.survey_answers.specs.Lent.{SurveyFound};
 ghost use Rattle.num_bytes.specs.Inner.{Put};
@@ -13,27 +12,17 @@ ghost use Rattle.survey_answers.specs.Text.{lines_from};
 ghost use Rattle.survey_answers.specs.Says.{least_text, TextSays};
 
 use listing_lines::put_refusal;
+use num_lent::put_front;
 use num_text::{put_byte, put_decimal, put_field};
 use survey_count::layouts_of;
 use survey_def::SURVEY_SIZE;
 
 // What is handed over beside the slice: the number, and how many streams there are.
+// Stays a number: what the exported call hands to C.
 #[derive(Clone, Copy)]
 pub struct Lent {
     pub number: u8,
     pub count: usize,
-}
-
-// The first so many counts.
-fn put_counts(size: usize, counts: [u16; SURVEY_SIZE], out: &mut [u16])
-    requires { (size ≤ survey_size) × (size ≤ length out.old) }
-    ensures { out.new ≡ over (take size counts) out.old }
-{
-    let mut k: usize = 0;
-    while k < size {
-        out[k] = counts[k];
-        k += 1;
-    }
 }
 
 // The survey: a count for each size at the front of the slice, the rest of it as it was; or a refusal, and the slice as it was.
@@ -47,20 +36,16 @@ pub fn layouts_lent(file: &[u8], counts: &mut [u16]) -> Lent
             count: 0,
         };
     }
-    let layouts = layouts_of(file);
-    let count = layouts.count as usize;
-    let number = layouts.number;
-    if number != 0 {
-        return Lent {
-            number: number,
-            count: count,
-        };
-    }
-    let found = layouts.counts;
-    put_counts(count + 1, found, counts);
-    Lent {
-        number: 0,
-        count: count,
+    match layouts_of(file) {
+        Ok(layouts) => {
+            let count = layouts.count as usize;
+            put_front(&layouts.counts[..count + 1], counts);
+            Lent { number: 0, count }
+        }
+        Err(e) => Lent {
+            number: e.number(),
+            count: 0,
+        },
     }
 }
 
@@ -71,6 +56,7 @@ const LINE_SIZE: usize = 9;
 pub const LEAST_TEXT: usize = SURVEY_SIZE * LINE_SIZE;
 
 // The line of a size: k, count.
+// Stays apart from `visit_text::put_line`: the edit `lines_run_together` of each changes its own line's end.
 fn put_line(k: usize, count: u16, at: usize, out: &mut [u8]) -> usize
     requires { at + length (pair_line k count) ≤ length out.old }
     ensures { Added (pair_line k count) at out.old out.new result }
@@ -80,16 +66,14 @@ fn put_line(k: usize, count: u16, at: usize, out: &mut [u8]) -> usize
     put_byte(b'\n', b, out)
 }
 
-// The lines of the first so many sizes, and how long they are.
-fn put_lines(size: usize, counts: [u16; SURVEY_SIZE], out: &mut [u8]) -> usize
-    requires { (size ≤ survey_size) × (least_text ≤ length out.old) }
-    ensures { Put (lines_from 0 (take size counts)) out.old out.new result }
+// The lines of the sizes, a count for each, and how long they are.
+fn put_lines(counts: &[u16], out: &mut [u8]) -> usize
+    requires { (length counts.now ≤ survey_size) × (least_text ≤ length out.old) }
+    ensures { Put (lines_from 0 counts.now) out.old out.new result }
 {
     let mut at: usize = 0;
-    let mut k: usize = 0;
-    while k < size {
-        at = put_line(k, counts[k], at, out);
-        k += 1;
+    for (k, count) in counts.iter().enumerate() {
+        at = put_line(k, *count, at, out);
     }
     at
 }
@@ -103,11 +87,8 @@ pub fn list_layouts(file: &[u8], text: &mut [u8]) -> usize
     if text.len() < LEAST_TEXT {
         return 0;
     }
-    let layouts = layouts_of(file);
-    let number = layouts.number;
-    if number != 0 {
-        return put_refusal(number, text);
+    match layouts_of(file) {
+        Ok(layouts) => put_lines(&layouts.counts[..layouts.count as usize + 1], text),
+        Err(e) => put_refusal(e.number(), text),
     }
-    let counts = layouts.counts;
-    put_lines(layouts.count as usize + 1, counts, text)
 }

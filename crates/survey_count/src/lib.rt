@@ -1,13 +1,15 @@
 // The survey of meter layouts, counted over the sets of a plant's streams: the call.
 #![tactic(auto)]
 
-ghost use Rattle.std.specs.Prelude.{◌≡◌, ℕ, ◌^◌, ◌≤◌, ◌<◌, length, get_or, take};
+ghost use Rattle.std.specs.Prelude.{◌≡◌, ℕ, ◌^◌, ◌≤◌, ◌<◌, length, get_or, take, Ok};
 ghost use Rattle.plant_def.specs.Within.{Accepted};
-ghost use Rattle.survey_def.specs.Says.{max_surveyed, survey_size, refused_with, Surveyed, SurveySays};
-ghost use Rattle.survey_def.specs.Inner.{each_meets, ones, count_below, Few};
+ghost use Rattle.survey_def.specs.Says.{max_surveyed, survey_size, Surveyed, SurveySays};
+ghost use Rattle.survey_def.specs.Views.{layouts_as};
+ghost use Rattle.survey_def.specs.Inner.{each_meets, ones, count_below, Few, Surveyable};
 ghost use Rattle.plant_def.specs.Says.{plant_of};
 
 use flow_components::{one_label, own_numbers, step};
+use plant_def::refusal::Refusal;
 use plant_def::{Plant, Stream};
 use survey_def::{Layouts, MAX_SURVEYED, SURVEY_SIZE};
 
@@ -17,12 +19,7 @@ pub fn first_streams(plant: Plant) -> [Stream; MAX_SURVEYED]
     ensures { result ≡ take max_surveyed plant.streams }
 {
     let mut streams = [plant.streams[0]; MAX_SURVEYED];
-    let mut k: usize = 0;
-    while k < MAX_SURVEYED {
-        let s = plant.streams[k];
-        streams[k] = s;
-        k += 1;
-    }
+    streams.copy_from_slice(&plant.streams[..MAX_SURVEYED]);
     streams
 }
 
@@ -32,34 +29,24 @@ fn ones_of(m: u16, n: usize) -> usize
     ensures { (result ≡ ones n m) × (result < survey_size) }
 {
     let mut size: usize = 0;
-    let mut left = m;
-    let mut j: usize = 0;
-    while j < n {
-        size += (left % 2) as usize;
-        left = left / 2;
-        j += 1;
+    for j in 0..n {
+        size += (m >> j) as usize % 2;
     }
     size
 }
 
 // Whether the streams without a meter have no loop: each joins two groups when it is met, so that none is withheld.
-fn leaves_none(streams: [Stream; MAX_SURVEYED], n: usize, m: u16) -> bool
-    requires { Few n streams }
-    ensures { result ≡ each_meets m (take n streams) }
+fn leaves_none(streams: &[Stream], m: u16) -> bool
+    requires { Surveyable streams.now }
+    ensures { result ≡ each_meets m streams.now }
 {
     let mut labels = own_numbers();
-    let mut left = m;
-    let mut j: usize = 0;
-    while j < n {
-        let s = streams[j];
-        let bare = left % 2 == 0;
-        let closed = one_label(&labels, s);
-        if bare & closed {
+    for (j, s) in streams.iter().enumerate() {
+        let bare = (m >> j) % 2 == 0;
+        if bare && one_label(&labels, *s) {
             return false;
         }
-        step(&mut labels, s, bare);
-        left = left / 2;
-        j += 1;
+        step(&mut labels, *s, bare);
     }
     true
 }
@@ -71,55 +58,33 @@ pub fn count_all(streams: [Stream; MAX_SURVEYED], n: usize) -> [u16; SURVEY_SIZE
 {
     let top = 1u16 << n;
     let mut counts = [0u16; SURVEY_SIZE];
-    let mut m: u16 = 0;
-    while m < top {
-        if leaves_none(streams, n, m) {
-            let k = ones_of(m, n);
-            counts[k] += 1;
+    for m in 0..top {
+        if leaves_none(&streams[..n], m) {
+            counts[ones_of(m, n)] += 1;
         }
-        m += 1;
     }
     counts
-}
-
-// A refusal: its number, no streams, zeros.
-fn refusal(number: u8) -> Layouts
-    ensures { result ≡ refused_with number }
-{
-    Layouts {
-        number: number,
-        count: 0,
-        counts: [0u16; SURVEY_SIZE],
-    }
 }
 
 // The survey of a plant.
 fn survey(plant: Plant) -> Layouts
     requires { Accepted plant × (plant.count ≤ max_surveyed) }
-    ensures { Surveyed (plant_of plant) result }
+    ensures { Surveyed (plant_of plant) (layouts_as (Ok result)) }
 {
-    let streams = first_streams(plant);
-    let counts = count_all(streams, plant.count as usize);
     Layouts {
-        number: 0,
         count: plant.count,
-        counts: counts,
+        counts: count_all(first_streams(plant), plant.count as usize),
     }
 }
 
 // For a plant file of at most 12 streams, whichever are metered: how many choices of k metered streams leave none withheld, for
-// each k from 0 to the number of streams; or a refusal and zeros.
-pub fn layouts_of(file: &[u8]) -> Layouts
-    ensures { SurveySays file.now result }
+// each k from 0 to the number of streams; or a refusal.
+pub fn layouts_of(file: &[u8]) -> Result<Layouts, Refusal>
+    ensures { SurveySays file.now (layouts_as result) }
 {
-    let read = plant_read::read_plant(file);
-    let number = read.number;
-    if number != 0 {
-        return refusal(number);
-    }
-    let plant = read.plant;
+    let plant = plant_read::read_plant(file)?;
     if MAX_SURVEYED < plant.count as usize {
-        return refusal(23);
+        return Err(Refusal::TooManyToSurvey);
     }
-    survey(plant)
+    Ok(survey(plant))
 }

@@ -9,7 +9,7 @@ use lib.Dec.{eqb, ltb}
 use lib.ListN.{length, get_or, take, length-replicate, get_or-eq_default}
 use lib.Seq.{ext_get_or, length-take-le, get_or-take}
 use Rattle.num_bytes.proofs.Tests.{by_cases, same_test}
-use Rattle.plant_def.specs.declared.Read.{Read}
+use Rattle.plant_def.specs.Results.{Read}
 use Rattle.plant_def.specs.declared.Stream.{Stream}
 use Rattle.plant_def.specs.declared.Plant as Arrays
 use Rattle.plant_def.specs.Plants.{Plant, no_stream}
@@ -17,10 +17,10 @@ use Rattle.plant_def.specs.Files.{Got, bad, got, read_plant}
 use Rattle.plant_def.specs.Within.{Within, Accepted}
 use Rattle.plant_def.specs.Says.{plant_of, read_of}
 use Rattle.plant_def.proofs.Arrayed.{all_listed, listed_at, within_of, stream_within, read_held}
-use Rattle.plant_def.proofs.Found.{read_bad, found, plant_count}
+use Rattle.plant_def.proofs.Found.{found, plant_count}
 use Rattle.num_bytes.specs.Sums.{bit, count_to}
 use Rattle.num_bytes.proofs.Counts.{count_few}
-use Rattle.survey_def.specs.declared.Layouts.{Layouts}
+use Rattle.survey_def.specs.Results.{Layouts}
 use Rattle.survey_def.specs.Layouts.{size, sets_of, Counted}
 use Rattle.survey_def.specs.Says.{max_surveyed, survey_size, refused_with, Surveyed, SurveySays, OneSurvey}
 use Rattle.survey_def.specs.Inner.{each_meets, ones, count_below, Few}
@@ -92,19 +92,6 @@ module _ (p : Arrays.Plant) (a : Accepted p) (few : p.count ≤ max_surveyed) wh
 got_bad : {p : Plant} {f : ℕ} {A : Type 0} → got p ≡ bad f → A
 got_bad e = let z : ◌≡◌ {A = ℕ} 0 1 = cc in absurd (omega arith)
 
--- A file that is not read.
-pub says_unread : (file : List ℕ) (y : Read) → y ≡ read_of (read_plant file) → (y.number ≡ 0 → ⊥) → SurveySays file (refused_with y.number)
-says_unread file y e n =
-    let b = read_bad (read_plant file) y e n in
-    record {
-      unread = λ f q. ap refused_with (number_of (sym b ∙ q));
-      too_many = λ p q m. got_bad (sym q ∙ b);
-      surveyed = λ p q m. got_bad (sym q ∙ b);
-    }
-  where
-    number_of : {f g : ℕ} → bad f ≡ bad g → f ≡ g
-    number_of e = cc
-
 module _ (file : List ℕ) (y : Read) (e : y ≡ read_of (read_plant file)) (n : y.number ≡ 0) where
   the_plant : (p : Plant) → read_plant file ≡ got p → p ≡ (found file y e n).0
   the_plant p q = same (sym q ∙ (found file y e n).1)
@@ -114,14 +101,6 @@ module _ (file : List ℕ) (y : Read) (e : y ≡ read_of (read_plant file)) (n :
 
   the_count : (p : Plant) → read_plant file ≡ got p → length p.streams ≡ y.plant.count
   the_count p q = ap (λ (x : Plant). length x.streams) (the_plant p q) ∙ sym (plant_count file y e n)
-
-  -- Too many streams: 23.
-  pub says_many : max_surveyed < y.plant.count → SurveySays file (refused_with 23)
-  says_many m = record {
-    unread = λ f q. got_bad (sym (found file y e n).1 ∙ q);
-    too_many = λ p q h. refl;
-    surveyed = λ p q h. absurd (omega (arith, the_count p q));
-  }
 
   -- The survey of a plant that is read.
   pub says_surveyed : y.plant.count ≤ max_surveyed → (r : Layouts) → Surveyed (plant_of y.plant) r → SurveySays file r

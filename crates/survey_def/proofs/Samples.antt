@@ -12,7 +12,7 @@ use Rattle.plant_def.proofs.Accepted.{accepted}
 use Rattle.plant_def.proofs.Sample.{sample_plant}
 use Rattle.flow_def.specs.Labels.{labels_after}
 use Rattle.num_bytes.proofs.Lists.{values_at}
-use Rattle.survey_def.specs.declared.Layouts.{Layouts}
+use Rattle.survey_def.specs.Results.{Layouts}
 use Rattle.survey_def.specs.Says.{max_surveyed, survey_size, SurveySays}
 use Rattle.survey_def.specs.Inner.{count_below}
 use Rattle.survey_def.specs.Sample.{sample_file, empty_file, Samples}

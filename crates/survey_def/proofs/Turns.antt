@@ -3,7 +3,6 @@ use mathlib.Core.Path.{◌≡◌, refl, sym, ◌∙◌, ap}
 use mathlib.Core.Bool.{Bool, true, false, not, ◌&&◌, ◌||◌}
 use mathlib.Core.List.{List}
 use Prim.Native.Nat.{ℕ, zero, suc, ◌+◌, ◌*◌, ◌/◌, ◌%◌, ◌^◌, ◌≤◌, ◌<◌}
-use native.Mathlib.Nat.{div-div-eq-div-mul, pow-suc, div-one}
 use native.Mathlib.Numerals.{add-one}
 use native.Mathlib.Omega.{arith}
 use borrow.Author.Tests.{eq-eqb, ne_eqb}
@@ -25,15 +24,7 @@ use Rattle.flow_def.proofs.Labels.{step_none, labels_long}
 use Rattle.flow_def.proofs.Grouping.{step_said}
 use Rattle.num_bytes.proofs.Counts.{one, count_few}
 use Rattle.survey_def.specs.Says.{max_surveyed, survey_size}
-use Rattle.survey_def.specs.Inner.{bit_off, meets, each_meets, ones, count_below, Few}
-
--- What is left of a number after j bits.
-pub none_taken : (m : ℕ) → m ≡ m / 2 ^ 0
-none_taken m = sym (div-one m)
-
--- What is left of a number, halved once more.
-pub half_left : (m j : ℕ) → m / 2 ^ j / 2 ≡ m / 2 ^ (j + 1)
-half_left m j = div-div-eq-div-mul m (2 ^ j) 2 ∙ ap (λ (x : ℕ). m / x) (sym (pow-suc 2 j)) ∙ ap (λ (x : ℕ). m / 2 ^ x) (sym (add-one j))
+use Rattle.survey_def.specs.Inner.{bit_off, meets, each_meets, ones, count_below, Few, Surveyable}
 
 -- The numbers of n bits.
 pub top_so : (n : ℕ) → n ≤ max_surveyed → 1 * 2 ^ n % 2 ^ 16 ≡ 2 ^ n
@@ -60,22 +51,15 @@ pub every_more : (n : ℕ) (test : ℕ → Bool) → every n test ≡ true → t
 every_more n test e t = rw (add-one n) (rw (t, e) refl)
 
 -- A bit that is 0.
-bit_off_lem : (m j left : ℕ) → left ≡ m / 2 ^ j → not (bit j m) ≡ eqb (left % 2) 0
-bit_off_lem m j left e = rw e (go (m / 2 ^ j % 2) (omega arith))
+bit_off_lem : (m j : ℕ) → not (bit j m) ≡ eqb (m / 2 ^ j % 2) 0
+bit_off_lem m j = go (m / 2 ^ j % 2) (omega arith)
   where
     go : (x : ℕ) → x < 2 → not (eqb x 1) ≡ eqb x 0
     go zero h = refl
     go (suc zero) h = refl
     go (suc (suc x)) h = absurd (omega arith)
 
--- After j of the first n streams, each of which joined two groups if it has no meter by the bits of m: the labels, and what is left
--- of the number.
-pub record Passed (n : ℕ) (streams : List Stream) (m : ℕ) (labels : List ℕ) (rest j : ℕ) : Type 0 where
-  pub within : j ≤ n
-  pub grouped : labels ≡ labels_after (bit_off m) (take n streams) j
-  pub bits : rest ≡ m / 2 ^ j
-  pub joined : every j (meets m (take n streams)) ≡ true
-
+-- The first n of so many streams.
 module _ (n : ℕ) (streams : List Stream) (f : Few n streams) where
   -- As many as they are.
   pub few_long : length (take n streams) ≡ n
@@ -85,55 +69,53 @@ module _ (n : ℕ) (streams : List Stream) (f : Few n streams) where
   pub few_at : (k : ℕ) → k < n → stream_at (take n streams) k ≡ get_or streams k no_stream
   few_at k l = get_or-take n streams k no_stream l
 
-  few_ends : AmongPlaces (take n streams)
-  few_ends k l =
-      let h : k < n = rw few_long at l in
-      let w = f.each k h in
-      rw (few_at k h) (omega (arith, w.from_in), omega (arith, w.to_in))
+  -- They are surveyed.
+  pub few_surveyed : Surveyable (take n streams)
+  few_surveyed = record {
+    few = rw few_long f.few;
+    each = λ k l. let h : k < n = rw few_long at l in rw (few_at k h) (f.each k h);
+  }
 
-  module _ (m : ℕ) where
-    -- None is looked at yet.
-    pub passed_none : (labels : List ℕ) → labels ≡ own_numbers → Passed n streams m labels m 0
-    passed_none labels e = record { within = omega arith; grouped = step_none (bit_off m) (take n streams) labels e; bits = none_taken m; joined = refl }
+-- After j of the streams, each of which joined two groups if it has no meter by the bits of m: the labels.
+pub record Passed (ss : List Stream) (m : ℕ) (labels : List ℕ) (j : ℕ) : Type 0 where
+  pub grouped : labels ≡ labels_after (bit_off m) ss j
+  pub joined : every j (meets m ss) ≡ true
 
-    module _ (labels : List ℕ) (rest j : ℕ) (g : Passed n streams m labels rest j) where
-      -- There is a label for each place.
-      pub passed_long : length labels ≡ places
-      passed_long = rw g.grouped (labels_long (bit_off m) (take n streams) j)
+module _ (ss : List Stream) (f : Surveyable ss) (m : ℕ) where
+  ends : AmongPlaces ss
+  ends k l = let w = f.each k l in (omega (arith, w.from_in), omega (arith, w.to_in))
 
-      -- The next stream has no meter, and its ends have one label.
-      abbrev closes : Bool
-      closes = eqb (rest % 2) 0 && one_label labels (get_or streams j no_stream).from (get_or streams j no_stream).to
+  -- None is looked at yet.
+  pub passed_none : (labels : List ℕ) → labels ≡ own_numbers → Passed ss m labels 0
+  passed_none labels e = record { grouped = step_none (bit_off m) ss labels e; joined = refl }
 
-      meets_so : j < n → meets m (take n streams) j ≡ not closes
-      meets_so h =
-          let at = few_at j h in
-          rw (at, ← g.grouped, ← bit_off_lem m j rest g.bits) (go (bit j m) (one_label labels (get_or streams j no_stream).from (get_or streams j no_stream).to))
-        where
-          go : (b o : Bool) → b || not o ≡ not (not b && o)
-          go true o = refl
-          go false o = refl
+  module _ (labels : List ℕ) (j : ℕ) (g : Passed ss m labels j) where
+    -- There is a label for each place.
+    pub passed_long : length labels ≡ places
+    passed_long = rw g.grouped (labels_long (bit_off m) ss j)
 
-      -- A stream closes a loop: the choice does not serve.
-      pub passed_closed : j < n → closes ≡ true → false ≡ each_meets m (take n streams)
-      passed_closed h t = sym (every_off (length (take n streams)) (meets m (take n streams)) j (rw few_long h) (meets_so h ∙ ap not t))
+    -- The next stream has no meter, and its ends have one label.
+    abbrev closes : Bool
+    closes = eqb (m / 2 ^ j % 2) 0 && one_label labels (get_or ss j no_stream).from (get_or ss j no_stream).to
 
-      -- One stream more, and no loop.
-      pub passed_more : j < n → closes ≡ false → (next : List ℕ) → StepSays (eqb (rest % 2) 0) (get_or streams j no_stream) labels next
-          → Passed n streams m next (rest / 2) (j + 1)
-      passed_more h t next says = record {
-        within = omega arith;
-        grouped = step_said (bit_off m) (take n streams) few_ends j (get_or streams j no_stream) labels next (eqb (rest % 2) 0) (rw few_long h) g.grouped (few_at j h)
-            (sym (bit_off_lem m j rest g.bits)) says;
-        bits = ap (λ (x : ℕ). x / 2) g.bits ∙ half_left m j;
-        joined = every_more j (meets m (take n streams)) g.joined (meets_so h ∙ ap not t);
-      }
+    meets_so : meets m ss j ≡ not closes
+    meets_so = rw (← g.grouped, ← bit_off_lem m j) (go (bit j m) (one_label labels (get_or ss j no_stream).from (get_or ss j no_stream).to))
+      where
+        go : (b o : Bool) → b || not o ≡ not (not b && o)
+        go true o = refl
+        go false o = refl
 
-      -- All streams: the choice serves.
-      pub passed_all : n ≤ j → true ≡ each_meets m (take n streams)
-      passed_all h =
-          let e : j ≡ length (take n streams) = omega (arith, few_long, g.within) in
-          sym (rw e at g.joined)
+    -- A stream closes a loop: the choice does not serve.
+    pub passed_closed : j < length ss → closes ≡ true → false ≡ each_meets m ss
+    passed_closed h t = sym (every_off (length ss) (meets m ss) j h (meets_so ∙ ap not t))
+
+    -- One stream more, and no loop.
+    pub passed_more : j < length ss → closes ≡ false → (next : List ℕ) → StepSays (eqb (m / 2 ^ j % 2) 0) (get_or ss j no_stream) labels next
+        → Passed ss m next (j + 1)
+    passed_more h t next says = record {
+      grouped = step_said (bit_off m) ss ends j (get_or ss j no_stream) labels next (eqb (m / 2 ^ j % 2) 0) h g.grouped refl (sym (bit_off_lem m j)) says;
+      joined = every_more j (meets m ss) g.joined (meets_so ∙ ap not t);
+    }
 
 -- The numbers below m are counted, by size.
 pub record Tallied (ss : List Stream) (counts : List ℕ) (m : ℕ) : Type 0 where

@@ -36,3 +36,8 @@ pub record Few (n : ℕ) (ss : List Stream) : Type 0 where
   pub few : n ≤ max_surveyed
   pub long : length ss ≡ max_surveyed
   pub each : (k : ℕ) → k < n → WithinStream max_units (get_or ss k no_stream)
+
+-- No more streams than are surveyed, within the limits of a plant.
+pub record Surveyable (ss : List Stream) : Type 0 where
+  pub few : length ss ≤ max_surveyed
+  pub each : (k : ℕ) → k < length ss → WithinStream max_units (get_or ss k no_stream)

@@ -1,6 +1,6 @@
 -- The plant of the definition's listing, and its survey.
 use Rattle.std.specs.Prelude.{◌≡◌, List, [], ◌∷◌, ℕ}
-use Rattle.survey_def.specs.declared.Layouts.{Layouts}
+use Rattle.survey_def.specs.Results.{Layouts}
 use Rattle.survey_def.specs.Says.{SurveySays}
 
 -- The bytes of the file: 2 units; 0 to 1 at weight 10, reading 100; 1 to 2, twice; 2 to 0 at weight 10, reading 98; 4 streams.

@@ -1,6 +1,5 @@
 -- After i turns the first i streams have their prices, and k unmetered ones are passed.
 use mathlib.Core.Path.{◌≡◌}
-use Prim.Native.Nat.{◌≤◌, ◌-◌}
 use lib.ListN.{replicate}
 use Rattle.plant_def.specs.Limits.{max_streams}
 use Rattle.plant_def.specs.Says.{plant_of}
@@ -10,8 +9,5 @@ use Rattle.purchase_call.proofs.by_stream.Given as goal
 
 abbrev pub invariant-loop-i : goal.invariant-loop-i
 invariant-loop-i l = let k = l.k in
-    (l.i ≤ l.p.count) × (k ≡ unmetered_to (plant_of l.p).streams l.i)
+    (k ≡ unmetered_to (plant_of l.p).streams l.i)
     × Written 0 max_streams (λ k x. price_in (plant_of l.p).streams l.prices k) (replicate max_streams 0) l.each l.i
-
-abbrev pub decreases-loop-i : goal.decreases-loop-i
-decreases-loop-i l = l.n - l.i

@@ -1,48 +1,43 @@
 -- By what was found, in the order of the refusals.
-use mathlib.Core.Path.{◌≡◌, sym, ◌∙◌}
+use mathlib.Core.Path.{refl, sym}
+use Rattle.std.specs.Prelude.{Ok}
+use Rattle.std.proofs.lemmas.Result.{err_from_is_err_and}
 use Rattle.plant_def.specs.Within.{Accepted}
 use Rattle.plant_def.specs.Says.{plant_of}
+use Rattle.plant_def.specs.Views.{read_as}
 use Rattle.plant_def.proofs.Found.{plant_accepted}
-use Rattle.purchase_def.specs.Purchases.{prices_fault}
+use Rattle.plant_def.proofs.Numbers.{some_number}
 use Rattle.purchase_call.proofs.Answering.{held_low, best_bought, mispriced, unread, answered}
 use Rattle.purchase_call.proofs.meters_to_buy.Goals as goal
-use Rattle.purchase_call.proofs.meters_to_buy.Goals.{After-plant-1, Else-fault-ne0}
 
--- The plant that was read is accepted.
-taken : (c : After-plant-1) → Accepted c.read_plant-read.result.plant
-taken c =
-    plant_accepted c.args.file.now c.read_plant-read.result c.read_plant-read.ensures c.if-number-ne0.false
-
--- The prices are without fault.
-fair : (c : Else-fault-ne0)
-    → prices_fault (plant_of c.read_plant-read.result.plant) c.args.prices.now ≡ 0
-fair c = sym c.prices_fault-fault.ensures ∙ c.if-fault-ne0.false
-
-pub returns-then-number-ne0 : goal.returns-then-number-ne0
-returns-then-number-ne0 c =
+pub returns-in_err-plant : goal.returns-in_err-plant
+returns-in_err-plant c =
     let a = c.args in
-    unread a.file.now a.prices.now c.read_plant-read.result c.read_plant-read.ensures c.refused.result c.if-number-ne0.true c.refused.ensures
+    let p = err_from_is_err_and c.from_residual.result c.from_residual.ensures.1 in
+    rw (p.1, p.2) (unread a.file.now a.prices.now _ c.in_err-plant.ensures _ (some_number _) refl)
 
-pub prices_fault-fault-requires : goal.prices_fault-fault-requires
-prices_fault-fault-requires c = taken c
+pub check_prices-requires : goal.check_prices-requires
+check_prices-requires c = plant_accepted c.args.file.now (read_as (Ok c.in_ok-plant.plant)) c.in_ok-plant.ensures refl
 
-pub returns-then-fault-ne0 : goal.returns-then-fault-ne0
-returns-then-fault-ne0 c =
+pub returns-in_err-check_prices : goal.returns-in_err-check_prices
+returns-in_err-check_prices c =
     let a = c.args in
-    answered a.file.now a.prices.now c.read_plant-read.result c.read_plant-read.ensures c.refused-then-fault-ne0.result c.if-number-ne0.false
-    (mispriced (plant_of c.read_plant-read.result.plant) a.prices.now c.prices_fault-fault.result c.prices_fault-fault.ensures c.if-fault-ne0.true c.refused-then-fault-ne0.result
-    c.refused-then-fault-ne0.ensures)
+    let p = err_from_is_err_and c.from_residual-in_err-check_prices.result c.from_residual-in_err-check_prices.ensures.1 in
+    rw (p.1, p.2)
+    (answered a.file.now a.prices.now (read_as (Ok c.in_ok-plant.plant)) c.in_ok-plant.ensures _ refl
+    (mispriced (plant_of c.in_ok-plant.plant) a.prices.now _ c.in_err-check_prices.ensures (some_number _) _ refl))
 
 pub by_stream-each-requires : goal.by_stream-each-requires
-by_stream-each-requires c = taken (goal.at.by_stream-each-requires c).After-plant-1
+by_stream-each-requires c = plant_accepted c.args.file.now (read_as (Ok c.in_ok-plant.plant)) c.in_ok-plant.ensures refl
 
 pub choose-requires : goal.choose-requires
 choose-requires c =
-    let accepted = taken (goal.at.choose-requires c).After-plant-1 in
-    (accepted, held_low _ accepted c.args.prices.now _ (fair (goal.at.choose-requires c).Else-fault-ne0) c.by_stream-each.ensures)
+    let accepted : Accepted c.in_ok-plant.plant = plant_accepted c.args.file.now (read_as (Ok c.in_ok-plant.plant)) c.in_ok-plant.ensures refl in
+    (accepted, held_low _ accepted c.args.prices.now _ (sym c.in_ok-check_prices.ensures) c.by_stream-each.ensures)
 
 pub returns : goal.returns
 returns c =
     let a = c.args in
-    answered a.file.now a.prices.now c.read_plant-read.result c.read_plant-read.ensures c.choose.result c.if-number-ne0.false
-    (best_bought _ (taken (goal.at.returns c).After-plant-1) a.prices.now _ (fair (goal.at.returns c).Else-fault-ne0) c.by_stream-each.ensures c.choose.result c.choose.ensures)
+    let accepted : Accepted c.in_ok-plant.plant = plant_accepted a.file.now (read_as (Ok c.in_ok-plant.plant)) c.in_ok-plant.ensures refl in
+    answered a.file.now a.prices.now (read_as (Ok c.in_ok-plant.plant)) c.in_ok-plant.ensures _ refl
+    (best_bought _ accepted a.prices.now _ (sym c.in_ok-check_prices.ensures) c.by_stream-each.ensures _ c.choose.ensures)

@@ -1,20 +1,13 @@
--- After k turns none of the first k prices is unfair.
-use mathlib.Core.Path.{sym, ◌∙◌}
-use mathlib.Core.Bool.{false}
-use native.Mathlib.Omega.{arith}
-use borrow.Author.Count.{below_none, below_more}
-use Rattle.purchase_call.proofs.Prices.{one_off, none_off}
+-- The chain's answer is that of the list.
+use mathlib.Core.Path.{◌∙◌}
+use borrow.Author.Rules.{rules}
+use borrow.Author.Tests.{tests}
+use Rattle.std.proofs.lemmas.Iterator.{YieldsList-from_slice}
+use Rattle.std.proofs.lemmas.Iterator.Search.{any_from_yields_List}
+use Rattle.purchase_call.proofs.Prices.{off, any_unfair}
 use Rattle.purchase_call.proofs.some_unfair.Goals as goal
 
-pub loop-k-init : goal.loop-k-init
-loop-k-init c = below_none _
-
-pub returns-then-unfair : goal.returns-then-unfair
-returns-then-unfair c =
-    one_off c.args.prices.now _ c.loop-k-test.true (sym c.unfair.ensures ∙ c.if-unfair.true)
-
-pub loop-k-preserved : goal.loop-k-preserved
-loop-k-preserved c = below_more _ _ c.loop-k.invariant (sym c.unfair.ensures ∙ c.if-unfair.false)
-
 pub returns : goal.returns
-returns c = none_off c.args.prices.now (λ k l. c.loop-k.invariant k (omega (arith, c.loop-k-test.false)))
+returns c =
+    any_from_yields_List off _ _ c.any.result c.any.ensures.ran (YieldsList-from_slice c.args.prices.now cc) (λ x b q k. search (rules, tests))
+    ∙ any_unfair c.args.prices.now

@@ -1,10 +1,9 @@
 -- Line by line.
-use Prim.Native.Nat.{◌-◌}
-use Rattle.survey_answers.proofs.Lined.{Lined}
+use lib.ListN.{length}
+use Rattle.num_text.proofs.Lines.{Lines}
+use Rattle.survey_answers.specs.Says.{line_size}
+use Rattle.survey_answers.proofs.Lined.{first_lines}
 use Rattle.survey_answers.proofs.put_lines.Given as goal
 
 abbrev pub invariant-loop-k : goal.invariant-loop-k
-invariant-loop-k l = Lined l.counts l.size l.initial.out l.out l.at l.k
-
-abbrev pub decreases-loop-k : goal.decreases-loop-k
-decreases-loop-k l = l.size - l.k
+invariant-loop-k l = Lines (first_lines l.fn.counts) line_size (length l.fn.counts) l.initial.out l.out l.at l.k

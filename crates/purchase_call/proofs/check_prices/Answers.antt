@@ -5,8 +5,8 @@ use Rattle.num_bytes.specs.Choice.{pick}
 use Rattle.plant_def.specs.Says.{plant_of}
 use Rattle.purchase_def.specs.Purchases.{prices_fault}
 use Rattle.purchase_call.proofs.Prices.{not_one_each, one_each}
-use Rattle.purchase_call.proofs.prices_fault.Goals as goal
-use Rattle.purchase_call.proofs.prices_fault.Goals.{After-some_unfair}
+use Rattle.purchase_call.proofs.check_prices.Goals as goal
+use Rattle.purchase_call.proofs.check_prices.Goals.{After-some_unfair}
 
 pub returns-then-prices-unmetered_in : goal.returns-then-prices-unmetered_in
 returns-then-prices-unmetered_in c =
