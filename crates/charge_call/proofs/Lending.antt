@@ -8,7 +8,7 @@ use Rattle.num_bytes.specs.Bytes.{over}
 use Rattle.plant_def.specs.Limits.{max_streams}
 use Rattle.num_lent.specs.Made.{Made}
 use Rattle.num_lent.proofs.Rooms.{room_both}
-use Rattle.charge_def.specs.declared.Charges.{Charges}
+use Rattle.charge_def.specs.Results.{Charges}
 use Rattle.charge_def.specs.Says.{no_charges, ChargesSays}
 use Rattle.charge_def.proofs.Promise.{charges_few}
 use Rattle.charge_call.specs.Lent.{charges_shown}

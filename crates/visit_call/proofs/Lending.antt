@@ -5,7 +5,7 @@ use Prim.Native.Nat.{ℕ, ◌≤◌}
 use Rattle.plant_def.specs.Limits.{max_streams}
 use Rattle.num_lent.specs.Made.{Made}
 use Rattle.num_lent.proofs.Rooms.{room_both}
-use Rattle.visit_def.specs.declared.Visits.{Visits}
+use Rattle.visit_def.specs.Results.{Visits}
 use Rattle.visit_def.specs.Says.{no_visits, VisitsSays}
 use Rattle.visit_def.proofs.Promise.{visits_fit}
 

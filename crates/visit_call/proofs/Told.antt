@@ -18,7 +18,7 @@ use Rattle.flow_def.specs.Calls.{classes_of}
 use Rattle.num_bytes.proofs.Lists.{Written, values_at}
 use Rattle.solve_def.specs.declared.Solved.{Solved}
 use Rattle.solve_def.specs.Promise.{flow_of, Solution}
-use Rattle.visit_def.specs.declared.Visits.{Visits}
+use Rattle.visit_def.specs.Results.{Visits}
 use Rattle.visit_def.specs.Visits.{without, LeastCost, Feasible, is_adjusted, is_listed, AllLeast}
 use Rattle.visit_def.specs.Says.{VisitsFor}
 use Rattle.visit_def.specs.Inner.{among, cost_in, PlacedTo}

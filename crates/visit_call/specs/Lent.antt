@@ -3,7 +3,7 @@ use Rattle.std.specs.Prelude.{List, ℕ, ◌≤◌, length, take}
 use Rattle.num_bytes.specs.Bytes.{over}
 use Rattle.plant_def.specs.Limits.{max_streams}
 use Rattle.num_lent.specs.Lending.{Lending}
-use Rattle.visit_def.specs.declared.Visits.{Visits}
+use Rattle.visit_def.specs.Results.{Visits}
 use Rattle.visit_def.specs.Says.{no_visits, VisitsSays}
 
 -- What an answer shows: number and count; the streams' numbers at the front of the one slice, their costs at the front of the other, the

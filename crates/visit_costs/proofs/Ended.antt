@@ -9,7 +9,6 @@ use Rattle.num_bytes.proofs.Tests.{clash}
 use Rattle.plant_def.specs.declared.Stream.{Stream}
 use Rattle.plant_def.specs.declared.Plant as Arrays
 use Rattle.plant_def.specs.Limits.{max_streams}
-use Rattle.plant_def.specs.Plants.{Plant}
 use Rattle.plant_def.specs.Within.{Accepted}
 use Rattle.plant_def.specs.Says.{plant_of}
 use Rattle.plant_def.proofs.Arrayed.{all_listed, within_of}

@@ -7,6 +7,7 @@ use native.Mathlib.Omega.{arith}
 use native.Mathlib.Decide.{ℕ_discrete}
 use lib.ListN.{length, get_or, set, take, length-set}
 use lib.Seq.{get_or-set_same, get_or-set_other}
+use Rattle.num_bytes.proofs.Tests.{clash}
 use Rattle.plant_def.specs.declared.Stream.{Stream}
 use Rattle.plant_def.specs.declared.Plant as Arrays
 use Rattle.plant_def.specs.Plants.{Plant, no_stream}
@@ -63,4 +64,12 @@ pub one_more : (p : Plant) (listed : List Bool) (costs : List ℕ) (k c : ℕ) �
 one_more p listed costs k c l s h j m t = elim (ℕ_discrete j k) [
   | yes e ↦ rw (e, get_or-set_same costs k c 0 l) (h (ap (λ (i : ℕ). get_or listed i false) (sym e) ∙ t))
   | no e ↦ rw (get_or-set_other costs k j c 0 e) (s j (omega arith) t)
+]
+
+-- A stream that is not listed has none.
+pub none_more : (p : Plant) (listed : List Bool) (costs : List ℕ) (k : ℕ) → SoFar p listed costs k → get_or listed k false ≡ false
+    → SoFar p listed costs (k + 1)
+none_more p listed costs k s n j m t = elim (ℕ_discrete j k) [
+  | yes e ↦ clash (get_or listed k false) (ap (λ (i : ℕ). get_or listed i false) (sym e) ∙ t) n
+  | no e ↦ s j (omega arith) t
 ]

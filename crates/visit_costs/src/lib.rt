@@ -17,6 +17,7 @@ use plant_def::streams::unmetered_stream;
 use sheet_cost::cost_held;
 use solve_arcs::{ARCS, MARGINS, NONE, ROWS};
 use solve_arcs_fill::lay;
+use solve_def::State;
 use solve_def::sizes::{FLOW_SHIFT, NET_SHIFT, POTENTIAL_SHIFT};
 use solve_phases::finishing::finish;
 use solve_start::start;
@@ -33,30 +34,17 @@ pub fn least_cost(p: Plant) -> u64
     let mut margins = [0u64; MARGINS];
     lay(streams, count, &mut arcs, &mut rows);
     let labels = group(&arcs, &rows, Which::Unmetered);
-    let mut held = [FLOW_SHIFT; MAX_STREAMS];
-    let mut potentials = [POTENTIAL_SHIFT; PLACES];
-    let mut nets = [NET_SHIFT; PLACES];
-    start(
-        p.units,
-        labels,
-        &arcs,
-        &rows,
-        &mut held,
-        &mut potentials,
-        &mut nets,
-    );
-    let e = finish(
-        &arcs,
-        &rows,
-        &mut margins,
-        &mut held,
-        &mut potentials,
-        &mut nets,
-    );
+    let mut state = State {
+        flows: [FLOW_SHIFT; MAX_STREAMS],
+        potentials: [POTENTIAL_SHIFT; PLACES],
+        nets: [NET_SHIFT; PLACES],
+    };
+    start(p.units, labels, &arcs, &rows, &mut state);
+    let e = finish(&arcs, &rows, &mut margins, &mut state);
     if e.full {
         return 0;
     }
-    cost_held(&arcs, &rows, &held)
+    cost_held(&arcs, &rows, &state.flows)
 }
 
 // The plant with stream k unmetered, and its range gone.
@@ -68,22 +56,14 @@ fn unmeter_one(p: Plant, k: usize) -> Plant
     let mut streams = p.streams;
     let bare = unmetered_stream(s.from, s.to);
     streams[k] = bare;
-    Plant {
-        units: p.units,
-        count: p.count,
-        streams: streams,
-    }
+    Plant { streams, ..p }
 }
 
+// Whether a class is that of A streams.
 fn is_adjusted(class: Class) -> bool
     ensures { result ≡ is_adjusted class }
 {
-    match class {
-        Class::Adjusted => true,
-        Class::AsRead => false,
-        Class::Given => false,
-        Class::Withheld => false,
-    }
+    matches!(class, Class::Adjusted)
 }
 
 // Whether each stream is an A stream.
@@ -91,39 +71,23 @@ pub fn adjusted_of(classes: [Class; MAX_STREAMS]) -> [bool; MAX_STREAMS]
     ensures { Written false max_streams (λ k x. is_adjusted (get_or classes k Adjusted)) (replicate max_streams false) result max_streams }
 {
     let mut r = [false; MAX_STREAMS];
-    let mut k: usize = 0;
-    while k < MAX_STREAMS {
-        let c = classes[k];
-        r[k] = is_adjusted(c);
-        k += 1;
+    for (k, c) in classes.iter().enumerate() {
+        r[k] = is_adjusted(*c);
     }
     r
 }
 
-// The least cost without stream k's meter, where it is listed.
-fn cost_without(p: Plant, k: usize, listed: bool) -> u64
-    requires { Accepted p × (k < p.count) × Feasible (plant_of p) }
-    ensures { listed ≡ true → LeastCost (without (plant_of p) k) result }
-{
-    if !listed {
-        return 0;
-    }
-    let q = unmeter_one(p, k);
-    least_cost(q)
-}
-
-// For each stream that is listed.
+// For each stream that is listed, the least cost without its meter.
 pub fn costs_without(p: Plant, listed: [bool; MAX_STREAMS]) -> [u64; MAX_STREAMS]
     requires { Accepted p × Feasible (plant_of p) }
     ensures { (k : ℕ) → k < p.count → get_or listed k false ≡ true → LeastCost (without (plant_of p) k) (get_or result k 0) }
 {
     let n = p.count as usize;
     let mut costs = [0u64; MAX_STREAMS];
-    let mut k: usize = 0;
-    while k < n {
-        let c = cost_without(p, k, listed[k]);
-        costs[k] = c;
-        k += 1;
+    for k in 0..n {
+        if listed[k] {
+            costs[k] = least_cost(unmeter_one(p, k));
+        }
     }
     costs
 }

@@ -13,7 +13,7 @@ use Rattle.plant_def.specs.Limits.{max_streams}
 use Rattle.plant_def.specs.Plants.{Plant}
 use Rattle.num_bytes.specs.Sums.{count_to}
 use Rattle.num_bytes.proofs.Counts.{count_same}
-use Rattle.visit_def.specs.declared.Visits.{Visits}
+use Rattle.visit_def.specs.Results.{Visits}
 use Rattle.visit_def.specs.Visits.{is_listed, comes_first, place_of, Ordered}
 use Rattle.flow_def.proofs.Places.{key_of, by_key, below_to, Different, below_few, distinct, rises, taken}
 

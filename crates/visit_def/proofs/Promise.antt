@@ -8,7 +8,7 @@ use Prim.Native.Nat.{ℕ, ◌≤◌, ◌<◌}
 use native.Mathlib.Omega.{arith}
 use lib.ListN.{length}
 use Rattle.num_bytes.proofs.Tests.{clash}
-use Rattle.plant_def.specs.declared.Read.{Read}
+use Rattle.plant_def.specs.Results.{Read}
 use Rattle.plant_def.specs.Limits.{max_streams}
 use Rattle.plant_def.specs.Plants.{Plant}
 use Rattle.plant_def.specs.Files.{Got, bad, got, read_plant}
@@ -27,7 +27,7 @@ use Rattle.flow_def.proofs.Chained.{adjusted_of}
 use Rattle.flow_def.proofs.Overfull.{overfull_none}
 use Rattle.solve_def.proofs.Demand.{refusal_19}
 use Rattle.sheet_def.specs.Sentences.{EndsJoined}
-use Rattle.visit_def.specs.declared.Visits.{Visits}
+use Rattle.visit_def.specs.Results.{Visits}
 use Rattle.visit_def.specs.Visits.{without, is_adjusted, is_listed, AllLeast, Ordered}
 use Rattle.visit_def.specs.Says.{no_visits, VisitsFor, VisitsWith, VisitsSays, MetersWorthAVisit}
 use Rattle.visit_def.proofs.Unmetered.{feasible, sheet_without, not_above, one_cost}

@@ -1,6 +1,6 @@
 -- The list of the definition's plant, by computing: without either meter the other one's reading balances at no cost.
 use mathlib.Core.Path.{◌≡◌, refl}
-use mathlib.Core.Bool.{true, false, false≢true}
+use mathlib.Core.Bool.{true, false≢true}
 use mathlib.Core.List.{List, [], ◌∷◌}
 use lib.IntN.{ℤ, pos}
 use Prim.Native.Nat.{ℕ, zero, suc, ◌≤◌, ◌<◌}

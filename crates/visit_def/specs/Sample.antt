@@ -2,7 +2,7 @@
 use Rattle.std.specs.Prelude.{◌≡◌, List, [], ◌∷◌, ℕ, replicate}
 use Rattle.num_bytes.specs.Arrays.{filled}
 use Rattle.plant_def.specs.Limits.{max_streams}
-use Rattle.visit_def.specs.declared.Visits.{Visits}
+use Rattle.visit_def.specs.Results.{Visits}
 use Rattle.visit_def.specs.Says.{VisitsSays}
 
 -- The bytes of the file: 2 units; 0 to 1 at weight 10, reading 100; 1 to 2, twice; 2 to 0 at weight 10, reading 98; 4 streams.

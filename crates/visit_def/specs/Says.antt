@@ -7,7 +7,7 @@ use Rattle.plant_def.specs.Files.{Got, got, read_plant}
 use Rattle.flow_def.specs.Flows.{stream_at, allowed, cost, Cheapest}
 use Rattle.sheet_def.specs.Totals.{capped}
 use Rattle.sheet_def.specs.Sentences.{EndsJoined}
-use Rattle.visit_def.specs.declared.Visits.{Visits}
+use Rattle.visit_def.specs.Results.{Visits}
 use Rattle.visit_def.specs.Visits.{without, is_listed, LeastCost, Ordered, AllLeast}
 
 -- A refusal hands over its number and zeros.

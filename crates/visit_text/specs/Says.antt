@@ -3,7 +3,7 @@ use Rattle.std.specs.Prelude.{◌≡◌, List, ℕ, ◌*◌, ◌≤◌, ◌<◌,
 use Rattle.num_bytes.specs.Inner.{Put}
 use Rattle.num_text.specs.Numerals.{text}
 use Rattle.plant_def.specs.Limits.{max_streams}
-use Rattle.visit_def.specs.declared.Visits.{Visits}
+use Rattle.visit_def.specs.Results.{Visits}
 use Rattle.visit_def.specs.Says.{VisitsSays}
 use Rattle.visit_def.specs.Sample.{sample_file}
 use Rattle.visit_text.specs.Text.{visits_text}

@@ -3,7 +3,7 @@ use Rattle.std.specs.Prelude.{List, [], ◌∷◌, ◌++◌, ℕ, eqb, take}
 use Rattle.num_bytes.specs.Choice.{pick}
 use Rattle.num_text.specs.Numerals.{pair_line}
 use Rattle.listing_lines.specs.Listing.{refusal_text}
-use Rattle.visit_def.specs.declared.Visits.{Visits}
+use Rattle.visit_def.specs.Results.{Visits}
 
 -- A line for each stream of the list: its number, and the cost without its meter.
 abbrev pub lines_for : List ℕ → List ℕ → List ℕ

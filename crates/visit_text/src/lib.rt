@@ -1,7 +1,7 @@
 // Meters worth a visit, as text.
 #![tactic(auto)]
 
-ghost use Rattle.std.specs.Prelude.{◌+◌, ◌≤◌, length, take};
+ghost use Rattle.std.specs.Prelude.{◌≡◌, ◌+◌, ◌≤◌, length};
 ghost use Rattle.num_bytes.specs.Inner.{Put};
 ghost use Rattle.num_text.specs.Adding.{Added};
 ghost use Rattle.plant_def.specs.Limits.{max_streams};
@@ -22,6 +22,7 @@ const LINE_SIZE: usize = 25;
 pub const LEAST_TEXT: usize = MAX_STREAMS * LINE_SIZE;
 
 // The line of a stream: number, cost.
+// Stays apart from `survey_answers::put_line`: the edit `lines_run_together` of each changes its own line's end.
 fn put_line(stream: u8, cost: u64, at: usize, out: &mut [u8]) -> usize
     requires { at + length (pair_line stream cost) ≤ length out.old }
     ensures { Added (pair_line stream cost) at out.old out.new result }
@@ -31,21 +32,14 @@ fn put_line(stream: u8, cost: u64, at: usize, out: &mut [u8]) -> usize
     put_byte(b'\n', b, out)
 }
 
-// The lines of the first so many streams, and how long they are.
-fn put_lines(
-    count: usize,
-    streams: [u8; MAX_STREAMS],
-    costs: [u64; MAX_STREAMS],
-    out: &mut [u8],
-) -> usize
-    requires { (count ≤ max_streams) × (least_text ≤ length out.old) }
-    ensures { Put (lines_for (take count streams) (take count costs)) out.old out.new result }
+// The lines of the streams, each with its cost, and how long they are.
+fn put_lines(streams: &[u8], costs: &[u64], out: &mut [u8]) -> usize
+    requires { (length streams.now ≤ max_streams) × (length costs.now ≡ length streams.now) × (least_text ≤ length out.old) }
+    ensures { Put (lines_for streams.now costs.now) out.old out.new result }
 {
     let mut at: usize = 0;
-    let mut k: usize = 0;
-    while k < count {
-        at = put_line(streams[k], costs[k], at, out);
-        k += 1;
+    for (k, stream) in streams.iter().enumerate() {
+        at = put_line(*stream, costs[k], at, out);
     }
     at
 }
@@ -59,12 +53,10 @@ pub fn list_visits(file: &[u8], text: &mut [u8]) -> usize
     if text.len() < LEAST_TEXT {
         return 0;
     }
-    let visits = visits_of(file);
-    let number = visits.number;
-    if number != 0 {
-        return put_refusal(number, text);
-    }
-    let streams = visits.streams;
-    let costs = visits.costs;
-    put_lines(visits.count as usize, streams, costs, text)
+    let visits = match visits_of(file) {
+        Ok(visits) => visits,
+        Err(refusal) => return put_refusal(refusal.number(), text),
+    };
+    let count = visits.count as usize;
+    put_lines(&visits.streams[..count], &visits.costs[..count], text)
 }

@@ -1,12 +1,13 @@
 -- By the two tests in their order.
+use mathlib.Core.Path.{refl}
 use Rattle.num_lent.proofs.Rooms.{first_short, second_short, made_enough}
 use Rattle.visit_call.proofs.visits_lent.Goals as goal
 
 pub returns-then-numbers-lt-MAX_STREAMS : goal.returns-then-numbers-lt-MAX_STREAMS
-returns-then-numbers-lt-MAX_STREAMS c = first_short _ _ _ _ _ c.if-numbers-lt-MAX_STREAMS.true c.refused.ensures
+returns-then-numbers-lt-MAX_STREAMS c = first_short _ _ _ _ _ c.if-numbers-lt-MAX_STREAMS.true refl
 
 pub returns-then-costs-lt-MAX_STREAMS : goal.returns-then-costs-lt-MAX_STREAMS
-returns-then-costs-lt-MAX_STREAMS c = second_short _ _ _ _ _ c.if-costs-lt-MAX_STREAMS.true c.refused-then-costs-lt-MAX_STREAMS.ensures
+returns-then-costs-lt-MAX_STREAMS c = second_short _ _ _ _ _ c.if-costs-lt-MAX_STREAMS.true refl
 
 pub returns : goal.returns
 returns c = made_enough _ _ _ _ (c.if-numbers-lt-MAX_STREAMS.false, c.if-costs-lt-MAX_STREAMS.false) c.visits_of.ensures

@@ -1,6 +1,5 @@
 -- After k turns the first k streams are told.
 use mathlib.Core.Bool.{false}
-use Prim.Native.Nat.{◌≤◌, ◌-◌}
 use lib.ListN.{get_or}
 use Rattle.plant_def.specs.Limits.{max_streams}
 use Rattle.flow_def.specs.declared.Class.TheVariants.{Adjusted}
@@ -9,7 +8,4 @@ use Rattle.visit_def.specs.Visits.{is_adjusted}
 use Rattle.visit_costs.proofs.adjusted_of.Given as goal
 
 abbrev pub invariant-loop-k : goal.invariant-loop-k
-invariant-loop-k l = (l.k ≤ max_streams) × Written false max_streams (λ j x. is_adjusted (get_or l.classes j Adjusted)) l.initial.r l.r l.k
-
-abbrev pub decreases-loop-k : goal.decreases-loop-k
-decreases-loop-k l = max_streams - l.k
+invariant-loop-k l = Written false max_streams (λ j x. is_adjusted (get_or l.fn.classes j Adjusted)) l.initial.r l.r l.k
