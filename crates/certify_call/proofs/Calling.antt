@@ -3,15 +3,15 @@ use mathlib.Core.Path.{◌≡◌, sym, ◌∙◌, ap, ap₂}
 use mathlib.Core.Bool.{Bool, true, false, not, ◌||◌}
 use mathlib.Core.List.{List}
 use lib.IntN.{ℤ}
-use Prim.Native.Nat.{ℕ, zero, suc, ◌+◌, ◌≤◌, ◌<◌}
+use Prim.Native.Nat.{ℕ, zero, suc, min, ◌+◌, ◌≤◌, ◌<◌}
 use native.Mathlib.Omega.{arith}
 use borrow.Author.Count.{below_more}
-use borrow.Author.Tests.{ltb-false}
+use borrow.Author.Tests.{ltb-true, ltb-false}
 use lib.Dec.{eqb, ltb}
-use lib.ListN.{length, take, get_or, set}
+use lib.ListN.{length, take, set}
 use lib.Seq.{get_or-set_same, get_or-set_other}
 use Rattle.num_bytes.specs.Choice.{refuse_if, first_of}
-use Rattle.num_bytes.proofs.Tests.{or_none_left, or_none_right, refuse_none, first_none_left, first_none_right, first_is, second_is}
+use Rattle.num_bytes.proofs.Tests.{by_cases, or_none_left, or_none_right, refuse_none, first_none_left, first_none_right}
 use Rattle.plant_def.specs.Limits.{max_units, max_streams}
 use Rattle.plant_def.specs.Plants.{units_fault}
 use Rattle.plant_parts.specs.Parts.{Slices, parts_at, least}
@@ -23,6 +23,14 @@ use Rattle.certify_def.specs.declared.WideStream.{WideStream}
 use Rattle.certify_def.specs.Number.{max_wide_flow, max_wide_number, shortest, wide_faults, wide_plant}
 use Rattle.certify_def.specs.Test.{plainly, no_wide, wide_at, Gathered, Handed, call_number, all_small, nets_fit, flows_fit, rules_hold, certifies, flow_number}
 use Rattle.certify_def.proofs.Answer.{faults_same, rules_by}
+
+-- The least of two lengths.
+pub least_is : (a b : ℕ) → min a b ≡ least a b
+least_is a b = by_cases (ltb a b) (λ t. rw t (omega (arith, ltb-true a b t))) (λ f. rw f (omega (arith, ltb-false a b f)))
+
+-- So it is with numbers that are least themselves.
+pub by_min : {a b r x y : ℕ} → r ≡ min a b → a ≡ x → b ≡ y → r ≡ least x y
+by_min {a} {b} e f g = e ∙ least_is a b ∙ ap₂ least f g
 
 -- Every slice reaches so many streams.
 pub record There (p : Slices) (c : ℕ) : Type 0 where
@@ -67,25 +75,7 @@ pub both_gathered : (p : Slices) (c : ℕ) (meters streams : List WideStream)
     → Gathered streams (λ k. range_at p.ranged p.low p.high (wide_at meters k) k) c → Handed streams p c
 both_gathered p c meters streams h g k l = g k l ∙ ap (λ (s : Stream). range_at p.ranged p.low p.high s k) (h k l)
 
--- The answer before the streams are looked at: two tests of slices, the fault of the units, the test of the count.
-module _ (a b d : Bool) (f u : ℕ) (e : f ≡ u) where
-  -- Slices too short,
-  pub short_first : a ≡ true → 1 ≡ first_of (refuse_if (a || b) 1) (first_of u (refuse_if d 5))
-  short_first t = rw t
-
-  -- or numbers too few,
-  pub short_then : a ≡ false → b ≡ true → 1 ≡ first_of (refuse_if (a || b) 1) (first_of u (refuse_if d 5))
-  short_then t q = rw (t, q)
-
-  -- or a fault of the units,
-  pub units_then : a ≡ false → b ≡ false → (f ≡ 0 → ⊥) → f ≡ first_of (refuse_if (a || b) 1) (first_of u (refuse_if d 5))
-  units_then t q n = rw (t, q) (e ∙ first_is u (refuse_if d 5) (λ (z : u ≡ 0). n (e ∙ z)))
-
-  -- or the count decides.
-  pub count_then : a ≡ false → b ≡ false → f ≡ 0 → (r : ℕ) → r ≡ refuse_if d 5 → r ≡ first_of (refuse_if (a || b) 1) (first_of u (refuse_if d 5))
-  count_then t q z r g = rw (t, q) (g ∙ second_is u (refuse_if d 5) (sym e ∙ z))
-
--- What holds where that answer is 0.
+-- What holds where the answer before the streams are looked at is 0.
 pub record Past (n c reach numbers : ℕ) : Type 0 where
   pub units_few : n ≤ max_units
   pub streams_few : c ≤ max_streams
@@ -154,20 +144,6 @@ module _ (n c : ℕ) (parts : Slices) (flow numbers : List ℤ) (reach f : ℕ) 
         late short (units_fault n) (refuse_if (ltb max_streams c) 5) streams_then f q by_shortest z
         (g ∙ ap₂ (λ (w : ℕ) (b : Bool). first_of w (refuse_if (not b) 26)) (faults_same n (wide_at streams) (parts_at parts) c h)
         (sym (rules_by n c parts flow numbers flows_there (wide_at streams) h)))
-
--- The streams' first fault, then the rules.
-module _ (f w : ℕ) (e : f ≡ w) (b t : Bool) (d : b ≡ t) where
-  -- A fault is answered;
-  pub fault_first : (f ≡ 0 → ⊥) → f ≡ first_of w (refuse_if (not t) 26)
-  fault_first z = e ∙ first_is w (refuse_if (not t) 26) (λ (q : w ≡ 0). z (e ∙ q))
-
-  -- without one, 0 where no rule is broken,
-  pub kept_then : f ≡ 0 → b ≡ true → 0 ≡ first_of w (refuse_if (not t) 26)
-  kept_then z q = rw (sym e ∙ z, sym d ∙ q)
-
-  -- else 26.
-  pub broken_then : f ≡ 0 → b ≡ false → 26 ≡ first_of w (refuse_if (not t) 26)
-  broken_then z q = rw (sym e ∙ z, sym d ∙ q)
 
 -- The four tests of the rules in their order.
 module _ (n c : ℕ) (s : ℕ → Stream) (flow numbers : List ℤ) where

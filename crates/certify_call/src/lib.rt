@@ -4,66 +4,36 @@
 ghost use Rattle.std.specs.Prelude.{◌≡◌, not, ◌≤◌, ◌<◌, length};
 ghost use Rattle.num_bytes.specs.Choice.{refuse_if, first_of};
 ghost use Rattle.plant_def.specs.Limits.{max_units, max_streams};
+ghost use Rattle.plant_def.specs.Refused.{fault_in};
 ghost use Rattle.plant_parts.specs.Parts.{least};
 ghost use Rattle.plant_parts.specs.Inner.{meter_at, range_at};
 ghost use Rattle.certify_def.specs.Number.{wide_faults};
-ghost use Rattle.certify_def.specs.Test.{plainly, no_wide, wide_at, call_number, Gathered, AllWithin, rules_hold};
+ghost use Rattle.certify_def.specs.Test.{plainly, wide_at, call_number, Gathered, AllWithin, rules_hold};
 
 use certify_def::{MAX_WIDE_FLOW, MAX_WIDE_NUMBER, WideStream};
-use certify_flows::{all_small, flows_fit, nets_fit, streams_fault};
-use plant_check::units_fault;
+use certify_flows::{all_small, check_streams, flows_fit, nets_fit};
+use plant_check::check_units;
 use plant_def::limits::MAX_STREAMS;
+use plant_def::refusal::Refusal;
 
-// The lesser of two lengths.
-pub fn lesser(a: usize, b: usize) -> usize
-    ensures { result ≡ least a b }
+// A slice too short, then the fault of the units, then of the count.
+pub fn check_call(
+    units: u8,
+    count: usize,
+    reach: usize,
+    flows: usize,
+    numbers: usize,
+) -> Result<(), Refusal>
+    ensures { fault_in result ≡ call_number units count (least reach flows) numbers }
 {
-    if a < b {
-        return a;
+    if reach.min(flows) < count || numbers <= units as usize {
+        return Err(Refusal::SliceTooShort);
     }
-    b
-}
-
-// The least of four lengths.
-pub fn least_of(a: usize, b: usize, c: usize, d: usize) -> usize
-    ensures { result ≡ least (least a b) (least c d) }
-{
-    lesser(lesser(a, b), lesser(c, d))
-}
-
-// A slice too short 1, then the units, then the count.
-pub fn call_fault(units: u8, count: usize, reach: usize, flows: usize, numbers: usize) -> u8
-    ensures { result ≡ call_number units count (least reach flows) numbers }
-{
-    if lesser(reach, flows) < count {
-        return 1;
-    }
-    if numbers <= units as usize {
-        return 1;
-    }
-    let fault = units_fault(units);
-    if fault != 0 {
-        return fault;
-    }
+    check_units(units)?;
     if MAX_STREAMS < count {
-        return 5;
+        return Err(Refusal::TooManyStreams);
     }
-    0
-}
-
-fn none() -> WideStream
-    ensures { result ≡ no_wide }
-{
-    WideStream {
-        from: 0,
-        to: 0,
-        metered: false,
-        ranged: false,
-        weight: 0,
-        reading: 0,
-        low: 0,
-        high: 0,
-    }
+    Ok(())
 }
 
 // The stream at a place that these slices reach, without its range.
@@ -103,13 +73,9 @@ pub fn meters_gathered(
         × (count ≤ length weight.now) × (count ≤ length reading.now) }
     ensures { Gathered result (meter_at from.now to.now metered.now weight.now reading.now) count }
 {
-    let none = none();
-    let mut streams = [none; MAX_STREAMS];
-    let mut k: usize = 0;
-    while k < count {
-        let s = meter_at(from, to, metered, weight, reading, k);
-        streams[k] = s;
-        k += 1;
+    let mut streams = [WideStream::default(); MAX_STREAMS];
+    for k in 0..count {
+        streams[k] = meter_at(from, to, metered, weight, reading, k);
     }
     streams
 }
@@ -120,14 +86,10 @@ fn range_at(ranged: &[u8], low: &[i64], high: &[i64], s: WideStream, k: usize) -
     ensures { plainly result ≡ range_at ranged.now low.now high.now (plainly s) k }
 {
     WideStream {
-        from: s.from,
-        to: s.to,
-        metered: s.metered,
         ranged: ranged[k] != 0,
-        weight: s.weight,
-        reading: s.reading,
         low: low[k],
         high: high[k],
+        ..s
     }
 }
 
@@ -142,14 +104,9 @@ pub fn ranges_gathered(
     requires { (count ≤ max_streams) × (count ≤ length ranged.now) × (count ≤ length low.now) × (count ≤ length high.now) }
     ensures { Gathered result (λ k. range_at ranged.now low.now high.now (wide_at meters k) k) count }
 {
-    let none = none();
-    let mut streams = [none; MAX_STREAMS];
-    let mut k: usize = 0;
-    while k < count {
-        let s = meters[k];
-        let t = range_at(ranged, low, high, s, k);
-        streams[k] = t;
-        k += 1;
+    let mut streams = [WideStream::default(); MAX_STREAMS];
+    for k in 0..count {
+        streams[k] = range_at(ranged, low, high, meters[k], k);
     }
     streams
 }
@@ -179,24 +136,21 @@ fn rules_hold(
     flows_fit(count, streams, flow, numbers)
 }
 
-// The first fault of the streams, then 26 where a rule is broken.
-pub fn flow_number(
+// The first fault of the streams, then a broken rule.
+pub fn check_flow(
     units: u8,
     count: usize,
     streams: [WideStream; MAX_STREAMS],
     flow: &[i64],
     numbers: &[i64],
-) -> u8
+) -> Result<(), Refusal>
     requires { (units ≤ max_units) × (count ≤ max_streams) × (count ≤ length flow.now) × (units < length numbers.now) }
-    ensures { result ≡ first_of (wide_faults units (wide_at streams) count)
+    ensures { fault_in result ≡ first_of (wide_faults units (wide_at streams) count)
         (refuse_if (not (rules_hold units count (wide_at streams) flow.now numbers.now)) 26) }
 {
-    let fault = streams_fault(units, count, streams);
-    if fault != 0 {
-        return fault;
+    check_streams(units, count, streams)?;
+    if !rules_hold(units, count, streams, flow, numbers) {
+        return Err(Refusal::RuleBroken);
     }
-    if rules_hold(units, count, streams, flow, numbers) {
-        return 0;
-    }
-    26
+    Ok(())
 }

@@ -1,9 +1,9 @@
 // A flow found elsewhere, for a plant of wide numbers: when the numbers of the places show that it has least cost.
-
-// A stream of wide numbers, as the slices hand it over.
 #![tactic(auto)]
 
-#[derive(Clone, Copy)]
+// A stream of wide numbers, as the slices hand it over.
+// Stays flags beside values: `wengeludo_check_flow` takes them so from C, and `plainly` reads them.
+#[derive(Clone, Copy, Default)]
 pub struct WideStream {
     pub from: u8,
     pub to: u8,

@@ -3,30 +3,30 @@
 
 ghost use Rattle.std.specs.Prelude.{◌≡◌, true, nat_abs, ℕ, ◌≤◌, ◌<◌, ◌^◌, length};
 ghost use Rattle.plant_def.specs.Limits.{max_streams};
+ghost use Rattle.plant_def.specs.Refused.{fault_in};
 ghost use Rattle.flow_def.specs.Flows.{amount_at};
 ghost use Rattle.flow_def.specs.Certificate.{climb, listed_potential};
 ghost use Rattle.certify_def.specs.Number.{max_wide_flow, max_wide_number, wide_faults};
 ghost use Rattle.certify_def.specs.Test.{plainly, wide_at, all_small, Ready, flows_fit, net_to, nets_fit};
 
 use certify_def::WideStream;
-use certify_stream::{brought_to, flow_fits, is_small, stream_fault};
+use certify_stream::{brought_to, check_stream, flow_fits, is_small};
 use plant_def::limits::MAX_STREAMS;
+use plant_def::refusal::Refusal;
 
 // The first fault of the first so many streams.
-pub fn streams_fault(units: u8, count: usize, streams: [WideStream; MAX_STREAMS]) -> u8
+pub fn check_streams(
+    units: u8,
+    count: usize,
+    streams: [WideStream; MAX_STREAMS],
+) -> Result<(), Refusal>
     requires { count ≤ max_streams }
-    ensures { result ≡ wide_faults units (wide_at streams) count }
+    ensures { fault_in result ≡ wide_faults units (wide_at streams) count }
 {
-    let mut i: usize = 0;
-    while i < count {
-        let s = streams[i];
-        let fault = stream_fault(units, s);
-        if fault != 0 {
-            return fault;
-        }
-        i += 1;
+    for s in &streams[..count] {
+        check_stream(units, *s)?;
     }
-    0
+    Ok(())
 }
 
 // Whether the first so many numbers are within a limit.
@@ -34,12 +34,10 @@ pub fn all_small(count: usize, zs: &[i64], limit: u64) -> bool
     requires { count ≤ length zs.now }
     ensures { result ≡ all_small count zs.now limit }
 {
-    let mut i: usize = 0;
-    while i < count {
-        if !is_small(zs[i], limit) {
+    for z in &zs[..count] {
+        if !is_small(*z, limit) {
             return false;
         }
-        i += 1;
     }
     true
 }
@@ -65,30 +63,26 @@ pub fn flows_fit(
     requires { (n : ℕ) × Ready n count (wide_at streams) flow.now numbers.now }
     ensures { result ≡ flows_fit (wide_at streams) (amount_at flow.now) numbers.now count }
 {
-    let mut i: usize = 0;
-    while i < count {
+    for i in 0..count {
         let s = streams[i];
         let c = difference_at(numbers, s);
         if !flow_fits(s, flow[i], c) {
             return false;
         }
-        i += 1;
     }
     true
 }
 
-// The net of place u.
-fn net_of(u: u8, count: usize, streams: [WideStream; MAX_STREAMS], flow: &[i64]) -> i64
-    requires { (count ≤ max_streams) × (count ≤ length flow.now) × (all_small count flow.now max_wide_flow ≡ true) }
-    ensures { result ≡ net_to (wide_at streams) (amount_at flow.now) u count }
+// The net of place u by all of these streams.
+fn net_of(u: u8, streams: &[WideStream], flow: &[i64]) -> i64
+    requires { (length streams.now ≤ max_streams) × (length streams.now ≤ length flow.now)
+        × (all_small (length streams.now) flow.now max_wide_flow ≡ true) }
+    ensures { result ≡ net_to (wide_at streams.now) (amount_at flow.now) u (length streams.now) }
 {
     let mut net: i64 = 0;
-    let mut i: usize = 0;
-    while i < count {
-        let s = streams[i];
-        let b = brought_to(u, s, flow[i]);
+    for (i, s) in streams.iter().enumerate() {
+        let b = brought_to(u, *s, flow[i]);
         net += b;
-        i += 1;
     }
     net
 }
@@ -98,12 +92,10 @@ pub fn nets_fit(units: u8, count: usize, streams: [WideStream; MAX_STREAMS], flo
     requires { (count ≤ max_streams) × (count ≤ length flow.now) × (all_small count flow.now max_wide_flow ≡ true) }
     ensures { result ≡ nets_fit (wide_at streams) (amount_at flow.now) count units }
 {
-    let mut u: u8 = 0;
-    while u < units {
-        if net_of(u + 1, count, streams, flow) != 0 {
+    for u in 0..units {
+        if net_of(u + 1, &streams[..count], flow) != 0 {
             return false;
         }
-        u += 1;
     }
     true
 }

@@ -34,10 +34,9 @@ use Rattle.flow_def.proofs.Ranges.{allowed_of, range_of, balanced_of}
 use Rattle.flow_def.proofs.Potentials.{StepAt, Certificate, share, cost_one}
 use Rattle.sheet_def.specs.Sheets.{SheetParts, known}
 use Rattle.sheet_def.specs.Sentences.{MeteredAt, class_on, number_on, Tells}
-use Rattle.foreign_def.specs.declared.PlaceNumbers.{PlaceNumbers}
 use Rattle.foreign_def.specs.Passing.{place_number, difference, bottom, top, AtLow, AtHigh, Passes}
 use Rattle.foreign_def.specs.Says.{ShowsFlow, OtherFlow}
-use Rattle.foreign_def.specs.Numbers.{numbers_in, NumbersWith, NumbersSay}
+use Rattle.foreign_def.specs.Numbers.{PlaceNumbers, numbers_in, NumbersWith, NumbersSay}
 use Rattle.foreign_def.proofs.Stepping.{level_step, between_step}
 use Rattle.foreign_def.proofs.Meeting.{unknown_withheld, known_few}
 use Rattle.foreign_def.proofs.Passing.{told_class}

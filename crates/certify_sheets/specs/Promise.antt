@@ -7,8 +7,7 @@ use Rattle.flow_def.specs.Flows.{stream_at, amount_at, balanced}
 use Rattle.flow_def.specs.declared.Class.TheVariants.{Withheld}
 use Rattle.sheet_def.specs.Sheets.{SheetParts}
 use Rattle.sheet_def.specs.Sentences.{class_on, MetersAs, Tells}
-use Rattle.foreign_def.specs.declared.PlaceNumbers.{PlaceNumbers}
-use Rattle.foreign_def.specs.Numbers.{numbers_in, NumbersSay}
+use Rattle.foreign_def.specs.Numbers.{PlaceNumbers, numbers_in, NumbersSay}
 use Rattle.certify_def.specs.Number.{max_wide_flow, shortest}
 use Rattle.certify_def.specs.Says.{FlowSays}
 

@@ -1,7 +1,7 @@
 -- Bounds of wide numbers in 64 bits, by quotients.
 use mathlib.Core.Path.{◌≡◌, refl, ap, ap₂, ◌∙◌, sym}
 use mathlib.Core.Bool.{Bool, true, false, not, false≢true}
-use lib.IntN.{ℤ, pos, negsuc, neg_ℤ, nat_abs, ◌+ℤ◌, ◌-ℤ◌, ◌*ℤ◌, zero-*ℤ}
+use lib.IntN.{ℤ, pos, negsuc, neg_ℤ, nat_abs, ◌+ℤ◌, ◌-ℤ◌, ◌*ℤ◌}
 use lib.Signed.{le_z, lt_z}
 use Prim.Native.Nat.{ℕ, suc, ◌-◌, ◌*◌, ◌/◌, ◌^◌, ◌≤◌, zero-le}
 use native.Mathlib.Nat.{le-div_iff_mul-le}
@@ -18,8 +18,8 @@ use Rattle.num_bytes.proofs.Tests.{same_test, by_cases}
 use Rattle.sheet_cost.proofs.Costing.{size_fits, minus_size}
 use Rattle.plant_def.specs.declared.Stream.{Stream}
 use Rattle.flow_def.specs.Certificate.{weight_of, lower, upper}
-use Rattle.foreign_stream.proofs.Fitting.{coded_fits, coded_is}
-use Rattle.certify_def.specs.Number.{max_wide_weight, max_wide_reading, max_wide_flow}
+use Rattle.foreign_stream.proofs.Fitting.{coded_is}
+use Rattle.certify_def.specs.Number.{max_wide_weight, max_wide_flow}
 
 -- A product at most n, by a quotient.
 pub by_quotient : (m by n : ℕ) → 1 ≤ by → leb m (n / by) ≡ leb (m * by) n
@@ -68,10 +68,6 @@ by_turned by (pos m) a z s t u = absurd (false≢true (sym t ∙ le-leb 0 m zero
 by_turned by (negsuc m) (pos b) z s t u = absurd (false≢true (sym u ∙ le-leb 0 b zero-le))
 by_turned by (negsuc m) (negsuc b) z s t u = turned (suc m * by) (suc b - 1) b z (omega arith) (omega (arith, s.over)) (omega (arith, s.under))
 
-some_under : (a : ℤ) → le_z (pos 0) a ≡ false → 1 ≤ nat_abs a
-some_under (pos b) u = absurd (false≢true (sym u ∙ le-leb 0 b zero-le))
-some_under (negsuc b) u = omega arith
-
 module _ (by : ℕ) (d a : ℤ) where
   -- What is not below zero, times more, is above what is;
   pub up_over_down : le_z (pos 0) d ≡ true → lt_z a (pos 0) ≡ true → false ≡ le_z (pos by *ℤ d) a
@@ -86,13 +82,9 @@ module _ (by : ℕ) (d a : ℤ) where
     pub up_by_sizes : r ≡ leb (m * by) n → le_z (pos 0) d ≡ true → lt_z a (pos 0) ≡ false → r ≡ le_z (pos by *ℤ d) a
     up_by_sizes e t u = e ∙ ap₂ (λ (x y : ℕ). leb (x * by) y) em en ∙ by_sizes by d a _ (scaled by d) t u
 
-    -- both below zero, they decide the other way round,
+    -- both below zero, they decide the other way round.
     pub down_by_sizes : r ≡ leb (m * by) (n - 1) → le_z (pos 0) d ≡ false → le_z (pos 0) a ≡ false → not r ≡ le_z (pos by *ℤ d) a
     down_by_sizes e t u = ap not (e ∙ ap₂ (λ (x y : ℕ). leb (x * by) (y - 1)) em en) ∙ by_turned by d a _ (scaled by d) t u
-
-    -- and the size is not 0.
-    pub down_some : le_z (pos 0) a ≡ false → 1 ≤ n
-    down_some u = rw en (some_under a u)
 
 -- The lower bound is at most the difference where twice the weight times d is at most the difference and one weight more;
 pub lower_by : (w : ℕ) (d t : ℤ) → le_z (pos (2 * w) *ℤ d) (t +ℤ pos w) ≡ le_z (lower 1 w d) t
@@ -129,19 +121,11 @@ module _ (w : ℕ) (t : ℤ) (light : w ≤ max_wide_weight) (f : SFits w64 t) (
   rest_small : SFits w64 (pos w -ℤ t)
   rest_small = size_fits (pos w -ℤ t) (omega (arith, minus_size (pos w) t))
 
-  -- The sum fits,
-  pub sum_fits : SFits w64 (to_z w64 (of_z w64 t) +ℤ to_z w64 w)
-  sum_fits = rw (to_z-of_z w64 t f, weight_is) sum_small
-
-  -- and is the sum;
+  -- The sum is read back from its bits;
   pub sum_is : to_z w64 (of_z w64 (to_z w64 (of_z w64 t) +ℤ to_z w64 w)) ≡ t +ℤ pos w
   sum_is = rw (to_z-of_z w64 t f, weight_is) (to_z-of_z w64 (t +ℤ pos w) sum_small)
 
-  -- the rest fits,
-  pub rest_fits : SFits w64 (to_z w64 w -ℤ to_z w64 (of_z w64 t))
-  rest_fits = rw (to_z-of_z w64 t f, weight_is) rest_small
-
-  -- and is the rest.
+  -- so is the rest.
   pub rest_is : to_z w64 (of_z w64 (to_z w64 w -ℤ to_z w64 (of_z w64 t))) ≡ pos w -ℤ t
   rest_is = rw (to_z-of_z w64 t f, weight_is) (to_z-of_z w64 (pos w -ℤ t) rest_small)
 
@@ -150,23 +134,9 @@ module _ (d : ℤ) (f : SFits w64 d) (h : nat_abs d ≤ 2 ^ 56) where
   turned_small : SFits w64 (pos 0 -ℤ d)
   turned_small = size_fits (pos 0 -ℤ d) (omega (arith, minus_size (pos 0) d))
 
-  -- It fits,
-  pub turned_fits : SFits w64 (pos 0 -ℤ to_z w64 (of_z w64 d))
-  turned_fits = rw (to_z-of_z w64 d f) turned_small
-
-  -- and is that.
+  -- It is read back from its bits.
   pub turned_is : to_z w64 (of_z w64 (pos 0 -ℤ to_z w64 (of_z w64 d))) ≡ pos 0 -ℤ d
   turned_is = rw (to_z-of_z w64 d f) (to_z-of_z w64 (pos 0 -ℤ d) turned_small)
-
--- A flow less a reading.
-module _ (x r : ℤ) (h : nat_abs x ≤ max_wide_flow) (k : nat_abs r ≤ max_wide_reading) where
-  -- The difference fits 64 bits,
-  pub apart : SFits w64 (x -ℤ r)
-  apart = size_fits (x -ℤ r) (omega (arith, minus_size x r))
-
-  -- and is of this size.
-  pub apart_size : (d : ℤ) → d ≡ x -ℤ r → nat_abs d ≤ 2 ^ 56
-  apart_size d e = rw e (omega (arith, minus_size x r))
 
 -- A test of a metered stream's bound, by the weight and the correction that the code holds, is that of the stream's own.
 pub climb_held : (test : ℕ → ℤ → ℤ → Bool) (s : Stream) (x d t : ℤ) (r : Bool) → SFits w64 x → SFits w64 s.reading → SFits w64 d → SFits w64 t
@@ -176,10 +146,6 @@ climb_held test s x d t r fx fr fd ft m e q =
     q
     ∙ ap₂ (test s.weight) (to_z-of_z w64 d fd ∙ e ∙ ap₂ ◌-ℤ◌ (to_z-of_z w64 x fx) (to_z-of_z w64 s.reading fr)) (to_z-of_z w64 t ft)
     ∙ ap (λ (b : Bool). test (pick b s.weight 0) (x -ℤ s.reading) t) (sym m)
-
--- Without a meter both bounds are 0.
-pub climb_none : (bound : ℤ → ℤ) (s : Stream) (d : ℤ) → s.metered ≡ false → pos 0 ≡ pos (weight_of s) *ℤ bound d
-climb_none bound s d m = rw m (sym (zero-*ℤ (bound d)))
 
 -- A number at one end, if it is there, less another, if it is there.
 picked_size : (b : Bool) (x : ℤ) → nat_abs (pick b x (pos 0)) ≤ nat_abs x
@@ -197,11 +163,7 @@ module _ (a b : Bool) (x i o : ℤ) (h : nat_abs x ≤ max_wide_flow) (fi : SFit
   ends_apart : SFits w64 (i -ℤ o)
   ends_apart = size_fits (i -ℤ o) (omega (arith, small_ends))
 
-  -- The difference fits 64 bits;
-  pub ends_fit : SFits w64 (to_z w64 (of_z w64 i) -ℤ to_z w64 (of_z w64 o))
-  ends_fit = coded_fits i o fi fo ends_apart
-
-  -- it is what the stream brings, and small.
+  -- The difference is what the stream brings, and small.
   pub ends_is : (to_z w64 (of_z w64 (to_z w64 (of_z w64 i) -ℤ to_z w64 (of_z w64 o))) ≡ pick a x (pos 0) +ℤ pick b (neg_ℤ x) (pos 0))
       × (nat_abs (to_z w64 (of_z w64 (to_z w64 (of_z w64 i) -ℤ to_z w64 (of_z w64 o)))) ≤ 2 * max_wide_flow)
   ends_is =

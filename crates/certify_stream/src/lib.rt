@@ -5,6 +5,7 @@ ghost use Rattle.std.specs.Prelude.{◌≡◌, true, not, ◌&&◌, ◌||◌, po
 ghost use Rattle.std.specs.Int.Signed.{lt_z, le_z};
 ghost use Rattle.num_bytes.specs.Choice.{pick, refuse_if};
 ghost use Rattle.plant_def.specs.Plants.{limited};
+ghost use Rattle.plant_def.specs.Refused.{fault_in};
 ghost use Rattle.flow_def.specs.Flows.{in_range};
 ghost use Rattle.flow_def.specs.Nets.{brought};
 ghost use Rattle.flow_def.specs.Certificate.{rises, falls, lower, upper, least_climb, most_climb};
@@ -13,110 +14,84 @@ ghost use Rattle.certify_def.specs.Number.{max_wide_weight, max_wide_reading, ma
 ghost use Rattle.certify_def.specs.Test.{plainly, WideWithin};
 
 use certify_def::{MAX_WIDE_READING, MAX_WIDE_WEIGHT, WideStream};
-use num_bytes::{first_of, size_of};
+use plant_def::refusal::Refusal;
 
 // A number within a limit.
 pub fn is_small(z: i64, limit: u64) -> bool
     ensures { result ≡ leb (nat_abs z) limit }
 {
-    size_of(z) <= limit
+    z.unsigned_abs() <= limit
 }
 
-fn weight_fault(weight: u64) -> u8
-    ensures { result ≡ refuse_if (eqb weight 0 || ltb max_wide_weight weight) 9 }
+fn check_weight(weight: u64) -> Result<(), Refusal>
+    ensures { fault_in result ≡ refuse_if (eqb weight 0 || ltb max_wide_weight weight) 9 }
 {
-    if weight == 0 {
-        return 9;
+    if weight == 0 || MAX_WIDE_WEIGHT < weight {
+        return Err(Refusal::Weight);
     }
-    if MAX_WIDE_WEIGHT < weight {
-        return 9;
-    }
-    0
+    Ok(())
 }
 
-fn reading_fault(reading: i64) -> u8
-    ensures { result ≡ refuse_if (ltb max_wide_reading (nat_abs reading)) 10 }
+fn check_reading(reading: i64) -> Result<(), Refusal>
+    ensures { fault_in result ≡ refuse_if (ltb max_wide_reading (nat_abs reading)) 10 }
 {
-    if MAX_WIDE_READING < size_of(reading) {
-        return 10;
+    if MAX_WIDE_READING < reading.unsigned_abs() {
+        return Err(Refusal::Reading);
     }
-    0
+    Ok(())
 }
 
-fn range_fault(ranged: bool, low: i64, high: i64) -> u8
-    ensures { result ≡ refuse_if (ranged && lt_z high low) 18 }
+fn check_range(ranged: bool, low: i64, high: i64) -> Result<(), Refusal>
+    ensures { fault_in result ≡ refuse_if (ranged && lt_z high low) 18 }
 {
-    if !ranged {
-        return 0;
+    if ranged && high < low {
+        return Err(Refusal::Range);
     }
-    if high < low {
-        return 18;
-    }
-    0
+    Ok(())
 }
 
 // The first fault of a stream's parts.
-pub fn stream_fault(units: u8, s: WideStream) -> u8
-    ensures { result ≡ wide_fault units (plainly s) }
+pub fn check_stream(units: u8, s: WideStream) -> Result<(), Refusal>
+    ensures { fault_in result ≡ wide_fault units (plainly s) }
 {
-    if units < s.from {
-        return 7;
-    }
-    if units < s.to {
-        return 7;
+    if units < s.from || units < s.to {
+        return Err(Refusal::Place);
     }
     if s.from == s.to {
-        return 8;
+        return Err(Refusal::SamePlace);
     }
-    let metered = s.metered;
-    if metered {
-        let weight = weight_fault(s.weight);
-        let reading = reading_fault(s.reading);
-        let range = range_fault(s.ranged, s.low, s.high);
-        return first_of(weight, first_of(reading, range));
+    if s.metered {
+        check_weight(s.weight)?;
+        check_reading(s.reading)?;
+        check_range(s.ranged, s.low, s.high)?;
     }
-    0
+    Ok(())
 }
 
 // Whether a stream has a range.
 fn has_range(s: WideStream) -> bool
     ensures { result ≡ limited (plainly s) }
 {
-    if s.metered {
-        return s.ranged;
-    }
-    false
+    s.metered && s.ranged
 }
 
 // Whether a flow lies in the stream's range; whether less than it does, and more.
 fn in_range(s: WideStream, x: i64) -> bool
     ensures { result ≡ in_range 1 (plainly s) x }
 {
-    if !has_range(s) {
-        return true;
-    }
-    if x < s.low {
-        return false;
-    }
-    x <= s.high
+    !has_range(s) || (s.low <= x && x <= s.high)
 }
 
 fn may_fall(s: WideStream, x: i64) -> bool
     ensures { result ≡ falls (plainly s) x }
 {
-    if !has_range(s) {
-        return true;
-    }
-    s.low < x
+    !has_range(s) || s.low < x
 }
 
 fn may_rise(s: WideStream, x: i64) -> bool
     ensures { result ≡ rises (plainly s) x }
 {
-    if !has_range(s) {
-        return true;
-    }
-    x < s.high
+    !has_range(s) || x < s.high
 }
 
 // Flow minus reading.
@@ -140,8 +115,8 @@ fn multiple_within(by: u64, d: i64, a: i64) -> bool
     requires { 1 ≤ by }
     ensures { result ≡ le_z (pos by *ℤ d) a }
 {
-    let size = size_of(d);
-    let limit = size_of(a);
+    let size = d.unsigned_abs();
+    let limit = a.unsigned_abs();
     if 0 <= d {
         if a < 0 {
             return false;
@@ -198,20 +173,14 @@ fn from_bottom(s: WideStream, x: i64, difference: i64) -> bool
     requires { WideWithin 255 (plainly s) × (nat_abs x ≤ max_wide_flow) × (nat_abs difference ≤ 2 ^ 62) }
     ensures { result ≡ (not (falls (plainly s) x) || le_z (least_climb (plainly s) x) difference) }
 {
-    if !may_fall(s, x) {
-        return true;
-    }
-    climbs_enough(s, x, difference)
+    !may_fall(s, x) || climbs_enough(s, x, difference)
 }
 
 fn to_top(s: WideStream, x: i64, difference: i64) -> bool
     requires { WideWithin 255 (plainly s) × (nat_abs x ≤ max_wide_flow) × (nat_abs difference ≤ 2 ^ 62) }
     ensures { result ≡ (not (rises (plainly s) x) || le_z difference (most_climb (plainly s) x)) }
 {
-    if !may_rise(s, x) {
-        return true;
-    }
-    climbs_little(s, x, difference)
+    !may_rise(s, x) || climbs_little(s, x, difference)
 }
 
 // A stream with this flow and this difference of the numbers at its ends.
@@ -219,13 +188,7 @@ pub fn flow_fits(s: WideStream, x: i64, difference: i64) -> bool
     requires { WideWithin 255 (plainly s) × (nat_abs x ≤ max_wide_flow) × (nat_abs difference ≤ 2 ^ 62) }
     ensures { result ≡ flow_fits (plainly s) x difference }
 {
-    if !in_range(s, x) {
-        return false;
-    }
-    if !from_bottom(s, x, difference) {
-        return false;
-    }
-    to_top(s, x, difference)
+    in_range(s, x) && from_bottom(s, x, difference) && to_top(s, x, difference)
 }
 
 // What a stream that carries x brings to place u, less what it takes from it.

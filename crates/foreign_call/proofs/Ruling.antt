@@ -1,4 +1,5 @@
 -- The rules, over arrays, are those of the test; and the check's number by what was read.
+use Rattle.std.specs.Prelude.{Ok, Err}
 use mathlib.Core.Path.{◌≡◌, refl, sym, ◌∙◌, ap, subst}
 use mathlib.Core.Bool.{Bool, true, false, ◌&&◌}
 use mathlib.Core.List.{List}
@@ -13,7 +14,7 @@ use Rattle.num_bytes.specs.Choice.{pick}
 use Rattle.num_bytes.proofs.Tests.{by_cases, and_right}
 use Rattle.num_bytes.proofs.Filled.{length_filled, take_filled, get_d_any}
 use Rattle.plant_def.specs.declared.Plant as Arrays
-use Rattle.plant_def.specs.declared.Read.{Read}
+use Rattle.plant_def.specs.Results.{Read}
 use Rattle.plant_def.specs.Limits.{max_streams, places}
 use Rattle.plant_def.specs.Plants.{Plant}
 use Rattle.plant_def.specs.Within.{Accepted}
@@ -37,10 +38,15 @@ use Rattle.num_bytes.proofs.Sums.{sum_same}
 use Rattle.solve_def.specs.Sizes.{flow_shift}
 use Rattle.sheet_def.specs.declared.Entry.{Entry}
 use Rattle.sheet_def.specs.declared.Total.{Total}
+use Rattle.plant_def.specs.declared.refusal.Refusal.{Refusal}
+use Rattle.plant_def.specs.Refused.{refusal_number}
+use Rattle.plant_def.proofs.Numbers.{some_number}
 use Rattle.sheet_def.specs.declared.SheetRead.{SheetRead}
 use Rattle.sheet_def.specs.Totals.{top_cost, capped}
 use Rattle.sheet_def.specs.Calls.{AllSmall, no_entry}
 use Rattle.sheet_def.specs.Sheets.{SheetParts, kind_of, known}
+use Rattle.sheet_def.specs.Views.{sheet_as}
+use Rattle.sheet_def.specs.Kept as Kept
 use Rattle.sheet_def.specs.Kept.{Reopened, no_sheet, some_sheet, read_sheet, read_of, blank}
 use Rattle.sheet_def.specs.Sentences.{class_on}
 use Rattle.sheet_def.proofs.Back.{few_read}
@@ -263,25 +269,25 @@ pub record SheetGot (bytes : List ℕ) (kept : SheetRead) : Type 0 where
   pub long : length kept.streams ≡ max_streams
 
 -- What is known of a sheet that is read.
-pub sheet_got : (bytes : List ℕ) (kept : SheetRead) → kept ≡ read_of (read_sheet bytes) → kept.number ≡ 0 → SheetGot bytes kept
-sheet_got bytes kept e n = go (read_sheet bytes) refl e
+pub sheet_got : (bytes : List ℕ) (kept : SheetRead) → sheet_as (Ok kept) ≡ read_of (read_sheet bytes) → SheetGot bytes kept
+sheet_got bytes kept e = go (read_sheet bytes) refl e
   where
-    go : (g : Reopened) → read_sheet bytes ≡ g → kept ≡ read_of g → SheetGot bytes kept
-    go (no_sheet f) q r = absurd (omega (arith, demands.reopening.refused bytes f q, n, ap (λ (k : SheetRead). k.number) r))
+    go : (g : Reopened) → read_sheet bytes ≡ g → sheet_as (Ok kept) ≡ read_of g → SheetGot bytes kept
+    go (no_sheet f) q r = absurd (omega (arith, demands.reopening.refused bytes f q, ap (λ (k : Kept.SheetRead). k.number) r))
     go (some_sheet s) q r =
         let b = few_read bytes s q in
         let t = take_filled blank max_streams s.streams b in
         record {
           sheet = s;
           read = q;
-          parts = ap parts_in r ∙ (λ i. record { streams = t i; total = s.total });
-          few = omega (arith, b, ap (λ (k : SheetRead). k.count) r);
-          long = ap (λ (k : SheetRead). length k.streams) r ∙ length_filled blank max_streams s.streams;
+          parts = ap (λ (k : Kept.SheetRead). record { streams = take k.count k.streams; total = k.total }) r ∙ (λ i. record { streams = t i; total = s.total });
+          few = omega (arith, b, ap (λ (k : Kept.SheetRead). k.count) r);
+          long = ap (λ (k : Kept.SheetRead). length k.streams) r ∙ length_filled blank max_streams s.streams;
         }
 
-refused_sheet : (g : Reopened) (kept : SheetRead) → kept ≡ read_of g → (kept.number ≡ 0 → ⊥) → g ≡ no_sheet kept.number
-refused_sheet (no_sheet f) kept e n = ap (λ (k : SheetRead). no_sheet k.number) (sym e)
-refused_sheet (some_sheet s) kept e n = absurd (n (ap (λ (k : SheetRead). k.number) e))
+refused_sheet : (g : Reopened) (f : Refusal) → sheet_as (Err f) ≡ read_of g → g ≡ no_sheet (refusal_number f)
+refused_sheet (no_sheet n) f e = ap (λ (k : Kept.SheetRead). no_sheet k.number) (sym e)
+refused_sheet (some_sheet s) f e = absurd (some_number f (ap (λ (k : Kept.SheetRead). k.number) e))
 
 -- The answer, by what was read.
 module _ (file bytes : List ℕ) (numbers : List ℤ) (y : Read) (e : y ≡ Plants.read_of (read_plant file)) where
@@ -292,15 +298,16 @@ module _ (file bytes : List ℕ) (numbers : List ℤ) (y : Read) (e : y ≡ Plan
   pub no_plant : (y.number ≡ 0 → ⊥) → CheckSays file bytes numbers y.number
   no_plant n = says y.number (rw (read_bad (read_plant file) y e n))
 
-  module _ (n : y.number ≡ 0) (kept : SheetRead) (q : kept ≡ read_of (read_sheet bytes)) where
+  module _ (n : y.number ≡ 0) where
     -- The sheet reader's refusal.
-    pub no_sheet_lem : (kept.number ≡ 0 → ⊥) → CheckSays file bytes numbers kept.number
-    no_sheet_lem m = says kept.number (rw ((found file y e n).1, refused_sheet (read_sheet bytes) kept q m))
+    pub no_sheet_lem : (f : Refusal) → sheet_as (Err f) ≡ read_of (read_sheet bytes) → CheckSays file bytes numbers (refusal_number f)
+    no_sheet_lem f q = says (refusal_number f) (rw ((found file y e n).1, refused_sheet (read_sheet bytes) f q))
 
     -- Both are read: 26 unless the sheet passes.
-    pub by_rules : kept.number ≡ 0 → (b : Bool) → b ≡ passes (plant_of y.plant) (parts_in kept) numbers → CheckSays file bytes numbers (pick b 0 26)
-    by_rules m b h =
+    pub by_rules : (kept : SheetRead) → sheet_as (Ok kept) ≡ read_of (read_sheet bytes) → (b : Bool) → b ≡ passes (plant_of y.plant) (parts_in kept) numbers
+        → CheckSays file bytes numbers (pick b 0 26)
+    by_rules kept q b h =
         let f = found file y e n in
-        let g = sheet_got bytes kept q m in
+        let g = sheet_got bytes kept q in
         let same : plant_of y.plant ≡ f.0 = ap plant_of f.2 ∙ read_held file f.0 f.1 in
         says (pick b 0 26) (rw (f.1, g.read) (ap (λ (c : Bool). pick {A = ℕ} c 0 26) (h ∙ (λ i. passes (same i) (g.parts i) numbers))))

@@ -3,6 +3,7 @@
 
 ghost use Rattle.std.specs.Prelude.{◌≡◌, ◌≤◌, length, take};
 ghost use Rattle.plant_def.specs.Limits.{max_streams};
+ghost use Rattle.plant_def.specs.Refused.{fault_in};
 ghost use Rattle.plant_def.specs.Within.{Accepted};
 ghost use Rattle.plant_def.specs.Says.{plant_of};
 ghost use Rattle.flow_def.specs.Flows.{cost};
@@ -18,6 +19,7 @@ use foreign_flows::{flows_fit, numbers_fit, records_fit, shown_flows};
 use foreign_sets::nets_fit;
 use plant_def::Plant;
 use plant_def::limits::{MAX_STREAMS, PLACES};
+use plant_def::refusal::{Refusal, check_number};
 use sheet_cost::cost_of;
 use sheet_def::{SheetRead, Total};
 use sheet_entries::classes_of;
@@ -55,22 +57,20 @@ fn rules_hold(p: Plant, kept: SheetRead, numbers: &[i64]) -> bool
     requires { Accepted p × (kept.count ≤ max_streams) × (length kept.streams ≡ max_streams) }
     ensures { result ≡ passes (plant_of p) (parts_in kept) numbers.now }
 {
+    // Stays a chain of `if`s: each test needs what those before it have shown, as `requires` of flows_fit, nets_fit and total_fits.
     if !numbers_fit(p.units, numbers) {
         return false;
     }
     if kept.count != p.count {
         return false;
     }
-    let entries = kept.streams;
-    let streams = p.streams;
-    let count = p.count as usize;
     let mut arcs = [NONE as u8; ARCS];
     let mut rows = [0u64; ROWS];
-    lay(streams, count, &mut arcs, &mut rows);
+    lay(p.streams, p.count as usize, &mut arcs, &mut rows);
     let bridges = bridges_of(&arcs, &rows);
     let classes = classes_of(p, bridges);
-    let flows = shown_flows(classes, entries);
-    if !records_fit(p.count, entries, classes, flows) {
+    let flows = shown_flows(classes, kept.streams);
+    if !records_fit(p.count, kept.streams, classes, flows) {
         return false;
     }
     if !flows_fit(p, flows, numbers) {
@@ -79,28 +79,24 @@ fn rules_hold(p: Plant, kept: SheetRead, numbers: &[i64]) -> bool
     if !nets_fit(p, classes, flows) {
         return false;
     }
-    let labels = bridges.labels;
-    let total = kept.total;
-    total_fits(p, &arcs, &rows, labels, classes, flows, total)
+    total_fits(p, &arcs, &rows, bridges.labels, classes, flows, kept.total)
 }
 
-// The plant reader's refusals, then the sheet reader's, then 26 where a rule is broken; 0 where the sheet passes.
+// The plant reader's refusals, then the sheet reader's, then a broken rule.
+fn check(plant: &[u8], sheet: &[u8], numbers: &[i64]) -> Result<(), Refusal>
+    ensures { CheckSays plant.now sheet.now numbers.now (fault_in result) }
+{
+    let p = plant_read::read_plant(plant)?;
+    let kept = sheet_read::read_sheet(sheet)?;
+    if !rules_hold(p, kept, numbers) {
+        return Err(Refusal::RuleBroken);
+    }
+    Ok(())
+}
+
+// Its number: 26 where a rule is broken, 0 where the sheet passes.
 pub fn check_sheet(plant: &[u8], sheet: &[u8], numbers: &[i64]) -> u8
     ensures { CheckSays plant.now sheet.now numbers.now result }
 {
-    let read = plant_read::read_plant(plant);
-    let number = read.number;
-    if number != 0 {
-        return number;
-    }
-    let kept = sheet_read::read_sheet(sheet);
-    let refused = kept.number;
-    if refused != 0 {
-        return refused;
-    }
-    let p = read.plant;
-    if rules_hold(p, kept, numbers) {
-        return 0;
-    }
-    26
+    check_number(check(plant, sheet, numbers))
 }

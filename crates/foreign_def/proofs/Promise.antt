@@ -27,10 +27,9 @@ use Rattle.sheet_def.specs.Sentences.{call_fault, Refused, Overfilled}
 use Rattle.sheet_def.specs.Says.{Drawn, SheetWith, SheetSays}
 use Rattle.sheet_def.specs.Kept.{Reopened, no_sheet, some_sheet, read_sheet}
 use Rattle.sheet_def.proofs.Demands.{demands, drawn_kept}
-use Rattle.foreign_def.specs.declared.PlaceNumbers.{PlaceNumbers}
 use Rattle.foreign_def.specs.Passing.{withheld_on, Passes}
 use Rattle.foreign_def.specs.Says.{CheckOf, CheckWith, CheckSays, Vouched, PassAll, ForeignSheets}
-use Rattle.foreign_def.specs.Numbers.{no_numbers, numbers_in, Serve, Numbered, NumbersOf, NumbersWith, NumbersSay, OwnNumbers}
+use Rattle.foreign_def.specs.Numbers.{PlaceNumbers, no_numbers, numbers_in, Serve, Numbered, NumbersOf, NumbersWith, NumbersSay, OwnNumbers}
 use Rattle.foreign_def.specs.Test.{passes, check_with}
 use Rattle.foreign_def.proofs.Passing.{joined_set, passed_least, our_flow}
 use Rattle.foreign_def.proofs.Tested.{test_is}

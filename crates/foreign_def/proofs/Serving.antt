@@ -1,6 +1,6 @@
 -- Numbers of our own: the solver's potentials serve, so every plant that is read has numbers, or an overfull set.
 use mathlib.Core.Path.{◌≡◌, refl, sym, ◌∙◌, subst}
-use mathlib.Core.Bool.{Bool, true, false}
+use mathlib.Core.Bool.{Bool, true}
 use mathlib.Core.List.{List}
 use lib.IntN.{ℤ, pos, +ℤ_invr}
 use Prim.Native.Nat.{ℕ, suc, ◌≤◌, ◌<◌}
@@ -29,8 +29,7 @@ use Rattle.solve_def.specs.Whole.{solved_from}
 use Rattle.solve_def.specs.Promise.{flow_of, Solution, Right}
 use Rattle.solve_def.proofs.Theorem.{from_none, solved_right}
 use Rattle.sheet_def.proofs.Opening.{right_found, right_overfull}
-use Rattle.foreign_def.specs.declared.PlaceNumbers.{PlaceNumbers}
-use Rattle.foreign_def.specs.Numbers.{no_numbers, Serve, Numbered, NumbersOf}
+use Rattle.foreign_def.specs.Numbers.{PlaceNumbers, no_numbers, Serve, Numbered, NumbersOf}
 use Rattle.foreign_def.specs.Test.{potential_from, NumberedBy}
 use Rattle.foreign_def.proofs.Numbers.{solution_certifies, solution_few}
 use Rattle.foreign_def.proofs.Passing.{certified_serve}

@@ -2,4 +2,5 @@
 pub mod Passing
 pub mod Says
 pub mod Numbers
+pub mod Views
 pub mod Test

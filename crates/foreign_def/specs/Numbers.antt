@@ -9,9 +9,15 @@ use Rattle.sheet_def.specs.declared.Sheet.{Sheet}
 use Rattle.sheet_def.specs.Sheets.{SheetParts}
 use Rattle.sheet_def.specs.Sentences.{call_fault}
 use Rattle.sheet_def.specs.Says.{SheetSays}
-use Rattle.foreign_def.specs.declared.PlaceNumbers.{PlaceNumbers}
 use Rattle.foreign_def.specs.Passing.{place_number, Passes}
 use Rattle.foreign_def.specs.Says.{OtherFlow, PassAll}
+
+-- What the call over numbers of the places hands over: 0, how many places there are, and a number for each of them, 0 past them; or
+-- a refusal number and zeros.
+pub record PlaceNumbers : Type 0 where
+  pub number : ℕ
+  pub count : ℕ
+  pub numbers : List ℤ
 
 -- A refusal: its number, no places, zeros.
 abbrev pub no_numbers : ℕ → PlaceNumbers

@@ -6,11 +6,9 @@ use plant_def::limits::PLACES;
 // The limit of a place's number.
 pub const NUMBER_LIMIT: u64 = 1_000_000_000_000_000_000;
 
-// What the call over numbers of the places hands over: 0, how many places there are, and a number for each of them, 0 past them; or
-// a refusal number and zeros.
+// Numbers of the places: how many places there are, and a number for each of them, 0 past them.
 #[derive(Clone, Copy)]
 pub struct PlaceNumbers {
-    pub number: u8,
     pub count: u8,
     pub numbers: [i64; PLACES],
 }

@@ -1,6 +1,7 @@
 -- The tests of numbers, records and flows, element by element.
 use mathlib.Core.Path.{◌≡◌, sym, ◌∙◌}
-use mathlib.Core.Bool.{Bool, true, false, ◌&&◌}
+use mathlib.Core.Logic.{◌↔◌}
+use mathlib.Core.Bool.{Bool, true, false}
 use mathlib.Core.List.{List}
 use lib.IntN.{ℤ, pos, nat_abs, ◌-ℤ◌}
 use Prim.Native.Nat.{ℕ, suc, ◌+◌, ◌≤◌, ◌<◌}
@@ -10,10 +11,11 @@ use lib.ListN.{length, get_or}
 use lib.Seq.{ext_get_or}
 use mir.Syntax.{w64}
 use mir.Val.{SFits, to_z, of_z}
-use borrow.Author.Tests.{eq-eqb, ne_eqb, eqb-true, leb-true}
+use borrow.Author.Tests.{eq-eqb, eqb-true, leb-true}
 use Rattle.num_bytes.specs.Choice.{pick}
 use Rattle.num_bytes.specs.Inner.{values}
-use Rattle.num_bytes.proofs.Tests.{and_left, and_right}
+use Rattle.num_bytes.proofs.Tests.{and_left, and_right, same_test}
+use Rattle.plant_def.specs.declared.Stream.{Stream}
 use Rattle.plant_def.specs.declared.Plant as Arrays
 use Rattle.plant_def.specs.Limits.{max_streams}
 use Rattle.plant_def.specs.Plants.{no_stream}
@@ -37,29 +39,25 @@ use Rattle.foreign_stream.proofs.Fitting.{coded_fits, coded_is}
 -- A test of elements of an array: one that fails, and none.
 module _ (n : ℕ) (test : ℕ → Bool) where
   -- One that fails: not all hold.
-  pub one_fails : (k : ℕ) (b : Bool) → k < n → b ≡ test k → b ≡ false → false ≡ every n test
-  one_fails k b l e f = sym (every_off n test k l (sym e ∙ f))
+  pub one_fails : (k : ℕ) → k < n → test k ≡ false → false ≡ every n test
+  one_fails k l e = sym (every_off n test k l e)
 
   -- No test fails.
   pub none_fails : (m : ℕ) → n ≤ m → ((k : ℕ) → k < m → test k ≡ true) → true ≡ every n test
   none_fails m h all = sym (every_all n test (λ k l. all k (omega arith)))
+
+  -- A test of each of them.
+  pub all_hold : (m : ℕ) → m ≡ n → (b : Bool) → (b ≡ true ↔ ((k : ℕ) → k < m → test k ≡ true)) → b ≡ every n test
+  all_hold m h b t = same_test b _ (λ y. every_all n test (λ k l. t.0 y k (omega arith))) (λ y. t.1 (λ k l. every_at n test y k (omega arith)))
 
 -- Numbers.
 module _ (n : ℕ) (numbers : List ℤ) where
   abbrev small : ℕ → Bool
   small u = leb (nat_abs (place_number numbers u)) number_limit
 
-  -- The numbers are not one for each place.
-  pub not_one_each : (length numbers ≡ n + 1 → ⊥) → false ≡ numbers_fit n numbers
-  not_one_each h = rw (ne_eqb (length numbers) (suc n) (λ e. h (omega arith)))
-
-  -- One number is too large.
-  pub one_large : length numbers ≡ n + 1 → (u : ℕ) (b : Bool) → u < length numbers → b ≡ small u → b ≡ false → false ≡ numbers_fit n numbers
-  one_large h u b l e f = rw (eq-eqb (length numbers) (suc n) (omega arith)) (one_fails (suc n) small u b (omega arith) e f)
-
-  -- None is.
-  pub all_small : length numbers ≡ n + 1 → (m : ℕ) → length numbers ≤ m → ((k : ℕ) → k < m → small k ≡ true) → true ≡ numbers_fit n numbers
-  all_small h m l all = rw (eq-eqb (length numbers) (suc n) (omega arith)) (none_fails (suc n) small m (omega arith) all)
+  -- One for each place: the test of all of them decides.
+  pub all_tested : length numbers ≡ n + 1 → (b : Bool) → (b ≡ true ↔ ((k : ℕ) → k < length numbers → small k ≡ true)) → b ≡ numbers_fit n numbers
+  all_tested h b t = rw (eq-eqb (length numbers) (suc n) (omega arith)) (all_hold (suc n) small (length numbers) (omega arith) b t)
 
   -- What fits.
   module _ (e : numbers_fit n numbers ≡ true) where
@@ -84,24 +82,6 @@ module _ (x y : ℤ) (f : SFits w64 x) (g : SFits w64 y) (h : nat_abs x ≤ numb
   pub difference_is : to_z w64 (of_z w64 (to_z w64 (of_z w64 x) -ℤ to_z w64 (of_z w64 y))) ≡ x -ℤ y
   difference_is = coded_is x y f g apart
 
--- A record: its kind, then its flow.
-module _ (a b : ℕ) (t : Bool) where
-  -- Another kind fails, whatever the flow is.
-  pub other_kind : (a ≡ b → ⊥) → false ≡ (eqb a b && t)
-  other_kind n = rw (ne_eqb a b n)
-
-  -- The kinds are the same: what is left to test decides.
-  pub same_kind : a ≡ b → t ≡ (eqb a b && t)
-  same_kind e = rw (eq-eqb a b e)
-
--- The flow that a class shows.
-pub shown_as : (c d : Class) (x y : ℤ) → c ≡ d → known d ≡ true → x ≡ y → x ≡ pick (known c) y (pos 0)
-shown_as c d x y e k q = q ∙ rw (e, k)
-
--- A flow that is not known is shown as 0.
-pub shown_not : (c d : Class) (y : ℤ) → c ≡ d → known d ≡ false → pos 0 ≡ pick (known c) y (pos 0)
-shown_not c d y e k = rw (e, k)
-
 -- The flows that are shown.
 pub shown_all : (classes : List Class) (entries : List Entry) (flows : List ℤ) → length flows ≡ max_streams
     → ((k : ℕ) → k < max_streams → get_or flows k (pos 0) ≡ pick (known (get_or classes k Adjusted)) (get_or entries k no_entry).flow (pos 0)) → flows ≡ flows_shown classes entries
@@ -113,21 +93,21 @@ shown_all classes entries flows l h =
 
 -- Flows of a plant in an array.
 module _ (p : Arrays.Plant) (a : Accepted p) (flows numbers : List ℤ) where
-  abbrev test : ℕ → Bool
-  test k = flow_fits (stream_at (plant_of p).streams k) (amount_at flows k) (difference numbers (stream_at (plant_of p).streams k))
+  abbrev test : List Stream → ℕ → Bool
+  test ss k = flow_fits (stream_at ss k) (amount_at flows k) (difference numbers (stream_at ss k))
 
   -- The test of one stream, by the array.
-  pub test_at : (k : ℕ) → k < p.count
-      → let s = get_or p.streams k no_stream in flow_fits s (amount_at flows k) (difference numbers s) ≡ test k
+  test_at : (k : ℕ) → k < p.count → test (plant_of p).streams k ≡ test p.streams k
   test_at k l = rw (listed_at p a k l)
 
   -- One flow does not fit.
-  pub flow_fails : (k : ℕ) (b : Bool) → k < p.count → b ≡ test k → b ≡ false → false ≡ flows_fit (plant_of p).streams (amount_at flows) numbers
-  flow_fails k b l e f = one_fails (length (plant_of p).streams) test k b (rw (all_listed p a) l) e f
+  pub flow_fails : (k : ℕ) → k < p.count → test p.streams k ≡ false → false ≡ flows_fit (plant_of p).streams (amount_at flows) numbers
+  flow_fails k l e = one_fails (length (plant_of p).streams) (test (plant_of p).streams) k (rw (all_listed p a) l) (test_at k l ∙ e)
 
   -- All flows fit.
-  pub no_flow_fails : (m : ℕ) → p.count ≤ m → ((k : ℕ) → k < m → test k ≡ true) → true ≡ flows_fit (plant_of p).streams (amount_at flows) numbers
-  no_flow_fails m h all = none_fails (length (plant_of p).streams) test m (rw (all_listed p a) h) all
+  pub no_flow_fails : ((k : ℕ) → k < p.count → test p.streams k ≡ true) → true ≡ flows_fit (plant_of p).streams (amount_at flows) numbers
+  no_flow_fails all =
+      none_fails (length (plant_of p).streams) (test (plant_of p).streams) p.count (rw (all_listed p a) (omega arith)) (λ k l. test_at k l ∙ all k l)
 
   -- The ends of a stream have numbers, within the limit.
   pub ends_fit : numbers_fit p.units numbers ≡ true → (k : ℕ) → k < p.count

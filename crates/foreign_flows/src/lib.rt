@@ -1,7 +1,7 @@
 // A sheet drawn up elsewhere: the numbers of the places, the kinds of its records, its flows stream by stream.
 #![tactic(auto)]
 
-ghost use Rattle.std.specs.Prelude.{◌≡◌, true, ◌&&◌, pos, nat_abs, ◌≤◌, ◌<◌, eqb, leb, length, get_or};
+ghost use Rattle.std.specs.Prelude.{◌↔◌, IsTrue, EachIndex, ◌≡◌, true, ◌&&◌, pos, nat_abs, ◌≤◌, ◌<◌, eqb, leb, length, get_or};
 ghost use Rattle.num_bytes.specs.Choice.{pick};
 ghost use Rattle.plant_def.specs.Limits.{max_streams};
 ghost use Rattle.plant_def.specs.Within.{Accepted};
@@ -17,7 +17,6 @@ ghost use Rattle.foreign_def.specs.Test.{numbers_fit, records_fit, flows_fit, fl
 use flow_def::Class;
 use foreign_def::NUMBER_LIMIT;
 use foreign_stream::flow_fits;
-use num_bytes::size_of;
 use plant_def::limits::MAX_STREAMS;
 use plant_def::{Plant, Stream};
 use sheet_def::Entry;
@@ -28,24 +27,21 @@ use solve_def::sizes::FLOW_SHIFT;
 fn is_small(z: i64) -> bool
     ensures { result ≡ leb (nat_abs z) number_limit }
 {
-    size_of(z) <= NUMBER_LIMIT
+    z.unsigned_abs() <= NUMBER_LIMIT
+}
+
+// Whether each number is within the limit.
+fn all_small(numbers: &[i64]) -> bool
+    ensures { IsTrue result ↔ EachIndex numbers.now (λ k. IsTrue (leb (nat_abs (place_number numbers.now k)) number_limit)) }
+{
+    numbers.iter().all(|number| is_small(*number))
 }
 
 // One number for each of the places 0 to n, within the limit.
 pub fn numbers_fit(units: u8, numbers: &[i64]) -> bool
     ensures { result ≡ numbers_fit units numbers.now }
 {
-    if numbers.len() != units as usize + 1 {
-        return false;
-    }
-    let mut u: usize = 0;
-    while u < numbers.len() {
-        if !is_small(numbers[u]) {
-            return false;
-        }
-        u += 1;
-    }
-    true
+    numbers.len() == units as usize + 1 && all_small(numbers)
 }
 
 // The flow that a stream of this class shows: none where it is withheld, and 0 stands for that.
@@ -53,9 +49,7 @@ fn shown_flow(class: Class, flow: i64) -> i64
     ensures { result ≡ pick (known class) flow (pos 0) }
 {
     match class {
-        Class::Adjusted => flow,
-        Class::AsRead => flow,
-        Class::Given => flow,
+        Class::Adjusted | Class::AsRead | Class::Given => flow,
         Class::Withheld => 0,
     }
 }
@@ -68,13 +62,8 @@ pub fn shown_flows(
     ensures { result ≡ flows_shown classes entries }
 {
     let mut flows = [0i64; MAX_STREAMS];
-    let mut i: usize = 0;
-    while i < MAX_STREAMS {
-        let c = classes[i];
-        let e = entries[i];
-        let x = shown_flow(c, e.flow);
-        flows[i] = x;
-        i += 1;
+    for (i, flow) in flows.iter_mut().enumerate() {
+        *flow = shown_flow(classes[i], entries[i].flow);
     }
     flows
 }
@@ -83,10 +72,7 @@ pub fn shown_flows(
 fn record_fits(theirs: Class, ours: Class, x: i64) -> bool
     ensures { result ≡ (eqb (kind_of theirs) (kind_of ours) && leb (nat_abs x) flow_shift) }
 {
-    if kind_of(theirs) != kind_of(ours) {
-        return false;
-    }
-    size_of(x) <= FLOW_SHIFT
+    kind_of(theirs) == kind_of(ours) && x.unsigned_abs() <= FLOW_SHIFT
 }
 
 // So are all records.
@@ -99,16 +85,10 @@ pub fn records_fit(
     requires { count ≤ max_streams }
     ensures { result ≡ records_fit count (λ k. (get_or entries k no_entry).class) (λ k. get_or classes k Adjusted) (amount_at flows) }
 {
-    let n = count as usize;
-    let mut i: usize = 0;
-    while i < n {
-        let e = entries[i];
-        let theirs = e.class;
-        let ours = classes[i];
-        if !record_fits(theirs, ours, flows[i]) {
+    for i in 0..count as usize {
+        if !record_fits(entries[i].class, classes[i], flows[i]) {
             return false;
         }
-        i += 1;
     }
     true
 }
@@ -129,15 +109,11 @@ pub fn flows_fit(p: Plant, flows: [i64; MAX_STREAMS], numbers: &[i64]) -> bool
     requires { Accepted p × AllSmall flows × (numbers_fit p.units numbers.now ≡ true) }
     ensures { result ≡ flows_fit (plant_of p).streams (amount_at flows) numbers.now }
 {
-    let n = p.count as usize;
-    let mut i: usize = 0;
-    while i < n {
+    for i in 0..p.count as usize {
         let s = p.streams[i];
-        let c = difference_at(numbers, s);
-        if !flow_fits(s, flows[i], c) {
+        if !flow_fits(s, flows[i], difference_at(numbers, s)) {
             return false;
         }
-        i += 1;
     }
     true
 }

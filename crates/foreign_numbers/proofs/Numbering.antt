@@ -7,15 +7,14 @@ use Prim.Native.Nat.{ℕ, ◌≤◌, ◌<◌}
 use native.Mathlib.Omega.{arith}
 use lib.ListN.{length}
 use Rattle.num_bytes.specs.Bytes.{over}
-use Rattle.plant_def.specs.declared.Read.{Read}
+use Rattle.plant_def.specs.Results.{Read}
 use Rattle.plant_def.specs.Limits.{places}
 use Rattle.plant_def.specs.Files.{Got, bad, got, read_plant}
 use Rattle.plant_def.specs.Says.{plant_of, read_of}
 use Rattle.plant_def.proofs.Found.{says_bad, says_got}
 use Rattle.plant_def.proofs.Accepted.{read_within}
 use Rattle.sheet_def.proofs.Demands.{demands}
-use Rattle.foreign_def.specs.declared.PlaceNumbers.{PlaceNumbers}
-use Rattle.foreign_def.specs.Numbers.{no_numbers, numbers_in, NumbersOf, NumbersWith, NumbersSay}
+use Rattle.foreign_def.specs.Numbers.{PlaceNumbers, no_numbers, numbers_in, NumbersOf, NumbersWith, NumbersSay}
 use Rattle.foreign_numbers.specs.Lent.{NumbersFound}
 
 module _ (file : List ℕ) (y : Read) (e : y ≡ read_of (read_plant file)) (r : PlaceNumbers) where

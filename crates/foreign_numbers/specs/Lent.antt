@@ -3,8 +3,7 @@ use Rattle.std.specs.Prelude.{List, ℤ, ℕ, ◌≤◌, length}
 use Rattle.num_bytes.specs.Bytes.{over}
 use Rattle.plant_def.specs.Limits.{places}
 use Rattle.num_lent.specs.Lending.{Lending}
-use Rattle.foreign_def.specs.declared.PlaceNumbers.{PlaceNumbers}
-use Rattle.foreign_def.specs.Numbers.{no_numbers, numbers_in, NumbersSay}
+use Rattle.foreign_def.specs.Numbers.{PlaceNumbers, no_numbers, numbers_in, NumbersSay}
 
 -- What an answer shows: number and count, and the numbers at the front of the slice, the rest as it was. (A refusal has no numbers: the
 -- slice is as it was.)

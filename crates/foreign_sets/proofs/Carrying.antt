@@ -14,8 +14,10 @@ use lib.Seq.{get_or-set_same, get_or-set_other}
 use mir.Syntax.{w64}
 use mir.Val.{SFits, to_z, of_z}
 use mir.ValLaws.{to_z-of_z}
-use borrow.Author.Tests.{eq-eqb, ne_eqb}
+use mathlib.Core.Logic.{◌↔◌}
+use borrow.Author.Tests.{eq-eqb, ne_eqb, eqb-true}
 use Rattle.num_bytes.specs.Choice.{pick}
+use Rattle.num_bytes.proofs.Tests.{same_test}
 use Rattle.plant_def.specs.declared.Stream.{Stream}
 use Rattle.plant_def.specs.declared.Plant as Arrays
 use Rattle.plant_def.specs.Limits.{places, max_streams}
@@ -35,7 +37,7 @@ use Rattle.flow_def.proofs.Labels.{label_low}
 use Rattle.flow_def.proofs.Nets.{inside}
 use Rattle.num_bytes.proofs.Lists.{values_at}
 use Rattle.num_bytes.proofs.Integers.{up_neg, dn_neg, size_val, size_none, canon, Z_diff, plus_size}
-use Rattle.flow_def.proofs.Certified.{every_all, every_off}
+use Rattle.flow_def.proofs.Certified.{every_all, every_at}
 use Rattle.solve_def.specs.Sizes.{flow_shift}
 use Rattle.sheet_def.specs.Calls.{AllSmall}
 use Rattle.sheet_def.specs.Sheets.{known}
@@ -186,14 +188,6 @@ withheld_at p a classes e k l =
     let b : k < max_streams = omega (arith, a.within.few_streams) in
     ap (λ (c : Class). not (known c)) (ap (λ (cs : List Class). get_or cs k Adjusted) e ∙ values_at (class_of (plant_of p)) Adjusted max_streams k b)
 
--- The bits of 0.
-pub no_bits : (z : ℤ) → SFits w64 z → of_z w64 z ≡ 0 → z ≡ pos 0
-no_bits z f e = sym (to_z-of_z w64 z f) ∙ ap (to_z w64) e
-
--- The bits of 0.
-pub bits_none : (z : ℤ) → z ≡ pos 0 → of_z w64 z ≡ 0
-bits_none z e = ap (of_z w64) e
-
 -- All nets.
 pub label_places : (p : Arrays.Plant) → Accepted p → (counts : Counting) (labels : List ℕ) → labels ≡ labels_of counts (plant_of p) → ArePlaces labels
 label_places p a counts labels e u l =
@@ -204,14 +198,12 @@ module _ (ss : List Stream) (x : ℕ → ℤ) (labels given : List ℕ) (e : lab
   at : (v : ℕ) → v < places → get_or nets v (pos 0) ≡ net_by given ss x v
   at v l = h v l ∙ ap (λ (ls : List ℕ). net_by ls ss x v) e
 
-  -- One net is not 0.
-  pub net_off : (v : ℕ) → v < places → (get_or nets v (pos 0) ≡ pos 0 → ⊥) → false ≡ nets_fit given ss x
+  -- The test of all nets.
+  pub nets_tested : (b : Bool) → length nets ≡ places → (b ≡ true ↔ ((v : ℕ) → v < length nets → get_or nets v (pos 0) ≡ pos 0)) → b ≡ nets_fit given ss x
   unfolding nets_fit
-  net_off v l n =
-      sym (every_off places (λ v. eqb (nat_abs (net_by given ss x v)) 0) v l
-      (ne_eqb (nat_abs (net_by given ss x v)) 0 (λ q. n (at v l ∙ size_none (net_by given ss x v) q))))
-
-  -- All nets are 0.
-  pub nets_none : (m : ℕ) → places ≤ m → ((v : ℕ) → v < m → get_or nets v (pos 0) ≡ pos 0) → true ≡ nets_fit given ss x
-  unfolding nets_fit
-  nets_none m b all = sym (every_all places (λ v. eqb (nat_abs (net_by given ss x v)) 0) (λ v l. eq-eqb (nat_abs (net_by given ss x v)) 0 (ap nat_abs (sym (at v l) ∙ all v (omega arith)))))
+  nets_tested b l t = same_test b _
+      (λ y. every_all places none (λ v m. eq-eqb (nat_abs (net_by given ss x v)) 0 (ap nat_abs (sym (at v m) ∙ t.0 y v (rw l m)))))
+      (λ y. t.1 (λ v m. at v (omega (arith, l, m)) ∙ size_none (net_by given ss x v) (eqb-true _ 0 (every_at places none y v (omega (arith, l, m))))))
+    where
+      none : ℕ → Bool
+      none v = eqb (nat_abs (net_by given ss x v)) 0

@@ -1,7 +1,7 @@
 // The sets of places that W streams join, by labels, and the known flows into each, less those out of it.
 #![tactic(auto)]
 
-ghost use Rattle.std.specs.Prelude.{◌≡◌, not, ◌<◌, length};
+ghost use Rattle.std.specs.Prelude.{◌≡◌, not, ◌<◌, ◌↔◌, IsTrue, EachIndex, pos, get_or, length};
 ghost use Rattle.plant_def.specs.Limits.{places};
 ghost use Rattle.plant_def.specs.Within.{Accepted};
 ghost use Rattle.plant_def.specs.Says.{plant_of};
@@ -20,12 +20,7 @@ use plant_def::limits::{MAX_STREAMS, PLACES};
 fn is_withheld(class: Class) -> bool
     ensures { result ≡ not (known class) }
 {
-    match class {
-        Class::Adjusted => false,
-        Class::AsRead => false,
-        Class::Given => false,
-        Class::Withheld => true,
-    }
+    matches!(class, Class::Withheld)
 }
 
 // The labels by the W streams.
@@ -33,15 +28,9 @@ fn labels_by(p: Plant, classes: [Class; MAX_STREAMS]) -> [u8; PLACES]
     requires { Accepted p × (classes ≡ classes_of (plant_of p)) }
     ensures { result ≡ labels_of (withheld_only (plant_of p)) (plant_of p) }
 {
-    let n = p.count as usize;
     let mut labels = own_numbers();
-    let mut j: usize = 0;
-    while j < n {
-        let s = p.streams[j];
-        let class = classes[j];
-        let c = is_withheld(class);
-        step(&mut labels, s, c);
-        j += 1;
+    for j in 0..p.count as usize {
+        step(&mut labels, p.streams[j], is_withheld(classes[j]));
     }
     labels
 }
@@ -62,17 +51,21 @@ fn nets_by(p: Plant, labels: [u8; PLACES], flows: [i64; MAX_STREAMS]) -> [i64; P
     requires { Accepted p × AllSmall flows × ArePlaces labels }
     ensures { Nets labels (plant_of p).streams (amount_at flows) result }
 {
-    let n = p.count as usize;
     let mut nets = [0i64; PLACES];
-    let mut i: usize = 0;
-    while i < n {
+    for i in 0..p.count as usize {
         let s = p.streams[i];
         let u = s.from as usize;
         let v = s.to as usize;
         carry(&mut nets, labels[v], labels[u], flows[i]);
-        i += 1;
     }
     nets
+}
+
+// Whether all nets are 0.
+fn none_over(nets: &[i64; PLACES]) -> bool
+    ensures { IsTrue result ↔ EachIndex nets.now (λ k. get_or nets.now k (pos 0) ≡ pos 0) }
+{
+    nets.iter().all(|net| *net == 0)
 }
 
 // All nets are 0.
@@ -82,12 +75,5 @@ pub fn nets_fit(p: Plant, classes: [Class; MAX_STREAMS], flows: [i64; MAX_STREAM
 {
     let labels = labels_by(p, classes);
     let nets = nets_by(p, labels, flows);
-    let mut v: usize = 0;
-    while v < PLACES {
-        if nets[v] != 0 {
-            return false;
-        }
-        v += 1;
-    }
-    true
+    none_over(&nets)
 }

@@ -1,74 +1,22 @@
--- Tests of one stream, by their branches; and its bounds in 64 bits.
-use mathlib.Core.Path.{◌≡◌, refl, ap, ap₂, ◌∙◌, sym}
+-- The tests of one stream, one after the other; and its bounds in 64 bits.
+use mathlib.Core.Path.{◌≡◌, ap, ap₂}
 use mathlib.Core.Bool.{Bool, true, false, not, ◌&&◌, ◌||◌}
 use lib.IntN.{ℤ, pos, nat_abs, ◌-ℤ◌, ◌*ℤ◌}
-use lib.Signed.{lt_z, le_z}
+use lib.Signed.{le_z}
 use Prim.Native.Nat.{ℕ, ◌+◌, ◌*◌, ◌^◌, ◌≤◌}
 use native.Mathlib.Nat.{mul-le-mul}
 use native.Mathlib.Omega.{arith}
-use mir.Syntax.{w32, w64}
+use mir.Syntax.{w64}
 use mir.Val.{SFits, to_z, of_z}
 use mir.ValLaws.{to_z-of_z}
 use mir.Facts.{to_z_pos}
-use borrow.Author.Tests.{not-true, not-false}
-use Rattle.num_bytes.proofs.Tests.{by_cases, clash}
 use Rattle.plant_def.specs.declared.Stream.{Stream}
 use Rattle.plant_def.specs.Limits.{max_weight}
-use Rattle.plant_def.specs.Plants.{limited}
 use Rattle.flow_def.specs.Flows.{in_range}
-use Rattle.flow_def.specs.Certificate.{weight_of, rises, falls, least_climb, most_climb}
-use Rattle.num_bytes.proofs.Integers.{size_val, product, one_times, lt_z_lt, le_le_z, le_z_le, lt_lt_z, Le-unless}
-use Rattle.solve_def.proofs.Weights.{wide}
-use Rattle.sheet_def.specs.Calls.{Small}
-use Rattle.sheet_cost.proofs.Costing.{size_fits, reading_size, minus_size}
+use Rattle.flow_def.specs.Certificate.{rises, falls, least_climb, most_climb}
+use Rattle.num_bytes.proofs.Integers.{size_val, product}
+use Rattle.sheet_cost.proofs.Costing.{size_fits}
 use Rattle.foreign_def.specs.Test.{flow_fits}
-
--- A number that came through 32 and 64 bits.
-pub widened : (z : ℤ) → SFits w32 z → to_z w64 (of_z w64 (to_z w32 (of_z w32 z))) ≡ z
-widened z f = rw (to_z-of_z w32 z f, to_z-of_z w64 z (wide z f)) refl
-
--- A number of 32 bits fits 64.
-pub widens : (z : ℤ) → SFits w32 z → SFits w64 (to_z w32 (of_z w32 z))
-widens z f = rw (to_z-of_z w32 z f) (wide z f)
-
--- In range, by the branches.
-module _ (s : Stream) (x : ℤ) where
-  -- Without a range any amount is in range.
-  pub unlimited : limited s ≡ false → true ≡ in_range 1 s x
-  unlimited e = rw e
-
-  module _ (e : limited s ≡ true) where
-    -- Below the low end it is not in range.
-    pub under_low : lt_z x s.low ≡ true → false ≡ in_range 1 s x
-    under_low t =
-        by_cases (le_z s.low x)
-        (λ u. absurd (omega (arith, lt_z_lt x s.low t, le_z_le s.low x u)))
-        (λ u. rw (e, one_times s.low, u))
-
-    -- From the low end up the high end decides.
-    pub from_low : lt_z x s.low ≡ false → le_z x s.high ≡ in_range 1 s x
-    from_low t =
-        by_cases (le_z s.low x)
-        (λ u. rw (e, one_times s.low, one_times s.high, u))
-        (λ u. absurd (none u))
-      where
-        none : le_z s.low x ≡ false → ⊥
-        none u = clash (le_z s.low x) (le_le_z s.low x (Le-unless s.low x (λ l. clash (lt_z x s.low) (lt_lt_z x s.low l) t))) u
-
--- A test t that is asked only where b holds: r, which came of b, does not,
-pub waived : (b r t : Bool) → r ≡ b → not r ≡ true → true ≡ (not b || t)
-waived b r t e n = rw (sym e ∙ not-true r n)
-
--- or it does.
-pub asked : (b r : Bool) {t u : Bool} → r ≡ b → not r ≡ false → t ≡ u → t ≡ (not b || u)
-asked b r e n q = rw (sym e ∙ not-false r n) q
-
--- A bound that the code holds, worked out from the weight and the correction that it holds, is the stream's.
-pub bound_held : (bound : ℕ → ℤ → ℤ) (s : Stream) (x : ℤ) (w : ℕ) (d b : ℤ) → SFits w64 x → SFits w32 s.reading → SFits w64 d → SFits w64 b
-    → w ≡ weight_of s → d ≡ to_z w64 (of_z w64 x) -ℤ to_z w32 (of_z w32 s.reading) → b ≡ bound w (to_z w64 (of_z w64 d))
-    → to_z w64 (of_z w64 b) ≡ bound (weight_of s) (x -ℤ s.reading)
-bound_held bound s x w d b fx fr fd fb ew ed q =
-    to_z-of_z w64 b fb ∙ q ∙ ap₂ bound ew (to_z-of_z w64 d fd ∙ ed ∙ ap₂ ◌-ℤ◌ (to_z-of_z w64 x fx) (to_z-of_z w32 s.reading fr))
 
 -- The three tests, one after the other.
 module _ (s : Stream) (x c : ℤ) where
@@ -95,10 +43,6 @@ module _ (s : Stream) (x c : ℤ) where
     where
       go : (a b d : Bool) → a ≡ true → b ≡ true → d ≡ (a && (b && d))
       go a b d p q = rw (p, q)
-
--- Small numbers fit.
-pub correction_size : (x z y : ℤ) → Small x → SFits w32 z → y ≡ x -ℤ z → nat_abs y ≤ 2 ^ 47
-correction_size x z y h f e = rw e (omega (arith, minus_size x z, reading_size z f))
 
 times_size : (w : ℕ) (y : ℤ) → nat_abs (pos w *ℤ y) ≡ w * nat_abs y
 times_size w y = omega (arith, size_val (pos w *ℤ y), product w y, ap (λ k. w * k) (size_val y))

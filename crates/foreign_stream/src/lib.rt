@@ -17,41 +17,26 @@ use plant_def::Stream;
 fn has_range(s: Stream) -> bool
     ensures { result ≡ limited s }
 {
-    if s.metered {
-        return s.ranged;
-    }
-    false
+    s.metered && s.ranged
 }
 
 // Whether a flow lies in the stream's range; whether less than it does, and more.
 fn in_range(s: Stream, x: i64) -> bool
     ensures { result ≡ in_range 1 s x }
 {
-    if !has_range(s) {
-        return true;
-    }
-    if x < s.low as i64 {
-        return false;
-    }
-    x <= s.high as i64
+    !has_range(s) || (s.low as i64 <= x && x <= s.high as i64)
 }
 
 fn may_fall(s: Stream, x: i64) -> bool
     ensures { result ≡ falls s x }
 {
-    if !has_range(s) {
-        return true;
-    }
-    (s.low as i64) < x
+    !has_range(s) || x > s.low as i64
 }
 
 fn may_rise(s: Stream, x: i64) -> bool
     ensures { result ≡ rises s x }
 {
-    if !has_range(s) {
-        return true;
-    }
-    x < s.high as i64
+    !has_range(s) || x < s.high as i64
 }
 
 // The weight of a stream, 0 without a meter.
@@ -93,26 +78,14 @@ fn from_bottom(s: Stream, x: i64, difference: i64) -> bool
     requires { WithinStream max_units s × Small x }
     ensures { result ≡ (not (falls s x) || le_z (least_climb s x) difference) }
 {
-    if !may_fall(s, x) {
-        return true;
-    }
-    let weight = weight_of(s);
-    let d = correction(x, s.reading);
-    let bottom = bottom_of(weight, d);
-    bottom <= difference
+    !may_fall(s, x) || bottom_of(weight_of(s), correction(x, s.reading)) <= difference
 }
 
 fn to_top(s: Stream, x: i64, difference: i64) -> bool
     requires { WithinStream max_units s × Small x }
     ensures { result ≡ (not (rises s x) || le_z difference (most_climb s x)) }
 {
-    if !may_rise(s, x) {
-        return true;
-    }
-    let weight = weight_of(s);
-    let d = correction(x, s.reading);
-    let top = top_of(weight, d);
-    difference <= top
+    !may_rise(s, x) || difference <= top_of(weight_of(s), correction(x, s.reading))
 }
 
 // A stream with this flow and this difference of the numbers at its ends.
@@ -120,11 +93,5 @@ pub fn flow_fits(s: Stream, x: i64, difference: i64) -> bool
     requires { WithinStream max_units s × Small x }
     ensures { result ≡ flow_fits s x difference }
 {
-    if !in_range(s, x) {
-        return false;
-    }
-    if !from_bottom(s, x, difference) {
-        return false;
-    }
-    to_top(s, x, difference)
+    in_range(s, x) && from_bottom(s, x, difference) && to_top(s, x, difference)
 }

@@ -18,36 +18,17 @@ stream c =
     meter_at a.from.now a.to.now a.metered.now a.weight.now a.reading.now
 
 pub loop-k-init : goal.loop-k-init
-loop-k-init c = (omega arith, length-replicate {A = WideStream} max_streams c.none-none.result, below_none _)
+loop-k-init c = (length-replicate {A = WideStream} max_streams c.default-streams.result, below_none _)
 
 room : (c : In-loop-k) → c.loop-k.k < max_streams
 room c = omega (arith, c.requires.0, c.loop-k-test.true)
 
-pub meter_at-s-requires : goal.meter_at-s-requires
-meter_at-s-requires c =
-    let p = c.requires in
-    let l = c.loop-k-test.true in
-    (omega (arith, p.1), omega (arith, p.2), omega (arith, p.3), omega (arith, p.4), omega (arith, p.5))
-
-pub offset_bounds-streams-k : goal.offset_bounds-streams-k
-offset_bounds-streams-k c = let t = room (goal.at.offset_bounds-streams-k c).In-loop-k in record { fits = omega arith }
-
-pub bounds-streams-k : goal.bounds-streams-k
-bounds-streams-k c = room (goal.at.bounds-streams-k c).In-loop-k
-
-pub overflow_add-k : goal.overflow_add-k
-overflow_add-k c = let t = room (goal.at.overflow_add-k c).In-loop-k in record { fits = omega arith }
-
-pub loop-k-smaller : goal.loop-k-smaller
-loop-k-smaller c = omega (arith, c.loop-k-test.true)
-
 pub loop-k-preserved : goal.loop-k-preserved
 loop-k-preserved c =
     let at = c.loop-k in (
-      omega (arith, c.loop-k-test.true),
-      length-set at.streams at.k _ ∙ at.invariant.1,
-      C.gathered_more at.streams (stream (goal.at.loop-k-preserved c).At-loop-k) at.k c.meter_at-s.result (rw at.invariant.1 (room (goal.at.loop-k-preserved c).In-loop-k)) at.invariant.2 c.meter_at-s.ensures,
+      length-set at.streams at.k _ ∙ at.invariant.0,
+      C.gathered_more at.streams (stream (goal.at.loop-k-preserved c).At-loop-k) at.k c.meter_at.result (rw at.invariant.0 (room (goal.at.loop-k-preserved c).In-loop-k)) at.invariant.1 c.meter_at.ensures,
     )
 
 pub returns : goal.returns
-returns c = λ k l. c.loop-k.invariant.2 k (omega (arith, l, c.loop-k-test.false))
+returns c = λ k l. c.loop-k.invariant.1 k (omega arith)

@@ -1,6 +1,6 @@
 -- By the four tests in their order.
 use mathlib.Core.Path.{◌≡◌, sym, ◌∙◌, ap}
-use mathlib.Core.Bool.{true, false}
+use mathlib.Core.Bool.{true}
 use Prim.Native.Nat.{ℕ, suc}
 use native.Mathlib.Numerals.{add-one}
 use Rattle.certify_def.specs.Number.{max_wide_flow, max_wide_number}

@@ -3,7 +3,7 @@ use mathlib.Core.Path.{◌≡◌}
 use mathlib.Core.Bool.{Bool, true}
 use mathlib.Core.List.{List}
 use lib.IntN.{ℤ, nat_abs}
-use Prim.Native.Nat.{ℕ, ◌<◌, ◌-◌}
+use Prim.Native.Nat.{ℕ, ◌<◌}
 use lib.Dec.{leb}
 use Rattle.flow_def.specs.Flows.{amount_at}
 use Rattle.certify_flows.proofs.all_small.Given as goal
@@ -11,8 +11,5 @@ use Rattle.certify_flows.proofs.all_small.Given as goal
 abbrev pub test : List ℤ → ℕ → ℕ → Bool
 test zs limit k = leb (nat_abs (amount_at zs k)) limit
 
-abbrev pub invariant-loop-i : goal.invariant-loop-i
-invariant-loop-i l = (j : ℕ) → j < l.i → test l.zs l.limit j ≡ true
-
-abbrev pub decreases-loop-i : goal.decreases-loop-i
-decreases-loop-i l = l.count - l.i
+abbrev pub invariant-loop-z : goal.invariant-loop-z
+invariant-loop-z l = (j : ℕ) → j < l.z-index → test l.zs l.limit j ≡ true

@@ -1,6 +1,5 @@
 -- After i turns the first i flows fit.
 use mathlib.Core.Path.{◌≡◌, sym, ◌∙◌, ap₂}
-use mathlib.Core.Bool.{true}
 use lib.IntN.{pos}
 use native.Mathlib.Omega.{arith}
 use Prim.Native.Nat.{◌<◌}
@@ -65,8 +64,8 @@ pub returns-then-not-flow_fits : goal.returns-then-not-flow_fits
 unfolding flows_fit
 returns-then-not-flow_fits c =
     let a = c.args in
-    one_fails a.count (test a.streams a.flow.now a.numbers.now) c.loop-i.i c.flow_fits.result c.loop-i-test.true (tested (goal.at.returns-then-not-flow_fits c).After-flow_fits)
-    (c.if-not-flow_fits.true)
+    one_fails a.count (test a.streams a.flow.now a.numbers.now) c.loop-i.i c.loop-i-test.true
+    (sym (tested (goal.at.returns-then-not-flow_fits c).After-flow_fits) ∙ c.if-not-flow_fits.true)
 
 pub loop-i-preserved : goal.loop-i-preserved
 loop-i-preserved c = below_more _ _ c.loop-i.invariant (sym (tested (goal.at.loop-i-preserved c).After-flow_fits) ∙ c.if-not-flow_fits.false)
@@ -75,7 +74,7 @@ pub returns : goal.returns
 unfolding flows_fit
 returns c =
     let a = c.args in
-    none_fails a.count (test a.streams a.flow.now a.numbers.now) c.loop-i.i c.loop-i-test.false c.loop-i.invariant
+    none_fails a.count (test a.streams a.flow.now a.numbers.now) c.loop-i.i (omega arith) c.loop-i.invariant
 
 pub loop-i-init : goal.loop-i-init
 loop-i-init c = below_none _

@@ -3,7 +3,7 @@ use mathlib.Core.Path.{◌≡◌}
 use mathlib.Core.Bool.{Bool, true}
 use mathlib.Core.List.{List}
 use lib.IntN.{ℤ}
-use Prim.Native.Nat.{ℕ, ◌<◌, ◌-◌}
+use Prim.Native.Nat.{ℕ, ◌<◌}
 use Rattle.flow_def.specs.Flows.{amount_at}
 use Rattle.flow_def.specs.Certificate.{climb, listed_potential}
 use Rattle.foreign_def.specs.Test.{flow_fits}
@@ -16,6 +16,3 @@ test streams flow numbers k = flow_fits (wide_at streams k) (amount_at flow k) (
 
 abbrev pub invariant-loop-i : goal.invariant-loop-i
 invariant-loop-i l = (j : ℕ) → j < l.i → test l.streams l.flow l.numbers j ≡ true
-
-abbrev pub decreases-loop-i : goal.decreases-loop-i
-decreases-loop-i l = l.count - l.i

@@ -3,7 +3,7 @@ use mathlib.Core.Path.{◌≡◌}
 use mathlib.Core.Bool.{Bool, true}
 use mathlib.Core.List.{List}
 use lib.IntN.{ℤ, nat_abs}
-use Prim.Native.Nat.{ℕ, suc, ◌<◌, ◌-◌}
+use Prim.Native.Nat.{ℕ, suc, ◌<◌}
 use lib.Dec.{eqb}
 use Rattle.flow_def.specs.Flows.{amount_at}
 use Rattle.certify_def.specs.declared.WideStream.{WideStream}
@@ -15,6 +15,3 @@ test streams flow count u = eqb (nat_abs (net_to (wide_at streams) (amount_at fl
 
 abbrev pub invariant-loop-u : goal.invariant-loop-u
 invariant-loop-u l = (j : ℕ) → j < l.u → test l.streams l.flow l.count j ≡ true
-
-abbrev pub decreases-loop-u : goal.decreases-loop-u
-decreases-loop-u l = l.units - l.u

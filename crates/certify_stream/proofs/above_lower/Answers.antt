@@ -8,9 +8,6 @@ use mir.ValLaws.{to_z-of_z}
 use Rattle.certify_stream.proofs.Widths as W
 use Rattle.certify_stream.proofs.above_lower.Goals as goal
 
-pub overflow_add-difference : goal.overflow_add-difference
-overflow_add-difference c = W.sum_fits c.args.weight c.args.difference c.requires.1 c.ranges.difference c.requires.2
-
 pub returns : goal.returns
 returns c =
     let a = c.args in

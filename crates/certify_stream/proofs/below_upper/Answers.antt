@@ -6,12 +6,6 @@ use Prim.Native.Nat.{◌*◌}
 use Rattle.certify_stream.proofs.Widths as W
 use Rattle.certify_stream.proofs.below_upper.Goals as goal
 
-pub overflow_sub-d : goal.overflow_sub-d
-overflow_sub-d c = W.turned_fits c.args.d c.ranges.d c.requires.2
-
-pub overflow_sub-weight : goal.overflow_sub-weight
-overflow_sub-weight c = W.rest_fits c.args.weight c.args.difference c.requires.1 c.ranges.difference c.requires.3
-
 pub returns : goal.returns
 returns c =
     let a = c.args in

@@ -7,7 +7,7 @@ use lib.IntN.{ℤ, pos}
 use lib.Dec.{eqb}
 use mathlib.Core.Path.{◌≡◌}
 use Rattle.num_bytes.specs.Choice.{pick}
-use Rattle.certify_stream.proofs.Widths.{ends_fit, ends_is}
+use Rattle.certify_stream.proofs.Widths.{ends_is}
 use borrow.Author.Rules.{rules}
 use Rattle.certify_stream.proofs.brought_to.Goals as goal
 use Rattle.certify_stream.proofs.brought_to.Goals.{After-end_at-into, After-end_at-out}
@@ -19,13 +19,6 @@ out_is : (c : After-end_at-out) → let a = c.args in c.end_at-out.result ≡ pi
 out_is c =
     let a = c.args in
     c.end_at-out.ensures ∙ ap (λ (z : ℤ). pick (eqb a.s.from a.u) z (pos 0)) (to_z-of_z w64 a.x c.ranges.x)
-
-pub overflow_sub-result : goal.overflow_sub-result
-overflow_sub-result c =
-    let f : SFits w64 c.end_at-into.result = search rules in
-    let g : SFits w64 c.end_at-out.result = search rules in
-    let a = c.args in
-    ends_fit (eqb a.s.to a.u) (eqb a.s.from a.u) a.x c.end_at-into.result c.end_at-out.result c.requires f g (into_is (goal.at.overflow_sub-result c).After-end_at-into) (out_is c)
 
 pub returns : goal.returns
 returns c =

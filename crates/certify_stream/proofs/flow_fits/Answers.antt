@@ -1,42 +1,37 @@
--- By the three tests in their order.
-use mathlib.Core.Path.{◌≡◌, sym, ◌∙◌, ap, ap₂}
-use mathlib.Core.Bool.{not, ◌||◌}
-use lib.IntN.{ℤ}
+-- The three tests, one after the other.
+use mathlib.Core.Path.{◌≡◌, ◌∙◌}
+use mathlib.Core.Bool.{true, false, not, ◌||◌}
 use lib.Signed.{le_z}
-use mir.Syntax.{w64}
-use mir.ValLaws.{to_z-of_z}
+use borrow.Author.Rules.{rules}
+use Rattle.num_bytes.proofs.Tests.{clash}
 use Rattle.flow_def.specs.Flows.{in_range}
-use Rattle.flow_def.specs.Certificate.{least_climb, most_climb, falls, rises}
+use Rattle.flow_def.specs.Certificate.{rises, falls, least_climb, most_climb}
 use Rattle.foreign_stream.proofs.Fitting as F
 use Rattle.certify_def.specs.Test.{plainly}
 use Rattle.certify_stream.proofs.flow_fits.Goals as goal
-use Rattle.certify_stream.proofs.flow_fits.Goals.{After-from_bottom, After-in_range}
+use Rattle.certify_stream.proofs.flow_fits.Goals.{then-in_range, else-in_range}
 
--- What the two tests before the last one say.
-ranged : (c : After-in_range) → c.in_range.result ≡ in_range 1 (plainly c.args.s) c.args.x
-ranged c = c.in_range.ensures ∙ ap (in_range 1 (plainly c.args.s)) (to_z-of_z w64 c.args.x c.ranges.x)
+pub returns-then-from_bottom : goal.returns-then-from_bottom
+returns-then-from_bottom c =
+    let a = c.args in
+    elim c.if-in_range.branch [
+      | then-in_range w ↦
+          let e : in_range 1 (plainly a.s) a.x ≡ true = search rules in
+          let f : (not (falls (plainly a.s) a.x) || le_z (least_climb (plainly a.s) a.x) a.difference) ≡ true = search rules in
+          let t : c.to_top.result ≡ (not (rises (plainly a.s) a.x) || le_z a.difference (most_climb (plainly a.s) a.x)) = search rules in
+          t ∙ F.by_top (plainly a.s) a.x a.difference e f
+      | else-in_range w ↦ clash c.if-in_range.value c.if-from_bottom.true (w.value-is ∙ w.if-in_range.false)
+    ]
 
-kept_low : (c : After-from_bottom)
-    → let a = c.args in
-    c.from_bottom.result ≡ (not (falls (plainly a.s) a.x) || le_z (least_climb (plainly a.s) a.x) a.difference)
-kept_low c =
-    c.from_bottom.ensures
-    ∙ ap₂ (λ (x y : ℤ). not (falls (plainly c.args.s) x) || le_z (least_climb (plainly c.args.s) x) y) (to_z-of_z w64 c.args.x c.ranges.x)
-    (to_z-of_z w64 c.args.difference c.ranges.difference)
-
-pub returns-then-not-in_range : goal.returns-then-not-in_range
-returns-then-not-in_range c =
-    F.out_of_range (plainly c.args.s) c.args.x c.args.difference (sym (ranged (goal.at.returns-then-not-in_range c).After-in_range) ∙ c.if-not-in_range.true)
-
-pub returns-then-not-from_bottom : goal.returns-then-not-from_bottom
-returns-then-not-from_bottom c =
-    F.under_bottom (plainly c.args.s) c.args.x c.args.difference
-    (sym (ranged (goal.at.returns-then-not-from_bottom c).After-in_range) ∙ c.if-not-in_range.false) (sym (kept_low (goal.at.returns-then-not-from_bottom c).After-from_bottom) ∙ c.if-not-from_bottom.true)
-
-pub returns : goal.returns
-returns c =
-    c.to_top.ensures
-    ∙ ap₂ (λ (x y : ℤ). not (rises (plainly c.args.s) x) || le_z y (most_climb (plainly c.args.s) x)) (to_z-of_z w64 c.args.x c.ranges.x)
-    (to_z-of_z w64 c.args.difference c.ranges.difference)
-    ∙ F.by_top (plainly c.args.s) c.args.x c.args.difference
-    (sym (ranged (goal.at.returns c).After-in_range) ∙ c.if-not-in_range.false) (sym (kept_low (goal.at.returns c).After-from_bottom) ∙ c.if-not-from_bottom.false)
+pub returns-else-from_bottom : goal.returns-else-from_bottom
+returns-else-from_bottom c =
+    let a = c.args in
+    elim c.if-in_range.branch [
+      | then-in_range w ↦
+          let e : in_range 1 (plainly a.s) a.x ≡ true = search rules in
+          let f : (not (falls (plainly a.s) a.x) || le_z (least_climb (plainly a.s) a.x) a.difference) ≡ false = search rules in
+          c.if-from_bottom.false ∙ F.under_bottom (plainly a.s) a.x a.difference e f
+      | else-in_range w ↦
+          let e : in_range 1 (plainly a.s) a.x ≡ false = search rules in
+          w.value-is ∙ w.if-in_range.false ∙ F.out_of_range (plainly a.s) a.x a.difference e
+    ]

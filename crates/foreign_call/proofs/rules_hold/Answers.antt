@@ -26,7 +26,7 @@ recorded : (c : Else-not-records_fit)
 recorded c = sym c.records_fit.ensures ∙ c.if-not-records_fit.false
 
 small : (c : Else-not-records_fit) → AllSmall c.shown_flows-flows.result
-small c = R.records_small c.args.p c.args.kept c.args.numbers.now (shown c.before.before) (recorded c)
+small c = R.records_small c.args.p c.args.kept c.args.numbers.now (shown c.before.before.before) (recorded c)
 
 pub returns-then-not-numbers_fit : goal.returns-then-not-numbers_fit
 returns-then-not-numbers_fit c =

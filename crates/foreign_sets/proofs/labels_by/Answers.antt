@@ -14,7 +14,7 @@ step-requires c =
 
 pub loop-j-preserved : goal.loop-j-preserved
 loop-j-preserved c =
-    let counts = c.is_withheld-c.ensures ∙ C.withheld_at c.args.p c.requires.0 c.args.classes c.requires.1 _ c.loop-j-test.true in
+    let counts = c.is_withheld.ensures ∙ C.withheld_at c.args.p c.requires.0 c.args.classes c.requires.1 _ c.loop-j-test.true in
     labelled_more c.loop-j.invariant c.requires.0 c.loop-j-test.true counts c.step.ensures
 
 pub returns : goal.returns

@@ -1,5 +1,5 @@
 -- After i turns the nets are those by the first i streams.
-use mathlib.Core.Path.{refl, sym, subst}
+use mathlib.Core.Path.{sym, subst}
 use lib.IntN.{ℤ, pos}
 use Prim.Native.Nat.{◌<◌}
 use native.Mathlib.Omega.{arith}
@@ -19,7 +19,7 @@ use Rattle.foreign_sets.proofs.nets_by.Goals as goal
 use Rattle.foreign_sets.proofs.nets_by.Goals.{In-loop-i}
 
 pub loop-i-init : goal.loop-i-init
-loop-i-init c = (refl, omega arith, λ a. C.tallied_none c.args.p a c.args.labels c.args.flows _ (length-replicate {A = ℤ} places (pos 0)) (λ v l. blank_at (pos 0) places v))
+loop-i-init c = λ a. C.tallied_none c.args.p a c.args.labels c.args.flows _ (length-replicate {A = ℤ} places (pos 0)) (λ v l. blank_at (pos 0) places v)
 
 -- The stream is listed.
 listed : (c : In-loop-i) → c.loop-i.i < c.args.p.count
@@ -38,7 +38,7 @@ pub carry-requires : goal.carry-requires
 carry-requires c =
     let at = c.loop-i in
     let f : SFits w64 (get_or c.args.flows c.loop-i.i (pos 0)) = search rules in
-    let t = at.invariant.2 c.requires.0 in (
+    let t = at.invariant c.requires.0 in (
       t.long,
       c.requires.2 _ (omega (arith, (within_here (goal.at.carry-requires c).In-loop-i).to_in)),
       c.requires.2 _ (omega (arith, (within_here (goal.at.carry-requires c).In-loop-i).from_in)),
@@ -50,14 +50,11 @@ pub loop-i-preserved : goal.loop-i-preserved
 loop-i-preserved c =
     let at = c.loop-i in
     let f : SFits w64 (get_or c.args.flows c.loop-i.i (pos 0)) =
-    search rules in (
-      at.invariant.0,
-      omega (arith, listed (goal.at.loop-i-preserved c).In-loop-i),
-      λ a. C.tallied_more c.args.p a c.args.labels c.args.flows c.requires.1 at.nets at.i (listed (goal.at.loop-i-preserved c).In-loop-i) (at.invariant.2 a) _
-          _ (to_z-of_z w64 _ f) c.carry.ensures,
-    )
+    search rules in
+    λ a. C.tallied_more c.args.p a c.args.labels c.args.flows c.requires.1 at.nets at.i (listed (goal.at.loop-i-preserved c).In-loop-i) (at.invariant a) _
+    _ (to_z-of_z w64 _ f) c.carry.ensures
 
 pub returns : goal.returns
 returns c =
     let at = c.loop-i in
-    C.tallied_all c.args.p c.requires.0 c.args.labels c.args.flows at.nets at.i (omega arith) (at.invariant.2 c.requires.0)
+    C.tallied_all c.args.p c.requires.0 c.args.labels c.args.flows at.nets at.i (omega arith) (at.invariant c.requires.0)

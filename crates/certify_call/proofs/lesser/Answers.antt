@@ -1,9 +1,0 @@
--- By the test.
-use borrow.Author.Tests.{lt-ltb, le-ltb}
-use Rattle.certify_call.proofs.lesser.Goals as goal
-
-pub returns-then-a-b : goal.returns-then-a-b
-returns-then-a-b c = simp (lt-ltb _ _ c.if-a-b.true)
-
-pub returns : goal.returns
-returns c = simp (le-ltb _ _ c.if-a-b.false)
