@@ -15,10 +15,8 @@ fn rates_in(count: usize, given: &[u8]) -> [u16; MOST_RATES]
     requires { (count ≤ 128) × (2 * count ≤ length given.now) }
 {
     let mut rates = [0u16; MOST_RATES];
-    let mut k: usize = 0;
-    while k < count {
+    for k in 0..count {
         rates[k] = num_bytes::get_u16(&given[2 * k..]);
-        k += 1;
     }
     rates
 }
@@ -30,13 +28,11 @@ fn put_charge(stream: u8, cents: i64, out: &mut [u8])
     out[0] = stream;
 }
 
-fn put_charges(count: usize, streams: [u8; MAX_STREAMS], cents: [i64; MAX_STREAMS], out: &mut [u8])
-    requires { (count ≤ 96) × (length out.old ≡ 864) }
+fn put_charges(streams: &[u8], cents: &[i64], out: &mut [u8])
+    requires { (length streams.now ≤ 96) × (length cents.now ≡ length streams.now) × (length out.old ≡ 864) }
 {
-    let mut k: usize = 0;
-    while k < count {
-        put_charge(streams[k], cents[k], &mut out[9 * k..]);
-        k += 1;
+    for (k, stream) in streams.iter().enumerate() {
+        put_charge(*stream, cents[k], &mut out[9 * k..]);
     }
 }
 
@@ -48,11 +44,13 @@ fn put_bill(charges: Charges, out: &mut [u8]) -> u64
     if MAX_STREAMS < count {
         return NO_CASE;
     }
-    let streams = charges.streams;
-    let cents = charges.cents;
-    put_charges(count, streams, cents, &mut out[8..]);
+    put_charges(
+        &charges.streams[..count],
+        &charges.cents[..count],
+        &mut out[8..],
+    );
     num_bytes::put_i64(charges.bill, out);
-    told(charges.number, count, 0)
+    told(0, count, 0)
 }
 
 // So many rates, then the plant file.
@@ -60,17 +58,19 @@ fn charge_at(count: usize, given: &[u8], out: &mut [u8]) -> u64
     requires { (count ≤ 128) × (2 * count ≤ length given.now) × (length out.old ≡ 872) }
 {
     let rates = rates_in(count, given);
-    let charges = charges_of(&given[2 * count..], &rates[0..count]);
-    put_bill(charges, out)
+    match charges_of(&given[2 * count..], &rates[0..count]) {
+        Ok(charges) => put_bill(charges, out),
+        Err(refusal) => {
+            num_bytes::put_i64(0, out);
+            told(refusal.number(), 0, 0)
+        }
+    }
 }
 
 // Steam charges: handed in how many rates (2), the rates (2 each), then the plant file; the count is how many streams are charged,
 // and the slice, of 872 bytes, gets the bill (8, two's complement) and a charge for each of them; no number.
 pub fn charge(given: &[u8], out: &mut [u8]) -> u64 {
-    if out.len() != 872 {
-        return NO_CASE;
-    }
-    if given.len() < 2 {
+    if out.len() != 872 || given.len() < 2 {
         return NO_CASE;
     }
     let count = num_bytes::get_u16(given) as usize;

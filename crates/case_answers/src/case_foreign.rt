@@ -15,11 +15,8 @@ fn numbers_in(count: usize, given: &[u8]) -> [i64; MOST_NUMBERS]
     requires { (count ≤ 40) × (8 * count ≤ length given.now) }
 {
     let mut found = [0i64; MOST_NUMBERS];
-    let mut k: usize = 0;
-    while k < count {
-        let z = num_bytes::get_i64(&given[8 * k..]);
-        found[k] = z;
-        k += 1;
+    for k in 0..count {
+        found[k] = num_bytes::get_i64(&given[8 * k..]);
     }
     found
 }
@@ -37,18 +34,6 @@ fn check_at(count: usize, size: usize, given: &[u8]) -> u64
     )
 }
 
-// Whether the slice is as it was from this number on.
-fn kept_from(count: usize, slice: [i64; MOST_NUMBERS]) -> bool {
-    let mut k = count;
-    while k < MOST_NUMBERS {
-        if slice[k] != FILLING {
-            return false;
-        }
-        k += 1;
-    }
-    true
-}
-
 // Whether the first so many numbers of a slice pass: a sheet of so many bytes, then the plant file.
 fn passed(count: usize, slice: [i64; MOST_NUMBERS], size: usize, given: &[u8]) -> bool
     requires { (count ≤ 40) × (size ≤ length given.now) }
@@ -62,7 +47,7 @@ fn numbers_at(room: usize, size: usize, given: &[u8]) -> u64
     let mut slice = [FILLING; MOST_NUMBERS];
     let lent = numbers_lent(&given[size..], &mut slice[0..room]);
     let count = lent.count;
-    if MOST_NUMBERS < count || !kept_from(count, slice) {
+    if MOST_NUMBERS < count || !slice[count..].iter().all(|z| *z == FILLING) {
         return NO_CASE;
     }
     if lent.number == 0 && !passed(count, slice, size, given) {

@@ -1,5 +1,5 @@
 // Meters worth a visit, as cases try them.
-ghost use Rattle.std.specs.Prelude.{◌≤◌, length};
+ghost use Rattle.std.specs.Prelude.{◌≡◌, ◌≤◌, length};
 
 use case_files::cases::{NO_CASE, told};
 use plant_def::limits::MAX_STREAMS;
@@ -19,13 +19,11 @@ fn put_visit(stream: u8, cost: u64, out: &mut [u8])
     num_bytes::put_u64(cost, &mut out[1..]);
 }
 
-fn put_visits(count: usize, streams: [u8; MAX_STREAMS], costs: [u64; MAX_STREAMS], out: &mut [u8])
-    requires { (count ≤ 96) × (864 ≤ length out.old) }
+fn put_visits(streams: &[u8], costs: &[u64], out: &mut [u8])
+    requires { (length streams.now ≤ 96) × (length costs.now ≡ length streams.now) × (864 ≤ length out.old) }
 {
-    let mut k: usize = 0;
-    while k < count {
-        put_visit(streams[k], costs[k], &mut out[LISTED * k..]);
-        k += 1;
+    for (k, stream) in streams.iter().enumerate() {
+        put_visit(*stream, costs[k], &mut out[LISTED * k..]);
     }
 }
 
@@ -34,15 +32,16 @@ fn visits(given: &[u8], out: &mut [u8]) -> u64 {
     if out.len() < LEAST_ROOM {
         return NO_CASE;
     }
-    let found = visits_of(given);
+    let found = match visits_of(given) {
+        Ok(found) => found,
+        Err(refusal) => return told(refusal.number(), 0, 0),
+    };
     let count = found.count as usize;
     if MAX_STREAMS < count {
         return NO_CASE;
     }
-    let streams = found.streams;
-    let costs = found.costs;
-    put_visits(count, streams, costs, out);
-    told(found.number, count, 0)
+    put_visits(&found.streams[..count], &found.costs[..count], out);
+    told(0, count, 0)
 }
 
 // The call of this kind: the list, or its text.

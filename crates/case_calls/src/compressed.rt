@@ -15,10 +15,8 @@ fn potentials_of(given: &[u8]) -> [u64; PLACES]
     ensures { Potentials result }
 {
     let mut potentials = [POTENTIAL_SHIFT; PLACES];
-    let mut u: usize = 0;
-    while u < PLACES {
+    for u in 0..PLACES {
         potentials[u] = num_bytes::get_u64(&given[8 * u..]) % POTENTIALS;
-        u += 1;
     }
     potentials
 }
@@ -26,20 +24,15 @@ fn potentials_of(given: &[u8]) -> [u64; PLACES]
 fn put_potentials(potentials: [u64; PLACES], out: &mut [u8])
     requires { length out.old ≡ 264 }
 {
-    let mut u: usize = 0;
-    while u < PLACES {
-        num_bytes::put_u64(potentials[u], &mut out[8 * u..]);
-        u += 1;
+    for (u, p) in potentials.iter().enumerate() {
+        num_bytes::put_u64(*p, &mut out[8 * u..]);
     }
 }
 
 // The compression: handed in the 33 potentials of the places as they are held, 8 bytes each; the slice, of 264 bytes, gets them after it; no
 // count, no number.
 pub fn compress_up(given: &[u8], out: &mut [u8]) -> u64 {
-    if given.len() != 264 {
-        return NO_CASE;
-    }
-    if out.len() != 264 {
+    if given.len() != 264 || out.len() != 264 {
         return NO_CASE;
     }
     let mut potentials = potentials_of(given);

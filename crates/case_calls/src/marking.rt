@@ -6,7 +6,6 @@ use plant_def::limits::{MAX_STREAMS, PLACES};
 use plant_def::{Plant, Stream};
 use solve_arcs::{high_of, low_of};
 use solve_def::sizes::FLOW_SHIFT;
-use std::num::{wrapping_add_u64, wrapping_sub_u64};
 
 // 1 where a place is marked.
 fn mark(bits: u64, place: u8) -> u64 {
@@ -25,19 +24,16 @@ fn across(bits: u64, s: Stream) -> u64 {
         return 0;
     }
     if from < to {
-        return wrapping_sub_u64(low_of(s), FLOW_SHIFT);
+        return low_of(s).wrapping_sub(FLOW_SHIFT);
     }
-    wrapping_sub_u64(FLOW_SHIFT, high_of(s))
+    FLOW_SHIFT.wrapping_sub(high_of(s))
 }
 
 // Streams past the count are empty, from 0 to 0, and cross no edge.
 fn beyond(bits: u64, streams: [Stream; MAX_STREAMS]) -> u64 {
     let mut sum: u64 = 0;
-    let mut i: usize = 0;
-    while i < MAX_STREAMS {
-        let s = streams[i];
-        sum = wrapping_add_u64(sum, across(bits, s));
-        i += 1;
+    for s in &streams {
+        sum = sum.wrapping_add(across(bits, *s));
     }
     sum
 }
@@ -47,8 +43,7 @@ fn overfull(bits: u64, p: Plant) -> bool {
     if mark_past(bits, p.units) {
         return false;
     }
-    let streams = p.streams;
-    let sum = beyond(bits, streams);
+    let sum = beyond(bits, p.streams);
     0 < sum && sum < FLOW_SHIFT
 }
 
@@ -61,15 +56,10 @@ fn mark_past(bits: u64, units: u8) -> bool {
 pub fn tested(answer: u64, number: u8, file: &[u8], marked: [bool; PLACES]) -> u64 {
     let bits = bits_of(marked);
     if number == 19 {
-        let read = plant_read::read_plant(file);
-        let p = read.plant;
-        if overfull(bits, p) {
-            return answer;
-        }
-        return NO_CASE;
+        return match plant_read::read_plant(file) {
+            Ok(plant) if overfull(bits, plant) => answer,
+            _ => NO_CASE,
+        };
     }
-    if bits == 0 {
-        return answer;
-    }
-    NO_CASE
+    if bits == 0 { answer } else { NO_CASE }
 }

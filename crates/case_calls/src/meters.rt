@@ -12,10 +12,8 @@ fn prices_in(count: usize, given: &[u8]) -> [u32; MOST_PRICES]
     requires { (count ≤ 128) × (4 * count ≤ length given.now) }
 {
     let mut prices = [0u32; MOST_PRICES];
-    let mut k: usize = 0;
-    while k < count {
+    for k in 0..count {
         prices[k] = num_bytes::get_u32(&given[4 * k..]);
-        k += 1;
     }
     prices
 }
@@ -46,10 +44,8 @@ pub fn buy(given: &[u8], out: &mut [u8]) -> u64 {
 fn put_counts(counts: [u16; SURVEY_SIZE], out: &mut [u8])
     requires { length out.old ≡ 26 }
 {
-    let mut k: usize = 0;
-    while k < SURVEY_SIZE {
-        num_bytes::put_u16(counts[k], &mut out[2 * k..]);
-        k += 1;
+    for (k, count) in counts.iter().enumerate() {
+        num_bytes::put_u16(*count, &mut out[2 * k..]);
     }
 }
 
@@ -58,8 +54,14 @@ pub fn survey(given: &[u8], out: &mut [u8]) -> u64 {
     if out.len() != 26 {
         return NO_CASE;
     }
-    let layouts = survey_count::layouts_of(given);
-    let counts = layouts.counts;
-    put_counts(counts, out);
-    told(layouts.number, layouts.count as usize, 0)
+    match survey_count::layouts_of(given) {
+        Ok(layouts) => {
+            put_counts(layouts.counts, out);
+            told(0, layouts.count as usize, 0)
+        }
+        Err(e) => {
+            put_counts([0; SURVEY_SIZE], out);
+            told(e.number(), 0, 0)
+        }
+    }
 }

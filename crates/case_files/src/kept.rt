@@ -10,19 +10,15 @@ use sheet_def::{Entry, Total};
 fn put_entry(e: Entry, out: &mut [u8])
     requires { 9 ≤ length out.old }
 {
-    let class = e.class;
     num_bytes::put_i64(e.flow, &mut out[1..]);
-    out[0] = sheet_read::kind_of(class);
+    out[0] = sheet_read::kind_of(e.class);
 }
 
-fn put_entries(count: usize, streams: [Entry; MAX_STREAMS], out: &mut [u8])
-    requires { (count ≤ 96) × (length out.old ≡ 864) }
+fn put_entries(streams: &[Entry], out: &mut [u8])
+    requires { (length streams.now ≤ 96) × (length out.old ≡ 864) }
 {
-    let mut i: usize = 0;
-    while i < count {
-        let e = streams[i];
-        put_entry(e, &mut out[9 * i..]);
-        i += 1;
+    for (i, e) in streams.iter().enumerate() {
+        put_entry(*e, &mut out[9 * i..]);
     }
 }
 
@@ -42,14 +38,18 @@ pub fn kept(given: &[u8], out: &mut [u8]) -> u64 {
     if out.len() != 876 {
         return NO_CASE;
     }
-    let read = sheet_read::read_sheet(given);
+    let read = match sheet_read::read_sheet(given) {
+        Ok(read) => read,
+        Err(refusal) => {
+            out[..12].fill(0);
+            return told(refusal.number(), 0, 0);
+        }
+    };
     let count = read.count as usize;
     if MAX_STREAMS < count {
         return NO_CASE;
     }
-    let streams = read.streams;
-    put_entries(count, streams, &mut out[12..]);
-    let total = read.total;
-    put_total(total, out);
-    told(read.number, count, total.sheet)
+    put_entries(&read.streams[..count], &mut out[12..]);
+    put_total(read.total, out);
+    told(0, count, read.total.sheet)
 }

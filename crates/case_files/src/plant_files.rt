@@ -6,8 +6,9 @@ ghost use Rattle.std.specs.Prelude.{◌≡◌, ◌≤◌, length};
 
 use crate::cases::{NO_CASE, told};
 use plant_def::limits::MAX_STREAMS;
+use plant_def::refusal::Refusal;
 use plant_def::streams::unmetered_stream;
-use plant_def::{Done, Plant, Stream};
+use plant_def::{Plant, Stream};
 
 // A stream's bytes are those of a record with a range, but for the first.
 fn put_stream(s: Stream, out: &mut [u8])
@@ -20,11 +21,8 @@ fn put_stream(s: Stream, out: &mut [u8])
 fn put_streams(streams: [Stream; MAX_STREAMS], out: &mut [u8])
     requires { length out.old ≡ 1632 }
 {
-    let mut i: usize = 0;
-    while i < MAX_STREAMS {
-        let s = streams[i];
-        put_stream(s, &mut out[17 * i..]);
-        i += 1;
+    for (i, s) in streams.iter().enumerate() {
+        put_stream(*s, &mut out[17 * i..]);
     }
 }
 
@@ -33,29 +31,30 @@ pub fn reader(given: &[u8], out: &mut [u8]) -> u64 {
     if out.len() != 1632 {
         return NO_CASE;
     }
-    let read = plant_read::read_plant(given);
-    let p = read.plant;
-    let streams = p.streams;
-    put_streams(streams, out);
-    told(read.number, p.units as usize, p.count as u32)
+    match plant_read::read_plant(given) {
+        Ok(p) => {
+            put_streams(p.streams, out);
+            told(0, p.units as usize, p.count as u32)
+        }
+        Err(refusal) => {
+            out.fill(0);
+            told(refusal.number(), 0, 0)
+        }
+    }
 }
 
 fn stream_of(part: &[u8]) -> Stream
     requires { 17 ≤ length part.now }
 {
-    let weight = num_bytes::get_u16(&part[3..]);
-    let reading = num_bytes::get_i32(&part[5..]);
-    let low = num_bytes::get_i32(&part[9..]);
-    let high = num_bytes::get_i32(&part[13..]);
     Stream {
         from: part[1],
         to: part[2],
         metered: part[0] % 2 != 0,
-        weight: weight,
-        reading: reading,
+        weight: num_bytes::get_u16(&part[3..]),
+        reading: num_bytes::get_i32(&part[5..]),
         ranged: 2 <= part[0],
-        low: low,
-        high: high,
+        low: num_bytes::get_i32(&part[9..]),
+        high: num_bytes::get_i32(&part[13..]),
     }
 }
 
@@ -63,24 +62,23 @@ fn stream_of(part: &[u8]) -> Stream
 fn plant_of(given: &[u8]) -> Plant
     requires { length given.now ≡ 1634 }
 {
-    let none = unmetered_stream(0, 0);
-    let mut streams = [none; MAX_STREAMS];
-    let mut i: usize = 0;
-    while i < MAX_STREAMS {
-        let s = stream_of(&given[2 + 17 * i..]);
-        streams[i] = s;
-        i += 1;
+    let mut streams = [unmetered_stream(0, 0); MAX_STREAMS];
+    for (i, s) in streams.iter_mut().enumerate() {
+        *s = stream_of(&given[2 + 17 * i..]);
     }
     Plant {
         units: given[0],
         count: given[1],
-        streams: streams,
+        streams,
     }
 }
 
 // A plant file written: no number.
-pub fn written(d: Done) -> u64 {
-    told(d.number, d.written, 0)
+pub fn written(done: Result<usize, Refusal>) -> u64 {
+    match done {
+        Ok(size) => told(0, size, 0),
+        Err(refusal) => told(refusal.number(), 0, 0),
+    }
 }
 
 // The plant writer: handed in a plant.
@@ -88,5 +86,5 @@ pub fn writer(given: &[u8], out: &mut [u8]) -> u64 {
     if given.len() != 1634 {
         return NO_CASE;
     }
-    written(plant_write::write_plant(plant_of(given), out))
+    written(plant_write::write_plant(&plant_of(given), out))
 }

@@ -8,10 +8,8 @@ fn main(rt: HostRuntime) {
     let errors = rt.stderr();
     let fed = programs::plant_file(&rt, &errors, b"layouts");
     if fed.taken {
-        let file = fed.file;
-        let size = fed.size;
         let mut text = [0u8; LEAST_TEXT];
-        let end = survey_answers::list_layouts(&file[..size], &mut text);
+        let end = survey_answers::list_layouts(&fed.file[..fed.size], &mut text);
         programs::put_text(&rt, &errors, b"layouts", &text[..end]);
     }
 }

@@ -48,22 +48,17 @@ pub fn read_input(rt: &impl std::io::Input, file: &mut [u8]) -> Input
     let mut reader = rt.reader();
     let mut size: usize = 0;
     let mut last: isize = 0;
+    // Stays a `while`: only a read tells where the next one begins.
     while size < file.len() {
         let got = read_some(&mut reader, &mut file[size..]);
         let more = io::count(got, &file[size..]);
         last = got;
         if more == 0 {
-            return Input {
-                size: size,
-                last: last,
-            };
+            return Input { size, last };
         }
         size += more;
     }
-    Input {
-        size: size,
-        last: last,
-    }
+    Input { size, last }
 }
 
 // How many words the program was started with, its own name among them.
@@ -98,10 +93,10 @@ pub fn plant_file(rt: &(impl Env + std::io::Input), errors: &impl Print, name: &
             b": a plant file is read from standard input, and no argument is taken\n",
         );
         return Fed {
-            file: file,
+            file,
             size: 0,
             last: 0,
-            words: words,
+            words,
             taken: false,
         };
     }
@@ -111,10 +106,10 @@ pub fn plant_file(rt: &(impl Env + std::io::Input), errors: &impl Print, name: &
         complain(errors, name, b": standard input cannot be read\n");
     }
     Fed {
-        file: file,
+        file,
         size: input.size,
         last: input.last,
-        words: words,
+        words,
         taken: !failed,
     }
 }

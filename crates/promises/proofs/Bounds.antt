@@ -10,7 +10,7 @@ use lib.ListN.{length}
 use Rattle.num_bytes.specs.Choice.{refuse_if, first_of}
 use Rattle.num_bytes.proofs.Tests.{clash, picked}
 use Rattle.plant_def.specs.declared.Stream.{Stream}
-use Rattle.plant_def.specs.declared.Done.{Done}
+use Rattle.plant_def.specs.Results.{Done}
 use Rattle.plant_def.specs.Limits.{max_streams, longest_file}
 use Rattle.plant_def.specs.Plants.{Plant}
 use Rattle.plant_def.specs.Files.{Got, bad, got, read_plant}
@@ -21,11 +21,11 @@ use Rattle.plant_def.specs.Converts.{fault_of, Converts}
 use Rattle.ranged_def.specs.Moves.{narrower, narrow_fault, home, to_ranged, from_ranged}
 use Rattle.transmitter_def.specs.Says.{read_transmitter}
 use Rattle.transmitter_def.proofs.Short.{written_short}
-use Rattle.purchase_def.specs.declared.Bought.{Bought}
+use Rattle.purchase_def.specs.Results.{Bought}
 use Rattle.purchase_def.specs.Purchases.{max_price, unmetered_to, some_unfair, prices_fault}
 use Rattle.purchase_def.specs.Says.{BuyWith}
 use Rattle.purchase_def.proofs.Price.{price_most}
-use Rattle.survey_def.specs.declared.Layouts.{Layouts}
+use Rattle.survey_def.specs.Results.{Layouts}
 use Rattle.survey_def.specs.Says.{max_surveyed, SurveySays}
 use Rattle.promises.specs.Bounds.{Without19, Bounds}
 use Rattle.promises.proofs.Sent.{sent_not}

@@ -1,16 +1,16 @@
 -- What the calls give at most: numbers, lengths, prices.
 use Rattle.std.specs.Prelude.{◌≡◌, true, List, ℕ, ◌+◌, ◌*◌, ◌-◌, ◌≤◌}
 use Rattle.num_bytes.specs.Bytes.{all_bytes}
-use Rattle.plant_def.specs.declared.Done.{Done}
+use Rattle.plant_def.specs.Results.{Done}
 use Rattle.plant_def.specs.declared.Stream.{Stream}
 use Rattle.plant_def.specs.Limits.{max_streams}
 use Rattle.plant_def.specs.Says.{PartsWritten}
 use Rattle.ranged_def.specs.Moves.{ToSays, FromSays}
 use Rattle.transmitter_def.specs.Says.{TranslateSays}
-use Rattle.purchase_def.specs.declared.Bought.{Bought}
+use Rattle.purchase_def.specs.Results.{Bought}
 use Rattle.purchase_def.specs.Purchases.{max_price}
 use Rattle.purchase_def.specs.Says.{BuySays}
-use Rattle.survey_def.specs.declared.Layouts.{Layouts}
+use Rattle.survey_def.specs.Results.{Layouts}
 use Rattle.survey_def.specs.Says.{SurveySays}
 
 -- No writer, translator, move, purchase or survey gives 19: that number is of a plant that has no flow in range, and these look for none. (Nor does

@@ -28,8 +28,7 @@ pub fn call(kind: u64, number: u32, given: &[u8], out: &mut [u8]) -> u64 {
         4 => unhinted(given, out),
         5 => told(0, listing_call::list_plant(given, out), 0),
         16 => office_sheet(given, out),
-        18 => case_answers::case_foreign::call(kind, given),
-        19 => case_answers::case_foreign::call(kind, given),
+        18..=19 => case_answers::case_foreign::call(kind, given),
         _ => file_call(kind, given, out),
     }
 }

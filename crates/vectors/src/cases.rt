@@ -31,13 +31,6 @@ const GIVEN: u64 = 4_294_967_296;
 
 const KNOWN: u64 = 65_536;
 
-// What came of a case.
-pub const END: u8 = 0;
-
-pub const RIGHT: u8 = 1;
-
-pub const WRONG: u8 = 2;
-
 // Makes the call, with these bytes handed in, and lends it as much of the slice as the case says.
 fn answer(sizes: u64, number: u32, given: [u8; ROOM], slice: &mut [u8]) -> u64
     requires { length slice.old ≡ 2560 }
@@ -57,17 +50,13 @@ fn case_right(file: &mut impl Read, sizes: u64, number: u32, told: u64) -> bool 
     right && same
 }
 
-// Tries the next case of an open file; END where the file ends.
-pub fn try_next(file: &mut impl Read) -> u8 {
+// Tries the next case of an open file, and says whether it is right; None if the file ends.
+pub fn try_next(file: &mut impl Read) -> Option<bool> {
     let sizes = next_u64(file);
     if sizes == 0 {
-        return END;
+        return None;
     }
     let number = next_u32(file);
     let told = next_u64(file);
-    if case_right(file, sizes, number, told) {
-        RIGHT
-    } else {
-        WRONG
-    }
+    Some(case_right(file, sizes, number, told))
 }

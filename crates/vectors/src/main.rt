@@ -7,7 +7,7 @@ mod drawing;
 mod solving;
 
 use case_files::cases::{open_argument, say_cases, say_differs};
-use cases::{END, WRONG, try_next};
+use cases::try_next;
 use std::io;
 use std::io::Read;
 
@@ -17,15 +17,13 @@ const MOST_CASES: u64 = 10_000;
 // Tries the cases of an open file, says which differ, and counts.
 fn try_cases(rt: &impl Print, file: &mut impl Read) {
     let mut cases: u64 = 0;
-    while cases < MOST_CASES {
-        let found = try_next(file);
-        if found == END {
-            break;
+    for case in 1..=MOST_CASES {
+        match try_next(file) {
+            None => break,
+            Some(true) => (),
+            Some(false) => say_differs(rt, case),
         }
-        cases += 1;
-        if found == WRONG {
-            say_differs(rt, cases);
-        }
+        cases = case;
     }
     say_cases(rt, cases);
 }
@@ -33,12 +31,10 @@ fn try_cases(rt: &impl Print, file: &mut impl Read) {
 // The files of cases are the arguments. One that cannot be opened has no case.
 fn main(rt: HostRuntime) {
     let count = programs::word_count(&rt);
-    let mut i: usize = 1;
-    while i < count {
+    for i in 1..count {
         match open_argument(&rt, i) {
             Ok(mut file) => try_cases(&rt, &mut file),
             Err(_) => try_cases(&rt, &mut io::empty()),
         }
-        i += 1;
     }
 }

@@ -11,12 +11,10 @@ use solve_settle::no_hint;
 fn solve_file(asked: &[u8], file: &[u8], out: &mut [u8]) -> u64
     requires { (96 ≤ length asked.now) × (length out.old ≡ 768) }
 {
-    let read = plant_read::read_plant(file);
-    let number = read.number;
-    if number != 0 {
-        return told(number, 0, 0);
-    }
-    let p = read.plant;
+    let p = match plant_read::read_plant(file) {
+        Ok(p) => p,
+        Err(e) => return told(e.number(), 0, 0),
+    };
     let solved = solve_call::solve_from(p, no_hint());
     if !solved.found {
         let marked = solved.marked;

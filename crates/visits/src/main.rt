@@ -8,10 +8,8 @@ fn main(rt: HostRuntime) {
     let errors = rt.stderr();
     let fed = programs::plant_file(&rt, &errors, b"visits");
     if fed.taken {
-        let file = fed.file;
-        let size = fed.size;
         let mut text = [0u8; LEAST_TEXT];
-        let end = visit_text::list_visits(&file[..size], &mut text);
+        let end = visit_text::list_visits(&fed.file[..fed.size], &mut text);
         programs::put_text(&rt, &errors, b"visits", &text[..end]);
     }
 }

@@ -4,6 +4,7 @@
 #![tactic(auto)]
 
 ghost use Rattle.std.specs.Prelude.{◌≡◌};
+ghost use Rattle.plant_def.specs.Views.{done_as};
 ghost use Rattle.transmitter_def.specs.Says.{TranslateSays};
 ghost use Rattle.ranged_def.specs.Moves.{ToSays, FromSays};
 ghost use Rattle.survey_answers.specs.Lent.{SurveyFound};
@@ -17,6 +18,7 @@ ghost use Rattle.version.specs.Version.{version};
 ghost use Rattle.wengeludo.specs.Calls.{SheetCall, WriteCall, ReadPlantCall, ReadCall};
 
 use plant_def::Plant;
+use plant_def::refusal::{Refusal, check_number};
 use sheet_lent::balance_lent;
 
 // The version as one number: 10,000 is 1.0.0.
@@ -71,13 +73,20 @@ pub fn wengeludo_write_plant(
     let meters = plant_parts::meters_gathered(n, from, to, metered, weight, reading);
     let streams = plant_parts::ranges_gathered(n, meters, ranged, low, high);
     let plant = Plant {
-        units: units,
+        units,
         count: plant_parts::count_byte(count),
-        streams: streams,
+        streams,
     };
-    let done = plant_write::write_plant(plant, file);
-    *written = done.written;
-    done.number
+    match plant_write::write_plant(&plant, file) {
+        Ok(size) => {
+            *written = size;
+            0
+        }
+        Err(e) => {
+            *written = 0;
+            e.number()
+        }
+    }
 }
 
 // The plant reader: a plant file's units, how many streams it lists, and their parts at the front of eight slices, stream k + 1 at place k
@@ -102,16 +111,21 @@ pub fn wengeludo_read_plant(
         plant_parts::meters_reach(from, to, metered, weight, reading),
         plant_parts::ranges_reach(ranged, low, high),
     );
-    let read = plant_lent::read_lent(file, reach);
-    let plant = read.plant;
+    let plant = match plant_lent::read_lent(file, reach) {
+        Ok(plant) => plant,
+        Err(e) => {
+            *units = 0;
+            *count = 0;
+            return e.number();
+        }
+    };
     let listed = plant.count as usize;
-    let streams = plant.streams;
-    plant_lent::put_ends(listed, streams, from, to);
-    plant_lent::put_meters(listed, streams, metered, weight, reading);
-    plant_lent::put_ranges(listed, streams, ranged, low, high);
+    plant_lent::put_ends(listed, plant.streams, from, to);
+    plant_lent::put_meters(listed, plant.streams, metered, weight, reading);
+    plant_lent::put_ranges(listed, plant.streams, ranged, low, high);
     *units = plant.units;
     *count = listed;
-    read.number
+    0
 }
 
 // The sheet reader: the kinds of a sheet's stream records, which tell the classes, and the flows at the front of two slices, how
@@ -131,20 +145,42 @@ pub fn wengeludo_read_sheet(
 ) -> u8
     ensures { ReadCall bytes kinds flows count kind office sheet cost degrees verdict result }
 {
-    let read = sheet_parts::read_lent(bytes, kinds.len(), flows.len());
-    let listed = read.count as usize;
-    let streams = read.streams;
-    sheet_parts::put_kinds(listed, streams, kinds);
-    sheet_parts::put_flows(listed, streams, flows);
-    let total = read.total;
-    *count = listed;
-    *kind = total.kind;
-    *office = total.office;
-    *sheet = total.sheet;
-    *cost = total.cost;
-    *degrees = total.degrees;
-    *verdict = total.verdict;
-    read.number
+    match sheet_parts::read_lent(bytes, kinds.len(), flows.len()) {
+        Ok(read) => {
+            *count = read.count as usize;
+            sheet_parts::put_kinds(*count, read.streams, kinds);
+            sheet_parts::put_flows(*count, read.streams, flows);
+            *kind = read.total.kind;
+            *office = read.total.office;
+            *sheet = read.total.sheet;
+            *cost = read.total.cost;
+            *degrees = read.total.degrees;
+            *verdict = read.total.verdict;
+            0
+        }
+        Err(refusal) => {
+            *count = 0;
+            *kind = 0;
+            *office = 0;
+            *sheet = 0;
+            *cost = 0;
+            *degrees = 0;
+            *verdict = 0;
+            refusal.number()
+        }
+    }
+}
+
+// What a writer hands over: 0 and the bytes counted, or the refusal's number and none counted.
+fn counted(done: Result<usize, Refusal>, written: &mut usize) -> u8
+    ensures { record { number = result; written = written.new } ≡ done_as done }
+{
+    let (number, size) = match done {
+        Ok(size) => (0, size),
+        Err(refusal) => (refusal.number(), 0),
+    };
+    *written = size;
+    number
 }
 
 // The translator: the plant file that a transmitter file becomes in the slice, its bytes counted; or a refusal number, none
@@ -152,9 +188,10 @@ pub fn wengeludo_read_sheet(
 pub fn wengeludo_plant_from_transmitter(file: &[u8], plant: &mut [u8], written: &mut usize) -> u8
     ensures { TranslateSays file.now plant.old plant.new (record { number = result; written = written.new }) }
 {
-    let made = transmitter_translate::plant_from_transmitter(file, plant);
-    *written = made.written;
-    made.number
+    counted(
+        transmitter_translate::plant_from_transmitter(file, plant),
+        written,
+    )
 }
 
 // Moves a plant file to the ranged form: the moved file in the slice, its bytes counted; or a refusal number, none counted, the
@@ -162,18 +199,14 @@ pub fn wengeludo_plant_from_transmitter(file: &[u8], plant: &mut [u8], written: 
 pub fn wengeludo_to_ranged(file: &[u8], out: &mut [u8], written: &mut usize) -> u8
     ensures { ToSays file.now out.old out.new (record { number = result; written = written.new }) }
 {
-    let done = ranged_call::to_ranged(file, out);
-    *written = done.written;
-    done.number
+    counted(ranged_call::to_ranged(file, out), written)
 }
 
 // Moves a plant file home.
 pub fn wengeludo_from_ranged(file: &[u8], out: &mut [u8], written: &mut usize) -> u8
     ensures { FromSays file.now out.old out.new (record { number = result; written = written.new }) }
 {
-    let done = ranged_call::from_ranged(file, out);
-    *written = done.written;
-    done.number
+    counted(ranged_call::from_ranged(file, out), written)
 }
 
 // Meters to buy: the numbers of the streams to be metered at the front of a slice, how many they are, and what they cost
@@ -276,14 +309,20 @@ pub fn wengeludo_check_flow(
 ) -> u8
     ensures { FlowSays units count (lent_slices from to metered weight reading ranged low high) flow.now numbers.now result }
 {
-    let first = certify_call::least_of(from.len(), to.len(), metered.len(), weight.len());
-    let last = certify_call::least_of(reading.len(), ranged.len(), low.len(), high.len());
-    let reach = certify_call::lesser(first, last);
-    let fault = certify_call::call_fault(units, count, reach, flow.len(), numbers.len());
-    if fault != 0 {
-        return fault;
+    let first = from
+        .len()
+        .min(to.len())
+        .min(metered.len().min(weight.len()));
+    let last = reading
+        .len()
+        .min(ranged.len())
+        .min(low.len().min(high.len()));
+    let reach = first.min(last);
+    let call = certify_call::check_call(units, count, reach, flow.len(), numbers.len());
+    if let Err(refusal) = call {
+        return refusal.number();
     }
     let meters = certify_call::meters_gathered(count, from, to, metered, weight, reading);
     let streams = certify_call::ranges_gathered(count, meters, ranged, low, high);
-    certify_call::flow_number(units, count, streams, flow, numbers)
+    check_number(certify_call::check_flow(units, count, streams, flow, numbers))
 }

@@ -1,9 +1,0 @@
--- The index stays within the array.
-use Prim.Native.Nat.{◌-◌}
-use Rattle.case_answers.proofs.case_foreign.kept_from.Given as goal
-
-abbrev pub invariant-loop-k : goal.invariant-loop-k
-invariant-loop-k l = Unit {0}
-
-abbrev pub decreases-loop-k : goal.decreases-loop-k
-decreases-loop-k l = 40 - l.k

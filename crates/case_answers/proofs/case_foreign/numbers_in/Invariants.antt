@@ -1,9 +1,0 @@
--- The index stays within the array and the bytes handed in.
-use Prim.Native.Nat.{◌≤◌, ◌-◌}
-use Rattle.case_answers.proofs.case_foreign.numbers_in.Given as goal
-
-abbrev pub invariant-loop-k : goal.invariant-loop-k
-invariant-loop-k l = l.k ≤ l.count
-
-abbrev pub decreases-loop-k : goal.decreases-loop-k
-decreases-loop-k l = l.count - l.k

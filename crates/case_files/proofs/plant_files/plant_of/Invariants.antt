@@ -1,9 +1,0 @@
--- The index stays within the array and the bytes handed in.
-use Prim.Native.Nat.{◌≤◌, ◌-◌}
-use Rattle.case_files.proofs.plant_files.plant_of.Given as goal
-
-abbrev pub invariant-loop-i : goal.invariant-loop-i
-invariant-loop-i l = l.i ≤ 96
-
-abbrev pub decreases-loop-i : goal.decreases-loop-i
-decreases-loop-i l = 96 - l.i
