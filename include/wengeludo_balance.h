@@ -5,8 +5,8 @@
  * RISC-V packaging/cross/build.sh compiles the module of that proof. Lengths and counts have 64 bits: size_t has them on all three. In
  * WebAssembly of 32 bits size_t has fewer and the calls take 64-bit numbers all the same: see packaging/cross/lengths.h.
  * It needs nothing but the C library (memcpy, memset). The calls keep no state, allocate nothing, take less than
- * 72 KB of stack, and may run in several threads at once on memory of their own. On x86-64 they take at most 42,472 bytes of
- * stack, which is visits; balance_plant takes 38,536 and check_flow 11,664 (./dev stack has each).
+ * 72 KB of stack, and may run in several threads at once on memory of their own. On x86-64 they take at most 43,384 bytes of
+ * stack, which is charges; balance_plant takes 39,512 and check_flow 11,664 (./dev stack has each).
  *
  * What holds of every pointer here, and what no call can check:
  *   - it points to as many elements as the length beside it says (a pointer without a length: to one, never NULL);

@@ -6,8 +6,10 @@
     python3 packaging/cross/retarget.py --fused IN.s TARGET   status 1 if the assembly has a fused multiply-add
 
 What is searched: numbers made of pointers and back, pointers inside a layout, other address spaces, assembly, vectors, words that let a
-floating-point operation be joined with another, and calls of the compiler's own that are not the same on every processor.
+floating-point operation be joined with another, and calls of the compiler's own that are not the same on every processor. A pair with a
+pointer in it may be handed over and taken apart; where one is read from memory, its parts are read by the bytes that they were put at.
 """
+import math
 import re
 import sys
 
@@ -16,7 +18,7 @@ import sys
 PLAIN = re.compile(r'^llvm\.(mem(move|cpy|set)\.[a-z0-9.]+|trap|arithmetic\.fence\.f64|(cttz|ctlz|ctpop|bswap|fsh[lr]|[us](min|max)|abs)\.i\d+'
                    r'|[us](add|sub|mul)\.with\.overflow\.i\d+|[us](add|sub)\.sat\.i\d+)$')
 FOREIGN = [
-    ('a pointer made a number, or a number a pointer', re.compile(r'\b(inttoptr|ptrtoint|ptrtoaddr)\b')),
+    ('a pointer made a number, or a number a pointer', re.compile(r'\b(inttoptr|ptrtoint|ptrtoaddr)\b')),  # but for BOTH
     ('another address space', re.compile(r'\baddrspace\b')),
     ('assembly', re.compile(r'\basm\b(?!")')),
     ('a pointer inside a layout', re.compile(r'x ptr\]|\{[^}]*\bptr\b[^}]*\}|getelementptr( inbounds| nuw| nusw)* ptr,')),
@@ -25,6 +27,15 @@ FOREIGN = [
     ('floating point that may be joined', re.compile(r'\bf(add|sub|mul|div|rem|neg)( \w+)* (fast|nnan|ninf|nsz|arcp|contract|afn|reassoc)\b')),
 ]
 OWN = ' "target-cpu"="x86-64"'  # what rt writes of its processor, beside layout and triple
+# What moves a number of bytes asks how far two places are apart: an address is a number there, and no number becomes an address.
+BOTH = re.compile(r'^  %[\w.]+ = ptrtoaddr ptr %[\w.]+ to i64$')
+MOVER = 'core::ptr::copy_drop::copy_bits'
+# A pair in a register has no layout. One that is read from memory is read part by part (parted).
+PAIR = re.compile(r'^ *(?:%[\w.]+ = )?(?:(?:tail )?call|extractvalue|insertvalue|phi|select|ret|define)\b(?!.*\b(?:byval|sret)\()(?!.*x ptr\])')
+SIZES = {'i1': 1, 'i8': 1, 'i16': 2, 'i32': 4, 'i64': 8, 'double': 8, 'float': 4, 'ptr': 8}
+PART = f'(?:{"|".join(SIZES)})'
+READ = re.compile(rf'^  (%[\w.]+) = load (?=[^}}]*\bptr\b.*\}})(\{{ {PART}(?:, {PART})* \}}), ptr (%[\w.]+), align (\d+)$', re.M)
+EMPTIED = r'  call void @llvm\.memset\.p0\.i64\(ptr (%[\w.]+), i8 0, i64 8, i1 false\)'  # a variable that holds a pointer
 FUSED = {
     'aarch64': re.compile(r'^\s+(fn?m(add|sub)|fml[as])\b.*$', re.M),
     'riscv64': re.compile(r'^\s+fn?m(add|sub)\.[hsd]\b.*$', re.M),
@@ -36,11 +47,16 @@ WIDENED = {'aarch64': {}, 'riscv64': {'i8': 'zeroext', 'i16': 'zeroext', 'i32': 
 
 def faults(text):
     """What in the module depends on its processor, with its line."""
+    mover = False
     for number, line in enumerate(text.split('\n'), 1):
         if line.startswith(('target ', 'attributes ')) or line.startswith((';', 'source_filename')):
             continue
+        if line.startswith('define '):
+            mover = MOVER in line
         bare = re.sub(r'@"[^"]*"', '@', line)  # without the names of functions
-        yield from (f'line {number}: {said}: {line.strip()[:100]}' for said, found in FOREIGN if found.search(bare))
+        if not (mover and BOTH.match(bare)):
+            yield from (f'line {number}: {said}: {line.strip()[:100]}' for said, found in FOREIGN
+                        if found.search(bare) and not (said == 'a pointer inside a layout' and (PAIR.match(bare) or READ.match(bare))))
         yield from (f'line {number}: a call of the compiler that is not known: {name}'
                     for name in re.findall(r'@(llvm\.[\w.]+)\(', line) if not PLAIN.match(name))
 
@@ -51,7 +67,7 @@ def pointers(text):
         held = set(re.findall(r'(%[\w.]+) = alloca ptr\b', function))
         # A pointer is moved whole if its place, or the address of a table that is known when all is linked, is stored by one instruction.
         for line in function.split('\n') if held else []:
-            whole = re.sub(r' = alloca ptr\b.*|(= load ptr,|store ptr [%@][\w.]+,) ptr %[\w.]+, align .*', '', line)
+            whole = re.sub(r' = alloca ptr\b.*|(= load ptr,|store ptr [%@][\w.]+,) ptr %[\w.]+, align .*|' + EMPTIED, '', line)
             if held & set(re.findall(r'%[\w.]+', whole)) and ' = alloca ptr' not in line:
                 yield f'a pointer not moved whole: {line.strip()[:100]}'
 
@@ -72,11 +88,38 @@ def widened(text, words):
     return re.sub(r'^define [^\n]*@wengeludo_[^\n]*', lambda found: entry(found.group()), text, flags=re.M)
 
 
+def parted(text):
+    """Pairs that are read from memory, read part by part at the bytes that x86-64 puts them at; pointers are emptied whole."""
+    def parts(found):
+        name, kind, place, align = found.groups()
+        lines, at, made = [], 0, 'poison'
+        fields = kind.strip('{ }').split(', ')
+        for k, field in enumerate(fields):
+            at = -(-at // SIZES[field]) * SIZES[field]
+            lines += [f'{name}.at{k} = getelementptr i8, ptr {place}, i64 {at}',
+                      f'{name}.part{k} = load {field}, ptr {name}.at{k}, align {math.gcd(at, int(align))}']
+            at += SIZES[field]
+        for k, field in enumerate(fields):
+            whole = name if k == len(fields) - 1 else f'{name}.made{k}'
+            lines.append(f'{whole} = insertvalue {kind} {made}, {field} {name}.part{k}, {k}')
+            made = whole
+        return '\n'.join('  ' + line for line in lines)
+
+    def emptied(function):
+        held = set(re.findall(r'(%[\w.]+) = alloca ptr\b', function))
+        return re.sub(EMPTIED, lambda found: f'  store ptr null, ptr {found[1]}, align 8' if found[1] in held else found[0], function)
+    return ''.join(emptied(function) for function in re.split(r'^(?=define )', READ.sub(parts, text), flags=re.M))
+
+
 def narrow(text):
-    """Moves of memory with lengths of 32 bits, for pointers of 32 bits; every one has a length that is written out."""
+    """Moves of memory with lengths of 32 bits, for pointers of 32 bits: a length that is worked out is one of memory, and fits."""
+    text = re.sub(r'= ptrtoaddr ptr ', '= ptrtoint ptr ', text)
     text = re.sub(r'(@llvm\.mem(?:move|cpy)\.p0\.p0|@llvm\.memset\.p0)\.i64\(', r'\1.i32(', text)
     text = re.sub(r'(@llvm\.mem\w+[.p0]*\.i32\(.*, )i64 (\d+), i1 ', r'\1i32 \2, i1 ', text)
     text = re.sub(r'^(declare .*@llvm\.mem\w+[.p0]*\.i32\(.*, )i64, i1', r'\1i32, i1', text, flags=re.M)
+    lengths = iter(range(len(text)))
+    text = re.sub(r'^(  call void @llvm\.memmove\.p0\.p0\.i32\(.*, )i64 (%[\w.]+), i1 ',
+                  lambda found: (lambda k: f'  %short.{k} = trunc i64 {found[2]} to i32\n{found[1]}i32 %short.{k}, i1 ')(next(lengths)), text, flags=re.M)
     left = re.findall(r'^.*@llvm\.mem\w+[.p0]*\.i32\(.*\bi64\b.*$', text, re.M)
     if left:
         sys.exit(f'cross: a move of memory whose length is not written out: {left[0].strip()}')
@@ -89,7 +132,7 @@ def retarget(text, target):
     if found:
         sys.exit('cross: the module depends on its processor:\n' + '\n'.join(found[:10]))
     text = re.sub(r'^target (datalayout|triple) = .*\n', '', text, flags=re.M).replace(OWN, '')
-    text = widened(text, WIDENED[target])
+    text = parted(widened(text, WIDENED[target]))
     return narrow(text.replace(' "probe-stack"="inline-asm"', '')) if target == 'wasm32' else text
 
 

@@ -26,12 +26,18 @@ searched() { # words to put into the module, what is to be said of them
 }
 search() {
     searched '  %a = ptrtoint ptr %b to i64' 'made a number'
+    searched '  %a = ptrtoaddr ptr %b to i64' 'made a number'
     searched '  %a = load ptr, ptr addrspace(1) %b' 'address space'
     searched '  call void asm "nop", ""()' 'assembly'
     searched '  %a = alloca { i64, ptr }, align 8' 'inside a layout'
     searched '  %a = alloca [2 x ptr], align 8' 'inside a layout'
+    searched '  store { i8, ptr } %a, ptr %b, align 8' 'inside a layout'
+    searched '  %a = load { i8, { ptr, i64 } }, ptr %b, align 8' 'inside a layout'
+    searched '  %a = load { i8, ptr }, ptr %b, align 8, !noundef !1' 'inside a layout'
+    searched '  %a = getelementptr { i8, ptr }, ptr %b, i64 0, i32 1' 'inside a layout'
+    searched '  call void @g(ptr byval({ i8, ptr }) %a)' 'inside a layout'
     searched '  %a = alloca ptr, align 8
-  call void @llvm.memset.p0.i64(ptr %a, i8 0, i64 8, i1 false)' 'not moved whole'
+  call void @llvm.memset.p0.i64(ptr %a, i8 1, i64 8, i1 false)' 'not moved whole'
     searched '  %a = fmul contract double %b, %c' 'may be joined'
     searched '  %a = call double @llvm.fmuladd.f64(double %b, double %c, double %d)' 'not known: llvm.fmuladd'
     searched '  %a = call i64 @llvm.x86.rdtsc()' 'word of the processor'
