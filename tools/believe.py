@@ -71,34 +71,34 @@ PARTS = (
     ("The plant and its flows", "A plant has units, numbered from 1, and the outside, number 0; a stream runs from one of these places to another. A "
      "flow gives each stream a signed amount, and balances if at every unit as much comes in as goes out. The cheapest balanced flow in range "
      "is the one that counts.",
-     ("plant_def/src", "plant_def/Limits", "plant_def/Plants", "flow_def/Flows", "flow_def/Overfull", "flow_def/Least")),
+     ("plant_def/src", "plant_def/Refused", "plant_def/Limits", "plant_def/Plants", "flow_def/Flows", "flow_def/Overfull", "flow_def/Least")),
     ("Plant files", "A file is one site record, the records of the streams, and an end record. Exactly the bytes of plants without fault are read, "
      "each as its plant; every other file is refused with one number.",
-     ("plant_def/Files", "plant_def/Refusals", "plant_def/Says", "num_lent/Marks", "plant_parts/Parts", "plant_lent/Lent", "plant_lent/Trip",
+     ("plant_def/Results", "plant_def/Files", "plant_def/Refusals", "plant_def/Says", "plant_def/Views", "num_lent/Marks", "plant_parts/Parts", "plant_lent/Lent", "plant_lent/Trip",
       "plant_def/Converts")),
     ("Four classes of stream, degrees and the test", "A stream is adjusted, as read, given or withheld: by chains of unmetered streams, and by "
      "flows that agree on the meters. The cost is tested against a critical value by the degrees.",
      ("flow_def/src", "flow_def/Chains", "flow_def/Groups", "flow_def/Shown", "flow_def/Withheld", "flow_def/Metering", "flow_def/Test")),
     ("Sheets", "A sheet is a record for each stream and a total. The sentences say what every call leaves behind.",
-     ("sheet_def/src", "sheet_def/Totals", "sheet_def/Sheets", "sheet_def/Counters", "sheet_def/Kept", "sheet_parts/Kept",
+     ("sheet_def/src", "sheet_def/Totals", "sheet_def/Sheets", "sheet_def/Counters", "sheet_def/Kept", "sheet_def/Views", "sheet_parts/Kept",
       "sheet_def/Sentences", "sheet_def/DeskTool", "sheet_def/Demands", "sheet_history/History")),
     ("Listings and the programs", "What the programs read, and what they print.",
      ("num_text/Numerals", "listing_lines/Listing", "listing_lines/Room", "listing_call/Printed", "programs/Fed")),
     ("Transmitter files", "Values and deviations in floating point become readings and weights, and a plant file is written of them.",
-     ("transmitter_def/src", "transmitter_def/Limits", "transmitter_def/Signals", "transmitter_def/Answers", "transmitter_def/Rounding",
+     ("transmitter_def/Limits", "transmitter_def/Signals", "transmitter_def/Answers", "transmitter_def/Rounding",
       "transmitter_def/Sendings", "transmitter_def/Says")),
     ("Ranges put in and taken out", "A plant without ranges in the ranged form, and home again; its sheet stays the same.",
      ("ranged_def/Moves", "ranged_def/Trip", "ranged_same_sheet/Same")),
     ("Meters to buy", "The cheapest set of further meters with which nothing is withheld.",
-     ("purchase_def/src", "purchase_def/Purchases", "purchase_def/Says", "purchase_call/Lent")),
+     ("purchase_def/Results", "purchase_def/Purchases", "purchase_def/Says", "purchase_call/Lent")),
     ("Layouts of meters", "How many sets of k streams, metered, leave nothing withheld.",
-     ("survey_def/src", "survey_def/Layouts", "survey_def/Says", "survey_answers/Lent", "survey_answers/Text", "survey_answers/Says")),
+     ("survey_def/Results", "survey_def/Layouts", "survey_def/Says", "survey_answers/Lent", "survey_answers/Text", "survey_answers/Says")),
     ("Meters worth a visit", "For each adjusted stream the least cost without its meter, in rising order.",
-     ("visit_def/src", "visit_def/Visits", "visit_def/Says", "visit_call/Lent", "visit_text/Text", "visit_text/Says")),
+     ("visit_def/Results", "visit_def/Visits", "visit_def/Says", "visit_call/Lent", "visit_text/Text", "visit_text/Says")),
     ("Steam charges", "What each stream to the outside is charged: shares rounded down, and what is missing to the rounded bill handed out.",
-     ("charge_def/src", "charge_def/Charges", "charge_def/Says", "charge_call/Lent")),
+     ("charge_def/Results", "charge_def/Charges", "charge_def/Says", "charge_call/Lent")),
     ("Sheets drawn up elsewhere", "When a sheet passes, with one number for each place; and numbers of our own.",
-     ("foreign_def/src", "foreign_def/Passing", "foreign_def/Says", "foreign_def/Numbers", "foreign_numbers/Lent")),
+     ("foreign_def/Passing", "foreign_def/Says", "foreign_def/Numbers", "foreign_numbers/Lent")),
     ("Flows found elsewhere", "The same of a flow, over a plant of wide numbers.",
      ("certify_def/Number", "certify_def/Says", "certify_sheets/Promise")),
     ("The exported calls, and all promises", "What is linked, by the names of the header, and the record that has everything above.",
@@ -111,11 +111,12 @@ MIXED = {
     "flow_def/Shown", "sheet_def/Totals", "sheet_def/Sheets", "sheet_def/Kept", "visit_def/Visits", "visit_def/Says", "foreign_def/Numbers",
     "listing_lines/Listing", "listing_lines/Room", "listing_call/Printed", "transmitter_def/Limits", "transmitter_def/Answers",
     "purchase_def/Says", "survey_answers/Says", "visit_text/Says", "charge_def/Says",
+    "plant_def/Refused", "plant_def/Results", "plant_def/Views", "sheet_def/Views",  # what inner functions hand over stands beside
 }
 
 # Names with two meanings: a struct of the code and the definition of what it holds; then those that are left.
 TWICE = {
-    "Plant", "Amiss", "HandsOver", "Numbered", "ReadSays", "Refusal", "TextSays", "Vouched", "bare", "comes_first", "least_text", "lines_from",
+    "Plant", "SheetRead", "Amiss", "HandsOver", "Numbered", "ReadSays", "Refusal", "TextSays", "Vouched", "bare", "comes_first", "least_text", "lines_from",
     "numbers_of", "read_of", "recorded", "weights_to",
 }
 
@@ -217,8 +218,8 @@ class House:
         crate, rest = found.groups()
         if not (CRATES / crate).exists():  # a library of the kit
             return None
-        if rest.startswith("declared"):
-            return self.declared[crate, rest.split(".")[1]]
+        if rest.startswith("declared"):  # declared.TYPE or declared.module.TYPE, and what stands in it
+            return next(self.declared[crate, part] for part in rest.split(".")[1:] if (crate, part) in self.declared)
         return self.specs(crate, rest).names[name]
 
     def cited(self, specs, text):

@@ -24,12 +24,12 @@ COUNTS = ROOT / 'tools' / 'improvements.tsv'
 PLANTS = 50
 CALL = """
 pub fn wengeludo_improvements(file: &[u8]) -> u64 {
-    let read = plant_read::read_plant(file);
-    let plant = read.plant;
-    let streams = plant.streams;
+    let Ok(plant) = plant_read::read_plant(file) else {
+        return 0;
+    };
     let mut arcs = [solve_arcs::NONE as u8; solve_arcs::ARCS];
     let mut rows = [0u64; solve_arcs::ROWS];
-    solve_arcs_fill::lay(streams, plant.count as usize, &mut arcs, &mut rows);
+    solve_arcs_fill::lay(plant.streams, plant.count as usize, &mut arcs, &mut rows);
     let labels = flow_components::group(&arcs, &rows, flow_def::Which::Unmetered);
     let solved = solve_call::solve(plant.units, labels, &arcs, &rows);
     solved.made
@@ -37,10 +37,10 @@ pub fn wengeludo_improvements(file: &[u8]) -> u64 {
 """
 # What a start may do and be worth nothing: file, what stands there, what takes its place.
 WORTHLESS = (
-    ('elimination that adds', 'newton_laplacian/src/elimination.rt', ' - f * ', ' + f * '),
-    ('amounts routed with the wrong sign', 'solve_forest/src/lib.rt', 'into[len] = inwards;', 'into[len] = !inwards;'),
-    ('a forest from the outside alone', 'solve_forest/src/lib.rt', 'reached[u] = labels[u] as usize == u;', 'reached[u] = u == 0;'),
-    ('no forest', 'solve_forest/src/lib.rt', 'n += one_if(rows[4 * i] == 0);', 'n += one_if(rows[4 * i] == 1);'),
+    ('elimination that adds', 'newton_laplacian/src/elimination.rt', ' -= f * ', ' += f * '),
+    ('amounts routed with the wrong sign', 'solve_forest/src/lib.rt', 'forest.into[forest.len] = inwards;', 'forest.into[forest.len] = !inwards;'),
+    ('a forest from the outside alone', 'solve_forest/src/lib.rt', 'reached[u] = *label as usize == u;', 'reached[u] = u == 0 && *label == 0;'),
+    ('no forest', 'solve_forest/src/lib.rt', 'n += usize::from(rows[4 * i] == 0);', 'n += usize::from(rows[4 * i] == 1);'),
     ('no conductance off the diagonal', 'newton_laplacian/src/equations.rt', 'add(a, h, g + 1, -c);', 'add(a, h, g + 1, 0.0);'),
     ('conductances with the wrong sign', 'newton_laplacian/src/equations.rt', 'add(a, g, h + 1, -c);', 'add(a, g, h + 1, c);'),
     ('ranges never looked at', 'newton_descend/src/lib.rt', 'if some_range(rows, count_of(arcs)) {', 'if count_of(arcs) > 200 {'),
