@@ -1,8 +1,8 @@
 -- Laws of potentials within bounds, and of potentials by label.
-use Rattle.std.proofs.Common.{◌≡◌, ℕ, ◌<◌, List, get_or, replicate, sym, ap, ◌∙◌, arith}
+use Rattle.std.proofs.Common.{◌≡◌, ℕ, ◌+◌, ◌<◌, ◌≤◌, List, get_or, set, replicate, sym, ap, ◌∙◌, arith, length-set}
 use lib.ListN.{length-map, length-replicate, get_or-replicate}
 use Rattle.plant_def.specs.Limits.{places}
-use Rattle.num_bytes.proofs.Lists.{map_at, Written, written_all}
+use Rattle.num_bytes.proofs.Lists.{map_at, set_each, Written, written_all}
 use Rattle.newton_laplacian.specs.Ends.{Labels}
 use Rattle.newton_descend.specs.Levels.{Banded, at_labels, Level}
 
@@ -13,6 +13,14 @@ module _ {top band : ℕ} where
     long = length-replicate places top;
     low = λ u l. omega (arith, get_or-replicate {A = ℕ} places u top 0 l);
     high = λ u l. omega (arith, get_or-replicate {A = ℕ} places u top 0 l);
+  }
+
+  -- One of them is another.
+  pub bounded_set : {ps : List ℕ} → Banded top band ps → (u x : ℕ) → u < places → (x ≤ top) × (top ≤ x + band) → Banded top band (set ps u x)
+  bounded_set {ps} b u x l h = record {
+    long = length-set ps u x ∙ b.long;
+    low = set_each (λ (y : ℕ). top ≤ y + band) 0 ps u x places (rw b.long l) h.1 b.low;
+    high = set_each (λ (y : ℕ). y ≤ top) 0 ps u x places (rw b.long l) h.0 b.high;
   }
 
   -- The potentials of labels: within the same bounds, and one for each label.

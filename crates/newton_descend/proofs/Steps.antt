@@ -1,5 +1,6 @@
 -- One place or one stream more: the greatest, the sum of products, potentials moved, and nets.
-use Rattle.std.proofs.Common.{◌≡◌, ℕ, zero, suc, ◌+◌, ◌*◌, ◌≤◌, min, List, length, get_or, set, take, replicate, refl, ap, ◌∙◌, add-one, arith}
+use Rattle.std.proofs.Common.{◌≡◌, ℕ, zero, suc, ◌+◌, ◌*◌, ◌≤◌, min, List, length, get_or, set, take, replicate, refl, ap, ◌∙◌, add-one, arith, length-set}
+use lib.ListN.{length-replicate}
 use lib.Ieee.{Float, nan, binary64, neg, add, sub, mul}
 use Rattle.std.proofs.lemmas.List.{length-take, get_or-take}
 use Rattle.plant_def.specs.Limits.{places}
@@ -75,11 +76,17 @@ module _ (es : List ℕ) (ms ps : List Float) where
   unfolding nets_to
   nets_none = refl
 
-  -- one stream more takes its amount from the group of its start and brings it to that of its end.
+  -- one stream more takes its amount from the group of its start and brings it to that of its end;
   pub nets_more : (k : ℕ) (zs : List Float) → zs ≡ nets_to es ms ps k
       → brought es ms ps k zs ≡ nets_to es ms ps (k + 1)
   unfolding nets_to
   nets_more k zs e = rw (add-one k) (ap (brought es ms ps k) e)
+
+  -- and every place has a net.
+  pub nets_long : (k : ℕ) → length (nets_to es ms ps k) ≡ places
+  unfolding nets_to
+  nets_long zero = length-replicate places none
+  nets_long (suc k) = simp length-set (nets_long k)
 
 -- What a stream carries is brought from group to group.
 pub brought_is : (es : List ℕ) (ms ps zs : List Float) (k g h : ℕ) (x y : Float) → g ≡ get_or es (2 * k) 0 → h ≡ get_or es (2 * k + 1) 0

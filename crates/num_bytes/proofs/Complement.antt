@@ -2,14 +2,14 @@
 use mathlib.Core.Path.{◌≡◌, refl, sym, ap, ◌∙◌}
 use mathlib.Core.Bool.{Bool, true, false, false≢true}
 use lib.IntN.{ℤ, pos, negsuc, ◌-ℤ◌, nat_abs}
-use lib.Signed.{le_z, lt_z}
-use lib.Dec.{ltb}
-use Prim.Native.Nat.{ℕ, suc, ◌-◌, ◌*◌, ◌<◌, ◌≤◌, ◌^◌, zero-le}
+use lib.Signed.{le_z, lt_z, non_neg}
+use lib.Dec.{ltb, T}
+use Prim.Native.Nat.{ℕ, zero, suc, ◌+◌, ◌-◌, ◌*◌, ◌<◌, ◌≤◌, ◌^◌, zero-le}
 use native.Mathlib.Omega.{arith}
 use borrow.Author.Tests.{ltb-true, ltb-false, lt-ltb, le-ltb, le-leb, leb-true}
 use mir.Syntax.{Width}
-use mir.Val.{to_z, of_z, SFits, hbits}
-use mir.Facts.{to_z-of_z}
+use mir.Val.{to_z, of_z, SFits, Fits, bits, hbits}
+use mir.Facts.{to_z-of_z, to_z_pos}
 use Rattle.num_bytes.specs.Bytes.{raw, signed, holds}
 use Rattle.num_bytes.proofs.Tests.{picked}
 
@@ -65,8 +65,46 @@ module _ (n : ℕ) where
   pub raw_fits : (z : ℤ) → 2 * nat_abs z < 256 ^ n → raw n z < 256 ^ n
   raw_fits z h = held_fits z (small_held z h)
 
--- A signed word that is below zero, and the number that is left.
+-- A signed word w of n bytes.
+module _ (w : Width) (n : ℕ) (whole : 2 ^ bits w ≡ 256 ^ n) (half : 2 * 2 ^ hbits w ≡ 256 ^ n) where
+  -- A word read as signed is what its bytes stand for.
+  pub word_signed : (v : ℕ) → to_z w v ≡ signed n v
+  word_signed v = go (ltb v (2 ^ hbits w)) refl
+    where
+      go : (t : Bool) → ltb v (2 ^ hbits w) ≡ t → to_z w v ≡ signed n v
+      go true e = let h = ltb-true v (2 ^ hbits w) e in simp e (sym (signed_low n v (omega arith)))
+      go false e = let h = ltb-false v (2 ^ hbits w) e in simp e (ap (λ (k : ℕ). negsuc (k - suc v)) whole ∙ sym (signed_high n v (omega arith)))
+
+  below_zero : (k : ℕ) → negsuc 0 -ℤ pos k ≡ negsuc k
+  below_zero zero = refl
+  below_zero (suc k) = ap negsuc (omega arith)
+
+  -- The upper half of the bits v, k below the highest: −1 less k, which fits.
+  module _ (v k : ℕ) (sum : k + suc v ≡ 256 ^ n) (upper : 256 ^ n ≤ 2 * v) where
+    low : k < 2 ^ hbits w
+    low = omega arith
+
+    -- It fits the word,
+    pub high_fits : SFits w (negsuc 0 -ℤ to_z w k)
+    high_fits = rw (to_z_pos w low, below_zero k) (record { sfits = low })
+
+    -- and is what the bytes stand for.
+    pub high_is : to_z w (of_z w (negsuc 0 -ℤ to_z w k)) ≡ signed n v
+    high_is =
+        let e : k ≡ 256 ^ n - suc v = omega arith in
+        to_z-of_z high_fits ∙ rw (to_z_pos w low, below_zero k) (ap negsuc e ∙ sym (signed_high n v upper))
+
+-- A signed word that is at or above zero, or below it, and the number that is left.
 module _ (w : Width) where
+  -- At or above zero the word is a natural number.
+  pub at_zero : (z : ℤ) → SFits w z → le_z (pos 0) (to_z w (of_z w z)) ≡ true
+      → (k : ℕ) × (z ≡ pos k) × (k < 2 ^ hbits w) × (to_z w (of_z w z) ≡ pos k)
+  at_zero z f t = go z f (rw (to_z-of_z f) at t)
+    where
+      go : (y : ℤ) → SFits w y → le_z (pos 0) y ≡ true → (k : ℕ) × (y ≡ pos k) × (k < 2 ^ hbits w) × (to_z w (of_z w y) ≡ pos k)
+      go (pos k) g t = (k, refl, g.sfits, to_z-of_z {z = pos k} g)
+      go (negsuc k) g t = absurd (false≢true t)
+
   -- Below zero it is −1 less the number that is left.
   pub under_zero : (z : ℤ) → SFits w z → le_z (pos 0) (to_z w (of_z w z)) ≡ false
       → (k : ℕ) × (z ≡ negsuc k) × (k < 2 ^ hbits w) × (negsuc 0 -ℤ to_z w (of_z w z) ≡ pos k)
@@ -75,6 +113,54 @@ module _ (w : Width) where
       go : (y : ℤ) → SFits w y → le_z (pos 0) y ≡ false → (k : ℕ) × (y ≡ negsuc k) × (k < 2 ^ hbits w) × (negsuc 0 -ℤ to_z w (of_z w y) ≡ pos k)
       go (pos k) g t = absurd (false≢true (sym t ∙ le-leb 0 k zero-le))
       go (negsuc k) g t = (k, refl, g.sfits, rw (to_z-of_z {z = negsuc k} g) (simp (le-ltb (suc k) 1 (omega arith)) (ap pos (omega arith))))
+
+-- A word at or above zero is a number as it stands: its size, and what any n bytes hold of it.
+pub record Upright (w : Width) (z : ℤ) : Type 0 where
+  pub cast : T (non_neg (to_z w (of_z w z))) × Fits w (nat_abs (to_z w (of_z w z)))
+  pub size : nat_abs (to_z w (of_z w z)) ≡ nat_abs z
+  pub bits : (n : ℕ) → nat_abs (to_z w (of_z w z)) ≡ raw n z
+
+-- What is left of a word below zero: −1 less the word.
+abbrev pub left_by : Width → ℤ → ℤ
+left_by w z = negsuc 0 -ℤ to_z w (of_z w z)
+
+-- It is a number; one more is the word's size, and it is missing from all bits.
+pub record Inverted (w : Width) (z : ℤ) : Type 0 where
+  pub fits : SFits w (left_by w z)
+  pub cast : T (non_neg (to_z w (of_z w (left_by w z)))) × Fits w (nat_abs (to_z w (of_z w (left_by w z))))
+  pub small : nat_abs (to_z w (of_z w (left_by w z))) < 2 ^ hbits w
+  pub size : nat_abs (to_z w (of_z w (left_by w z))) + 1 ≡ nat_abs z
+  pub bits : (n m : ℕ) → suc m ≡ 256 ^ n → m - nat_abs (to_z w (of_z w (left_by w z))) ≡ raw n z
+
+module _ (w : Width) (half : 2 * 2 ^ hbits w ≡ 2 ^ bits w) (z : ℤ) (f : SFits w z) where
+  -- A word that is tested to be at or above zero.
+  pub upright : le_z (pos 0) (to_z w (of_z w z)) ≡ true → Upright w z
+  upright t =
+      let b = at_zero w z f t in
+      record {
+        cast = rw b.3 (tt, record { fits = omega (arith, b.2) });
+        size = ap nat_abs b.3 ∙ sym (ap nat_abs b.1);
+        bits = λ n. ap nat_abs b.3 ∙ sym (ap (raw n) b.1);
+      }
+
+  -- A word that is tested to be below zero.
+  pub inverted : le_z (pos 0) (to_z w (of_z w z)) ≡ false → Inverted w z
+  inverted t =
+      let b = under_zero w z f t in
+      let k : to_z w (of_z w (left_by w z)) ≡ pos b.0 = rw b.3 (to_z_pos w b.2) in
+      record {
+        fits = rw b.3 (record { sfits = b.2 });
+        cast = rw k (tt, record { fits = omega (arith, b.2) });
+        small = rw k b.2;
+        size = ap (λ (y : ℤ). nat_abs y + 1) k ∙ one b.0 ∙ sym (ap nat_abs b.1);
+        bits = λ n m e. ap (λ (y : ℤ). m - nat_abs y) k ∙ others b.0 n m e ∙ sym (ap (raw n) b.1);
+      }
+    where
+      one : (j : ℕ) → j + 1 ≡ suc j
+      one j = omega arith
+
+      others : (j n m : ℕ) → suc m ≡ 256 ^ n → m - j ≡ 256 ^ n - suc j
+      others j n m e = omega arith
 
 -- A signed word held against a range by two tests, from −(m + 1) to m + 1.
 module _ (w : Width) (m : ℕ) (z : ℤ) (f : SFits w z) where
