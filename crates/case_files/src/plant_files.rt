@@ -6,9 +6,9 @@ ghost use Rattle.std.specs.Prelude.{◌≡◌, ◌≤◌, length};
 
 use crate::cases::{NO_CASE, told};
 use plant_def::limits::MAX_STREAMS;
-use plant_def::refusal::Refusal;
 use plant_def::streams::unmetered_stream;
 use plant_def::{Plant, Stream};
+use plant_write::numbered::{Done, by_number};
 
 // A stream's bytes are those of a record with a range, but for the first.
 fn put_stream(s: Stream, out: &mut [u8])
@@ -74,11 +74,8 @@ fn plant_of(given: &[u8]) -> Plant
 }
 
 // A plant file written: no number.
-pub fn written(done: Result<usize, Refusal>) -> u64 {
-    match done {
-        Ok(size) => told(0, size, 0),
-        Err(refusal) => told(refusal.number(), 0, 0),
-    }
+pub fn written(d: Done) -> u64 {
+    told(d.number, d.written, 0)
 }
 
 // The plant writer: handed in a plant.
@@ -86,5 +83,5 @@ pub fn writer(given: &[u8], out: &mut [u8]) -> u64 {
     if given.len() != 1634 {
         return NO_CASE;
     }
-    written(plant_write::write_plant(&plant_of(given), out))
+    written(by_number(plant_write::write_plant(&plant_of(given), out)))
 }

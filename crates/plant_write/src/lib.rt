@@ -1,6 +1,8 @@
 // The plant writer: the record of a stream, the whole file, and a reading written anew.
 #![tactic(auto)]
 
+pub mod numbered;
+
 ghost use Rattle.std.specs.Prelude.{◌≡◌, suc, ◌≤◌, ◌*◌, length, [], ◌∷◌, ◌++◌};
 ghost use Rattle.num_bytes.specs.Bytes.{over};
 ghost use Rattle.num_bytes.specs.Inner.{Put};
@@ -10,6 +12,7 @@ ghost use Rattle.plant_def.specs.Says.{plant_of, WriteSays};
 ghost use Rattle.plant_def.specs.Views.{read_as, done_as};
 ghost use Rattle.plant_def.specs.Needs.{WritesRead};
 
+pub use numbered::write_read;
 use plant_check::check_parts;
 use plant_def::limits::{
     END, LONGEST_FILE, METERED, METERED_BODY, RANGED, RANGED_BODY, SITE, UNMETERED, UNMETERED_BODY,
@@ -109,7 +112,7 @@ pub fn write_plant(p: &Plant, file: &mut [u8]) -> Result<usize, Refusal>
 }
 
 // What was read, written as the plant writer writes it; or a refusal: a slice that is too short, or the reading's own.
-pub fn write_read(read: Result<Plant, Refusal>, out: &mut [u8]) -> Result<usize, Refusal>
+pub fn write_plant_read(read: Result<Plant, Refusal>, out: &mut [u8]) -> Result<usize, Refusal>
     ensures { WritesRead (read_as read) out.old out.new (done_as result) }
 {
     if out.len() < LONGEST_FILE {

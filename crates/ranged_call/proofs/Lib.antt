@@ -1,2 +1,3 @@
--- Laws of moved arrays.
+-- Laws of moved arrays, and of a refusal on the way home.
 pub mod Mapped
+pub mod Told

@@ -63,11 +63,11 @@ pub fn balance_plant(file: &[u8], office: u8, lasts: [u32; OFFICES], sheet: &mut
 {
     match check_call(office, lasts, sheet) {
         Ok(()) => {}
-        Err(fault) => return refused(fault, lasts),
+        Err(fault) => return refused(fault.number(), lasts),
     }
     let plant = match plant_read::read_plant(file) {
         Ok(plant) => plant,
-        Err(e) => return refused(e, lasts),
+        Err(e) => return refused(e.number(), lasts),
     };
     let outcome = balance_of(plant);
     draw(plant.count as usize, outcome, office, lasts, sheet)

@@ -7,7 +7,7 @@ ghost use Rattle.std.specs.Prelude.{◌≡◌, [], ◌∷◌, ◌++◌, ◌≤�
 ghost use Rattle.num_bytes.specs.Bytes.{put_be, raw, over};
 ghost use Rattle.num_bytes.specs.Inner.{Put};
 ghost use Rattle.plant_def.specs.Limits.{max_streams};
-ghost use Rattle.plant_def.specs.Refused.{refusal_number, fault_in};
+ghost use Rattle.plant_def.specs.Refused.{fault_in};
 ghost use Rattle.sheet_def.specs.Sheets.{record_of, records_of, total_of};
 ghost use Rattle.sheet_def.specs.Totals.{total_kind, stream_size, total_size, least_slice};
 ghost use Rattle.sheet_def.specs.Drawings.{sheet_bytes};
@@ -101,11 +101,11 @@ pub fn put_sheet(office: u8, count: usize, number: u32, b: Balance, out: &mut [u
 }
 
 // A refusal counts nothing, hands the last sheet numbers back and marks no place.
-pub fn refused(refusal: Refusal, lasts: [u32; OFFICES]) -> Sheet
-    ensures { result ≡ record { number = refusal_number refusal; written = 0; lasts = lasts; marked = unmarked } }
+pub fn refused(number: u8, lasts: [u32; OFFICES]) -> Sheet
+    ensures { result ≡ record { number = number; written = 0; lasts = lasts; marked = unmarked } }
 {
     Sheet {
-        number: refusal.number(),
+        number,
         written: 0,
         lasts,
         marked: [false; PLACES],

@@ -5,6 +5,7 @@ use crate::solving::unhinted;
 use case_files::cases::told;
 use case_files::kept::kept;
 use case_files::plant_files::{reader, writer, written};
+use plant_write::numbered::by_number;
 
 // The calls that read or write a file. The translator and the moves are handed in a file.
 fn file_call(kind: u64, given: &[u8], out: &mut [u8]) -> u64 {
@@ -12,9 +13,9 @@ fn file_call(kind: u64, given: &[u8], out: &mut [u8]) -> u64 {
         2 => reader(given, out),
         3 => writer(given, out),
         6 => kept(given, out),
-        7 => written(transmitter_translate::plant_from_transmitter(given, out)),
-        9 => written(ranged_call::to_ranged(given, out)),
-        10 => written(ranged_call::from_ranged(given, out)),
+        7 => written(by_number(transmitter_translate::plant_from_transmitter(given, out))),
+        9 => written(by_number(ranged_call::to_ranged(given, out))),
+        10 => written(by_number(ranged_call::from_ranged(given, out))),
         14..=15 => case_answers::call(kind, given, out),
         17 => case_answers::charge(given, out),
         _ => case_calls::call(kind, given, out),

@@ -7,4 +7,4 @@ use Rattle.ranged_call.proofs.from_ranged.Goals as goal
 pub returns : goal.returns
 returns c =
     let file = c.args.file.now in
-    c.write_read.ensures (from_ranged (read_plant file)) (from_good file) c.read_home.ensures
+    c.write_plant_read.ensures (from_ranged (read_plant file)) (from_good file) c.read_home.ensures

@@ -1,15 +1,10 @@
 -- The reader decides, then the ranges, then each stream is moved.
 use mathlib.Core.Path.{refl}
-use borrow.Author.Rules.{rules}
-use borrow.Author.Tests.{tests}
 use Rattle.std.specs.Prelude.{Ok}
 use Rattle.std.proofs.lemmas.Result.{err_from_is_err_and}
-use Rattle.plant_def.specs.Plants.{no_stream}
 use Rattle.plant_def.specs.Views.{read_as}
 use Rattle.plant_def.proofs.Numbers.{some_number}
-use Rattle.ranged_def.specs.Moves.{bared}
 use Rattle.ranged_def.proofs.Reading.{home_bad, home_narrow, home_good}
-use Rattle.ranged_call.proofs.Mapped.{mapped}
 use Rattle.ranged_call.proofs.read_home.Goals as goal
 
 pub returns-in_err-ranged : goal.returns-in_err-ranged
@@ -24,5 +19,4 @@ returns-in_err-narrow_fault c =
 
 pub returns : goal.returns
 returns c =
-    home_good c.args.file.now (read_as (Ok c.in_ok-ranged.ranged)) c.in_ok-ranged.ensures refl 0 c.in_ok-narrow_fault.ensures refl c.map.result
-    (mapped _ bared no_stream no_stream _ c.in_ok-ranged.ranged.streams c.map.result 96 c.map.ensures.items (search rules) (λ p x y q k. search (rules, tests)))
+    home_good c.args.file.now (read_as (Ok c.in_ok-ranged.ranged)) c.in_ok-ranged.ensures refl 0 c.in_ok-narrow_fault.ensures refl c.bare_all.new.streams c.bare_all.ensures

@@ -7,4 +7,4 @@ use Rattle.ranged_call.proofs.to_ranged.Goals as goal
 pub returns : goal.returns
 returns c =
     let file = c.args.file.now in
-    c.write_read.ensures (to_ranged (read_plant file)) (to_good file) c.read_forward.ensures
+    c.write_plant_read.ensures (to_ranged (read_plant file)) (to_good file) c.read_forward.ensures

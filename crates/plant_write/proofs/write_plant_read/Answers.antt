@@ -3,7 +3,7 @@ use mathlib.Core.Path.{refl, sym, ap, ◌∙◌}
 use Rattle.plant_def.specs.Results.{Read}
 use Rattle.plant_def.specs.Views.{read_as, done_as}
 use Rattle.plant_def.proofs.Promise.{file_good}
-use Rattle.plant_write.proofs.write_read.Goals as goal
+use Rattle.plant_write.proofs.write_plant_read.Goals as goal
 
 pub returns : goal.returns
 returns c g d e =

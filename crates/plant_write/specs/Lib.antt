@@ -1,0 +1,2 @@
+-- What is handed over by number.
+pub mod Told

@@ -1,0 +1,9 @@
+-- The streams passed are moved, the others are as they were.
+use Rattle.plant_def.specs.Limits.{max_streams}
+use Rattle.plant_def.specs.Plants.{no_stream}
+use Rattle.num_bytes.proofs.Lists.{Written}
+use Rattle.ranged_def.specs.Moves.{bared}
+use Rattle.ranged_call.proofs.bare_all.Given as goal
+
+abbrev pub invariant-loop-i : goal.invariant-loop-i
+invariant-loop-i l = Written no_stream max_streams (λ k s. bared s) l.initial.streams l.streams l.i
