@@ -17,6 +17,7 @@ use sheet_call::balance_of;
 
 // What each stream to the outside is charged for one hour by the sheet of a plant, in cents, and the bill; rates are one for each of
 // them, in stream order, in ten-thousandths of a cent per kg. No sheet number is drawn, and no verdict is looked at.
+#[tactic(auto, using(crate::proofs::Reading::file_refused))]
 pub fn charges_of(file: &[u8], rates: &[u16]) -> Result<Charges, Refusal>
     ensures { ChargesSays file.now rates.now (charges_as result) }
 {

@@ -1,10 +1,11 @@
 -- What the call hands over, by what was found.
-use mathlib.Core.Path.{◌≡◌, ◌∙◌, ap}
+use mathlib.Core.Path.{◌≡◌, refl, ◌∙◌, ap}
 use mathlib.Core.List.{List}
 use Prim.Native.Nat.{ℕ, ◌≤◌, ◌<◌}
 use native.Mathlib.Omega.{arith}
 use native.Mathlib.Decide.{dec_le}
 use lib.ListN.{get_or, replicate}
+use Rattle.std.specs.Prelude.{Err}
 use Rattle.num_bytes.proofs.Filled.{blank_at}
 use Rattle.plant_def.specs.declared.Plant as Arrays
 use Rattle.plant_def.specs.Results.{Read}
@@ -12,9 +13,13 @@ use Rattle.plant_def.specs.Limits.{max_streams}
 use Rattle.plant_def.specs.Plants.{Plant}
 use Rattle.plant_def.specs.Files.{read_plant}
 use Rattle.plant_def.specs.Within.{Accepted}
-use Rattle.plant_def.specs.Says.{plant_of, read_of}
+use Rattle.plant_def.specs.declared.refusal.Refusal.{Refusal}
+use Rattle.plant_def.specs.Refused.{refusal_number}
+use Rattle.plant_def.specs.Says.{plant_of, read_of, ReadSays}
+use Rattle.plant_def.specs.Views.{read_as}
 use Rattle.plant_def.proofs.Arrayed.{all_listed, within_of}
 use Rattle.plant_def.proofs.Found.{says_bad, says_got}
+use Rattle.plant_def.proofs.Numbers.{some_number}
 use Rattle.num_bytes.proofs.Lists.{Written}
 use Rattle.purchase_def.specs.Results.{Bought}
 use Rattle.purchase_def.specs.Purchases.{max_price, unmetered_to, price_in, prices_fault}
@@ -58,3 +63,7 @@ module _ (file prices : List ℕ) (y : Read) (e : y ≡ read_of (read_plant file
   -- A file that is read: the answer of its plant.
   pub answered : y.number ≡ 0 → BuyOf (plant_of y.plant) prices r → BuySays file prices r
   answered = says_got (λ g. BuyWith g prices r) file y e
+
+-- A file that is refused: its refusal, and nothing to buy.
+pub file_refused : (file prices : List ℕ) (e : Refusal) → ReadSays file (read_as (Err e)) → BuySays file prices (none_bought (refusal_number e))
+file_refused file prices e q = unread file prices (read_as (Err e)) q (none_bought (refusal_number e)) (some_number e) refl

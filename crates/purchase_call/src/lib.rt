@@ -93,6 +93,7 @@ pub fn by_stream(p: Plant, prices: &[u32]) -> [u32; MAX_STREAMS]
 
 // The cheapest set of unmetered streams to meter so that nothing is withheld; prices are one for each unmetered stream, in
 // stream order.
+#[tactic(auto, using(crate::proofs::Answering::file_refused))]
 pub fn meters_to_buy(file: &[u8], prices: &[u32]) -> Result<Bought, Refusal>
     ensures { BuySays file.now prices.now (bought_as result) }
 {

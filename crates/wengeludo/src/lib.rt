@@ -114,9 +114,10 @@ pub fn wengeludo_read_plant(
     let plant = match plant_lent::read_lent(file, reach) {
         Ok(plant) => plant,
         Err(e) => {
+            let number = e.number();
             *units = 0;
             *count = 0;
-            return e.number();
+            return number;
         }
     };
     let listed = plant.count as usize;

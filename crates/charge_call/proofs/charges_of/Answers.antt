@@ -5,9 +5,9 @@ use Rattle.std.proofs.lemmas.Result.{err_from_is_err_and}
 use Rattle.plant_def.specs.Views.{read_as}
 use Rattle.plant_def.specs.Within.{Accepted}
 use Rattle.plant_def.proofs.Found.{plant_accepted}
-use Rattle.plant_def.proofs.Numbers.{some_number}
 use Rattle.charge_def.specs.Views.{charges_as}
-use Rattle.charge_def.proofs.Answering.{small_read, unread, answered}
+use Rattle.charge_def.proofs.Answering.{small_read, answered}
+use Rattle.charge_call.proofs.Reading.{file_refused}
 use Rattle.charge_call.proofs.charges_of.Goals as goal
 use Rattle.charge_call.proofs.charges_of.Goals.{In_ok-plant}
 
@@ -18,7 +18,7 @@ taken c = plant_accepted c.args.file.now (read_as (Ok c.in_ok-plant.plant)) c.in
 pub returns-in_err-plant : goal.returns-in_err-plant
 returns-in_err-plant c =
     let p = err_from_is_err_and c.from_residual.result c.from_residual.ensures.1 in
-    rw (p.1, p.2) (unread c.args.file.now c.args.rates.now _ c.in_err-plant.ensures _ (some_number _) refl)
+    rw (p.1, p.2) (file_refused c.args.file.now c.args.rates.now _ c.in_err-plant.ensures)
 
 pub balance_of-outcome-requires : goal.balance_of-outcome-requires
 balance_of-outcome-requires c = taken (goal.at.balance_of-outcome-requires c).In_ok-plant

@@ -7,14 +7,14 @@ use Rattle.plant_def.specs.Says.{plant_of}
 use Rattle.plant_def.specs.Views.{read_as}
 use Rattle.plant_def.proofs.Found.{plant_accepted}
 use Rattle.plant_def.proofs.Numbers.{some_number}
-use Rattle.purchase_call.proofs.Answering.{held_low, best_bought, mispriced, unread, answered}
+use Rattle.purchase_call.proofs.Answering.{held_low, best_bought, mispriced, answered, file_refused}
 use Rattle.purchase_call.proofs.meters_to_buy.Goals as goal
 
 pub returns-in_err-plant : goal.returns-in_err-plant
 returns-in_err-plant c =
     let a = c.args in
     let p = err_from_is_err_and c.from_residual.result c.from_residual.ensures.1 in
-    rw (p.1, p.2) (unread a.file.now a.prices.now _ c.in_err-plant.ensures _ (some_number _) refl)
+    rw (p.1, p.2) (file_refused a.file.now a.prices.now _ c.in_err-plant.ensures)
 
 pub check_prices-requires : goal.check_prices-requires
 check_prices-requires c = plant_accepted c.args.file.now (read_as (Ok c.in_ok-plant.plant)) c.in_ok-plant.ensures refl

@@ -36,7 +36,7 @@ room c y e = room_lent c.args.file.now (slices c) _ y (reach_is c) e
 pub returns-in-Err : goal.returns-in-Err
 returns-in-Err c =
     let at = (goal.at.returns-in-Err c).After-reached-reach in
-    rw c.number.ensures (found_lent c.args.file.now (slices at) _ _ _ (reach_is at) c.in-Err.ensures refl)
+    rw c.number-number.ensures (found_lent c.args.file.now (slices at) _ _ _ (reach_is at) c.in-Err.ensures refl)
 
 pub put_ends-requires : goal.put_ends-requires
 put_ends-requires c = let q = room (goal.at.put_ends-requires c).After-reached-reach _ c.in-Ok.ensures in (q.room, q.from_there, q.to_there)
