@@ -71,7 +71,7 @@ def functions(path, text):
         rest = text[found.end():]
         head, body = re.split(rf'^{found[1]}\{{$|\{{$', rest[:re.search(rf'^{found[1]}\}}$', rest, re.M).end()], maxsplit=1, flags=re.M)
         count = len(re.findall(r'\w+: ', head.split(')\n')[0].split(') ->')[0])) + head.lstrip().startswith(('self', '&self', '&mut self'))
-        loops = len(re.findall(r'^ *(?:while|loop)\b', body, re.M))
+        loops = len(re.findall(r'^ *(?:while|loop|for)\b', body, re.M))
         if body.count('\n') >= BODY:
             yield f'{path}: fn {found[3]} has {body.count(chr(10))} lines'
         if count > PARAMETERS and not found[2] and not path.startswith('crates/wengeludo/'):

@@ -8,7 +8,7 @@
 A name is a path below a folder of the repository, anywhere in a text; in a piece of code also `crate/specs/File`, `crate/proofs/File`,
 `crate/src/file` and `crate/edit`. `{a,b}` stands for both, `*` for anything. A relative link must lead somewhere. docs/EDITS.md names
 every edit, docs/CRATES.md and crates.txt every crate. A piece of code that is one word, or two with a dot or colons between them,
-stands in the code: a definition, field, function or variable that was renamed is found so. docs/changes, docs/PORT.md, docs/DESIGN-PASS.md and CHANGELOG.md
+stands in the code: a definition, field, function or variable that was renamed is found so. docs/changes, docs/PORT.md, docs/DESIGN-PASS.md, docs/LOOK-BACK.md and CHANGELOG.md
 tell of older versions and are left out.
 """
 import glob
@@ -121,7 +121,7 @@ def main(words):
     crates = {os.path.basename(path) for path in glob.glob(os.path.join(ROOT, 'crates', '*'))}
     faults, count, words_written = list(unnamed(crates)), 0, written()
     texts = sorted(os.path.relpath(path, ROOT) for pattern in TEXTS for path in glob.glob(os.path.join(ROOT, pattern)))
-    texts = [path for path in texts if path not in ('docs/PORT.md', 'docs/DESIGN-PASS.md')]
+    texts = [path for path in texts if path not in ('docs/PORT.md', 'docs/DESIGN-PASS.md', 'docs/LOOK-BACK.md')]
     for path in texts:
         for name, places in {name: places for name, places in names(path, crates)}.items():
             count += 1
