@@ -15,7 +15,7 @@ use plant_read::read_plant;
 use plant_write::write_plant_read;
 
 // The widest range for a metered stream without one.
-fn widen(s: Stream) -> Stream
+pub fn widen(s: Stream) -> Stream
     ensures { result ≡ widened s }
 {
     if !s.metered || s.ranged {
@@ -30,7 +30,7 @@ fn widen(s: Stream) -> Stream
 }
 
 // No range for a metered stream with one.
-fn bare(s: Stream) -> Stream
+pub fn bare(s: Stream) -> Stream
     ensures { result ≡ bared s }
 {
     if !s.metered || !s.ranged {

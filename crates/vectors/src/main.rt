@@ -5,6 +5,8 @@ mod calls;
 mod cases;
 mod drawing;
 mod solving;
+#[cfg(test)]
+mod tests;
 
 use case_files::cases::{open_argument, say_cases, say_differs};
 use cases::try_next;
